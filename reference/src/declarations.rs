@@ -1,0 +1,120 @@
+//! Declarations of a port and writing them (01, "Writing"; 802.1Q clause 10.8, 802.1Qat clause
+//! 35.2.2).
+
+use crate::pdu::{AttributeType, ListenerType, StreamId, Talker, END_MARK, LONGEST_PDU};
+use crate::settling::Settled;
+
+/// A declaration of a port.
+#[derive(Clone, Copy, Debug, PartialEq, Eq)]
+pub enum Declaration {
+    Talker(Talker),
+    Listener(StreamId, ListenerType),
+}
+
+/// JoinMt at the first position of a ThreePackedEvents octet, spare positions 0.
+const JOIN_MT: u8 = 3 * 36;
+
+impl Declaration {
+    pub fn attribute_type(&self) -> AttributeType {
+        match self {
+            Declaration::Talker(Talker { failure: None, .. }) => AttributeType::TalkerAdvertise,
+            Declaration::Talker(Talker { failure: Some(_), .. }) => AttributeType::TalkerFailed,
+            Declaration::Listener(..) => AttributeType::Listener,
+        }
+    }
+
+    /// The vector of this one value: LeaveAllEvent 0 and NumberOfValues 1, FirstValue, one
+    /// ThreePackedEvents octet, and for Listener one FourPackedEvents octet.
+    fn vector(&self) -> Vec<u8> {
+        let mut octets = vec![0, 1];
+        match self {
+            Declaration::Talker(talker) => {
+                octets.extend(first_value(talker));
+                octets.push(JOIN_MT);
+            }
+            Declaration::Listener(stream_id, listener_type) => {
+                octets.extend(stream_id.to_be_bytes());
+                octets.push(JOIN_MT);
+                let part = match listener_type {
+                    ListenerType::AskingFailed => 1,
+                    ListenerType::Ready => 2,
+                    ListenerType::ReadyFailed => 3,
+                };
+                octets.push(part << 6);
+            }
+        }
+        octets
+    }
+}
+
+/// A Talker FirstValue, its reserved bits 0.
+pub fn first_value(talker: &Talker) -> Vec<u8> {
+    let parameters = &talker.parameters;
+    let mut octets = Vec::new();
+    octets.extend(talker.stream_id.to_be_bytes());
+    octets.extend(&parameters.destination.to_be_bytes()[2..]);
+    octets.extend(parameters.vlan.to_be_bytes());
+    octets.extend(parameters.max_frame_size.to_be_bytes());
+    octets.extend(parameters.max_interval_frames.to_be_bytes());
+    octets.push(parameters.priority << 5 | parameters.rank << 4);
+    octets.extend(talker.accumulated_latency.to_be_bytes());
+    if let Some(failure) = talker.failure {
+        octets.extend(failure.bridge_id.to_be_bytes());
+        octets.push(failure.code);
+    }
+    octets
+}
+
+/// The declarations of a port: Advertise, Failed, Listener; in each by ascending StreamID.
+pub fn of_port(settled: &Settled, port: usize) -> Vec<Declaration> {
+    let mut advertise = Vec::new();
+    let mut failed = Vec::new();
+    let mut listener = Vec::new();
+    for (stream_id, ports) in &settled.streams {
+        let settled_on_port = &ports[port - 1];
+        match settled_on_port.talker {
+            Some(talker) if talker.failure.is_none() => advertise.push(Declaration::Talker(talker)),
+            Some(talker) => failed.push(Declaration::Talker(talker)),
+            None => {}
+        }
+        if let Some(listener_type) = settled_on_port.listener {
+            listener.push(Declaration::Listener(*stream_id, listener_type));
+        }
+    }
+    [advertise, failed, listener].concat()
+}
+
+/// The PDU of these declarations, which stand by type: ProtocolVersion 0, one Message per type
+/// that occurs, one value per vector, EndMark.
+pub fn pdu(declarations: &[Declaration]) -> Vec<u8> {
+    let mut octets = vec![0];
+    for attribute_type in
+        [AttributeType::TalkerAdvertise, AttributeType::TalkerFailed, AttributeType::Listener]
+    {
+        let mut list = Vec::new();
+        for declaration in declarations {
+            if declaration.attribute_type() == attribute_type {
+                list.extend(declaration.vector());
+            }
+        }
+        if !list.is_empty() {
+            list.extend(END_MARK);
+            octets.push(attribute_type.octet());
+            octets.push(attribute_type.first_value_length() as u8);
+            octets.extend((list.len() as u16).to_be_bytes());
+            octets.extend(list);
+        }
+    }
+    octets.extend(END_MARK);
+    octets
+}
+
+/// The PDU that takes as many declarations as fit in 1,500 octets whole, from the front; with
+/// it, how many it took.
+pub fn first_pdu(declarations: &[Declaration]) -> (Vec<u8>, usize) {
+    let mut taken = 0;
+    while taken < declarations.len() && pdu(&declarations[..taken + 1]).len() <= LONGEST_PDU {
+        taken += 1;
+    }
+    (pdu(&declarations[..taken]), taken)
+}

@@ -1,0 +1,33 @@
+//! A stream-reservation bridge of IEEE 802.1Qat, written from the papers alone.
+//!
+//! "01" in the comments is the paper that lays down the bridge and its rules; clause numbers
+//! such as 35.2.4.2 are those of IEEE 802.1Qat-2010. The program is meant to be compared with
+//! another implementation, so it is written for the reader and not for speed.
+//!
+//! The order of the modules follows a frame through the bridge:
+//!
+//! * [`numbers`]: the numbers that calls give back;
+//! * [`settings`]: what a bridge is started with;
+//! * [`pdu`]: reading MSRPDUs;
+//! * [`registrations`]: what each port has registered;
+//! * [`settling`]: attribute propagation and reserved bandwidth;
+//! * [`declarations`]: writing MSRPDUs;
+//! * [`bridge`]: the five calls;
+//! * [`words`]: the words that programs print;
+//! * [`records`]: taking records from an input, and watching the calls they make;
+//! * [`sheet`], [`calls`]: the two programs;
+//! * [`frame`], [`random`]: inputs for comparisons.
+
+pub mod bridge;
+pub mod calls;
+pub mod declarations;
+pub mod frame;
+pub mod numbers;
+pub mod pdu;
+pub mod random;
+pub mod records;
+pub mod registrations;
+pub mod settings;
+pub mod settling;
+pub mod sheet;
+pub mod words;

@@ -1,0 +1,33 @@
+//! The numbers given back (01, "Numbers given back").
+
+/// A number given back by a call.
+pub type Number = u8;
+
+/// 0: accepted.
+pub const ACCEPTED: Number = 0;
+/// 1: port is 0 or above the bridge's ports.
+pub const PORT: Number = 1;
+/// 2: PDU has 0 octets or more than 1,500.
+pub const PDU_LENGTH: Number = 2;
+/// 3: a field runs past the PDU or its list, or a list's EndMark isn't its last two octets.
+pub const RUNS_PAST: Number = 3;
+/// 4: AttributeType 0; or above 4 with ProtocolVersion 0.
+pub const ATTRIBUTE_TYPE: Number = 4;
+/// 5: AttributeLength not that of the type.
+pub const ATTRIBUTE_LENGTH: Number = 5;
+/// 6: LeaveAllEvent above 1, or a ThreePackedEvents octet above 215.
+pub const EVENT: Number = 6;
+/// 7: a value runs past its field.
+pub const VALUE: Number = 7;
+/// 8: streams held plus different new ones joined by this PDU exceed 64.
+pub const STREAMS: Number = 8;
+/// 9: time is below the held clock.
+pub const TIME: Number = 9;
+/// 10: output buffer shorter than 1,500.
+pub const BUFFER: Number = 10;
+/// 11: settings not as laid out.
+pub const SETTINGS: Number = 11;
+/// 12: table has the wrong length or breaks a form rule.
+pub const TABLE: Number = 12;
+/// 13: place is above the number of declarations (write) or streams held (report).
+pub const PLACE: Number = 13;

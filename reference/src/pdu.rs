@@ -1,0 +1,346 @@
+//! Reading MSRPDUs (01, "The PDU"; 802.1Q clause 10.8, 802.1Qat clause 35.2.2).
+
+use crate::numbers::{self, Number};
+
+/// A StreamID: MAC address 6 octets, Unique ID 2 octets.
+pub type StreamId = u64;
+
+/// The longest PDU.
+pub const LONGEST_PDU: usize = 1500;
+
+/// The EndMark, of a list and of the PDU.
+pub const END_MARK: [u8; 2] = [0, 0];
+
+/// The AttributeTypes of Table 35-1.
+#[derive(Clone, Copy, Debug, PartialEq, Eq, PartialOrd, Ord)]
+pub enum AttributeType {
+    TalkerAdvertise,
+    TalkerFailed,
+    Listener,
+    Domain,
+}
+
+impl AttributeType {
+    /// The octet of Table 35-1.
+    pub fn octet(self) -> u8 {
+        match self {
+            AttributeType::TalkerAdvertise => 1,
+            AttributeType::TalkerFailed => 2,
+            AttributeType::Listener => 3,
+            AttributeType::Domain => 4,
+        }
+    }
+
+    /// Octets of FirstValue (Table 35-2).
+    pub fn first_value_length(self) -> usize {
+        match self {
+            AttributeType::TalkerAdvertise => 25,
+            AttributeType::TalkerFailed => 34,
+            AttributeType::Listener => 8,
+            AttributeType::Domain => 4,
+        }
+    }
+}
+
+/// The events of a ThreePackedEvents octet.
+#[derive(Clone, Copy, Debug, PartialEq, Eq, PartialOrd, Ord)]
+pub enum Event {
+    New,
+    JoinIn,
+    In,
+    JoinMt,
+    Mt,
+    Lv,
+}
+
+pub const EVENTS: [Event; 6] =
+    [Event::New, Event::JoinIn, Event::In, Event::JoinMt, Event::Mt, Event::Lv];
+
+/// The greatest ThreePackedEvents octet: Lv, Lv, Lv.
+pub const GREATEST_THREE_PACKED: u8 = 215;
+
+/// The three events of an octet: (e1 x 6 + e2) x 6 + e3. The octet is at most 215.
+pub fn three_events(octet: u8) -> [Event; 3] {
+    [octet / 36, octet / 6 % 6, octet % 6].map(|event| EVENTS[usize::from(event)])
+}
+
+/// The Listener declaration types.
+#[derive(Clone, Copy, Debug, PartialEq, Eq, PartialOrd, Ord)]
+pub enum ListenerType {
+    AskingFailed,
+    Ready,
+    ReadyFailed,
+}
+
+/// The four parts of a FourPackedEvents octet, first highest. `None` is Ignore.
+pub fn four_listener_types(octet: u8) -> [Option<ListenerType>; 4] {
+    [octet >> 6, octet >> 4 & 3, octet >> 2 & 3, octet & 3].map(|part| match part {
+        1 => Some(ListenerType::AskingFailed),
+        2 => Some(ListenerType::Ready),
+        3 => Some(ListenerType::ReadyFailed),
+        _ => None,
+    })
+}
+
+/// The parts of a Talker declaration that a join must repeat to count as unchanged.
+#[derive(Clone, Copy, Debug, PartialEq, Eq)]
+pub struct Parameters {
+    /// 48 bits.
+    pub destination: u64,
+    pub vlan: u16,
+    pub max_frame_size: u16,
+    pub max_interval_frames: u16,
+    /// 3 bits.
+    pub priority: u8,
+    /// 1 bit; 0 is the more important one.
+    pub rank: u8,
+}
+
+/// The failure fields of a Talker Failed.
+#[derive(Clone, Copy, Debug, PartialEq, Eq)]
+pub struct Failure {
+    pub bridge_id: u64,
+    pub code: u8,
+}
+
+/// A Talker declaration: Advertise without a failure, Failed with one.
+#[derive(Clone, Copy, Debug, PartialEq, Eq)]
+pub struct Talker {
+    pub stream_id: StreamId,
+    pub parameters: Parameters,
+    pub accumulated_latency: u32,
+    pub failure: Option<Failure>,
+}
+
+/// One value of a vector, with its event.
+#[derive(Clone, Copy, Debug, PartialEq, Eq)]
+pub enum Value {
+    Talker(Talker),
+    /// Without a Listener type where the FourPackedEvents say Ignore.
+    Listener(StreamId, Option<ListenerType>),
+    /// Checked, and without effect.
+    Domain,
+}
+
+/// A vector, its checks passed.
+#[derive(Clone, Debug, PartialEq, Eq)]
+pub struct Vector {
+    pub attribute_type: AttributeType,
+    pub leave_all: bool,
+    pub first_value: Vec<u8>,
+    pub values: Vec<(Event, Value)>,
+}
+
+/// A Message.
+#[derive(Clone, Debug, PartialEq, Eq)]
+pub enum Message {
+    Known(Vec<Vector>),
+    /// A type above 4 with a higher version: skipped unread.
+    Skipped,
+}
+
+/// A PDU, its checks passed.
+#[derive(Clone, Debug, PartialEq, Eq)]
+pub struct Pdu {
+    pub messages: Vec<Message>,
+    /// Whether an EndMark was met; otherwise the PDU ended right after a Message or its version.
+    pub end_mark: bool,
+}
+
+impl Pdu {
+    /// All vectors in the order they stand in.
+    pub fn vectors(&self) -> impl Iterator<Item = &Vector> {
+        self.messages.iter().flat_map(|message| match message {
+            Message::Known(vectors) => vectors.as_slice(),
+            Message::Skipped => &[],
+        })
+    }
+}
+
+/// The first fault met, which ends the whole walk.
+#[derive(Clone, Debug, PartialEq, Eq)]
+pub struct Fault {
+    pub number: Number,
+    /// For number 7 the vector: its type, FirstValue and NumberOfValues.
+    pub vector: Option<(AttributeType, Vec<u8>, usize)>,
+}
+
+impl From<Number> for Fault {
+    fn from(number: Number) -> Fault {
+        Fault { number, vector: None }
+    }
+}
+
+/// A number of up to eight octets, most significant octet first.
+pub fn number_of(octets: &[u8]) -> u64 {
+    octets.iter().fold(0, |number, octet| number << 8 | u64::from(*octet))
+}
+
+/// Reads a PDU: its length (2), then the walk from the front.
+pub fn read(pdu: &[u8]) -> Result<Pdu, Fault> {
+    if pdu.is_empty() || pdu.len() > LONGEST_PDU {
+        return Err(numbers::PDU_LENGTH.into());
+    }
+    let version = pdu[0];
+    let mut messages = Vec::new();
+    let mut rest = &pdu[1..];
+    loop {
+        if rest.is_empty() {
+            return Ok(Pdu { messages, end_mark: false });
+        }
+        if rest.starts_with(&END_MARK) {
+            return Ok(Pdu { messages, end_mark: true });
+        }
+        // A Message's checks: four header octets (3), type (4), length (5, known types), list
+        // within PDU (3).
+        if rest.len() < 4 {
+            return Err(numbers::RUNS_PAST.into());
+        }
+        let attribute_length = usize::from(rest[1]);
+        let list_length = usize::from(rest[2]) << 8 | usize::from(rest[3]);
+        let known_type = match rest[0] {
+            1 => Some(AttributeType::TalkerAdvertise),
+            2 => Some(AttributeType::TalkerFailed),
+            3 => Some(AttributeType::Listener),
+            4 => Some(AttributeType::Domain),
+            5..=255 if version > 0 => None,
+            _ => return Err(numbers::ATTRIBUTE_TYPE.into()),
+        };
+        if let Some(attribute_type) = known_type {
+            if attribute_length != attribute_type.first_value_length() {
+                return Err(numbers::ATTRIBUTE_LENGTH.into());
+            }
+        }
+        if rest.len() - 4 < list_length {
+            return Err(numbers::RUNS_PAST.into());
+        }
+        let (list, after) = rest[4..].split_at(list_length);
+        messages.push(match known_type {
+            Some(attribute_type) => Message::Known(read_list(attribute_type, list)?),
+            None => Message::Skipped,
+        });
+        rest = after;
+    }
+}
+
+/// Reads an AttributeList on its own, from its first vector to its EndMark, which must be its
+/// last two octets.
+fn read_list(attribute_type: AttributeType, list: &[u8]) -> Result<Vec<Vector>, Fault> {
+    let mut vectors = Vec::new();
+    let mut rest = list;
+    loop {
+        // Checks: header (3), LeaveAllEvent (6), fits (3), event octets (6), values (7).
+        if rest.len() < 2 {
+            return Err(numbers::RUNS_PAST.into());
+        }
+        if rest.starts_with(&END_MARK) {
+            return if rest.len() == 2 { Ok(vectors) } else { Err(numbers::RUNS_PAST.into()) };
+        }
+        let header = usize::from(rest[0]) << 8 | usize::from(rest[1]);
+        let leave_all_event = header >> 13;
+        let number_of_values = header & 0x1fff;
+        if leave_all_event > 1 {
+            return Err(numbers::EVENT.into());
+        }
+        let three_packed_octets = number_of_values.div_ceil(3);
+        let four_packed_octets = match attribute_type {
+            AttributeType::Listener => number_of_values.div_ceil(4),
+            _ => 0,
+        };
+        let first_value_length = attribute_type.first_value_length();
+        let length = 2 + first_value_length + three_packed_octets + four_packed_octets;
+        if rest.len() < length {
+            return Err(numbers::RUNS_PAST.into());
+        }
+        let (first_value, packed) = rest[2..length].split_at(first_value_length);
+        let (three_packed, four_packed) = packed.split_at(three_packed_octets);
+        if three_packed.iter().any(|octet| *octet > GREATEST_THREE_PACKED) {
+            return Err(numbers::EVENT.into());
+        }
+        if !values_fit(attribute_type, first_value, number_of_values) {
+            return Err(Fault {
+                number: numbers::VALUE,
+                vector: Some((attribute_type, first_value.to_vec(), number_of_values)),
+            });
+        }
+        let events = three_packed.iter().flat_map(|octet| three_events(*octet));
+        let mut listener_types = four_packed.iter().flat_map(|octet| four_listener_types(*octet));
+        let values = events
+            .take(number_of_values)
+            .enumerate()
+            .map(|(n, event)| {
+                let listener_type = listener_types.next().flatten();
+                (event, value(attribute_type, first_value, n as u64, listener_type))
+            })
+            .collect();
+        vectors.push(Vector {
+            attribute_type,
+            leave_all: leave_all_event == 1,
+            first_value: first_value.to_vec(),
+            values,
+        });
+        rest = &rest[length..];
+    }
+}
+
+/// Whether all values stay within their fields: Unique ID 16 bits, destination 48 bits, Domain's
+/// class ID and priority 8 bits each. With 0 values FirstValue isn't looked at.
+fn values_fit(attribute_type: AttributeType, first_value: &[u8], number_of_values: usize) -> bool {
+    if number_of_values == 0 {
+        return true;
+    }
+    let last = number_of_values as u64 - 1;
+    match attribute_type {
+        AttributeType::TalkerAdvertise | AttributeType::TalkerFailed => {
+            number_of(&first_value[6..8]) + last < 1 << 16
+                && number_of(&first_value[8..14]) + last < 1 << 48
+        }
+        AttributeType::Listener => number_of(&first_value[6..8]) + last < 1 << 16,
+        AttributeType::Domain => {
+            u64::from(first_value[0]) + last < 1 << 8 && u64::from(first_value[1]) + last < 1 << 8
+        }
+    }
+}
+
+/// Value n: for Talkers n is added to Unique ID and destination, for Listener to Unique ID.
+fn value(
+    attribute_type: AttributeType,
+    first_value: &[u8],
+    n: u64,
+    listener_type: Option<ListenerType>,
+) -> Value {
+    match attribute_type {
+        AttributeType::TalkerAdvertise | AttributeType::TalkerFailed => {
+            Value::Talker(talker(attribute_type, first_value, n))
+        }
+        AttributeType::Listener => {
+            Value::Listener(number_of(&first_value[0..8]) + n, listener_type)
+        }
+        AttributeType::Domain => Value::Domain,
+    }
+}
+
+/// A Talker FirstValue: StreamID 8, destination 6, VLAN 2, MaxFrameSize 2, MaxIntervalFrames 2,
+/// priority 3 bits, rank 1 bit, reserved 4 bits, AccumulatedLatency 4; Failed adds Bridge ID 8,
+/// code 1.
+fn talker(attribute_type: AttributeType, first_value: &[u8], n: u64) -> Talker {
+    let failure = match attribute_type {
+        AttributeType::TalkerFailed => {
+            Some(Failure { bridge_id: number_of(&first_value[25..33]), code: first_value[33] })
+        }
+        _ => None,
+    };
+    Talker {
+        stream_id: number_of(&first_value[0..8]) + n,
+        parameters: Parameters {
+            destination: number_of(&first_value[8..14]) + n,
+            vlan: number_of(&first_value[14..16]) as u16,
+            max_frame_size: number_of(&first_value[16..18]) as u16,
+            max_interval_frames: number_of(&first_value[18..20]) as u16,
+            priority: first_value[20] >> 5,
+            rank: first_value[20] >> 4 & 1,
+        },
+        accumulated_latency: number_of(&first_value[21..25]) as u32,
+        failure,
+    }
+}

@@ -1,0 +1,224 @@
+//! Registrations per port (01, "Registering").
+
+use std::collections::{BTreeMap, BTreeSet};
+
+use crate::pdu::{AttributeType, Event, Failure, ListenerType, Parameters, Pdu, StreamId};
+use crate::pdu::{Talker, Value, Vector};
+
+/// The most streams that a bridge holds.
+pub const MOST_STREAMS: usize = 64;
+
+/// A Talker registration: Advertise without a failure, Failed with one.
+#[derive(Clone, Debug, PartialEq, Eq)]
+pub struct TalkerRegistration {
+    pub parameters: Parameters,
+    pub accumulated_latency: u32,
+    pub failure: Option<Failure>,
+    /// Set by a join whose parameters differ from the held ones.
+    pub changed: bool,
+    /// The clock at which leaving began.
+    pub leaving: Option<u32>,
+}
+
+impl TalkerRegistration {
+    pub fn attribute_type(&self) -> AttributeType {
+        match self.failure {
+            None => AttributeType::TalkerAdvertise,
+            Some(_) => AttributeType::TalkerFailed,
+        }
+    }
+}
+
+/// A Listener registration.
+#[derive(Clone, Debug, PartialEq, Eq)]
+pub struct ListenerRegistration {
+    pub listener_type: ListenerType,
+    /// The clock at which leaving began.
+    pub leaving: Option<u32>,
+}
+
+/// What one port holds of one stream: at most one Talker and one Listener.
+#[derive(Clone, Debug, Default, PartialEq, Eq)]
+pub struct OnPort {
+    pub talker: Option<TalkerRegistration>,
+    pub listener: Option<ListenerRegistration>,
+}
+
+/// The registrations of all streams held. Each stream has one [`OnPort`] for each port of the
+/// bridge, port 1 first, and at least one of them holds a registration.
+#[derive(Clone, Debug, PartialEq, Eq)]
+pub struct Registrations {
+    port_count: usize,
+    pub streams: BTreeMap<StreamId, Vec<OnPort>>,
+}
+
+/// Whether an event registers.
+pub fn is_join(event: Event) -> bool {
+    match event {
+        Event::New | Event::JoinIn | Event::JoinMt => true,
+        Event::In | Event::Mt | Event::Lv => false,
+    }
+}
+
+/// The different streams that a PDU joins: those with a join event, for Listener without Ignore.
+pub fn streams_joined(pdu: &Pdu) -> BTreeSet<StreamId> {
+    let mut joined = BTreeSet::new();
+    for (event, value) in pdu.vectors().flat_map(|vector| &vector.values) {
+        match value {
+            Value::Talker(talker) if is_join(*event) => {
+                joined.insert(talker.stream_id);
+            }
+            Value::Listener(stream_id, Some(_)) if is_join(*event) => {
+                joined.insert(*stream_id);
+            }
+            _ => {}
+        }
+    }
+    joined
+}
+
+/// Starts leaving at the clock; if already leaving, the first time stays.
+fn start_leaving(leaving: &mut Option<u32>, clock: u32) {
+    if leaving.is_none() {
+        *leaving = Some(clock);
+    }
+}
+
+impl Registrations {
+    pub fn none(port_count: usize) -> Registrations {
+        Registrations { port_count, streams: BTreeMap::new() }
+    }
+
+    /// Streams held plus different new ones joined by this PDU.
+    pub fn streams_with(&self, pdu: &Pdu) -> usize {
+        let new = streams_joined(pdu)
+            .into_iter()
+            .filter(|stream_id| !self.streams.contains_key(stream_id))
+            .count();
+        self.streams.len() + new
+    }
+
+    /// Applies a PDU that came in on a port, vector by vector.
+    pub fn apply(&mut self, port: usize, pdu: &Pdu, clock: u32) {
+        for vector in pdu.vectors() {
+            self.apply_vector(port, vector, clock);
+        }
+    }
+
+    fn apply_vector(&mut self, port: usize, vector: &Vector, clock: u32) {
+        if vector.leave_all {
+            self.leave_all(port, vector.attribute_type, clock);
+        }
+        for (event, value) in &vector.values {
+            match (*value, *event) {
+                (Value::Talker(talker), Event::New | Event::JoinIn | Event::JoinMt) => {
+                    self.join_talker(port, talker);
+                }
+                (Value::Talker(talker), Event::Lv) => {
+                    self.leave(port, talker.stream_id, vector.attribute_type, clock);
+                }
+                (
+                    Value::Listener(stream_id, Some(listener_type)),
+                    Event::New | Event::JoinIn | Event::JoinMt,
+                ) => self.join_listener(port, stream_id, listener_type),
+                (Value::Listener(stream_id, Some(_)), Event::Lv) => {
+                    self.leave(port, stream_id, AttributeType::Listener, clock);
+                }
+                // Ignore, In and Mt do nothing; Domain has no effect.
+                (Value::Listener(_, None), _) | (_, Event::In | Event::Mt) | (Value::Domain, _) => {
+                }
+            }
+        }
+    }
+
+    /// Starts leaving all registrations of that AttributeType on that port.
+    fn leave_all(&mut self, port: usize, attribute_type: AttributeType, clock: u32) {
+        let stream_ids: Vec<StreamId> = self.streams.keys().copied().collect();
+        for stream_id in stream_ids {
+            self.leave(port, stream_id, attribute_type, clock);
+        }
+    }
+
+    /// Starts leaving what the port holds of that StreamID and AttributeType.
+    fn leave(
+        &mut self,
+        port: usize,
+        stream_id: StreamId,
+        attribute_type: AttributeType,
+        clock: u32,
+    ) {
+        let Some(ports) = self.streams.get_mut(&stream_id) else {
+            return;
+        };
+        let held = &mut ports[port - 1];
+        match attribute_type {
+            AttributeType::TalkerAdvertise | AttributeType::TalkerFailed => {
+                if let Some(talker) = &mut held.talker {
+                    if talker.attribute_type() == attribute_type {
+                        start_leaving(&mut talker.leaving, clock);
+                    }
+                }
+            }
+            AttributeType::Listener => {
+                if let Some(listener) = &mut held.listener {
+                    start_leaving(&mut listener.leaving, clock);
+                }
+            }
+            AttributeType::Domain => {}
+        }
+    }
+
+    fn on_port(&mut self, port: usize, stream_id: StreamId) -> &mut OnPort {
+        let port_count = self.port_count;
+        let ports = self
+            .streams
+            .entry(stream_id)
+            .or_insert_with(|| vec![OnPort::default(); port_count]);
+        &mut ports[port - 1]
+    }
+
+    /// A Talker join whose parameters equal the held ones replaces type, latency and failure
+    /// fields and clears the changed mark; else the held type and values stay and the mark is
+    /// set. Either way leaving ends.
+    fn join_talker(&mut self, port: usize, joined: Talker) {
+        let held = &mut self.on_port(port, joined.stream_id).talker;
+        match held {
+            Some(talker) if talker.parameters != joined.parameters => {
+                talker.changed = true;
+                talker.leaving = None;
+            }
+            _ => {
+                *held = Some(TalkerRegistration {
+                    parameters: joined.parameters,
+                    accumulated_latency: joined.accumulated_latency,
+                    failure: joined.failure,
+                    changed: false,
+                    leaving: None,
+                });
+            }
+        }
+    }
+
+    /// A Listener join replaces the declaration type and ends any leaving.
+    fn join_listener(&mut self, port: usize, stream_id: StreamId, listener_type: ListenerType) {
+        let held = &mut self.on_port(port, stream_id).listener;
+        *held = Some(ListenerRegistration { listener_type, leaving: None });
+    }
+
+    /// Removes every registration leaving for at least the leave time, then drops the streams
+    /// that no port holds a registration of.
+    pub fn remove_left(&mut self, clock: u32, leave_time: u32) {
+        let left = |leaving: Option<u32>| leaving.is_some_and(|begun| clock - begun >= leave_time);
+        for on_port in self.streams.values_mut().flatten() {
+            if on_port.talker.as_ref().is_some_and(|talker| left(talker.leaving)) {
+                on_port.talker = None;
+            }
+            if on_port.listener.as_ref().is_some_and(|listener| left(listener.leaving)) {
+                on_port.listener = None;
+            }
+        }
+        self.streams.retain(|_, ports| {
+            ports.iter().any(|on_port| on_port.talker.is_some() || on_port.listener.is_some())
+        });
+    }
+}

@@ -1,0 +1,184 @@
+//! Settings (01, "Numbers given back", the paragraph on settings).
+
+/// The two stream reservation classes. Each has its own priority, limit, latency and interval.
+#[derive(Clone, Copy, Debug, PartialEq, Eq, PartialOrd, Ord)]
+pub enum Class {
+    A,
+    B,
+}
+
+pub const CLASSES: [Class; 2] = [Class::A, Class::B];
+
+/// One value for each class.
+#[derive(Clone, Copy, Debug, Default, PartialEq, Eq)]
+pub struct PerClass<T> {
+    pub a: T,
+    pub b: T,
+}
+
+impl<T: Copy> PerClass<T> {
+    pub fn of(&self, class: Class) -> T {
+        match class {
+            Class::A => self.a,
+            Class::B => self.b,
+        }
+    }
+
+    pub fn of_mut(&mut self, class: Class) -> &mut T {
+        match class {
+            Class::A => &mut self.a,
+            Class::B => &mut self.b,
+        }
+    }
+}
+
+/// The settings of one port.
+#[derive(Clone, Debug, PartialEq, Eq)]
+pub struct PortSettings {
+    pub supports: PerClass<bool>,
+    pub sends_twice: bool,
+    pub overhead: u8,
+    pub largest_frame: u16,
+    /// Bits per second, 40 bits.
+    pub limit: PerClass<u64>,
+    /// Nanoseconds.
+    pub latency: PerClass<u32>,
+}
+
+/// The settings of a bridge. `ports[0]` is port 1.
+#[derive(Clone, Debug, PartialEq, Eq)]
+pub struct Settings {
+    pub bridge_id: u64,
+    pub priority: PerClass<u8>,
+    /// Hundredths of a second, 1 or more.
+    pub leave_time: u32,
+    pub ports: Vec<PortSettings>,
+}
+
+/// A bridge has 1 to 8 ports.
+pub const MOST_PORTS: usize = 8;
+/// Octets before the ports' own settings.
+pub const HEAD_LENGTH: usize = 11;
+/// Octets of one port's settings.
+pub const PORT_LENGTH: usize = 22;
+
+/// Length of settings with that ports field: 11 + 22 x ports.
+pub fn length(ports_field: usize) -> usize {
+    HEAD_LENGTH + PORT_LENGTH * ports_field
+}
+
+/// The 4-bit ports field, where there are octets enough to have one. It follows the 64 bits of
+/// the Bridge ID.
+pub fn ports_field(octets: &[u8]) -> Option<usize> {
+    octets.get(8).map(|octet| usize::from(octet >> 4))
+}
+
+/// Takes fields from octets, most significant bit first.
+struct Fields<'a> {
+    octets: &'a [u8],
+    bits_taken: usize,
+}
+
+impl Fields<'_> {
+    fn take(&mut self, bits: usize) -> u64 {
+        let mut field = 0;
+        for _ in 0..bits {
+            let octet = self.octets[self.bits_taken / 8];
+            let bit = octet >> (7 - self.bits_taken % 8) & 1;
+            field = field << 1 | u64::from(bit);
+            self.bits_taken += 1;
+        }
+        field
+    }
+
+    fn take_flag(&mut self) -> bool {
+        self.take(1) == 1
+    }
+}
+
+/// Reads settings; nothing where they are not as laid out (number 11): another length than
+/// 11 + 22 x ports, ports 0 or above 8, equal priorities, leave time 0, or one of a port's five
+/// zero bits set.
+pub fn read(octets: &[u8]) -> Option<Settings> {
+    let port_count = ports_field(octets)?;
+    if port_count == 0 || port_count > MOST_PORTS || octets.len() != length(port_count) {
+        return None;
+    }
+    let mut fields = Fields { octets, bits_taken: 0 };
+    let bridge_id = fields.take(64);
+    fields.take(4); // the ports field, read above
+    let priority = PerClass { a: fields.take(3) as u8, b: fields.take(3) as u8 };
+    let leave_time = fields.take(14) as u32;
+    if priority.a == priority.b || leave_time == 0 {
+        return None;
+    }
+    let mut ports = Vec::new();
+    for _ in 0..port_count {
+        let supports = PerClass { a: fields.take_flag(), b: fields.take_flag() };
+        let sends_twice = fields.take_flag();
+        let zero = fields.take(5);
+        if zero != 0 {
+            return None;
+        }
+        ports.push(PortSettings {
+            supports,
+            sends_twice,
+            overhead: fields.take(8) as u8,
+            largest_frame: fields.take(16) as u16,
+            limit: PerClass { a: fields.take(40), b: fields.take(40) },
+            latency: PerClass { a: fields.take(32) as u32, b: fields.take(32) as u32 },
+        });
+    }
+    Some(Settings { bridge_id, priority, leave_time, ports })
+}
+
+/// Puts fields into octets, most significant bit first.
+#[derive(Default)]
+struct FieldsOut {
+    octets: Vec<u8>,
+    bits_put: usize,
+}
+
+impl FieldsOut {
+    fn put(&mut self, bits: usize, field: u64) {
+        for place in (0..bits).rev() {
+            if self.bits_put % 8 == 0 {
+                self.octets.push(0);
+            }
+            let bit = (field >> place & 1) as u8;
+            *self.octets.last_mut().expect("pushed above") |= bit << (7 - self.bits_put % 8);
+            self.bits_put += 1;
+        }
+    }
+}
+
+/// The octets of settings, for tests and generated inputs. A number that its field cannot hold
+/// loses its upper bits.
+pub fn write(settings: &Settings) -> Vec<u8> {
+    let mut out = FieldsOut::default();
+    out.put(64, settings.bridge_id);
+    out.put(4, settings.ports.len() as u64);
+    out.put(3, u64::from(settings.priority.a));
+    out.put(3, u64::from(settings.priority.b));
+    out.put(14, u64::from(settings.leave_time));
+    for port in &settings.ports {
+        out.put(1, u64::from(port.supports.a));
+        out.put(1, u64::from(port.supports.b));
+        out.put(1, u64::from(port.sends_twice));
+        out.put(5, 0);
+        out.put(8, u64::from(port.overhead));
+        out.put(16, u64::from(port.largest_frame));
+        out.put(40, port.limit.a);
+        out.put(40, port.limit.b);
+        out.put(32, u64::from(port.latency.a));
+        out.put(32, u64::from(port.latency.b));
+    }
+    out.octets
+}
+
+impl Settings {
+    /// The class whose priority this is, if any.
+    pub fn class_of(&self, priority: u8) -> Option<Class> {
+        CLASSES.into_iter().find(|class| self.priority.of(*class) == priority)
+    }
+}

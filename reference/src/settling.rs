@@ -1,0 +1,364 @@
+//! Settling: attribute propagation and reserved bandwidth (01, "Settling"; 802.1Qat clauses
+//! 35.2.4.1 to 35.2.4.4, Tables 35-12 and 35-14).
+
+use std::collections::BTreeMap;
+
+use crate::pdu::{Failure, ListenerType, StreamId, Talker};
+use crate::registrations::{OnPort, Registrations, TalkerRegistration};
+use crate::settings::{Class, PerClass, PortSettings, Settings, CLASSES};
+
+/// A demand in octets per class measurement interval.
+#[derive(Clone, Copy, Debug, PartialEq, Eq, PartialOrd, Ord)]
+pub struct OctetsPerInterval(pub u64);
+
+/// A rate in bits per second.
+#[derive(Clone, Copy, Debug, PartialEq, Eq, PartialOrd, Ord)]
+pub struct BitsPerSecond(pub u64);
+
+/// The demand of a stream on a port (35.2.4.2): (MaxFrameSize + overhead + 1) x
+/// MaxIntervalFrames, doubled on a port that sends twice.
+pub fn demand(
+    port: &PortSettings,
+    max_frame_size: u16,
+    max_interval_frames: u16,
+) -> OctetsPerInterval {
+    let octets =
+        (u64::from(max_frame_size) + u64::from(port.overhead) + 1) * u64::from(max_interval_frames);
+    OctetsPerInterval(if port.sends_twice { 2 * octets } else { octets })
+}
+
+/// Octets per interval as bits per second: 8,000 intervals a second for A, 4,000 for B.
+pub fn rate(class: Class, demand: OctetsPerInterval) -> BitsPerSecond {
+    let intervals = match class {
+        Class::A => 8_000,
+        Class::B => 4_000,
+    };
+    BitsPerSecond(demand.0 * 8 * intervals)
+}
+
+/// The steps a to i, of which the first that applies gives the column.
+#[derive(Clone, Copy, Debug, PartialEq, Eq, PartialOrd, Ord)]
+pub enum Step {
+    A,
+    B,
+    C,
+    D,
+    E,
+    F,
+    G,
+    H,
+    I,
+}
+
+/// The Talker column of a stream on a port.
+#[derive(Clone, Copy, Debug, PartialEq, Eq)]
+pub enum Column {
+    None,
+    Advertise,
+    Failed(Failure),
+}
+
+/// A column, the step that gave it, and for steps h and i what was compared.
+#[derive(Clone, Copy, Debug, PartialEq, Eq)]
+pub struct Decision {
+    pub step: Step,
+    pub column: Column,
+    pub compared: Option<Compared>,
+}
+
+/// The demand of a stream and what was left when its turn came.
+#[derive(Clone, Copy, Debug, PartialEq, Eq)]
+pub struct Compared {
+    pub demand: BitsPerSecond,
+    pub left: BitsPerSecond,
+}
+
+/// The entry of Table 35-12.
+#[derive(Clone, Copy, Debug, PartialEq, Eq, PartialOrd, Ord)]
+pub enum Entry {
+    None,
+    Filter,
+    Forward,
+}
+
+/// What an advance has taken down of one stream on one port.
+#[derive(Clone, Debug, PartialEq, Eq)]
+pub struct SettledOnPort {
+    /// The Talker declared on the port, if any: Advertise without a failure, Failed with one.
+    pub talker: Option<Talker>,
+    /// The Listener declared on the port, if any.
+    pub listener: Option<ListenerType>,
+    pub entry: Entry,
+    /// The whole second of the advance that first made the entry, while there is one.
+    pub entry_since: Option<u32>,
+}
+
+impl SettledOnPort {
+    pub fn column(&self) -> Column {
+        match self.talker {
+            None => Column::None,
+            Some(Talker { failure: None, .. }) => Column::Advertise,
+            Some(Talker { failure: Some(failure), .. }) => Column::Failed(failure),
+        }
+    }
+}
+
+/// The settled state: what the last advance has taken down. Reports and written declarations
+/// show this.
+#[derive(Clone, Debug, PartialEq, Eq)]
+pub struct Settled {
+    /// For each stream one part per port, port 1 first.
+    pub streams: BTreeMap<StreamId, Vec<SettledOnPort>>,
+    /// The reserved sums of each port, port 1 first.
+    pub totals: Vec<PerClass<u64>>,
+}
+
+impl Settled {
+    /// The state that start leaves.
+    pub fn empty(port_count: usize) -> Settled {
+        Settled { streams: BTreeMap::new(), totals: vec![PerClass::default(); port_count] }
+    }
+}
+
+/// The Talker port of a stream: the lowest port with a Talker registration. With it, what is
+/// registered there.
+fn talker_port(ports: &[OnPort]) -> Option<(usize, &TalkerRegistration)> {
+    (1..).zip(ports).find_map(|(port, on_port)| Some((port, on_port.talker.as_ref()?)))
+}
+
+/// Steps a to g; nothing where the stream reaches step h.
+fn column_before_bandwidth(
+    settings: &Settings,
+    ports: &[OnPort],
+    port: usize,
+) -> Option<(Step, Column)> {
+    let own_failure = |code| Column::Failed(Failure { bridge_id: settings.bridge_id, code });
+    let port_settings = &settings.ports[port - 1];
+    // a. no t, or p = t: none
+    let Some((talker_port, talker)) = talker_port(ports) else {
+        return Some((Step::A, Column::None));
+    };
+    if port == talker_port {
+        return Some((Step::A, Column::None));
+    }
+    // b. the priority is a class that p doesn't support: none
+    let class = settings.class_of(talker.parameters.priority);
+    if class.is_some_and(|class| !port_settings.supports.of(class)) {
+        return Some((Step::B, Column::None));
+    }
+    // c. registered Failed: Failed, its Bridge ID and code
+    if let Some(failure) = talker.failure {
+        return Some((Step::C, Column::Failed(failure)));
+    }
+    // d. changed mark at t: 16
+    if talker.changed {
+        return Some((Step::D, own_failure(16)));
+    }
+    // e. p holds a Talker registration: 4
+    if ports[port - 1].talker.is_some() {
+        return Some((Step::E, own_failure(4)));
+    }
+    // f. priority is no class: 13
+    if class.is_none() {
+        return Some((Step::F, own_failure(13)));
+    }
+    // g. MaxFrameSize above p's largest: 14
+    if talker.parameters.max_frame_size > port_settings.largest_frame {
+        return Some((Step::G, own_failure(14)));
+    }
+    None
+}
+
+/// Whether a stream has an entry on a port: not with column none and without a Listener
+/// (Table 35-12). Steps h and i never give column none.
+fn has_entry(settings: &Settings, ports: &[OnPort], port: usize) -> bool {
+    let column_is_none =
+        matches!(column_before_bandwidth(settings, ports, port), Some((_, Column::None)));
+    !column_is_none || ports[port - 1].listener.is_some()
+}
+
+/// The second from which each entry counts, by stream and port: that of the settled state where
+/// there was an entry already, else that of this advance.
+fn entries_since(
+    settings: &Settings,
+    registrations: &Registrations,
+    clock: u32,
+    before: &Settled,
+) -> BTreeMap<(StreamId, usize), u32> {
+    let mut since = BTreeMap::new();
+    for (stream_id, ports) in &registrations.streams {
+        for port in 1..=settings.ports.len() {
+            if has_entry(settings, ports, port) {
+                let earlier = before
+                    .streams
+                    .get(stream_id)
+                    .and_then(|settled_ports| settled_ports[port - 1].entry_since);
+                since.insert((*stream_id, port), earlier.unwrap_or(clock / 100));
+            }
+        }
+    }
+    since
+}
+
+/// Whether a Listener of that type on the port makes an Advertise stream reserve and forward.
+fn is_ready(listener: Option<ListenerType>) -> bool {
+    match listener {
+        Some(ListenerType::Ready | ListenerType::ReadyFailed) => true,
+        Some(ListenerType::AskingFailed) | None => false,
+    }
+}
+
+fn listener_type(on_port: &OnPort) -> Option<ListenerType> {
+    on_port.listener.as_ref().map(|listener| listener.listener_type)
+}
+
+/// The columns of all streams on all ports, by stream and port, and the reserved sums of each
+/// port.
+pub fn decide(
+    settings: &Settings,
+    registrations: &Registrations,
+    entries_since: &BTreeMap<(StreamId, usize), u32>,
+) -> (BTreeMap<(StreamId, usize), Decision>, Vec<PerClass<u64>>) {
+    let mut decisions = BTreeMap::new();
+    let mut totals = Vec::new();
+    for (port, port_settings) in (1..).zip(&settings.ports) {
+        // Those that reach step h, by class.
+        let mut reaching: BTreeMap<Class, Vec<(u8, u32, StreamId)>> = BTreeMap::new();
+        for (stream_id, ports) in &registrations.streams {
+            match column_before_bandwidth(settings, ports, port) {
+                Some((step, column)) => {
+                    decisions
+                        .insert((*stream_id, port), Decision { step, column, compared: None });
+                }
+                None => {
+                    let (_, talker) = talker_port(ports).expect("step a has passed");
+                    let class =
+                        settings.class_of(talker.parameters.priority).expect("step f has passed");
+                    let since = entries_since[&(*stream_id, port)];
+                    let importance = (talker.parameters.rank, since, *stream_id);
+                    reaching.entry(class).or_default().push(importance);
+                }
+            }
+        }
+        let mut total = PerClass::default();
+        for class in CLASSES {
+            let mut by_importance = reaching.remove(&class).unwrap_or_default();
+            // Rank 0 before 1, then older, then lower StreamID (35.2.4.1).
+            by_importance.sort();
+            for (_, _, stream_id) in by_importance {
+                let ports = &registrations.streams[&stream_id];
+                let (_, talker) = talker_port(ports).expect("step a has passed");
+                let parameters = talker.parameters;
+                let demand = rate(
+                    class,
+                    demand(
+                        port_settings,
+                        parameters.max_frame_size,
+                        parameters.max_interval_frames,
+                    ),
+                );
+                let left = BitsPerSecond(port_settings.limit.of(class) - total.of(class));
+                let compared = Some(Compared { demand, left });
+                // h. demand above what is left: 1
+                let decision = if demand > left {
+                    let failure = Failure { bridge_id: settings.bridge_id, code: 1 };
+                    Decision { step: Step::H, column: Column::Failed(failure), compared }
+                } else {
+                    // i. Advertise. Only those with Listener Ready or Ready Failed reserve.
+                    if is_ready(listener_type(&ports[port - 1])) {
+                        *total.of_mut(class) += demand.0;
+                    }
+                    Decision { step: Step::I, column: Column::Advertise, compared }
+                };
+                decisions.insert((stream_id, port), decision);
+            }
+        }
+        totals.push(total);
+    }
+    (decisions, totals)
+}
+
+/// The entry of Table 35-12.
+fn entry(column: Column, listener: Option<ListenerType>) -> Entry {
+    match column {
+        Column::None if listener.is_none() => Entry::None,
+        Column::Advertise if is_ready(listener) => Entry::Forward,
+        _ => Entry::Filter,
+    }
+}
+
+/// The Listener passed on from a port: none for column none or no Listener; as registered for
+/// Advertise; Asking Failed for Failed.
+fn passed_on(column: Column, listener: Option<ListenerType>) -> Option<ListenerType> {
+    match column {
+        Column::None => None,
+        Column::Advertise => listener,
+        Column::Failed(_) => listener.map(|_| ListenerType::AskingFailed),
+    }
+}
+
+/// Two Listeners merged (Table 35-14): alike gives itself; none gives the other; any two unlike
+/// give Ready Failed.
+pub fn merge(one: Option<ListenerType>, other: Option<ListenerType>) -> Option<ListenerType> {
+    match (one, other) {
+        (None, _) => other,
+        (_, None) => one,
+        (Some(a), Some(b)) if a == b => one,
+        (Some(_), Some(_)) => Some(ListenerType::ReadyFailed),
+    }
+}
+
+/// Latency out: latency in plus the class latency of the port (0 without a class), at most
+/// 2^32 - 1.
+fn latency_out(settings: &Settings, port: usize, talker: &TalkerRegistration) -> u32 {
+    let class = settings.class_of(talker.parameters.priority);
+    let added = class.map_or(0, |class| settings.ports[port - 1].latency.of(class));
+    let sum = u64::from(talker.accumulated_latency) + u64::from(added);
+    sum.min(u64::from(u32::MAX)) as u32
+}
+
+/// Decides everything anew, for the registrations that are left at this clock.
+pub fn settle(
+    settings: &Settings,
+    registrations: &Registrations,
+    clock: u32,
+    before: &Settled,
+) -> Settled {
+    let since = entries_since(settings, registrations, clock, before);
+    let (decisions, totals) = decide(settings, registrations, &since);
+    let mut streams = BTreeMap::new();
+    for (stream_id, ports) in &registrations.streams {
+        let talker = talker_port(ports);
+        let mut settled_ports = Vec::new();
+        let mut merged = None;
+        for (port, on_port) in (1..).zip(ports) {
+            let column = decisions[&(*stream_id, port)].column;
+            let listener = listener_type(on_port);
+            merged = merge(merged, passed_on(column, listener));
+            let failure = match column {
+                Column::Failed(failure) => Some(failure),
+                Column::None | Column::Advertise => None,
+            };
+            let declared = match (column, talker) {
+                (Column::Advertise | Column::Failed(_), Some((_, talker))) => Some(Talker {
+                    stream_id: *stream_id,
+                    parameters: talker.parameters,
+                    accumulated_latency: latency_out(settings, port, talker),
+                    failure,
+                }),
+                (Column::None, _) | (_, None) => None,
+            };
+            settled_ports.push(SettledOnPort {
+                talker: declared,
+                listener: None,
+                entry: entry(column, listener),
+                entry_since: since.get(&(*stream_id, port)).copied(),
+            });
+        }
+        if let Some((talker_port, _)) = talker {
+            settled_ports[talker_port - 1].listener = merged;
+        }
+        streams.insert(*stream_id, settled_ports);
+    }
+    Settled { streams, totals }
+}
