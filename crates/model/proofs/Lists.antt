@@ -1,0 +1,104 @@
+-- Laws of lists, tests and `All`.
+use mathlib.Core.Path.{_≡_, refl, sym, _∙_, ap, subst}
+use mathlib.Core.List.{List, [], _∷_, _++_, map}
+use mathlib.Core.Bool.{Bool, true, false, cond, not, _&&_, _||_, true≢false, false≢true}
+use Prim.Native.Nat.{ℕ, zero, suc}
+use lib.ListN.{length, take, drop, replicate}
+use lib.Dec.{eqb}
+use borrow.Author.Tests.{eq-eqb, ne-eqb}
+use Rattle.model.specs.Lists.{All, allTrue, implies, keep, tabulate, on}
+
+-- All.
+
+module _ {A : Type 0} (P Q : A → Type 0) where
+  pub all-map : ((x : A) → P x → Q x) → (l : List A) → All P l → All Q l
+  all-map f [] a = tt
+  all-map f (x ∷ l) a = (f x (a .0), all-map f l (a .1))
+
+  pub all-both : (l : List A) → All P l → All Q l → All (λ x. P x × Q x) l
+  all-both [] a b = tt
+  all-both (x ∷ l) a b = ((a .0, b .0), all-both l (a .1) (b .1))
+
+module _ {A : Type 0} (P : A → Type 0) where
+  pub all-each : ((x : A) → P x) → (l : List A) → All P l
+  all-each f [] = tt
+  all-each f (x ∷ l) = (f x, all-each f l)
+
+  pub all-append : (l m : List A) → All P l → All P m → All P (l ++ m)
+  all-append [] m a b = b
+  all-append (x ∷ l) m a b = (a .0, all-append l m (a .1) b)
+
+  pub all-split : (l m : List A) → All P (l ++ m) → All P l × All P m
+  all-split [] m a = (tt, a)
+  all-split (x ∷ l) m a = ((a .0, all-split l m (a .1) .0), all-split l m (a .1) .1)
+
+  pub all-take : (n : ℕ) (l : List A) → All P l → All P (take n l)
+  all-take zero l a = tt
+  all-take (suc n) [] a = tt
+  all-take (suc n) (x ∷ l) a = (a .0, all-take n l (a .1))
+
+  pub all-drop : (n : ℕ) (l : List A) → All P l → All P (drop n l)
+  all-drop zero l a = a
+  all-drop (suc n) [] a = tt
+  all-drop (suc n) (x ∷ l) a = all-drop n l (a .1)
+
+  pub all-replicate : (n : ℕ) (x : A) → P x → All P (replicate n x)
+  all-replicate zero x h = tt
+  all-replicate (suc n) x h = (h, all-replicate n x h)
+
+  pub all-tabulate : (n p : ℕ) (f : ℕ → A) → ((q : ℕ) → P (f q)) → All P (tabulate n p f)
+  unfolding tabulate
+  all-tabulate zero p f h = tt
+  all-tabulate (suc n) p f h = (h p, all-tabulate n (suc p) f h)
+
+-- Tests.
+
+pub and-left : (a b : Bool) → (a && b) ≡ true → a ≡ true
+and-left true b e = refl
+and-left false b e = e
+
+pub and-right : (a b : Bool) → (a && b) ≡ true → b ≡ true
+and-right true b e = e
+and-right false b e = absurd (false≢true e)
+
+pub and-both : (a b : Bool) → a ≡ true → b ≡ true → (a && b) ≡ true
+and-both true b p q = q
+and-both false b p q = p
+
+pub and-true : (a : Bool) → (a && true) ≡ a
+and-true true = refl
+and-true false = refl
+
+pub and-false : (a : Bool) → (a && false) ≡ false
+and-false true = refl
+and-false false = refl
+
+-- a test that is not asked for, or holds
+pub implies-true : (a b : Bool) → (a ≡ true → b ≡ true) → implies a b ≡ true
+implies-true true b h = h refl
+implies-true false b h = refl
+
+pub implied : (a b : Bool) → implies a b ≡ true → a ≡ true → b ≡ true
+implied true b h e = h
+implied false b h e = absurd (false≢true e)
+
+pub all-true : (l : List Bool) → allTrue l ≡ true → All (λ b. b ≡ true) l
+unfolding allTrue
+all-true [] e = tt
+all-true (b ∷ l) e = (and-left b (allTrue l) e, all-true l (and-right b (allTrue l) e))
+
+pub true-all : (l : List Bool) → All (λ b. b ≡ true) l → allTrue l ≡ true
+unfolding allTrue
+true-all [] a = refl
+true-all (b ∷ l) a = and-both b (allTrue l) (a .0) (true-all l (a .1))
+
+-- Arrivals at a port.
+
+module _ {X : Type 0} where
+  pub on-same : (p : ℕ) (a : ℕ × X) (f : List (ℕ × X)) → a .0 ≡ p → on p (a ∷ f) ≡ a .1 ∷ on p f
+  unfolding on
+  on-same p a f e = rw (eq-eqb (a .0) p e)
+
+  pub on-other : (p : ℕ) (a : ℕ × X) (f : List (ℕ × X)) → (a .0 ≡ p → ⊥) → on p (a ∷ f) ≡ on p f
+  unfolding on
+  on-other p a f e = rw (ne-eqb (a .0) p e)

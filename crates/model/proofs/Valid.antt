@@ -1,0 +1,111 @@
+-- The form rules as facts about a bridge, for proofs: what `formed` tests on octets.
+use mathlib.Core.Path.{_≡_}
+use mathlib.Core.List.{List, [], _∷_}
+use mathlib.Core.Bool.{Bool, true, false}
+use Prim.Native.Nat.{ℕ, _+_, _/_, _^_, _≤_, _<_}
+use lib.ListN.{length, drop}
+use Rattle.model.specs.Lists.{All}
+use Rattle.model.specs.State.{Port, Settings, Leaving, stays, since, Fixed, Health, sound, broken, Varying, Talker, noTalker, talker, Ready, Listener, noListener, listener, Cell, Column, none, advertise, failed, Entry, noEntry, filters, forwards, Declared, Result, Stream, Totals, Bridge, empty, unsettled}
+use Rattle.model.specs.Registrations.{ids}
+use Rattle.model.specs.Settling.{held}
+use Rattle.model.specs.Table.{totalsWithin}
+
+pub record ValidPort (q : Port) : Type 0 where
+  pub overhead : q .overhead < 256
+  pub largest : q .largest < 65536
+  pub limitA : q .limitA < 256 ^ 5
+  pub limitB : q .limitB < 256 ^ 5
+  pub latencyA : q .latencyA < 2 ^ 32
+  pub latencyB : q .latencyB < 2 ^ 32
+
+pub record ValidSettings (st : Settings) : Type 0 where
+  pub bridgeId : st .bridgeId < 2 ^ 64
+  pub priorityA : st .priorityA < 8
+  pub priorityB : st .priorityB < 8
+  pub different : st .priorityA ≡ st .priorityB → ⊥
+  pub leaves : 1 ≤ st .leaveTime
+  pub leaveTime : st .leaveTime < 16384
+  pub some-port : 1 ≤ length (st .ports)
+  pub eight-ports : length (st .ports) ≤ 8
+  pub ports : All ValidPort (st .ports)
+
+-- at a bridge with this clock and leave time
+abbrev pub ValidLeaving : ℕ → ℕ → Leaving → Type 0
+ValidLeaving clock leave stays = Unit {0}
+ValidLeaving clock leave (since t) = (t ≤ clock) × (clock < t + leave)
+
+pub record ValidFixed (f : Fixed) : Type 0 where
+  pub destination : f .destination < 256 ^ 6
+  pub vlan : f .vlan < 65536
+  pub size : f .size < 65536
+  pub frames : f .frames < 65536
+  pub priority : f .priority < 8
+  pub rank : f .rank < 2
+
+abbrev pub ValidHealth : Health → Type 0
+ValidHealth sound = Unit {0}
+ValidHealth (broken b c) = (b < 2 ^ 64) × (c < 256)
+
+pub record ValidVarying (v : Varying) : Type 0 where
+  pub health : ValidHealth (v .health)
+  pub latency : v .latency < 2 ^ 32
+
+abbrev pub ValidTalker : ℕ → ℕ → Talker → Type 0
+ValidTalker clock leave noTalker = Unit {0}
+ValidTalker clock leave (talker f v m l) = ValidFixed f × ValidVarying v × ValidLeaving clock leave l
+
+abbrev pub ValidListener : ℕ → ℕ → Listener → Type 0
+ValidListener clock leave noListener = Unit {0}
+ValidListener clock leave (listener r l) = ValidLeaving clock leave l
+
+pub record ValidCell (clock leave : ℕ) (c : Cell) : Type 0 where
+  pub talks : ValidTalker clock leave (c .talks)
+  pub hears : ValidListener clock leave (c .hears)
+
+-- which entry, and which latency, goes with a column
+abbrev pub ValidColumn : Column → ℕ → Entry → Type 0
+ValidColumn none latency noEntry = latency ≡ 0
+ValidColumn none latency filters = latency ≡ 0
+ValidColumn none latency forwards = ⊥
+ValidColumn advertise latency noEntry = ⊥
+ValidColumn advertise latency filters = Unit {0}
+ValidColumn advertise latency forwards = Unit {0}
+ValidColumn (failed b c) latency noEntry = ⊥
+ValidColumn (failed b c) latency filters = (b < 2 ^ 64) × (c < 256)
+ValidColumn (failed b c) latency forwards = ⊥
+
+-- an age goes with an entry
+abbrev pub ValidAge : ℕ → Entry → ℕ → Type 0
+ValidAge clock noEntry age = age ≡ 0
+ValidAge clock filters age = age ≤ clock / 100
+ValidAge clock forwards age = age ≤ clock / 100
+
+pub record ValidResult (clock : ℕ) (r : Result) : Type 0 where
+  pub column : ValidColumn (r .column) (r .latency) (r .entry)
+  pub latency : r .latency < 2 ^ 32
+  pub age : ValidAge clock (r .entry) (r .age)
+
+pub record ValidStream (ports clock leave : ℕ) (x : Stream) : Type 0 where
+  pub id : x .id < 2 ^ 64
+  pub settled : ValidFixed (x .settled)
+  pub eight-cells : length (x .cells) ≡ 8
+  pub cells : All (ValidCell clock leave) (x .cells)
+  pub no-other-cells : All (λ c. c ≡ empty) (drop ports (x .cells))
+  pub is-held : held (x .cells) ≡ true
+  pub eight-results : length (x .results) ≡ 8
+  pub results : All (ValidResult clock) (x .results)
+  pub no-other-results : All (λ r. r ≡ unsettled) (drop ports (x .results))
+
+-- StreamIDs rise
+unfoldable pub Rising : List ℕ → Type 0
+Rising [] = Unit {0}
+Rising (i ∷ l) = All (λ j. i < j) l × Rising l
+
+pub record Valid (b : Bridge) : Type 0 where
+  pub settings : ValidSettings (b .settings)
+  pub clock : b .clock < 2 ^ 32
+  pub eight-totals : length (b .totals) ≡ 8
+  pub totals : totalsWithin (b .totals) (b .settings .ports) ≡ true
+  pub at-most-64 : length (b .streams) ≤ 64
+  pub streams : All (ValidStream (length (b .settings .ports)) (b .clock) (b .settings .leaveTime)) (b .streams)
+  pub ascending : Rising (ids (b .streams))

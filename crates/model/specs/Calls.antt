@@ -1,0 +1,91 @@
+-- The five calls on octets: for every input the number, the other parts of the answer, the table and the buffer afterwards, in
+-- 01's order of numbers ("12 first (for start a wrong table length only, then 11); then 1; receive 2, then the walk from the
+-- front, then 8; write 10, then 13; report 13").
+use mathlib.Core.List.{List, [], _∷_, _++_}
+use mathlib.Core.Bool.{Bool, true, false, cond, not}
+use Prim.Native.Nat.{ℕ}
+use lib.ListN.{length, drop}
+use lib.Dec.{ltb, eqb}
+use Rattle.model.specs.State.{Bridge, Settings, started}
+use Rattle.model.specs.Registrations.{Answer, received, asks}
+use Rattle.model.specs.Frames.{reading, wrongPort}
+use Rattle.model.specs.Settling.{advance}
+use Rattle.model.specs.Declarations.{Declaration, Written, write, Report, refusedReport, report}
+use Rattle.model.specs.WrittenFrames.{pduOctets}
+use Rattle.model.specs.Table.{encode, decode, formed, tableLength, settingsFormed, toSettings}
+
+-- what start, receive and advance answer and leave
+pub record Call : Type 0 where
+  pub number : ℕ
+  pub table : List ℕ
+
+unfoldable pub startOn : List ℕ → List ℕ → Call
+startOn t s =
+    cond (not (eqb (length t) tableLength)) record { number = 12; table = t }
+    (cond (not (settingsFormed s)) record { number = 11; table = t }
+    record { number = 0; table = encode (started (toSettings s)) })
+
+-- the table after the bridge's answer: "A refusal .. alters no octet"
+unfoldable pub leaves : List ℕ → Answer → Call
+leaves t a =
+    cond (eqb (a .number) 0) record { number = 0; table = encode (a .bridge) } record { number = a .number; table = t }
+
+-- a call of the bridge on its table
+unfoldable pub onTable : List ℕ → (Bridge → Answer) → Call
+onTable t f = cond (formed t) (leaves t (f (decode t))) record { number = 12; table = t }
+
+unfoldable pub receive : Bridge → ℕ → List ℕ → Answer
+receive b p pdu = received b p (reading (b .settings) p pdu)
+
+unfoldable pub receiveOn : List ℕ → ℕ → List ℕ → Call
+receiveOn t p pdu = onTable t (λ b. receive b p pdu)
+
+unfoldable pub advanceOn : List ℕ → ℕ → Call
+advanceOn t now = onTable t (λ b. advance b now)
+
+-- what write answers and leaves in the buffer: "Octets past the length stay"
+pub record WriteCall : Type 0 where
+  pub number : ℕ
+  pub length : ℕ
+  pub next : ℕ
+  pub buffer : List ℕ
+
+unfoldable pub refusedWrite : ℕ → List ℕ → WriteCall
+refusedWrite n buffer = record { number = n; length = 0; next = 0; buffer = buffer }
+
+unfoldable pub writtenTo : List ℕ → Written → WriteCall
+writtenTo buffer w =
+    let pdu = pduOctets (w .run) in
+    cond (eqb (w .number) 0)
+    record { number = 0; length = length pdu; next = w .next; buffer = pdu ++ drop (length pdu) buffer }
+    (refusedWrite (w .number) buffer)
+
+unfoldable pub writeOn : List ℕ → ℕ → ℕ → List ℕ → WriteCall
+writeOn t p place buffer =
+    let b = decode t in
+    cond (not (formed t)) (refusedWrite 12 buffer)
+    (cond (wrongPort (b .settings) p) (refusedWrite 1 buffer)
+    (cond (ltb (length buffer) 1500) (refusedWrite 10 buffer)
+    (writtenTo buffer (write b p place))))
+
+unfoldable pub reportOn : List ℕ → ℕ → ℕ → Report
+reportOn t p place =
+    let b = decode t in
+    cond (not (formed t)) (refusedReport 12)
+    (cond (wrongPort (b .settings) p) (refusedReport 1)
+    (report b p place))
+
+-- Frames handed over one after another, each with its port: the answers with their ports, and the table they leave.
+
+unfoldable pub answersOn : List (ℕ × List ℕ) → List ℕ → List (ℕ × ℕ)
+answersOn [] t = []
+answersOn (a ∷ f) t = (a .0, receiveOn t (a .0) (a .1) .number) ∷ answersOn f (receiveOn t (a .0) (a .1) .table)
+
+unfoldable pub afterOn : List (ℕ × List ℕ) → List ℕ → List ℕ
+afterOn [] t = t
+afterOn (a ∷ f) t = afterOn f (receiveOn t (a .0) (a .1) .table)
+
+-- the StreamIDs that well-formed frames ask to join
+unfoldable pub asked : Settings → List (ℕ × List ℕ) → List ℕ
+asked st [] = []
+asked st (a ∷ f) = asks (reading st (a .0) (a .1)) ++ asked st f

@@ -1,0 +1,176 @@
+-- Declarations: what a port writes, and what one PDU takes of it (01, "Writing"); the report (01, "What the bridge does").
+use mathlib.Core.List.{List, [], _∷_, _++_, map}
+use mathlib.Core.Bool.{Bool, true, false, cond, not, _&&_}
+use Prim.Native.Nat.{ℕ, zero, suc, _+_, _*_, _-_}
+use lib.ListN.{length, getD, take, drop}
+use lib.Dec.{ltb, leb, eqb}
+use Rattle.model.specs.Lists.{keep}
+use Rattle.model.specs.State.{Port, Settings, Fixed, Health, sound, broken, Varying, Ready, Column, none, advertise, failed, Entry, noEntry, Declared, nothing, tells, Result, Stream, Totals, Bridge, portAt, resultAt, noTotals, unsettled, fresh}
+use Rattle.model.specs.Registrations.{Kind, advertises, faileds, listeners, Act, talk, listen}
+
+-- a declaration is a join of the neighbour's table
+pub data Declaration : Type 0 where
+  talkerDeclaration : (id : ℕ) → Fixed → Varying → Declaration
+  listenerDeclaration : (id : ℕ) → Ready → Declaration
+
+unfoldable pub healthKind : Health → Kind
+healthKind sound = advertises
+healthKind (broken b c) = faileds
+
+unfoldable pub kindOf : Declaration → Kind
+kindOf (talkerDeclaration id f v) = healthKind (v .health)
+kindOf (listenerDeclaration id r) = listeners
+
+-- what a neighbour reads
+unfoldable pub joinOf : Declaration → Act
+joinOf (talkerDeclaration id f v) = talk id f v
+joinOf (listenerDeclaration id r) = listen id r
+
+-- "Declarations of a port: Advertise, Failed, Listener; in each by ascending StreamID", as the last advance took them
+unfoldable pub advertised : Stream → Result → Column → List Declaration
+advertised x r none = []
+advertised x r advertise = talkerDeclaration (x .id) (x .settled) record { health = sound; latency = r .latency } ∷ []
+advertised x r (failed b c) = []
+
+unfoldable pub failing : Stream → Result → Column → List Declaration
+failing x r none = []
+failing x r advertise = []
+failing x r (failed b c) = talkerDeclaration (x .id) (x .settled) record { health = broken b c; latency = r .latency } ∷ []
+
+unfoldable pub listening : Stream → Declared → List Declaration
+listening x nothing = []
+listening x (tells r) = listenerDeclaration (x .id) r ∷ []
+
+unfoldable pub declarationsOf : Kind → Stream → Result → List Declaration
+declarationsOf advertises x r = advertised x r (r .column)
+declarationsOf faileds x r = failing x r (r .column)
+declarationsOf listeners x r = listening x (r .declares)
+
+unfoldable pub ofKind : Kind → ℕ → List Stream → List Declaration
+ofKind k p [] = []
+ofKind k p (x ∷ s) = declarationsOf k x (resultAt x p) ++ ofKind k p s
+
+unfoldable pub declarations : ℕ → List Stream → List Declaration
+declarations p s = ofKind advertises p s ++ (ofKind faileds p s ++ ofKind listeners p s)
+
+-- "From a place (0 based) one PDU takes as many as fit in 1,500 octets whole, one Message per type, one value per vector".
+
+-- the octets of a vector of one value
+unfoldable pub vectorSize : Kind → ℕ
+vectorSize advertises = 28
+vectorSize faileds = 37
+vectorSize listeners = 12
+
+unfoldable pub sameKind : Kind → Kind → Bool
+sameKind advertises advertises = true
+sameKind advertises faileds = false
+sameKind advertises listeners = false
+sameKind faileds advertises = false
+sameKind faileds faileds = true
+sameKind faileds listeners = false
+sameKind listeners advertises = false
+sameKind listeners faileds = false
+sameKind listeners listeners = true
+
+-- the Message that is open, if any; a declaration of another type opens its own, with 4 octets of header and 2 of EndMark
+pub data Open : Type 0 where
+  noMessage : Open
+  message : Kind → Open
+
+unfoldable pub opening : Open → Kind → ℕ
+opening noMessage k = 6
+opening (message j) k = cond (sameKind j k) 0 6
+
+-- how many declarations fit, with so many octets used
+unfoldable pub fitting : ℕ → Open → List Declaration → ℕ
+fitting used o [] = 0
+fitting used o (d ∷ l) =
+    let more = used + opening o (kindOf d) + vectorSize (kindOf d) in
+    cond (ltb 1500 more) 0 (suc (fitting more (message (kindOf d)) l))
+
+-- ProtocolVersion and EndMark are three octets
+unfoldable pub takes : List Declaration → ℕ
+takes l = fitting 3 noMessage l
+
+-- what write answers: 13 "place is above the number of declarations"
+pub record Written : Type 0 where
+  pub number : ℕ
+  pub run : List Declaration
+  pub next : ℕ
+
+unfoldable pub write : Bridge → ℕ → ℕ → Written
+write b p place =
+    let l = declarations (p - 1) (b .streams) in
+    let n = takes (drop place l) in
+    cond (ltb (length l) place) record { number = 13; run = []; next = 0 }
+    record { number = 0; run = take n (drop place l); next = place + n }
+
+-- The report: "the streams held, the port's class totals and limits, and for the stream at that 0-based place by StreamID its
+-- ID, column, code, Listener declared there and entry; at place = count these five are zero or none".
+
+-- a column is shown by its word, and its code apart
+pub data ColumnWord : Type 0 where
+  noneWord advertiseWord failedWord : ColumnWord
+
+pub record Report : Type 0 where
+  pub number : ℕ
+  pub count : ℕ
+  pub totalA : ℕ
+  pub limitA : ℕ
+  pub totalB : ℕ
+  pub limitB : ℕ
+  pub id : ℕ
+  pub column : ColumnWord
+  pub code : ℕ
+  pub listener : Declared
+  pub entry : Entry
+
+unfoldable pub refusedReport : ℕ → Report
+refusedReport n = record {
+  number = n;
+  count = 0;
+  totalA = 0;
+  limitA = 0;
+  totalB = 0;
+  limitB = 0;
+  id = 0;
+  column = noneWord;
+  code = 0;
+  listener = nothing;
+  entry = noEntry;
+}
+
+unfoldable pub wordOf : Column → ColumnWord
+wordOf none = noneWord
+wordOf advertise = advertiseWord
+wordOf (failed b c) = failedWord
+
+unfoldable pub codeOf : Column → ℕ
+codeOf none = 0
+codeOf advertise = 0
+codeOf (failed b c) = c
+
+-- past the last stream stands one that has no StreamID and no results
+unfoldable pub streamAt : List Stream → ℕ → Stream
+streamAt s place = getD s place (fresh 0)
+
+unfoldable pub report : Bridge → ℕ → ℕ → Report
+report b p place =
+    let q = portAt (b .settings) (p - 1) in
+    let t = getD (b .totals) (p - 1) noTotals in
+    let x = streamAt (b .streams) place in
+    let r = resultAt x (p - 1) in
+    cond (ltb (length (b .streams)) place) (refusedReport 13)
+    record {
+      number = 0;
+      count = length (b .streams);
+      totalA = t .totalA;
+      limitA = q .limitA;
+      totalB = t .totalB;
+      limitB = q .limitB;
+      id = x .id;
+      column = wordOf (r .column);
+      code = codeOf (r .column);
+      listener = r .declares;
+      entry = r .entry;
+    }

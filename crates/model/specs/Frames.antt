@@ -1,0 +1,308 @@
+-- The MSRPDU: octets read as vectors or refused with a number, and what the vectors ask for (01, "The PDU"; 10.8, 35.2.2).
+use mathlib.Core.List.{List, [], _∷_, _++_}
+use mathlib.Core.Bool.{Bool, true, false, cond, not, _&&_, _||_}
+use Prim.Native.Nat.{ℕ, zero, suc, _+_, _*_, _-_, _/_, _%_, _^_}
+use lib.ListN.{length, getD}
+use lib.Dec.{ltb, leb, eqb}
+use Rattle.octets.specs.Be.{beAt}
+use Rattle.octets.specs.Fields.{fields, width}
+use Rattle.octets.specs.Parts.{part}
+use Rattle.model.specs.State.{Fixed, Health, sound, broken, Varying, Ready, askingFailed, ready, readyFailed, Settings}
+use Rattle.model.specs.Registrations.{Kind, advertises, faileds, listeners, Act, leaveAll, leave, talk, listen, Reading, refused, acts}
+
+-- Attribute types (Tables 35-1, 35-2).
+
+pub data Attribute : Type 0 where
+  registers : Kind → Attribute
+  domain : Attribute
+
+-- what the AttributeType octet says: refused, a type known here, or one of a higher version
+pub data TypeOctet : Type 0 where
+  notAllowed unknown : TypeOctet
+  known : Attribute → TypeOctet
+
+-- "AttributeType 0; or above 4 with ProtocolVersion 0" is 4
+unfoldable pub typeOctet : ℕ → ℕ → TypeOctet
+typeOctet version zero = notAllowed
+typeOctet version (suc zero) = known (registers advertises)
+typeOctet version (suc (suc zero)) = known (registers faileds)
+typeOctet version (suc (suc (suc zero))) = known (registers listeners)
+typeOctet version (suc (suc (suc (suc zero)))) = known domain
+typeOctet version (suc (suc (suc (suc (suc t))))) = cond (eqb version 0) notAllowed unknown
+
+-- the widths of FirstValue's fields.
+-- Talker: StreamID, destination, VLAN, MaxFrameSize, MaxIntervalFrames, priority and rank, AccumulatedLatency; Failed adds
+-- Bridge ID and code. Listener: StreamID. Domain: class ID, priority, VLAN.
+unfoldable pub firstWidths : Attribute → List ℕ
+firstWidths (registers advertises) = 8 ∷ 6 ∷ 2 ∷ 2 ∷ 2 ∷ 1 ∷ 4 ∷ []
+firstWidths (registers faileds) = 8 ∷ 6 ∷ 2 ∷ 2 ∷ 2 ∷ 1 ∷ 4 ∷ 8 ∷ 1 ∷ []
+firstWidths (registers listeners) = 8 ∷ []
+firstWidths domain = 1 ∷ 1 ∷ 2 ∷ []
+
+-- 25, 34, 8 and 4 octets
+unfoldable pub firstLength : Attribute → ℕ
+firstLength (registers advertises) = 25
+firstLength (registers faileds) = 34
+firstLength (registers listeners) = 8
+firstLength domain = 4
+
+-- "one ThreePackedEvents octet per three values or part, and for Listener one FourPackedEvents octet per four or part"
+unfoldable pub threeLength : ℕ → ℕ
+threeLength n = (n + 2) / 3
+
+unfoldable pub fourLength : Attribute → ℕ → ℕ
+fourLength (registers advertises) n = 0
+fourLength (registers faileds) n = 0
+fourLength (registers listeners) n = (n + 3) / 4
+fourLength domain n = 0
+
+-- Vectors.
+
+pub record Vector : Type 0 where
+  pub attribute : Attribute
+  pub leavesAll : Bool
+  pub values : ℕ
+  pub first : List ℕ
+  pub three : List ℕ
+  pub four : List ℕ
+
+-- the vector whose header, h, stands at a place of its AttributeList
+unfoldable pub vectorAt : Attribute → List ℕ → ℕ → ℕ → Vector
+vectorAt k l at h =
+    let n = h % 8192 in
+    let first = at + 2 in
+    let three = first + firstLength k in
+    let four = three + threeLength n in
+    record {
+      attribute = k;
+      leavesAll = eqb (h / 8192) 1;
+      values = n;
+      first = part first (firstLength k) l;
+      three = part three (threeLength n) l;
+      four = part four (fourLength k n) l;
+    }
+
+-- the place after it
+unfoldable pub vectorEnd : Attribute → ℕ → ℕ → ℕ
+vectorEnd k at h = at + 2 + firstLength k + threeLength (h % 8192) + fourLength k (h % 8192)
+
+-- an event octet above 215 is 6
+unfoldable pub overpacked : List ℕ → Bool
+overpacked [] = false
+overpacked (o ∷ l) = ltb 215 o || overpacked l
+
+-- "Value n adds n to Unique ID and destination; for Listener to Unique ID; for Domain to class ID and priority octets": n
+-- more than FirstValue runs past one of these fields
+unfoldable pub runsPast : Attribute → List ℕ → ℕ → Bool
+runsPast (registers listeners) s n = ltb 65535 (beAt 2 s 6 + n)
+runsPast (registers advertises) s n = ltb 65535 (beAt 2 s 6 + n) || ltb 281474976710655 (beAt 6 s 8 + n)
+runsPast (registers faileds) s n = ltb 65535 (beAt 2 s 6 + n) || ltb 281474976710655 (beAt 6 s 8 + n)
+runsPast domain s n = ltb 255 (getD s 0 0 + n) || ltb 255 (getD s 1 0 + n)
+
+-- a value of the vector runs past its field: the last one does
+unfoldable pub overflows : Vector → Bool
+overflows v = not (eqb (v .values) 0) && runsPast (v .attribute) (v .first) (v .values - 1)
+
+-- The walk.
+
+-- what is found from a place on: the number of the first fault, or all vectors
+pub data Walk : Type 0 where
+  fault : ℕ → Walk
+  found : List Vector → Walk
+
+unfoldable pub also : Vector → Walk → Walk
+also v (fault n) = fault n
+also v (found vs) = found (v ∷ vs)
+
+unfoldable pub both : Walk → Walk → Walk
+both (fault n) w = fault n
+both (found vs) (fault n) = fault n
+both (found vs) (found ws) = found (vs ++ ws)
+
+-- an AttributeList, from a place on: "Checks: header (3), LeaveAllEvent (6), fits (3), event octets (6), values (7)"; "Header
+-- 00 00 is the EndMark", and 3 where it isn't the list's last two octets. (The first argument bounds the vectors left.)
+unfoldable pub vectors : ℕ → Attribute → List ℕ → ℕ → Walk
+vectors zero k l at = fault 3
+vectors (suc f) k l at =
+    let h = beAt 2 l at in
+    let v = vectorAt k l at h in
+    cond (ltb (length l) (at + 2)) (fault 3)
+    (cond (eqb h 0) (cond (eqb (at + 2) (length l)) (found []) (fault 3))
+    (cond (ltb 1 (h / 8192)) (fault 6)
+    (cond (ltb (length l) (vectorEnd k at h)) (fault 3)
+    (cond (overpacked (v .three)) (fault 6)
+    (cond (overflows v) (fault 7)
+    (also v (vectors f k l (vectorEnd k at h))))))))
+
+-- the list of a Message whose header stands at a place, as a part of the PDU, and the place after it
+unfoldable pub listLength : List ℕ → ℕ → ℕ
+listLength s at = beAt 2 s (at + 2)
+
+unfoldable pub listAt : List ℕ → ℕ → List ℕ
+listAt s at = part (at + 4) (listLength s at) s
+
+unfoldable pub messageEnd : List ℕ → ℕ → ℕ
+messageEnd s at = at + 4 + listLength s at
+
+-- 00 00
+unfoldable pub endMark : List ℕ → ℕ → Bool
+endMark s at = leb (at + 2) (length s) && eqb (beAt 2 s at) 0
+
+-- "A Message's checks: four header octets (3), type (4), length (5, known types), list within PDU (3)"; "types above 4 are
+-- skipped unread by their list length". The last argument is what the Messages after it give.
+unfoldable pub message : TypeOctet → List ℕ → ℕ → Walk → Walk
+message notAllowed s at rest = fault 4
+message unknown s at rest = cond (ltb (length s) (messageEnd s at)) (fault 3) rest
+message (known k) s at rest =
+    cond (not (eqb (getD s (at + 1) 0) (firstLength k))) (fault 5)
+    (cond (ltb (length s) (messageEnd s at)) (fault 3)
+    (both (vectors (suc (listLength s at)) k (listAt s at) 0) rest))
+
+-- the Messages from a place on, to the EndMark or the end. (The first argument bounds the Messages left.)
+unfoldable pub messages : ℕ → ℕ → List ℕ → ℕ → Walk
+messages zero version s at = fault 3
+messages (suc f) version s at =
+    cond (eqb at (length s)) (found [])
+    (cond (endMark s at) (found [])
+    (cond (ltb (length s) (at + 4)) (fault 3)
+    (message (typeOctet version (getD s at 0)) s at (messages f version s (messageEnd s at)))))
+
+-- a PDU: 2 "has 0 octets or more than 1,500"; then the walk, from behind the ProtocolVersion
+unfoldable pub walk : List ℕ → Walk
+walk s =
+    cond (eqb (length s) 0) (fault 2)
+    (cond (ltb 1500 (length s)) (fault 2)
+    (messages (suc (length s)) (getD s 0 0) s 1))
+
+-- Events.
+
+pub data Event : Type 0 where
+  new joinIn isIn joinMt mt lv : Event
+
+unfoldable pub event : ℕ → Event
+event zero = new
+event (suc zero) = joinIn
+event (suc (suc zero)) = isIn
+event (suc (suc (suc zero))) = joinMt
+event (suc (suc (suc (suc zero)))) = mt
+event (suc (suc (suc (suc (suc n))))) = lv
+
+-- "Events e1, e2, e3 are (e1 x 6 + e2) x 6 + e3": the one at place i, 0 to 2
+unfoldable pub threePacked : ℕ → ℕ → ℕ
+threePacked o zero = o / 36
+threePacked o (suc zero) = o / 6 % 6
+threePacked o (suc (suc i)) = o % 6
+
+-- "Four-packed: two bits each, first highest": the one at place i, 0 to 3
+unfoldable pub fourPacked : ℕ → ℕ → ℕ
+fourPacked o zero = o / 64
+fourPacked o (suc zero) = o / 16 % 4
+fourPacked o (suc (suc zero)) = o / 4 % 4
+fourPacked o (suc (suc (suc i))) = o % 4
+
+-- of value n
+unfoldable pub eventOf : Vector → ℕ → Event
+eventOf v n = event (threePacked (getD (v .three) (n / 3) 0) (n % 3))
+
+unfoldable pub fourOf : Vector → ℕ → ℕ
+fourOf v n = fourPacked (getD (v .four) (n / 4) 0) (n % 4)
+
+-- What a value asks for.
+
+-- what an event does: a join, a leave, or nothing
+pub data Asking : Type 0 where
+  nothingAsked join withdraw : Asking
+
+-- "Ignore, In and Mt do nothing"; "New, JoinIn, JoinMt register"
+unfoldable pub asking : Event → Asking
+asking new = join
+asking joinIn = join
+asking isIn = nothingAsked
+asking joinMt = join
+asking mt = nothingAsked
+asking lv = withdraw
+
+-- the octet of priority (3 bits), rank (1 bit) and four reserved bits, which are ignored
+unfoldable pub priorityOf : ℕ → ℕ
+priorityOf o = o / 32
+
+unfoldable pub rankOf : ℕ → ℕ
+rankOf o = o / 16 % 2
+
+-- FirstValue's numbers as a Talker's fixed values at value n
+unfoldable pub fixedValue : List ℕ → ℕ → Fixed
+fixedValue vs n = record {
+  destination = getD vs 1 0 + n;
+  vlan = getD vs 2 0;
+  size = getD vs 3 0;
+  frames = getD vs 4 0;
+  priority = priorityOf (getD vs 5 0);
+  rank = rankOf (getD vs 5 0);
+}
+
+unfoldable pub healthValue : Kind → List ℕ → Health
+healthValue advertises vs = sound
+healthValue faileds vs = broken (getD vs 7 0) (getD vs 8 0)
+healthValue listeners vs = sound
+
+unfoldable pub idValue : List ℕ → ℕ → ℕ
+idValue vs n = getD vs 0 0 + n
+
+-- "Ignore 0, Asking Failed 1, Ready 2, Ready Failed 3"
+unfoldable pub hearing : ℕ → ℕ → List Act
+hearing id zero = []
+hearing id (suc zero) = listen id askingFailed ∷ []
+hearing id (suc (suc zero)) = listen id ready ∷ []
+hearing id (suc (suc (suc f))) = listen id readyFailed ∷ []
+
+-- the acts of one value: an attribute's event and, for a Listener, its four-packed event
+unfoldable pub talkerAct : Kind → List ℕ → ℕ → Asking → List Act
+talkerAct k vs n nothingAsked = []
+talkerAct k vs n join = talk (idValue vs n) (fixedValue vs n) record { health = healthValue k vs; latency = getD vs 6 0 } ∷ []
+talkerAct k vs n withdraw = leave k (idValue vs n) ∷ []
+
+unfoldable pub listenerAct : List ℕ → ℕ → Asking → ℕ → List Act
+listenerAct vs n nothingAsked f = []
+listenerAct vs n join f = hearing (idValue vs n) f
+listenerAct vs n withdraw f = cond (eqb f 0) [] (leave listeners (idValue vs n) ∷ [])
+
+unfoldable pub valueActs : Vector → ℕ → List Act
+valueActs v n = go (v .attribute)
+  where
+    vs : List ℕ
+    vs = fields (firstWidths (v .attribute)) 0 (v .first)
+
+    go : Attribute → List Act
+    go (registers advertises) = talkerAct advertises vs n (asking (eventOf v n))
+    go (registers faileds) = talkerAct faileds vs n (asking (eventOf v n))
+    go (registers listeners) = listenerAct vs n (asking (eventOf v n)) (fourOf v n)
+    go domain = []
+
+-- the k values from value n on
+unfoldable pub valuesActs : Vector → ℕ → ℕ → List Act
+valuesActs v n zero = []
+valuesActs v n (suc k) = valueActs v n ++ valuesActs v (suc n) k
+
+-- "LeaveAll first starts leaving all registrations of that type on that port"; "Domain values are checked and have no effect"
+unfoldable pub leaveAllActs : Attribute → Bool → List Act
+leaveAllActs (registers k) true = leaveAll k ∷ []
+leaveAllActs (registers k) false = []
+leaveAllActs domain b = []
+
+unfoldable pub vectorActs : Vector → List Act
+vectorActs v = leaveAllActs (v .attribute) (v .leavesAll) ++ valuesActs v 0 (v .values)
+
+unfoldable pub frameActs : List Vector → List Act
+frameActs [] = []
+frameActs (v ∷ vs) = vectorActs v ++ frameActs vs
+
+unfoldable pub walked : Walk → Reading
+walked (fault n) = refused n
+walked (found vs) = acts (frameActs vs)
+
+-- a PDU handed over on a port, numbered from 1: 1 "port is 0 or above the bridge's ports", then 2 to 7
+unfoldable pub wrongPort : Settings → ℕ → Bool
+wrongPort st p = eqb p 0 || ltb (length (st .ports)) p
+
+unfoldable pub reading : Settings → ℕ → List ℕ → Reading
+reading st p s = cond (wrongPort st p) (refused 1) (walked (walk s))

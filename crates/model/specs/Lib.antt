@@ -1,0 +1,10 @@
+pub mod Lists
+pub mod State
+pub mod Registrations
+pub mod Frames
+pub mod Bandwidth
+pub mod Settling
+pub mod Declarations
+pub mod WrittenFrames
+pub mod Table
+pub mod Calls

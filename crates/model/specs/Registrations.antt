@@ -1,0 +1,148 @@
+-- Registering: what the acts of a frame do to the streams held (01, "Registering", and number 8).
+use mathlib.Core.List.{List, [], _∷_, _++_, map}
+use mathlib.Core.Bool.{Bool, true, false, cond, _&&_}
+use Prim.Native.Nat.{ℕ, zero, suc, _-_}
+use lib.ListN.{length}
+use lib.Dec.{ltb, leb, eqb}
+use Rattle.model.specs.State.{Leaving, stays, since, Fixed, Health, sound, broken, Varying, Talker, noTalker, talker, Ready, Listener, noListener, listener, Cell, Stream, Bridge, fresh}
+
+-- the AttributeTypes that register
+pub data Kind : Type 0 where
+  advertises faileds listeners : Kind
+
+-- what one event of a frame asks for
+pub data Act : Type 0 where
+  leaveAll : Kind → Act
+  leave : Kind → (id : ℕ) → Act
+  talk : (id : ℕ) → Fixed → Varying → Act
+  listen : (id : ℕ) → Ready → Act
+
+-- "if already leaving, by Lv or LeaveAll, the first time stays"
+unfoldable pub begin : ℕ → Leaving → Leaving
+begin now stays = since now
+begin now (since t) = since t
+
+-- a held Talker is of the AttributeType that it is held as
+unfoldable pub talksAs : Kind → Health → Bool
+talksAs advertises sound = true
+talksAs advertises (broken b c) = false
+talksAs faileds sound = false
+talksAs faileds (broken b c) = true
+talksAs listeners h = false
+
+unfoldable pub hearsAs : Kind → Bool
+hearsAs advertises = false
+hearsAs faileds = false
+hearsAs listeners = true
+
+-- "Lv starts leaving, at the held clock, what is held of that StreamID and type"
+unfoldable pub quitTalker : ℕ → Kind → Talker → Talker
+quitTalker now k noTalker = noTalker
+quitTalker now k (talker f v c l) = talker f v c (cond (talksAs k (v .health)) (begin now l) l)
+
+unfoldable pub quitListener : ℕ → Kind → Listener → Listener
+quitListener now k noListener = noListener
+quitListener now k (listener r l) = listener r (cond (hearsAs k) (begin now l) l)
+
+unfoldable pub quit : ℕ → Kind → Cell → Cell
+quit now k c = record { talks = quitTalker now k (c .talks); hears = quitListener now k (c .hears) }
+
+unfoldable pub sameFixed : Fixed → Fixed → Bool
+sameFixed f g =
+    eqb (f .destination) (g .destination) && eqb (f .vlan) (g .vlan) && eqb (f .size) (g .size)
+    && eqb (f .frames) (g .frames) && eqb (f .priority) (g .priority) && eqb (f .rank) (g .rank)
+
+-- "A Talker join whose destination, VLAN, TSpec, priority and rank equal the held ones replaces type, latency and failure
+-- fields and clears the changed mark; else the held type and values stay, leaving ends all the same, and the mark is set"
+unfoldable pub joinTalker : Fixed → Varying → Talker → Talker
+joinTalker f v noTalker = talker f v false stays
+joinTalker f v (talker g w c l) = cond (sameFixed f g) (talker g v false stays) (talker g w true stays)
+
+-- what an act does to the one cell that it is about; "A Listener join replaces the declaration type"
+unfoldable pub does : ℕ → Act → Cell → Cell
+does now (leaveAll k) c = quit now k c
+does now (leave k i) c = quit now k c
+does now (talk i f v) c = record { talks = joinTalker f v (c .talks); hears = c .hears }
+does now (listen i r) c = record { talks = c .talks; hears = listener r stays }
+
+-- the cells with the one at place p changed
+unfoldable pub at : ℕ → (Cell → Cell) → List Cell → List Cell
+at p u [] = []
+at zero u (c ∷ cs) = u c ∷ cs
+at (suc p) u (c ∷ cs) = c ∷ at p u cs
+
+-- only registrations change: StreamID and results stay
+unfoldable pub change : (List Cell → List Cell) → Stream → Stream
+change u x = record { id = x .id; settled = x .settled; cells = u (x .cells); results = x .results }
+
+-- the stream i changed; where it is not held, a join makes it, in its place by StreamID, and anything else does nothing
+unfoldable pub begun : Bool → ℕ → (List Cell → List Cell) → List Stream → List Stream
+begun true i u s = change u (fresh i) ∷ s
+begun false i u s = s
+
+unfoldable pub touch : Bool → ℕ → (List Cell → List Cell) → List Stream → List Stream
+touch join i u [] = begun join i u []
+touch join i u (x ∷ s) =
+    cond (ltb i (x .id)) (begun join i u (x ∷ s))
+    (cond (eqb i (x .id)) (change u x ∷ s) (x ∷ touch join i u s))
+
+-- which streams an act is about
+unfoldable pub reach : Act → (List Cell → List Cell) → List Stream → List Stream
+reach (leaveAll k) u s = map (change u) s
+reach (leave k i) u s = touch false i u s
+reach (talk i f v) u s = touch true i u s
+reach (listen i r) u s = touch true i u s
+
+-- an act on the port at place p, at time now; then the acts of a frame, in their order
+unfoldable pub apply : ℕ → ℕ → Act → List Stream → List Stream
+apply now p a s = reach a (at p (does now a)) s
+
+unfoldable pub applyAll : ℕ → ℕ → List Act → List Stream → List Stream
+applyAll now p [] s = s
+applyAll now p (a ∷ es) s = applyAll now p es (apply now p a s)
+
+-- Receiving. A frame is refused with a number, or read as a list of acts, whatever is held.
+
+pub data Reading : Type 0 where
+  refused : ℕ → Reading
+  acts : List Act → Reading
+
+-- the answer of a call that changes the bridge
+pub record Answer : Type 0 where
+  pub number : ℕ
+  pub bridge : Bridge
+
+unfoldable pub holding : Bridge → List Stream → Bridge
+holding b s = record { settings = b .settings; clock = b .clock; totals = b .totals; streams = s }
+
+-- a frame on port p, numbered from 1; 8: "streams held plus different new ones joined by this PDU exceed 64"
+unfoldable pub received : Bridge → ℕ → Reading → Answer
+received b p (refused n) = record { number = n; bridge = b }
+received b p (acts es) =
+    let s = applyAll (b .clock) (p - 1) es (b .streams) in
+    cond (leb (length s) 64) record { number = 0; bridge = holding b s } record { number = 8; bridge = b }
+
+-- The different StreamIDs of an ascending list and of others.
+
+unfoldable pub add : ℕ → List ℕ → List ℕ
+add i [] = i ∷ []
+add i (x ∷ l) = cond (ltb i x) (i ∷ x ∷ l) (cond (eqb i x) (x ∷ l) (x ∷ add i l))
+
+unfoldable pub together : List ℕ → List ℕ → List ℕ
+together held [] = held
+together held (i ∷ is) = together (add i held) is
+
+unfoldable pub ids : List Stream → List ℕ
+ids s = map (λ (x : Stream). x .id) s
+
+-- the StreamIDs that a frame asks to join
+unfoldable pub joins : List Act → List ℕ
+joins [] = []
+joins (leaveAll k ∷ es) = joins es
+joins (leave k i ∷ es) = joins es
+joins (talk i f v ∷ es) = i ∷ joins es
+joins (listen i r ∷ es) = i ∷ joins es
+
+unfoldable pub asks : Reading → List ℕ
+asks (refused n) = []
+asks (acts es) = joins es

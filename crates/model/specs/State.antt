@@ -1,0 +1,197 @@
+-- What a bridge holds: its settings, the registrations of each stream on each port, and what the last advance decided.
+use mathlib.Core.List.{List, [], _∷_}
+use mathlib.Core.Bool.{Bool, true, false, cond}
+use Prim.Native.Nat.{ℕ}
+use lib.ListN.{getD, replicate, length}
+use lib.Dec.{ltb, eqb}
+
+-- Settings (01, "Numbers given back": "Settings, fields most significant bit first").
+
+pub record Port : Type 0 where
+  pub supportsA : Bool
+  pub supportsB : Bool
+  pub sendsTwice : Bool
+  pub overhead : ℕ
+  pub largest : ℕ
+  pub limitA : ℕ
+  pub limitB : ℕ
+  pub latencyA : ℕ
+  pub latencyB : ℕ
+
+pub record Settings : Type 0 where
+  pub bridgeId : ℕ
+  pub priorityA : ℕ
+  pub priorityB : ℕ
+  pub leaveTime : ℕ
+  pub ports : List Port
+
+-- Registrations (01, "Registering"; 35.2.2.8).
+
+-- a registration stays, or has been leaving since a time
+pub data Leaving : Type 0 where
+  stays : Leaving
+  since : ℕ → Leaving
+
+-- what a Talker's later joins must not change: destination, VLAN, TSpec, priority and rank
+pub record Fixed : Type 0 where
+  pub destination : ℕ
+  pub vlan : ℕ
+  pub size : ℕ
+  pub frames : ℕ
+  pub priority : ℕ
+  pub rank : ℕ
+
+-- what they may: Advertise, or Failed with a Bridge ID and a code; and the accumulated latency
+pub data Health : Type 0 where
+  sound : Health
+  broken : (bridge code : ℕ) → Health
+
+pub record Varying : Type 0 where
+  pub health : Health
+  pub latency : ℕ
+
+pub data Talker : Type 0 where
+  noTalker : Talker
+  talker : Fixed → Varying → (changed : Bool) → Leaving → Talker
+
+-- the three declaration types of a Listener
+pub data Ready : Type 0 where
+  askingFailed ready readyFailed : Ready
+
+pub data Listener : Type 0 where
+  noListener : Listener
+  listener : Ready → Leaving → Listener
+
+-- one stream on one port: at most one Talker and one Listener
+pub record Cell : Type 0 where
+  pub talks : Talker
+  pub hears : Listener
+
+-- Results (01, "Settling"): what the last advance decided for one stream on one port.
+
+pub data Column : Type 0 where
+  none advertise : Column
+  failed : (bridge code : ℕ) → Column
+
+pub data Entry : Type 0 where
+  noEntry filters forwards : Entry
+
+-- a Listener declaration, or none
+pub data Declared : Type 0 where
+  nothing : Declared
+  tells : Ready → Declared
+
+pub record Result : Type 0 where
+  pub column : Column
+  pub latency : ℕ
+  pub entry : Entry
+  pub age : ℕ
+  pub declares : Declared
+
+-- a held stream: its registrations and results on the eight ports that a table has room for, and the fixed values of its
+-- Talker as the last advance took them
+pub record Stream : Type 0 where
+  pub id : ℕ
+  pub settled : Fixed
+  pub cells : List Cell
+  pub results : List Result
+
+pub record Totals : Type 0 where
+  pub totalA : ℕ
+  pub totalB : ℕ
+
+-- the bridge; streams stand by ascending StreamID
+pub record Bridge : Type 0 where
+  pub settings : Settings
+  pub clock : ℕ
+  pub totals : List Totals
+  pub streams : List Stream
+
+-- What is there before anything is registered or decided.
+
+unfoldable pub empty : Cell
+empty = record { talks = noTalker; hears = noListener }
+
+unfoldable pub unsettled : Result
+unsettled = record { column = none; latency = 0; entry = noEntry; age = 0; declares = nothing }
+
+unfoldable pub noFixed : Fixed
+noFixed = record { destination = 0; vlan = 0; size = 0; frames = 0; priority = 0; rank = 0 }
+
+unfoldable pub noTotals : Totals
+noTotals = record { totalA = 0; totalB = 0 }
+
+unfoldable pub blank : List Cell
+blank = replicate 8 empty
+
+unfoldable pub fresh : ℕ → Stream
+fresh i = record { id = i; settled = noFixed; cells = blank; results = replicate 8 unsettled }
+
+-- start: no streams, clock 0, nothing reserved
+unfoldable pub started : Settings → Bridge
+started st = record { settings = st; clock = 0; totals = replicate 8 noTotals; streams = [] }
+
+-- Places. Ports are numbered from 1 by callers, and from 0 in lists.
+
+unfoldable pub noPort : Port
+noPort = record {
+  supportsA = false;
+  supportsB = false;
+  sendsTwice = false;
+  overhead = 0;
+  largest = 0;
+  limitA = 0;
+  limitB = 0;
+  latencyA = 0;
+  latencyB = 0;
+}
+
+unfoldable pub portAt : Settings → ℕ → Port
+portAt st p = getD (st .ports) p noPort
+
+unfoldable pub isPort : Settings → ℕ → Bool
+isPort st p = ltb p (length (st .ports))
+
+unfoldable pub cellAt : Stream → ℕ → Cell
+cellAt x p = getD (x .cells) p empty
+
+unfoldable pub resultAt : Stream → ℕ → Result
+resultAt x p = getD (x .results) p unsettled
+
+-- Classes (01, settings' class priorities; 35.2.2.9.2).
+
+pub data Class : Type 0 where
+  noClass classA classB : Class
+
+unfoldable pub classOf : Settings → ℕ → Class
+classOf st q = cond (eqb q (st .priorityA)) classA (cond (eqb q (st .priorityB)) classB noClass)
+
+unfoldable pub isNoClass : Class → Bool
+isNoClass noClass = true
+isNoClass classA = false
+isNoClass classB = false
+
+unfoldable pub sameClass : Class → Class → Bool
+sameClass noClass d = false
+sameClass classA noClass = false
+sameClass classA classA = true
+sameClass classA classB = false
+sameClass classB noClass = false
+sameClass classB classA = false
+sameClass classB classB = true
+
+-- a priority that is no class is not one that a port fails to support
+unfoldable pub supports : Port → Class → Bool
+supports q noClass = true
+supports q classA = q .supportsA
+supports q classB = q .supportsB
+
+unfoldable pub limit : Port → Class → ℕ
+limit q noClass = 0
+limit q classA = q .limitA
+limit q classB = q .limitB
+
+unfoldable pub classLatency : Port → Class → ℕ
+classLatency q noClass = 0
+classLatency q classA = q .latencyA
+classLatency q classB = q .latencyB

@@ -1,0 +1,392 @@
+-- The lent table and the settings, as octets and back, and the rules of their form (docs/TABLE.md; 01, "Numbers given back":
+-- 11 and 12). A table is: settings, clock, streams held, totals of eight ports, 64 stream records. A stream record is: StreamID,
+-- settled values, eight cells, eight results. What is not used is zero.
+use mathlib.Core.List.{List, [], _∷_, _++_, map}
+use mathlib.Core.Bool.{Bool, true, false, cond, not, _&&_, _||_}
+use Prim.Native.Nat.{ℕ, zero, suc, _+_, _*_, _-_, _/_, _%_}
+use lib.ListN.{length, getD, take, drop, replicate}
+use lib.Dec.{ltb, leb, eqb}
+use Rattle.octets.specs.Be.{beAt}
+use Rattle.octets.specs.Parts.{part, zeros}
+use Rattle.octets.specs.Fields.{fields, packed, flat}
+use Rattle.model.specs.Lists.{allTrue, implies, parts, bit, isOne}
+use Rattle.model.specs.State.{Port, Settings, Leaving, stays, since, Fixed, Health, sound, broken, Varying, Talker, noTalker, talker, Ready, askingFailed, ready, readyFailed, Listener, noListener, listener, Cell, Column, none, advertise, failed, Entry, noEntry, filters, forwards, Declared, nothing, tells, Result, Stream, Totals, Bridge, portAt}
+use Rattle.model.specs.Frames.{priorityOf, rankOf}
+use Rattle.model.specs.WrittenFrames.{fixedNumbers, readyNumber}
+
+-- Settings: Bridge ID; one field of ports 4 bits, class priorities 3 and 3, leave time 14; then each port.
+
+unfoldable pub headWidths : List ℕ
+headWidths = 8 ∷ 3 ∷ []
+
+-- flags (supports A, supports B, sends twice, five zeros), overhead, largest frame, limits, latencies
+unfoldable pub portWidths : List ℕ
+portWidths = 1 ∷ 1 ∷ 2 ∷ 5 ∷ 5 ∷ 4 ∷ 4 ∷ []
+
+unfoldable pub portNumbers : Port → List ℕ
+portNumbers q =
+    (bit (q .supportsA) * 128 + bit (q .supportsB) * 64 + bit (q .sendsTwice) * 32)
+    ∷ q .overhead ∷ q .largest ∷ q .limitA ∷ q .limitB ∷ q .latencyA ∷ q .latencyB ∷ []
+
+unfoldable pub portFrom : List ℕ → Port
+portFrom vs = record {
+  supportsA = isOne (getD vs 0 0 / 128);
+  supportsB = isOne (getD vs 0 0 / 64 % 2);
+  sendsTwice = isOne (getD vs 0 0 / 32 % 2);
+  overhead = getD vs 1 0;
+  largest = getD vs 2 0;
+  limitA = getD vs 3 0;
+  limitB = getD vs 4 0;
+  latencyA = getD vs 5 0;
+  latencyB = getD vs 6 0;
+}
+
+unfoldable pub portOctets : Port → List ℕ
+portOctets q = packed portWidths (portNumbers q)
+
+unfoldable pub toPort : List ℕ → Port
+toPort s = portFrom (fields portWidths 0 s)
+
+unfoldable pub headWord : Settings → ℕ
+headWord st = ((length (st .ports) * 8 + st .priorityA) * 8 + st .priorityB) * 16384 + st .leaveTime
+
+-- as they are handed to start
+unfoldable pub settingsOctets : Settings → List ℕ
+settingsOctets st = packed headWidths (st .bridgeId ∷ headWord st ∷ []) ++ flat portOctets (st .ports)
+
+unfoldable pub portsField : List ℕ → ℕ
+portsField s = beAt 3 s 8 / 1048576
+
+unfoldable pub toSettings : List ℕ → Settings
+toSettings s = record {
+  bridgeId = beAt 8 s 0;
+  priorityA = beAt 3 s 8 / 131072 % 8;
+  priorityB = beAt 3 s 8 / 16384 % 8;
+  leaveTime = beAt 3 s 8 % 16384;
+  ports = parts 22 toPort (portsField s) (drop 11 s);
+}
+
+-- "zero 5": the five bits after a port's flags
+unfoldable pub portRule : List ℕ → Bool
+portRule s = eqb (getD s 0 0 % 32) 0
+
+unfoldable pub everyPart : ℕ → (List ℕ → Bool) → ℕ → List ℕ → Bool
+everyPart n rule zero s = true
+everyPart n rule (suc k) s = rule (take n s) && everyPart n rule k (drop n s)
+
+-- "ports 4 (1 to 8), class A priority 3, class B priority 3 (different), leave time 14 (1 or more, hundredths)"
+unfoldable pub settingsRules : List ℕ → List Bool
+settingsRules s =
+    leb 1 (portsField s)
+    ∷ leb (portsField s) 8
+    ∷ not (eqb (beAt 3 s 8 / 131072 % 8) (beAt 3 s 8 / 16384 % 8))
+    ∷ leb 1 (beAt 3 s 8 % 16384)
+    ∷ everyPart 22 portRule (portsField s) (drop 11 s)
+    ∷ []
+
+-- 11: settings "Length 11 + 22 x ports", and as laid out
+unfoldable pub settingsFormed : List ℕ → Bool
+settingsFormed s = eqb (length s) (11 + 22 * portsField s) && allTrue (settingsRules s)
+
+-- A cell: Talker, then Listener.
+
+-- Talker: kind (0 none, 1 Advertise, 2 Failed), changed mark, leaving, since, destination, VLAN, MaxFrameSize,
+-- MaxIntervalFrames, priority and rank, latency, Bridge ID, code. Listener: kind (0 none, 1 Asking Failed, 2 Ready, 3 Ready
+-- Failed), leaving, since.
+unfoldable pub cellWidths : List ℕ
+cellWidths = 1 ∷ 1 ∷ 1 ∷ 4 ∷ 6 ∷ 2 ∷ 2 ∷ 2 ∷ 1 ∷ 4 ∷ 8 ∷ 1 ∷ 1 ∷ 1 ∷ 4 ∷ []
+
+unfoldable pub leavingNumber : Leaving → ℕ
+leavingNumber stays = 0
+leavingNumber (since t) = 1
+
+unfoldable pub sinceNumber : Leaving → ℕ
+sinceNumber stays = 0
+sinceNumber (since t) = t
+
+unfoldable pub toLeaving : ℕ → ℕ → Leaving
+toLeaving k t = cond (eqb k 0) stays (since t)
+
+unfoldable pub healthNumber : Health → ℕ
+healthNumber sound = 1
+healthNumber (broken b c) = 2
+
+unfoldable pub bridgeNumber : Health → ℕ
+bridgeNumber sound = 0
+bridgeNumber (broken b c) = b
+
+unfoldable pub codeNumber : Health → ℕ
+codeNumber sound = 0
+codeNumber (broken b c) = c
+
+unfoldable pub toHealth : ℕ → ℕ → ℕ → Health
+toHealth k b c = cond (eqb k 1) sound (broken b c)
+
+unfoldable pub talkerNumbers : Talker → List ℕ
+talkerNumbers noTalker = replicate 12 0
+talkerNumbers (talker f v m l) =
+    healthNumber (v .health) ∷ bit m ∷ leavingNumber l ∷ sinceNumber l
+    ∷ (fixedNumbers f ++ (v .latency ∷ bridgeNumber (v .health) ∷ codeNumber (v .health) ∷ []))
+
+unfoldable pub listenerNumbers : Listener → List ℕ
+listenerNumbers noListener = replicate 3 0
+listenerNumbers (listener r l) = readyNumber r ∷ leavingNumber l ∷ sinceNumber l ∷ []
+
+unfoldable pub cellNumbers : Cell → List ℕ
+cellNumbers c = talkerNumbers (c .talks) ++ listenerNumbers (c .hears)
+
+-- five numbers as fixed values
+unfoldable pub fixedFrom : ℕ → List ℕ → Fixed
+fixedFrom i vs = record {
+  destination = getD vs i 0;
+  vlan = getD vs (i + 1) 0;
+  size = getD vs (i + 2) 0;
+  frames = getD vs (i + 3) 0;
+  priority = priorityOf (getD vs (i + 4) 0);
+  rank = rankOf (getD vs (i + 4) 0);
+}
+
+unfoldable pub toReady : ℕ → Ready
+toReady k = cond (eqb k 1) askingFailed (cond (eqb k 2) ready readyFailed)
+
+unfoldable pub talkerFrom : List ℕ → Talker
+talkerFrom vs =
+    cond (eqb (getD vs 0 0) 0) noTalker
+    (talker (fixedFrom 4 vs) record { health = toHealth (getD vs 0 0) (getD vs 10 0) (getD vs 11 0); latency = getD vs 9 0 }
+    (isOne (getD vs 1 0)) (toLeaving (getD vs 2 0) (getD vs 3 0)))
+
+unfoldable pub listenerFrom : List ℕ → Listener
+listenerFrom vs =
+    cond (eqb (getD vs 12 0) 0) noListener
+    (listener (toReady (getD vs 12 0)) (toLeaving (getD vs 13 0) (getD vs 14 0)))
+
+unfoldable pub cellFrom : List ℕ → Cell
+cellFrom vs = record { talks = talkerFrom vs; hears = listenerFrom vs }
+
+unfoldable pub cellOctets : Cell → List ℕ
+cellOctets c = packed cellWidths (cellNumbers c)
+
+unfoldable pub toCell : List ℕ → Cell
+toCell s = cellFrom (fields cellWidths 0 s)
+
+-- numbers that are all zero
+unfoldable pub allZero : List ℕ → Bool
+allZero [] = true
+allZero (n ∷ l) = eqb n 0 && allZero l
+
+-- "each leaving begun less than the leave time before the held clock"; not leaving, no time
+unfoldable pub leavingRule : ℕ → ℕ → ℕ → ℕ → Bool
+leavingRule clock leave k t =
+    cond (eqb k 0) (eqb t 0) (eqb k 1 && (leb t clock && ltb clock (t + leave)))
+
+unfoldable pub cellRules : ℕ → ℕ → List ℕ → List Bool
+cellRules clock leave vs =
+    leb (getD vs 0 0) 2
+    ∷ leb (getD vs 1 0) 1
+    ∷ leavingRule clock leave (getD vs 2 0) (getD vs 3 0)
+    ∷ eqb (getD vs 8 0 % 16) 0
+    ∷ implies (eqb (getD vs 0 0) 0) (allZero (take 11 (drop 1 vs)))
+    ∷ implies (eqb (getD vs 0 0) 1) (allZero (take 2 (drop 10 vs)))
+    ∷ leb (getD vs 12 0) 3
+    ∷ leavingRule clock leave (getD vs 13 0) (getD vs 14 0)
+    ∷ implies (eqb (getD vs 12 0) 0) (allZero (take 2 (drop 13 vs)))
+    ∷ []
+
+unfoldable pub cellFormed : ℕ → ℕ → List ℕ → Bool
+cellFormed clock leave s = allTrue (cellRules clock leave (fields cellWidths 0 s))
+
+-- A result: column (0 none, 1 Advertise, 2 Failed), latency out, Bridge ID, code, entry (0 none, 1 filter, 2 forward), the second
+-- its age counts from, Listener declared.
+
+unfoldable pub resultWidths : List ℕ
+resultWidths = 1 ∷ 4 ∷ 8 ∷ 1 ∷ 1 ∷ 4 ∷ 1 ∷ []
+
+unfoldable pub columnNumber : Column → ℕ
+columnNumber none = 0
+columnNumber advertise = 1
+columnNumber (failed b c) = 2
+
+unfoldable pub columnBridge : Column → ℕ
+columnBridge none = 0
+columnBridge advertise = 0
+columnBridge (failed b c) = b
+
+unfoldable pub columnCode : Column → ℕ
+columnCode none = 0
+columnCode advertise = 0
+columnCode (failed b c) = c
+
+unfoldable pub entryNumber : Entry → ℕ
+entryNumber noEntry = 0
+entryNumber filters = 1
+entryNumber forwards = 2
+
+unfoldable pub declaredNumber : Declared → ℕ
+declaredNumber nothing = 0
+declaredNumber (tells r) = readyNumber r
+
+unfoldable pub resultNumbers : Result → List ℕ
+resultNumbers r =
+    columnNumber (r .column) ∷ r .latency ∷ columnBridge (r .column) ∷ columnCode (r .column)
+    ∷ entryNumber (r .entry) ∷ r .age ∷ declaredNumber (r .declares) ∷ []
+
+unfoldable pub toColumn : ℕ → ℕ → ℕ → Column
+toColumn k b c = cond (eqb k 0) none (cond (eqb k 1) advertise (failed b c))
+
+unfoldable pub toEntry : ℕ → Entry
+toEntry k = cond (eqb k 0) noEntry (cond (eqb k 1) filters forwards)
+
+unfoldable pub toDeclared : ℕ → Declared
+toDeclared k = cond (eqb k 0) nothing (tells (toReady k))
+
+unfoldable pub resultFrom : List ℕ → Result
+resultFrom vs = record {
+  column = toColumn (getD vs 0 0) (getD vs 2 0) (getD vs 3 0);
+  latency = getD vs 1 0;
+  entry = toEntry (getD vs 4 0);
+  age = getD vs 5 0;
+  declares = toDeclared (getD vs 6 0);
+}
+
+unfoldable pub resultOctets : Result → List ℕ
+resultOctets r = packed resultWidths (resultNumbers r)
+
+unfoldable pub toResult : List ℕ → Result
+toResult s = resultFrom (fields resultWidths 0 s)
+
+unfoldable pub resultRules : ℕ → List ℕ → List Bool
+resultRules clock vs =
+    leb (getD vs 0 0) 2
+    ∷ implies (eqb (getD vs 0 0) 0) (eqb (getD vs 1 0) 0)
+    ∷ implies (leb (getD vs 0 0) 1) (allZero (take 2 (drop 2 vs)))
+    ∷ leb (getD vs 4 0) 2
+    ∷ implies (not (eqb (getD vs 0 0) 0)) (leb 1 (getD vs 4 0))
+    ∷ implies (not (eqb (getD vs 0 0) 1)) (leb (getD vs 4 0) 1)
+    ∷ implies (eqb (getD vs 4 0) 0) (eqb (getD vs 5 0) 0)
+    ∷ leb (getD vs 5 0) (clock / 100)
+    ∷ leb (getD vs 6 0) 3
+    ∷ []
+
+unfoldable pub resultFormed : ℕ → List ℕ → Bool
+resultFormed clock s = allTrue (resultRules clock (fields resultWidths 0 s))
+
+-- A stream record of 493 octets: StreamID and settled values, 21 octets; cells of 39; results of 20.
+
+unfoldable pub nameWidths : List ℕ
+nameWidths = 8 ∷ 6 ∷ 2 ∷ 2 ∷ 2 ∷ 1 ∷ []
+
+unfoldable pub streamOctets : Stream → List ℕ
+streamOctets x =
+    packed nameWidths (x .id ∷ fixedNumbers (x .settled))
+    ++ (flat cellOctets (x .cells) ++ flat resultOctets (x .results))
+
+unfoldable pub cellsPart : List ℕ → List ℕ
+cellsPart s = part 21 312 s
+
+unfoldable pub resultsPart : List ℕ → List ℕ
+resultsPart s = part 333 160 s
+
+unfoldable pub toStream : List ℕ → Stream
+toStream s = record {
+  id = beAt 8 s 0;
+  settled = fixedFrom 1 (fields nameWidths 0 s);
+  cells = parts 39 toCell 8 (cellsPart s);
+  results = parts 20 toResult 8 (resultsPart s);
+}
+
+-- some port has a registration: a kind that is not 0, of a Talker or of a Listener
+unfoldable pub holds : ℕ → List ℕ → Bool
+holds zero s = false
+holds (suc k) s = not (eqb (getD s 0 0) 0) || not (eqb (getD s 33 0) 0) || holds k (drop 39 s)
+
+-- at a bridge of so many ports; what belongs to no port is zero
+unfoldable pub streamRules : ℕ → ℕ → ℕ → List ℕ → List Bool
+streamRules ports clock leave s =
+    eqb (getD s 20 0 % 16) 0
+    ∷ everyPart 39 (cellFormed clock leave) ports (cellsPart s)
+    ∷ holds ports (cellsPart s)
+    ∷ allZero (drop (39 * ports) (cellsPart s))
+    ∷ everyPart 20 (resultFormed clock) ports (resultsPart s)
+    ∷ allZero (drop (20 * ports) (resultsPart s))
+    ∷ []
+
+unfoldable pub streamFormed : ℕ → ℕ → ℕ → List ℕ → Bool
+streamFormed ports clock leave s = allTrue (streamRules ports clock leave s)
+
+-- The table of 31,824 octets: settings 187, clock 4, streams held 1, totals 80, records 31,552.
+
+unfoldable pub tableLength : ℕ
+tableLength = 31824
+
+unfoldable pub totalsWidths : List ℕ
+totalsWidths = 5 ∷ 5 ∷ []
+
+unfoldable pub totalsOctets : Totals → List ℕ
+totalsOctets t = packed totalsWidths (t .totalA ∷ t .totalB ∷ [])
+
+unfoldable pub toTotals : List ℕ → Totals
+toTotals s = record { totalA = beAt 5 s 0; totalB = beAt 5 s 5 }
+
+unfoldable pub encode : Bridge → List ℕ
+encode b =
+    settingsOctets (b .settings)
+    ++ (zeros (22 * (8 - length (b .settings .ports)))
+    ++ (packed (4 ∷ 1 ∷ []) (b .clock ∷ length (b .streams) ∷ [])
+    ++ (flat totalsOctets (b .totals)
+    ++ (flat streamOctets (b .streams)
+    ++ zeros (493 * (64 - length (b .streams)))))))
+
+unfoldable pub settingsPart : List ℕ → List ℕ
+settingsPart t = part 0 187 t
+
+unfoldable pub clockField : List ℕ → ℕ
+clockField t = beAt 4 t 187
+
+unfoldable pub countField : List ℕ → ℕ
+countField t = getD t 191 0
+
+unfoldable pub totalsPart : List ℕ → List ℕ
+totalsPart t = part 192 80 t
+
+unfoldable pub recordsPart : List ℕ → List ℕ
+recordsPart t = drop 272 t
+
+unfoldable pub decode : List ℕ → Bridge
+decode t = record {
+  settings = toSettings (settingsPart t);
+  clock = clockField t;
+  totals = parts 10 toTotals 8 (totalsPart t);
+  streams = parts 493 toStream (countField t) (recordsPart t);
+}
+
+-- StreamIDs rise
+unfoldable pub rising : List ℕ → Bool
+rising [] = true
+rising (i ∷ []) = true
+rising (i ∷ j ∷ l) = ltb i j && rising (j ∷ l)
+
+unfoldable pub idOf : List ℕ → ℕ
+idOf s = beAt 8 s 0
+
+-- no class total above its limit, port by port; a place that is no port has none
+unfoldable pub totalsWithin : List Totals → List Port → Bool
+totalsWithin [] qs = true
+totalsWithin (t ∷ ts) [] = eqb (t .totalA) 0 && eqb (t .totalB) 0 && totalsWithin ts []
+totalsWithin (t ∷ ts) (q ∷ qs) = leb (t .totalA) (q .limitA) && leb (t .totalB) (q .limitB) && totalsWithin ts qs
+
+unfoldable pub tableRules : List ℕ → List Bool
+tableRules t =
+    let s = settingsPart t in
+    let n = countField t in
+    allTrue (settingsRules s)
+    ∷ allZero (drop (11 + 22 * portsField s) s)
+    ∷ totalsWithin (parts 10 toTotals 8 (totalsPart t)) (toSettings s .ports)
+    ∷ leb n 64
+    ∷ everyPart 493 (streamFormed (portsField s) (clockField t) (toSettings s .leaveTime)) n (recordsPart t)
+    ∷ rising (parts 493 idOf n (recordsPart t))
+    ∷ allZero (drop (493 * n) (recordsPart t))
+    ∷ []
+
+-- 12: "table has the wrong length (one length for every port count) or breaks a form rule"
+unfoldable pub formed : List ℕ → Bool
+formed t = eqb (length t) tableLength && allTrue (tableRules t)

@@ -1,0 +1,78 @@
+-- The octets of a written PDU (01, "Writing" and "The PDU").
+use mathlib.Core.List.{List, [], _∷_, _++_, map}
+use mathlib.Core.Bool.{Bool, true, false, cond}
+use Prim.Native.Nat.{ℕ, _+_, _*_}
+use lib.ListN.{length}
+use Rattle.octets.specs.Be.{be}
+use Rattle.octets.specs.Fields.{packed, flat}
+use Rattle.model.specs.Lists.{keep, bit}
+use Rattle.model.specs.State.{Fixed, Health, sound, broken, Varying, Ready, askingFailed, ready, readyFailed}
+use Rattle.model.specs.Registrations.{Kind, advertises, faileds, listeners}
+use Rattle.model.specs.Frames.{Attribute, registers, Vector, firstWidths, firstLength}
+use Rattle.model.specs.Declarations.{Declaration, talkerDeclaration, listenerDeclaration, kindOf, sameKind}
+
+-- the octet of priority (3 bits), rank (1 bit) and four reserved bits, written 0
+unfoldable pub priorityOctet : Fixed → ℕ
+priorityOctet f = f .priority * 32 + f .rank * 16
+
+unfoldable pub fixedNumbers : Fixed → List ℕ
+fixedNumbers f = f .destination ∷ f .vlan ∷ f .size ∷ f .frames ∷ priorityOctet f ∷ []
+
+unfoldable pub failureNumbers : Health → List ℕ
+failureNumbers sound = []
+failureNumbers (broken b c) = b ∷ c ∷ []
+
+-- FirstValue's numbers, in fields of `firstWidths`
+unfoldable pub firstNumbers : Declaration → List ℕ
+firstNumbers (talkerDeclaration id f v) = id ∷ (fixedNumbers f ++ (v .latency ∷ failureNumbers (v .health)))
+firstNumbers (listenerDeclaration id r) = id ∷ []
+
+unfoldable pub readyNumber : Ready → ℕ
+readyNumber askingFailed = 1
+readyNumber ready = 2
+readyNumber readyFailed = 3
+
+-- one four-packed event, first highest, the spare positions 0
+unfoldable pub fourOctets : Declaration → List ℕ
+fourOctets (talkerDeclaration id f v) = []
+fourOctets (listenerDeclaration id r) = (readyNumber r * 64) ∷ []
+
+-- "one value per vector, event JoinMt": (3 x 6 + 0) x 6 + 0
+unfoldable pub declarationVector : Declaration → Vector
+declarationVector d = record {
+  attribute = registers (kindOf d);
+  leavesAll = false;
+  values = 1;
+  first = packed (firstWidths (registers (kindOf d))) (firstNumbers d);
+  three = 108 ∷ [];
+  four = fourOctets d;
+}
+
+unfoldable pub vectorOctets : Vector → List ℕ
+vectorOctets v = be 2 (bit (v .leavesAll) * 8192 + v .values) ++ (v .first ++ (v .three ++ v .four))
+
+-- Table 35-1
+unfoldable pub typeNumber : Kind → ℕ
+typeNumber advertises = 1
+typeNumber faileds = 2
+typeNumber listeners = 3
+
+-- "The list length counts the list's own EndMark"
+unfoldable pub messageOf : Kind → List ℕ → List ℕ
+messageOf k list = typeNumber k ∷ firstLength (registers k) ∷ (be 2 (length list) ++ list)
+
+-- a type with no declaration has no Message
+unfoldable pub messageOctets : Kind → List Declaration → List ℕ
+messageOctets k [] = []
+messageOctets k (d ∷ l) = messageOf k (flat (λ e. vectorOctets (declarationVector e)) (d ∷ l) ++ (0 ∷ 0 ∷ []))
+
+-- the declarations of one type
+unfoldable pub having : Kind → List Declaration → List Declaration
+having k [] = []
+having k (d ∷ l) = keep (sameKind (kindOf d) k) d (having k l)
+
+-- ProtocolVersion 0, "one Message per type", "and the EndMark after the last Message"
+unfoldable pub pduOctets : List Declaration → List ℕ
+pduOctets l =
+    0 ∷ (messageOctets advertises (having advertises l)
+    ++ (messageOctets faileds (having faileds l) ++ (messageOctets listeners (having listeners l) ++ (0 ∷ 0 ∷ []))))

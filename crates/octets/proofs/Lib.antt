@@ -1,0 +1,5 @@
+pub mod Parts
+pub mod Be
+pub mod Pick
+pub mod Frame
+pub mod Fields

@@ -1,0 +1,4 @@
+pub mod Be
+pub mod Fields
+pub mod Parts
+pub mod Pick
