@@ -1,1 +1,178 @@
--- To be filled.
+-- Laws of `fields`, `packed` and `flat`: numbers in fields of any widths become octets and come back, and octets come back from
+-- their numbers. Assumes nothing.
+use Prim.Native.Nat.{ℕ, zero, suc, _+_, _*_, _/_, _%_, _^_, _≤_, _<_}
+use native.Mathlib.Nat.{zero-add, suc-mul, pow-suc}
+use native.Mathlib.Omega.{arith}
+use mathlib.Core.Path.{_≡_, refl, sym, ap, _∙_}
+use mathlib.Core.List.{List, [], _∷_, _++_, append-assoc}
+use lib.ListN.{length, getD, take, drop, length-append, List·getD-append}
+use lib.Seq.{getD-append-add, take-add, drop-drop}
+use Rattle.octets.specs.Be.{beAt, be}
+use Rattle.octets.specs.Fields.{fields, packed, Fit, width, flat}
+use Rattle.octets.specs.Parts.{part}
+use Rattle.octets.proofs.Be.{length-be, beAt-ext, beAt-be}
+use Rattle.octets.proofs.Parts.{part-none, part-more}
+use Rattle.octets.proofs.Frame.{getD-part}
+
+-- Octets: each element, also that found past the end, is below 256.
+
+pub octets-append : (s t : List ℕ) → ((i : ℕ) → getD s i 0 < 256) → ((i : ℕ) → getD t i 0 < 256) → (i : ℕ) → getD (s ++ t) i 0 < 256
+octets-append [] t p q i = q i
+octets-append (b ∷ s) t p q zero = p 0
+octets-append (b ∷ s) t p q (suc i) = octets-append s t (λ j. p (suc j)) q i
+
+pub octets-be : (n x i : ℕ) → getD (be n x) i 0 < 256
+unfolding be
+octets-be zero x i = omega arith
+octets-be (suc n) x i = octets-append (be n (x / 256)) (x % 256 ∷ []) (octets-be n (x / 256)) last i
+  where
+    last : (j : ℕ) → getD (x % 256 ∷ []) j 0 < 256
+    last zero = omega arith
+    last (suc j) = omega arith
+
+pub packed-octets : (ws vs : List ℕ) (i : ℕ) → getD (packed ws vs) i 0 < 256
+unfolding packed
+packed-octets [] vs i = omega arith
+packed-octets (w ∷ ws) [] i = omega arith
+packed-octets (w ∷ ws) (v ∷ vs) i = octets-append (be w v) (packed ws vs) (octets-be w v) (packed-octets ws vs) i
+
+-- One number of octets.
+
+pub beAt-fits : (n : ℕ) (s : List ℕ) (at : ℕ) → ((i : ℕ) → getD s i 0 < 256) → beAt n s at < 256 ^ n
+unfolding beAt
+beAt-fits zero s at h = omega arith
+beAt-fits (suc n) s at h = omega (arith, beAt-fits n s at h, h (at + n), pow-suc 256 n)
+
+pub be-beAt : (n : ℕ) (s : List ℕ) (at : ℕ) → at + n ≤ length s → ((i : ℕ) → getD s i 0 < 256) → be n (beAt n s at) ≡ part at n s
+unfolding beAt be
+be-beAt zero s at l h = sym (part-none at s)
+be-beAt (suc n) s at l h =
+    let v = beAt n s at in
+    let b = getD s (at + n) 0 in
+    let k : b < 256 = h (at + n) in
+    let q : (v * 256 + b) / 256 ≡ v = omega arith in
+    let r : (v * 256 + b) % 256 ≡ b = omega arith in
+    rw (q, r, be-beAt n s at (omega arith) h) (sym (part-more at n s (omega arith)))
+
+-- Fields see only their octets.
+
+pub fields-ext : (ws s t : List ℕ) (a b : ℕ) → ((j : ℕ) → j < width ws → getD s (a + j) 0 ≡ getD t (b + j) 0) → fields ws a s ≡ fields ws b t
+unfolding fields width
+fields-ext [] s t a b h = refl
+fields-ext (w ∷ ws) s t a b h =
+    rw (
+      beAt-ext w s t a b (λ j l. h j (omega arith)),
+      fields-ext ws s t (a + w) (b + w)
+          (λ j l.
+          let p : a + w + j ≡ a + (w + j) = omega arith in
+          let q : b + w + j ≡ b + (w + j) = omega arith in
+          rw (p, q) (h (w + j) (omega arith))),
+    )
+
+-- of a part
+pub fields-part : (ws : List ℕ) (a n at : ℕ) (s : List ℕ) → at + width ws ≤ n → fields ws at (part a n s) ≡ fields ws (a + at) s
+fields-part ws a n at s h =
+    fields-ext ws (part a n s) s at (a + at)
+    (λ j l. getD-part a n (at + j) s (omega arith) ∙ ap (λ (k : ℕ). getD s k 0) (omega arith))
+
+-- of the first of two lists, and of the second
+pub fields-front : (ws : List ℕ) (at : ℕ) (x y : List ℕ) → at + width ws ≤ length x → fields ws at (x ++ y) ≡ fields ws at x
+fields-front ws at x y h = fields-ext ws (x ++ y) x at at (λ j l. List·getD-append x y 0 (at + j) (omega arith))
+
+pub fields-behind : (ws : List ℕ) (at : ℕ) (x y : List ℕ) → fields ws (length x + at) (x ++ y) ≡ fields ws at y
+fields-behind ws at x y =
+    fields-ext ws (x ++ y) y (length x + at) at
+    (λ j l. ap (λ (k : ℕ). getD (x ++ y) k 0) (omega arith) ∙ getD-append-add x y (at + j) 0)
+
+-- the number in front of a list, and the fields behind it
+beAt-front : (n : ℕ) (x y : List ℕ) → n ≤ length x → beAt n (x ++ y) 0 ≡ beAt n x 0
+beAt-front n x y h = beAt-ext n (x ++ y) x 0 0 (λ j l. rw zero-add (List·getD-append x y 0 j (omega arith)))
+
+fields-after : (ws : List ℕ) (n : ℕ) (x y : List ℕ) → length x ≡ n → fields ws n (x ++ y) ≡ fields ws 0 y
+fields-after ws n x y e = ap (λ (k : ℕ). fields ws k (x ++ y)) (omega arith) ∙ fields-behind ws 0 x y
+
+-- Numbers become octets and come back.
+
+-- as many numbers as fields, whatever they are
+pub length-packed-any : (ws vs : List ℕ) → length vs ≡ length ws → length (packed ws vs) ≡ width ws
+unfolding packed width
+length-packed-any [] vs e = refl
+length-packed-any (w ∷ ws) [] e = absurd (omega arith)
+length-packed-any (w ∷ ws) (v ∷ vs) e =
+    omega (arith, length-append (be w v) (packed ws vs), length-be w v, length-packed-any ws vs (omega arith))
+
+pub length-fit : (ws vs : List ℕ) → Fit ws vs → length vs ≡ length ws
+unfolding Fit
+length-fit [] [] h = refl
+length-fit [] (v ∷ vs) h = absurd h
+length-fit (w ∷ ws) [] h = absurd h
+length-fit (w ∷ ws) (v ∷ vs) h = ap suc (length-fit ws vs (h .1))
+
+pub length-packed : (ws vs : List ℕ) → Fit ws vs → length (packed ws vs) ≡ width ws
+length-packed ws vs h = length-packed-any ws vs (length-fit ws vs h)
+
+pub fields-packed : (ws vs rest : List ℕ) → Fit ws vs → fields ws 0 (packed ws vs ++ rest) ≡ vs
+unfolding fields packed Fit
+fields-packed [] [] rest h = refl
+fields-packed [] (v ∷ vs) rest h = absurd h
+fields-packed (w ∷ ws) [] rest h = absurd h
+fields-packed (w ∷ ws) (v ∷ vs) rest h =
+    let l = length-be w v in
+    let more = packed ws vs ++ rest in
+    rw (
+      append-assoc,
+      zero-add,
+      beAt-front w (be w v) more (omega arith),
+      beAt-be w v (h .0),
+      fields-after ws w (be w v) more l,
+      fields-packed ws vs rest (h .1),
+    )
+
+-- behind any list
+pub fields-packed-behind : (ws vs pre rest : List ℕ) → Fit ws vs → fields ws (length pre) (pre ++ (packed ws vs ++ rest)) ≡ vs
+fields-packed-behind ws vs pre rest h = fields-after ws (length pre) pre (packed ws vs ++ rest) refl ∙ fields-packed ws vs rest h
+
+-- with nothing behind
+pub fields-of-packed : (ws vs : List ℕ) → Fit ws vs → fields ws 0 (packed ws vs) ≡ vs
+fields-of-packed ws vs h = sym (fields-front ws 0 (packed ws vs) [] (omega (arith, length-packed ws vs h))) ∙ fields-packed ws vs [] h
+
+-- Octets become numbers and come back.
+
+part-add : (at n m : ℕ) (s : List ℕ) → part at n s ++ part (at + n) m s ≡ part at (n + m) s
+unfolding part
+part-add at n m s = rw (take-add n m (drop at s), drop-drop n at s)
+
+pub packed-fields : (ws : List ℕ) (at : ℕ) (s : List ℕ) → at + width ws ≤ length s → ((i : ℕ) → getD s i 0 < 256)
+    → packed ws (fields ws at s) ≡ part at (width ws) s
+unfolding packed fields width
+packed-fields [] at s l h = sym (part-none at s)
+packed-fields (w ∷ ws) at s l h =
+    rw (be-beAt w s at (omega arith) h, packed-fields ws (at + w) s (omega arith) h) (part-add at w (width ws) s)
+
+pub fields-fit : (ws : List ℕ) (at : ℕ) (s : List ℕ) → ((i : ℕ) → getD s i 0 < 256) → Fit ws (fields ws at s)
+unfolding fields Fit
+fields-fit [] at s h = tt
+fields-fit (w ∷ ws) at s h = (beAt-fits w s at h, fields-fit ws (at + w) s h)
+
+pub length-fields : (ws : List ℕ) (at : ℕ) (s : List ℕ) → length (fields ws at s) ≡ length ws
+unfolding fields
+length-fields [] at s = refl
+length-fields (w ∷ ws) at s = ap suc (length-fields ws (at + w) s)
+
+-- Things one after another.
+
+module _ {A : Type 0} (to : A → List ℕ) where
+  pub flat-append : (l m : List A) → flat to (l ++ m) ≡ flat to l ++ flat to m
+  unfolding flat
+  flat-append [] m = refl
+  flat-append (a ∷ l) m = rw (flat-append l m) (sym (append-assoc (to a) (flat to l) (flat to m)))
+
+  pub length-flat : (n : ℕ) → ((a : A) → length (to a) ≡ n) → (l : List A) → length (flat to l) ≡ length l * n
+  unfolding flat
+  length-flat n h [] = omega arith
+  length-flat n h (a ∷ l) = omega (arith, length-append (to a) (flat to l), h a, length-flat n h l, suc-mul (length l) n)
+
+  pub octets-flat : ((a : A) (i : ℕ) → getD (to a) i 0 < 256) → (l : List A) (i : ℕ) → getD (flat to l) i 0 < 256
+  unfolding flat
+  octets-flat h [] i = omega arith
+  octets-flat h (a ∷ l) i = octets-append (to a) (flat to l) (h a) (octets-flat h l) i
