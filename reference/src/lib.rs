@@ -16,12 +16,15 @@
 //! * [`words`]: the words that programs print;
 //! * [`records`]: taking records from an input, and watching the calls they make;
 //! * [`sheet`], [`calls`]: the two programs;
-//! * [`frame`], [`random`]: inputs for comparisons.
+//! * [`frame`], [`random`], [`generator`]: inputs for comparisons;
+//! * [`coverage`]: what the generated inputs reach.
 
 pub mod bridge;
 pub mod calls;
+pub mod coverage;
 pub mod declarations;
 pub mod frame;
+pub mod generator;
 pub mod numbers;
 pub mod pdu;
 pub mod random;

@@ -1,27 +1,96 @@
+//! The reference program.
+//!
+//! * without arguments: the four lines of 01's worked example;
+//! * `sheet`: srpsheet on standard input;
+//! * `calls`: srpcalls on standard input;
+//! * `make sheet SEED`, `make calls SEED`, `make calls-batch FIRST COUNT`: generated inputs;
+//! * `coverage [N]`: what the generated inputs of the seeds below N reach.
+
 use std::io::{Read, Write};
 use std::process::ExitCode;
 
-use reference::{calls, sheet};
+use reference::coverage::Coverage;
+use reference::{calls, generator, sheet};
 
-fn standard_input() -> Vec<u8> {
-    let mut input = Vec::new();
-    std::io::stdin().read_to_end(&mut input).expect("standard input can be read");
-    input
+const USAGE: &str = "\
+usage: reference
+       reference sheet
+       reference calls
+       reference make sheet SEED
+       reference make calls SEED
+       reference make calls-batch FIRST COUNT
+       reference coverage [N]
+";
+
+/// What the arguments ask for.
+enum Task {
+    Example,
+    Sheet,
+    Calls,
+    MakeSheet(u64),
+    MakeCalls(u64),
+    MakeCallsBatch(u64, u64),
+    Coverage(u64),
 }
 
-fn print(octets: &[u8]) {
+fn task(arguments: &[&str]) -> Option<Task> {
+    let number = |argument: &str| argument.parse().ok();
+    match arguments {
+        [] => Some(Task::Example),
+        ["sheet"] => Some(Task::Sheet),
+        ["calls"] => Some(Task::Calls),
+        ["make", "sheet", seed] => Some(Task::MakeSheet(number(seed)?)),
+        ["make", "calls", seed] => Some(Task::MakeCalls(number(seed)?)),
+        ["make", "calls-batch", first, count] => {
+            Some(Task::MakeCallsBatch(number(first)?, number(count)?))
+        }
+        ["coverage"] => Some(Task::Coverage(1_000)),
+        ["coverage", seeds] => Some(Task::Coverage(number(seeds)?)),
+        _ => None,
+    }
+}
+
+fn standard_input() -> std::io::Result<Vec<u8>> {
+    let mut input = Vec::new();
+    std::io::stdin().read_to_end(&mut input)?;
+    Ok(input)
+}
+
+fn run(task: Task) -> std::io::Result<ExitCode> {
+    let mut code = ExitCode::SUCCESS;
+    let output = match task {
+        Task::Example => sheet::run(&sheet::worked_example()).into_bytes(),
+        Task::Sheet => sheet::run(&standard_input()?).into_bytes(),
+        Task::Calls => calls::run(&standard_input()?).into_bytes(),
+        Task::MakeSheet(seed) => generator::sheet(seed),
+        Task::MakeCalls(seed) => generator::calls(seed).octets,
+        Task::MakeCallsBatch(first, count) => generator::calls_batch(first, count),
+        Task::Coverage(seeds) => {
+            let (table, complete) = Coverage::of_seeds(seeds).table();
+            if !complete {
+                code = ExitCode::FAILURE;
+            }
+            table.into_bytes()
+        }
+    };
     let mut out = std::io::stdout().lock();
-    out.write_all(octets).and_then(|()| out.flush()).expect("standard output can be written");
+    out.write_all(&output)?;
+    out.flush()?;
+    Ok(code)
 }
 
 fn main() -> ExitCode {
     let arguments: Vec<String> = std::env::args().skip(1).collect();
     let arguments: Vec<&str> = arguments.iter().map(String::as_str).collect();
-    match arguments.as_slice() {
-        [] => print(sheet::run(&sheet::worked_example()).as_bytes()),
-        ["sheet"] => print(sheet::run(&standard_input()).as_bytes()),
-        ["calls"] => print(calls::run(&standard_input()).as_bytes()),
-        _ => return ExitCode::from(2),
+    let Some(task) = task(&arguments) else {
+        eprint!("{USAGE}");
+        return ExitCode::from(2);
+    };
+    match run(task) {
+        Ok(code) => code,
+        Err(error) => {
+            eprintln!("{error}");
+            ExitCode::from(2)
+        }
     }
-    ExitCode::SUCCESS
 }

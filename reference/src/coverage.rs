@@ -1,0 +1,665 @@
+//! What the generated inputs reach: how often each thing worth comparing occurs when the reference
+//! runs on them.
+
+use std::collections::BTreeMap;
+
+use crate::bridge::{Bridge, Table};
+use crate::calls;
+use crate::declarations;
+use crate::generator;
+use crate::numbers::{self, Number};
+use crate::pdu::{self, AttributeType, Event, Message, Pdu, Value, Vector};
+use crate::records::{Call, Watcher};
+use crate::registrations::MOST_STREAMS;
+use crate::settings::{self, Settings, MOST_PORTS};
+use crate::settling::{self, Column, Decision, Step};
+use crate::sheet;
+use crate::words;
+
+/// The rows of the table: all that is counted.
+const ROWS: &[&str] = &[
+    "start 0",
+    "start 11",
+    "start 12",
+    "receive 0",
+    "receive 1",
+    "receive 2",
+    "receive 3",
+    "receive 4",
+    "receive 5",
+    "receive 6",
+    "receive 7",
+    "receive 8",
+    "receive 12",
+    "advance 0",
+    "advance 9",
+    "advance 12",
+    "write 0",
+    "write 1",
+    "write 10",
+    "write 12",
+    "write 13",
+    "report 0",
+    "report 1",
+    "report 12",
+    "report 13",
+    "settings refused: length",
+    "settings refused: no ports",
+    "settings refused: ports above 8",
+    "settings refused: equal priorities",
+    "settings refused: leave time 0",
+    "settings refused: zero bits set",
+    "start again on a running bridge",
+    "PDU of 0 octets",
+    "PDU of 1500 octets accepted",
+    "PDU of 1501 octets",
+    "column step a",
+    "column step b",
+    "column step c",
+    "column step d",
+    "column step e",
+    "column step f",
+    "column step g",
+    "column step h",
+    "column step i",
+    "own failure 1",
+    "own failure 4",
+    "own failure 13",
+    "own failure 14",
+    "own failure 16",
+    "registered failure, code 0",
+    "registered failure, code 1 to 254",
+    "registered failure, code 255",
+    "column none",
+    "column advertise",
+    "column failed",
+    "listener registered asking",
+    "listener registered ready",
+    "listener registered readyfailed",
+    "listener declared none",
+    "listener declared asking",
+    "listener declared ready",
+    "listener declared readyfailed",
+    "entry none",
+    "entry filter",
+    "entry forward",
+    "talker advertise New",
+    "talker advertise JoinIn",
+    "talker advertise In",
+    "talker advertise JoinMt",
+    "talker advertise Mt",
+    "talker advertise Lv",
+    "talker failed New",
+    "talker failed JoinIn",
+    "talker failed In",
+    "talker failed JoinMt",
+    "talker failed Mt",
+    "talker failed Lv",
+    "listener New",
+    "listener JoinIn",
+    "listener In",
+    "listener JoinMt",
+    "listener Mt",
+    "listener Lv",
+    "domain New",
+    "domain JoinIn",
+    "domain In",
+    "domain JoinMt",
+    "domain Mt",
+    "domain Lv",
+    "listener join or Lv with Ignore",
+    "LeaveAll talker advertise",
+    "LeaveAll talker failed",
+    "LeaveAll listener",
+    "LeaveAll domain",
+    "LeaveAll with 0 values",
+    "LeaveAll with values",
+    "vector of several values",
+    "vector of more than 1000 values",
+    "PDU of more than 10 Messages",
+    "PDU of several Messages",
+    "PDU without Messages",
+    "frame ended by EndMark",
+    "frame ended without EndMark",
+    "higher version accepted",
+    "unknown type at higher version skipped",
+    "Unique ID FFFF with 1 value",
+    "Unique ID FFFF with 2 values",
+    "last Unique ID FFFF with several values",
+    "last destination at its bound",
+    "destination past its bound",
+    "last Domain octet at its bound",
+    "Domain octet past its bound",
+    "tables with exactly 64 streams after a receive",
+    "tables with 60 to 63 streams after a receive",
+    "tables with exactly 64 streams after an advance",
+    "tables with 60 to 63 streams after an advance",
+    "number 8 with 64 streams held",
+    "number 8 with fewer held",
+    "changed mark set",
+    "changed mark cleared",
+    "leaving begun by Lv or LeaveAll",
+    "leaving ended by a join",
+    "talker type replaced",
+    "listener type replaced",
+    "registration removed exactly at the leave time",
+    "registration removed later",
+    "registration kept though leaving",
+    "stream dropped",
+    "advance to the same time",
+    "advance to 2^32 - 2 or above",
+    "latency summed below 2^32 - 1",
+    "latency capped at 2^32 - 1",
+    "demand exactly what is left",
+    "demand one above what is left",
+    "demand 0",
+    "admitted without a Ready listener",
+    "stream admitted behind one that got 1",
+    "rank 0 admitted where rank 1 got 1",
+    "older stream admitted before a lower StreamID",
+    "class A reserved",
+    "class B reserved",
+    "class total equal to its limit",
+    "reserved on a port that sends twice",
+    "Talker port moved",
+    "second Talker on a port above",
+    "write of Advertise, Failed and Listener",
+    "write with declarations left over",
+    "write from a next place",
+    "write at place = count",
+    "write at place = count + 1",
+    "report at place = count",
+    "report at place = count + 1",
+    "report of a stream joined since",
+    "sheets refused in their settings",
+    "sheets that stop in their records",
+    "sheets longer than 65536 octets",
+    "sheets with 64 streams",
+    "scripts that stop",
+];
+
+/// Counts by row.
+pub struct Coverage {
+    counts: BTreeMap<&'static str, u64>,
+    before: Option<Bridge>,
+    last_write: Option<(u32, usize)>,
+}
+
+fn event_word(event: Event) -> &'static str {
+    match event {
+        Event::New => "New",
+        Event::JoinIn => "JoinIn",
+        Event::In => "In",
+        Event::JoinMt => "JoinMt",
+        Event::Mt => "Mt",
+        Event::Lv => "Lv",
+    }
+}
+
+fn type_word(attribute_type: AttributeType) -> &'static str {
+    match attribute_type {
+        AttributeType::TalkerAdvertise => "talker advertise",
+        AttributeType::TalkerFailed => "talker failed",
+        AttributeType::Listener => "listener",
+        AttributeType::Domain => "domain",
+    }
+}
+
+fn is_talker(attribute_type: AttributeType) -> bool {
+    matches!(attribute_type, AttributeType::TalkerAdvertise | AttributeType::TalkerFailed)
+}
+
+/// The decisions that the last advance came to. They follow from what it left.
+fn decisions(bridge: &Bridge) -> BTreeMap<(u64, usize), Decision> {
+    let mut since = BTreeMap::new();
+    for (stream_id, ports) in &bridge.settled.streams {
+        for (port, settled_on_port) in (1..).zip(ports) {
+            if let Some(second) = settled_on_port.entry_since {
+                since.insert((*stream_id, port), second);
+            }
+        }
+    }
+    settling::decide(&bridge.settings, &bridge.registrations, &since).0
+}
+
+fn talker_port(bridge: &Bridge, stream_id: u64) -> Option<usize> {
+    let ports = bridge.registrations.streams.get(&stream_id)?;
+    ports.iter().position(|on_port| on_port.talker.is_some())
+}
+
+impl Coverage {
+    pub fn new() -> Coverage {
+        let counts = ROWS.iter().map(|row| (*row, 0)).collect();
+        Coverage { counts, before: None, last_write: None }
+    }
+
+    fn count(&mut self, row: &str) {
+        *self.counts.get_mut(row).unwrap_or_else(|| panic!("no row for {row}")) += 1;
+    }
+
+    fn count_if(&mut self, row: &str, happened: bool) {
+        if happened {
+            self.count(row);
+        }
+    }
+
+    /// Runs the reference on the generated inputs of the seeds below `seeds`.
+    pub fn of_seeds(seeds: u64) -> Coverage {
+        let mut coverage = Coverage::new();
+        for seed in 0..seeds {
+            coverage.sheet(&generator::sheet(seed));
+            coverage.script(&generator::calls(seed));
+        }
+        coverage
+    }
+
+    fn sheet(&mut self, input: &[u8]) {
+        self.before = None;
+        let printed = sheet::run_watched(input, self);
+        let refused = printed == "stop\n";
+        self.count_if("sheets refused in their settings", refused);
+        let stops = printed.lines().any(|line| line == "stop");
+        self.count_if("sheets that stop in their records", stops && !refused);
+        self.count_if("sheets longer than 65536 octets", input.len() > sheet::LONGEST_INPUT);
+        let held = self.before.as_ref().map_or(0, |bridge| bridge.registrations.streams.len());
+        self.count_if("sheets with 64 streams", held == MOST_STREAMS);
+    }
+
+    fn script(&mut self, script: &generator::Script) {
+        self.before = None;
+        let printed = calls::run_watched(&script.octets, self);
+        let stops = printed.lines().any(|line| line == "stop");
+        assert_eq!(stops, script.stops, "a script stops exactly where it is meant to");
+        self.count_if("scripts that stop", stops);
+    }
+
+    /// The table of rows, and whether each has occurred.
+    pub fn table(&self) -> (String, bool) {
+        let mut printed = String::new();
+        let mut complete = true;
+        for row in ROWS {
+            let count = self.counts[row];
+            complete &= count > 0;
+            printed.push_str(&format!("{count:>10}  {row}\n"));
+        }
+        (printed, complete)
+    }
+
+    // ---- each call ----
+
+    fn started(&mut self, octets: &[u8], number: Number) {
+        self.count_if("start again on a running bridge", number == 0 && self.before.is_some());
+        if number != numbers::SETTINGS {
+            return;
+        }
+        let ports_field = settings::ports_field(octets);
+        match ports_field {
+            Some(0) => self.count("settings refused: no ports"),
+            Some(ports) if ports > MOST_PORTS => self.count("settings refused: ports above 8"),
+            Some(ports) if octets.len() == settings::length(ports) => {
+                let leave_time = usize::from(octets[9] & 0x3f) << 8 | usize::from(octets[10]);
+                let priority_a = octets[8] >> 1 & 7;
+                let priority_b = (octets[8] & 1) << 2 | octets[9] >> 6;
+                let zeros = (0..ports).any(|port| octets[settings::length(port)] & 0x1f != 0);
+                self.count_if("settings refused: equal priorities", priority_a == priority_b);
+                self.count_if("settings refused: leave time 0", leave_time == 0);
+                self.count_if("settings refused: zero bits set", zeros);
+            }
+            _ => self.count("settings refused: length"),
+        }
+    }
+
+    fn received(&mut self, octets: &[u8], number: Number, after: &Bridge) {
+        self.count_if("PDU of 0 octets", number == numbers::PDU_LENGTH && octets.is_empty());
+        self.count_if("PDU of 1501 octets", number == numbers::PDU_LENGTH && octets.len() == 1501);
+        let before = self.before.clone();
+        let held_before = before.as_ref().map_or(0, |bridge| bridge.registrations.streams.len());
+        match number {
+            numbers::ACCEPTED => {
+                self.count_if("PDU of 1500 octets accepted", octets.len() == 1500);
+                self.count_if("higher version accepted", octets[0] > 0);
+                self.pdu(&pdu::read(octets).expect("accepted"));
+                if let Some(before) = before {
+                    self.registrations(&before, after);
+                }
+                let held = after.registrations.streams.len();
+                if held > held_before {
+                    self.count_if(
+                        "tables with exactly 64 streams after a receive",
+                        held == MOST_STREAMS,
+                    );
+                    self.count_if(
+                        "tables with 60 to 63 streams after a receive",
+                        (60..=63).contains(&held),
+                    );
+                }
+            }
+            numbers::VALUE => {
+                let fault = pdu::read(octets).expect_err("refused");
+                let (attribute_type, first_value, values) = fault.vector.expect("a vector's fault");
+                self.value_past(attribute_type, &first_value, values);
+            }
+            numbers::STREAMS => {
+                self.count_if("number 8 with 64 streams held", held_before == MOST_STREAMS);
+                self.count_if("number 8 with fewer held", held_before < MOST_STREAMS);
+            }
+            _ => {}
+        }
+    }
+
+    fn value_past(&mut self, attribute_type: AttributeType, first_value: &[u8], values: usize) {
+        if attribute_type == AttributeType::Domain {
+            self.count("Domain octet past its bound");
+            return;
+        }
+        let unique_id = pdu::number_of(&first_value[6..8]);
+        self.count_if("Unique ID FFFF with 2 values", unique_id == 0xffff && values == 2);
+        if is_talker(attribute_type) {
+            let last = pdu::number_of(&first_value[8..14]) + values as u64 - 1;
+            self.count_if("destination past its bound", last >= 1 << 48);
+        }
+    }
+
+    fn pdu(&mut self, pdu: &Pdu) {
+        self.count_if("PDU of several Messages", pdu.messages.len() > 1);
+        self.count_if("PDU of more than 10 Messages", pdu.messages.len() > 10);
+        self.count_if("PDU without Messages", pdu.messages.is_empty());
+        self.count_if("frame ended by EndMark", pdu.end_mark);
+        self.count_if("frame ended without EndMark", !pdu.end_mark);
+        for message in &pdu.messages {
+            self.count_if("unknown type at higher version skipped", *message == Message::Skipped);
+        }
+        for vector in pdu.vectors() {
+            self.vector(vector);
+        }
+    }
+
+    fn vector(&mut self, vector: &Vector) {
+        let word = type_word(vector.attribute_type);
+        let values = vector.values.len();
+        if vector.leave_all {
+            self.count(&format!("LeaveAll {word}"));
+            self.count_if("LeaveAll with 0 values", values == 0);
+            self.count_if("LeaveAll with values", values > 0);
+        }
+        self.count_if("vector of several values", values > 1);
+        self.count_if("vector of more than 1000 values", values > 1_000);
+        for (event, value) in &vector.values {
+            self.count(&format!("{word} {}", event_word(*event)));
+            let ignored = matches!(value, Value::Listener(_, None));
+            let idle = matches!(event, Event::In | Event::Mt);
+            self.count_if("listener join or Lv with Ignore", ignored && !idle);
+        }
+        match vector.values.last() {
+            Some((_, Value::Talker(talker))) => {
+                self.last_unique_id(talker.stream_id, values);
+                let bound = (1 << 48) - 1;
+                let at_bound = talker.parameters.destination == bound;
+                self.count_if("last destination at its bound", at_bound);
+            }
+            Some((_, Value::Listener(stream_id, _))) => self.last_unique_id(*stream_id, values),
+            Some((_, Value::Domain)) => {
+                let last = vector.first_value[0].max(vector.first_value[1]) as usize + values - 1;
+                self.count_if("last Domain octet at its bound", last == 255);
+            }
+            None => {}
+        }
+    }
+
+    fn last_unique_id(&mut self, stream_id: u64, values: usize) {
+        let at_bound = stream_id & 0xffff == 0xffff;
+        self.count_if("Unique ID FFFF with 1 value", at_bound && values == 1);
+        self.count_if("last Unique ID FFFF with several values", at_bound && values > 1);
+    }
+
+    /// What an accepted PDU did to the registrations.
+    fn registrations(&mut self, before: &Bridge, after: &Bridge) {
+        for (stream_id, ports_before) in &before.registrations.streams {
+            let ports_after = &after.registrations.streams[stream_id];
+            for (was, is) in ports_before.iter().zip(ports_after) {
+                let mut leaving = Vec::new();
+                if let (Some(was), Some(is)) = (&was.talker, &is.talker) {
+                    self.count_if("changed mark set", !was.changed && is.changed);
+                    self.count_if("changed mark cleared", was.changed && !is.changed);
+                    let replaced = was.attribute_type() != is.attribute_type();
+                    self.count_if("talker type replaced", replaced);
+                    leaving.push((was.leaving, is.leaving));
+                }
+                if let (Some(was), Some(is)) = (&was.listener, &is.listener) {
+                    let replaced = was.listener_type != is.listener_type;
+                    self.count_if("listener type replaced", replaced);
+                    leaving.push((was.leaving, is.leaving));
+                }
+                for (was, is) in leaving {
+                    let begun = was.is_none() && is.is_some();
+                    self.count_if("leaving begun by Lv or LeaveAll", begun);
+                    self.count_if("leaving ended by a join", was.is_some() && is.is_none());
+                }
+            }
+        }
+    }
+
+    fn advanced(&mut self, time: u32, before: &Bridge, after: &Bridge) {
+        self.count_if("advance to the same time", time == before.clock);
+        self.count_if("advance to 2^32 - 2 or above", time >= u32::MAX - 1);
+        let leave_time = before.settings.leave_time;
+        for (stream_id, ports) in &before.registrations.streams {
+            for on_port in ports {
+                let talker = on_port.talker.as_ref().and_then(|talker| talker.leaving);
+                let listener = on_port.listener.as_ref().and_then(|listener| listener.leaving);
+                for begun in [talker, listener].into_iter().flatten() {
+                    let gone_for = time - begun;
+                    self.count_if(
+                        "registration removed exactly at the leave time",
+                        gone_for == leave_time,
+                    );
+                    self.count_if("registration removed later", gone_for > leave_time);
+                    self.count_if("registration kept though leaving", gone_for < leave_time);
+                }
+            }
+            let dropped = !after.registrations.streams.contains_key(stream_id);
+            self.count_if("stream dropped", dropped);
+            let (was, is) = (talker_port(before, *stream_id), talker_port(after, *stream_id));
+            let moved = was.is_some() && is.is_some() && was != is;
+            self.count_if("Talker port moved", moved);
+        }
+        let held = after.registrations.streams.len();
+        self.count_if("tables with exactly 64 streams after an advance", held == MOST_STREAMS);
+        self.count_if("tables with 60 to 63 streams after an advance", (60..=63).contains(&held));
+        self.settled(after);
+        self.importance(after);
+    }
+
+    fn settled(&mut self, bridge: &Bridge) {
+        for ((stream_id, port), decision) in decisions(bridge) {
+            let (row, own_code) = match decision.step {
+                Step::A => ("column step a", None),
+                Step::B => ("column step b", None),
+                Step::C => ("column step c", None),
+                Step::D => ("column step d", Some(16)),
+                Step::E => ("column step e", Some(4)),
+                Step::F => ("column step f", Some(13)),
+                Step::G => ("column step g", Some(14)),
+                Step::H => ("column step h", Some(1)),
+                Step::I => ("column step i", None),
+            };
+            self.count(row);
+            if let Some(code) = own_code {
+                self.count(&format!("own failure {code}"));
+            }
+            let settled_on_port = &bridge.settled.streams[&stream_id][port - 1];
+            if let (Step::C, Column::Failed(failure)) = (decision.step, settled_on_port.column()) {
+                self.count(match failure.code {
+                    0 => "registered failure, code 0",
+                    255 => "registered failure, code 255",
+                    _ => "registered failure, code 1 to 254",
+                });
+            }
+            self.count(&format!("column {}", words::column(settled_on_port.column())));
+            self.count(&format!("listener declared {}", words::listener(settled_on_port.listener)));
+            self.count(&format!("entry {}", words::entry(settled_on_port.entry)));
+            let on_port = &bridge.registrations.streams[&stream_id][port - 1];
+            let listener = on_port.listener.as_ref().map(|listener| listener.listener_type);
+            if listener.is_some() {
+                self.count(&format!("listener registered {}", words::listener(listener)));
+            }
+            self.count_if("second Talker on a port above", {
+                let talker_port = talker_port(bridge, stream_id);
+                talker_port.is_some_and(|at| at + 1 < port) && on_port.talker.is_some()
+            });
+            self.latency(bridge, stream_id, port);
+            if let Some(compared) = decision.compared {
+                let (demand, left) = (compared.demand.0, compared.left.0);
+                self.count_if("demand exactly what is left", demand == left && demand > 0);
+                self.count_if("demand one above what is left", demand == left + 1);
+                self.count_if("demand 0", demand == 0);
+                let idle = settled_on_port.entry != settling::Entry::Forward;
+                let admitted = decision.step == Step::I;
+                self.count_if("admitted without a Ready listener", admitted && idle);
+            }
+        }
+        for (port, total) in bridge.settings.ports.iter().zip(&bridge.settled.totals) {
+            self.count_if("class A reserved", total.a > 0);
+            self.count_if("class B reserved", total.b > 0);
+            let reserved = total.a > 0 || total.b > 0;
+            self.count_if("reserved on a port that sends twice", port.sends_twice && reserved);
+            self.count_if("class total equal to its limit", {
+                total.a > 0 && total.a == port.limit.a || total.b > 0 && total.b == port.limit.b
+            });
+        }
+    }
+
+    fn latency(&mut self, bridge: &Bridge, stream_id: u64, port: usize) {
+        let Some(declared) = bridge.settled.streams[&stream_id][port - 1].talker else {
+            return;
+        };
+        let Settings { ports, .. } = &bridge.settings;
+        let Some(class) = bridge.settings.class_of(declared.parameters.priority) else {
+            return;
+        };
+        let at = talker_port(bridge, stream_id).expect("a Talker is declared");
+        let registered = bridge.registrations.streams[&stream_id][at].talker.as_ref();
+        let latency_in = registered.expect("the Talker port's").accumulated_latency;
+        let added = ports[port - 1].latency.of(class);
+        let capped = latency_in.checked_add(added).is_none();
+        self.count_if("latency capped at 2^32 - 1", capped);
+        self.count_if("latency summed below 2^32 - 1", !capped && added > 0 && latency_in > 0);
+    }
+
+    /// Pairs of streams that met at step h on a port, in one class.
+    fn importance(&mut self, bridge: &Bridge) {
+        let decisions = decisions(bridge);
+        let priority_and_rank = |stream_id: u64| {
+            let at = talker_port(bridge, stream_id).expect("it reached step h");
+            let talker = bridge.registrations.streams[&stream_id][at].talker.as_ref();
+            let parameters = talker.expect("the Talker port's").parameters;
+            (parameters.priority, parameters.rank)
+        };
+        for ((admitted, port), decision) in &decisions {
+            if decision.step != Step::I {
+                continue;
+            }
+            for ((failed, other_port), other) in &decisions {
+                if other.step != Step::H || port != other_port {
+                    continue;
+                }
+                let ((class, rank), (other_class, other_rank)) =
+                    (priority_and_rank(*admitted), priority_and_rank(*failed));
+                if class != other_class {
+                    continue;
+                }
+                let since = |stream_id: &u64| {
+                    bridge.settled.streams[stream_id][port - 1].entry_since.expect("an entry")
+                };
+                let importance = (rank, since(admitted), *admitted);
+                let other_importance = (other_rank, since(failed), *failed);
+                self.count_if(
+                    "stream admitted behind one that got 1",
+                    importance > other_importance,
+                );
+                self.count_if("rank 0 admitted where rank 1 got 1", rank < other_rank);
+                self.count_if(
+                    "older stream admitted before a lower StreamID",
+                    rank == other_rank && since(admitted) < since(failed) && admitted > failed,
+                );
+            }
+        }
+    }
+
+    fn wrote(&mut self, bridge: &Bridge, port: u32, place: u32, number: Number, next: usize) {
+        let place = place as usize;
+        let declarations = declarations::of_port(&bridge.settled, port as usize);
+        let count = declarations.len();
+        self.count_if("write at place = count + 1", number != 0 && place == count + 1);
+        if number != numbers::ACCEPTED {
+            return;
+        }
+        self.count_if("write at place = count", place == count);
+        self.count_if("write with declarations left over", next < count);
+        let continued = place > 0 && place < count && self.last_write == Some((port, place));
+        self.count_if("write from a next place", continued);
+        self.last_write = Some((port, next));
+        let taken = &declarations[place..next];
+        let has = |attribute_type| {
+            taken.iter().any(|declaration| declaration.attribute_type() == attribute_type)
+        };
+        let all = has(AttributeType::TalkerAdvertise)
+            && has(AttributeType::TalkerFailed)
+            && has(AttributeType::Listener);
+        self.count_if("write of Advertise, Failed and Listener", all);
+    }
+
+    fn reported(&mut self, bridge: &Bridge, place: u32, number: Number) {
+        let place = place as usize;
+        let count = bridge.registrations.streams.len();
+        let accepted = number == numbers::ACCEPTED;
+        self.count_if("report at place = count", accepted && place == count);
+        self.count_if("report at place = count + 1", !accepted && place == count + 1);
+        if let Some(stream_id) = bridge.registrations.streams.keys().nth(place) {
+            let joined_since = !bridge.settled.streams.contains_key(stream_id);
+            self.count_if("report of a stream joined since", joined_since);
+        }
+    }
+}
+
+impl Default for Coverage {
+    fn default() -> Coverage {
+        Coverage::new()
+    }
+}
+
+impl Watcher for Coverage {
+    fn called(&mut self, call: &Call, number: Number, table: &Table) {
+        let name = match call {
+            Call::Start(_) => "start",
+            Call::Receive(..) => "receive",
+            Call::Advance(_) => "advance",
+            Call::Write { .. } => "write",
+            Call::Report { .. } => "report",
+        };
+        self.count(&format!("{name} {number}"));
+        if let Call::Start(octets) = call {
+            self.started(octets, number);
+        }
+        let reached = number != numbers::TABLE && number != numbers::PORT;
+        if let (Some(bridge), true) = (&table.bridge, reached) {
+            match call {
+                Call::Start(_) => {}
+                Call::Receive(_, octets) => self.received(octets, number, bridge),
+                Call::Advance(time) => {
+                    if let (numbers::ACCEPTED, Some(before)) = (number, self.before.clone()) {
+                        self.advanced(*time, &before, bridge);
+                    }
+                }
+                Call::Write { port, place, answer } => {
+                    self.wrote(bridge, *port, *place, number, answer.next_place);
+                }
+                Call::Report { place, .. } => self.reported(bridge, *place, number),
+            }
+        }
+        let changed = matches!(call, Call::Start(_) | Call::Receive(..) | Call::Advance(_));
+        if changed {
+            self.before = table.bridge.clone();
+        }
+    }
+}
