@@ -1,1 +1,427 @@
--- To be filled.
+-- Advance, accepted or refused, leaves a bridge that keeps the form rules.
+use mathlib.Core.Path.{_≡_, refl, sym, _∙_, ap}
+use mathlib.Core.Logic.{_⊎_, inl, inr}
+use mathlib.Core.List.{List, [], _∷_, map}
+use mathlib.Core.Bool.{Bool, true, false, cond}
+use Prim.Native.Nat.{ℕ, zero, suc, _+_, _/_, _^_, _≤_, _<_}
+use native.Mathlib.Omega.{arith}
+use lib.ListN.{length, getD, drop, length-map}
+use lib.Dec.{ltb}
+use borrow.Author.Tests.{ltb-false, leb-false, le-ltb, le-leb, eq-eqb, ne-eqb}
+use Rattle.model.specs.Lists.{All, keep, tabulate}
+use Rattle.model.specs.State.{Port, Settings, Leaving, stays, since, Health, sound, broken, Talker, noTalker, talker, Listener, noListener, listener, Cell, Column, none, advertise, failed, Entry, noEntry, filters, forwards, Declared, nothing, tells, Result, Stream, Totals, Bridge, empty, unsettled, noFixed, noPort, portAt, isPort, cellAt, resultAt, Class, classA, classB, limit}
+use Rattle.model.specs.Registrations.{Answer, ids}
+use Rattle.model.specs.Settling.{expired, expireTalker, expireListener, expireCell, expire, held, remain, Source, nowhere, from, source, sourceOf, isSource, fixedOf, registered, isReady, first, brokenColumn, stepsFrom, steps, ageOf, claims, limitOn, byBandwidth, columnOf, capped, latencyOut, entryOf, ageKept, latencyKept, decideAt, decide, totalOn, totalsOn, settle, advance}
+use Rattle.model.specs.Bandwidth.{sort, total}
+use Rattle.model.specs.Table.{totalsWithin}
+use Rattle.model.proofs.Lists.{all-tabulate}
+use Rattle.model.proofs.Admission.{within}
+use Rattle.model.proofs.Valid.{ValidLeaving, ValidFixed, ValidHealth, ValidVarying, ValidTalker, ValidListener, ValidCell, ValidColumn, ValidAge, ValidResult, ValidStream, Rising, Valid}
+
+-- Lists.
+
+module _ {A B : Type 0} (P : A → Type 0) (Q : B → Type 0) (f : A → B) where
+  pub all-mapped : ((x : A) → P x → Q (f x)) → (l : List A) → All P l → All Q (map f l)
+  all-mapped h [] a = tt
+  all-mapped h (x ∷ l) a = (h x (a .0), all-mapped h l (a .1))
+
+module _ {A : Type 0} where
+  pub drop-map : (f : A → A) (n : ℕ) (l : List A) → drop n (map f l) ≡ map f (drop n l)
+  drop-map f zero l = refl
+  drop-map f (suc n) [] = refl
+  drop-map f (suc n) (x ∷ l) = drop-map f n l
+
+  pub length-tabulate : (n p : ℕ) (f : ℕ → A) → length (tabulate n p f) ≡ n
+  unfolding tabulate
+  length-tabulate zero p f = refl
+  length-tabulate (suc n) p f = ap suc (length-tabulate n (suc p) f)
+
+module _ {A : Type 0} (P : A → Type 0) where
+  pub all-getD : (l : List A) (i : ℕ) (d : A) → P d → All P l → P (getD l i d)
+  all-getD [] i d h a = h
+  all-getD (x ∷ l) zero d h a = a .0
+  all-getD (x ∷ l) (suc i) d h a = all-getD l i d h (a .1)
+
+  -- at a place from n on, where it holds of all elements from n on
+  pub getD-past : (n : ℕ) (l : List A) (i : ℕ) (d : A) → n ≤ i → P d → All P (drop n l) → P (getD l i d)
+  getD-past zero l i d n≤i h a = all-getD l i d h a
+  getD-past (suc n) [] i d n≤i h a = h
+  getD-past (suc n) (x ∷ l) zero d n≤i h a = absurd (omega arith)
+  getD-past (suc n) (x ∷ l) (suc i) d n≤i h a = getD-past n l i d (omega arith) h a
+
+  pub all-drop-tabulate : (n k p : ℕ) (f : ℕ → A) → ((q : ℕ) → p + n ≤ q → P (f q)) → All P (drop n (tabulate k p f))
+  unfolding tabulate
+  all-drop-tabulate zero zero p f h = tt
+  all-drop-tabulate zero (suc k) p f h = (h p (omega arith), all-drop-tabulate zero k (suc p) f (λ q l. h q (omega arith)))
+  all-drop-tabulate (suc n) zero p f h = tt
+  all-drop-tabulate (suc n) (suc k) p f h = all-drop-tabulate n k (suc p) f (λ q l. h q (omega arith))
+
+-- Removal: what remains is leaving for less than the leave time.
+
+module _ (st : Settings) (clock now : ℕ) (later : clock ≤ now) where
+  leaving-remains : (l : Leaving) → expired st now l ≡ false → ValidLeaving clock (st .leaveTime) l → ValidLeaving now (st .leaveTime) l
+  unfolding expired
+  leaving-remains stays e v = tt
+  leaving-remains (since t) e v = (omega arith, leb-false (t + st .leaveTime) now e)
+
+  talker-remains : (t : Talker) → ValidTalker clock (st .leaveTime) t → ValidTalker now (st .leaveTime) (expireTalker st now t)
+  unfolding expireTalker
+  talker-remains noTalker v = tt
+  talker-remains (talker f w m l) v = go (expired st now l) refl
+    where
+      go : (b : Bool) → expired st now l ≡ b → ValidTalker now (st .leaveTime) (cond b noTalker (talker f w m l))
+      go true e = tt
+      go false e = (v .0, v .1, leaving-remains l e (v .2))
+
+  listener-remains : (t : Listener) → ValidListener clock (st .leaveTime) t → ValidListener now (st .leaveTime) (expireListener st now t)
+  unfolding expireListener
+  listener-remains noListener v = tt
+  listener-remains (listener r l) v = go (expired st now l) refl
+    where
+      go : (b : Bool) → expired st now l ≡ b → ValidListener now (st .leaveTime) (cond b noListener (listener r l))
+      go true e = tt
+      go false e = leaving-remains l e v
+
+  cell-remains : (c : Cell) → ValidCell clock (st .leaveTime) c → ValidCell now (st .leaveTime) (expireCell st now c)
+  unfolding expireCell
+  cell-remains c v = record { talks = talker-remains (c .talks) (v .talks); hears = listener-remains (c .hears) (v .hears) }
+
+  empty-remains : (c : Cell) → c ≡ empty → expireCell st now c ≡ empty
+  unfolding expireCell expireTalker expireListener empty
+  empty-remains c e = rw e
+
+-- a stream between removal and decision: its registrations stand at the new time, its results still at the old clock
+record Remaining (ports clock now leave : ℕ) (x : Stream) : Type 0 where
+  id : x .id < 2 ^ 64
+  eight-cells : length (x .cells) ≡ 8
+  cells : All (ValidCell now leave) (x .cells)
+  no-other-cells : All (λ c. c ≡ empty) (drop ports (x .cells))
+  is-held : held (x .cells) ≡ true
+  results : All (ValidResult clock) (x .results)
+
+module _ (st : Settings) (clock now ports : ℕ) (later : clock ≤ now) where
+  stream-remains : (x : Stream) → held (expire st now x .cells) ≡ true → ValidStream ports clock (st .leaveTime) x →
+      Remaining ports clock now (st .leaveTime) (expire st now x)
+  unfolding expire
+  stream-remains x h v = record {
+    id = v .id;
+    eight-cells = length-map (x .cells) (expireCell st now) ∙ v .eight-cells;
+    cells =
+        all-mapped (ValidCell clock (st .leaveTime)) (ValidCell now (st .leaveTime)) (expireCell st now)
+        (cell-remains st clock now later) (x .cells) (v .cells);
+    no-other-cells =
+        rw (drop-map (expireCell st now) ports (x .cells))
+        (all-mapped (λ c. c ≡ empty) (λ c. c ≡ empty) (expireCell st now)
+        (empty-remains st clock now later) (drop ports (x .cells)) (v .no-other-cells));
+    is-held = h;
+    results = v .results;
+  }
+
+  streams-remain : (s : List Stream) → All (ValidStream ports clock (st .leaveTime)) s →
+      All (Remaining ports clock now (st .leaveTime)) (remain st now s)
+  unfolding remain
+  streams-remain [] a = tt
+  streams-remain (x ∷ s) a = go (held (expire st now x .cells)) refl (streams-remain s (a .1))
+    where
+      go : (t : Bool) → held (expire st now x .cells) ≡ t → All (Remaining ports clock now (st .leaveTime)) (remain st now s) →
+          All (Remaining ports clock now (st .leaveTime)) (keep t (expire st now x) (remain st now s))
+      go true e ih = (stream-remains x e (a .0), ih)
+      go false e ih = ih
+
+module _ (st : Settings) (now : ℕ) where
+  pub fewer-remain : (s : List Stream) → length (remain st now s) ≤ length s
+  unfolding remain
+  fewer-remain [] = omega arith
+  fewer-remain (x ∷ s) = go (held (expire st now x .cells)) (fewer-remain s)
+    where
+      go : (t : Bool) → length (remain st now s) ≤ length s → length (keep t (expire st now x) (remain st now s)) ≤ suc (length s)
+      go true ih = omega arith
+      go false ih = omega arith
+
+  pub remain-all : (P : ℕ → Type 0) (s : List Stream) → All P (ids s) → All P (ids (remain st now s))
+  unfolding ids remain expire
+  remain-all P [] a = tt
+  remain-all P (x ∷ s) a = go (held (expire st now x .cells)) (remain-all P s (a .1))
+    where
+      go : (t : Bool) → All P (ids (remain st now s)) → All P (ids (keep t (expire st now x) (remain st now s)))
+      go true ih = (a .0, ih)
+      go false ih = ih
+
+  pub remain-rising : (s : List Stream) → Rising (ids s) → Rising (ids (remain st now s))
+  unfolding ids remain expire Rising
+  remain-rising [] r = tt
+  remain-rising (x ∷ s) r = go (held (expire st now x .cells)) (remain-rising s (r .1))
+    where
+      go : (t : Bool) → Rising (ids (remain st now s)) → Rising (ids (keep t (expire st now x) (remain st now s)))
+      go true ih = (remain-all (λ j. x .id < j) s (r .0), ih)
+      go false ih = ih
+
+-- The Talker: what is registered at the Talker port is valid, and stands on a port.
+
+abbrev ValidSource : Source → Type 0
+ValidSource nowhere = Unit {0}
+ValidSource (from t f v m) = ValidFixed f × ValidVarying v
+
+module _ (clock leave : ℕ) where
+  source-valid : (p : ℕ) (cs : List Cell) → All (ValidCell clock leave) cs → ValidSource (source p cs)
+  unfolding source
+  source-valid p [] a = tt
+  source-valid p (c ∷ cs) a = go (c .talks) (a .0 .talks) (source-valid (suc p) cs (a .1))
+    where
+      go : (t : Talker) → ValidTalker clock leave t → ValidSource (source (suc p) cs) →
+          ValidSource (elim t [ noTalker ↦ source (suc p) cs | talker f v m l ↦ from p f v m ])
+      go noTalker v ih = ih
+      go (talker f w m l) v ih = (v .0, v .1)
+
+-- no port below the first place looked at
+source-after : (p q : ℕ) (cs : List Cell) → q < p → isSource (source p cs) q ≡ false
+unfolding source isSource
+source-after p q [] h = refl
+source-after p q (c ∷ cs) h = go (c .talks) (source-after (suc p) q cs (omega arith))
+  where
+    go : (t : Talker) → isSource (source (suc p) cs) q ≡ false →
+        isSource (elim t [ noTalker ↦ source (suc p) cs | talker f v m l ↦ from p f v m ]) q ≡ false
+    go noTalker ih = ih
+    go (talker f w m l) ih = ne-eqb p q (omega arith)
+
+-- and none without a Talker registration
+not-source : (p k : ℕ) (cs : List Cell) → getD cs k empty ≡ empty → isSource (source p cs) (p + k) ≡ false
+unfolding source isSource empty
+not-source p k [] e = refl
+not-source p zero (c ∷ cs) e = rw (ap (λ (d : Cell). d .talks) e) (source-after (suc p) (p + 0) cs (omega arith))
+not-source p (suc k) (c ∷ cs) e = go (c .talks) (not-source (suc p) k cs e)
+  where
+    go : (t : Talker) → isSource (source (suc p) cs) (suc p + k) ≡ false →
+        isSource (elim t [ noTalker ↦ source (suc p) cs | talker f v m l ↦ from p f v m ]) (p + suc k) ≡ false
+    go noTalker ih = let e : suc p + k ≡ p + suc k = omega arith in rw (sym e) ih
+    go (talker f w m l) ih = ne-eqb p (p + suc k) (omega arith)
+
+fixed-valid : (s : Source) → ValidSource s → ValidFixed (fixedOf s)
+unfolding fixedOf noFixed
+fixed-valid nowhere v = omega arith
+fixed-valid (from t f w m) v = v .0
+
+-- The column: a Bridge ID and a code that fit their fields.
+
+abbrev ValidFailure : Column → Type 0
+ValidFailure none = Unit {0}
+ValidFailure advertise = Unit {0}
+ValidFailure (failed b c) = (b < 2 ^ 64) × (c < 256)
+
+first-valid : (l : List (Bool × Column)) (c : Column) → All (λ s. ValidFailure (s .1)) l → ValidFailure c → ValidFailure (first l c)
+unfolding first
+first-valid [] c a v = v
+first-valid (s ∷ l) c a v = go (s .0) (first-valid l c (a .1) v)
+  where
+    go : (t : Bool) → ValidFailure (first l c) → ValidFailure (cond t (s .1) (first l c))
+    go true ih = a .0
+    go false ih = ih
+
+broken-valid : (h : Health) → ValidHealth h → ValidFailure (brokenColumn h)
+unfolding brokenColumn
+broken-valid sound v = tt
+broken-valid (broken b c) v = v
+
+module _ (st : Settings) (named : st .bridgeId < 2 ^ 64) where
+  steps-valid : (p : ℕ) (here : Cell) (s : Source) → ValidSource s → All (λ s. ValidFailure (s .1)) (stepsFrom st p here s)
+  unfolding stepsFrom
+  steps-valid p here nowhere v = (tt, tt)
+  steps-valid p here (from t f w m) v =
+      (tt, (tt, (broken-valid (w .health) (v .1 .health), (omega arith, (omega arith, (omega arith, (omega arith, tt)))))))
+
+  bandwidth-valid : (d l : ℕ) → ValidFailure (byBandwidth st d l)
+  unfolding byBandwidth
+  bandwidth-valid d l = go (ltb l d)
+    where
+      go : (t : Bool) → ValidFailure (cond t (failed (st .bridgeId) 1) advertise)
+      go true = omega arith
+      go false = tt
+
+  column-valid : (now : ℕ) (s : List Stream) (p : ℕ) (x : Stream) → ValidSource (sourceOf x) → ValidFailure (columnOf st now s p x)
+  unfolding columnOf steps
+  column-valid now s p x v = first-valid _ _ (tt, steps-valid p (cellAt x p) (sourceOf x) v) (bandwidth-valid _ _)
+
+-- Table 35-12 gives each column an entry that goes with it
+entry-fits : (c : Column) (d : Declared) (n : ℕ) → ValidFailure c → ValidColumn c (latencyKept c n) (entryOf c d)
+unfolding entryOf latencyKept
+entry-fits none nothing n v = refl
+entry-fits none (tells r) n v = refl
+entry-fits advertise d n v = go (isReady d)
+  where
+    go : (t : Bool) → ValidColumn advertise n (cond t forwards filters)
+    go true = tt
+    go false = tt
+entry-fits (failed b c) d n v = v
+
+capped-fits : (n : ℕ) → capped n < 2 ^ 32
+unfolding capped
+capped-fits n = go (ltb 4294967295 n) refl
+  where
+    go : (t : Bool) → ltb 4294967295 n ≡ t → cond t 4294967295 n < 2 ^ 32
+    go true e = omega arith
+    go false e = omega (arith, ltb-false 4294967295 n e)
+
+latency-fits : (c : Column) (n : ℕ) → n < 2 ^ 32 → latencyKept c n < 2 ^ 32
+unfolding latencyKept
+latency-fits none n h = omega arith
+latency-fits advertise n h = h
+latency-fits (failed b c) n h = h
+
+-- an age is kept from an earlier advance or counts from this one
+age-valid : (clock now : ℕ) (r : Result) → clock ≤ now → ValidResult clock r → ageOf now r ≤ now / 100
+unfolding ageOf
+age-valid clock now r later v = go (r .entry) (v .age)
+  where
+    go : (e : Entry) → ValidAge clock e (r .age) → elim e [ noEntry ↦ now / 100 | filters ↦ r .age | forwards ↦ r .age ] ≤ now / 100
+    go noEntry a = omega arith
+    go filters a = omega arith
+    go forwards a = omega arith
+
+age-fits : (now : ℕ) (e : Entry) (a : ℕ) → a ≤ now / 100 → ValidAge now e (ageKept e a)
+unfolding ageKept
+age-fits now noEntry a h = refl
+age-fits now filters a h = h
+age-fits now forwards a h = h
+
+pub unsettled-valid : (clock : ℕ) → ValidResult clock unsettled
+unfolding unsettled
+unsettled-valid clock = record { column = refl; latency = omega arith; age = refl }
+
+-- The decision.
+
+module _ (st : Settings) (named : st .bridgeId < 2 ^ 64) (clock now : ℕ) (later : clock ≤ now) (s : List Stream) (x : Stream)
+    (r : Remaining (length (st .ports)) clock now (st .leaveTime) x) where
+  source-fits : ValidSource (sourceOf x)
+  unfolding sourceOf
+  source-fits = source-valid now (st .leaveTime) 0 (x .cells) (r .cells)
+
+  result-valid : (p : ℕ) → ValidResult now (decideAt st now s x p)
+  unfolding decideAt latencyOut resultAt
+  result-valid p = record {
+    column = entry-fits (columnOf st now s p x) (registered (cellAt x p)) _ (column-valid st named now s p x source-fits);
+    latency = latency-fits (columnOf st now s p x) _ (capped-fits _);
+    age =
+        age-fits now (entryOf (columnOf st now s p x) (registered (cellAt x p))) _
+        (age-valid clock now (resultAt x p) later
+        (all-getD (ValidResult clock) (x .results) p unsettled (unsettled-valid clock) (r .results)));
+  }
+
+  -- a place that is no port has no registration, so no result
+  no-cell : (p : ℕ) → length (st .ports) ≤ p → cellAt x p ≡ empty
+  unfolding cellAt
+  no-cell p h = getD-past (λ c. c ≡ empty) (length (st .ports)) (x .cells) p empty h refl (r .no-other-cells)
+
+  no-talker : (p : ℕ) → length (st .ports) ≤ p → isSource (sourceOf x) p ≡ false
+  unfolding sourceOf cellAt
+  no-talker p h = let e : 0 + p ≡ p = omega arith in rw e at (not-source 0 p (x .cells) (no-cell p h))
+
+  unsettled-there : (p : ℕ) → length (st .ports) ≤ p → decideAt st now s x p ≡ unsettled
+  unfolding decideAt columnOf steps isPort first registered entryOf ageKept latencyKept unsettled empty
+  unsettled-there p h = rw (le-ltb p (length (st .ports)) h, no-talker p h, no-cell p h)
+
+  decided-valid : ValidStream (length (st .ports)) now (st .leaveTime) (decide st now s x)
+  unfolding decide
+  decided-valid = record {
+    id = r .id;
+    settled = fixed-valid (sourceOf x) source-fits;
+    eight-cells = r .eight-cells;
+    cells = r .cells;
+    no-other-cells = r .no-other-cells;
+    is-held = r .is-held;
+    eight-results = length-tabulate 8 0 (decideAt st now s x);
+    results = all-tabulate (ValidResult now) 8 0 (decideAt st now s x) result-valid;
+    no-other-results =
+        all-drop-tabulate (λ y. y ≡ unsettled) (length (st .ports)) 8 0 (decideAt st now s x)
+        (λ p h. unsettled-there p (omega arith));
+  }
+
+-- Totals: within the limits of their port, and so none where there is no port.
+
+totals-within : (n p : ℕ) (qs : List Port) (f : ℕ → Totals) →
+    ((i q : ℕ) → p + i ≡ q → (f q .totalA ≤ getD qs i noPort .limitA) × (f q .totalB ≤ getD qs i noPort .limitB)) →
+    totalsWithin (tabulate n p f) qs ≡ true
+unfolding tabulate totalsWithin noPort
+totals-within zero p qs f h = refl
+totals-within (suc n) p [] f h =
+    let here : (f p .totalA ≤ 0) × (f p .totalB ≤ 0) = h 0 p (omega arith) in
+    rw (eq-eqb (f p .totalA) 0 (omega arith), eq-eqb (f p .totalB) 0 (omega arith))
+    (totals-within n (suc p) [] f (λ i q e. h (suc i) q (omega arith)))
+totals-within (suc n) p (q ∷ qs) f h =
+    let here : (f p .totalA ≤ q .limitA) × (f p .totalB ≤ q .limitB) = h 0 p (omega arith) in
+    rw (le-leb (f p .totalA) (q .limitA) (here .0), le-leb (f p .totalB) (q .limitB) (here .1))
+    (totals-within n (suc p) qs f (λ i q e. h (suc i) q (omega arith)))
+
+total-within : (st : Settings) (now : ℕ) (s : List Stream) (p : ℕ) (c : Class) → totalOn st now s p c ≤ limit (portAt st p) c
+unfolding totalOn total limitOn
+total-within st now s p c = within (limit (portAt st p) c) (sort (claims st now p c s))
+
+totals-on-within : (st : Settings) (now : ℕ) (s : List Stream) (p : ℕ) →
+    (totalsOn st now s p .totalA ≤ getD (st .ports) p noPort .limitA) × (totalsOn st now s p .totalB ≤ getD (st .ports) p noPort .limitB)
+unfolding totalsOn limit portAt
+totals-on-within st now s p = (total-within st now s p classA, total-within st now s p classB)
+
+settled-totals : (st : Settings) (now : ℕ) (s : List Stream) → totalsWithin (tabulate 8 0 (totalsOn st now s)) (st .ports) ≡ true
+settled-totals st now s =
+    totals-within 8 0 (st .ports) (totalsOn st now s)
+    (λ i q e. let same : i ≡ q = omega arith in rw same (totals-on-within st now s q))
+
+-- The call.
+
+pub decided-ids : (st : Settings) (now : ℕ) (s l : List Stream) → ids (map (decide st now s) l) ≡ ids l
+unfolding ids decide
+decided-ids st now s [] = refl
+decided-ids st now s (x ∷ l) = ap (λ (is : List ℕ). x .id ∷ is) (decided-ids st now s l)
+
+pub settle-keeps : (b : Bridge) (now : ℕ) → now < 2 ^ 32 → b .clock ≤ now → Valid b → Valid (settle now b)
+unfolding settle
+settle-keeps b now small later v = record {
+  settings = v .settings;
+  clock = small;
+  eight-totals = length-tabulate 8 0 (totalsOn st now s);
+  totals = settled-totals st now s;
+  at-most-64 = rw (length-map s (decide st now s)) (omega (arith, fewer-remain st now (b .streams), v .at-most-64));
+  streams =
+      all-mapped (Remaining ports (b .clock) now (st .leaveTime)) (ValidStream ports now (st .leaveTime)) (decide st now s)
+      (decided-valid st (v .settings .bridgeId) (b .clock) now later s) s
+      (streams-remain st (b .clock) now ports later (b .streams) (v .streams));
+  ascending = rw (decided-ids st now s s) (remain-rising st now (b .streams) (v .ascending));
+}
+  where
+    st : Settings
+    st = b .settings
+
+    ports : ℕ
+    ports = length (st .ports)
+
+    s : List Stream
+    s = remain st now (b .streams)
+
+pub advance-keeps : (b : Bridge) (now : ℕ) → now < 2 ^ 32 → Valid b → Valid (advance b now .bridge)
+unfolding advance
+advance-keeps b now small v = go (ltb now (b .clock)) refl
+  where
+    go : (t : Bool) → ltb now (b .clock) ≡ t →
+        Valid (cond {A = Answer} t record { number = 9; bridge = b } record { number = 0; bridge = settle now b } .bridge)
+    go true e = v
+    go false e = settle-keeps b now small (ltb-false now (b .clock) e) v
+
+-- the settings stay
+pub advance-settings : (b : Bridge) (now : ℕ) → advance b now .bridge .settings ≡ b .settings
+unfolding advance settle
+advance-settings b now = go (ltb now (b .clock))
+  where
+    go : (t : Bool) → cond {A = Answer} t record { number = 9; bridge = b } record { number = 0; bridge = settle now b } .bridge .settings ≡ b .settings
+    go true = refl
+    go false = refl
+
+-- a refusal changes nothing
+pub advance-or-not : (b : Bridge) (now : ℕ) → (advance b now .number ≡ 0) ⊎ (advance b now .bridge ≡ b)
+unfolding advance
+advance-or-not b now = go (ltb now (b .clock))
+  where
+    answer : Bool → Answer
+    answer t = cond t record { number = 9; bridge = b } record { number = 0; bridge = settle now b }
+
+    go : (t : Bool) → (answer t .number ≡ 0) ⊎ (answer t .bridge ≡ b)
+    go true = inr refl
+    go false = inl refl
