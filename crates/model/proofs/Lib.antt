@@ -7,6 +7,7 @@ pub mod SettingsOctets
 pub mod Tables
 pub mod Arrivals
 pub mod Commute
+pub mod FoundVectors
 pub mod FrameOrder
 pub mod Admission
 pub mod ColumnRule

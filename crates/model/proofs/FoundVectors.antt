@@ -1,0 +1,333 @@
+-- What holds of every vector that the walk over a PDU finds, and of the acts that such vectors ask for: each value is within
+-- its field.
+use mathlib.Core.Path.{_≡_, refl, subst}
+use mathlib.Core.List.{List, [], _∷_}
+use mathlib.Core.Bool.{Bool, true, false, cond, not, _||_, true≢false}
+use Prim.Native.Nat.{ℕ, zero, suc, _+_, _*_, _-_, _/_, _%_, _^_, _≤_, _<_}
+use native.Mathlib.Nat.{pow-suc}
+use native.Mathlib.Omega.{arith}
+use lib.ListN.{length, getD}
+use lib.Dec.{ltb, eqb}
+use borrow.Author.Tests.{ltb-false, ne-eqb}
+use Rattle.octets.specs.Be.{beAt}
+use Rattle.octets.specs.Fields.{fields}
+use Rattle.octets.specs.Parts.{part}
+use Rattle.octets.proofs.Parts.{length-part}
+use Rattle.model.specs.Lists.{All, Octet, Octets}
+use Rattle.model.specs.State.{Settings}
+use Rattle.model.specs.Registrations.{Kind, advertises, faileds, listeners, Act, leaveAll, leave, talk, listen, Reading, refused, acts, joins, asks}
+use Rattle.model.specs.Frames.{Attribute, registers, domain, TypeOctet, notAllowed, unknown, known, typeOctet, firstWidths, firstLength, threeLength, fourLength, Vector, vectorAt, vectorEnd, overpacked, runsPast, overflows, Walk, fault, found, also, both, vectors, listLength, listAt, messageEnd, endMark, message, messages, walk, Asking, nothingAsked, join, withdraw, priorityOf, rankOf, fixedValue, healthValue, idValue, hearing, talkerAct, listenerAct, valueActs, valuesActs, leaveAllActs, vectorActs, frameActs, walked, wrongPort, reading}
+use Rattle.model.proofs.Lists.{all-append, all-take, all-drop}
+use Rattle.model.proofs.Valid.{ValidFixed, ValidHealth, ValidVarying}
+
+-- Octets and the numbers in them.
+
+pub octets-part : (at n : ℕ) (s : List ℕ) → Octets s → Octets (part at n s)
+unfolding part
+octets-part at n s o = all-take Octet n _ (all-drop Octet at s o)
+
+pub octet-at : (s : List ℕ) (i : ℕ) → Octets s → getD s i 0 < 256
+octet-at [] i o = omega arith
+octet-at (x ∷ s) zero o = o .0
+octet-at (x ∷ s) (suc i) o = octet-at s i (o .1)
+
+pub beAt-below-width : (n : ℕ) (s : List ℕ) (at : ℕ) → Octets s → beAt n s at < 256 ^ n
+unfolding beAt
+beAt-below-width zero s at o = omega arith
+beAt-below-width (suc n) s at o =
+    let p = pow-suc 256 n in
+    let h : beAt n s at < 256 ^ n = beAt-below-width n s at o in
+    let d : getD s (at + n) 0 < 256 = octet-at s (at + n) o in
+    omega arith
+
+-- A test over all vectors of a walk.
+
+module _ (P : Vector → Type 0) where
+  Every : Walk → Type 0
+  Every (fault n) = Unit {0}
+  Every (found vs) = All P vs
+
+  every-found : (w : Walk) (vs : List Vector) → w ≡ found vs → Every w → All P vs
+  unfolding Every
+  every-found w vs e a = subst Every e a
+
+  every-also : (v : Vector) (w : Walk) → P v → Every w → Every (also v w)
+  unfolding Every also
+  every-also v (fault n) p a = tt
+  every-also v (found vs) p a = (p, a)
+
+  every-both : (w x : Walk) → Every w → Every x → Every (both w x)
+  unfolding Every both
+  every-both (fault n) x a b = tt
+  every-both (found vs) (fault n) a b = tt
+  every-both (found vs) (found ws) a b = all-append P vs ws a b
+
+  -- a test that finds a fault, or passes
+  passing : (t : Bool) (n : ℕ) (w : Walk) → (t ≡ false → Every w) → Every (cond t (fault n) w)
+  unfolding Every
+  passing true n w h = tt
+  passing false n w h = h refl
+
+  -- the EndMark, where there is one, ends what is found
+  ended : (t u : Bool) (w : Walk) → Every w → Every (cond t (cond u (found []) (fault 3)) w)
+  unfolding Every
+  ended true true w a = tt
+  ended true false w a = tt
+  ended false u w a = a
+
+  last : (t : Bool) (w : Walk) → Every w → Every (cond t (found []) w)
+  unfolding Every
+  last true w a = tt
+  last false w a = a
+
+  -- P of each vector that passes the checks of an AttributeList
+  module _ (k : Attribute) (l : List ℕ)
+      (each : (at h : ℕ) → vectorEnd k at h ≤ length l → overpacked (vectorAt k l at h .three) ≡ false →
+      overflows (vectorAt k l at h) ≡ false → P (vectorAt k l at h)) where
+    every-vectors : (f at : ℕ) → Every (vectors f k l at)
+    unfolding vectors
+    every-vectors zero at = unfold Every in tt
+    every-vectors (suc f) at =
+        let h : ℕ = beAt 2 l at in
+        let v : Vector = vectorAt k l at h in
+        passing (ltb (length l) (at + 2)) 3 _ (λ _. ended (eqb h 0) (eqb (at + 2) (length l)) _
+        (passing (ltb 1 (h / 8192)) 6 _ (λ _. passing (ltb (length l) (vectorEnd k at h)) 3 _
+        (λ fits. passing (overpacked (v .three)) 6 _ (λ packed. passing (overflows v) 7 _
+        (λ within. every-also v _ (each at h (ltb-false _ _ fits) packed within) (every-vectors f (vectorEnd k at h))))))))
+
+  -- and of each list of a PDU
+  module _ (s : List ℕ)
+      (each : (k : Attribute) (place at h : ℕ) → vectorEnd k at h ≤ length (listAt s place) →
+      overpacked (vectorAt k (listAt s place) at h .three) ≡ false → overflows (vectorAt k (listAt s place) at h) ≡ false →
+      P (vectorAt k (listAt s place) at h)) where
+    every-message : (t : TypeOctet) (at : ℕ) (rest : Walk) → Every rest → Every (message t s at rest)
+    unfolding message
+    every-message notAllowed at rest a = unfold Every in tt
+    every-message unknown at rest a = passing (ltb (length s) (messageEnd s at)) 3 rest (λ _. a)
+    every-message (known k) at rest a =
+        passing (not (eqb (getD s (at + 1) 0) (firstLength k))) 5 _ (λ _. passing (ltb (length s) (messageEnd s at)) 3 _
+        (λ _. every-both _ rest (every-vectors k (listAt s at) (each k at) (suc (listLength s at)) 0) a))
+
+    every-messages : (f version at : ℕ) → Every (messages f version s at)
+    unfolding messages
+    every-messages zero version at = unfold Every in tt
+    every-messages (suc f) version at =
+        last (eqb at (length s)) _ (last (endMark s at) _ (passing (ltb (length s) (at + 4)) 3 _
+        (λ _. every-message (typeOctet version (getD s at 0)) at _ (every-messages f version (messageEnd s at)))))
+
+    every-walk : (vs : List Vector) → walk s ≡ found vs → All P vs
+    unfolding walk
+    every-walk vs e =
+        every-found (walk s) vs e
+        (passing (eqb (length s) 0) 2 _ (λ _. passing (ltb 1500 (length s)) 2 _ (λ _. every-messages (suc (length s)) (getD s 0 0) 1)))
+
+-- The facts of a vector found.
+
+pub record Sound (v : Vector) : Type 0 where
+  pub values : v .values < 8192
+  pub first : length (v .first) ≡ firstLength (v .attribute)
+  pub three : length (v .three) ≡ threeLength (v .values)
+  pub four : length (v .four) ≡ fourLength (v .attribute) (v .values)
+  pub packed : overpacked (v .three) ≡ false
+  pub within : overflows v ≡ false
+
+-- its parts are octets
+pub record InOctets (v : Vector) : Type 0 where
+  pub first : Octets (v .first)
+  pub three : Octets (v .three)
+  pub four : Octets (v .four)
+
+pub walk-sound : (s : List ℕ) (vs : List Vector) → walk s ≡ found vs → All Sound vs
+walk-sound s vs e = every-walk Sound s (λ k place at h. sound-at k (listAt s place) at h) vs e
+  where
+    sound-at : (k : Attribute) (l : List ℕ) (at h : ℕ) → vectorEnd k at h ≤ length l →
+        overpacked (vectorAt k l at h .three) ≡ false → overflows (vectorAt k l at h) ≡ false → Sound (vectorAt k l at h)
+    sound-at k l at h fits packed within = unfold vectorAt vectorEnd in record {
+      values = omega arith;
+      first = length-part (at + 2) (firstLength k) l (omega arith);
+      three = length-part (at + 2 + firstLength k) (threeLength (h % 8192)) l (omega arith);
+      four = length-part (at + 2 + firstLength k + threeLength (h % 8192)) (fourLength k (h % 8192)) l fits;
+      packed = packed;
+      within = within;
+    }
+
+pub walk-octets : (s : List ℕ) (vs : List Vector) → Octets s → walk s ≡ found vs → All InOctets vs
+walk-octets s vs o e = every-walk InOctets s (λ k place at h _ _ _. octets-at k at h (listAt s place) (unfold listAt in (octets-part _ _ s o))) vs e
+  where
+    octets-at : (k : Attribute) (at h : ℕ) (l : List ℕ) → Octets l → InOctets (vectorAt k l at h)
+    octets-at k at h l o = unfold vectorAt in record { first = octets-part _ _ l o; three = octets-part _ _ l o; four = octets-part _ _ l o }
+
+-- What they ask for.
+
+-- the values of an act are within their fields
+abbrev pub Fits : Act → Type 0
+Fits (leaveAll k) = Unit {0}
+Fits (leave k i) = i < 2 ^ 64
+Fits (talk i f v) = (i < 2 ^ 64) × ValidFixed f × ValidVarying v
+Fits (listen i r) = i < 2 ^ 64
+
+pub or-left : (a b : Bool) → (a || b) ≡ false → a ≡ false
+or-left true b e = e
+or-left false b e = refl
+
+pub or-right : (a b : Bool) → (a || b) ≡ false → b ≡ false
+or-right true b e = absurd (true≢false e)
+or-right false b e = e
+
+-- the last value of a vector runs past no field
+runs-within : (v : Vector) → overflows v ≡ false → 1 ≤ v .values → runsPast (v .attribute) (v .first) (v .values - 1) ≡ false
+unfolding overflows
+runs-within v e h = rw (ne-eqb (v .values) 0 (omega arith)) at e
+
+-- FirstValue with m more values behind it, none of which runs past its field, and the one at n
+module _ (s : List ℕ) (o : Octets s) (m n : ℕ) (h : n ≤ m) where
+  unique-within : (k : Kind) → runsPast (registers k) s m ≡ false → beAt 2 s 6 + m < 65536
+  unfolding runsPast
+  unique-within advertises e = omega (arith, ltb-false 65535 (beAt 2 s 6 + m) (or-left _ _ e))
+  unique-within faileds e = omega (arith, ltb-false 65535 (beAt 2 s 6 + m) (or-left _ _ e))
+  unique-within listeners e = omega (arith, ltb-false 65535 (beAt 2 s 6 + m) e)
+
+  -- StreamID is the MAC address, 6 octets, and Unique ID, 2
+  id-split : beAt 8 s 0 ≡ beAt 6 s 0 * 65536 + beAt 2 s 6
+  unfolding beAt
+  id-split = omega arith
+
+  id-fits : (k : Kind) → runsPast (registers k) s m ≡ false → beAt 8 s 0 + n < 2 ^ 64
+  id-fits k e =
+      let u : beAt 2 s 6 + m < 65536 = unique-within k e in
+      let a : beAt 6 s 0 < 256 ^ 6 = beAt-below-width 6 s 0 o in
+      omega (arith, id-split)
+
+  -- of a Talker, Advertise or Failed
+  module _ (more : List ℕ) (d : beAt 6 s 8 + m < 256 ^ 6) where
+    talkerValues : List ℕ
+    talkerValues = fields (8 ∷ 6 ∷ 2 ∷ 2 ∷ 2 ∷ 1 ∷ 4 ∷ more) 0 s
+
+    fixed-fits : ValidFixed (fixedValue talkerValues n)
+    unfolding fixedValue talkerValues fields priorityOf rankOf
+    fixed-fits =
+        let q : beAt 1 s 20 < 256 ^ 1 = beAt-below-width 1 s 20 o in
+        record {
+          destination = omega arith;
+          vlan = omega (arith, beAt-below-width 2 s 14 o);
+          size = omega (arith, beAt-below-width 2 s 16 o);
+          frames = omega (arith, beAt-below-width 2 s 18 o);
+          priority = omega arith;
+          rank = omega arith;
+        }
+
+    latency-fits : getD talkerValues 6 0 < 2 ^ 32
+    unfolding talkerValues fields
+    latency-fits = omega (arith, beAt-below-width 4 s 21 o)
+
+talker-fits : (k : Kind) (vs : List ℕ) (n : ℕ) (a : Asking) → idValue vs n < 2 ^ 64 → ValidFixed (fixedValue vs n) →
+    ValidHealth (healthValue k vs) → getD vs 6 0 < 2 ^ 32 → All Fits (talkerAct k vs n a)
+unfolding talkerAct
+talker-fits k vs n nothingAsked i f h l = tt
+talker-fits k vs n join i f h l = ((i, f, record { health = h; latency = l }), tt)
+talker-fits k vs n withdraw i f h l = (i, tt)
+
+hearing-fits : (i f : ℕ) → i < 2 ^ 64 → All Fits (hearing i f)
+unfolding hearing
+hearing-fits i zero h = tt
+hearing-fits i (suc zero) h = (h, tt)
+hearing-fits i (suc (suc zero)) h = (h, tt)
+hearing-fits i (suc (suc (suc f))) h = (h, tt)
+
+listener-fits : (vs : List ℕ) (n : ℕ) (a : Asking) (f : ℕ) → idValue vs n < 2 ^ 64 → All Fits (listenerAct vs n a f)
+unfolding listenerAct
+listener-fits vs n nothingAsked f i = tt
+listener-fits vs n join f i = hearing-fits (idValue vs n) f i
+listener-fits vs n withdraw f i = go (eqb f 0)
+  where
+    go : (t : Bool) → All Fits (cond t [] (leave listeners (idValue vs n) ∷ []))
+    go true = tt
+    go false = (i, tt)
+
+destination-within : (t : Bool) (d : ℕ) → (t || ltb 281474976710655 d) ≡ false → d < 256 ^ 6
+destination-within t d e = omega (arith, ltb-false 281474976710655 d (or-right t _ e))
+
+value-fits : (v : Vector) (n : ℕ) → Octets (v .first) → overflows v ≡ false → n < v .values → All Fits (valueActs v n)
+unfolding valueActs idValue fields firstWidths healthValue runsPast talkerValues
+value-fits v n o e h = go (v .attribute) (runs-within v e (omega arith))
+  where
+    s : List ℕ
+    s = v .first
+
+    m : ℕ
+    m = v .values - 1
+
+    l : n ≤ m
+    l = omega arith
+
+    of : Attribute → Vector
+    of k = record { attribute = k; leavesAll = v .leavesAll; values = v .values; first = v .first; three = v .three; four = v .four }
+
+    go : (k : Attribute) → runsPast k s m ≡ false → All Fits (valueActs (of k) n)
+    go (registers advertises) r =
+        let d : beAt 6 s 8 + m < 256 ^ 6 = destination-within (ltb 65535 (beAt 2 s 6 + m)) (beAt 6 s 8 + m) r in
+        talker-fits advertises _ n _ (id-fits s o m n l advertises r) (fixed-fits s o m n l [] d) tt (latency-fits s o m n l [] d)
+    go (registers faileds) r =
+        let d : beAt 6 s 8 + m < 256 ^ 6 = destination-within (ltb 65535 (beAt 2 s 6 + m)) (beAt 6 s 8 + m) r in
+        let b : beAt 8 s 25 < 2 ^ 64 = omega (arith, beAt-below-width 8 s 25 o) in
+        let c : beAt 1 s 33 < 256 = omega (arith, beAt-below-width 1 s 33 o) in
+        talker-fits faileds _ n _ (id-fits s o m n l faileds r) (fixed-fits s o m n l (8 ∷ 1 ∷ []) d) (b, c) (latency-fits s o m n l (8 ∷ 1 ∷ []) d)
+    go (registers listeners) r = listener-fits _ n _ _ (id-fits s o m n l listeners r)
+    go domain r = tt
+
+values-fit : (v : Vector) (n k : ℕ) → Octets (v .first) → overflows v ≡ false → n + k ≤ v .values → All Fits (valuesActs v n k)
+unfolding valuesActs
+values-fit v n zero o e h = tt
+values-fit v n (suc k) o e h =
+    all-append Fits (valueActs v n) (valuesActs v (suc n) k) (value-fits v n o e (omega arith)) (values-fit v (suc n) k o e (omega arith))
+
+vector-fits : (v : Vector) → Octets (v .first) → overflows v ≡ false → All Fits (vectorActs v)
+unfolding vectorActs leaveAllActs
+vector-fits v o e =
+    all-append Fits (leaveAllActs (v .attribute) (v .leavesAll)) (valuesActs v 0 (v .values)) (go (v .attribute) (v .leavesAll))
+    (values-fit v 0 (v .values) o e (omega arith))
+  where
+    go : (k : Attribute) (t : Bool) → All Fits (leaveAllActs k t)
+    go (registers k) true = (tt, tt)
+    go (registers k) false = tt
+    go domain t = tt
+
+vectors-fit : (vs : List Vector) → All Sound vs → All InOctets vs → All Fits (frameActs vs)
+unfolding frameActs
+vectors-fit [] a o = tt
+vectors-fit (v ∷ vs) a o =
+    all-append Fits (vectorActs v) (frameActs vs) (vector-fits v (o .0 .first) (a .0 .within)) (vectors-fit vs (a .1) (o .1))
+
+-- every act of a PDU has its values within their fields
+pub acts-fit : (s : List ℕ) (vs : List Vector) → Octets s → walk s ≡ found vs → All Fits (frameActs vs)
+acts-fit s vs o e = vectors-fit vs (walk-sound s vs e) (walk-octets s vs o e)
+
+-- and so of a frame on a port
+abbrev pub FitsReading : Reading → Type 0
+FitsReading (refused n) = Unit {0}
+FitsReading (acts es) = All Fits es
+
+pub reading-fits : (st : Settings) (p : ℕ) (pdu : List ℕ) → Octets pdu → FitsReading (reading st p pdu)
+unfolding reading
+reading-fits st p pdu o = go (wrongPort st p) (walk pdu) refl
+  where
+    go : (t : Bool) (w : Walk) → walk pdu ≡ w → FitsReading (cond t (refused 1) (walked w))
+    go true w e = tt
+    go false (fault n) e = unfold walked in tt
+    go false (found vs) e = unfold walked in acts-fit pdu vs o e
+
+-- every StreamID that a frame asks to join is below 2^64
+joins-small : (es : List Act) → All Fits es → All (λ i. i < 2 ^ 64) (joins es)
+unfolding joins
+joins-small [] a = tt
+joins-small (leaveAll k ∷ es) a = joins-small es (a .1)
+joins-small (leave k i ∷ es) a = joins-small es (a .1)
+joins-small (talk i f v ∷ es) a = (a .0 .0, joins-small es (a .1))
+joins-small (listen i r ∷ es) a = (a .0, joins-small es (a .1))
+
+pub asks-small : (st : Settings) (p : ℕ) (pdu : List ℕ) → Octets pdu → All (λ i. i < 2 ^ 64) (asks (reading st p pdu))
+asks-small st p pdu o = go (reading st p pdu) (reading-fits st p pdu o)
+  where
+    go : (r : Reading) → FitsReading r → All (λ i. i < 2 ^ 64) (asks r)
+    go (refused n) f = unfold asks in tt
+    go (acts es) f = unfold asks in joins-small es f
