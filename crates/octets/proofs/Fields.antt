@@ -5,7 +5,7 @@ use native.Mathlib.Nat.{zero-add, suc-mul, pow-suc}
 use native.Mathlib.Omega.{arith}
 use mathlib.Core.Path.{_≡_, refl, sym, ap, _∙_}
 use mathlib.Core.List.{List, [], _∷_, _++_, append-assoc}
-use lib.ListN.{length, getD, take, drop, length-append, List·getD-append}
+use lib.ListN.{length, getD, drop, length-append, List·getD-append}
 use lib.Seq.{getD-append-add, take-add, drop-drop}
 use Rattle.octets.specs.Be.{beAt, be}
 use Rattle.octets.specs.Fields.{fields, packed, Fit, width, flat}
@@ -171,8 +171,3 @@ module _ {A : Type 0} (to : A → List ℕ) where
   unfolding flat
   length-flat n h [] = omega arith
   length-flat n h (a ∷ l) = omega (arith, length-append (to a) (flat to l), h a, length-flat n h l, suc-mul (length l) n)
-
-  pub octets-flat : ((a : A) (i : ℕ) → getD (to a) i 0 < 256) → (l : List A) (i : ℕ) → getD (flat to l) i 0 < 256
-  unfolding flat
-  octets-flat h [] i = omega arith
-  octets-flat h (a ∷ l) i = octets-append (to a) (flat to l) (h a) (octets-flat h l) i
