@@ -1,1 +1,321 @@
--- To be filled.
+-- Settings as octets and back: nothing is lost either way, and the octets that keep the rules are those of valid settings.
+use mathlib.Core.Path.{_≡_, refl, sym, _∙_, ap}
+use mathlib.Core.List.{List, [], _∷_, _++_, append-assoc, append-nil}
+use mathlib.Core.Bool.{Bool, true, false}
+use Prim.Native.Nat.{ℕ, zero, suc, _+_, _*_, _/_, _%_, _≤_, _<_}
+use native.Mathlib.Nat.{add-zero, mul-comm}
+use native.Mathlib.Omega.{arith}
+use lib.ListN.{length, getD, take, drop, length-append, length-drop}
+use lib.Seq.{take-add, take-all, drop-at}
+use lib.Dec.{eqb}
+use borrow.Author.Tests.{eq-eqb, ne-eqb, eqb-true, eqb-false, le-leb, leb-true, not-true}
+use Rattle.octets.specs.Be.{beAt}
+use Rattle.octets.specs.Fields.{fields, packed, Fit, width, flat}
+use Rattle.octets.specs.Parts.{part}
+use Rattle.octets.proofs.Fields.{length-packed-any, length-flat, fields-packed, fields-of-packed, packed-fields, fields-fit, beAt-fits}
+use Rattle.model.specs.Lists.{All, allTrue, bit, isOne, Octets}
+use Rattle.model.specs.State.{Port, Settings}
+use Rattle.model.specs.Table.{headWidths, portWidths, portNumbers, portFrom, portOctets, toPort, headWord, settingsOctets, portsField, toSettings, portRule, everyPart, settingsRules, settingsFormed}
+use Rattle.model.proofs.Parts.{parts-flat, length-parts, octets-at, octets-drop, octets-append, octets-packed, octets-flat, every-read, every-flat, every-forth}
+use Rattle.model.proofs.Lists.{all-map, all-each, and-left, and-right, and-both, all-true, true-all}
+use Rattle.model.proofs.Valid.{ValidPort, ValidSettings}
+
+-- The flags of a port, in one octet.
+
+bit-one : (k : ℕ) → k < 2 → bit (isOne k) ≡ k
+unfolding bit isOne
+bit-one zero h = refl
+bit-one (suc zero) h = refl
+bit-one (suc (suc k)) h = absurd (omega arith)
+
+bit-small : (b : Bool) → bit b < 2
+unfolding bit
+bit-small true = omega arith
+bit-small false = omega arith
+
+one-bit : (b : Bool) → isOne (bit b) ≡ b
+unfolding bit isOne
+one-bit true = refl
+one-bit false = refl
+
+-- the numbers of a port are read as it
+port-read : (q : Port) → portFrom (portNumbers q) ≡ q
+unfolding portFrom portNumbers
+port-read q =
+    let a = bit-small (q .supportsA) in
+    let b = bit-small (q .supportsB) in
+    let t = bit-small (q .sendsTwice) in
+    let f : ℕ = bit (q .supportsA) * 128 + bit (q .supportsB) * 64 + bit (q .sendsTwice) * 32 in
+    let u : f / 128 ≡ bit (q .supportsA) = omega arith in
+    let v : f / 64 % 2 ≡ bit (q .supportsB) = omega arith in
+    let w : f / 32 % 2 ≡ bit (q .sendsTwice) = omega arith in
+    rw (u, v, w, one-bit (q .supportsA), one-bit (q .supportsB), one-bit (q .sendsTwice))
+
+-- numbers that fit, with "zero 5" after the flags, are those of the port that they are read as
+numbers-back : (f o m a b c d : ℕ) → f < 256 → f % 32 ≡ 0
+    → portNumbers (portFrom (f ∷ o ∷ m ∷ a ∷ b ∷ c ∷ d ∷ [])) ≡ f ∷ o ∷ m ∷ a ∷ b ∷ c ∷ d ∷ []
+unfolding portFrom portNumbers
+numbers-back f o m a b c d h z =
+    rw (bit-one (f / 128) (omega arith), bit-one (f / 64 % 2) (omega arith), bit-one (f / 32 % 2) (omega arith))
+    (ap (λ (x : ℕ). x ∷ o ∷ m ∷ a ∷ b ∷ c ∷ d ∷ []) (omega arith))
+
+port-fits : (q : Port) → ValidPort q → Fit portWidths (portNumbers q)
+unfolding Fit portWidths portNumbers
+port-fits q v =
+    let a = bit-small (q .supportsA) in
+    let b = bit-small (q .supportsB) in
+    let t = bit-small (q .sendsTwice) in
+    (omega arith, (v .overhead, (v .largest, (v .limitA, (v .limitB, (v .latencyA, (v .latencyB, tt)))))))
+
+port-flags : (q : Port) → (getD (portNumbers q) 0 0) % 32 ≡ 0
+unfolding portNumbers
+port-flags q = omega arith
+
+port-from : (s : List ℕ) → Fit portWidths (fields portWidths 0 s) → ValidPort (toPort s)
+unfolding Fit portWidths fields toPort portFrom
+port-from s f = record {
+  overhead = f .1 .0;
+  largest = f .1 .1 .0;
+  limitA = f .1 .1 .1 .0;
+  limitB = f .1 .1 .1 .1 .0;
+  latencyA = f .1 .1 .1 .1 .1 .0;
+  latencyB = f .1 .1 .1 .1 .1 .1 .0;
+}
+
+-- A port's octets.
+
+-- a field of one octet
+pub octet-field : (s : List ℕ) (i : ℕ) → beAt 1 s i ≡ getD s i 0
+unfolding beAt
+octet-field s i = rw add-zero (omega arith)
+
+pub port-length : (q : Port) → length (portOctets q) ≡ 22
+unfolding portOctets portNumbers portWidths
+port-length q = length-packed-any portWidths (portNumbers q) refl ∙ (unfold width in refl)
+
+ports-sized : (l : List Port) → All (λ q. length (portOctets q) ≡ 22) l
+ports-sized = all-each (λ q. length (portOctets q) ≡ 22) port-length
+
+pub port-back : (q : Port) → ValidPort q → toPort (portOctets q) ≡ q
+unfolding toPort portOctets
+port-back q v = rw (fields-of-packed portWidths (portNumbers q) (port-fits q v)) (port-read q)
+
+-- the first number is the octet of the flags
+first-flags : (s : List ℕ) → getD (fields portWidths 0 s) 0 0 ≡ getD s 0 0
+unfolding fields portWidths
+first-flags s = octet-field s 0
+
+pub port-formed : (q : Port) → ValidPort q → portRule (portOctets q) ≡ true
+unfolding portRule portOctets
+port-formed q v =
+    let f = fields-of-packed portWidths (portNumbers q) (port-fits q v) in
+    let e = sym (first-flags (packed portWidths (portNumbers q))) ∙ ap (λ (vs : List ℕ). getD vs 0 0) f in
+    rw e (eq-eqb (getD (portNumbers q) 0 0 % 32) 0 (port-flags q))
+
+numbers-forth : (s : List ℕ) → getD s 0 0 < 256 → portRule s ≡ true → portNumbers (toPort s) ≡ fields portWidths 0 s
+unfolding toPort portRule fields portWidths
+numbers-forth s h r =
+    let e = octet-field s 0 in
+    let z : getD s 0 0 % 32 ≡ 0 = eqb-true (getD s 0 0 % 32) 0 r in
+    numbers-back (beAt 1 s 0) (beAt 1 s 1) (beAt 2 s 2) (beAt 5 s 4) (beAt 5 s 9) (beAt 4 s 14) (beAt 4 s 18) (omega arith) (rw e z)
+
+pub part-all : (n : ℕ) (s : List ℕ) → length s ≤ n → part 0 n s ≡ s
+unfolding part
+part-all n s h = take-all n s h
+
+pub port-forth : (s : List ℕ) → length s ≡ 22 → Octets s → portRule s ≡ true → portOctets (toPort s) ≡ s
+unfolding portOctets
+port-forth s l o r =
+    let w : width portWidths ≡ 22 = unfold width portWidths in refl in
+    ap (packed portWidths) (numbers-forth s (octets-at s o 0) r)
+    ∙ packed-fields portWidths 0 s (omega arith) (octets-at s o)
+    ∙ part-all (width portWidths) s (omega arith)
+
+pub port-valid : (s : List ℕ) → length s ≡ 22 → Octets s → portRule s ≡ true → ValidPort (toPort s)
+port-valid s l o r = port-from s (fields-fit portWidths 0 s (octets-at s o))
+
+-- What is read from the octets of settings, whatever follows them.
+
+abbrev head : Settings → List ℕ
+head st = packed headWidths (st .bridgeId ∷ headWord st ∷ [])
+
+head-length : (st : Settings) → length (head st) ≡ 11
+unfolding headWidths
+head-length st = length-packed-any headWidths (st .bridgeId ∷ headWord st ∷ []) refl ∙ (unfold width in refl)
+
+head-split : (st : Settings) (rest : List ℕ) → settingsOctets st ++ rest ≡ head st ++ (flat portOctets (st .ports) ++ rest)
+unfolding settingsOctets
+head-split st rest = append-assoc (head st) (flat portOctets (st .ports)) rest
+
+pub settings-length : (st : Settings) → length (settingsOctets st) ≡ 11 + 22 * length (st .ports)
+unfolding settingsOctets
+settings-length st =
+    length-append (head st) (flat portOctets (st .ports)) ∙ omega (arith, head-length st, length-flat portOctets 22 port-length (st .ports))
+
+module _ (st : Settings) (v : ValidSettings st) where
+  head-fits : Fit headWidths (st .bridgeId ∷ headWord st ∷ [])
+  unfolding Fit headWidths headWord
+  head-fits = (v .bridgeId, (omega arith, tt))
+
+  -- whatever follows
+  module _ (rest : List ℕ) where
+    head-read : fields headWidths 0 (settingsOctets st ++ rest) ≡ st .bridgeId ∷ headWord st ∷ []
+    head-read = rw (head-split st rest) (fields-packed headWidths (st .bridgeId ∷ headWord st ∷ []) (flat portOctets (st .ports) ++ rest) head-fits)
+
+    id-read : beAt 8 (settingsOctets st ++ rest) 0 ≡ st .bridgeId
+    unfolding fields headWidths
+    id-read = ap (λ (vs : List ℕ). getD vs 0 0) head-read
+
+    word-read : beAt 3 (settingsOctets st ++ rest) 8 ≡ headWord st
+    unfolding fields headWidths
+    word-read = ap (λ (vs : List ℕ). getD vs 1 0) head-read
+
+    pub ports-read : portsField (settingsOctets st ++ rest) ≡ length (st .ports)
+    unfolding portsField headWord
+    ports-read = rw word-read (omega arith)
+
+    a-read : beAt 3 (settingsOctets st ++ rest) 8 / 131072 % 8 ≡ st .priorityA
+    unfolding headWord
+    a-read = rw word-read (omega arith)
+
+    b-read : beAt 3 (settingsOctets st ++ rest) 8 / 16384 % 8 ≡ st .priorityB
+    unfolding headWord
+    b-read = rw word-read (omega arith)
+
+    leave-read : beAt 3 (settingsOctets st ++ rest) 8 % 16384 ≡ st .leaveTime
+    unfolding headWord
+    leave-read = rw word-read (omega arith)
+
+    behind-head : drop 11 (settingsOctets st ++ rest) ≡ flat portOctets (st .ports) ++ rest
+    behind-head = rw (head-split st rest) (drop-at (head st) (flat portOctets (st .ports) ++ rest) 11 (head-length st))
+
+    pub settings-back : toSettings (settingsOctets st ++ rest) ≡ st
+    unfolding toSettings
+    settings-back =
+        let ps =
+        parts-flat 22 portOctets toPort (st .ports) rest (ports-sized (st .ports))
+        (all-map ValidPort (λ q. toPort (portOctets q) ≡ q) port-back (st .ports) (v .ports)) in
+        rw (ports-read, behind-head, id-read, a-read, b-read, leave-read, ps)
+
+    pub settings-rules : allTrue (settingsRules (settingsOctets st ++ rest)) ≡ true
+    unfolding settingsRules
+    settings-rules =
+        let n = length (st .ports) in
+        let ps =
+        every-flat 22 portOctets portRule (st .ports) rest (ports-sized (st .ports))
+        (all-map ValidPort (λ q. portRule (portOctets q) ≡ true) port-formed (st .ports) (v .ports)) in
+        let d = ne-eqb (st .priorityA) (st .priorityB) (v .different) in
+        true-all (settingsRules (settingsOctets st ++ rest))
+        (rw (ports-read, behind-head, a-read, b-read, leave-read, d)
+        (le-leb 1 n (v .some-port), (le-leb n 8 (v .eight-ports), (refl, (le-leb 1 (st .leaveTime) (v .leaves), (ps, tt))))))
+
+-- Octets that keep the rules are those of the settings that they are read as.
+
+-- the head word is made of its four fields
+word-back : (w : ℕ) → ((w / 1048576 * 8 + w / 131072 % 8) * 8 + w / 16384 % 8) * 16384 + w % 16384 ≡ w
+word-back w = omega arith
+
+head-word : (s : List ℕ) → headWord (toSettings s) ≡ beAt 3 s 8
+unfolding headWord toSettings portsField
+head-word s = rw (length-parts 22 toPort (beAt 3 s 8 / 1048576) (drop 11 s)) (word-back (beAt 3 s 8))
+
+head-forth : (s : List ℕ) → 11 ≤ length s → Octets s → head (toSettings s) ≡ take 11 s
+unfolding headWidths toSettings fields width part
+head-forth s h o = rw (head-word s) (packed-fields headWidths 0 s h (octets-at s o))
+
+-- the rules as facts
+module _ (s : List ℕ) (r : allTrue (settingsRules s) ≡ true) where
+  rules : All (λ b. b ≡ true) (settingsRules s)
+  rules = all-true (settingsRules s) r
+
+  pub some-ports : 1 ≤ portsField s
+  unfolding settingsRules
+  some-ports = leb-true 1 (portsField s) (rules .0)
+
+  pub eight-ports : portsField s ≤ 8
+  unfolding settingsRules
+  eight-ports = leb-true (portsField s) 8 (rules .1 .0)
+
+  different : beAt 3 s 8 / 131072 % 8 ≡ beAt 3 s 8 / 16384 % 8 → ⊥
+  unfolding settingsRules
+  different = eqb-false (beAt 3 s 8 / 131072 % 8) (beAt 3 s 8 / 16384 % 8) (not-true (eqb (beAt 3 s 8 / 131072 % 8) (beAt 3 s 8 / 16384 % 8)) (rules .1 .1 .0))
+
+  leaves : 1 ≤ beAt 3 s 8 % 16384
+  unfolding settingsRules
+  leaves = leb-true 1 (beAt 3 s 8 % 16384) (rules .1 .1 .1 .0)
+
+  port-rules : everyPart 22 portRule (portsField s) (drop 11 s) ≡ true
+  unfolding settingsRules
+  port-rules = rules .1 .1 .1 .1 .0
+
+pub settings-ports : (s : List ℕ) → length (toSettings s .ports) ≡ portsField s
+unfolding toSettings
+settings-ports s = length-parts 22 toPort (portsField s) (drop 11 s)
+
+module _ (s : List ℕ) (o : Octets s) (h : 11 + 22 * portsField s ≤ length s) (r : allTrue (settingsRules s) ≡ true) where
+  ports-room : portsField s * 22 ≤ length (drop 11 s)
+  ports-room = omega (arith, length-drop 11 s)
+
+  -- what follows the settings does not matter
+  pub settings-taken : settingsOctets (toSettings s) ≡ take (11 + 22 * portsField s) s
+  unfolding settingsOctets toSettings
+  settings-taken =
+      let f =
+      every-forth 22 portRule toPort portOctets port-forth (portsField s) (drop 11 s) ports-room (octets-drop 11 s o) (port-rules s r) in
+      rw (f, head-forth s (omega arith) o, mul-comm (portsField s) 22) (sym (take-add 11 (22 * portsField s) s))
+
+  pub settings-valid : ValidSettings (toSettings s)
+  unfolding toSettings
+  settings-valid =
+      let w = beAt 3 s 8 in
+      record {
+        bridgeId = beAt-fits 8 s 0 (octets-at s o);
+        priorityA = omega arith;
+        priorityB = omega arith;
+        different = different s r;
+        leaves = leaves s r;
+        leaveTime = omega arith;
+        some-port = omega (arith, settings-ports s, some-ports s r);
+        eight-ports = omega (arith, settings-ports s, eight-ports s r);
+        ports = every-read 22 portRule toPort ValidPort port-valid (portsField s) (drop 11 s) ports-room (octets-drop 11 s o) (port-rules s r);
+      }
+
+-- the settings of a table have room for eight ports
+pub settings-room : (s : List ℕ) → length s ≡ 187 → allTrue (settingsRules s) ≡ true → 11 + 22 * portsField s ≤ length s
+settings-room s l r = omega (arith, eight-ports s r)
+
+-- Settings as they are handed to start: "Length 11 + 22 x ports".
+
+pub settings-formed : (st : Settings) → ValidSettings st → settingsFormed (settingsOctets st) ≡ true
+unfolding settingsFormed
+settings-formed st v =
+    let s = settingsOctets st in
+    let e : portsField s ≡ length (st .ports) = ap portsField (sym (append-nil s)) ∙ ports-read st v [] in
+    let r : allTrue (settingsRules s) ≡ true = ap (λ (t : List ℕ). allTrue (settingsRules t)) (sym (append-nil s)) ∙ settings-rules st v [] in
+    and-both (eqb (length s) (11 + 22 * portsField s)) (allTrue (settingsRules s)) (eq-eqb (length s) (11 + 22 * portsField s) (omega (arith, settings-length st))) r
+
+module _ (s : List ℕ) (f : settingsFormed s ≡ true) where
+  pub formed-length : length s ≡ 11 + 22 * portsField s
+  unfolding settingsFormed
+  formed-length = eqb-true (length s) (11 + 22 * portsField s) (and-left (eqb (length s) (11 + 22 * portsField s)) (allTrue (settingsRules s)) f)
+
+  pub formed-rules : allTrue (settingsRules s) ≡ true
+  unfolding settingsFormed
+  formed-rules = and-right (eqb (length s) (11 + 22 * portsField s)) (allTrue (settingsRules s)) f
+
+module _ (s : List ℕ) (o : Octets s) (f : settingsFormed s ≡ true) where
+  pub settings-forth : settingsOctets (toSettings s) ≡ s
+  settings-forth =
+      let l = formed-length s f in
+      settings-taken s o (omega arith) (formed-rules s f) ∙ take-all (11 + 22 * portsField s) s (omega arith)
+
+  pub formed-valid : ValidSettings (toSettings s)
+  formed-valid =
+      let l = formed-length s f in
+      settings-valid s o (omega arith) (formed-rules s f)
+
+pub octets-settings : (st : Settings) → Octets (settingsOctets st)
+unfolding settingsOctets portOctets
+octets-settings st =
+    octets-append (head st) (flat portOctets (st .ports)) (octets-packed headWidths (st .bridgeId ∷ headWord st ∷ []))
+    (octets-flat portOctets (λ q. octets-packed portWidths (portNumbers q)) (st .ports))
