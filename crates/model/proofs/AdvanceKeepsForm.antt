@@ -415,9 +415,9 @@ advance-settings b now = go (ltb now (b .clock))
     go false = refl
 
 -- a refusal changes nothing
-pub advance-or-not : (b : Bridge) (now : ℕ) → (advance b now .number ≡ 0) ⊎ (advance b now .bridge ≡ b)
+pub advance-accepted-or-unchanged : (b : Bridge) (now : ℕ) → (advance b now .number ≡ 0) ⊎ (advance b now .bridge ≡ b)
 unfolding advance
-advance-or-not b now = go (ltb now (b .clock))
+advance-accepted-or-unchanged b now = go (ltb now (b .clock))
   where
     answer : Bool → Answer
     answer t = cond t record { number = 9; bridge = b } record { number = 0; bridge = settle now b }

@@ -1,1 +1,390 @@
--- To be filled.
+-- Receive, accepted or refused, leaves a bridge that keeps the form rules, its settings and its clock.
+use mathlib.Core.Path.{_≡_, refl, _∙_, ap, ap₂}
+use mathlib.Core.Logic.{_⊎_, inl, inr}
+use mathlib.Core.List.{List, [], _∷_, map}
+use mathlib.Core.Bool.{Bool, true, false, cond, _||_, false≢true}
+use Prim.Native.Nat.{ℕ, zero, suc, _-_, _^_, _≤_, _<_}
+use native.Mathlib.Omega.{arith}
+use lib.ListN.{length, drop, replicate}
+use lib.Dec.{ltb, leb, eqb}
+use borrow.Author.Tests.{ltb-true, ltb-false, leb-true, eqb-false}
+use Rattle.model.specs.Lists.{All, Octets}
+use Rattle.model.specs.State.{Settings, Leaving, stays, since, Fixed, Varying, Talker, noTalker, talker, Listener, noListener, listener, Ready, Cell, Stream, Bridge, empty, unsettled, noFixed, blank, fresh}
+use Rattle.model.specs.Registrations.{Kind, Act, leaveAll, leave, talk, listen, begin, talksAs, hearsAs, quitTalker, quitListener, quit, sameFixed, joinTalker, does, at, change, begun, touch, reach, apply, applyAll, Reading, refused, acts, Answer, holding, received, ids}
+use Rattle.model.specs.Frames.{wrongPort, reading}
+use Rattle.model.specs.Settling.{isTalking, isHearing, held}
+use Rattle.model.specs.Calls.{receive}
+use Rattle.model.proofs.Lists.{all-map, all-drop, all-replicate}
+use Rattle.model.proofs.Valid.{ValidLeaving, ValidFixed, ValidVarying, ValidTalker, ValidListener, ValidCell, ValidResult, ValidStream, Rising, Valid}
+use Rattle.model.proofs.FoundVectors.{Fits, FitsReading, reading-fits, or-left, or-right}
+use Rattle.model.proofs.AdvanceKeepsForm.{all-mapped, unsettled-valid}
+
+-- One cell: an act keeps it valid. A leaving begins at the clock, so less than the leave time before it.
+
+module _ (clock leaveTime : ℕ) (leaves : 1 ≤ leaveTime) where
+  begun-leaving : (l : Leaving) → ValidLeaving clock leaveTime l → ValidLeaving clock leaveTime (begin clock l)
+  unfolding begin
+  begun-leaving stays v = omega arith
+  begun-leaving (since t) v = v
+
+  left-or-not : (t : Bool) (l : Leaving) → ValidLeaving clock leaveTime l → ValidLeaving clock leaveTime (cond t (begin clock l) l)
+  left-or-not true l v = begun-leaving l v
+  left-or-not false l v = v
+
+  talker-quits : (k : Kind) (t : Talker) → ValidTalker clock leaveTime t → ValidTalker clock leaveTime (quitTalker clock k t)
+  unfolding quitTalker
+  talker-quits k noTalker v = tt
+  talker-quits k (talker f w m l) v = (v .0, v .1, left-or-not (talksAs k (w .health)) l (v .2))
+
+  listener-quits : (k : Kind) (t : Listener) → ValidListener clock leaveTime t → ValidListener clock leaveTime (quitListener clock k t)
+  unfolding quitListener
+  listener-quits k noListener v = tt
+  listener-quits k (listener r l) v = left-or-not (hearsAs k) l v
+
+  cell-quits : (k : Kind) (c : Cell) → ValidCell clock leaveTime c → ValidCell clock leaveTime (quit clock k c)
+  unfolding quit
+  cell-quits k c v = record { talks = talker-quits k (c .talks) (v .talks); hears = listener-quits k (c .hears) (v .hears) }
+
+  talker-joins : (f : Fixed) (v : Varying) → ValidFixed f → ValidVarying v → (t : Talker) → ValidTalker clock leaveTime t →
+      ValidTalker clock leaveTime (joinTalker f v t)
+  unfolding joinTalker
+  talker-joins f v vf vv noTalker w = (vf, vv, tt)
+  talker-joins f v vf vv (talker g u m l) w = go (sameFixed f g)
+    where
+      go : (t : Bool) → ValidTalker clock leaveTime (cond t (talker g v false stays) (talker g u true stays))
+      go true = (w .0, vv, tt)
+      go false = (w .0, w .1, tt)
+
+  does-valid : (a : Act) → Fits a → (c : Cell) → ValidCell clock leaveTime c → ValidCell clock leaveTime (does clock a c)
+  unfolding does
+  does-valid (leaveAll k) h c v = cell-quits k c v
+  does-valid (leave k i) h c v = cell-quits k c v
+  does-valid (talk i f w) h c v = record { talks = talker-joins f w (h .1) (h .2) (c .talks) (v .talks); hears = v .hears }
+  does-valid (listen i r) h c v = record { talks = v .talks; hears = tt }
+
+-- A registration stays on its port, leaving or not, and a join puts one there.
+
+unfoldable onPort : Cell → Bool
+onPort c = isTalking c || isHearing c
+
+quit-talks : (now : ℕ) (k : Kind) (t : Talker) (h g : Listener) →
+    isTalking record { talks = quitTalker now k t; hears = h } ≡ isTalking record { talks = t; hears = g }
+unfolding isTalking quitTalker
+quit-talks now k noTalker h g = refl
+quit-talks now k (talker f v m l) h g = refl
+
+quit-hears : (now : ℕ) (k : Kind) (t u : Talker) (h : Listener) →
+    isHearing record { talks = t; hears = quitListener now k h } ≡ isHearing record { talks = u; hears = h }
+unfolding isHearing quitListener
+quit-hears now k t u noListener = refl
+quit-hears now k t u (listener r l) = refl
+
+quit-stays : (now : ℕ) (k : Kind) (c : Cell) → onPort (quit now k c) ≡ onPort c
+unfolding onPort quit
+quit-stays now k c = ap₂ _||_ (quit-talks now k (c .talks) _ (c .hears)) (quit-hears now k _ (c .talks) (c .hears))
+
+talk-joins : (f : Fixed) (v : Varying) (t : Talker) (h : Listener) → onPort record { talks = joinTalker f v t; hears = h } ≡ true
+unfolding onPort isTalking joinTalker
+talk-joins f v noTalker h = refl
+talk-joins f v (talker g w m l) h = go (sameFixed f g)
+  where
+    go : (b : Bool) → onPort record { talks = cond b (talker g v false stays) (talker g w true stays); hears = h } ≡ true
+    go true = refl
+    go false = refl
+
+or-true : (a : Bool) → (a || true) ≡ true
+or-true true = refl
+or-true false = refl
+
+or-map : (a a′ b b′ : Bool) → (a ≡ true → a′ ≡ true) → (b ≡ true → b′ ≡ true) → (a || b) ≡ true → (a′ || b′) ≡ true
+or-map true a′ b b′ f g h = rw (f refl)
+or-map false a′ b b′ f g h = rw (g h) (or-true a′)
+
+listen-joins : (t : Talker) (r : Ready) → onPort record { talks = t; hears = listener r stays } ≡ true
+unfolding onPort isHearing
+listen-joins t r = or-true (isTalking record { talks = t; hears = listener r stays })
+
+talk-puts : (now i : ℕ) (f : Fixed) (v : Varying) (c : Cell) → onPort (does now (talk i f v) c) ≡ true
+unfolding does
+talk-puts now i f v c = talk-joins f v (c .talks) (c .hears)
+
+listen-puts : (now i : ℕ) (r : Ready) (c : Cell) → onPort (does now (listen i r) c) ≡ true
+unfolding does
+listen-puts now i r c = listen-joins (c .talks) r
+
+does-stays : (now : ℕ) (a : Act) (c : Cell) → onPort c ≡ true → onPort (does now a c) ≡ true
+unfolding does
+does-stays now (leaveAll k) c h = quit-stays now k c ∙ h
+does-stays now (leave k i) c h = quit-stays now k c ∙ h
+does-stays now (talk i f v) c h = talk-puts now i f v c
+does-stays now (listen i r) c h = listen-puts now i r c
+
+-- Cells, with the one at a place changed.
+
+length-at : (p : ℕ) (u : Cell → Cell) (cs : List Cell) → length (at p u cs) ≡ length cs
+unfolding at
+length-at p u [] = refl
+length-at zero u (c ∷ cs) = refl
+length-at (suc p) u (c ∷ cs) = ap suc (length-at p u cs)
+
+all-at : (P : Cell → Type 0) (p : ℕ) (u : Cell → Cell) (cs : List Cell) → ((c : Cell) → P c → P (u c)) → All P cs → All P (at p u cs)
+unfolding at
+all-at P p u [] k a = tt
+all-at P zero u (c ∷ cs) k a = (k c (a .0), a .1)
+all-at P (suc p) u (c ∷ cs) k a = (a .0, all-at P p u cs k (a .1))
+
+-- those after it are as before
+drop-changed : (n p : ℕ) (u : Cell → Cell) (cs : List Cell) → p < n → drop n (at p u cs) ≡ drop n cs
+unfolding at
+drop-changed zero p u cs h = absurd (omega arith)
+drop-changed (suc n) p u [] h = refl
+drop-changed (suc n) zero u (c ∷ cs) h = refl
+drop-changed (suc n) (suc p) u (c ∷ cs) h = drop-changed n p u cs (omega arith)
+
+held-stays : (p : ℕ) (u : Cell → Cell) (cs : List Cell) → ((c : Cell) → onPort c ≡ true → onPort (u c) ≡ true) →
+    held cs ≡ true → held (at p u cs) ≡ true
+unfolding at held onPort
+held-stays p u [] k h = h
+held-stays zero u (c ∷ cs) k h = or-map (onPort c) (onPort (u c)) (held cs) (held cs) (k c) (λ e. e) h
+held-stays (suc p) u (c ∷ cs) k h = or-map (onPort c) (onPort c) (held cs) (held (at p u cs)) (λ e. e) (held-stays p u cs k) h
+
+held-joined : (p : ℕ) (u : Cell → Cell) (cs : List Cell) → ((c : Cell) → onPort (u c) ≡ true) → p < length cs → held (at p u cs) ≡ true
+unfolding at held onPort
+held-joined p u [] k h = absurd (omega arith)
+held-joined zero u (c ∷ cs) k h = rw (k c)
+held-joined (suc p) u (c ∷ cs) k h = rw (held-joined p u cs k (omega arith)) (or-true (onPort c))
+
+-- Streams, with the cell at a port's place changed.
+
+-- where the stream i may be made, the change is a join of it
+abbrev Makes : (Cell → Cell) → Bool → ℕ → Type 0
+Makes u join i = join ≡ true → (i < 2 ^ 64) × ((c : Cell) → onPort (u c) ≡ true)
+
+module _ (ports clock leaveTime p : ℕ) (here : p < ports) (eight : ports ≤ 8) (u : Cell → Cell)
+    (valid-then : (c : Cell) → ValidCell clock leaveTime c → ValidCell clock leaveTime (u c)) where
+  changed-valid : ((c : Cell) → onPort c ≡ true → onPort (u c) ≡ true) → (x : Stream) →
+      ValidStream ports clock leaveTime x → ValidStream ports clock leaveTime (change (at p u) x)
+  unfolding change
+  changed-valid k x v = record {
+    id = v .id;
+    settled = v .settled;
+    eight-cells = length-at p u (x .cells) ∙ v .eight-cells;
+    cells = all-at (ValidCell clock leaveTime) p u (x .cells) valid-then (v .cells);
+    no-other-cells = rw (drop-changed ports p u (x .cells) here) (v .no-other-cells);
+    is-held = held-stays p u (x .cells) k (v .is-held);
+    eight-results = v .eight-results;
+    results = v .results;
+    no-other-results = v .no-other-results;
+  }
+
+  -- a stream that a join makes is held by that join's registration
+  joined-valid : ((c : Cell) → onPort (u c) ≡ true) → (i : ℕ) → i < 2 ^ 64 → ValidStream ports clock leaveTime (change (at p u) (fresh i))
+  unfolding change fresh blank noFixed empty
+  joined-valid k i small = record {
+    id = small;
+    settled = omega arith;
+    eight-cells = length-at p u (replicate 8 empty);
+    cells =
+        all-at (ValidCell clock leaveTime) p u (replicate 8 empty) valid-then
+        (all-replicate (ValidCell clock leaveTime) 8 empty record { talks = tt; hears = tt });
+    no-other-cells =
+        rw (drop-changed ports p u (replicate 8 empty) here)
+        (all-drop (λ c. c ≡ empty) ports (replicate 8 empty) (all-replicate (λ c. c ≡ empty) 8 empty refl));
+    is-held = held-joined p u (replicate 8 empty) k (omega arith);
+    eight-results = refl;
+    results = all-replicate (ValidResult clock) 8 unsettled (unsettled-valid clock);
+    no-other-results =
+        all-drop (λ r. r ≡ unsettled) ports (replicate 8 unsettled) (all-replicate (λ r. r ≡ unsettled) 8 unsettled refl);
+  }
+
+  begun-valid : (join : Bool) (i : ℕ) → Makes u join i → (s : List Stream) →
+      All (ValidStream ports clock leaveTime) s → All (ValidStream ports clock leaveTime) (begun join i (at p u) s)
+  unfolding begun
+  begun-valid true i m s a = (joined-valid (m refl .1) i (m refl .0), a)
+  begun-valid false i m s a = a
+
+  touch-valid : ((c : Cell) → onPort c ≡ true → onPort (u c) ≡ true) → (join : Bool) (i : ℕ) → Makes u join i → (s : List Stream) →
+      All (ValidStream ports clock leaveTime) s → All (ValidStream ports clock leaveTime) (touch join i (at p u) s)
+  unfolding touch
+  touch-valid k join i m [] a = begun-valid join i m [] a
+  touch-valid k join i m (x ∷ s) a = go (ltb i (x .id)) (eqb i (x .id)) (touch-valid k join i m s (a .1))
+    where
+      go : (t t′ : Bool) → All (ValidStream ports clock leaveTime) (touch join i (at p u) s) →
+          All (ValidStream ports clock leaveTime)
+          (cond t (begun join i (at p u) (x ∷ s)) (cond t′ (change (at p u) x ∷ s) (x ∷ touch join i (at p u) s)))
+      go true t′ ih = begun-valid join i m (x ∷ s) a
+      go false true ih = (changed-valid k x (a .0), a .1)
+      go false false ih = (a .0, ih)
+
+-- StreamIDs rise still.
+
+module _ (join : Bool) (i : ℕ) (u : List Cell → List Cell) where
+  begun-ids : (P : ℕ → Type 0) (s : List Stream) → P i → All P (ids s) → All P (ids (begun join i u s))
+  begun-ids P s h a = go join
+    where
+      go : (t : Bool) → All P (ids (begun t i u s))
+      go true = unfold begun ids change fresh in (h, a)
+      go false = unfold begun in a
+
+  touch-ids : (P : ℕ → Type 0) (s : List Stream) → P i → All P (ids s) → All P (ids (touch join i u s))
+  unfolding touch ids change
+  touch-ids P [] h a = begun-ids P [] h a
+  touch-ids P (x ∷ s) h a = go (ltb i (x .id)) (eqb i (x .id)) (touch-ids P s h (a .1))
+    where
+      go : (t t′ : Bool) → All P (ids (touch join i u s)) →
+          All P (ids (cond t (begun join i u (x ∷ s)) (cond t′ (change u x ∷ s) (x ∷ touch join i u s))))
+      go true t′ ih = begun-ids P (x ∷ s) h a
+      go false true ih = a
+      go false false ih = (a .0, ih)
+
+  begun-rising : (s : List Stream) → All (λ j. i < j) (ids s) → Rising (ids s) → Rising (ids (begun join i u s))
+  begun-rising s a r = go join
+    where
+      go : (t : Bool) → Rising (ids (begun t i u s))
+      go true = unfold begun ids change fresh Rising in (a, r)
+      go false = unfold begun in r
+
+  touch-rising : (s : List Stream) → Rising (ids s) → Rising (ids (touch join i u s))
+  unfolding touch ids change Rising
+  touch-rising [] r = begun-rising [] tt r
+  touch-rising (x ∷ s) r = go (ltb i (x .id)) (eqb i (x .id)) refl refl (touch-rising s (r .1))
+    where
+      go : (t t′ : Bool) → ltb i (x .id) ≡ t → eqb i (x .id) ≡ t′ → Rising (ids (touch join i u s)) →
+          Rising (ids (cond t (begun join i u (x ∷ s)) (cond t′ (change u x ∷ s) (x ∷ touch join i u s))))
+      go true t′ e d ih =
+          let before : i < x .id = ltb-true i (x .id) e in
+          begun-rising (x ∷ s) (before, all-map (λ j. x .id < j) (λ j. i < j) (λ j h. omega arith) (ids s) (r .0)) r
+      go false true e d ih = r
+      go false false e d ih =
+          (touch-ids (λ j. x .id < j) s (omega (arith, ltb-false i (x .id) e, eqb-false i (x .id) d)) (r .0), ih)
+
+changed-ids : (u : List Cell → List Cell) (s : List Stream) → ids (map (change u) s) ≡ ids s
+unfolding ids change
+changed-ids u [] = refl
+changed-ids u (x ∷ s) = ap (λ (l : List ℕ). x .id ∷ l) (changed-ids u s)
+
+-- The acts of a frame.
+
+-- valid streams, by ascending StreamID
+abbrev ValidStreams : ℕ → ℕ → ℕ → List Stream → Type 0
+ValidStreams ports clock leaveTime s = All (ValidStream ports clock leaveTime) s × Rising (ids s)
+
+module _ (ports clock leaveTime p : ℕ) (here : p < ports) (eight : ports ≤ 8) (leaves : 1 ≤ leaveTime) where
+  touch-keeps : (a : Act) → Fits a → (join : Bool) (i : ℕ) → Makes (does clock a) join i → (s : List Stream) →
+      ValidStreams ports clock leaveTime s → ValidStreams ports clock leaveTime (touch join i (at p (does clock a)) s)
+  touch-keeps a fits join i m s g = (
+    touch-valid ports clock leaveTime p here eight (does clock a) (does-valid clock leaveTime leaves a fits)
+        (does-stays clock a) join i m s (g .0),
+    touch-rising join i (at p (does clock a)) s (g .1),
+  )
+
+  apply-keeps : (a : Act) → Fits a → (s : List Stream) →
+      ValidStreams ports clock leaveTime s → ValidStreams ports clock leaveTime (apply clock p a s)
+  unfolding apply reach
+  apply-keeps (leaveAll k) fits s g =
+      let a = leaveAll k in (
+        all-mapped (ValidStream ports clock leaveTime) (ValidStream ports clock leaveTime) (change (at p (does clock a)))
+            (changed-valid ports clock leaveTime p here eight (does clock a) (does-valid clock leaveTime leaves a fits)
+            (does-stays clock a)) s (g .0),
+        rw (changed-ids (at p (does clock a)) s) (g .1),
+      )
+  apply-keeps (leave k i) fits s g = touch-keeps (leave k i) fits false i (λ e. absurd (false≢true e)) s g
+  apply-keeps (talk i f v) fits s g = touch-keeps (talk i f v) fits true i (λ e. (fits .0, talk-puts clock i f v)) s g
+  apply-keeps (listen i r) fits s g = touch-keeps (listen i r) fits true i (λ e. (fits, listen-puts clock i r)) s g
+
+  acts-keep : (es : List Act) → All Fits es → (s : List Stream) →
+      ValidStreams ports clock leaveTime s → ValidStreams ports clock leaveTime (applyAll clock p es s)
+  unfolding applyAll
+  acts-keep [] fits s g = g
+  acts-keep (a ∷ es) fits s g = acts-keep es (fits .1) (apply clock p a s) (apply-keeps a (fits .0) s g)
+
+-- The call.
+
+pub received-keeps : (b : Bridge) (p : ℕ) (x : Reading) → p - 1 < length (b .settings .ports) → FitsReading x → Valid b →
+    Valid (received b p x .bridge)
+unfolding received holding
+received-keeps b p (refused n) here fits v = v
+received-keeps b p (acts es) here fits v = go (leb (length s) 64) refl
+  where
+    s : List Stream
+    s = applyAll (b .clock) (p - 1) es (b .streams)
+
+    kept : ValidStreams (length (b .settings .ports)) (b .clock) (b .settings .leaveTime) s
+    kept =
+        acts-keep (length (b .settings .ports)) (b .clock) (b .settings .leaveTime) (p - 1) here (v .settings .eight-ports)
+        (v .settings .leaves) es fits (b .streams) (v .streams, v .ascending)
+
+    go : (t : Bool) → leb (length s) 64 ≡ t →
+        Valid (cond {A = Answer} t record { number = 0; bridge = holding b s } record { number = 8; bridge = b } .bridge)
+    go true e = record {
+      settings = v .settings;
+      clock = v .clock;
+      eight-totals = v .eight-totals;
+      totals = v .totals;
+      at-most-64 = leb-true (length s) 64 e;
+      streams = kept .0;
+      ascending = kept .1;
+    }
+    go false e = v
+
+-- the place of a port that is no refusal 1
+pub right-port : (st : Settings) (p : ℕ) → wrongPort st p ≡ false → p - 1 < length (st .ports)
+unfolding wrongPort
+right-port st p e =
+    let not-zero : p ≡ 0 → ⊥ = eqb-false p 0 (or-left (eqb p 0) (ltb (length (st .ports)) p) e) in
+    let not-above : p ≤ length (st .ports) = ltb-false (length (st .ports)) p (or-right (eqb p 0) (ltb (length (st .ports)) p) e) in
+    omega arith
+
+pub receive-keeps : (b : Bridge) (p : ℕ) (pdu : List ℕ) → Octets pdu → Valid b → Valid (receive b p pdu .bridge)
+unfolding receive
+receive-keeps b p pdu o v = go (wrongPort (b .settings) p) refl
+  where
+    go : (t : Bool) → wrongPort (b .settings) p ≡ t → Valid (received b p (reading (b .settings) p pdu) .bridge)
+    go true e = unfold reading received in (rw e v)
+    go false e = received-keeps b p (reading (b .settings) p pdu) (right-port (b .settings) p e) (reading-fits (b .settings) p pdu o) v
+
+-- Streams are all that a frame changes, and a refusal changes nothing.
+
+pub received-same : {A : Type 0} (f : Bridge → A) (b : Bridge) (p : ℕ) (x : Reading) → ((s : List Stream) → f (holding b s) ≡ f b) →
+    f (received b p x .bridge) ≡ f b
+unfolding received
+received-same f b p (refused n) h = refl
+received-same f b p (acts es) h = go (leb (length s) 64)
+  where
+    s : List Stream
+    s = applyAll (b .clock) (p - 1) es (b .streams)
+
+    go : (t : Bool) → f (cond {A = Answer} t record { number = 0; bridge = holding b s } record { number = 8; bridge = b } .bridge) ≡ f b
+    go true = h s
+    go false = refl
+
+pub receive-settings : (b : Bridge) (p : ℕ) (pdu : List ℕ) → receive b p pdu .bridge .settings ≡ b .settings
+unfolding receive holding
+receive-settings b p pdu = received-same (λ c. c .settings) b p (reading (b .settings) p pdu) (λ s. refl)
+
+pub receive-clock : (b : Bridge) (p : ℕ) (pdu : List ℕ) → receive b p pdu .bridge .clock ≡ b .clock
+unfolding receive holding
+receive-clock b p pdu = received-same (λ c. c .clock) b p (reading (b .settings) p pdu) (λ s. refl)
+
+pub receive-totals : (b : Bridge) (p : ℕ) (pdu : List ℕ) → receive b p pdu .bridge .totals ≡ b .totals
+unfolding receive holding
+receive-totals b p pdu = received-same (λ c. c .totals) b p (reading (b .settings) p pdu) (λ s. refl)
+
+pub received-accepted-or-unchanged : (b : Bridge) (p : ℕ) (x : Reading) → (received b p x .number ≡ 0) ⊎ (received b p x .bridge ≡ b)
+unfolding received
+received-accepted-or-unchanged b p (refused n) = inr refl
+received-accepted-or-unchanged b p (acts es) = go (leb (length s) 64)
+  where
+    s : List Stream
+    s = applyAll (b .clock) (p - 1) es (b .streams)
+
+    answer : Bool → Answer
+    answer t = cond t record { number = 0; bridge = holding b s } record { number = 8; bridge = b }
+
+    go : (t : Bool) → (answer t .number ≡ 0) ⊎ (answer t .bridge ≡ b)
+    go true = inl refl
+    go false = inr refl
+
+pub receive-accepted-or-unchanged : (b : Bridge) (p : ℕ) (pdu : List ℕ) → (receive b p pdu .number ≡ 0) ⊎ (receive b p pdu .bridge ≡ b)
+unfolding receive
+receive-accepted-or-unchanged b p pdu = received-accepted-or-unchanged b p (reading (b .settings) p pdu)
