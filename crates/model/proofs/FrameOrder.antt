@@ -20,6 +20,7 @@ use Rattle.model.specs.Calls.{receive, asked}
 use Rattle.model.proofs.Lists.{all-map, on-same, on-other}
 use Rattle.model.proofs.Valid.{Rising}
 use Rattle.model.proofs.FoundVectors.{or-left}
+use Rattle.model.proofs.ReceiveKeepsForm.{receive-settings, receive-clock, receive-accepted-or-unchanged}
 use Rattle.model.proofs.Arrivals.{run, same-run}
 use Rattle.model.proofs.Commute.{Change, frames-commute}
 
@@ -193,36 +194,13 @@ module _ (b : Bridge) (p : ℕ) where
       go true e = refl
       go false e = absurd (omega arith)
 
-  -- a property of the answer that holds where the bridge stays and where the acts are done
-  answered : (P : Answer → Type 0) (r : Reading) →
-      ((n : ℕ) → P record { number = n; bridge = b }) →
-      ((es : List Act) → r ≡ acts es → P record { number = 0; bridge = holding b (applyAll (b .clock) (p - 1) es (b .streams)) }) →
-      P (received b p r)
-  unfolding received
-  answered P (refused n) stays does = stays n
-  answered P (acts es) stays does = go (leb (length (applyAll (b .clock) (p - 1) es (b .streams))) 64)
-    where
-      go : (t : Bool) → P (cond t record { number = 0; bridge = holding b (applyAll (b .clock) (p - 1) es (b .streams)) } record { number = 8; bridge = b })
-      go true = does es refl
-      go false = stays 8
-
   module _ (pdu : List ℕ) where
     pub refused-changes-nothing : (receive b p pdu .number ≡ 0 → ⊥) → receive b p pdu .bridge ≡ b
-    unfolding receive
-    refused-changes-nothing =
-        answered (λ a. (a .number ≡ 0 → ⊥) → a .bridge ≡ b) (reading (b .settings) p pdu) (λ n h. refl) (λ es e h. absurd (h refl))
-
-    pub receive-settings : receive b p pdu .bridge .settings ≡ b .settings
-    unfolding receive holding
-    receive-settings = answered (λ a. a .bridge .settings ≡ b .settings) (reading (b .settings) p pdu) (λ n. refl) (λ es e. refl)
-
-    pub receive-clock : receive b p pdu .bridge .clock ≡ b .clock
-    unfolding receive holding
-    receive-clock = answered (λ a. a .bridge .clock ≡ b .clock) (reading (b .settings) p pdu) (λ n. refl) (λ es e. refl)
-
-    pub receive-totals : receive b p pdu .bridge .totals ≡ b .totals
-    unfolding receive holding
-    receive-totals = answered (λ a. a .bridge .totals ≡ b .totals) (reading (b .settings) p pdu) (λ n. refl) (λ es e. refl)
+    refused-changes-nothing h = go (receive-accepted-or-unchanged b p pdu)
+      where
+        go : (receive b p pdu .number ≡ 0) ⊎ (receive b p pdu .bridge ≡ b) → receive b p pdu .bridge ≡ b
+        go (inl e) = absurd (h e)
+        go (inr e) = e
 
     -- an accepted frame leaves the streams held before and all those that it asks to join
     pub accepted-ids : receive b p pdu .number ≡ 0 → ids (receive b p pdu .bridge .streams) ≡ together (ids (b .streams)) (asks (reading (b .settings) p pdu))
