@@ -8,3 +8,4 @@ pub mod Declarations
 pub mod WrittenFrames
 pub mod Table
 pub mod Calls
+pub mod Laid

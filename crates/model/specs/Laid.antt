@@ -1,0 +1,71 @@
+-- A table that is laid out as docs/TABLE.md says: the octets of some bridge whose numbers fit their fields. It may hold streams
+-- without a registration, as it does while room is made for a frame.
+use mathlib.Core.Path.{_≡_}
+use mathlib.Core.List.{List, [], _∷_}
+use Prim.Native.Nat.{ℕ, _≤_, _<_, _^_}
+use lib.ListN.{length}
+use Rattle.octets.specs.Fields.{Fit}
+use Rattle.model.specs.Lists.{All}
+use Rattle.model.specs.State.{Port, Settings, Cell, Result, Stream, Totals, Bridge}
+use Rattle.model.specs.Registrations.{ids}
+use Rattle.model.specs.WrittenFrames.{fixedNumbers}
+use Rattle.model.specs.Table.{cellWidths, cellNumbers, cellOctets, resultWidths, resultNumbers, resultOctets, nameWidths, streamOctets, portWidths, portNumbers, totalsWidths, encode}
+
+abbrev pub FitCell : Cell → Type 0
+FitCell c = Fit cellWidths (cellNumbers c)
+
+abbrev pub FitResult : Result → Type 0
+FitResult r = Fit resultWidths (resultNumbers r)
+
+pub record FitStream (x : Stream) : Type 0 where
+  pub name : Fit nameWidths (x .id ∷ fixedNumbers (x .settled))
+  pub eight-cells : length (x .cells) ≡ 8
+  pub cells : All FitCell (x .cells)
+  pub eight-results : length (x .results) ≡ 8
+  pub results : All FitResult (x .results)
+
+pub record FitSettings (st : Settings) : Type 0 where
+  pub bridgeId : st .bridgeId < 2 ^ 64
+  pub priorityA : st .priorityA < 8
+  pub priorityB : st .priorityB < 8
+  pub leaveTime : st .leaveTime < 16384
+  pub eight-ports : length (st .ports) ≤ 8
+  pub ports : All (λ q. Fit portWidths (portNumbers q)) (st .ports)
+
+abbrev pub FitTotals : Totals → Type 0
+FitTotals t = (t .totalA < 256 ^ 5) × (t .totalB < 256 ^ 5)
+
+-- StreamIDs rise
+abbrev pub Ascending : List ℕ → Type 0
+Ascending [] = Unit {0}
+Ascending (i ∷ l) = All (λ j. i < j) l × Ascending l
+
+pub record FitBridge (b : Bridge) : Type 0 where
+  pub settings : FitSettings (b .settings)
+  pub clock : b .clock < 2 ^ 32
+  pub eight-totals : length (b .totals) ≡ 8
+  pub totals : All FitTotals (b .totals)
+  pub at-most-64 : length (b .streams) ≤ 64
+  pub streams : All FitStream (b .streams)
+  pub ascending : Ascending (ids (b .streams))
+
+-- the octets of a cell, of a result, of a stream record, of a table
+pub record LaidCell (s : List ℕ) : Type 0 where
+  pub cell : Cell
+  pub fits : FitCell cell
+  pub is : s ≡ cellOctets cell
+
+pub record LaidResult (s : List ℕ) : Type 0 where
+  pub result : Result
+  pub fits : FitResult result
+  pub is : s ≡ resultOctets result
+
+pub record LaidStream (s : List ℕ) : Type 0 where
+  pub stream : Stream
+  pub fits : FitStream stream
+  pub is : s ≡ streamOctets stream
+
+pub record Laid (t : List ℕ) : Type 0 where
+  pub bridge : Bridge
+  pub fits : FitBridge bridge
+  pub is : t ≡ encode bridge
