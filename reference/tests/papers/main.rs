@@ -1,5 +1,16 @@
 //! Tests of the reference program against the papers.
 
+mod any_octets;
+mod generated_inputs;
 mod helpers;
 mod marked_examples;
+mod order_among_ports;
+mod reading;
+mod refusals;
+mod registering;
+mod reports_and_start;
+mod settling;
+mod the_calls_console;
+mod the_sheet;
 mod worked_example;
+mod writing;

@@ -1,0 +1,48 @@
+//! The generator and its coverage.
+
+use reference::coverage::Coverage;
+use reference::{calls, generator};
+
+#[test]
+fn an_input_is_a_function_of_its_seed_alone() {
+    for seed in 0..50 {
+        assert_eq!(generator::sheet(seed), generator::sheet(seed));
+        assert_eq!(generator::calls(seed), generator::calls(seed));
+    }
+    assert_ne!(generator::sheet(1), generator::sheet(2));
+    assert_ne!(generator::calls(1), generator::calls(2));
+}
+
+#[test]
+fn the_inputs_of_a_thousand_seeds_reach_every_row() {
+    let (table, complete) = Coverage::of_seeds(1_000).table();
+    assert!(complete, "{table}");
+}
+
+#[test]
+fn a_script_stops_exactly_where_it_is_meant_to() {
+    for seed in 0..300 {
+        let script = generator::calls(seed);
+        assert_eq!(calls::run(&script.octets).ends_with("stop\n"), script.stops);
+    }
+}
+
+#[test]
+fn a_batch_goes_on_to_its_last_script() {
+    for first in [0, 100, 200] {
+        let printed = calls::run(&generator::calls_batch(first, 60));
+        let stops = printed.lines().filter(|line| *line == "stop").count();
+        assert_eq!(stops, usize::from(generator::calls(first + 59).stops));
+    }
+    let alone = generator::calls(7);
+    assert_eq!(generator::calls_batch(7, 1), alone.octets);
+    assert!(generator::calls_batch(7, 0).is_empty());
+}
+
+#[test]
+fn scripts_have_no_records_outside_the_reference() {
+    for seed in 0..300 {
+        let printed = calls::run(&generator::calls(seed).octets);
+        assert!(printed.lines().all(|line| line != "table -" && line != "octets -"));
+    }
+}

@@ -1,0 +1,119 @@
+//! Demand 3: the order among ports never matters.
+
+use crate::helpers::*;
+use reference::bridge::Table;
+use reference::pdu::{self, StreamId};
+use reference::random::Random;
+use reference::records::{Call, Watcher};
+use reference::registrations::{streams_joined, MOST_STREAMS};
+use reference::{calls, generator, numbers};
+use std::collections::BTreeSet;
+
+type Frames = Vec<(u32, Vec<u8>)>;
+
+/// Another order of the frames that keeps each port's own order.
+fn shuffled(random: &mut Random, frames: &Frames) -> Vec<usize> {
+    let mut ports: Vec<u32> = frames.iter().map(|(port, _)| *port).collect();
+    random.shuffle(&mut ports);
+    let mut next = vec![0; 16];
+    let mut order = Vec::new();
+    for port in ports {
+        let of_port: Vec<usize> = (0..frames.len()).filter(|n| frames[*n].0 == port).collect();
+        order.push(of_port[next[port as usize]]);
+        next[port as usize] += 1;
+    }
+    order
+}
+
+/// Hands the frames over in an order, then settles. Gives each frame's answer and the table.
+fn hand_over(table: &Table, frames: &Frames, order: &[usize], time: u32) -> (Vec<u8>, Table) {
+    let mut table = table.clone();
+    let mut answers = vec![0; frames.len()];
+    for n in order {
+        let (port, frame) = &frames[*n];
+        answers[*n] = table.receive(*port, frame);
+    }
+    assert_eq!(table.advance(time), 0);
+    (answers, table)
+}
+
+/// The streams held, together with all those that any well-formed frame asks to join.
+fn streams(table: &Table, frames: &Frames) -> BTreeSet<StreamId> {
+    let bridge = table.bridge.as_ref().unwrap();
+    let mut streams: BTreeSet<StreamId> = bridge.registrations.streams.keys().copied().collect();
+    for (_, frame) in frames {
+        if let Ok(pdu) = pdu::read(frame) {
+            streams.extend(streams_joined(&pdu));
+        }
+    }
+    streams
+}
+
+/// Takes the runs of receives between settled states out of generated scripts.
+#[derive(Default)]
+struct Runs {
+    settled: Option<Table>,
+    frames: Frames,
+    runs: Vec<(Table, Frames, u32)>,
+}
+
+impl Watcher for Runs {
+    fn called(&mut self, call: &Call, number: numbers::Number, table: &Table) {
+        match call {
+            Call::Receive(port, frame) if number != numbers::TABLE => {
+                self.frames.push((*port, frame.to_vec()));
+            }
+            Call::Start(_) | Call::Advance(_) if number == numbers::ACCEPTED => {
+                if let (Call::Advance(time), Some(settled)) = (call, self.settled.take()) {
+                    self.runs.push((settled, std::mem::take(&mut self.frames), *time));
+                }
+                self.settled = Some(table.clone());
+                self.frames.clear();
+            }
+            _ => {}
+        }
+    }
+}
+
+#[test]
+fn frames_in_any_order_that_keeps_each_ports_own_give_the_same_answers_and_table() {
+    let mut random = Random::new(3);
+    let mut compared = 0;
+    for seed in 10_000..10_300 {
+        let mut runs = Runs::default();
+        calls::run_watched(&generator::calls(seed).octets, &mut runs);
+        for (settled, frames, time) in runs.runs {
+            if frames.len() < 2 || streams(&settled, &frames).len() > MOST_STREAMS {
+                continue;
+            }
+            let in_order: Vec<usize> = (0..frames.len()).collect();
+            let expected = hand_over(&settled, &frames, &in_order, time);
+            for _ in 0..3 {
+                let order = shuffled(&mut random, &frames);
+                assert_eq!(hand_over(&settled, &frames, &order, time), expected);
+                compared += 1;
+            }
+            let bridge = expected.1.bridge.unwrap();
+            for (port, total) in bridge.settings.ports.iter().zip(&bridge.settled.totals) {
+                assert!(total.a <= port.limit.a && total.b <= port.limit.b);
+            }
+        }
+    }
+    assert!(compared > 1_000, "{compared}");
+}
+
+#[test]
+fn above_64_streams_the_order_may_matter() {
+    // The premise of demand 3 is needed: two ports ask for 33 different streams each.
+    let mut table = started(&settings(2));
+    let mut frames = Frames::new();
+    for port in [1, 2] {
+        let first = STREAM + 100 * u64::from(port);
+        let vector = listener_vector(first, &[JOIN_MT; 33], &[READY; 33]);
+        frames.push((port, one_message(pdu::AttributeType::Listener, vec![vector])));
+    }
+    advance(&mut table, 1);
+    assert_eq!(streams(&table, &frames).len(), 66);
+    assert_eq!(hand_over(&table, &frames, &[0, 1], 1).0, [0, 8]);
+    assert_eq!(hand_over(&table, &frames, &[1, 0], 1).0, [8, 0]);
+}

@@ -1,0 +1,167 @@
+//! The console for the five calls, srpcalls.
+
+use crate::helpers::*;
+use reference::bridge::TABLE_LENGTH;
+use reference::{calls, settings};
+
+fn counted(first: u8, octets: &[u8]) -> Vec<u8> {
+    let mut record = vec![first];
+    record.extend((octets.len() as u16).to_be_bytes());
+    record.extend(octets);
+    record
+}
+
+fn start() -> Vec<u8> {
+    counted(0x00, &settings::write(&settings(2)))
+}
+
+fn lend(length: usize) -> Vec<u8> {
+    [vec![0x51], (length as u16).to_be_bytes().to_vec()].concat()
+}
+
+fn lines(records: &[Vec<u8>]) -> Vec<String> {
+    calls::run(&records.concat()).lines().map(String::from).collect()
+}
+
+const REPORT_12: &str = "report 12 0 0 0 0 0 0000000000000000 none 0 none none";
+
+#[test]
+fn calls_before_a_start_are_answered_with_12() {
+    let records = [
+        counted(0x11, &[0]),
+        vec![0x20, 0, 0, 0, 1],
+        vec![0x31, 0, 0, 5, 220],
+        vec![0x41, 0, 0],
+        counted(0x00, &[]),
+        vec![0x41, 0, 0],
+    ];
+    let expected =
+        ["receive 12", "advance 12", "write 12 0 0 kept", REPORT_12, "start 11", REPORT_12];
+    assert_eq!(lines(&records), expected);
+}
+
+#[test]
+fn refused_calls_print_zeros_and_none() {
+    let records = [
+        start(),
+        vec![0x31, 0, 0, 5, 219],
+        vec![0x33, 0, 0, 5, 220],
+        vec![0x31, 0, 1, 5, 220],
+        vec![0x4f, 0, 0],
+        vec![0x41, 0, 1],
+    ];
+    let expected = [
+        "start 0",
+        "write 10 0 0 kept",
+        "write 1 0 0 kept",
+        "write 13 0 0 kept",
+        "report 1 0 0 0 0 0 0000000000000000 none 0 none none",
+        "report 13 0 0 0 0 0 0000000000000000 none 0 none none",
+    ];
+    assert_eq!(lines(&records), expected);
+}
+
+#[test]
+fn a_buffer_length_above_2048_counts_as_2048() {
+    for length in [1500_u16, 1501, 2048, 2049, 65_535] {
+        let write = [vec![0x31, 0, 0], length.to_be_bytes().to_vec()].concat();
+        assert_eq!(lines(&[start(), write])[1], "write 0 3 0 kept 000000");
+    }
+}
+
+#[test]
+fn a_wrong_table_length_makes_every_call_12_until_the_right_one_is_lent() {
+    for length in [0, 1, TABLE_LENGTH - 1, TABLE_LENGTH + 1, TABLE_LENGTH + 64, 65_535] {
+        let records = [
+            start(),
+            counted(0x12, &listener_frame(STREAM, JOIN_MT, READY)),
+            lend(length),
+            start(),
+            counted(0x00, &[]),
+            counted(0x11, &[0]),
+            vec![0x20, 0, 0, 0, 1],
+            vec![0x30, 0, 0, 0, 0],
+            vec![0x40, 0, 0],
+            lend(TABLE_LENGTH),
+            vec![0x41, 0, 0],
+        ];
+        let expected = [
+            "start 0",
+            "receive 0",
+            "start 12",
+            "start 12",
+            "receive 12",
+            "advance 12",
+            "write 12 0 0 kept",
+            REPORT_12,
+            "report 0 1 0 75000000 0 0 0200000000010001 none 0 none none",
+        ];
+        assert_eq!(lines(&records), expected);
+    }
+}
+
+#[test]
+fn storing_behind_the_table_prints_nothing_and_changes_nothing() {
+    let place = (TABLE_LENGTH as u16).to_be_bytes();
+    let store = [vec![0x50], place.to_vec(), vec![0xff]].concat();
+    let records = [start(), store, vec![0x50, 0xff, 0xff, 1], vec![0x20, 0, 0, 0, 1]];
+    assert_eq!(lines(&records), ["start 0", "advance 0"]);
+}
+
+#[test]
+fn the_tables_octets_are_outside_the_reference() {
+    assert_eq!(lines(&[vec![0x60], vec![0x61]]), ["table -", "octets -"]);
+}
+
+#[test]
+fn settings_and_pdus_longer_than_what_a_call_is_handed_are_read_whole() {
+    for length in [4_096, 4_097, 65_535] {
+        let records =
+            [start(), counted(0x00, &vec![0; length]), counted(0x11, &vec![0; length]), start()];
+        assert_eq!(lines(&records), ["start 0", "start 11", "receive 2", "start 0"]);
+    }
+}
+
+#[test]
+fn another_octet_stops_the_run() {
+    let known =
+        |octet: u8| matches!(octet, 0 | 0x10..=0x20 | 0x30..=0x51 | 0x60 | 0x61);
+    for octet in (0..=255).filter(|octet| !known(*octet)) {
+        assert_eq!(lines(&[start(), vec![octet], start()]), ["start 0", "stop"]);
+    }
+    for octet in 0x52..=0x5f {
+        assert_eq!(lines(&[vec![octet]]), ["stop"]);
+    }
+}
+
+#[test]
+fn a_cut_record_stops_the_run() {
+    for record in [
+        start(),
+        counted(0x11, &[0, 0, 0]),
+        vec![0x20, 0, 0, 0, 1],
+        vec![0x31, 0, 0, 5, 220],
+        vec![0x41, 0, 0],
+        vec![0x50, 0xff, 0xff, 0],
+        lend(0),
+    ] {
+        for length in 1..record.len() {
+            assert_eq!(lines(&[start(), record[..length].to_vec()]), ["start 0", "stop"]);
+        }
+    }
+}
+
+#[test]
+fn an_input_that_ends_between_records_prints_nothing_more() {
+    assert_eq!(calls::run(&[]), "");
+    assert_eq!(calls::run(&start()), "start 0\n");
+}
+
+#[test]
+fn an_input_may_be_longer_than_65536_octets() {
+    let advance = vec![0x20, 0, 0, 0, 1];
+    let records = [start(), advance.repeat(20_000)];
+    let lines = lines(&records);
+    assert_eq!(lines.len(), 20_001);
+    assert!(lines[1..].iter().all(|line| line == "advance 0"));
+}

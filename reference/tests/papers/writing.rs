@@ -1,0 +1,294 @@
+//! Writing (01, "Writing"), and reading back what is written.
+
+use crate::helpers::*;
+use reference::bridge::{Table, WriteAnswer};
+use reference::declarations::{self, Declaration};
+use reference::generator;
+use reference::pdu::{self, AttributeType, Event, StreamId, Value};
+use reference::records::{Call, Watcher};
+use reference::settings::PerClass;
+use reference::{calls, numbers};
+
+/// The declarations that a PDU carries, each as its one value with event JoinMt.
+fn read_back(octets: &[u8]) -> Vec<Declaration> {
+    let pdu = pdu::read(octets).expect("what is written can be read");
+    assert!(pdu.end_mark);
+    let mut read = Vec::new();
+    for vector in pdu.vectors() {
+        assert!(!vector.leave_all);
+        assert_eq!(vector.values.len(), 1);
+        let (event, value) = vector.values[0];
+        assert_eq!(event, Event::JoinMt);
+        read.push(match value {
+            Value::Talker(talker) => Declaration::Talker(talker),
+            Value::Listener(stream_id, listener) => {
+                Declaration::Listener(stream_id, listener.expect("not Ignore"))
+            }
+            Value::Domain => panic!("no Domain is declared"),
+        });
+    }
+    read
+}
+
+/// All PDUs of a port, following the next places.
+fn all_pdus(table: &Table, port: u32) -> Vec<Vec<u8>> {
+    let mut pdus = Vec::new();
+    let mut place = 0;
+    loop {
+        let (octets, next) = written(table, port, place);
+        if next as u32 == place {
+            assert_eq!(octets, [0, 0, 0]);
+            return pdus;
+        }
+        pdus.push(octets);
+        place = next as u32;
+    }
+}
+
+fn count(table: &Table, port: usize) -> usize {
+    declarations::of_port(&table.bridge.as_ref().unwrap().settled, port).len()
+}
+
+/// Talkers on port 1, so many of them Advertise and so many Failed, and Listeners of others on
+/// port 1 whose Talkers are on port 2.
+fn crowd(advertise: usize, failing: usize, listening: usize) -> Table {
+    let mut settings = settings(2);
+    settings.ports[1].limit.a = (1 << 40) - 1;
+    settings.ports[0].limit.a = (1 << 40) - 1;
+    let mut table = started(&settings);
+    let mut stream_id: StreamId = STREAM;
+    for n in 0..advertise + failing {
+        let talker = if n % 2 == 0 && n / 2 < failing || n >= 2 * advertise {
+            failed(stream_id, 9)
+        } else {
+            talker(stream_id)
+        };
+        join_talker(&mut table, 1, &talker);
+        stream_id += 1;
+    }
+    for _ in 0..listening {
+        join_talker(&mut table, 2, &talker(stream_id));
+        join_listener(&mut table, 1, stream_id, READY);
+        stream_id += 1;
+    }
+    advance(&mut table, 1);
+    table
+}
+
+#[test]
+fn what_is_written_reads_back_as_the_declarations_in_order() {
+    let table = crowd(30, 5, 20);
+    for port in [1, 2] {
+        let expected =
+            declarations::of_port(&table.bridge.as_ref().unwrap().settled, port as usize);
+        let read: Vec<Declaration> =
+            all_pdus(&table, port).iter().flat_map(|octets| read_back(octets)).collect();
+        assert_eq!(read, expected);
+    }
+}
+
+#[test]
+fn declarations_stand_by_type_then_stream_id() {
+    let table = crowd(6, 4, 5);
+    let (octets, next) = written(&table, 2, 0);
+    assert_eq!(next, count(&table, 2));
+    let order: Vec<(AttributeType, StreamId)> = read_back(&octets)
+        .iter()
+        .map(|declaration| match declaration {
+            Declaration::Talker(talker) => (declaration.attribute_type(), talker.stream_id),
+            Declaration::Listener(stream_id, _) => (declaration.attribute_type(), *stream_id),
+        })
+        .collect();
+    let mut sorted = order.clone();
+    sorted.sort();
+    assert_eq!(order, sorted);
+    let of = |attribute_type| order.iter().filter(|(a, _)| *a == attribute_type).count();
+    assert_eq!(of(AttributeType::TalkerAdvertise), 6);
+    assert_eq!(of(AttributeType::TalkerFailed), 4);
+    assert_eq!(of(AttributeType::Listener), 5);
+    // One Message per type.
+    assert_eq!(pdu::read(&octets).unwrap().messages.len(), 3);
+}
+
+#[test]
+fn as_many_as_fit_in_1500_octets_whole() {
+    // Version, Message header, list EndMark and EndMark are 9 octets, an Advertise vector 28:
+    // 53 of them make 1,493.
+    let table = crowd(53, 0, 0);
+    let (octets, next) = written(&table, 2, 0);
+    assert_eq!((octets.len(), next), (1493, 53));
+    let table = crowd(54, 0, 0);
+    let (octets, next) = written(&table, 2, 0);
+    assert_eq!((octets.len(), next), (1493, 53));
+    let (octets, next) = written(&table, 2, 53);
+    assert_eq!((octets.len(), next), (37, 54));
+}
+
+#[test]
+fn the_first_that_does_not_fit_ends_the_pdu_though_a_shorter_one_would() {
+    // 52 Advertise leave 1,500 - 1,465 = 35 octets: a Failed needs 43, a Listener 18.
+    let table = crowd(52, 1, 1);
+    assert_eq!(count(&table, 2), 54);
+    let (octets, next) = written(&table, 2, 0);
+    assert_eq!((octets.len(), next), (1465, 52));
+    let (octets, next) = written(&table, 2, 52);
+    assert_eq!((octets.len(), next), (3 + 43 + 18, 54));
+}
+
+#[test]
+fn a_new_message_needs_room_for_its_own_header_and_end_mark() {
+    // 53 Advertise leave 7 octets; a Listener takes 12 in its own Message of 18.
+    let table = crowd(53, 0, 2);
+    let (octets, next) = written(&table, 2, 0);
+    assert_eq!((octets.len(), next), (1493, 53));
+    // 52 leave 35: one Message with two Listeners takes 30.
+    let table = crowd(52, 0, 3);
+    let (octets, next) = written(&table, 2, 0);
+    assert_eq!((octets.len(), next), (1495, 54));
+}
+
+#[test]
+fn from_a_place_in_the_middle() {
+    let table = crowd(3, 2, 2);
+    let expected = declarations::of_port(&table.bridge.as_ref().unwrap().settled, 2);
+    for place in 0..=expected.len() {
+        let (octets, next) = written(&table, 2, place as u32);
+        assert_eq!(next, expected.len());
+        assert_eq!(read_back(&octets), expected[place..]);
+    }
+}
+
+#[test]
+fn place_equal_to_count_gives_the_empty_pdu() {
+    let table = crowd(3, 2, 2);
+    assert_eq!(written(&table, 2, 7), (vec![0, 0, 0], 7));
+    let mut buffer = [0; 1500];
+    assert_eq!(table.write(2, 8, &mut buffer).number, 13);
+    // Start leaves the settled state empty.
+    let table = started(&settings(2));
+    assert_eq!(written(&table, 1, 0), (vec![0, 0, 0], 0));
+    assert_eq!(table.write(1, 1, &mut buffer).number, 13);
+}
+
+#[test]
+fn octets_past_the_length_stay_and_a_longer_buffer_changes_nothing() {
+    let table = crowd(54, 0, 0);
+    let mut answers = Vec::new();
+    for length in [1500, 1501, 2048, 4000] {
+        let mut buffer = vec![0xa5; length];
+        let answer = table.write(2, 0, &mut buffer);
+        assert!(buffer[answer.length..].iter().all(|octet| *octet == 0xa5));
+        answers.push((answer, buffer[..answer.length].to_vec()));
+    }
+    assert!(answers.iter().all(|answer| *answer == answers[0]));
+}
+
+#[test]
+fn write_and_report_change_nothing_in_the_table() {
+    let table = crowd(3, 2, 2);
+    let before = table.clone();
+    written(&table, 2, 0);
+    table.report(2, 0);
+    table.write(2, 0, &mut [0; 10]);
+    table.report(9, 9);
+    assert_eq!(table, before);
+}
+
+#[test]
+fn the_octets_of_each_type() {
+    let mut settings = settings(2);
+    settings.ports[1].latency = PerClass { a: 0x0102, b: 0 };
+    settings.ports[1].largest_frame = 300;
+    let mut table = started(&settings);
+    let mut advertise = talker(STREAM);
+    advertise.accumulated_latency = 0x0a00_0000;
+    advertise.parameters.vlan = 0xf123;
+    let mut large = talker(STREAM + 1);
+    large.parameters.max_frame_size = 301;
+    large.parameters.rank = 0;
+    join_talker(&mut table, 1, &advertise);
+    join_talker(&mut table, 1, &large);
+    join_talker(&mut table, 2, &talker(STREAM + 2));
+    join_listener(&mut table, 1, STREAM + 2, READY_FAILED);
+    advance(&mut table, 1);
+    let (octets, next) = written(&table, 2, 0);
+    assert_eq!(next, 3);
+    let mut expected: Vec<u8> = vec![0];
+    expected.extend([1, 25, 0, 30, 0, 1, 2, 0, 0, 0, 0, 1, 0, 1]);
+    expected.extend([0x91, 0xe0, 0xf0, 0, 0, 1, 0xf1, 0x23, 0, 224, 0, 1, 0x70]);
+    expected.extend([0x0a, 0, 0x01, 0x02, 0x6c, 0, 0]);
+    expected.extend([2, 34, 0, 39, 0, 1, 2, 0, 0, 0, 0, 1, 0, 2]);
+    expected.extend([0x91, 0xe0, 0xf0, 0, 0, 2, 0, 2, 1, 0x2d, 0, 1, 0x60]);
+    expected.extend([0, 0, 0x01, 0x02, 0x80, 0, 0, 0, 0, 0, 0, 7, 14, 0x6c, 0, 0]);
+    expected.extend([3, 8, 0, 14, 0, 1, 2, 0, 0, 0, 0, 1, 0, 3, 0x6c, 0xc0, 0, 0]);
+    expected.extend([0, 0]);
+    assert_eq!(octets, expected);
+}
+
+#[test]
+fn reserved_bits_are_written_0() {
+    let mut vector = talker_vector(&talker(STREAM), &[JOIN_MT]);
+    vector.first_value[20] |= 0x0f;
+    let mut table = started(&settings(2));
+    accept(&mut table, 1, &one_message(AttributeType::TalkerAdvertise, vec![vector]));
+    advance(&mut table, 1);
+    let (octets, _) = written(&table, 2, 0);
+    assert_eq!(octets[1 + 4 + 2 + 20], 0x70);
+}
+
+#[test]
+fn written_declarations_show_the_last_settled_state() {
+    let mut table = started(&settings(3));
+    join_talker(&mut table, 2, &talker(STREAM));
+    join_listener(&mut table, 3, STREAM, READY);
+    advance(&mut table, 1);
+    let before: Vec<_> = (1..=3).map(|port| all_pdus(&table, port)).collect();
+    // Latency, type, Listener and a lower Talker port since then change nothing.
+    let mut later = failed(STREAM, 5);
+    later.accumulated_latency = 99;
+    join_talker(&mut table, 2, &later);
+    join_talker(&mut table, 1, &talker(STREAM));
+    join_talker(&mut table, 1, &talker(STREAM + 1));
+    join_listener(&mut table, 3, STREAM, ASKING);
+    let after: Vec<_> = (1..=3).map(|port| all_pdus(&table, port)).collect();
+    assert_eq!(before, after);
+    advance(&mut table, 2);
+    let settled: Vec<_> = (1..=3).map(|port| all_pdus(&table, port)).collect();
+    assert_ne!(before, settled);
+}
+
+/// Checks each accepted write of generated scripts.
+struct WritesReadBack {
+    checked: usize,
+}
+
+impl Watcher for WritesReadBack {
+    fn called(&mut self, call: &Call, number: numbers::Number, table: &Table) {
+        let (Call::Write { port, place, answer }, 0) = (call, number) else {
+            return;
+        };
+        let bridge = table.bridge.as_ref().unwrap();
+        let declared = declarations::of_port(&bridge.settled, *port as usize);
+        let (octets, next) = written(table, *port, *place);
+        let expected =
+            WriteAnswer { number: 0, length: octets.len(), next_place: next };
+        assert_eq!(*answer, expected);
+        assert_eq!(read_back(&octets), declared[*place as usize..next]);
+        assert!(octets.len() <= 1500);
+        // One more would not fit.
+        if next < declared.len() {
+            let more = declarations::pdu(&declared[*place as usize..=next]);
+            assert!(more.len() > 1500);
+        }
+        self.checked += 1;
+    }
+}
+
+#[test]
+fn all_writes_of_generated_scripts_read_back() {
+    let mut watcher = WritesReadBack { checked: 0 };
+    for seed in 0..300 {
+        calls::run_watched(&generator::calls(seed).octets, &mut watcher);
+    }
+    assert!(watcher.checked > 1_000);
+}
