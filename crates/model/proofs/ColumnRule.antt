@@ -1,22 +1,24 @@
--- What advance decides is what the rules of settling give, in their own terms: each column is the first step that applies,
--- with what is left computed from the columns of the more important streams, and each class total is the sum of what is
--- reserved and at most its limit (01, "Settling").
+-- What advance leaves is what the rules of settling give, in their own terms: each column is the first step that applies,
+-- with what is left computed from the columns of the more important streams; entries, latencies and Listeners follow from the
+-- columns; each class total is the sum of what is reserved and at most its limit (01, "Settling").
 use mathlib.Core.Path.{_≡_, refl, sym, _∙_, ap}
-use mathlib.Core.List.{List, [], _∷_}
+use mathlib.Core.List.{List, [], _∷_, map}
 use mathlib.Core.Bool.{Bool, true, false, cond, not, _&&_, false≢true}
 use Prim.Native.Nat.{ℕ, zero, suc, _+_, _-_, _^_, _≤_, _<_}
 use native.Mathlib.Omega.{arith}
-use lib.ListN.{getD, take}
+use lib.ListN.{getD, take, length}
 use lib.Dec.{ltb, leb}
 use borrow.Author.Tests.{ltb-true, ltb-false, lt-leb, le-leb}
-use Rattle.model.specs.Lists.{All, keep}
-use Rattle.model.specs.State.{Settings, Health, sound, broken, Column, none, advertise, failed, Stream, Class, noClass, classA, classB, sameClass, cellAt, resultAt}
+use Rattle.model.specs.Lists.{All, keep, tabulate}
+use Rattle.model.specs.State.{Settings, Health, sound, broken, Column, none, advertise, failed, Entry, noEntry, filters, forwards, Declared, nothing, Result, Stream, Bridge, Class, noClass, classA, classB, sameClass, limit, cellAt, resultAt, unsettled, Totals, noTotals}
 use Rattle.model.specs.Registrations.{ids}
 use Rattle.model.specs.Bandwidth.{Claim, key, above, sort, reserved, remains, admitted, total, taken}
-use Rattle.model.specs.Settling.{expire, held, remain, Source, nowhere, from, sourceOf, streamClass, first, clear, brokenColumn, stepsFrom, steps, ageOf, claim, claims, limitOn, leftFor, byBandwidth, columnOf, decideAt, totalOn}
+use Rattle.model.specs.Settling.{remain, Source, nowhere, from, sourceOf, isSource, fixedOf, streamClass, registered, isReady, first, clear, brokenColumn, stepsFrom, steps, ageOf, claim, claims, limitOn, leftFor, byBandwidth, columnOf, latencyOut, entryOf, ageKept, latencyKept, passed, mergeAll, merged, decideAt, decide, totalOn, totalsOn, settle}
 use Rattle.model.proofs.Lists.{all-map, all-both, all-each, and-true, and-false}
 use Rattle.model.proofs.Valid.{Rising}
 use Rattle.model.proofs.Admission.{Distinct, key-id, within, subtracted, total-is-sum}
+pub use Rattle.model.proofs.AdvanceKeepsForm.{remain-all, remain-rising}
+use Rattle.model.proofs.AdvanceKeepsForm.{decided-ids}
 
 -- The rule: what the columns of a port are, in terms of themselves.
 
@@ -27,23 +29,97 @@ isAdvertise (failed b c) = false
 
 -- whether a stream reserves on p in class c, where its column there is col: "Advertise streams of that class with Listener
 -- Ready or Ready Failed on p"; "Only those reserve"
-unfoldable pub reserves : Settings → ℕ → ℕ → Class → Column → Stream → Bool
-reserves st now p c col x = (sameClass (streamClass st x) c && isAdvertise col) && claim st now p x .ready
+unfoldable pub reserves : Settings → ℕ → Class → Column → Stream → Bool
+reserves st p c col x = (sameClass (streamClass st x) c && isAdvertise col) && isReady (registered (cellAt x p))
 
--- the demands on p of those streams that pass a test and reserve there, each with its column given by col
+-- the sum of the demands on p, in bits per second, of those streams that pass a test and reserve there in class c, where col
+-- gives the column of each
 unfoldable pub spent : Settings → ℕ → ℕ → Class → (Stream → Column) → (Claim → Bool) → List Stream → ℕ
 spent st now p c col test [] = 0
 spent st now p c col test (x ∷ s) =
-    spent st now p c col test s + cond (test (claim st now p x) && reserves st now p c (col x) x) (claim st now p x .demand) 0
+    let d = claim st now p x in
+    spent st now p c col test s + cond (test d && reserves st p c (col x) x) (d .demand) 0
 
--- The column of x on p: the first of the steps a to i that applies, where "what is left is the limit less demands of more
--- important Advertise streams of that class with Listener Ready or Ready Failed on p", and col gives the columns on p.
+-- The column of x on p: the first of the steps a to i that applies, where col gives the columns on p and "What is left is the
+-- limit less demands of more important Advertise streams of that class with Listener Ready or Ready Failed on p"; the more
+-- important has the lower key.
 unfoldable pub ruled : Settings → ℕ → List Stream → ℕ → (Stream → Column) → Stream → Column
 ruled st now s p col x =
     let c = streamClass st x in
     let d = claim st now p x in
     let left = limitOn st now s p c - spent st now p c col (λ e. ltb (key e) (key d)) s in
     first (steps st p x) (byBandwidth st (d .demand) left)
+
+-- What is decided over the streams s, on every port, is what the rules give.
+pub record Given (st : Settings) (now : ℕ) (s : List Stream) : Type 0 where
+  -- each column is the first step that applies
+  pub columns : (p : ℕ) (x : Stream) → columnOf st now s p x ≡ ruled st now s p (columnOf st now s p) x
+  -- "A port's class total is its reserved sum"
+  pub totals : (p : ℕ) (c : Class) → totalOn st now s p c ≡ spent st now p c (columnOf st now s p) (λ e. true) s
+  -- no class total is above its limit
+  pub limits : (p : ℕ) (c : Class) → totalOn st now s p c ≤ limitOn st now s p c
+
+-- The settled bridge: all that it shows is what the rules give, read off the bridge itself.
+
+-- the column of a stream on p, as the bridge shows it
+unfoldable pub columnAt : ℕ → Stream → Column
+columnAt p x = resultAt x p .column
+
+-- the total of a class on p, as the bridge shows it
+unfoldable pub totalAt : Bridge → ℕ → Class → ℕ
+totalAt b p noClass = 0
+totalAt b p classA = getD (b .totals) p noTotals .totalA
+totalAt b p classB = getD (b .totals) p noTotals .totalB
+
+-- the stream x on the port at place p of the bridge b
+pub record SettledAt (b : Bridge) (x : Stream) (p : ℕ) : Type 0 where
+  -- "Its column on port p, first that applies", from the columns and ages that the bridge shows
+  pub column : columnAt p x ≡ ruled (b .settings) (b .clock) (b .streams) p (columnAt p) x
+  -- "Latency out is latency in plus the class latency of p (0 without a class), at most 2^32 - 1"; with column none, 0
+  pub latency : resultAt x p .latency ≡ latencyKept (columnAt p x) (latencyOut (b .settings) p x)
+  -- Table 35-12: the entry for this column and the Listener registered on p
+  pub entry : resultAt x p .entry ≡ entryOf (columnAt p x) (registered (cellAt x p))
+  -- "Merged on t": there the merge of what is passed on from every port, and none elsewhere
+  pub declares : resultAt x p .declares
+      ≡ cond (isSource (sourceOf x) p) (mergeAll (tabulate 8 0 (λ q. passed (columnAt q x) (registered (cellAt x q))))) nothing
+
+pub record SettledStream (b : Bridge) (x : Stream) : Type 0 where
+  -- the values registered on the Talker port, as they were taken then
+  pub values : x .settled ≡ fixedOf (sourceOf x)
+  -- there is room for eight ports; a place that is no port of this bridge has column none
+  pub places : length (x .results) ≡ 8
+  pub shows : (p : ℕ) → p < 8 → SettledAt b x p
+
+pub record Settled (b : Bridge) : Type 0 where
+  pub streams : All (SettledStream b) (b .streams)
+  pub places : length (b .totals) ≡ 8
+  -- "A port's class total is its reserved sum"
+  pub totals : (p : ℕ) → p < 8 → (c : Class) → totalAt b p c ≡ spent (b .settings) (b .clock) p c (columnAt p) (λ e. true) (b .streams)
+  -- no class total is above its limit
+  pub limits : (p : ℕ) → p < 8 → (c : Class) → totalAt b p c ≤ limitOn (b .settings) (b .clock) (b .streams) p c
+
+-- what an advance to the time now carries over from a stream x to the stream y that it leaves
+pub record Carried (now : ℕ) (x y : Stream) : Type 0 where
+  pub id : y .id ≡ x .id
+  pub cells : y .cells ≡ x .cells
+  -- "Age is counted from the whole second, clock / 100 rounded down, of the advance that first made an entry; it is forgotten
+  -- when the entry goes"
+  pub ages : (p : ℕ) → p < 8 → resultAt y p .age ≡ ageKept (resultAt y p .entry) (ageOf now (resultAt x p))
+
+-- two lists, place by place
+abbrev pub Pairwise : {A B : Type 0} → (A → B → Type 0) → List A → List B → Type 0
+Pairwise R [] [] = Unit {0}
+Pairwise R [] (y ∷ m) = ⊥
+Pairwise R (x ∷ l) [] = ⊥
+Pairwise R (x ∷ l) (y ∷ m) = R x y × Pairwise R l m
+
+-- The bridge c is what an advance of b to the time now leaves: "Advance sets the clock, removes every registration leaving
+-- for at least the leave time, drops unheld streams, then decides".
+pub record Advanced (now : ℕ) (b c : Bridge) : Type 0 where
+  pub settings : c .settings ≡ b .settings
+  pub clock : c .clock ≡ now
+  pub streams : Pairwise (Carried now) (remain (b .settings) now (b .streams)) (c .streams)
+  pub decided : Settled c
 
 -- The first step that applies.
 
@@ -119,30 +195,13 @@ advertised st p x d left =
     first-advertise (steps st p x) (byBandwidth st d left) (plain st p x)
     ∙ ap (λ (t : Bool). clear (steps st p x) && t) (by-bandwidth st d left)
 
--- The streams that remain, and their claims, are among those held.
+-- No two claims are equally important.
 
+-- a StreamID has 64 bits
 abbrev pub Small : ℕ → Type 0
 Small i = i < 2 ^ 64
 
 module _ (st : Settings) (now : ℕ) where
-  pub remain-all : (P : ℕ → Type 0) (s : List Stream) → All P (ids s) → All P (ids (remain st now s))
-  unfolding ids remain expire
-  remain-all P [] a = tt
-  remain-all P (x ∷ s) a = go (held (expire st now x .cells)) (remain-all P s (a .1))
-    where
-      go : (t : Bool) → All P (ids (remain st now s)) → All P (ids (keep t (expire st now x) (remain st now s)))
-      go true ih = (a .0, ih)
-      go false ih = ih
-
-  pub remain-rising : (s : List Stream) → Rising (ids s) → Rising (ids (remain st now s))
-  unfolding ids remain expire Rising
-  remain-rising [] r = tt
-  remain-rising (x ∷ s) r = go (held (expire st now x .cells)) (remain-rising s (r .1))
-    where
-      go : (t : Bool) → Rising (ids (remain st now s)) → Rising (ids (keep t (expire st now x) (remain st now s)))
-      go true ih = (remain-all (λ j. x .id < j) s (r .0), ih)
-      go false ih = ih
-
   claims-all : (p : ℕ) (c : Class) (P : ℕ → Type 0) (s : List Stream) → All P (ids s) → All (λ d. P (d .id)) (claims st now p c s)
   unfolding ids claims claim
   claims-all p c P [] a = tt
@@ -152,7 +211,6 @@ module _ (st : Settings) (now : ℕ) where
       go true ih = (a .0, ih)
       go false ih = ih
 
-  -- no two claims are equally important
   pub claims-distinct : (p : ℕ) (c : Class) (s : List Stream) → Rising (ids s) → All Small (ids s) → Distinct (claims st now p c s)
   unfolding ids claims Rising Distinct
   claims-distinct p c [] r a = tt
@@ -177,7 +235,7 @@ module _ (st : Settings) (now p : ℕ) (c : Class) (col : Stream → Column) (ok
   Agrees x = (sameClass (streamClass st x) c && isAdvertise (col x)) ≡ ((clear (steps st p x) && sameClass (streamClass st x) c) && ok (claim st now p x))
 
   pub spent-above : (k : ℕ) (s : List Stream) → All Agrees s → spent st now p c col (λ e. ltb (key e) k) s ≡ taken ok (above k (claims st now p c s))
-  unfolding spent reserves claims above taken
+  unfolding spent reserves claim claims above taken
   spent-above k [] a = refl
   spent-above k (x ∷ s) a = rw (a .0) (go (clear (steps st p x) && sameClass (streamClass st x) c) (ltb (key d) k) refl (spent-above k s (a .1)))
     where
@@ -193,7 +251,7 @@ module _ (st : Settings) (now p : ℕ) (c : Class) (col : Stream → Column) (ok
       go false false e h = omega arith
 
   spent-all : (s : List Stream) → All Agrees s → spent st now p c col (λ e. true) s ≡ taken ok (claims st now p c s)
-  unfolding spent reserves claims taken
+  unfolding spent reserves claim claims taken
   spent-all [] a = refl
   spent-all (x ∷ s) a = rw (a .0) (go (clear (steps st p x) && sameClass (streamClass st x) c) (spent-all s (a .1)))
     where
@@ -250,21 +308,285 @@ module _ (st : Settings) (now : ℕ) (s : List Stream) (p : ℕ) where
   unfolding totalOn total
   total-within c = within (limitOn st now s p c) (sort (claims st now p c s))
 
--- What advance decides over the streams s is what the rules give.
-pub record Given (st : Settings) (now : ℕ) (s : List Stream) : Type 0 where
-  -- each column is the first step that applies
-  pub columns : (p : ℕ) (x : Stream) → columnOf st now s p x ≡ ruled st now s p (columnOf st now s p) x
-  -- "A port's class total is its reserved sum"
-  pub totals : (p : ℕ) (c : Class) → totalOn st now s p c ≡ spent st now p c (columnOf st now s p) (λ e. true) s
-  -- no class total is above its limit
-  pub limits : (p : ℕ) (c : Class) → totalOn st now s p c ≤ limitOn st now s p c
-
 pub given : (st : Settings) (now : ℕ) (s : List Stream) → Rising (ids s) → All Small (ids s) → Given st now s
 given st now s r a = record {
   columns = λ p x. columns-ruled st now s p r a x;
   totals = λ p c. total-ruled st now s p r a c;
   limits = λ p c. total-within st now s p c;
 }
+
+-- columns that agree on the streams spend the same
+module _ (st : Settings) (now p : ℕ) (col other : Stream → Column) where
+  spent-same : (c : Class) (test : Claim → Bool) (s : List Stream) → All (λ x. col x ≡ other x) s → spent st now p c col test s ≡ spent st now p c other test s
+  unfolding spent
+  spent-same c test [] a = refl
+  spent-same c test (x ∷ s) a = rw (a .0, spent-same c test s (a .1))
+
+  pub ruled-same : (s : List Stream) (x : Stream) → All (λ y. col y ≡ other y) s → ruled st now s p col x ≡ ruled st now s p other x
+  unfolding ruled
+  ruled-same s x a = rw (spent-same (streamClass st x) (λ e. ltb (key e) (key (claim st now p x))) s a)
+
+unfoldable hasEntry : Entry → Bool
+hasEntry noEntry = false
+hasEntry filters = true
+hasEntry forwards = true
+
+-- a stream whose column on p is decided by the steps, and whose entry by the column
+pub record Shown (st : Settings) (p : ℕ) (y : Stream) : Type 0 where
+  pub demand : ℕ
+  pub left : ℕ
+  pub column : columnAt p y ≡ first (steps st p y) (byBandwidth st demand left)
+  pub entry : resultAt y p .entry ≡ entryOf (columnAt p y) (registered (cellAt y p))
+
+-- where such a stream reaches step h it has an entry and so keeps its age: its claim is the same before and after an advance
+module _ (st : Settings) (now p : ℕ) (here : p < 8) where
+  entry-made : (demand left : ℕ) (d : Declared) → hasEntry (entryOf (byBandwidth st demand left) d) ≡ true
+  unfolding byBandwidth hasEntry entryOf
+  entry-made demand left d = go (ltb left demand) (isReady d)
+    where
+      forwarded : (r : Bool) → hasEntry (cond r forwards filters) ≡ true
+      forwarded true = refl
+      forwarded false = refl
+
+      go : (t r : Bool) → hasEntry (entryOf (cond t (failed (st .bridgeId) 1) advertise) d) ≡ true
+      go true r = refl
+      go false r = forwarded (isReady d)
+
+  age-runs : (r : Result) (a : ℕ) → hasEntry (r .entry) ≡ true → r .age ≡ ageKept (r .entry) a → ageOf now r ≡ a
+  unfolding ageOf ageKept hasEntry
+  age-runs r a h e = go (r .entry) refl
+    where
+      go : (t : Entry) → r .entry ≡ t → ageOf now r ≡ a
+      go noEntry q = absurd (false≢true (rw q at h))
+      go filters q = rw q (rw q at e)
+      go forwards q = rw q (rw q at e)
+
+  module _ (x y : Stream) (carried : Carried now x y) where
+    carried-steps : steps st p y ≡ steps st p x
+    unfolding steps cellAt sourceOf
+    carried-steps = rw (carried .cells)
+
+    carried-class : streamClass st y ≡ streamClass st x
+    unfolding streamClass sourceOf
+    carried-class = rw (carried .cells)
+
+    carried-claim : Shown st p y → clear (steps st p y) ≡ true → claim st now p y ≡ claim st now p x
+    unfolding claim cellAt sourceOf
+    carried-claim shown free = rw (age, carried .id, carried .cells)
+      where
+        decided : columnAt p y ≡ byBandwidth st (shown .demand) (shown .left)
+        decided = shown .column ∙ first-clear (steps st p y) _ free
+
+        made : hasEntry (resultAt y p .entry) ≡ true
+        made = ap hasEntry (shown .entry ∙ ap (λ (z : Column). entryOf z (registered (cellAt y p))) decided)
+            ∙ entry-made (shown .demand) (shown .left) (registered (cellAt y p))
+
+        age : ageOf now (resultAt y p) ≡ ageOf now (resultAt x p)
+        age = age-runs (resultAt y p) (ageOf now (resultAt x p)) made (carried .ages p here)
+
+  carried-claims : (c : Class) (s t : List Stream) → Pairwise (Carried now) s t → All (Shown st p) t → claims st now p c t ≡ claims st now p c s
+  unfolding claims
+  carried-claims c [] [] w a = refl
+  carried-claims c [] (y ∷ t) w a = absurd w
+  carried-claims c (x ∷ s) [] w a = absurd w
+  carried-claims c (x ∷ s) (y ∷ t) w a =
+      rw (carried-class x y (w .0)) (go (clear (steps st p y)) refl (sameClass (streamClass st x) c) (carried-claims c s t (w .1) (a .1)))
+    where
+      go : (b : Bool) → clear (steps st p y) ≡ b → (k : Bool) → claims st now p c t ≡ claims st now p c s →
+          keep (clear (steps st p y) && k) (claim st now p y) (claims st now p c t) ≡ keep (clear (steps st p x) && k) (claim st now p x) (claims st now p c s)
+      go true e k ih = rw (carried-claim x y (w .0) (a .0) e, carried-steps x y (w .0), ih)
+      go false e k ih = rw (← carried-steps x y (w .0), e) ih
+
+  module _ (s t : List Stream) (carried : Pairwise (Carried now) s t) (shown : All (Shown st p) t) where
+    carried-limit : (c : Class) → limitOn st now t p c ≡ limitOn st now s p c
+    unfolding limitOn
+    carried-limit c = refl
+
+    pub carried-total : (c : Class) → totalOn st now t p c ≡ totalOn st now s p c
+    unfolding totalOn
+    carried-total c = rw (carried-limit c, carried-claims c s t carried shown)
+
+    -- decided again from what the advance left, a column is the same
+    pub carried-column : (x y : Stream) → Carried now x y → Shown st p y → columnOf st now t p y ≡ columnOf st now s p x
+    unfolding columnOf leftFor
+    carried-column x y w z = go (clear (steps st p y)) refl
+      where
+        go : (b : Bool) → clear (steps st p y) ≡ b → columnOf st now t p y ≡ columnOf st now s p x
+        go true e =
+            let c = streamClass st x in
+            rw (carried-class x y w, carried-limit c, carried-claims c s t carried shown, carried-claim x y w z e, carried-steps x y w)
+        go false e =
+            first-decided (steps st p y) _ (byBandwidth st (claim st now p x .demand) (leftFor st now s p x)) e
+            ∙ rw (carried-steps x y w)
+
+-- What a list made from a function has at a place.
+module _ {A : Type 0} (f : ℕ → A) where
+  pub getD-tabulate : (n p q : ℕ) (d : A) → q < n → getD (tabulate n p f) q d ≡ f (p + q)
+  unfolding tabulate
+  getD-tabulate zero p q d h = absurd (omega arith)
+  getD-tabulate (suc n) p zero d h = ap f (omega arith)
+  getD-tabulate (suc n) p (suc q) d h = getD-tabulate n (suc p) q d (omega arith) ∙ ap f (omega arith)
+
+  pub at-place : (q : ℕ) (d : A) → q < 8 → getD (tabulate 8 0 f) q d ≡ f q
+  at-place q d h = getD-tabulate 8 0 q d h ∙ ap f (omega arith)
+
+pub tabulate-same : {A : Type 0} (f g : ℕ → A) (n p : ℕ) → ((q : ℕ) → p ≤ q → q < p + n → f q ≡ g q) → tabulate n p f ≡ tabulate n p g
+unfolding tabulate
+tabulate-same f g zero p h = refl
+tabulate-same f g (suc n) p h = rw (h p (omega arith) (omega arith), tabulate-same f g n (suc p) (λ q a b. h q (omega arith) (omega arith)))
+
+all-image : {A B : Type 0} (P : B → Type 0) (f : A → B) → ((x : A) → P (f x)) → (l : List A) → All P (map f l)
+all-image P f h [] = tt
+all-image P f h (x ∷ l) = (h x, all-image P f h l)
+
+pairwise-image : {A B : Type 0} (R : A → B → Type 0) (f : A → B) → ((x : A) → R x (f x)) → (l : List A) → Pairwise R l (map f l)
+pairwise-image R f h [] = tt
+pairwise-image R f h (x ∷ l) = (h x, pairwise-image R f h l)
+
+-- Settling
+module _ (st : Settings) (now : ℕ) (s : List Stream) where
+  decided-at : (x : Stream) (p : ℕ) → p < 8 → resultAt (decide st now s x) p ≡ decideAt st now s x p
+  unfolding decide resultAt
+  decided-at x p h = at-place (decideAt st now s x) p unsettled h
+
+  decide-carries : (x : Stream) → Carried now x (decide st now s x)
+  unfolding decide decideAt
+  decide-carries x = record { id = refl; cells = refl; ages = λ p h. rw (decided-at x p h) }
+
+  decided-column : (x : Stream) (p : ℕ) → p < 8 → columnAt p (decide st now s x) ≡ columnOf st now s p x
+  unfolding columnAt decideAt
+  decided-column x p h = ap (λ (r : Result). r .column) (decided-at x p h)
+
+  decided-entry : (x : Stream) (p : ℕ) → p < 8 →
+      resultAt (decide st now s x) p .entry ≡ entryOf (columnAt p (decide st now s x)) (registered (cellAt (decide st now s x) p))
+  unfolding decideAt cellAt decide
+  decided-entry x p h =
+      ap (λ (r : Result). r .entry) (decided-at x p h)
+      ∙ ap (λ (c : Column). entryOf c (registered (cellAt x p))) (sym (decided-column x p h))
+
+  decide-shows : (p : ℕ) → p < 8 → (x : Stream) → Shown st p (decide st now s x)
+  unfolding columnOf cellAt steps sourceOf decide
+  decide-shows p h x = record {
+    demand = claim st now p x .demand;
+    left = leftFor st now s p x;
+    column = decided-column x p h;
+    entry = decided-entry x p h;
+  }
+
+  decided : List Stream
+  decided = map (decide st now s) s
+
+  carries : Pairwise (Carried now) s decided
+  unfolding decided
+  carries = pairwise-image (Carried now) (decide st now s) decide-carries s
+
+  module _ (p : ℕ) (here : p < 8) where
+    shows : All (Shown st p) decided
+    unfolding decided
+    shows = all-image (Shown st p) (decide st now s) (decide-shows p here) s
+
+    again : (x : Stream) → columnOf st now decided p (decide st now s x) ≡ columnAt p (decide st now s x)
+    again x =
+        carried-column st now p here s decided carries shows x (decide st now s x) (decide-carries x) (decide-shows p here x)
+        ∙ sym (decided-column x p here)
+
+    all-again : All (λ y. columnOf st now decided p y ≡ columnAt p y) decided
+    unfolding decided
+    all-again = all-image (λ y. columnOf st now decided p y ≡ columnAt p y) (decide st now s) again s
+
+    module _ (r : Rising (ids s)) (a : All Small (ids s)) where
+      decided-rising : Rising (ids decided)
+      unfolding decided
+      decided-rising = rw (decided-ids st now s s) r
+
+      decided-small : All Small (ids decided)
+      unfolding decided
+      decided-small = rw (decided-ids st now s s) a
+
+      decided-ruled : (x : Stream) → columnAt p (decide st now s x) ≡ ruled st now decided p (columnAt p) (decide st now s x)
+      decided-ruled x =
+          sym (again x)
+          ∙ columns-ruled st now decided p decided-rising decided-small (decide st now s x)
+          ∙ ruled-same st now p (columnOf st now decided p) (columnAt p) decided (decide st now s x) all-again
+
+      decided-total : (c : Class) → totalOn st now s p c ≡ spent st now p c (columnAt p) (λ e. true) decided
+      decided-total c =
+          sym (carried-total st now p here s decided carries shows c)
+          ∙ total-ruled st now decided p decided-rising decided-small c
+          ∙ spent-same st now p (columnOf st now decided p) (columnAt p) c (λ e. true) decided all-again
+
+    decided-within : (c : Class) → totalOn st now s p c ≤ limitOn st now decided p c
+    decided-within c = rw (← carried-total st now p here s decided carries shows c) (total-within st now decided p c)
+
+    decided-latency : (x : Stream) →
+        resultAt (decide st now s x) p .latency ≡ latencyKept (columnAt p (decide st now s x)) (latencyOut st p (decide st now s x))
+    unfolding decideAt latencyOut streamClass sourceOf decide
+    decided-latency x =
+        ap (λ (r : Result). r .latency) (decided-at x p here)
+        ∙ ap (λ (c : Column). latencyKept c (latencyOut st p x)) (sym (decided-column x p here))
+
+    decided-declares : (x : Stream) → resultAt (decide st now s x) p .declares
+        ≡ cond (isSource (sourceOf (decide st now s x)) p)
+        (mergeAll (tabulate 8 0 (λ q. passed (columnAt q (decide st now s x)) (registered (cellAt (decide st now s x) q))))) nothing
+    unfolding decideAt merged sourceOf cellAt decide
+    decided-declares x =
+        ap (λ (r : Result). r .declares) (decided-at x p here)
+        ∙ ap (λ (l : List Declared). cond (isSource (sourceOf x) p) (mergeAll l) nothing)
+        (tabulate-same (λ q. passed (columnOf st now s q x) (registered (cellAt x q)))
+        (λ q. passed (columnAt q (decide st now s x)) (registered (cellAt x q))) 8 0
+        (λ q l h. ap (λ (c : Column). passed c (registered (cellAt x q))) (sym (decided-column x q h))))
+
+module _ (now : ℕ) (b : Bridge) where
+  remaining : List Stream
+  remaining = remain (b .settings) now (b .streams)
+
+  -- the totals that the settled bridge holds are those decided
+  total-kept : (p : ℕ) → p < 8 → (c : Class) → totalAt (settle now b) p c ≡ totalOn (b .settings) now remaining p c
+  unfolding settle totalAt totalsOn limitOn limit remaining
+  total-kept p h noClass = omega (arith, total-within (b .settings) now remaining p noClass)
+  total-kept p h classA = ap (λ (t : Totals). t .totalA) (at-place (totalsOn (b .settings) now remaining) p noTotals h)
+  total-kept p h classB = ap (λ (t : Totals). t .totalB) (at-place (totalsOn (b .settings) now remaining) p noTotals h)
+
+  -- What advance leaves is what the rules give.
+  module _ (r : Rising (ids (b .streams))) (a : All Small (ids (b .streams))) where
+    risen : Rising (ids remaining)
+    unfolding remaining
+    risen = remain-rising (b .settings) now (b .streams) r
+
+    small : All Small (ids remaining)
+    unfolding remaining
+    small = remain-all (b .settings) now Small (b .streams) a
+
+    settled-stream : (x : Stream) → SettledStream (settle now b) (decide (b .settings) now remaining x)
+    unfolding settle remaining decided decide tabulate sourceOf
+    settled-stream x = record {
+      values = refl;
+      places = refl;
+      shows = λ p h. record {
+        column = decided-ruled (b .settings) now remaining p h risen small x;
+        latency = decided-latency (b .settings) now remaining p h x;
+        entry = decided-entry (b .settings) now remaining x p h;
+        declares = decided-declares (b .settings) now remaining p h x;
+      };
+    }
+
+    pub settled : Settled (settle now b)
+    unfolding settle remaining decided tabulate
+    settled = record {
+      streams = all-image (SettledStream (settle now b)) (decide (b .settings) now remaining) settled-stream remaining;
+      places = refl;
+      totals = λ p h c. total-kept p h c ∙ decided-total (b .settings) now remaining p h risen small c;
+      limits = λ p h c. rw (total-kept p h c) (decided-within (b .settings) now remaining p h c);
+    }
+
+    pub advanced : Advanced now b (settle now b)
+    unfolding settle remaining decided
+    advanced = record {
+      settings = refl;
+      clock = refl;
+      streams = carries (b .settings) now remaining;
+      decided = settled;
+    }
 
 -- What an unimportant stream can't touch: two bridges at one advance that agree on a stream's registrations and age on p, on
 -- the more important claims of its class there, and on the limit, give it the same column and entry on p, however the less
