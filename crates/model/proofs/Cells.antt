@@ -1,1 +1,520 @@
--- To be filled.
+-- A cell in its 39 octets: it is read back as it was written, well-formed octets are written back as they were read, and they
+-- are well-formed exactly when the cell is valid.
+use mathlib.Core.Path.{_≡_, refl, sym, ap, _∙_}
+use mathlib.Core.List.{List, [], _∷_, _++_}
+use mathlib.Core.Bool.{Bool, true, false, cond, not, _||_, or-assoc, or-false, false≢true}
+use Prim.Native.Nat.{ℕ, zero, suc, _+_, _*_, _%_, _^_, _≤_, _<_}
+use native.Mathlib.Omega.{arith}
+use lib.ListN.{length, getD, take, drop, length-append, take-append-drop}
+use lib.Seq.{getD-take, getD-append-seam, getD-append-add}
+use lib.Dec.{eqb, leb, ltb}
+use borrow.Author.Tests.{eqb-true, leb-true, ltb-true, eq-eqb, ne-eqb, le-leb, lt-ltb}
+use Rattle.octets.specs.Be.{beAt}
+use Rattle.octets.specs.Parts.{zeros}
+use Rattle.octets.specs.Fields.{fields, Fit, width, flat}
+use Rattle.octets.proofs.Fields.{length-packed-any, fields-of-packed, fields-fit, fit-at, fit-append, fit-zeros, packed-zeros}
+use Rattle.model.specs.Lists.{All, allTrue, implies, tabulate, parts, Octets, bit, isOne}
+use Rattle.model.specs.State.{Leaving, stays, since, Fixed, Health, sound, broken, Varying, Talker, noTalker, talker, Ready, askingFailed, ready, readyFailed, Listener, noListener, listener, Cell, empty}
+use Rattle.model.specs.Frames.{priorityOf, rankOf}
+use Rattle.model.specs.WrittenFrames.{priorityOctet, fixedNumbers, readyNumber}
+use Rattle.model.specs.Settling.{isTalking, isHearing, held}
+use Rattle.model.specs.Table.{cellWidths, leavingNumber, sinceNumber, toLeaving, healthNumber, bridgeNumber, codeNumber, toHealth, talkerNumbers, listenerNumbers, cellNumbers, fixedFrom, toReady, talkerFrom, listenerFrom, cellFrom, cellOctets, toCell, allZero, leavingRule, cellRules, cellFormed, holds}
+use Rattle.model.proofs.Lists.{all-each, and-left, and-right, and-both, implied, all-true, true-all}
+use Rattle.model.proofs.Valid.{ValidLeaving, ValidFixed, ValidHealth, ValidTalker, ValidListener, ValidCell}
+use Rattle.model.proofs.Parts.{octets-at, octets-packed, zero-between, zero-run, packed-whole, parts-take, parts-flat, Sized}
+
+-- Fixed values: five numbers, the last of them priority and rank.
+
+pub priority-back : (f : Fixed) → ValidFixed f → priorityOf (priorityOctet f) ≡ f .priority
+unfolding priorityOf priorityOctet
+priority-back f v = omega (arith, v .priority, v .rank)
+
+pub rank-back : (f : Fixed) → ValidFixed f → rankOf (priorityOctet f) ≡ f .rank
+unfolding rankOf priorityOctet
+rank-back f v = omega (arith, v .priority, v .rank)
+
+-- four of its bits are zero
+pub priority-forth : (o : ℕ) → o % 16 ≡ 0 → priorityOf o * 32 + rankOf o * 16 ≡ o
+unfolding priorityOf rankOf
+priority-forth o h = omega arith
+
+pub priority-spare : (f : Fixed) → priorityOctet f % 16 ≡ 0
+unfolding priorityOctet
+priority-spare f = omega arith
+
+pub fixed-back : (f : Fixed) → ValidFixed f → (before after : List ℕ) → fixedFrom (length before) (before ++ (fixedNumbers f ++ after)) ≡ f
+unfolding fixedFrom fixedNumbers
+fixed-back f v before after =
+    rw (
+      getD-append-seam before (f .destination) (f .vlan ∷ f .size ∷ f .frames ∷ priorityOctet f ∷ after) 0,
+      getD-append-add before (fixedNumbers f ++ after) 1 0,
+      getD-append-add before (fixedNumbers f ++ after) 2 0,
+      getD-append-add before (fixedNumbers f ++ after) 3 0,
+      getD-append-add before (fixedNumbers f ++ after) 4 0,
+      priority-back f v,
+      rank-back f v,
+    )
+
+pub fixed-forth : (i : ℕ) (vs : List ℕ) → getD vs (i + 4) 0 % 16 ≡ 0
+    → fixedNumbers (fixedFrom i vs) ≡ getD vs i 0 ∷ getD vs (i + 1) 0 ∷ getD vs (i + 2) 0 ∷ getD vs (i + 3) 0 ∷ getD vs (i + 4) 0 ∷ []
+unfolding fixedFrom fixedNumbers priorityOctet
+fixed-forth i vs h = rw (priority-forth (getD vs (i + 4) 0) h)
+
+-- the widths of their fields
+unfoldable pub fixedWidths : List ℕ
+fixedWidths = 6 ∷ 2 ∷ 2 ∷ 2 ∷ 1 ∷ []
+
+pub fixed-fit : (f : Fixed) → ValidFixed f → Fit fixedWidths (fixedNumbers f)
+unfolding Fit fixedWidths fixedNumbers priorityOctet
+fixed-fit f v = (v .destination, (v .vlan, (v .size, (v .frames, (omega (arith, v .priority, v .rank), tt)))))
+
+pub fixed-valid : (i : ℕ) (vs : List ℕ) → getD vs i 0 < 256 ^ 6 → getD vs (i + 1) 0 < 256 ^ 2 → getD vs (i + 2) 0 < 256 ^ 2
+    → getD vs (i + 3) 0 < 256 ^ 2 → getD vs (i + 4) 0 < 256 ^ 1 → ValidFixed (fixedFrom i vs)
+unfolding fixedFrom priorityOf rankOf
+fixed-valid i vs d v z n o = record {
+  destination = d;
+  vlan = v;
+  size = z;
+  frames = n;
+  priority = omega arith;
+  rank = omega arith;
+}
+
+-- Leaving: whether, and since when.
+
+leaving-back : (l : Leaving) → toLeaving (leavingNumber l) (sinceNumber l) ≡ l
+unfolding toLeaving leavingNumber sinceNumber
+leaving-back stays = refl
+leaving-back (since t) = refl
+
+leaving-few : (l : Leaving) → leavingNumber l < 256
+unfolding leavingNumber
+leaving-few stays = omega arith
+leaving-few (since t) = omega arith
+
+since-within : (clock leave : ℕ) (l : Leaving) → ValidLeaving clock leave l → clock < 2 ^ 32 → sinceNumber l < 2 ^ 32
+unfolding sinceNumber
+since-within clock leave stays v h = omega arith
+since-within clock leave (since t) v h = omega (arith, v .0)
+
+leaving-formed : (clock leave : ℕ) (l : Leaving) → ValidLeaving clock leave l → leavingRule clock leave (leavingNumber l) (sinceNumber l) ≡ true
+unfolding leavingRule leavingNumber sinceNumber
+leaving-formed clock leave stays v = refl
+leaving-formed clock leave (since t) v = and-both (leb t clock) (ltb clock (t + leave)) (le-leb t clock (v .0)) (lt-ltb clock (t + leave) (v .1))
+
+-- what the rule says of two numbers
+record Left (clock leave k t : ℕ) : Type 0 where
+  forth : (leavingNumber (toLeaving k t) ≡ k) × (sinceNumber (toLeaving k t) ≡ t)
+  valid : ValidLeaving clock leave (toLeaving k t)
+
+left : (clock leave k t : ℕ) → leavingRule clock leave k t ≡ true → Left clock leave k t
+unfolding leavingRule toLeaving leavingNumber sinceNumber
+left clock leave zero t h = record { forth = (refl, sym (eqb-true t 0 h)); valid = tt }
+left clock leave (suc zero) t h = record {
+  forth = (refl, refl);
+  valid = (leb-true t clock (and-left (leb t clock) (ltb clock (t + leave)) h), ltb-true clock (t + leave) (and-right (leb t clock) (ltb clock (t + leave)) h));
+}
+left clock leave (suc (suc k)) t h =
+    absurd (false≢true (rw (ne-eqb (suc (suc k)) 0 (λ e. omega arith), ne-eqb (suc (suc k)) 1 (λ e. omega arith)) at h))
+
+-- Health: Advertise, or Failed with a Bridge ID and a code.
+
+health-back : (h : Health) → toHealth (healthNumber h) (bridgeNumber h) (codeNumber h) ≡ h
+unfolding toHealth healthNumber bridgeNumber codeNumber
+health-back sound = refl
+health-back (broken b c) = refl
+
+health-forth : (k b c : ℕ) → 1 ≤ k → k ≤ 2 → (k ≡ 1 → (b ≡ 0) × (c ≡ 0))
+    → (healthNumber (toHealth k b c) ≡ k) × (bridgeNumber (toHealth k b c) ≡ b) × (codeNumber (toHealth k b c) ≡ c)
+unfolding healthNumber bridgeNumber codeNumber toHealth
+health-forth zero b c l h z = absurd (omega arith)
+health-forth (suc zero) b c l h z = (refl, sym (z refl .0), sym (z refl .1))
+health-forth (suc (suc zero)) b c l h z = (refl, refl, refl)
+health-forth (suc (suc (suc k))) b c l h z = absurd (omega arith)
+
+health-valid : (k b c : ℕ) → b < 2 ^ 64 → c < 256 → ValidHealth (toHealth k b c)
+unfolding toHealth
+health-valid k b c p q = go (eqb k 1)
+  where
+    go : (t : Bool) → ValidHealth (cond t sound (broken b c))
+    go true = tt
+    go false = (p, q)
+
+-- One bit, and a Listener's kind.
+
+pub bit-back : (m : Bool) → isOne (bit m) ≡ m
+unfolding isOne bit
+bit-back true = refl
+bit-back false = refl
+
+pub bit-forth : (k : ℕ) → k ≤ 1 → bit (isOne k) ≡ k
+unfolding bit isOne
+bit-forth zero h = refl
+bit-forth (suc zero) h = refl
+bit-forth (suc (suc k)) h = absurd (omega arith)
+
+pub bit-few : (m : Bool) → bit m ≤ 1
+unfolding bit
+bit-few true = omega arith
+bit-few false = omega arith
+
+pub ready-back : (r : Ready) → toReady (readyNumber r) ≡ r
+unfolding toReady readyNumber
+ready-back askingFailed = refl
+ready-back ready = refl
+ready-back readyFailed = refl
+
+pub ready-forth : (k : ℕ) → 1 ≤ k → k ≤ 3 → readyNumber (toReady k) ≡ k
+unfolding readyNumber toReady
+ready-forth zero l h = absurd (omega arith)
+ready-forth (suc zero) l h = refl
+ready-forth (suc (suc zero)) l h = refl
+ready-forth (suc (suc (suc zero))) l h = refl
+ready-forth (suc (suc (suc (suc k)))) l h = absurd (omega arith)
+
+pub ready-number : (r : Ready) → (1 ≤ readyNumber r) × (readyNumber r ≤ 3)
+unfolding readyNumber
+ready-number askingFailed = (omega arith, omega arith)
+ready-number ready = (omega arith, omega arith)
+ready-number readyFailed = (omega arith, omega arith)
+
+-- A valid cell: its numbers fit, come back, and keep the rules.
+
+talker-size : (t : Talker) → length (talkerNumbers t) ≡ 12
+unfolding talkerNumbers fixedNumbers
+talker-size noTalker = refl
+talker-size (talker f v m l) = refl
+
+listener-size : (h : Listener) → length (listenerNumbers h) ≡ 3
+unfolding listenerNumbers
+listener-size noListener = refl
+listener-size (listener r l) = refl
+
+health-rules : (h : Health) → (leb (healthNumber h) 2 ≡ true) × (eqb (healthNumber h) 0 ≡ false)
+    × (implies (eqb (healthNumber h) 1) (allZero (bridgeNumber h ∷ codeNumber h ∷ [])) ≡ true)
+unfolding healthNumber bridgeNumber codeNumber allZero
+health-rules sound = (refl, refl, refl)
+health-rules (broken b c) = (refl, refl, refl)
+
+health-fit : (h : Health) → ValidHealth h → (healthNumber h < 256) × (bridgeNumber h < 256 ^ 8) × (codeNumber h < 256)
+unfolding healthNumber bridgeNumber codeNumber
+health-fit sound v = (omega arith, omega arith, omega arith)
+health-fit (broken b c) v = (omega arith, v .0, v .1)
+
+pub ready-rules : (r : Ready) → (leb (readyNumber r) 3 ≡ true) × (eqb (readyNumber r) 0 ≡ false)
+unfolding readyNumber
+ready-rules askingFailed = (refl, refl)
+ready-rules ready = (refl, refl)
+ready-rules readyFailed = (refl, refl)
+
+listener-back : (t : Talker) (h : Listener) → listenerFrom (talkerNumbers t ++ listenerNumbers h) ≡ h
+unfolding listenerFrom talkerNumbers listenerNumbers fixedNumbers
+listener-back noTalker noListener = refl
+listener-back noTalker (listener r l) = rw (ready-rules r .1, ready-back r, leaving-back l)
+listener-back (talker f w m k) noListener = refl
+listener-back (talker f w m k) (listener r l) = rw (ready-rules r .1, ready-back r, leaving-back l)
+
+module _ (clock leave : ℕ) where
+  talker-fit : (t : Talker) → ValidTalker clock leave t → clock < 2 ^ 32 → Fit (take 12 cellWidths) (talkerNumbers t)
+  unfolding Fit cellWidths talkerNumbers fixedWidths
+  talker-fit noTalker v h = fit-zeros (take 12 cellWidths)
+  talker-fit (talker f w m l) v h =
+      let (k, b, c) = health-fit (w .health) (v .1 .health) in (
+        k,
+        (
+          omega (arith, bit-few m),
+          (
+            leaving-few l,
+            (
+              since-within clock leave l (v .2) h,
+              fit-append fixedWidths (fixedNumbers f) (4 ∷ 8 ∷ 1 ∷ []) (w .latency ∷ bridgeNumber (w .health) ∷ codeNumber (w .health) ∷ [])
+                  (fixed-fit f (v .0)) (v .1 .latency, (b, (c, tt))),
+            ),
+          ),
+        ),
+      )
+
+  listener-fit : (h : Listener) → ValidListener clock leave h → clock < 2 ^ 32 → Fit (drop 12 cellWidths) (listenerNumbers h)
+  unfolding Fit cellWidths listenerNumbers
+  listener-fit noListener v h = fit-zeros (drop 12 cellWidths)
+  listener-fit (listener r l) v h = (omega (arith, ready-number r .1), (leaving-few l, (since-within clock leave l v h, tt)))
+
+  cell-fit : (c : Cell) → ValidCell clock leave c → clock < 2 ^ 32 → Fit cellWidths (cellNumbers c)
+  unfolding cellNumbers cellWidths
+  cell-fit c v h =
+      fit-append (take 12 cellWidths) (talkerNumbers (c .talks)) (drop 12 cellWidths) (listenerNumbers (c .hears))
+      (talker-fit (c .talks) (v .talks) h) (listener-fit (c .hears) (v .hears) h)
+
+  talker-back : (t : Talker) → ValidTalker clock leave t → (after : List ℕ) → talkerFrom (talkerNumbers t ++ after) ≡ t
+  unfolding talkerFrom talkerNumbers fixedNumbers
+  talker-back noTalker v after = refl
+  talker-back (talker f w m l) v after =
+      rw (
+        health-rules (w .health) .1,
+        bit-back m,
+        leaving-back l,
+        health-back (w .health),
+        fixed-back f (v .0) (healthNumber (w .health) ∷ bit m ∷ leavingNumber l ∷ sinceNumber l ∷ [])
+            (w .latency ∷ bridgeNumber (w .health) ∷ codeNumber (w .health) ∷ after),
+      )
+
+  hearing-rules : (h : Listener) → ValidListener clock leave h
+      → let at : ℕ → ℕ = λ i. getD (listenerNumbers h) i 0 in
+      All (λ b. b ≡ true)
+      (leb (at 0) 3 ∷ leavingRule clock leave (at 1) (at 2) ∷ implies (eqb (at 0) 0) (allZero (take 2 (drop 1 (listenerNumbers h)))) ∷ [])
+  unfolding listenerNumbers leavingRule allZero
+  hearing-rules noListener v = (refl, (refl, (refl, tt)))
+  hearing-rules (listener r l) v = (ready-rules r .0, (leaving-formed clock leave l v, (rw (ready-rules r .1) refl, tt)))
+
+  cell-rules : (t : Talker) → ValidTalker clock leave t → (h : Listener) → ValidListener clock leave h
+      → allTrue (cellRules clock leave (talkerNumbers t ++ listenerNumbers h)) ≡ true
+  unfolding cellRules talkerNumbers fixedNumbers leavingRule allZero
+  cell-rules noTalker v h u =
+      true-all (cellRules clock leave (talkerNumbers noTalker ++ listenerNumbers h))
+      (refl, (refl, (refl, (refl, (refl, (refl, hearing-rules h u))))))
+  cell-rules (talker f w m l) v h u =
+      let (few, there, whole) = health-rules (w .health) in
+      true-all (cellRules clock leave (talkerNumbers (talker f w m l) ++ listenerNumbers h)) (
+        few,
+        (
+          le-leb (bit m) 1 (bit-few m),
+          (
+            leaving-formed clock leave l (v .2),
+            (eq-eqb (priorityOctet f % 16) 0 (priority-spare f), (rw there refl, (whole, hearing-rules h u))),
+          ),
+        ),
+      )
+
+-- Numbers that keep the rules: what they say is valid, and is written with the same numbers.
+
+record Kept (clock leave : ℕ) (vs : List ℕ) : Type 0 where
+  kind : getD vs 0 0 ≤ 2
+  mark : getD vs 1 0 ≤ 1
+  leaves : leavingRule clock leave (getD vs 2 0) (getD vs 3 0) ≡ true
+  spare : getD vs 8 0 % 16 ≡ 0
+  gone : getD vs 0 0 ≡ 0 → tabulate 11 1 (λ i. getD vs i 0) ≡ zeros 11
+  sound : getD vs 0 0 ≡ 1 → (getD vs 10 0 ≡ 0) × (getD vs 11 0 ≡ 0)
+  hearing : getD vs 12 0 ≤ 3
+  quits : leavingRule clock leave (getD vs 13 0) (getD vs 14 0) ≡ true
+  deaf : getD vs 12 0 ≡ 0 → tabulate 2 13 (λ i. getD vs i 0) ≡ zeros 2
+
+kept : (clock leave : ℕ) (vs : List ℕ) → allTrue (cellRules clock leave vs) ≡ true → Kept clock leave vs
+unfolding cellRules
+kept clock leave vs h =
+    let r = all-true (cellRules clock leave vs) h in
+    record {
+      kind = leb-true (getD vs 0 0) 2 (r .0);
+      mark = leb-true (getD vs 1 0) 1 (r .1 .0);
+      leaves = r .1 .1 .0;
+      spare = eqb-true (getD vs 8 0 % 16) 0 (r .1 .1 .1 .0);
+      gone = λ e. zero-run 1 11 vs (implied (eqb (getD vs 0 0) 0) (allZero (take 11 (drop 1 vs))) (r .1 .1 .1 .1 .0) (eq-eqb (getD vs 0 0) 0 e));
+      sound = λ e.
+          let z = zero-between 10 2 vs (implied (eqb (getD vs 0 0) 1) (allZero (take 2 (drop 10 vs))) (r .1 .1 .1 .1 .1 .0) (eq-eqb (getD vs 0 0) 1 e)) in
+          (z 0 (omega arith), z 1 (omega arith));
+      hearing = leb-true (getD vs 12 0) 3 (r .1 .1 .1 .1 .1 .1 .0);
+      quits = r .1 .1 .1 .1 .1 .1 .1 .0;
+      deaf = λ e. zero-run 13 2 vs (implied (eqb (getD vs 12 0) 0) (allZero (take 2 (drop 13 vs))) (r .1 .1 .1 .1 .1 .1 .1 .1 .0) (eq-eqb (getD vs 12 0) 0 e));
+    }
+
+module _ (clock leave : ℕ) (vs : List ℕ) (k : Kept clock leave vs) where
+  talker-forth : talkerNumbers (talkerFrom vs) ≡ tabulate 12 0 (λ i. getD vs i 0)
+  unfolding talkerNumbers talkerFrom tabulate
+  talker-forth = go (getD vs 0 0) refl
+    where
+      at : ℕ → ℕ
+      at i = getD vs i 0
+
+      go : (n : ℕ) → at 0 ≡ n → talkerNumbers (talkerFrom vs) ≡ tabulate 12 0 at
+      go zero e = rw (eq-eqb (at 0) 0 e, e) (ap (λ (l : List ℕ). 0 ∷ l) (sym (k .gone e)))
+      go (suc n) e =
+          let (kind, bridge, code) = health-forth (at 0) (at 10) (at 11) (omega arith) (k .kind) (k .sound) in
+          let (whether, when) = left clock leave (at 2) (at 3) (k .leaves) .forth in
+          rw (ne-eqb (at 0) 0 (omega arith), kind, bridge, code, whether, when, bit-forth (at 1) (k .mark), fixed-forth 4 vs (k .spare))
+
+  listener-forth : listenerNumbers (listenerFrom vs) ≡ tabulate 3 12 (λ i. getD vs i 0)
+  unfolding listenerNumbers listenerFrom tabulate
+  listener-forth = go (getD vs 12 0) refl
+    where
+      at : ℕ → ℕ
+      at i = getD vs i 0
+
+      go : (n : ℕ) → at 12 ≡ n → listenerNumbers (listenerFrom vs) ≡ tabulate 3 12 at
+      go zero e = rw (eq-eqb (at 12) 0 e, e) (ap (λ (l : List ℕ). 0 ∷ l) (sym (k .deaf e)))
+      go (suc n) e =
+          let (whether, when) = left clock leave (at 13) (at 14) (k .quits) .forth in
+          rw (ne-eqb (at 12) 0 (omega arith), whether, when, ready-forth (at 12) (omega arith) (k .hearing))
+
+  module _ (fit : Fit cellWidths vs) where
+    talker-valid : ValidTalker clock leave (talkerFrom vs)
+    unfolding talkerFrom cellWidths
+    talker-valid = go (eqb (getD vs 0 0) 0)
+      where
+        at : (i : ℕ) → getD vs i 0 < 256 ^ getD cellWidths i 0
+        at = fit-at cellWidths vs fit
+
+        read : Talker
+        read =
+            talker (fixedFrom 4 vs) record { health = toHealth (getD vs 0 0) (getD vs 10 0) (getD vs 11 0); latency = getD vs 9 0 }
+            (isOne (getD vs 1 0)) (toLeaving (getD vs 2 0) (getD vs 3 0))
+
+        go : (t : Bool) → ValidTalker clock leave (cond t noTalker read)
+        go true = tt
+        go false = (
+          fixed-valid 4 vs (at 4) (at 5) (at 6) (at 7) (at 8),
+          record { health = health-valid (getD vs 0 0) (getD vs 10 0) (getD vs 11 0) (at 10) (at 11); latency = at 9 },
+          left clock leave (getD vs 2 0) (getD vs 3 0) (k .leaves) .valid,
+        )
+
+  listener-valid : ValidListener clock leave (listenerFrom vs)
+  unfolding listenerFrom
+  listener-valid = go (eqb (getD vs 12 0) 0)
+    where
+      go : (t : Bool) → ValidListener clock leave (cond t noListener (listener (toReady (getD vs 12 0)) (toLeaving (getD vs 13 0) (getD vs 14 0))))
+      go true = tt
+      go false = left clock leave (getD vs 13 0) (getD vs 14 0) (k .quits) .valid
+
+-- The octets of a cell.
+
+pub cell-length : (c : Cell) → length (cellOctets c) ≡ 39
+unfolding cellOctets cellNumbers width cellWidths
+cell-length c =
+    length-packed-any cellWidths (cellNumbers c)
+    (omega (arith, length-append (talkerNumbers (c .talks)) (listenerNumbers (c .hears)), talker-size (c .talks), listener-size (c .hears)))
+
+pub cell-octets : (c : Cell) → Octets (cellOctets c)
+unfolding cellOctets
+cell-octets c = octets-packed cellWidths (cellNumbers c)
+
+-- cells that are all 39 octets long
+pub cells-sized : (cells : List Cell) → All (Sized 39 cellOctets) cells
+cells-sized = all-each (Sized 39 cellOctets) cell-length
+
+module _ (clock leave : ℕ) (small : clock < 2 ^ 32) (c : Cell) (v : ValidCell clock leave c) where
+  pub cell-back : toCell (cellOctets c) ≡ c
+  unfolding toCell cellOctets cellFrom cellNumbers
+  cell-back =
+      rw (
+        fields-of-packed cellWidths (cellNumbers c) (cell-fit clock leave c v small),
+        talker-back clock leave (c .talks) (v .talks) (listenerNumbers (c .hears)),
+        listener-back (c .talks) (c .hears),
+      )
+
+  pub cell-formed : cellFormed clock leave (cellOctets c) ≡ true
+  unfolding cellFormed cellOctets cellNumbers
+  cell-formed =
+      rw (fields-of-packed cellWidths (cellNumbers c) (cell-fit clock leave c v small))
+      (cell-rules clock leave (c .talks) (v .talks) (c .hears) (v .hears))
+
+-- the numbers in a cell's fields, one by one
+numbers : (s : List ℕ) → let at : ℕ → ℕ = λ i. getD (fields cellWidths 0 s) i 0 in tabulate 12 0 at ++ tabulate 3 12 at ≡ fields cellWidths 0 s
+unfolding tabulate fields cellWidths
+numbers s = refl
+
+module _ (clock leave : ℕ) (s : List ℕ) (l : length s ≡ 39) (o : Octets s) (h : cellFormed clock leave s ≡ true) where
+  pub cell-forth : cellOctets (toCell s) ≡ s
+  unfolding cellOctets cellNumbers toCell cellFrom cellFormed
+  cell-forth =
+      let vs = fields cellWidths 0 s in
+      let k = kept clock leave vs h in
+      rw (talker-forth clock leave vs k, listener-forth clock leave vs k, numbers s)
+      (packed-whole cellWidths s (l ∙ unfold width cellWidths in refl) o)
+
+  pub cell-valid : ValidCell clock leave (toCell s)
+  unfolding toCell cellFrom cellFormed
+  cell-valid =
+      let vs = fields cellWidths 0 s in
+      let k = kept clock leave vs h in
+      record {
+        talks = talker-valid clock leave vs k (fields-fit cellWidths 0 s (octets-at s o));
+        hears = listener-valid clock leave vs k;
+      }
+
+-- Nothing registered is 39 zeros.
+
+pub cell-zeros : cellOctets empty ≡ zeros 39
+unfolding cellOctets cellNumbers talkerNumbers listenerNumbers empty cellWidths width
+cell-zeros = packed-zeros cellWidths
+
+pub zeros-cell : toCell (zeros 39) ≡ empty
+unfolding toCell cellFrom talkerFrom listenerFrom fields cellWidths beAt empty
+zeros-cell = refl
+
+pub cell-zeros-formed : (clock leave : ℕ) → cellFormed clock leave (zeros 39) ≡ true
+unfolding cellFormed cellRules leavingRule allTrue allZero fields cellWidths beAt
+cell-zeros-formed clock leave = refl
+
+-- A stream is held: as the octets of its cells say, and as the cells do.
+
+pub held-append : (l m : List Cell) → held (l ++ m) ≡ (held l || held m)
+unfolding held
+held-append [] m = refl
+held-append (c ∷ l) m = rw (held-append l m) (sym (or-assoc (isTalking c || isHearing c) (held l) (held m)))
+
+pub held-empty : (l : List Cell) → All (λ c. c ≡ empty) l → held l ≡ false
+unfolding held isTalking isHearing empty
+held-empty [] a = refl
+held-empty (c ∷ l) a = rw (a .0) (held-empty l (a .1))
+
+kinds : (s : List ℕ) → (getD (fields cellWidths 0 s) 0 0 ≡ getD s 0 0) × (getD (fields cellWidths 0 s) 12 0 ≡ getD s 33 0)
+unfolding fields cellWidths beAt
+kinds s = (omega arith, omega arith)
+
+-- a Talker, and a Listener, that is there unless its kind is 0
+talking-unless : (t : Bool) (f : Fixed) (v : Varying) (m : Bool) (l : Leaving) (h : Listener)
+    → isTalking record { talks = cond t noTalker (talker f v m l); hears = h } ≡ not t
+unfolding isTalking
+talking-unless true f v m l h = refl
+talking-unless false f v m l h = refl
+
+hearing-unless : (t : Bool) (r : Ready) (l : Leaving) (k : Talker) → isHearing record { talks = k; hears = cond t noListener (listener r l) } ≡ not t
+unfolding isHearing
+hearing-unless true r l k = refl
+hearing-unless false r l k = refl
+
+talking-read : (s : List ℕ) → isTalking (toCell s) ≡ not (eqb (getD s 0 0) 0)
+unfolding toCell cellFrom talkerFrom
+talking-read s =
+    let vs = fields cellWidths 0 s in
+    talking-unless (eqb (getD vs 0 0) 0) (fixedFrom 4 vs) record { health = toHealth (getD vs 0 0) (getD vs 10 0) (getD vs 11 0); latency = getD vs 9 0 }
+    (isOne (getD vs 1 0)) (toLeaving (getD vs 2 0) (getD vs 3 0)) (listenerFrom vs)
+    ∙ ap (λ (k : ℕ). not (eqb k 0)) (kinds s .0)
+
+hearing-read : (s : List ℕ) → isHearing (toCell s) ≡ not (eqb (getD s 33 0) 0)
+unfolding toCell cellFrom listenerFrom
+hearing-read s =
+    let vs = fields cellWidths 0 s in
+    hearing-unless (eqb (getD vs 12 0) 0) (toReady (getD vs 12 0)) (toLeaving (getD vs 13 0) (getD vs 14 0)) (talkerFrom vs)
+    ∙ ap (λ (k : ℕ). not (eqb k 0)) (kinds s .1)
+
+-- the test on octets is the test on the cells read from them
+pub holds-parts : (k : ℕ) (s : List ℕ) → holds k s ≡ held (parts 39 toCell k s)
+unfolding holds held parts
+holds-parts zero s = refl
+holds-parts (suc k) s =
+    rw (
+      talking-read (take 39 s),
+      hearing-read (take 39 s),
+      getD-take 39 s 0 0 (omega arith),
+      getD-take 39 s 33 0 (omega arith),
+      holds-parts k (drop 39 s),
+    )
+
+-- read: some of the first k cells, so some of the m cells
+pub holds-held : (k m : ℕ) (s : List ℕ) → k ≤ m → holds k s ≡ true → held (parts 39 toCell m s) ≡ true
+holds-held k m s l h =
+    let cells = parts 39 toCell m s in
+    ap held (sym (take-append-drop k cells))
+    ∙ held-append (take k cells) (drop k cells)
+    ∙ ap (λ (l : List Cell). held l || held (drop k cells)) (parts-take 39 toCell k m s l)
+    ∙ ap (λ (b : Bool). b || held (drop k cells)) (sym (holds-parts k s) ∙ h)
+
+-- written: some of the cells, and none after the first k
+pub held-holds : (k : ℕ) (cells : List Cell) (after : List ℕ) → All (λ c. toCell (cellOctets c) ≡ c) cells → k ≤ length cells
+    → All (λ c. c ≡ empty) (drop k cells) → held cells ≡ true → holds k (flat cellOctets cells ++ after) ≡ true
+held-holds k cells after back l z h =
+    let s = flat cellOctets cells ++ after in
+    let front : parts 39 toCell k s ≡ take k cells =
+    sym (parts-take 39 toCell k (length cells) s l) ∙ ap (take k) (parts-flat 39 cellOctets toCell cells after (cells-sized cells) back) in
+    let whole : held cells ≡ held (take k cells) =
+    ap held (sym (take-append-drop k cells)) ∙ held-append (take k cells) (drop k cells) ∙ ap (λ (b : Bool). held (take k cells) || b) (held-empty (drop k cells) z) ∙ or-false (held (take k cells)) in
+    holds-parts k s ∙ ap held front ∙ sym whole ∙ h

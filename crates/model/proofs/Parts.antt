@@ -7,14 +7,14 @@ use Prim.Native.Nat.{ℕ, zero, suc, _+_, _*_, _-_, _≤_, _<_}
 use native.Mathlib.Nat.{zero-mul, suc-mul, mul-comm, zero-add, suc-add, add-mul}
 use native.Mathlib.Omega.{arith}
 use lib.ListN.{length, getD, take, drop, replicate, length-append, length-drop, length-replicate, replicate-append-replicate}
-use lib.Seq.{take-at, drop-at, take-add, drop-drop, length-take-le, take-append-le, drop-append-le}
+use lib.Seq.{take-at, drop-at, take-add, drop-drop, length-take-le, take-all, take-append-le, drop-append-le, getD-take, getD-drop}
 use lib.Dec.{eqb, ltb}
 use borrow.Author.Tests.{eqb-true, ltb-true, lt-ltb}
 use Rattle.octets.specs.Be.{be}
 use Rattle.octets.specs.Parts.{part, zeros}
-use Rattle.octets.specs.Fields.{packed, flat}
-use Rattle.octets.proofs.Fields.{octets-be, packed-octets}
-use Rattle.model.specs.Lists.{All, parts, Octet, Octets}
+use Rattle.octets.specs.Fields.{fields, packed, width, flat}
+use Rattle.octets.proofs.Fields.{octets-be, packed-octets, packed-fields}
+use Rattle.model.specs.Lists.{All, tabulate, parts, Octet, Octets}
 use Rattle.model.specs.Table.{everyPart, allZero, rising}
 use Rattle.model.proofs.Lists.{all-map, all-append, all-take, all-drop, all-replicate, and-left, and-right, and-both}
 use Rattle.model.proofs.Valid.{Rising}
@@ -71,6 +71,28 @@ unfolding allZero
 zeros-zero [] h = refl
 zeros-zero (b ∷ s) h = rw (eqb-true b 0 (and-left (eqb b 0) (allZero s) h)) (ap (λ (l : List ℕ). 0 ∷ l) (zeros-zero s (and-right (eqb b 0) (allZero s) h)))
 
+-- numbers that are all zero, and each of them
+zero-at : (s : List ℕ) → allZero s ≡ true → (i : ℕ) → getD s i 0 ≡ 0
+unfolding allZero
+zero-at [] h i = refl
+zero-at (b ∷ s) h zero = eqb-true b 0 (and-left (eqb b 0) (allZero s) h)
+zero-at (b ∷ s) h (suc i) = zero-at s (and-right (eqb b 0) (allZero s) h) i
+
+pub zero-between : (a n : ℕ) (vs : List ℕ) → allZero (take n (drop a vs)) ≡ true → (j : ℕ) → j < n → getD vs (a + j) 0 ≡ 0
+zero-between a n vs h j l = sym (getD-take n (drop a vs) j 0 l ∙ getD-drop a vs j 0) ∙ zero-at (take n (drop a vs)) h j
+
+tabulate-zeros : (n p : ℕ) (f : ℕ → ℕ) → ((i : ℕ) → p ≤ i → i < p + n → f i ≡ 0) → tabulate n p f ≡ zeros n
+unfolding tabulate
+tabulate-zeros zero p f h = refl
+tabulate-zeros (suc n) p f h = rw (h p (omega arith) (omega arith), tabulate-zeros n (suc p) f (λ i a b. h i (omega arith) (omega arith)))
+
+pub zero-run : (a n : ℕ) (vs : List ℕ) → allZero (take n (drop a vs)) ≡ true → tabulate n a (λ i. getD vs i 0) ≡ zeros n
+zero-run a n vs h =
+    tabulate-zeros n a (λ i. getD vs i 0)
+    (λ i p q.
+    let e : a + (i - a) ≡ i = omega arith in
+    subst (λ (m : ℕ). getD vs m 0 ≡ 0) e (zero-between a n vs h (i - a) (omega arith)))
+
 -- Parts.
 
 -- the part that stands between two lists
@@ -93,6 +115,10 @@ drop-zero-times n s = rw zero-mul
 
 room : (k n : ℕ) (s : List ℕ) → suc k * n ≤ length s → (n ≤ length s) × (k * n ≤ length (drop n s))
 room k n s h = (omega (arith, suc-times k n), omega (arith, suc-times k n, length-drop n s))
+
+-- octets that fields make up are written back from their numbers
+pub packed-whole : (ws s : List ℕ) → length s ≡ width ws → Octets s → packed ws (fields ws 0 s) ≡ s
+packed-whole ws s l o = packed-fields ws 0 s (omega arith) (octets-at s o) ∙ unfold part in take-all (width ws) s (omega arith)
 
 module _ {A : Type 0} (n : ℕ) (from : List ℕ → A) where
   pub length-parts : (k : ℕ) (s : List ℕ) → length (parts n from k s) ≡ k

@@ -1,16 +1,16 @@
 -- Laws of `fields`, `packed` and `flat`: numbers in fields of any widths become octets and come back, and octets come back from
 -- their numbers. Assumes nothing.
 use Prim.Native.Nat.{ℕ, zero, suc, _+_, _*_, _/_, _%_, _^_, _≤_, _<_}
-use native.Mathlib.Nat.{zero-add, suc-mul, pow-suc}
+use native.Mathlib.Nat.{zero-add, suc-mul, pow-suc, one-le-pow}
 use native.Mathlib.Omega.{arith}
 use mathlib.Core.Path.{_≡_, refl, sym, ap, _∙_}
 use mathlib.Core.List.{List, [], _∷_, _++_, append-assoc}
-use lib.ListN.{length, getD, drop, length-append, List·getD-append}
+use lib.ListN.{length, getD, drop, length-append, List·getD-append, replicate-append-replicate}
 use lib.Seq.{getD-append-add, take-add, drop-drop}
 use Rattle.octets.specs.Be.{beAt, be}
 use Rattle.octets.specs.Fields.{fields, packed, Fit, width, flat}
-use Rattle.octets.specs.Parts.{part}
-use Rattle.octets.proofs.Be.{length-be, beAt-ext, beAt-be}
+use Rattle.octets.specs.Parts.{part, zeros}
+use Rattle.octets.proofs.Be.{length-be, beAt-ext, beAt-be, be-zero}
 use Rattle.octets.proofs.Parts.{part-none, part-more}
 use Rattle.octets.proofs.Frame.{getD-part}
 
@@ -158,6 +158,36 @@ pub length-fields : (ws : List ℕ) (at : ℕ) (s : List ℕ) → length (fields
 unfolding fields
 length-fields [] at s = refl
 length-fields (w ∷ ws) at s = ap suc (length-fields ws (at + w) s)
+
+-- Numbers that fit: one of them, and those of two lists.
+
+-- past the end it is 0, in a field of no octets
+pub fit-at : (ws vs : List ℕ) → Fit ws vs → (i : ℕ) → getD vs i 0 < 256 ^ getD ws i 0
+unfolding Fit
+fit-at [] [] h i = omega arith
+fit-at [] (v ∷ vs) h i = absurd h
+fit-at (w ∷ ws) [] h i = absurd h
+fit-at (w ∷ ws) (v ∷ vs) h zero = h .0
+fit-at (w ∷ ws) (v ∷ vs) h (suc i) = fit-at ws vs (h .1) i
+
+pub fit-append : (ws vs us xs : List ℕ) → Fit ws vs → Fit us xs → Fit (ws ++ us) (vs ++ xs)
+unfolding Fit
+fit-append [] [] us xs h k = k
+fit-append [] (v ∷ vs) us xs h k = absurd h
+fit-append (w ∷ ws) [] us xs h k = absurd h
+fit-append (w ∷ ws) (v ∷ vs) us xs h k = (h .0, fit-append ws vs us xs (h .1) k)
+
+-- Zeros.
+
+pub fit-zeros : (ws : List ℕ) → Fit ws (zeros (length ws))
+unfolding Fit
+fit-zeros [] = tt
+fit-zeros (w ∷ ws) = (one-le-pow w 256 (omega arith), fit-zeros ws)
+
+pub packed-zeros : (ws : List ℕ) → packed ws (zeros (length ws)) ≡ zeros (width ws)
+unfolding packed width
+packed-zeros [] = refl
+packed-zeros (w ∷ ws) = rw (be-zero w, packed-zeros ws) (replicate-append-replicate w (width ws) 0)
 
 -- Things one after another.
 
