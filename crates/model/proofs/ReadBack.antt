@@ -1,1 +1,585 @@
--- To be filled.
+-- A written PDU is octets and well-formed, and a neighbour reads of it exactly the declarations written, each as a JoinMt.
+use mathlib.Core.Path.{_≡_, refl, sym, _∙_, ap}
+use mathlib.Core.List.{List, [], _∷_, _++_, map, append-nil, append-assoc, map-append}
+use mathlib.Core.Bool.{Bool, true, false}
+use Prim.Native.Nat.{ℕ, zero, suc, _+_, _*_, _-_, _/_, _%_, _^_, _≤_, _<_}
+use native.Mathlib.Nat.{add-zero}
+use native.Mathlib.Omega.{arith}
+use lib.ListN.{length, getD, drop, length-append}
+use lib.Seq.{take-append-seam, drop-append-seam, getD-append-seam, getD-append-add}
+use lib.Dec.{ltb}
+use borrow.Author.Tests.{ltb-true, ltb-false, le-ltb, le-leb, eq-eqb, ne-eqb}
+use Rattle.octets.specs.Be.{beAt, be}
+use Rattle.octets.specs.Fields.{fields, packed, Fit, flat}
+use Rattle.octets.specs.Parts.{part}
+use Rattle.octets.proofs.Be.{beAt-ext, length-be}
+use Rattle.octets.proofs.Fields.{packed-octets, beAt-fits, fields-of-packed}
+use Rattle.model.specs.Lists.{All, keep, Octets, bit}
+use Rattle.model.specs.State.{Settings, Fixed, Health, sound, broken, Ready, askingFailed, ready, readyFailed, Column, none, advertise, failed, Entry, noEntry, filters, forwards, Declared, nothing, tells, Result, Stream, Bridge, resultAt, unsettled}
+use Rattle.model.specs.Registrations.{Kind, advertises, faileds, listeners, talk, listen, acts}
+use Rattle.model.specs.Frames.{Attribute, registers, known, typeOctet, firstWidths, firstLength, threeLength, fourLength, Vector, vectorAt, vectorEnd, overpacked, runsPast, overflows, found, also, both, vectors, listLength, listAt, messageEnd, endMark, message, messages, walk, joinMt, event, threePacked, fourPacked, eventOf, fourOf, asking, join, priorityOf, rankOf, fixedValue, healthValue, idValue, hearing, talkerAct, listenerAct, valueActs, valuesActs, leaveAllActs, vectorActs, frameActs, walked, wrongPort, reading}
+use Rattle.model.specs.Declarations.{Declaration, talkerDeclaration, listenerDeclaration, healthKind, kindOf, joinOf, advertised, failing, listening, declarationsOf, ofKind, declarations, vectorSize, sameKind, takes, write}
+use Rattle.model.specs.WrittenFrames.{priorityOctet, fixedNumbers, failureNumbers, firstNumbers, readyNumber, fourOctets, declarationVector, vectorOctets, typeNumber, messageOf, messageOctets, having, pduOctets}
+use Rattle.model.proofs.Lists.{all-map, all-append, all-take, all-drop}
+use Rattle.model.proofs.Parts.{octets-append, octets-number, octets-packed}
+use Rattle.model.proofs.Valid.{Valid, ValidFixed, ValidHealth, ValidVarying, ValidColumn, ValidResult, ValidStream}
+use Rattle.model.proofs.AdvanceKeepsForm.{all-getD, unsettled-valid}
+use Rattle.model.proofs.WritingPasses.{length-first, length-vector, NotBefore, OfKind, InOrder, all-of-kind, having-kind, having-none, declared, write-above, write-from, run-in-order, run-fits, writeAll, all-runs}
+
+-- Octets behind a prefix.
+
+beAt-behind : (n : ℕ) (x y : List ℕ) (at : ℕ) → beAt n (x ++ y) (length x + at) ≡ beAt n y at
+beAt-behind n x y at =
+    beAt-ext n (x ++ y) y (length x + at) at (λ j l. ap (λ (k : ℕ). getD (x ++ y) k 0) (omega arith) ∙ getD-append-add x y (at + j) 0)
+
+beAt-here : (n : ℕ) (x y : List ℕ) → beAt n (x ++ y) (length x) ≡ beAt n y 0
+beAt-here n x y = ap (beAt n (x ++ y)) (omega arith) ∙ beAt-behind n x y 0
+
+-- a part that stands behind a prefix
+part-behind : (x y z : List ℕ) (at n : ℕ) → at ≡ length x → n ≡ length y → part at n (x ++ (y ++ z)) ≡ y
+unfolding part
+part-behind x y z at n e q = rw (e, q, drop-append-seam x (y ++ z)) (take-append-seam y z)
+
+-- A vector.
+
+-- the octets of a declaration's vector: header 1, FirstValue, JoinMt, and for a Listener its declaration type
+vector-octets : (d : Declaration) → vectorOctets (declarationVector d) ≡ 0 ∷ 1 ∷ (declarationVector d .first ++ (108 ∷ fourOctets d))
+unfolding vectorOctets declarationVector bit be
+vector-octets d = refl
+
+length-four : (d : Declaration) → length (fourOctets d) ≡ fourLength (registers (kindOf d)) 1
+unfolding fourOctets kindOf healthKind fourLength
+length-four (talkerDeclaration id f v) = go (v .health)
+  where
+    go : (h : Health) → 0 ≡ fourLength (registers (healthKind h)) 1
+    go sound = refl
+    go (broken b c) = refl
+length-four (listenerDeclaration id r) = refl
+
+-- one value adds nothing to the numbers of FirstValue, which are octets
+no-run-past : (k : Kind) (s : List ℕ) → ((i : ℕ) → getD s i 0 < 256) → runsPast (registers k) s 0 ≡ false
+unfolding runsPast
+no-run-past k s h = go k
+  where
+    unique : ltb 65535 (beAt 2 s 6 + 0) ≡ false
+    unique = le-ltb 65535 (beAt 2 s 6 + 0) (omega (arith, beAt-fits 2 s 6 h))
+
+    destination : ltb 281474976710655 (beAt 6 s 8 + 0) ≡ false
+    destination = le-ltb 281474976710655 (beAt 6 s 8 + 0) (omega (arith, beAt-fits 6 s 8 h))
+
+    go : (j : Kind) → runsPast (registers j) s 0 ≡ false
+    go advertises = rw (unique, destination)
+    go faileds = rw (unique, destination)
+    go listeners = unique
+
+no-overflow : (d : Declaration) → overflows (declarationVector d) ≡ false
+unfolding overflows declarationVector
+no-overflow d =
+    let ws : List ℕ = firstWidths (registers (kindOf d)) in
+    no-run-past (kindOf d) (packed ws (firstNumbers d)) (packed-octets ws (firstNumbers d))
+
+-- a vector of one value that has no fault is found, and the walk goes on behind it
+vectors-more : (f : ℕ) (k : Attribute) (l : List ℕ) (at : ℕ) (v : Vector)
+    → beAt 2 l at ≡ 1 → at + 2 ≤ length l → vectorEnd k at 1 ≤ length l → vectorAt k l at 1 ≡ v
+    → overpacked (v .three) ≡ false → overflows v ≡ false
+    → vectors (suc f) k l at ≡ also v (vectors f k l (vectorEnd k at 1))
+unfolding vectors
+vectors-more f k l at v one header fits is three values =
+    rw (one, le-ltb (length l) (at + 2) header, le-ltb (length l) (vectorEnd k at 1) fits, is, three, values)
+
+module _ (d : Declaration) (pre rest : List ℕ) where
+  -- the list that has the vector at the place
+  here : List ℕ
+  here = pre ++ (vectorOctets (declarationVector d) ++ rest)
+
+  -- a piece of the vector, behind so much of it
+  piece-here : (x y z : List ℕ) (at n : ℕ) → vectorOctets (declarationVector d) ++ rest ≡ x ++ (y ++ z)
+      → at ≡ length pre + length x → n ≡ length y → part at n here ≡ y
+  unfolding here
+  piece-here x y z at n e a q = rw (e, ← append-assoc pre x (y ++ z)) (part-behind (pre ++ x) y z at n (simp length-append a) q)
+
+  first : List ℕ
+  first = declarationVector d .first
+
+  first-here : part (length pre + 2) (firstLength (registers (kindOf d))) here ≡ first
+  unfolding first
+  first-here =
+      piece-here (0 ∷ 1 ∷ []) first (108 ∷ (fourOctets d ++ rest)) (length pre + 2) (firstLength (registers (kindOf d)))
+      (rw (vector-octets d) (simp append-assoc)) refl (sym (length-first d))
+
+  three-here : part (length pre + 2 + firstLength (registers (kindOf d))) 1 here ≡ 108 ∷ []
+  unfolding first
+  three-here =
+      piece-here (0 ∷ 1 ∷ first) (108 ∷ []) (fourOctets d ++ rest) (length pre + 2 + firstLength (registers (kindOf d))) 1
+      (rw (vector-octets d) (simp append-assoc)) (rw (length-first d) (omega arith)) refl
+
+  four-here : part (length pre + 2 + firstLength (registers (kindOf d)) + 1) (fourLength (registers (kindOf d)) 1) here ≡ fourOctets d
+  unfolding first
+  four-here =
+      piece-here (0 ∷ 1 ∷ (first ++ (108 ∷ []))) (fourOctets d) rest (length pre + 2 + firstLength (registers (kindOf d)) + 1)
+      (fourLength (registers (kindOf d)) 1)
+      (rw (vector-octets d) (simp append-assoc)) (simp (length-append, length-first d) (omega arith)) (sym (length-four d))
+
+  vector-here : vectorAt (registers (kindOf d)) here (length pre) 1 ≡ declarationVector d
+  unfolding vectorAt threeLength
+  vector-here = rw (first-here, three-here, four-here) (unfold first declarationVector in refl)
+
+  end-here : vectorEnd (registers (kindOf d)) (length pre) 1 ≡ length pre + vectorSize (kindOf d)
+  unfolding vectorEnd threeLength firstLength fourLength vectorSize
+  end-here = go (kindOf d)
+    where
+      go : (k : Kind) → length pre + 2 + firstLength (registers k) + 1 + fourLength (registers k) 1 ≡ length pre + vectorSize k
+      go advertises = omega arith
+      go faileds = omega arith
+      go listeners = omega arith
+
+  header-here : beAt 2 here (length pre) ≡ 1
+  unfolding here
+  header-here = beAt-here 2 pre (vectorOctets (declarationVector d) ++ rest) ∙ rw (vector-octets d) (unfold beAt in refl)
+
+  length-here : length here ≡ length pre + (vectorSize (kindOf d) + length rest)
+  unfolding here
+  length-here = simp (length-append, length-vector d)
+
+  read-vector : (f : ℕ) → vectors (suc f) (registers (kindOf d)) here (length pre)
+      ≡ also (declarationVector d) (vectors f (registers (kindOf d)) here (length pre + vectorSize (kindOf d)))
+  read-vector f =
+      vectors-more f (registers (kindOf d)) here (length pre) (declarationVector d) header-here
+      (omega (arith, length-here, length-vector d, ap length (vector-octets d)))
+      (omega (arith, length-here, end-here))
+      vector-here
+      (unfold declarationVector overpacked in refl)
+      (no-overflow d)
+      ∙ ap (λ (e : ℕ). also (declarationVector d) (vectors f (registers (kindOf d)) here e)) end-here
+
+-- An AttributeList.
+
+-- behind any prefix, and with fuel for n vectors, the list is read as these vectors
+VectorsRead : ℕ → Attribute → List ℕ → List Vector → Type 0
+VectorsRead n k s vs = (f : ℕ) (pre : List ℕ) → n ≤ f → vectors f k (pre ++ s) (length pre) ≡ found vs
+
+-- the EndMark, as the list's last two octets
+vectors-end : (k : Attribute) → VectorsRead 1 k (0 ∷ 0 ∷ []) []
+unfolding VectorsRead vectors
+vectors-end k zero pre h = absurd (omega arith)
+vectors-end k (suc f) pre h =
+    let l : length (pre ++ (0 ∷ 0 ∷ [])) ≡ length pre + 2 = length-append pre (0 ∷ 0 ∷ []) in
+    let e : beAt 2 (pre ++ (0 ∷ 0 ∷ [])) (length pre) ≡ 0 = beAt-here 2 pre (0 ∷ 0 ∷ []) ∙ (unfold beAt in refl) in
+    rw (e, l, le-ltb (length pre + 2) (length pre + 2) (omega arith), eq-eqb (length pre + 2) (length pre + 2) refl)
+
+-- one vector more, in front
+vectors-cons : (d : Declaration) (n : ℕ) (rest : List ℕ) (vs : List Vector) → VectorsRead n (registers (kindOf d)) rest vs
+    → VectorsRead (suc n) (registers (kindOf d)) (vectorOctets (declarationVector d) ++ rest) (declarationVector d ∷ vs)
+unfolding VectorsRead here also
+vectors-cons d n rest vs r zero pre h = absurd (omega arith)
+vectors-cons d n rest vs r (suc f) pre h =
+    let v : List ℕ = vectorOctets (declarationVector d) in
+    let e : length pre + vectorSize (kindOf d) ≡ length (pre ++ v) = simp (length-append, length-vector d) in
+    read-vector d pre rest f ∙ rw (e, ← append-assoc pre v rest, r f (pre ++ v) (omega arith))
+
+listOctets : List Declaration → List ℕ
+listOctets l = flat (λ e. vectorOctets (declarationVector e)) l ++ (0 ∷ 0 ∷ [])
+
+list-cons : (d : Declaration) (l : List Declaration) → listOctets (d ∷ l) ≡ vectorOctets (declarationVector d) ++ listOctets l
+unfolding listOctets flat
+list-cons d l = append-assoc (vectorOctets (declarationVector d)) (flat (λ e. vectorOctets (declarationVector e)) l) (0 ∷ 0 ∷ [])
+
+vectors-read : (k : Kind) (l : List Declaration) → All (OfKind k) l → VectorsRead (suc (length l)) (registers k) (listOctets l) (map declarationVector l)
+vectors-read k [] a = unfold listOctets flat in (vectors-end (registers k))
+vectors-read k (d ∷ l) a =
+    rw (list-cons d l, ← (a .0))
+    (vectors-cons d (suc (length l)) (listOctets l) (map declarationVector l) (rw (a .0) (vectors-read k l (a .1))))
+
+-- Messages.
+
+-- behind any prefix, and with fuel for n Messages, the octets are read as Messages of these vectors
+MessagesRead : ℕ → List ℕ → List Vector → Type 0
+MessagesRead n s vs = (f : ℕ) (pre : List ℕ) → n ≤ f → messages f 0 (pre ++ s) (length pre) ≡ found vs
+
+messages-end : MessagesRead 1 (0 ∷ 0 ∷ []) []
+unfolding MessagesRead messages endMark
+messages-end zero pre h = absurd (omega arith)
+messages-end (suc f) pre h =
+    let l : length (pre ++ (0 ∷ 0 ∷ [])) ≡ length pre + 2 = length-append pre (0 ∷ 0 ∷ []) in
+    let e : beAt 2 (pre ++ (0 ∷ 0 ∷ [])) (length pre) ≡ 0 = beAt-here 2 pre (0 ∷ 0 ∷ []) ∙ (unfold beAt in refl) in
+    rw (e, l, ne-eqb (length pre) (length pre + 2) (λ q. omega arith), le-leb (length pre + 2) (length pre + 2) (omega arith))
+
+known-type : (k : Kind) → typeOctet 0 (typeNumber k) ≡ known (registers k)
+unfolding typeOctet typeNumber
+known-type advertises = refl
+known-type faileds = refl
+known-type listeners = refl
+
+some-type : (k : Kind) → 1 ≤ typeNumber k
+unfolding typeNumber
+some-type advertises = omega arith
+some-type faileds = omega arith
+some-type listeners = omega arith
+
+-- a Message without fault is read, and the walk goes on behind it
+messages-more : (f : ℕ) (k : Attribute) (s : List ℕ) (at n : ℕ) (list : List ℕ) (vs : List Vector)
+    → at + 4 + n ≤ length s → (beAt 2 s at ≡ 0 → ⊥) → typeOctet 0 (getD s at 0) ≡ known k → getD s (at + 1) 0 ≡ firstLength k
+    → beAt 2 s (at + 2) ≡ n → part (at + 4) n s ≡ list → vectors (suc n) k list 0 ≡ found vs
+    → messages (suc f) 0 s at ≡ both (found vs) (messages f 0 s (at + 4 + n))
+unfolding messages endMark message listLength listAt messageEnd
+messages-more f k s at n list vs fits marked type first long is read =
+    rw (
+      ne-eqb at (length s) (λ e. omega arith),
+      le-leb (at + 2) (length s) (omega arith),
+      ne-eqb (beAt 2 s at) 0 marked,
+      le-ltb (length s) (at + 4) (omega arith),
+      type,
+      eq-eqb (getD s (at + 1) 0) (firstLength k) first,
+      long,
+      le-ltb (length s) (at + 4 + n) fits,
+      is,
+      read,
+    )
+
+-- a number of two octets
+two-octets : (n : ℕ) (y : List ℕ) → n < 65536 → beAt 2 (be 2 n ++ y) 0 ≡ n
+unfolding beAt be
+two-octets n y h = omega arith
+
+module _ (k : Kind) (list pre rest : List ℕ) (short : length list < 65536) where
+  -- the PDU that has the Message at the place
+  pdu : List ℕ
+  pdu = pre ++ (messageOf k list ++ rest)
+
+  -- behind the prefix: the Message's type, the length of FirstValue, and from there on
+  lead : List ℕ
+  lead = typeNumber k ∷ firstLength (registers k) ∷ []
+
+  tail : List ℕ
+  tail = be 2 (length list) ++ (list ++ rest)
+
+  message-here : messageOf k list ++ rest ≡ lead ++ tail
+  unfolding messageOf lead tail
+  message-here = simp append-assoc
+
+  length-here-message : length pdu ≡ length pre + (4 + length list + length rest)
+  unfolding pdu lead tail
+  length-here-message = rw message-here (simp (length-append, length-be) (omega arith))
+
+  type-here : getD pdu (length pre) 0 ≡ typeNumber k
+  unfolding pdu lead
+  type-here = rw message-here (getD-append-seam pre (typeNumber k) (firstLength (registers k) ∷ tail) 0)
+
+  first-length-here : getD pdu (length pre + 1) 0 ≡ firstLength (registers k)
+  unfolding pdu lead
+  first-length-here = rw message-here (getD-append-add pre (lead ++ tail) 1 0)
+
+  no-end-here : beAt 2 pdu (length pre) ≡ 0 → ⊥
+  unfolding pdu lead beAt
+  no-end-here e =
+      let q : beAt 2 (lead ++ tail) 0 ≡ 0 = sym (beAt-here 2 pre (lead ++ tail)) ∙ rw message-here at e in
+      omega (arith, some-type k)
+
+  long-here : beAt 2 pdu (length pre + 2) ≡ length list
+  unfolding pdu lead tail
+  long-here =
+      rw message-here
+      (beAt-behind 2 pre (lead ++ tail) 2 ∙ beAt-here 2 lead tail ∙ two-octets (length list) (list ++ rest) short)
+
+  list-here : part (length pre + 4) (length list) pdu ≡ list
+  unfolding pdu lead tail
+  list-here =
+      let cut : pre ++ (lead ++ tail) ≡ (pre ++ (lead ++ be 2 (length list))) ++ (list ++ rest) = simp append-assoc in
+      rw (message-here, cut)
+      (part-behind (pre ++ (lead ++ be 2 (length list))) list rest (length pre + 4) (length list) (simp (length-append, length-be)) refl)
+
+  read-message : (f : ℕ) (vs : List Vector) → vectors (suc (length list)) (registers k) list 0 ≡ found vs
+      → messages (suc f) 0 pdu (length pre) ≡ both (found vs) (messages f 0 pdu (length pre + 4 + length list))
+  read-message f vs read =
+      messages-more f (registers k) pdu (length pre) (length list) list vs
+      (omega (arith, length-here-message)) no-end-here (rw type-here (known-type k)) first-length-here long-here list-here read
+
+length-messageOf : (k : Kind) (list : List ℕ) → length (messageOf k list) ≡ 4 + length list
+unfolding messageOf
+length-messageOf k list = simp (length-append, length-be) (omega arith)
+
+-- one Message more, in front
+messages-cons : (k : Kind) (list : List ℕ) (n : ℕ) (rest : List ℕ) (vs ws : List Vector) → length list < 65536
+    → vectors (suc (length list)) (registers k) list 0 ≡ found vs → MessagesRead n rest ws → MessagesRead (suc n) (messageOf k list ++ rest) (vs ++ ws)
+unfolding MessagesRead pdu both
+messages-cons k list n rest vs ws short read r zero pre h = absurd (omega arith)
+messages-cons k list n rest vs ws short read r (suc f) pre h =
+    let m : List ℕ = messageOf k list in
+    let e : length pre + 4 + length list ≡ length (pre ++ m) = simp (length-append, length-messageOf k list) (omega arith) in
+    read-message k list pre rest short f vs read ∙ rw (e, ← append-assoc pre m rest, r f (pre ++ m) (omega arith))
+
+-- a list has more octets than vectors
+list-longer : (l : List Declaration) → suc (length l) ≤ length (listOctets l)
+list-longer [] = unfold listOctets flat in (omega arith)
+list-longer (d ∷ l) = rw (list-cons d l, vector-octets d) (simp length-append (omega (arith, list-longer l)))
+
+-- the Message of the declarations of a type, where there are any
+messages-read : (k : Kind) (l : List Declaration) (n : ℕ) (rest : List ℕ) (ws : List Vector) → All (OfKind k) l
+    → length (messageOctets k l) < 65536 → MessagesRead n rest ws → MessagesRead (suc n) (messageOctets k l ++ rest) (map declarationVector l ++ ws)
+unfolding messageOctets MessagesRead listOctets VectorsRead
+messages-read k [] n rest ws a short r = λ f pre h. r f pre (omega arith)
+messages-read k (d ∷ l) n rest ws a short r =
+    let list : List ℕ = listOctets (d ∷ l) in
+    let m : length (messageOf k list) ≡ 4 + length list = length-messageOf k list in
+    messages-cons k list n rest (map declarationVector (d ∷ l)) ws (omega arith)
+    (vectors-read k (d ∷ l) a (suc (length list)) [] (omega (arith, list-longer (d ∷ l)))) r
+
+-- A PDU.
+
+-- in the order of types, the declarations are those of each type in turn
+having-each : (l : List Declaration) → InOrder l → having advertises l ++ (having faileds l ++ having listeners l) ≡ l
+unfolding having sameKind typeNumber
+having-each [] o = refl
+having-each (d ∷ l) o = go (kindOf d) (o .0) (having-each l (o .1))
+  where
+    a : List Declaration
+    a = having advertises l
+
+    f : List Declaration
+    f = having faileds l
+
+    n : List Declaration
+    n = having listeners l
+
+    -- no declaration of type j stands behind one of a later type
+    gone : (j k : Kind) → typeNumber j < typeNumber k → All (NotBefore k) l → having j l ≡ []
+    gone j k h b = having-none j l (all-map (NotBefore k) (λ e. typeNumber j < typeNumber (kindOf e)) (λ e q. omega arith) l b)
+
+    go : (k : Kind) → All (NotBefore k) l → a ++ (f ++ n) ≡ l
+        → keep (sameKind k advertises) d a ++ (keep (sameKind k faileds) d f ++ keep (sameKind k listeners) d n) ≡ d ∷ l
+    go advertises b ih = ap (λ (r : List Declaration). d ∷ r) ih
+    go faileds b ih =
+        let e : having advertises l ≡ [] = gone advertises faileds (omega arith) b in
+        rw e (ap (λ (r : List Declaration). d ∷ r) (rw e at ih))
+    go listeners b ih =
+        let e : having advertises l ≡ [] = gone advertises listeners (omega arith) b in
+        let g : having faileds l ≡ [] = gone faileds listeners (omega arith) b in
+        rw (e, g) (ap (λ (r : List Declaration). d ∷ r) (rw (e, g) at ih))
+
+map-each : (a f n : List Declaration)
+    → map declarationVector a ++ (map declarationVector f ++ (map declarationVector n ++ [])) ≡ map declarationVector (a ++ (f ++ n))
+map-each a f n = rw (append-nil (map declarationVector n), map-append declarationVector a (f ++ n), map-append declarationVector f n)
+
+-- a PDU whose Messages are read, and that is not too long
+walk-messages : (s : List ℕ) (vs : List Vector) → 1 ≤ length s → length s ≤ 1500 → messages (suc (length s)) (getD s 0 0) s 1 ≡ found vs → walk s ≡ found vs
+unfolding walk
+walk-messages s vs some few e = rw (ne-eqb (length s) 0 (λ q. omega arith), le-ltb 1500 (length s) few) e
+
+-- a PDU of declarations in the order of types, if not too long, is read as their vectors
+pub walk-written : (l : List Declaration) → InOrder l → length (pduOctets l) ≤ 1500 → walk (pduOctets l) ≡ found (map declarationVector l)
+unfolding pduOctets MessagesRead
+walk-written l o h =
+    walk-messages (pduOctets l) (map declarationVector l) (omega arith) h
+    (read (suc (length (pduOctets l))) (0 ∷ []) (omega (arith, long)) ∙ ap found (map-each a f n ∙ ap (map declarationVector) (having-each l o)))
+  where
+    a : List Declaration
+    a = having advertises l
+
+    f : List Declaration
+    f = having faileds l
+
+    n : List Declaration
+    n = having listeners l
+
+    long : length (pduOctets l) ≡ 3 + (length (messageOctets advertises a) + (length (messageOctets faileds f) + length (messageOctets listeners n)))
+    long = simp length-append (omega arith)
+
+    read : MessagesRead 4 (messageOctets advertises a ++ (messageOctets faileds f ++ (messageOctets listeners n ++ (0 ∷ 0 ∷ []))))
+        (map declarationVector a ++ (map declarationVector f ++ (map declarationVector n ++ [])))
+    read =
+        messages-read advertises a 3 _ _ (having-kind advertises l) (omega (arith, long))
+        (messages-read faileds f 2 _ _ (having-kind faileds l) (omega (arith, long))
+        (messages-read listeners n 1 _ _ (having-kind listeners l) (omega (arith, long)) messages-end))
+
+-- what write puts into a PDU is found there again
+pub read-back : (b : Bridge) (p place : ℕ) → walk (pduOctets (write b p place .run)) ≡ found (map declarationVector (write b p place .run))
+read-back b p place = walk-written (write b p place .run) (run-in-order b p place) (run-fits b p place)
+
+-- A PDU is octets.
+
+octets-four : (d : Declaration) → Octets (fourOctets d)
+unfolding fourOctets readyNumber
+octets-four (talkerDeclaration id f v) = tt
+octets-four (listenerDeclaration id askingFailed) = (omega arith, tt)
+octets-four (listenerDeclaration id ready) = (omega arith, tt)
+octets-four (listenerDeclaration id readyFailed) = (omega arith, tt)
+
+octets-vector : (d : Declaration) → Octets (vectorOctets (declarationVector d))
+octets-vector d =
+    rw (vector-octets d)
+    (omega arith, (omega arith, octets-append (declarationVector d .first) (108 ∷ fourOctets d) first (omega arith, octets-four d)))
+  where
+    first : Octets (declarationVector d .first)
+    first = unfold declarationVector in (octets-packed (firstWidths (registers (kindOf d))) (firstNumbers d))
+
+octets-list : (l : List Declaration) → Octets (listOctets l)
+octets-list [] = unfold listOctets flat in (omega arith, (omega arith, tt))
+octets-list (d ∷ l) = rw (list-cons d l) (octets-append (vectorOctets (declarationVector d)) (listOctets l) (octets-vector d) (octets-list l))
+
+octets-lead : (k : Kind) → (typeNumber k < 256) × (firstLength (registers k) < 256)
+unfolding typeNumber firstLength
+octets-lead advertises = (omega arith, omega arith)
+octets-lead faileds = (omega arith, omega arith)
+octets-lead listeners = (omega arith, omega arith)
+
+octets-message : (k : Kind) (l : List Declaration) → Octets (messageOctets k l)
+unfolding messageOctets messageOf listOctets
+octets-message k [] = tt
+octets-message k (d ∷ l) =
+    let list : List ℕ = listOctets (d ∷ l) in
+    (octets-lead k .0, (octets-lead k .1, octets-append (be 2 (length list)) list (octets-number 2 (length list)) (octets-list (d ∷ l))))
+
+pub octets-written : (l : List Declaration) → Octets (pduOctets l)
+unfolding pduOctets
+octets-written l = (omega arith, before advertises _ (before faileds _ (before listeners (0 ∷ 0 ∷ []) (omega arith, (omega arith, tt)))))
+  where
+    before : (k : Kind) (s : List ℕ) → Octets s → Octets (messageOctets k (having k l) ++ s)
+    before k s o = octets-append (messageOctets k (having k l)) s (octets-message k (having k l)) o
+
+-- What the vectors ask for.
+
+-- "event JoinMt"
+pub event-written : (d : Declaration) → eventOf (declarationVector d) 0 ≡ joinMt
+unfolding eventOf declarationVector threePacked event
+event-written d = refl
+
+-- a declaration whose values are within their fields
+abbrev pub ValidDeclaration : Declaration → Type 0
+ValidDeclaration (talkerDeclaration id f v) = (id < 2 ^ 64) × ValidFixed f × ValidVarying v
+ValidDeclaration (listenerDeclaration id r) = id < 2 ^ 64
+
+first-fits : (d : Declaration) → ValidDeclaration d → Fit (firstWidths (registers (kindOf d))) (firstNumbers d)
+unfolding Fit firstWidths firstNumbers kindOf healthKind fixedNumbers failureNumbers priorityOctet
+first-fits (talkerDeclaration id f v) h = go (v .health) (h .2 .health)
+  where
+    fixed : ValidFixed f
+    fixed = h .1
+
+    octet : priorityOctet f < 256
+    octet = omega (arith, fixed .priority, fixed .rank)
+
+    -- the fields of both types, and those that a type adds
+    both-types : (ws vs : List ℕ) → Fit ws vs → Fit (8 ∷ 6 ∷ 2 ∷ 2 ∷ 2 ∷ 1 ∷ 4 ∷ ws) (id ∷ (fixedNumbers f ++ (v .latency ∷ vs)))
+    both-types ws vs w = (h .0, (fixed .destination, (fixed .vlan, (fixed .size, (fixed .frames, (octet, (h .2 .latency, w)))))))
+
+    go : (a : Health) → ValidHealth a → Fit (firstWidths (registers (healthKind a))) (id ∷ (fixedNumbers f ++ (v .latency ∷ failureNumbers a)))
+    go sound w = both-types [] [] tt
+    go (broken b c) w = both-types (8 ∷ 1 ∷ []) (b ∷ c ∷ []) (w .0, (w .1, tt))
+first-fits (listenerDeclaration id r) h = (h, tt)
+
+-- the numbers of FirstValue, read
+first-read : (d : Declaration) → ValidDeclaration d → fields (firstWidths (registers (kindOf d))) 0 (declarationVector d .first) ≡ firstNumbers d
+unfolding declarationVector
+first-read d h = fields-of-packed (firstWidths (registers (kindOf d))) (firstNumbers d) (first-fits d h)
+
+-- a Talker's fixed values come back: priority and rank out of one octet
+fixed-read : (id : ℕ) (f : Fixed) (vs : List ℕ) → ValidFixed f → fixedValue (id ∷ (fixedNumbers f ++ vs)) 0 ≡ f
+unfolding fixedValue fixedNumbers priorityOctet priorityOf rankOf
+fixed-read id f vs h =
+    let p : (f .priority * 32 + f .rank * 16) / 32 ≡ f .priority = omega (arith, h .rank) in
+    let r : (f .priority * 32 + f .rank * 16) / 16 % 2 ≡ f .rank = omega (arith, h .rank) in
+    rw (p, r, add-zero)
+
+talk-read : (id : ℕ) (f : Fixed) (latency : ℕ) (a : Health) → ValidFixed f
+    → talkerAct (healthKind a) (id ∷ (fixedNumbers f ++ (latency ∷ failureNumbers a))) 0 join ≡ talk id f record { health = a; latency = latency } ∷ []
+unfolding talkerAct healthKind healthValue failureNumbers idValue
+talk-read id f latency sound h = rw (fixed-read id f (latency ∷ []) h, add-zero id) (unfold fixedNumbers in refl)
+talk-read id f latency (broken b c) h = rw (fixed-read id f (latency ∷ b ∷ c ∷ []) h, add-zero id) (unfold fixedNumbers in refl)
+
+listen-read : (id : ℕ) (r : Ready) → listenerAct (id ∷ []) 0 join (fourPacked (readyNumber r * 64) 0) ≡ listen id r ∷ []
+unfolding listenerAct hearing fourPacked readyNumber idValue
+listen-read id askingFailed = rw (add-zero id)
+listen-read id ready = rw (add-zero id)
+listen-read id readyFailed = rw (add-zero id)
+
+-- a written vector asks for the join of its declaration
+vector-joins : (d : Declaration) → ValidDeclaration d → vectorActs (declarationVector d) ≡ joinOf d ∷ []
+unfolding vectorActs leaveAllActs valuesActs valueActs declarationVector kindOf healthKind eventOf threePacked event asking joinOf fourOf fourOctets firstNumbers
+vector-joins (talkerDeclaration id f v) h = go (v .health) (h .2 .health)
+  where
+    talks : Health → Declaration
+    talks a = talkerDeclaration id f record { health = a; latency = v .latency }
+
+    valid : (a : Health) → ValidHealth a → ValidDeclaration (talks a)
+    valid a w = (h .0, h .1, record { health = w; latency = h .2 .latency })
+
+    go : (a : Health) → ValidHealth a → vectorActs (declarationVector (talks a)) ≡ talk id f record { health = a; latency = v .latency } ∷ []
+    go sound w = rw (first-read (talks sound) (valid sound w), append-nil) (talk-read id f (v .latency) sound (h .1))
+    go (broken b c) w = rw (first-read (talks (broken b c)) (valid (broken b c) w), append-nil) (talk-read id f (v .latency) (broken b c) (h .1))
+vector-joins (listenerDeclaration id r) h = rw (first-read (listenerDeclaration id r) h, append-nil) (listen-read id r)
+
+pub frame-joins : (l : List Declaration) → All ValidDeclaration l → frameActs (map declarationVector l) ≡ map joinOf l
+unfolding frameActs
+frame-joins [] a = refl
+frame-joins (d ∷ l) a = rw (vector-joins d (a .0), frame-joins l (a .1))
+
+-- Every declaration of a bridge that keeps the form rules has its values within their fields.
+
+module _ (ports clock leave : ℕ) (x : Stream) (h : ValidStream ports clock leave x) (r : Result) (k : ValidResult clock r) where
+  failed-within : (c : Column) (e : Entry) → ValidColumn c (r .latency) e → All ValidDeclaration (failing x r c)
+  unfolding failing
+  failed-within none e w = tt
+  failed-within advertise e w = tt
+  failed-within (failed b c) noEntry w = absurd w
+  failed-within (failed b c) filters w = ((h .id, h .settled, record { health = w; latency = k .latency }), tt)
+  failed-within (failed b c) forwards w = absurd w
+
+  advertised-within : (c : Column) → All ValidDeclaration (advertised x r c)
+  unfolding advertised
+  advertised-within none = tt
+  advertised-within advertise = ((h .id, h .settled, record { health = tt; latency = k .latency }), tt)
+  advertised-within (failed b c) = tt
+
+  listening-within : (d : Declared) → All ValidDeclaration (listening x d)
+  unfolding listening
+  listening-within nothing = tt
+  listening-within (tells q) = (h .id, tt)
+
+  stream-within : (j : Kind) → All ValidDeclaration (declarationsOf j x r)
+  unfolding declarationsOf
+  stream-within advertises = advertised-within (r .column)
+  stream-within faileds = failed-within (r .column) (r .entry) (k .column)
+  stream-within listeners = listening-within (r .declares)
+
+pub declarations-within : (b : Bridge) → Valid b → (p : ℕ) → All ValidDeclaration (declared b p)
+unfolding declared declarations
+declarations-within b h p =
+    all-append ValidDeclaration (ofKind advertises (p - 1) (b .streams)) _ (of advertises)
+    (all-append ValidDeclaration (ofKind faileds (p - 1) (b .streams)) _ (of faileds) (of listeners))
+  where
+    Ok : Stream → Type 0
+    Ok = ValidStream (length (b .settings .ports)) (b .clock) (b .settings .leaveTime)
+
+    result : (x : Stream) → Ok x → ValidResult (b .clock) (resultAt x (p - 1))
+    result x o = unfold resultAt in (all-getD (ValidResult (b .clock)) (x .results) (p - 1) unsettled (unsettled-valid (b .clock)) (o .results))
+
+    of : (j : Kind) → All ValidDeclaration (ofKind j (p - 1) (b .streams))
+    of j =
+        all-of-kind ValidDeclaration j (p - 1) (b .streams)
+        (all-map Ok (λ x. All ValidDeclaration (declarationsOf j x (resultAt x (p - 1))))
+        (λ x o. stream-within (length (b .settings .ports)) (b .clock) (b .settings .leaveTime) x o (resultAt x (p - 1)) (result x o) j)
+        (b .streams) (h .streams))
+
+pub run-within : (b : Bridge) → Valid b → (p place : ℕ) → All ValidDeclaration (write b p place .run)
+run-within b h p place = go (ltb (length (declared b p)) place) refl
+  where
+    go : (t : Bool) → ltb (length (declared b p)) place ≡ t → All ValidDeclaration (write b p place .run)
+    go true e = rw (write-above b p place (ltb-true (length (declared b p)) place e)) tt
+    go false e =
+        let rest : List Declaration = drop place (declared b p) in
+        rw (write-from b p place (ltb-false (length (declared b p)) place e))
+        (all-take ValidDeclaration (takes rest) rest (all-drop ValidDeclaration place (declared b p) (declarations-within b h p)))
+
+-- a neighbour, whatever its settings, that gets a written PDU on one of its ports reads exactly the declarations written, as
+-- joins
+pub neighbour-reads : (b : Bridge) → Valid b → (p place : ℕ) (st : Settings) (q : ℕ) → wrongPort st q ≡ false
+    → reading st q (pduOctets (write b p place .run)) ≡ acts (map joinOf (write b p place .run))
+unfolding reading walked
+neighbour-reads b h p place st q right =
+    rw (right, read-back b p place) (ap acts (frame-joins (write b p place .run) (run-within b h p place)))
+
+-- so of all PDUs from a place on, which from place 0 on pass every declaration of the port
+pub neighbour-reads-all : (b : Bridge) → Valid b → (p place : ℕ) (st : Settings) (q : ℕ) → wrongPort st q ≡ false
+    → (f : ℕ) → All (λ run. reading st q (pduOctets run) ≡ acts (map joinOf run)) (writeAll f b p place)
+neighbour-reads-all b h p place st q right f =
+    all-runs (λ run. reading st q (pduOctets run) ≡ acts (map joinOf run)) f b p place (λ at. neighbour-reads b h p at st q right)

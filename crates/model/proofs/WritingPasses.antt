@@ -14,7 +14,7 @@ use Rattle.octets.specs.Be.{be}
 use Rattle.octets.specs.Fields.{packed, flat}
 use Rattle.octets.proofs.Be.{length-be}
 use Rattle.model.specs.Lists.{All, keep}
-use Rattle.model.specs.State.{Fixed, Health, sound, broken, Varying, Column, none, advertise, failed, Declared, nothing, tells, Result, Stream, Bridge, resultAt}
+use Rattle.model.specs.State.{Health, sound, broken, Column, none, advertise, failed, Declared, nothing, tells, Result, Stream, Bridge, resultAt}
 use Rattle.model.specs.Registrations.{Kind, advertises, faileds, listeners}
 use Rattle.model.specs.Frames.{registers, firstWidths, firstLength}
 use Rattle.model.specs.Declarations.{Declaration, talkerDeclaration, listenerDeclaration, healthKind, kindOf, advertised, failing, listening, declarationsOf, ofKind, declarations, vectorSize, sameKind, Open, noMessage, message, opening, fitting, takes, Written, write}
@@ -269,7 +269,7 @@ having-kind k (d ∷ l) = go (sameKind (kindOf d) k) refl (having-kind k l)
     go false e a = a
 
 -- types that only earlier declarations have
-having-none : (k : Kind) (l : List Declaration) → All (λ d. typeNumber k < typeNumber (kindOf d)) l → having k l ≡ []
+pub having-none : (k : Kind) (l : List Declaration) → All (λ d. typeNumber k < typeNumber (kindOf d)) l → having k l ≡ []
 unfolding having
 having-none k [] a = refl
 having-none k (d ∷ l) a = rw (other-kind (kindOf d) k (λ e. omega arith)) (having-none k l (a .1))
@@ -473,6 +473,19 @@ passes-from (suc f) b p place h k =
 -- the PDUs from place 0 on pass every declaration once, in order; there are not more of them than declarations
 pub passes-all : (b : Bridge) (p : ℕ) → flatten (writeAll (length (declared b p)) b p 0) ≡ declared b p
 passes-all b p = passes-from (length (declared b p)) b p 0 (omega arith) (omega arith)
+
+-- what holds of every run that write gives holds of all of them
+pub all-runs : (P : List Declaration → Type 0) (f : ℕ) (b : Bridge) (p place : ℕ) → ((q : ℕ) → P (write b p q .run)) → All P (writeAll f b p place)
+unfolding writeAll
+all-runs P zero b p place h = tt
+all-runs P (suc f) b p place h = go (eqb place (length (declared b p))) (all-runs P f b p (write b p place .next) h)
+  where
+    rest : List (List Declaration)
+    rest = writeAll f b p (write b p place .next)
+
+    go : (t : Bool) → All P rest → All P (cond t [] (write b p place .run ∷ rest))
+    go true a = tt
+    go false a = (h place, a)
 
 -- a PDU of at least one declaration and at most 1,500 octets
 abbrev pub Filled : List Declaration → Type 0
