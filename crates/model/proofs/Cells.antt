@@ -21,7 +21,7 @@ use Rattle.model.specs.Settling.{isTalking, isHearing, held}
 use Rattle.model.specs.Table.{cellWidths, leavingNumber, sinceNumber, toLeaving, healthNumber, bridgeNumber, codeNumber, toHealth, talkerNumbers, listenerNumbers, cellNumbers, fixedFrom, toReady, talkerFrom, listenerFrom, cellFrom, cellOctets, toCell, allZero, leavingRule, cellRules, cellFormed, holds}
 use Rattle.model.proofs.Lists.{all-each, and-left, and-right, and-both, implied, all-true, true-all}
 use Rattle.model.proofs.Valid.{ValidLeaving, ValidFixed, ValidHealth, ValidTalker, ValidListener, ValidCell}
-use Rattle.model.proofs.Parts.{octets-at, octets-packed, zero-between, zero-run, packed-whole, parts-take, parts-flat, Sized}
+use Rattle.model.proofs.Parts.{octets-at, octets-packed, _also_, zero-between, zero-run, packed-whole, parts-take, parts-flat, Sized}
 
 -- Fixed values: five numbers, the last of them priority and rank.
 
@@ -66,7 +66,7 @@ fixedWidths = 6 ∷ 2 ∷ 2 ∷ 2 ∷ 1 ∷ []
 
 pub fixed-fit : (f : Fixed) → ValidFixed f → Fit fixedWidths (fixedNumbers f)
 unfolding Fit fixedWidths fixedNumbers priorityOctet
-fixed-fit f v = (v .destination, (v .vlan, (v .size, (v .frames, (omega (arith, v .priority, v .rank), tt)))))
+fixed-fit f v = v .destination also v .vlan also v .size also v .frames also omega (arith, v .priority, v .rank) also tt
 
 pub fixed-valid : (i : ℕ) (vs : List ℕ) → getD vs i 0 < 256 ^ 6 → getD vs (i + 1) 0 < 256 ^ 2 → getD vs (i + 2) 0 < 256 ^ 2
     → getD vs (i + 3) 0 < 256 ^ 2 → getD vs (i + 4) 0 < 256 ^ 1 → ValidFixed (fixedFrom i vs)
@@ -219,25 +219,18 @@ module _ (clock leave : ℕ) where
   unfolding Fit cellWidths talkerNumbers fixedWidths
   talker-fit noTalker v h = fit-zeros (take 12 cellWidths)
   talker-fit (talker f w m l) v h =
-      let (k, b, c) = health-fit (w .health) (v .1 .health) in (
-        k,
-        (
-          omega (arith, bit-few m),
-          (
-            leaving-few l,
-            (
-              since-within clock leave l (v .2) h,
-              fit-append fixedWidths (fixedNumbers f) (4 ∷ 8 ∷ 1 ∷ []) (w .latency ∷ bridgeNumber (w .health) ∷ codeNumber (w .health) ∷ [])
-                  (fixed-fit f (v .0)) (v .1 .latency, (b, (c, tt))),
-            ),
-          ),
-        ),
-      )
+      let (k, b, c) = health-fit (w .health) (v .1 .health) in
+      k
+      also omega (arith, bit-few m)
+      also leaving-few l
+      also since-within clock leave l (v .2) h
+      also fit-append fixedWidths (fixedNumbers f) (4 ∷ 8 ∷ 1 ∷ []) (w .latency ∷ bridgeNumber (w .health) ∷ codeNumber (w .health) ∷ [])
+      (fixed-fit f (v .0)) (v .1 .latency also b also c also tt)
 
   listener-fit : (h : Listener) → ValidListener clock leave h → clock < 2 ^ 32 → Fit (drop 12 cellWidths) (listenerNumbers h)
   unfolding Fit cellWidths listenerNumbers
   listener-fit noListener v h = fit-zeros (drop 12 cellWidths)
-  listener-fit (listener r l) v h = (omega (arith, ready-number r .1), (leaving-few l, (since-within clock leave l v h, tt)))
+  listener-fit (listener r l) v h = omega (arith, ready-number r .1) also leaving-few l also since-within clock leave l v h also tt
 
   cell-fit : (c : Cell) → ValidCell clock leave c → clock < 2 ^ 32 → Fit cellWidths (cellNumbers c)
   unfolding cellNumbers cellWidths
@@ -263,27 +256,25 @@ module _ (clock leave : ℕ) where
       All (λ b. b ≡ true)
       (leb (at 0) 3 ∷ leavingRule clock leave (at 1) (at 2) ∷ implies (eqb (at 0) 0) (allZero (take 2 (drop 1 (listenerNumbers h)))) ∷ [])
   unfolding listenerNumbers leavingRule allZero
-  hearing-rules noListener v = (refl, (refl, (refl, tt)))
-  hearing-rules (listener r l) v = (ready-rules r .0, (leaving-formed clock leave l v, (rw (ready-rules r .1) refl, tt)))
+  hearing-rules noListener v = refl also refl also refl also tt
+  hearing-rules (listener r l) v = ready-rules r .0 also leaving-formed clock leave l v also rw (ready-rules r .1) refl also tt
 
   cell-rules : (t : Talker) → ValidTalker clock leave t → (h : Listener) → ValidListener clock leave h
       → allTrue (cellRules clock leave (talkerNumbers t ++ listenerNumbers h)) ≡ true
   unfolding cellRules talkerNumbers fixedNumbers leavingRule allZero
   cell-rules noTalker v h u =
       true-all (cellRules clock leave (talkerNumbers noTalker ++ listenerNumbers h))
-      (refl, (refl, (refl, (refl, (refl, (refl, hearing-rules h u))))))
+      (refl also refl also refl also refl also refl also refl also hearing-rules h u)
   cell-rules (talker f w m l) v h u =
       let (few, there, whole) = health-rules (w .health) in
-      true-all (cellRules clock leave (talkerNumbers (talker f w m l) ++ listenerNumbers h)) (
-        few,
-        (
-          le-leb (bit m) 1 (bit-few m),
-          (
-            leaving-formed clock leave l (v .2),
-            (eq-eqb (priorityOctet f % 16) 0 (priority-spare f), (rw there refl, (whole, hearing-rules h u))),
-          ),
-        ),
-      )
+      true-all (cellRules clock leave (talkerNumbers (talker f w m l) ++ listenerNumbers h))
+      (few
+      also le-leb (bit m) 1 (bit-few m)
+      also leaving-formed clock leave l (v .2)
+      also eq-eqb (priorityOctet f % 16) 0 (priority-spare f)
+      also rw there refl
+      also whole
+      also hearing-rules h u)
 
 -- Numbers that keep the rules: what they say is valid, and is written with the same numbers.
 
@@ -516,5 +507,8 @@ held-holds k cells after back l z h =
     let front : parts 39 toCell k s ≡ take k cells =
     sym (parts-take 39 toCell k (length cells) s l) ∙ ap (take k) (parts-flat 39 cellOctets toCell cells after (cells-sized cells) back) in
     let whole : held cells ≡ held (take k cells) =
-    ap held (sym (take-append-drop k cells)) ∙ held-append (take k cells) (drop k cells) ∙ ap (λ (b : Bool). held (take k cells) || b) (held-empty (drop k cells) z) ∙ or-false (held (take k cells)) in
+    ap held (sym (take-append-drop k cells))
+    ∙ held-append (take k cells) (drop k cells)
+    ∙ ap (λ (b : Bool). held (take k cells) || b) (held-empty (drop k cells) z)
+    ∙ or-false (held (take k cells)) in
     holds-parts k s ∙ ap held front ∙ sym whole ∙ h

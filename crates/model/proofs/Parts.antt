@@ -19,6 +19,11 @@ use Rattle.model.specs.Table.{everyPart, allZero, rising}
 use Rattle.model.proofs.Lists.{all-map, all-append, all-take, all-drop, all-replicate, and-left, and-right, and-both}
 use Rattle.model.proofs.Valid.{Rising}
 
+-- facts one after another, as `All` and `Fit` ask for them
+infixr 20 _also_
+pub _also_ : {A B : Type 0} → A → B → A × B
+a also b = (a, b)
+
 -- Octets.
 
 -- each of them, and any found past the end, is below 256
@@ -113,6 +118,7 @@ drop-suc-times k n s = ap (λ (m : ℕ). drop m s) (suc-times k n) ∙ sym (drop
 drop-zero-times : (n : ℕ) (s : List ℕ) → drop (0 * n) s ≡ s
 drop-zero-times n s = rw zero-mul
 
+-- octets for one part, and for k more after it
 room : (k n : ℕ) (s : List ℕ) → suc k * n ≤ length s → (n ≤ length s) × (k * n ≤ length (drop n s))
 room k n s h = (omega (arith, suc-times k n), omega (arith, suc-times k n, length-drop n s))
 
@@ -232,7 +238,8 @@ module _ {A : Type 0} (n : ℕ) (to : A → List ℕ) where
 
 module _ {A : Type 0} (n : ℕ) (to : A → List ℕ) (from : List ℕ → A) where
   -- read and written: the parts that come back from what they say
-  pub flat-parts : (k : ℕ) (s : List ℕ) → k * n ≤ length s → All (λ p. to (from p) ≡ p) (parts n (λ p. p) k s) → flat to (parts n from k s) ≡ take (k * n) s
+  pub flat-parts : (k : ℕ) (s : List ℕ) → k * n ≤ length s → All (λ p. to (from p) ≡ p) (parts n (λ p. p) k s)
+      → flat to (parts n from k s) ≡ take (k * n) s
   unfolding flat parts
   flat-parts zero s h a = rw zero-mul
   flat-parts (suc k) s h a =
@@ -310,7 +317,8 @@ module _ (n : ℕ) (rule : List ℕ → Bool) where
         (every-zeros k)
 
     -- m parts, of which those after the first k are zero
-    pub every-padded : (k m : ℕ) (s : List ℕ) → k ≤ m → length s ≡ m * n → everyPart n rule k s ≡ true → allZero (drop (n * k) s) ≡ true → everyPart n rule m s ≡ true
+    pub every-padded : (k m : ℕ) (s : List ℕ) → k ≤ m → length s ≡ m * n → everyPart n rule k s ≡ true
+        → allZero (drop (n * k) s) ≡ true → everyPart n rule m s ≡ true
     every-padded k m s h l e o =
         ap (λ (i : ℕ). everyPart n rule i s) (less-and-rest k m h)
         ∙ every-add k (m - k) s

@@ -17,7 +17,7 @@ use Rattle.model.specs.State.{Column, none, advertise, failed, Entry, no
 use Rattle.model.specs.Table.{resultWidths, columnNumber, columnBridge, columnCode, entryNumber, declaredNumber, resultNumbers, toColumn, toEntry, toDeclared, resultFrom, resultOctets, toResult, allZero, resultRules, resultFormed}
 use Rattle.model.proofs.Lists.{all-each, implied, all-true, true-all}
 use Rattle.model.proofs.Valid.{ValidColumn, ValidAge, ValidResult}
-use Rattle.model.proofs.Parts.{octets-packed, octets-at, zero-between, packed-whole, Sized}
+use Rattle.model.proofs.Parts.{_also_, octets-packed, octets-at, zero-between, packed-whole, Sized}
 use Rattle.model.proofs.Cells.{ready-back, ready-forth, ready-number, ready-rules}
 
 -- The column, with latency and entry.
@@ -143,22 +143,15 @@ declared-few (tells r) = ready-number r .1
 result-fit : (clock : ℕ) (r : Result) → ValidResult clock r → clock < 2 ^ 32 → Fit resultWidths (resultNumbers r)
 unfolding Fit resultWidths resultNumbers
 result-fit clock r v h =
-    let (k, b, c) = column-fit (r .column) (r .latency) (r .entry) (v .column) in (
-      k,
-      (
-        v .latency,
-        (
-          b,
-          (
-            c,
-            (
-              omega (arith, leb-true (entryNumber (r .entry)) 2 (entry-few (r .entry))),
-              (omega (arith, age-within clock (r .entry) (r .age) (v .age)), (omega (arith, declared-few (r .declares)), tt)),
-            ),
-          ),
-        ),
-      ),
-    )
+    let (k, b, c) = column-fit (r .column) (r .latency) (r .entry) (v .column) in
+    k
+    also v .latency
+    also b
+    also c
+    also omega (arith, leb-true (entryNumber (r .entry)) 2 (entry-few (r .entry)))
+    also omega (arith, age-within clock (r .entry) (r .age) (v .age))
+    also omega (arith, declared-few (r .declares))
+    also tt
 
 numbers-back : (r : Result) → resultFrom (resultNumbers r) ≡ r
 unfolding resultFrom resultNumbers
@@ -169,28 +162,17 @@ unfolding resultRules resultNumbers
 numbers-rules clock r v =
     let (few, whole) = failure-rules (r .column) in
     let (still, some, none-else) = column-rules (r .column) (r .latency) (r .entry) (v .column) in
-    true-all (resultRules clock (resultNumbers r)) (
-      few,
-      (
-        still,
-        (
-          whole,
-          (
-            entry-few (r .entry),
-            (
-              some,
-              (
-                none-else,
-                (
-                  age-rule clock (r .entry) (r .age) (v .age),
-                  (le-leb (r .age) (clock / 100) (age-within clock (r .entry) (r .age) (v .age)), (le-leb (declaredNumber (r .declares)) 3 (declared-few (r .declares)), tt)),
-                ),
-              ),
-            ),
-          ),
-        ),
-      ),
-    )
+    true-all (resultRules clock (resultNumbers r))
+    (few
+    also still
+    also whole
+    also entry-few (r .entry)
+    also some
+    also none-else
+    also age-rule clock (r .entry) (r .age) (v .age)
+    also le-leb (r .age) (clock / 100) (age-within clock (r .entry) (r .age) (v .age))
+    also le-leb (declaredNumber (r .declares)) 3 (declared-few (r .declares))
+    also tt)
 
 -- Numbers that keep the rules: what they say is valid, and is written with the same numbers.
 
