@@ -317,7 +317,7 @@ given st now s r a = record {
 
 -- columns that agree on the streams spend the same
 module _ (st : Settings) (now p : ℕ) (col other : Stream → Column) where
-  spent-same : (c : Class) (test : Claim → Bool) (s : List Stream) → All (λ x. col x ≡ other x) s → spent st now p c col test s ≡ spent st now p c other test s
+  pub spent-same : (c : Class) (test : Claim → Bool) (s : List Stream) → All (λ x. col x ≡ other x) s → spent st now p c col test s ≡ spent st now p c other test s
   unfolding spent
   spent-same c test [] a = refl
   spent-same c test (x ∷ s) a = rw (a .0, spent-same c test s (a .1))
