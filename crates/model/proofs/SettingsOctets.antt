@@ -1,8 +1,8 @@
 -- Settings as octets and back: nothing is lost either way, and the octets that keep the rules are those of valid settings.
 use mathlib.Core.Path.{_≡_, refl, sym, _∙_, ap}
 use mathlib.Core.List.{List, [], _∷_, _++_, append-assoc, append-nil}
-use mathlib.Core.Bool.{Bool, true, false}
-use Prim.Native.Nat.{ℕ, zero, suc, _+_, _*_, _/_, _%_, _≤_, _<_}
+use mathlib.Core.Bool.{true}
+use Prim.Native.Nat.{ℕ, _+_, _*_, _/_, _%_, _≤_, _<_}
 use native.Mathlib.Nat.{add-zero, mul-comm}
 use native.Mathlib.Omega.{arith}
 use lib.ListN.{length, getD, take, drop, length-append, length-drop}
@@ -13,58 +13,44 @@ use Rattle.octets.specs.Be.{beAt}
 use Rattle.octets.specs.Fields.{fields, packed, Fit, width, flat}
 use Rattle.octets.specs.Parts.{part}
 use Rattle.octets.proofs.Fields.{length-packed-any, length-flat, fields-packed, fields-of-packed, packed-fields, fields-fit, beAt-fits}
-use Rattle.model.specs.Lists.{All, allTrue, bit, isOne, Octets}
+use Rattle.model.specs.Lists.{All, allTrue, bit, Octets}
 use Rattle.model.specs.State.{Port, Settings}
 use Rattle.model.specs.Table.{headWidths, portWidths, portNumbers, portFrom, portOctets, toPort, headWord, settingsOctets, portsField, toSettings, portRule, everyPart, settingsRules, settingsFormed}
-use Rattle.model.proofs.Parts.{parts-flat, length-parts, octets-at, octets-drop, octets-append, octets-packed, octets-flat, every-read, every-flat, every-forth}
+use Rattle.model.specs.Laid.{FitSettings}
+use Rattle.model.proofs.Cells.{bit-back, bit-forth, bit-few}
+use Rattle.model.proofs.Parts.{packed-whole, parts-flat, length-parts, octets-at, octets-drop, octets-append, octets-packed, octets-flat, every-read, every-flat, every-forth}
 use Rattle.model.proofs.Lists.{all-map, all-each, and-left, and-right, and-both, all-true, true-all}
 use Rattle.model.proofs.Valid.{ValidPort, ValidSettings}
 
--- The flags of a port, in one octet.
-
-bit-one : (k : ℕ) → k < 2 → bit (isOne k) ≡ k
-unfolding bit isOne
-bit-one zero h = refl
-bit-one (suc zero) h = refl
-bit-one (suc (suc k)) h = absurd (omega arith)
-
-bit-small : (b : Bool) → bit b < 2
-unfolding bit
-bit-small true = omega arith
-bit-small false = omega arith
-
-one-bit : (b : Bool) → isOne (bit b) ≡ b
-unfolding bit isOne
-one-bit true = refl
-one-bit false = refl
+-- A port's numbers: the flags are three bits of one octet.
 
 -- the numbers of a port are read as it
 port-read : (q : Port) → portFrom (portNumbers q) ≡ q
 unfolding portFrom portNumbers
 port-read q =
-    let a = bit-small (q .supportsA) in
-    let b = bit-small (q .supportsB) in
-    let t = bit-small (q .sendsTwice) in
+    let a = bit-few (q .supportsA) in
+    let b = bit-few (q .supportsB) in
+    let t = bit-few (q .sendsTwice) in
     let f : ℕ = bit (q .supportsA) * 128 + bit (q .supportsB) * 64 + bit (q .sendsTwice) * 32 in
     let u : f / 128 ≡ bit (q .supportsA) = omega arith in
     let v : f / 64 % 2 ≡ bit (q .supportsB) = omega arith in
     let w : f / 32 % 2 ≡ bit (q .sendsTwice) = omega arith in
-    rw (u, v, w, one-bit (q .supportsA), one-bit (q .supportsB), one-bit (q .sendsTwice))
+    rw (u, v, w, bit-back (q .supportsA), bit-back (q .supportsB), bit-back (q .sendsTwice))
 
 -- numbers that fit, with "zero 5" after the flags, are those of the port that they are read as
 numbers-back : (f o m a b c d : ℕ) → f < 256 → f % 32 ≡ 0
     → portNumbers (portFrom (f ∷ o ∷ m ∷ a ∷ b ∷ c ∷ d ∷ [])) ≡ f ∷ o ∷ m ∷ a ∷ b ∷ c ∷ d ∷ []
 unfolding portFrom portNumbers
 numbers-back f o m a b c d h z =
-    rw (bit-one (f / 128) (omega arith), bit-one (f / 64 % 2) (omega arith), bit-one (f / 32 % 2) (omega arith))
+    rw (bit-forth (f / 128) (omega arith), bit-forth (f / 64 % 2) (omega arith), bit-forth (f / 32 % 2) (omega arith))
     (ap (λ (x : ℕ). x ∷ o ∷ m ∷ a ∷ b ∷ c ∷ d ∷ []) (omega arith))
 
-port-fits : (q : Port) → ValidPort q → Fit portWidths (portNumbers q)
+pub port-fit : (q : Port) → ValidPort q → Fit portWidths (portNumbers q)
 unfolding Fit portWidths portNumbers
-port-fits q v =
-    let a = bit-small (q .supportsA) in
-    let b = bit-small (q .supportsB) in
-    let t = bit-small (q .sendsTwice) in
+port-fit q v =
+    let a = bit-few (q .supportsA) in
+    let b = bit-few (q .supportsB) in
+    let t = bit-few (q .sendsTwice) in
     (omega arith, (v .overhead, (v .largest, (v .limitA, (v .limitB, (v .latencyA, (v .latencyB, tt)))))))
 
 port-flags : (q : Port) → (getD (portNumbers q) 0 0) % 32 ≡ 0
@@ -96,20 +82,19 @@ port-length q = length-packed-any portWidths (portNumbers q) refl ∙ (unfold wi
 ports-sized : (l : List Port) → All (λ q. length (portOctets q) ≡ 22) l
 ports-sized = all-each (λ q. length (portOctets q) ≡ 22) port-length
 
-pub port-back : (q : Port) → ValidPort q → toPort (portOctets q) ≡ q
+pub port-back : (q : Port) → Fit portWidths (portNumbers q) → toPort (portOctets q) ≡ q
 unfolding toPort portOctets
-port-back q v = rw (fields-of-packed portWidths (portNumbers q) (port-fits q v)) (port-read q)
+port-back q f = rw (fields-of-packed portWidths (portNumbers q) f) (port-read q)
 
 -- the first number is the octet of the flags
 first-flags : (s : List ℕ) → getD (fields portWidths 0 s) 0 0 ≡ getD s 0 0
 unfolding fields portWidths
 first-flags s = octet-field s 0
 
-pub port-formed : (q : Port) → ValidPort q → portRule (portOctets q) ≡ true
+pub port-formed : (q : Port) → Fit portWidths (portNumbers q) → portRule (portOctets q) ≡ true
 unfolding portRule portOctets
-port-formed q v =
-    let f = fields-of-packed portWidths (portNumbers q) (port-fits q v) in
-    let e = sym (first-flags (packed portWidths (portNumbers q))) ∙ ap (λ (vs : List ℕ). getD vs 0 0) f in
+port-formed q f =
+    let e = sym (first-flags (packed portWidths (portNumbers q))) ∙ ap (λ (vs : List ℕ). getD vs 0 0) (fields-of-packed portWidths (portNumbers q) f) in
     rw e (eq-eqb (getD (portNumbers q) 0 0 % 32) 0 (port-flags q))
 
 numbers-forth : (s : List ℕ) → getD s 0 0 < 256 → portRule s ≡ true → portNumbers (toPort s) ≡ fields portWidths 0 s
@@ -119,17 +104,10 @@ numbers-forth s h r =
     let z : getD s 0 0 % 32 ≡ 0 = eqb-true (getD s 0 0 % 32) 0 r in
     numbers-back (beAt 1 s 0) (beAt 1 s 1) (beAt 2 s 2) (beAt 5 s 4) (beAt 5 s 9) (beAt 4 s 14) (beAt 4 s 18) (omega arith) (rw e z)
 
-pub part-all : (n : ℕ) (s : List ℕ) → length s ≤ n → part 0 n s ≡ s
-unfolding part
-part-all n s h = take-all n s h
-
 pub port-forth : (s : List ℕ) → length s ≡ 22 → Octets s → portRule s ≡ true → portOctets (toPort s) ≡ s
 unfolding portOctets
 port-forth s l o r =
-    let w : width portWidths ≡ 22 = unfold width portWidths in refl in
-    ap (packed portWidths) (numbers-forth s (octets-at s o 0) r)
-    ∙ packed-fields portWidths 0 s (omega arith) (octets-at s o)
-    ∙ part-all (width portWidths) s (omega arith)
+    ap (packed portWidths) (numbers-forth s (octets-at s o 0) r) ∙ packed-whole portWidths s (l ∙ unfold width portWidths in refl) o
 
 pub port-valid : (s : List ℕ) → length s ≡ 22 → Octets s → portRule s ≡ true → ValidPort (toPort s)
 port-valid s l o r = port-from s (fields-fit portWidths 0 s (octets-at s o))
@@ -152,17 +130,17 @@ unfolding settingsOctets
 settings-length st =
     length-append (head st) (flat portOctets (st .ports)) ∙ omega (arith, head-length st, length-flat portOctets 22 port-length (st .ports))
 
-module _ (st : Settings) (v : ValidSettings st) where
-  head-fits : Fit headWidths (st .bridgeId ∷ headWord st ∷ [])
+-- numbers within their fields are read as they were written, whatever follows
+module _ (st : Settings) (v : FitSettings st) where
+  head-fit : Fit headWidths (st .bridgeId ∷ headWord st ∷ [])
   unfolding Fit headWidths headWord
-  head-fits = (v .bridgeId, (omega arith, tt))
+  head-fit = (v .bridgeId, (omega arith, tt))
 
-  -- whatever follows
   module _ (rest : List ℕ) where
     head-read : fields headWidths 0 (settingsOctets st ++ rest) ≡ st .bridgeId ∷ headWord st ∷ []
-    head-read = rw (head-split st rest) (fields-packed headWidths (st .bridgeId ∷ headWord st ∷ []) (flat portOctets (st .ports) ++ rest) head-fits)
+    head-read = rw (head-split st rest) (fields-packed headWidths (st .bridgeId ∷ headWord st ∷ []) (flat portOctets (st .ports) ++ rest) head-fit)
 
-    id-read : beAt 8 (settingsOctets st ++ rest) 0 ≡ st .bridgeId
+    pub id-read : beAt 8 (settingsOctets st ++ rest) 0 ≡ st .bridgeId
     unfolding fields headWidths
     id-read = ap (λ (vs : List ℕ). getD vs 0 0) head-read
 
@@ -174,40 +152,55 @@ module _ (st : Settings) (v : ValidSettings st) where
     unfolding portsField headWord
     ports-read = rw word-read (omega arith)
 
-    a-read : beAt 3 (settingsOctets st ++ rest) 8 / 131072 % 8 ≡ st .priorityA
+    pub priority-a-read : beAt 3 (settingsOctets st ++ rest) 8 / 131072 % 8 ≡ st .priorityA
     unfolding headWord
-    a-read = rw word-read (omega arith)
+    priority-a-read = rw word-read (omega arith)
 
-    b-read : beAt 3 (settingsOctets st ++ rest) 8 / 16384 % 8 ≡ st .priorityB
+    pub priority-b-read : beAt 3 (settingsOctets st ++ rest) 8 / 16384 % 8 ≡ st .priorityB
     unfolding headWord
-    b-read = rw word-read (omega arith)
+    priority-b-read = rw word-read (omega arith)
 
-    leave-read : beAt 3 (settingsOctets st ++ rest) 8 % 16384 ≡ st .leaveTime
+    pub leave-read : beAt 3 (settingsOctets st ++ rest) 8 % 16384 ≡ st .leaveTime
     unfolding headWord
     leave-read = rw word-read (omega arith)
 
-    behind-head : drop 11 (settingsOctets st ++ rest) ≡ flat portOctets (st .ports) ++ rest
+    pub behind-head : drop 11 (settingsOctets st ++ rest) ≡ flat portOctets (st .ports) ++ rest
     behind-head = rw (head-split st rest) (drop-at (head st) (flat portOctets (st .ports) ++ rest) 11 (head-length st))
 
-    pub settings-back : toSettings (settingsOctets st ++ rest) ≡ st
+    pub fit-back : toSettings (settingsOctets st ++ rest) ≡ st
     unfolding toSettings
-    settings-back =
+    fit-back =
         let ps =
         parts-flat 22 portOctets toPort (st .ports) rest (ports-sized (st .ports))
-        (all-map ValidPort (λ q. toPort (portOctets q) ≡ q) port-back (st .ports) (v .ports)) in
-        rw (ports-read, behind-head, id-read, a-read, b-read, leave-read, ps)
+        (all-map (λ q. Fit portWidths (portNumbers q)) (λ q. toPort (portOctets q) ≡ q) port-back (st .ports) (v .ports)) in
+        rw (ports-read, behind-head, id-read, priority-a-read, priority-b-read, leave-read, ps)
 
-    pub settings-rules : allTrue (settingsRules (settingsOctets st ++ rest)) ≡ true
-    unfolding settingsRules
-    settings-rules =
-        let n = length (st .ports) in
-        let ps =
-        every-flat 22 portOctets portRule (st .ports) rest (ports-sized (st .ports))
-        (all-map ValidPort (λ q. portRule (portOctets q) ≡ true) port-formed (st .ports) (v .ports)) in
-        let d = ne-eqb (st .priorityA) (st .priorityB) (v .different) in
-        true-all (settingsRules (settingsOctets st ++ rest))
-        (rw (ports-read, behind-head, a-read, b-read, leave-read, d)
-        (le-leb 1 n (v .some-port), (le-leb n 8 (v .eight-ports), (refl, (le-leb 1 (st .leaveTime) (v .leaves), (ps, tt))))))
+pub settings-fit : (st : Settings) → ValidSettings st → FitSettings st
+settings-fit st v = record {
+  bridgeId = v .bridgeId;
+  priorityA = v .priorityA;
+  priorityB = v .priorityB;
+  leaveTime = v .leaveTime;
+  eight-ports = v .eight-ports;
+  ports = all-map ValidPort (λ q. Fit portWidths (portNumbers q)) port-fit (st .ports) (v .ports);
+}
+
+module _ (st : Settings) (v : ValidSettings st) (rest : List ℕ) where
+  pub settings-back : toSettings (settingsOctets st ++ rest) ≡ st
+  settings-back = fit-back st (settings-fit st v) rest
+
+  pub settings-rules : allTrue (settingsRules (settingsOctets st ++ rest)) ≡ true
+  unfolding settingsRules
+  settings-rules =
+      let n = length (st .ports) in
+      let w = settings-fit st v in
+      let ps =
+      every-flat 22 portOctets portRule (st .ports) rest (ports-sized (st .ports))
+      (all-map (λ q. Fit portWidths (portNumbers q)) (λ q. portRule (portOctets q) ≡ true) port-formed (st .ports) (w .ports)) in
+      let d = ne-eqb (st .priorityA) (st .priorityB) (v .different) in
+      true-all (settingsRules (settingsOctets st ++ rest))
+      (rw (ports-read st w rest, behind-head st w rest, priority-a-read st w rest, priority-b-read st w rest, leave-read st w rest, d)
+      (le-leb 1 n (v .some-port), (le-leb n 8 (v .eight-ports), (refl, (le-leb 1 (st .leaveTime) (v .leaves), (ps, tt))))))
 
 -- Octets that keep the rules are those of the settings that they are read as.
 
@@ -290,7 +283,7 @@ pub settings-formed : (st : Settings) → ValidSettings st → settingsFormed (s
 unfolding settingsFormed
 settings-formed st v =
     let s = settingsOctets st in
-    let e : portsField s ≡ length (st .ports) = ap portsField (sym (append-nil s)) ∙ ports-read st v [] in
+    let e : portsField s ≡ length (st .ports) = ap portsField (sym (append-nil s)) ∙ ports-read st (settings-fit st v) [] in
     let r : allTrue (settingsRules s) ≡ true = ap (λ (t : List ℕ). allTrue (settingsRules t)) (sym (append-nil s)) ∙ settings-rules st v [] in
     and-both (eqb (length s) (11 + 22 * portsField s)) (allTrue (settingsRules s)) (eq-eqb (length s) (11 + 22 * portsField s) (omega (arith, settings-length st))) r
 

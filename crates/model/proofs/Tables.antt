@@ -1,1 +1,735 @@
--- To be filled.
+-- The table as octets and back: nothing is lost either way, and the octets that keep the form rules are those of valid bridges.
+use mathlib.Core.Path.{_≡_, refl, sym, _∙_, ap}
+use mathlib.Core.List.{List, [], _∷_, _++_, append-assoc, append-nil}
+use mathlib.Core.Bool.{Bool, true, _&&_}
+use Prim.Native.Nat.{ℕ, zero, suc, _+_, _*_, _-_, _%_, _^_, _≤_, _<_}
+use native.Mathlib.Nat.{mul-comm}
+use native.Mathlib.Omega.{arith}
+use lib.ListN.{length, getD, drop, replicate, take-append-drop, length-append, length-drop}
+use lib.Seq.{take-at, drop-at, drop-drop, take-all}
+use lib.Dec.{eqb, leb}
+use borrow.Author.Tests.{eq-eqb, eqb-true, le-leb, leb-true}
+use Rattle.octets.specs.Fields.{fields, packed, Fit, width, flat}
+use Rattle.octets.specs.Parts.{part, zeros}
+use Rattle.octets.proofs.Parts.{length-part}
+use Rattle.octets.proofs.Fields.{length-packed-any, fields-packed, fields-packed-behind, fields-of-packed, packed-fields, fields-fit, fit-at, beAt-fits}
+use Rattle.model.specs.Lists.{All, allTrue, parts, Octets}
+use Rattle.model.specs.State.{Port, Totals, Stream, Bridge, empty, unsettled, noTotals, started}
+use Rattle.model.specs.Registrations.{ids}
+use Rattle.model.specs.WrittenFrames.{fixedNumbers}
+use Rattle.model.specs.Table.{settingsOctets, portsField, toSettings, settingsRules, settingsFormed, everyPart, allZero, cellOctets, toCell, cellFormed, resultOctets, toResult, resultFormed, nameWidths, cellsPart, resultsPart, fixedFrom, holds, streamOctets, toStream, streamRules, streamFormed, totalsWidths, totalsOctets, toTotals, encode, settingsPart, clockField, countField, totalsPart, recordsPart, decode, rising, idOf, totalsWithin, tableLength, tableRules, formed}
+use Rattle.model.specs.Laid.{FitSettings, FitTotals}
+use Rattle.model.proofs.Lists.{and-left, and-right, and-both, all-map, all-each, all-true, true-all}
+use Rattle.model.proofs.Valid.{ValidCell, ValidResult, ValidPort, ValidFixed, ValidStream, Rising, Valid}
+use Rattle.model.proofs.Parts.{octets-at, packed-whole, octets-append, octets-drop, octets-part, octets-zeros, octets-packed, octets-flat, length-zeros, zero-zeros, zeros-zero, part-between, length-parts, parts-map, Sized, length-flat-sized, parts-flat, every-read, every-forth, every-fewer, every-padded, parts-padded, zero-padded, every-flat, rising-rises, rises-rising}
+use Rattle.model.proofs.Cells.{fixed-fit, fixed-back, fixed-forth, fixed-valid, fixedWidths, priority-spare, cell-length, cell-octets, cells-sized, cell-back, cell-formed, cell-forth, cell-valid, cell-zeros, holds-held, held-holds}
+use Rattle.model.proofs.Results.{result-length, result-octets, results-sized, result-back, result-formed, result-forth, result-valid, result-zeros}
+use Rattle.model.proofs.SettingsOctets.{octet-field, settings-length, ports-read, fit-back, settings-fit, settings-rules, settings-ports, settings-taken, settings-valid, settings-room, eight-ports, formed-valid, octets-settings}
+
+-- m things of n octets each, of which those after the first k are the blank one, written as zeros: cells, and results.
+
+record Coded {A : Type 0} (n : ℕ) (to : A → List ℕ) (from : List ℕ → A) (rule : List ℕ → Bool) (Good : A → Type 0) (e : A) : Type 0 where
+  size : (a : A) → length (to a) ≡ n
+  back : (a : A) → Good a → from (to a) ≡ a
+  keeps : (a : A) → Good a → rule (to a) ≡ true
+  forth : (s : List ℕ) → length s ≡ n → Octets s → rule s ≡ true → to (from s) ≡ s
+  valid : (s : List ℕ) → length s ≡ n → Octets s → rule s ≡ true → Good (from s)
+  blank : to e ≡ zeros n
+  good : Good e
+
+module _ {A : Type 0} {n : ℕ} {to : A → List ℕ} {from : List ℕ → A} {rule : List ℕ → Bool} {Good : A → Type 0} {e : A} (c : Coded n to from rule Good e) where
+  all-sized : (l : List A) → All (λ a. length (to a) ≡ n) l
+  all-sized = all-each (λ a. length (to a) ≡ n) (c .size)
+
+  zeros-keep : rule (zeros n) ≡ true
+  zeros-keep = ap rule (sym (c .blank)) ∙ c .keeps e (c .good)
+
+  zeros-say : from (zeros n) ≡ e
+  zeros-say = ap from (sym (c .blank)) ∙ c .back e (c .good)
+
+  module _ (k m : ℕ) (h : k ≤ m) (l : List A) (q : length l ≡ m) (g : All Good l) where
+    many-length : length (flat to l) ≡ m * n
+    many-length = length-flat-sized n to l (all-sized l) ∙ ap (λ (i : ℕ). i * n) q
+
+    many-back : parts n from m (flat to l) ≡ l
+    many-back =
+        ap (λ (i : ℕ). parts n from i (flat to l)) (sym q)
+        ∙ ap (parts n from (length l)) (sym (append-nil (flat to l)))
+        ∙ parts-flat n to from l [] (all-sized l) (all-map Good (λ a. from (to a) ≡ a) (c .back) l g)
+
+    many-keep : everyPart n rule k (flat to l) ≡ true
+    many-keep =
+        every-fewer n rule k (length l) (flat to l) (omega arith)
+        (ap (everyPart n rule (length l)) (sym (append-nil (flat to l)))
+        ∙ every-flat n to rule l [] (all-sized l) (all-map Good (λ a. rule (to a) ≡ true) (c .keeps) l g))
+
+    many-rest : All (λ a. a ≡ e) (drop k l) → allZero (drop (n * k) (flat to l)) ≡ true
+    many-rest z = zero-padded n to e (c .blank) k l (all-sized l) (omega arith) z
+
+  module _ (k m : ℕ) (h : k ≤ m) (s : List ℕ) (q : length s ≡ m * n) (o : Octets s) (r : everyPart n rule k s ≡ true) (z : allZero (drop (n * k) s) ≡ true) where
+    all-keep : everyPart n rule m s ≡ true
+    all-keep = every-padded n rule zeros-keep k m s h q r z
+
+    many-forth : flat to (parts n from m s) ≡ s
+    many-forth = every-forth n rule from to (c .forth) m s (omega arith) o all-keep ∙ take-all (m * n) s (omega arith)
+
+    many-valid : All Good (parts n from m s)
+    many-valid = every-read n rule from Good (c .valid) m s (omega arith) o all-keep
+
+    many-others : All (λ a. a ≡ e) (drop k (parts n from m s))
+    many-others = all-map (λ a. a ≡ from (zeros n)) (λ a. a ≡ e) (λ a p. p ∙ zeros-say) (drop k (parts n from m s)) (parts-padded n from k m s h q z)
+
+-- A stream's record: StreamID and settled values, cells, results.
+
+abbrev name : Stream → List ℕ
+name x = packed nameWidths (x .id ∷ fixedNumbers (x .settled))
+
+name-length : (x : Stream) → length (name x) ≡ 21
+unfolding nameWidths fixedNumbers
+name-length x = length-packed-any nameWidths (x .id ∷ fixedNumbers (x .settled)) refl ∙ (unfold width in refl)
+
+-- a record is its parts
+three-parts : (s : List ℕ) → length s ≡ 493 → s ≡ part 0 21 s ++ (cellsPart s ++ resultsPart s)
+unfolding part cellsPart resultsPart
+three-parts s l =
+    rw (← drop-drop 312 21 s, take-all 160 (drop 312 (drop 21 s)) (omega (arith, length-drop 312 (drop 21 s), length-drop 21 s)), take-append-drop 312 (drop 21 s))
+    (sym (take-append-drop 21 s))
+
+module _ (x : Stream) (eight-cells : length (x .cells) ≡ 8) (eight-results : length (x .results) ≡ 8) where
+  length-cells : length (flat cellOctets (x .cells)) ≡ 312
+  length-cells = omega (arith, length-flat-sized 39 cellOctets (x .cells) (cells-sized (x .cells)))
+
+  length-results : length (flat resultOctets (x .results)) ≡ 160
+  length-results = omega (arith, length-flat-sized 20 resultOctets (x .results) (results-sized (x .results)))
+
+  pub stream-length : length (streamOctets x) ≡ 493
+  unfolding streamOctets
+  stream-length =
+      length-append (name x) (flat cellOctets (x .cells) ++ flat resultOctets (x .results))
+      ∙ omega (arith, length-append (flat cellOctets (x .cells)) (flat resultOctets (x .results)), name-length x, length-cells, length-results)
+
+  cells-of : cellsPart (streamOctets x) ≡ flat cellOctets (x .cells)
+  unfolding cellsPart streamOctets
+  cells-of = part-between (name x) (flat cellOctets (x .cells)) (flat resultOctets (x .results)) 21 312 (name-length x) length-cells
+
+  results-of : resultsPart (streamOctets x) ≡ flat resultOctets (x .results)
+  unfolding resultsPart streamOctets
+  results-of =
+      let cs = flat cellOctets (x .cells) in
+      let rs = flat resultOctets (x .results) in
+      ap (part 333 160) (sym (append-assoc (name x) cs rs) ∙ ap (λ (r : List ℕ). (name x ++ cs) ++ r) (sym (append-nil rs)))
+      ∙ part-between (name x ++ cs) rs [] 333 160 (omega (arith, length-append (name x) cs, name-length x, length-cells)) length-results
+
+pub octets-stream : (x : Stream) → Octets (streamOctets x)
+unfolding streamOctets
+octets-stream x =
+    octets-append (name x) (flat cellOctets (x .cells) ++ flat resultOctets (x .results)) (octets-packed nameWidths (x .id ∷ fixedNumbers (x .settled)))
+    (octets-append (flat cellOctets (x .cells)) (flat resultOctets (x .results)) (octets-flat cellOctets cell-octets (x .cells)) (octets-flat resultOctets result-octets (x .results)))
+
+-- at a bridge with so many ports, this clock and leave time
+module _ (ports clock leave : ℕ) (few : ports ≤ 8) (small : clock < 2 ^ 32) where
+  cells-coded : Coded 39 cellOctets toCell (cellFormed clock leave) (ValidCell clock leave) empty
+  unfolding empty
+  cells-coded = record {
+    size = cell-length;
+    back = cell-back clock leave small;
+    keeps = cell-formed clock leave small;
+    forth = cell-forth clock leave;
+    valid = cell-valid clock leave;
+    blank = cell-zeros;
+    good = record { talks = tt; hears = tt };
+  }
+
+  results-coded : Coded 20 resultOctets toResult (resultFormed clock) (ValidResult clock) unsettled
+  unfolding unsettled
+  results-coded = record {
+    size = result-length;
+    back = result-back clock small;
+    keeps = result-formed clock small;
+    forth = result-forth clock;
+    valid = result-valid clock;
+    blank = result-zeros;
+    good = record { column = refl; latency = omega arith; age = refl };
+  }
+
+  module _ (x : Stream) (v : ValidStream ports clock leave x) where
+    name-read : fields nameWidths 0 (streamOctets x) ≡ x .id ∷ fixedNumbers (x .settled)
+    unfolding streamOctets Fit nameWidths fixedWidths
+    name-read =
+        fields-packed nameWidths (x .id ∷ fixedNumbers (x .settled)) (flat cellOctets (x .cells) ++ flat resultOctets (x .results))
+        (v .id, fixed-fit (x .settled) (v .settled))
+
+    pub id-read : idOf (streamOctets x) ≡ x .id
+    unfolding idOf fields nameWidths
+    id-read = ap (λ (vs : List ℕ). getD vs 0 0) name-read
+
+    settled-read : fixedFrom 1 (fields nameWidths 0 (streamOctets x)) ≡ x .settled
+    unfolding fixedNumbers
+    settled-read = ap (fixedFrom 1) name-read ∙ fixed-back (x .settled) (v .settled) (x .id ∷ []) []
+
+    spare-read : getD (streamOctets x) 20 0 % 16 ≡ 0
+    unfolding fields nameWidths fixedNumbers
+    spare-read = ap (λ (o : ℕ). o % 16) (sym (octet-field (streamOctets x) 20) ∙ ap (λ (vs : List ℕ). getD vs 5 0) name-read) ∙ priority-spare (x .settled)
+
+    pub stream-back : toStream (streamOctets x) ≡ x
+    unfolding toStream idOf
+    stream-back =
+        let cs = many-back cells-coded ports 8 few (x .cells) (v .eight-cells) (v .cells) in
+        let rs = many-back results-coded ports 8 few (x .results) (v .eight-results) (v .results) in
+        rw (id-read, settled-read, cells-of x (v .eight-cells) (v .eight-results), results-of x (v .eight-cells) (v .eight-results), cs, rs)
+
+    pub stream-formed : streamFormed ports clock leave (streamOctets x) ≡ true
+    unfolding streamFormed streamRules
+    stream-formed =
+        let c = cells-of x (v .eight-cells) (v .eight-results) in
+        let r = results-of x (v .eight-cells) (v .eight-results) in
+        let cs = flat cellOctets (x .cells) in
+        let h : ports ≤ length (x .cells) = omega (arith, v .eight-cells) in
+        let back = all-map (ValidCell clock leave) (λ d. toCell (cellOctets d) ≡ d) (cell-back clock leave small) (x .cells) (v .cells) in
+        let held-there : holds ports cs ≡ true =
+        ap (holds ports) (sym (append-nil cs)) ∙ held-holds ports (x .cells) [] back h (v .no-other-cells) (v .is-held) in
+        true-all (streamRules ports clock leave (streamOctets x)) (
+          eq-eqb (getD (streamOctets x) 20 0 % 16) 0 spare-read,
+          rw (c, r) (
+            many-keep cells-coded ports 8 few (x .cells) (v .eight-cells) (v .cells),
+            (
+              held-there,
+              (
+                many-rest cells-coded ports 8 few (x .cells) (v .eight-cells) (v .cells) (v .no-other-cells),
+                (
+                  many-keep results-coded ports 8 few (x .results) (v .eight-results) (v .results),
+                  (many-rest results-coded ports 8 few (x .results) (v .eight-results) (v .results) (v .no-other-results), tt),
+                ),
+              ),
+            ),
+          ),
+        )
+
+  module _ (s : List ℕ) (l : length s ≡ 493) (o : Octets s) (f : streamFormed ports clock leave s ≡ true) where
+    stream-rules : All (λ r. r ≡ true) (streamRules ports clock leave s)
+    unfolding streamFormed
+    stream-rules = all-true (streamRules ports clock leave s) f
+
+    spare-kept : getD (fields nameWidths 0 s) 5 0 % 16 ≡ 0
+    unfolding streamRules fields nameWidths
+    spare-kept = ap (λ (b : ℕ). b % 16) (octet-field s 20) ∙ eqb-true (getD s 20 0 % 16) 0 (stream-rules .0)
+
+    cells-kept : everyPart 39 (cellFormed clock leave) ports (cellsPart s) ≡ true
+    unfolding streamRules
+    cells-kept = stream-rules .1 .0
+
+    held-kept : holds ports (cellsPart s) ≡ true
+    unfolding streamRules
+    held-kept = stream-rules .1 .1 .0
+
+    cells-zero : allZero (drop (39 * ports) (cellsPart s)) ≡ true
+    unfolding streamRules
+    cells-zero = stream-rules .1 .1 .1 .0
+
+    results-kept : everyPart 20 (resultFormed clock) ports (resultsPart s) ≡ true
+    unfolding streamRules
+    results-kept = stream-rules .1 .1 .1 .1 .0
+
+    results-zero : allZero (drop (20 * ports) (resultsPart s)) ≡ true
+    unfolding streamRules
+    results-zero = stream-rules .1 .1 .1 .1 .1 .0
+
+    cells-312 : length (cellsPart s) ≡ 312
+    unfolding cellsPart
+    cells-312 = length-part 21 312 s (omega arith)
+
+    results-160 : length (resultsPart s) ≡ 160
+    unfolding resultsPart
+    results-160 = length-part 333 160 s (omega arith)
+
+    cells-octets : Octets (cellsPart s)
+    unfolding cellsPart
+    cells-octets = octets-part 21 312 s o
+
+    results-octets : Octets (resultsPart s)
+    unfolding resultsPart
+    results-octets = octets-part 333 160 s o
+
+    name-forth : name (toStream s) ≡ part 0 21 s
+    unfolding toStream nameWidths fields width
+    name-forth =
+        rw (fixed-forth 1 (fields nameWidths 0 s) spare-kept)
+        (packed-fields nameWidths 0 s (omega arith) (octets-at s o))
+
+    pub stream-forth : streamOctets (toStream s) ≡ s
+    unfolding streamOctets toStream
+    stream-forth =
+        rw (
+          name-forth,
+          many-forth cells-coded ports 8 few (cellsPart s) cells-312 cells-octets cells-kept cells-zero,
+          many-forth results-coded ports 8 few (resultsPart s) results-160 results-octets results-kept results-zero,
+        )
+        (sym (three-parts s l))
+
+    settled-valid : ValidFixed (fixedFrom 1 (fields nameWidths 0 s))
+    unfolding nameWidths
+    settled-valid =
+        let vs = fields nameWidths 0 s in
+        let fit = fit-at nameWidths vs (fields-fit nameWidths 0 s (octets-at s o)) in
+        fixed-valid 1 vs (fit 1) (fit 2) (fit 3) (fit 4) (fit 5)
+
+    pub stream-valid : ValidStream ports clock leave (toStream s)
+    unfolding toStream
+    stream-valid = record {
+      id = beAt-fits 8 s 0 (octets-at s o);
+      settled = settled-valid;
+      eight-cells = length-parts 39 toCell 8 (cellsPart s);
+      cells = many-valid cells-coded ports 8 few (cellsPart s) cells-312 cells-octets cells-kept cells-zero;
+      no-other-cells = many-others cells-coded ports 8 few (cellsPart s) cells-312 cells-octets cells-kept cells-zero;
+      is-held = holds-held ports 8 (cellsPart s) few held-kept;
+      eight-results = length-parts 20 toResult 8 (resultsPart s);
+      results = many-valid results-coded ports 8 few (resultsPart s) results-160 results-octets results-kept results-zero;
+      no-other-results = many-others results-coded ports 8 few (resultsPart s) results-160 results-octets results-kept results-zero;
+    }
+
+-- One port's totals, which fit since its limits do.
+
+totals-fit : (ts : List Totals) (qs : List Port) → All ValidPort qs → totalsWithin ts qs ≡ true → All FitTotals ts
+unfolding totalsWithin
+totals-fit [] qs v e = tt
+totals-fit (t ∷ ts) [] v e =
+    let first = eqb (t .totalA) 0 && eqb (t .totalB) 0 in
+    let u = and-left first (totalsWithin ts []) e in
+    let a : t .totalA ≡ 0 = eqb-true (t .totalA) 0 (and-left (eqb (t .totalA) 0) (eqb (t .totalB) 0) u) in
+    let b : t .totalB ≡ 0 = eqb-true (t .totalB) 0 (and-right (eqb (t .totalA) 0) (eqb (t .totalB) 0) u) in
+    ((omega arith, omega arith), totals-fit ts [] v (and-right first (totalsWithin ts []) e))
+totals-fit (t ∷ ts) (q ∷ qs) v e =
+    let first = leb (t .totalA) (q .limitA) && leb (t .totalB) (q .limitB) in
+    let u = and-left first (totalsWithin ts qs) e in
+    let a : t .totalA ≤ q .limitA = leb-true (t .totalA) (q .limitA) (and-left (leb (t .totalA) (q .limitA)) (leb (t .totalB) (q .limitB)) u) in
+    let b : t .totalB ≤ q .limitB = leb-true (t .totalB) (q .limitB) (and-right (leb (t .totalA) (q .limitA)) (leb (t .totalB) (q .limitB)) u) in
+    let la : q .limitA < 256 ^ 5 = v .0 .limitA in
+    let lb : q .limitB < 256 ^ 5 = v .0 .limitB in
+    ((omega arith, omega arith), totals-fit ts qs (v .1) (and-right first (totalsWithin ts qs) e))
+
+totals-length : (t : Totals) → length (totalsOctets t) ≡ 10
+unfolding totalsOctets totalsWidths width
+totals-length t = length-packed-any totalsWidths (t .totalA ∷ t .totalB ∷ []) refl
+
+totals-octets : (t : Totals) → Octets (totalsOctets t)
+unfolding totalsOctets
+totals-octets t = octets-packed totalsWidths (t .totalA ∷ t .totalB ∷ [])
+
+totals-sized : (l : List Totals) → All (Sized 10 totalsOctets) l
+totals-sized = all-each (Sized 10 totalsOctets) totals-length
+
+totals-back : (t : Totals) → FitTotals t → toTotals (totalsOctets t) ≡ t
+unfolding totalsOctets toTotals fields totalsWidths Fit
+totals-back t f =
+    ap (λ (vs : List ℕ). record { totalA = getD vs 0 0; totalB = getD vs 1 0 })
+    (fields-of-packed totalsWidths (t .totalA ∷ t .totalB ∷ []) (f .0, (f .1, tt)))
+
+totals-forth : (s : List ℕ) → length s ≡ 10 → Octets s → totalsOctets (toTotals s) ≡ s
+unfolding totalsOctets toTotals totalsWidths fields width
+totals-forth s l o = packed-whole totalsWidths s l o
+
+-- The table's lay-out: settings, clock and count, totals, records.
+
+module _ (ss h ts rs : List ℕ) (a : length ss ≡ 187) (b : length h ≡ 5) (c : length ts ≡ 80) where
+  settings-of : settingsPart (ss ++ (h ++ (ts ++ rs))) ≡ ss
+  unfolding settingsPart part
+  settings-of = take-at ss (h ++ (ts ++ rs)) 187 a
+
+  totals-of : totalsPart (ss ++ (h ++ (ts ++ rs))) ≡ ts
+  unfolding totalsPart
+  totals-of =
+      ap (part 192 80) (sym (append-assoc ss h (ts ++ rs)))
+      ∙ part-between (ss ++ h) ts rs 192 80 (omega (arith, length-append ss h)) c
+
+  records-of : recordsPart (ss ++ (h ++ (ts ++ rs))) ≡ rs
+  unfolding recordsPart
+  records-of =
+      ap (drop 272) (sym (append-assoc ss h (ts ++ rs)) ∙ sym (append-assoc (ss ++ h) ts rs))
+      ∙ drop-at ((ss ++ h) ++ ts) rs 272 (omega (arith, length-append (ss ++ h) ts, length-append ss h))
+
+-- a table is its parts
+four-parts : (t : List ℕ) → t ≡ settingsPart t ++ (part 187 5 t ++ (totalsPart t ++ recordsPart t))
+unfolding settingsPart part totalsPart recordsPart
+four-parts t =
+    rw (← drop-drop 80 192 t, take-append-drop 80 (drop 192 t), ← drop-drop 5 187 t, take-append-drop 5 (drop 187 t)) (sym (take-append-drop 187 t))
+
+-- The table of a bridge.
+
+abbrev settingsWhole : Bridge → List ℕ
+settingsWhole b = settingsOctets (b .settings) ++ zeros (22 * (8 - length (b .settings .ports)))
+
+abbrev clockAndCount : Bridge → List ℕ
+clockAndCount b = packed (4 ∷ 1 ∷ []) (b .clock ∷ length (b .streams) ∷ [])
+
+abbrev totalsWhole : Bridge → List ℕ
+totalsWhole b = flat totalsOctets (b .totals)
+
+abbrev recordsWhole : Bridge → List ℕ
+recordsWhole b = flat streamOctets (b .streams) ++ zeros (493 * (64 - length (b .streams)))
+
+encode-parts : (b : Bridge) → encode b ≡ settingsWhole b ++ (clockAndCount b ++ (totalsWhole b ++ recordsWhole b))
+unfolding encode
+encode-parts b =
+    sym (append-assoc (settingsOctets (b .settings)) (zeros (22 * (8 - length (b .settings .ports)))) (clockAndCount b ++ (totalsWhole b ++ recordsWhole b)))
+
+pub octets-encode : (b : Bridge) → Octets (encode b)
+octets-encode b =
+    let ps : ℕ = 22 * (8 - length (b .settings .ports)) in
+    let rs : ℕ = 493 * (64 - length (b .streams)) in
+    rw (encode-parts b)
+    (octets-append (settingsWhole b) (clockAndCount b ++ (totalsWhole b ++ recordsWhole b))
+    (octets-append (settingsOctets (b .settings)) (zeros ps) (octets-settings (b .settings)) (octets-zeros ps))
+    (octets-append (clockAndCount b) (totalsWhole b ++ recordsWhole b) (octets-packed (4 ∷ 1 ∷ []) (b .clock ∷ length (b .streams) ∷ []))
+    (octets-append (totalsWhole b) (recordsWhole b) (octets-flat totalsOctets totals-octets (b .totals))
+    (octets-append (flat streamOctets (b .streams)) (zeros rs) (octets-flat streamOctets octets-stream (b .streams)) (octets-zeros rs)))))
+
+-- what gives each part of the table its place
+pub record Whole (b : Bridge) : Type 0 where
+  pub eight-ports : length (b .settings .ports) ≤ 8
+  pub eight-totals : length (b .totals) ≡ 8
+  pub at-most-64 : length (b .streams) ≤ 64
+  pub streams : All (Sized 493 streamOctets) (b .streams)
+
+pub valid-whole : (b : Bridge) → Valid b → Whole b
+valid-whole b v = record {
+  eight-ports = v .settings .eight-ports;
+  eight-totals = v .eight-totals;
+  at-most-64 = v .at-most-64;
+  streams =
+      all-map (ValidStream (length (b .settings .ports)) (b .clock) (b .settings .leaveTime)) (Sized 493 streamOctets)
+      (λ x w. stream-length x (w .eight-cells) (w .eight-results)) (b .streams) (v .streams);
+}
+
+clock-length : (b : Bridge) → length (clockAndCount b) ≡ 5
+unfolding width
+clock-length b = length-packed-any (4 ∷ 1 ∷ []) (b .clock ∷ length (b .streams) ∷ []) refl
+
+module _ (b : Bridge) (w : Whole b) where
+  settings-whole-length : length (settingsWhole b) ≡ 187
+  settings-whole-length =
+      let n = length (b .settings .ports) in
+      let h : n ≤ 8 = w .eight-ports in
+      length-append (settingsOctets (b .settings)) (zeros (22 * (8 - n))) ∙ omega (arith, settings-length (b .settings), length-zeros (22 * (8 - n)))
+
+  totals-whole-length : length (totalsWhole b) ≡ 80
+  totals-whole-length = omega (arith, length-flat-sized 10 totalsOctets (b .totals) (totals-sized (b .totals)), w .eight-totals)
+
+  records-whole-length : length (recordsWhole b) ≡ 31552
+  records-whole-length =
+      let n = length (b .streams) in
+      let h : n ≤ 64 = w .at-most-64 in
+      length-append (flat streamOctets (b .streams)) (zeros (493 * (64 - n)))
+      ∙ omega (arith, length-flat-sized 493 streamOctets (b .streams) (w .streams), length-zeros (493 * (64 - n)))
+
+  pub whole-length : length (encode b) ≡ tableLength
+  unfolding tableLength
+  whole-length =
+      let ss = settingsWhole b in
+      let cc = clockAndCount b in
+      let ts = totalsWhole b in
+      let rs = recordsWhole b in
+      ap length (encode-parts b)
+      ∙ omega (
+        arith,
+        length-append ss (cc ++ (ts ++ rs)),
+        length-append cc (ts ++ rs),
+        length-append ts rs,
+        settings-whole-length,
+        clock-length b,
+        totals-whole-length,
+        records-whole-length,
+      )
+
+  -- what is read from it
+  pub settings-read : settingsPart (encode b) ≡ settingsOctets (b .settings) ++ zeros (22 * (8 - length (b .settings .ports)))
+  settings-read =
+      ap settingsPart (encode-parts b)
+      ∙ settings-of (settingsWhole b) (clockAndCount b) (totalsWhole b) (recordsWhole b) settings-whole-length (clock-length b) totals-whole-length
+
+  pub totals-read : totalsPart (encode b) ≡ flat totalsOctets (b .totals)
+  totals-read =
+      ap totalsPart (encode-parts b)
+      ∙ totals-of (settingsWhole b) (clockAndCount b) (totalsWhole b) (recordsWhole b) settings-whole-length (clock-length b) totals-whole-length
+
+  pub records-read : recordsPart (encode b) ≡ flat streamOctets (b .streams) ++ zeros (493 * (64 - length (b .streams)))
+  records-read =
+      ap recordsPart (encode-parts b)
+      ∙ records-of (settingsWhole b) (clockAndCount b) (totalsWhole b) (recordsWhole b) settings-whole-length (clock-length b) totals-whole-length
+
+  module _ (small : b .clock < 2 ^ 32) where
+    numbers-read : fields (4 ∷ 1 ∷ []) 187 (encode b) ≡ b .clock ∷ length (b .streams) ∷ []
+    unfolding Fit
+    numbers-read =
+        let h : length (b .streams) ≤ 64 = w .at-most-64 in
+        ap (fields (4 ∷ 1 ∷ []) 187) (encode-parts b)
+        ∙ ap (λ (k : ℕ). fields (4 ∷ 1 ∷ []) k (settingsWhole b ++ (clockAndCount b ++ (totalsWhole b ++ recordsWhole b)))) (sym settings-whole-length)
+        ∙ fields-packed-behind (4 ∷ 1 ∷ []) (b .clock ∷ length (b .streams) ∷ []) (settingsWhole b) (totalsWhole b ++ recordsWhole b) (small, (omega arith, tt))
+
+    pub clock-read : clockField (encode b) ≡ b .clock
+    unfolding clockField fields
+    clock-read = ap (λ (vs : List ℕ). getD vs 0 0) numbers-read
+
+    pub count-read : countField (encode b) ≡ length (b .streams)
+    unfolding countField fields
+    count-read = sym (octet-field (encode b) 191) ∙ ap (λ (vs : List ℕ). getD vs 1 0) numbers-read
+
+  pub settings-decoded : FitSettings (b .settings) → toSettings (settingsPart (encode b)) ≡ b .settings
+  settings-decoded f = ap toSettings settings-read ∙ fit-back (b .settings) f (zeros (22 * (8 - length (b .settings .ports))))
+
+  pub totals-decoded : All FitTotals (b .totals) → parts 10 toTotals 8 (totalsPart (encode b)) ≡ b .totals
+  totals-decoded f =
+      ap (parts 10 toTotals 8) (totals-read ∙ sym (append-nil (totalsWhole b)))
+      ∙ ap (λ (k : ℕ). parts 10 toTotals k (totalsWhole b ++ [])) (sym (w .eight-totals))
+      ∙ parts-flat 10 totalsOctets toTotals (b .totals) [] (totals-sized (b .totals))
+      (all-map FitTotals (λ t. toTotals (totalsOctets t) ≡ t) totals-back (b .totals) f)
+
+-- A valid bridge is read back from its table, which keeps the form rules.
+
+module _ (b : Bridge) (v : Valid b) where
+  whole : Whole b
+  whole = valid-whole b v
+
+  pub length-encode : length (encode b) ≡ tableLength
+  length-encode = whole-length b whole
+
+  settings-same : toSettings (settingsPart (encode b)) ≡ b .settings
+  settings-same = settings-decoded b whole (settings-fit (b .settings) (v .settings))
+
+  totals-same : parts 10 toTotals 8 (totalsPart (encode b)) ≡ b .totals
+  totals-same = totals-decoded b whole (totals-fit (b .totals) (b .settings .ports) (v .settings .ports) (v .totals))
+
+  streams-same : parts 493 toStream (countField (encode b)) (recordsPart (encode b)) ≡ b .streams
+  streams-same =
+      let n = length (b .settings .ports) in
+      rw (count-read b whole (v .clock), records-read b whole)
+      (parts-flat 493 streamOctets toStream (b .streams) (zeros (493 * (64 - length (b .streams)))) (whole .streams)
+      (all-map (ValidStream n (b .clock) (b .settings .leaveTime)) (λ x. toStream (streamOctets x) ≡ x)
+      (stream-back n (b .clock) (b .settings .leaveTime) (v .settings .eight-ports) (v .clock)) (b .streams) (v .streams)))
+
+  pub decode-encode : decode (encode b) ≡ b
+  unfolding decode
+  decode-encode = rw (settings-same, clock-read b whole (v .clock), totals-same, streams-same)
+
+  ports-same : portsField (settingsPart (encode b)) ≡ length (b .settings .ports)
+  ports-same =
+      ap portsField (settings-read b whole)
+      ∙ ports-read (b .settings) (settings-fit (b .settings) (v .settings)) (zeros (22 * (8 - length (b .settings .ports))))
+
+  settings-rest : allZero (drop (11 + 22 * portsField (settingsPart (encode b))) (settingsPart (encode b))) ≡ true
+  settings-rest =
+      let n = length (b .settings .ports) in
+      let z = zeros (22 * (8 - n)) in
+      rw (ports-same, settings-read b whole, drop-at (settingsOctets (b .settings)) z (11 + 22 * n) (settings-length (b .settings))) (zero-zeros (22 * (8 - n)))
+
+  ids-rise : rising (parts 493 idOf (countField (encode b)) (recordsPart (encode b))) ≡ true
+  unfolding idOf toStream ids
+  ids-rise =
+      ap rising (parts-map 493 toStream (λ (x : Stream). x .id) (countField (encode b)) (recordsPart (encode b)) ∙ ap ids streams-same)
+      ∙ rises-rising (ids (b .streams)) (v .ascending)
+
+  records-rest : allZero (drop (493 * countField (encode b)) (recordsPart (encode b))) ≡ true
+  records-rest =
+      let n = length (b .streams) in
+      let rs = flat streamOctets (b .streams) in
+      let z = zeros (493 * (64 - n)) in
+      let l : length rs ≡ 493 * n = omega (arith, length-flat-sized 493 streamOctets (b .streams) (whole .streams)) in
+      rw (count-read b whole (v .clock), records-read b whole, drop-at rs z (493 * n) l) (zero-zeros (493 * (64 - n)))
+
+  streams-formed : everyPart 493 (streamFormed (length (b .settings .ports)) (b .clock) (b .settings .leaveTime)) (length (b .streams)) (recordsWhole b) ≡ true
+  streams-formed =
+      let n = length (b .settings .ports) in
+      let rule = streamFormed n (b .clock) (b .settings .leaveTime) in
+      every-flat 493 streamOctets rule (b .streams) (zeros (493 * (64 - length (b .streams)))) (whole .streams)
+      (all-map (ValidStream n (b .clock) (b .settings .leaveTime)) (λ x. rule (streamOctets x) ≡ true)
+      (stream-formed n (b .clock) (b .settings .leaveTime) (v .settings .eight-ports) (v .clock)) (b .streams) (v .streams))
+
+  pub formed-encode : formed (encode b) ≡ true
+  unfolding formed tableRules
+  formed-encode =
+      let clock = clock-read b whole (v .clock) in
+      let count = count-read b whole (v .clock) in
+      let settings-keep : allTrue (settingsRules (settingsPart (encode b))) ≡ true =
+      rw (settings-read b whole) (settings-rules (b .settings) (v .settings) (zeros (22 * (8 - length (b .settings .ports))))) in
+      and-both (eqb (length (encode b)) tableLength) (allTrue (tableRules (encode b))) (eq-eqb (length (encode b)) tableLength length-encode)
+      (true-all (tableRules (encode b)) (
+        settings-keep,
+        (
+          settings-rest,
+          (
+            rw (totals-same, settings-same) (v .totals),
+            (
+              rw count (le-leb (length (b .streams)) 64 (v .at-most-64)),
+              (rw (ports-same, clock, settings-same, count, records-read b whole) streams-formed, (ids-rise, (records-rest, tt))),
+            ),
+          ),
+        ),
+      ))
+
+-- Octets that keep the form rules.
+
+every-any : (n k : ℕ) (s : List ℕ) → everyPart n (λ p. true) k s ≡ true
+unfolding everyPart
+every-any n zero s = refl
+every-any n (suc k) s = every-any n k (drop n s)
+
+-- the rules as facts
+module _ (t : List ℕ) (f : formed t ≡ true) where
+  pub formed-table-length : length t ≡ 31824
+  unfolding formed tableLength
+  formed-table-length = eqb-true (length t) tableLength (and-left (eqb (length t) tableLength) (allTrue (tableRules t)) f)
+
+  table-rules : All (λ r. r ≡ true) (tableRules t)
+  unfolding formed
+  table-rules = all-true (tableRules t) (and-right (eqb (length t) tableLength) (allTrue (tableRules t)) f)
+
+  pub settings-kept : allTrue (settingsRules (settingsPart t)) ≡ true
+  unfolding tableRules
+  settings-kept = table-rules .0
+
+  settings-zero : allZero (drop (11 + 22 * portsField (settingsPart t)) (settingsPart t)) ≡ true
+  unfolding tableRules
+  settings-zero = table-rules .1 .0
+
+  totals-kept : totalsWithin (parts 10 toTotals 8 (totalsPart t)) (toSettings (settingsPart t) .ports) ≡ true
+  unfolding tableRules
+  totals-kept = table-rules .1 .1 .0
+
+  pub count-kept : countField t ≤ 64
+  unfolding tableRules
+  count-kept = leb-true (countField t) 64 (table-rules .1 .1 .1 .0)
+
+  pub streams-kept : everyPart 493 (streamFormed (portsField (settingsPart t)) (clockField t) (toSettings (settingsPart t) .leaveTime)) (countField t) (recordsPart t) ≡ true
+  unfolding tableRules
+  streams-kept = table-rules .1 .1 .1 .1 .0
+
+  ids-kept : rising (parts 493 idOf (countField t) (recordsPart t)) ≡ true
+  unfolding tableRules
+  ids-kept = table-rules .1 .1 .1 .1 .1 .0
+
+  records-zero : allZero (drop (493 * countField t) (recordsPart t)) ≡ true
+  unfolding tableRules
+  records-zero = table-rules .1 .1 .1 .1 .1 .1 .0
+
+  settings-187 : length (settingsPart t) ≡ 187
+  unfolding settingsPart
+  settings-187 = length-part 0 187 t (omega (arith, formed-table-length))
+
+  totals-80 : length (totalsPart t) ≡ 80
+  unfolding totalsPart
+  totals-80 = length-part 192 80 t (omega (arith, formed-table-length))
+
+  records-31552 : length (recordsPart t) ≡ 31552
+  unfolding recordsPart
+  records-31552 = length-drop 272 t ∙ omega (arith, formed-table-length)
+
+module _ (t : List ℕ) (o : Octets t) (f : formed t ≡ true) where
+  octets-settings-part : Octets (settingsPart t)
+  unfolding settingsPart
+  octets-settings-part = octets-part 0 187 t o
+
+  octets-totals-part : Octets (totalsPart t)
+  unfolding totalsPart
+  octets-totals-part = octets-part 192 80 t o
+
+  octets-records-part : Octets (recordsPart t)
+  unfolding recordsPart
+  octets-records-part = octets-drop 272 t o
+
+  ports-fit : 11 + 22 * portsField (settingsPart t) ≤ length (settingsPart t)
+  ports-fit = settings-room (settingsPart t) (settings-187 t f) (settings-kept t f)
+
+  streams-fit : countField t * 493 ≤ length (recordsPart t)
+  streams-fit = omega (arith, records-31552 t f, count-kept t f)
+
+  pub clock-fits : clockField t < 2 ^ 32
+  unfolding clockField
+  clock-fits = beAt-fits 4 t 187 (octets-at t o)
+
+  pub valid-decode : Valid (decode t)
+  unfolding decode ids toStream idOf
+  valid-decode =
+      let s = settingsPart t in
+      let n = countField t in
+      let p = portsField s in
+      let e = settings-ports s in
+      let h = eight-ports s (settings-kept t f) in
+      let l = toSettings s .leaveTime in
+      record {
+        settings = settings-valid s octets-settings-part ports-fit (settings-kept t f);
+        clock = clock-fits;
+        eight-totals = length-parts 10 toTotals 8 (totalsPart t);
+        totals = totals-kept t f;
+        at-most-64 = omega (arith, length-parts 493 toStream n (recordsPart t), count-kept t f);
+        streams =
+            rw e
+            (every-read 493 (streamFormed p (clockField t) l) toStream (ValidStream p (clockField t) l) (stream-valid p (clockField t) l h clock-fits) n (recordsPart t) streams-fit
+            octets-records-part (streams-kept t f));
+        ascending = rising-rises (ids (parts 493 toStream n (recordsPart t))) (ap rising (sym (parts-map 493 toStream (λ (x : Stream). x .id) n (recordsPart t))) ∙ ids-kept t f);
+      }
+
+  settings-written : settingsWhole (decode t) ≡ settingsPart t
+  unfolding decode
+  settings-written =
+      let s = settingsPart t in
+      let e = settings-ports s in
+      let k : length (drop (11 + 22 * portsField s) s) ≡ 22 * (8 - length (toSettings s .ports)) =
+      length-drop (11 + 22 * portsField s) s ∙ omega (arith, settings-187 t f, eight-ports s (settings-kept t f)) in
+      let z = zeros-zero (drop (11 + 22 * portsField s) s) (settings-zero t f) ∙ ap zeros k in
+      rw (← z, settings-taken s octets-settings-part ports-fit (settings-kept t f)) (take-append-drop (11 + 22 * portsField s) s)
+
+  clock-written : clockAndCount (decode t) ≡ part 187 5 t
+  unfolding decode clockField countField fields width
+  clock-written =
+      rw (length-parts 493 toStream (getD t 191 0) (recordsPart t), ← octet-field t 191)
+      (packed-fields (4 ∷ 1 ∷ []) 187 t (omega (arith, formed-table-length t f)) (octets-at t o))
+
+  totals-written : totalsWhole (decode t) ≡ totalsPart t
+  unfolding decode
+  totals-written =
+      every-forth 10 (λ p. true) toTotals totalsOctets (λ p l c e. totals-forth p l c) 8 (totalsPart t) (omega (arith, totals-80 t f)) octets-totals-part
+      (every-any 10 8 (totalsPart t))
+      ∙ take-all 80 (totalsPart t) (omega (arith, totals-80 t f))
+
+  records-written : recordsWhole (decode t) ≡ recordsPart t
+  unfolding decode
+  records-written =
+      let s = settingsPart t in
+      let r = recordsPart t in
+      let n = countField t in
+      let p = portsField s in
+      let l = toSettings s .leaveTime in
+      let w =
+      every-forth 493 (streamFormed p (clockField t) l) toStream streamOctets (stream-forth p (clockField t) l (eight-ports s (settings-kept t f)) clock-fits) n r streams-fit
+      octets-records-part (streams-kept t f) in
+      let e : length (parts 493 toStream n r) ≡ n = length-parts 493 toStream n r in
+      let k : length (drop (493 * n) r) ≡ 493 * (64 - length (parts 493 toStream n r)) =
+      length-drop (493 * n) r ∙ omega (arith, records-31552 t f, count-kept t f) in
+      let z = zeros-zero (drop (493 * n) r) (records-zero t f) ∙ ap zeros k in
+      rw (← z, w, mul-comm n 493) (take-append-drop (493 * n) r)
+
+  pub encode-decode : encode (decode t) ≡ t
+  encode-decode = encode-parts (decode t) ∙ rw (settings-written, clock-written, totals-written, records-written) (sym (four-parts t))
+
+-- equal contents are equal octets
+pub same-octets : (t u : List ℕ) → Octets t → Octets u → formed t ≡ true → formed u ≡ true → decode t ≡ decode u → t ≡ u
+same-octets t u o p f g e = sym (encode-decode t o f) ∙ ap encode e ∙ encode-decode u p g
+
+-- Start.
+
+none-within : (n : ℕ) (qs : List Port) → totalsWithin (replicate n noTotals) qs ≡ true
+unfolding totalsWithin noTotals
+none-within zero qs = refl
+none-within (suc n) [] = none-within n []
+none-within (suc n) (q ∷ qs) = rw (le-leb 0 (q .limitA) (omega arith), le-leb 0 (q .limitB) (omega arith)) (none-within n qs)
+
+pub valid-started : (s : List ℕ) → Octets s → settingsFormed s ≡ true → Valid (started (toSettings s))
+unfolding started ids Rising
+valid-started s o f = record {
+  settings = formed-valid s o f;
+  clock = omega arith;
+  eight-totals = refl;
+  totals = none-within 8 (toSettings s .ports);
+  at-most-64 = omega arith;
+  streams = tt;
+  ascending = tt;
+}
