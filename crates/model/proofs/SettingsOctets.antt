@@ -18,7 +18,7 @@ use Rattle.model.specs.State.{Port, Settings}
 use Rattle.model.specs.Table.{headWidths, portWidths, portNumbers, portFrom, portOctets, toPort, headWord, settingsOctets, portsField, toSettings, portRule, everyPart, settingsRules, settingsFormed}
 use Rattle.model.specs.Laid.{FitSettings}
 use Rattle.model.proofs.Cells.{bit-back, bit-forth, bit-few}
-use Rattle.model.proofs.Parts.{packed-whole, parts-flat, length-parts, octets-at, octets-drop, octets-append, octets-packed, octets-flat, every-read, every-flat, every-forth}
+use Rattle.model.proofs.Parts.{_also_, packed-whole, parts-flat, length-parts, octets-at, octets-drop, octets-append, octets-packed, octets-flat, every-read, every-flat, every-forth}
 use Rattle.model.proofs.Lists.{all-map, all-each, and-left, and-right, and-both, all-true, true-all}
 use Rattle.model.proofs.Valid.{ValidPort, ValidSettings}
 
@@ -51,7 +51,7 @@ port-fit q v =
     let a = bit-few (q .supportsA) in
     let b = bit-few (q .supportsB) in
     let t = bit-few (q .sendsTwice) in
-    (omega arith, (v .overhead, (v .largest, (v .limitA, (v .limitB, (v .latencyA, (v .latencyB, tt)))))))
+    omega arith also v .overhead also v .largest also v .limitA also v .limitB also v .latencyA also v .latencyB also tt
 
 port-flags : (q : Port) → (getD (portNumbers q) 0 0) % 32 ≡ 0
 unfolding portNumbers
@@ -134,7 +134,7 @@ settings-length st =
 module _ (st : Settings) (v : FitSettings st) where
   head-fit : Fit headWidths (st .bridgeId ∷ headWord st ∷ [])
   unfolding Fit headWidths headWord
-  head-fit = (v .bridgeId, (omega arith, tt))
+  head-fit = v .bridgeId also omega arith also tt
 
   module _ (rest : List ℕ) where
     head-read : fields headWidths 0 (settingsOctets st ++ rest) ≡ st .bridgeId ∷ headWord st ∷ []
@@ -200,7 +200,7 @@ module _ (st : Settings) (v : ValidSettings st) (rest : List ℕ) where
       let d = ne-eqb (st .priorityA) (st .priorityB) (v .different) in
       true-all (settingsRules (settingsOctets st ++ rest))
       (rw (ports-read st w rest, behind-head st w rest, priority-a-read st w rest, priority-b-read st w rest, leave-read st w rest, d)
-      (le-leb 1 n (v .some-port), (le-leb n 8 (v .eight-ports), (refl, (le-leb 1 (st .leaveTime) (v .leaves), (ps, tt))))))
+      (le-leb 1 n (v .some-port) also le-leb n 8 (v .eight-ports) also refl also le-leb 1 (st .leaveTime) (v .leaves) also ps also tt))
 
 -- Octets that keep the rules are those of the settings that they are read as.
 

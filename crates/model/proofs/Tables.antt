@@ -18,10 +18,10 @@ use Rattle.model.specs.State.{Port, Totals, Stream, Bridge, empty, unset
 use Rattle.model.specs.Registrations.{ids}
 use Rattle.model.specs.WrittenFrames.{fixedNumbers}
 use Rattle.model.specs.Table.{settingsOctets, portsField, toSettings, settingsRules, settingsFormed, everyPart, allZero, cellOctets, toCell, cellFormed, resultOctets, toResult, resultFormed, nameWidths, cellsPart, resultsPart, fixedFrom, holds, streamOctets, toStream, streamRules, streamFormed, totalsWidths, totalsOctets, toTotals, encode, settingsPart, clockField, countField, totalsPart, recordsPart, decode, rising, idOf, totalsWithin, tableLength, tableRules, formed}
-use Rattle.model.specs.Laid.{FitSettings, FitTotals}
+use Rattle.model.specs.Laid.{FitSettings, FitStream, FitTotals, FitBridge}
 use Rattle.model.proofs.Lists.{and-left, and-right, and-both, all-map, all-each, all-true, true-all}
 use Rattle.model.proofs.Valid.{ValidCell, ValidResult, ValidPort, ValidFixed, ValidStream, Rising, Valid}
-use Rattle.model.proofs.Parts.{octets-at, packed-whole, octets-append, octets-drop, octets-part, octets-zeros, octets-packed, octets-flat, length-zeros, zero-zeros, zeros-zero, part-between, length-parts, parts-map, Sized, length-flat-sized, parts-flat, every-read, every-forth, every-fewer, every-padded, parts-padded, zero-padded, every-flat, rising-rises, rises-rising}
+use Rattle.model.proofs.Parts.{_also_, octets-at, packed-whole, octets-append, octets-drop, octets-part, octets-zeros, octets-packed, octets-flat, length-zeros, zero-zeros, zeros-zero, part-between, length-parts, parts-map, Sized, length-flat-sized, parts-flat, every-read, every-forth, every-fewer, every-padded, parts-padded, zero-padded, every-flat, rising-rises, rises-rising}
 use Rattle.model.proofs.Cells.{fixed-fit, fixed-back, fixed-forth, fixed-valid, fixedWidths, priority-spare, cell-length, cell-octets, cells-sized, cell-back, cell-formed, cell-forth, cell-valid, cell-zeros, holds-held, held-holds}
 use Rattle.model.proofs.Results.{result-length, result-octets, results-sized, result-back, result-formed, result-forth, result-valid, result-zeros}
 use Rattle.model.proofs.SettingsOctets.{octet-field, settings-length, ports-read, fit-back, settings-fit, settings-rules, settings-ports, settings-taken, settings-valid, settings-room, eight-ports, formed-valid, octets-settings}
@@ -37,9 +37,10 @@ record Coded {A : Type 0} (n : ℕ) (to : A → List ℕ) (from : List ℕ → A
   blank : to e ≡ zeros n
   good : Good e
 
-module _ {A : Type 0} {n : ℕ} {to : A → List ℕ} {from : List ℕ → A} {rule : List ℕ → Bool} {Good : A → Type 0} {e : A} (c : Coded n to from rule Good e) where
-  all-sized : (l : List A) → All (λ a. length (to a) ≡ n) l
-  all-sized = all-each (λ a. length (to a) ≡ n) (c .size)
+module _ {A : Type 0} {n : ℕ} {to : A → List ℕ} {from : List ℕ → A} {rule : List ℕ → Bool} {Good : A → Type 0} {e : A}
+    (c : Coded n to from rule Good e) where
+  all-sized : (l : List A) → All (Sized n to) l
+  all-sized = all-each (Sized n to) (c .size)
 
   zeros-keep : rule (zeros n) ≡ true
   zeros-keep = ap rule (sym (c .blank)) ∙ c .keeps e (c .good)
@@ -48,9 +49,6 @@ module _ {A : Type 0} {n : ℕ} {to : A → List ℕ} {from : List ℕ → A} {r
   zeros-say = ap from (sym (c .blank)) ∙ c .back e (c .good)
 
   module _ (k m : ℕ) (h : k ≤ m) (l : List A) (q : length l ≡ m) (g : All Good l) where
-    many-length : length (flat to l) ≡ m * n
-    many-length = length-flat-sized n to l (all-sized l) ∙ ap (λ (i : ℕ). i * n) q
-
     many-back : parts n from m (flat to l) ≡ l
     many-back =
         ap (λ (i : ℕ). parts n from i (flat to l)) (sym q)
@@ -66,7 +64,8 @@ module _ {A : Type 0} {n : ℕ} {to : A → List ℕ} {from : List ℕ → A} {r
     many-rest : All (λ a. a ≡ e) (drop k l) → allZero (drop (n * k) (flat to l)) ≡ true
     many-rest z = zero-padded n to e (c .blank) k l (all-sized l) (omega arith) z
 
-  module _ (k m : ℕ) (h : k ≤ m) (s : List ℕ) (q : length s ≡ m * n) (o : Octets s) (r : everyPart n rule k s ≡ true) (z : allZero (drop (n * k) s) ≡ true) where
+  module _ (k m : ℕ) (h : k ≤ m) (s : List ℕ) (q : length s ≡ m * n) (o : Octets s)
+      (r : everyPart n rule k s ≡ true) (z : allZero (drop (n * k) s) ≡ true) where
     all-keep : everyPart n rule m s ≡ true
     all-keep = every-padded n rule zeros-keep k m s h q r z
 
@@ -85,15 +84,16 @@ abbrev name : Stream → List ℕ
 name x = packed nameWidths (x .id ∷ fixedNumbers (x .settled))
 
 name-length : (x : Stream) → length (name x) ≡ 21
-unfolding nameWidths fixedNumbers
-name-length x = length-packed-any nameWidths (x .id ∷ fixedNumbers (x .settled)) refl ∙ (unfold width in refl)
+unfolding nameWidths fixedNumbers width
+name-length x = length-packed-any nameWidths (x .id ∷ fixedNumbers (x .settled)) refl
 
 -- a record is its parts
 three-parts : (s : List ℕ) → length s ≡ 493 → s ≡ part 0 21 s ++ (cellsPart s ++ resultsPart s)
 unfolding part cellsPart resultsPart
 three-parts s l =
-    rw (← drop-drop 312 21 s, take-all 160 (drop 312 (drop 21 s)) (omega (arith, length-drop 312 (drop 21 s), length-drop 21 s)), take-append-drop 312 (drop 21 s))
-    (sym (take-append-drop 21 s))
+    let r = drop 312 (drop 21 s) in
+    let h : length r ≤ 160 = omega (arith, length-drop 312 (drop 21 s), length-drop 21 s) in
+    rw (← drop-drop 312 21 s, take-all 160 r h, take-append-drop 312 (drop 21 s)) (sym (take-append-drop 21 s))
 
 module _ (x : Stream) (eight-cells : length (x .cells) ≡ 8) (eight-results : length (x .results) ≡ 8) where
   length-cells : length (flat cellOctets (x .cells)) ≡ 312
@@ -108,11 +108,11 @@ module _ (x : Stream) (eight-cells : length (x .cells) ≡ 8) (eight-results : l
       length-append (name x) (flat cellOctets (x .cells) ++ flat resultOctets (x .results))
       ∙ omega (arith, length-append (flat cellOctets (x .cells)) (flat resultOctets (x .results)), name-length x, length-cells, length-results)
 
-  cells-of : cellsPart (streamOctets x) ≡ flat cellOctets (x .cells)
+  pub cells-of : cellsPart (streamOctets x) ≡ flat cellOctets (x .cells)
   unfolding cellsPart streamOctets
   cells-of = part-between (name x) (flat cellOctets (x .cells)) (flat resultOctets (x .results)) 21 312 (name-length x) length-cells
 
-  results-of : resultsPart (streamOctets x) ≡ flat resultOctets (x .results)
+  pub results-of : resultsPart (streamOctets x) ≡ flat resultOctets (x .results)
   unfolding resultsPart streamOctets
   results-of =
       let cs = flat cellOctets (x .cells) in
@@ -120,11 +120,27 @@ module _ (x : Stream) (eight-cells : length (x .cells) ≡ 8) (eight-results : l
       ap (part 333 160) (sym (append-assoc (name x) cs rs) ∙ ap (λ (r : List ℕ). (name x ++ cs) ++ r) (sym (append-nil rs)))
       ∙ part-between (name x ++ cs) rs [] 333 160 (omega (arith, length-append (name x) cs, name-length x, length-cells)) length-results
 
+module _ (x : Stream) (f : Fit nameWidths (x .id ∷ fixedNumbers (x .settled))) where
+  pub name-read : fields nameWidths 0 (streamOctets x) ≡ x .id ∷ fixedNumbers (x .settled)
+  unfolding streamOctets
+  name-read = fields-packed nameWidths (x .id ∷ fixedNumbers (x .settled)) (flat cellOctets (x .cells) ++ flat resultOctets (x .results)) f
+
+  pub id-read : idOf (streamOctets x) ≡ x .id
+  unfolding idOf fields nameWidths
+  id-read = ap (λ (vs : List ℕ). getD vs 0 0) name-read
+
+  spare-read : getD (streamOctets x) 20 0 % 16 ≡ 0
+  unfolding fields nameWidths fixedNumbers
+  spare-read =
+      ap (λ (o : ℕ). o % 16) (sym (octet-field (streamOctets x) 20) ∙ ap (λ (vs : List ℕ). getD vs 5 0) name-read) ∙ priority-spare (x .settled)
+
 pub octets-stream : (x : Stream) → Octets (streamOctets x)
 unfolding streamOctets
 octets-stream x =
-    octets-append (name x) (flat cellOctets (x .cells) ++ flat resultOctets (x .results)) (octets-packed nameWidths (x .id ∷ fixedNumbers (x .settled)))
-    (octets-append (flat cellOctets (x .cells)) (flat resultOctets (x .results)) (octets-flat cellOctets cell-octets (x .cells)) (octets-flat resultOctets result-octets (x .results)))
+    let cs = flat cellOctets (x .cells) in
+    let rs = flat resultOctets (x .results) in
+    octets-append (name x) (cs ++ rs) (octets-packed nameWidths (x .id ∷ fixedNumbers (x .settled)))
+    (octets-append cs rs (octets-flat cellOctets cell-octets (x .cells)) (octets-flat resultOctets result-octets (x .results)))
 
 -- at a bridge with so many ports, this clock and leave time
 module _ (ports clock leave : ℕ) (few : ports ≤ 8) (small : clock < 2 ^ 32) where
@@ -153,30 +169,22 @@ module _ (ports clock leave : ℕ) (few : ports ≤ 8) (small : clock < 2 ^ 32) 
   }
 
   module _ (x : Stream) (v : ValidStream ports clock leave x) where
-    name-read : fields nameWidths 0 (streamOctets x) ≡ x .id ∷ fixedNumbers (x .settled)
-    unfolding streamOctets Fit nameWidths fixedWidths
-    name-read =
-        fields-packed nameWidths (x .id ∷ fixedNumbers (x .settled)) (flat cellOctets (x .cells) ++ flat resultOctets (x .results))
-        (v .id, fixed-fit (x .settled) (v .settled))
-
-    pub id-read : idOf (streamOctets x) ≡ x .id
-    unfolding idOf fields nameWidths
-    id-read = ap (λ (vs : List ℕ). getD vs 0 0) name-read
+    name-fit : Fit nameWidths (x .id ∷ fixedNumbers (x .settled))
+    unfolding Fit nameWidths fixedWidths
+    name-fit = v .id also fixed-fit (x .settled) (v .settled)
 
     settled-read : fixedFrom 1 (fields nameWidths 0 (streamOctets x)) ≡ x .settled
     unfolding fixedNumbers
-    settled-read = ap (fixedFrom 1) name-read ∙ fixed-back (x .settled) (v .settled) (x .id ∷ []) []
-
-    spare-read : getD (streamOctets x) 20 0 % 16 ≡ 0
-    unfolding fields nameWidths fixedNumbers
-    spare-read = ap (λ (o : ℕ). o % 16) (sym (octet-field (streamOctets x) 20) ∙ ap (λ (vs : List ℕ). getD vs 5 0) name-read) ∙ priority-spare (x .settled)
+    settled-read = ap (fixedFrom 1) (name-read x name-fit) ∙ fixed-back (x .settled) (v .settled) (x .id ∷ []) []
 
     pub stream-back : toStream (streamOctets x) ≡ x
     unfolding toStream idOf
     stream-back =
         let cs = many-back cells-coded ports 8 few (x .cells) (v .eight-cells) (v .cells) in
         let rs = many-back results-coded ports 8 few (x .results) (v .eight-results) (v .results) in
-        rw (id-read, settled-read, cells-of x (v .eight-cells) (v .eight-results), results-of x (v .eight-cells) (v .eight-results), cs, rs)
+        let c = cells-of x (v .eight-cells) (v .eight-results) in
+        let r = results-of x (v .eight-cells) (v .eight-results) in
+        rw (id-read x name-fit, settled-read, c, r, cs, rs)
 
     pub stream-formed : streamFormed ports clock leave (streamOctets x) ≡ true
     unfolding streamFormed streamRules
@@ -188,22 +196,15 @@ module _ (ports clock leave : ℕ) (few : ports ≤ 8) (small : clock < 2 ^ 32) 
         let back = all-map (ValidCell clock leave) (λ d. toCell (cellOctets d) ≡ d) (cell-back clock leave small) (x .cells) (v .cells) in
         let held-there : holds ports cs ≡ true =
         ap (holds ports) (sym (append-nil cs)) ∙ held-holds ports (x .cells) [] back h (v .no-other-cells) (v .is-held) in
-        true-all (streamRules ports clock leave (streamOctets x)) (
-          eq-eqb (getD (streamOctets x) 20 0 % 16) 0 spare-read,
-          rw (c, r) (
-            many-keep cells-coded ports 8 few (x .cells) (v .eight-cells) (v .cells),
-            (
-              held-there,
-              (
-                many-rest cells-coded ports 8 few (x .cells) (v .eight-cells) (v .cells) (v .no-other-cells),
-                (
-                  many-keep results-coded ports 8 few (x .results) (v .eight-results) (v .results),
-                  (many-rest results-coded ports 8 few (x .results) (v .eight-results) (v .results) (v .no-other-results), tt),
-                ),
-              ),
-            ),
-          ),
-        )
+        true-all (streamRules ports clock leave (streamOctets x))
+        (eq-eqb (getD (streamOctets x) 20 0 % 16) 0 (spare-read x name-fit)
+        also rw (c, r)
+        (many-keep cells-coded ports 8 few (x .cells) (v .eight-cells) (v .cells)
+        also held-there
+        also many-rest cells-coded ports 8 few (x .cells) (v .eight-cells) (v .cells) (v .no-other-cells)
+        also many-keep results-coded ports 8 few (x .results) (v .eight-results) (v .results)
+        also many-rest results-coded ports 8 few (x .results) (v .eight-results) (v .results) (v .no-other-results)
+        also tt))
 
   module _ (s : List ℕ) (l : length s ≡ 493) (o : Octets s) (f : streamFormed ports clock leave s ≡ true) where
     stream-rules : All (λ r. r ≡ true) (streamRules ports clock leave s)
@@ -322,7 +323,7 @@ totals-back : (t : Totals) → FitTotals t → toTotals (totalsOctets t) ≡ t
 unfolding totalsOctets toTotals fields totalsWidths Fit
 totals-back t f =
     ap (λ (vs : List ℕ). record { totalA = getD vs 0 0; totalB = getD vs 1 0 })
-    (fields-of-packed totalsWidths (t .totalA ∷ t .totalB ∷ []) (f .0, (f .1, tt)))
+    (fields-of-packed totalsWidths (t .totalA ∷ t .totalB ∷ []) (f .0 also f .1 also tt))
 
 totals-forth : (s : List ℕ) → length s ≡ 10 → Octets s → totalsOctets (toTotals s) ≡ s
 unfolding totalsOctets toTotals totalsWidths fields width
@@ -400,6 +401,14 @@ valid-whole b v = record {
       (λ x w. stream-length x (w .eight-cells) (w .eight-results)) (b .streams) (v .streams);
 }
 
+pub fit-whole : (b : Bridge) → FitBridge b → Whole b
+fit-whole b f = record {
+  eight-ports = f .settings .eight-ports;
+  eight-totals = f .eight-totals;
+  at-most-64 = f .at-most-64;
+  streams = all-map FitStream (Sized 493 streamOctets) (λ x w. stream-length x (w .eight-cells) (w .eight-results)) (b .streams) (f .streams);
+}
+
 clock-length : (b : Bridge) → length (clockAndCount b) ≡ 5
 unfolding width
 clock-length b = length-packed-any (4 ∷ 1 ∷ []) (b .clock ∷ length (b .streams) ∷ []) refl
@@ -463,7 +472,7 @@ module _ (b : Bridge) (w : Whole b) where
         let h : length (b .streams) ≤ 64 = w .at-most-64 in
         ap (fields (4 ∷ 1 ∷ []) 187) (encode-parts b)
         ∙ ap (λ (k : ℕ). fields (4 ∷ 1 ∷ []) k (settingsWhole b ++ (clockAndCount b ++ (totalsWhole b ++ recordsWhole b)))) (sym settings-whole-length)
-        ∙ fields-packed-behind (4 ∷ 1 ∷ []) (b .clock ∷ length (b .streams) ∷ []) (settingsWhole b) (totalsWhole b ++ recordsWhole b) (small, (omega arith, tt))
+        ∙ fields-packed-behind (4 ∷ 1 ∷ []) (b .clock ∷ length (b .streams) ∷ []) (settingsWhole b) (totalsWhole b ++ recordsWhole b) (small also omega arith also tt)
 
     pub clock-read : clockField (encode b) ≡ b .clock
     unfolding clockField fields
@@ -551,19 +560,15 @@ module _ (b : Bridge) (v : Valid b) where
       let settings-keep : allTrue (settingsRules (settingsPart (encode b))) ≡ true =
       rw (settings-read b whole) (settings-rules (b .settings) (v .settings) (zeros (22 * (8 - length (b .settings .ports))))) in
       and-both (eqb (length (encode b)) tableLength) (allTrue (tableRules (encode b))) (eq-eqb (length (encode b)) tableLength length-encode)
-      (true-all (tableRules (encode b)) (
-        settings-keep,
-        (
-          settings-rest,
-          (
-            rw (totals-same, settings-same) (v .totals),
-            (
-              rw count (le-leb (length (b .streams)) 64 (v .at-most-64)),
-              (rw (ports-same, clock, settings-same, count, records-read b whole) streams-formed, (ids-rise, (records-rest, tt))),
-            ),
-          ),
-        ),
-      ))
+      (true-all (tableRules (encode b))
+      (settings-keep
+      also settings-rest
+      also rw (totals-same, settings-same) (v .totals)
+      also rw count (le-leb (length (b .streams)) 64 (v .at-most-64))
+      also rw (ports-same, clock, settings-same, count, records-read b whole) streams-formed
+      also ids-rise
+      also records-rest
+      also tt))
 
 -- Octets that keep the form rules.
 
@@ -598,7 +603,8 @@ module _ (t : List ℕ) (f : formed t ≡ true) where
   unfolding tableRules
   count-kept = leb-true (countField t) 64 (table-rules .1 .1 .1 .0)
 
-  pub streams-kept : everyPart 493 (streamFormed (portsField (settingsPart t)) (clockField t) (toSettings (settingsPart t) .leaveTime)) (countField t) (recordsPart t) ≡ true
+  pub streams-kept : everyPart 493 (streamFormed (portsField (settingsPart t)) (clockField t) (toSettings (settingsPart t) .leaveTime))
+      (countField t) (recordsPart t) ≡ true
   unfolding tableRules
   streams-kept = table-rules .1 .1 .1 .1 .0
 
@@ -654,17 +660,19 @@ module _ (t : List ℕ) (o : Octets t) (f : formed t ≡ true) where
       let e = settings-ports s in
       let h = eight-ports s (settings-kept t f) in
       let l = toSettings s .leaveTime in
+      let rs = recordsPart t in
+      let rise = ap rising (sym (parts-map 493 toStream (λ (x : Stream). x .id) n rs)) ∙ ids-kept t f in
+      let read =
+      every-read 493 (streamFormed p (clockField t) l) toStream (ValidStream p (clockField t) l) (stream-valid p (clockField t) l h clock-fits)
+      n rs streams-fit octets-records-part (streams-kept t f) in
       record {
         settings = settings-valid s octets-settings-part ports-fit (settings-kept t f);
         clock = clock-fits;
         eight-totals = length-parts 10 toTotals 8 (totalsPart t);
         totals = totals-kept t f;
-        at-most-64 = omega (arith, length-parts 493 toStream n (recordsPart t), count-kept t f);
-        streams =
-            rw e
-            (every-read 493 (streamFormed p (clockField t) l) toStream (ValidStream p (clockField t) l) (stream-valid p (clockField t) l h clock-fits) n (recordsPart t) streams-fit
-            octets-records-part (streams-kept t f));
-        ascending = rising-rises (ids (parts 493 toStream n (recordsPart t))) (ap rising (sym (parts-map 493 toStream (λ (x : Stream). x .id) n (recordsPart t))) ∙ ids-kept t f);
+        at-most-64 = omega (arith, length-parts 493 toStream n rs, count-kept t f);
+        streams = rw e read;
+        ascending = rising-rises (ids (parts 493 toStream n rs)) rise;
       }
 
   settings-written : settingsWhole (decode t) ≡ settingsPart t
@@ -698,9 +706,10 @@ module _ (t : List ℕ) (o : Octets t) (f : formed t ≡ true) where
       let n = countField t in
       let p = portsField s in
       let l = toSettings s .leaveTime in
+      let h = eight-ports s (settings-kept t f) in
       let w =
-      every-forth 493 (streamFormed p (clockField t) l) toStream streamOctets (stream-forth p (clockField t) l (eight-ports s (settings-kept t f)) clock-fits) n r streams-fit
-      octets-records-part (streams-kept t f) in
+      every-forth 493 (streamFormed p (clockField t) l) toStream streamOctets (stream-forth p (clockField t) l h clock-fits)
+      n r streams-fit octets-records-part (streams-kept t f) in
       let e : length (parts 493 toStream n r) ≡ n = length-parts 493 toStream n r in
       let k : length (drop (493 * n) r) ≡ 493 * (64 - length (parts 493 toStream n r)) =
       length-drop (493 * n) r ∙ omega (arith, records-31552 t f, count-kept t f) in
