@@ -1,1 +1,395 @@
--- To be filled.
+-- 01's marked examples P1 to P13 and its worked example, computed by the definitions and compared with what 01 prints; then
+-- examples of what 01 says of registering and of ages, and of the near misses that it shuts out.
+use mathlib.Core.Path.{_≡_, refl}
+use mathlib.Core.List.{List, [], _∷_, _++_, map}
+use mathlib.Core.Bool.{true, false, cond}
+use Prim.Native.Nat.{ℕ}
+use lib.ListN.{length, getD, take, replicate}
+use lib.Dec.{eqb}
+use Rattle.octets.specs.Be
+use Rattle.octets.specs.Fields
+use Rattle.octets.specs.Parts
+use Rattle.model.specs.Lists.{All}
+use Rattle.model.specs.Lists
+use Rattle.model.specs.State.{Port, Settings, Fixed, ready, askingFailed, tells, Stream, Bridge}
+use Rattle.model.specs.State
+use Rattle.model.specs.Registrations.{Kind, advertises, faileds, listeners, Reading, refused, acts, Answer}
+use Rattle.model.specs.Registrations
+use Rattle.model.specs.Frames.{Event, new, joinIn, isIn, joinMt, mt, lv}
+use Rattle.model.specs.Frames
+use Rattle.model.specs.Bandwidth
+use Rattle.model.specs.Settling
+use Rattle.model.specs.Declarations.{ColumnWord, noneWord, advertiseWord, failedWord, Report}
+use Rattle.model.specs.Declarations
+use Rattle.model.specs.WrittenFrames
+use Rattle.model.specs.Table
+use Rattle.model.specs.Calls
+
+-- To unfold one of these is to unfold what its line names; to unfold the last is to unfold all definitions of the bridge.
+
+stateOpened : Unit {0}
+unfolding Lists.tabulate Lists.bit State.empty State.unsettled State.noFixed State.noTotals State.blank State.fresh State.started State.noPort State.portAt State.isPort State.cellAt State.resultAt State.classOf State.isNoClass State.sameClass State.supports State.limit State.classLatency
+stateOpened = tt
+
+framesOpened : Unit {0}
+unfolding Be.beAt Be.be Fields.fields Fields.flat Parts.part Frames.typeOctet Frames.firstWidths Frames.firstLength Frames.threeLength Frames.fourLength Frames.vectorAt Frames.vectorEnd Frames.overpacked Frames.runsPast Frames.overflows Frames.also Frames.both Frames.vectors Frames.listLength Frames.listAt Frames.messageEnd Frames.endMark Frames.message Frames.messages Frames.walk Frames.event Frames.threePacked Frames.fourPacked Frames.eventOf Frames.fourOf Frames.asking Frames.priorityOf Frames.rankOf Frames.fixedValue Frames.healthValue Frames.idValue Frames.hearing Frames.talkerAct Frames.listenerAct Frames.valueActs Frames.valuesActs Frames.leaveAllActs Frames.vectorActs Frames.frameActs Frames.walked Frames.wrongPort Frames.reading
+framesOpened = tt
+
+registrationsOpened : Unit {0}
+unfolding Registrations.begin Registrations.talksAs Registrations.hearsAs Registrations.quitTalker Registrations.quitListener Registrations.quit Registrations.sameFixed Registrations.joinTalker Registrations.does Registrations.at Registrations.change Registrations.begun Registrations.touch Registrations.reach Registrations.apply Registrations.applyAll Registrations.holding Registrations.received Registrations.joins Registrations.asks
+registrationsOpened = tt
+
+settlingOpened : Unit {0}
+unfolding Bandwidth.demand Bandwidth.rate Bandwidth.rateOfA Bandwidth.rateOfB Bandwidth.rateOf Bandwidth.key Bandwidth.above Bandwidth.insert Bandwidth.sort Bandwidth.share Bandwidth.reserved Bandwidth.remains Bandwidth.admitted Bandwidth.total Settling.expired Settling.expireTalker Settling.expireListener Settling.expireCell Settling.expire Settling.isTalking Settling.isHearing Settling.held Settling.remain Settling.source Settling.sourceOf Settling.isSource Settling.fixedOf Settling.latencyOf Settling.streamClass Settling.registered Settling.isReady Settling.first Settling.clear Settling.isBroken Settling.brokenColumn Settling.stepsFrom Settling.steps Settling.ageOf Settling.claim Settling.claims Settling.limitOn Settling.leftFor Settling.byBandwidth Settling.columnOf Settling.capped Settling.latencyOut Settling.entryOf Settling.ageKept Settling.latencyKept Settling.passed Settling.sameReady Settling.merge Settling.mergeAll Settling.merged Settling.decideAt Settling.decide Settling.totalOn Settling.totalsOn Settling.settle Settling.advance
+settlingOpened = tt
+
+answersOpened : Unit {0}
+unfolding Declarations.refusedReport Declarations.wordOf Declarations.codeOf Declarations.streamAt Declarations.report WrittenFrames.typeNumber WrittenFrames.messageOf WrittenFrames.readyNumber WrittenFrames.fixedNumbers WrittenFrames.priorityOctet Table.columnNumber Table.columnCode Table.entryNumber Table.declaredNumber Table.leavingNumber Table.sinceNumber Table.healthNumber Table.bridgeNumber Table.codeNumber Table.talkerNumbers Table.listenerNumbers Table.cellNumbers Calls.receive
+answersOpened = tt
+
+opened : Unit {0}
+unfolding stateOpened framesOpened registrationsOpened settlingOpened answersOpened
+opened = tt
+
+-- what the definitions compute, and what 01 prints
+pub record Example : Type 0 where
+  pub computed : List ℕ
+  pub printed : List ℕ
+
+abbrev pub Holds : Example → Type 0
+Holds e = e .computed ≡ e .printed
+
+-- The bridge of the worked example: "Two ports, both classes, overhead 42, largest 1522, limits 75000000 and 0, latency 0,
+-- priorities 3 and 2, leave time 60"; with another limit for class A where an example asks for one.
+
+port : ℕ → Port
+port limit = record {
+  supportsA = true;
+  supportsB = true;
+  sendsTwice = false;
+  overhead = 42;
+  largest = 1522;
+  limitA = limit;
+  limitB = 0;
+  latencyA = 0;
+  latencyB = 0;
+}
+
+settings : ℕ → Settings
+settings limit = record { bridgeId = 7; priorityA = 3; priorityB = 2; leaveTime = 60; ports = port limit ∷ port limit ∷ [] }
+
+-- what is handed over: a PDU on a port, or a time
+data Handed : Type 0 where
+  pdu : ℕ → List ℕ → Handed
+  time : ℕ → Handed
+
+-- each must be accepted: a refusal would leave a bridge with nothing in it
+accepted : Answer → Bridge
+accepted a = cond (eqb (a .number) 0) (a .bridge) (State.started (a .bridge .settings))
+
+from : Bridge → List Handed → Bridge
+from b [] = b
+from b (pdu p s ∷ l) = from (accepted (Calls.receive b p s)) l
+from b (time now ∷ l) = from (accepted (Settling.advance b now)) l
+
+-- the bridge with this limit, after what is handed over
+bridge : ℕ → List Handed → Bridge
+bridge limit l = from (State.started (settings limit)) l
+
+-- PDUs of one Message.
+
+message : Kind → List ℕ → List ℕ
+message k vectors = 0 ∷ (WrittenFrames.messageOf k (vectors ++ (0 ∷ 0 ∷ [])) ++ (0 ∷ 0 ∷ []))
+
+-- FirstValues like those of the worked example: a StreamID by its Unique ID; MaxFrameSize, one frame per interval, and the
+-- octet of priority and rank
+streamId : ℕ → List ℕ
+streamId unique = 0x02 ∷ 0 ∷ 0 ∷ 0 ∷ 0 ∷ 0x01 ∷ Be.be 2 unique
+
+talkerFirst : ℕ → ℕ → ℕ → List ℕ
+talkerFirst unique size octet =
+    streamId unique
+    ++ (0x91 ∷ 0xE0 ∷ 0xF0 ∷ 0 ∷ 0xFE ∷ 0 ∷ 0 ∷ 0x02 ∷ (Be.be 2 size ++ (0 ∷ 0x01 ∷ octet ∷ 0 ∷ 0 ∷ 0 ∷ 0 ∷ [])))
+
+-- priority 3, which is class A, with rank 1 or 0
+rank1 : ℕ
+rank1 = 0x70
+
+rank0 : ℕ
+rank0 = 0x60
+
+-- n values from a Unique ID on, with their events
+advertisesOf : ℕ → ℕ → ℕ → ℕ → List ℕ → List ℕ
+advertisesOf unique size octet n three = message advertises (Be.be 2 n ++ (talkerFirst unique size octet ++ three))
+
+failedOf : ℕ → ℕ → ℕ → ℕ → List ℕ → List ℕ
+failedOf unique size octet n three =
+    message faileds (Be.be 2 n ++ (talkerFirst unique size octet ++ (0 ∷ 0 ∷ 0 ∷ 0 ∷ 0 ∷ 0 ∷ 0 ∷ 0x09 ∷ 0x02 ∷ three)))
+
+listenerVector : ℕ → ℕ → List ℕ → List ℕ → List ℕ
+listenerVector unique n three four = Be.be 2 n ++ (streamId unique ++ (three ++ four))
+
+listenersOf : ℕ → ℕ → List ℕ → List ℕ → List ℕ
+listenersOf unique n three four = message listeners (listenerVector unique n three four)
+
+-- one stream joins; Ready is 128, Asking Failed 64. (JoinMt is 108, two are 126, three 129; Mt is 144, Lv 180.)
+talks : ℕ → ℕ → ℕ → List ℕ
+talks unique size octet = advertisesOf unique size octet 1 (108 ∷ [])
+
+hears : ℕ → ℕ → List ℕ
+hears unique four = listenersOf unique 1 (108 ∷ []) (four ∷ [])
+
+-- What is shown. Columns are 0 none, 1 Advertise, 2 Failed, each with its code; Listeners 0 none, 1 Asking Failed, 2 Ready, 3
+-- Ready Failed; entries 0 none, 1 filter, 2 forward.
+
+-- the columns on port 2, by StreamID
+columns : Bridge → List ℕ
+columns b = Fields.flat (λ (x : Stream). let c = State.resultAt x 1 .column in Table.columnNumber c ∷ Table.columnCode c ∷ []) (b .streams)
+
+-- port 2's total and limit of class A
+reserves : Bridge → List ℕ
+reserves b = getD (b .totals) 1 State.noTotals .totalA ∷ State.portAt (b .settings) 1 .limitA ∷ []
+
+count : Bridge → List ℕ
+count b = length (b .streams) ∷ []
+
+-- the Talker of the first stream on the port at place p: kind, changed mark, leaving, since, destination, ..; its Listener:
+-- kind, leaving, since
+talker : ℕ → Bridge → List ℕ
+talker p b = Table.talkerNumbers (State.cellAt (Declarations.streamAt (b .streams) 0) p .talks)
+
+listener : ℕ → Bridge → List ℕ
+listener p b = Table.listenerNumbers (State.cellAt (Declarations.streamAt (b .streams) 0) p .hears)
+
+-- a PDU on port 1: its number, and the StreamIDs that it asks to join
+read : List ℕ → List ℕ
+read s = go (Frames.reading (settings 75000000) 1 s)
+  where
+    go : Reading → List ℕ
+    go (refused n) = n ∷ []
+    go (acts es) = 0 ∷ Registrations.joins es
+
+eventNumber : Event → ℕ
+eventNumber new = 0
+eventNumber joinIn = 1
+eventNumber isIn = 2
+eventNumber joinMt = 3
+eventNumber mt = 4
+eventNumber lv = 5
+
+-- the three events of an octet
+events : ℕ → List ℕ
+events o = map (λ (i : ℕ). eventNumber (Frames.event (Frames.threePacked o i))) (0 ∷ 1 ∷ 2 ∷ [])
+
+wordNumber : ColumnWord → ℕ
+wordNumber noneWord = 0
+wordNumber advertiseWord = 1
+wordNumber failedWord = 2
+
+-- a port's totals and limits, then StreamID, column, code, Listener and entry of the stream at place 0
+reported : Report → List ℕ
+reported r =
+    r .totalA ∷ r .limitA ∷ r .totalB ∷ r .limitB ∷ r .id ∷ wordNumber (r .column) ∷ r .code
+    ∷ Table.declaredNumber (r .listener) ∷ Table.entryNumber (r .entry) ∷ []
+
+-- The marked examples.
+
+size224 : Fixed
+size224 = record { destination = 0; vlan = 0; size = 224; frames = 1; priority = 3; rank = 1 }
+
+-- the worked example's stream on a bridge with this limit
+one : ℕ → Bridge
+one limit = bridge limit (pdu 1 (talks 1 224 rank1) ∷ pdu 2 (hears 1 128) ∷ time 100 ∷ [])
+
+-- four such, all Ready, settled at 100; then a fifth, Ready, of this rank, settled at 200
+four : Bridge
+four =
+    bridge 75000000
+    (pdu 1 (advertisesOf 1 224 rank1 4 (129 ∷ 108 ∷ [])) ∷ pdu 2 (listenersOf 1 4 (129 ∷ 108 ∷ []) (0xAA ∷ [])) ∷ time 100 ∷ [])
+
+withFifth : ℕ → Bridge
+withFifth octet = from four (pdu 1 (talks 5 224 octet) ∷ pdu 2 (hears 5 128) ∷ time 200 ∷ [])
+
+-- a Talker registered before time 100, and what is handed over then; one that begins to leave then
+settledTalker : List Handed → Bridge
+settledTalker l = bridge 75000000 (pdu 1 (talks 1 224 rank1) ∷ time 100 ∷ l)
+
+lvPdu : List ℕ
+lvPdu = advertisesOf 1 224 rank1 1 (180 ∷ [])
+
+leaver : Bridge
+leaver = settledTalker (pdu 1 lvPdu ∷ [])
+
+workedTalker : List ℕ
+workedTalker =
+    0x00 ∷ 0x01 ∷ 0x19 ∷ 0x00 ∷ 0x1E ∷ 0x00 ∷ 0x01 ∷ 0x02 ∷ 0x00 ∷ 0x00 ∷ 0x00 ∷ 0x00 ∷ 0x01 ∷ 0x00 ∷ 0x01 ∷ 0x91 ∷ 0xE0 ∷ 0xF0
+    ∷ 0x00 ∷ 0xFE ∷ 0x00 ∷ 0x00 ∷ 0x02 ∷ 0x00 ∷ 0xE0 ∷ 0x00 ∷ 0x01 ∷ 0x70 ∷ 0x00 ∷ 0x00 ∷ 0x00 ∷ 0x00 ∷ 0x6C ∷ 0x00 ∷ 0x00 ∷ 0x00 ∷ 0x00 ∷ []
+
+workedListener : List ℕ
+workedListener =
+    0x00 ∷ 0x03 ∷ 0x08 ∷ 0x00 ∷ 0x0E ∷ 0x00 ∷ 0x01 ∷ 0x02 ∷ 0x00 ∷ 0x00 ∷ 0x00 ∷ 0x00 ∷ 0x01 ∷ 0x00 ∷ 0x01 ∷ 0x6C ∷ 0x80
+    ∷ 0x00 ∷ 0x00 ∷ 0x00 ∷ 0x00 ∷ []
+
+worked : Bridge
+worked = bridge 75000000 (pdu 1 workedTalker ∷ pdu 2 workedListener ∷ time 100 ∷ [])
+
+pub examples : List Example
+examples =
+    -- P1: octet 215 is Lv Lv Lv
+    record { computed = events 215; printed = 5 ∷ 5 ∷ 5 ∷ [] }
+    -- P2: 216 refused 6
+    ∷ record { computed = read (advertisesOf 1 224 rank1 3 (216 ∷ [])); printed = 6 ∷ [] }
+    -- P3: size 224, overhead 42, one frame: 267 octets, 17,088,000 bit/s in A
+    ∷ record {
+      computed = Bandwidth.demand (port 0) size224 .octets ∷ Bandwidth.rateOfA (Bandwidth.demand (port 0) size224) .bits ∷ [];
+      printed = 267 ∷ 17088000 ∷ [];
+    }
+    -- P4: 8,544,000 in B
+    ∷ record { computed = Bandwidth.rateOfB (Bandwidth.demand (port 0) size224) .bits ∷ []; printed = 8544000 ∷ [] }
+    -- P5: limit 17,088,000 admits
+    ∷ record { computed = columns (one 17088000); printed = 1 ∷ 0 ∷ [] }
+    -- P6: 17,087,999 gives 1
+    ∷ record { computed = columns (one 17087999); printed = 2 ∷ 1 ∷ [] }
+    -- P7: Ready with Asking Failed is Ready Failed
+    ∷ record { computed = Table.declaredNumber (Settling.merge (tells ready) (tells askingFailed)) ∷ []; printed = 3 ∷ [] }
+    -- P8: four such, Ready, reserve 68,352,000 of 75,000,000
+    ∷ record { computed = reserves four; printed = 68352000 ∷ 75000000 ∷ [] }
+    -- P9: a less important fifth gets 1
+    ∷ record { computed = columns (withFifth rank1); printed = 1 ∷ 0 ∷ 1 ∷ 0 ∷ 1 ∷ 0 ∷ 1 ∷ 0 ∷ 2 ∷ 1 ∷ [] }
+    -- P10: a Ready fifth of rank 0 is in, and the least important of rank 1 gets 1
+    ∷ record { computed = columns (withFifth rank0); printed = 1 ∷ 0 ∷ 1 ∷ 0 ∷ 1 ∷ 0 ∷ 2 ∷ 1 ∷ 1 ∷ 0 ∷ [] }
+    -- P11: Unique ID FFFF with 2 values is 7
+    ∷ record { computed = read (advertisesOf 0xFFFF 224 rank1 2 (126 ∷ [])); printed = 7 ∷ [] }
+    -- P12: with 1 is read
+    ∷ record { computed = read (advertisesOf 0xFFFF 224 rank1 1 (108 ∷ [])); printed = 0 ∷ 0x020000000001FFFF ∷ [] }
+    -- P13: leave time 60 begun at 100: held at 159, gone at 160
+    ∷ record { computed = count (from leaver (time 159 ∷ [])) ++ count (from leaver (time 160 ∷ [])); printed = 1 ∷ 0 ∷ [] }
+    -- the worked example, port 1: A 0/75000000 B 0/0; 0200000000010001 none 0 ready none
+    ∷ record {
+      computed = reported (Declarations.report worked 1 0);
+      printed = 0 ∷ 75000000 ∷ 0 ∷ 0 ∷ 0x0200000000010001 ∷ 0 ∷ 0 ∷ 2 ∷ 0 ∷ [];
+    }
+    -- the worked example, port 2: A 17088000/75000000 B 0/0; 0200000000010001 advertise 0 none forward
+    ∷ record {
+      computed = reported (Declarations.report worked 2 0);
+      printed = 17088000 ∷ 75000000 ∷ 0 ∷ 0 ∷ 0x0200000000010001 ∷ 1 ∷ 0 ∷ 0 ∷ 2 ∷ [];
+    }
+    ∷ []
+
+-- to unfold this is to unfold the examples' own definitions
+shown : Unit {0}
+unfolding opened port settings accepted from bridge message streamId talkerFirst rank1 rank0 advertisesOf failedOf listenerVector listenersOf talks hears columns reserves count talker listener read eventNumber events wordNumber reported size224 one four withFifth settledTalker lvPdu leaver workedTalker workedListener worked
+shown = tt
+
+pub marked-examples : All Holds examples
+unfolding shown examples
+marked-examples =
+    (refl, (refl, (refl, (refl, (refl, (refl, (refl, (refl, (refl, (refl, (refl, (refl, (refl, (refl, (refl, tt)))))))))))))))
+
+-- Further examples, of sentences of 01: registering, where the theorems say little of what happens inside one registration; ages;
+-- and the near misses that 01 shuts out, each where it would give something else.
+
+-- LeaveAll without values, and Mt, of that Talker
+leaveAllPdu : List ℕ
+leaveAllPdu = advertisesOf 1 224 rank1 8192 []
+
+mtPdu : List ℕ
+mtPdu = advertisesOf 1 224 rank1 1 (144 ∷ [])
+
+-- Talker and Listener on port 1 and a Listener on port 2; LeaveAll of Listeners on port 1
+leftOnPort1 : Bridge
+leftOnPort1 = settledTalker (pdu 1 (hears 1 128) ∷ pdu 2 (hears 1 128) ∷ pdu 1 (listenersOf 1 8192 [] []) ∷ [])
+
+-- two streams with room for one: the higher StreamID has its entry from 100, the lower from 199
+sameSecond : Bridge
+sameSecond =
+    bridge 17088000
+    (pdu 1 (talks 5 224 rank1) ∷ pdu 2 (hears 5 128) ∷ time 100 ∷ pdu 1 (talks 1 224 rank1) ∷ pdu 2 (hears 1 128)
+    ∷ time 199 ∷ time 200 ∷ [])
+
+-- the second of three does not fit, the third does: 17,088,000 and 2,816,000
+oneTooLarge : Bridge
+oneTooLarge =
+    bridge 20000000
+    (pdu 1 (advertisesOf 1 224 rank1 2 (126 ∷ [])) ∷ pdu 1 (talks 3 1 rank1)
+    ∷ pdu 2 (listenersOf 1 3 (129 ∷ []) (0xA8 ∷ [])) ∷ time 100 ∷ [])
+
+-- room for one; the more important has this Listener on port 2, the other a Ready one
+lessReady : ℕ → Bridge
+lessReady kind =
+    bridge 17088000
+    (pdu 1 (advertisesOf 1 224 rank1 2 (126 ∷ [])) ∷ pdu 2 (hears 1 kind) ∷ pdu 2 (hears 2 128) ∷ time 100 ∷ [])
+
+-- 63 streams held; a PDU that joins the 64th twice, and one that joins two more
+held63 : Bridge
+held63 = bridge 75000000 (pdu 2 (listenersOf 1 63 (replicate 21 129) (replicate 16 0xAA)) ∷ [])
+
+twicePdu : List ℕ
+twicePdu =
+    let v = listenerVector 64 1 (108 ∷ []) (128 ∷ []) in
+    message listeners (v ++ v)
+
+answered : Bridge → List ℕ → ℕ
+answered b s = Calls.receive b 2 s .number
+
+ages : Bridge → List ℕ
+ages b = map (λ (x : Stream). State.resultAt x 1 .age) (b .streams)
+
+pub further : List Example
+further =
+    -- Lv starts leaving at the held clock: Advertise, not marked, leaving since 100
+    record { computed = take 4 (talker 0 leaver); printed = 1 ∷ 0 ∷ 1 ∷ 100 ∷ [] }
+    -- a second Lv, at 130, and a LeaveAll keep the first time; Mt does nothing
+    ∷ record { computed = take 4 (talker 0 (from leaver (time 130 ∷ pdu 1 lvPdu ∷ []))); printed = 1 ∷ 0 ∷ 1 ∷ 100 ∷ [] }
+    ∷ record { computed = take 4 (talker 0 (from leaver (time 130 ∷ pdu 1 leaveAllPdu ∷ []))); printed = 1 ∷ 0 ∷ 1 ∷ 100 ∷ [] }
+    ∷ record { computed = take 4 (talker 0 (from leaver (pdu 1 mtPdu ∷ []))); printed = 1 ∷ 0 ∷ 1 ∷ 100 ∷ [] }
+    -- a join ends leaving, also one whose values differ
+    ∷ record { computed = take 4 (talker 0 (from leaver (pdu 1 (talks 1 224 rank1) ∷ []))); printed = 1 ∷ 0 ∷ 0 ∷ 0 ∷ [] }
+    ∷ record { computed = take 4 (talker 0 (from leaver (pdu 1 (talks 1 225 rank1) ∷ []))); printed = 1 ∷ 1 ∷ 0 ∷ 0 ∷ [] }
+    -- Lv and LeaveAll of Talker Failed do not touch a held Advertise
+    ∷ record {
+      computed = take 4 (talker 0 (settledTalker (pdu 1 (failedOf 1 224 rank1 1 (180 ∷ [])) ∷ [])));
+      printed = 1 ∷ 0 ∷ 0 ∷ 0 ∷ [];
+    }
+    ∷ record {
+      computed = take 4 (talker 0 (settledTalker (pdu 1 (failedOf 1 224 rank1 8192 []) ∷ [])));
+      printed = 1 ∷ 0 ∷ 0 ∷ 0 ∷ [];
+    }
+    -- a Talker join with another size, here a Failed, keeps the held type and values and sets the mark
+    ∷ record {
+      computed = talker 0 (settledTalker (pdu 1 (failedOf 1 225 rank1 1 (108 ∷ [])) ∷ []));
+      printed = 1 ∷ 1 ∷ 0 ∷ 0 ∷ 0x91E0F000FE00 ∷ 2 ∷ 224 ∷ 1 ∷ 0x70 ∷ 0 ∷ 0 ∷ 0 ∷ [];
+    }
+    -- an equal one then clears the mark and replaces type and failure fields
+    ∷ record {
+      computed = talker 0 (settledTalker (pdu 1 (talks 1 225 rank1) ∷ pdu 1 (failedOf 1 224 rank1 1 (108 ∷ [])) ∷ []));
+      printed = 2 ∷ 0 ∷ 0 ∷ 0 ∷ 0x91E0F000FE00 ∷ 2 ∷ 224 ∷ 1 ∷ 0x70 ∷ 0 ∷ 9 ∷ 2 ∷ [];
+    }
+    -- a Listener join replaces the declaration type; with Ignore it does nothing
+    ∷ record { computed = listener 1 (settledTalker (pdu 2 (hears 1 128) ∷ pdu 2 (hears 1 64) ∷ [])); printed = 1 ∷ 0 ∷ 0 ∷ [] }
+    ∷ record { computed = listener 1 (settledTalker (pdu 2 (hears 1 128) ∷ pdu 2 (hears 1 0) ∷ [])); printed = 2 ∷ 0 ∷ 0 ∷ [] }
+    -- LeaveAll is about its own type and port
+    ∷ record {
+      computed = take 4 (talker 0 leftOnPort1) ++ (listener 0 leftOnPort1 ++ listener 1 leftOnPort1);
+      printed = 1 ∷ 0 ∷ 0 ∷ 0 ∷ 2 ∷ 1 ∷ 100 ∷ 2 ∷ 0 ∷ 0 ∷ [];
+    }
+    -- entries made at 100 and at 199 count from the same second, so that StreamID decides; at 200 their ages as (now - start)/100
+    -- would be 1 and 0
+    ∷ record { computed = ages sameSecond; printed = 1 ∷ 1 ∷ [] }
+    ∷ record { computed = columns sameSecond; printed = 1 ∷ 0 ∷ 2 ∷ 1 ∷ [] }
+    -- a stream that does not fit is passed over, and the next is tried
+    ∷ record { computed = columns oneTooLarge ++ reserves oneTooLarge; printed = 1 ∷ 0 ∷ 2 ∷ 1 ∷ 1 ∷ 0 ∷ 19904000 ∷ 20000000 ∷ [] }
+    -- a stream without a Ready Listener, or with Asking Failed, has no share
+    ∷ record { computed = columns (lessReady 0) ++ reserves (lessReady 0); printed = 1 ∷ 0 ∷ 1 ∷ 0 ∷ 17088000 ∷ 17088000 ∷ [] }
+    ∷ record { computed = columns (lessReady 64) ++ reserves (lessReady 64); printed = 1 ∷ 0 ∷ 1 ∷ 0 ∷ 17088000 ∷ 17088000 ∷ [] }
+    -- with 63 held, joining the 64th twice is accepted, joining two more is refused with 8
+    ∷ record {
+      computed = length (held63 .streams) ∷ answered held63 twicePdu ∷ answered held63 (listenersOf 64 2 (126 ∷ []) (0xA0 ∷ [])) ∷ [];
+      printed = 63 ∷ 0 ∷ 8 ∷ [];
+    }
+    ∷ []
+
+pub registering-examples : All Holds further
+unfolding shown further leaveAllPdu mtPdu leftOnPort1 sameSecond oneTooLarge lessReady held63 twicePdu answered ages
+registering-examples =
+    (refl, (refl, (refl, (refl, (refl, (refl, (refl, (refl, (refl, (refl, (refl, (refl, (refl, (refl, (refl, (refl, (refl, (refl, (refl, tt)))))))))))))))))))
