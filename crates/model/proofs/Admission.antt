@@ -1,7 +1,7 @@
 -- Who gets bandwidth on one port in one class: the rule, that nothing else meets it, that the total is the sum of what is
 -- admitted and ready and stays within the limit, and what none of it depends on (01, "Settling"; 35.2.4.1).
 use mathlib.Core.Path.{_≡_, refl, sym, _∙_, ap}
-use mathlib.Core.List.{List, [], _∷_, List·Memᴰ, List·Memᴰ·head, List·Memᴰ·tail, List·Memᴰ·not-nil}
+use mathlib.Core.List.{List, [], _∷_, _++_, List·Memᴰ, List·Memᴰ·head, List·Memᴰ·tail, List·Memᴰ·not-nil}
 use mathlib.Core.Logic.{_⊎_, inl, inr}
 use mathlib.Core.Bool.{Bool, true, false, cond, _&&_}
 use Prim.Native.Nat.{ℕ, suc, _+_, _-_, _^_, _≤_, _<_}
@@ -284,7 +284,7 @@ untouched limit cs ds c h = rw h
 -- The order in which the claims are listed has no influence.
 
 pub data Shuffle : List Claim → List Claim → Type 0 where
-  same : Shuffle [] []
+  same : {l : List Claim} → Shuffle l l
   next : {c : Claim} {l m : List Claim} → Shuffle l m → Shuffle (c ∷ l) (c ∷ m)
   swap : {c d : Claim} {l : List Claim} → Shuffle (c ∷ d ∷ l) (d ∷ c ∷ l)
   then : {k l m : List Claim} → Shuffle k l → Shuffle l m → Shuffle k m
@@ -336,6 +336,91 @@ pub any-order : (limit : ℕ) {cs ds : List Claim} → Shuffle cs ds → Distinc
 unfolding admitted remains total
 any-order limit {cs} {ds} s n =
     (λ c. rw (← above-sort (key c) cs, ← above-sort (key c) ds, sort-shuffle s n), ap (reserved limit) (sort-shuffle s n))
+
+-- A claim that takes nothing, because it is not admitted or not ready, has no influence either.
+
+share-idle : (limit r : ℕ) (c : Claim) → (leb (c .demand) (limit - r) && c .ready) ≡ false → share limit r c ≡ 0
+unfolding share
+share-idle limit r c h = rw h
+
+idle-insert : (limit k : ℕ) (c : Claim) (l : List Claim) → Falls l → (leb (c .demand) (limit - reserved limit (above (key c) l)) && c .ready) ≡ false →
+    reserved limit (above k (insert c l)) ≡ reserved limit (above k l)
+unfolding insert Falls reserved above
+idle-insert limit k c [] f h = go (two (key c) k)
+  where
+    go : Two (key c) k → reserved limit (above k (c ∷ [])) ≡ 0
+    go (lo m) = rw (above-in k c [] m) (omega (arith, share-idle limit 0 c h))
+    go (hi m) = rw (above-out k c [] m)
+idle-insert limit k c (d ∷ l) f h = go (two (key d) (key c)) (idle-insert limit k c l (f .1))
+  where
+    go : Two (key d) (key c) →
+        ((leb (c .demand) (limit - reserved limit (above (key c) l)) && c .ready) ≡ false → reserved limit (above k (insert c l)) ≡ reserved limit (above k l)) →
+        reserved limit (above k (insert c (d ∷ l))) ≡ reserved limit (above k (d ∷ l))
+    go (lo m) ih = rw (insert-here c d l m) (here (two (key c) k))
+      where
+        whole : (j : ℕ) → key c ≤ j → above j (d ∷ l) ≡ d ∷ l
+        whole j g = above-all j (d ∷ l) (omega arith, all-map (Lower d) (λ e. key e < j) (λ e b. omega arith) l (f .0))
+
+        here : Two (key c) k → reserved limit (above k (c ∷ d ∷ l)) ≡ reserved limit (above k (d ∷ l))
+        here (lo n) =
+            let nothing-taken : share limit (reserved limit (above k (d ∷ l))) c ≡ 0 =
+            share-idle limit (reserved limit (above k (d ∷ l))) c (rw (whole (key c) (omega arith) ∙ sym (whole k (omega arith))) at h) in
+            rw (above-in k c (d ∷ l) n) (omega (arith, nothing-taken))
+        here (hi n) = rw (above-out k c (d ∷ l) n)
+    go (hi m) ih = rw (insert-past c d l m) (past (two (key d) k) (ih (rw (above-out (key c) d l m) at h)))
+      where
+        past : Two (key d) k → reserved limit (above k (insert c l)) ≡ reserved limit (above k l) →
+            reserved limit (above k (d ∷ insert c l)) ≡ reserved limit (above k (d ∷ l))
+        past (lo n) e = rw (above-in k d (insert c l) n, above-in k d l n, e)
+        past (hi n) e = rw (above-out k d (insert c l) n, above-out k d l n) e
+
+-- a number above every key
+beyond : List Claim → ℕ
+beyond [] = 0
+beyond (c ∷ l) = suc (key c) + beyond l
+
+below-beyond : (k : ℕ) (l : List Claim) → beyond l ≤ k → All (λ d. key d < k) l
+unfolding beyond
+below-beyond k [] h = tt
+below-beyond k (c ∷ l) h = (omega arith, below-beyond k l (omega arith))
+
+to-front : (l m : List Claim) (c : Claim) → Shuffle (l ++ c ∷ m) (c ∷ l ++ m)
+to-front [] m c = same
+to-front (d ∷ l) m c = then (next (to-front l m c)) swap
+
+module _ (limit : ℕ) (l m : List Claim) (c : Claim) (distinct : Distinct (l ++ c ∷ m))
+    (idle : (admitted limit (l ++ c ∷ m) c && c .ready) ≡ false) where
+  sorted : sort (l ++ c ∷ m) ≡ insert c (sort (l ++ m))
+  unfolding sort
+  sorted = sort-shuffle (to-front l m c) distinct
+
+  falls : Falls (sort (l ++ m))
+  unfolding Distinct
+  falls = falls-sort (l ++ m) (distinct-shuffle (to-front l m c) distinct .1)
+
+  more-important : sort (above (key c) (l ++ c ∷ m)) ≡ above (key c) (sort (l ++ m))
+  more-important =
+      sym (above-sort (key c) (l ++ c ∷ m)) ∙ ap (above (key c)) sorted ∙ above-insert-out (key c) c (sort (l ++ m)) (omega arith)
+
+  takes-nothing : (leb (c .demand) (limit - reserved limit (above (key c) (sort (l ++ m)))) && c .ready) ≡ false
+  unfolding admitted remains
+  takes-nothing = rw more-important at idle
+
+  pub idle-above : (k : ℕ) → reserved limit (sort (above k (l ++ c ∷ m))) ≡ reserved limit (sort (above k (l ++ m)))
+  idle-above k =
+      ap (reserved limit) (sym (above-sort k (l ++ c ∷ m)) ∙ ap (above k) sorted)
+      ∙ idle-insert limit k c (sort (l ++ m)) falls takes-nothing
+      ∙ ap (reserved limit) (above-sort k (l ++ m))
+
+  pub idle-total : total limit (l ++ c ∷ m) ≡ total limit (l ++ m)
+  unfolding total
+  idle-total =
+      let rest = sort (l ++ m) in
+      let k = suc (key c) + beyond rest in
+      let low : All (λ d. key d < k) rest = below-beyond k rest (omega arith) in
+      ap (reserved limit) (sorted ∙ sym (above-all k (insert c rest) (all-insert (λ d. key d < k) c rest (omega arith) low)))
+      ∙ idle-insert limit k c rest falls takes-nothing
+      ∙ ap (reserved limit) (above-all k rest low)
 
 -- What a loop over the claims cites, from the most important on: with all done up to the key k, what is used is
 -- `reserved limit (sort (above k cs))`.

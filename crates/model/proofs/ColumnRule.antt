@@ -1,8 +1,9 @@
 -- What advance leaves is what the rules of settling give, in their own terms: each column is the first step that applies,
 -- with what is left computed from the columns of the more important streams; entries, latencies and Listeners follow from the
--- columns; each class total is the sum of what is reserved and at most its limit (01, "Settling").
+-- columns; each class total is the sum of what is reserved and at most its limit; and less important streams, or such as
+-- reserve nothing, change none of it (01, "Settling").
 use mathlib.Core.Path.{_≡_, refl, sym, _∙_, ap}
-use mathlib.Core.List.{List, [], _∷_, map}
+use mathlib.Core.List.{List, [], _∷_, _++_, map}
 use mathlib.Core.Bool.{Bool, true, false, cond, not, _&&_, false≢true}
 use Prim.Native.Nat.{ℕ, zero, suc, _+_, _-_, _^_, _≤_, _<_}
 use native.Mathlib.Omega.{arith}
@@ -14,9 +15,9 @@ use Rattle.model.specs.State.{Settings, Health, sound, broken, Column, n
 use Rattle.model.specs.Registrations.{ids}
 use Rattle.model.specs.Bandwidth.{Claim, key, above, sort, reserved, remains, admitted, total, taken}
 use Rattle.model.specs.Settling.{remain, Source, nowhere, from, sourceOf, isSource, fixedOf, streamClass, registered, isReady, first, clear, brokenColumn, stepsFrom, steps, ageOf, claim, claims, limitOn, leftFor, byBandwidth, columnOf, latencyOut, entryOf, ageKept, latencyKept, passed, mergeAll, merged, decideAt, decide, totalOn, totalsOn, settle}
-use Rattle.model.proofs.Lists.{all-map, all-both, all-each, and-true, and-false}
+use Rattle.model.proofs.Lists.{all-map, all-both, all-each, and-right, and-true, and-false}
 use Rattle.model.proofs.Valid.{Rising}
-use Rattle.model.proofs.Admission.{Distinct, key-id, within, subtracted, total-is-sum}
+use Rattle.model.proofs.Admission.{Distinct, key-id, within, subtracted, total-is-sum, idle-above, idle-total}
 pub use Rattle.model.proofs.AdvanceKeepsForm.{remain-all, remain-rising}
 use Rattle.model.proofs.AdvanceKeepsForm.{decided-ids}
 
@@ -308,6 +309,7 @@ module _ (st : Settings) (now : ℕ) (s : List Stream) (p : ℕ) where
   unfolding totalOn total
   total-within c = within (limitOn st now s p c) (sort (claims st now p c s))
 
+-- What is decided is what the rules give.
 pub given : (st : Settings) (now : ℕ) (s : List Stream) → Rising (ids s) → All Small (ids s) → Given st now s
 given st now s r a = record {
   columns = λ p x. columns-ruled st now s p r a x;
@@ -326,6 +328,20 @@ module _ (st : Settings) (now p : ℕ) (col other : Stream → Column) where
   unfolding ruled
   ruled-same s x a = rw (spent-same (streamClass st x) (λ e. ltb (key e) (key (claim st now p x))) s a)
 
+-- streams with the same registrations go through the same steps; with the same age too, they have the same claim
+module _ (st : Settings) (now p : ℕ) (x y : Stream) (cells : x .cells ≡ y .cells) where
+  same-steps : steps st p x ≡ steps st p y
+  unfolding steps cellAt sourceOf
+  same-steps = rw cells
+
+  same-stream-class : streamClass st x ≡ streamClass st y
+  unfolding streamClass sourceOf
+  same-stream-class = rw cells
+
+  same-claim : x .id ≡ y .id → ageOf now (resultAt x p) ≡ ageOf now (resultAt y p) → claim st now p x ≡ claim st now p y
+  unfolding claim cellAt sourceOf
+  same-claim i age = rw (age, i, cells)
+
 unfoldable hasEntry : Entry → Bool
 hasEntry noEntry = false
 hasEntry filters = true
@@ -342,15 +358,15 @@ pub record Shown (st : Settings) (p : ℕ) (y : Stream) : Type 0 where
 module _ (st : Settings) (now p : ℕ) (here : p < 8) where
   entry-made : (demand left : ℕ) (d : Declared) → hasEntry (entryOf (byBandwidth st demand left) d) ≡ true
   unfolding byBandwidth hasEntry entryOf
-  entry-made demand left d = go (ltb left demand) (isReady d)
+  entry-made demand left d = go (ltb left demand)
     where
-      forwarded : (r : Bool) → hasEntry (cond r forwards filters) ≡ true
-      forwarded true = refl
-      forwarded false = refl
+      made : (r : Bool) → hasEntry (cond r forwards filters) ≡ true
+      made true = refl
+      made false = refl
 
-      go : (t r : Bool) → hasEntry (entryOf (cond t (failed (st .bridgeId) 1) advertise) d) ≡ true
-      go true r = refl
-      go false r = forwarded (isReady d)
+      go : (t : Bool) → hasEntry (entryOf (cond t (failed (st .bridgeId) 1) advertise) d) ≡ true
+      go true = refl
+      go false = made (isReady d)
 
   age-runs : (r : Result) (a : ℕ) → hasEntry (r .entry) ≡ true → r .age ≡ ageKept (r .entry) a → ageOf now r ≡ a
   unfolding ageOf ageKept hasEntry
@@ -361,28 +377,18 @@ module _ (st : Settings) (now p : ℕ) (here : p < 8) where
       go filters q = rw q (rw q at e)
       go forwards q = rw q (rw q at e)
 
-  module _ (x y : Stream) (carried : Carried now x y) where
-    carried-steps : steps st p y ≡ steps st p x
-    unfolding steps cellAt sourceOf
-    carried-steps = rw (carried .cells)
+  carried-claim : (x y : Stream) → Carried now x y → Shown st p y → clear (steps st p y) ≡ true → claim st now p y ≡ claim st now p x
+  carried-claim x y carried shown free =
+      same-claim st now p y x (carried .cells) (carried .id)
+      (age-runs (resultAt y p) (ageOf now (resultAt x p)) made (carried .ages p here))
+    where
+      decided : columnAt p y ≡ byBandwidth st (shown .demand) (shown .left)
+      decided = shown .column ∙ first-clear (steps st p y) _ free
 
-    carried-class : streamClass st y ≡ streamClass st x
-    unfolding streamClass sourceOf
-    carried-class = rw (carried .cells)
-
-    carried-claim : Shown st p y → clear (steps st p y) ≡ true → claim st now p y ≡ claim st now p x
-    unfolding claim cellAt sourceOf
-    carried-claim shown free = rw (age, carried .id, carried .cells)
-      where
-        decided : columnAt p y ≡ byBandwidth st (shown .demand) (shown .left)
-        decided = shown .column ∙ first-clear (steps st p y) _ free
-
-        made : hasEntry (resultAt y p .entry) ≡ true
-        made = ap hasEntry (shown .entry ∙ ap (λ (z : Column). entryOf z (registered (cellAt y p))) decided)
-            ∙ entry-made (shown .demand) (shown .left) (registered (cellAt y p))
-
-        age : ageOf now (resultAt y p) ≡ ageOf now (resultAt x p)
-        age = age-runs (resultAt y p) (ageOf now (resultAt x p)) made (carried .ages p here)
+      made : hasEntry (resultAt y p .entry) ≡ true
+      made =
+          ap hasEntry (shown .entry ∙ ap (λ (z : Column). entryOf z (registered (cellAt y p))) decided)
+          ∙ entry-made (shown .demand) (shown .left) (registered (cellAt y p))
 
   carried-claims : (c : Class) (s t : List Stream) → Pairwise (Carried now) s t → All (Shown st p) t → claims st now p c t ≡ claims st now p c s
   unfolding claims
@@ -390,12 +396,12 @@ module _ (st : Settings) (now p : ℕ) (here : p < 8) where
   carried-claims c [] (y ∷ t) w a = absurd w
   carried-claims c (x ∷ s) [] w a = absurd w
   carried-claims c (x ∷ s) (y ∷ t) w a =
-      rw (carried-class x y (w .0)) (go (clear (steps st p y)) refl (sameClass (streamClass st x) c) (carried-claims c s t (w .1) (a .1)))
+      rw (same-stream-class st now p y x (w .0 .cells)) (go (clear (steps st p y)) refl (sameClass (streamClass st x) c) (carried-claims c s t (w .1) (a .1)))
     where
       go : (b : Bool) → clear (steps st p y) ≡ b → (k : Bool) → claims st now p c t ≡ claims st now p c s →
           keep (clear (steps st p y) && k) (claim st now p y) (claims st now p c t) ≡ keep (clear (steps st p x) && k) (claim st now p x) (claims st now p c s)
-      go true e k ih = rw (carried-claim x y (w .0) (a .0) e, carried-steps x y (w .0), ih)
-      go false e k ih = rw (← carried-steps x y (w .0), e) ih
+      go true e k ih = rw (carried-claim x y (w .0) (a .0) e, same-steps st now p y x (w .0 .cells), ih)
+      go false e k ih = rw (← same-steps st now p y x (w .0 .cells), e) ih
 
   module _ (s t : List Stream) (carried : Pairwise (Carried now) s t) (shown : All (Shown st p) t) where
     carried-limit : (c : Class) → limitOn st now t p c ≡ limitOn st now s p c
@@ -414,10 +420,16 @@ module _ (st : Settings) (now p : ℕ) (here : p < 8) where
         go : (b : Bool) → clear (steps st p y) ≡ b → columnOf st now t p y ≡ columnOf st now s p x
         go true e =
             let c = streamClass st x in
-            rw (carried-class x y w, carried-limit c, carried-claims c s t carried shown, carried-claim x y w z e, carried-steps x y w)
+            rw (
+              same-stream-class st now p y x (w .cells),
+              carried-limit c,
+              carried-claims c s t carried shown,
+              carried-claim x y w z e,
+              same-steps st now p y x (w .cells),
+            )
         go false e =
             first-decided (steps st p y) _ (byBandwidth st (claim st now p x .demand) (leftFor st now s p x)) e
-            ∙ rw (carried-steps x y w)
+            ∙ rw (same-steps st now p y x (w .cells))
 
 -- What a list made from a function has at a place.
 module _ {A : Type 0} (f : ℕ → A) where
@@ -443,7 +455,7 @@ pairwise-image : {A B : Type 0} (R : A → B → Type 0) (f : A → B) → ((x :
 pairwise-image R f h [] = tt
 pairwise-image R f h (x ∷ l) = (h x, pairwise-image R f h l)
 
--- Settling
+-- What is decided over the streams s is what the rules give over the streams that are left.
 module _ (st : Settings) (now : ℕ) (s : List Stream) where
   decided-at : (x : Stream) (p : ℕ) → p < 8 → resultAt (decide st now s x) p ≡ decideAt st now s x p
   unfolding decide resultAt
@@ -547,7 +559,6 @@ module _ (now : ℕ) (b : Bridge) where
   total-kept p h classA = ap (λ (t : Totals). t .totalA) (at-place (totalsOn (b .settings) now remaining) p noTotals h)
   total-kept p h classB = ap (λ (t : Totals). t .totalB) (at-place (totalsOn (b .settings) now remaining) p noTotals h)
 
-  -- What advance leaves is what the rules give.
   module _ (r : Rising (ids (b .streams))) (a : All Small (ids (b .streams))) where
     risen : Rising (ids remaining)
     unfolding remaining
@@ -570,6 +581,7 @@ module _ (now : ℕ) (b : Bridge) where
       };
     }
 
+    -- All that a settled bridge shows is what the rules give,
     pub settled : Settled (settle now b)
     unfolding settle remaining decided tabulate
     settled = record {
@@ -579,6 +591,7 @@ module _ (now : ℕ) (b : Bridge) where
       limits = λ p h c. rw (total-kept p h c) (decided-within (b .settings) now remaining p h c);
     }
 
+    -- and so it is what an advance leaves.
     pub advanced : Advanced now b (settle now b)
     unfolding settle remaining decided
     advanced = record {
@@ -593,26 +606,85 @@ module _ (now : ℕ) (b : Bridge) where
 -- important streams differ.
 module _ (st : Settings) (now p : ℕ) (s s′ : List Stream) (x x′ : Stream)
     (sameId : x .id ≡ x′ .id) (sameCells : x .cells ≡ x′ .cells)
-    (sameAge : ageOf now (resultAt x p) ≡ ageOf now (resultAt x′ p)) where
-  same-claim : claim st now p x ≡ claim st now p x′
-  unfolding claim cellAt sourceOf
-  same-claim = rw (sameAge, sameId, sameCells)
+    (sameAge : ageOf now (resultAt x p) ≡ ageOf now (resultAt x′ p))
+    (sameAbove : above (key (claim st now p x)) (claims st now p (streamClass st x) s)
+    ≡ above (key (claim st now p x)) (claims st now p (streamClass st x) s′))
+    (sameLimit : limitOn st now s p (streamClass st x) ≡ limitOn st now s′ p (streamClass st x)) where
+  same-column : columnOf st now s p x ≡ columnOf st now s′ p x′
+  unfolding columnOf leftFor remains
+  same-column =
+      rw (
+        sameAbove,
+        sameLimit,
+        same-steps st now p x x′ sameCells,
+        same-claim st now p x x′ sameCells sameId sameAge,
+        same-stream-class st now p x x′ sameCells,
+      )
 
-  same-steps : steps st p x ≡ steps st p x′
-  unfolding steps cellAt sourceOf
-  same-steps = rw sameCells
+  pub untouchable : (decideAt st now s x p .column ≡ decideAt st now s′ x′ p .column) × (decideAt st now s x p .entry ≡ decideAt st now s′ x′ p .entry)
+  unfolding decideAt cellAt
+  untouchable = (same-column, rw (same-column, sameCells))
 
-  same-stream-class : streamClass st x ≡ streamClass st x′
-  unfolding streamClass sourceOf
-  same-stream-class = rw sameCells
+-- A stream that reserves nothing on p, because it is refused or has no ready Listener there, changes no column and no class
+-- total on p: all is as if it were not held.
+module _ (st : Settings) (now p : ℕ) where
+  claims-append : (c : Class) (s t : List Stream) → claims st now p c (s ++ t) ≡ claims st now p c s ++ claims st now p c t
+  unfolding claims
+  claims-append c [] t = refl
+  claims-append c (x ∷ s) t = go (clear (steps st p x) && sameClass (streamClass st x) c) (claims-append c s t)
+    where
+      go : (b : Bool) → claims st now p c (s ++ t) ≡ claims st now p c s ++ claims st now p c t →
+          keep b (claim st now p x) (claims st now p c (s ++ t)) ≡ keep b (claim st now p x) (claims st now p c s) ++ claims st now p c t
+      go true ih = ap (λ (l : List Claim). claim st now p x ∷ l) ih
+      go false ih = ih
 
-  module _ (sameAbove : above (key (claim st now p x)) (claims st now p (streamClass st x) s)
-      ≡ above (key (claim st now p x)) (claims st now p (streamClass st x) s′))
-      (sameLimit : limitOn st now s p (streamClass st x) ≡ limitOn st now s′ p (streamClass st x)) where
-    same-column : columnOf st now s p x ≡ columnOf st now s′ p x′
-    unfolding columnOf leftFor remains
-    same-column = rw (sameAbove, sameLimit, same-steps, same-claim, same-stream-class)
+  module _ (s t : List Stream) (x : Stream) (r : Rising (ids (s ++ x ∷ t))) (a : All Small (ids (s ++ x ∷ t)))
+      (idle : (isAdvertise (columnOf st now (s ++ x ∷ t) p x) && isReady (registered (cellAt x p))) ≡ false) where
+    module _ (c : Class) where
+      abbrev d : Claim
+      d = claim st now p x
 
-    pub untouchable : (decideAt st now s x p .column ≡ decideAt st now s′ x′ p .column) × (decideAt st now s x p .entry ≡ decideAt st now s′ x′ p .entry)
-    unfolding decideAt cellAt
-    untouchable = (same-column, rw (same-column, sameCells))
+      abbrev earlier : List Claim
+      earlier = claims st now p c s
+
+      abbrev later : List Claim
+      later = claims st now p c t
+
+      abbrev all-claims : List Claim
+      all-claims = claims st now p c (s ++ x ∷ t)
+
+      abbrev limit-in-force : ℕ
+      limit-in-force = limitOn st now (s ++ x ∷ t) p c
+
+      takes-nothing : (clear (steps st p x) && sameClass (streamClass st x) c) ≡ true →
+          (admitted limit-in-force all-claims d && d .ready) ≡ false
+      unfolding claim
+      takes-nothing e =
+          let k : isAdvertise (columnOf st now (s ++ x ∷ t) p x) ≡ admitted limit-in-force all-claims d =
+          rw (e, and-right (clear (steps st p x)) (sameClass (streamClass st x) c) e) at (column-agrees st now (s ++ x ∷ t) p c x) in
+          rw (← k) idle
+
+      dropped : (f : List Claim → ℕ) →
+          (Distinct (earlier ++ d ∷ later) → (admitted limit-in-force (earlier ++ d ∷ later) d && d .ready) ≡ false → f (earlier ++ d ∷ later) ≡ f (earlier ++ later)) →
+          f all-claims ≡ f (claims st now p c (s ++ t))
+      unfolding claims
+      dropped f h = go (clear (steps st p x) && sameClass (streamClass st x) c) refl ∙ ap f (sym (claims-append c s t))
+        where
+          go : (b : Bool) → (clear (steps st p x) && sameClass (streamClass st x) c) ≡ b → f all-claims ≡ f (earlier ++ later)
+          go true e =
+              let split : all-claims ≡ earlier ++ d ∷ later = claims-append c s (x ∷ t) ∙ rw e in
+              ap f split ∙ h (rw split at (claims-distinct st now p c (s ++ x ∷ t) r a)) (rw split at (takes-nothing e))
+          go false e = ap f (claims-append c s (x ∷ t) ∙ rw e)
+
+    pub without-idle-total : (c : Class) → totalOn st now (s ++ x ∷ t) p c ≡ totalOn st now (s ++ t) p c
+    unfolding totalOn limitOn
+    without-idle-total c = dropped c (total (limit-in-force c)) (idle-total (limit-in-force c) (earlier c) (later c) (d c))
+
+    pub without-idle-column : (y : Stream) → columnOf st now (s ++ x ∷ t) p y ≡ columnOf st now (s ++ t) p y
+    unfolding columnOf leftFor remains limitOn
+    without-idle-column y =
+        let c = streamClass st y in
+        let k = key (claim st now p y) in
+        ap (λ (n : ℕ). first (steps st p y) (byBandwidth st (claim st now p y .demand) (limit-in-force c - n)))
+        (dropped c (λ cs. reserved (limit-in-force c) (sort (above k cs)))
+        (λ distinct idle. idle-above (limit-in-force c) (earlier c) (later c) (d c) distinct idle k))
