@@ -1,16 +1,16 @@
 -- Laws of `fields`, `packed` and `flat`: numbers in fields of any widths become octets and come back, and octets come back from
 -- their numbers. Assumes nothing.
 use Prim.Native.Nat.{ℕ, zero, suc, _+_, _*_, _/_, _%_, _^_, _≤_, _<_}
-use native.Mathlib.Nat.{zero-add, suc-mul, pow-suc, one-le-pow}
+use native.Mathlib.Nat.{add-zero, zero-add, add-assoc, add-mul, mul-assoc, suc-mul, pow-suc, one-le-pow}
 use native.Mathlib.Omega.{arith}
 use mathlib.Core.Path.{_≡_, refl, sym, ap, _∙_}
 use mathlib.Core.List.{List, [], _∷_, _++_, append-assoc}
-use lib.ListN.{length, getD, drop, length-append, List·getD-append, replicate-append-replicate}
-use lib.Seq.{getD-append-add, take-add, drop-drop}
+use lib.ListN.{length, getD, set, take, drop, length-append, List·getD-append, length-replicate, replicate-append-replicate}
+use lib.Seq.{getD-append-add, take-add, drop-drop, take-append-add, drop-append-add, take-at, drop-at}
 use Rattle.octets.specs.Be.{beAt, be}
 use Rattle.octets.specs.Fields.{fields, packed, Fit, width, flat}
-use Rattle.octets.specs.Parts.{part, zeros}
-use Rattle.octets.proofs.Be.{length-be, beAt-ext, beAt-be, be-zero}
+use Rattle.octets.specs.Parts.{part, patch, zeros}
+use Rattle.octets.proofs.Be.{length-be, beAt-ext, beAt-be, be-zero, put-none}
 use Rattle.octets.proofs.Parts.{part-none, part-more}
 use Rattle.octets.proofs.Frame.{getD-part}
 
@@ -201,3 +201,111 @@ module _ {A : Type 0} (to : A → List ℕ) where
   unfolding flat
   length-flat n h [] = omega arith
   length-flat n h (a ∷ l) = omega (arith, length-append (to a) (flat to l), h a, length-flat n h l, suc-mul (length l) n)
+
+-- One field of many, and several that follow each other: read, and replaced.
+
+-- an octet as a number
+pub beAt-one : (s : List ℕ) (at : ℕ) → getD s at 0 ≡ beAt 1 s at
+unfolding beAt
+beAt-one s at = rw (add-zero, zero-add)
+
+-- a number of n and m octets
+pub beAt-add : (n m : ℕ) (s : List ℕ) (at : ℕ) → beAt (n + m) s at ≡ beAt n s at * 256 ^ m + beAt m s (at + n)
+unfolding beAt
+beAt-add n zero s at = rw add-zero (omega arith)
+beAt-add n (suc m) s at =
+    let e : n + suc m ≡ suc (n + m) = omega arith in
+    let a : at + (n + m) ≡ at + n + m = omega arith in
+    rw (e, a, beAt-add n m s at, pow-suc 256 m, add-mul, mul-assoc, add-assoc)
+
+-- what is done behind a list
+pub part-behind : (x y : List ℕ) (m a n : ℕ) → length x ≡ m → part (m + a) n (x ++ y) ≡ part a n y
+unfolding part
+part-behind x y m a n e = rw (← e) (rw (drop-append-add x y a))
+
+pub patch-behind : (x y z : List ℕ) (m a n : ℕ) → length x ≡ m → patch (m + a) n z (x ++ y) ≡ x ++ patch a n z y
+unfolding patch
+patch-behind x y z m a n e = rw (← e) (rw (take-append-add x y a, drop-append-add x y a, append-assoc))
+
+-- past the last field both sides are 0
+pub fields-at : (ws : List ℕ) (at : ℕ) (s : List ℕ) (i : ℕ) → getD (fields ws at s) i 0 ≡ beAt (getD ws i 0) s (at + width (take i ws))
+unfolding fields width
+fields-at [] at s i = unfold beAt in refl
+fields-at (w ∷ ws) at s zero = ap (beAt w s) (omega arith)
+fields-at (w ∷ ws) at s (suc i) = fields-at ws (at + w) s i ∙ ap (beAt (getD ws i 0) s) (omega arith)
+
+-- the number in field i is number i
+pub get-field : (ws vs : List ℕ) → Fit ws vs → (i : ℕ) → beAt (getD ws i 0) (packed ws vs) (width (take i ws)) ≡ getD vs i 0
+get-field ws vs h i =
+    ap (beAt (getD ws i 0) (packed ws vs)) (sym (zero-add (width (take i ws))))
+    ∙ sym (fields-at ws 0 (packed ws vs) i)
+    ∙ ap (λ (l : List ℕ). getD l i 0) (fields-of-packed ws vs h)
+
+-- where the field has one octet
+pub get-octet : (ws vs : List ℕ) → Fit ws vs → (i : ℕ) → getD ws i 0 ≡ 1 → getD (packed ws vs) (width (take i ws)) 0 ≡ getD vs i 0
+get-octet ws vs h i e = beAt-one (packed ws vs) (width (take i ws)) ∙ (rw e at (get-field ws vs h i))
+
+-- with v put in field i, number i is v
+pub put-field : (ws vs : List ℕ) (i v : ℕ) → length vs ≡ length ws
+    → patch (width (take i ws)) (getD ws i 0) (be (getD ws i 0) v) (packed ws vs) ≡ packed ws (set vs i v)
+unfolding packed width
+put-field [] [] i v e = put-none (width (take i [])) v []
+put-field [] (x ∷ vs) i v e = absurd (omega arith)
+put-field (w ∷ ws) [] i v e = absurd (omega arith)
+put-field (w ∷ ws) (x ∷ vs) zero v e = unfold patch in rw (drop-at (be w x) (packed ws vs) w (length-be w x))
+put-field (w ∷ ws) (x ∷ vs) (suc i) v e =
+    patch-behind (be w x) (packed ws vs) (be (getD ws i 0) v) w (width (take i ws)) (getD ws i 0) (length-be w x)
+    ∙ ap (λ (l : List ℕ). be w x ++ l) (put-field ws vs i v (omega arith))
+
+pub fit-set : (ws vs : List ℕ) (i v : ℕ) → Fit ws vs → v < 256 ^ getD ws i 0 → Fit ws (set vs i v)
+unfolding Fit
+fit-set [] [] i v h l = tt
+fit-set [] (x ∷ vs) i v h l = absurd h
+fit-set (w ∷ ws) [] i v h l = absurd h
+fit-set (w ∷ ws) (x ∷ vs) zero v h l = (l, h .1)
+fit-set (w ∷ ws) (x ∷ vs) (suc i) v h l = (h .0, fit-set ws vs i v (h .1) l)
+
+pub packed-append : (ws us vs xs : List ℕ) → length vs ≡ length ws → packed (ws ++ us) (vs ++ xs) ≡ packed ws vs ++ packed us xs
+unfolding packed
+packed-append [] us [] xs e = refl
+packed-append [] us (v ∷ vs) xs e = absurd (omega arith)
+packed-append (w ∷ ws) us [] xs e = absurd (omega arith)
+packed-append (w ∷ ws) us (v ∷ vs) xs e =
+    rw (packed-append ws us vs xs (omega arith)) (sym (append-assoc (be w v) (packed ws vs) (packed us xs)))
+
+pub width-append : (ws us : List ℕ) → width (ws ++ us) ≡ width ws + width us
+unfolding width
+width-append [] us = omega arith
+width-append (w ∷ ws) us = omega (arith, width-append ws us)
+
+-- several fields that follow each other, of the widths ws and with the numbers vs; before them bs with us, behind them cs with xs
+module _ (bs ws cs us vs xs : List ℕ) (p : length us ≡ length bs) (q : length vs ≡ length ws) where
+  in-three : packed (bs ++ (ws ++ cs)) (us ++ (vs ++ xs)) ≡ packed bs us ++ (packed ws vs ++ packed cs xs)
+  in-three = packed-append bs (ws ++ cs) us (vs ++ xs) p ∙ ap (λ (l : List ℕ). packed bs us ++ l) (packed-append ws cs vs xs q)
+
+  pub part-fields : part (width bs) (width ws) (packed (bs ++ (ws ++ cs)) (us ++ (vs ++ xs))) ≡ packed ws vs
+  unfolding part
+  part-fields =
+      rw (
+        in-three,
+        drop-at (packed bs us) (packed ws vs ++ packed cs xs) (width bs) (length-packed-any bs us p),
+        take-at (packed ws vs) (packed cs xs) (width ws) (length-packed-any ws vs q),
+      )
+
+  -- other numbers put in their place
+  pub put-fields : (ys : List ℕ) → length ys ≡ length ws
+      → patch (width bs) (width ws) (packed ws ys) (packed (bs ++ (ws ++ cs)) (us ++ (vs ++ xs))) ≡ packed (bs ++ (ws ++ cs)) (us ++ (ys ++ xs))
+  unfolding patch
+  put-fields ys r =
+      rw (
+        in-three,
+        take-at (packed bs us) (packed ws vs ++ packed cs xs) (width bs) (length-packed-any bs us p),
+        drop-at (packed bs us) (packed ws vs ++ packed cs xs) (width bs) (length-packed-any bs us p),
+        drop-at (packed ws vs) (packed cs xs) (width ws) (length-packed-any ws vs q),
+        packed-append bs (ws ++ cs) us (ys ++ xs) p,
+        packed-append ws cs ys xs r,
+      )
+
+  pub clear-fields : patch (width bs) (width ws) (zeros (width ws)) (packed (bs ++ (ws ++ cs)) (us ++ (vs ++ xs)))
+      ≡ packed (bs ++ (ws ++ cs)) (us ++ (zeros (length ws) ++ xs))
+  clear-fields = rw (← packed-zeros ws) (put-fields (zeros (length ws)) (length-replicate (length ws) 0))
