@@ -6,19 +6,26 @@ use Prim.Native.Nat.{ℕ, _≤_, _<_, _^_}
 use lib.ListN.{length}
 use Rattle.octets.specs.Fields.{Fit}
 use Rattle.model.specs.Lists.{All}
-use Rattle.model.specs.State.{Port, Settings, Cell, Result, Stream, Totals, Bridge}
+use Rattle.model.specs.State.{Port, Settings, Fixed, Talker, noTalker, talker, Cell, Result, Stream, Totals, Bridge}
 use Rattle.model.specs.Registrations.{ids}
 use Rattle.model.specs.WrittenFrames.{fixedNumbers}
 use Rattle.model.specs.Table.{cellWidths, cellNumbers, cellOctets, resultWidths, resultNumbers, resultOctets, nameWidths, streamOctets, portWidths, portNumbers, totalsWidths, encode}
 
-abbrev pub FitCell : Cell → Type 0
-FitCell c = Fit cellWidths (cellNumbers c)
+-- a rank is one bit: it shares its octet with the priority, so that the octet's width alone does not say it
+abbrev pub FitRank : Talker → Type 0
+FitRank noTalker = Unit {0}
+FitRank (talker f v m l) = f .rank < 2
+
+pub record FitCell (c : Cell) : Type 0 where
+  pub numbers : Fit cellWidths (cellNumbers c)
+  pub rank : FitRank (c .talks)
 
 abbrev pub FitResult : Result → Type 0
 FitResult r = Fit resultWidths (resultNumbers r)
 
 pub record FitStream (x : Stream) : Type 0 where
   pub name : Fit nameWidths (x .id ∷ fixedNumbers (x .settled))
+  pub rank : x .settled .rank < 2
   pub eight-cells : length (x .cells) ≡ 8
   pub cells : All FitCell (x .cells)
   pub eight-results : length (x .results) ≡ 8
