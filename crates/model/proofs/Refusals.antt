@@ -9,17 +9,18 @@ use Prim.Native.Nat.{ℕ, zero, suc, _+_, _-_, _/_, _≤_, _<_}
 use native.Mathlib.Omega.{arith}
 use lib.ListN.{length, getD}
 use lib.Dec.{ltb, leb, eqb}
-use borrow.Author.Tests.{ltb-true, ltb-false, leb-true, leb-false, eqb-true, eqb-false, not-true, not-false, lt-ltb, le-ltb, le-leb, eq-eqb, ne-eqb}
+use borrow.Author.Tests.{ltb-true, ltb-false, leb-true, leb-false, eqb-true, eqb-false, not-true, not-false, lt-ltb, le-ltb, eq-eqb, ne-eqb}
 use Rattle.octets.specs.Be.{beAt}
-use Rattle.model.specs.Lists.{All}
+use Rattle.model.specs.Lists.{All, Octets}
 use Rattle.model.specs.State.{Settings, Bridge}
-use Rattle.model.specs.Registrations.{Act, refused, acts, Answer, received, applyAll, add, together, ids, joins}
+use Rattle.model.specs.Registrations.{refused, Answer, received, applyAll, add, together, ids, joins}
 use Rattle.model.specs.Frames.{Attribute, TypeOctet, notAllowed, unknown, known, typeOctet, firstLength, Vector, vectorAt, vectorEnd, overpacked, overflows, listLength, listAt, messageEnd, endMark, Walk, fault, found, also, both, vectors, message, messages, walk, walked, frameActs, reading, wrongPort}
 use Rattle.model.specs.Settling.{advance}
 use Rattle.model.specs.Declarations.{Written, write, Report, refusedReport, report, declarations}
 use Rattle.model.specs.Table.{decode, clockField, formed, tableLength, settingsFormed}
 use Rattle.model.specs.Calls.{Call, startOn, leaves, onTable, receive, receiveOn, advanceOn, WriteCall, refusedWrite, writtenTo, writeOn, reportOn}
 use Rattle.model.proofs.Valid.{Rising, Valid}
+use Rattle.model.proofs.Tables.{valid-decode}
 use Rattle.model.proofs.Admission.{all-mem}
 use Rattle.model.proofs.FrameOrder.{acts-ids, held-ids}
 
@@ -391,34 +392,6 @@ module _ (b : Bridge) (p : ℕ) (pdu : List ℕ) where
           (cond-either (λ (m : ℕ). (m ≤ 8) × (m ≡ 1 → ⊥)) (ltb 64 (countWith vs)) 8 0
           (omega arith, λ i. omega arith) (omega arith, λ i. omega arith))
 
--- "different new ones": a frame that joins only streams held already never fails for want of room
-add-held : (i : ℕ) (l : List ℕ) → Rising l → List·Memᴰ i l → add i l ≡ l
-unfolding add Rising
-add-held i [] r m = absurd (List·Memᴰ·not-nil m)
-add-held i (x ∷ l) r m = go (ltb i x) refl (eqb i x) refl (List·Memᴰ·cases-cons m) (add-held i l (r .1))
-  where
-    go : (a : Bool) → ltb i x ≡ a → (b : Bool) → eqb i x ≡ b → (i ≡ x) ⊎ List·Memᴰ i l → (List·Memᴰ i l → add i l ≡ l) →
-        cond a (i ∷ x ∷ l) (cond b (x ∷ l) (x ∷ add i l)) ≡ x ∷ l
-    go true e b f (inl q) h = absurd (omega (arith, ltb-true i x e))
-    go true e b f (inr k) h = absurd (omega (arith, ltb-true i x e, all-mem (λ j. x < j) k (r .0)))
-    go false e true f k h = refl
-    go false e false f (inl q) h = absurd (eqb-false i x f q)
-    go false e false f (inr k) h = ap (λ (s : List ℕ). x ∷ s) (h k)
-
-together-held : (is l : List ℕ) → Rising l → All (λ i. List·Memᴰ i l) is → together l is ≡ l
-unfolding together
-together-held [] l r a = refl
-together-held (i ∷ is) l r a = ap (λ (k : List ℕ). together k is) (add-held i l r (a .0)) ∙ together-held is l r (a .1)
-
-pub nothing-new : (b : Bridge) (p : ℕ) (es : List Act) → Valid b → All (λ i. List·Memᴰ i (ids (b .streams))) (joins es) →
-    received b p (acts es) .number ≡ 0
-unfolding received
-nothing-new b p es v a =
-    let s = applyAll (b .clock) (p - 1) es (b .streams) in
-    let same : together (ids (b .streams)) (joins es) ≡ ids (b .streams) = together-held (joins es) (ids (b .streams)) (v .ascending) a in
-    let k : length s ≤ 64 = rw (held-ids s, acts-ids (b .clock) (p - 1) es (b .streams), same, ← held-ids (b .streams)) (v .at-most-64) in
-    rw (le-leb (length s) 64 k)
-
 module _ (t : List ℕ) (p : ℕ) (pdu : List ℕ) where
   receive-number : receiveOn t p pdu .number ≡ fronted t p (frameNumber (decode t) p pdu)
   unfolding receiveOn receive reading fronted frameNumber received
@@ -468,6 +441,34 @@ module _ (t : List ℕ) (p : ℕ) (pdu : List ℕ) where
   receive-numbers =
       rw receive-number
       (fronted-all (λ (n : ℕ). (n ≤ 8) ⊎ (n ≡ 12)) t p _ (inr refl) (inl (omega arith)) (inl (frame-numbers (decode t) p pdu .0)))
+
+-- "different new ones": a PDU that joins only streams held already is never refused for want of room
+add-held : (i : ℕ) (l : List ℕ) → Rising l → List·Memᴰ i l → add i l ≡ l
+unfolding add Rising
+add-held i [] r m = absurd (List·Memᴰ·not-nil m)
+add-held i (x ∷ l) r m = go (ltb i x) refl (eqb i x) refl (List·Memᴰ·cases-cons m) (add-held i l (r .1))
+  where
+    go : (a : Bool) → ltb i x ≡ a → (b : Bool) → eqb i x ≡ b → (i ≡ x) ⊎ List·Memᴰ i l → (List·Memᴰ i l → add i l ≡ l) →
+        cond a (i ∷ x ∷ l) (cond b (x ∷ l) (x ∷ add i l)) ≡ x ∷ l
+    go true e b f (inl q) h = absurd (omega (arith, ltb-true i x e))
+    go true e b f (inr k) h = absurd (omega (arith, ltb-true i x e, all-mem (λ j. x < j) k (r .0)))
+    go false e true f k h = refl
+    go false e false f (inl q) h = absurd (eqb-false i x f q)
+    go false e false f (inr k) h = ap (λ (s : List ℕ). x ∷ s) (h k)
+
+together-held : (is l : List ℕ) → Rising l → All (λ i. List·Memᴰ i l) is → together l is ≡ l
+unfolding together
+together-held [] l r a = refl
+together-held (i ∷ is) l r a = ap (λ (k : List ℕ). together k is) (add-held i l r (a .0)) ∙ together-held is l r (a .1)
+
+pub receive-nothing-new : (t : List ℕ) (p : ℕ) (pdu : List ℕ) (vs : List Vector) → Octets t → OnPort t p → walk pdu ≡ found vs →
+    All (λ i. List·Memᴰ i (ids (decode t .streams))) (joins (frameActs vs)) → receiveOn t p pdu .number ≡ 0
+receive-nothing-new t p pdu vs o h e a =
+    let v : Valid (decode t) = valid-decode t o (h .0) in
+    let s = ids (decode t .streams) in
+    let room : length (together s (joins (frameActs vs))) ≤ 64 =
+    rw (together-held (joins (frameActs vs)) s (v .ascending) a, ← held-ids (decode t .streams)) (v .at-most-64) in
+    receive-0 t p pdu .1 (h, (vs, e, room))
 
 -- advance: 9
 module _ (t : List ℕ) (now : ℕ) where
