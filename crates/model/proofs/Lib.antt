@@ -18,4 +18,5 @@ pub mod ReadBack
 pub mod WritingPasses
 pub mod Refusals
 pub mod Examples
+pub mod FormKept
 pub mod Demand3
