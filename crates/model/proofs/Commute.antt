@@ -14,7 +14,7 @@ use Rattle.model.specs.Registrations.{Act, leaveAll, leave, talk, listen
 abbrev pub Change : Type 0
 Change = List Cell → List Cell
 
-abbrev Commute : Change → Change → Type 0
+abbrev pub Commute : Change → Change → Type 0
 Commute u v = (c : List Cell) → u (v c) ≡ v (u c)
 
 pub touch-nil : (b : Bool) (i : ℕ) (u : Change) → touch b i u [] ≡ begun b i u []
@@ -36,12 +36,12 @@ module _ (b : Bool) (i : ℕ) (u : Change) (x : Stream) (s : List Stream) where
   touch-past h = rw (le-ltb i (x .id) (omega arith), ne-eqb i (x .id) (omega arith))
 
 -- the order of two numbers
-data Tri (m n : ℕ) : Type 0 where
+pub data Tri (m n : ℕ) : Type 0 where
   less : m < n → Tri m n
   same : m ≡ n → Tri m n
   more : n < m → Tri m n
 
-tri : (m n : ℕ) → Tri m n
+pub tri : (m n : ℕ) → Tri m n
 tri m n = go (decLt m n) (ℕ-discrete m n)
   where
     go : Dec (m < n) → Dec (m ≡ n) → Tri m n
@@ -161,11 +161,11 @@ module _ (u v : Change) (uv : Commute u v) where
   every-every (x ∷ s) = ap₂ (λ (y : Stream) (l : List Stream). y ∷ l) (changes-commute u v uv x) (every-every s)
 
 -- what an act does to the table is one of two things
-data Does (u : Change) : (List Stream → List Stream) → Type 0 where
+pub data Does (u : Change) : (List Stream → List Stream) → Type 0 where
   every : u blank ≡ blank → Does u (map (change u))
   single : (b : Bool) (i : ℕ) → (b ≡ false → u blank ≡ blank) → Does u (touch b i u)
 
-does-commute : {f g : List Stream → List Stream} (u v : Change) → Does u f → Does v g → Commute u v → (s : List Stream) → f (g s) ≡ g (f s)
+pub does-commute : {f g : List Stream → List Stream} (u v : Change) → Does u f → Does v g → Commute u v → (s : List Stream) → f (g s) ≡ g (f s)
 does-commute u v (every p) (every q) uv s = every-every u v uv s
 does-commute u v (every p) (single b j q) uv s = every-touch u v uv b j p s
 does-commute u v (single a i p) (every q) uv s = sym (every-touch v u (λ c. sym (uv c)) a i q s)
@@ -190,7 +190,7 @@ quit-blank : (now p : ℕ) (k : Kind) → at p (quit now k) blank ≡ blank
 unfolding blank
 quit-blank now p k = at-fixed (quit now k) empty (quit-empty now k) p 8
 
-act-does : (now p : ℕ) (a : Act) → Does (at p (does now a)) (apply now p a)
+pub act-does : (now p : ℕ) (a : Act) → Does (at p (does now a)) (apply now p a)
 unfolding does apply reach
 act-does now p (leaveAll k) = every (quit-blank now p k)
 act-does now p (leave k i) = single false i (λ e. quit-blank now p k)

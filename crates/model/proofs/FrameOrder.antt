@@ -36,7 +36,7 @@ frameAnswers (a ∷ f) b = (a .0, receive b (a .0) (a .1) .number) ∷ frameAnsw
 
 -- The streams held after acts.
 
-joined : (i : ℕ) (u : Change) (s : List Stream) → ids (touch true i u s) ≡ add i (ids s)
+pub joined : (i : ℕ) (u : Change) (s : List Stream) → ids (touch true i u s) ≡ add i (ids s)
 unfolding touch ids add begun change fresh
 joined i u [] = refl
 joined i u (x ∷ s) = go (ltb i (x .id)) (eqb i (x .id)) (joined i u s)
@@ -269,7 +269,7 @@ add-grows i (x ∷ l) = go (ltb i x) (eqb i x) (add-grows i l)
     go false true h = omega arith
     go false false h = omega arith
 
-together-grows : (xs l : List ℕ) → length l ≤ length (together l xs)
+pub together-grows : (xs l : List ℕ) → length l ≤ length (together l xs)
 unfolding together
 together-grows [] l = omega arith
 together-grows (i ∷ xs) l = omega (arith, add-grows i l, together-grows xs (add i l))
