@@ -232,7 +232,7 @@ module _ (clock leave : ℕ) where
   listener-fit noListener v h = fit-zeros (drop 12 cellWidths)
   listener-fit (listener r l) v h = omega (arith, ready-number r .1) also leaving-few l also since-within clock leave l v h also tt
 
-  cell-fit : (c : Cell) → ValidCell clock leave c → clock < 2 ^ 32 → Fit cellWidths (cellNumbers c)
+  pub cell-fit : (c : Cell) → ValidCell clock leave c → clock < 2 ^ 32 → Fit cellWidths (cellNumbers c)
   unfolding cellNumbers cellWidths
   cell-fit c v h =
       fit-append (take 12 cellWidths) (talkerNumbers (c .talks)) (drop 12 cellWidths) (listenerNumbers (c .hears))

@@ -5,6 +5,7 @@ pub mod Cells
 pub mod Results
 pub mod SettingsOctets
 pub mod Tables
+pub mod Fits
 pub mod Arrivals
 pub mod Commute
 pub mod FoundVectors

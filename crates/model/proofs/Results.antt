@@ -140,7 +140,7 @@ declared-few (tells r) = ready-number r .1
 
 -- A valid result: its numbers fit and keep the rules; they come back in any case.
 
-result-fit : (clock : ℕ) (r : Result) → ValidResult clock r → clock < 2 ^ 32 → Fit resultWidths (resultNumbers r)
+pub result-fit : (clock : ℕ) (r : Result) → ValidResult clock r → clock < 2 ^ 32 → Fit resultWidths (resultNumbers r)
 unfolding Fit resultWidths resultNumbers
 result-fit clock r v h =
     let (k, b, c) = column-fit (r .column) (r .latency) (r .entry) (v .column) in
@@ -153,7 +153,7 @@ result-fit clock r v h =
     also omega (arith, declared-few (r .declares))
     also tt
 
-numbers-back : (r : Result) → resultFrom (resultNumbers r) ≡ r
+pub numbers-back : (r : Result) → resultFrom (resultNumbers r) ≡ r
 unfolding resultFrom resultNumbers
 numbers-back r = rw (column-back (r .column), entry-back (r .entry), declared-back (r .declares))
 

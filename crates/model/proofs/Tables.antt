@@ -290,7 +290,7 @@ module _ (ports clock leave : ℕ) (few : ports ≤ 8) (small : clock < 2 ^ 32) 
 
 -- One port's totals, which fit since its limits do.
 
-totals-fit : (ts : List Totals) (qs : List Port) → All ValidPort qs → totalsWithin ts qs ≡ true → All FitTotals ts
+pub totals-fit : (ts : List Totals) (qs : List Port) → All ValidPort qs → totalsWithin ts qs ≡ true → All FitTotals ts
 unfolding totalsWithin
 totals-fit [] qs v e = tt
 totals-fit (t ∷ ts) [] v e =

@@ -1,0 +1,239 @@
+-- What fits its fields is read back from its octets; octets that are laid out are those of what is read from them; and what
+-- keeps the form rules fits.
+use mathlib.Core.Path.{_≡_, refl, sym, ap, _∙_, subst}
+use mathlib.Core.List.{List, [], _∷_, _++_, append-nil}
+use mathlib.Core.Bool.{Bool, true}
+use Prim.Native.Nat.{ℕ, _+_, _*_, _-_, _^_, _≤_, _<_}
+use native.Mathlib.Omega.{arith}
+use lib.ListN.{length, getD}
+use Rattle.octets.specs.Parts.{zeros}
+use Rattle.octets.specs.Fields.{fields, Fit, flat}
+use Rattle.octets.proofs.Fields.{fields-of-packed, fit-at}
+use Rattle.model.specs.Lists.{All, parts, Octets}
+use Rattle.model.specs.State.{Port, Leaving, stays, since, Fixed, Health, sound, broken, Talker, noTalker, talker, Listener, noListener, listener, Cell, Result, Stream, Bridge}
+use Rattle.model.specs.Registrations.{ids}
+use Rattle.model.specs.WrittenFrames.{priorityOctet, fixedNumbers}
+use Rattle.model.specs.Table.{cellWidths, sinceNumber, bridgeNumber, codeNumber, talkerNumbers, listenerNumbers, cellNumbers, cellOctets, toCell, resultWidths, resultNumbers, resultOctets, toResult, nameWidths, fixedFrom, streamOctets, toStream, countField, recordsPart, idOf, encode, decode, formed}
+use Rattle.model.specs.Laid.{FitRank, FitCell, FitResult, FitStream, FitBridge, Ascending, LaidCell, LaidResult, LaidStream, Laid}
+use Rattle.model.proofs.Lists.{all-map}
+use Rattle.model.proofs.Valid.{ValidLeaving, ValidFixed, ValidHealth, ValidTalker, ValidListener, ValidCell, ValidResult, ValidStream, Rising, Valid}
+use Rattle.model.proofs.Parts.{_also_, Sized, parts-flat}
+use Rattle.model.proofs.Cells.{fixedWidths, fixed-fit, fixed-back, cell-fit, cell-back, cells-sized}
+use Rattle.model.proofs.Results.{result-fit, numbers-back, results-sized}
+use Rattle.model.proofs.SettingsOctets.{settings-fit}
+use Rattle.model.proofs.Tables.{stream-length, cells-of, results-of, name-read, id-read, totals-fit, fit-whole, clock-read, count-read, records-read, settings-decoded, totals-decoded, valid-decode, encode-decode}
+
+-- Read back: a cell. With the latest clock and the longest leave time that a field holds, every time that fits is valid.
+
+abbrev latest : ℕ
+latest = 4294967295
+
+abbrev longest : ℕ
+longest = 4294967296
+
+fit-leaving : (l : Leaving) → sinceNumber l < 2 ^ 32 → ValidLeaving latest longest l
+unfolding sinceNumber
+fit-leaving stays h = tt
+fit-leaving (since t) h = (omega arith, omega arith)
+
+fit-health : (h : Health) → bridgeNumber h < 256 ^ 8 → codeNumber h < 256 ^ 1 → ValidHealth h
+unfolding bridgeNumber codeNumber
+fit-health sound p q = tt
+fit-health (broken b c) p q = (p, q)
+
+-- five numbers, the last of them priority and rank
+fit-fixed : (f : Fixed) → Fit fixedWidths (fixedNumbers f) → f .rank < 2 → ValidFixed f
+unfolding Fit fixedWidths fixedNumbers priorityOctet
+fit-fixed f w r = record {
+  destination = w .0;
+  vlan = w .1 .0;
+  size = w .1 .1 .0;
+  frames = w .1 .1 .1 .0;
+  priority = omega (arith, w .1 .1 .1 .1 .0);
+  rank = r;
+}
+
+fit-talker : (t : Talker) (after : List ℕ) → ((i : ℕ) → getD (talkerNumbers t ++ after) i 0 < 256 ^ getD cellWidths i 0)
+    → FitRank t → ValidTalker latest longest t
+unfolding talkerNumbers fixedNumbers cellWidths Fit fixedWidths
+fit-talker noTalker after at r = tt
+fit-talker (talker f v m l) after at r = (
+  fit-fixed f (at 4 also at 5 also at 6 also at 7 also at 8 also tt) r,
+  record { health = fit-health (v .health) (at 10) (at 11); latency = at 9 },
+  fit-leaving l (at 3),
+)
+
+fit-listener : (t : Talker) (h : Listener) → ((i : ℕ) → getD (talkerNumbers t ++ listenerNumbers h) i 0 < 256 ^ getD cellWidths i 0)
+    → ValidListener latest longest h
+unfolding talkerNumbers listenerNumbers fixedNumbers cellWidths
+fit-listener t noListener at = tt
+fit-listener noTalker (listener r l) at = fit-leaving l (at 14)
+fit-listener (talker f v m k) (listener r l) at = fit-leaving l (at 14)
+
+pub cell-read : (c : Cell) → FitCell c → toCell (cellOctets c) ≡ c
+unfolding cellNumbers
+cell-read c w =
+    let at = fit-at cellWidths (cellNumbers c) (w .numbers) in
+    cell-back latest longest (omega arith) c record {
+      talks = fit-talker (c .talks) (listenerNumbers (c .hears)) at (w .rank);
+      hears = fit-listener (c .talks) (c .hears) at;
+    }
+
+-- A result.
+
+pub result-read : (r : Result) → FitResult r → toResult (resultOctets r) ≡ r
+unfolding toResult resultOctets
+result-read r w = rw (fields-of-packed resultWidths (resultNumbers r) w) (numbers-back r)
+
+-- A stream.
+
+-- m things, each of which comes back from its octets
+many-read : {A : Type 0} (n m : ℕ) (to : A → List ℕ) (from : List ℕ → A) (l : List A) → length l ≡ m → All (Sized n to) l
+    → All (λ a. from (to a) ≡ a) l → parts n from m (flat to l) ≡ l
+many-read n m to from l e z g =
+    ap (λ (k : ℕ). parts n from k (flat to l)) (sym e)
+    ∙ ap (parts n from (length l)) (sym (append-nil (flat to l)))
+    ∙ parts-flat n to from l [] z g
+
+module _ (x : Stream) (w : FitStream x) where
+  pub stream-size : length (streamOctets x) ≡ 493
+  stream-size = stream-length x (w .eight-cells) (w .eight-results)
+
+  pub id-fits : x .id < 2 ^ 64
+  unfolding Fit nameWidths
+  id-fits = w .name .0
+
+  settled-fits : Fit fixedWidths (fixedNumbers (x .settled))
+  unfolding Fit nameWidths fixedWidths
+  settled-fits = w .name .1
+
+  settled-read : fixedFrom 1 (fields nameWidths 0 (streamOctets x)) ≡ x .settled
+  unfolding fixedNumbers
+  settled-read =
+      ap (fixedFrom 1) (name-read x (w .name)) ∙ fixed-back (x .settled) (fit-fixed (x .settled) settled-fits (w .rank)) (x .id ∷ []) []
+
+  pub stream-read : toStream (streamOctets x) ≡ x
+  unfolding toStream idOf
+  stream-read =
+      let cs = all-map FitCell (λ c. toCell (cellOctets c) ≡ c) cell-read (x .cells) (w .cells) in
+      let rs = all-map FitResult (λ r. toResult (resultOctets r) ≡ r) result-read (x .results) (w .results) in
+      rw (
+        id-read x (w .name),
+        settled-read,
+        cells-of x (w .eight-cells) (w .eight-results),
+        results-of x (w .eight-cells) (w .eight-results),
+        many-read 39 8 cellOctets toCell (x .cells) (w .eight-cells) (cells-sized (x .cells)) cs,
+        many-read 20 8 resultOctets toResult (x .results) (w .eight-results) (results-sized (x .results)) rs,
+      )
+
+-- A bridge.
+
+module _ (b : Bridge) (w : FitBridge b) where
+  streams-read : parts 493 toStream (countField (encode b)) (recordsPart (encode b)) ≡ b .streams
+  streams-read =
+      let o = fit-whole b w in
+      rw (count-read b o (w .clock), records-read b o)
+      (parts-flat 493 streamOctets toStream (b .streams) (zeros (493 * (64 - length (b .streams)))) (o .streams)
+      (all-map FitStream (λ x. toStream (streamOctets x) ≡ x) stream-read (b .streams) (w .streams)))
+
+  pub bridge-read : decode (encode b) ≡ b
+  unfolding decode
+  bridge-read =
+      let o = fit-whole b w in
+      rw (settings-decoded b o (w .settings), clock-read b o (w .clock), totals-decoded b o (w .totals), streams-read)
+
+-- Laid out: the octets are those of what is read from them.
+
+module _ (s : List ℕ) where
+  pub laid-cell : (l : LaidCell s) → toCell s ≡ l .cell
+  laid-cell l = ap toCell (l .is) ∙ cell-read (l .cell) (l .fits)
+
+  pub laid-cell-is : LaidCell s → s ≡ cellOctets (toCell s)
+  laid-cell-is l = l .is ∙ ap cellOctets (sym (laid-cell l))
+
+  pub laid-cell-fits : LaidCell s → FitCell (toCell s)
+  laid-cell-fits l = subst FitCell (sym (laid-cell l)) (l .fits)
+
+  pub laid-result : (l : LaidResult s) → toResult s ≡ l .result
+  laid-result l = ap toResult (l .is) ∙ result-read (l .result) (l .fits)
+
+  pub laid-result-is : LaidResult s → s ≡ resultOctets (toResult s)
+  laid-result-is l = l .is ∙ ap resultOctets (sym (laid-result l))
+
+  pub laid-result-fits : LaidResult s → FitResult (toResult s)
+  laid-result-fits l = subst FitResult (sym (laid-result l)) (l .fits)
+
+  pub laid-stream : (l : LaidStream s) → toStream s ≡ l .stream
+  laid-stream l = ap toStream (l .is) ∙ stream-read (l .stream) (l .fits)
+
+  pub laid-stream-is : LaidStream s → s ≡ streamOctets (toStream s)
+  laid-stream-is l = l .is ∙ ap streamOctets (sym (laid-stream l))
+
+  pub laid-stream-fits : LaidStream s → FitStream (toStream s)
+  laid-stream-fits l = subst FitStream (sym (laid-stream l)) (l .fits)
+
+  pub laid-bridge : (l : Laid s) → decode s ≡ l .bridge
+  laid-bridge l = ap decode (l .is) ∙ bridge-read (l .bridge) (l .fits)
+
+  pub laid-is : Laid s → s ≡ encode (decode s)
+  laid-is l = l .is ∙ ap encode (sym (laid-bridge l))
+
+  pub laid-fits : Laid s → FitBridge (decode s)
+  laid-fits l = subst FitBridge (sym (laid-bridge l)) (l .fits)
+
+-- What keeps the form rules fits.
+
+talker-rank : (clock leave : ℕ) (t : Talker) → ValidTalker clock leave t → FitRank t
+talker-rank clock leave noTalker v = tt
+talker-rank clock leave (talker f w m l) v = v .0 .rank
+
+-- at a bridge with this clock and leave time
+module _ (ports clock leave : ℕ) (small : clock < 2 ^ 32) where
+  pub valid-cell-fits : (c : Cell) → ValidCell clock leave c → FitCell c
+  valid-cell-fits c v = record { numbers = cell-fit clock leave c v small; rank = talker-rank clock leave (c .talks) (v .talks) }
+
+  pub valid-result-fits : (r : Result) → ValidResult clock r → FitResult r
+  valid-result-fits r v = result-fit clock r v small
+
+  pub valid-stream-fits : (x : Stream) → ValidStream ports clock leave x → FitStream x
+  unfolding Fit nameWidths fixedWidths
+  valid-stream-fits x v = record {
+    name = v .id also fixed-fit (x .settled) (v .settled);
+    rank = v .settled .rank;
+    eight-cells = v .eight-cells;
+    cells = all-map (ValidCell clock leave) FitCell valid-cell-fits (x .cells) (v .cells);
+    eight-results = v .eight-results;
+    results = all-map (ValidResult clock) FitResult valid-result-fits (x .results) (v .results);
+  }
+
+rising-ascends : (l : List ℕ) → Rising l → Ascending l
+unfolding Rising
+rising-ascends [] r = tt
+rising-ascends (i ∷ l) r = (r .0, rising-ascends l (r .1))
+
+pub ascending-rises : (l : List ℕ) → Ascending l → Rising l
+unfolding Rising
+ascending-rises [] a = tt
+ascending-rises (i ∷ l) a = (a .0, ascending-rises l (a .1))
+
+pub valid-fits : (b : Bridge) → Valid b → FitBridge b
+valid-fits b v =
+    let n = length (b .settings .ports) in
+    let t = b .settings .leaveTime in
+    record {
+      settings = settings-fit (b .settings) (v .settings);
+      clock = v .clock;
+      eight-totals = v .eight-totals;
+      totals = totals-fit (b .totals) (b .settings .ports) (v .settings .ports) (v .totals);
+      at-most-64 = v .at-most-64;
+      streams = all-map (ValidStream n (b .clock) t) FitStream (valid-stream-fits n (b .clock) t (v .clock)) (b .streams) (v .streams);
+      ascending = rising-ascends (ids (b .streams)) (v .ascending);
+    }
+
+-- octets that keep the form rules are laid out
+pub formed-laid : (t : List ℕ) → Octets t → formed t ≡ true → Laid t
+formed-laid t o f = record {
+  bridge = decode t;
+  fits = valid-fits (decode t) (valid-decode t o f);
+  is = sym (encode-decode t o f);
+}
