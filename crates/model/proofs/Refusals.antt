@@ -1,6 +1,7 @@
 -- Demand 1: what each call answers for every input. A refused call alters no octet and gives zero for every other part of its
 -- answer; and each number is given exactly when 01's table says so, in 01's order. Nothing is asked of table, settings, frame,
--- time, place or buffer. (write and report give back no table: they are functions of the table that they are handed.)
+-- time, place or buffer, but that `receive-nothing-new` is about a table of octets. (write and report give back no table: they are
+-- functions of the table that they are handed.)
 use mathlib.Core.Path.{_≡_, refl, sym, _∙_, ap, subst}
 use mathlib.Core.Logic.{_↔_, Iff·rfl, Iff·trans, Iff·and, _⊎_, inl, inr, ⊎-elim}
 use mathlib.Core.List.{List, [], _∷_, List·Memᴰ, List·Memᴰ·not-nil, List·Memᴰ·cases-cons}
