@@ -5,13 +5,13 @@ use native.Mathlib.Nat.{add-zero, zero-add, add-assoc, add-mul, mul-assoc, suc-m
 use native.Mathlib.Omega.{arith}
 use mathlib.Core.Path.{_≡_, refl, sym, ap, _∙_}
 use mathlib.Core.List.{List, [], _∷_, _++_, append-assoc}
-use lib.ListN.{length, getD, set, take, drop, length-append, List·getD-append, length-replicate, replicate-append-replicate}
+use lib.ListN.{length, getD, set, take, drop, length-append, length-take, length-drop, take-append-drop, List·getD-append, length-replicate, replicate-append-replicate}
 use lib.Seq.{getD-append-add, take-add, drop-drop, take-append-add, drop-append-add, take-at, drop-at}
 use Rattle.octets.specs.Be.{beAt, be}
 use Rattle.octets.specs.Fields.{fields, packed, Fit, width, flat}
 use Rattle.octets.specs.Parts.{part, patch, zeros}
 use Rattle.octets.proofs.Be.{length-be, beAt-ext, beAt-be, be-zero, put-none}
-use Rattle.octets.proofs.Parts.{part-none, part-more}
+use Rattle.octets.proofs.Parts.{length-part, part-none, part-more}
 use Rattle.octets.proofs.Frame.{getD-part}
 
 -- Octets: each element, also that found past the end, is below 256.
@@ -177,6 +177,15 @@ fit-append [] (v ∷ vs) us xs h k = absurd h
 fit-append (w ∷ ws) [] us xs h k = absurd h
 fit-append (w ∷ ws) (v ∷ vs) us xs h k = (h .0, fit-append ws vs us xs (h .1) k)
 
+pub fit-split : (ws vs us xs : List ℕ) → length vs ≡ length ws → Fit (ws ++ us) (vs ++ xs) → Fit ws vs × Fit us xs
+unfolding Fit
+fit-split [] [] us xs e h = (tt, h)
+fit-split [] (v ∷ vs) us xs e h = absurd (omega arith)
+fit-split (w ∷ ws) [] us xs e h = absurd (omega arith)
+fit-split (w ∷ ws) (v ∷ vs) us xs e h =
+    let more = fit-split ws vs us xs (omega arith) (h .1) in
+    ((h .0, more .0), more .1)
+
 -- Zeros.
 
 pub fit-zeros : (ws : List ℕ) → Fit ws (zeros (length ws))
@@ -306,6 +315,29 @@ module _ (bs ws cs us vs xs : List ℕ) (p : length us ≡ length bs) (q : lengt
         packed-append ws cs ys xs r,
       )
 
-  pub clear-fields : patch (width bs) (width ws) (zeros (width ws)) (packed (bs ++ (ws ++ cs)) (us ++ (vs ++ xs)))
-      ≡ packed (bs ++ (ws ++ cs)) (us ++ (zeros (length ws) ++ xs))
-  clear-fields = rw (← packed-zeros ws) (put-fields (zeros (length ws)) (length-replicate (length ws) 0))
+-- the k fields from field i on
+module _ (ws vs : List ℕ) (i k : ℕ) (e : length vs ≡ length ws) (h : i + k ≤ length ws) where
+  pub part-run : part (width (take i ws)) (width (part i k ws)) (packed ws vs) ≡ packed (part i k ws) (part i k vs)
+  unfolding part
+  part-run =
+      let p : length (take i vs) ≡ length (take i ws) = simp length-take (omega arith) in
+      let q : length (take k (drop i vs)) ≡ length (take k (drop i ws)) = simp (length-take, length-drop) (omega arith) in
+      rw (take-append-drop k (drop i ws), take-append-drop i ws, take-append-drop k (drop i vs), take-append-drop i vs)
+      at (part-fields (take i ws) (take k (drop i ws)) (drop k (drop i ws)) (take i vs) (take k (drop i vs)) (drop k (drop i vs)) p q)
+
+  pub put-run : (ys : List ℕ) → length ys ≡ k
+      → patch (width (take i ws)) (width (part i k ws)) (packed (part i k ws) ys) (packed ws vs) ≡ packed ws (patch i k ys vs)
+  unfolding part patch
+  put-run ys r =
+      let p : length (take i vs) ≡ length (take i ws) = simp length-take (omega arith) in
+      let q : length (take k (drop i vs)) ≡ length (take k (drop i ws)) = simp (length-take, length-drop) (omega arith) in
+      let g : length ys ≡ length (take k (drop i ws)) = simp (length-take, length-drop) (omega arith) in
+      rw (take-append-drop k (drop i ws), take-append-drop i ws, take-append-drop k (drop i vs), take-append-drop i vs)
+      at (put-fields (take i ws) (take k (drop i ws)) (drop k (drop i ws)) (take i vs) (take k (drop i vs)) (drop k (drop i vs)) p q ys g)
+
+  pub clear-run : patch (width (take i ws)) (width (part i k ws)) (zeros (width (part i k ws))) (packed ws vs) ≡ packed ws (patch i k (zeros k) vs)
+  clear-run =
+      let g : length (part i k ws) ≡ k = length-part i k ws h in
+      ap (λ (l : List ℕ). patch (width (take i ws)) (width (part i k ws)) l (packed ws vs))
+      (sym (packed-zeros (part i k ws)) ∙ ap (λ (n : ℕ). packed (part i k ws) (zeros n)) g)
+      ∙ put-run (zeros k) (length-replicate k 0)
