@@ -196,11 +196,7 @@ impl Table {
         }
         let (pdu, taken) = declarations::first_pdu(&declarations[place..]);
         buffer[..pdu.len()].copy_from_slice(&pdu);
-        Ok(WriteAnswer {
-            number: numbers::ACCEPTED,
-            length: pdu.len(),
-            next_place: place + taken,
-        })
+        Ok(WriteAnswer { number: numbers::ACCEPTED, length: pdu.len(), next_place: place + taken })
     }
 
     /// report: 12, 1, 13.

@@ -12,7 +12,7 @@ use crate::pdu::{self, AttributeType, Event, Message, Pdu, Value, Vector};
 use crate::records::{Call, Watcher};
 use crate::registrations::MOST_STREAMS;
 use crate::settings::{self, Settings, MOST_PORTS};
-use crate::settling::{self, Column, Decision, Step};
+use crate::settling::{self, ByStreamAndPort, Column, Decision, Step};
 use crate::sheet;
 use crate::words;
 
@@ -210,7 +210,7 @@ fn is_talker(attribute_type: AttributeType) -> bool {
 }
 
 /// The decisions that the last advance came to. They follow from what it left.
-fn decisions(bridge: &Bridge) -> BTreeMap<(u64, usize), Decision> {
+fn decisions(bridge: &Bridge) -> ByStreamAndPort<Decision> {
     let mut since = BTreeMap::new();
     for (stream_id, ports) in &bridge.settled.streams {
         for (port, settled_on_port) in (1..).zip(ports) {
@@ -219,7 +219,7 @@ fn decisions(bridge: &Bridge) -> BTreeMap<(u64, usize), Decision> {
             }
         }
     }
-    settling::decide(&bridge.settings, &bridge.registrations, &since).0
+    settling::decide(&bridge.settings, &bridge.registrations, &since).columns
 }
 
 fn talker_port(bridge: &Bridge, stream_id: u64) -> Option<usize> {

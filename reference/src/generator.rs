@@ -76,9 +76,12 @@ fn plan(random: &mut Random, size: Size) -> Plan {
     let ports: Vec<PortSettings> = (0..port_count).map(|_| port_settings(random)).collect();
     let any_leave_time = random.between(1, 16_383) as u32;
     let leave_time = random.one_of(&[60, 60, 60, 100, 1, 2, 10, 250, 16_383, any_leave_time]);
-    let bridge_id = random.next() >> random.one_of(&[0, 0, 16, 63]);
+    let bridge_id = random.bits() >> random.one_of(&[0, 0, 16, 63]);
     let mut settings = Settings { bridge_id, priority, leave_time, ports };
-    let groups = groups(random, &settings, size);
+    let mut groups = groups(random, &settings, size);
+    if random.percent(35) {
+        make_rivals(random, &mut settings, &mut groups);
+    }
     choose_limits(random, &mut settings, &groups);
     Plan { settings, groups, size }
 }
@@ -98,7 +101,7 @@ fn port_settings(random: &mut Random) -> PortSettings {
     let latency = |random: &mut Random| match random.below(8) {
         0..=2 => 0,
         3..=5 => random.between(1, 2_000_000) as u32,
-        6 => random.next() as u32,
+        6 => random.bits() as u32,
         _ => u32::MAX - random.below(3) as u32,
     };
     PortSettings {
@@ -135,7 +138,8 @@ fn groups(random: &mut Random, settings: &Settings, size: Size) -> Vec<Group> {
     }
     let mut groups: Vec<Group> = Vec::new();
     for (place, members) in members.into_iter().enumerate() {
-        let mac = 0x0200_0000_0001 + if size == Size::Full { place as u64 } else { random.below(3) };
+        let mac =
+            0x0200_0000_0001 + if size == Size::Full { place as u64 } else { random.below(3) };
         let unique_id = match random.below(10) {
             0..=3 => random.below(4),
             4..=5 => 0x10000 - members, // the last one is FFFF
@@ -172,7 +176,7 @@ fn accumulated_latency(random: &mut Random) -> u32 {
     match random.below(8) {
         0..=2 => 0,
         3..=4 => random.below(1_000_000) as u32,
-        5 => random.next() as u32,
+        5 => random.bits() as u32,
         6 => u32::MAX - random.below(1_000) as u32,
         _ => u32::MAX,
     }
@@ -195,7 +199,7 @@ fn parameters(random: &mut Random, settings: &Settings) -> Parameters {
         10..=16 => settings.priority.b,
         _ => random.below(8) as u8,
     };
-    let any_vlan = random.next() as u16;
+    let any_vlan = random.bits() as u16;
     Parameters {
         destination: 0,
         vlan: random.one_of(&[2, 2, 2, 0, 0x0fff, 0xffff, any_vlan]),
@@ -203,6 +207,28 @@ fn parameters(random: &mut Random, settings: &Settings) -> Parameters {
         max_interval_frames: random.one_of(&[1, 1, 1, 1, 1, 1, 2, 2, 3, 10, 0, 65_535]),
         priority,
         rank: random.percent(65).into(),
+    }
+}
+
+/// Makes all streams ask for the same in one class, so that importance alone decides among them.
+fn make_rivals(random: &mut Random, settings: &mut Settings, groups: &mut [Group]) {
+    for port in &mut settings.ports {
+        port.supports = PerClass { a: true, b: true };
+        port.largest_frame = port.largest_frame.max(1_000);
+    }
+    let first = groups[0].first.parameters;
+    let priority = random.one_of(&[settings.priority.a, settings.priority.b]);
+    let max_frame_size = random.one_of(&[64, 224, 1_000]);
+    let max_interval_frames = random.between(1, 3) as u16;
+    let both_ranks = random.percent(50);
+    for group in groups {
+        let parameters = &mut group.first.parameters;
+        parameters.priority = priority;
+        parameters.max_frame_size = max_frame_size;
+        parameters.max_interval_frames = max_interval_frames;
+        if !both_ranks {
+            parameters.rank = first.rank;
+        }
     }
 }
 
@@ -278,9 +304,9 @@ fn vector(
     let one_type = random.one_of(&[READY, READY, READY, READY_FAILED, ASKING]);
     let mixed_types = random.percent(25);
     let listener_types = match attribute_type {
-        AttributeType::Listener => (0..count)
-            .map(|_| if mixed_types { random.below(4) as u8 } else { one_type })
-            .collect(),
+        AttributeType::Listener => {
+            (0..count).map(|_| if mixed_types { random.below(4) as u8 } else { one_type }).collect()
+        }
         _ => Vec::new(),
     };
     let spare = random.percent(10);
@@ -317,7 +343,7 @@ fn first_value(
             if attribute_type == AttributeType::TalkerFailed {
                 let any_code = random.octet();
                 let code = random.one_of(&[0, 1, 2, 8, 255, any_code]);
-                talker.failure = Some(Failure { bridge_id: random.next(), code });
+                talker.failure = Some(Failure { bridge_id: random.bits(), code });
             }
             let mut octets = declarations::first_value(&talker);
             if random.percent(10) {
@@ -461,88 +487,110 @@ fn unknown_message(random: &mut Random) -> MessageDraft {
     }
 }
 
-/// A frame damaged in one of many ways. Some of the damage does no harm.
+/// A frame damaged in one or more of many ways. Some of the damage does no harm.
 fn damaged(random: &mut Random, mut frame: FrameDraft) -> Vec<u8> {
-    if frame.messages.is_empty() || frame.messages.iter().any(|message| message.vectors.is_empty())
-    {
-        return random.one_of(&[vec![], vec![0], vec![0, 0], vec![0, 0, 0], vec![0, 0, 1]]);
+    for _ in 0..random.one_of(&[0, 1, 1, 1, 1, 1, 2, 2]) {
+        damage(random, &mut frame);
     }
-    let place = random.below(frame.messages.len() as u64) as usize;
-    let message = &mut frame.messages[place];
-    let vector_place = random.below(message.vectors.len() as u64) as usize;
-    let vector = &mut message.vectors[vector_place];
-    match random.below(24) {
+    let mut octets = frame.octets();
+    match random.below(20) {
         0..=1 => {
-            let mut octets = frame.octets();
             for _ in 0..random.between(1, 3) {
                 let place = random.below(octets.len() as u64) as usize;
                 octets[place] ^= 1 << random.below(8);
             }
-            return octets;
         }
-        2..=3 => {
-            let mut octets = frame.octets();
-            octets.truncate(random.below(octets.len() as u64 + 1) as usize);
-            return octets;
+        2..=3 => octets.truncate(random.below(octets.len() as u64 + 1) as usize),
+        4 => {
+            let length = random.one_of(&[1500, 1500, 1501, 1501, 1499, 3000]);
+            octets.resize(length.max(octets.len()), 0);
         }
-        4 => message.list_length_off = random.one_of(&[-2, -1, 1, 2, 3, 4, 300]),
-        5 => message.attribute_type = random.one_of(&[0, 0, 5, 255]),
+        5 => {
+            octets = vec![random.one_of(&[0, 0, 1, 255])];
+            octets.extend(octets_up_to(random, 60));
+        }
         6 => {
+            octets = random.one_of(&[vec![], vec![0], vec![7], vec![0, 0], vec![0, 0, 0]]);
+        }
+        _ => {}
+    }
+    octets
+}
+
+/// One damage to the parts of a frame.
+fn damage(random: &mut Random, frame: &mut FrameDraft) {
+    match random.below(10) {
+        0 => {
+            frame.end_mark = false;
+            frame.after = random.one_of(&[vec![0], vec![1], vec![0, 1], vec![0, 1, 0, 0]]);
+            return;
+        }
+        1 => {
+            let place = random.below(frame.messages.len() as u64 + 1) as usize;
+            let message = unknown_message(random);
+            frame.messages.insert(place, message);
+            return;
+        }
+        _ if frame.messages.is_empty() => return,
+        _ => {}
+    }
+    let place = random.below(frame.messages.len() as u64) as usize;
+    if random.percent(8) {
+        // AttributeType 0, at any version.
+        frame.messages[place].attribute_type = 0;
+        frame.version = random.one_of(&[0, 0, 1, 200]);
+        return;
+    }
+    let message = &mut frame.messages[place];
+    match random.below(20) {
+        0..=1 => message.list_length_off = random.one_of(&[-2, -1, 1, 2, 3, 4, 300]),
+        2 => message.attribute_type = random.one_of(&[5, 255, 1, 2, 3, 4]),
+        3..=4 => {
             message.attribute_length =
                 random.one_of(&[0, 4, 8, 25, 34, message.attribute_length.wrapping_add(1)])
         }
-        7 => message.list_end_mark = false,
-        8 => message.after_list_end_mark = octets_up_to(random, 4),
-        9 => message.after_list_end_mark = vec![0, 0],
-        10..=11 => vector.first_event_octet = Some(random.between(214, 255) as u8),
-        12 => vector.leave_all_event = random.between(2, 7) as u8,
-        13 => {
-            let values = vector.events.len() as u64;
-            vector.number_of_values =
-                Some(random.one_of(&[values + 1, values + 3, values + 4, 0x1fff]) as u16);
+        5 => message.list_end_mark = false,
+        6 => message.after_list_end_mark = octets_up_to(random, 4),
+        7 => message.after_list_end_mark = vec![0, 0],
+        _ if message.vectors.is_empty() => {}
+        damage => {
+            let vector_place = random.below(message.vectors.len() as u64) as usize;
+            let vector = &mut message.vectors[vector_place];
+            match damage {
+                8..=10 => {
+                    let any = random.between(216, 255) as u8;
+                    vector.first_event_octet = Some(random.one_of(&[215, 216, 216, 217, 255, any]));
+                }
+                11..=12 => vector.leave_all_event = random.one_of(&[2, 2, 3, 4, 7]),
+                13..=14 => {
+                    let values = vector.events.len() as u64;
+                    vector.number_of_values =
+                        Some(random.one_of(&[values + 1, values + 3, values + 4, 0x1fff]) as u16);
+                }
+                15..=18 => near_the_fields_end(random, message.attribute_type, vector),
+                _ => vector.events.push(random.below(6) as u8),
+            }
         }
-        14..=16 => near_the_fields_end(random, message.attribute_type, vector),
-        17 => {
-            frame.end_mark = false;
-            frame.after = random.one_of(&[vec![0], vec![1], vec![0, 1], vec![0, 1, 0, 0]]);
-        }
-        18 => return padded(random, &frame),
-        19 => {
-            let mut octets = vec![random.one_of(&[0, 0, 1, 255])];
-            octets.extend(octets_up_to(random, 60));
-            return octets;
-        }
-        20 => frame.messages.insert(place, unknown_message(random)),
-        21 => message.attribute_type = random.between(1, 4) as u8,
-        22 => return random.one_of(&[vec![], vec![0], vec![7], vec![0, 0], vec![0, 0, 0]]),
-        _ => vector.events.push(random.below(6) as u8),
     }
-    frame.octets()
 }
 
 /// Moves a vector's values to the end of a field, or one past it.
 fn near_the_fields_end(random: &mut Random, attribute_type: u8, vector: &mut VectorDraft) {
     let last = (vector.events.len() as u64).saturating_sub(1);
     let past = random.below(2);
-    match attribute_type {
-        4 => vector.first_value[random.below(2) as usize] = (255 - last.min(255) + past).min(255) as u8,
-        1 | 2 if random.percent(50) => {
-            let destination = ((1 << 48) - 1 - last + past).min((1 << 48) - 1);
+    let first = |greatest: u64| greatest.saturating_sub(last).saturating_add(past).min(greatest);
+    match (attribute_type, vector.first_value.len()) {
+        (4, 4) => vector.first_value[random.below(2) as usize] = first(0xff) as u8,
+        (1 | 2, 25 | 34) if random.percent(50) => {
+            let destination = first((1 << 48) - 1);
             vector.first_value[8..14].copy_from_slice(&destination.to_be_bytes()[2..]);
         }
-        _ => {
-            let unique_id = (0xffff - last + past).min(0xffff) as u16;
+        (_, 8 | 25 | 34) => {
+            let unique_id = first(0xffff) as u16;
             vector.first_value[6..8].copy_from_slice(&unique_id.to_be_bytes());
         }
+        _ => {}
     }
-}
-
-/// A frame with octets behind it, up to 1,500 or above.
-fn padded(random: &mut Random, frame: &FrameDraft) -> Vec<u8> {
-    let mut octets = frame.octets();
-    let length = random.one_of(&[1500, 1500, 1501, 1501, 1499, 3000]);
-    octets.resize(length.max(octets.len()), 0);
-    octets
 }
 
 // ---- settings that are refused ----
@@ -693,9 +741,13 @@ impl History {
             }
         }
         self.random.shuffle(&mut frames);
+        let staggered = self.random.percent(30);
         for (port, frame) in frames {
             self.receive(port, &frame.octets());
-            if self.random.percent(8) {
+            if staggered {
+                let time = self.clock().saturating_add(self.random.below(120) as u32);
+                self.advance(time);
+            } else if self.random.percent(8) {
                 self.some_advance(plan);
             }
         }
@@ -946,8 +998,7 @@ impl History {
 
     /// A write or report with any arguments.
     fn some_look(&mut self, plan: &Plan) {
-        let port =
-            if self.random.percent(88) { self.port(plan) } else { self.wrong_port(plan) };
+        let port = if self.random.percent(88) { self.port(plan) } else { self.wrong_port(plan) };
         if self.random.percent(50) {
             let count = match &self.table.bridge {
                 Some(bridge) if (1..=bridge.settings.ports.len()).contains(&(port as usize)) => {
@@ -974,7 +1025,7 @@ impl History {
             6..=7 => count,
             8..=9 => count + 1,
             10 => self.random.below(u64::from(count) + 1) as u16,
-            _ => self.random.next() as u16,
+            _ => self.random.bits() as u16,
         }
     }
 

@@ -12,7 +12,7 @@ impl Random {
     }
 
     /// The next 64 bits.
-    pub fn next(&mut self) -> u64 {
+    pub fn bits(&mut self) -> u64 {
         self.state = self.state.wrapping_add(0x9e37_79b9_7f4a_7c15);
         let mut z = self.state;
         z = (z ^ z >> 30).wrapping_mul(0xbf58_476d_1ce4_e5b9);
@@ -22,7 +22,7 @@ impl Random {
 
     /// A number below the bound, which is 1 or more.
     pub fn below(&mut self, bound: u64) -> u64 {
-        self.next() % bound
+        self.bits() % bound
     }
 
     /// A number from first to last, both included.
@@ -53,7 +53,7 @@ impl Random {
     }
 
     pub fn octet(&mut self) -> u8 {
-        self.next() as u8
+        self.bits() as u8
     }
 
     pub fn octets(&mut self, length: usize) -> Vec<u8> {

@@ -170,10 +170,8 @@ impl Registrations {
 
     fn on_port(&mut self, port: usize, stream_id: StreamId) -> &mut OnPort {
         let port_count = self.port_count;
-        let ports = self
-            .streams
-            .entry(stream_id)
-            .or_insert_with(|| vec![OnPort::default(); port_count]);
+        let ports =
+            self.streams.entry(stream_id).or_insert_with(|| vec![OnPort::default(); port_count]);
         &mut ports[port - 1]
     }
 

@@ -142,7 +142,7 @@ struct FieldsOut {
 impl FieldsOut {
     fn put(&mut self, bits: usize, field: u64) {
         for place in (0..bits).rev() {
-            if self.bits_put % 8 == 0 {
+            if self.bits_put / 8 == self.octets.len() {
                 self.octets.push(0);
             }
             let bit = (field >> place & 1) as u8;

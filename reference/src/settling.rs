@@ -184,7 +184,7 @@ fn entries_since(
     registrations: &Registrations,
     clock: u32,
     before: &Settled,
-) -> BTreeMap<(StreamId, usize), u32> {
+) -> ByStreamAndPort<u32> {
     let mut since = BTreeMap::new();
     for (stream_id, ports) in &registrations.streams {
         for port in 1..=settings.ports.len() {
@@ -212,14 +212,23 @@ fn listener_type(on_port: &OnPort) -> Option<ListenerType> {
     on_port.listener.as_ref().map(|listener| listener.listener_type)
 }
 
-/// The columns of all streams on all ports, by stream and port, and the reserved sums of each
-/// port.
+/// Something for each stream on each port, port 1 first.
+pub type ByStreamAndPort<T> = BTreeMap<(StreamId, usize), T>;
+
+/// What all streams come to on all ports.
+pub struct Decisions {
+    pub columns: ByStreamAndPort<Decision>,
+    /// The reserved sums of each port, port 1 first.
+    pub totals: Vec<PerClass<u64>>,
+}
+
+/// The columns of all streams on all ports, and the reserved sums of each port.
 pub fn decide(
     settings: &Settings,
     registrations: &Registrations,
-    entries_since: &BTreeMap<(StreamId, usize), u32>,
-) -> (BTreeMap<(StreamId, usize), Decision>, Vec<PerClass<u64>>) {
-    let mut decisions = BTreeMap::new();
+    entries_since: &ByStreamAndPort<u32>,
+) -> Decisions {
+    let mut columns = BTreeMap::new();
     let mut totals = Vec::new();
     for (port, port_settings) in (1..).zip(&settings.ports) {
         // Those that reach step h, by class.
@@ -227,8 +236,7 @@ pub fn decide(
         for (stream_id, ports) in &registrations.streams {
             match column_before_bandwidth(settings, ports, port) {
                 Some((step, column)) => {
-                    decisions
-                        .insert((*stream_id, port), Decision { step, column, compared: None });
+                    columns.insert((*stream_id, port), Decision { step, column, compared: None });
                 }
                 None => {
                     let (_, talker) = talker_port(ports).expect("step a has passed");
@@ -270,12 +278,12 @@ pub fn decide(
                     }
                     Decision { step: Step::I, column: Column::Advertise, compared }
                 };
-                decisions.insert((stream_id, port), decision);
+                columns.insert((stream_id, port), decision);
             }
         }
         totals.push(total);
     }
-    (decisions, totals)
+    Decisions { columns, totals }
 }
 
 /// The entry of Table 35-12.
@@ -325,14 +333,14 @@ pub fn settle(
     before: &Settled,
 ) -> Settled {
     let since = entries_since(settings, registrations, clock, before);
-    let (decisions, totals) = decide(settings, registrations, &since);
+    let Decisions { columns, totals } = decide(settings, registrations, &since);
     let mut streams = BTreeMap::new();
     for (stream_id, ports) in &registrations.streams {
         let talker = talker_port(ports);
         let mut settled_ports = Vec::new();
         let mut merged = None;
         for (port, on_port) in (1..).zip(ports) {
-            let column = decisions[&(*stream_id, port)].column;
+            let column = columns[&(*stream_id, port)].column;
             let listener = listener_type(on_port);
             merged = merge(merged, passed_on(column, listener));
             let failure = match column {

@@ -69,7 +69,10 @@ pub fn talker(stream_id: StreamId) -> Talker {
 
 /// The same, failed.
 pub fn failed(stream_id: StreamId, code: u8) -> Talker {
-    Talker { failure: Some(Failure { bridge_id: 0x1111_2222_3333_4444, code }), ..talker(stream_id) }
+    Talker {
+        failure: Some(Failure { bridge_id: 0x1111_2222_3333_4444, code }),
+        ..talker(stream_id)
+    }
 }
 
 pub fn type_of(talker: &Talker) -> AttributeType {
@@ -171,7 +174,11 @@ pub fn held(table: &Table) -> Vec<StreamId> {
 }
 
 /// The Listener type registered on a port.
-pub fn registered_listener(table: &Table, port: usize, stream_id: StreamId) -> Option<ListenerType> {
+pub fn registered_listener(
+    table: &Table,
+    port: usize,
+    stream_id: StreamId,
+) -> Option<ListenerType> {
     let bridge = table.bridge.as_ref()?;
     let on_port = &bridge.registrations.streams.get(&stream_id)?[port - 1];
     on_port.listener.as_ref().map(|listener| listener.listener_type)

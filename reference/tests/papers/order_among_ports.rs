@@ -15,7 +15,7 @@ type Frames = Vec<(u32, Vec<u8>)>;
 fn shuffled(random: &mut Random, frames: &Frames) -> Vec<usize> {
     let mut ports: Vec<u32> = frames.iter().map(|(port, _)| *port).collect();
     random.shuffle(&mut ports);
-    let mut next = vec![0; 16];
+    let mut next = [0; 16];
     let mut order = Vec::new();
     for port in ports {
         let of_port: Vec<usize> = (0..frames.len()).filter(|n| frames[*n].0 == port).collect();

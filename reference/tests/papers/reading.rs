@@ -206,8 +206,7 @@ fn the_first_fault_met_wins_and_nothing_of_the_pdu_is_applied() {
 fn every_number_of_values_counts_for_7_whatever_its_event() {
     for event in [NEW, JOIN_IN, IN, JOIN_MT, MT, LV] {
         for listener_type in [IGNORE, ASKING, READY, READY_FAILED] {
-            let vector =
-                listener_vector(0x0200_0000_0001_ffff, &[event; 2], &[listener_type; 2]);
+            let vector = listener_vector(0x0200_0000_0001_ffff, &[event; 2], &[listener_type; 2]);
             assert_eq!(number(&one_message(AttributeType::Listener, vec![vector])), 7);
         }
         assert_eq!(number(&talker_frame(&talker(0xffff), &[event; 2])), 7);
@@ -270,11 +269,8 @@ fn domain_values_have_no_effect() {
 #[test]
 fn leave_all_with_0_values_needs_first_value_and_takes_effect() {
     // FirstValue FFFF.. would run past with more than one value; it isn't looked at.
-    let vector = VectorDraft {
-        leave_all_event: 1,
-        first_value: vec![0xff; 8],
-        ..VectorDraft::default()
-    };
+    let vector =
+        VectorDraft { leave_all_event: 1, first_value: vec![0xff; 8], ..VectorDraft::default() };
     let mut table = started(&settings(2));
     join_listener(&mut table, 1, STREAM, READY);
     let frame = one_message(AttributeType::Listener, vec![vector.clone()]);
@@ -298,11 +294,8 @@ fn header_0000_is_always_the_end_mark() {
 fn value_n_adds_n_to_unique_id_and_destination() {
     let frame = talker_frame(&talker(STREAM), &[JOIN_MT, MT, JOIN_IN, NEW]);
     let read = pdu::read(&frame).unwrap();
-    let values: Vec<Value> = read
-        .vectors()
-        .flat_map(|vector| &vector.values)
-        .map(|(_, value)| *value)
-        .collect();
+    let values: Vec<Value> =
+        read.vectors().flat_map(|vector| &vector.values).map(|(_, value)| *value).collect();
     let expected: Vec<Value> = (0..4).map(|n| Value::Talker(talker(STREAM + n))).collect();
     assert_eq!(values, expected);
 }

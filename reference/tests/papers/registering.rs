@@ -8,9 +8,11 @@ use reference::registrations::{OnPort, TalkerRegistration};
 
 fn on_port(table: &Table, port: usize) -> OnPort {
     let bridge = table.bridge.as_ref().unwrap();
-    bridge.registrations.streams.get(&STREAM).map_or(OnPort::default(), |ports| {
-        ports[port - 1].clone()
-    })
+    bridge
+        .registrations
+        .streams
+        .get(&STREAM)
+        .map_or(OnPort::default(), |ports| ports[port - 1].clone())
 }
 
 fn talker_on(table: &Table, port: usize) -> TalkerRegistration {

@@ -121,13 +121,15 @@ fn settings_fields_stand_where_the_paper_says() {
     settings.ports[0].largest_frame = 0x1234;
     settings.ports[0].limit = PerClass { a: 0x01_0203_0405, b: 0xf1_f2f3_f4f5 };
     settings.ports[0].latency = PerClass { a: 0x1122_3344, b: 0x5566_7788 };
-    let octets = [
-        1, 2, 3, 4, 5, 6, 7, 8, // Bridge ID
-        0b0001_101_1, 0b10_101010, 0b1011_1100, // ports 1, priorities 5 and 6, leave time
-        0b0_1_1_00000, 0x99, 0x12, 0x34, // supports, twice, zero, overhead, largest
-        1, 2, 3, 4, 5, 0xf1, 0xf2, 0xf3, 0xf4, 0xf5, // limits
-        0x11, 0x22, 0x33, 0x44, 0x55, 0x66, 0x77, 0x88, // latencies
-    ];
+    let bits = "0000000100000010000000110000010000000101000001100000011100001000 \
+                0001 101 110 10101010111100 \
+                0 1 1 00000 10011001 0001001000110100 \
+                0000000100000010000000110000010000000101 \
+                1111000111110010111100111111010011110101 \
+                00010001001000100011001101000100 01010101011001100111011110001000";
+    let bits: Vec<u8> = bits.bytes().filter(|c| *c != b' ').map(|c| c - b'0').collect();
+    let octets: Vec<u8> =
+        bits.chunks(8).map(|eight| eight.iter().fold(0, |octet, bit| octet << 1 | bit)).collect();
     assert_eq!(settings::read(&octets), Some(settings.clone()));
     assert_eq!(settings::write(&settings), octets);
 }

@@ -128,9 +128,7 @@ fn column_f_priority_that_is_no_class_gives_13_after_4() {
 
 #[test]
 fn column_g_max_frame_size_alone_above_the_largest_gives_14() {
-    for (size, expected) in
-        [(1522, "failed 1 none filter"), (1523, "failed 14 none filter")]
-    {
+    for (size, expected) in [(1522, "failed 1 none filter"), (1523, "failed 14 none filter")] {
         let mut large = talker(STREAM);
         large.parameters.max_frame_size = size;
         let table = settled_with(&settings(2), &large);
@@ -141,10 +139,9 @@ fn column_g_max_frame_size_alone_above_the_largest_gives_14() {
 #[test]
 fn column_h_a_demand_equal_to_what_is_left_is_admitted() {
     let mut settings = settings(2);
-    for (limit, expected) in [
-        (2 * 17_088_000, "advertise 0 none forward"),
-        (2 * 17_088_000 - 1, "failed 1 none filter"),
-    ] {
+    for (limit, expected) in
+        [(2 * 17_088_000, "advertise 0 none forward"), (2 * 17_088_000 - 1, "failed 1 none filter")]
+    {
         settings.ports[1].limit.a = limit;
         let mut table = started(&settings);
         for stream_id in [STREAM, STREAM + 1] {
@@ -273,9 +270,8 @@ fn age_is_counted_from_the_whole_second_of_the_advance_that_first_made_an_entry(
 #[test]
 fn age_is_forgotten_when_the_entry_goes_and_runs_on_while_it_stays() {
     let mut table = started(&settings(2));
-    let since = |table: &Table| {
-        table.bridge.as_ref().unwrap().settled.streams[&STREAM][1].entry_since
-    };
+    let since =
+        |table: &Table| table.bridge.as_ref().unwrap().settled.streams[&STREAM][1].entry_since;
     // A Listener without a Talker has an entry already.
     join_listener(&mut table, 2, STREAM, READY);
     advance(&mut table, 100);

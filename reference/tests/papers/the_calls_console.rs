@@ -124,8 +124,7 @@ fn settings_and_pdus_longer_than_what_a_call_is_handed_are_read_whole() {
 
 #[test]
 fn another_octet_stops_the_run() {
-    let known =
-        |octet: u8| matches!(octet, 0 | 0x10..=0x20 | 0x30..=0x51 | 0x60 | 0x61);
+    let known = |octet: u8| matches!(octet, 0 | 0x10..=0x20 | 0x30..=0x51 | 0x60 | 0x61);
     for octet in (0..=255).filter(|octet| !known(*octet)) {
         assert_eq!(lines(&[start(), vec![octet], start()]), ["start 0", "stop"]);
     }
@@ -159,8 +158,7 @@ fn an_input_that_ends_between_records_prints_nothing_more() {
 
 #[test]
 fn an_input_may_be_longer_than_65536_octets() {
-    let advance = vec![0x20, 0, 0, 0, 1];
-    let records = [start(), advance.repeat(20_000)];
+    let records = [start(), [0x20, 0, 0, 0, 1].repeat(20_000)];
     let lines = lines(&records);
     assert_eq!(lines.len(), 20_001);
     assert!(lines[1..].iter().all(|line| line == "advance 0"));

@@ -97,7 +97,7 @@ fn octets_past_65536_are_not_read() {
     let room = 65_536 - head().len() - join.len();
     let stream_lines = "0200000000010001 1 none 0 none none\n0200000000010001 2 none 0 none none\n";
     let whole = [filler(room), join.clone()].concat();
-    assert_eq!(sheet_of(&[whole.clone()]), format!("{PORTS}{stream_lines}"));
+    assert_eq!(sheet_of(&[whole.clone(), vec![]]), format!("{PORTS}{stream_lines}"));
     // What follows octet 65,536 is as if absent.
     assert_eq!(sheet_of(&[whole, vec![0xff; 9]]), format!("{PORTS}{stream_lines}"));
     // One octet later the record crosses the boundary and is cut.

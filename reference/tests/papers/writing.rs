@@ -270,8 +270,7 @@ impl Watcher for WritesReadBack {
         let bridge = table.bridge.as_ref().unwrap();
         let declared = declarations::of_port(&bridge.settled, *port as usize);
         let (octets, next) = written(table, *port, *place);
-        let expected =
-            WriteAnswer { number: 0, length: octets.len(), next_place: next };
+        let expected = WriteAnswer { number: 0, length: octets.len(), next_place: next };
         assert_eq!(*answer, expected);
         assert_eq!(read_back(&octets), declared[*place as usize..next]);
         assert!(octets.len() <= 1500);
