@@ -139,6 +139,7 @@ const ROWS: &[&str] = &[
     "changed mark set",
     "changed mark cleared",
     "leaving begun by Lv or LeaveAll",
+    "leaving begun again, the first time stays",
     "leaving ended by a join",
     "talker type replaced",
     "listener type replaced",
@@ -309,7 +310,7 @@ impl Coverage {
         }
     }
 
-    fn received(&mut self, octets: &[u8], number: Number, after: &Bridge) {
+    fn received(&mut self, port: u32, octets: &[u8], number: Number, after: &Bridge) {
         self.count_if("PDU of 0 octets", number == numbers::PDU_LENGTH && octets.is_empty());
         self.count_if("PDU of 1501 octets", number == numbers::PDU_LENGTH && octets.len() == 1501);
         let before = self.before.clone();
@@ -318,9 +319,11 @@ impl Coverage {
             numbers::ACCEPTED => {
                 self.count_if("PDU of 1500 octets accepted", octets.len() == 1500);
                 self.count_if("higher version accepted", octets[0] > 0);
-                self.pdu(&pdu::read(octets).expect("accepted"));
+                let pdu = pdu::read(octets).expect("accepted");
+                self.pdu(&pdu);
                 if let Some(before) = before {
                     self.registrations(&before, after);
+                    self.left_again(&before, port as usize, &pdu);
                 }
                 let held = after.registrations.streams.len();
                 if held > held_before {
@@ -435,6 +438,34 @@ impl Coverage {
                     self.count_if("leaving begun by Lv or LeaveAll", begun);
                     self.count_if("leaving ended by a join", was.is_some() && is.is_none());
                 }
+            }
+        }
+    }
+
+    /// Lv and LeaveAll of what began leaving at an earlier clock.
+    fn left_again(&mut self, before: &Bridge, port: usize, pdu: &Pdu) {
+        for vector in pdu.vectors() {
+            for (stream_id, ports) in &before.registrations.streams {
+                let on_port = &ports[port - 1];
+                let leaving = match vector.attribute_type {
+                    AttributeType::Listener => on_port.listener.as_ref().map(|held| held.leaving),
+                    attribute_type => on_port
+                        .talker
+                        .as_ref()
+                        .filter(|held| held.attribute_type() == attribute_type)
+                        .map(|held| held.leaving),
+                };
+                let earlier = leaving.flatten().is_some_and(|begun| begun < before.clock);
+                let left = vector.leave_all
+                    || vector.values.iter().any(|(event, value)| {
+                        let left_stream = match value {
+                            Value::Talker(talker) => Some(talker.stream_id),
+                            Value::Listener(stream_id, Some(_)) => Some(*stream_id),
+                            Value::Listener(_, None) | Value::Domain => None,
+                        };
+                        *event == Event::Lv && left_stream == Some(*stream_id)
+                    });
+                self.count_if("leaving begun again, the first time stays", earlier && left);
             }
         }
     }
@@ -645,7 +676,7 @@ impl Watcher for Coverage {
         if let (Some(bridge), true) = (&table.bridge, reached) {
             match call {
                 Call::Start(_) => {}
-                Call::Receive(_, octets) => self.received(octets, number, bridge),
+                Call::Receive(port, octets) => self.received(*port, octets, number, bridge),
                 Call::Advance(time) => {
                     if let (numbers::ACCEPTED, Some(before)) = (number, self.before.clone()) {
                         self.advanced(*time, &before, bridge);

@@ -786,11 +786,63 @@ impl History {
         self.receive(port, &FrameDraft::new(vec![message]).octets());
     }
 
+    /// A group of streams leaves on a port, by Lv or by LeaveAll.
+    fn leave(&mut self, port: u32, group: &Group, attribute_type: AttributeType) {
+        let mut vector = VectorDraft {
+            first_value: vec![0; attribute_type.first_value_length()],
+            ..VectorDraft::default()
+        };
+        if self.random.percent(35) {
+            vector.leave_all_event = 1;
+        } else {
+            let stream_id = group.first.stream_id.to_be_bytes();
+            vector.first_value[..8].copy_from_slice(&stream_id);
+            vector.events = vec![LV; group.members as usize];
+            if attribute_type == AttributeType::Listener {
+                vector.listener_types =
+                    vec![self.random.one_of(&[READY, ASKING]); vector.events.len()];
+            }
+        }
+        let message = MessageDraft::new(attribute_type, vec![vector]);
+        self.receive(port, &FrameDraft::new(vec![message]).octets());
+    }
+
+    /// A group leaves; before the leave time is over it leaves again, joins or does nothing; then
+    /// time goes to the end of the leave time, counted from the first leaving.
+    fn leave_and_wait(&mut self, plan: &Plan) {
+        let group = self.random.one_of(&plan.groups);
+        let port = if self.random.percent(50) { group.talker_port } else { self.port(plan) };
+        let attribute_type = match self.random.below(5) {
+            _ if port != group.talker_port => AttributeType::Listener,
+            0 => AttributeType::TalkerFailed,
+            _ => AttributeType::TalkerAdvertise,
+        };
+        let begun = self.clock();
+        let leave_time = plan.settings.leave_time;
+        self.leave(port, &group, attribute_type);
+        let part = self.random.below(u64::from(leave_time)) as u32;
+        self.advance(begun.saturating_add(part));
+        match self.random.below(6) {
+            0..=2 => self.leave(port, &group, attribute_type),
+            3 => {
+                let frame = frame(&mut self.random, plan, port);
+                self.receive(port, &frame.octets());
+            }
+            _ => {}
+        }
+        if self.random.percent(40) {
+            self.advance(begun.saturating_add(leave_time - 1));
+        }
+        if self.random.percent(80) {
+            self.advance(begun.saturating_add(leave_time));
+        }
+    }
+
     /// One thing that happens to a bridge: mostly a frame or an advance.
     fn step(&mut self, plan: &Plan) {
         let port = self.port(plan);
         let fill_weight = if plan.size == Size::Full { 8 } else { 1 };
-        match self.random.weighted(&[58, 26, 11, 3, fill_weight]) {
+        match self.random.weighted(&[58, 26, 11, 3, 3, fill_weight]) {
             0 => {
                 let frame = frame(&mut self.random, plan, port);
                 self.receive(port, &frame.octets());
@@ -809,6 +861,7 @@ impl History {
                 }
                 self.receive(port, &octets);
             }
+            4 => self.leave_and_wait(plan),
             _ => self.fill(plan),
         }
     }
