@@ -50,6 +50,8 @@ struct Plan {
     settings: Settings,
     groups: Vec<Group>,
     size: Size,
+    /// Whether all streams ask for the same in one class.
+    rivals: bool,
 }
 
 impl Plan {
@@ -78,12 +80,13 @@ fn plan(random: &mut Random, size: Size) -> Plan {
     let leave_time = random.one_of(&[60, 60, 60, 100, 1, 2, 10, 250, 16_383, any_leave_time]);
     let bridge_id = random.bits() >> random.one_of(&[0, 0, 16, 63]);
     let mut settings = Settings { bridge_id, priority, leave_time, ports };
-    let mut groups = groups(random, &settings, size);
-    if random.percent(35) {
+    let rivals = random.percent(30);
+    let mut groups = groups(random, &settings, size, rivals);
+    if rivals {
         make_rivals(random, &mut settings, &mut groups);
     }
-    choose_limits(random, &mut settings, &groups);
-    Plan { settings, groups, size }
+    choose_limits(random, &mut settings, &groups, rivals);
+    Plan { settings, groups, size, rivals }
 }
 
 fn port_settings(random: &mut Random) -> PortSettings {
@@ -114,12 +117,13 @@ fn port_settings(random: &mut Random) -> PortSettings {
     }
 }
 
-fn groups(random: &mut Random, settings: &Settings, size: Size) -> Vec<Group> {
+fn groups(random: &mut Random, settings: &Settings, size: Size, rivals: bool) -> Vec<Group> {
     let mut members = Vec::new();
     match size {
         Size::Small | Size::Middle | Size::Large => {
             let most = if size == Size::Small { 4 } else { 8 };
-            for _ in 0..random.between(1, most) {
+            let least = if rivals { 3 } else { 1 };
+            for _ in 0..random.between(least, most) {
                 members.push(match random.below(10) {
                     0..=4 => 1,
                     5..=8 => random.between(2, 4),
@@ -217,11 +221,13 @@ fn make_rivals(random: &mut Random, settings: &mut Settings, groups: &mut [Group
         port.largest_frame = port.largest_frame.max(1_000);
     }
     let first = groups[0].first.parameters;
+    let one_port = random.percent(60).then_some(groups[0].talker_port);
     let priority = random.one_of(&[settings.priority.a, settings.priority.b]);
     let max_frame_size = random.one_of(&[64, 224, 1_000]);
     let max_interval_frames = random.between(1, 3) as u16;
     let both_ranks = random.percent(50);
     for group in groups {
+        group.talker_port = one_port.unwrap_or(group.talker_port);
         let parameters = &mut group.first.parameters;
         parameters.priority = priority;
         parameters.max_frame_size = max_frame_size;
@@ -233,7 +239,7 @@ fn make_rivals(random: &mut Random, settings: &mut Settings, groups: &mut [Group
 }
 
 /// Limits around sums of demands, so that admission is decided both ways and exact fits occur.
-fn choose_limits(random: &mut Random, settings: &mut Settings, groups: &[Group]) {
+fn choose_limits(random: &mut Random, settings: &mut Settings, groups: &[Group], rivals: bool) {
     let priority = settings.priority;
     for port in &mut settings.ports {
         for class in CLASSES {
@@ -252,7 +258,7 @@ fn choose_limits(random: &mut Random, settings: &mut Settings, groups: &[Group])
             }
             let share = random.one_of(&[20, 50, 80, 100]);
             let sum: u64 = demands.into_iter().filter(|_| random.percent(share)).sum();
-            let limit = match random.below(20) {
+            let limit = match random.below(if rivals { 14 } else { 20 }) {
                 0..=6 => sum,
                 7..=10 => sum.saturating_sub(1),
                 11 => sum + 1,
@@ -709,50 +715,67 @@ impl History {
         self.advance(time);
     }
 
-    /// All groups: their Talker on its port and Listeners, mostly Ready, on others; then time.
+    /// All groups: their Talker on its port and Listeners, mostly Ready, on others; then time. The
+    /// frames come in any order, or group by group with time in between, so that ages differ.
     fn opening(&mut self, plan: &Plan) {
         if self.random.percent(4) {
             let leave_time = u64::from(plan.settings.leave_time);
             let before_the_end = self.random.below(500 + 10 * leave_time) as u32;
             self.advance(u32::MAX - before_the_end);
         }
+        let mut groups = plan.groups.clone();
+        self.random.shuffle(&mut groups);
+        let one_by_one = self.random.percent(if plan.rivals { 75 } else { 20 });
         let mut frames = Vec::new();
-        for group in &plan.groups {
-            let joins: Vec<u8> = vec![self.random.one_of(&JOINS); group.members as usize];
-            let vector = VectorDraft {
-                first_value: declarations::first_value(&group.first),
-                events: joins.clone(),
-                ..VectorDraft::default()
-            };
-            let message = MessageDraft::new(AttributeType::TalkerAdvertise, vec![vector]);
-            frames.push((group.talker_port, FrameDraft::new(vec![message])));
-            for port in 1..=plan.ports() {
-                if port != group.talker_port && self.random.percent(75) {
-                    let listener_type = self.random.one_of(&[READY, READY, READY_FAILED, ASKING]);
-                    let vector = VectorDraft {
-                        first_value: group.first.stream_id.to_be_bytes().to_vec(),
-                        events: joins.clone(),
-                        listener_types: vec![listener_type; group.members as usize],
-                        ..VectorDraft::default()
-                    };
-                    let message = MessageDraft::new(AttributeType::Listener, vec![vector]);
-                    frames.push((port, FrameDraft::new(vec![message])));
-                }
+        for group in &groups {
+            frames.extend(self.joining_frames(plan, group));
+            if one_by_one {
+                self.receive_all(plan, &mut frames);
+                let time = self.clock().saturating_add(self.random.between(10, 160) as u32);
+                self.advance(time);
             }
         }
         self.random.shuffle(&mut frames);
-        let staggered = self.random.percent(30);
-        for (port, frame) in frames {
-            self.receive(port, &frame.octets());
-            if staggered {
-                let time = self.clock().saturating_add(self.random.below(120) as u32);
-                self.advance(time);
-            } else if self.random.percent(8) {
+        self.receive_all(plan, &mut frames);
+        let time = self.clock().saturating_add(self.random.below(200) as u32);
+        self.advance(time);
+    }
+
+    /// Hands the frames over, now and then with an advance behind one.
+    fn receive_all(&mut self, plan: &Plan, frames: &mut Vec<(u32, Vec<u8>)>) {
+        for (port, frame) in frames.drain(..) {
+            self.receive(port, &frame);
+            if self.random.percent(4) {
                 self.some_advance(plan);
             }
         }
-        let time = self.clock().saturating_add(self.random.below(200) as u32);
-        self.advance(time);
+    }
+
+    /// Frames that join a group's Talker on its port and Listeners on others.
+    fn joining_frames(&mut self, plan: &Plan, group: &Group) -> Vec<(u32, Vec<u8>)> {
+        let joins: Vec<u8> = vec![self.random.one_of(&JOINS); group.members as usize];
+        let vector = VectorDraft {
+            first_value: declarations::first_value(&group.first),
+            events: joins.clone(),
+            ..VectorDraft::default()
+        };
+        let message = MessageDraft::new(AttributeType::TalkerAdvertise, vec![vector]);
+        let mut frames = vec![(group.talker_port, FrameDraft::new(vec![message]).octets())];
+        for port in 1..=plan.ports() {
+            if port != group.talker_port && self.random.percent(75) {
+                let listener_type =
+                    self.random.one_of(&[READY, READY, READY, READY_FAILED, ASKING]);
+                let vector = VectorDraft {
+                    first_value: group.first.stream_id.to_be_bytes().to_vec(),
+                    events: joins.clone(),
+                    listener_types: vec![listener_type; group.members as usize],
+                    ..VectorDraft::default()
+                };
+                let message = MessageDraft::new(AttributeType::Listener, vec![vector]);
+                frames.push((port, FrameDraft::new(vec![message]).octets()));
+            }
+        }
+        frames
     }
 
     /// Joins new streams up to 64, one less or one more.
