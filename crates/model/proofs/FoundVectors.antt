@@ -18,27 +18,13 @@ use Rattle.model.specs.State.{Settings}
 use Rattle.model.specs.Registrations.{Kind, advertises, faileds, listeners, Act, leaveAll, leave, talk, listen, Reading, refused, acts, joins, asks}
 use Rattle.model.specs.Frames.{Attribute, registers, domain, TypeOctet, notAllowed, unknown, known, typeOctet, firstWidths, firstLength, threeLength, fourLength, Vector, vectorAt, vectorEnd, overpacked, runsPast, overflows, Walk, fault, found, also, both, vectors, listLength, listAt, messageEnd, endMark, message, messages, walk, Asking, nothingAsked, join, withdraw, priorityOf, rankOf, fixedValue, healthValue, idValue, hearing, talkerAct, listenerAct, valueActs, valuesActs, leaveAllActs, vectorActs, frameActs, walked, wrongPort, reading}
 use Rattle.model.proofs.Lists.{all-append, all-take, all-drop}
+use Rattle.model.proofs.Parts.{octets-at, octets-part}
+use Rattle.octets.proofs.Fields.{beAt-fits}
 use Rattle.model.proofs.Valid.{ValidFixed, ValidHealth, ValidVarying}
 
--- Octets and the numbers in them.
-
-pub octets-part : (at n : ℕ) (s : List ℕ) → Octets s → Octets (part at n s)
-unfolding part
-octets-part at n s o = all-take Octet n _ (all-drop Octet at s o)
-
-pub octet-at : (s : List ℕ) (i : ℕ) → Octets s → getD s i 0 < 256
-octet-at [] i o = omega arith
-octet-at (x ∷ s) zero o = o .0
-octet-at (x ∷ s) (suc i) o = octet-at s i (o .1)
-
-pub beAt-below-width : (n : ℕ) (s : List ℕ) (at : ℕ) → Octets s → beAt n s at < 256 ^ n
-unfolding beAt
-beAt-below-width zero s at o = omega arith
-beAt-below-width (suc n) s at o =
-    let p = pow-suc 256 n in
-    let h : beAt n s at < 256 ^ n = beAt-below-width n s at o in
-    let d : getD s (at + n) 0 < 256 = octet-at s (at + n) o in
-    omega arith
+-- the number in the octets at a place
+beAt-below-width : (n : ℕ) (s : List ℕ) (at : ℕ) → Octets s → beAt n s at < 256 ^ n
+beAt-below-width n s at o = beAt-fits n s at (octets-at s o)
 
 -- A test over all vectors of a walk.
 
@@ -152,10 +138,10 @@ walk-sound s vs e = every-walk Sound s (λ k place at h. sound-at k (listAt s pl
     }
 
 pub walk-octets : (s : List ℕ) (vs : List Vector) → Octets s → walk s ≡ found vs → All InOctets vs
-walk-octets s vs o e = every-walk InOctets s (λ k place at h _ _ _. octets-at k at h (listAt s place) (unfold listAt in (octets-part _ _ s o))) vs e
+walk-octets s vs o e = every-walk InOctets s (λ k place at h _ _ _. vector-octets k at h (listAt s place) (unfold listAt in (octets-part _ _ s o))) vs e
   where
-    octets-at : (k : Attribute) (at h : ℕ) (l : List ℕ) → Octets l → InOctets (vectorAt k l at h)
-    octets-at k at h l o = unfold vectorAt in record { first = octets-part _ _ l o; three = octets-part _ _ l o; four = octets-part _ _ l o }
+    vector-octets : (k : Attribute) (at h : ℕ) (l : List ℕ) → Octets l → InOctets (vectorAt k l at h)
+    vector-octets k at h l o = unfold vectorAt in record { first = octets-part _ _ l o; three = octets-part _ _ l o; four = octets-part _ _ l o }
 
 -- What they ask for.
 
