@@ -1,0 +1,36 @@
+-- A stream's demand, in the numbers that the code reads and multiplies.
+use mathlib.Core.Path.{_≡_, refl, sym, _∙_}
+use mathlib.Core.List.{List, [], _∷_}
+use mathlib.Core.Bool.{Bool, true, false, cond}
+use Prim.Native.Nat.{ℕ, _+_, _*_, _/_, _%_, _^_, _≤_, _<_}
+use native.Mathlib.Nat.{mul-le-mul, mul-one}
+use native.Mathlib.Omega.{arith}
+use lib.Dec.{eqb}
+use borrow.Author.Tests.{eq-eqb, ne-eqb}
+use Rattle.octets.specs.Be.{beAt}
+use Rattle.octets.specs.Fields.{fields}
+use Rattle.model.specs.Lists.{isOne}
+use Rattle.model.specs.Bandwidth.{demand}
+use Rattle.model.specs.Table.{portWidths, portFrom, toPort, fixedFrom}
+use Rattle.columns.specs.Answers.{toFixed}
+
+-- MaxFrameSize, MaxIntervalFrames, overhead and flags as they are read
+module _ (port fixed : List ℕ) (size frames overhead flags : ℕ)
+    (s : size ≡ beAt 2 fixed 8) (n : frames ≡ beAt 2 fixed 10) (o : overhead ≡ beAt 1 port 1) (f : flags ≡ beAt 1 port 0) where
+  demand-read : demand (toPort port) (toFixed fixed) .octets ≡ (size + overhead + 1) * frames * cond (eqb (flags / 32 % 2) 1) 2 1
+  unfolding demand toPort toFixed portFrom fixedFrom fields portWidths isOne
+  demand-read = rw (s, n, o, f)
+
+  pub demand-twice : flags / 32 % 2 ≡ 1 → (size + overhead + 1) * frames * 2 ≡ demand (toPort port) (toFixed fixed) .octets
+  demand-twice t = sym (demand-read ∙ rw (eq-eqb (flags / 32 % 2) 1 t))
+
+  pub demand-once : (flags / 32 % 2 ≡ 1 → ⊥) → (size + overhead + 1) * frames ≡ demand (toPort port) (toFixed fixed) .octets
+  demand-once t = sym (demand-read ∙ rw (ne-eqb (flags / 32 % 2) 1 t) (mul-one ((size + overhead + 1) * frames)))
+
+-- a product is at most that of what its factors are at most
+pub product : (a b m n : ℕ) → a ≤ m → b ≤ n → a * b ≤ m * n
+product a b m n p q = mul-le-mul p q
+
+-- the octets of frames that are sent once
+pub once-bound : (size overhead frames : ℕ) → size < 65536 → overhead < 256 → frames < 65536 → (size + overhead + 1) * frames ≤ 65791 * 65535
+once-bound size overhead frames s o n = product (size + overhead + 1) frames 65791 65535 (omega arith) (omega arith)

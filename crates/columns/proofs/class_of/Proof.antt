@@ -1,0 +1,26 @@
+-- `columns::class_of` meets its contract. Assumes nothing.
+use Prim.Native.Nat.{ℕ, suc, _+_, _-_, _*_, _≤_, _<_}
+use mathlib.Core.Path.{_≡_, refl, sym, ap, _∙_}
+use native.Mathlib.Omega.{arith}
+use borrow.Author.Needs.{needs}
+use borrow.Author.Tests.{eq-eqb, ne-eqb}
+use Rattle.model.specs.State.{classOf}
+use Rattle.model.specs.Table.{toSettings}
+use Rattle.columns.specs.Answers.{classShown}
+use Rattle.columns.proofs.class_of.Statement.{statement}
+use Rattle.columns.proofs.class_of.Tie as tie
+
+returns : tie.Need-returns
+unfolding classOf classShown toSettings
+returns c = rw (← (c .before .get .ensures .0), eq-eqb _ _ (c .if1 .taken))
+
+returns-2 : tie.Need-returns-2
+unfolding classOf classShown toSettings
+returns-2 c = rw (← (c .before .before .get .ensures .0), ne-eqb _ _ (c .before .if1 .left), eq-eqb _ _ (c .if2 .taken))
+
+returns-3 : tie.Need-returns-3
+unfolding classOf classShown toSettings
+returns-3 c = rw (← (c .before .before .get .ensures .0), ne-eqb _ _ (c .before .if1 .left), ne-eqb _ _ (c .if2 .left))
+
+pub class-of-spec : {M : Type 1} → statement M
+class-of-spec = tie.close (tie.spec (λ c κs. search needs) returns returns-2 returns-3)
