@@ -206,7 +206,7 @@ module _ (ports clock leave : ℕ) (small : clock < 2 ^ 32) where
     results = all-map (ValidResult clock) FitResult valid-result-fits (x .results) (v .results);
   }
 
-rising-ascends : (l : List ℕ) → Rising l → Ascending l
+pub rising-ascends : (l : List ℕ) → Rising l → Ascending l
 unfolding Rising
 rising-ascends [] r = tt
 rising-ascends (i ∷ l) r = (r .0, rising-ascends l (r .1))
