@@ -1,16 +1,16 @@
 -- What fits its fields is read back from its octets; octets that are laid out are those of what is read from them; and what
 -- keeps the form rules fits.
-use mathlib.Core.Path.{_≡_, refl, sym, ap, _∙_, subst}
+use mathlib.Core.Path.{_≡_, sym, ap, _∙_, subst}
 use mathlib.Core.List.{List, [], _∷_, _++_, append-nil}
-use mathlib.Core.Bool.{Bool, true}
-use Prim.Native.Nat.{ℕ, _+_, _*_, _-_, _^_, _≤_, _<_}
+use mathlib.Core.Bool.{true}
+use Prim.Native.Nat.{ℕ, _+_, _*_, _-_, _^_, _<_}
 use native.Mathlib.Omega.{arith}
 use lib.ListN.{length, getD}
 use Rattle.octets.specs.Parts.{zeros}
 use Rattle.octets.specs.Fields.{fields, Fit, flat}
 use Rattle.octets.proofs.Fields.{fields-of-packed, fit-at}
 use Rattle.model.specs.Lists.{All, parts, Octets}
-use Rattle.model.specs.State.{Port, Leaving, stays, since, Fixed, Health, sound, broken, Talker, noTalker, talker, Listener, noListener, listener, Cell, Result, Stream, Bridge}
+use Rattle.model.specs.State.{Leaving, stays, since, Fixed, Health, sound, broken, Talker, noTalker, talker, Listener, noListener, listener, Cell, Result, Stream, Bridge}
 use Rattle.model.specs.Registrations.{ids}
 use Rattle.model.specs.WrittenFrames.{priorityOctet, fixedNumbers}
 use Rattle.model.specs.Table.{cellWidths, sinceNumber, bridgeNumber, codeNumber, talkerNumbers, listenerNumbers, cellNumbers, cellOctets, toCell, resultWidths, resultNumbers, resultOctets, toResult, nameWidths, fixedFrom, streamOctets, toStream, countField, recordsPart, idOf, encode, decode, formed}

@@ -80,10 +80,10 @@ module _ {A : Type 0} {n : ℕ} {to : A → List ℕ} {from : List ℕ → A} {r
 
 -- A stream's record: StreamID and settled values, cells, results.
 
-abbrev name : Stream → List ℕ
+abbrev pub name : Stream → List ℕ
 name x = packed nameWidths (x .id ∷ fixedNumbers (x .settled))
 
-name-length : (x : Stream) → length (name x) ≡ 21
+pub name-length : (x : Stream) → length (name x) ≡ 21
 unfolding nameWidths fixedNumbers width
 name-length x = length-packed-any nameWidths (x .id ∷ fixedNumbers (x .settled)) refl
 
@@ -96,10 +96,10 @@ three-parts s l =
     rw (← drop-drop 312 21 s, take-all 160 r h, take-append-drop 312 (drop 21 s)) (sym (take-append-drop 21 s))
 
 module _ (x : Stream) (eight-cells : length (x .cells) ≡ 8) (eight-results : length (x .results) ≡ 8) where
-  length-cells : length (flat cellOctets (x .cells)) ≡ 312
+  pub length-cells : length (flat cellOctets (x .cells)) ≡ 312
   length-cells = omega (arith, length-flat-sized 39 cellOctets (x .cells) (cells-sized (x .cells)))
 
-  length-results : length (flat resultOctets (x .results)) ≡ 160
+  pub length-results : length (flat resultOctets (x .results)) ≡ 160
   length-results = omega (arith, length-flat-sized 20 resultOctets (x .results) (results-sized (x .results)))
 
   pub stream-length : length (streamOctets x) ≡ 493
@@ -308,7 +308,7 @@ totals-fit (t ∷ ts) (q ∷ qs) v e =
     let lb : q .limitB < 256 ^ 5 = v .0 .limitB in
     ((omega arith, omega arith), totals-fit ts qs (v .1) (and-right first (totalsWithin ts qs) e))
 
-totals-length : (t : Totals) → length (totalsOctets t) ≡ 10
+pub totals-length : (t : Totals) → length (totalsOctets t) ≡ 10
 unfolding totalsOctets totalsWidths width
 totals-length t = length-packed-any totalsWidths (t .totalA ∷ t .totalB ∷ []) refl
 
@@ -316,10 +316,10 @@ totals-octets : (t : Totals) → Octets (totalsOctets t)
 unfolding totalsOctets
 totals-octets t = octets-packed totalsWidths (t .totalA ∷ t .totalB ∷ [])
 
-totals-sized : (l : List Totals) → All (Sized 10 totalsOctets) l
+pub totals-sized : (l : List Totals) → All (Sized 10 totalsOctets) l
 totals-sized = all-each (Sized 10 totalsOctets) totals-length
 
-totals-back : (t : Totals) → FitTotals t → toTotals (totalsOctets t) ≡ t
+pub totals-back : (t : Totals) → FitTotals t → toTotals (totalsOctets t) ≡ t
 unfolding totalsOctets toTotals fields totalsWidths Fit
 totals-back t f =
     ap (λ (vs : List ℕ). record { totalA = getD vs 0 0; totalB = getD vs 1 0 })
@@ -356,19 +356,19 @@ four-parts t =
 
 -- The table of a bridge.
 
-abbrev settingsWhole : Bridge → List ℕ
+abbrev pub settingsWhole : Bridge → List ℕ
 settingsWhole b = settingsOctets (b .settings) ++ zeros (22 * (8 - length (b .settings .ports)))
 
-abbrev clockAndCount : Bridge → List ℕ
+abbrev pub clockAndCount : Bridge → List ℕ
 clockAndCount b = packed (4 ∷ 1 ∷ []) (b .clock ∷ length (b .streams) ∷ [])
 
-abbrev totalsWhole : Bridge → List ℕ
+abbrev pub totalsWhole : Bridge → List ℕ
 totalsWhole b = flat totalsOctets (b .totals)
 
-abbrev recordsWhole : Bridge → List ℕ
+abbrev pub recordsWhole : Bridge → List ℕ
 recordsWhole b = flat streamOctets (b .streams) ++ zeros (493 * (64 - length (b .streams)))
 
-encode-parts : (b : Bridge) → encode b ≡ settingsWhole b ++ (clockAndCount b ++ (totalsWhole b ++ recordsWhole b))
+pub encode-parts : (b : Bridge) → encode b ≡ settingsWhole b ++ (clockAndCount b ++ (totalsWhole b ++ recordsWhole b))
 unfolding encode
 encode-parts b =
     sym (append-assoc (settingsOctets (b .settings)) (zeros (22 * (8 - length (b .settings .ports)))) (clockAndCount b ++ (totalsWhole b ++ recordsWhole b)))
@@ -409,21 +409,21 @@ fit-whole b f = record {
   streams = all-map FitStream (Sized 493 streamOctets) (λ x w. stream-length x (w .eight-cells) (w .eight-results)) (b .streams) (f .streams);
 }
 
-clock-length : (b : Bridge) → length (clockAndCount b) ≡ 5
+pub clock-length : (b : Bridge) → length (clockAndCount b) ≡ 5
 unfolding width
 clock-length b = length-packed-any (4 ∷ 1 ∷ []) (b .clock ∷ length (b .streams) ∷ []) refl
 
 module _ (b : Bridge) (w : Whole b) where
-  settings-whole-length : length (settingsWhole b) ≡ 187
+  pub settings-whole-length : length (settingsWhole b) ≡ 187
   settings-whole-length =
       let n = length (b .settings .ports) in
       let h : n ≤ 8 = w .eight-ports in
       length-append (settingsOctets (b .settings)) (zeros (22 * (8 - n))) ∙ omega (arith, settings-length (b .settings), length-zeros (22 * (8 - n)))
 
-  totals-whole-length : length (totalsWhole b) ≡ 80
+  pub totals-whole-length : length (totalsWhole b) ≡ 80
   totals-whole-length = omega (arith, length-flat-sized 10 totalsOctets (b .totals) (totals-sized (b .totals)), w .eight-totals)
 
-  records-whole-length : length (recordsWhole b) ≡ 31552
+  pub records-whole-length : length (recordsWhole b) ≡ 31552
   records-whole-length =
       let n = length (b .streams) in
       let h : n ≤ 64 = w .at-most-64 in

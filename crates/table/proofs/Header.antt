@@ -1,0 +1,236 @@
+-- What stands before the stream records of a table: settings, clock, number of streams, totals; how each is read, and what the
+-- table is when it is replaced.
+use Prim.Native.Nat.{ℕ, zero, suc, _+_, _-_, _*_, _/_, _%_, _≤_, _<_}
+use native.Mathlib.Omega.{arith}
+use mathlib.Core.Path.{_≡_, refl, sym, ap, _∙_}
+use mathlib.Core.List.{List, [], _∷_, _++_, append-assoc, append-nil}
+use lib.ListN.{length, getD, set, take, replicate, length-append, length-replicate}
+use Rattle.octets.specs.Be.{beAt, be}
+use Rattle.octets.specs.Parts.{part, patch, zeros}
+use Rattle.octets.specs.Fields.{packed, Fit, width, flat}
+use Rattle.octets.proofs.Be.{length-be}
+use Rattle.octets.proofs.Frame.{beAt-part}
+use Rattle.octets.proofs.Fields.{flat-append, get-field, packed-zeros, fit-zeros, length-packed-any}
+use Rattle.model.specs.Lists.{All, bit}
+use Rattle.model.specs.State.{Port, Settings, Stream, Totals, Bridge, noPort, portAt, noTotals}
+use Rattle.model.specs.Registrations.{holding}
+use Rattle.model.specs.Table.{portWidths, portNumbers, portOctets, toPort, headWidths, headWord, settingsOctets, portsField, totalsOctets, tableLength, clockField, countField, encode, decode}
+use Rattle.model.specs.Laid.{FitSettings, FitBridge, Laid}
+use Rattle.model.proofs.Lists.{all-each, all-replicate}
+use Rattle.model.proofs.Parts.{Sized, flat-zeros}
+use Rattle.model.proofs.SettingsOctets.{port-length, port-back, id-read, ports-read, priority-a-read, priority-b-read, leave-read}
+use Rattle.model.proofs.Tables.{settingsWhole, clockAndCount, totalsWhole, recordsWhole, encode-parts, clock-length, settings-whole-length, totals-whole-length, whole-length, totals-sized, clock-read, count-read, fit-whole}
+use Rattle.model.proofs.Fits.{laid-is, laid-fits}
+use Rattle.table.specs.Updates.{clocked, totalled}
+use Rattle.table.proofs.Lens.{patch-between, part-one, patch-one, all-getD}
+
+-- all that stands before the records
+unfoldable pub header : Bridge → List ℕ
+header b = settingsWhole b ++ (clockAndCount b ++ totalsWhole b)
+
+pub header-records : (b : Bridge) → encode b ≡ header b ++ recordsWhole b
+unfolding header
+header-records b = encode-parts b ∙ simp append-assoc
+
+module _ (b : Bridge) (w : FitBridge b) where
+  pub table-length : length (encode b) ≡ 31824
+  unfolding tableLength
+  table-length = whole-length b (fit-whole b w)
+
+  pub header-length : length (header b) ≡ 272
+  unfolding header
+  header-length =
+      let o = fit-whole b w in
+      length-append (settingsWhole b) (clockAndCount b ++ totalsWhole b)
+      ∙ omega (arith, length-append (clockAndCount b) (totalsWhole b), settings-whole-length b o, clock-length b, totals-whole-length b o)
+
+  -- Clock and number of streams.
+
+  pub clock-at : beAt 4 (encode b) 187 ≡ b .clock
+  unfolding clockField
+  clock-at = clock-read b (fit-whole b w) (w .clock)
+
+  pub count-at : getD (encode b) 191 0 ≡ length (b .streams)
+  unfolding countField
+  count-at = count-read b (fit-whole b w) (w .clock)
+
+  -- Settings.
+
+  pub bridge-id-at : beAt 8 (encode b) 0 ≡ b .settings .bridgeId
+  unfolding encode
+  bridge-id-at = id-read (b .settings) (w .settings) _
+
+  pub ports-at : beAt 3 (encode b) 8 / 1048576 ≡ length (b .settings .ports)
+  unfolding encode portsField
+  ports-at = ports-read (b .settings) (w .settings) _
+
+  pub priority-a-at : beAt 3 (encode b) 8 / 131072 % 8 ≡ b .settings .priorityA
+  unfolding encode
+  priority-a-at = priority-a-read (b .settings) (w .settings) _
+
+  pub priority-b-at : beAt 3 (encode b) 8 / 16384 % 8 ≡ b .settings .priorityB
+  unfolding encode
+  priority-b-at = priority-b-read (b .settings) (w .settings) _
+
+  pub leave-time-at : beAt 3 (encode b) 8 % 16384 ≡ b .settings .leaveTime
+  unfolding encode
+  leave-time-at = leave-read (b .settings) (w .settings) _
+
+-- Ports. A place that is no port has the octets of none, which are zeros.
+
+port-zeros : portOctets noPort ≡ zeros 22
+unfolding portOctets portNumbers noPort portWidths width bit
+port-zeros = packed-zeros portWidths
+
+abbrev eightPorts : Settings → List Port
+eightPorts st = st .ports ++ replicate (8 - length (st .ports)) noPort
+
+length-eight : (st : Settings) → length (st .ports) ≤ 8 → length (eightPorts st) ≡ 8
+length-eight st h =
+    length-append (st .ports) (replicate (8 - length (st .ports)) noPort) ∙ omega (arith, length-replicate (8 - length (st .ports)) noPort)
+
+padded-at : {A : Type 0} (l : List A) (m p : ℕ) (d : A) → getD (l ++ replicate m d) p d ≡ getD l p d
+padded-at [] m p d = blank m p
+  where
+    blank : (m p : ℕ) → getD (replicate m d) p d ≡ d
+    blank zero p = refl
+    blank (suc m) zero = refl
+    blank (suc m) (suc p) = blank m p
+padded-at (x ∷ l) m zero d = refl
+padded-at (x ∷ l) m (suc p) d = padded-at l m p d
+
+abbrev head : Settings → List ℕ
+head st = packed headWidths (st .bridgeId ∷ headWord st ∷ [])
+
+head-length : (st : Settings) → length (head st) ≡ 11
+unfolding headWidths width
+head-length st = length-packed-any headWidths (st .bridgeId ∷ headWord st ∷ []) refl
+
+flat-eight : (st : Settings) → flat portOctets (eightPorts st) ≡ flat portOctets (st .ports) ++ zeros (22 * (8 - length (st .ports)))
+flat-eight st =
+    let m = 8 - length (st .ports) in
+    let none = replicate m noPort in
+    let z = flat-zeros 22 portOctets noPort port-zeros none (all-replicate (λ q. q ≡ noPort) m noPort refl) in
+    let e : length none * 22 ≡ 22 * m = omega (arith, length-replicate m noPort) in
+    flat-append portOctets (st .ports) none ∙ ap (λ (l : List ℕ). flat portOctets (st .ports) ++ l) (z ∙ ap zeros e)
+
+ports-laid : (b : Bridge)
+    → encode b ≡ head (b .settings) ++ (flat portOctets (eightPorts (b .settings)) ++ (clockAndCount b ++ (totalsWhole b ++ recordsWhole b)))
+unfolding encode settingsOctets
+ports-laid b = rw (flat-eight (b .settings)) (simp append-assoc)
+
+ports-sized : (l : List Port) → All (Sized 22 portOctets) l
+ports-sized = all-each (Sized 22 portOctets) port-length
+
+-- a port's numbers fit, also at a place that is none
+no-port-fits : Fit portWidths (portNumbers noPort)
+unfolding portNumbers noPort portWidths bit
+no-port-fits = fit-zeros portWidths
+
+port-fits : (st : Settings) → FitSettings st → (p : ℕ) → Fit portWidths (portNumbers (portAt st p))
+unfolding portAt
+port-fits st w p = all-getD (λ q. Fit portWidths (portNumbers q)) (st .ports) (w .ports) noPort no-port-fits p
+
+-- a field stands within its fields
+field-within : (ws : List ℕ) (i : ℕ) → width (take i ws) + getD ws i 0 ≤ width ws
+unfolding width
+field-within [] zero = omega arith
+field-within [] (suc i) = omega arith
+field-within (w ∷ ws) zero = omega arith
+field-within (w ∷ ws) (suc i) = omega (arith, field-within ws i)
+
+module _ (b : Bridge) (w : FitBridge b) (p a : ℕ) (h : p < 8) (e : a ≡ 11 + 22 * p) where
+  pub port-part : part a 22 (encode b) ≡ portOctets (portAt (b .settings) p)
+  unfolding portAt
+  port-part =
+      let st = b .settings in
+      let l = eightPorts st in
+      let after = clockAndCount b ++ (totalsWhole b ++ recordsWhole b) in
+      let few : p < length l = omega (arith, length-eight st (w .settings .eight-ports)) in
+      ap (part a 22) (ports-laid b)
+      ∙ part-one 22 portOctets 11 (head st) after (head-length st) l (ports-sized l) p a few e noPort
+      ∙ ap portOctets (padded-at (st .ports) (8 - length (st .ports)) p noPort)
+
+  -- number i of the port, in its field
+  pub port-number : (i : ℕ) → beAt (getD portWidths i 0) (encode b) (a + width (take i portWidths)) ≡ getD (portNumbers (portAt (b .settings) p)) i 0
+  port-number i =
+      let q = portAt (b .settings) p in
+      sym (beAt-part (getD portWidths i 0) a 22 (width (take i portWidths)) (encode b) (unfold portWidths width in field-within portWidths i))
+      ∙ ap (λ (s : List ℕ). beAt (getD portWidths i 0) s (width (take i portWidths))) port-part
+      ∙ (unfold portOctets in get-field portWidths (portNumbers q) (port-fits (b .settings) (w .settings) p) i)
+
+  pub port-at : toPort (part a 22 (encode b)) ≡ portAt (b .settings) p
+  port-at = ap toPort port-part ∙ port-back (portAt (b .settings) p) (port-fits (b .settings) (w .settings) p)
+
+-- Totals.
+
+totals-laid : (b : Bridge) → encode b ≡ (settingsWhole b ++ clockAndCount b) ++ (flat totalsOctets (b .totals) ++ recordsWhole b)
+totals-laid b = encode-parts b ∙ simp append-assoc
+
+module _ (b : Bridge) (w : FitBridge b) (p a : ℕ) (h : p < 8) (e : a ≡ 192 + 10 * p) where
+  before-totals : length (settingsWhole b ++ clockAndCount b) ≡ 192
+  before-totals = length-append (settingsWhole b) (clockAndCount b) ∙ omega (arith, settings-whole-length b (fit-whole b w), clock-length b)
+
+  a-total : p < length (b .totals)
+  a-total = omega (arith, w .eight-totals)
+
+  pub totals-part : part a 10 (encode b) ≡ totalsOctets (getD (b .totals) p noTotals)
+  totals-part =
+      ap (part a 10) (totals-laid b)
+      ∙ part-one 10 totalsOctets 192 (settingsWhole b ++ clockAndCount b) (recordsWhole b) before-totals (b .totals) (totals-sized (b .totals)) p a a-total
+      e noTotals
+
+  pub totals-patch : (t : Totals) → patch a 10 (totalsOctets t) (encode b) ≡ encode (totalled (set (b .totals) p t) b)
+  totals-patch t =
+      ap (patch a 10 (totalsOctets t)) (totals-laid b)
+      ∙ patch-one 10 totalsOctets 192 (settingsWhole b ++ clockAndCount b) (recordsWhole b) before-totals (b .totals) (totals-sized (b .totals)) p a a-total
+      e t
+      ∙ sym (totals-laid (totalled (set (b .totals) p t) b))
+
+-- The clock replaced, and the number of streams.
+
+pub clock-patch : (b : Bridge) (w : FitBridge b) (now : ℕ) → patch 187 4 (be 4 now) (encode b) ≡ encode (clocked now b)
+unfolding packed
+clock-patch b w now =
+    let n = be 1 (length (b .streams)) ++ [] in
+    let after = totalsWhole b ++ recordsWhole b in
+    ap (patch 187 4 (be 4 now)) (encode-parts b ∙ ap (λ (s : List ℕ). settingsWhole b ++ s) (append-assoc (be 4 (b .clock)) n after))
+    ∙ patch-between (settingsWhole b) (be 4 (b .clock)) (n ++ after) (be 4 now) 187 4 (settings-whole-length b (fit-whole b w)) (length-be 4 (b .clock))
+    ∙ sym (encode-parts (clocked now b) ∙ ap (λ (s : List ℕ). settingsWhole b ++ s) (append-assoc (be 4 now) n after))
+
+pub count-patch : (b : Bridge) (w : FitBridge b) (s : List Stream) (after : List ℕ)
+    → patch 191 1 (be 1 (length s)) (header b ++ after) ≡ header (holding b s) ++ after
+unfolding packed header holding
+count-patch b w s after =
+    let before = settingsWhole b ++ be 4 (b .clock) in
+    let n = be 1 (length (b .streams)) in
+    let l : length before ≡ 191 = length-append (settingsWhole b) (be 4 (b .clock)) ∙ omega (arith, settings-whole-length b (fit-whole b w), length-be 4 (b .clock)) in
+    let split : (k : List ℕ) → (settingsWhole b ++ ((be 4 (b .clock) ++ (k ++ [])) ++ totalsWhole b)) ++ after ≡ before ++ (k ++ (totalsWhole b ++ after)) =
+    λ k. simp (append-assoc, append-nil) in
+    ap (patch 191 1 (be 1 (length s))) (split n)
+    ∙ patch-between before n (totalsWhole b ++ after) (be 1 (length s)) 191 1 l (length-be 1 (length (b .streams)))
+    ∙ sym (split (be 1 (length s)))
+
+-- What is read of octets that are laid out as a table.
+
+module _ (t : List ℕ) (l : Laid t) where
+  pub laid-length : length t ≡ 31824
+  laid-length = ap length (laid-is t l) ∙ table-length (decode t) (laid-fits t l)
+
+  pub laid-clock : beAt 4 t 187 ≡ decode t .clock
+  laid-clock = ap (λ (s : List ℕ). beAt 4 s 187) (laid-is t l) ∙ clock-at (decode t) (laid-fits t l)
+
+  pub laid-count : getD t 191 0 ≡ length (decode t .streams)
+  laid-count = ap (λ (s : List ℕ). getD s 191 0) (laid-is t l) ∙ count-at (decode t) (laid-fits t l)
+
+  pub laid-few : length (decode t .streams) ≤ 64
+  laid-few = laid-fits t l .at-most-64
+
+  pub laid-ports : beAt 3 t 8 / 1048576 ≡ length (decode t .settings .ports)
+  laid-ports = ap (λ (s : List ℕ). beAt 3 s 8 / 1048576) (laid-is t l) ∙ ports-at (decode t) (laid-fits t l)
+
+  pub laid-eight : length (decode t .settings .ports) ≤ 8
+  laid-eight = laid-fits t l .settings .eight-ports
+
+  pub laid-leave-time : beAt 3 t 8 % 16384 ≡ decode t .settings .leaveTime
+  laid-leave-time = ap (λ (s : List ℕ). beAt 3 s 8 % 16384) (laid-is t l) ∙ leave-time-at (decode t) (laid-fits t l)

@@ -1,0 +1,90 @@
+-- One of many things of n octets each, among other octets: read, replaced; and all of them changed.
+use Prim.Native.Nat.{ℕ, zero, suc, _+_, _-_, _*_, _≤_, _<_}
+use native.Mathlib.Omega.{arith}
+use mathlib.Core.Path.{_≡_, refl, sym, ap, _∙_}
+use mathlib.Core.List.{List, [], _∷_, _++_, append-assoc, map}
+use lib.ListN.{length, getD, set, take, drop, length-append}
+use lib.Seq.{take-at, drop-at, split-at, set-split, length-take-le}
+use Rattle.octets.specs.Parts.{part, patch, each, eachFrom}
+use Rattle.octets.specs.Fields.{flat}
+use Rattle.octets.proofs.Parts.{lent-length}
+use Rattle.octets.proofs.Fields.{flat-append}
+use Rattle.model.specs.Lists.{All}
+use Rattle.model.proofs.Lists.{all-take}
+use Rattle.model.proofs.Parts.{Sized, part-between, length-flat-sized}
+
+-- what a call leaves that was lent `&mut s[a..a + n]` and left y there
+pub lent-patch : (a n : ℕ) (y s : List ℕ) → take a s ++ (y ++ drop (a + n - a) (drop a s)) ≡ patch a n y s
+unfolding patch
+lent-patch a n y s = rw (lent-length a n)
+
+-- what holds of each of a list holds of the one at a place
+pub all-at : {A : Type 0} (P : A → Type 0) (l : List A) → All P l → (k : ℕ) (d : A) → k < length l → P (getD l k d)
+all-at P [] a k d h = absurd (omega arith)
+all-at P (x ∷ l) a zero d h = a .0
+all-at P (x ∷ l) a (suc k) d h = all-at P l (a .1) k d (omega arith)
+
+-- with what stands past the end
+pub all-getD : {A : Type 0} (P : A → Type 0) (l : List A) → All P l → (d : A) → P d → (k : ℕ) → P (getD l k d)
+all-getD P [] a d h k = h
+all-getD P (x ∷ l) a d h zero = a .0
+all-getD P (x ∷ l) a d h (suc k) = all-getD P l (a .1) d h k
+
+-- y between x and z, replaced
+pub patch-between : (x y z w : List ℕ) (a n : ℕ) → length x ≡ a → length y ≡ n → patch a n w (x ++ (y ++ z)) ≡ x ++ (w ++ z)
+unfolding patch
+patch-between x y z w a n p q = rw (take-at x (y ++ z) a p, drop-at x (y ++ z) a p, drop-at y z n q)
+
+-- each of the things in front changed
+each-flat : {A : Type 0} (n : ℕ) (to : A → List ℕ) (f : List ℕ → List ℕ) (g : A → A) (after : List ℕ) (l : List A)
+    → All (Sized n to) l → All (λ a. f (to a) ≡ to (g a)) l → each (length l) n f (flat to l ++ after) ≡ flat to (map g l) ++ after
+unfolding each flat
+each-flat n to f g after [] sized same = refl
+each-flat n to f g after (x ∷ l) sized same =
+    rw (
+      append-assoc (to x) (flat to l) after,
+      take-at (to x) (flat to l ++ after) n (sized .0),
+      drop-at (to x) (flat to l ++ after) n (sized .0),
+      same .0,
+      each-flat n to f g after l (sized .1) (same .1),
+      append-assoc (to (g x)) (flat to (map g l)) after,
+    )
+
+-- things of n octets each after m octets, with others behind
+module _ {A : Type 0} (n : ℕ) (to : A → List ℕ) (m : ℕ) (before after : List ℕ) (size : length before ≡ m) where
+  around : (l r : List A) (x : A) → before ++ (flat to (l ++ x ∷ r) ++ after) ≡ (before ++ flat to l) ++ (to x ++ (flat to r ++ after))
+  unfolding flat
+  around l r x = simp (flat-append to, append-assoc)
+
+  module _ (l : List A) (sized : All (Sized n to) l) where
+    place : (k a : ℕ) → k ≤ length l → a ≡ m + n * k → length (before ++ flat to (take k l)) ≡ a
+    place k a h e =
+        let b = flat to (take k l) in
+        let c : length (take k l) * n ≡ k * n = ap (λ (i : ℕ). i * n) (length-take-le k l h) in
+        omega (arith, length-append before b, length-flat-sized n to (take k l) (all-take (Sized n to) k l sized))
+
+    module _ (k a : ℕ) (h : k < length l) (e : a ≡ m + n * k) where
+      pub part-one : (d : A) → part a n (before ++ (flat to l ++ after)) ≡ to (getD l k d)
+      part-one d =
+          let f = take k l in
+          let r = drop (suc k) l in
+          ap (λ (s : List A). part a n (before ++ (flat to s ++ after))) (split-at l k d h)
+          ∙ ap (part a n) (around f r (getD l k d))
+          ∙ part-between (before ++ flat to f) (to (getD l k d)) (flat to r ++ after) a n (place k a (omega arith) e) (all-at (Sized n to) l sized k d h)
+
+      pub patch-one : (x : A) → patch a n (to x) (before ++ (flat to l ++ after)) ≡ before ++ (flat to (set l k x) ++ after)
+      patch-one x =
+          let f = take k l in
+          let r = drop (suc k) l in
+          let y = getD l k x in
+          ap (λ (s : List A). patch a n (to x) (before ++ (flat to s ++ after))) (split-at l k x h)
+          ∙ ap (patch a n (to x)) (around f r y)
+          ∙ patch-between (before ++ flat to f) (to y) (flat to r ++ after) (to x) a n (place k a (omega arith) e) (all-at (Sized n to) l sized k x h)
+          ∙ sym (ap (λ (s : List A). before ++ (flat to s ++ after)) (set-split l k x h) ∙ around f r x)
+
+    pub each-one : (f : List ℕ → List ℕ) (g : A → A) → All (λ a. f (to a) ≡ to (g a)) l
+        → eachFrom m (length l) n f (before ++ (flat to l ++ after)) ≡ before ++ (flat to (map g l) ++ after)
+    unfolding eachFrom
+    each-one f g same =
+        rw (take-at before (flat to l ++ after) m size, drop-at before (flat to l ++ after) m size)
+        (ap (λ (s : List ℕ). before ++ s) (each-flat n to f g after l sized same))

@@ -1,0 +1,4 @@
+pub mod Lens
+pub mod Header
+pub mod Records
+pub mod StreamParts
