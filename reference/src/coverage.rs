@@ -8,7 +8,7 @@ use crate::calls;
 use crate::declarations;
 use crate::generator;
 use crate::numbers::{self, Number};
-use crate::pdu::{self, AttributeType, Event, Message, Pdu, Value, Vector};
+use crate::pdu::{self, AttributeType, Event, Message, Pdu, Value, Vector, LONGEST_PDU};
 use crate::records::{Call, Watcher};
 use crate::registrations::MOST_STREAMS;
 use crate::settings::{self, Settings, MOST_PORTS};
@@ -165,6 +165,7 @@ const ROWS: &[&str] = &[
     "Talker port moved",
     "second Talker on a port above",
     "write of Advertise, Failed and Listener",
+    "write of exactly 1500 octets",
     "write with declarations left over",
     "write from a next place",
     "write at place = count",
@@ -684,6 +685,7 @@ impl Watcher for Coverage {
                 }
                 Call::Write { port, place, answer } => {
                     self.wrote(bridge, *port, *place, number, answer.next_place);
+                    self.count_if("write of exactly 1500 octets", answer.length == LONGEST_PDU);
                 }
                 Call::Report { place, .. } => self.reported(bridge, *place, number),
             }

@@ -1072,6 +1072,80 @@ impl History {
         }
     }
 
+    /// A bridge whose port 2 has declarations for a PDU of 1,500 octets, a few more or a few less.
+    fn longest_pdu(&mut self) {
+        // Version and EndMark take 3 octets, each Message 6, and a value 28, 37 or 12.
+        let (advertise, failed, listening) = self.random.one_of(&[
+            (20, 25, 0),
+            (0, 33, 22),
+            (48, 3, 2),
+            (48, 3, 2),
+            (20, 25, 1),
+            (19, 26, 0),
+            (0, 33, 23),
+            (48, 3, 1),
+            (53, 0, 5),
+        ]);
+        let port = PortSettings {
+            supports: PerClass { a: true, b: true },
+            sends_twice: false,
+            overhead: 42,
+            largest_frame: 1522,
+            limit: PerClass { a: (1 << 40) - 1, b: 0 },
+            latency: PerClass { a: 500, b: 0 },
+        };
+        let settings = Settings {
+            bridge_id: self.random.bits(),
+            priority: PerClass { a: 3, b: 2 },
+            leave_time: 60,
+            ports: vec![port.clone(), port],
+        };
+        self.start(&settings::write(&settings));
+        let mut stream_id: StreamId = 0x0200_0000_0001_0000 + self.random.below(1_000);
+        let failure = Failure { bridge_id: self.random.bits(), code: self.random.octet() };
+        for (port, count, failure) in
+            [(1, advertise, None), (1, failed, Some(failure)), (2, listening, None)]
+        {
+            let talker = Talker {
+                stream_id,
+                parameters: Parameters {
+                    destination: 0x91e0_f000_0000 + (stream_id & 0xffff),
+                    vlan: 2,
+                    max_frame_size: 100,
+                    max_interval_frames: 1,
+                    priority: 3,
+                    rank: 1,
+                },
+                accumulated_latency: accumulated_latency(&mut self.random),
+                failure,
+            };
+            let first_value = declarations::first_value(&talker);
+            let attribute_type = match failure {
+                None => AttributeType::TalkerAdvertise,
+                Some(_) => AttributeType::TalkerFailed,
+            };
+            let events = vec![self.random.one_of(&JOINS); count];
+            let listeners = VectorDraft {
+                first_value: stream_id.to_be_bytes().to_vec(),
+                events: events.clone(),
+                listener_types: vec![READY; count],
+                ..VectorDraft::default()
+            };
+            let talkers = VectorDraft { first_value, events, ..VectorDraft::default() };
+            if count > 0 {
+                let message = MessageDraft::new(attribute_type, vec![talkers]);
+                self.receive(port, &FrameDraft::new(vec![message]).octets());
+                let message = MessageDraft::new(AttributeType::Listener, vec![listeners]);
+                self.receive(3 - port, &FrameDraft::new(vec![message]).octets());
+            }
+            stream_id += count as u64;
+        }
+        self.advance(100);
+        for port in [1, 2] {
+            self.sweep_port(port);
+        }
+    }
+
     /// A write or report with any arguments.
     fn some_look(&mut self, plan: &Plan) {
         let port = if self.random.percent(88) { self.port(plan) } else { self.wrong_port(plan) };
@@ -1183,6 +1257,9 @@ pub fn calls(seed: u64) -> Script {
         for _ in 0..history.random.between(1, 5) {
             history.some_call(&plan);
         }
+    }
+    if history.random.percent(4) {
+        history.longest_pdu();
     }
     // A few scripts have no start of their own: alone they get 12 for all, in a batch they go on
     // with the bridge that the scripts before have left.

@@ -125,6 +125,17 @@ fn as_many_as_fit_in_1500_octets_whole() {
 }
 
 #[test]
+fn a_pdu_may_have_exactly_1500_octets() {
+    // 3 + (6 + 20 x 28) + (6 + 25 x 37)
+    let table = crowd(20, 25, 0);
+    let (octets, next) = written(&table, 2, 0);
+    assert_eq!((octets.len(), next), (1500, 45));
+    let table = crowd(20, 26, 0);
+    let (octets, next) = written(&table, 2, 0);
+    assert_eq!((octets.len(), next), (1500, 45));
+}
+
+#[test]
 fn the_first_that_does_not_fit_ends_the_pdu_though_a_shorter_one_would() {
     // 52 Advertise leave 1,500 - 1,465 = 35 octets: a Failed needs 43, a Listener 18.
     let table = crowd(52, 1, 1);
