@@ -731,7 +731,9 @@ impl History {
             frames.extend(self.joining_frames(plan, group));
             if one_by_one {
                 self.receive_all(plan, &mut frames);
-                let time = self.clock().saturating_add(self.random.between(10, 160) as u32);
+                // Often within the same second, where the StreamID decides and not the age.
+                let most = self.random.one_of(&[25, 25, 160]);
+                let time = self.clock().saturating_add(self.random.between(1, most) as u32);
                 self.advance(time);
             }
         }
