@@ -310,7 +310,7 @@ later-faults : (s : List ℕ) (n : ℕ) → afterVersion s ≡ fault n → (3 �
 unfolding afterVersion
 later-faults s n e = subst Faults e (messages-faults (suc (length s)) (getD s 0 0) s 1)
 
-walk-faults : (s : List ℕ) (n : ℕ) → walk s ≡ fault n → (2 ≤ n) × (n ≤ 7)
+pub walk-faults : (s : List ℕ) (n : ℕ) → walk s ≡ fault n → (2 ≤ n) × (n ≤ 7)
 unfolding walk afterVersion
 walk-faults s =
     let P : Walk → Type 0 = λ w. (n : ℕ) → w ≡ fault n → (2 ≤ n) × (n ≤ 7) in
