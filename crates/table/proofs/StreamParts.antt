@@ -39,7 +39,7 @@ fixed-length : (f : Fixed) → length (fixedOctets f) ≡ 13
 unfolding fixedOctets fixedWidths fixedNumbers width
 fixed-length f = length-packed-any fixedWidths (fixedNumbers f) refl
 
-settled-laid : (x : Stream) → streamOctets x ≡ be 8 (x .id) ++ (fixedOctets (x .settled) ++ (flat cellOctets (x .cells) ++ flat resultOctets (x .results)))
+pub settled-laid : (x : Stream) → streamOctets x ≡ be 8 (x .id) ++ (fixedOctets (x .settled) ++ (flat cellOctets (x .cells) ++ flat resultOctets (x .results)))
 unfolding streamOctets fixedOctets packed nameWidths fixedWidths
 settled-laid x = append-assoc (be 8 (x .id)) (packed fixedWidths (fixedNumbers (x .settled))) (flat cellOctets (x .cells) ++ flat resultOctets (x .results))
 

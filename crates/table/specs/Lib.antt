@@ -1,1 +1,4 @@
 pub mod Updates
+pub mod Find
+pub mod Held
+pub mod Octets

@@ -1,0 +1,70 @@
+-- `table::find` meets its contract. The invariant: all before low are lower than id, and all from high on are higher. Assumes
+-- nothing.
+use Prim.Native.Nat.{_+_, _-_, _*_, _/_, _≤_, _<_}
+use mathlib.Core.Path.{_≡_, sym, _∙_}
+use native.Mathlib.Omega.{arith}
+use lib.ListN.{length, getD}
+use Rattle.model.specs.Registrations.{ids}
+use Rattle.model.specs.Table.{decode}
+use Rattle.model.proofs.Fits.{laid-fits}
+use Rattle.table.proofs.Header.{laid-length}
+use Rattle.table.proofs.Finding.{Between, between-all, between-low, between-high, between-found, between-none, record-id, length-ids}
+use Rattle.table.proofs.find.Statement.{statement}
+use Rattle.table.proofs.find.Tie as tie
+use Rattle.table.proofs.find.Reads as reads
+use Rattle.table.proofs.find.Lts as lts
+use Rattle.octets.proofs.get.Reads as get-reads
+use Rattle.table.proofs.count.Reads as count-reads
+
+abbrev Inv-loop : tie.InvT-loop
+Inv-loop table id low₀ high₀ low high =
+    (length table ≡ 31824) × (length (ids (decode table .streams)) ≤ 64) × Between id (ids (decode table .streams)) low high
+
+abbrev μ-loop : tie.MeasureT-loop
+μ-loop table id low₀ high₀ low high = high - low
+
+loop-holds : tie.Need-loop-holds Inv-loop μ-loop
+loop-holds c =
+    let e = length-ids (decode (c .before .before .args .table .now) .streams) in
+    (laid-length _ (c .before .before .pre), omega arith, between-all _ _ _ (c .count .ensures .0 ∙ sym e))
+
+-- the StreamID that was read is the one in the middle
+read : (c : tie.After-get Inv-loop μ-loop)
+    → c .get .result ≡ getD (ids (decode (c .before .before .before .before .before .args .table .now) .streams))
+    (c .before .before .loop .low + (c .before .before .loop .high - c .before .before .loop .low) / 2) 0
+read c =
+    let l = c .before .before .loop in
+    let t = c .before .before .before .before .before .args .table .now in
+    let m = l .low + (l .high - l .low) / 2 in
+    let h : m < length (decode t .streams) = omega (arith, length-ids (decode t .streams)) in
+    c .get .ensures .0 ∙ record-id t (c .before .before .before .before .before .pre) m (272 + m * 493) h (omega arith)
+
+returns : tie.Need-returns Inv-loop μ-loop
+returns c =
+    let l = c .before .before .before .loop in
+    let w = laid-fits _ (c .before .before .before .before .before .before .pre) in
+    between-found _ _ (w .ascending) (l .low + (l .high - l .low) / 2) (omega arith) (sym (read (c .before)) ∙ c .if1 .taken)
+
+loop-again : tie.Need-loop-again Inv-loop μ-loop
+loop-again c =
+    let l = c .before .before .before .before .loop in
+    let w = laid-fits _ (c .before .before .before .before .before .before .before .pre) in
+    let e = read (c .before .before) in
+    (l .inv .0, l .inv .1, between-high _ _ (w .ascending) _ _ (l .low + (l .high - l .low) / 2) (l .inv .2) (omega arith) (omega arith) (omega arith))
+
+loop-again-2 : tie.Need-loop-again-2 Inv-loop μ-loop
+loop-again-2 c =
+    let l = c .before .before .before .before .loop in
+    let w = laid-fits _ (c .before .before .before .before .before .before .before .pre) in
+    let e = read (c .before .before) in
+    (l .inv .0, l .inv .1, between-low _ _ (w .ascending) _ _ (l .low + (l .high - l .low) / 2) (l .inv .2) (omega arith) (omega arith) (omega arith))
+
+returns-2 : tie.Need-returns-2 Inv-loop μ-loop
+returns-2 c = between-none _ _ _ _ (c .before .loop .inv .2) (c .loop-test .left)
+
+pub find-spec : {M : Type 1} → statement M
+find-spec =
+    tie.close
+    (tie.spec Inv-loop μ-loop (λ c κs. c .before .pre) loop-holds (λ c. omega arith) (λ c. omega arith) (λ c. omega arith)
+    (λ c. omega arith) (λ c κs. omega arith) returns (λ c. omega arith) (λ c. omega arith) loop-again (λ c. omega arith) loop-again-2
+    returns-2)

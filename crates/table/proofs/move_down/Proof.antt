@@ -1,0 +1,48 @@
+-- `table::move_down` meets its contract. The invariant: what is left to move gives the answer. Assumes nothing.
+use Prim.Native.Nat.{ℕ, suc, _+_, _-_, _≤_, _<_}
+use native.Mathlib.Nat.{add-zero, sub-zero}
+use mathlib.Core.Path.{_≡_, refl, sym, _∙_}
+use native.Mathlib.Omega.{arith}
+use lib.ListN.{length, length-set}
+use Rattle.octets.specs.Parts.{part, patch}
+use Rattle.octets.proofs.Parts.{patch-none, part-none}
+use Rattle.table.proofs.Moving.{move-less}
+use Rattle.table.proofs.move_down.Statement.{statement}
+use Rattle.table.proofs.move_down.Tie as tie
+use Rattle.table.proofs.move_down.Reads as reads
+use Rattle.table.proofs.move_down.Lts as lts
+
+abbrev Inv-loop : tie.InvT-loop
+Inv-loop s₀ at d n i₀ s i =
+    (i ≤ n) × (length s ≡ length s₀) × (patch (at + i) (n - i) (part (at + d + i) (n - i) s) s ≡ patch at n (part (at + d) n s₀) s₀)
+
+abbrev μ-loop : tie.MeasureT-loop
+μ-loop s₀ at d n i₀ s i = n - i
+
+loop-holds : tie.Need-loop-holds Inv-loop μ-loop
+loop-holds c = (omega arith, refl, rw (add-zero, add-zero, sub-zero))
+
+loop-again : tie.Need-loop-again Inv-loop μ-loop
+loop-again c =
+    let a = c .before .before .before .args in
+    let l = c .before .before .loop in
+    let m : ℕ = a .n - (l .i + 1) in
+    let e : a .n - l .i ≡ suc m = omega arith in
+    let p : a .at + (l .i + 1) ≡ a .at + l .i + 1 = omega arith in
+    let q : a .at + a .d + (l .i + 1) ≡ a .at + a .d + l .i + 1 = omega arith in
+    let h : a .at + a .d + l .i + m < length (l .s) = omega arith in (
+      omega arith,
+      simp length-set (omega arith),
+      rw (p, q) (move-less (a .at + l .i) (a .at + a .d + l .i) m (l .s) (omega arith) h ∙ (rw e at (l .inv .2))),
+    )
+
+returns : tie.Need-returns Inv-loop μ-loop
+returns c =
+    let e : c .before .before .args .n - c .before .loop .i ≡ 0 = omega arith in
+    sym (rw part-none (patch-none _ _)) ∙ (rw e at (c .before .loop .inv .2))
+
+pub move-down-spec : {M : Type 1} → statement M
+move-down-spec =
+    tie.close
+    (tie.spec Inv-loop μ-loop loop-holds (λ c. omega arith) (λ c. omega arith) (λ c. omega arith) (λ c. omega arith) (λ c. omega arith)
+    (λ c. omega arith) (λ c. omega arith) loop-again (λ c. omega arith) returns)
