@@ -1,1 +1,4 @@
 pub mod Demands
+pub mod Steps
+pub mod Places
+pub mod Sources

@@ -1,0 +1,118 @@
+-- Which of steps a to g is the first that applies, by the octets that the code tests.
+use mathlib.Core.Path.{_≡_, refl, sym, ap, _∙_}
+use mathlib.Core.List.{List, [], _∷_}
+use mathlib.Core.Bool.{Bool, true, false, cond, not}
+use Prim.Native.Nat.{ℕ, _+_, _*_, _/_, _%_, _≤_, _<_}
+use lib.ListN.{getD}
+use lib.Dec.{eqb, ltb}
+use borrow.Author.Tests.{eq-eqb, ne-eqb, lt-ltb, le-ltb}
+use Rattle.octets.specs.Be.{beAt}
+use Rattle.octets.specs.Fields.{fields}
+use Rattle.model.specs.Lists.{isOne}
+use Rattle.model.specs.State.{Port, Fixed, Health, sound, broken, Varying, Talker, noTalker, talker, Cell, Column, none, advertise, failed, Class, noClass, classA, classB, portAt, classOf, isNoClass, supports}
+use Rattle.model.specs.Frames.{priorityOf}
+use Rattle.model.specs.Settling.{Source, nowhere, from, isTalking, isBroken, brokenColumn, first, stepsFrom}
+use Rattle.model.specs.Table.{toPort, toSettings, toCell, cellFrom, talkerFrom, fixedFrom, cellWidths, toHealth, toLeaving, portFrom, portWidths}
+use Rattle.model.proofs.SettingsOctets.{octet-field}
+use Rattle.columns.specs.Answers.{sourceIn}
+
+-- The Talker that a cell's octets say.
+
+abbrev numbers : List ℕ → List ℕ
+numbers s = fields cellWidths 0 s
+
+abbrev saidTalker : List ℕ → Talker
+saidTalker s =
+    talker (fixedFrom 4 (numbers s))
+    record { health = toHealth (getD (numbers s) 0 0) (getD (numbers s) 10 0) (getD (numbers s) 11 0); latency = getD (numbers s) 9 0 }
+    (isOne (getD (numbers s) 1 0)) (toLeaving (getD (numbers s) 2 0) (getD (numbers s) 3 0))
+
+pub no-talker : (s : List ℕ) → getD s 0 0 ≡ 0 → toCell s .talks ≡ noTalker
+unfolding toCell cellFrom talkerFrom fields cellWidths
+no-talker s e = rw (eq-eqb (beAt 1 s 0) 0 (octet-field s 0 ∙ e))
+
+pub a-talker : (s : List ℕ) → (getD s 0 0 ≡ 0 → ⊥) → toCell s .talks ≡ saidTalker s
+unfolding toCell cellFrom talkerFrom fields cellWidths
+a-talker s n = rw (ne-eqb (beAt 1 s 0) 0 (λ e. n (sym (octet-field s 0) ∙ e)))
+
+pub not-talking : (s : List ℕ) → getD s 0 0 ≡ 0 → isTalking (toCell s) ≡ false
+unfolding isTalking
+not-talking s e = rw (no-talker s e)
+
+pub talking : (s : List ℕ) → (getD s 0 0 ≡ 0 → ⊥) → isTalking (toCell s) ≡ true
+unfolding isTalking
+talking s n = rw (a-talker s n)
+
+-- c: a Talker is Failed where its kind is not Advertise's
+failed-asked : (k b c : ℕ) (d : Column)
+    → cond (isBroken (toHealth k b c)) (brokenColumn (toHealth k b c)) d ≡ cond (not (eqb k 1)) (failed b c) d
+unfolding toHealth isBroken brokenColumn
+failed-asked k b c d = go (eqb k 1)
+  where
+    go : (e : Bool) → cond (isBroken (cond e sound (broken b c))) (brokenColumn (cond e sound (broken b c))) d ≡ cond (not e) (failed b c) d
+    go true = refl
+    go false = refl
+
+-- The steps, one after another: settings s, the cell here on the port at place p, the Talker's cell said at place t.
+
+module _ (s here said : List ℕ) (p t : ℕ) where
+  abbrev decided : Column
+  decided = first (stepsFrom (toSettings s) p (toCell here) (sourceIn t (toCell said))) advertise
+
+  abbrev own : ℕ → Column
+  own = failed (toSettings s .bridgeId)
+
+  abbrev class : Class
+  class = classOf (toSettings s) (beAt 1 said 19 / 32)
+
+  -- a, no Talker port
+  pub no-source : getD said 0 0 ≡ 0 → none ≡ decided
+  unfolding sourceIn stepsFrom first
+  no-source e = rw (no-talker said e)
+
+  module _ (port : List ℕ) (there : portAt (toSettings s) p ≡ toPort port) (k : getD said 0 0 ≡ 0 → ⊥) where
+    -- every test as the code asks it
+    steps-asked : decided
+        ≡ cond (eqb p t) none
+        (cond (not (supports (toPort port) class)) none
+        (cond (not (eqb (getD said 0 0) 1)) (failed (beAt 8 said 24) (getD said 32 0))
+        (cond (eqb (getD said 1 0) 1) (own 16)
+        (cond (isTalking (toCell here)) (own 4)
+        (cond (isNoClass class) (own 13)
+        (cond (ltb (beAt 2 port 2) (beAt 2 said 15)) (own 14) advertise))))))
+    unfolding sourceIn stepsFrom first isOne fields cellWidths fixedFrom priorityOf toPort portFrom portWidths
+    steps-asked = rw (a-talker said k, there, octet-field said 0, octet-field said 1, octet-field said 32, failed-asked)
+
+    pub at-the-talker : p ≡ t → none ≡ decided
+    at-the-talker a = sym (steps-asked ∙ rw (eq-eqb p t a))
+
+    module _ (a : p ≡ t → ⊥) where
+      pub unsupported : supports (toPort port) class ≡ false → none ≡ decided
+      unsupported b = sym (steps-asked ∙ rw (ne-eqb p t a, b))
+
+      module _ (b : supports (toPort port) class ≡ true) where
+        pub registered-failed : (getD said 0 0 ≡ 1 → ⊥) → failed (beAt 8 said 24) (getD said 32 0) ≡ decided
+        registered-failed c = sym (steps-asked ∙ rw (ne-eqb p t a, b, ne-eqb (getD said 0 0) 1 c))
+
+        module _ (c : getD said 0 0 ≡ 1) where
+          pub changed-mark : getD said 1 0 ≡ 1 → own 16 ≡ decided
+          changed-mark d = sym (steps-asked ∙ rw (ne-eqb p t a, b, eq-eqb (getD said 0 0) 1 c, eq-eqb (getD said 1 0) 1 d))
+
+          module _ (d : getD said 1 0 ≡ 1 → ⊥) where
+            pub talker-here : (getD here 0 0 ≡ 0 → ⊥) → own 4 ≡ decided
+            talker-here e = sym (steps-asked ∙ rw (ne-eqb p t a, b, eq-eqb (getD said 0 0) 1 c, ne-eqb (getD said 1 0) 1 d, talking here e))
+
+            module _ (e : getD here 0 0 ≡ 0) where
+              pub no-class : isNoClass class ≡ true → own 13 ≡ decided
+              no-class f =
+                  sym (steps-asked ∙ rw (ne-eqb p t a, b, eq-eqb (getD said 0 0) 1 c, ne-eqb (getD said 1 0) 1 d, not-talking here e, f))
+
+              module _ (f : isNoClass class ≡ false) where
+                past-f : decided ≡ cond (ltb (beAt 2 port 2) (beAt 2 said 15)) (own 14) advertise
+                past-f = steps-asked ∙ rw (ne-eqb p t a, b, eq-eqb (getD said 0 0) 1 c, ne-eqb (getD said 1 0) 1 d, not-talking here e, f)
+
+                pub too-large : beAt 2 port 2 < beAt 2 said 15 → own 14 ≡ decided
+                too-large g = sym (past-f ∙ rw (lt-ltb (beAt 2 port 2) (beAt 2 said 15) g))
+
+                pub no-step : beAt 2 said 15 ≤ beAt 2 port 2 → advertise ≡ decided
+                no-step g = sym (past-f ∙ rw (le-ltb (beAt 2 port 2) (beAt 2 said 15) g))
