@@ -67,15 +67,15 @@ module _ (id : ℕ) (l : List ℕ) (a : Ascending l) (low high middle : ℕ) (b 
 
 -- the three arms of `foundAt`
 module _ (id k i : ℕ) (l : List ℕ) where
-  found-before : id < i → foundAt id k (i ∷ l) ≡ Gap k
+  pub found-before : id < i → foundAt id k (i ∷ l) ≡ Gap k
   unfolding foundAt
   found-before h = rw (lt-ltb id i h)
 
-  found-here : id ≡ i → foundAt id k (i ∷ l) ≡ At k
+  pub found-here : id ≡ i → foundAt id k (i ∷ l) ≡ At k
   unfolding foundAt
   found-here h = let m : i ≤ id = omega arith in rw (le-ltb id i m, eq-eqb id i h)
 
-  found-past : i < id → foundAt id k (i ∷ l) ≡ foundAt id (suc k) l
+  pub found-past : i < id → foundAt id k (i ∷ l) ≡ foundAt id (suc k) l
   unfolding foundAt
   found-past h = let m : i ≤ id = omega arith in let n : id ≡ i → ⊥ = λ e. omega arith in rw (le-ltb id i m, ne-eqb id i n)
 

@@ -5,3 +5,5 @@ pub mod StreamParts
 pub mod Finding
 pub mod Moving
 pub mod Inserting
+pub mod Places
+pub mod Fitting

@@ -122,7 +122,7 @@ fn put_record(table: &mut [u8], n: usize, k: usize, id: u64)
 
 // A record for the stream id, which is not held, at its place k.
 pub fn insert(table: &mut [u8], k: usize, id: u64)
-    requires { ⌜ Laid (now table) × (k ≤ length (decode (now table) .streams)) × (length (decode (now table) .streams) < 64) ⌝ }
+    requires { ⌜ Laid (now table) × (length (decode (now table) .streams) < 64) × (k ≤ length (decode (now table) .streams)) ⌝ }
     ensures { λ _. ⌜ now (table .exit) ≡ encode (inserted k id (decode (now (table .entry)))) ⌝ }
 {
     let n = count(table);

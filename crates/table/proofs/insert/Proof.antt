@@ -20,7 +20,7 @@ returns c =
     c .before .before .put-record .ensures
     ∙ ap (λ (n : ℕ). recordPut n (a .k) (a .id) (a .table .now)) (c .before .before .before .before .count .ensures .0)
     ∙ ap (recordPut _ (a .k) (a .id)) (laid-is _ (p .0))
-    ∙ record-put _ (laid-fits _ (p .0)) (a .k) (a .id) (p .1) (p .2)
+    ∙ record-put _ (laid-fits _ (p .0)) (a .k) (a .id) (p .2) (p .1)
 
 pub insert-spec : {M : Type 1} → statement M
 insert-spec = tie.close (tie.spec (λ c κs. search needs) put-record-requires (λ c. search needs) returns)
