@@ -1,0 +1,202 @@
+-- Acts and expiry leave a cell whose numbers fit their fields.
+use mathlib.Core.Path.{_≡_, refl}
+use mathlib.Core.List.{[], _∷_}
+use mathlib.Core.Bool.{Bool, true, false, cond}
+use Prim.Native.Nat.{ℕ, _^_, _<_}
+use native.Mathlib.Omega.{arith}
+use lib.ListN.{length, take, drop}
+use Rattle.octets.specs.Fields.{Fit}
+use Rattle.octets.proofs.Fields.{fit-append, fit-split, fit-zeros}
+use Rattle.model.specs.State.{Settings, Leaving, stays, since, Fixed, Health, sound, broken, Varying, Talker, noTalker, talker, Ready, Listener, noListener, listener, Cell}
+use Rattle.model.specs.Registrations.{Kind, Act, leaveAll, leave, talk, listen, begin, talksAs, hearsAs, quitTalker, quitListener, quit, sameFixed, joinTalker, does}
+use Rattle.model.specs.WrittenFrames.{fixedNumbers}
+use Rattle.model.specs.Settling.{expired, expireTalker, expireListener, expireCell}
+use Rattle.model.specs.Table.{cellWidths, leavingNumber, sinceNumber, healthNumber, bridgeNumber, codeNumber, talkerNumbers, listenerNumbers, cellNumbers}
+use Rattle.model.specs.Laid.{FitRank, FitCell}
+use Rattle.model.proofs.Valid.{ValidFixed, ValidHealth, ValidVarying}
+use Rattle.model.proofs.Parts.{_also_}
+use Rattle.model.proofs.Cells.{fixedWidths, fixed-fit, bit-few, ready-number}
+use Rattle.model.proofs.FoundVectors.{Fits}
+
+-- The halves of a cell.
+
+record FitTalker (t : Talker) : Type 0 where
+  numbers : Fit (take 12 cellWidths) (talkerNumbers t)
+  rank : FitRank t
+
+abbrev FitListener : Listener → Type 0
+FitListener h = Fit (drop 12 cellWidths) (listenerNumbers h)
+
+talker-size : (t : Talker) → length (talkerNumbers t) ≡ length (take 12 cellWidths)
+unfolding talkerNumbers fixedNumbers cellWidths
+talker-size noTalker = refl
+talker-size (talker f v m l) = refl
+
+halves : (c : Cell) → FitCell c → FitTalker (c .talks) × FitListener (c .hears)
+unfolding cellNumbers cellWidths
+halves c fit =
+    let (t, h) = fit-split (take 12 cellWidths) (talkerNumbers (c .talks)) (drop 12 cellWidths) (listenerNumbers (c .hears)) (talker-size (c .talks)) (fit .numbers) in
+    (record { numbers = t; rank = fit .rank }, h)
+
+whole : (c : Cell) → FitTalker (c .talks) → FitListener (c .hears) → FitCell c
+unfolding cellNumbers cellWidths
+whole c t h = record {
+  numbers = fit-append (take 12 cellWidths) (talkerNumbers (c .talks)) (drop 12 cellWidths) (listenerNumbers (c .hears)) (t .numbers) h;
+  rank = t .rank;
+}
+
+-- no numbers but zeros
+no-talker : FitTalker noTalker
+unfolding talkerNumbers cellWidths
+no-talker = record { numbers = fit-zeros (take 12 cellWidths); rank = tt }
+
+no-listener : FitListener noListener
+unfolding listenerNumbers cellWidths
+no-listener = fit-zeros (drop 12 cellWidths)
+
+-- Leaving.
+
+leaving-few : (l : Leaving) → leavingNumber l < 256
+unfolding leavingNumber
+leaving-few stays = omega arith
+leaving-few (since t) = omega arith
+
+-- begun at the clock, or not
+module _ (clock : ℕ) (small : clock < 2 ^ 32) where
+  begun-fits : (l : Leaving) → sinceNumber l < 2 ^ 32 → sinceNumber (begin clock l) < 2 ^ 32
+  unfolding begin sinceNumber
+  begun-fits stays h = small
+  begun-fits (since t) h = h
+
+  maybe-begun-fits : (t : Bool) (l : Leaving) → sinceNumber l < 2 ^ 32 → sinceNumber (cond t (begin clock l) l) < 2 ^ 32
+  maybe-begun-fits true l h = begun-fits l h
+  maybe-begun-fits false l h = h
+
+stays-fits : sinceNumber stays < 2 ^ 32
+unfolding sinceNumber
+stays-fits = omega arith
+
+-- A Talker, with its time, and with other marks and another time; one that joins.
+
+module _ (f : Fixed) (v : Varying) (m : Bool) (l : Leaving) (fit : FitTalker (talker f v m l)) where
+  talker-since : sinceNumber l < 2 ^ 32
+  unfolding Fit talkerNumbers cellWidths
+  talker-since = fit .numbers .1 .1 .1 .0
+
+  talker-again : (n : Bool) (k : Leaving) → sinceNumber k < 2 ^ 32 → FitTalker (talker f v n k)
+  unfolding Fit talkerNumbers cellWidths
+  talker-again n k h = record {
+    numbers = fit .numbers .0 also omega (arith, bit-few n) also leaving-few k also h also fit .numbers .1 .1 .1 .1;
+    rank = fit .rank;
+  }
+
+  talker-fixed : Fit fixedWidths (fixedNumbers f)
+  unfolding Fit talkerNumbers cellWidths fixedWidths fixedNumbers
+  talker-fixed =
+      fit-split fixedWidths (fixedNumbers f) (4 ∷ 8 ∷ 1 ∷ []) (v .latency ∷ bridgeNumber (v .health) ∷ codeNumber (v .health) ∷ []) refl
+      (fit .numbers .1 .1 .1 .1) .0
+
+health-fit : (h : Health) → ValidHealth h → (healthNumber h < 256) × (bridgeNumber h < 256 ^ 8) × (codeNumber h < 256)
+unfolding healthNumber bridgeNumber codeNumber
+health-fit sound v = (omega arith, omega arith, omega arith)
+health-fit (broken b c) v = (omega arith, v .0, v .1)
+
+joined-fits : (f : Fixed) (v : Varying) → Fit fixedWidths (fixedNumbers f) → f .rank < 2 → ValidVarying v → FitTalker (talker f v false stays)
+unfolding Fit talkerNumbers cellWidths fixedWidths
+joined-fits f v w r q =
+    let (k, b, c) = health-fit (v .health) (q .health) in
+    record {
+      numbers = k
+          also omega (arith, bit-few false)
+          also leaving-few stays
+          also stays-fits
+          also fit-append fixedWidths (fixedNumbers f) (4 ∷ 8 ∷ 1 ∷ []) (v .latency ∷ bridgeNumber (v .health) ∷ codeNumber (v .health) ∷ []) w
+          (q .latency also b also c also tt);
+      rank = r;
+    }
+
+join-fits : (f : Fixed) (v : Varying) → ValidFixed f → ValidVarying v → (t : Talker) → FitTalker t → FitTalker (joinTalker f v t)
+unfolding joinTalker
+join-fits f v p q noTalker fit = joined-fits f v (fixed-fit f p) (p .rank) q
+join-fits f v p q (talker g w m l) fit = go (sameFixed f g)
+  where
+    go : (t : Bool) → FitTalker (cond t (talker g v false stays) (talker g w true stays))
+    go true = joined-fits g v (talker-fixed g w m l fit) (fit .rank) q
+    go false = talker-again g w m l fit true stays stays-fits
+
+-- A Listener that is there.
+
+module _ (r : Ready) where
+  listener-since : (l : Leaving) → FitListener (listener r l) → sinceNumber l < 2 ^ 32
+  unfolding Fit listenerNumbers cellWidths
+  listener-since l fit = fit .1 .1 .0
+
+  listener-fits : (l : Leaving) → sinceNumber l < 2 ^ 32 → FitListener (listener r l)
+  unfolding Fit listenerNumbers cellWidths
+  listener-fits l h = omega (arith, ready-number r .1) also leaving-few l also h also tt
+
+-- What acts leave.
+
+module _ (clock : ℕ) (small : clock < 2 ^ 32) where
+  quit-talker-fits : (k : Kind) (t : Talker) → FitTalker t → FitTalker (quitTalker clock k t)
+  unfolding quitTalker
+  quit-talker-fits k noTalker fit = fit
+  quit-talker-fits k (talker f v m l) fit =
+      let when = talker-since f v m l fit in
+      talker-again f v m l fit m (cond (talksAs k (v .health)) (begin clock l) l) (maybe-begun-fits clock small (talksAs k (v .health)) l when)
+
+  quit-listener-fits : (k : Kind) (h : Listener) → FitListener h → FitListener (quitListener clock k h)
+  unfolding quitListener
+  quit-listener-fits k noListener fit = fit
+  quit-listener-fits k (listener r l) fit =
+      listener-fits r (cond (hearsAs k) (begin clock l) l) (maybe-begun-fits clock small (hearsAs k) l (listener-since r l fit))
+
+  pub quit-fits : (k : Kind) (c : Cell) → FitCell c → FitCell (quit clock k c)
+  unfolding quit
+  quit-fits k c fit =
+      let (t, h) = halves c fit in
+      whole (quit clock k c) (quit-talker-fits k (c .talks) t) (quit-listener-fits k (c .hears) h)
+
+  pub does-fits : (a : Act) → Fits a → (c : Cell) → FitCell c → FitCell (does clock a c)
+  unfolding does
+  does-fits (leaveAll k) p c fit = quit-fits k c fit
+  does-fits (leave k i) p c fit = quit-fits k c fit
+  does-fits (talk i f v) p c fit =
+      let (t, h) = halves c fit in
+      whole (does clock (talk i f v) c) (join-fits f v (p .1) (p .2) (c .talks) t) h
+  does-fits (listen i r) p c fit =
+      let (t, h) = halves c fit in
+      whole (does clock (listen i r) c) t (listener-fits r stays stays-fits)
+
+-- What expiry leaves.
+
+module _ (st : Settings) (time : ℕ) where
+  expire-talker-fits : (t : Talker) → FitTalker t → FitTalker (expireTalker st time t)
+  unfolding expireTalker
+  expire-talker-fits noTalker fit = fit
+  expire-talker-fits (talker f v m l) fit = go (expired st time l)
+    where
+      go : (t : Bool) → FitTalker (cond t noTalker (talker f v m l))
+      go true = no-talker
+      go false = fit
+
+  expire-listener-fits : (h : Listener) → FitListener h → FitListener (expireListener st time h)
+  unfolding expireListener
+  expire-listener-fits noListener fit = fit
+  expire-listener-fits (listener r l) fit = go (expired st time l)
+    where
+      go : (t : Bool) → FitListener (cond t noListener (listener r l))
+      go true = no-listener
+      go false = fit
+
+  -- of the Talker alone
+  pub expire-first-fits : (c : Cell) → FitCell c → FitCell record { talks = expireTalker st time (c .talks); hears = c .hears }
+  expire-first-fits c fit =
+      let (t, h) = halves c fit in
+      whole record { talks = expireTalker st time (c .talks); hears = c .hears } (expire-talker-fits (c .talks) t) h
+
+  pub expire-fits : (c : Cell) → FitCell c → FitCell (expireCell st time c)
+  unfolding expireCell
+  expire-fits c fit =
+      let (t, h) = halves c fit in
+      whole (expireCell st time c) (expire-talker-fits (c .talks) t) (expire-listener-fits (c .hears) h)

@@ -1,0 +1,5 @@
+pub mod Keeps
+pub mod Leaving
+pub mod Joining
+pub mod Holding
+pub mod Acts

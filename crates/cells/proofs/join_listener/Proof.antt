@@ -1,0 +1,22 @@
+-- `cells::join_listener` meets its contract.
+use mathlib.Core.Path.{ap, _∙_}
+use borrow.Author.Needs.{needs}
+use Rattle.octets.specs.Parts.{patch, zeros}
+use Rattle.cells.specs.Steps.{heard}
+use Rattle.cells.proofs.Joining.{listens}
+use Rattle.cells.proofs.join_listener.Statement.{statement}
+use Rattle.cells.proofs.join_listener.Tie as tie
+
+returns : tie.Need-returns
+unfolding heard
+returns c clock id =
+    let a = c .before .before .before .before .before .before .before .before .before .args in
+    let p = c .before .before .before .before .before .before .before .before .before .pre in
+    c .before .before .clear .ensures
+    ∙ ap (patch 34 5 (zeros 5)) (c .before .before .before .before .before .before .put .ensures)
+    ∙ listens (a .four) (p .2) (p .3) clock id (a .cell .now) (p .0)
+
+pub join-listener-spec : {M : Type 1} → statement M
+join-listener-spec =
+    tie.close
+    (tie.spec (λ c κs. search needs) (λ c κs. search needs) (λ c. search needs) returns)

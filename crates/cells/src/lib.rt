@@ -1,0 +1,200 @@
+// What the events of a frame, expiry and reading do to one cell of 39 octets (docs/TABLE.md, "Cell").
+ghost use mathlib.Core.Path.{_≡_};
+ghost use mathlib.Core.Bool.{_||_};
+ghost use Prim.Native.Nat.{ℕ, _+_, _≤_, _<_, _^_};
+ghost use lib.ListN.{length};
+ghost use Rattle.octets.specs.Be.{beAt};
+ghost use Rattle.model.specs.State.{Settings};
+ghost use Rattle.model.specs.Registrations.{quit, does, listen};
+ghost use Rattle.model.specs.Frames.{registers, firstLength};
+ghost use Rattle.model.specs.Settling.{expireCell, isTalking, isHearing};
+ghost use Rattle.model.specs.Table.{cellOctets, toCell, toReady};
+ghost use Rattle.model.specs.Laid.{LaidCell};
+ghost use Rattle.cells.specs.Acts.{kindAt, talkOf};
+ghost use Rattle.cells.specs.Steps.{begun, lapsed, marked, failing, varied, fixed, same};
+
+// The places of a cell's fields.
+const TALKER: usize = 0;
+
+const CHANGED: usize = 1;
+
+const TALKER_LEAVES: usize = 2;
+
+const DESTINATION: usize = 7;
+
+const VLAN: usize = 13;
+
+const PRIORITY: usize = 19;
+
+const LATENCY: usize = 20;
+
+const BRIDGE_ID: usize = 24;
+
+const CODE: usize = 32;
+
+const LISTENER: usize = 33;
+
+const LISTENER_LEAVES: usize = 34;
+
+// The places of a Talker's FirstValue.
+const FIRST_DESTINATION: usize = 8;
+
+const FIRST_VLAN: usize = 14;
+
+const FIRST_PRIORITY: usize = 20;
+
+const FIRST_LATENCY: usize = 21;
+
+const FIRST_BRIDGE_ID: usize = 25;
+
+const FIRST_CODE: usize = 33;
+
+// Begins leaving at the clock, unless it was begun: the mark at a place, and the time behind it.
+fn begin(cell: &mut [u8], at: usize, clock: u32)
+    requires { ⌜ (length (now cell) ≡ 39) × (at ≤ 34) ⌝ }
+    ensures { λ _. ⌜ now (cell .exit) ≡ begun at clock (now (cell .entry)) ⌝ }
+{
+    if cell[at] == 0 {
+        octets::put(cell, at, 1, 1);
+        octets::put(cell, at + 1, 4, clock as u64);
+    }
+}
+
+// Lv or LeaveAll of an AttributeType: what is held of that type begins to leave.
+pub fn quit(cell: &mut [u8], kind: u8, clock: u32)
+    requires { ⌜ LaidCell (now cell) × (length (now cell) ≡ 39) × (1 ≤ kind) × (kind ≤ 3) ⌝ }
+    ensures { λ _. ⌜ now (cell .exit) ≡ cellOctets (quit clock (kindAt kind) (toCell (now (cell .entry)))) ⌝ }
+{
+    if kind == 3 {
+        if 0 < cell[LISTENER] {
+            begin(cell, LISTENER_LEAVES, clock);
+        }
+    } else {
+        if cell[TALKER] == kind {
+            begin(cell, TALKER_LEAVES, clock);
+        }
+    }
+}
+
+// A Listener's join: the declaration type of a FourPackedEvent, not leaving.
+pub fn join_listener(cell: &mut [u8], four: u8)
+    requires { ⌜ LaidCell (now cell) × (length (now cell) ≡ 39) × (1 ≤ four) × (four ≤ 3) ⌝ }
+    ensures { λ _. ⌜ ((clock id : ℕ) → now (cell .exit) ≡ cellOctets (does clock (listen id (toReady four)) (toCell (now (cell .entry))))) ⌝ }
+{
+    octets::put(cell, LISTENER, 1, four as u64);
+    octets::clear(cell, LISTENER_LEAVES, 5);
+}
+
+// Whether destination, VLAN, TSpec, priority and rank are those of value n of a FirstValue. VLAN and TSpec are compared as one
+// number of six octets.
+fn is_same(cell: &[u8], first: &[u8], n: usize) -> bool
+    requires { ⌜ (length (now cell) ≡ 39) × (25 ≤ length (now first)) × (beAt 6 (now first) 8 + n < 256 ^ 6) ⌝ }
+    ensures { λ r. ⌜ r ≡ same (now (first .entry)) n (now (cell .entry)) ⌝ }
+{
+    if octets::get(cell, DESTINATION, 6) == octets::get(first, FIRST_DESTINATION, 6) + (n as u64) {
+        if octets::get(cell, VLAN, 6) == octets::get(first, FIRST_VLAN, 6) {
+            return cell[PRIORITY] / 16 == first[FIRST_PRIORITY] / 16;
+        }
+    }
+    false
+}
+
+// Takes destination, VLAN, TSpec, priority and rank of value n of a FirstValue.
+fn write_fixed(cell: &mut [u8], first: &[u8], n: usize)
+    requires { ⌜ (length (now cell) ≡ 39) × (25 ≤ length (now first)) × (beAt 6 (now first) 8 + n < 256 ^ 6) ⌝ }
+    ensures { λ _. ⌜ now (cell .exit) ≡ fixed (now (first .entry)) n (now (cell .entry)) ⌝ }
+{
+    octets::put(
+        cell,
+        DESTINATION,
+        6,
+        octets::get(first, FIRST_DESTINATION, 6) + (n as u64),
+    );
+    octets::put(cell, VLAN, 6, octets::get(first, FIRST_VLAN, 6));
+    octets::put(cell, PRIORITY, 1, (first[FIRST_PRIORITY] / 16 * 16) as u64);
+}
+
+// Takes the failure of a FirstValue, or none.
+fn write_failure(cell: &mut [u8], kind: u8, first: &[u8])
+    requires { ⌜ (length (now cell) ≡ 39) × (25 ≤ length (now first)) × (kind ≡ 2 → 34 ≤ length (now first)) ⌝ }
+    ensures { λ _. ⌜ now (cell .exit) ≡ failing kind (now (first .entry)) (now (cell .entry)) ⌝ }
+{
+    if kind == 2 {
+        octets::put(cell, BRIDGE_ID, 8, octets::get(first, FIRST_BRIDGE_ID, 8));
+        octets::put(cell, CODE, 1, first[FIRST_CODE] as u64);
+    } else {
+        octets::clear(cell, BRIDGE_ID, 9);
+    }
+}
+
+// Takes type, latency and failure of a FirstValue; clears the changed mark and ends leaving.
+fn write_varying(cell: &mut [u8], kind: u8, first: &[u8])
+    requires { ⌜ (length (now cell) ≡ 39) × (25 ≤ length (now first)) × (kind ≡ 2 → 34 ≤ length (now first)) ⌝ }
+    ensures { λ _. ⌜ now (cell .exit) ≡ varied kind (now (first .entry)) (now (cell .entry)) ⌝ }
+{
+    octets::put(cell, TALKER, 1, kind as u64);
+    octets::clear(cell, CHANGED, 6);
+    octets::put(cell, LATENCY, 4, octets::get(first, FIRST_LATENCY, 4));
+    write_failure(cell, kind, first);
+}
+
+// Sets the changed mark and ends leaving.
+fn mark_changed(cell: &mut [u8])
+    requires { ⌜ length (now cell) ≡ 39 ⌝ }
+    ensures { λ _. ⌜ now (cell .exit) ≡ marked (now (cell .entry)) ⌝ }
+{
+    octets::put(cell, CHANGED, 1, 1);
+    octets::clear(cell, TALKER_LEAVES, 5);
+}
+
+// A Talker's join, of value n of a FirstValue: it registers, replaces what may vary, or marks the held Talker as changed.
+pub fn join_talker(cell: &mut [u8], kind: u8, first: &[u8], n: usize)
+    requires { ⌜ LaidCell (now cell) × (length (now cell) ≡ 39) × (1 ≤ kind) × (kind ≤ 2)
+        × (length (now first) ≡ firstLength (registers (kindAt kind))) × (beAt 6 (now first) 8 + n < 256 ^ 6) ⌝ }
+    ensures { λ _. ⌜ ((clock : ℕ) → now (cell .exit) ≡ cellOctets (does clock (talkOf (kindAt kind) (now (first .entry)) n) (toCell (now (cell .entry))))) ⌝ }
+{
+    if cell[TALKER] == 0 {
+        write_varying(cell, kind, first);
+        write_fixed(cell, first, n);
+        return;
+    }
+    let unchanged = is_same(cell, first, n);
+    if unchanged {
+        write_varying(cell, kind, first);
+    } else {
+        mark_changed(cell);
+    }
+}
+
+// Clears n octets where the leaving with its mark at a place has lasted the leave time. The sum is of 64 bits, so that it does not wrap.
+fn lapse(cell: &mut [u8], from: usize, n: usize, mark: usize, leave: u32, time: u32)
+    requires { ⌜ (length (now cell) ≡ 39) × (from + n ≤ 39) × (mark ≤ 34) × (leave ≤ 16383) ⌝ }
+    ensures { λ _. ⌜ now (cell .exit) ≡ lapsed from n mark leave time (now (cell .entry)) ⌝ }
+{
+    if cell[mark] == 0 {
+        return;
+    }
+    if octets::get(cell, mark + 1, 4) + (leave as u64) <= time as u64 {
+        octets::clear(cell, from, n);
+    }
+}
+
+// Removes what has been leaving for at least the leave time.
+pub fn expire(cell: &mut [u8], leave: u32, time: u32)
+    requires { ⌜ LaidCell (now cell) × (length (now cell) ≡ 39) × (leave ≤ 16383) ⌝ }
+    ensures { λ _. ⌜ ((st : Settings) → st .leaveTime ≡ leave → now (cell .exit) ≡ cellOctets (expireCell st time (toCell (now (cell .entry))))) ⌝ }
+{
+    lapse(cell, TALKER, 33, TALKER_LEAVES, leave, time);
+    lapse(cell, LISTENER, 6, LISTENER_LEAVES, leave, time);
+}
+
+// Whether the port has a registration of the stream.
+pub fn is_held(cell: &[u8]) -> bool
+    requires { ⌜ length (now cell) ≡ 39 ⌝ }
+    ensures { λ r. ⌜ r ≡ (isTalking (toCell (now (cell .entry))) || isHearing (toCell (now (cell .entry)))) ⌝ }
+{
+    if 0 < cell[TALKER] {
+        return true;
+    }
+    0 < cell[LISTENER]
+}
