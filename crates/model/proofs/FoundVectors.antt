@@ -178,7 +178,7 @@ module _ (s : List ℕ) (o : Octets s) (m n : ℕ) (h : n ≤ m) where
   unfolding beAt
   id-split = omega arith
 
-  id-fits : (k : Kind) → runsPast (registers k) s m ≡ false → beAt 8 s 0 + n < 2 ^ 64
+  pub id-fits : (k : Kind) → runsPast (registers k) s m ≡ false → beAt 8 s 0 + n < 2 ^ 64
   id-fits k e =
       let u : beAt 2 s 6 + m < 65536 = unique-within k e in
       let a : beAt 6 s 0 < 256 ^ 6 = beAt-below-width 6 s 0 o in
@@ -186,10 +186,10 @@ module _ (s : List ℕ) (o : Octets s) (m n : ℕ) (h : n ≤ m) where
 
   -- of a Talker, Advertise or Failed
   module _ (more : List ℕ) (d : beAt 6 s 8 + m < 256 ^ 6) where
-    talkerValues : List ℕ
+    unfoldable pub talkerValues : List ℕ
     talkerValues = fields (8 ∷ 6 ∷ 2 ∷ 2 ∷ 2 ∷ 1 ∷ 4 ∷ more) 0 s
 
-    fixed-fits : ValidFixed (fixedValue talkerValues n)
+    pub fixed-fits : ValidFixed (fixedValue talkerValues n)
     unfolding fixedValue talkerValues fields priorityOf rankOf
     fixed-fits =
         let q : beAt 1 s 20 < 256 ^ 1 = beAt-below-width 1 s 20 o in
@@ -202,7 +202,7 @@ module _ (s : List ℕ) (o : Octets s) (m n : ℕ) (h : n ≤ m) where
           rank = omega arith;
         }
 
-    latency-fits : getD talkerValues 6 0 < 2 ^ 32
+    pub latency-fits : getD talkerValues 6 0 < 2 ^ 32
     unfolding talkerValues fields
     latency-fits = omega (arith, beAt-below-width 4 s 21 o)
 
@@ -230,7 +230,7 @@ listener-fits vs n withdraw f i = go (eqb f 0)
     go true = tt
     go false = (i, tt)
 
-destination-within : (t : Bool) (d : ℕ) → (t || ltb 281474976710655 d) ≡ false → d < 256 ^ 6
+pub destination-within : (t : Bool) (d : ℕ) → (t || ltb 281474976710655 d) ≡ false → d < 256 ^ 6
 destination-within t d e = omega (arith, ltb-false 281474976710655 d (or-right t _ e))
 
 value-fits : (v : Vector) (n : ℕ) → Octets (v .first) → overflows v ≡ false → n < v .values → All Fits (valueActs v n)
