@@ -1,0 +1,317 @@
+-- What a walk that applies an accepted PDU reads is what the definitions apply: the parts of each vector at its places, the
+-- event, StreamID and destination of each value, and the vectors that are left after each step. Assumes nothing.
+use mathlib.Core.Path.{_≡_, refl, sym, ap, _∙_}
+use mathlib.Core.List.{List, [], _∷_, _++_, append-assoc}
+use mathlib.Core.Bool.{false, not}
+use Prim.Native.Nat.{ℕ, zero, suc, _+_, _-_, _/_, _%_, _≤_, _<_}
+use native.Mathlib.Omega.{arith}
+use lib.ListN.{length, getD, take, drop}
+use lib.Dec.{ltb, eqb}
+use borrow.Author.Tests.{ltb-false, eqb-false, lt-ltb, ne-eqb}
+use Rattle.octets.specs.Be.{beAt}
+use Rattle.octets.specs.Fields.{fields}
+use Rattle.octets.proofs.Parts.{lent-part, length-part}
+use Rattle.model.specs.Registrations.{Kind, advertises, faileds, listeners}
+use Rattle.model.specs.Frames.{Attribute, registers, TypeOctet, notAllowed, unknown, known, typeOctet, firstWidths, firstLength, threeLength, fourLength, Vector, vectorAt, vectorEnd, overpacked, overflows, runsPast, Walk, fault, found, also, both, vectors, listLength, listAt, messageEnd, endMark, messages, walk, eventOf, fourOf, fixedValue, idValue, vectorActs, frameActs}
+use Rattle.model.specs.Frames as frames
+use Rattle.model.proofs.Refusals.{cond-either}
+use Rattle.model.proofs.FoundVectors.{Sound, or-left, or-right}
+use Rattle.msrpdu.specs.Reader.{headOf, vectorRead, firstPart, messageRead, numberOf, eventMeant, eventIn, fourIn, streamIdIn, destinationIn}
+use Rattle.msrpdu.specs.declared.VectorHead.{VectorHead}
+use Rattle.msrpdu.specs.declared.VectorRead.the-variants as vector
+use Rattle.msrpdu.specs.declared.MessageHead.{MessageHead}
+use Rattle.msrpdu.specs.declared.MessageRead.the-variants as message
+use Rattle.msrpdu.specs.declared.ValueRead.the-variants.{Value}
+use Rattle.msrpdu.proofs.Laws.{value-read}
+use Rattle.msrpdu.proofs.Reading.{passed, Passed, passed-all, first-is}
+use Rattle.msrpdu.proofs.Walking.{vectorsIn, vectors-refused, vectors-end, vectors-next, messages-refused, messages-end, messages-skipped, messages-list}
+
+-- The parts of a vector that is read, v, are those at the places of its head, w.
+
+pub record Meant (k : Attribute) (l : List ℕ) (at : ℕ) (w : VectorHead) (v : Vector) : Type 0 where
+  pub attribute : v .attribute ≡ k
+  pub leaves : v .leavesAll ≡ w .leaves
+  pub values : v .values ≡ w .values
+  pub first : v .first ≡ take (w .three - (at + 2)) (drop (at + 2) l)
+  pub three : v .three ≡ take (w .four - w .three) (drop (w .three) l)
+  pub four : v .four ≡ take (w .next - w .four) (drop (w .four) l)
+  pub sound : Sound v
+
+sound-at : (k : Attribute) (l : List ℕ) (at : ℕ) (w : VectorHead) → Passed k l at w → Sound (vectorAt k l at (beAt 2 l at))
+unfolding vectorAt vectorEnd
+sound-at k l at w p =
+    let n = beAt 2 l at % 8192 in
+    let f = p .fits in
+    record {
+      values = omega arith;
+      first = length-part (at + 2) (firstLength k) l (omega arith);
+      three = length-part (at + 2 + firstLength k) (threeLength n) l (omega arith);
+      four = length-part (at + 2 + firstLength k + threeLength n) (fourLength k n) l f;
+      packed = p .packed;
+      within = p .bounded;
+    }
+
+meant-at : (k : Attribute) (l : List ℕ) (at : ℕ) (w : VectorHead) → Passed k l at w → Meant k l at w (vectorAt k l at (beAt 2 l at))
+unfolding vectorAt headOf vectorEnd
+meant-at k l at w p =
+    let h = beAt 2 l at in
+    let s = sound-at k l at w p in
+    rw (← (p .head)) record {
+      attribute = refl;
+      leaves = refl;
+      values = refl;
+      first = sym (lent-part (at + 2) (firstLength k) l);
+      three = sym (lent-part (at + 2 + firstLength k) (threeLength (h % 8192)) l);
+      four = sym (lent-part (at + 2 + firstLength k + threeLength (h % 8192)) (fourLength k (h % 8192)) l);
+      sound = s;
+    }
+
+module _ (k : Attribute) (l : List ℕ) (at : ℕ) (w : VectorHead) (e : vectorRead (known k) l at ≡ vector.Vector w) where
+  pub meant : Meant k l at w (vectorAt k l at (beAt 2 l at))
+  unfolding vectorRead
+  meant = meant-at k l at w (passed-all k l at w e)
+
+  -- and `first_value` hands back its FirstValue
+  pub first-meant : firstPart (known k) at l (vectorRead (known k) l at) ≡ vectorAt k l at (beAt 2 l at) .first
+  first-meant = sym (meant .first ∙ first-is (known k) l at w e)
+
+-- What is read of value n, below the number of values.
+
+-- of FirstValue s, with m more values behind it, none of which runs past its field
+unique-below : (k : Kind) (s : List ℕ) (m : ℕ) → runsPast (registers k) s m ≡ false → beAt 2 s 6 + m ≤ 65535
+unfolding runsPast
+unique-below advertises s m e = ltb-false 65535 _ (or-left _ _ e)
+unique-below faileds s m e = ltb-false 65535 _ (or-left _ _ e)
+unique-below listeners s m e = ltb-false 65535 _ e
+
+destination-below : (k : Kind) → (k ≡ listeners → ⊥) → (s : List ℕ) (m : ℕ) → runsPast (registers k) s m ≡ false
+    → beAt 6 s 8 + m ≤ 281474976710655
+unfolding runsPast
+destination-below advertises t s m e = ltb-false 281474976710655 _ (or-right (ltb 65535 (beAt 2 s 6 + m)) _ e)
+destination-below faileds t s m e = ltb-false 281474976710655 _ (or-right (ltb 65535 (beAt 2 s 6 + m)) _ e)
+destination-below listeners t s m e = absurd (t refl)
+
+-- room for a StreamID, and for a Talker's destination
+id-room : (k : Kind) → 8 ≤ firstLength (registers k)
+unfolding firstLength
+id-room advertises = omega arith
+id-room faileds = omega arith
+id-room listeners = omega arith
+
+destination-room : (k : Kind) → (k ≡ listeners → ⊥) → 14 ≤ firstLength (registers k)
+unfolding firstLength
+destination-room advertises t = omega arith
+destination-room faileds t = omega arith
+destination-room listeners t = absurd (t refl)
+
+id-is : (k : Kind) (s : List ℕ) (n : ℕ) → idValue (fields (firstWidths (registers k)) 0 s) n ≡ beAt 8 s 0 + n
+unfolding idValue fields firstWidths
+id-is advertises s n = refl
+id-is faileds s n = refl
+id-is listeners s n = refl
+
+destination-is : (k : Kind) → (k ≡ listeners → ⊥) → (s : List ℕ) (n : ℕ) → fixedValue (fields (firstWidths (registers k)) 0 s) n .destination ≡ beAt 6 s 8 + n
+unfolding fixedValue fields firstWidths
+destination-is advertises t s n = refl
+destination-is faileds t s n = refl
+destination-is listeners t s n = absurd (t refl)
+
+module _ (v : Vector) (sound : Sound v) (n : ℕ) (h : n < v .values) where
+  pub event-meant : eventIn (v .three) n ≡ eventMeant (eventOf v n)
+  unfolding eventIn eventOf threeLength
+  event-meant =
+      let e = sound .three in
+      let p : n / 3 < length (v .three) = omega arith in
+      rw (lt-ltb _ _ p)
+
+  -- the last value runs past no field
+  last-within : runsPast (v .attribute) (v .first) (v .values - 1) ≡ false
+  unfolding overflows
+  last-within = rw (ne-eqb (v .values) 0 (omega arith)) at (sound .within)
+
+  module _ (k : Kind) (e : v .attribute ≡ registers k) where
+    pub id-meant : streamIdIn (v .first) n ≡ Value (idValue (fields (firstWidths (v .attribute)) 0 (v .first)) n)
+    unfolding streamIdIn
+    id-meant =
+        let r : runsPast (registers k) (v .first) (v .values - 1) ≡ false = rw e at last-within in
+        let l : length (v .first) ≡ firstLength (registers k) = rw e at (sound .first) in
+        let p : 0 + 8 ≤ length (v .first) = omega (arith, id-room k) in
+        let q : beAt 2 (v .first) 6 + n ≤ 65535 = omega (arith, unique-below k (v .first) (v .values - 1) r) in
+        value-read 8 2 0 (v .first) n p _ refl q _ refl ∙ ap Value (rw e (sym (id-is k (v .first) n)))
+
+    pub destination-meant : (k ≡ listeners → ⊥)
+        → destinationIn (v .first) n ≡ Value (fixedValue (fields (firstWidths (v .attribute)) 0 (v .first)) n .destination)
+    unfolding destinationIn
+    destination-meant t =
+        let r : runsPast (registers k) (v .first) (v .values - 1) ≡ false = rw e at last-within in
+        let l : length (v .first) ≡ firstLength (registers k) = rw e at (sound .first) in
+        let p : 8 + 6 ≤ length (v .first) = omega (arith, destination-room k t) in
+        let q : beAt 6 (v .first) 8 + n ≤ 281474976710655 = omega (arith, destination-below k t (v .first) (v .values - 1) r) in
+        value-read 6 6 8 (v .first) n p _ refl q _ refl ∙ ap Value (rw e (sym (destination-is k t (v .first) n)))
+
+-- the four-packed event of any value
+pub four-meant : (v : Vector) (n : ℕ) → fourIn (v .four) n ≡ fourOf v n
+unfolding fourIn fourOf
+four-meant v n = refl
+
+-- The vectors that are left, after each step, of an accepted list and PDU.
+
+also-found : (v : Vector) (w : Walk) (vs : List Vector) → also v w ≡ found vs → (rest : List Vector) × (w ≡ found rest) × (vs ≡ v ∷ rest)
+unfolding also
+also-found v (fault n) vs e = let z : _≡_ {A = ℕ} 0 1 = cc in absurd (omega arith)
+also-found v (found rest) vs e = (rest, refl, cc)
+
+both-found : (w x : Walk) (vs : List Vector) → both w x ≡ found vs
+    → (us ws : List Vector) × (w ≡ found us) × (x ≡ found ws) × (vs ≡ us ++ ws)
+unfolding both
+both-found (fault n) x vs e = let z : _≡_ {A = ℕ} 0 1 = cc in absurd (omega arith)
+both-found (found us) (fault n) vs e = let z : _≡_ {A = ℕ} 0 1 = cc in absurd (omega arith)
+both-found (found us) (found ws) vs e = (us, ws, refl, refl, cc)
+
+-- a list of which only the vectors from a place on are left, by what is read there
+module _ (f : ℕ) (t : TypeOctet) (l : List ℕ) (at : ℕ) (vs : List Vector) (e : vectorsIn t (suc f) l at ≡ found vs) where
+  pub found-typed : (k : Attribute) × (t ≡ known k)
+  unfolding vectorsIn
+  found-typed = go t e
+    where
+      go : (t : TypeOctet) → vectorsIn t (suc f) l at ≡ found vs → (k : Attribute) × (t ≡ known k)
+      go notAllowed h = let z : _≡_ {A = ℕ} 0 1 = cc in absurd (omega arith)
+      go unknown h = let z : _≡_ {A = ℕ} 0 1 = cc in absurd (omega arith)
+      go (known k) h = (k, refl)
+
+-- a vector is the first of those left, and the others come after it
+pub record NextVector (f : ℕ) (k : Attribute) (l : List ℕ) (at : ℕ) (w : VectorHead) (vs : List Vector) : Type 0 where
+  pub rest : List Vector
+  pub first : vs ≡ vectorAt k l at (beAt 2 l at) ∷ rest
+  pub left : vectorsIn (known k) f l (w .next) ≡ found rest
+
+module _ (f : ℕ) (k : Attribute) (l : List ℕ) (at : ℕ) (vs : List Vector) (e : vectorsIn (known k) (suc f) l at ≡ found vs) where
+  pub found-next : (w : VectorHead) → vectorRead (known k) l at ≡ vector.Vector w → NextVector f k l at w vs
+  unfolding vectorRead vectorsIn
+  found-next w r =
+      let a = also-found _ _ vs (sym (vectors-next f k l at w r) ∙ e) in
+      record { rest = a .0; first = a .2; left = a .1 }
+
+  pub found-end : vectorRead (known k) l at ≡ vector.EndMark → vs ≡ []
+  unfolding vectorRead vectorsIn
+  found-end r = let h = vectors-end f k l at r in cc
+
+  pub found-accepted : (n : ℕ) → vectorRead (known k) l at ≡ vector.Refused n → ⊥
+  unfolding vectorRead vectorsIn
+  found-accepted n r = let h = vectors-refused f k l at n r in let z : _≡_ {A = ℕ} 0 1 = cc in omega arith
+
+-- a Message's vectors are the first of those left, and the others come after it
+pub record NextList (f version : ℕ) (s : List ℕ) (m : MessageHead) (vs : List Vector) : Type 0 where
+  pub own : List Vector
+  pub rest : List Vector
+  pub split : vs ≡ own ++ rest
+  pub list : vectorsIn (typeOctet 0 (m .kind)) (suc (m .next - m .list)) (take (m .next - m .list) (drop (m .list) s)) 0 ≡ found own
+  pub left : messages f version s (m .next) ≡ found rest
+
+module _ (f version : ℕ) (s : List ℕ) (at : ℕ) (vs : List Vector) (e : messages (suc f) version s at ≡ found vs) where
+  pub found-list : (m : MessageHead) → messageRead version s at ≡ message.List m → NextList f version s m vs
+  found-list m r =
+      let a = both-found _ _ vs (sym (messages-list f version s at m r) ∙ e) in
+      record { own = a .0; rest = a .1; split = a .4; list = a .2; left = a .3 }
+
+  pub found-skipped : (next : ℕ) → messageRead version s at ≡ message.Skipped next → messages f version s next ≡ found vs
+  found-skipped next r = sym (messages-skipped f version s at next r) ∙ e
+
+  pub found-done : messageRead version s at ≡ message.End → vs ≡ []
+  found-done r = let h = messages-end f version s at r in cc
+
+  pub found-allowed : (n : ℕ) → messageRead version s at ≡ message.Refused n → ⊥
+  found-allowed n r = let h = messages-refused f version s at n r in let z : _≡_ {A = ℕ} 0 1 = cc in omega arith
+
+-- The acts of those left.
+
+pub acts-next : (v : Vector) (vs : List Vector) → frameActs (v ∷ vs) ≡ vectorActs v ++ frameActs vs
+unfolding frameActs
+acts-next v vs = refl
+
+pub acts-append : (us vs : List Vector) → frameActs (us ++ vs) ≡ frameActs us ++ frameActs vs
+unfolding frameActs
+acts-append [] vs = refl
+acts-append (v ∷ us) vs = rw (acts-append us vs) (sym (append-assoc (vectorActs v) (frameActs us) (frameActs vs)))
+
+-- An accepted PDU, of number 0, is one whose vectors were all found: no fault has that number.
+
+abbrev Numbered : Walk → Type 0
+Numbered (fault n) = 0 < n
+Numbered (found vs) = Unit {0}
+
+numbered-also : (v : Vector) (w : Walk) → Numbered w → Numbered (also v w)
+unfolding also
+numbered-also v (fault n) h = h
+numbered-also v (found vs) h = tt
+
+numbered-both : (w x : Walk) → Numbered w → Numbered x → Numbered (both w x)
+unfolding both
+numbered-both (fault n) x h i = h
+numbered-both (found vs) (fault n) h i = i
+numbered-both (found vs) (found ws) h i = tt
+
+numbered-vectors : (f : ℕ) (k : Attribute) (l : List ℕ) (at : ℕ) → Numbered (vectors f k l at)
+unfolding vectors
+numbered-vectors zero k l at = omega arith
+numbered-vectors (suc f) k l at =
+    let h = beAt 2 l at in
+    cond-either Numbered (ltb (length l) (at + 2)) _ _ (omega arith)
+    (cond-either Numbered (eqb h 0) _ _ (cond-either Numbered (eqb (at + 2) (length l)) _ _ tt (omega arith))
+    (cond-either Numbered (ltb 1 (h / 8192)) _ _ (omega arith)
+    (cond-either Numbered (ltb (length l) (vectorEnd k at h)) _ _ (omega arith)
+    (cond-either Numbered (overpacked (vectorAt k l at h .three)) _ _ (omega arith)
+    (cond-either Numbered (overflows (vectorAt k l at h)) _ _ (omega arith)
+    (numbered-also (vectorAt k l at h) _ (numbered-vectors f k l (vectorEnd k at h))))))))
+
+numbered-message : (t : TypeOctet) (s : List ℕ) (at : ℕ) (rest : Walk) → Numbered rest → Numbered (frames.message t s at rest)
+unfolding frames.message
+numbered-message notAllowed s at rest r = omega arith
+numbered-message unknown s at rest r = cond-either Numbered (ltb (length s) (messageEnd s at)) _ _ (omega arith) r
+numbered-message (known k) s at rest r =
+    cond-either Numbered (not (eqb (getD s (at + 1) 0) (firstLength k))) _ _ (omega arith)
+    (cond-either Numbered (ltb (length s) (messageEnd s at)) _ _ (omega arith)
+    (numbered-both _ rest (numbered-vectors (suc (listLength s at)) k (listAt s at) 0) r))
+
+numbered-messages : (f version : ℕ) (s : List ℕ) (at : ℕ) → Numbered (messages f version s at)
+unfolding messages
+numbered-messages zero version s at = omega arith
+numbered-messages (suc f) version s at =
+    cond-either Numbered (eqb at (length s)) _ _ tt
+    (cond-either Numbered (endMark s at) _ _ tt
+    (cond-either Numbered (ltb (length s) (at + 4)) _ _ (omega arith)
+    (numbered-message (typeOctet version (getD s at 0)) s at _ (numbered-messages f version s (messageEnd s at)))))
+
+numbered-walk : (s : List ℕ) → Numbered (walk s)
+unfolding walk
+numbered-walk s =
+    cond-either Numbered (eqb (length s) 0) _ _ (omega arith)
+    (cond-either Numbered (ltb 1500 (length s)) _ _ (omega arith) (numbered-messages (suc (length s)) (getD s 0 0) s 1))
+
+pub accepted : (s : List ℕ) → numberOf (walk s) ≡ 0 → (vs : List Vector) × (walk s ≡ found vs)
+unfolding numberOf
+accepted s = go (walk s) refl (numbered-walk s)
+  where
+    go : (w : Walk) → walk s ≡ w → Numbered w → numberOf w ≡ 0 → (vs : List Vector) × (walk s ≡ found vs)
+    go (fault n) e h z = absurd (omega arith)
+    go (found vs) e h z = (vs, e)
+
+no-fault : (n : ℕ) (vs : List Vector) → fault n ≡ found vs → ⊥
+no-fault n vs e = let z : _≡_ {A = ℕ} 0 1 = cc in omega arith
+
+-- its Messages start behind the ProtocolVersion
+pub accepted-messages : (s : List ℕ) (vs : List Vector) → walk s ≡ found vs → messages (suc (length s)) (getD s 0 0) s 1 ≡ found vs
+unfolding walk
+accepted-messages s vs e =
+    let a = passed (eqb (length s) 0) _ _ _ (no-fault 2 vs) e in
+    let b = passed (ltb 1500 (length s)) _ _ _ (no-fault 2 vs) (a .1) in
+    b .1
+
+-- and it has 1 to 1,500 octets
+pub accepted-length : (s : List ℕ) (vs : List Vector) → walk s ≡ found vs → (1 ≤ length s) × (length s ≤ 1500)
+unfolding walk
+accepted-length s vs e =
+    let a = passed (eqb (length s) 0) _ _ _ (no-fault 2 vs) e in
+    let b = passed (ltb 1500 (length s)) _ _ _ (no-fault 2 vs) (a .1) in
+    let p : length s ≡ 0 → ⊥ = eqb-false _ _ (a .0) in
+    (omega arith, ltb-false 1500 _ (b .0))

@@ -1,0 +1,362 @@
+-- Laws of the reader's definitions, one for each arm. Assumes nothing.
+use mathlib.Core.Path.{_≡_, refl, sym, ap, _∙_}
+use mathlib.Core.List.{List}
+use mathlib.Core.Bool.{Bool, true, false, not, _||_}
+use Prim.Native.Nat.{ℕ, zero, suc, _+_, _*_, _-_, _/_, _%_, _≤_, _<_, _^_}
+use native.Mathlib.Omega.{arith}
+use lib.ListN.{length, getD, take, drop, drop-of-length-le, List·getD-eq-default}
+use lib.Seq.{drop-cons}
+use native.Mathlib.Numerals.{add-one}
+use lib.Dec.{ltb, leb, eqb}
+use borrow.Author.Tests.{lt-ltb, le-ltb, le-leb, lt-leb, eq-eqb, ne-eqb}
+use Rattle.octets.specs.Be.{beAt}
+use Rattle.octets.specs.Parts.{part}
+use Rattle.octets.proofs.Parts.{lent-part, length-part}
+use Rattle.model.proofs.Lists.{and-false}
+use Rattle.model.specs.Registrations.{advertises, faileds, listeners}
+use Rattle.model.specs.Frames.{Attribute, registers, domain, TypeOctet, notAllowed, unknown, known, typeOctet, firstLength, threeLength, fourLength, vectorAt, vectorEnd, overpacked, overflows, runsPast, listLength, endMark, messageEnd, threePacked, fourPacked}
+use Rattle.model.specs.Frames as frames
+use Rattle.msrpdu.specs.Reader.{typeRead, fourOctets, pastField, headOf, valuesOf, vectorOf, valuesRead, vectorRead, messageFrom, messageRead, eventMeant, eventIn, fourIn, valueIn}
+use Rattle.msrpdu.specs.declared.TypeRead.{TypeRead}
+use Rattle.msrpdu.specs.declared.TypeRead.the-variants.{Known, Skipped, Refused}
+use Rattle.msrpdu.specs.declared.VectorHead.{VectorHead}
+use Rattle.msrpdu.specs.declared.VectorRead.the-variants as vector
+use Rattle.msrpdu.specs.declared.MessageRead.the-variants as message
+use Rattle.msrpdu.specs.declared.ValueRead.the-variants.{Value, Past}
+use Rattle.msrpdu.specs.declared.Event.{Event}
+use Rattle.msrpdu.specs.declared.Event.the-variants.{Lv, Missing}
+
+-- The type octet.
+
+above : (kind : ℕ) → 4 < kind → kind ≡ suc (suc (suc (suc (suc (kind - 5)))))
+above kind p = omega arith
+
+module _ (version kind : ℕ) (p : 4 < kind) where
+  pub type-refused : version ≡ 0 → typeRead (typeOctet version kind) ≡ Refused
+  unfolding typeRead typeOctet
+  type-refused e = rw (above kind p, eq-eqb _ _ e)
+
+  pub type-skipped : (version ≡ 0 → ⊥) → typeRead (typeOctet version kind) ≡ Skipped
+  unfolding typeRead typeOctet
+  type-skipped e = rw (above kind p, ne-eqb _ _ e)
+
+-- only Listeners have FourPackedEvents
+pub four-none : (kind n : ℕ) → (kind ≡ 3 → ⊥) → fourOctets (typeOctet 0 kind) n ≡ 0
+unfolding fourOctets typeOctet fourLength
+four-none zero n p = refl
+four-none (suc zero) n p = refl
+four-none (suc (suc zero)) n p = refl
+four-none (suc (suc (suc zero))) n p = absurd (p refl)
+four-none (suc (suc (suc (suc zero)))) n p = refl
+four-none (suc (suc (suc (suc (suc k))))) n p = refl
+
+-- Events.
+
+module _ (three : List ℕ) (n : ℕ) where
+  pub event-missing : length three ≤ n / 3 → eventIn three n ≡ Missing
+  unfolding eventIn
+  event-missing p = rw (le-ltb _ _ p)
+
+  -- e is the number that was read
+  module _ (p : n / 3 < length three) (e : ℕ) (q : e ≡ threePacked (getD three (n / 3) 0) (n % 3)) where
+    pub event-is : (k : ℕ) → e ≡ k → eventIn three n ≡ eventMeant (frames.event k)
+    unfolding eventIn
+    event-is k r = rw (lt-ltb _ _ p, ← q, r)
+
+    pub event-last : 4 < e → eventIn three n ≡ Lv
+    unfolding eventMeant frames.event
+    event-last r = event-is _ (above e r)
+
+-- past the octets stands Ignore
+packed-none : (k : ℕ) → fourPacked 0 k ≡ 0
+unfolding fourPacked
+packed-none zero = refl
+packed-none (suc zero) = refl
+packed-none (suc (suc zero)) = refl
+packed-none (suc (suc (suc k))) = refl
+
+pub four-past : (four : List ℕ) (n : ℕ) → length four ≤ n / 4 → fourIn four n ≡ 0
+unfolding fourIn
+four-past four n p = rw (List·getD-eq-default four 0 p) (packed-none (n % 4))
+
+-- An event octet above 215, looked for from place i on.
+
+module _ (l : List ℕ) (i : ℕ) where
+  pub over-none : length l ≤ i → overpacked (drop i l) ≡ false
+  unfolding overpacked
+  over-none p = rw (drop-of-length-le l p)
+
+  module _ (p : i < length l) where
+    pub over-here : 215 < getD l i 0 → overpacked (drop i l) ≡ true
+    unfolding overpacked
+    over-here q = rw (drop-cons l i 0 p, lt-ltb 215 _ q)
+
+    pub over-next : getD l i 0 ≤ 215 → overpacked (drop i l) ≡ overpacked (drop (i + 1) l)
+    unfolding overpacked
+    over-next q = rw (drop-cons l i 0 p, le-ltb 215 _ q, add-one i)
+
+-- Values that run past their field, by the type octet.
+
+-- only the types known here have values: the octets of FirstValue that they have
+module _ (kind m : ℕ) (t : typeRead (typeOctet 0 kind) ≡ Known m) where
+  pub domain-octets : kind ≡ 4 → m ≡ 4
+  unfolding typeRead typeOctet firstLength
+  domain-octets e = let h : Known 4 ≡ Known m = rw e at t in cc
+
+pub stream-octets : (kind m : ℕ) → typeRead (typeOctet 0 kind) ≡ Known m → (kind ≡ 4 → ⊥) → 8 ≤ m
+unfolding typeRead typeOctet firstLength
+stream-octets zero m t p = let z : _≡_ {A = ℕ} 0 1 = cc in omega arith
+stream-octets (suc zero) m t p = let e : m ≡ 25 = cc in omega arith
+stream-octets (suc (suc zero)) m t p = let e : m ≡ 34 = cc in omega arith
+stream-octets (suc (suc (suc zero))) m t p = let e : m ≡ 8 = cc in omega arith
+stream-octets (suc (suc (suc (suc zero)))) m t p = absurd (p refl)
+stream-octets (suc (suc (suc (suc (suc k))))) m t p = let z : _≡_ {A = ℕ} 0 1 = cc in omega arith
+
+pub talker-octets : (kind m : ℕ) → typeRead (typeOctet 0 kind) ≡ Known m → (kind ≡ 4 → ⊥) → (kind ≡ 3 → ⊥) → 25 ≤ m
+unfolding typeRead typeOctet firstLength
+talker-octets zero m t p q = let z : _≡_ {A = ℕ} 0 1 = cc in omega arith
+talker-octets (suc zero) m t p q = let e : m ≡ 25 = cc in omega arith
+talker-octets (suc (suc zero)) m t p q = let e : m ≡ 34 = cc in omega arith
+talker-octets (suc (suc (suc zero))) m t p q = absurd (q refl)
+talker-octets (suc (suc (suc (suc zero)))) m t p q = absurd (p refl)
+talker-octets (suc (suc (suc (suc (suc k))))) m t p q = let z : _≡_ {A = ℕ} 0 1 = cc in omega arith
+
+pub domain-past : (kind : ℕ) (s : List ℕ) (n : ℕ) → kind ≡ 4
+    → pastField (typeOctet 0 kind) s n ≡ (ltb 255 (getD s 0 0 + n) || ltb 255 (getD s 1 0 + n))
+unfolding pastField typeOctet runsPast
+domain-past kind s n e = rw e
+
+pub listener-past : (kind : ℕ) (s : List ℕ) (n : ℕ) → kind ≡ 3 → pastField (typeOctet 0 kind) s n ≡ ltb 65535 (beAt 2 s 6 + n)
+unfolding pastField typeOctet runsPast
+listener-past kind s n e = rw e
+
+pub talker-past : (kind m : ℕ) → typeRead (typeOctet 0 kind) ≡ Known m → (kind ≡ 4 → ⊥) → (kind ≡ 3 → ⊥) → (s : List ℕ) (n : ℕ)
+    → pastField (typeOctet 0 kind) s n ≡ (ltb 65535 (beAt 2 s 6 + n) || ltb 281474976710655 (beAt 6 s 8 + n))
+unfolding typeRead typeOctet pastField runsPast
+talker-past zero m t p q s n = let z : _≡_ {A = ℕ} 0 1 = cc in absurd (omega arith)
+talker-past (suc zero) m t p q s n = refl
+talker-past (suc (suc zero)) m t p q s n = refl
+talker-past (suc (suc (suc zero))) m t p q s n = absurd (q refl)
+talker-past (suc (suc (suc (suc zero)))) m t p q s n = absurd (p refl)
+talker-past (suc (suc (suc (suc (suc k))))) m t p q s n = let z : _≡_ {A = ℕ} 0 1 = cc in absurd (omega arith)
+
+-- a Unique ID that runs past its field, of any type that has one
+pub past-unique : (kind m : ℕ) → typeRead (typeOctet 0 kind) ≡ Known m → (kind ≡ 4 → ⊥) → (s : List ℕ) (n x : ℕ) → x ≡ beAt 2 s 6 → 65535 < x + n
+    → pastField (typeOctet 0 kind) s n ≡ true
+unfolding typeRead typeOctet pastField runsPast
+past-unique zero m t p s n x e q = let z : _≡_ {A = ℕ} 0 1 = cc in absurd (omega arith)
+past-unique (suc zero) m t p s n x e q = rw (← e, lt-ltb 65535 _ q)
+past-unique (suc (suc zero)) m t p s n x e q = rw (← e, lt-ltb 65535 _ q)
+past-unique (suc (suc (suc zero))) m t p s n x e q = rw (← e, lt-ltb 65535 _ q)
+past-unique (suc (suc (suc (suc zero)))) m t p s n x e q = absurd (p refl)
+past-unique (suc (suc (suc (suc (suc k))))) m t p s n x e q = let z : _≡_ {A = ℕ} 0 1 = cc in absurd (omega arith)
+
+-- A growing field of FirstValue.
+
+module _ (w g at : ℕ) (first : List ℕ) (n : ℕ) where
+  pub value-short : length first < at + w → valueIn w g at first n ≡ Past
+  unfolding valueIn
+  value-short p = rw (lt-ltb _ _ p)
+
+  -- x is what stands in the field that grows
+  module _ (p : at + w ≤ length first) (x : ℕ) (e : x ≡ beAt g first (at + w - g)) where
+    pub value-past : 256 ^ g - 1 < x + n → valueIn w g at first n ≡ Past
+    unfolding valueIn
+    value-past q = rw (le-ltb _ _ p, ← e, lt-ltb _ _ q)
+
+    pub value-read : x + n ≤ 256 ^ g - 1 → (y : ℕ) → y ≡ beAt w first at → valueIn w g at first n ≡ Value (y + n)
+    unfolding valueIn
+    value-read q y f = rw (le-ltb _ _ p, ← e, le-ltb _ _ q, f)
+
+-- a StreamID ends with its Unique ID
+pub id-split : (s : List ℕ) → beAt 8 s 0 ≡ beAt 6 s 0 * 65536 + beAt 2 s 6
+unfolding beAt
+id-split s = omega arith
+
+-- A type octet with octets of FirstValue is that of a known type.
+
+pub record Typed (t : TypeOctet) (first : ℕ) : Type 0 where
+  pub kind : Attribute
+  pub is : t ≡ known kind
+  pub octets : firstLength kind ≡ first
+
+pub typed : (t : TypeOctet) (first : ℕ) → typeRead t ≡ Known first → Typed t first
+unfolding typeRead
+typed notAllowed first e = let z : _≡_ {A = ℕ} 0 1 = cc in absurd (omega arith)
+typed unknown first e = let z : _≡_ {A = ℕ} 0 1 = cc in absurd (omega arith)
+typed (known k) first e = record { kind = k; is = refl; octets = cc }
+
+at-most : (k : Attribute) → firstLength k ≤ 34
+unfolding firstLength
+at-most (registers advertises) = omega arith
+at-most (registers faileds) = omega arith
+at-most (registers listeners) = omega arith
+at-most domain = omega arith
+
+-- a part of a list as the code lends it
+abbrev pub between : List ℕ → ℕ → ℕ → List ℕ
+between l a n = take (a + n - a) (drop a l)
+
+pub between-length : (l : List ℕ) (a n : ℕ) → a + n ≤ length l → length (between l a n) ≡ n
+between-length l a n p = ap length (lent-part a n l) ∙ length-part a n l p
+
+-- the head of a vector, by the octets that its FirstValue and its FourPackedEvents have
+abbrev pub headAt : ℕ → ℕ → ℕ → ℕ → VectorHead
+headAt first at h fours = record {
+  leaves = eqb (h / 8192) 1;
+  values = h % 8192;
+  three = at + 2 + first;
+  four = at + 2 + first + (h % 8192 + 2) / 3;
+  next = at + 2 + first + (h % 8192 + 2) / 3 + fours;
+}
+
+module _ (t : TypeOctet) (first : ℕ) (e : typeRead t ≡ Known first) where
+  pub first-small : first ≤ 34
+  first-small = let y = typed t first e in omega (arith, at-most (y .kind), y .octets)
+
+  -- Event octets and values of a vector that fits, in the order of the checks; x is what the event octets gave.
+  module _ (l : List ℕ) (at h : ℕ) (x : Bool) (i : x ≡ overpacked (between l (at + 2 + first) ((h % 8192 + 2) / 3))) where
+    pub values-over : x ≡ true → valuesRead t l at h ≡ vector.Refused 6
+    unfolding valuesRead valuesOf vectorAt threeLength
+    values-over p = let y = typed t first e in rw (y .is, y .octets, ← (lent-part (at + 2 + first) ((h % 8192 + 2) / 3) l), ← i, p)
+
+    module _ (p : x ≡ false) where
+      -- z is what the last value gave
+      module _ (q : 0 < h % 8192) (z : Bool) (j : z ≡ pastField t (between l (at + 2) first) (h % 8192 - 1)) where
+        pub values-past : z ≡ true → valuesRead t l at h ≡ vector.Refused 7
+        unfolding valuesRead valuesOf vectorAt threeLength pastField overflows
+        values-past r =
+            let y = typed t first e in
+            let m : runsPast (y .kind) (between l (at + 2) first) (h % 8192 - 1) ≡ true = sym (rw (y .is) at j) ∙ r in
+            rw (y .is, y .octets, ← (lent-part (at + 2 + first) ((h % 8192 + 2) / 3) l), ← i, p, ne-eqb (h % 8192) 0 (omega arith), ← (lent-part (at + 2) first l), m)
+
+      -- with no values, or with none that runs past its field
+      module _ (fours : ℕ) (f : fours ≡ fourOctets t (h % 8192)) where
+        pub values-none : h % 8192 ≡ 0 → valuesRead t l at h ≡ vector.Vector (headAt first at h fours)
+        unfolding valuesRead valuesOf vectorAt threeLength overflows headOf vectorEnd fourOctets
+        values-none q =
+            let y = typed t first e in
+            rw (f, y .is, y .octets, ← (lent-part (at + 2 + first) ((h % 8192 + 2) / 3) l), ← i, p, eq-eqb (h % 8192) 0 q)
+
+        pub values-read : 0 < h % 8192 → (z : Bool) → z ≡ pastField t (between l (at + 2) first) (h % 8192 - 1) → z ≡ false
+            → valuesRead t l at h ≡ vector.Vector (headAt first at h fours)
+        unfolding valuesRead valuesOf vectorAt threeLength pastField overflows headOf vectorEnd fourOctets
+        values-read q z j r =
+            let y = typed t first e in
+            let m : runsPast (y .kind) (between l (at + 2) first) (h % 8192 - 1) ≡ false = sym (rw (y .is) at j) ∙ r in
+            rw (f, y .is, y .octets, ← (lent-part (at + 2 + first) ((h % 8192 + 2) / 3) l), ← i, p, ne-eqb (h % 8192) 0 (omega arith), ← (lent-part (at + 2) first l), m)
+
+  -- The vector at a place, in the order of the checks.
+  module _ (l : List ℕ) (at : ℕ) where
+    pub vector-short : length l < at + 2 → vectorRead t l at ≡ vector.Refused 3
+    unfolding vectorRead vectorOf
+    vector-short p = let y = typed t first e in rw (y .is, lt-ltb _ _ p)
+
+    -- h is the header that was read
+    module _ (p : at + 2 ≤ length l) (h : ℕ) (i : h ≡ beAt 2 l at) where
+      pub vector-end : h ≡ 0 → at + 2 ≡ length l → vectorRead t l at ≡ vector.EndMark
+      unfolding vectorRead vectorOf
+      vector-end q r = let y = typed t first e in rw (y .is, le-ltb _ _ p, ← i, eq-eqb _ _ q, eq-eqb _ _ r)
+
+      pub vector-early : h ≡ 0 → (at + 2 ≡ length l → ⊥) → vectorRead t l at ≡ vector.Refused 3
+      unfolding vectorRead vectorOf
+      vector-early q r = let y = typed t first e in rw (y .is, le-ltb _ _ p, ← i, eq-eqb _ _ q, ne-eqb _ _ r)
+
+      module _ (q : h ≡ 0 → ⊥) where
+        pub vector-event : 1 < h / 8192 → vectorRead t l at ≡ vector.Refused 6
+        unfolding vectorRead vectorOf
+        vector-event r = let y = typed t first e in rw (y .is, le-ltb _ _ p, ← i, ne-eqb _ _ q, lt-ltb 1 _ r)
+
+        module _ (r : h / 8192 ≤ 1) (four : ℕ) (f : four ≡ fourOctets t (h % 8192)) where
+          pub vector-long : length l < at + 2 + first + (h % 8192 + 2) / 3 + four → vectorRead t l at ≡ vector.Refused 3
+          unfolding vectorRead vectorOf vectorEnd threeLength fourOctets
+          vector-long s =
+              let y = typed t first e in
+              let g : four ≡ fourLength (y .kind) (h % 8192) = rw (y .is) at f in
+              rw (y .is, y .octets, le-ltb _ _ p, ← i, ne-eqb _ _ q, le-ltb 1 _ r, ← g, lt-ltb _ _ s)
+
+          pub vector-fits : at + 2 + first + (h % 8192 + 2) / 3 + four ≤ length l → vectorRead t l at ≡ valuesRead t l at h
+          unfolding vectorRead vectorOf vectorEnd threeLength fourOctets valuesRead
+          vector-fits s =
+              let y = typed t first e in
+              let g : four ≡ fourLength (y .kind) (h % 8192) = rw (y .is) at f in
+              rw (y .is, y .octets, le-ltb _ _ p, ← i, ne-eqb _ _ q, le-ltb 1 _ r, ← g, le-ltb _ _ s)
+
+-- a list of any other type is not read; r is what the type octet gave
+pub vector-untyped : (t : TypeOctet) (r : TypeRead) → r ≡ typeRead t → ((n : ℕ) → r ≡ Known n → ⊥) → (l : List ℕ) (at : ℕ)
+    → vectorRead t l at ≡ vector.Refused 4
+unfolding vectorRead typeRead
+vector-untyped notAllowed r e p l at = refl
+vector-untyped unknown r e p l at = refl
+vector-untyped (known k) r e p l at = absurd (p _ e)
+
+-- The Message at a place, in the order of the checks.
+
+pub refused-type : (t : TypeOctet) → typeRead t ≡ Refused → t ≡ notAllowed
+unfolding typeRead
+refused-type notAllowed e = refl
+refused-type unknown e = let z : _≡_ {A = ℕ} 0 1 = cc in absurd (omega arith)
+refused-type (known k) e = let z : _≡_ {A = ℕ} 0 1 = cc in absurd (omega arith)
+
+pub skipped-type : (t : TypeOctet) → typeRead t ≡ Skipped → t ≡ unknown
+unfolding typeRead
+skipped-type notAllowed e = let z : _≡_ {A = ℕ} 0 1 = cc in absurd (omega arith)
+skipped-type unknown e = refl
+skipped-type (known k) e = let z : _≡_ {A = ℕ} 0 1 = cc in absurd (omega arith)
+
+module _ (s : List ℕ) (at : ℕ) where
+  pub mark-short : length s < at + 2 → endMark s at ≡ false
+  unfolding endMark
+  mark-short p = rw (lt-leb _ _ p)
+
+  pub mark-other : (h : ℕ) → h ≡ beAt 2 s at → (h ≡ 0 → ⊥) → endMark s at ≡ false
+  unfolding endMark
+  mark-other h e p = rw (← e, ne-eqb _ _ p) (and-false (leb (at + 2) (length s)))
+
+  module _ (version : ℕ) where
+    pub message-done : at ≡ length s → messageRead version s at ≡ message.End
+    unfolding messageRead
+    message-done p = rw (eq-eqb _ _ p)
+
+    module _ (o : at ≡ length s → ⊥) where
+      pub message-mark : at + 2 ≤ length s → (h : ℕ) → h ≡ beAt 2 s at → h ≡ 0 → messageRead version s at ≡ message.End
+      unfolding messageRead endMark
+      message-mark p h e q = rw (ne-eqb _ _ o, le-leb _ _ p, ← e, eq-eqb _ _ q)
+
+      module _ (m : endMark s at ≡ false) where
+        pub message-short : length s < at + 4 → messageRead version s at ≡ message.Refused 3
+        unfolding messageRead
+        message-short p = rw (ne-eqb _ _ o, m, lt-ltb _ _ p)
+
+        pub message-from : at + 4 ≤ length s → messageRead version s at ≡ messageFrom (typeOctet version (getD s at 0)) s at
+        unfolding messageRead
+        message-from p = rw (ne-eqb _ _ o, m, le-ltb _ _ p)
+
+  -- by what the type octet gave; n is the list's length
+  module _ (t : TypeOctet) (n : ℕ) (i : n ≡ beAt 2 s (at + 2)) where
+    pub from-refused : typeRead t ≡ Refused → messageFrom t s at ≡ message.Refused 4
+    unfolding messageFrom
+    from-refused e = rw (refused-type t e)
+
+    module _ (e : typeRead t ≡ Skipped) where
+      pub skip-long : length s < at + 4 + n → messageFrom t s at ≡ message.Refused 3
+      unfolding messageFrom messageEnd listLength
+      skip-long p = rw (skipped-type t e, ← i, lt-ltb _ _ p)
+
+      pub skip : at + 4 + n ≤ length s → messageFrom t s at ≡ message.Skipped (at + 4 + n)
+      unfolding messageFrom messageEnd listLength
+      skip p = rw (skipped-type t e, ← i, le-ltb _ _ p)
+
+    module _ (first : ℕ) (e : typeRead t ≡ Known first) where
+      pub from-length : (getD s (at + 1) 0 ≡ first → ⊥) → messageFrom t s at ≡ message.Refused 5
+      unfolding messageFrom
+      from-length q = let y = typed t first e in rw (y .is, y .octets, ne-eqb _ _ q)
+
+      module _ (q : getD s (at + 1) 0 ≡ first) where
+        pub list-long : length s < at + 4 + n → messageFrom t s at ≡ message.Refused 3
+        unfolding messageFrom messageEnd listLength
+        list-long p = let y = typed t first e in rw (y .is, y .octets, eq-eqb _ _ q, ← i, lt-ltb _ _ p)
+
+        pub list-read : at + 4 + n ≤ length s → messageFrom t s at ≡ message.List record { kind = getD s at 0; list = at + 4; next = at + 4 + n }
+        unfolding messageFrom messageEnd listLength
+        list-read p = let y = typed t first e in rw (y .is, y .octets, eq-eqb _ _ q, ← i, le-ltb _ _ p)

@@ -1,0 +1,374 @@
+// The reader of MSRPDUs (01, "The PDU"): each function's answer is that of the definitions in crate model, for every input.
+ghost use mathlib.Core.Path.{_≡_};
+ghost use Prim.Native.Nat.{_+_, _/_, _%_, _≤_, _<_};
+ghost use lib.ListN.{length, getD};
+ghost use Rattle.model.specs.Frames.{typeOctet, overpacked, walk, threePacked};
+ghost use Rattle.msrpdu.specs.Reader.{typeRead, vectorRead, firstPart, messageFrom, messageRead, numberOf, eventIn, fourIn, fourOctets, pastField, valuesRead, streamIdIn, destinationIn};
+
+// What the AttributeType octet decides: a known type with its octets of FirstValue, a list to skip unread, or a refusal.
+pub enum TypeRead {
+    Known(usize),
+    Skipped,
+    Refused,
+}
+
+pub fn type_read(version: u8, kind: u8) -> TypeRead
+    ensures { λ r. ⌜ r ≡ typeRead (typeOctet version kind) ⌝ }
+{
+    match kind {
+        0 => TypeRead::Refused,
+        1 => TypeRead::Known(25),
+        2 => TypeRead::Known(34),
+        3 => TypeRead::Known(8),
+        4 => TypeRead::Known(4),
+        5..=255 => {
+            if version == 0 {
+                return TypeRead::Refused;
+            }
+            TypeRead::Skipped
+        }
+    }
+}
+
+// Whether one of the ThreePackedEvents octets is above 215.
+fn any_overpacked(events: &[u8]) -> bool
+    ensures { λ r. ⌜ r ≡ overpacked (now (events .entry)) ⌝ }
+{
+    let mut i: usize = 0;
+    while i < events.len() {
+        if 215 < events[i] {
+            return true;
+        }
+        i += 1;
+    }
+    false
+}
+
+// The FourPackedEvents octets of so many values: of Listeners only.
+fn four_octets(kind: u8, values: usize) -> usize
+    requires { ⌜ values ≤ 8191 ⌝ }
+    ensures { λ r. ⌜ (r ≡ fourOctets (typeOctet 0 kind) values) × (r ≤ values) ⌝ }
+{
+    if kind == 3 {
+        return (values + 3) / 4;
+    }
+    0
+}
+
+// A vector that was read: LeaveAll, the number of its values, the places of its event octets, and the place after it.
+pub struct VectorHead {
+    pub leaves: bool,
+    pub values: usize,
+    pub three: usize,
+    pub four: usize,
+    pub next: usize,
+}
+
+// What stands at a place of an AttributeList.
+pub enum VectorRead {
+    Refused(u8),
+    EndMark,
+    Vector(VectorHead),
+}
+
+// A Message whose list is to be read: its AttributeType octet, the place of its list and the place after it.
+pub struct MessageHead {
+    pub kind: u8,
+    pub list: usize,
+    pub next: usize,
+}
+
+// What stands at a place of a PDU.
+pub enum MessageRead {
+    Refused(u8),
+    End,
+    Skipped(usize),
+    List(MessageHead),
+}
+
+// A field of a value.
+pub enum ValueRead {
+    Value(u64),
+    Past,
+}
+
+pub enum Event {
+    New,
+    JoinIn,
+    In,
+    JoinMt,
+    Mt,
+    Lv,
+    Missing,
+}
+
+// Whether value n of a type leaves one of the fields that grow with it (01, number 7).
+fn runs_past(kind: u8, first: &[u8], n: usize) -> bool
+    requires { ⌜ (n ≤ 8191) × (typeRead (typeOctet 0 kind) ≡ TypeRead.Known (length (now first))) ⌝ }
+    ensures { λ r. ⌜ r ≡ pastField (typeOctet 0 kind) (now (first .entry)) n ⌝ }
+{
+    if kind == 4 {
+        if 255 < (first[0] as usize) + n {
+            return true;
+        }
+        return 255 < (first[1] as usize) + n;
+    }
+    if 65535 < (octets::get(first, 6, 2) as usize) + n {
+        return true;
+    }
+    if kind == 3 {
+        return false;
+    }
+    281474976710655 < octets::get(first, 8, 6) + (n as u64)
+}
+
+// The event octets and values of a vector that fits, of header h: their checks, and its head.
+fn vector_values(
+    list: &[u8],
+    at: usize,
+    kind: u8,
+    first: usize,
+    h: usize,
+    fours: usize,
+) -> VectorRead
+    requires { ⌜ (h < 65536) × (typeRead (typeOctet 0 kind) ≡ TypeRead.Known first) × (fours ≡ fourOctets (typeOctet 0 kind) (h % 8192))
+        × (at + 2 + first + (h % 8192 + 2) / 3 + fours ≤ length (now list)) ⌝ }
+    ensures { λ r. ⌜ r ≡ valuesRead (typeOctet 0 kind) (now (list .entry)) at h ⌝ }
+{
+    let values = h % 8192;
+    let start = at + 2;
+    let three = start + first;
+    let four = three + (values + 2) / 3;
+    let over = any_overpacked(&list[three..four]);
+    if over {
+        return VectorRead::Refused(6);
+    }
+    if 0 < values {
+        let past = runs_past(kind, &list[start..three], values - 1);
+        if past {
+            return VectorRead::Refused(7);
+        }
+    }
+    VectorRead::Vector(VectorHead {
+        leaves: h / 8192 == 1,
+        values: values,
+        three: three,
+        four: four,
+        next: four + fours,
+    })
+}
+
+// The vector at a place of an AttributeList of a type: its checks, in 01's order.
+pub fn vector(list: &[u8], at: usize, kind: u8) -> VectorRead
+    ensures { λ r. ⌜ r ≡ vectorRead (typeOctet 0 kind) (now (list .entry)) at ⌝ }
+{
+    let TypeRead::Known(first) = type_read(0, kind) else {
+        return VectorRead::Refused(4);
+    };
+    let n = list.len();
+    if n < 2 {
+        return VectorRead::Refused(3);
+    }
+    if n - 2 < at {
+        return VectorRead::Refused(3);
+    }
+    let h = octets::get(list, at, 2) as usize;
+    if h == 0 {
+        if at + 2 == n {
+            return VectorRead::EndMark;
+        }
+        return VectorRead::Refused(3);
+    }
+    if 1 < h / 8192 {
+        return VectorRead::Refused(6);
+    }
+    let values = h % 8192;
+    let events = (values + 2) / 3;
+    let fours = four_octets(kind, values);
+    if n - 2 - at < first + events + fours {
+        return VectorRead::Refused(3);
+    }
+    vector_values(list, at, kind, first, h, fours)
+}
+
+// FirstValue of the vector at a place, as that part of the list: empty where the vector is refused or is the EndMark.
+pub fn first_value(list: &[u8], at: usize, kind: u8) -> &[u8]
+    ensures { λ r. ⌜ now r ≡ firstPart (typeOctet 0 kind) at (now (list .entry)) (vectorRead (typeOctet 0 kind) (now (list .entry)) at) ⌝ }
+{
+    let VectorRead::Vector(head) = vector(list, at, kind) else {
+        return &list[0..0];
+    };
+    let start = at + 2;
+    let end = head.three;
+    &list[start..end]
+}
+
+// A Message whose four header octets are there: type, length and list.
+fn message_header(pdu: &[u8], version: u8, at: usize) -> MessageRead
+    requires { ⌜ at + 4 ≤ length (now pdu) ⌝ }
+    ensures { λ r. ⌜ r ≡ messageFrom (typeOctet version (getD (now (pdu .entry)) at 0)) (now (pdu .entry)) at ⌝ }
+{
+    let left = pdu.len() - at - 4;
+    let kind = pdu[at];
+    let list = octets::get(pdu, at + 2, 2) as usize;
+    let t = type_read(version, kind);
+    match t {
+        TypeRead::Refused => MessageRead::Refused(4),
+        TypeRead::Skipped => {
+            if left < list {
+                return MessageRead::Refused(3);
+            }
+            MessageRead::Skipped(at + 4 + list)
+        }
+        TypeRead::Known(first) => {
+            if (pdu[at + 1] as usize) != first {
+                return MessageRead::Refused(5);
+            }
+            if left < list {
+                return MessageRead::Refused(3);
+            }
+            MessageRead::List(MessageHead {
+                kind: kind,
+                list: at + 4,
+                next: at + 4 + list,
+            })
+        }
+    }
+}
+
+// The Message at a place of a PDU of a version: its checks, in 01's order.
+pub fn message(pdu: &[u8], version: u8, at: usize) -> MessageRead
+    ensures { λ r. ⌜ r ≡ messageRead version (now (pdu .entry)) at ⌝ }
+{
+    let n = pdu.len();
+    if at == n {
+        return MessageRead::End;
+    }
+    if n < at {
+        return MessageRead::Refused(3);
+    }
+    if 2 <= n - at {
+        if octets::get(pdu, at, 2) == 0 {
+            return MessageRead::End;
+        }
+    }
+    if n - at < 4 {
+        return MessageRead::Refused(3);
+    }
+    message_header(pdu, version, at)
+}
+
+// The whole checked walk: 0, or the number of the first fault met.
+pub fn check(pdu: &[u8]) -> u8
+    ensures { λ r. ⌜ r ≡ numberOf (walk (now (pdu .entry))) ⌝ }
+{
+    let n = pdu.len();
+    if n == 0 {
+        return 2;
+    }
+    if 1500 < n {
+        return 2;
+    }
+    let version = pdu[0];
+    let mut at: usize = 1;
+    'messages: loop {
+        let m = message(pdu, version, at);
+        match m {
+            MessageRead::Refused(number) => break 'messages number,
+            MessageRead::End => break 'messages 0,
+            MessageRead::Skipped(next) => at = next,
+            MessageRead::List(head) => {
+                let kind = head.kind;
+                let start = head.list;
+                let end = head.next;
+                let mut place: usize = 0;
+                loop {
+                    let v = vector(&pdu[start..end], place, kind);
+                    match v {
+                        VectorRead::Refused(number) => break 'messages number,
+                        VectorRead::EndMark => break,
+                        VectorRead::Vector(w) => place = w.next,
+                    }
+                }
+                at = end;
+            }
+        }
+    }
+}
+
+// The event at place k, 0 to 2, of a ThreePackedEvents octet.
+fn three_packed(o: u8, k: usize) -> u8
+    ensures { λ r. ⌜ r ≡ threePacked o k ⌝ }
+{
+    if k == 0 {
+        return o / 36;
+    }
+    if k == 1 {
+        return o / 6 % 6;
+    }
+    o % 6
+}
+
+// The event of value n in a vector's ThreePackedEvents octets.
+pub fn event_of(events: &[u8], n: usize) -> Event
+    ensures { λ r. ⌜ r ≡ eventIn (now (events .entry)) n ⌝ }
+{
+    let i = n / 3;
+    if events.len() <= i {
+        return Event::Missing;
+    }
+    let e = three_packed(events[i], n % 3);
+    match e {
+        0 => Event::New,
+        1 => Event::JoinIn,
+        2 => Event::In,
+        3 => Event::JoinMt,
+        4 => Event::Mt,
+        5..=255 => Event::Lv,
+    }
+}
+
+// The four-packed event of value n in a vector's FourPackedEvents octets; 0, Ignore, past them.
+pub fn four_of(fours: &[u8], n: usize) -> u8
+    ensures { λ r. ⌜ r ≡ fourIn (now (fours .entry)) n ⌝ }
+{
+    let i = n / 4;
+    if fours.len() <= i {
+        return 0;
+    }
+    let o = fours[i];
+    match n % 4 {
+        0 => o / 64,
+        1 => o / 16 % 4,
+        2 => o / 4 % 4,
+        _ => o % 4,
+    }
+}
+
+// StreamID of value n of a FirstValue.
+pub fn stream_id(first: &[u8], n: usize) -> ValueRead
+    ensures { λ r. ⌜ r ≡ streamIdIn (now (first .entry)) n ⌝ }
+{
+    if first.len() < 8 {
+        return ValueRead::Past;
+    }
+    let unique = octets::get(first, 6, 2) as usize;
+    if 65535 - unique < n {
+        return ValueRead::Past;
+    }
+    ValueRead::Value(octets::get(first, 0, 8) + (n as u64))
+}
+
+// Destination of value n of a Talker's FirstValue.
+pub fn destination(first: &[u8], n: usize) -> ValueRead
+    ensures { λ r. ⌜ r ≡ destinationIn (now (first .entry)) n ⌝ }
+{
+    if first.len() < 14 {
+        return ValueRead::Past;
+    }
+    let address = octets::get(first, 8, 6);
+    if 281474976710655 - address < (n as u64) {
+        return ValueRead::Past;
+    }
+    ValueRead::Value(address + (n as u64))
+}
