@@ -3,3 +3,4 @@ pub mod Be
 pub mod Pick
 pub mod Frame
 pub mod Fields
+pub mod Copies
