@@ -7,3 +7,6 @@ pub mod Moving
 pub mod Inserting
 pub mod Places
 pub mod Fitting
+pub mod HeldRecords
+pub mod Dropping
+pub mod Turns

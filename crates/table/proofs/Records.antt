@@ -18,7 +18,7 @@ use Rattle.table.proofs.Lens.{lent-patch, all-at, part-one, patch-one, 
 use Rattle.table.proofs.Header.{header, header-records, header-length}
 
 -- what follows the records in use
-abbrev unused : ℕ → List ℕ
+abbrev pub unused : ℕ → List ℕ
 unused n = zeros (493 * (64 - n))
 
 -- the same number of other streams

@@ -2,15 +2,22 @@ ghost use mathlib.Core.Path.{_≡_};
 ghost use Prim.Native.Nat.{_+_, _*_, _≤_, _<_};
 ghost use lib.ListN.{length};
 ghost use Rattle.octets.specs.Parts.{part, patch};
-ghost use Rattle.model.specs.Registrations.{ids};
-ghost use Rattle.model.specs.Table.{encode, decode};
+ghost use Rattle.model.specs.Registrations.{holding, ids};
+ghost use Rattle.model.specs.Settling.{held};
+ghost use Rattle.model.specs.Table.{toStream, encode, decode};
 ghost use Rattle.model.specs.Laid.{Laid};
 ghost use Rattle.table.specs.Find.{foundAt};
-ghost use Rattle.table.specs.Octets.{recordPut};
+ghost use Rattle.table.specs.Held.{heldOnly};
+ghost use Rattle.table.specs.Octets.{recordPut, recordKept};
 ghost use Rattle.table.specs.Updates.{inserted};
 
-// The layout of a table, in octets (docs/TABLE.md).
+// The layout of a table, in octets (docs/TABLE.md): its length; where the ports' settings, the clock, the number of streams,
+// the totals and the stream records stand; and how long one of each is.
 pub const LENGTH: usize = 31824;
+
+pub const PORTS: usize = 11;
+
+pub const PORT: usize = 22;
 
 pub const CLOCK: usize = 187;
 
@@ -23,6 +30,17 @@ pub const TOTAL: usize = 10;
 pub const RECORDS: usize = 272;
 
 pub const RECORD: usize = 493;
+
+// Within a record: settled values, cells and results.
+pub const SETTLED: usize = 8;
+
+pub const CELLS: usize = 21;
+
+pub const CELL: usize = 39;
+
+pub const RESULTS: usize = 333;
+
+pub const RESULT: usize = 20;
 
 // The number of streams held.
 pub fn count(table: &[u8]) -> usize
@@ -127,4 +145,51 @@ pub fn insert(table: &mut [u8], k: usize, id: u64)
 {
     let n = count(table);
     put_record(table, n, k, id);
+}
+
+// Whether some port has a registration of the stream: a Talker or a Listener in one of the cells.
+pub fn is_held(rec: &[u8]) -> bool
+    requires { ⌜ length (now rec) ≡ 493 ⌝ }
+    ensures { λ r. ⌜ r ≡ held (toStream (now (rec .entry)) .cells) ⌝ }
+{
+    let mut p: usize = 0;
+    while p < 8 {
+        let a = CELLS + p * CELL;
+        if rec[a] != 0 {
+            return true;
+        }
+        if rec[a + 33] != 0 {
+            return true;
+        }
+        p += 1;
+    }
+    false
+}
+
+// The record at place i, moved down to place j.
+fn keep_record(table: &mut [u8], i: usize, j: usize)
+    requires { ⌜ (length (now table) ≡ 31824) × (j ≤ i) × (i < 64) ⌝ }
+    ensures { λ _. ⌜ now (table .exit) ≡ recordKept i j (now (table .entry)) ⌝ }
+{
+    if j < i {
+        move_down(table, RECORDS + j * RECORD, (i - j) * RECORD, RECORD);
+    }
+}
+
+// The records without a registration dropped: the others move down, with zeros in the freed room.
+pub fn drop_unheld(table: &mut [u8])
+    requires { ⌜ Laid (now table) ⌝ }
+    ensures { λ _. ⌜ now (table .exit) ≡ encode (holding (decode (now (table .entry))) (heldOnly (decode (now (table .entry)) .streams))) ⌝ }
+{
+    let n = count(table);
+    let mut j: usize = 0;
+    for i in 0..n {
+        let a = RECORDS + i * RECORD;
+        if is_held(&table[a..a + RECORD]) {
+            keep_record(table, i, j);
+            j += 1;
+        }
+    }
+    octets::clear(table, RECORDS + j * RECORD, (n - j) * RECORD);
+    octets::put(table, COUNT, 1, j as u64);
 }
