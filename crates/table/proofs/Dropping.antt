@@ -44,8 +44,7 @@ pub kept-there : (i j : ℕ) (s : List ℕ) → i ≡ j → s ≡ recordKept i j
 unfolding recordKept
 kept-there i j s e = sym (ap (λ (k : ℕ). patch (272 + j * 493) 493 (part (272 + k * 493) 493 s) s) e ∙ patch-part (272 + j * 493) 493 s)
 
--- The loop over the records: those before place i that are held stand first, then octets that no record needs, then the
--- records from i on.
+-- The loop over the records.
 
 held-append : (l m : List Stream) → heldOnly (l ++ m) ≡ heldOnly l ++ heldOnly m
 unfolding heldOnly
@@ -64,6 +63,7 @@ none-held : (x : Stream) → held (x .cells) ≡ false → heldOnly (x ∷ []) �
 unfolding heldOnly
 none-held x e = rw e
 
+-- after i records, of which j are held: these stand first, then octets that no record needs, then the records from i on
 pub record Closing (b : Bridge) (t : List ℕ) (i j : ℕ) : Type 0 where
   pub within : i ≤ length (b .streams)
   pub fewer : j ≤ i
@@ -202,8 +202,8 @@ module _ (b : Bridge) (w : FitBridge b) (t : List ℕ) (i j : ℕ) (c : Closing 
   pub closing-end : (n : ℕ) → n ≡ length (b .streams) → i ≡ n
       → patch 191 1 (be 1 j) (patch (272 + j * 493) ((n - j) * 493) (zeros ((n - j) * 493)) t) ≡ encode (holding b (heldOnly (b .streams)))
   unfolding front kept-streams flat holding
-  closing-end n a i-n =
-      let e : i ≡ length (b .streams) = i-n ∙ a in
+  closing-end n a all =
+      let e : i ≡ length (b .streams) = all ∙ a in
       let s = heldOnly (b .streams) in
       let m : ℕ = (n - j) * 493 in
       let k : heldOnly (take i (b .streams)) ≡ s = ap heldOnly (ap (λ (l : ℕ). take l (b .streams)) e ∙ take-length (b .streams)) in

@@ -1,3 +1,4 @@
+// The caller's table: its layout, what is read of its header, and its stream records found, put in and dropped.
 ghost use mathlib.Core.Path.{_≡_};
 ghost use Prim.Native.Nat.{_+_, _*_, _≤_, _<_};
 ghost use lib.ListN.{length};
@@ -11,9 +12,12 @@ ghost use Rattle.table.specs.Held.{heldOnly};
 ghost use Rattle.table.specs.Octets.{recordPut, recordKept};
 ghost use Rattle.table.specs.Updates.{inserted};
 
-// The layout of a table, in octets (docs/TABLE.md): its length; where the ports' settings, the clock, the number of streams,
-// the totals and the stream records stand; and how long one of each is.
+// The layout of a table, in octets (docs/TABLE.md): its length; where the field of the number of ports, class priorities and
+// leave time, the ports' settings, the clock, the number of streams, the totals and the stream records stand; and how long
+// one of each is.
 pub const LENGTH: usize = 31824;
+
+pub const HEAD: usize = 8;
 
 pub const PORTS: usize = 11;
 
@@ -42,6 +46,9 @@ pub const RESULTS: usize = 333;
 
 pub const RESULT: usize = 20;
 
+// Within a cell: the Listener. The Talker stands first.
+pub const LISTENER: usize = 33;
+
 // The number of streams held.
 pub fn count(table: &[u8]) -> usize
     requires { ⌜ Laid (now table) ⌝ }
@@ -63,7 +70,7 @@ pub fn ports(table: &[u8]) -> usize
     requires { ⌜ Laid (now table) ⌝ }
     ensures { λ r. ⌜ (r ≡ length (decode (now (table .entry)) .settings .ports)) × (r ≤ 8) ⌝ }
 {
-    octets::get(table, 8, 3) as usize / 1048576
+    octets::get(table, HEAD, 3) as usize / 1048576
 }
 
 // The leave time, in hundredths of a second.
@@ -71,7 +78,7 @@ pub fn leave_time(table: &[u8]) -> u32
     requires { ⌜ Laid (now table) ⌝ }
     ensures { λ r. ⌜ (r ≡ decode (now (table .entry)) .settings .leaveTime) × (r < 16384) ⌝ }
 {
-    (octets::get(table, 8, 3) % 16384) as u32
+    (octets::get(table, HEAD, 3) % 16384) as u32
 }
 
 // Where a stream is among the records in use, or where it would stand.
@@ -158,7 +165,7 @@ pub fn is_held(rec: &[u8]) -> bool
         if rec[a] != 0 {
             return true;
         }
-        if rec[a + 33] != 0 {
+        if rec[a + LISTENER] != 0 {
             return true;
         }
         p += 1;
