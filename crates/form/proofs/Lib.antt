@@ -1,0 +1,10 @@
+pub mod Zeros
+pub mod Tests
+pub mod EveryPart
+pub mod Cells
+pub mod Results
+pub mod Held
+pub mod Rising
+pub mod Settings
+pub mod Totals
+pub mod Tables

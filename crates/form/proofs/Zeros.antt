@@ -1,0 +1,63 @@
+-- Laws of `allZero`: octet by octet, and over fields.
+use mathlib.Core.Path.{_≡_, refl, sym, ap, _∙_}
+use mathlib.Core.List.{List, [], _∷_, _++_}
+use mathlib.Core.Bool.{Bool, true, false, _&&_, and-assoc, and-true}
+use Prim.Native.Nat.{ℕ, zero, suc, _+_, _*_, _<_, _≤_}
+use native.Mathlib.Nat.{zero-mul, zero-add}
+use native.Mathlib.Numerals.{add-one}
+use native.Mathlib.Omega.{arith}
+use lib.ListN.{length, getD, take, drop}
+use lib.Seq.{drop-cons, drop-length, take-add, drop-drop}
+use lib.Dec.{eqb}
+use borrow.Author.Tests.{ne-eqb}
+use Rattle.octets.specs.Be.{beAt}
+use Rattle.octets.specs.Parts.{part}
+use Rattle.octets.specs.Fields.{fields, width}
+use Rattle.octets.proofs.Parts.{part-none, part-more}
+use Rattle.model.specs.Table.{allZero}
+
+-- one octet of those left
+pub zero-more : (s : List ℕ) (i : ℕ) → i < length s → getD s i 0 ≡ 0 → allZero (drop i s) ≡ allZero (drop (i + 1) s)
+zero-more s i h e = rw (add-one, drop-cons s i 0 h, e) unfold allZero in refl
+
+pub zero-not : (s : List ℕ) (i : ℕ) → i < length s → (getD s i 0 ≡ 0 → ⊥) → allZero (drop i s) ≡ false
+zero-not s i h e = rw (drop-cons s i 0 h) (go (getD s i 0) (drop (suc i) s) e)
+  where
+    go : (b : ℕ) (l : List ℕ) → (b ≡ 0 → ⊥) → allZero (b ∷ l) ≡ false
+    go b l h = unfold allZero in rw (ne-eqb b 0 h)
+
+pub zero-none : (s : List ℕ) → allZero (drop (length s) s) ≡ true
+zero-none s = rw (drop-length s) unfold allZero in refl
+
+pub zero-append : (s t : List ℕ) → allZero (s ++ t) ≡ (allZero s && allZero t)
+unfolding allZero
+zero-append [] t = refl
+zero-append (b ∷ s) t = rw (zero-append s t) (sym (and-assoc (eqb b 0) (allZero s) (allZero t)))
+
+-- a number is 0 where its octets are
+zero-number : (n : ℕ) (s : List ℕ) (at : ℕ) → at + n ≤ length s → eqb (beAt n s at) 0 ≡ allZero (part at n s)
+unfolding beAt
+zero-number zero s at h = rw (part-none at s) unfold allZero in refl
+zero-number (suc n) s at h =
+    zero-octet (beAt n s at) (getD s (at + n) 0)
+    ∙ ap (λ (t : Bool). t && eqb (getD s (at + n) 0) 0) (zero-number n s at (omega arith))
+    ∙ sym (ap allZero (part-more at n s (omega arith)) ∙ zero-append (part at n s) (getD s (at + n) 0 ∷ []) ∙ ap (λ (t : Bool). allZero (part at n s) && t) (zero-one (getD s (at + n) 0)))
+  where
+    zero-one : (b : ℕ) → allZero (b ∷ []) ≡ eqb b 0
+    zero-one b = unfold allZero in and-true (eqb b 0)
+
+    zero-octet : (x b : ℕ) → eqb (x * 256 + b) 0 ≡ (eqb x 0 && eqb b 0)
+    zero-octet zero b = rw (zero-mul, zero-add)
+    zero-octet (suc x) b = ne-eqb (suc x * 256 + b) 0 (λ e. omega arith) ∙ sym (rw (ne-eqb (suc x) 0 (λ e. omega arith)))
+
+-- the octets of two parts that follow each other
+zero-parts : (at n m : ℕ) (s : List ℕ) → (allZero (part at n s) && allZero (part (at + n) m s)) ≡ allZero (part at (n + m) s)
+unfolding part
+zero-parts at n m s = rw (take-add n m (drop at s), drop-drop n at s) (sym (zero-append (take n (drop at s)) (take m (drop (at + n) s))))
+
+-- numbers are 0 where the octets of their fields are
+pub zero-fields : (ws : List ℕ) (at : ℕ) (s : List ℕ) → at + width ws ≤ length s → allZero (fields ws at s) ≡ allZero (part at (width ws) s)
+unfolding fields width allZero
+zero-fields [] at s h = rw (part-none at s)
+zero-fields (w ∷ ws) at s h =
+    rw (zero-number w s at (omega arith), zero-fields ws (at + w) s (omega arith)) (zero-parts at w (width ws) s)

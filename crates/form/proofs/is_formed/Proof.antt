@@ -1,0 +1,43 @@
+-- `form::is_formed` meets its contract. Assumes nothing.
+use mathlib.Core.Path.{sym, _∙_}
+use borrow.Author.Needs.{needs}
+use borrow.Author.Tests.{eq-eqb, ne-eqb, not-true, not-false}
+use Rattle.model.specs.Table.{tableLength, tableRules, formed}
+use Rattle.form.proofs.Tests.{all-true-split}
+use Rattle.form.proofs.Tables.{header-ports}
+use Rattle.form.proofs.is_formed.Statement.{statement}
+use Rattle.form.proofs.is_formed.Tie as tie
+
+returns : tie.Need-returns
+unfolding formed tableLength
+returns c = rw (ne-eqb _ _ (c .if1 .taken))
+
+returns-2 : tie.Need-returns-2
+unfolding formed tableLength
+returns-2 c =
+    rw (
+      eq-eqb _ _ (c .before .before .if1 .left),
+      ← (all-true-split 3 (tableRules (c .before .before .before .before .args .table .now))),
+      ← (c .before .header-formed .ensures),
+      not-true (c .before .header-formed .result) (c .if2 .taken),
+    )
+
+streams-formed-requires : tie.Need-streams-formed-requires
+streams-formed-requires c κs =
+    (c .before .before .if1 .left, header-ports _ (sym (c .before .header-formed .ensures) ∙ not-false _ (c .if2 .left)))
+
+returns-3 : tie.Need-returns-3
+unfolding formed tableLength
+returns-3 c =
+    rw (
+      eq-eqb _ _ (c .before .before .before .if1 .left),
+      ← (all-true-split 3 (tableRules (c .before .before .before .before .before .args .table .now))),
+      ← (c .before .before .header-formed .ensures),
+      not-false (c .before .before .header-formed .result) (c .before .if2 .left),
+    )
+    (c .streams-formed .ensures)
+
+pub is-formed-spec : {M : Type 1} → statement M
+is-formed-spec =
+    tie.close
+    (tie.spec returns (λ c κs. search needs) returns-2 streams-formed-requires returns-3)
