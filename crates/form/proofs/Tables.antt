@@ -11,7 +11,8 @@ use Rattle.octets.specs.Be.{beAt}
 use Rattle.octets.specs.Parts.{part}
 use Rattle.octets.proofs.Frame.{beAt-part}
 use Rattle.model.specs.Lists.{allTrue, parts}
-use Rattle.model.specs.Table.{portsField, toPort, toSettings, settingsRules, allZero, everyPart, streamFormed, toTotals, settingsPart, clockField, countField, totalsPart, recordsPart, rising, idOf, totalsWithin, tableRules}
+use Rattle.model.specs.Table.{portsField, toPort, toSettings, settingsRules, allZero, everyPart, streamFormed, toTotals}
+use Rattle.model.specs.Table.{settingsPart, clockField, countField, totalsPart, recordsPart, rising, idOf, totalsWithin, tableRules}
 use Rattle.model.proofs.Lists.{all-true}
 use Rattle.model.proofs.SettingsOctets.{eight-ports}
 use Rattle.form.proofs.EveryPart.{lent-rest}

@@ -39,9 +39,14 @@ zero-number : (n : ℕ) (s : List ℕ) (at : ℕ) → at + n ≤ length s → eq
 unfolding beAt
 zero-number zero s at h = rw (part-none at s) unfold allZero in refl
 zero-number (suc n) s at h =
-    zero-octet (beAt n s at) (getD s (at + n) 0)
-    ∙ ap (λ (t : Bool). t && eqb (getD s (at + n) 0) 0) (zero-number n s at (omega arith))
-    ∙ sym (ap allZero (part-more at n s (omega arith)) ∙ zero-append (part at n s) (getD s (at + n) 0 ∷ []) ∙ ap (λ (t : Bool). allZero (part at n s) && t) (zero-one (getD s (at + n) 0)))
+    let b = getD s (at + n) 0 in
+    rw (
+      zero-octet (beAt n s at) b,
+      zero-number n s at (omega arith),
+      part-more at n s (omega arith),
+      zero-append (part at n s) (b ∷ []),
+      zero-one b,
+    )
   where
     zero-one : (b : ℕ) → allZero (b ∷ []) ≡ eqb b 0
     zero-one b = unfold allZero in and-true (eqb b 0)

@@ -11,9 +11,14 @@ use Rattle.form.proofs.listener_formed.Tie as tie
 returns : tie.Need-returns
 unfolding part
 returns c =
-    let a = c .before .before .before .before .before .before .before .args in
-    rw (c .before .before .leaving-formed .ensures, c .before .before .before .before .get .ensures .0, c .zero-from .ensures)
-    (all-together _ _ ∙ ap allTrue (sym (listener-rules (a .clock) (a .leave) (a .cell .now) (c .before .before .before .before .before .before .before .pre))))
+    let start = c .before .before .before .before .before .before .before in
+    let a = start .args in
+    rw (
+      c .before .before .leaving-formed .ensures,
+      c .before .before .before .before .get .ensures .0,
+      c .zero-from .ensures,
+    )
+    (all-together _ _ ∙ ap allTrue (sym (listener-rules (a .clock) (a .leave) (a .cell .now) (start .pre))))
 
 pub listener-formed-spec : {M : Type 1} → statement M
 listener-formed-spec =

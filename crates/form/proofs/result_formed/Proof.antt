@@ -12,9 +12,14 @@ use Rattle.form.proofs.result_formed.Tie as tie
 returns : tie.Need-returns
 unfolding resultFormed part
 returns c =
-    let a = c .before .before .before .before .before .before .before .before .args in
-    rw (c .before .before .before .before .before .get .ensures .0, c .before .before .before .get2 .ensures .0, c .before .zero-from .ensures)
-    (all-together _ _ ∙ ap allTrue (sym (result-rules (a .clock) (a .result .now) (c .before .before .before .before .before .before .before .before .pre))))
+    let start = c .before .before .before .before .before .before .before .before in
+    let a = start .args in
+    rw (
+      c .before .before .before .before .before .get .ensures .0,
+      c .before .before .before .get2 .ensures .0,
+      c .before .zero-from .ensures,
+    )
+    (all-together _ _ ∙ ap allTrue (sym (result-rules (a .clock) (a .result .now) (start .pre))))
 
 pub result-formed-spec : {M : Type 1} → statement M
 result-formed-spec =

@@ -1,4 +1,6 @@
 -- `form::streams_formed` meets its contract. Assumes nothing.
+use Prim.Native.Nat.{_*_, _≤_}
+use lib.ListN.{length, getD, take, drop}
 use mathlib.Core.Path.{refl, _∙_}
 use native.Mathlib.Omega.{arith}
 use borrow.Author.Needs.{needs}
@@ -13,22 +15,27 @@ cast-count c = omega (arith, c .shared-slice-known2 .given 191)
 returns : tie.Need-returns
 returns c = too-many-streams _ (c .if1 .taken)
 
+-- the records in use are in the table
+room : (c : tie.After-records) → 493 * getD (c .before .before .before .before .before .before .args .table .now) 191 0 ≤ length (take 31552 (drop 272 (c .before .before .before .before .before .before .args .table .now)))
+room c = records-room (c .before .before .before .before .before .before .args .table .now) _ (c .before .before .before .before .before .before .pre .0) (c .before .before .before .if1 .left)
+
 records-formed-requires : tie.Need-records-formed-requires
-records-formed-requires c κs =
-    let pre = c .before .before .before .before .before .before .pre in
-    let t = c .before .before .before .before .before .before .args .table .now in
-    (records-room t _ (pre .0) (c .before .before .before .if1 .left), table-ports t _ (c .before .before .get .ensures .0) (pre .1))
+records-formed-requires c κs = (room c, table-ports _ _ (c .before .before .get .ensures .0) (c .before .before .before .before .before .before .pre .1))
 
 ids-rise-requires : tie.Need-ids-rise-requires
-ids-rise-requires c κs = records-room (c .before .before .before .before .before .before .before .args .table .now) _ (c .before .before .before .before .before .before .before .pre .0) (c .before .before .before .before .if1 .left)
+ids-rise-requires c κs = room (c .before)
 
 zero-from-requires : tie.Need-zero-from-requires
-zero-from-requires c κs = records-room (c .before .before .before .before .before .before .before .before .args .table .now) _ (c .before .before .before .before .before .before .before .before .pre .0) (c .before .before .before .before .before .if1 .left)
+zero-from-requires c κs = room (c .before .before)
 
 returns-2 : tie.Need-returns-2
 returns-2 c =
+    let r = c .before .before .before in
+    let few = r .before .before .before .if1 .left in
+    let head = r .before .before .get .ensures .0 in
+    let clock = r .before .get2 .ensures .0 in
     rw (c .before .before .records-formed .ensures, c .before .ids-rise .ensures, c .zero-from .ensures)
-    (all-together _ _ ∙ streams-tests _ (c .before .before .before .before .before .before .before .before .before .pre .0) (c .before .before .before .before .before .before .if1 .left) _ _ (c .before .before .before .before .before .get .ensures .0) (c .before .before .before .before .get2 .ensures .0) _ refl)
+    (all-together _ _ ∙ streams-tests _ (r .before .before .before .before .before .before .pre .0) few _ _ head clock _ refl)
 
 pub streams-formed-spec : {M : Type 1} → statement M
 streams-formed-spec =

@@ -11,9 +11,15 @@ use Rattle.form.proofs.talker_formed.Tie as tie
 returns : tie.Need-returns
 unfolding part
 returns c =
-    let a = c .before .before .before .before .before .before .before .before .before .before .before .args in
-    rw (c .before .before .before .before .before .leaving-formed .ensures, c .before .before .before .before .before .before .before .before .get .ensures .0, c .before .before .zero-from .ensures, c .zero-from2 .ensures)
-    (all-together _ _ ∙ ap allTrue (sym (talker-rules (a .clock) (a .leave) (a .cell .now) (c .before .before .before .before .before .before .before .before .before .before .before .pre))))
+    let start = c .before .before .before .before .before .before .before .before .before .before .before in
+    let a = start .args in
+    rw (
+      c .before .before .before .before .before .leaving-formed .ensures,
+      c .before .before .before .before .before .before .before .before .get .ensures .0,
+      c .before .before .zero-from .ensures,
+      c .zero-from2 .ensures,
+    )
+    (all-together _ _ ∙ ap allTrue (sym (talker-rules (a .clock) (a .leave) (a .cell .now) (start .pre))))
 
 pub talker-formed-spec : {M : Type 1} → statement M
 talker-formed-spec =

@@ -17,11 +17,13 @@ loop-holds c = within-start _ _ _
 
 returns : tie.Need-returns Inv-loop μ-loop
 returns c =
-    within-fails _ _ _ (c .before .before .before .before .before .before .before .before .pre .1) _ (c .before .before .before .before .loop-test .taken) _ (c .before .total-within .ensures) (c .if1 .taken) (c .before .before .before .before .before .loop .inv)
+    let l = c .before .before .before .before .before in
+    within-fails _ _ _ (l .before .before .before .pre .1) _ (c .before .before .before .before .loop-test .taken) _ (c .before .total-within .ensures) (c .if1 .taken) (l .loop .inv)
 
 loop-again : tie.Need-loop-again Inv-loop μ-loop
 loop-again c =
-    within-more _ _ _ (c .before .before .before .before .before .before .before .before .pre .1) _ (c .before .before .before .before .loop-test .taken) _ (c .before .total-within .ensures) (c .if1 .left) (c .before .before .before .before .before .loop .inv)
+    let l = c .before .before .before .before .before in
+    within-more _ _ _ (l .before .before .before .pre .1) _ (c .before .before .before .before .loop-test .taken) _ (c .before .total-within .ensures) (c .if1 .left) (l .loop .inv)
 
 returns-2 : tie.Need-returns-2 Inv-loop μ-loop
 returns-2 c =
