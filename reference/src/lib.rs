@@ -16,6 +16,7 @@
 //! * [`words`]: the words that programs print;
 //! * [`records`]: taking records from an input, and watching the calls they make;
 //! * [`sheet`], [`calls`]: the two programs;
+//! * [`script`]: inputs written by hand;
 //! * [`frame`], [`random`], [`generator`]: inputs for comparisons;
 //! * [`coverage`]: what the generated inputs reach.
 
@@ -30,6 +31,7 @@ pub mod pdu;
 pub mod random;
 pub mod records;
 pub mod registrations;
+pub mod script;
 pub mod settings;
 pub mod settling;
 pub mod sheet;

@@ -3,6 +3,7 @@
 //! * without arguments: the four lines of 01's worked example;
 //! * `sheet`: srpsheet on standard input;
 //! * `calls`: srpcalls on standard input;
+//! * `records sheet`, `records calls`: the records of a text on standard input, as `script` tells;
 //! * `make sheet SEED`, `make calls SEED`, `make calls-batch FIRST COUNT`: generated inputs;
 //! * `coverage [N]`: what the generated inputs of the seeds below N reach.
 
@@ -10,12 +11,14 @@ use std::io::{Read, Write};
 use std::process::ExitCode;
 
 use reference::coverage::Coverage;
+use reference::script::{self, Program};
 use reference::{calls, generator, sheet};
 
 const USAGE: &str = "\
 usage: reference
        reference sheet
        reference calls
+       reference records sheet|calls
        reference make sheet SEED
        reference make calls SEED
        reference make calls-batch FIRST COUNT
@@ -27,6 +30,7 @@ enum Task {
     Example,
     Sheet,
     Calls,
+    Records(Program),
     MakeSheet(u64),
     MakeCalls(u64),
     MakeCallsBatch(u64, u64),
@@ -39,6 +43,8 @@ fn task(arguments: &[&str]) -> Option<Task> {
         [] => Some(Task::Example),
         ["sheet"] => Some(Task::Sheet),
         ["calls"] => Some(Task::Calls),
+        ["records", "sheet"] => Some(Task::Records(Program::Sheet)),
+        ["records", "calls"] => Some(Task::Records(Program::Calls)),
         ["make", "sheet", seed] => Some(Task::MakeSheet(number(seed)?)),
         ["make", "calls", seed] => Some(Task::MakeCalls(number(seed)?)),
         ["make", "calls-batch", first, count] => {
@@ -62,6 +68,16 @@ fn run(task: Task) -> std::io::Result<ExitCode> {
         Task::Example => sheet::run(&sheet::worked_example()).into_bytes(),
         Task::Sheet => sheet::run(&standard_input()?).into_bytes(),
         Task::Calls => calls::run(&standard_input()?).into_bytes(),
+        Task::Records(program) => {
+            let text = String::from_utf8_lossy(&standard_input()?).into_owned();
+            match script::records(&text, program) {
+                Ok(octets) => octets,
+                Err(fault) => {
+                    eprintln!("{fault}");
+                    return Ok(ExitCode::from(2));
+                }
+            }
+        }
         Task::MakeSheet(seed) => generator::sheet(seed),
         Task::MakeCalls(seed) => generator::calls(seed).octets,
         Task::MakeCallsBatch(first, count) => generator::calls_batch(first, count),
