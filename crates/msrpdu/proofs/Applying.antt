@@ -12,7 +12,7 @@ use Rattle.octets.specs.Be.{beAt}
 use Rattle.octets.specs.Fields.{fields}
 use Rattle.octets.proofs.Parts.{lent-part, length-part}
 use Rattle.model.specs.Registrations.{Kind, advertises, faileds, listeners}
-use Rattle.model.specs.Frames.{Attribute, registers, TypeOctet, notAllowed, unknown, known, typeOctet, firstWidths, firstLength, threeLength, fourLength, Vector, vectorAt, vectorEnd, overpacked, overflows, runsPast, Walk, fault, found, also, both, vectors, listLength, listAt, messageEnd, endMark, messages, walk, eventOf, fourOf, fixedValue, idValue, vectorActs, frameActs}
+use Rattle.model.specs.Frames.{Attribute, registers, TypeOctet, notAllowed, unknown, known, typeOctet, firstWidths, firstLength, threeLength, fourLength, Vector, vectorAt, vectorEnd, overpacked, overflows, runsPast, Walk, fault, found, also, both, vectors, listLength, listAt, messageEnd, endMark, messages, walk, eventOf, fourOf, Asking, nothingAsked, join, withdraw, asking, fixedValue, idValue, vectorActs, frameActs}
 use Rattle.model.specs.Frames as frames
 use Rattle.model.proofs.Refusals.{cond-either}
 use Rattle.model.proofs.FoundVectors.{Sound, or-left, or-right}
@@ -22,6 +22,8 @@ use Rattle.msrpdu.specs.declared.VectorRead.the-variants as vector
 use Rattle.msrpdu.specs.declared.MessageHead.{MessageHead}
 use Rattle.msrpdu.specs.declared.MessageRead.the-variants as message
 use Rattle.msrpdu.specs.declared.ValueRead.the-variants.{Value}
+use Rattle.msrpdu.specs.declared.Event.{Event}
+use Rattle.msrpdu.specs.declared.Event.the-variants.{New, JoinIn, In, JoinMt, Mt, Lv, Missing}
 use Rattle.msrpdu.proofs.Laws.{value-read}
 use Rattle.msrpdu.proofs.Reading.{passed, Passed, passed-all, first-is}
 use Rattle.msrpdu.proofs.Walking.{vectorsIn, vectors-refused, vectors-end, vectors-next, messages-refused, messages-end, messages-skipped, messages-list}
@@ -148,6 +150,40 @@ module _ (v : Vector) (sound : Sound v) (n : ℕ) (h : n < v .values) where
         let p : 8 + 6 ≤ length (v .first) = omega (arith, destination-room k t) in
         let q : beAt 6 (v .first) 8 + n ≤ 281474976710655 = omega (arith, destination-below k t (v .first) (v .values - 1) r) in
         value-read 6 6 8 (v .first) n p _ refl q _ refl ∙ ap Value (rw e (sym (destination-is k t (v .first) n)))
+
+-- what an event that was read does
+unfoldable pub askedBy : Event → Asking
+askedBy New = join
+askedBy JoinIn = join
+askedBy In = nothingAsked
+askedBy JoinMt = join
+askedBy Mt = nothingAsked
+askedBy Lv = withdraw
+askedBy Missing = nothingAsked
+
+pub asking-meant : (e : frames.Event) → askedBy (eventMeant e) ≡ asking e
+unfolding askedBy eventMeant asking
+asking-meant frames.new = refl
+asking-meant frames.joinIn = refl
+asking-meant frames.isIn = refl
+asking-meant frames.joinMt = refl
+asking-meant frames.mt = refl
+asking-meant frames.lv = refl
+
+-- FirstValue's numbers, by their places
+pub advertise-fields : (s : List ℕ) → fields (firstWidths (registers advertises)) 0 s
+    ≡ beAt 8 s 0 ∷ beAt 6 s 8 ∷ beAt 2 s 14 ∷ beAt 2 s 16 ∷ beAt 2 s 18 ∷ beAt 1 s 20 ∷ beAt 4 s 21 ∷ []
+unfolding fields firstWidths
+advertise-fields s = refl
+
+pub failed-fields : (s : List ℕ) → fields (firstWidths (registers faileds)) 0 s
+    ≡ beAt 8 s 0 ∷ beAt 6 s 8 ∷ beAt 2 s 14 ∷ beAt 2 s 16 ∷ beAt 2 s 18 ∷ beAt 1 s 20 ∷ beAt 4 s 21 ∷ beAt 8 s 25 ∷ beAt 1 s 33 ∷ []
+unfolding fields firstWidths
+failed-fields s = refl
+
+pub listener-fields : (s : List ℕ) → fields (firstWidths (registers listeners)) 0 s ≡ beAt 8 s 0 ∷ []
+unfolding fields firstWidths
+listener-fields s = refl
 
 -- the four-packed event of any value
 pub four-meant : (v : Vector) (n : ℕ) → fourIn (v .four) n ≡ fourOf v n
