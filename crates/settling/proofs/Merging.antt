@@ -1,0 +1,237 @@
+-- The merged Listener: as numbers, in the octets of a record, and as the Talker port's result declares it.
+use mathlib.Core.Path.{_≡_, refl, sym, _∙_, ap}
+use mathlib.Core.List.{List, _++_}
+use mathlib.Core.Bool.{Bool, true, false, cond}
+use Prim.Native.Nat.{ℕ, suc, _+_, _*_, _-_, _≤_, _<_}
+use native.Mathlib.Omega.{arith}
+use native.Mathlib.Nat.{add-zero}
+use lib.ListN.{length, getD, set, take, drop, length-set}
+use lib.Seq.{ext-getD, getD-set-same, getD-set-other}
+use lib.Dec.{eqb}
+use borrow.Author.Tests.{eq-eqb, ne-eqb, eqb-true, eqb-false}
+use Rattle.octets.specs.Be.{be}
+use Rattle.octets.specs.Parts.{patch}
+use Rattle.octets.specs.Fields.{width}
+use Rattle.octets.proofs.Parts.{lent-part}
+use Rattle.octets.proofs.Frame.{getD-part}
+use Rattle.octets.proofs.Fields.{get-octet, put-field}
+use Rattle.model.specs.Lists.{tabulate}
+use Rattle.model.specs.State.{askingFailed, ready, readyFailed, Talker, noTalker, talker, Listener, noListener, listener, Column, none, advertise, failed, Declared, nothing, tells, Result, Stream, unsettled, cellAt, resultAt}
+use Rattle.model.specs.WrittenFrames.{readyNumber, fixedNumbers}
+use Rattle.model.specs.Settling.{Source, nowhere, from, sourceOf, isSource, registered, passed, sameReady, merge, mergeAll}
+use Rattle.model.specs.Table.{columnNumber, declaredNumber, cellWidths, talkerNumbers, listenerNumbers, cellNumbers, cellOctets, resultWidths, resultNumbers, resultOctets, toResult, streamOctets, toStream}
+use Rattle.model.specs.Laid.{FitStream, LaidResult, LaidStream}
+use Rattle.model.proofs.AdvanceKeepsForm.{length-tabulate}
+use Rattle.model.proofs.ColumnRule.{at-place}
+use Rattle.model.proofs.Fits.{laid-result-is, laid-stream-is, laid-stream-fits}
+use Rattle.table.specs.Updates.{resulting}
+use Rattle.table.proofs.Turns.{KeepsEight}
+use Rattle.table.proofs.StreamParts.{cell-fits, lent-cell, lent-result, lent-result-read, lent-result-left, result-fits}
+use Rattle.columns.specs.Answers.{sourcePlace}
+use Rattle.columns.specs.declared.SourceRead.the-variants.{Nowhere, Port}
+use Rattle.columns.proofs.Sources.{place-bound, place-port}
+use Rattle.columns.specs.Stages.{mergedShown, declaring, mergedAt, merging}
+
+-- Numbers.
+
+passed-table : (c : Column) (d : Declared) →
+    declaredNumber (passed c d) ≡ cond (eqb (columnNumber c) 0) 0 (cond (eqb (columnNumber c) 1) (declaredNumber d) (cond (eqb (declaredNumber d) 0) 0 1))
+unfolding declaredNumber readyNumber passed columnNumber
+passed-table none d = refl
+passed-table advertise d = refl
+passed-table (failed b k) nothing = refl
+passed-table (failed b k) (tells askingFailed) = refl
+passed-table (failed b k) (tells ready) = refl
+passed-table (failed b k) (tells readyFailed) = refl
+
+module _ (m n : ℕ) (c : Column) (d : Declared) (p : m ≡ columnNumber c) (q : n ≡ declaredNumber d) where
+  passed-number : declaredNumber (passed c d) ≡ cond (eqb m 0) 0 (cond (eqb m 1) n (cond (eqb n 0) 0 1))
+  passed-number = rw (p, q) (passed-table c d)
+
+  pub none-passes : m ≡ 0 → 0 ≡ declaredNumber (passed c d)
+  none-passes h = sym (passed-number ∙ rw (eq-eqb m 0 h))
+
+  module _ (some : m ≡ 0 → ⊥) where
+    pub advertise-passes : m ≡ 1 → n ≡ declaredNumber (passed c d)
+    advertise-passes h = sym (passed-number ∙ rw (ne-eqb m 0 some, eq-eqb m 1 h))
+
+    module _ (fails : m ≡ 1 → ⊥) where
+      pub unheard-passes : n ≡ 0 → 0 ≡ declaredNumber (passed c d)
+      unheard-passes h = sym (passed-number ∙ rw (ne-eqb m 0 some, ne-eqb m 1 fails, eq-eqb n 0 h))
+
+      pub heard-passes : (n ≡ 0 → ⊥) → 1 ≡ declaredNumber (passed c d)
+      heard-passes h = sym (passed-number ∙ rw (ne-eqb m 0 some, ne-eqb m 1 fails, ne-eqb n 0 h))
+
+merge-table : (d e : Declared) → declaredNumber (merge d e) ≡
+    cond (eqb (declaredNumber d) 0) (declaredNumber e)
+    (cond (eqb (declaredNumber e) 0) (declaredNumber d) (cond (eqb (declaredNumber d) (declaredNumber e)) (declaredNumber d) 3))
+unfolding declaredNumber readyNumber merge sameReady
+merge-table nothing e = refl
+merge-table (tells askingFailed) nothing = refl
+merge-table (tells askingFailed) (tells askingFailed) = refl
+merge-table (tells askingFailed) (tells ready) = refl
+merge-table (tells askingFailed) (tells readyFailed) = refl
+merge-table (tells ready) nothing = refl
+merge-table (tells ready) (tells askingFailed) = refl
+merge-table (tells ready) (tells ready) = refl
+merge-table (tells ready) (tells readyFailed) = refl
+merge-table (tells readyFailed) nothing = refl
+merge-table (tells readyFailed) (tells askingFailed) = refl
+merge-table (tells readyFailed) (tells ready) = refl
+merge-table (tells readyFailed) (tells readyFailed) = refl
+
+module _ (m n : ℕ) (d e : Declared) (p : m ≡ declaredNumber d) (q : n ≡ declaredNumber e) where
+  merge-number : declaredNumber (merge d e) ≡ cond (eqb m 0) n (cond (eqb n 0) m (cond (eqb m n) m 3))
+  merge-number = rw (p, q) (merge-table d e)
+
+  pub merge-none-first : m ≡ 0 → n ≡ declaredNumber (merge d e)
+  merge-none-first h = sym (merge-number ∙ rw (eq-eqb m 0 h))
+
+  module _ (first : m ≡ 0 → ⊥) where
+    pub merge-none-second : n ≡ 0 → m ≡ declaredNumber (merge d e)
+    merge-none-second h = sym (merge-number ∙ rw (ne-eqb m 0 first, eq-eqb n 0 h))
+
+    module _ (second : n ≡ 0 → ⊥) where
+      pub merge-alike : m ≡ n → m ≡ declaredNumber (merge d e)
+      merge-alike h = sym (merge-number ∙ rw (ne-eqb m 0 first, ne-eqb n 0 second, eq-eqb m n h))
+
+      pub merge-unlike : (m ≡ n → ⊥) → 3 ≡ declaredNumber (merge d e)
+      merge-unlike h = sym (merge-number ∙ rw (ne-eqb m 0 first, ne-eqb n 0 second, ne-eqb m n h))
+
+-- Octets.
+
+listener-number : (t : Talker) (h : Listener) → getD (talkerNumbers t ++ listenerNumbers h) 12 0 ≡ declaredNumber (registered record { talks = t; hears = h })
+unfolding talkerNumbers listenerNumbers fixedNumbers declaredNumber registered
+listener-number noTalker noListener = refl
+listener-number noTalker (listener r l) = refl
+listener-number (talker f v m k) noListener = refl
+listener-number (talker f v m k) (listener r l) = refl
+
+-- an octet of a part that is lent
+lent-octet : (a k b : ℕ) (s : List ℕ) → b < k → getD (take (a + k - a) (drop a s)) b 0 ≡ getD s (a + b) 0
+lent-octet a k b s h = ap (λ (l : List ℕ). getD l b 0) (lent-part a k s) ∙ getD-part a k b s h
+
+module _ (s : List ℕ) (l : LaidStream s) (p : ℕ) (h : p < 8) where
+  pub column-octet : getD s (333 + p * 20) 0 ≡ columnNumber (resultAt (toStream s) p .column)
+  unfolding resultOctets resultWidths resultNumbers width
+  column-octet =
+      let a = 333 + p * 20 in
+      let r = resultAt (toStream s) p in
+      ap (λ (i : ℕ). getD s i 0) (sym (add-zero a))
+      ∙ sym (lent-octet a 20 0 s (omega arith))
+      ∙ ap (λ (t : List ℕ). getD t 0 0) (lent-result s l p a h (omega arith))
+      ∙ get-octet resultWidths (resultNumbers r) (result-fits (toStream s) (laid-stream-fits s l) p a h (omega arith)) 0 refl
+
+  pub listener-octet : getD s (21 + p * 39 + 33) 0 ≡ declaredNumber (registered (cellAt (toStream s) p))
+  unfolding cellOctets cellWidths cellNumbers width
+  listener-octet =
+      let a = 21 + p * 39 in
+      let c = cellAt (toStream s) p in
+      sym (lent-octet a 39 33 s (omega arith))
+      ∙ ap (λ (t : List ℕ). getD t 33 0) (lent-cell s l p a h (omega arith))
+      ∙ get-octet cellWidths (cellNumbers c) (cell-fits (toStream s) (laid-stream-fits s l) p a h (omega arith) .numbers) 12 refl
+      ∙ listener-number (c .talks) (c .hears)
+
+-- The places from 8 down: what is merged of those from p on.
+
+abbrev pub passedFrom : Stream → ℕ → Declared
+passedFrom x q = passed (resultAt x q .column) (registered (cellAt x q))
+
+unfoldable pub mergedFrom : Stream → ℕ → Declared
+mergedFrom x p = mergeAll (tabulate (8 - p) p (passedFrom x))
+
+pub merged-none : (x : Stream) → 0 ≡ declaredNumber (mergedFrom x 8)
+unfolding mergedFrom tabulate mergeAll declaredNumber
+merged-none x = refl
+
+pub merged-more : (x : Stream) (p q : ℕ) → p ≡ suc q → p ≤ 8 → merge (passedFrom x q) (mergedFrom x p) ≡ mergedFrom x q
+unfolding mergedFrom
+merged-more x p q e h =
+    let n : 8 - q ≡ suc (8 - p) = omega arith in
+    rw (n, e) (unfold tabulate mergeAll in refl)
+
+pub merged-all : (x : Stream) → mergedFrom x 0 ≡ mergedShown x
+unfolding mergedFrom mergedShown
+merged-all x = refl
+
+-- The declared Listener's octet.
+
+pub declaring-octets : (s : List ℕ) → LaidResult s → (n : ℕ) (d : Declared) → n ≡ declaredNumber d → patch 19 1 (be 1 n) s ≡ resultOctets (declaring d (toResult s))
+unfolding resultOctets resultWidths resultNumbers width
+declaring-octets s l n d e =
+    let r = toResult s in
+    ap (patch 19 1 (be 1 n)) (laid-result-is s l)
+    ∙ put-field resultWidths (resultNumbers r) 6 n refl
+    ∙ rw e (unfold declaring in refl)
+
+-- The stream with the merged Listener at its Talker port.
+
+pub merging-eight : KeepsEight merging
+unfolding merging
+merging-eight x h k = (h, length-tabulate 8 0 (mergedAt x))
+
+-- eight results, each as a place has it
+eight-of : (l : List Result) (f : ℕ → Result) → length l ≡ 8 → ((q : ℕ) → q < 8 → getD l q unsettled ≡ f q) → tabulate 8 0 f ≡ l
+eight-of l f n h =
+    let m : length (tabulate 8 0 f) ≡ 8 = length-tabulate 8 0 f in
+    ext-getD unsettled (tabulate 8 0 f) l (m ∙ sym n) (λ q b. at-place f q unsettled (omega arith) ∙ sym (h q (omega arith)))
+
+module _ (x : Stream) (w : FitStream x) where
+  pub merging-nowhere : sourceOf x ≡ nowhere → merging x ≡ x
+  unfolding merging
+  merging-nowhere e =
+      ap (λ (r : List Result). record { id = x .id; settled = x .settled; cells = x .cells; results = r })
+      (eight-of (x .results) (mergedAt x) (w .eight-results) (λ q b. unfold mergedAt isSource resultAt in rw e))
+
+  module _ (t : ℕ) (h : t < 8) (e : (q : ℕ) → isSource (sourceOf x) q ≡ eqb t q) where
+    abbrev r : Result
+    r = declaring (mergedShown x) (resultAt x t)
+
+    placed : (q : ℕ) → q < 8 → getD (set (x .results) t r) q unsettled ≡ mergedAt x q
+    unfolding mergedAt
+    placed q b = rw (e q) (go (eqb t q) refl)
+      where
+        go : (v : Bool) → eqb t q ≡ v → getD (set (x .results) t r) q unsettled ≡ cond v (declaring (mergedShown x) (resultAt x q)) (resultAt x q)
+        go true f =
+            let s = eqb-true t q f in
+            rw (← s) (getD-set-same (x .results) t r unsettled (omega (arith, w .eight-results)))
+        go false f = getD-set-other (x .results) t q r unsettled (λ g. eqb-false t q f (sym g)) ∙ (unfold resultAt in refl)
+
+    pub merging-at : merging x ≡ resulting (λ l. set l t r) x
+    unfolding merging
+    merging-at =
+        ap (λ (r : List Result). record { id = x .id; settled = x .settled; cells = x .cells; results = r })
+        (eight-of (set (x .results) t r) (mergedAt x) (length-set (x .results) t r ∙ w .eight-results) placed)
+
+-- What a record is left as: without a Talker port as it was, else with the result there declaring the merged Listener.
+
+source-nowhere : (r : Source) → sourcePlace r ≡ Nowhere → r ≡ nowhere
+unfolding sourcePlace
+source-nowhere nowhere e = refl
+source-nowhere (from u f v m) e = let z : _≡_ {A = ℕ} 0 1 = cc in absurd (omega arith)
+
+source-port : (r : Source) (t : ℕ) → sourcePlace r ≡ Port t → (q : ℕ) → isSource r q ≡ eqb t q
+unfolding sourcePlace isSource
+source-port nowhere t e q = let z : _≡_ {A = ℕ} 0 1 = cc in absurd (omega arith)
+source-port (from u f v m) t e q = let z : u ≡ t = cc in rw z
+
+module _ (s : List ℕ) (l : LaidStream s) where
+  pub left-alone : sourcePlace (sourceOf (toStream s)) ≡ Nowhere → s ≡ streamOctets (merging (toStream s))
+  left-alone e =
+      laid-stream-is s l ∙ ap streamOctets (sym (merging-nowhere (toStream s) (laid-stream-fits s l) (source-nowhere (sourceOf (toStream s)) e)))
+
+  module _ (t : ℕ) (e : sourcePlace (sourceOf (toStream s)) ≡ Port t) where
+    pub port-place : t < 8
+    port-place =
+        let x = toStream s in
+        omega (arith, place-port (sourceOf x) t e, place-bound x (laid-stream-fits s l .eight-cells))
+
+    pub left-merged : (a : ℕ) (y : List ℕ) → a ≡ 333 + t * 20 → y ≡ resultOctets (declaring (mergedShown (toStream s)) (toResult (take (a + 20 - a) (drop a s))))
+        → take a s ++ (y ++ drop (a + 20 - a) (drop a s)) ≡ streamOctets (merging (toStream s))
+    left-merged a y p q =
+        let x = toStream s in
+        let d = mergedShown x in
+        let e′ : a ≡ 333 + 20 * t = omega arith in
+        lent-result-left s l t a port-place e′ (declaring d (resultAt x t)) y
+        (q ∙ ap (λ (r : Result). resultOctets (declaring d r)) (lent-result-read s l t a port-place e′))
+        ∙ ap streamOctets (sym (merging-at x (laid-stream-fits s l) t port-place (source-port (sourceOf x) t e)))

@@ -1,0 +1,142 @@
+// Settling: what advance does to the table. First every registration that has been leaving for at least the leave time goes, and
+// with it each stream that no port has a registration of; last, each stream's Talker port declares the merged Listener.
+ghost use mathlib.Core.Path.{_≡_};
+ghost use mathlib.Core.List.{map};
+ghost use Prim.Native.Nat.{_≤_, _<_};
+ghost use lib.ListN.{length};
+ghost use Rattle.model.specs.State.{Settings, Column, Declared};
+ghost use Rattle.model.specs.Registrations.{holding};
+ghost use Rattle.model.specs.Settling as model;
+ghost use Rattle.model.specs.Table.{columnNumber, declaredNumber, toResult, resultOctets, toStream, streamOctets, encode, decode};
+ghost use Rattle.model.specs.Laid.{LaidResult, LaidStream, Laid};
+ghost use Rattle.columns.specs.Stages as stages;
+ghost use Rattle.settling.specs.Removed.{removed};
+use columns::SourceRead;
+
+// The place of the declared Listener in a result.
+const DECLARED: usize = 19;
+
+// Removes from a record what has been leaving for at least the leave time.
+fn expire_record(rec: &mut [u8], leave: u32, time: u32)
+    requires { ⌜ LaidStream (now rec) × (length (now rec) ≡ 493) × (leave ≤ 16383) ⌝ }
+    ensures { λ _. ⌜ ((st : Settings) → st .leaveTime ≡ leave → now (rec .exit) ≡ streamOctets (model.expire st time (toStream (now (rec .entry))))) ⌝ }
+{
+    let mut p: usize = 0;
+    while p < 8 {
+        let a = table::CELLS + p * table::CELL;
+        cells::expire(&mut rec[a..a + table::CELL], leave, time);
+        p += 1;
+    }
+}
+
+// The same on each record in use.
+fn expire_all(table: &mut [u8], time: u32)
+    requires { ⌜ Laid (now table) ⌝ }
+    ensures { λ _. ⌜ now (table .exit) ≡ encode (holding (decode (now (table .entry)))
+        (map (model.expire (decode (now (table .entry)) .settings) time) (decode (now (table .entry)) .streams))) ⌝ }
+{
+    let held = table::count(table);
+    let leave = table::leave_time(table);
+    let mut k: usize = 0;
+    while k < held {
+        let a = table::RECORDS + k * table::RECORD;
+        expire_record(&mut table[a..a + table::RECORD], leave, time);
+        k += 1;
+    }
+}
+
+// The clock set, what has lasted the leave time removed, the streams that are no longer held dropped, and nothing reserved.
+fn remove(table: &mut [u8], time: u32)
+    requires { ⌜ Laid (now table) ⌝ }
+    ensures { λ _. ⌜ now (table .exit) ≡ encode (removed time (decode (now (table .entry)))) ⌝ }
+{
+    expire_all(table, time);
+    table::drop_unheld(table);
+    octets::put(table, table::CLOCK, 4, time as u64);
+    octets::clear(table, table::TOTALS, 8 * table::TOTAL);
+}
+
+// The Listener passed on from a port, by the numbers of its column and of the Listener registered there.
+fn passed_on(column: u8, listener: u8) -> u8
+    ensures { λ r. ⌜ ((c : Column) (d : Declared) → column ≡ columnNumber c → listener ≡ declaredNumber d → r ≡ declaredNumber (model.passed c d)) ⌝ }
+{
+    if column == 0 {
+        return 0;
+    }
+    if column == 1 {
+        return listener;
+    }
+    if listener == 0 {
+        return 0;
+    }
+    1
+}
+
+// Two Listeners merged: alike gives itself, none gives the other, any two unlike give Ready Failed.
+fn merge_two(a: u8, b: u8) -> u8
+    ensures { λ r. ⌜ ((d e : Declared) → a ≡ declaredNumber d → b ≡ declaredNumber e → r ≡ declaredNumber (model.merge d e)) ⌝ }
+{
+    if a == 0 {
+        return b;
+    }
+    if b == 0 {
+        return a;
+    }
+    if a == b {
+        return a;
+    }
+    3
+}
+
+// The Listeners passed on from all ports, merged.
+fn merged(rec: &[u8]) -> u8
+    requires { ⌜ LaidStream (now rec) × (length (now rec) ≡ 493) ⌝ }
+    ensures { λ r. ⌜ r ≡ declaredNumber (stages.mergedShown (toStream (now (rec .entry)))) ⌝ }
+{
+    let mut sum: u8 = 0;
+    let mut p: usize = 8;
+    while 0 < p {
+        p -= 1;
+        let column = rec[table::RESULTS + p * table::RESULT];
+        let listener = rec[table::CELLS + p * table::CELL + table::LISTENER];
+        let passed = passed_on(column, listener);
+        sum = merge_two(passed, sum);
+    }
+    sum
+}
+
+// The Listener that a result declares, by its number.
+fn declare(result: &mut [u8], number: u8)
+    requires { ⌜ LaidResult (now result) × (length (now result) ≡ 20) ⌝ }
+    ensures { λ _. ⌜ ((d : Declared) → number ≡ declaredNumber d → now (result .exit) ≡ resultOctets (stages.declaring d (toResult (now (result .entry))))) ⌝ }
+{
+    octets::put(result, DECLARED, 1, number as u64);
+}
+
+// The Talker port of a record declares the merged Listener.
+fn merge_record(rec: &mut [u8])
+    requires { ⌜ LaidStream (now rec) × (length (now rec) ≡ 493) ⌝ }
+    ensures { λ _. ⌜ now (rec .exit) ≡ streamOctets (stages.merging (toStream (now (rec .entry)))) ⌝ }
+{
+    let SourceRead::Port(t) = columns::source(rec) else {
+        return;
+    };
+    let number = merged(rec);
+    let a = table::RESULTS + t * table::RESULT;
+    declare(&mut rec[a..a + table::RESULT], number);
+}
+
+// The same on each record in use.
+fn merge_all(table: &mut [u8])
+    requires { ⌜ Laid (now table) ⌝ }
+    ensures { λ _. ⌜ now (table .exit) ≡ encode (holding (decode (now (table .entry)))
+        (map stages.merging (decode (now (table .entry)) .streams))) ⌝ }
+{
+    let held = table::count(table);
+    let mut k: usize = 0;
+    while k < held {
+        let a = table::RECORDS + k * table::RECORD;
+        merge_record(&mut table[a..a + table::RECORD]);
+        k += 1;
+    }
+}
