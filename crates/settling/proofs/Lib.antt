@@ -1,2 +1,4 @@
 pub mod Removal
 pub mod Merging
+pub mod Sharing
+pub mod Stages

@@ -1,5 +1,6 @@
 // Settling: what advance does to the table. First every registration that has been leaving for at least the leave time goes, and
-// with it each stream that no port has a registration of; last, each stream's Talker port declares the merged Listener.
+// with it each stream that no port has a registration of; then each stream is decided, bandwidth is shared out on each port, and
+// last each stream's Talker port declares the merged Listener.
 ghost use mathlib.Core.Path.{_≡_};
 ghost use mathlib.Core.List.{map};
 ghost use Prim.Native.Nat.{_≤_, _<_};
@@ -54,6 +55,20 @@ fn remove(table: &mut [u8], time: u32)
     table::drop_unheld(table);
     octets::put(table, table::CLOCK, 4, time as u64);
     octets::clear(table, table::TOTALS, 8 * table::TOTAL);
+}
+
+// Bandwidth shared out on each port, in class A and then in class B.
+fn admit_all(table: &mut [u8])
+    requires { ⌜ Laid (now table) ⌝ }
+    ensures { λ _. ⌜ now (table .exit) ≡ encode (stages.admissions (length (decode (now (table .entry)) .settings .ports)) 0 (decode (now (table .entry)))) ⌝ }
+{
+    let ports = table::ports(table);
+    let mut p: usize = 0;
+    while p < ports {
+        admission::admit_class(table, p, false);
+        admission::admit_class(table, p, true);
+        p += 1;
+    }
 }
 
 // The Listener passed on from a port, by the numbers of its column and of the Listener registered there.
