@@ -2,3 +2,12 @@ pub mod Demands
 pub mod Steps
 pub mod Places
 pub mod Sources
+pub mod Entries
+pub mod Talkers
+pub mod EarlyColumns
+pub mod ResultFields
+pub mod Patches
+pub mod EarlyPlaces
+pub mod EarlyFits
+pub mod EarlyRecords
+pub mod EarlyTables

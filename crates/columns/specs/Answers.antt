@@ -1,11 +1,12 @@
 -- What the code's answers say in the words of the definitions, and how the octets that it is lent are read.
 use mathlib.Core.List.{List, [], _∷_}
-use Prim.Native.Nat.{ℕ}
+use Prim.Native.Nat.{ℕ, _+_}
 use Rattle.octets.specs.Fields.{fields}
-use Rattle.model.specs.State.{Fixed, noTalker, talker, Cell, Column, none, advertise, failed, Class, noClass, classA, classB}
+use Rattle.model.specs.State as state
+use Rattle.model.specs.State.{Settings, Fixed, noTalker, talker, Cell, Column, none, advertise, failed, Declared, nothing, Result, Class, noClass, classA, classB, classOf, classLatency}
 use Rattle.model.specs.Settling as settling
-use Rattle.model.specs.Settling.{nowhere, from}
-use Rattle.model.specs.Table.{fixedFrom}
+use Rattle.model.specs.Settling.{nowhere, from, fixedOf, latencyOf, ageOf, capped, entryOf, ageKept, latencyKept}
+use Rattle.model.specs.Table.{fixedFrom, columnNumber, columnBridge, columnCode}
 use Rattle.columns.specs.declared.SourceRead.{SourceRead}
 use Rattle.columns.specs.declared.SourceRead.the-variants.{Nowhere, Port}
 use Rattle.columns.specs.declared.ClassRead.{ClassRead}
@@ -40,3 +41,31 @@ talkerPlace (from t f v m) = t
 -- what a cell at place t has registered, as a source
 unfoldable pub sourceIn : ℕ → Cell → settling.Source
 sourceIn t c = elim (c .talks) [ noTalker ↦ nowhere | talker f v m l ↦ from t f v m ]
+
+-- the result on a port, from its column, latency out and Listener, and from the result that the port had
+unfoldable pub shownBy : Column → ℕ → Declared → ℕ → Result → Result
+shownBy column latency heard now old =
+    let entry = entryOf column heard in
+    record {
+      column = column;
+      latency = latencyKept column latency;
+      entry = entry;
+      age = ageKept entry (ageOf now old);
+      declares = nothing;
+    }
+
+-- a result's fields: those of its column, and those of its entry with the Listener declared
+unfoldable pub columnWidths : List ℕ
+columnWidths = 1 ∷ 4 ∷ 8 ∷ 1 ∷ []
+
+unfoldable pub columnNumbers : Column → ℕ → List ℕ
+columnNumbers c latency = columnNumber c ∷ latencyKept c latency ∷ columnBridge c ∷ columnCode c ∷ []
+
+unfoldable pub entryWidths : List ℕ
+entryWidths = 1 ∷ 4 ∷ 1 ∷ []
+
+-- latency out of a port, of the Talker that a cell has registered
+unfoldable pub latencyBy : Settings → state.Port → Cell → ℕ
+latencyBy st q c =
+    let s = sourceIn 0 c in
+    capped (latencyOf s + classLatency q (classOf st (fixedOf s .priority)))

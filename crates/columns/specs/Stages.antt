@@ -7,6 +7,7 @@ use Prim.Native.Nat.{ℕ, zero, suc, _+_}
 use lib.ListN.{getD, set, replicate}
 use Rattle.model.specs.Lists.{keep, tabulate}
 use Rattle.model.specs.State.{Port, Settings, Column, none, advertise, failed, Entry, filters, Declared, nothing, Result, Stream, Totals, Bridge, noTotals, portAt, cellAt, resultAt, Class, noClass, classA, classB, classOf, sameClass, limit}
+use Rattle.model.specs.Registrations.{holding}
 use Rattle.model.specs.Bandwidth.{Claim, demand, rateOf, admitted, total}
 use Rattle.model.specs.Settling.{sourceOf, fixedOf, isSource, registered, isReady, first, steps, ageOf, latencyOut, entryOf, ageKept, latencyKept, passed, mergeAll}
 
@@ -38,6 +39,10 @@ early st now x = record {
   cells = x .cells;
   results = tabulate 8 0 (earlyAt st now x);
 }
+
+-- the whole of (1)
+unfoldable pub earlyAll : ℕ → Bridge → Bridge
+earlyAll now b = holding b (map (early (b .settings) now) (b .streams))
 
 -- (2), on the port at place p, in class c
 

@@ -1,13 +1,19 @@
 // Stage 1 of settling: steps a to g, and what a stream shows on a port before bandwidth is shared.
 ghost use mathlib.Core.Path.{_≡_};
+ghost use mathlib.Core.List.{[], _∷_, _++_};
 ghost use Prim.Native.Nat.{_+_, _*_, _≤_, _<_, _^_};
-ghost use lib.ListN.{length};
+ghost use lib.ListN.{length, take, drop};
+ghost use Rattle.octets.specs.Fields.{packed};
+ghost use Rattle.octets.specs.Parts.{part, patch};
 ghost use Rattle.model.specs.State as state;
-ghost use Rattle.model.specs.State.{classOf, isNoClass, portAt, advertise, failed};
+ghost use Rattle.model.specs.State.{classOf, isNoClass, classLatency, portAt, advertise, failed};
 ghost use Rattle.model.specs.Bandwidth as bandwidth;
-ghost use Rattle.model.specs.Settling.{sourceOf, first, stepsFrom};
-ghost use Rattle.model.specs.Table.{toPort, toSettings, toCell, toStream};
-ghost use Rattle.columns.specs.Answers.{toFixed, classShown, columnShown, sourcePlace, talkerPlace, sourceIn};
+ghost use Rattle.model.specs.Settling.{sourceOf, first, stepsFrom, ageOf, entryOf, ageKept};
+ghost use Rattle.model.specs.Table.{toPort, toSettings, toCell, toStream, toResult, toEntry, toDeclared, entryNumber, resultOctets, encode, decode};
+ghost use Rattle.model.specs.Laid.{LaidCell, Laid};
+ghost use Rattle.columns.specs.Stages.{earlyColumn, early, earlyAll};
+ghost use Rattle.columns.specs.Answers.{toFixed, classShown, columnShown, sourcePlace, talkerPlace, sourceIn, latencyBy, shownBy, columnWidths, columnNumbers, entryWidths};
+ghost use Rattle.columns.specs.Records.{LaidAt, changedAt, earlyOne, earlyTo};
 
 // A demand in octets per interval of a class.
 pub struct PerInterval(pub u64);
@@ -185,4 +191,190 @@ fn first_step(
         return own(settings, 14);
     }
     ColumnRead::Advertise
+}
+
+// The column of a stream on the port at place p before bandwidth is shared, where t is its Talker's place.
+pub fn early_column(settings: &[u8], rec: &[u8], p: usize, t: usize) -> ColumnRead
+    requires { ⌜ (length (now settings) ≡ 187) × (length (now rec) ≡ 493) × (p < 8) × (t < 8) × (t ≡ talkerPlace (sourceOf (toStream (now rec)))) ⌝ }
+    ensures { λ r. ⌜ columnShown r ≡ earlyColumn (toSettings (now (settings .entry))) p (toStream (now (rec .entry))) ⌝ }
+{
+    if octets::get(settings, 8, 3) / 1048576 <= (p as u64) {
+        return ColumnRead::None;
+    }
+    let q = 11 + p * 22;
+    let h = 21 + p * 39;
+    let s = 21 + t * 39;
+    first_step(
+        settings,
+        &settings[q..q + 22],
+        &rec[h..h + 39],
+        &rec[s..s + 39],
+        p,
+        t,
+    )
+}
+
+// A port's latency of a class, in nanoseconds; 0 without a class.
+fn class_latency(port: &[u8], class: ClassRead) -> u64
+    requires { ⌜ length (now port) ≡ 22 ⌝ }
+    ensures { λ r. ⌜ (r ≡ classLatency (toPort (now (port .entry))) (classShown class)) × (r < 2 ^ 32) ⌝ }
+{
+    match class {
+        ClassRead::NoClass => 0,
+        ClassRead::A => octets::get(port, 14, 4),
+        ClassRead::B => octets::get(port, 18, 4),
+    }
+}
+
+// Latency out of a port, at most 2^32 - 1, from the cell of the Talker.
+fn latency_out(settings: &[u8], port: &[u8], talker: &[u8]) -> u64
+    requires { ⌜ (11 ≤ length (now settings)) × (length (now port) ≡ 22) × (length (now talker) ≡ 39) × LaidCell (now talker) ⌝ }
+    ensures { λ r. ⌜ r ≡ latencyBy (toSettings (now (settings .entry))) (toPort (now (port .entry))) (toCell (now (talker .entry))) ⌝ }
+{
+    let class = class_of(settings, octets::get(talker, 19, 1) / 32);
+    let sum = octets::get(talker, 20, 4) + class_latency(port, class);
+    if 4294967295 < sum {
+        return 4294967295;
+    }
+    sum
+}
+
+// The number of an entry (Table 35-12), from the column and the number of the Listener: 0 none, 1 filter, 2 forward.
+fn entry_of(column: ColumnRead, listener: u64) -> u64
+    ensures { λ r. ⌜ r ≡ entryNumber (entryOf (columnShown column) (toDeclared listener)) ⌝ }
+{
+    match column {
+        ColumnRead::None => {
+            if listener == 0 {
+                return 0;
+            }
+            1
+        }
+        ColumnRead::Advertise => {
+            if 2 <= listener {
+                return 2;
+            }
+            1
+        }
+        ColumnRead::Failed(_, _) => 1,
+    }
+}
+
+// The second that an entry's age is counted from: that of the result before, or this one where there was no entry.
+fn age_of(result: &[u8], entry: u64, time: u32) -> u64
+    requires { ⌜ length (now result) ≡ 20 ⌝ }
+    ensures { λ r. ⌜ r ≡ ageKept (toEntry entry) (ageOf time (toResult (now (result .entry)))) ⌝ }
+{
+    if entry == 0 {
+        return 0;
+    }
+    if result[14] == 0 {
+        return (time / 100) as u64;
+    }
+    octets::get(result, 15, 4)
+}
+
+// The fields of a result's column: its kind, latency out, Bridge ID and code.
+fn store_column(result: &mut [u8], kind: u64, latency: u64, bridge: u64, code: u64)
+    requires { ⌜ length (now result) ≡ 20 ⌝ }
+    ensures { λ _. ⌜ now (result .exit) ≡ packed columnWidths (kind ∷ latency ∷ bridge ∷ code ∷ []) ++ drop 14 (now (result .entry)) ⌝ }
+{
+    octets::put(result, 0, 1, kind);
+    octets::put(result, 1, 4, latency);
+    octets::put(result, 5, 8, bridge);
+    octets::put(result, 13, 1, code);
+}
+
+fn write_column(result: &mut [u8], column: ColumnRead, latency: u64)
+    requires { ⌜ length (now result) ≡ 20 ⌝ }
+    ensures { λ _. ⌜ now (result .exit) ≡ packed columnWidths (columnNumbers (columnShown column) latency) ++ drop 14 (now (result .entry)) ⌝ }
+{
+    match column {
+        ColumnRead::None => store_column(result, 0, 0, 0, 0),
+        ColumnRead::Advertise => store_column(result, 1, latency, 0, 0),
+        ColumnRead::Failed(b, c) => store_column(result, 2, latency, b, c as u64),
+    }
+}
+
+// The fields of a result's entry, which declares no Listener yet.
+fn write_entry(result: &mut [u8], entry: u64, age: u64)
+    requires { ⌜ length (now result) ≡ 20 ⌝ }
+    ensures { λ _. ⌜ now (result .exit) ≡ take 14 (now (result .entry)) ++ packed entryWidths (entry ∷ age ∷ 0 ∷ []) ⌝ }
+{
+    octets::put(result, 14, 1, entry);
+    octets::put(result, 15, 4, age);
+    octets::put(result, 19, 1, 0);
+}
+
+// What a stream shows on a port, in the place of what it showed.
+fn write_result(result: &mut [u8], column: ColumnRead, latency: u64, listener: u64, time: u32)
+    requires { ⌜ length (now result) ≡ 20 ⌝ }
+    ensures { λ _. ⌜ now (result .exit) ≡ resultOctets (shownBy (columnShown column) latency (toDeclared listener) time (toResult (now (result .entry)))) ⌝ }
+{
+    let entry = entry_of(column, listener);
+    let age = age_of(result, entry, time);
+    write_column(result, column, latency);
+    write_entry(result, entry, age);
+}
+
+// What a stream shows on the port at place p; its record stands at a, and its Talker's place is t.
+fn early_at(table: &mut [u8], a: usize, p: usize, t: usize, time: u32)
+    requires { ⌜ LaidAt a (now table) × (p < 8) × (t < 8) × (t ≡ talkerPlace (sourceOf (toStream (part a 493 (now table))))) ⌝ }
+    ensures { λ _. ⌜ now (table .exit) ≡ changedAt a (earlyOne p time) (now (table .entry)) ⌝ }
+{
+    let q = 11 + p * 22;
+    let h = a + 21 + p * 39;
+    let s = a + 21 + t * 39;
+    let r = a + 333 + p * 20;
+    let column = early_column(&table[0..187], &table[a..a + 493], p, t);
+    let latency = latency_out(&table[0..187], &table[q..q + 22], &table[s..s + 39]);
+    let listener = octets::get(table, h + 33, 1);
+    write_result(&mut table[r..r + 20], column, latency, listener, time);
+}
+
+// The fixed values of the Talker in the cell at from, as the settled values of its record.
+fn copy_fixed(rec: &mut [u8], from: usize)
+    requires { ⌜ (length (now rec) ≡ 493) × (21 ≤ from) × (from + 13 ≤ 493) ⌝ }
+    ensures { λ _. ⌜ now (rec .exit) ≡ patch 8 13 (part from 13 (now (rec .entry))) (now (rec .entry)) ⌝ }
+{
+    let mut i: usize = 13;
+    while 0 < i {
+        i -= 1;
+        rec[8 + i] = rec[from + i];
+    }
+}
+
+// What a stream shows on each of the eight places.
+fn early_places(table: &mut [u8], a: usize, t: usize, time: u32)
+    requires { ⌜ LaidAt a (now table) × (t < 8) × (t ≡ talkerPlace (sourceOf (toStream (part a 493 (now table))))) ⌝ }
+    ensures { λ _. ⌜ now (table .exit) ≡ changedAt a (earlyTo 8 time) (now (table .entry)) ⌝ }
+{
+    let mut p: usize = 0;
+    while p < 8 {
+        early_at(table, a, p, t, time);
+        p += 1;
+    }
+}
+
+// A stream's settled values, and what it shows on every port before bandwidth is shared.
+fn early_record(table: &mut [u8], a: usize, time: u32)
+    requires { ⌜ LaidAt a (now table) ⌝ }
+    ensures { λ _. ⌜ now (table .exit) ≡ changedAt a (λ st. early st time) (now (table .entry)) ⌝ }
+{
+    let t = talker_place(&table[a..a + 493]);
+    copy_fixed(&mut table[a..a + 493], 28 + t * 39);
+    early_places(table, a, t, time);
+}
+
+// Stage 1 for every stream held.
+pub fn early_all(table: &mut [u8], time: u32)
+    requires { ⌜ Laid (now table) ⌝ }
+    ensures { λ _. ⌜ now (table .exit) ≡ encode (earlyAll time (decode (now (table .entry)))) ⌝ }
+{
+    let count = table::count(table);
+    let mut k: usize = 0;
+    while k < count {
+        early_record(table, 272 + k * 493, time);
+        k += 1;
+    }
 }

@@ -1,0 +1,91 @@
+-- Entries and their ages, by the numbers that the code tests.
+use mathlib.Core.Path.{_≡_, refl, sym, ap, _∙_}
+use mathlib.Core.List.{List, [], _∷_}
+use mathlib.Core.Bool.{Bool, true, false, cond}
+use Prim.Native.Nat.{ℕ, zero, suc, _/_, _≤_, _<_}
+use native.Mathlib.Omega.{arith}
+use lib.ListN.{getD}
+use lib.Dec.{eqb}
+use borrow.Author.Tests.{eq-eqb, ne-eqb}
+use Rattle.octets.specs.Be.{beAt}
+use Rattle.octets.specs.Fields.{fields}
+use Rattle.model.specs.State.{Leaving, Talker, Ready, askingFailed, ready, readyFailed, Listener, noListener, listener, Column, none, advertise, failed, Entry, noEntry, filters, forwards, Declared, nothing, tells}
+use Rattle.model.specs.Settling.{isReady, registered, entryOf, ageOf, ageKept}
+use Rattle.model.specs.Table.{toLeaving, toReady, toDeclared, toEntry, entryNumber, toCell, cellFrom, listenerFrom, cellWidths, toResult, resultFrom, resultWidths}
+use Rattle.model.proofs.SettingsOctets.{octet-field}
+
+-- The Listener registered in a cell is said by its octet 33.
+
+heard : (t : Talker) (e : Bool) (r : Ready) (l : Leaving)
+    → registered record { talks = t; hears = cond e noListener (listener r l) } ≡ cond e nothing (tells r)
+unfolding registered
+heard t true r l = refl
+heard t false r l = refl
+
+pub registered-read : (s : List ℕ) → registered (toCell s) ≡ toDeclared (beAt 1 s 33)
+unfolding toCell cellFrom listenerFrom toDeclared fields cellWidths
+registered-read s =
+    heard (toCell s .talks) (eqb (beAt 1 s 33) 0) (toReady (beAt 1 s 33)) (toLeaving (beAt 1 s 34) (beAt 4 s 35))
+
+-- Table 35-12.
+
+ready-few : (k : ℕ) → k < 2 → isReady (toDeclared k) ≡ false
+unfolding isReady toDeclared toReady
+ready-few zero h = refl
+ready-few (suc zero) h = refl
+ready-few (suc (suc k)) h = absurd (omega arith)
+
+ready-many : (k : ℕ) → 2 ≤ k → isReady (toDeclared k) ≡ true
+unfolding isReady toDeclared toReady
+ready-many k h = rw (ne-eqb k 0 (λ e. omega arith), ne-eqb k 1 (λ e. omega arith)) (go (eqb k 2))
+  where
+    go : (e : Bool) → isReady (tells (cond e ready readyFailed)) ≡ true
+    go true = refl
+    go false = refl
+
+pub none-unheard : (k : ℕ) → k ≡ 0 → 0 ≡ entryNumber (entryOf none (toDeclared k))
+unfolding entryNumber entryOf toDeclared
+none-unheard k e = rw (eq-eqb k 0 e)
+
+pub none-heard : (k : ℕ) → (k ≡ 0 → ⊥) → 1 ≡ entryNumber (entryOf none (toDeclared k))
+unfolding entryNumber entryOf toDeclared
+none-heard k n = rw (ne-eqb k 0 n)
+
+pub advertised-ready : (k : ℕ) → 2 ≤ k → 2 ≡ entryNumber (entryOf advertise (toDeclared k))
+unfolding entryNumber entryOf
+advertised-ready k h = rw (ready-many k h)
+
+pub advertised-unready : (k : ℕ) → k < 2 → 1 ≡ entryNumber (entryOf advertise (toDeclared k))
+unfolding entryNumber entryOf
+advertised-unready k h = rw (ready-few k h)
+
+pub failed-filters : (b c k : ℕ) → 1 ≡ entryNumber (entryOf (failed b c) (toDeclared k))
+unfolding entryNumber entryOf
+failed-filters b c k = refl
+
+-- Ages.
+
+pub no-age : (e a : ℕ) → e ≡ 0 → 0 ≡ ageKept (toEntry e) a
+unfolding ageKept toEntry
+no-age e a h = rw (eq-eqb e 0 h)
+
+kept : (e a : ℕ) → (e ≡ 0 → ⊥) → ageKept (toEntry e) a ≡ a
+unfolding ageKept toEntry
+kept e a n = rw (ne-eqb e 0 n) (go (eqb e 1))
+  where
+    go : (t : Bool) → ageKept (cond t filters forwards) a ≡ a
+    go true = refl
+    go false = refl
+
+module _ (s : List ℕ) (now e : ℕ) (n : e ≡ 0 → ⊥) where
+  pub age-begins : getD s 14 0 ≡ 0 → now / 100 ≡ ageKept (toEntry e) (ageOf now (toResult s))
+  unfolding ageOf toResult resultFrom toEntry fields resultWidths
+  age-begins h = sym (kept e (ageOf now (toResult s)) n ∙ rw (octet-field s 14, eq-eqb (getD s 14 0) 0 h))
+
+  pub age-stays : (getD s 14 0 ≡ 0 → ⊥) → beAt 4 s 15 ≡ ageKept (toEntry e) (ageOf now (toResult s))
+  unfolding ageOf toResult resultFrom toEntry fields resultWidths
+  age-stays h = sym (kept e (ageOf now (toResult s)) n ∙ rw (octet-field s 14, ne-eqb (getD s 14 0) 0 h) (held (eqb (getD s 14 0) 1)))
+    where
+      held : (t : Bool) → elim (cond t filters forwards) [ noEntry ↦ now / 100 | filters ↦ beAt 4 s 15 | forwards ↦ beAt 4 s 15 ] ≡ beAt 4 s 15
+      held true = refl
+      held false = refl
