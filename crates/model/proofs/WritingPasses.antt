@@ -151,7 +151,7 @@ stream-kind listeners x r = go (r .declares)
     go nothing = tt
     go (tells q) = (refl, tt)
 
-ofKind-kind : (k : Kind) (p : ℕ) (s : List Stream) → All (OfKind k) (ofKind k p s)
+pub ofKind-kind : (k : Kind) (p : ℕ) (s : List Stream) → All (OfKind k) (ofKind k p s)
 ofKind-kind k p s =
     all-of-kind (OfKind k) k p s (all-each (λ x. All (OfKind k) (declarationsOf k x (resultAt x p))) (λ x. stream-kind k x (resultAt x p)) s)
 
@@ -281,7 +281,7 @@ length-vectors k (d ∷ l) a =
     let e = suc-mul (length l) (vectorSize k) in
     simp (length-append, length-vector d, a .0, length-vectors k l (a .1)) (omega arith)
 
-length-message : (k : Kind) (l : List Declaration) → All (OfKind k) l → length (messageOctets k l) ≡ messageSize k (length l)
+pub length-message : (k : Kind) (l : List Declaration) → All (OfKind k) l → length (messageOctets k l) ≡ messageSize k (length l)
 unfolding messageOctets messageOf messageSize
 length-message k [] a = refl
 length-message k (d ∷ l) a = simp (length-append, length-be, length-vectors k (d ∷ l) a) (omega arith)

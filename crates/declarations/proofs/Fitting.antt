@@ -1,0 +1,352 @@
+-- How many declarations of one type fit, and that the passes, one for each type, take the declarations that a PDU takes.
+use Prim.Native.Nat.{ℕ, zero, suc, _+_, _-_, _*_, _/_, _≤_, _<_}
+use native.Mathlib.Nat.{suc-mul, add-zero, zero-mul, div-eq-of-lt, div-eq-sub-div, div-mul-le-self, mul-le-mul-right}
+use native.Mathlib.Omega.{arith}
+use mathlib.Core.Path.{_≡_, refl, sym, ap, _∙_}
+use mathlib.Core.Bool.{Bool, true, false, cond}
+use mathlib.Core.List.{List, [], _∷_, _++_, append-nil}
+use lib.ListN.{length, take, drop, length-drop}
+use lib.Seq.{take-all, take-nil, drop-nil, take-append-le, take-append-add, length-take-le}
+use lib.Dec.{ltb}
+use borrow.Author.Tests.{ltb-true, ltb-false, lt-ltb, le-ltb}
+use Rattle.octets.specs.Parts.{patch}
+use Rattle.octets.proofs.Parts.{patch-none}
+use Rattle.model.specs.Lists.{All}
+use Rattle.model.specs.Registrations.{Kind, advertises, faileds, listeners}
+use Rattle.model.specs.Declarations.{Declaration, kindOf, vectorSize, noMessage, message, opening, fitting}
+use Rattle.model.specs.WrittenFrames.{typeNumber, messageOctets}
+use Rattle.model.proofs.Lists.{all-map, all-append, all-take, all-drop}
+use Rattle.model.proofs.WritingPasses.{OfKind, same-kind, other-kind, messageSize, length-message}
+use Rattle.declarations.specs.declared.Progress.{Progress}
+use Rattle.declarations.specs.Passes.{fits, taken, passed, written}
+
+-- The number that fits.
+
+module _ (used size : ℕ) where
+  pub fits-within : (left : ℕ) → fits used size left ≤ left
+  unfolding fits
+  fits-within left = go (ltb 1500 used) (ltb ((1500 - used) / size) left) refl
+    where
+      go : (s t : Bool) → ltb ((1500 - used) / size) left ≡ t → cond s 0 (cond t ((1500 - used) / size) left) ≤ left
+      go true t e = omega arith
+      go false true e = omega (arith, ltb-true ((1500 - used) / size) left e)
+      go false false e = omega arith
+
+  -- where some fit, they do not run past 1,500 octets
+  pub fits-room : (left : ℕ) → 0 < fits used size left → used + fits used size left * size ≤ 1500
+  unfolding fits
+  fits-room left = go (ltb 1500 used) (ltb ((1500 - used) / size) left) refl refl
+    where
+      q : ℕ
+      q = (1500 - used) / size
+
+      go : (s t : Bool) → ltb 1500 used ≡ s → ltb q left ≡ t → 0 < cond s 0 (cond t q left) → used + cond s 0 (cond t q left) * size ≤ 1500
+      go true t d e h = absurd (omega arith)
+      go false true d e h = omega (arith, ltb-false 1500 used d, div-mul-le-self (1500 - used) size)
+      go false false d e h =
+          let f : left * size ≤ q * size = mul-le-mul-right size (ltb-false q left e) in
+          omega (arith, ltb-false 1500 used d, div-mul-le-self (1500 - used) size)
+
+  pub fits-none : fits used size 0 ≡ 0
+  fits-none = omega (arith, fits-within 0)
+
+  module _ (some : 0 < size) (n : ℕ) where
+    pub fits-over : 1500 < used + size → fits used size (suc n) ≡ 0
+    unfolding fits
+    fits-over h = go (ltb 1500 used) refl
+      where
+        go : (s : Bool) → ltb 1500 used ≡ s → cond s 0 (cond (ltb ((1500 - used) / size) (suc n)) ((1500 - used) / size) (suc n)) ≡ 0
+        go true d = refl
+        go false d =
+            let less : 1500 - used < size = omega (arith, ltb-false 1500 used d) in
+            rw (div-eq-of-lt less, lt-ltb 0 (suc n) (omega arith))
+
+    pub fits-more : used + size ≤ 1500 → fits used size (suc n) ≡ suc (fits (used + size) size n)
+    unfolding fits
+    fits-more h =
+        let e : 1500 - (used + size) ≡ 1500 - used - size = omega arith in
+        let m : size ≤ 1500 - used = omega arith in
+        rw (le-ltb 1500 used (omega arith), le-ltb 1500 (used + size) h, e, div-eq-sub-div some m) (go (ltb q n) refl)
+      where
+        q : ℕ
+        q = (1500 - used - size) / size
+
+        go : (t : Bool) → ltb q n ≡ t → cond (ltb (q + 1) (suc n)) (q + 1) (suc n) ≡ suc (cond t q n)
+        go true e = rw (lt-ltb (q + 1) (suc n) (omega (arith, ltb-true q n e))) (omega arith)
+        go false e = rw (le-ltb (q + 1) (suc n) (omega (arith, ltb-false q n e))) refl
+
+-- Declarations of one type, before those of later types.
+
+abbrev pub After : Kind → Declaration → Type 0
+After k d = typeNumber k < typeNumber (kindOf d)
+
+-- a declaration that opens its Message
+fitting-opens : (used : ℕ) (d : Declaration) (l : List Declaration) → fitting used noMessage (d ∷ l) ≡ fitting (used + 6) (message (kindOf d)) (d ∷ l)
+unfolding fitting opening
+fitting-opens used d l = rw (same-kind (kindOf d), add-zero (used + 6))
+
+fitting-after : (used : ℕ) (k : Kind) (m : List Declaration) → All (After k) m → fitting used (message k) m ≡ fitting used noMessage m
+unfolding fitting opening
+fitting-after used k [] a = refl
+fitting-after used k (d ∷ m) a = rw (other-kind k (kindOf d) (λ e. omega (arith, a .0)))
+
+vector-some : (k : Kind) → 0 < vectorSize k
+unfolding vectorSize
+vector-some advertises = omega arith
+vector-some faileds = omega arith
+vector-some listeners = omega arith
+
+module _ (k : Kind) (m : List Declaration) where
+  abbrev then : ℕ → ℕ → ℕ → ℕ
+  then used n left = n + cond (ltb n left) 0 (fitting (used + n * vectorSize k) (message k) m)
+
+  then-more : (used n left : ℕ) → suc (then (used + vectorSize k) n left) ≡ then used (suc n) (suc left)
+  then-more used n left =
+      let e : used + suc n * vectorSize k ≡ used + vectorSize k + n * vectorSize k = omega (arith, suc-mul n (vectorSize k)) in
+      rw e (go (ltb n left) refl)
+    where
+      f : ℕ
+      f = fitting (used + vectorSize k + n * vectorSize k) (message k) m
+
+      go : (t : Bool) → ltb n left ≡ t → suc (n + cond t 0 f) ≡ suc n + cond (ltb (suc n) (suc left)) 0 f
+      go true e = rw (lt-ltb (suc n) (suc left) (omega (arith, ltb-true n left e))) (omega arith)
+      go false e = rw (le-ltb (suc n) (suc left) (omega (arith, ltb-false n left e))) (omega arith)
+
+  fitting-next : (used : ℕ) (d : Declaration) (l : List Declaration) → kindOf d ≡ k
+      → fitting used (message k) (d ∷ l) ≡ cond (ltb 1500 (used + vectorSize k)) 0 (suc (fitting (used + vectorSize k) (message k) l))
+  unfolding fitting opening
+  fitting-next used d l a = rw (a, same-kind k, add-zero used)
+
+  fitting-all : (used : ℕ) (l : List Declaration) → All (OfKind k) l
+      → fitting used (message k) (l ++ m) ≡ then used (fits used (vectorSize k) (length l)) (length l)
+  fitting-all used [] a = rw (fits-none used (vectorSize k), zero-mul (vectorSize k), add-zero used) (omega arith)
+  fitting-all used (d ∷ l) a = fitting-next used d (l ++ m) (a .0) ∙ go (ltb 1500 more) refl (fitting-all more l (a .1))
+    where
+      more : ℕ
+      more = used + vectorSize k
+
+      go : (t : Bool) → ltb 1500 more ≡ t → fitting more (message k) (l ++ m) ≡ then more (fits more (vectorSize k) (length l)) (length l)
+          → cond t 0 (suc (fitting more (message k) (l ++ m))) ≡ then used (fits used (vectorSize k) (suc (length l))) (suc (length l))
+      go true e ih = rw (fits-over used (vectorSize k) (vector-some k) (length l) (ltb-true 1500 more e), lt-ltb 0 (suc (length l)) (omega arith))
+      go false e ih =
+          rw (fits-more used (vectorSize k) (vector-some k) (length l) (ltb-false 1500 more e), ih)
+          (then-more used (fits more (vectorSize k) (length l)) (length l))
+
+-- What a PDU with so many octets used takes of declarations, after passing over some of them.
+unfoldable pub runFrom : ℕ → ℕ → List Declaration → List Declaration
+runFrom used skip l = take (fitting used noMessage (drop skip l)) (drop skip l)
+
+drop-append : {A : Type 0} (n : ℕ) (l m : List A) → drop n (l ++ m) ≡ drop n l ++ drop (n - length l) m
+drop-append n [] m = let e : n - 0 ≡ n = omega arith in rw (e, drop-nil n)
+drop-append zero (x ∷ l) m = let e : 0 - suc (length l) ≡ 0 = omega arith in rw e
+drop-append (suc n) (x ∷ l) m = let e : suc n - suc (length l) ≡ n - length l = omega arith in rw e (drop-append n l m)
+
+module _ (k : Kind) (used : ℕ) (m : List Declaration) (after : All (After k) m) where
+  -- the octets of a Message of n
+  message-size : (l : List Declaration) → All (OfKind k) l → 0 < length l → length (messageOctets k l) ≡ 6 + length l * vectorSize k
+  unfolding messageSize
+  message-size [] a h = absurd (omega arith)
+  message-size (d ∷ l) a h = length-message k (d ∷ l) a
+
+  -- what is taken of declarations l of type k, of which n fit, and then of m
+  goes-on : (l : List Declaration) → All (OfKind k) l → 0 < length l → (n : ℕ) → n ≤ length l
+      → take (then k m (used + 6) n (length l)) (l ++ m)
+      ≡ take n l ++ cond (ltb n (length l)) [] (runFrom (used + length (messageOctets k (take n l))) 0 m)
+  unfolding runFrom
+  goes-on l a some n h = go (ltb n (length l)) refl
+    where
+      f : ℕ
+      f = fitting (used + 6 + n * vectorSize k) (message k) m
+
+      used′ : ℕ
+      used′ = used + length (messageOctets k (take n l))
+
+      go : (t : Bool) → ltb n (length l) ≡ t
+          → take (n + cond t 0 f) (l ++ m) ≡ take n l ++ cond t [] (take (fitting used′ noMessage m) m)
+      go true e = rw (add-zero n, append-nil (take n l), take-append-le n l m h)
+      go false e =
+          let same : n ≡ length l = omega (arith, ltb-false n (length l) e) in
+          let all : take n l ≡ l = take-all n l (omega arith) in
+          let size : used′ ≡ used + 6 + n * vectorSize k = rw (all, message-size l a some, same) (omega arith) in
+          rw (size, all, ← fitting-after (used + 6 + n * vectorSize k) k m after)
+          (ap (λ (i : ℕ). take (i + f) (l ++ m)) same ∙ take-append-add l m f)
+
+  run-all : (l : List Declaration) → All (OfKind k) l
+      → let n = fits (used + 6) (vectorSize k) (length l) in
+      runFrom used 0 (l ++ m) ≡ take n l ++ cond (ltb n (length l)) [] (runFrom (used + length (messageOctets k (take n l))) 0 m)
+  unfolding runFrom
+  run-all [] a =
+      let e : used + length (messageOctets k []) ≡ used = unfold messageOctets in (add-zero used) in
+      rw (fits-none (used + 6) (vectorSize k), e)
+  run-all (d ∷ l) a =
+      let n = fits (used + 6) (vectorSize k) (suc (length l)) in
+      let e : fitting (used + 6) (message (kindOf d)) (d ∷ (l ++ m)) ≡ then k m (used + 6) n (suc (length l)) = rw (a .0) (fitting-all k m (used + 6) (d ∷ l) a) in
+      ap (λ (i : ℕ). take i (d ∷ (l ++ m))) (fitting-opens used d (l ++ m) ∙ e)
+      ∙ goes-on (d ∷ l) a (omega arith) n (fits-within (used + 6) (vectorSize k) (suc (length l)))
+
+-- The passes. What is still taken of declarations, as far as the PDU is.
+unfoldable pub remaining : Progress → List Declaration → List Declaration
+remaining s l = cond (s .full) [] (runFrom (s .at + 2) (s .skip) l)
+
+module _ (k : Kind) (l m : List Declaration) (own : All (OfKind k) l) (after : All (After k) m) where
+  run-skip : (used skip : ℕ)
+      → let n = fits (used + 6) (vectorSize k) (length (drop skip l)) in
+      runFrom used skip (l ++ m)
+      ≡ take n (drop skip l) ++ cond (ltb n (length (drop skip l))) [] (runFrom (used + length (messageOctets k (take n (drop skip l)))) (skip - length l) m)
+  unfolding runFrom
+  run-skip used skip =
+      rw (drop-append skip l m)
+      (run-all k used (drop (skip - length l) m) (all-drop (After k) (skip - length l) m after) (drop skip l) (all-drop (OfKind k) skip l own))
+
+  pub pass-takes : (s : Progress) → remaining s (l ++ m) ≡ taken k l s ++ remaining (passed k l s) m
+  unfolding remaining taken passed
+  pass-takes s = go (s .at) (s .skip) (s .next) (s .full)
+    where
+      go : (at skip next : ℕ) (full : Bool)
+          → let t : Progress = record { at = at; skip = skip; next = next; full = full } in
+          remaining t (l ++ m) ≡ taken k l t ++ remaining (passed k l t) m
+      go at skip next true = refl
+      go at skip next false =
+          let n = fits (at + 8) (vectorSize k) (length l - skip) in
+          let r = drop skip l in
+          let e : at + 2 + 6 ≡ at + 8 = omega arith in
+          let d : length r ≡ length l - skip = length-drop skip l in
+          let u : at + 2 + length (messageOctets k (take n r)) ≡ at + length (messageOctets k (take n r)) + 2 = omega arith in
+          let f : length (take n r) ≡ n = length-take-le n r (rw d (fits-within (at + 8) (vectorSize k) (length l - skip))) in
+          (rw (e, d, u) at (run-skip (at + 2) skip)) ∙ rw f
+
+-- what a pass took is of its type, and the octets and the place go on by it
+module _ (k : Kind) (l : List Declaration) where
+  pub taken-kind : All (OfKind k) l → (s : Progress) → All (OfKind k) (taken k l s)
+  unfolding taken
+  taken-kind own s = go (s .full)
+    where
+      n : ℕ
+      n = fits (s .at + 8) (vectorSize k) (length l - s .skip)
+
+      go : (t : Bool) → All (OfKind k) (cond t [] (take n (drop (s .skip) l)))
+      go true = tt
+      go false = all-take (OfKind k) n (drop (s .skip) l) (all-drop (OfKind k) (s .skip) l own)
+
+  pub passed-at : (s : Progress) → passed k l s .at ≡ s .at + length (messageOctets k (taken k l s))
+  unfolding taken passed messageOctets
+  passed-at s = go (s .at) (s .skip) (s .next) (s .full)
+    where
+      go : (at skip next : ℕ) (full : Bool)
+          → let t : Progress = record { at = at; skip = skip; next = next; full = full } in
+          passed k l t .at ≡ at + length (messageOctets k (taken k l t))
+      go at skip next true = sym (add-zero at)
+      go at skip next false = refl
+
+  pub passed-next : (s : Progress) → passed k l s .next ≡ s .next + length (taken k l s)
+  unfolding taken passed
+  passed-next s = go (s .at) (s .skip) (s .next) (s .full)
+    where
+      go : (at skip next : ℕ) (full : Bool)
+          → let t : Progress = record { at = at; skip = skip; next = next; full = full } in
+          passed k l t .next ≡ next + length (taken k l t)
+      go at skip next true = sym (add-zero next)
+      go at skip next false = refl
+
+none-remaining : (s : Progress) → remaining s [] ≡ []
+unfolding remaining runFrom
+none-remaining s = go (s .full)
+  where
+    go : (t : Bool) → cond {A = List Declaration} t [] (take (fitting (s .at + 2) noMessage (drop (s .skip) [])) (drop (s .skip) [])) ≡ []
+    go true = refl
+    go false = rw (drop-nil (s .skip)) (take-nil (fitting (s .at + 2) noMessage []))
+
+-- three passes, and nothing is left
+pub three-passes : (a f l : List Declaration) → All (OfKind advertises) a → All (OfKind faileds) f → All (OfKind listeners) l → (s : Progress)
+    → let s₁ = passed advertises a s in
+    let s₂ = passed faileds f s₁ in
+    remaining s (a ++ (f ++ l)) ≡ taken advertises a s ++ (taken faileds f s₁ ++ taken listeners l s₂)
+unfolding typeNumber
+three-passes a f l pa pf pl s =
+    let s₁ = passed advertises a s in
+    let s₂ = passed faileds f s₁ in
+    let s₃ = passed listeners l s₂ in
+    let third : remaining s₂ l ≡ taken listeners l s₂ =
+    ap (remaining s₂) (sym (append-nil l)) ∙ pass-takes listeners l [] pl tt s₂ ∙ ap (λ (m : List Declaration). taken listeners l s₂ ++ m) (none-remaining s₃) ∙ append-nil (taken listeners l s₂) in
+    pass-takes advertises a (f ++ l) pa (all-append (After advertises) f l (later advertises faileds f pf (omega arith)) (later advertises listeners l pl (omega arith))) s
+    ∙ ap (λ (m : List Declaration). taken advertises a s ++ m)
+    (pass-takes faileds f l pf (later faileds listeners l pl (omega arith)) s₁ ∙ ap (λ (m : List Declaration). taken faileds f s₁ ++ m) third)
+  where
+    later : (j k : Kind) (m : List Declaration) → All (OfKind k) m → typeNumber j < typeNumber k → All (After j) m
+    later j k m q h = all-map (OfKind k) (After j) (λ d e. rw e h) m q
+
+-- A pass that finds it full does nothing.
+pub pass-full : (k : Kind) (l : List Declaration) (b : List ℕ) (s : Progress) → s .full ≡ true → (s ≡ passed k l s) × (b ≡ written k l s b)
+pass-full k l b s = go (s .at) (s .skip) (s .next) (s .full)
+  where
+    go : (at skip next : ℕ) (full : Bool) → full ≡ true
+        → let t : Progress = record { at = at; skip = skip; next = next; full = full } in
+        (t ≡ passed k l t) × (b ≡ written k l t b)
+    go at skip next true e = unfold passed written taken messageOctets in (refl, sym (patch-none at b))
+    go at skip next false e = let z : _≡_ {A = ℕ} 0 1 = cc in absurd (omega arith)
+
+pub not-full : (s : Progress) → s .full ≡ false → s ≡ record { at = s .at; skip = s .skip; next = s .next; full = false }
+not-full s e = ap (λ (f : Bool). record { at = s .at; skip = s .skip; next = s .next; full = f }) e
+
+message-of-some : (k : Kind) (n : ℕ) → (n ≡ 0 → ⊥) → messageSize k n ≡ 6 + n * vectorSize k
+unfolding messageSize
+message-of-some k zero h = absurd (h refl)
+message-of-some k (suc n) h = refl
+
+-- A pass that finds the PDU not full: what it takes, by the number n that fits.
+module _ (k : Kind) (l : List Declaration) (own : All (OfKind k) l) (at skip next : ℕ) (b : List ℕ) where
+  abbrev unfilled : Progress
+  unfilled = record { at = at; skip = skip; next = next; full = false }
+
+  module _ (n : ℕ) (e : n ≡ fits (at + 8) (vectorSize k) (length l - skip)) where
+    taken-is : taken k l unfilled ≡ take n (drop skip l)
+    unfolding taken
+    taken-is = rw (← e)
+
+    taken-length : length (take n (drop skip l)) ≡ n
+    taken-length = length-take-le n (drop skip l) (rw (e, length-drop skip l) (fits-within (at + 8) (vectorSize k) (length l - skip)))
+
+    message-length : length (messageOctets k (take n (drop skip l))) ≡ messageSize k n
+    message-length =
+        length-message k (take n (drop skip l)) (all-take (OfKind k) n (drop skip l) (all-drop (OfKind k) skip l own)) ∙ ap (messageSize k) taken-length
+
+    passed-is : passed k l unfilled ≡ record { at = at + messageSize k n; skip = skip - length l; next = next + n; full = ltb n (length l - skip) }
+    unfolding passed
+    passed-is = rw (taken-is, taken-length, message-length)
+
+    written-is : written k l unfilled b ≡ patch at (messageSize k n) (messageOctets k (take n (drop skip l))) b
+    unfolding written
+    written-is = rw (taken-is, message-length)
+
+  module _ (found : ℕ) (d : found ≡ length l) where
+    -- all are passed over
+    pub pass-over : found ≤ skip → (record { at = at; skip = skip - found; next = next; full = false } ≡ passed k l unfilled) × (b ≡ written k l unfilled b)
+    unfolding messageSize messageOctets
+    pass-over h =
+        let none : length l - skip ≡ 0 = omega arith in
+        let e : 0 ≡ fits (at + 8) (vectorSize k) (length l - skip) = rw none (sym (fits-none (at + 8) (vectorSize k))) in
+        let over : skip - length l ≡ skip - found = omega arith in
+        (sym (passed-is 0 e ∙ rw (none, over, add-zero at, add-zero next)), sym (written-is 0 e ∙ patch-none at b))
+
+    module _ (n size : ℕ) (z : size ≡ vectorSize k) (f : n ≡ fits (at + 8) size (found - skip)) (h : skip < found) where
+      over : skip - length l ≡ 0
+      over = omega arith
+
+      number : n ≡ fits (at + 8) (vectorSize k) (length l - skip)
+      number = rw (z, d) at f
+
+      -- there are some, and the first does not fit
+      pub pass-closes : n ≡ 0 → (record { at = at; skip = 0; next = next; full = true } ≡ passed k l unfilled) × (b ≡ written k l unfilled b)
+      unfolding messageSize messageOctets
+      pass-closes q =
+          let e = sym q ∙ number in
+          let some : 0 < length l - skip = omega arith in
+          (sym (passed-is 0 e ∙ rw (over, add-zero at, add-zero next, lt-ltb 0 (length l - skip) some)), sym (written-is 0 e ∙ patch-none at b))
+
+      -- some are taken
+      pub pass-takes-some : (n ≡ 0 → ⊥)
+          → (record { at = at + (6 + n * size); skip = 0; next = next + n; full = ltb n (found - skip) } ≡ passed k l unfilled)
+          × (patch at (6 + n * size) (messageOctets k (take n (drop skip l))) b ≡ written k l unfilled b)
+      pass-takes-some q =
+          let m = message-of-some k n q in
+          (sym (passed-is n number ∙ rw (over, m, ← z, ← d)), sym (written-is n number ∙ rw (m, ← z)))

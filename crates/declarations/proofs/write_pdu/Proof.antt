@@ -1,0 +1,43 @@
+-- `declarations::write_pdu` meets its contract. Assumes nothing.
+use Prim.Native.Nat.{_≤_}
+use native.Mathlib.Omega.{arith}
+use borrow.Author.Needs.{needs}
+use lib.ListN.{length, length-set}
+use Rattle.model.specs.Table.{decode}
+use Rattle.declarations.specs.Passes.{kind, begun}
+use Rattle.declarations.proofs.Written.{pdu-answer}
+use Rattle.declarations.proofs.write_pdu.Statement.{statement}
+use Rattle.declarations.proofs.write_pdu.Tie as tie
+
+pass-requires-2 : tie.Need-pass-requires-2
+pass-requires-2 c κs =
+    let start = c .before .before .before .before .before .before .before in
+    (start .pre .0, start .pre .1, c .before .before .before .pass .ensures .2, omega arith, omega (arith, length-set (c .before .before .before .before .before .before .before .args .buffer .now) 0 0))
+
+pass-requires-3 : tie.Need-pass-requires-3
+pass-requires-3 c κs =
+    let start = c .before .before .before .before .before .before .before .before .before .before .before in
+    (start .pre .0, start .pre .1, c .before .before .before .pass2 .ensures .2, omega arith, omega (arith, length-set (c .before .before .before .before .before .before .before .before .before .before .before .args .buffer .now) 0 0))
+
+put-requires : tie.Need-put-requires
+put-requires c κs = omega (arith, length-set (c .before .before .before .before .before .before .before .before .before .before .before .before .before .before .before .args .buffer .now) 0 0)
+
+same-length : tie.Need-same-length
+same-length c = omega (arith, length-set (c .before .before .before .before .before .before .before .before .before .before .before .before .before .before .before .before .before .before .args .buffer .now) 0 0)
+
+returns : tie.Need-returns
+unfolding kind begun
+returns c =
+    let start = c .before .before .before .before .before .before .before .before .before .before .before .before .before .before .before .before .before .before in
+    let a = start .args in
+    let some : 1 ≤ length (a .buffer .now) = omega arith in
+    let first = c .before .before .before .before .before .before .before .before .before .before .before .before .before .before .pass .ensures in
+    let second = c .before .before .before .before .before .before .before .before .before .before .pass2 .ensures in
+    let third = c .before .before .before .before .before .before .pass3 .ensures in
+    pdu-answer (a .p) (a .place) (decode (a .table .now) .streams) (a .buffer .now) _ _ _ _ _ _ _ some (first .0) (first .1) (second .0) (second .1)
+    (third .0) (third .1) (c .before .before .put .ensures)
+
+pub write-pdu-spec : {M : Type 1} → statement M
+write-pdu-spec =
+    tie.close
+    (tie.spec (λ c. search needs) (λ c κs. search needs) pass-requires-2 pass-requires-3 put-requires (λ c. search needs) same-length returns)
