@@ -2,3 +2,4 @@ pub mod Removal
 pub mod Merging
 pub mod Sharing
 pub mod Stages
+pub mod Settled

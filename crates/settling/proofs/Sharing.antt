@@ -2,10 +2,10 @@
 use mathlib.Core.Path.{_≡_, refl, sym, _∙_, ap}
 use mathlib.Core.List.{List}
 use mathlib.Core.Bool.{Bool, true, false}
-use Prim.Native.Nat.{ℕ, suc, _+_, _-_, _<_}
+use Prim.Native.Nat.{ℕ, zero, suc, _+_, _-_, _≤_, _<_}
 use native.Mathlib.Omega.{arith}
 use native.Mathlib.Numerals.{add-one}
-use Rattle.model.specs.State.{Bridge}
+use Rattle.model.specs.State.{Bridge, classA, classB}
 use Rattle.model.specs.Table.{encode, decode}
 use Rattle.model.specs.Laid.{FitBridge, Laid}
 use Rattle.model.proofs.Fits.{bridge-read, laid-is, laid-fits}
@@ -60,3 +60,12 @@ sharing-turn n t₀ t t₁ t₂ p s few h e₁ e₂ =
     let turn : admissions (n - (p + 1)) (p + 1) (decode t₂) ≡ admissions (n - p) p (decode t) =
     rw (d, m, one-port (n - (p + 1)) p (decode t)) (ap (λ (q : ℕ). admissions (n - (p + 1)) q (admission p (classFor true) (admission p (classFor false) (decode t)))) (add-one p)) in
     record { laid = shared-laid t₁ l₁ p h true t₂ e₂; left = turn ∙ s .left }
+
+-- every number still fits its field
+pub admissions-fit : (n p : ℕ) (b : Bridge) → p + n ≤ 8 → FitBridge b → FitBridge (admissions n p b)
+unfolding admissions
+admissions-fit zero p b h w = w
+admissions-fit (suc n) p b h w =
+    let c = admission p classA b in
+    admissions-fit n (suc p) (admission p classB c) (omega arith)
+    (admission-fits c (admission-fits b w p (omega arith) classA) p (omega arith) classB)

@@ -10,7 +10,7 @@ use Rattle.model.specs.State.{Settings, nothing, Result, Stream, Bridge, unsett
 use Rattle.model.specs.Settling.{sourceOf, isSource, registered, columnOf, passed, mergeAll, merged, decideAt, decide, remain, totalsOn, settle}
 use Rattle.model.specs.Registrations.{holding}
 use Rattle.model.proofs.ColumnRule.{at-place, tabulate-same}
-use Rattle.columns.specs.Stages.{shownAs, early, admissions, mergedShown, declaring, mergedAt, merging}
+use Rattle.columns.specs.Stages.{shownAs, earlyAll, admissions, mergedShown, declaring, mergedAt, merging}
 use Rattle.admission.proofs.Admissions.{showing, admissions-decide}
 use Rattle.settling.specs.Removed.{removed}
 
@@ -65,9 +65,6 @@ module _ (st : Settings) (now : ℕ) (s : List Stream) (x : Stream) where
       (tabulate-same (mergedAt shown) (decideAt st now s x) 8 0 (λ q a b. decided-at q (omega arith)))
       ∙ (unfold shown showing in refl)
 
-abbrev pub early-all : ℕ → Bridge → Bridge
-early-all now b = holding b (map (early (b .settings) now) (b .streams))
-
 abbrev pub merging-all : Bridge → Bridge
 merging-all b = holding b (map merging (b .streams))
 
@@ -78,8 +75,8 @@ decided-all st now s (x ∷ l) = rw (decided-stream st now s x, decided-all st n
 
 -- After removal: steps a to g, then bandwidth shared out on each port, then the Listeners merged.
 pub stages-settle : (now : ℕ) (b : Bridge) → length (b .settings .ports) ≤ 8 →
-    merging-all (admissions (length (b .settings .ports)) 0 (early-all now (removed now b))) ≡ settle now b
-unfolding settle holding
+    merging-all (admissions (length (b .settings .ports)) 0 (earlyAll now (removed now b))) ≡ settle now b
+unfolding settle holding earlyAll
 stages-settle now b h =
     let st = b .settings in
     let s = remain st now (b .streams) in

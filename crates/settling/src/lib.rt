@@ -155,3 +155,14 @@ fn merge_all(table: &mut [u8])
         k += 1;
     }
 }
+
+// Advance: the clock set, and every stream decided anew.
+pub fn settle(table: &mut [u8], time: u32)
+    requires { ⌜ Laid (now table) ⌝ }
+    ensures { λ _. ⌜ now (table .exit) ≡ encode (model.settle time (decode (now (table .entry)))) ⌝ }
+{
+    remove(table, time);
+    columns::early_all(table, time);
+    admit_all(table);
+    merge_all(table);
+}
