@@ -1,0 +1,9 @@
+pub mod Room
+pub mod Keeps
+pub mod Walks
+pub mod Touched
+pub mod Enrolling
+pub mod ValueActs
+pub mod VectorActs
+pub mod FrameWalk
+pub mod Receiving

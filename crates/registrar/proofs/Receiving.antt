@@ -1,0 +1,136 @@
+-- A frame that is received: room is made and its acts are done, or there is no room and the table is as it was.
+use Prim.Native.Nat.{ℕ, _-_, _≤_}
+use mathlib.Core.Path.{_≡_, refl, sym, _∙_, ap}
+use mathlib.Core.List.{List, [], _∷_}
+use mathlib.Core.Bool.{Bool, true, false, cond, true≢false}
+use lib.ListN.{length}
+use lib.Dec.{leb}
+use borrow.Author.Tests.{leb-true, leb-false}
+use Rattle.model.specs.Lists.{All, Octets}
+use Rattle.model.specs.State.{Stream, Bridge}
+use Rattle.model.specs.Settling.{held}
+use Rattle.model.specs.Registrations.{Act, applyAll, holding, received, acts, Answer}
+use Rattle.model.specs.Frames.{walk, Walk, walked, frameActs}
+use Rattle.model.specs.Table.{encode, decode, formed}
+use Rattle.model.specs.Laid.{Laid}
+use Rattle.model.proofs.Fits.{laid-is, laid-fits}
+use Rattle.model.specs.Calls.{leaves}
+use Rattle.model.proofs.Lists.{all-map}
+use Rattle.model.proofs.Valid.{ValidStream}
+use Rattle.model.proofs.Tables.{valid-decode}
+use Rattle.msrpdu.specs.Reader.{numberOf}
+use Rattle.msrpdu.proofs.Applying.{accepted}
+use Rattle.table.specs.Held.{heldOnly}
+use Rattle.registrar.specs.Acts.{isFound, actsOf}
+use Rattle.registrar.specs.Run.{Ran, ran, effects, run, streamsOf, went}
+use Rattle.registrar.specs.Walked.{runOn, Walked, taken, Receives}
+use Rattle.registrar.proofs.FrameWalk.{Finds, finds, is-found}
+use Rattle.registrar.proofs.Room.{room-made, applied, room-lacking}
+use Rattle.registrar.proofs.Walks.{walked-read}
+
+-- streams that are all held stay when those that are not are dropped
+all-held : (s : List Stream) → All (λ x. held (x .cells) ≡ true) s → heldOnly s ≡ s
+unfolding heldOnly
+all-held [] a = refl
+all-held (x ∷ s) a = rw (a .0) (ap (λ (l : List Stream). x ∷ l) (all-held s (a .1)))
+
+module _ (p : ℕ) (pdu t : List ℕ) (l : Laid t) where
+  abbrev es : List Act
+  es = actsOf (walk pdu)
+
+  abbrev now : ℕ
+  now = decode t .clock
+
+  abbrev s : List Stream
+  s = decode t .streams
+
+  -- the first walk stops exactly where there is no room
+  stops : (u : List ℕ) → Walked false p es t false u → leb (length (taken p pdu t)) 64 ≡ false
+  unfolding taken runOn
+  stops u w = go (leb (length (applyAll now p es s)) 64) refl
+    where
+      go : (b : Bool) → leb (length (applyAll now p es s)) 64 ≡ b → b ≡ false
+      go true e = absurd (true≢false (sym (w .answer ∙ ap went (room-made now p es s (leb-true _ 64 e)) ∙ unfold went in refl)))
+      go false e = refl
+
+  goes : (u : List ℕ) → Walked false p es t true u → leb (length (taken p pdu t)) 64 ≡ true
+  unfolding taken runOn
+  goes u w = go (leb (length (applyAll now p es s)) 64) refl
+    where
+      go : (b : Bool) → leb (length (applyAll now p es s)) 64 ≡ b → b ≡ true
+      go true e = refl
+      go false e =
+          let k = room-lacking now p es s (laid-fits t l .at-most-64) (leb-false _ 64 e) in
+          absurd (true≢false (w .answer ∙ ap went (k .stops) ∙ unfold went in refl))
+
+  -- no room: what was made for the frame is dropped
+  pub received-not : (u v : List ℕ) → All (λ x. held (x .cells) ≡ true) (decode t .streams) → Walked false p (actsOf (walk pdu)) t false u →
+      v ≡ encode (holding (decode u) (heldOnly (decode u .streams))) → Receives p pdu t false v
+  unfolding holding
+  received-not u v h w q = record { answer = sym (stops u w); table = q ∙ ap encode back ∙ sym (laid-is t l) }
+    where
+      kept : heldOnly (streamsOf (runOn false p es t)) ≡ s
+      kept =
+          let k = room-lacking now p es s (laid-fits t l .at-most-64) (leb-false _ 64 (unfold taken in stops u w)) in
+          unfold runOn streamsOf in (ap (λ (q : Ran). heldOnly (streamsOf q)) (k .stops) ∙ k .restored ∙ all-held s h)
+
+      back : holding (decode u) (heldOnly (decode u .streams)) ≡ decode t
+      back = ap (λ (b : Bridge). holding b (heldOnly (b .streams))) (walked-read w) ∙ ap (holding (decode t)) kept
+
+  -- room: the second walk does all
+  pub received-all : (u v : List ℕ) (r : Bool) → Walked false p (actsOf (walk pdu)) t true u → Walked true p (actsOf (walk pdu)) u r v → Receives p pdu t r v
+  unfolding holding taken
+  received-all u v r w x =
+      let e : r ≡ true = x .answer ∙ ap went second ∙ unfold went in refl in
+      record { answer = e ∙ sym (goes u w); table = rw e (x .table ∙ ap encode whole) }
+    where
+      few : length (applyAll now p es s) ≤ 64
+      few = leb-true _ 64 (unfold taken in goes u w)
+
+      made : decode u ≡ holding (decode t) (effects false now p es s)
+      made = walked-read w ∙ unfold runOn streamsOf in (ap (λ (q : Ran). holding (decode t) (streamsOf q)) (room-made now p es s few))
+
+      second : runOn true p es u ≡ ran (applyAll now p es s)
+      second = unfold runOn in (ap (λ (b : Bridge). run true (b .clock) p es (b .streams)) made ∙ applied now p es s few)
+
+      whole : holding (decode u) (streamsOf (runOn true p es u)) ≡ holding (decode t) (applyAll now p es s)
+      whole =
+          unfold streamsOf in
+          (ap (λ (q : Ran). holding (decode u) (streamsOf q)) second ∙ ap (λ (b : Bridge). holding b (applyAll now p es s)) made)
+
+-- For callers: a frame of number 0 is well-formed, a table that keeps the form rules holds no stream without a registration, and
+-- what is answered and left is what the definitions say.
+
+pub accepted-found : (pdu : List ℕ) → numberOf (walk pdu) ≡ 0 → isFound (walk pdu) ≡ true
+accepted-found pdu e = let a = accepted pdu e in is-found (walk pdu) (a .0) (a .1)
+
+pub formed-held : (t : List ℕ) → Octets t → formed t ≡ true → All (λ x. held (x .cells) ≡ true) (decode t .streams)
+formed-held t o f =
+    all-map (ValidStream (length (decode t .settings .ports)) (decode t .clock) (decode t .settings .leaveTime)) (λ x. held (x .cells) ≡ true)
+    (λ x v. v .is-held) (decode t .streams) (valid-decode t o f .streams)
+
+-- on a port, numbered from 1: 0 or 8, and the table
+pub receives-answer : (p : ℕ) (pdu t : List ℕ) (r : Bool) (u : List ℕ) → isFound (walk pdu) ≡ true → Receives (p - 1) pdu t r u →
+    leaves t (received (decode t) p (walked (walk pdu))) ≡ record { number = cond r 0 8; table = u }
+unfolding walked received leaves
+receives-answer p pdu t r u e w = ap (leaves t) (ap (λ (v : Walk). received (decode t) p (walked v)) (n .is)) ∙ answers
+  where
+    n : Finds (walk pdu)
+    n = finds (walk pdu) e
+
+    s : List Stream
+    s = applyAll (decode t .clock) (p - 1) (frameActs (n .all)) (decode t .streams)
+
+    same : taken (p - 1) pdu t ≡ s
+    same = unfold taken in (ap (λ (es : List Act). applyAll (decode t .clock) (p - 1) es (decode t .streams)) (n .acts))
+
+    left : (b : Bool) → u ≡ cond b (encode (holding (decode t) s)) t →
+        leaves t (cond {A = Answer} b record { number = 0; bridge = holding (decode t) s } record { number = 8; bridge = decode t })
+        ≡ record { number = cond b 0 8; table = u }
+    left true q = rw q
+    left false q = rw q
+
+    answers : leaves t (received (decode t) p (acts (frameActs (n .all)))) ≡ record { number = cond r 0 8; table = u }
+    answers =
+        let full : r ≡ leb (length s) 64 = w .answer ∙ ap (λ (x : List Stream). leb (length x) 64) same in
+        rw (← full) (left r (w .table ∙ ap (λ (x : List Stream). cond r (encode (holding (decode t) x)) t) same))

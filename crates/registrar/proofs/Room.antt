@@ -1,0 +1,196 @@
+-- The two walks over a frame: the first makes room for all streams joined or stops, the second then does what the acts ask
+-- for. Where the first stops, dropping the streams without a registration restores what was held.
+use Prim.Native.Nat.{ℕ, _≤_, _<_}
+use mathlib.Core.Path.{_≡_, refl, _∙_, ap}
+use mathlib.Core.List.{List, [], _∷_, _++_}
+use mathlib.Core.Bool.{Bool, true, false, cond, true≢false}
+use native.Mathlib.Nat.{le-trans}
+use native.Mathlib.Omega.{arith}
+use lib.ListN.{length}
+use lib.Dec.{ltb, leb, eqb}
+use borrow.Author.Tests.{le-leb, leb-true}
+use Rattle.model.specs.State.{Cell, Stream, fresh, blank, empty}
+use Rattle.model.specs.Settling.{held, isTalking, isHearing}
+use Rattle.model.specs.Registrations.{Act, leaveAll, leave, talk, listen, begun, change, touch, reach, apply, applyAll, together, ids, joins}
+use Rattle.model.proofs.Commute.{Change, Tri, less, same, more, tri, single, does-commute, act-does, touch-nil, touch-before, touch-here, touch-past}
+use Rattle.model.proofs.FrameOrder.{acts-ids, held-ids, joined, together-grows}
+use Rattle.table.specs.Held.{heldOnly}
+use Rattle.registrar.specs.Run.{Ran, stopped, ran, room, effect, effects, next, followed, run}
+
+-- A walk over acts, one list after another.
+
+pub followed-twice : (r : Ran) (f g : List Stream → Ran) → followed (followed r f) g ≡ followed r (λ s. followed (f s) g)
+unfolding followed
+followed-twice (stopped s) f g = refl
+followed-twice (ran s) f g = refl
+
+pub run-append : (m : Bool) (now p : ℕ) (es fs : List Act) (s : List Stream) →
+    run m now p (es ++ fs) s ≡ followed (run m now p es s) (run m now p fs)
+unfolding run
+run-append m now p [] fs s = unfold followed in refl
+run-append m now p (a ∷ es) fs s = go (next m now p a s) (run-append m now p es fs)
+  where
+    go : (r : Ran) → ((t : List Stream) → run m now p (es ++ fs) t ≡ followed (run m now p es t) (run m now p fs)) →
+        followed r (run m now p (es ++ fs)) ≡ followed (followed r (run m now p es)) (run m now p fs)
+    go (stopped t) h = unfold followed in refl
+    go (ran t) h = unfold followed in (h t)
+
+-- The StreamIDs held after acts, done or only made room for.
+
+pub effect-ids : (m : Bool) (now p : ℕ) (a : Act) (s : List Stream) → ids (effect m now p a s) ≡ together (ids s) (joins (a ∷ []))
+unfolding effect room joins together
+effect-ids true now p a s = unfold applyAll in (acts-ids now p (a ∷ []) s)
+effect-ids false now p (leaveAll k) s = refl
+effect-ids false now p (leave k i) s = refl
+effect-ids false now p (talk i f v) s = joined i (λ c. c) s
+effect-ids false now p (listen i r) s = joined i (λ c. c) s
+
+joins-cons : (a : Act) (es : List Act) (l : List ℕ) → together (together l (joins (a ∷ []))) (joins es) ≡ together l (joins (a ∷ es))
+unfolding joins together
+joins-cons (leaveAll k) es l = refl
+joins-cons (leave k i) es l = refl
+joins-cons (talk i f v) es l = refl
+joins-cons (listen i r) es l = refl
+
+pub effects-ids : (m : Bool) (now p : ℕ) (es : List Act) (s : List Stream) → ids (effects m now p es s) ≡ together (ids s) (joins es)
+unfolding effects
+effects-ids m now p [] s = unfold joins together in refl
+effects-ids m now p (a ∷ es) s =
+    effects-ids m now p es (effect m now p a s)
+    ∙ ap (λ (l : List ℕ). together l (joins es)) (effect-ids m now p a s)
+    ∙ joins-cons a es (ids s)
+
+effects-grow : (m : Bool) (now p : ℕ) (es : List Act) (s : List Stream) → length s ≤ length (effects m now p es s)
+effects-grow m now p es s =
+    rw (held-ids s, held-ids (effects m now p es s), effects-ids m now p es s) (together-grows (joins es) (ids s))
+
+pub effects-applied : (now p : ℕ) (es : List Act) (s : List Stream) → effects true now p es s ≡ applyAll now p es s
+unfolding effects effect applyAll
+effects-applied now p [] s = refl
+effects-applied now p (a ∷ es) s = effects-applied now p es (apply now p a s)
+
+same-length : (now p : ℕ) (es : List Act) (s : List Stream) → length (effects false now p es s) ≡ length (applyAll now p es s)
+same-length now p es s =
+    rw (held-ids (effects false now p es s), held-ids (applyAll now p es s), effects-ids false now p es s, acts-ids now p es s)
+
+-- A walk with room for all goes to its end.
+
+next-ran : (m : Bool) (now p : ℕ) (a : Act) (s : List Stream) → length (effect m now p a s) ≤ 64 → next m now p a s ≡ ran (effect m now p a s)
+unfolding next
+next-ran m now p a s h = rw (le-leb _ 64 h)
+
+all-ran : (m : Bool) (now p : ℕ) (es : List Act) (s : List Stream) → length (effects m now p es s) ≤ 64 → run m now p es s ≡ ran (effects m now p es s)
+unfolding run effects followed
+all-ran m now p [] s h = refl
+all-ran m now p (a ∷ es) s h =
+    let t = effect m now p a s in
+    let k : length t ≤ 64 = le-trans (effects-grow m now p es t) h in
+    rw (next-ran m now p a s k) (all-ran m now p es t h)
+
+-- Room is made without a registration.
+
+blank-unheld : held blank ≡ false
+unfolding held blank empty isTalking isHearing
+blank-unheld = refl
+
+room-unheld : (i : ℕ) (s : List Stream) → heldOnly (touch true i (λ c. c) s) ≡ heldOnly s
+unfolding heldOnly touch begun change fresh
+room-unheld i [] = rw blank-unheld
+room-unheld i (x ∷ s) = go (ltb i (x .id)) (eqb i (x .id)) (room-unheld i s)
+  where
+    go : (a b : Bool) → heldOnly (touch true i (λ c. c) s) ≡ heldOnly s →
+        heldOnly (cond a (begun true i (λ c. c) (x ∷ s)) (cond b (change (λ c. c) x ∷ s) (x ∷ touch true i (λ c. c) s))) ≡ heldOnly (x ∷ s)
+    go true b h = rw blank-unheld
+    go false true h = refl
+    go false false h = rw h
+
+effect-unheld : (now p : ℕ) (a : Act) (s : List Stream) → heldOnly (effect false now p a s) ≡ heldOnly s
+unfolding effect room
+effect-unheld now p (leaveAll k) s = refl
+effect-unheld now p (leave k i) s = refl
+effect-unheld now p (talk i f v) s = room-unheld i s
+effect-unheld now p (listen i r) s = room-unheld i s
+
+-- Acts where room was made do what they do without it.
+
+pub again : (i : ℕ) (u : Change) (s : List Stream) → touch true i u (touch true i (λ c. c) s) ≡ touch true i u s
+unfolding begun change fresh
+again i u [] = rw (touch-nil true i (λ c. c), touch-nil true i u) (touch-here true i u (fresh i) [] refl)
+again i u (x ∷ s) = go (tri i (x .id)) (again i u s)
+  where
+    go : Tri i (x .id) → touch true i u (touch true i (λ c. c) s) ≡ touch true i u s →
+        touch true i u (touch true i (λ c. c) (x ∷ s)) ≡ touch true i u (x ∷ s)
+    go (less h) ih =
+        rw (touch-before true i (λ c. c) x s h, touch-before true i u x s h) (touch-here true i u (fresh i) (x ∷ s) refl)
+    go (same h) ih = rw (touch-here true i (λ c. c) x s h)
+    go (more h) ih =
+        rw (touch-past true i (λ c. c) x s h, touch-past true i u x s h, touch-past true i u x (touch true i (λ c. c) s) h)
+        (ap (λ (l : List Stream). x ∷ l) ih)
+
+act-again : (now p : ℕ) (a : Act) (s : List Stream) → apply now p a (effect false now p a s) ≡ apply now p a s
+unfolding apply reach effect room
+act-again now p (leaveAll k) s = refl
+act-again now p (leave k i) s = refl
+act-again now p (talk i f v) s = again i _ s
+act-again now p (listen i r) s = again i _ s
+
+room-commutes : (i now p : ℕ) (a : Act) (s : List Stream) → apply now p a (touch true i (λ c. c) s) ≡ touch true i (λ c. c) (apply now p a s)
+room-commutes i now p a s =
+    does-commute _ (λ (c : List Cell). c) (act-does now p a) (single true i (λ e. absurd (true≢false e))) (λ c. refl) s
+
+act-commutes : (now p : ℕ) (a b : Act) (s : List Stream) → apply now p a (effect false now p b s) ≡ effect false now p b (apply now p a s)
+unfolding effect room
+act-commutes now p a (leaveAll k) s = refl
+act-commutes now p a (leave k i) s = refl
+act-commutes now p a (talk i f v) s = room-commutes i now p a s
+act-commutes now p a (listen i r) s = room-commutes i now p a s
+
+act-past : (now p : ℕ) (a : Act) (es : List Act) (s : List Stream) →
+    apply now p a (effects false now p es s) ≡ effects false now p es (apply now p a s)
+unfolding effects
+act-past now p a [] s = refl
+act-past now p a (b ∷ es) s =
+    act-past now p a es (effect false now p b s) ∙ ap (effects false now p es) (act-commutes now p a b s)
+
+applied-after-room : (now p : ℕ) (es : List Act) (s : List Stream) → applyAll now p es (effects false now p es s) ≡ applyAll now p es s
+unfolding applyAll effects
+applied-after-room now p [] s = refl
+applied-after-room now p (a ∷ es) s =
+    ap (applyAll now p es) (act-past now p a es (effect false now p a s) ∙ ap (effects false now p es) (act-again now p a s))
+    ∙ applied-after-room now p es (apply now p a s)
+
+-- The two walks.
+
+module _ (now p : ℕ) where
+  pub room-made : (es : List Act) (s : List Stream) → length (applyAll now p es s) ≤ 64 → run false now p es s ≡ ran (effects false now p es s)
+  room-made es s h = all-ran false now p es s (rw (same-length now p es s) h)
+
+  pub applied : (es : List Act) (s : List Stream) → length (applyAll now p es s) ≤ 64 →
+      run true now p es (effects false now p es s) ≡ ran (applyAll now p es s)
+  applied es s h =
+      let e : effects true now p es (effects false now p es s) ≡ applyAll now p es s =
+      effects-applied now p es (effects false now p es s) ∙ applied-after-room now p es s in
+      all-ran true now p es (effects false now p es s) (rw e h) ∙ ap ran e
+
+  -- the streams held before and no other have a registration where the first walk stopped
+  pub record Lacking (es : List Act) (s : List Stream) : Type 0 where
+    pub left : List Stream
+    pub stops : run false now p es s ≡ stopped left
+    pub restored : heldOnly left ≡ heldOnly s
+
+  lacking : (es : List Act) (s : List Stream) → length s ≤ 64 → 64 < length (effects false now p es s) → Lacking es s
+  unfolding effects run followed
+  lacking [] s fits h = absurd (omega arith)
+  lacking (a ∷ es) s fits h = go (leb (length t) 64) refl (lacking es t)
+    where
+      t : List Stream
+      t = effect false now p a s
+
+      go : (b : Bool) → leb (length t) 64 ≡ b → (length t ≤ 64 → 64 < length (effects false now p es t) → Lacking es t) → Lacking (a ∷ es) s
+      go true e ih =
+          let r = ih (leb-true _ 64 e) h in
+          record { left = r .left; stops = unfold next in (rw e (r .stops)); restored = r .restored ∙ effect-unheld now p a s }
+      go false e ih = record { left = s; stops = unfold next in (rw e); restored = refl }
+
+  pub room-lacking : (es : List Act) (s : List Stream) → length s ≤ 64 → 64 < length (applyAll now p es s) → Lacking es s
+  room-lacking es s fits h = lacking es s fits (rw (same-length now p es s) h)

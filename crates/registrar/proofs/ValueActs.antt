@@ -1,0 +1,254 @@
+-- What a value asks for, by its AttributeType octet.
+use Prim.Native.Nat.{ℕ, zero, suc, _+_, _/_, _%_, _≤_, _<_, _^_}
+use mathlib.Core.Path.{_≡_, refl, sym, _∙_}
+use mathlib.Core.List.{List, [], _∷_}
+use mathlib.Core.Bool.{Bool, true, false, cond}
+use native.Mathlib.Omega.{arith}
+use native.Mathlib.Decide.{ℕ-discrete}
+use lib.ListN.{length, getD}
+use lib.Dec.{ltb, eqb}
+use borrow.Author.Tests.{lt-ltb, ltb-false, eq-eqb, eqb-true, eqb-false, ne-eqb}
+use Rattle.octets.specs.Be.{beAt}
+use Rattle.octets.specs.Fields.{fields}
+use Rattle.octets.proofs.Fields.{beAt-fits}
+use Rattle.model.specs.Registrations.{Kind, advertises, faileds, listeners, Act, leaveAll, leave, talk, listen}
+use Rattle.model.specs.Frames.{registers, firstWidths, firstLength, runsPast, healthValue, idValue, valueActs, talkerAct, listenerAct, hearing, eventOf, fourOf, asking, threePacked, fourPacked}
+use Rattle.model.specs.Lists.{Octets}
+use Rattle.model.proofs.Parts.{octets-at, octets-of}
+use Rattle.model.proofs.Valid.{ValidHealth}
+use Rattle.model.proofs.FoundVectors.{Fits, id-fits, talkerValues, fixed-fits, latency-fits, or-left, destination-within}
+use Rattle.model.specs.Table.{toReady}
+use Rattle.model.specs.Frames as frames
+use Rattle.msrpdu.specs.Reader.{eventMeant, eventIn, fourIn, streamIdIn}
+use Rattle.msrpdu.specs.declared.Event.{Event}
+use Rattle.msrpdu.specs.declared.ValueRead.the-variants.{Value, Past}
+use Rattle.msrpdu.proofs.Laws.{value-short, value-read}
+use Rattle.cells.specs.Acts.{kindAt, talkOf}
+use Rattle.registrar.specs.declared.Asked.the-variants.{Nothing}
+use Rattle.registrar.specs.Acts.{HasValue, attributeAt, vectorOf, joinOf, askedBy, askedOf, actsAsked}
+
+-- A join, of a Listener or of a Talker.
+
+pub join-listens : (kind : ℕ) (first : List ℕ) (four n : ℕ) → kind ≡ 3 →
+    joinOf (kindAt kind) first four n ≡ listen (idValue (fields (firstWidths (registers listeners)) 0 first) n) (toReady four)
+unfolding kindAt joinOf
+join-listens kind first four n e = rw e
+
+pub join-talks : (kind : ℕ) (first : List ℕ) (four n : ℕ) → 1 ≤ kind → kind ≤ 2 → joinOf (kindAt kind) first four n ≡ talkOf (kindAt kind) first n
+unfolding kindAt joinOf
+join-talks zero first four n p q = absurd (omega arith)
+join-talks (suc zero) first four n p q = refl
+join-talks (suc (suc zero)) first four n p q = refl
+join-talks (suc (suc (suc k))) first four n p q = absurd (omega arith)
+
+-- StreamID is FirstValue's first field
+pub id-is : (k : Kind) (first : List ℕ) (n : ℕ) → idValue (fields (firstWidths (registers k)) 0 first) n ≡ beAt 8 first 0 + n
+unfolding idValue fields firstWidths
+id-is advertises first n = refl
+id-is faileds first n = refl
+id-is listeners first n = refl
+
+-- an act that joins the stream i
+abbrev pub Joins : ℕ → Act → Type 0
+Joins i (leaveAll k) = ⊥
+Joins i (leave k j) = ⊥
+Joins i (talk j f v) = i ≡ j
+Joins i (listen j r) = i ≡ j
+
+pub join-joins : (k : Kind) (first : List ℕ) (four n i : ℕ) → i ≡ beAt 8 first 0 + n → Joins i (joinOf k first four n)
+unfolding joinOf talkOf
+join-joins advertises first four n i e = e ∙ sym (id-is advertises first n)
+join-joins faileds first four n i e = e ∙ sym (id-is faileds first n)
+join-joins listeners first four n i e = e ∙ sym (id-is listeners first n)
+
+-- The acts of a value, by what its events ask for.
+
+module _ (first : List ℕ) (n four : ℕ) where
+  talker-asks : (k : Kind) → joinOf k first four n ≡ talkOf k first n → (e : frames.Event) →
+      talkerAct k (fields (firstWidths (registers k)) 0 first) n (asking e) ≡ actsAsked k first n (askedBy (eventMeant e) four)
+  unfolding talkerAct asking actsAsked askedBy eventMeant talkOf
+  talker-asks k j frames.new = rw j
+  talker-asks k j frames.joinIn = rw j
+  talker-asks k j frames.isIn = refl
+  talker-asks k j frames.joinMt = rw j
+  talker-asks k j frames.mt = refl
+  talker-asks k j frames.lv = rw (id-is k first n)
+
+  -- Ignore
+  listener-ignores : (e : frames.Event) → listenerAct (fields (firstWidths (registers listeners)) 0 first) n (asking e) 0 ≡ []
+  unfolding listenerAct asking hearing
+  listener-ignores frames.new = refl
+  listener-ignores frames.joinIn = refl
+  listener-ignores frames.isIn = refl
+  listener-ignores frames.joinMt = refl
+  listener-ignores frames.mt = refl
+  listener-ignores frames.lv = refl
+
+  hearing-joins : (i f : ℕ) → (f ≡ 0 → ⊥) → hearing i f ≡ listen i (toReady f) ∷ []
+  unfolding hearing toReady
+  hearing-joins i zero p = absurd (p refl)
+  hearing-joins i (suc zero) p = refl
+  hearing-joins i (suc (suc zero)) p = refl
+  hearing-joins i (suc (suc (suc f))) p = rw (ne-eqb (suc (suc (suc f))) 1 (λ e. omega arith), ne-eqb (suc (suc (suc f))) 2 (λ e. omega arith))
+
+  listener-asks : (four ≡ 0 → ⊥) → (e : frames.Event) →
+      listenerAct (fields (firstWidths (registers listeners)) 0 first) n (asking e) four ≡ actsAsked listeners first n (askedBy (eventMeant e) four)
+  unfolding listenerAct asking actsAsked askedBy eventMeant joinOf
+  listener-asks p frames.new = hearing-joins _ four p
+  listener-asks p frames.joinIn = hearing-joins _ four p
+  listener-asks p frames.isIn = refl
+  listener-asks p frames.joinMt = hearing-joins _ four p
+  listener-asks p frames.mt = refl
+  listener-asks p frames.lv = rw (ne-eqb four 0 p, id-is listeners first n)
+
+listener-value : (first : List ℕ) (n four : ℕ) (e : frames.Event) →
+    listenerAct (fields (firstWidths (registers listeners)) 0 first) n (asking e) four
+    ≡ actsAsked listeners first n (cond (eqb four 0) Nothing (askedBy (eventMeant e) four))
+listener-value first n four e = go (eqb four 0) refl
+  where
+    go : (t : Bool) → eqb four 0 ≡ t →
+        listenerAct (fields (firstWidths (registers listeners)) 0 first) n (asking e) four
+        ≡ actsAsked listeners first n (cond t Nothing (askedBy (eventMeant e) four))
+    go true q = rw (eqb-true four 0 q) (unfold actsAsked in (listener-ignores first n 0 e))
+    go false q = listener-asks first n four (eqb-false four 0 q) e
+
+module _ (leaves : Bool) (values : ℕ) (first three four : List ℕ) (n : ℕ) (there : n / 3 < length three) where
+  event-there : eventIn three n ≡ eventMeant (frames.event (threePacked (getD three (n / 3) 0) (n % 3)))
+  unfolding eventIn
+  event-there = rw (lt-ltb (n / 3) (length three) there)
+
+  pub value-acts : (kind : ℕ) → 1 ≤ kind → kind ≤ 3 →
+      valueActs (vectorOf kind leaves values first three four) n ≡ actsAsked (kindAt kind) first n (askedOf kind three four n)
+  unfolding valueActs vectorOf attributeAt kindAt askedOf eventOf
+  value-acts zero p q = absurd (omega arith)
+  value-acts (suc zero) p q = rw event-there (talker-asks first n (fourIn four n) advertises (join-talks 1 first (fourIn four n) n p (omega arith)) _)
+  value-acts (suc (suc zero)) p q = rw event-there (talker-asks first n (fourIn four n) faileds (join-talks 2 first (fourIn four n) n p (omega arith)) _)
+  value-acts (suc (suc (suc zero))) p q = rw event-there (unfold fourOf fourIn in (listener-value first n _ _))
+  value-acts (suc (suc (suc (suc k)))) p q = absurd (omega arith)
+
+-- What is asked for, by the numbers read: f is the four-packed event, e the other.
+
+module _ (kind : ℕ) (three four : List ℕ) (n f : ℕ) (p : f ≡ fourIn four n) where
+  pub asked-nothing : kind ≡ 3 → f ≡ 0 → Nothing ≡ askedOf kind three four n
+  unfolding askedOf
+  asked-nothing k z = rw (eq-eqb kind 3 k, ← p, eq-eqb f 0 z)
+
+  pub asked-by : (e : Event) → e ≡ eventIn three n → (kind ≡ 3 → f ≡ 0 → ⊥) → askedBy e f ≡ askedOf kind three four n
+  asked-by e q h = go (ℕ-discrete kind 3)
+    where
+      go : Dec (kind ≡ 3) → askedBy e f ≡ askedOf kind three four n
+      go (yes k) = unfold askedOf in (rw (eq-eqb kind 3 k, ← p, ← q, ne-eqb f 0 (h k)))
+      go (no k) = unfold askedOf in (rw (ne-eqb kind 3 k, ← p, ← q))
+
+four-of-octet : (o i : ℕ) → o < 256 → fourPacked o i ≤ 3
+unfolding fourPacked
+four-of-octet o zero h = omega arith
+four-of-octet o (suc zero) h = omega arith
+four-of-octet o (suc (suc zero)) h = omega arith
+four-of-octet o (suc (suc (suc i))) h = omega arith
+
+pub four-most : (four : List ℕ) → ((i : ℕ) → getD four i 0 < 256) → (n : ℕ) → fourIn four n ≤ 3
+unfolding fourIn
+four-most four h n = four-of-octet (getD four (n / 4) 0) (n % 4) (h (n / 4))
+
+-- A value within its fields.
+
+pub attribute-kind : (kind : ℕ) → 1 ≤ kind → kind ≤ 3 → attributeAt kind ≡ registers (kindAt kind)
+unfolding attributeAt kindAt
+attribute-kind zero p q = absurd (omega arith)
+attribute-kind (suc zero) p q = refl
+attribute-kind (suc (suc zero)) p q = refl
+attribute-kind (suc (suc (suc zero))) p q = refl
+attribute-kind (suc (suc (suc (suc k)))) p q = absurd (omega arith)
+
+module _ (kind : ℕ) (first : List ℕ) (n : ℕ) (v : HasValue kind first n) (registering : kind ≤ 3) where
+  pub first-octets : length first ≡ firstLength (registers (kindAt kind))
+  first-octets = rw (attribute-kind kind (v .low) registering) at (v .octets)
+
+  runs-within : runsPast (registers (kindAt kind)) first n ≡ false
+  runs-within = rw (attribute-kind kind (v .low) registering) at (v .within)
+
+destination-of : (kind : ℕ) (first : List ℕ) (n : ℕ) → 1 ≤ kind → kind ≤ 2 → runsPast (registers (kindAt kind)) first n ≡ false → beAt 6 first 8 + n < 256 ^ 6
+unfolding kindAt runsPast
+destination-of zero first n p q r = absurd (omega arith)
+destination-of (suc zero) first n p q r = destination-within (ltb 65535 (beAt 2 first 6 + n)) (beAt 6 first 8 + n) r
+destination-of (suc (suc zero)) first n p q r = destination-within (ltb 65535 (beAt 2 first 6 + n)) (beAt 6 first 8 + n) r
+destination-of (suc (suc (suc k))) first n p q r = absurd (omega arith)
+
+pub destination-fits : (kind : ℕ) (first : List ℕ) (n : ℕ) → HasValue kind first n → kind ≤ 2 → beAt 6 first 8 + n < 256 ^ 6
+destination-fits kind first n v h = destination-of kind first n (v .low) h (runs-within kind first n v (omega arith))
+
+-- a join of it has its values within their fields
+module _ (first : List ℕ) (n four : ℕ) (o : Octets first) where
+  fits-talker : (k : Kind) (more : List ℕ) → firstWidths (registers k) ≡ 8 ∷ 6 ∷ 2 ∷ 2 ∷ 2 ∷ 1 ∷ 4 ∷ more →
+      ValidHealth (healthValue k (fields (firstWidths (registers k)) 0 first)) → beAt 6 first 8 + n < 256 ^ 6 →
+      runsPast (registers k) first n ≡ false → Fits (talkOf k first n)
+  unfolding talkOf talkerValues
+  fits-talker k more e h d r = (
+    rw (id-is k first n) (id-fits first o n n (omega arith) k r),
+    rw e (fixed-fits first o n n (omega arith) more d),
+    record { health = h; latency = rw e (latency-fits first o n n (omega arith) more d) },
+  )
+
+  joins-within : (k : Kind) → runsPast (registers k) first n ≡ false → Fits (joinOf k first four n)
+  unfolding joinOf runsPast healthValue fields firstWidths
+  joins-within advertises r =
+      fits-talker advertises [] refl tt (destination-within (ltb 65535 (beAt 2 first 6 + n)) (beAt 6 first 8 + n) r) r
+  joins-within faileds r =
+      let at = octets-at first o in
+      fits-talker faileds (8 ∷ 1 ∷ []) refl (beAt-fits 8 first 25 at, beAt-fits 1 first 33 at)
+      (destination-within (ltb 65535 (beAt 2 first 6 + n)) (beAt 6 first 8 + n) r) r
+  joins-within listeners r = rw (id-is listeners first n) (id-fits first o n n (omega arith) listeners r)
+
+pub join-fits : (kind : ℕ) (first : List ℕ) (n : ℕ) → HasValue kind first n → kind ≤ 3 → ((i : ℕ) → getD first i 0 < 256) → (four : ℕ) →
+    Fits (joinOf (kindAt kind) first four n)
+join-fits kind first n v h o four = joins-within first n four (octets-of first o) (kindAt kind) (runs-within kind first n v h)
+
+-- What the reader gives of it: its StreamID, or nothing of a Domain value.
+
+unique-fits : (k : Kind) (first : List ℕ) (n : ℕ) → runsPast (registers k) first n ≡ false → beAt 2 first 6 + n ≤ 65535
+unfolding runsPast
+unique-fits advertises first n r = ltb-false 65535 _ (or-left _ _ r)
+unique-fits faileds first n r = ltb-false 65535 _ (or-left _ _ r)
+unique-fits listeners first n r = ltb-false 65535 _ r
+
+has-id : (k : Kind) → 8 ≤ firstLength (registers k)
+unfolding firstLength
+has-id advertises = omega arith
+has-id faileds = omega arith
+has-id listeners = omega arith
+
+value-id : (kind : ℕ) (first : List ℕ) (n : ℕ) → HasValue kind first n → kind ≤ 3 → streamIdIn first n ≡ Value (beAt 8 first 0 + n)
+unfolding streamIdIn
+value-id kind first n v h =
+    let l : 0 + 8 ≤ length first = omega (arith, has-id (kindAt kind), first-octets kind first n v h) in
+    value-read 8 2 0 first n l _ refl (unique-fits (kindAt kind) first n (runs-within kind first n v h)) _ refl
+
+pub value-id-is : (kind : ℕ) (first : List ℕ) (n i : ℕ) → HasValue kind first n → kind ≤ 3 → streamIdIn first n ≡ Value i → i ≡ beAt 8 first 0 + n
+value-id-is kind first n i v h e = let p = value-id kind first n v h in cc
+
+domain-past : (kind : ℕ) (first : List ℕ) (n : ℕ) → HasValue kind first n → kind ≡ 4 → streamIdIn first n ≡ Past
+unfolding streamIdIn attributeAt firstLength
+domain-past kind first n v h =
+    let e : length first ≡ 4 = rw h at (v .octets) in
+    value-short 8 2 0 first n (omega arith)
+
+pub value-registers : (kind : ℕ) (first : List ℕ) (n i : ℕ) → HasValue kind first n → streamIdIn first n ≡ Value i → kind ≤ 3
+value-registers kind first n i v e = go (ℕ-discrete kind 4)
+  where
+    go : Dec (kind ≡ 4) → kind ≤ 3
+    go (yes h) = let p = domain-past kind first n v h in let z : _≡_ {A = ℕ} 0 1 = cc in absurd (omega arith)
+    go (no h) = omega (arith, v .high)
+
+domain-acts : (kind : ℕ) (leaves : Bool) (values : ℕ) (first three four : List ℕ) (n : ℕ) → kind ≡ 4 →
+    valueActs (vectorOf kind leaves values first three four) n ≡ []
+unfolding valueActs vectorOf attributeAt
+domain-acts kind leaves values first three four n h = rw h
+
+pub no-value-acts : (kind : ℕ) (leaves : Bool) (values : ℕ) (first three four : List ℕ) (n : ℕ) → HasValue kind first n → streamIdIn first n ≡ Past →
+    valueActs (vectorOf kind leaves values first three four) n ≡ []
+no-value-acts kind leaves values first three four n v e = go (ℕ-discrete kind 4)
+  where
+    go : Dec (kind ≡ 4) → valueActs (vectorOf kind leaves values first three four) n ≡ []
+    go (yes h) = domain-acts kind leaves values first three four n h
+    go (no h) = let p = value-id kind first n v (omega (arith, v .high)) in let z : _≡_ {A = ℕ} 0 1 = cc in absurd (omega arith)

@@ -1,0 +1,142 @@
+-- The acts of a vector: LeaveAll, then those of its values, one after another.
+use Prim.Native.Nat.{ℕ, zero, suc, _+_, _*_, _-_, _≤_, _<_}
+use mathlib.Core.Path.{_≡_, refl, sym, _∙_, ap, ap₂}
+use mathlib.Core.List.{List, [], _∷_, _++_}
+use mathlib.Core.Bool.{Bool, true, false, _||_}
+use native.Mathlib.Omega.{arith}
+use native.Mathlib.Numerals.{add-one}
+use lib.ListN.{length, getD, take, drop}
+use lib.Dec.{ltb}
+use borrow.Author.Tests.{ltb-false, le-ltb, ne-eqb}
+use Rattle.octets.specs.Be.{beAt}
+use Rattle.model.specs.Registrations.{advertises, faileds, listeners, leaveAll, holding}
+use Rattle.model.specs.Frames.{Attribute, registers, domain, known, typeOctet, firstLength, threeLength, runsPast, overflows, Vector, vectorAt, eventOf, fourOf, valueActs, valuesActs, leaveAllActs, vectorActs}
+use Rattle.model.specs.Laid.{Laid}
+use Rattle.model.proofs.FoundVectors.{or-left, or-right}
+use Rattle.model.proofs.Fits.{laid-is, laid-fits}
+use Rattle.msrpdu.specs.declared.VectorHead.{VectorHead}
+use Rattle.msrpdu.specs.Reader.{vectorRead, firstPart}
+use Rattle.msrpdu.proofs.Applying.{Meant, meant, first-meant}
+use Rattle.msrpdu.specs.declared.VectorRead.the-variants as vector
+use Rattle.cells.specs.Acts.{kindAt}
+use Rattle.registrar.specs.Acts.{attributeAt, vectorOf, HasValue}
+use Rattle.registrar.specs.Run.{room, effect}
+use Rattle.registrar.specs.Walked.{Walked}
+use Rattle.registrar.proofs.ValueActs.{attribute-kind}
+use Rattle.registrar.proofs.Walks.{walked-none, done, act-done}
+
+-- Values.
+
+module _ (v : Vector) (n count : ℕ) where
+  pub values-next : n < count → valuesActs v n (count - n) ≡ valueActs v n ++ valuesActs v (n + 1) (count - (n + 1))
+  unfolding valuesActs
+  values-next h = let e : count - n ≡ suc (count - (n + 1)) = omega arith in rw (e, add-one n)
+
+  pub values-done : n ≡ count → valuesActs v n (count - n) ≡ []
+  unfolding valuesActs
+  values-done h = let e : count - n ≡ 0 = omega arith in rw e
+
+-- LeaveAll.
+
+pub domain-leaves : (kind : ℕ) (b : Bool) → kind ≡ 4 → leaveAllActs (attributeAt kind) b ≡ []
+unfolding attributeAt leaveAllActs
+domain-leaves kind b e = rw e
+
+pub none-leaves : (k : Attribute) (b : Bool) → b ≡ false → leaveAllActs k b ≡ []
+unfolding leaveAllActs
+none-leaves (registers k) b e = rw e
+none-leaves domain b e = refl
+
+pub all-leaves : (kind : ℕ) (b : Bool) → 1 ≤ kind → kind ≤ 3 → b ≡ true → leaveAllActs (attributeAt kind) b ≡ leaveAll (kindAt kind) ∷ []
+unfolding leaveAllActs
+all-leaves kind b p q e = rw (attribute-kind kind p q, e)
+
+-- it asks for no room
+pub leaves-room : (p : ℕ) (k : Attribute) (b : Bool) (t : List ℕ) → Laid t → Walked false p (leaveAllActs k b) t true t
+unfolding leaveAllActs
+leaves-room p domain b t l = walked-none false p t l
+leaves-room p (registers k) false t l = walked-none false p t l
+leaves-room p (registers k) true t l = unfold done effect room holding in (act-done false p (leaveAll k) t t l tt (laid-fits t l .at-most-64) (laid-is t l))
+
+-- A vector that was read.
+
+pub type-known : (kind : ℕ) → 1 ≤ kind → kind ≤ 4 → typeOctet 0 kind ≡ known (attributeAt kind)
+unfolding typeOctet attributeAt
+type-known zero p q = absurd (omega arith)
+type-known (suc zero) p q = refl
+type-known (suc (suc zero)) p q = refl
+type-known (suc (suc (suc zero))) p q = refl
+type-known (suc (suc (suc (suc zero)))) p q = refl
+type-known (suc (suc (suc (suc (suc k))))) p q = absurd (omega arith)
+
+-- its values ask for what they ask for in any vector of its type with its parts
+same-values : (kind : ℕ) (v : Vector) → v .attribute ≡ attributeAt kind → (n k : ℕ) →
+    valuesActs v n k ≡ valuesActs (vectorOf kind false 0 (v .first) (v .three) (v .four)) n k
+unfolding valuesActs
+same-values kind v e n zero = refl
+same-values kind v e n (suc k) = ap₂ _++_ here (same-values kind v e (suc n) k)
+  where
+    here : valueActs v n ≡ valueActs (vectorOf kind false 0 (v .first) (v .three) (v .four)) n
+    here = unfold valueActs eventOf fourOf vectorOf in (rw (← e))
+
+-- fewer values run past no field either
+less : (a b c d m n : ℕ) → n ≤ m → (ltb a (b + m) || ltb c (d + m)) ≡ false → (ltb a (b + n) || ltb c (d + n)) ≡ false
+less a b c d m n h e =
+    let p = ltb-false a (b + m) (or-left _ _ e) in
+    let q = ltb-false c (d + m) (or-right (ltb a (b + m)) _ e) in
+    rw (le-ltb a (b + n) (omega arith)) (le-ltb c (d + n) (omega arith))
+
+runs-less : (k : Attribute) (s : List ℕ) (m n : ℕ) → n ≤ m → runsPast k s m ≡ false → runsPast k s n ≡ false
+unfolding runsPast
+runs-less (registers advertises) s m n h e = less 65535 (beAt 2 s 6) 281474976710655 (beAt 6 s 8) m n h e
+runs-less (registers faileds) s m n h e = less 65535 (beAt 2 s 6) 281474976710655 (beAt 6 s 8) m n h e
+runs-less (registers listeners) s m n h e = le-ltb 65535 (beAt 2 s 6 + n) (omega (arith, ltb-false 65535 (beAt 2 s 6 + m) e))
+runs-less domain s m n h e = less 255 (getD s 0 0) 255 (getD s 1 0) m n h e
+
+module _ (kind : ℕ) (l : List ℕ) (at : ℕ) (w : VectorHead) (low : 1 ≤ kind) (high : kind ≤ 4)
+    (e : vectorRead (typeOctet 0 kind) l at ≡ vector.Vector w) where
+  abbrev v : Vector
+  v = vectorAt (attributeAt kind) l at (beAt 2 l at)
+
+  -- its parts, as they are lent
+  abbrev pub firstOf : List ℕ
+  firstOf = firstPart (typeOctet 0 kind) at l (vectorRead (typeOctet 0 kind) l at)
+
+  abbrev pub threeOf : List ℕ
+  threeOf = take (w .four - w .three) (drop (w .three) l)
+
+  abbrev pub fourPart : List ℕ
+  fourPart = take (w .next - w .four) (drop (w .four) l)
+
+  read : vectorRead (known (attributeAt kind)) l at ≡ vector.Vector w
+  read = rw (type-known kind low high) at e
+
+  means : Meant (attributeAt kind) l at w v
+  means = meant (attributeAt kind) l at w read
+
+  first-read : firstOf ≡ v .first
+  first-read = rw (type-known kind low high) (first-meant (attributeAt kind) l at w read)
+
+  pub vector-acts : vectorActs v ≡ leaveAllActs (attributeAt kind) (w .leaves) ++ valuesActs (vectorOf kind false 0 firstOf threeOf fourPart) 0 (w .values)
+  unfolding vectorActs
+  vector-acts = ap₂ _++_ (ap₂ leaveAllActs (means .attribute) (means .leaves)) values
+    where
+      values : valuesActs v 0 (v .values) ≡ valuesActs (vectorOf kind false 0 firstOf threeOf fourPart) 0 (w .values)
+      values = same-values kind v (means .attribute) 0 (v .values) ∙ rw (first-read, means .three, means .four, means .values)
+
+  pub enough-events : w .values ≤ 3 * length threeOf
+  unfolding threeLength
+  enough-events = let m = means in omega (arith, m .sound .three, ap length (m .three), m .values)
+
+  pub has-values : (n : ℕ) → n < w .values → HasValue kind firstOf n
+  has-values n h = record {
+    low = low;
+    high = high;
+    octets = rw first-read (means .sound .first ∙ ap firstLength (means .attribute));
+    within = rw first-read (runs-less (attributeAt kind) (v .first) (v .values - 1) n (omega (arith, means .values)) last);
+  }
+    where
+      last : runsPast (attributeAt kind) (v .first) (v .values - 1) ≡ false
+      last =
+          ap (λ (k : Attribute). runsPast k (v .first) (v .values - 1)) (sym (means .attribute))
+          ∙ unfold overflows in (rw (ne-eqb (v .values) 0 (λ z. omega (arith, means .values))) at (means .sound .within))

@@ -1,0 +1,114 @@
+-- Walks on a table, one after another; and a walk over one act.
+use Prim.Native.Nat.{ℕ, _≤_, _<_}
+use mathlib.Core.Path.{_≡_, refl, sym, _∙_, ap, subst}
+use mathlib.Core.List.{List, [], _∷_, _++_}
+use mathlib.Core.Bool.{Bool, true, false, true≢false}
+use lib.ListN.{length}
+use borrow.Author.Tests.{le-leb, lt-leb}
+use Rattle.model.specs.State.{Stream, Bridge}
+use Rattle.model.specs.Registrations.{Act, holding}
+use Rattle.model.specs.Table.{encode, decode}
+use Rattle.model.specs.Laid.{FitBridge, Laid}
+use Rattle.model.proofs.FoundVectors.{Fits}
+use Rattle.model.proofs.Fits.{bridge-read, laid-is, laid-fits}
+use Rattle.cells.proofs.Keeps.{does-fits}
+use Rattle.registrar.specs.Run.{Ran, stopped, ran, effect, next, followed, run, streamsOf, went}
+use Rattle.registrar.specs.Walked.{runOn, Leaves, Walked}
+use Rattle.registrar.proofs.Room.{run-append}
+use Rattle.registrar.proofs.Keeps.{effect-fits}
+
+module _ {t : List ℕ} {q : Ran} {r : Bool} {u : List ℕ} (w : Leaves t q r u) where
+  pub walked-laid : Laid u
+  walked-laid = record { bridge = holding (decode t) (streamsOf q); fits = w .fits; is = w .table }
+
+  pub walked-read : decode u ≡ holding (decode t) (streamsOf q)
+  walked-read = ap decode (w .table) ∙ bridge-read _ (w .fits)
+
+-- nothing to do
+pub walked-none : (m : Bool) (p : ℕ) (t : List ℕ) → Laid t → Walked m p [] t true t
+unfolding runOn run streamsOf went holding
+walked-none m p t l = record { answer = refl; table = laid-is t l; fits = laid-fits t l }
+
+-- acts and more acts
+stops : (q : Ran) (f : List Stream → Ran) → false ≡ went q → followed q f ≡ q
+unfolding went followed
+stops (stopped s) f e = refl
+stops (ran s) f e = absurd (true≢false (sym e))
+
+goes-on : (q : Ran) (f : List Stream → Ran) → true ≡ went q → followed q f ≡ f (streamsOf q)
+unfolding went followed streamsOf
+goes-on (stopped s) f e = absurd (true≢false e)
+goes-on (ran s) f e = refl
+
+module _ (m : Bool) (p : ℕ) (es fs : List Act) (t u : List ℕ) where
+  run-both : runOn m p (es ++ fs) t ≡ followed (runOn m p es t) (run m (decode t .clock) p fs)
+  unfolding runOn
+  run-both = run-append m (decode t .clock) p es fs (decode t .streams)
+
+  pub walked-stopped : Walked m p es t false u → Walked m p (es ++ fs) t false u
+  walked-stopped w = subst (λ (q : Ran). Leaves t q false u) (sym (run-both ∙ stops (runOn m p es t) _ (w .answer))) w
+
+  run-rest : Walked m p es t true u → runOn m p (es ++ fs) t ≡ runOn m p fs u
+  unfolding runOn holding
+  run-rest w = run-both ∙ goes-on (runOn m p es t) _ (w .answer) ∙ sym (ap (λ (b : Bridge). run m (b .clock) p fs (b .streams)) (walked-read w))
+
+  holding-again : (w : Walked m p es t true u) (s : List Stream) → holding (decode u) s ≡ holding (decode t) s
+  unfolding holding
+  holding-again w s = ap (λ (b : Bridge). holding b s) (walked-read w)
+
+  pub walked-on : {r : Bool} {v : List ℕ} → Walked m p es t true u → Walked m p fs u r v → Walked m p (es ++ fs) t r v
+  walked-on {r} {v} w x =
+      let h = holding-again w (streamsOf (runOn m p fs u)) in
+      subst (λ (q : Ran). Leaves t q r v) (sym (run-rest w))
+      record { answer = x .answer; table = x .table ∙ ap encode h; fits = subst FitBridge h (x .fits) }
+
+-- A loop over acts: the walk over es from the table t has come to the table u, with fs left.
+
+abbrev pub Leads : Bool → ℕ → List Act → List ℕ → List Act → List ℕ → Type 0
+Leads m p es t fs u = (r : Bool) (v : List ℕ) → Walked m p fs u r v → Walked m p es t r v
+
+module _ (m : Bool) (p : ℕ) (es : List Act) (t : List ℕ) where
+  pub leads-start : Leads m p es t es t
+  leads-start r v w = w
+
+  module _ (fs : List Act) (u : List ℕ) (leads : Leads m p es t fs u) where
+    pub leads-end : fs ≡ [] → Laid u → Walked m p es t true u
+    leads-end e l = leads true u (rw e (walked-none m p u l))
+
+    module _ (gs hs : List Act) (v : List ℕ) (e : fs ≡ gs ++ hs) where
+      pub leads-on : Walked m p gs u true v → Leads m p es t hs v
+      leads-on w r x y = leads r x (rw e (walked-on m p gs hs u v w y))
+
+      pub leads-stopped : Walked m p gs u false v → Walked m p es t false v
+      leads-stopped w = leads false v (rw e (walked-stopped m p gs hs u v w))
+
+-- One act, where there is room for it, or not.
+
+module _ (m : Bool) (p : ℕ) (a : Act) (t : List ℕ) where
+  -- the streams that it leaves
+  unfoldable pub done : List Stream
+  done = effect m (decode t .clock) p a (decode t .streams)
+
+  one-done : length done ≤ 64 → runOn m p (a ∷ []) t ≡ ran done
+  unfolding runOn run next followed done
+  one-done h = rw (le-leb (length done) 64 h)
+
+  one-stopped : 64 < length done → runOn m p (a ∷ []) t ≡ stopped (decode t .streams)
+  unfolding runOn run next followed done
+  one-stopped h = rw (lt-leb (length done) 64 h)
+
+  pub act-done : (u : List ℕ) → Laid t → Fits a → length done ≤ 64 → u ≡ encode (holding (decode t) done) → Walked m p (a ∷ []) t true u
+  unfolding done
+  act-done u l f h e =
+      let w = laid-fits t l in
+      subst (λ (q : Ran). Leaves t q true u) (sym (one-done h))
+      (unfold went streamsOf in record {
+        answer = refl;
+        table = e;
+        fits = effect-fits m p a (decode t) w f (does-fits (decode t .clock) (w .clock) a f) h;
+      })
+
+  pub act-stopped : Laid t → 64 < length done → Walked m p (a ∷ []) t false t
+  act-stopped l h =
+      subst (λ (q : Ran). Leaves t q false t) (sym (one-stopped h))
+      (unfold went streamsOf holding in record { answer = refl; table = laid-is t l; fits = laid-fits t l })

@@ -1,0 +1,56 @@
+-- `registrar::vector` meets its contract. Assumes nothing.
+use Prim.Native.Nat.{_-_}
+use borrow.Author.Needs.{needs}
+use Rattle.model.specs.Frames.{typeOctet}
+use Rattle.msrpdu.proofs.Reading.{Within, within}
+use Rattle.registrar.proofs.Walks.{walked-laid, walked-on}
+use Rattle.registrar.proofs.VectorActs.{vector-acts, enough-events, has-values}
+use Rattle.registrar.proofs.vector.Statement.{statement}
+use Rattle.registrar.proofs.vector.Tie as tie
+
+begin-all-requires : tie.Need-begin-all-requires
+begin-all-requires c κs = let p = c .before .before .before .before .pre in (p .0, p .1, p .2, p .3)
+
+-- the places of the vector are within its list
+places : (a : tie.Start) → Within (a .args .list .now) (a .args .at) (a .args .head)
+places a = within (typeOctet 0 (a .args .kind)) (a .args .list .now) (a .args .at) (a .args .head) (a .pre .4)
+
+sub-values : tie.Need-sub-values
+sub-values c = let h = places (c .before .before .before .before .before .before .before .before) in search needs
+
+part-values-start : tie.Need-part-values-start
+part-values-start c = let h = places (c .before .before .before .before .before .before .before .before) in search needs
+
+part-values-end : tie.Need-part-values-end
+part-values-end c = let h = places (c .before .before .before .before .before .before .before .before) in search needs
+
+sub-values-2 : tie.Need-sub-values-2
+sub-values-2 c = let h = places (c .before .before .before .before .before .before .before .before .before) in search needs
+
+part-values-start-2 : tie.Need-part-values-start-2
+part-values-start-2 c = let h = places (c .before .before .before .before .before .before .before .before .before) in search needs
+
+part-values-end-2 : tie.Need-part-values-end-2
+part-values-end-2 c = let h = places (c .before .before .before .before .before .before .before .before .before) in search needs
+
+values-requires : tie.Need-values-requires
+values-requires c κs =
+    let a = c .before .before .before .before .before .before .before .before .before .before in
+    let p = a .pre in
+    let e = enough-events (a .args .kind) (a .args .list .now) (a .args .at) (a .args .head) (p .2) (p .3) (p .4) in
+    let h = has-values (a .args .kind) (a .args .list .now) (a .args .at) (a .args .head) (p .2) (p .3) (p .4) in
+    (walked-laid (c .before .before .before .before .before .begin-all .ensures), p .1, e, rw (c .before .before .before .before .before .before .before .first-value .ensures) h)
+
+returns : tie.Need-returns
+returns c =
+    let a = c .before .before .before .before .before .before .before .before .before .before .before .before .before in
+    let p = a .pre in
+    rw (vector-acts (a .args .kind) (a .args .list .now) (a .args .at) (a .args .head) (p .2) (p .3) (p .4))
+    (walked-on (a .args .applying) (a .args .place) _ _ (a .args .table .now) _ (c .before .before .before .before .before .before .before .before .begin-all .ensures)
+    (rw (c .before .before .before .before .before .before .before .before .before .before .first-value .ensures) at (c .before .before .values .ensures)))
+
+pub vector-spec : {M : Type 1} → statement M
+vector-spec =
+    tie.close
+    (tie.spec (λ c κs. search needs) begin-all-requires sub-values part-values-start part-values-end sub-values-2
+    part-values-start-2 part-values-end-2 values-requires (λ c. search needs) returns)

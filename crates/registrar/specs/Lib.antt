@@ -1,0 +1,4 @@
+pub mod Run
+pub mod Walked
+pub mod Acts
+pub mod Enrols

@@ -1,0 +1,337 @@
+// The walk that applies a frame to the table (01, "Registering" and number 8).
+ghost use mathlib.Core.Path.{_≡_};
+ghost use mathlib.Core.Bool.{true, false};
+ghost use mathlib.Core.List.{_∷_, []};
+ghost use Prim.Native.Nat.{ℕ, suc, _≤_, _<_, _+_, _*_, _/_};
+ghost use lib.ListN.{length};
+ghost use Rattle.octets.specs.Be.{beAt};
+ghost use Rattle.model.specs.Lists.{All};
+ghost use Rattle.model.specs.Settling.{held};
+ghost use Rattle.model.specs.Laid.{LaidStream, Laid};
+ghost use Rattle.model.specs.Table.{streamOctets, toStream, decode};
+ghost use Rattle.model.specs.Registrations.{leaveAll, leave, quit, does, at, change};
+ghost use Rattle.model.specs.Frames.{typeOctet, vectorAt, vectors, walk, valueActs, valuesActs, leaveAllActs, vectorActs};
+ghost use Rattle.cells.specs.Acts.{kindAt};
+ghost use Rattle.msrpdu.specs.Reader.{vectorRead};
+ghost use Rattle.registrar.specs.Walked.{Walked, Receives};
+ghost use Rattle.registrar.specs.Enrols.{Enrols};
+ghost use Rattle.registrar.specs.Acts.{isFound, actsOf, attributeAt, vectorOf, HasValue, joinOf, askedOf, Declares};
+use msrpdu::Event;
+use msrpdu::MessageRead;
+use msrpdu::ValueRead;
+use msrpdu::VectorHead;
+use msrpdu::VectorRead;
+use table::Found;
+
+// What the events of a value ask for: a join, of a Listener with its four-packed event, a leave, or nothing.
+enum Asked {
+    Nothing,
+    Join(u8),
+    Leave,
+}
+
+// The record of a stream, or that there is no room for one.
+enum Enrolment {
+    Record(usize),
+    Full,
+}
+
+// Lv or LeaveAll of an AttributeType, on the cell of a place.
+fn quit_cell(rec: &mut [u8], place: usize, kind: u8, clock: u32)
+    requires { ⌜ LaidStream (now rec) × (length (now rec) ≡ 493) × (place < 8) × (1 ≤ kind) × (kind ≤ 3) ⌝ }
+    ensures { λ _. ⌜ now (rec .exit) ≡ streamOctets (change (at place (quit clock (kindAt kind))) (toStream (now (rec .entry)))) ⌝ }
+{
+    let a = table::CELLS + place * table::CELL;
+    cells::quit(&mut rec[a..a + table::CELL], kind, clock);
+}
+
+// A join, on the cell of a place: value n of a FirstValue, or a Listener of a four-packed event.
+fn join_cell(rec: &mut [u8], place: usize, kind: u8, first: &[u8], four: u8, n: usize)
+    requires { ⌜ LaidStream (now rec) × (length (now rec) ≡ 493) × (place < 8) × (kind ≤ 3)
+        × HasValue kind (now first) n × (kind ≡ 3 → (1 ≤ four) × (four ≤ 3)) ⌝ }
+    ensures { λ _. ⌜ ((clock : ℕ) → now (rec .exit) ≡ streamOctets (change (at place (does clock (joinOf (kindAt kind) (now (first .entry)) four n)))
+        (toStream (now (rec .entry))))) ⌝ }
+{
+    let a = table::CELLS + place * table::CELL;
+    let end = a + table::CELL;
+    if kind == 3 {
+        cells::join_listener(&mut rec[a..end], four);
+    } else {
+        cells::join_talker(&mut rec[a..end], kind, first, n);
+    }
+}
+
+// LeaveAll of an AttributeType at a port: on each record in use.
+fn leave_all(table: &mut [u8], place: usize, kind: u8)
+    requires { ⌜ Laid (now table) × (place < 8) × (1 ≤ kind) × (kind ≤ 3) ⌝ }
+    ensures { λ _. ⌜ Walked true place (leaveAll (kindAt kind) ∷ []) (now (table .entry)) true (now (table .exit)) ⌝ }
+{
+    let held = table::count(table);
+    let now = table::clock(table);
+    let mut k: usize = 0;
+    while k < held {
+        let a = table::RECORDS + k * table::RECORD;
+        quit_cell(&mut table[a..a + table::RECORD], place, kind, now);
+        k += 1;
+    }
+}
+
+// Lv of a StreamID and an AttributeType at a port: on its record, where it has one.
+fn withdraw(table: &mut [u8], place: usize, kind: u8, id: u64)
+    requires { ⌜ Laid (now table) × (place < 8) × (1 ≤ kind) × (kind ≤ 3) ⌝ }
+    ensures { λ _. ⌜ Walked true place (leave (kindAt kind) id ∷ []) (now (table .entry)) true (now (table .exit)) ⌝ }
+{
+    let Found::At(k) = table::find(table, id) else {
+        return;
+    };
+    let now = table::clock(table);
+    let a = table::RECORDS + k * table::RECORD;
+    quit_cell(&mut table[a..a + table::RECORD], place, kind, now);
+}
+
+// A record for a stream: the one that it has, or an empty one at its place, unless there are 64.
+fn enrol(table: &mut [u8], id: u64) -> Enrolment
+    requires { ⌜ Laid (now table) ⌝ }
+    ensures { λ r. ⌜ Enrols id (now (table .entry)) r (now (table .exit)) ⌝ }
+{
+    let f = table::find(table, id);
+    match f {
+        Found::At(k) => Enrolment::Record(k),
+        Found::Gap(k) => {
+            if table::count(table) == 64 {
+                return Enrolment::Full;
+            }
+            table::insert(table, k, id);
+            Enrolment::Record(k)
+        }
+    }
+}
+
+// A join at a port: its record is there or is made; where the frame is applied, its cell is changed.
+fn join(
+    table: &mut [u8],
+    place: usize,
+    applying: bool,
+    kind: u8,
+    id: u64,
+    first: &[u8],
+    four: u8,
+    n: usize,
+) -> bool
+    requires { ⌜ Laid (now table) × (place < 8) × (kind ≤ 3) × HasValue kind (now first) n × (id ≡ beAt 8 (now first) 0 + n)
+        × (kind ≡ 3 → (1 ≤ four) × (four ≤ 3)) ⌝ }
+    ensures { λ r. ⌜ Walked applying place (joinOf (kindAt kind) (now (first .entry)) four n ∷ []) (now (table .entry)) r (now (table .exit)) ⌝ }
+{
+    let Enrolment::Record(k) = enrol(table, id) else {
+        return false;
+    };
+    if applying {
+        let a = table::RECORDS + k * table::RECORD;
+        join_cell(
+            &mut table[a..a + table::RECORD],
+            place,
+            kind,
+            first,
+            four,
+            n,
+        );
+    }
+    true
+}
+
+// What the events of value n ask for; "Ignore, In and Mt do nothing".
+fn ask(kind: u8, events: &[u8], fours: &[u8], n: usize) -> Asked
+    ensures { λ r. ⌜ (r ≡ askedOf kind (now (events .entry)) (now (fours .entry)) n) × Declares kind r ⌝ }
+{
+    let four = msrpdu::four_of(fours, n);
+    if kind == 3 {
+        if four == 0 {
+            return Asked::Nothing;
+        }
+    }
+    let e = msrpdu::event_of(events, n);
+    match e {
+        Event::New => Asked::Join(four),
+        Event::JoinIn => Asked::Join(four),
+        Event::In => Asked::Nothing,
+        Event::JoinMt => Asked::Join(four),
+        Event::Mt => Asked::Nothing,
+        Event::Lv => Asked::Leave,
+        Event::Missing => Asked::Nothing,
+    }
+}
+
+// Value n of a vector at a port, whether it was read or not: a Domain value has no StreamID, and nothing is done.
+fn value(
+    table: &mut [u8],
+    place: usize,
+    applying: bool,
+    kind: u8,
+    first: &[u8],
+    events: &[u8],
+    fours: &[u8],
+    n: usize,
+) -> bool
+    requires { ⌜ Laid (now table) × (place < 8) × HasValue kind (now first) n × (n / 3 < length (now events)) ⌝ }
+    ensures { λ r. ⌜ Walked applying place (valueActs (vectorOf kind false 0 (now (first .entry)) (now (events .entry)) (now (fours .entry))) n)
+        (now (table .entry)) r (now (table .exit)) ⌝ }
+{
+    let ValueRead::Value(id) = msrpdu::stream_id(first, n) else {
+        return true;
+    };
+    let a = ask(kind, events, fours, n);
+    match a {
+        Asked::Nothing => true,
+        Asked::Join(four) => join(table, place, applying, kind, id, first, four, n),
+        Asked::Leave => {
+            if applying {
+                withdraw(table, place, kind, id);
+            }
+            true
+        }
+    }
+}
+
+// The values of a vector at a port, one after another.
+fn values(
+    table: &mut [u8],
+    place: usize,
+    applying: bool,
+    kind: u8,
+    first: &[u8],
+    events: &[u8],
+    fours: &[u8],
+    count: usize,
+) -> bool
+    requires { ⌜ Laid (now table) × (place < 8) × (count ≤ 3 * length (now events)) × ((n : ℕ) → n < count → HasValue kind (now first) n) ⌝ }
+    ensures { λ r. ⌜ Walked applying place (valuesActs (vectorOf kind false 0 (now (first .entry)) (now (events .entry)) (now (fours .entry))) 0 count)
+        (now (table .entry)) r (now (table .exit)) ⌝ }
+{
+    let mut n: usize = 0;
+    while n < count {
+        let went = value(table, place, applying, kind, first, events, fours, n);
+        if !went {
+            return false;
+        }
+        n += 1;
+    }
+    true
+}
+
+// LeaveAll of a vector at a port, which asks for no room.
+fn begin_all(table: &mut [u8], place: usize, applying: bool, kind: u8, leaves: bool)
+    requires { ⌜ Laid (now table) × (place < 8) × (1 ≤ kind) × (kind ≤ 4) ⌝ }
+    ensures { λ _. ⌜ Walked applying place (leaveAllActs (attributeAt kind) leaves) (now (table .entry)) true (now (table .exit)) ⌝ }
+{
+    if !applying {
+        return;
+    }
+    if !leaves {
+        return;
+    }
+    if kind == 4 {
+        return;
+    }
+    leave_all(table, place, kind);
+}
+
+// The vector that was read at a place of its AttributeList: "LeaveAll first".
+fn vector(
+    table: &mut [u8],
+    place: usize,
+    applying: bool,
+    kind: u8,
+    list: &[u8],
+    at: usize,
+    head: VectorHead,
+) -> bool
+    requires { ⌜ Laid (now table) × (place < 8) × (1 ≤ kind) × (kind ≤ 4) × (vectorRead (typeOctet 0 kind) (now list) at ≡ VectorRead.Vector head) ⌝ }
+    ensures { λ r. ⌜ Walked applying place (vectorActs (vectorAt (attributeAt kind) (now (list .entry)) at (beAt 2 (now (list .entry)) at)))
+        (now (table .entry)) r (now (table .exit)) ⌝ }
+{
+    let first = msrpdu::first_value(list, at, kind);
+    let count = head.values;
+    let three = head.three;
+    let four = head.four;
+    let next = head.next;
+    begin_all(table, place, applying, kind, head.leaves);
+    values(
+        table,
+        place,
+        applying,
+        kind,
+        first,
+        &list[three..four],
+        &list[four..next],
+        count,
+    )
+}
+
+// An AttributeList at a port, vector by vector to its EndMark.
+fn list(table: &mut [u8], place: usize, applying: bool, kind: u8, list: &[u8]) -> bool
+    requires { ⌜ Laid (now table) × (place < 8) × (1 ≤ kind) × (kind ≤ 4)
+        × (isFound (vectors (suc (length (now list))) (attributeAt kind) (now list) 0) ≡ true) ⌝ }
+    ensures { λ r. ⌜ Walked applying place (actsOf (vectors (suc (length (now (list .entry)))) (attributeAt kind) (now (list .entry)) 0))
+        (now (table .entry)) r (now (table .exit)) ⌝ }
+{
+    let mut at: usize = 0;
+    loop {
+        let v = msrpdu::vector(list, at, kind);
+        let VectorRead::Vector(head) = v else {
+            return true;
+        };
+        let next = head.next;
+        let went = vector(table, place, applying, kind, list, at, head);
+        if !went {
+            return false;
+        }
+        at = next;
+    }
+}
+
+// A well-formed frame at a port, Message by Message: room is made for it, or it is applied.
+fn frame(table: &mut [u8], place: usize, applying: bool, pdu: &[u8]) -> bool
+    requires { ⌜ Laid (now table) × (place < 8) × (isFound (walk (now pdu)) ≡ true) ⌝ }
+    ensures { λ r. ⌜ Walked applying place (actsOf (walk (now (pdu .entry)))) (now (table .entry)) r (now (table .exit)) ⌝ }
+{
+    let version = pdu[0];
+    let mut at: usize = 1;
+    loop {
+        let m = msrpdu::message(pdu, version, at);
+        match m {
+            MessageRead::Refused(_) => {
+                return true;
+            }
+            MessageRead::End => {
+                return true;
+            }
+            MessageRead::Skipped(next) => {
+                at = next;
+            }
+            MessageRead::List(head) => {
+                let start = head.list;
+                let end = head.next;
+                let went = list(table, place, applying, head.kind, &pdu[start..end]);
+                if !went {
+                    return false;
+                }
+                at = end;
+            }
+        }
+    }
+}
+
+// A well-formed frame at a port: first room is made for every stream that it joins; then it is applied. Where there is no
+// room for all, the records made for it go again.
+pub fn receive_frame(table: &mut [u8], place: usize, pdu: &[u8]) -> bool
+    requires { ⌜ Laid (now table) × (place < 8) × (isFound (walk (now pdu)) ≡ true)
+        × All (λ x. held (x .cells) ≡ true) (decode (now table) .streams) ⌝ }
+    ensures { λ r. ⌜ Receives place (now (pdu .entry)) (now (table .entry)) r (now (table .exit)) ⌝ }
+{
+    let fits = frame(table, place, false, pdu);
+    if !fits {
+        table::drop_unheld(table);
+        return false;
+    }
+    frame(table, place, true, pdu)
+}
