@@ -1,0 +1,4 @@
+pub mod Started
+pub mod Starting
+pub mod OnTables
+pub mod Receiving

@@ -1,0 +1,47 @@
+-- Start, way by way: what it answers, and what it leaves of the table.
+use mathlib.Core.Path.{_≡_, refl, sym, _∙_, ap}
+use mathlib.Core.List.{List, [], _∷_, _++_, append-nil}
+use mathlib.Core.Bool.{true, false}
+use Prim.Native.Nat.{ℕ, _+_, _-_, _≤_}
+use native.Mathlib.Omega.{arith}
+use lib.ListN.{length, take, drop, length-drop}
+use lib.Seq.{drop-at}
+use borrow.Author.Tests.{eq-eqb, ne-eqb}
+use Rattle.octets.specs.Parts.{patch, zeros}
+use Rattle.model.specs.Lists.{Octets}
+use Rattle.model.specs.Table.{tableLength, settingsFormed}
+use Rattle.model.specs.Calls.{startOn}
+use Rattle.model.proofs.Parts.{zeros-add, length-zeros}
+use Rattle.model.proofs.SettingsOctets.{formed-length, formed-rules, eight-ports}
+use Rattle.bridge.proofs.Started.{started-table}
+
+module _ (t s : List ℕ) where
+  pub start-wrong-table : (length t ≡ 31824 → ⊥) → startOn t s ≡ record { number = 12; table = t }
+  unfolding startOn tableLength
+  start-wrong-table h = rw (ne-eqb (length t) 31824 h)
+
+  pub start-wrong-settings : length t ≡ 31824 → settingsFormed s ≡ false → startOn t s ≡ record { number = 11; table = t }
+  unfolding startOn tableLength
+  start-wrong-settings h f = rw (eq-eqb (length t) 31824 h, f)
+
+  pub start-accepted : length t ≡ 31824 → settingsFormed s ≡ true → Octets s →
+      startOn t s ≡ record { number = 0; table = s ++ zeros (31824 - length s) }
+  unfolding startOn tableLength
+  start-accepted h f o = rw (eq-eqb (length t) 31824 h, f, started-table s o f)
+
+-- settings are shorter than a table
+pub settings-short : (s : List ℕ) → settingsFormed s ≡ true → length s ≤ 187
+settings-short s f = omega (arith, formed-length s f, eight-ports s (formed-rules s f))
+
+-- the settings put in front of a table of zeros of any length
+pub settings-put : (n : ℕ) (s t z : List ℕ) → length t ≡ n → length s ≤ n → z ≡ patch 0 n (zeros n) t →
+    s ++ drop (length s - 0) (drop 0 z) ≡ s ++ zeros (n - length s)
+unfolding patch
+settings-put n s t z h l e =
+    let m : ℕ = length s in
+    let all : drop n (drop 0 t) ≡ [] = ap (drop n) (sym (append-nil t)) ∙ drop-at t [] n h in
+    let zs : z ≡ zeros n = e ∙ ap (λ (r : List ℕ). zeros n ++ r) all ∙ append-nil (zeros n) in
+    let rest : n ≡ m + (n - m) = omega arith in
+    let split : zeros n ≡ zeros m ++ zeros (n - m) = ap zeros rest ∙ zeros-add m (n - m) in
+    let from : m - 0 ≡ m = omega arith in
+    ap (λ (r : List ℕ). s ++ r) (ap (λ (k : ℕ). drop k z) from ∙ ap (drop m) (zs ∙ split) ∙ drop-at (zeros m) (zeros (n - m)) m (length-zeros m))

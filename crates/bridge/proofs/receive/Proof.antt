@@ -1,0 +1,56 @@
+-- `bridge::receive` meets its contract. Assumes nothing.
+use Prim.Native.Nat.{ℕ, _-_, _≤_, _<_}
+use mathlib.Core.Path.{_≡_, refl, sym, ap, _∙_, subst}
+use mathlib.Core.Bool.{true, false, cond}
+use mathlib.Core.List.{List}
+use native.Mathlib.Omega.{arith}
+use lib.ListN.{length}
+use borrow.Author.Needs.{needs}
+use borrow.Author.Tests.{leb-true, leb-false}
+use Rattle.model.proofs.Parts.{octets-of}
+use Rattle.model.proofs.Fits.{formed-laid}
+use Rattle.bridge.proofs.OnTables.{answers, receive-unformed, receive-wrong-port, receive-faulty, port-zero, port-above, port-right}
+use Rattle.bridge.proofs.Receiving.{all-held, is-found, receive-done, receive-no-room}
+use Rattle.bridge.proofs.receive.Statement.{statement}
+use Rattle.bridge.proofs.receive.Tie as tie
+
+ports-requires : tie.Need-ports-requires
+ports-requires c κs =
+    let t = c .before .before .before .before .before .before .args .table .now in
+    formed-laid t (octets-of t (λ i. omega (arith, c .before .before .before .before .before .slice-known .given i))) (sym (c .before .before .is-formed .ensures) ∙ c .before .if1 .taken)
+
+returns : tie.Need-returns
+returns c = answers _ _ _ (receive-wrong-port _ _ _ (sym (c .before .before .before .before .is-formed .ensures) ∙ c .before .before .before .if1 .taken) (port-zero _ _ (c .if2 .taken)))
+
+returns-2 : tie.Need-returns-2
+returns-2 c = answers _ _ _ (receive-wrong-port _ _ _ (sym (c .before .before .before .before .before .is-formed .ensures) ∙ c .before .before .before .before .if1 .taken) (port-above _ _ (rw (c .before .before .ports .ensures .0) at (c .if3 .taken))))
+
+receive-frame-requires : tie.Need-receive-frame-requires
+receive-frame-requires c κs =
+    let t = c .before .before .before .before .before .before .before .before .before .before .before .before .args .table .now in
+    let f = sym (c .before .before .before .before .before .before .before .before .is-formed .ensures) ∙ c .before .before .before .before .before .before .before .if1 .taken in
+    let o = octets-of t (λ i. omega (arith, c .before .before .before .before .before .before .before .before .before .before .before .slice-known .given i)) in
+    (formed-laid t o f, omega (arith, c .before .before .before .before .before .ports .ensures .1, c .before .before .before .if3 .left), is-found _ (sym (c .before .before .check .ensures) ∙ c .before .if4 .taken), all-held t o f)
+
+returns-3 : tie.Need-returns-3
+returns-3 c =
+    answers _ _ _
+    (receive-done _ _ _ (sym (c .before .before .before .before .before .before .before .before .before .before .before .before .is-formed .ensures) ∙ c .before .before .before .before .before .before .before .before .before .before .before .if1 .taken) (port-right _ _ (c .before .before .before .before .before .before .before .before .if2 .left) (rw (c .before .before .before .before .before .before .before .before .before .ports .ensures .0) at (c .before .before .before .before .before .before .before .if3 .left))) (sym (c .before .before .before .before .before .before .check .ensures) ∙ c .before .before .before .before .before .if4 .taken) _ _ (c .before .before .before .receive-frame .ensures) (c .if5 .taken))
+
+returns-4 : tie.Need-returns-4
+returns-4 c =
+    answers _ _ _
+    (receive-no-room _ _ _ (sym (c .before .before .before .before .before .before .before .before .before .before .before .before .is-formed .ensures) ∙ c .before .before .before .before .before .before .before .before .before .before .before .if1 .taken) (port-right _ _ (c .before .before .before .before .before .before .before .before .if2 .left) (rw (c .before .before .before .before .before .before .before .before .before .ports .ensures .0) at (c .before .before .before .before .before .before .before .if3 .left))) (sym (c .before .before .before .before .before .before .check .ensures) ∙ c .before .before .before .before .before .if4 .taken) _ _ (c .before .before .before .receive-frame .ensures) (c .if5 .left))
+
+returns-5 : tie.Need-returns-5
+returns-5 c =
+    answers _ _ _ (receive-faulty _ _ _ (sym (c .before .before .before .before .before .before .before .is-formed .ensures) ∙ c .before .before .before .before .before .before .if1 .taken) (port-right _ _ (c .before .before .before .if2 .left) (rw (c .before .before .before .before .ports .ensures .0) at (c .before .before .if3 .left))) _ (c .before .check .ensures) (c .if4 .left))
+
+returns-6 : tie.Need-returns-6
+returns-6 c = answers _ _ _ (receive-unformed _ _ _ (sym (c .before .is-formed .ensures) ∙ c .if1 .left))
+
+pub receive-spec : {M : Type 1} → statement M
+receive-spec =
+    tie.close
+    (tie.spec (λ c κs. search needs) ports-requires (λ c. search needs) returns (λ c. search needs) returns-2 (λ c κs. search needs) (λ c. search needs)
+    receive-frame-requires (λ c. search needs) returns-3 (λ c. search needs) returns-4 (λ c. search needs) returns-5 (λ c. search needs) returns-6)
