@@ -161,7 +161,7 @@ fn ask(kind: u8, events: &[u8], fours: &[u8], n: usize) -> Asked
     }
 }
 
-// Value n of a vector at a port, whether it was read or not: a Domain value has no StreamID, and nothing is done.
+// Value n of a vector at a port: "A value is applied only if the vector reader gave one". A Domain value has no StreamID.
 fn value(
     table: &mut [u8],
     place: usize,
@@ -299,6 +299,7 @@ fn frame(table: &mut [u8], place: usize, applying: bool, pdu: &[u8]) -> bool
     loop {
         let m = msrpdu::message(pdu, version, at);
         match m {
+            // none in a frame that is well-formed
             MessageRead::Refused(_) => {
                 return true;
             }
