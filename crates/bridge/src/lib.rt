@@ -1,15 +1,14 @@
 // The bridge: five calls on a table that the caller lends (docs/TABLE.md). None asks anything of its arguments. For every input
-// each promises the one number, the one content of the table and of the buffer: those of crate model's `Calls`.
-ghost use mathlib.Core.Path.{_≡_};
-ghost use Rattle.model.specs.Calls.{startOn, receiveOn, advanceOn};
+// each promises the one number, the one content of the table and of the buffer: those of crate model's `Calls`, by the relations
+// of specs/Promises.
+ghost use Rattle.bridge.specs.Promises.{Starts, Receives, Advances};
 
 // Octets of a table.
 pub const TABLE: usize = 31824;
 
 // Starts a bridge with these settings: no streams, clock 0. It looks at the table's length only.
 pub fn start(table: &mut [u8], settings: &[u8]) -> u8
-    ensures { λ r. ⌜ (r ≡ startOn (now (table .entry)) (now (settings .entry)) .number)
-        × (now (table .exit) ≡ startOn (now (table .entry)) (now (settings .entry)) .table) ⌝ }
+    ensures { λ r. ⌜ Starts (now (table .entry)) (now (settings .entry)) r (now (table .exit)) ⌝ }
 {
     if table.len() != TABLE {
         return 12;
@@ -26,8 +25,7 @@ pub fn start(table: &mut [u8], settings: &[u8]) -> u8
 
 // Takes a PDU that arrived on a port, numbered from 1: refused by number, or all of its events applied.
 pub fn receive(table: &mut [u8], port: u32, pdu: &[u8]) -> u8
-    ensures { λ r. ⌜ (r ≡ receiveOn (now (table .entry)) port (now (pdu .entry)) .number)
-        × (now (table .exit) ≡ receiveOn (now (table .entry)) port (now (pdu .entry)) .table) ⌝ }
+    ensures { λ r. ⌜ Receives (now (table .entry)) port (now (pdu .entry)) r (now (table .exit)) ⌝ }
 {
     let formed = form::is_formed(table);
     if formed {
@@ -53,7 +51,7 @@ pub fn receive(table: &mut [u8], port: u32, pdu: &[u8]) -> u8
 
 // Sets the clock, removes what has left, and decides every column, entry, Listener and total.
 pub fn advance(table: &mut [u8], time: u32) -> u8
-    ensures { λ r. ⌜ (r ≡ advanceOn (now (table .entry)) time .number) × (now (table .exit) ≡ advanceOn (now (table .entry)) time .table) ⌝ }
+    ensures { λ r. ⌜ Advances (now (table .entry)) time r (now (table .exit)) ⌝ }
 {
     let formed = form::is_formed(table);
     if formed {

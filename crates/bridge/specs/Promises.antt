@@ -1,0 +1,29 @@
+-- What each call promises, for every input: its answer, and what it leaves of table and buffer. The contracts of src/lib.rt cite
+-- these, and so do the theorems about the code.
+use mathlib.Core.Path.{_≡_}
+use mathlib.Core.List.{List}
+use Prim.Native.Nat.{ℕ}
+use Rattle.model.specs.Declarations.{Report}
+use Rattle.model.specs.Calls.{startOn, receiveOn, advanceOn, writeOn, reportOn}
+
+-- a table and settings: the number, and the table afterwards
+abbrev pub Starts : List ℕ → List ℕ → ℕ → List ℕ → Type 0
+Starts table settings number after = (number ≡ startOn table settings .number) × (after ≡ startOn table settings .table)
+
+-- a table, a port and a PDU: the number, and the table afterwards
+abbrev pub Receives : List ℕ → ℕ → List ℕ → ℕ → List ℕ → Type 0
+Receives table port pdu number after = (number ≡ receiveOn table port pdu .number) × (after ≡ receiveOn table port pdu .table)
+
+-- a table and a time: the number, and the table afterwards
+abbrev pub Advances : List ℕ → ℕ → ℕ → List ℕ → Type 0
+Advances table time number after = (number ≡ advanceOn table time .number) × (after ≡ advanceOn table time .table)
+
+-- a table, a port, a place and a buffer: the number, the PDU's length, the next place, and the buffer afterwards
+abbrev pub Writes : List ℕ → ℕ → ℕ → List ℕ → ℕ → ℕ → ℕ → List ℕ → Type 0
+Writes table port place buffer number long next after =
+    let call = writeOn table port place buffer in
+    (number ≡ call .number) × (long ≡ call .length) × (next ≡ call .next) × (after ≡ call .buffer)
+
+-- a table, a port and a place: the report
+abbrev pub Reports : List ℕ → ℕ → ℕ → Report → Type 0
+Reports table port place answer = answer ≡ reportOn table port place
