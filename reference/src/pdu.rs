@@ -112,6 +112,25 @@ pub struct Talker {
     pub failure: Option<Failure>,
 }
 
+impl Talker {
+    /// The Talker of 01's worked example, for a stream. Its destination follows the Unique ID.
+    pub fn of_the_worked_example(stream_id: StreamId) -> Talker {
+        Talker {
+            stream_id,
+            parameters: Parameters {
+                destination: 0x91e0_f000_0000 + (stream_id & 0xffff),
+                vlan: 2,
+                max_frame_size: 224,
+                max_interval_frames: 1,
+                priority: 3,
+                rank: 1,
+            },
+            accumulated_latency: 0,
+            failure: None,
+        }
+    }
+}
+
 /// One value of a vector, with its event.
 #[derive(Clone, Copy, Debug, PartialEq, Eq)]
 pub enum Value {

@@ -48,7 +48,7 @@
 
 use crate::declarations;
 use crate::frame::{FrameDraft, MessageDraft, VectorDraft};
-use crate::pdu::{AttributeType, Failure, Parameters, StreamId, Talker};
+use crate::pdu::{AttributeType, Failure, StreamId, Talker};
 use crate::settings::{self, PerClass, PortSettings, Settings};
 
 /// Which program the records are for.
@@ -206,14 +206,7 @@ fn bridge(words: &mut Words) -> Result<Settings, String> {
 
 fn ports(words: &mut Words) -> Result<Vec<PortSettings>, String> {
     let count = words.number("a number of ports")?;
-    let mut port = PortSettings {
-        supports: PerClass { a: true, b: true },
-        sends_twice: false,
-        overhead: 42,
-        largest_frame: 1522,
-        limit: PerClass { a: 75_000_000, b: 0 },
-        latency: PerClass { a: 0, b: 0 },
-    };
+    let mut port = PortSettings::of_the_worked_example();
     while let Some(word) = words.next() {
         match word {
             "classes" => {
@@ -263,20 +256,7 @@ fn pdu(words: &mut Words) -> Result<Vec<u8>, String> {
 }
 
 fn talker(words: &mut Words) -> Result<MessageDraft, String> {
-    let stream_id: StreamId = words.hexadecimal("a StreamID", 64)?;
-    let mut talker = Talker {
-        stream_id,
-        parameters: Parameters {
-            destination: 0x91e0_f000_0000 + (stream_id & 0xffff),
-            vlan: 2,
-            max_frame_size: 224,
-            max_interval_frames: 1,
-            priority: 3,
-            rank: 1,
-        },
-        accumulated_latency: 0,
-        failure: None,
-    };
+    let mut talker = Talker::of_the_worked_example(words.hexadecimal("a StreamID", 64)?);
     let mut values = Values::default();
     while let Some(word) = words.next_before_and() {
         let parameters = &mut talker.parameters;

@@ -45,6 +45,20 @@ pub struct PortSettings {
     pub latency: PerClass<u32>,
 }
 
+impl PortSettings {
+    /// A port of 01's worked example.
+    pub fn of_the_worked_example() -> PortSettings {
+        PortSettings {
+            supports: PerClass { a: true, b: true },
+            sends_twice: false,
+            overhead: 42,
+            largest_frame: 1522,
+            limit: PerClass { a: 75_000_000, b: 0 },
+            latency: PerClass { a: 0, b: 0 },
+        }
+    }
+}
+
 /// The settings of a bridge. `ports[0]` is port 1.
 #[derive(Clone, Debug, PartialEq, Eq)]
 pub struct Settings {

@@ -113,14 +113,7 @@ fn report(table: &Table, ports: u32) -> String {
 /// 75000000 and 0, latency 0, priorities 3 and 2, leave time 60; a Talker on port 1, a Listener
 /// on port 2, then time 100.
 pub fn worked_example() -> Vec<u8> {
-    let port = settings::PortSettings {
-        supports: settings::PerClass { a: true, b: true },
-        sends_twice: false,
-        overhead: 42,
-        largest_frame: 1522,
-        limit: settings::PerClass { a: 75_000_000, b: 0 },
-        latency: settings::PerClass { a: 0, b: 0 },
-    };
+    let port = settings::PortSettings::of_the_worked_example();
     let talker_pdu = [
         0x00, 0x01, 0x19, 0x00, 0x1e, 0x00, 0x01, 0x02, 0x00, 0x00, 0x00, 0x00, 0x01, 0x00, 0x01,
         0x91, 0xe0, 0xf0, 0x00, 0xfe, 0x00, 0x00, 0x02, 0x00, 0xe0, 0x00, 0x01, 0x70, 0x00, 0x00,

@@ -3,7 +3,7 @@
 use reference::bridge::{ReportAnswer, Table};
 use reference::declarations;
 use reference::frame::{FrameDraft, MessageDraft, VectorDraft};
-use reference::pdu::{AttributeType, Failure, ListenerType, Parameters, StreamId, Talker};
+use reference::pdu::{AttributeType, Failure, ListenerType, StreamId, Talker};
 use reference::settings::{self, PerClass, PortSettings, Settings};
 use reference::words;
 
@@ -24,14 +24,7 @@ pub const STREAM: StreamId = 0x0200_0000_0001_0001;
 
 /// A port of the worked example.
 pub fn port() -> PortSettings {
-    PortSettings {
-        supports: PerClass { a: true, b: true },
-        sends_twice: false,
-        overhead: 42,
-        largest_frame: 1522,
-        limit: PerClass { a: 75_000_000, b: 0 },
-        latency: PerClass { a: 0, b: 0 },
-    }
+    PortSettings::of_the_worked_example()
 }
 
 /// Settings of the worked example with so many ports.
@@ -52,19 +45,7 @@ pub fn started(settings: &Settings) -> Table {
 
 /// The worked example's Talker, rank 1, for a stream. Its destination follows the StreamID.
 pub fn talker(stream_id: StreamId) -> Talker {
-    Talker {
-        stream_id,
-        parameters: Parameters {
-            destination: 0x91e0_f000_0000 + (stream_id & 0xffff),
-            vlan: 2,
-            max_frame_size: 224,
-            max_interval_frames: 1,
-            priority: 3,
-            rank: 1,
-        },
-        accumulated_latency: 0,
-        failure: None,
-    }
+    Talker::of_the_worked_example(stream_id)
 }
 
 /// The same, failed.
