@@ -2,3 +2,5 @@ pub mod Started
 pub mod Starting
 pub mod OnTables
 pub mod Receiving
+pub mod Demand1
+pub mod Demand3
