@@ -1301,15 +1301,21 @@ pub fn calls(seed: u64) -> Script {
     Script { octets: history.octets, stops }
 }
 
+/// So many seeds from the first on.
+pub fn seeds(first: u64, count: u64) -> impl Iterator<Item = u64> {
+    (0..count).map(move |n| first.wrapping_add(n))
+}
+
 /// The scripts of several seeds as one input. One that stops would hide those behind it, so it
 /// is left out unless it is the last.
 pub fn calls_batch(first: u64, count: u64) -> Vec<u8> {
-    let mut octets = Vec::new();
-    for n in 0..count {
-        let script = calls(first.wrapping_add(n));
-        if !script.stops || n + 1 == count {
-            octets.extend(script.octets);
-        }
-    }
-    octets
+    let left_out = left_out_of_batch(first, count);
+    let taken = seeds(first, count).filter(|seed| !left_out.contains(seed));
+    taken.flat_map(|seed| calls(seed).octets).collect()
+}
+
+/// The seeds whose scripts a batch leaves out.
+pub fn left_out_of_batch(first: u64, count: u64) -> Vec<u64> {
+    let not_last = seeds(first, count.saturating_sub(1));
+    not_last.filter(|seed| calls(*seed).stops).collect()
 }

@@ -17,13 +17,14 @@
 //! * [`records`]: taking records from an input, and watching the calls they make;
 //! * [`sheet`], [`calls`]: the two programs;
 //! * [`script`]: inputs written by hand;
-//! * [`frame`], [`random`], [`generator`]: inputs for comparisons;
+//! * [`frame`], [`random`], [`generator`], [`files`]: inputs for comparisons;
 //! * [`coverage`]: what the generated inputs reach.
 
 pub mod bridge;
 pub mod calls;
 pub mod coverage;
 pub mod declarations;
+pub mod files;
 pub mod frame;
 pub mod generator;
 pub mod numbers;

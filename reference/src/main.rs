@@ -5,14 +5,17 @@
 //! * `calls`: srpcalls on standard input;
 //! * `records sheet`, `records calls`: the records of a text on standard input, as `script` tells;
 //! * `make sheet SEED`, `make calls SEED`, `make calls-batch FIRST COUNT`: generated inputs;
+//! * `make sheets FIRST COUNT FOLDER`, `make scripts FIRST COUNT FOLDER`: the same as files, with
+//!   what they print;
 //! * `coverage [N]`: what the generated inputs of the seeds below N reach.
 
 use std::io::{Read, Write};
+use std::path::PathBuf;
 use std::process::ExitCode;
 
 use reference::coverage::Coverage;
 use reference::script::{self, Program};
-use reference::{calls, generator, sheet};
+use reference::{calls, files, generator, sheet};
 
 const USAGE: &str = "\
 usage: reference
@@ -22,6 +25,8 @@ usage: reference
        reference make sheet SEED
        reference make calls SEED
        reference make calls-batch FIRST COUNT
+       reference make sheets FIRST COUNT FOLDER
+       reference make scripts FIRST COUNT FOLDER
        reference coverage [N]
 ";
 
@@ -34,6 +39,8 @@ enum Task {
     MakeSheet(u64),
     MakeCalls(u64),
     MakeCallsBatch(u64, u64),
+    MakeSheets(u64, u64, PathBuf),
+    MakeScripts(u64, u64, PathBuf),
     Coverage(u64),
 }
 
@@ -49,6 +56,12 @@ fn task(arguments: &[&str]) -> Option<Task> {
         ["make", "calls", seed] => Some(Task::MakeCalls(number(seed)?)),
         ["make", "calls-batch", first, count] => {
             Some(Task::MakeCallsBatch(number(first)?, number(count)?))
+        }
+        ["make", "sheets", first, count, folder] => {
+            Some(Task::MakeSheets(number(first)?, number(count)?, folder.into()))
+        }
+        ["make", "scripts", first, count, folder] => {
+            Some(Task::MakeScripts(number(first)?, number(count)?, folder.into()))
         }
         ["coverage"] => Some(Task::Coverage(1_000)),
         ["coverage", seeds] => Some(Task::Coverage(number(seeds)?)),
@@ -81,6 +94,14 @@ fn run(task: Task) -> std::io::Result<ExitCode> {
         Task::MakeSheet(seed) => generator::sheet(seed),
         Task::MakeCalls(seed) => generator::calls(seed).octets,
         Task::MakeCallsBatch(first, count) => generator::calls_batch(first, count),
+        Task::MakeSheets(first, count, folder) => {
+            files::sheets(first, count, &folder)?;
+            Vec::new()
+        }
+        Task::MakeScripts(first, count, folder) => {
+            files::scripts(first, count, &folder)?;
+            Vec::new()
+        }
         Task::Coverage(seeds) => {
             let (table, complete) = Coverage::of_seeds(seeds).table();
             if !complete {

@@ -9,7 +9,20 @@ use reference::{calls, sheet};
 /// Each text of a folder of examples prints what the folder's `sheet` or `calls` has.
 #[test]
 fn examples_print_what_is_expected() {
-    let folders = Path::new(env!("CARGO_MANIFEST_DIR")).join("../examples");
+    let count = texts_printed_as_expected("../examples");
+    assert!(count > 10, "only {count} examples");
+}
+
+/// So does each stored case.
+#[test]
+fn stored_cases_print_what_is_expected() {
+    let count = texts_printed_as_expected("../tests/cases");
+    assert!(count > 5, "only {count} cases");
+}
+
+/// How many texts the folders have; each prints what is expected.
+fn texts_printed_as_expected(folders: &str) -> usize {
+    let folders = Path::new(env!("CARGO_MANIFEST_DIR")).join(folders);
     let mut count = 0;
     for folder in fs::read_dir(folders).expect("the examples") {
         let folder = folder.expect("a folder").path();
@@ -24,7 +37,7 @@ fn examples_print_what_is_expected() {
             }
         }
     }
-    assert!(count > 10, "only {count} examples");
+    count
 }
 
 fn assert_prints(folder: &Path, file: &Path) {

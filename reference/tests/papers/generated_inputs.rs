@@ -34,6 +34,8 @@ fn a_batch_goes_on_to_its_last_script() {
         let stops = printed.lines().filter(|line| *line == "stop").count();
         assert_eq!(stops, usize::from(generator::calls(first + 59).stops));
     }
+    let left_out = generator::left_out_of_batch(0, 60);
+    assert!(!left_out.is_empty() && left_out.iter().all(|seed| generator::calls(*seed).stops));
     let alone = generator::calls(7);
     assert_eq!(generator::calls_batch(7, 1), alone.octets);
     assert!(generator::calls_batch(7, 0).is_empty());
