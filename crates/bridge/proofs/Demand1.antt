@@ -4,7 +4,7 @@
 -- 01's table says; a refusal leaves every octet of table and buffer, and gives zero or none for every other part of the answer;
 -- an accepted call leaves a table that keeps the form rules. write and report are lent the table to read only, so their contracts
 -- give none back. (That table, settings and PDU are octets, and a time is of 32 bits, is what the calls' types say.)
-use mathlib.Core.Path.{_≡_, sym, _∙_}
+use mathlib.Core.Path.{_≡_}
 use mathlib.Core.Logic.{_↔_, _⊎_}
 use mathlib.Core.List.{List, [], _∷_}
 use mathlib.Core.Bool.{true, false}
@@ -17,7 +17,7 @@ use Rattle.model.specs.Declarations.{Report, refusedReport, declarations}
 use Rattle.model.specs.Table.{decode, clockField, formed, tableLength, settingsFormed}
 use Rattle.model.proofs.FormKept.{Kept, start-formed, receive-formed, advance-formed}
 use Rattle.model.proofs.Refusals.{OneOf, OnPort}
-use Rattle.model.proofs.Refusals as Refusals
+use Rattle.model.proofs.Refusals
 use Rattle.bridge.specs.Promises.{Starts, Receives, Advances, Writes, Reports}
 
 -- Start with the settings s on the table t gives the number n and leaves the table u.

@@ -4,3 +4,4 @@ pub mod OnTables
 pub mod Receiving
 pub mod Demand1
 pub mod Demand3
+pub mod Demand2

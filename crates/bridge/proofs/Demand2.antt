@@ -1,0 +1,210 @@
+-- Demand 2, of the code: frames are read and written, and registrations, reservations and declarations decided, as the standard's
+-- rules give them. For each call one record says what an accepted call leaves or shows, and one theorem, whose premise is that
+-- call's contract (specs/Promises), that it does; so they hold of the code whatever the code is. A bridge that refuses all, has
+-- a single answer or does nothing does not meet Demand1's `accepted` and these; one that makes up totals, lengths or places does
+-- not meet `advance-decides`, `write-tells` and `report-shows`. (That table, settings and PDU are octets, and a time is of 32
+-- bits, is what the calls' types say.)
+use mathlib.Core.Path.{_≡_, refl, sym, _∙_, ap}
+use mathlib.Core.List.{List, [], _∷_, _++_, map}
+use mathlib.Core.Bool.{false}
+use Prim.Native.Nat.{ℕ, suc, _+_, _-_, _^_, _≤_, _<_}
+use native.Mathlib.Omega.{arith}
+use lib.ListN.{length, getD, take, drop, take-append-drop}
+use lib.Seq.{length-take-le, length-front, take-append-seam, drop-append-seam, drop-drop}
+use borrow.Author.Tests.{le-leb, le-ltb}
+use Rattle.octets.specs.Parts.{zeros}
+use Rattle.model.specs.Lists.{All, Octets}
+use Rattle.model.specs.State.{Settings, Stream, Bridge, started, portAt, resultAt, noTotals}
+use Rattle.model.specs.Registrations.{Answer, acts, applyAll, holding, together, ids, joins, received}
+use Rattle.model.specs.Frames.{Vector, found, walk, walked, frameActs, reading, wrongPort}
+use Rattle.model.specs.Settling.{settle}
+use Rattle.model.specs.Declarations.{Declaration, joinOf, takes, write, Report, wordOf, codeOf, streamAt, report}
+use Rattle.model.specs.WrittenFrames.{declarationVector, pduOctets}
+use Rattle.model.specs.Table.{encode, decode, tableLength, toSettings}
+use Rattle.model.specs.Calls.{Call, WriteCall, receive, writtenTo, writeOn, reportOn}
+use Rattle.model.proofs.Valid.{Valid, ValidStream}
+use Rattle.model.proofs.Tables.{decode-encode, valid-decode, valid-started}
+use Rattle.model.proofs.FrameOrder.{acts-ids, held-ids}
+use Rattle.model.proofs.ReceiveKeepsForm.{receive-keeps}
+use Rattle.model.proofs.AdvanceKeepsForm.{settle-keeps}
+use Rattle.model.proofs.ColumnRule.{Small, Advanced}
+use Rattle.model.proofs.OneSolution.{exactly-one}
+use Rattle.model.proofs.WritingPasses.{declared, write-from, next-place, next-further, run-fits, run-full}
+use Rattle.model.proofs.ReadBack.{read-back, neighbour-reads}
+use Rattle.model.proofs.Refusals.{OnPort, start-0, receive-0, advance-0, write-0, report-0}
+use Rattle.bridge.specs.Promises.{Starts, Receives, Advances, Writes, Reports}
+use Rattle.bridge.proofs.Started.{started-table}
+use Rattle.bridge.proofs.Starting.{start-accepted}
+use Rattle.bridge.proofs.OnTables.{receive-taken, advance-settles}
+
+-- An accepted start leaves the settings, and zeros behind them: a bridge with these settings, no streams, clock 0.
+pub start-leaves : (t s : List ℕ) (n : ℕ) (u : List ℕ) → Octets s → Starts t s n u → n ≡ 0 →
+    (u ≡ s ++ zeros (31824 - length s)) × (decode u ≡ started (toSettings s))
+unfolding tableLength
+start-leaves t s n u o call z =
+    let h = start-0 t s .0 (sym (call .0) ∙ z) in
+    let table : u ≡ s ++ zeros (31824 - length s) = call .1 ∙ ap (λ (c : Call). c .table) (start-accepted t s (h .0) (h .1) o) in
+    (table, ap decode (table ∙ sym (started-table s o (h .1))) ∙ decode-encode (started (toSettings s)) (valid-started s o (h .1)))
+
+-- What an accepted receive leaves: all events of all vectors of the PDU are applied in their order, and nothing else changes.
+pub record Registers (t : List ℕ) (p : ℕ) (pdu u : List ℕ) : Type 0 where
+  pub vectors : List Vector
+  pub read : walk pdu ≡ found vectors
+  pub bridge : decode u ≡ holding (decode t) (applyAll (decode t .clock) (p - 1) (frameActs vectors) (decode t .streams))
+  pub table : u ≡ encode (holding (decode t) (applyAll (decode t .clock) (p - 1) (frameActs vectors) (decode t .streams)))
+  -- every stream that it joins is held afterwards, and no other is added
+  pub joined : ids (decode u .streams) ≡ together (ids (decode t .streams)) (joins (frameActs vectors))
+
+received-all : (b : Bridge) (p : ℕ) (pdu : List ℕ) (vs : List Vector) → wrongPort (b .settings) p ≡ false → walk pdu ≡ found vs →
+    length (applyAll (b .clock) (p - 1) (frameActs vs) (b .streams)) ≤ 64 →
+    receive b p pdu ≡ record { number = 0; bridge = holding b (applyAll (b .clock) (p - 1) (frameActs vs) (b .streams)) }
+unfolding receive reading received walked
+received-all b p pdu vs w e l = rw (w, e, le-leb _ _ l)
+
+pub receive-registers : (t : List ℕ) (p : ℕ) (pdu : List ℕ) (n : ℕ) (u : List ℕ) → Octets t → Octets pdu → Receives t p pdu n u → n ≡ 0 →
+    Registers t p pdu u
+unfolding holding
+receive-registers t p pdu n u o q call z =
+    let h = receive-0 t p pdu .0 (sym (call .0) ∙ z) in
+    let b = decode t in
+    let vs = h .1 .0 in
+    let s = applyAll (b .clock) (p - 1) (frameActs vs) (b .streams) in
+    let same : ids s ≡ together (ids (b .streams)) (joins (frameActs vs)) = acts-ids (b .clock) (p - 1) (frameActs vs) (b .streams) in
+    let room : length s ≤ 64 = rw (held-ids s, same) (h .1 .2) in
+    let e = ap (λ (a : Answer). a .bridge) (received-all b p pdu vs (h .0 .1) (h .1 .1) room) in
+    let v : Valid (holding b s) = rw e at (receive-keeps b p pdu q (valid-decode t o (h .0 .0))) in
+    let table : u ≡ encode (holding b s) = call .1 ∙ ap (λ (c : Call). c .table) (receive-taken t p pdu (h .0 .0) (h .0 .1) vs (h .1 .1) room) in
+    let bridge : decode u ≡ holding b s = ap decode table ∙ decode-encode (holding b s) v in
+    record {
+      vectors = vs;
+      read = h .1 .1;
+      bridge = bridge;
+      table = table;
+      joined = ap (λ (c : Bridge). ids (c .streams)) bridge ∙ same;
+    }
+
+-- What an accepted advance leaves: the one bridge that the rules of settling give.
+pub record Decides (t : List ℕ) (time : ℕ) (u : List ℕ) : Type 0 where
+  pub bridge : decode u ≡ settle time (decode t)
+  pub table : u ≡ encode (settle time (decode t))
+  -- each column is the first step that applies; entries, latencies, ages and Listeners as 01 says; each class total is the sum of
+  -- what is reserved, and at most its limit
+  pub rules : Advanced time (decode t) (decode u)
+  pub no-other : (c : Bridge) → Advanced time (decode t) c → c ≡ decode u
+
+ids-small : (ports clock leave : ℕ) (s : List Stream) → All (ValidStream ports clock leave) s → All Small (ids s)
+unfolding ids
+ids-small ports clock leave [] a = tt
+ids-small ports clock leave (x ∷ s) a = (a .0 .id, ids-small ports clock leave s (a .1))
+
+pub advance-decides : (t : List ℕ) (time n : ℕ) (u : List ℕ) → Octets t → time < 2 ^ 32 → Advances t time n u → n ≡ 0 → Decides t time u
+unfolding decode
+advance-decides t time n u o small call z =
+    let h = advance-0 t time .0 (sym (call .0) ∙ z) in
+    let b = decode t in
+    let v : Valid b = valid-decode t o (h .0) in
+    let table : u ≡ encode (settle time b) = call .1 ∙ ap (λ (c : Call). c .table) (advance-settles t time (h .0) (h .1)) in
+    let bridge : decode u ≡ settle time b = ap decode table ∙ decode-encode (settle time b) (settle-keeps b time small (h .1) v) in
+    let one = exactly-one time b (v .ascending) (ids-small _ _ _ (b .streams) (v .streams)) in
+    record {
+      bridge = bridge;
+      table = table;
+      rules = rw bridge (one .0);
+      no-other = λ c a. one .1 c a ∙ sym bridge;
+    }
+
+-- What an accepted write leaves in the buffer and answers: one PDU with the port's declarations from that place on, as many as fit.
+pub record Tells (t : List ℕ) (p place : ℕ) (buffer : List ℕ) (long next : ℕ) (u : List ℕ) : Type 0 where
+  pub run : List Declaration
+  pub follows : run ++ drop next (declared (decode t) p) ≡ drop place (declared (decode t) p)
+  pub next-is : next ≡ place + length run
+  pub further : place < length (declared (decode t) p) → place < next
+  -- the PDU is in the buffer's first octets, and all behind it stays
+  pub pdu : take long u ≡ pduOctets run
+  pub behind : drop long u ≡ drop long buffer
+  pub same-length : length u ≡ length buffer
+  -- it is at most 1,500 octets, and one declaration more would pass that
+  pub fits : long ≤ 1500
+  pub full : next < length (declared (decode t) p) → 1500 < length (pduOctets (take (suc (length run)) (drop place (declared (decode t) p))))
+  -- it reads back as exactly these declarations, as joins, on any port of any bridge
+  pub vectors : walk (take long u) ≡ found (map declarationVector run)
+  pub neighbour : (st : Settings) (q : ℕ) → wrongPort st q ≡ false → reading st q (take long u) ≡ acts (map joinOf run)
+
+written : (t : List ℕ) (p place : ℕ) (buffer : List ℕ) → OnPort t p → 1500 ≤ length buffer → write (decode t) p place .number ≡ 0 →
+    let w = write (decode t) p place in
+    writeOn t p place buffer
+    ≡ record {
+      number = 0;
+      length = length (pduOctets (w .run));
+      next = w .next;
+      buffer = pduOctets (w .run) ++ drop (length (pduOctets (w .run))) buffer;
+    }
+unfolding writeOn writtenTo
+written t p place buffer h l z = rw (h .0, h .1, le-ltb _ _ l, z)
+
+pub write-tells : (t : List ℕ) (p place : ℕ) (buffer : List ℕ) (n long next : ℕ) (u : List ℕ) → Octets t →
+    Writes t p place buffer n long next u → n ≡ 0 → Tells t p place buffer long next u
+unfolding declared
+write-tells t p place buffer n long next u o call z =
+    let h = write-0 t p place buffer .0 (sym (call .0) ∙ z) in
+    let b = decode t in
+    let l : List Declaration = declared b p in
+    let rest : List Declaration = drop place l in
+    let from = write-from b p place (h .1 .1) in
+    let w = write b p place in
+    let s : List ℕ = pduOctets (w .run) in
+    let c = written t p place buffer (h .0) (h .1 .0) (rw from) in
+    let long-is : long ≡ length s = call .1 ∙ ap (λ (a : WriteCall). a .length) c in
+    let next-is : next ≡ w .next = call .2 ∙ ap (λ (a : WriteCall). a .next) c in
+    let left : u ≡ s ++ drop (length s) buffer = call .3 ∙ ap (λ (a : WriteCall). a .buffer) c in
+    let fits : length s ≤ 1500 = run-fits b p place in
+    let pdu : take long u ≡ s = rw (long-is, left) (take-append-seam s (drop (length s) buffer)) in
+    record {
+      run = w .run;
+      follows = rw (next-is, from, ← drop-drop (takes rest) place l) (take-append-drop (takes rest) rest);
+      next-is = next-is ∙ next-place b p place (h .1 .1);
+      further = λ k. rw next-is (next-further b p place k);
+      pdu = pdu;
+      behind = rw (long-is, left) (drop-append-seam s (drop (length s) buffer));
+      same-length = rw left (length-front buffer s (length s) (sym (length-take-le (length s) buffer (omega arith))));
+      fits = rw long-is fits;
+      full = rw next-is (run-full b p place (h .1 .1));
+      vectors = rw pdu (read-back b p place);
+      neighbour = λ st q k. rw pdu (neighbour-reads b (valid-decode t o (h .0 .0)) p place st q k);
+    }
+
+-- What an accepted report shows: what the table holds, each field as it was taken by the last advance.
+pub record Shows (t : List ℕ) (p place : ℕ) (r : Report) : Type 0 where
+  pub count : r .count ≡ length (decode t .streams)
+  pub totalA : r .totalA ≡ getD (decode t .totals) (p - 1) noTotals .totalA
+  pub limitA : r .limitA ≡ portAt (decode t .settings) (p - 1) .limitA
+  pub totalB : r .totalB ≡ getD (decode t .totals) (p - 1) noTotals .totalB
+  pub limitB : r .limitB ≡ portAt (decode t .settings) (p - 1) .limitB
+  -- of the stream at that place; past the last stream, zero and none
+  pub id : r .id ≡ streamAt (decode t .streams) place .id
+  pub column : r .column ≡ wordOf (resultAt (streamAt (decode t .streams) place) (p - 1) .column)
+  pub code : r .code ≡ codeOf (resultAt (streamAt (decode t .streams) place) (p - 1) .column)
+  pub listener : r .listener ≡ resultAt (streamAt (decode t .streams) place) (p - 1) .declares
+  pub entry : r .entry ≡ resultAt (streamAt (decode t .streams) place) (p - 1) .entry
+
+shows : (t : List ℕ) (p place : ℕ) → OnPort t p → place ≤ length (decode t .streams) → Shows t p place (reportOn t p place)
+unfolding reportOn report
+shows t p place h k =
+    rw (h .0, h .1, le-ltb _ _ k)
+    record {
+      count = refl;
+      totalA = refl;
+      limitA = refl;
+      totalB = refl;
+      limitB = refl;
+      id = refl;
+      column = refl;
+      code = refl;
+      listener = refl;
+      entry = refl;
+    }
+
+pub report-shows : (t : List ℕ) (p place : ℕ) (r : Report) → Reports t p place r → r .number ≡ 0 → Shows t p place r
+report-shows t p place r call z =
+    let h = report-0 t p place .0 (rw call at z) in
+    rw call (shows t p place (h .0) (h .1))
