@@ -34,7 +34,7 @@ laid-record-length s l = ap length (laid-stream-is s l) ∙ stream-size (toStrea
 -- A result's numbers.
 
 -- the octet of field i
-result-octet : (s : List ℕ) (l : LaidStream s) (p a i : ℕ) → p < 8 → a ≡ 333 + 20 * p + width (take i resultWidths) → getD resultWidths i 0 ≡ 1
+pub result-octet : (s : List ℕ) (l : LaidStream s) (p a i : ℕ) → p < 8 → a ≡ 333 + 20 * p + width (take i resultWidths) → getD resultWidths i 0 ≡ 1
     → width (take i resultWidths) < 20 → getD s a 0 ≡ getD (resultNumbers (resultAt (toStream s) p)) i 0
 result-octet s l p a i h e o k =
     let x = toStream s in
@@ -48,7 +48,7 @@ result-octet s l p a i h e o k =
 
 -- Whether the stream of a record declares a type, by its result's octets.
 module _ (s : List ℕ) (l : LaidStream s) (p : ℕ) (h : p < 8) where
-  column-octet : getD s (333 + 20 * p) 0 ≡ columnNumber (resultAt (toStream s) p .column)
+  pub column-octet : getD s (333 + 20 * p) 0 ≡ columnNumber (resultAt (toStream s) p .column)
   unfolding width resultWidths resultNumbers
   column-octet = result-octet s l p (333 + 20 * p) 0 h (omega arith) refl (omega arith)
 

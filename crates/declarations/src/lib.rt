@@ -1,4 +1,5 @@
-// What a port writes: its declarations by place, and the PDU that takes as many as fit from a place on.
+// What a port writes: its declarations by place, and the PDU that takes as many as fit from a place on. What a report shows of a
+// port and of a stream.
 ghost use mathlib.Core.Path.{_≡_};
 ghost use mathlib.Core.List.{[], _∷_, _++_};
 ghost use mathlib.Core.Bool.{true};
@@ -8,12 +9,13 @@ ghost use Rattle.octets.specs.Be.{be};
 ghost use Rattle.octets.specs.Parts.{part};
 ghost use Rattle.model.specs.Frames.{registers, firstLength};
 ghost use Rattle.model.specs.Declarations as model;
-ghost use Rattle.model.specs.Declarations.{vectorSize, ofKind};
+ghost use Rattle.model.specs.Declarations.{vectorSize, ofKind, wordOf, streamAt, refusedReport};
 ghost use Rattle.model.specs.WrittenFrames.{typeNumber, messageOctets};
-ghost use Rattle.model.specs.Table.{toStream, decode};
+ghost use Rattle.model.specs.Table.{toColumn, toEntry, toDeclared, toStream, decode};
 ghost use Rattle.model.specs.Laid.{LaidStream, Laid};
 ghost use Rattle.declarations.specs.Passes as passes;
 ghost use Rattle.declarations.specs.Passes.{kind, some, vectors, passed, written, PduWritten};
+ghost use Rattle.declarations.specs.Shown.{columnWord, declared, entered, shown, ShowsStream, ShowsPort};
 
 // The longest PDU, in octets.
 const LONGEST: usize = 1500;
@@ -24,12 +26,25 @@ const JOIN_MT: u64 = 108;
 // Within a stream record: StreamID and settled values stand first, this long.
 const NAME: usize = table::CELLS;
 
-// Within the results: column, latency (Bridge ID and code follow it), Listener declared.
+// Within the results: column, latency (Bridge ID and code follow it), code, entry, Listener declared.
 const COLUMN: usize = table::RESULTS;
 
 const LATENCY: usize = table::RESULTS + 1;
 
+const CODE: usize = table::RESULTS + 13;
+
+const ENTRY: usize = table::RESULTS + 14;
+
 const DECLARED: usize = table::RESULTS + 19;
+
+// In a table: of the first port, the limits of class A and class B, and the totals.
+const LIMIT_A: usize = table::PORTS + 4;
+
+const LIMIT_B: usize = table::PORTS + 9;
+
+const TOTAL_A: usize = table::TOTALS;
+
+const TOTAL_B: usize = table::TOTALS + 5;
 
 // The types of declarations, in the order in which they are written.
 pub enum Attribute {
@@ -297,5 +312,191 @@ pub fn write_pdu(table: &[u8], p: usize, place: usize, buffer: &mut [u8]) -> Tak
     Taken {
         length: end + 2,
         next: l.next,
+    }
+}
+
+// The words of a report.
+pub enum ColumnShown {
+    None,
+    Advertise,
+    Failed,
+}
+
+pub enum ListenerShown {
+    None,
+    AskingFailed,
+    Ready,
+    ReadyFailed,
+}
+
+pub enum EntryShown {
+    None,
+    Filter,
+    Forward,
+}
+
+// What report answers.
+pub struct Reported {
+    pub number: u8,
+    pub count: usize,
+    pub total_a: u64,
+    pub limit_a: u64,
+    pub total_b: u64,
+    pub limit_b: u64,
+    pub id: u64,
+    pub column: ColumnShown,
+    pub code: u8,
+    pub listener: ListenerShown,
+    pub entry: EntryShown,
+}
+
+// What is shown of a stream.
+pub struct StreamShown {
+    pub id: u64,
+    pub column: ColumnShown,
+    pub code: u8,
+    pub listener: ListenerShown,
+    pub entry: EntryShown,
+}
+
+// What is shown of a port.
+pub struct PortShown {
+    pub total_a: u64,
+    pub limit_a: u64,
+    pub total_b: u64,
+    pub limit_b: u64,
+}
+
+// The word of a column's number.
+fn column_shown(number: u8) -> ColumnShown
+    ensures { λ r. ⌜ columnWord r ≡ wordOf (toColumn number 0 0) ⌝ }
+{
+    if number == 0 {
+        return ColumnShown::None;
+    }
+    if number == 1 {
+        return ColumnShown::Advertise;
+    }
+    ColumnShown::Failed
+}
+
+// The word of a Listener's number.
+fn listener_shown(number: u8) -> ListenerShown
+    ensures { λ r. ⌜ declared r ≡ toDeclared number ⌝ }
+{
+    if number == 0 {
+        return ListenerShown::None;
+    }
+    if number == 1 {
+        return ListenerShown::AskingFailed;
+    }
+    if number == 2 {
+        return ListenerShown::Ready;
+    }
+    ListenerShown::ReadyFailed
+}
+
+// The word of an entry's number.
+fn entry_shown(number: u8) -> EntryShown
+    ensures { λ r. ⌜ entered r ≡ toEntry number ⌝ }
+{
+    if number == 0 {
+        return EntryShown::None;
+    }
+    if number == 1 {
+        return EntryShown::Filter;
+    }
+    EntryShown::Forward
+}
+
+// The stream of a record, as the last advance settled it on the port at place p.
+fn stream_shown(rec: &[u8], p: usize) -> StreamShown
+    requires { ⌜ LaidStream (now rec) × (p < 8) ⌝ }
+    ensures { λ r. ⌜ ShowsStream (toStream (now (rec .entry))) p r ⌝ }
+{
+    let a = table::RESULT * p;
+    StreamShown {
+        id: octets::get(rec, 0, 8),
+        column: column_shown(rec[COLUMN + a]),
+        code: rec[CODE + a],
+        listener: listener_shown(rec[DECLARED + a]),
+        entry: entry_shown(rec[ENTRY + a]),
+    }
+}
+
+// The stream at a place; past the last one there is nothing to show.
+fn stream_at(table: &[u8], p: usize, place: usize) -> StreamShown
+    requires { ⌜ Laid (now table) × (p < 8) × (place ≤ length (decode (now table) .streams)) ⌝ }
+    ensures { λ r. ⌜ ShowsStream (streamAt (decode (now (table .entry)) .streams) place) p r ⌝ }
+{
+    let count = table::count(table);
+    if place < count {
+        let a = table::RECORDS + table::RECORD * place;
+        return stream_shown(&table[a..a + table::RECORD], p);
+    }
+    StreamShown {
+        id: 0,
+        column: ColumnShown::None,
+        code: 0,
+        listener: ListenerShown::None,
+        entry: EntryShown::None,
+    }
+}
+
+// Class totals and limits of the port at place p.
+fn port_shown(table: &[u8], p: usize) -> PortShown
+    requires { ⌜ Laid (now table) × (p < 8) ⌝ }
+    ensures { λ r. ⌜ ShowsPort (decode (now (table .entry))) p r ⌝ }
+{
+    PortShown {
+        total_a: octets::get(table, TOTAL_A + table::TOTAL * p, 5),
+        limit_a: octets::get(table, LIMIT_A + table::PORT * p, 5),
+        total_b: octets::get(table, TOTAL_B + table::TOTAL * p, 5),
+        limit_b: octets::get(table, LIMIT_B + table::PORT * p, 5),
+    }
+}
+
+// A report that is refused: its number, and nothing to show.
+pub fn refused_report(number: u8) -> Reported
+    ensures { λ r. ⌜ shown r ≡ refusedReport number ⌝ }
+{
+    Reported {
+        number,
+        count: 0,
+        total_a: 0,
+        limit_a: 0,
+        total_b: 0,
+        limit_b: 0,
+        id: 0,
+        column: ColumnShown::None,
+        code: 0,
+        listener: ListenerShown::None,
+        entry: EntryShown::None,
+    }
+}
+
+// The report of the port at place p, with the stream at a place.
+pub fn report_at(table: &[u8], p: usize, place: usize) -> Reported
+    requires { ⌜ Laid (now table) × (p < 8) × (place ≤ length (decode (now table) .streams)) ⌝ }
+    ensures { λ r. ⌜ shown r ≡ model.report (decode (now (table .entry))) (p + 1) place ⌝ }
+{
+    let count = table::count(table);
+    let port = port_shown(table, p);
+    let stream = stream_at(table, p, place);
+    let column = stream.column;
+    let listener = stream.listener;
+    let entry = stream.entry;
+    Reported {
+        number: 0,
+        count,
+        total_a: port.total_a,
+        limit_a: port.limit_a,
+        total_b: port.total_b,
+        limit_b: port.limit_b,
+        id: stream.id,
+        column,
+        code: stream.code,
+        listener,
+        entry,
     }
 }
