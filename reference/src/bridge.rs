@@ -1,4 +1,6 @@
 //! The bridge and its five calls (01, "What the bridge does" and "Numbers given back").
+//!
+//! [`Bridge`] makes them on what a table holds, [`Table`] on the octets that a caller lends.
 
 use crate::declarations;
 use crate::numbers::{self, Number};
@@ -6,50 +8,7 @@ use crate::pdu::{self, ListenerType, StreamId, LONGEST_PDU};
 use crate::registrations::{Registrations, MOST_STREAMS};
 use crate::settings::{self, PerClass, Settings};
 use crate::settling::{self, Column, Entry, Settled};
-
-/// The length in octets of the table that a caller lends; one length for every port count.
-pub const TABLE_LENGTH: usize = 31_824;
-
-/// A bridge between two calls.
-#[derive(Clone, Debug, PartialEq, Eq)]
-pub struct Bridge {
-    pub settings: Settings,
-    /// Hundredths of a second, 0 at start.
-    pub clock: u32,
-    pub registrations: Registrations,
-    pub settled: Settled,
-}
-
-impl Bridge {
-    fn started(settings: Settings) -> Bridge {
-        let port_count = settings.ports.len();
-        Bridge {
-            settings,
-            clock: 0,
-            registrations: Registrations::none(port_count),
-            settled: Settled::empty(port_count),
-        }
-    }
-
-    /// The port, if it is one of the bridge's.
-    fn port(&self, port: u32) -> Result<usize, Number> {
-        let port = port as usize;
-        if port == 0 || port > self.settings.ports.len() {
-            Err(numbers::PORT)
-        } else {
-            Ok(port)
-        }
-    }
-}
-
-/// The table lent to a call. This program lays out no octets: a table has the length that is
-/// lent, and holds a bridge or, as zeros do, none. Another length than [`TABLE_LENGTH`], or no
-/// bridge, is number 12.
-#[derive(Clone, Debug, PartialEq, Eq)]
-pub struct Table {
-    pub lent_length: usize,
-    pub bridge: Option<Bridge>,
-}
+use crate::table::{self, TABLE_LENGTH};
 
 /// What write gives back besides octets in the buffer.
 #[derive(Clone, Copy, Debug, Default, PartialEq, Eq)]
@@ -97,99 +56,66 @@ impl ReportAnswer {
     }
 }
 
-fn number_of(answer: Result<(), Number>) -> Number {
-    match answer {
-        Ok(()) => numbers::ACCEPTED,
-        Err(number) => number,
-    }
+/// A bridge between two calls.
+#[derive(Clone, Debug, PartialEq, Eq)]
+pub struct Bridge {
+    pub settings: Settings,
+    /// Hundredths of a second, 0 at start.
+    pub clock: u32,
+    pub registrations: Registrations,
+    pub settled: Settled,
 }
 
-impl Table {
-    /// A table of zeros of the right length.
-    pub fn zeros() -> Table {
-        Table { lent_length: TABLE_LENGTH, bridge: None }
-    }
-
-    /// The bridge that every call but start needs (12).
-    fn held(&self) -> Result<&Bridge, Number> {
-        match &self.bridge {
-            Some(bridge) if self.lent_length == TABLE_LENGTH => Ok(bridge),
-            _ => Err(numbers::TABLE),
+impl Bridge {
+    fn started(settings: Settings) -> Bridge {
+        let port_count = settings.ports.len();
+        Bridge {
+            settings,
+            clock: 0,
+            registrations: Registrations::none(port_count),
+            settled: Settled::empty(port_count),
         }
     }
 
-    fn held_mut(&mut self) -> Result<&mut Bridge, Number> {
-        self.held()?;
-        self.bridge.as_mut().ok_or(numbers::TABLE)
-    }
-
-    /// start: a wrong table length (12), then the settings (11). Empties all and sets the clock
-    /// to 0.
-    pub fn start(&mut self, settings: &[u8]) -> Number {
-        if self.lent_length != TABLE_LENGTH {
-            return numbers::TABLE;
-        }
-        match settings::read(settings) {
-            Some(settings) => {
-                self.bridge = Some(Bridge::started(settings));
-                numbers::ACCEPTED
-            }
-            None => numbers::SETTINGS,
+    /// The port, if it is one of the bridge's.
+    fn port(&self, port: u32) -> Result<usize, Number> {
+        let port = port as usize;
+        if port == 0 || port > self.settings.ports.len() {
+            Err(numbers::PORT)
+        } else {
+            Ok(port)
         }
     }
-
-    /// receive: 12, 1, 2, the walk from the front, 8. Registers what the PDU asks for.
-    pub fn receive(&mut self, port: u32, pdu: &[u8]) -> Number {
-        number_of(self.try_receive(port, pdu))
-    }
-
-    fn try_receive(&mut self, port: u32, pdu: &[u8]) -> Result<(), Number> {
-        let bridge = self.held_mut()?;
-        let port = bridge.port(port)?;
+    /// receive: 1, 2, the walk from the front, 8. Registers what the PDU asks for.
+    fn receive(&mut self, port: u32, pdu: &[u8]) -> Result<(), Number> {
+        let port = self.port(port)?;
         let pdu = pdu::read(pdu).map_err(|fault| fault.number)?;
-        if bridge.registrations.streams_with(&pdu) > MOST_STREAMS {
+        if self.registrations.streams_with(&pdu) > MOST_STREAMS {
             return Err(numbers::STREAMS);
         }
-        bridge.registrations.apply(port, &pdu, bridge.clock);
+        self.registrations.apply(port, &pdu, self.clock);
         Ok(())
     }
 
-    /// advance: 12, 9. Sets the clock, removes what has left, drops unheld streams, decides.
-    pub fn advance(&mut self, time: u32) -> Number {
-        number_of(self.try_advance(time))
-    }
-
-    fn try_advance(&mut self, time: u32) -> Result<(), Number> {
-        let bridge = self.held_mut()?;
-        if time < bridge.clock {
+    /// advance: 9. Sets the clock, removes what has left, drops unheld streams, decides.
+    fn advance(&mut self, time: u32) -> Result<(), Number> {
+        if time < self.clock {
             return Err(numbers::TIME);
         }
-        bridge.clock = time;
-        bridge.registrations.remove_left(bridge.clock, bridge.settings.leave_time);
-        bridge.settled = settling::settle(
-            &bridge.settings,
-            &bridge.registrations,
-            bridge.clock,
-            &bridge.settled,
-        );
+        self.clock = time;
+        self.registrations.remove_left(self.clock, self.settings.leave_time);
+        self.settled =
+            settling::settle(&self.settings, &self.registrations, self.clock, &self.settled);
         Ok(())
     }
 
-    /// write: 12, 1, 10, 13. Writes declarations of the port from that place on.
-    pub fn write(&self, port: u32, place: u32, buffer: &mut [u8]) -> WriteAnswer {
-        match self.try_write(port, place, buffer) {
-            Ok(answer) => answer,
-            Err(number) => WriteAnswer { number, ..WriteAnswer::default() },
-        }
-    }
-
-    fn try_write(&self, port: u32, place: u32, buffer: &mut [u8]) -> Result<WriteAnswer, Number> {
-        let bridge = self.held()?;
-        let port = bridge.port(port)?;
+    /// write: 1, 10, 13. Writes declarations of the port from that place on.
+    fn write(&self, port: u32, place: u32, buffer: &mut [u8]) -> Result<WriteAnswer, Number> {
+        let port = self.port(port)?;
         if buffer.len() < LONGEST_PDU {
             return Err(numbers::BUFFER);
         }
-        let declarations = declarations::of_port(&bridge.settled, port);
+        let declarations = declarations::of_port(&self.settled, port);
         let place = place as usize;
         if place > declarations.len() {
             return Err(numbers::PLACE);
@@ -199,39 +125,138 @@ impl Table {
         Ok(WriteAnswer { number: numbers::ACCEPTED, length: pdu.len(), next_place: place + taken })
     }
 
-    /// report: 12, 1, 13.
-    pub fn report(&self, port: u32, place: u32) -> ReportAnswer {
-        match self.try_report(port, place) {
-            Ok(answer) => answer,
-            Err(number) => ReportAnswer::refused(number),
-        }
-    }
-
-    fn try_report(&self, port: u32, place: u32) -> Result<ReportAnswer, Number> {
-        let bridge = self.held()?;
-        let port = bridge.port(port)?;
+    /// report: 1, 13.
+    fn report(&self, port: u32, place: u32) -> Result<ReportAnswer, Number> {
+        let port = self.port(port)?;
         let place = place as usize;
-        let count = bridge.registrations.streams.len();
+        let count = self.registrations.streams.len();
         if place > count {
             return Err(numbers::PLACE);
         }
         let mut answer = ReportAnswer {
             count,
-            totals: bridge.settled.totals[port - 1],
-            limits: bridge.settings.ports[port - 1].limit,
+            totals: self.settled.totals[port - 1],
+            limits: self.settings.ports[port - 1].limit,
             ..ReportAnswer::refused(numbers::ACCEPTED)
         };
         // At place = count there is no stream, and the five parts are zero or none.
-        if let Some(stream_id) = bridge.registrations.streams.keys().nth(place) {
+        if let Some(stream_id) = self.registrations.streams.keys().nth(place) {
             answer.stream_id = *stream_id;
             // A stream joined since the last advance shows none, 0, none, none.
-            if let Some(settled_ports) = bridge.settled.streams.get(stream_id) {
-                let settled_on_port = &settled_ports[port - 1];
-                answer.column = settled_on_port.column();
+            if let Some(settled) = self.settled.streams.get(stream_id) {
+                let settled_on_port = &settled.ports[port - 1];
+                answer.column = settled_on_port.column;
                 answer.listener = settled_on_port.listener;
                 answer.entry = settled_on_port.entry;
             }
         }
         Ok(answer)
+    }
+}
+
+/// The room for a table, and how much of it calls are lent. Its octets are the whole state: an
+/// accepted call lays the bridge out, and the next one is made on the bridge taken from them.
+#[derive(Clone, Debug, PartialEq, Eq)]
+pub struct Table {
+    room: Vec<u8>,
+    /// At most the room.
+    lent_length: usize,
+    /// The bridge that the octets lent hold, taken from them whenever they change.
+    bridge: Option<Bridge>,
+}
+
+/// The room is 64 octets longer than the table.
+pub const ROOM_LENGTH: usize = TABLE_LENGTH + 64;
+
+impl Table {
+    /// A room of zeros, of which the table's length is lent.
+    pub fn zeros() -> Table {
+        Table { room: vec![0; ROOM_LENGTH], lent_length: TABLE_LENGTH, bridge: None }
+    }
+
+    /// From now on calls are lent the first so many octets of the room, at most the room.
+    pub fn lend(&mut self, length: usize) {
+        self.lent_length = length.min(ROOM_LENGTH);
+        self.bridge = table::decode(self.lent());
+    }
+
+    /// Stores an octet at a place of the room; past it nothing happens.
+    pub fn store(&mut self, place: usize, octet: u8) {
+        if let Some(stored) = self.room.get_mut(place) {
+            *stored = octet;
+            self.bridge = table::decode(self.lent());
+        }
+    }
+
+    /// The octets that calls are lent.
+    pub fn lent(&self) -> &[u8] {
+        &self.room[..self.lent_length]
+    }
+
+    /// The bridge held; none where the octets lent break a form rule (12).
+    pub fn bridge(&self) -> Option<&Bridge> {
+        self.bridge.as_ref()
+    }
+
+    fn lay_out(&mut self, bridge: &Bridge) {
+        self.room[..TABLE_LENGTH].copy_from_slice(&table::encode(bridge));
+        self.bridge = table::decode(self.lent());
+    }
+
+    /// A call that changes the bridge held; refused, it changes no octet.
+    fn change(&mut self, call: impl FnOnce(&mut Bridge) -> Result<(), Number>) -> Number {
+        let Some(mut bridge) = self.bridge.clone() else {
+            return numbers::TABLE;
+        };
+        match call(&mut bridge) {
+            Ok(()) => {
+                self.lay_out(&bridge);
+                numbers::ACCEPTED
+            }
+            Err(number) => number,
+        }
+    }
+
+    /// start: a wrong table length (12), then the settings (11). Empties all and sets the clock
+    /// to 0, whatever octets the table had.
+    pub fn start(&mut self, settings: &[u8]) -> Number {
+        if self.lent_length != TABLE_LENGTH {
+            return numbers::TABLE;
+        }
+        match settings::read(settings) {
+            Some(settings) => {
+                self.lay_out(&Bridge::started(settings));
+                numbers::ACCEPTED
+            }
+            None => numbers::SETTINGS,
+        }
+    }
+
+    /// receive: 12, then as [`Bridge`] does.
+    pub fn receive(&mut self, port: u32, pdu: &[u8]) -> Number {
+        self.change(|bridge| bridge.receive(port, pdu))
+    }
+
+    /// advance: 12, then as [`Bridge`] does.
+    pub fn advance(&mut self, time: u32) -> Number {
+        self.change(|bridge| bridge.advance(time))
+    }
+
+    /// write: 12, then as [`Bridge`] does.
+    pub fn write(&self, port: u32, place: u32, buffer: &mut [u8]) -> WriteAnswer {
+        let bridge = self.bridge().ok_or(numbers::TABLE);
+        match bridge.and_then(|bridge| bridge.write(port, place, buffer)) {
+            Ok(answer) => answer,
+            Err(number) => WriteAnswer { number, ..WriteAnswer::default() },
+        }
+    }
+
+    /// report: 12, then as [`Bridge`] does.
+    pub fn report(&self, port: u32, place: u32) -> ReportAnswer {
+        let bridge = self.bridge().ok_or(numbers::TABLE);
+        match bridge.and_then(|bridge| bridge.report(port, place)) {
+            Ok(answer) => answer,
+            Err(number) => ReportAnswer::refused(number),
+        }
     }
 }

@@ -1,18 +1,11 @@
 //! The program srpcalls, a console for the five calls.
-//!
-//! This program lays out no octets of a table. So records 60 and 61 print `table -` and
-//! `octets -`, and record 50 does nothing: inputs for comparisons have no record 60 or 61, and
-//! record 50 only at places at or above the table's length, where it changes nothing that calls
-//! are lent while the table's length is lent.
 
 use std::fmt::Write;
 
-use crate::bridge::{ReportAnswer, Table, TABLE_LENGTH};
+use crate::bridge::{ReportAnswer, Table};
 use crate::records::{Call, Input, Unwatched, Watcher};
 use crate::words;
 
-/// The room for the table is 64 octets longer than the table.
-pub const ROOM_LENGTH: usize = TABLE_LENGTH + 64;
 /// A buffer length above this counts as this.
 pub const LONGEST_BUFFER: usize = 2_048;
 /// What start and receive are handed is cut to so many octets.
@@ -48,7 +41,7 @@ enum Record<'a> {
     Advance(u32),
     Write { port: u32, place: u32, buffer_length: usize },
     Report { port: u32, place: u32 },
-    Store,
+    Store { place: usize, octet: u8 },
     Lend(usize),
     Sum,
     Octets,
@@ -69,8 +62,8 @@ fn take_record<'a>(input: &mut Input<'a>) -> Option<Record<'a>> {
         }
         0x40..=0x4f => Some(Record::Report { port, place: u32::from(input.u16()?) }),
         0x50 => {
-            input.octets(3)?; // a place and an octet
-            Some(Record::Store)
+            let place = usize::from(input.u16()?);
+            Some(Record::Store { place, octet: input.octet()? })
         }
         0x51 => Some(Record::Lend(usize::from(input.u16()?))),
         0x60 => Some(Record::Sum),
@@ -108,28 +101,53 @@ fn make(table: &mut Table, record: &Record, watcher: &mut dyn Watcher) -> String
             let (written, past) = buffer.split_at(answer.length);
             let kept = if past.iter().all(|octet| *octet == FILLING) { "kept" } else { "spoiled" };
             let (number, length, next) = (answer.number, answer.length, answer.next_place);
-            let mut line = format!("write {number} {length} {next} {kept}");
-            if !written.is_empty() {
-                line.push(' ');
-            }
-            for octet in written {
-                write!(line, "{octet:02x}").expect("a String takes all");
-            }
-            line + "\n"
+            with_octets(&format!("write {number} {length} {next} {kept}"), written)
         }
         Record::Report { port, place } => {
             let answer = table.report(port, place);
             watcher.called(&Call::Report { port, place, answer }, answer.number, table);
             report_line(&answer)
         }
-        Record::Store => String::new(),
-        Record::Lend(length) => {
-            table.lent_length = length.min(ROOM_LENGTH);
+        Record::Store { place, octet } => {
+            table.store(place, octet);
+            watcher.stored(table);
             String::new()
         }
-        Record::Sum => "table -\n".to_string(),
-        Record::Octets => "octets -\n".to_string(),
+        Record::Lend(length) => {
+            table.lend(length);
+            String::new()
+        }
+        Record::Sum => format!("table {:08x}\n", adler_32(table.lent())),
+        Record::Octets => with_octets("octets", table.lent()),
     }
+}
+
+/// Adler-32 (RFC 1950): the sum of the octets and one, and the sum of these sums, both modulo
+/// 65,521.
+pub fn adler_32(octets: &[u8]) -> u32 {
+    let (mut sum, mut sum_of_sums) = (1, 0);
+    // So few octets at a time that no sum reaches 2^32 before the remainder is taken.
+    for part in octets.chunks(4_096) {
+        for octet in part {
+            sum += u32::from(*octet);
+            sum_of_sums += sum;
+        }
+        sum %= 65_521;
+        sum_of_sums %= 65_521;
+    }
+    sum_of_sums << 16 | sum
+}
+
+/// A line that ends with octets, two lower-case hex digits each; without any, after its words.
+fn with_octets(words: &str, octets: &[u8]) -> String {
+    let mut line = words.to_string();
+    if !octets.is_empty() {
+        line.push(' ');
+    }
+    for octet in octets {
+        write!(line, "{octet:02x}").expect("a String takes all");
+    }
+    line + "\n"
 }
 
 fn report_line(answer: &ReportAnswer) -> String {

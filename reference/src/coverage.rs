@@ -12,7 +12,7 @@ use crate::pdu::{self, AttributeType, Event, Message, Pdu, Value, Vector, LONGES
 use crate::records::{Call, Watcher};
 use crate::registrations::MOST_STREAMS;
 use crate::settings::{self, Settings, MOST_PORTS};
-use crate::settling::{self, ByStreamAndPort, Column, Decision, Step};
+use crate::settling::{self, ByStreamAndPort, Column, Decision, SettledStream, Step};
 use crate::sheet;
 use crate::words;
 
@@ -214,8 +214,8 @@ fn is_talker(attribute_type: AttributeType) -> bool {
 /// The decisions that the last advance came to. They follow from what it left.
 fn decisions(bridge: &Bridge) -> ByStreamAndPort<Decision> {
     let mut since = BTreeMap::new();
-    for (stream_id, ports) in &bridge.settled.streams {
-        for (port, settled_on_port) in (1..).zip(ports) {
+    for (stream_id, settled) in &bridge.settled.streams {
+        for (port, settled_on_port) in (1..).zip(&settled.ports) {
             if let Some(second) = settled_on_port.entry_since {
                 since.insert((*stream_id, port), second);
             }
@@ -519,15 +519,15 @@ impl Coverage {
             if let Some(code) = own_code {
                 self.count(&format!("own failure {code}"));
             }
-            let settled_on_port = &bridge.settled.streams[&stream_id][port - 1];
-            if let (Step::C, Column::Failed(failure)) = (decision.step, settled_on_port.column()) {
+            let settled_on_port = &bridge.settled.streams[&stream_id].ports[port - 1];
+            if let (Step::C, Column::Failed(failure)) = (decision.step, settled_on_port.column) {
                 self.count(match failure.code {
                     0 => "registered failure, code 0",
                     255 => "registered failure, code 255",
                     _ => "registered failure, code 1 to 254",
                 });
             }
-            self.count(&format!("column {}", words::column(settled_on_port.column())));
+            self.count(&format!("column {}", words::column(settled_on_port.column)));
             self.count(&format!("listener declared {}", words::listener(settled_on_port.listener)));
             self.count(&format!("entry {}", words::entry(settled_on_port.entry)));
             let on_port = &bridge.registrations.streams[&stream_id][port - 1];
@@ -562,11 +562,12 @@ impl Coverage {
     }
 
     fn latency(&mut self, bridge: &Bridge, stream_id: u64, port: usize) {
-        let Some(declared) = bridge.settled.streams[&stream_id][port - 1].talker else {
+        let settled = &bridge.settled.streams[&stream_id];
+        if settled.ports[port - 1].column == Column::None {
             return;
-        };
+        }
         let Settings { ports, .. } = &bridge.settings;
-        let Some(class) = bridge.settings.class_of(declared.parameters.priority) else {
+        let Some(class) = bridge.settings.class_of(settled.parameters.priority) else {
             return;
         };
         let at = talker_port(bridge, stream_id).expect("a Talker is declared");
@@ -601,7 +602,7 @@ impl Coverage {
                     continue;
                 }
                 let since = |stream_id: &u64| {
-                    bridge.settled.streams[stream_id][port - 1].entry_since.expect("an entry")
+                    bridge.settled.streams[stream_id].ports[port - 1].entry_since.expect("an entry")
                 };
                 let importance = (rank, since(admitted), *admitted);
                 let other_importance = (other_rank, since(failed), *failed);
@@ -648,7 +649,8 @@ impl Coverage {
         self.count_if("report at place = count", accepted && place == count);
         self.count_if("report at place = count + 1", !accepted && place == count + 1);
         if let Some(stream_id) = bridge.registrations.streams.keys().nth(place) {
-            let joined_since = !bridge.settled.streams.contains_key(stream_id);
+            let none = SettledStream::none(bridge.settings.ports.len());
+            let joined_since = bridge.settled.streams[stream_id] == none;
             self.count_if("report of a stream joined since", joined_since);
         }
     }
@@ -670,11 +672,12 @@ impl Watcher for Coverage {
             Call::Report { .. } => "report",
         };
         self.count(&format!("{name} {number}"));
+        let bridge = table.bridge();
         if let Call::Start(octets) = call {
             self.started(octets, number);
         }
         let reached = number != numbers::TABLE && number != numbers::PORT;
-        if let (Some(bridge), true) = (&table.bridge, reached) {
+        if let (Some(bridge), true) = (bridge, reached) {
             match call {
                 Call::Start(_) => {}
                 Call::Receive(port, octets) => self.received(*port, octets, number, bridge),
@@ -691,8 +694,12 @@ impl Watcher for Coverage {
             }
         }
         let changed = matches!(call, Call::Start(_) | Call::Receive(..) | Call::Advance(_));
-        if changed {
-            self.before = table.bridge.clone();
+        if changed && number == numbers::ACCEPTED {
+            self.before = bridge.cloned();
         }
+    }
+
+    fn stored(&mut self, table: &Table) {
+        self.before = table.bridge().cloned();
     }
 }

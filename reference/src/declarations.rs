@@ -2,7 +2,7 @@
 //! 35.2.2).
 
 use crate::pdu::{AttributeType, ListenerType, StreamId, Talker, END_MARK, LONGEST_PDU};
-use crate::settling::Settled;
+use crate::settling::{Column, Settled};
 
 /// A declaration of a port.
 #[derive(Clone, Copy, Debug, PartialEq, Eq)]
@@ -49,14 +49,8 @@ impl Declaration {
 
 /// A Talker FirstValue, its reserved bits 0.
 pub fn first_value(talker: &Talker) -> Vec<u8> {
-    let parameters = &talker.parameters;
-    let mut octets = Vec::new();
-    octets.extend(talker.stream_id.to_be_bytes());
-    octets.extend(&parameters.destination.to_be_bytes()[2..]);
-    octets.extend(parameters.vlan.to_be_bytes());
-    octets.extend(parameters.max_frame_size.to_be_bytes());
-    octets.extend(parameters.max_interval_frames.to_be_bytes());
-    octets.push(parameters.priority << 5 | parameters.rank << 4);
+    let mut octets = talker.stream_id.to_be_bytes().to_vec();
+    octets.extend(talker.parameters.octets());
     octets.extend(talker.accumulated_latency.to_be_bytes());
     if let Some(failure) = talker.failure {
         octets.extend(failure.bridge_id.to_be_bytes());
@@ -70,12 +64,20 @@ pub fn of_port(settled: &Settled, port: usize) -> Vec<Declaration> {
     let mut advertise = Vec::new();
     let mut failed = Vec::new();
     let mut listener = Vec::new();
-    for (stream_id, ports) in &settled.streams {
-        let settled_on_port = &ports[port - 1];
-        match settled_on_port.talker {
-            Some(talker) if talker.failure.is_none() => advertise.push(Declaration::Talker(talker)),
-            Some(talker) => failed.push(Declaration::Talker(talker)),
-            None => {}
+    for (stream_id, settled_stream) in &settled.streams {
+        let settled_on_port = &settled_stream.ports[port - 1];
+        let talker = |failure| {
+            Declaration::Talker(Talker {
+                stream_id: *stream_id,
+                parameters: settled_stream.parameters,
+                accumulated_latency: settled_on_port.latency_out,
+                failure,
+            })
+        };
+        match settled_on_port.column {
+            Column::Advertise => advertise.push(talker(None)),
+            Column::Failed(failure) => failed.push(talker(Some(failure))),
+            Column::None => {}
         }
         if let Some(listener_type) = settled_on_port.listener {
             listener.push(Declaration::Listener(*stream_id, listener_type));

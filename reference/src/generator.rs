@@ -5,8 +5,7 @@
 //! wrong settings and cut records are mixed in. The generator makes each call on a table of its
 //! own while it writes, so that it knows the clock, the streams held and the next places.
 
-use crate::bridge::{Table, TABLE_LENGTH};
-use crate::calls::ROOM_LENGTH;
+use crate::bridge::{Table, ROOM_LENGTH};
 use crate::declarations;
 use crate::frame::{FrameDraft, MessageDraft, VectorDraft};
 use crate::pdu::{AttributeType, Failure, Parameters, StreamId, Talker, LONGEST_PDU};
@@ -15,6 +14,7 @@ use crate::registrations::MOST_STREAMS;
 use crate::settings::{self, PerClass, PortSettings, Settings, CLASSES, MOST_PORTS};
 use crate::settling;
 use crate::sheet;
+use crate::table::TABLE_LENGTH;
 
 /// The numbers of the events in a ThreePackedEvents octet.
 const JOINS: [u8; 3] = [0, 1, 3];
@@ -657,11 +657,11 @@ impl History {
     }
 
     fn clock(&self) -> u32 {
-        self.table.bridge.as_ref().map_or(0, |bridge| bridge.clock)
+        self.table.bridge().map_or(0, |bridge| bridge.clock)
     }
 
     fn streams_held(&self) -> usize {
-        self.table.bridge.as_ref().map_or(0, |bridge| bridge.registrations.streams.len())
+        self.table.bridge().map_or(0, |bridge| bridge.registrations.streams.len())
     }
 
     fn put_counted(&mut self, first: u8, octets: &[u8]) {
@@ -1031,7 +1031,7 @@ impl History {
     fn lend(&mut self, length: usize) {
         self.octets.push(0x51);
         self.octets.extend((length as u16).to_be_bytes());
-        self.table.lent_length = length.min(ROOM_LENGTH);
+        self.table.lend(length);
     }
 
     /// Stores an octet in the table's room behind the table, or past the room.
@@ -1152,7 +1152,7 @@ impl History {
     fn some_look(&mut self, plan: &Plan) {
         let port = if self.random.percent(88) { self.port(plan) } else { self.wrong_port(plan) };
         if self.random.percent(50) {
-            let count = match &self.table.bridge {
+            let count = match self.table.bridge() {
                 Some(bridge) if (1..=bridge.settings.ports.len()).contains(&(port as usize)) => {
                     declarations::of_port(&bridge.settled, port as usize).len() as u16
                 }

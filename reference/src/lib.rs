@@ -13,6 +13,7 @@
 //! * [`settling`]: attribute propagation and reserved bandwidth;
 //! * [`declarations`]: writing MSRPDUs;
 //! * [`bridge`]: the five calls;
+//! * [`table`]: the octets of the lent table;
 //! * [`words`]: the words that programs print;
 //! * [`records`]: taking records from an input, and watching the calls they make;
 //! * [`sheet`], [`calls`]: the two programs;
@@ -36,4 +37,5 @@ pub mod script;
 pub mod settings;
 pub mod settling;
 pub mod sheet;
+pub mod table;
 pub mod words;

@@ -83,7 +83,7 @@ pub fn four_listener_types(octet: u8) -> [Option<ListenerType>; 4] {
 }
 
 /// The parts of a Talker declaration that a join must repeat to count as unchanged.
-#[derive(Clone, Copy, Debug, PartialEq, Eq)]
+#[derive(Clone, Copy, Debug, Default, PartialEq, Eq)]
 pub struct Parameters {
     /// 48 bits.
     pub destination: u64,
@@ -94,6 +94,34 @@ pub struct Parameters {
     pub priority: u8,
     /// 1 bit; 0 is the more important one.
     pub rank: u8,
+}
+
+/// Octets of the parameters: destination 6, VLAN 2, MaxFrameSize 2, MaxIntervalFrames 2, and
+/// priority 3 bits, rank 1 bit, reserved 4 bits.
+pub const PARAMETERS_LENGTH: usize = 13;
+
+impl Parameters {
+    /// Those that these octets hold, whatever the reserved bits are.
+    pub fn of(octets: &[u8]) -> Parameters {
+        Parameters {
+            destination: number_of(&octets[0..6]),
+            vlan: number_of(&octets[6..8]) as u16,
+            max_frame_size: number_of(&octets[8..10]) as u16,
+            max_interval_frames: number_of(&octets[10..12]) as u16,
+            priority: octets[12] >> 5,
+            rank: octets[12] >> 4 & 1,
+        }
+    }
+
+    /// Their octets, the reserved bits 0.
+    pub fn octets(&self) -> Vec<u8> {
+        let mut octets = self.destination.to_be_bytes()[2..].to_vec();
+        octets.extend(self.vlan.to_be_bytes());
+        octets.extend(self.max_frame_size.to_be_bytes());
+        octets.extend(self.max_interval_frames.to_be_bytes());
+        octets.push(self.priority << 5 | self.rank << 4);
+        octets
+    }
 }
 
 /// The failure fields of a Talker Failed.
@@ -339,8 +367,7 @@ fn value(
     }
 }
 
-/// A Talker FirstValue: StreamID 8, destination 6, VLAN 2, MaxFrameSize 2, MaxIntervalFrames 2,
-/// priority 3 bits, rank 1 bit, reserved 4 bits, AccumulatedLatency 4; Failed adds Bridge ID 8,
+/// A Talker FirstValue: StreamID 8, parameters 13, AccumulatedLatency 4; Failed adds Bridge ID 8,
 /// code 1.
 fn talker(attribute_type: AttributeType, first_value: &[u8], n: u64) -> Talker {
     let failure = match attribute_type {
@@ -349,16 +376,11 @@ fn talker(attribute_type: AttributeType, first_value: &[u8], n: u64) -> Talker {
         }
         _ => None,
     };
+    let mut parameters = Parameters::of(&first_value[8..21]);
+    parameters.destination += n;
     Talker {
         stream_id: number_of(&first_value[0..8]) + n,
-        parameters: Parameters {
-            destination: number_of(&first_value[8..14]) + n,
-            vlan: number_of(&first_value[14..16]) as u16,
-            max_frame_size: number_of(&first_value[16..18]) as u16,
-            max_interval_frames: number_of(&first_value[18..20]) as u16,
-            priority: first_value[20] >> 5,
-            rank: first_value[20] >> 4 & 1,
-        },
+        parameters,
         accumulated_latency: number_of(&first_value[21..25]) as u32,
         failure,
     }

@@ -58,6 +58,9 @@ pub enum Call<'a> {
 /// Is told of each call, with the number given back and the table left.
 pub trait Watcher {
     fn called(&mut self, call: &Call, number: Number, table: &Table);
+
+    /// Is told that an octet was stored, with the table left.
+    fn stored(&mut self, _: &Table) {}
 }
 
 /// Watches nothing.

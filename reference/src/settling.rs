@@ -3,7 +3,7 @@
 
 use std::collections::BTreeMap;
 
-use crate::pdu::{Failure, ListenerType, StreamId, Talker};
+use crate::pdu::{Failure, ListenerType, Parameters, StreamId};
 use crate::registrations::{OnPort, Registrations, TalkerRegistration};
 use crate::settings::{Class, PerClass, PortSettings, Settings, CLASSES};
 
@@ -84,8 +84,9 @@ pub enum Entry {
 /// What an advance has taken down of one stream on one port.
 #[derive(Clone, Debug, PartialEq, Eq)]
 pub struct SettledOnPort {
-    /// The Talker declared on the port, if any: Advertise without a failure, Failed with one.
-    pub talker: Option<Talker>,
+    pub column: Column,
+    /// 0 where the column is none.
+    pub latency_out: u32,
     /// The Listener declared on the port, if any.
     pub listener: Option<ListenerType>,
     pub entry: Entry,
@@ -94,11 +95,31 @@ pub struct SettledOnPort {
 }
 
 impl SettledOnPort {
-    pub fn column(&self) -> Column {
-        match self.talker {
-            None => Column::None,
-            Some(Talker { failure: None, .. }) => Column::Advertise,
-            Some(Talker { failure: Some(failure), .. }) => Column::Failed(failure),
+    /// What a stream joined since the last advance shows.
+    pub const NONE: SettledOnPort = SettledOnPort {
+        column: Column::None,
+        latency_out: 0,
+        listener: None,
+        entry: Entry::None,
+        entry_since: None,
+    };
+}
+
+/// What an advance has taken down of one stream.
+#[derive(Clone, Debug, PartialEq, Eq)]
+pub struct SettledStream {
+    /// Those of the Talker port; zeros where there was no Talker.
+    pub parameters: Parameters,
+    /// One part per port, port 1 first.
+    pub ports: Vec<SettledOnPort>,
+}
+
+impl SettledStream {
+    /// What a stream joined since the last advance shows.
+    pub fn none(port_count: usize) -> SettledStream {
+        SettledStream {
+            parameters: Parameters::default(),
+            ports: vec![SettledOnPort::NONE; port_count],
         }
     }
 }
@@ -107,8 +128,8 @@ impl SettledOnPort {
 /// show this.
 #[derive(Clone, Debug, PartialEq, Eq)]
 pub struct Settled {
-    /// For each stream one part per port, port 1 first.
-    pub streams: BTreeMap<StreamId, Vec<SettledOnPort>>,
+    /// The streams held; one joined since may be left out.
+    pub streams: BTreeMap<StreamId, SettledStream>,
     /// The reserved sums of each port, port 1 first.
     pub totals: Vec<PerClass<u64>>,
 }
@@ -192,7 +213,7 @@ fn entries_since(
                 let earlier = before
                     .streams
                     .get(stream_id)
-                    .and_then(|settled_ports| settled_ports[port - 1].entry_since);
+                    .and_then(|settled| settled.ports[port - 1].entry_since);
                 since.insert((*stream_id, port), earlier.unwrap_or(clock / 100));
             }
         }
@@ -343,21 +364,15 @@ pub fn settle(
             let column = columns[&(*stream_id, port)].column;
             let listener = listener_type(on_port);
             merged = merge(merged, passed_on(column, listener));
-            let failure = match column {
-                Column::Failed(failure) => Some(failure),
-                Column::None | Column::Advertise => None,
-            };
-            let declared = match (column, talker) {
-                (Column::Advertise | Column::Failed(_), Some((_, talker))) => Some(Talker {
-                    stream_id: *stream_id,
-                    parameters: talker.parameters,
-                    accumulated_latency: latency_out(settings, port, talker),
-                    failure,
-                }),
-                (Column::None, _) | (_, None) => None,
+            let latency_out = match (column, talker) {
+                (Column::Advertise | Column::Failed(_), Some((_, talker))) => {
+                    latency_out(settings, port, talker)
+                }
+                (Column::None, _) | (_, None) => 0,
             };
             settled_ports.push(SettledOnPort {
-                talker: declared,
+                column,
+                latency_out,
                 listener: None,
                 entry: entry(column, listener),
                 entry_since: since.get(&(*stream_id, port)).copied(),
@@ -366,7 +381,8 @@ pub fn settle(
         if let Some((talker_port, _)) = talker {
             settled_ports[talker_port - 1].listener = merged;
         }
-        streams.insert(*stream_id, settled_ports);
+        let parameters = talker.map_or(Parameters::default(), |(_, talker)| talker.parameters);
+        streams.insert(*stream_id, SettledStream { parameters, ports: settled_ports });
     }
     Settled { streams, totals }
 }

@@ -49,7 +49,7 @@ pub fn run_watched(input: &[u8], watcher: &mut dyn Watcher) -> String {
             printed.push_str(&format!("refused {number}\n"));
         }
     }
-    let ports = table.bridge.as_ref().map_or(0, |bridge| bridge.settings.ports.len());
+    let ports = table.bridge().map_or(0, |bridge| bridge.settings.ports.len());
     printed + &report(&table, ports as u32)
 }
 

@@ -160,7 +160,7 @@ pub fn registered_listener(
     port: usize,
     stream_id: StreamId,
 ) -> Option<ListenerType> {
-    let bridge = table.bridge.as_ref()?;
+    let bridge = table.bridge()?;
     let on_port = &bridge.registrations.streams.get(&stream_id)?[port - 1];
     on_port.listener.as_ref().map(|listener| listener.listener_type)
 }

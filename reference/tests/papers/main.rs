@@ -13,5 +13,6 @@ mod reports_and_start;
 mod settling;
 mod the_calls_console;
 mod the_sheet;
+mod the_table;
 mod worked_example;
 mod writing;

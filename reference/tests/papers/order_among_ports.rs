@@ -39,7 +39,7 @@ fn hand_over(table: &Table, frames: &Frames, order: &[usize], time: u32) -> (Vec
 
 /// The streams held, together with all those that any well-formed frame asks to join.
 fn streams(table: &Table, frames: &Frames) -> BTreeSet<StreamId> {
-    let bridge = table.bridge.as_ref().unwrap();
+    let bridge = table.bridge().unwrap();
     let mut streams: BTreeSet<StreamId> = bridge.registrations.streams.keys().copied().collect();
     for (_, frame) in frames {
         if let Ok(pdu) = pdu::read(frame) {
@@ -93,7 +93,7 @@ fn frames_in_any_order_that_keeps_each_ports_own_give_the_same_answers_and_table
                 assert_eq!(hand_over(&settled, &frames, &order, time), expected);
                 compared += 1;
             }
-            let bridge = expected.1.bridge.unwrap();
+            let bridge = expected.1.bridge().unwrap();
             for (port, total) in bridge.settings.ports.iter().zip(&bridge.settled.totals) {
                 assert!(total.a <= port.limit.a && total.b <= port.limit.b);
             }

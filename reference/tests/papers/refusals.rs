@@ -1,11 +1,12 @@
 //! Each number given back, and the order among them (01, "Numbers given back").
 
 use crate::helpers::*;
-use reference::bridge::{ReportAnswer, Table, WriteAnswer, TABLE_LENGTH};
+use reference::bridge::{ReportAnswer, Table, WriteAnswer};
 use reference::frame::{FrameDraft, MessageDraft};
 use reference::pdu::AttributeType;
 use reference::settings;
 use reference::settling::{Column, Entry};
+use reference::table::TABLE_LENGTH;
 
 /// A bridge with a stream, settled.
 fn running() -> Table {
@@ -232,7 +233,7 @@ fn number_12_wrong_table_length_or_no_bridge() {
     assert_eq!(zeros, Table::zeros());
     for length in [0, 1, TABLE_LENGTH - 1, TABLE_LENGTH + 1, TABLE_LENGTH + 64] {
         let mut table = running();
-        table.lent_length = length;
+        table.lend(length);
         let before = table.clone();
         assert_eq!(table.start(&good), 12);
         assert_eq!(table.start(&[]), 12);

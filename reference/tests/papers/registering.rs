@@ -7,7 +7,7 @@ use reference::pdu::{AttributeType, Failure, ListenerType};
 use reference::registrations::{OnPort, TalkerRegistration};
 
 fn on_port(table: &Table, port: usize) -> OnPort {
-    let bridge = table.bridge.as_ref().unwrap();
+    let bridge = table.bridge().unwrap();
     bridge
         .registrations
         .streams
@@ -111,13 +111,13 @@ fn leave_all_starts_leaving_that_attribute_type_on_that_port_only() {
     assert_eq!(talker_on(&table, 1).leaving, Some(30));
     assert_eq!(on_port(&table, 1).listener.unwrap().leaving, None);
     assert_eq!(talker_on(&table, 2).leaving, None);
-    let bridge = table.bridge.clone().unwrap();
+    let bridge = table.bridge().unwrap();
     let other = bridge.registrations.streams[&(STREAM + 1)][0].talker.clone().unwrap();
     assert_eq!(other.leaving, None);
     accept(&mut table, 1, &leave_all(AttributeType::Listener));
     assert_eq!(on_port(&table, 1).listener.unwrap().leaving, Some(30));
     accept(&mut table, 1, &leave_all(AttributeType::TalkerFailed));
-    let bridge = table.bridge.clone().unwrap();
+    let bridge = table.bridge().unwrap();
     let other = bridge.registrations.streams[&(STREAM + 1)][0].talker.clone().unwrap();
     assert_eq!(other.leaving, Some(30));
 }

@@ -4,7 +4,7 @@ use crate::helpers::*;
 use reference::bridge::Table;
 use reference::pdu::{Failure, ListenerType, Talker};
 use reference::settings::{Class, PerClass, Settings};
-use reference::settling::{self, BitsPerSecond, OctetsPerInterval};
+use reference::settling::{self, BitsPerSecond, Column, OctetsPerInterval, SettledStream};
 
 /// Port 1 has the Talker, port 2 a Ready Listener; settled.
 fn settled_with(settings: &Settings, talker: &Talker) -> Table {
@@ -13,6 +13,11 @@ fn settled_with(settings: &Settings, talker: &Talker) -> Table {
     join_listener(&mut table, 2, talker.stream_id, READY);
     advance(&mut table, 100);
     table
+}
+
+/// What the last advance has taken down of the stream.
+fn settled(table: &Table) -> SettledStream {
+    table.bridge().unwrap().settled.streams[&STREAM].clone()
 }
 
 #[test]
@@ -60,9 +65,8 @@ fn column_c_registered_failed_keeps_its_bridge_id_and_code() {
     let table = settled_with(&settings(2), &failed(STREAM, 0));
     assert_eq!(line(&table, 2, STREAM), "failed 0 none filter");
     assert_eq!(line(&table, 1, STREAM), "none 0 asking none");
-    let declared = table.bridge.unwrap().settled.streams[&STREAM][1].talker.unwrap();
     let failure = Failure { bridge_id: 0x1111_2222_3333_4444, code: 0 };
-    assert_eq!(declared.failure, Some(failure));
+    assert_eq!(settled(&table).ports[1].column, Column::Failed(failure));
 }
 
 #[test]
@@ -73,10 +77,9 @@ fn column_d_changed_mark_at_t_gives_16_with_this_bridge_id() {
     join_talker(&mut table, 1, &changed);
     advance(&mut table, 101);
     assert_eq!(line(&table, 2, STREAM), "failed 16 none filter");
-    let declared = table.bridge.as_ref().unwrap().settled.streams[&STREAM][1].talker.unwrap();
     let failure = Failure { bridge_id: settings(2).bridge_id, code: 16 };
-    assert_eq!(declared.failure, Some(failure));
-    assert_eq!(declared.parameters, talker(STREAM).parameters);
+    assert_eq!(settled(&table).ports[1].column, Column::Failed(failure));
+    assert_eq!(settled(&table).parameters, talker(STREAM).parameters);
 }
 
 #[test]
@@ -251,9 +254,7 @@ fn rank_comes_before_age_and_age_before_stream_id() {
 #[test]
 fn age_is_counted_from_the_whole_second_of_the_advance_that_first_made_an_entry() {
     let mut table = started(&settings(2));
-    let since = |table: &Table, port: usize| {
-        table.bridge.as_ref().unwrap().settled.streams[&STREAM][port - 1].entry_since
-    };
+    let since = |table: &Table, port: usize| settled(table).ports[port - 1].entry_since;
     join_talker(&mut table, 1, &talker(STREAM));
     advance(&mut table, 199);
     assert_eq!(since(&table, 1), None);
@@ -270,8 +271,7 @@ fn age_is_counted_from_the_whole_second_of_the_advance_that_first_made_an_entry(
 #[test]
 fn age_is_forgotten_when_the_entry_goes_and_runs_on_while_it_stays() {
     let mut table = started(&settings(2));
-    let since =
-        |table: &Table| table.bridge.as_ref().unwrap().settled.streams[&STREAM][1].entry_since;
+    let since = |table: &Table| settled(table).ports[1].entry_since;
     // A Listener without a Talker has an entry already.
     join_listener(&mut table, 2, STREAM, READY);
     advance(&mut table, 100);
@@ -443,8 +443,8 @@ fn latency_out_is_given_to_all_columns_and_capped() {
     settings.ports[1].latency = PerClass { a: 1_000, b: 70 };
     let latency = |talker: &Talker| {
         let table = settled_with(&settings, talker);
-        let declared = table.bridge.unwrap().settled.streams[&STREAM][1].talker.unwrap();
-        declared.accumulated_latency
+        assert_ne!(settled(&table).ports[1].column, Column::None);
+        settled(&table).ports[1].latency_out
     };
     let mut talker = talker(STREAM);
     talker.accumulated_latency = 5;

@@ -1,7 +1,8 @@
 //! The console for the five calls, srpcalls.
 
 use crate::helpers::*;
-use reference::bridge::TABLE_LENGTH;
+use reference::bridge::ROOM_LENGTH;
+use reference::table::TABLE_LENGTH;
 use reference::{calls, settings};
 
 fn counted(first: u8, octets: &[u8]) -> Vec<u8> {
@@ -100,17 +101,91 @@ fn a_wrong_table_length_makes_every_call_12_until_the_right_one_is_lent() {
     }
 }
 
+fn store(place: usize, octet: u8) -> Vec<u8> {
+    let mut record = vec![0x50];
+    record.extend((place as u16).to_be_bytes());
+    record.push(octet);
+    record
+}
+
 #[test]
 fn storing_behind_the_table_prints_nothing_and_changes_nothing() {
-    let place = (TABLE_LENGTH as u16).to_be_bytes();
-    let store = [vec![0x50], place.to_vec(), vec![0xff]].concat();
-    let records = [start(), store, vec![0x50, 0xff, 0xff, 1], vec![0x20, 0, 0, 0, 1]];
+    let records = [start(), store(TABLE_LENGTH, 0xff), store(0xffff, 1), vec![0x20, 0, 0, 0, 1]];
     assert_eq!(lines(&records), ["start 0", "advance 0"]);
 }
 
 #[test]
-fn the_tables_octets_are_outside_the_reference() {
-    assert_eq!(lines(&[vec![0x60], vec![0x61]]), ["table -", "octets -"]);
+fn storing_in_the_table_changes_what_calls_find() {
+    let report = vec![0x41, 0, 0];
+    let records = [
+        start(),
+        store(15, 1), // limit A of port 1
+        report.clone(),
+        store(8, 0),
+        report.clone(),
+        store(8, 0x26),
+        report,
+    ];
+    let changed = "report 0 0 0 4369967296 0 0 0000000000000000 none 0 none none";
+    assert_eq!(lines(&records), ["start 0", changed, REPORT_12, changed]);
+}
+
+#[test]
+fn the_sum_is_adler_32() {
+    assert_eq!(calls::adler_32(b""), 1);
+    assert_eq!(calls::adler_32(b"Wikipedia"), 0x11e6_0398);
+    assert_eq!(calls::adler_32(&[0; TABLE_LENGTH]), 0x7c50_0001);
+    // Octets 255 up to the greatest length, with a remainder taken at each.
+    let octets = [255; ROOM_LENGTH];
+    let (mut sum, mut sum_of_sums) = (1_u64, 0_u64);
+    for octet in octets {
+        sum = (sum + octet) % 65_521;
+        sum_of_sums = (sum_of_sums + sum) % 65_521;
+    }
+    let expected = sum_of_sums << 16 | sum;
+    assert_eq!(u64::from(calls::adler_32(&[255; ROOM_LENGTH])), expected);
+}
+
+#[test]
+fn sum_and_octets_are_those_that_calls_are_lent() {
+    let (sum, octets) = (vec![0x60], vec![0x61]);
+    let records = [
+        sum.clone(),
+        octets.clone(),
+        store(TABLE_LENGTH, 0xab),
+        sum.clone(),
+        lend(TABLE_LENGTH + 1),
+        octets.clone(),
+        lend(2),
+        store(1, 0x0c),
+        sum.clone(),
+        octets.clone(),
+        lend(0),
+        sum,
+        octets.clone(),
+        lend(65_535),
+        octets,
+    ];
+    let zeros = |octets: usize| "00".repeat(octets);
+    let table = TABLE_LENGTH;
+    let expected = [
+        "table 7c500001".to_string(),
+        format!("octets {}", zeros(table)),
+        "table 7c500001".to_string(),
+        format!("octets {}ab", zeros(table)),
+        "table 000e000d".to_string(),
+        "octets 000c".to_string(),
+        "table 00000001".to_string(),
+        "octets".to_string(),
+        format!("octets 000c{}ab{}", zeros(table - 2), zeros(63)),
+    ];
+    assert_eq!(lines(&records), expected);
+}
+
+#[test]
+fn start_leaves_the_room_behind_the_table() {
+    let records = [store(ROOM_LENGTH - 1, 7), start(), lend(ROOM_LENGTH), vec![0x61]];
+    assert!(lines(&records)[1].ends_with("0007"));
 }
 
 #[test]

@@ -46,7 +46,7 @@ fn all_pdus(table: &Table, port: u32) -> Vec<Vec<u8>> {
 }
 
 fn count(table: &Table, port: usize) -> usize {
-    declarations::of_port(&table.bridge.as_ref().unwrap().settled, port).len()
+    declarations::of_port(&table.bridge().unwrap().settled, port).len()
 }
 
 /// Talkers on port 1, so many of them Advertise and so many Failed, and Listeners of others on
@@ -79,8 +79,7 @@ fn crowd(advertise: usize, failing: usize, listening: usize) -> Table {
 fn what_is_written_reads_back_as_the_declarations_in_order() {
     let table = crowd(30, 5, 20);
     for port in [1, 2] {
-        let expected =
-            declarations::of_port(&table.bridge.as_ref().unwrap().settled, port as usize);
+        let expected = declarations::of_port(&table.bridge().unwrap().settled, port as usize);
         let read: Vec<Declaration> =
             all_pdus(&table, port).iter().flat_map(|octets| read_back(octets)).collect();
         assert_eq!(read, expected);
@@ -161,7 +160,7 @@ fn a_new_message_needs_room_for_its_own_header_and_end_mark() {
 #[test]
 fn from_a_place_in_the_middle() {
     let table = crowd(3, 2, 2);
-    let expected = declarations::of_port(&table.bridge.as_ref().unwrap().settled, 2);
+    let expected = declarations::of_port(&table.bridge().unwrap().settled, 2);
     for place in 0..=expected.len() {
         let (octets, next) = written(&table, 2, place as u32);
         assert_eq!(next, expected.len());
@@ -278,7 +277,7 @@ impl Watcher for WritesReadBack {
         let (Call::Write { port, place, answer }, 0) = (call, number) else {
             return;
         };
-        let bridge = table.bridge.as_ref().unwrap();
+        let bridge = table.bridge().unwrap();
         let declared = declarations::of_port(&bridge.settled, *port as usize);
         let (octets, next) = written(table, *port, *place);
         let expected = WriteAnswer { number: 0, length: octets.len(), next_place: next };

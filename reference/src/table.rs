@@ -1,0 +1,439 @@
+//! The octets of the lent table (docs/TABLE.md): its layout, its form rules, and the bridge that
+//! it holds. Numbers stand most significant octet first.
+
+use std::ops::Range;
+
+use crate::bridge::Bridge;
+use crate::pdu::{number_of, Failure, ListenerType, Parameters, StreamId, PARAMETERS_LENGTH};
+use crate::registrations::MOST_STREAMS;
+use crate::registrations::{ListenerRegistration, OnPort, Registrations, TalkerRegistration};
+use crate::settings::{self, PerClass, MOST_PORTS};
+use crate::settling::{Column, Entry, Settled, SettledOnPort, SettledStream};
+
+// ---- layout ----
+
+/// The settings of eight ports stand first, as they were handed to start.
+pub const CLOCK: Range<usize> = 187..191;
+/// Streams held.
+pub const COUNT: usize = 191;
+/// The totals of eight ports.
+pub const TOTALS: usize = 192;
+/// Octets of one port's totals: class A 5, class B 5.
+pub const TOTALS_LENGTH: usize = 10;
+/// The stream records, those in use first.
+pub const RECORDS: usize = 272;
+pub const RECORD_LENGTH: usize = 493;
+/// The length of the table; one length for every port count.
+pub const TABLE_LENGTH: usize = RECORDS + MOST_STREAMS * RECORD_LENGTH;
+
+/// Places in a stream record.
+pub mod record {
+    use super::Range;
+    pub const STREAM_ID: Range<usize> = 0..8;
+    pub const PARAMETERS: Range<usize> = 8..21;
+    /// The last octet of the parameters: priority, rank and four zero bits.
+    pub const PRIORITY: usize = 20;
+    pub const CELLS: Range<usize> = 21..333;
+    pub const RESULTS: Range<usize> = 333..493;
+}
+
+/// Places in a cell: what a port has registered of a stream.
+pub mod cell {
+    use super::Range;
+    pub const LENGTH: usize = 39;
+    pub const TALKER: usize = 0;
+    pub const CHANGED: usize = 1;
+    pub const TALKER_LEAVING: usize = 2;
+    pub const TALKER_SINCE: Range<usize> = 3..7;
+    pub const PARAMETERS: Range<usize> = 7..20;
+    /// The last octet of the parameters: priority, rank and four zero bits.
+    pub const PRIORITY: usize = 19;
+    pub const LATENCY: Range<usize> = 20..24;
+    pub const BRIDGE_ID: Range<usize> = 24..32;
+    pub const CODE: usize = 32;
+    pub const LISTENER: usize = 33;
+    pub const LISTENER_LEAVING: usize = 34;
+    pub const LISTENER_SINCE: Range<usize> = 35..39;
+}
+
+/// Places in a result: what the last advance decided for a stream on a port.
+pub mod result {
+    use super::Range;
+    pub const LENGTH: usize = 20;
+    pub const COLUMN: usize = 0;
+    pub const LATENCY: Range<usize> = 1..5;
+    pub const BRIDGE_ID: Range<usize> = 5..13;
+    pub const CODE: usize = 13;
+    pub const ENTRY: usize = 14;
+    pub const SINCE: Range<usize> = 15..19;
+    pub const LISTENER: usize = 19;
+}
+
+/// The kinds of a Talker and of a column.
+const ADVERTISE: u8 = 1;
+const FAILED: u8 = 2;
+/// The kinds of an entry.
+const FILTER: u8 = 1;
+const FORWARD: u8 = 2;
+
+fn clock(table: &[u8]) -> u32 {
+    number_of(&table[CLOCK]) as u32
+}
+
+fn leave_time(table: &[u8]) -> u32 {
+    number_of(&table[9..11]) as u32 & 0x3fff
+}
+
+fn priorities(table: &[u8]) -> PerClass<u8> {
+    PerClass { a: table[8] >> 1 & 7, b: (table[8] & 1) << 2 | table[9] >> 6 }
+}
+
+/// How many of the eight places are ports.
+pub fn ports(table: &[u8]) -> usize {
+    usize::from(table[8] >> 4).min(MOST_PORTS)
+}
+
+/// How many of the 64 records are in use.
+pub fn used(table: &[u8]) -> usize {
+    usize::from(table[COUNT]).min(MOST_STREAMS)
+}
+
+/// The total and the limit of a class on the port at a place.
+fn totals(table: &[u8], place: usize) -> PerClass<u64> {
+    let octets = &table[TOTALS + TOTALS_LENGTH * place..][..TOTALS_LENGTH];
+    PerClass { a: number_of(&octets[..5]), b: number_of(&octets[5..]) }
+}
+
+fn limits(table: &[u8], place: usize) -> PerClass<u64> {
+    let octets = &table[settings::length(place) + 4..][..10];
+    PerClass { a: number_of(&octets[..5]), b: number_of(&octets[5..]) }
+}
+
+fn used_records(table: &[u8]) -> impl Iterator<Item = &[u8]> {
+    table[RECORDS..].chunks_exact(RECORD_LENGTH).take(used(table))
+}
+
+fn cells(record: &[u8]) -> impl Iterator<Item = &[u8]> {
+    record[record::CELLS].chunks_exact(cell::LENGTH)
+}
+
+fn results(record: &[u8]) -> impl Iterator<Item = &[u8]> {
+    record[record::RESULTS].chunks_exact(result::LENGTH)
+}
+
+// ---- form rules ----
+
+/// A form rule: whether a table keeps it. All but the first are asked only where that one is kept.
+type Rule = fn(&[u8]) -> bool;
+
+/// The form rules, in the order and by the numbers of docs/TABLE.md.
+const RULES: [(u8, Rule); 24] = [
+    (1, |table| table.len() == TABLE_LENGTH),
+    (2, |table| (1..=MOST_PORTS as u8).contains(&(table[8] >> 4))),
+    (3, |table| priorities(table).a != priorities(table).b),
+    (4, |table| leave_time(table) >= 1),
+    (5, |table| (0..ports(table)).all(|place| table[settings::length(place)] & 0x1f == 0)),
+    (6, |table| is_zero(&table[settings::length(ports(table))..CLOCK.start])),
+    (7, totals_are_within_limits),
+    (8, |table| usize::from(table[COUNT]) <= MOST_STREAMS),
+    (9, stream_ids_rise),
+    (10, |table| is_zero(&table[RECORDS + RECORD_LENGTH * used(table)..])),
+    (11, |table| used_records(table).all(|record| record[record::PRIORITY] & 0xf == 0)),
+    (12, |table| used_records(table).all(|record| is_held(record, ports(table)))),
+    (13, |table| used_records(table).all(|record| is_zero_past(record, ports(table)))),
+    (14, |table| every_cell(table, |cell| cell[cell::TALKER] <= 2 && cell[cell::LISTENER] <= 3)),
+    (15, |table| every_cell(table, |cell| cell[cell::CHANGED] <= 1)),
+    (16, leaving_began_lately),
+    (17, |table| every_cell(table, |cell| cell[cell::PRIORITY] & 0xf == 0)),
+    (18, |table| every_cell(table, is_zero_where_unregistered)),
+    (19, |table| every_cell(table, |cell| cell[cell::TALKER] != ADVERTISE || no_failure(cell))),
+    (20, |table| every_result(table, kinds_are_in_range)),
+    (21, |table| every_result(table, |result| has_column(result) || no_latency(result))),
+    (22, |table| every_result(table, only_failed_has_a_failure)),
+    (23, |table| every_result(table, entry_agrees_with_column)),
+    (24, ages_agree_with_entries),
+];
+
+/// Whether a table keeps all form rules.
+pub fn keeps_form(table: &[u8]) -> bool {
+    RULES.iter().all(|(_, rule)| rule(table))
+}
+
+/// The numbers of the form rules that a table breaks; of one of another length the first alone.
+pub fn broken_rules(table: &[u8]) -> Vec<u8> {
+    if table.len() != TABLE_LENGTH {
+        return vec![1];
+    }
+    RULES.iter().filter(|(_, rule)| !rule(table)).map(|(number, _)| *number).collect()
+}
+
+/// Whether all octets of a part of the table are zero. One comparison of the whole part, since
+/// most of a table is unused room and each call looks at it.
+fn is_zero(octets: &[u8]) -> bool {
+    static ZEROS: [u8; TABLE_LENGTH] = [0; TABLE_LENGTH];
+    octets == &ZEROS[..octets.len()]
+}
+
+/// Whether something holds of each cell of a port in the used records.
+fn every_cell(table: &[u8], holds: impl Fn(&[u8]) -> bool) -> bool {
+    used_records(table).all(|record| cells(record).take(ports(table)).all(&holds))
+}
+
+/// Whether something holds of each result of a port in the used records.
+fn every_result(table: &[u8], holds: impl Fn(&[u8]) -> bool) -> bool {
+    used_records(table).all(|record| results(record).take(ports(table)).all(&holds))
+}
+
+fn totals_are_within_limits(table: &[u8]) -> bool {
+    let within = |place| {
+        let (total, limit) = (totals(table, place), limits(table, place));
+        total.a <= limit.a && total.b <= limit.b
+    };
+    (0..ports(table)).all(within) && is_zero(&table[TOTALS + TOTALS_LENGTH * ports(table)..RECORDS])
+}
+
+fn stream_ids_rise(table: &[u8]) -> bool {
+    let stream_ids: Vec<StreamId> =
+        used_records(table).map(|record| number_of(&record[record::STREAM_ID])).collect();
+    stream_ids.windows(2).all(|pair| pair[0] < pair[1])
+}
+
+fn is_held(record: &[u8], ports: usize) -> bool {
+    cells(record).take(ports).any(|cell| cell[cell::TALKER] != 0 || cell[cell::LISTENER] != 0)
+}
+
+fn is_zero_past(record: &[u8], ports: usize) -> bool {
+    cells(record).skip(ports).all(is_zero) && results(record).skip(ports).all(is_zero)
+}
+
+fn leaving_began_lately(table: &[u8]) -> bool {
+    let (clock, leave_time) = (clock(table), leave_time(table));
+    let lately = |flag: u8, since: &[u8]| {
+        let since = number_of(since) as u32;
+        match flag {
+            0 => since == 0,
+            1 => since <= clock && clock - since < leave_time,
+            _ => false,
+        }
+    };
+    every_cell(table, |cell| {
+        lately(cell[cell::TALKER_LEAVING], &cell[cell::TALKER_SINCE])
+            && lately(cell[cell::LISTENER_LEAVING], &cell[cell::LISTENER_SINCE])
+    })
+}
+
+fn is_zero_where_unregistered(cell: &[u8]) -> bool {
+    let (talker, listener) = cell.split_at(cell::LISTENER);
+    (cell[cell::TALKER] != 0 || is_zero(talker)) && (cell[cell::LISTENER] != 0 || is_zero(listener))
+}
+
+fn no_failure(cell: &[u8]) -> bool {
+    is_zero(&cell[cell::BRIDGE_ID]) && cell[cell::CODE] == 0
+}
+
+fn kinds_are_in_range(result: &[u8]) -> bool {
+    result[result::COLUMN] <= 2 && result[result::ENTRY] <= 2 && result[result::LISTENER] <= 3
+}
+
+fn has_column(result: &[u8]) -> bool {
+    result[result::COLUMN] != 0
+}
+
+fn no_latency(result: &[u8]) -> bool {
+    is_zero(&result[result::LATENCY])
+}
+
+fn only_failed_has_a_failure(result: &[u8]) -> bool {
+    result[result::COLUMN] == FAILED
+        || is_zero(&result[result::BRIDGE_ID]) && result[result::CODE] == 0
+}
+
+fn entry_agrees_with_column(result: &[u8]) -> bool {
+    let (column, entry) = (result[result::COLUMN], result[result::ENTRY]);
+    let is_declared = column == ADVERTISE || column == FAILED;
+    (!is_declared || entry != 0) && (entry != FORWARD || column == ADVERTISE)
+}
+
+fn ages_agree_with_entries(table: &[u8]) -> bool {
+    let second = u64::from(clock(table) / 100);
+    every_result(table, |result| {
+        let since = number_of(&result[result::SINCE]);
+        since == 0 || result[result::ENTRY] != 0 && since <= second
+    })
+}
+
+// ---- the table of a bridge ----
+
+/// The table that holds a bridge.
+pub fn encode(bridge: &Bridge) -> Vec<u8> {
+    let mut out = Vec::with_capacity(TABLE_LENGTH);
+    out.extend(settings::write(&bridge.settings));
+    out.resize(CLOCK.start, 0);
+    out.extend(bridge.clock.to_be_bytes());
+    out.push(bridge.registrations.streams.len() as u8);
+    for total in &bridge.settled.totals {
+        out.extend(&total.a.to_be_bytes()[3..]);
+        out.extend(&total.b.to_be_bytes()[3..]);
+    }
+    out.resize(RECORDS, 0);
+    for (stream_id, on_ports) in &bridge.registrations.streams {
+        let settled = bridge.settled.streams.get(stream_id);
+        put_record(&mut out, *stream_id, on_ports, settled);
+    }
+    out.resize(TABLE_LENGTH, 0);
+    out
+}
+
+fn put_record(
+    out: &mut Vec<u8>,
+    stream_id: StreamId,
+    on_ports: &[OnPort],
+    settled: Option<&SettledStream>,
+) {
+    let start = out.len();
+    out.extend(stream_id.to_be_bytes());
+    // A stream joined since the last advance has zeros here and in its results.
+    if let Some(settled) = settled {
+        out.extend(settled.parameters.octets());
+    }
+    out.resize(start + record::CELLS.start, 0);
+    for on_port in on_ports {
+        put_cell(out, on_port);
+    }
+    out.resize(start + record::RESULTS.start, 0);
+    for settled_on_port in settled.map_or(&[][..], |settled| &settled.ports) {
+        put_result(out, settled_on_port);
+    }
+    out.resize(start + RECORD_LENGTH, 0);
+}
+
+fn put_cell(out: &mut Vec<u8>, on_port: &OnPort) {
+    let start = out.len();
+    if let Some(talker) = &on_port.talker {
+        out.push(if talker.failure.is_none() { ADVERTISE } else { FAILED });
+        out.push(u8::from(talker.changed));
+        put_leaving(out, talker.leaving);
+        out.extend(talker.parameters.octets());
+        out.extend(talker.accumulated_latency.to_be_bytes());
+        put_failure(out, talker.failure);
+    }
+    out.resize(start + cell::LISTENER, 0);
+    if let Some(listener) = &on_port.listener {
+        out.push(listener_kind(Some(listener.listener_type)));
+        put_leaving(out, listener.leaving);
+    }
+    out.resize(start + cell::LENGTH, 0);
+}
+
+fn put_leaving(out: &mut Vec<u8>, leaving: Option<u32>) {
+    out.push(u8::from(leaving.is_some()));
+    out.extend(leaving.unwrap_or(0).to_be_bytes());
+}
+
+fn put_failure(out: &mut Vec<u8>, failure: Option<Failure>) {
+    let failure = failure.unwrap_or(Failure { bridge_id: 0, code: 0 });
+    out.extend(failure.bridge_id.to_be_bytes());
+    out.push(failure.code);
+}
+
+fn put_result(out: &mut Vec<u8>, settled: &SettledOnPort) {
+    let (column, failure) = match settled.column {
+        Column::None => (0, None),
+        Column::Advertise => (ADVERTISE, None),
+        Column::Failed(failure) => (FAILED, Some(failure)),
+    };
+    out.push(column);
+    out.extend(settled.latency_out.to_be_bytes());
+    put_failure(out, failure);
+    out.push(match settled.entry {
+        Entry::None => 0,
+        Entry::Filter => FILTER,
+        Entry::Forward => FORWARD,
+    });
+    out.extend(settled.entry_since.unwrap_or(0).to_be_bytes());
+    out.push(listener_kind(settled.listener));
+}
+
+fn listener_kind(listener: Option<ListenerType>) -> u8 {
+    match listener {
+        None => 0,
+        Some(ListenerType::AskingFailed) => 1,
+        Some(ListenerType::Ready) => 2,
+        Some(ListenerType::ReadyFailed) => 3,
+    }
+}
+
+// ---- the bridge of a table ----
+
+/// The bridge that a table holds; nothing where it breaks a form rule.
+pub fn decode(table: &[u8]) -> Option<Bridge> {
+    if !keeps_form(table) {
+        return None;
+    }
+    let ports = ports(table);
+    let settings = settings::read(&table[..settings::length(ports)])?;
+    let mut registrations = Registrations::none(ports);
+    let mut settled = Settled::empty(ports);
+    settled.totals = (0..ports).map(|place| totals(table, place)).collect();
+    for record in used_records(table) {
+        let stream_id = number_of(&record[record::STREAM_ID]);
+        let on_ports = cells(record).take(ports).map(on_port).collect();
+        registrations.streams.insert(stream_id, on_ports);
+        let settled_stream = SettledStream {
+            parameters: Parameters::of(&record[record::PARAMETERS]),
+            ports: results(record).take(ports).map(settled_on_port).collect(),
+        };
+        settled.streams.insert(stream_id, settled_stream);
+    }
+    Some(Bridge { settings, clock: clock(table), registrations, settled })
+}
+
+fn on_port(cell: &[u8]) -> OnPort {
+    let leaving = |flag: u8, since: &[u8]| (flag == 1).then_some(number_of(since) as u32);
+    let failure = Failure { bridge_id: number_of(&cell[cell::BRIDGE_ID]), code: cell[cell::CODE] };
+    let talker = (cell[cell::TALKER] != 0).then(|| TalkerRegistration {
+        parameters: Parameters::of(&cell[cell::PARAMETERS]),
+        accumulated_latency: number_of(&cell[cell::LATENCY]) as u32,
+        failure: (cell[cell::TALKER] == FAILED).then_some(failure),
+        changed: cell[cell::CHANGED] == 1,
+        leaving: leaving(cell[cell::TALKER_LEAVING], &cell[cell::TALKER_SINCE]),
+    });
+    let listener = listener_type(cell[cell::LISTENER]).map(|listener_type| ListenerRegistration {
+        listener_type,
+        leaving: leaving(cell[cell::LISTENER_LEAVING], &cell[cell::LISTENER_SINCE]),
+    });
+    OnPort { talker, listener }
+}
+
+fn settled_on_port(result: &[u8]) -> SettledOnPort {
+    let failure =
+        Failure { bridge_id: number_of(&result[result::BRIDGE_ID]), code: result[result::CODE] };
+    let entry = match result[result::ENTRY] {
+        FORWARD => Entry::Forward,
+        FILTER => Entry::Filter,
+        _ => Entry::None,
+    };
+    SettledOnPort {
+        column: match result[result::COLUMN] {
+            ADVERTISE => Column::Advertise,
+            FAILED => Column::Failed(failure),
+            _ => Column::None,
+        },
+        latency_out: number_of(&result[result::LATENCY]) as u32,
+        listener: listener_type(result[result::LISTENER]),
+        entry,
+        entry_since: (entry != Entry::None).then_some(number_of(&result[result::SINCE]) as u32),
+    }
+}
+
+fn listener_type(kind: u8) -> Option<ListenerType> {
+    match kind {
+        1 => Some(ListenerType::AskingFailed),
+        2 => Some(ListenerType::Ready),
+        3 => Some(ListenerType::ReadyFailed),
+        _ => None,
+    }
+}
+
+const _: () = assert!(TABLE_LENGTH == 31_824);
+const _: () = assert!(record::PARAMETERS.end - record::PARAMETERS.start == PARAMETERS_LENGTH);
