@@ -18,6 +18,7 @@
 //! * [`records`]: taking records from an input, and watching the calls they make;
 //! * [`sheet`], [`calls`]: the two programs;
 //! * [`script`]: inputs written by hand;
+//! * [`written`]: PDUs that a port has written, taken apart;
 //! * [`frame`], [`random`], [`generator`], [`files`]: inputs for comparisons;
 //! * [`coverage`]: what the generated inputs reach.
 
@@ -39,3 +40,4 @@ pub mod settling;
 pub mod sheet;
 pub mod table;
 pub mod words;
+pub mod written;

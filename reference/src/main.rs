@@ -4,6 +4,7 @@
 //! * `sheet`: srpsheet on standard input;
 //! * `calls`: srpcalls on standard input;
 //! * `records sheet`, `records calls`: the records of a text on standard input, as `script` tells;
+//! * `written`: the declarations of PDUs in hex on standard input, as `written` tells;
 //! * `make sheet SEED`, `make calls SEED`, `make calls-batch FIRST COUNT`: generated inputs;
 //! * `make sheets FIRST COUNT FOLDER`, `make scripts FIRST COUNT FOLDER`: the same as files, with
 //!   what they print;
@@ -15,13 +16,14 @@ use std::process::ExitCode;
 
 use reference::coverage::Coverage;
 use reference::script::{self, Program};
-use reference::{calls, files, generator, sheet};
+use reference::{calls, files, generator, sheet, written};
 
 const USAGE: &str = "\
 usage: reference
        reference sheet
        reference calls
        reference records sheet|calls
+       reference written
        reference make sheet SEED
        reference make calls SEED
        reference make calls-batch FIRST COUNT
@@ -36,6 +38,7 @@ enum Task {
     Sheet,
     Calls,
     Records(Program),
+    Written,
     MakeSheet(u64),
     MakeCalls(u64),
     MakeCallsBatch(u64, u64),
@@ -52,6 +55,7 @@ fn task(arguments: &[&str]) -> Option<Task> {
         ["calls"] => Some(Task::Calls),
         ["records", "sheet"] => Some(Task::Records(Program::Sheet)),
         ["records", "calls"] => Some(Task::Records(Program::Calls)),
+        ["written"] => Some(Task::Written),
         ["make", "sheet", seed] => Some(Task::MakeSheet(number(seed)?)),
         ["make", "calls", seed] => Some(Task::MakeCalls(number(seed)?)),
         ["make", "calls-batch", first, count] => {
@@ -75,22 +79,30 @@ fn standard_input() -> std::io::Result<Vec<u8>> {
     Ok(input)
 }
 
+fn standard_text() -> std::io::Result<String> {
+    Ok(String::from_utf8_lossy(&standard_input()?).into_owned())
+}
+
+/// Says what is wrong with an input.
+fn said(fault: &str) -> ExitCode {
+    eprintln!("{fault}");
+    ExitCode::from(2)
+}
+
 fn run(task: Task) -> std::io::Result<ExitCode> {
     let mut code = ExitCode::SUCCESS;
     let output = match task {
         Task::Example => sheet::run(&sheet::worked_example()).into_bytes(),
         Task::Sheet => sheet::run(&standard_input()?).into_bytes(),
         Task::Calls => calls::run(&standard_input()?).into_bytes(),
-        Task::Records(program) => {
-            let text = String::from_utf8_lossy(&standard_input()?).into_owned();
-            match script::records(&text, program) {
-                Ok(octets) => octets,
-                Err(fault) => {
-                    eprintln!("{fault}");
-                    return Ok(ExitCode::from(2));
-                }
-            }
-        }
+        Task::Records(program) => match script::records(&standard_text()?, program) {
+            Ok(octets) => octets,
+            Err(fault) => return Ok(said(&fault)),
+        },
+        Task::Written => match written::taken_apart(&standard_text()?) {
+            Ok(lines) => lines.into_bytes(),
+            Err(fault) => return Ok(said(&fault)),
+        },
         Task::MakeSheet(seed) => generator::sheet(seed),
         Task::MakeCalls(seed) => generator::calls(seed).octets,
         Task::MakeCallsBatch(first, count) => generator::calls_batch(first, count),

@@ -4,30 +4,16 @@ use crate::helpers::*;
 use reference::bridge::{Table, WriteAnswer};
 use reference::declarations::{self, Declaration};
 use reference::generator;
-use reference::pdu::{self, AttributeType, Event, StreamId, Value};
+use reference::pdu::{self, AttributeType, StreamId};
 use reference::records::{Call, Watcher};
+use reference::script::{records, Program};
 use reference::settings::PerClass;
+use reference::written::{declarations_of, taken_apart};
 use reference::{calls, numbers};
 
 /// The declarations that a PDU carries, each as its one value with event JoinMt.
 fn read_back(octets: &[u8]) -> Vec<Declaration> {
-    let pdu = pdu::read(octets).expect("what is written can be read");
-    assert!(pdu.end_mark);
-    let mut read = Vec::new();
-    for vector in pdu.vectors() {
-        assert!(!vector.leave_all);
-        assert_eq!(vector.values.len(), 1);
-        let (event, value) = vector.values[0];
-        assert_eq!(event, Event::JoinMt);
-        read.push(match value {
-            Value::Talker(talker) => Declaration::Talker(talker),
-            Value::Listener(stream_id, listener) => {
-                Declaration::Listener(stream_id, listener.expect("not Ignore"))
-            }
-            Value::Domain => panic!("no Domain is declared"),
-        });
-    }
-    read
+    declarations_of(octets).expect("what is written can be read")
 }
 
 /// All PDUs of a port, following the next places.
@@ -300,4 +286,45 @@ fn all_writes_of_generated_scripts_read_back() {
         calls::run_watched(&generator::calls(seed).octets, &mut watcher);
     }
     assert!(watcher.checked > 1_000);
+}
+
+/// PDUs in hex, one to a line.
+fn in_hex(pdus: &[Vec<u8>]) -> String {
+    let line = |pdu: &Vec<u8>| pdu.iter().map(|octet| format!("{octet:02x}")).collect::<String>();
+    pdus.iter().map(line).collect::<Vec<String>>().join("\n")
+}
+
+#[test]
+fn pdus_are_taken_apart_into_the_words_of_a_text() {
+    let pdus = all_pdus(&crowd(53, 2, 9), 2);
+    let printed = taken_apart(&in_hex(&pdus)).expect("they are as 01 says");
+    let (lengths, words): (Vec<&str>, Vec<&str>) =
+        printed.lines().partition(|line| line.starts_with("pdu"));
+    let expected =
+        ["pdu 1493 advertise 53 failed 0 listener 0", "pdu 197 advertise 0 failed 2 listener 9"];
+    assert_eq!(lengths, expected);
+    let declared: Vec<Declaration> = pdus.iter().flat_map(|pdu| read_back(pdu)).collect();
+    assert_eq!(words.len(), declared.len());
+    for (words, declaration) in words.iter().zip(declared) {
+        let record = records(&format!("on 1 {words}"), Program::Calls).expect("a record");
+        assert_eq!(read_back(&record[3..]), [declaration]);
+    }
+}
+
+#[test]
+fn pdus_that_are_not_as_01_says_are_refused() {
+    let pdus = all_pdus(&crowd(53, 2, 9), 2);
+    let join_in = in_hex(&pdus).replacen("6c", "24", 1);
+    let declared = read_back(&pdus[1]);
+    let not_full = [declarations::pdu(&declared[..1]), declarations::pdu(&declared[1..])];
+    let swapped = in_hex(&[pdus[1].clone(), pdus[0].clone()]);
+    for (text, fault) in [
+        (join_in.as_str(), "a PDU isn't laid out as it is written"),
+        (in_hex(&not_full).as_str(), "PDU 1 could have taken one more"),
+        (swapped.as_str(), "the declarations are out of order"),
+        ("000", "000 isn't pairs of hexadecimal digits"),
+        ("0000", "a PDU is refused: 3"),
+    ] {
+        assert!(taken_apart(text).expect_err(text).starts_with(fault), "{text}");
+    }
 }
