@@ -14,6 +14,7 @@ use crate::registrations::MOST_STREAMS;
 use crate::settings::{self, Settings, MOST_PORTS};
 use crate::settling::{self, ByStreamAndPort, Column, Decision, SettledStream, Step};
 use crate::sheet;
+use crate::table;
 use crate::words;
 
 /// The rows of the table: all that is counted.
@@ -178,6 +179,34 @@ const ROWS: &[&str] = &[
     "sheets longer than 65536 octets",
     "sheets with 64 streams",
     "scripts that stop",
+    "form rule 1 broken alone",
+    "form rule 2 broken alone",
+    "form rule 3 broken alone",
+    "form rule 4 broken alone",
+    "form rule 5 broken alone",
+    "form rule 6 broken alone",
+    "form rule 7 broken alone",
+    "form rule 8 broken alone",
+    "form rule 9 broken alone",
+    "form rule 10 broken alone",
+    "form rule 11 broken alone",
+    "form rule 12 broken alone",
+    "form rule 13 broken alone",
+    "form rule 14 broken alone",
+    "form rule 15 broken alone",
+    "form rule 16 broken alone",
+    "form rule 17 broken alone",
+    "form rule 18 broken alone",
+    "form rule 19 broken alone",
+    "form rule 20 broken alone",
+    "form rule 21 broken alone",
+    "form rule 22 broken alone",
+    "form rule 23 broken alone",
+    "form rule 24 broken alone",
+    "octet stored that breaks the form",
+    "octet stored that keeps the form",
+    "sum of the table's octets",
+    "octets of the table",
 ];
 
 /// Counts by row.
@@ -273,6 +302,10 @@ impl Coverage {
         let stops = printed.lines().any(|line| line == "stop");
         assert_eq!(stops, script.stops, "a script stops exactly where it is meant to");
         self.count_if("scripts that stop", stops);
+        for line in printed.lines() {
+            self.count_if("sum of the table's octets", line.starts_with("table "));
+            self.count_if("octets of the table", line.starts_with("octets"));
+        }
     }
 
     /// The table of rows, and whether each has occurred.
@@ -288,6 +321,13 @@ impl Coverage {
     }
 
     // ---- each call ----
+
+    /// A table that is refused, where one form rule alone is the cause.
+    fn broken(&mut self, table: &Table) {
+        if let [rule] = table::broken_rules(table.lent())[..] {
+            self.count(&format!("form rule {rule} broken alone"));
+        }
+    }
 
     fn started(&mut self, octets: &[u8], number: Number) {
         self.count_if("start again on a running bridge", number == 0 && self.before.is_some());
@@ -672,6 +712,9 @@ impl Watcher for Coverage {
             Call::Report { .. } => "report",
         };
         self.count(&format!("{name} {number}"));
+        if number == numbers::TABLE {
+            self.broken(table);
+        }
         let bridge = table.bridge();
         if let Call::Start(octets) = call {
             self.started(octets, number);
@@ -701,5 +744,7 @@ impl Watcher for Coverage {
 
     fn stored(&mut self, table: &Table) {
         self.before = table.bridge().cloned();
+        self.count_if("octet stored that breaks the form", self.before.is_none());
+        self.count_if("octet stored that keeps the form", self.before.is_some());
     }
 }

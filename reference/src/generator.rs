@@ -2,8 +2,9 @@
 //!
 //! Most of an input is a well-formed history: few streams, so that ports meet in them; Talkers
 //! and Listeners on different ports; limits around sums of demands. Damaged frames, wrong ports,
-//! wrong settings and cut records are mixed in. The generator makes each call on a table of its
-//! own while it writes, so that it knows the clock, the streams held and the next places.
+//! wrong settings and cut records are mixed in, in scripts of calls also octets stored in the
+//! table. The generator makes each call on a table of its own while it writes, so that it knows
+//! the clock, the streams held, the next places and the octet that stood where one is stored.
 
 use crate::bridge::{Table, ROOM_LENGTH};
 use crate::declarations;
@@ -14,6 +15,7 @@ use crate::registrations::MOST_STREAMS;
 use crate::settings::{self, PerClass, PortSettings, Settings, CLASSES, MOST_PORTS};
 use crate::settling;
 use crate::sheet;
+use crate::stored;
 use crate::table::TABLE_LENGTH;
 
 /// The numbers of the events in a ThreePackedEvents octet.
@@ -647,13 +649,27 @@ fn wrong_settings(random: &mut Random, settings: &Settings) -> Vec<u8> {
 /// An input that is being written, with the table that its calls would leave.
 struct History {
     random: Random,
+    /// Decides where a script looks at the table's octets; a sheet never does.
+    looks: Option<Random>,
     table: Table,
     octets: Vec<u8>,
 }
 
 impl History {
     fn new(random: Random) -> History {
-        History { random, table: Table::zeros(), octets: Vec::new() }
+        History { random, looks: None, table: Table::zeros(), octets: Vec::new() }
+    }
+
+    /// In so many of a hundred cases the sum of the table's octets; rarely the octets.
+    fn look(&mut self, percent: u64) {
+        if let Some(random) = &mut self.looks {
+            if random.percent(percent) {
+                self.octets.push(0x60);
+            }
+            if random.below(1_000) == 0 {
+                self.octets.push(0x61);
+            }
+        }
     }
 
     fn clock(&self) -> u32 {
@@ -673,12 +689,14 @@ impl History {
     fn receive(&mut self, port: u32, pdu: &[u8]) {
         self.put_counted(0x10 | port as u8, pdu);
         self.table.receive(port, pdu);
+        self.look(85);
     }
 
     fn advance(&mut self, time: u32) {
         self.octets.push(0x20);
         self.octets.extend(time.to_be_bytes());
         self.table.advance(time);
+        self.look(85);
     }
 
     fn port(&mut self, plan: &Plan) -> u32 {
@@ -1012,6 +1030,7 @@ impl History {
     fn start(&mut self, settings: &[u8]) {
         self.put_counted(0x00, settings);
         self.table.start(settings);
+        self.look(85);
     }
 
     /// A write; gives the next place.
@@ -1019,6 +1038,7 @@ impl History {
         self.octets.push(0x30 | port as u8);
         self.octets.extend(place.to_be_bytes());
         self.octets.extend(buffer_length.to_be_bytes());
+        self.look(15);
         let mut buffer = vec![0; usize::from(buffer_length)];
         self.table.write(port, u32::from(place), &mut buffer).next_place as u16
     }
@@ -1026,26 +1046,50 @@ impl History {
     fn report(&mut self, port: u32, place: u16) {
         self.octets.push(0x40 | port as u8);
         self.octets.extend(place.to_be_bytes());
+        self.look(15);
     }
 
     fn lend(&mut self, length: usize) {
         self.octets.push(0x51);
         self.octets.extend((length as u16).to_be_bytes());
         self.table.lend(length);
+        self.look(30);
+    }
+
+    fn store(&mut self, place: usize, octet: u8) {
+        self.octets.push(0x50);
+        self.octets.extend((place as u16).to_be_bytes());
+        self.octets.push(octet);
+        self.table.store(place, octet);
+        self.look(70);
     }
 
     /// Stores an octet in the table's room behind the table, or past the room.
-    fn store(&mut self) {
+    fn store_behind(&mut self) {
         let place = match self.random.below(4) {
             0 => TABLE_LENGTH,
             1 => ROOM_LENGTH - 1,
             2 => ROOM_LENGTH + self.random.below(2) as usize,
             _ => self.random.between(TABLE_LENGTH as u64, 0xffff) as usize,
         };
-        self.octets.push(0x50);
-        self.octets.extend((place as u16).to_be_bytes());
         let octet = self.random.octet();
-        self.octets.push(octet);
+        self.store(place, octet);
+    }
+
+    /// Stores an octet in the table and goes on with some calls. Where they are refused, mostly the
+    /// octet that stood there is stored again.
+    fn store_and_go_on(&mut self, plan: &Plan) {
+        let (place, octet) = stored::some_octet(&mut self.random, self.table.lent());
+        let held = self.table.lent()[place];
+        self.store(place, octet);
+        for _ in 0..self.random.between(1, 4) {
+            self.some_call(plan);
+        }
+        match (self.table.bridge().is_some(), self.random.below(100)) {
+            (false, 0..=91) | (true, 0..=14) => self.store(place, held),
+            (false, 92..=95) => self.start(&settings::write(&plan.settings)),
+            _ => {}
+        }
     }
 
     /// All PDUs of a port, following the next places, and all its reports.
@@ -1230,7 +1274,7 @@ impl History {
 
     /// One thing in a script: mostly a step of the bridge's history.
     fn script_step(&mut self, plan: &Plan) {
-        match self.random.below(100) {
+        match self.random.below(108) {
             0..=79 => self.step(plan),
             80..=91 => self.some_look(plan),
             92..=94 => {
@@ -1242,7 +1286,8 @@ impl History {
                 self.start(&settings);
             }
             96..=97 => self.wrong_length(plan),
-            98 => self.store(),
+            98 => self.store_behind(),
+            100..=107 => self.store_and_go_on(plan),
             _ if self.random.percent(30) => self.too_long(),
             _ => self.step(plan),
         }
@@ -1255,6 +1300,7 @@ pub fn calls(seed: u64) -> Script {
     let mut size = size(&mut random);
     let mut plan = plan(&mut random, size);
     let mut history = History::new(random);
+    history.looks = Some(Random::new(!seed));
     if history.random.percent(12) {
         for _ in 0..history.random.between(1, 5) {
             history.some_call(&plan);

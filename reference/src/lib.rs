@@ -19,7 +19,7 @@
 //! * [`sheet`], [`calls`]: the two programs;
 //! * [`script`]: inputs written by hand;
 //! * [`written`]: PDUs that a port has written, taken apart;
-//! * [`frame`], [`random`], [`generator`], [`files`]: inputs for comparisons;
+//! * [`frame`], [`random`], [`stored`], [`generator`], [`files`]: inputs for comparisons;
 //! * [`coverage`]: what the generated inputs reach.
 
 pub mod bridge;
@@ -38,6 +38,7 @@ pub mod script;
 pub mod settings;
 pub mod settling;
 pub mod sheet;
+pub mod stored;
 pub mod table;
 pub mod words;
 pub mod written;

@@ -28,6 +28,21 @@ fn a_script_stops_exactly_where_it_is_meant_to() {
 }
 
 #[test]
+fn scripts_look_at_the_table_often_and_go_on_where_octets_are_stored() {
+    let (mut changing, mut sums, mut refused) = (0, 0, 0);
+    for seed in 0..300 {
+        for line in calls::run(&generator::calls(seed).octets).lines() {
+            let changes = ["start", "receive", "advance"].iter().any(|name| line.starts_with(name));
+            changing += usize::from(changes);
+            sums += usize::from(line.starts_with("table "));
+            refused += usize::from(changes && line.ends_with(" 12"));
+        }
+    }
+    assert!(sums > changing, "{sums} sums of {changing}");
+    assert!(refused < changing / 5, "{refused} refused of {changing}");
+}
+
+#[test]
 fn a_batch_goes_on_to_its_last_script() {
     for first in [0, 100, 200] {
         let printed = calls::run(&generator::calls_batch(first, 60));

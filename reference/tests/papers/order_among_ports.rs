@@ -73,6 +73,11 @@ impl Watcher for Runs {
             _ => {}
         }
     }
+
+    /// Octets stored among the frames end a run.
+    fn stored(&mut self, _: &Table) {
+        self.settled = None;
+    }
 }
 
 #[test]

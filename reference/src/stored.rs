@@ -1,0 +1,151 @@
+//! Octets to store in a table: places and values that break one form rule and no other, or that
+//! keep them all.
+
+use std::ops::Range;
+
+use crate::random::Random;
+use crate::registrations::MOST_STREAMS;
+use crate::settings::{self, MOST_PORTS};
+use crate::table::{self, cell, record, result, TABLE_LENGTH};
+
+/// What an octet is stored for.
+#[derive(Clone, Copy, Debug, PartialEq, Eq)]
+enum Aim {
+    /// This form rule is broken and no other.
+    Breaks(u8),
+    /// No form rule is broken.
+    Keeps,
+    /// Whatever comes of it, at a place that this form rule looks at.
+    Any(u8),
+}
+
+/// How often a place and a value are drawn to meet the aim; the last draw is taken as it is.
+const MOST_DRAWS: usize = 16;
+
+/// A place of the table and an octet for it: mostly one that breaks a form rule and no other, else
+/// one that keeps them all, or any.
+pub fn some_octet(random: &mut Random, table: &[u8]) -> (usize, u8) {
+    let full = table::used(table) == MOST_STREAMS;
+    let rule = if full && random.percent(20) { 8 } else { random.between(2, 24) as u8 };
+    let aim = match random.below(20) {
+        0..=12 => Aim::Breaks(rule),
+        13..=18 => Aim::Keeps,
+        _ => Aim::Any(rule),
+    };
+    let mut stored = table.to_vec();
+    let mut draws = 0;
+    loop {
+        let (place, octet) = draw(random, table, aim);
+        stored[place] = octet;
+        draws += 1;
+        if draws == MOST_DRAWS || octet != table[place] && meets(&stored, aim) {
+            return (place, octet);
+        }
+        stored[place] = table[place];
+    }
+}
+
+fn meets(stored: &[u8], aim: Aim) -> bool {
+    match aim {
+        Aim::Breaks(rule) => table::broken_rules(stored) == [rule],
+        Aim::Keeps => table::keeps_form(stored),
+        Aim::Any(_) => true,
+    }
+}
+
+fn draw(random: &mut Random, table: &[u8], aim: Aim) -> (usize, u8) {
+    let fields = match aim {
+        Aim::Breaks(rule) | Aim::Any(rule) => field_of_rule(random, table, rule),
+        Aim::Keeps => field_in_use(random, table),
+    };
+    let place = random.between(fields.start as u64, fields.end as u64 - 1) as usize;
+    let held = table[place];
+    let any = random.octet();
+    let (above, below) = (held.wrapping_add(1), held.wrapping_sub(1));
+    (place, random.one_of(&[0, 1, 2, 3, 4, above, below, held ^ 1 << (any % 8), any]))
+}
+
+fn one(place: usize) -> Range<usize> {
+    place..place + 1
+}
+
+/// A field that a form rule looks at.
+fn field_of_rule(random: &mut Random, table: &[u8], rule: u8) -> Range<usize> {
+    let ports = table::ports(table);
+    let port = random.below(ports.max(1) as u64) as usize;
+    let past_used = table::RECORDS + table::RECORD_LENGTH * table::used(table);
+    match rule {
+        2 => one(8),
+        3 => 8..10,
+        4 => 9..11,
+        5 => one(settings::length(port)),
+        6 => settings::length(ports.min(MOST_PORTS - 1))..table::CLOCK.start,
+        7 => table::TOTALS..table::RECORDS,
+        8 => one(table::COUNT),
+        10 if past_used < TABLE_LENGTH && random.percent(30) => one(past_used),
+        10 if past_used < TABLE_LENGTH => past_used..TABLE_LENGTH,
+        _ => field_of_record(random, table, rule, port),
+    }
+}
+
+/// A field of a used record that a form rule looks at; the count where no record is used.
+fn field_of_record(random: &mut Random, table: &[u8], rule: u8, port: usize) -> Range<usize> {
+    let used = table::used(table) as u64;
+    if used == 0 {
+        return one(table::COUNT);
+    }
+    let start = table::RECORDS + table::RECORD_LENGTH * random.below(used) as usize;
+    let cells = start + record::CELLS.start;
+    let results = start + record::RESULTS.start;
+    let past = table::ports(table).min(MOST_PORTS - 1);
+    let (part, field) = match rule {
+        9 => (start, record::STREAM_ID),
+        11 if random.percent(60) => (start, one(record::PRIORITY)),
+        11 => (start, record::PARAMETERS),
+        13 if random.percent(50) => (cells, cell::LENGTH * past..record::CELLS.len()),
+        13 => (results, result::LENGTH * past..record::RESULTS.len()),
+        20..=24 => (results + result::LENGTH * port, field_of_result(random, rule)),
+        _ => (cells + cell::LENGTH * port, field_of_cell(random, rule)),
+    };
+    part + field.start..part + field.end
+}
+
+/// A field of a cell that a form rule looks at.
+fn field_of_cell(random: &mut Random, rule: u8) -> Range<usize> {
+    match rule {
+        12 | 14 => one(random.one_of(&[cell::TALKER, cell::LISTENER])),
+        15 => one(cell::CHANGED),
+        16 if random.percent(50) => cell::TALKER_LEAVING..cell::TALKER_SINCE.end,
+        16 => cell::LISTENER_LEAVING..cell::LISTENER_SINCE.end,
+        17 => one(cell::PRIORITY),
+        19 => cell::BRIDGE_ID.start..cell::CODE + 1,
+        _ => 0..cell::LENGTH,
+    }
+}
+
+/// A field of a result that a form rule looks at.
+fn field_of_result(random: &mut Random, rule: u8) -> Range<usize> {
+    match rule {
+        20 => one(random.one_of(&[result::COLUMN, result::ENTRY, result::LISTENER])),
+        21 => result::LATENCY,
+        22 => result::BRIDGE_ID.start..result::CODE + 1,
+        23 => one(random.one_of(&[result::COLUMN, result::ENTRY])),
+        _ => result::SINCE,
+    }
+}
+
+/// A field whose octets differ among tables that keep the form: settings, clock, totals, or one of
+/// a used record.
+fn field_in_use(random: &mut Random, table: &[u8]) -> Range<usize> {
+    let ports = table::ports(table).max(1);
+    match random.below(10) {
+        0..=1 => 0..settings::length(ports),
+        2 => table::CLOCK,
+        3 => table::TOTALS..table::TOTALS + table::TOTALS_LENGTH * ports,
+        _ => {
+            let rule = random.one_of(&[9, 11, 12, 14, 15, 16, 17, 18, 18, 20, 21, 22, 23, 24]);
+            let port = random.below(ports as u64) as usize;
+            field_of_record(random, table, rule, port)
+        }
+    }
+}
