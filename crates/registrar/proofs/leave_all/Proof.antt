@@ -52,7 +52,7 @@ quit-cell-requires c κs =
     let n = c .before .before .before .clock .result in
     let k = kindAt (a .args .kind) in
     let r = turn-record-laid (leaving (a .args .place) n k) (leaving-eight (a .args .place) n k) (a .args .table .now) (l .table) (a .pre .0) (l .k) h (l .inv .4) in
-    (r, search needs, a .pre .1, a .pre .2, a .pre .3)
+    (r, search needs, search needs, a .pre .2, a .pre .3)
 
 loop-again : tie.Need-loop-again Inv-loop μ-loop
 loop-again c =
