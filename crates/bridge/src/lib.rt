@@ -1,10 +1,15 @@
 // The bridge: five calls on a table that the caller lends (docs/TABLE.md). None asks anything of its arguments. For every input
 // each promises the one number, the one content of the table and of the buffer: those of crate model's `Calls`, by the relations
 // of specs/Promises.
-ghost use Rattle.bridge.specs.Promises.{Starts, Receives, Advances};
+ghost use mathlib.Core.Path.{_≡_};
+ghost use Rattle.declarations.specs.Shown.{shown};
+ghost use Rattle.bridge.specs.Promises.{Starts, Receives, Advances, Writes, Reports};
 
 // Octets of a table.
 pub const TABLE: usize = 31824;
+
+// The shortest buffer that a written PDU is sure to fit into.
+const BUFFER: usize = 1500;
 
 // Starts a bridge with these settings: no streams, clock 0. It looks at the table's length only.
 pub fn start(table: &mut [u8], settings: &[u8]) -> u8
@@ -63,4 +68,75 @@ pub fn advance(table: &mut [u8], time: u32) -> u8
         return 0;
     }
     12
+}
+
+// What write answers.
+pub struct Wrote {
+    pub number: u8,
+    pub length: usize,
+    pub next: usize,
+}
+
+// A write that is refused.
+fn refused_write(number: u8) -> Wrote
+    ensures { λ r. ⌜ (r .number ≡ number) × (r .length ≡ 0) × (r .next ≡ 0) ⌝ }
+{
+    Wrote {
+        number,
+        length: 0,
+        next: 0,
+    }
+}
+
+// Writes a PDU of a port's declarations, from a place on. Octets of the buffer past its length stay.
+pub fn write(table: &[u8], port: u32, place: u32, buffer: &mut [u8]) -> Wrote
+    ensures { λ r. ⌜ Writes (now (table .entry)) port place (now (buffer .entry)) (r .number) (r .length) (r .next) (now (buffer .exit)) ⌝ }
+{
+    let formed = form::is_formed(table);
+    if formed {
+        let ports = table::ports(table);
+        if port == 0 {
+            return refused_write(1);
+        }
+        if ports < port as usize {
+            return refused_write(1);
+        }
+        if buffer.len() < BUFFER {
+            return refused_write(10);
+        }
+        let p = port as usize - 1;
+        let count = declarations::count_declarations(table, p);
+        if count < place as usize {
+            return refused_write(13);
+        }
+        let pdu = declarations::write_pdu(table, p, place as usize, buffer);
+        return Wrote {
+            number: 0,
+            length: pdu.length,
+            next: pdu.next,
+        };
+    }
+    refused_write(12)
+}
+
+// Reports the streams held, a port's class totals and limits, and the stream at a place as the last advance settled it there.
+pub fn report(table: &[u8], port: u32, place: u32) -> declarations::Reported
+    ensures { λ r. ⌜ Reports (now (table .entry)) port place (shown r) ⌝ }
+{
+    let formed = form::is_formed(table);
+    if formed {
+        let ports = table::ports(table);
+        if port == 0 {
+            return declarations::refused_report(1);
+        }
+        if ports < port as usize {
+            return declarations::refused_report(1);
+        }
+        let count = table::count(table);
+        if count < place as usize {
+            return declarations::refused_report(13);
+        }
+        return declarations::report_at(table, port as usize - 1, place as usize);
+    }
+    declarations::refused_report(12)
 }
