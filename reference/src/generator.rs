@@ -1085,10 +1085,12 @@ impl History {
         for _ in 0..self.random.between(1, 4) {
             self.some_call(plan);
         }
-        match (self.table.bridge().is_some(), self.random.below(100)) {
-            (false, 0..=91) | (true, 0..=14) => self.store(place, held),
-            (false, 92..=95) => self.start(&settings::write(&plan.settings)),
-            _ => {}
+        if self.table.bridge().is_none() {
+            match self.random.below(100) {
+                0..=91 => self.store(place, held),
+                92..=95 => self.start(&settings::write(&plan.settings)),
+                _ => {}
+            }
         }
     }
 

@@ -69,6 +69,9 @@ pub mod result {
     pub const LISTENER: usize = 19;
 }
 
+const _: () = assert!(TABLE_LENGTH == 31_824);
+const _: () = assert!(record::PARAMETERS.end - record::PARAMETERS.start == PARAMETERS_LENGTH);
+
 /// The kinds of a Talker and of a column.
 const ADVERTISE: u8 = 1;
 const FAILED: u8 = 2;
@@ -98,12 +101,13 @@ pub fn used(table: &[u8]) -> usize {
     usize::from(table[COUNT]).min(MOST_STREAMS)
 }
 
-/// The total and the limit of a class on the port at a place.
+/// The class totals of the port at a place.
 fn totals(table: &[u8], place: usize) -> PerClass<u64> {
     let octets = &table[TOTALS + TOTALS_LENGTH * place..][..TOTALS_LENGTH];
     PerClass { a: number_of(&octets[..5]), b: number_of(&octets[5..]) }
 }
 
+/// The class limits of the port at a place.
 fn limits(table: &[u8], place: usize) -> PerClass<u64> {
     let octets = &table[settings::length(place) + 4..][..10];
     PerClass { a: number_of(&octets[..5]), b: number_of(&octets[5..]) }
@@ -434,6 +438,3 @@ fn listener_type(kind: u8) -> Option<ListenerType> {
         _ => None,
     }
 }
-
-const _: () = assert!(TABLE_LENGTH == 31_824);
-const _: () = assert!(record::PARAMETERS.end - record::PARAMETERS.start == PARAMETERS_LENGTH);
