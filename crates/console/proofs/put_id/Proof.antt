@@ -1,0 +1,15 @@
+-- `console::put_id` meets its contract. Assumes nothing.
+use borrow.Author.Needs.{needs}
+use Rattle.console.proofs.Laws.{number-put}
+use Rattle.console.proofs.put_id.Statement.{statement}
+use Rattle.console.proofs.put_id.Tie as tie
+
+returns : tie.Need-returns
+returns c =
+    let made = c .before .before .before .before .before .hex .ensures in
+    number-put _ _ _ _ _ _ _ _ _ (made .1 .0) (made .1 .1) (c .before .before .put .ensures)
+
+pub put-id-spec : {M : Type 1} → statement M
+put-id-spec =
+    tie.close
+    (tie.spec (λ c κs. search needs) (λ c. search needs) (λ c. search needs) (λ c κs. search needs) (λ c. search needs) returns)

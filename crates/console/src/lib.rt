@@ -1,0 +1,75 @@
+// Lines of text, built in octets that the caller lends and written by one call each. None of these asks anything of its
+// arguments: a place past the end of the line counts as the end, and what does not fit is left out.
+use libc::STDOUT_FILENO;
+ghost use mathlib.Core.Path.{_≡_};
+ghost use Prim.Native.Nat.{_≤_, min};
+ghost use lib.ListN.{length};
+ghost use Rattle.console.specs.Text.{Put, PutNumber};
+
+// The lesser of two numbers.
+fn least(a: usize, b: usize) -> usize
+    ensures { λ r. ⌜ (r ≡ min a b) × (r ≤ a) × (r ≤ b) ⌝ }
+{
+    if a < b { a } else { b }
+}
+
+// A text behind the first octets of a line: where it ends.
+pub fn put(line: &mut [u8], at: usize, text: &[u8]) -> usize
+    ensures { λ r. ⌜ Put (now (line .entry)) at (now (text .entry)) r (now (line .exit)) ⌝ }
+{
+    let from = least(at, line.len());
+    let n = least(text.len(), line.len() - from);
+    let end = from + n;
+    octets::copy(&text[0..n], &mut line[from..end]);
+    end
+}
+
+// A number in decimal.
+pub fn put_decimal(line: &mut [u8], at: usize, n: u64) -> usize
+    ensures { λ r. ⌜ PutNumber 10 1 n (now (line .entry)) at r (now (line .exit)) ⌝ }
+{
+    let mut text = [0u8; 20];
+    let k = io::decimal(n, &mut text);
+    put(line, at, &text[..k])
+}
+
+// A StreamID: 16 hexadecimal digits.
+pub fn put_id(line: &mut [u8], at: usize, id: u64) -> usize
+    ensures { λ r. ⌜ PutNumber 16 16 id (now (line .entry)) at r (now (line .exit)) ⌝ }
+{
+    let mut text = [0u8; 16];
+    let k = io::hex(id, 16, &mut text);
+    put(line, at, &text[..k])
+}
+
+// An octet: two hexadecimal digits.
+fn put_octet(line: &mut [u8], at: usize, octet: u8) -> usize
+    ensures { λ r. ⌜ PutNumber 16 2 octet (now (line .entry)) at r (now (line .exit)) ⌝ }
+{
+    let mut text = [0u8; 16];
+    let k = io::hex(octet as u64, 2, &mut text);
+    put(line, at, &text[..k])
+}
+
+// Octets, two hexadecimal digits each.
+pub fn put_octets(line: &mut [u8], at: usize, octets: &[u8]) -> usize
+    ensures { λ r. ⌜ r ≤ length (now (line .exit)) ⌝ }
+{
+    let mut end = least(at, line.len());
+    let mut i: usize = 0;
+    while i < octets.len() {
+        end = put_octet(line, end, octets[i]);
+        i += 1;
+    }
+    end
+}
+
+// Ends a line and writes it to standard output: false where it has no room for its end, or could not be written.
+pub fn write_line(line: &mut [u8], at: usize) -> bool {
+    if at < line.len() {
+        line[at] = b'\n';
+        let end = at + 1;
+        return io::write_all(STDOUT_FILENO, &line[0..end]);
+    }
+    false
+}
