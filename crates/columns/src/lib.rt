@@ -165,7 +165,9 @@ fn first_step(
     ensures { λ r. ⌜ columnShown r ≡ first (stepsFrom (toSettings (now (settings .entry))) p (toCell (now (here .entry)))
         (sourceIn t (toCell (now (talker .entry))))) advertise ⌝ }
 {
-    if talker[0] == 0 {
+    let kind = talker[0];
+    let mark = talker[1];
+    if kind == 0 {
         return ColumnRead::None;
     }
     if p == t {
@@ -175,10 +177,10 @@ fn first_step(
     if !supports(port, class) {
         return ColumnRead::None;
     }
-    if talker[0] != 1 {
+    if kind != 1 {
         return ColumnRead::Failed(octets::get(talker, 24, 8), talker[32]);
     }
-    if talker[1] == 1 {
+    if mark == 1 {
         return own(settings, 16);
     }
     if here[0] != 0 {

@@ -9,7 +9,9 @@ returns : tie.Need-returns
 returns c = no-age _ _ (c .if1 .taken)
 
 returns-2 : tie.Need-returns-2
-returns-2 c = age-begins _ _ _ (c .before .before .if1 .left) (c .if2 .taken)
+returns-2 c =
+    let a = c .before .before .before .before .args in
+    age-begins (a .result .now) (a .time) (a .entry) (c .before .before .if1 .left) (c .if2 .taken)
 
 returns-3 : tie.Need-returns-3
 returns-3 c = c .get .ensures .0 ∙ age-stays _ _ _ (c .before .before .before .if1 .left) (c .before .if2 .left)
