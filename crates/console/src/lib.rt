@@ -1,10 +1,14 @@
 // Lines of text, built in octets that the caller lends and written by one call each. None of these asks anything of its
 // arguments: a place past the end of the line counts as the end, and what does not fit is left out.
+use declarations::ColumnShown;
+use declarations::EntryShown;
+use declarations::ListenerShown;
 use libc::STDOUT_FILENO;
 ghost use mathlib.Core.Path.{_≡_};
 ghost use Prim.Native.Nat.{_≤_, min};
 ghost use lib.ListN.{length};
 ghost use Rattle.console.specs.Text.{Put, PutNumber};
+ghost use Rattle.console.specs.Words.{columnText, listenerText, entryText};
 
 // The lesser of two numbers.
 fn least(a: usize, b: usize) -> usize
@@ -62,6 +66,40 @@ pub fn put_octets(line: &mut [u8], at: usize, octets: &[u8]) -> usize
         i += 1;
     }
     end
+}
+
+// The word of a column.
+pub fn put_column(line: &mut [u8], at: usize, column: ColumnShown) -> usize
+    ensures { λ r. ⌜ Put (now (line .entry)) at (columnText column) r (now (line .exit)) ⌝ }
+{
+    match column {
+        ColumnShown::None => put(line, at, b"none"),
+        ColumnShown::Advertise => put(line, at, b"advertise"),
+        ColumnShown::Failed => put(line, at, b"failed"),
+    }
+}
+
+// The word of the Listener declared on a port.
+pub fn put_listener(line: &mut [u8], at: usize, listener: ListenerShown) -> usize
+    ensures { λ r. ⌜ Put (now (line .entry)) at (listenerText listener) r (now (line .exit)) ⌝ }
+{
+    match listener {
+        ListenerShown::None => put(line, at, b"none"),
+        ListenerShown::AskingFailed => put(line, at, b"asking"),
+        ListenerShown::Ready => put(line, at, b"ready"),
+        ListenerShown::ReadyFailed => put(line, at, b"readyfailed"),
+    }
+}
+
+// The word of an entry.
+pub fn put_entry(line: &mut [u8], at: usize, entry: EntryShown) -> usize
+    ensures { λ r. ⌜ Put (now (line .entry)) at (entryText entry) r (now (line .exit)) ⌝ }
+{
+    match entry {
+        EntryShown::None => put(line, at, b"none"),
+        EntryShown::Filter => put(line, at, b"filter"),
+        EntryShown::Forward => put(line, at, b"forward"),
+    }
 }
 
 // Ends a line and writes it to standard output: false where it has no room for its end, or could not be written.
