@@ -4,5 +4,6 @@ pub mod OnTables
 pub mod Receiving
 pub mod Reading
 pub mod Demand1
-pub mod Demand3
 pub mod Demand2
+pub mod Demand3
+pub mod Worked

@@ -1,0 +1,319 @@
+-- The worked example of 01, of the code: the calls of start, receive, receive, advance, report and write, on any table of the right
+-- length. Each premise is that call's contract (specs/Promises). What they answer is computed by the definitions and compared with
+-- what 01 prints; so a bridge that refuses all, has a single answer, does nothing, or makes up totals, lengths or places is none
+-- that meets the contracts.
+use mathlib.Core.Path.{_≡_, refl, sym, _∙_, ap}
+use mathlib.Core.List.{List, [], _∷_, _++_, map}
+use mathlib.Core.Bool.{true, false}
+use Prim.Native.Nat.{ℕ, _≤_}
+use native.Mathlib.Omega.{arith}
+use lib.ListN.{length, take, drop}
+use lib.Seq.{take-append-seam}
+use lib.Dec.{ltb}
+use borrow.Author.Tests.{le-ltb, ltb-true}
+use Rattle.octets.specs.Be
+use Rattle.octets.specs.Fields
+use Rattle.octets.specs.Parts
+use Rattle.model.specs.Lists.{Octets, allTrue}
+use Rattle.model.specs.Lists
+use Rattle.model.specs.State.{Bridge, nothing, tells, ready, noEntry, forwards}
+use Rattle.model.specs.State
+use Rattle.model.specs.Registrations
+use Rattle.model.specs.Frames
+use Rattle.model.specs.Bandwidth
+use Rattle.model.specs.Settling
+use Rattle.model.specs.Declarations.{Report, noneWord, advertiseWord}
+use Rattle.model.specs.Declarations
+use Rattle.model.specs.WrittenFrames
+use Rattle.model.specs.Table.{settingsFormed, toSettings, encode}
+use Rattle.model.specs.Table
+use Rattle.model.specs.Calls.{Call, startOn, receiveOn, advanceOn, reportOn, writeOn, writtenTo}
+use Rattle.model.specs.Calls
+use Rattle.model.proofs.Lists.{and-left, and-right}
+use Rattle.model.proofs.Valid.{Valid}
+use Rattle.model.proofs.Tables.{decode-encode, formed-encode, valid-started}
+use Rattle.model.proofs.ReceiveKeepsForm.{receive-keeps}
+use Rattle.model.proofs.AdvanceKeepsForm.{settle-keeps}
+use Rattle.model.proofs.Demand3.{receive-call, advance-call}
+use Rattle.bridge.specs.Promises.{Starts, Receives, Advances, Writes, Reports}
+use Rattle.bridge.proofs.Started.{started-table}
+use Rattle.bridge.proofs.Starting.{start-accepted}
+use Rattle.bridge.proofs.OnTables.{receive-wrong-port, advance-early}
+
+-- What is handed over, octet by octet.
+
+-- "both classes, overhead 42, largest 1522, limits 75000000 and 0, latency 0"
+port : List ℕ
+port =
+    0xC0 ∷ 0x2A ∷ 0x05 ∷ 0xF2 ∷ 0x00 ∷ 0x04 ∷ 0x78 ∷ 0x68 ∷ 0xC0 ∷ 0x00 ∷ 0x00 ∷ 0x00 ∷ 0x00 ∷ 0x00
+    ∷ 0x00 ∷ 0x00 ∷ 0x00 ∷ 0x00 ∷ 0x00 ∷ 0x00 ∷ 0x00 ∷ 0x00 ∷ []
+
+-- Bridge ID 7, "Two ports", "priorities 3 and 2, leave time 60"
+pub settings : List ℕ
+settings = 0x00 ∷ 0x00 ∷ 0x00 ∷ 0x00 ∷ 0x00 ∷ 0x00 ∷ 0x00 ∷ 0x07 ∷ 0x26 ∷ 0x80 ∷ 0x3C ∷ (port ++ port)
+
+pub talker : List ℕ
+talker =
+    0x00 ∷ 0x01 ∷ 0x19 ∷ 0x00 ∷ 0x1E ∷ 0x00 ∷ 0x01 ∷ 0x02 ∷ 0x00 ∷ 0x00 ∷ 0x00 ∷ 0x00 ∷ 0x01 ∷ 0x00 ∷ 0x01 ∷ 0x91 ∷ 0xE0 ∷ 0xF0
+    ∷ 0x00 ∷ 0xFE ∷ 0x00 ∷ 0x00 ∷ 0x02 ∷ 0x00 ∷ 0xE0 ∷ 0x00 ∷ 0x01 ∷ 0x70 ∷ 0x00 ∷ 0x00 ∷ 0x00 ∷ 0x00 ∷ 0x6C ∷ 0x00 ∷ 0x00 ∷ 0x00 ∷ 0x00 ∷ []
+
+pub listener : List ℕ
+listener =
+    0x00 ∷ 0x03 ∷ 0x08 ∷ 0x00 ∷ 0x0E ∷ 0x00 ∷ 0x01 ∷ 0x02 ∷ 0x00 ∷ 0x00 ∷ 0x00 ∷ 0x00 ∷ 0x01 ∷ 0x00 ∷ 0x01 ∷ 0x6C ∷ 0x80
+    ∷ 0x00 ∷ 0x00 ∷ 0x00 ∷ 0x00 ∷ []
+
+octets-tested : (s : List ℕ) → allTrue (map (λ (b : ℕ). ltb b 256) s) ≡ true → Octets s
+unfolding allTrue
+octets-tested [] e = tt
+octets-tested (b ∷ s) e =
+    let rest = allTrue (map (λ (c : ℕ). ltb c 256) s) in
+    (ltb-true b 256 (and-left (ltb b 256) rest e), octets-tested s (and-right (ltb b 256) rest e))
+
+-- The bridge after each call.
+
+begun : Bridge
+begun = State.started (toSettings settings)
+
+talking : Bridge
+talking = Calls.receive begun 1 talker .bridge
+
+heard : Bridge
+heard = Calls.receive talking 2 listener .bridge
+
+settled : Bridge
+settled = Settling.settle 100 heard
+
+-- Calls on the table of a valid bridge are those of the bridge.
+module _ (b : Bridge) (v : Valid b) (p place : ℕ) (w : Frames.wrongPort (b .settings) p ≡ false) where
+  report-call : reportOn (encode b) p place ≡ Declarations.report b p place
+  unfolding reportOn
+  report-call = rw (formed-encode b v, decode-encode b v, w)
+
+  write-call : (buffer : List ℕ) → 1500 ≤ length buffer → writeOn (encode b) p place buffer ≡ writtenTo buffer (Declarations.write b p place)
+  unfolding writeOn
+  write-call buffer l = rw (formed-encode b v, decode-encode b v, w, le-ltb _ _ l)
+
+-- What is computed.
+
+-- to unfold the last of these is to unfold all definitions of the bridge, and the example's own
+
+settingsOpened : Unit {0}
+unfolding Lists.allTrue Lists.parts Lists.isOne Parts.part Be.beAt Be.be Fields.fields Table.headWidths Table.portWidths Table.portFrom Table.toPort Table.portsField Table.toSettings Table.portRule Table.everyPart Table.settingsRules Table.settingsFormed port settings
+settingsOpened = tt
+
+stateOpened : Unit {0}
+unfolding Lists.tabulate Lists.bit State.empty State.unsettled State.noFixed State.noTotals State.blank State.fresh State.started State.noPort State.portAt State.isPort State.cellAt State.resultAt State.classOf State.isNoClass State.sameClass State.supports State.limit State.classLatency
+stateOpened = tt
+
+framesOpened : Unit {0}
+unfolding Frames.typeOctet Frames.firstWidths Frames.firstLength Frames.threeLength Frames.fourLength Frames.vectorAt Frames.vectorEnd Frames.overpacked Frames.runsPast Frames.overflows Frames.also Frames.both Frames.vectors Frames.listLength Frames.listAt Frames.messageEnd Frames.endMark Frames.message Frames.messages Frames.walk Frames.event Frames.threePacked Frames.fourPacked Frames.eventOf Frames.fourOf Frames.asking Frames.priorityOf Frames.rankOf Frames.fixedValue Frames.healthValue Frames.idValue Frames.hearing Frames.talkerAct Frames.listenerAct Frames.valueActs Frames.valuesActs Frames.leaveAllActs Frames.vectorActs Frames.frameActs Frames.walked Frames.wrongPort Frames.reading Calls.receive
+framesOpened = tt
+
+registrationsOpened : Unit {0}
+unfolding Registrations.begin Registrations.talksAs Registrations.hearsAs Registrations.quitTalker Registrations.quitListener Registrations.quit Registrations.sameFixed Registrations.joinTalker Registrations.does Registrations.at Registrations.change Registrations.begun Registrations.touch Registrations.reach Registrations.apply Registrations.applyAll Registrations.holding Registrations.received
+registrationsOpened = tt
+
+settlingOpened : Unit {0}
+unfolding Bandwidth.demand Bandwidth.rate Bandwidth.rateOfA Bandwidth.rateOfB Bandwidth.rateOf Bandwidth.key Bandwidth.above Bandwidth.insert Bandwidth.sort Bandwidth.share Bandwidth.reserved Bandwidth.remains Bandwidth.admitted Bandwidth.total Settling.expired Settling.expireTalker Settling.expireListener Settling.expireCell Settling.expire Settling.isTalking Settling.isHearing Settling.held Settling.remain Settling.source Settling.sourceOf Settling.isSource Settling.fixedOf Settling.latencyOf Settling.streamClass Settling.registered Settling.isReady Settling.first Settling.clear Settling.isBroken Settling.brokenColumn Settling.stepsFrom Settling.steps Settling.ageOf Settling.claim Settling.claims Settling.limitOn Settling.leftFor Settling.byBandwidth Settling.columnOf Settling.capped Settling.latencyOut Settling.entryOf Settling.ageKept Settling.latencyKept Settling.passed Settling.sameReady Settling.merge Settling.mergeAll Settling.merged Settling.decideAt Settling.decide Settling.totalOn Settling.totalsOn Settling.settle
+settlingOpened = tt
+
+writingOpened : Unit {0}
+unfolding Fields.packed Fields.flat Declarations.wordOf Declarations.codeOf Declarations.streamAt Declarations.report Declarations.healthKind Declarations.kindOf Declarations.advertised Declarations.failing Declarations.listening Declarations.declarationsOf Declarations.ofKind Declarations.declarations Declarations.vectorSize Declarations.sameKind Declarations.opening Declarations.fitting Declarations.takes Declarations.write WrittenFrames.priorityOctet WrittenFrames.fixedNumbers WrittenFrames.failureNumbers WrittenFrames.firstNumbers WrittenFrames.readyNumber WrittenFrames.fourOctets WrittenFrames.declarationVector WrittenFrames.vectorOctets WrittenFrames.typeNumber WrittenFrames.messageOf WrittenFrames.messageOctets WrittenFrames.having WrittenFrames.pduOctets
+writingOpened = tt
+
+opened : Unit {0}
+unfolding settingsOpened stateOpened framesOpened registrationsOpened settlingOpened writingOpened talker listener begun talking heard settled
+opened = tt
+
+settings-formed : settingsFormed settings ≡ true
+unfolding settingsOpened
+settings-formed = refl
+
+talker-taken : Calls.receive begun 1 talker .number ≡ 0
+unfolding opened
+talker-taken = refl
+
+listener-taken : Calls.receive talking 2 listener .number ≡ 0
+unfolding opened
+listener-taken = refl
+
+clock-zero : heard .clock ≡ 0
+unfolding opened
+clock-zero = refl
+
+ports-right : (Frames.wrongPort (settled .settings) 1 ≡ false) × (Frames.wrongPort (settled .settings) 2 ≡ false)
+unfolding opened
+ports-right = (refl, refl)
+
+no-port : Frames.wrongPort (settled .settings) 3 ≡ true
+unfolding opened
+no-port = refl
+
+clock-set : settled .clock ≡ 100
+unfolding opened
+clock-set = refl
+
+-- "port 1 A 0/75000000 B 0/0", "0200000000010001 1 none 0 ready none"
+pub reportOne : Report
+reportOne = record {
+  number = 0;
+  count = 1;
+  totalA = 0;
+  limitA = 75000000;
+  totalB = 0;
+  limitB = 0;
+  id = 0x0200000000010001;
+  column = noneWord;
+  code = 0;
+  listener = tells ready;
+  entry = noEntry;
+}
+
+-- "port 2 A 17088000/75000000 B 0/0", "0200000000010001 2 advertise 0 none forward"
+pub reportTwo : Report
+reportTwo = record {
+  number = 0;
+  count = 1;
+  totalA = 17088000;
+  limitA = 75000000;
+  totalB = 0;
+  limitB = 0;
+  id = 0x0200000000010001;
+  column = advertiseWord;
+  code = 0;
+  listener = nothing;
+  entry = forwards;
+}
+
+reports-computed : (Declarations.report settled 1 0 ≡ reportOne) × (Declarations.report settled 2 0 ≡ reportTwo)
+unfolding opened reportOne reportTwo
+reports-computed = (refl, refl)
+
+settings-octets : Octets settings
+unfolding settings port allTrue
+settings-octets = octets-tested settings refl
+
+talker-octets : Octets talker
+unfolding talker allTrue
+talker-octets = octets-tested talker refl
+
+listener-octets : Octets listener
+unfolding listener allTrue
+listener-octets = octets-tested listener refl
+
+-- port 1 declares the Listener as port 2 received it, and port 2 the Talker as port 1 did: one declaration each, so next place 1
+Writing : ℕ → List ℕ → Type 0
+Writing p s =
+    let w = Declarations.write settled p 0 in
+    (w .number ≡ 0) × (WrittenFrames.pduOctets (w .run) ≡ s) × (w .next ≡ 1)
+
+writes-computed : Writing 1 listener × Writing 2 talker
+unfolding opened Writing
+writes-computed = ((refl, refl, refl), (refl, refl, refl))
+
+-- The tables that the calls leave are those of these bridges.
+
+begun-valid : Valid begun
+unfolding begun
+begun-valid = valid-started settings settings-octets settings-formed
+
+talking-valid : Valid talking
+unfolding talking
+talking-valid = receive-keeps begun 1 talker talker-octets begun-valid
+
+heard-valid : Valid heard
+unfolding heard
+heard-valid = receive-keeps talking 2 listener listener-octets talking-valid
+
+clock-passed : heard .clock ≤ 100
+clock-passed = omega (arith, clock-zero)
+
+settled-valid : Valid settled
+unfolding settled
+settled-valid = settle-keeps heard 100 (omega arith) clock-passed heard-valid
+
+started-on : (t : List ℕ) → length t ≡ 31824 → startOn t settings ≡ record { number = 0; table = encode begun }
+unfolding begun
+started-on t right =
+    start-accepted t settings right settings-formed settings-octets
+    ∙ ap (λ (u : List ℕ). record { number = 0; table = u }) (sym (started-table settings settings-octets settings-formed))
+
+talker-on : receiveOn (encode begun) 1 talker ≡ record { number = 0; table = encode talking }
+unfolding talking
+talker-on = receive-call begun 1 talker begun-valid ∙ ap (λ (n : ℕ). record { number = n; table = encode (Calls.receive begun 1 talker .bridge) }) talker-taken
+
+listener-on : receiveOn (encode talking) 2 listener ≡ record { number = 0; table = encode heard }
+unfolding heard
+listener-on = receive-call talking 2 listener talking-valid ∙ ap (λ (n : ℕ). record { number = n; table = encode (Calls.receive talking 2 listener .bridge) }) listener-taken
+
+advanced-on : advanceOn (encode heard) 100 ≡ record { number = 0; table = encode settled }
+unfolding settled
+advanced-on = advance-call heard 100 heard-valid clock-passed
+
+-- port 3 is none of its ports, and 99 is before its clock
+port-refused : receiveOn (encode settled) 3 talker ≡ record { number = 1; table = encode settled }
+port-refused =
+    receive-wrong-port (encode settled) 3 talker (formed-encode settled settled-valid) (rw (decode-encode settled settled-valid) no-port)
+
+time-refused : advanceOn (encode settled) 99 ≡ record { number = 9; table = encode settled }
+time-refused =
+    advance-early (encode settled) 99 (formed-encode settled settled-valid)
+    (rw (decode-encode settled settled-valid, clock-set) (omega arith))
+
+-- a call's number and table, where the call is known
+taken : (n : ℕ) (u : List ℕ) (c : Call) (m : ℕ) (v : List ℕ) → (n ≡ c .number) × (u ≡ c .table) → c ≡ record { number = m; table = v } → (n ≡ m) × (u ≡ v)
+taken n u c m v h e = (h .0 ∙ ap (λ (a : Call). a .number) e, h .1 ∙ ap (λ (a : Call). a .table) e)
+
+-- a write of port p that leaves the PDU s, its one declaration
+abbrev pub Leaves : ℕ → List ℕ → List ℕ → Type 0
+Leaves p u s = (buffer : List ℕ) (n long next : ℕ) (after : List ℕ) → 1500 ≤ length buffer → Writes u p 0 buffer n long next after →
+    (n ≡ 0) × (long ≡ length s) × (next ≡ 1) × (take long after ≡ s)
+
+written-on : (p : ℕ) (s : List ℕ) → Frames.wrongPort (settled .settings) p ≡ false → Writing p s → Leaves p (encode settled) s
+unfolding Writing writtenTo
+written-on p s right w buffer n long next after enough call =
+    let e = write-call settled settled-valid p 0 right buffer enough in
+    let c = rw (e, w .0, w .1, w .2) at call in
+    (c .0, c .1, c .2, rw (c .1, c .3) (take-append-seam s (drop (length s) buffer)))
+
+-- Any table of the right length; the calls of the worked example, one after another.
+module _ (t : List ℕ) (right : length t ≡ 31824)
+    (n₀ : ℕ) (u₀ : List ℕ) (start : Starts t settings n₀ u₀)
+    (n₁ : ℕ) (u₁ : List ℕ) (first : Receives u₀ 1 talker n₁ u₁)
+    (n₂ : ℕ) (u₂ : List ℕ) (second : Receives u₁ 2 listener n₂ u₂)
+    (n₃ : ℕ) (u₃ : List ℕ) (advance : Advances u₂ 100 n₃ u₃) where
+  after-start : (n₀ ≡ 0) × (u₀ ≡ encode begun)
+  after-start = taken n₀ u₀ _ 0 _ start (started-on t right)
+
+  after-first : (n₁ ≡ 0) × (u₁ ≡ encode talking)
+  after-first = taken n₁ u₁ _ 0 _ (rw (after-start .1) at first) talker-on
+
+  after-second : (n₂ ≡ 0) × (u₂ ≡ encode heard)
+  after-second = taken n₂ u₂ _ 0 _ (rw (after-first .1) at second) listener-on
+
+  after-advance : (n₃ ≡ 0) × (u₃ ≡ encode settled)
+  after-advance = taken n₃ u₃ _ 0 _ (rw (after-second .1) at advance) advanced-on
+
+  pub all-accepted : (n₀ ≡ 0) × (n₁ ≡ 0) × (n₂ ≡ 0) × (n₃ ≡ 0)
+  all-accepted = (after-start .0, after-first .0, after-second .0, after-advance .0)
+
+  -- the sheet that 01 prints
+  pub reports-printed : (r₁ r₂ : Report) → Reports u₃ 1 0 r₁ → Reports u₃ 2 0 r₂ → (r₁ ≡ reportOne) × (r₂ ≡ reportTwo)
+  reports-printed r₁ r₂ one two = (
+    one ∙ rw (after-advance .1) (report-call settled settled-valid 1 0 (ports-right .0) ∙ reports-computed .0),
+    two ∙ rw (after-advance .1) (report-call settled settled-valid 2 0 (ports-right .1) ∙ reports-computed .1),
+  )
+
+  -- what port 2 received goes out on port 1, and what port 1 received on port 2
+  pub listener-written : Leaves 1 u₃ listener
+  listener-written = rw (after-advance .1) (written-on 1 listener (ports-right .0) (writes-computed .0))
+
+  pub talker-written : Leaves 2 u₃ talker
+  talker-written = rw (after-advance .1) (written-on 2 talker (ports-right .1) (writes-computed .1))
+
+  -- a port that it has not is refused with 1, a time before its clock with 9, and the table stays
+  pub wrong-port-refused : (n : ℕ) (u : List ℕ) → Receives u₃ 3 talker n u → (n ≡ 1) × (u ≡ u₃)
+  wrong-port-refused n u call = rw (after-advance .1) (taken n u _ 1 _ (rw (after-advance .1) at call) port-refused)
+
+  pub early-time-refused : (n : ℕ) (u : List ℕ) → Advances u₃ 99 n u → (n ≡ 9) × (u ≡ u₃)
+  early-time-refused n u call = rw (after-advance .1) (taken n u _ 9 _ (rw (after-advance .1) at call) time-refused)
