@@ -2,8 +2,8 @@
 -- event, StreamID and destination of each value, and the vectors that are left after each step. Assumes nothing.
 use mathlib.Core.Path.{_≡_, refl, sym, ap, _∙_}
 use mathlib.Core.List.{List, [], _∷_, _++_, append-assoc}
-use mathlib.Core.Bool.{false, not}
-use Prim.Native.Nat.{ℕ, zero, suc, _+_, _-_, _/_, _%_, _≤_, _<_}
+use mathlib.Core.Bool.{false}
+use Prim.Native.Nat.{ℕ, suc, _+_, _-_, _/_, _%_, _≤_, _<_}
 use native.Mathlib.Omega.{arith}
 use lib.ListN.{length, getD, take, drop}
 use lib.Dec.{ltb, eqb}
@@ -12,9 +12,9 @@ use Rattle.octets.specs.Be.{beAt}
 use Rattle.octets.specs.Fields.{fields}
 use Rattle.octets.proofs.Parts.{lent-part, length-part}
 use Rattle.model.specs.Registrations.{Kind, advertises, faileds, listeners}
-use Rattle.model.specs.Frames.{Attribute, registers, TypeOctet, notAllowed, unknown, known, typeOctet, firstWidths, firstLength, threeLength, fourLength, Vector, vectorAt, vectorEnd, overpacked, overflows, runsPast, Walk, fault, found, also, both, vectors, listLength, listAt, messageEnd, endMark, messages, walk, eventOf, fourOf, Asking, nothingAsked, join, withdraw, asking, fixedValue, idValue, vectorActs, frameActs}
+use Rattle.model.specs.Frames.{Attribute, registers, TypeOctet, notAllowed, unknown, known, typeOctet, firstWidths, firstLength, threeLength, fourLength, Vector, vectorAt, vectorEnd, overflows, runsPast, Walk, fault, found, also, both, messages, walk, eventOf, fourOf, Asking, nothingAsked, join, withdraw, asking, fixedValue, idValue, vectorActs, frameActs}
 use Rattle.model.specs.Frames as frames
-use Rattle.model.proofs.Refusals.{cond-either}
+use Rattle.model.proofs.Refusals.{walk-faults}
 use Rattle.model.proofs.FoundVectors.{Sound, or-left, or-right}
 use Rattle.msrpdu.specs.Reader.{headOf, vectorRead, firstPart, messageRead, numberOf, eventMeant, eventIn, fourIn, streamIdIn, destinationIn}
 use Rattle.msrpdu.specs.declared.VectorHead.{VectorHead}
@@ -272,65 +272,13 @@ acts-append (v ∷ us) vs = rw (acts-append us vs) (sym (append-assoc (vectorAct
 
 -- An accepted PDU, of number 0, is one whose vectors were all found: no fault has that number.
 
-abbrev Numbered : Walk → Type 0
-Numbered (fault n) = 0 < n
-Numbered (found vs) = Unit {0}
-
-numbered-also : (v : Vector) (w : Walk) → Numbered w → Numbered (also v w)
-unfolding also
-numbered-also v (fault n) h = h
-numbered-also v (found vs) h = tt
-
-numbered-both : (w x : Walk) → Numbered w → Numbered x → Numbered (both w x)
-unfolding both
-numbered-both (fault n) x h i = h
-numbered-both (found vs) (fault n) h i = i
-numbered-both (found vs) (found ws) h i = tt
-
-numbered-vectors : (f : ℕ) (k : Attribute) (l : List ℕ) (at : ℕ) → Numbered (vectors f k l at)
-unfolding vectors
-numbered-vectors zero k l at = omega arith
-numbered-vectors (suc f) k l at =
-    let h = beAt 2 l at in
-    cond-either Numbered (ltb (length l) (at + 2)) _ _ (omega arith)
-    (cond-either Numbered (eqb h 0) _ _ (cond-either Numbered (eqb (at + 2) (length l)) _ _ tt (omega arith))
-    (cond-either Numbered (ltb 1 (h / 8192)) _ _ (omega arith)
-    (cond-either Numbered (ltb (length l) (vectorEnd k at h)) _ _ (omega arith)
-    (cond-either Numbered (overpacked (vectorAt k l at h .three)) _ _ (omega arith)
-    (cond-either Numbered (overflows (vectorAt k l at h)) _ _ (omega arith)
-    (numbered-also (vectorAt k l at h) _ (numbered-vectors f k l (vectorEnd k at h))))))))
-
-numbered-message : (t : TypeOctet) (s : List ℕ) (at : ℕ) (rest : Walk) → Numbered rest → Numbered (frames.message t s at rest)
-unfolding frames.message
-numbered-message notAllowed s at rest r = omega arith
-numbered-message unknown s at rest r = cond-either Numbered (ltb (length s) (messageEnd s at)) _ _ (omega arith) r
-numbered-message (known k) s at rest r =
-    cond-either Numbered (not (eqb (getD s (at + 1) 0) (firstLength k))) _ _ (omega arith)
-    (cond-either Numbered (ltb (length s) (messageEnd s at)) _ _ (omega arith)
-    (numbered-both _ rest (numbered-vectors (suc (listLength s at)) k (listAt s at) 0) r))
-
-numbered-messages : (f version : ℕ) (s : List ℕ) (at : ℕ) → Numbered (messages f version s at)
-unfolding messages
-numbered-messages zero version s at = omega arith
-numbered-messages (suc f) version s at =
-    cond-either Numbered (eqb at (length s)) _ _ tt
-    (cond-either Numbered (endMark s at) _ _ tt
-    (cond-either Numbered (ltb (length s) (at + 4)) _ _ (omega arith)
-    (numbered-message (typeOctet version (getD s at 0)) s at _ (numbered-messages f version s (messageEnd s at)))))
-
-numbered-walk : (s : List ℕ) → Numbered (walk s)
-unfolding walk
-numbered-walk s =
-    cond-either Numbered (eqb (length s) 0) _ _ (omega arith)
-    (cond-either Numbered (ltb 1500 (length s)) _ _ (omega arith) (numbered-messages (suc (length s)) (getD s 0 0) s 1))
-
 pub accepted : (s : List ℕ) → numberOf (walk s) ≡ 0 → (vs : List Vector) × (walk s ≡ found vs)
 unfolding numberOf
-accepted s = go (walk s) refl (numbered-walk s)
+accepted s = go (walk s) refl
   where
-    go : (w : Walk) → walk s ≡ w → Numbered w → numberOf w ≡ 0 → (vs : List Vector) × (walk s ≡ found vs)
-    go (fault n) e h z = absurd (omega arith)
-    go (found vs) e h z = (vs, e)
+    go : (w : Walk) → walk s ≡ w → numberOf w ≡ 0 → (vs : List Vector) × (walk s ≡ found vs)
+    go (fault n) e z = let k = walk-faults s n e in absurd (omega arith)
+    go (found vs) e z = (vs, e)
 
 no-fault : (n : ℕ) (vs : List Vector) → fault n ≡ found vs → ⊥
 no-fault n vs e = let z : _≡_ {A = ℕ} 0 1 = cc in omega arith
