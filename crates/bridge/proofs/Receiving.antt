@@ -1,34 +1,18 @@
 -- What receive hands to the registrar, and what it then answers.
-use mathlib.Core.Path.{_≡_, refl, sym, _∙_, ap}
-use mathlib.Core.List.{List, []}
-use mathlib.Core.Bool.{Bool, true, false, cond}
-use Prim.Native.Nat.{ℕ, zero, suc, _-_, _≤_, _<_}
-use native.Mathlib.Omega.{arith}
-use lib.ListN.{length}
+use mathlib.Core.Path.{_≡_, sym, _∙_, ap}
+use mathlib.Core.List.{List}
+use mathlib.Core.Bool.{Bool, true, false}
+use Prim.Native.Nat.{ℕ, _-_}
 use borrow.Author.Tests.{leb-true, leb-false}
-use Rattle.model.specs.Lists.{All, Octets}
-use Rattle.model.specs.State.{Stream}
-use Rattle.model.specs.Settling.{held}
 use Rattle.model.specs.Registrations.{applyAll, holding}
-use Rattle.model.specs.Frames.{Vector, Walk, fault, found, walk, frameActs, wrongPort}
+use Rattle.model.specs.Frames.{walk, frameActs, wrongPort}
 use Rattle.model.specs.Table.{formed, encode, decode}
-use Rattle.model.specs.Calls.{Call, receiveOn}
-use Rattle.model.proofs.Lists.{all-map}
-use Rattle.model.proofs.Valid.{ValidStream}
-use Rattle.model.proofs.Tables.{valid-decode}
+use Rattle.model.specs.Calls.{receiveOn}
 use Rattle.msrpdu.specs.Reader.{numberOf}
 use Rattle.msrpdu.proofs.Applying.{accepted}
 use Rattle.registrar.specs.Walked.{Receives, taken}
-use Rattle.registrar.specs.Acts.{isFound, actsOf}
+use Rattle.registrar.specs.Acts.{actsOf}
 use Rattle.bridge.proofs.OnTables.{receive-full, receive-taken}
-
--- each stream of a well-formed table has a registration
-pub all-held : (t : List ℕ) → Octets t → formed t ≡ true → All (λ x. held (x .cells) ≡ true) (decode t .streams)
-all-held t o f = all-map (ValidStream _ _ _) _ (λ x v. v .is-held) (decode t .streams) (valid-decode t o f .streams)
-
-pub is-found : (s : List ℕ) → numberOf (walk s) ≡ 0 → isFound (walk s) ≡ true
-unfolding isFound
-is-found s e = rw (accepted s e .1)
 
 module _ (t : List ℕ) (p : ℕ) (pdu : List ℕ) (h : formed t ≡ true) (w : wrongPort (decode t .settings) p ≡ false) (z : numberOf (walk pdu) ≡ 0)
     (r : Bool) (u : List ℕ) (g : Receives (p - 1) pdu t r u) where

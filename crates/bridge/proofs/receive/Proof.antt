@@ -10,7 +10,8 @@ use borrow.Author.Tests.{leb-true, leb-false}
 use Rattle.model.proofs.Parts.{octets-of}
 use Rattle.model.proofs.Fits.{formed-laid}
 use Rattle.bridge.proofs.OnTables.{answers, receive-unformed, receive-wrong-port, receive-faulty, port-zero, port-above, port-right}
-use Rattle.bridge.proofs.Receiving.{all-held, is-found, receive-done, receive-no-room}
+use Rattle.registrar.proofs.Receiving.{formed-held, accepted-found}
+use Rattle.bridge.proofs.Receiving.{receive-done, receive-no-room}
 use Rattle.bridge.proofs.receive.Statement.{statement}
 use Rattle.bridge.proofs.receive.Tie as tie
 
@@ -30,7 +31,7 @@ receive-frame-requires c κs =
     let t = c .before .before .before .before .before .before .before .before .before .before .before .before .args .table .now in
     let f = sym (c .before .before .before .before .before .before .before .before .is-formed .ensures) ∙ c .before .before .before .before .before .before .before .if1 .taken in
     let o = octets-of t (λ i. omega (arith, c .before .before .before .before .before .before .before .before .before .before .before .slice-known .given i)) in
-    (formed-laid t o f, omega (arith, c .before .before .before .before .before .ports .ensures .1, c .before .before .before .if3 .left), is-found _ (sym (c .before .before .check .ensures) ∙ c .before .if4 .taken), all-held t o f)
+    (formed-laid t o f, omega (arith, c .before .before .before .before .before .ports .ensures .1, c .before .before .before .if3 .left), accepted-found _ (sym (c .before .before .check .ensures) ∙ c .before .if4 .taken), formed-held t o f)
 
 returns-3 : tie.Need-returns-3
 returns-3 c =
