@@ -414,13 +414,12 @@ fn stream_shown(rec: &[u8], p: usize) -> StreamShown
     requires { ⌜ LaidStream (now rec) × (p < 8) ⌝ }
     ensures { λ r. ⌜ ShowsStream (toStream (now (rec .entry))) p r ⌝ }
 {
-    let a = table::RESULT * p;
     StreamShown {
         id: octets::get(rec, 0, 8),
-        column: column_shown(rec[COLUMN + a]),
-        code: rec[CODE + a],
-        listener: listener_shown(rec[DECLARED + a]),
-        entry: entry_shown(rec[ENTRY + a]),
+        column: column_shown(rec[COLUMN + table::RESULT * p]),
+        code: rec[CODE + table::RESULT * p],
+        listener: listener_shown(rec[DECLARED + table::RESULT * p]),
+        entry: entry_shown(rec[ENTRY + table::RESULT * p]),
     }
 }
 

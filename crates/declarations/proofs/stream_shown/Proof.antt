@@ -13,7 +13,7 @@ get-requires c κs = (omega (arith, laid-record-length _ (c .before .pre .0)), o
 within : tie.Need-shared-slice-read-column-shown
 within c = omega (arith, laid-record-length _ (c .before .before .before .pre .0))
 
-within-2 : tie.Need-shared-slice-read-t11
+within-2 : tie.Need-shared-slice-read-t12
 within-2 c = omega (arith, laid-record-length _ (c .before .before .before .before .before .pre .0))
 
 within-3 : tie.Need-shared-slice-read-listener-shown
@@ -38,5 +38,5 @@ returns c =
 pub stream-shown-spec : {M : Type 1} → statement M
 stream-shown-spec =
     tie.close
-    (tie.spec (λ c. search needs) get-requires (λ c. search needs) within (λ c κs. search needs) (λ c. search needs) within-2 (λ c. search needs)
-    within-3 (λ c κs. search needs) (λ c. search needs) within-4 (λ c κs. search needs) returns)
+    (tie.spec get-requires (λ c. search needs) (λ c. search needs) within (λ c κs. search needs) (λ c. search needs) (λ c. search needs) within-2 (λ c. search needs)
+    (λ c. search needs) within-3 (λ c κs. search needs) (λ c. search needs) (λ c. search needs) within-4 (λ c κs. search needs) returns)
