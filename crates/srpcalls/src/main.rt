@@ -1,0 +1,323 @@
+// A console for the five calls. Reads call records from standard input to its end, and prints one line for each call. Numbers in
+// records are most significant octet first. The table is zeros at the beginning, so calls before a start are answered with 12.
+use libc::STDIN_FILENO;
+ghost use Prim.Native.Nat.{_≤_};
+ghost use mathlib.Core.Path.{_≡_};
+ghost use lib.ListN.{length, drop};
+ghost use Rattle.srpcalls.specs.Sums.{adler32, all};
+ghost use Rattle.srpcalls.specs.Records.{Handed};
+
+// The room for the table.
+const ROOM: usize = bridge::TABLE + 64;
+
+// Settings and PDUs are handed to a call up to this length.
+const LONGEST: usize = 4096;
+
+// The longest buffer of a write, and what it is filled with.
+const BUFFER: usize = 2048;
+
+const FILLING: u8 = 0xA5;
+
+// What follows a record: the next one; the same with so many octets lent; `stop`; or the end of the run.
+enum Step {
+    Next,
+    Lend(usize),
+    Stop,
+    End,
+}
+
+// What a length and the octets behind it give: none where the input ends before, else how many a call is handed.
+enum Counted {
+    Cut,
+    Octets(usize),
+}
+
+fn least(a: usize, b: usize) -> usize
+    ensures { λ r. ⌜ (r ≤ a) × (r ≤ b) ⌝ }
+{
+    if a < b { a } else { b }
+}
+
+// Fills a field from the input; false where the input ends before. A read that fails counts as the end.
+fn read(field: &mut [u8]) -> bool {
+    let n = io::read_full(STDIN_FILENO, field);
+    n == field.len()
+}
+
+// Reads a length and so many octets, all of them: a call is handed no more than the longest.
+fn read_counted(octets: &mut [u8]) -> Counted
+    requires { ⌜ 65535 ≤ length (now octets) ⌝ }
+    ensures { λ r. ⌜ Handed r ⌝ }
+{
+    let mut field = [0u8; 2];
+    if read(&mut field) {
+        let n = octets::get(&field, 0, 2) as usize;
+        if read(&mut octets[0..n]) {
+            return Counted::Octets(least(n, LONGEST));
+        }
+    }
+    Counted::Cut
+}
+
+// Writes the line. One that cannot be written ends the run.
+fn print(line: &mut [u8], at: usize) -> Step {
+    if console::write_line(line, at) {
+        return Step::Next;
+    }
+    Step::End
+}
+
+// A space and a number.
+fn put_number(line: &mut [u8], at: usize, n: u64) -> usize {
+    let a = console::put(line, at, b" ");
+    console::put_decimal(line, a, n)
+}
+
+// The line of a call that answers with a number alone.
+fn print_number(line: &mut [u8], call: &[u8], number: u8) -> Step {
+    let a = console::put(line, 0, call);
+    let b = put_number(line, a, number as u64);
+    print(line, b)
+}
+
+fn start(table: &mut [u8], octets: &mut [u8], line: &mut [u8]) -> Step
+    requires { ⌜ 65535 ≤ length (now octets) ⌝ }
+{
+    let Counted::Octets(n) = read_counted(octets) else {
+        return Step::Stop;
+    };
+    let number = bridge::start(table, &octets[0..n]);
+    print_number(line, b"start", number)
+}
+
+fn receive(table: &mut [u8], port: u32, octets: &mut [u8], line: &mut [u8]) -> Step
+    requires { ⌜ 65535 ≤ length (now octets) ⌝ }
+{
+    let Counted::Octets(n) = read_counted(octets) else {
+        return Step::Stop;
+    };
+    let number = bridge::receive(table, port, &octets[0..n]);
+    print_number(line, b"receive", number)
+}
+
+fn advance(table: &mut [u8], line: &mut [u8]) -> Step {
+    let mut field = [0u8; 4];
+    if read(&mut field) {
+        let time = octets::get(&field, 0, 4) as u32;
+        let number = bridge::advance(table, time);
+        return print_number(line, b"advance", number);
+    }
+    Step::Stop
+}
+
+// Whether every octet from a place on is as it was filled.
+fn is_kept(buffer: &[u8], from: usize) -> bool
+    ensures { λ r. ⌜ r ≡ all 165 (drop from (now (buffer .entry))) ⌝ }
+{
+    let mut at = from;
+    while at < buffer.len() {
+        if buffer[at] != FILLING {
+            return false;
+        }
+        at += 1;
+    }
+    true
+}
+
+fn put_kept(line: &mut [u8], at: usize, kept: bool) -> usize {
+    if kept {
+        return console::put(line, at, b" kept");
+    }
+    console::put(line, at, b" spoiled")
+}
+
+// A space and octets; nothing where there are none.
+fn put_some(line: &mut [u8], at: usize, octets: &[u8]) -> usize {
+    if octets.len() == 0 {
+        return at;
+    }
+    let a = console::put(line, at, b" ");
+    console::put_octets(line, a, octets)
+}
+
+// The line of a write. The length is within the buffer by what write promises; least shows it with no proof about tables.
+fn print_written(line: &mut [u8], wrote: bridge::Wrote, buffer: &[u8]) -> Step {
+    let long = least(wrote.length, buffer.len());
+    let a = console::put(line, 0, b"write");
+    let b = put_number(line, a, wrote.number as u64);
+    let c = put_number(line, b, wrote.length as u64);
+    let d = put_number(line, c, wrote.next as u64);
+    let e = put_kept(line, d, is_kept(buffer, long));
+    let f = put_some(line, e, &buffer[0..long]);
+    print(line, f)
+}
+
+fn write(table: &[u8], port: u32, line: &mut [u8]) -> Step {
+    let mut field = [0u8; 4];
+    if read(&mut field) {
+        let place = octets::get(&field, 0, 2) as u32;
+        let asked = octets::get(&field, 2, 2) as usize;
+        let n = least(asked, BUFFER);
+        let mut filled = [FILLING; BUFFER];
+        let buffer = &mut filled[0..n];
+        let wrote = bridge::write(table, port, place, buffer);
+        return print_written(line, wrote, buffer);
+    }
+    Step::Stop
+}
+
+// The streams held, and the port's class totals and limits.
+fn put_totals(line: &mut [u8], at: usize, answer: declarations::Reported) -> usize {
+    let a = put_number(line, at, answer.count as u64);
+    let b = put_number(line, a, answer.total_a);
+    let c = put_number(line, b, answer.limit_a);
+    let d = put_number(line, c, answer.total_b);
+    put_number(line, d, answer.limit_b)
+}
+
+// The stream's ID, column and code.
+fn put_talker(line: &mut [u8], at: usize, answer: declarations::Reported) -> usize {
+    let column = answer.column;
+    let a = console::put(line, at, b" ");
+    let b = console::put_id(line, a, answer.id);
+    let c = console::put(line, b, b" ");
+    let d = console::put_column(line, c, column);
+    put_number(line, d, answer.code as u64)
+}
+
+// The Listener declared on the port, and the entry.
+fn put_listener(line: &mut [u8], at: usize, answer: declarations::Reported) -> usize {
+    let listener = answer.listener;
+    let entry = answer.entry;
+    let a = console::put(line, at, b" ");
+    let b = console::put_listener(line, a, listener);
+    let c = console::put(line, b, b" ");
+    console::put_entry(line, c, entry)
+}
+
+fn print_reported(line: &mut [u8], answer: declarations::Reported) -> Step {
+    let a = console::put(line, 0, b"report");
+    let b = put_number(line, a, answer.number as u64);
+    let c = put_totals(line, b, answer);
+    let d = put_talker(line, c, answer);
+    let e = put_listener(line, d, answer);
+    print(line, e)
+}
+
+fn report(table: &[u8], port: u32, line: &mut [u8]) -> Step {
+    let mut field = [0u8; 2];
+    if read(&mut field) {
+        let place = octets::get(&field, 0, 2) as u32;
+        let answer = bridge::report(table, port, place);
+        return print_reported(line, answer);
+    }
+    Step::Stop
+}
+
+// Stores an octet in the table's room; past it nothing happens.
+fn store(room: &mut [u8]) -> Step {
+    let mut field = [0u8; 3];
+    if read(&mut field) {
+        let place = octets::get(&field, 0, 2) as usize;
+        if place < room.len() {
+            room[place] = field[2];
+        }
+        return Step::Next;
+    }
+    Step::Stop
+}
+
+fn lend() -> Step {
+    let mut field = [0u8; 2];
+    if read(&mut field) {
+        return Step::Lend(octets::get(&field, 0, 2) as usize);
+    }
+    Step::Stop
+}
+
+// Adler-32 (RFC 1950).
+fn adler(octets: &[u8]) -> u32
+    ensures { λ r. ⌜ r ≡ adler32 (now (octets .entry)) ⌝ }
+{
+    let mut a: u32 = 1;
+    let mut b: u32 = 0;
+    let mut i: usize = 0;
+    while i < octets.len() {
+        a = (a + (octets[i] as u32)) % 65521;
+        b = (b + a) % 65521;
+        i += 1;
+    }
+    b * 65536 + a
+}
+
+fn print_sum(line: &mut [u8], table: &[u8]) -> Step {
+    let mut sum = [0u8; 4];
+    octets::put(&mut sum, 0, 4, adler(table) as u64);
+    let a = console::put(line, 0, b"table");
+    let b = put_some(line, a, &sum);
+    print(line, b)
+}
+
+fn print_octets(line: &mut [u8], table: &[u8]) -> Step {
+    let a = console::put(line, 0, b"octets");
+    let b = put_some(line, a, table);
+    print(line, b)
+}
+
+// Reads a record and does what it says. The low digit of its first octet is the port.
+fn take_record(room: &mut [u8], lent: usize, octets: &mut [u8], line: &mut [u8]) -> Step
+    requires { ⌜ (lent ≤ length (now room)) × (65535 ≤ length (now octets)) ⌝ }
+{
+    let mut field = [0u8; 1];
+    if read(&mut field) {
+        let kind = field[0];
+        let port = (kind % 16) as u32;
+        return match kind {
+            0x00 => start(&mut room[0..lent], octets, line),
+            0x10..=0x1F => receive(&mut room[0..lent], port, octets, line),
+            0x20 => advance(&mut room[0..lent], line),
+            0x30..=0x3F => write(&room[0..lent], port, line),
+            0x40..=0x4F => report(&room[0..lent], port, line),
+            0x50 => store(room),
+            0x51 => lend(),
+            0x60 => print_sum(line, &room[0..lent]),
+            0x61 => print_octets(line, &room[0..lent]),
+            _ => Step::Stop,
+        };
+    }
+    Step::End
+}
+
+// A proved loop has to end, and nothing says that an input does. So the loop counts its turns down, from a number that no run
+// uses up.
+fn run(room: &mut [u8], octets: &mut [u8], line: &mut [u8])
+    requires { ⌜ (length (now room) ≡ 31888) × (65535 ≤ length (now octets)) ⌝ }
+{
+    let mut lent = bridge::TABLE;
+    let mut turns = u64::MAX;
+    while turns > 0 {
+        turns -= 1;
+        let next = take_record(room, lent, octets, line);
+        match next {
+            Step::Next => {}
+            Step::Lend(n) => {
+                lent = least(n, room.len());
+            }
+            Step::Stop => {
+                let at = console::put(line, 0, b"stop");
+                console::write_line(line, at);
+                return;
+            }
+            Step::End => {
+                return;
+            }
+        }
+    }
+}
+
+fn main() {
+    let mut room = [0u8; ROOM];
+    let mut octets = io::large_buffer();
+    let mut line = io::large_buffer();
+    run(&mut room, &mut octets, &mut line);
+}
