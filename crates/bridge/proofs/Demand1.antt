@@ -129,3 +129,15 @@ report-answers t p place r call = record {
   accepted = rw call (Refusals.report-0 t p place);
   nothing-else = rw call (Refusals.report-refused t p place);
 }
+
+-- "no table left by start and accepted calls breaks one": the tables that an accepted start and calls after it leave, refused ones
+-- too, keep the form rules, so none of them is ever refused with 12.
+pub data Left : List ℕ → Type 0 where
+  begun : (t s : List ℕ) (n : ℕ) (u : List ℕ) → Octets s → Starts t s n u → n ≡ 0 → Left u
+  received : (t : List ℕ) (p : ℕ) (pdu : List ℕ) (n : ℕ) (u : List ℕ) → Left t → Octets pdu → Receives t p pdu n u → Left u
+  advanced : (t : List ℕ) (time n : ℕ) (u : List ℕ) → Left t → time < 2 ^ 32 → Advances t time n u → Left u
+
+pub left-formed : (u : List ℕ) → Left u → Kept u
+left-formed _ (begun t s n u o call z) = start-answers t s n u o call .form z
+left-formed _ (received t p pdu n u l o call) = rw (call .1) (receive-formed t (left-formed t l) p pdu o)
+left-formed _ (advanced t time n u l small call) = rw (call .1) (advance-formed t (left-formed t l) time small)

@@ -6,4 +6,7 @@ pub mod Reading
 pub mod Demand1
 pub mod Demand2
 pub mod Demand3
+pub mod AfterAdvance
+pub mod Passing
 pub mod Worked
+pub mod Demands
