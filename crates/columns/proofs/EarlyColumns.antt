@@ -1,13 +1,11 @@
 -- The column before bandwidth is shared, from the parts of the settings and of the record that the code lends.
-use mathlib.Core.Path.{_≡_, refl, sym, ap, _∙_}
-use mathlib.Core.List.{List, [], _∷_}
-use mathlib.Core.Bool.{not}
+use mathlib.Core.Path.{_≡_, sym, ap, _∙_}
+use mathlib.Core.List.{List}
 use Prim.Native.Nat.{ℕ, _+_, _*_, _-_, _≤_, _<_}
-use native.Mathlib.Omega.{arith}
 use lib.ListN.{length, take, drop}
 use borrow.Author.Tests.{lt-ltb, le-ltb}
 use Rattle.octets.proofs.Parts.{lent-part}
-use Rattle.model.specs.State.{Cell, Stream, none, advertise, portAt, isPort, cellAt}
+use Rattle.model.specs.State.{Stream, none, advertise, portAt, isPort, cellAt}
 use Rattle.model.specs.Settling.{sourceOf, first, stepsFrom, steps}
 use Rattle.model.specs.Table.{toPort, portsField, toSettings, toCell, toStream}
 use Rattle.model.proofs.SettingsOctets.{settings-ports}

@@ -1,27 +1,26 @@
 -- What stage 1 writes fits its fields: a stream whose numbers fit keeps that, place by place and as a whole.
-use mathlib.Core.Path.{_≡_, refl, sym, ap, _∙_, subst}
-use mathlib.Core.List.{List, [], _∷_, _++_, map}
+use mathlib.Core.Path.{_≡_, refl, sym, subst}
+use mathlib.Core.List.{List, [], _∷_, _++_}
 use mathlib.Core.Bool.{Bool, true, false, cond}
-use Prim.Native.Nat.{ℕ, zero, suc, _+_, _*_, _-_, _/_, _^_, _≤_, _<_}
+use Prim.Native.Nat.{ℕ, _+_, _-_, _/_, _^_, _<_}
 use native.Mathlib.Omega.{arith}
-use lib.ListN.{length, getD, set, length-set}
+use lib.ListN.{getD}
 use lib.Dec.{ltb}
 use borrow.Author.Tests.{ltb-false}
 use Rattle.octets.specs.Fields.{Fit}
 use Rattle.octets.proofs.Fields.{fit-at}
-use Rattle.model.specs.Lists.{All, tabulate}
-use Rattle.model.specs.State.{Settings, Leaving, Fixed, Health, sound, broken, Varying, Talker, noTalker, talker, Cell, Result, Stream, Column, none, advertise, failed, Entry, noEntry, filters, forwards, Declared, nothing, noFixed, cellAt, resultAt, empty, unsettled}
+use Rattle.model.specs.Lists.{All}
+use Rattle.model.specs.State.{Settings, Leaving, Fixed, Health, sound, broken, Varying, Talker, noTalker, talker, Cell, Result, Stream, Column, none, advertise, failed, Entry, noEntry, filters, forwards, noFixed, cellAt, resultAt, empty, unsettled}
 use Rattle.model.specs.WrittenFrames.{priorityOctet, fixedNumbers}
-use Rattle.model.specs.Settling.{Source, nowhere, from, sourceOf, fixedOf, brokenColumn, first, stepsFrom, steps, ageOf, capped, latencyOut, entryOf, ageKept, latencyKept, registered}
-use Rattle.model.specs.Table.{cellWidths, cellNumbers, talkerNumbers, listenerNumbers, bridgeNumber, codeNumber, healthNumber, resultWidths, resultNumbers, columnNumber, columnBridge, columnCode, entryNumber, declaredNumber, nameWidths}
-use Rattle.model.specs.Laid.{FitRank, FitCell, FitResult, FitStream, FitSettings}
+use Rattle.model.specs.Settling.{Source, sourceOf, fixedOf, brokenColumn, first, stepsFrom, steps, ageOf, capped, latencyOut, entryOf, ageKept, latencyKept, registered}
+use Rattle.model.specs.Table.{cellWidths, cellNumbers, talkerNumbers, listenerNumbers, bridgeNumber, codeNumber, resultWidths, resultNumbers, columnNumber, columnBridge, columnCode, entryNumber, declaredNumber, nameWidths}
+use Rattle.model.specs.Laid.{FitCell, FitResult, FitStream}
 use Rattle.model.proofs.Cells.{fixedWidths}
 use Rattle.model.proofs.Parts.{_also_}
 use Rattle.model.proofs.Fits.{id-fits}
 use Rattle.table.proofs.Lens.{all-at, all-getD}
-use Rattle.columns.specs.Stages.{shownAs, earlyColumn, earlyAt, early, withResult}
+use Rattle.columns.specs.Stages.{shownAs, earlyColumn, earlyAt}
 use Rattle.columns.specs.Answers.{talkerPlace, sourceIn}
-use Rattle.columns.specs.Records.{placesTo, earlyTo}
 use Rattle.columns.proofs.Sources.{source-at, place-bound}
 
 -- Columns: a Bridge ID and a code that fit.

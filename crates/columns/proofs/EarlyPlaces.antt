@@ -1,19 +1,18 @@
 -- What a stream shows on one port, from the parts of a table that the code lends; and the record with it written.
 use mathlib.Core.Path.{_≡_, refl, sym, ap, _∙_, subst}
-use mathlib.Core.List.{List, [], _∷_, _++_}
+use mathlib.Core.List.{List, _++_}
 use mathlib.Core.Bool.{Bool, true, false}
-use Prim.Native.Nat.{ℕ, zero, suc, _+_, _*_, _-_, _≤_, _<_}
-use native.Mathlib.Nat.{add-assoc}
+use Prim.Native.Nat.{ℕ, _+_, _*_, _-_, _≤_, _<_}
 use native.Mathlib.Omega.{arith}
-use lib.ListN.{length, getD, set, take, drop}
+use lib.ListN.{length, take, drop}
 use lib.Dec.{ltb}
 use borrow.Author.Tests.{ltb-true, ltb-false}
 use Rattle.octets.specs.Be.{beAt}
 use Rattle.octets.specs.Parts.{part, patch}
 use Rattle.octets.proofs.Parts.{lent-part, length-part}
 use Rattle.octets.proofs.Frame.{part-part, beAt-part}
-use Rattle.model.specs.State.{Port, Settings, Talker, noTalker, talker, Cell, Result, Stream, Column, none, portAt, cellAt, resultAt, classOf, classLatency}
-use Rattle.model.specs.Settling.{Source, sourceOf, fixedOf, latencyOf, capped, registered, latencyOut, streamClass, latencyKept, entryOf}
+use Rattle.model.specs.State.{Port, Settings, Talker, noTalker, talker, Cell, Result, Stream, Column, portAt, cellAt, resultAt, classOf, classLatency}
+use Rattle.model.specs.Settling.{Source, sourceOf, fixedOf, latencyOf, capped, registered, latencyOut, streamClass, latencyKept}
 use Rattle.model.specs.Table.{toPort, portsField, toSettings, settingsPart, toCell, toResult, resultOctets, toDeclared, toStream, streamOctets}
 use Rattle.model.specs.Laid.{LaidCell, LaidStream}
 use Rattle.model.proofs.Fits.{laid-stream-is, laid-stream-fits}

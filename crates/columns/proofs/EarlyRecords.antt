@@ -1,9 +1,7 @@
 -- A record on its way through stage 1: the places decided so far, and the settled values taken over.
 use mathlib.Core.Path.{_≡_, refl, sym, ap, _∙_, subst}
-use mathlib.Core.List.{List, [], _∷_, _++_, append-assoc, append-nil, map}
-use mathlib.Core.Bool.{Bool}
+use mathlib.Core.List.{List, [], _∷_, _++_, append-assoc, append-nil}
 use Prim.Native.Nat.{ℕ, zero, suc, _+_, _*_, _-_, _^_, _≤_, _<_}
-use native.Mathlib.Nat.{zero-add}
 use native.Mathlib.Numerals.{add-one}
 use native.Mathlib.Omega.{arith}
 use lib.ListN.{length, getD, set, take, drop, length-set}
@@ -15,7 +13,7 @@ use Rattle.model.specs.Lists.{All, tabulate}
 use Rattle.model.specs.State.{Settings, Fixed, Result, Stream, resultAt, cellAt, unsettled}
 use Rattle.model.specs.Settling.{Source, source, sourceOf, fixedOf, steps, latencyOut, streamClass}
 use Rattle.model.specs.Table.{toSettings, settingsPart, toStream, streamOctets}
-use Rattle.model.specs.Laid.{FitResult, FitStream, FitSettings, LaidStream}
+use Rattle.model.specs.Laid.{FitResult, FitStream, FitSettings}
 use Rattle.model.proofs.Lists.{all-tabulate}
 use Rattle.model.proofs.AdvanceKeepsForm.{length-tabulate}
 use Rattle.model.proofs.ColumnRule.{tabulate-same}

@@ -1,17 +1,15 @@
 -- Stage 1 on a whole table: the loop over the records in use, and that what it leaves is laid out.
 use mathlib.Core.Path.{_≡_, refl, sym, ap, _∙_, subst}
-use mathlib.Core.List.{List, [], _∷_, _++_, map}
-use Prim.Native.Nat.{ℕ, zero, suc, _+_, _*_, _-_, _^_, _≤_, _<_}
+use mathlib.Core.List.{List, [], _∷_, map}
+use Prim.Native.Nat.{ℕ, _+_, _*_, _-_, _^_, _≤_, _<_}
 use native.Mathlib.Omega.{arith}
-use lib.ListN.{length, getD, take, drop, length-map}
-use Rattle.octets.specs.Parts.{part, patch, over, eachFrom}
+use lib.ListN.{length, length-map}
+use Rattle.octets.specs.Parts.{part, over, eachFrom}
 use Rattle.octets.proofs.Parts.{lent-part, length-eachFrom, eachFrom-more}
-use Rattle.model.specs.Lists.{All, tabulate}
 use Rattle.model.specs.State.{Settings, Stream, Bridge}
 use Rattle.model.specs.Registrations.{holding, ids}
-use Rattle.model.specs.Settling.{sourceOf, fixedOf}
 use Rattle.model.specs.Table.{toSettings, settingsPart, toStream, streamOctets, encode, decode}
-use Rattle.model.specs.Laid.{FitResult, FitStream, FitSettings, FitBridge, LaidStream, Laid}
+use Rattle.model.specs.Laid.{FitStream, FitSettings, FitBridge, LaidStream, Laid}
 use Rattle.model.proofs.Lists.{all-map}
 use Rattle.model.proofs.AdvanceKeepsForm.{length-tabulate, all-mapped}
 use Rattle.model.proofs.Tables.{stream-length}
@@ -19,7 +17,7 @@ use Rattle.model.proofs.Fits.{stream-read, laid-is, laid-fits}
 use Rattle.table.proofs.Header.{laid-length, laid-few}
 use Rattle.table.proofs.Records.{records-each, lent-record-laid}
 use Rattle.columns.specs.Stages.{earlyAt, early, earlyAll}
-use Rattle.columns.specs.Records.{LaidAt, changedAt, earlyTo}
+use Rattle.columns.specs.Records.{LaidAt, changedAt}
 use Rattle.columns.proofs.Places.{eight-cells}
 use Rattle.columns.proofs.Patches.{eachFrom-next, eachFrom-before}
 use Rattle.columns.proofs.EarlyRecords.{early-fits}

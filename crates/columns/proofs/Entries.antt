@@ -1,6 +1,6 @@
 -- Entries and their ages, by the numbers that the code tests.
-use mathlib.Core.Path.{_≡_, refl, sym, ap, _∙_}
-use mathlib.Core.List.{List, [], _∷_}
+use mathlib.Core.Path.{_≡_, refl, sym, _∙_}
+use mathlib.Core.List.{List}
 use mathlib.Core.Bool.{Bool, true, false, cond}
 use Prim.Native.Nat.{ℕ, zero, suc, _/_, _≤_, _<_}
 use native.Mathlib.Omega.{arith}
@@ -9,7 +9,7 @@ use lib.Dec.{eqb}
 use borrow.Author.Tests.{eq-eqb, ne-eqb}
 use Rattle.octets.specs.Be.{beAt}
 use Rattle.octets.specs.Fields.{fields}
-use Rattle.model.specs.State.{Leaving, Talker, Ready, askingFailed, ready, readyFailed, Listener, noListener, listener, Column, none, advertise, failed, Entry, noEntry, filters, forwards, Declared, nothing, tells}
+use Rattle.model.specs.State.{Leaving, Talker, Ready, ready, readyFailed, noListener, listener, none, advertise, failed, noEntry, filters, forwards, nothing, tells}
 use Rattle.model.specs.Settling.{isReady, registered, entryOf, ageOf, ageKept}
 use Rattle.model.specs.Table.{toLeaving, toReady, toDeclared, toEntry, entryNumber, toCell, cellFrom, listenerFrom, cellWidths, toResult, resultFrom, resultWidths}
 use Rattle.model.proofs.SettingsOctets.{octet-field}

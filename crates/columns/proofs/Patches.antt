@@ -1,10 +1,10 @@
 -- A part replaced within a part, replaced twice, copied from another place, and what a loop over parts leaves behind it.
 use mathlib.Core.Path.{_≡_, refl, sym, ap, _∙_}
-use mathlib.Core.List.{List, [], _∷_, _++_, append-assoc}
+use mathlib.Core.List.{List, _++_, append-assoc}
 use Prim.Native.Nat.{ℕ, zero, suc, _+_, _*_, _-_, _≤_, _<_}
-use native.Mathlib.Nat.{suc-mul, zero-mul, add-zero}
+use native.Mathlib.Nat.{suc-mul}
 use native.Mathlib.Omega.{arith}
-use lib.ListN.{length, getD, set, take, drop, length-drop, length-append, take-append-drop}
+use lib.ListN.{length, getD, set, take, drop, length-drop, take-append-drop}
 use lib.Seq.{length-take-le, take-take, take-at, drop-at, take-append-le, drop-append-le, drop-drop, drop-set-lt, drop-append-add}
 use Rattle.octets.specs.Parts.{part, patch, each, eachFrom}
 use Rattle.octets.proofs.Parts.{length-part, patch-more, part-more}

@@ -1,14 +1,13 @@
 -- What stands at a place: a port's settings, a stream's cell and its result, as the parts of the octets that say them.
-use mathlib.Core.Path.{_≡_, refl, sym, ap, _∙_}
-use mathlib.Core.List.{List, [], _∷_}
-use Prim.Native.Nat.{ℕ, zero, suc, _+_, _*_, _-_, _≤_, _<_}
+use mathlib.Core.Path.{_≡_, ap, _∙_}
+use mathlib.Core.List.{List}
+use Prim.Native.Nat.{ℕ, _+_, _*_, _-_, _<_}
 use native.Mathlib.Omega.{arith}
-use lib.ListN.{length, getD, take, drop}
-use lib.Seq.{drop-drop, drop-cons}
+use lib.ListN.{length, drop}
+use lib.Seq.{drop-drop}
 use Rattle.octets.specs.Parts.{part}
 use Rattle.octets.proofs.Frame.{part-part}
-use Rattle.model.specs.Lists.{parts}
-use Rattle.model.specs.State.{Port, noPort, portAt, cellAt, resultAt, empty, unsettled}
+use Rattle.model.specs.State.{noPort, portAt, cellAt, resultAt, empty, unsettled}
 use Rattle.model.specs.Table.{toPort, portsField, toSettings, toCell, toResult, toStream, cellsPart, resultsPart}
 use Rattle.model.proofs.Parts.{parts-at, length-parts}
 

@@ -1,18 +1,18 @@
 -- A result's fields, written one after another over what was there.
 use mathlib.Core.Path.{_≡_, refl, sym, ap, _∙_}
 use mathlib.Core.List.{List, [], _∷_, _++_, append-assoc, append-nil}
-use Prim.Native.Nat.{ℕ, zero, suc, _+_, _*_, _-_, _≤_, _<_}
+use Prim.Native.Nat.{ℕ, _+_, _-_}
 use native.Mathlib.Nat.{add-zero}
 use native.Mathlib.Omega.{arith}
-use lib.ListN.{length, take, drop, length-drop, take-append-drop}
-use lib.Seq.{drop-drop, drop-at, take-at, length-take-le, drop-length}
+use lib.ListN.{length, take, drop, take-append-drop}
+use lib.Seq.{drop-drop, take-at, length-take-le, drop-length}
 use Rattle.octets.specs.Be.{be}
 use Rattle.octets.specs.Parts.{patch}
 use Rattle.octets.specs.Fields.{packed, width}
 use Rattle.octets.proofs.Fields.{length-packed-any, packed-append, patch-behind}
-use Rattle.model.specs.State.{Column, none, advertise, failed, Entry, noEntry, filters, forwards, Declared, nothing, Result}
+use Rattle.model.specs.State.{Column, Entry, noEntry, filters, forwards, Declared}
 use Rattle.model.specs.Settling.{entryOf, ageOf, ageKept, latencyKept}
-use Rattle.model.specs.Table.{resultWidths, resultNumbers, resultOctets, columnNumber, columnBridge, columnCode, entryNumber, declaredNumber, toEntry, toDeclared, toResult}
+use Rattle.model.specs.Table.{resultWidths, resultNumbers, resultOctets, columnNumber, columnBridge, columnCode, entryNumber, declaredNumber, toEntry, toResult}
 use Rattle.columns.specs.Answers.{columnWidths, columnNumbers, entryWidths, shownBy}
 
 entry-back : (e : Entry) → toEntry (entryNumber e) ≡ e

@@ -1,17 +1,17 @@
 -- Which of steps a to g is the first that applies, by the octets that the code tests.
-use mathlib.Core.Path.{_≡_, refl, sym, ap, _∙_}
-use mathlib.Core.List.{List, [], _∷_}
+use mathlib.Core.Path.{_≡_, refl, sym, _∙_}
+use mathlib.Core.List.{List}
 use mathlib.Core.Bool.{Bool, true, false, cond, not}
-use Prim.Native.Nat.{ℕ, _+_, _*_, _/_, _%_, _≤_, _<_}
+use Prim.Native.Nat.{ℕ, _/_, _≤_, _<_}
 use lib.ListN.{getD}
 use lib.Dec.{eqb, ltb}
 use borrow.Author.Tests.{eq-eqb, ne-eqb, lt-ltb, le-ltb}
 use Rattle.octets.specs.Be.{beAt}
 use Rattle.octets.specs.Fields.{fields}
 use Rattle.model.specs.Lists.{isOne}
-use Rattle.model.specs.State.{Port, Fixed, Health, sound, broken, Varying, Talker, noTalker, talker, Cell, Column, none, advertise, failed, Class, noClass, classA, classB, portAt, classOf, isNoClass, supports}
+use Rattle.model.specs.State.{sound, broken, Talker, noTalker, talker, Column, none, advertise, failed, Class, portAt, classOf, isNoClass, supports}
 use Rattle.model.specs.Frames.{priorityOf}
-use Rattle.model.specs.Settling.{Source, nowhere, from, isTalking, isBroken, brokenColumn, first, stepsFrom}
+use Rattle.model.specs.Settling.{isTalking, isBroken, brokenColumn, first, stepsFrom}
 use Rattle.model.specs.Table.{toPort, toSettings, toCell, cellFrom, talkerFrom, fixedFrom, cellWidths, toHealth, toLeaving, portFrom, portWidths}
 use Rattle.model.proofs.SettingsOctets.{octet-field}
 use Rattle.columns.specs.Answers.{sourceIn}

@@ -1,19 +1,18 @@
 -- What a laid-out cell says of its Talker in fields that are zero without one: latency, priority, and the fixed values' octets.
 use mathlib.Core.Path.{_≡_, refl, sym, ap, _∙_}
-use mathlib.Core.List.{List, [], _∷_, _++_}
-use Prim.Native.Nat.{ℕ, _+_, _*_, _/_, _≤_, _<_}
+use mathlib.Core.List.{List, [], _∷_}
+use Prim.Native.Nat.{ℕ, _+_, _/_, _≤_, _<_}
 use native.Mathlib.Omega.{arith}
-use lib.ListN.{length, getD, take, drop}
+use lib.ListN.{getD}
 use borrow.Author.Tests.{lt-ltb, le-ltb}
 use Rattle.octets.specs.Be.{beAt}
 use Rattle.octets.specs.Parts.{part}
-use Rattle.octets.specs.Fields.{fields, packed, width}
+use Rattle.octets.specs.Fields.{fields, width}
 use Rattle.octets.proofs.Fields.{fields-of-packed, part-fields}
 use Rattle.model.specs.Lists.{bit}
-use Rattle.model.specs.State.{Port, Settings, Fixed, Talker, noTalker, talker, Cell, noFixed, classOf, classLatency}
-use Rattle.model.specs.Frames.{priorityOf}
+use Rattle.model.specs.State.{Talker, noTalker, talker, Cell, noFixed, classOf, classLatency}
 use Rattle.model.specs.WrittenFrames.{priorityOctet, fixedNumbers}
-use Rattle.model.specs.Settling.{Source, fixedOf, latencyOf, capped}
+use Rattle.model.specs.Settling.{fixedOf, latencyOf, capped}
 use Rattle.model.specs.Table.{toPort, toSettings, leavingNumber, sinceNumber, healthNumber, bridgeNumber, codeNumber, cellWidths, cellNumbers, cellOctets, talkerNumbers, listenerNumbers, toCell}
 use Rattle.model.specs.Laid.{FitRank, LaidCell}
 use Rattle.model.proofs.Cells.{fixedWidths}

@@ -3,10 +3,10 @@
 -- code 1; (3) the Talker port declares the merged Listener. Each stage reads what the one before left in the table.
 use mathlib.Core.List.{List, [], _∷_, map}
 use mathlib.Core.Bool.{Bool, true, false, cond, not, _&&_}
-use Prim.Native.Nat.{ℕ, zero, suc, _+_}
-use lib.ListN.{getD, set, replicate}
+use Prim.Native.Nat.{ℕ, zero, suc}
+use lib.ListN.{getD, set}
 use Rattle.model.specs.Lists.{keep, tabulate}
-use Rattle.model.specs.State.{Port, Settings, Column, none, advertise, failed, Entry, filters, Declared, nothing, Result, Stream, Totals, Bridge, noTotals, portAt, cellAt, resultAt, Class, noClass, classA, classB, classOf, sameClass, limit}
+use Rattle.model.specs.State.{Settings, Column, none, advertise, failed, filters, Declared, nothing, Result, Stream, Totals, Bridge, noTotals, portAt, cellAt, resultAt, Class, noClass, classA, classB, classOf, sameClass, limit}
 use Rattle.model.specs.Registrations.{holding}
 use Rattle.model.specs.Bandwidth.{Claim, demand, rateOf, admitted, total}
 use Rattle.model.specs.Settling.{sourceOf, fixedOf, isSource, registered, isReady, first, steps, ageOf, latencyOut, entryOf, ageKept, latencyKept, passed, mergeAll}

@@ -1,8 +1,6 @@
 -- `columns::demand` meets its contract. Assumes nothing.
-use Prim.Native.Nat.{ℕ, suc, _+_, _-_, _*_, _/_, _%_, _≤_, _<_}
-use mathlib.Core.Path.{_≡_, refl, sym, ap, _∙_}
+use Prim.Native.Nat.{_-_}
 use native.Mathlib.Omega.{arith}
-use lib.ListN.{length, getD, take, drop}
 use borrow.Author.Needs.{needs}
 use Rattle.columns.proofs.Demands.{demand-twice, demand-once, once-bound}
 use Rattle.columns.proofs.demand.Statement.{statement}

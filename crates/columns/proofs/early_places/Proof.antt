@@ -1,18 +1,12 @@
 -- `columns::early_places` meets its contract. The invariant: the places before p are decided, each from what the stream was at entry.
 -- Assumes nothing.
-use Prim.Native.Nat.{ℕ, suc, _+_, _-_, _*_, _≤_, _<_}
+use Prim.Native.Nat.{_-_, _≤_, _<_}
 use mathlib.Core.Path.{_≡_, refl, sym, ap, _∙_}
 use native.Mathlib.Omega.{arith}
 use lib.ListN.{length}
 use borrow.Author.Needs.{needs}
-use Rattle.octets.specs.Parts.{part}
-use Rattle.model.specs.State.{Settings, Stream}
-use Rattle.model.specs.Settling.{sourceOf}
-use Rattle.model.specs.Table.{toSettings, settingsPart, toStream}
-use Rattle.model.specs.Laid.{FitStream}
-use Rattle.model.proofs.Fits.{laid-stream-fits}
 use Rattle.columns.specs.Answers.{talkerPlace}
-use Rattle.columns.specs.Records.{LaidAt, changedAt, earlyTo}
+use Rattle.columns.specs.Records.{changedAt, earlyTo}
 use Rattle.columns.proofs.EarlyRecords.{places-start, places-laid, places-source, places-turn}
 use Rattle.columns.proofs.early_places.Statement.{statement}
 use Rattle.columns.proofs.early_places.Tie as tie

@@ -1,7 +1,6 @@
 -- `columns::early_record` meets its contract. Assumes nothing.
-use Prim.Native.Nat.{ℕ, suc, _+_, _-_, _*_, _≤_, _<_}
-use mathlib.Core.Path.{_≡_, refl, _∙_}
-use native.Mathlib.Omega.{arith}
+use Prim.Native.Nat.{_-_}
+use mathlib.Core.Path.{refl, _∙_}
 use borrow.Author.Needs.{needs}
 use Rattle.columns.proofs.EarlyRecords.{settled-laid, settled-source, record-early}
 use Rattle.columns.proofs.early_record.Statement.{statement}

@@ -1,5 +1,5 @@
 -- `columns::first_step` meets its contract. Assumes nothing.
-use Prim.Native.Nat.{ℕ, _/_}
+use Prim.Native.Nat.{_/_}
 use mathlib.Core.Path.{_≡_, sym, _∙_}
 use mathlib.Core.Bool.{Bool, true, false}
 use native.Mathlib.Omega.{arith}
@@ -9,7 +9,7 @@ use borrow.Author.Tests.{not-true, not-false}
 use Rattle.octets.specs.Be.{beAt}
 use Rattle.model.specs.State.{classOf, isNoClass, supports}
 use Rattle.model.specs.Table.{toPort, toSettings}
-use Rattle.columns.specs.Answers.{classShown, columnShown}
+use Rattle.columns.specs.Answers.{columnShown}
 use Rattle.columns.proofs.Steps.{no-source, at-the-talker, unsupported, registered-failed, changed-mark, talker-here, no-class, too-large, no-step}
 use Rattle.columns.proofs.first_step.Statement.{statement}
 use Rattle.columns.proofs.first_step.Tie as tie

@@ -1,6 +1,6 @@
 -- `columns::latency_out` meets its contract. Assumes nothing.
-use Prim.Native.Nat.{ℕ, _/_}
-use mathlib.Core.Path.{_≡_, _∙_}
+use Prim.Native.Nat.{_/_}
+use mathlib.Core.Path.{_≡_}
 use borrow.Author.Needs.{needs}
 use Rattle.octets.specs.Be.{beAt}
 use Rattle.model.specs.State.{classOf, classLatency}
