@@ -16,17 +16,15 @@ ghost use Rattle.admission.specs.Sharing.{classFor, orderOf, isHeard, st
 use columns::ClassRead;
 use columns::PerSecond;
 
-// Places in a table: of the first port's limits. In a record: of settled priority and rank, of the first cell's Listener, of
-// the second from which the first result's age is counted.
-const LIMIT_A: usize = table::PORTS + 4;
+// Places in a table: of the first port's limits. In a record: of the first cell's Listener, and of the second from which the first
+// result's age is counted.
+const LIMIT_A: usize = table::PORTS + table::port::LIMIT_A;
 
-const LIMIT_B: usize = table::PORTS + 9;
+const LIMIT_B: usize = table::PORTS + table::port::LIMIT_B;
 
-const PRIORITY: usize = table::SETTLED + 12;
+const LISTENER: usize = table::CELLS + table::cell::LISTENER;
 
-const LISTENER: usize = table::CELLS + table::LISTENER;
-
-const AGE: usize = table::RESULTS + 15;
+const AGE: usize = table::RESULTS + table::result::AGE;
 
 // Whether a class is B, or else A.
 fn same_class(class: ClassRead, b: bool) -> bool
@@ -45,7 +43,7 @@ fn waiting(head: &[u8], rec: &[u8], p: usize, b: bool) -> bool
     ensures { λ r. ⌜ r ≡ stages.waits (toSettings (now (head .entry))) p (classFor b) (toStream (now (rec .entry))) ⌝ }
 {
     if rec[table::RESULTS + table::RESULT * p] == 1 {
-        let class = columns::class_of(head, (rec[PRIORITY] / 32) as u64);
+        let class = columns::class_of(head, (rec[table::SETTLED_PRIORITY] / 32) as u64);
         return same_class(class, b);
     }
     false
@@ -56,7 +54,7 @@ fn order_of(rec: &[u8], p: usize, k: usize) -> u64
     requires { ⌜ LaidStream (now rec) × (length (now rec) ≡ 493) × (p < 8) × (k < 64) ⌝ }
     ensures { λ r. ⌜ r ≡ orderOf p (toStream (now (rec .entry))) k ⌝ }
 {
-    let rank = (rec[PRIORITY] / 16 % 2) as u64;
+    let rank = (rec[table::SETTLED_PRIORITY] / 16 % 2) as u64;
     let age = octets::get(rec, AGE + table::RESULT * p, 4);
     (rank * 4294967296 + age) * 64 + (k as u64)
 }

@@ -12,29 +12,17 @@ ghost use Rattle.model.specs.Table.{cellOctets, toCell, toReady};
 ghost use Rattle.model.specs.Laid.{LaidCell};
 ghost use Rattle.cells.specs.Acts.{kindAt, talkOf};
 ghost use Rattle.cells.specs.Steps.{begun, lapsed, marked, failing, varied, fixed, same};
-
-// The places of a cell's fields.
-const TALKER: usize = 0;
-
-const CHANGED: usize = 1;
-
-const TALKER_LEAVES: usize = 2;
-
-const DESTINATION: usize = 7;
-
-const VLAN: usize = 13;
-
-const PRIORITY: usize = 19;
-
-const LATENCY: usize = 20;
-
-const BRIDGE_ID: usize = 24;
-
-const CODE: usize = 32;
-
-const LISTENER: usize = 33;
-
-const LISTENER_LEAVES: usize = 34;
+use table::cell::BRIDGE_ID;
+use table::cell::CHANGED;
+use table::cell::CODE;
+use table::cell::DESTINATION;
+use table::cell::LATENCY;
+use table::cell::LISTENER;
+use table::cell::LISTENER_LEAVES;
+use table::cell::PRIORITY;
+use table::cell::TALKER;
+use table::cell::TALKER_LEAVES;
+use table::cell::VLAN;
 
 // The places of a Talker's FirstValue.
 const FIRST_DESTINATION: usize = 8;

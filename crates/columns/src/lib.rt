@@ -14,6 +14,19 @@ ghost use Rattle.model.specs.Laid.{LaidCell, Laid};
 ghost use Rattle.columns.specs.Stages.{earlyColumn, early, earlyAll};
 ghost use Rattle.columns.specs.Answers.{toFixed, classShown, columnShown, sourcePlace, talkerPlace, sourceIn, latencyBy, shownBy, columnWidths, columnNumbers, entryWidths};
 ghost use Rattle.columns.specs.Records.{LaidAt, changedAt, earlyOne, earlyTo};
+use table::cell;
+use table::port;
+use table::result;
+
+// A Talker's fixed values, destination to rank: how many octets they are, where those of the first cell stand in a record, and
+// where TSpec stands among them.
+const FIXED: usize = table::CELLS - table::SETTLED;
+
+const TALKER_FIXED: usize = table::CELLS + cell::DESTINATION;
+
+const FRAME_SIZE: usize = cell::FRAME_SIZE - cell::DESTINATION;
+
+const FRAMES: usize = cell::FRAMES - cell::DESTINATION;
 
 // A demand in octets per interval of a class.
 pub struct PerInterval(pub u64);
@@ -26,10 +39,10 @@ pub fn demand(port: &[u8], fixed: &[u8]) -> PerInterval
     requires { ⌜ (length (now port) ≡ 22) × (length (now fixed) ≡ 13) ⌝ }
     ensures { λ r. ⌜ (r .0 ≡ bandwidth.demand (toPort (now (port .entry))) (toFixed (now (fixed .entry))) .octets) × (r .0 < 2 ^ 34) ⌝ }
 {
-    let size = octets::get(fixed, 8, 2);
-    let frames = octets::get(fixed, 10, 2);
-    let overhead = octets::get(port, 1, 1);
-    let flags = octets::get(port, 0, 1);
+    let size = octets::get(fixed, FRAME_SIZE, 2);
+    let frames = octets::get(fixed, FRAMES, 2);
+    let overhead = octets::get(port, port::OVERHEAD, 1);
+    let flags = octets::get(port, port::FLAGS, 1);
     let once = (size + overhead + 1) * frames;
     if flags / 32 % 2 == 1 {
         PerInterval(once * 2)
@@ -71,7 +84,7 @@ pub fn class_of(head: &[u8], priority: u64) -> ClassRead
     requires { ⌜ 11 ≤ length (now head) ⌝ }
     ensures { λ r. ⌜ classShown r ≡ classOf (toSettings (now (head .entry))) priority ⌝ }
 {
-    let word = octets::get(head, 8, 3);
+    let word = octets::get(head, table::HEAD, 3);
     if priority == word / 131072 % 8 {
         return ClassRead::A;
     }
@@ -93,7 +106,7 @@ pub fn source(rec: &[u8]) -> SourceRead
 {
     let mut p: usize = 0;
     while p < 8 {
-        if rec[21 + p * 39] != 0 {
+        if rec[table::CELLS + p * table::CELL] != 0 {
             return SourceRead::Port(p);
         }
         p += 1;
@@ -142,7 +155,7 @@ fn supports(port: &[u8], class: ClassRead) -> bool
     requires { ⌜ length (now port) ≡ 22 ⌝ }
     ensures { λ r. ⌜ r ≡ state.supports (toPort (now (port .entry))) (classShown class) ⌝ }
 {
-    let flags = octets::get(port, 0, 1);
+    let flags = octets::get(port, port::FLAGS, 1);
     match class {
         ClassRead::NoClass => true,
         ClassRead::A => flags / 128 == 1,
@@ -165,31 +178,31 @@ fn first_step(
     ensures { λ r. ⌜ columnShown r ≡ first (stepsFrom (toSettings (now (settings .entry))) p (toCell (now (here .entry)))
         (sourceIn t (toCell (now (talker .entry))))) advertise ⌝ }
 {
-    let kind = talker[0];
-    let mark = talker[1];
+    let kind = talker[cell::TALKER];
+    let mark = talker[cell::CHANGED];
     if kind == 0 {
         return ColumnRead::None;
     }
     if p == t {
         return ColumnRead::None;
     }
-    let class = class_of(settings, octets::get(talker, 19, 1) / 32);
+    let class = class_of(settings, octets::get(talker, cell::PRIORITY, 1) / 32);
     if !supports(port, class) {
         return ColumnRead::None;
     }
     if kind != 1 {
-        return ColumnRead::Failed(octets::get(talker, 24, 8), talker[32]);
+        return ColumnRead::Failed(octets::get(talker, cell::BRIDGE_ID, 8), talker[cell::CODE]);
     }
     if mark == 1 {
         return own(settings, 16);
     }
-    if here[0] != 0 {
+    if here[cell::TALKER] != 0 {
         return own(settings, 4);
     }
     if no_class(class) {
         return own(settings, 13);
     }
-    if octets::get(port, 2, 2) < octets::get(talker, 15, 2) {
+    if octets::get(port, port::LARGEST, 2) < octets::get(talker, cell::FRAME_SIZE, 2) {
         return own(settings, 14);
     }
     ColumnRead::Advertise
@@ -200,17 +213,17 @@ pub fn early_column(settings: &[u8], rec: &[u8], p: usize, t: usize) -> ColumnRe
     requires { ⌜ (length (now settings) ≡ 187) × (length (now rec) ≡ 493) × (p < 8) × (t < 8) × (t ≡ talkerPlace (sourceOf (toStream (now rec)))) ⌝ }
     ensures { λ r. ⌜ columnShown r ≡ earlyColumn (toSettings (now (settings .entry))) p (toStream (now (rec .entry))) ⌝ }
 {
-    if octets::get(settings, 8, 3) / 1048576 <= (p as u64) {
+    if octets::get(settings, table::HEAD, 3) / 1048576 <= (p as u64) {
         return ColumnRead::None;
     }
-    let q = 11 + p * 22;
-    let h = 21 + p * 39;
-    let s = 21 + t * 39;
+    let q = table::PORTS + p * table::PORT;
+    let h = table::CELLS + p * table::CELL;
+    let s = table::CELLS + t * table::CELL;
     first_step(
         settings,
-        &settings[q..q + 22],
-        &rec[h..h + 39],
-        &rec[s..s + 39],
+        &settings[q..q + table::PORT],
+        &rec[h..h + table::CELL],
+        &rec[s..s + table::CELL],
         p,
         t,
     )
@@ -223,8 +236,8 @@ fn class_latency(port: &[u8], class: ClassRead) -> u64
 {
     match class {
         ClassRead::NoClass => 0,
-        ClassRead::A => octets::get(port, 14, 4),
-        ClassRead::B => octets::get(port, 18, 4),
+        ClassRead::A => octets::get(port, port::LATENCY_A, 4),
+        ClassRead::B => octets::get(port, port::LATENCY_B, 4),
     }
 }
 
@@ -233,8 +246,8 @@ fn latency_out(settings: &[u8], port: &[u8], talker: &[u8]) -> u64
     requires { ⌜ (11 ≤ length (now settings)) × (length (now port) ≡ 22) × (length (now talker) ≡ 39) × LaidCell (now talker) ⌝ }
     ensures { λ r. ⌜ r ≡ latencyBy (toSettings (now (settings .entry))) (toPort (now (port .entry))) (toCell (now (talker .entry))) ⌝ }
 {
-    let class = class_of(settings, octets::get(talker, 19, 1) / 32);
-    let sum = octets::get(talker, 20, 4) + class_latency(port, class);
+    let class = class_of(settings, octets::get(talker, cell::PRIORITY, 1) / 32);
+    let sum = octets::get(talker, cell::LATENCY, 4) + class_latency(port, class);
     if 4294967295 < sum {
         return 4294967295;
     }
@@ -270,10 +283,10 @@ fn age_of(result: &[u8], entry: u64, time: u32) -> u64
     if entry == 0 {
         return 0;
     }
-    if result[14] == 0 {
+    if result[result::ENTRY] == 0 {
         return (time / 100) as u64;
     }
-    octets::get(result, 15, 4)
+    octets::get(result, result::AGE, 4)
 }
 
 // The fields of a result's column: its kind, latency out, Bridge ID and code.
@@ -281,10 +294,10 @@ fn store_column(result: &mut [u8], kind: u64, latency: u64, bridge: u64, code: u
     requires { ⌜ length (now result) ≡ 20 ⌝ }
     ensures { λ _. ⌜ now (result .exit) ≡ packed columnWidths (kind ∷ latency ∷ bridge ∷ code ∷ []) ++ drop 14 (now (result .entry)) ⌝ }
 {
-    octets::put(result, 0, 1, kind);
-    octets::put(result, 1, 4, latency);
-    octets::put(result, 5, 8, bridge);
-    octets::put(result, 13, 1, code);
+    octets::put(result, result::COLUMN, 1, kind);
+    octets::put(result, result::LATENCY, 4, latency);
+    octets::put(result, result::BRIDGE_ID, 8, bridge);
+    octets::put(result, result::CODE, 1, code);
 }
 
 fn write_column(result: &mut [u8], column: ColumnRead, latency: u64)
@@ -303,9 +316,9 @@ fn write_entry(result: &mut [u8], entry: u64, age: u64)
     requires { ⌜ length (now result) ≡ 20 ⌝ }
     ensures { λ _. ⌜ now (result .exit) ≡ take 14 (now (result .entry)) ++ packed entryWidths (entry ∷ age ∷ 0 ∷ []) ⌝ }
 {
-    octets::put(result, 14, 1, entry);
-    octets::put(result, 15, 4, age);
-    octets::put(result, 19, 1, 0);
+    octets::put(result, result::ENTRY, 1, entry);
+    octets::put(result, result::AGE, 4, age);
+    octets::put(result, result::DECLARED, 1, 0);
 }
 
 // What a stream shows on a port, in the place of what it showed.
@@ -324,14 +337,24 @@ fn early_at(table: &mut [u8], a: usize, p: usize, t: usize, time: u32)
     requires { ⌜ LaidAt a (now table) × (p < 8) × (t < 8) × (t ≡ talkerPlace (sourceOf (toStream (part a 493 (now table))))) ⌝ }
     ensures { λ _. ⌜ now (table .exit) ≡ changedAt a (earlyOne p time) (now (table .entry)) ⌝ }
 {
-    let q = 11 + p * 22;
-    let h = a + 21 + p * 39;
-    let s = a + 21 + t * 39;
-    let r = a + 333 + p * 20;
-    let column = early_column(&table[0..187], &table[a..a + 493], p, t);
-    let latency = latency_out(&table[0..187], &table[q..q + 22], &table[s..s + 39]);
-    let listener = octets::get(table, h + 33, 1);
-    write_result(&mut table[r..r + 20], column, latency, listener, time);
+    let q = table::PORTS + p * table::PORT;
+    let h = a + table::CELLS + p * table::CELL;
+    let s = a + table::CELLS + t * table::CELL;
+    let r = a + table::RESULTS + p * table::RESULT;
+    let column = early_column(&table[0..table::CLOCK], &table[a..a + table::RECORD], p, t);
+    let latency = latency_out(
+        &table[0..table::CLOCK],
+        &table[q..q + table::PORT],
+        &table[s..s + table::CELL],
+    );
+    let listener = octets::get(table, h + cell::LISTENER, 1);
+    write_result(
+        &mut table[r..r + table::RESULT],
+        column,
+        latency,
+        listener,
+        time,
+    );
 }
 
 // The fixed values of the Talker in the cell at from, as the settled values of its record.
@@ -339,10 +362,10 @@ fn copy_fixed(rec: &mut [u8], from: usize)
     requires { ⌜ (length (now rec) ≡ 493) × (21 ≤ from) × (from + 13 ≤ 493) ⌝ }
     ensures { λ _. ⌜ now (rec .exit) ≡ patch 8 13 (part from 13 (now (rec .entry))) (now (rec .entry)) ⌝ }
 {
-    let mut i: usize = 13;
+    let mut i: usize = FIXED;
     while 0 < i {
         i -= 1;
-        rec[8 + i] = rec[from + i];
+        rec[table::SETTLED + i] = rec[from + i];
     }
 }
 
@@ -363,8 +386,11 @@ fn early_record(table: &mut [u8], a: usize, time: u32)
     requires { ⌜ LaidAt a (now table) ⌝ }
     ensures { λ _. ⌜ now (table .exit) ≡ changedAt a (λ st. early st time) (now (table .entry)) ⌝ }
 {
-    let t = talker_place(&table[a..a + 493]);
-    copy_fixed(&mut table[a..a + 493], 28 + t * 39);
+    let t = talker_place(&table[a..a + table::RECORD]);
+    copy_fixed(
+        &mut table[a..a + table::RECORD],
+        TALKER_FIXED + t * table::CELL,
+    );
     early_places(table, a, t, time);
 }
 
@@ -376,7 +402,7 @@ pub fn early_all(table: &mut [u8], time: u32)
     let count = table::count(table);
     let mut k: usize = 0;
     while k < count {
-        early_record(table, 272 + k * 493, time);
+        early_record(table, table::RECORDS + k * table::RECORD, time);
         k += 1;
     }
 }

@@ -27,20 +27,20 @@ const JOIN_MT: u64 = 108;
 const NAME: usize = table::CELLS;
 
 // Within the results: column, latency (Bridge ID and code follow it), code, entry, Listener declared.
-const COLUMN: usize = table::RESULTS;
+const COLUMN: usize = table::RESULTS + table::result::COLUMN;
 
-const LATENCY: usize = table::RESULTS + 1;
+const LATENCY: usize = table::RESULTS + table::result::LATENCY;
 
-const CODE: usize = table::RESULTS + 13;
+const CODE: usize = table::RESULTS + table::result::CODE;
 
-const ENTRY: usize = table::RESULTS + 14;
+const ENTRY: usize = table::RESULTS + table::result::ENTRY;
 
-const DECLARED: usize = table::RESULTS + 19;
+const DECLARED: usize = table::RESULTS + table::result::DECLARED;
 
 // In a table: of the first port, the limits of class A and class B, and the totals.
-const LIMIT_A: usize = table::PORTS + 4;
+const LIMIT_A: usize = table::PORTS + table::port::LIMIT_A;
 
-const LIMIT_B: usize = table::PORTS + 9;
+const LIMIT_B: usize = table::PORTS + table::port::LIMIT_B;
 
 const TOTAL_A: usize = table::TOTALS;
 

@@ -13,6 +13,24 @@ ghost use Rattle.model.specs.Table.{allZero, everyPart};
 ghost use Rattle.model.specs.Table.{portsField, toPort, portRule, settingsRules, settingsFormed};
 ghost use Rattle.model.specs.Table.{leavingRule, cellWidths, cellRules, cellFormed, resultFormed, holds, streamFormed};
 ghost use Rattle.model.specs.Table.{toTotals, totalsWithin, idOf, rising, settingsPart, tableRules, formed};
+use table::CELL;
+use table::CELLS;
+use table::CLOCK;
+use table::COUNT;
+use table::HEAD;
+use table::LENGTH;
+use table::PORT;
+use table::PORTS;
+use table::RECORD;
+use table::RECORDS;
+use table::RESULT;
+use table::RESULTS;
+use table::SETTLED_PRIORITY;
+use table::TOTAL;
+use table::TOTALS;
+use table::cell;
+use table::port;
+use table::result;
 
 // Every octet from a place on is zero.
 fn zero_from(s: &[u8], from: usize) -> bool
@@ -50,14 +68,14 @@ fn talker_formed(cell: &[u8], clock: u64, leave: u64) -> bool
     requires { ⌜ length (now cell) ≡ 39 ⌝ }
     ensures { λ r. ⌜ r ≡ allTrue (take 6 (cellRules clock leave (fields cellWidths 0 (now (cell .entry))))) ⌝ }
 {
-    let kind = cell[0];
-    let since = octets::get(cell, 3, 4);
+    let kind = cell[cell::TALKER];
+    let since = octets::get(cell, cell::TALKER_SINCE, 4);
     (kind <= 2)
-        & (cell[1] <= 1)
-        & leaving_formed(cell[2], since, clock, leave)
-        & (cell[19] % 16 == 0)
-        & ((kind != 0) | zero_from(&cell[1..33], 0))
-        & ((kind != 1) | zero_from(&cell[24..33], 0))
+        & (cell[cell::CHANGED] <= 1)
+        & leaving_formed(cell[cell::TALKER_LEAVES], since, clock, leave)
+        & (cell[cell::PRIORITY] % 16 == 0)
+        & ((kind != 0) | zero_from(&cell[cell::CHANGED..cell::LISTENER], 0))
+        & ((kind != 1) | zero_from(&cell[cell::BRIDGE_ID..cell::LISTENER], 0))
 }
 
 // The rules of a cell's Listener: without one all of it is zero.
@@ -65,11 +83,11 @@ fn listener_formed(cell: &[u8], clock: u64, leave: u64) -> bool
     requires { ⌜ length (now cell) ≡ 39 ⌝ }
     ensures { λ r. ⌜ r ≡ allTrue (drop 6 (cellRules clock leave (fields cellWidths 0 (now (cell .entry))))) ⌝ }
 {
-    let kind = cell[33];
-    let since = octets::get(cell, 35, 4);
+    let kind = cell[cell::LISTENER];
+    let since = octets::get(cell, cell::LISTENER_SINCE, 4);
     (kind <= 3)
-        & leaving_formed(cell[34], since, clock, leave)
-        & ((kind != 0) | zero_from(&cell[34..39], 0))
+        & leaving_formed(cell[cell::LISTENER_LEAVES], since, clock, leave)
+        & ((kind != 0) | zero_from(&cell[cell::LISTENER_LEAVES..CELL], 0))
 }
 
 // The rules of a cell.
@@ -87,8 +105,8 @@ fn some_held(cells: &[u8], ports: usize) -> bool
 {
     let mut p: usize = 0;
     while p < ports {
-        let a = 39 * p;
-        if (cells[a] != 0) | (cells[a + 33] != 0) {
+        let a = CELL * p;
+        if (cells[a] != 0) | (cells[a + cell::LISTENER] != 0) {
             return true;
         }
         p += 1;
@@ -103,8 +121,8 @@ fn cells_formed(cells: &[u8], ports: usize, clock: u64, leave: u64) -> bool
 {
     let mut p: usize = 0;
     while p < ports {
-        let a = 39 * p;
-        if !cell_formed(&cells[a..a + 39], clock, leave) {
+        let a = CELL * p;
+        if !cell_formed(&cells[a..a + CELL], clock, leave) {
             return false;
         }
         p += 1;
@@ -118,19 +136,19 @@ fn result_formed(result: &[u8], clock: u64) -> bool
     requires { ⌜ length (now result) ≡ 20 ⌝ }
     ensures { λ r. ⌜ r ≡ resultFormed clock (now (result .entry)) ⌝ }
 {
-    let column = result[0];
-    let latency = octets::get(result, 1, 4);
-    let entry = result[14];
-    let second = octets::get(result, 15, 4);
+    let column = result[result::COLUMN];
+    let latency = octets::get(result, result::LATENCY, 4);
+    let entry = result[result::ENTRY];
+    let second = octets::get(result, result::AGE, 4);
     (column <= 2)
         & ((column != 0) | (latency == 0))
-        & ((1 < column) | zero_from(&result[5..14], 0))
+        & ((1 < column) | zero_from(&result[result::BRIDGE_ID..result::ENTRY], 0))
         & (entry <= 2)
         & ((column == 0) | (1 <= entry))
         & ((column == 1) | (entry <= 1))
         & ((entry != 0) | (second == 0))
         & (second <= clock / 100)
-        & (result[19] <= 3)
+        & (result[result::DECLARED] <= 3)
 }
 
 // The result of each port keeps its rules.
@@ -140,8 +158,8 @@ fn results_formed(results: &[u8], ports: usize, clock: u64) -> bool
 {
     let mut p: usize = 0;
     while p < ports {
-        let a = 20 * p;
-        if !result_formed(&results[a..a + 20], clock) {
+        let a = RESULT * p;
+        if !result_formed(&results[a..a + RESULT], clock) {
             return false;
         }
         p += 1;
@@ -154,14 +172,14 @@ fn record_formed(rec: &[u8], ports: usize, clock: u64, leave: u64) -> bool
     requires { ⌜ (length (now rec) ≡ 493) × (ports ≤ 8) ⌝ }
     ensures { λ r. ⌜ r ≡ streamFormed ports clock leave (now (rec .entry)) ⌝ }
 {
-    let cells = &rec[21..333];
-    let results = &rec[333..493];
-    (rec[20] % 16 == 0)
+    let cells = &rec[CELLS..RESULTS];
+    let results = &rec[RESULTS..RECORD];
+    (rec[SETTLED_PRIORITY] % 16 == 0)
         & cells_formed(cells, ports, clock, leave)
         & some_held(cells, ports)
-        & zero_from(cells, 39 * ports)
+        & zero_from(cells, CELL * ports)
         & results_formed(results, ports, clock)
-        & zero_from(results, 20 * ports)
+        & zero_from(results, RESULT * ports)
 }
 
 // The first count stream records keep their rules.
@@ -171,8 +189,8 @@ fn records_formed(records: &[u8], count: usize, ports: usize, clock: u64, leave:
 {
     let mut k: usize = 0;
     while k < count {
-        let a = 493 * k;
-        if !record_formed(&records[a..a + 493], ports, clock, leave) {
+        let a = RECORD * k;
+        if !record_formed(&records[a..a + RECORD], ports, clock, leave) {
             return false;
         }
         k += 1;
@@ -187,9 +205,9 @@ fn ids_rise(records: &[u8], count: usize) -> bool
 {
     let mut k: usize = 0;
     while k + 1 < count {
-        let a = 493 * k;
+        let a = RECORD * k;
         let id = octets::get(records, a, 8);
-        let next = octets::get(records, a + 493, 8);
+        let next = octets::get(records, a + RECORD, 8);
         if next <= id {
             return false;
         }
@@ -203,7 +221,7 @@ fn port_formed(port: &[u8]) -> bool
     requires { ⌜ length (now port) ≡ 22 ⌝ }
     ensures { λ r. ⌜ r ≡ portRule (now (port .entry)) ⌝ }
 {
-    port[0] % 32 == 0
+    port[port::FLAGS] % 32 == 0
 }
 
 // The settings of each port keep their rule.
@@ -213,8 +231,8 @@ fn ports_formed(ports: &[u8], count: usize) -> bool
 {
     let mut p: usize = 0;
     while p < count {
-        let a = 22 * p;
-        if !port_formed(&ports[a..a + 22]) {
+        let a = PORT * p;
+        if !port_formed(&ports[a..a + PORT]) {
             return false;
         }
         p += 1;
@@ -228,7 +246,7 @@ fn settings_rules(settings: &[u8]) -> bool
         × (portsField (now settings) ≤ 8 → 11 + 22 * portsField (now settings) ≤ length (now settings)) ⌝ }
     ensures { λ r. ⌜ r ≡ allTrue (settingsRules (now (settings .entry))) ⌝ }
 {
-    let head = octets::get(settings, 8, 3);
+    let head = octets::get(settings, HEAD, 3);
     let ports = head / 1048576;
     if 8 < ports {
         return false;
@@ -236,18 +254,18 @@ fn settings_rules(settings: &[u8]) -> bool
     (1 <= ports)
         & (head / 131072 % 8 != head / 16384 % 8)
         & (1 <= head % 16384)
-        & ports_formed(&settings[11..], ports as usize)
+        & ports_formed(&settings[PORTS..], ports as usize)
 }
 
 // Number 11: settings have their length and keep every rule.
 pub fn settings_formed(settings: &[u8]) -> bool
     ensures { λ r. ⌜ r ≡ settingsFormed (now (settings .entry)) ⌝ }
 {
-    if settings.len() < 11 {
+    if settings.len() < PORTS {
         return false;
     }
-    let ports = octets::get(settings, 8, 3) / 1048576;
-    if settings.len() != 11 + 22 * (ports as usize) {
+    let ports = octets::get(settings, HEAD, 3) / 1048576;
+    if settings.len() != PORTS + PORT * (ports as usize) {
         return false;
     }
     settings_rules(settings)
@@ -261,8 +279,8 @@ fn total_within(totals: &[u8], port: &[u8]) -> bool
 {
     let total_a = octets::get(totals, 0, 5);
     let total_b = octets::get(totals, 5, 5);
-    let limit_a = octets::get(port, 4, 5);
-    let limit_b = octets::get(port, 9, 5);
+    let limit_a = octets::get(port, port::LIMIT_A, 5);
+    let limit_b = octets::get(port, port::LIMIT_B, 5);
     (total_a <= limit_a) & (total_b <= limit_b)
 }
 
@@ -273,14 +291,14 @@ fn totals_within(totals: &[u8], ports: &[u8], count: usize) -> bool
 {
     let mut p: usize = 0;
     while p < count {
-        let a = 10 * p;
-        let b = 22 * p;
-        if !total_within(&totals[a..a + 10], &ports[b..b + 22]) {
+        let a = TOTAL * p;
+        let b = PORT * p;
+        if !total_within(&totals[a..a + TOTAL], &ports[b..b + PORT]) {
             return false;
         }
         p += 1;
     }
-    zero_from(totals, 10 * count)
+    zero_from(totals, TOTAL * count)
 }
 
 // The rules of the settings and the class totals of a table; the settings of places that are no port are zero.
@@ -288,12 +306,13 @@ fn header_formed(table: &[u8]) -> bool
     requires { ⌜ length (now table) ≡ 31824 ⌝ }
     ensures { λ r. ⌜ r ≡ allTrue (take 3 (tableRules (now (table .entry)))) ⌝ }
 {
-    let settings = &table[0..187];
+    let settings = &table[0..CLOCK];
     if !settings_rules(settings) {
         return false;
     }
-    let ports = (octets::get(settings, 8, 3) / 1048576) as usize;
-    zero_from(settings, 11 + 22 * ports) & totals_within(&table[192..272], &settings[11..], ports)
+    let ports = (octets::get(settings, HEAD, 3) / 1048576) as usize;
+    zero_from(settings, PORTS + PORT * ports)
+        & totals_within(&table[TOTALS..RECORDS], &settings[PORTS..], ports)
 }
 
 // The rules of the stream records of a table; what follows those in use is zero.
@@ -301,24 +320,24 @@ fn streams_formed(table: &[u8]) -> bool
     requires { ⌜ (length (now table) ≡ 31824) × (portsField (settingsPart (now table)) ≤ 8) ⌝ }
     ensures { λ r. ⌜ r ≡ allTrue (drop 3 (tableRules (now (table .entry)))) ⌝ }
 {
-    let count = table[191] as usize;
+    let count = table[COUNT] as usize;
     if 64 < count {
         return false;
     }
-    let head = octets::get(table, 8, 3);
+    let head = octets::get(table, HEAD, 3);
     let ports = (head / 1048576) as usize;
-    let clock = octets::get(table, 187, 4);
-    let records = &table[272..31824];
+    let clock = octets::get(table, CLOCK, 4);
+    let records = &table[RECORDS..LENGTH];
     records_formed(records, count, ports, clock, head % 16384)
         & ids_rise(records, count)
-        & zero_from(records, 493 * count)
+        & zero_from(records, RECORD * count)
 }
 
 // Number 12: a table has its length and keeps every form rule.
 pub fn is_formed(table: &[u8]) -> bool
     ensures { λ r. ⌜ r ≡ formed (now (table .entry)) ⌝ }
 {
-    if table.len() != 31824 {
+    if table.len() != LENGTH {
         return false;
     }
     if !header_formed(table) {

@@ -14,9 +14,6 @@ ghost use Rattle.columns.specs.Stages as stages;
 ghost use Rattle.settling.specs.Removed.{removed};
 use columns::SourceRead;
 
-// The place of the declared Listener in a result.
-const DECLARED: usize = 19;
-
 // Removes from a record what has been leaving for at least the leave time.
 fn expire_record(rec: &mut [u8], leave: u32, time: u32)
     requires { ⌜ LaidStream (now rec) × (length (now rec) ≡ 493) × (leave ≤ 16383) ⌝ }
@@ -113,7 +110,7 @@ fn merged(rec: &[u8]) -> u8
     while 0 < p {
         p -= 1;
         let column = rec[table::RESULTS + p * table::RESULT];
-        let listener = rec[table::CELLS + p * table::CELL + table::LISTENER];
+        let listener = rec[table::CELLS + p * table::CELL + table::cell::LISTENER];
         let passed = passed_on(column, listener);
         sum = merge_two(passed, sum);
     }
@@ -125,7 +122,7 @@ fn declare(result: &mut [u8], number: u8)
     requires { ⌜ LaidResult (now result) × (length (now result) ≡ 20) ⌝ }
     ensures { λ _. ⌜ ((d : Declared) → number ≡ declaredNumber d → now (result .exit) ≡ resultOctets (stages.declaring d (toResult (now (result .entry))))) ⌝ }
 {
-    octets::put(result, DECLARED, 1, number as u64);
+    octets::put(result, table::result::DECLARED, 1, number as u64);
 }
 
 // The Talker port of a record declares the merged Listener.

@@ -12,6 +12,10 @@ ghost use Rattle.table.specs.Held.{heldOnly};
 ghost use Rattle.table.specs.Octets.{recordPut, recordKept};
 ghost use Rattle.table.specs.Updates.{inserted};
 
+pub mod cell;
+pub mod port;
+pub mod result;
+
 // The layout of a table, in octets (docs/TABLE.md): its length; where the field of the number of ports, class priorities and
 // leave time, the ports' settings, the clock, the number of streams, the totals and the stream records stand; and how long
 // one of each is.
@@ -35,8 +39,10 @@ pub const RECORDS: usize = 272;
 
 pub const RECORD: usize = 493;
 
-// Within a record: settled values, cells and results.
+// Within a record: settled values, with priority and rank last of them; cells and results.
 pub const SETTLED: usize = 8;
+
+pub const SETTLED_PRIORITY: usize = 20;
 
 pub const CELLS: usize = 21;
 
@@ -45,9 +51,6 @@ pub const CELL: usize = 39;
 pub const RESULTS: usize = 333;
 
 pub const RESULT: usize = 20;
-
-// Within a cell: the Listener. The Talker stands first.
-pub const LISTENER: usize = 33;
 
 // The number of streams held.
 pub fn count(table: &[u8]) -> usize
@@ -165,7 +168,7 @@ pub fn is_held(rec: &[u8]) -> bool
         if rec[a] != 0 {
             return true;
         }
-        if rec[a + LISTENER] != 0 {
+        if rec[a + cell::LISTENER] != 0 {
             return true;
         }
         p += 1;
