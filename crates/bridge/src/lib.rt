@@ -6,7 +6,7 @@ ghost use Rattle.declarations.specs.Shown.{shown};
 ghost use Rattle.bridge.specs.Promises.{Starts, Receives, Advances, Writes, Reports};
 
 // Octets of a table.
-pub const TABLE: usize = 31824;
+pub const TABLE: usize = table::LENGTH;
 
 // The shortest buffer that a written PDU is sure to fit into.
 const BUFFER: usize = 1500;
