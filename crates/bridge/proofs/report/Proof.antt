@@ -49,7 +49,7 @@ returns-3 c =
 
 report-at-requires : tie.Need-report-at-requires
 report-at-requires c κs =
-    (laid (c .before .before .before .before .before), omega (arith, c .before .before .before .before .ports .ensures .1, c .before .before .if3 .left, c .before .before .before .if2 .left), rw (c .before .count .ensures .0) at (c .if4 .left))
+    (laid (c .before .before .before .before .before), omega (arith, c .before .before .before .before .ports .ensures .1, c .before .before .if3 .left, c .before .before .before .if2 .left), omega (arith, c .before .count .ensures .0, c .if4 .left))
 
 returns-4 : tie.Need-returns-4
 returns-4 c =

@@ -1,8 +1,10 @@
 -- `bridge::write` meets its contract. Assumes nothing.
+use Prim.Native.Nat.{_≤_, _<_}
 use mathlib.Core.Path.{_≡_, sym, _∙_}
 use mathlib.Core.Bool.{true, false}
 use native.Mathlib.Omega.{arith}
 use borrow.Author.Needs.{needs}
+use lib.ListN.{length}
 use Rattle.model.specs.Frames.{wrongPort}
 use Rattle.model.specs.Table.{formed, decode}
 use Rattle.model.specs.Laid.{Laid}
@@ -24,6 +26,9 @@ laid c =
 a-port : (c : tie.Else3) → wrongPort (decode (c .before .before .before .before .before .before .before .args .table .now) .settings) (c .before .before .before .before .before .before .before .args .port) ≡ false
 a-port c = port-right _ _ (c .before .if2 .left) (rw (c .before .before .ports .ensures .0) at (c .if3 .left))
 
+long-enough : (c : tie.Else4) → 1500 ≤ length (c .before .before .before .before .before .before .before .before .args .buffer .now)
+long-enough c = omega (arith, c .if4 .left)
+
 ports-requires : tie.Need-ports-requires
 ports-requires c κs = laid c
 
@@ -40,8 +45,9 @@ returns-2 c =
 
 returns-3 : tie.Need-returns-3
 returns-3 c =
+    let short : length (c .before .before .before .before .before .before .before .before .before .args .buffer .now) < 1500 = omega (arith, c .before .if4 .taken) in
     refused _ _ _ _ 10 _ _ _ (c .refused-write3 .ensures)
-    (write-short _ _ _ _ (well-formed (c .before .before .before .before .before)) (a-port (c .before .before)) (c .before .if4 .taken))
+    (write-short _ _ _ _ (well-formed (c .before .before .before .before .before)) (a-port (c .before .before)) short)
 
 count-requires : tie.Need-count-declarations-requires
 count-requires c κs = (laid (c .before .before .before .before), omega (arith, c .before .before .before .ports .ensures .1, c .before .if3 .left, c .before .before .if2 .left))
@@ -50,21 +56,21 @@ returns-4 : tie.Need-returns-4
 returns-4 c =
     refused _ _ _ _ 13 _ _ _ (c .refused-write4 .ensures)
     (write-above _ _ _ _ (well-formed (c .before .before .before .before .before .before .before)) (a-port (c .before .before .before .before))
-    (c .before .before .before .if4 .left) (rw (c .before .before .count-declarations .ensures .0) at (c .before .if5 .taken)))
+    (long-enough (c .before .before .before)) (rw (c .before .before .count-declarations .ensures .0) at (c .before .if5 .taken)))
 
 write-pdu-requires : tie.Need-write-pdu-requires
 write-pdu-requires c κs = (
   laid (c .before .before .before .before .before .before .before),
   omega (arith, c .before .before .before .before .before .before .ports .ensures .1, c .before .before .before .before .if3 .left, c .before .before .before .before .before .if2 .left),
   omega (arith, c .before .before .count-declarations .ensures .1, c .before .if5 .left),
-  c .before .before .before .if4 .left,
+  long-enough (c .before .before .before),
 )
 
 returns-5 : tie.Need-returns-5
 returns-5 c =
     let tested = c .before .before .before .before in
     write-done _ _ _ _ (well-formed (tested .before .before .before .before .before .before)) (a-port (tested .before .before .before))
-    (tested .before .before .if4 .left) (rw (tested .before .count-declarations .ensures .0) at (tested .if5 .left)) _ _ (c .before .before .write-pdu .ensures)
+    (long-enough (tested .before .before)) (rw (tested .before .count-declarations .ensures .0) at (tested .if5 .left)) _ _ (c .before .before .write-pdu .ensures)
 
 returns-6 : tie.Need-returns-6
 returns-6 c =
