@@ -13,12 +13,12 @@ use borrow.Author.Tests.{lt-ltb, le-ltb, leb-true, leb-false, eqb-true, eqb-fals
 use Rattle.model.specs.Lists.{keep, tabulate}
 use Rattle.model.specs.State.{Settings, Column, none, advertise, failed, filters, forwards, Result, Stream, Totals, Bridge, noTotals, unsettled, isPort, cellAt, resultAt, Class, noClass, classA, classB, classOf, isNoClass, sameClass}
 use Rattle.model.specs.Bandwidth.{Claim, remains, admitted, sort, reserved, total}
-use Rattle.model.specs.Settling.{Source, nowhere, from, sourceOf, fixedOf, streamClass, registered, isReady, first, clear, steps, stepsFrom, ageOf, claim, claims, limitOn, leftFor, byBandwidth, columnOf, entryOf, ageKept, latencyKept, totalOn, totalsOn}
+use Rattle.model.specs.Settling.{Source, nowhere, from, sourceOf, fixedOf, streamClass, registered, isReady, clear, steps, stepsFrom, ageOf, claim, claims, limitOn, leftFor, byBandwidth, columnOf, entryOf, ageKept, latencyKept, totalOn, totalsOn, isAdvertise}
 use Rattle.model.proofs.Lists.{and-true, and-false}
 use Rattle.model.proofs.AdvanceKeepsForm.{length-tabulate}
 use Rattle.model.proofs.Admission.{Two, lo, hi, two}
-use Rattle.model.proofs.ColumnRule.{at-place, tabulate-same, same-class, first-clear, first-decided, isAdvertise, advertised}
-use Rattle.columns.specs.Stages.{shownAs, earlyColumn, earlyAt, early, isAdvertised, settledClass, waits, claimShown, claimsShown, limitShown, lacking, withResult, admit, withTotal, admission, admissions}
+use Rattle.model.proofs.ColumnRule.{at-place, tabulate-same, same-class, first-clear, first-decided, advertised}
+use Rattle.columns.specs.Stages.{shownAs, earlyColumn, earlyAt, early, settledClass, waits, claimShown, claimsShown, limitShown, lacking, withResult, admit, withTotal, admission, admissions}
 
 -- a place set in a list of eight
 set-tabulate : {A : Type 0} (f g : ℕ → A) (p : ℕ) (v : A) → p < 8 → v ≡ g p → ((q : ℕ) → q < 8 → (q ≡ p → ⊥) → f q ≡ g q) →
@@ -55,17 +55,11 @@ showing st now col x = record {
 
 -- Steps a to g alone.
 
-same-test : (c : Column) → isAdvertised c ≡ isAdvertise c
-unfolding isAdvertised isAdvertise
-same-test none = refl
-same-test advertise = refl
-same-test (failed b n) = refl
-
 module _ (st : Settings) (q : ℕ) (x : Stream) where
   -- they leave Advertise where none of them applies
-  early-advertised : isAdvertised (earlyColumn st q x) ≡ clear (steps st q x)
+  early-advertised : isAdvertise (earlyColumn st q x) ≡ clear (steps st q x)
   unfolding earlyColumn byBandwidth
-  early-advertised = same-test (first (steps st q x) advertise) ∙ advertised st q x 0 0 ∙ and-true (clear (steps st q x))
+  early-advertised = advertised st q x 0 0 ∙ and-true (clear (steps st q x))
 
   -- one of them applies to a priority that is no class, and at a place that is no port
   no-class : streamClass st x ≡ noClass → clear (steps st q x) ≡ false
@@ -131,7 +125,7 @@ module _ (st : Settings) (now : ℕ) (s : List Stream) where
     unfolding showing resultAt
     shown-at = at-place (λ q. shownAs st now x q (col q x)) p unsettled h
 
-    waits-at : (c : Class) → waits st p c (showing st now col x) ≡ (isAdvertised (col p x) && sameClass (streamClass st x) c)
+    waits-at : (c : Class) → waits st p c (showing st now col x) ≡ (isAdvertise (col p x) && sameClass (streamClass st x) c)
     unfolding waits settledClass streamClass
     waits-at c = rw shown-at (unfold shownAs showing in refl)
 
@@ -168,11 +162,11 @@ module _ (st : Settings) (now : ℕ) (s : List Stream) where
     waiting : (x : Stream) → waits st p c (showing st now old x) ≡ (clear (steps st p x) && sameClass (streamClass st x) c)
     waiting x = waits-at old p h x c ∙ go (sameClass (streamClass st x) c) refl
       where
-        go : (t : Bool) → sameClass (streamClass st x) c ≡ t → (isAdvertised (old p x) && t) ≡ (clear (steps st p x) && t)
+        go : (t : Bool) → sameClass (streamClass st x) c ≡ t → (isAdvertise (old p x) && t) ≡ (clear (steps st p x) && t)
         go true e =
             ap (λ (t : Bool). t && true)
-            (ap isAdvertised (was x (same-class (streamClass st x) c e)) ∙ early-advertised st p x)
-        go false e = and-false (isAdvertised (old p x)) ∙ sym (and-false (clear (steps st p x)))
+            (ap isAdvertise (was x (same-class (streamClass st x) c e)) ∙ early-advertised st p x)
+        go false e = and-false (isAdvertise (old p x)) ∙ sym (and-false (clear (steps st p x)))
 
     -- a stream that waits
     module _ (x : Stream) (free : clear (steps st p x) ≡ true) (e : streamClass st x ≡ c) where

@@ -15,18 +15,17 @@ use Rattle.octets.proofs.Frame.{beAt-part}
 use Rattle.octets.proofs.Fields.{beAt-one}
 use Rattle.model.specs.State.{Leaving, Talker, noListener, listener, resultAt, cellAt}
 use Rattle.model.specs.Frames.{priorityOf, rankOf}
-use Rattle.model.specs.Settling.{registered, isReady}
+use Rattle.model.specs.Settling.{registered, isReady, isAdvertise}
 use Rattle.model.specs.Table.{cellWidths, toReady, listenerFrom, cellFrom, toCell, resultWidths, toColumn, resultFrom, toResult, nameWidths, fixedFrom, toStream}
 use Rattle.model.specs.Laid.{LaidStream}
 use Rattle.table.proofs.StreamParts.{lent-cell-read, lent-result-read}
-use Rattle.columns.specs.Stages.{isAdvertised}
 
 -- A field of a part, in the whole.
 pub lent-field : (m a k b : ℕ) (s : List ℕ) → b + m ≤ k → beAt m (take (a + k - a) (drop a s)) b ≡ beAt m s (a + b)
 lent-field m a k b s h = rw (lent-part a k s) (beAt-part m a k b s h)
 
-advertised-number : (k b n : ℕ) → isAdvertised (toColumn k b n) ≡ eqb k 1
-unfolding isAdvertised toColumn
+advertised-number : (k b n : ℕ) → isAdvertise (toColumn k b n) ≡ eqb k 1
+unfolding isAdvertise toColumn
 advertised-number zero b n = refl
 advertised-number (suc zero) b n = refl
 advertised-number (suc (suc k)) b n =
@@ -57,7 +56,7 @@ module _ (s : List ℕ) (l : LaidStream s) where
   rank-octet = rw (beAt-one s 20)
 
   module _ (p : ℕ) (h : p < 8) where
-    pub column-octet : isAdvertised (resultAt (toStream s) p .column) ≡ eqb (getD s (333 + 20 * p) 0) 1
+    pub column-octet : isAdvertise (resultAt (toStream s) p .column) ≡ eqb (getD s (333 + 20 * p) 0) 1
     unfolding toResult resultFrom fields resultWidths
     column-octet =
         rw (

@@ -2,14 +2,14 @@
 -- result of steps a to g, as if step h admitted it; (2) for each port and class, those that h does not admit become failed with
 -- code 1; (3) the Talker port declares the merged Listener. Each stage reads what the one before left in the table.
 use mathlib.Core.List.{List, [], _∷_, map}
-use mathlib.Core.Bool.{Bool, true, false, cond, not, _&&_}
+use mathlib.Core.Bool.{Bool, cond, not, _&&_}
 use Prim.Native.Nat.{ℕ, zero, suc}
 use lib.ListN.{getD, set}
 use Rattle.model.specs.Lists.{keep, tabulate}
-use Rattle.model.specs.State.{Settings, Column, none, advertise, failed, filters, Declared, nothing, Result, Stream, Totals, Bridge, noTotals, portAt, cellAt, resultAt, Class, noClass, classA, classB, classOf, sameClass, limit}
+use Rattle.model.specs.State.{Settings, Column, advertise, failed, filters, Declared, nothing, Result, Stream, Totals, Bridge, noTotals, portAt, cellAt, resultAt, Class, noClass, classA, classB, classOf, sameClass, limit}
 use Rattle.model.specs.Registrations.{holding}
 use Rattle.model.specs.Bandwidth.{Claim, demand, rateOf, admitted, total}
-use Rattle.model.specs.Settling.{sourceOf, fixedOf, isSource, registered, isReady, first, steps, ageOf, latencyOut, entryOf, ageKept, latencyKept, passed, mergeAll}
+use Rattle.model.specs.Settling.{sourceOf, fixedOf, isSource, registered, isReady, isAdvertise, first, steps, ageOf, latencyOut, entryOf, ageKept, latencyKept, passed, mergeAll}
 
 -- (1)
 
@@ -46,17 +46,12 @@ earlyAll now b = holding b (map (early (b .settings) now) (b .streams))
 
 -- (2), on the port at place p, in class c
 
-unfoldable pub isAdvertised : Column → Bool
-isAdvertised none = false
-isAdvertised advertise = true
-isAdvertised (failed b c) = false
-
 unfoldable pub settledClass : Settings → Stream → Class
 settledClass st x = classOf st (x .settled .priority)
 
 -- the stream stands at step h
 unfoldable pub waits : Settings → ℕ → Class → Stream → Bool
-waits st p c x = isAdvertised (resultAt x p .column) && sameClass (settledClass st x) c
+waits st p c x = isAdvertise (resultAt x p .column) && sameClass (settledClass st x) c
 
 unfoldable pub claimShown : Settings → ℕ → Stream → Claim
 claimShown st p x = record {

@@ -14,7 +14,7 @@ use Rattle.model.specs.Lists.{All, keep, tabulate}
 use Rattle.model.specs.State.{Settings, Health, sound, broken, Column, none, advertise, failed, Entry, noEntry, filters, forwards, Declared, nothing, Result, Stream, Bridge, Class, noClass, classA, classB, sameClass, limit, cellAt, resultAt, unsettled, Totals, noTotals}
 use Rattle.model.specs.Registrations.{ids}
 use Rattle.model.specs.Bandwidth.{Claim, key, above, sort, reserved, remains, admitted, total, taken}
-use Rattle.model.specs.Settling.{remain, Source, nowhere, from, sourceOf, isSource, fixedOf, streamClass, registered, isReady, first, clear, brokenColumn, stepsFrom, steps, ageOf, claim, claims, limitOn, leftFor, byBandwidth, columnOf, latencyOut, entryOf, ageKept, latencyKept, passed, mergeAll, merged, decideAt, decide, totalOn, totalsOn, settle}
+use Rattle.model.specs.Settling.{remain, Source, nowhere, from, sourceOf, isSource, fixedOf, streamClass, registered, isReady, isAdvertise, first, clear, brokenColumn, stepsFrom, steps, ageOf, claim, claims, limitOn, leftFor, byBandwidth, columnOf, latencyOut, entryOf, ageKept, latencyKept, passed, mergeAll, merged, decideAt, decide, totalOn, totalsOn, settle}
 use Rattle.model.proofs.Lists.{all-map, all-both, all-each, and-right, and-true, and-false}
 use Rattle.model.proofs.Valid.{Rising}
 use Rattle.model.proofs.Admission.{Distinct, key-id, within, subtracted, total-is-sum, idle-above, idle-total}
@@ -22,11 +22,6 @@ pub use Rattle.model.proofs.AdvanceKeepsForm.{remain-all, remain-rising
 use Rattle.model.proofs.AdvanceKeepsForm.{decided-ids}
 
 -- The rule: what the columns of a port are, in terms of themselves.
-
-unfoldable pub isAdvertise : Column → Bool
-isAdvertise none = false
-isAdvertise advertise = true
-isAdvertise (failed b c) = false
 
 -- whether a stream reserves on p in class c, where its column there is col: "Advertise streams of that class with Listener
 -- Ready or Ready Failed on p"; "Only those reserve"

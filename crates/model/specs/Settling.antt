@@ -82,6 +82,11 @@ isReady (tells askingFailed) = false
 isReady (tells ready) = true
 isReady (tells readyFailed) = true
 
+unfoldable pub isAdvertise : Column → Bool
+isAdvertise none = false
+isAdvertise advertise = true
+isAdvertise (failed b c) = false
+
 -- The column: "first that applies".
 
 unfoldable pub first : List (Bool × Column) → Column → Column
