@@ -1,7 +1,7 @@
 -- Start, and every call on a table that keeps the form rules, leaves a table that keeps them.
-use mathlib.Core.Path.{_≡_, refl, sym, _∙_, ap}
+use mathlib.Core.Path.{_≡_}
 use mathlib.Core.List.{List}
-use mathlib.Core.Bool.{Bool, true, false, cond, not}
+use mathlib.Core.Bool.{true}
 use Prim.Native.Nat.{ℕ, _^_, _<_}
 use lib.ListN.{length}
 use lib.Dec.{eqb}
@@ -10,7 +10,7 @@ use Rattle.model.specs.Lists.{Octets}
 use Rattle.model.specs.State.{Bridge, started}
 use Rattle.model.specs.Registrations.{Answer}
 use Rattle.model.specs.Settling.{advance}
-use Rattle.model.specs.Table.{encode, decode, formed, tableLength, settingsFormed, toSettings}
+use Rattle.model.specs.Table.{encode, decode, formed, tableLength, toSettings}
 use Rattle.model.specs.Calls.{Call, startOn, leaves, onTable, receive, receiveOn, advanceOn}
 use Rattle.model.proofs.Valid.{Valid}
 use Rattle.model.proofs.Refusals.{start-0, cond-either}

@@ -1,11 +1,11 @@
 -- The form rules as facts about a bridge, for proofs: what `formed` tests on octets.
 use mathlib.Core.Path.{_≡_}
 use mathlib.Core.List.{List, [], _∷_}
-use mathlib.Core.Bool.{Bool, true, false}
+use mathlib.Core.Bool.{true}
 use Prim.Native.Nat.{ℕ, _+_, _/_, _^_, _≤_, _<_}
 use lib.ListN.{length, drop}
 use Rattle.model.specs.Lists.{All}
-use Rattle.model.specs.State.{Port, Settings, Leaving, stays, since, Fixed, Health, sound, broken, Varying, Talker, noTalker, talker, Ready, Listener, noListener, listener, Cell, Column, none, advertise, failed, Entry, noEntry, filters, forwards, Declared, Result, Stream, Totals, Bridge, empty, unsettled}
+use Rattle.model.specs.State.{Port, Settings, Leaving, stays, since, Fixed, Health, sound, broken, Varying, Talker, noTalker, talker, Listener, noListener, listener, Cell, Column, none, advertise, failed, Entry, noEntry, filters, forwards, Result, Stream, Bridge, empty, unsettled}
 use Rattle.model.specs.Registrations.{ids}
 use Rattle.model.specs.Settling.{held}
 use Rattle.model.specs.Table.{totalsWithin}

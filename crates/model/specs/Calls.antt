@@ -2,7 +2,7 @@
 -- 01's order of numbers ("12 first (for start a wrong table length only, then 11); then 1; receive 2, then the walk from the
 -- front, then 8; write 10, then 13; report 13").
 use mathlib.Core.List.{List, [], _∷_, _++_}
-use mathlib.Core.Bool.{Bool, true, false, cond, not}
+use mathlib.Core.Bool.{cond, not}
 use Prim.Native.Nat.{ℕ}
 use lib.ListN.{length, drop}
 use lib.Dec.{ltb, eqb}
@@ -10,7 +10,7 @@ use Rattle.model.specs.State.{Bridge, Settings, started}
 use Rattle.model.specs.Registrations.{Answer, received, asks}
 use Rattle.model.specs.Frames.{reading, wrongPort}
 use Rattle.model.specs.Settling.{advance}
-use Rattle.model.specs.Declarations.{Declaration, Written, write, Report, refusedReport, report}
+use Rattle.model.specs.Declarations.{Written, write, Report, refusedReport, report}
 use Rattle.model.specs.WrittenFrames.{pduOctets}
 use Rattle.model.specs.Table.{encode, decode, formed, tableLength, settingsFormed, toSettings}
 

@@ -1,11 +1,10 @@
 -- Declarations: what a port writes, and what one PDU takes of it (01, "Writing"); the report (01, "What the bridge does").
-use mathlib.Core.List.{List, [], _∷_, _++_, map}
-use mathlib.Core.Bool.{Bool, true, false, cond, not, _&&_}
-use Prim.Native.Nat.{ℕ, zero, suc, _+_, _*_, _-_}
+use mathlib.Core.List.{List, [], _∷_, _++_}
+use mathlib.Core.Bool.{Bool, true, false, cond}
+use Prim.Native.Nat.{ℕ, suc, _+_, _-_}
 use lib.ListN.{length, getD, take, drop}
-use lib.Dec.{ltb, leb, eqb}
-use Rattle.model.specs.Lists.{keep}
-use Rattle.model.specs.State.{Port, Settings, Fixed, Health, sound, broken, Varying, Ready, Column, none, advertise, failed, Entry, noEntry, Declared, nothing, tells, Result, Stream, Totals, Bridge, portAt, resultAt, noTotals, unsettled, fresh}
+use lib.Dec.{ltb}
+use Rattle.model.specs.State.{Fixed, Health, sound, broken, Varying, Ready, Column, none, advertise, failed, Entry, noEntry, Declared, nothing, tells, Result, Stream, Bridge, portAt, resultAt, noTotals, fresh}
 use Rattle.model.specs.Registrations.{Kind, advertises, faileds, listeners, Act, talk, listen}
 
 -- a declaration is a join of the neighbour's table

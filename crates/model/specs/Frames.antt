@@ -1,13 +1,13 @@
 -- The MSRPDU: octets read as vectors or refused with a number, and what the vectors ask for (01, "The PDU"; 10.8, 35.2.2).
 use mathlib.Core.List.{List, [], _∷_, _++_}
 use mathlib.Core.Bool.{Bool, true, false, cond, not, _&&_, _||_}
-use Prim.Native.Nat.{ℕ, zero, suc, _+_, _*_, _-_, _/_, _%_, _^_}
+use Prim.Native.Nat.{ℕ, zero, suc, _+_, _-_, _/_, _%_}
 use lib.ListN.{length, getD}
 use lib.Dec.{ltb, leb, eqb}
 use Rattle.octets.specs.Be.{beAt}
-use Rattle.octets.specs.Fields.{fields, width}
+use Rattle.octets.specs.Fields.{fields}
 use Rattle.octets.specs.Parts.{part}
-use Rattle.model.specs.State.{Fixed, Health, sound, broken, Varying, Ready, askingFailed, ready, readyFailed, Settings}
+use Rattle.model.specs.State.{Fixed, Health, sound, broken, askingFailed, ready, readyFailed, Settings}
 use Rattle.model.specs.Registrations.{Kind, advertises, faileds, listeners, Act, leaveAll, leave, talk, listen, Reading, refused, acts}
 
 -- Attribute types (Tables 35-1, 35-2).

@@ -6,10 +6,10 @@ use Prim.Native.Nat.{ℕ, _≤_, _<_, _^_}
 use lib.ListN.{length}
 use Rattle.octets.specs.Fields.{Fit}
 use Rattle.model.specs.Lists.{All}
-use Rattle.model.specs.State.{Port, Settings, Fixed, Talker, noTalker, talker, Cell, Result, Stream, Totals, Bridge}
+use Rattle.model.specs.State.{Settings, Talker, noTalker, talker, Cell, Result, Stream, Totals, Bridge}
 use Rattle.model.specs.Registrations.{ids}
 use Rattle.model.specs.WrittenFrames.{fixedNumbers}
-use Rattle.model.specs.Table.{cellWidths, cellNumbers, cellOctets, resultWidths, resultNumbers, resultOctets, nameWidths, streamOctets, portWidths, portNumbers, totalsWidths, encode}
+use Rattle.model.specs.Table.{cellWidths, cellNumbers, cellOctets, resultWidths, resultNumbers, resultOctets, nameWidths, streamOctets, portWidths, portNumbers, encode}
 
 -- a rank is one bit: it shares its octet with the priority, so that the octet's width alone does not say it
 abbrev pub FitRank : Talker → Type 0

@@ -1,9 +1,9 @@
 -- Lists, as the definitions of the bridge use them.
-use mathlib.Core.List.{List, [], _∷_, _++_}
+use mathlib.Core.List.{List, [], _∷_}
 use mathlib.Core.Bool.{Bool, true, false, cond, _&&_}
 use Prim.Native.Nat.{ℕ, zero, suc, _<_}
 use lib.ListN.{take, drop}
-use lib.Dec.{eqb, ltb}
+use lib.Dec.{eqb}
 
 -- what holds of every element
 abbrev pub All : {A : Type 0} → (A → Type 0) → List A → Type 0

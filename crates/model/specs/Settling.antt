@@ -1,13 +1,12 @@
 -- Settling: what advance decides (01, "Settling"; 35.2.4).
-use mathlib.Core.List.{List, [], _∷_, _++_, map}
+use mathlib.Core.List.{List, [], _∷_, map}
 use mathlib.Core.Bool.{Bool, true, false, cond, not, _&&_, _||_}
-use Prim.Native.Nat.{ℕ, zero, suc, _+_, _*_, _-_, _/_}
-use lib.ListN.{getD, replicate, length}
+use Prim.Native.Nat.{ℕ, suc, _+_, _/_}
 use lib.Dec.{ltb, leb, eqb}
 use Rattle.model.specs.Lists.{keep, tabulate}
-use Rattle.model.specs.State.{Port, Settings, Leaving, stays, since, Fixed, Health, sound, broken, Varying, Talker, noTalker, talker, Ready, askingFailed, ready, readyFailed, Listener, noListener, listener, Cell, Column, none, advertise, failed, Entry, noEntry, filters, forwards, Declared, nothing, tells, Result, Stream, Totals, Bridge, noFixed, portAt, isPort, cellAt, resultAt, Class, noClass, classA, classB, classOf, isNoClass, sameClass, supports, limit, classLatency}
+use Rattle.model.specs.State.{Settings, Leaving, stays, since, Fixed, Health, sound, broken, Varying, Talker, noTalker, talker, Ready, askingFailed, ready, readyFailed, Listener, noListener, listener, Cell, Column, none, advertise, failed, Entry, noEntry, filters, forwards, Declared, nothing, tells, Result, Stream, Totals, Bridge, noFixed, portAt, isPort, cellAt, resultAt, Class, classA, classB, classOf, isNoClass, sameClass, supports, limit, classLatency}
 use Rattle.model.specs.Registrations.{Answer}
-use Rattle.model.specs.Bandwidth.{Claim, PerInterval, PerSecond, demand, rateOf, remains, total}
+use Rattle.model.specs.Bandwidth.{Claim, demand, rateOf, remains, total}
 
 -- Removal: "removes every registration leaving for at least the leave time, drops unheld streams".
 

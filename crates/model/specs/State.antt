@@ -1,5 +1,5 @@
 -- What a bridge holds: its settings, the registrations of each stream on each port, and what the last advance decided.
-use mathlib.Core.List.{List, [], _∷_}
+use mathlib.Core.List.{List, []}
 use mathlib.Core.Bool.{Bool, true, false, cond}
 use Prim.Native.Nat.{ℕ}
 use lib.ListN.{getD, replicate, length}

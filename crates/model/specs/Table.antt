@@ -1,7 +1,7 @@
 -- The lent table and the settings, as octets and back, and the rules of their form (docs/TABLE.md; 01, "Numbers given back":
 -- 11 and 12). A table is: settings, clock, streams held, totals of eight ports, 64 stream records. A stream record is: StreamID,
 -- settled values, eight cells, eight results. What is not used is zero.
-use mathlib.Core.List.{List, [], _∷_, _++_, map}
+use mathlib.Core.List.{List, [], _∷_, _++_}
 use mathlib.Core.Bool.{Bool, true, false, cond, not, _&&_, _||_}
 use Prim.Native.Nat.{ℕ, zero, suc, _+_, _*_, _-_, _/_, _%_}
 use lib.ListN.{length, getD, take, drop, replicate}
@@ -10,7 +10,7 @@ use Rattle.octets.specs.Be.{beAt}
 use Rattle.octets.specs.Parts.{part, zeros}
 use Rattle.octets.specs.Fields.{fields, packed, flat}
 use Rattle.model.specs.Lists.{allTrue, implies, parts, bit, isOne}
-use Rattle.model.specs.State.{Port, Settings, Leaving, stays, since, Fixed, Health, sound, broken, Varying, Talker, noTalker, talker, Ready, askingFailed, ready, readyFailed, Listener, noListener, listener, Cell, Column, none, advertise, failed, Entry, noEntry, filters, forwards, Declared, nothing, tells, Result, Stream, Totals, Bridge, portAt}
+use Rattle.model.specs.State.{Port, Settings, Leaving, stays, since, Fixed, Health, sound, broken, Talker, noTalker, talker, Ready, askingFailed, ready, readyFailed, Listener, noListener, listener, Cell, Column, none, advertise, failed, Entry, noEntry, filters, forwards, Declared, nothing, tells, Result, Stream, Totals, Bridge}
 use Rattle.model.specs.Frames.{priorityOf, rankOf}
 use Rattle.model.specs.WrittenFrames.{fixedNumbers, readyNumber}
 

@@ -1,14 +1,14 @@
 -- The octets of a written PDU (01, "Writing" and "The PDU").
-use mathlib.Core.List.{List, [], _∷_, _++_, map}
-use mathlib.Core.Bool.{Bool, true, false, cond}
+use mathlib.Core.List.{List, [], _∷_, _++_}
+use mathlib.Core.Bool.{false}
 use Prim.Native.Nat.{ℕ, _+_, _*_}
 use lib.ListN.{length}
 use Rattle.octets.specs.Be.{be}
 use Rattle.octets.specs.Fields.{packed, flat}
 use Rattle.model.specs.Lists.{keep, bit}
-use Rattle.model.specs.State.{Fixed, Health, sound, broken, Varying, Ready, askingFailed, ready, readyFailed}
+use Rattle.model.specs.State.{Fixed, Health, sound, broken, Ready, askingFailed, ready, readyFailed}
 use Rattle.model.specs.Registrations.{Kind, advertises, faileds, listeners}
-use Rattle.model.specs.Frames.{Attribute, registers, Vector, firstWidths, firstLength}
+use Rattle.model.specs.Frames.{registers, Vector, firstWidths, firstLength}
 use Rattle.model.specs.Declarations.{Declaration, talkerDeclaration, listenerDeclaration, kindOf, sameKind}
 
 -- the octet of priority (3 bits), rank (1 bit) and four reserved bits, written 0

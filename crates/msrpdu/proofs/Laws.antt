@@ -1,7 +1,7 @@
 -- Laws of the reader's definitions, one for each arm. Assumes nothing.
 use mathlib.Core.Path.{_≡_, refl, sym, ap, _∙_}
 use mathlib.Core.List.{List}
-use mathlib.Core.Bool.{Bool, true, false, not, _||_}
+use mathlib.Core.Bool.{Bool, true, false, _||_}
 use Prim.Native.Nat.{ℕ, zero, suc, _+_, _*_, _-_, _/_, _%_, _≤_, _<_, _^_}
 use native.Mathlib.Omega.{arith}
 use lib.ListN.{length, getD, take, drop, drop-of-length-le, List·getD-eq-default}
@@ -10,7 +10,6 @@ use native.Mathlib.Numerals.{add-one}
 use lib.Dec.{ltb, leb, eqb}
 use borrow.Author.Tests.{lt-ltb, le-ltb, le-leb, lt-leb, eq-eqb, ne-eqb}
 use Rattle.octets.specs.Be.{beAt}
-use Rattle.octets.specs.Parts.{part}
 use Rattle.octets.proofs.Parts.{lent-part, length-part}
 use Rattle.model.proofs.Lists.{and-false}
 use Rattle.model.specs.Registrations.{advertises, faileds, listeners}
@@ -23,7 +22,6 @@ use Rattle.msrpdu.specs.declared.VectorHead.{VectorHead}
 use Rattle.msrpdu.specs.declared.VectorRead.the-variants as vector
 use Rattle.msrpdu.specs.declared.MessageRead.the-variants as message
 use Rattle.msrpdu.specs.declared.ValueRead.the-variants.{Value, Past}
-use Rattle.msrpdu.specs.declared.Event.{Event}
 use Rattle.msrpdu.specs.declared.Event.the-variants.{Lv, Missing}
 
 -- The type octet.

@@ -1,5 +1,5 @@
 -- Numbers in fields of given widths, one after another.
-use Prim.Native.Nat.{ℕ, zero, suc, _+_, _^_, _<_}
+use Prim.Native.Nat.{ℕ, _+_, _^_, _<_}
 use mathlib.Core.List.{List, [], _∷_, _++_}
 use Rattle.octets.specs.Be.{beAt, be}
 

@@ -3,7 +3,7 @@ use Prim.Native.Nat.{ℕ, suc, _+_, _-_, _*_, _≤_, _<_}
 use native.Mathlib.Omega.{arith}
 use native.Mathlib.Numerals.{add-one}
 use mathlib.Core.Path.{_≡_, refl, sym, ap, _∙_, subst}
-use mathlib.Core.Bool.{Bool, true, false, not}
+use mathlib.Core.Bool.{Bool, true, false}
 use mathlib.Core.List.{List, [], _∷_, _++_, append-assoc, append-nil}
 use lib.ListN.{length, getD, take, drop, length-append, length-drop, take-append-drop}
 use lib.Seq.{take-suc, drop-cons, take-length, drop-length, length-take-le}
@@ -16,7 +16,7 @@ use Rattle.model.specs.Lists.{keep}
 use Rattle.model.specs.State.{Stream, Bridge, fresh}
 use Rattle.model.specs.Registrations.{holding}
 use Rattle.model.specs.Settling.{held}
-use Rattle.model.specs.Table.{streamOctets, toStream, holds, encode, decode}
+use Rattle.model.specs.Table.{streamOctets, toStream, encode, decode}
 use Rattle.model.specs.Laid.{FitStream, FitBridge, Laid}
 use Rattle.model.proofs.Lists.{all-take}
 use Rattle.model.proofs.Parts.{Sized, zeros-add, length-flat-sized, part-between}

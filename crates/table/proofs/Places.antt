@@ -9,7 +9,6 @@ use lib.Seq.{length-take-le, getD-at, set-at, set-getD}
 use Rattle.model.specs.State.{Stream, fresh}
 use Rattle.model.specs.Registrations.{change, begun, touch, ids}
 use Rattle.model.proofs.Commute.{Change, Tri, less, same, more, tri, touch-nil, touch-before, touch-here, touch-past}
-use Rattle.table.specs.declared.Found.{Found}
 use Rattle.table.specs.declared.Found.the-variants.{At, Gap}
 use Rattle.table.specs.Find.{foundAt}
 use Rattle.table.proofs.Finding.{found-before, found-here, found-past}
