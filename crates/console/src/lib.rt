@@ -3,6 +3,7 @@
 use declarations::ColumnShown;
 use declarations::EntryShown;
 use declarations::ListenerShown;
+use declarations::Reported;
 use libc::STDOUT_FILENO;
 ghost use mathlib.Core.Path.{_≡_};
 ghost use Prim.Native.Nat.{_≤_, min};
@@ -35,6 +36,12 @@ pub fn put_decimal(line: &mut [u8], at: usize, n: u64) -> usize
     let mut text = [0u8; 20];
     let k = io::decimal(n, &mut text);
     put(line, at, &text[..k])
+}
+
+// A space, and a number in decimal behind it.
+pub fn put_number(line: &mut [u8], at: usize, n: u64) -> usize {
+    let a = put(line, at, b" ");
+    put_decimal(line, a, n)
 }
 
 // A StreamID: 16 hexadecimal digits.
@@ -100,6 +107,25 @@ pub fn put_entry(line: &mut [u8], at: usize, entry: EntryShown) -> usize
         EntryShown::Filter => put(line, at, b"filter"),
         EntryShown::Forward => put(line, at, b"forward"),
     }
+}
+
+// Column and code of a report, a space before each.
+fn put_talker(line: &mut [u8], at: usize, answer: Reported) -> usize {
+    let column = answer.column;
+    let a = put(line, at, b" ");
+    let b = put_column(line, a, column);
+    put_number(line, b, answer.code as u64)
+}
+
+// What a report shows of a stream on a port: column, code, Listener and entry, a space before each.
+pub fn put_shown(line: &mut [u8], at: usize, answer: Reported) -> usize {
+    let listener = answer.listener;
+    let entry = answer.entry;
+    let a = put_talker(line, at, answer);
+    let b = put(line, a, b" ");
+    let c = put_listener(line, b, listener);
+    let d = put(line, c, b" ");
+    put_entry(line, d, entry)
 }
 
 // Ends a line and writes it to standard output: false where it has no room for its end, or could not be written.

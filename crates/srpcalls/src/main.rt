@@ -67,16 +67,10 @@ fn print(line: &mut [u8], at: usize) -> Step {
     Step::End
 }
 
-// A space and a number.
-fn put_number(line: &mut [u8], at: usize, n: u64) -> usize {
-    let a = console::put(line, at, b" ");
-    console::put_decimal(line, a, n)
-}
-
 // The line of a call that answers with a number alone.
 fn print_number(line: &mut [u8], call: &[u8], number: u8) -> Step {
     let a = console::put(line, 0, call);
-    let b = put_number(line, a, number as u64);
+    let b = console::put_number(line, a, number as u64);
     print(line, b)
 }
 
@@ -144,9 +138,9 @@ fn put_some(line: &mut [u8], at: usize, octets: &[u8]) -> usize {
 fn print_written(line: &mut [u8], wrote: bridge::Wrote, buffer: &[u8]) -> Step {
     let long = least(wrote.length, buffer.len());
     let a = console::put(line, 0, b"write");
-    let b = put_number(line, a, wrote.number as u64);
-    let c = put_number(line, b, wrote.length as u64);
-    let d = put_number(line, c, wrote.next as u64);
+    let b = console::put_number(line, a, wrote.number as u64);
+    let c = console::put_number(line, b, wrote.length as u64);
+    let d = console::put_number(line, c, wrote.next as u64);
     let e = put_kept(line, d, is_kept(buffer, long));
     let f = put_some(line, e, &buffer[0..long]);
     print(line, f)
@@ -168,40 +162,21 @@ fn write(table: &[u8], port: u32, line: &mut [u8]) -> Step {
 
 // The streams held, and the port's class totals and limits.
 fn put_totals(line: &mut [u8], at: usize, answer: declarations::Reported) -> usize {
-    let a = put_number(line, at, answer.count as u64);
-    let b = put_number(line, a, answer.total_a);
-    let c = put_number(line, b, answer.limit_a);
-    let d = put_number(line, c, answer.total_b);
-    put_number(line, d, answer.limit_b)
-}
-
-// The stream's ID, column and code.
-fn put_talker(line: &mut [u8], at: usize, answer: declarations::Reported) -> usize {
-    let column = answer.column;
-    let a = console::put(line, at, b" ");
-    let b = console::put_id(line, a, answer.id);
-    let c = console::put(line, b, b" ");
-    let d = console::put_column(line, c, column);
-    put_number(line, d, answer.code as u64)
-}
-
-// The Listener declared on the port, and the entry.
-fn put_listener(line: &mut [u8], at: usize, answer: declarations::Reported) -> usize {
-    let listener = answer.listener;
-    let entry = answer.entry;
-    let a = console::put(line, at, b" ");
-    let b = console::put_listener(line, a, listener);
-    let c = console::put(line, b, b" ");
-    console::put_entry(line, c, entry)
+    let a = console::put_number(line, at, answer.count as u64);
+    let b = console::put_number(line, a, answer.total_a);
+    let c = console::put_number(line, b, answer.limit_a);
+    let d = console::put_number(line, c, answer.total_b);
+    console::put_number(line, d, answer.limit_b)
 }
 
 fn print_reported(line: &mut [u8], answer: declarations::Reported) -> Step {
     let a = console::put(line, 0, b"report");
-    let b = put_number(line, a, answer.number as u64);
+    let b = console::put_number(line, a, answer.number as u64);
     let c = put_totals(line, b, answer);
-    let d = put_talker(line, c, answer);
-    let e = put_listener(line, d, answer);
-    print(line, e)
+    let d = console::put(line, c, b" ");
+    let e = console::put_id(line, d, answer.id);
+    let f = console::put_shown(line, e, answer);
+    print(line, f)
 }
 
 fn report(table: &[u8], port: u32, line: &mut [u8]) -> Step {

@@ -83,8 +83,8 @@ fn print_refused(line: &mut [u8], number: u8) -> bool {
     if number == 0 {
         return true;
     }
-    let at = console::put(line, 0, b"refused ");
-    let end = console::put_decimal(line, at, number as u64);
+    let at = console::put(line, 0, b"refused");
+    let end = console::put_number(line, at, number as u64);
     console::write_line(line, end)
 }
 
@@ -121,8 +121,8 @@ fn put_class(line: &mut [u8], at: usize, name: &[u8], total: u64, limit: u64) ->
 
 fn print_port(table: &[u8], port: u32, line: &mut [u8]) -> bool {
     let r = bridge::report(table, port, 0);
-    let a = console::put(line, 0, b"port ");
-    let b = console::put_decimal(line, a, port as u64);
+    let a = console::put(line, 0, b"port");
+    let b = console::put_number(line, a, port as u64);
     let c = put_class(line, b, b" A ", r.total_a, r.limit_a);
     let d = put_class(line, c, b" B ", r.total_b, r.limit_b);
     console::write_line(line, d)
@@ -141,38 +141,12 @@ fn print_ports(table: &[u8], ports: u32, line: &mut [u8]) -> bool {
     true
 }
 
-// Column and code on a port.
-fn put_talker(line: &mut [u8], at: usize, column: declarations::ColumnShown, code: u8) -> usize {
-    let a = console::put(line, at, b" ");
-    let b = console::put_column(line, a, column);
-    let c = console::put(line, b, b" ");
-    console::put_decimal(line, c, code as u64)
-}
-
-// Listener and entry on a port.
-fn put_listener(
-    line: &mut [u8],
-    at: usize,
-    listener: declarations::ListenerShown,
-    entry: declarations::EntryShown,
-) -> usize {
-    let a = console::put(line, at, b" ");
-    let b = console::put_listener(line, a, listener);
-    let c = console::put(line, b, b" ");
-    console::put_entry(line, c, entry)
-}
-
 fn print_stream(table: &[u8], port: u32, place: u32, line: &mut [u8]) -> bool {
     let r = bridge::report(table, port, place);
     let a = console::put_id(line, 0, r.id);
-    let b = console::put(line, a, b" ");
-    let c = console::put_decimal(line, b, port as u64);
-    let column = r.column;
-    let d = put_talker(line, c, column, r.code);
-    let listener = r.listener;
-    let entry = r.entry;
-    let e = put_listener(line, d, listener, entry);
-    console::write_line(line, e)
+    let b = console::put_number(line, a, port as u64);
+    let c = console::put_shown(line, b, r);
+    console::write_line(line, c)
 }
 
 // The lines of the stream at a place, one for each port.
