@@ -2,15 +2,15 @@
 use mathlib.Core.Path.{_≡_, refl, sym, _∙_, ap, ap₂}
 use mathlib.Core.List.{List, [], _∷_, _++_}
 use mathlib.Core.Bool.{true}
-use Prim.Native.Nat.{ℕ, _+_, _*_, _-_, _≤_}
+use Prim.Native.Nat.{ℕ, _+_, _*_, _-_}
 use native.Mathlib.Omega.{arith}
 use lib.ListN.{length, replicate}
 use Rattle.octets.specs.Parts.{zeros}
 use Rattle.octets.specs.Fields.{flat, packed, width}
 use Rattle.octets.proofs.Fields.{packed-zeros}
 use Rattle.model.specs.Lists.{All, Octets}
-use Rattle.model.specs.State.{Settings, Totals, noTotals, started}
-use Rattle.model.specs.Table.{encode, settingsOctets, toSettings, settingsFormed, portsField, totalsOctets, totalsWidths, streamOctets}
+use Rattle.model.specs.State.{Totals, noTotals, started}
+use Rattle.model.specs.Table.{encode, toSettings, settingsFormed, totalsOctets, totalsWidths}
 use Rattle.model.proofs.Lists.{all-replicate}
 use Rattle.model.proofs.Parts.{zeros-add, flat-zeros}
 use Rattle.model.proofs.SettingsOctets.{settings-forth, settings-ports, formed-length, formed-rules, eight-ports}

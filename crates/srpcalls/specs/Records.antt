@@ -1,5 +1,5 @@
 -- What the reading of records gives.
-use Prim.Native.Nat.{ℕ, _≤_}
+use Prim.Native.Nat.{_≤_}
 use Rattle.srpcalls.specs.declared.Counted.{Counted}
 use Rattle.srpcalls.specs.declared.Counted.the-variants.{Cut, Octets}
 

@@ -1,12 +1,8 @@
 -- `bridge::receive` meets its contract. Assumes nothing.
-use Prim.Native.Nat.{ℕ, _-_, _≤_, _<_}
-use mathlib.Core.Path.{_≡_, refl, sym, ap, _∙_, subst}
-use mathlib.Core.Bool.{true, false, cond}
-use mathlib.Core.List.{List}
+use Prim.Native.Nat.{_-_}
+use mathlib.Core.Path.{sym, _∙_}
 use native.Mathlib.Omega.{arith}
-use lib.ListN.{length}
 use borrow.Author.Needs.{needs}
-use borrow.Author.Tests.{leb-true, leb-false}
 use Rattle.model.proofs.Parts.{octets-of}
 use Rattle.model.proofs.Fits.{formed-laid}
 use Rattle.bridge.proofs.OnTables.{answers, receive-unformed, receive-wrong-port, receive-faulty, port-zero, port-above, port-right}

@@ -1,14 +1,13 @@
 -- `bridge::start` meets its contract. Assumes nothing.
 use Prim.Native.Nat.{ℕ, _-_, _≤_}
-use mathlib.Core.Path.{_≡_, refl, sym, ap, _∙_}
-use mathlib.Core.Bool.{true, false}
+use mathlib.Core.Path.{_≡_, sym, ap, _∙_}
+use mathlib.Core.Bool.{true}
 use mathlib.Core.List.{List, _++_}
 use native.Mathlib.Omega.{arith}
 use lib.ListN.{length, drop}
 use borrow.Author.Needs.{needs}
-use Rattle.model.specs.Lists.{Octets}
 use Rattle.model.specs.Table.{settingsFormed}
-use Rattle.model.specs.Calls.{Call, startOn}
+use Rattle.model.specs.Calls.{Call}
 use Rattle.model.proofs.Parts.{octets-of}
 use Rattle.bridge.proofs.Starting.{start-wrong-table, start-wrong-settings, start-accepted, settings-short, settings-put}
 use Rattle.bridge.proofs.start.Statement.{statement}
