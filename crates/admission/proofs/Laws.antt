@@ -23,7 +23,7 @@ use Rattle.model.specs.Laid.{FitBridge, LaidResult, LaidStream, Laid}
 use Rattle.model.proofs.Fits.{bridge-read, laid-is, laid-fits, laid-result-is}
 use Rattle.table.specs.Updates.{totalled}
 use Rattle.table.proofs.Lens.{lent-patch, all-at}
-use Rattle.table.proofs.Header.{priority-a-at, priority-b-at, port-number, port-at, totals-part, totals-patch, bridge-id-at}
+use Rattle.table.proofs.Header.{priority-a-at, priority-b-at, limit-at, port-at, totals-part, totals-patch, bridge-id-at}
 use Rattle.table.proofs.Records.{lent-record-read, lent-record-left}
 use Rattle.columns.specs.declared.ClassRead.the-variants.{NoClass, A, B}
 use Rattle.columns.specs.Answers.{toFixed, classShown}
@@ -111,19 +111,13 @@ module _ (st : Settings) (p : ℕ) (c : Class) (k : ℕ) (s : List Stream) where
 -- The limit.
 
 module _ (t : List ℕ) (l : Laid t) (p : ℕ) (h : p < 8) where
-  limit-at : (i at : ℕ) → 11 + 22 * p + width (take i portWidths) ≡ at → getD portWidths i 0 ≡ 5
-      → beAt 5 t at ≡ getD (portNumbers (portAt (decode t .settings) p)) i 0
-  limit-at i at e f =
-      ap (λ (s : List ℕ). beAt 5 s at) (laid-is t l)
-      ∙ (rw (e, f) at (port-number (decode t) (laid-fits t l) p (11 + 22 * p) h refl i))
-
   pub limit-of-a : beAt 5 t (15 + 22 * p) ≡ limitShown (decode t .settings) (decode t) p (classFor false)
   unfolding limitShown limit classFor portNumbers portWidths width
-  limit-of-a = limit-at 3 (15 + 22 * p) (omega arith) refl
+  limit-of-a = limit-at t l p h 3 (15 + 22 * p) (omega arith) refl
 
   pub limit-of-b : beAt 5 t (20 + 22 * p) ≡ limitShown (decode t .settings) (decode t) p (classFor true)
   unfolding limitShown limit classFor portNumbers portWidths width
-  limit-of-b = limit-at 4 (20 + 22 * p) (omega arith) refl
+  limit-of-b = limit-at t l p h 4 (20 + 22 * p) (omega arith) refl
 
 -- A stream's demand.
 

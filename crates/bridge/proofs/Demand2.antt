@@ -5,7 +5,7 @@
 -- not meet `advance-decides`, `write-tells` and `report-shows`. (That table, settings and PDU are octets, and a time is of 32
 -- bits, is what the calls' types say.)
 use mathlib.Core.Path.{_≡_, refl, sym, _∙_, ap}
-use mathlib.Core.List.{List, [], _∷_, _++_, map}
+use mathlib.Core.List.{List, _++_, map}
 use mathlib.Core.Bool.{false}
 use Prim.Native.Nat.{ℕ, suc, _+_, _-_, _^_, _≤_, _<_}
 use native.Mathlib.Omega.{arith}
@@ -13,8 +13,8 @@ use lib.ListN.{length, getD, take, drop, take-append-drop}
 use lib.Seq.{length-take-le, length-front, take-append-seam, drop-append-seam, drop-drop}
 use borrow.Author.Tests.{le-leb, le-ltb}
 use Rattle.octets.specs.Parts.{zeros}
-use Rattle.model.specs.Lists.{All, Octets}
-use Rattle.model.specs.State.{Settings, Stream, Bridge, started, portAt, resultAt, noTotals}
+use Rattle.model.specs.Lists.{Octets}
+use Rattle.model.specs.State.{Settings, Bridge, started, portAt, resultAt, noTotals}
 use Rattle.model.specs.Registrations.{Answer, acts, applyAll, holding, together, ids, joins, received}
 use Rattle.model.specs.Frames.{Vector, found, walk, walked, frameActs, reading, wrongPort}
 use Rattle.model.specs.Settling.{settle}
@@ -22,13 +22,14 @@ use Rattle.model.specs.Declarations.{Declaration, joinOf, takes, write, Report,
 use Rattle.model.specs.WrittenFrames.{declarationVector, pduOctets}
 use Rattle.model.specs.Table.{encode, decode, tableLength, toSettings}
 use Rattle.model.specs.Calls.{Call, WriteCall, receive, writtenTo, writeOn, reportOn}
-use Rattle.model.proofs.Valid.{Valid, ValidStream}
+use Rattle.model.proofs.Valid.{Valid}
 use Rattle.model.proofs.Tables.{decode-encode, valid-decode, valid-started}
 use Rattle.model.proofs.FrameOrder.{acts-ids, held-ids}
 use Rattle.model.proofs.ReceiveKeepsForm.{receive-keeps}
 use Rattle.model.proofs.AdvanceKeepsForm.{settle-keeps}
-use Rattle.model.proofs.ColumnRule.{Small, Advanced}
+use Rattle.model.proofs.ColumnRule.{Advanced}
 use Rattle.model.proofs.OneSolution.{exactly-one}
+use Rattle.model.proofs.Demand3.{ids-small}
 use Rattle.model.proofs.WritingPasses.{declared, write-from, next-place, next-further, run-fits, run-full}
 use Rattle.model.proofs.ReadBack.{read-back, neighbour-reads}
 use Rattle.model.proofs.Refusals.{OnPort, start-0, receive-0, advance-0, write-0, report-0}
@@ -91,11 +92,6 @@ pub record Decides (t : List ℕ) (time : ℕ) (u : List ℕ) : Type 0 where
   -- what is reserved, and at most its limit
   pub rules : Advanced time (decode t) (decode u)
   pub no-other : (c : Bridge) → Advanced time (decode t) c → c ≡ decode u
-
-ids-small : (ports clock leave : ℕ) (s : List Stream) → All (ValidStream ports clock leave) s → All Small (ids s)
-unfolding ids
-ids-small ports clock leave [] a = tt
-ids-small ports clock leave (x ∷ s) a = (a .0 .id, ids-small ports clock leave s (a .1))
 
 pub advance-decides : (t : List ℕ) (time n : ℕ) (u : List ℕ) → Octets t → time < 2 ^ 32 → Advances t time n u → n ≡ 0 → Decides t time u
 unfolding decode

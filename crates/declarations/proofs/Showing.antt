@@ -3,7 +3,7 @@ use Prim.Native.Nat.{ℕ, _+_, _-_, _*_, _≤_, _<_}
 use native.Mathlib.Omega.{arith}
 use mathlib.Core.Path.{_≡_, refl, sym, ap, _∙_}
 use mathlib.Core.List.{List}
-use lib.ListN.{length, getD, take, getD-replicate, List·getD-eq-default}
+use lib.ListN.{length, getD, getD-replicate, List·getD-eq-default}
 use borrow.Author.Tests.{le-ltb}
 use Rattle.octets.specs.Be.{beAt}
 use Rattle.octets.specs.Parts.{part}
@@ -15,8 +15,8 @@ use Rattle.model.specs.Table.{portWidths, portNumbers, columnNumber, columnCode
 use Rattle.model.specs.Laid.{LaidStream, Laid}
 use Rattle.model.proofs.Parts.{parts-at}
 use Rattle.model.proofs.Results.{numbers-back}
-use Rattle.model.proofs.Fits.{laid-stream-is, laid-stream-fits, laid-is, laid-fits}
-use Rattle.table.proofs.Header.{port-number, laid-length}
+use Rattle.model.proofs.Fits.{laid-stream-is, laid-stream-fits}
+use Rattle.table.proofs.Header.{limit-at, laid-length}
 use Rattle.table.proofs.StreamParts.{id-at}
 use Rattle.declarations.specs.declared.ColumnShown.the-variants as column
 use Rattle.declarations.specs.declared.ListenerShown.the-variants as listener
@@ -86,18 +86,13 @@ module _ (t : List ℕ) (l : Laid t) (p : ℕ) (h : p < 8) where
       let e : 197 + 10 * p ≡ 192 + p * 10 + 5 = omega arith in
       ap (beAt 5 t) e ∙ sym (beAt-part 5 (192 + p * 10) 10 5 t (omega arith)) ∙ ap (λ (s : Totals). s .totalB) totals-shown
 
-  limit-shown : (i at : ℕ) → 11 + 22 * p + width (take i portWidths) ≡ at → getD portWidths i 0 ≡ 5
-      → beAt 5 t at ≡ getD (portNumbers (portAt (decode t .settings) p)) i 0
-  limit-shown i at e f =
-      ap (λ (s : List ℕ). beAt 5 s at) (laid-is t l) ∙ (rw (e, f) at (port-number (decode t) (laid-fits t l) p (11 + 22 * p) h refl i))
-
   pub limit-a-shown : beAt 5 t (15 + 22 * p) ≡ portAt (decode t .settings) p .limitA
   unfolding portNumbers portWidths width
-  limit-a-shown = limit-shown 3 (15 + 22 * p) (omega arith) refl
+  limit-a-shown = limit-at t l p h 3 (15 + 22 * p) (omega arith) refl
 
   pub limit-b-shown : beAt 5 t (20 + 22 * p) ≡ portAt (decode t .settings) p .limitB
   unfolding portNumbers portWidths width
-  limit-b-shown = limit-shown 4 (20 + 22 * p) (omega arith) refl
+  limit-b-shown = limit-at t l p h 4 (20 + 22 * p) (omega arith) refl
 
 -- Past the last stream nothing is shown.
 

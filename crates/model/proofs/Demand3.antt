@@ -42,7 +42,7 @@ advance-accepts : (b : Bridge) (now : ℕ) → b .clock ≤ now → advance b no
 unfolding advance
 advance-accepts b now h = rw (le-ltb now (b .clock) h)
 
-ids-small : (ports clock leave : ℕ) (s : List Stream) → All (ValidStream ports clock leave) s → All Small (ids s)
+pub ids-small : (ports clock leave : ℕ) (s : List Stream) → All (ValidStream ports clock leave) s → All Small (ids s)
 unfolding ids
 ids-small ports clock leave [] a = tt
 ids-small ports clock leave (x ∷ s) a = (a .0 .id, ids-small ports clock leave s (a .1))

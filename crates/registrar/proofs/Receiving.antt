@@ -2,19 +2,18 @@
 use Prim.Native.Nat.{ℕ, _-_, _≤_}
 use mathlib.Core.Path.{_≡_, refl, sym, _∙_, ap}
 use mathlib.Core.List.{List, [], _∷_}
-use mathlib.Core.Bool.{Bool, true, false, cond, true≢false}
+use mathlib.Core.Bool.{Bool, true, false, true≢false}
 use lib.ListN.{length}
 use lib.Dec.{leb}
 use borrow.Author.Tests.{leb-true, leb-false}
 use Rattle.model.specs.Lists.{All, Octets}
 use Rattle.model.specs.State.{Stream, Bridge}
 use Rattle.model.specs.Settling.{held}
-use Rattle.model.specs.Registrations.{Act, applyAll, holding, received, acts, Answer}
-use Rattle.model.specs.Frames.{walk, Walk, walked, frameActs}
+use Rattle.model.specs.Registrations.{Act, applyAll, holding}
+use Rattle.model.specs.Frames.{walk}
 use Rattle.model.specs.Table.{encode, decode, formed}
 use Rattle.model.specs.Laid.{Laid}
 use Rattle.model.proofs.Fits.{laid-is, laid-fits}
-use Rattle.model.specs.Calls.{leaves}
 use Rattle.model.proofs.Lists.{all-map}
 use Rattle.model.proofs.Valid.{ValidStream}
 use Rattle.model.proofs.Tables.{valid-decode}
@@ -24,7 +23,7 @@ use Rattle.table.specs.Held.{heldOnly}
 use Rattle.registrar.specs.Acts.{isFound, actsOf}
 use Rattle.registrar.specs.Run.{Ran, ran, effects, run, streamsOf, went}
 use Rattle.registrar.specs.Walked.{runOn, Walked, taken, Receives}
-use Rattle.registrar.proofs.FrameWalk.{Finds, finds, is-found}
+use Rattle.registrar.proofs.FrameWalk.{is-found}
 use Rattle.registrar.proofs.Room.{room-made, applied, room-lacking}
 use Rattle.registrar.proofs.Walks.{walked-read}
 
@@ -98,8 +97,7 @@ module _ (p : ℕ) (pdu t : List ℕ) (l : Laid t) where
           unfold streamsOf in
           (ap (λ (q : Ran). holding (decode u) (streamsOf q)) second ∙ ap (λ (b : Bridge). holding b (applyAll now p es s)) made)
 
--- For callers: a frame of number 0 is well-formed, a table that keeps the form rules holds no stream without a registration, and
--- what is answered and left is what the definitions say.
+-- For callers: a frame of number 0 is well-formed, and a table that keeps the form rules holds no stream without a registration.
 
 pub accepted-found : (pdu : List ℕ) → numberOf (walk pdu) ≡ 0 → isFound (walk pdu) ≡ true
 accepted-found pdu e = let a = accepted pdu e in is-found (walk pdu) (a .0) (a .1)
@@ -108,29 +106,3 @@ pub formed-held : (t : List ℕ) → Octets t → formed t ≡ true → All (λ 
 formed-held t o f =
     all-map (ValidStream (length (decode t .settings .ports)) (decode t .clock) (decode t .settings .leaveTime)) (λ x. held (x .cells) ≡ true)
     (λ x v. v .is-held) (decode t .streams) (valid-decode t o f .streams)
-
--- on a port, numbered from 1: 0 or 8, and the table
-pub receives-answer : (p : ℕ) (pdu t : List ℕ) (r : Bool) (u : List ℕ) → isFound (walk pdu) ≡ true → Receives (p - 1) pdu t r u →
-    leaves t (received (decode t) p (walked (walk pdu))) ≡ record { number = cond r 0 8; table = u }
-unfolding walked received leaves
-receives-answer p pdu t r u e w = ap (leaves t) (ap (λ (v : Walk). received (decode t) p (walked v)) (n .is)) ∙ answers
-  where
-    n : Finds (walk pdu)
-    n = finds (walk pdu) e
-
-    s : List Stream
-    s = applyAll (decode t .clock) (p - 1) (frameActs (n .all)) (decode t .streams)
-
-    same : taken (p - 1) pdu t ≡ s
-    same = unfold taken in (ap (λ (es : List Act). applyAll (decode t .clock) (p - 1) es (decode t .streams)) (n .acts))
-
-    left : (b : Bool) → u ≡ cond b (encode (holding (decode t) s)) t →
-        leaves t (cond {A = Answer} b record { number = 0; bridge = holding (decode t) s } record { number = 8; bridge = decode t })
-        ≡ record { number = cond b 0 8; table = u }
-    left true q = rw q
-    left false q = rw q
-
-    answers : leaves t (received (decode t) p (acts (frameActs (n .all)))) ≡ record { number = cond r 0 8; table = u }
-    answers =
-        let full : r ≡ leb (length s) 64 = w .answer ∙ ap (λ (x : List Stream). leb (length x) 64) same in
-        rw (← full) (left r (w .table ∙ ap (λ (x : List Stream). cond r (encode (holding (decode t) x)) t) same))

@@ -234,3 +234,9 @@ module _ (t : List ℕ) (l : Laid t) where
 
   pub laid-leave-time : beAt 3 t 8 % 16384 ≡ decode t .settings .leaveTime
   laid-leave-time = ap (λ (s : List ℕ). beAt 3 s 8 % 16384) (laid-is t l) ∙ leave-time-at (decode t) (laid-fits t l)
+
+-- A limit in the settings of a port, five octets as number i of them.
+pub limit-at : (t : List ℕ) (l : Laid t) (p : ℕ) (h : p < 8) (i at : ℕ) → 11 + 22 * p + width (take i portWidths) ≡ at → getD portWidths i 0 ≡ 5
+    → beAt 5 t at ≡ getD (portNumbers (portAt (decode t .settings) p)) i 0
+limit-at t l p h i at e f =
+    ap (λ (s : List ℕ). beAt 5 s at) (laid-is t l) ∙ (rw (e, f) at (port-number (decode t) (laid-fits t l) p (11 + 22 * p) h refl i))
