@@ -13,12 +13,13 @@ use Rattle.octets.specs.Be.{beAt}
 use Rattle.octets.specs.Parts.{zeros}
 use Rattle.octets.specs.Fields.{fields, Fit, width, flat}
 use Rattle.octets.proofs.Fields.{length-packed-any, fields-of-packed, fields-fit, fit-at, fit-append, fit-zeros, packed-zeros}
+use Rattle.model.specs.Layout.{cellSize, cellWidths, fixedWidths, listenerPlace}
 use Rattle.model.specs.Lists.{All, allTrue, implies, tabulate, parts, Octets, bit, isOne}
 use Rattle.model.specs.State.{Leaving, stays, since, Fixed, Health, sound, broken, Varying, Talker, noTalker, talker, Ready, askingFailed, ready, readyFailed, Listener, noListener, listener, Cell, empty}
 use Rattle.model.specs.Frames.{priorityOf, rankOf}
 use Rattle.model.specs.WrittenFrames.{priorityOctet, fixedNumbers, readyNumber}
 use Rattle.model.specs.Settling.{isTalking, isHearing, held}
-use Rattle.model.specs.Table.{cellWidths, leavingNumber, sinceNumber, toLeaving, healthNumber, bridgeNumber, codeNumber, toHealth, talkerNumbers, listenerNumbers, cellNumbers, fixedFrom, toReady, talkerFrom, listenerFrom, cellFrom, cellOctets, toCell, allZero, leavingRule, cellRules, cellFormed, holds}
+use Rattle.model.specs.Table.{leavingNumber, sinceNumber, toLeaving, healthNumber, bridgeNumber, codeNumber, toHealth, talkerNumbers, listenerNumbers, cellNumbers, fixedFrom, toReady, talkerFrom, listenerFrom, cellFrom, cellOctets, toCell, allZero, leavingRule, cellRules, cellFormed, holds}
 use Rattle.model.proofs.Lists.{all-each, and-left, and-right, and-both, implied, all-true, true-all}
 use Rattle.model.proofs.Valid.{ValidLeaving, ValidFixed, ValidHealth, ValidTalker, ValidListener, ValidCell}
 use Rattle.model.proofs.Parts.{octets-at, octets-packed, _also_, zero-between, zero-run, packed-whole, parts-take, parts-flat, Sized}
@@ -61,11 +62,8 @@ unfolding fixedFrom fixedNumbers priorityOctet
 fixed-forth i vs h = rw (priority-forth (getD vs (i + 4) 0) h)
 
 -- the widths of their fields
-unfoldable pub fixedWidths : List ℕ
-fixedWidths = 6 ∷ 2 ∷ 2 ∷ 2 ∷ 1 ∷ []
-
 pub fixed-fit : (f : Fixed) → ValidFixed f → Fit fixedWidths (fixedNumbers f)
-unfolding Fit fixedWidths fixedNumbers priorityOctet
+unfolding Fit fixedNumbers priorityOctet
 fixed-fit f v = v .destination also v .vlan also v .size also v .frames also omega (arith, v .priority, v .rank) also tt
 
 pub fixed-valid : (i : ℕ) (vs : List ℕ) → getD vs i 0 < 256 ^ 6 → getD vs (i + 1) 0 < 256 ^ 2 → getD vs (i + 2) 0 < 256 ^ 2
@@ -216,7 +214,7 @@ listener-back (talker f w m k) (listener r l) = rw (ready-rules r .1, ready-back
 
 module _ (clock leave : ℕ) where
   talker-fit : (t : Talker) → ValidTalker clock leave t → clock < 2 ^ 32 → Fit (take 12 cellWidths) (talkerNumbers t)
-  unfolding Fit cellWidths talkerNumbers fixedWidths
+  unfolding Fit talkerNumbers
   talker-fit noTalker v h = fit-zeros (take 12 cellWidths)
   talker-fit (talker f w m l) v h =
       let (k, b, c) = health-fit (w .health) (v .1 .health) in
@@ -228,12 +226,12 @@ module _ (clock leave : ℕ) where
       (fixed-fit f (v .0)) (v .1 .latency also b also c also tt)
 
   listener-fit : (h : Listener) → ValidListener clock leave h → clock < 2 ^ 32 → Fit (drop 12 cellWidths) (listenerNumbers h)
-  unfolding Fit cellWidths listenerNumbers
+  unfolding Fit listenerNumbers
   listener-fit noListener v h = fit-zeros (drop 12 cellWidths)
   listener-fit (listener r l) v h = omega (arith, ready-number r .1) also leaving-few l also since-within clock leave l v h also tt
 
   pub cell-fit : (c : Cell) → ValidCell clock leave c → clock < 2 ^ 32 → Fit cellWidths (cellNumbers c)
-  unfolding cellNumbers cellWidths
+  unfolding cellNumbers
   cell-fit c v h =
       fit-append (take 12 cellWidths) (talkerNumbers (c .talks)) (drop 12 cellWidths) (listenerNumbers (c .hears))
       (talker-fit (c .talks) (v .talks) h) (listener-fit (c .hears) (v .hears) h)
@@ -337,7 +335,7 @@ module _ (clock leave : ℕ) (vs : List ℕ) (k : Kept clock leave vs) where
 
   module _ (fit : Fit cellWidths vs) where
     talker-valid : ValidTalker clock leave (talkerFrom vs)
-    unfolding talkerFrom cellWidths
+    unfolding talkerFrom
     talker-valid = go (eqb (getD vs 0 0) 0)
       where
         at : (i : ℕ) → getD vs i 0 < 256 ^ getD cellWidths i 0
@@ -366,8 +364,8 @@ module _ (clock leave : ℕ) (vs : List ℕ) (k : Kept clock leave vs) where
 
 -- The octets of a cell.
 
-pub cell-length : (c : Cell) → length (cellOctets c) ≡ 39
-unfolding cellOctets cellNumbers width cellWidths
+pub cell-length : (c : Cell) → length (cellOctets c) ≡ cellSize
+unfolding cellOctets cellNumbers width
 cell-length c =
     length-packed-any cellWidths (cellNumbers c)
     (omega (arith, length-append (talkerNumbers (c .talks)) (listenerNumbers (c .hears)), talker-size (c .talks), listener-size (c .hears)))
@@ -377,8 +375,8 @@ unfolding cellOctets
 cell-octets c = octets-packed cellWidths (cellNumbers c)
 
 -- cells that are all 39 octets long
-pub cells-sized : (cells : List Cell) → All (Sized 39 cellOctets) cells
-cells-sized = all-each (Sized 39 cellOctets) cell-length
+pub cells-sized : (cells : List Cell) → All (Sized cellSize cellOctets) cells
+cells-sized = all-each (Sized cellSize cellOctets) cell-length
 
 module _ (clock leave : ℕ) (small : clock < 2 ^ 32) (c : Cell) (v : ValidCell clock leave c) where
   pub cell-back : toCell (cellOctets c) ≡ c
@@ -398,17 +396,17 @@ module _ (clock leave : ℕ) (small : clock < 2 ^ 32) (c : Cell) (v : ValidCell 
 
 -- the numbers in a cell's fields, one by one
 numbers : (s : List ℕ) → let at : ℕ → ℕ = λ i. getD (fields cellWidths 0 s) i 0 in tabulate 12 0 at ++ tabulate 3 12 at ≡ fields cellWidths 0 s
-unfolding tabulate fields cellWidths
+unfolding tabulate fields
 numbers s = refl
 
-module _ (clock leave : ℕ) (s : List ℕ) (l : length s ≡ 39) (o : Octets s) (h : cellFormed clock leave s ≡ true) where
+module _ (clock leave : ℕ) (s : List ℕ) (l : length s ≡ cellSize) (o : Octets s) (h : cellFormed clock leave s ≡ true) where
   pub cell-forth : cellOctets (toCell s) ≡ s
   unfolding cellOctets cellNumbers toCell cellFrom cellFormed
   cell-forth =
       let vs = fields cellWidths 0 s in
       let k = kept clock leave vs h in
       rw (talker-forth clock leave vs k, listener-forth clock leave vs k, numbers s)
-      (packed-whole cellWidths s (l ∙ unfold width cellWidths in refl) o)
+      (packed-whole cellWidths s (l ∙ unfold width in refl) o)
 
   pub cell-valid : ValidCell clock leave (toCell s)
   unfolding toCell cellFrom cellFormed
@@ -422,16 +420,16 @@ module _ (clock leave : ℕ) (s : List ℕ) (l : length s ≡ 39) (o : Octets s)
 
 -- Nothing registered is 39 zeros.
 
-pub cell-zeros : cellOctets empty ≡ zeros 39
-unfolding cellOctets cellNumbers talkerNumbers listenerNumbers empty cellWidths width
+pub cell-zeros : cellOctets empty ≡ zeros cellSize
+unfolding cellOctets cellNumbers talkerNumbers listenerNumbers empty width
 cell-zeros = packed-zeros cellWidths
 
-pub zeros-cell : toCell (zeros 39) ≡ empty
-unfolding toCell cellFrom talkerFrom listenerFrom fields cellWidths beAt empty
+pub zeros-cell : toCell (zeros cellSize) ≡ empty
+unfolding toCell cellFrom talkerFrom listenerFrom fields beAt empty
 zeros-cell = refl
 
-pub cell-zeros-formed : (clock leave : ℕ) → cellFormed clock leave (zeros 39) ≡ true
-unfolding cellFormed cellRules leavingRule allTrue allZero fields cellWidths beAt
+pub cell-zeros-formed : (clock leave : ℕ) → cellFormed clock leave (zeros cellSize) ≡ true
+unfolding cellFormed cellRules leavingRule allTrue allZero fields beAt
 cell-zeros-formed clock leave = refl
 
 -- A stream is held: as the octets of its cells say, and as the cells do.
@@ -446,8 +444,8 @@ unfolding held isTalking isHearing empty
 held-empty [] a = refl
 held-empty (c ∷ l) a = rw (a .0) (held-empty l (a .1))
 
-kinds : (s : List ℕ) → (getD (fields cellWidths 0 s) 0 0 ≡ getD s 0 0) × (getD (fields cellWidths 0 s) 12 0 ≡ getD s 33 0)
-unfolding fields cellWidths beAt
+kinds : (s : List ℕ) → (getD (fields cellWidths 0 s) 0 0 ≡ getD s 0 0) × (getD (fields cellWidths 0 s) 12 0 ≡ getD s listenerPlace 0)
+unfolding fields beAt
 kinds s = (omega arith, omega arith)
 
 -- a Talker, and a Listener, that is there unless its kind is 0
@@ -470,7 +468,7 @@ talking-read s =
     (isOne (getD vs 1 0)) (toLeaving (getD vs 2 0) (getD vs 3 0)) (listenerFrom vs)
     ∙ ap (λ (k : ℕ). not (eqb k 0)) (kinds s .0)
 
-hearing-read : (s : List ℕ) → isHearing (toCell s) ≡ not (eqb (getD s 33 0) 0)
+hearing-read : (s : List ℕ) → isHearing (toCell s) ≡ not (eqb (getD s listenerPlace 0) 0)
 unfolding toCell cellFrom listenerFrom
 hearing-read s =
     let vs = fields cellWidths 0 s in
@@ -478,25 +476,25 @@ hearing-read s =
     ∙ ap (λ (k : ℕ). not (eqb k 0)) (kinds s .1)
 
 -- the test on octets is the test on the cells read from them
-pub holds-parts : (k : ℕ) (s : List ℕ) → holds k s ≡ held (parts 39 toCell k s)
+pub holds-parts : (k : ℕ) (s : List ℕ) → holds k s ≡ held (parts cellSize toCell k s)
 unfolding holds held parts
 holds-parts zero s = refl
 holds-parts (suc k) s =
     rw (
-      talking-read (take 39 s),
-      hearing-read (take 39 s),
-      getD-take 39 s 0 0 (omega arith),
-      getD-take 39 s 33 0 (omega arith),
-      holds-parts k (drop 39 s),
+      talking-read (take cellSize s),
+      hearing-read (take cellSize s),
+      getD-take cellSize s 0 0 (omega arith),
+      getD-take cellSize s listenerPlace 0 (omega arith),
+      holds-parts k (drop cellSize s),
     )
 
 -- read: some of the first k cells, so some of the m cells
-pub holds-held : (k m : ℕ) (s : List ℕ) → k ≤ m → holds k s ≡ true → held (parts 39 toCell m s) ≡ true
+pub holds-held : (k m : ℕ) (s : List ℕ) → k ≤ m → holds k s ≡ true → held (parts cellSize toCell m s) ≡ true
 holds-held k m s l h =
-    let cells = parts 39 toCell m s in
+    let cells = parts cellSize toCell m s in
     ap held (sym (take-append-drop k cells))
     ∙ held-append (take k cells) (drop k cells)
-    ∙ ap (λ (l : List Cell). held l || held (drop k cells)) (parts-take 39 toCell k m s l)
+    ∙ ap (λ (l : List Cell). held l || held (drop k cells)) (parts-take cellSize toCell k m s l)
     ∙ ap (λ (b : Bool). b || held (drop k cells)) (sym (holds-parts k s) ∙ h)
 
 -- written: some of the cells, and none after the first k
@@ -504,8 +502,8 @@ pub held-holds : (k : ℕ) (cells : List Cell) (after : List ℕ) → All (λ c.
     → All (λ c. c ≡ empty) (drop k cells) → held cells ≡ true → holds k (flat cellOctets cells ++ after) ≡ true
 held-holds k cells after back l z h =
     let s = flat cellOctets cells ++ after in
-    let front : parts 39 toCell k s ≡ take k cells =
-    sym (parts-take 39 toCell k (length cells) s l) ∙ ap (take k) (parts-flat 39 cellOctets toCell cells after (cells-sized cells) back) in
+    let front : parts cellSize toCell k s ≡ take k cells =
+    sym (parts-take cellSize toCell k (length cells) s l) ∙ ap (take k) (parts-flat cellSize cellOctets toCell cells after (cells-sized cells) back) in
     let whole : held cells ≡ held (take k cells) =
     ap held (sym (take-append-drop k cells))
     ∙ held-append (take k cells) (drop k cells)

@@ -12,9 +12,10 @@ use Rattle.octets.specs.Be.{beAt}
 use Rattle.octets.specs.Parts.{zeros}
 use Rattle.octets.specs.Fields.{fields, Fit, width}
 use Rattle.octets.proofs.Fields.{length-packed-any, fields-of-packed, fields-fit, fit-at, packed-zeros}
+use Rattle.model.specs.Layout.{resultSize, resultWidths}
 use Rattle.model.specs.Lists.{All, allTrue, implies, tabulate, Octets}
 use Rattle.model.specs.State.{Column, none, advertise, failed, Entry, noEntry, filters, forwards, Declared, nothing, tells, Result, unsettled}
-use Rattle.model.specs.Table.{resultWidths, columnNumber, columnBridge, columnCode, entryNumber, declaredNumber, resultNumbers, toColumn, toEntry, toDeclared, resultFrom, resultOctets, toResult, allZero, resultRules, resultFormed}
+use Rattle.model.specs.Table.{columnNumber, columnBridge, columnCode, entryNumber, declaredNumber, resultNumbers, toColumn, toEntry, toDeclared, resultFrom, resultOctets, toResult, allZero, resultRules, resultFormed}
 use Rattle.model.proofs.Lists.{all-each, implied, all-true, true-all}
 use Rattle.model.proofs.Valid.{ValidColumn, ValidAge, ValidResult}
 use Rattle.model.proofs.Parts.{_also_, octets-packed, octets-at, zero-between, packed-whole, Sized}
@@ -141,7 +142,7 @@ declared-few (tells r) = ready-number r .1
 -- A valid result: its numbers fit and keep the rules; they come back in any case.
 
 pub result-fit : (clock : ℕ) (r : Result) → ValidResult clock r → clock < 2 ^ 32 → Fit resultWidths (resultNumbers r)
-unfolding Fit resultWidths resultNumbers
+unfolding Fit resultNumbers
 result-fit clock r v h =
     let (k, b, c) = column-fit (r .column) (r .latency) (r .entry) (v .column) in
     k
@@ -214,7 +215,7 @@ module _ (clock : ℕ) (vs : List ℕ) (k : Kept clock vs) where
       rw (kind, bridge, code, entry-forth (getD vs 4 0) (k .entry), declared-forth (getD vs 6 0) (k .declared))
 
   numbers-valid : Fit resultWidths vs → ValidResult clock (resultFrom vs)
-  unfolding resultFrom resultWidths
+  unfolding resultFrom
   numbers-valid fit =
       let at : (i : ℕ) → getD vs i 0 < 256 ^ getD resultWidths i 0 = fit-at resultWidths vs fit in
       record {
@@ -227,16 +228,16 @@ module _ (clock : ℕ) (vs : List ℕ) (k : Kept clock vs) where
 
 -- The octets of a result.
 
-pub result-length : (r : Result) → length (resultOctets r) ≡ 20
-unfolding resultOctets resultNumbers width resultWidths
+pub result-length : (r : Result) → length (resultOctets r) ≡ resultSize
+unfolding resultOctets resultNumbers width
 result-length r = length-packed-any resultWidths (resultNumbers r) refl
 
 pub result-octets : (r : Result) → Octets (resultOctets r)
 unfolding resultOctets
 result-octets r = octets-packed resultWidths (resultNumbers r)
 
-pub results-sized : (results : List Result) → All (Sized 20 resultOctets) results
-results-sized = all-each (Sized 20 resultOctets) result-length
+pub results-sized : (results : List Result) → All (Sized resultSize resultOctets) results
+results-sized = all-each (Sized resultSize resultOctets) result-length
 
 module _ (clock : ℕ) (small : clock < 2 ^ 32) (r : Result) (v : ValidResult clock r) where
   pub result-back : toResult (resultOctets r) ≡ r
@@ -249,15 +250,15 @@ module _ (clock : ℕ) (small : clock < 2 ^ 32) (r : Result) (v : ValidResult cl
 
 -- the numbers in a result's fields, one by one
 numbers : (s : List ℕ) → tabulate 7 0 (λ i. getD (fields resultWidths 0 s) i 0) ≡ fields resultWidths 0 s
-unfolding tabulate fields resultWidths
+unfolding tabulate fields
 numbers s = refl
 
-module _ (clock : ℕ) (s : List ℕ) (l : length s ≡ 20) (o : Octets s) (h : resultFormed clock s ≡ true) where
+module _ (clock : ℕ) (s : List ℕ) (l : length s ≡ resultSize) (o : Octets s) (h : resultFormed clock s ≡ true) where
   pub result-forth : resultOctets (toResult s) ≡ s
   unfolding resultOctets toResult resultFormed
   result-forth =
       let vs = fields resultWidths 0 s in
-      rw (numbers-forth clock vs (kept clock vs h), numbers s) (packed-whole resultWidths s (l ∙ unfold width resultWidths in refl) o)
+      rw (numbers-forth clock vs (kept clock vs h), numbers s) (packed-whole resultWidths s (l ∙ unfold width in refl) o)
 
   pub result-valid : ValidResult clock (toResult s)
   unfolding toResult resultFormed
@@ -267,14 +268,14 @@ module _ (clock : ℕ) (s : List ℕ) (l : length s ≡ 20) (o : Octets s) (h : 
 
 -- Nothing decided is 20 zeros.
 
-pub result-zeros : resultOctets unsettled ≡ zeros 20
-unfolding resultOctets resultNumbers columnNumber columnBridge columnCode entryNumber declaredNumber unsettled resultWidths width
+pub result-zeros : resultOctets unsettled ≡ zeros resultSize
+unfolding resultOctets resultNumbers columnNumber columnBridge columnCode entryNumber declaredNumber unsettled width
 result-zeros = packed-zeros resultWidths
 
-pub zeros-result : toResult (zeros 20) ≡ unsettled
-unfolding toResult resultFrom toColumn toEntry toDeclared fields resultWidths beAt unsettled
+pub zeros-result : toResult (zeros resultSize) ≡ unsettled
+unfolding toResult resultFrom toColumn toEntry toDeclared fields beAt unsettled
 zeros-result = refl
 
-pub result-zeros-formed : (clock : ℕ) → resultFormed clock (zeros 20) ≡ true
-unfolding resultFormed resultRules allTrue allZero fields resultWidths beAt
+pub result-zeros-formed : (clock : ℕ) → resultFormed clock (zeros resultSize) ≡ true
+unfolding resultFormed resultRules allTrue allZero fields beAt
 result-zeros-formed clock = rw (le-leb 0 (clock / 100) (omega arith))

@@ -6,13 +6,14 @@ use mathlib.Core.Bool.{cond, not}
 use Prim.Native.Nat.{ℕ}
 use lib.ListN.{length, drop}
 use lib.Dec.{ltb, eqb}
+use Rattle.model.specs.Layout.{tableLength}
 use Rattle.model.specs.State.{Bridge, Settings, started}
 use Rattle.model.specs.Registrations.{Answer, received, asks}
 use Rattle.model.specs.Frames.{reading, wrongPort}
 use Rattle.model.specs.Settling.{advance}
 use Rattle.model.specs.Declarations.{Written, write, Report, refusedReport, report}
 use Rattle.model.specs.WrittenFrames.{pduOctets}
-use Rattle.model.specs.Table.{encode, decode, formed, tableLength, settingsFormed, toSettings}
+use Rattle.model.specs.Table.{encode, decode, formed, settingsFormed, toSettings}
 
 -- what start, receive and advance answer and leave
 pub record Call : Type 0 where

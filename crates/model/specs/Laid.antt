@@ -5,11 +5,12 @@ use mathlib.Core.List.{List, [], _∷_}
 use Prim.Native.Nat.{ℕ, _≤_, _<_, _^_}
 use lib.ListN.{length}
 use Rattle.octets.specs.Fields.{Fit}
+use Rattle.model.specs.Layout.{cellWidths, nameWidths, portWidths, resultWidths}
 use Rattle.model.specs.Lists.{All}
 use Rattle.model.specs.State.{Settings, Talker, noTalker, talker, Cell, Result, Stream, Totals, Bridge}
 use Rattle.model.specs.Registrations.{ids}
 use Rattle.model.specs.WrittenFrames.{fixedNumbers}
-use Rattle.model.specs.Table.{cellWidths, cellNumbers, cellOctets, resultWidths, resultNumbers, resultOctets, nameWidths, streamOctets, portWidths, portNumbers, encode}
+use Rattle.model.specs.Table.{cellNumbers, cellOctets, resultNumbers, resultOctets, streamOctets, portNumbers, encode}
 
 -- a rank is one bit: it shares its octet with the priority, so that the octet's width alone does not say it
 abbrev pub FitRank : Talker → Type 0

@@ -9,19 +9,13 @@ use lib.Dec.{ltb, leb, eqb}
 use Rattle.octets.specs.Be.{beAt}
 use Rattle.octets.specs.Parts.{part, zeros}
 use Rattle.octets.specs.Fields.{fields, packed, flat}
+use Rattle.model.specs.Layout.{cellSize, cellWidths, cellsPlace, cellsSize, clockPlace, clockWidths, countPlace, headWidths, listenerPlace, nameWidths, portPlace, portSize, portWidths, portsPlace, portsUnit, priorityAUnit, priorityBUnit, recordSize, recordsPlace, resultSize, resultWidths, resultsPlace, resultsSize, settingsSize, settledPriorityPlace, tableLength, totalBPlace, totalSize, totalsPlace, totalsSize, totalsWidths, wordPlace}
 use Rattle.model.specs.Lists.{allTrue, implies, parts, bit, isOne}
 use Rattle.model.specs.State.{Port, Settings, Leaving, stays, since, Fixed, Health, sound, broken, Talker, noTalker, talker, Ready, askingFailed, ready, readyFailed, Listener, noListener, listener, Cell, Column, none, advertise, failed, Entry, noEntry, filters, forwards, Declared, nothing, tells, Result, Stream, Totals, Bridge}
 use Rattle.model.specs.Frames.{priorityOf, rankOf}
 use Rattle.model.specs.WrittenFrames.{fixedNumbers, readyNumber}
 
 -- Settings: Bridge ID; one field of ports 4 bits, class priorities 3 and 3, leave time 14; then each port.
-
-unfoldable pub headWidths : List ℕ
-headWidths = 8 ∷ 3 ∷ []
-
--- flags (supports A, supports B, sends twice, five zeros), overhead, largest frame, limits, latencies
-unfoldable pub portWidths : List ℕ
-portWidths = 1 ∷ 1 ∷ 2 ∷ 5 ∷ 5 ∷ 4 ∷ 4 ∷ []
 
 unfoldable pub portNumbers : Port → List ℕ
 portNumbers q =
@@ -48,22 +42,22 @@ unfoldable pub toPort : List ℕ → Port
 toPort s = portFrom (fields portWidths 0 s)
 
 unfoldable pub headWord : Settings → ℕ
-headWord st = ((length (st .ports) * 8 + st .priorityA) * 8 + st .priorityB) * 16384 + st .leaveTime
+headWord st = ((length (st .ports) * 8 + st .priorityA) * 8 + st .priorityB) * priorityBUnit + st .leaveTime
 
 -- as they are handed to start
 unfoldable pub settingsOctets : Settings → List ℕ
 settingsOctets st = packed headWidths (st .bridgeId ∷ headWord st ∷ []) ++ flat portOctets (st .ports)
 
 unfoldable pub portsField : List ℕ → ℕ
-portsField s = beAt 3 s 8 / 1048576
+portsField s = beAt 3 s wordPlace / portsUnit
 
 unfoldable pub toSettings : List ℕ → Settings
 toSettings s = record {
   bridgeId = beAt 8 s 0;
-  priorityA = beAt 3 s 8 / 131072 % 8;
-  priorityB = beAt 3 s 8 / 16384 % 8;
-  leaveTime = beAt 3 s 8 % 16384;
-  ports = parts 22 toPort (portsField s) (drop 11 s);
+  priorityA = beAt 3 s wordPlace / priorityAUnit % 8;
+  priorityB = beAt 3 s wordPlace / priorityBUnit % 8;
+  leaveTime = beAt 3 s wordPlace % priorityBUnit;
+  ports = parts portSize toPort (portsField s) (drop portsPlace s);
 }
 
 -- "zero 5": the five bits after a port's flags
@@ -79,22 +73,16 @@ unfoldable pub settingsRules : List ℕ → List Bool
 settingsRules s =
     leb 1 (portsField s)
     ∷ leb (portsField s) 8
-    ∷ not (eqb (beAt 3 s 8 / 131072 % 8) (beAt 3 s 8 / 16384 % 8))
-    ∷ leb 1 (beAt 3 s 8 % 16384)
-    ∷ everyPart 22 portRule (portsField s) (drop 11 s)
+    ∷ not (eqb (beAt 3 s wordPlace / priorityAUnit % 8) (beAt 3 s wordPlace / priorityBUnit % 8))
+    ∷ leb 1 (beAt 3 s wordPlace % priorityBUnit)
+    ∷ everyPart portSize portRule (portsField s) (drop portsPlace s)
     ∷ []
 
 -- 11: settings "Length 11 + 22 x ports", and as laid out
 unfoldable pub settingsFormed : List ℕ → Bool
-settingsFormed s = eqb (length s) (11 + 22 * portsField s) && allTrue (settingsRules s)
+settingsFormed s = eqb (length s) (portPlace (portsField s)) && allTrue (settingsRules s)
 
 -- A cell: Talker, then Listener.
-
--- Talker: kind (0 none, 1 Advertise, 2 Failed), changed mark, leaving, since, destination, VLAN, MaxFrameSize,
--- MaxIntervalFrames, priority and rank, latency, Bridge ID, code. Listener: kind (0 none, 1 Asking Failed, 2 Ready, 3 Ready
--- Failed), leaving, since.
-unfoldable pub cellWidths : List ℕ
-cellWidths = 1 ∷ 1 ∷ 1 ∷ 4 ∷ 6 ∷ 2 ∷ 2 ∷ 2 ∷ 1 ∷ 4 ∷ 8 ∷ 1 ∷ 1 ∷ 1 ∷ 4 ∷ []
 
 unfoldable pub leavingNumber : Leaving → ℕ
 leavingNumber stays = 0
@@ -198,9 +186,6 @@ cellFormed clock leave s = allTrue (cellRules clock leave (fields cellWidths 0 s
 -- A result: column (0 none, 1 Advertise, 2 Failed), latency out, Bridge ID, code, entry (0 none, 1 filter, 2 forward), the second
 -- its age counts from, Listener declared.
 
-unfoldable pub resultWidths : List ℕ
-resultWidths = 1 ∷ 4 ∷ 8 ∷ 1 ∷ 1 ∷ 4 ∷ 1 ∷ []
-
 unfoldable pub columnNumber : Column → ℕ
 columnNumber none = 0
 columnNumber advertise = 1
@@ -272,42 +257,39 @@ resultFormed clock s = allTrue (resultRules clock (fields resultWidths 0 s))
 
 -- A stream record of 493 octets: StreamID and settled values, 21 octets; cells of 39; results of 20.
 
-unfoldable pub nameWidths : List ℕ
-nameWidths = 8 ∷ 6 ∷ 2 ∷ 2 ∷ 2 ∷ 1 ∷ []
-
 unfoldable pub streamOctets : Stream → List ℕ
 streamOctets x =
     packed nameWidths (x .id ∷ fixedNumbers (x .settled))
     ++ (flat cellOctets (x .cells) ++ flat resultOctets (x .results))
 
 unfoldable pub cellsPart : List ℕ → List ℕ
-cellsPart s = part 21 312 s
+cellsPart s = part cellsPlace cellsSize s
 
 unfoldable pub resultsPart : List ℕ → List ℕ
-resultsPart s = part 333 160 s
+resultsPart s = part resultsPlace resultsSize s
 
 unfoldable pub toStream : List ℕ → Stream
 toStream s = record {
   id = beAt 8 s 0;
   settled = fixedFrom 1 (fields nameWidths 0 s);
-  cells = parts 39 toCell 8 (cellsPart s);
-  results = parts 20 toResult 8 (resultsPart s);
+  cells = parts cellSize toCell 8 (cellsPart s);
+  results = parts resultSize toResult 8 (resultsPart s);
 }
 
 -- some port has a registration: a kind that is not 0, of a Talker or of a Listener
 unfoldable pub holds : ℕ → List ℕ → Bool
 holds zero s = false
-holds (suc k) s = not (eqb (getD s 0 0) 0) || not (eqb (getD s 33 0) 0) || holds k (drop 39 s)
+holds (suc k) s = not (eqb (getD s 0 0) 0) || not (eqb (getD s listenerPlace 0) 0) || holds k (drop cellSize s)
 
 -- at a bridge of so many ports; what belongs to no port is zero
 unfoldable pub streamRules : ℕ → ℕ → ℕ → List ℕ → List Bool
 streamRules ports clock leave s =
-    eqb (getD s 20 0 % 16) 0
-    ∷ everyPart 39 (cellFormed clock leave) ports (cellsPart s)
+    eqb (getD s settledPriorityPlace 0 % 16) 0
+    ∷ everyPart cellSize (cellFormed clock leave) ports (cellsPart s)
     ∷ holds ports (cellsPart s)
-    ∷ allZero (drop (39 * ports) (cellsPart s))
-    ∷ everyPart 20 (resultFormed clock) ports (resultsPart s)
-    ∷ allZero (drop (20 * ports) (resultsPart s))
+    ∷ allZero (drop (ports * cellSize) (cellsPart s))
+    ∷ everyPart resultSize (resultFormed clock) ports (resultsPart s)
+    ∷ allZero (drop (ports * resultSize) (resultsPart s))
     ∷ []
 
 unfoldable pub streamFormed : ℕ → ℕ → ℕ → List ℕ → Bool
@@ -315,48 +297,42 @@ streamFormed ports clock leave s = allTrue (streamRules ports clock leave s)
 
 -- The table of 31,824 octets: settings 187, clock 4, streams held 1, totals 80, records 31,552.
 
-unfoldable pub tableLength : ℕ
-tableLength = 31824
-
-unfoldable pub totalsWidths : List ℕ
-totalsWidths = 5 ∷ 5 ∷ []
-
 unfoldable pub totalsOctets : Totals → List ℕ
 totalsOctets t = packed totalsWidths (t .totalA ∷ t .totalB ∷ [])
 
 unfoldable pub toTotals : List ℕ → Totals
-toTotals s = record { totalA = beAt 5 s 0; totalB = beAt 5 s 5 }
+toTotals s = record { totalA = beAt 5 s 0; totalB = beAt 5 s totalBPlace }
 
 unfoldable pub encode : Bridge → List ℕ
 encode b =
     settingsOctets (b .settings)
-    ++ (zeros (22 * (8 - length (b .settings .ports)))
-    ++ (packed (4 ∷ 1 ∷ []) (b .clock ∷ length (b .streams) ∷ [])
+    ++ (zeros ((8 - length (b .settings .ports)) * portSize)
+    ++ (packed clockWidths (b .clock ∷ length (b .streams) ∷ [])
     ++ (flat totalsOctets (b .totals)
     ++ (flat streamOctets (b .streams)
-    ++ zeros (493 * (64 - length (b .streams)))))))
+    ++ zeros ((64 - length (b .streams)) * recordSize)))))
 
 unfoldable pub settingsPart : List ℕ → List ℕ
-settingsPart t = part 0 187 t
+settingsPart t = part 0 settingsSize t
 
 unfoldable pub clockField : List ℕ → ℕ
-clockField t = beAt 4 t 187
+clockField t = beAt 4 t clockPlace
 
 unfoldable pub countField : List ℕ → ℕ
-countField t = getD t 191 0
+countField t = getD t countPlace 0
 
 unfoldable pub totalsPart : List ℕ → List ℕ
-totalsPart t = part 192 80 t
+totalsPart t = part totalsPlace totalsSize t
 
 unfoldable pub recordsPart : List ℕ → List ℕ
-recordsPart t = drop 272 t
+recordsPart t = drop recordsPlace t
 
 unfoldable pub decode : List ℕ → Bridge
 decode t = record {
   settings = toSettings (settingsPart t);
   clock = clockField t;
-  totals = parts 10 toTotals 8 (totalsPart t);
-  streams = parts 493 toStream (countField t) (recordsPart t);
+  totals = parts totalSize toTotals 8 (totalsPart t);
+  streams = parts recordSize toStream (countField t) (recordsPart t);
 }
 
 -- StreamIDs rise
@@ -379,12 +355,12 @@ tableRules t =
     let s = settingsPart t in
     let n = countField t in
     allTrue (settingsRules s)
-    ∷ allZero (drop (11 + 22 * portsField s) s)
-    ∷ totalsWithin (parts 10 toTotals 8 (totalsPart t)) (toSettings s .ports)
+    ∷ allZero (drop (portPlace (portsField s)) s)
+    ∷ totalsWithin (parts totalSize toTotals 8 (totalsPart t)) (toSettings s .ports)
     ∷ leb n 64
-    ∷ everyPart 493 (streamFormed (portsField s) (clockField t) (toSettings s .leaveTime)) n (recordsPart t)
-    ∷ rising (parts 493 idOf n (recordsPart t))
-    ∷ allZero (drop (493 * n) (recordsPart t))
+    ∷ everyPart recordSize (streamFormed (portsField s) (clockField t) (toSettings s .leaveTime)) n (recordsPart t)
+    ∷ rising (parts recordSize idOf n (recordsPart t))
+    ∷ allZero (drop (n * recordSize) (recordsPart t))
     ∷ []
 
 -- 12: "table has the wrong length (one length for every port count) or breaks a form rule"
