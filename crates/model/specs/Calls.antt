@@ -9,7 +9,7 @@ use lib.Dec.{ltb, eqb}
 use Rattle.model.specs.Layout.{tableLength}
 use Rattle.model.specs.State.{Bridge, Settings, started}
 use Rattle.model.specs.Registrations.{Answer, received, asks}
-use Rattle.model.specs.Frames.{reading, wrongPort}
+use Rattle.model.specs.Frames.{reading, wrongPort, longestPdu}
 use Rattle.model.specs.Settling.{advance}
 use Rattle.model.specs.Declarations.{Written, write, Report, refusedReport, report}
 use Rattle.model.specs.WrittenFrames.{pduOctets}
@@ -66,7 +66,7 @@ writeOn t p place buffer =
     let b = decode t in
     cond (not (formed t)) (refusedWrite 12 buffer)
     (cond (wrongPort (b .settings) p) (refusedWrite 1 buffer)
-    (cond (ltb (length buffer) 1500) (refusedWrite 10 buffer)
+    (cond (ltb (length buffer) longestPdu) (refusedWrite 10 buffer)
     (writtenTo buffer (write b p place))))
 
 unfoldable pub reportOn : List ℕ → ℕ → ℕ → Report
