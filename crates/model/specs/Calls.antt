@@ -15,6 +15,10 @@ use Rattle.model.specs.Declarations.{Written, write, Report, refusedRepo
 use Rattle.model.specs.WrittenFrames.{pduOctets}
 use Rattle.model.specs.Table.{encode, decode, formed, settingsFormed, toSettings}
 
+-- A received frame, in the order of the definitions: `receiveOn` (this file) tests the form and reads the table; `reading` (Frames)
+-- tests the port and walks the PDU, vector by vector, into acts; `received` (Registrations) applies them to the streams, counts
+-- what is held then (8), and gives the bridge; `leaves` writes it back.
+
 -- what start, receive and advance answer and leave
 pub record Call : Type 0 where
   pub number : ℕ
