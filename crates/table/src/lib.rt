@@ -52,6 +52,16 @@ pub const RESULTS: usize = 333;
 
 pub const RESULT: usize = 20;
 
+// Units of the field of ports, class priorities and leave time.
+pub const PORTS_UNIT: u64 = 1048576;
+
+pub const PRIORITY_A_UNIT: u64 = 131072;
+
+pub const PRIORITY_B_UNIT: u64 = 16384;
+
+// Within a port's totals: that of class B.
+pub const TOTAL_B: usize = 5;
+
 // The number of streams held.
 pub fn count(table: &[u8]) -> usize
     requires { ⌜ Laid (now table) ⌝ }
