@@ -23,6 +23,10 @@ unfolding allZero
 zero-append [] t = refl
 zero-append (b ∷ s) t = rw (zero-append s t) (sym (and-assoc (eqb b 0) (allZero s) (allZero t)))
 
+pub zero-first : (b : ℕ) (s : List ℕ) → allZero (b ∷ s) ≡ (eqb b 0 && allZero s)
+unfolding allZero
+zero-first b s = refl
+
 -- a number is 0 where its octets are
 zero-number : (n : ℕ) (s : List ℕ) (at : ℕ) → at + n ≤ length s → eqb (beAt n s at) 0 ≡ allZero (part at n s)
 unfolding beAt

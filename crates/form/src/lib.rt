@@ -67,31 +67,42 @@ fn leaving_formed(leaving: u8, since: u64, clock: u64, leave: u64) -> bool
     leaving == 1
 }
 
+// The rules of a Talker that is there, Advertise or Failed: its mark, its leaving and its priority octet.
+fn registration_formed(cell: &[u8], clock: u64, leave: u64) -> bool
+    requires { ⌜ length (now cell) ≡ cellSize ⌝ }
+    ensures { λ r. ⌜ r ≡ allTrue (take 3 (drop 1 (cellRules clock leave (fields cellWidths 0 (now (cell .entry)))))) ⌝ }
+{
+    let since = octets::get(cell, cell::TALKER_SINCE, 4);
+    (cell[cell::CHANGED] <= 1)
+        & leaving_formed(cell[cell::TALKER_LEAVES], since, clock, leave)
+        & (cell[cell::PRIORITY] % 16 == 0)
+}
+
 // The rules of a cell's Talker: without one all of it is zero, and an Advertise has no failure.
 fn talker_formed(cell: &[u8], clock: u64, leave: u64) -> bool
     requires { ⌜ length (now cell) ≡ cellSize ⌝ }
     ensures { λ r. ⌜ r ≡ allTrue (take 6 (cellRules clock leave (fields cellWidths 0 (now (cell .entry))))) ⌝ }
 {
     let kind = cell[cell::TALKER];
-    let since = octets::get(cell, cell::TALKER_SINCE, 4);
-    (kind <= 2)
-        & (cell[cell::CHANGED] <= 1)
-        & leaving_formed(cell[cell::TALKER_LEAVES], since, clock, leave)
-        & (cell[cell::PRIORITY] % 16 == 0)
-        & ((kind != 0) | zero_from(&cell[cell::CHANGED..cell::LISTENER], 0))
-        & ((kind != 1) | zero_from(&cell[cell::BRIDGE_ID..cell::LISTENER], 0))
+    if kind == 0 {
+        return zero_from(&cell[cell::CHANGED..cell::LISTENER], 0);
+    }
+    if kind == 1 {
+        return registration_formed(cell, clock, leave)
+            & zero_from(&cell[cell::BRIDGE_ID..cell::LISTENER], 0);
+    }
+    (kind <= 2) & registration_formed(cell, clock, leave)
 }
 
-// The rules of a cell's Listener: without one all of it is zero.
+// The rules of a cell's Listener: without one it is not leaving, and so has no time.
 fn listener_formed(cell: &[u8], clock: u64, leave: u64) -> bool
     requires { ⌜ length (now cell) ≡ cellSize ⌝ }
     ensures { λ r. ⌜ r ≡ allTrue (drop 6 (cellRules clock leave (fields cellWidths 0 (now (cell .entry))))) ⌝ }
 {
     let kind = cell[cell::LISTENER];
+    let leaves = cell[cell::LISTENER_LEAVES];
     let since = octets::get(cell, cell::LISTENER_SINCE, 4);
-    (kind <= 3)
-        & leaving_formed(cell[cell::LISTENER_LEAVES], since, clock, leave)
-        & ((kind != 0) | zero_from(&cell[cell::LISTENER_LEAVES..CELL], 0))
+    (kind <= 3) & leaving_formed(leaves, since, clock, leave) & ((kind != 0) | (leaves == 0))
 }
 
 // The rules of a cell.
@@ -139,18 +150,22 @@ fn result_formed(result: &[u8], clock: u64) -> bool
     ensures { λ r. ⌜ r ≡ resultFormed clock (now (result .entry)) ⌝ }
 {
     let column = result[result::COLUMN];
-    let latency = octets::get(result, result::LATENCY, 4);
     let entry = result[result::ENTRY];
     let second = octets::get(result, result::AGE, 4);
-    (column <= 2)
-        & ((column != 0) | (latency == 0))
-        & ((1 < column) | zero_from(&result[result::BRIDGE_ID..result::ENTRY], 0))
-        & (entry <= 2)
-        & ((column == 0) | (1 <= entry))
-        & ((column == 1) | (entry <= 1))
-        & ((entry != 0) | (second == 0))
-        & (second <= clock / 100)
-        & (result[result::DECLARED] <= 3)
+    let rest = (second <= clock / 100) & (result[result::DECLARED] <= 3);
+    if column == 0 {
+        return zero_from(&result[result::LATENCY..result::ENTRY], 0)
+            & (entry <= 1)
+            & ((entry != 0) | (second == 0))
+            & rest;
+    }
+    if column == 1 {
+        return zero_from(&result[result::BRIDGE_ID..result::ENTRY], 0)
+            & (entry <= 2)
+            & (1 <= entry)
+            & rest;
+    }
+    (column <= 2) & (entry == 1) & rest
 }
 
 // The result of each port keeps its rules.

@@ -1,6 +1,6 @@
 -- `form::settings_rules` meets its contract. Assumes nothing.
 use mathlib.Core.Path.{ap, _∙_}
-use Prim.Native.Nat.{_+_, _*_, _/_, _≤_}
+use Prim.Native.Nat.{_/_, _≤_}
 use native.Mathlib.Omega.{arith}
 use lib.ListN.{length, length-drop}
 use borrow.Author.Needs.{needs}
