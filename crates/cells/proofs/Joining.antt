@@ -13,8 +13,8 @@ use Rattle.octets.specs.Pick.{pick}
 use Rattle.octets.specs.Fields.{fields, packed, Fit, width}
 use Rattle.octets.proofs.Parts.{length-patch}
 use Rattle.octets.proofs.Fields.{fit-at, be-beAt, packed-fields, beAt-fits, beAt-one, beAt-add, get-field, get-octet, put-field, put-run, clear-run}
-use Rattle.model.specs.State.{stays, Fixed, Health, sound, broken, Varying, Leaving, Talker, noTalker, talker, Listener, noListener, listener, noFixed}
-use Rattle.model.specs.Registrations.{sameFixed, joinTalker, does, listen}
+use Rattle.model.specs.State.{stays, Fixed, Health, sound, broken, Varying, Registration, Talker, noTalker, talker, Listener, noListener, listener, noFixed}
+use Rattle.model.specs.Registrations.{sameFixed, firstJoin, sameJoin, otherJoin, joinTalker, does, listen}
 use Rattle.model.specs.Frames.{registers, firstWidths, firstLength, priorityOf, rankOf, fixedValue, healthValue}
 use Rattle.model.specs.WrittenFrames.{priorityOctet, fixedNumbers}
 use Rattle.model.specs.Table.{cellWidths, leavingNumber, sinceNumber, healthNumber, bridgeNumber, codeNumber, talkerNumbers, listenerNumbers, cellNumbers, cellOctets, toCell, toReady}
@@ -85,12 +85,12 @@ cell-size : (t : Talker) (h : Listener) → length (cellNumbers (both t h)) ≡ 
 unfolding cellNumbers talkerNumbers listenerNumbers fixedNumbers
 cell-size noTalker noListener = refl
 cell-size noTalker (listener r l) = refl
-cell-size (talker f v m k) noListener = refl
-cell-size (talker f v m k) (listener r l) = refl
+cell-size (talker k) noListener = refl
+cell-size (talker k) (listener r l) = refl
 
 heldFixed : Talker → Fixed
 heldFixed noTalker = noFixed
-heldFixed (talker f v m l) = f
+heldFixed (talker r) = r .fixed
 
 -- A Listener's join.
 
@@ -99,8 +99,8 @@ listener-joined : (four : ℕ) → 1 ≤ four → four ≤ 3 → (t : Talker) (h
 unfolding cellNumbers talkerNumbers listenerNumbers fixedNumbers leavingNumber sinceNumber patch
 listener-joined four low high noTalker noListener = rw (ready-forth four low high)
 listener-joined four low high noTalker (listener r l) = rw (ready-forth four low high)
-listener-joined four low high (talker f v m k) noListener = rw (ready-forth four low high)
-listener-joined four low high (talker f v m k) (listener r l) = rw (ready-forth four low high)
+listener-joined four low high (talker k) noListener = rw (ready-forth four low high)
+listener-joined four low high (talker k) (listener r l) = rw (ready-forth four low high)
 
 pub listens : (four : ℕ) → 1 ≤ four → four ≤ 3 → (clock id : ℕ) (s : List ℕ) → LaidCell s
     → heard four s ≡ cellOctets (does clock (listen id (toReady four)) (toCell s))
@@ -111,10 +111,9 @@ listens four low high clock id =
 
 -- A Talker's: the held one is marked.
 
-marks : (f : Fixed) (v : Varying) (m : Bool) (l : Leaving) (h : Listener)
-    → marked (cellOctets (both (talker f v m l) h)) ≡ cellOctets (both (talker f v true stays) h)
-unfolding cellOctets cellNumbers talkerNumbers leavingNumber sinceNumber bit patch
-marks f v m l h = marked-numbers (cellNumbers (both (talker f v m l) h)) (cell-size (talker f v m l) h)
+marks : (r : Registration) (h : Listener) → marked (cellOctets (both (talker r) h)) ≡ cellOctets (both (talker (otherJoin r)) h)
+unfolding otherJoin cellOctets cellNumbers talkerNumbers leavingNumber sinceNumber bit patch
+marks r h = marked-numbers (cellNumbers (both (talker r) h)) (cell-size (talker r) h)
 
 -- Or it takes what may vary.
 
@@ -124,17 +123,17 @@ module _ (t : Talker) (h : Listener) (kind latency : ℕ) where
   begins = set (patch 1 3 (zeros 3) (set (cellNumbers (both t h)) 0 kind)) 9 latency
 
 sound-again : (t : Talker) (h : Listener) (latency : ℕ)
-    → patch 10 2 (zeros 2) (begins t h 1 latency) ≡ cellNumbers (both (talker (heldFixed t) record { health = sound; latency = latency } false stays) h)
-unfolding begins heldFixed cellNumbers talkerNumbers fixedNumbers priorityOctet noFixed leavingNumber sinceNumber healthNumber bridgeNumber codeNumber bit patch
+    → patch 10 2 (zeros 2) (begins t h 1 latency) ≡ cellNumbers (both (talker (firstJoin (heldFixed t) record { health = sound; latency = latency })) h)
+unfolding begins firstJoin heldFixed cellNumbers talkerNumbers fixedNumbers priorityOctet noFixed leavingNumber sinceNumber healthNumber bridgeNumber codeNumber bit patch
 sound-again noTalker h latency = refl
-sound-again (talker f v m l) h latency = refl
+sound-again (talker r) h latency = refl
 
 broken-again : (t : Talker) (h : Listener) (latency bridge code : ℕ)
     → set (set (begins t h 2 latency) 10 bridge) 11 code
-    ≡ cellNumbers (both (talker (heldFixed t) record { health = broken bridge code; latency = latency } false stays) h)
-unfolding begins heldFixed cellNumbers talkerNumbers fixedNumbers priorityOctet noFixed leavingNumber sinceNumber healthNumber bridgeNumber codeNumber bit patch
+    ≡ cellNumbers (both (talker (firstJoin (heldFixed t) record { health = broken bridge code; latency = latency })) h)
+unfolding begins firstJoin heldFixed cellNumbers talkerNumbers fixedNumbers priorityOctet noFixed leavingNumber sinceNumber healthNumber bridgeNumber codeNumber bit patch
 broken-again noTalker h latency bridge code = refl
-broken-again (talker f v m l) h latency bridge code = refl
+broken-again (talker r) h latency bridge code = refl
 
 -- FirstValue's numbers, and what varies in them
 firstNumbers : ℕ → List ℕ → List ℕ
@@ -144,7 +143,7 @@ varying : ℕ → List ℕ → Varying
 varying k first = record { health = healthValue (kindAt k) (firstNumbers k first); latency = getD (firstNumbers k first) 6 0 }
 
 varies : (k : ℕ) → 1 ≤ k → k ≤ 2 → (first : List ℕ) (t : Talker) (h : Listener)
-    → varied k first (cellOctets (both t h)) ≡ cellOctets (both (talker (heldFixed t) (varying k first) false stays) h)
+    → varied k first (cellOctets (both t h)) ≡ cellOctets (both (talker (firstJoin (heldFixed t) (varying k first))) h)
 unfolding cellOctets varied varying firstNumbers kindAt firstWidths fields healthValue begins
 varies zero low high first t h = absurd (omega arith)
 varies (suc zero) low high first t h =
@@ -170,12 +169,12 @@ module _ (first : List ℕ) (long : 25 ≤ length first) (octets : (i : ℕ) →
   talkerNumbersOf : List ℕ → List ℕ
   talkerNumbersOf more = fields (8 ∷ 6 ∷ 2 ∷ 2 ∷ 2 ∷ 1 ∷ 4 ∷ more) 0 first
 
-  takes : (more : List ℕ) (f : Fixed) (v : Varying) (m : Bool) (l : Leaving) (h : Listener)
-      → fixed first n (cellOctets (both (talker f v m l) h)) ≡ cellOctets (both (talker (fixedValue (talkerNumbersOf more) n) v m l) h)
-  unfolding cellOctets cellNumbers talkerNumbers fixedNumbers fixedValue talkerNumbersOf fields priorityOctet priorityOf rankOf patch
-  takes more f v m l h =
+  takes : (more : List ℕ) (f : Fixed) (v : Varying) (h : Listener)
+      → fixed first n (cellOctets (both (talker (firstJoin f v)) h)) ≡ cellOctets (both (talker (firstJoin (fixedValue (talkerNumbersOf more) n) v)) h)
+  unfolding firstJoin cellOctets cellNumbers talkerNumbers fixedNumbers fixedValue talkerNumbersOf fields priorityOctet priorityOf rankOf patch
+  takes more f v h =
       let o : getD first 20 0 / 16 * 16 ≡ beAt 1 first 20 / 32 * 32 + beAt 1 first 20 / 16 % 2 * 16 = omega (arith, beAt-one first 20) in
-      fixed-numbers (cellNumbers (both (talker f v m l) h)) (cell-size (talker f v m l) h) first n long octets ∙ rw o
+      fixed-numbers (cellNumbers (both (talker (firstJoin f v)) h)) (cell-size (talker (firstJoin f v)) h) first n long octets ∙ rw o
 
 -- Whether what is fixed is the same: as three numbers of octets, and field by field.
 
@@ -271,7 +270,7 @@ numbers-have vs fit g d v z n p r =
 has : (t : Talker) (h : Listener) → FitCell (both t h) → Has (cellOctets (both t h)) (heldFixed t)
 unfolding cellOctets cellNumbers talkerNumbers fixedNumbers priorityOctet heldFixed noFixed
 has noTalker h fit = numbers-have (cellNumbers (both noTalker h)) (fit .numbers) noFixed refl refl refl refl refl (omega arith)
-has (talker f v m l) h fit = numbers-have (cellNumbers (both (talker f v m l) h)) (fit .numbers) f refl refl refl refl refl (fit .rank)
+has (talker r) h fit = numbers-have (cellNumbers (both (talker r) h)) (fit .numbers) (r .fixed) refl refl refl refl refl (fit .rank)
 
 module _ (first : List ℕ) (octets : (i : ℕ) → getD first i 0 < 256) (n : ℕ) (more : List ℕ) where
   new : Fixed
@@ -342,10 +341,10 @@ module _ (k : ℕ) (low : 1 ≤ k) (high : k ≤ 2) (first : List ℕ) (long : 2
   joining : Fixed
   joining = fixedValue (firstNumbers k first) n
 
-  takes-fixed : (f : Fixed) (v : Varying) (m : Bool) (l : Leaving) (h : Listener)
-      → fixed first n (cellOctets (both (talker f v m l) h)) ≡ cellOctets (both (talker joining v m l) h)
+  takes-fixed : (f : Fixed) (v : Varying) (h : Listener)
+      → fixed first n (cellOctets (both (talker (firstJoin f v)) h)) ≡ cellOctets (both (talker (firstJoin joining v)) h)
   unfolding joining firstNumbers talkerNumbersOf more
-  takes-fixed f v m l h = rw (first-widths k low high) (takes first long octets n more f v m l h)
+  takes-fixed f v h = rw (first-widths k low high) (takes first long octets n more f v h)
 
   is-same : (t : Talker) (h : Listener) → FitCell (both t h) → same first n (cellOctets (both t h)) ≡ sameFixed joining (heldFixed t)
   unfolding joining firstNumbers new more
@@ -353,16 +352,16 @@ module _ (k : ℕ) (low : 1 ≤ k) (high : k ≤ 2) (first : List ℕ) (long : 2
 
   joins-to : (t : Talker) (h : Listener) → FitCell (both t h)
       → joined k first n (cellOctets (both t h)) ≡ cellOctets (both (joinTalker joining (varying k first) t) h)
-  unfolding joined joinTalker heldFixed cellNumbers talkerNumbers pick
+  unfolding joined joinTalker firstJoin sameJoin heldFixed cellNumbers talkerNumbers pick
   joins-to noTalker h fit =
       rw (talker-kind (both noTalker h) fit, varies k low high first noTalker h)
-      (takes-fixed noFixed (varying k first) false stays h)
-  joins-to (talker g w m l) h fit =
-      rw (talker-kind (both (talker g w m l) h) fit, some-kind (w .health), is-same (talker g w m l) h fit, varies k low high first (talker g w m l) h, marks g w m l h)
-      (go (sameFixed joining g))
+      (takes-fixed noFixed (varying k first) h)
+  joins-to (talker r) h fit =
+      rw (talker-kind (both (talker r) h) fit, some-kind (r .varying .health), is-same (talker r) h fit, varies k low high first (talker r) h, marks r h)
+      (go (sameFixed joining (r .fixed)))
     where
-      go : (t : Bool) → pick t (cellOctets (both (talker g (varying k first) false stays) h)) (cellOctets (both (talker g w true stays) h))
-          ≡ cellOctets (both (cond t (talker g (varying k first) false stays) (talker g w true stays)) h)
+      go : (t : Bool) → pick t (cellOctets (both (talker (firstJoin (r .fixed) (varying k first))) h)) (cellOctets (both (talker (otherJoin r)) h))
+          ≡ cellOctets (both (talker (cond t (sameJoin (varying k first) r) (otherJoin r))) h)
       go true = refl
       go false = refl
 

@@ -7,8 +7,8 @@ use native.Mathlib.Omega.{arith}
 use lib.ListN.{length, take, drop}
 use Rattle.octets.specs.Fields.{Fit}
 use Rattle.octets.proofs.Fields.{fit-append, fit-split, fit-zeros}
-use Rattle.model.specs.State.{Settings, Leaving, stays, since, Fixed, Health, sound, broken, Varying, Talker, noTalker, talker, Ready, Listener, noListener, listener, Cell}
-use Rattle.model.specs.Registrations.{Kind, Act, leaveAll, leave, talk, listen, begin, talksAs, hearsAs, quitTalker, quitListener, quit, sameFixed, joinTalker, does}
+use Rattle.model.specs.State.{Settings, Leaving, stays, since, Fixed, Health, sound, broken, Varying, Registration, Talker, noTalker, talker, Ready, Listener, noListener, listener, Cell}
+use Rattle.model.specs.Registrations.{Kind, Act, leaveAll, leave, talk, listen, begin, talksAs, hearsAs, withLeaving, quitTalker, quitListener, quit, sameFixed, firstJoin, sameJoin, otherJoin, joinTalker, does}
 use Rattle.model.specs.WrittenFrames.{fixedNumbers}
 use Rattle.model.specs.Settling.{expired, expireTalker, expireListener, expireCell}
 use Rattle.model.specs.Table.{cellWidths, leavingNumber, sinceNumber, healthNumber, bridgeNumber, codeNumber, talkerNumbers, listenerNumbers, cellNumbers}
@@ -30,7 +30,7 @@ FitListener h = Fit (drop 12 cellWidths) (listenerNumbers h)
 talker-size : (t : Talker) → length (talkerNumbers t) ≡ length (take 12 cellWidths)
 unfolding talkerNumbers fixedNumbers cellWidths
 talker-size noTalker = refl
-talker-size (talker f v m l) = refl
+talker-size (talker r) = refl
 
 halves : (c : Cell) → FitCell c → FitTalker (c .talks) × FitListener (c .hears)
 unfolding cellNumbers cellWidths
@@ -78,22 +78,24 @@ stays-fits = omega arith
 
 -- A Talker, with its time, and with other marks and another time; one that joins.
 
-module _ (f : Fixed) (v : Varying) (m : Bool) (l : Leaving) (fit : FitTalker (talker f v m l)) where
-  talker-since : sinceNumber l < 2 ^ 32
+module _ (r : Registration) (fit : FitTalker (talker r)) where
+  talker-since : sinceNumber (r .leaving) < 2 ^ 32
   unfolding Fit talkerNumbers cellWidths
   talker-since = fit .numbers .1 .1 .1 .0
 
-  talker-again : (n : Bool) (k : Leaving) → sinceNumber k < 2 ^ 32 → FitTalker (talker f v n k)
+  talker-again : (n : Bool) (k : Leaving) → sinceNumber k < 2 ^ 32
+      → FitTalker (talker record { fixed = r .fixed; varying = r .varying; changed = n; leaving = k })
   unfolding Fit talkerNumbers cellWidths
   talker-again n k h = record {
     numbers = fit .numbers .0 also omega (arith, bit-few n) also leaving-few k also h also fit .numbers .1 .1 .1 .1;
     rank = fit .rank;
   }
 
-  talker-fixed : Fit fixedWidths (fixedNumbers f)
+  talker-fixed : Fit fixedWidths (fixedNumbers (r .fixed))
   unfolding Fit talkerNumbers cellWidths fixedWidths fixedNumbers
   talker-fixed =
-      fit-split fixedWidths (fixedNumbers f) (4 ∷ 8 ∷ 1 ∷ []) (v .latency ∷ bridgeNumber (v .health) ∷ codeNumber (v .health) ∷ []) refl
+      let v = r .varying in
+      fit-split fixedWidths (fixedNumbers (r .fixed)) (4 ∷ 8 ∷ 1 ∷ []) (v .latency ∷ bridgeNumber (v .health) ∷ codeNumber (v .health) ∷ []) refl
       (fit .numbers .1 .1 .1 .1) .0
 
 health-fit : (h : Health) → ValidHealth h → (healthNumber h < 256) × (bridgeNumber h < 256 ^ 8) × (codeNumber h < 256)
@@ -101,8 +103,8 @@ unfolding healthNumber bridgeNumber codeNumber
 health-fit sound v = (omega arith, omega arith, omega arith)
 health-fit (broken b c) v = (omega arith, v .0, v .1)
 
-joined-fits : (f : Fixed) (v : Varying) → Fit fixedWidths (fixedNumbers f) → f .rank < 2 → ValidVarying v → FitTalker (talker f v false stays)
-unfolding Fit talkerNumbers cellWidths fixedWidths
+joined-fits : (f : Fixed) (v : Varying) → Fit fixedWidths (fixedNumbers f) → f .rank < 2 → ValidVarying v → FitTalker (talker (firstJoin f v))
+unfolding firstJoin Fit talkerNumbers cellWidths fixedWidths
 joined-fits f v w r q =
     let (k, b, c) = health-fit (v .health) (q .health) in
     record {
@@ -116,13 +118,13 @@ joined-fits f v w r q =
     }
 
 join-fits : (f : Fixed) (v : Varying) → ValidFixed f → ValidVarying v → (t : Talker) → FitTalker t → FitTalker (joinTalker f v t)
-unfolding joinTalker
+unfolding joinTalker firstJoin sameJoin otherJoin
 join-fits f v p q noTalker fit = joined-fits f v (fixed-fit f p) (p .rank) q
-join-fits f v p q (talker g w m l) fit = go (sameFixed f g)
+join-fits f v p q (talker r) fit = go (sameFixed f (r .fixed))
   where
-    go : (t : Bool) → FitTalker (cond t (talker g v false stays) (talker g w true stays))
-    go true = joined-fits g v (talker-fixed g w m l fit) (fit .rank) q
-    go false = talker-again g w m l fit true stays stays-fits
+    go : (t : Bool) → FitTalker (talker (cond t (sameJoin v r) (otherJoin r)))
+    go true = joined-fits (r .fixed) v (talker-fixed r fit) (fit .rank) q
+    go false = talker-again r fit true stays stays-fits
 
 -- A Listener that is there.
 
@@ -139,11 +141,10 @@ module _ (r : Ready) where
 
 module _ (clock : ℕ) (small : clock < 2 ^ 32) where
   quit-talker-fits : (k : Kind) (t : Talker) → FitTalker t → FitTalker (quitTalker clock k t)
-  unfolding quitTalker
+  unfolding quitTalker withLeaving
   quit-talker-fits k noTalker fit = fit
-  quit-talker-fits k (talker f v m l) fit =
-      let when = talker-since f v m l fit in
-      talker-again f v m l fit m (cond (talksAs k (v .health)) (begin clock l) l) (maybe-begun-fits clock small (talksAs k (v .health)) l when)
+  quit-talker-fits k (talker r) fit =
+      talker-again r fit (r .changed) _ (maybe-begun-fits clock small (talksAs k (r .varying .health)) (r .leaving) (talker-since r fit))
 
   quit-listener-fits : (k : Kind) (h : Listener) → FitListener h → FitListener (quitListener clock k h)
   unfolding quitListener
@@ -174,9 +175,9 @@ module _ (st : Settings) (time : ℕ) where
   expire-talker-fits : (t : Talker) → FitTalker t → FitTalker (expireTalker st time t)
   unfolding expireTalker
   expire-talker-fits noTalker fit = fit
-  expire-talker-fits (talker f v m l) fit = go (expired st time l)
+  expire-talker-fits (talker r) fit = go (expired st time (r .leaving))
     where
-      go : (t : Bool) → FitTalker (cond t noTalker (talker f v m l))
+      go : (t : Bool) → FitTalker (cond t noTalker (talker r))
       go true = no-talker
       go false = fit
 

@@ -12,8 +12,8 @@ use Rattle.octets.specs.Parts.{part, patch, zeros}
 use Rattle.octets.specs.Pick.{pick}
 use Rattle.octets.specs.Fields.{packed, Fit, width}
 use Rattle.octets.proofs.Fields.{length-fit, get-field, get-octet, put-field, clear-run}
-use Rattle.model.specs.State.{Settings, Leaving, stays, since, Fixed, Health, sound, broken, Varying, Talker, noTalker, talker, Ready, Listener, noListener, listener, Cell}
-use Rattle.model.specs.Registrations.{Kind, listeners, begin, talksAs, hearsAs, quitTalker, quitListener, quit}
+use Rattle.model.specs.State.{Settings, Leaving, stays, since, Health, sound, broken, Registration, Talker, noTalker, talker, Ready, Listener, noListener, listener, Cell}
+use Rattle.model.specs.Registrations.{Kind, listeners, begin, talksAs, hearsAs, withLeaving, quitTalker, quitListener, quit}
 use Rattle.model.specs.WrittenFrames.{fixedNumbers}
 use Rattle.model.specs.Settling.{expired, expireTalker, expireListener, expireCell}
 use Rattle.model.specs.Table.{cellWidths, leavingNumber, sinceNumber, healthNumber, talkerNumbers, listenerNumbers, cellNumbers, cellOctets, toCell}
@@ -83,12 +83,12 @@ module _ (ws vs : List ℕ) (fit : Fit ws vs) (i at : ℕ) (place : width (take 
 -- Lv and LeaveAll.
 
 -- the numbers after a leaving is begun: those of a Talker, and those of a Listener
-talker-numbers : (clock : ℕ) (f : Fixed) (v : Varying) (m : Bool) (l : Leaving) (h : Listener)
-    → let vs = talkerNumbers (talker f v m l) ++ listenerNumbers h in
-    pick (eqb (getD vs 2 0) 0) (set (set vs 2 1) 3 clock) vs ≡ talkerNumbers (talker f v m (begin clock l)) ++ listenerNumbers h
-unfolding talkerNumbers leavingNumber sinceNumber begin pick
-talker-numbers clock f v m stays h = refl
-talker-numbers clock f v m (since t) h = refl
+talker-numbers : (clock : ℕ) (r : Registration) (l : Leaving) (h : Listener)
+    → let vs = talkerNumbers (talker (withLeaving l r)) ++ listenerNumbers h in
+    pick (eqb (getD vs 2 0) 0) (set (set vs 2 1) 3 clock) vs ≡ talkerNumbers (talker (withLeaving (begin clock l) r)) ++ listenerNumbers h
+unfolding withLeaving talkerNumbers leavingNumber sinceNumber begin pick
+talker-numbers clock r stays h = refl
+talker-numbers clock r (since t) h = refl
 
 listener-numbers : (clock : ℕ) (t : Talker) (r : Ready) (l : Leaving)
     → let vs = talkerNumbers t ++ listenerNumbers (listener r l) in
@@ -96,8 +96,8 @@ listener-numbers : (clock : ℕ) (t : Talker) (r : Ready) (l : Leaving)
 unfolding talkerNumbers listenerNumbers leavingNumber sinceNumber begin pick fixedNumbers
 listener-numbers clock noTalker r stays = refl
 listener-numbers clock noTalker r (since t) = refl
-listener-numbers clock (talker f v m k) r stays = refl
-listener-numbers clock (talker f v m k) r (since t) = refl
+listener-numbers clock (talker k) r stays = refl
+listener-numbers clock (talker k) r (since t) = refl
 
 module _ (clock : ℕ) (c : Cell) (fit : FitCell c) where
   talker-begun : begun 2 clock (cellOctets c) ≡ packed cellWidths (pick (eqb (getD (cellNumbers c) 2 0) 0) (set (set (cellNumbers c) 2 1) 3 clock) (cellNumbers c))
@@ -110,9 +110,9 @@ module _ (clock : ℕ) (c : Cell) (fit : FitCell c) where
 
 -- what is held of one kind does not stop the other
 talker-stays : (clock : ℕ) (t : Talker) → quitTalker clock listeners t ≡ t
-unfolding quitTalker talksAs
+unfolding quitTalker withLeaving talksAs
 talker-stays clock noTalker = refl
-talker-stays clock (talker f v m l) = refl
+talker-stays clock (talker r) = refl
 
 listener-stays : (clock : ℕ) (k : Kind) → hearsAs k ≡ false → (h : Listener) → quitListener clock k h ≡ h
 unfolding quitListener
@@ -131,12 +131,12 @@ listener-kind c fit = get-octet cellWidths (cellNumbers c) (fit .numbers) 12 ref
 no-listener : (t : Talker) → getD (talkerNumbers t ++ listenerNumbers noListener) 12 0 ≡ 0
 unfolding talkerNumbers listenerNumbers fixedNumbers
 no-listener noTalker = refl
-no-listener (talker f v m l) = refl
+no-listener (talker r) = refl
 
 some-listener : (t : Talker) (r : Ready) (l : Leaving) → 1 ≤ getD (talkerNumbers t ++ listenerNumbers (listener r l)) 12 0
 unfolding talkerNumbers listenerNumbers fixedNumbers
 some-listener noTalker r l = ready-number r .0
-some-listener (talker f v m k) r l = ready-number r .0
+some-listener (talker k) r l = ready-number r .0
 
 -- a cell of a Talker and a Listener
 abbrev pub both : Talker → Listener → Cell
@@ -176,18 +176,18 @@ module _ (clock : ℕ) where
   module _ (k : ℕ) (low : 1 ≤ k) (high : k ≤ 2) where
     talks-begins : (t : Talker) (h : Listener) → FitCell (both t h) → getD (cellOctets (both t h)) 0 0 ≡ k
         → begun 2 clock (cellOctets (both t h)) ≡ cellOctets (quit clock (kindAt k) (both t h))
-    unfolding cellOctets cellNumbers quit quitTalker talkerNumbers
+    unfolding cellOctets cellNumbers quit quitTalker withLeaving talkerNumbers
     talks-begins noTalker h fit p = absurd (omega (arith, talker-kind (both noTalker h) fit))
-    talks-begins (talker f v m l) h fit p =
-        rw (listener-stays clock (kindAt k) (no-hearing k low high) h, as-kind k low high (v .health) .0 (sym p ∙ talker-kind (both (talker f v m l) h) fit))
-        (talker-begun clock (both (talker f v m l) h) fit ∙ ap (packed cellWidths) (talker-numbers clock f v m l h))
+    talks-begins (talker r) h fit p =
+        rw (listener-stays clock (kindAt k) (no-hearing k low high) h, as-kind k low high (r .varying .health) .0 (sym p ∙ talker-kind (both (talker r) h) fit))
+        (talker-begun clock (both (talker r) h) fit ∙ ap (packed cellWidths) (talker-numbers clock r (r .leaving) h))
 
     talks-other : (t : Talker) (h : Listener) → FitCell (both t h) → (getD (cellOctets (both t h)) 0 0 ≡ k → ⊥)
         → cellOctets (both t h) ≡ cellOctets (quit clock (kindAt k) (both t h))
-    unfolding cellOctets cellNumbers quit quitTalker talkerNumbers
+    unfolding cellOctets cellNumbers quit quitTalker withLeaving talkerNumbers
     talks-other noTalker h fit p = rw (listener-stays clock (kindAt k) (no-hearing k low high) h)
-    talks-other (talker f v m l) h fit p =
-        rw (listener-stays clock (kindAt k) (no-hearing k low high) h, as-kind k low high (v .health) .1 (λ e. p (talker-kind (both (talker f v m l) h) fit ∙ sym e)))
+    talks-other (talker r) h fit p =
+        rw (listener-stays clock (kindAt k) (no-hearing k low high) h, as-kind k low high (r .varying .health) .1 (λ e. p (talker-kind (both (talker r) h) fit ∙ sym e)))
 
 -- of octets that are laid out as a cell, at the octets that the code looks at
 module _ (s : List ℕ) (l : LaidCell s) (clock : ℕ) where
@@ -215,24 +215,29 @@ module _ (st : Settings) (now : ℕ) where
       → let vs = talkerNumbers t ++ listenerNumbers h in
       pick (eqb (getD vs 2 0) 0) vs (pick (leb (getD vs 3 0 + st .leaveTime) now) (patch 0 12 (zeros 12) vs) vs)
       ≡ talkerNumbers (expireTalker st now t) ++ listenerNumbers h
-  unfolding talkerNumbers leavingNumber sinceNumber fixedNumbers expireTalker expired pick patch
+  unfolding talkerNumbers leavingNumber sinceNumber fixedNumbers expireTalker expired withLeaving pick patch
   talker-expired noTalker h = refl
-  talker-expired (talker f v m stays) h = refl
-  talker-expired (talker f v m (since t)) h = go (leb (t + st .leaveTime) now)
+  talker-expired (talker r) h = by-leaving (r .leaving)
     where
-      vs : List ℕ
-      vs = talkerNumbers (talker f v m (since t)) ++ listenerNumbers h
+      vs : Leaving → List ℕ
+      vs l = talkerNumbers (talker (withLeaving l r)) ++ listenerNumbers h
 
-      go : (u : Bool) → pick u (patch 0 12 (zeros 12) vs) vs ≡ talkerNumbers (cond u noTalker (talker f v m (since t))) ++ listenerNumbers h
-      go true = refl
-      go false = refl
+      over : (l : Leaving) (u : Bool) → pick u (patch 0 12 (zeros 12) (vs l)) (vs l) ≡ talkerNumbers (cond u noTalker (talker (withLeaving l r))) ++ listenerNumbers h
+      over l true = refl
+      over l false = refl
+
+      by-leaving : (l : Leaving)
+          → pick (eqb (getD (vs l) 2 0) 0) (vs l) (pick (leb (getD (vs l) 3 0 + st .leaveTime) now) (patch 0 12 (zeros 12) (vs l)) (vs l))
+          ≡ talkerNumbers (expireTalker st now (talker (withLeaving l r))) ++ listenerNumbers h
+      by-leaving stays = refl
+      by-leaving (since t) = over (since t) (leb (t + st .leaveTime) now)
 
   listener-over : (t : Talker) (r : Ready) (x : ℕ) (u : Bool)
       → let vs = talkerNumbers t ++ listenerNumbers (listener r (since x)) in
       pick u (patch 12 3 (zeros 3) vs) vs ≡ talkerNumbers t ++ listenerNumbers (cond u noListener (listener r (since x)))
   unfolding talkerNumbers listenerNumbers fixedNumbers pick patch
   listener-over noTalker r x true = refl
-  listener-over (talker f v m l) r x true = refl
+  listener-over (talker k) r x true = refl
   listener-over t r x false = refl
 
   listener-expired : (t : Talker) (h : Listener)
@@ -243,9 +248,9 @@ module _ (st : Settings) (now : ℕ) where
   listener-expired noTalker noListener = refl
   listener-expired noTalker (listener r stays) = refl
   listener-expired noTalker (listener r (since x)) = listener-over noTalker r x (leb (x + st .leaveTime) now)
-  listener-expired (talker f v m l) noListener = refl
-  listener-expired (talker f v m l) (listener r stays) = refl
-  listener-expired (talker f v m l) (listener r (since x)) = listener-over (talker f v m l) r x (leb (x + st .leaveTime) now)
+  listener-expired (talker k) noListener = refl
+  listener-expired (talker k) (listener r stays) = refl
+  listener-expired (talker k) (listener r (since x)) = listener-over (talker k) r x (leb (x + st .leaveTime) now)
 
   module _ (t : Talker) (h : Listener) (fit : FitCell (both t h)) where
     expires-talker : lapsed 0 33 2 (st .leaveTime) now (cellOctets (both t h)) ≡ cellOctets (both (expireTalker st now t) h)

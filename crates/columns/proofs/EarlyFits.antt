@@ -1,6 +1,6 @@
 -- What stage 1 writes fits its fields: a stream whose numbers fit keeps that, place by place and as a whole.
 use mathlib.Core.Path.{_≡_, refl, sym, subst}
-use mathlib.Core.List.{List, [], _∷_, _++_}
+use mathlib.Core.List.{[], _∷_, _++_}
 use mathlib.Core.Bool.{Bool, true, false, cond}
 use Prim.Native.Nat.{ℕ, _+_, _-_, _/_, _^_, _<_}
 use native.Mathlib.Omega.{arith}
@@ -9,79 +9,40 @@ use lib.Dec.{ltb}
 use borrow.Author.Tests.{ltb-false}
 use Rattle.octets.specs.Fields.{Fit}
 use Rattle.octets.proofs.Fields.{fit-at}
-use Rattle.model.specs.Lists.{All}
-use Rattle.model.specs.State.{Settings, Leaving, Fixed, Health, sound, broken, Varying, Talker, noTalker, talker, Cell, Result, Stream, Column, none, advertise, failed, Entry, noEntry, filters, forwards, noFixed, cellAt, resultAt, empty, unsettled}
+use Rattle.model.specs.State.{Settings, Fixed, Registration, Talker, noTalker, talker, Cell, Result, Stream, Column, none, advertise, failed, Entry, noEntry, filters, forwards, noFixed, cellAt, resultAt, empty, unsettled}
 use Rattle.model.specs.WrittenFrames.{priorityOctet, fixedNumbers}
-use Rattle.model.specs.Settling.{Source, sourceOf, fixedOf, brokenColumn, first, stepsFrom, steps, ageOf, capped, latencyOut, entryOf, ageKept, latencyKept, registered}
-use Rattle.model.specs.Table.{cellWidths, cellNumbers, talkerNumbers, listenerNumbers, bridgeNumber, codeNumber, resultWidths, resultNumbers, columnNumber, columnBridge, columnCode, entryNumber, declaredNumber, nameWidths}
+use Rattle.model.specs.Settling.{Source, sourceOf, fixedOf, healthOf, ageOf, capped, latencyOut, entryOf, ageKept, latencyKept, registered}
+use Rattle.model.specs.Table.{cellWidths, cellNumbers, talkerNumbers, listenerNumbers, resultWidths, resultNumbers, columnNumber, columnBridge, columnCode, entryNumber, declaredNumber, nameWidths}
 use Rattle.model.specs.Laid.{FitCell, FitResult, FitStream}
 use Rattle.model.proofs.Cells.{fixedWidths}
 use Rattle.model.proofs.Parts.{_also_}
-use Rattle.model.proofs.Fits.{id-fits}
+use Rattle.model.proofs.Fits.{id-fits, fit-health}
+use Rattle.model.proofs.Valid.{ValidHealth}
+use Rattle.model.proofs.AdvanceKeepsForm.{ValidFailure, steps-valid}
 use Rattle.table.proofs.Lens.{all-at, all-getD}
 use Rattle.columns.specs.Stages.{shownAs, earlyColumn, earlyAt}
 use Rattle.columns.specs.Answers.{talkerPlace, sourceIn}
 use Rattle.columns.proofs.Sources.{source-at, place-bound}
 
--- Columns: a Bridge ID and a code that fit.
+-- A Talker's numbers, each within its field.
 
-abbrev FitColumn : Column → Type 0
-FitColumn none = Unit {0}
-FitColumn advertise = Unit {0}
-FitColumn (failed b c) = (b < 2 ^ 64) × (c < 256)
-
-first-fits : (l : List (Bool × Column)) (c : Column) → All (λ s. FitColumn (s .1)) l → FitColumn c → FitColumn (first l c)
-unfolding first
-first-fits [] c a v = v
-first-fits (s ∷ l) c a v = go (s .0) (first-fits l c (a .1) v)
-  where
-    go : (t : Bool) → FitColumn (first l c) → FitColumn (cond t (s .1) (first l c))
-    go true ih = a .0
-    go false ih = ih
-
-broken-fits : (h : Health) → bridgeNumber h < 2 ^ 64 → codeNumber h < 256 → FitColumn (brokenColumn h)
-unfolding brokenColumn bridgeNumber codeNumber
-broken-fits sound p q = tt
-broken-fits (broken b c) p q = (p, q)
-
--- a Talker's numbers, each within its field
-module _ (c : Cell) (f : Fixed) (v : Varying) (m : Bool) (l : Leaving) (e : c .talks ≡ talker f v m l) (w : FitCell c) where
-  number-fits : (i : ℕ) → getD (talkerNumbers (talker f v m l) ++ listenerNumbers (c .hears)) i 0 < 256 ^ getD cellWidths i 0
+module _ (c : Cell) (r : Registration) (e : c .talks ≡ talker r) (w : FitCell c) where
+  number-fits : (i : ℕ) → getD (talkerNumbers (talker r) ++ listenerNumbers (c .hears)) i 0 < 256 ^ getD cellWidths i 0
   unfolding cellNumbers
   number-fits i = rw e at (fit-at cellWidths (cellNumbers c) (w .numbers) i)
 
-  bridge-fits : bridgeNumber (v .health) < 2 ^ 64
+  failure-fits : ValidHealth (r .varying .health)
   unfolding talkerNumbers fixedNumbers cellWidths
-  bridge-fits = number-fits 10
+  failure-fits = fit-health (r .varying .health) (number-fits 10) (number-fits 11)
 
-  code-fits : codeNumber (v .health) < 256
-  unfolding talkerNumbers fixedNumbers cellWidths
-  code-fits = number-fits 11
-
-  fixed-fits : Fit fixedWidths (fixedNumbers f)
+  fixed-fits : Fit fixedWidths (fixedNumbers (r .fixed))
   unfolding Fit fixedWidths talkerNumbers fixedNumbers cellWidths
   fixed-fits = (number-fits 4, (number-fits 5, (number-fits 6, (number-fits 7, (number-fits 8, tt)))))
 
-  rank-fits : f .rank < 2
+  rank-fits : r .fixed .rank < 2
   rank-fits = rw e at (w .rank)
 
-module _ (st : Settings) (named : st .bridgeId < 2 ^ 64) (p t : ℕ) (here c : Cell) (w : FitCell c) where
-  steps-fit : (k : Talker) → c .talks ≡ k → All (λ s. FitColumn (s .1)) (stepsFrom st p here (sourceIn t c))
-  unfolding stepsFrom sourceIn
-  steps-fit noTalker e = rw e (tt, tt)
-  steps-fit (talker f v m l) e =
-      rw e (
-        tt,
-        (
-          tt,
-          (
-            broken-fits (v .health) (bridge-fits c f v m l e w) (code-fits c f v m l e w),
-            (omega arith, (omega arith, (omega arith, (omega arith, tt)))),
-          ),
-        ),
-      )
-
--- Fixed values.
+-- Fixed values, and the failure that is passed on.
 
 pub record FitFixed (f : Fixed) : Type 0 where
   pub numbers : Fit fixedWidths (fixedNumbers f)
@@ -90,7 +51,12 @@ pub record FitFixed (f : Fixed) : Type 0 where
 source-fixed : (t : ℕ) (c : Cell) → FitCell c → (k : Talker) → c .talks ≡ k → FitFixed (fixedOf (sourceIn t c))
 unfolding sourceIn fixedOf noFixed
 source-fixed t c w noTalker e = rw e (record { numbers = unfold Fit fixedWidths fixedNumbers priorityOctet in omega arith; rank = omega arith })
-source-fixed t c w (talker f v m l) e = rw e (record { numbers = fixed-fits c f v m l e w; rank = rank-fits c f v m l e w })
+source-fixed t c w (talker r) e = rw e (record { numbers = fixed-fits c r e w; rank = rank-fits c r e w })
+
+source-health : (t : ℕ) (c : Cell) → FitCell c → (k : Talker) → c .talks ≡ k → ValidHealth (healthOf (sourceIn t c))
+unfolding sourceIn healthOf
+source-health t c w noTalker e = rw e tt
+source-health t c w (talker r) e = rw e (failure-fits c r e w)
 
 -- Numbers of a result.
 
@@ -129,7 +95,7 @@ entry-few noEntry = omega arith
 entry-few filters = omega arith
 entry-few forwards = omega arith
 
-column-numbers : (c : Column) → FitColumn c → (columnNumber c < 256) × (columnBridge c < 2 ^ 64) × (columnCode c < 256)
+column-numbers : (c : Column) → ValidFailure c → (columnNumber c < 256) × (columnBridge c < 2 ^ 64) × (columnCode c < 256)
 unfolding columnNumber columnBridge columnCode
 column-numbers none w = (omega arith, omega arith, omega arith)
 column-numbers advertise w = (omega arith, omega arith, omega arith)
@@ -156,20 +122,17 @@ module _ (x : Stream) (w : FitStream x) where
   pub settled-values : FitFixed (fixedOf (sourceOf x))
   settled-values = subst (λ (s : Source). FitFixed (fixedOf s)) (sym (source-at x)) (source-fixed t (cellAt x t) talker-cell (cellAt x t .talks) refl)
 
+  settled-health : ValidHealth (healthOf (sourceOf x))
+  settled-health = subst (λ (s : Source). ValidHealth (healthOf s)) (sym (source-at x)) (source-health t (cellAt x t) talker-cell (cellAt x t .talks) refl)
+
   pub settled-name : Fit nameWidths (x .id ∷ fixedNumbers (fixedOf (sourceOf x)))
   unfolding Fit nameWidths fixedWidths
   settled-name = id-fits x w also settled-values .numbers
 
 module _ (st : Settings) (named : st .bridgeId < 2 ^ 64) (now : ℕ) (soon : now < 2 ^ 32) (x : Stream) (w : FitStream x) where
-  early-column-fits : (p : ℕ) → FitColumn (earlyColumn st p x)
-  unfolding earlyColumn steps
-  early-column-fits p =
-      first-fits _ advertise (
-        tt,
-        subst (λ (s : Source). All (λ (r : Bool × Column). FitColumn (r .1)) (stepsFrom st p (cellAt x p) s)) (sym (source-at x))
-            (steps-fit st named p (t x w) (cellAt x p) (cellAt x (t x w)) (talker-cell x w) (cellAt x (t x w) .talks) refl),
-      )
-      tt
+  early-column-fits : (p : ℕ) → ValidFailure (earlyColumn st p x)
+  unfolding earlyColumn
+  early-column-fits p = steps-valid st named p x advertise (settled-health x w) tt
 
   pub early-result-fits : (p : ℕ) → FitResult (earlyAt st now x p)
   unfolding Fit resultWidths resultNumbers earlyAt shownAs latencyOut declaredNumber resultAt

@@ -31,12 +31,12 @@ use Rattle.columns.proofs.Patches.{patch-within}
 same-latency : (t : ℕ) (k : Talker) (c : Cell) → c .talks ≡ k → latencyOf (sourceIn 0 c) ≡ latencyOf (sourceIn t c)
 unfolding latencyOf sourceIn
 same-latency t noTalker c e = rw e
-same-latency t (talker f v m l) c e = rw e
+same-latency t (talker r) c e = rw e
 
 same-fixed : (t : ℕ) (k : Talker) (c : Cell) → c .talks ≡ k → fixedOf (sourceIn 0 c) ≡ fixedOf (sourceIn t c)
 unfolding fixedOf sourceIn
 same-fixed t noTalker c e = rw e
-same-fixed t (talker f v m l) c e = rw e
+same-fixed t (talker r) c e = rw e
 
 -- latency out of the port at place p, by the cell of the Talker
 latency-by : (st : Settings) (p t : ℕ) (x : Stream) → t ≡ talkerPlace (sourceOf x) → latencyBy st (portAt st p) (cellAt x t) ≡ latencyOut st p x

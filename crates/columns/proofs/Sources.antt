@@ -1,7 +1,6 @@
 -- The Talker port: the lowest place with a Talker, found by the cells' first octets.
 use mathlib.Core.Path.{_≡_, refl, sym, ap, _∙_}
 use mathlib.Core.List.{List, [], _∷_}
-use mathlib.Core.Bool.{Bool}
 use Prim.Native.Nat.{ℕ, zero, suc, _+_, _*_, _-_, _≤_, _<_}
 use native.Mathlib.Nat.{add-zero}
 use native.Mathlib.Omega.{arith}
@@ -9,8 +8,8 @@ use lib.ListN.{length, getD, drop}
 use lib.Seq.{drop-cons, drop-length}
 use Rattle.octets.specs.Parts.{part}
 use Rattle.octets.proofs.Frame.{getD-part}
-use Rattle.model.specs.State.{Leaving, Fixed, Varying, Talker, noTalker, talker, Cell, Stream, empty, cellAt}
-use Rattle.model.specs.Settling.{Source, nowhere, from, source, sourceOf}
+use Rattle.model.specs.State.{Registration, Talker, noTalker, talker, Cell, Stream, empty, cellAt}
+use Rattle.model.specs.Settling.{Origin, Source, nowhere, from, source, sourceOf}
 use Rattle.model.specs.Table.{toCell, toStream}
 use Rattle.columns.specs.Answers.{sourcePlace, talkerPlace, sourceIn}
 use Rattle.columns.specs.declared.SourceRead.the-variants.{Nowhere, Port}
@@ -45,9 +44,10 @@ module _ (s : List ℕ) (l : length s ≡ 493) where
 -- What is registered at the Talker port.
 
 -- one cell more: its own Talker, or what the next ones have
-source-talker : (p : ℕ) (c : Cell) (cs : List Cell) (f : Fixed) (v : Varying) (m : Bool) (l : Leaving) → c .talks ≡ talker f v m l → source p (c ∷ cs) ≡ from p f v m
+source-talker : (p : ℕ) (c : Cell) (cs : List Cell) (r : Registration) → c .talks ≡ talker r
+    → source p (c ∷ cs) ≡ from record { port = p; registration = r }
 unfolding source
-source-talker p c cs f v m l e = rw e
+source-talker p c cs r e = rw e
 
 source-next : (p : ℕ) (c : Cell) (cs : List Cell) → c .talks ≡ noTalker → source p (c ∷ cs) ≡ source (suc p) cs
 unfolding source
@@ -63,43 +63,43 @@ nowhere-in p (c ∷ cs) e i t = go (c .talks) refl (nowhere-in (suc p) cs) i
         → (i : ℕ) → sourceIn t (getD (c ∷ cs) i empty) ≡ nowhere
     go noTalker q ih zero = rw q
     go noTalker q ih (suc i) = ih (sym (source-next p c cs q) ∙ e) i t
-    go (talker f v m l) q ih i =
-        let b : from p f v m ≡ nowhere = sym (source-talker p c cs f v m l q) ∙ e in
+    go (talker r) q ih i =
+        let b : from record { port = p; registration = r } ≡ nowhere = sym (source-talker p c cs r q) ∙ e in
         let z : _≡_ {A = ℕ} 0 1 = cc in
         absurd (omega arith)
 
 -- the place at which a source stands, among those from p on
-record Stands (p : ℕ) (cs : List Cell) (t : ℕ) (f : Fixed) (v : Varying) (m : Bool) : Type 0 where
-  after : p ≤ t
-  within : t < p + length cs
-  is : sourceIn t (getD cs (t - p) empty) ≡ from t f v m
+record Stands (p : ℕ) (cs : List Cell) (o : Origin) : Type 0 where
+  after : p ≤ o .port
+  within : o .port < p + length cs
+  is : sourceIn (o .port) (getD cs (o .port - p) empty) ≡ from o
 
-stands : (p : ℕ) (cs : List Cell) (t : ℕ) (f : Fixed) (v : Varying) (m : Bool) → source p cs ≡ from t f v m → Stands p cs t f v m
+stands : (p : ℕ) (cs : List Cell) (o : Origin) → source p cs ≡ from o → Stands p cs o
 unfolding sourceIn
-stands p [] t f v m e =
-    let b : nowhere ≡ from t f v m = unfold source in e in
+stands p [] o e =
+    let b : nowhere ≡ from o = unfold source in e in
     let z : _≡_ {A = ℕ} 0 1 = cc in
     absurd (omega arith)
-stands p (c ∷ cs) t f v m e = go (c .talks) refl (stands (suc p) cs t f v m)
+stands p (c ∷ cs) o e = go (c .talks) refl (stands (suc p) cs o)
   where
-    go : (k : Talker) → c .talks ≡ k → (source (suc p) cs ≡ from t f v m → Stands (suc p) cs t f v m) → Stands p (c ∷ cs) t f v m
+    go : (k : Talker) → c .talks ≡ k → (source (suc p) cs ≡ from o → Stands (suc p) cs o) → Stands p (c ∷ cs) o
     go noTalker q ih =
         let w = ih (sym (source-next p c cs q) ∙ e) in
-        let n : t - p ≡ suc (t - suc p) = omega (arith, w .after) in
+        let n : o .port - p ≡ suc (o .port - suc p) = omega (arith, w .after) in
         record { after = omega (arith, w .after); within = omega (arith, w .within); is = rw n (w .is) }
-    go (talker g w n l) q ih =
-        let b : from p g w n ≡ from t f v m = sym (source-talker p c cs g w n l q) ∙ e in
-        let z : p ≡ t = cc in
-        let y : t - p ≡ 0 = omega arith in
+    go (talker r) q ih =
+        let b : from record { port = p; registration = r } ≡ from o = sym (source-talker p c cs r q) ∙ e in
+        let z : p ≡ o .port = cc in
+        let y : o .port - p ≡ 0 = omega arith in
         record { after = omega arith; within = omega arith; is = rw y (rw q (rw z at b)) }
 
 module _ (x : Stream) where
   by-source : (r : Source) → sourceOf x ≡ r → sourceOf x ≡ sourceIn (talkerPlace r) (cellAt x (talkerPlace r))
   unfolding sourceOf cellAt talkerPlace
   by-source nowhere e = e ∙ sym (nowhere-in 0 (x .cells) e 0 0)
-  by-source (from t f v m) e =
-      let z : t - 0 ≡ t = omega arith in
-      e ∙ sym (rw z at (stands 0 (x .cells) t f v m e .is))
+  by-source (from o) e =
+      let z : o .port - 0 ≡ o .port = omega arith in
+      e ∙ sym (rw z at (stands 0 (x .cells) o e .is))
 
   -- the source of a stream is what its Talker port has registered; without one, what place 0 has
   pub source-at : sourceOf x ≡ sourceIn (talkerPlace (sourceOf x)) (cellAt x (talkerPlace (sourceOf x)))
@@ -111,14 +111,14 @@ module _ (x : Stream) where
     where
       go : (r : Source) → source 0 (x .cells) ≡ r → talkerPlace r < 8
       go nowhere e = omega arith
-      go (from t f v m) e = omega (arith, stands 0 (x .cells) t f v m e .within)
+      go (from o) e = omega (arith, stands 0 (x .cells) o e .within)
 
 pub place-port : (r : Source) (t : ℕ) → sourcePlace r ≡ Port t → t ≡ talkerPlace r
 unfolding sourcePlace talkerPlace
 place-port nowhere t e = let z : _≡_ {A = ℕ} 0 1 = cc in absurd (omega arith)
-place-port (from u f v m) t e = cc
+place-port (from o) t e = cc
 
 pub place-nowhere : (r : Source) → sourcePlace r ≡ Nowhere → 0 ≡ talkerPlace r
 unfolding sourcePlace talkerPlace
 place-nowhere nowhere e = refl
-place-nowhere (from u f v m) e = let z : _≡_ {A = ℕ} 0 1 = cc in absurd (omega arith)
+place-nowhere (from o) e = let z : _≡_ {A = ℕ} 0 1 = cc in absurd (omega arith)

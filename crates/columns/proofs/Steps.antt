@@ -9,29 +9,21 @@ use borrow.Author.Tests.{eq-eqb, ne-eqb, lt-ltb, le-ltb}
 use Rattle.octets.specs.Be.{beAt}
 use Rattle.octets.specs.Fields.{fields}
 use Rattle.model.specs.Lists.{isOne}
-use Rattle.model.specs.State.{sound, broken, Talker, noTalker, talker, Column, none, advertise, failed, Class, portAt, classOf, isNoClass, supports}
+use Rattle.model.specs.State.{sound, broken, noTalker, talker, Column, none, advertise, failed, Class, portAt, classOf, isNoClass, supports}
 use Rattle.model.specs.Frames.{priorityOf}
-use Rattle.model.specs.Settling.{isTalking, isBroken, brokenColumn, first, stepsFrom}
-use Rattle.model.specs.Table.{toPort, toSettings, toCell, cellFrom, talkerFrom, fixedFrom, cellWidths, toHealth, toLeaving, portFrom, portWidths}
+use Rattle.model.specs.Settling.{isTalking, healthOf, isBroken, brokenColumn, first, outcomeColumn, stepsFrom}
+use Rattle.model.specs.Table.{toPort, toSettings, toCell, cellFrom, registrationFrom, talkerFrom, fixedFrom, cellWidths, toHealth, portFrom, portWidths}
 use Rattle.model.proofs.SettingsOctets.{octet-field}
+use Rattle.columns.specs.Stages.{firstStep}
 use Rattle.columns.specs.Answers.{sourceIn}
 
 -- The Talker that a cell's octets say.
-
-abbrev numbers : List ℕ → List ℕ
-numbers s = fields cellWidths 0 s
-
-abbrev saidTalker : List ℕ → Talker
-saidTalker s =
-    talker (fixedFrom 4 (numbers s))
-    record { health = toHealth (getD (numbers s) 0 0) (getD (numbers s) 10 0) (getD (numbers s) 11 0); latency = getD (numbers s) 9 0 }
-    (isOne (getD (numbers s) 1 0)) (toLeaving (getD (numbers s) 2 0) (getD (numbers s) 3 0))
 
 pub no-talker : (s : List ℕ) → getD s 0 0 ≡ 0 → toCell s .talks ≡ noTalker
 unfolding toCell cellFrom talkerFrom fields cellWidths
 no-talker s e = rw (eq-eqb (beAt 1 s 0) 0 (octet-field s 0 ∙ e))
 
-pub a-talker : (s : List ℕ) → (getD s 0 0 ≡ 0 → ⊥) → toCell s .talks ≡ saidTalker s
+pub a-talker : (s : List ℕ) → (getD s 0 0 ≡ 0 → ⊥) → toCell s .talks ≡ talker (registrationFrom (fields cellWidths 0 s))
 unfolding toCell cellFrom talkerFrom fields cellWidths
 a-talker s n = rw (ne-eqb (beAt 1 s 0) 0 (λ e. n (sym (octet-field s 0) ∙ e)))
 
@@ -57,7 +49,7 @@ failed-asked k b c d = go (eqb k 1)
 
 module _ (s here said : List ℕ) (p t : ℕ) where
   abbrev decided : Column
-  decided = first (stepsFrom (toSettings s) p (toCell here) (sourceIn t (toCell said))) advertise
+  decided = firstStep (toSettings s) p (toCell here) (sourceIn t (toCell said))
 
   abbrev own : ℕ → Column
   own = failed (toSettings s .bridgeId)
@@ -67,7 +59,7 @@ module _ (s here said : List ℕ) (p t : ℕ) where
 
   -- a, no Talker port
   pub no-source : getD said 0 0 ≡ 0 → none ≡ decided
-  unfolding sourceIn stepsFrom first
+  unfolding firstStep sourceIn stepsFrom first outcomeColumn
   no-source e = rw (no-talker said e)
 
   module _ (port : List ℕ) (there : portAt (toSettings s) p ≡ toPort port) (k : getD said 0 0 ≡ 0 → ⊥) where
@@ -80,7 +72,7 @@ module _ (s here said : List ℕ) (p t : ℕ) where
         (cond (isTalking (toCell here)) (own 4)
         (cond (isNoClass class) (own 13)
         (cond (ltb (beAt 2 port 2) (beAt 2 said 15)) (own 14) advertise))))))
-    unfolding sourceIn stepsFrom first isOne fields cellWidths fixedFrom priorityOf toPort portFrom portWidths
+    unfolding firstStep sourceIn registrationFrom healthOf stepsFrom first outcomeColumn isOne fields cellWidths fixedFrom priorityOf toPort portFrom portWidths
     steps-asked = rw (a-talker said k, there, octet-field said 0, octet-field said 1, octet-field said 32, failed-asked)
 
     pub at-the-talker : p ≡ t → none ≡ decided

@@ -25,12 +25,12 @@ use Rattle.columns.specs.Answers.{sourceIn, latencyBy}
 latency-number : (t : ℕ) (k : Talker) (c : Cell) → c .talks ≡ k → latencyOf (sourceIn t c) ≡ getD (cellNumbers c) 9 0
 unfolding latencyOf sourceIn cellNumbers talkerNumbers fixedNumbers
 latency-number t noTalker c e = rw e
-latency-number t (talker f v m l) c e = rw e
+latency-number t (talker r) c e = rw e
 
 priority-number : (t : ℕ) (k : Talker) (c : Cell) → c .talks ≡ k → FitRank k → fixedOf (sourceIn t c) .priority ≡ getD (cellNumbers c) 8 0 / 32
 unfolding fixedOf noFixed sourceIn cellNumbers talkerNumbers fixedNumbers priorityOctet
 priority-number t noTalker c e r = rw e
-priority-number t (talker f v m l) c e r = rw e (omega arith)
+priority-number t (talker k) c e r = rw e (omega arith)
 
 -- the octets of the fixed values, zeros without a Talker
 abbrev ahead : List ℕ
@@ -44,9 +44,11 @@ unfolding cellOctets cellNumbers talkerNumbers fixedOf noFixed sourceIn fixedOct
 fixed-octets t noTalker c e =
     rw e
     (part-fields ahead fixedWidths behind (0 ∷ 0 ∷ 0 ∷ 0 ∷ []) (fixedNumbers noFixed) (0 ∷ 0 ∷ 0 ∷ listenerNumbers (c .hears)) refl refl)
-fixed-octets t (talker f v m l) c e =
+fixed-octets t (talker r) c e =
+    let v = r .varying in
     rw e
-    (part-fields ahead fixedWidths behind (healthNumber (v .health) ∷ bit m ∷ leavingNumber l ∷ sinceNumber l ∷ []) (fixedNumbers f)
+    (part-fields ahead fixedWidths behind (healthNumber (v .health) ∷ bit (r .changed) ∷ leavingNumber (r .leaving) ∷ sinceNumber (r .leaving) ∷ [])
+    (fixedNumbers (r .fixed))
     (v .latency ∷ bridgeNumber (v .health) ∷ codeNumber (v .health) ∷ listenerNumbers (c .hears)) refl refl)
 
 pub fixed-part : (t : ℕ) (c : Cell) → part 7 13 (cellOctets c) ≡ fixedOctets (fixedOf (sourceIn t c))

@@ -31,16 +31,16 @@ columnShown (Failed b c) = failed b c
 -- the place of a stream's Talker port
 unfoldable pub sourcePlace : settling.Source → SourceRead
 sourcePlace nowhere = Nowhere
-sourcePlace (from t f v m) = Port t
+sourcePlace (from o) = Port (o .port)
 
 -- the same as a number; 0 where there is none, as no place then has a Talker
 unfoldable pub talkerPlace : settling.Source → ℕ
 talkerPlace nowhere = 0
-talkerPlace (from t f v m) = t
+talkerPlace (from o) = o .port
 
 -- what a cell at place t has registered, as a source
 unfoldable pub sourceIn : ℕ → Cell → settling.Source
-sourceIn t c = elim (c .talks) [ noTalker ↦ nowhere | talker f v m l ↦ from t f v m ]
+sourceIn t c = elim (c .talks) [ noTalker ↦ nowhere | talker r ↦ from record { port = t; registration = r } ]
 
 -- the result on a port, from its column, latency out and Listener, and from the result that the port had
 unfoldable pub shownBy : Column → ℕ → Declared → ℕ → Result → Result

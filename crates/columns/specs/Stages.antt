@@ -6,10 +6,10 @@ use mathlib.Core.Bool.{Bool, cond, not, _&&_}
 use Prim.Native.Nat.{ℕ, zero, suc}
 use lib.ListN.{getD, set}
 use Rattle.model.specs.Lists.{keep, tabulate}
-use Rattle.model.specs.State.{Settings, Column, advertise, failed, filters, Declared, nothing, Result, Stream, Totals, Bridge, noTotals, portAt, cellAt, resultAt, Class, noClass, classA, classB, classOf, sameClass, limit}
+use Rattle.model.specs.State.{Settings, Cell, Column, advertise, failed, filters, Declared, nothing, Result, Stream, Totals, Bridge, noTotals, portAt, cellAt, resultAt, Class, noClass, classA, classB, classOf, sameClass, limit}
 use Rattle.model.specs.Registrations.{holding}
 use Rattle.model.specs.Bandwidth.{Claim, demand, rateOf, admitted, total}
-use Rattle.model.specs.Settling.{sourceOf, fixedOf, isSource, registered, isReady, isAdvertise, first, steps, ageOf, latencyOut, entryOf, ageKept, latencyKept, passed, mergeAll}
+use Rattle.model.specs.Settling.{Source, sourceOf, fixedOf, isSource, registered, isReady, isAdvertise, first, outcomeColumn, stepsFrom, steps, ageOf, latencyOut, entryOf, ageKept, latencyKept, passed, mergeAll}
 
 -- (1)
 
@@ -25,9 +25,13 @@ shownAs st now x p column =
       declares = nothing;
     }
 
--- steps a to g, and Advertise where none of them applies
+-- steps a to g, and Advertise where none of them applies: on a port, from its cell and the stream's source
+unfoldable pub firstStep : Settings → ℕ → Cell → Source → Column
+firstStep st p here s = first (outcomeColumn st s) (stepsFrom st p here s) advertise
+
+-- and at any place
 unfoldable pub earlyColumn : Settings → ℕ → Stream → Column
-earlyColumn st p x = first (steps st p x) advertise
+earlyColumn st p x = first (outcomeColumn st (sourceOf x)) (steps st p x) advertise
 
 unfoldable pub earlyAt : Settings → ℕ → Stream → ℕ → Result
 earlyAt st now x p = shownAs st now x p (earlyColumn st p x)

@@ -6,12 +6,12 @@ ghost use lib.ListN.{length, take, drop};
 ghost use Rattle.octets.specs.Fields.{packed};
 ghost use Rattle.octets.specs.Parts.{part, patch};
 ghost use Rattle.model.specs.State as state;
-ghost use Rattle.model.specs.State.{classOf, isNoClass, classLatency, portAt, advertise, failed};
+ghost use Rattle.model.specs.State.{classOf, isNoClass, classLatency, portAt, failed};
 ghost use Rattle.model.specs.Bandwidth as bandwidth;
-ghost use Rattle.model.specs.Settling.{sourceOf, first, stepsFrom, ageOf, entryOf, ageKept};
+ghost use Rattle.model.specs.Settling.{sourceOf, ageOf, entryOf, ageKept};
 ghost use Rattle.model.specs.Table.{toPort, toSettings, toCell, toStream, toResult, toEntry, toDeclared, entryNumber, resultOctets, encode, decode};
 ghost use Rattle.model.specs.Laid.{LaidCell, Laid};
-ghost use Rattle.columns.specs.Stages.{earlyColumn, early, earlyAll};
+ghost use Rattle.columns.specs.Stages.{firstStep, earlyColumn, early, earlyAll};
 ghost use Rattle.columns.specs.Answers.{toFixed, classShown, columnShown, sourcePlace, talkerPlace, sourceIn, latencyBy, shownBy, columnWidths, columnNumbers, entryWidths};
 ghost use Rattle.columns.specs.Records.{LaidAt, changedAt, earlyOne, earlyTo};
 use table::cell;
@@ -175,8 +175,8 @@ fn first_step(
 ) -> ColumnRead
     requires { ⌜ (11 ≤ length (now settings)) × (length (now port) ≡ 22) × (length (now here) ≡ 39) × (length (now talker) ≡ 39)
         × (portAt (toSettings (now settings)) p ≡ toPort (now port)) ⌝ }
-    ensures { λ r. ⌜ columnShown r ≡ first (stepsFrom (toSettings (now (settings .entry))) p (toCell (now (here .entry)))
-        (sourceIn t (toCell (now (talker .entry))))) advertise ⌝ }
+    ensures { λ r. ⌜ columnShown r ≡ firstStep (toSettings (now (settings .entry))) p (toCell (now (here .entry)))
+        (sourceIn t (toCell (now (talker .entry)))) ⌝ }
 {
     let kind = talker[cell::TALKER];
     let mark = talker[cell::CHANGED];

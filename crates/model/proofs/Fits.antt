@@ -37,7 +37,7 @@ unfolding sinceNumber
 fit-leaving stays h = tt
 fit-leaving (since t) h = (omega arith, omega arith)
 
-fit-health : (h : Health) → bridgeNumber h < 256 ^ 8 → codeNumber h < 256 ^ 1 → ValidHealth h
+pub fit-health : (h : Health) → bridgeNumber h < 256 ^ 8 → codeNumber h < 256 ^ 1 → ValidHealth h
 unfolding bridgeNumber codeNumber
 fit-health sound p q = tt
 fit-health (broken b c) p q = (p, q)
