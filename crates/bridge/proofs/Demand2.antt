@@ -17,7 +17,8 @@ use Rattle.model.specs.Layout.{tableLength}
 use Rattle.model.specs.Lists.{Octets}
 use Rattle.model.specs.State.{Settings, Bridge, started, portAt, resultAt, noTotals}
 use Rattle.model.specs.Registrations.{Answer, acts, applyAll, holding, together, ids, joins, received}
-use Rattle.model.specs.Frames.{Vector, found, walk, walked, frameActs, reading, wrongPort, longestPdu}
+use Rattle.model.specs.FrameLayout.{longestPdu}
+use Rattle.model.specs.Frames.{Vector, found, walk, walked, frameActs, reading, wrongPort}
 use Rattle.model.specs.Settling.{settle}
 use Rattle.model.specs.Declarations.{Declaration, joinOf, takes, write, Report, wordOf, codeOf, streamAt, report}
 use Rattle.model.specs.WrittenFrames.{declarationVector, pduOctets}

@@ -5,7 +5,8 @@ use mathlib.Core.Bool.{true, false}
 use Prim.Native.Nat.{ℕ, _-_, _≤_, _<_}
 use lib.ListN.{length, drop}
 use borrow.Author.Tests.{lt-ltb, le-ltb}
-use Rattle.model.specs.Frames.{wrongPort, longestPdu}
+use Rattle.model.specs.FrameLayout.{longestPdu}
+use Rattle.model.specs.Frames.{wrongPort}
 use Rattle.model.specs.Declarations.{declarations, write, refusedReport, report}
 use Rattle.model.specs.Table.{formed, decode}
 use Rattle.model.specs.Calls.{refusedWrite, writtenTo, writeOn, reportOn}

@@ -36,7 +36,7 @@ use Rattle.model.proofs.Tables.{decode-encode, formed-encode, valid-started}
 use Rattle.model.proofs.ReceiveKeepsForm.{receive-keeps}
 use Rattle.model.proofs.AdvanceKeepsForm.{settle-keeps}
 use Rattle.model.proofs.Demand3.{receive-call, advance-call}
-use Rattle.model.specs.Frames.{longestPdu}
+use Rattle.model.specs.FrameLayout.{longestPdu}
 use Rattle.bridge.specs.Promises.{Starts, Receives, Advances, Writes, Reports}
 use Rattle.bridge.proofs.Started.{started-table}
 use Rattle.bridge.proofs.Starting.{start-accepted}

@@ -14,7 +14,8 @@ use Rattle.octets.proofs.Parts.{length-part}
 use Rattle.model.specs.Lists.{All, Octets}
 use Rattle.model.specs.State.{Settings}
 use Rattle.model.specs.Registrations.{Kind, advertises, faileds, listeners, Act, leaveAll, leave, talk, listen, Reading, refused, acts, joins, asks}
-use Rattle.model.specs.Frames.{Attribute, registers, domain, TypeOctet, notAllowed, unknown, known, typeOctet, firstWidths, firstLength, threeLength, fourLength, Vector, vectorAt, vectorEnd, overpacked, runsPast, overflows, Walk, fault, found, also, both, vectors, listLength, listAt, messageEnd, endMark, message, messages, walk, Asking, nothingAsked, join, withdraw, priorityOf, rankOf, fixedValue, healthValue, idValue, hearing, talkerAct, listenerAct, valueActs, valuesActs, leaveAllActs, vectorActs, frameActs, walked, wrongPort, reading, longestPdu}
+use Rattle.model.specs.FrameLayout.{longestPdu}
+use Rattle.model.specs.Frames.{Attribute, registers, domain, TypeOctet, notAllowed, unknown, known, typeOctet, firstWidths, firstLength, threeLength, fourLength, Vector, vectorAt, vectorEnd, overpacked, runsPast, overflows, Walk, fault, found, also, both, vectors, listLength, listAt, messageEnd, endMark, message, messages, walk, Asking, nothingAsked, join, withdraw, priorityOf, rankOf, fixedValue, healthValue, idValue, hearing, talkerAct, listenerAct, valueActs, valuesActs, leaveAllActs, vectorActs, frameActs, walked, wrongPort, reading}
 use Rattle.model.proofs.Lists.{all-append}
 use Rattle.model.proofs.Parts.{octets-at, octets-part}
 use Rattle.octets.proofs.Fields.{beAt-fits}

@@ -17,7 +17,8 @@ use Rattle.octets.proofs.Fields.{packed-octets, beAt-fits, fields-of-packed}
 use Rattle.model.specs.Lists.{All, keep, Octets, bit}
 use Rattle.model.specs.State.{Settings, Fixed, Health, sound, broken, Ready, askingFailed, ready, readyFailed, Column, none, advertise, failed, Entry, noEntry, filters, forwards, Declared, nothing, tells, Result, Stream, Bridge, resultAt, unsettled}
 use Rattle.model.specs.Registrations.{Kind, advertises, faileds, listeners, talk, listen, acts}
-use Rattle.model.specs.Frames.{Attribute, registers, known, typeOctet, firstWidths, firstLength, threeLength, fourLength, Vector, vectorAt, vectorEnd, overpacked, runsPast, overflows, found, also, both, vectors, listLength, listAt, messageEnd, endMark, message, messages, walk, joinMt, event, threePacked, fourPacked, eventOf, fourOf, asking, join, priorityOf, rankOf, fixedValue, healthValue, idValue, hearing, talkerAct, listenerAct, valueActs, valuesActs, leaveAllActs, vectorActs, frameActs, walked, wrongPort, reading, longestPdu}
+use Rattle.model.specs.FrameLayout.{longestPdu}
+use Rattle.model.specs.Frames.{Attribute, registers, known, typeOctet, firstWidths, firstLength, threeLength, fourLength, Vector, vectorAt, vectorEnd, overpacked, runsPast, overflows, found, also, both, vectors, listLength, listAt, messageEnd, endMark, message, messages, walk, joinMt, event, threePacked, fourPacked, eventOf, fourOf, asking, join, priorityOf, rankOf, fixedValue, healthValue, idValue, hearing, talkerAct, listenerAct, valueActs, valuesActs, leaveAllActs, vectorActs, frameActs, walked, wrongPort, reading}
 use Rattle.model.specs.Declarations.{Declaration, talkerDeclaration, listenerDeclaration, healthKind, kindOf, joinOf, advertised, failing, listening, declarationsOf, ofKind, declarations, vectorSize, sameKind, takes, write}
 use Rattle.model.specs.WrittenFrames.{priorityOctet, fixedNumbers, failureNumbers, firstNumbers, readyNumber, fourOctets, declarationVector, vectorOctets, typeNumber, messageOf, messageOctets, having, pduOctets}
 use Rattle.model.proofs.Lists.{all-map, all-append, all-take, all-drop}

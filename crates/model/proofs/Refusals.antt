@@ -16,7 +16,8 @@ use Rattle.model.specs.Layout.{tableLength}
 use Rattle.model.specs.Lists.{All, Octets}
 use Rattle.model.specs.State.{Settings, Bridge}
 use Rattle.model.specs.Registrations.{refused, Answer, received, applyAll, add, together, ids, joins}
-use Rattle.model.specs.Frames.{Attribute, TypeOctet, notAllowed, unknown, known, typeOctet, firstLength, Vector, vectorAt, vectorEnd, overpacked, overflows, listLength, listAt, messageEnd, endMark, Walk, fault, found, also, both, vectors, message, messages, walk, walked, frameActs, reading, wrongPort, longestPdu}
+use Rattle.model.specs.FrameLayout.{longestPdu}
+use Rattle.model.specs.Frames.{Attribute, TypeOctet, notAllowed, unknown, known, typeOctet, firstLength, Vector, vectorAt, vectorEnd, overpacked, overflows, listLength, listAt, messageEnd, endMark, Walk, fault, found, also, both, vectors, message, messages, walk, walked, frameActs, reading, wrongPort}
 use Rattle.model.specs.Settling.{advance}
 use Rattle.model.specs.Declarations.{Written, write, Report, refusedReport, report, declarations}
 use Rattle.model.specs.Table.{decode, clockField, formed, settingsFormed}

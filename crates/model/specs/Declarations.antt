@@ -6,7 +6,7 @@ use lib.ListN.{length, getD, take, drop}
 use lib.Dec.{ltb}
 use Rattle.model.specs.State.{Fixed, Health, sound, broken, Varying, Ready, Column, none, advertise, failed, Entry, noEntry, Declared, nothing, tells, Result, Stream, Bridge, portAt, resultAt, noTotals, fresh}
 use Rattle.model.specs.Registrations.{Kind, advertises, faileds, listeners, Act, talk, listen}
-use Rattle.model.specs.Frames.{longestPdu}
+use Rattle.model.specs.FrameLayout.{advertiseLength, failedLength, listenerLength, longestPdu}
 
 -- a declaration is a join of the neighbour's table
 pub data Declaration : Type 0 where
@@ -55,11 +55,11 @@ declarations p s = ofKind advertises p s ++ (ofKind faileds p s ++ ofKind listen
 
 -- "From a place (0 based) one PDU takes as many as fit in 1,500 octets whole, one Message per type, one value per vector".
 
--- the octets of a vector of one value
+-- the octets of a vector of one value: header, FirstValue, an octet of three-packed events, and for a Listener one of four-packed
 unfoldable pub vectorSize : Kind → ℕ
-vectorSize advertises = 28
-vectorSize faileds = 37
-vectorSize listeners = 12
+vectorSize advertises = 2 + advertiseLength + 1
+vectorSize faileds = 2 + failedLength + 1
+vectorSize listeners = 2 + listenerLength + 1 + 1
 
 unfoldable pub sameKind : Kind → Kind → Bool
 sameKind advertises advertises = true

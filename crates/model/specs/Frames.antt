@@ -7,6 +7,7 @@ use lib.Dec.{ltb, leb, eqb}
 use Rattle.octets.specs.Be.{beAt}
 use Rattle.octets.specs.Fields.{fields}
 use Rattle.octets.specs.Parts.{part}
+use Rattle.model.specs.FrameLayout.{advertiseLength, advertiseWidths, domainLength, domainWidths, failedLength, failedWidths, firstDestination, firstUnique, listenerLength, listenerWidths, longestPdu}
 use Rattle.model.specs.State.{Fixed, Health, sound, broken, askingFailed, ready, readyFailed, Settings}
 use Rattle.model.specs.Registrations.{Kind, advertises, faileds, listeners, Act, leaveAll, leave, talk, listen, Reading, refused, acts}
 
@@ -30,21 +31,18 @@ typeOctet version (suc (suc (suc zero))) = known (registers listeners)
 typeOctet version (suc (suc (suc (suc zero)))) = known domain
 typeOctet version (suc (suc (suc (suc (suc t))))) = cond (eqb version 0) notAllowed unknown
 
--- the widths of FirstValue's fields.
--- Talker: StreamID, destination, VLAN, MaxFrameSize, MaxIntervalFrames, priority and rank, AccumulatedLatency; Failed adds
--- Bridge ID and code. Listener: StreamID. Domain: class ID, priority, VLAN.
+-- the widths of FirstValue's fields, and its octets
 unfoldable pub firstWidths : Attribute → List ℕ
-firstWidths (registers advertises) = 8 ∷ 6 ∷ 2 ∷ 2 ∷ 2 ∷ 1 ∷ 4 ∷ []
-firstWidths (registers faileds) = 8 ∷ 6 ∷ 2 ∷ 2 ∷ 2 ∷ 1 ∷ 4 ∷ 8 ∷ 1 ∷ []
-firstWidths (registers listeners) = 8 ∷ []
-firstWidths domain = 1 ∷ 1 ∷ 2 ∷ []
+firstWidths (registers advertises) = advertiseWidths
+firstWidths (registers faileds) = failedWidths
+firstWidths (registers listeners) = listenerWidths
+firstWidths domain = domainWidths
 
--- 25, 34, 8 and 4 octets
 unfoldable pub firstLength : Attribute → ℕ
-firstLength (registers advertises) = 25
-firstLength (registers faileds) = 34
-firstLength (registers listeners) = 8
-firstLength domain = 4
+firstLength (registers advertises) = advertiseLength
+firstLength (registers faileds) = failedLength
+firstLength (registers listeners) = listenerLength
+firstLength domain = domainLength
 
 -- "one ThreePackedEvents octet per three values or part, and for Listener one FourPackedEvents octet per four or part"
 unfoldable pub threeLength : ℕ → ℕ
@@ -94,9 +92,9 @@ overpacked (o ∷ l) = ltb 215 o || overpacked l
 -- "Value n adds n to Unique ID and destination; for Listener to Unique ID; for Domain to class ID and priority octets": n
 -- more than FirstValue runs past one of these fields
 unfoldable pub runsPast : Attribute → List ℕ → ℕ → Bool
-runsPast (registers listeners) s n = ltb 65535 (beAt 2 s 6 + n)
-runsPast (registers advertises) s n = ltb 65535 (beAt 2 s 6 + n) || ltb 281474976710655 (beAt 6 s 8 + n)
-runsPast (registers faileds) s n = ltb 65535 (beAt 2 s 6 + n) || ltb 281474976710655 (beAt 6 s 8 + n)
+runsPast (registers listeners) s n = ltb 65535 (beAt 2 s firstUnique + n)
+runsPast (registers advertises) s n = ltb 65535 (beAt 2 s firstUnique + n) || ltb 281474976710655 (beAt 6 s firstDestination + n)
+runsPast (registers faileds) s n = ltb 65535 (beAt 2 s firstUnique + n) || ltb 281474976710655 (beAt 6 s firstDestination + n)
 runsPast domain s n = ltb 255 (getD s 0 0 + n) || ltb 255 (getD s 1 0 + n)
 
 -- a value of the vector runs past its field: the last one does
@@ -166,10 +164,6 @@ messages (suc f) version s at =
     (cond (endMark s at) (found [])
     (cond (ltb (length s) (at + 4)) (fault 3)
     (message (typeOctet version (getD s at 0)) s at (messages f version s (messageEnd s at)))))
-
--- the octets of the longest PDU
-abbrev pub longestPdu : ℕ
-longestPdu = 1500
 
 -- a PDU: 2 "has 0 octets or more than 1,500"; then the walk, from behind the ProtocolVersion
 unfoldable pub walk : List ℕ → Walk

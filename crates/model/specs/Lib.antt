@@ -1,4 +1,5 @@
 pub mod Layout
+pub mod FrameLayout
 pub mod Lists
 pub mod State
 pub mod Registrations
