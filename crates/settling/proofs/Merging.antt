@@ -104,8 +104,8 @@ listener-number : (t : Talker) (h : Listener) → getD (talkerNumbers t ++ liste
 unfolding talkerNumbers listenerNumbers fixedNumbers declaredNumber registered
 listener-number noTalker noListener = refl
 listener-number noTalker (listener r l) = refl
-listener-number (talker f v m k) noListener = refl
-listener-number (talker f v m k) (listener r l) = refl
+listener-number (talker k) noListener = refl
+listener-number (talker k) (listener r l) = refl
 
 -- an octet of a part that is lent
 lent-octet : (a k b : ℕ) (s : List ℕ) → b < k → getD (take (a + k - a) (drop a s)) b 0 ≡ getD s (a + b) 0
@@ -208,12 +208,12 @@ module _ (x : Stream) (w : FitStream x) where
 source-nowhere : (r : Source) → sourcePlace r ≡ Nowhere → r ≡ nowhere
 unfolding sourcePlace
 source-nowhere nowhere e = refl
-source-nowhere (from u f v m) e = let z : _≡_ {A = ℕ} 0 1 = cc in absurd (omega arith)
+source-nowhere (from o) e = let z : _≡_ {A = ℕ} 0 1 = cc in absurd (omega arith)
 
 source-port : (r : Source) (t : ℕ) → sourcePlace r ≡ Port t → (q : ℕ) → isSource r q ≡ eqb t q
 unfolding sourcePlace isSource
 source-port nowhere t e q = let z : _≡_ {A = ℕ} 0 1 = cc in absurd (omega arith)
-source-port (from u f v m) t e q = let z : u ≡ t = cc in rw z
+source-port (from o) t e q = let z : o .port ≡ t = cc in rw z
 
 module _ (s : List ℕ) (l : LaidStream s) where
   pub left-alone : sourcePlace (sourceOf (toStream s)) ≡ Nowhere → s ≡ streamOctets (merging (toStream s))
