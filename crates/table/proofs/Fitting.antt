@@ -8,12 +8,13 @@ use mathlib.Core.List.{List, [], _∷_, _++_, map}
 use lib.ListN.{length, getD, set, take, drop, length-set, length-map}
 use Rattle.octets.specs.Fields.{Fit}
 use Rattle.octets.proofs.Fields.{fit-zeros}
+use Rattle.model.specs.Layout.{cellWidths, fixedWidths, resultWidths}
 use Rattle.model.specs.Lists.{All, keep}
 use Rattle.model.specs.State.{Cell, Stream, Totals, Bridge, empty, unsettled, noFixed, blank, fresh}
 use Rattle.model.specs.Registrations.{at, change, holding, together, ids}
 use Rattle.model.specs.Settling.{held}
 use Rattle.model.specs.WrittenFrames.{priorityOctet, fixedNumbers}
-use Rattle.model.specs.Table.{cellWidths, cellNumbers, talkerNumbers, listenerNumbers, resultWidths, resultNumbers, columnNumber, columnBridge, columnCode, entryNumber, declaredNumber, nameWidths}
+use Rattle.model.specs.Table.{cellNumbers, talkerNumbers, listenerNumbers, resultNumbers, columnNumber, columnBridge, columnCode, entryNumber, declaredNumber}
 use Rattle.model.specs.Laid.{FitCell, FitResult, FitStream, FitTotals, FitBridge, Ascending}
 use Rattle.model.proofs.Lists.{all-replicate, all-append, all-take, all-drop}
 use Rattle.model.proofs.Parts.{_also_}
@@ -53,17 +54,17 @@ changed-fits p u k x w = record {
 -- A stream without registrations.
 
 empty-fits : FitCell empty
-unfolding empty cellNumbers talkerNumbers listenerNumbers cellWidths
+unfolding empty cellNumbers talkerNumbers listenerNumbers
 empty-fits = record { numbers = fit-zeros cellWidths; rank = tt }
 
 unsettled-fits : FitResult unsettled
-unfolding unsettled resultNumbers columnNumber columnBridge columnCode entryNumber declaredNumber resultWidths
+unfolding unsettled resultNumbers columnNumber columnBridge columnCode entryNumber declaredNumber
 unsettled-fits = fit-zeros resultWidths
 
 pub fresh-fits : (id : ℕ) → id < 2 ^ 64 → FitStream (fresh id)
-unfolding fresh blank noFixed fixedNumbers priorityOctet nameWidths Fit
+unfolding fresh blank noFixed fixedNumbers priorityOctet Fit
 fresh-fits id h = record {
-  name = h also fit-zeros (6 ∷ 2 ∷ 2 ∷ 2 ∷ 1 ∷ []);
+  name = h also fit-zeros fixedWidths;
   rank = omega arith;
   eight-cells = refl;
   cells = all-replicate FitCell 8 empty empty-fits;

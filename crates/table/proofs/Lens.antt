@@ -57,13 +57,13 @@ module _ {A : Type 0} (n : ℕ) (to : A → List ℕ) (m : ℕ) (before after : 
   around l r x = simp (flat-append to, append-assoc)
 
   module _ (l : List A) (sized : All (Sized n to) l) where
-    place : (k a : ℕ) → k ≤ length l → a ≡ m + n * k → length (before ++ flat to (take k l)) ≡ a
+    place : (k a : ℕ) → k ≤ length l → a ≡ m + k * n → length (before ++ flat to (take k l)) ≡ a
     place k a h e =
         let b = flat to (take k l) in
         let c : length (take k l) * n ≡ k * n = ap (λ (i : ℕ). i * n) (length-take-le k l h) in
         omega (arith, length-append before b, length-flat-sized n to (take k l) (all-take (Sized n to) k l sized))
 
-    module _ (k a : ℕ) (h : k < length l) (e : a ≡ m + n * k) where
+    module _ (k a : ℕ) (h : k < length l) (e : a ≡ m + k * n) where
       pub part-one : (d : A) → part a n (before ++ (flat to l ++ after)) ≡ to (getD l k d)
       part-one d =
           let f = take k l in
