@@ -14,6 +14,7 @@ use borrow.Author.Tests.{le-ltb, ltb-true}
 use Rattle.octets.specs.Be
 use Rattle.octets.specs.Fields
 use Rattle.octets.specs.Parts
+use Rattle.model.specs.Layout.{tableLength}
 use Rattle.model.specs.Lists.{Octets, allTrue}
 use Rattle.model.specs.Lists
 use Rattle.model.specs.State.{Bridge, nothing, tells, ready, noEntry, forwards}
@@ -35,6 +36,7 @@ use Rattle.model.proofs.Tables.{decode-encode, formed-encode, valid-started}
 use Rattle.model.proofs.ReceiveKeepsForm.{receive-keeps}
 use Rattle.model.proofs.AdvanceKeepsForm.{settle-keeps}
 use Rattle.model.proofs.Demand3.{receive-call, advance-call}
+use Rattle.model.specs.Frames.{longestPdu}
 use Rattle.bridge.specs.Promises.{Starts, Receives, Advances, Writes, Reports}
 use Rattle.bridge.proofs.Started.{started-table}
 use Rattle.bridge.proofs.Starting.{start-accepted}
@@ -89,7 +91,7 @@ module _ (b : Bridge) (v : Valid b) (p place : ℕ) (w : Frames.wrongPort (b .se
   unfolding reportOn
   report-call = rw (formed-encode b v, decode-encode b v, w)
 
-  write-call : (buffer : List ℕ) → 1500 ≤ length buffer → writeOn (encode b) p place buffer ≡ writtenTo buffer (Declarations.write b p place)
+  write-call : (buffer : List ℕ) → longestPdu ≤ length buffer → writeOn (encode b) p place buffer ≡ writtenTo buffer (Declarations.write b p place)
   unfolding writeOn
   write-call buffer l = rw (formed-encode b v, decode-encode b v, w, le-ltb _ _ l)
 
@@ -110,11 +112,11 @@ unfolding Frames.typeOctet Frames.firstWidths Frames.firstLength Frames.threeLen
 framesOpened = tt
 
 registrationsOpened : Unit {0}
-unfolding Registrations.begin Registrations.talksAs Registrations.hearsAs Registrations.quitTalker Registrations.quitListener Registrations.quit Registrations.sameFixed Registrations.joinTalker Registrations.does Registrations.at Registrations.change Registrations.begun Registrations.touch Registrations.reach Registrations.apply Registrations.applyAll Registrations.holding Registrations.received
+unfolding Registrations.begin Registrations.talksAs Registrations.hearsAs Registrations.withLeaving Registrations.quitTalker Registrations.quitListener Registrations.quit Registrations.sameFixed Registrations.firstJoin Registrations.sameJoin Registrations.otherJoin Registrations.joinTalker Registrations.does Registrations.at Registrations.change Registrations.begun Registrations.touch Registrations.reach Registrations.apply Registrations.applyAll Registrations.holding Registrations.received
 registrationsOpened = tt
 
 settlingOpened : Unit {0}
-unfolding Bandwidth.demand Bandwidth.rate Bandwidth.rateOfA Bandwidth.rateOfB Bandwidth.rateOf Bandwidth.key Bandwidth.above Bandwidth.insert Bandwidth.sort Bandwidth.share Bandwidth.reserved Bandwidth.remains Bandwidth.admitted Bandwidth.total Settling.expired Settling.expireTalker Settling.expireListener Settling.expireCell Settling.expire Settling.isTalking Settling.isHearing Settling.held Settling.remain Settling.source Settling.sourceOf Settling.isSource Settling.fixedOf Settling.latencyOf Settling.streamClass Settling.registered Settling.isReady Settling.first Settling.clear Settling.isBroken Settling.brokenColumn Settling.stepsFrom Settling.steps Settling.ageOf Settling.claim Settling.claims Settling.limitOn Settling.leftFor Settling.byBandwidth Settling.columnOf Settling.capped Settling.latencyOut Settling.entryOf Settling.ageKept Settling.latencyKept Settling.passed Settling.sameReady Settling.merge Settling.mergeAll Settling.merged Settling.decideAt Settling.decide Settling.totalOn Settling.totalsOn Settling.settle
+unfolding Bandwidth.demand Bandwidth.rate Bandwidth.rateOfA Bandwidth.rateOfB Bandwidth.rateOf Bandwidth.key Bandwidth.above Bandwidth.insert Bandwidth.sort Bandwidth.share Bandwidth.reserved Bandwidth.remains Bandwidth.admitted Bandwidth.total Settling.expired Settling.expireTalker Settling.expireListener Settling.expireCell Settling.expire Settling.isTalking Settling.isHearing Settling.held Settling.remain Settling.source Settling.sourceOf Settling.isSource Settling.fixedOf Settling.latencyOf Settling.healthOf Settling.streamClass Settling.registered Settling.isReady Settling.first Settling.clear Settling.isBroken Settling.brokenColumn Settling.outcomeColumn Settling.stepsFrom Settling.steps Settling.ageOf Settling.claim Settling.claims Settling.limitOn Settling.leftFor Settling.byBandwidth Settling.columnOf Settling.capped Settling.latencyOut Settling.entryOf Settling.ageKept Settling.latencyKept Settling.passed Settling.sameReady Settling.merge Settling.mergeAll Settling.merged Settling.decideAt Settling.decide Settling.totalOn Settling.totalsOn Settling.settle
 settlingOpened = tt
 
 writingOpened : Unit {0}
@@ -232,7 +234,7 @@ settled-valid : Valid settled
 unfolding settled
 settled-valid = settle-keeps heard 100 (omega arith) clock-passed heard-valid
 
-started-on : (t : List ℕ) → length t ≡ 31824 → startOn t settings ≡ record { number = 0; table = encode begun }
+started-on : (t : List ℕ) → length t ≡ tableLength → startOn t settings ≡ record { number = 0; table = encode begun }
 unfolding begun
 started-on t right =
     start-accepted t settings right settings-formed settings-octets
@@ -266,7 +268,7 @@ taken n u c m v h e = (h .0 ∙ ap (λ (a : Call). a .number) e, h .1 ∙ ap (λ
 
 -- a write of port p that leaves the PDU s, its one declaration
 abbrev pub Leaves : ℕ → List ℕ → List ℕ → Type 0
-Leaves p u s = (buffer : List ℕ) (n long next : ℕ) (after : List ℕ) → 1500 ≤ length buffer → Writes u p 0 buffer n long next after →
+Leaves p u s = (buffer : List ℕ) (n long next : ℕ) (after : List ℕ) → longestPdu ≤ length buffer → Writes u p 0 buffer n long next after →
     (n ≡ 0) × (long ≡ length s) × (next ≡ 1) × (take long after ≡ s)
 
 written-on : (p : ℕ) (s : List ℕ) → Frames.wrongPort (settled .settings) p ≡ false → Writing p s → Leaves p (encode settled) s
@@ -277,7 +279,7 @@ written-on p s right w buffer n long next after enough call =
     (c .0, c .1, c .2, rw (c .1, c .3) (take-append-seam s (drop (length s) buffer)))
 
 -- Any table of the right length; the calls of the worked example, one after another.
-module _ (t : List ℕ) (right : length t ≡ 31824)
+module _ (t : List ℕ) (right : length t ≡ tableLength)
     (n₀ : ℕ) (u₀ : List ℕ) (start : Starts t settings n₀ u₀)
     (n₁ : ℕ) (u₁ : List ℕ) (first : Receives u₀ 1 talker n₁ u₁)
     (n₂ : ℕ) (u₂ : List ℕ) (second : Receives u₁ 2 listener n₂ u₂)

@@ -15,11 +15,11 @@ use Rattle.octets.specs.Fields.{fields, Fit, width, flat}
 use Rattle.octets.proofs.Fields.{length-packed-any, fields-of-packed, fields-fit, fit-at, fit-append, fit-zeros, packed-zeros}
 use Rattle.model.specs.Layout.{cellSize, cellWidths, fixedWidths, listenerPlace}
 use Rattle.model.specs.Lists.{All, allTrue, implies, tabulate, parts, Octets, bit, isOne}
-use Rattle.model.specs.State.{Leaving, stays, since, Fixed, Health, sound, broken, Varying, Talker, noTalker, talker, Ready, askingFailed, ready, readyFailed, Listener, noListener, listener, Cell, empty}
+use Rattle.model.specs.State.{Leaving, stays, since, Fixed, Health, sound, broken, Registration, Talker, noTalker, talker, Ready, askingFailed, ready, readyFailed, Listener, noListener, listener, Cell, empty}
 use Rattle.model.specs.Frames.{priorityOf, rankOf}
 use Rattle.model.specs.WrittenFrames.{priorityOctet, fixedNumbers, readyNumber}
 use Rattle.model.specs.Settling.{isTalking, isHearing, held}
-use Rattle.model.specs.Table.{leavingNumber, sinceNumber, toLeaving, healthNumber, bridgeNumber, codeNumber, toHealth, talkerNumbers, listenerNumbers, cellNumbers, fixedFrom, toReady, talkerFrom, listenerFrom, cellFrom, cellOctets, toCell, allZero, leavingRule, cellRules, cellFormed, holds}
+use Rattle.model.specs.Table.{leavingNumber, sinceNumber, toLeaving, healthNumber, bridgeNumber, codeNumber, toHealth, talkerNumbers, listenerNumbers, cellNumbers, fixedFrom, toReady, registrationFrom, talkerFrom, listenerFrom, cellFrom, cellOctets, toCell, allZero, leavingRule, cellRules, cellFormed, holds}
 use Rattle.model.proofs.Lists.{all-each, and-left, and-right, and-both, implied, all-true, true-all}
 use Rattle.model.proofs.Valid.{ValidLeaving, ValidFixed, ValidHealth, ValidTalker, ValidListener, ValidCell}
 use Rattle.model.proofs.Parts.{octets-at, octets-packed, _also_, zero-between, zero-run, packed-whole, parts-take, parts-flat, Sized}
@@ -181,7 +181,7 @@ ready-number readyFailed = (omega arith, omega arith)
 talker-size : (t : Talker) → length (talkerNumbers t) ≡ 12
 unfolding talkerNumbers fixedNumbers
 talker-size noTalker = refl
-talker-size (talker f v m l) = refl
+talker-size (talker r) = refl
 
 listener-size : (h : Listener) → length (listenerNumbers h) ≡ 3
 unfolding listenerNumbers
@@ -209,21 +209,22 @@ listener-back : (t : Talker) (h : Listener) → listenerFrom (talkerNumbers t ++
 unfolding listenerFrom talkerNumbers listenerNumbers fixedNumbers
 listener-back noTalker noListener = refl
 listener-back noTalker (listener r l) = rw (ready-rules r .1, ready-back r, leaving-back l)
-listener-back (talker f w m k) noListener = refl
-listener-back (talker f w m k) (listener r l) = rw (ready-rules r .1, ready-back r, leaving-back l)
+listener-back (talker k) noListener = refl
+listener-back (talker k) (listener r l) = rw (ready-rules r .1, ready-back r, leaving-back l)
 
 module _ (clock leave : ℕ) where
   talker-fit : (t : Talker) → ValidTalker clock leave t → clock < 2 ^ 32 → Fit (take 12 cellWidths) (talkerNumbers t)
   unfolding Fit talkerNumbers
   talker-fit noTalker v h = fit-zeros (take 12 cellWidths)
-  talker-fit (talker f w m l) v h =
-      let (k, b, c) = health-fit (w .health) (v .1 .health) in
+  talker-fit (talker r) v h =
+      let w = r .varying in
+      let (k, b, c) = health-fit (w .health) (v .varying .health) in
       k
-      also omega (arith, bit-few m)
-      also leaving-few l
-      also since-within clock leave l (v .2) h
-      also fit-append fixedWidths (fixedNumbers f) (4 ∷ 8 ∷ 1 ∷ []) (w .latency ∷ bridgeNumber (w .health) ∷ codeNumber (w .health) ∷ [])
-      (fixed-fit f (v .0)) (v .1 .latency also b also c also tt)
+      also omega (arith, bit-few (r .changed))
+      also leaving-few (r .leaving)
+      also since-within clock leave (r .leaving) (v .leaving) h
+      also fit-append fixedWidths (fixedNumbers (r .fixed)) (4 ∷ 8 ∷ 1 ∷ []) (w .latency ∷ bridgeNumber (w .health) ∷ codeNumber (w .health) ∷ [])
+      (fixed-fit (r .fixed) (v .fixed)) (v .varying .latency also b also c also tt)
 
   listener-fit : (h : Listener) → ValidListener clock leave h → clock < 2 ^ 32 → Fit (drop 12 cellWidths) (listenerNumbers h)
   unfolding Fit listenerNumbers
@@ -237,15 +238,16 @@ module _ (clock leave : ℕ) where
       (talker-fit (c .talks) (v .talks) h) (listener-fit (c .hears) (v .hears) h)
 
   talker-back : (t : Talker) → ValidTalker clock leave t → (after : List ℕ) → talkerFrom (talkerNumbers t ++ after) ≡ t
-  unfolding talkerFrom talkerNumbers fixedNumbers
+  unfolding talkerFrom registrationFrom talkerNumbers fixedNumbers
   talker-back noTalker v after = refl
-  talker-back (talker f w m l) v after =
+  talker-back (talker r) v after =
+      let w = r .varying in
       rw (
         health-rules (w .health) .1,
-        bit-back m,
-        leaving-back l,
+        bit-back (r .changed),
+        leaving-back (r .leaving),
         health-back (w .health),
-        fixed-back f (v .0) (healthNumber (w .health) ∷ bit m ∷ leavingNumber l ∷ sinceNumber l ∷ [])
+        fixed-back (r .fixed) (v .fixed) (healthNumber (w .health) ∷ bit (r .changed) ∷ leavingNumber (r .leaving) ∷ sinceNumber (r .leaving) ∷ [])
             (w .latency ∷ bridgeNumber (w .health) ∷ codeNumber (w .health) ∷ after),
       )
 
@@ -263,13 +265,13 @@ module _ (clock leave : ℕ) where
   cell-rules noTalker v h u =
       true-all (cellRules clock leave (talkerNumbers noTalker ++ listenerNumbers h))
       (refl also refl also refl also refl also refl also refl also hearing-rules h u)
-  cell-rules (talker f w m l) v h u =
-      let (few, there, whole) = health-rules (w .health) in
-      true-all (cellRules clock leave (talkerNumbers (talker f w m l) ++ listenerNumbers h))
+  cell-rules (talker r) v h u =
+      let (few, there, whole) = health-rules (r .varying .health) in
+      true-all (cellRules clock leave (talkerNumbers (talker r) ++ listenerNumbers h))
       (few
-      also le-leb (bit m) 1 (bit-few m)
-      also leaving-formed clock leave l (v .2)
-      also eq-eqb (priorityOctet f % 16) 0 (priority-spare f)
+      also le-leb (bit (r .changed)) 1 (bit-few (r .changed))
+      also leaving-formed clock leave (r .leaving) (v .leaving)
+      also eq-eqb (priorityOctet (r .fixed) % 16) 0 (priority-spare (r .fixed))
       also rw there refl
       also whole
       also hearing-rules h u)
@@ -307,7 +309,7 @@ kept clock leave vs h =
 
 module _ (clock leave : ℕ) (vs : List ℕ) (k : Kept clock leave vs) where
   talker-forth : talkerNumbers (talkerFrom vs) ≡ tabulate 12 0 (λ i. getD vs i 0)
-  unfolding talkerNumbers talkerFrom tabulate
+  unfolding talkerNumbers talkerFrom registrationFrom tabulate
   talker-forth = go (getD vs 0 0) refl
     where
       at : ℕ → ℕ
@@ -335,24 +337,19 @@ module _ (clock leave : ℕ) (vs : List ℕ) (k : Kept clock leave vs) where
 
   module _ (fit : Fit cellWidths vs) where
     talker-valid : ValidTalker clock leave (talkerFrom vs)
-    unfolding talkerFrom
+    unfolding talkerFrom registrationFrom
     talker-valid = go (eqb (getD vs 0 0) 0)
       where
         at : (i : ℕ) → getD vs i 0 < 256 ^ getD cellWidths i 0
         at = fit-at cellWidths vs fit
 
-        read : Talker
-        read =
-            talker (fixedFrom 4 vs) record { health = toHealth (getD vs 0 0) (getD vs 10 0) (getD vs 11 0); latency = getD vs 9 0 }
-            (isOne (getD vs 1 0)) (toLeaving (getD vs 2 0) (getD vs 3 0))
-
-        go : (t : Bool) → ValidTalker clock leave (cond t noTalker read)
+        go : (t : Bool) → ValidTalker clock leave (cond t noTalker (talker (registrationFrom vs)))
         go true = tt
-        go false = (
-          fixed-valid 4 vs (at 4) (at 5) (at 6) (at 7) (at 8),
-          record { health = health-valid (getD vs 0 0) (getD vs 10 0) (getD vs 11 0) (at 10) (at 11); latency = at 9 },
-          left clock leave (getD vs 2 0) (getD vs 3 0) (k .leaves) .valid,
-        )
+        go false = record {
+          fixed = fixed-valid 4 vs (at 4) (at 5) (at 6) (at 7) (at 8);
+          varying = record { health = health-valid (getD vs 0 0) (getD vs 10 0) (getD vs 11 0) (at 10) (at 11); latency = at 9 };
+          leaving = left clock leave (getD vs 2 0) (getD vs 3 0) (k .leaves) .valid;
+        }
 
   listener-valid : ValidListener clock leave (listenerFrom vs)
   unfolding listenerFrom
@@ -449,11 +446,10 @@ unfolding fields beAt
 kinds s = (omega arith, omega arith)
 
 -- a Talker, and a Listener, that is there unless its kind is 0
-talking-unless : (t : Bool) (f : Fixed) (v : Varying) (m : Bool) (l : Leaving) (h : Listener)
-    → isTalking record { talks = cond t noTalker (talker f v m l); hears = h } ≡ not t
+talking-unless : (t : Bool) (r : Registration) (h : Listener) → isTalking record { talks = cond t noTalker (talker r); hears = h } ≡ not t
 unfolding isTalking
-talking-unless true f v m l h = refl
-talking-unless false f v m l h = refl
+talking-unless true r h = refl
+talking-unless false r h = refl
 
 hearing-unless : (t : Bool) (r : Ready) (l : Leaving) (k : Talker) → isHearing record { talks = k; hears = cond t noListener (listener r l) } ≡ not t
 unfolding isHearing
@@ -464,9 +460,7 @@ talking-read : (s : List ℕ) → isTalking (toCell s) ≡ not (eqb (getD s 0 0)
 unfolding toCell cellFrom talkerFrom
 talking-read s =
     let vs = fields cellWidths 0 s in
-    talking-unless (eqb (getD vs 0 0) 0) (fixedFrom 4 vs) record { health = toHealth (getD vs 0 0) (getD vs 10 0) (getD vs 11 0); latency = getD vs 9 0 }
-    (isOne (getD vs 1 0)) (toLeaving (getD vs 2 0) (getD vs 3 0)) (listenerFrom vs)
-    ∙ ap (λ (k : ℕ). not (eqb k 0)) (kinds s .0)
+    talking-unless (eqb (getD vs 0 0) 0) (registrationFrom vs) (listenerFrom vs) ∙ ap (λ (k : ℕ). not (eqb k 0)) (kinds s .0)
 
 hearing-read : (s : List ℕ) → isHearing (toCell s) ≡ not (eqb (getD s listenerPlace 0) 0)
 unfolding toCell cellFrom listenerFrom

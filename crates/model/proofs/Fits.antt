@@ -57,19 +57,19 @@ fit-fixed f w r = record {
 fit-talker : (t : Talker) (after : List ℕ) → ((i : ℕ) → getD (talkerNumbers t ++ after) i 0 < 256 ^ getD cellWidths i 0)
     → FitRank t → ValidTalker latest longest t
 unfolding talkerNumbers fixedNumbers Fit
-fit-talker noTalker after at r = tt
-fit-talker (talker f v m l) after at r = (
-  fit-fixed f (at 4 also at 5 also at 6 also at 7 also at 8 also tt) r,
-  record { health = fit-health (v .health) (at 10) (at 11); latency = at 9 },
-  fit-leaving l (at 3),
-)
+fit-talker noTalker after at rank = tt
+fit-talker (talker r) after at rank = record {
+  fixed = fit-fixed (r .fixed) (at 4 also at 5 also at 6 also at 7 also at 8 also tt) rank;
+  varying = record { health = fit-health (r .varying .health) (at 10) (at 11); latency = at 9 };
+  leaving = fit-leaving (r .leaving) (at 3);
+}
 
 fit-listener : (t : Talker) (h : Listener) → ((i : ℕ) → getD (talkerNumbers t ++ listenerNumbers h) i 0 < 256 ^ getD cellWidths i 0)
     → ValidListener latest longest h
 unfolding talkerNumbers listenerNumbers fixedNumbers
 fit-listener t noListener at = tt
 fit-listener noTalker (listener r l) at = fit-leaving l (at 14)
-fit-listener (talker f v m k) (listener r l) at = fit-leaving l (at 14)
+fit-listener (talker k) (listener r l) at = fit-leaving l (at 14)
 
 pub cell-read : (c : Cell) → FitCell c → toCell (cellOctets c) ≡ c
 unfolding cellNumbers
@@ -186,7 +186,7 @@ module _ (s : List ℕ) where
 
 talker-rank : (clock leave : ℕ) (t : Talker) → ValidTalker clock leave t → FitRank t
 talker-rank clock leave noTalker v = tt
-talker-rank clock leave (talker f w m l) v = v .0 .rank
+talker-rank clock leave (talker r) v = v .fixed .rank
 
 -- at a bridge with this clock and leave time
 module _ (ports clock leave : ℕ) (small : clock < 2 ^ 32) where

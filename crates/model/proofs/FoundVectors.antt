@@ -14,7 +14,7 @@ use Rattle.octets.proofs.Parts.{length-part}
 use Rattle.model.specs.Lists.{All, Octets}
 use Rattle.model.specs.State.{Settings}
 use Rattle.model.specs.Registrations.{Kind, advertises, faileds, listeners, Act, leaveAll, leave, talk, listen, Reading, refused, acts, joins, asks}
-use Rattle.model.specs.Frames.{Attribute, registers, domain, TypeOctet, notAllowed, unknown, known, typeOctet, firstWidths, firstLength, threeLength, fourLength, Vector, vectorAt, vectorEnd, overpacked, runsPast, overflows, Walk, fault, found, also, both, vectors, listLength, listAt, messageEnd, endMark, message, messages, walk, Asking, nothingAsked, join, withdraw, priorityOf, rankOf, fixedValue, healthValue, idValue, hearing, talkerAct, listenerAct, valueActs, valuesActs, leaveAllActs, vectorActs, frameActs, walked, wrongPort, reading}
+use Rattle.model.specs.Frames.{Attribute, registers, domain, TypeOctet, notAllowed, unknown, known, typeOctet, firstWidths, firstLength, threeLength, fourLength, Vector, vectorAt, vectorEnd, overpacked, runsPast, overflows, Walk, fault, found, also, both, vectors, listLength, listAt, messageEnd, endMark, message, messages, walk, Asking, nothingAsked, join, withdraw, priorityOf, rankOf, fixedValue, healthValue, idValue, hearing, talkerAct, listenerAct, valueActs, valuesActs, leaveAllActs, vectorActs, frameActs, walked, wrongPort, reading, longestPdu}
 use Rattle.model.proofs.Lists.{all-append}
 use Rattle.model.proofs.Parts.{octets-at, octets-part}
 use Rattle.octets.proofs.Fields.{beAt-fits}
@@ -103,7 +103,7 @@ module _ (P : Vector → Type 0) where
     unfolding walk
     every-walk vs e =
         every-found (walk s) vs e
-        (passing (eqb (length s) 0) 2 _ (λ _. passing (ltb 1500 (length s)) 2 _ (λ _. every-messages (suc (length s)) (getD s 0 0) 1)))
+        (passing (eqb (length s) 0) 2 _ (λ _. passing (ltb longestPdu (length s)) 2 _ (λ _. every-messages (suc (length s)) (getD s 0 0) 1)))
 
 -- The facts of a vector found.
 

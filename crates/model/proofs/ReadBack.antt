@@ -17,7 +17,7 @@ use Rattle.octets.proofs.Fields.{packed-octets, beAt-fits, fields-of-packed}
 use Rattle.model.specs.Lists.{All, keep, Octets, bit}
 use Rattle.model.specs.State.{Settings, Fixed, Health, sound, broken, Ready, askingFailed, ready, readyFailed, Column, none, advertise, failed, Entry, noEntry, filters, forwards, Declared, nothing, tells, Result, Stream, Bridge, resultAt, unsettled}
 use Rattle.model.specs.Registrations.{Kind, advertises, faileds, listeners, talk, listen, acts}
-use Rattle.model.specs.Frames.{Attribute, registers, known, typeOctet, firstWidths, firstLength, threeLength, fourLength, Vector, vectorAt, vectorEnd, overpacked, runsPast, overflows, found, also, both, vectors, listLength, listAt, messageEnd, endMark, message, messages, walk, joinMt, event, threePacked, fourPacked, eventOf, fourOf, asking, join, priorityOf, rankOf, fixedValue, healthValue, idValue, hearing, talkerAct, listenerAct, valueActs, valuesActs, leaveAllActs, vectorActs, frameActs, walked, wrongPort, reading}
+use Rattle.model.specs.Frames.{Attribute, registers, known, typeOctet, firstWidths, firstLength, threeLength, fourLength, Vector, vectorAt, vectorEnd, overpacked, runsPast, overflows, found, also, both, vectors, listLength, listAt, messageEnd, endMark, message, messages, walk, joinMt, event, threePacked, fourPacked, eventOf, fourOf, asking, join, priorityOf, rankOf, fixedValue, healthValue, idValue, hearing, talkerAct, listenerAct, valueActs, valuesActs, leaveAllActs, vectorActs, frameActs, walked, wrongPort, reading, longestPdu}
 use Rattle.model.specs.Declarations.{Declaration, talkerDeclaration, listenerDeclaration, healthKind, kindOf, joinOf, advertised, failing, listening, declarationsOf, ofKind, declarations, vectorSize, sameKind, takes, write}
 use Rattle.model.specs.WrittenFrames.{priorityOctet, fixedNumbers, failureNumbers, firstNumbers, readyNumber, fourOctets, declarationVector, vectorOctets, typeNumber, messageOf, messageOctets, having, pduOctets}
 use Rattle.model.proofs.Lists.{all-map, all-append, all-take, all-drop}
@@ -361,12 +361,12 @@ map-each : (a f n : List Declaration)
 map-each a f n = rw (append-nil (map declarationVector n), map-append declarationVector a (f ++ n), map-append declarationVector f n)
 
 -- a PDU whose Messages are read, and that is not too long
-walk-messages : (s : List ℕ) (vs : List Vector) → 1 ≤ length s → length s ≤ 1500 → messages (suc (length s)) (getD s 0 0) s 1 ≡ found vs → walk s ≡ found vs
+walk-messages : (s : List ℕ) (vs : List Vector) → 1 ≤ length s → length s ≤ longestPdu → messages (suc (length s)) (getD s 0 0) s 1 ≡ found vs → walk s ≡ found vs
 unfolding walk
-walk-messages s vs some few e = rw (ne-eqb (length s) 0 (λ q. omega arith), le-ltb 1500 (length s) few) e
+walk-messages s vs some few e = rw (ne-eqb (length s) 0 (λ q. omega arith), le-ltb longestPdu (length s) few) e
 
 -- a PDU of declarations in the order of types, if not too long, is read as their vectors
-pub walk-written : (l : List Declaration) → InOrder l → length (pduOctets l) ≤ 1500 → walk (pduOctets l) ≡ found (map declarationVector l)
+pub walk-written : (l : List Declaration) → InOrder l → length (pduOctets l) ≤ longestPdu → walk (pduOctets l) ≡ found (map declarationVector l)
 unfolding pduOctets MessagesRead
 walk-written l o h =
     walk-messages (pduOctets l) (map declarationVector l) (omega arith) h

@@ -16,7 +16,7 @@ use Rattle.model.specs.Layout.{tableLength}
 use Rattle.model.specs.Lists.{All, Octets}
 use Rattle.model.specs.State.{Settings, Bridge}
 use Rattle.model.specs.Registrations.{refused, Answer, received, applyAll, add, together, ids, joins}
-use Rattle.model.specs.Frames.{Attribute, TypeOctet, notAllowed, unknown, known, typeOctet, firstLength, Vector, vectorAt, vectorEnd, overpacked, overflows, listLength, listAt, messageEnd, endMark, Walk, fault, found, also, both, vectors, message, messages, walk, walked, frameActs, reading, wrongPort}
+use Rattle.model.specs.Frames.{Attribute, TypeOctet, notAllowed, unknown, known, typeOctet, firstLength, Vector, vectorAt, vectorEnd, overpacked, overflows, listLength, listAt, messageEnd, endMark, Walk, fault, found, also, both, vectors, message, messages, walk, walked, frameActs, reading, wrongPort, longestPdu}
 use Rattle.model.specs.Settling.{advance}
 use Rattle.model.specs.Declarations.{Written, write, Report, refusedReport, report, declarations}
 use Rattle.model.specs.Table.{decode, clockField, formed, settingsFormed}
@@ -78,7 +78,7 @@ write-unwritten t p place buffer =
     let none : (n : ℕ) → Unwritten buffer (refusedWrite n buffer) = λ n. refused-unwritten n buffer in
     cond-either (Unwritten buffer) (not (formed t)) _ _ (none 12)
     (cond-either (Unwritten buffer) (wrongPort (decode t .settings) p) _ _ (none 1)
-    (cond-either (Unwritten buffer) (ltb (length buffer) 1500) _ _ (none 10)
+    (cond-either (Unwritten buffer) (ltb (length buffer) longestPdu) _ _ (none 10)
     (cond-either (Unwritten buffer) (eqb (write (decode t) p place .number) 0) _ _ (λ n. absurd (n refl)) (none _))))
 
 pub write-refused : (t : List ℕ) (p place : ℕ) (buffer : List ℕ) → (writeOn t p place buffer .number ≡ 0 → ⊥) →
@@ -317,20 +317,20 @@ walk-faults s =
     let P : Walk → Type 0 = λ w. (n : ℕ) → w ≡ fault n → (2 ≤ n) × (n ≤ 7) in
     let two : P (fault 2) = λ n e. let k : 2 ≡ n = cc in (omega arith, omega arith) in
     let later : P (afterVersion s) = λ n e. let k = later-faults s n e in (omega arith, omega arith) in
-    cond-either P (eqb (length s) 0) _ _ two (cond-either P (ltb 1500 (length s)) _ _ two later)
+    cond-either P (eqb (length s) 0) _ _ two (cond-either P (ltb longestPdu (length s)) _ _ two later)
 
 -- 2: "PDU has 0 octets or more than 1,500"
-walk-2 : (s : List ℕ) → (walk s ≡ fault 2) ↔ ((length s ≡ 0) ⊎ (1500 < length s))
+walk-2 : (s : List ℕ) → (walk s ≡ fault 2) ↔ ((length s ≡ 0) ⊎ (longestPdu < length s))
 unfolding walk afterVersion
-walk-2 s = go (eqb (length s) 0) refl (ltb 1500 (length s)) refl
+walk-2 s = go (eqb (length s) 0) refl (ltb longestPdu (length s)) refl
   where
-    go : (a : Bool) → eqb (length s) 0 ≡ a → (b : Bool) → ltb 1500 (length s) ≡ b →
-        (cond a (fault 2) (cond b (fault 2) (afterVersion s)) ≡ fault 2) ↔ ((length s ≡ 0) ⊎ (1500 < length s))
+    go : (a : Bool) → eqb (length s) 0 ≡ a → (b : Bool) → ltb longestPdu (length s) ≡ b →
+        (cond a (fault 2) (cond b (fault 2) (afterVersion s)) ≡ fault 2) ↔ ((length s ≡ 0) ⊎ (longestPdu < length s))
     go true e b f = (λ k. inl (eqb-true _ _ e), λ k. refl)
     go false e true f = (λ k. inr (ltb-true _ _ f), λ k. refl)
     go false e false f = (
       λ k. let h = later-faults s 2 k in absurd (omega arith),
-      ⊎-elim (λ h. absurd (eqb-false _ _ e h)) (λ h. absurd (omega (arith, ltb-false 1500 (length s) f))),
+      ⊎-elim (λ h. absurd (eqb-false _ _ e h)) (λ h. absurd (omega (arith, ltb-false longestPdu (length s) f))),
     )
 
 -- 8 is tested as "at most 64"
@@ -419,7 +419,7 @@ module _ (t : List ℕ) (p : ℕ) (pdu : List ℕ) where
       rw receive-number
       (fronted-past t p _ n _ (λ e. omega arith) (λ e. omega arith) (frame-fault (decode t) p pdu n h k))
 
-  pub receive-2 : (receiveOn t p pdu .number ≡ 2) ↔ (OnPort t p × ((length pdu ≡ 0) ⊎ (1500 < length pdu)))
+  pub receive-2 : (receiveOn t p pdu .number ≡ 2) ↔ (OnPort t p × ((length pdu ≡ 0) ⊎ (longestPdu < length pdu)))
   receive-2 = Iff·trans (receive-fault 2 (omega arith) (omega arith)) (Iff·and Iff·rfl (walk-2 pdu))
 
   -- 8: "streams held plus different new ones joined by this PDU exceed 64"
@@ -517,17 +517,17 @@ module _ (t : List ℕ) (p place : ℕ) (buffer : List ℕ) where
   count = length (declarations (p - 1) (decode t .streams))
 
   roomNumber : ℕ
-  roomNumber = cond (ltb (length buffer) 1500) 10 (cond (ltb count place) 13 0)
+  roomNumber = cond (ltb (length buffer) longestPdu) 10 (cond (ltb count place) 13 0)
 
   no-room : (n : ℕ) → (10 ≡ n → ⊥) → (13 ≡ n → ⊥) → (0 ≡ n → ⊥) → roomNumber ≡ n → ⊥
   unfolding roomNumber
-  no-room n h k l = not-given (ltb (length buffer) 1500) 10 _ n h (not-given (ltb count place) 13 0 n k l)
+  no-room n h k l = not-given (ltb (length buffer) longestPdu) 10 _ n h (not-given (ltb count place) 13 0 n k l)
 
   write-number : writeOn t p place buffer .number ≡ fronted t p roomNumber
   unfolding writeOn writtenTo write refusedWrite fronted roomNumber count
   write-number =
-      go (not (formed t)) (wrongPort (decode t .settings) p) (ltb (length buffer) 1500) _
-      ∙ ap (λ (n : ℕ). fronted t p (cond (ltb (length buffer) 1500) 10 n))
+      go (not (formed t)) (wrongPort (decode t .settings) p) (ltb (length buffer) longestPdu) _
+      ∙ ap (λ (n : ℕ). fronted t p (cond (ltb (length buffer) longestPdu) 10 n))
       (written (write (decode t) p place) ∙ cond-of (λ (w : Written). w .number) (ltb count place) _ _)
     where
       written : (w : Written) → writtenTo buffer w .number ≡ w .number
@@ -547,30 +547,30 @@ module _ (t : List ℕ) (p place : ℕ) (buffer : List ℕ) where
   pub write-1 : (writeOn t p place buffer .number ≡ 1) ↔ ((formed t ≡ true) × (wrongPort (decode t .settings) p ≡ true))
   write-1 = rw write-number (fronted-1 t p roomNumber (no-room 1 (λ e. omega arith) (λ e. omega arith) (λ e. omega arith)))
 
-  pub write-10 : (writeOn t p place buffer .number ≡ 10) ↔ (OnPort t p × (length buffer < 1500))
+  pub write-10 : (writeOn t p place buffer .number ≡ 10) ↔ (OnPort t p × (length buffer < longestPdu))
   unfolding roomNumber
   write-10 =
       rw write-number
       (fronted-past t p roomNumber 10 _ (λ e. omega arith) (λ e. omega arith)
-      (given _ 10 _ _ (not-given (ltb count place) 13 0 10 (λ e. omega arith) (λ e. omega arith)) (is-below (length buffer) 1500)))
+      (given _ 10 _ _ (not-given (ltb count place) 13 0 10 (λ e. omega arith) (λ e. omega arith)) (is-below (length buffer) longestPdu)))
 
   -- once the buffer is long enough, the place's number
   write-place : (n : ℕ) (P : Type 0) → (12 ≡ n → ⊥) → (1 ≡ n → ⊥) → (10 ≡ n → ⊥) → (cond (ltb count place) 13 0 ≡ n) ↔ P →
-      (writeOn t p place buffer .number ≡ n) ↔ (OnPort t p × ((1500 ≤ length buffer) × P))
+      (writeOn t p place buffer .number ≡ n) ↔ (OnPort t p × ((longestPdu ≤ length buffer) × P))
   unfolding roomNumber
   write-place n P h k l i =
       rw write-number
-      (fronted-past t p roomNumber n _ h k (given-after _ 10 _ n _ P l (is-at-least (length buffer) 1500) i))
+      (fronted-past t p roomNumber n _ h k (given-after _ 10 _ n _ P l (is-at-least (length buffer) longestPdu) i))
 
   pub write-13 : (writeOn t p place buffer .number ≡ 13) ↔
-      (OnPort t p × ((1500 ≤ length buffer) × (length (declarations (p - 1) (decode t .streams)) < place)))
+      (OnPort t p × ((longestPdu ≤ length buffer) × (length (declarations (p - 1) (decode t .streams)) < place)))
   unfolding count
   write-13 =
       write-place 13 _ (λ e. omega arith) (λ e. omega arith) (λ e. omega arith)
       (given _ 13 0 _ (λ e. omega arith) (is-below count place))
 
   pub write-0 : (writeOn t p place buffer .number ≡ 0) ↔
-      (OnPort t p × ((1500 ≤ length buffer) × (place ≤ length (declarations (p - 1) (decode t .streams)))))
+      (OnPort t p × ((longestPdu ≤ length buffer) × (place ≤ length (declarations (p - 1) (decode t .streams)))))
   unfolding count
   write-0 =
       write-place 0 _ (λ e. omega arith) (λ e. omega arith) (λ e. omega arith)
@@ -581,7 +581,7 @@ module _ (t : List ℕ) (p place : ℕ) (buffer : List ℕ) where
   write-numbers =
       rw write-number
       (fronted-all (OneOf (0 ∷ 1 ∷ 10 ∷ 12 ∷ 13 ∷ [])) t p roomNumber (inr (inr (inr (inl refl)))) (inr (inl refl))
-      (cond-either (OneOf (0 ∷ 1 ∷ 10 ∷ 12 ∷ 13 ∷ [])) (ltb (length buffer) 1500) 10 _ (inr (inr (inl refl)))
+      (cond-either (OneOf (0 ∷ 1 ∷ 10 ∷ 12 ∷ 13 ∷ [])) (ltb (length buffer) longestPdu) 10 _ (inr (inr (inl refl)))
       (cond-either (OneOf (0 ∷ 1 ∷ 10 ∷ 12 ∷ 13 ∷ [])) (ltb count place) 13 0 (inr (inr (inr (inr (inl refl))))) (inl refl))))
 
 -- report: 13

@@ -12,7 +12,7 @@ use Rattle.octets.specs.Fields.{fields, packed, Fit, width, flat}
 use Rattle.octets.specs.Parts.{part, zeros}
 use Rattle.octets.proofs.Parts.{length-part}
 use Rattle.octets.proofs.Fields.{length-packed-any, fields-packed, fields-packed-behind, fields-of-packed, packed-fields, fields-fit, fit-at, beAt-fits}
-use Rattle.model.specs.Layout.{cellSize, cellsPlace, cellsSize, clockPlace, clockSize, clockWidths, countPlace, nameSize, nameWidths, portPlace, portSize, recordSize, recordsPlace, resultSize, resultsPlace, resultsSize, settingsSize, settledPriorityPlace, tableLength, totalSize, totalsPlace, totalsSize, totalsWidths}
+use Rattle.model.specs.Layout.{cellSize, cellsPlace, cellsSize, clockPlace, clockSize, clockWidths, countPlace, nameSize, nameWidths, portPlace, portSize, recordSize, recordsPlace, recordsSize, resultSize, resultsPlace, resultsSize, settingsSize, settledPriorityPlace, tableLength, totalSize, totalsPlace, totalsSize, totalsWidths}
 use Rattle.model.specs.Lists.{All, allTrue, parts, Octets}
 use Rattle.model.specs.State.{Port, Totals, Stream, Bridge, empty, unsettled, noTotals, started}
 use Rattle.model.specs.Registrations.{ids}
@@ -422,7 +422,7 @@ module _ (b : Bridge) (w : Whole b) where
   pub totals-whole-length : length (totalsWhole b) ≡ totalsSize
   totals-whole-length = omega (arith, length-flat-sized totalSize totalsOctets (b .totals) (totals-sized (b .totals)), w .eight-totals)
 
-  pub records-whole-length : length (recordsWhole b) ≡ 64 * recordSize
+  pub records-whole-length : length (recordsWhole b) ≡ recordsSize
   records-whole-length =
       let n = length (b .streams) in
       let h : n ≤ 64 = w .at-most-64 in
@@ -622,7 +622,7 @@ module _ (t : List ℕ) (f : formed t ≡ true) where
   unfolding totalsPart
   totals-room = length-part totalsPlace totalsSize t (omega (arith, formed-table-length))
 
-  records-room : length (recordsPart t) ≡ 64 * recordSize
+  records-room : length (recordsPart t) ≡ recordsSize
   unfolding recordsPart
   records-room = length-drop recordsPlace t ∙ omega (arith, formed-table-length)
 

@@ -5,7 +5,7 @@ use mathlib.Core.Bool.{true}
 use Prim.Native.Nat.{ℕ, _+_, _/_, _^_, _≤_, _<_}
 use lib.ListN.{length, drop}
 use Rattle.model.specs.Lists.{All}
-use Rattle.model.specs.State.{Port, Settings, Leaving, stays, since, Fixed, Health, sound, broken, Varying, Talker, noTalker, talker, Listener, noListener, listener, Cell, Column, none, advertise, failed, Entry, noEntry, filters, forwards, Result, Stream, Bridge, empty, unsettled}
+use Rattle.model.specs.State.{Port, Settings, Leaving, stays, since, Fixed, Health, sound, broken, Varying, Registration, Talker, noTalker, talker, Listener, noListener, listener, Cell, Column, none, advertise, failed, Entry, noEntry, filters, forwards, Result, Stream, Bridge, empty, unsettled}
 use Rattle.model.specs.Registrations.{ids}
 use Rattle.model.specs.Settling.{held}
 use Rattle.model.specs.Table.{totalsWithin}
@@ -50,9 +50,14 @@ pub record ValidVarying (v : Varying) : Type 0 where
   pub health : ValidHealth (v .health)
   pub latency : v .latency < 2 ^ 32
 
+pub record ValidRegistration (clock leave : ℕ) (r : Registration) : Type 0 where
+  pub fixed : ValidFixed (r .fixed)
+  pub varying : ValidVarying (r .varying)
+  pub leaving : ValidLeaving clock leave (r .leaving)
+
 abbrev pub ValidTalker : ℕ → ℕ → Talker → Type 0
 ValidTalker clock leave noTalker = Unit {0}
-ValidTalker clock leave (talker f v m l) = ValidFixed f × ValidVarying v × ValidLeaving clock leave l
+ValidTalker clock leave (talker r) = ValidRegistration clock leave r
 
 abbrev pub ValidListener : ℕ → ℕ → Listener → Type 0
 ValidListener clock leave noListener = Unit {0}

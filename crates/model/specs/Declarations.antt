@@ -6,6 +6,7 @@ use lib.ListN.{length, getD, take, drop}
 use lib.Dec.{ltb}
 use Rattle.model.specs.State.{Fixed, Health, sound, broken, Varying, Ready, Column, none, advertise, failed, Entry, noEntry, Declared, nothing, tells, Result, Stream, Bridge, portAt, resultAt, noTotals, fresh}
 use Rattle.model.specs.Registrations.{Kind, advertises, faileds, listeners, Act, talk, listen}
+use Rattle.model.specs.Frames.{longestPdu}
 
 -- a declaration is a join of the neighbour's table
 pub data Declaration : Type 0 where
@@ -85,7 +86,7 @@ unfoldable pub fitting : ℕ → Open → List Declaration → ℕ
 fitting used o [] = 0
 fitting used o (d ∷ l) =
     let more = used + opening o (kindOf d) + vectorSize (kindOf d) in
-    cond (ltb 1500 more) 0 (suc (fitting more (message (kindOf d)) l))
+    cond (ltb longestPdu more) 0 (suc (fitting more (message (kindOf d)) l))
 
 -- ProtocolVersion and EndMark are three octets
 unfoldable pub takes : List Declaration → ℕ

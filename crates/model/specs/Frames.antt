@@ -167,11 +167,15 @@ messages (suc f) version s at =
     (cond (ltb (length s) (at + 4)) (fault 3)
     (message (typeOctet version (getD s at 0)) s at (messages f version s (messageEnd s at)))))
 
+-- the octets of the longest PDU
+abbrev pub longestPdu : ℕ
+longestPdu = 1500
+
 -- a PDU: 2 "has 0 octets or more than 1,500"; then the walk, from behind the ProtocolVersion
 unfoldable pub walk : List ℕ → Walk
 walk s =
     cond (eqb (length s) 0) (fault 2)
-    (cond (ltb 1500 (length s)) (fault 2)
+    (cond (ltb longestPdu (length s)) (fault 2)
     (messages (suc (length s)) (getD s 0 0) s 1))
 
 -- Events.

@@ -15,7 +15,7 @@ use Rattle.model.specs.Table.{cellNumbers, cellOctets, resultNumbers, re
 -- a rank is one bit: it shares its octet with the priority, so that the octet's width alone does not say it
 abbrev pub FitRank : Talker → Type 0
 FitRank noTalker = Unit {0}
-FitRank (talker f v m l) = f .rank < 2
+FitRank (talker r) = r .fixed .rank < 2
 
 pub record FitCell (c : Cell) : Type 0 where
   pub numbers : Fit cellWidths (cellNumbers c)

@@ -90,6 +90,9 @@ resultsSize = 8 * resultSize
 abbrev pub recordSize : ℕ
 recordSize = nameSize + cellsSize + resultsSize
 
+abbrev pub recordsSize : ℕ
+recordsSize = 64 * recordSize
+
 -- Places in the table.
 
 -- the word of ports, class priorities and leave time; the settings of the ports
@@ -112,7 +115,7 @@ abbrev pub recordsPlace : ℕ
 recordsPlace = totalsPlace + totalsSize
 
 abbrev pub tableLength : ℕ
-tableLength = recordsPlace + 64 * recordSize
+tableLength = recordsPlace + recordsSize
 
 -- the settings and the totals of the port at place p, the record of stream k
 abbrev pub portPlace : ℕ → ℕ

@@ -50,9 +50,16 @@ pub record Varying : Type 0 where
   pub health : Health
   pub latency : ℕ
 
+-- what a port has registered of a Talker
+pub record Registration : Type 0 where
+  pub fixed : Fixed
+  pub varying : Varying
+  pub changed : Bool
+  pub leaving : Leaving
+
 pub data Talker : Type 0 where
   noTalker : Talker
-  talker : Fixed → Varying → (changed : Bool) → Leaving → Talker
+  talker : Registration → Talker
 
 -- the three declaration types of a Listener
 pub data Ready : Type 0 where

@@ -11,7 +11,7 @@ use Rattle.octets.specs.Parts.{part, zeros}
 use Rattle.octets.specs.Fields.{fields, packed, flat}
 use Rattle.model.specs.Layout.{cellSize, cellWidths, cellsPlace, cellsSize, clockPlace, clockWidths, countPlace, headWidths, listenerPlace, nameWidths, portPlace, portSize, portWidths, portsPlace, portsUnit, priorityAUnit, priorityBUnit, recordSize, recordsPlace, resultSize, resultWidths, resultsPlace, resultsSize, settingsSize, settledPriorityPlace, tableLength, totalBPlace, totalSize, totalsPlace, totalsSize, totalsWidths, wordPlace}
 use Rattle.model.specs.Lists.{allTrue, implies, parts, bit, isOne}
-use Rattle.model.specs.State.{Port, Settings, Leaving, stays, since, Fixed, Health, sound, broken, Talker, noTalker, talker, Ready, askingFailed, ready, readyFailed, Listener, noListener, listener, Cell, Column, none, advertise, failed, Entry, noEntry, filters, forwards, Declared, nothing, tells, Result, Stream, Totals, Bridge}
+use Rattle.model.specs.State.{Port, Settings, Leaving, stays, since, Fixed, Health, sound, broken, Registration, Talker, noTalker, talker, Ready, askingFailed, ready, readyFailed, Listener, noListener, listener, Cell, Column, none, advertise, failed, Entry, noEntry, filters, forwards, Declared, nothing, tells, Result, Stream, Totals, Bridge}
 use Rattle.model.specs.Frames.{priorityOf, rankOf}
 use Rattle.model.specs.WrittenFrames.{fixedNumbers, readyNumber}
 
@@ -112,9 +112,10 @@ toHealth k b c = cond (eqb k 1) sound (broken b c)
 
 unfoldable pub talkerNumbers : Talker → List ℕ
 talkerNumbers noTalker = replicate 12 0
-talkerNumbers (talker f v m l) =
-    healthNumber (v .health) ∷ bit m ∷ leavingNumber l ∷ sinceNumber l
-    ∷ (fixedNumbers f ++ (v .latency ∷ bridgeNumber (v .health) ∷ codeNumber (v .health) ∷ []))
+talkerNumbers (talker r) =
+    let v = r .varying in
+    healthNumber (v .health) ∷ bit (r .changed) ∷ leavingNumber (r .leaving) ∷ sinceNumber (r .leaving)
+    ∷ (fixedNumbers (r .fixed) ++ (v .latency ∷ bridgeNumber (v .health) ∷ codeNumber (v .health) ∷ []))
 
 unfoldable pub listenerNumbers : Listener → List ℕ
 listenerNumbers noListener = replicate 3 0
@@ -137,11 +138,16 @@ fixedFrom i vs = record {
 unfoldable pub toReady : ℕ → Ready
 toReady k = cond (eqb k 1) askingFailed (cond (eqb k 2) ready readyFailed)
 
+unfoldable pub registrationFrom : List ℕ → Registration
+registrationFrom vs = record {
+  fixed = fixedFrom 4 vs;
+  varying = record { health = toHealth (getD vs 0 0) (getD vs 10 0) (getD vs 11 0); latency = getD vs 9 0 };
+  changed = isOne (getD vs 1 0);
+  leaving = toLeaving (getD vs 2 0) (getD vs 3 0);
+}
+
 unfoldable pub talkerFrom : List ℕ → Talker
-talkerFrom vs =
-    cond (eqb (getD vs 0 0) 0) noTalker
-    (talker (fixedFrom 4 vs) record { health = toHealth (getD vs 0 0) (getD vs 10 0) (getD vs 11 0); latency = getD vs 9 0 }
-    (isOne (getD vs 1 0)) (toLeaving (getD vs 2 0) (getD vs 3 0)))
+talkerFrom vs = cond (eqb (getD vs 0 0) 0) noTalker (talker (registrationFrom vs))
 
 unfoldable pub listenerFrom : List ℕ → Listener
 listenerFrom vs =

@@ -5,7 +5,7 @@ use mathlib.Core.Bool.{true, false}
 use native.Mathlib.Omega.{arith}
 use borrow.Author.Needs.{needs}
 use lib.ListN.{length}
-use Rattle.model.specs.Frames.{wrongPort}
+use Rattle.model.specs.Frames.{wrongPort, longestPdu}
 use Rattle.model.specs.Table.{formed, decode}
 use Rattle.model.specs.Laid.{Laid}
 use Rattle.model.proofs.Parts.{octets-of}
@@ -26,7 +26,7 @@ laid c =
 a-port : (c : tie.Else3) → wrongPort (decode (c .before .before .before .before .before .before .before .args .table .now) .settings) (c .before .before .before .before .before .before .before .args .port) ≡ false
 a-port c = port-right _ _ (c .before .if2 .left) (rw (c .before .before .ports .ensures .0) at (c .if3 .left))
 
-long-enough : (c : tie.Else4) → 1500 ≤ length (c .before .before .before .before .before .before .before .before .args .buffer .now)
+long-enough : (c : tie.Else4) → longestPdu ≤ length (c .before .before .before .before .before .before .before .before .args .buffer .now)
 long-enough c = omega (arith, c .if4 .left)
 
 ports-requires : tie.Need-ports-requires
@@ -45,7 +45,7 @@ returns-2 c =
 
 returns-3 : tie.Need-returns-3
 returns-3 c =
-    let short : length (c .before .before .before .before .before .before .before .before .before .args .buffer .now) < 1500 = omega (arith, c .before .if4 .taken) in
+    let short : length (c .before .before .before .before .before .before .before .before .before .args .buffer .now) < longestPdu = omega (arith, c .before .if4 .taken) in
     refused _ _ _ _ 10 _ _ _ (c .refused-write3 .ensures)
     (write-short _ _ _ _ (well-formed (c .before .before .before .before .before)) (a-port (c .before .before)) short)
 
