@@ -12,6 +12,7 @@ use Rattle.octets.specs.Parts.{part, patch, zeros}
 use Rattle.octets.specs.Fields.{flat}
 use Rattle.octets.proofs.Parts.{lent-part}
 use Rattle.octets.proofs.Fields.{flat-append}
+use Rattle.octets.proofs.Patches.{patch-part}
 use Rattle.model.specs.Layout.{countPlace, recordPlace, recordSize}
 use Rattle.model.specs.Lists.{keep}
 use Rattle.model.specs.State.{Stream, Bridge, fresh}
@@ -29,10 +30,7 @@ use Rattle.table.proofs.Header.{header, header-records, header-length, 
 use Rattle.table.proofs.Records.{unused, records-sized}
 use Rattle.table.proofs.Fitting.{held-all}
 
--- A record moved to where it is leaves all as it is.
-pub patch-part : (a n : ℕ) (s : List ℕ) → patch a n (part a n s) s ≡ s
-unfolding patch part
-patch-part a n s = rw (take-append-drop n (drop a s)) (take-append-drop a s)
+-- A record moved down, or to where it is, which leaves all as it is.
 
 pub kept-moved : (i j : ℕ) (s : List ℕ) → j ≤ i
     → patch (recordPlace j) recordSize (part (recordPlace j + (i - j) * recordSize) recordSize s) s ≡ recordKept i j s

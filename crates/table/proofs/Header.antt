@@ -127,7 +127,7 @@ no-port-fits : Fit portWidths (portNumbers noPort)
 unfolding portNumbers noPort bit
 no-port-fits = fit-zeros portWidths
 
-port-fits : (st : Settings) → FitSettings st → (p : ℕ) → Fit portWidths (portNumbers (portAt st p))
+pub port-fits : (st : Settings) → FitSettings st → (p : ℕ) → Fit portWidths (portNumbers (portAt st p))
 unfolding portAt
 port-fits st w p = all-getD (λ q. Fit portWidths (portNumbers q)) (st .ports) (w .ports) noPort no-port-fits p
 

@@ -21,10 +21,11 @@ use Rattle.model.proofs.Cells.{cell-zeros}
 use Rattle.model.proofs.Results.{result-zeros}
 use Rattle.table.specs.Octets.{recordPut}
 use Rattle.table.specs.Updates.{inserted}
+use Rattle.table.specs.Reads.{fixedOctets}
 use Rattle.table.proofs.Lens.{patch-between}
 use Rattle.table.proofs.Header.{header, header-records, header-length, count-patch}
 use Rattle.table.proofs.Records.{records-sized}
-use Rattle.table.proofs.StreamParts.{fixedOctets, settled-laid}
+use Rattle.table.proofs.StreamParts.{settled-laid}
 use Rattle.table.proofs.Moving.{gap-made}
 
 -- A stream without registrations is its StreamID and zeros.

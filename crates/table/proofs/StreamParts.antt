@@ -24,6 +24,7 @@ use Rattle.model.proofs.Results.{results-sized}
 use Rattle.model.proofs.Tables.{name, name-length, length-cells, id-read}
 use Rattle.model.proofs.Fits.{cell-read, result-read, laid-stream-is, laid-stream-fits}
 use Rattle.table.specs.Updates.{settledAs, resulting}
+pub use Rattle.table.specs.Reads.{fixedOctets}
 use Rattle.table.proofs.Lens.{lent-patch, patch-between, all-at, part-one, patch-one, each-one}
 
 -- StreamID and settled values.
@@ -32,11 +33,7 @@ pub id-at : (x : Stream) → FitStream x → beAt 8 (streamOctets x) 0 ≡ x .id
 unfolding idOf
 id-at x w = id-read x (w .name)
 
--- the settled values' octets
-unfoldable pub fixedOctets : Fixed → List ℕ
-fixedOctets f = packed fixedWidths (fixedNumbers f)
-
-fixed-length : (f : Fixed) → length (fixedOctets f) ≡ fixedSize
+pub fixed-length : (f : Fixed) → length (fixedOctets f) ≡ fixedSize
 unfolding fixedOctets fixedNumbers width
 fixed-length f = length-packed-any fixedWidths (fixedNumbers f) refl
 
@@ -59,7 +56,7 @@ settled-patch x f =
 
 -- Cells.
 
-at-set : (p : ℕ) (u : Cell → Cell) (l : List Cell) (d : Cell) → p < length l → set l p (u (getD l p d)) ≡ at p u l
+pub at-set : (p : ℕ) (u : Cell → Cell) (l : List Cell) (d : Cell) → p < length l → set l p (u (getD l p d)) ≡ at p u l
 unfolding at
 at-set p u [] d h = absurd (omega arith)
 at-set zero u (c ∷ l) d h = refl

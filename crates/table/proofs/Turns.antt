@@ -1,14 +1,13 @@
 -- Loops that lend one record of a table after another, or one cell or result of a record, to a call that changes it: what the
 -- call sees, a turn, and the end.
-use Prim.Native.Nat.{ℕ, zero, suc, _+_, _-_, _*_, _≤_, _<_}
-use native.Mathlib.Nat.{zero-mul, suc-mul}
+use Prim.Native.Nat.{ℕ, suc, _+_, _-_, _*_, _≤_, _<_}
 use native.Mathlib.Omega.{arith}
 use mathlib.Core.Path.{_≡_, sym, ap, _∙_, subst}
 use mathlib.Core.List.{List, _++_, map}
-use lib.ListN.{length, take, drop, length-drop}
-use lib.Seq.{length-take-le, drop-append-add, drop-drop}
-use Rattle.octets.specs.Parts.{each, eachFrom}
+use lib.ListN.{length, take, drop}
+use Rattle.octets.specs.Parts.{eachFrom}
 use Rattle.octets.proofs.Parts.{eachFrom-turn}
+use Rattle.octets.proofs.Patches.{eachFrom-rest}
 use Rattle.model.specs.Layout.{cellIn, cellSize, cellsPlace, recordPlace, recordSize, recordsPlace, resultIn, resultSize, resultsPlace}
 use Rattle.model.specs.State.{Cell, Result, Stream}
 use Rattle.model.specs.Registrations.{change, holding}
@@ -25,35 +24,12 @@ use Rattle.table.proofs.Header.{laid-length}
 use Rattle.table.proofs.Records.{records-each, lent-record-laid}
 use Rattle.table.proofs.StreamParts.{cells-each, results-each, lent-cell-laid, lent-result-laid}
 
--- What a loop has not come to is as it was.
+-- What a loop lends at its next turn is as it was.
 
 module _ (n : ℕ) (f : List ℕ → List ℕ) (hf : (x : List ℕ) → length x ≡ n → length (f x) ≡ n) where
-  each-rest : (k : ℕ) (s : List ℕ) → k * n ≤ length s → drop (k * n) (each k n f s) ≡ drop (k * n) s
-  unfolding each
-  each-rest zero s h = rw zero-mul
-  each-rest (suc k) s h =
-      let e : suc k * n ≡ n + k * n = omega (arith, suc-mul k n) in
-      let first = f (take n s) in
-      let l : length first ≡ n = hf (take n s) (length-take-le n s (omega arith)) in
-      rw e
-      (ap (λ (m : ℕ). drop (m + k * n) (first ++ each k n f (drop n s))) (sym l)
-      ∙ drop-append-add first (each k n f (drop n s)) (k * n)
-      ∙ each-rest k (drop n s) (omega (arith, length-drop n s))
-      ∙ drop-drop (k * n) n s)
-
-  eachFrom-rest : (b k : ℕ) (s : List ℕ) → b + k * n ≤ length s → drop (b + k * n) (eachFrom b k n f s) ≡ drop (b + k * n) s
-  unfolding eachFrom
-  eachFrom-rest b k s h =
-      let l : length (take b s) ≡ b = length-take-le b s (omega arith) in
-      ap (λ (m : ℕ). drop (m + k * n) (take b s ++ each k n f (drop b s))) (sym l)
-      ∙ drop-append-add (take b s) (each k n f (drop b s)) (k * n)
-      ∙ each-rest k (drop b s) (omega (arith, length-drop b s))
-      ∙ drop-drop (k * n) b s
-
-  -- so what it lends at its next turn is as it was
   lent-rest : (b k : ℕ) (s₀ s : List ℕ) → b + k * n ≤ length s₀ → s ≡ eachFrom b k n f s₀
       → take (b + k * n + n - (b + k * n)) (drop (b + k * n) s) ≡ take (b + k * n + n - (b + k * n)) (drop (b + k * n) s₀)
-  lent-rest b k s₀ s h e = ap (take (b + k * n + n - (b + k * n))) (ap (drop (b + k * n)) e ∙ eachFrom-rest b k s₀ h)
+  lent-rest b k s₀ s h e = ap (take (b + k * n + n - (b + k * n))) (ap (drop (b + k * n)) e ∙ eachFrom-rest n f hf b k s₀ h)
 
 -- Records. The call ensures `now (p .exit) ≡ streamOctets (g (toStream (now (p .entry))))`, and g keeps eight cells and results.
 
