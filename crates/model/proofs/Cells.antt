@@ -85,7 +85,7 @@ unfolding toLeaving leavingNumber sinceNumber
 leaving-back stays = refl
 leaving-back (since t) = refl
 
-leaving-few : (l : Leaving) → leavingNumber l < 256
+pub leaving-few : (l : Leaving) → leavingNumber l < 256
 unfolding leavingNumber
 leaving-few stays = omega arith
 leaving-few (since t) = omega arith
@@ -194,7 +194,7 @@ unfolding healthNumber bridgeNumber codeNumber allZero
 health-rules sound = (refl, refl, refl)
 health-rules (broken b c) = (refl, refl, refl)
 
-health-fit : (h : Health) → ValidHealth h → (healthNumber h < 256) × (bridgeNumber h < 256 ^ 8) × (codeNumber h < 256)
+pub health-fit : (h : Health) → ValidHealth h → (healthNumber h < 256) × (bridgeNumber h < 256 ^ 8) × (codeNumber h < 256)
 unfolding healthNumber bridgeNumber codeNumber
 health-fit sound v = (omega arith, omega arith, omega arith)
 health-fit (broken b c) v = (omega arith, v .0, v .1)

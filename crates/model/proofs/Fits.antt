@@ -43,7 +43,7 @@ fit-health sound p q = tt
 fit-health (broken b c) p q = (p, q)
 
 -- five numbers, the last of them priority and rank
-fit-fixed : (f : Fixed) → Fit fixedWidths (fixedNumbers f) → f .rank < 2 → ValidFixed f
+pub fit-fixed : (f : Fixed) → Fit fixedWidths (fixedNumbers f) → f .rank < 2 → ValidFixed f
 unfolding Fit fixedNumbers priorityOctet
 fit-fixed f w r = record {
   destination = w .0;
@@ -104,7 +104,7 @@ module _ (x : Stream) (w : FitStream x) where
   unfolding Fit
   id-fits = w .name .0
 
-  settled-fits : Fit fixedWidths (fixedNumbers (x .settled))
+  pub settled-fits : Fit fixedWidths (fixedNumbers (x .settled))
   unfolding Fit
   settled-fits = w .name .1
 

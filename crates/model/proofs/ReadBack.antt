@@ -21,10 +21,10 @@ use Rattle.model.specs.FrameLayout.{longestPdu}
 use Rattle.model.specs.Frames.{Attribute, registers, known, typeOctet, firstWidths, firstLength, threeLength, fourLength, Vector, vectorAt, vectorEnd, overpacked, runsPast, overflows, found, also, both, vectors, listLength, listAt, messageEnd, endMark, message, messages, walk, joinMt, event, threePacked, fourPacked, eventOf, fourOf, asking, join, priorityOf, rankOf, fixedValue, healthValue, idValue, hearing, talkerAct, listenerAct, valueActs, valuesActs, leaveAllActs, vectorActs, frameActs, walked, wrongPort, reading}
 use Rattle.model.specs.Declarations.{Declaration, talkerDeclaration, listenerDeclaration, healthKind, kindOf, joinOf, advertised, failing, listening, declarationsOf, ofKind, declarations, vectorSize, sameKind, takes, write}
 use Rattle.model.specs.WrittenFrames.{priorityOctet, fixedNumbers, failureNumbers, firstNumbers, readyNumber, fourOctets, declarationVector, vectorOctets, typeNumber, messageOf, messageOctets, having, pduOctets}
-use Rattle.model.proofs.Lists.{all-map, all-append, all-take, all-drop}
+use Rattle.model.proofs.Lists.{all-map, all-append, all-take, all-drop, all-getD}
 use Rattle.model.proofs.Parts.{octets-append, octets-number, octets-packed}
 use Rattle.model.proofs.Valid.{Valid, ValidFixed, ValidHealth, ValidVarying, ValidColumn, ValidResult, ValidStream}
-use Rattle.model.proofs.AdvanceKeepsForm.{all-getD, unsettled-valid}
+use Rattle.model.proofs.AdvanceKeepsForm.{unsettled-valid}
 use Rattle.model.proofs.WritingPasses.{length-first, length-vector, NotBefore, OfKind, InOrder, all-of-kind, having-kind, having-none, declared, write-above, write-from, run-in-order, run-fits, writeAll, all-runs}
 
 -- Octets behind a prefix.
@@ -552,7 +552,7 @@ declarations-within b h p =
     Ok = ValidStream (length (b .settings .ports)) (b .clock) (b .settings .leaveTime)
 
     result : (x : Stream) → Ok x → ValidResult (b .clock) (resultAt x (p - 1))
-    result x o = unfold resultAt in (all-getD (ValidResult (b .clock)) (x .results) (p - 1) unsettled (unsettled-valid (b .clock)) (o .results))
+    result x o = unfold resultAt in (all-getD (ValidResult (b .clock)) (x .results) (o .results) unsettled (unsettled-valid (b .clock)) (p - 1))
 
     of : (j : Kind) → All ValidDeclaration (ofKind j (p - 1) (b .streams))
     of j =

@@ -10,3 +10,4 @@ pub mod Fitting
 pub mod HeldRecords
 pub mod Dropping
 pub mod Turns
+pub mod ByPlace
