@@ -5,12 +5,12 @@ use native.Mathlib.Omega.{arith}
 use mathlib.Core.Path.{_≡_, refl, sym, ap, _∙_, subst}
 use mathlib.Core.Bool.{Bool, true, false}
 use mathlib.Core.List.{List, [], _∷_, _++_, map}
-use lib.ListN.{length, getD, set, take, drop, length-set, length-map}
+use lib.ListN.{length, getD, set, take, drop, replicate, length-set, length-map}
 use Rattle.octets.specs.Fields.{Fit}
 use Rattle.octets.proofs.Fields.{fit-zeros}
 use Rattle.model.specs.Layout.{cellWidths, fixedWidths, resultWidths}
 use Rattle.model.specs.Lists.{All, keep}
-use Rattle.model.specs.State.{Cell, Result, Stream, Totals, Bridge, empty, unsettled, noFixed, blank, fresh}
+use Rattle.model.specs.State.{Cell, Result, Stream, Totals, Bridge, empty, unsettled, noFixed, blank, fresh, noTotals}
 use Rattle.model.specs.Registrations.{at, change, holding, together, ids}
 use Rattle.model.specs.Settling.{held}
 use Rattle.model.specs.WrittenFrames.{priorityOctet, fixedNumbers}
@@ -201,3 +201,11 @@ totalled-fits b w ts e f = record {
   streams = w .streams;
   ascending = w .ascending;
 }
+
+-- with nothing reserved
+pub no-totals-fit : FitTotals noTotals
+unfolding noTotals
+no-totals-fit = (omega arith, omega arith)
+
+pub cleared-fits : (b : Bridge) → FitBridge b → FitBridge (totalled (replicate 8 noTotals) b)
+cleared-fits b w = totalled-fits b w (replicate 8 noTotals) refl (all-replicate FitTotals 8 noTotals no-totals-fit)

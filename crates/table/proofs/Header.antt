@@ -11,7 +11,7 @@ use Rattle.octets.specs.Fields.{packed, Fit, width, flat}
 use Rattle.octets.proofs.Be.{length-be}
 use Rattle.octets.proofs.Frame.{beAt-part}
 use Rattle.octets.proofs.Fields.{flat-append, get-field, packed-zeros, fit-zeros, length-packed-any}
-use Rattle.model.specs.Layout.{clockPlace, countPlace, headWidths, portPlace, portSize, portWidths, portsPlace, portsUnit, priorityAUnit, priorityBUnit, recordsPlace, tableLength, totalPlace, totalSize, totalsPlace, wordPlace}
+use Rattle.model.specs.Layout.{clockPlace, countPlace, headWidths, portPlace, portSize, portWidths, portsPlace, portsUnit, priorityAUnit, priorityBUnit, recordsPlace, tableLength, totalPlace, totalSize, totalsPlace, totalsSize, wordPlace}
 use Rattle.model.specs.Lists.{All, bit}
 use Rattle.model.specs.State.{Port, Settings, Stream, Totals, Bridge, noPort, portAt, noTotals}
 use Rattle.model.specs.Registrations.{holding}
@@ -20,7 +20,7 @@ use Rattle.model.specs.Laid.{FitSettings, FitBridge, Laid}
 use Rattle.model.proofs.Lists.{all-each, all-replicate}
 use Rattle.model.proofs.Parts.{Sized, flat-zeros}
 use Rattle.model.proofs.SettingsOctets.{port-length, port-back, id-read, ports-read, priority-a-read, priority-b-read, leave-read}
-use Rattle.model.proofs.Tables.{settingsWhole, clockAndCount, totalsWhole, recordsWhole, encode-parts, clock-length, settings-whole-length, totals-whole-length, whole-length, totals-sized, clock-read, count-read, fit-whole}
+use Rattle.model.proofs.Tables.{settingsWhole, clockAndCount, totalsWhole, recordsWhole, encode-parts, clock-length, settings-whole-length, totals-whole-length, whole-length, totals-sized, no-totals, clock-read, count-read, fit-whole}
 use Rattle.model.proofs.Fits.{laid-is, laid-fits}
 use Rattle.table.specs.Updates.{clocked, totalled}
 use Rattle.table.proofs.Lens.{patch-between, part-one, patch-one, all-getD}
@@ -167,25 +167,35 @@ module _ (b : Bridge) (w : FitBridge b) (p a : ℕ) (h : p < 8) (e : a ≡ portP
 totals-laid : (b : Bridge) → encode b ≡ (settingsWhole b ++ clockAndCount b) ++ (flat totalsOctets (b .totals) ++ recordsWhole b)
 totals-laid b = encode-parts b ∙ simp append-assoc
 
-module _ (b : Bridge) (w : FitBridge b) (p a : ℕ) (h : p < 8) (e : a ≡ totalPlace p) where
-  before-totals : length (settingsWhole b ++ clockAndCount b) ≡ totalsPlace
-  before-totals = length-append (settingsWhole b) (clockAndCount b) ∙ omega (arith, settings-whole-length b (fit-whole b w), clock-length b)
+before-totals : (b : Bridge) (w : FitBridge b) → length (settingsWhole b ++ clockAndCount b) ≡ totalsPlace
+before-totals b w = length-append (settingsWhole b) (clockAndCount b) ∙ omega (arith, settings-whole-length b (fit-whole b w), clock-length b)
 
+module _ (b : Bridge) (w : FitBridge b) (p a : ℕ) (h : p < 8) (e : a ≡ totalPlace p) where
   a-total : p < length (b .totals)
   a-total = omega (arith, w .eight-totals)
 
   pub totals-part : part a totalSize (encode b) ≡ totalsOctets (getD (b .totals) p noTotals)
   totals-part =
       ap (part a totalSize) (totals-laid b)
-      ∙ part-one totalSize totalsOctets totalsPlace (settingsWhole b ++ clockAndCount b) (recordsWhole b) before-totals (b .totals) (totals-sized (b .totals)) p a a-total
+      ∙ part-one totalSize totalsOctets totalsPlace (settingsWhole b ++ clockAndCount b) (recordsWhole b) (before-totals b w) (b .totals) (totals-sized (b .totals)) p a a-total
       e noTotals
 
   pub totals-patch : (t : Totals) → patch a totalSize (totalsOctets t) (encode b) ≡ encode (totalled (set (b .totals) p t) b)
   totals-patch t =
       ap (patch a totalSize (totalsOctets t)) (totals-laid b)
-      ∙ patch-one totalSize totalsOctets totalsPlace (settingsWhole b ++ clockAndCount b) (recordsWhole b) before-totals (b .totals) (totals-sized (b .totals)) p a a-total
+      ∙ patch-one totalSize totalsOctets totalsPlace (settingsWhole b ++ clockAndCount b) (recordsWhole b) (before-totals b w) (b .totals) (totals-sized (b .totals)) p a a-total
       e t
       ∙ sym (totals-laid (totalled (set (b .totals) p t) b))
+
+pub totals-cleared : (b : Bridge) (w : FitBridge b) → patch totalsPlace totalsSize (zeros totalsSize) (encode b) ≡ encode (totalled (replicate 8 noTotals) b)
+totals-cleared b w =
+    let before = settingsWhole b ++ clockAndCount b in
+    let none : flat totalsOctets (replicate 8 noTotals) ≡ zeros totalsSize =
+    flat-zeros totalSize totalsOctets noTotals no-totals (replicate 8 noTotals) (all-replicate (λ t. t ≡ noTotals) 8 noTotals refl) in
+    ap (patch totalsPlace totalsSize (zeros totalsSize)) (totals-laid b)
+    ∙ patch-between before (totalsWhole b) (recordsWhole b) (zeros totalsSize) totalsPlace totalsSize (before-totals b w) (totals-whole-length b (fit-whole b w))
+    ∙ ap (λ (z : List ℕ). before ++ (z ++ recordsWhole b)) (sym none)
+    ∙ sym (totals-laid (totalled (replicate 8 noTotals) b))
 
 -- The clock replaced, and the number of streams.
 
@@ -225,6 +235,15 @@ module _ (t : List ℕ) (l : Laid t) where
 
   pub laid-few : length (decode t .streams) ≤ 64
   laid-few = laid-fits t l .at-most-64
+
+  pub laid-bridge-id : beAt 8 t 0 ≡ decode t .settings .bridgeId
+  laid-bridge-id = ap (λ (s : List ℕ). beAt 8 s 0) (laid-is t l) ∙ bridge-id-at (decode t) (laid-fits t l)
+
+  pub laid-priority-a : beAt 3 t wordPlace / priorityAUnit % 8 ≡ decode t .settings .priorityA
+  laid-priority-a = ap (λ (s : List ℕ). beAt 3 s wordPlace / priorityAUnit % 8) (laid-is t l) ∙ priority-a-at (decode t) (laid-fits t l)
+
+  pub laid-priority-b : beAt 3 t wordPlace / priorityBUnit % 8 ≡ decode t .settings .priorityB
+  laid-priority-b = ap (λ (s : List ℕ). beAt 3 s wordPlace / priorityBUnit % 8) (laid-is t l) ∙ priority-b-at (decode t) (laid-fits t l)
 
   pub laid-ports : beAt 3 t wordPlace / portsUnit ≡ length (decode t .settings .ports)
   laid-ports = ap (λ (s : List ℕ). beAt 3 s wordPlace / portsUnit) (laid-is t l) ∙ ports-at (decode t) (laid-fits t l)

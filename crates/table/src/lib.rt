@@ -4,7 +4,7 @@ ghost use mathlib.Core.Path.{_≡_};
 ghost use Prim.Native.Nat.{_+_, _*_, _≤_, _<_};
 ghost use lib.ListN.{length, replicate};
 ghost use Rattle.octets.specs.Parts.{part, patch};
-ghost use Rattle.model.specs.Layout.{cellPlace, cellSize, fixedSize, priorityBUnit, recordSize, resultPlace, resultSize, settledOf, tableLength, totalPlace, totalSize};
+ghost use Rattle.model.specs.Layout.{cellPlace, cellSize, fixedSize, priorityBUnit, recordPlace, recordSize, resultPlace, resultSize, settledOf, tableLength, totalPlace, totalSize};
 ghost use Rattle.model.specs.State.{portAt, cellAt, resultAt, noTotals};
 ghost use Rattle.model.specs.Registrations.{holding, ids};
 ghost use Rattle.model.specs.Settling.{held};
@@ -152,12 +152,20 @@ pub fn totals_at(table: &[u8], p: usize) -> &[u8]
     &table[a..e]
 }
 
+// The address of the record of stream k.
+fn record_in(table: &[u8], k: usize) -> usize
+    requires { ⌜ Stands (now table) k ⌝ }
+    ensures { λ r. ⌜ (r ≡ recordPlace k) × (r + recordSize ≤ length (now (table .entry))) ⌝ }
+{
+    RECORDS + k * RECORD
+}
+
 // The StreamID of stream k.
 pub fn id_at(table: &[u8], k: usize) -> u64
     requires { ⌜ Stands (now table) k ⌝ }
     ensures { λ r. ⌜ r ≡ streamAt k (decode (now (table .entry))) .id ⌝ }
 {
-    octets::get(table, RECORDS + k * RECORD, 8)
+    octets::get(table, record_in(table, k), 8)
 }
 
 // The address of its settled values, and the values.
@@ -165,7 +173,7 @@ pub fn settled_in(table: &[u8], k: usize) -> usize
     requires { ⌜ Stands (now table) k ⌝ }
     ensures { λ r. ⌜ (r ≡ settledOf k) × (r + fixedSize ≤ length (now (table .entry))) ⌝ }
 {
-    RECORDS + k * RECORD + SETTLED
+    record_in(table, k) + SETTLED
 }
 
 pub fn settled_at(table: &[u8], k: usize) -> &[u8]
@@ -182,7 +190,7 @@ pub fn cell_in(table: &[u8], k: usize, p: usize) -> usize
     requires { ⌜ StandsOn (now table) k p ⌝ }
     ensures { λ r. ⌜ (r ≡ cellPlace k p) × (r + cellSize ≤ length (now (table .entry))) ⌝ }
 {
-    RECORDS + k * RECORD + CELLS + p * CELL
+    record_in(table, k) + CELLS + p * CELL
 }
 
 pub fn cell_at(table: &[u8], k: usize, p: usize) -> &[u8]
@@ -199,7 +207,7 @@ pub fn result_in(table: &[u8], k: usize, p: usize) -> usize
     requires { ⌜ StandsOn (now table) k p ⌝ }
     ensures { λ r. ⌜ (r ≡ resultPlace k p) × (r + resultSize ≤ length (now (table .entry))) ⌝ }
 {
-    RECORDS + k * RECORD + RESULTS + p * RESULT
+    record_in(table, k) + RESULTS + p * RESULT
 }
 
 pub fn result_at(table: &[u8], k: usize, p: usize) -> &[u8]
