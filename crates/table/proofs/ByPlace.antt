@@ -1,10 +1,11 @@
 -- The parts of a laid-out table by the place k of a stream and the place p of a port. Of each: what is read there, what the table
 -- is once it is replaced, and that the table stays laid out; and the same as a call sees it and leaves it.
-use Prim.Native.Nat.{ℕ, _+_, _-_, _*_, _<_, _≤_}
+use Prim.Native.Nat.{ℕ, zero, suc, _+_, _-_, _*_, _<_, _≤_}
 use native.Mathlib.Omega.{arith}
 use mathlib.Core.Path.{_≡_, refl, sym, ap, _∙_}
-use mathlib.Core.List.{List, [], _++_}
+use mathlib.Core.List.{List, [], _∷_, _++_}
 use lib.ListN.{length, set, take, drop, length-set}
+use lib.Seq.{getD-set-same}
 use Rattle.octets.specs.Parts.{part, patch}
 use Rattle.octets.specs.Fields.{Fit}
 use Rattle.octets.proofs.Parts.{lent-part}
@@ -13,7 +14,7 @@ use Rattle.octets.proofs.Fields.{fields-of-packed}
 use Rattle.octets.proofs.Patches.{lent-patch, patch-within}
 use Rattle.model.specs.Layout.{cellIn, cellPlace, cellSize, fixedSize, fixedWidths, portPlace, portSize, recordPlace, recordSize, resultIn, resultPlace, resultSize, settledOf, settledPlace, totalPlace, totalSize}
 use Rattle.model.specs.State.{Fixed, Cell, Result, Stream, Totals, Bridge, portAt, cellAt, resultAt, noTotals, fresh}
-use Rattle.model.specs.Registrations.{at, change}
+use Rattle.model.specs.Registrations.{at, change, holding}
 use Rattle.model.specs.WrittenFrames.{fixedNumbers}
 use Rattle.model.specs.Table.{portOctets, toPort, fixedFrom, cellOctets, toCell, resultOctets, toResult, streamOctets, totalsOctets, toTotals, encode, decode}
 use Rattle.model.specs.Laid.{FitCell, FitResult, FitStream, FitTotals, FitBridge, LaidCell, LaidResult, Laid}
@@ -54,6 +55,11 @@ stands-on s p h = record { laid = s .laid; held = s .held; port = h }
 
 -- A stream.
 
+set-again : {A : Type 0} (l : List A) (k : ℕ) (x y : A) → set (set l k x) k y ≡ set l k y
+set-again [] k x y = refl
+set-again (z ∷ l) zero x y = refl
+set-again {A = A} (z ∷ l) (suc k) x y = ap (λ (r : List A). z ∷ r) (set-again l k x y)
+
 module _ {t : List ℕ} {k : ℕ} (s : Stands t k) where
   pub few-before : k < 64
   few-before = omega (arith, s .held, laid-few t (s .laid))
@@ -72,6 +78,29 @@ module _ {t : List ℕ} {k : ℕ} (s : Stands t k) where
 
       pub stream-replaced-read : decode u ≡ withStream k x (decode t)
       stream-replaced-read = encoded-read (withStream k x (decode t)) with-stream-fits u e
+
+      pub stream-replaced-stands : Stands u k
+      unfolding holding
+      stream-replaced-stands = record {
+        laid = stream-replaced-laid;
+        held = omega (arith, ap (λ (b : Bridge). length (b .streams)) stream-replaced-read, length-set (decode t .streams) k x, s .held);
+      }
+
+      -- read, and replaced again
+      pub stream-replaced-at : streamAt k (decode u) ≡ x
+      unfolding holding
+      stream-replaced-at = ap (streamAt k) stream-replaced-read ∙ getD-set-same (decode t .streams) k x (fresh 0) (s .held)
+
+      pub stream-replaced-settings : decode u .settings ≡ decode t .settings
+      unfolding holding
+      stream-replaced-settings = ap (λ (b : Bridge). b .settings) stream-replaced-read
+
+      pub stream-replaced-again : (y : Stream) (v : List ℕ) → v ≡ encode (withStream k y (decode u)) → v ≡ encode (withStream k y (decode t))
+      unfolding holding
+      stream-replaced-again y v q =
+          q
+          ∙ ap (λ (b : Bridge). encode (withStream k y b)) stream-replaced-read
+          ∙ ap (λ (l : List Stream). encode (holding (decode t) l)) (set-again (decode t .streams) k x y)
 
   -- any part of m octets, at place b of the record
   module _ (b m : ℕ) (w : b + m ≤ recordSize) where

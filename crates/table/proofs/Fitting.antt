@@ -53,11 +53,11 @@ set-result-fits p r f x w = record {
 
 -- A stream without registrations.
 
-empty-fits : FitCell empty
+pub empty-fits : FitCell empty
 unfolding empty cellNumbers talkerNumbers listenerNumbers
 empty-fits = record { numbers = fit-zeros cellWidths; rank = tt }
 
-unsettled-fits : FitResult unsettled
+pub unsettled-fits : FitResult unsettled
 unfolding unsettled resultNumbers columnNumber columnBridge columnCode entryNumber declaredNumber
 unsettled-fits = fit-zeros resultWidths
 

@@ -11,3 +11,4 @@ pub mod HeldRecords
 pub mod Dropping
 pub mod Turns
 pub mod ByPlace
+pub mod EachStream
