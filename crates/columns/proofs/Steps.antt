@@ -5,7 +5,7 @@ use mathlib.Core.Bool.{Bool, true, false, cond, not}
 use Prim.Native.Nat.{ℕ, _/_, _≤_, _<_}
 use lib.ListN.{getD}
 use lib.Dec.{eqb, ltb}
-use borrow.Author.Tests.{eq-eqb, ne-eqb, lt-ltb, le-ltb}
+use borrow.Author.Tests.{eq-eqb, ne-eqb}
 use Rattle.octets.specs.Be.{beAt}
 use Rattle.octets.specs.Fields.{fields}
 use Rattle.model.specs.Lists.{isOne}
@@ -45,66 +45,45 @@ failed-asked k b c d = go (eqb k 1)
     go true = refl
     go false = refl
 
--- The steps, one after another: settings s, the cell here on the port at place p, the Talker's cell said at place t.
+-- The steps, from each on, every test as the code asks it: settings s, the port's, the cell here on the port at place p, the
+-- Talker's cell said at place t.
 
-module _ (s here said : List ℕ) (p t : ℕ) where
-  abbrev decided : Column
-  decided = firstStep (toSettings s) p (toCell here) (sourceIn t (toCell said))
-
+module _ (s port here said : List ℕ) (p t : ℕ) where
   abbrev own : ℕ → Column
   own = failed (toSettings s .bridgeId)
 
-  abbrev class : Class
+  abbrev pub class : Class
   class = classOf (toSettings s) (beAt 1 said 19 / 32)
+
+  abbrev pub from-g : Column
+  from-g = cond (ltb (beAt 2 port 2) (beAt 2 said 15)) (own 14) advertise
+
+  abbrev pub from-f : Column
+  from-f = cond (isNoClass class) (own 13) from-g
+
+  abbrev pub from-e : Column
+  from-e = cond (isTalking (toCell here)) (own 4) from-f
+
+  abbrev pub from-d : Column
+  from-d = cond (eqb (getD said 1 0) 1) (own 16) from-e
+
+  abbrev pub from-c : Column
+  from-c = cond (not (eqb (getD said 0 0) 1)) (failed (beAt 8 said 24) (getD said 32 0)) from-d
+
+  abbrev pub from-b : Column
+  from-b = cond (not (supports (toPort port) class)) none from-c
+
+  abbrev pub from-a : Column
+  from-a = cond (eqb p t) none from-b
+
+  abbrev pub decided : Column
+  decided = firstStep (toSettings s) p (toCell here) (sourceIn t (toCell said))
 
   -- a, no Talker port
   pub no-source : getD said 0 0 ≡ 0 → none ≡ decided
   unfolding firstStep sourceIn stepsFrom first outcomeColumn
   no-source e = rw (no-talker said e)
 
-  module _ (port : List ℕ) (there : portAt (toSettings s) p ≡ toPort port) (k : getD said 0 0 ≡ 0 → ⊥) where
-    -- every test as the code asks it
-    steps-asked : decided
-        ≡ cond (eqb p t) none
-        (cond (not (supports (toPort port) class)) none
-        (cond (not (eqb (getD said 0 0) 1)) (failed (beAt 8 said 24) (getD said 32 0))
-        (cond (eqb (getD said 1 0) 1) (own 16)
-        (cond (isTalking (toCell here)) (own 4)
-        (cond (isNoClass class) (own 13)
-        (cond (ltb (beAt 2 port 2) (beAt 2 said 15)) (own 14) advertise))))))
-    unfolding firstStep sourceIn registrationFrom healthOf stepsFrom first outcomeColumn isOne fields cellWidths fixedFrom priorityOf toPort portFrom portWidths
-    steps-asked = rw (a-talker said k, there, octet-field said 0, octet-field said 1, octet-field said 32, failed-asked)
-
-    pub at-the-talker : p ≡ t → none ≡ decided
-    at-the-talker a = sym (steps-asked ∙ rw (eq-eqb p t a))
-
-    module _ (a : p ≡ t → ⊥) where
-      pub unsupported : supports (toPort port) class ≡ false → none ≡ decided
-      unsupported b = sym (steps-asked ∙ rw (ne-eqb p t a, b))
-
-      module _ (b : supports (toPort port) class ≡ true) where
-        pub registered-failed : (getD said 0 0 ≡ 1 → ⊥) → failed (beAt 8 said 24) (getD said 32 0) ≡ decided
-        registered-failed c = sym (steps-asked ∙ rw (ne-eqb p t a, b, ne-eqb (getD said 0 0) 1 c))
-
-        module _ (c : getD said 0 0 ≡ 1) where
-          pub changed-mark : getD said 1 0 ≡ 1 → own 16 ≡ decided
-          changed-mark d = sym (steps-asked ∙ rw (ne-eqb p t a, b, eq-eqb (getD said 0 0) 1 c, eq-eqb (getD said 1 0) 1 d))
-
-          module _ (d : getD said 1 0 ≡ 1 → ⊥) where
-            pub talker-here : (getD here 0 0 ≡ 0 → ⊥) → own 4 ≡ decided
-            talker-here e = sym (steps-asked ∙ rw (ne-eqb p t a, b, eq-eqb (getD said 0 0) 1 c, ne-eqb (getD said 1 0) 1 d, talking here e))
-
-            module _ (e : getD here 0 0 ≡ 0) where
-              pub no-class : isNoClass class ≡ true → own 13 ≡ decided
-              no-class f =
-                  sym (steps-asked ∙ rw (ne-eqb p t a, b, eq-eqb (getD said 0 0) 1 c, ne-eqb (getD said 1 0) 1 d, not-talking here e, f))
-
-              module _ (f : isNoClass class ≡ false) where
-                past-f : decided ≡ cond (ltb (beAt 2 port 2) (beAt 2 said 15)) (own 14) advertise
-                past-f = steps-asked ∙ rw (ne-eqb p t a, b, eq-eqb (getD said 0 0) 1 c, ne-eqb (getD said 1 0) 1 d, not-talking here e, f)
-
-                pub too-large : beAt 2 port 2 < beAt 2 said 15 → own 14 ≡ decided
-                too-large g = sym (past-f ∙ rw (lt-ltb (beAt 2 port 2) (beAt 2 said 15) g))
-
-                pub no-step : beAt 2 said 15 ≤ beAt 2 port 2 → advertise ≡ decided
-                no-step g = sym (past-f ∙ rw (le-ltb (beAt 2 port 2) (beAt 2 said 15) g))
+  pub steps-asked : portAt (toSettings s) p ≡ toPort port → (getD said 0 0 ≡ 0 → ⊥) → decided ≡ from-a
+  unfolding firstStep sourceIn registrationFrom healthOf stepsFrom first outcomeColumn isOne fields cellWidths fixedFrom priorityOf toPort portFrom portWidths
+  steps-asked there k = rw (a-talker said k, there, octet-field said 0, octet-field said 1, octet-field said 32, failed-asked)

@@ -19,7 +19,8 @@ use Rattle.model.specs.Registrations.{refused, Answer, received, applyAl
 use Rattle.model.specs.FrameLayout.{longestPdu}
 use Rattle.model.specs.Frames.{Attribute, TypeOctet, notAllowed, unknown, known, typeOctet, firstLength, Vector, vectorAt, vectorEnd, overpacked, overflows, listLength, listAt, messageEnd, endMark, Walk, fault, found, also, both, vectors, message, messages, walk, walked, frameActs, reading, wrongPort}
 use Rattle.model.specs.Settling.{advance}
-use Rattle.model.specs.Declarations.{Written, write, Report, refusedReport, report, declarations}
+use Rattle.model.specs.Declarations.{Written, write, declarations}
+use Rattle.model.specs.Reports.{Report, refusedReport, report}
 use Rattle.model.specs.Table.{decode, clockField, formed, settingsFormed}
 use Rattle.model.specs.Calls.{Call, startOn, leaves, onTable, receive, receiveOn, advanceOn, WriteCall, refusedWrite, writtenTo, writeOn, reportOn}
 use Rattle.model.proofs.Valid.{Rising, Valid}

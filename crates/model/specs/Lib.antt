@@ -7,6 +7,7 @@ pub mod Frames
 pub mod Bandwidth
 pub mod Settling
 pub mod Declarations
+pub mod Reports
 pub mod WrittenFrames
 pub mod Table
 pub mod Calls

@@ -2,8 +2,9 @@
 -- and the place p of a port; a stream with its settled values or its results replaced.
 use mathlib.Core.List.{List, _∷_, _++_}
 use Prim.Native.Nat.{ℕ}
-use lib.ListN.{getD, set, take, drop}
-use Rattle.model.specs.State.{Fixed, Cell, Result, Stream, Totals, Bridge, noTotals, fresh}
+use lib.ListN.{set, take, drop}
+use Rattle.model.specs.State.{Fixed, Cell, Result, Stream, Totals, Bridge, fresh}
+pub use Rattle.model.specs.State.{streamAt, totalsAt}
 use Rattle.model.specs.Registrations.{at, change, holding}
 
 abbrev pub clocked : ℕ → Bridge → Bridge
@@ -21,14 +22,6 @@ settledAs f x = record { id = x .id; settled = f; cells = x .cells; results = x 
 
 abbrev pub resulting : (List Result → List Result) → Stream → Stream
 resulting u x = record { id = x .id; settled = x .settled; cells = x .cells; results = u (x .results) }
-
--- By place: the stream, and the totals of the port.
-
-abbrev pub streamAt : ℕ → Bridge → Stream
-streamAt k b = getD (b .streams) k (fresh 0)
-
-abbrev pub totalsAt : ℕ → Bridge → Totals
-totalsAt p b = getD (b .totals) p noTotals
 
 -- One part replaced: the stream, its settled values, its cell and its result on the port; the totals of the port.
 
