@@ -153,12 +153,12 @@ module _ (st : Settings) (now : ℕ) where
 
 -- The Talker: what is registered at the Talker port is valid, and stands on a port.
 
-abbrev ValidSource : ℕ → ℕ → Source → Type 0
+abbrev pub ValidSource : ℕ → ℕ → Source → Type 0
 ValidSource clock leave nowhere = Unit {0}
 ValidSource clock leave (from o) = ValidRegistration clock leave (o .registration)
 
 module _ (clock leave : ℕ) where
-  source-valid : (p : ℕ) (cs : List Cell) → All (ValidCell clock leave) cs → ValidSource clock leave (source p cs)
+  pub source-valid : (p : ℕ) (cs : List Cell) → All (ValidCell clock leave) cs → ValidSource clock leave (source p cs)
   unfolding source
   source-valid p [] a = tt
   source-valid p (c ∷ cs) a = go (c .talks) (a .0 .talks) (source-valid (suc p) cs (a .1))
@@ -168,12 +168,12 @@ module _ (clock leave : ℕ) where
       go noTalker v ih = ih
       go (talker r) v ih = v
 
-  fixed-valid : (s : Source) → ValidSource clock leave s → ValidFixed (fixedOf s)
+  pub fixed-valid : (s : Source) → ValidSource clock leave s → ValidFixed (fixedOf s)
   unfolding fixedOf noFixed
   fixed-valid nowhere v = omega arith
   fixed-valid (from o) v = v .fixed
 
-  health-valid : (s : Source) → ValidSource clock leave s → ValidHealth (healthOf s)
+  pub health-valid : (s : Source) → ValidSource clock leave s → ValidHealth (healthOf s)
   unfolding healthOf
   health-valid nowhere v = tt
   health-valid (from o) v = v .varying .health

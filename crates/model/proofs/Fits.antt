@@ -26,10 +26,10 @@ use Rattle.model.proofs.Tables.{stream-length, cells-of, results-of, na
 
 -- Read back: a cell. With the latest clock and the longest leave time that a field holds, every time that fits is valid.
 
-abbrev latest : ℕ
+abbrev pub latest : ℕ
 latest = 4294967295
 
-abbrev longest : ℕ
+abbrev pub longest : ℕ
 longest = 4294967296
 
 fit-leaving : (l : Leaving) → sinceNumber l < 2 ^ 32 → ValidLeaving latest longest l
@@ -71,14 +71,17 @@ fit-listener t noListener at = tt
 fit-listener noTalker (listener r l) at = fit-leaving l (at 14)
 fit-listener (talker k) (listener r l) at = fit-leaving l (at 14)
 
-pub cell-read : (c : Cell) → FitCell c → toCell (cellOctets c) ≡ c
+pub fit-cell : (c : Cell) → FitCell c → ValidCell latest longest c
 unfolding cellNumbers
-cell-read c w =
+fit-cell c w =
     let at = fit-at cellWidths (cellNumbers c) (w .numbers) in
-    cell-back latest longest (omega arith) c record {
+    record {
       talks = fit-talker (c .talks) (listenerNumbers (c .hears)) at (w .rank);
       hears = fit-listener (c .talks) (c .hears) at;
     }
+
+pub cell-read : (c : Cell) → FitCell c → toCell (cellOctets c) ≡ c
+cell-read c w = cell-back latest longest (omega arith) c (fit-cell c w)
 
 -- A result.
 

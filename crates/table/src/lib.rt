@@ -276,7 +276,7 @@ fn move_up(s: &mut [u8], at: usize, d: usize, n: usize)
 }
 
 // The n octets from place at on, moved down by d.
-fn move_down(s: &mut [u8], at: usize, d: usize, n: usize)
+pub fn move_down(s: &mut [u8], at: usize, d: usize, n: usize)
     requires { ⌜ at + d + n ≤ length (now s) ⌝ }
     ensures { λ _. ⌜ now (s .exit) ≡ patch at n (part (at + d) n (now (s .entry))) (now (s .entry)) ⌝ }
 {

@@ -6,25 +6,27 @@ use native.Mathlib.Omega.{arith}
 use lib.ListN.{getD}
 use borrow.Author.Needs.{needs}
 use borrow.Author.Tests.{eq-eqb, ne-eqb, lt-ltb, le-ltb}
-use Rattle.model.specs.State.{Column}
-use Rattle.columns.specs.Answers.{classShown, columnShown}
+use Rattle.model.specs.State.{Settings, Column}
+use Rattle.model.specs.Table.{decode}
+use Rattle.streams.specs.Answers.{classShown}
+use Rattle.columns.specs.Answers.{columnShown}
 use Rattle.columns.proofs.Steps.{talking, not-talking, class, decided, from-a, from-b, from-c, from-d, from-e, from-f, from-g, no-source, steps-asked}
 use Rattle.columns.proofs.first_step.Statement.{statement}
 use Rattle.columns.proofs.first_step.Tie as tie
 
 -- past the first test the Talker's cell has a Talker; there the column is what the steps from one of them on give
-abbrev Reaches : tie.Else1 → (List ℕ → List ℕ → List ℕ → List ℕ → ℕ → ℕ → Column) → Type 0
+abbrev Reaches : tie.Else1 → (Settings → List ℕ → List ℕ → List ℕ → ℕ → ℕ → Column) → Type 0
 Reaches c steps =
     let a = c .before .before .before .before .before .before .before .args in
-    decided (a .settings .now) (a .port .now) (a .here .now) (a .talker .now) (a .p) (a .t)
-    ≡ steps (a .settings .now) (a .port .now) (a .here .now) (a .talker .now) (a .p) (a .t)
+    decided (decode (a .table .now) .settings) (a .port .now) (a .here .now) (a .talker .now) (a .p) (a .t)
+    ≡ steps (decode (a .table .now) .settings) (a .port .now) (a .here .now) (a .talker .now) (a .p) (a .t)
 
 -- the class, as the calls of `supports` and `no_class` were asked with it
-class-read : (c : tie.After-class-of) → let a = c .before .before .before .before .before .before .before .before .before .before .args in classShown (c .class-of .result) ≡ class (a .settings .now) (a .port .now) (a .here .now) (a .talker .now) (a .p) (a .t)
+class-read : (c : tie.After-class-of) → let a = c .before .before .before .before .before .before .before .before .before .before .args in classShown (c .class-of .result) ≡ class (decode (a .table .now) .settings) (a .port .now) (a .here .now) (a .talker .now) (a .p) (a .t)
 class-read c = rw (← (c .before .get .ensures .0)) (c .class-of .ensures)
 
 reaches-a : (c : tie.Else1) → Reaches c from-a
-reaches-a c = steps-asked _ _ _ _ _ _ (c .before .before .before .before .before .before .before .pre .4) (c .if1 .left)
+reaches-a c = steps-asked _ _ _ _ _ _ (c .before .before .before .before .before .before .before .pre .settings .is) (c .if1 .left)
 
 reaches-b : (c : tie.Else2) → Reaches (c .before) from-b
 reaches-b c = reaches-a (c .before) ∙ rw (ne-eqb _ _ (c .if2 .left))

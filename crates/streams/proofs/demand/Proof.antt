@@ -1,5 +1,4 @@
 -- `streams::demand` meets its contract. Assumes nothing.
-use Prim.Native.Nat.{_-_}
 use native.Mathlib.Omega.{arith}
 use borrow.Author.Needs.{needs}
 use Rattle.streams.proofs.Demands.{demand-twice, demand-once, once-bound}
