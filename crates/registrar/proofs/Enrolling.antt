@@ -5,6 +5,7 @@ use mathlib.Core.List.{List, [], _∷_, _++_}
 use mathlib.Core.Bool.{Bool, true, false}
 use native.Mathlib.Omega.{arith}
 use lib.ListN.{length, getD, take, drop, List·getD-map}
+use Rattle.model.specs.Layout.{recordPlace, recordSize}
 use Rattle.model.specs.State.{Cell, Stream, Bridge, fresh}
 use Rattle.model.specs.Registrations.{Act, leaveAll, leave, talk, listen, does, at, change, touch, reach, apply, holding, ids}
 use Rattle.model.specs.Table.{streamOctets, toStream, encode, decode}
@@ -117,9 +118,9 @@ module _ (p i : ℕ) (a : Act) (j : Joins i a) (t : List ℕ) where
       unfolding holding
       enrolled-found = rw enrolled-read (n .place)
 
-      pub join-applied : (b : ℕ) (y : List ℕ) → b ≡ 272 + 493 * k →
-          ((clock : ℕ) → y ≡ streamOctets (change (at p (does clock a)) (toStream (take (b + 493 - b) (drop b u))))) →
-          Walked true p (a ∷ []) t true (take b u ++ (y ++ drop (b + 493 - b) (drop b u)))
+      pub join-applied : (b : ℕ) (y : List ℕ) → b ≡ recordPlace k →
+          ((clock : ℕ) → y ≡ streamOctets (change (at p (does clock a)) (toStream (take (b + recordSize - b) (drop b u))))) →
+          Walked true p (a ∷ []) t true (take b u ++ (y ++ drop (b + recordSize - b) (drop b u)))
       unfolding done
       join-applied b y e q =
           act-done true p a t _ l f (rw (done-many true) (n .few))

@@ -4,6 +4,7 @@ use mathlib.Core.Path.{_≡_, refl, sym, _∙_, ap}
 use mathlib.Core.List.{List, [], _∷_, _++_, map}
 use mathlib.Core.Bool.{Bool, true, false}
 use lib.ListN.{length, take, drop, length-map}
+use Rattle.model.specs.Layout.{recordPlace, recordSize}
 use Rattle.model.specs.State.{Cell, Stream}
 use Rattle.model.specs.Registrations.{Kind, leaveAll, leave, quit, does, at, change, touch, reach, apply, holding, ids, joins, together}
 use Rattle.model.specs.Table.{streamOctets, toStream, encode, decode}
@@ -43,9 +44,9 @@ all-left p k t u l e = act-done true p (leaveAll k) t u l tt (rw (length-map (de
 
 -- On a table: the record found, changed as it was lent.
 
-pub record-touched : (t : List ℕ) → Laid t → (i k a : ℕ) → foundAt i 0 (ids (decode t .streams)) ≡ At k → a ≡ 272 + 493 * k →
-    (b : Bool) (u : List Cell → List Cell) (y : List ℕ) → y ≡ streamOctets (change u (toStream (take (a + 493 - a) (drop a t)))) →
-    take a t ++ (y ++ drop (a + 493 - a) (drop a t)) ≡ encode (holding (decode t) (touch b i u (decode t .streams)))
+pub record-touched : (t : List ℕ) → Laid t → (i k a : ℕ) → foundAt i 0 (ids (decode t .streams)) ≡ At k → a ≡ recordPlace k →
+    (b : Bool) (u : List Cell → List Cell) (y : List ℕ) → y ≡ streamOctets (change u (toStream (take (a + recordSize - a) (drop a t)))) →
+    take a t ++ (y ++ drop (a + recordSize - a) (drop a t)) ≡ encode (holding (decode t) (touch b i u (decode t .streams)))
 record-touched t l i k a e f b u y q =
     let w = at-place i k (decode t .streams) e in
     lent-record-left t l k a (w .within) f (change u) y q ∙ ap (λ (s : List Stream). encode (holding (decode t) s)) (sym (w .touched b u))
@@ -66,9 +67,9 @@ module _ (p : ℕ) (k : Kind) (t : List ℕ) (l : Laid t) (i : ℕ) (small : i <
       let s = decode t .streams in
       act-done true p (leave k i) t t l small leaves-as-many (laid-is t l ∙ ap (λ (x : List Stream). encode (holding (decode t) x)) (sym (at-gap i n s e .untouched _)))
 
-  pub left-held : (n a now : ℕ) → foundAt i 0 (ids (decode t .streams)) ≡ At n → a ≡ 272 + 493 * n → now ≡ decode t .clock →
-      (y : List ℕ) → y ≡ streamOctets (change (at p (quit now k)) (toStream (take (a + 493 - a) (drop a t)))) →
-      Walked true p (leave k i ∷ []) t true (take a t ++ (y ++ drop (a + 493 - a) (drop a t)))
+  pub left-held : (n a now : ℕ) → foundAt i 0 (ids (decode t .streams)) ≡ At n → a ≡ recordPlace n → now ≡ decode t .clock →
+      (y : List ℕ) → y ≡ streamOctets (change (at p (quit now k)) (toStream (take (a + recordSize - a) (drop a t)))) →
+      Walked true p (leave k i ∷ []) t true (take a t ++ (y ++ drop (a + recordSize - a) (drop a t)))
   unfolding done effect apply reach does
   left-held n a now e f c y q =
       act-done true p (leave k i) t _ l small leaves-as-many

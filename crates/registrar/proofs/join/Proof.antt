@@ -5,6 +5,7 @@ use mathlib.Core.List.{List}
 use native.Mathlib.Omega.{arith}
 use lib.ListN.{length}
 use borrow.Author.Needs.{needs}
+use Rattle.model.specs.Layout.{recordSize, recordsPlace, tableLength}
 use Rattle.model.specs.Registrations.{Act}
 use Rattle.model.specs.Table.{decode}
 use Rattle.model.specs.Laid.{Laid}
@@ -21,17 +22,17 @@ use Rattle.registrar.proofs.join.Statement.{statement}
 use Rattle.registrar.proofs.join.Tie as tie
 
 enrol-requires : tie.Need-enrol-requires
-enrol-requires c κs = c .before .before .before .pre .0
+enrol-requires c κs = c .before .before .before .pre .walk .laid
 
 -- the act, by its stream and its values
-joins : (a : tie.Start) → Joins (a .args .id) (joinOf (kindAt (a .args .kind)) (a .args .first .now) (a .args .four) (a .args .n))
-joins a = join-joins (kindAt (a .args .kind)) (a .args .first .now) (a .args .four) (a .args .n) (a .args .id) (a .pre .4)
+joins : (a : tie.Start) → Joins (a .args .id) (joinOf (kindAt (a .args .walk .kind)) (a .args .first .now) (a .args .four) (a .args .n))
+joins a = join-joins (kindAt (a .args .walk .kind)) (a .args .first .now) (a .args .four) (a .args .n) (a .args .id) (a .pre .id)
 
 returns : tie.Need-returns
 returns c =
     let a = c .before .before .before .before .before .before .before .before in
     let n = rw (c .enum-told .given .1) at (c .before .before .before .before .enrol .ensures) in
-    join-stopped (a .args .place) (a .args .id) _ (joins a) (a .args .table .now) (a .pre .0) (a .args .applying) _ n
+    join-stopped (a .args .walk .place) (a .args .id) _ (joins a) (a .args .table .now) (a .pre .walk .laid) (a .args .walk .applying) _ n
 
 -- where there is a record
 module _ (c : tie.After-known-told) where
@@ -47,7 +48,7 @@ module _ (c : tie.After-known-told) where
   abbrev act : Act
   act =
       let a = c .before .before .before .before .before .before .before .before .before .args in
-      joinOf (kindAt (a .kind)) (a .first .now) (a .four) (a .n)
+      joinOf (kindAt (a .walk .kind)) (a .first .now) (a .four) (a .n)
 
   recorded : EnrolledAt (c .before .before .before .before .before .before .before .before .before .args .id) t k u
   recorded = rw (c .before .k .given .1) at (c .before .before .before .before .before .enrol .ensures)
@@ -56,17 +57,17 @@ module _ (c : tie.After-known-told) where
   fitting =
       let a = c .before .before .before .before .before .before .before .before .before .args in
       let p = c .before .before .before .before .before .before .before .before .before .pre in
-      join-fits (a .kind) (a .first .now) (a .n) (p .3) (p .2) (λ i. c .before .before .before .before .before .before .before .shared-slice-known .given i .fits) (a .four)
+      join-fits (a .walk .kind) (a .first .now) (a .n) (p .value) (p .registers) (λ i. c .before .before .before .before .before .before .before .shared-slice-known .given i .fits) (a .four)
 
   laid : Laid u
-  laid = let a = c .before .before .before .before .before .before .before .before .before in enrolled-laid (a .args .place) (a .args .id) act (joins a) t (a .pre .0) k u recorded fitting
+  laid = let a = c .before .before .before .before .before .before .before .before .before in enrolled-laid (a .args .walk .place) (a .args .id) act (joins a) t (a .pre .walk .laid) k u recorded fitting
 
   within : k < length (decode u .streams)
   within =
       let a = c .before .before .before .before .before .before .before .before .before in
-      at-place (a .args .id) k (decode u .streams) (enrolled-found (a .args .place) (a .args .id) act (joins a) t (a .pre .0) k u recorded fitting) .within
+      at-place (a .args .id) k (decode u .streams) (enrolled-found (a .args .walk .place) (a .args .id) act (joins a) t (a .pre .walk .laid) k u recorded fitting) .within
 
-  few : (k < 64) × (length u ≡ 31824)
+  few : (k < 64) × (length u ≡ tableLength)
   few = (omega (arith, within, laid-few u laid), laid-length u laid)
 
 mul-a : tie.Need-mul-a
@@ -85,21 +86,21 @@ join-cell-requires : tie.Need-join-cell-requires
 join-cell-requires c κs =
     let d = c .before .before in
     let p = d .before .before .before .before .before .before .before .before .before .pre in
-    (lent-record-laid (u d) (laid d) (k d) (272 + k d * 493) (within d) (omega arith), search needs, p .1, p .2, p .3, p .5)
+    (lent-record-laid (u d) (laid d) (k d) (recordsPlace + k d * recordSize) (within d) (omega arith), search needs, p .walk .place, p .registers, p .value, p .four)
 
 returns-2 : tie.Need-returns-2
 returns-2 c =
     let d = c .before .before .before .before .before in
     let a = d .before .before .before .before .before .before .before .before .before in
     rw (c .before .before .before .before .if1 .taken)
-    (join-applied (a .args .place) (a .args .id) (act d) (joins a) (t d) (a .pre .0) (k d) (u d) (recorded d) (fitting d) (272 + k d * 493) _ (omega arith)
+    (join-applied (a .args .walk .place) (a .args .id) (act d) (joins a) (t d) (a .pre .walk .laid) (k d) (u d) (recorded d) (fitting d) (recordsPlace + k d * recordSize) _ (omega arith)
     (c .before .before .join-cell .ensures))
 
 returns-3 : tie.Need-returns-3
 returns-3 c =
     let d = c .before in
     let a = d .before .before .before .before .before .before .before .before .before in
-    rw (c .if1 .left) (join-room (a .args .place) (a .args .id) (act d) (joins a) (t d) (a .pre .0) (k d) (u d) (recorded d) (fitting d))
+    rw (c .if1 .left) (join-room (a .args .walk .place) (a .args .id) (act d) (joins a) (t d) (a .pre .walk .laid) (k d) (u d) (recorded d) (fitting d))
 
 pub join-spec : {M : Type 1} → statement M
 join-spec =

@@ -6,6 +6,7 @@ use lib.ListN.{length}
 use borrow.Author.Needs.{needs}
 use Rattle.octets.specs.Parts.{eachFrom}
 use Rattle.octets.proofs.Parts.{eachFrom-none}
+use Rattle.model.specs.Layout.{recordSize, recordsPlace}
 use Rattle.model.specs.Table.{decode}
 use Rattle.table.proofs.Header.{laid-length}
 use Rattle.table.proofs.Turns.{onRecord, on-record-length, turn-record-laid, turn-record, turned-records}
@@ -17,7 +18,7 @@ use Rattle.registrar.proofs.leave_all.Tie as tie
 abbrev Inv-loop : tie.InvT-loop
 Inv-loop table₀ place kind held now k₀ table k =
     (k ≤ held) × (held ≡ length (decode table₀ .streams)) × (now ≡ decode table₀ .clock) × (length table ≡ length table₀)
-    × (table ≡ eachFrom 272 k 493 (onRecord (leaving place now (kindAt kind))) table₀)
+    × (table ≡ eachFrom recordsPlace k recordSize (onRecord (leaving place now (kindAt kind))) table₀)
 
 abbrev μ-loop : tie.MeasureT-loop
 μ-loop table₀ place kind held now k₀ table k = held - k
@@ -36,7 +37,7 @@ loop-holds c =
       c .before .before .count .ensures .0,
       c .clock .ensures,
       refl,
-      eachFrom-none 272 493 _ (on-record-length (leaving (a .place) n (kindAt (a .kind))) (leaving-eight (a .place) n (kindAt (a .kind)))) (a .table .now),
+      eachFrom-none recordsPlace recordSize _ (on-record-length (leaving (a .place) n (kindAt (a .kind))) (leaving-eight (a .place) n (kindAt (a .kind)))) (a .table .now),
     )
 
 part-quit-cell-end : tie.Need-part-quit-cell-end Inv-loop μ-loop

@@ -4,6 +4,7 @@ use mathlib.Core.Path.{_≡_, sym, _∙_}
 use native.Mathlib.Omega.{arith}
 use lib.ListN.{length}
 use borrow.Author.Needs.{needs}
+use Rattle.model.specs.Layout.{recordPlace, tableLength}
 use Rattle.model.specs.Table.{decode}
 use Rattle.table.proofs.Header.{laid-length, laid-few}
 use Rattle.table.proofs.Places.{at-place}
@@ -29,7 +30,7 @@ clock-requires c κs = c .before .before .before .before .before .before .before
 place : (c : tie.After-clock) → c .before .before .before .k .given .0 .0 < length (decode (c .before .before .before .before .before .before .before .before .args .table .now) .streams)
 place c = at-place (c .before .before .before .before .before .before .before .before .args .id) _ _ (sym (c .before .before .before .before .before .find .ensures) ∙ c .before .before .before .k .given .1) .within
 
-few : (c : tie.After-clock) → (c .before .before .before .k .given .0 .0 < 64) × (length (c .before .before .before .before .before .before .before .before .args .table .now) ≡ 31824)
+few : (c : tie.After-clock) → (c .before .before .before .k .given .0 .0 < 64) × (length (c .before .before .before .before .before .before .before .before .args .table .now) ≡ tableLength)
 few c = let l = c .before .before .before .before .before .before .before .before .pre .0 in (omega (arith, place c, laid-few _ l), laid-length _ l)
 
 mul-a : tie.Need-mul-a
@@ -48,13 +49,13 @@ quit-cell-requires : tie.Need-quit-cell-requires
 quit-cell-requires c κs =
     let p = c .before .before .before .before .before .before .before .before .before .pre in
     let k = c .before .before .before .before .k .given .0 .0 in
-    (lent-record-laid _ (p .0) k (272 + k * 493) (place (c .before)) (omega arith), search needs, p .1, p .2, p .3)
+    (lent-record-laid _ (p .0) k (recordPlace k) (place (c .before)) (omega arith), search needs, p .1, p .2, p .3)
 
 returns-2 : tie.Need-returns-2
 returns-2 c =
     let a = c .before .before .before .before .before .before .before .before .before .before .before .before .args in
     let k = c .before .before .before .before .before .before .before .k .given .0 .0 in
-    left-held (a .place) (kindAt (a .kind)) (a .table .now) (c .before .before .before .before .before .before .before .before .before .before .before .before .pre .0) (a .id) (search needs) k (272 + k * 493) _
+    left-held (a .place) (kindAt (a .kind)) (a .table .now) (c .before .before .before .before .before .before .before .before .before .before .before .before .pre .0) (a .id) (search needs) k (recordPlace k) _
     (sym (c .before .before .before .before .before .before .before .before .before .find .ensures) ∙ c .before .before .before .before .before .before .before .k .given .1) (omega arith) (c .before .before .before .before .clock .ensures) _ (c .before .before .quit-cell .ensures)
 
 pub withdraw-spec : {M : Type 1} → statement M
