@@ -5,7 +5,7 @@ use native.Mathlib.Omega.{arith}
 use mathlib.Core.Path.{_≡_, refl, sym, ap, _∙_}
 use mathlib.Core.List.{List, [], _∷_, _++_}
 use lib.ListN.{length, set, take, drop, length-set}
-use lib.Seq.{getD-set-same}
+use lib.Seq.{getD-set-same, set-getD}
 use Rattle.octets.specs.Parts.{part, patch}
 use Rattle.octets.specs.Fields.{Fit}
 use Rattle.octets.proofs.Parts.{lent-part}
@@ -66,6 +66,11 @@ module _ {t : List ℕ} {k : ℕ} (s : Stands t k) where
 
   pub stream-fits : FitStream (streamAt k (decode t))
   stream-fits = all-at FitStream (decode t .streams) (laid-fits t (s .laid) .streams) k (fresh 0) (s .held)
+
+  -- replaced by itself
+  pub stream-same : t ≡ encode (withStream k (streamAt k (decode t)) (decode t))
+  unfolding holding
+  stream-same = laid-is t (s .laid) ∙ sym (ap (λ (l : List Stream). encode (holding (decode t) l)) (set-getD (decode t .streams) k (fresh 0)))
 
   -- replaced by one of its StreamID
   module _ (x : Stream) (f : FitStream x) (i : x .id ≡ streamAt k (decode t) .id) where
