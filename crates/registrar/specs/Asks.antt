@@ -7,11 +7,25 @@ use lib.ListN.{length}
 use Rattle.octets.specs.Be.{beAt}
 use Rattle.model.specs.Frames.{typeOctet, vectors, walk}
 use Rattle.model.specs.Laid.{Laid}
+use Rattle.table.specs.Places.{StandsOn}
 use Rattle.msrpdu.specs.Reader.{typedRead}
 use Rattle.msrpdu.specs.declared.VectorHead.{VectorHead}
 use Rattle.msrpdu.specs.declared.VectorRead.the-variants.{Vector}
 use Rattle.registrar.specs.declared.ListWalk.{ListWalk}
 use Rattle.registrar.specs.Acts.{isFound, attributeAt, HasValue}
+
+-- stream k's cell at a port, and a type that registers
+pub record QuitGiven (t : List ℕ) (k p kind : ℕ) : Type 0 where
+  pub stands : StandsOn t k p
+  pub low : 1 ≤ kind
+  pub high : kind ≤ 3
+
+-- all streams at a port
+pub record LeaveGiven (t : List ℕ) (p kind : ℕ) : Type 0 where
+  pub laid : Laid t
+  pub place : p < 8
+  pub low : 1 ≤ kind
+  pub high : kind ≤ 3
 
 -- a laid-out table, the place of a port, and a well-formed frame
 pub record FrameGiven (t : List ℕ) (p : ℕ) (pdu : List ℕ) : Type 0 where
@@ -55,4 +69,11 @@ pub record JoinGiven (t : List ℕ) (w : ListWalk) (i : ℕ) (first : List ℕ) 
   pub registers : w .kind ≤ 3
   pub value : HasValue (w .kind) first n
   pub id : i ≡ beAt 8 first 0 + n
+  pub four : w .kind ≡ 3 → (1 ≤ f) × (f ≤ 3)
+
+-- the same on stream k's cell
+pub record CellGiven (t : List ℕ) (k : ℕ) (w : ListWalk) (first : List ℕ) (f n : ℕ) : Type 0 where
+  pub stands : StandsOn t k (w .place)
+  pub registers : w .kind ≤ 3
+  pub value : HasValue (w .kind) first n
   pub four : w .kind ≡ 3 → (1 ≤ f) × (f ≤ 3)

@@ -4,19 +4,19 @@ ghost use mathlib.Core.Bool.{true, false};
 ghost use mathlib.Core.List.{_∷_, []};
 ghost use Prim.Native.Nat.{ℕ, suc, _≤_, _<_};
 ghost use lib.ListN.{length};
-ghost use Rattle.model.specs.Layout.{recordSize};
 ghost use Rattle.model.specs.Lists.{All};
 ghost use Rattle.model.specs.Settling.{held};
-ghost use Rattle.model.specs.Laid.{LaidStream, Laid};
-ghost use Rattle.model.specs.Table.{streamOctets, toStream, decode};
-ghost use Rattle.model.specs.Registrations.{leaveAll, leave, quit, does, at, change};
+ghost use Rattle.model.specs.Laid.{Laid};
+ghost use Rattle.model.specs.Table.{encode, decode};
+ghost use Rattle.model.specs.Registrations.{leaveAll, leave, quit, does};
 ghost use Rattle.model.specs.Frames.{vectors, walk, valueActs, valuesActs, leaveAllActs, vectorActs};
+ghost use Rattle.table.specs.Updates.{withCell};
 ghost use Rattle.cells.specs.Acts.{kindAt};
 ghost use Rattle.msrpdu.specs.Reader.{headVector};
 ghost use Rattle.registrar.specs.Walked.{Walked, Receives};
 ghost use Rattle.registrar.specs.Enrols.{Enrols};
-ghost use Rattle.registrar.specs.Asks.{FrameGiven, WalkGiven, ListGiven, VectorGiven, ValuesGiven, ValueGiven, JoinGiven};
-ghost use Rattle.registrar.specs.Acts.{actsOf, attributeAt, vectorOf, HasValue, joinOf, askedOf, Declares};
+ghost use Rattle.registrar.specs.Asks.{QuitGiven, LeaveGiven, CellGiven, FrameGiven, WalkGiven, ListGiven, VectorGiven, ValuesGiven, ValueGiven, JoinGiven};
+ghost use Rattle.registrar.specs.Acts.{actsOf, attributeAt, vectorOf, joinOf, askedOf, Declares};
 use msrpdu::Event;
 use msrpdu::MessageRead;
 use msrpdu::ValueRead;
@@ -44,57 +44,54 @@ enum Enrolment {
     Full,
 }
 
-// Lv or LeaveAll of an AttributeType, on the cell of a place.
-fn quit_cell(rec: &mut [u8], place: usize, kind: u8, clock: u32)
-    requires { ⌜ LaidStream (now rec) × (length (now rec) ≡ recordSize) × (place < 8) × (1 ≤ kind) × (kind ≤ 3) ⌝ }
-    ensures { λ _. ⌜ now (rec .exit) ≡ streamOctets (change (at place (quit clock (kindAt kind))) (toStream (now (rec .entry)))) ⌝ }
+// Lv or LeaveAll of an AttributeType, on stream k's cell at a port.
+fn quit_cell(table: &mut [u8], k: usize, place: usize, kind: u8, clock: u32)
+    requires { ⌜ QuitGiven (now table) k place kind ⌝ }
+    ensures { λ _. ⌜ now (table .exit) ≡ encode (withCell k place (quit clock (kindAt kind)) (decode (now (table .entry)))) ⌝ }
 {
-    let a = table::CELLS + place * table::CELL;
-    cells::quit(&mut rec[a..a + table::CELL], kind, clock);
+    let a = table::cell_in(table, k, place);
+    cells::quit(&mut table[a..a + table::CELL], kind, clock);
 }
 
-// A join, on the cell of a place: value n of a FirstValue, or a Listener of a four-packed event.
-fn join_cell(rec: &mut [u8], place: usize, kind: u8, first: &[u8], four: u8, n: usize)
-    requires { ⌜ LaidStream (now rec) × (length (now rec) ≡ recordSize) × (place < 8) × (kind ≤ 3)
-        × HasValue kind (now first) n × (kind ≡ 3 → (1 ≤ four) × (four ≤ 3)) ⌝ }
-    ensures { λ _. ⌜ ((clock : ℕ) → now (rec .exit) ≡ streamOctets (change (at place (does clock (joinOf (kindAt kind) (now (first .entry)) four n)))
-        (toStream (now (rec .entry))))) ⌝ }
+// A join on stream k's cell: value n of a FirstValue, or a Listener of a four-packed event.
+fn join_cell(table: &mut [u8], k: usize, walk: ListWalk, first: &[u8], four: u8, n: usize)
+    requires { ⌜ CellGiven (now table) k walk (now first) four n ⌝ }
+    ensures { λ _. ⌜ ((clock : ℕ) → now (table .exit) ≡ encode (withCell k (walk .place)
+        (does clock (joinOf (kindAt (walk .kind)) (now (first .entry)) four n)) (decode (now (table .entry))))) ⌝ }
 {
-    let a = table::CELLS + place * table::CELL;
+    let a = table::cell_in(table, k, walk.place);
     let end = a + table::CELL;
-    if kind == 3 {
-        cells::join_listener(&mut rec[a..end], four);
+    if walk.kind == 3 {
+        cells::join_listener(&mut table[a..end], four);
     } else {
-        cells::join_talker(&mut rec[a..end], kind, first, n);
+        cells::join_talker(&mut table[a..end], walk.kind, first, n);
     }
 }
 
-// LeaveAll of an AttributeType at a port: on each record in use.
+// LeaveAll of an AttributeType at a port: on each stream.
 fn leave_all(table: &mut [u8], place: usize, kind: u8)
-    requires { ⌜ Laid (now table) × (place < 8) × (1 ≤ kind) × (kind ≤ 3) ⌝ }
+    requires { ⌜ LeaveGiven (now table) place kind ⌝ }
     ensures { λ _. ⌜ Walked true place (leaveAll (kindAt kind) ∷ []) (now (table .entry)) true (now (table .exit)) ⌝ }
 {
     let held = table::count(table);
     let now = table::clock(table);
     let mut k: usize = 0;
     while k < held {
-        let a = table::RECORDS + k * table::RECORD;
-        quit_cell(&mut table[a..a + table::RECORD], place, kind, now);
+        quit_cell(table, k, place, kind, now);
         k += 1;
     }
 }
 
-// Lv of a StreamID and an AttributeType at a port: on its record, where it has one.
+// Lv of a StreamID and an AttributeType at a port: on its cell, where it is held.
 fn withdraw(table: &mut [u8], place: usize, kind: u8, id: u64)
-    requires { ⌜ Laid (now table) × (place < 8) × (1 ≤ kind) × (kind ≤ 3) ⌝ }
+    requires { ⌜ LeaveGiven (now table) place kind ⌝ }
     ensures { λ _. ⌜ Walked true place (leave (kindAt kind) id ∷ []) (now (table .entry)) true (now (table .exit)) ⌝ }
 {
     let Found::At(k) = table::find(table, id) else {
         return;
     };
     let now = table::clock(table);
-    let a = table::RECORDS + k * table::RECORD;
-    quit_cell(&mut table[a..a + table::RECORD], place, kind, now);
+    quit_cell(table, k, place, kind, now);
 }
 
 // A record for a stream: the one that it has, or an empty one at its place, unless there are 64.
@@ -125,15 +122,7 @@ fn join(table: &mut [u8], walk: ListWalk, id: u64, first: &[u8], four: u8, n: us
         return false;
     };
     if walk.applying {
-        let a = table::RECORDS + k * table::RECORD;
-        join_cell(
-            &mut table[a..a + table::RECORD],
-            walk.place,
-            walk.kind,
-            first,
-            four,
-            n,
-        );
+        join_cell(table, k, walk, first, four, n);
     }
     true
 }

@@ -30,7 +30,7 @@ returns-3 c =
 leave-all-requires : tie.Need-leave-all-requires
 leave-all-requires c κs =
     let p = c .before .before .before .before .before .before .before .pre in
-    (p .laid, p .place, p .low, omega (arith, p .high, c .before .if3 .left))
+    record { laid = p .laid; place = p .place; low = p .low; high = omega (arith, p .high, c .before .if3 .left) }
 
 returns-4 : tie.Need-returns-4
 returns-4 c =

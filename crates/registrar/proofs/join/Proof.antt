@@ -1,18 +1,14 @@
 -- `registrar::join` meets its contract. Assumes nothing.
-use Prim.Native.Nat.{ℕ, _+_, _-_, _*_, _<_}
+use Prim.Native.Nat.{ℕ, _<_}
 use mathlib.Core.Path.{_≡_}
 use mathlib.Core.List.{List}
-use native.Mathlib.Omega.{arith}
 use lib.ListN.{length}
 use borrow.Author.Needs.{needs}
-use Rattle.model.specs.Layout.{recordSize, recordsPlace, tableLength}
 use Rattle.model.specs.Registrations.{Act}
 use Rattle.model.specs.Table.{decode}
 use Rattle.model.specs.Laid.{Laid}
 use Rattle.model.proofs.FoundVectors.{Fits}
-use Rattle.table.proofs.Header.{laid-length, laid-few}
 use Rattle.table.proofs.Places.{at-place}
-use Rattle.table.proofs.Records.{lent-record-laid}
 use Rattle.cells.specs.Acts.{kindAt}
 use Rattle.registrar.specs.Acts.{joinOf}
 use Rattle.registrar.specs.Enrols.{EnrolledAt}
@@ -67,34 +63,18 @@ module _ (c : tie.After-known-told) where
       let a = c .before .before .before .before .before .before .before .before .before in
       at-place (a .args .id) k (decode u .streams) (enrolled-found (a .args .walk .place) (a .args .id) act (joins a) t (a .pre .walk .laid) k u recorded fitting) .within
 
-  few : (k < 64) × (length u ≡ tableLength)
-  few = (omega (arith, within, laid-few u laid), laid-length u laid)
-
-mul-a : tie.Need-mul-a
-mul-a c = let h = few (c .before) in search needs
-
-add-a : tie.Need-add-a
-add-a c = let h = few (c .before) in search needs
-
-add-join-cell : tie.Need-add-join-cell
-add-join-cell c = let h = few (c .before) in search needs
-
-part-join-cell-end : tie.Need-part-join-cell-end
-part-join-cell-end c = let h = few (c .before) in search needs
-
 join-cell-requires : tie.Need-join-cell-requires
 join-cell-requires c κs =
     let d = c .before .before in
     let p = d .before .before .before .before .before .before .before .before .before .pre in
-    (lent-record-laid (u d) (laid d) (k d) (recordsPlace + k d * recordSize) (within d) (omega arith), search needs, p .walk .place, p .registers, p .value, p .four)
+    record { stands = record { laid = laid d; held = within d; port = p .walk .place }; registers = p .registers; value = p .value; four = p .four }
 
 returns-2 : tie.Need-returns-2
 returns-2 c =
     let d = c .before .before .before .before .before in
     let a = d .before .before .before .before .before .before .before .before .before in
     rw (c .before .before .before .before .if1 .taken)
-    (join-applied (a .args .walk .place) (a .args .id) (act d) (joins a) (t d) (a .pre .walk .laid) (k d) (u d) (recorded d) (fitting d) (recordsPlace + k d * recordSize) _ (omega arith)
-    (c .before .before .join-cell .ensures))
+    (join-applied (a .args .walk .place) (a .args .id) (act d) (joins a) (t d) (a .pre .walk .laid) (k d) (u d) (recorded d) (fitting d) _ (c .before .before .join-cell .ensures))
 
 returns-3 : tie.Need-returns-3
 returns-3 c =
@@ -105,6 +85,5 @@ returns-3 c =
 pub join-spec : {M : Type 1} → statement M
 join-spec =
     tie.close
-    (tie.spec enrol-requires (λ c. search needs) (λ c. search needs) (λ c. search needs) returns mul-a add-a add-join-cell
-    (λ c. search needs) (λ c. search needs) part-join-cell-end join-cell-requires (λ c. search needs) returns-2
-    (λ c. search needs) returns-3)
+    (tie.spec enrol-requires (λ c. search needs) (λ c. search needs) (λ c. search needs) returns join-cell-requires
+    (λ c. search needs) returns-2 (λ c. search needs) returns-3)

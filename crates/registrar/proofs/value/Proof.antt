@@ -62,7 +62,7 @@ withdraw-requires : tie.Need-withdraw-requires
 withdraw-requires c κs =
     let d = c .before .before .before .before in
     let p = d .before .before .before .before .before .before .before .before .before .pre in
-    (p .walk .laid, p .walk .place, p .value .low, registers d)
+    record { laid = p .walk .laid; place = p .walk .place; low = p .value .low; high = registers d }
 
 returns-2 : tie.Need-returns-2
 unfolding actsAsked
