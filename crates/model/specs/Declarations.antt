@@ -4,9 +4,9 @@ use mathlib.Core.Bool.{Bool, true, false, cond}
 use Prim.Native.Nat.{ℕ, suc, _+_, _-_}
 use lib.ListN.{length, getD, take, drop}
 use lib.Dec.{ltb}
+use Rattle.model.specs.FrameLayout.{advertiseLength, failedLength, listenerLength, longestPdu}
 use Rattle.model.specs.State.{Fixed, Health, sound, broken, Varying, Ready, Column, none, advertise, failed, Entry, noEntry, Declared, nothing, tells, Result, Stream, Bridge, resultAt}
 use Rattle.model.specs.Registrations.{Kind, advertises, faileds, listeners, Act, talk, listen}
-use Rattle.model.specs.FrameLayout.{advertiseLength, failedLength, listenerLength, longestPdu}
 
 -- a declaration is a join of the neighbour's table
 pub data Declaration : Type 0 where

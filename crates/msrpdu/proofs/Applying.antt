@@ -1,6 +1,6 @@
 -- What a walk that applies an accepted PDU reads is what the definitions apply: the parts of each vector at its places, the
 -- event, StreamID and destination of each value, and the vectors that are left after each step. Assumes nothing.
-use mathlib.Core.Path.{_≡_, refl, sym, ap, _∙_}
+use mathlib.Core.Path.{_≡_, refl, sym, ap, subst, _∙_}
 use mathlib.Core.List.{List, [], _∷_, _++_, append-assoc}
 use mathlib.Core.Bool.{false}
 use Prim.Native.Nat.{ℕ, suc, _+_, _-_, _/_, _%_, _≤_, _<_}
@@ -10,13 +10,15 @@ use lib.Dec.{ltb, eqb}
 use borrow.Author.Tests.{ltb-false, eqb-false, lt-ltb, ne-eqb}
 use Rattle.octets.specs.Be.{beAt}
 use Rattle.octets.specs.Fields.{fields}
-use Rattle.octets.proofs.Parts.{lent-part, length-part}
+use Rattle.octets.specs.Parts.{part}
+use Rattle.octets.proofs.Parts.{lent-length}
+use Rattle.model.specs.FrameLayout.{longestPdu}
 use Rattle.model.specs.Registrations.{Kind, advertises, faileds, listeners}
-use Rattle.model.specs.Frames.{Attribute, registers, TypeOctet, notAllowed, unknown, known, typeOctet, firstWidths, firstLength, threeLength, fourLength, Vector, vectorAt, vectorEnd, overflows, runsPast, Walk, fault, found, also, both, messages, walk, eventOf, fourOf, Asking, nothingAsked, join, withdraw, asking, fixedValue, idValue, vectorActs, frameActs}
+use Rattle.model.specs.Frames.{Attribute, registers, TypeOctet, notAllowed, unknown, known, typeOctet, firstWidths, firstLength, threeLength, hasFour, fourLength, Vector, vectorAt, vectorEnd, vectorHead, typedIn, overflows, runsPast, Walk, fault, found, also, both, messages, walk, eventOf, fourOf, Asking, nothingAsked, join, withdraw, asking, fixedValue, idValue, vectorActs, frameActs}
 use Rattle.model.specs.Frames as frames
 use Rattle.model.proofs.Refusals.{walk-faults}
-use Rattle.model.proofs.FoundVectors.{Sound, or-left, or-right}
-use Rattle.msrpdu.specs.Reader.{headOf, vectorRead, firstPart, messageRead, numberOf, eventMeant, eventIn, fourIn, streamIdIn, destinationIn}
+use Rattle.model.proofs.FoundVectors.{passed, passed-all, Sound, sound-at, or-left, or-right}
+use Rattle.msrpdu.specs.Reader.{headOf, headVector, typedRead, messageRead, numberOf, eventMeant, eventIn, fourIn, streamIdIn, destinationIn}
 use Rattle.msrpdu.specs.declared.VectorHead.{VectorHead}
 use Rattle.msrpdu.specs.declared.VectorRead.the-variants as vector
 use Rattle.msrpdu.specs.declared.MessageHead.{MessageHead}
@@ -25,57 +27,30 @@ use Rattle.msrpdu.specs.declared.ValueRead.the-variants.{Value}
 use Rattle.msrpdu.specs.declared.Event.{Event}
 use Rattle.msrpdu.specs.declared.Event.the-variants.{New, JoinIn, In, JoinMt, Mt, Lv, Missing}
 use Rattle.msrpdu.proofs.Laws.{value-read}
-use Rattle.msrpdu.proofs.Reading.{passed, Passed, passed-all, first-is}
+use Rattle.msrpdu.proofs.Reading.{Headed, read-head, first-here}
 use Rattle.msrpdu.proofs.Walking.{vectorsIn, vectors-refused, vectors-end, vectors-next, messages-refused, messages-end, messages-skipped, messages-list}
 
--- The parts of a vector that is read, v, are those at the places of its head, w.
+-- A vector that is read is the one that its head names.
 
-pub record Meant (k : Attribute) (l : List ℕ) (at : ℕ) (w : VectorHead) (v : Vector) : Type 0 where
-  pub attribute : v .attribute ≡ k
-  pub leaves : v .leavesAll ≡ w .leaves
-  pub values : v .values ≡ w .values
-  pub first : v .first ≡ take (w .three - (at + 2)) (drop (at + 2) l)
-  pub three : v .three ≡ take (w .four - w .three) (drop (w .three) l)
-  pub four : v .four ≡ take (w .next - w .four) (drop (w .four) l)
-  pub sound : Sound v
+head-vector : (k : Attribute) (l : List ℕ) (at h : ℕ) → typedIn k l at ≡ vectorHead h
+    → vectorAt k l at h ≡ headVector k l (headOf (firstLength k) (hasFour k) at h)
+unfolding vectorAt headVector headOf vectorEnd part
+head-vector k l at h e =
+    let f = first-here (firstLength k) (hasFour k) l at h (passed-all k l at h e .there) in
+    rw (f, lent-length (at + 2 + firstLength k) (threeLength (h % 8192)), lent-length (at + 2 + firstLength k + threeLength (h % 8192)) (fourLength (hasFour k) (h % 8192)))
 
-sound-at : (k : Attribute) (l : List ℕ) (at : ℕ) (w : VectorHead) → Passed k l at w → Sound (vectorAt k l at (beAt 2 l at))
-unfolding vectorAt vectorEnd
-sound-at k l at w p =
-    let n = beAt 2 l at % 8192 in
-    let f = p .fits in
-    record {
-      values = omega arith;
-      first = length-part (at + 2) (firstLength k) l (omega arith);
-      three = length-part (at + 2 + firstLength k) (threeLength n) l (omega arith);
-      four = length-part (at + 2 + firstLength k + threeLength n) (fourLength k n) l f;
-      packed = p .packed;
-      within = p .bounded;
-    }
+module _ (k : Attribute) (l : List ℕ) (at : ℕ) (w : VectorHead) (e : typedRead (known k) l at ≡ vector.Vector w) where
+  abbrev there : Headed (firstLength k) (hasFour k) at (typedIn k l at) w
+  there = read-head (firstLength k) (hasFour k) at (typedIn k l at) w (unfold typedRead in e)
 
-meant-at : (k : Attribute) (l : List ℕ) (at : ℕ) (w : VectorHead) → Passed k l at w → Meant k l at w (vectorAt k l at (beAt 2 l at))
-unfolding vectorAt headOf vectorEnd
-meant-at k l at w p =
-    let h = beAt 2 l at in
-    let s = sound-at k l at w p in
-    rw (← (p .head)) record {
-      attribute = refl;
-      leaves = refl;
-      values = refl;
-      first = sym (lent-part (at + 2) (firstLength k) l);
-      three = sym (lent-part (at + 2 + firstLength k) (threeLength (h % 8192)) l);
-      four = sym (lent-part (at + 2 + firstLength k + threeLength (h % 8192)) (fourLength k (h % 8192)) l);
-      sound = s;
-    }
+  named : vectorAt k l at (there .header) ≡ headVector k l w
+  named = head-vector k l at (there .header) (there .is) ∙ ap (headVector k l) (there .head)
 
-module _ (k : Attribute) (l : List ℕ) (at : ℕ) (w : VectorHead) (e : vectorRead (known k) l at ≡ vector.Vector w) where
-  pub meant : Meant k l at w (vectorAt k l at (beAt 2 l at))
-  unfolding vectorRead
-  meant = meant-at k l at w (passed-all k l at w e)
+  pub meant : vectorAt k l at (beAt 2 l at) ≡ headVector k l w
+  meant = ap (vectorAt k l at) (passed-all k l at (there .header) (there .is) .fitting .is) ∙ named
 
-  -- and `first_value` hands back its FirstValue
-  pub first-meant : firstPart (known k) at l (vectorRead (known k) l at) ≡ vectorAt k l at (beAt 2 l at) .first
-  first-meant = sym (meant .first ∙ first-is (known k) l at w e)
+  pub sound : Sound (headVector k l w)
+  sound = subst Sound named (sound-at k l at (there .header) (there .is))
 
 -- What is read of value n, below the number of values.
 
@@ -222,18 +197,18 @@ pub record NextVector (f : ℕ) (k : Attribute) (l : List ℕ) (at : ℕ) (w : V
   pub left : vectorsIn (known k) f l (w .next) ≡ found rest
 
 module _ (f : ℕ) (k : Attribute) (l : List ℕ) (at : ℕ) (vs : List Vector) (e : vectorsIn (known k) (suc f) l at ≡ found vs) where
-  pub found-next : (w : VectorHead) → vectorRead (known k) l at ≡ vector.Vector w → NextVector f k l at w vs
-  unfolding vectorRead vectorsIn
+  pub found-next : (w : VectorHead) → typedRead (known k) l at ≡ vector.Vector w → NextVector f k l at w vs
+  unfolding vectorsIn
   found-next w r =
       let a = also-found _ _ vs (sym (vectors-next f k l at w r) ∙ e) in
       record { rest = a .0; first = a .2; left = a .1 }
 
-  pub found-end : vectorRead (known k) l at ≡ vector.EndMark → vs ≡ []
-  unfolding vectorRead vectorsIn
+  pub found-end : typedRead (known k) l at ≡ vector.EndMark → vs ≡ []
+  unfolding vectorsIn
   found-end r = let h = vectors-end f k l at r in cc
 
-  pub found-accepted : (n : ℕ) → vectorRead (known k) l at ≡ vector.Refused n → ⊥
-  unfolding vectorRead vectorsIn
+  pub found-accepted : (n : ℕ) → typedRead (known k) l at ≡ vector.Refused n → ⊥
+  unfolding vectorsIn
   found-accepted n r = let h = vectors-refused f k l at n r in let z : _≡_ {A = ℕ} 0 1 = cc in omega arith
 
 -- a Message's vectors are the first of those left, and the others come after it
@@ -288,14 +263,14 @@ pub accepted-messages : (s : List ℕ) (vs : List Vector) → walk s ≡ found v
 unfolding walk
 accepted-messages s vs e =
     let a = passed (eqb (length s) 0) _ _ _ (no-fault 2 vs) e in
-    let b = passed (ltb 1500 (length s)) _ _ _ (no-fault 2 vs) (a .1) in
+    let b = passed (ltb longestPdu (length s)) _ _ _ (no-fault 2 vs) (a .1) in
     b .1
 
 -- and it has 1 to 1,500 octets
-pub accepted-length : (s : List ℕ) (vs : List Vector) → walk s ≡ found vs → (1 ≤ length s) × (length s ≤ 1500)
+pub accepted-length : (s : List ℕ) (vs : List Vector) → walk s ≡ found vs → (1 ≤ length s) × (length s ≤ longestPdu)
 unfolding walk
 accepted-length s vs e =
     let a = passed (eqb (length s) 0) _ _ _ (no-fault 2 vs) e in
-    let b = passed (ltb 1500 (length s)) _ _ _ (no-fault 2 vs) (a .1) in
+    let b = passed (ltb longestPdu (length s)) _ _ _ (no-fault 2 vs) (a .1) in
     let p : length s ≡ 0 → ⊥ = eqb-false _ _ (a .0) in
-    (omega arith, ltb-false 1500 _ (b .0))
+    (omega arith, ltb-false longestPdu _ (b .0))

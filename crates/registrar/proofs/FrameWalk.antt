@@ -9,7 +9,7 @@ use lib.ListN.{length, take, drop}
 use Rattle.octets.specs.Be.{beAt}
 use Rattle.model.specs.Registrations.{Act}
 use Rattle.model.specs.Frames.{Attribute, known, typeOctet, Vector, vectorAt, Walk, fault, found, vectors, messages, vectorActs, frameActs}
-use Rattle.msrpdu.specs.Reader.{vectorRead, messageRead}
+use Rattle.msrpdu.specs.Reader.{typedRead, messageRead, headVector}
 use Rattle.msrpdu.specs.declared.VectorHead.{VectorHead}
 use Rattle.msrpdu.specs.declared.VectorRead.{VectorRead}
 use Rattle.msrpdu.specs.declared.MessageHead.{MessageHead}
@@ -18,7 +18,7 @@ use Rattle.msrpdu.proofs.Applying.{found-next, found-end, found-accepted, found
 use Rattle.msrpdu.specs.declared.VectorRead.the-variants as vector
 use Rattle.msrpdu.specs.declared.MessageRead.the-variants as message
 use Rattle.registrar.specs.Acts.{isFound, actsOf, attributeAt}
-use Rattle.registrar.proofs.VectorActs.{type-known}
+use Rattle.registrar.proofs.VectorActs.{type-known, vector-meant}
 
 -- the vectors that a walk without a fault finds
 pub record Finds (w : Walk) : Type 0 where
@@ -53,20 +53,22 @@ module _ (f : ℕ) (kind : ℕ) (low : 1 ≤ kind) (high : kind ≤ 4) (l : List
   -- a vector, and those after it
   pub record Next (w : VectorHead) : Type 0 where
     pub rest : List Vector
-    pub acts : frameActs vs ≡ vectorActs (vectorAt (attributeAt kind) l at (beAt 2 l at)) ++ frameActs rest
+    pub acts : frameActs vs ≡ vectorActs (headVector (attributeAt kind) l w) ++ frameActs rest
     pub left : vectors (suc (f - 1)) (attributeAt kind) l (w .next) ≡ found rest
 
-  pub next-vector : (w : VectorHead) → vectorRead (typeOctet 0 kind) l at ≡ vector.Vector w → Next w
+  pub next-vector : (w : VectorHead) → typedRead (typeOctet 0 kind) l at ≡ vector.Vector w → Next w
   unfolding vectorsIn
   next-vector w r =
       let n = found-next f (attributeAt kind) l at vs e w (rw (type-known kind low high) at r) in
       record {
         rest = n .rest;
-        acts = ap frameActs (n .first) ∙ acts-next (vectorAt (attributeAt kind) l at (beAt 2 l at)) (n .rest);
+        acts =
+            ap frameActs (n .first) ∙ acts-next (vectorAt (attributeAt kind) l at (beAt 2 l at)) (n .rest)
+            ∙ ap (λ (v : Vector). vectorActs v ++ frameActs (n .rest)) (vector-meant kind l at w low high r);
         left = rw (← vectors-fuel f (attributeAt kind) l (w .next) (n .rest) (n .left)) (n .left);
       }
 
-  pub last-vector : (r : VectorRead) → r ≡ vectorRead (typeOctet 0 kind) l at → ((w : VectorHead) → r ≡ vector.Vector w → ⊥) → frameActs vs ≡ []
+  pub last-vector : (r : VectorRead) → r ≡ typedRead (typeOctet 0 kind) l at → ((w : VectorHead) → r ≡ vector.Vector w → ⊥) → frameActs vs ≡ []
   unfolding vectorsIn frameActs
   last-vector (vector.Refused n) q h = absurd (found-accepted f (attributeAt kind) l at vs e n (rw (← type-known kind low high) (sym q)))
   last-vector vector.EndMark q h = rw (found-end f (attributeAt kind) l at vs e (rw (← type-known kind low high) (sym q)))

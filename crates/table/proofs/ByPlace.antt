@@ -1,11 +1,11 @@
 -- The parts of a laid-out table by the place k of a stream and the place p of a port. Of each: what is read there, what the table
 -- is once it is replaced, and that the table stays laid out; and the same as a call sees it and leaves it.
-use Prim.Native.Nat.{ℕ, zero, suc, _+_, _-_, _*_, _<_, _≤_}
+use Prim.Native.Nat.{ℕ, zero, suc, _+_, _-_, _<_, _≤_}
 use native.Mathlib.Omega.{arith}
 use mathlib.Core.Path.{_≡_, refl, sym, ap, _∙_}
 use mathlib.Core.List.{List, [], _∷_, _++_}
 use lib.ListN.{length, set, take, drop, length-set}
-use lib.Seq.{getD-set-same}
+use lib.Seq.{getD-set-same, set-getD}
 use Rattle.octets.specs.Parts.{part, patch}
 use Rattle.octets.specs.Fields.{Fit}
 use Rattle.octets.proofs.Parts.{lent-part}
@@ -17,7 +17,7 @@ use Rattle.model.specs.State.{Fixed, Cell, Result, Stream, Totals, Bridge, port
 use Rattle.model.specs.Registrations.{at, change, holding}
 use Rattle.model.specs.WrittenFrames.{fixedNumbers}
 use Rattle.model.specs.Table.{portOctets, toPort, fixedFrom, cellOctets, toCell, resultOctets, toResult, streamOctets, totalsOctets, toTotals, encode, decode}
-use Rattle.model.specs.Laid.{FitCell, FitResult, FitStream, FitTotals, FitBridge, LaidCell, LaidResult, Laid}
+use Rattle.model.specs.Laid.{FitCell, FitResult, FitStream, FitTotals, FitBridge, Laid}
 use Rattle.model.proofs.Lists.{all-at, all-set}
 use Rattle.model.proofs.Parts.{_also_}
 use Rattle.model.proofs.Cells.{fixed-back, cell-length}
@@ -25,7 +25,7 @@ use Rattle.model.proofs.Results.{result-length}
 use Rattle.model.proofs.SettingsOctets.{port-length, port-back}
 use Rattle.model.proofs.Tables.{totals-length, totals-back}
 use Rattle.model.proofs.Fits.{fit-fixed, cell-read, result-read, id-fits, settled-fits, bridge-read, laid-is, laid-fits}
-use Rattle.table.specs.Updates.{totalled, settledAs, resulting, streamAt, totalsAt, withStream, withSettled, withCell, withResult, withTotals}
+use Rattle.table.specs.Updates.{settledAs, resulting, streamAt, totalsAt, withStream, withSettled, withCell, withResult, withTotals}
 use Rattle.table.specs.Places.{Stands, PortIn, StandsOn}
 use Rattle.table.specs.Reads.{fixedOctets, toFixed, FitFixed, ReadsCell, ReadsResult, ReadsFixed, ReadsPort, ReadsTotals}
 use Rattle.table.proofs.Header.{table-length, laid-few, port-fits, port-part, totals-part, totals-patch}
@@ -66,6 +66,11 @@ module _ {t : List ℕ} {k : ℕ} (s : Stands t k) where
 
   pub stream-fits : FitStream (streamAt k (decode t))
   stream-fits = all-at FitStream (decode t .streams) (laid-fits t (s .laid) .streams) k (fresh 0) (s .held)
+
+  -- replaced by itself
+  pub stream-same : t ≡ encode (withStream k (streamAt k (decode t)) (decode t))
+  unfolding holding
+  stream-same = laid-is t (s .laid) ∙ sym (ap (λ (l : List Stream). encode (holding (decode t) l)) (set-getD (decode t .streams) k (fresh 0)))
 
   -- replaced by one of its StreamID
   module _ (x : Stream) (f : FitStream x) (i : x .id ≡ streamAt k (decode t) .id) where

@@ -1,9 +1,9 @@
--- A loop that changes one stream of a table after another, or one cell of a stream after another: at each turn the table is laid
--- out, and what the loop has not come to is as it was; a turn; the end. No place of an octet is in it.
+-- A loop that changes one stream of a table after another, or one stream by turns, as one cell after another: at each turn the table
+-- is laid out, and what the loop has not come to is as it was; a turn; the end. No place of an octet is in it.
 use Prim.Native.Nat.{ℕ, zero, suc, _+_, _<_}
 use native.Mathlib.Omega.{arith}
 use native.Mathlib.Numerals.{add-one}
-use mathlib.Core.Path.{_≡_, refl, ap, _∙_}
+use mathlib.Core.Path.{_≡_, refl, sym, ap, _∙_}
 use mathlib.Core.List.{List, [], _∷_, map}
 use lib.ListN.{length, getD, set}
 use Rattle.model.specs.Lists.{All}
@@ -15,7 +15,7 @@ use Rattle.model.proofs.Fits.{laid-is, laid-fits}
 use Rattle.table.specs.Updates.{streamAt, withStream}
 use Rattle.table.specs.Places.{Stands}
 use Rattle.table.proofs.Fitting.{holding-fits}
-use Rattle.table.proofs.ByPlace.{encoded-laid, encoded-read}
+use Rattle.table.proofs.ByPlace.{encoded-laid, encoded-read, stream-same, stream-replaced-stands, stream-replaced-at, stream-replaced-settings, stream-replaced-again}
 
 -- The first k of a list changed.
 
@@ -116,6 +116,44 @@ module _ (g : Stream → Stream) where
           ∙ ap (λ (b : Bridge). encode (withStream k (g (streamAt k b)) b)) partly-read
           ∙ unfold partly holding in rw (add-one) (ap (λ (s : List Stream). encode (holding (decode t₀) s)) (firsts-next g k (decode t₀ .streams) (fresh 0)))
 
+-- One stream by turns: h p is the stream after p turns, of what it was.
+
+module _ (h : ℕ → Stream → Stream) where
+  -- the bridge of t₀ with stream k after p turns
+  unfoldable pub partlyAt : List ℕ → ℕ → ℕ → Bridge
+  partlyAt t₀ k p = withStream k (h p (streamAt k (decode t₀))) (decode t₀)
+
+  module _ {t₀ : List ℕ} {k : ℕ} (s : Stands t₀ k) where
+    pub no-turn-yet : h 0 (streamAt k (decode t₀)) ≡ streamAt k (decode t₀) → t₀ ≡ encode (partlyAt t₀ k 0)
+    unfolding partlyAt
+    no-turn-yet q = stream-same s ∙ ap (λ (x : Stream). encode (withStream k x (decode t₀))) (sym q)
+
+    module _ (p : ℕ) (t : List ℕ) (e : t ≡ encode (partlyAt t₀ k p)) where
+      pub all-turns : (z : Stream) → h p (streamAt k (decode t₀)) ≡ z → t ≡ encode (withStream k z (decode t₀))
+      unfolding partlyAt
+      all-turns z q = e ∙ ap (λ (x : Stream). encode (withStream k x (decode t₀))) q
+
+      module _ (w : FitStream (h p (streamAt k (decode t₀)))) (i : h p (streamAt k (decode t₀)) .id ≡ streamAt k (decode t₀) .id) where
+        pub partlyAt-stands : Stands t k
+        unfolding partlyAt
+        partlyAt-stands = stream-replaced-stands s (h p (streamAt k (decode t₀))) w i t e
+
+        pub partlyAt-here : streamAt k (decode t) ≡ h p (streamAt k (decode t₀))
+        unfolding partlyAt
+        partlyAt-here = stream-replaced-at s (h p (streamAt k (decode t₀))) w i t e
+
+        pub partlyAt-settings : decode t .settings ≡ decode t₀ .settings
+        unfolding partlyAt
+        partlyAt-settings = stream-replaced-settings s (h p (streamAt k (decode t₀))) w i t e
+
+        -- g is what a turn does to the stream as it stands
+        pub one-turn-more : (g : Stream → Stream) → g (h p (streamAt k (decode t₀))) ≡ h (p + 1) (streamAt k (decode t₀)) → (y : List ℕ)
+            → y ≡ encode (withStream k (g (streamAt k (decode t))) (decode t)) → y ≡ encode (partlyAt t₀ k (p + 1))
+        unfolding partlyAt
+        one-turn-more g n y q =
+            stream-replaced-again s (h p (streamAt k (decode t₀))) w i t e (h (p + 1) (streamAt k (decode t₀))) y
+            (q ∙ ap (λ (x : Stream). encode (withStream k x (decode t))) (ap g partlyAt-here ∙ n))
+
 -- One cell of a stream after another.
 
 module _ (u : Cell → Cell) where
@@ -123,7 +161,7 @@ module _ (u : Cell → Cell) where
   abbrev pub cellsTo : ℕ → Stream → Stream
   cellsTo p = change (firsts u p)
 
-  pub cells-none : (x : Stream) → x ≡ cellsTo 0 x
+  pub cells-none : (x : Stream) → cellsTo 0 x ≡ x
   unfolding change firsts
   cells-none x = refl
 
@@ -141,6 +179,10 @@ module _ (u : Cell → Cell) where
   pub cells-done : (n : ℕ) (x : Stream) → length (x .cells) ≡ n → cellsTo n x ≡ change (map u) x
   unfolding change
   cells-done n x e = rw (← e, firsts-all u (x .cells))
+
+  pub cells-id : (p : ℕ) (x : Stream) → cellsTo p x .id ≡ x .id
+  unfolding change
+  cells-id p x = refl
 
   pub cells-fit : ((c : Cell) → FitCell c → FitCell (u c)) → (p : ℕ) (x : Stream) → FitStream x → FitStream (cellsTo p x)
   unfolding change
