@@ -16,8 +16,7 @@ use Rattle.model.proofs.Fits.{laid-fits}
 use Rattle.table.specs.Updates.{settledAs, withStream, withResult, withSettled}
 use Rattle.table.specs.Places.{Stands, StandsOn}
 use Rattle.table.specs.Reads.{ReadsCell, fixedOctets}
-use Rattle.table.proofs.Header.{laid-length}
-use Rattle.table.proofs.ByPlace.{stands, stands-on, few-before, stream-fits, stream-same, stream-replaced-stands, stream-replaced-at, stream-replaced-settings, stream-replaced-again, settled-as-fits, cell-at, settled-replaced, changed-result-at}
+use Rattle.table.proofs.ByPlace.{stands, stands-on, stream-fits, stream-same, stream-replaced-stands, stream-replaced-at, stream-replaced-settings, stream-replaced-again, settled-as-fits, cell-at, settled-replaced, changed-result-at}
 use Rattle.table.proofs.EachStream.{partly, partly-settings, partly-stands, one-more, all-done}
 use Rattle.streams.specs.Answers.{talkerPlace, sourceIn}
 use Rattle.streams.proofs.Sources.{source-at}
@@ -47,15 +46,15 @@ module _ {table : List ℕ} {k p : ℕ} (s : StandsOn table k p) where
       changed-result-at s a e (shownBy column latency (toDeclared listener) now) y q ∙ ap (λ (r : Result). encode (withResult k p r (decode table))) shown
 
 -- the fixed values that a stream has registered at place t, taken over as its settled values
-pub values-copied : {table : List ℕ} {k t : ℕ} (s : StandsOn table k t) → (a : ℕ) → a ≡ cellPlace k t + fixedPlace
+pub values-copied : {table : List ℕ} {k t : ℕ} (s : StandsOn table k t) → cellPlace k t + cellSize ≤ length table → (a : ℕ) → a ≡ cellPlace k t + fixedPlace
     → patch (settledOf k) fixedSize (part a fixedSize table) table
     ≡ encode (withSettled k (fixedOf (sourceIn t (cellAt (streamAt k (decode table)) t))) (decode table))
-values-copied {table} {k} {t} s a e =
+values-copied {table} {k} {t} s room a e =
     let c = cellAt (streamAt k (decode table)) t in
     let r = cell-at s in
     let q : part a fixedSize table ≡ fixedOctets (fixedOf (sourceIn t c)) =
     ap (λ (i : ℕ). part i fixedSize table) e
-    ∙ sym (part-part (cellPlace k t) cellSize fixedPlace fixedSize table (omega (arith, laid-length table (s .laid), few-before (stands s), s .port)) (omega arith))
+    ∙ sym (part-part (cellPlace k t) cellSize fixedPlace fixedSize table room (omega arith))
     ∙ fixed-part (part (cellPlace k t) cellSize table) (r .laid) t
     ∙ ap (λ (d : Cell). fixedOctets (fixedOf (sourceIn t d))) (r .is) in
     ap (λ (y : List ℕ). patch (settledOf k) fixedSize y table) q ∙ settled-replaced (stands s) (fixedOf (sourceIn t c))

@@ -10,7 +10,7 @@ returns : tie.Need-returns
 returns c =
     let to = c .before .before .before .before .settled-in in
     let from = c .before .before .before .before .before .before .cell-in in
-    c .before .before .move-down .ensures ∙ rw (to .ensures .0) (values-copied (c .before .before .before .before .before .before .before .before .before .pre) _ (omega (arith, to .ensures .0, from .ensures .0)))
+    c .before .before .move-down .ensures ∙ rw (to .ensures .0) (values-copied (c .before .before .before .before .before .before .before .before .before .pre) (rw (from .ensures .0) at (from .ensures .1)) _ (omega (arith, to .ensures .0, from .ensures .0)))
 
 pub copy-fixed-spec : {M : Type 1} → statement M
 copy-fixed-spec =
