@@ -1,4 +1,4 @@
--- Stage 1 on a table: a stream's result on a port, its settled values, and its places one after another.
+-- Stage 1 on a table: a stream's result on a port, its settled values, its places one after another, and every stream.
 use mathlib.Core.Path.{_≡_, refl, sym, ap, _∙_}
 use mathlib.Core.List.{List, _++_}
 use Prim.Native.Nat.{ℕ, _+_, _-_, _^_, _≤_, _<_}
@@ -20,8 +20,7 @@ use Rattle.table.proofs.ByPlace.{stands, stands-on, stream-fits, stream-same, s
 use Rattle.table.proofs.EachStream.{partly, partly-settings, partly-stands, one-more, all-done}
 use Rattle.streams.specs.Answers.{talkerPlace, sourceIn}
 use Rattle.streams.proofs.Sources.{source-at}
-use Rattle.columns.specs.Stages.{shownAs, earlyColumn, earlyAt, early, earlyAll}
-use Rattle.columns.specs.Answers.{shownBy}
+use Rattle.columns.specs.Stages.{shownBy, shownAs, earlyColumn, earlyAt, early, earlyAll}
 use Rattle.columns.specs.Places.{TalkerAt, changedAt, earlyOne, earlyTo}
 use Rattle.columns.proofs.Entries.{registered-read}
 use Rattle.columns.proofs.Talkers.{fixed-part}
@@ -42,7 +41,7 @@ module _ {table : List ℕ} {k p : ℕ} (s : StandsOn table k p) where
   unfolding earlyOne
   place-written now latency listener a column here y e f g c h q =
       let shown : shownBy column latency (toDeclared listener) now (resultAt x p) ≡ earlyAt (decode table .settings) now x p =
-      unfold shownBy earlyAt shownAs in rw (f, g, h, ← registered-read here, c .is) in
+      unfold earlyAt shownAs in rw (f, g, h, ← registered-read here, c .is) in
       changed-result-at s a e (shownBy column latency (toDeclared listener) now) y q ∙ ap (λ (r : Result). encode (withResult k p r (decode table))) shown
 
 -- the fixed values that a stream has registered at place t, taken over as its settled values

@@ -17,7 +17,8 @@ use Rattle.model.specs.State.{Column, Declared}
 use Rattle.model.specs.Settling.{entryOf, ageOf, ageKept}
 use Rattle.model.specs.Table.{resultNumbers, resultOctets, entryNumber, declaredNumber, toEntry, toResult}
 use Rattle.model.proofs.Results.{entry-back}
-use Rattle.columns.specs.Answers.{columnWidths, columnNumbers, entryWidths, entrySize, shownBy}
+use Rattle.columns.specs.Stages.{shownBy}
+use Rattle.columns.specs.Answers.{columnWidths, columnNumbers, entryWidths, entrySize}
 
 -- a part replaced, and then that right behind it
 patch-next : (a n m : ℕ) (x y s : List ℕ) → length x ≡ n → a ≤ length s → patch (a + n) m y (patch a n x s) ≡ patch a (n + m) (x ++ y) s
@@ -55,7 +56,7 @@ pub result-put : (column : Column) (latency : ℕ) (heard : Declared) (now e a :
     → e ≡ entryNumber (entryOf column heard) → a ≡ ageKept (toEntry e) (ageOf now (toResult s))
     → patch entryPlace entrySize (packed entryWidths (e ∷ a ∷ 0 ∷ [])) (patch 0 entryPlace (packed columnWidths (columnNumbers column latency)) s)
     ≡ resultOctets (shownBy column latency heard now (toResult s))
-unfolding resultOctets resultNumbers shownBy columnNumbers declaredNumber width
+unfolding resultOctets resultNumbers columnNumbers declaredNumber width
 result-put column latency heard now e a s l p q =
     let vs = columnNumbers column latency in
     let us : List ℕ = e ∷ a ∷ 0 ∷ [] in

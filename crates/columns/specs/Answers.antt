@@ -3,8 +3,8 @@ use mathlib.Core.List.{List, [], _∷_}
 use Prim.Native.Nat.{ℕ, _-_}
 use lib.ListN.{take, drop}
 use Rattle.model.specs.Layout.{entryPlace, resultSize, resultWidths}
-use Rattle.model.specs.State.{Column, none, advertise, failed, Declared, nothing, Result}
-use Rattle.model.specs.Settling.{ageOf, entryOf, ageKept, latencyKept}
+use Rattle.model.specs.State.{Column, none, advertise, failed}
+use Rattle.model.specs.Settling.{latencyKept}
 use Rattle.model.specs.Table.{columnNumber, columnBridge, columnCode}
 use Rattle.columns.specs.declared.ColumnRead.{ColumnRead}
 use Rattle.columns.specs.declared.ColumnRead.the-variants.{None, Advertise, Failed}
@@ -13,18 +13,6 @@ unfoldable pub columnShown : ColumnRead → Column
 columnShown None = none
 columnShown Advertise = advertise
 columnShown (Failed b c) = failed b c
-
--- the result on a port, from its column, latency out and Listener, and from the result that the port had
-unfoldable pub shownBy : Column → ℕ → Declared → ℕ → Result → Result
-shownBy column latency heard now old =
-    let entry = entryOf column heard in
-    record {
-      column = column;
-      latency = latencyKept column latency;
-      entry = entry;
-      age = ageKept entry (ageOf now old);
-      declares = nothing;
-    }
 
 -- a result's fields: those of its column, and behind them those of its entry with the Listener declared
 abbrev pub columnWidths : List ℕ
