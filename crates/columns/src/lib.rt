@@ -137,7 +137,8 @@ fn latency_out(table: &[u8], k: usize, p: usize, t: usize) -> u64
 {
     let talker = table::cell_at(table, k, t);
     let class = streams::class_of(table, octets::get(talker, cell::PRIORITY, 1) / 32);
-    let sum = octets::get(talker, cell::LATENCY, 4) + class_latency(table::port_at(table, p), class);
+    let sum = octets::get(talker, cell::LATENCY, 4)
+        + class_latency(table::port_at(table, p), class);
     if 4294967295 < sum {
         return 4294967295;
     }
