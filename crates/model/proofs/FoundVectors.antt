@@ -2,7 +2,7 @@
 -- its field.
 use mathlib.Core.Path.{_≡_, refl, subst}
 use mathlib.Core.List.{List, [], _∷_}
-use mathlib.Core.Bool.{Bool, true, false, cond, not, _||_, true≢false}
+use mathlib.Core.Bool.{Bool, true, false, cond, _||_, true≢false}
 use Prim.Native.Nat.{ℕ, zero, suc, _+_, _*_, _-_, _/_, _%_, _^_, _≤_, _<_}
 use native.Mathlib.Omega.{arith}
 use lib.ListN.{length, getD}
@@ -202,24 +202,25 @@ runs-within : (v : Vector) → overflows v ≡ false → 1 ≤ v .values → run
 unfolding overflows
 runs-within v e h = rw (ne-eqb (v .values) 0 (omega arith)) at e
 
+-- StreamID is the MAC address, 6 octets, and Unique ID, 2
+pub id-split : (s : List ℕ) → beAt 8 s 0 ≡ beAt 6 s 0 * 65536 + beAt 2 s 6
+unfolding beAt
+id-split s = omega arith
+
+-- a Unique ID with m more values behind it, none of which runs past its field
+pub unique-within : (k : Kind) (s : List ℕ) (m : ℕ) → runsPast (registers k) s m ≡ false → beAt 2 s 6 + m < 65536
+unfolding runsPast
+unique-within advertises s m e = omega (arith, ltb-false 65535 (beAt 2 s 6 + m) (or-left _ _ e))
+unique-within faileds s m e = omega (arith, ltb-false 65535 (beAt 2 s 6 + m) (or-left _ _ e))
+unique-within listeners s m e = omega (arith, ltb-false 65535 (beAt 2 s 6 + m) e)
+
 -- FirstValue with m more values behind it, none of which runs past its field, and the one at n
 module _ (s : List ℕ) (o : Octets s) (m n : ℕ) (h : n ≤ m) where
-  unique-within : (k : Kind) → runsPast (registers k) s m ≡ false → beAt 2 s 6 + m < 65536
-  unfolding runsPast
-  unique-within advertises e = omega (arith, ltb-false 65535 (beAt 2 s 6 + m) (or-left _ _ e))
-  unique-within faileds e = omega (arith, ltb-false 65535 (beAt 2 s 6 + m) (or-left _ _ e))
-  unique-within listeners e = omega (arith, ltb-false 65535 (beAt 2 s 6 + m) e)
-
-  -- StreamID is the MAC address, 6 octets, and Unique ID, 2
-  id-split : beAt 8 s 0 ≡ beAt 6 s 0 * 65536 + beAt 2 s 6
-  unfolding beAt
-  id-split = omega arith
-
   pub id-fits : (k : Kind) → runsPast (registers k) s m ≡ false → beAt 8 s 0 + n < 2 ^ 64
   id-fits k e =
-      let u : beAt 2 s 6 + m < 65536 = unique-within k e in
+      let u : beAt 2 s 6 + m < 65536 = unique-within k s m e in
       let a : beAt 6 s 0 < 256 ^ 6 = beAt-below-width 6 s 0 o in
-      omega (arith, id-split)
+      omega (arith, id-split s)
 
   -- of a Talker, Advertise or Failed
   module _ (more : List ℕ) (d : beAt 6 s 8 + m < 256 ^ 6) where

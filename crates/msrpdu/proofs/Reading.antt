@@ -8,11 +8,10 @@ use native.Mathlib.Omega.{arith}
 use lib.ListN.{length}
 use lib.Dec.{eqb}
 use borrow.Author.Tests.{eq-eqb, ne-eqb}
-use Rattle.octets.specs.Be.{beAt}
 use Rattle.octets.specs.Parts.{part}
 use Rattle.octets.proofs.Parts.{lent-part, length-part}
 use Rattle.model.specs.Frames.{Attribute, TypeOctet, notAllowed, unknown, known, typeOctet, firstLength, hasFour, vectorAt, vectorEnd, runsPast, overflows, InList, badVector, listEnd, vectorHead, vectorIn, valuesIn, typedIn}
-use Rattle.model.proofs.FoundVectors.{Fitting, fitting, Passed, passed-all}
+use Rattle.model.proofs.FoundVectors.{fitting, passed-all}
 use Rattle.msrpdu.specs.Reader.{typeRead, headOf, vectorMeant, vectorRead, typedRead, firstPart}
 use Rattle.msrpdu.specs.declared.TypeRead.{TypeRead}
 use Rattle.msrpdu.specs.declared.TypeRead.the-variants.{Known}

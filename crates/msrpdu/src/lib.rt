@@ -3,7 +3,7 @@ ghost use mathlib.Core.Path.{_≡_};
 ghost use Prim.Native.Nat.{_+_, _^_, _≤_, _<_};
 ghost use lib.ListN.{length, getD};
 ghost use Rattle.model.specs.Frames.{typeOctet, fourLength, overpacked, headerIn, walk, threePacked};
-ghost use Rattle.msrpdu.specs.Reader.{typeRead, headOf, vectorRead, typedRead, firstPart, messageMeant, messageRead, numberOf, eventIn, fourIn, pastField, streamIdIn, destinationIn};
+ghost use Rattle.msrpdu.specs.Reader.{typeRead, headOf, vectorRead, typedRead, firstPart, messageMeant, messageRead, numberOf, eventIn, fourIn, pastField, streamIdIn};
 use model::refusal;
 
 // What the AttributeType octet decides: a known type with its octets of FirstValue, a list to skip unread, or a refusal.
@@ -376,18 +376,4 @@ pub fn stream_id(first: &[u8], n: usize) -> ValueRead
         return ValueRead::Past;
     }
     ValueRead::Value(octets::get(first, 0, 8) + (n as u64))
-}
-
-// Destination of value n of a Talker's FirstValue.
-pub fn destination(first: &[u8], n: usize) -> ValueRead
-    ensures { λ r. ⌜ r ≡ destinationIn (now (first .entry)) n ⌝ }
-{
-    if first.len() < 14 {
-        return ValueRead::Past;
-    }
-    let address = octets::get(first, 8, 6);
-    if 281474976710655 - address < (n as u64) {
-        return ValueRead::Past;
-    }
-    ValueRead::Value(address + (n as u64))
 }

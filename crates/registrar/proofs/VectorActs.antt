@@ -1,6 +1,6 @@
 -- The acts of a vector: LeaveAll, then those of its values, one after another.
 use Prim.Native.Nat.{ℕ, zero, suc, _+_, _*_, _-_, _≤_, _<_}
-use mathlib.Core.Path.{_≡_, refl, sym, _∙_, ap, ap₂}
+use mathlib.Core.Path.{_≡_, refl, ap, ap₂}
 use mathlib.Core.List.{List, [], _∷_, _++_}
 use mathlib.Core.Bool.{Bool, true, false, _||_}
 use native.Mathlib.Omega.{arith}
@@ -11,7 +11,7 @@ use borrow.Author.Tests.{ltb-false, le-ltb, ne-eqb}
 use Rattle.octets.specs.Be.{beAt}
 use Rattle.octets.specs.Parts.{part}
 use Rattle.model.specs.Registrations.{Act, advertises, faileds, listeners, leaveAll, holding}
-use Rattle.model.specs.Frames.{Attribute, registers, domain, known, typeOctet, firstLength, threeLength, runsPast, overflows, Vector, vectorAt, eventOf, fourOf, valueActs, valuesActs, leaveAllActs, vectorActs}
+use Rattle.model.specs.Frames.{Attribute, registers, domain, known, typeOctet, threeLength, runsPast, overflows, Vector, vectorAt, eventOf, fourOf, valueActs, valuesActs, leaveAllActs, vectorActs}
 use Rattle.model.specs.Laid.{Laid}
 use Rattle.model.proofs.FoundVectors.{Sound, or-left, or-right}
 use Rattle.model.proofs.Fits.{laid-is, laid-fits}
