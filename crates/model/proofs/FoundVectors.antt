@@ -15,7 +15,7 @@ use Rattle.octets.proofs.Parts.{length-part}
 use Rattle.model.specs.Lists.{All, Octets}
 use Rattle.model.specs.State.{Settings}
 use Rattle.model.specs.Registrations.{Kind, advertises, faileds, listeners, Act, leaveAll, leave, talk, listen, Reading, refused, acts, joins, asks}
-use Rattle.model.specs.Frames.{Attribute, registers, domain, firstWidths, firstLength, threeLength, hasFour, fourLength, Vector, vectorAt, vectorEnd, overpacked, runsPast, overflows, InList, badVector, listEnd, vectorHead, vectorIn, valuesIn, typedIn, InPdu, badMessage, pduEnd, listSkipped, listOf, listLength, listAt, messageEnd, Walk, fault, found, also, both, vectorsFrom, vectors, messagesFrom, messages, walk, Asking, nothingAsked, join, withdraw, priorityOf, rankOf, fixedValue, healthValue, idValue, hearing, talkerAct, listenerAct, valueActs, valuesActs, leaveAllActs, vectorActs, frameActs, walked, wrongPort, reading}
+use Rattle.model.specs.Frames.{Attribute, registers, domain, firstWidths, firstLength, threeLength, hasFour, fourLength, Vector, vectorAt, vectorEnd, overpacked, runsPast, overflows, InList, badVector, listEnd, vectorHead, vectorIn, checkedIn, typedIn, InPdu, badMessage, pduEnd, listSkipped, listOf, listLength, listAt, messageEnd, Walk, fault, found, also, both, vectorsFrom, vectors, messagesFrom, messages, walk, Asking, nothingAsked, join, withdraw, priorityOf, rankOf, fixedValue, healthValue, idValue, hearing, talkerAct, listenerAct, valueActs, valuesActs, leaveAllActs, vectorActs, frameActs, walked, wrongPort, reading}
 use Rattle.model.proofs.Lists.{all-append}
 use Rattle.model.proofs.Parts.{octets-at, octets-part}
 use Rattle.octets.proofs.Fields.{beAt-fits}
@@ -97,9 +97,8 @@ passed false x y z p e = (refl, e)
 bad-vector : (n h : ℕ) → badVector n ≡ vectorHead h → ⊥
 bad-vector n h e = let z : _≡_ {A = ℕ} 0 1 = cc in omega arith
 
-list-end : (t : Bool) (h : ℕ) → cond t listEnd (badVector 3) ≡ vectorHead h → ⊥
-list-end true h e = let z : _≡_ {A = ℕ} 0 1 = cc in omega arith
-list-end false h e = bad-vector 3 h e
+no-end : (h : ℕ) → listEnd ≡ vectorHead h → ⊥
+no-end h e = let z : _≡_ {A = ℕ} 0 1 = cc in omega arith
 
 -- of a vector of any MRP application
 pub record Fitting (first : ℕ) (four : Bool) (l : List ℕ) (at h : ℕ) : Type 0 where
@@ -113,7 +112,7 @@ unfolding vectorIn
 fitting first four l at h e =
     let n = beAt 2 l at in
     let a = passed (ltb (length l) (at + 2)) _ _ _ (bad-vector 3 h) e in
-    let b = passed (eqb n 0) _ _ _ (list-end (eqb (at + 2) (length l)) h) (a .1) in
+    let b = passed (eqb n 0) _ _ _ (no-end h) (a .1) in
     let c = passed (ltb 1 (n / 8192)) _ _ _ (bad-vector 6 h) (b .1) in
     let d = passed (ltb (length l) (vectorEnd first four at n)) _ _ _ (bad-vector 3 h) (c .1) in
     let f = passed (overpacked (part (at + 2 + first) (threeLength (n % 8192)) l)) _ _ _ (bad-vector 6 h) (d .1) in
@@ -129,12 +128,12 @@ module _ (k : Attribute) (l : List ℕ) (at h : ℕ) where
     pub within : overflows (vectorAt k l at h) ≡ false
 
   pub passed-all : typedIn k l at ≡ vectorHead h → Passed
-  unfolding typedIn valuesIn
+  unfolding typedIn checkedIn
   passed-all = go (vectorIn (firstLength k) (hasFour k) l at) refl
     where
-      go : (r : InList) → vectorIn (firstLength k) (hasFour k) l at ≡ r → valuesIn k l at r ≡ vectorHead h → Passed
+      go : (r : InList) → vectorIn (firstLength k) (hasFour k) l at ≡ r → checkedIn k l at r ≡ vectorHead h → Passed
       go (badVector n) i e = absurd (bad-vector n h e)
-      go listEnd i e = let z : _≡_ {A = ℕ} 0 1 = cc in absurd (omega arith)
+      go listEnd i e = let a = passed (eqb (at + 2) (length l)) _ _ _ (no-end h) e in absurd (bad-vector 3 h (a .1))
       go (vectorHead m) i e =
           let a = passed (overflows (vectorAt k l at m)) _ _ _ (bad-vector 7 h) e in
           let q : m ≡ h = cc in
@@ -198,9 +197,9 @@ or-right true b e = absurd (true≢false e)
 or-right false b e = e
 
 -- the last value of a vector runs past no field
-runs-within : (v : Vector) → overflows v ≡ false → 1 ≤ v .values → runsPast (v .attribute) (v .first) (v .values - 1) ≡ false
+pub last-within : (v : Vector) → overflows v ≡ false → 1 ≤ v .values → runsPast (v .attribute) (v .first) (v .values - 1) ≡ false
 unfolding overflows
-runs-within v e h = rw (ne-eqb (v .values) 0 (omega arith)) at e
+last-within v e h = rw (ne-eqb (v .values) 0 (omega arith)) at e
 
 -- StreamID is the MAC address, 6 octets, and Unique ID, 2
 pub id-split : (s : List ℕ) → beAt 8 s 0 ≡ beAt 6 s 0 * 65536 + beAt 2 s 6
@@ -273,7 +272,7 @@ destination-within t d e = omega (arith, ltb-false 281474976710655 d (or-right t
 
 value-fits : (v : Vector) (n : ℕ) → Octets (v .first) → overflows v ≡ false → n < v .values → All Fits (valueActs v n)
 unfolding valueActs idValue fields firstWidths healthValue runsPast talkerValues
-value-fits v n o e h = go (v .attribute) (runs-within v e (omega arith))
+value-fits v n o e h = go (v .attribute) (last-within v e (omega arith))
   where
     s : List ℕ
     s = v .first

@@ -194,13 +194,9 @@ module _ (first : ℕ) (four : Bool) (l : List ℕ) (at : ℕ) where
 
   -- h is the header that was read
   module _ (p : at + 2 ≤ length l) (h : ℕ) (i : h ≡ beAt 2 l at) where
-    pub vector-end : h ≡ 0 → at + 2 ≡ length l → vectorRead first four l at ≡ vector.EndMark
+    pub vector-end : h ≡ 0 → vectorRead first four l at ≡ vector.EndMark
     unfolding vectorRead vectorMeant vectorIn
-    vector-end q r = rw (le-ltb _ _ p, ← i, eq-eqb _ _ q, eq-eqb _ _ r)
-
-    pub vector-early : h ≡ 0 → (at + 2 ≡ length l → ⊥) → vectorRead first four l at ≡ vector.Refused 3
-    unfolding vectorRead vectorMeant vectorIn
-    vector-early q r = rw (le-ltb _ _ p, ← i, eq-eqb _ _ q, ne-eqb _ _ r)
+    vector-end q = rw (le-ltb _ _ p, ← i, eq-eqb _ _ q)
 
     module _ (q : h ≡ 0 → ⊥) where
       pub vector-event : 1 < h / 8192 → vectorRead first four l at ≡ vector.Refused 6
