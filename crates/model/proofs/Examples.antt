@@ -33,7 +33,7 @@ unfolding Lists.tabulate Lists.bit State.empty State.unsettled State.noFixed Sta
 stateOpened = tt
 
 framesOpened : Unit {0}
-unfolding Be.beAt Be.be Fields.fields Fields.flat Parts.part Frames.typeOctet Frames.firstWidths Frames.firstLength Frames.threeLength Frames.hasFour Frames.fourLength Frames.vectorAt Frames.vectorEnd Frames.overpacked Frames.runsPast Frames.overflows Frames.vectorIn Frames.valuesIn Frames.typedIn Frames.listLength Frames.listAt Frames.messageEnd Frames.endMark Frames.headerIn Frames.messageIn Frames.also Frames.both Frames.vectorsFrom Frames.vectors Frames.messagesFrom Frames.messages Frames.walk Frames.event Frames.threePacked Frames.fourPacked Frames.eventOf Frames.fourOf Frames.asking Frames.priorityOf Frames.rankOf Frames.fixedValue Frames.healthValue Frames.idValue Frames.hearing Frames.talkerAct Frames.listenerAct Frames.valueActs Frames.valuesActs Frames.leaveAllActs Frames.vectorActs Frames.frameActs Frames.walked Frames.wrongPort Frames.reading
+unfolding Be.beAt Be.be Fields.fields Fields.flat Parts.part Frames.typeOctet Frames.firstWidths Frames.firstLength Frames.threeLength Frames.hasFour Frames.fourLength Frames.vectorAt Frames.vectorEnd Frames.overpacked Frames.runsPast Frames.overflows Frames.vectorIn Frames.checkedIn Frames.typedIn Frames.listLength Frames.listAt Frames.messageEnd Frames.endMark Frames.headerIn Frames.messageIn Frames.also Frames.both Frames.vectorsFrom Frames.vectors Frames.messagesFrom Frames.messages Frames.walk Frames.event Frames.threePacked Frames.fourPacked Frames.eventOf Frames.fourOf Frames.asking Frames.priorityOf Frames.rankOf Frames.fixedValue Frames.healthValue Frames.idValue Frames.hearing Frames.talkerAct Frames.listenerAct Frames.valueActs Frames.valuesActs Frames.leaveAllActs Frames.vectorActs Frames.frameActs Frames.walked Frames.wrongPort Frames.reading
 framesOpened = tt
 
 registrationsOpened : Unit {0}

@@ -2,7 +2,7 @@
 -- its field.
 use mathlib.Core.Path.{_≡_, refl, subst}
 use mathlib.Core.List.{List, [], _∷_}
-use mathlib.Core.Bool.{Bool, true, false, cond, not, _||_, true≢false}
+use mathlib.Core.Bool.{Bool, true, false, cond, _||_, true≢false}
 use Prim.Native.Nat.{ℕ, zero, suc, _+_, _*_, _-_, _/_, _%_, _^_, _≤_, _<_}
 use native.Mathlib.Omega.{arith}
 use lib.ListN.{length, getD}
@@ -16,7 +16,7 @@ use Rattle.model.specs.FrameLayout.{longestPdu}
 use Rattle.model.specs.Lists.{All, Octets}
 use Rattle.model.specs.State.{Settings}
 use Rattle.model.specs.Registrations.{Kind, advertises, faileds, listeners, Act, leaveAll, leave, talk, listen, Reading, refused, acts, joins, asks}
-use Rattle.model.specs.Frames.{Attribute, registers, domain, firstWidths, firstLength, threeLength, hasFour, fourLength, Vector, vectorAt, vectorEnd, overpacked, runsPast, overflows, InList, badVector, listEnd, vectorHead, vectorIn, valuesIn, typedIn, InPdu, badMessage, pduEnd, listSkipped, listOf, listLength, listAt, messageEnd, Walk, fault, found, also, both, vectorsFrom, vectors, messagesFrom, messages, walk, Asking, nothingAsked, join, withdraw, priorityOf, rankOf, fixedValue, healthValue, idValue, hearing, talkerAct, listenerAct, valueActs, valuesActs, leaveAllActs, vectorActs, frameActs, walked, wrongPort, reading}
+use Rattle.model.specs.Frames.{Attribute, registers, domain, firstWidths, firstLength, threeLength, hasFour, fourLength, Vector, vectorAt, vectorEnd, overpacked, runsPast, overflows, InList, badVector, listEnd, vectorHead, vectorIn, checkedIn, typedIn, InPdu, badMessage, pduEnd, listSkipped, listOf, listLength, listAt, messageEnd, Walk, fault, found, also, both, vectorsFrom, vectors, messagesFrom, messages, walk, Asking, nothingAsked, join, withdraw, priorityOf, rankOf, fixedValue, healthValue, idValue, hearing, talkerAct, listenerAct, valueActs, valuesActs, leaveAllActs, vectorActs, frameActs, walked, wrongPort, reading}
 use Rattle.model.proofs.Lists.{all-append}
 use Rattle.model.proofs.Parts.{octets-at, octets-part}
 use Rattle.octets.proofs.Fields.{beAt-fits}
@@ -98,9 +98,8 @@ passed false x y z p e = (refl, e)
 bad-vector : (n h : ℕ) → badVector n ≡ vectorHead h → ⊥
 bad-vector n h e = let z : _≡_ {A = ℕ} 0 1 = cc in omega arith
 
-list-end : (t : Bool) (h : ℕ) → cond t listEnd (badVector 3) ≡ vectorHead h → ⊥
-list-end true h e = let z : _≡_ {A = ℕ} 0 1 = cc in omega arith
-list-end false h e = bad-vector 3 h e
+no-end : (h : ℕ) → listEnd ≡ vectorHead h → ⊥
+no-end h e = let z : _≡_ {A = ℕ} 0 1 = cc in omega arith
 
 -- of a vector of any MRP application
 pub record Fitting (first : ℕ) (four : Bool) (l : List ℕ) (at h : ℕ) : Type 0 where
@@ -114,7 +113,7 @@ unfolding vectorIn
 fitting first four l at h e =
     let n = beAt 2 l at in
     let a = passed (ltb (length l) (at + 2)) _ _ _ (bad-vector 3 h) e in
-    let b = passed (eqb n 0) _ _ _ (list-end (eqb (at + 2) (length l)) h) (a .1) in
+    let b = passed (eqb n 0) _ _ _ (no-end h) (a .1) in
     let c = passed (ltb 1 (n / 8192)) _ _ _ (bad-vector 6 h) (b .1) in
     let d = passed (ltb (length l) (vectorEnd first four at n)) _ _ _ (bad-vector 3 h) (c .1) in
     let f = passed (overpacked (part (at + 2 + first) (threeLength (n % 8192)) l)) _ _ _ (bad-vector 6 h) (d .1) in
@@ -130,12 +129,12 @@ module _ (k : Attribute) (l : List ℕ) (at h : ℕ) where
     pub within : overflows (vectorAt k l at h) ≡ false
 
   pub passed-all : typedIn k l at ≡ vectorHead h → Passed
-  unfolding typedIn valuesIn
+  unfolding typedIn checkedIn
   passed-all = go (vectorIn (firstLength k) (hasFour k) l at) refl
     where
-      go : (r : InList) → vectorIn (firstLength k) (hasFour k) l at ≡ r → valuesIn k l at r ≡ vectorHead h → Passed
+      go : (r : InList) → vectorIn (firstLength k) (hasFour k) l at ≡ r → checkedIn k l at r ≡ vectorHead h → Passed
       go (badVector n) i e = absurd (bad-vector n h e)
-      go listEnd i e = let z : _≡_ {A = ℕ} 0 1 = cc in absurd (omega arith)
+      go listEnd i e = let a = passed (eqb (at + 2) (length l)) _ _ _ (no-end h) e in absurd (bad-vector 3 h (a .1))
       go (vectorHead m) i e =
           let a = passed (overflows (vectorAt k l at m)) _ _ _ (bad-vector 7 h) e in
           let q : m ≡ h = cc in
@@ -199,28 +198,29 @@ or-right true b e = absurd (true≢false e)
 or-right false b e = e
 
 -- the last value of a vector runs past no field
-runs-within : (v : Vector) → overflows v ≡ false → 1 ≤ v .values → runsPast (v .attribute) (v .first) (v .values - 1) ≡ false
+pub last-within : (v : Vector) → overflows v ≡ false → 1 ≤ v .values → runsPast (v .attribute) (v .first) (v .values - 1) ≡ false
 unfolding overflows
-runs-within v e h = rw (ne-eqb (v .values) 0 (omega arith)) at e
+last-within v e h = rw (ne-eqb (v .values) 0 (omega arith)) at e
+
+-- StreamID is the MAC address, 6 octets, and Unique ID, 2
+pub id-split : (s : List ℕ) → beAt 8 s 0 ≡ beAt 6 s 0 * 65536 + beAt 2 s 6
+unfolding beAt
+id-split s = omega arith
+
+-- a Unique ID with m more values behind it, none of which runs past its field
+pub unique-within : (k : Kind) (s : List ℕ) (m : ℕ) → runsPast (registers k) s m ≡ false → beAt 2 s 6 + m < 65536
+unfolding runsPast
+unique-within advertises s m e = omega (arith, ltb-false 65535 (beAt 2 s 6 + m) (or-left _ _ e))
+unique-within faileds s m e = omega (arith, ltb-false 65535 (beAt 2 s 6 + m) (or-left _ _ e))
+unique-within listeners s m e = omega (arith, ltb-false 65535 (beAt 2 s 6 + m) e)
 
 -- FirstValue with m more values behind it, none of which runs past its field, and the one at n
 module _ (s : List ℕ) (o : Octets s) (m n : ℕ) (h : n ≤ m) where
-  unique-within : (k : Kind) → runsPast (registers k) s m ≡ false → beAt 2 s 6 + m < 65536
-  unfolding runsPast
-  unique-within advertises e = omega (arith, ltb-false 65535 (beAt 2 s 6 + m) (or-left _ _ e))
-  unique-within faileds e = omega (arith, ltb-false 65535 (beAt 2 s 6 + m) (or-left _ _ e))
-  unique-within listeners e = omega (arith, ltb-false 65535 (beAt 2 s 6 + m) e)
-
-  -- StreamID is the MAC address, 6 octets, and Unique ID, 2
-  id-split : beAt 8 s 0 ≡ beAt 6 s 0 * 65536 + beAt 2 s 6
-  unfolding beAt
-  id-split = omega arith
-
   pub id-fits : (k : Kind) → runsPast (registers k) s m ≡ false → beAt 8 s 0 + n < 2 ^ 64
   id-fits k e =
-      let u : beAt 2 s 6 + m < 65536 = unique-within k e in
+      let u : beAt 2 s 6 + m < 65536 = unique-within k s m e in
       let a : beAt 6 s 0 < 256 ^ 6 = beAt-below-width 6 s 0 o in
-      omega (arith, id-split)
+      omega (arith, id-split s)
 
   -- of a Talker, Advertise or Failed
   module _ (more : List ℕ) (d : beAt 6 s 8 + m < 256 ^ 6) where
@@ -273,7 +273,7 @@ destination-within t d e = omega (arith, ltb-false 281474976710655 d (or-right t
 
 value-fits : (v : Vector) (n : ℕ) → Octets (v .first) → overflows v ≡ false → n < v .values → All Fits (valueActs v n)
 unfolding valueActs idValue fields firstWidths healthValue runsPast talkerValues
-value-fits v n o e h = go (v .attribute) (runs-within v e (omega arith))
+value-fits v n o e h = go (v .attribute) (last-within v e (omega arith))
   where
     s : List ℕ
     s = v .first

@@ -18,7 +18,7 @@ use Rattle.model.specs.FrameLayout.{longestPdu}
 use Rattle.model.specs.Lists.{All, keep, Octets, bit}
 use Rattle.model.specs.State.{Settings, Fixed, Health, sound, broken, Ready, askingFailed, ready, readyFailed, Column, none, advertise, failed, Entry, noEntry, filters, forwards, Declared, nothing, tells, Result, Stream, Bridge, resultAt, unsettled}
 use Rattle.model.specs.Registrations.{Kind, advertises, faileds, listeners, talk, listen, acts}
-use Rattle.model.specs.Frames.{Attribute, registers, known, typeOctet, firstWidths, firstLength, threeLength, hasFour, fourLength, Vector, vectorAt, vectorEnd, overpacked, runsPast, overflows, vectorIn, valuesIn, typedIn, listLength, listAt, messageEnd, endMark, headerIn, messageIn, found, also, both, vectorsFrom, vectors, messagesFrom, messages, walk, joinMt, event, threePacked, fourPacked, eventOf, fourOf, asking, join, priorityOf, rankOf, fixedValue, healthValue, idValue, hearing, talkerAct, listenerAct, valueActs, valuesActs, leaveAllActs, vectorActs, frameActs, walked, wrongPort, reading}
+use Rattle.model.specs.Frames.{Attribute, registers, known, typeOctet, firstWidths, firstLength, threeLength, hasFour, fourLength, Vector, vectorAt, vectorEnd, overpacked, runsPast, overflows, vectorIn, checkedIn, typedIn, listLength, listAt, messageEnd, endMark, headerIn, messageIn, found, also, both, vectorsFrom, vectors, messagesFrom, messages, walk, joinMt, event, threePacked, fourPacked, eventOf, fourOf, asking, join, priorityOf, rankOf, fixedValue, healthValue, idValue, hearing, talkerAct, listenerAct, valueActs, valuesActs, leaveAllActs, vectorActs, frameActs, walked, wrongPort, reading}
 use Rattle.model.specs.Declarations.{Declaration, talkerDeclaration, listenerDeclaration, healthKind, kindOf, joinOf, advertised, failing, listening, declarationsOf, ofKind, declarations, vectorSize, sameKind, takes, write}
 use Rattle.model.specs.WrittenFrames.{priorityOctet, fixedNumbers, failureNumbers, firstNumbers, readyNumber, fourOctets, declarationVector, vectorOctets, typeNumber, messageOf, messageOctets, having, pduOctets}
 use Rattle.model.proofs.Lists.{all-map, all-append, all-take, all-drop, all-getD}
@@ -84,7 +84,7 @@ vectors-more : (f : ℕ) (k : Attribute) (l : List ℕ) (at : ℕ) (v : Vector)
     → beAt 2 l at ≡ 1 → at + 2 ≤ length l → vectorEnd (firstLength k) (hasFour k) at 1 ≤ length l → vectorAt k l at 1 ≡ v
     → overpacked (v .three) ≡ false → overflows v ≡ false
     → vectors (suc f) k l at ≡ also v (vectors f k l (vectorEnd (firstLength k) (hasFour k) at 1))
-unfolding vectors typedIn vectorIn valuesIn vectorsFrom
+unfolding vectors typedIn vectorIn checkedIn vectorsFrom
 vectors-more f k l at v one header fits is three values =
     let events : overpacked (part (at + 2 + firstLength k) (threeLength 1) l) ≡ false = unfold vectorAt in (rw (← is) at three) in
     rw (one, le-ltb (length l) (at + 2) header, le-ltb (length l) (vectorEnd (firstLength k) (hasFour k) at 1) fits, events, is, values, is)
@@ -162,12 +162,12 @@ VectorsRead n k s vs = (f : ℕ) (pre : List ℕ) → n ≤ f → vectors f k (p
 
 -- the EndMark, as the list's last two octets
 vectors-end : (k : Attribute) → VectorsRead 1 k (0 ∷ 0 ∷ []) []
-unfolding VectorsRead vectors typedIn vectorIn valuesIn vectorsFrom
+unfolding VectorsRead vectors typedIn vectorIn checkedIn vectorsFrom
 vectors-end k zero pre h = absurd (omega arith)
 vectors-end k (suc f) pre h =
     let l : length (pre ++ (0 ∷ 0 ∷ [])) ≡ length pre + 2 = length-append pre (0 ∷ 0 ∷ []) in
     let e : beAt 2 (pre ++ (0 ∷ 0 ∷ [])) (length pre) ≡ 0 = beAt-here 2 pre (0 ∷ 0 ∷ []) ∙ (unfold beAt in refl) in
-    rw (e, l, le-ltb (length pre + 2) (length pre + 2) (omega arith), eq-eqb (length pre + 2) (length pre + 2) refl)
+    rw (e, l, le-ltb (length pre + 2) (length pre + 2) (omega arith), l, eq-eqb (length pre + 2) (length pre + 2) refl)
 
 -- one vector more, in front
 vectors-cons : (d : Declaration) (n : ℕ) (rest : List ℕ) (vs : List Vector) → VectorsRead n (registers (kindOf d)) rest vs

@@ -18,7 +18,7 @@ use Rattle.model.specs.Layout.{tableLength}
 use Rattle.model.specs.Lists.{All, Octets}
 use Rattle.model.specs.State.{Settings, Bridge}
 use Rattle.model.specs.Registrations.{refused, Answer, received, applyAll, add, together, ids, joins}
-use Rattle.model.specs.Frames.{Attribute, TypeOctet, notAllowed, unknown, known, typeOctet, firstLength, threeLength, hasFour, Vector, vectorAt, vectorEnd, overpacked, overflows, InList, badVector, listEnd, vectorHead, vectorIn, valuesIn, typedIn, InPdu, badMessage, pduEnd, listSkipped, listOf, listLength, listAt, messageEnd, endMark, headerIn, messageIn, Walk, fault, found, also, both, vectorsFrom, vectors, messagesFrom, messages, walk, walked, frameActs, reading, wrongPort}
+use Rattle.model.specs.Frames.{Attribute, TypeOctet, notAllowed, unknown, known, typeOctet, firstLength, threeLength, hasFour, Vector, vectorAt, vectorEnd, overpacked, overflows, InList, badVector, listEnd, vectorHead, vectorIn, checkedIn, typedIn, InPdu, badMessage, pduEnd, listSkipped, listOf, listLength, listAt, messageEnd, endMark, headerIn, messageIn, Walk, fault, found, also, both, vectorsFrom, vectors, messagesFrom, messages, walk, walked, frameActs, reading, wrongPort}
 use Rattle.model.specs.Settling.{advance}
 use Rattle.model.specs.Declarations.{Written, write, declarations}
 use Rattle.model.specs.Reports.{Report, refusedReport, report}
@@ -286,16 +286,16 @@ vector-faults first four l at =
     let three : ListFaults (badVector 3) = (omega arith, omega arith) in
     let six : ListFaults (badVector 6) = (omega arith, omega arith) in
     cond-either ListFaults (ltb (length l) (at + 2)) _ _ three
-    (cond-either ListFaults (eqb h 0) _ _ (cond-either ListFaults (eqb (at + 2) (length l)) _ _ tt three)
+    (cond-either ListFaults (eqb h 0) _ _ tt
     (cond-either ListFaults (ltb 1 (h / 8192)) _ _ six
     (cond-either ListFaults (ltb (length l) (vectorEnd first four at h)) _ _ three
     (cond-either ListFaults (overpacked (part (at + 2 + first) (threeLength (h % 8192)) l)) _ _ six tt))))
 
-values-faults : (k : Attribute) (l : List ℕ) (at : ℕ) (r : InList) → ListFaults r → ListFaults (valuesIn k l at r)
-unfolding valuesIn
-values-faults k l at (badVector n) h = h
-values-faults k l at listEnd h = tt
-values-faults k l at (vectorHead h) _ = cond-either ListFaults (overflows (vectorAt k l at h)) _ _ (omega arith, omega arith) tt
+checked-faults : (k : Attribute) (l : List ℕ) (at : ℕ) (r : InList) → ListFaults r → ListFaults (checkedIn k l at r)
+unfolding checkedIn
+checked-faults k l at (badVector n) h = h
+checked-faults k l at listEnd h = cond-either ListFaults (eqb (at + 2) (length l)) _ _ tt (omega arith, omega arith)
+checked-faults k l at (vectorHead h) _ = cond-either ListFaults (overflows (vectorAt k l at h)) _ _ (omega arith, omega arith) tt
 
 from-faults : (k : Attribute) (l : List ℕ) (at : ℕ) (r : InList) (rest : ℕ → Walk) → ListFaults r → ((e : ℕ) → Faults (rest e)) →
     Faults (vectorsFrom k l at r rest)
@@ -308,7 +308,7 @@ vectors-faults : (f : ℕ) (k : Attribute) (l : List ℕ) (at : ℕ) → Faults 
 unfolding vectors typedIn
 vectors-faults zero k l at = (omega arith, omega arith)
 vectors-faults (suc f) k l at =
-    from-faults k l at _ (vectors f k l) (values-faults k l at _ (vector-faults (firstLength k) (hasFour k) l at)) (vectors-faults f k l)
+    from-faults k l at _ (vectors f k l) (checked-faults k l at _ (vector-faults (firstLength k) (hasFour k) l at)) (vectors-faults f k l)
 
 abbrev PduFaults : InPdu → Type 0
 PduFaults (badMessage n) = (3 ≤ n) × (n ≤ 7)

@@ -113,27 +113,26 @@ pub data InList : Type 0 where
   listEnd : InList
   vectorHead : ℕ → InList
 
--- "Checks: header (3), LeaveAllEvent (6), fits (3), event octets (6), values (7)"; "Header 00 00 is the EndMark", and 3 where it
--- isn't the list's last two octets. All but the values are read as in the lists of any MRP application: by the octets of FirstValue
--- and whether FourPackedEvents follow
+-- "Checks: header (3), LeaveAllEvent (6), fits (3), event octets (6), values (7)"; "Header 00 00 is the EndMark". All but the
+-- values are read as in the lists of any MRP application, by the octets of FirstValue and whether FourPackedEvents follow
 unfoldable pub vectorIn : ℕ → Bool → List ℕ → ℕ → InList
 vectorIn first four l at =
     let h = beAt 2 l at in
     cond (ltb (length l) (at + 2)) (badVector 3)
-    (cond (eqb h 0) (cond (eqb (at + 2) (length l)) listEnd (badVector 3))
+    (cond (eqb h 0) listEnd
     (cond (ltb 1 (h / 8192)) (badVector 6)
     (cond (ltb (length l) (vectorEnd first four at h)) (badVector 3)
     (cond (overpacked (part (at + 2 + first) (threeLength (h % 8192)) l)) (badVector 6)
     (vectorHead h)))))
 
--- the values of a type are checked last
-unfoldable pub valuesIn : Attribute → List ℕ → ℕ → InList → InList
-valuesIn k l at (badVector n) = badVector n
-valuesIn k l at listEnd = listEnd
-valuesIn k l at (vectorHead h) = cond (overflows (vectorAt k l at h)) (badVector 7) (vectorHead h)
+-- 3 too where "a list's EndMark isn't its last two octets"; and the values, of a type
+unfoldable pub checkedIn : Attribute → List ℕ → ℕ → InList → InList
+checkedIn k l at (badVector n) = badVector n
+checkedIn k l at listEnd = cond (eqb (at + 2) (length l)) listEnd (badVector 3)
+checkedIn k l at (vectorHead h) = cond (overflows (vectorAt k l at h)) (badVector 7) (vectorHead h)
 
 unfoldable pub typedIn : Attribute → List ℕ → ℕ → InList
-typedIn k l at = valuesIn k l at (vectorIn (firstLength k) (hasFour k) l at)
+typedIn k l at = checkedIn k l at (vectorIn (firstLength k) (hasFour k) l at)
 
 -- What stands at a place of a PDU.
 

@@ -1,8 +1,8 @@
 -- Laws of the reader's definitions, one for each arm. Assumes nothing.
-use mathlib.Core.Path.{_≡_, refl, sym, ap, _∙_}
+use mathlib.Core.Path.{_≡_, refl, ap, _∙_}
 use mathlib.Core.List.{List, []}
 use mathlib.Core.Bool.{Bool, true, false, _||_}
-use Prim.Native.Nat.{ℕ, zero, suc, _+_, _*_, _-_, _/_, _%_, _≤_, _<_, _^_}
+use Prim.Native.Nat.{ℕ, zero, suc, _+_, _-_, _/_, _%_, _≤_, _<_, _^_}
 use native.Mathlib.Omega.{arith}
 use lib.ListN.{length, getD, take, drop, drop-of-length-le, List·getD-eq-default}
 use lib.Seq.{drop-cons}
@@ -17,7 +17,6 @@ use Rattle.model.specs.Registrations.{advertises, faileds, listeners}
 use Rattle.model.specs.Frames.{Attribute, registers, domain, TypeOctet, notAllowed, unknown, known, typeOctet, firstLength, threeLength, hasFour, vectorEnd, overpacked, runsPast, vectorIn, listLength, endMark, messageEnd, headerIn, messageIn, threePacked, fourPacked}
 use Rattle.model.specs.Frames as frames
 use Rattle.msrpdu.specs.Reader.{typeRead, pastField, headOf, vectorMeant, vectorRead, firstPart, messageMeant, messageRead, eventMeant, eventIn, fourIn, valueIn}
-use Rattle.msrpdu.specs.declared.TypeRead.{TypeRead}
 use Rattle.msrpdu.specs.declared.TypeRead.the-variants.{Known, Skipped, Refused}
 use Rattle.msrpdu.specs.declared.VectorHead.{VectorHead}
 use Rattle.msrpdu.specs.declared.VectorRead.{VectorRead}
@@ -158,11 +157,6 @@ module _ (w g at : ℕ) (first : List ℕ) (n : ℕ) where
     unfolding valueIn
     value-read q y f = rw (le-ltb _ _ p, ← e, le-ltb _ _ q, f)
 
--- a StreamID ends with its Unique ID
-pub id-split : (s : List ℕ) → beAt 8 s 0 ≡ beAt 6 s 0 * 65536 + beAt 2 s 6
-unfolding beAt
-id-split s = omega arith
-
 -- A type octet with octets of FirstValue is that of a known type.
 
 pub record Typed (t : TypeOctet) (first : ℕ) : Type 0 where
@@ -200,13 +194,9 @@ module _ (first : ℕ) (four : Bool) (l : List ℕ) (at : ℕ) where
 
   -- h is the header that was read
   module _ (p : at + 2 ≤ length l) (h : ℕ) (i : h ≡ beAt 2 l at) where
-    pub vector-end : h ≡ 0 → at + 2 ≡ length l → vectorRead first four l at ≡ vector.EndMark
+    pub vector-end : h ≡ 0 → vectorRead first four l at ≡ vector.EndMark
     unfolding vectorRead vectorMeant vectorIn
-    vector-end q r = rw (le-ltb _ _ p, ← i, eq-eqb _ _ q, eq-eqb _ _ r)
-
-    pub vector-early : h ≡ 0 → (at + 2 ≡ length l → ⊥) → vectorRead first four l at ≡ vector.Refused 3
-    unfolding vectorRead vectorMeant vectorIn
-    vector-early q r = rw (le-ltb _ _ p, ← i, eq-eqb _ _ q, ne-eqb _ _ r)
+    vector-end q = rw (le-ltb _ _ p, ← i, eq-eqb _ _ q)
 
     module _ (q : h ≡ 0 → ⊥) where
       pub vector-event : 1 < h / 8192 → vectorRead first four l at ≡ vector.Refused 6

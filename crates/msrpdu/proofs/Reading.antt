@@ -6,13 +6,12 @@ use mathlib.Core.Bool.{Bool, true, false, cond, not, _&&_}
 use Prim.Native.Nat.{ℕ, _+_, _-_, _%_, _≤_, _<_}
 use native.Mathlib.Omega.{arith}
 use lib.ListN.{length}
-use lib.Dec.{eqb}
-use borrow.Author.Tests.{eq-eqb, ne-eqb}
-use Rattle.octets.specs.Be.{beAt}
+use lib.Dec.{ltb, eqb}
+use borrow.Author.Tests.{ltb-false, eq-eqb, ne-eqb}
 use Rattle.octets.specs.Parts.{part}
 use Rattle.octets.proofs.Parts.{lent-part, length-part}
-use Rattle.model.specs.Frames.{Attribute, TypeOctet, notAllowed, unknown, known, typeOctet, firstLength, hasFour, vectorAt, vectorEnd, runsPast, overflows, InList, badVector, listEnd, vectorHead, vectorIn, valuesIn, typedIn}
-use Rattle.model.proofs.FoundVectors.{Fitting, fitting, Passed, passed-all}
+use Rattle.model.specs.Frames.{Attribute, TypeOctet, notAllowed, unknown, known, typeOctet, firstLength, hasFour, vectorAt, vectorEnd, runsPast, overflows, InList, badVector, listEnd, vectorHead, vectorIn, checkedIn, typedIn}
+use Rattle.model.proofs.FoundVectors.{passed, fitting, passed-all}
 use Rattle.msrpdu.specs.Reader.{typeRead, headOf, vectorMeant, vectorRead, typedRead, firstPart}
 use Rattle.msrpdu.specs.declared.TypeRead.{TypeRead}
 use Rattle.msrpdu.specs.declared.TypeRead.the-variants.{Known}
@@ -80,15 +79,33 @@ module _ (kind : ℕ) (l : List ℕ) (at : ℕ) (v : VectorRead) where
       record { type = y .kind; is = y .is; answer = rw (y .octets, ← four-is kind (y .kind) (y .is)) a }
 
 module _ (k : Attribute) (l : List ℕ) (at : ℕ) where
-  pub typed-other : (v : VectorRead) → v ≡ vectorRead (firstLength k) (hasFour k) l at → ((w : VectorHead) → v ≡ vector.Vector w → ⊥)
-      → typedRead (known k) l at ≡ v
-  unfolding typedRead typedIn vectorRead
-  typed-other v a p = go (vectorIn (firstLength k) (hasFour k) l at) a
-    where
-      go : (r : InList) → v ≡ vectorMeant (firstLength k) (hasFour k) at r → vectorMeant (firstLength k) (hasFour k) at (valuesIn k l at r) ≡ v
-      go (badVector n) i = unfold valuesIn in (sym i)
-      go listEnd i = unfold valuesIn in (sym i)
-      go (vectorHead h) i = let e : v ≡ vector.Vector (headOf (firstLength k) (hasFour k) at h) = unfold vectorMeant in i in absurd (p _ e)
+  -- by what stands there
+  by : (r : InList) → vectorIn (firstLength k) (hasFour k) l at ≡ r → typedRead (known k) l at ≡ vectorMeant (firstLength k) (hasFour k) at (checkedIn k l at r)
+  unfolding typedRead typedIn
+  by r e = rw e
+
+  pub typed-refused : (n : ℕ) → vectorRead (firstLength k) (hasFour k) l at ≡ vector.Refused n → typedRead (known k) l at ≡ vector.Refused n
+  unfolding vectorRead vectorMeant checkedIn
+  typed-refused n a = by (badVector n) (read-refused (firstLength k) (hasFour k) at _ n a)
+
+  module _ (a : vectorRead (firstLength k) (hasFour k) l at ≡ vector.EndMark) where
+    ends : vectorIn (firstLength k) (hasFour k) l at ≡ listEnd
+    ends = read-end (firstLength k) (hasFour k) at _ (unfold vectorRead in a)
+
+    pub end-within : at + 2 ≤ length l
+    unfolding vectorIn
+    end-within = let p = passed (ltb (length l) (at + 2)) _ _ _ bad ends in ltb-false _ _ (p .0)
+      where
+        bad : badVector 3 ≡ listEnd → ⊥
+        bad e = let z : _≡_ {A = ℕ} 0 1 = cc in omega arith
+
+    pub typed-end : at + 2 ≡ length l → typedRead (known k) l at ≡ vector.EndMark
+    unfolding vectorMeant checkedIn
+    typed-end p = by listEnd ends ∙ rw (eq-eqb _ _ p)
+
+    pub typed-early : (at + 2 ≡ length l → ⊥) → typedRead (known k) l at ≡ vector.Refused 3
+    unfolding vectorMeant checkedIn
+    typed-early p = by listEnd ends ∙ rw (ne-eqb _ _ p)
 
   -- a vector, by its head
   module _ (w : VectorHead) (a : vectorRead (firstLength k) (hasFour k) l at ≡ vector.Vector w) where
@@ -122,8 +139,8 @@ module _ (k : Attribute) (l : List ℕ) (at : ℕ) where
     overflow = rw (first-value, value-count)
 
     tested : typedRead (known k) l at ≡ cond past (vector.Refused 7) (vector.Vector w)
-    unfolding typedRead typedIn valuesIn
-    tested = ap (λ (r : InList). vectorMeant (firstLength k) (hasFour k) at (valuesIn k l at r)) (there .is) ∙ rw overflow (go past)
+    unfolding checkedIn
+    tested = by (vectorHead (there .header)) (there .is) ∙ rw overflow (go past)
       where
         go : (x : Bool) → vectorMeant (firstLength k) (hasFour k) at (cond x (badVector 7) (vectorHead (there .header))) ≡ cond x (vector.Refused 7) (vector.Vector w)
         go true = unfold vectorMeant in refl

@@ -117,6 +117,3 @@ valueIn w g at first n =
 -- "Value n adds n to Unique ID and destination": StreamID is 8 octets, and Unique ID its last two
 unfoldable pub streamIdIn : List ℕ → ℕ → ValueRead
 streamIdIn first n = valueIn 8 2 0 first n
-
-unfoldable pub destinationIn : List ℕ → ℕ → ValueRead
-destinationIn first n = valueIn 6 6 8 first n

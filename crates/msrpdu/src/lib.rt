@@ -3,7 +3,7 @@ ghost use mathlib.Core.Path.{_≡_};
 ghost use Prim.Native.Nat.{_+_, _^_, _≤_, _<_};
 ghost use lib.ListN.{length, getD};
 ghost use Rattle.model.specs.Frames.{typeOctet, fourLength, overpacked, headerIn, walk, threePacked};
-ghost use Rattle.msrpdu.specs.Reader.{typeRead, headOf, vectorRead, typedRead, firstPart, messageMeant, messageRead, numberOf, eventIn, fourIn, pastField, streamIdIn, destinationIn};
+ghost use Rattle.msrpdu.specs.Reader.{typeRead, headOf, vectorRead, typedRead, firstPart, messageMeant, messageRead, numberOf, eventIn, fourIn, pastField, streamIdIn};
 use model::refusal;
 
 // What the AttributeType octet decides: a known type with its octets of FirstValue, a list to skip unread, or a refusal.
@@ -158,10 +158,7 @@ pub fn vector(list: &[u8], at: usize, first: usize, four: bool) -> VectorRead
     }
     let h = octets::get(list, at, 2) as usize;
     if h == 0 {
-        if at + 2 == n {
-            return VectorRead::EndMark;
-        }
-        return VectorRead::Refused(refusal::PAST_END);
+        return VectorRead::EndMark;
     }
     if 1 < h / 8192 {
         return VectorRead::Refused(refusal::EVENT);
@@ -200,7 +197,7 @@ pub fn first_value(list: &[u8], read: VectorRead) -> &[u8]
     &list[start..end]
 }
 
-// The vector at a place of an AttributeList of a type: the check of its values comes last.
+// The vector at a place of an AttributeList of a type: the EndMark is the list's last two octets, and the values are checked last.
 pub fn typed_vector(list: &[u8], at: usize, kind: u8) -> VectorRead
     ensures { λ r. ⌜ r ≡ typedRead (typeOctet 0 kind) (now (list .entry)) at ⌝ }
 {
@@ -208,18 +205,25 @@ pub fn typed_vector(list: &[u8], at: usize, kind: u8) -> VectorRead
         return VectorRead::Refused(refusal::ATTRIBUTE_TYPE);
     };
     let v = vector(list, at, octets, kind == 3);
-    let VectorRead::Vector(head) = v else {
-        return v;
-    };
-    let values = head.values;
-    if 0 < values {
-        let first = first_value(list, v);
-        let past = runs_past(kind, first, values - 1);
-        if past {
-            return VectorRead::Refused(refusal::VALUE);
+    match v {
+        VectorRead::Refused(number) => VectorRead::Refused(number),
+        VectorRead::EndMark => {
+            if list.len() - at == 2 {
+                return VectorRead::EndMark;
+            }
+            VectorRead::Refused(refusal::PAST_END)
+        }
+        VectorRead::Vector(head) => {
+            let values = head.values;
+            if 0 < values {
+                let first = first_value(list, v);
+                if runs_past(kind, first, values - 1) {
+                    return VectorRead::Refused(refusal::VALUE);
+                }
+            }
+            VectorRead::Vector(head)
         }
     }
-    v
 }
 
 // A Message whose four header octets are there: type, length and list.
@@ -376,18 +380,4 @@ pub fn stream_id(first: &[u8], n: usize) -> ValueRead
         return ValueRead::Past;
     }
     ValueRead::Value(octets::get(first, 0, 8) + (n as u64))
-}
-
-// Destination of value n of a Talker's FirstValue.
-pub fn destination(first: &[u8], n: usize) -> ValueRead
-    ensures { λ r. ⌜ r ≡ destinationIn (now (first .entry)) n ⌝ }
-{
-    if first.len() < 14 {
-        return ValueRead::Past;
-    }
-    let address = octets::get(first, 8, 6);
-    if 281474976710655 - address < (n as u64) {
-        return ValueRead::Past;
-    }
-    ValueRead::Value(address + (n as u64))
 }

@@ -1,6 +1,6 @@
 -- The walk over a well-formed frame, Message by Message and vector by vector: the acts of what stands at a place, and then those
 -- of what follows.
-use Prim.Native.Nat.{ℕ, zero, suc, _+_, _-_, _≤_}
+use Prim.Native.Nat.{ℕ, zero, suc, _-_, _≤_}
 use mathlib.Core.Path.{_≡_, refl, sym, _∙_, ap}
 use mathlib.Core.List.{List, [], _++_}
 use mathlib.Core.Bool.{true, false≢true}
@@ -14,7 +14,7 @@ use Rattle.msrpdu.specs.declared.VectorHead.{VectorHead}
 use Rattle.msrpdu.specs.declared.VectorRead.{VectorRead}
 use Rattle.msrpdu.specs.declared.MessageHead.{MessageHead}
 use Rattle.msrpdu.proofs.Walking.{vectorsIn, ahead-list, list-length}
-use Rattle.msrpdu.proofs.Applying.{found-next, found-end, found-accepted, found-typed, NextList, found-list, found-skipped, found-done, found-allowed, acts-next, acts-append}
+use Rattle.msrpdu.proofs.Applying.{found-next, found-end, found-accepted, found-typed, NextList, found-list, found-skipped, found-done, found-allowed, acts-next, acts-append, no-fault}
 use Rattle.msrpdu.specs.declared.VectorRead.the-variants as vector
 use Rattle.msrpdu.specs.declared.MessageRead.the-variants as message
 use Rattle.registrar.specs.Acts.{isFound, actsOf, attributeAt}
@@ -38,9 +38,6 @@ is-found w vs e = rw e
 acts-are : (w : Walk) (vs : List Vector) → w ≡ found vs → actsOf w ≡ frameActs vs
 unfolding actsOf
 acts-are w vs e = rw e
-
-no-fault : (n : ℕ) (vs : List Vector) → fault n ≡ found vs → ⊥
-no-fault n vs e = let z : _≡_ {A = ℕ} 0 1 = cc in omega arith
 
 -- An AttributeList, with the vectors vs left from a place on.
 

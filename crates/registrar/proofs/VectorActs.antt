@@ -1,19 +1,19 @@
 -- The acts of a vector: LeaveAll, then those of its values, one after another.
 use Prim.Native.Nat.{ℕ, zero, suc, _+_, _*_, _-_, _≤_, _<_}
-use mathlib.Core.Path.{_≡_, refl, sym, _∙_, ap, ap₂}
+use mathlib.Core.Path.{_≡_, refl, ap, ap₂}
 use mathlib.Core.List.{List, [], _∷_, _++_}
 use mathlib.Core.Bool.{Bool, true, false, _||_}
 use native.Mathlib.Omega.{arith}
 use native.Mathlib.Numerals.{add-one}
 use lib.ListN.{length, getD, take, drop}
 use lib.Dec.{ltb}
-use borrow.Author.Tests.{ltb-false, le-ltb, ne-eqb}
+use borrow.Author.Tests.{ltb-false, le-ltb}
 use Rattle.octets.specs.Be.{beAt}
 use Rattle.octets.specs.Parts.{part}
 use Rattle.model.specs.Registrations.{Act, advertises, faileds, listeners, leaveAll, holding}
-use Rattle.model.specs.Frames.{Attribute, registers, domain, known, typeOctet, firstLength, threeLength, runsPast, overflows, Vector, vectorAt, eventOf, fourOf, valueActs, valuesActs, leaveAllActs, vectorActs}
+use Rattle.model.specs.Frames.{Attribute, registers, domain, known, typeOctet, threeLength, runsPast, Vector, vectorAt, eventOf, fourOf, valueActs, valuesActs, leaveAllActs, vectorActs}
 use Rattle.model.specs.Laid.{Laid}
-use Rattle.model.proofs.FoundVectors.{Sound, or-left, or-right}
+use Rattle.model.proofs.FoundVectors.{Sound, last-within, or-left, or-right}
 use Rattle.model.proofs.Fits.{laid-is, laid-fits}
 use Rattle.msrpdu.specs.declared.VectorHead.{VectorHead}
 use Rattle.msrpdu.specs.Reader.{typedRead, firstPart, headVector}
@@ -118,11 +118,8 @@ module _ (kind : ℕ) (l : List ℕ) (at : ℕ) (w : VectorHead) (low : 1 ≤ ki
     low = low;
     high = high;
     octets = sounds .first;
-    within = runs-less (attributeAt kind) (v .first) (w .values - 1) n (omega arith) last;
+    within = runs-less (attributeAt kind) (v .first) (w .values - 1) n (omega arith) (last-within v (sounds .within) (omega arith));
   }
-    where
-      last : runsPast (attributeAt kind) (v .first) (w .values - 1) ≡ false
-      last = unfold overflows in (rw (ne-eqb (w .values) 0 (λ z. omega arith)) at (sounds .within))
 
 -- its acts, with its parts as they are lent
 pub vector-acts : (kind : ℕ) (l : List ℕ) (w : VectorHead) →

@@ -3,7 +3,7 @@ use Prim.Native.Nat.{_-_}
 use mathlib.Core.Path.{sym}
 use native.Mathlib.Omega.{arith}
 use borrow.Author.Needs.{needs}
-use Rattle.msrpdu.proofs.Laws.{head-rises, vector-short, vector-end, vector-early, vector-event, first-past, vector-long, vector-over, vector-read}
+use Rattle.msrpdu.proofs.Laws.{head-rises, vector-short, vector-end, vector-event, first-past, vector-long, vector-over, vector-read}
 use Rattle.msrpdu.proofs.vector.Statement.{statement}
 use Rattle.msrpdu.proofs.vector.Tie as tie
 
@@ -14,20 +14,17 @@ returns-2 : tie.Need-returns-2
 returns-2 c = sym (vector-short _ _ _ _ (omega arith))
 
 returns-3 : tie.Need-returns-3
-returns-3 c = sym (vector-end _ _ _ _ (omega arith) _ (c .before .before .get .ensures .0) (omega arith) (omega arith))
+returns-3 c = sym (vector-end _ _ _ _ (omega arith) _ (c .before .get .ensures .0) (c .if3 .taken))
 
 returns-4 : tie.Need-returns-4
-returns-4 c = sym (vector-early _ _ _ _ (omega arith) _ (c .before .before .get .ensures .0) (c .before .if3 .taken) (c .if4 .left))
+returns-4 c = sym (vector-event _ _ _ _ (omega arith) _ (c .before .before .get .ensures .0) (c .before .if3 .left) (c .if4 .taken))
 
 returns-5 : tie.Need-returns-5
-returns-5 c = sym (vector-event _ _ _ _ (omega arith) _ (c .before .before .get .ensures .0) (c .before .if3 .left) (c .if5 .taken))
+returns-5 c = sym (first-past _ _ _ _ (omega arith) _ (c .before .before .before .get .ensures .0) (c .before .before .if3 .left) (c .before .if4 .left) (omega arith))
 
 returns-6 : tie.Need-returns-6
-returns-6 c = sym (first-past _ _ _ _ (omega arith) _ (c .before .before .before .get .ensures .0) (c .before .before .if3 .left) (c .before .if5 .left) (omega arith))
-
-returns-7 : tie.Need-returns-7
-returns-7 c =
-    sym (vector-long _ _ _ _ (omega arith) _ (c .before .before .before .before .before .before .get .ensures .0) (c .before .before .before .before .before .if3 .left) (c .before .before .before .before .if5 .left)
+returns-6 c =
+    sym (vector-long _ _ _ _ (omega arith) _ (c .before .before .before .before .before .before .get .ensures .0) (c .before .before .before .before .before .if3 .left) (c .before .before .before .before .if4 .left)
     _ (c .before .before .head-of .ensures) (omega arith))
 
 sub-any-overpacked : tie.Need-sub-any-overpacked
@@ -39,19 +36,18 @@ part-any-overpacked-start c = omega (arith, head-rises _ _ _ _ _ (c .before .bef
 part-any-overpacked-end : tie.Need-part-any-overpacked-end
 part-any-overpacked-end c = omega (arith, head-rises _ _ _ _ _ (c .before .before .head-of .ensures))
 
+returns-7 : tie.Need-returns-7
+returns-7 c =
+    sym (vector-over _ _ _ _ (omega arith) _ (c .before .before .before .before .before .before .before .before .before .get .ensures .0) (c .before .before .before .before .before .before .before .before .if3 .left) (c .before .before .before .before .before .before .before .if4 .left)
+    _ (c .before .before .before .before .before .head-of .ensures) (omega arith) _ (c .before .any-overpacked .ensures) (c .if7 .taken))
+
 returns-8 : tie.Need-returns-8
 returns-8 c =
-    sym (vector-over _ _ _ _ (omega arith) _ (c .before .before .before .before .before .before .before .before .before .get .ensures .0) (c .before .before .before .before .before .before .before .before .if3 .left) (c .before .before .before .before .before .before .before .if5 .left)
-    _ (c .before .before .before .before .before .head-of .ensures) (omega arith) _ (c .before .any-overpacked .ensures) (c .if8 .taken))
-
-returns-9 : tie.Need-returns-9
-returns-9 c =
-    sym (vector-read _ _ _ _ (omega arith) _ (c .before .before .before .before .before .before .before .before .before .get .ensures .0) (c .before .before .before .before .before .before .before .before .if3 .left) (c .before .before .before .before .before .before .before .if5 .left)
-    _ (c .before .before .before .before .before .head-of .ensures) (omega arith) _ (c .before .any-overpacked .ensures) (c .if8 .left))
+    sym (vector-read _ _ _ _ (omega arith) _ (c .before .before .before .before .before .before .before .before .before .get .ensures .0) (c .before .before .before .before .before .before .before .before .if3 .left) (c .before .before .before .before .before .before .before .if4 .left)
+    _ (c .before .before .before .before .before .head-of .ensures) (omega arith) _ (c .before .any-overpacked .ensures) (c .if7 .left))
 
 pub vector-spec : {M : Type 1} → statement M
 vector-spec =
     tie.close
-    (tie.spec returns returns-2 (λ c κs. search needs) (λ c. search needs) returns-3 returns-4 returns-5 (λ c. search needs)
-    returns-6 (λ c κs. search needs) returns-7 sub-any-overpacked part-any-overpacked-start part-any-overpacked-end
-    (λ c κs. search needs) returns-8 returns-9)
+    (tie.spec returns returns-2 (λ c κs. search needs) returns-3 returns-4 (λ c. search needs) returns-5 (λ c κs. search needs) returns-6
+    sub-any-overpacked part-any-overpacked-start part-any-overpacked-end (λ c κs. search needs) returns-7 returns-8)
