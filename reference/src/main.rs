@@ -131,9 +131,12 @@ fn run(task: Task) -> std::io::Result<ExitCode> {
 fn main() -> ExitCode {
     let arguments: Vec<String> = std::env::args().skip(1).collect();
     let arguments: Vec<&str> = arguments.iter().map(String::as_str).collect();
-    let Some(task) = task(&arguments) else {
-        eprint!("{USAGE}");
-        return ExitCode::from(2);
+    let task = match task(&arguments) {
+        Some(task) => task,
+        None => {
+            eprint!("{USAGE}");
+            return ExitCode::from(2);
+        }
     };
     match run(task) {
         Ok(code) => code,

@@ -20,8 +20,8 @@ impl<'a> Input<'a> {
 
     /// So many octets.
     pub fn octets(&mut self, length: usize) -> Option<&'a [u8]> {
-        let (taken, rest) = self.rest.split_at_checked(length)?;
-        self.rest = rest;
+        let taken = self.rest.get(..length)?;
+        self.rest = &self.rest[length..];
         Some(taken)
     }
 

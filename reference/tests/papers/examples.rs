@@ -31,7 +31,7 @@ fn texts_printed_as_expected(folders: &str) -> usize {
         }
         for file in fs::read_dir(&folder).expect("a folder") {
             let file = file.expect("a file").path();
-            if file.extension().is_some_and(|extension| extension == "txt") {
+            if file.extension().map_or(false, |extension| extension == "txt") {
                 assert_prints(&folder, &file);
                 count += 1;
             }
