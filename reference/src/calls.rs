@@ -24,6 +24,7 @@ pub fn run_watched(input: &[u8], watcher: &mut dyn Watcher) -> String {
     let mut table = Table::zeros();
     let mut printed = String::new();
     while !input.is_at_end() {
+        watcher.begins(input.taken());
         match take_record(&mut input) {
             Some(record) => printed.push_str(&make(&mut table, &record, watcher)),
             None => return printed + "stop\n",

@@ -29,6 +29,7 @@ pub fn run_watched(input: &[u8], watcher: &mut dyn Watcher) -> String {
     let mut printed = String::new();
     let mut records = Input::new(records);
     while !records.is_at_end() {
+        watcher.begins(settings.len() + records.taken());
         let number = match take_record(&mut records) {
             Some(Record::Pdu(port, pdu)) => {
                 let number = table.receive(port, pdu);
