@@ -191,13 +191,13 @@ impl<'a> Words<'a> {
         let in_octets =
             octets.len() == bits as usize / 8 && octets.iter().all(|octet| octet.len() == 2);
         let digits = if in_octets { octets.concat() } else { word.to_string() };
-        Some(digits)
-            .filter(|digits| digits.bytes().all(|digit| digit.is_ascii_hexdigit()))
-            .and_then(|digits| u64::from_str_radix(&digits, 16).ok())
-            .filter(|number| bits == 64 || number >> bits == 0)
-            .ok_or_else(|| {
-                format!("{word} where {wanted} of at most {} digits was expected", bits / 4)
-            })
+        if digits.is_empty() || !digits.bytes().all(|digit| digit.is_ascii_hexdigit()) {
+            return Err(format!("{word} where {wanted} was expected"));
+        }
+        let number = u64::from_str_radix(&digits, 16).ok();
+        number.filter(|number| bits == 64 || number >> bits == 0).ok_or_else(|| {
+            format!("{word} where {wanted} was expected, of at most {} digits", bits / 4)
+        })
     }
 
     /// A StreamID, or the name of a stream.
