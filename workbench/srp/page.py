@@ -1,0 +1,1 @@
+def page(all_ran): return ""
