@@ -11,7 +11,7 @@ class Bridge:
     Its process ends with `close`, or at the end of a `with`."""
 
     def __init__(self, settings=None):
-        self._process = subprocess.Popen(programs.calls_command(), stdin=subprocess.PIPE, stdout=subprocess.PIPE)
+        self._process = subprocess.Popen(programs.PROVED_CALLS, stdin=subprocess.PIPE, stdout=subprocess.PIPE)
         if settings is not None:
             answer = self.start(settings)
             if not answer.accepted:

@@ -4,12 +4,11 @@ from collections import Counter
 from dataclasses import dataclass, field
 
 from srp import layout, packets, texts
-from srp.answers import Answer
 from srp.bridge import Bridge
 from srp.faults import Fault
 from srp.needs import need
 from srp.packets import is_capture
-from srp.records import ADVANCE, RECEIVE
+from srp.records import ADVANCE, RECEIVE, START
 
 MSRP = 0x22EA
 GROUP = bytes.fromhex("0180c200000e")
@@ -160,11 +159,11 @@ def sources_of(ports):
 
 
 def calls_with_clock(bridge, given):
-    """Each record of an input, with its answer and the clock then."""
+    """Makes the calls of an input: each record, with its answer and the clock then."""
     clock = 0
     for record in given.records:
         answer = bridge.call(record)
-        if isinstance(answer, Answer) and answer.accepted and answer.call in ("start", "advance"):
+        if record.kind in (START, ADVANCE) and answer.accepted:
             clock = record.time if record.kind == ADVANCE else 0
         yield record, answer, clock
 

@@ -29,10 +29,15 @@ def reading_of(ports, settings, until, named=False):
     return captures.Reading(captures.ports_of(ports), octets, until, named)
 
 
-def run_files(files, ports, settings, until, calls):
-    """Runs each input."""
-    reading = reading_of(ports, settings, until)
-    return [inputs.run(inputs.load(file, reading, calls)) for file in files]
+def load_files(files, calls, **options):
+    """The input in each file."""
+    reading = reading_of(**options)
+    return [inputs.load(file, reading, calls) for file in files]
+
+
+def run_files(files, **options):
+    """What comes of each input."""
+    return [inputs.run(given) for given in load_files(files, **options)]
 
 
 def console():
@@ -128,7 +133,7 @@ def print_results(sweep, results):
 @click.option("--merge", is_flag=True, help="Adds up parts, from files or with - from standard input.")
 @click.option("--order", type=int, metavar="K", help="Prints the K-th order as a text, and makes none.")
 @capture_options
-def restarts_command(words, seed, jobs, shard, merge, order, calls, **options):
+def restarts_command(words, merge, order, seed, shard, **options):
     """The same frames in N random orders that keep each port's own order: a line for each different result, and how often it
     came. Status 1 where there are several."""
     if merge:
@@ -136,7 +141,8 @@ def restarts_command(words, seed, jobs, shard, merge, order, calls, **options):
         print_results(*restarts.merged([line for part in parts for line in part]))
     if len(words) != 2 or not words[0].isdigit():
         raise click.UsageError("a number of orders and a file are expected")
-    given = inputs.load(words[1], reading_of(**options), calls)
+    jobs = options.pop("jobs")
+    [given] = load_files(words[1:], **options)
     if order is not None:
         click.echo(restarts.as_text(given, seed, order), nl=False)
         return

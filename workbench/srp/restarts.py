@@ -48,7 +48,7 @@ class Result:
 def interleaved(group, calls, chance):
     """Frames served in a random order of ports: every order that keeps each port's own is as likely."""
     turns = [calls[place].port for place in group]
-    waiting = {port: iter([place for place in group if calls[place].port == port]) for port in turns}
+    waiting = {port: iter([place for place in group if calls[place].port == port]) for port in set(turns)}
     chance.shuffle(turns)
     return [next(waiting[port]) for port in turns]
 
