@@ -7,7 +7,6 @@ from srp import layout, packets, texts
 from srp.bridge import Bridge
 from srp.faults import Fault
 from srp.needs import need
-from srp.packets import is_capture
 from srp.records import ADVANCE, RECEIVE, START
 
 MSRP = 0x22EA
@@ -106,7 +105,7 @@ def frames_of(octets, ports):
 
 
 def clock_of(frame, first):
-    """The clock at which a frame arrived. Captures written here have the bridge's own clock; others count from their first frame."""
+    """When a frame arrived. Captures written here have the bridge's own clock; others count from their first frame."""
     base = 0 if first.packet.time <= LAST_CLOCK else first.packet.time
     clock = frame.packet.time - base
     if clock > LAST_CLOCK:

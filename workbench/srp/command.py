@@ -1,10 +1,11 @@
 """The commands."""
 import os
 import sys
+from dataclasses import astuple
 
 import click
 
-from srp import captures, difference, inputs, page, restarts, sheet, tables
+from srp import captures, difference, inputs, packets, page, restarts, sheet, tables
 from srp.faults import Fault
 from srp.needs import need
 
@@ -90,12 +91,7 @@ def diff_command(first, second, **options):
     if not found:
         click.echo("no difference")
         return
-    shown = need("rich.table").Table(box=need("rich.box").SIMPLE, pad_edge=False)
-    for name in ("where", "what", first, second):
-        shown.add_column(name, overflow="fold")
-    for one in found:
-        shown.add_row(one.where, one.field, one.first, one.second)
-    console().print(shown)
+    console().print(tables.grid(("where", "what", first, second), map(astuple, found)))
     sys.exit(1)
 
 
@@ -164,7 +160,7 @@ def capture_command(file, out, received, named, calls, **options):
     """Turns a capture's MSRP frames into a text; or, from any other input, writes a capture of what each port writes after each
     advance."""
     octets, reading = inputs.octets_of(file), reading_of(**options, named=named)
-    if captures.is_capture(octets):
+    if packets.is_capture(octets):
         text = captures.text(file, octets, reading)
         with click.open_file(out or "-", "w") as opened:
             opened.write(text)

@@ -1,8 +1,12 @@
 """What differs between two set-ups: settings, totals, and what is decided of each stream on each port."""
 from dataclasses import asdict, dataclass, fields
 
-from srp.views import port_lines, ports, stream_lines
+from srp.views import ports, stream_lines
 from srp.words import cause
+
+# Fields that tell where something stands, and fields that need another name.
+PLACES = ("stream", "port")
+NAMES = {"a": "total_a", "b": "total_b"}
 
 
 @dataclass(frozen=True)
@@ -22,9 +26,9 @@ def in_words(name, value):
 def differences_of(where, first, second):
     """The fields of two objects of one class that differ. One of them may be missing."""
     left, right = (asdict(part) if part else {} for part in (first, second))
-    for each in fields(first or second):
-        if left.get(each.name) != right.get(each.name):
-            yield Difference(where, each.name, *(in_words(each.name, side[each.name]) if side else "" for side in (left, right)))
+    for name in (each.name for each in fields(first or second) if each.name not in PLACES):
+        if left.get(name) != right.get(name):
+            yield Difference(where, NAMES.get(name, name), *(in_words(name, side[name]) if side else "" for side in (left, right)))
 
 
 def pair_up(first, second):
@@ -37,15 +41,18 @@ def settings_of(table):
     return {f"port {port}": table.port_settings[port - 1] for port in ports(table)}
 
 
+def totals_of(table):
+    return {f"port {port}": table.totals[port - 1] for port in ports(table)}
+
+
+def results_of(table):
+    """What a sheet shows of each stream on each port."""
+    return {f"{line.stream} port {line.port}": line for line in stream_lines(table)}
+
+
 def between(first, second):
     """The differences of two tables."""
     found = list(differences_of("bridge", first.settings, second.settings))
-    for where, left, right in pair_up(settings_of(first), settings_of(second)):
-        found += differences_of(where, left, right)
-    lines = [{f"port {line.port}": line for line in port_lines(table)} for table in (first, second)]
-    for where, left, right in pair_up(*lines):
-        found += (one for one in differences_of(where, left, right) if one.field.startswith("total"))
-    lines = [{(line.stream, line.port): line for line in stream_lines(table)} for table in (first, second)]
-    for (stream, port), left, right in pair_up(*lines):
-        found += (one for one in differences_of(f"{stream} port {port}", left, right) if one.field not in ("stream", "port"))
+    for part in (settings_of, totals_of, results_of):
+        found += (one for where, left, right in pair_up(part(first), part(second)) for one in differences_of(where, left, right))
     return found

@@ -4,7 +4,7 @@ import sys
 from dataclasses import dataclass
 from pathlib import Path
 
-from srp import answers, captures, layout, programs, records
+from srp import answers, captures, layout, packets, programs, records
 from srp.faults import Fault
 
 # Control characters that no text has.
@@ -92,7 +92,7 @@ def load(path, reading=captures.Reading(), calls=False):
     """The input in a file, or with `-` on standard input. Reading is how captures are read; records are those of srpsheet, or
     with calls those of srpcalls."""
     octets = octets_of(path)
-    if captures.is_capture(octets):
+    if packets.is_capture(octets):
         return of_text(path, captures.text(path, octets, reading).encode())
     if path.endswith(".txt") or octets and not CONTROL.search(octets):
         return of_text(path, octets)

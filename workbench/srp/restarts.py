@@ -94,11 +94,19 @@ def in_words(printed, octets):
             f" {sum(result.column == FAILED for result in results)} failed; refused {refused or 'none'}")
 
 
-def add(results, key, line, count, first):
-    """Adds orders that came to one result."""
-    held = results.setdefault(key, Result(key, line, 0, first))
-    held.count += count
-    held.first = min(held.first, first)
+def add(results, one):
+    """Adds orders that came to a result."""
+    held = results.setdefault(one.key, Result(one.key, one.line, 0, one.first))
+    held.count += one.count
+    held.first = min(held.first, one.first)
+
+
+def added(found):
+    """The results of several lists of them."""
+    results = {}
+    for one in found:
+        add(results, one)
+    return list(results.values())
 
 
 def batch(calls, seed, numbers):
@@ -115,7 +123,7 @@ def batch(calls, seed, numbers):
         by_place = [line for _, line in sorted(zip(places, printed))]
         key = hashlib.sha256("\n".join([*by_place, table]).encode()).hexdigest()
         line = results[key].line if key in results else in_words(printed, answers.read_line(table).octets)
-        add(results, key, line, 1, number)
+        add(results, Result(key, line, 1, number))
     return list(results.values())
 
 
@@ -124,13 +132,12 @@ def sweep_results(given, sweep, jobs, tell):
     check(given)
     programs.make_ready()
     parts = [sweep.numbers[at:at + BATCH] for at in range(0, len(sweep.numbers), BATCH)]
-    results = {}
+    found = []
     with ThreadPoolExecutor(jobs) as pool:
-        for part, found in zip(parts, pool.map(lambda part: batch(given.records, sweep.seed, part), parts)):
-            for one in found:
-                add(results, one.key, one.line, one.count, one.first)
-            tell(len(part))
-    return list(results.values())
+        for results in pool.map(lambda part: batch(given.records, sweep.seed, part), parts):
+            tell(sum(one.count for one in results))
+            found += results
+    return added(found)
 
 
 def as_part(sweep, results):
@@ -151,14 +158,11 @@ def merged(lines):
     parts = [read_part(line) for line in lines if line.strip()]
     if len({sweep.whole for sweep, _ in parts}) != 1:
         raise Fault("the parts are of no sweep, or of several: input, orders, seed and number of shards must be the same")
-    first, seen, results = parts[0][0], Counter(sweep.shard for sweep, _ in parts), {}
+    first, seen = parts[0][0], Counter(sweep.shard for sweep, _ in parts)
     wrong = [shard for shard in range(1, first.shards + 1) if seen[shard] != 1]
     if wrong:
         raise Fault("; ".join(f"shard {shard}/{first.shards} is there {seen[shard]} times" for shard in wrong))
-    for _, found in parts:
-        for one in found:
-            add(results, one.key, one.line, one.count, one.first)
-    return first, list(results.values())
+    return first, added(one for _, results in parts for one in results)
 
 
 def lines_of(sweep, results):

@@ -20,10 +20,10 @@ def plain(ran):
     yield from (f"refused {number}" for number in refused_numbers(ran))
     if ran.stopped:
         yield "stop"
-    for line in port_lines(ran.table):
-        yield f"port {line.port} A {line.total_a}/{line.limit_a} B {line.total_b}/{line.limit_b}"
-    for line in stream_lines(ran.table):
-        yield f"{line.stream} {line.port} {line.column} {line.code} {line.listener} {line.entry}"
+    yield from (f"port {line.port} A {line.total_a}/{line.limit_a} B {line.total_b}/{line.limit_b}"
+                for line in port_lines(ran.table))
+    yield from (f"{line.stream} {line.port} {line.column} {line.code} {line.listener} {line.entry}"
+                for line in stream_lines(ran.table))
 
 
 def rows(ran):

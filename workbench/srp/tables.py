@@ -1,6 +1,6 @@
 """The table in words: who is registered where, leaving since when, changed, of what age, and what is settled."""
 from srp.needs import need
-from srp.views import class_of, demand, ports
+from srp.views import class_of, demand, loads, ports
 from srp.words import COLUMNS, ENTRIES, LISTENERS, address, cause, rate, seconds, stream_id, word
 
 TALKERS = ("none", "Advertise", "Failed")
@@ -62,31 +62,31 @@ def settled_row(stream, port, table):
             rate(demand(stream.settled, settings, name)) if name and result.column else "")
 
 
-def settled_table(stream, table):
-    """The last advance's decisions on a stream; none where it had no part in one."""
-    if not any(result.column or result.entry or result.listener for result in stream.results):
-        return None
-    shown = need("rich.table").Table(box=need("rich.box").SIMPLE, title="settled", title_justify="left", pad_edge=False)
-    for name in ("port", "column", "latency out", "Listener declared", "entry", "entry since", "demand"):
-        shown.add_column(name)
-    for port in ports(table):
-        shown.add_row(*settled_row(stream, port, table))
+def grid(columns, rows, title=None):
+    """Rows under the names of their columns."""
+    shown = need("rich.table").Table(*columns, box=need("rich.box").SIMPLE, title=title, title_justify="left", pad_edge=False)
+    for row in rows:
+        shown.add_row(*row)
     return shown
 
 
-def port_table(table):
-    """The settings and totals of the ports."""
-    shown = need("rich.table").Table(box=need("rich.box").SIMPLE, title="ports", title_justify="left", pad_edge=False)
-    for name in ("port", "class", "supported", "reserved", "limit", "latency", "overhead", "largest frame", "sent twice"):
-        shown.add_column(name)
-    for port in ports(table):
-        one, totals = table.port_settings[port - 1], table.totals[port - 1]
-        alike = (str(one.overhead), str(one.largest_frame), "yes" if one.sends_twice else "no")
-        for name in ("a", "b"):
-            shown.add_row(str(port), name.upper(), "yes" if getattr(one, f"supports_{name}") else "no",
-                          rate(getattr(totals, name)), rate(getattr(one, f"limit_{name}")),
-                          f"{getattr(one, f'latency_{name}')} ns", *alike)
-    return shown
+def settled_grid(stream, table):
+    """The last advance's decisions on a stream."""
+    columns = ("port", "column", "latency out", "Listener declared", "entry", "entry since", "demand")
+    return grid(columns, [settled_row(stream, port, table) for port in ports(table)], "settled")
+
+
+def port_row(load, table):
+    """The settings and totals of a class on a port."""
+    one = table.port_settings[load.port - 1]
+    latency = one.latency_a if load.name == "A" else one.latency_b
+    return (str(load.port), load.name, "yes" if load.supported else "no", rate(load.total), rate(load.limit), f"{latency} ns",
+            str(one.overhead), str(one.largest_frame), "yes" if one.sends_twice else "no")
+
+
+def port_grid(table):
+    columns = ("port", "class", "supported", "reserved", "limit", "latency", "overhead", "largest frame", "sent twice")
+    return grid(columns, [port_row(load, table) for load in loads(table)], "ports")
 
 
 def head(table):
@@ -96,16 +96,20 @@ def head(table):
             f" class A priority {settings.priority_a}, class B priority {settings.priority_b}, {table.held} streams held")
 
 
+def show_stream(stream, table, console):
+    """Prints who is registered, and what the last advance decided, if it had the stream."""
+    is_settled = any(result.column or result.entry or result.listener for result in stream.results)
+    console.print(f"stream {stream_id(stream.stream_id)}, class {is_settled and class_of(table, stream.settled) or 'none'}")
+    console.print("\n".join(f"  {line}" for line in registered(stream, table)))
+    console.print(settled_grid(stream, table) if is_settled else "  no part in an advance yet\n")
+
+
 def show(ran, console):
     """Prints the table of an input."""
-    table = ran.table
     if not ran.has_table:
         console.print(f"{ran.input.name}: no bridge was started")
         return
-    console.print(head(table))
-    console.print(port_table(table))
-    for stream in table.streams:
-        console.print(f"stream {stream_id(stream.stream_id)}, class {class_of(table, stream.settled) or 'none'}")
-        for line in registered(stream, table):
-            console.print(f"  {line}")
-        console.print(settled_table(stream, table) or "  no part in an advance yet\n")
+    console.print(head(ran.table))
+    console.print(port_grid(ran.table))
+    for stream in ran.table.streams:
+        show_stream(stream, ran.table, console)

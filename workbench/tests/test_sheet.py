@@ -74,7 +74,8 @@ def test_page(srp):
 
 
 def test_page_of_several_inputs(srp):
-    text = " ".join(Page(srp("sheet", "--html", OTHER, "examples/refused-settings/cut.txt", "examples/refused-frames/numbers.txt")).words)
+    broken = "examples/refused-settings/cut.txt", "examples/refused-frames/numbers.txt"
+    text = " ".join(Page(srp("sheet", "--html", OTHER, *broken)).words)
     assert "The reading stopped early: the settings are refused." in text and "Refused calls: " in text
 
 
