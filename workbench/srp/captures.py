@@ -1,6 +1,5 @@
 """MSRP frames of a capture as a text, and the way back."""
 import re
-from collections import Counter
 from dataclasses import dataclass, field
 
 from srp import layout, packets, texts
@@ -32,10 +31,10 @@ class Reading:
 
 @dataclass(frozen=True)
 class Frame:
-    """An MSRP frame of a capture."""
+    """An MSRP frame of a capture; port is none where its source is no port."""
     packet: packets.Packet
     source: str
-    port: int
+    port: int | None
     pdu: bytes
 
 
@@ -86,11 +85,17 @@ def frame_of(packet, ports):
         raise Fault(f"packet {packet.number} is cut: {len(packet.octets)} of its {packet.length} octets were captured")
     if kind != MSRP:
         return None
-    port = ports.get(source, ports.get(packet.interface))
-    if port is None:
-        raise Fault(f"packet {packet.number} is from {source} on interface {packet.interface}, which is no port;"
-                    f" give --port {source}=N")
-    return Frame(packet, source, port, without_padding(pdu))
+    return Frame(packet, source, ports.get(source, ports.get(packet.interface)), without_padding(pdu))
+
+
+def check_sources(frames):
+    """Whether every frame is that of a port. The first one that is not is named, and all their sources."""
+    foreign = {frame.source: frame for frame in reversed(frames) if frame.port is None}
+    if foreign:
+        first = min(foreign.values(), key=lambda frame: frame.packet.number)
+        options = " ".join(f"--port {source}=N" for source in sorted(foreign))
+        raise Fault(f"packet {first.packet.number} is from {first.source} on interface {first.packet.interface}, which is no port;"
+                    f" give {options}")
 
 
 def frames_of(octets, ports):
@@ -98,9 +103,9 @@ def frames_of(octets, ports):
     all_packets = packets.packets(octets)
     frames = [frame for packet in all_packets if (frame := frame_of(packet, ports))]
     if not frames:
-        kinds = Counter(f"{ethernet(packet)[1]:04x}" for packet in all_packets)
-        first = f"; packet 1 has EtherType {next(iter(kinds))}" if kinds else ""
+        first = f"; packet 1 has EtherType {ethernet(all_packets[0])[1]:04x}" if all_packets else ""
         raise Fault(f"none of {len(all_packets)} packets is MSRP (EtherType {MSRP:04x}){first}")
+    check_sources(frames)
     return frames
 
 

@@ -152,20 +152,20 @@ def restarts_command(words, merge, order, seed, shard, **options):
 
 @commands.command("capture")
 @click.argument("file", type=FILE)
-@click.option("--out", "-o", type=click.Path(), help="The file to write: a text of a capture, or a capture (.pcap, .pcapng).")
+@click.option("--out", "-o", type=click.Path(), help="The file to write: a capture where it ends in .pcap or .pcapng, or a text.")
 @click.option("--received", is_flag=True, help="Writes the frames of the input, and not what each port writes.")
 @click.option("--named", is_flag=True, help="Names the packet of each frame in a comment.")
 @capture_options
 def capture_command(file, out, received, named, calls, **options):
-    """Turns a capture's MSRP frames into a text; or, from any other input, writes a capture of what each port writes after each
+    """Turns a capture's MSRP frames into a text; or, from any input, writes a capture of what each port writes after each
     advance."""
     octets, reading = inputs.octets_of(file), reading_of(**options, named=named)
-    if packets.is_capture(octets):
+    if out and out.endswith((".pcap", ".pcapng")):
+        given = inputs.of_octets(file, octets, reading, calls)
+        captures.write(out, captures.received(given) if received else captures.written(given), reading.ports)
+    elif packets.is_capture(octets):
         text = captures.text(file, octets, reading)
         with click.open_file(out or "-", "w") as opened:
             opened.write(text)
-        return
-    if out is None:
-        raise Fault(f"{file} is no capture; to write one of what its ports write, give --out FILE.pcapng")
-    given = inputs.load(file, reading, calls)
-    captures.write(out, captures.received(given) if received else captures.written(given), reading.ports)
+    else:
+        raise Fault(f"{file} is no capture; to write one of what its ports write, give --out with a name in .pcap or .pcapng")

@@ -88,15 +88,19 @@ def octets_of(path):
         raise Fault(f"{path}: {fault.strerror}") from None
 
 
-def load(path, reading=captures.Reading(), calls=False):
-    """The input in a file, or with `-` on standard input. Reading is how captures are read; records are those of srpsheet, or
-    with calls those of srpcalls."""
-    octets = octets_of(path)
+def of_octets(name, octets, reading=captures.Reading(), calls=False):
+    """The input that octets are. Reading is how captures are read; records are those of srpsheet, or with calls those of
+    srpcalls."""
     if packets.is_capture(octets):
-        return of_text(path, captures.text(path, octets, reading).encode())
-    if path.endswith(".txt") or octets and not CONTROL.search(octets):
-        return of_text(path, octets)
-    return of_calls(path, octets) if calls else of_sheet(path, octets)
+        return of_text(name, captures.text(name, octets, reading).encode())
+    if name.endswith(".txt") or octets and not CONTROL.search(octets):
+        return of_text(name, octets)
+    return of_calls(name, octets) if calls else of_sheet(name, octets)
+
+
+def load(path, reading=captures.Reading(), calls=False):
+    """The input in a file, or with `-` on standard input."""
+    return of_octets(path, octets_of(path), reading, calls)
 
 
 def run(given):

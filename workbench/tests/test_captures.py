@@ -152,10 +152,35 @@ GOOD = (frame(STAGE, TALKER), None)
     (pcap((frame(STAGE, "45" * 46, kind="0800"), None)), "none of 1 packets is MSRP (EtherType 22ea); packet 1 has EtherType 0800"),
     (pcap(GOOD, link=113), "packet 1 is no Ethernet frame: its link type is 113"),
     (pcap(GOOD, (frame(MIXER, TALKER), None)), f"packet 2 is from {MIXER} on interface 0, which is no port; give --port {MIXER}=N"),
+    (pcap((frame(MIXER, TALKER), None), (frame(STAGE[:-1] + "9", TALKER), None)),
+     f"packet 1 is from {MIXER} on interface 0, which is no port; give --port {MIXER}=N --port {STAGE[:-1]}9=N"),
     (pcap(), "none of 0 packets is MSRP"),
 ])
 def test_broken_and_foreign_captures(srp, tmp_path, octets, said):
     assert said in fault_of(srp, tmp_path, octets)
+
+
+def test_times_that_go_back_make_no_advance(srp, tmp_path):
+    later, earlier = pcap(GOOD, GOOD), pcap(GOOD)
+    capture = tmp_path / "unordered"
+    capture.write_bytes(later + earlier[24:])
+    frame_line = f"on 1 octets {TALKER}\n"
+    expected = f"bridge 8000000000000001\nports 1\n{frame_line}time 100\n{frame_line}{frame_line}time 100\n"
+    assert srp("capture", capture, "--port", f"{STAGE}=1") == expected
+
+
+def test_a_capture_of_what_is_written_from_a_capture(srp, tmp_path):
+    first, second = tmp_path / "first.pcap", tmp_path / "second.pcapng"
+    srp("capture", CHOIR, "--received", "-o", first)
+    srp("capture", first, "--settings", CHOIR, "-o", second)
+    assert srp("capture", second).count("on 4 octets") == 3
+
+
+def test_a_capture_on_standard_input(tmp_path, srp):
+    capture = tmp_path / "first.pcap"
+    srp("capture", CHOIR, "--received", "-o", capture)
+    piped = run("bash", "-c", f"./srp capture - <{capture} | ./srp sheet -")
+    assert piped.stdout == srp("sheet", capture) != ""
 
 
 def test_big_endian_captures_are_read(srp, tmp_path):

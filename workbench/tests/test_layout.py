@@ -2,8 +2,8 @@
 import re
 
 import pytest
-from conftest import ROOT, run
-from srp import layout
+from conftest import ROOT
+from srp import inputs, layout, programs, sheet
 
 EXAMPLES = sorted(path.relative_to(ROOT) for folder in ("examples", "tests/cases") for path in (ROOT / folder).glob("*/*.txt")
                   if path.with_name("sheet").exists())
@@ -44,12 +44,13 @@ def test_a_number_across_octets():
 
 
 @pytest.mark.parametrize("text", EXAMPLES, ids=str)
-def test_sheet_of_an_example(srp, text):
-    assert srp("sheet", text) == (ROOT / text).with_name("sheet").read_text()
+def test_sheet_of_an_example(text):
+    printed = sheet.plain(inputs.run(inputs.load(str(ROOT / text))))
+    assert list(printed) == (ROOT / text).with_name("sheet").read_text().splitlines()
 
 
-def test_sheet_of_records(srp, tmp_path):
-    for seed in range(3):
-        records = tmp_path / f"sheet{seed}"
-        made = run("bash", "-c", f"tests/reference make sheet {seed} >{records} && ./sheet {records}")
-        assert srp("sheet", records) == made.stdout != ""
+@pytest.mark.parametrize("seed", range(12))
+def test_sheet_of_generated_records(seed):
+    octets = programs.run([str(ROOT / "tests/reference"), "make", "sheet", str(seed)], b"")
+    expected = programs.run([str(ROOT / "tests/program"), "srpsheet"], octets).decode().splitlines()
+    assert list(sheet.plain(inputs.run(inputs.of_sheet(f"seed {seed}", octets)))) == expected != []

@@ -79,12 +79,12 @@ def test_page_of_several_inputs(srp):
     assert "The reading stopped early: the settings are refused." in text and "Refused calls: " in text
 
 
-def test_shares_add_up_on_generated_sheets(tmp_path):
+def test_shares_add_up_on_generated_sheets():
     """Shares that pages show are those of the table's totals, in both classes and on ports that send twice."""
     from srp import inputs, programs, views
 
     loads = []
-    for seed in range(40):
+    for seed in range(25):
         octets = programs.run([str(ROOT / "tests/reference"), "make", "sheet", str(seed)], b"")
         loads += views.loads(inputs.run(inputs.of_sheet(f"seed {seed}", octets)).table)
     assert all(load.adds_up for load in loads)
