@@ -1,7 +1,7 @@
 """Starts the command, or says what is missing for it."""
 import sys
 
-from srp.faults import Fault, Missing
+from srp.faults import Fault
 from srp.needs import need
 
 
@@ -11,8 +11,6 @@ def main():
         from srp.command import commands
 
         commands(prog_name="srp", standalone_mode=True)
-    except Missing as fault:
-        sys.exit(f"srp: {fault}")
     except Fault as fault:
         print(f"srp: {fault}", file=sys.stderr)
         sys.exit(2)

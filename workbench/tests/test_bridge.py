@@ -88,6 +88,6 @@ def test_a_missing_package_is_named(tmp_path):
         hidden.mkdir()
         (hidden / "sitecustomize.py").write_text(f"import sys\nsys.modules[{package!r}] = None\n")
         done = run("./srp", *words, environment={"PYTHONPATH": str(hidden)})
-        assert done.returncode != 0 and f"apt-get install {DEBIAN[package]}" in done.stderr
+        assert done.returncode == 2 and f"apt-get install {DEBIAN[package]}" in done.stderr
         if package != "click":
             assert run("./srp", "sheet", CHOIR, environment={"PYTHONPATH": str(hidden)}).returncode == 0

@@ -16,9 +16,9 @@ def test_choir_prints_one_line(srp):
 
 
 def test_first_come_first_served_prints_several(srp):
-    lines = srp("restarts", 100, CHOIR, status=1, environment=WRONG).splitlines()
+    lines = srp("restarts", 60, CHOIR, status=1, environment=WRONG).splitlines()
     assert len(lines) > 1
-    assert sum(int(line.split()[0]) for line in lines) == 100
+    assert sum(int(line.split()[0]) for line in lines) == 60
 
 
 def test_orders_keep_each_ports_own(srp):
@@ -54,11 +54,11 @@ def test_an_order_as_a_text_gives_the_same_sheet(srp, tmp_path):
 
 
 def test_jobs_and_shards_add_up(srp, tmp_path):
-    whole = srp("restarts", 90, CHOIR, "--seed", 5, "--jobs", 1, status=1, environment=WRONG)
-    assert whole == srp("restarts", 90, CHOIR, "--seed", 5, "--jobs", 3, status=1, environment=WRONG)
+    whole = srp("restarts", 45, CHOIR, "--seed", 5, "--jobs", 1, status=1, environment=WRONG)
+    assert whole == srp("restarts", 45, CHOIR, "--seed", 5, "--jobs", 3, status=1, environment=WRONG)
     parts = [tmp_path / f"part{shard}" for shard in (1, 2, 3)]
     for shard, part in enumerate(parts, 1):
-        part.write_text(srp("restarts", 90, CHOIR, "--seed", 5, "--shard", f"{shard}/3", environment=WRONG))
+        part.write_text(srp("restarts", 45, CHOIR, "--seed", 5, "--shard", f"{shard}/3", environment=WRONG))
     assert srp("restarts", "--merge", *parts, status=1) == whole
     assert "shard 2/3 is there 0 times" in srp("restarts", "--merge", parts[0], parts[2], status=2)
     assert "shard 1/3 is there 2 times" in srp("restarts", "--merge", *parts, parts[0], status=2)
