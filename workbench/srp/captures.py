@@ -68,10 +68,11 @@ def ethernet(packet):
     """The source, EtherType behind any VLAN tags, and payload of a packet; nothing where it is no such frame."""
     if packet.link != packets.ETHERNET:
         raise Fault(f"packet {packet.number} is no Ethernet frame: its link type is {packet.link}")
-    dpkt = need("dpkt")
+    make = need("dpkt.ethernet").Ethernet
     try:
-        frame = need("dpkt.ethernet").Ethernet(packet.octets)
-    except (dpkt.Error, IndexError, ValueError):
+        frame = make(packet.octets)
+    # dpkt looks into what other protocols send too, and may stumble there over anything
+    except Exception:
         return "", 0, b""
     tags = getattr(frame, "vlan_tags", None)
     source = ":".join(f"{octet:02x}" for octet in frame.src)
