@@ -2,6 +2,7 @@
 import os
 import shlex
 import subprocess
+import sys
 from pathlib import Path
 
 from srp.faults import Fault
@@ -20,7 +21,8 @@ def calls_command():
 
 
 def run(command, octets, errors=None):
-    """What a command prints, from these octets on its standard input. What it says of errors is passed on, or piped."""
+    """What a command prints, from these octets on its standard input. What it says of errors is passed on; where they are piped,
+    only once it has ended well."""
     try:
         done = subprocess.run(command, input=octets, stdout=subprocess.PIPE, stderr=errors, check=False)
     except OSError as fault:
@@ -28,6 +30,7 @@ def run(command, octets, errors=None):
     if done.returncode != 0:
         said = (done.stderr or b"").decode(errors="replace").strip()
         raise Fault(said or f"{' '.join(command)} ended with status {done.returncode}")
+    sys.stderr.write((done.stderr or b"").decode(errors="replace"))
     return done.stdout
 
 
@@ -42,5 +45,5 @@ def calls(octets):
 
 
 def records_of_text(text, kind):
-    """The records of a text as in examples/; kind is sheet or calls."""
-    return run([*TEXT_TOOL, kind], text, subprocess.PIPE)
+    """The records of a text as in examples/, of any length; kind is sheet or calls. Its warnings are passed on."""
+    return run([*TEXT_TOOL, kind, "long"], text, subprocess.PIPE)
