@@ -3,7 +3,7 @@
 use mathlib.Core.Path.{_≡_, refl, sym, ap, _∙_}
 use mathlib.Core.List.{List, [], _∷_, _++_}
 use mathlib.Core.Bool.{Bool, true, false, cond, not, _||_, or-assoc, or-false, false≢true}
-use Prim.Native.Nat.{ℕ, zero, suc, _+_, _*_, _%_, _^_, _≤_, _<_}
+use Prim.Native.Nat.{ℕ, zero, suc, _+_, _-_, _*_, _%_, _^_, _≤_, _<_}
 use native.Mathlib.Omega.{arith}
 use lib.ListN.{length, getD, take, drop, length-append, take-append-drop}
 use lib.Seq.{getD-take, getD-append-seam, getD-append-add}
@@ -13,16 +13,16 @@ use Rattle.octets.specs.Be.{beAt}
 use Rattle.octets.specs.Parts.{zeros}
 use Rattle.octets.specs.Fields.{fields, Fit, width, flat}
 use Rattle.octets.proofs.Fields.{length-packed-any, fields-of-packed, fields-fit, fit-at, fit-append, fit-zeros, packed-zeros}
-use Rattle.model.specs.Layout.{cellSize, cellWidths, fixedWidths, listenerPlace}
+use Rattle.model.specs.Layout.{bridgeField, cellSize, cellWidths, changedField, codeField, fixedField, fixedWidths, latencyField, listenerField, listenerLeavesField, listenerPlace, listenerSinceField, priorityField, talkerField, talkerLeavesField, talkerSinceField}
 use Rattle.model.specs.Lists.{All, allTrue, implies, tabulate, parts, Octets, bit, isOne}
 use Rattle.model.specs.State.{Leaving, stays, since, Fixed, Health, sound, broken, Registration, Talker, noTalker, talker, Ready, askingFailed, ready, readyFailed, Listener, noListener, listener, Cell, empty}
 use Rattle.model.specs.Frames.{priorityOf, rankOf}
 use Rattle.model.specs.WrittenFrames.{priorityOctet, fixedNumbers, readyNumber}
 use Rattle.model.specs.Settling.{isTalking, isHearing, held}
-use Rattle.model.specs.Table.{leavingNumber, sinceNumber, toLeaving, healthNumber, bridgeNumber, codeNumber, toHealth, talkerNumbers, listenerNumbers, cellNumbers, fixedFrom, toReady, registrationFrom, talkerFrom, listenerFrom, cellFrom, cellOctets, toCell, allZero, leavingRule, cellRules, cellFormed, holds}
+use Rattle.model.specs.Table.{leavingNumber, sinceNumber, toLeaving, healthNumber, bridgeNumber, codeNumber, toHealth, talkerNumbers, listenerNumbers, cellNumbers, fixedFrom, toReady, registrationFrom, talkerFrom, listenerFrom, cellFrom, cellOctets, toCell, between, allZero, leavingRule, cellRules, cellFormed, holds}
 use Rattle.model.proofs.Lists.{all-each, and-left, and-right, and-both, implied, all-true, true-all}
 use Rattle.model.proofs.Valid.{ValidLeaving, ValidFixed, ValidHealth, ValidTalker, ValidListener, ValidCell}
-use Rattle.model.proofs.Parts.{octets-at, octets-packed, _also_, zero-between, zero-run, packed-whole, parts-take, parts-flat, Sized}
+use Rattle.model.proofs.Parts.{octets-at, octets-packed, _also_, zero-run, two-zero, packed-whole, parts-take, parts-flat, Sized}
 
 -- Fixed values: five numbers, the last of them priority and rank.
 
@@ -254,7 +254,7 @@ module _ (clock leave : ℕ) where
   hearing-rules : (h : Listener) → ValidListener clock leave h
       → let at : ℕ → ℕ = λ i. getD (listenerNumbers h) i 0 in
       All (λ b. b ≡ true)
-      (leb (at 0) 3 ∷ leavingRule clock leave (at 1) (at 2) ∷ implies (eqb (at 0) 0) (allZero (take 2 (drop 1 (listenerNumbers h)))) ∷ [])
+      (leb (at 0) 3 ∷ leavingRule clock leave (at 1) (at 2) ∷ implies (eqb (at 0) 0) (allZero (at 1 ∷ at 2 ∷ [])) ∷ [])
   unfolding listenerNumbers leavingRule allZero
   hearing-rules noListener v = refl also refl also refl also tt
   hearing-rules (listener r l) v = ready-rules r .0 also leaving-formed clock leave l v also rw (ready-rules r .1) refl also tt
@@ -279,66 +279,70 @@ module _ (clock leave : ℕ) where
 -- Numbers that keep the rules: what they say is valid, and is written with the same numbers.
 
 record Kept (clock leave : ℕ) (vs : List ℕ) : Type 0 where
-  kind : getD vs 0 0 ≤ 2
-  mark : getD vs 1 0 ≤ 1
-  leaves : leavingRule clock leave (getD vs 2 0) (getD vs 3 0) ≡ true
-  spare : getD vs 8 0 % 16 ≡ 0
-  gone : getD vs 0 0 ≡ 0 → tabulate 11 1 (λ i. getD vs i 0) ≡ zeros 11
-  sound : getD vs 0 0 ≡ 1 → (getD vs 10 0 ≡ 0) × (getD vs 11 0 ≡ 0)
-  hearing : getD vs 12 0 ≤ 3
-  quits : leavingRule clock leave (getD vs 13 0) (getD vs 14 0) ≡ true
-  deaf : getD vs 12 0 ≡ 0 → tabulate 2 13 (λ i. getD vs i 0) ≡ zeros 2
+  kind : getD vs talkerField 0 ≤ 2
+  mark : getD vs changedField 0 ≤ 1
+  leaves : leavingRule clock leave (getD vs talkerLeavesField 0) (getD vs talkerSinceField 0) ≡ true
+  spare : getD vs priorityField 0 % 16 ≡ 0
+  gone : getD vs talkerField 0 ≡ 0
+      → tabulate (listenerField - changedField) changedField (λ i. getD vs i 0) ≡ zeros (listenerField - changedField)
+  sound : getD vs talkerField 0 ≡ 1 → (getD vs bridgeField 0 ≡ 0) × (getD vs codeField 0 ≡ 0)
+  hearing : getD vs listenerField 0 ≤ 3
+  quits : leavingRule clock leave (getD vs listenerLeavesField 0) (getD vs listenerSinceField 0) ≡ true
+  deaf : getD vs listenerField 0 ≡ 0 → (getD vs listenerLeavesField 0 ≡ 0) × (getD vs listenerSinceField 0 ≡ 0)
 
 kept : (clock leave : ℕ) (vs : List ℕ) → allTrue (cellRules clock leave vs) ≡ true → Kept clock leave vs
 unfolding cellRules
 kept clock leave vs h =
+    let at : ℕ → ℕ = λ i. getD vs i 0 in
     let r = all-true (cellRules clock leave vs) h in
     record {
-      kind = leb-true (getD vs 0 0) 2 (r .0);
-      mark = leb-true (getD vs 1 0) 1 (r .1 .0);
+      kind = leb-true (at talkerField) 2 (r .0);
+      mark = leb-true (at changedField) 1 (r .1 .0);
       leaves = r .1 .1 .0;
-      spare = eqb-true (getD vs 8 0 % 16) 0 (r .1 .1 .1 .0);
-      gone = λ e. zero-run 1 11 vs (implied (eqb (getD vs 0 0) 0) (allZero (take 11 (drop 1 vs))) (r .1 .1 .1 .1 .0) (eq-eqb (getD vs 0 0) 0 e));
-      sound = λ e.
-          let z = zero-between 10 2 vs (implied (eqb (getD vs 0 0) 1) (allZero (take 2 (drop 10 vs))) (r .1 .1 .1 .1 .1 .0) (eq-eqb (getD vs 0 0) 1 e)) in
-          (z 0 (omega arith), z 1 (omega arith));
-      hearing = leb-true (getD vs 12 0) 3 (r .1 .1 .1 .1 .1 .1 .0);
+      spare = eqb-true (at priorityField % 16) 0 (r .1 .1 .1 .0);
+      gone = λ e.
+          zero-run changedField (listenerField - changedField) vs
+          (implied (eqb (at talkerField) 0) (allZero (between changedField listenerField vs)) (r .1 .1 .1 .1 .0) (eq-eqb (at talkerField) 0 e));
+      sound = λ e. two-zero (at bridgeField) (at codeField) (implied (eqb (at talkerField) 1) _ (r .1 .1 .1 .1 .1 .0) (eq-eqb (at talkerField) 1 e));
+      hearing = leb-true (at listenerField) 3 (r .1 .1 .1 .1 .1 .1 .0);
       quits = r .1 .1 .1 .1 .1 .1 .1 .0;
-      deaf = λ e. zero-run 13 2 vs (implied (eqb (getD vs 12 0) 0) (allZero (take 2 (drop 13 vs))) (r .1 .1 .1 .1 .1 .1 .1 .1 .0) (eq-eqb (getD vs 12 0) 0 e));
+      deaf = λ e.
+          two-zero (at listenerLeavesField) (at listenerSinceField)
+          (implied (eqb (at listenerField) 0) _ (r .1 .1 .1 .1 .1 .1 .1 .1 .0) (eq-eqb (at listenerField) 0 e));
     }
 
 module _ (clock leave : ℕ) (vs : List ℕ) (k : Kept clock leave vs) where
-  talker-forth : talkerNumbers (talkerFrom vs) ≡ tabulate 12 0 (λ i. getD vs i 0)
+  talker-forth : talkerNumbers (talkerFrom vs) ≡ tabulate listenerField talkerField (λ i. getD vs i 0)
   unfolding talkerNumbers talkerFrom registrationFrom tabulate
-  talker-forth = go (getD vs 0 0) refl
+  talker-forth = go (getD vs talkerField 0) refl
     where
       at : ℕ → ℕ
       at i = getD vs i 0
 
-      go : (n : ℕ) → at 0 ≡ n → talkerNumbers (talkerFrom vs) ≡ tabulate 12 0 at
-      go zero e = rw (eq-eqb (at 0) 0 e, e) (ap (λ (l : List ℕ). 0 ∷ l) (sym (k .gone e)))
+      go : (n : ℕ) → at talkerField ≡ n → talkerNumbers (talkerFrom vs) ≡ tabulate listenerField talkerField at
+      go zero e = rw (eq-eqb (at talkerField) 0 e, e) (ap (λ (l : List ℕ). 0 ∷ l) (sym (k .gone e)))
       go (suc n) e =
-          let (kind, bridge, code) = health-forth (at 0) (at 10) (at 11) (omega arith) (k .kind) (k .sound) in
-          let (whether, when) = left clock leave (at 2) (at 3) (k .leaves) .forth in
-          rw (ne-eqb (at 0) 0 (omega arith), kind, bridge, code, whether, when, bit-forth (at 1) (k .mark), fixed-forth 4 vs (k .spare))
+          let (kind, bridge, code) = health-forth (at talkerField) (at bridgeField) (at codeField) (omega arith) (k .kind) (k .sound) in
+          let (whether, when) = left clock leave (at talkerLeavesField) (at talkerSinceField) (k .leaves) .forth in
+          rw (ne-eqb (at talkerField) 0 (omega arith), kind, bridge, code, whether, when, bit-forth (at changedField) (k .mark), fixed-forth fixedField vs (k .spare))
 
-  listener-forth : listenerNumbers (listenerFrom vs) ≡ tabulate 3 12 (λ i. getD vs i 0)
+  listener-forth : listenerNumbers (listenerFrom vs) ≡ tabulate 3 listenerField (λ i. getD vs i 0)
   unfolding listenerNumbers listenerFrom tabulate
-  listener-forth = go (getD vs 12 0) refl
+  listener-forth = go (getD vs listenerField 0) refl
     where
       at : ℕ → ℕ
       at i = getD vs i 0
 
-      go : (n : ℕ) → at 12 ≡ n → listenerNumbers (listenerFrom vs) ≡ tabulate 3 12 at
-      go zero e = rw (eq-eqb (at 12) 0 e, e) (ap (λ (l : List ℕ). 0 ∷ l) (sym (k .deaf e)))
+      go : (n : ℕ) → at listenerField ≡ n → listenerNumbers (listenerFrom vs) ≡ tabulate 3 listenerField at
+      go zero e = rw (eq-eqb (at listenerField) 0 e, e, k .deaf e .0, k .deaf e .1)
       go (suc n) e =
-          let (whether, when) = left clock leave (at 13) (at 14) (k .quits) .forth in
-          rw (ne-eqb (at 12) 0 (omega arith), whether, when, ready-forth (at 12) (omega arith) (k .hearing))
+          let (whether, when) = left clock leave (at listenerLeavesField) (at listenerSinceField) (k .quits) .forth in
+          rw (ne-eqb (at listenerField) 0 (omega arith), whether, when, ready-forth (at listenerField) (omega arith) (k .hearing))
 
   module _ (fit : Fit cellWidths vs) where
     talker-valid : ValidTalker clock leave (talkerFrom vs)
     unfolding talkerFrom registrationFrom
-    talker-valid = go (eqb (getD vs 0 0) 0)
+    talker-valid = go (eqb (getD vs talkerField 0) 0)
       where
         at : (i : ℕ) → getD vs i 0 < 256 ^ getD cellWidths i 0
         at = fit-at cellWidths vs fit
@@ -346,18 +350,18 @@ module _ (clock leave : ℕ) (vs : List ℕ) (k : Kept clock leave vs) where
         go : (t : Bool) → ValidTalker clock leave (cond t noTalker (talker (registrationFrom vs)))
         go true = tt
         go false = record {
-          fixed = fixed-valid 4 vs (at 4) (at 5) (at 6) (at 7) (at 8);
-          varying = record { health = health-valid (getD vs 0 0) (getD vs 10 0) (getD vs 11 0) (at 10) (at 11); latency = at 9 };
-          leaving = left clock leave (getD vs 2 0) (getD vs 3 0) (k .leaves) .valid;
+          fixed = fixed-valid fixedField vs (at fixedField) (at (fixedField + 1)) (at (fixedField + 2)) (at (fixedField + 3)) (at priorityField);
+          varying = record { health = health-valid (getD vs talkerField 0) (getD vs bridgeField 0) (getD vs codeField 0) (at bridgeField) (at codeField); latency = at latencyField };
+          leaving = left clock leave (getD vs talkerLeavesField 0) (getD vs talkerSinceField 0) (k .leaves) .valid;
         }
 
   listener-valid : ValidListener clock leave (listenerFrom vs)
   unfolding listenerFrom
-  listener-valid = go (eqb (getD vs 12 0) 0)
+  listener-valid = go (eqb (getD vs listenerField 0) 0)
     where
-      go : (t : Bool) → ValidListener clock leave (cond t noListener (listener (toReady (getD vs 12 0)) (toLeaving (getD vs 13 0) (getD vs 14 0))))
+      go : (t : Bool) → ValidListener clock leave (cond t noListener (listener (toReady (getD vs listenerField 0)) (toLeaving (getD vs listenerLeavesField 0) (getD vs listenerSinceField 0))))
       go true = tt
-      go false = left clock leave (getD vs 13 0) (getD vs 14 0) (k .quits) .valid
+      go false = left clock leave (getD vs listenerLeavesField 0) (getD vs listenerSinceField 0) (k .quits) .valid
 
 -- The octets of a cell.
 
@@ -392,7 +396,7 @@ module _ (clock leave : ℕ) (small : clock < 2 ^ 32) (c : Cell) (v : ValidCell 
       (cell-rules clock leave (c .talks) (v .talks) (c .hears) (v .hears))
 
 -- the numbers in a cell's fields, one by one
-numbers : (s : List ℕ) → let at : ℕ → ℕ = λ i. getD (fields cellWidths 0 s) i 0 in tabulate 12 0 at ++ tabulate 3 12 at ≡ fields cellWidths 0 s
+numbers : (s : List ℕ) → let at : ℕ → ℕ = λ i. getD (fields cellWidths 0 s) i 0 in tabulate listenerField talkerField at ++ tabulate 3 listenerField at ≡ fields cellWidths 0 s
 unfolding tabulate fields
 numbers s = refl
 
@@ -441,7 +445,7 @@ unfolding held isTalking isHearing empty
 held-empty [] a = refl
 held-empty (c ∷ l) a = rw (a .0) (held-empty l (a .1))
 
-kinds : (s : List ℕ) → (getD (fields cellWidths 0 s) 0 0 ≡ getD s 0 0) × (getD (fields cellWidths 0 s) 12 0 ≡ getD s listenerPlace 0)
+kinds : (s : List ℕ) → (getD (fields cellWidths 0 s) talkerField 0 ≡ getD s 0 0) × (getD (fields cellWidths 0 s) listenerField 0 ≡ getD s listenerPlace 0)
 unfolding fields beAt
 kinds s = (omega arith, omega arith)
 
@@ -460,13 +464,13 @@ talking-read : (s : List ℕ) → isTalking (toCell s) ≡ not (eqb (getD s 0 0)
 unfolding toCell cellFrom talkerFrom
 talking-read s =
     let vs = fields cellWidths 0 s in
-    talking-unless (eqb (getD vs 0 0) 0) (registrationFrom vs) (listenerFrom vs) ∙ ap (λ (k : ℕ). not (eqb k 0)) (kinds s .0)
+    talking-unless (eqb (getD vs talkerField 0) 0) (registrationFrom vs) (listenerFrom vs) ∙ ap (λ (k : ℕ). not (eqb k 0)) (kinds s .0)
 
 hearing-read : (s : List ℕ) → isHearing (toCell s) ≡ not (eqb (getD s listenerPlace 0) 0)
 unfolding toCell cellFrom listenerFrom
 hearing-read s =
     let vs = fields cellWidths 0 s in
-    hearing-unless (eqb (getD vs 12 0) 0) (toReady (getD vs 12 0)) (toLeaving (getD vs 13 0) (getD vs 14 0)) (talkerFrom vs)
+    hearing-unless (eqb (getD vs listenerField 0) 0) (toReady (getD vs listenerField 0)) (toLeaving (getD vs listenerLeavesField 0) (getD vs listenerSinceField 0)) (talkerFrom vs)
     ∙ ap (λ (k : ℕ). not (eqb k 0)) (kinds s .1)
 
 -- the test on octets is the test on the cells read from them

@@ -91,6 +91,9 @@ unfolding tabulate
 tabulate-zeros zero p f h = refl
 tabulate-zeros (suc n) p f h = rw (h p (omega arith) (omega arith), tabulate-zeros n (suc p) f (λ i a b. h i (omega arith) (omega arith)))
 
+pub two-zero : (a b : ℕ) → allZero (a ∷ b ∷ []) ≡ true → (a ≡ 0) × (b ≡ 0)
+two-zero a b h = (zero-at (a ∷ b ∷ []) h 0, zero-at (a ∷ b ∷ []) h 1)
+
 pub zero-run : (a n : ℕ) (vs : List ℕ) → allZero (take n (drop a vs)) ≡ true → tabulate n a (λ i. getD vs i 0) ≡ zeros n
 zero-run a n vs h =
     tabulate-zeros n a (λ i. getD vs i 0)

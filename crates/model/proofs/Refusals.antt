@@ -13,8 +13,8 @@ use lib.Dec.{ltb, leb, eqb}
 use borrow.Author.Tests.{ltb-true, ltb-false, leb-true, leb-false, eqb-true, eqb-false, not-true, not-false, lt-ltb, le-ltb, eq-eqb, ne-eqb}
 use Rattle.octets.specs.Be.{beAt}
 use Rattle.octets.specs.Parts.{part}
-use Rattle.model.specs.FrameLayout.{longestPdu}
 use Rattle.model.specs.Layout.{tableLength}
+use Rattle.model.specs.FrameLayout.{longestPdu}
 use Rattle.model.specs.Lists.{All, Octets}
 use Rattle.model.specs.State.{Settings, Bridge}
 use Rattle.model.specs.Registrations.{refused, Answer, received, applyAll, add, together, ids, joins}

@@ -6,8 +6,8 @@ use mathlib.Core.Bool.{cond, not}
 use Prim.Native.Nat.{ℕ}
 use lib.ListN.{length, drop}
 use lib.Dec.{ltb, eqb}
-use Rattle.model.specs.FrameLayout.{longestPdu}
 use Rattle.model.specs.Layout.{tableLength}
+use Rattle.model.specs.FrameLayout.{longestPdu}
 use Rattle.model.specs.State.{Bridge, Settings, started}
 use Rattle.model.specs.Registrations.{Answer, received, asks}
 use Rattle.model.specs.Frames.{reading, wrongPort}

@@ -201,6 +201,9 @@ totalBPlace = before 1 totalsWidths
 
 -- Fields of a cell by their index among its numbers, and their places.
 
+abbrev pub talkerField : ℕ
+talkerField = 0
+
 abbrev pub changedField : ℕ
 changedField = 1
 
@@ -240,6 +243,9 @@ listenerSinceField = 14
 -- all of them; a Talker's are those before the Listener's
 abbrev pub cellFields : ℕ
 cellFields = 15
+
+abbrev pub talkerPlace : ℕ
+talkerPlace = before talkerField cellWidths
 
 abbrev pub changedPlace : ℕ
 changedPlace = before changedField cellWidths
@@ -281,25 +287,49 @@ listenerLeavesPlace = before listenerLeavesField cellWidths
 abbrev pub listenerSincePlace : ℕ
 listenerSincePlace = before listenerSinceField cellWidths
 
--- Places in a result.
+-- Fields of a result by their index among its numbers, and their places.
+
+abbrev pub columnField : ℕ
+columnField = 0
+
+abbrev pub latencyOutField : ℕ
+latencyOutField = 1
+
+abbrev pub failureField : ℕ
+failureField = 2
+
+abbrev pub failureCodeField : ℕ
+failureCodeField = 3
+
+abbrev pub entryField : ℕ
+entryField = 4
+
+abbrev pub ageField : ℕ
+ageField = 5
+
+abbrev pub declaredField : ℕ
+declaredField = 6
+
+abbrev pub columnPlace : ℕ
+columnPlace = before columnField resultWidths
 
 abbrev pub latencyOutPlace : ℕ
-latencyOutPlace = before 1 resultWidths
+latencyOutPlace = before latencyOutField resultWidths
 
 abbrev pub failurePlace : ℕ
-failurePlace = before 2 resultWidths
+failurePlace = before failureField resultWidths
 
 abbrev pub failureCodePlace : ℕ
-failureCodePlace = before 3 resultWidths
+failureCodePlace = before failureCodeField resultWidths
 
 abbrev pub entryPlace : ℕ
-entryPlace = before 4 resultWidths
+entryPlace = before entryField resultWidths
 
 abbrev pub agePlace : ℕ
-agePlace = before 5 resultWidths
+agePlace = before ageField resultWidths
 
 abbrev pub declaredPlace : ℕ
-declaredPlace = before 6 resultWidths
+declaredPlace = before declaredField resultWidths
 
 -- Units of the settings' word: its number divided by one gives the field above, its remainder those below.
 

@@ -1,6 +1,6 @@
 -- The lent table and the settings, as octets and back, and the rules of their form (docs/TABLE.md; 01, "Numbers given back":
 -- 11 and 12). A table is: settings, clock, streams held, totals of eight ports, 64 stream records. A stream record is: StreamID,
--- settled values, eight cells, eight results. What is not used is zero.
+-- settled values, eight cells, eight results. What is not used is zero. The number behind a rule is its number in docs/TABLE.md.
 use mathlib.Core.List.{List, [], _∷_, _++_}
 use mathlib.Core.Bool.{Bool, true, false, cond, not, _&&_, _||_}
 use Prim.Native.Nat.{ℕ, zero, suc, _+_, _*_, _-_, _/_, _%_}
@@ -9,7 +9,7 @@ use lib.Dec.{ltb, leb, eqb}
 use Rattle.octets.specs.Be.{beAt}
 use Rattle.octets.specs.Parts.{part, zeros}
 use Rattle.octets.specs.Fields.{fields, packed, flat}
-use Rattle.model.specs.Layout.{cellSize, cellWidths, cellsPlace, cellsSize, clockPlace, clockWidths, countPlace, headWidths, listenerPlace, nameWidths, portPlace, portSize, portWidths, portsPlace, portsUnit, priorityAUnit, priorityBUnit, recordSize, recordsPlace, resultSize, resultWidths, resultsPlace, resultsSize, settingsSize, settledPriorityPlace, tableLength, totalBPlace, totalSize, totalsPlace, totalsSize, totalsWidths, wordPlace}
+use Rattle.model.specs.Layout.{ageField, bridgeField, cellSize, cellWidths, cellsPlace, cellsSize, changedField, clockPlace, clockWidths, codeField, columnField, countPlace, declaredField, entryField, failureCodeField, failureField, headWidths, latencyOutField, listenerField, listenerLeavesField, listenerPlace, listenerSinceField, nameWidths, portPlace, portSize, portWidths, portsPlace, portsUnit, priorityAUnit, priorityBUnit, priorityField, recordSize, recordsPlace, resultSize, resultWidths, resultsPlace, resultsSize, settingsSize, settledPriorityPlace, tableLength, talkerField, talkerLeavesField, talkerSinceField, totalBPlace, totalSize, totalsPlace, totalsSize, totalsWidths, wordPlace}
 use Rattle.model.specs.Lists.{allTrue, implies, parts, bit, isOne}
 use Rattle.model.specs.State.{Port, Settings, Leaving, stays, since, Fixed, Health, sound, broken, Registration, Talker, noTalker, talker, Ready, askingFailed, ready, readyFailed, Listener, noListener, listener, Cell, Column, none, advertise, failed, Entry, noEntry, filters, forwards, Declared, nothing, tells, Result, Stream, Totals, Bridge}
 use Rattle.model.specs.Frames.{priorityOf, rankOf}
@@ -71,11 +71,11 @@ everyPart n rule (suc k) s = rule (take n s) && everyPart n rule k (drop n s)
 -- "ports 4 (1 to 8), class A priority 3, class B priority 3 (different), leave time 14 (1 or more, hundredths)"
 unfoldable pub settingsRules : List ℕ → List Bool
 settingsRules s =
-    leb 1 (portsField s)
-    ∷ leb (portsField s) 8
-    ∷ not (eqb (beAt 3 s wordPlace / priorityAUnit % 8) (beAt 3 s wordPlace / priorityBUnit % 8))
-    ∷ leb 1 (beAt 3 s wordPlace % priorityBUnit)
-    ∷ everyPart portSize portRule (portsField s) (drop portsPlace s)
+    leb 1 (portsField s)  -- 2
+    ∷ leb (portsField s) 8  -- 2
+    ∷ not (eqb (beAt 3 s wordPlace / priorityAUnit % 8) (beAt 3 s wordPlace / priorityBUnit % 8))  -- 3
+    ∷ leb 1 (beAt 3 s wordPlace % priorityBUnit)  -- 4
+    ∷ everyPart portSize portRule (portsField s) (drop portsPlace s)  -- 5
     ∷ []
 
 -- 11: settings "Length 11 + 22 x ports", and as laid out
@@ -163,6 +163,10 @@ cellOctets c = packed cellWidths (cellNumbers c)
 unfoldable pub toCell : List ℕ → Cell
 toCell s = cellFrom (fields cellWidths 0 s)
 
+-- the numbers of the fields from a on, up to b
+abbrev pub between : ℕ → ℕ → List ℕ → List ℕ
+between a b vs = take (b - a) (drop a vs)
+
 -- numbers that are all zero
 unfoldable pub allZero : List ℕ → Bool
 allZero [] = true
@@ -173,17 +177,19 @@ unfoldable pub leavingRule : ℕ → ℕ → ℕ → ℕ → Bool
 leavingRule clock leave k t =
     cond (eqb k 0) (eqb t 0) (eqb k 1 && (leb t clock && ltb clock (t + leave)))
 
+-- the rules of a cell's numbers
 unfoldable pub cellRules : ℕ → ℕ → List ℕ → List Bool
 cellRules clock leave vs =
-    leb (getD vs 0 0) 2
-    ∷ leb (getD vs 1 0) 1
-    ∷ leavingRule clock leave (getD vs 2 0) (getD vs 3 0)
-    ∷ eqb (getD vs 8 0 % 16) 0
-    ∷ implies (eqb (getD vs 0 0) 0) (allZero (take 11 (drop 1 vs)))
-    ∷ implies (eqb (getD vs 0 0) 1) (allZero (take 2 (drop 10 vs)))
-    ∷ leb (getD vs 12 0) 3
-    ∷ leavingRule clock leave (getD vs 13 0) (getD vs 14 0)
-    ∷ implies (eqb (getD vs 12 0) 0) (allZero (take 2 (drop 13 vs)))
+    let at : ℕ → ℕ = λ i. getD vs i 0 in
+    leb (at talkerField) 2  -- 14
+    ∷ leb (at changedField) 1  -- 15
+    ∷ leavingRule clock leave (at talkerLeavesField) (at talkerSinceField)  -- 16
+    ∷ eqb (at priorityField % 16) 0  -- 17
+    ∷ implies (eqb (at talkerField) 0) (allZero (between changedField listenerField vs))  -- 18
+    ∷ implies (eqb (at talkerField) 1) (allZero (at bridgeField ∷ at codeField ∷ []))  -- 19
+    ∷ leb (at listenerField) 3  -- 14
+    ∷ leavingRule clock leave (at listenerLeavesField) (at listenerSinceField)  -- 16
+    ∷ implies (eqb (at listenerField) 0) (allZero (at listenerLeavesField ∷ at listenerSinceField ∷ []))  -- 18
     ∷ []
 
 unfoldable pub cellFormed : ℕ → ℕ → List ℕ → Bool
@@ -245,17 +251,19 @@ resultOctets r = packed resultWidths (resultNumbers r)
 unfoldable pub toResult : List ℕ → Result
 toResult s = resultFrom (fields resultWidths 0 s)
 
+-- the rules of a result's numbers
 unfoldable pub resultRules : ℕ → List ℕ → List Bool
 resultRules clock vs =
-    leb (getD vs 0 0) 2
-    ∷ implies (eqb (getD vs 0 0) 0) (eqb (getD vs 1 0) 0)
-    ∷ implies (leb (getD vs 0 0) 1) (allZero (take 2 (drop 2 vs)))
-    ∷ leb (getD vs 4 0) 2
-    ∷ implies (not (eqb (getD vs 0 0) 0)) (leb 1 (getD vs 4 0))
-    ∷ implies (not (eqb (getD vs 0 0) 1)) (leb (getD vs 4 0) 1)
-    ∷ implies (eqb (getD vs 4 0) 0) (eqb (getD vs 5 0) 0)
-    ∷ leb (getD vs 5 0) (clock / 100)
-    ∷ leb (getD vs 6 0) 3
+    let at : ℕ → ℕ = λ i. getD vs i 0 in
+    leb (at columnField) 2  -- 20
+    ∷ implies (eqb (at columnField) 0) (eqb (at latencyOutField) 0)  -- 21
+    ∷ implies (leb (at columnField) 1) (allZero (at failureField ∷ at failureCodeField ∷ []))  -- 22
+    ∷ leb (at entryField) 2  -- 20
+    ∷ implies (not (eqb (at columnField) 0)) (leb 1 (at entryField))  -- 23
+    ∷ implies (not (eqb (at columnField) 1)) (leb (at entryField) 1)  -- 23
+    ∷ implies (eqb (at entryField) 0) (eqb (at ageField) 0)  -- 24
+    ∷ leb (at ageField) (clock / 100)  -- 24
+    ∷ leb (at declaredField) 3  -- 20
     ∷ []
 
 unfoldable pub resultFormed : ℕ → List ℕ → Bool
@@ -290,12 +298,12 @@ holds (suc k) s = not (eqb (getD s 0 0) 0) || not (eqb (getD s listenerPlace 0) 
 -- at a bridge of so many ports; what belongs to no port is zero
 unfoldable pub streamRules : ℕ → ℕ → ℕ → List ℕ → List Bool
 streamRules ports clock leave s =
-    eqb (getD s settledPriorityPlace 0 % 16) 0
-    ∷ everyPart cellSize (cellFormed clock leave) ports (cellsPart s)
-    ∷ holds ports (cellsPart s)
-    ∷ allZero (drop (ports * cellSize) (cellsPart s))
-    ∷ everyPart resultSize (resultFormed clock) ports (resultsPart s)
-    ∷ allZero (drop (ports * resultSize) (resultsPart s))
+    eqb (getD s settledPriorityPlace 0 % 16) 0  -- 11
+    ∷ everyPart cellSize (cellFormed clock leave) ports (cellsPart s)  -- 14 to 19
+    ∷ holds ports (cellsPart s)  -- 12
+    ∷ allZero (drop (ports * cellSize) (cellsPart s))  -- 13
+    ∷ everyPart resultSize (resultFormed clock) ports (resultsPart s)  -- 20 to 24
+    ∷ allZero (drop (ports * resultSize) (resultsPart s))  -- 13
     ∷ []
 
 unfoldable pub streamFormed : ℕ → ℕ → ℕ → List ℕ → Bool
@@ -360,13 +368,13 @@ unfoldable pub tableRules : List ℕ → List Bool
 tableRules t =
     let s = settingsPart t in
     let n = countField t in
-    allTrue (settingsRules s)
-    ∷ allZero (drop (portPlace (portsField s)) s)
-    ∷ totalsWithin (parts totalSize toTotals 8 (totalsPart t)) (toSettings s .ports)
-    ∷ leb n 64
-    ∷ everyPart recordSize (streamFormed (portsField s) (clockField t) (toSettings s .leaveTime)) n (recordsPart t)
-    ∷ rising (parts recordSize idOf n (recordsPart t))
-    ∷ allZero (drop (n * recordSize) (recordsPart t))
+    allTrue (settingsRules s)  -- 2 to 5
+    ∷ allZero (drop (portPlace (portsField s)) s)  -- 6
+    ∷ totalsWithin (parts totalSize toTotals 8 (totalsPart t)) (toSettings s .ports)  -- 7
+    ∷ leb n 64  -- 8
+    ∷ everyPart recordSize (streamFormed (portsField s) (clockField t) (toSettings s .leaveTime)) n (recordsPart t)  -- 11 to 24
+    ∷ rising (parts recordSize idOf n (recordsPart t))  -- 9
+    ∷ allZero (drop (n * recordSize) (recordsPart t))  -- 10
     ∷ []
 
 -- 12: "table has the wrong length (one length for every port count) or breaks a form rule"
