@@ -206,22 +206,22 @@ pub fn typed_vector(list: &[u8], at: usize, kind: u8) -> VectorRead
     };
     let v = vector(list, at, octets, kind == 3);
     match v {
-        VectorRead::Refused(number) => VectorRead::Refused(number),
+        VectorRead::Refused(_) => v,
         VectorRead::EndMark => {
             if list.len() - at == 2 {
-                return VectorRead::EndMark;
+                return v;
             }
             VectorRead::Refused(refusal::PAST_END)
         }
-        VectorRead::Vector(head) => {
-            let values = head.values;
+        VectorRead::Vector(w) => {
+            let values = w.values;
             if 0 < values {
                 let first = first_value(list, v);
                 if runs_past(kind, first, values - 1) {
                     return VectorRead::Refused(refusal::VALUE);
                 }
             }
-            VectorRead::Vector(head)
+            v
         }
     }
 }

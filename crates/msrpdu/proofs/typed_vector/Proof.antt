@@ -22,19 +22,19 @@ typed c = of-type _ _ _ _ _ (sym (c .before .before .before .before .type-read .
 sub-if1 : tie.Need-sub-if1
 sub-if1 c =
     let y = typed (c .before .before) in
-    omega (arith, end-within (y .type) _ _ (sym (y .answer) ∙ c .enum-told .given .1))
+    omega (arith, end-within (y .type) _ _ (sym (y .answer) ∙ c .enum-told2 .given .1))
 
 returns-2 : tie.Need-returns-2
 returns-2 c =
     let y = typed (c .before .before .before) in
-    let a = sym (y .answer) ∙ c .before .enum-told .given .1 in
-    rw (y .is) (sym (typed-end (y .type) _ _ a (omega (arith, end-within (y .type) _ _ a))))
+    let a = sym (y .answer) ∙ c .before .enum-told2 .given .1 in
+    rw (y .is) (c .before .enum-told2 .given .1 ∙ sym (typed-end (y .type) _ _ a (omega (arith, end-within (y .type) _ _ a))))
 
 runs-past-requires : tie.Need-runs-past-requires
 unfolding typeRead
 runs-past-requires c κs =
     let y = typed (c .before .before .before .before .before) in
-    let a = sym (y .answer) ∙ c .before .before .before .v2 .given .1 in
+    let a = sym (y .answer) ∙ c .before .before .before .v .given .1 in
     let e = ap length (c .first-value .ensures) ∙ first-octets (y .type) _ _ _ a in
     (omega (arith, few-values (y .type) _ _ _ a), rw (y .is, e))
 
@@ -43,29 +43,29 @@ unfolding pastField
 returns-3 c =
     let y = typed (c .before .before .before .before .before .before .before) in
     let z = rw (y .is, c .before .before .first-value .ensures) at (c .before .runs-past .ensures) in
-    rw (y .is) (sym (typed-past (y .type) _ _ _ (sym (y .answer) ∙ c .before .before .before .before .before .v2 .given .1) (c .before .before .before .if2 .taken) _ z (c .if3 .taken)))
+    rw (y .is) (sym (typed-past (y .type) _ _ _ (sym (y .answer) ∙ c .before .before .before .before .before .v .given .1) (c .before .before .before .if2 .taken) _ z (c .if3 .taken)))
 
 returns-4 : tie.Need-returns-4
 returns-4 c =
-    let y = typed (c .before .before .before) in
-    rw (y .is) (sym (typed-refused (y .type) _ _ _ (sym (y .answer) ∙ c .before .v .given .1)))
+    let y = typed (c .before .before) in
+    rw (y .is) (c .enum-told .given .1 ∙ sym (typed-refused (y .type) _ _ _ (sym (y .answer) ∙ c .enum-told .given .1)))
 
 returns-5 : tie.Need-returns-5
 returns-5 c =
     let y = typed (c .before .before .before) in
-    rw (y .is) (sym (typed-early (y .type) _ _ (sym (y .answer) ∙ c .before .enum-told .given .1) (λ e. omega (arith, c .if1 .left))))
+    rw (y .is) (sym (typed-early (y .type) _ _ (sym (y .answer) ∙ c .before .enum-told2 .given .1) (λ e. omega (arith, c .if1 .left))))
 
 returns-6 : tie.Need-returns-6
 unfolding pastField
 returns-6 c =
     let y = typed (c .before .before .before .before .before .before .before) in
     let z = rw (y .is, c .before .before .first-value .ensures) at (c .before .runs-past .ensures) in
-    rw (y .is) (sym (typed-within (y .type) _ _ _ (sym (y .answer) ∙ c .before .before .before .before .before .v2 .given .1) (c .before .before .before .if2 .taken) _ z (c .if3 .left)))
+    rw (y .is) (sym (typed-within (y .type) _ _ _ (sym (y .answer) ∙ c .before .before .before .before .before .v .given .1) (c .before .before .before .if2 .taken) _ z (c .if3 .left)))
 
 returns-7 : tie.Need-returns-7
 returns-7 c =
     let y = typed (c .before .before .before .before) in
-    rw (y .is) (sym (typed-none (y .type) _ _ _ (sym (y .answer) ∙ c .before .before .v2 .given .1) (omega arith)))
+    rw (y .is) (sym (typed-none (y .type) _ _ _ (sym (y .answer) ∙ c .before .before .v .given .1) (omega arith)))
 
 pub typed-vector-spec : {M : Type 1} → statement M
 typed-vector-spec =
