@@ -9,7 +9,7 @@ use lib.ListN.{length, getD}
 use Rattle.octets.specs.Parts.{zeros}
 use Rattle.octets.specs.Fields.{fields, Fit, flat}
 use Rattle.octets.proofs.Fields.{fields-of-packed, fit-at}
-use Rattle.model.specs.Layout.{cellSize, cellWidths, fixedWidths, nameWidths, recordSize, resultSize, resultWidths}
+use Rattle.model.specs.Layout.{bridgeField, cellSize, cellWidths, codeField, fixedField, fixedWidths, latencyField, listenerSinceField, nameWidths, priorityField, recordSize, resultSize, resultWidths, talkerSinceField, vlanField}
 use Rattle.model.specs.Lists.{All, parts, Octets}
 use Rattle.model.specs.State.{Leaving, stays, since, Fixed, Health, sound, broken, Talker, noTalker, talker, Listener, noListener, listener, Cell, Result, Stream, Bridge}
 use Rattle.model.specs.Registrations.{ids}
@@ -59,17 +59,17 @@ fit-talker : (t : Talker) (after : List ℕ) → ((i : ℕ) → getD (talkerNumb
 unfolding talkerNumbers fixedNumbers Fit
 fit-talker noTalker after at rank = tt
 fit-talker (talker r) after at rank = record {
-  fixed = fit-fixed (r .fixed) (at 4 also at 5 also at 6 also at 7 also at 8 also tt) rank;
-  varying = record { health = fit-health (r .varying .health) (at 10) (at 11); latency = at 9 };
-  leaving = fit-leaving (r .leaving) (at 3);
+  fixed = fit-fixed (r .fixed) (at fixedField also at vlanField also at (vlanField + 1) also at (vlanField + 2) also at priorityField also tt) rank;
+  varying = record { health = fit-health (r .varying .health) (at bridgeField) (at codeField); latency = at latencyField };
+  leaving = fit-leaving (r .leaving) (at talkerSinceField);
 }
 
 fit-listener : (t : Talker) (h : Listener) → ((i : ℕ) → getD (talkerNumbers t ++ listenerNumbers h) i 0 < 256 ^ getD cellWidths i 0)
     → ValidListener latest longest h
 unfolding talkerNumbers listenerNumbers fixedNumbers
 fit-listener t noListener at = tt
-fit-listener noTalker (listener r l) at = fit-leaving l (at 14)
-fit-listener (talker k) (listener r l) at = fit-leaving l (at 14)
+fit-listener noTalker (listener r l) at = fit-leaving l (at listenerSinceField)
+fit-listener (talker k) (listener r l) at = fit-leaving l (at listenerSinceField)
 
 pub fit-cell : (c : Cell) → FitCell c → ValidCell latest longest c
 unfolding cellNumbers
