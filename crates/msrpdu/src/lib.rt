@@ -4,6 +4,7 @@ ghost use Prim.Native.Nat.{_+_, _^_, _≤_, _<_};
 ghost use lib.ListN.{length, getD};
 ghost use Rattle.model.specs.Frames.{typeOctet, fourLength, overpacked, headerIn, walk, threePacked};
 ghost use Rattle.msrpdu.specs.Reader.{typeRead, headOf, vectorRead, typedRead, firstPart, messageMeant, messageRead, numberOf, eventIn, fourIn, pastField, streamIdIn};
+use model::pdu;
 use model::refusal;
 
 // What the AttributeType octet decides: a known type with its octets of FirstValue, a list to skip unread, or a refusal.
@@ -18,10 +19,10 @@ pub fn type_read(version: u8, kind: u8) -> TypeRead
 {
     match kind {
         0 => TypeRead::Refused,
-        1 => TypeRead::Known(25),
-        2 => TypeRead::Known(34),
-        3 => TypeRead::Known(8),
-        4 => TypeRead::Known(4),
+        1 => TypeRead::Known(pdu::ADVERTISE),
+        2 => TypeRead::Known(pdu::FAILED),
+        3 => TypeRead::Known(pdu::LISTENER),
+        4 => TypeRead::Known(pdu::DOMAIN),
         5..=255 => {
             if version == 0 {
                 return TypeRead::Refused;
@@ -289,7 +290,7 @@ pub fn check(pdu: &[u8]) -> u8
     if n == 0 {
         return refusal::PDU_LENGTH;
     }
-    if 1500 < n {
+    if pdu::LONGEST < n {
         return refusal::PDU_LENGTH;
     }
     let version = pdu[0];
