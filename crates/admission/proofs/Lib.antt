@@ -1,7 +1,6 @@
 pub mod Kept
 pub mod ByImportance
 pub mod Admissions
-pub mod RecordOctets
 pub mod FitKept
 pub mod Laws
-pub mod Admitted
+pub mod Turns

@@ -1,26 +1,56 @@
--- `admission::store_total` meets its contract. Assumes nothing.
-use Prim.Native.Nat.{_+_, _*_, _≤_}
-use mathlib.Core.Path.{refl}
+use Prim.Native.Nat.{ℕ, suc, _+_, _-_, _*_, _≤_, _<_}
+use mathlib.Core.Path.{_≡_, refl, sym, ap, _∙_}
 use native.Mathlib.Omega.{arith}
-use lib.ListN.{length}
+use lib.ListN.{length, getD, take, drop}
 use borrow.Author.Needs.{needs}
 use Rattle.admission.proofs.store_total.Statement.{statement}
-use Rattle.admission.proofs.Laws.{lent-size, total-stored}
 use Rattle.admission.proofs.store_total.Tie as tie
+use Rattle.admission.proofs.store_total.Reads as reads
+use Rattle.admission.proofs.store_total.Lts as lts
+use Rattle.admission.proofs.put_total.Reads as put-total-reads
+use Rattle.table.proofs.totals_in.Reads as totals-in-reads
 
+-- src/lib.rt:214:9
+totals-in-requires : tie.Need-totals-in-requires
+totals-in-requires c κs = search needs
+
+-- src/lib.rt:215:29
+add-put-total : tie.Need-add-put-total
+add-put-total c = search needs
+
+-- src/lib.rt:215:15
+sub-put-total : tie.Need-sub-put-total
+sub-put-total c = search needs
+
+-- src/lib.rt:215:15
+part-put-total-start : tie.Need-part-put-total-start
+part-put-total-start c = search needs
+
+-- src/lib.rt:215:15
+part-put-total-end : tie.Need-part-put-total-end
+part-put-total-end c = search needs
+
+-- src/lib.rt:215:5
 put-total-requires : tie.Need-put-total-requires
-put-total-requires c κs =
-    let a = c .before .before .args in
-    let room : 192 + 10 * a .p + 10 ≤ length (a .table .now) = omega arith in
-    lent-size _ 10 _ room
+put-total-requires c κs = search needs
 
+-- src/lib.rt:209:1
+same-length : tie.Need-same-length
+same-length c = search needs
+
+-- src/lib.rt:209:1
 returns : tie.Need-returns
-returns c =
-    let pre = c .before .before .before .before .before .pre in
-    total-stored _ (pre .0) _ _ _ _ _ (pre .2) refl (c .before .before .put-total .ensures)
+returns c = ?
 
 pub store-total-spec : {M : Type 1} → statement M
 store-total-spec =
     tie.close
-    (tie.spec (λ c. search needs) (λ c. search needs) (λ c. search needs) (λ c. search needs) (λ c. search needs)
-    (λ c. search needs) put-total-requires (λ c. search needs) returns)
+    (tie.spec
+    totals-in-requires
+    add-put-total
+    sub-put-total
+    part-put-total-start
+    part-put-total-end
+    put-total-requires
+    same-length
+    returns)
