@@ -4,3 +4,4 @@ pub mod Admissions
 pub mod FitKept
 pub mod Laws
 pub mod Turns
+pub mod Admitted

@@ -1,14 +1,19 @@
-use Prim.Native.Nat.{ℕ, suc, _+_, _-_, _*_, _≤_, _<_}
-use mathlib.Core.Path.{_≡_, refl, sym, ap, _∙_}
+-- `admission::note` meets its contract. Assumes nothing.
+use Prim.Native.Nat.{_<_}
+use mathlib.Core.Path.{sym, _∙_}
 use native.Mathlib.Omega.{arith}
-use lib.ListN.{length, getD, take, drop}
+use lib.ListN.{length}
 use borrow.Author.Needs.{needs}
+use Rattle.table.proofs.ByPlace.{stands, few-before}
+use Rattle.admission.proofs.Laws.{noted, not-noted}
 use Rattle.admission.proofs.note.Statement.{statement}
 use Rattle.admission.proofs.note.Tie as tie
-use Rattle.admission.proofs.note.Reads as reads
-use Rattle.admission.proofs.note.Lts as lts
-use Rattle.admission.proofs.order_of.Reads as order-of-reads
-use Rattle.admission.proofs.waiting.Reads as waiting-reads
+
+-- one number more has room
+room : (c : tie.After-order-of) → c .before .before .before .before .before .args .n < length (c .before .before .before .before .before .args .numbers .now)
+room c =
+    let pre = c .before .before .before .before .before .pre in
+    omega (arith, pre .few, pre .room, few-before (stands (pre .stands)))
 
 -- src/lib.rt:72:8
 waiting-requires : tie.Need-waiting-requires
@@ -20,15 +25,15 @@ order-of-requires c κs = search needs
 
 -- src/lib.rt:73:9
 mul-numbers : tie.Need-mul-numbers
-mul-numbers c = search needs
+mul-numbers c = omega (arith, room c, c .before .before .before .before .before .pre .room)
 
 -- src/lib.rt:73:9
 slice-write-numbers : tie.Need-slice-write-numbers
-slice-write-numbers c = search needs
+slice-write-numbers c = room c
 
 -- src/lib.rt:74:16
 add-result : tie.Need-add-result
-add-result c = search needs
+add-result c = omega (arith, room c)
 
 -- src/lib.rt:74:9
 same-length : tie.Need-same-length
@@ -36,11 +41,14 @@ same-length c = search needs
 
 -- src/lib.rt:74:9
 returns : tie.Need-returns
-returns c = ?
+returns c =
+    (rw (c .order-of .ensures) (noted _ _ _ _ (room c) (sym (c .before .before .waiting .ensures) ∙ c .before .if1 .taken)), omega (arith, c .before .before .before .before .before .pre .few))
 
 -- src/lib.rt:64:1
 returns-2 : tie.Need-returns-2
-returns-2 c = ?
+returns-2 c =
+    let a = c .before .before .before .before .args in
+    (not-noted (a .numbers .now) (a .n) _ _ (sym (c .before .waiting .ensures) ∙ c .if1 .left), omega (arith, c .before .before .before .before .pre .few))
 
 pub note-spec : {M : Type 1} → statement M
 note-spec =

@@ -1,14 +1,8 @@
-use Prim.Native.Nat.{ℕ, suc, _+_, _-_, _*_, _≤_, _<_}
-use mathlib.Core.Path.{_≡_, refl, sym, ap, _∙_}
-use native.Mathlib.Omega.{arith}
-use lib.ListN.{length, getD, take, drop}
+-- `admission::store_total` meets its contract. Assumes nothing.
 use borrow.Author.Needs.{needs}
+use Rattle.table.proofs.ByPlace.{lent-totals-at, left-totals-at}
 use Rattle.admission.proofs.store_total.Statement.{statement}
 use Rattle.admission.proofs.store_total.Tie as tie
-use Rattle.admission.proofs.store_total.Reads as reads
-use Rattle.admission.proofs.store_total.Lts as lts
-use Rattle.admission.proofs.put_total.Reads as put-total-reads
-use Rattle.table.proofs.totals_in.Reads as totals-in-reads
 
 -- src/lib.rt:214:9
 totals-in-requires : tie.Need-totals-in-requires
@@ -40,7 +34,10 @@ same-length c = search needs
 
 -- src/lib.rt:209:1
 returns : tie.Need-returns
-returns c = ?
+returns c =
+    let pre = c .before .before .before .before .before .before .before .pre in
+    let there = c .before .before .before .before .totals-in .ensures .0 in
+    left-totals-at pre _ there _ _ (c .before .before .put-total .ensures _ (lent-totals-at pre _ there .laid))
 
 pub store-total-spec : {M : Type 1} → statement M
 store-total-spec =
