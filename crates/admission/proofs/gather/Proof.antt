@@ -34,8 +34,7 @@ note-requires : tie.Need-note-requires Inv-loop μ-loop
 note-requires c κs =
     let port = c .before .before .before .before .before .before .pre .0 in
     let inv = c .before .before .loop .inv in
-    let held = omega (arith, c .before .before .before .count .ensures .0) in
-    record { stands = record { laid = port .laid; held = held; port = port .port }; few = inv .1; room = inv .2 }
+    record { stands = record { laid = port .laid; held = omega (arith, c .before .before .before .count .ensures .0); port = port .port }; few = inv .1; room = inv .2 }
 
 -- src/lib.rt:89:9
 add-k : tie.Need-add-k Inv-loop μ-loop
