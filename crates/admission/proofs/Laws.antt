@@ -1,5 +1,5 @@
 -- Each step of stage 2, from the octets that the code reads and writes to the definitions.
-use Prim.Native.Nat.{ℕ, zero, suc, _+_, _-_, _*_, _/_, _%_, _≤_, _<_}
+use Prim.Native.Nat.{ℕ, zero, suc, _+_, _*_, _/_, _%_, _<_}
 use mathlib.Core.Path.{_≡_, refl, sym, ap, _∙_}
 use mathlib.Core.List.{List, [], _∷_, _++_, append-assoc, append-nil}
 use mathlib.Core.Bool.{Bool, true, false, not}
@@ -48,7 +48,7 @@ module _ (b : Bool) where
 -- A stream x on the port at place p, by the octets of its result there and of its settled values.
 
 -- where priority and rank stand among these
-abbrev pub priorityIn : ℕ
+abbrev priorityIn : ℕ
 priorityIn = before 4 fixedWidths
 
 advertised-number : (k b n : ℕ) → isAdvertise (toColumn k b n) ≡ eqb k 1

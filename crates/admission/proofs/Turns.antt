@@ -1,6 +1,6 @@
 -- The turns of streams, one after another, on a laid-out table.
 use Prim.Native.Nat.{ℕ, suc, _+_, _-_, _%_, _≤_, _<_}
-use mathlib.Core.Path.{_≡_, refl, sym, ap, _∙_}
+use mathlib.Core.Path.{_≡_, refl, ap, _∙_}
 use mathlib.Core.List.{List, [], _∷_}
 use mathlib.Core.Bool.{true, false}
 use native.Mathlib.Omega.{arith}
@@ -20,7 +20,7 @@ use Rattle.table.specs.Updates.{resulting, streamAt, withStream}
 use Rattle.table.specs.Places.{StandsOn}
 use Rattle.table.proofs.ByPlace.{stands, stream-fits, stream-same, stream-replaced-laid, stream-replaced-read}
 use Rattle.columns.specs.Stages.{lacking, withResult}
-use Rattle.admission.specs.Sharing.{demandIn, isHeard, usedAfter, afterTurn, usedBy, afterTurns, usedNext, turnAt, usedOn, turnsOn}
+use Rattle.admission.specs.Sharing.{demandIn, isHeard, usedAfter, afterTurn, usedBy, afterTurns, turnAt, usedOn, turnsOn}
 use Rattle.admission.specs.Numbers.{Numbered, Turned}
 use Rattle.admission.proofs.FitKept.{turn-fits, turn-id}
 

@@ -15,36 +15,19 @@ room c =
     let pre = c .before .before .before .before .before .pre in
     omega (arith, pre .few, pre .room, few-before (stands (pre .stands)))
 
--- src/lib.rt:72:8
-waiting-requires : tie.Need-waiting-requires
-waiting-requires c κs = search needs
-
--- src/lib.rt:73:22
-order-of-requires : tie.Need-order-of-requires
-order-of-requires c κs = search needs
-
--- src/lib.rt:73:9
 mul-numbers : tie.Need-mul-numbers
 mul-numbers c = omega (arith, room c, c .before .before .before .before .before .pre .room)
 
--- src/lib.rt:73:9
 slice-write-numbers : tie.Need-slice-write-numbers
 slice-write-numbers c = room c
 
--- src/lib.rt:74:16
 add-result : tie.Need-add-result
 add-result c = omega (arith, room c)
 
--- src/lib.rt:74:9
-same-length : tie.Need-same-length
-same-length c = search needs
-
--- src/lib.rt:74:9
 returns : tie.Need-returns
 returns c =
     (rw (c .order-of .ensures) (noted _ _ _ _ (room c) (sym (c .before .before .waiting .ensures) ∙ c .before .if1 .taken)), omega (arith, c .before .before .before .before .before .pre .few))
 
--- src/lib.rt:64:1
 returns-2 : tie.Need-returns-2
 returns-2 c =
     let a = c .before .before .before .before .args in
@@ -53,12 +36,5 @@ returns-2 c =
 pub note-spec : {M : Type 1} → statement M
 note-spec =
     tie.close
-    (tie.spec
-    waiting-requires
-    order-of-requires
-    mul-numbers
-    slice-write-numbers
-    add-result
-    same-length
-    returns
+    (tie.spec (λ c κs. search needs) (λ c κs. search needs) mul-numbers slice-write-numbers add-result (λ c. search needs) returns
     returns-2)

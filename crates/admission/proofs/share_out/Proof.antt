@@ -7,15 +7,6 @@ use Rattle.admission.proofs.Admitted.{sorted-numbered, after-in, whole}
 use Rattle.admission.proofs.share_out.Statement.{statement}
 use Rattle.admission.proofs.share_out.Tie as tie
 
--- src/lib.rt:223:9
-in-order-requires : tie.Need-in-order-requires
-in-order-requires c κs = search needs
-
--- src/lib.rt:224:9
-limit-in-force-requires : tie.Need-limit-in-force-requires
-limit-in-force-requires c κs = search needs
-
--- src/lib.rt:225:9
 take-turns-requires : tie.Need-take-turns-requires
 take-turns-requires c κs =
     let pre = c .before .before .before .before .before .before .before .before .before .before .before .pre in
@@ -23,22 +14,12 @@ take-turns-requires c κs =
     let few : o .result ≤ length (o .last .1 .1 .1 .0) = omega (arith, o .ensures .1) in
     (sorted-numbered (pre .0) _ (o .result) (o .last .1 .1 .1 .0) (o .ensures .0) few, pre .0 .port)
 
--- src/lib.rt:226:5
 store-total-requires : tie.Need-store-total-requires
 store-total-requires c κs =
     let o = c .before .before .before .before .before .before .before .before .before .before .in-order in
     let t = c .before .before .before .take-turns .ensures in
     after-in (c .before .before .before .before .before .before .before .before .before .before .before .before .before .before .before .pre .0) _ (o .result) (o .last .1 .1 .1 .0) (o .ensures .0) _ _ (c .before .before .before .before .before .before .limit-in-force .ensures .0) _ (t .0) (t .1)
 
--- src/lib.rt:219:1
-same-length : tie.Need-same-length
-same-length c = search needs
-
--- src/lib.rt:219:1
-same-length-2 : tie.Need-same-length-2
-same-length-2 c = search needs
-
--- src/lib.rt:219:1
 returns : tie.Need-returns
 returns c =
     let o = c .before .before .before .before .before .before .before .before .before .before .before .before .before .in-order in
@@ -48,11 +29,5 @@ returns c =
 pub share-out-spec : {M : Type 1} → statement M
 share-out-spec =
     tie.close
-    (tie.spec
-    in-order-requires
-    limit-in-force-requires
-    take-turns-requires
-    store-total-requires
-    same-length
-    same-length-2
-    returns)
+    (tie.spec (λ c κs. search needs) (λ c κs. search needs) take-turns-requires store-total-requires (λ c. search needs)
+    (λ c. search needs) returns)

@@ -1,5 +1,5 @@
 -- `admission::take_turns` meets its contract. Assumes nothing.
-use Prim.Native.Nat.{_-_, _≤_, _<_}
+use Prim.Native.Nat.{_-_, _≤_}
 use mathlib.Core.Path.{_≡_, refl}
 use native.Mathlib.Omega.{arith}
 use lib.ListN.{length}
@@ -16,34 +16,21 @@ Inv-loop table₀ numbers n p b limit used₀ i₀ table used i =
 abbrev μ-loop : tie.MeasureT-loop
 μ-loop table₀ numbers n p b limit used₀ i₀ table used i = n - i
 
--- src/lib.rt:188:5
 loop-holds : tie.Need-loop-holds Inv-loop μ-loop
 loop-holds c = (omega arith, omega arith, refl, turns-start _ _ _ _ _ _ (c .before .before .pre .0 .laid))
 
--- src/lib.rt:189:18
 mul-k : tie.Need-mul-k Inv-loop μ-loop
 mul-k c = omega (arith, c .before .before .before .before .pre .0 .few)
 
--- src/lib.rt:189:18
 shared-slice-read-k : tie.Need-shared-slice-read-k Inv-loop μ-loop
 shared-slice-read-k c = omega (arith, c .before .before .before .before .before .pre .0 .few)
 
--- src/lib.rt:190:9
 turn-requires : tie.Need-turn-requires Inv-loop μ-loop
 turn-requires c κs =
     let pre = c .before .before .before .before .before .before .pre in
     let l = c .before .before .before .loop in
     (next-stands _ _ _ _ _ _ _ _ (l .i) (l .inv .3) (pre .0) (pre .1) (c .before .before .loop-test .taken), l .inv .1)
 
--- src/lib.rt:191:9
-add-i : tie.Need-add-i Inv-loop μ-loop
-add-i c = search needs
-
--- src/lib.rt:188:5
-loop-less : tie.Need-loop-less Inv-loop μ-loop
-loop-less c = search needs
-
--- src/lib.rt:188:5
 loop-again : tie.Need-loop-again Inv-loop μ-loop
 loop-again c =
     let pre = c .before .before .before .before .before .before .before .before .before .pre in
@@ -51,11 +38,6 @@ loop-again c =
     let done = c .before .before .turn .ensures in
     (omega arith, done .within, omega arith, turns-next _ _ _ _ _ _ _ _ (l .i) (l .inv .3) (pre .0) (pre .1) (c .before .before .before .before .before .loop-test .taken) _ _ done)
 
--- src/lib.rt:181:1
-same-length : tie.Need-same-length Inv-loop μ-loop
-same-length c = search needs
-
--- src/lib.rt:181:1
 returns : tie.Need-returns Inv-loop μ-loop
 returns c =
     let l = c .before .loop in
@@ -65,15 +47,5 @@ returns c =
 pub take-turns-spec : {M : Type 1} → statement M
 take-turns-spec =
     tie.close
-    (tie.spec
-    Inv-loop
-    μ-loop
-    loop-holds
-    mul-k
-    shared-slice-read-k
-    turn-requires
-    add-i
-    loop-less
-    loop-again
-    same-length
-    returns)
+    (tie.spec Inv-loop μ-loop loop-holds mul-k shared-slice-read-k turn-requires (λ c. search needs) (λ c. search needs)
+    loop-again (λ c. search needs) returns)
