@@ -5,8 +5,8 @@ use mathlib.Core.Bool.{Bool, true, false, cond}
 use Prim.Native.Nat.{ℕ, zero, suc, _/_, _≤_, _<_}
 use native.Mathlib.Omega.{arith}
 use lib.ListN.{getD}
-use lib.Dec.{eqb}
-use borrow.Author.Tests.{eq-eqb, ne-eqb}
+use lib.Dec.{eqb, leb}
+use borrow.Author.Tests.{eq-eqb, ne-eqb, le-leb, lt-leb}
 use Rattle.octets.specs.Be.{beAt}
 use Rattle.octets.specs.Fields.{fields}
 use Rattle.model.specs.Layout.{agePlace, entryPlace, listenerLeavesPlace, listenerPlace, listenerSincePlace}
@@ -30,15 +30,13 @@ registered-read s =
 
 -- Table 35-12.
 
-ready-few : (k : ℕ) → k < 2 → isReady (toDeclared k) ≡ false
+-- Ready and Ready Failed
+pub ready-number : (k : ℕ) → isReady (toDeclared k) ≡ leb 2 k
 unfolding isReady toDeclared toReady
-ready-few zero h = refl
-ready-few (suc zero) h = refl
-ready-few (suc (suc k)) h = absurd (omega arith)
-
-ready-many : (k : ℕ) → 2 ≤ k → isReady (toDeclared k) ≡ true
-unfolding isReady toDeclared toReady
-ready-many k h = rw (ne-eqb k 0 (λ e. omega arith), ne-eqb k 1 (λ e. omega arith)) (go (eqb k 2))
+ready-number zero = refl
+ready-number (suc zero) = refl
+ready-number (suc (suc k)) =
+    rw (ne-eqb (suc (suc k)) 0 (λ e. omega (arith, e)), ne-eqb (suc (suc k)) 1 (λ e. omega (arith, e)), le-leb 2 (suc (suc k)) (omega arith)) (go (eqb (suc (suc k)) 2))
   where
     go : (e : Bool) → isReady (tells (cond e ready readyFailed)) ≡ true
     go true = refl
@@ -54,11 +52,11 @@ none-heard k n = rw (ne-eqb k 0 n)
 
 pub advertised-ready : (k : ℕ) → 2 ≤ k → 2 ≡ entryNumber (entryOf advertise (toDeclared k))
 unfolding entryNumber entryOf
-advertised-ready k h = rw (ready-many k h)
+advertised-ready k h = rw (ready-number k, le-leb 2 k h)
 
 pub advertised-unready : (k : ℕ) → k < 2 → 1 ≡ entryNumber (entryOf advertise (toDeclared k))
 unfolding entryNumber entryOf
-advertised-unready k h = rw (ready-few k h)
+advertised-unready k h = rw (ready-number k, lt-leb 2 k h)
 
 pub failed-filters : (b c k : ℕ) → 1 ≡ entryNumber (entryOf (failed b c) (toDeclared k))
 unfolding entryNumber entryOf
