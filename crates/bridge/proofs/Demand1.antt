@@ -13,8 +13,10 @@ use lib.ListN.{length}
 use Rattle.model.specs.Layout.{tableLength}
 use Rattle.model.specs.Lists.{Octets}
 use Rattle.model.specs.Registrations.{together, ids, joins}
-use Rattle.model.specs.Frames.{Vector, fault, found, walk, frameActs, wrongPort, longestPdu}
-use Rattle.model.specs.Declarations.{Report, refusedReport, declarations}
+use Rattle.model.specs.FrameLayout.{longestPdu}
+use Rattle.model.specs.Frames.{Vector, fault, found, walk, frameActs, wrongPort}
+use Rattle.model.specs.Declarations.{declarations}
+use Rattle.model.specs.Reports.{Report, refusedReport}
 use Rattle.model.specs.Table.{decode, clockField, formed, settingsFormed}
 use Rattle.model.proofs.FormKept.{Kept, start-formed, receive-formed, advance-formed}
 use Rattle.model.proofs.Refusals.{OneOf, OnPort}

@@ -17,9 +17,12 @@ use Rattle.model.specs.Layout.{tableLength}
 use Rattle.model.specs.Lists.{Octets}
 use Rattle.model.specs.State.{Settings, Bridge, started, portAt, resultAt, noTotals}
 use Rattle.model.specs.Registrations.{Answer, acts, applyAll, holding, together, ids, joins, received}
-use Rattle.model.specs.Frames.{Vector, found, walk, walked, frameActs, reading, wrongPort, longestPdu}
+use Rattle.model.specs.FrameLayout.{longestPdu}
+use Rattle.model.specs.Frames.{Vector, found, walk, walked, frameActs, reading, wrongPort}
 use Rattle.model.specs.Settling.{settle}
-use Rattle.model.specs.Declarations.{Declaration, joinOf, takes, write, Report, wordOf, codeOf, streamAt, report}
+use Rattle.model.specs.State.{streamAt}
+use Rattle.model.specs.Declarations.{Declaration, joinOf, takes, write}
+use Rattle.model.specs.Reports.{Report, wordOf, codeOf, report}
 use Rattle.model.specs.WrittenFrames.{declarationVector, pduOctets}
 use Rattle.model.specs.Table.{encode, decode, toSettings}
 use Rattle.model.specs.Calls.{Call, WriteCall, receive, writtenTo, writeOn, reportOn}
@@ -177,11 +180,11 @@ pub record Shows (t : List ℕ) (p place : ℕ) (r : Report) : Type 0 where
   pub totalB : r .totalB ≡ getD (decode t .totals) (p - 1) noTotals .totalB
   pub limitB : r .limitB ≡ portAt (decode t .settings) (p - 1) .limitB
   -- of the stream at that place; past the last stream, zero and none
-  pub id : r .id ≡ streamAt (decode t .streams) place .id
-  pub column : r .column ≡ wordOf (resultAt (streamAt (decode t .streams) place) (p - 1) .column)
-  pub code : r .code ≡ codeOf (resultAt (streamAt (decode t .streams) place) (p - 1) .column)
-  pub listener : r .listener ≡ resultAt (streamAt (decode t .streams) place) (p - 1) .declares
-  pub entry : r .entry ≡ resultAt (streamAt (decode t .streams) place) (p - 1) .entry
+  pub id : r .id ≡ streamAt place (decode t) .id
+  pub column : r .column ≡ wordOf (resultAt (streamAt place (decode t)) (p - 1) .column)
+  pub code : r .code ≡ codeOf (resultAt (streamAt place (decode t)) (p - 1) .column)
+  pub listener : r .listener ≡ resultAt (streamAt place (decode t)) (p - 1) .declares
+  pub entry : r .entry ≡ resultAt (streamAt place (decode t)) (p - 1) .entry
 
 shows : (t : List ℕ) (p place : ℕ) → OnPort t p → place ≤ length (decode t .streams) → Shows t p place (reportOn t p place)
 unfolding reportOn report

@@ -5,8 +5,10 @@ use mathlib.Core.Bool.{true, false}
 use Prim.Native.Nat.{ℕ, _-_, _≤_, _<_}
 use lib.ListN.{length, drop}
 use borrow.Author.Tests.{lt-ltb, le-ltb}
-use Rattle.model.specs.Frames.{wrongPort, longestPdu}
-use Rattle.model.specs.Declarations.{declarations, write, refusedReport, report}
+use Rattle.model.specs.FrameLayout.{longestPdu}
+use Rattle.model.specs.Frames.{wrongPort}
+use Rattle.model.specs.Declarations.{declarations, write}
+use Rattle.model.specs.Reports.{refusedReport, report}
 use Rattle.model.specs.Table.{formed, decode}
 use Rattle.model.specs.Calls.{refusedWrite, writtenTo, writeOn, reportOn}
 use Rattle.declarations.specs.declared.Taken.{Taken}

@@ -23,8 +23,9 @@ use Rattle.model.specs.Registrations
 use Rattle.model.specs.Frames
 use Rattle.model.specs.Bandwidth
 use Rattle.model.specs.Settling
-use Rattle.model.specs.Declarations.{Report, noneWord, advertiseWord}
+use Rattle.model.specs.Reports.{Report, noneWord, advertiseWord}
 use Rattle.model.specs.Declarations
+use Rattle.model.specs.Reports as reports
 use Rattle.model.specs.WrittenFrames
 use Rattle.model.specs.Table.{settingsFormed, toSettings, encode}
 use Rattle.model.specs.Table
@@ -36,7 +37,7 @@ use Rattle.model.proofs.Tables.{decode-encode, formed-encode, valid-started}
 use Rattle.model.proofs.ReceiveKeepsForm.{receive-keeps}
 use Rattle.model.proofs.AdvanceKeepsForm.{settle-keeps}
 use Rattle.model.proofs.Demand3.{receive-call, advance-call}
-use Rattle.model.specs.Frames.{longestPdu}
+use Rattle.model.specs.FrameLayout.{longestPdu}
 use Rattle.bridge.specs.Promises.{Starts, Receives, Advances, Writes, Reports}
 use Rattle.bridge.proofs.Started.{started-table}
 use Rattle.bridge.proofs.Starting.{start-accepted}
@@ -87,7 +88,7 @@ settled = Settling.settle 100 heard
 
 -- Calls on the table of a valid bridge are those of the bridge.
 module _ (b : Bridge) (v : Valid b) (p place : ℕ) (w : Frames.wrongPort (b .settings) p ≡ false) where
-  report-call : reportOn (encode b) p place ≡ Declarations.report b p place
+  report-call : reportOn (encode b) p place ≡ reports.report b p place
   unfolding reportOn
   report-call = rw (formed-encode b v, decode-encode b v, w)
 
@@ -108,7 +109,7 @@ unfolding Lists.tabulate Lists.bit State.empty State.unsettled State.noFixed Sta
 stateOpened = tt
 
 framesOpened : Unit {0}
-unfolding Frames.typeOctet Frames.firstWidths Frames.firstLength Frames.threeLength Frames.fourLength Frames.vectorAt Frames.vectorEnd Frames.overpacked Frames.runsPast Frames.overflows Frames.also Frames.both Frames.vectors Frames.listLength Frames.listAt Frames.messageEnd Frames.endMark Frames.message Frames.messages Frames.walk Frames.event Frames.threePacked Frames.fourPacked Frames.eventOf Frames.fourOf Frames.asking Frames.priorityOf Frames.rankOf Frames.fixedValue Frames.healthValue Frames.idValue Frames.hearing Frames.talkerAct Frames.listenerAct Frames.valueActs Frames.valuesActs Frames.leaveAllActs Frames.vectorActs Frames.frameActs Frames.walked Frames.wrongPort Frames.reading Calls.receive
+unfolding Frames.typeOctet Frames.firstWidths Frames.firstLength Frames.threeLength Frames.hasFour Frames.fourLength Frames.vectorAt Frames.vectorEnd Frames.overpacked Frames.runsPast Frames.overflows Frames.vectorIn Frames.checkedIn Frames.typedIn Frames.listLength Frames.listAt Frames.messageEnd Frames.endMark Frames.headerIn Frames.messageIn Frames.also Frames.both Frames.vectorsFrom Frames.vectors Frames.messagesFrom Frames.messages Frames.walk Frames.event Frames.threePacked Frames.fourPacked Frames.eventOf Frames.fourOf Frames.asking Frames.priorityOf Frames.rankOf Frames.fixedValue Frames.healthValue Frames.idValue Frames.hearing Frames.talkerAct Frames.listenerAct Frames.valueActs Frames.valuesActs Frames.leaveAllActs Frames.vectorActs Frames.frameActs Frames.walked Frames.wrongPort Frames.reading Calls.receive
 framesOpened = tt
 
 registrationsOpened : Unit {0}
@@ -120,7 +121,7 @@ unfolding Bandwidth.demand Bandwidth.rate Bandwidth.rateOfA Bandwidth.rateOfB Ba
 settlingOpened = tt
 
 writingOpened : Unit {0}
-unfolding Fields.packed Fields.flat Declarations.wordOf Declarations.codeOf Declarations.streamAt Declarations.report Declarations.healthKind Declarations.kindOf Declarations.advertised Declarations.failing Declarations.listening Declarations.declarationsOf Declarations.ofKind Declarations.declarations Declarations.vectorSize Declarations.sameKind Declarations.opening Declarations.fitting Declarations.takes Declarations.write WrittenFrames.priorityOctet WrittenFrames.fixedNumbers WrittenFrames.failureNumbers WrittenFrames.firstNumbers WrittenFrames.readyNumber WrittenFrames.fourOctets WrittenFrames.declarationVector WrittenFrames.vectorOctets WrittenFrames.typeNumber WrittenFrames.messageOf WrittenFrames.messageOctets WrittenFrames.having WrittenFrames.pduOctets
+unfolding Fields.packed Fields.flat reports.wordOf reports.codeOf reports.report Declarations.healthKind Declarations.kindOf Declarations.advertised Declarations.failing Declarations.listening Declarations.declarationsOf Declarations.ofKind Declarations.declarations Declarations.vectorSize Declarations.sameKind Declarations.opening Declarations.fitting Declarations.takes Declarations.write WrittenFrames.priorityOctet WrittenFrames.fixedNumbers WrittenFrames.failureNumbers WrittenFrames.firstNumbers WrittenFrames.readyNumber WrittenFrames.fourOctets WrittenFrames.declarationVector WrittenFrames.vectorOctets WrittenFrames.typeNumber WrittenFrames.messageOf WrittenFrames.messageOctets WrittenFrames.having WrittenFrames.pduOctets
 writingOpened = tt
 
 opened : Unit {0}
@@ -187,7 +188,7 @@ reportTwo = record {
   entry = forwards;
 }
 
-reports-computed : (Declarations.report settled 1 0 ≡ reportOne) × (Declarations.report settled 2 0 ≡ reportTwo)
+reports-computed : (Reports.report settled 1 0 ≡ reportOne) × (Reports.report settled 2 0 ≡ reportTwo)
 unfolding opened reportOne reportTwo
 reports-computed = (refl, refl)
 

@@ -10,7 +10,8 @@ use Rattle.octets.specs.Parts.{part}
 use Rattle.octets.specs.Fields.{width}
 use Rattle.octets.proofs.Frame.{beAt-part, part-part}
 use Rattle.model.specs.State.{Column, none, advertise, failed, Result, Stream, Totals, Bridge, portAt, resultAt, noTotals, unsettled, fresh}
-use Rattle.model.specs.Declarations.{wordOf, codeOf, streamAt, report}
+use Rattle.model.specs.State.{streamAt}
+use Rattle.model.specs.Reports.{wordOf, codeOf, report}
 use Rattle.model.specs.Table.{portWidths, portNumbers, columnNumber, columnCode, entryNumber, declaredNumber, resultWidths, resultNumbers, resultFrom, toColumn, toEntry, toDeclared, toStream, toTotals, totalsPart, decode}
 use Rattle.model.specs.Laid.{LaidStream, Laid}
 use Rattle.model.proofs.Parts.{parts-at}

@@ -3,7 +3,7 @@ use mathlib.Core.Path.{_≡_}
 use Prim.Native.Nat.{ℕ}
 use lib.ListN.{getD}
 use Rattle.model.specs.State.{Entry, noEntry, filters, forwards, askingFailed, ready, readyFailed, Declared, nothing, tells, Stream, Bridge, portAt, resultAt, noTotals}
-use Rattle.model.specs.Declarations.{ColumnWord, noneWord, advertiseWord, failedWord, Report, wordOf, codeOf}
+use Rattle.model.specs.Reports.{ColumnWord, noneWord, advertiseWord, failedWord, Report, wordOf, codeOf}
 use Rattle.declarations.specs.declared.ColumnShown.{ColumnShown}
 use Rattle.declarations.specs.declared.ColumnShown.the-variants as column
 use Rattle.declarations.specs.declared.ListenerShown.{ListenerShown}

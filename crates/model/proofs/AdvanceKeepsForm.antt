@@ -14,7 +14,7 @@ use Rattle.model.specs.Registrations.{Answer, ids}
 use Rattle.model.specs.Settling.{expired, expireTalker, expireListener, expireCell, expire, held, remain, Source, nowhere, from, source, sourceOf, isSource, fixedOf, healthOf, registered, isReady, Outcome, columnNone, asRegistered, ownFailure, Step, first, brokenColumn, outcomeColumn, stepsFrom, steps, ageOf, claims, limitOn, byBandwidth, columnOf, capped, latencyOut, entryOf, ageKept, latencyKept, decideAt, decide, totalOn, totalsOn, settle, advance}
 use Rattle.model.specs.Bandwidth.{sort, total}
 use Rattle.model.specs.Table.{totalsWithin}
-use Rattle.model.proofs.Lists.{all-tabulate}
+use Rattle.model.proofs.Lists.{all-getD, all-tabulate}
 use Rattle.model.proofs.Admission.{within}
 use Rattle.model.proofs.Valid.{ValidLeaving, ValidFixed, ValidHealth, ValidRegistration, ValidTalker, ValidListener, ValidCell, ValidColumn, ValidAge, ValidResult, ValidStream, Rising, Valid}
 
@@ -37,14 +37,9 @@ module _ {A : Type 0} where
   length-tabulate (suc n) p f = ap suc (length-tabulate n (suc p) f)
 
 module _ {A : Type 0} (P : A → Type 0) where
-  pub all-getD : (l : List A) (i : ℕ) (d : A) → P d → All P l → P (getD l i d)
-  all-getD [] i d h a = h
-  all-getD (x ∷ l) zero d h a = a .0
-  all-getD (x ∷ l) (suc i) d h a = all-getD l i d h (a .1)
-
   -- at a place from n on, where it holds of all elements from n on
   pub getD-past : (n : ℕ) (l : List A) (i : ℕ) (d : A) → n ≤ i → P d → All P (drop n l) → P (getD l i d)
-  getD-past zero l i d n≤i h a = all-getD l i d h a
+  getD-past zero l i d n≤i h a = all-getD P l a d h i
   getD-past (suc n) [] i d n≤i h a = h
   getD-past (suc n) (x ∷ l) zero d n≤i h a = absurd (omega arith)
   getD-past (suc n) (x ∷ l) (suc i) d n≤i h a = getD-past n l i d (omega arith) h a
@@ -158,12 +153,12 @@ module _ (st : Settings) (now : ℕ) where
 
 -- The Talker: what is registered at the Talker port is valid, and stands on a port.
 
-abbrev ValidSource : ℕ → ℕ → Source → Type 0
+abbrev pub ValidSource : ℕ → ℕ → Source → Type 0
 ValidSource clock leave nowhere = Unit {0}
 ValidSource clock leave (from o) = ValidRegistration clock leave (o .registration)
 
 module _ (clock leave : ℕ) where
-  source-valid : (p : ℕ) (cs : List Cell) → All (ValidCell clock leave) cs → ValidSource clock leave (source p cs)
+  pub source-valid : (p : ℕ) (cs : List Cell) → All (ValidCell clock leave) cs → ValidSource clock leave (source p cs)
   unfolding source
   source-valid p [] a = tt
   source-valid p (c ∷ cs) a = go (c .talks) (a .0 .talks) (source-valid (suc p) cs (a .1))
@@ -173,12 +168,12 @@ module _ (clock leave : ℕ) where
       go noTalker v ih = ih
       go (talker r) v ih = v
 
-  fixed-valid : (s : Source) → ValidSource clock leave s → ValidFixed (fixedOf s)
+  pub fixed-valid : (s : Source) → ValidSource clock leave s → ValidFixed (fixedOf s)
   unfolding fixedOf noFixed
   fixed-valid nowhere v = omega arith
   fixed-valid (from o) v = v .fixed
 
-  health-valid : (s : Source) → ValidSource clock leave s → ValidHealth (healthOf s)
+  pub health-valid : (s : Source) → ValidSource clock leave s → ValidHealth (healthOf s)
   unfolding healthOf
   health-valid nowhere v = tt
   health-valid (from o) v = v .varying .health
@@ -279,7 +274,7 @@ entry-fits advertise d n v = go (isReady d)
     go false = tt
 entry-fits (failed b c) d n v = v
 
-capped-fits : (n : ℕ) → capped n < 2 ^ 32
+pub capped-fits : (n : ℕ) → capped n < 2 ^ 32
 unfolding capped
 capped-fits n = go (ltb 4294967295 n) refl
   where
@@ -287,7 +282,7 @@ capped-fits n = go (ltb 4294967295 n) refl
     go true e = omega arith
     go false e = omega (arith, ltb-false 4294967295 n e)
 
-latency-fits : (c : Column) (n : ℕ) → n < 2 ^ 32 → latencyKept c n < 2 ^ 32
+pub latency-fits : (c : Column) (n : ℕ) → n < 2 ^ 32 → latencyKept c n < 2 ^ 32
 unfolding latencyKept
 latency-fits none n h = omega arith
 latency-fits advertise n h = h
@@ -329,7 +324,7 @@ module _ (st : Settings) (named : st .bridgeId < 2 ^ 64) (clock now : ℕ) (late
     age =
         age-fits now (entryOf (columnOf st now s p x) (registered (cellAt x p))) _
         (age-valid clock now (resultAt x p) later
-        (all-getD (ValidResult clock) (x .results) p unsettled (unsettled-valid clock) (r .results)));
+        (all-getD (ValidResult clock) (x .results) (r .results) unsettled (unsettled-valid clock) p));
   }
 
   -- a place that is no port has no registration, so no result

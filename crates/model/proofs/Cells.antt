@@ -13,7 +13,7 @@ use Rattle.octets.specs.Be.{beAt}
 use Rattle.octets.specs.Parts.{zeros}
 use Rattle.octets.specs.Fields.{fields, Fit, width, flat}
 use Rattle.octets.proofs.Fields.{length-packed-any, fields-of-packed, fields-fit, fit-at, fit-append, fit-zeros, packed-zeros}
-use Rattle.model.specs.Layout.{bridgeField, cellSize, cellWidths, changedField, codeField, fixedField, fixedWidths, latencyField, listenerField, listenerLeavesField, listenerPlace, listenerSinceField, priorityField, talkerField, talkerLeavesField, talkerSinceField}
+use Rattle.model.specs.Layout.{bridgeField, cellFields, cellSize, cellWidths, changedField, codeField, fixedField, fixedWidths, latencyField, listenerField, listenerLeavesField, listenerPlace, listenerSinceField, priorityField, talkerField, talkerLeavesField, talkerSinceField, varyingWidths}
 use Rattle.model.specs.Lists.{All, allTrue, implies, tabulate, parts, Octets, bit, isOne}
 use Rattle.model.specs.State.{Leaving, stays, since, Fixed, Health, sound, broken, Registration, Talker, noTalker, talker, Ready, askingFailed, ready, readyFailed, Listener, noListener, listener, Cell, empty}
 use Rattle.model.specs.Frames.{priorityOf, rankOf}
@@ -85,7 +85,7 @@ unfolding toLeaving leavingNumber sinceNumber
 leaving-back stays = refl
 leaving-back (since t) = refl
 
-leaving-few : (l : Leaving) → leavingNumber l < 256
+pub leaving-few : (l : Leaving) → leavingNumber l < 256
 unfolding leavingNumber
 leaving-few stays = omega arith
 leaving-few (since t) = omega arith
@@ -178,12 +178,12 @@ ready-number readyFailed = (omega arith, omega arith)
 
 -- A valid cell: its numbers fit, come back, and keep the rules.
 
-talker-size : (t : Talker) → length (talkerNumbers t) ≡ 12
+talker-size : (t : Talker) → length (talkerNumbers t) ≡ listenerField
 unfolding talkerNumbers fixedNumbers
 talker-size noTalker = refl
 talker-size (talker r) = refl
 
-listener-size : (h : Listener) → length (listenerNumbers h) ≡ 3
+listener-size : (h : Listener) → length (listenerNumbers h) ≡ cellFields - listenerField
 unfolding listenerNumbers
 listener-size noListener = refl
 listener-size (listener r l) = refl
@@ -194,7 +194,7 @@ unfolding healthNumber bridgeNumber codeNumber allZero
 health-rules sound = (refl, refl, refl)
 health-rules (broken b c) = (refl, refl, refl)
 
-health-fit : (h : Health) → ValidHealth h → (healthNumber h < 256) × (bridgeNumber h < 256 ^ 8) × (codeNumber h < 256)
+pub health-fit : (h : Health) → ValidHealth h → (healthNumber h < 256) × (bridgeNumber h < 256 ^ 8) × (codeNumber h < 256)
 unfolding healthNumber bridgeNumber codeNumber
 health-fit sound v = (omega arith, omega arith, omega arith)
 health-fit (broken b c) v = (omega arith, v .0, v .1)
@@ -213,9 +213,9 @@ listener-back (talker k) noListener = refl
 listener-back (talker k) (listener r l) = rw (ready-rules r .1, ready-back r, leaving-back l)
 
 module _ (clock leave : ℕ) where
-  talker-fit : (t : Talker) → ValidTalker clock leave t → clock < 2 ^ 32 → Fit (take 12 cellWidths) (talkerNumbers t)
+  talker-fit : (t : Talker) → ValidTalker clock leave t → clock < 2 ^ 32 → Fit (take listenerField cellWidths) (talkerNumbers t)
   unfolding Fit talkerNumbers
-  talker-fit noTalker v h = fit-zeros (take 12 cellWidths)
+  talker-fit noTalker v h = fit-zeros (take listenerField cellWidths)
   talker-fit (talker r) v h =
       let w = r .varying in
       let (k, b, c) = health-fit (w .health) (v .varying .health) in
@@ -223,18 +223,18 @@ module _ (clock leave : ℕ) where
       also omega (arith, bit-few (r .changed))
       also leaving-few (r .leaving)
       also since-within clock leave (r .leaving) (v .leaving) h
-      also fit-append fixedWidths (fixedNumbers (r .fixed)) (4 ∷ 8 ∷ 1 ∷ []) (w .latency ∷ bridgeNumber (w .health) ∷ codeNumber (w .health) ∷ [])
+      also fit-append fixedWidths (fixedNumbers (r .fixed)) varyingWidths (w .latency ∷ bridgeNumber (w .health) ∷ codeNumber (w .health) ∷ [])
       (fixed-fit (r .fixed) (v .fixed)) (v .varying .latency also b also c also tt)
 
-  listener-fit : (h : Listener) → ValidListener clock leave h → clock < 2 ^ 32 → Fit (drop 12 cellWidths) (listenerNumbers h)
+  listener-fit : (h : Listener) → ValidListener clock leave h → clock < 2 ^ 32 → Fit (drop listenerField cellWidths) (listenerNumbers h)
   unfolding Fit listenerNumbers
-  listener-fit noListener v h = fit-zeros (drop 12 cellWidths)
+  listener-fit noListener v h = fit-zeros (drop listenerField cellWidths)
   listener-fit (listener r l) v h = omega (arith, ready-number r .1) also leaving-few l also since-within clock leave l v h also tt
 
   pub cell-fit : (c : Cell) → ValidCell clock leave c → clock < 2 ^ 32 → Fit cellWidths (cellNumbers c)
   unfolding cellNumbers
   cell-fit c v h =
-      fit-append (take 12 cellWidths) (talkerNumbers (c .talks)) (drop 12 cellWidths) (listenerNumbers (c .hears))
+      fit-append (take listenerField cellWidths) (talkerNumbers (c .talks)) (drop listenerField cellWidths) (listenerNumbers (c .hears))
       (talker-fit (c .talks) (v .talks) h) (listener-fit (c .hears) (v .hears) h)
 
   talker-back : (t : Talker) → ValidTalker clock leave t → (after : List ℕ) → talkerFrom (talkerNumbers t ++ after) ≡ t

@@ -9,7 +9,7 @@ use lib.ListN.{length, getD}
 use Rattle.octets.specs.Parts.{zeros}
 use Rattle.octets.specs.Fields.{fields, Fit, flat}
 use Rattle.octets.proofs.Fields.{fields-of-packed, fit-at}
-use Rattle.model.specs.Layout.{cellSize, cellWidths, fixedWidths, nameWidths, recordSize, resultSize, resultWidths}
+use Rattle.model.specs.Layout.{bridgeField, cellSize, cellWidths, codeField, fixedField, fixedWidths, latencyField, listenerSinceField, nameWidths, priorityField, recordSize, resultSize, resultWidths, talkerSinceField, vlanField}
 use Rattle.model.specs.Lists.{All, parts, Octets}
 use Rattle.model.specs.State.{Leaving, stays, since, Fixed, Health, sound, broken, Talker, noTalker, talker, Listener, noListener, listener, Cell, Result, Stream, Bridge}
 use Rattle.model.specs.Registrations.{ids}
@@ -26,10 +26,10 @@ use Rattle.model.proofs.Tables.{stream-length, cells-of, results-of, na
 
 -- Read back: a cell. With the latest clock and the longest leave time that a field holds, every time that fits is valid.
 
-abbrev latest : ℕ
+abbrev pub latest : ℕ
 latest = 4294967295
 
-abbrev longest : ℕ
+abbrev pub longest : ℕ
 longest = 4294967296
 
 fit-leaving : (l : Leaving) → sinceNumber l < 2 ^ 32 → ValidLeaving latest longest l
@@ -37,13 +37,13 @@ unfolding sinceNumber
 fit-leaving stays h = tt
 fit-leaving (since t) h = (omega arith, omega arith)
 
-fit-health : (h : Health) → bridgeNumber h < 256 ^ 8 → codeNumber h < 256 ^ 1 → ValidHealth h
+pub fit-health : (h : Health) → bridgeNumber h < 256 ^ 8 → codeNumber h < 256 ^ 1 → ValidHealth h
 unfolding bridgeNumber codeNumber
 fit-health sound p q = tt
 fit-health (broken b c) p q = (p, q)
 
 -- five numbers, the last of them priority and rank
-fit-fixed : (f : Fixed) → Fit fixedWidths (fixedNumbers f) → f .rank < 2 → ValidFixed f
+pub fit-fixed : (f : Fixed) → Fit fixedWidths (fixedNumbers f) → f .rank < 2 → ValidFixed f
 unfolding Fit fixedNumbers priorityOctet
 fit-fixed f w r = record {
   destination = w .0;
@@ -59,26 +59,29 @@ fit-talker : (t : Talker) (after : List ℕ) → ((i : ℕ) → getD (talkerNumb
 unfolding talkerNumbers fixedNumbers Fit
 fit-talker noTalker after at rank = tt
 fit-talker (talker r) after at rank = record {
-  fixed = fit-fixed (r .fixed) (at 4 also at 5 also at 6 also at 7 also at 8 also tt) rank;
-  varying = record { health = fit-health (r .varying .health) (at 10) (at 11); latency = at 9 };
-  leaving = fit-leaving (r .leaving) (at 3);
+  fixed = fit-fixed (r .fixed) (at fixedField also at vlanField also at (vlanField + 1) also at (vlanField + 2) also at priorityField also tt) rank;
+  varying = record { health = fit-health (r .varying .health) (at bridgeField) (at codeField); latency = at latencyField };
+  leaving = fit-leaving (r .leaving) (at talkerSinceField);
 }
 
 fit-listener : (t : Talker) (h : Listener) → ((i : ℕ) → getD (talkerNumbers t ++ listenerNumbers h) i 0 < 256 ^ getD cellWidths i 0)
     → ValidListener latest longest h
 unfolding talkerNumbers listenerNumbers fixedNumbers
 fit-listener t noListener at = tt
-fit-listener noTalker (listener r l) at = fit-leaving l (at 14)
-fit-listener (talker k) (listener r l) at = fit-leaving l (at 14)
+fit-listener noTalker (listener r l) at = fit-leaving l (at listenerSinceField)
+fit-listener (talker k) (listener r l) at = fit-leaving l (at listenerSinceField)
 
-pub cell-read : (c : Cell) → FitCell c → toCell (cellOctets c) ≡ c
+pub fit-cell : (c : Cell) → FitCell c → ValidCell latest longest c
 unfolding cellNumbers
-cell-read c w =
+fit-cell c w =
     let at = fit-at cellWidths (cellNumbers c) (w .numbers) in
-    cell-back latest longest (omega arith) c record {
+    record {
       talks = fit-talker (c .talks) (listenerNumbers (c .hears)) at (w .rank);
       hears = fit-listener (c .talks) (c .hears) at;
     }
+
+pub cell-read : (c : Cell) → FitCell c → toCell (cellOctets c) ≡ c
+cell-read c w = cell-back latest longest (omega arith) c (fit-cell c w)
 
 -- A result.
 
@@ -104,7 +107,7 @@ module _ (x : Stream) (w : FitStream x) where
   unfolding Fit
   id-fits = w .name .0
 
-  settled-fits : Fit fixedWidths (fixedNumbers (x .settled))
+  pub settled-fits : Fit fixedWidths (fixedNumbers (x .settled))
   unfolding Fit
   settled-fits = w .name .1
 

@@ -14,7 +14,7 @@ use Rattle.model.specs.Registrations.{Kind, Act, leaveAll, leave, talk, 
 use Rattle.model.specs.Frames.{wrongPort, reading}
 use Rattle.model.specs.Settling.{isTalking, isHearing, held}
 use Rattle.model.specs.Calls.{receive}
-use Rattle.model.proofs.Lists.{all-map, all-drop, all-replicate}
+use Rattle.model.proofs.Lists.{all-map, all-drop, all-replicate, length-at, all-changed}
 use Rattle.model.proofs.Valid.{ValidLeaving, ValidFixed, ValidVarying, ValidRegistration, ValidTalker, ValidListener, ValidCell, ValidResult, ValidStream, Rising, Valid}
 use Rattle.model.proofs.FoundVectors.{Fits, FitsReading, reading-fits, or-left, or-right}
 use Rattle.model.proofs.AdvanceKeepsForm.{all-mapped, unsettled-valid}
@@ -121,18 +121,6 @@ does-stays now (listen i r) c h = listen-puts now i r c
 
 -- Cells, with the one at a place changed.
 
-length-at : (p : ℕ) (u : Cell → Cell) (cs : List Cell) → length (at p u cs) ≡ length cs
-unfolding at
-length-at p u [] = refl
-length-at zero u (c ∷ cs) = refl
-length-at (suc p) u (c ∷ cs) = ap suc (length-at p u cs)
-
-all-at : (P : Cell → Type 0) (p : ℕ) (u : Cell → Cell) (cs : List Cell) → ((c : Cell) → P c → P (u c)) → All P cs → All P (at p u cs)
-unfolding at
-all-at P p u [] k a = tt
-all-at P zero u (c ∷ cs) k a = (k c (a .0), a .1)
-all-at P (suc p) u (c ∷ cs) k a = (a .0, all-at P p u cs k (a .1))
-
 -- those after it are as before
 drop-changed : (n p : ℕ) (u : Cell → Cell) (cs : List Cell) → p < n → drop n (at p u cs) ≡ drop n cs
 unfolding at
@@ -169,7 +157,7 @@ module _ (ports clock leaveTime p : ℕ) (here : p < ports) (eight : ports ≤ 8
     id = v .id;
     settled = v .settled;
     eight-cells = length-at p u (x .cells) ∙ v .eight-cells;
-    cells = all-at (ValidCell clock leaveTime) p u (x .cells) valid-then (v .cells);
+    cells = all-changed (ValidCell clock leaveTime) p u (x .cells) valid-then (v .cells);
     no-other-cells = rw (drop-changed ports p u (x .cells) here) (v .no-other-cells);
     is-held = held-stays p u (x .cells) k (v .is-held);
     eight-results = v .eight-results;
@@ -185,7 +173,7 @@ module _ (ports clock leaveTime p : ℕ) (here : p < ports) (eight : ports ≤ 8
     settled = omega arith;
     eight-cells = length-at p u (replicate 8 empty);
     cells =
-        all-at (ValidCell clock leaveTime) p u (replicate 8 empty) valid-then
+        all-changed (ValidCell clock leaveTime) p u (replicate 8 empty) valid-then
         (all-replicate (ValidCell clock leaveTime) 8 empty record { talks = tt; hears = tt });
     no-other-cells =
         rw (drop-changed ports p u (replicate 8 empty) here)

@@ -6,19 +6,22 @@ use mathlib.Core.Path.{_≡_, refl, sym, _∙_, ap, subst}
 use mathlib.Core.Logic.{_↔_, Iff·rfl, Iff·trans, Iff·and, _⊎_, inl, inr, ⊎-elim}
 use mathlib.Core.List.{List, [], _∷_, List·Memᴰ, List·Memᴰ·not-nil, List·Memᴰ·cases-cons}
 use mathlib.Core.Bool.{Bool, true, false, cond, not, _||_, true≢false, false≢true}
-use Prim.Native.Nat.{ℕ, zero, suc, _+_, _-_, _/_, _≤_, _<_}
+use Prim.Native.Nat.{ℕ, zero, suc, _+_, _-_, _/_, _%_, _≤_, _<_}
 use native.Mathlib.Omega.{arith}
 use lib.ListN.{length, getD}
 use lib.Dec.{ltb, leb, eqb}
 use borrow.Author.Tests.{ltb-true, ltb-false, leb-true, leb-false, eqb-true, eqb-false, not-true, not-false, lt-ltb, le-ltb, eq-eqb, ne-eqb}
 use Rattle.octets.specs.Be.{beAt}
+use Rattle.octets.specs.Parts.{part}
 use Rattle.model.specs.Layout.{tableLength}
+use Rattle.model.specs.FrameLayout.{longestPdu}
 use Rattle.model.specs.Lists.{All, Octets}
 use Rattle.model.specs.State.{Settings, Bridge}
 use Rattle.model.specs.Registrations.{refused, Answer, received, applyAll, add, together, ids, joins}
-use Rattle.model.specs.Frames.{Attribute, TypeOctet, notAllowed, unknown, known, typeOctet, firstLength, Vector, vectorAt, vectorEnd, overpacked, overflows, listLength, listAt, messageEnd, endMark, Walk, fault, found, also, both, vectors, message, messages, walk, walked, frameActs, reading, wrongPort, longestPdu}
+use Rattle.model.specs.Frames.{Attribute, TypeOctet, notAllowed, unknown, known, typeOctet, firstLength, threeLength, hasFour, Vector, vectorAt, vectorEnd, overpacked, overflows, InList, badVector, listEnd, vectorHead, vectorIn, checkedIn, typedIn, InPdu, badMessage, pduEnd, listSkipped, listOf, listLength, listAt, messageEnd, endMark, headerIn, messageIn, Walk, fault, found, also, both, vectorsFrom, vectors, messagesFrom, messages, walk, walked, frameActs, reading, wrongPort}
 use Rattle.model.specs.Settling.{advance}
-use Rattle.model.specs.Declarations.{Written, write, Report, refusedReport, report, declarations}
+use Rattle.model.specs.Declarations.{Written, write, declarations}
+use Rattle.model.specs.Reports.{Report, refusedReport, report}
 use Rattle.model.specs.Table.{decode, clockField, formed, settingsFormed}
 use Rattle.model.specs.Calls.{Call, startOn, leaves, onTable, receive, receiveOn, advanceOn, WriteCall, refusedWrite, writtenTo, writeOn, reportOn}
 use Rattle.model.proofs.Valid.{Rising, Valid}
@@ -270,39 +273,77 @@ both-faults (fault n) x h k = h
 both-faults (found vs) (fault n) h k = k
 both-faults (found vs) (found ws) h k = tt
 
+-- what stands at a place has no other number
+abbrev ListFaults : InList → Type 0
+ListFaults (badVector n) = (3 ≤ n) × (n ≤ 7)
+ListFaults listEnd = Unit {0}
+ListFaults (vectorHead h) = Unit {0}
+
+vector-faults : (first : ℕ) (four : Bool) (l : List ℕ) (at : ℕ) → ListFaults (vectorIn first four l at)
+unfolding vectorIn
+vector-faults first four l at =
+    let h = beAt 2 l at in
+    let three : ListFaults (badVector 3) = (omega arith, omega arith) in
+    let six : ListFaults (badVector 6) = (omega arith, omega arith) in
+    cond-either ListFaults (ltb (length l) (at + 2)) _ _ three
+    (cond-either ListFaults (eqb h 0) _ _ tt
+    (cond-either ListFaults (ltb 1 (h / 8192)) _ _ six
+    (cond-either ListFaults (ltb (length l) (vectorEnd first four at h)) _ _ three
+    (cond-either ListFaults (overpacked (part (at + 2 + first) (threeLength (h % 8192)) l)) _ _ six tt))))
+
+checked-faults : (k : Attribute) (l : List ℕ) (at : ℕ) (r : InList) → ListFaults r → ListFaults (checkedIn k l at r)
+unfolding checkedIn
+checked-faults k l at (badVector n) h = h
+checked-faults k l at listEnd h = cond-either ListFaults (eqb (at + 2) (length l)) _ _ tt (omega arith, omega arith)
+checked-faults k l at (vectorHead h) _ = cond-either ListFaults (overflows (vectorAt k l at h)) _ _ (omega arith, omega arith) tt
+
+from-faults : (k : Attribute) (l : List ℕ) (at : ℕ) (r : InList) (rest : ℕ → Walk) → ListFaults r → ((e : ℕ) → Faults (rest e)) →
+    Faults (vectorsFrom k l at r rest)
+unfolding vectorsFrom
+from-faults k l at (badVector n) rest h g = h
+from-faults k l at listEnd rest h g = tt
+from-faults k l at (vectorHead h) rest _ g = also-faults (vectorAt k l at h) _ (g _)
+
 vectors-faults : (f : ℕ) (k : Attribute) (l : List ℕ) (at : ℕ) → Faults (vectors f k l at)
-unfolding vectors
+unfolding vectors typedIn
 vectors-faults zero k l at = (omega arith, omega arith)
 vectors-faults (suc f) k l at =
-    let h = beAt 2 l at in
-    let three : Faults (fault 3) = (omega arith, omega arith) in
-    let six : Faults (fault 6) = (omega arith, omega arith) in
-    let seven : Faults (fault 7) = (omega arith, omega arith) in
-    cond-either Faults (ltb (length l) (at + 2)) _ _ three
-    (cond-either Faults (eqb h 0) _ _ (cond-either Faults (eqb (at + 2) (length l)) _ _ tt three)
-    (cond-either Faults (ltb 1 (h / 8192)) _ _ six
-    (cond-either Faults (ltb (length l) (vectorEnd k at h)) _ _ three
-    (cond-either Faults (overpacked (vectorAt k l at h .three)) _ _ six
-    (cond-either Faults (overflows (vectorAt k l at h)) _ _ seven
-    (also-faults (vectorAt k l at h) _ (vectors-faults f k l (vectorEnd k at h))))))))
+    from-faults k l at _ (vectors f k l) (checked-faults k l at _ (vector-faults (firstLength k) (hasFour k) l at)) (vectors-faults f k l)
 
-message-faults : (o : TypeOctet) (s : List ℕ) (at : ℕ) (rest : Walk) → Faults rest → Faults (message o s at rest)
-unfolding message
-message-faults notAllowed s at rest r = (omega arith, omega arith)
-message-faults unknown s at rest r = cond-either Faults (ltb (length s) (messageEnd s at)) _ _ (omega arith, omega arith) r
-message-faults (known k) s at rest r =
-    cond-either Faults (not (eqb (getD s (at + 1) 0) (firstLength k))) _ _ (omega arith, omega arith)
-    (cond-either Faults (ltb (length s) (messageEnd s at)) _ _ (omega arith, omega arith)
-    (both-faults _ rest (vectors-faults (suc (listLength s at)) k (listAt s at) 0) r))
+abbrev PduFaults : InPdu → Type 0
+PduFaults (badMessage n) = (3 ≤ n) × (n ≤ 7)
+PduFaults pduEnd = Unit {0}
+PduFaults listSkipped = Unit {0}
+PduFaults (listOf k) = Unit {0}
+
+header-faults : (o : TypeOctet) (s : List ℕ) (at : ℕ) → PduFaults (headerIn o s at)
+unfolding headerIn
+header-faults notAllowed s at = (omega arith, omega arith)
+header-faults unknown s at = cond-either PduFaults (ltb (length s) (messageEnd s at)) _ _ (omega arith, omega arith) tt
+header-faults (known k) s at =
+    cond-either PduFaults (not (eqb (getD s (at + 1) 0) (firstLength k))) _ _ (omega arith, omega arith)
+    (cond-either PduFaults (ltb (length s) (messageEnd s at)) _ _ (omega arith, omega arith) tt)
+
+message-faults : (version : ℕ) (s : List ℕ) (at : ℕ) → PduFaults (messageIn version s at)
+unfolding messageIn
+message-faults version s at =
+    cond-either PduFaults (eqb at (length s)) _ _ tt
+    (cond-either PduFaults (endMark s at) _ _ tt
+    (cond-either PduFaults (ltb (length s) (at + 4)) _ _ (omega arith, omega arith)
+    (header-faults (typeOctet version (getD s at 0)) s at)))
+
+list-faults : (s : List ℕ) (at : ℕ) (r : InPdu) (rest : Walk) → PduFaults r → Faults rest → Faults (messagesFrom s at r rest)
+unfolding messagesFrom
+list-faults s at (badMessage n) rest h g = h
+list-faults s at pduEnd rest h g = tt
+list-faults s at listSkipped rest h g = g
+list-faults s at (listOf k) rest h g = both-faults _ rest (vectors-faults (suc (listLength s at)) k (listAt s at) 0) g
 
 messages-faults : (f version : ℕ) (s : List ℕ) (at : ℕ) → Faults (messages f version s at)
 unfolding messages
 messages-faults zero version s at = (omega arith, omega arith)
 messages-faults (suc f) version s at =
-    cond-either Faults (eqb at (length s)) _ _ tt
-    (cond-either Faults (endMark s at) _ _ tt
-    (cond-either Faults (ltb (length s) (at + 4)) _ _ (omega arith, omega arith)
-    (message-faults (typeOctet version (getD s at 0)) s at _ (messages-faults f version s (messageEnd s at)))))
+    list-faults s at _ _ (message-faults version s at) (messages-faults f version s (messageEnd s at))
 
 afterVersion : List ℕ → Walk
 afterVersion s = messages (suc (length s)) (getD s 0 0) s 1

@@ -85,7 +85,7 @@ column-valid (suc (suc (suc k))) y b c e h l z some few p q = absurd (omega arit
 
 -- The entry, with its age.
 
-entry-back : (e : Entry) → toEntry (entryNumber e) ≡ e
+pub entry-back : (e : Entry) → toEntry (entryNumber e) ≡ e
 unfolding toEntry entryNumber
 entry-back noEntry = refl
 entry-back filters = refl
@@ -134,7 +134,7 @@ unfolding toDeclared declaredNumber
 declared-forth zero h = refl
 declared-forth (suc k) h = rw (ne-eqb (suc k) 0 (λ x. omega arith)) (ready-forth (suc k) (omega arith) h)
 
-declared-few : (d : Declared) → declaredNumber d ≤ 3
+pub declared-few : (d : Declared) → declaredNumber d ≤ 3
 unfolding declaredNumber
 declared-few nothing = omega arith
 declared-few (tells r) = ready-number r .1

@@ -11,7 +11,7 @@ use borrow.Author.Tests.{eq-eqb, eqb-true, le-leb, leb-true}
 use Rattle.octets.specs.Fields.{fields, packed, Fit, width, flat}
 use Rattle.octets.specs.Parts.{part, zeros}
 use Rattle.octets.proofs.Parts.{length-part}
-use Rattle.octets.proofs.Fields.{length-packed-any, fields-packed, fields-packed-behind, fields-of-packed, packed-fields, fields-fit, fit-at, beAt-fits}
+use Rattle.octets.proofs.Fields.{length-packed-any, fields-packed, fields-packed-behind, fields-of-packed, packed-fields, fields-fit, fit-at, beAt-fits, packed-zeros}
 use Rattle.model.specs.Layout.{cellSize, cellsPlace, cellsSize, clockPlace, clockSize, clockWidths, countPlace, nameSize, nameWidths, portPlace, portSize, recordSize, recordsPlace, recordsSize, resultSize, resultsPlace, resultsSize, settingsSize, settledPriorityPlace, tableLength, totalSize, totalsPlace, totalsSize, totalsWidths}
 use Rattle.model.specs.Lists.{All, allTrue, parts, Octets}
 use Rattle.model.specs.State.{Port, Totals, Stream, Bridge, empty, unsettled, noTotals, started}
@@ -317,6 +317,10 @@ totals-octets t = octets-packed totalsWidths (t .totalA ∷ t .totalB ∷ [])
 
 pub totals-sized : (l : List Totals) → All (Sized totalSize totalsOctets) l
 totals-sized = all-each (Sized totalSize totalsOctets) totals-length
+
+pub no-totals : totalsOctets noTotals ≡ zeros totalSize
+unfolding totalsOctets noTotals width
+no-totals = packed-zeros totalsWidths
 
 pub totals-back : (t : Totals) → FitTotals t → toTotals (totalsOctets t) ≡ t
 unfolding totalsOctets toTotals fields Fit

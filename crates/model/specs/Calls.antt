@@ -7,11 +7,13 @@ use Prim.Native.Nat.{ℕ}
 use lib.ListN.{length, drop}
 use lib.Dec.{ltb, eqb}
 use Rattle.model.specs.Layout.{tableLength}
+use Rattle.model.specs.FrameLayout.{longestPdu}
 use Rattle.model.specs.State.{Bridge, Settings, started}
 use Rattle.model.specs.Registrations.{Answer, received, asks}
-use Rattle.model.specs.Frames.{reading, wrongPort, longestPdu}
+use Rattle.model.specs.Frames.{reading, wrongPort}
 use Rattle.model.specs.Settling.{advance}
-use Rattle.model.specs.Declarations.{Written, write, Report, refusedReport, report}
+use Rattle.model.specs.Declarations.{Written, write}
+use Rattle.model.specs.Reports.{Report, refusedReport, report}
 use Rattle.model.specs.WrittenFrames.{pduOctets}
 use Rattle.model.specs.Table.{encode, decode, formed, settingsFormed, toSettings}
 

@@ -1,6 +1,6 @@
 -- The layout of the lent table (docs/TABLE.md): the widths of its fields, and every size and place, computed from them. Numbers of
 -- the layout stand here and in crate table's constants, and nowhere else.
-use Prim.Native.Nat.{ℕ, zero, suc, _+_, _*_}
+use Prim.Native.Nat.{ℕ, zero, suc, _+_, _-_, _*_}
 use mathlib.Core.List.{List, [], _∷_}
 
 -- the octets of fields, and of those before the field with an index
@@ -38,6 +38,18 @@ fixedWidths = 6 ∷ 2 ∷ 2 ∷ 2 ∷ 1 ∷ []
 -- a stream's StreamID and settled values
 abbrev pub nameWidths : List ℕ
 nameWidths = 8 ∷ fixedWidths
+
+-- leaving, since
+abbrev pub leavingWidths : List ℕ
+leavingWidths = 1 ∷ 4 ∷ []
+
+-- Bridge ID and code of a failure
+abbrev pub failureWidths : List ℕ
+failureWidths = 8 ∷ 1 ∷ []
+
+-- what varies in a Talker, behind its fixed values: latency and failure
+abbrev pub varyingWidths : List ℕ
+varyingWidths = 4 ∷ failureWidths
 
 -- a cell. Talker: kind (0 none, 1 Advertise, 2 Failed), changed mark, leaving, since, fixed values, latency, Bridge ID, code.
 -- Listener: kind (0 none, 1 Asking Failed, 2 Ready, 3 Ready Failed), leaving, since
@@ -77,6 +89,12 @@ nameSize = sum nameWidths
 
 abbrev pub cellSize : ℕ
 cellSize = sum cellWidths
+
+abbrev pub leavingSize : ℕ
+leavingSize = sum leavingWidths
+
+abbrev pub failureSize : ℕ
+failureSize = sum failureWidths
 
 abbrev pub cellsSize : ℕ
 cellsSize = 8 * cellSize
@@ -198,6 +216,9 @@ talkerSinceField = 3
 abbrev pub fixedField : ℕ
 fixedField = 4
 
+abbrev pub vlanField : ℕ
+vlanField = 5
+
 abbrev pub priorityField : ℕ
 priorityField = 8
 
@@ -219,6 +240,10 @@ listenerLeavesField = 13
 abbrev pub listenerSinceField : ℕ
 listenerSinceField = 14
 
+-- all of them; a Talker's are those before the Listener's
+abbrev pub cellFields : ℕ
+cellFields = 15
+
 abbrev pub talkerPlace : ℕ
 talkerPlace = before talkerField cellWidths
 
@@ -233,6 +258,9 @@ talkerSincePlace = before talkerSinceField cellWidths
 
 abbrev pub fixedPlace : ℕ
 fixedPlace = before fixedField cellWidths
+
+abbrev pub vlanPlace : ℕ
+vlanPlace = before vlanField cellWidths
 
 abbrev pub priorityPlace : ℕ
 priorityPlace = before priorityField cellWidths
@@ -249,6 +277,9 @@ codePlace = before codeField cellWidths
 -- the Talker stands before the Listener
 abbrev pub listenerPlace : ℕ
 listenerPlace = before listenerField cellWidths
+
+abbrev pub listenerSize : ℕ
+listenerSize = cellSize - listenerPlace
 
 abbrev pub listenerLeavesPlace : ℕ
 listenerLeavesPlace = before listenerLeavesField cellWidths

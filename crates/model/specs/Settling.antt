@@ -45,6 +45,7 @@ remain st now (x ∷ s) = keep (held (expire st now x .cells)) (expire st now x)
 
 -- The Talker: "The Talker port t of a stream is the lowest port with a Talker registration"; with what is registered there.
 
+-- the Talker port
 pub record Origin : Type 0 where
   pub port : ℕ
   pub registration : Registration

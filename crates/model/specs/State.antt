@@ -165,6 +165,14 @@ cellAt x p = getD (x .cells) p empty
 unfoldable pub resultAt : Stream → ℕ → Result
 resultAt x p = getD (x .results) p unsettled
 
+-- the stream at place k; past the last one stands one that has no StreamID and no results
+abbrev pub streamAt : ℕ → Bridge → Stream
+streamAt k b = getD (b .streams) k (fresh 0)
+
+-- the totals of the port at place p
+abbrev pub totalsAt : ℕ → Bridge → Totals
+totalsAt p b = getD (b .totals) p noTotals
+
 -- Classes (01, settings' class priorities; 35.2.2.9.2).
 
 pub data Class : Type 0 where

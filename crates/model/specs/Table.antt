@@ -9,7 +9,7 @@ use lib.Dec.{ltb, leb, eqb}
 use Rattle.octets.specs.Be.{beAt}
 use Rattle.octets.specs.Parts.{part, zeros}
 use Rattle.octets.specs.Fields.{fields, packed, flat}
-use Rattle.model.specs.Layout.{ageField, bridgeField, cellSize, cellWidths, cellsPlace, cellsSize, changedField, clockPlace, clockWidths, codeField, columnField, countPlace, declaredField, entryField, failureCodeField, failureField, headWidths, latencyOutField, listenerField, listenerLeavesField, listenerPlace, listenerSinceField, nameWidths, portPlace, portSize, portWidths, portsPlace, portsUnit, priorityAUnit, priorityBUnit, priorityField, recordSize, recordsPlace, resultSize, resultWidths, resultsPlace, resultsSize, settingsSize, settledPriorityPlace, tableLength, talkerField, talkerLeavesField, talkerSinceField, totalBPlace, totalSize, totalsPlace, totalsSize, totalsWidths, wordPlace}
+use Rattle.model.specs.Layout.{ageField, bridgeField, cellFields, cellSize, cellWidths, cellsPlace, cellsSize, changedField, clockPlace, clockWidths, codeField, columnField, countPlace, declaredField, entryField, failureCodeField, failureField, fixedField, headWidths, latencyField, latencyOutField, listenerField, listenerLeavesField, listenerPlace, listenerSinceField, nameWidths, portPlace, portSize, portWidths, portsPlace, portsUnit, priorityAUnit, priorityBUnit, priorityField, recordSize, recordsPlace, resultSize, resultWidths, resultsPlace, resultsSize, settingsSize, settledPriorityPlace, tableLength, talkerField, talkerLeavesField, talkerSinceField, totalBPlace, totalSize, totalsPlace, totalsSize, totalsWidths, wordPlace}
 use Rattle.model.specs.Lists.{allTrue, implies, parts, bit, isOne}
 use Rattle.model.specs.State.{Port, Settings, Leaving, stays, since, Fixed, Health, sound, broken, Registration, Talker, noTalker, talker, Ready, askingFailed, ready, readyFailed, Listener, noListener, listener, Cell, Column, none, advertise, failed, Entry, noEntry, filters, forwards, Declared, nothing, tells, Result, Stream, Totals, Bridge}
 use Rattle.model.specs.Frames.{priorityOf, rankOf}
@@ -111,14 +111,14 @@ unfoldable pub toHealth : ℕ → ℕ → ℕ → Health
 toHealth k b c = cond (eqb k 1) sound (broken b c)
 
 unfoldable pub talkerNumbers : Talker → List ℕ
-talkerNumbers noTalker = replicate 12 0
+talkerNumbers noTalker = replicate listenerField 0
 talkerNumbers (talker r) =
     let v = r .varying in
     healthNumber (v .health) ∷ bit (r .changed) ∷ leavingNumber (r .leaving) ∷ sinceNumber (r .leaving)
     ∷ (fixedNumbers (r .fixed) ++ (v .latency ∷ bridgeNumber (v .health) ∷ codeNumber (v .health) ∷ []))
 
 unfoldable pub listenerNumbers : Listener → List ℕ
-listenerNumbers noListener = replicate 3 0
+listenerNumbers noListener = replicate (cellFields - listenerField) 0
 listenerNumbers (listener r l) = readyNumber r ∷ leavingNumber l ∷ sinceNumber l ∷ []
 
 unfoldable pub cellNumbers : Cell → List ℕ
@@ -140,19 +140,19 @@ toReady k = cond (eqb k 1) askingFailed (cond (eqb k 2) ready readyFailed)
 
 unfoldable pub registrationFrom : List ℕ → Registration
 registrationFrom vs = record {
-  fixed = fixedFrom 4 vs;
-  varying = record { health = toHealth (getD vs 0 0) (getD vs 10 0) (getD vs 11 0); latency = getD vs 9 0 };
-  changed = isOne (getD vs 1 0);
-  leaving = toLeaving (getD vs 2 0) (getD vs 3 0);
+  fixed = fixedFrom fixedField vs;
+  varying = record { health = toHealth (getD vs talkerField 0) (getD vs bridgeField 0) (getD vs codeField 0); latency = getD vs latencyField 0 };
+  changed = isOne (getD vs changedField 0);
+  leaving = toLeaving (getD vs talkerLeavesField 0) (getD vs talkerSinceField 0);
 }
 
 unfoldable pub talkerFrom : List ℕ → Talker
-talkerFrom vs = cond (eqb (getD vs 0 0) 0) noTalker (talker (registrationFrom vs))
+talkerFrom vs = cond (eqb (getD vs talkerField 0) 0) noTalker (talker (registrationFrom vs))
 
 unfoldable pub listenerFrom : List ℕ → Listener
 listenerFrom vs =
-    cond (eqb (getD vs 12 0) 0) noListener
-    (listener (toReady (getD vs 12 0)) (toLeaving (getD vs 13 0) (getD vs 14 0)))
+    cond (eqb (getD vs listenerField 0) 0) noListener
+    (listener (toReady (getD vs listenerField 0)) (toLeaving (getD vs listenerLeavesField 0) (getD vs listenerSinceField 0)))
 
 unfoldable pub cellFrom : List ℕ → Cell
 cellFrom vs = record { talks = talkerFrom vs; hears = listenerFrom vs }

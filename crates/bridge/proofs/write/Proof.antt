@@ -5,7 +5,8 @@ use mathlib.Core.Bool.{true, false}
 use native.Mathlib.Omega.{arith}
 use borrow.Author.Needs.{needs}
 use lib.ListN.{length}
-use Rattle.model.specs.Frames.{wrongPort, longestPdu}
+use Rattle.model.specs.FrameLayout.{longestPdu}
+use Rattle.model.specs.Frames.{wrongPort}
 use Rattle.model.specs.Table.{formed, decode}
 use Rattle.model.specs.Laid.{Laid}
 use Rattle.model.proofs.Parts.{octets-of}

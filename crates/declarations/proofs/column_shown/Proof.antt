@@ -1,6 +1,6 @@
 -- `declarations::column_shown` meets its contract. Assumes nothing.
 use borrow.Author.Tests.{eq-eqb, ne-eqb}
-use Rattle.model.specs.Declarations.{wordOf}
+use Rattle.model.specs.Reports.{wordOf}
 use Rattle.model.specs.Table.{toColumn}
 use Rattle.declarations.specs.Shown.{columnWord}
 use Rattle.declarations.proofs.column_shown.Statement.{statement}

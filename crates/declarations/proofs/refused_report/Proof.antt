@@ -1,6 +1,6 @@
 -- `declarations::refused_report` meets its contract. Assumes nothing.
 use mathlib.Core.Path.{refl}
-use Rattle.model.specs.Declarations.{refusedReport}
+use Rattle.model.specs.Reports.{refusedReport}
 use Rattle.declarations.specs.Shown.{columnWord, declared, entered, shown}
 use Rattle.declarations.proofs.refused_report.Statement.{statement}
 use Rattle.declarations.proofs.refused_report.Tie as tie

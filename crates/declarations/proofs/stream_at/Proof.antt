@@ -5,7 +5,7 @@ use native.Mathlib.Omega.{arith}
 use borrow.Author.Needs.{needs}
 use lib.ListN.{length}
 use Rattle.model.specs.State.{Stream}
-use Rattle.model.specs.Declarations.{streamAt}
+use Rattle.model.specs.State.{streamAt}
 use Rattle.model.specs.Table.{decode}
 use Rattle.table.proofs.Header.{laid-length}
 use Rattle.table.proofs.Records.{lent-record-laid, lent-record-read}
