@@ -1,6 +1,6 @@
 -- The parts of a laid-out table by the place k of a stream and the place p of a port. Of each: what is read there, what the table
 -- is once it is replaced, and that the table stays laid out; and the same as a call sees it and leaves it.
-use Prim.Native.Nat.{ℕ, zero, suc, _+_, _-_, _*_, _<_, _≤_}
+use Prim.Native.Nat.{ℕ, zero, suc, _+_, _-_, _<_, _≤_}
 use native.Mathlib.Omega.{arith}
 use mathlib.Core.Path.{_≡_, refl, sym, ap, _∙_}
 use mathlib.Core.List.{List, [], _∷_, _++_}
@@ -17,7 +17,7 @@ use Rattle.model.specs.State.{Fixed, Cell, Result, Stream, Totals, Bridge, port
 use Rattle.model.specs.Registrations.{at, change, holding}
 use Rattle.model.specs.WrittenFrames.{fixedNumbers}
 use Rattle.model.specs.Table.{portOctets, toPort, fixedFrom, cellOctets, toCell, resultOctets, toResult, streamOctets, totalsOctets, toTotals, encode, decode}
-use Rattle.model.specs.Laid.{FitCell, FitResult, FitStream, FitTotals, FitBridge, LaidCell, LaidResult, Laid}
+use Rattle.model.specs.Laid.{FitCell, FitResult, FitStream, FitTotals, FitBridge, Laid}
 use Rattle.model.proofs.Lists.{all-at, all-set}
 use Rattle.model.proofs.Parts.{_also_}
 use Rattle.model.proofs.Cells.{fixed-back, cell-length}
@@ -25,7 +25,7 @@ use Rattle.model.proofs.Results.{result-length}
 use Rattle.model.proofs.SettingsOctets.{port-length, port-back}
 use Rattle.model.proofs.Tables.{totals-length, totals-back}
 use Rattle.model.proofs.Fits.{fit-fixed, cell-read, result-read, id-fits, settled-fits, bridge-read, laid-is, laid-fits}
-use Rattle.table.specs.Updates.{totalled, settledAs, resulting, streamAt, totalsAt, withStream, withSettled, withCell, withResult, withTotals}
+use Rattle.table.specs.Updates.{settledAs, resulting, streamAt, totalsAt, withStream, withSettled, withCell, withResult, withTotals}
 use Rattle.table.specs.Places.{Stands, PortIn, StandsOn}
 use Rattle.table.specs.Reads.{fixedOctets, toFixed, FitFixed, ReadsCell, ReadsResult, ReadsFixed, ReadsPort, ReadsTotals}
 use Rattle.table.proofs.Header.{table-length, laid-few, port-fits, port-part, totals-part, totals-patch}

@@ -1,6 +1,6 @@
 -- Changes of a bridge after which every number still fits its field: a cell, a result, a record, a stream put in, streams dropped, the
 -- clock, the totals.
-use Prim.Native.Nat.{ℕ, zero, suc, _+_, _^_, _≤_, _<_}
+use Prim.Native.Nat.{ℕ, zero, suc, _^_, _≤_, _<_}
 use native.Mathlib.Omega.{arith}
 use mathlib.Core.Path.{_≡_, refl, sym, ap, _∙_, subst}
 use mathlib.Core.Bool.{Bool, true, false}

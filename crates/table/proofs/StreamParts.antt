@@ -1,6 +1,6 @@
--- The parts of a stream record: StreamID, settled values, cells and results; each read, replaced, or lent; and all cells, or
--- all results, changed.
-use Prim.Native.Nat.{ℕ, zero, suc, _+_, _-_, _*_, _<_}
+-- The parts of a stream record: StreamID, settled values, cells and results; each read, replaced, or lent; and all cells
+-- changed.
+use Prim.Native.Nat.{ℕ, zero, suc, _+_, _-_, _<_}
 use native.Mathlib.Omega.{arith}
 use mathlib.Core.Path.{_≡_, refl, sym, ap, _∙_}
 use mathlib.Core.List.{List, [], _∷_, _++_, append-assoc, append-nil, map}
@@ -101,14 +101,6 @@ results-laid x = simp (append-assoc, append-nil)
 module _ (x : Stream) (w : FitStream x) where
   ahead-length : length (ahead x) ≡ resultsPlace
   ahead-length = length-append (name x) (flat cellOctets (x .cells)) ∙ omega (arith, name-length x, length-cells x (w .eight-cells) (w .eight-results))
-
-  pub results-each : (f : List ℕ → List ℕ) (g : Result → Result) → All (λ r. f (resultOctets r) ≡ resultOctets (g r)) (x .results)
-      → eachFrom resultsPlace 8 resultSize f (streamOctets x) ≡ streamOctets (resulting (map g) x)
-  results-each f g same =
-      ap (eachFrom resultsPlace 8 resultSize f) (results-laid x)
-      ∙ ap (λ (k : ℕ). eachFrom resultsPlace k resultSize f (ahead x ++ (flat resultOctets (x .results) ++ []))) (sym (w .eight-results))
-      ∙ each-one resultSize resultOctets resultsPlace (ahead x) [] ahead-length (x .results) (results-sized (x .results)) f g same
-      ∙ sym (results-laid (resulting (map g) x))
 
   module _ (p a : ℕ) (h : p < 8) (e : a ≡ resultIn p) where
     a-result : p < length (x .results)

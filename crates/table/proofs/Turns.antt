@@ -1,4 +1,4 @@
--- Loops that lend one record of a table after another, or one cell or result of a record, to a call that changes it: what the
+-- Loops that lend one record of a table after another, or one cell of a record, to a call that changes it: what the
 -- call sees, a turn, and the end.
 use Prim.Native.Nat.{ℕ, suc, _+_, _-_, _*_, _≤_, _<_}
 use native.Mathlib.Omega.{arith}
@@ -8,21 +8,19 @@ use lib.ListN.{length, take, drop}
 use Rattle.octets.specs.Parts.{eachFrom}
 use Rattle.octets.proofs.Parts.{eachFrom-turn}
 use Rattle.octets.proofs.Patches.{eachFrom-rest}
-use Rattle.model.specs.Layout.{cellIn, cellSize, cellsPlace, recordPlace, recordSize, recordsPlace, resultIn, resultSize, resultsPlace}
-use Rattle.model.specs.State.{Cell, Result, Stream}
+use Rattle.model.specs.Layout.{cellIn, cellSize, cellsPlace, recordPlace, recordSize, recordsPlace, resultSize}
+use Rattle.model.specs.State.{Cell, Stream}
 use Rattle.model.specs.Registrations.{change, holding}
-use Rattle.model.specs.Table.{cellOctets, toCell, resultOctets, toResult, streamOctets, toStream, encode, decode}
-use Rattle.model.specs.Laid.{FitCell, FitResult, FitStream, LaidCell, LaidResult, LaidStream, Laid}
+use Rattle.model.specs.Table.{cellOctets, toCell, toResult, streamOctets, toStream, encode, decode}
+use Rattle.model.specs.Laid.{FitCell, FitStream, LaidCell, LaidStream, Laid}
 use Rattle.model.proofs.Lists.{all-map}
 use Rattle.model.proofs.Parts.{length-parts}
 use Rattle.model.proofs.Cells.{cell-length}
-use Rattle.model.proofs.Results.{result-length}
 use Rattle.model.proofs.Tables.{stream-length}
-use Rattle.model.proofs.Fits.{cell-read, result-read, stream-read, laid-is, laid-fits, laid-stream-is, laid-stream-fits}
-use Rattle.table.specs.Updates.{resulting}
+use Rattle.model.proofs.Fits.{cell-read, stream-read, laid-is, laid-fits, laid-stream-is, laid-stream-fits}
 use Rattle.table.proofs.Header.{laid-length}
 use Rattle.table.proofs.Records.{records-each, lent-record-laid}
-use Rattle.table.proofs.StreamParts.{cells-each, results-each, lent-cell-laid, lent-result-laid}
+use Rattle.table.proofs.StreamParts.{cells-each, lent-cell-laid}
 
 -- What a loop lends at its next turn is as it was.
 
@@ -97,30 +95,3 @@ module _ (g : Cell → Cell) where
       ap (eachFrom cellsPlace 8 cellSize onCell) (laid-stream-is s₀ l)
       ∙ cells-each x w onCell g
       (all-map FitCell (λ c. onCell (cellOctets c) ≡ cellOctets (g c)) (λ c f. ap (λ (d : Cell). cellOctets (g d)) (cell-read c f)) (x .cells) (w .cells))
-
--- Results. The call ensures `now (p .exit) ≡ resultOctets (g (toResult (now (p .entry))))`.
-
-module _ (g : Result → Result) where
-  abbrev pub onResult : List ℕ → List ℕ
-  onResult s = resultOctets (g (toResult s))
-
-  pub on-result-length : (s : List ℕ) → length s ≡ resultSize → length (onResult s) ≡ resultSize
-  on-result-length s e = result-length (g (toResult s))
-
-  module _ (s₀ s : List ℕ) (l : LaidStream s₀) (m : length s₀ ≡ recordSize) (p : ℕ) (h : p < 8) (e : s ≡ eachFrom resultsPlace p resultSize onResult s₀) where
-    pub turn-result-laid : LaidResult (take (resultIn p + resultSize - resultIn p) (drop (resultIn p) s))
-    turn-result-laid =
-        subst LaidResult (sym (lent-rest resultSize onResult on-result-length resultsPlace p s₀ s (omega arith) e)) (lent-result-laid s₀ l p (resultIn p) h (omega arith))
-
-    pub turn-result : (y : List ℕ) → y ≡ onResult (take (resultIn p + resultSize - resultIn p) (drop (resultIn p) s))
-        → take (resultIn p) s ++ (y ++ drop (resultIn p + resultSize - resultIn p) (drop (resultIn p) s)) ≡ eachFrom resultsPlace (p + 1) resultSize onResult s₀
-    turn-result y q = eachFrom-turn resultsPlace resultSize onResult on-result-length p s₀ s y (omega arith) e q
-
-  pub turned-results : (s₀ : List ℕ) → LaidStream s₀ → eachFrom resultsPlace 8 resultSize onResult s₀ ≡ streamOctets (resulting (map g) (toStream s₀))
-  turned-results s₀ l =
-      let x = toStream s₀ in
-      let w = laid-stream-fits s₀ l in
-      ap (eachFrom resultsPlace 8 resultSize onResult) (laid-stream-is s₀ l)
-      ∙ results-each x w onResult g
-      (all-map FitResult (λ r. onResult (resultOctets r) ≡ resultOctets (g r)) (λ r f. ap (λ (d : Result). resultOctets (g d)) (result-read r f)) (x .results)
-      (w .results))

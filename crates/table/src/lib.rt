@@ -21,22 +21,33 @@ pub mod cell;
 pub mod port;
 pub mod result;
 
-// The layout of a table, in octets (docs/TABLE.md): how long a port's settings and totals, a stream's StreamID with its settled
-// values, a cell, a result and a record are.
-pub const PORT: usize = 22;
+// The layout of a table, in octets (docs/TABLE.md). How long a port's settings and its totals are, where class B's stand among
+// these; a Talker's fixed values, which a stream's settled ones are; a cell and a result.
+pub const PORT: usize = port::LATENCY_B + 4;
 
-pub const TOTAL: usize = 10;
+pub const TOTAL_B: usize = 5;
 
-pub const NAME: usize = 21;
+pub const TOTAL: usize = TOTAL_B + 5;
 
-pub const CELL: usize = 39;
+pub const FIXED: usize = cell::PRIORITY + 1 - cell::DESTINATION;
 
-pub const RESULT: usize = 20;
+pub const CELL: usize = cell::LISTENER_SINCE + 4;
 
-pub const RECORD: usize = NAME + 8 * CELL + 8 * RESULT;
+pub const RESULT: usize = result::DECLARED + 1;
 
-// Where the field of the number of ports, class priorities and leave time, the ports' settings, the clock, the number of streams,
-// the totals and the records stand.
+// A record: behind the StreamID the settled values, with priority and rank last of them; cells and results.
+pub const SETTLED: usize = 8;
+
+pub const SETTLED_PRIORITY: usize = CELLS - 1;
+
+pub const CELLS: usize = SETTLED + FIXED;
+
+pub const RESULTS: usize = CELLS + 8 * CELL;
+
+pub const RECORD: usize = RESULTS + 8 * RESULT;
+
+// A table: behind the Bridge ID the field of the number of ports, class priorities and leave time, the ports' settings, the clock,
+// the number of streams, the totals and the records.
 pub const HEAD: usize = 8;
 
 pub const PORTS: usize = HEAD + 3;
@@ -51,24 +62,12 @@ pub const RECORDS: usize = TOTALS + 8 * TOTAL;
 
 pub const LENGTH: usize = RECORDS + 64 * RECORD;
 
-// Within a record: settled values, with priority and rank last of them; cells and results.
-pub const SETTLED: usize = 8;
-
-pub const SETTLED_PRIORITY: usize = NAME - 1;
-
-pub const CELLS: usize = NAME;
-
-pub const RESULTS: usize = CELLS + 8 * CELL;
-
-// A Talker's fixed values, which a stream's settled ones are.
-pub const FIXED: usize = NAME - SETTLED;
-
 // Units of the field of ports, class priorities and leave time.
-pub const PORTS_UNIT: u64 = 1048576;
-
-pub const PRIORITY_A_UNIT: u64 = 131072;
-
 pub const PRIORITY_B_UNIT: u64 = 16384;
+
+pub const PRIORITY_A_UNIT: u64 = 8 * PRIORITY_B_UNIT;
+
+pub const PORTS_UNIT: u64 = 8 * PRIORITY_A_UNIT;
 
 // The number of streams held.
 pub fn count(table: &[u8]) -> usize
