@@ -3,4 +3,3 @@ pub mod Fitting
 pub mod Written
 pub mod Vectors
 pub mod Walk
-pub mod Showing

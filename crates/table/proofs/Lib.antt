@@ -12,3 +12,4 @@ pub mod Dropping
 pub mod Turns
 pub mod ByPlace
 pub mod EachStream
+pub mod ReadOctets

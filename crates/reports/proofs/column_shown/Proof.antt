@@ -1,10 +1,10 @@
--- `declarations::column_shown` meets its contract. Assumes nothing.
+-- `reports::column_shown` meets its contract. Assumes nothing.
 use borrow.Author.Tests.{eq-eqb, ne-eqb}
 use Rattle.model.specs.Reports.{wordOf}
 use Rattle.model.specs.Table.{toColumn}
-use Rattle.declarations.specs.Shown.{columnWord}
-use Rattle.declarations.proofs.column_shown.Statement.{statement}
-use Rattle.declarations.proofs.column_shown.Tie as tie
+use Rattle.reports.specs.Shown.{columnWord}
+use Rattle.reports.proofs.column_shown.Statement.{statement}
+use Rattle.reports.proofs.column_shown.Tie as tie
 
 returns : tie.Need-returns
 unfolding columnWord wordOf toColumn

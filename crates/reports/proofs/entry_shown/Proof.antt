@@ -1,9 +1,9 @@
--- `declarations::entry_shown` meets its contract. Assumes nothing.
+-- `reports::entry_shown` meets its contract. Assumes nothing.
 use borrow.Author.Tests.{eq-eqb, ne-eqb}
 use Rattle.model.specs.Table.{toEntry}
-use Rattle.declarations.specs.Shown.{entered}
-use Rattle.declarations.proofs.entry_shown.Statement.{statement}
-use Rattle.declarations.proofs.entry_shown.Tie as tie
+use Rattle.reports.specs.Shown.{entered}
+use Rattle.reports.proofs.entry_shown.Statement.{statement}
+use Rattle.reports.proofs.entry_shown.Tie as tie
 
 returns : tie.Need-returns
 unfolding entered toEntry
