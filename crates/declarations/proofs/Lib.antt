@@ -1,5 +1,5 @@
 pub mod Declared
-pub mod Fitting
-pub mod Written
 pub mod Vectors
 pub mod Walk
+pub mod Fitting
+pub mod Written
