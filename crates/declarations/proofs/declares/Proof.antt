@@ -5,20 +5,10 @@ use Rattle.declarations.proofs.Vectors.{advertise-seen, failed-seen, li
 use Rattle.declarations.proofs.declares.Statement.{statement}
 use Rattle.declarations.proofs.declares.Tie as tie
 
-returns : tie.Need-returns
-unfolding kind
-returns c = rw (c .before .enum-told .given .1) (advertise-seen _ _ (c .before .before .before .result-at .ensures))
-
-returns-2 : tie.Need-returns-2
-unfolding kind
-returns-2 c = rw (c .before .enum-told2 .given .1) (failed-seen _ _ (c .before .before .before .result-at .ensures))
-
-returns-3 : tie.Need-returns-3
-unfolding kind
-returns-3 c = rw (c .before .enum-told3 .given .1) (listener-seen _ _ (c .before .before .before .result-at .ensures))
-
 pub declares-spec : {M : Type 1} → statement M
 declares-spec =
     tie.close
-    (tie.spec (λ c κs. search needs) (λ c. search needs) (λ c. search needs) (λ c. search needs) (λ c. search needs) (λ c. search needs) (λ c. search needs) returns
-    returns-2 returns-3)
+    (tie.spec (λ c κs. search needs) (λ c. search needs) (λ c. search needs) (λ c. search needs) (λ c. search needs) (λ c. search needs) (λ c. search needs)
+    (λ c. unfold kind in rw (c .before .enum-told .given .1) (advertise-seen _ _ (c .before .before .before .result-at .ensures)))
+    (λ c. unfold kind in rw (c .before .enum-told2 .given .1) (failed-seen _ _ (c .before .before .before .result-at .ensures)))
+    (λ c. unfold kind in rw (c .before .enum-told3 .given .1) (listener-seen _ _ (c .before .before .before .result-at .ensures))))
