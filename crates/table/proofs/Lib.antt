@@ -13,3 +13,4 @@ pub mod Turns
 pub mod ByPlace
 pub mod PartOctets
 pub mod EachStream
+pub mod ReadOctets
