@@ -188,7 +188,7 @@ reportTwo = record {
   entry = forwards;
 }
 
-reports-computed : (Reports.report settled 1 0 ≡ reportOne) × (Reports.report settled 2 0 ≡ reportTwo)
+reports-computed : (reports.report settled 1 0 ≡ reportOne) × (reports.report settled 2 0 ≡ reportTwo)
 unfolding opened reportOne reportTwo
 reports-computed = (refl, refl)
 
