@@ -127,7 +127,7 @@ holding-pass k l s w b now h =
 behind-version : (a f l e : List ℕ) → ((((0 ∷ []) ++ a) ++ f) ++ l) ++ e ≡ 0 ∷ (a ++ (f ++ (l ++ e)))
 behind-version a f l e = ap (λ (m : List ℕ). 0 ∷ m) (append-assoc (a ++ f) l e ∙ append-assoc a f (l ++ e))
 
--- From a place on, of the declarations of the port at place p: how far the PDU is before each pass and at the end.
+-- From a place on, of the declarations of port p: how far the PDU is before each pass and at the end.
 module _ (p place : ℕ) (s : List Stream) where
   abbrev of : Kind → List Declaration
   of k = ofKind k p s

@@ -26,7 +26,7 @@ kind Advertise = advertises
 kind Failed = faileds
 kind Listener = listeners
 
--- what a stream declares of a type on the port at a place: one declaration or none
+-- what a stream declares of a type on port p: one declaration or none
 unfoldable pub declares : Kind → ℕ → Stream → List Declaration
 declares k p x = declarationsOf k x (resultAt x p)
 

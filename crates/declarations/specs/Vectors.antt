@@ -30,7 +30,7 @@ headed id = be 2 1 ++ be 8 id
 unfoldable pub talkerBegun : Stream → List ℕ
 talkerBegun x = headed (x .id) ++ fixedOctets (x .settled)
 
--- so many octets of the result on the port at place p, from latency on, and JoinMt
+-- so many octets of the result on port p, from latency on, and JoinMt
 unfoldable pub talkerVector : ℕ → ℕ → Stream → List ℕ
 talkerVector more p x = (talkerBegun x ++ part latencyOutPlace more (resultOctets (resultAt x p))) ++ (108 ∷ [])
 

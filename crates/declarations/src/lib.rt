@@ -1,4 +1,5 @@
-// What a port writes: its declarations by place, and the PDU that takes as many as fit from a place on.
+// What a port writes: its declarations by place, and the PDU that takes as many as fit from a place on. Ports p and streams k are
+// counted from 0.
 ghost use mathlib.Core.Path.{_≡_};
 ghost use mathlib.Core.List.{[], _∷_};
 ghost use Prim.Native.Nat.{_+_, _*_, _≤_};
@@ -88,7 +89,7 @@ fn type_and_length(attribute: Attribute) -> u64
     }
 }
 
-// Whether stream k has a declaration of a type on the port at place p.
+// Whether stream k has a declaration of a type on port p.
 fn declares(table: &[u8], k: usize, p: usize, attribute: Attribute) -> bool
     requires { ⌜ StandsOn (now table) k p ⌝ }
     ensures { λ r. ⌜ r ≡ some (passes.declares (kind attribute) p (streamAt k (decode (now (table .entry))))) ⌝ }
@@ -120,7 +121,7 @@ fn count_of(table: &[u8], p: usize, attribute: Attribute) -> usize
     n
 }
 
-// The number of declarations of the port at place p.
+// The number of declarations of port p.
 pub fn count_declarations(table: &[u8], p: usize) -> usize
     requires { ⌜ PortIn (now table) p ⌝ }
     ensures { λ r. ⌜ (r ≡ length (model.declarations p (decode (now (table .entry)) .streams))) × (r ≤ 192) ⌝ }

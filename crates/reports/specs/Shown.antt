@@ -48,7 +48,7 @@ shown r = record {
   entry = entered (r .entry);
 }
 
--- what is shown of a stream on the port at place p
+-- what is shown of a stream on port p
 pub record ShowsStream (x : Stream) (p : ℕ) (r : StreamShown) : Type 0 where
   pub id : r .id ≡ x .id
   pub column : columnWord (r .column) ≡ wordOf (resultAt x p .column)

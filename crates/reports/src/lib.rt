@@ -1,4 +1,4 @@
-// What a report shows of a port, and of a stream there.
+// What a report shows of a port, and of a stream there. Ports p and streams k are counted from 0.
 ghost use mathlib.Core.Path.{_≡_};
 ghost use Prim.Native.Nat.{_+_};
 ghost use Rattle.model.specs.State.{streamAt};
@@ -101,7 +101,7 @@ fn entry_shown(number: u8) -> EntryShown
     EntryShown::Forward
 }
 
-// Stream k, as the last advance settled it on the port at place p.
+// Stream k, as the last advance settled it on port p.
 fn stream_shown(table: &[u8], k: usize, p: usize) -> StreamShown
     requires { ⌜ StandsOn (now table) k p ⌝ }
     ensures { λ r. ⌜ ShowsStream (streamAt k (decode (now (table .entry)))) p r ⌝ }
@@ -134,7 +134,7 @@ fn stream_at(table: &[u8], p: usize, place: usize) -> StreamShown
     }
 }
 
-// Class totals and limits of the port at place p.
+// Class totals and limits of port p.
 fn port_shown(table: &[u8], p: usize) -> PortShown
     requires { ⌜ PortIn (now table) p ⌝ }
     ensures { λ r. ⌜ ShowsPort (decode (now (table .entry))) p r ⌝ }
@@ -168,7 +168,7 @@ pub fn refused_report(number: u8) -> Reported
     }
 }
 
-// The report of the port at place p, with the stream at the report's place.
+// The report of port p, with the stream at the report's place.
 pub fn report_at(table: &[u8], p: usize, place: usize) -> Reported
     requires { ⌜ ReportIn (now table) p place ⌝ }
     ensures { λ r. ⌜ shown r ≡ report (decode (now (table .entry))) (p + 1) place ⌝ }

@@ -21,7 +21,7 @@ abbrev μ-loop : tie.MeasureT-loop
 loop-holds : tie.Need-loop-holds Inv-loop μ-loop
 loop-holds c = (omega arith, omega arith, omega arith)
 
--- there is a stream at place k
+-- there is a stream k
 held : (c : tie.In-loop Inv-loop μ-loop) → c .before .loop .k < length (decode (c .before .before .before .before .args .table .now) .streams)
 held c = omega arith
 

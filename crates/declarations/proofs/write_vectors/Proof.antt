@@ -28,7 +28,7 @@ loop-holds c =
     let e = ap (λ (m : ℕ). start .args .run .count * m) (c .vector-size .ensures .0) in
     (refl, record { room = omega (arith, e, start .pre .1); enough = start .pre .0 .enough; is = refl })
 
--- there is a stream at place k
+-- there is a stream k
 places : (c : tie.In-loop Inv-loop μ-loop) → StandsOn (c .before .before .before .before .before .args .table .now) (c .before .loop .k) (c .before .before .before .before .before .args .p)
 places c =
     let port = c .before .before .before .before .before .pre .0 .port in
