@@ -67,11 +67,11 @@ module _ (st : Settings) (p : ℕ) (c : Class) where
 
 -- Totals.
 
-limit-fits : (st : Settings) → FitSettings st → (p : ℕ) (c : Class) → limit (portAt st p) c < 256 ^ 5
-unfolding limit portNumbers
-limit-fits st w p noClass = omega arith
-limit-fits st w p classA = fit-at portWidths (portNumbers (portAt st p)) (port-fits st w p) 3
-limit-fits st w p classB = fit-at portWidths (portNumbers (portAt st p)) (port-fits st w p) 4
+limit-fits : (b : Bridge) → FitBridge b → (p : ℕ) (c : Class) → limitShown (b .settings) b p c < 256 ^ 5
+unfolding limitShown limit portNumbers
+limit-fits b w p noClass = omega arith
+limit-fits b w p classA = fit-at portWidths (portNumbers (portAt (b .settings) p)) (port-fits (b .settings) (w .settings) p) 3
+limit-fits b w p classB = fit-at portWidths (portNumbers (portAt (b .settings) p)) (port-fits (b .settings) (w .settings) p) 4
 
 total-fits : (c : Class) (n : ℕ) (t : Totals) → n < 256 ^ 5 → FitTotals t → FitTotals (withTotal c n t)
 unfolding withTotal
@@ -93,10 +93,10 @@ module _ (b : Bridge) (w : FitBridge b) (p : ℕ) (h : p < 8) (c : Class) where
       map-fits b w (admit (b .settings) p c l cs) (λ x f. admit-fits (b .settings) p c (w .settings) h x f l cs) (admit-id (b .settings) p c l cs)
 
   pub admission-fits : FitBridge (admission p c b)
-  unfolding admission limitShown holding
+  unfolding admission holding
   admission-fits =
       let t = withTotal c (total l cs) (totalsAt p b) in
-      let small : total l cs < 256 ^ 5 = unfold total in (omega (arith, within l (sort cs), limit-fits (b .settings) (w .settings) p c)) in
+      let small : total l cs < 256 ^ 5 = unfold total in (omega (arith, within l (sort cs), limit-fits b w p c)) in
       totalled-fits (holding b (map (admit (b .settings) p c l cs) (b .streams))) admitted-fits (set (b .totals) p t)
       (length-set (b .totals) p t ∙ w .eight-totals)
       (all-set FitTotals (b .totals) p t (w .totals)

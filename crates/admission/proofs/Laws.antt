@@ -101,12 +101,13 @@ module _ (st : Settings) (p : ℕ) (x : Stream) (port fixed : List ℕ) (q : toP
 
 -- The numbers of those that wait.
 
-module _ (l : List ℕ) (n v : ℕ) (t : Bool) where
-  pub noted : n < length l → t ≡ true → take (n + 1) (set l n v) ≡ take n l ++ keep t v []
-  noted h e = rw (e, add-one n) (take-suc-set l n v h)
+-- the number v behind the first n, where r says that the stream waits
+module _ (l : List ℕ) (n v : ℕ) (r t : Bool) (e : r ≡ t) where
+  pub noted : n < length l → r ≡ true → take (n + 1) (set l n v) ≡ take n l ++ keep t v []
+  noted h g = rw (← e, g, add-one n) (take-suc-set l n v h)
 
-  pub not-noted : t ≡ false → take n l ≡ take n l ++ keep t v []
-  not-noted e = rw e (sym (append-nil (take n l)))
+  pub not-noted : r ≡ false → take n l ≡ take n l ++ keep t v []
+  not-noted g = rw (← e, g) (sym (append-nil (take n l)))
 
 module _ (st : Settings) (p : ℕ) (c : Class) (k : ℕ) (s : List Stream) where
   pub gather-more : (front more : List ℕ) → k < length s →

@@ -104,8 +104,7 @@ fn in_order(table: &[u8], p: usize, b: bool, numbers: &mut [u64]) -> usize
 // The limit in force on the port at place p.
 fn limit_in_force(table: &[u8], p: usize, b: bool) -> u64
     requires { ⌜ PortIn (now table) p ⌝ }
-    ensures { λ r. ⌜ (r ≡ stages.limitShown (decode (now (table .entry)) .settings) (decode (now (table .entry))) p (classFor b))
-        × (r < 256 ^ 5) ⌝ }
+    ensures { λ r. ⌜ r ≡ stages.limitShown (decode (now (table .entry)) .settings) (decode (now (table .entry))) p (classFor b) ⌝ }
 {
     let port = table::port_at(table, p);
     if b {

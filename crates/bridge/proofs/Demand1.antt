@@ -113,7 +113,7 @@ write-answers t p place buffer n long next u call = record {
   unaltered = rw (call .0, call .1, call .2, call .3) (Refusals.write-refused t p place buffer);
 }
 
--- Report at a place, on port p, gives the answer r: that of the code, with its words by `shown` (crate declarations).
+-- Report at a place, on port p, gives the answer r: that of the code, with its words by `shown` (crate reports).
 pub record ReportAnswers (t : List ℕ) (p place : ℕ) (r : Report) : Type 0 where
   pub numbers : OneOf (0 ∷ 1 ∷ 12 ∷ 13 ∷ []) (r .number)
   pub table : (r .number ≡ 12) ↔ (formed t ≡ false)

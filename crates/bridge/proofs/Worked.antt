@@ -101,7 +101,7 @@ module _ (b : Bridge) (v : Valid b) (p place : ℕ) (w : Frames.wrongPort (b .se
 -- to unfold the last of these is to unfold all definitions of the bridge, and the example's own
 
 settingsOpened : Unit {0}
-unfolding Lists.allTrue Lists.parts Lists.isOne Parts.part Be.beAt Be.be Fields.fields Table.headWidths Table.portWidths Table.portFrom Table.toPort Table.portsField Table.toSettings Table.portRule Table.everyPart Table.settingsRules Table.settingsFormed port settings
+unfolding Lists.allTrue Lists.parts Lists.isOne Parts.part Be.beAt Be.be Fields.fields Table.portFrom Table.toPort Table.portsField Table.toSettings Table.portRule Table.everyPart Table.settingsRules Table.settingsFormed port settings
 settingsOpened = tt
 
 stateOpened : Unit {0}
@@ -188,7 +188,7 @@ reportTwo = record {
   entry = forwards;
 }
 
-reports-computed : (Reports.report settled 1 0 ≡ reportOne) × (Reports.report settled 2 0 ≡ reportTwo)
+reports-computed : (reports.report settled 1 0 ≡ reportOne) × (reports.report settled 2 0 ≡ reportTwo)
 unfolding opened reportOne reportTwo
 reports-computed = (refl, refl)
 

@@ -2,7 +2,7 @@
 // each promises the one number, the one content of the table and of the buffer: those of crate model's `Calls`, by the relations
 // of specs/Promises.
 ghost use mathlib.Core.Path.{_≡_};
-ghost use Rattle.declarations.specs.Shown.{shown};
+ghost use Rattle.reports.specs.Shown.{shown};
 ghost use Rattle.bridge.specs.Promises.{Starts, Receives, Advances, Writes, Reports};
 use model::pdu;
 use model::refusal;
@@ -119,23 +119,23 @@ pub fn write(table: &[u8], port: u32, place: u32, buffer: &mut [u8]) -> Wrote
 }
 
 // Reports the streams held, a port's class totals and limits, and the stream at a place as the last advance settled it there.
-pub fn report(table: &[u8], port: u32, place: u32) -> declarations::Reported
+pub fn report(table: &[u8], port: u32, place: u32) -> reports::Reported
     ensures { λ r. ⌜ Reports (now (table .entry)) port place (shown r) ⌝ }
 {
     let formed = form::is_formed(table);
     if formed {
         let ports = table::ports(table);
         if port == 0 {
-            return declarations::refused_report(refusal::PORT);
+            return reports::refused_report(refusal::PORT);
         }
         if ports < port as usize {
-            return declarations::refused_report(refusal::PORT);
+            return reports::refused_report(refusal::PORT);
         }
         let count = table::count(table);
         if count < place as usize {
-            return declarations::refused_report(refusal::PLACE);
+            return reports::refused_report(refusal::PLACE);
         }
-        return declarations::report_at(table, port as usize - 1, place as usize);
+        return reports::report_at(table, port as usize - 1, place as usize);
     }
-    declarations::refused_report(refusal::TABLE)
+    reports::refused_report(refusal::TABLE)
 }

@@ -124,7 +124,7 @@ age-valid clock (suc (suc e)) a z h = rw (ne-eqb (suc (suc e)) 0 (λ x. omega ar
 
 -- The Listener declared.
 
-declared-back : (d : Declared) → toDeclared (declaredNumber d) ≡ d
+pub declared-back : (d : Declared) → toDeclared (declaredNumber d) ≡ d
 unfolding toDeclared declaredNumber
 declared-back nothing = refl
 declared-back (tells r) = rw (ready-rules r .1, ready-back r)

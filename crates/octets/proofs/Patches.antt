@@ -5,7 +5,7 @@ use native.Mathlib.Nat.{zero-mul, suc-mul}
 use native.Mathlib.Omega.{arith}
 use mathlib.Core.Path.{_≡_, sym, ap, _∙_}
 use mathlib.Core.List.{List, _++_, append-assoc}
-use lib.ListN.{length, take, drop, length-drop, take-append-drop}
+use lib.ListN.{length, take, drop, length-append, length-drop, take-append-drop}
 use lib.Seq.{length-take-le, take-at, drop-at, take-append-le, drop-append-le, drop-drop, drop-append-add}
 use Rattle.octets.specs.Parts.{part, patch, each, eachFrom}
 use Rattle.octets.proofs.Parts.{lent-length, length-part}
@@ -57,6 +57,16 @@ unfolding patch
 patch-again a n y z s e h =
     let l : length (take a s) ≡ a = length-take-le a s (omega arith) in
     rw (take-at (take a s) (z ++ drop n (drop a s)) a l, drop-at (take a s) (z ++ drop n (drop a s)) a l, drop-at z (drop n (drop a s)) n e)
+
+-- the part behind one that was replaced
+pub patch-next : (a n k : ℕ) (y z s : List ℕ) → length y ≡ n → a + n ≤ length s → patch (a + n) k z (patch a n y s) ≡ patch a (n + k) (y ++ z) s
+unfolding patch
+patch-next a n k y z s e h =
+    let l : length (take a s ++ y) ≡ a + n = length-append (take a s) y ∙ omega (arith, length-take-le a s (omega arith)) in
+    let rest = drop n (drop a s) in
+    ap (patch (a + n) k z) (sym (append-assoc (take a s) y rest))
+    ∙ rw (take-at (take a s ++ y) rest (a + n) l, drop-at (take a s ++ y) rest (a + n) l, drop-drop k n (drop a s))
+    (append-assoc (take a s) y (z ++ drop (n + k) (drop a s)) ∙ ap (λ (r : List ℕ). take a s ++ r) (sym (append-assoc y z (drop (n + k) (drop a s)))))
 
 -- What a loop has not come to is as it was.
 

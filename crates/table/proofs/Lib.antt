@@ -11,5 +11,5 @@ pub mod HeldRecords
 pub mod Dropping
 pub mod Turns
 pub mod ByPlace
-pub mod PartOctets
 pub mod EachStream
+pub mod ReadOctets

@@ -1,6 +1,5 @@
 -- `admission::note` meets its contract. Assumes nothing.
 use Prim.Native.Nat.{_<_}
-use mathlib.Core.Path.{sym, _∙_}
 use native.Mathlib.Omega.{arith}
 use lib.ListN.{length}
 use borrow.Author.Needs.{needs}
@@ -26,12 +25,12 @@ add-result c = omega (arith, room c)
 
 returns : tie.Need-returns
 returns c =
-    (rw (c .order-of .ensures) (noted _ _ _ _ (room c) (sym (c .before .before .waiting .ensures) ∙ c .before .if1 .taken)), omega (arith, c .before .before .before .before .before .pre .few))
+    (rw (c .order-of .ensures) (noted _ _ _ _ _ (c .before .before .waiting .ensures) (room c) (c .before .if1 .taken)), omega (arith, c .before .before .before .before .before .pre .few))
 
 returns-2 : tie.Need-returns-2
 returns-2 c =
     let a = c .before .before .before .before .args in
-    (not-noted (a .numbers .now) (a .n) _ _ (sym (c .before .waiting .ensures) ∙ c .if1 .left), omega (arith, c .before .before .before .before .pre .few))
+    (not-noted (a .numbers .now) (a .n) _ _ _ (c .before .waiting .ensures) (c .if1 .left), omega (arith, c .before .before .before .before .pre .few))
 
 pub note-spec : {M : Type 1} → statement M
 note-spec =

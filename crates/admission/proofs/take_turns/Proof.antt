@@ -1,4 +1,4 @@
--- `admission::take_turns` meets its contract. Assumes nothing.
+-- `admission::take_turns` meets its contract. The invariant: the turns of the numbers from i on are left. Assumes nothing.
 use Prim.Native.Nat.{_-_, _≤_}
 use mathlib.Core.Path.{_≡_, refl}
 use native.Mathlib.Omega.{arith}

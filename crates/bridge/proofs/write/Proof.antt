@@ -51,7 +51,10 @@ returns-3 c =
     (write-short _ _ _ _ (well-formed (c .before .before .before .before .before)) (a-port (c .before .before)) short)
 
 count-requires : tie.Need-count-declarations-requires
-count-requires c κs = (laid (c .before .before .before .before), omega (arith, c .before .before .before .ports .ensures .1, c .before .if3 .left, c .before .before .if2 .left))
+count-requires c κs = record {
+  laid = laid (c .before .before .before .before);
+  port = omega (arith, c .before .before .before .ports .ensures .1, c .before .if3 .left, c .before .before .if2 .left);
+}
 
 returns-4 : tie.Need-returns-4
 returns-4 c =
@@ -60,12 +63,14 @@ returns-4 c =
     (long-enough (c .before .before .before)) (rw (c .before .before .count-declarations .ensures .0) at (c .before .if5 .taken)))
 
 write-pdu-requires : tie.Need-write-pdu-requires
-write-pdu-requires c κs = (
-  laid (c .before .before .before .before .before .before .before),
-  omega (arith, c .before .before .before .before .before .before .ports .ensures .1, c .before .before .before .before .if3 .left, c .before .before .before .before .before .if2 .left),
-  omega (arith, c .before .before .count-declarations .ensures .1, c .before .if5 .left),
-  long-enough (c .before .before .before),
-)
+write-pdu-requires c κs = record {
+  port = record {
+    laid = laid (c .before .before .before .before .before .before .before);
+    port = omega (arith, c .before .before .before .before .before .before .ports .ensures .1, c .before .before .before .before .if3 .left, c .before .before .before .before .before .if2 .left);
+  };
+  within = omega (arith, c .before .before .count-declarations .ensures .1, c .before .if5 .left);
+  buffer = long-enough (c .before .before .before);
+}
 
 returns-5 : tie.Need-returns-5
 returns-5 c =

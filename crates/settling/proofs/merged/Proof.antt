@@ -7,7 +7,7 @@ use Rattle.model.specs.State.{cellAt, resultAt, streamAt}
 use Rattle.model.specs.Settling.{registered}
 use Rattle.model.specs.Table.{declaredNumber, decode}
 use Rattle.table.proofs.ByPlace.{stands-on}
-use Rattle.table.proofs.PartOctets.{column-octet, listener-octet}
+use Rattle.table.proofs.ReadOctets.{column-octet, listener-octet}
 use Rattle.settling.proofs.Merging.{passedFrom, mergedFrom, merged-none, merged-more, merged-all}
 use Rattle.settling.proofs.merged.Statement.{statement}
 use Rattle.settling.proofs.merged.Tie as tie

@@ -1,9 +1,9 @@
--- `declarations::listener_shown` meets its contract. Assumes nothing.
+-- `reports::listener_shown` meets its contract. Assumes nothing.
 use borrow.Author.Tests.{eq-eqb, ne-eqb}
 use Rattle.model.specs.Table.{toReady, toDeclared}
-use Rattle.declarations.specs.Shown.{declared}
-use Rattle.declarations.proofs.listener_shown.Statement.{statement}
-use Rattle.declarations.proofs.listener_shown.Tie as tie
+use Rattle.reports.specs.Shown.{declared}
+use Rattle.reports.proofs.listener_shown.Statement.{statement}
+use Rattle.reports.proofs.listener_shown.Tie as tie
 
 returns : tie.Need-returns
 unfolding declared toDeclared
