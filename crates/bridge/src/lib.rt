@@ -10,6 +10,13 @@ use model::refusal;
 // Octets of a table.
 pub const TABLE: usize = table::LENGTH;
 
+// In settings: the place of the octet that begins with the ports field; the octets before the first port's, and of each port's.
+pub const PORTS_FIELD: usize = table::HEAD;
+
+pub const SETTINGS: usize = table::PORTS;
+
+pub const PORT_SETTINGS: usize = table::PORT;
+
 // Starts a bridge with these settings: no streams, clock 0. It looks at the table's length only.
 pub fn start(table: &mut [u8], settings: &[u8]) -> u8
     ensures { λ r. ⌜ Starts (now (table .entry)) (now (settings .entry)) r (now (table .exit)) ⌝ }

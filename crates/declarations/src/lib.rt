@@ -16,9 +16,7 @@ ghost use Rattle.table.specs.Places.{Stands, StandsOn, PortIn};
 ghost use Rattle.declarations.specs.Vectors.{some, Holding, headed, talkerBegun, talkerVector, listenerVector, TalkerIn};
 ghost use Rattle.declarations.specs.Passes as passes;
 ghost use Rattle.declarations.specs.Passes.{kind, vectors, found, VectorIn, RunIn, runOf, PassIn, OpenIn, PassLeaves, WriteIn, PduWritten};
-
-// The longest PDU, in octets.
-pub const LONGEST: usize = 1500;
+use model::pdu;
 
 // The octets of an EndMark; of a Message's AttributeType, AttributeLength and list length; of all that a Message has beside its
 // vectors; and of that with the PDU's EndMark.
@@ -239,10 +237,10 @@ fn fits(used: usize, size: usize, left: usize) -> usize
     requires { ⌜ 1 ≤ size ⌝ }
     ensures { λ r. ⌜ r ≡ passes.fits used size left ⌝ }
 {
-    if LONGEST < used {
+    if pdu::LONGEST < used {
         return 0;
     }
-    let room = (LONGEST - used) / size;
+    let room = (pdu::LONGEST - used) / size;
     if room < left {
         return room;
     }

@@ -4,6 +4,7 @@ use mathlib.Core.List.{List, [], _∷_}
 use mathlib.Core.Bool.{true}
 use Prim.Native.Nat.{ℕ, _+_, _/_, _^_, _≤_, _<_}
 use lib.ListN.{length, drop}
+use Rattle.model.specs.Layout.{priorityBUnit}
 use Rattle.model.specs.Lists.{All}
 use Rattle.model.specs.State.{Port, Settings, Leaving, stays, since, Fixed, Health, sound, broken, Varying, Registration, Talker, noTalker, talker, Listener, noListener, listener, Cell, Column, none, advertise, failed, Entry, noEntry, filters, forwards, Result, Stream, Bridge, empty, unsettled}
 use Rattle.model.specs.Registrations.{ids}
@@ -24,7 +25,7 @@ pub record ValidSettings (st : Settings) : Type 0 where
   pub priorityB : st .priorityB < 8
   pub different : st .priorityA ≡ st .priorityB → ⊥
   pub leaves : 1 ≤ st .leaveTime
-  pub leaveTime : st .leaveTime < 16384
+  pub leaveTime : st .leaveTime < priorityBUnit
   pub some-port : 1 ≤ length (st .ports)
   pub eight-ports : length (st .ports) ≤ 8
   pub ports : All ValidPort (st .ports)

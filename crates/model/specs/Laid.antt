@@ -5,7 +5,7 @@ use mathlib.Core.List.{List, [], _∷_}
 use Prim.Native.Nat.{ℕ, _≤_, _<_, _^_}
 use lib.ListN.{length}
 use Rattle.octets.specs.Fields.{Fit}
-use Rattle.model.specs.Layout.{cellWidths, nameWidths, portWidths, resultWidths}
+use Rattle.model.specs.Layout.{cellWidths, nameWidths, portWidths, priorityBUnit, resultWidths}
 use Rattle.model.specs.Lists.{All}
 use Rattle.model.specs.State.{Settings, Talker, noTalker, talker, Cell, Result, Stream, Totals, Bridge}
 use Rattle.model.specs.Registrations.{ids}
@@ -36,7 +36,7 @@ pub record FitSettings (st : Settings) : Type 0 where
   pub bridgeId : st .bridgeId < 2 ^ 64
   pub priorityA : st .priorityA < 8
   pub priorityB : st .priorityB < 8
-  pub leaveTime : st .leaveTime < 16384
+  pub leaveTime : st .leaveTime < priorityBUnit
   pub eight-ports : length (st .ports) ≤ 8
   pub ports : All (λ q. Fit portWidths (portNumbers q)) (st .ports)
 
