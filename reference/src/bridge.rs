@@ -205,8 +205,9 @@ impl Table {
 
     /// A call that changes the bridge held; refused, it changes no octet.
     fn change(&mut self, call: impl FnOnce(&mut Bridge) -> Result<(), Number>) -> Number {
-        let Some(mut bridge) = self.bridge.clone() else {
-            return numbers::TABLE;
+        let mut bridge = match self.bridge.clone() {
+            Some(bridge) => bridge,
+            None => return numbers::TABLE,
         };
         match call(&mut bridge) {
             Ok(()) => {

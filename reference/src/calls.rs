@@ -24,11 +24,11 @@ pub fn run_watched(input: &[u8], watcher: &mut dyn Watcher) -> String {
     let mut table = Table::zeros();
     let mut printed = String::new();
     while !input.is_at_end() {
-        let Some(record) = take_record(&mut input) else {
-            printed.push_str("stop\n");
-            break;
-        };
-        printed.push_str(&make(&mut table, &record, watcher));
+        watcher.begins(input.taken());
+        match take_record(&mut input) {
+            Some(record) => printed.push_str(&make(&mut table, &record, watcher)),
+            None => return printed + "stop\n",
+        }
     }
     printed
 }

@@ -496,7 +496,7 @@ impl Coverage {
                         .filter(|held| held.attribute_type() == attribute_type)
                         .map(|held| held.leaving),
                 };
-                let earlier = leaving.flatten().is_some_and(|begun| begun < before.clock);
+                let earlier = leaving.flatten().map_or(false, |begun| begun < before.clock);
                 let left = vector.leave_all
                     || vector.values.iter().any(|(event, value)| {
                         let left_stream = match value {
@@ -577,7 +577,7 @@ impl Coverage {
             }
             self.count_if("second Talker on a port above", {
                 let talker_port = talker_port(bridge, stream_id);
-                talker_port.is_some_and(|at| at + 1 < port) && on_port.talker.is_some()
+                talker_port.map_or(false, |at| at + 1 < port) && on_port.talker.is_some()
             });
             self.latency(bridge, stream_id, port);
             if let Some(compared) = decision.compared {
@@ -607,8 +607,9 @@ impl Coverage {
             return;
         }
         let Settings { ports, .. } = &bridge.settings;
-        let Some(class) = bridge.settings.class_of(settled.parameters.priority) else {
-            return;
+        let class = match bridge.settings.class_of(settled.parameters.priority) {
+            Some(class) => class,
+            None => return,
         };
         let at = talker_port(bridge, stream_id).expect("a Talker is declared");
         let registered = bridge.registrations.streams[&stream_id][at].talker.as_ref();

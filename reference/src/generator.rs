@@ -720,7 +720,7 @@ impl History {
             10..=13 => after(u64::from(leave_time) - 1),
             14..=19 => after(u64::from(leave_time)),
             20..=22 => after(u64::from(leave_time) + 1),
-            23..=25 => after(u64::from(leave_time).div_ceil(2)),
+            23..=25 => after((u64::from(leave_time) + 1) / 2),
             26..=31 => after(random.between(50, 150)),
             32..=34 => after(random.below(3 * u64::from(leave_time))),
             35 => after(random.below(10_000_000)),

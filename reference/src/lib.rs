@@ -18,6 +18,7 @@
 //! * [`records`]: taking records from an input, and watching the calls they make;
 //! * [`sheet`], [`calls`]: the two programs;
 //! * [`script`]: inputs written by hand;
+//! * [`refusals`]: the lines of such an input whose calls were refused;
 //! * [`written`]: PDUs that a port has written, taken apart;
 //! * [`frame`], [`random`], [`stored`], [`generator`], [`files`]: inputs for comparisons;
 //! * [`coverage`]: what the generated inputs reach.
@@ -33,6 +34,7 @@ pub mod numbers;
 pub mod pdu;
 pub mod random;
 pub mod records;
+pub mod refusals;
 pub mod registrations;
 pub mod script;
 pub mod settings;

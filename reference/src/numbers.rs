@@ -31,3 +31,27 @@ pub const SETTINGS: Number = 11;
 pub const TABLE: Number = 12;
 /// 13: place is above the number of declarations (write) or streams held (report).
 pub const PLACE: Number = 13;
+
+/// A refusal's number in words.
+pub fn in_words(number: Number) -> &'static str {
+    match number {
+        PORT => "the port is 0 or above the bridge's ports",
+        PDU_LENGTH => "the PDU has 0 octets or more than 1,500",
+        RUNS_PAST => {
+            "a field runs past the PDU or its list, or a list's EndMark isn't its last two octets"
+        }
+        ATTRIBUTE_TYPE => "AttributeType 0, or above 4 with ProtocolVersion 0",
+        ATTRIBUTE_LENGTH => "AttributeLength is not that of the type",
+        EVENT => "LeaveAllEvent above 1, or a ThreePackedEvents octet above 215",
+        VALUE => "a value runs past its field",
+        STREAMS => "streams held plus different new ones joined by this PDU exceed 64",
+        TIME => "the time is below the held clock",
+        BUFFER => "the output buffer is shorter than 1,500 octets",
+        SETTINGS => "the settings are not as docs/TABLE.md lays them out",
+        TABLE => "the table has the wrong length or breaks a form rule",
+        PLACE => {
+            "the place is above the number of declarations (write) or of streams held (report)"
+        }
+        _ => "a number that no call gives",
+    }
+}

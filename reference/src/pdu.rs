@@ -289,9 +289,9 @@ fn read_list(attribute_type: AttributeType, list: &[u8]) -> Result<Vec<Vector>, 
         if leave_all_event > 1 {
             return Err(numbers::EVENT.into());
         }
-        let three_packed_octets = number_of_values.div_ceil(3);
+        let three_packed_octets = (number_of_values + 2) / 3;
         let four_packed_octets = match attribute_type {
-            AttributeType::Listener => number_of_values.div_ceil(4),
+            AttributeType::Listener => (number_of_values + 3) / 4,
             _ => 0,
         };
         let first_value_length = attribute_type.first_value_length();

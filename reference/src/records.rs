@@ -6,12 +6,18 @@ use crate::numbers::Number;
 /// An input that is taken from the front. Numbers are most significant octet first. What would
 /// run past the end isn't given; the record it belongs to is cut.
 pub struct Input<'a> {
+    length: usize,
     rest: &'a [u8],
 }
 
 impl<'a> Input<'a> {
     pub fn new(octets: &'a [u8]) -> Input<'a> {
-        Input { rest: octets }
+        Input { length: octets.len(), rest: octets }
+    }
+
+    /// How many octets were taken.
+    pub fn taken(&self) -> usize {
+        self.length - self.rest.len()
     }
 
     pub fn is_at_end(&self) -> bool {
@@ -20,8 +26,8 @@ impl<'a> Input<'a> {
 
     /// So many octets.
     pub fn octets(&mut self, length: usize) -> Option<&'a [u8]> {
-        let (taken, rest) = self.rest.split_at_checked(length)?;
-        self.rest = rest;
+        let taken = self.rest.get(..length)?;
+        self.rest = &self.rest[length..];
         Some(taken)
     }
 
@@ -57,6 +63,9 @@ pub enum Call<'a> {
 
 /// Is told of each call, with the number given back and the table left.
 pub trait Watcher {
+    /// Is told where in the input the record begins that is read next.
+    fn begins(&mut self, _: usize) {}
+
     fn called(&mut self, call: &Call, number: Number, table: &Table);
 
     /// Is told that an octet was stored, with the table left.

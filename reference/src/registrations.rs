@@ -147,8 +147,9 @@ impl Registrations {
         attribute_type: AttributeType,
         clock: u32,
     ) {
-        let Some(ports) = self.streams.get_mut(&stream_id) else {
-            return;
+        let ports = match self.streams.get_mut(&stream_id) {
+            Some(ports) => ports,
+            None => return,
         };
         let held = &mut ports[port - 1];
         match attribute_type {
@@ -206,12 +207,13 @@ impl Registrations {
     /// Removes every registration leaving for at least the leave time, then drops the streams
     /// that no port holds a registration of.
     pub fn remove_left(&mut self, clock: u32, leave_time: u32) {
-        let left = |leaving: Option<u32>| leaving.is_some_and(|begun| clock - begun >= leave_time);
+        let left =
+            |leaving: Option<u32>| leaving.map_or(false, |begun| clock - begun >= leave_time);
         for on_port in self.streams.values_mut().flatten() {
-            if on_port.talker.as_ref().is_some_and(|talker| left(talker.leaving)) {
+            if on_port.talker.as_ref().map_or(false, |talker| left(talker.leaving)) {
                 on_port.talker = None;
             }
-            if on_port.listener.as_ref().is_some_and(|listener| left(listener.leaving)) {
+            if on_port.listener.as_ref().map_or(false, |listener| left(listener.leaving)) {
                 on_port.listener = None;
             }
         }

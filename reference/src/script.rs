@@ -1,55 +1,22 @@
-//! Inputs written by hand: lines of words in, records out.
+//! Inputs written by hand: lines of words in, records out. The format's reference is
+//! docs/TEXT.md.
 //!
-//! A line is a settings line, a call, or empty; what follows a `#` is a comment. StreamIDs,
-//! Bridge IDs, MAC addresses and octets are hexadecimal, all other numbers decimal. Words in
-//! brackets may be left out.
-//!
-//! Settings, before the first call of a sheet or before `start`:
-//!
-//! ```text
-//! bridge ID [priorities A B] [leave HUNDREDTHS]
-//! ports COUNT [classes AB|A|B|none] [overhead N] [largest N] [limits A B] [latencies A B] [twice]
-//! ```
-//!
-//! `bridge` begins new settings; each `ports` line adds so many ports, alike. What is left out is
-//! as in the worked example: priorities 3 2, leave 60, classes AB, overhead 42, largest 1522,
-//! limits 75000000 0, latencies 0 0.
-//!
-//! Calls:
-//!
-//! ```text
-//! on PORT talker STREAM [to MAC] [vlan N] [size N] [frames N] [priority N] [rank N] [latency N]
-//!         [failed BRIDGE CODE] [values N] [EVENT]
-//! on PORT listener STREAM asking|ready|readyfailed|ignore [values N] [EVENT]
-//! on PORT domain CLASS PRIORITY VLAN [values N] [EVENT]
-//! on PORT leaveall advertise|failed|listener|domain
-//! on PORT octets OCTETS
-//! time HUNDREDTHS
-//! raw OCTETS
-//! ```
-//!
-//! EVENT is one of new, joinin, in, join, mt, leave; `join`, the standard's JoinMt, is taken where
-//! none stands. Several of these with `and` between them make one PDU. A Talker's destination is
-//! 91E0F0000000 plus the Unique ID unless `to` gives it; what else is left out is as in the worked
-//! example: vlan 2, size 224, frames 1, priority 3, rank 1, latency 0. `raw` puts octets between
-//! the records.
-//!
-//! Calls of srpcalls alone:
-//!
-//! ```text
-//! start
-//! write PORT [from PLACE] [buffer LENGTH]
-//! report PORT [place PLACE]
-//! store PLACE OCTET
-//! lend LENGTH
-//! sum
-//! table
-//! ```
+//! * `words`: the words of a line, with numbers, units and names;
+//! * `settings_lines`: settings;
+//! * `messages`: the PDU of a line.
 
-use crate::declarations;
-use crate::frame::{FrameDraft, MessageDraft, VectorDraft};
-use crate::pdu::{AttributeType, Failure, StreamId, Talker};
-use crate::settings::{self, PerClass, PortSettings, Settings};
+mod messages;
+mod settings_lines;
+mod words;
+
+use crate::settings::{self, Settings};
+use crate::sheet::LONGEST_INPUT;
+use words::{unknown, Field, Measure, Names, Words};
+
+const PORT: Field = Field::plain("a port", 4);
+const TIME: Field = Field::measured("a time", 32, Measure::Hundredths);
+const PLACE: Field = Field::plain("a place", 16);
+const LENGTH: Field = Field::plain("a length", 16);
 
 /// Which program the records are for.
 #[derive(Clone, Copy, Debug, PartialEq, Eq)]
@@ -58,388 +25,211 @@ pub enum Program {
     Calls,
 }
 
-/// The records of a text; or the line, from 1, that cannot be read, and why.
-pub fn records(text: &str, program: Program) -> Result<Vec<u8>, String> {
-    let mut script = Script { program, settings: None, are_written: false, octets: Vec::new() };
-    for (place, line) in text.lines().enumerate() {
-        let line = line.split('#').next().unwrap_or_default();
-        let words: Vec<&str> = line.split_whitespace().collect();
-        if !words.is_empty() {
-            script
-                .line(&mut Words { rest: &words })
-                .map_err(|fault| format!("line {}: {fault}", place + 1))?;
-        }
-    }
-    script.settings_of_a_sheet();
-    Ok(script.octets)
-}
-
-struct Script {
-    program: Program,
-    settings: Option<Settings>,
-    /// Whether a sheet's settings stand in the octets already.
-    are_written: bool,
-    octets: Vec<u8>,
+/// The records of a text, and the lines, from 1, that they were made of.
+#[derive(Debug, Default)]
+pub struct Script {
+    pub octets: Vec<u8>,
+    /// Where the octets of a line begin, and the line.
+    begins: Vec<(usize, usize)>,
+    /// The line of the last frame, where no time follows it.
+    unsettled: Option<usize>,
+    /// The line of settings that no start follows.
+    unstarted: Option<usize>,
 }
 
 impl Script {
-    fn line(&mut self, words: &mut Words) -> Result<(), String> {
+    /// The line that the octet at a place was made of; nothing where no line made octets.
+    pub fn line_at(&self, place: usize) -> Option<usize> {
+        let later = self.begins.partition_point(|(begin, _)| *begin <= place);
+        self.begins[..later].last().map(|(_, line)| *line)
+    }
+
+    /// What the writer of the text should know.
+    pub fn warnings(&self) -> Vec<String> {
+        let warning = |line: &usize, words| format!("line {line}: warning: {words}");
+        let unstarted = "no start follows these settings, so no bridge has them";
+        let unsettled = "no time follows this frame, so nothing is decided by it";
+        let mut warnings = Vec::new();
+        warnings.extend(self.unstarted.iter().map(|line| warning(line, unstarted)));
+        warnings.extend(self.unsettled.iter().map(|line| warning(line, unsettled)));
+        warnings
+    }
+
+    /// The fault of records that srpsheet would not read to their end.
+    pub fn too_long_for_a_sheet(&self) -> Option<String> {
+        let line = self.line_at(LONGEST_INPUT).filter(|_| self.octets.len() > LONGEST_INPUT)?;
+        Some(format!(
+            "line {line}: here the records pass 65,536 octets, and srpsheet reads no more \
+             (01, \"The printed sheet\"): use ./calls"
+        ))
+    }
+}
+
+/// The octets of a text as letters, without a byte-order mark.
+pub fn text(octets: &[u8]) -> Result<String, String> {
+    match octets {
+        [0xff, 0xfe, ..] | [0xfe, 0xff, ..] => Err("the text is UTF-16, not UTF-8".to_string()),
+        [0xef, 0xbb, 0xbf, rest @ ..] => Ok(String::from_utf8_lossy(rest).into_owned()),
+        _ => Ok(String::from_utf8_lossy(octets).into_owned()),
+    }
+}
+
+/// The records of a text; or the line that cannot be read, and why.
+pub fn records(text: &str, program: Program) -> Result<Vec<u8>, String> {
+    Ok(read(text, program)?.octets)
+}
+
+/// The same, with the lines that they were made of.
+pub fn read(text: &str, program: Program) -> Result<Script, String> {
+    let mut names = Names::default();
+    let mut reader =
+        Reader { program, settings: None, are_written: false, script: Script::default() };
+    for (place, line) in text.lines().enumerate() {
+        let line = line.split('#').next().unwrap_or_default();
+        let words: Vec<&str> = line.split_whitespace().collect();
+        let done = match words.first() {
+            None => Ok(()),
+            Some(&"stream") | Some(&"address") => names.line(&words),
+            Some(_) => reader.line(place + 1, &mut Words::new(&words, &names)),
+        };
+        done.map_err(|fault| format!("line {}: {fault}", place + 1))?;
+    }
+    reader.settings_of_a_sheet();
+    Ok(reader.script)
+}
+
+struct Reader {
+    program: Program,
+    /// The settings, and the line on which they begin.
+    settings: Option<(usize, Settings)>,
+    /// Whether a sheet's settings stand in the octets already.
+    are_written: bool,
+    script: Script,
+}
+
+impl Reader {
+    fn line(&mut self, line: usize, words: &mut Words) -> Result<(), String> {
         let first = words.word("a first word")?;
-        match (first, self.program) {
-            ("bridge", _) => {
-                if self.are_written {
-                    return Err("settings stand before the first call".to_string());
-                }
-                self.settings = Some(bridge(words)?);
-                return words.end();
+        match first {
+            "bridge" if self.are_written => {
+                return Err("settings stand before the first call".to_string());
             }
-            ("ports", _) => {
-                let added = ports(words)?;
-                match &mut self.settings {
-                    Some(settings) if !self.are_written => settings.ports.extend(added),
-                    _ => return Err("ports stand after bridge, before the first call".to_string()),
-                }
-                return words.end();
+            "bridge" => {
+                self.settings = Some((line, settings_lines::bridge(words)?));
+                self.script.unstarted = Some(line).filter(|_| self.program == Program::Calls);
             }
-            _ => self.settings_of_a_sheet(),
-        }
-        match (first, self.program) {
-            ("on", _) => {
-                let port = words.digit("a port")?;
-                let pdu = pdu(words)?;
-                self.octets.push(0x10 | port);
-                self.counted(&pdu);
+            "ports" => match &mut self.settings {
+                Some((_, settings)) if !self.are_written => settings_lines::ports(words, settings)?,
+                _ => return Err("ports stand after bridge, before the first call".to_string()),
+            },
+            _ => {
+                self.settings_of_a_sheet();
+                let record = self.call(first, words)?;
+                self.put(line, &record);
+                self.watch(line, first);
             }
-            ("time", _) => {
-                let time: u32 = words.number("a time")?;
-                self.octets.push(0x20);
-                self.octets.extend(time.to_be_bytes());
-            }
-            ("raw", _) => self.octets.extend(words.octets()?),
-            ("start", Program::Calls) => {
-                let settings = self.settings.as_ref().ok_or("no bridge line before start")?;
-                let settings = settings::write(settings);
-                self.octets.push(0x00);
-                self.counted(&settings);
-            }
-            ("write", Program::Calls) => {
-                let port = words.digit("a port")?;
-                let (mut from, mut buffer) = (0_u16, 1_500_u16);
-                while let Some(word) = words.next() {
-                    match word {
-                        "from" => from = words.number("a place")?,
-                        "buffer" => buffer = words.number("a length")?,
-                        _ => return Err(unknown(word)),
-                    }
-                }
-                self.octets.push(0x30 | port);
-                self.octets.extend(from.to_be_bytes());
-                self.octets.extend(buffer.to_be_bytes());
-            }
-            ("report", Program::Calls) => {
-                let port = words.digit("a port")?;
-                let mut place = 0_u16;
-                while let Some(word) = words.next() {
-                    match word {
-                        "place" => place = words.number("a place")?,
-                        _ => return Err(unknown(word)),
-                    }
-                }
-                self.octets.push(0x40 | port);
-                self.octets.extend(place.to_be_bytes());
-            }
-            ("store", Program::Calls) => {
-                let place: u16 = words.number("a place")?;
-                let octet = words.hexadecimal("an octet", 8)? as u8;
-                self.octets.push(0x50);
-                self.octets.extend(place.to_be_bytes());
-                self.octets.push(octet);
-            }
-            ("lend", Program::Calls) => {
-                let length: u16 = words.number("a length")?;
-                self.octets.push(0x51);
-                self.octets.extend(length.to_be_bytes());
-            }
-            ("sum", Program::Calls) => self.octets.push(0x60),
-            ("table", Program::Calls) => self.octets.push(0x61),
-            _ => return Err(unknown(first)),
         }
         words.end()
+    }
+
+    /// Keeps what warnings are made of.
+    fn watch(&mut self, line: usize, first: &str) {
+        match first {
+            "on" => self.script.unsettled = Some(line),
+            "time" | "start" | "raw" => self.script.unsettled = None,
+            _ => {}
+        }
+        if matches!(first, "start" | "raw") {
+            self.script.unstarted = None;
+        }
+    }
+
+    /// The record of a line that is a call.
+    fn call(&self, first: &str, words: &mut Words) -> Result<Vec<u8>, String> {
+        match (first, self.program) {
+            ("on", _) => {
+                let port: u8 = words.number(PORT)?;
+                counted(0x10 | port, &messages::pdu(words)?)
+            }
+            ("time", _) => Ok(fixed(0x20, &words.number::<u32>(TIME)?.to_be_bytes())),
+            ("raw", _) => words.octets(),
+            ("start", Program::Calls) => {
+                let (_, settings) = self.settings.as_ref().ok_or("no bridge line before start")?;
+                counted(0x00, &settings::write(settings))
+            }
+            ("write", Program::Calls) => write(words),
+            ("report", Program::Calls) => report(words),
+            ("store", Program::Calls) => {
+                let mut rest = words.number::<u16>(PLACE)?.to_be_bytes().to_vec();
+                rest.push(words.hexadecimal("an octet", 8)? as u8);
+                Ok(fixed(0x50, &rest))
+            }
+            ("lend", Program::Calls) => {
+                Ok(fixed(0x51, &words.number::<u16>(LENGTH)?.to_be_bytes()))
+            }
+            ("sum", Program::Calls) => Ok(vec![0x60]),
+            ("table", Program::Calls) => Ok(vec![0x61]),
+            _ => Err(unknown(first)),
+        }
     }
 
     /// A sheet begins with its settings.
     fn settings_of_a_sheet(&mut self) {
         if self.program == Program::Sheet && !self.are_written {
-            if let Some(settings) = &self.settings {
-                self.octets.extend(settings::write(settings));
+            if let Some((line, settings)) = self.settings.take() {
+                self.put(line, &settings::write(&settings));
             }
             self.are_written = true;
         }
     }
 
-    /// A 16-bit length and so many octets.
-    fn counted(&mut self, octets: &[u8]) {
-        self.octets.extend((octets.len() as u16).to_be_bytes());
-        self.octets.extend(octets);
+    fn put(&mut self, line: usize, octets: &[u8]) {
+        if !octets.is_empty() {
+            self.script.begins.push((self.script.octets.len(), line));
+            self.script.octets.extend(octets);
+        }
     }
 }
 
-fn bridge(words: &mut Words) -> Result<Settings, String> {
-    let mut settings = Settings {
-        bridge_id: words.hexadecimal("a Bridge ID", 64)?,
-        priority: PerClass { a: 3, b: 2 },
-        leave_time: 60,
-        ports: Vec::new(),
-    };
+/// A record: its first octet and the rest.
+fn fixed(first: u8, rest: &[u8]) -> Vec<u8> {
+    let mut record = vec![first];
+    record.extend(rest);
+    record
+}
+
+/// A record with a 16-bit length and so many octets.
+fn counted(first: u8, octets: &[u8]) -> Result<Vec<u8>, String> {
+    let length = u16::try_from(octets.len())
+        .map_err(|_| format!("a PDU of {} octets, and a record holds 65535", octets.len()))?;
+    let mut record = fixed(first, &length.to_be_bytes());
+    record.extend(octets);
+    Ok(record)
+}
+
+fn write(words: &mut Words) -> Result<Vec<u8>, String> {
+    let port: u8 = words.number(PORT)?;
+    let (mut from, mut buffer) = (0_u16, 1_500_u16);
     while let Some(word) = words.next() {
         match word {
-            "priorities" => {
-                settings.priority =
-                    PerClass { a: words.number("a priority")?, b: words.number("a priority")? };
-            }
-            "leave" => settings.leave_time = words.number("a leave time")?,
+            "from" => from = words.number(PLACE)?,
+            "buffer" => buffer = words.number(LENGTH)?,
             _ => return Err(unknown(word)),
         }
     }
-    Ok(settings)
+    let mut rest = from.to_be_bytes().to_vec();
+    rest.extend(buffer.to_be_bytes());
+    Ok(fixed(0x30 | port, &rest))
 }
 
-fn ports(words: &mut Words) -> Result<Vec<PortSettings>, String> {
-    let count = words.number("a number of ports")?;
-    let mut port = PortSettings::of_the_worked_example();
+fn report(words: &mut Words) -> Result<Vec<u8>, String> {
+    let port: u8 = words.number(PORT)?;
+    let mut place = 0_u16;
     while let Some(word) = words.next() {
         match word {
-            "classes" => {
-                port.supports = match words.word("AB, A, B or none")? {
-                    "AB" => PerClass { a: true, b: true },
-                    "A" => PerClass { a: true, b: false },
-                    "B" => PerClass { a: false, b: true },
-                    "none" => PerClass { a: false, b: false },
-                    other => return Err(unknown(other)),
-                }
-            }
-            "overhead" => port.overhead = words.number("octets")?,
-            "largest" => port.largest_frame = words.number("octets")?,
-            "limits" => {
-                port.limit = PerClass { a: words.number("a limit")?, b: words.number("a limit")? };
-            }
-            "latencies" => {
-                port.latency =
-                    PerClass { a: words.number("a latency")?, b: words.number("a latency")? };
-            }
-            "twice" => port.sends_twice = true,
+            "place" => place = words.number(PLACE)?,
             _ => return Err(unknown(word)),
         }
     }
-    Ok(vec![port; count])
-}
-
-/// The PDU of the rest of a line: its octets, or Messages with `and` between them.
-fn pdu(words: &mut Words) -> Result<Vec<u8>, String> {
-    if words.rest.first() == Some(&"octets") {
-        words.next();
-        return words.octets();
-    }
-    let mut messages = Vec::new();
-    loop {
-        messages.push(match words.word("talker, listener, domain, leaveall or octets")? {
-            "talker" => talker(words)?,
-            "listener" => listener(words)?,
-            "domain" => domain(words)?,
-            "leaveall" => leave_all(words)?,
-            other => return Err(unknown(other)),
-        });
-        if words.next() != Some("and") {
-            return Ok(FrameDraft::new(messages).octets());
-        }
-    }
-}
-
-fn talker(words: &mut Words) -> Result<MessageDraft, String> {
-    let mut talker = Talker::of_the_worked_example(words.hexadecimal("a StreamID", 64)?);
-    let mut values = Values::default();
-    while let Some(word) = words.next_before_and() {
-        let parameters = &mut talker.parameters;
-        match word {
-            "to" => parameters.destination = words.hexadecimal("a MAC address", 48)?,
-            "vlan" => parameters.vlan = words.number("a VLAN")?,
-            "size" => parameters.max_frame_size = words.number("octets")?,
-            "frames" => parameters.max_interval_frames = words.number("frames")?,
-            "priority" => parameters.priority = words.number::<u8>("a priority")? & 7,
-            "rank" => parameters.rank = words.number::<u8>("a rank")? & 1,
-            "latency" => talker.accumulated_latency = words.number("nanoseconds")?,
-            "failed" => {
-                talker.failure = Some(Failure {
-                    bridge_id: words.hexadecimal("a Bridge ID", 64)?,
-                    code: words.number("a code")?,
-                });
-            }
-            _ => values.word(word, words)?,
-        }
-    }
-    let attribute_type = match talker.failure {
-        None => AttributeType::TalkerAdvertise,
-        Some(_) => AttributeType::TalkerFailed,
-    };
-    Ok(values.message(attribute_type, declarations::first_value(&talker), None))
-}
-
-fn listener(words: &mut Words) -> Result<MessageDraft, String> {
-    let stream_id: StreamId = words.hexadecimal("a StreamID", 64)?;
-    let listener_type = match words.word("asking, ready, readyfailed or ignore")? {
-        "ignore" => 0,
-        "asking" => 1,
-        "ready" => 2,
-        "readyfailed" => 3,
-        other => return Err(unknown(other)),
-    };
-    let values = Values::read(words)?;
-    let first_value = stream_id.to_be_bytes().to_vec();
-    Ok(values.message(AttributeType::Listener, first_value, Some(listener_type)))
-}
-
-fn domain(words: &mut Words) -> Result<MessageDraft, String> {
-    let mut first_value = vec![words.number("a class ID")?, words.number("a priority")?];
-    first_value.extend(words.number::<u16>("a VLAN")?.to_be_bytes());
-    let values = Values::read(words)?;
-    Ok(values.message(AttributeType::Domain, first_value, None))
-}
-
-fn leave_all(words: &mut Words) -> Result<MessageDraft, String> {
-    let attribute_type = match words.word("advertise, failed, listener or domain")? {
-        "advertise" => AttributeType::TalkerAdvertise,
-        "failed" => AttributeType::TalkerFailed,
-        "listener" => AttributeType::Listener,
-        "domain" => AttributeType::Domain,
-        other => return Err(unknown(other)),
-    };
-    let vector = VectorDraft {
-        leave_all_event: 1,
-        first_value: vec![0; attribute_type.first_value_length()],
-        ..VectorDraft::default()
-    };
-    Ok(MessageDraft::new(attribute_type, vec![vector]))
-}
-
-/// How many values a vector has, and the event of each.
-struct Values {
-    count: usize,
-    event: u8,
-}
-
-impl Default for Values {
-    fn default() -> Values {
-        Values { count: 1, event: 3 }
-    }
-}
-
-impl Values {
-    fn read(words: &mut Words) -> Result<Values, String> {
-        let mut values = Values::default();
-        while let Some(word) = words.next_before_and() {
-            values.word(word, words)?;
-        }
-        Ok(values)
-    }
-
-    fn word(&mut self, word: &str, words: &mut Words) -> Result<(), String> {
-        match word {
-            "values" => self.count = words.number("a number of values")?,
-            "new" => self.event = 0,
-            "joinin" => self.event = 1,
-            "in" => self.event = 2,
-            "join" => self.event = 3,
-            "mt" => self.event = 4,
-            "leave" => self.event = 5,
-            _ => return Err(unknown(word)),
-        }
-        Ok(())
-    }
-
-    fn message(
-        &self,
-        attribute_type: AttributeType,
-        first_value: Vec<u8>,
-        listener_type: Option<u8>,
-    ) -> MessageDraft {
-        let vector = VectorDraft {
-            first_value,
-            events: vec![self.event; self.count],
-            listener_types: listener_type.map_or(Vec::new(), |part| vec![part; self.count]),
-            ..VectorDraft::default()
-        };
-        MessageDraft::new(attribute_type, vec![vector])
-    }
-}
-
-/// The words of a line, taken from the front.
-struct Words<'a> {
-    rest: &'a [&'a str],
-}
-
-impl<'a> Words<'a> {
-    fn next(&mut self) -> Option<&'a str> {
-        let (first, rest) = self.rest.split_first()?;
-        self.rest = rest;
-        Some(first)
-    }
-
-    /// The next word, unless it is `and`.
-    fn next_before_and(&mut self) -> Option<&'a str> {
-        match self.rest.first() {
-            Some(&"and") => None,
-            _ => self.next(),
-        }
-    }
-
-    fn word(&mut self, wanted: &str) -> Result<&'a str, String> {
-        self.next().ok_or_else(|| format!("the line ends where {wanted} was expected"))
-    }
-
-    fn number<T: std::str::FromStr>(&mut self, wanted: &str) -> Result<T, String> {
-        let word = self.word(wanted)?;
-        word.parse().map_err(|_| format!("{word} where {wanted} was expected"))
-    }
-
-    fn hexadecimal(&mut self, wanted: &str, bits: u32) -> Result<u64, String> {
-        let word = self.word(wanted)?;
-        u64::from_str_radix(word, 16)
-            .ok()
-            .filter(|number| bits == 64 || number >> bits == 0)
-            .ok_or_else(|| format!("{word} where {wanted} was expected"))
-    }
-
-    /// A port of a record: 0 to 15.
-    fn digit(&mut self, wanted: &str) -> Result<u8, String> {
-        match self.number(wanted)? {
-            digit @ 0..=15 => Ok(digit),
-            other => Err(format!("{other} where {wanted} was expected")),
-        }
-    }
-
-    /// The rest of the line as octets, with or without spaces between them.
-    fn octets(&mut self) -> Result<Vec<u8>, String> {
-        let digits = self.rest.concat();
-        self.rest = &[];
-        if digits.len() % 2 != 0 || !digits.is_ascii() {
-            return Err("octets are pairs of hexadecimal digits".to_string());
-        }
-        (0..digits.len() / 2)
-            .map(|place| {
-                let pair = &digits[2 * place..2 * place + 2];
-                u8::from_str_radix(pair, 16).map_err(|_| format!("{pair} is no octet"))
-            })
-            .collect()
-    }
-
-    fn end(&self) -> Result<(), String> {
-        match self.rest.first() {
-            None => Ok(()),
-            Some(word) => Err(unknown(word)),
-        }
-    }
-}
-
-fn unknown(word: &str) -> String {
-    format!("{word} is not known here")
+    Ok(fixed(0x40 | port, &place.to_be_bytes()))
 }

@@ -156,15 +156,13 @@ fn column_before_bandwidth(
     let own_failure = |code| Column::Failed(Failure { bridge_id: settings.bridge_id, code });
     let port_settings = &settings.ports[port - 1];
     // a. no t, or p = t: none
-    let Some((talker_port, talker)) = talker_port(ports) else {
-        return Some((Step::A, Column::None));
+    let talker = match talker_port(ports) {
+        Some((talker_port, talker)) if port != talker_port => talker,
+        _ => return Some((Step::A, Column::None)),
     };
-    if port == talker_port {
-        return Some((Step::A, Column::None));
-    }
     // b. the priority is a class that p doesn't support: none
     let class = settings.class_of(talker.parameters.priority);
-    if class.is_some_and(|class| !port_settings.supports.of(class)) {
+    if class.map_or(false, |class| !port_settings.supports.of(class)) {
         return Some((Step::B, Column::None));
     }
     // c. registered Failed: Failed, its Bridge ID and code

@@ -29,20 +29,21 @@ pub fn run_watched(input: &[u8], watcher: &mut dyn Watcher) -> String {
     let mut printed = String::new();
     let mut records = Input::new(records);
     while !records.is_at_end() {
-        let Some(record) = take_record(&mut records) else {
-            printed.push_str("stop\n");
-            break;
-        };
-        let number = match record {
-            Record::Pdu(port, pdu) => {
+        watcher.begins(settings.len() + records.taken());
+        let number = match take_record(&mut records) {
+            Some(Record::Pdu(port, pdu)) => {
                 let number = table.receive(port, pdu);
                 watcher.called(&Call::Receive(port, pdu), number, &table);
                 number
             }
-            Record::Advance(time) => {
+            Some(Record::Advance(time)) => {
                 let number = table.advance(time);
                 watcher.called(&Call::Advance(time), number, &table);
                 number
+            }
+            None => {
+                printed.push_str("stop\n");
+                break;
             }
         };
         if number != numbers::ACCEPTED {

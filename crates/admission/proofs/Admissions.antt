@@ -11,7 +11,7 @@ use lib.Seq.{ext-getD, getD-set-same, getD-set-other}
 use lib.Dec.{ltb, eqb}
 use borrow.Author.Tests.{lt-ltb, le-ltb, leb-true, leb-false, eqb-true, eqb-false}
 use Rattle.model.specs.Lists.{keep, tabulate}
-use Rattle.model.specs.State.{Settings, Column, none, advertise, failed, filters, forwards, Result, Stream, Totals, Bridge, noTotals, unsettled, isPort, cellAt, resultAt, Class, noClass, classA, classB, classOf, isNoClass, sameClass}
+use Rattle.model.specs.State.{Settings, Column, advertise, failed, filters, forwards, Result, Stream, Totals, Bridge, noTotals, unsettled, isPort, cellAt, resultAt, Class, noClass, classA, classB, classOf, isNoClass, sameClass}
 use Rattle.model.specs.Bandwidth.{Claim, remains, admitted, sort, reserved, total}
 use Rattle.model.specs.Settling.{Source, nowhere, from, sourceOf, fixedOf, streamClass, registered, isReady, clear, steps, stepsFrom, ageOf, claim, claims, limitOn, leftFor, byBandwidth, columnOf, entryOf, ageKept, latencyKept, totalOn, totalsOn, isAdvertise}
 use Rattle.model.proofs.Lists.{and-true, and-false}
@@ -64,11 +64,11 @@ module _ (st : Settings) (q : ℕ) (x : Stream) where
   -- one of them applies to a priority that is no class, and at a place that is no port
   no-class : streamClass st x ≡ noClass → clear (steps st q x) ≡ false
   unfolding steps stepsFrom streamClass fixedOf isNoClass clear
-  no-class = go (sourceOf x)
+  no-class e = simp (go (sourceOf x) e, and-false)
     where
-      go : (t : Source) → classOf st (fixedOf t .priority) ≡ noClass → clear ((not (isPort st q), none) ∷ stepsFrom st q (cellAt x q) t) ≡ false
-      go nowhere e = simp and-false
-      go (from t f v m) e = simp (e, and-false)
+      go : (t : Source) → classOf st (fixedOf t .priority) ≡ noClass → clear (stepsFrom st q (cellAt x q) t) ≡ false
+      go nowhere e = refl
+      go (from o) e = simp (e, and-false)
 
   no-port : isPort st q ≡ false → clear (steps st q x) ≡ false
   unfolding steps clear
@@ -77,7 +77,7 @@ module _ (st : Settings) (q : ℕ) (x : Stream) where
   -- where one of them applies, the rest of the streams does not matter
   decided-early : (now : ℕ) (s : List Stream) → clear (steps st q x) ≡ false → earlyColumn st q x ≡ columnOf st now s q x
   unfolding earlyColumn columnOf
-  decided-early now s e = first-decided (steps st q x) advertise _ e
+  decided-early now s e = first-decided _ (steps st q x) advertise _ e
 
 -- After some of the ports and classes.
 
@@ -172,7 +172,7 @@ module _ (st : Settings) (now : ℕ) (s : List Stream) where
     module _ (x : Stream) (free : clear (steps st p x) ≡ true) (e : streamClass st x ≡ c) where
       was-advertise : old p x ≡ advertise
       unfolding earlyColumn
-      was-advertise = was x e ∙ first-clear (steps st p x) advertise free
+      was-advertise = was x e ∙ first-clear _ (steps st p x) advertise free
 
       claimed : claimShown st p (showing st now old x) ≡ claim st now p x
       claimed = claim-at old p h x was-advertise
@@ -198,7 +198,7 @@ module _ (st : Settings) (now : ℕ) (s : List Stream) where
     module _ (x : Stream) (free : clear (steps st p x) ≡ true) (e : streamClass st x ≡ c) where
       by-claims : columnOf st now s p x ≡ byBandwidth st (claim st now p x .demand) (remains l cs (claim st now p x))
       unfolding columnOf leftFor l cs
-      by-claims = first-clear (steps st p x) _ free ∙ rw e
+      by-claims = first-clear _ (steps st p x) _ free ∙ rw e
 
       fits : admitted l cs (claim st now p x) ≡ true → columnOf st now s p x ≡ advertise
       unfolding admitted byBandwidth

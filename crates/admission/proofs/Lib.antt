@@ -1,7 +1,7 @@
 pub mod Kept
 pub mod ByImportance
 pub mod Admissions
-pub mod RecordOctets
 pub mod FitKept
 pub mod Laws
+pub mod Turns
 pub mod Admitted

@@ -8,7 +8,8 @@ use native.Mathlib.Omega.{arith}
 use Rattle.model.specs.Lists.{Octets}
 use Rattle.model.specs.State.{Class, classA, classB, limit}
 use Rattle.model.specs.Settling.{limitOn}
-use Rattle.model.specs.Declarations.{Report, streamAt}
+use Rattle.model.specs.State.{streamAt}
+use Rattle.model.specs.Reports.{Report}
 use Rattle.model.specs.Table.{decode}
 use Rattle.model.proofs.Valid.{Valid}
 use Rattle.model.proofs.Tables.{valid-decode}
@@ -30,11 +31,11 @@ pub record ShowsSettled (u : List ℕ) (p place : ℕ) (r : Report) : Type 0 whe
   pub totals : (r .totalA ≡ reservedOn u (p - 1) classA) × (r .totalB ≡ reservedOn u (p - 1) classB)
   pub limits : (r .totalA ≤ r .limitA) × (r .totalB ≤ r .limitB)
   -- column, entry and Listener of the stream there are what the rules give
-  pub stream : place < r .count → SettledAt (decode u) (streamAt (decode u .streams) place) (p - 1)
+  pub stream : place < r .count → SettledAt (decode u) (streamAt place (decode u)) (p - 1)
 
 pub report-settled : (t : List ℕ) (time n : ℕ) (u : List ℕ) → Octets t → time < 2 ^ 32 → Advances t time n u → n ≡ 0 →
     (p place : ℕ) (r : Report) → Reports u p place r → r .number ≡ 0 → ShowsSettled u p place r
-unfolding totalAt limitOn limit streamAt
+unfolding totalAt limitOn limit
 report-settled t time n u o small call z p place r shown accepted =
     let kept = advance-answers t time n u o small call .form z in
     let b = decode u in

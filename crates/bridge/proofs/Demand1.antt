@@ -10,11 +10,14 @@ use mathlib.Core.List.{List, [], _∷_}
 use mathlib.Core.Bool.{true, false}
 use Prim.Native.Nat.{ℕ, _-_, _^_, _≤_, _<_}
 use lib.ListN.{length}
+use Rattle.model.specs.Layout.{tableLength}
 use Rattle.model.specs.Lists.{Octets}
 use Rattle.model.specs.Registrations.{together, ids, joins}
+use Rattle.model.specs.FrameLayout.{longestPdu}
 use Rattle.model.specs.Frames.{Vector, fault, found, walk, frameActs, wrongPort}
-use Rattle.model.specs.Declarations.{Report, refusedReport, declarations}
-use Rattle.model.specs.Table.{decode, clockField, formed, tableLength, settingsFormed}
+use Rattle.model.specs.Declarations.{declarations}
+use Rattle.model.specs.Reports.{Report, refusedReport}
+use Rattle.model.specs.Table.{decode, clockField, formed, settingsFormed}
 use Rattle.model.proofs.FormKept.{Kept, start-formed, receive-formed, advance-formed}
 use Rattle.model.proofs.Refusals.{OneOf, OnPort}
 use Rattle.model.proofs.Refusals
@@ -44,7 +47,7 @@ pub record ReceiveAnswers (t : List ℕ) (p : ℕ) (pdu : List ℕ) (n : ℕ) (u
   pub numbers : (n ≤ 8) ⊎ (n ≡ 12)
   pub table : (n ≡ 12) ↔ (formed t ≡ false)
   pub port : (n ≡ 1) ↔ ((formed t ≡ true) × (wrongPort (decode t .settings) p ≡ true))
-  pub size : (n ≡ 2) ↔ (OnPort t p × ((length pdu ≡ 0) ⊎ (1500 < length pdu)))
+  pub size : (n ≡ 2) ↔ (OnPort t p × ((length pdu ≡ 0) ⊎ (longestPdu < length pdu)))
   -- each of 2 to 7: it is the first fault that the walk meets
   pub faults : (m : ℕ) → 2 ≤ m → m ≤ 7 → (n ≡ m) ↔ (OnPort t p × (walk pdu ≡ fault m))
   pub room : (n ≡ 8) ↔
@@ -93,9 +96,9 @@ pub record WriteAnswers (t : List ℕ) (p place : ℕ) (buffer : List ℕ) (n lo
   pub numbers : OneOf (0 ∷ 1 ∷ 10 ∷ 12 ∷ 13 ∷ []) n
   pub table : (n ≡ 12) ↔ (formed t ≡ false)
   pub port : (n ≡ 1) ↔ ((formed t ≡ true) × (wrongPort (decode t .settings) p ≡ true))
-  pub short : (n ≡ 10) ↔ (OnPort t p × (length buffer < 1500))
-  pub above : (n ≡ 13) ↔ (OnPort t p × ((1500 ≤ length buffer) × (length (declarations (p - 1) (decode t .streams)) < place)))
-  pub accepted : (n ≡ 0) ↔ (OnPort t p × ((1500 ≤ length buffer) × (place ≤ length (declarations (p - 1) (decode t .streams)))))
+  pub short : (n ≡ 10) ↔ (OnPort t p × (length buffer < longestPdu))
+  pub above : (n ≡ 13) ↔ (OnPort t p × ((longestPdu ≤ length buffer) × (length (declarations (p - 1) (decode t .streams)) < place)))
+  pub accepted : (n ≡ 0) ↔ (OnPort t p × ((longestPdu ≤ length buffer) × (place ≤ length (declarations (p - 1) (decode t .streams)))))
   pub unaltered : (n ≡ 0 → ⊥) → (long ≡ 0) × (next ≡ 0) × (u ≡ buffer)
 
 pub write-answers : (t : List ℕ) (p place : ℕ) (buffer : List ℕ) (n long next : ℕ) (u : List ℕ) →
@@ -110,7 +113,7 @@ write-answers t p place buffer n long next u call = record {
   unaltered = rw (call .0, call .1, call .2, call .3) (Refusals.write-refused t p place buffer);
 }
 
--- Report at a place, on port p, gives the answer r: that of the code, with its words by `shown` (crate declarations).
+-- Report at a place, on port p, gives the answer r: that of the code, with its words by `shown` (crate reports).
 pub record ReportAnswers (t : List ℕ) (p place : ℕ) (r : Report) : Type 0 where
   pub numbers : OneOf (0 ∷ 1 ∷ 12 ∷ 13 ∷ []) (r .number)
   pub table : (r .number ≡ 12) ↔ (formed t ≡ false)

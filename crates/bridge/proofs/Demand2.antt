@@ -13,14 +13,18 @@ use lib.ListN.{length, getD, take, drop, take-append-drop}
 use lib.Seq.{length-take-le, length-front, take-append-seam, drop-append-seam, drop-drop}
 use borrow.Author.Tests.{le-leb, le-ltb}
 use Rattle.octets.specs.Parts.{zeros}
+use Rattle.model.specs.Layout.{tableLength}
 use Rattle.model.specs.Lists.{Octets}
 use Rattle.model.specs.State.{Settings, Bridge, started, portAt, resultAt, noTotals}
 use Rattle.model.specs.Registrations.{Answer, acts, applyAll, holding, together, ids, joins, received}
+use Rattle.model.specs.FrameLayout.{longestPdu}
 use Rattle.model.specs.Frames.{Vector, found, walk, walked, frameActs, reading, wrongPort}
 use Rattle.model.specs.Settling.{settle}
-use Rattle.model.specs.Declarations.{Declaration, joinOf, takes, write, Report, wordOf, codeOf, streamAt, report}
+use Rattle.model.specs.State.{streamAt}
+use Rattle.model.specs.Declarations.{Declaration, joinOf, takes, write}
+use Rattle.model.specs.Reports.{Report, wordOf, codeOf, report}
 use Rattle.model.specs.WrittenFrames.{declarationVector, pduOctets}
-use Rattle.model.specs.Table.{encode, decode, tableLength, toSettings}
+use Rattle.model.specs.Table.{encode, decode, toSettings}
 use Rattle.model.specs.Calls.{Call, WriteCall, receive, writtenTo, writeOn, reportOn}
 use Rattle.model.proofs.Valid.{Valid}
 use Rattle.model.proofs.Tables.{decode-encode, valid-decode, valid-started}
@@ -40,11 +44,10 @@ use Rattle.bridge.proofs.OnTables.{receive-taken, advance-settles}
 
 -- An accepted start leaves the settings, and zeros behind them: a bridge with these settings, no streams, clock 0.
 pub start-leaves : (t s : List ℕ) (n : ℕ) (u : List ℕ) → Octets s → Starts t s n u → n ≡ 0 →
-    (u ≡ s ++ zeros (31824 - length s)) × (decode u ≡ started (toSettings s))
-unfolding tableLength
+    (u ≡ s ++ zeros (tableLength - length s)) × (decode u ≡ started (toSettings s))
 start-leaves t s n u o call z =
     let h = start-0 t s .0 (sym (call .0) ∙ z) in
-    let table : u ≡ s ++ zeros (31824 - length s) = call .1 ∙ ap (λ (c : Call). c .table) (start-accepted t s (h .0) (h .1) o) in
+    let table : u ≡ s ++ zeros (tableLength - length s) = call .1 ∙ ap (λ (c : Call). c .table) (start-accepted t s (h .0) (h .1) o) in
     (table, ap decode (table ∙ sym (started-table s o (h .1))) ∙ decode-encode (started (toSettings s)) (valid-started s o (h .1)))
 
 -- What an accepted receive leaves: all events of all vectors of the PDU are applied in their order, and nothing else changes.
@@ -120,13 +123,13 @@ pub record Tells (t : List ℕ) (p place : ℕ) (buffer : List ℕ) (long next :
   pub behind : drop long u ≡ drop long buffer
   pub same-length : length u ≡ length buffer
   -- it is at most 1,500 octets, and one declaration more would pass that
-  pub fits : long ≤ 1500
-  pub full : next < length (declared (decode t) p) → 1500 < length (pduOctets (take (suc (length run)) (drop place (declared (decode t) p))))
+  pub fits : long ≤ longestPdu
+  pub full : next < length (declared (decode t) p) → longestPdu < length (pduOctets (take (suc (length run)) (drop place (declared (decode t) p))))
   -- it reads back as exactly these declarations, as joins, on any port of any bridge
   pub vectors : walk (take long u) ≡ found (map declarationVector run)
   pub neighbour : (st : Settings) (q : ℕ) → wrongPort st q ≡ false → reading st q (take long u) ≡ acts (map joinOf run)
 
-written : (t : List ℕ) (p place : ℕ) (buffer : List ℕ) → OnPort t p → 1500 ≤ length buffer → write (decode t) p place .number ≡ 0 →
+written : (t : List ℕ) (p place : ℕ) (buffer : List ℕ) → OnPort t p → longestPdu ≤ length buffer → write (decode t) p place .number ≡ 0 →
     let w = write (decode t) p place in
     writeOn t p place buffer
     ≡ record {
@@ -153,7 +156,7 @@ write-tells t p place buffer n long next u o call z =
     let long-is : long ≡ length s = call .1 ∙ ap (λ (a : WriteCall). a .length) c in
     let next-is : next ≡ w .next = call .2 ∙ ap (λ (a : WriteCall). a .next) c in
     let left : u ≡ s ++ drop (length s) buffer = call .3 ∙ ap (λ (a : WriteCall). a .buffer) c in
-    let fits : length s ≤ 1500 = run-fits b p place in
+    let fits : length s ≤ longestPdu = run-fits b p place in
     let pdu : take long u ≡ s = rw (long-is, left) (take-append-seam s (drop (length s) buffer)) in
     record {
       run = w .run;
@@ -177,11 +180,11 @@ pub record Shows (t : List ℕ) (p place : ℕ) (r : Report) : Type 0 where
   pub totalB : r .totalB ≡ getD (decode t .totals) (p - 1) noTotals .totalB
   pub limitB : r .limitB ≡ portAt (decode t .settings) (p - 1) .limitB
   -- of the stream at that place; past the last stream, zero and none
-  pub id : r .id ≡ streamAt (decode t .streams) place .id
-  pub column : r .column ≡ wordOf (resultAt (streamAt (decode t .streams) place) (p - 1) .column)
-  pub code : r .code ≡ codeOf (resultAt (streamAt (decode t .streams) place) (p - 1) .column)
-  pub listener : r .listener ≡ resultAt (streamAt (decode t .streams) place) (p - 1) .declares
-  pub entry : r .entry ≡ resultAt (streamAt (decode t .streams) place) (p - 1) .entry
+  pub id : r .id ≡ streamAt place (decode t) .id
+  pub column : r .column ≡ wordOf (resultAt (streamAt place (decode t)) (p - 1) .column)
+  pub code : r .code ≡ codeOf (resultAt (streamAt place (decode t)) (p - 1) .column)
+  pub listener : r .listener ≡ resultAt (streamAt place (decode t)) (p - 1) .declares
+  pub entry : r .entry ≡ resultAt (streamAt place (decode t)) (p - 1) .entry
 
 shows : (t : List ℕ) (p place : ℕ) → OnPort t p → place ≤ length (decode t .streams) → Shows t p place (reportOn t p place)
 unfolding reportOn report

@@ -5,8 +5,10 @@ use mathlib.Core.Bool.{true, false}
 use Prim.Native.Nat.{ℕ, _-_, _≤_, _<_}
 use lib.ListN.{length, drop}
 use borrow.Author.Tests.{lt-ltb, le-ltb}
+use Rattle.model.specs.FrameLayout.{longestPdu}
 use Rattle.model.specs.Frames.{wrongPort}
-use Rattle.model.specs.Declarations.{declarations, write, refusedReport, report}
+use Rattle.model.specs.Declarations.{declarations, write}
+use Rattle.model.specs.Reports.{refusedReport, report}
 use Rattle.model.specs.Table.{formed, decode}
 use Rattle.model.specs.Calls.{refusedWrite, writtenTo, writeOn, reportOn}
 use Rattle.declarations.specs.declared.Taken.{Taken}
@@ -31,20 +33,20 @@ module _ (t : List ℕ) (p place : ℕ) (buffer : List ℕ) where
     write-wrong-port w = rw (h, w)
 
     module _ (w : wrongPort (decode t .settings) p ≡ false) where
-      pub write-short : length buffer < 1500 → writeOn t p place buffer ≡ refusedWrite 10 buffer
+      pub write-short : length buffer < longestPdu → writeOn t p place buffer ≡ refusedWrite 10 buffer
       unfolding writeOn
-      write-short l = rw (h, w, lt-ltb (length buffer) 1500 l)
+      write-short l = rw (h, w, lt-ltb (length buffer) longestPdu l)
 
-      module _ (l : 1500 ≤ length buffer) where
+      module _ (l : longestPdu ≤ length buffer) where
         pub write-above : length (declarations (p - 1) (decode t .streams)) < place → writeOn t p place buffer ≡ refusedWrite 13 buffer
         unfolding writeOn write writtenTo
-        write-above a = rw (h, w, le-ltb (length buffer) 1500 l, lt-ltb _ _ a)
+        write-above a = rw (h, w, le-ltb (length buffer) longestPdu l, lt-ltb _ _ a)
 
         pub write-done : place ≤ length (declarations (p - 1) (decode t .streams)) → (r : Taken) (after : List ℕ)
             → PduWritten (drop place (declarations (p - 1) (decode t .streams))) place buffer r after
             → Writes t p place buffer 0 (r .length) (r .next) after
         unfolding writeOn write writtenTo
-        write-done a r after d = rw (h, w, le-ltb (length buffer) 1500 l, le-ltb _ _ a, d .size, d .next, d .buffer) (refl, refl, refl, refl)
+        write-done a r after d = rw (h, w, le-ltb (length buffer) longestPdu l, le-ltb _ _ a, d .size, d .next, d .buffer) (refl, refl, refl, refl)
 
 module _ (t : List ℕ) (p place : ℕ) where
   pub report-unformed : formed t ≡ false → reportOn t p place ≡ refusedReport 12

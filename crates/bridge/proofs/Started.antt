@@ -8,39 +8,40 @@ use lib.ListN.{length, replicate}
 use Rattle.octets.specs.Parts.{zeros}
 use Rattle.octets.specs.Fields.{flat, packed, width}
 use Rattle.octets.proofs.Fields.{packed-zeros}
+use Rattle.model.specs.Layout.{clockSize, clockWidths, portSize, recordsSize, tableLength, totalSize, totalsSize}
 use Rattle.model.specs.Lists.{All, Octets}
 use Rattle.model.specs.State.{Totals, noTotals, started}
-use Rattle.model.specs.Table.{encode, toSettings, settingsFormed, totalsOctets, totalsWidths}
+use Rattle.model.specs.Table.{encode, toSettings, settingsFormed, totalsOctets}
 use Rattle.model.proofs.Lists.{all-replicate}
 use Rattle.model.proofs.Parts.{zeros-add, flat-zeros}
 use Rattle.model.proofs.SettingsOctets.{settings-forth, settings-ports, formed-length, formed-rules, eight-ports}
 
 no-totals : totalsOctets noTotals ≡ zeros 10
-unfolding totalsOctets noTotals totalsWidths width
+unfolding totalsOctets noTotals width
 no-totals = packed-zeros (5 ∷ 5 ∷ [])
 
 totals-zeros : (l : List Totals) → All (λ t. t ≡ noTotals) l → flat totalsOctets l ≡ zeros (length l * 10)
-totals-zeros l h = flat-zeros 10 totalsOctets noTotals no-totals l h
+totals-zeros l h = flat-zeros totalSize totalsOctets noTotals no-totals l h
 
-clock-and-count : packed (4 ∷ 1 ∷ []) (0 ∷ 0 ∷ []) ≡ zeros 5
+clock-and-count : packed clockWidths (0 ∷ 0 ∷ []) ≡ zeros 5
 unfolding width
-clock-and-count = packed-zeros (4 ∷ 1 ∷ [])
+clock-and-count = packed-zeros clockWidths
 
 zeros-four : (a b c d : ℕ) → zeros a ++ (zeros b ++ (zeros c ++ zeros d)) ≡ zeros (a + (b + (c + d)))
 zeros-four a b c d = sym (zeros-add a (b + (c + d)) ∙ ap (λ (l : List ℕ). zeros a ++ l) (zeros-add b (c + d) ∙ ap (λ (l : List ℕ). zeros b ++ l) (zeros-add c d)))
 
 -- behind the settings stand the other ports' settings, clock and count, totals, and records, of these numbers of octets
 all-zeros : (a r : ℕ) (ts : List Totals) → All (λ t. t ≡ noTotals) ts → length ts ≡ 8 →
-    zeros a ++ (packed (4 ∷ 1 ∷ []) (0 ∷ 0 ∷ []) ++ (flat totalsOctets ts ++ zeros r)) ≡ zeros (a + (5 + (80 + r)))
-all-zeros a r ts h e = rw (clock-and-count, totals-zeros ts h, e) (zeros-four a 5 80 r)
+    zeros a ++ (packed clockWidths (0 ∷ 0 ∷ []) ++ (flat totalsOctets ts ++ zeros r)) ≡ zeros (a + (clockSize + (totalsSize + r)))
+all-zeros a r ts h e = rw (clock-and-count, totals-zeros ts h, e) (zeros-four a clockSize totalsSize r)
 
-pub started-table : (s : List ℕ) → Octets s → settingsFormed s ≡ true → encode (started (toSettings s)) ≡ s ++ zeros (31824 - length s)
+pub started-table : (s : List ℕ) → Octets s → settingsFormed s ≡ true → encode (started (toSettings s)) ≡ s ++ zeros (tableLength - length s)
 unfolding encode started flat
 started-table s o f =
     let st = toSettings s in
-    let a : ℕ = 22 * (8 - length (st .ports)) in
+    let a : ℕ = (8 - length (st .ports)) * portSize in
     let l = formed-length s f in
     let b = eight-ports s (formed-rules s f) in
-    let e : a + (5 + (80 + 31552)) ≡ 31824 - length s = omega (arith, l, b, settings-ports s) in
+    let e : a + (clockSize + (totalsSize + recordsSize)) ≡ tableLength - length s = omega (arith, l, b, settings-ports s) in
     ap₂ (λ (x y : List ℕ). x ++ y) (settings-forth s o f)
-    (all-zeros a 31552 (replicate 8 noTotals) (all-replicate (λ t. t ≡ noTotals) 8 noTotals refl) refl ∙ ap zeros e)
+    (all-zeros a recordsSize (replicate 8 noTotals) (all-replicate (λ t. t ≡ noTotals) 8 noTotals refl) refl ∙ ap zeros e)

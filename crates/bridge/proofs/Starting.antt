@@ -8,29 +8,30 @@ use lib.ListN.{length, drop}
 use lib.Seq.{drop-at}
 use borrow.Author.Tests.{eq-eqb, ne-eqb}
 use Rattle.octets.specs.Parts.{patch, zeros}
+use Rattle.model.specs.Layout.{settingsSize, tableLength}
 use Rattle.model.specs.Lists.{Octets}
-use Rattle.model.specs.Table.{tableLength, settingsFormed}
+use Rattle.model.specs.Table.{settingsFormed}
 use Rattle.model.specs.Calls.{startOn}
 use Rattle.model.proofs.Parts.{zeros-add, length-zeros}
 use Rattle.model.proofs.SettingsOctets.{formed-length, formed-rules, eight-ports}
 use Rattle.bridge.proofs.Started.{started-table}
 
 module _ (t s : List ℕ) where
-  pub start-wrong-table : (length t ≡ 31824 → ⊥) → startOn t s ≡ record { number = 12; table = t }
-  unfolding startOn tableLength
-  start-wrong-table h = rw (ne-eqb (length t) 31824 h)
+  pub start-wrong-table : (length t ≡ tableLength → ⊥) → startOn t s ≡ record { number = 12; table = t }
+  unfolding startOn
+  start-wrong-table h = rw (ne-eqb (length t) tableLength h)
 
-  pub start-wrong-settings : length t ≡ 31824 → settingsFormed s ≡ false → startOn t s ≡ record { number = 11; table = t }
-  unfolding startOn tableLength
-  start-wrong-settings h f = rw (eq-eqb (length t) 31824 h, f)
+  pub start-wrong-settings : length t ≡ tableLength → settingsFormed s ≡ false → startOn t s ≡ record { number = 11; table = t }
+  unfolding startOn
+  start-wrong-settings h f = rw (eq-eqb (length t) tableLength h, f)
 
-  pub start-accepted : length t ≡ 31824 → settingsFormed s ≡ true → Octets s →
-      startOn t s ≡ record { number = 0; table = s ++ zeros (31824 - length s) }
-  unfolding startOn tableLength
-  start-accepted h f o = rw (eq-eqb (length t) 31824 h, f, started-table s o f)
+  pub start-accepted : length t ≡ tableLength → settingsFormed s ≡ true → Octets s →
+      startOn t s ≡ record { number = 0; table = s ++ zeros (tableLength - length s) }
+  unfolding startOn
+  start-accepted h f o = rw (eq-eqb (length t) tableLength h, f, started-table s o f)
 
 -- settings are shorter than a table
-pub settings-short : (s : List ℕ) → settingsFormed s ≡ true → length s ≤ 187
+pub settings-short : (s : List ℕ) → settingsFormed s ≡ true → length s ≤ settingsSize
 settings-short s f = omega (arith, formed-length s f, eight-ports s (formed-rules s f))
 
 -- the settings put in front of a table of zeros of any length

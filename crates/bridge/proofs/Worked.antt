@@ -14,6 +14,7 @@ use borrow.Author.Tests.{le-ltb, ltb-true}
 use Rattle.octets.specs.Be
 use Rattle.octets.specs.Fields
 use Rattle.octets.specs.Parts
+use Rattle.model.specs.Layout.{tableLength}
 use Rattle.model.specs.Lists.{Octets, allTrue}
 use Rattle.model.specs.Lists
 use Rattle.model.specs.State.{Bridge, nothing, tells, ready, noEntry, forwards}
@@ -22,8 +23,9 @@ use Rattle.model.specs.Registrations
 use Rattle.model.specs.Frames
 use Rattle.model.specs.Bandwidth
 use Rattle.model.specs.Settling
-use Rattle.model.specs.Declarations.{Report, noneWord, advertiseWord}
+use Rattle.model.specs.Reports.{Report, noneWord, advertiseWord}
 use Rattle.model.specs.Declarations
+use Rattle.model.specs.Reports as reports
 use Rattle.model.specs.WrittenFrames
 use Rattle.model.specs.Table.{settingsFormed, toSettings, encode}
 use Rattle.model.specs.Table
@@ -35,6 +37,7 @@ use Rattle.model.proofs.Tables.{decode-encode, formed-encode, valid-started}
 use Rattle.model.proofs.ReceiveKeepsForm.{receive-keeps}
 use Rattle.model.proofs.AdvanceKeepsForm.{settle-keeps}
 use Rattle.model.proofs.Demand3.{receive-call, advance-call}
+use Rattle.model.specs.FrameLayout.{longestPdu}
 use Rattle.bridge.specs.Promises.{Starts, Receives, Advances, Writes, Reports}
 use Rattle.bridge.proofs.Started.{started-table}
 use Rattle.bridge.proofs.Starting.{start-accepted}
@@ -85,11 +88,11 @@ settled = Settling.settle 100 heard
 
 -- Calls on the table of a valid bridge are those of the bridge.
 module _ (b : Bridge) (v : Valid b) (p place : ℕ) (w : Frames.wrongPort (b .settings) p ≡ false) where
-  report-call : reportOn (encode b) p place ≡ Declarations.report b p place
+  report-call : reportOn (encode b) p place ≡ reports.report b p place
   unfolding reportOn
   report-call = rw (formed-encode b v, decode-encode b v, w)
 
-  write-call : (buffer : List ℕ) → 1500 ≤ length buffer → writeOn (encode b) p place buffer ≡ writtenTo buffer (Declarations.write b p place)
+  write-call : (buffer : List ℕ) → longestPdu ≤ length buffer → writeOn (encode b) p place buffer ≡ writtenTo buffer (Declarations.write b p place)
   unfolding writeOn
   write-call buffer l = rw (formed-encode b v, decode-encode b v, w, le-ltb _ _ l)
 
@@ -98,7 +101,7 @@ module _ (b : Bridge) (v : Valid b) (p place : ℕ) (w : Frames.wrongPort (b .se
 -- to unfold the last of these is to unfold all definitions of the bridge, and the example's own
 
 settingsOpened : Unit {0}
-unfolding Lists.allTrue Lists.parts Lists.isOne Parts.part Be.beAt Be.be Fields.fields Table.headWidths Table.portWidths Table.portFrom Table.toPort Table.portsField Table.toSettings Table.portRule Table.everyPart Table.settingsRules Table.settingsFormed port settings
+unfolding Lists.allTrue Lists.parts Lists.isOne Parts.part Be.beAt Be.be Fields.fields Table.portFrom Table.toPort Table.portsField Table.toSettings Table.portRule Table.everyPart Table.settingsRules Table.settingsFormed port settings
 settingsOpened = tt
 
 stateOpened : Unit {0}
@@ -106,19 +109,19 @@ unfolding Lists.tabulate Lists.bit State.empty State.unsettled State.noFixed Sta
 stateOpened = tt
 
 framesOpened : Unit {0}
-unfolding Frames.typeOctet Frames.firstWidths Frames.firstLength Frames.threeLength Frames.fourLength Frames.vectorAt Frames.vectorEnd Frames.overpacked Frames.runsPast Frames.overflows Frames.also Frames.both Frames.vectors Frames.listLength Frames.listAt Frames.messageEnd Frames.endMark Frames.message Frames.messages Frames.walk Frames.event Frames.threePacked Frames.fourPacked Frames.eventOf Frames.fourOf Frames.asking Frames.priorityOf Frames.rankOf Frames.fixedValue Frames.healthValue Frames.idValue Frames.hearing Frames.talkerAct Frames.listenerAct Frames.valueActs Frames.valuesActs Frames.leaveAllActs Frames.vectorActs Frames.frameActs Frames.walked Frames.wrongPort Frames.reading Calls.receive
+unfolding Frames.typeOctet Frames.firstWidths Frames.firstLength Frames.threeLength Frames.hasFour Frames.fourLength Frames.vectorAt Frames.vectorEnd Frames.overpacked Frames.runsPast Frames.overflows Frames.vectorIn Frames.checkedIn Frames.typedIn Frames.listLength Frames.listAt Frames.messageEnd Frames.endMark Frames.headerIn Frames.messageIn Frames.also Frames.both Frames.vectorsFrom Frames.vectors Frames.messagesFrom Frames.messages Frames.walk Frames.event Frames.threePacked Frames.fourPacked Frames.eventOf Frames.fourOf Frames.asking Frames.priorityOf Frames.rankOf Frames.fixedValue Frames.healthValue Frames.idValue Frames.hearing Frames.talkerAct Frames.listenerAct Frames.valueActs Frames.valuesActs Frames.leaveAllActs Frames.vectorActs Frames.frameActs Frames.walked Frames.wrongPort Frames.reading Calls.receive
 framesOpened = tt
 
 registrationsOpened : Unit {0}
-unfolding Registrations.begin Registrations.talksAs Registrations.hearsAs Registrations.quitTalker Registrations.quitListener Registrations.quit Registrations.sameFixed Registrations.joinTalker Registrations.does Registrations.at Registrations.change Registrations.begun Registrations.touch Registrations.reach Registrations.apply Registrations.applyAll Registrations.holding Registrations.received
+unfolding Registrations.begin Registrations.talksAs Registrations.hearsAs Registrations.withLeaving Registrations.quitTalker Registrations.quitListener Registrations.quit Registrations.sameFixed Registrations.firstJoin Registrations.sameJoin Registrations.otherJoin Registrations.joinTalker Registrations.does Registrations.at Registrations.change Registrations.begun Registrations.touch Registrations.reach Registrations.apply Registrations.applyAll Registrations.holding Registrations.received
 registrationsOpened = tt
 
 settlingOpened : Unit {0}
-unfolding Bandwidth.demand Bandwidth.rate Bandwidth.rateOfA Bandwidth.rateOfB Bandwidth.rateOf Bandwidth.key Bandwidth.above Bandwidth.insert Bandwidth.sort Bandwidth.share Bandwidth.reserved Bandwidth.remains Bandwidth.admitted Bandwidth.total Settling.expired Settling.expireTalker Settling.expireListener Settling.expireCell Settling.expire Settling.isTalking Settling.isHearing Settling.held Settling.remain Settling.source Settling.sourceOf Settling.isSource Settling.fixedOf Settling.latencyOf Settling.streamClass Settling.registered Settling.isReady Settling.first Settling.clear Settling.isBroken Settling.brokenColumn Settling.stepsFrom Settling.steps Settling.ageOf Settling.claim Settling.claims Settling.limitOn Settling.leftFor Settling.byBandwidth Settling.columnOf Settling.capped Settling.latencyOut Settling.entryOf Settling.ageKept Settling.latencyKept Settling.passed Settling.sameReady Settling.merge Settling.mergeAll Settling.merged Settling.decideAt Settling.decide Settling.totalOn Settling.totalsOn Settling.settle
+unfolding Bandwidth.demand Bandwidth.rate Bandwidth.rateOfA Bandwidth.rateOfB Bandwidth.rateOf Bandwidth.key Bandwidth.above Bandwidth.insert Bandwidth.sort Bandwidth.share Bandwidth.reserved Bandwidth.remains Bandwidth.admitted Bandwidth.total Settling.expired Settling.expireTalker Settling.expireListener Settling.expireCell Settling.expire Settling.isTalking Settling.isHearing Settling.held Settling.remain Settling.source Settling.sourceOf Settling.isSource Settling.fixedOf Settling.latencyOf Settling.healthOf Settling.streamClass Settling.registered Settling.isReady Settling.first Settling.clear Settling.isBroken Settling.brokenColumn Settling.outcomeColumn Settling.stepsFrom Settling.steps Settling.ageOf Settling.claim Settling.claims Settling.limitOn Settling.leftFor Settling.byBandwidth Settling.columnOf Settling.capped Settling.latencyOut Settling.entryOf Settling.ageKept Settling.latencyKept Settling.passed Settling.sameReady Settling.merge Settling.mergeAll Settling.merged Settling.decideAt Settling.decide Settling.totalOn Settling.totalsOn Settling.settle
 settlingOpened = tt
 
 writingOpened : Unit {0}
-unfolding Fields.packed Fields.flat Declarations.wordOf Declarations.codeOf Declarations.streamAt Declarations.report Declarations.healthKind Declarations.kindOf Declarations.advertised Declarations.failing Declarations.listening Declarations.declarationsOf Declarations.ofKind Declarations.declarations Declarations.vectorSize Declarations.sameKind Declarations.opening Declarations.fitting Declarations.takes Declarations.write WrittenFrames.priorityOctet WrittenFrames.fixedNumbers WrittenFrames.failureNumbers WrittenFrames.firstNumbers WrittenFrames.readyNumber WrittenFrames.fourOctets WrittenFrames.declarationVector WrittenFrames.vectorOctets WrittenFrames.typeNumber WrittenFrames.messageOf WrittenFrames.messageOctets WrittenFrames.having WrittenFrames.pduOctets
+unfolding Fields.packed Fields.flat reports.wordOf reports.codeOf reports.report Declarations.healthKind Declarations.kindOf Declarations.advertised Declarations.failing Declarations.listening Declarations.declarationsOf Declarations.ofKind Declarations.declarations Declarations.vectorSize Declarations.sameKind Declarations.opening Declarations.fitting Declarations.takes Declarations.write WrittenFrames.priorityOctet WrittenFrames.fixedNumbers WrittenFrames.failureNumbers WrittenFrames.firstNumbers WrittenFrames.readyNumber WrittenFrames.fourOctets WrittenFrames.declarationVector WrittenFrames.vectorOctets WrittenFrames.typeNumber WrittenFrames.messageOf WrittenFrames.messageOctets WrittenFrames.having WrittenFrames.pduOctets
 writingOpened = tt
 
 opened : Unit {0}
@@ -185,7 +188,7 @@ reportTwo = record {
   entry = forwards;
 }
 
-reports-computed : (Declarations.report settled 1 0 ≡ reportOne) × (Declarations.report settled 2 0 ≡ reportTwo)
+reports-computed : (reports.report settled 1 0 ≡ reportOne) × (reports.report settled 2 0 ≡ reportTwo)
 unfolding opened reportOne reportTwo
 reports-computed = (refl, refl)
 
@@ -232,7 +235,7 @@ settled-valid : Valid settled
 unfolding settled
 settled-valid = settle-keeps heard 100 (omega arith) clock-passed heard-valid
 
-started-on : (t : List ℕ) → length t ≡ 31824 → startOn t settings ≡ record { number = 0; table = encode begun }
+started-on : (t : List ℕ) → length t ≡ tableLength → startOn t settings ≡ record { number = 0; table = encode begun }
 unfolding begun
 started-on t right =
     start-accepted t settings right settings-formed settings-octets
@@ -266,7 +269,7 @@ taken n u c m v h e = (h .0 ∙ ap (λ (a : Call). a .number) e, h .1 ∙ ap (λ
 
 -- a write of port p that leaves the PDU s, its one declaration
 abbrev pub Leaves : ℕ → List ℕ → List ℕ → Type 0
-Leaves p u s = (buffer : List ℕ) (n long next : ℕ) (after : List ℕ) → 1500 ≤ length buffer → Writes u p 0 buffer n long next after →
+Leaves p u s = (buffer : List ℕ) (n long next : ℕ) (after : List ℕ) → longestPdu ≤ length buffer → Writes u p 0 buffer n long next after →
     (n ≡ 0) × (long ≡ length s) × (next ≡ 1) × (take long after ≡ s)
 
 written-on : (p : ℕ) (s : List ℕ) → Frames.wrongPort (settled .settings) p ≡ false → Writing p s → Leaves p (encode settled) s
@@ -277,7 +280,7 @@ written-on p s right w buffer n long next after enough call =
     (c .0, c .1, c .2, rw (c .1, c .3) (take-append-seam s (drop (length s) buffer)))
 
 -- Any table of the right length; the calls of the worked example, one after another.
-module _ (t : List ℕ) (right : length t ≡ 31824)
+module _ (t : List ℕ) (right : length t ≡ tableLength)
     (n₀ : ℕ) (u₀ : List ℕ) (start : Starts t settings n₀ u₀)
     (n₁ : ℕ) (u₁ : List ℕ) (first : Receives u₀ 1 talker n₁ u₁)
     (n₂ : ℕ) (u₂ : List ℕ) (second : Receives u₁ 2 listener n₂ u₂)

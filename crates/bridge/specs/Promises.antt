@@ -3,7 +3,7 @@
 use mathlib.Core.Path.{_≡_}
 use mathlib.Core.List.{List}
 use Prim.Native.Nat.{ℕ}
-use Rattle.model.specs.Declarations.{Report}
+use Rattle.model.specs.Reports.{Report}
 use Rattle.model.specs.Calls.{startOn, receiveOn, advanceOn, writeOn, reportOn}
 
 -- a table and settings: the number, and the table afterwards

@@ -2,30 +2,36 @@
 // each promises the one number, the one content of the table and of the buffer: those of crate model's `Calls`, by the relations
 // of specs/Promises.
 ghost use mathlib.Core.Path.{_≡_};
-ghost use Rattle.declarations.specs.Shown.{shown};
+ghost use Rattle.reports.specs.Shown.{shown};
 ghost use Rattle.bridge.specs.Promises.{Starts, Receives, Advances, Writes, Reports};
+use model::pdu;
+use model::refusal;
 
 // Octets of a table.
 pub const TABLE: usize = table::LENGTH;
 
-// The shortest buffer that a written PDU is sure to fit into.
-const BUFFER: usize = 1500;
+// In settings: the place of the octet that begins with the ports field; the octets before the first port's, and of each port's.
+pub const PORTS_FIELD: usize = table::HEAD;
+
+pub const SETTINGS: usize = table::PORTS;
+
+pub const PORT_SETTINGS: usize = table::PORT;
 
 // Starts a bridge with these settings: no streams, clock 0. It looks at the table's length only.
 pub fn start(table: &mut [u8], settings: &[u8]) -> u8
     ensures { λ r. ⌜ Starts (now (table .entry)) (now (settings .entry)) r (now (table .exit)) ⌝ }
 {
     if table.len() != TABLE {
-        return 12;
+        return refusal::TABLE;
     }
     let formed = form::settings_formed(settings);
     if formed {
         octets::clear(table, 0, TABLE);
         let n = settings.len();
         octets::copy(settings, &mut table[0..n]);
-        return 0;
+        return refusal::ACCEPTED;
     }
-    11
+    refusal::SETTINGS
 }
 
 // Takes a PDU that arrived on a port, numbered from 1: refused by number, or all of its events applied.
@@ -36,22 +42,22 @@ pub fn receive(table: &mut [u8], port: u32, pdu: &[u8]) -> u8
     if formed {
         let ports = table::ports(table);
         if port == 0 {
-            return 1;
+            return refusal::PORT;
         }
         if ports < port as usize {
-            return 1;
+            return refusal::PORT;
         }
         let number = msrpdu::check(pdu);
-        if number == 0 {
+        if number == refusal::ACCEPTED {
             let fits = registrar::receive_frame(table, port as usize - 1, pdu);
             if fits {
-                return 0;
+                return refusal::ACCEPTED;
             }
-            return 8;
+            return refusal::STREAMS;
         }
         return number;
     }
-    12
+    refusal::TABLE
 }
 
 // Sets the clock, removes what has left, and decides every column, entry, Listener and total.
@@ -62,12 +68,12 @@ pub fn advance(table: &mut [u8], time: u32) -> u8
     if formed {
         let clock = table::clock(table);
         if time < clock {
-            return 9;
+            return refusal::TIME;
         }
         settling::settle(table, time);
-        return 0;
+        return refusal::ACCEPTED;
     }
-    12
+    refusal::TABLE
 }
 
 // What write answers.
@@ -96,47 +102,47 @@ pub fn write(table: &[u8], port: u32, place: u32, buffer: &mut [u8]) -> Wrote
     if formed {
         let ports = table::ports(table);
         if port == 0 {
-            return refused_write(1);
+            return refused_write(refusal::PORT);
         }
         if ports < port as usize {
-            return refused_write(1);
+            return refused_write(refusal::PORT);
         }
-        if buffer.len() < BUFFER {
-            return refused_write(10);
+        if buffer.len() < pdu::LONGEST {
+            return refused_write(refusal::BUFFER);
         }
         let p = port as usize - 1;
         let count = declarations::count_declarations(table, p);
         if count < place as usize {
-            return refused_write(13);
+            return refused_write(refusal::PLACE);
         }
         let pdu = declarations::write_pdu(table, p, place as usize, buffer);
         return Wrote {
-            number: 0,
+            number: refusal::ACCEPTED,
             length: pdu.length,
             next: pdu.next,
         };
     }
-    refused_write(12)
+    refused_write(refusal::TABLE)
 }
 
 // Reports the streams held, a port's class totals and limits, and the stream at a place as the last advance settled it there.
-pub fn report(table: &[u8], port: u32, place: u32) -> declarations::Reported
+pub fn report(table: &[u8], port: u32, place: u32) -> reports::Reported
     ensures { λ r. ⌜ Reports (now (table .entry)) port place (shown r) ⌝ }
 {
     let formed = form::is_formed(table);
     if formed {
         let ports = table::ports(table);
         if port == 0 {
-            return declarations::refused_report(1);
+            return reports::refused_report(refusal::PORT);
         }
         if ports < port as usize {
-            return declarations::refused_report(1);
+            return reports::refused_report(refusal::PORT);
         }
         let count = table::count(table);
         if count < place as usize {
-            return declarations::refused_report(13);
+            return reports::refused_report(refusal::PLACE);
         }
-        return declarations::report_at(table, port as usize - 1, place as usize);
+        return reports::report_at(table, port as usize - 1, place as usize);
     }
-    declarations::refused_report(12)
+    reports::refused_report(refusal::TABLE)
 }

@@ -13,11 +13,13 @@ use Rattle.octets.specs.Pick.{pick}
 use Rattle.octets.specs.Fields.{fields, packed, Fit, width}
 use Rattle.octets.proofs.Parts.{length-patch}
 use Rattle.octets.proofs.Fields.{fit-at, be-beAt, packed-fields, beAt-fits, beAt-one, beAt-add, get-field, get-octet, put-field, put-run, clear-run}
-use Rattle.model.specs.State.{stays, Fixed, Health, sound, broken, Varying, Leaving, Talker, noTalker, talker, Listener, noListener, listener, noFixed}
-use Rattle.model.specs.Registrations.{sameFixed, joinTalker, does, listen}
+use Rattle.model.specs.FrameLayout.{advertiseLength, failedLength, firstBridge, firstCode, firstDestination, firstLatency, firstPriority, firstVlan, talkerWidths}
+use Rattle.model.specs.Layout.{bridgeField, cellFields, cellWidths, changedField, changedPlace, codeField, fixedField, fixedPlace, latencyField, latencyPlace, leavingSize, listenerField, listenerLeavesField, priorityField, priorityPlace, talkerLeavesField, vlanField, vlanPlace}
+use Rattle.model.specs.State.{stays, Fixed, Health, sound, broken, Varying, Registration, Talker, noTalker, talker, Listener, noListener, listener, noFixed}
+use Rattle.model.specs.Registrations.{sameFixed, firstJoin, sameJoin, otherJoin, joinTalker, does, listen}
 use Rattle.model.specs.Frames.{registers, firstWidths, firstLength, priorityOf, rankOf, fixedValue, healthValue}
 use Rattle.model.specs.WrittenFrames.{priorityOctet, fixedNumbers}
-use Rattle.model.specs.Table.{cellWidths, leavingNumber, sinceNumber, healthNumber, bridgeNumber, codeNumber, talkerNumbers, listenerNumbers, cellNumbers, cellOctets, toCell, toReady}
+use Rattle.model.specs.Table.{leavingNumber, sinceNumber, healthNumber, bridgeNumber, codeNumber, talkerNumbers, listenerNumbers, cellNumbers, cellOctets, toCell, toReady}
 use Rattle.model.specs.Laid.{FitCell, LaidCell}
 use Rattle.model.specs.Lists.{bit}
 use Rattle.model.proofs.Cells.{ready-forth}
@@ -27,80 +29,80 @@ use Rattle.cells.proofs.Leaving.{laid, both, talker-kind}
 
 -- The steps on numbers in the fields of a cell.
 
-module _ (vs : List ℕ) (size : length vs ≡ 15) where
-  heard-numbers : (four : ℕ) → heard four (packed cellWidths vs) ≡ packed cellWidths (patch 13 2 (zeros 2) (set vs 12 four))
-  unfolding heard cellWidths width part
+module _ (vs : List ℕ) (size : length vs ≡ cellFields) where
+  heard-numbers : (four : ℕ) → heard four (packed cellWidths vs) ≡ packed cellWidths (patch listenerLeavesField 2 (zeros 2) (set vs listenerField four))
+  unfolding heard width part
   heard-numbers four =
-      rw (put-field cellWidths vs 12 four size) (clear-run cellWidths (set vs 12 four) 13 2 (simp length-set size) (omega arith))
+      rw (put-field cellWidths vs listenerField four size) (clear-run cellWidths (set vs listenerField four) listenerLeavesField 2 (simp length-set size) (omega arith))
 
-  marked-numbers : marked (packed cellWidths vs) ≡ packed cellWidths (patch 2 2 (zeros 2) (set vs 1 1))
-  unfolding marked cellWidths width part
-  marked-numbers = rw (put-field cellWidths vs 1 1 size) (clear-run cellWidths (set vs 1 1) 2 2 (simp length-set size) (omega arith))
+  marked-numbers : marked (packed cellWidths vs) ≡ packed cellWidths (patch talkerLeavesField 2 (zeros 2) (set vs changedField 1))
+  unfolding marked width part
+  marked-numbers = rw (put-field cellWidths vs changedField 1 size) (clear-run cellWidths (set vs changedField 1) talkerLeavesField 2 (simp length-set size) (omega arith))
 
-  failing-numbers : (first : List ℕ) → failing 2 first (packed cellWidths vs) ≡ packed cellWidths (set (set vs 10 (beAt 8 first 25)) 11 (getD first 33 0))
-  unfolding failing cellWidths width pick
+  failing-numbers : (first : List ℕ) → failing 2 first (packed cellWidths vs) ≡ packed cellWidths (set (set vs bridgeField (beAt 8 first firstBridge)) codeField (getD first firstCode 0))
+  unfolding failing width pick
   failing-numbers first =
-      rw (put-field cellWidths vs 10 (beAt 8 first 25) size)
-      (put-field cellWidths (set vs 10 (beAt 8 first 25)) 11 (getD first 33 0) (simp length-set size))
+      rw (put-field cellWidths vs bridgeField (beAt 8 first firstBridge) size)
+      (put-field cellWidths (set vs bridgeField (beAt 8 first firstBridge)) codeField (getD first firstCode 0) (simp length-set size))
 
-  sound-numbers : (first : List ℕ) → failing 1 first (packed cellWidths vs) ≡ packed cellWidths (patch 10 2 (zeros 2) vs)
-  unfolding failing cellWidths width part pick
-  sound-numbers first = clear-run cellWidths vs 10 2 size (omega arith)
+  sound-numbers : (first : List ℕ) → failing 1 first (packed cellWidths vs) ≡ packed cellWidths (patch bridgeField 2 (zeros 2) vs)
+  unfolding failing width part pick
+  sound-numbers first = clear-run cellWidths vs bridgeField 2 size (omega arith)
 
   -- before a failure is written
-  varied-numbers : (kind latency : ℕ) → patch 20 4 (be 4 latency) (patch 1 6 (zeros 6) (patch 0 1 (be 1 kind) (packed cellWidths vs)))
-      ≡ packed cellWidths (set (patch 1 3 (zeros 3) (set vs 0 kind)) 9 latency)
-  unfolding cellWidths width part
+  varied-numbers : (kind latency : ℕ) → patch latencyPlace 4 (be 4 latency) (patch changedPlace (1 + leavingSize) (zeros (1 + leavingSize)) (patch 0 1 (be 1 kind) (packed cellWidths vs)))
+      ≡ packed cellWidths (set (patch changedField 3 (zeros 3) (set vs 0 kind)) latencyField latency)
+  unfolding width part
   varied-numbers kind latency =
-      let one : length (set vs 0 kind) ≡ 15 = simp length-set size in
-      let two : length (patch 1 3 (zeros 3) (set vs 0 kind)) ≡ 15 = length-patch 1 3 (zeros 3) (set vs 0 kind) refl (omega arith) ∙ one in
-      rw (put-field cellWidths vs 0 kind size, clear-run cellWidths (set vs 0 kind) 1 3 one (omega arith))
-      (put-field cellWidths (patch 1 3 (zeros 3) (set vs 0 kind)) 9 latency two)
+      let one : length (set vs 0 kind) ≡ cellFields = simp length-set size in
+      let two : length (patch changedField 3 (zeros 3) (set vs 0 kind)) ≡ cellFields = length-patch changedField 3 (zeros 3) (set vs 0 kind) refl (omega arith) ∙ one in
+      rw (put-field cellWidths vs 0 kind size, clear-run cellWidths (set vs 0 kind) changedField 3 one (omega arith))
+      (put-field cellWidths (patch changedField 3 (zeros 3) (set vs 0 kind)) latencyField latency two)
 
-  varied-size : (kind latency : ℕ) → length (set (patch 1 3 (zeros 3) (set vs 0 kind)) 9 latency) ≡ 15
+  varied-size : (kind latency : ℕ) → length (set (patch changedField 3 (zeros 3) (set vs 0 kind)) latencyField latency) ≡ cellFields
   varied-size kind latency =
-      let one : length (set vs 0 kind) ≡ 15 = simp length-set size in
-      simp length-set (length-patch 1 3 (zeros 3) (set vs 0 kind) refl (omega arith) ∙ one)
+      let one : length (set vs 0 kind) ≡ cellFields = simp length-set size in
+      simp length-set (length-patch changedField 3 (zeros 3) (set vs 0 kind) refl (omega arith) ∙ one)
 
   -- VLAN, MaxFrameSize and MaxIntervalFrames as one number
-  fixed-numbers : (first : List ℕ) (n : ℕ) → 25 ≤ length first → ((i : ℕ) → getD first i 0 < 256)
+  fixed-numbers : (first : List ℕ) (n : ℕ) → advertiseLength ≤ length first → ((i : ℕ) → getD first i 0 < 256)
       → fixed first n (packed cellWidths vs)
       ≡ packed cellWidths
-      (set (patch 5 3 (fields (2 ∷ 2 ∷ 2 ∷ []) 14 first) (set vs 4 (beAt 6 first 8 + n))) 8 (getD first 20 0 / 16 * 16))
-  unfolding fixed cellWidths width part
+      (set (patch vlanField 3 (fields (2 ∷ 2 ∷ 2 ∷ []) firstVlan first) (set vs fixedField (beAt 6 first firstDestination + n))) priorityField (getD first firstPriority 0 / 16 * 16))
+  unfolding fixed width part
   fixed-numbers first n l o =
       let ws : List ℕ = 2 ∷ 2 ∷ 2 ∷ [] in
-      let there : List ℕ = set vs 4 (beAt 6 first 8 + n) in
-      let one : length there ≡ 15 = simp length-set size in
-      let spec : length (fields ws 14 first) ≡ 3 = unfold fields in refl in
-      let two : length (patch 5 3 (fields ws 14 first) there) ≡ 15 = length-patch 5 3 (fields ws 14 first) there spec (omega arith) ∙ one in
-      let octets : be 6 (beAt 6 first 14) ≡ packed ws (fields ws 14 first) =
-      be-beAt 6 first 14 (omega arith) o ∙ sym (packed-fields ws 14 first (omega arith) o) in
-      rw (put-field cellWidths vs 4 (beAt 6 first 8 + n) size, octets, put-run cellWidths there 5 3 one (omega arith) (fields ws 14 first) spec)
-      (put-field cellWidths (patch 5 3 (fields ws 14 first) there) 8 (getD first 20 0 / 16 * 16) two)
+      let there : List ℕ = set vs fixedField (beAt 6 first firstDestination + n) in
+      let one : length there ≡ cellFields = simp length-set size in
+      let spec : length (fields ws firstVlan first) ≡ 3 = unfold fields in refl in
+      let two : length (patch vlanField 3 (fields ws firstVlan first) there) ≡ cellFields = length-patch vlanField 3 (fields ws firstVlan first) there spec (omega arith) ∙ one in
+      let octets : be 6 (beAt 6 first firstVlan) ≡ packed ws (fields ws firstVlan first) =
+      be-beAt 6 first firstVlan (omega arith) o ∙ sym (packed-fields ws firstVlan first (omega arith) o) in
+      rw (put-field cellWidths vs fixedField (beAt 6 first firstDestination + n) size, octets, put-run cellWidths there vlanField 3 one (omega arith) (fields ws firstVlan first) spec)
+      (put-field cellWidths (patch vlanField 3 (fields ws firstVlan first) there) priorityField (getD first firstPriority 0 / 16 * 16) two)
 
 -- Fifteen numbers of a cell; those of the fixed values, which are zero without a Talker.
 
-cell-size : (t : Talker) (h : Listener) → length (cellNumbers (both t h)) ≡ 15
+cell-size : (t : Talker) (h : Listener) → length (cellNumbers (both t h)) ≡ cellFields
 unfolding cellNumbers talkerNumbers listenerNumbers fixedNumbers
 cell-size noTalker noListener = refl
 cell-size noTalker (listener r l) = refl
-cell-size (talker f v m k) noListener = refl
-cell-size (talker f v m k) (listener r l) = refl
+cell-size (talker k) noListener = refl
+cell-size (talker k) (listener r l) = refl
 
 heldFixed : Talker → Fixed
 heldFixed noTalker = noFixed
-heldFixed (talker f v m l) = f
+heldFixed (talker r) = r .fixed
 
 -- A Listener's join.
 
 listener-joined : (four : ℕ) → 1 ≤ four → four ≤ 3 → (t : Talker) (h : Listener)
-    → patch 13 2 (zeros 2) (set (cellNumbers (both t h)) 12 four) ≡ cellNumbers (both t (listener (toReady four) stays))
+    → patch listenerLeavesField 2 (zeros 2) (set (cellNumbers (both t h)) listenerField four) ≡ cellNumbers (both t (listener (toReady four) stays))
 unfolding cellNumbers talkerNumbers listenerNumbers fixedNumbers leavingNumber sinceNumber patch
 listener-joined four low high noTalker noListener = rw (ready-forth four low high)
 listener-joined four low high noTalker (listener r l) = rw (ready-forth four low high)
-listener-joined four low high (talker f v m k) noListener = rw (ready-forth four low high)
-listener-joined four low high (talker f v m k) (listener r l) = rw (ready-forth four low high)
+listener-joined four low high (talker k) noListener = rw (ready-forth four low high)
+listener-joined four low high (talker k) (listener r l) = rw (ready-forth four low high)
 
 pub listens : (four : ℕ) → 1 ≤ four → four ≤ 3 → (clock id : ℕ) (s : List ℕ) → LaidCell s
     → heard four s ≡ cellOctets (does clock (listen id (toReady four)) (toCell s))
@@ -111,30 +113,29 @@ listens four low high clock id =
 
 -- A Talker's: the held one is marked.
 
-marks : (f : Fixed) (v : Varying) (m : Bool) (l : Leaving) (h : Listener)
-    → marked (cellOctets (both (talker f v m l) h)) ≡ cellOctets (both (talker f v true stays) h)
-unfolding cellOctets cellNumbers talkerNumbers leavingNumber sinceNumber bit patch
-marks f v m l h = marked-numbers (cellNumbers (both (talker f v m l) h)) (cell-size (talker f v m l) h)
+marks : (r : Registration) (h : Listener) → marked (cellOctets (both (talker r) h)) ≡ cellOctets (both (talker (otherJoin r)) h)
+unfolding otherJoin cellOctets cellNumbers talkerNumbers leavingNumber sinceNumber bit patch
+marks r h = marked-numbers (cellNumbers (both (talker r) h)) (cell-size (talker r) h)
 
 -- Or it takes what may vary.
 
 -- the numbers before a failure is written
 module _ (t : Talker) (h : Listener) (kind latency : ℕ) where
   begins : List ℕ
-  begins = set (patch 1 3 (zeros 3) (set (cellNumbers (both t h)) 0 kind)) 9 latency
+  begins = set (patch changedField 3 (zeros 3) (set (cellNumbers (both t h)) 0 kind)) latencyField latency
 
 sound-again : (t : Talker) (h : Listener) (latency : ℕ)
-    → patch 10 2 (zeros 2) (begins t h 1 latency) ≡ cellNumbers (both (talker (heldFixed t) record { health = sound; latency = latency } false stays) h)
-unfolding begins heldFixed cellNumbers talkerNumbers fixedNumbers priorityOctet noFixed leavingNumber sinceNumber healthNumber bridgeNumber codeNumber bit patch
+    → patch bridgeField 2 (zeros 2) (begins t h 1 latency) ≡ cellNumbers (both (talker (firstJoin (heldFixed t) record { health = sound; latency = latency })) h)
+unfolding begins firstJoin heldFixed cellNumbers talkerNumbers fixedNumbers priorityOctet noFixed leavingNumber sinceNumber healthNumber bridgeNumber codeNumber bit patch
 sound-again noTalker h latency = refl
-sound-again (talker f v m l) h latency = refl
+sound-again (talker r) h latency = refl
 
 broken-again : (t : Talker) (h : Listener) (latency bridge code : ℕ)
-    → set (set (begins t h 2 latency) 10 bridge) 11 code
-    ≡ cellNumbers (both (talker (heldFixed t) record { health = broken bridge code; latency = latency } false stays) h)
-unfolding begins heldFixed cellNumbers talkerNumbers fixedNumbers priorityOctet noFixed leavingNumber sinceNumber healthNumber bridgeNumber codeNumber bit patch
+    → set (set (begins t h 2 latency) bridgeField bridge) codeField code
+    ≡ cellNumbers (both (talker (firstJoin (heldFixed t) record { health = broken bridge code; latency = latency })) h)
+unfolding begins firstJoin heldFixed cellNumbers talkerNumbers fixedNumbers priorityOctet noFixed leavingNumber sinceNumber healthNumber bridgeNumber codeNumber bit patch
 broken-again noTalker h latency bridge code = refl
-broken-again (talker f v m l) h latency bridge code = refl
+broken-again (talker r) h latency bridge code = refl
 
 -- FirstValue's numbers, and what varies in them
 firstNumbers : ℕ → List ℕ → List ℕ
@@ -144,38 +145,38 @@ varying : ℕ → List ℕ → Varying
 varying k first = record { health = healthValue (kindAt k) (firstNumbers k first); latency = getD (firstNumbers k first) 6 0 }
 
 varies : (k : ℕ) → 1 ≤ k → k ≤ 2 → (first : List ℕ) (t : Talker) (h : Listener)
-    → varied k first (cellOctets (both t h)) ≡ cellOctets (both (talker (heldFixed t) (varying k first) false stays) h)
+    → varied k first (cellOctets (both t h)) ≡ cellOctets (both (talker (firstJoin (heldFixed t) (varying k first))) h)
 unfolding cellOctets varied varying firstNumbers kindAt firstWidths fields healthValue begins
 varies zero low high first t h = absurd (omega arith)
 varies (suc zero) low high first t h =
     let vs = cellNumbers (both t h) in
     let z = cell-size t h in
-    let n = beAt 4 first 21 in
+    let n = beAt 4 first firstLatency in
     ap (failing 1 first) (varied-numbers vs z 1 n)
     ∙ sound-numbers (begins t h 1 n) (varied-size vs z 1 n) first
     ∙ ap (packed cellWidths) (sound-again t h n)
 varies (suc (suc zero)) low high first t h =
     let vs = cellNumbers (both t h) in
     let z = cell-size t h in
-    let n = beAt 4 first 21 in
+    let n = beAt 4 first firstLatency in
     ap (failing 2 first) (varied-numbers vs z 2 n)
     ∙ failing-numbers (begins t h 2 n) (varied-size vs z 2 n) first
-    ∙ ap (packed cellWidths) (broken-again t h n (beAt 8 first 25) (getD first 33 0) ∙ rw (beAt-one first 33))
+    ∙ ap (packed cellWidths) (broken-again t h n (beAt 8 first firstBridge) (getD first firstCode 0) ∙ rw (beAt-one first firstCode))
 varies (suc (suc (suc k))) low high first t h = absurd (omega arith)
 
 -- Where nothing is held, what is fixed is taken too.
 
-module _ (first : List ℕ) (long : 25 ≤ length first) (octets : (i : ℕ) → getD first i 0 < 256) (n : ℕ) where
+module _ (first : List ℕ) (long : advertiseLength ≤ length first) (octets : (i : ℕ) → getD first i 0 < 256) (n : ℕ) where
   -- FirstValue's first seven fields, and any behind them
   talkerNumbersOf : List ℕ → List ℕ
-  talkerNumbersOf more = fields (8 ∷ 6 ∷ 2 ∷ 2 ∷ 2 ∷ 1 ∷ 4 ∷ more) 0 first
+  talkerNumbersOf more = fields (talkerWidths more) 0 first
 
-  takes : (more : List ℕ) (f : Fixed) (v : Varying) (m : Bool) (l : Leaving) (h : Listener)
-      → fixed first n (cellOctets (both (talker f v m l) h)) ≡ cellOctets (both (talker (fixedValue (talkerNumbersOf more) n) v m l) h)
-  unfolding cellOctets cellNumbers talkerNumbers fixedNumbers fixedValue talkerNumbersOf fields priorityOctet priorityOf rankOf patch
-  takes more f v m l h =
-      let o : getD first 20 0 / 16 * 16 ≡ beAt 1 first 20 / 32 * 32 + beAt 1 first 20 / 16 % 2 * 16 = omega (arith, beAt-one first 20) in
-      fixed-numbers (cellNumbers (both (talker f v m l) h)) (cell-size (talker f v m l) h) first n long octets ∙ rw o
+  takes : (more : List ℕ) (f : Fixed) (v : Varying) (h : Listener)
+      → fixed first n (cellOctets (both (talker (firstJoin f v)) h)) ≡ cellOctets (both (talker (firstJoin (fixedValue (talkerNumbersOf more) n) v)) h)
+  unfolding firstJoin cellOctets cellNumbers talkerNumbers fixedNumbers fixedValue talkerNumbersOf fields priorityOctet priorityOf rankOf patch
+  takes more f v h =
+      let o : getD first firstPriority 0 / 16 * 16 ≡ beAt 1 first firstPriority / 32 * 32 + beAt 1 first firstPriority / 16 % 2 * 16 = omega (arith, beAt-one first firstPriority) in
+      fixed-numbers (cellNumbers (both (talker (firstJoin f v)) h)) (cell-size (talker (firstJoin f v)) h) first n long octets ∙ rw o
 
 -- Whether what is fixed is the same: as three numbers of octets, and field by field.
 
@@ -237,9 +238,9 @@ module _ (f g : Fixed) where
 
 -- fixed values, and the octets of a cell that has them
 record Has (s : List ℕ) (g : Fixed) : Type 0 where
-  destination : beAt 6 s 7 ≡ g .destination
-  between : beAt 6 s 13 ≡ (g .vlan * 65536 + g .size) * 65536 + g .frames
-  priority : getD s 19 0 ≡ g .priority * 32 + g .rank * 16
+  destination : beAt 6 s fixedPlace ≡ g .destination
+  between : beAt 6 s vlanPlace ≡ (g .vlan * 65536 + g .size) * 65536 + g .frames
+  priority : getD s priorityPlace 0 ≡ g .priority * 32 + g .rank * 16
   vlan : g .vlan < 65536
   size : g .size < 65536
   frames : g .frames < 65536
@@ -249,33 +250,33 @@ record Has (s : List ℕ) (g : Fixed) : Type 0 where
 three-pairs : (s : List ℕ) (at : ℕ) → beAt 6 s at ≡ (beAt 2 s at * 65536 + beAt 2 s (at + 2)) * 65536 + beAt 2 s (at + 2 + 2)
 three-pairs s at = omega (arith, beAt-add 2 4 s at, beAt-add 2 2 s (at + 2))
 
-numbers-have : (vs : List ℕ) → Fit cellWidths vs → (g : Fixed) → getD vs 4 0 ≡ g .destination → getD vs 5 0 ≡ g .vlan → getD vs 6 0 ≡ g .size
-    → getD vs 7 0 ≡ g .frames → getD vs 8 0 ≡ g .priority * 32 + g .rank * 16 → g .rank < 2 → Has (packed cellWidths vs) g
-unfolding cellWidths width
+numbers-have : (vs : List ℕ) → Fit cellWidths vs → (g : Fixed) → getD vs fixedField 0 ≡ g .destination → getD vs vlanField 0 ≡ g .vlan → getD vs (vlanField + 1) 0 ≡ g .size
+    → getD vs (vlanField + 2) 0 ≡ g .frames → getD vs priorityField 0 ≡ g .priority * 32 + g .rank * 16 → g .rank < 2 → Has (packed cellWidths vs) g
+unfolding width
 numbers-have vs fit g d v z n p r =
     let s = packed cellWidths vs in
     let get = get-field cellWidths vs fit in
-    let a : beAt 2 s 13 ≡ getD vs 5 0 = get 5 in
-    let b : beAt 2 s 15 ≡ getD vs 6 0 = get 6 in
-    let c : beAt 2 s 17 ≡ getD vs 7 0 = get 7 in
+    let a : beAt 2 s vlanPlace ≡ getD vs vlanField 0 = get vlanField in
+    let b : beAt 2 s (vlanPlace + 2) ≡ getD vs (vlanField + 1) 0 = get (vlanField + 1) in
+    let c : beAt 2 s (vlanPlace + 4) ≡ getD vs (vlanField + 2) 0 = get (vlanField + 2) in
     record {
-      destination = get 4 ∙ d;
-      between = omega (arith, three-pairs s 13);
-      priority = get-octet cellWidths vs fit 8 refl ∙ p;
-      vlan = omega (arith, fit-at cellWidths vs fit 5);
-      size = omega (arith, fit-at cellWidths vs fit 6);
-      frames = omega (arith, fit-at cellWidths vs fit 7);
+      destination = get fixedField ∙ d;
+      between = omega (arith, three-pairs s vlanPlace);
+      priority = get-octet cellWidths vs fit priorityField refl ∙ p;
+      vlan = omega (arith, fit-at cellWidths vs fit vlanField);
+      size = omega (arith, fit-at cellWidths vs fit (vlanField + 1));
+      frames = omega (arith, fit-at cellWidths vs fit (vlanField + 2));
       rank = r;
     }
 
 has : (t : Talker) (h : Listener) → FitCell (both t h) → Has (cellOctets (both t h)) (heldFixed t)
 unfolding cellOctets cellNumbers talkerNumbers fixedNumbers priorityOctet heldFixed noFixed
 has noTalker h fit = numbers-have (cellNumbers (both noTalker h)) (fit .numbers) noFixed refl refl refl refl refl (omega arith)
-has (talker f v m l) h fit = numbers-have (cellNumbers (both (talker f v m l) h)) (fit .numbers) f refl refl refl refl refl (fit .rank)
+has (talker r) h fit = numbers-have (cellNumbers (both (talker r) h)) (fit .numbers) (r .fixed) refl refl refl refl refl (fit .rank)
 
 module _ (first : List ℕ) (octets : (i : ℕ) → getD first i 0 < 256) (n : ℕ) (more : List ℕ) where
   new : Fixed
-  new = fixedValue (fields (8 ∷ 6 ∷ 2 ∷ 2 ∷ 2 ∷ 1 ∷ 4 ∷ more) 0 first) n
+  new = fixedValue (fields (talkerWidths more) 0 first) n
 
   same-fixed : (s : List ℕ) (g : Fixed) → Has s g → same first n s ≡ sameFixed new g
   unfolding same new fixedValue fields priorityOf rankOf
@@ -286,31 +287,31 @@ module _ (first : List ℕ) (octets : (i : ℕ) → getD first i 0 < 256) (n : �
 
       forth : same first n s ≡ true → sameFixed new g ≡ true
       forth e =
-          let (a, b, c) = three-all (eqb (beAt 6 s 7) (beAt 6 first 8 + n)) (eqb (beAt 6 s 13) (beAt 6 first 14)) (eqb (getD s 19 0 / 16) (getD first 20 0 / 16)) e in
-          let d = eqb-true (beAt 6 s 7) (beAt 6 first 8 + n) a in
-          let v = eqb-true (beAt 6 s 13) (beAt 6 first 14) b in
-          let p = eqb-true (getD s 19 0 / 16) (getD first 20 0 / 16) c in
-          let pairs = three-pairs first 14 in
-          let x = small 14 in
-          let y = small 16 in
-          let z = small 18 in
-          let o = beAt-one first 20 in
+          let (a, b, c) = three-all (eqb (beAt 6 s fixedPlace) (beAt 6 first firstDestination + n)) (eqb (beAt 6 s vlanPlace) (beAt 6 first firstVlan)) (eqb (getD s priorityPlace 0 / 16) (getD first firstPriority 0 / 16)) e in
+          let d = eqb-true (beAt 6 s fixedPlace) (beAt 6 first firstDestination + n) a in
+          let v = eqb-true (beAt 6 s vlanPlace) (beAt 6 first firstVlan) b in
+          let p = eqb-true (getD s priorityPlace 0 / 16) (getD first firstPriority 0 / 16) c in
+          let pairs = three-pairs first firstVlan in
+          let x = small firstVlan in
+          let y = small (firstVlan + 2) in
+          let z = small (firstVlan + 4) in
+          let o = beAt-one first firstPriority in
           each-same new g (omega arith) (omega arith) (omega arith) (omega arith) (omega arith) (omega arith)
 
       back : sameFixed new g ≡ true → same first n s ≡ true
       back e =
           let (d, v, z, m, p, r) = same-each new g e in
-          let a : beAt 6 s 7 ≡ beAt 6 first 8 + n = omega arith in
-          let b : beAt 6 s 13 ≡ beAt 6 first 14 = omega (arith, three-pairs first 14) in
-          let c : getD s 19 0 / 16 ≡ getD first 20 0 / 16 = omega (arith, beAt-one first 20) in
-          all-three (eqb (beAt 6 s 7) (beAt 6 first 8 + n)) (eqb (beAt 6 s 13) (beAt 6 first 14)) (eqb (getD s 19 0 / 16) (getD first 20 0 / 16))
-          (eq-eqb (beAt 6 s 7) (beAt 6 first 8 + n) a) (eq-eqb (beAt 6 s 13) (beAt 6 first 14) b)
-          (eq-eqb (getD s 19 0 / 16) (getD first 20 0 / 16) c)
+          let a : beAt 6 s fixedPlace ≡ beAt 6 first firstDestination + n = omega arith in
+          let b : beAt 6 s vlanPlace ≡ beAt 6 first firstVlan = omega (arith, three-pairs first firstVlan) in
+          let c : getD s priorityPlace 0 / 16 ≡ getD first firstPriority 0 / 16 = omega (arith, beAt-one first firstPriority) in
+          all-three (eqb (beAt 6 s fixedPlace) (beAt 6 first firstDestination + n)) (eqb (beAt 6 s vlanPlace) (beAt 6 first firstVlan)) (eqb (getD s priorityPlace 0 / 16) (getD first firstPriority 0 / 16))
+          (eq-eqb (beAt 6 s fixedPlace) (beAt 6 first firstDestination + n) a) (eq-eqb (beAt 6 s vlanPlace) (beAt 6 first firstVlan) b)
+          (eq-eqb (getD s priorityPlace 0 / 16) (getD first firstPriority 0 / 16) c)
 
 -- A Talker's join, of an AttributeType.
 
 first-widths : (k : ℕ) → 1 ≤ k → k ≤ 2
-    → firstWidths (registers (kindAt k)) ≡ 8 ∷ 6 ∷ 2 ∷ 2 ∷ 2 ∷ 1 ∷ 4 ∷ drop 7 (firstWidths (registers (kindAt k)))
+    → firstWidths (registers (kindAt k)) ≡ talkerWidths (drop 7 (firstWidths (registers (kindAt k))))
 unfolding firstWidths kindAt
 first-widths zero low high = absurd (omega arith)
 first-widths (suc zero) low high = refl
@@ -318,14 +319,14 @@ first-widths (suc (suc zero)) low high = refl
 first-widths (suc (suc (suc k))) low high = absurd (omega arith)
 
 -- the octets of a FirstValue: 25 at least, and 34 of a Talker Failed
-pub first-long : (k : ℕ) → 1 ≤ k → k ≤ 2 → 25 ≤ firstLength (registers (kindAt k))
+pub first-long : (k : ℕ) → 1 ≤ k → k ≤ 2 → advertiseLength ≤ firstLength (registers (kindAt k))
 unfolding firstLength kindAt
 first-long zero low high = absurd (omega arith)
 first-long (suc zero) low high = omega arith
 first-long (suc (suc zero)) low high = omega arith
 first-long (suc (suc (suc k))) low high = absurd (omega arith)
 
-pub first-failed : (k : ℕ) → k ≡ 2 → firstLength (registers (kindAt k)) ≡ 34
+pub first-failed : (k : ℕ) → k ≡ 2 → firstLength (registers (kindAt k)) ≡ failedLength
 unfolding firstLength kindAt
 first-failed k e = rw e
 
@@ -335,17 +336,17 @@ unfolding healthNumber
 some-kind sound = refl
 some-kind (broken b c) = refl
 
-module _ (k : ℕ) (low : 1 ≤ k) (high : k ≤ 2) (first : List ℕ) (long : 25 ≤ length first) (octets : (i : ℕ) → getD first i 0 < 256) (n : ℕ) where
+module _ (k : ℕ) (low : 1 ≤ k) (high : k ≤ 2) (first : List ℕ) (long : advertiseLength ≤ length first) (octets : (i : ℕ) → getD first i 0 < 256) (n : ℕ) where
   more : List ℕ
   more = drop 7 (firstWidths (registers (kindAt k)))
 
   joining : Fixed
   joining = fixedValue (firstNumbers k first) n
 
-  takes-fixed : (f : Fixed) (v : Varying) (m : Bool) (l : Leaving) (h : Listener)
-      → fixed first n (cellOctets (both (talker f v m l) h)) ≡ cellOctets (both (talker joining v m l) h)
+  takes-fixed : (f : Fixed) (v : Varying) (h : Listener)
+      → fixed first n (cellOctets (both (talker (firstJoin f v)) h)) ≡ cellOctets (both (talker (firstJoin joining v)) h)
   unfolding joining firstNumbers talkerNumbersOf more
-  takes-fixed f v m l h = rw (first-widths k low high) (takes first long octets n more f v m l h)
+  takes-fixed f v h = rw (first-widths k low high) (takes first long octets n more f v h)
 
   is-same : (t : Talker) (h : Listener) → FitCell (both t h) → same first n (cellOctets (both t h)) ≡ sameFixed joining (heldFixed t)
   unfolding joining firstNumbers new more
@@ -353,16 +354,16 @@ module _ (k : ℕ) (low : 1 ≤ k) (high : k ≤ 2) (first : List ℕ) (long : 2
 
   joins-to : (t : Talker) (h : Listener) → FitCell (both t h)
       → joined k first n (cellOctets (both t h)) ≡ cellOctets (both (joinTalker joining (varying k first) t) h)
-  unfolding joined joinTalker heldFixed cellNumbers talkerNumbers pick
+  unfolding joined joinTalker firstJoin sameJoin heldFixed cellNumbers talkerNumbers pick
   joins-to noTalker h fit =
       rw (talker-kind (both noTalker h) fit, varies k low high first noTalker h)
-      (takes-fixed noFixed (varying k first) false stays h)
-  joins-to (talker g w m l) h fit =
-      rw (talker-kind (both (talker g w m l) h) fit, some-kind (w .health), is-same (talker g w m l) h fit, varies k low high first (talker g w m l) h, marks g w m l h)
-      (go (sameFixed joining g))
+      (takes-fixed noFixed (varying k first) h)
+  joins-to (talker r) h fit =
+      rw (talker-kind (both (talker r) h) fit, some-kind (r .varying .health), is-same (talker r) h fit, varies k low high first (talker r) h, marks r h)
+      (go (sameFixed joining (r .fixed)))
     where
-      go : (t : Bool) → pick t (cellOctets (both (talker g (varying k first) false stays) h)) (cellOctets (both (talker g w true stays) h))
-          ≡ cellOctets (both (cond t (talker g (varying k first) false stays) (talker g w true stays)) h)
+      go : (t : Bool) → pick t (cellOctets (both (talker (firstJoin (r .fixed) (varying k first))) h)) (cellOctets (both (talker (otherJoin r)) h))
+          ≡ cellOctets (both (talker (cond t (sameJoin (varying k first) r) (otherJoin r))) h)
       go true = refl
       go false = refl
 

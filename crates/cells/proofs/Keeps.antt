@@ -7,52 +7,53 @@ use native.Mathlib.Omega.{arith}
 use lib.ListN.{length, take, drop}
 use Rattle.octets.specs.Fields.{Fit}
 use Rattle.octets.proofs.Fields.{fit-append, fit-split, fit-zeros}
-use Rattle.model.specs.State.{Settings, Leaving, stays, since, Fixed, Health, sound, broken, Varying, Talker, noTalker, talker, Ready, Listener, noListener, listener, Cell}
-use Rattle.model.specs.Registrations.{Kind, Act, leaveAll, leave, talk, listen, begin, talksAs, hearsAs, quitTalker, quitListener, quit, sameFixed, joinTalker, does}
+use Rattle.model.specs.Layout.{cellWidths, fixedWidths, listenerField, varyingWidths}
+use Rattle.model.specs.State.{Settings, Leaving, stays, since, Fixed, Health, sound, broken, Varying, Registration, Talker, noTalker, talker, Ready, Listener, noListener, listener, Cell}
+use Rattle.model.specs.Registrations.{Kind, Act, leaveAll, leave, talk, listen, begin, talksAs, hearsAs, withLeaving, quitTalker, quitListener, quit, sameFixed, firstJoin, sameJoin, otherJoin, joinTalker, does}
 use Rattle.model.specs.WrittenFrames.{fixedNumbers}
 use Rattle.model.specs.Settling.{expired, expireTalker, expireListener, expireCell}
-use Rattle.model.specs.Table.{cellWidths, leavingNumber, sinceNumber, healthNumber, bridgeNumber, codeNumber, talkerNumbers, listenerNumbers, cellNumbers}
+use Rattle.model.specs.Table.{leavingNumber, sinceNumber, healthNumber, bridgeNumber, codeNumber, talkerNumbers, listenerNumbers, cellNumbers}
 use Rattle.model.specs.Laid.{FitRank, FitCell}
 use Rattle.model.proofs.Valid.{ValidFixed, ValidHealth, ValidVarying}
 use Rattle.model.proofs.Parts.{_also_}
-use Rattle.model.proofs.Cells.{fixedWidths, fixed-fit, bit-few, ready-number}
+use Rattle.model.proofs.Cells.{fixed-fit, bit-few, ready-number}
 use Rattle.model.proofs.FoundVectors.{Fits}
 
 -- The halves of a cell.
 
 record FitTalker (t : Talker) : Type 0 where
-  numbers : Fit (take 12 cellWidths) (talkerNumbers t)
+  numbers : Fit (take listenerField cellWidths) (talkerNumbers t)
   rank : FitRank t
 
 abbrev FitListener : Listener → Type 0
-FitListener h = Fit (drop 12 cellWidths) (listenerNumbers h)
+FitListener h = Fit (drop listenerField cellWidths) (listenerNumbers h)
 
-talker-size : (t : Talker) → length (talkerNumbers t) ≡ length (take 12 cellWidths)
-unfolding talkerNumbers fixedNumbers cellWidths
+talker-size : (t : Talker) → length (talkerNumbers t) ≡ length (take listenerField cellWidths)
+unfolding talkerNumbers fixedNumbers
 talker-size noTalker = refl
-talker-size (talker f v m l) = refl
+talker-size (talker r) = refl
 
 halves : (c : Cell) → FitCell c → FitTalker (c .talks) × FitListener (c .hears)
-unfolding cellNumbers cellWidths
+unfolding cellNumbers
 halves c fit =
-    let (t, h) = fit-split (take 12 cellWidths) (talkerNumbers (c .talks)) (drop 12 cellWidths) (listenerNumbers (c .hears)) (talker-size (c .talks)) (fit .numbers) in
+    let (t, h) = fit-split (take listenerField cellWidths) (talkerNumbers (c .talks)) (drop listenerField cellWidths) (listenerNumbers (c .hears)) (talker-size (c .talks)) (fit .numbers) in
     (record { numbers = t; rank = fit .rank }, h)
 
 whole : (c : Cell) → FitTalker (c .talks) → FitListener (c .hears) → FitCell c
-unfolding cellNumbers cellWidths
+unfolding cellNumbers
 whole c t h = record {
-  numbers = fit-append (take 12 cellWidths) (talkerNumbers (c .talks)) (drop 12 cellWidths) (listenerNumbers (c .hears)) (t .numbers) h;
+  numbers = fit-append (take listenerField cellWidths) (talkerNumbers (c .talks)) (drop listenerField cellWidths) (listenerNumbers (c .hears)) (t .numbers) h;
   rank = t .rank;
 }
 
 -- no numbers but zeros
 no-talker : FitTalker noTalker
-unfolding talkerNumbers cellWidths
-no-talker = record { numbers = fit-zeros (take 12 cellWidths); rank = tt }
+unfolding talkerNumbers
+no-talker = record { numbers = fit-zeros (take listenerField cellWidths); rank = tt }
 
 no-listener : FitListener noListener
-unfolding listenerNumbers cellWidths
-no-listener = fit-zeros (drop 12 cellWidths)
+unfolding listenerNumbers
+no-listener = fit-zeros (drop listenerField cellWidths)
 
 -- Leaving.
 
@@ -78,22 +79,24 @@ stays-fits = omega arith
 
 -- A Talker, with its time, and with other marks and another time; one that joins.
 
-module _ (f : Fixed) (v : Varying) (m : Bool) (l : Leaving) (fit : FitTalker (talker f v m l)) where
-  talker-since : sinceNumber l < 2 ^ 32
-  unfolding Fit talkerNumbers cellWidths
+module _ (r : Registration) (fit : FitTalker (talker r)) where
+  talker-since : sinceNumber (r .leaving) < 2 ^ 32
+  unfolding Fit talkerNumbers
   talker-since = fit .numbers .1 .1 .1 .0
 
-  talker-again : (n : Bool) (k : Leaving) → sinceNumber k < 2 ^ 32 → FitTalker (talker f v n k)
-  unfolding Fit talkerNumbers cellWidths
+  talker-again : (n : Bool) (k : Leaving) → sinceNumber k < 2 ^ 32
+      → FitTalker (talker record { fixed = r .fixed; varying = r .varying; changed = n; leaving = k })
+  unfolding Fit talkerNumbers
   talker-again n k h = record {
     numbers = fit .numbers .0 also omega (arith, bit-few n) also leaving-few k also h also fit .numbers .1 .1 .1 .1;
     rank = fit .rank;
   }
 
-  talker-fixed : Fit fixedWidths (fixedNumbers f)
-  unfolding Fit talkerNumbers cellWidths fixedWidths fixedNumbers
+  talker-fixed : Fit fixedWidths (fixedNumbers (r .fixed))
+  unfolding Fit talkerNumbers fixedNumbers
   talker-fixed =
-      fit-split fixedWidths (fixedNumbers f) (4 ∷ 8 ∷ 1 ∷ []) (v .latency ∷ bridgeNumber (v .health) ∷ codeNumber (v .health) ∷ []) refl
+      let v = r .varying in
+      fit-split fixedWidths (fixedNumbers (r .fixed)) varyingWidths (v .latency ∷ bridgeNumber (v .health) ∷ codeNumber (v .health) ∷ []) refl
       (fit .numbers .1 .1 .1 .1) .0
 
 health-fit : (h : Health) → ValidHealth h → (healthNumber h < 256) × (bridgeNumber h < 256 ^ 8) × (codeNumber h < 256)
@@ -101,8 +104,8 @@ unfolding healthNumber bridgeNumber codeNumber
 health-fit sound v = (omega arith, omega arith, omega arith)
 health-fit (broken b c) v = (omega arith, v .0, v .1)
 
-joined-fits : (f : Fixed) (v : Varying) → Fit fixedWidths (fixedNumbers f) → f .rank < 2 → ValidVarying v → FitTalker (talker f v false stays)
-unfolding Fit talkerNumbers cellWidths fixedWidths
+joined-fits : (f : Fixed) (v : Varying) → Fit fixedWidths (fixedNumbers f) → f .rank < 2 → ValidVarying v → FitTalker (talker (firstJoin f v))
+unfolding firstJoin Fit talkerNumbers
 joined-fits f v w r q =
     let (k, b, c) = health-fit (v .health) (q .health) in
     record {
@@ -110,40 +113,39 @@ joined-fits f v w r q =
           also omega (arith, bit-few false)
           also leaving-few stays
           also stays-fits
-          also fit-append fixedWidths (fixedNumbers f) (4 ∷ 8 ∷ 1 ∷ []) (v .latency ∷ bridgeNumber (v .health) ∷ codeNumber (v .health) ∷ []) w
+          also fit-append fixedWidths (fixedNumbers f) varyingWidths (v .latency ∷ bridgeNumber (v .health) ∷ codeNumber (v .health) ∷ []) w
           (q .latency also b also c also tt);
       rank = r;
     }
 
 join-fits : (f : Fixed) (v : Varying) → ValidFixed f → ValidVarying v → (t : Talker) → FitTalker t → FitTalker (joinTalker f v t)
-unfolding joinTalker
+unfolding joinTalker firstJoin sameJoin otherJoin
 join-fits f v p q noTalker fit = joined-fits f v (fixed-fit f p) (p .rank) q
-join-fits f v p q (talker g w m l) fit = go (sameFixed f g)
+join-fits f v p q (talker r) fit = go (sameFixed f (r .fixed))
   where
-    go : (t : Bool) → FitTalker (cond t (talker g v false stays) (talker g w true stays))
-    go true = joined-fits g v (talker-fixed g w m l fit) (fit .rank) q
-    go false = talker-again g w m l fit true stays stays-fits
+    go : (t : Bool) → FitTalker (talker (cond t (sameJoin v r) (otherJoin r)))
+    go true = joined-fits (r .fixed) v (talker-fixed r fit) (fit .rank) q
+    go false = talker-again r fit true stays stays-fits
 
 -- A Listener that is there.
 
 module _ (r : Ready) where
   listener-since : (l : Leaving) → FitListener (listener r l) → sinceNumber l < 2 ^ 32
-  unfolding Fit listenerNumbers cellWidths
+  unfolding Fit listenerNumbers
   listener-since l fit = fit .1 .1 .0
 
   listener-fits : (l : Leaving) → sinceNumber l < 2 ^ 32 → FitListener (listener r l)
-  unfolding Fit listenerNumbers cellWidths
+  unfolding Fit listenerNumbers
   listener-fits l h = omega (arith, ready-number r .1) also leaving-few l also h also tt
 
 -- What acts leave.
 
 module _ (clock : ℕ) (small : clock < 2 ^ 32) where
   quit-talker-fits : (k : Kind) (t : Talker) → FitTalker t → FitTalker (quitTalker clock k t)
-  unfolding quitTalker
+  unfolding quitTalker withLeaving
   quit-talker-fits k noTalker fit = fit
-  quit-talker-fits k (talker f v m l) fit =
-      let when = talker-since f v m l fit in
-      talker-again f v m l fit m (cond (talksAs k (v .health)) (begin clock l) l) (maybe-begun-fits clock small (talksAs k (v .health)) l when)
+  quit-talker-fits k (talker r) fit =
+      talker-again r fit (r .changed) _ (maybe-begun-fits clock small (talksAs k (r .varying .health)) (r .leaving) (talker-since r fit))
 
   quit-listener-fits : (k : Kind) (h : Listener) → FitListener h → FitListener (quitListener clock k h)
   unfolding quitListener
@@ -174,9 +176,9 @@ module _ (st : Settings) (time : ℕ) where
   expire-talker-fits : (t : Talker) → FitTalker t → FitTalker (expireTalker st time t)
   unfolding expireTalker
   expire-talker-fits noTalker fit = fit
-  expire-talker-fits (talker f v m l) fit = go (expired st time l)
+  expire-talker-fits (talker r) fit = go (expired st time (r .leaving))
     where
-      go : (t : Bool) → FitTalker (cond t noTalker (talker f v m l))
+      go : (t : Bool) → FitTalker (cond t noTalker (talker r))
       go true = no-talker
       go false = fit
 

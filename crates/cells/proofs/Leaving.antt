@@ -12,11 +12,12 @@ use Rattle.octets.specs.Parts.{part, patch, zeros}
 use Rattle.octets.specs.Pick.{pick}
 use Rattle.octets.specs.Fields.{packed, Fit, width}
 use Rattle.octets.proofs.Fields.{length-fit, get-field, get-octet, put-field, clear-run}
-use Rattle.model.specs.State.{Settings, Leaving, stays, since, Fixed, Health, sound, broken, Varying, Talker, noTalker, talker, Ready, Listener, noListener, listener, Cell}
-use Rattle.model.specs.Registrations.{Kind, listeners, begin, talksAs, hearsAs, quitTalker, quitListener, quit}
+use Rattle.model.specs.Layout.{cellWidths, listenerField, listenerLeavesField, listenerLeavesPlace, listenerPlace, listenerSinceField, listenerSize, talkerLeavesField, talkerLeavesPlace, talkerSinceField}
+use Rattle.model.specs.State.{Settings, Leaving, stays, since, Health, sound, broken, Registration, Talker, noTalker, talker, Ready, Listener, noListener, listener, Cell}
+use Rattle.model.specs.Registrations.{Kind, listeners, begin, talksAs, hearsAs, withLeaving, quitTalker, quitListener, quit}
 use Rattle.model.specs.WrittenFrames.{fixedNumbers}
 use Rattle.model.specs.Settling.{expired, expireTalker, expireListener, expireCell}
-use Rattle.model.specs.Table.{cellWidths, leavingNumber, sinceNumber, healthNumber, talkerNumbers, listenerNumbers, cellNumbers, cellOctets, toCell}
+use Rattle.model.specs.Table.{leavingNumber, sinceNumber, healthNumber, talkerNumbers, listenerNumbers, cellNumbers, cellOctets, toCell}
 use Rattle.model.specs.Laid.{FitCell, LaidCell}
 use Rattle.model.proofs.Cells.{ready-number}
 use Rattle.model.proofs.Fits.{laid-cell-is, laid-cell-fits}
@@ -83,36 +84,36 @@ module _ (ws vs : List ℕ) (fit : Fit ws vs) (i at : ℕ) (place : width (take 
 -- Lv and LeaveAll.
 
 -- the numbers after a leaving is begun: those of a Talker, and those of a Listener
-talker-numbers : (clock : ℕ) (f : Fixed) (v : Varying) (m : Bool) (l : Leaving) (h : Listener)
-    → let vs = talkerNumbers (talker f v m l) ++ listenerNumbers h in
-    pick (eqb (getD vs 2 0) 0) (set (set vs 2 1) 3 clock) vs ≡ talkerNumbers (talker f v m (begin clock l)) ++ listenerNumbers h
-unfolding talkerNumbers leavingNumber sinceNumber begin pick
-talker-numbers clock f v m stays h = refl
-talker-numbers clock f v m (since t) h = refl
+talker-numbers : (clock : ℕ) (r : Registration) (l : Leaving) (h : Listener)
+    → let vs = talkerNumbers (talker (withLeaving l r)) ++ listenerNumbers h in
+    pick (eqb (getD vs talkerLeavesField 0) 0) (set (set vs talkerLeavesField 1) talkerSinceField clock) vs ≡ talkerNumbers (talker (withLeaving (begin clock l) r)) ++ listenerNumbers h
+unfolding withLeaving talkerNumbers leavingNumber sinceNumber begin pick
+talker-numbers clock r stays h = refl
+talker-numbers clock r (since t) h = refl
 
 listener-numbers : (clock : ℕ) (t : Talker) (r : Ready) (l : Leaving)
     → let vs = talkerNumbers t ++ listenerNumbers (listener r l) in
-    pick (eqb (getD vs 13 0) 0) (set (set vs 13 1) 14 clock) vs ≡ talkerNumbers t ++ listenerNumbers (listener r (begin clock l))
+    pick (eqb (getD vs listenerLeavesField 0) 0) (set (set vs listenerLeavesField 1) listenerSinceField clock) vs ≡ talkerNumbers t ++ listenerNumbers (listener r (begin clock l))
 unfolding talkerNumbers listenerNumbers leavingNumber sinceNumber begin pick fixedNumbers
 listener-numbers clock noTalker r stays = refl
 listener-numbers clock noTalker r (since t) = refl
-listener-numbers clock (talker f v m k) r stays = refl
-listener-numbers clock (talker f v m k) r (since t) = refl
+listener-numbers clock (talker k) r stays = refl
+listener-numbers clock (talker k) r (since t) = refl
 
 module _ (clock : ℕ) (c : Cell) (fit : FitCell c) where
-  talker-begun : begun 2 clock (cellOctets c) ≡ packed cellWidths (pick (eqb (getD (cellNumbers c) 2 0) 0) (set (set (cellNumbers c) 2 1) 3 clock) (cellNumbers c))
-  unfolding cellOctets cellWidths width
-  talker-begun = begun-numbers cellWidths (cellNumbers c) (fit .numbers) 2 2 refl refl refl refl clock
+  talker-begun : begun talkerLeavesPlace clock (cellOctets c) ≡ packed cellWidths (pick (eqb (getD (cellNumbers c) talkerLeavesField 0) 0) (set (set (cellNumbers c) talkerLeavesField 1) talkerSinceField clock) (cellNumbers c))
+  unfolding cellOctets width
+  talker-begun = begun-numbers cellWidths (cellNumbers c) (fit .numbers) talkerLeavesField talkerLeavesPlace refl refl refl refl clock
 
-  listener-begun : begun 34 clock (cellOctets c) ≡ packed cellWidths (pick (eqb (getD (cellNumbers c) 13 0) 0) (set (set (cellNumbers c) 13 1) 14 clock) (cellNumbers c))
-  unfolding cellOctets cellWidths width
-  listener-begun = begun-numbers cellWidths (cellNumbers c) (fit .numbers) 13 34 refl refl refl refl clock
+  listener-begun : begun listenerLeavesPlace clock (cellOctets c) ≡ packed cellWidths (pick (eqb (getD (cellNumbers c) listenerLeavesField 0) 0) (set (set (cellNumbers c) listenerLeavesField 1) listenerSinceField clock) (cellNumbers c))
+  unfolding cellOctets width
+  listener-begun = begun-numbers cellWidths (cellNumbers c) (fit .numbers) listenerLeavesField listenerLeavesPlace refl refl refl refl clock
 
 -- what is held of one kind does not stop the other
 talker-stays : (clock : ℕ) (t : Talker) → quitTalker clock listeners t ≡ t
-unfolding quitTalker talksAs
+unfolding quitTalker withLeaving talksAs
 talker-stays clock noTalker = refl
-talker-stays clock (talker f v m l) = refl
+talker-stays clock (talker r) = refl
 
 listener-stays : (clock : ℕ) (k : Kind) → hearsAs k ≡ false → (h : Listener) → quitListener clock k h ≡ h
 unfolding quitListener
@@ -121,22 +122,22 @@ listener-stays clock k e (listener r l) = rw e
 
 -- the kinds, as a cell's octets have them
 pub talker-kind : (c : Cell) → FitCell c → getD (cellOctets c) 0 0 ≡ getD (cellNumbers c) 0 0
-unfolding cellOctets cellWidths width
+unfolding cellOctets width
 talker-kind c fit = get-octet cellWidths (cellNumbers c) (fit .numbers) 0 refl
 
-listener-kind : (c : Cell) → FitCell c → getD (cellOctets c) 33 0 ≡ getD (cellNumbers c) 12 0
-unfolding cellOctets cellWidths width
-listener-kind c fit = get-octet cellWidths (cellNumbers c) (fit .numbers) 12 refl
+listener-kind : (c : Cell) → FitCell c → getD (cellOctets c) listenerPlace 0 ≡ getD (cellNumbers c) listenerField 0
+unfolding cellOctets width
+listener-kind c fit = get-octet cellWidths (cellNumbers c) (fit .numbers) listenerField refl
 
-no-listener : (t : Talker) → getD (talkerNumbers t ++ listenerNumbers noListener) 12 0 ≡ 0
+no-listener : (t : Talker) → getD (talkerNumbers t ++ listenerNumbers noListener) listenerField 0 ≡ 0
 unfolding talkerNumbers listenerNumbers fixedNumbers
 no-listener noTalker = refl
-no-listener (talker f v m l) = refl
+no-listener (talker r) = refl
 
-some-listener : (t : Talker) (r : Ready) (l : Leaving) → 1 ≤ getD (talkerNumbers t ++ listenerNumbers (listener r l)) 12 0
+some-listener : (t : Talker) (r : Ready) (l : Leaving) → 1 ≤ getD (talkerNumbers t ++ listenerNumbers (listener r l)) listenerField 0
 unfolding talkerNumbers listenerNumbers fixedNumbers
 some-listener noTalker r l = ready-number r .0
-some-listener (talker f v m k) r l = ready-number r .0
+some-listener (talker k) r l = ready-number r .0
 
 -- a cell of a Talker and a Listener
 abbrev pub both : Talker → Listener → Cell
@@ -160,14 +161,14 @@ no-hearing (suc (suc zero)) p q = refl
 no-hearing (suc (suc (suc k))) p q = absurd (omega arith)
 
 module _ (clock : ℕ) where
-  hears-begins : (t : Talker) (h : Listener) → FitCell (both t h) → 0 < getD (cellOctets (both t h)) 33 0
-      → begun 34 clock (cellOctets (both t h)) ≡ cellOctets (quit clock listeners (both t h))
+  hears-begins : (t : Talker) (h : Listener) → FitCell (both t h) → 0 < getD (cellOctets (both t h)) listenerPlace 0
+      → begun listenerLeavesPlace clock (cellOctets (both t h)) ≡ cellOctets (quit clock listeners (both t h))
   unfolding cellOctets cellNumbers quit quitListener hearsAs
   hears-begins t noListener fit p = absurd (omega (arith, listener-kind (both t noListener) fit, no-listener t))
   hears-begins t (listener r l) fit p =
       rw (talker-stays clock t) (listener-begun clock (both t (listener r l)) fit ∙ ap (packed cellWidths) (listener-numbers clock t r l))
 
-  hears-none : (t : Talker) (h : Listener) → FitCell (both t h) → getD (cellOctets (both t h)) 33 0 ≡ 0
+  hears-none : (t : Talker) (h : Listener) → FitCell (both t h) → getD (cellOctets (both t h)) listenerPlace 0 ≡ 0
       → cellOctets (both t h) ≡ cellOctets (quit clock listeners (both t h))
   unfolding cellNumbers quit quitListener hearsAs
   hears-none t noListener fit p = rw (talker-stays clock t)
@@ -175,34 +176,34 @@ module _ (clock : ℕ) where
 
   module _ (k : ℕ) (low : 1 ≤ k) (high : k ≤ 2) where
     talks-begins : (t : Talker) (h : Listener) → FitCell (both t h) → getD (cellOctets (both t h)) 0 0 ≡ k
-        → begun 2 clock (cellOctets (both t h)) ≡ cellOctets (quit clock (kindAt k) (both t h))
-    unfolding cellOctets cellNumbers quit quitTalker talkerNumbers
+        → begun talkerLeavesPlace clock (cellOctets (both t h)) ≡ cellOctets (quit clock (kindAt k) (both t h))
+    unfolding cellOctets cellNumbers quit quitTalker withLeaving talkerNumbers
     talks-begins noTalker h fit p = absurd (omega (arith, talker-kind (both noTalker h) fit))
-    talks-begins (talker f v m l) h fit p =
-        rw (listener-stays clock (kindAt k) (no-hearing k low high) h, as-kind k low high (v .health) .0 (sym p ∙ talker-kind (both (talker f v m l) h) fit))
-        (talker-begun clock (both (talker f v m l) h) fit ∙ ap (packed cellWidths) (talker-numbers clock f v m l h))
+    talks-begins (talker r) h fit p =
+        rw (listener-stays clock (kindAt k) (no-hearing k low high) h, as-kind k low high (r .varying .health) .0 (sym p ∙ talker-kind (both (talker r) h) fit))
+        (talker-begun clock (both (talker r) h) fit ∙ ap (packed cellWidths) (talker-numbers clock r (r .leaving) h))
 
     talks-other : (t : Talker) (h : Listener) → FitCell (both t h) → (getD (cellOctets (both t h)) 0 0 ≡ k → ⊥)
         → cellOctets (both t h) ≡ cellOctets (quit clock (kindAt k) (both t h))
-    unfolding cellOctets cellNumbers quit quitTalker talkerNumbers
+    unfolding cellOctets cellNumbers quit quitTalker withLeaving talkerNumbers
     talks-other noTalker h fit p = rw (listener-stays clock (kindAt k) (no-hearing k low high) h)
-    talks-other (talker f v m l) h fit p =
-        rw (listener-stays clock (kindAt k) (no-hearing k low high) h, as-kind k low high (v .health) .1 (λ e. p (talker-kind (both (talker f v m l) h) fit ∙ sym e)))
+    talks-other (talker r) h fit p =
+        rw (listener-stays clock (kindAt k) (no-hearing k low high) h, as-kind k low high (r .varying .health) .1 (λ e. p (talker-kind (both (talker r) h) fit ∙ sym e)))
 
 -- of octets that are laid out as a cell, at the octets that the code looks at
 module _ (s : List ℕ) (l : LaidCell s) (clock : ℕ) where
-  pub quits-listener : 0 < getD s 33 0 → begun 34 clock s ≡ cellOctets (quit clock listeners (toCell s))
+  pub quits-listener : 0 < getD s listenerPlace 0 → begun listenerLeavesPlace clock s ≡ cellOctets (quit clock listeners (toCell s))
   quits-listener =
-      laid (λ s c. 0 < getD s 33 0 → begun 34 clock s ≡ cellOctets (quit clock listeners c)) (λ c. hears-begins clock (c .talks) (c .hears)) s l
+      laid (λ s c. 0 < getD s listenerPlace 0 → begun listenerLeavesPlace clock s ≡ cellOctets (quit clock listeners c)) (λ c. hears-begins clock (c .talks) (c .hears)) s l
 
-  pub quits-no-listener : getD s 33 0 ≡ 0 → s ≡ cellOctets (quit clock listeners (toCell s))
+  pub quits-no-listener : getD s listenerPlace 0 ≡ 0 → s ≡ cellOctets (quit clock listeners (toCell s))
   quits-no-listener =
-      laid (λ s c. getD s 33 0 ≡ 0 → s ≡ cellOctets (quit clock listeners c)) (λ c. hears-none clock (c .talks) (c .hears)) s l
+      laid (λ s c. getD s listenerPlace 0 ≡ 0 → s ≡ cellOctets (quit clock listeners c)) (λ c. hears-none clock (c .talks) (c .hears)) s l
 
   module _ (k : ℕ) (low : 1 ≤ k) (high : k ≤ 2) where
-    pub quits-talker : getD s 0 0 ≡ k → begun 2 clock s ≡ cellOctets (quit clock (kindAt k) (toCell s))
+    pub quits-talker : getD s 0 0 ≡ k → begun talkerLeavesPlace clock s ≡ cellOctets (quit clock (kindAt k) (toCell s))
     quits-talker =
-        laid (λ s c. getD s 0 0 ≡ k → begun 2 clock s ≡ cellOctets (quit clock (kindAt k) c)) (λ c. talks-begins clock k low high (c .talks) (c .hears)) s l
+        laid (λ s c. getD s 0 0 ≡ k → begun talkerLeavesPlace clock s ≡ cellOctets (quit clock (kindAt k) c)) (λ c. talks-begins clock k low high (c .talks) (c .hears)) s l
 
     pub quits-no-talker : (getD s 0 0 ≡ k → ⊥) → s ≡ cellOctets (quit clock (kindAt k) (toCell s))
     quits-no-talker =
@@ -213,54 +214,59 @@ module _ (s : List ℕ) (l : LaidCell s) (clock : ℕ) where
 module _ (st : Settings) (now : ℕ) where
   talker-expired : (t : Talker) (h : Listener)
       → let vs = talkerNumbers t ++ listenerNumbers h in
-      pick (eqb (getD vs 2 0) 0) vs (pick (leb (getD vs 3 0 + st .leaveTime) now) (patch 0 12 (zeros 12) vs) vs)
+      pick (eqb (getD vs talkerLeavesField 0) 0) vs (pick (leb (getD vs talkerSinceField 0 + st .leaveTime) now) (patch 0 listenerField (zeros listenerField) vs) vs)
       ≡ talkerNumbers (expireTalker st now t) ++ listenerNumbers h
-  unfolding talkerNumbers leavingNumber sinceNumber fixedNumbers expireTalker expired pick patch
+  unfolding talkerNumbers leavingNumber sinceNumber fixedNumbers expireTalker expired withLeaving pick patch
   talker-expired noTalker h = refl
-  talker-expired (talker f v m stays) h = refl
-  talker-expired (talker f v m (since t)) h = go (leb (t + st .leaveTime) now)
+  talker-expired (talker r) h = by-leaving (r .leaving)
     where
-      vs : List ℕ
-      vs = talkerNumbers (talker f v m (since t)) ++ listenerNumbers h
+      vs : Leaving → List ℕ
+      vs l = talkerNumbers (talker (withLeaving l r)) ++ listenerNumbers h
 
-      go : (u : Bool) → pick u (patch 0 12 (zeros 12) vs) vs ≡ talkerNumbers (cond u noTalker (talker f v m (since t))) ++ listenerNumbers h
-      go true = refl
-      go false = refl
+      over : (l : Leaving) (u : Bool) → pick u (patch 0 listenerField (zeros listenerField) (vs l)) (vs l) ≡ talkerNumbers (cond u noTalker (talker (withLeaving l r))) ++ listenerNumbers h
+      over l true = refl
+      over l false = refl
+
+      by-leaving : (l : Leaving)
+          → pick (eqb (getD (vs l) talkerLeavesField 0) 0) (vs l) (pick (leb (getD (vs l) talkerSinceField 0 + st .leaveTime) now) (patch 0 listenerField (zeros listenerField) (vs l)) (vs l))
+          ≡ talkerNumbers (expireTalker st now (talker (withLeaving l r))) ++ listenerNumbers h
+      by-leaving stays = refl
+      by-leaving (since t) = over (since t) (leb (t + st .leaveTime) now)
 
   listener-over : (t : Talker) (r : Ready) (x : ℕ) (u : Bool)
       → let vs = talkerNumbers t ++ listenerNumbers (listener r (since x)) in
-      pick u (patch 12 3 (zeros 3) vs) vs ≡ talkerNumbers t ++ listenerNumbers (cond u noListener (listener r (since x)))
+      pick u (patch listenerField 3 (zeros 3) vs) vs ≡ talkerNumbers t ++ listenerNumbers (cond u noListener (listener r (since x)))
   unfolding talkerNumbers listenerNumbers fixedNumbers pick patch
   listener-over noTalker r x true = refl
-  listener-over (talker f v m l) r x true = refl
+  listener-over (talker k) r x true = refl
   listener-over t r x false = refl
 
   listener-expired : (t : Talker) (h : Listener)
       → let vs = talkerNumbers t ++ listenerNumbers h in
-      pick (eqb (getD vs 13 0) 0) vs (pick (leb (getD vs 14 0 + st .leaveTime) now) (patch 12 3 (zeros 3) vs) vs)
+      pick (eqb (getD vs listenerLeavesField 0) 0) vs (pick (leb (getD vs listenerSinceField 0 + st .leaveTime) now) (patch listenerField 3 (zeros 3) vs) vs)
       ≡ talkerNumbers t ++ listenerNumbers (expireListener st now h)
   unfolding talkerNumbers listenerNumbers leavingNumber sinceNumber fixedNumbers expireListener expired pick
   listener-expired noTalker noListener = refl
   listener-expired noTalker (listener r stays) = refl
   listener-expired noTalker (listener r (since x)) = listener-over noTalker r x (leb (x + st .leaveTime) now)
-  listener-expired (talker f v m l) noListener = refl
-  listener-expired (talker f v m l) (listener r stays) = refl
-  listener-expired (talker f v m l) (listener r (since x)) = listener-over (talker f v m l) r x (leb (x + st .leaveTime) now)
+  listener-expired (talker k) noListener = refl
+  listener-expired (talker k) (listener r stays) = refl
+  listener-expired (talker k) (listener r (since x)) = listener-over (talker k) r x (leb (x + st .leaveTime) now)
 
   module _ (t : Talker) (h : Listener) (fit : FitCell (both t h)) where
-    expires-talker : lapsed 0 33 2 (st .leaveTime) now (cellOctets (both t h)) ≡ cellOctets (both (expireTalker st now t) h)
-    unfolding cellOctets cellNumbers cellWidths width part
+    expires-talker : lapsed 0 listenerPlace talkerLeavesPlace (st .leaveTime) now (cellOctets (both t h)) ≡ cellOctets (both (expireTalker st now t) h)
+    unfolding cellOctets cellNumbers width part
     expires-talker =
-        lapsed-numbers cellWidths (cellNumbers (both t h)) (fit .numbers) 2 2 refl refl refl refl 0 12 (st .leaveTime) now (omega arith)
+        lapsed-numbers cellWidths (cellNumbers (both t h)) (fit .numbers) talkerLeavesField talkerLeavesPlace refl refl refl refl 0 listenerField (st .leaveTime) now (omega arith)
         ∙ ap (packed cellWidths) (talker-expired t h)
 
-    expires-listener : lapsed 33 6 34 (st .leaveTime) now (cellOctets (both t h)) ≡ cellOctets (both t (expireListener st now h))
-    unfolding cellOctets cellNumbers cellWidths width part
+    expires-listener : lapsed listenerPlace listenerSize listenerLeavesPlace (st .leaveTime) now (cellOctets (both t h)) ≡ cellOctets (both t (expireListener st now h))
+    unfolding cellOctets cellNumbers width part
     expires-listener =
-        lapsed-numbers cellWidths (cellNumbers (both t h)) (fit .numbers) 13 34 refl refl refl refl 12 3 (st .leaveTime) now (omega arith)
+        lapsed-numbers cellWidths (cellNumbers (both t h)) (fit .numbers) listenerLeavesField listenerLeavesPlace refl refl refl refl listenerField 3 (st .leaveTime) now (omega arith)
         ∙ ap (packed cellWidths) (listener-expired t h)
 
-  expires : (c : Cell) → FitCell c → lapsed 33 6 34 (st .leaveTime) now (lapsed 0 33 2 (st .leaveTime) now (cellOctets c)) ≡ cellOctets (expireCell st now c)
+  expires : (c : Cell) → FitCell c → lapsed listenerPlace listenerSize listenerLeavesPlace (st .leaveTime) now (lapsed 0 listenerPlace talkerLeavesPlace (st .leaveTime) now (cellOctets c)) ≡ cellOctets (expireCell st now c)
   unfolding expireCell
   expires c fit =
       rw (expires-talker (c .talks) (c .hears) fit)
@@ -268,7 +274,7 @@ module _ (st : Settings) (now : ℕ) where
 
 -- first the Talker, then the Listener
 pub expires-both : (st : Settings) (leave now : ℕ) → st .leaveTime ≡ leave → (s y z : List ℕ) → LaidCell s
-    → y ≡ lapsed 0 33 2 leave now s → z ≡ lapsed 33 6 34 leave now y → z ≡ cellOctets (expireCell st now (toCell s))
+    → y ≡ lapsed 0 listenerPlace talkerLeavesPlace leave now s → z ≡ lapsed listenerPlace listenerSize listenerLeavesPlace leave now y → z ≡ cellOctets (expireCell st now (toCell s))
 expires-both st leave now e s y z l p q =
     rw (q, p, ← e)
-    (laid (λ s c. lapsed 33 6 34 (st .leaveTime) now (lapsed 0 33 2 (st .leaveTime) now s) ≡ cellOctets (expireCell st now c)) (expires st now) s l)
+    (laid (λ s c. lapsed listenerPlace listenerSize listenerLeavesPlace (st .leaveTime) now (lapsed 0 listenerPlace talkerLeavesPlace (st .leaveTime) now s) ≡ cellOctets (expireCell st now c)) (expires st now) s l)

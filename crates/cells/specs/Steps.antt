@@ -7,6 +7,8 @@ use lib.Dec.{eqb, leb}
 use Rattle.octets.specs.Be.{beAt, be}
 use Rattle.octets.specs.Parts.{patch, zeros}
 use Rattle.octets.specs.Pick.{pick}
+use Rattle.model.specs.FrameLayout.{firstBridge, firstCode, firstDestination, firstLatency, firstPriority, firstVlan}
+use Rattle.model.specs.Layout.{bridgePlace, changedPlace, codePlace, failureSize, fixedPlace, latencyPlace, leavingSize, listenerLeavesPlace, listenerPlace, priorityPlace, talkerLeavesPlace, vlanPlace}
 
 -- leaving begun at the clock, unless it was: the mark at a place, and the time behind it
 unfoldable pub begun : ℕ → ℕ → List ℕ → List ℕ
@@ -20,34 +22,34 @@ lapsed from n mark leave time s =
 
 -- a Listener that stays
 unfoldable pub heard : ℕ → List ℕ → List ℕ
-heard four s = patch 34 5 (zeros 5) (patch 33 1 (be 1 four) s)
+heard four s = patch listenerLeavesPlace leavingSize (zeros leavingSize) (patch listenerPlace 1 (be 1 four) s)
 
 -- a Talker that stays, with the changed mark
 unfoldable pub marked : List ℕ → List ℕ
-marked s = patch 2 5 (zeros 5) (patch 1 1 (be 1 1) s)
+marked s = patch talkerLeavesPlace leavingSize (zeros leavingSize) (patch changedPlace 1 (be 1 1) s)
 
 -- the failure of a FirstValue, or none
 unfoldable pub failing : ℕ → List ℕ → List ℕ → List ℕ
 failing kind first s =
-    pick (eqb kind 2) (patch 32 1 (be 1 (getD first 33 0)) (patch 24 8 (be 8 (beAt 8 first 25)) s))
-    (patch 24 9 (zeros 9) s)
+    pick (eqb kind 2) (patch codePlace 1 (be 1 (getD first firstCode 0)) (patch bridgePlace 8 (be 8 (beAt 8 first firstBridge)) s))
+    (patch bridgePlace failureSize (zeros failureSize) s)
 
 -- a Talker that stays, without the changed mark; type, latency and failure of a FirstValue
 unfoldable pub varied : ℕ → List ℕ → List ℕ → List ℕ
 varied kind first s =
-    failing kind first (patch 20 4 (be 4 (beAt 4 first 21)) (patch 1 6 (zeros 6) (patch 0 1 (be 1 kind) s)))
+    failing kind first (patch latencyPlace 4 (be 4 (beAt 4 first firstLatency)) (patch changedPlace (1 + leavingSize) (zeros (1 + leavingSize)) (patch 0 1 (be 1 kind) s)))
 
 -- destination, VLAN, TSpec, priority and rank of value n of a FirstValue
 unfoldable pub fixed : List ℕ → ℕ → List ℕ → List ℕ
 fixed first n s =
-    patch 19 1 (be 1 (getD first 20 0 / 16 * 16))
-    (patch 13 6 (be 6 (beAt 6 first 14)) (patch 7 6 (be 6 (beAt 6 first 8 + n)) s))
+    patch priorityPlace 1 (be 1 (getD first firstPriority 0 / 16 * 16))
+    (patch vlanPlace 6 (be 6 (beAt 6 first firstVlan)) (patch fixedPlace 6 (be 6 (beAt 6 first firstDestination + n)) s))
 
 -- whether these are the cell's
 unfoldable pub same : List ℕ → ℕ → List ℕ → Bool
 same first n s =
-    pick (eqb (beAt 6 s 7) (beAt 6 first 8 + n))
-    (pick (eqb (beAt 6 s 13) (beAt 6 first 14)) (eqb (getD s 19 0 / 16) (getD first 20 0 / 16)) false)
+    pick (eqb (beAt 6 s fixedPlace) (beAt 6 first firstDestination + n))
+    (pick (eqb (beAt 6 s vlanPlace) (beAt 6 first firstVlan)) (eqb (getD s priorityPlace 0 / 16) (getD first firstPriority 0 / 16)) false)
     false
 
 -- a Talker's join

@@ -1,112 +1,23 @@
--- What stage 1 writes fits its fields: a stream whose numbers fit keeps that, place by place and as a whole.
-use mathlib.Core.Path.{_≡_, refl, sym, subst}
-use mathlib.Core.List.{List, [], _∷_, _++_}
-use mathlib.Core.Bool.{Bool, true, false, cond}
-use Prim.Native.Nat.{ℕ, _+_, _-_, _/_, _^_, _<_}
+-- What stage 1 writes fits its fields: a stream whose numbers fit keeps that, and so does a bridge.
+use Prim.Native.Nat.{ℕ, _/_, _^_, _<_}
 use native.Mathlib.Omega.{arith}
-use lib.ListN.{getD}
-use lib.Dec.{ltb}
-use borrow.Author.Tests.{ltb-false}
+use mathlib.Core.Path.{refl}
 use Rattle.octets.specs.Fields.{Fit}
-use Rattle.octets.proofs.Fields.{fit-at}
-use Rattle.model.specs.Lists.{All}
-use Rattle.model.specs.State.{Settings, Leaving, Fixed, Health, sound, broken, Varying, Talker, noTalker, talker, Cell, Result, Stream, Column, none, advertise, failed, Entry, noEntry, filters, forwards, noFixed, cellAt, resultAt, empty, unsettled}
-use Rattle.model.specs.WrittenFrames.{priorityOctet, fixedNumbers}
-use Rattle.model.specs.Settling.{Source, sourceOf, fixedOf, brokenColumn, first, stepsFrom, steps, ageOf, capped, latencyOut, entryOf, ageKept, latencyKept, registered}
-use Rattle.model.specs.Table.{cellWidths, cellNumbers, talkerNumbers, listenerNumbers, bridgeNumber, codeNumber, resultWidths, resultNumbers, columnNumber, columnBridge, columnCode, entryNumber, declaredNumber, nameWidths}
-use Rattle.model.specs.Laid.{FitCell, FitResult, FitStream}
-use Rattle.model.proofs.Cells.{fixedWidths}
+use Rattle.model.specs.State.{Settings, Result, Stream, Bridge, Column, none, advertise, failed, Entry, noEntry, filters, forwards, cellAt, resultAt, unsettled}
+use Rattle.model.specs.Settling.{sourceOf, fixedOf, ageOf, latencyOut, entryOf, ageKept, registered}
+use Rattle.model.specs.Table.{resultNumbers, columnNumber, columnBridge, columnCode, entryNumber, declaredNumber}
+use Rattle.model.specs.Laid.{FitCell, FitResult, FitStream, FitBridge}
+use Rattle.model.proofs.Lists.{all-map, all-getD, all-tabulate}
 use Rattle.model.proofs.Parts.{_also_}
-use Rattle.model.proofs.Fits.{id-fits}
-use Rattle.table.proofs.Lens.{all-at, all-getD}
-use Rattle.columns.specs.Stages.{shownAs, earlyColumn, earlyAt}
-use Rattle.columns.specs.Answers.{talkerPlace, sourceIn}
-use Rattle.columns.proofs.Sources.{source-at, place-bound}
-
--- Columns: a Bridge ID and a code that fit.
-
-abbrev FitColumn : Column → Type 0
-FitColumn none = Unit {0}
-FitColumn advertise = Unit {0}
-FitColumn (failed b c) = (b < 2 ^ 64) × (c < 256)
-
-first-fits : (l : List (Bool × Column)) (c : Column) → All (λ s. FitColumn (s .1)) l → FitColumn c → FitColumn (first l c)
-unfolding first
-first-fits [] c a v = v
-first-fits (s ∷ l) c a v = go (s .0) (first-fits l c (a .1) v)
-  where
-    go : (t : Bool) → FitColumn (first l c) → FitColumn (cond t (s .1) (first l c))
-    go true ih = a .0
-    go false ih = ih
-
-broken-fits : (h : Health) → bridgeNumber h < 2 ^ 64 → codeNumber h < 256 → FitColumn (brokenColumn h)
-unfolding brokenColumn bridgeNumber codeNumber
-broken-fits sound p q = tt
-broken-fits (broken b c) p q = (p, q)
-
--- a Talker's numbers, each within its field
-module _ (c : Cell) (f : Fixed) (v : Varying) (m : Bool) (l : Leaving) (e : c .talks ≡ talker f v m l) (w : FitCell c) where
-  number-fits : (i : ℕ) → getD (talkerNumbers (talker f v m l) ++ listenerNumbers (c .hears)) i 0 < 256 ^ getD cellWidths i 0
-  unfolding cellNumbers
-  number-fits i = rw e at (fit-at cellWidths (cellNumbers c) (w .numbers) i)
-
-  bridge-fits : bridgeNumber (v .health) < 2 ^ 64
-  unfolding talkerNumbers fixedNumbers cellWidths
-  bridge-fits = number-fits 10
-
-  code-fits : codeNumber (v .health) < 256
-  unfolding talkerNumbers fixedNumbers cellWidths
-  code-fits = number-fits 11
-
-  fixed-fits : Fit fixedWidths (fixedNumbers f)
-  unfolding Fit fixedWidths talkerNumbers fixedNumbers cellWidths
-  fixed-fits = (number-fits 4, (number-fits 5, (number-fits 6, (number-fits 7, (number-fits 8, tt)))))
-
-  rank-fits : f .rank < 2
-  rank-fits = rw e at (w .rank)
-
-module _ (st : Settings) (named : st .bridgeId < 2 ^ 64) (p t : ℕ) (here c : Cell) (w : FitCell c) where
-  steps-fit : (k : Talker) → c .talks ≡ k → All (λ s. FitColumn (s .1)) (stepsFrom st p here (sourceIn t c))
-  unfolding stepsFrom sourceIn
-  steps-fit noTalker e = rw e (tt, tt)
-  steps-fit (talker f v m l) e =
-      rw e (
-        tt,
-        (
-          tt,
-          (
-            broken-fits (v .health) (bridge-fits c f v m l e w) (code-fits c f v m l e w),
-            (omega arith, (omega arith, (omega arith, (omega arith, tt)))),
-          ),
-        ),
-      )
-
--- Fixed values.
-
-pub record FitFixed (f : Fixed) : Type 0 where
-  pub numbers : Fit fixedWidths (fixedNumbers f)
-  pub rank : f .rank < 2
-
-source-fixed : (t : ℕ) (c : Cell) → FitCell c → (k : Talker) → c .talks ≡ k → FitFixed (fixedOf (sourceIn t c))
-unfolding sourceIn fixedOf noFixed
-source-fixed t c w noTalker e = rw e (record { numbers = unfold Fit fixedWidths fixedNumbers priorityOctet in omega arith; rank = omega arith })
-source-fixed t c w (talker f v m l) e = rw e (record { numbers = fixed-fits c f v m l e w; rank = rank-fits c f v m l e w })
+use Rattle.model.proofs.Cells.{fixed-fit}
+use Rattle.model.proofs.Fits.{latest, longest, fit-cell, id-fits}
+use Rattle.model.proofs.Valid.{ValidCell}
+use Rattle.model.proofs.AdvanceKeepsForm.{length-tabulate, ValidSource, source-valid, fixed-valid, health-valid, ValidFailure, steps-valid, capped-fits, latency-fits}
+use Rattle.table.specs.Reads.{FitFixed}
+use Rattle.table.proofs.Fitting.{unsettled-fits, map-fits}
+use Rattle.columns.specs.Stages.{shownAs, earlyColumn, earlyAt, early, earlyAll}
 
 -- Numbers of a result.
-
-capped-fits : (n : ℕ) → capped n < 2 ^ 32
-unfolding capped
-capped-fits n = go (ltb 4294967295 n) refl
-  where
-    go : (t : Bool) → ltb 4294967295 n ≡ t → cond t 4294967295 n < 2 ^ 32
-    go true e = omega arith
-    go false e = omega (arith, ltb-false 4294967295 n e)
-
-latency-fits : (c : Column) (n : ℕ) → n < 2 ^ 32 → latencyKept c n < 2 ^ 32
-unfolding latencyKept
-latency-fits none n h = omega arith
-latency-fits advertise n h = h
-latency-fits (failed b c) n h = h
 
 age-fits : (e : Entry) (a : ℕ) → a < 2 ^ 32 → ageKept e a < 2 ^ 32
 unfolding ageKept
@@ -129,50 +40,36 @@ entry-few noEntry = omega arith
 entry-few filters = omega arith
 entry-few forwards = omega arith
 
-column-numbers : (c : Column) → FitColumn c → (columnNumber c < 256) × (columnBridge c < 2 ^ 64) × (columnCode c < 256)
+column-numbers : (c : Column) → ValidFailure c → (columnNumber c < 256) × (columnBridge c < 2 ^ 64) × (columnCode c < 256)
 unfolding columnNumber columnBridge columnCode
 column-numbers none w = (omega arith, omega arith, omega arith)
 column-numbers advertise w = (omega arith, omega arith, omega arith)
 column-numbers (failed b c) w = (omega arith, w .0, w .1)
 
 age-of-result : (r : Result) → FitResult r → r .age < 2 ^ 32
-unfolding Fit resultWidths resultNumbers
+unfolding Fit resultNumbers
 age-of-result r w = w .1 .1 .1 .1 .1 .0
-
-unsettled-fits : FitResult unsettled
-unfolding Fit resultWidths resultNumbers unsettled columnNumber columnBridge columnCode entryNumber declaredNumber
-unsettled-fits = omega arith
 
 -- Streams.
 
 module _ (x : Stream) (w : FitStream x) where
-  abbrev t : ℕ
-  t = talkerPlace (sourceOf x)
-
-  talker-cell : FitCell (cellAt x t)
-  unfolding cellAt
-  talker-cell = all-at FitCell (x .cells) (w .cells) t empty (omega (arith, w .eight-cells, place-bound x (w .eight-cells)))
+  -- what is registered at the Talker port
+  source-fits : ValidSource latest longest (sourceOf x)
+  unfolding sourceOf
+  source-fits = source-valid latest longest 0 (x .cells) (all-map FitCell (ValidCell latest longest) fit-cell (x .cells) (w .cells))
 
   pub settled-values : FitFixed (fixedOf (sourceOf x))
-  settled-values = subst (λ (s : Source). FitFixed (fixedOf s)) (sym (source-at x)) (source-fixed t (cellAt x t) talker-cell (cellAt x t .talks) refl)
-
-  pub settled-name : Fit nameWidths (x .id ∷ fixedNumbers (fixedOf (sourceOf x)))
-  unfolding Fit nameWidths fixedWidths
-  settled-name = id-fits x w also settled-values .numbers
+  settled-values =
+      let v = fixed-valid latest longest (sourceOf x) source-fits in
+      record { numbers = fixed-fit (fixedOf (sourceOf x)) v; rank = v .rank }
 
 module _ (st : Settings) (named : st .bridgeId < 2 ^ 64) (now : ℕ) (soon : now < 2 ^ 32) (x : Stream) (w : FitStream x) where
-  early-column-fits : (p : ℕ) → FitColumn (earlyColumn st p x)
-  unfolding earlyColumn steps
-  early-column-fits p =
-      first-fits _ advertise (
-        tt,
-        subst (λ (s : Source). All (λ (r : Bool × Column). FitColumn (r .1)) (stepsFrom st p (cellAt x p) s)) (sym (source-at x))
-            (steps-fit st named p (t x w) (cellAt x p) (cellAt x (t x w)) (talker-cell x w) (cellAt x (t x w) .talks) refl),
-      )
-      tt
+  early-column-fits : (p : ℕ) → ValidFailure (earlyColumn st p x)
+  unfolding earlyColumn
+  early-column-fits p = steps-valid st named p x advertise (health-valid latest longest (sourceOf x) (source-fits x w)) tt
 
   pub early-result-fits : (p : ℕ) → FitResult (earlyAt st now x p)
-  unfolding Fit resultWidths resultNumbers earlyAt shownAs latencyOut declaredNumber resultAt
+  unfolding Fit resultNumbers earlyAt shownAs latencyOut declaredNumber resultAt
   early-result-fits p =
       let c = earlyColumn st p x in
       let e = entryOf c (registered (cellAt x p)) in
@@ -180,3 +77,18 @@ module _ (st : Settings) (named : st .bridgeId < 2 ^ 64) (now : ℕ) (soon : now
       let n = column-numbers c (early-column-fits p) in
       n .0 also latency-fits c _ (capped-fits _) also n .1 also n .2 also entry-few e
       also age-fits e _ (began-fits now (resultAt x p) soon (age-of-result (resultAt x p) r)) also omega arith also tt
+
+  pub early-fits : FitStream (early st now x)
+  unfolding Fit early
+  early-fits = record {
+    name = id-fits x w also settled-values x w .numbers;
+    rank = settled-values x w .rank;
+    eight-cells = w .eight-cells;
+    cells = w .cells;
+    eight-results = length-tabulate 8 0 (earlyAt st now x);
+    results = all-tabulate FitResult 8 0 (earlyAt st now x) early-result-fits;
+  }
+
+pub early-all-fits : (b : Bridge) → FitBridge b → (now : ℕ) → now < 2 ^ 32 → FitBridge (earlyAll now b)
+unfolding earlyAll early
+early-all-fits b w now soon = map-fits b w (early (b .settings) now) (early-fits (b .settings) (w .settings .bridgeId) now soon) (λ x. refl)

@@ -1,148 +1,96 @@
--- What a stream shows on one port, from the parts of a table that the code lends; and the record with it written.
-use mathlib.Core.Path.{_≡_, refl, sym, ap, _∙_, subst}
-use mathlib.Core.List.{List, _++_}
-use mathlib.Core.Bool.{Bool, true, false}
-use Prim.Native.Nat.{ℕ, _+_, _*_, _-_, _≤_, _<_}
+-- A stream on its way through stage 1: the settled values taken over, and the places decided so far.
+use mathlib.Core.Path.{_≡_, refl, sym, ap, _∙_}
+use mathlib.Core.List.{List, [], _∷_, _++_, append-assoc, append-nil}
+use Prim.Native.Nat.{ℕ, zero, suc, _+_, _^_, _≤_, _<_}
+use native.Mathlib.Nat.{add-zero}
+use native.Mathlib.Numerals.{add-one}
 use native.Mathlib.Omega.{arith}
-use lib.ListN.{length, take, drop}
-use lib.Dec.{ltb}
-use borrow.Author.Tests.{ltb-true, ltb-false}
-use Rattle.octets.specs.Be.{beAt}
-use Rattle.octets.specs.Parts.{part, patch}
-use Rattle.octets.proofs.Parts.{lent-part, length-part}
-use Rattle.octets.proofs.Frame.{part-part, beAt-part}
-use Rattle.model.specs.State.{Port, Settings, Talker, noTalker, talker, Cell, Result, Stream, Column, portAt, cellAt, resultAt, classOf, classLatency}
-use Rattle.model.specs.Settling.{Source, sourceOf, fixedOf, latencyOf, capped, registered, latencyOut, streamClass, latencyKept}
-use Rattle.model.specs.Table.{toPort, portsField, toSettings, settingsPart, toCell, toResult, resultOctets, toDeclared, toStream, streamOctets}
-use Rattle.model.specs.Laid.{LaidCell, LaidStream}
-use Rattle.model.proofs.Fits.{laid-stream-is, laid-stream-fits}
-use Rattle.table.proofs.Lens.{lent-patch}
-use Rattle.table.proofs.StreamParts.{lent-cell-laid, result-patch}
-use Rattle.columns.specs.Stages.{shownAs, earlyColumn, earlyAt, withResult}
-use Rattle.columns.specs.Answers.{talkerPlace, sourceIn, latencyBy, shownBy}
-use Rattle.columns.specs.Records.{LaidAt, changedAt, earlyOne}
-use Rattle.columns.proofs.Places.{port-at, cell-at, result-at}
-use Rattle.columns.proofs.Sources.{source-at}
-use Rattle.columns.proofs.Entries.{registered-read}
-use Rattle.columns.proofs.EarlyColumns.{no-port}
-use Rattle.columns.proofs.Patches.{patch-within}
+use lib.ListN.{length, getD, set, drop, length-append, length-drop}
+use lib.Seq.{drop-cons, drop-length, set-at, getD-append-add, getD-drop}
+use Rattle.model.specs.Lists.{tabulate}
+use Rattle.model.specs.State.{Settings, Fixed, Result, Stream, resultAt, cellAt, unsettled}
+use Rattle.model.specs.Settling.{sourceOf, fixedOf, steps, latencyOut, streamClass}
+use Rattle.model.specs.Laid.{FitResult, FitStream}
+use Rattle.model.proofs.Lists.{all-append, all-drop, all-tabulate}
+use Rattle.model.proofs.AdvanceKeepsForm.{length-tabulate}
+use Rattle.model.proofs.ColumnRule.{tabulate-same}
+use Rattle.table.specs.Updates.{settledAs}
+use Rattle.columns.specs.Stages.{shownAs, earlyColumn, earlyAt, early}
+use Rattle.columns.specs.Places.{earlyOne, earlyTo}
+use Rattle.columns.proofs.EarlyFits.{early-result-fits}
 
--- what is asked of a source's values does not hang on its place
-same-latency : (t : ℕ) (k : Talker) (c : Cell) → c .talks ≡ k → latencyOf (sourceIn 0 c) ≡ latencyOf (sourceIn t c)
-unfolding latencyOf sourceIn
-same-latency t noTalker c e = rw e
-same-latency t (talker f v m l) c e = rw e
+-- The first n of a list decided by f.
 
-same-fixed : (t : ℕ) (k : Talker) (c : Cell) → c .talks ≡ k → fixedOf (sourceIn 0 c) ≡ fixedOf (sourceIn t c)
-unfolding fixedOf sourceIn
-same-fixed t noTalker c e = rw e
-same-fixed t (talker f v m l) c e = rw e
+tabulate-last : {A : Type 0} (n p : ℕ) (f : ℕ → A) → tabulate (suc n) p f ≡ tabulate n p f ++ (f (p + n) ∷ [])
+unfolding tabulate
+tabulate-last zero p f = ap (λ (q : ℕ). f q ∷ []) (omega arith)
+tabulate-last {A = A} (suc n) p f =
+    ap (λ (l : List A). f p ∷ l) (tabulate-last n (suc p) f ∙ ap (λ (q : ℕ). tabulate n (suc p) f ++ (f q ∷ [])) (omega arith))
 
--- latency out of the port at place p, by the cell of the Talker
-latency-by : (st : Settings) (p t : ℕ) (x : Stream) → t ≡ talkerPlace (sourceOf x) → latencyBy st (portAt st p) (cellAt x t) ≡ latencyOut st p x
-unfolding latencyBy latencyOut streamClass
-latency-by st p t x e =
-    rw (same-latency t (cellAt x t .talks) (cellAt x t) refl, same-fixed t (cellAt x t .talks) (cellAt x t) refl)
-    (ap (λ (s : Source). capped (latencyOf s + classLatency (portAt st p) (classOf st (fixedOf s .priority)))) (rw e (sym (source-at x))))
+module _ (f : ℕ → Result) (l : List Result) where
+  abbrev upTo : ℕ → List Result
+  upTo n = tabulate n 0 f ++ drop n l
 
--- A record at a within a table.
+  up-to-length : (n : ℕ) → n ≤ length l → length (upTo n) ≡ length l
+  up-to-length n h = length-append (tabulate n 0 f) (drop n l) ∙ omega (arith, length-tabulate n 0 f, length-drop n l)
 
-module _ (table : List ℕ) (a : ℕ) (room : a + 493 ≤ length table) where
-  record-length : length (part a 493 table) ≡ 493
-  record-length = length-part a 493 table room
+  -- the next is as it was
+  up-to-here : (n : ℕ) (d : Result) → getD (upTo n) n d ≡ getD l n d
+  up-to-here n d =
+      ap (λ (i : ℕ). getD (upTo n) i d) (sym (length-tabulate n 0 f) ∙ sym (add-zero (length (tabulate n 0 f))))
+      ∙ getD-append-add (tabulate n 0 f) (drop n l) 0 d
+      ∙ getD-drop n l 0 d
+      ∙ ap (λ (i : ℕ). getD l i d) (add-zero n)
 
-  abbrev x : Stream
-  x = toStream (part a 493 table)
+  up-to-next : (n : ℕ) → n < length l → set (upTo n) n (f n) ≡ upTo (suc n)
+  up-to-next n h =
+      let e : 0 + n ≡ n = omega arith in
+      ap (λ (r : List Result). set (tabulate n 0 f ++ r) n (f n)) (drop-cons l n unsettled h)
+      ∙ set-at (tabulate n 0 f) (getD l n unsettled) (drop (suc n) l) (f n) n (length-tabulate n 0 f)
+      ∙ sym (ap (λ (r : List Result). r ++ drop (suc n) l) (tabulate-last n 0 f)
+      ∙ append-assoc (tabulate n 0 f) (f (0 + n) ∷ []) (drop (suc n) l)
+      ∙ ap (λ (q : ℕ). tabulate n 0 f ++ (f q ∷ drop (suc n) l)) e)
 
-  -- a part of the record, as it is lent from the table
-  part-lent : (b i n : ℕ) → b ≡ a + i → i + n ≤ 493 → take (b + n - b) (drop b table) ≡ part i n (part a 493 table)
-  part-lent b i n e h = lent-part b n table ∙ ap (λ (c : ℕ). part c n table) e ∙ sym (part-part a 493 i n table room h)
+  up-to-eight : length l ≡ 8 → upTo 8 ≡ tabulate 8 0 f
+  up-to-eight e = rw (← e, drop-length l, append-nil)
 
-  cell-there : (p b : ℕ) → p < 8 → b ≡ a + 21 + p * 39 → toCell (take (b + 39 - b) (drop b table)) ≡ cellAt x p
-  cell-there p b h e = ap toCell (part-lent b (21 + p * 39) 39 (omega arith) (omega arith)) ∙ sym (cell-at (part a 493 table) record-length p h)
+-- What is shown on a port hangs on the cells and on the result that the port had.
 
-  result-there : (p b : ℕ) → p < 8 → b ≡ a + 333 + p * 20 → toResult (take (b + 20 - b) (drop b table)) ≡ resultAt x p
-  result-there p b h e = ap toResult (part-lent b (333 + p * 20) 20 (omega arith) (omega arith)) ∙ sym (result-at (part a 493 table) record-length p h)
+same-early : (st : Settings) (now : ℕ) (x : Stream) (f : Fixed) (rs : List Result) (p : ℕ)
+    → resultAt record { id = x .id; settled = f; cells = x .cells; results = rs } p ≡ resultAt x p
+    → earlyAt st now record { id = x .id; settled = f; cells = x .cells; results = rs } p ≡ earlyAt st now x p
+unfolding earlyAt shownAs earlyColumn steps latencyOut streamClass sourceOf cellAt
+same-early st now x f rs p e = rw e
 
-  listener-there : (p b : ℕ) → p < 8 → b ≡ a + 21 + p * 39 + 33 → toDeclared (beAt 1 table b) ≡ registered (cellAt x p)
-  listener-there p b h e =
-      sym (ap registered (cell-at (part a 493 table) record-length p h)
-      ∙ registered-read (part (21 + p * 39) 39 (part a 493 table))
-      ∙ ap toDeclared
-      (beAt-part 1 (21 + p * 39) 39 33 (part a 493 table) (omega arith)
-      ∙ beAt-part 1 a 493 (21 + p * 39 + 33) table (omega arith)
-      ∙ ap (beAt 1 table) (omega arith)))
+module _ (st : Settings) (now : ℕ) (x : Stream) where
+  pub no-place : earlyTo 0 now st x ≡ x
+  unfolding earlyTo tabulate
+  no-place = refl
 
-  -- the result at place p written over
-  result-written : LaidStream (part a 493 table) → (p b : ℕ) → p < 8 → b ≡ a + 333 + p * 20 → (r : Result) (y : List ℕ) → y ≡ resultOctets r
-      → take b table ++ (y ++ drop (b + 20 - b) (drop b table)) ≡ patch a 493 (streamOctets (withResult p r x)) table
-  unfolding withResult
-  result-written l p b h e r y q =
-      let s = part a 493 table in
-      lent-patch b 20 y table
-      ∙ ap (λ (i : ℕ). patch i 20 y table) (omega arith)
-      ∙ patch-within a 493 (333 + p * 20) 20 y table room (omega arith)
-      ∙ ap (λ (z : List ℕ). patch a 493 z table)
-      (ap (λ (z : List ℕ). patch (333 + p * 20) 20 z s) q
-      ∙ ap (patch (333 + p * 20) 20 (resultOctets r)) (laid-stream-is s l)
-      ∙ result-patch (toStream s) (laid-stream-fits s l) p (333 + p * 20) h (omega arith) r)
+  pub next-place : (n : ℕ) → n < length (x .results) → earlyOne n now st (earlyTo n now st x) ≡ earlyTo (n + 1) now st x
+  unfolding earlyOne earlyTo resultAt
+  next-place n h =
+      let rs = tabulate n 0 (earlyAt st now x) ++ drop n (x .results) in
+      let e = same-early st now x (x .settled) rs n (up-to-here (earlyAt st now x) (x .results) n unsettled) in
+      rw (add-one n, e, up-to-next (earlyAt st now x) (x .results) n h)
 
-  module _ (behind : 272 ≤ a) (p t : ℕ) (h : p < 8) (g : t < 8) (e : t ≡ talkerPlace (sourceOf x)) where
-    abbrev st : Settings
-    st = toSettings (settingsPart table)
+  pub all-places : length (x .results) ≡ 8 → earlyTo 8 now st (settledAs (fixedOf (sourceOf x)) x) ≡ early st now x
+  unfolding earlyTo early resultAt
+  all-places l =
+      let f = fixedOf (sourceOf x) in
+      ap (λ (rs : List Result). record { id = x .id; settled = f; cells = x .cells; results = rs })
+      (up-to-eight (earlyAt st now (settledAs f x)) (x .results) l
+      ∙ tabulate-same (earlyAt st now (settledAs f x)) (earlyAt st now x) 8 0 (λ q h k. same-early st now x f (x .results) q refl))
 
-    -- latency out as it is computed from the parts lent: of the port, at q, and of the Talker's cell, at s
-    abbrev out : ℕ → ℕ → ℕ
-    out q s = latencyBy st (toPort (take (q + 22 - q) (drop q table))) (toCell (take (s + 39 - s) (drop s table)))
-
-    latency-there : (q s : ℕ) → q ≡ 11 + p * 22 → s ≡ a + 21 + t * 39 → p < portsField (settingsPart table) → out q s ≡ latencyOut st p x
-    unfolding settingsPart
-    latency-there q s i j k =
-        let zero-more : q ≡ 0 + (11 + p * 22) = omega arith in
-        ap (λ (c : Cell). latencyBy st (toPort (take (q + 22 - q) (drop q table))) c) (cell-there t s g j)
-        ∙ ap (λ (o : List ℕ). latencyBy st (toPort o) (cellAt x t))
-        (lent-part q 22 table ∙ ap (λ (b : ℕ). part b 22 table) zero-more ∙ sym (part-part 0 187 (11 + p * 22) 22 table (omega arith) (omega arith)))
-        ∙ ap (λ (o : Port). latencyBy st o (cellAt x t)) (sym (port-at (settingsPart table) p k))
-        ∙ latency-by st p t x e
-
-    -- where there is no port the column is none, and no latency is kept
-    pub shown-there : (q s now : ℕ) (column : Column) → q ≡ 11 + p * 22 → s ≡ a + 21 + t * 39 → column ≡ earlyColumn st p x
-        → shownBy column (out q s) (registered (cellAt x p)) now (resultAt x p) ≡ earlyAt st now x p
-    unfolding shownBy earlyAt shownAs
-    shown-there q s now column i j k = go (ltb p (portsField (settingsPart table))) refl
-      where
-        go : (o : Bool) → ltb p (portsField (settingsPart table)) ≡ o
-            → shownBy column (out q s) (registered (cellAt x p)) now (resultAt x p) ≡ earlyAt st now x p
-        go true o = rw (k, latency-there q s i j (ltb-true p (portsField (settingsPart table)) o))
-        go false o = rw (k, ← no-port (settingsPart table) p x (ltb-false p (portsField (settingsPart table)) o)) (unfold latencyKept in refl)
-
--- The code's own words: a record at a, laid out as LaidAt says.
-
-module _ (table : List ℕ) (a : ℕ) (w : LaidAt a table) where
-  pub record-lent : take (a + 493 - a) (drop a table) ≡ part a 493 table
-  record-lent = lent-part a 493 table
-
-  pub talker-laid : (t s : ℕ) → t < 8 → s ≡ a + 21 + t * 39 → LaidCell (take (s + 39 - s) (drop s table))
-  talker-laid t s h e =
-      let r = part a 493 table in
-      let b = 21 + t * 39 in
-      subst LaidCell (lent-part b 39 r ∙ sym (part-lent table a (w .room) s b 39 (omega arith) (omega arith)))
-      (lent-cell-laid r (w .stream) t b h (omega arith))
-
-  pub place-written : (p t q h s r now latency listener : ℕ) (column : Column) (y : List ℕ) → p < 8 → t < 8
-      → t ≡ talkerPlace (sourceOf (toStream (part a 493 table)))
-      → q ≡ 11 + p * 22 → h ≡ a + 21 + p * 39 → s ≡ a + 21 + t * 39 → r ≡ a + 333 + p * 20
-      → column ≡ earlyColumn (toSettings (settingsPart table)) p (toStream (take (a + 493 - a) (drop a table)))
-      → latency ≡ latencyBy (toSettings (settingsPart table)) (toPort (take (q + 22 - q) (drop q table))) (toCell (take (s + 39 - s) (drop s table)))
-      → listener ≡ beAt 1 table (h + 33)
-      → y ≡ resultOctets (shownBy column latency (toDeclared listener) now (toResult (take (r + 20 - r) (drop r table))))
-      → take r table ++ (y ++ drop (r + 20 - r) (drop r table)) ≡ changedAt a (earlyOne p now) table
-  unfolding changedAt earlyOne
-  place-written p t q h s r now latency listener column y i j k eq eh es er ec el eg ey =
-      let st = toSettings (settingsPart table) in
-      let x = toStream (part a 493 table) in
-      result-written table a (w .room) (w .stream) p r i er (earlyAt st now x p) y
-      (ey
-      ∙ ap resultOctets
-      (rw (eg, listener-there table a (w .room) p (h + 33) i (omega arith), result-there table a (w .room) p r i er, el)
-      (shown-there table a (w .room) (w .behind) p t i j k q s now column eq es (rw record-lent at ec))))
+  pub places-fit : st .bridgeId < 2 ^ 64 → now < 2 ^ 32 → FitStream x → (n : ℕ) → n ≤ 8 → FitStream (earlyTo n now st x)
+  unfolding earlyTo
+  places-fit named soon w n h = record {
+    name = w .name;
+    rank = w .rank;
+    eight-cells = w .eight-cells;
+    cells = w .cells;
+    eight-results = up-to-length (earlyAt st now x) (x .results) n (omega (arith, w .eight-results)) ∙ w .eight-results;
+    results =
+        all-append FitResult (tabulate n 0 (earlyAt st now x)) (drop n (x .results))
+        (all-tabulate FitResult n 0 (earlyAt st now x) (early-result-fits st named now soon x w)) (all-drop FitResult n (x .results) (w .results));
+  }

@@ -1,101 +1,153 @@
--- Stage 1 on a whole table: the loop over the records in use, and that what it leaves is laid out.
-use mathlib.Core.Path.{_≡_, refl, sym, ap, _∙_, subst}
-use mathlib.Core.List.{List, [], _∷_, map}
-use Prim.Native.Nat.{ℕ, _+_, _*_, _-_, _^_, _≤_, _<_}
+-- Stage 1 on a table: a stream's result on a port, its settled values, its places one after another, and every stream.
+use mathlib.Core.Path.{_≡_, refl, sym, ap, _∙_}
+use mathlib.Core.List.{List, _++_}
+use Prim.Native.Nat.{ℕ, _+_, _-_, _^_, _≤_, _<_}
 use native.Mathlib.Omega.{arith}
-use lib.ListN.{length, length-map}
-use Rattle.octets.specs.Parts.{part, over, eachFrom}
-use Rattle.octets.proofs.Parts.{lent-part, length-eachFrom, eachFrom-more}
-use Rattle.model.specs.State.{Settings, Stream, Bridge}
-use Rattle.model.specs.Registrations.{holding, ids}
-use Rattle.model.specs.Table.{toSettings, settingsPart, toStream, streamOctets, encode, decode}
-use Rattle.model.specs.Laid.{FitStream, FitSettings, FitBridge, LaidStream, Laid}
-use Rattle.model.proofs.Lists.{all-map}
-use Rattle.model.proofs.AdvanceKeepsForm.{length-tabulate, all-mapped}
-use Rattle.model.proofs.Tables.{stream-length}
-use Rattle.model.proofs.Fits.{stream-read, laid-is, laid-fits}
-use Rattle.table.proofs.Header.{laid-length, laid-few}
-use Rattle.table.proofs.Records.{records-each, lent-record-laid}
-use Rattle.columns.specs.Stages.{earlyAt, early, earlyAll}
-use Rattle.columns.specs.Records.{LaidAt, changedAt}
-use Rattle.columns.proofs.Places.{eight-cells}
-use Rattle.columns.proofs.Patches.{eachFrom-next, eachFrom-before}
-use Rattle.columns.proofs.EarlyRecords.{early-fits}
+use lib.ListN.{length, take, drop}
+use Rattle.octets.specs.Be.{beAt}
+use Rattle.octets.specs.Parts.{part, patch}
+use Rattle.octets.proofs.Frame.{part-part}
+use Rattle.model.specs.Layout.{cellPlace, cellSize, fixedPlace, fixedSize, listenerPlace, resultPlace, resultSize, settledOf}
+use Rattle.model.specs.State.{Settings, Fixed, Cell, Result, Stream, Column, cellAt, resultAt, streamAt}
+use Rattle.model.specs.Settling.{Source, source, sourceOf, fixedOf, latencyOut}
+use Rattle.model.specs.Table.{toDeclared, toResult, resultOctets, encode, decode}
+use Rattle.model.specs.Laid.{FitStream, Laid}
+use Rattle.model.proofs.Fits.{laid-fits}
+use Rattle.table.specs.Updates.{settledAs, withStream, withResult, withSettled}
+use Rattle.table.specs.Places.{Stands, StandsOn}
+use Rattle.table.specs.Reads.{ReadsCell, fixedOctets}
+use Rattle.table.proofs.ByPlace.{stands, stands-on, stream-fits, stream-same, stream-replaced-stands, stream-replaced-at, stream-replaced-settings, stream-replaced-again, settled-as-fits, cell-at, settled-replaced, changed-result-at}
+use Rattle.table.proofs.EachStream.{partly, partly-settings, partly-stands, one-more, all-done}
+use Rattle.streams.specs.Answers.{talkerPlace, sourceIn}
+use Rattle.streams.proofs.Sources.{source-at}
+use Rattle.columns.specs.Stages.{shownBy, shownAs, earlyColumn, earlyAt, early, earlyAll}
+use Rattle.columns.specs.Places.{TalkerAt, changedAt, earlyOne, earlyTo}
+use Rattle.columns.proofs.Entries.{registered-read}
+use Rattle.columns.proofs.Talkers.{fixed-part}
+use Rattle.columns.proofs.EarlyFits.{settled-values, early-fits}
+use Rattle.columns.proofs.EarlyPlaces.{no-place, next-place, all-places, places-fit}
+pub use Rattle.columns.proofs.EarlyFits.{early-all-fits}
 
--- a record's octets after stage 1
-unfoldable pub earlyOctets : Settings → ℕ → List ℕ → List ℕ
-earlyOctets st now s = streamOctets (early st now (toStream s))
+-- the result of stream k on the port at place p, written from what was read of its column, latency out and Listener
+module _ {table : List ℕ} {k p : ℕ} (s : StandsOn table k p) where
+  abbrev x : Stream
+  x = streamAt k (decode table)
 
-pub early-length : (st : Settings) (now : ℕ) (s : List ℕ) → length s ≡ 493 → length (earlyOctets st now s) ≡ 493
-unfolding earlyOctets early
-early-length st now s l = stream-length (early st now (toStream s)) (eight-cells s l) (length-tabulate 8 0 (earlyAt st now (toStream s)))
+  pub place-written : (now latency listener a : ℕ) (column : Column) (here y : List ℕ) → a ≡ resultPlace k p
+      → column ≡ earlyColumn (decode table .settings) p x → latency ≡ latencyOut (decode table .settings) p x
+      → ReadsCell here (cellAt x p) → listener ≡ beAt 1 here listenerPlace
+      → y ≡ resultOctets (shownBy column latency (toDeclared listener) now (toResult (take (a + resultSize - a) (drop a table))))
+      → take a table ++ (y ++ drop (a + resultSize - a) (drop a table)) ≡ encode (changedAt k (earlyOne p now) (decode table))
+  unfolding earlyOne
+  place-written now latency listener a column here y e f g c h q =
+      let shown : shownBy column latency (toDeclared listener) now (resultAt x p) ≡ earlyAt (decode table .settings) now x p =
+      unfold earlyAt shownAs in rw (f, g, h, ← registered-read here, c .is) in
+      changed-result-at s a e (shownBy column latency (toDeclared listener) now) y q ∙ ap (λ (r : Result). encode (withResult k p r (decode table))) shown
 
-module _ (t : List ℕ) (l : Laid t) (now : ℕ) where
-  abbrev f : List ℕ → List ℕ
-  f = earlyOctets (toSettings (settingsPart t)) now
+-- the fixed values that a stream has registered at place t, taken over as its settled values
+pub values-copied : {table : List ℕ} {k t : ℕ} (s : StandsOn table k t) → cellPlace k t + cellSize ≤ length table → (a : ℕ) → a ≡ cellPlace k t + fixedPlace
+    → patch (settledOf k) fixedSize (part a fixedSize table) table
+    ≡ encode (withSettled k (fixedOf (sourceIn t (cellAt (streamAt k (decode table)) t))) (decode table))
+values-copied {table} {k} {t} s room a e =
+    let c = cellAt (streamAt k (decode table)) t in
+    let r = cell-at s in
+    let q : part a fixedSize table ≡ fixedOctets (fixedOf (sourceIn t c)) =
+    ap (λ (i : ℕ). part i fixedSize table) e
+    ∙ sym (part-part (cellPlace k t) cellSize fixedPlace fixedSize table room (omega arith))
+    ∙ fixed-part (part (cellPlace k t) cellSize table) (r .laid) t
+    ∙ ap (λ (d : Cell). fixedOctets (fixedOf (sourceIn t d))) (r .is) in
+    ap (λ (y : List ℕ). patch (settledOf k) fixedSize y table) q ∙ settled-replaced (stands s) (fixedOf (sourceIn t c))
 
-  module _ (k : ℕ) (h : k < length (decode t .streams)) (s : List ℕ) (e : s ≡ eachFrom 272 k 493 f t) where
-    abbrev a : ℕ
-    a = 272 + k * 493
+-- Stream k replaced by x, which has its cells: its Talker stands where it stood, and what is made of x next is made of the table.
 
-    room : a + 493 ≤ length t
-    room = omega (arith, laid-length t l, laid-few t l)
+module _ {table : List ℕ} {k : ℕ} (s : Stands table k) (x : Stream) (w : FitStream x) (same : x .id ≡ streamAt k (decode table) .id)
+    (cells : x .cells ≡ streamAt k (decode table) .cells) (u : List ℕ) (e : u ≡ encode (withStream k x (decode table))) where
+  pub talker-kept : {t : ℕ} → TalkerAt table k t → TalkerAt u k t
+  unfolding sourceOf
+  talker-kept {t} i = record {
+    stands = stands-on (stream-replaced-stands s x w same u e) t (i .stands .port);
+    is = i .is ∙ ap (λ (l : List Cell). talkerPlace (source 0 l)) (sym (ap (λ (y : Stream). y .cells) (stream-replaced-at s x w same u e) ∙ cells));
+  }
 
-    same-settings : settingsPart s ≡ settingsPart t
-    unfolding settingsPart
-    same-settings = ap (part 0 187) e ∙ eachFrom-before 493 f (early-length (toSettings (settingsPart t)) now) 272 k 187 t (omega arith) (omega (arith, room))
+  pub changed-again : (g : Settings → Stream → Stream) (z : Stream) → g (decode table .settings) x ≡ z
+      → (y : List ℕ) → y ≡ encode (changedAt k g (decode u)) → y ≡ encode (withStream k z (decode table))
+  changed-again g z n y q =
+      stream-replaced-again s x w same u e z y
+      (q ∙ ap (λ (v : Stream). encode (withStream k v (decode u))) (rw (stream-replaced-settings s x w same u e, stream-replaced-at s x w same u e) n))
 
-    same-record : part a 493 s ≡ part a 493 t
-    same-record = ap (part a 493) e ∙ eachFrom-next 493 f (early-length (toSettings (settingsPart t)) now) 272 k 493 t (omega (arith, room))
+-- The settled values taken over.
 
-    pub turn-laid : LaidAt a s
-    unfolding decode
-    turn-laid = record {
-      behind = omega arith;
-      room = omega (arith, ap length e, length-eachFrom 272 493 f (early-length (toSettings (settingsPart t)) now) k t (omega (arith, room)), room);
-      settings = subst (λ (r : List ℕ). FitSettings (toSettings r)) (sym same-settings) (laid-fits t l .settings);
-      stream = subst LaidStream (lent-part a 493 t ∙ sym same-record) (lent-record-laid t l k a h (omega arith));
-    }
+module _ {table : List ℕ} {k t : ℕ} (i : TalkerAt table k t) where
+  abbrev x₀ : Stream
+  x₀ = streamAt k (decode table)
 
-    turn-over : changedAt a (λ st. early st now) s ≡ over a 493 f s
-    unfolding changedAt over earlyOctets
-    turn-over = rw same-settings
+  abbrev f : Fixed
+  f = fixedOf (sourceOf x₀)
 
-    pub table-turn : changedAt a (λ st. early st now) s ≡ eachFrom 272 (k + 1) 493 f t
-    table-turn =
-        turn-over ∙ ap (over a 493 f) e
-        ∙ eachFrom-more 272 493 f (early-length (toSettings (settingsPart t)) now) k t (omega (arith, room))
+  settled-fits : FitStream (settledAs f x₀)
+  settled-fits = settled-as-fits (stands (i .stands)) f (settled-values x₀ (stream-fits (stands (i .stands))))
 
-  read-back : (x : Stream) → FitStream x → f (streamOctets x) ≡ streamOctets (early (toSettings (settingsPart t)) now x)
-  unfolding earlyOctets
-  read-back x w = ap (λ (y : Stream). streamOctets (early (toSettings (settingsPart t)) now y)) (stream-read x w)
+  module _ (u : List ℕ) (e : u ≡ encode (withSettled k (fixedOf (sourceIn t (cellAt x₀ t))) (decode table))) where
+    settled-there : u ≡ encode (withSettled k f (decode table))
+    settled-there = e ∙ ap (λ (o : Source). encode (withSettled k (fixedOf o) (decode table))) (rw (i .is) (sym (source-at x₀)))
 
-  pub table-done : eachFrom 272 (length (decode t .streams)) 493 f t ≡ encode (earlyAll now (decode t))
-  unfolding earlyAll decode
-  table-done =
-      let b = decode t in
-      let w = laid-fits t l in
-      ap (eachFrom 272 (length (b .streams)) 493 f) (laid-is t l)
-      ∙ records-each b w f (early (b .settings) now)
-      (all-map FitStream (λ x. f (streamOctets x) ≡ streamOctets (early (b .settings) now x)) read-back (b .streams) (w .streams))
+    pub settled-talker : TalkerAt u k t
+    settled-talker = talker-kept (stands (i .stands)) (settledAs f x₀) settled-fits refl refl u settled-there i
 
--- The bridge after stage 1.
+    -- and after them the places
+    pub settled-places : (now : ℕ) (y : List ℕ) → y ≡ encode (changedAt k (earlyTo 8 now) (decode u)) → y ≡ encode (changedAt k (λ st. early st now) (decode table))
+    settled-places now =
+        changed-again (stands (i .stands)) (settledAs f x₀) settled-fits refl refl u settled-there (earlyTo 8 now) (early (decode table .settings) now x₀)
+        (all-places (decode table .settings) now x₀ (stream-fits (stands (i .stands)) .eight-results))
 
-early-ids : (st : Settings) (now : ℕ) (s : List Stream) → ids (map (early st now) s) ≡ ids s
-unfolding ids early
-early-ids st now [] = refl
-early-ids st now (x ∷ s) = ap (λ (l : List ℕ). x .id ∷ l) (early-ids st now s)
+-- The places, one after another.
 
-pub early-all-fits : (b : Bridge) → FitBridge b → (now : ℕ) → now < 2 ^ 32 → FitBridge (earlyAll now b)
-unfolding earlyAll holding
-early-all-fits b w now soon =
-    let st = b .settings in
-    record {
-      settings = w .settings;
-      clock = w .clock;
-      eight-totals = w .eight-totals;
-      totals = w .totals;
-      at-most-64 = omega (arith, length-map (b .streams) (early st now), w .at-most-64);
-      streams = all-mapped FitStream FitStream (early st now) (early-fits st (w .settings .bridgeId) now soon) (b .streams) (w .streams);
-      ascending = rw (early-ids st now (b .streams)) (w .ascending);
-    }
+module _ {table : List ℕ} {k t : ℕ} (i : TalkerAt table k t) (now : ℕ) (soon : now < 2 ^ 32) where
+  pub places-start : table ≡ encode (changedAt k (earlyTo 0 now) (decode table))
+  places-start =
+      stream-same (stands (i .stands))
+      ∙ ap (λ (x : Stream). encode (withStream k x (decode table))) (sym (no-place (decode table .settings) now (x₀ i)))
+
+  module _ (n : ℕ) (few : n ≤ 8) (s : List ℕ) (e : s ≡ encode (changedAt k (earlyTo n now) (decode table))) where
+    abbrev xₙ : Stream
+    xₙ = earlyTo n now (decode table .settings) (x₀ i)
+
+    places-fit-here : FitStream xₙ
+    places-fit-here =
+        places-fit (decode table .settings) now (x₀ i) (laid-fits table (i .stands .laid) .settings .bridgeId) soon (stream-fits (stands (i .stands))) n few
+
+    pub places-talker : TalkerAt s k t
+    unfolding earlyTo
+    places-talker = talker-kept (stands (i .stands)) xₙ places-fit-here refl refl s e i
+
+    pub places-turn : n < 8 → (y : List ℕ) → y ≡ encode (changedAt k (earlyOne n now) (decode s)) → y ≡ encode (changedAt k (earlyTo (n + 1) now) (decode table))
+    places-turn h =
+        changed-again (stands (i .stands)) xₙ places-fit-here (unfold earlyTo in refl) (unfold earlyTo in refl) s e (earlyOne n now)
+        (earlyTo (n + 1) now (decode table .settings) (x₀ i))
+        (next-place (decode table .settings) now (x₀ i) n (omega (arith, stream-fits (stands (i .stands)) .eight-results)))
+
+-- Every stream, one after another.
+
+module _ (table : List ℕ) (l : Laid table) (now : ℕ) (soon : now < 2 ^ 32) where
+  abbrev pub stage : Stream → Stream
+  stage = early (decode table .settings) now
+
+  stage-fits : (x : Stream) → FitStream x → FitStream (stage x)
+  stage-fits = early-fits (decode table .settings) (laid-fits table l .settings .bridgeId) now soon
+
+  stage-id : (x : Stream) → stage x .id ≡ x .id
+  unfolding early
+  stage-id x = refl
+
+  module _ (k : ℕ) (s : List ℕ) (e : s ≡ encode (partly stage table k)) where
+    pub next-stands : k < length (decode table .streams) → Stands s k
+    next-stands = partly-stands stage stage-fits stage-id table l k s e
+
+    pub next-done : (y : List ℕ) → y ≡ encode (changedAt k (λ st. early st now) (decode s)) → y ≡ encode (partly stage table (k + 1))
+    next-done y q =
+        one-more stage stage-fits stage-id table l k s e y
+        (q ∙ ap (λ (st : Settings). encode (withStream k (early st now (streamAt k (decode s))) (decode s))) (partly-settings stage stage-fits stage-id table l k s e))
+
+    pub every-done : k ≡ length (decode table .streams) → s ≡ encode (earlyAll now (decode table))
+    unfolding earlyAll
+    every-done = all-done stage table s k e

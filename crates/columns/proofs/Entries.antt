@@ -5,16 +5,17 @@ use mathlib.Core.Bool.{Bool, true, false, cond}
 use Prim.Native.Nat.{ℕ, zero, suc, _/_, _≤_, _<_}
 use native.Mathlib.Omega.{arith}
 use lib.ListN.{getD}
-use lib.Dec.{eqb}
-use borrow.Author.Tests.{eq-eqb, ne-eqb}
+use lib.Dec.{eqb, leb}
+use borrow.Author.Tests.{eq-eqb, ne-eqb, le-leb, lt-leb}
 use Rattle.octets.specs.Be.{beAt}
 use Rattle.octets.specs.Fields.{fields}
+use Rattle.model.specs.Layout.{agePlace, entryPlace, listenerLeavesPlace, listenerPlace, listenerSincePlace}
 use Rattle.model.specs.State.{Leaving, Talker, Ready, ready, readyFailed, noListener, listener, none, advertise, failed, noEntry, filters, forwards, nothing, tells}
 use Rattle.model.specs.Settling.{isReady, registered, entryOf, ageOf, ageKept}
-use Rattle.model.specs.Table.{toLeaving, toReady, toDeclared, toEntry, entryNumber, toCell, cellFrom, listenerFrom, cellWidths, toResult, resultFrom, resultWidths}
+use Rattle.model.specs.Table.{toLeaving, toReady, toDeclared, toEntry, entryNumber, toCell, cellFrom, listenerFrom, toResult, resultFrom}
 use Rattle.model.proofs.SettingsOctets.{octet-field}
 
--- The Listener registered in a cell is said by its octet 33.
+-- The Listener registered in a cell, as its octets say it.
 
 heard : (t : Talker) (e : Bool) (r : Ready) (l : Leaving)
     → registered record { talks = t; hears = cond e noListener (listener r l) } ≡ cond e nothing (tells r)
@@ -22,22 +23,20 @@ unfolding registered
 heard t true r l = refl
 heard t false r l = refl
 
-pub registered-read : (s : List ℕ) → registered (toCell s) ≡ toDeclared (beAt 1 s 33)
-unfolding toCell cellFrom listenerFrom toDeclared fields cellWidths
+pub registered-read : (s : List ℕ) → registered (toCell s) ≡ toDeclared (beAt 1 s listenerPlace)
+unfolding toCell cellFrom listenerFrom toDeclared fields
 registered-read s =
-    heard (toCell s .talks) (eqb (beAt 1 s 33) 0) (toReady (beAt 1 s 33)) (toLeaving (beAt 1 s 34) (beAt 4 s 35))
+    heard (toCell s .talks) (eqb (beAt 1 s listenerPlace) 0) (toReady (beAt 1 s listenerPlace)) (toLeaving (beAt 1 s listenerLeavesPlace) (beAt 4 s listenerSincePlace))
 
 -- Table 35-12.
 
-ready-few : (k : ℕ) → k < 2 → isReady (toDeclared k) ≡ false
+-- Ready and Ready Failed
+pub ready-number : (k : ℕ) → isReady (toDeclared k) ≡ leb 2 k
 unfolding isReady toDeclared toReady
-ready-few zero h = refl
-ready-few (suc zero) h = refl
-ready-few (suc (suc k)) h = absurd (omega arith)
-
-ready-many : (k : ℕ) → 2 ≤ k → isReady (toDeclared k) ≡ true
-unfolding isReady toDeclared toReady
-ready-many k h = rw (ne-eqb k 0 (λ e. omega arith), ne-eqb k 1 (λ e. omega arith)) (go (eqb k 2))
+ready-number zero = refl
+ready-number (suc zero) = refl
+ready-number (suc (suc k)) =
+    rw (ne-eqb (suc (suc k)) 0 (λ e. omega (arith, e)), ne-eqb (suc (suc k)) 1 (λ e. omega (arith, e)), le-leb 2 (suc (suc k)) (omega arith)) (go (eqb (suc (suc k)) 2))
   where
     go : (e : Bool) → isReady (tells (cond e ready readyFailed)) ≡ true
     go true = refl
@@ -53,11 +52,11 @@ none-heard k n = rw (ne-eqb k 0 n)
 
 pub advertised-ready : (k : ℕ) → 2 ≤ k → 2 ≡ entryNumber (entryOf advertise (toDeclared k))
 unfolding entryNumber entryOf
-advertised-ready k h = rw (ready-many k h)
+advertised-ready k h = rw (ready-number k, le-leb 2 k h)
 
 pub advertised-unready : (k : ℕ) → k < 2 → 1 ≡ entryNumber (entryOf advertise (toDeclared k))
 unfolding entryNumber entryOf
-advertised-unready k h = rw (ready-few k h)
+advertised-unready k h = rw (ready-number k, lt-leb 2 k h)
 
 pub failed-filters : (b c k : ℕ) → 1 ≡ entryNumber (entryOf (failed b c) (toDeclared k))
 unfolding entryNumber entryOf
@@ -78,14 +77,14 @@ kept e a n = rw (ne-eqb e 0 n) (go (eqb e 1))
     go false = refl
 
 module _ (s : List ℕ) (now e : ℕ) (n : e ≡ 0 → ⊥) where
-  pub age-begins : getD s 14 0 ≡ 0 → now / 100 ≡ ageKept (toEntry e) (ageOf now (toResult s))
-  unfolding ageOf toResult resultFrom toEntry fields resultWidths
-  age-begins h = sym (kept e (ageOf now (toResult s)) n ∙ rw (octet-field s 14, eq-eqb (getD s 14 0) 0 h))
+  pub age-begins : getD s entryPlace 0 ≡ 0 → now / 100 ≡ ageKept (toEntry e) (ageOf now (toResult s))
+  unfolding ageOf toResult resultFrom toEntry fields
+  age-begins h = sym (kept e (ageOf now (toResult s)) n ∙ rw (octet-field s entryPlace, eq-eqb (getD s entryPlace 0) 0 h))
 
-  pub age-stays : (getD s 14 0 ≡ 0 → ⊥) → beAt 4 s 15 ≡ ageKept (toEntry e) (ageOf now (toResult s))
-  unfolding ageOf toResult resultFrom toEntry fields resultWidths
-  age-stays h = sym (kept e (ageOf now (toResult s)) n ∙ rw (octet-field s 14, ne-eqb (getD s 14 0) 0 h) (held (eqb (getD s 14 0) 1)))
+  pub age-stays : (getD s entryPlace 0 ≡ 0 → ⊥) → beAt 4 s agePlace ≡ ageKept (toEntry e) (ageOf now (toResult s))
+  unfolding ageOf toResult resultFrom toEntry fields
+  age-stays h = sym (kept e (ageOf now (toResult s)) n ∙ rw (octet-field s entryPlace, ne-eqb (getD s entryPlace 0) 0 h) (held (eqb (getD s entryPlace 0) 1)))
     where
-      held : (t : Bool) → elim (cond t filters forwards) [ noEntry ↦ now / 100 | filters ↦ beAt 4 s 15 | forwards ↦ beAt 4 s 15 ] ≡ beAt 4 s 15
+      held : (t : Bool) → elim (cond t filters forwards) [ noEntry ↦ now / 100 | filters ↦ beAt 4 s agePlace | forwards ↦ beAt 4 s agePlace ] ≡ beAt 4 s agePlace
       held true = refl
       held false = refl

@@ -1,13 +1,7 @@
-pub mod Demands
 pub mod Steps
-pub mod Places
-pub mod Sources
 pub mod Entries
 pub mod Talkers
-pub mod EarlyColumns
 pub mod ResultFields
-pub mod Patches
-pub mod EarlyPlaces
 pub mod EarlyFits
-pub mod EarlyRecords
+pub mod EarlyPlaces
 pub mod EarlyTables

@@ -1,39 +1,25 @@
 -- Which of steps a to g is the first that applies, by the octets that the code tests.
-use mathlib.Core.Path.{_≡_, refl, sym, _∙_}
+use mathlib.Core.Path.{_≡_, refl}
 use mathlib.Core.List.{List}
 use mathlib.Core.Bool.{Bool, true, false, cond, not}
-use Prim.Native.Nat.{ℕ, _/_, _≤_, _<_}
-use lib.ListN.{getD}
+use Prim.Native.Nat.{ℕ, _+_, _/_, _≤_, _<_}
+use lib.ListN.{length, getD}
 use lib.Dec.{eqb, ltb}
-use borrow.Author.Tests.{eq-eqb, ne-eqb, lt-ltb, le-ltb}
+use borrow.Author.Tests.{lt-ltb, le-ltb}
 use Rattle.octets.specs.Be.{beAt}
 use Rattle.octets.specs.Fields.{fields}
+use Rattle.model.specs.Layout.{before, bridgePlace, changedPlace, codePlace, fixedPlace, fixedWidths, largestPlace, priorityPlace}
 use Rattle.model.specs.Lists.{isOne}
-use Rattle.model.specs.State.{sound, broken, Talker, noTalker, talker, Column, none, advertise, failed, Class, portAt, classOf, isNoClass, supports}
+use Rattle.model.specs.State.{Settings, sound, broken, Column, none, advertise, failed, Stream, Class, portAt, isPort, cellAt, classOf, isNoClass, supports}
 use Rattle.model.specs.Frames.{priorityOf}
-use Rattle.model.specs.Settling.{isTalking, isBroken, brokenColumn, first, stepsFrom}
-use Rattle.model.specs.Table.{toPort, toSettings, toCell, cellFrom, talkerFrom, fixedFrom, cellWidths, toHealth, toLeaving, portFrom, portWidths}
+use Rattle.model.specs.Settling.{sourceOf, isTalking, healthOf, isBroken, brokenColumn, first, outcomeColumn, stepsFrom, steps}
+use Rattle.model.specs.Table.{toPort, toCell, registrationFrom, fixedFrom, toHealth, portFrom}
 use Rattle.model.proofs.SettingsOctets.{octet-field}
-use Rattle.columns.specs.Answers.{sourceIn}
+use Rattle.streams.specs.Answers.{sourceIn}
+use Rattle.streams.proofs.Sources.{no-talker, a-talker}
+use Rattle.columns.specs.Stages.{firstStep, earlyColumn}
 
--- The Talker that a cell's octets say.
-
-abbrev numbers : List ℕ → List ℕ
-numbers s = fields cellWidths 0 s
-
-abbrev saidTalker : List ℕ → Talker
-saidTalker s =
-    talker (fixedFrom 4 (numbers s))
-    record { health = toHealth (getD (numbers s) 0 0) (getD (numbers s) 10 0) (getD (numbers s) 11 0); latency = getD (numbers s) 9 0 }
-    (isOne (getD (numbers s) 1 0)) (toLeaving (getD (numbers s) 2 0) (getD (numbers s) 3 0))
-
-pub no-talker : (s : List ℕ) → getD s 0 0 ≡ 0 → toCell s .talks ≡ noTalker
-unfolding toCell cellFrom talkerFrom fields cellWidths
-no-talker s e = rw (eq-eqb (beAt 1 s 0) 0 (octet-field s 0 ∙ e))
-
-pub a-talker : (s : List ℕ) → (getD s 0 0 ≡ 0 → ⊥) → toCell s .talks ≡ saidTalker s
-unfolding toCell cellFrom talkerFrom fields cellWidths
-a-talker s n = rw (ne-eqb (beAt 1 s 0) 0 (λ e. n (sym (octet-field s 0) ∙ e)))
+-- Whether a cell has a Talker, by its first octet.
 
 pub not-talking : (s : List ℕ) → getD s 0 0 ≡ 0 → isTalking (toCell s) ≡ false
 unfolding isTalking
@@ -53,66 +39,60 @@ failed-asked k b c d = go (eqb k 1)
     go true = refl
     go false = refl
 
--- The steps, one after another: settings s, the cell here on the port at place p, the Talker's cell said at place t.
+-- The steps, from each on, every test as the code asks it: settings st, the port's octets, the cell here on the port at place p,
+-- the Talker's cell said at place t.
 
-module _ (s here said : List ℕ) (p t : ℕ) where
-  abbrev decided : Column
-  decided = first (stepsFrom (toSettings s) p (toCell here) (sourceIn t (toCell said))) advertise
+-- MaxFrameSize in a cell
+abbrev sizePlace : ℕ
+sizePlace = fixedPlace + before 2 fixedWidths
 
+module _ (st : Settings) (port here said : List ℕ) (p t : ℕ) where
   abbrev own : ℕ → Column
-  own = failed (toSettings s .bridgeId)
+  own = failed (st .bridgeId)
 
-  abbrev class : Class
-  class = classOf (toSettings s) (beAt 1 said 19 / 32)
+  abbrev pub class : Class
+  class = classOf st (beAt 1 said priorityPlace / 32)
+
+  abbrev pub from-g : Column
+  from-g = cond (ltb (beAt 2 port largestPlace) (beAt 2 said sizePlace)) (own 14) advertise
+
+  abbrev pub from-f : Column
+  from-f = cond (isNoClass class) (own 13) from-g
+
+  abbrev pub from-e : Column
+  from-e = cond (isTalking (toCell here)) (own 4) from-f
+
+  abbrev pub from-d : Column
+  from-d = cond (eqb (getD said changedPlace 0) 1) (own 16) from-e
+
+  abbrev pub from-c : Column
+  from-c = cond (not (eqb (getD said 0 0) 1)) (failed (beAt 8 said bridgePlace) (getD said codePlace 0)) from-d
+
+  abbrev pub from-b : Column
+  from-b = cond (not (supports (toPort port) class)) none from-c
+
+  abbrev pub from-a : Column
+  from-a = cond (eqb p t) none from-b
+
+  abbrev pub decided : Column
+  decided = firstStep st p (toCell here) (sourceIn t (toCell said))
 
   -- a, no Talker port
   pub no-source : getD said 0 0 ≡ 0 → none ≡ decided
-  unfolding sourceIn stepsFrom first
+  unfolding firstStep sourceIn stepsFrom first outcomeColumn
   no-source e = rw (no-talker said e)
 
-  module _ (port : List ℕ) (there : portAt (toSettings s) p ≡ toPort port) (k : getD said 0 0 ≡ 0 → ⊥) where
-    -- every test as the code asks it
-    steps-asked : decided
-        ≡ cond (eqb p t) none
-        (cond (not (supports (toPort port) class)) none
-        (cond (not (eqb (getD said 0 0) 1)) (failed (beAt 8 said 24) (getD said 32 0))
-        (cond (eqb (getD said 1 0) 1) (own 16)
-        (cond (isTalking (toCell here)) (own 4)
-        (cond (isNoClass class) (own 13)
-        (cond (ltb (beAt 2 port 2) (beAt 2 said 15)) (own 14) advertise))))))
-    unfolding sourceIn stepsFrom first isOne fields cellWidths fixedFrom priorityOf toPort portFrom portWidths
-    steps-asked = rw (a-talker said k, there, octet-field said 0, octet-field said 1, octet-field said 32, failed-asked)
+  pub steps-asked : toPort port ≡ portAt st p → (getD said 0 0 ≡ 0 → ⊥) → decided ≡ from-a
+  unfolding firstStep sourceIn registrationFrom healthOf stepsFrom first outcomeColumn isOne fields fixedFrom priorityOf toPort portFrom
+  steps-asked there k = rw (a-talker said k, ← there, octet-field said 0, octet-field said changedPlace, octet-field said codePlace, failed-asked)
 
-    pub at-the-talker : p ≡ t → none ≡ decided
-    at-the-talker a = sym (steps-asked ∙ rw (eq-eqb p t a))
+-- A place that is no port has column none; a port has what its steps give.
 
-    module _ (a : p ≡ t → ⊥) where
-      pub unsupported : supports (toPort port) class ≡ false → none ≡ decided
-      unsupported b = sym (steps-asked ∙ rw (ne-eqb p t a, b))
+module _ (st : Settings) (p : ℕ) (x : Stream) where
+  pub no-port : length (st .ports) ≤ p → none ≡ earlyColumn st p x
+  unfolding earlyColumn steps first outcomeColumn isPort
+  no-port h = rw (le-ltb p (length (st .ports)) h)
 
-      module _ (b : supports (toPort port) class ≡ true) where
-        pub registered-failed : (getD said 0 0 ≡ 1 → ⊥) → failed (beAt 8 said 24) (getD said 32 0) ≡ decided
-        registered-failed c = sym (steps-asked ∙ rw (ne-eqb p t a, b, ne-eqb (getD said 0 0) 1 c))
-
-        module _ (c : getD said 0 0 ≡ 1) where
-          pub changed-mark : getD said 1 0 ≡ 1 → own 16 ≡ decided
-          changed-mark d = sym (steps-asked ∙ rw (ne-eqb p t a, b, eq-eqb (getD said 0 0) 1 c, eq-eqb (getD said 1 0) 1 d))
-
-          module _ (d : getD said 1 0 ≡ 1 → ⊥) where
-            pub talker-here : (getD here 0 0 ≡ 0 → ⊥) → own 4 ≡ decided
-            talker-here e = sym (steps-asked ∙ rw (ne-eqb p t a, b, eq-eqb (getD said 0 0) 1 c, ne-eqb (getD said 1 0) 1 d, talking here e))
-
-            module _ (e : getD here 0 0 ≡ 0) where
-              pub no-class : isNoClass class ≡ true → own 13 ≡ decided
-              no-class f =
-                  sym (steps-asked ∙ rw (ne-eqb p t a, b, eq-eqb (getD said 0 0) 1 c, ne-eqb (getD said 1 0) 1 d, not-talking here e, f))
-
-              module _ (f : isNoClass class ≡ false) where
-                past-f : decided ≡ cond (ltb (beAt 2 port 2) (beAt 2 said 15)) (own 14) advertise
-                past-f = steps-asked ∙ rw (ne-eqb p t a, b, eq-eqb (getD said 0 0) 1 c, ne-eqb (getD said 1 0) 1 d, not-talking here e, f)
-
-                pub too-large : beAt 2 port 2 < beAt 2 said 15 → own 14 ≡ decided
-                too-large g = sym (past-f ∙ rw (lt-ltb (beAt 2 port 2) (beAt 2 said 15) g))
-
-                pub no-step : beAt 2 said 15 ≤ beAt 2 port 2 → advertise ≡ decided
-                no-step g = sym (past-f ∙ rw (le-ltb (beAt 2 port 2) (beAt 2 said 15) g))
+  pub a-port : p < length (st .ports) → firstStep st p (cellAt x p) (sourceOf x) ≡ earlyColumn st p x
+  unfolding earlyColumn firstStep steps first isPort
+  a-port h = rw (lt-ltb p (length (st .ports)) h)

@@ -1,3 +1,3 @@
 pub mod Stages
 pub mod Answers
-pub mod Records
+pub mod Places

@@ -6,28 +6,37 @@ use mathlib.Core.Bool.{Bool, cond, not, _&&_}
 use Prim.Native.Nat.{ℕ, zero, suc}
 use lib.ListN.{getD, set}
 use Rattle.model.specs.Lists.{keep, tabulate}
-use Rattle.model.specs.State.{Settings, Column, advertise, failed, filters, Declared, nothing, Result, Stream, Totals, Bridge, noTotals, portAt, cellAt, resultAt, Class, noClass, classA, classB, classOf, sameClass, limit}
+use Rattle.model.specs.State.{Settings, Cell, Column, advertise, failed, filters, Declared, nothing, Result, Stream, Totals, Bridge, noTotals, portAt, cellAt, resultAt, Class, noClass, classA, classB, classOf, sameClass, limit}
 use Rattle.model.specs.Registrations.{holding}
 use Rattle.model.specs.Bandwidth.{Claim, demand, rateOf, admitted, total}
-use Rattle.model.specs.Settling.{sourceOf, fixedOf, isSource, registered, isReady, isAdvertise, first, steps, ageOf, latencyOut, entryOf, ageKept, latencyKept, passed, mergeAll}
+use Rattle.model.specs.Settling.{Source, sourceOf, fixedOf, isSource, registered, isReady, isAdvertise, first, outcomeColumn, stepsFrom, steps, ageOf, latencyOut, entryOf, ageKept, latencyKept, passed, mergeAll}
+use Rattle.table.specs.Updates.{resulting}
 
 -- (1)
 
--- the result of a stream on a port where its column is known
-unfoldable pub shownAs : Settings → ℕ → Stream → ℕ → Column → Result
-shownAs st now x p column =
-    let entry = entryOf column (registered (cellAt x p)) in
+-- the result on a port, from its column, latency out and Listener, and from the result that the port had
+abbrev pub shownBy : Column → ℕ → Declared → ℕ → Result → Result
+shownBy column latency heard now old =
+    let entry = entryOf column heard in
     record {
       column = column;
-      latency = latencyKept column (latencyOut st p x);
+      latency = latencyKept column latency;
       entry = entry;
-      age = ageKept entry (ageOf now (resultAt x p));
+      age = ageKept entry (ageOf now old);
       declares = nothing;
     }
 
--- steps a to g, and Advertise where none of them applies
+-- of a stream, where its column is known
+unfoldable pub shownAs : Settings → ℕ → Stream → ℕ → Column → Result
+shownAs st now x p column = shownBy column (latencyOut st p x) (registered (cellAt x p)) now (resultAt x p)
+
+-- steps a to g, and Advertise where none of them applies: on a port, from its cell and the stream's source
+unfoldable pub firstStep : Settings → ℕ → Cell → Source → Column
+firstStep st p here s = first (outcomeColumn st s) (stepsFrom st p here s) advertise
+
+-- and at any place
 unfoldable pub earlyColumn : Settings → ℕ → Stream → Column
-earlyColumn st p x = first (steps st p x) advertise
+earlyColumn st p x = first (outcomeColumn st (sourceOf x)) (steps st p x) advertise
 
 unfoldable pub earlyAt : Settings → ℕ → Stream → ℕ → Result
 earlyAt st now x p = shownAs st now x p (earlyColumn st p x)
@@ -81,7 +90,7 @@ lacking st r = record {
 }
 
 unfoldable pub withResult : ℕ → Result → Stream → Stream
-withResult p r x = record { id = x .id; settled = x .settled; cells = x .cells; results = set (x .results) p r }
+withResult p r = resulting (λ l. set l p r)
 
 -- a stream that waits and is not admitted
 unfoldable pub admit : Settings → ℕ → Class → ℕ → List Claim → Stream → Stream
@@ -124,4 +133,4 @@ unfoldable pub mergedAt : Stream → ℕ → Result
 mergedAt x p = cond (isSource (sourceOf x) p) (declaring (mergedShown x) (resultAt x p)) (resultAt x p)
 
 unfoldable pub merging : Stream → Stream
-merging x = record { id = x .id; settled = x .settled; cells = x .cells; results = tabulate 8 0 (mergedAt x) }
+merging x = resulting (λ l. tabulate 8 0 (mergedAt x)) x

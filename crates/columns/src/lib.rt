@@ -1,129 +1,26 @@
 // Stage 1 of settling: steps a to g, and what a stream shows on a port before bandwidth is shared.
 ghost use mathlib.Core.Path.{_≡_};
-ghost use mathlib.Core.List.{[], _∷_, _++_};
-ghost use Prim.Native.Nat.{_+_, _*_, _≤_, _<_, _^_};
-ghost use lib.ListN.{length, take, drop};
+ghost use mathlib.Core.List.{[], _∷_};
+ghost use Prim.Native.Nat.{_<_, _^_};
+ghost use lib.ListN.{length};
 ghost use Rattle.octets.specs.Fields.{packed};
-ghost use Rattle.octets.specs.Parts.{part, patch};
+ghost use Rattle.octets.specs.Parts.{patch};
+ghost use Rattle.model.specs.Layout.{entryPlace, portSize, resultSize};
 ghost use Rattle.model.specs.State as state;
-ghost use Rattle.model.specs.State.{classOf, isNoClass, classLatency, portAt, advertise, failed};
-ghost use Rattle.model.specs.Bandwidth as bandwidth;
-ghost use Rattle.model.specs.Settling.{sourceOf, first, stepsFrom, ageOf, entryOf, ageKept};
-ghost use Rattle.model.specs.Table.{toPort, toSettings, toCell, toStream, toResult, toEntry, toDeclared, entryNumber, resultOctets, encode, decode};
-ghost use Rattle.model.specs.Laid.{LaidCell, Laid};
-ghost use Rattle.columns.specs.Stages.{earlyColumn, early, earlyAll};
-ghost use Rattle.columns.specs.Answers.{toFixed, classShown, columnShown, sourcePlace, talkerPlace, sourceIn, latencyBy, shownBy, columnWidths, columnNumbers, entryWidths};
-ghost use Rattle.columns.specs.Records.{LaidAt, changedAt, earlyOne, earlyTo};
+ghost use Rattle.model.specs.State.{isNoClass, classLatency, cellAt, failed};
+ghost use Rattle.model.specs.Settling.{fixedOf, ageOf, latencyOut, entryOf, ageKept};
+ghost use Rattle.model.specs.Table.{toPort, toCell, toResult, toEntry, toDeclared, entryNumber, resultOctets, encode, decode};
+ghost use Rattle.model.specs.Laid.{Laid};
+ghost use Rattle.table.specs.Updates.{streamAt, withSettled};
+ghost use Rattle.table.specs.Places.{Stands, StandsOn};
+ghost use Rattle.streams.specs.Answers.{classShown, sourceIn};
+ghost use Rattle.columns.specs.Stages.{shownBy, firstStep, earlyColumn, early, earlyAll};
+ghost use Rattle.columns.specs.Answers.{columnShown, columnWidths, columnNumbers, entryWidths, entrySize};
+ghost use Rattle.columns.specs.Places.{Asked, TalkerAt, changedAt, earlyOne, earlyTo};
+use streams::ClassRead;
 use table::cell;
 use table::port;
 use table::result;
-
-// A Talker's fixed values, destination to rank: how many octets they are, where those of the first cell stand in a record, and
-// where TSpec stands among them.
-const FIXED: usize = table::CELLS - table::SETTLED;
-
-const TALKER_FIXED: usize = table::CELLS + cell::DESTINATION;
-
-const FRAME_SIZE: usize = cell::FRAME_SIZE - cell::DESTINATION;
-
-const FRAMES: usize = cell::FRAMES - cell::DESTINATION;
-
-// A demand in octets per interval of a class.
-pub struct PerInterval(pub u64);
-
-// A rate in bits per second.
-pub struct PerSecond(pub u64);
-
-// The demand of a stream on a port, from its fixed values and the port's settings: doubled where the port sends twice.
-pub fn demand(port: &[u8], fixed: &[u8]) -> PerInterval
-    requires { ⌜ (length (now port) ≡ 22) × (length (now fixed) ≡ 13) ⌝ }
-    ensures { λ r. ⌜ (r .0 ≡ bandwidth.demand (toPort (now (port .entry))) (toFixed (now (fixed .entry))) .octets) × (r .0 < 2 ^ 34) ⌝ }
-{
-    let size = octets::get(fixed, FRAME_SIZE, 2);
-    let frames = octets::get(fixed, FRAMES, 2);
-    let overhead = octets::get(port, port::OVERHEAD, 1);
-    let flags = octets::get(port, port::FLAGS, 1);
-    let once = (size + overhead + 1) * frames;
-    if flags / 32 % 2 == 1 {
-        PerInterval(once * 2)
-    } else {
-        PerInterval(once)
-    }
-}
-
-// One rule for both classes, by the intervals in a second.
-fn rate(intervals: u64, d: PerInterval) -> PerSecond
-    requires { ⌜ (d .0 < 2 ^ 34) × (intervals ≤ 8000) ⌝ }
-    ensures { λ r. ⌜ (r .0 ≡ bandwidth.rate intervals (record { octets = d .0 }) .bits) × (r .0 < 2 ^ 50) ⌝ }
-{
-    PerSecond(d.0 * 8 * intervals)
-}
-
-pub fn rate_of_a(d: PerInterval) -> PerSecond
-    requires { ⌜ d .0 < 2 ^ 34 ⌝ }
-    ensures { λ r. ⌜ (r .0 ≡ bandwidth.rateOfA (record { octets = d .0 }) .bits) × (r .0 < 2 ^ 50) ⌝ }
-{
-    rate(8000, d)
-}
-
-pub fn rate_of_b(d: PerInterval) -> PerSecond
-    requires { ⌜ d .0 < 2 ^ 34 ⌝ }
-    ensures { λ r. ⌜ (r .0 ≡ bandwidth.rateOfB (record { octets = d .0 }) .bits) × (r .0 < 2 ^ 50) ⌝ }
-{
-    rate(4000, d)
-}
-
-// The class of a priority, by the settings' first 11 octets.
-pub enum ClassRead {
-    NoClass,
-    A,
-    B,
-}
-
-pub fn class_of(head: &[u8], priority: u64) -> ClassRead
-    requires { ⌜ 11 ≤ length (now head) ⌝ }
-    ensures { λ r. ⌜ classShown r ≡ classOf (toSettings (now (head .entry))) priority ⌝ }
-{
-    let word = octets::get(head, table::HEAD, 3);
-    if priority == word / 131072 % 8 {
-        return ClassRead::A;
-    }
-    if priority == word / 16384 % 8 {
-        return ClassRead::B;
-    }
-    ClassRead::NoClass
-}
-
-// The Talker port of a stream: the lowest place with a Talker registration.
-pub enum SourceRead {
-    Nowhere,
-    Port(usize),
-}
-
-pub fn source(rec: &[u8]) -> SourceRead
-    requires { ⌜ length (now rec) ≡ 493 ⌝ }
-    ensures { λ r. ⌜ r ≡ sourcePlace (sourceOf (toStream (now (rec .entry)))) ⌝ }
-{
-    let mut p: usize = 0;
-    while p < 8 {
-        if rec[table::CELLS + p * table::CELL] != 0 {
-            return SourceRead::Port(p);
-        }
-        p += 1;
-    }
-    SourceRead::Nowhere
-}
-
-// Its place, or 0 where no place has a Talker.
-pub fn talker_place(rec: &[u8]) -> usize
-    requires { ⌜ length (now rec) ≡ 493 ⌝ }
-    ensures { λ r. ⌜ (r ≡ talkerPlace (sourceOf (toStream (now (rec .entry))))) × (r < 8) ⌝ }
-{
-    match source(rec) {
-        SourceRead::Port(t) => t,
-        SourceRead::Nowhere => 0,
-    }
-}
 
 // What a stream's column on a port is: none, Advertise, or Failed with a Bridge ID and a code.
 pub enum ColumnRead {
@@ -133,11 +30,11 @@ pub enum ColumnRead {
 }
 
 // An own failure carries this Bridge ID.
-fn own(settings: &[u8], code: u8) -> ColumnRead
-    requires { ⌜ 11 ≤ length (now settings) ⌝ }
-    ensures { λ r. ⌜ columnShown r ≡ failed (toSettings (now (settings .entry)) .bridgeId) code ⌝ }
+fn own(table: &[u8], code: u8) -> ColumnRead
+    requires { ⌜ Laid (now table) ⌝ }
+    ensures { λ r. ⌜ columnShown r ≡ failed (decode (now (table .entry)) .settings .bridgeId) code ⌝ }
 {
-    ColumnRead::Failed(octets::get(settings, 0, 8), code)
+    ColumnRead::Failed(table::bridge_id(table), code)
 }
 
 fn no_class(class: ClassRead) -> bool
@@ -152,7 +49,7 @@ fn no_class(class: ClassRead) -> bool
 
 // Whether a port supports a class; a priority that is no class is not one that it fails to support.
 fn supports(port: &[u8], class: ClassRead) -> bool
-    requires { ⌜ length (now port) ≡ 22 ⌝ }
+    requires { ⌜ length (now port) ≡ portSize ⌝ }
     ensures { λ r. ⌜ r ≡ state.supports (toPort (now (port .entry))) (classShown class) ⌝ }
 {
     let flags = octets::get(port, port::FLAGS, 1);
@@ -166,17 +63,16 @@ fn supports(port: &[u8], class: ClassRead) -> bool
 // Steps a to g on the port at place p, whose cell is here, for the Talker registered at place t: the first that applies,
 // Advertise where none does.
 fn first_step(
-    settings: &[u8],
+    table: &[u8],
     port: &[u8],
     here: &[u8],
     talker: &[u8],
     p: usize,
     t: usize,
 ) -> ColumnRead
-    requires { ⌜ (11 ≤ length (now settings)) × (length (now port) ≡ 22) × (length (now here) ≡ 39) × (length (now talker) ≡ 39)
-        × (portAt (toSettings (now settings)) p ≡ toPort (now port)) ⌝ }
-    ensures { λ r. ⌜ columnShown r ≡ first (stepsFrom (toSettings (now (settings .entry))) p (toCell (now (here .entry)))
-        (sourceIn t (toCell (now (talker .entry))))) advertise ⌝ }
+    requires { ⌜ Asked (now table) (now port) (now here) (now talker) p ⌝ }
+    ensures { λ r. ⌜ columnShown r ≡ firstStep (decode (now (table .entry)) .settings) p (toCell (now (here .entry)))
+        (sourceIn t (toCell (now (talker .entry)))) ⌝ }
 {
     let kind = talker[cell::TALKER];
     let mark = talker[cell::CHANGED];
@@ -186,7 +82,7 @@ fn first_step(
     if p == t {
         return ColumnRead::None;
     }
-    let class = class_of(settings, octets::get(talker, cell::PRIORITY, 1) / 32);
+    let class = streams::class_of(table, octets::get(talker, cell::PRIORITY, 1) / 32);
     if !supports(port, class) {
         return ColumnRead::None;
     }
@@ -194,44 +90,37 @@ fn first_step(
         return ColumnRead::Failed(octets::get(talker, cell::BRIDGE_ID, 8), talker[cell::CODE]);
     }
     if mark == 1 {
-        return own(settings, 16);
+        return own(table, 16);
     }
     if here[cell::TALKER] != 0 {
-        return own(settings, 4);
+        return own(table, 4);
     }
     if no_class(class) {
-        return own(settings, 13);
+        return own(table, 13);
     }
     if octets::get(port, port::LARGEST, 2) < octets::get(talker, cell::FRAME_SIZE, 2) {
-        return own(settings, 14);
+        return own(table, 14);
     }
     ColumnRead::Advertise
 }
 
-// The column of a stream on the port at place p before bandwidth is shared, where t is its Talker's place.
-pub fn early_column(settings: &[u8], rec: &[u8], p: usize, t: usize) -> ColumnRead
-    requires { ⌜ (length (now settings) ≡ 187) × (length (now rec) ≡ 493) × (p < 8) × (t < 8) × (t ≡ talkerPlace (sourceOf (toStream (now rec)))) ⌝ }
-    ensures { λ r. ⌜ columnShown r ≡ earlyColumn (toSettings (now (settings .entry))) p (toStream (now (rec .entry))) ⌝ }
+// The column of stream k on the port at place p before bandwidth is shared, where t is its Talker's place.
+fn early_column(table: &[u8], k: usize, p: usize, t: usize) -> ColumnRead
+    requires { ⌜ TalkerAt (now table) k t × (p < 8) ⌝ }
+    ensures { λ r. ⌜ columnShown r ≡ earlyColumn (decode (now (table .entry)) .settings) p (streamAt k (decode (now (table .entry)))) ⌝ }
 {
-    if octets::get(settings, table::HEAD, 3) / 1048576 <= (p as u64) {
+    if table::ports(table) <= p {
         return ColumnRead::None;
     }
-    let q = table::PORTS + p * table::PORT;
-    let h = table::CELLS + p * table::CELL;
-    let s = table::CELLS + t * table::CELL;
-    first_step(
-        settings,
-        &settings[q..q + table::PORT],
-        &rec[h..h + table::CELL],
-        &rec[s..s + table::CELL],
-        p,
-        t,
-    )
+    let port = table::port_at(table, p);
+    let here = table::cell_at(table, k, p);
+    let talker = table::cell_at(table, k, t);
+    first_step(table, port, here, talker, p, t)
 }
 
 // A port's latency of a class, in nanoseconds; 0 without a class.
 fn class_latency(port: &[u8], class: ClassRead) -> u64
-    requires { ⌜ length (now port) ≡ 22 ⌝ }
+    requires { ⌜ length (now port) ≡ portSize ⌝ }
     ensures { λ r. ⌜ (r ≡ classLatency (toPort (now (port .entry))) (classShown class)) × (r < 2 ^ 32) ⌝ }
 {
     match class {
@@ -241,13 +130,15 @@ fn class_latency(port: &[u8], class: ClassRead) -> u64
     }
 }
 
-// Latency out of a port, at most 2^32 - 1, from the cell of the Talker.
-fn latency_out(settings: &[u8], port: &[u8], talker: &[u8]) -> u64
-    requires { ⌜ (11 ≤ length (now settings)) × (length (now port) ≡ 22) × (length (now talker) ≡ 39) × LaidCell (now talker) ⌝ }
-    ensures { λ r. ⌜ r ≡ latencyBy (toSettings (now (settings .entry))) (toPort (now (port .entry))) (toCell (now (talker .entry))) ⌝ }
+// Latency of stream k out of the port at place p, at most 2^32 - 1, where t is its Talker's place.
+fn latency_out(table: &[u8], k: usize, p: usize, t: usize) -> u64
+    requires { ⌜ TalkerAt (now table) k t × (p < 8) ⌝ }
+    ensures { λ r. ⌜ r ≡ latencyOut (decode (now (table .entry)) .settings) p (streamAt k (decode (now (table .entry)))) ⌝ }
 {
-    let class = class_of(settings, octets::get(talker, cell::PRIORITY, 1) / 32);
-    let sum = octets::get(talker, cell::LATENCY, 4) + class_latency(port, class);
+    let talker = table::cell_at(table, k, t);
+    let class = streams::class_of(table, octets::get(talker, cell::PRIORITY, 1) / 32);
+    let sum = octets::get(talker, cell::LATENCY, 4)
+        + class_latency(table::port_at(table, p), class);
     if 4294967295 < sum {
         return 4294967295;
     }
@@ -277,7 +168,7 @@ fn entry_of(column: ColumnRead, listener: u64) -> u64
 
 // The second that an entry's age is counted from: that of the result before, or this one where there was no entry.
 fn age_of(result: &[u8], entry: u64, time: u32) -> u64
-    requires { ⌜ length (now result) ≡ 20 ⌝ }
+    requires { ⌜ length (now result) ≡ resultSize ⌝ }
     ensures { λ r. ⌜ r ≡ ageKept (toEntry entry) (ageOf time (toResult (now (result .entry)))) ⌝ }
 {
     if entry == 0 {
@@ -291,8 +182,8 @@ fn age_of(result: &[u8], entry: u64, time: u32) -> u64
 
 // The fields of a result's column: its kind, latency out, Bridge ID and code.
 fn store_column(result: &mut [u8], kind: u64, latency: u64, bridge: u64, code: u64)
-    requires { ⌜ length (now result) ≡ 20 ⌝ }
-    ensures { λ _. ⌜ now (result .exit) ≡ packed columnWidths (kind ∷ latency ∷ bridge ∷ code ∷ []) ++ drop 14 (now (result .entry)) ⌝ }
+    requires { ⌜ length (now result) ≡ resultSize ⌝ }
+    ensures { λ _. ⌜ now (result .exit) ≡ patch 0 entryPlace (packed columnWidths (kind ∷ latency ∷ bridge ∷ code ∷ [])) (now (result .entry)) ⌝ }
 {
     octets::put(result, result::COLUMN, 1, kind);
     octets::put(result, result::LATENCY, 4, latency);
@@ -301,8 +192,8 @@ fn store_column(result: &mut [u8], kind: u64, latency: u64, bridge: u64, code: u
 }
 
 fn write_column(result: &mut [u8], column: ColumnRead, latency: u64)
-    requires { ⌜ length (now result) ≡ 20 ⌝ }
-    ensures { λ _. ⌜ now (result .exit) ≡ packed columnWidths (columnNumbers (columnShown column) latency) ++ drop 14 (now (result .entry)) ⌝ }
+    requires { ⌜ length (now result) ≡ resultSize ⌝ }
+    ensures { λ _. ⌜ now (result .exit) ≡ patch 0 entryPlace (packed columnWidths (columnNumbers (columnShown column) latency)) (now (result .entry)) ⌝ }
 {
     match column {
         ColumnRead::None => store_column(result, 0, 0, 0, 0),
@@ -313,8 +204,8 @@ fn write_column(result: &mut [u8], column: ColumnRead, latency: u64)
 
 // The fields of a result's entry, which declares no Listener yet.
 fn write_entry(result: &mut [u8], entry: u64, age: u64)
-    requires { ⌜ length (now result) ≡ 20 ⌝ }
-    ensures { λ _. ⌜ now (result .exit) ≡ take 14 (now (result .entry)) ++ packed entryWidths (entry ∷ age ∷ 0 ∷ []) ⌝ }
+    requires { ⌜ length (now result) ≡ resultSize ⌝ }
+    ensures { λ _. ⌜ now (result .exit) ≡ patch entryPlace entrySize (packed entryWidths (entry ∷ age ∷ 0 ∷ [])) (now (result .entry)) ⌝ }
 {
     octets::put(result, result::ENTRY, 1, entry);
     octets::put(result, result::AGE, 4, age);
@@ -323,7 +214,7 @@ fn write_entry(result: &mut [u8], entry: u64, age: u64)
 
 // What a stream shows on a port, in the place of what it showed.
 fn write_result(result: &mut [u8], column: ColumnRead, latency: u64, listener: u64, time: u32)
-    requires { ⌜ length (now result) ≡ 20 ⌝ }
+    requires { ⌜ length (now result) ≡ resultSize ⌝ }
     ensures { λ _. ⌜ now (result .exit) ≡ resultOctets (shownBy (columnShown column) latency (toDeclared listener) time (toResult (now (result .entry)))) ⌝ }
 {
     let entry = entry_of(column, listener);
@@ -332,22 +223,15 @@ fn write_result(result: &mut [u8], column: ColumnRead, latency: u64, listener: u
     write_entry(result, entry, age);
 }
 
-// What a stream shows on the port at place p; its record stands at a, and its Talker's place is t.
-fn early_at(table: &mut [u8], a: usize, p: usize, t: usize, time: u32)
-    requires { ⌜ LaidAt a (now table) × (p < 8) × (t < 8) × (t ≡ talkerPlace (sourceOf (toStream (part a 493 (now table))))) ⌝ }
-    ensures { λ _. ⌜ now (table .exit) ≡ changedAt a (earlyOne p time) (now (table .entry)) ⌝ }
+// What stream k shows on the port at place p, where t is its Talker's place.
+fn early_at(table: &mut [u8], k: usize, p: usize, t: usize, time: u32)
+    requires { ⌜ TalkerAt (now table) k t × (p < 8) ⌝ }
+    ensures { λ _. ⌜ now (table .exit) ≡ encode (changedAt k (earlyOne p time) (decode (now (table .entry)))) ⌝ }
 {
-    let q = table::PORTS + p * table::PORT;
-    let h = a + table::CELLS + p * table::CELL;
-    let s = a + table::CELLS + t * table::CELL;
-    let r = a + table::RESULTS + p * table::RESULT;
-    let column = early_column(&table[0..table::CLOCK], &table[a..a + table::RECORD], p, t);
-    let latency = latency_out(
-        &table[0..table::CLOCK],
-        &table[q..q + table::PORT],
-        &table[s..s + table::CELL],
-    );
-    let listener = octets::get(table, h + cell::LISTENER, 1);
+    let column = early_column(table, k, p, t);
+    let latency = latency_out(table, k, p, t);
+    let listener = octets::get(table::cell_at(table, k, p), cell::LISTENER, 1);
+    let r = table::result_in(table, k, p);
     write_result(
         &mut table[r..r + table::RESULT],
         column,
@@ -357,41 +241,37 @@ fn early_at(table: &mut [u8], a: usize, p: usize, t: usize, time: u32)
     );
 }
 
-// The fixed values of the Talker in the cell at from, as the settled values of its record.
-fn copy_fixed(rec: &mut [u8], from: usize)
-    requires { ⌜ (length (now rec) ≡ 493) × (21 ≤ from) × (from + 13 ≤ 493) ⌝ }
-    ensures { λ _. ⌜ now (rec .exit) ≡ patch 8 13 (part from 13 (now (rec .entry))) (now (rec .entry)) ⌝ }
+// The fixed values that stream k has registered at place t, zeros without a Talker there, as its settled values.
+fn copy_fixed(table: &mut [u8], k: usize, t: usize)
+    requires { ⌜ StandsOn (now table) k t ⌝ }
+    ensures { λ _. ⌜ now (table .exit)
+        ≡ encode (withSettled k (fixedOf (sourceIn t (cellAt (streamAt k (decode (now (table .entry)))) t))) (decode (now (table .entry)))) ⌝ }
 {
-    let mut i: usize = FIXED;
-    while 0 < i {
-        i -= 1;
-        rec[table::SETTLED + i] = rec[from + i];
-    }
+    let from = table::cell_in(table, k, t) + cell::DESTINATION;
+    let to = table::settled_in(table, k);
+    table::move_down(table, to, from - to, table::FIXED);
 }
 
-// What a stream shows on each of the eight places.
-fn early_places(table: &mut [u8], a: usize, t: usize, time: u32)
-    requires { ⌜ LaidAt a (now table) × (t < 8) × (t ≡ talkerPlace (sourceOf (toStream (part a 493 (now table))))) ⌝ }
-    ensures { λ _. ⌜ now (table .exit) ≡ changedAt a (earlyTo 8 time) (now (table .entry)) ⌝ }
+// What stream k shows on each of the eight places.
+fn early_places(table: &mut [u8], k: usize, t: usize, time: u32)
+    requires { ⌜ TalkerAt (now table) k t ⌝ }
+    ensures { λ _. ⌜ now (table .exit) ≡ encode (changedAt k (earlyTo 8 time) (decode (now (table .entry)))) ⌝ }
 {
     let mut p: usize = 0;
     while p < 8 {
-        early_at(table, a, p, t, time);
+        early_at(table, k, p, t, time);
         p += 1;
     }
 }
 
-// A stream's settled values, and what it shows on every port before bandwidth is shared.
-fn early_record(table: &mut [u8], a: usize, time: u32)
-    requires { ⌜ LaidAt a (now table) ⌝ }
-    ensures { λ _. ⌜ now (table .exit) ≡ changedAt a (λ st. early st time) (now (table .entry)) ⌝ }
+// The settled values of stream k, and what it shows on every port before bandwidth is shared.
+fn early_record(table: &mut [u8], k: usize, time: u32)
+    requires { ⌜ Stands (now table) k ⌝ }
+    ensures { λ _. ⌜ now (table .exit) ≡ encode (changedAt k (λ st. early st time) (decode (now (table .entry)))) ⌝ }
 {
-    let t = talker_place(&table[a..a + table::RECORD]);
-    copy_fixed(
-        &mut table[a..a + table::RECORD],
-        TALKER_FIXED + t * table::CELL,
-    );
-    early_places(table, a, t, time);
+    let t = streams::talker_place(table, k);
+    copy_fixed(table, k, t);
+    early_places(table, k, t, time);
 }
 
 // Stage 1 for every stream held.
@@ -402,7 +282,7 @@ pub fn early_all(table: &mut [u8], time: u32)
     let count = table::count(table);
     let mut k: usize = 0;
     while k < count {
-        early_record(table, table::RECORDS + k * table::RECORD, time);
+        early_record(table, k, time);
         k += 1;
     }
 }

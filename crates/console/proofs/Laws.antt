@@ -1,14 +1,22 @@
--- A text put into a line. Assumes nothing.
-use Prim.Native.Nat.{ℕ, _+_, _-_, min}
-use mathlib.Core.Path.{_≡_, _∙_}
-use mathlib.Core.List.{List, _++_}
+-- A text put into a line, and texts put one behind the other. Assumes nothing.
+use Prim.Native.Nat.{ℕ, zero, suc, _+_, _-_, _^_, _≤_, _<_, min}
+use native.Mathlib.Nat.{add-assoc, pow-le-pow-right}
+use native.Mathlib.Numerals.{add-one}
 use native.Mathlib.Omega.{arith}
-use lib.ListN.{length, take, drop}
-use lib.Seq.{length-take-le}
+use mathlib.Core.Path.{_≡_, refl, sym, ap, _∙_}
+use mathlib.Core.Bool.{Bool, true, false}
+use mathlib.Core.List.{List, [], _∷_, _++_, append-nil}
+use lib.ListN.{length, getD, take, drop, length-append}
+use lib.Seq.{length-take-le, take-suc}
+use lib.Dec.{ltb}
+use borrow.Author.Tests.{ltb-true, ltb-false}
 use Rattle.octets.specs.Parts.{over}
-use Rattle.octets.proofs.Parts.{lent, length-patch}
+use Rattle.octets.specs.Fields.{flat}
+use Rattle.octets.proofs.Parts.{lent, length-patch, patch-none}
+use Rattle.octets.proofs.Patches.{patch-next}
+use Rattle.octets.proofs.Fields.{flat-append}
 use Rattle.io.specs.Digits.{digits, Fewest}
-use Rattle.console.specs.Text.{startOf, fitting, putIn, Put, PutNumber}
+use Rattle.console.specs.Text.{startOf, fitting, putIn, Put}
 
 -- what copying the part of a text that fits into the part of the line behind its start leaves
 pub put-made : (line text y : List ℕ) (at from n : ℕ) → from ≡ min at (length line) → n ≡ min (length text) (length line - from) → y ≡ take (n - 0) text
@@ -18,9 +26,77 @@ put-made line text y at from n a b e =
     let l : length (take n text) ≡ n = length-take-le n text (omega arith) in
     let z : n - 0 ≡ n = omega arith in
     let w = lent from n (λ _. take n text) line y (e ∙ rw z) in
-    (rw (← a, ← b), w ∙ rw (← a, ← b), rw (w, length-patch from n (take n text) line l (omega arith)) (omega arith))
+    record {
+      end-is = rw (← a, ← b);
+      line-is = w ∙ rw (← a, ← b);
+      within = rw (w, length-patch from n (take n text) line l (omega arith)) (omega arith);
+    }
 
--- what putting a number's digits leaves
-pub number-put : (base least n k : ℕ) (text line : List ℕ) (at end : ℕ) (after : List ℕ) → Fewest base least n k → text ≡ digits base k n
-    → Put line at text end after → PutNumber base least n line at end after
-number-put base least n k text line at end after f e p = (k, f, rw (← e) p)
+-- nothing
+pub put-none : (line : List ℕ) (at from : ℕ) → from ≡ min at (length line) → Put line at [] from line
+unfolding startOf fitting putIn
+put-none line at from e =
+    let z : min 0 (length line - min at (length line)) ≡ 0 = omega arith in
+    record { end-is = omega arith; line-is = rw z (sym (patch-none (min at (length line)) line)); within = omega arith }
+
+take-both : (x y : List ℕ) (n k : ℕ) → n ≤ length x → (n < length x → k ≡ 0) → take (n + k) (x ++ y) ≡ take n x ++ take k y
+take-both [] y zero k h z = let e : 0 + k ≡ k = omega arith in rw e
+take-both [] y (suc n) k h z = absurd (omega arith)
+take-both (a ∷ x) y zero k h z = rw (z (omega arith))
+take-both (a ∷ x) y (suc n) k h z =
+    let e : suc n + k ≡ suc (n + k) = omega arith in
+    rw e (ap (λ (l : List ℕ). a ∷ l) (take-both x y n k (omega arith) (λ g. z (omega arith))))
+
+-- what fits of a octets behind s of l, and then of b
+starts-within : (e l : ℕ) → e ≤ l → min e l ≡ e
+starts-within e l h = omega arith
+
+fits-of : (a r : ℕ) → min a r ≤ a
+fits-of a r = omega arith
+
+ends-within : (at l a : ℕ) → min at l + min a (l - min at l) ≤ l
+ends-within at l a = omega arith
+
+fit-both : (a b l s : ℕ) → min (a + b) (l - s) ≡ min a (l - s) + min b (l - (s + min a (l - s)))
+fit-both a b l s = omega arith
+
+none-behind : (a b l s : ℕ) → min a (l - s) < a → min b (l - (s + min a (l - s))) ≡ 0
+none-behind a b l s h = omega arith
+
+-- a text, and another behind it
+pub put-append : {b m c x y : List ℕ} {at e f : ℕ} → Put b at x e m → Put m e y f c → Put b at (x ++ y) f c
+unfolding startOf fitting putIn
+put-append {b = b} {m = m} {x = x} {y = y} {at = at} {e = e} p q =
+    let l = length b in
+    let s : ℕ = min at l in
+    let n : ℕ = min (length x) (l - s) in
+    let k : ℕ = min (length y) (l - (s + n)) in
+    let room = ends-within at l (length x) in
+    let long = length-take-le n x (fits-of (length x) (l - s)) in
+    let same : length m ≡ l = ap length (p .line-is) ∙ length-patch s n (take n x) b long room in
+    let here : min e (length m) ≡ s + n = rw (p .end-is, same) (starts-within (s + n) l room) in
+    let both = fit-both (length x) (length y) l s in
+    record {
+      end-is = q .end-is ∙ rw (here, same, length-append x y, both) (add-assoc s n k);
+      line-is =
+          q .line-is
+          ∙ rw (here, same, length-append x y, both, p .line-is, take-both x y n k (fits-of (length x) (l - s)) (none-behind (length x) (length y) l s))
+          (patch-next s n k (take n x) (take k y) b long room);
+      within = q .within;
+    }
+
+-- the digits of one octet more
+pub octets-more : (s : List ℕ) (i : ℕ) → i < length s → flat (digits 16 2) (take i s) ++ digits 16 2 (getD s i 0) ≡ flat (digits 16 2) (take (i + 1) s)
+unfolding flat
+octets-more s i h = sym (rw (add-one i, take-suc s i 0 h) (flat-append (digits 16 2) (take i s) (getD s i 0 ∷ []) ∙ rw (append-nil (digits 16 2 (getD s i 0)))))
+
+-- a number that so many digits hold has no more
+pub fixed-width : (base width n k : ℕ) → 0 < base → n < base ^ width → Fewest base width n k → k ≡ width
+fixed-width base width n k some h f = go (ltb width k) refl
+  where
+    go : (b : Bool) → ltb width k ≡ b → k ≡ width
+    go true e =
+        let more = ltb-true width k e in
+        let fits : width ≤ k - 1 = omega (arith, more) in
+        absurd (omega (arith, f .2 more, pow-le-pow-right some fits))
+    go false e = omega (arith, ltb-false width k e, f .0)

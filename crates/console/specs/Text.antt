@@ -18,10 +18,14 @@ fitting line at text = min (length text) (length line - startOf line at)
 unfoldable pub putIn : List ℕ → ℕ → List ℕ → List ℕ
 putIn line at text = patch (startOf line at) (fitting line at text) (take (fitting line at text) text) line
 
--- end and line are what putting a text leaves
-abbrev pub Put : List ℕ → ℕ → List ℕ → ℕ → List ℕ → Type 0
-Put before at text end after = (end ≡ startOf before at + fitting before at text) × (after ≡ putIn before at text) × (end ≤ length after)
+-- what putting a text leaves
+pub record Put (before : List ℕ) (at : ℕ) (text : List ℕ) (end : ℕ) (after : List ℕ) : Type 0 where
+  pub end-is : end ≡ startOf before at + fitting before at text
+  pub line-is : after ≡ putIn before at text
+  pub within : end ≤ length after
 
--- they are what putting a number leaves, in a base, with zeros in front of it up to so many digits
-abbrev pub PutNumber : ℕ → ℕ → ℕ → List ℕ → ℕ → ℕ → List ℕ → Type 0
-PutNumber base least n before at end after = (k : ℕ) × (Fewest base least n k) × (Put before at (digits base k n) end after)
+-- what putting a text leaves in which the decimal digits of a number stand
+pub record PutDecimal (n : ℕ) (text : List ℕ → List ℕ) (before : List ℕ) (at end : ℕ) (after : List ℕ) : Type 0 where
+  pub count : ℕ
+  pub fewest : Fewest 10 1 n count
+  pub puts : Put before at (text (digits 10 count n)) end after

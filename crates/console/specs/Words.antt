@@ -1,12 +1,13 @@
 -- The words of a report, as octets. Assumes nothing.
 use Prim.Native.Nat.{ℕ}
-use mathlib.Core.List.{List, [], _∷_}
-use Rattle.declarations.specs.declared.ColumnShown.{ColumnShown}
-use Rattle.declarations.specs.declared.ColumnShown.the-variants as column
-use Rattle.declarations.specs.declared.ListenerShown.{ListenerShown}
-use Rattle.declarations.specs.declared.ListenerShown.the-variants as listener
-use Rattle.declarations.specs.declared.EntryShown.{EntryShown}
-use Rattle.declarations.specs.declared.EntryShown.the-variants as entry
+use mathlib.Core.List.{List, [], _∷_, _++_}
+use Rattle.reports.specs.declared.ColumnShown.{ColumnShown}
+use Rattle.reports.specs.declared.ColumnShown.the-variants as column
+use Rattle.reports.specs.declared.ListenerShown.{ListenerShown}
+use Rattle.reports.specs.declared.ListenerShown.the-variants as listener
+use Rattle.reports.specs.declared.EntryShown.{EntryShown}
+use Rattle.reports.specs.declared.EntryShown.the-variants as entry
+use Rattle.reports.specs.declared.Reported.{Reported}
 
 -- none, advertise, failed
 unfoldable pub columnText : ColumnShown → List ℕ
@@ -26,3 +27,11 @@ unfoldable pub entryText : EntryShown → List ℕ
 entryText entry.None = 110 ∷ 111 ∷ 110 ∷ 101 ∷ []
 entryText entry.Filter = 102 ∷ 105 ∷ 108 ∷ 116 ∷ 101 ∷ 114 ∷ []
 entryText entry.Forward = 102 ∷ 111 ∷ 114 ∷ 119 ∷ 97 ∷ 114 ∷ 100 ∷ []
+
+-- column and code of a report, a space before each, with the code's digits
+unfoldable pub talkerText : Reported → List ℕ → List ℕ
+talkerText r code = (32 ∷ columnText (r .column)) ++ (32 ∷ code)
+
+-- and Listener and entry
+unfoldable pub shownText : Reported → List ℕ → List ℕ
+shownText r code = (talkerText r code ++ (32 ∷ listenerText (r .listener))) ++ (32 ∷ entryText (r .entry))

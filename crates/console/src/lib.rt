@@ -1,18 +1,22 @@
 // Lines of text, built in octets that the caller lends and written by one call each. None of these asks anything of its
-// arguments: a place past the end of the line counts as the end, and what does not fit is left out.
-use declarations::ColumnShown;
-use declarations::EntryShown;
-use declarations::ListenerShown;
-use declarations::Reported;
+// arguments: an `at` past the end of the line counts as the end, and what does not fit is left out.
 use libc::STDOUT_FILENO;
+use reports::ColumnShown;
+use reports::EntryShown;
+use reports::ListenerShown;
+use reports::Reported;
 ghost use mathlib.Core.Path.{_≡_};
+ghost use mathlib.Core.Bool.{false};
+ghost use mathlib.Core.List.{_∷_};
 ghost use Prim.Native.Nat.{_≤_, min};
-ghost use lib.ListN.{length};
-ghost use Rattle.console.specs.Text.{Put, PutNumber};
-ghost use Rattle.console.specs.Words.{columnText, listenerText, entryText};
+ghost use lib.ListN.{length, set};
+ghost use Rattle.octets.specs.Fields.{flat};
+ghost use Rattle.io.specs.Digits.{digits};
+ghost use Rattle.console.specs.Text.{Put, PutDecimal};
+ghost use Rattle.console.specs.Words.{columnText, listenerText, entryText, talkerText, shownText};
 
 // The lesser of two numbers.
-fn least(a: usize, b: usize) -> usize
+pub fn least(a: usize, b: usize) -> usize
     ensures { λ r. ⌜ (r ≡ min a b) × (r ≤ a) × (r ≤ b) ⌝ }
 {
     if a < b { a } else { b }
@@ -31,7 +35,7 @@ pub fn put(line: &mut [u8], at: usize, text: &[u8]) -> usize
 
 // A number in decimal.
 pub fn put_decimal(line: &mut [u8], at: usize, n: u64) -> usize
-    ensures { λ r. ⌜ PutNumber 10 1 n (now (line .entry)) at r (now (line .exit)) ⌝ }
+    ensures { λ r. ⌜ PutDecimal n (λ t. t) (now (line .entry)) at r (now (line .exit)) ⌝ }
 {
     let mut text = [0u8; 20];
     let k = io::decimal(n, &mut text);
@@ -39,14 +43,16 @@ pub fn put_decimal(line: &mut [u8], at: usize, n: u64) -> usize
 }
 
 // A space, and a number in decimal behind it.
-pub fn put_number(line: &mut [u8], at: usize, n: u64) -> usize {
+pub fn put_number(line: &mut [u8], at: usize, n: u64) -> usize
+    ensures { λ r. ⌜ PutDecimal n (λ t. 32 ∷ t) (now (line .entry)) at r (now (line .exit)) ⌝ }
+{
     let a = put(line, at, b" ");
     put_decimal(line, a, n)
 }
 
 // A StreamID: 16 hexadecimal digits.
 pub fn put_id(line: &mut [u8], at: usize, id: u64) -> usize
-    ensures { λ r. ⌜ PutNumber 16 16 id (now (line .entry)) at r (now (line .exit)) ⌝ }
+    ensures { λ r. ⌜ Put (now (line .entry)) at (digits 16 16 id) r (now (line .exit)) ⌝ }
 {
     let mut text = [0u8; 16];
     let k = io::hex(id, 16, &mut text);
@@ -55,7 +61,7 @@ pub fn put_id(line: &mut [u8], at: usize, id: u64) -> usize
 
 // An octet: two hexadecimal digits.
 fn put_octet(line: &mut [u8], at: usize, octet: u8) -> usize
-    ensures { λ r. ⌜ PutNumber 16 2 octet (now (line .entry)) at r (now (line .exit)) ⌝ }
+    ensures { λ r. ⌜ Put (now (line .entry)) at (digits 16 2 octet) r (now (line .exit)) ⌝ }
 {
     let mut text = [0u8; 16];
     let k = io::hex(octet as u64, 2, &mut text);
@@ -64,7 +70,7 @@ fn put_octet(line: &mut [u8], at: usize, octet: u8) -> usize
 
 // Octets, two hexadecimal digits each.
 pub fn put_octets(line: &mut [u8], at: usize, octets: &[u8]) -> usize
-    ensures { λ r. ⌜ r ≤ length (now (line .exit)) ⌝ }
+    ensures { λ r. ⌜ Put (now (line .entry)) at (flat (digits 16 2) (now (octets .entry))) r (now (line .exit)) ⌝ }
 {
     let mut end = least(at, line.len());
     let mut i: usize = 0;
@@ -110,7 +116,9 @@ pub fn put_entry(line: &mut [u8], at: usize, entry: EntryShown) -> usize
 }
 
 // Column and code of a report, a space before each.
-fn put_talker(line: &mut [u8], at: usize, answer: Reported) -> usize {
+fn put_talker(line: &mut [u8], at: usize, answer: Reported) -> usize
+    ensures { λ r. ⌜ PutDecimal (answer .code) (talkerText answer) (now (line .entry)) at r (now (line .exit)) ⌝ }
+{
     let column = answer.column;
     let a = put(line, at, b" ");
     let b = put_column(line, a, column);
@@ -118,7 +126,9 @@ fn put_talker(line: &mut [u8], at: usize, answer: Reported) -> usize {
 }
 
 // What a report shows of a stream on a port: column, code, Listener and entry, a space before each.
-pub fn put_shown(line: &mut [u8], at: usize, answer: Reported) -> usize {
+pub fn put_shown(line: &mut [u8], at: usize, answer: Reported) -> usize
+    ensures { λ r. ⌜ PutDecimal (answer .code) (shownText answer) (now (line .entry)) at r (now (line .exit)) ⌝ }
+{
     let listener = answer.listener;
     let entry = answer.entry;
     let a = put_talker(line, at, answer);
@@ -129,7 +139,9 @@ pub fn put_shown(line: &mut [u8], at: usize, answer: Reported) -> usize {
 }
 
 // Ends a line and writes it to standard output: false where it has no room for its end, or could not be written.
-pub fn write_line(line: &mut [u8], at: usize) -> bool {
+pub fn write_line(line: &mut [u8], at: usize) -> bool
+    ensures { λ r. ⌜ (now (line .exit) ≡ set (now (line .entry)) at 10) × (length (now (line .entry)) ≤ at → r ≡ false) ⌝ }
+{
     if at < line.len() {
         line[at] = b'\n';
         let end = at + 1;

@@ -11,6 +11,7 @@ use lib.Dec.{ltb}
 use borrow.Author.Tests.{ltb-true, ltb-false, lt-ltb, le-ltb}
 use Rattle.octets.specs.Parts.{patch}
 use Rattle.octets.proofs.Parts.{patch-none}
+use Rattle.model.specs.FrameLayout.{longestPdu}
 use Rattle.model.specs.Lists.{All}
 use Rattle.model.specs.Registrations.{Kind, advertises, faileds, listeners}
 use Rattle.model.specs.Declarations.{Declaration, kindOf, vectorSize, noMessage, message, opening, fitting}
@@ -25,51 +26,51 @@ use Rattle.declarations.specs.Passes.{fits, taken, passed, written}
 module _ (used size : ℕ) where
   pub fits-within : (left : ℕ) → fits used size left ≤ left
   unfolding fits
-  fits-within left = go (ltb 1500 used) (ltb ((1500 - used) / size) left) refl
+  fits-within left = go (ltb longestPdu used) (ltb ((longestPdu - used) / size) left) refl
     where
-      go : (s t : Bool) → ltb ((1500 - used) / size) left ≡ t → cond s 0 (cond t ((1500 - used) / size) left) ≤ left
+      go : (s t : Bool) → ltb ((longestPdu - used) / size) left ≡ t → cond s 0 (cond t ((longestPdu - used) / size) left) ≤ left
       go true t e = omega arith
-      go false true e = omega (arith, ltb-true ((1500 - used) / size) left e)
+      go false true e = omega (arith, ltb-true ((longestPdu - used) / size) left e)
       go false false e = omega arith
 
   -- where some fit, they do not run past 1,500 octets
-  pub fits-room : (left : ℕ) → 0 < fits used size left → used + fits used size left * size ≤ 1500
+  pub fits-room : (left : ℕ) → 0 < fits used size left → used + fits used size left * size ≤ longestPdu
   unfolding fits
-  fits-room left = go (ltb 1500 used) (ltb ((1500 - used) / size) left) refl refl
+  fits-room left = go (ltb longestPdu used) (ltb ((longestPdu - used) / size) left) refl refl
     where
       q : ℕ
-      q = (1500 - used) / size
+      q = (longestPdu - used) / size
 
-      go : (s t : Bool) → ltb 1500 used ≡ s → ltb q left ≡ t → 0 < cond s 0 (cond t q left) → used + cond s 0 (cond t q left) * size ≤ 1500
+      go : (s t : Bool) → ltb longestPdu used ≡ s → ltb q left ≡ t → 0 < cond s 0 (cond t q left) → used + cond s 0 (cond t q left) * size ≤ longestPdu
       go true t d e h = absurd (omega arith)
-      go false true d e h = omega (arith, ltb-false 1500 used d, div-mul-le-self (1500 - used) size)
+      go false true d e h = omega (arith, ltb-false longestPdu used d, div-mul-le-self (longestPdu - used) size)
       go false false d e h =
           let f : left * size ≤ q * size = mul-le-mul-right size (ltb-false q left e) in
-          omega (arith, ltb-false 1500 used d, div-mul-le-self (1500 - used) size)
+          omega (arith, ltb-false longestPdu used d, div-mul-le-self (longestPdu - used) size)
 
   pub fits-none : fits used size 0 ≡ 0
   fits-none = omega (arith, fits-within 0)
 
   module _ (some : 0 < size) (n : ℕ) where
-    pub fits-over : 1500 < used + size → fits used size (suc n) ≡ 0
+    pub fits-over : longestPdu < used + size → fits used size (suc n) ≡ 0
     unfolding fits
-    fits-over h = go (ltb 1500 used) refl
+    fits-over h = go (ltb longestPdu used) refl
       where
-        go : (s : Bool) → ltb 1500 used ≡ s → cond s 0 (cond (ltb ((1500 - used) / size) (suc n)) ((1500 - used) / size) (suc n)) ≡ 0
+        go : (s : Bool) → ltb longestPdu used ≡ s → cond s 0 (cond (ltb ((longestPdu - used) / size) (suc n)) ((longestPdu - used) / size) (suc n)) ≡ 0
         go true d = refl
         go false d =
-            let less : 1500 - used < size = omega (arith, ltb-false 1500 used d) in
+            let less : longestPdu - used < size = omega (arith, ltb-false longestPdu used d) in
             rw (div-eq-of-lt less, lt-ltb 0 (suc n) (omega arith))
 
-    pub fits-more : used + size ≤ 1500 → fits used size (suc n) ≡ suc (fits (used + size) size n)
+    pub fits-more : used + size ≤ longestPdu → fits used size (suc n) ≡ suc (fits (used + size) size n)
     unfolding fits
     fits-more h =
-        let e : 1500 - (used + size) ≡ 1500 - used - size = omega arith in
-        let m : size ≤ 1500 - used = omega arith in
-        rw (le-ltb 1500 used (omega arith), le-ltb 1500 (used + size) h, e, div-eq-sub-div some m) (go (ltb q n) refl)
+        let e : longestPdu - (used + size) ≡ longestPdu - used - size = omega arith in
+        let m : size ≤ longestPdu - used = omega arith in
+        rw (le-ltb longestPdu used (omega arith), le-ltb longestPdu (used + size) h, e, div-eq-sub-div some m) (go (ltb q n) refl)
       where
         q : ℕ
-        q = (1500 - used - size) / size
+        q = (longestPdu - used - size) / size
 
         go : (t : Bool) → ltb q n ≡ t → cond (ltb (q + 1) (suc n)) (q + 1) (suc n) ≡ suc (cond t q n)
         go true e = rw (lt-ltb (q + 1) (suc n) (omega (arith, ltb-true q n e))) (omega arith)
@@ -113,23 +114,23 @@ module _ (k : Kind) (m : List Declaration) where
       go false e = rw (le-ltb (suc n) (suc left) (omega (arith, ltb-false n left e))) (omega arith)
 
   fitting-next : (used : ℕ) (d : Declaration) (l : List Declaration) → kindOf d ≡ k
-      → fitting used (message k) (d ∷ l) ≡ cond (ltb 1500 (used + vectorSize k)) 0 (suc (fitting (used + vectorSize k) (message k) l))
+      → fitting used (message k) (d ∷ l) ≡ cond (ltb longestPdu (used + vectorSize k)) 0 (suc (fitting (used + vectorSize k) (message k) l))
   unfolding fitting opening
   fitting-next used d l a = rw (a, same-kind k, add-zero used)
 
   fitting-all : (used : ℕ) (l : List Declaration) → All (OfKind k) l
       → fitting used (message k) (l ++ m) ≡ then used (fits used (vectorSize k) (length l)) (length l)
   fitting-all used [] a = rw (fits-none used (vectorSize k), zero-mul (vectorSize k), add-zero used) (omega arith)
-  fitting-all used (d ∷ l) a = fitting-next used d (l ++ m) (a .0) ∙ go (ltb 1500 more) refl (fitting-all more l (a .1))
+  fitting-all used (d ∷ l) a = fitting-next used d (l ++ m) (a .0) ∙ go (ltb longestPdu more) refl (fitting-all more l (a .1))
     where
       more : ℕ
       more = used + vectorSize k
 
-      go : (t : Bool) → ltb 1500 more ≡ t → fitting more (message k) (l ++ m) ≡ then more (fits more (vectorSize k) (length l)) (length l)
+      go : (t : Bool) → ltb longestPdu more ≡ t → fitting more (message k) (l ++ m) ≡ then more (fits more (vectorSize k) (length l)) (length l)
           → cond t 0 (suc (fitting more (message k) (l ++ m))) ≡ then used (fits used (vectorSize k) (suc (length l))) (suc (length l))
-      go true e ih = rw (fits-over used (vectorSize k) (vector-some k) (length l) (ltb-true 1500 more e), lt-ltb 0 (suc (length l)) (omega arith))
+      go true e ih = rw (fits-over used (vectorSize k) (vector-some k) (length l) (ltb-true longestPdu more e), lt-ltb 0 (suc (length l)) (omega arith))
       go false e ih =
-          rw (fits-more used (vectorSize k) (vector-some k) (length l) (ltb-false 1500 more e), ih)
+          rw (fits-more used (vectorSize k) (vector-some k) (length l) (ltb-false longestPdu more e), ih)
           (then-more used (fits more (vectorSize k) (length l)) (length l))
 
 -- What a PDU with so many octets used takes of declarations, after passing over some of them.
@@ -275,78 +276,66 @@ three-passes a f l pa pf pl s =
     later : (j k : Kind) (m : List Declaration) → All (OfKind k) m → typeNumber j < typeNumber k → All (After j) m
     later j k m q h = all-map (OfKind k) (After j) (λ d e. rw e h) m q
 
--- A pass that finds it full does nothing.
-pub pass-full : (k : Kind) (l : List Declaration) (b : List ℕ) (s : Progress) → s .full ≡ true → (s ≡ passed k l s) × (b ≡ written k l s b)
-pass-full k l b s = go (s .at) (s .skip) (s .next) (s .full)
-  where
-    go : (at skip next : ℕ) (full : Bool) → full ≡ true
-        → let t : Progress = record { at = at; skip = skip; next = next; full = full } in
-        (t ≡ passed k l t) × (b ≡ written k l t b)
-    go at skip next true e = unfold passed written taken messageOctets in (refl, sym (patch-none at b))
-    go at skip next false e = let z : _≡_ {A = ℕ} 0 1 = cc in absurd (omega arith)
-
-pub not-full : (s : Progress) → s .full ≡ false → s ≡ record { at = s .at; skip = s .skip; next = s .next; full = false }
-not-full s e = ap (λ (f : Bool). record { at = s .at; skip = s .skip; next = s .next; full = f }) e
-
 message-of-some : (k : Kind) (n : ℕ) → (n ≡ 0 → ⊥) → messageSize k n ≡ 6 + n * vectorSize k
 unfolding messageSize
 message-of-some k zero h = absurd (h refl)
 message-of-some k (suc n) h = refl
 
--- A pass that finds the PDU not full: what it takes, by the number n that fits.
-module _ (k : Kind) (l : List Declaration) (own : All (OfKind k) l) (at skip next : ℕ) (b : List ℕ) where
-  abbrev unfilled : Progress
-  unfilled = record { at = at; skip = skip; next = next; full = false }
+-- What a pass does to how far the PDU is, r, and to the buffer.
+module _ (k : Kind) (l : List Declaration) (s : Progress) (b : List ℕ) where
+  abbrev Does : Progress → List ℕ → Type 0
+  Does r c = (r ≡ passed k l s) × (c ≡ written k l s b)
 
-  module _ (n : ℕ) (e : n ≡ fits (at + 8) (vectorSize k) (length l - skip)) where
-    taken-is : taken k l unfilled ≡ take n (drop skip l)
+  -- one that finds it full does nothing
+  pub pass-full : s .full ≡ true → Does s b
+  unfolding passed written taken messageOctets
+  pass-full e = (rw e, rw e (sym (patch-none (s .at) b)))
+
+  -- else it takes so many as fit
+  module _ (own : All (OfKind k) l) (unfilled : s .full ≡ false) (n : ℕ) (e : n ≡ fits (s .at + 8) (vectorSize k) (length l - s .skip)) where
+    taken-is : taken k l s ≡ take n (drop (s .skip) l)
     unfolding taken
-    taken-is = rw (← e)
+    taken-is = rw (unfilled, ← e)
 
-    taken-length : length (take n (drop skip l)) ≡ n
-    taken-length = length-take-le n (drop skip l) (rw (e, length-drop skip l) (fits-within (at + 8) (vectorSize k) (length l - skip)))
+    taken-length : length (take n (drop (s .skip) l)) ≡ n
+    taken-length = length-take-le n (drop (s .skip) l) (rw (e, length-drop (s .skip) l) (fits-within (s .at + 8) (vectorSize k) (length l - s .skip)))
 
-    message-length : length (messageOctets k (take n (drop skip l))) ≡ messageSize k n
+    message-length : length (messageOctets k (take n (drop (s .skip) l))) ≡ messageSize k n
     message-length =
-        length-message k (take n (drop skip l)) (all-take (OfKind k) n (drop skip l) (all-drop (OfKind k) skip l own)) ∙ ap (messageSize k) taken-length
+        length-message k (take n (drop (s .skip) l)) (all-take (OfKind k) n (drop (s .skip) l) (all-drop (OfKind k) (s .skip) l own)) ∙ ap (messageSize k) taken-length
 
-    passed-is : passed k l unfilled ≡ record { at = at + messageSize k n; skip = skip - length l; next = next + n; full = ltb n (length l - skip) }
-    unfolding passed
-    passed-is = rw (taken-is, taken-length, message-length)
+    does : Does record { at = s .at + messageSize k n; skip = s .skip - length l; next = s .next + n; full = ltb n (length l - s .skip) }
+        (patch (s .at) (messageSize k n) (messageOctets k (take n (drop (s .skip) l))) b)
+    unfolding passed written
+    does = (rw (taken-is, taken-length, message-length, unfilled), rw (taken-is, message-length))
 
-    written-is : written k l unfilled b ≡ patch at (messageSize k n) (messageOctets k (take n (drop skip l))) b
-    unfolding written
-    written-is = rw (taken-is, message-length)
-
-  module _ (found : ℕ) (d : found ≡ length l) where
+  module _ (own : All (OfKind k) l) (unfilled : s .full ≡ false) where
     -- all are passed over
-    pub pass-over : found ≤ skip → (record { at = at; skip = skip - found; next = next; full = false } ≡ passed k l unfilled) × (b ≡ written k l unfilled b)
+    pub pass-over : (found : ℕ) → found ≡ length l → found ≤ s .skip → Does record { at = s .at; skip = s .skip - found; next = s .next; full = false } b
     unfolding messageSize messageOctets
-    pass-over h =
-        let none : length l - skip ≡ 0 = omega arith in
-        let e : 0 ≡ fits (at + 8) (vectorSize k) (length l - skip) = rw none (sym (fits-none (at + 8) (vectorSize k))) in
-        let over : skip - length l ≡ skip - found = omega arith in
-        (sym (passed-is 0 e ∙ rw (none, over, add-zero at, add-zero next)), sym (written-is 0 e ∙ patch-none at b))
+    pass-over found d h =
+        let none : length l - s .skip ≡ 0 = omega arith in
+        let e : 0 ≡ fits (s .at + 8) (vectorSize k) (length l - s .skip) = rw none (sym (fits-none (s .at + 8) (vectorSize k))) in
+        rw (none, ← d, add-zero (s .at), add-zero (s .next), patch-none (s .at) b) at (does own unfilled 0 e)
 
-    module _ (n size : ℕ) (z : size ≡ vectorSize k) (f : n ≡ fits (at + 8) size (found - skip)) (h : skip < found) where
-      over : skip - length l ≡ 0
+    module _ (n size left : ℕ) (z : size ≡ vectorSize k) (d : s .skip + left ≡ length l) (f : n ≡ fits (s .at + 8) size left) where
+      over : s .skip - length l ≡ 0
       over = omega arith
 
-      number : n ≡ fits (at + 8) (vectorSize k) (length l - skip)
-      number = rw (z, d) at f
+      rest : length l - s .skip ≡ left
+      rest = omega arith
+
+      number : n ≡ fits (s .at + 8) (vectorSize k) (length l - s .skip)
+      number = rw rest (rw z at f)
 
       -- there are some, and the first does not fit
-      pub pass-closes : n ≡ 0 → (record { at = at; skip = 0; next = next; full = true } ≡ passed k l unfilled) × (b ≡ written k l unfilled b)
+      pub pass-closes : 0 < left → n ≡ 0 → Does record { at = s .at; skip = 0; next = s .next; full = true } b
       unfolding messageSize messageOctets
-      pass-closes q =
-          let e = sym q ∙ number in
-          let some : 0 < length l - skip = omega arith in
-          (sym (passed-is 0 e ∙ rw (over, add-zero at, add-zero next, lt-ltb 0 (length l - skip) some)), sym (written-is 0 e ∙ patch-none at b))
+      pass-closes some q =
+          rw (over, rest, add-zero (s .at), add-zero (s .next), lt-ltb 0 left some, patch-none (s .at) b) at (does own unfilled 0 (sym q ∙ number))
 
       -- some are taken
       pub pass-takes-some : (n ≡ 0 → ⊥)
-          → (record { at = at + (6 + n * size); skip = 0; next = next + n; full = ltb n (found - skip) } ≡ passed k l unfilled)
-          × (patch at (6 + n * size) (messageOctets k (take n (drop skip l))) b ≡ written k l unfilled b)
-      pass-takes-some q =
-          let m = message-of-some k n q in
-          (sym (passed-is n number ∙ rw (over, m, ← z, ← d)), sym (written-is n number ∙ rw (m, ← z)))
+          → Does record { at = s .at + (6 + n * size); skip = 0; next = s .next + n; full = ltb n left }
+          (patch (s .at) (6 + n * size) (messageOctets k (take n (drop (s .skip) l))) b)
+      pass-takes-some q = rw (over, rest, message-of-some k n q, ← z) at (does own unfilled n number)

@@ -1,6 +1,5 @@
 pub mod Declared
-pub mod Fitting
-pub mod Written
 pub mod Vectors
 pub mod Walk
-pub mod Showing
+pub mod Fitting
+pub mod Written

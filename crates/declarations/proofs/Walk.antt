@@ -1,4 +1,4 @@
--- The walk over the stream records that writes the vectors of one type: what is written, with what is left to write, is the whole.
+-- The walk over the streams that writes the vectors of one type: what is written, with what is left to write, is the whole.
 use Prim.Native.Nat.{ℕ, suc, _+_, _-_, _*_, _≤_, _<_}
 use native.Mathlib.Nat.{suc-mul}
 use native.Mathlib.Omega.{arith}
@@ -11,91 +11,84 @@ use lib.Dec.{ltb}
 use borrow.Author.Tests.{ltb-true, ltb-false}
 use Rattle.octets.specs.Fields.{flat}
 use Rattle.octets.proofs.Parts.{length-patch}
+use Rattle.octets.proofs.Patches.{lent-patch}
 use Rattle.octets.proofs.Fields.{flat-append}
+use Rattle.model.specs.State.{Stream}
 use Rattle.model.specs.Registrations.{Kind}
-use Rattle.model.specs.Declarations.{Declaration, ofKind}
+use Rattle.model.specs.Declarations.{Declaration}
 use Rattle.model.specs.WrittenFrames.{declarationVector, vectorOctets}
-use Rattle.model.specs.Table.{decode, toStream}
-use Rattle.model.specs.Laid.{Laid}
-use Rattle.table.proofs.Lens.{lent-patch}
-use Rattle.declarations.specs.Passes.{declares, some, vectors}
-use Rattle.declarations.proofs.Declared.{no-records, nothing-seen, one-counted, one-passed, one-taken}
+use Rattle.declarations.specs.Vectors.{some}
+use Rattle.declarations.specs.Passes.{vectors}
+use Rattle.declarations.proofs.Declared.{here, from, no-streams, none-here, one-counted, one-passed, one-taken}
 
 vectors-append : (l m : List Declaration) → vectors (l ++ m) ≡ vectors l ++ vectors m
 unfolding vectors
 vectors-append l m = flat-append (λ d. vectorOctets (declarationVector d)) l m
 
--- vectors of a size, in a slice out: so many declarations are still to pass over and so many to write, from record i on
-module _ (t : List ℕ) (k : Kind) (p size : ℕ) (whole : List Declaration) where
-  abbrev from : ℕ → List Declaration
-  from i = ofKind k p (drop i (decode t .streams))
-
-  pub record Left (out : List ℕ) (before left at i : ℕ) : Type 0 where
+-- vectors of a size, in a slice out: so many declarations are still to pass over and so many to write, from stream k on
+module _ (j : Kind) (p : ℕ) (s : List Stream) (size : ℕ) (whole : List Declaration) where
+  pub record Left (out : List ℕ) (before left at k : ℕ) : Type 0 where
     pub room : at + left * size ≡ length out
-    pub enough : before + left ≤ length (from i)
-    pub is : take at out ++ vectors (take left (drop before (from i))) ≡ vectors whole
+    pub enough : before + left ≤ length (from j p s k)
+    pub is : take at out ++ vectors (take left (drop before (from j p s k))) ≡ vectors whole
 
-  -- where some are left, a record is
-  pub record-left : (out : List ℕ) (before left at i : ℕ) → Left out before left at i → 0 < left → i < length (decode t .streams)
-  record-left out before left at i w h = go (ltb i (length (decode t .streams))) refl
-    where
-      go : (b : Bool) → ltb i (length (decode t .streams)) ≡ b → i < length (decode t .streams)
-      go true e = ltb-true i (length (decode t .streams)) e
-      go false e =
-          absurd (omega (arith, w .enough, ap length (no-records k p (decode t .streams) i (ltb-false i (length (decode t .streams)) e))))
+  module _ {out : List ℕ} {before left at k : ℕ} (w : Left out before left at k) where
+    pub left-done : left ≡ 0 → out ≡ vectors whole
+    unfolding vectors flat
+    left-done h =
+        let e : length out ≤ at = omega (arith, rw h at (w .room)) in
+        sym (take-all at out e) ∙ sym (append-nil (take at out)) ∙ (rw h at (w .is))
 
-  -- and the octets of a vector
-  pub one-fits : (out : List ℕ) (before left at i : ℕ) → Left out before left at i → 0 < left → at + size ≤ length out
-  one-fits out before left at i w g =
-      let j : suc (left - 1) ≡ left = omega arith in
-      omega (arith, w .room, rw j at (suc-mul (left - 1) size))
+    -- where some are left, a stream is, and the octets of a vector
+    module _ (some-left : 0 < left) where
+      pub stream-left : k < length s
+      stream-left = go (ltb k (length s)) refl
+        where
+          go : (b : Bool) → ltb k (length s) ≡ b → k < length s
+          go true e = ltb-true k (length s) e
+          go false e = absurd (omega (arith, w .enough, ap length (no-streams j p s k (ltb-false k (length s) e))))
 
-  pub left-done : (out : List ℕ) (before left at i : ℕ) → Left out before left at i → left ≡ 0 → out ≡ vectors whole
-  unfolding vectors flat
-  left-done out before left at i w h =
-      let e : length out ≤ at = omega (arith, rw h at (w .room)) in
-      sym (take-all at out e) ∙ sym (append-nil (take at out)) ∙ (rw h at (w .is))
+      pub one-fits : at + size ≤ length out
+      one-fits =
+          let i : suc (left - 1) ≡ left = omega arith in
+          omega (arith, w .room, rw i at (suc-mul (left - 1) size))
 
-  module _ (l : Laid t) (out : List ℕ) (before left at i a : ℕ) (w : Left out before left at i) (h : i < length (decode t .streams)) (e : a ≡ 272 + 493 * i) where
-    abbrev seen : List Declaration
-    seen = declares k p (toStream (take (a + 493 - a) (drop a t)))
+      pub left-none : some (here j p s k) ≡ false → Left out before left at (k + 1)
+      left-none q =
+          let e = none-here j p s k stream-left q in
+          record { room = w .room; enough = omega (arith, w .enough, ap length e); is = rw e at (w .is) }
 
-    pub left-none : some seen ≡ false → Left out before left at (i + 1)
-    left-none q = record {
-      room = w .room;
-      enough = omega (arith, w .enough, ap length (nothing-seen t l k p i a h e q));
-      is = rw (nothing-seen t l k p i a h e q) at (w .is);
-    }
+      module _ (q : some (here j p s k) ≡ true) where
+        pub left-pass : 0 < before → Left out (before - 1) left at (k + 1)
+        left-pass g = record {
+          room = w .room;
+          enough = omega (arith, w .enough, one-counted j p s k stream-left q);
+          is = rw (one-passed j p s k stream-left q before g) at (w .is);
+        }
 
-    module _ (q : some seen ≡ true) where
-      pub left-pass : 0 < before → Left out (before - 1) left at (i + 1)
-      left-pass g = record {
-        room = w .room;
-        enough = omega (arith, w .enough, one-counted t l k p i a h e q);
-        is = rw (one-passed t l k p i a h e q before g) at (w .is);
-      }
+        -- a vector y written behind the others
+        module _ (y : List ℕ) (z : length y ≡ size) where
+          pub left-long : length (take at out ++ (y ++ drop (at + size - at) (drop at out))) ≡ length out
+          left-long = ap length (lent-patch at size y out) ∙ length-patch at size y out z one-fits
 
-      -- a vector y written behind the others
-      pub left-take : (y : List ℕ) → before ≡ 0 → 0 < left → y ≡ vectors seen → length y ≡ size
-          → Left (take at out ++ (y ++ drop (at + size - at) (drop at out))) before (left - 1) (at + size) (i + 1)
-      left-take y b g v z =
-          let j : suc (left - 1) ≡ left = omega arith in
-          let m = rw j at (suc-mul (left - 1) size) in
-          let some-room = one-fits out before left at i w g in
-          let front = take at out in
-          let behind = drop (at + size - at) (drop at out) in
-          let rest = take (left - 1) (from (i + 1)) in
-          let kept = ap length (lent-patch at size y out) ∙ length-patch at size y out z some-room in
-          let long : length (front ++ y) ≡ at + size = length-append front y ∙ omega (arith, length-take-le at out (omega arith)) in
-          record {
-            room = omega (arith, kept, w .room);
-            enough = omega (arith, w .enough, one-counted t l k p i a h e q);
-            is = rw b (
-                ap (λ (u : List ℕ). u ++ vectors rest)
-                (ap (take (at + size)) (sym (append-assoc front y behind)) ∙ take-at (front ++ y) behind (at + size) long)
-                ∙ append-assoc front y (vectors rest)
-                ∙ ap (λ (u : List ℕ). front ++ (u ++ vectors rest)) v
-                ∙ ap (λ (u : List ℕ). front ++ u) (sym (vectors-append seen rest))
-                ∙ ap (λ (u : List Declaration). front ++ vectors u) (sym (one-taken t l k p i a h e q left g))
-                ∙ (rw b at (w .is)));
-          }
+          pub left-take : before ≡ 0 → y ≡ vectors (here j p s k)
+              → Left (take at out ++ (y ++ drop (at + size - at) (drop at out))) before (left - 1) (at + size) (k + 1)
+          left-take b v =
+              let i : suc (left - 1) ≡ left = omega arith in
+              let m = rw i at (suc-mul (left - 1) size) in
+              let front = take at out in
+              let behind = drop (at + size - at) (drop at out) in
+              let rest = take (left - 1) (from j p s (k + 1)) in
+              let long : length (front ++ y) ≡ at + size = length-append front y ∙ omega (arith, length-take-le at out (omega (arith, one-fits))) in
+              record {
+                room = omega (arith, left-long, w .room);
+                enough = omega (arith, w .enough, one-counted j p s k stream-left q);
+                is = rw b (
+                    ap (λ (u : List ℕ). u ++ vectors rest)
+                    (ap (take (at + size)) (sym (append-assoc front y behind)) ∙ take-at (front ++ y) behind (at + size) long)
+                    ∙ append-assoc front y (vectors rest)
+                    ∙ ap (λ (u : List ℕ). front ++ (u ++ vectors rest)) v
+                    ∙ ap (λ (u : List ℕ). front ++ u) (sym (vectors-append (here j p s k) rest))
+                    ∙ ap (λ (u : List Declaration). front ++ vectors u) (sym (one-taken j p s k stream-left q left some-left))
+                    ∙ (rw b at (w .is)));
+              }

@@ -1,4 +1,5 @@
--- What the passes leave in the caller's buffer is the PDU of the declarations that it takes, and the buffer's own octets behind it.
+-- What is written one behind the other into the caller's buffer: a vector, a Message, and what the passes leave, which is the PDU of
+-- the declarations that it takes, and the buffer's own octets behind it.
 use Prim.Native.Nat.{ℕ, _+_, _-_, _%_, _≤_, _<_}
 use native.Mathlib.Omega.{arith}
 use mathlib.Core.Path.{_≡_, refl, sym, ap, _∙_}
@@ -6,9 +7,9 @@ use mathlib.Core.Bool.{Bool, true, false}
 use mathlib.Core.List.{List, [], _∷_, _++_, append-nil, append-assoc}
 use lib.ListN.{length, set, take, drop, length-append, drop-of-length-le}
 use lib.Seq.{take-at, drop-at, drop-drop, length-take-le}
-use Rattle.octets.specs.Parts.{part, patch}
+use Rattle.octets.specs.Parts.{patch}
 use Rattle.octets.specs.Be.{be}
-use Rattle.octets.proofs.Parts.{length-part}
+use Rattle.octets.proofs.Patches.{lent-patch}
 use Rattle.octets.proofs.Be.{length-be, be-zero}
 use Rattle.model.specs.Lists.{All, keep}
 use Rattle.model.specs.State.{Stream}
@@ -17,10 +18,52 @@ use Rattle.model.specs.Frames.{registers, firstLength}
 use Rattle.model.specs.Declarations.{Declaration, kindOf, sameKind, ofKind, declarations, takes}
 use Rattle.model.specs.WrittenFrames.{typeNumber, messageOf, having, messageOctets, pduOctets}
 use Rattle.model.proofs.WritingPasses.{OfKind, same-kind, other-kind, ofKind-kind, takes-within}
-use Rattle.table.proofs.Lens.{lent-patch}
 use Rattle.declarations.specs.declared.Progress.{Progress}
-use Rattle.declarations.specs.Passes.{vectors, taken, passed, written, begun, PduWritten}
+use Rattle.declarations.specs.Vectors.{Holding}
+use Rattle.declarations.specs.Passes.{vectors, taken, passed, written, begun, PassLeaves, PduWritten}
 use Rattle.declarations.proofs.Fitting.{runFrom, remaining, taken-kind, passed-at, passed-next, three-passes}
+
+-- Octets written behind others.
+
+pub holding-none : (b : List ℕ) → Holding [] 0 b b
+holding-none b = record { long = refl; is = refl }
+
+module _ {w b now : List ℕ} {at : ℕ} (h : Holding w at b now) where
+  holding-more : (y : List ℕ) (n : ℕ) → length y ≡ n → Holding (w ++ y) (at + n) b (patch at n y now)
+  unfolding patch
+  holding-more y n q = record {
+    long = length-append w y ∙ omega (arith, h .long);
+    is =
+        ap (patch at n y) (h .is)
+        ∙ rw (take-at w (drop at b) at (h .long), drop-at w (drop at b) at (h .long), drop-drop n at b) (sym (append-assoc w y (drop (at + n) b)));
+  }
+
+  -- a number, by octets::put
+  pub holding-put : (n x : ℕ) {after : List ℕ} → after ≡ patch at n (be n x) now → Holding (w ++ be n x) (at + n) b after
+  holding-put n x e = rw e (holding-more (be n x) n (length-be n x))
+
+  -- by a call that was lent the n octets behind, and left z there
+  pub holding-lent : (n : ℕ) {y z : List ℕ} → z ≡ y → length y ≡ n → Holding (w ++ y) (at + n) b (take at now ++ (z ++ drop (at + n - at) (drop at now)))
+  holding-lent n {y = y} e q = rw (e, lent-patch at n y now) (holding-more y n q)
+
+  -- to the end
+  pub holding-all : length b ≤ at → now ≡ w
+  holding-all m = h .is ∙ rw (drop-of-length-le b {i = at} m) (append-nil w)
+
+-- one octet
+pub be-one : (x : ℕ) → x < 256 → be 1 x ≡ x ∷ []
+unfolding be
+be-one x h = let e : x % 256 ≡ x = omega arith in rw e
+
+-- the parts of a Message
+pub message-is : (k : Kind) (run : List Declaration) (h n : ℕ) → 0 < length run → be 2 h ≡ typeNumber k ∷ firstLength (registers k) ∷ []
+    → length (vectors run) ≡ n → ((be 2 h ++ be 2 (n + 2)) ++ vectors run) ++ be 2 0 ≡ messageOctets k run
+unfolding messageOctets messageOf vectors
+message-is k [] h n some e l = absurd (omega arith)
+message-is k (d ∷ run) h n some e l =
+    let v = vectors (d ∷ run) in
+    let long : length (v ++ (0 ∷ 0 ∷ [])) ≡ n + 2 = length-append v (0 ∷ 0 ∷ []) ∙ omega arith in
+    append-assoc (be 2 h ++ be 2 (n + 2)) v (be 2 0) ∙ append-assoc (be 2 h) (be 2 (n + 2)) (v ++ be 2 0) ∙ rw (e, be-zero 2, long)
 
 -- The Messages of a PDU, type by type.
 
@@ -68,69 +111,6 @@ module _ (a f l : List Declaration) (pa : All (OfKind advertises) a) (pf : All (
         append-nil f,
       )
 
--- Octets w written in front of what was in the buffer b; y put behind them.
-pub written-more : (w y b : List ℕ) (at n : ℕ) → length w ≡ at → length y ≡ n → patch at n y (w ++ drop at b) ≡ (w ++ y) ++ drop (at + n) b
-unfolding patch
-written-more w y b at n p q = rw (take-at w (drop at b) at p, drop-at w (drop at b) at p, drop-drop n at b) (sym (append-assoc w y (drop (at + n) b)))
-
--- at the front
-pub written-first : (y b : List ℕ) (n : ℕ) → length y ≡ n → patch 0 n y b ≡ y ++ drop n b
-written-first y b n q = let e : 0 + n ≡ n = omega arith in written-more [] y b 0 n refl q ∙ ap (λ (i : ℕ). y ++ drop i b) e
-
--- what a call sees of `&s[0..n]`
-pub front-part : (n : ℕ) (s : List ℕ) → take (n - 0) (drop 0 s) ≡ part 0 n s
-unfolding part
-front-part n s = let e : n - 0 ≡ n = omega arith in rw e
-
--- by a call that was lent the n octets behind w
-pub lent-more : (w y b s : List ℕ) (at n : ℕ) → length w ≡ at → length y ≡ n → s ≡ w ++ drop at b
-    → take at s ++ (y ++ drop (at + n - at) (drop at s)) ≡ (w ++ y) ++ drop (at + n) b
-lent-more w y b s at n p q e = lent-patch at n y s ∙ ap (patch at n y) e ∙ written-more w y b at n p q
-
--- twice, to the end
-pub written-twice : (u v y z b b₁ b₂ b₃ : List ℕ) (m n k : ℕ) → length (u ++ v) ≡ m → length y ≡ n → length z ≡ k → length b ≤ m + n + k
-    → b₁ ≡ (u ++ v) ++ drop m b → b₂ ≡ patch m n y b₁ → b₃ ≡ patch (m + n) k z b₂ → b₃ ≡ u ++ (v ++ (y ++ z))
-written-twice u v y z b b₁ b₂ b₃ m n k p q r h e f g =
-    let w = (u ++ v) ++ y in
-    let long : length w ≡ m + n = length-append (u ++ v) y ∙ omega arith in
-    let second : b₂ ≡ w ++ drop (m + n) b = f ∙ ap (patch m n y) e ∙ written-more (u ++ v) y b m n p q in
-    g ∙ ap (patch (m + n) k z) second ∙ written-more w z b (m + n) k long r
-    ∙ rw (drop-of-length-le b {i = m + n + k} h, append-nil (w ++ z)) (append-assoc (u ++ v) y z ∙ append-assoc u v (y ++ z))
-
--- twice, from the front
-pub written-front : (u v b b₁ b₂ : List ℕ) (m n : ℕ) → length u ≡ m → length v ≡ n → b₁ ≡ patch 0 m u b → b₂ ≡ patch m n v b₁
-    → b₂ ≡ (u ++ v) ++ drop (m + n) b
-written-front u v b b₁ b₂ m n p q e f = f ∙ ap (patch m n v) (e ∙ written-first u b m p) ∙ written-more u v b m n p q
-
--- the parts of a Message
-pub message-is : (k : Kind) (run : List Declaration) (h n : ℕ) → 0 < length run → be 2 h ≡ typeNumber k ∷ firstLength (registers k) ∷ []
-    → length (vectors run) ≡ n → be 2 h ++ (be 2 (n + 2) ++ (vectors run ++ be 2 0)) ≡ messageOctets k run
-unfolding messageOctets messageOf vectors
-message-is k [] h n some e l = absurd (omega arith)
-message-is k (d ∷ run) h n some e l =
-    let long : length (vectors (d ∷ run) ++ (0 ∷ 0 ∷ [])) ≡ n + 2 = length-append (vectors (d ∷ run)) (0 ∷ 0 ∷ []) ∙ omega arith in
-    rw (e, be-zero 2, long)
-
--- the header of a vector and n octets
-pub begun-length : (n : ℕ) (s : List ℕ) → n ≤ length s → length (be 2 1 ++ part 0 n s) ≡ 2 + n
-begun-length n s h = length-append (be 2 1) (part 0 n s) ∙ omega (arith, length-be 2 1, length-part 0 n s (omega arith))
-
--- one octet
-pub be-one : (x : ℕ) → x < 256 → be 1 x ≡ x ∷ []
-unfolding be
-be-one x h = let e : x % 256 ≡ x = omega arith in rw e
-
--- what stands in the buffer: octets w, of which there are at, and behind them those of b
-pub record Holding (w : List ℕ) (at : ℕ) (b now : List ℕ) : Type 0 where
-  pub long : length w ≡ at
-  pub is : now ≡ w ++ drop at b
-
-holding-more : (w y b now : List ℕ) (at n : ℕ) → Holding w at b now → length y ≡ n → Holding (w ++ y) (at + n) b (patch at n y now)
-holding-more w y b now at n h q = record {
-  long = length-append w y ∙ omega (arith, h .long);
-  is = ap (patch at n y) (h .is) ∙ written-more w y b at n (h .long) q;
-}
-
 -- the version octet
 holding-version : (b : List ℕ) → 1 ≤ length b → Holding (0 ∷ []) 1 b (set b 0 0)
 holding-version [] h = absurd (omega arith)
@@ -142,12 +122,12 @@ holding-pass : (k : Kind) (l : List Declaration) (s : Progress) (w b now : List 
 unfolding written
 holding-pass k l s w b now h =
     let m = messageOctets k (taken k l s) in
-    rw (passed-at k l s) (holding-more w m b now (s .at) (length m) h refl)
+    rw (passed-at k l s) (holding-more h m (length m) refl)
 
 behind-version : (a f l e : List ℕ) → ((((0 ∷ []) ++ a) ++ f) ++ l) ++ e ≡ 0 ∷ (a ++ (f ++ (l ++ e)))
 behind-version a f l e = ap (λ (m : List ℕ). 0 ∷ m) (append-assoc (a ++ f) l e ∙ append-assoc a f (l ++ e))
 
--- From a place on, of the declarations of the port at place p: how far the PDU is before each pass and at the end.
+-- From a place on, of the declarations of port p: how far the PDU is before each pass and at the end.
 module _ (p place : ℕ) (s : List Stream) where
   abbrev of : Kind → List Declaration
   of k = ofKind k p s
@@ -220,23 +200,18 @@ module _ (p place : ℕ) (s : List Stream) where
       let h₁ = holding-pass advertises (of advertises) (begun place) (0 ∷ []) b (set b 0 0) h₀ in
       let h₂ = holding-pass faileds (of faileds) second w₁ b b₁ h₁ in
       let h₃ = holding-pass listeners (of listeners) third w₂ b b₂ h₂ in
-      rw octets-pdu (holding-more octets (be 2 0) b (written listeners (of listeners) third b₂) (last .at) 2 h₃ (length-be 2 0))
+      rw octets-pdu (holding-more h₃ (be 2 0) 2 (length-be 2 0))
 
   -- as the calls of the passes give it
-  pub pdu-answer : (b b₁ b₂ b₃ b₄ : List ℕ) (r₁ r₂ r₃ : Progress) → 1 ≤ length b
-      → r₁ ≡ passed advertises (of advertises) (begun place) → b₁ ≡ written advertises (of advertises) (begun place) (set b 0 0)
-      → r₂ ≡ passed faileds (of faileds) r₁ → b₂ ≡ written faileds (of faileds) r₁ b₁
-      → r₃ ≡ passed listeners (of listeners) r₂ → b₃ ≡ written listeners (of listeners) r₂ b₂
-      → b₄ ≡ patch (r₃ .at) 2 (be 2 0) b₃
+  pub pdu-answer : {b b₁ b₂ b₃ b₄ : List ℕ} {r₁ r₂ r₃ : Progress} → 1 ≤ length b → PassLeaves advertises (of advertises) (begun place) (set b 0 0) r₁ b₁
+      → PassLeaves faileds (of faileds) r₁ b₁ r₂ b₂ → PassLeaves listeners (of listeners) r₂ b₂ r₃ b₃ → b₄ ≡ patch (r₃ .at) 2 (be 2 0) b₃
       → PduWritten rest place b (record { length = r₃ .at + 2; next = r₃ .next }) b₄
-  pdu-answer b b₁ b₂ b₃ b₄ r₁ r₂ r₃ long e₁ f₁ e₂ f₂ e₃ f₃ f₄ =
+  pdu-answer {b = b} {r₃ = r₃} long a f l e =
       let h = pdu-written b long in
-      let second-is : r₂ ≡ third = e₂ ∙ ap (passed faileds (of faileds)) e₁ in
-      let end-is : r₃ ≡ last = e₃ ∙ ap (passed listeners (of listeners)) second-is in
-      let size-is : r₃ .at + 2 ≡ length (pduOctets run) = ap (λ (r : Progress). r .at + 2) end-is ∙ sym (h .long) in
-      let buffer-is : b₄ ≡ patch (last .at) 2 (be 2 0) (written listeners (of listeners) third (written faileds (of faileds) second (written advertises (of advertises) (begun place) (set b 0 0)))) = rw (f₄, f₃, f₂, f₁, end-is, second-is, e₁) in
+      let third-is = f .progress ∙ ap (passed faileds (of faileds)) (a .progress) in
+      let last-is : r₃ ≡ last = l .progress ∙ ap (passed listeners (of listeners)) third-is in
       record {
-        size = size-is;
-        next = ap (λ (r : Progress). r .next) end-is ∙ next-place;
-        buffer = buffer-is ∙ h .is ∙ ap (λ (n : ℕ). pduOctets run ++ drop n b) (sym (h .long));
+        size = ap (λ (r : Progress). r .at + 2) last-is ∙ sym (h .long);
+        next = ap (λ (r : Progress). r .next) last-is ∙ next-place;
+        buffer = rw (e, l .buffer, f .buffer, a .buffer, last-is, third-is, a .progress) (h .is ∙ ap (λ (n : ℕ). pduOctets run ++ drop n b) (sym (h .long)));
       }

@@ -1,2 +1,2 @@
+pub mod Vectors
 pub mod Passes
-pub mod Shown

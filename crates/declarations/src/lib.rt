@@ -1,50 +1,62 @@
-// What a port writes: its declarations by place, and the PDU that takes as many as fit from a place on. What a report shows of a
-// port and of a stream.
+// What a port writes: its declarations by place, and the PDU that takes as many as fit from a place on. Ports p and streams k are
+// counted from 0.
 ghost use mathlib.Core.Path.{_≡_};
-ghost use mathlib.Core.List.{[], _∷_, _++_};
-ghost use mathlib.Core.Bool.{true};
-ghost use Prim.Native.Nat.{_+_, _*_, _≤_, _<_};
-ghost use lib.ListN.{length, getD, take, drop};
+ghost use mathlib.Core.List.{[], _∷_};
+ghost use Prim.Native.Nat.{_+_, _*_, _≤_};
+ghost use lib.ListN.{length, drop};
 ghost use Rattle.octets.specs.Be.{be};
-ghost use Rattle.octets.specs.Parts.{part};
+ghost use Rattle.model.specs.FrameLayout.{firstDestination, firstLatency, listenerLength};
+ghost use Rattle.model.specs.State.{resultAt, streamAt};
 ghost use Rattle.model.specs.Frames.{registers, firstLength};
 ghost use Rattle.model.specs.Declarations as model;
-ghost use Rattle.model.specs.Declarations.{vectorSize, ofKind, wordOf, streamAt, refusedReport};
+ghost use Rattle.model.specs.Declarations.{vectorSize};
 ghost use Rattle.model.specs.WrittenFrames.{typeNumber, messageOctets};
-ghost use Rattle.model.specs.Table.{toColumn, toEntry, toDeclared, toStream, decode};
-ghost use Rattle.model.specs.Laid.{LaidStream, Laid};
+ghost use Rattle.model.specs.Table.{decode};
+ghost use Rattle.table.specs.Places.{Stands, StandsOn, PortIn};
+ghost use Rattle.declarations.specs.Vectors.{some, Holding, headed, talkerBegun, talkerVector, listenerVector, TalkerIn};
 ghost use Rattle.declarations.specs.Passes as passes;
-ghost use Rattle.declarations.specs.Passes.{kind, some, vectors, passed, written, PduWritten};
-ghost use Rattle.declarations.specs.Shown.{columnWord, declared, entered, shown, ShowsStream, ShowsPort};
+ghost use Rattle.declarations.specs.Passes.{kind, vectors, found, VectorIn, RunIn, runOf, PassIn, OpenIn, PassLeaves, WriteIn, PduWritten};
+use model::pdu;
 
-// The longest PDU, in octets.
-const LONGEST: usize = 1500;
+// The octets of an EndMark; of a Message's AttributeType, AttributeLength and list length; of all that a Message has beside its
+// vectors; and of that with the PDU's EndMark.
+const END_MARK: usize = 2;
+
+const HEADER: usize = 4;
+
+const AROUND: usize = HEADER + END_MARK;
+
+const OPENED: usize = AROUND + END_MARK;
+
+// Within a vector: FirstValue, and in it what follows the StreamID, a Talker's settled values and then its latency.
+const FIRST: usize = 2;
+
+const SETTLED: usize = FIRST + 8;
+
+const VARYING: usize = SETTLED + table::FIXED;
+
+// The octets of a latency, and of a Bridge ID with its code, as a result holds them.
+const LATENCY: usize = table::result::BRIDGE_ID - table::result::LATENCY;
+
+const FAILURE: usize = table::result::ENTRY - table::result::BRIDGE_ID;
+
+// The octets of each type's FirstValue, and of its vector of one value: an octet of packed events follows, for a Listener two.
+const ADVERTISE_LENGTH: usize = VARYING + LATENCY - FIRST;
+
+const FAILED_LENGTH: usize = ADVERTISE_LENGTH + FAILURE;
+
+const LISTENER_LENGTH: usize = SETTLED - FIRST;
+
+const EVENTS: usize = 1;
+
+const ADVERTISE_VECTOR: usize = FIRST + ADVERTISE_LENGTH + EVENTS;
+
+const FAILED_VECTOR: usize = FIRST + FAILED_LENGTH + EVENTS;
+
+const LISTENER_VECTOR: usize = FIRST + LISTENER_LENGTH + 2 * EVENTS;
 
 // The event JoinMt as the first of three packed events.
 const JOIN_MT: u64 = 108;
-
-// Within a stream record: StreamID and settled values stand first, this long.
-const NAME: usize = table::CELLS;
-
-// Within the results: column, latency (Bridge ID and code follow it), code, entry, Listener declared.
-const COLUMN: usize = table::RESULTS + table::result::COLUMN;
-
-const LATENCY: usize = table::RESULTS + table::result::LATENCY;
-
-const CODE: usize = table::RESULTS + table::result::CODE;
-
-const ENTRY: usize = table::RESULTS + table::result::ENTRY;
-
-const DECLARED: usize = table::RESULTS + table::result::DECLARED;
-
-// In a table: of the first port, the limits of class A and class B, and the totals.
-const LIMIT_A: usize = table::PORTS + table::port::LIMIT_A;
-
-const LIMIT_B: usize = table::PORTS + table::port::LIMIT_B;
-
-const TOTAL_A: usize = table::TOTALS;
-
-const TOTAL_B: usize = table::TOTALS + 5;
 
 // The types of declarations, in the order in which they are written.
 pub enum Attribute {
@@ -55,12 +67,12 @@ pub enum Attribute {
 
 // The octets of a vector of one value.
 fn vector_size(attribute: Attribute) -> usize
-    ensures { λ r. ⌜ (r ≡ vectorSize (kind attribute)) × (12 ≤ r) × (r ≤ 37) ⌝ }
+    ensures { λ r. ⌜ (r ≡ vectorSize (kind attribute)) × (1 ≤ r) ⌝ }
 {
     match attribute {
-        Attribute::Advertise => 28,
-        Attribute::Failed => 37,
-        Attribute::Listener => 12,
+        Attribute::Advertise => ADVERTISE_VECTOR,
+        Attribute::Failed => FAILED_VECTOR,
+        Attribute::Listener => LISTENER_VECTOR,
     }
 }
 
@@ -69,36 +81,37 @@ fn type_and_length(attribute: Attribute) -> u64
     ensures { λ r. ⌜ be 2 r ≡ typeNumber (kind attribute) ∷ firstLength (registers (kind attribute)) ∷ [] ⌝ }
 {
     match attribute {
-        Attribute::Advertise => 256 + 25,
-        Attribute::Failed => 2 * 256 + 34,
-        Attribute::Listener => 3 * 256 + 8,
+        Attribute::Advertise => 256 + ADVERTISE_LENGTH as u64,
+        Attribute::Failed => 2 * 256 + FAILED_LENGTH as u64,
+        Attribute::Listener => 3 * 256 + LISTENER_LENGTH as u64,
     }
 }
 
-// Whether the stream of a record has a declaration of a type on the port at place p.
-fn declares(rec: &[u8], p: usize, attribute: Attribute) -> bool
-    requires { ⌜ LaidStream (now rec) × (p < 8) ⌝ }
-    ensures { λ r. ⌜ r ≡ some (passes.declares (kind attribute) p (toStream (now (rec .entry)))) ⌝ }
+// Whether stream k has a declaration of a type on port p.
+fn declares(table: &[u8], k: usize, p: usize, attribute: Attribute) -> bool
+    requires { ⌜ StandsOn (now table) k p ⌝ }
+    ensures { λ r. ⌜ r ≡ some (passes.declares (kind attribute) p (streamAt k (decode (now (table .entry))))) ⌝ }
 {
+    let result = table::result_at(table, k, p);
     match attribute {
-        Attribute::Advertise => rec[COLUMN + table::RESULT * p] == 1,
-        Attribute::Failed => rec[COLUMN + table::RESULT * p] == 2,
-        Attribute::Listener => rec[DECLARED + table::RESULT * p] != 0,
+        Attribute::Advertise => result[table::result::COLUMN] == 1,
+        Attribute::Failed => result[table::result::COLUMN] == 2,
+        Attribute::Listener => result[table::result::DECLARED] != 0,
     }
 }
 
 // The number of declarations of a type.
 fn count_of(table: &[u8], p: usize, attribute: Attribute) -> usize
-    requires { ⌜ Laid (now table) × (p < 8) ⌝ }
-    ensures { λ r. ⌜ (r ≡ length (ofKind (kind attribute) p (decode (now (table .entry)) .streams))) × (r ≤ 64) ⌝ }
+    requires { ⌜ PortIn (now table) p ⌝ }
+    ensures { λ r. ⌜ (r ≡ length (found attribute p (now (table .entry)))) × (r ≤ 64) ⌝ }
 {
     let count = table::count(table);
     let mut n: usize = 0;
-    let mut i: usize = 0;
-    while i < count {
-        let a = table::RECORDS + table::RECORD * i;
-        i += 1;
-        if !declares(&table[a..a + table::RECORD], p, attribute) {
+    let mut k: usize = 0;
+    while k < count {
+        let here = k;
+        k += 1;
+        if !declares(table, here, p, attribute) {
             continue;
         }
         n += 1;
@@ -106,9 +119,9 @@ fn count_of(table: &[u8], p: usize, attribute: Attribute) -> usize
     n
 }
 
-// The number of declarations of the port at place p.
+// The number of declarations of port p.
 pub fn count_declarations(table: &[u8], p: usize) -> usize
-    requires { ⌜ Laid (now table) × (p < 8) ⌝ }
+    requires { ⌜ PortIn (now table) p ⌝ }
     ensures { λ r. ⌜ (r ≡ length (model.declarations p (decode (now (table .entry)) .streams))) × (r ≤ 192) ⌝ }
 {
     let advertise = count_of(table, p, Attribute::Advertise);
@@ -117,107 +130,106 @@ pub fn count_declarations(table: &[u8], p: usize) -> usize
     advertise + failed + listener
 }
 
-// The header of a vector, one value and no LeaveAll, and the first n octets of a stream record.
-fn begin_vector(rec: &[u8], n: usize, out: &mut [u8])
-    requires { ⌜ (n ≤ length (now rec)) × (2 + n ≤ length (now out)) ⌝ }
-    ensures { λ _. ⌜ now (out .exit) ≡ (be 2 1 ++ part 0 n (now (rec .entry))) ++ drop (2 + n) (now (out .entry)) ⌝ }
+// The header of a vector, one value and no LeaveAll, and a StreamID.
+fn begin_vector(id: u64, out: &mut [u8])
+    requires { ⌜ 2 + firstDestination ≤ length (now out) ⌝ }
+    ensures { λ _. ⌜ Holding (headed id) (2 + firstDestination) (now (out .entry)) (now (out .exit)) ⌝ }
 {
-    octets::put(out, 0, 2, 1);
-    octets::copy(&rec[0..n], &mut out[2..2 + n]);
+    octets::put(out, 0, FIRST, 1);
+    octets::put(out, FIRST, 8, id);
 }
 
-// The vector of a Talker: StreamID and settled values, then of the result the latency, and for Failed Bridge ID and code.
-fn write_talker(rec: &[u8], p: usize, more: usize, out: &mut [u8])
-    requires { ⌜ (length (now rec) ≡ 493) × (p < 8) × (more ≤ 13) × (length (now out) ≡ 24 + more) ⌝ }
-    ensures { λ _. ⌜ now (out .exit) ≡ be 2 1 ++ (part 0 21 (now (rec .entry)) ++ (part (334 + 20 * p) more (now (rec .entry)) ++ (108 ∷ []))) ⌝ }
+// The same with the stream's settled values behind its StreamID.
+fn begin_talker(table: &[u8], k: usize, out: &mut [u8])
+    requires { ⌜ Stands (now table) k × (2 + firstLatency ≤ length (now out)) ⌝ }
+    ensures { λ _. ⌜ Holding (talkerBegun (streamAt k (decode (now (table .entry))))) (2 + firstLatency) (now (out .entry)) (now (out .exit)) ⌝ }
 {
-    let a = LATENCY + table::RESULT * p;
-    begin_vector(rec, NAME, out);
-    octets::copy(&rec[a..a + more], &mut out[23..23 + more]);
-    octets::put(out, 23 + more, 1, JOIN_MT);
+    begin_vector(table::id_at(table, k), out);
+    let settled = table::settled_at(table, k);
+    octets::copy(settled, &mut out[SETTLED..SETTLED + table::FIXED]);
+}
+
+// The vector of a Talker: behind the settled values so many octets of the result, the latency, and for Failed Bridge ID and code.
+fn write_talker(table: &[u8], k: usize, p: usize, more: usize, out: &mut [u8])
+    requires { ⌜ TalkerIn (now table) k p more (now out) ⌝ }
+    ensures { λ _. ⌜ now (out .exit) ≡ talkerVector more p (streamAt k (decode (now (table .entry)))) ⌝ }
+{
+    begin_talker(table, k, out);
+    let result = table::result_at(table, k, p);
+    let a = table::result::LATENCY;
+    octets::copy(&result[a..a + more], &mut out[VARYING..VARYING + more]);
+    octets::put(out, VARYING + more, EVENTS, JOIN_MT);
 }
 
 // The vector of a Listener: StreamID, and its declaration type as the first of four packed events.
-fn write_listener(rec: &[u8], p: usize, out: &mut [u8])
-    requires { ⌜ (length (now rec) ≡ 493) × (p < 8) × (getD (now rec) (352 + 20 * p) 0 ≤ 3) × (length (now out) ≡ 12) ⌝ }
-    ensures { λ _. ⌜ now (out .exit) ≡ be 2 1 ++ (part 0 8 (now (rec .entry)) ++ (108 ∷ getD (now (rec .entry)) (352 + 20 * p) 0 * 64 ∷ [])) ⌝ }
+fn write_listener(table: &[u8], k: usize, p: usize, out: &mut [u8])
+    requires { ⌜ StandsOn (now table) k p × (length (now out) ≡ 2 + listenerLength + 1 + 1) ⌝ }
+    ensures { λ _. ⌜ now (out .exit) ≡ listenerVector p (streamAt k (decode (now (table .entry)))) ⌝ }
 {
-    let declared = rec[DECLARED + table::RESULT * p];
-    begin_vector(rec, 8, out);
-    octets::put(out, 10, 1, JOIN_MT);
-    octets::put(out, 11, 1, (declared as u64) * 64);
+    begin_vector(table::id_at(table, k), out);
+    let result = table::result_at(table, k, p);
+    let declared = result[table::result::DECLARED];
+    octets::put(out, SETTLED, EVENTS, JOIN_MT);
+    octets::put(out, SETTLED + EVENTS, EVENTS, (declared as u64) * 64);
 }
 
 // The vector of the stream's declaration of a type.
-fn write_vector(rec: &[u8], p: usize, attribute: Attribute, out: &mut [u8])
-    requires { ⌜ LaidStream (now rec) × (p < 8) × (some (passes.declares (kind attribute) p (toStream (now rec))) ≡ true)
-        × (length (now out) ≡ vectorSize (kind attribute)) ⌝ }
-    ensures { λ _. ⌜ now (out .exit) ≡ vectors (passes.declares (kind attribute) p (toStream (now (rec .entry)))) ⌝ }
+fn write_vector(table: &[u8], k: usize, p: usize, attribute: Attribute, out: &mut [u8])
+    requires { ⌜ VectorIn (now table) k p (kind attribute) (now out) ⌝ }
+    ensures { λ _. ⌜ now (out .exit) ≡ vectors (passes.declares (kind attribute) p (streamAt k (decode (now (table .entry))))) ⌝ }
 {
     match attribute {
-        Attribute::Advertise => write_talker(rec, p, 4, out),
-        Attribute::Failed => write_talker(rec, p, 13, out),
-        Attribute::Listener => write_listener(rec, p, out),
+        Attribute::Advertise => write_talker(table, k, p, LATENCY, out),
+        Attribute::Failed => write_talker(table, k, p, LATENCY + FAILURE, out),
+        Attribute::Listener => write_listener(table, k, p, out),
     }
 }
 
-// The vectors of n declarations of a type, after passing over some.
-fn write_vectors(
-    table: &[u8],
-    p: usize,
-    attribute: Attribute,
-    skip: usize,
-    n: usize,
-    out: &mut [u8],
-)
-    requires { ⌜ Laid (now table) × (p < 8) × (skip + n ≤ length (ofKind (kind attribute) p (decode (now table) .streams)))
-        × (length (now out) ≡ n * vectorSize (kind attribute)) ⌝ }
-    ensures { λ _. ⌜ now (out .exit) ≡ vectors (take n (drop skip (ofKind (kind attribute) p (decode (now (table .entry)) .streams)))) ⌝ }
+// Declarations of a type that a Message takes: so many of them, after passing over some.
+pub struct Run {
+    pub attribute: Attribute,
+    pub skip: usize,
+    pub count: usize,
+}
+
+// The vectors of a run.
+fn write_vectors(table: &[u8], p: usize, run: Run, out: &mut [u8])
+    requires { ⌜ RunIn (now table) p run × (length (now out) ≡ run .count * vectorSize (kind (run .attribute))) ⌝ }
+    ensures { λ _. ⌜ now (out .exit) ≡ vectors (runOf (now (table .entry)) p run) ⌝ }
 {
+    let attribute = run.attribute;
     let size = vector_size(attribute);
-    let mut before = skip;
-    let mut left = n;
+    let mut before = run.skip;
+    let mut left = run.count;
     let mut at: usize = 0;
-    let mut i: usize = 0;
+    let mut k: usize = 0;
     while 0 < left {
-        let a = table::RECORDS + table::RECORD * i;
-        i += 1;
-        if !declares(&table[a..a + table::RECORD], p, attribute) {
+        let here = k;
+        k += 1;
+        if !declares(table, here, p, attribute) {
             continue;
         }
         if 0 < before {
             before -= 1;
             continue;
         }
-        write_vector(
-            &table[a..a + table::RECORD],
-            p,
-            attribute,
-            &mut out[at..at + size],
-        );
+        write_vector(table, here, p, attribute, &mut out[at..at + size]);
         at += size;
         left -= 1;
     }
 }
 
-// The Message of n declarations of a type, after passing over some: header, vectors, and the list's EndMark.
-fn write_message(
-    table: &[u8],
-    p: usize,
-    attribute: Attribute,
-    skip: usize,
-    n: usize,
-    out: &mut [u8],
-)
-    requires { ⌜ Laid (now table) × (p < 8) × (0 < n) × (skip + n ≤ length (ofKind (kind attribute) p (decode (now table) .streams)))
-        × (length (now out) ≡ 6 + n * vectorSize (kind attribute)) ⌝ }
-    ensures { λ _. ⌜ now (out .exit) ≡ messageOctets (kind attribute) (take n (drop skip (ofKind (kind attribute) p (decode (now (table .entry)) .streams)))) ⌝ }
+// The Message of a run: header, vectors, and the list's EndMark.
+fn write_message(table: &[u8], p: usize, run: Run, out: &mut [u8])
+    requires { ⌜ RunIn (now table) p run × (length (now out) ≡ 6 + run .count * vectorSize (kind (run .attribute))) ⌝ }
+    ensures { λ _. ⌜ now (out .exit) ≡ messageOctets (kind (run .attribute)) (runOf (now (table .entry)) p run) ⌝ }
 {
-    let list = out.len() - 6;
+    let attribute = run.attribute;
+    let list = out.len() - AROUND;
     octets::put(out, 0, 2, type_and_length(attribute));
-    octets::put(out, 2, 2, (list + 2) as u64);
-    write_vectors(table, p, attribute, skip, n, &mut out[4..4 + list]);
-    octets::put(out, 4 + list, 2, 0);
+    octets::put(out, 2, 2, (list + END_MARK) as u64);
+    write_vectors(table, p, run, &mut out[HEADER..HEADER + list]);
+    octets::put(out, HEADER + list, END_MARK, 0);
 }
 
 // How many vectors of a size fit into a PDU, of those left, with so many octets used.
@@ -225,10 +237,10 @@ fn fits(used: usize, size: usize, left: usize) -> usize
     requires { ⌜ 1 ≤ size ⌝ }
     ensures { λ r. ⌜ r ≡ passes.fits used size left ⌝ }
 {
-    if LONGEST < used {
+    if pdu::LONGEST < used {
         return 0;
     }
-    let room = (LONGEST - used) / size;
+    let room = (pdu::LONGEST - used) / size;
     if room < left {
         return room;
     }
@@ -243,30 +255,22 @@ pub struct Progress {
     pub full: bool,
 }
 
-// The pass of a type: the Message of those declarations that fit. Its header and the two EndMarks are 8 octets.
-fn pass(table: &[u8], p: usize, attribute: Attribute, from: Progress, buffer: &mut [u8]) -> Progress
-    requires { ⌜ Laid (now table) × (p < 8) × (from .at + 2 ≤ 1500) × (from .next ≤ 1000) × (1500 ≤ length (now buffer)) ⌝ }
-    ensures { λ r. ⌜ (r ≡ passed (kind attribute) (ofKind (kind attribute) p (decode (now (table .entry)) .streams)) from)
-        × (now (buffer .exit) ≡ written (kind attribute) (ofKind (kind attribute) p (decode (now (table .entry)) .streams)) from (now (buffer .entry)))
-        × (r .at + 2 ≤ 1500) × (r .next ≤ from .next + 64) ⌝ }
+// The Message of those that fit, of a type's declarations that are left after those to pass over.
+fn take_run(
+    table: &[u8],
+    p: usize,
+    attribute: Attribute,
+    left: usize,
+    from: Progress,
+    buffer: &mut [u8],
+) -> Progress
+    requires { ⌜ OpenIn (now table) p attribute left from (now buffer) ⌝ }
+    ensures { λ r. ⌜ PassLeaves (kind attribute) (found attribute p (now (table .entry))) from (now (buffer .entry)) r (now (buffer .exit)) ⌝ }
 {
-    if from.full {
-        return from;
-    }
     let at = from.at;
-    let skip = from.skip;
     let next = from.next;
-    let found = count_of(table, p, attribute);
-    if found <= skip {
-        return Progress {
-            at,
-            skip: skip - found,
-            next,
-            full: false,
-        };
-    }
     let size = vector_size(attribute);
-    let n = fits(at + 8, size, found - skip);
+    let n = fits(at + OPENED, size, left);
     if n == 0 {
         return Progress {
             at,
@@ -275,13 +279,39 @@ fn pass(table: &[u8], p: usize, attribute: Attribute, from: Progress, buffer: &m
             full: true,
         };
     }
-    let long = 6 + n * size;
-    write_message(table, p, attribute, skip, n, &mut buffer[at..at + long]);
+    let long = AROUND + n * size;
+    let run = Run {
+        attribute,
+        skip: from.skip,
+        count: n,
+    };
+    write_message(table, p, run, &mut buffer[at..at + long]);
     Progress {
         at: at + long,
         skip: 0,
         next: next + n,
-        full: n < found - skip,
+        full: n < left,
+    }
+}
+
+// The pass of a type.
+fn pass(table: &[u8], p: usize, attribute: Attribute, from: Progress, buffer: &mut [u8]) -> Progress
+    requires { ⌜ PassIn (now table) p from (now buffer) ⌝ }
+    ensures { λ r. ⌜ PassLeaves (kind attribute) (found attribute p (now (table .entry))) from (now (buffer .entry)) r (now (buffer .exit)) ⌝ }
+{
+    if from.full {
+        return from;
+    }
+    let found = count_of(table, p, attribute);
+    let skip = from.skip;
+    if skip < found {
+        return take_run(table, p, attribute, found - skip, from, buffer);
+    }
+    Progress {
+        at: from.at,
+        skip: skip - found,
+        next: from.next,
+        full: false,
     }
 }
 
@@ -294,7 +324,7 @@ pub struct Taken {
 // From a place on, the PDU that takes as many declarations as fit in 1,500 octets: ProtocolVersion, a pass for each type,
 // EndMark.
 pub fn write_pdu(table: &[u8], p: usize, place: usize, buffer: &mut [u8]) -> Taken
-    requires { ⌜ Laid (now table) × (p < 8) × (place ≤ 192) × (1500 ≤ length (now buffer)) ⌝ }
+    requires { ⌜ WriteIn (now table) p place (now buffer) ⌝ }
     ensures { λ r. ⌜ PduWritten (drop place (model.declarations p (decode (now (table .entry)) .streams))) place (now (buffer .entry)) r (now (buffer .exit)) ⌝ }
 {
     buffer[0] = 0;
@@ -308,194 +338,9 @@ pub fn write_pdu(table: &[u8], p: usize, place: usize, buffer: &mut [u8]) -> Tak
     let f = pass(table, p, Attribute::Failed, a, buffer);
     let l = pass(table, p, Attribute::Listener, f, buffer);
     let end = l.at;
-    octets::put(buffer, end, 2, 0);
+    octets::put(buffer, end, END_MARK, 0);
     Taken {
-        length: end + 2,
+        length: end + END_MARK,
         next: l.next,
-    }
-}
-
-// The words of a report.
-pub enum ColumnShown {
-    None,
-    Advertise,
-    Failed,
-}
-
-pub enum ListenerShown {
-    None,
-    AskingFailed,
-    Ready,
-    ReadyFailed,
-}
-
-pub enum EntryShown {
-    None,
-    Filter,
-    Forward,
-}
-
-// What report answers.
-pub struct Reported {
-    pub number: u8,
-    pub count: usize,
-    pub total_a: u64,
-    pub limit_a: u64,
-    pub total_b: u64,
-    pub limit_b: u64,
-    pub id: u64,
-    pub column: ColumnShown,
-    pub code: u8,
-    pub listener: ListenerShown,
-    pub entry: EntryShown,
-}
-
-// What is shown of a stream.
-pub struct StreamShown {
-    pub id: u64,
-    pub column: ColumnShown,
-    pub code: u8,
-    pub listener: ListenerShown,
-    pub entry: EntryShown,
-}
-
-// What is shown of a port.
-pub struct PortShown {
-    pub total_a: u64,
-    pub limit_a: u64,
-    pub total_b: u64,
-    pub limit_b: u64,
-}
-
-// The word of a column's number.
-fn column_shown(number: u8) -> ColumnShown
-    ensures { λ r. ⌜ columnWord r ≡ wordOf (toColumn number 0 0) ⌝ }
-{
-    if number == 0 {
-        return ColumnShown::None;
-    }
-    if number == 1 {
-        return ColumnShown::Advertise;
-    }
-    ColumnShown::Failed
-}
-
-// The word of a Listener's number.
-fn listener_shown(number: u8) -> ListenerShown
-    ensures { λ r. ⌜ declared r ≡ toDeclared number ⌝ }
-{
-    if number == 0 {
-        return ListenerShown::None;
-    }
-    if number == 1 {
-        return ListenerShown::AskingFailed;
-    }
-    if number == 2 {
-        return ListenerShown::Ready;
-    }
-    ListenerShown::ReadyFailed
-}
-
-// The word of an entry's number.
-fn entry_shown(number: u8) -> EntryShown
-    ensures { λ r. ⌜ entered r ≡ toEntry number ⌝ }
-{
-    if number == 0 {
-        return EntryShown::None;
-    }
-    if number == 1 {
-        return EntryShown::Filter;
-    }
-    EntryShown::Forward
-}
-
-// The stream of a record, as the last advance settled it on the port at place p.
-fn stream_shown(rec: &[u8], p: usize) -> StreamShown
-    requires { ⌜ LaidStream (now rec) × (p < 8) ⌝ }
-    ensures { λ r. ⌜ ShowsStream (toStream (now (rec .entry))) p r ⌝ }
-{
-    StreamShown {
-        id: octets::get(rec, 0, 8),
-        column: column_shown(rec[COLUMN + table::RESULT * p]),
-        code: rec[CODE + table::RESULT * p],
-        listener: listener_shown(rec[DECLARED + table::RESULT * p]),
-        entry: entry_shown(rec[ENTRY + table::RESULT * p]),
-    }
-}
-
-// The stream at a place; past the last one there is nothing to show.
-fn stream_at(table: &[u8], p: usize, place: usize) -> StreamShown
-    requires { ⌜ Laid (now table) × (p < 8) × (place ≤ length (decode (now table) .streams)) ⌝ }
-    ensures { λ r. ⌜ ShowsStream (streamAt (decode (now (table .entry)) .streams) place) p r ⌝ }
-{
-    let count = table::count(table);
-    if place < count {
-        let a = table::RECORDS + table::RECORD * place;
-        return stream_shown(&table[a..a + table::RECORD], p);
-    }
-    StreamShown {
-        id: 0,
-        column: ColumnShown::None,
-        code: 0,
-        listener: ListenerShown::None,
-        entry: EntryShown::None,
-    }
-}
-
-// Class totals and limits of the port at place p.
-fn port_shown(table: &[u8], p: usize) -> PortShown
-    requires { ⌜ Laid (now table) × (p < 8) ⌝ }
-    ensures { λ r. ⌜ ShowsPort (decode (now (table .entry))) p r ⌝ }
-{
-    PortShown {
-        total_a: octets::get(table, TOTAL_A + table::TOTAL * p, 5),
-        limit_a: octets::get(table, LIMIT_A + table::PORT * p, 5),
-        total_b: octets::get(table, TOTAL_B + table::TOTAL * p, 5),
-        limit_b: octets::get(table, LIMIT_B + table::PORT * p, 5),
-    }
-}
-
-// A report that is refused: its number, and nothing to show.
-pub fn refused_report(number: u8) -> Reported
-    ensures { λ r. ⌜ shown r ≡ refusedReport number ⌝ }
-{
-    Reported {
-        number,
-        count: 0,
-        total_a: 0,
-        limit_a: 0,
-        total_b: 0,
-        limit_b: 0,
-        id: 0,
-        column: ColumnShown::None,
-        code: 0,
-        listener: ListenerShown::None,
-        entry: EntryShown::None,
-    }
-}
-
-// The report of the port at place p, with the stream at a place.
-pub fn report_at(table: &[u8], p: usize, place: usize) -> Reported
-    requires { ⌜ Laid (now table) × (p < 8) × (place ≤ length (decode (now table) .streams)) ⌝ }
-    ensures { λ r. ⌜ shown r ≡ model.report (decode (now (table .entry))) (p + 1) place ⌝ }
-{
-    let count = table::count(table);
-    let port = port_shown(table, p);
-    let stream = stream_at(table, p, place);
-    let column = stream.column;
-    let listener = stream.listener;
-    let entry = stream.entry;
-    Reported {
-        number: 0,
-        count,
-        total_a: port.total_a,
-        limit_a: port.limit_a,
-        total_b: port.total_b,
-        limit_b: port.limit_b,
-        id: stream.id,
-        column,
-        code: stream.code,
-        listener,
-        entry,
     }
 }

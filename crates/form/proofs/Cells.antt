@@ -1,51 +1,82 @@
--- The rules of a cell in terms of its octets.
-use mathlib.Core.Path.{_≡_}
+-- The rules of a cell in terms of its octets, by its Talker's kind and for its Listener.
+use mathlib.Core.Path.{_≡_, refl, sym, ap, _∙_}
 use mathlib.Core.List.{List, [], _∷_}
-use mathlib.Core.Bool.{not, _||_}
-use Prim.Native.Nat.{ℕ, _%_}
+use mathlib.Core.Bool.{Bool, true, false, not, _&&_, _||_, and-assoc, and-true, and-false}
+use Prim.Native.Nat.{ℕ, zero, suc, _-_, _%_}
 use native.Mathlib.Omega.{arith}
 use lib.ListN.{length, getD, take, drop}
 use lib.Dec.{leb, eqb}
+use borrow.Author.Needs.{needs}
+use borrow.Author.Tests.{ne-eqb}
 use Rattle.octets.specs.Be.{beAt}
 use Rattle.octets.specs.Parts.{part}
 use Rattle.octets.specs.Fields.{fields, width}
 use Rattle.octets.proofs.Fields.{beAt-one}
-use Rattle.model.specs.Table.{cellWidths, allZero, leavingRule, cellRules}
-use Rattle.form.proofs.Tests.{or-implies}
+use Rattle.model.specs.Layout.{bridgeField, bridgePlace, cellSize, cellWidths, changedField, changedPlace, listenerField, listenerLeavesPlace, listenerPlace, listenerSincePlace, priorityField, priorityPlace, talkerField, talkerLeavesPlace, talkerPlace, talkerSincePlace}
+use Rattle.model.specs.Lists.{allTrue, implies}
+use Rattle.model.specs.Table.{between, allZero, leavingRule, cellRules}
+use Rattle.model.proofs.Parts.{zero-between}
 use Rattle.form.proofs.Zeros.{zero-fields}
 
-module _ (clock leave : ℕ) (s : List ℕ) (h : length s ≡ 39) where
-  pub talker-rules : take 6 (cellRules clock leave (fields cellWidths 0 s))
-      ≡ leb (getD s 0 0) 2
-      ∷ leb (getD s 1 0) 1
-      ∷ leavingRule clock leave (getD s 2 0) (beAt 4 s 3)
-      ∷ eqb (getD s 19 0 % 16) 0
-      ∷ (not (eqb (getD s 0 0) 0) || allZero (part 1 32 s))
-      ∷ (not (eqb (getD s 0 0) 1) || allZero (part 24 9 s))
-      ∷ []
-  unfolding cellRules fields cellWidths width
-  talker-rules =
-      rw (
-        or-implies (eqb (getD s 0 0) 0) (allZero (part 1 32 s)),
-        or-implies (eqb (getD s 0 0) 1) (allZero (part 24 9 s)),
-        beAt-one s 0,
-        beAt-one s 1,
-        beAt-one s 2,
-        beAt-one s 19,
-        ← (zero-fields (take 11 (drop 1 cellWidths)) 1 s (omega arith)),
-        ← (zero-fields (take 2 (drop 10 cellWidths)) 24 s (omega arith)),
-      )
+-- without a Talker: fields that are zero keep the other rules
+talker-gone : (clock leave : ℕ) (vs : List ℕ) → getD vs talkerField 0 ≡ 0
+    → allTrue (take 6 (cellRules clock leave vs)) ≡ allZero (between changedField listenerField vs)
+unfolding cellRules allTrue leavingRule
+talker-gone clock leave vs e = go (allZero (between changedField listenerField vs)) refl
+  where
+    go : (z : Bool) → allZero (between changedField listenerField vs) ≡ z → allTrue (take 6 (cellRules clock leave vs)) ≡ z
+    go true h =
+        let at = zero-between changedField (listenerField - changedField) vs h in
+        rw (e, h, at 0 (omega arith), at 1 (omega arith), at 2 (omega arith), at (priorityField - changedField) (omega arith))
+    go false h = rw (e, h, and-false, and-false, and-false)
 
-  pub listener-rules : drop 6 (cellRules clock leave (fields cellWidths 0 s))
-      ≡ leb (getD s 33 0) 3
-      ∷ leavingRule clock leave (getD s 34 0) (beAt 4 s 35)
-      ∷ (not (eqb (getD s 33 0) 0) || allZero (part 34 5 s))
-      ∷ []
-  unfolding cellRules fields cellWidths width
-  listener-rules =
-      rw (
-        or-implies (eqb (getD s 33 0) 0) (allZero (part 34 5 s)),
-        beAt-one s 33,
-        beAt-one s 34,
-        ← (zero-fields (drop 13 cellWidths) 34 s (omega arith)),
-      )
+-- without a Listener: not leaving is enough
+listener-gone : (clock leave k l t : ℕ)
+    → (leavingRule clock leave l t && (not (eqb k 0) || eqb l 0)) ≡ (leavingRule clock leave l t && implies (eqb k 0) (allZero (l ∷ t ∷ [])))
+unfolding leavingRule allZero
+listener-gone clock leave zero zero t = go (eqb t 0)
+  where
+    go : (x : Bool) → (x && true) ≡ (x && (x && true))
+    go true = refl
+    go false = refl
+listener-gone clock leave zero (suc l) t = rw (ne-eqb (suc l) 0 (λ e. omega arith))
+listener-gone clock leave (suc k) l t = rw (ne-eqb (suc k) 0 (λ e. omega arith))
+
+module _ (clock leave : ℕ) (s : List ℕ) (h : length s ≡ cellSize) where
+  abbrev rules : List Bool
+  rules = cellRules clock leave (fields cellWidths 0 s)
+
+  pub registration-rules : (since : ℕ) → since ≡ beAt 4 s talkerSincePlace → (t : Bool) → t ≡ leavingRule clock leave (getD s talkerLeavesPlace 0) since
+      → (leb (getD s changedPlace 0) 1 && t && eqb (getD s priorityPlace 0 % 16) 0) ≡ allTrue (take 3 (drop 1 rules))
+  unfolding cellRules fields allTrue
+  registration-rules since g t e =
+      rw (e, g, beAt-one s changedPlace, beAt-one s talkerLeavesPlace, beAt-one s priorityPlace, and-true)
+      (and-assoc (leb (beAt 1 s changedPlace) 1) _ (eqb (beAt 1 s priorityPlace % 16) 0))
+
+  pub no-talker : (z : Bool) → getD s talkerPlace 0 ≡ 0 → z ≡ allZero (take (listenerPlace - changedPlace) (drop changedPlace s)) → z ≡ allTrue (take 6 rules)
+  unfolding fields width part
+  no-talker z k e =
+      e
+      ∙ sym (zero-fields (between changedField listenerField cellWidths) changedPlace s (omega arith))
+      ∙ sym (talker-gone clock leave (fields cellWidths 0 s) (sym (beAt-one s talkerPlace) ∙ k))
+
+  pub sound-talker : (z : Bool) → getD s talkerPlace 0 ≡ 1 → (t : Bool) → t ≡ allTrue (take 3 (drop 1 rules))
+      → z ≡ allZero (take (listenerPlace - bridgePlace) (drop bridgePlace s)) → (t && z) ≡ allTrue (take 6 rules)
+  unfolding cellRules fields allTrue width part
+  sound-talker z k t f e =
+      rw (f, e, ← (zero-fields (between bridgeField listenerField cellWidths) bridgePlace s (omega arith)), ← (beAt-one s talkerPlace), k) simp (and-assoc, and-true)
+
+  pub broken-talker : (getD s talkerPlace 0 ≡ 0 → ⊥) → (getD s talkerPlace 0 ≡ 1 → ⊥) → (t : Bool) → t ≡ allTrue (take 3 (drop 1 rules))
+      → (leb (getD s talkerPlace 0) 2 && t) ≡ allTrue (take 6 rules)
+  unfolding cellRules fields allTrue
+  broken-talker k l t f = rw (f, ← (beAt-one s talkerPlace), ne-eqb (getD s talkerPlace 0) 0 k, ne-eqb (getD s talkerPlace 0) 1 l) refl
+
+  pub listener-rules : (since : ℕ) → since ≡ beAt 4 s listenerSincePlace → (t : Bool) → t ≡ leavingRule clock leave (getD s listenerLeavesPlace 0) since
+      → (leb (getD s listenerPlace 0) 3 && t && (not (eqb (getD s listenerPlace 0) 0) || eqb (getD s listenerLeavesPlace 0) 0)) ≡ allTrue (drop 6 rules)
+  unfolding cellRules fields allTrue
+  listener-rules since g t e =
+      rw (e, g, beAt-one s listenerPlace, beAt-one s listenerLeavesPlace, and-true, and-assoc)
+      (ap (λ (b : Bool). leb (beAt 1 s listenerPlace) 3 && b) (listener-gone clock leave (beAt 1 s listenerPlace) (beAt 1 s listenerLeavesPlace) (beAt 4 s listenerSincePlace)))
+
+-- what closes the needs of a cell's tests
+pub ruleset by-octets = (needs, registration-rules, no-talker, sound-talker, broken-talker, listener-rules)

@@ -1,40 +1,52 @@
--- Laws of `holds`, by which a loop looks for a registration in one cell after another: the cells left give the answer.
-use mathlib.Core.Path.{_≡_, sym, _∙_}
+-- Laws of `holds`, by which a loop looks for a registration in one cell after another.
+use mathlib.Core.Path.{_≡_, refl, ap, _∙_}
 use mathlib.Core.List.{List}
-use mathlib.Core.Bool.{Bool, true, false, not, _||_}
+use mathlib.Core.Bool.{Bool, true, false, not, _&&_, _||_, Bool·not-not}
 use Prim.Native.Nat.{ℕ, _+_, _-_, _*_, _≤_, _<_}
-use native.Mathlib.Nat.{add-zero, sub-zero}
+use native.Mathlib.Nat.{sub-zero}
 use native.Mathlib.Omega.{arith}
+use borrow.Author.Needs.{needs}
 use lib.ListN.{getD, drop}
 use lib.Seq.{getD-drop}
 use lib.Dec.{eqb}
+use Rattle.model.specs.Layout.{cellSize, listenerPlace, talkerPlace}
 use Rattle.model.specs.Table.{holds}
+use Rattle.form.proofs.Left.{Left, left-more, left-none}
 use Rattle.form.proofs.EveryPart.{drop-part, one-left}
 
+neither : (a b c : Bool) → not (not a || not b || c) ≡ (a && b && not c)
+neither true true c = refl
+neither true false c = refl
+neither false b c = refl
+
 module _ (k : ℕ) (s : List ℕ) where
-  -- p cells hold nothing, and those left of k give the answer
-  abbrev pub NoneBefore : ℕ → Type 0
-  NoneBefore p = (p ≤ k) × (holds (k - p) (drop (39 * p) s) ≡ holds k s)
+  abbrev rest : ℕ → Bool
+  rest p = not (holds (k - p) (drop (p * cellSize) s))
 
-  pub none-yet : NoneBefore 0
-  none-yet = (omega arith, rw sub-zero)
+  abbrev pub CellsLeft : Bool → ℕ → Type 0
+  CellsLeft = Left rest k (not (holds k s))
 
-  pub none-at-all : (p : ℕ) → k ≤ p → NoneBefore p → false ≡ holds k s
-  unfolding holds
-  none-at-all p h l =
-      let e : k - p ≡ 0 = omega arith in
-      rw e at (l .1)
+  pub all-cells : CellsLeft true 0
+  all-cells = (omega arith, rw sub-zero)
 
-  module _ (p : ℕ) (h : p < k) where
-    abbrev Registered : Bool
-    Registered = not (eqb (getD s (39 * p) 0) 0) || not (eqb (getD s (39 * p + 33) 0) 0)
+  module _ (none : Bool) (p : ℕ) where
+    abbrev Nothing : Bool
+    Nothing = eqb (getD s (p * cellSize + talkerPlace) 0) 0 && eqb (getD s (p * cellSize + listenerPlace) 0) 0
 
-    turn : NoneBefore p → holds k s ≡ (Registered || holds (k - (p + 1)) (drop (39 * (p + 1)) s))
+    turn : p < k → rest p ≡ (Nothing && rest (p + 1))
     unfolding holds
-    turn l = sym (l .1) ∙ rw (one-left k p h, getD-drop (39 * p) s 0 0, getD-drop (39 * p) s 33 0, add-zero, ← (drop-part 39 p s))
+    turn h =
+        let a = p * cellSize in
+        rw (one-left k p h, getD-drop a s talkerPlace 0, getD-drop a s listenerPlace 0, ← (drop-part cellSize p s))
+        (neither (eqb (getD s (a + talkerPlace) 0) 0) (eqb (getD s (a + listenerPlace) 0) 0) (holds (k - (p + 1)) (drop cellSize (drop a s))))
 
-    pub none-here : Registered ≡ false → NoneBefore p → NoneBefore (p + 1)
-    none-here a l = (omega arith, sym (rw a at (turn l)))
+    pub cells-more : p < k → CellsLeft none p → CellsLeft (none && Nothing) (p + 1)
+    cells-more h = left-more rest k _ none p Nothing h (turn h)
 
-    pub some-here : Registered ≡ true → NoneBefore p → true ≡ holds k s
-    some-here a l = sym (rw a at (turn l))
+    pub no-cells : k ≤ p → CellsLeft none p → not none ≡ holds k s
+    no-cells h l =
+        let e : k - p ≡ 0 = omega arith in
+        ap not (left-none rest k _ none p (rw e unfold holds in refl) l) ∙ Bool·not-not (holds k s)
+
+-- what closes the needs of such a loop: its start, its turns and its end
+pub ruleset turns = (needs, all-cells, cells-more, no-cells)

@@ -1,3 +1,4 @@
+pub mod Left
 pub mod Zeros
 pub mod Tests
 pub mod EveryPart

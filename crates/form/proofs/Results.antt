@@ -1,41 +1,89 @@
--- The rules of a result in terms of its octets.
-use mathlib.Core.Path.{_≡_}
-use mathlib.Core.List.{List, [], _∷_}
-use mathlib.Core.Bool.{not, _||_}
-use Prim.Native.Nat.{ℕ, _/_}
+-- The rules of a result in terms of its octets, by its column.
+use mathlib.Core.Path.{_≡_, refl}
+use mathlib.Core.List.{List}
+use mathlib.Core.Bool.{Bool, not, _&&_, _||_, and-assoc, and-true, and-false}
+use Prim.Native.Nat.{ℕ, zero, suc, _-_, _/_, _≤_}
 use native.Mathlib.Omega.{arith}
 use lib.ListN.{length, getD, take, drop}
-use lib.Dec.{ltb, leb, eqb}
+use lib.Dec.{leb, eqb}
+use borrow.Author.Needs.{needs}
+use borrow.Author.Tests.{ne-eqb, lt-leb}
 use Rattle.octets.specs.Be.{beAt}
 use Rattle.octets.specs.Parts.{part}
 use Rattle.octets.specs.Fields.{fields, width}
 use Rattle.octets.proofs.Fields.{beAt-one}
-use Rattle.model.specs.Table.{resultWidths, allZero, resultRules}
-use Rattle.form.proofs.Tests.{or-implies, or-implies-not, above}
-use Rattle.form.proofs.Zeros.{zero-fields}
+use Rattle.model.specs.Layout.{agePlace, columnPlace, declaredPlace, entryField, entryPlace, failureField, failurePlace, latencyOutField, latencyOutPlace, resultSize, resultWidths}
+use Rattle.model.specs.Lists.{allTrue, implies}
+use Rattle.model.specs.Table.{between, allZero, resultRules, resultFormed}
+use Rattle.form.proofs.Tests.{or-implies}
+use Rattle.form.proofs.Zeros.{zero-first, zero-fields}
 
-pub result-rules : (clock : ℕ) (s : List ℕ) → length s ≡ 20 → resultRules clock (fields resultWidths 0 s)
-    ≡ leb (getD s 0 0) 2
-    ∷ (not (eqb (getD s 0 0) 0) || eqb (beAt 4 s 1) 0)
-    ∷ (ltb 1 (getD s 0 0) || allZero (part 5 9 s))
-    ∷ leb (getD s 14 0) 2
-    ∷ (eqb (getD s 0 0) 0 || leb 1 (getD s 14 0))
-    ∷ (eqb (getD s 0 0) 1 || leb (getD s 14 0) 1)
-    ∷ (not (eqb (getD s 14 0) 0) || eqb (beAt 4 s 15) 0)
-    ∷ leb (beAt 4 s 15) (clock / 100)
-    ∷ leb (getD s 19 0) 3
-    ∷ []
-unfolding resultRules fields resultWidths width
-result-rules clock s h =
-    rw (
-      or-implies (eqb (getD s 0 0) 0) (eqb (beAt 4 s 1) 0),
-      above (getD s 0 0) 1,
-      or-implies (leb (getD s 0 0) 1) (allZero (part 5 9 s)),
-      or-implies-not (eqb (getD s 0 0) 0) (leb 1 (getD s 14 0)),
-      or-implies-not (eqb (getD s 0 0) 1) (leb (getD s 14 0) 1),
-      or-implies (eqb (getD s 14 0) 0) (eqb (beAt 4 s 15) 0),
-      beAt-one s 0,
-      beAt-one s 14,
-      beAt-one s 19,
-      ← (zero-fields (take 2 (drop 2 resultWidths)) 5 s (omega arith)),
-    )
+-- which entries go with a column: what the other rules of an entry come to
+entry-alone : (e : ℕ) (y : Bool) → (leb e 2 && (leb e 1 && y)) ≡ (leb e 1 && y)
+entry-alone zero y = refl
+entry-alone (suc zero) y = refl
+entry-alone (suc (suc e)) y = rw (lt-leb (suc (suc e)) 1 (omega arith)) (and-false (leb (suc (suc e)) 2))
+
+entry-some : (e : ℕ) (q y : Bool) → (leb 1 e && (implies (eqb e 0) q && y)) ≡ (leb 1 e && y)
+entry-some zero q y = refl
+entry-some (suc e) q y = rw (ne-eqb (suc e) 0 (λ x. omega arith))
+
+entry-filters : (e : ℕ) (q y : Bool) → (leb e 2 && (leb 1 e && (leb e 1 && (implies (eqb e 0) q && y)))) ≡ (eqb e 1 && y)
+entry-filters zero q y = refl
+entry-filters (suc zero) q y = refl
+entry-filters (suc (suc e)) q y =
+    rw (lt-leb (suc (suc e)) 1 (omega arith), ne-eqb (suc (suc e)) 1 (λ x. omega arith), and-false, and-false) refl
+
+module _ (clock : ℕ) (s : List ℕ) (h : length s ≡ resultSize) (second : ℕ) (aged : second ≡ beAt 4 s agePlace) where
+  pub no-column : (z : Bool) → getD s columnPlace 0 ≡ 0 → z ≡ allZero (take (entryPlace - latencyOutPlace) (drop latencyOutPlace s))
+      → (z && leb (getD s entryPlace 0) 1 && (not (eqb (getD s entryPlace 0) 0) || eqb second 0) && (leb second (clock / 100) && leb (getD s declaredPlace 0) 3))
+      ≡ resultFormed clock s
+  unfolding resultFormed resultRules fields allTrue width part
+  no-column z k e =
+      rw (
+        e,
+        ← (zero-fields (between latencyOutField entryField resultWidths) latencyOutPlace s (omega arith)),
+        zero-first,
+        aged,
+        or-implies,
+        beAt-one s entryPlace,
+        beAt-one s declaredPlace,
+        ← (beAt-one s columnPlace),
+        k,
+      )
+      simp (and-assoc, and-true, entry-alone)
+
+  pub advertised : (z : Bool) → getD s columnPlace 0 ≡ 1 → z ≡ allZero (take (entryPlace - failurePlace) (drop failurePlace s))
+      → (z && leb (getD s entryPlace 0) 2 && leb 1 (getD s entryPlace 0) && (leb second (clock / 100) && leb (getD s declaredPlace 0) 3))
+      ≡ resultFormed clock s
+  unfolding resultFormed resultRules fields allTrue width part
+  advertised z k e =
+      rw (
+        e,
+        ← (zero-fields (between failureField entryField resultWidths) failurePlace s (omega arith)),
+        aged,
+        beAt-one s entryPlace,
+        beAt-one s declaredPlace,
+        ← (beAt-one s columnPlace),
+        k,
+      )
+      simp (and-assoc, and-true, entry-some)
+
+  pub failed-column : (getD s columnPlace 0 ≡ 0 → ⊥) → (getD s columnPlace 0 ≡ 1 → ⊥)
+      → (leb (getD s columnPlace 0) 2 && eqb (getD s entryPlace 0) 1 && (leb second (clock / 100) && leb (getD s declaredPlace 0) 3)) ≡ resultFormed clock s
+  unfolding resultFormed resultRules fields allTrue
+  failed-column k l =
+      let m : 2 ≤ getD s columnPlace 0 = omega arith in
+      rw (
+        aged,
+        beAt-one s entryPlace,
+        beAt-one s declaredPlace,
+        ← (beAt-one s columnPlace),
+        ne-eqb (getD s columnPlace 0) 0 k,
+        ne-eqb (getD s columnPlace 0) 1 l,
+        lt-leb (getD s columnPlace 0) 1 m,
+      )
+      simp (and-assoc, and-true, entry-filters)
+
+-- what closes the needs of a result's tests
+pub ruleset by-octets = (needs, no-column, advertised, failed-column)

@@ -7,20 +7,21 @@ use lib.ListN.{drop}
 use lib.Dec.{leb, eqb}
 use borrow.Author.Tests.{le-leb, lt-leb}
 use Rattle.octets.specs.Be.{beAt}
+use Rattle.model.specs.Layout.{portSize, portsPlace, portsUnit, priorityAUnit, priorityBUnit, wordPlace}
 use Rattle.model.specs.Lists.{allTrue}
 use Rattle.model.specs.Table.{everyPart, portsField, portRule, settingsRules}
 
-module _ (s : List ℕ) (w : ℕ) (e : w ≡ beAt 3 s 8) where
-  pub too-many-ports : 8 < w / 1048576 → false ≡ allTrue (settingsRules s)
+module _ (s : List ℕ) (w : ℕ) (e : w ≡ beAt 3 s wordPlace) where
+  pub too-many-ports : 8 < w / portsUnit → false ≡ allTrue (settingsRules s)
   unfolding settingsRules portsField allTrue
-  too-many-ports h = rw (← e, lt-leb (w / 1048576) 8 h) (sym (and-false (leb 1 (w / 1048576))))
+  too-many-ports h = rw (← e, lt-leb (w / portsUnit) 8 h) (sym (and-false (leb 1 (w / portsUnit))))
 
-  pub settings-tests : w / 1048576 ≤ 8
-      → allTrue (leb 1 (w / 1048576)
-      ∷ not (eqb (w / 131072 % 8) (w / 16384 % 8))
-      ∷ leb 1 (w % 16384)
-      ∷ everyPart 22 portRule (w / 1048576) (drop 11 s)
+  pub settings-tests : w / portsUnit ≤ 8
+      → allTrue (leb 1 (w / portsUnit)
+      ∷ not (eqb (w / priorityAUnit % 8) (w / priorityBUnit % 8))
+      ∷ leb 1 (w % priorityBUnit)
+      ∷ everyPart portSize portRule (w / portsUnit) (drop portsPlace s)
       ∷ [])
       ≡ allTrue (settingsRules s)
   unfolding settingsRules portsField allTrue
-  settings-tests h = rw (← e, le-leb (w / 1048576) 8 h)
+  settings-tests h = rw (← e, le-leb (w / portsUnit) 8 h)

@@ -4,24 +4,11 @@ use mathlib.Core.Bool.{Bool, true, false, not, _&&_, _||_, and-assoc, and-true}
 use mathlib.Core.List.{List, [], _∷_}
 use Prim.Native.Nat.{ℕ, zero, suc}
 use lib.ListN.{take, drop}
-use lib.Dec.{ltb, leb}
-use borrow.Author.Tests.{leb-true, leb-false, lt-ltb, le-ltb}
 use Rattle.model.specs.Lists.{allTrue, implies}
 
 pub or-implies : (a b : Bool) → (not a || b) ≡ implies a b
 or-implies true b = refl
 or-implies false b = refl
-
-pub or-implies-not : (a b : Bool) → (a || b) ≡ implies (not a) b
-or-implies-not true b = refl
-or-implies-not false b = refl
-
-pub above : (a b : ℕ) → ltb b a ≡ not (leb a b)
-above a b = go (leb a b) refl
-  where
-    go : (t : Bool) → leb a b ≡ t → ltb b a ≡ not t
-    go true e = le-ltb b a (leb-true a b e)
-    go false e = lt-ltb b a (leb-false a b e)
 
 -- the tests a, b, .. as `a & b & ..` takes them together
 abbrev pub together : Bool → List Bool → Bool

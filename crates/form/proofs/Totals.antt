@@ -1,20 +1,22 @@
--- Laws of `totalsWithin`, by which a loop compares one port's totals after another: what is left to compare gives the answer.
-use mathlib.Core.Path.{_≡_, refl, sym, ap, _∙_}
+-- Laws of `totalsWithin`, by which a loop compares one port's totals after another.
+use mathlib.Core.Path.{_≡_, refl, ap, _∙_}
 use mathlib.Core.List.{List, [], _∷_}
-use mathlib.Core.Bool.{Bool, true, false, not, _&&_, and-true}
+use mathlib.Core.Bool.{Bool, true, _&&_, and-true}
 use Prim.Native.Nat.{ℕ, zero, suc, _+_, _-_, _*_, _≤_, _<_}
 use native.Mathlib.Nat.{sub-zero}
 use native.Mathlib.Omega.{arith}
+use borrow.Author.Needs.{needs}
 use lib.ListN.{length, take, drop, length-drop, take-append-drop}
 use lib.Seq.{take-all, length-take-le}
 use lib.Dec.{leb, eqb}
-use borrow.Author.Tests.{not-true, not-false}
 use Rattle.octets.specs.Be.{beAt}
 use Rattle.octets.specs.Parts.{part}
 use Rattle.octets.specs.Fields.{fields, width}
 use Rattle.octets.proofs.Parts.{lent-part}
+use Rattle.model.specs.Layout.{portSize, totalBPlace, totalSize, totalsSize, totalsWidths}
 use Rattle.model.specs.Lists.{parts}
-use Rattle.model.specs.Table.{allZero, totalsWidths, toTotals, toPort, totalsWithin}
+use Rattle.model.specs.Table.{allZero, toTotals, toPort, totalsWithin}
+use Rattle.form.proofs.Left.{Left, left-more}
 use Rattle.form.proofs.EveryPart.{drop-part, one-left}
 use Rattle.form.proofs.Zeros.{zero-append, zero-fields}
 
@@ -23,55 +25,55 @@ unfolding allZero
 both-zero x y = rw and-true
 
 -- totals are zero where their octets are
-none-reserved : (s : List ℕ) → length s ≡ 10 → (eqb (toTotals s .totalA) 0 && eqb (toTotals s .totalB) 0) ≡ allZero s
-unfolding toTotals totalsWidths fields width part
+none-reserved : (s : List ℕ) → length s ≡ totalSize → (eqb (toTotals s .totalA) 0 && eqb (toTotals s .totalB) 0) ≡ allZero s
+unfolding toTotals fields width part
 none-reserved s h =
-    both-zero (beAt 5 s 0) (beAt 5 s 5) ∙ zero-fields totalsWidths 0 s (omega arith) ∙ ap allZero (take-all 10 s (omega arith))
+    both-zero (beAt 5 s 0) (beAt 5 s totalBPlace) ∙ zero-fields totalsWidths 0 s (omega arith) ∙ ap allZero (take-all totalSize s (omega arith))
 
-no-ports : (k : ℕ) (s : List ℕ) → length s ≡ 10 * k → totalsWithin (parts 10 toTotals k s) [] ≡ allZero s
+no-ports : (k : ℕ) (s : List ℕ) → length s ≡ k * totalSize → totalsWithin (parts totalSize toTotals k s) [] ≡ allZero s
 unfolding totalsWithin parts
 no-ports zero [] h = unfold allZero in refl
 no-ports zero (b ∷ s) h = absurd (omega arith)
 no-ports (suc k) s h =
     rw (
-      none-reserved (take 10 s) (length-take-le 10 s (omega arith)),
-      no-ports k (drop 10 s) (omega (arith, length-drop 10 s)),
-      ← (zero-append (take 10 s) (drop 10 s)),
-      take-append-drop 10 s,
+      none-reserved (take totalSize s) (length-take-le totalSize s (omega arith)),
+      no-ports k (drop totalSize s) (omega (arith, length-drop totalSize s)),
+      ← (zero-append (take totalSize s) (drop totalSize s)),
+      take-append-drop totalSize s,
     )
 
+-- as one port's octets are compared
+abbrev within : List ℕ → List ℕ → Bool
+within t q = leb (toTotals t .totalA) (toPort q .limitA) && leb (toTotals t .totalB) (toPort q .limitB)
+
 module _ (k : ℕ) (s q : List ℕ) where
-  -- the totals of p ports are within their limits, and those left give the answer
-  abbrev pub WithinTo : ℕ → Type 0
-  WithinTo p = (p ≤ k)
-      × (totalsWithin (parts 10 toTotals (8 - p) (drop (10 * p) s)) (parts 22 toPort (k - p) (drop (22 * p) q))
-      ≡ totalsWithin (parts 10 toTotals 8 s) (parts 22 toPort k q))
+  abbrev rest : ℕ → Bool
+  rest p = totalsWithin (parts totalSize toTotals (8 - p) (drop (p * totalSize) s)) (parts portSize toPort (k - p) (drop (p * portSize) q))
 
-  pub within-start : WithinTo 0
-  within-start = (omega arith, rw (sub-zero k))
+  abbrev pub TotalsLeft : Bool → ℕ → Type 0
+  TotalsLeft = Left rest k (totalsWithin (parts totalSize toTotals 8 s) (parts portSize toPort k q))
 
-  -- the places that are no port
-  pub within-end : k ≤ 8 → length s ≡ 80 → (p : ℕ) → k ≤ p → WithinTo p
-      → allZero (drop (10 * k) s) ≡ totalsWithin (parts 10 toTotals 8 s) (parts 22 toPort k q)
-  unfolding parts
-  within-end few whole p h l =
-      let e : p ≡ k = omega arith in
-      let f : k - p ≡ 0 = omega arith in
-      sym (no-ports (8 - k) (drop (10 * k) s) (omega (arith, length-drop (10 * k) s))) ∙ (rw (f, e) at (l .1))
+  pub all-totals : TotalsLeft true 0
+  all-totals = (omega arith, rw (sub-zero k))
 
-  -- the octets of a port that were lent, and whether its totals are within
-  module _ (few : k ≤ 8) (p : ℕ) (h : p < k) (t : Bool)
-      (e : t ≡ (leb (toTotals (take (10 * p + 10 - 10 * p) (drop (10 * p) s)) .totalA) (toPort (take (22 * p + 22 - 22 * p) (drop (22 * p) q)) .limitA)
-      && leb (toTotals (take (10 * p + 10 - 10 * p) (drop (10 * p) s)) .totalB) (toPort (take (22 * p + 22 - 22 * p) (drop (22 * p) q)) .limitB))) where
-    turn : WithinTo p → totalsWithin (parts 10 toTotals 8 s) (parts 22 toPort k q)
-        ≡ (t && totalsWithin (parts 10 toTotals (8 - (p + 1)) (drop (10 * (p + 1)) s)) (parts 22 toPort (k - (p + 1)) (drop (22 * (p + 1)) q)))
-    turn l =
-        sym (l .1)
-        ∙ rw (one-left 8 p (omega arith), one-left k p h, e, lent-part (10 * p) 10 s, lent-part (22 * p) 22 q, ← (drop-part 10 p s), ← (drop-part 22 p q))
-        unfold totalsWithin parts part in refl
+  module _ (ok : Bool) (p : ℕ) where
+    -- t is whether the totals of the port that was lent are within its limits
+    pub totals-more : k ≤ 8 → p < k → (t : Bool)
+        → t ≡ within (take (p * totalSize + totalSize - p * totalSize) (drop (p * totalSize) s)) (take (p * portSize + portSize - p * portSize) (drop (p * portSize) q))
+        → TotalsLeft ok p → TotalsLeft (ok && t) (p + 1)
+    totals-more few h t e =
+        left-more rest k _ ok p t h
+        (rw (one-left 8 p (omega arith), one-left k p h, e, lent-part (p * totalSize) totalSize s, lent-part (p * portSize) portSize q, ← (drop-part totalSize p s), ← (drop-part portSize p q))
+        unfold totalsWithin parts part in refl)
 
-    pub within-more : not t ≡ false → WithinTo p → WithinTo (p + 1)
-    within-more a l = (omega arith, sym (rw (not-false t a) at (turn l)))
+    -- the places that are no port
+    pub no-totals : k ≤ 8 → length s ≡ totalsSize → k ≤ p → (t : Bool) → t ≡ allZero (drop (k * totalSize) s) → TotalsLeft ok p
+        → (ok && t) ≡ totalsWithin (parts totalSize toTotals 8 s) (parts portSize toPort k q)
+    unfolding parts
+    no-totals few whole h t e l =
+        let f : p ≡ k = omega arith in
+        let g : k - p ≡ 0 = omega arith in
+        rw (e, ← (no-ports (8 - k) (drop (k * totalSize) s) (omega (arith, length-drop (k * totalSize) s)))) (rw (g, f) at (l .1))
 
-    pub within-fails : not t ≡ true → WithinTo p → false ≡ totalsWithin (parts 10 toTotals 8 s) (parts 22 toPort k q)
-    within-fails a l = sym (rw (not-true t a) at (turn l))
+-- what closes the needs of such a loop: its start, its turns and its end
+pub ruleset turns = (needs, all-totals, totals-more, no-totals)

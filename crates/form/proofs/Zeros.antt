@@ -1,13 +1,14 @@
 -- Laws of `allZero`: octet by octet, and over fields.
 use mathlib.Core.Path.{_≡_, refl, sym, _∙_}
 use mathlib.Core.List.{List, [], _∷_, _++_}
-use mathlib.Core.Bool.{true, false, _&&_, and-assoc, and-true}
+use mathlib.Core.Bool.{Bool, true, _&&_, and-assoc, and-true}
 use Prim.Native.Nat.{ℕ, zero, suc, _+_, _*_, _<_, _≤_}
 use native.Mathlib.Nat.{zero-mul, zero-add}
 use native.Mathlib.Numerals.{add-one}
 use native.Mathlib.Omega.{arith}
-use lib.ListN.{length, getD, take, drop}
-use lib.Seq.{drop-cons, drop-length, take-add, drop-drop}
+use borrow.Author.Needs.{needs}
+use lib.ListN.{length, getD, take, drop, drop-of-length-le}
+use lib.Seq.{drop-cons, take-add, drop-drop}
 use lib.Dec.{eqb}
 use borrow.Author.Tests.{ne-eqb}
 use Rattle.octets.specs.Be.{beAt}
@@ -15,24 +16,16 @@ use Rattle.octets.specs.Parts.{part}
 use Rattle.octets.specs.Fields.{fields, width}
 use Rattle.octets.proofs.Parts.{part-none, part-more}
 use Rattle.model.specs.Table.{allZero}
-
--- one octet of those left
-pub zero-more : (s : List ℕ) (i : ℕ) → i < length s → getD s i 0 ≡ 0 → allZero (drop i s) ≡ allZero (drop (i + 1) s)
-zero-more s i h e = rw (add-one, drop-cons s i 0 h, e) unfold allZero in refl
-
-pub zero-not : (s : List ℕ) (i : ℕ) → i < length s → (getD s i 0 ≡ 0 → ⊥) → allZero (drop i s) ≡ false
-zero-not s i h e = rw (drop-cons s i 0 h) (go (getD s i 0) (drop (suc i) s) e)
-  where
-    go : (b : ℕ) (l : List ℕ) → (b ≡ 0 → ⊥) → allZero (b ∷ l) ≡ false
-    go b l h = unfold allZero in rw (ne-eqb b 0 h)
-
-pub zero-none : (s : List ℕ) → allZero (drop (length s) s) ≡ true
-zero-none s = rw (drop-length s) unfold allZero in refl
+use Rattle.form.proofs.Left.{Left, left-more, left-none}
 
 pub zero-append : (s t : List ℕ) → allZero (s ++ t) ≡ (allZero s && allZero t)
 unfolding allZero
 zero-append [] t = refl
 zero-append (b ∷ s) t = rw (zero-append s t) (sym (and-assoc (eqb b 0) (allZero s) (allZero t)))
+
+pub zero-first : (b : ℕ) (s : List ℕ) → allZero (b ∷ s) ≡ (eqb b 0 && allZero s)
+unfolding allZero
+zero-first b s = refl
 
 -- a number is 0 where its octets are
 zero-number : (n : ℕ) (s : List ℕ) (at : ℕ) → at + n ≤ length s → eqb (beAt n s at) 0 ≡ allZero (part at n s)
@@ -66,3 +59,24 @@ unfolding fields width allZero
 zero-fields [] at s h = rw (part-none at s)
 zero-fields (w ∷ ws) at s h =
     rw (zero-number w s at (omega arith), zero-fields ws (at + w) s (omega arith)) (zero-parts at w (width ws) s)
+
+-- A loop that tests one octet after another, from a place on.
+module _ (s : List ℕ) (start : ℕ) where
+  abbrev rest : ℕ → Bool
+  rest i = allZero (drop i s)
+
+  abbrev pub ZerosLeft : Bool → ℕ → Type 0
+  ZerosLeft = Left rest (length s) (allZero (drop start s))
+
+  pub all-zeros : start ≤ length s → ZerosLeft true start
+  all-zeros h = (h, refl)
+
+  module _ (clear : Bool) (i : ℕ) where
+    pub zeros-more : i < length s → ZerosLeft clear i → ZerosLeft (clear && eqb (getD s i 0) 0) (i + 1)
+    zeros-more h = left-more rest (length s) _ clear i _ h (rw (add-one, drop-cons s i 0 h) unfold allZero in refl)
+
+    pub no-zeros : length s ≤ i → ZerosLeft clear i → clear ≡ allZero (drop start s)
+    no-zeros h = left-none rest (length s) _ clear i (rw (drop-of-length-le s h) unfold allZero in refl)
+
+-- what closes the needs of such a loop: its start, its turns and its end
+pub ruleset turns = (needs, all-zeros, zeros-more, no-zeros)

@@ -11,12 +11,12 @@ use borrow.Author.Tests.{ltb-false, leb-false, le-ltb, le-leb, eq-eqb, ne-eqb}
 use Rattle.model.specs.Lists.{All, keep, tabulate}
 use Rattle.model.specs.State.{Port, Settings, Leaving, stays, since, Health, sound, broken, Talker, noTalker, talker, Listener, noListener, listener, Cell, Column, none, advertise, failed, Entry, noEntry, filters, forwards, Declared, nothing, tells, Result, Stream, Totals, Bridge, empty, unsettled, noFixed, noPort, portAt, isPort, cellAt, resultAt, Class, classA, classB, limit}
 use Rattle.model.specs.Registrations.{Answer, ids}
-use Rattle.model.specs.Settling.{expired, expireTalker, expireListener, expireCell, expire, held, remain, Source, nowhere, from, source, sourceOf, isSource, fixedOf, registered, isReady, first, brokenColumn, stepsFrom, steps, ageOf, claims, limitOn, byBandwidth, columnOf, capped, latencyOut, entryOf, ageKept, latencyKept, decideAt, decide, totalOn, totalsOn, settle, advance}
+use Rattle.model.specs.Settling.{expired, expireTalker, expireListener, expireCell, expire, held, remain, Source, nowhere, from, source, sourceOf, isSource, fixedOf, healthOf, registered, isReady, Outcome, columnNone, asRegistered, ownFailure, Step, first, brokenColumn, outcomeColumn, stepsFrom, steps, ageOf, claims, limitOn, byBandwidth, columnOf, capped, latencyOut, entryOf, ageKept, latencyKept, decideAt, decide, totalOn, totalsOn, settle, advance}
 use Rattle.model.specs.Bandwidth.{sort, total}
 use Rattle.model.specs.Table.{totalsWithin}
-use Rattle.model.proofs.Lists.{all-tabulate}
+use Rattle.model.proofs.Lists.{all-getD, all-tabulate}
 use Rattle.model.proofs.Admission.{within}
-use Rattle.model.proofs.Valid.{ValidLeaving, ValidFixed, ValidHealth, ValidVarying, ValidTalker, ValidListener, ValidCell, ValidColumn, ValidAge, ValidResult, ValidStream, Rising, Valid}
+use Rattle.model.proofs.Valid.{ValidLeaving, ValidFixed, ValidHealth, ValidRegistration, ValidTalker, ValidListener, ValidCell, ValidColumn, ValidAge, ValidResult, ValidStream, Rising, Valid}
 
 -- Lists.
 
@@ -37,14 +37,9 @@ module _ {A : Type 0} where
   length-tabulate (suc n) p f = ap suc (length-tabulate n (suc p) f)
 
 module _ {A : Type 0} (P : A → Type 0) where
-  pub all-getD : (l : List A) (i : ℕ) (d : A) → P d → All P l → P (getD l i d)
-  all-getD [] i d h a = h
-  all-getD (x ∷ l) zero d h a = a .0
-  all-getD (x ∷ l) (suc i) d h a = all-getD l i d h (a .1)
-
   -- at a place from n on, where it holds of all elements from n on
   pub getD-past : (n : ℕ) (l : List A) (i : ℕ) (d : A) → n ≤ i → P d → All P (drop n l) → P (getD l i d)
-  getD-past zero l i d n≤i h a = all-getD l i d h a
+  getD-past zero l i d n≤i h a = all-getD P l a d h i
   getD-past (suc n) [] i d n≤i h a = h
   getD-past (suc n) (x ∷ l) zero d n≤i h a = absurd (omega arith)
   getD-past (suc n) (x ∷ l) (suc i) d n≤i h a = getD-past n l i d (omega arith) h a
@@ -67,11 +62,11 @@ module _ (st : Settings) (clock now : ℕ) (later : clock ≤ now) where
   talker-remains : (t : Talker) → ValidTalker clock (st .leaveTime) t → ValidTalker now (st .leaveTime) (expireTalker st now t)
   unfolding expireTalker
   talker-remains noTalker v = tt
-  talker-remains (talker f w m l) v = go (expired st now l) refl
+  talker-remains (talker r) v = go (expired st now (r .leaving)) refl
     where
-      go : (b : Bool) → expired st now l ≡ b → ValidTalker now (st .leaveTime) (cond b noTalker (talker f w m l))
+      go : (b : Bool) → expired st now (r .leaving) ≡ b → ValidTalker now (st .leaveTime) (cond b noTalker (talker r))
       go true e = tt
-      go false e = (v .0, v .1, leaving-remains l e (v .2))
+      go false e = record { fixed = v .fixed; varying = v .varying; leaving = leaving-remains (r .leaving) e (v .leaving) }
 
   listener-remains : (t : Listener) → ValidListener clock (st .leaveTime) t → ValidListener now (st .leaveTime) (expireListener st now t)
   unfolding expireListener
@@ -158,20 +153,30 @@ module _ (st : Settings) (now : ℕ) where
 
 -- The Talker: what is registered at the Talker port is valid, and stands on a port.
 
-abbrev ValidSource : Source → Type 0
-ValidSource nowhere = Unit {0}
-ValidSource (from t f v m) = ValidFixed f × ValidVarying v
+abbrev pub ValidSource : ℕ → ℕ → Source → Type 0
+ValidSource clock leave nowhere = Unit {0}
+ValidSource clock leave (from o) = ValidRegistration clock leave (o .registration)
 
 module _ (clock leave : ℕ) where
-  source-valid : (p : ℕ) (cs : List Cell) → All (ValidCell clock leave) cs → ValidSource (source p cs)
+  pub source-valid : (p : ℕ) (cs : List Cell) → All (ValidCell clock leave) cs → ValidSource clock leave (source p cs)
   unfolding source
   source-valid p [] a = tt
   source-valid p (c ∷ cs) a = go (c .talks) (a .0 .talks) (source-valid (suc p) cs (a .1))
     where
-      go : (t : Talker) → ValidTalker clock leave t → ValidSource (source (suc p) cs) →
-          ValidSource (elim t [ noTalker ↦ source (suc p) cs | talker f v m l ↦ from p f v m ])
+      go : (t : Talker) → ValidTalker clock leave t → ValidSource clock leave (source (suc p) cs) →
+          ValidSource clock leave (elim t [ noTalker ↦ source (suc p) cs | talker r ↦ from record { port = p; registration = r } ])
       go noTalker v ih = ih
-      go (talker f w m l) v ih = (v .0, v .1)
+      go (talker r) v ih = v
+
+  pub fixed-valid : (s : Source) → ValidSource clock leave s → ValidFixed (fixedOf s)
+  unfolding fixedOf noFixed
+  fixed-valid nowhere v = omega arith
+  fixed-valid (from o) v = v .fixed
+
+  pub health-valid : (s : Source) → ValidSource clock leave s → ValidHealth (healthOf s)
+  unfolding healthOf
+  health-valid nowhere v = tt
+  health-valid (from o) v = v .varying .health
 
 -- no port below the first place looked at
 source-after : (p q : ℕ) (cs : List Cell) → q < p → isSource (source p cs) q ≡ false
@@ -180,9 +185,9 @@ source-after p q [] h = refl
 source-after p q (c ∷ cs) h = go (c .talks) (source-after (suc p) q cs (omega arith))
   where
     go : (t : Talker) → isSource (source (suc p) cs) q ≡ false →
-        isSource (elim t [ noTalker ↦ source (suc p) cs | talker f v m l ↦ from p f v m ]) q ≡ false
+        isSource (elim t [ noTalker ↦ source (suc p) cs | talker r ↦ from record { port = p; registration = r } ]) q ≡ false
     go noTalker ih = ih
-    go (talker f w m l) ih = ne-eqb p q (omega arith)
+    go (talker r) ih = ne-eqb p q (omega arith)
 
 -- and none without a Talker registration
 not-source : (p k : ℕ) (cs : List Cell) → getD cs k empty ≡ empty → isSource (source p cs) (p + k) ≡ false
@@ -192,30 +197,27 @@ not-source p zero (c ∷ cs) e = rw (ap (λ (d : Cell). d .talks) e) (source-aft
 not-source p (suc k) (c ∷ cs) e = go (c .talks) (not-source (suc p) k cs e)
   where
     go : (t : Talker) → isSource (source (suc p) cs) (suc p + k) ≡ false →
-        isSource (elim t [ noTalker ↦ source (suc p) cs | talker f v m l ↦ from p f v m ]) (p + suc k) ≡ false
+        isSource (elim t [ noTalker ↦ source (suc p) cs | talker r ↦ from record { port = p; registration = r } ]) (p + suc k) ≡ false
     go noTalker ih = let e : suc p + k ≡ p + suc k = omega arith in rw (sym e) ih
-    go (talker f w m l) ih = ne-eqb p (p + suc k) (omega arith)
-
-fixed-valid : (s : Source) → ValidSource s → ValidFixed (fixedOf s)
-unfolding fixedOf noFixed
-fixed-valid nowhere v = omega arith
-fixed-valid (from t f w m) v = v .0
+    go (talker r) ih = ne-eqb p (p + suc k) (omega arith)
 
 -- The column: a Bridge ID and a code that fit their fields.
 
-abbrev ValidFailure : Column → Type 0
+abbrev pub ValidFailure : Column → Type 0
 ValidFailure none = Unit {0}
 ValidFailure advertise = Unit {0}
 ValidFailure (failed b c) = (b < 2 ^ 64) × (c < 256)
 
-first-valid : (l : List (Bool × Column)) (c : Column) → All (λ s. ValidFailure (s .1)) l → ValidFailure c → ValidFailure (first l c)
-unfolding first
-first-valid [] c a v = v
-first-valid (s ∷ l) c a v = go (s .0) (first-valid l c (a .1) v)
-  where
-    go : (t : Bool) → ValidFailure (first l c) → ValidFailure (cond t (s .1) (first l c))
-    go true ih = a .0
-    go false ih = ih
+-- the code of an own failure is an octet
+abbrev ValidOutcome : Outcome → Type 0
+ValidOutcome columnNone = Unit {0}
+ValidOutcome asRegistered = Unit {0}
+ValidOutcome (ownFailure code) = code < 256
+
+codes-fit : (st : Settings) (p : ℕ) (here : Cell) (s : Source) → All (λ t. ValidOutcome (t .outcome)) (stepsFrom st p here s)
+unfolding stepsFrom
+codes-fit st p here nowhere = omega arith
+codes-fit st p here (from o) = omega arith
 
 broken-valid : (h : Health) → ValidHealth h → ValidFailure (brokenColumn h)
 unfolding brokenColumn
@@ -223,11 +225,30 @@ broken-valid sound v = tt
 broken-valid (broken b c) v = v
 
 module _ (st : Settings) (named : st .bridgeId < 2 ^ 64) where
-  steps-valid : (p : ℕ) (here : Cell) (s : Source) → ValidSource s → All (λ s. ValidFailure (s .1)) (stepsFrom st p here s)
-  unfolding stepsFrom
-  steps-valid p here nowhere v = (tt, tt)
-  steps-valid p here (from t f w m) v =
-      (tt, (tt, (broken-valid (w .health) (v .1 .health), (omega arith, (omega arith, (omega arith, (omega arith, tt)))))))
+  module _ (s : Source) (v : ValidHealth (healthOf s)) where
+    outcome-valid : (o : Outcome) → ValidOutcome o → ValidFailure (outcomeColumn st s o)
+    unfolding outcomeColumn
+    outcome-valid columnNone h = tt
+    outcome-valid asRegistered h = broken-valid (healthOf s) v
+    outcome-valid (ownFailure code) h = (named, h)
+
+    first-valid : (l : List Step) (c : Column) → All (λ t. ValidOutcome (t .outcome)) l → ValidFailure c → ValidFailure (first (outcomeColumn st s) l c)
+    unfolding first
+    first-valid [] c a w = w
+    first-valid (t ∷ l) c a w = go (t .test) (first-valid l c (a .1) w)
+      where
+        rest : Column
+        rest = first (outcomeColumn st s) l c
+
+        go : (b : Bool) → ValidFailure rest → ValidFailure (cond b (outcomeColumn st s (t .outcome)) rest)
+        go true ih = outcome-valid (t .outcome) (a .0)
+        go false ih = ih
+
+  -- whichever step applies, and whatever follows them all
+  pub steps-valid : (p : ℕ) (x : Stream) (c : Column) → ValidHealth (healthOf (sourceOf x)) → ValidFailure c
+      → ValidFailure (first (outcomeColumn st (sourceOf x)) (steps st p x) c)
+  unfolding steps
+  steps-valid p x c v w = first-valid (sourceOf x) v _ c (tt, codes-fit st p (cellAt x p) (sourceOf x)) w
 
   bandwidth-valid : (d l : ℕ) → ValidFailure (byBandwidth st d l)
   unfolding byBandwidth
@@ -237,9 +258,9 @@ module _ (st : Settings) (named : st .bridgeId < 2 ^ 64) where
       go true = omega arith
       go false = tt
 
-  column-valid : (now : ℕ) (s : List Stream) (p : ℕ) (x : Stream) → ValidSource (sourceOf x) → ValidFailure (columnOf st now s p x)
-  unfolding columnOf steps
-  column-valid now s p x v = first-valid _ _ (tt, steps-valid p (cellAt x p) (sourceOf x) v) (bandwidth-valid _ _)
+  column-valid : (now : ℕ) (s : List Stream) (p : ℕ) (x : Stream) → ValidHealth (healthOf (sourceOf x)) → ValidFailure (columnOf st now s p x)
+  unfolding columnOf
+  column-valid now s p x v = steps-valid p x _ v (bandwidth-valid _ _)
 
 -- Table 35-12 gives each column an entry that goes with it
 entry-fits : (c : Column) (d : Declared) (n : ℕ) → ValidFailure c → ValidColumn c (latencyKept c n) (entryOf c d)
@@ -253,7 +274,7 @@ entry-fits advertise d n v = go (isReady d)
     go false = tt
 entry-fits (failed b c) d n v = v
 
-capped-fits : (n : ℕ) → capped n < 2 ^ 32
+pub capped-fits : (n : ℕ) → capped n < 2 ^ 32
 unfolding capped
 capped-fits n = go (ltb 4294967295 n) refl
   where
@@ -261,7 +282,7 @@ capped-fits n = go (ltb 4294967295 n) refl
     go true e = omega arith
     go false e = omega (arith, ltb-false 4294967295 n e)
 
-latency-fits : (c : Column) (n : ℕ) → n < 2 ^ 32 → latencyKept c n < 2 ^ 32
+pub latency-fits : (c : Column) (n : ℕ) → n < 2 ^ 32 → latencyKept c n < 2 ^ 32
 unfolding latencyKept
 latency-fits none n h = omega arith
 latency-fits advertise n h = h
@@ -291,19 +312,19 @@ unsettled-valid clock = record { column = refl; latency = omega arith; age = ref
 
 module _ (st : Settings) (named : st .bridgeId < 2 ^ 64) (clock now : ℕ) (later : clock ≤ now) (s : List Stream) (x : Stream)
     (r : Remaining (length (st .ports)) clock now (st .leaveTime) x) where
-  source-fits : ValidSource (sourceOf x)
+  source-fits : ValidSource now (st .leaveTime) (sourceOf x)
   unfolding sourceOf
   source-fits = source-valid now (st .leaveTime) 0 (x .cells) (r .cells)
 
   result-valid : (p : ℕ) → ValidResult now (decideAt st now s x p)
   unfolding decideAt latencyOut resultAt
   result-valid p = record {
-    column = entry-fits (columnOf st now s p x) (registered (cellAt x p)) _ (column-valid st named now s p x source-fits);
+    column = entry-fits (columnOf st now s p x) (registered (cellAt x p)) _ (column-valid st named now s p x (health-valid now (st .leaveTime) (sourceOf x) source-fits));
     latency = latency-fits (columnOf st now s p x) _ (capped-fits _);
     age =
         age-fits now (entryOf (columnOf st now s p x) (registered (cellAt x p))) _
         (age-valid clock now (resultAt x p) later
-        (all-getD (ValidResult clock) (x .results) p unsettled (unsettled-valid clock) (r .results)));
+        (all-getD (ValidResult clock) (x .results) (r .results) unsettled (unsettled-valid clock) p));
   }
 
   -- a place that is no port has no registration, so no result
@@ -316,14 +337,14 @@ module _ (st : Settings) (named : st .bridgeId < 2 ^ 64) (clock now : ℕ) (late
   no-talker p h = let e : 0 + p ≡ p = omega arith in rw e at (not-source 0 p (x .cells) (no-cell p h))
 
   unsettled-there : (p : ℕ) → length (st .ports) ≤ p → decideAt st now s x p ≡ unsettled
-  unfolding decideAt columnOf steps isPort first registered entryOf ageKept latencyKept unsettled empty
+  unfolding decideAt columnOf steps isPort first outcomeColumn registered entryOf ageKept latencyKept unsettled empty
   unsettled-there p h = rw (le-ltb p (length (st .ports)) h, no-talker p h, no-cell p h)
 
   decided-valid : ValidStream (length (st .ports)) now (st .leaveTime) (decide st now s x)
   unfolding decide
   decided-valid = record {
     id = r .id;
-    settled = fixed-valid (sourceOf x) source-fits;
+    settled = fixed-valid now (st .leaveTime) (sourceOf x) source-fits;
     eight-cells = r .eight-cells;
     cells = r .cells;
     no-other-cells = r .no-other-cells;

@@ -3,7 +3,7 @@
 use mathlib.Core.Path.{_≡_, refl, sym, ap, _∙_}
 use mathlib.Core.List.{List, [], _∷_, _++_}
 use mathlib.Core.Bool.{Bool, true, false, cond, not, _||_, or-assoc, or-false, false≢true}
-use Prim.Native.Nat.{ℕ, zero, suc, _+_, _*_, _%_, _^_, _≤_, _<_}
+use Prim.Native.Nat.{ℕ, zero, suc, _+_, _-_, _*_, _%_, _^_, _≤_, _<_}
 use native.Mathlib.Omega.{arith}
 use lib.ListN.{length, getD, take, drop, length-append, take-append-drop}
 use lib.Seq.{getD-take, getD-append-seam, getD-append-add}
@@ -13,15 +13,16 @@ use Rattle.octets.specs.Be.{beAt}
 use Rattle.octets.specs.Parts.{zeros}
 use Rattle.octets.specs.Fields.{fields, Fit, width, flat}
 use Rattle.octets.proofs.Fields.{length-packed-any, fields-of-packed, fields-fit, fit-at, fit-append, fit-zeros, packed-zeros}
+use Rattle.model.specs.Layout.{bridgeField, cellFields, cellSize, cellWidths, changedField, codeField, fixedField, fixedWidths, latencyField, listenerField, listenerLeavesField, listenerPlace, listenerSinceField, priorityField, talkerField, talkerLeavesField, talkerSinceField, varyingWidths}
 use Rattle.model.specs.Lists.{All, allTrue, implies, tabulate, parts, Octets, bit, isOne}
-use Rattle.model.specs.State.{Leaving, stays, since, Fixed, Health, sound, broken, Varying, Talker, noTalker, talker, Ready, askingFailed, ready, readyFailed, Listener, noListener, listener, Cell, empty}
+use Rattle.model.specs.State.{Leaving, stays, since, Fixed, Health, sound, broken, Registration, Talker, noTalker, talker, Ready, askingFailed, ready, readyFailed, Listener, noListener, listener, Cell, empty}
 use Rattle.model.specs.Frames.{priorityOf, rankOf}
 use Rattle.model.specs.WrittenFrames.{priorityOctet, fixedNumbers, readyNumber}
 use Rattle.model.specs.Settling.{isTalking, isHearing, held}
-use Rattle.model.specs.Table.{cellWidths, leavingNumber, sinceNumber, toLeaving, healthNumber, bridgeNumber, codeNumber, toHealth, talkerNumbers, listenerNumbers, cellNumbers, fixedFrom, toReady, talkerFrom, listenerFrom, cellFrom, cellOctets, toCell, allZero, leavingRule, cellRules, cellFormed, holds}
+use Rattle.model.specs.Table.{leavingNumber, sinceNumber, toLeaving, healthNumber, bridgeNumber, codeNumber, toHealth, talkerNumbers, listenerNumbers, cellNumbers, fixedFrom, toReady, registrationFrom, talkerFrom, listenerFrom, cellFrom, cellOctets, toCell, between, allZero, leavingRule, cellRules, cellFormed, holds}
 use Rattle.model.proofs.Lists.{all-each, and-left, and-right, and-both, implied, all-true, true-all}
 use Rattle.model.proofs.Valid.{ValidLeaving, ValidFixed, ValidHealth, ValidTalker, ValidListener, ValidCell}
-use Rattle.model.proofs.Parts.{octets-at, octets-packed, _also_, zero-between, zero-run, packed-whole, parts-take, parts-flat, Sized}
+use Rattle.model.proofs.Parts.{octets-at, octets-packed, _also_, zero-run, two-zero, packed-whole, parts-take, parts-flat, Sized}
 
 -- Fixed values: five numbers, the last of them priority and rank.
 
@@ -61,11 +62,8 @@ unfolding fixedFrom fixedNumbers priorityOctet
 fixed-forth i vs h = rw (priority-forth (getD vs (i + 4) 0) h)
 
 -- the widths of their fields
-unfoldable pub fixedWidths : List ℕ
-fixedWidths = 6 ∷ 2 ∷ 2 ∷ 2 ∷ 1 ∷ []
-
 pub fixed-fit : (f : Fixed) → ValidFixed f → Fit fixedWidths (fixedNumbers f)
-unfolding Fit fixedWidths fixedNumbers priorityOctet
+unfolding Fit fixedNumbers priorityOctet
 fixed-fit f v = v .destination also v .vlan also v .size also v .frames also omega (arith, v .priority, v .rank) also tt
 
 pub fixed-valid : (i : ℕ) (vs : List ℕ) → getD vs i 0 < 256 ^ 6 → getD vs (i + 1) 0 < 256 ^ 2 → getD vs (i + 2) 0 < 256 ^ 2
@@ -87,7 +85,7 @@ unfolding toLeaving leavingNumber sinceNumber
 leaving-back stays = refl
 leaving-back (since t) = refl
 
-leaving-few : (l : Leaving) → leavingNumber l < 256
+pub leaving-few : (l : Leaving) → leavingNumber l < 256
 unfolding leavingNumber
 leaving-few stays = omega arith
 leaving-few (since t) = omega arith
@@ -180,12 +178,12 @@ ready-number readyFailed = (omega arith, omega arith)
 
 -- A valid cell: its numbers fit, come back, and keep the rules.
 
-talker-size : (t : Talker) → length (talkerNumbers t) ≡ 12
+talker-size : (t : Talker) → length (talkerNumbers t) ≡ listenerField
 unfolding talkerNumbers fixedNumbers
 talker-size noTalker = refl
-talker-size (talker f v m l) = refl
+talker-size (talker r) = refl
 
-listener-size : (h : Listener) → length (listenerNumbers h) ≡ 3
+listener-size : (h : Listener) → length (listenerNumbers h) ≡ cellFields - listenerField
 unfolding listenerNumbers
 listener-size noListener = refl
 listener-size (listener r l) = refl
@@ -196,7 +194,7 @@ unfolding healthNumber bridgeNumber codeNumber allZero
 health-rules sound = (refl, refl, refl)
 health-rules (broken b c) = (refl, refl, refl)
 
-health-fit : (h : Health) → ValidHealth h → (healthNumber h < 256) × (bridgeNumber h < 256 ^ 8) × (codeNumber h < 256)
+pub health-fit : (h : Health) → ValidHealth h → (healthNumber h < 256) × (bridgeNumber h < 256 ^ 8) × (codeNumber h < 256)
 unfolding healthNumber bridgeNumber codeNumber
 health-fit sound v = (omega arith, omega arith, omega arith)
 health-fit (broken b c) v = (omega arith, v .0, v .1)
@@ -211,50 +209,52 @@ listener-back : (t : Talker) (h : Listener) → listenerFrom (talkerNumbers t ++
 unfolding listenerFrom talkerNumbers listenerNumbers fixedNumbers
 listener-back noTalker noListener = refl
 listener-back noTalker (listener r l) = rw (ready-rules r .1, ready-back r, leaving-back l)
-listener-back (talker f w m k) noListener = refl
-listener-back (talker f w m k) (listener r l) = rw (ready-rules r .1, ready-back r, leaving-back l)
+listener-back (talker k) noListener = refl
+listener-back (talker k) (listener r l) = rw (ready-rules r .1, ready-back r, leaving-back l)
 
 module _ (clock leave : ℕ) where
-  talker-fit : (t : Talker) → ValidTalker clock leave t → clock < 2 ^ 32 → Fit (take 12 cellWidths) (talkerNumbers t)
-  unfolding Fit cellWidths talkerNumbers fixedWidths
-  talker-fit noTalker v h = fit-zeros (take 12 cellWidths)
-  talker-fit (talker f w m l) v h =
-      let (k, b, c) = health-fit (w .health) (v .1 .health) in
+  talker-fit : (t : Talker) → ValidTalker clock leave t → clock < 2 ^ 32 → Fit (take listenerField cellWidths) (talkerNumbers t)
+  unfolding Fit talkerNumbers
+  talker-fit noTalker v h = fit-zeros (take listenerField cellWidths)
+  talker-fit (talker r) v h =
+      let w = r .varying in
+      let (k, b, c) = health-fit (w .health) (v .varying .health) in
       k
-      also omega (arith, bit-few m)
-      also leaving-few l
-      also since-within clock leave l (v .2) h
-      also fit-append fixedWidths (fixedNumbers f) (4 ∷ 8 ∷ 1 ∷ []) (w .latency ∷ bridgeNumber (w .health) ∷ codeNumber (w .health) ∷ [])
-      (fixed-fit f (v .0)) (v .1 .latency also b also c also tt)
+      also omega (arith, bit-few (r .changed))
+      also leaving-few (r .leaving)
+      also since-within clock leave (r .leaving) (v .leaving) h
+      also fit-append fixedWidths (fixedNumbers (r .fixed)) varyingWidths (w .latency ∷ bridgeNumber (w .health) ∷ codeNumber (w .health) ∷ [])
+      (fixed-fit (r .fixed) (v .fixed)) (v .varying .latency also b also c also tt)
 
-  listener-fit : (h : Listener) → ValidListener clock leave h → clock < 2 ^ 32 → Fit (drop 12 cellWidths) (listenerNumbers h)
-  unfolding Fit cellWidths listenerNumbers
-  listener-fit noListener v h = fit-zeros (drop 12 cellWidths)
+  listener-fit : (h : Listener) → ValidListener clock leave h → clock < 2 ^ 32 → Fit (drop listenerField cellWidths) (listenerNumbers h)
+  unfolding Fit listenerNumbers
+  listener-fit noListener v h = fit-zeros (drop listenerField cellWidths)
   listener-fit (listener r l) v h = omega (arith, ready-number r .1) also leaving-few l also since-within clock leave l v h also tt
 
   pub cell-fit : (c : Cell) → ValidCell clock leave c → clock < 2 ^ 32 → Fit cellWidths (cellNumbers c)
-  unfolding cellNumbers cellWidths
+  unfolding cellNumbers
   cell-fit c v h =
-      fit-append (take 12 cellWidths) (talkerNumbers (c .talks)) (drop 12 cellWidths) (listenerNumbers (c .hears))
+      fit-append (take listenerField cellWidths) (talkerNumbers (c .talks)) (drop listenerField cellWidths) (listenerNumbers (c .hears))
       (talker-fit (c .talks) (v .talks) h) (listener-fit (c .hears) (v .hears) h)
 
   talker-back : (t : Talker) → ValidTalker clock leave t → (after : List ℕ) → talkerFrom (talkerNumbers t ++ after) ≡ t
-  unfolding talkerFrom talkerNumbers fixedNumbers
+  unfolding talkerFrom registrationFrom talkerNumbers fixedNumbers
   talker-back noTalker v after = refl
-  talker-back (talker f w m l) v after =
+  talker-back (talker r) v after =
+      let w = r .varying in
       rw (
         health-rules (w .health) .1,
-        bit-back m,
-        leaving-back l,
+        bit-back (r .changed),
+        leaving-back (r .leaving),
         health-back (w .health),
-        fixed-back f (v .0) (healthNumber (w .health) ∷ bit m ∷ leavingNumber l ∷ sinceNumber l ∷ [])
+        fixed-back (r .fixed) (v .fixed) (healthNumber (w .health) ∷ bit (r .changed) ∷ leavingNumber (r .leaving) ∷ sinceNumber (r .leaving) ∷ [])
             (w .latency ∷ bridgeNumber (w .health) ∷ codeNumber (w .health) ∷ after),
       )
 
   hearing-rules : (h : Listener) → ValidListener clock leave h
       → let at : ℕ → ℕ = λ i. getD (listenerNumbers h) i 0 in
       All (λ b. b ≡ true)
-      (leb (at 0) 3 ∷ leavingRule clock leave (at 1) (at 2) ∷ implies (eqb (at 0) 0) (allZero (take 2 (drop 1 (listenerNumbers h)))) ∷ [])
+      (leb (at 0) 3 ∷ leavingRule clock leave (at 1) (at 2) ∷ implies (eqb (at 0) 0) (allZero (at 1 ∷ at 2 ∷ [])) ∷ [])
   unfolding listenerNumbers leavingRule allZero
   hearing-rules noListener v = refl also refl also refl also tt
   hearing-rules (listener r l) v = ready-rules r .0 also leaving-formed clock leave l v also rw (ready-rules r .1) refl also tt
@@ -265,13 +265,13 @@ module _ (clock leave : ℕ) where
   cell-rules noTalker v h u =
       true-all (cellRules clock leave (talkerNumbers noTalker ++ listenerNumbers h))
       (refl also refl also refl also refl also refl also refl also hearing-rules h u)
-  cell-rules (talker f w m l) v h u =
-      let (few, there, whole) = health-rules (w .health) in
-      true-all (cellRules clock leave (talkerNumbers (talker f w m l) ++ listenerNumbers h))
+  cell-rules (talker r) v h u =
+      let (few, there, whole) = health-rules (r .varying .health) in
+      true-all (cellRules clock leave (talkerNumbers (talker r) ++ listenerNumbers h))
       (few
-      also le-leb (bit m) 1 (bit-few m)
-      also leaving-formed clock leave l (v .2)
-      also eq-eqb (priorityOctet f % 16) 0 (priority-spare f)
+      also le-leb (bit (r .changed)) 1 (bit-few (r .changed))
+      also leaving-formed clock leave (r .leaving) (v .leaving)
+      also eq-eqb (priorityOctet (r .fixed) % 16) 0 (priority-spare (r .fixed))
       also rw there refl
       also whole
       also hearing-rules h u)
@@ -279,95 +279,94 @@ module _ (clock leave : ℕ) where
 -- Numbers that keep the rules: what they say is valid, and is written with the same numbers.
 
 record Kept (clock leave : ℕ) (vs : List ℕ) : Type 0 where
-  kind : getD vs 0 0 ≤ 2
-  mark : getD vs 1 0 ≤ 1
-  leaves : leavingRule clock leave (getD vs 2 0) (getD vs 3 0) ≡ true
-  spare : getD vs 8 0 % 16 ≡ 0
-  gone : getD vs 0 0 ≡ 0 → tabulate 11 1 (λ i. getD vs i 0) ≡ zeros 11
-  sound : getD vs 0 0 ≡ 1 → (getD vs 10 0 ≡ 0) × (getD vs 11 0 ≡ 0)
-  hearing : getD vs 12 0 ≤ 3
-  quits : leavingRule clock leave (getD vs 13 0) (getD vs 14 0) ≡ true
-  deaf : getD vs 12 0 ≡ 0 → tabulate 2 13 (λ i. getD vs i 0) ≡ zeros 2
+  kind : getD vs talkerField 0 ≤ 2
+  mark : getD vs changedField 0 ≤ 1
+  leaves : leavingRule clock leave (getD vs talkerLeavesField 0) (getD vs talkerSinceField 0) ≡ true
+  spare : getD vs priorityField 0 % 16 ≡ 0
+  gone : getD vs talkerField 0 ≡ 0
+      → tabulate (listenerField - changedField) changedField (λ i. getD vs i 0) ≡ zeros (listenerField - changedField)
+  sound : getD vs talkerField 0 ≡ 1 → (getD vs bridgeField 0 ≡ 0) × (getD vs codeField 0 ≡ 0)
+  hearing : getD vs listenerField 0 ≤ 3
+  quits : leavingRule clock leave (getD vs listenerLeavesField 0) (getD vs listenerSinceField 0) ≡ true
+  deaf : getD vs listenerField 0 ≡ 0 → (getD vs listenerLeavesField 0 ≡ 0) × (getD vs listenerSinceField 0 ≡ 0)
 
 kept : (clock leave : ℕ) (vs : List ℕ) → allTrue (cellRules clock leave vs) ≡ true → Kept clock leave vs
 unfolding cellRules
 kept clock leave vs h =
+    let at : ℕ → ℕ = λ i. getD vs i 0 in
     let r = all-true (cellRules clock leave vs) h in
     record {
-      kind = leb-true (getD vs 0 0) 2 (r .0);
-      mark = leb-true (getD vs 1 0) 1 (r .1 .0);
+      kind = leb-true (at talkerField) 2 (r .0);
+      mark = leb-true (at changedField) 1 (r .1 .0);
       leaves = r .1 .1 .0;
-      spare = eqb-true (getD vs 8 0 % 16) 0 (r .1 .1 .1 .0);
-      gone = λ e. zero-run 1 11 vs (implied (eqb (getD vs 0 0) 0) (allZero (take 11 (drop 1 vs))) (r .1 .1 .1 .1 .0) (eq-eqb (getD vs 0 0) 0 e));
-      sound = λ e.
-          let z = zero-between 10 2 vs (implied (eqb (getD vs 0 0) 1) (allZero (take 2 (drop 10 vs))) (r .1 .1 .1 .1 .1 .0) (eq-eqb (getD vs 0 0) 1 e)) in
-          (z 0 (omega arith), z 1 (omega arith));
-      hearing = leb-true (getD vs 12 0) 3 (r .1 .1 .1 .1 .1 .1 .0);
+      spare = eqb-true (at priorityField % 16) 0 (r .1 .1 .1 .0);
+      gone = λ e.
+          zero-run changedField (listenerField - changedField) vs
+          (implied (eqb (at talkerField) 0) (allZero (between changedField listenerField vs)) (r .1 .1 .1 .1 .0) (eq-eqb (at talkerField) 0 e));
+      sound = λ e. two-zero (at bridgeField) (at codeField) (implied (eqb (at talkerField) 1) _ (r .1 .1 .1 .1 .1 .0) (eq-eqb (at talkerField) 1 e));
+      hearing = leb-true (at listenerField) 3 (r .1 .1 .1 .1 .1 .1 .0);
       quits = r .1 .1 .1 .1 .1 .1 .1 .0;
-      deaf = λ e. zero-run 13 2 vs (implied (eqb (getD vs 12 0) 0) (allZero (take 2 (drop 13 vs))) (r .1 .1 .1 .1 .1 .1 .1 .1 .0) (eq-eqb (getD vs 12 0) 0 e));
+      deaf = λ e.
+          two-zero (at listenerLeavesField) (at listenerSinceField)
+          (implied (eqb (at listenerField) 0) _ (r .1 .1 .1 .1 .1 .1 .1 .1 .0) (eq-eqb (at listenerField) 0 e));
     }
 
 module _ (clock leave : ℕ) (vs : List ℕ) (k : Kept clock leave vs) where
-  talker-forth : talkerNumbers (talkerFrom vs) ≡ tabulate 12 0 (λ i. getD vs i 0)
-  unfolding talkerNumbers talkerFrom tabulate
-  talker-forth = go (getD vs 0 0) refl
+  talker-forth : talkerNumbers (talkerFrom vs) ≡ tabulate listenerField talkerField (λ i. getD vs i 0)
+  unfolding talkerNumbers talkerFrom registrationFrom tabulate
+  talker-forth = go (getD vs talkerField 0) refl
     where
       at : ℕ → ℕ
       at i = getD vs i 0
 
-      go : (n : ℕ) → at 0 ≡ n → talkerNumbers (talkerFrom vs) ≡ tabulate 12 0 at
-      go zero e = rw (eq-eqb (at 0) 0 e, e) (ap (λ (l : List ℕ). 0 ∷ l) (sym (k .gone e)))
+      go : (n : ℕ) → at talkerField ≡ n → talkerNumbers (talkerFrom vs) ≡ tabulate listenerField talkerField at
+      go zero e = rw (eq-eqb (at talkerField) 0 e, e) (ap (λ (l : List ℕ). 0 ∷ l) (sym (k .gone e)))
       go (suc n) e =
-          let (kind, bridge, code) = health-forth (at 0) (at 10) (at 11) (omega arith) (k .kind) (k .sound) in
-          let (whether, when) = left clock leave (at 2) (at 3) (k .leaves) .forth in
-          rw (ne-eqb (at 0) 0 (omega arith), kind, bridge, code, whether, when, bit-forth (at 1) (k .mark), fixed-forth 4 vs (k .spare))
+          let (kind, bridge, code) = health-forth (at talkerField) (at bridgeField) (at codeField) (omega arith) (k .kind) (k .sound) in
+          let (whether, when) = left clock leave (at talkerLeavesField) (at talkerSinceField) (k .leaves) .forth in
+          rw (ne-eqb (at talkerField) 0 (omega arith), kind, bridge, code, whether, when, bit-forth (at changedField) (k .mark), fixed-forth fixedField vs (k .spare))
 
-  listener-forth : listenerNumbers (listenerFrom vs) ≡ tabulate 3 12 (λ i. getD vs i 0)
+  listener-forth : listenerNumbers (listenerFrom vs) ≡ tabulate 3 listenerField (λ i. getD vs i 0)
   unfolding listenerNumbers listenerFrom tabulate
-  listener-forth = go (getD vs 12 0) refl
+  listener-forth = go (getD vs listenerField 0) refl
     where
       at : ℕ → ℕ
       at i = getD vs i 0
 
-      go : (n : ℕ) → at 12 ≡ n → listenerNumbers (listenerFrom vs) ≡ tabulate 3 12 at
-      go zero e = rw (eq-eqb (at 12) 0 e, e) (ap (λ (l : List ℕ). 0 ∷ l) (sym (k .deaf e)))
+      go : (n : ℕ) → at listenerField ≡ n → listenerNumbers (listenerFrom vs) ≡ tabulate 3 listenerField at
+      go zero e = rw (eq-eqb (at listenerField) 0 e, e, k .deaf e .0, k .deaf e .1)
       go (suc n) e =
-          let (whether, when) = left clock leave (at 13) (at 14) (k .quits) .forth in
-          rw (ne-eqb (at 12) 0 (omega arith), whether, when, ready-forth (at 12) (omega arith) (k .hearing))
+          let (whether, when) = left clock leave (at listenerLeavesField) (at listenerSinceField) (k .quits) .forth in
+          rw (ne-eqb (at listenerField) 0 (omega arith), whether, when, ready-forth (at listenerField) (omega arith) (k .hearing))
 
   module _ (fit : Fit cellWidths vs) where
     talker-valid : ValidTalker clock leave (talkerFrom vs)
-    unfolding talkerFrom cellWidths
-    talker-valid = go (eqb (getD vs 0 0) 0)
+    unfolding talkerFrom registrationFrom
+    talker-valid = go (eqb (getD vs talkerField 0) 0)
       where
         at : (i : ℕ) → getD vs i 0 < 256 ^ getD cellWidths i 0
         at = fit-at cellWidths vs fit
 
-        read : Talker
-        read =
-            talker (fixedFrom 4 vs) record { health = toHealth (getD vs 0 0) (getD vs 10 0) (getD vs 11 0); latency = getD vs 9 0 }
-            (isOne (getD vs 1 0)) (toLeaving (getD vs 2 0) (getD vs 3 0))
-
-        go : (t : Bool) → ValidTalker clock leave (cond t noTalker read)
+        go : (t : Bool) → ValidTalker clock leave (cond t noTalker (talker (registrationFrom vs)))
         go true = tt
-        go false = (
-          fixed-valid 4 vs (at 4) (at 5) (at 6) (at 7) (at 8),
-          record { health = health-valid (getD vs 0 0) (getD vs 10 0) (getD vs 11 0) (at 10) (at 11); latency = at 9 },
-          left clock leave (getD vs 2 0) (getD vs 3 0) (k .leaves) .valid,
-        )
+        go false = record {
+          fixed = fixed-valid fixedField vs (at fixedField) (at (fixedField + 1)) (at (fixedField + 2)) (at (fixedField + 3)) (at priorityField);
+          varying = record { health = health-valid (getD vs talkerField 0) (getD vs bridgeField 0) (getD vs codeField 0) (at bridgeField) (at codeField); latency = at latencyField };
+          leaving = left clock leave (getD vs talkerLeavesField 0) (getD vs talkerSinceField 0) (k .leaves) .valid;
+        }
 
   listener-valid : ValidListener clock leave (listenerFrom vs)
   unfolding listenerFrom
-  listener-valid = go (eqb (getD vs 12 0) 0)
+  listener-valid = go (eqb (getD vs listenerField 0) 0)
     where
-      go : (t : Bool) → ValidListener clock leave (cond t noListener (listener (toReady (getD vs 12 0)) (toLeaving (getD vs 13 0) (getD vs 14 0))))
+      go : (t : Bool) → ValidListener clock leave (cond t noListener (listener (toReady (getD vs listenerField 0)) (toLeaving (getD vs listenerLeavesField 0) (getD vs listenerSinceField 0))))
       go true = tt
-      go false = left clock leave (getD vs 13 0) (getD vs 14 0) (k .quits) .valid
+      go false = left clock leave (getD vs listenerLeavesField 0) (getD vs listenerSinceField 0) (k .quits) .valid
 
 -- The octets of a cell.
 
-pub cell-length : (c : Cell) → length (cellOctets c) ≡ 39
-unfolding cellOctets cellNumbers width cellWidths
+pub cell-length : (c : Cell) → length (cellOctets c) ≡ cellSize
+unfolding cellOctets cellNumbers width
 cell-length c =
     length-packed-any cellWidths (cellNumbers c)
     (omega (arith, length-append (talkerNumbers (c .talks)) (listenerNumbers (c .hears)), talker-size (c .talks), listener-size (c .hears)))
@@ -377,8 +376,8 @@ unfolding cellOctets
 cell-octets c = octets-packed cellWidths (cellNumbers c)
 
 -- cells that are all 39 octets long
-pub cells-sized : (cells : List Cell) → All (Sized 39 cellOctets) cells
-cells-sized = all-each (Sized 39 cellOctets) cell-length
+pub cells-sized : (cells : List Cell) → All (Sized cellSize cellOctets) cells
+cells-sized = all-each (Sized cellSize cellOctets) cell-length
 
 module _ (clock leave : ℕ) (small : clock < 2 ^ 32) (c : Cell) (v : ValidCell clock leave c) where
   pub cell-back : toCell (cellOctets c) ≡ c
@@ -397,18 +396,18 @@ module _ (clock leave : ℕ) (small : clock < 2 ^ 32) (c : Cell) (v : ValidCell 
       (cell-rules clock leave (c .talks) (v .talks) (c .hears) (v .hears))
 
 -- the numbers in a cell's fields, one by one
-numbers : (s : List ℕ) → let at : ℕ → ℕ = λ i. getD (fields cellWidths 0 s) i 0 in tabulate 12 0 at ++ tabulate 3 12 at ≡ fields cellWidths 0 s
-unfolding tabulate fields cellWidths
+numbers : (s : List ℕ) → let at : ℕ → ℕ = λ i. getD (fields cellWidths 0 s) i 0 in tabulate listenerField talkerField at ++ tabulate 3 listenerField at ≡ fields cellWidths 0 s
+unfolding tabulate fields
 numbers s = refl
 
-module _ (clock leave : ℕ) (s : List ℕ) (l : length s ≡ 39) (o : Octets s) (h : cellFormed clock leave s ≡ true) where
+module _ (clock leave : ℕ) (s : List ℕ) (l : length s ≡ cellSize) (o : Octets s) (h : cellFormed clock leave s ≡ true) where
   pub cell-forth : cellOctets (toCell s) ≡ s
   unfolding cellOctets cellNumbers toCell cellFrom cellFormed
   cell-forth =
       let vs = fields cellWidths 0 s in
       let k = kept clock leave vs h in
       rw (talker-forth clock leave vs k, listener-forth clock leave vs k, numbers s)
-      (packed-whole cellWidths s (l ∙ unfold width cellWidths in refl) o)
+      (packed-whole cellWidths s (l ∙ unfold width in refl) o)
 
   pub cell-valid : ValidCell clock leave (toCell s)
   unfolding toCell cellFrom cellFormed
@@ -422,16 +421,16 @@ module _ (clock leave : ℕ) (s : List ℕ) (l : length s ≡ 39) (o : Octets s)
 
 -- Nothing registered is 39 zeros.
 
-pub cell-zeros : cellOctets empty ≡ zeros 39
-unfolding cellOctets cellNumbers talkerNumbers listenerNumbers empty cellWidths width
+pub cell-zeros : cellOctets empty ≡ zeros cellSize
+unfolding cellOctets cellNumbers talkerNumbers listenerNumbers empty width
 cell-zeros = packed-zeros cellWidths
 
-pub zeros-cell : toCell (zeros 39) ≡ empty
-unfolding toCell cellFrom talkerFrom listenerFrom fields cellWidths beAt empty
+pub zeros-cell : toCell (zeros cellSize) ≡ empty
+unfolding toCell cellFrom talkerFrom listenerFrom fields beAt empty
 zeros-cell = refl
 
-pub cell-zeros-formed : (clock leave : ℕ) → cellFormed clock leave (zeros 39) ≡ true
-unfolding cellFormed cellRules leavingRule allTrue allZero fields cellWidths beAt
+pub cell-zeros-formed : (clock leave : ℕ) → cellFormed clock leave (zeros cellSize) ≡ true
+unfolding cellFormed cellRules leavingRule allTrue allZero fields beAt
 cell-zeros-formed clock leave = refl
 
 -- A stream is held: as the octets of its cells say, and as the cells do.
@@ -446,16 +445,15 @@ unfolding held isTalking isHearing empty
 held-empty [] a = refl
 held-empty (c ∷ l) a = rw (a .0) (held-empty l (a .1))
 
-kinds : (s : List ℕ) → (getD (fields cellWidths 0 s) 0 0 ≡ getD s 0 0) × (getD (fields cellWidths 0 s) 12 0 ≡ getD s 33 0)
-unfolding fields cellWidths beAt
+kinds : (s : List ℕ) → (getD (fields cellWidths 0 s) talkerField 0 ≡ getD s 0 0) × (getD (fields cellWidths 0 s) listenerField 0 ≡ getD s listenerPlace 0)
+unfolding fields beAt
 kinds s = (omega arith, omega arith)
 
 -- a Talker, and a Listener, that is there unless its kind is 0
-talking-unless : (t : Bool) (f : Fixed) (v : Varying) (m : Bool) (l : Leaving) (h : Listener)
-    → isTalking record { talks = cond t noTalker (talker f v m l); hears = h } ≡ not t
+talking-unless : (t : Bool) (r : Registration) (h : Listener) → isTalking record { talks = cond t noTalker (talker r); hears = h } ≡ not t
 unfolding isTalking
-talking-unless true f v m l h = refl
-talking-unless false f v m l h = refl
+talking-unless true r h = refl
+talking-unless false r h = refl
 
 hearing-unless : (t : Bool) (r : Ready) (l : Leaving) (k : Talker) → isHearing record { talks = k; hears = cond t noListener (listener r l) } ≡ not t
 unfolding isHearing
@@ -466,37 +464,35 @@ talking-read : (s : List ℕ) → isTalking (toCell s) ≡ not (eqb (getD s 0 0)
 unfolding toCell cellFrom talkerFrom
 talking-read s =
     let vs = fields cellWidths 0 s in
-    talking-unless (eqb (getD vs 0 0) 0) (fixedFrom 4 vs) record { health = toHealth (getD vs 0 0) (getD vs 10 0) (getD vs 11 0); latency = getD vs 9 0 }
-    (isOne (getD vs 1 0)) (toLeaving (getD vs 2 0) (getD vs 3 0)) (listenerFrom vs)
-    ∙ ap (λ (k : ℕ). not (eqb k 0)) (kinds s .0)
+    talking-unless (eqb (getD vs talkerField 0) 0) (registrationFrom vs) (listenerFrom vs) ∙ ap (λ (k : ℕ). not (eqb k 0)) (kinds s .0)
 
-hearing-read : (s : List ℕ) → isHearing (toCell s) ≡ not (eqb (getD s 33 0) 0)
+hearing-read : (s : List ℕ) → isHearing (toCell s) ≡ not (eqb (getD s listenerPlace 0) 0)
 unfolding toCell cellFrom listenerFrom
 hearing-read s =
     let vs = fields cellWidths 0 s in
-    hearing-unless (eqb (getD vs 12 0) 0) (toReady (getD vs 12 0)) (toLeaving (getD vs 13 0) (getD vs 14 0)) (talkerFrom vs)
+    hearing-unless (eqb (getD vs listenerField 0) 0) (toReady (getD vs listenerField 0)) (toLeaving (getD vs listenerLeavesField 0) (getD vs listenerSinceField 0)) (talkerFrom vs)
     ∙ ap (λ (k : ℕ). not (eqb k 0)) (kinds s .1)
 
 -- the test on octets is the test on the cells read from them
-pub holds-parts : (k : ℕ) (s : List ℕ) → holds k s ≡ held (parts 39 toCell k s)
+pub holds-parts : (k : ℕ) (s : List ℕ) → holds k s ≡ held (parts cellSize toCell k s)
 unfolding holds held parts
 holds-parts zero s = refl
 holds-parts (suc k) s =
     rw (
-      talking-read (take 39 s),
-      hearing-read (take 39 s),
-      getD-take 39 s 0 0 (omega arith),
-      getD-take 39 s 33 0 (omega arith),
-      holds-parts k (drop 39 s),
+      talking-read (take cellSize s),
+      hearing-read (take cellSize s),
+      getD-take cellSize s 0 0 (omega arith),
+      getD-take cellSize s listenerPlace 0 (omega arith),
+      holds-parts k (drop cellSize s),
     )
 
 -- read: some of the first k cells, so some of the m cells
-pub holds-held : (k m : ℕ) (s : List ℕ) → k ≤ m → holds k s ≡ true → held (parts 39 toCell m s) ≡ true
+pub holds-held : (k m : ℕ) (s : List ℕ) → k ≤ m → holds k s ≡ true → held (parts cellSize toCell m s) ≡ true
 holds-held k m s l h =
-    let cells = parts 39 toCell m s in
+    let cells = parts cellSize toCell m s in
     ap held (sym (take-append-drop k cells))
     ∙ held-append (take k cells) (drop k cells)
-    ∙ ap (λ (l : List Cell). held l || held (drop k cells)) (parts-take 39 toCell k m s l)
+    ∙ ap (λ (l : List Cell). held l || held (drop k cells)) (parts-take cellSize toCell k m s l)
     ∙ ap (λ (b : Bool). b || held (drop k cells)) (sym (holds-parts k s) ∙ h)
 
 -- written: some of the cells, and none after the first k
@@ -504,8 +500,8 @@ pub held-holds : (k : ℕ) (cells : List Cell) (after : List ℕ) → All (λ c.
     → All (λ c. c ≡ empty) (drop k cells) → held cells ≡ true → holds k (flat cellOctets cells ++ after) ≡ true
 held-holds k cells after back l z h =
     let s = flat cellOctets cells ++ after in
-    let front : parts 39 toCell k s ≡ take k cells =
-    sym (parts-take 39 toCell k (length cells) s l) ∙ ap (take k) (parts-flat 39 cellOctets toCell cells after (cells-sized cells) back) in
+    let front : parts cellSize toCell k s ≡ take k cells =
+    sym (parts-take cellSize toCell k (length cells) s l) ∙ ap (take k) (parts-flat cellSize cellOctets toCell cells after (cells-sized cells) back) in
     let whole : held cells ≡ held (take k cells) =
     ap held (sym (take-append-drop k cells))
     ∙ held-append (take k cells) (drop k cells)

@@ -11,10 +11,10 @@ use lib.ListN.{getD, take, length}
 use lib.Dec.{ltb, leb}
 use borrow.Author.Tests.{ltb-true, ltb-false, lt-leb, le-leb}
 use Rattle.model.specs.Lists.{All, keep, tabulate}
-use Rattle.model.specs.State.{Settings, Health, sound, broken, Column, none, advertise, failed, Entry, noEntry, filters, forwards, Declared, nothing, Result, Stream, Bridge, Class, noClass, classA, classB, sameClass, limit, cellAt, resultAt, unsettled, Totals, noTotals}
+use Rattle.model.specs.State.{Settings, Health, sound, broken, Column, advertise, failed, Entry, noEntry, filters, forwards, Declared, nothing, Result, Stream, Bridge, Class, noClass, classA, classB, sameClass, limit, cellAt, resultAt, unsettled, Totals, noTotals}
 use Rattle.model.specs.Registrations.{ids}
 use Rattle.model.specs.Bandwidth.{Claim, key, above, sort, reserved, remains, admitted, total, taken}
-use Rattle.model.specs.Settling.{remain, Source, nowhere, from, sourceOf, isSource, fixedOf, streamClass, registered, isReady, isAdvertise, first, clear, brokenColumn, stepsFrom, steps, ageOf, claim, claims, limitOn, leftFor, byBandwidth, columnOf, latencyOut, entryOf, ageKept, latencyKept, passed, mergeAll, merged, decideAt, decide, totalOn, totalsOn, settle}
+use Rattle.model.specs.Settling.{remain, Source, sourceOf, isSource, fixedOf, healthOf, streamClass, registered, isReady, isAdvertise, Outcome, columnNone, asRegistered, ownFailure, Step, first, clear, brokenColumn, outcomeColumn, steps, ageOf, claim, claims, limitOn, leftFor, byBandwidth, columnOf, latencyOut, entryOf, ageKept, latencyKept, passed, mergeAll, merged, decideAt, decide, totalOn, totalsOn, settle}
 use Rattle.model.proofs.Lists.{all-map, all-both, all-each, and-right, and-true, and-false}
 use Rattle.model.proofs.Valid.{Rising}
 use Rattle.model.proofs.Admission.{Distinct, key-id, within, subtracted, total-is-sum, idle-above, idle-total}
@@ -44,7 +44,7 @@ ruled st now s p col x =
     let c = streamClass st x in
     let d = claim st now p x in
     let left = limitOn st now s p c - spent st now p c col (λ e. ltb (key e) (key d)) s in
-    first (steps st p x) (byBandwidth st (d .demand) left)
+    first (outcomeColumn st (sourceOf x)) (steps st p x) (byBandwidth st (d .demand) left)
 
 -- What is decided over the streams s, on every port, is what the rules give.
 pub record Given (st : Settings) (now : ℕ) (s : List Stream) : Type 0 where
@@ -119,61 +119,63 @@ pub record Advanced (now : ℕ) (b c : Bridge) : Type 0 where
 
 -- The first step that applies.
 
+-- past the last step, one that does not apply
+abbrev noStep : Step
+noStep = record { test = false; outcome = columnNone }
+
 -- where the step at place i applies and no earlier one does, it gives the column
-pub first-applies : (l : List (Bool × Column)) (i : ℕ) (c : Column) →
-    clear (take i l) ≡ true → getD l i (false, none) .0 ≡ true → first l c ≡ getD l i (false, none) .1
+pub first-applies : (says : Outcome → Column) (l : List Step) (i : ℕ) (c : Column) →
+    clear (take i l) ≡ true → getD l i noStep .test ≡ true → first says l c ≡ says (getD l i noStep .outcome)
 unfolding first clear
-first-applies [] i c h t = absurd (false≢true t)
-first-applies (s ∷ l) zero c h t = rw t
-first-applies (s ∷ l) (suc i) c h t = go (s .0) h (λ e. first-applies l i c e t)
+first-applies says [] i c h t = absurd (false≢true t)
+first-applies says (s ∷ l) zero c h t = rw t
+first-applies says (s ∷ l) (suc i) c h t = go (s .test) h (λ e. first-applies says l i c e t)
   where
-    go : (b : Bool) → (not b && clear (take i l)) ≡ true → (clear (take i l) ≡ true → first l c ≡ getD l i (false, none) .1) →
-        cond b (s .1) (first l c) ≡ getD l i (false, none) .1
+    go : (b : Bool) → (not b && clear (take i l)) ≡ true → (clear (take i l) ≡ true → first says l c ≡ says (getD l i noStep .outcome)) →
+        cond b (says (s .outcome)) (first says l c) ≡ says (getD l i noStep .outcome)
     go true h ih = absurd (false≢true h)
     go false h ih = ih h
 
 -- where none applies, what follows the steps decides
-pub first-clear : (l : List (Bool × Column)) (c : Column) → clear l ≡ true → first l c ≡ c
+pub first-clear : (says : Outcome → Column) (l : List Step) (c : Column) → clear l ≡ true → first says l c ≡ c
 unfolding first clear
-first-clear [] c h = refl
-first-clear (s ∷ l) c h = go (s .0) h (first-clear l c)
+first-clear says [] c h = refl
+first-clear says (s ∷ l) c h = go (s .test) h (first-clear says l c)
   where
-    go : (b : Bool) → (not b && clear l) ≡ true → (clear l ≡ true → first l c ≡ c) → cond b (s .1) (first l c) ≡ c
+    go : (b : Bool) → (not b && clear l) ≡ true → (clear l ≡ true → first says l c ≡ c) → cond b (says (s .outcome)) (first says l c) ≡ c
     go true h ih = absurd (false≢true h)
     go false h ih = ih h
 
 -- where one applies, what follows does not matter
-pub first-decided : (l : List (Bool × Column)) (c d : Column) → clear l ≡ false → first l c ≡ first l d
+pub first-decided : (says : Outcome → Column) (l : List Step) (c d : Column) → clear l ≡ false → first says l c ≡ first says l d
 unfolding first clear
-first-decided [] c d h = absurd (false≢true (sym h))
-first-decided (s ∷ l) c d h = go (s .0) h (first-decided l c d)
+first-decided says [] c d h = absurd (false≢true (sym h))
+first-decided says (s ∷ l) c d h = go (s .test) h (first-decided says l c d)
   where
-    go : (b : Bool) → (not b && clear l) ≡ false → (clear l ≡ false → first l c ≡ first l d) → cond b (s .1) (first l c) ≡ cond b (s .1) (first l d)
+    go : (b : Bool) → (not b && clear l) ≡ false → (clear l ≡ false → first says l c ≡ first says l d)
+        → cond b (says (s .outcome)) (first says l c) ≡ cond b (says (s .outcome)) (first says l d)
     go true h ih = refl
     go false h ih = ih h
 
--- no step before bandwidth gives Advertise
-abbrev Plain : List (Bool × Column) → Type 0
-Plain l = All (λ s. isAdvertise (s .1) ≡ false) l
-
-plain : (st : Settings) (p : ℕ) (x : Stream) → Plain (steps st p x)
-unfolding steps isAdvertise
-plain st p x = (refl, go (sourceOf x))
+-- no outcome is Advertise
+plain : (st : Settings) (s : Source) (o : Outcome) → isAdvertise (outcomeColumn st s o) ≡ false
+unfolding outcomeColumn isAdvertise
+plain st s columnNone = refl
+plain st s asRegistered = go (healthOf s)
   where
-    sick : (h : Health) → isAdvertise (brokenColumn h) ≡ false
-    sick h = unfold isAdvertise brokenColumn in elim h [ sound ↦ refl | broken b c ↦ refl ]
+    go : (h : Health) → isAdvertise (brokenColumn h) ≡ false
+    go h = unfold isAdvertise brokenColumn in elim h [ sound ↦ refl | broken b c ↦ refl ]
+plain st s (ownFailure code) = refl
 
-    go : (t : Source) → Plain (stepsFrom st p (cellAt x p) t)
-    go nowhere = unfold isAdvertise stepsFrom in (refl, tt)
-    go (from t f v m) = unfold isAdvertise stepsFrom in (refl, (refl, (sick (v .health), (refl, (refl, (refl, (refl, tt)))))))
-
-first-advertise : (l : List (Bool × Column)) (c : Column) → Plain l → isAdvertise (first l c) ≡ (clear l && isAdvertise c)
+first-advertise : (says : Outcome → Column) → ((o : Outcome) → isAdvertise (says o) ≡ false) → (l : List Step) (c : Column) →
+    isAdvertise (first says l c) ≡ (clear l && isAdvertise c)
 unfolding first clear
-first-advertise [] c a = refl
-first-advertise (s ∷ l) c a = go (s .0) (first-advertise l c (a .1))
+first-advertise says a [] c = refl
+first-advertise says a (s ∷ l) c = go (s .test) (first-advertise says a l c)
   where
-    go : (t : Bool) → isAdvertise (first l c) ≡ (clear l && isAdvertise c) → isAdvertise (cond t (s .1) (first l c)) ≡ ((not t && clear l) && isAdvertise c)
-    go true h = a .0
+    go : (t : Bool) → isAdvertise (first says l c) ≡ (clear l && isAdvertise c)
+        → isAdvertise (cond t (says (s .outcome)) (first says l c)) ≡ ((not t && clear l) && isAdvertise c)
+    go true h = a (s .outcome)
     go false h = h
 
 by-bandwidth : (st : Settings) (d l : ℕ) → isAdvertise (byBandwidth st d l) ≡ leb d l
@@ -186,9 +188,9 @@ by-bandwidth st d l = go (ltb l d) refl
 
 -- a stream is Advertise where no step before bandwidth applies and its demand is not above what is left
 pub advertised : (st : Settings) (p : ℕ) (x : Stream) (d left : ℕ) →
-    isAdvertise (first (steps st p x) (byBandwidth st d left)) ≡ (clear (steps st p x) && leb d left)
+    isAdvertise (first (outcomeColumn st (sourceOf x)) (steps st p x) (byBandwidth st d left)) ≡ (clear (steps st p x) && leb d left)
 advertised st p x d left =
-    first-advertise (steps st p x) (byBandwidth st d left) (plain st p x)
+    first-advertise (outcomeColumn st (sourceOf x)) (plain st (sourceOf x)) (steps st p x) (byBandwidth st d left)
     ∙ ap (λ (t : Bool). clear (steps st p x) && t) (by-bandwidth st d left)
 
 -- No two claims are equally important.
@@ -288,7 +290,7 @@ module _ (st : Settings) (now : ℕ) (s : List Stream) (p : ℕ) where
     columns-ruled x =
         let c = streamClass st x in
         let k = key (claim st now p x) in
-        ap (λ (n : ℕ). first (steps st p x) (byBandwidth st (claim st now p x .demand) (limitOn st now s p c - n)))
+        ap (λ (n : ℕ). first (outcomeColumn st (sourceOf x)) (steps st p x) (byBandwidth st (claim st now p x .demand) (limitOn st now s p c - n)))
         (sym (subtracted (limitOn st now s p c) (claims st now p c s) (claims-distinct st now p c s r a) k)
         ∙ sym (spent-above st now p c (columnOf st now s p) _ k s (all-each _ (column-agrees c) s)))
 
@@ -329,6 +331,10 @@ module _ (st : Settings) (now p : ℕ) (x y : Stream) (cells : x .cells ≡ y .c
   unfolding steps cellAt sourceOf
   same-steps = rw cells
 
+  same-source : sourceOf x ≡ sourceOf y
+  unfolding sourceOf
+  same-source = rw cells
+
   same-stream-class : streamClass st x ≡ streamClass st y
   unfolding streamClass sourceOf
   same-stream-class = rw cells
@@ -346,7 +352,7 @@ hasEntry forwards = true
 pub record Shown (st : Settings) (p : ℕ) (y : Stream) : Type 0 where
   pub demand : ℕ
   pub left : ℕ
-  pub column : columnAt p y ≡ first (steps st p y) (byBandwidth st demand left)
+  pub column : columnAt p y ≡ first (outcomeColumn st (sourceOf y)) (steps st p y) (byBandwidth st demand left)
   pub entry : resultAt y p .entry ≡ entryOf (columnAt p y) (registered (cellAt y p))
 
 -- where such a stream reaches step h it has an entry and so keeps its age: its claim is the same before and after an advance
@@ -378,7 +384,7 @@ module _ (st : Settings) (now p : ℕ) (here : p < 8) where
       (age-runs (resultAt y p) (ageOf now (resultAt x p)) made (carried .ages p here))
     where
       decided : columnAt p y ≡ byBandwidth st (shown .demand) (shown .left)
-      decided = shown .column ∙ first-clear (steps st p y) _ free
+      decided = shown .column ∙ first-clear _ (steps st p y) _ free
 
       made : hasEntry (resultAt y p .entry) ≡ true
       made =
@@ -421,10 +427,11 @@ module _ (st : Settings) (now p : ℕ) (here : p < 8) where
               carried-claims c s t carried shown,
               carried-claim x y w z e,
               same-steps st now p y x (w .cells),
+              same-source st now p y x (w .cells),
             )
         go false e =
-            first-decided (steps st p y) _ (byBandwidth st (claim st now p x .demand) (leftFor st now s p x)) e
-            ∙ rw (same-steps st now p y x (w .cells))
+            first-decided _ (steps st p y) _ (byBandwidth st (claim st now p x .demand) (leftFor st now s p x)) e
+            ∙ rw (same-steps st now p y x (w .cells), same-source st now p y x (w .cells))
 
 -- What a list made from a function has at a place.
 module _ {A : Type 0} (f : ℕ → A) where
@@ -612,6 +619,7 @@ module _ (st : Settings) (now p : ℕ) (s s′ : List Stream) (x x′ : Stream)
         sameAbove,
         sameLimit,
         same-steps st now p x x′ sameCells,
+        same-source st now p x x′ sameCells,
         same-claim st now p x x′ sameCells sameId sameAge,
         same-stream-class st now p x x′ sameCells,
       )
@@ -680,6 +688,6 @@ module _ (st : Settings) (now p : ℕ) where
     without-idle-column y =
         let c = streamClass st y in
         let k = key (claim st now p y) in
-        ap (λ (n : ℕ). first (steps st p y) (byBandwidth st (claim st now p y .demand) (limit-in-force c - n)))
+        ap (λ (n : ℕ). first (outcomeColumn st (sourceOf y)) (steps st p y) (byBandwidth st (claim st now p y .demand) (limit-in-force c - n)))
         (dropped c (λ cs. reserved (limit-in-force c) (sort (above k cs)))
         (λ distinct idle. idle-above (limit-in-force c) (earlier c) (later c) (d c) distinct idle k))

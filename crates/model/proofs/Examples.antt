@@ -19,8 +19,9 @@ use Rattle.model.specs.Frames.{Event, new, joinIn, isIn, joinMt, mt, lv}
 use Rattle.model.specs.Frames
 use Rattle.model.specs.Bandwidth
 use Rattle.model.specs.Settling
-use Rattle.model.specs.Declarations.{ColumnWord, noneWord, advertiseWord, failedWord, Report}
+use Rattle.model.specs.Reports.{ColumnWord, noneWord, advertiseWord, failedWord, Report}
 use Rattle.model.specs.Declarations
+use Rattle.model.specs.Reports
 use Rattle.model.specs.WrittenFrames
 use Rattle.model.specs.Table
 use Rattle.model.specs.Calls
@@ -32,19 +33,19 @@ unfolding Lists.tabulate Lists.bit State.empty State.unsettled State.noFixed Sta
 stateOpened = tt
 
 framesOpened : Unit {0}
-unfolding Be.beAt Be.be Fields.fields Fields.flat Parts.part Frames.typeOctet Frames.firstWidths Frames.firstLength Frames.threeLength Frames.fourLength Frames.vectorAt Frames.vectorEnd Frames.overpacked Frames.runsPast Frames.overflows Frames.also Frames.both Frames.vectors Frames.listLength Frames.listAt Frames.messageEnd Frames.endMark Frames.message Frames.messages Frames.walk Frames.event Frames.threePacked Frames.fourPacked Frames.eventOf Frames.fourOf Frames.asking Frames.priorityOf Frames.rankOf Frames.fixedValue Frames.healthValue Frames.idValue Frames.hearing Frames.talkerAct Frames.listenerAct Frames.valueActs Frames.valuesActs Frames.leaveAllActs Frames.vectorActs Frames.frameActs Frames.walked Frames.wrongPort Frames.reading
+unfolding Be.beAt Be.be Fields.fields Fields.flat Parts.part Frames.typeOctet Frames.firstWidths Frames.firstLength Frames.threeLength Frames.hasFour Frames.fourLength Frames.vectorAt Frames.vectorEnd Frames.overpacked Frames.runsPast Frames.overflows Frames.vectorIn Frames.checkedIn Frames.typedIn Frames.listLength Frames.listAt Frames.messageEnd Frames.endMark Frames.headerIn Frames.messageIn Frames.also Frames.both Frames.vectorsFrom Frames.vectors Frames.messagesFrom Frames.messages Frames.walk Frames.event Frames.threePacked Frames.fourPacked Frames.eventOf Frames.fourOf Frames.asking Frames.priorityOf Frames.rankOf Frames.fixedValue Frames.healthValue Frames.idValue Frames.hearing Frames.talkerAct Frames.listenerAct Frames.valueActs Frames.valuesActs Frames.leaveAllActs Frames.vectorActs Frames.frameActs Frames.walked Frames.wrongPort Frames.reading
 framesOpened = tt
 
 registrationsOpened : Unit {0}
-unfolding Registrations.begin Registrations.talksAs Registrations.hearsAs Registrations.quitTalker Registrations.quitListener Registrations.quit Registrations.sameFixed Registrations.joinTalker Registrations.does Registrations.at Registrations.change Registrations.begun Registrations.touch Registrations.reach Registrations.apply Registrations.applyAll Registrations.holding Registrations.received Registrations.joins Registrations.asks
+unfolding Registrations.begin Registrations.talksAs Registrations.hearsAs Registrations.withLeaving Registrations.quitTalker Registrations.quitListener Registrations.quit Registrations.sameFixed Registrations.firstJoin Registrations.sameJoin Registrations.otherJoin Registrations.joinTalker Registrations.does Registrations.at Registrations.change Registrations.begun Registrations.touch Registrations.reach Registrations.apply Registrations.applyAll Registrations.holding Registrations.received Registrations.joins Registrations.asks
 registrationsOpened = tt
 
 settlingOpened : Unit {0}
-unfolding Bandwidth.demand Bandwidth.rate Bandwidth.rateOfA Bandwidth.rateOfB Bandwidth.rateOf Bandwidth.key Bandwidth.above Bandwidth.insert Bandwidth.sort Bandwidth.share Bandwidth.reserved Bandwidth.remains Bandwidth.admitted Bandwidth.total Settling.expired Settling.expireTalker Settling.expireListener Settling.expireCell Settling.expire Settling.isTalking Settling.isHearing Settling.held Settling.remain Settling.source Settling.sourceOf Settling.isSource Settling.fixedOf Settling.latencyOf Settling.streamClass Settling.registered Settling.isReady Settling.first Settling.clear Settling.isBroken Settling.brokenColumn Settling.stepsFrom Settling.steps Settling.ageOf Settling.claim Settling.claims Settling.limitOn Settling.leftFor Settling.byBandwidth Settling.columnOf Settling.capped Settling.latencyOut Settling.entryOf Settling.ageKept Settling.latencyKept Settling.passed Settling.sameReady Settling.merge Settling.mergeAll Settling.merged Settling.decideAt Settling.decide Settling.totalOn Settling.totalsOn Settling.settle Settling.advance
+unfolding Bandwidth.demand Bandwidth.rate Bandwidth.rateOfA Bandwidth.rateOfB Bandwidth.rateOf Bandwidth.key Bandwidth.above Bandwidth.insert Bandwidth.sort Bandwidth.share Bandwidth.reserved Bandwidth.remains Bandwidth.admitted Bandwidth.total Settling.expired Settling.expireTalker Settling.expireListener Settling.expireCell Settling.expire Settling.isTalking Settling.isHearing Settling.held Settling.remain Settling.source Settling.sourceOf Settling.isSource Settling.fixedOf Settling.latencyOf Settling.healthOf Settling.streamClass Settling.registered Settling.isReady Settling.first Settling.clear Settling.isBroken Settling.brokenColumn Settling.outcomeColumn Settling.stepsFrom Settling.steps Settling.ageOf Settling.claim Settling.claims Settling.limitOn Settling.leftFor Settling.byBandwidth Settling.columnOf Settling.capped Settling.latencyOut Settling.entryOf Settling.ageKept Settling.latencyKept Settling.passed Settling.sameReady Settling.merge Settling.mergeAll Settling.merged Settling.decideAt Settling.decide Settling.totalOn Settling.totalsOn Settling.settle Settling.advance
 settlingOpened = tt
 
 answersOpened : Unit {0}
-unfolding Declarations.refusedReport Declarations.wordOf Declarations.codeOf Declarations.streamAt Declarations.report WrittenFrames.typeNumber WrittenFrames.messageOf WrittenFrames.readyNumber WrittenFrames.fixedNumbers WrittenFrames.priorityOctet Table.columnNumber Table.columnCode Table.entryNumber Table.declaredNumber Table.leavingNumber Table.sinceNumber Table.healthNumber Table.bridgeNumber Table.codeNumber Table.talkerNumbers Table.listenerNumbers Table.cellNumbers Calls.receive
+unfolding Reports.refusedReport Reports.wordOf Reports.codeOf Reports.report WrittenFrames.typeNumber WrittenFrames.messageOf WrittenFrames.readyNumber WrittenFrames.fixedNumbers WrittenFrames.priorityOctet Table.columnNumber Table.columnCode Table.entryNumber Table.declaredNumber Table.leavingNumber Table.sinceNumber Table.healthNumber Table.bridgeNumber Table.codeNumber Table.talkerNumbers Table.listenerNumbers Table.cellNumbers Calls.receive
 answersOpened = tt
 
 opened : Unit {0}
@@ -156,10 +157,10 @@ count b = length (b .streams) ∷ []
 -- the Talker of the first stream on the port at place p: kind, changed mark, leaving, since, destination, ..; its Listener:
 -- kind, leaving, since
 talker : ℕ → Bridge → List ℕ
-talker p b = Table.talkerNumbers (State.cellAt (Declarations.streamAt (b .streams) 0) p .talks)
+talker p b = Table.talkerNumbers (State.cellAt (State.streamAt 0 b) p .talks)
 
 listener : ℕ → Bridge → List ℕ
-listener p b = Table.listenerNumbers (State.cellAt (Declarations.streamAt (b .streams) 0) p .hears)
+listener p b = Table.listenerNumbers (State.cellAt (State.streamAt 0 b) p .hears)
 
 -- a PDU on port 1: its number, and the StreamIDs that it asks to join
 read : List ℕ → List ℕ
@@ -266,12 +267,12 @@ examples =
     ∷ record { computed = count (from leaver (time 159 ∷ [])) ++ count (from leaver (time 160 ∷ [])); printed = 1 ∷ 0 ∷ [] }
     -- the worked example, port 1: A 0/75000000 B 0/0; 0200000000010001 none 0 ready none
     ∷ record {
-      computed = reported (Declarations.report worked 1 0);
+      computed = reported (Reports.report worked 1 0);
       printed = 0 ∷ 75000000 ∷ 0 ∷ 0 ∷ 0x0200000000010001 ∷ 0 ∷ 0 ∷ 2 ∷ 0 ∷ [];
     }
     -- the worked example, port 2: A 17088000/75000000 B 0/0; 0200000000010001 advertise 0 none forward
     ∷ record {
-      computed = reported (Declarations.report worked 2 0);
+      computed = reported (Reports.report worked 2 0);
       printed = 17088000 ∷ 75000000 ∷ 0 ∷ 0 ∷ 0x0200000000010001 ∷ 1 ∷ 0 ∷ 0 ∷ 2 ∷ [];
     }
     ∷ []

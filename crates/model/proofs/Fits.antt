@@ -9,26 +9,27 @@ use lib.ListN.{length, getD}
 use Rattle.octets.specs.Parts.{zeros}
 use Rattle.octets.specs.Fields.{fields, Fit, flat}
 use Rattle.octets.proofs.Fields.{fields-of-packed, fit-at}
+use Rattle.model.specs.Layout.{bridgeField, cellSize, cellWidths, codeField, fixedField, fixedWidths, latencyField, listenerSinceField, nameWidths, priorityField, recordSize, resultSize, resultWidths, talkerSinceField, vlanField}
 use Rattle.model.specs.Lists.{All, parts, Octets}
 use Rattle.model.specs.State.{Leaving, stays, since, Fixed, Health, sound, broken, Talker, noTalker, talker, Listener, noListener, listener, Cell, Result, Stream, Bridge}
 use Rattle.model.specs.Registrations.{ids}
 use Rattle.model.specs.WrittenFrames.{priorityOctet, fixedNumbers}
-use Rattle.model.specs.Table.{cellWidths, sinceNumber, bridgeNumber, codeNumber, talkerNumbers, listenerNumbers, cellNumbers, cellOctets, toCell, resultWidths, resultNumbers, resultOctets, toResult, nameWidths, fixedFrom, streamOctets, toStream, countField, recordsPart, idOf, encode, decode, formed}
+use Rattle.model.specs.Table.{sinceNumber, bridgeNumber, codeNumber, talkerNumbers, listenerNumbers, cellNumbers, cellOctets, toCell, resultNumbers, resultOctets, toResult, fixedFrom, streamOctets, toStream, countField, recordsPart, idOf, encode, decode, formed}
 use Rattle.model.specs.Laid.{FitRank, FitCell, FitResult, FitStream, FitBridge, Ascending, LaidCell, LaidResult, LaidStream, Laid}
 use Rattle.model.proofs.Lists.{all-map}
 use Rattle.model.proofs.Valid.{ValidLeaving, ValidFixed, ValidHealth, ValidTalker, ValidListener, ValidCell, ValidResult, ValidStream, Rising, Valid}
 use Rattle.model.proofs.Parts.{_also_, Sized, parts-flat}
-use Rattle.model.proofs.Cells.{fixedWidths, fixed-fit, fixed-back, cell-fit, cell-back, cells-sized}
+use Rattle.model.proofs.Cells.{fixed-fit, fixed-back, cell-fit, cell-back, cells-sized}
 use Rattle.model.proofs.Results.{result-fit, numbers-back, results-sized}
 use Rattle.model.proofs.SettingsOctets.{settings-fit}
 use Rattle.model.proofs.Tables.{stream-length, cells-of, results-of, name-read, id-read, totals-fit, fit-whole, clock-read, count-read, records-read, settings-decoded, totals-decoded, valid-decode, encode-decode}
 
 -- Read back: a cell. With the latest clock and the longest leave time that a field holds, every time that fits is valid.
 
-abbrev latest : ℕ
+abbrev pub latest : ℕ
 latest = 4294967295
 
-abbrev longest : ℕ
+abbrev pub longest : ℕ
 longest = 4294967296
 
 fit-leaving : (l : Leaving) → sinceNumber l < 2 ^ 32 → ValidLeaving latest longest l
@@ -36,14 +37,14 @@ unfolding sinceNumber
 fit-leaving stays h = tt
 fit-leaving (since t) h = (omega arith, omega arith)
 
-fit-health : (h : Health) → bridgeNumber h < 256 ^ 8 → codeNumber h < 256 ^ 1 → ValidHealth h
+pub fit-health : (h : Health) → bridgeNumber h < 256 ^ 8 → codeNumber h < 256 ^ 1 → ValidHealth h
 unfolding bridgeNumber codeNumber
 fit-health sound p q = tt
 fit-health (broken b c) p q = (p, q)
 
 -- five numbers, the last of them priority and rank
-fit-fixed : (f : Fixed) → Fit fixedWidths (fixedNumbers f) → f .rank < 2 → ValidFixed f
-unfolding Fit fixedWidths fixedNumbers priorityOctet
+pub fit-fixed : (f : Fixed) → Fit fixedWidths (fixedNumbers f) → f .rank < 2 → ValidFixed f
+unfolding Fit fixedNumbers priorityOctet
 fit-fixed f w r = record {
   destination = w .0;
   vlan = w .1 .0;
@@ -55,29 +56,32 @@ fit-fixed f w r = record {
 
 fit-talker : (t : Talker) (after : List ℕ) → ((i : ℕ) → getD (talkerNumbers t ++ after) i 0 < 256 ^ getD cellWidths i 0)
     → FitRank t → ValidTalker latest longest t
-unfolding talkerNumbers fixedNumbers cellWidths Fit fixedWidths
-fit-talker noTalker after at r = tt
-fit-talker (talker f v m l) after at r = (
-  fit-fixed f (at 4 also at 5 also at 6 also at 7 also at 8 also tt) r,
-  record { health = fit-health (v .health) (at 10) (at 11); latency = at 9 },
-  fit-leaving l (at 3),
-)
+unfolding talkerNumbers fixedNumbers Fit
+fit-talker noTalker after at rank = tt
+fit-talker (talker r) after at rank = record {
+  fixed = fit-fixed (r .fixed) (at fixedField also at vlanField also at (vlanField + 1) also at (vlanField + 2) also at priorityField also tt) rank;
+  varying = record { health = fit-health (r .varying .health) (at bridgeField) (at codeField); latency = at latencyField };
+  leaving = fit-leaving (r .leaving) (at talkerSinceField);
+}
 
 fit-listener : (t : Talker) (h : Listener) → ((i : ℕ) → getD (talkerNumbers t ++ listenerNumbers h) i 0 < 256 ^ getD cellWidths i 0)
     → ValidListener latest longest h
-unfolding talkerNumbers listenerNumbers fixedNumbers cellWidths
+unfolding talkerNumbers listenerNumbers fixedNumbers
 fit-listener t noListener at = tt
-fit-listener noTalker (listener r l) at = fit-leaving l (at 14)
-fit-listener (talker f v m k) (listener r l) at = fit-leaving l (at 14)
+fit-listener noTalker (listener r l) at = fit-leaving l (at listenerSinceField)
+fit-listener (talker k) (listener r l) at = fit-leaving l (at listenerSinceField)
 
-pub cell-read : (c : Cell) → FitCell c → toCell (cellOctets c) ≡ c
+pub fit-cell : (c : Cell) → FitCell c → ValidCell latest longest c
 unfolding cellNumbers
-cell-read c w =
+fit-cell c w =
     let at = fit-at cellWidths (cellNumbers c) (w .numbers) in
-    cell-back latest longest (omega arith) c record {
+    record {
       talks = fit-talker (c .talks) (listenerNumbers (c .hears)) at (w .rank);
       hears = fit-listener (c .talks) (c .hears) at;
     }
+
+pub cell-read : (c : Cell) → FitCell c → toCell (cellOctets c) ≡ c
+cell-read c w = cell-back latest longest (omega arith) c (fit-cell c w)
 
 -- A result.
 
@@ -96,15 +100,15 @@ many-read n m to from l e z g =
     ∙ parts-flat n to from l [] z g
 
 module _ (x : Stream) (w : FitStream x) where
-  pub stream-size : length (streamOctets x) ≡ 493
+  pub stream-size : length (streamOctets x) ≡ recordSize
   stream-size = stream-length x (w .eight-cells) (w .eight-results)
 
   pub id-fits : x .id < 2 ^ 64
-  unfolding Fit nameWidths
+  unfolding Fit
   id-fits = w .name .0
 
-  settled-fits : Fit fixedWidths (fixedNumbers (x .settled))
-  unfolding Fit nameWidths fixedWidths
+  pub settled-fits : Fit fixedWidths (fixedNumbers (x .settled))
+  unfolding Fit
   settled-fits = w .name .1
 
   settled-read : fixedFrom 1 (fields nameWidths 0 (streamOctets x)) ≡ x .settled
@@ -122,18 +126,18 @@ module _ (x : Stream) (w : FitStream x) where
         settled-read,
         cells-of x (w .eight-cells) (w .eight-results),
         results-of x (w .eight-cells) (w .eight-results),
-        many-read 39 8 cellOctets toCell (x .cells) (w .eight-cells) (cells-sized (x .cells)) cs,
-        many-read 20 8 resultOctets toResult (x .results) (w .eight-results) (results-sized (x .results)) rs,
+        many-read cellSize 8 cellOctets toCell (x .cells) (w .eight-cells) (cells-sized (x .cells)) cs,
+        many-read resultSize 8 resultOctets toResult (x .results) (w .eight-results) (results-sized (x .results)) rs,
       )
 
 -- A bridge.
 
 module _ (b : Bridge) (w : FitBridge b) where
-  streams-read : parts 493 toStream (countField (encode b)) (recordsPart (encode b)) ≡ b .streams
+  streams-read : parts recordSize toStream (countField (encode b)) (recordsPart (encode b)) ≡ b .streams
   streams-read =
       let o = fit-whole b w in
       rw (count-read b o (w .clock), records-read b o)
-      (parts-flat 493 streamOctets toStream (b .streams) (zeros (493 * (64 - length (b .streams)))) (o .streams)
+      (parts-flat recordSize streamOctets toStream (b .streams) (zeros ((64 - length (b .streams)) * recordSize)) (o .streams)
       (all-map FitStream (λ x. toStream (streamOctets x) ≡ x) stream-read (b .streams) (w .streams)))
 
   pub bridge-read : decode (encode b) ≡ b
@@ -185,7 +189,7 @@ module _ (s : List ℕ) where
 
 talker-rank : (clock leave : ℕ) (t : Talker) → ValidTalker clock leave t → FitRank t
 talker-rank clock leave noTalker v = tt
-talker-rank clock leave (talker f w m l) v = v .0 .rank
+talker-rank clock leave (talker r) v = v .fixed .rank
 
 -- at a bridge with this clock and leave time
 module _ (ports clock leave : ℕ) (small : clock < 2 ^ 32) where
@@ -196,7 +200,7 @@ module _ (ports clock leave : ℕ) (small : clock < 2 ^ 32) where
   valid-result-fits r v = result-fit clock r v small
 
   pub valid-stream-fits : (x : Stream) → ValidStream ports clock leave x → FitStream x
-  unfolding Fit nameWidths fixedWidths
+  unfolding Fit
   valid-stream-fits x v = record {
     name = v .id also fixed-fit (x .settled) (v .settled);
     rank = v .settled .rank;

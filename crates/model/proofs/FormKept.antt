@@ -6,11 +6,12 @@ use Prim.Native.Nat.{ℕ, _^_, _<_}
 use lib.ListN.{length}
 use lib.Dec.{eqb}
 use borrow.Author.Tests.{eq-eqb}
+use Rattle.model.specs.Layout.{tableLength}
 use Rattle.model.specs.Lists.{Octets}
 use Rattle.model.specs.State.{Bridge, started}
 use Rattle.model.specs.Registrations.{Answer}
 use Rattle.model.specs.Settling.{advance}
-use Rattle.model.specs.Table.{encode, decode, formed, tableLength, toSettings}
+use Rattle.model.specs.Table.{encode, decode, formed, toSettings}
 use Rattle.model.specs.Calls.{Call, startOn, leaves, onTable, receive, receiveOn, advanceOn}
 use Rattle.model.proofs.Valid.{Valid}
 use Rattle.model.proofs.Refusals.{start-0, cond-either}

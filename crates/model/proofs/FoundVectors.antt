@@ -2,19 +2,21 @@
 -- its field.
 use mathlib.Core.Path.{_≡_, refl, subst}
 use mathlib.Core.List.{List, [], _∷_}
-use mathlib.Core.Bool.{Bool, true, false, cond, not, _||_, true≢false}
+use mathlib.Core.Bool.{Bool, true, false, cond, _||_, true≢false}
 use Prim.Native.Nat.{ℕ, zero, suc, _+_, _*_, _-_, _/_, _%_, _^_, _≤_, _<_}
 use native.Mathlib.Omega.{arith}
 use lib.ListN.{length, getD}
 use lib.Dec.{ltb, eqb}
 use borrow.Author.Tests.{ltb-false, ne-eqb}
 use Rattle.octets.specs.Be.{beAt}
+use Rattle.octets.specs.Parts.{part}
 use Rattle.octets.specs.Fields.{fields}
 use Rattle.octets.proofs.Parts.{length-part}
+use Rattle.model.specs.FrameLayout.{longestPdu}
 use Rattle.model.specs.Lists.{All, Octets}
 use Rattle.model.specs.State.{Settings}
 use Rattle.model.specs.Registrations.{Kind, advertises, faileds, listeners, Act, leaveAll, leave, talk, listen, Reading, refused, acts, joins, asks}
-use Rattle.model.specs.Frames.{Attribute, registers, domain, TypeOctet, notAllowed, unknown, known, typeOctet, firstWidths, firstLength, threeLength, fourLength, Vector, vectorAt, vectorEnd, overpacked, runsPast, overflows, Walk, fault, found, also, both, vectors, listLength, listAt, messageEnd, endMark, message, messages, walk, Asking, nothingAsked, join, withdraw, priorityOf, rankOf, fixedValue, healthValue, idValue, hearing, talkerAct, listenerAct, valueActs, valuesActs, leaveAllActs, vectorActs, frameActs, walked, wrongPort, reading}
+use Rattle.model.specs.Frames.{Attribute, registers, domain, firstWidths, firstLength, threeLength, hasFour, fourLength, Vector, vectorAt, vectorEnd, overpacked, runsPast, overflows, InList, badVector, listEnd, vectorHead, vectorIn, checkedIn, typedIn, InPdu, badMessage, pduEnd, listSkipped, listOf, listLength, listAt, messageEnd, Walk, fault, found, also, both, vectorsFrom, vectors, messagesFrom, messages, walk, Asking, nothingAsked, join, withdraw, priorityOf, rankOf, fixedValue, healthValue, idValue, hearing, talkerAct, listenerAct, valueActs, valuesActs, leaveAllActs, vectorActs, frameActs, walked, wrongPort, reading}
 use Rattle.model.proofs.Lists.{all-append}
 use Rattle.model.proofs.Parts.{octets-at, octets-part}
 use Rattle.octets.proofs.Fields.{beAt-fits}
@@ -47,63 +49,97 @@ module _ (P : Vector → Type 0) where
   every-both (found vs) (found ws) a b = all-append P vs ws a b
 
   -- a test that finds a fault, or passes
-  passing : (t : Bool) (n : ℕ) (w : Walk) → (t ≡ false → Every w) → Every (cond t (fault n) w)
+  passing : (t : Bool) (n : ℕ) (w : Walk) → Every w → Every (cond t (fault n) w)
   unfolding Every
-  passing true n w h = tt
-  passing false n w h = h refl
+  passing true n w a = tt
+  passing false n w a = a
 
-  -- the EndMark, where there is one, ends what is found
-  ended : (t u : Bool) (w : Walk) → Every w → Every (cond t (cond u (found []) (fault 3)) w)
-  unfolding Every
-  ended true true w a = tt
-  ended true false w a = tt
-  ended false u w a = a
+  -- P of each vector that stands in an AttributeList
+  module _ (k : Attribute) (l : List ℕ) (each : (at h : ℕ) → typedIn k l at ≡ vectorHead h → P (vectorAt k l at h)) where
+    every-from : (at : ℕ) (r : InList) → typedIn k l at ≡ r → (rest : ℕ → Walk) → ((e : ℕ) → Every (rest e)) → Every (vectorsFrom k l at r rest)
+    unfolding Every vectorsFrom
+    every-from at (badVector n) e rest a = tt
+    every-from at listEnd e rest a = tt
+    every-from at (vectorHead h) e rest a = every-also (vectorAt k l at h) _ (each at h e) (a _)
 
-  last : (t : Bool) (w : Walk) → Every w → Every (cond t (found []) w)
-  unfolding Every
-  last true w a = tt
-  last false w a = a
-
-  -- P of each vector that passes the checks of an AttributeList
-  module _ (k : Attribute) (l : List ℕ)
-      (each : (at h : ℕ) → vectorEnd k at h ≤ length l → overpacked (vectorAt k l at h .three) ≡ false →
-      overflows (vectorAt k l at h) ≡ false → P (vectorAt k l at h)) where
     every-vectors : (f at : ℕ) → Every (vectors f k l at)
     unfolding vectors
     every-vectors zero at = unfold Every in tt
-    every-vectors (suc f) at =
-        let h : ℕ = beAt 2 l at in
-        let v : Vector = vectorAt k l at h in
-        passing (ltb (length l) (at + 2)) 3 _ (λ _. ended (eqb h 0) (eqb (at + 2) (length l)) _
-        (passing (ltb 1 (h / 8192)) 6 _ (λ _. passing (ltb (length l) (vectorEnd k at h)) 3 _
-        (λ fits. passing (overpacked (v .three)) 6 _ (λ packed. passing (overflows v) 7 _
-        (λ within. every-also v _ (each at h (ltb-false _ _ fits) packed within) (every-vectors f (vectorEnd k at h))))))))
+    every-vectors (suc f) at = every-from at _ refl (vectors f k l) (every-vectors f)
 
-  -- and of each list of a PDU
+  -- and in each list of a PDU
   module _ (s : List ℕ)
-      (each : (k : Attribute) (place at h : ℕ) → vectorEnd k at h ≤ length (listAt s place) →
-      overpacked (vectorAt k (listAt s place) at h .three) ≡ false → overflows (vectorAt k (listAt s place) at h) ≡ false →
-      P (vectorAt k (listAt s place) at h)) where
-    every-message : (t : TypeOctet) (at : ℕ) (rest : Walk) → Every rest → Every (message t s at rest)
-    unfolding message
-    every-message notAllowed at rest a = unfold Every in tt
-    every-message unknown at rest a = passing (ltb (length s) (messageEnd s at)) 3 rest (λ _. a)
-    every-message (known k) at rest a =
-        passing (not (eqb (getD s (at + 1) 0) (firstLength k))) 5 _ (λ _. passing (ltb (length s) (messageEnd s at)) 3 _
-        (λ _. every-both _ rest (every-vectors k (listAt s at) (each k at) (suc (listLength s at)) 0) a))
+      (each : (k : Attribute) (place at h : ℕ) → typedIn k (listAt s place) at ≡ vectorHead h → P (vectorAt k (listAt s place) at h)) where
+    every-message : (at : ℕ) (r : InPdu) (rest : Walk) → Every rest → Every (messagesFrom s at r rest)
+    unfolding Every messagesFrom
+    every-message at (badMessage n) rest a = tt
+    every-message at pduEnd rest a = tt
+    every-message at listSkipped rest a = a
+    every-message at (listOf k) rest a = every-both _ rest (every-vectors k (listAt s at) (each k at) (suc (listLength s at)) 0) a
 
     every-messages : (f version at : ℕ) → Every (messages f version s at)
     unfolding messages
     every-messages zero version at = unfold Every in tt
-    every-messages (suc f) version at =
-        last (eqb at (length s)) _ (last (endMark s at) _ (passing (ltb (length s) (at + 4)) 3 _
-        (λ _. every-message (typeOctet version (getD s at 0)) at _ (every-messages f version (messageEnd s at)))))
+    every-messages (suc f) version at = every-message at _ _ (every-messages f version (messageEnd s at))
 
     every-walk : (vs : List Vector) → walk s ≡ found vs → All P vs
     unfolding walk
     every-walk vs e =
         every-found (walk s) vs e
-        (passing (eqb (length s) 0) 2 _ (λ _. passing (ltb 1500 (length s)) 2 _ (λ _. every-messages (suc (length s)) (getD s 0 0) 1)))
+        (passing (eqb (length s) 0) 2 _ (passing (ltb longestPdu (length s)) 2 _ (every-messages (suc (length s)) (getD s 0 0) 1)))
+
+-- A vector that stands in an AttributeList has passed every check.
+
+-- a test that does not lead to an answer was false
+pub passed : {A : Type 0} (t : Bool) (x y z : A) → (x ≡ z → ⊥) → cond t x y ≡ z → (t ≡ false) × (y ≡ z)
+passed true x y z p e = absurd (p e)
+passed false x y z p e = (refl, e)
+
+bad-vector : (n h : ℕ) → badVector n ≡ vectorHead h → ⊥
+bad-vector n h e = let z : _≡_ {A = ℕ} 0 1 = cc in omega arith
+
+no-end : (h : ℕ) → listEnd ≡ vectorHead h → ⊥
+no-end h e = let z : _≡_ {A = ℕ} 0 1 = cc in omega arith
+
+-- of a vector of any MRP application
+pub record Fitting (first : ℕ) (four : Bool) (l : List ℕ) (at h : ℕ) : Type 0 where
+  pub header : at + 2 ≤ length l
+  pub is : beAt 2 l at ≡ h
+  pub fits : vectorEnd first four at h ≤ length l
+  pub packed : overpacked (part (at + 2 + first) (threeLength (h % 8192)) l) ≡ false
+
+pub fitting : (first : ℕ) (four : Bool) (l : List ℕ) (at h : ℕ) → vectorIn first four l at ≡ vectorHead h → Fitting first four l at h
+unfolding vectorIn
+fitting first four l at h e =
+    let n = beAt 2 l at in
+    let a = passed (ltb (length l) (at + 2)) _ _ _ (bad-vector 3 h) e in
+    let b = passed (eqb n 0) _ _ _ (no-end h) (a .1) in
+    let c = passed (ltb 1 (n / 8192)) _ _ _ (bad-vector 6 h) (b .1) in
+    let d = passed (ltb (length l) (vectorEnd first four at n)) _ _ _ (bad-vector 3 h) (c .1) in
+    let f = passed (overpacked (part (at + 2 + first) (threeLength (n % 8192)) l)) _ _ _ (bad-vector 6 h) (d .1) in
+    let i : n ≡ h = cc in
+    let p : vectorEnd first four at n ≤ length l = ltb-false _ _ (d .0) in
+    record { header = ltb-false _ _ (a .0); is = i; fits = rw i at p; packed = rw i at (f .0) }
+
+-- and of a type
+module _ (k : Attribute) (l : List ℕ) (at h : ℕ) where
+  pub record Passed : Type 0 where
+    pub there : vectorIn (firstLength k) (hasFour k) l at ≡ vectorHead h
+    pub fitting : Fitting (firstLength k) (hasFour k) l at h
+    pub within : overflows (vectorAt k l at h) ≡ false
+
+  pub passed-all : typedIn k l at ≡ vectorHead h → Passed
+  unfolding typedIn checkedIn
+  passed-all = go (vectorIn (firstLength k) (hasFour k) l at) refl
+    where
+      go : (r : InList) → vectorIn (firstLength k) (hasFour k) l at ≡ r → checkedIn k l at r ≡ vectorHead h → Passed
+      go (badVector n) i e = absurd (bad-vector n h e)
+      go listEnd i e = let a = passed (eqb (at + 2) (length l)) _ _ _ (no-end h) e in absurd (bad-vector 3 h (a .1))
+      go (vectorHead m) i e =
+          let a = passed (overflows (vectorAt k l at m)) _ _ _ (bad-vector 7 h) e in
+          let q : m ≡ h = cc in
+          let there : vectorIn (firstLength k) (hasFour k) l at ≡ vectorHead h = rw q at i in
+          record { there = there; fitting = fitting (firstLength k) (hasFour k) l at h there; within = rw q at (a .0) }
 
 -- The facts of a vector found.
 
@@ -111,7 +147,7 @@ pub record Sound (v : Vector) : Type 0 where
   pub values : v .values < 8192
   pub first : length (v .first) ≡ firstLength (v .attribute)
   pub three : length (v .three) ≡ threeLength (v .values)
-  pub four : length (v .four) ≡ fourLength (v .attribute) (v .values)
+  pub four : length (v .four) ≡ fourLength (hasFour (v .attribute)) (v .values)
   pub packed : overpacked (v .three) ≡ false
   pub within : overflows v ≡ false
 
@@ -121,22 +157,25 @@ pub record InOctets (v : Vector) : Type 0 where
   pub three : Octets (v .three)
   pub four : Octets (v .four)
 
-pub walk-sound : (s : List ℕ) (vs : List Vector) → walk s ≡ found vs → All Sound vs
-walk-sound s vs e = every-walk Sound s (λ k place at h. sound-at k (listAt s place) at h) vs e
-  where
-    sound-at : (k : Attribute) (l : List ℕ) (at h : ℕ) → vectorEnd k at h ≤ length l →
-        overpacked (vectorAt k l at h .three) ≡ false → overflows (vectorAt k l at h) ≡ false → Sound (vectorAt k l at h)
-    sound-at k l at h fits packed within = unfold vectorAt vectorEnd in record {
+pub sound-at : (k : Attribute) (l : List ℕ) (at h : ℕ) → typedIn k l at ≡ vectorHead h → Sound (vectorAt k l at h)
+unfolding vectorAt vectorEnd
+sound-at k l at h e =
+    let p = passed-all k l at h e in
+    let f = p .fitting .fits in
+    record {
       values = omega arith;
       first = length-part (at + 2) (firstLength k) l (omega arith);
       three = length-part (at + 2 + firstLength k) (threeLength (h % 8192)) l (omega arith);
-      four = length-part (at + 2 + firstLength k + threeLength (h % 8192)) (fourLength k (h % 8192)) l fits;
-      packed = packed;
-      within = within;
+      four = length-part (at + 2 + firstLength k + threeLength (h % 8192)) (fourLength (hasFour k) (h % 8192)) l f;
+      packed = p .fitting .packed;
+      within = p .within;
     }
 
+pub walk-sound : (s : List ℕ) (vs : List Vector) → walk s ≡ found vs → All Sound vs
+walk-sound s vs e = every-walk Sound s (λ k place at h. sound-at k (listAt s place) at h) vs e
+
 pub walk-octets : (s : List ℕ) (vs : List Vector) → Octets s → walk s ≡ found vs → All InOctets vs
-walk-octets s vs o e = every-walk InOctets s (λ k place at h _ _ _. vector-octets k at h (listAt s place) (unfold listAt in (octets-part _ _ s o))) vs e
+walk-octets s vs o e = every-walk InOctets s (λ k place at h _. vector-octets k at h (listAt s place) (unfold listAt in (octets-part _ _ s o))) vs e
   where
     vector-octets : (k : Attribute) (at h : ℕ) (l : List ℕ) → Octets l → InOctets (vectorAt k l at h)
     vector-octets k at h l o = unfold vectorAt in record { first = octets-part _ _ l o; three = octets-part _ _ l o; four = octets-part _ _ l o }
@@ -159,28 +198,29 @@ or-right true b e = absurd (true≢false e)
 or-right false b e = e
 
 -- the last value of a vector runs past no field
-runs-within : (v : Vector) → overflows v ≡ false → 1 ≤ v .values → runsPast (v .attribute) (v .first) (v .values - 1) ≡ false
+pub last-within : (v : Vector) → overflows v ≡ false → 1 ≤ v .values → runsPast (v .attribute) (v .first) (v .values - 1) ≡ false
 unfolding overflows
-runs-within v e h = rw (ne-eqb (v .values) 0 (omega arith)) at e
+last-within v e h = rw (ne-eqb (v .values) 0 (omega arith)) at e
+
+-- StreamID is the MAC address, 6 octets, and Unique ID, 2
+pub id-split : (s : List ℕ) → beAt 8 s 0 ≡ beAt 6 s 0 * 65536 + beAt 2 s 6
+unfolding beAt
+id-split s = omega arith
+
+-- a Unique ID with m more values behind it, none of which runs past its field
+pub unique-within : (k : Kind) (s : List ℕ) (m : ℕ) → runsPast (registers k) s m ≡ false → beAt 2 s 6 + m < 65536
+unfolding runsPast
+unique-within advertises s m e = omega (arith, ltb-false 65535 (beAt 2 s 6 + m) (or-left _ _ e))
+unique-within faileds s m e = omega (arith, ltb-false 65535 (beAt 2 s 6 + m) (or-left _ _ e))
+unique-within listeners s m e = omega (arith, ltb-false 65535 (beAt 2 s 6 + m) e)
 
 -- FirstValue with m more values behind it, none of which runs past its field, and the one at n
 module _ (s : List ℕ) (o : Octets s) (m n : ℕ) (h : n ≤ m) where
-  unique-within : (k : Kind) → runsPast (registers k) s m ≡ false → beAt 2 s 6 + m < 65536
-  unfolding runsPast
-  unique-within advertises e = omega (arith, ltb-false 65535 (beAt 2 s 6 + m) (or-left _ _ e))
-  unique-within faileds e = omega (arith, ltb-false 65535 (beAt 2 s 6 + m) (or-left _ _ e))
-  unique-within listeners e = omega (arith, ltb-false 65535 (beAt 2 s 6 + m) e)
-
-  -- StreamID is the MAC address, 6 octets, and Unique ID, 2
-  id-split : beAt 8 s 0 ≡ beAt 6 s 0 * 65536 + beAt 2 s 6
-  unfolding beAt
-  id-split = omega arith
-
   pub id-fits : (k : Kind) → runsPast (registers k) s m ≡ false → beAt 8 s 0 + n < 2 ^ 64
   id-fits k e =
-      let u : beAt 2 s 6 + m < 65536 = unique-within k e in
+      let u : beAt 2 s 6 + m < 65536 = unique-within k s m e in
       let a : beAt 6 s 0 < 256 ^ 6 = beAt-below-width 6 s 0 o in
-      omega (arith, id-split)
+      omega (arith, id-split s)
 
   -- of a Talker, Advertise or Failed
   module _ (more : List ℕ) (d : beAt 6 s 8 + m < 256 ^ 6) where
@@ -233,7 +273,7 @@ destination-within t d e = omega (arith, ltb-false 281474976710655 d (or-right t
 
 value-fits : (v : Vector) (n : ℕ) → Octets (v .first) → overflows v ≡ false → n < v .values → All Fits (valueActs v n)
 unfolding valueActs idValue fields firstWidths healthValue runsPast talkerValues
-value-fits v n o e h = go (v .attribute) (runs-within v e (omega arith))
+value-fits v n o e h = go (v .attribute) (last-within v e (omega arith))
   where
     s : List ℕ
     s = v .first

@@ -11,6 +11,7 @@ pub mod Commute
 pub mod FoundVectors
 pub mod FrameOrder
 pub mod Admission
+pub mod Importance
 pub mod ColumnRule
 pub mod OneSolution
 pub mod ReceiveKeepsForm

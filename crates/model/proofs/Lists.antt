@@ -1,11 +1,14 @@
 -- Laws of lists, tests and `All`.
-use mathlib.Core.Path.{_≡_, refl}
+use mathlib.Core.Path.{_≡_, refl, ap}
 use mathlib.Core.List.{List, [], _∷_, _++_}
 use mathlib.Core.Bool.{Bool, true, false, _&&_, false≢true}
-use Prim.Native.Nat.{ℕ, zero, suc}
-use lib.ListN.{take, drop, replicate}
+use Prim.Native.Nat.{ℕ, zero, suc, _<_}
+use native.Mathlib.Omega.{arith}
+use lib.ListN.{length, getD, set, take, drop, replicate}
 use borrow.Author.Tests.{eq-eqb, ne-eqb}
 use Rattle.model.specs.Lists.{All, allTrue, implies, tabulate, on}
+use Rattle.model.specs.State.{Cell}
+use Rattle.model.specs.Registrations.{at}
 
 -- All.
 
@@ -45,10 +48,40 @@ module _ {A : Type 0} (P : A → Type 0) where
   all-replicate zero x h = tt
   all-replicate (suc n) x h = (h, all-replicate n x h)
 
+  -- of the one at a place; and with what stands past the end
+  pub all-at : (l : List A) → All P l → (k : ℕ) (d : A) → k < length l → P (getD l k d)
+  all-at [] a k d h = absurd (omega arith)
+  all-at (x ∷ l) a zero d h = a .0
+  all-at (x ∷ l) a (suc k) d h = all-at l (a .1) k d (omega arith)
+
+  pub all-getD : (l : List A) → All P l → (d : A) → P d → (k : ℕ) → P (getD l k d)
+  all-getD [] a d h k = h
+  all-getD (x ∷ l) a d h zero = a .0
+  all-getD (x ∷ l) a d h (suc k) = all-getD l (a .1) d h k
+
+  pub all-set : (l : List A) (k : ℕ) (y : A) → All P l → P y → All P (set l k y)
+  all-set [] k y a h = tt
+  all-set (x ∷ l) zero y a h = (h, a .1)
+  all-set (x ∷ l) (suc k) y a h = (a .0, all-set l k y (a .1) h)
+
   pub all-tabulate : (n p : ℕ) (f : ℕ → A) → ((q : ℕ) → P (f q)) → All P (tabulate n p f)
   unfolding tabulate
   all-tabulate zero p f h = tt
   all-tabulate (suc n) p f h = (h p, all-tabulate n (suc p) f h)
+
+-- Cells, with the one at a place changed.
+
+pub length-at : (p : ℕ) (u : Cell → Cell) (l : List Cell) → length (at p u l) ≡ length l
+unfolding at
+length-at p u [] = refl
+length-at zero u (c ∷ l) = refl
+length-at (suc p) u (c ∷ l) = ap suc (length-at p u l)
+
+pub all-changed : (P : Cell → Type 0) (p : ℕ) (u : Cell → Cell) (l : List Cell) → ((c : Cell) → P c → P (u c)) → All P l → All P (at p u l)
+unfolding at
+all-changed P p u [] k a = tt
+all-changed P zero u (c ∷ l) k a = (k c (a .0), a .1)
+all-changed P (suc p) u (c ∷ l) k a = (a .0, all-changed P p u l k (a .1))
 
 -- Tests.
 

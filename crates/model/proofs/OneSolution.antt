@@ -13,7 +13,7 @@ use Rattle.model.specs.Lists.{All, keep, tabulate}
 use Rattle.model.specs.State.{Settings, Column, none, Declared, nothing, Result, Stream, Totals, Bridge, Class, classA, classB, sameClass, cellAt, resultAt, unsettled, noTotals}
 use Rattle.model.specs.Registrations.{ids}
 use Rattle.model.specs.Bandwidth.{Claim, key, above, remains, admitted}
-use Rattle.model.specs.Settling.{remain, sourceOf, isSource, streamClass, registered, first, clear, steps, claim, claims, limitOn, leftFor, byBandwidth, columnOf, latencyOut, passed, mergeAll, merged, decideAt, decide, totalOn, totalsOn, settle, isAdvertise}
+use Rattle.model.specs.Settling.{remain, sourceOf, isSource, streamClass, registered, first, clear, outcomeColumn, steps, claim, claims, limitOn, leftFor, byBandwidth, columnOf, latencyOut, passed, mergeAll, merged, decideAt, decide, totalOn, totalsOn, settle, isAdvertise}
 use Rattle.model.proofs.Lists.{all-map, all-both}
 use Rattle.model.proofs.Valid.{Rising}
 use Rattle.model.proofs.Admission.{Obeys, Rule, unique, subtracted, all-above, taken-same}
@@ -108,7 +108,7 @@ module _ (st : Settings) (now : ℕ) (s : List Stream) (p : ℕ) (r : Rising (id
             let l = limitOn st now s p c in
             let cs = claims st now p c s in
             let d = claims-distinct st now p c s r small in
-            m ∙ ap (λ (n : ℕ). first (steps st p x) (byBandwidth st (claim st now p x .demand) (l - n)))
+            m ∙ ap (λ (n : ℕ). first (outcomeColumn st (sourceOf x)) (steps st p x) (byBandwidth st (claim st now p x .demand) (l - n)))
             (spent-above st now p c col ok k s (agree c)
             ∙ taken-same ok (admitted l cs) (above k cs) (all-above _ k cs (unique l cs d ok (rule c)))
             ∙ subtracted l cs d k)

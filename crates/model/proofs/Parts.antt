@@ -4,7 +4,7 @@ use mathlib.Core.Path.{_≡_, refl, sym, ap, _∙_, subst}
 use mathlib.Core.List.{List, [], _∷_, _++_, append-assoc, append-nil, map}
 use mathlib.Core.Bool.{Bool, true, _&&_, and-assoc}
 use Prim.Native.Nat.{ℕ, zero, suc, _+_, _*_, _-_, _≤_, _<_}
-use native.Mathlib.Nat.{zero-mul, suc-mul, mul-comm, zero-add, suc-add, add-mul}
+use native.Mathlib.Nat.{zero-mul, suc-mul, zero-add, suc-add, add-mul}
 use native.Mathlib.Omega.{arith}
 use lib.ListN.{length, getD, take, drop, replicate, length-append, length-drop, length-replicate, replicate-append-replicate}
 use lib.Seq.{take-at, drop-at, take-add, drop-drop, length-take-le, take-all, take-append-le, drop-append-le, getD-take, getD-drop}
@@ -90,6 +90,9 @@ tabulate-zeros : (n p : ℕ) (f : ℕ → ℕ) → ((i : ℕ) → p ≤ i → i 
 unfolding tabulate
 tabulate-zeros zero p f h = refl
 tabulate-zeros (suc n) p f h = rw (h p (omega arith) (omega arith), tabulate-zeros n (suc p) f (λ i a b. h i (omega arith) (omega arith)))
+
+pub two-zero : (a b : ℕ) → allZero (a ∷ b ∷ []) ≡ true → (a ≡ 0) × (b ≡ 0)
+two-zero a b h = (zero-at (a ∷ b ∷ []) h 0, zero-at (a ∷ b ∷ []) h 1)
 
 pub zero-run : (a n : ℕ) (vs : List ℕ) → allZero (take n (drop a vs)) ≡ true → tabulate n a (λ i. getD vs i 0) ≡ zeros n
 zero-run a n vs h =
@@ -247,15 +250,14 @@ module _ {A : Type 0} (n : ℕ) (to : A → List ℕ) (from : List ℕ → A) wh
       (sym (take-add n (k * n) s) ∙ ap (λ (m : ℕ). take m s) (sym (suc-times k n)))
 
 -- the octets after the first k of m parts, where they are zero
-pub padding : (n k m : ℕ) (s : List ℕ) → k ≤ m → length s ≡ m * n → allZero (drop (n * k) s) ≡ true → drop (k * n) s ≡ zeros ((m - k) * n)
+pub padding : (n k m : ℕ) (s : List ℕ) → k ≤ m → length s ≡ m * n → allZero (drop (k * n) s) ≡ true → drop (k * n) s ≡ zeros ((m - k) * n)
 padding n k m s h l o =
-    let c : n * k ≡ k * n = mul-comm n k in
     let d : m * n ≡ k * n + (m - k) * n = ap (λ (i : ℕ). i * n) (less-and-rest k m h) ∙ add-mul k (m - k) n in
-    let e : length (drop (n * k) s) ≡ (m - k) * n = omega (arith, length-drop (n * k) s) in
-    ap (λ (i : ℕ). drop i s) (sym c) ∙ zeros-zero (drop (n * k) s) o ∙ ap zeros e
+    let e : length (drop (k * n) s) ≡ (m - k) * n = omega (arith, length-drop (k * n) s) in
+    zeros-zero (drop (k * n) s) o ∙ ap zeros e
 
 -- the things read from them are those that zeros say
-pub parts-padded : {A : Type 0} (n : ℕ) (from : List ℕ → A) (k m : ℕ) (s : List ℕ) → k ≤ m → length s ≡ m * n → allZero (drop (n * k) s) ≡ true
+pub parts-padded : {A : Type 0} (n : ℕ) (from : List ℕ → A) (k m : ℕ) (s : List ℕ) → k ≤ m → length s ≡ m * n → allZero (drop (k * n) s) ≡ true
     → All (λ a. a ≡ from (zeros n)) (drop k (parts n from m s))
 parts-padded {A = A} n from k m s h l o =
     let e : drop k (parts n from m s) ≡ replicate (m - k) (from (zeros n)) =
@@ -267,11 +269,10 @@ parts-padded {A = A} n from k m s h l o =
 
 -- and the other way round: things that are written as zeros
 pub zero-padded : {A : Type 0} (n : ℕ) (to : A → List ℕ) (e : A) → to e ≡ zeros n
-    → (k : ℕ) (l : List A) → All (Sized n to) l → k ≤ length l → All (λ a. a ≡ e) (drop k l) → allZero (drop (n * k) (flat to l)) ≡ true
+    → (k : ℕ) (l : List A) → All (Sized n to) l → k ≤ length l → All (λ a. a ≡ e) (drop k l) → allZero (drop (k * n) (flat to l)) ≡ true
 zero-padded n to e z k l size h g =
-    let q : drop (n * k) (flat to l) ≡ zeros (length (drop k l) * n) =
-    ap (λ (i : ℕ). drop i (flat to l)) (mul-comm n k)
-    ∙ ap (drop (k * n)) (sym (append-nil (flat to l)))
+    let q : drop (k * n) (flat to l) ≡ zeros (length (drop k l) * n) =
+    ap (drop (k * n)) (sym (append-nil (flat to l)))
     ∙ flat-drop n to k l [] size h
     ∙ append-nil (flat to (drop k l))
     ∙ flat-zeros n to e z (drop k l) g in
@@ -318,7 +319,7 @@ module _ (n : ℕ) (rule : List ℕ → Bool) where
 
     -- m parts, of which those after the first k are zero
     pub every-padded : (k m : ℕ) (s : List ℕ) → k ≤ m → length s ≡ m * n → everyPart n rule k s ≡ true
-        → allZero (drop (n * k) s) ≡ true → everyPart n rule m s ≡ true
+        → allZero (drop (k * n) s) ≡ true → everyPart n rule m s ≡ true
     every-padded k m s h l e o =
         ap (λ (i : ℕ). everyPart n rule i s) (less-and-rest k m h)
         ∙ every-add k (m - k) s

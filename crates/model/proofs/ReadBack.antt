@@ -14,16 +14,17 @@ use Rattle.octets.specs.Fields.{fields, packed, Fit, flat}
 use Rattle.octets.specs.Parts.{part}
 use Rattle.octets.proofs.Be.{beAt-ext, length-be}
 use Rattle.octets.proofs.Fields.{packed-octets, beAt-fits, fields-of-packed}
+use Rattle.model.specs.FrameLayout.{longestPdu}
 use Rattle.model.specs.Lists.{All, keep, Octets, bit}
 use Rattle.model.specs.State.{Settings, Fixed, Health, sound, broken, Ready, askingFailed, ready, readyFailed, Column, none, advertise, failed, Entry, noEntry, filters, forwards, Declared, nothing, tells, Result, Stream, Bridge, resultAt, unsettled}
 use Rattle.model.specs.Registrations.{Kind, advertises, faileds, listeners, talk, listen, acts}
-use Rattle.model.specs.Frames.{Attribute, registers, known, typeOctet, firstWidths, firstLength, threeLength, fourLength, Vector, vectorAt, vectorEnd, overpacked, runsPast, overflows, found, also, both, vectors, listLength, listAt, messageEnd, endMark, message, messages, walk, joinMt, event, threePacked, fourPacked, eventOf, fourOf, asking, join, priorityOf, rankOf, fixedValue, healthValue, idValue, hearing, talkerAct, listenerAct, valueActs, valuesActs, leaveAllActs, vectorActs, frameActs, walked, wrongPort, reading}
+use Rattle.model.specs.Frames.{Attribute, registers, known, typeOctet, firstWidths, firstLength, threeLength, hasFour, fourLength, Vector, vectorAt, vectorEnd, overpacked, runsPast, overflows, vectorIn, checkedIn, typedIn, listLength, listAt, messageEnd, endMark, headerIn, messageIn, found, also, both, vectorsFrom, vectors, messagesFrom, messages, walk, joinMt, event, threePacked, fourPacked, eventOf, fourOf, asking, join, priorityOf, rankOf, fixedValue, healthValue, idValue, hearing, talkerAct, listenerAct, valueActs, valuesActs, leaveAllActs, vectorActs, frameActs, walked, wrongPort, reading}
 use Rattle.model.specs.Declarations.{Declaration, talkerDeclaration, listenerDeclaration, healthKind, kindOf, joinOf, advertised, failing, listening, declarationsOf, ofKind, declarations, vectorSize, sameKind, takes, write}
 use Rattle.model.specs.WrittenFrames.{priorityOctet, fixedNumbers, failureNumbers, firstNumbers, readyNumber, fourOctets, declarationVector, vectorOctets, typeNumber, messageOf, messageOctets, having, pduOctets}
-use Rattle.model.proofs.Lists.{all-map, all-append, all-take, all-drop}
+use Rattle.model.proofs.Lists.{all-map, all-append, all-take, all-drop, all-getD}
 use Rattle.model.proofs.Parts.{octets-append, octets-number, octets-packed}
 use Rattle.model.proofs.Valid.{Valid, ValidFixed, ValidHealth, ValidVarying, ValidColumn, ValidResult, ValidStream}
-use Rattle.model.proofs.AdvanceKeepsForm.{all-getD, unsettled-valid}
+use Rattle.model.proofs.AdvanceKeepsForm.{unsettled-valid}
 use Rattle.model.proofs.WritingPasses.{length-first, length-vector, NotBefore, OfKind, InOrder, all-of-kind, having-kind, having-none, declared, write-above, write-from, run-in-order, run-fits, writeAll, all-runs}
 
 -- Octets behind a prefix.
@@ -47,11 +48,11 @@ vector-octets : (d : Declaration) → vectorOctets (declarationVector d) ≡ 0 �
 unfolding vectorOctets declarationVector bit be
 vector-octets d = refl
 
-length-four : (d : Declaration) → length (fourOctets d) ≡ fourLength (registers (kindOf d)) 1
-unfolding fourOctets kindOf healthKind fourLength
+length-four : (d : Declaration) → length (fourOctets d) ≡ fourLength (hasFour (registers (kindOf d))) 1
+unfolding fourOctets kindOf healthKind fourLength hasFour
 length-four (talkerDeclaration id f v) = go (v .health)
   where
-    go : (h : Health) → 0 ≡ fourLength (registers (healthKind h)) 1
+    go : (h : Health) → 0 ≡ fourLength (hasFour (registers (healthKind h))) 1
     go sound = refl
     go (broken b c) = refl
 length-four (listenerDeclaration id r) = refl
@@ -80,12 +81,13 @@ no-overflow d =
 
 -- a vector of one value that has no fault is found, and the walk goes on behind it
 vectors-more : (f : ℕ) (k : Attribute) (l : List ℕ) (at : ℕ) (v : Vector)
-    → beAt 2 l at ≡ 1 → at + 2 ≤ length l → vectorEnd k at 1 ≤ length l → vectorAt k l at 1 ≡ v
+    → beAt 2 l at ≡ 1 → at + 2 ≤ length l → vectorEnd (firstLength k) (hasFour k) at 1 ≤ length l → vectorAt k l at 1 ≡ v
     → overpacked (v .three) ≡ false → overflows v ≡ false
-    → vectors (suc f) k l at ≡ also v (vectors f k l (vectorEnd k at 1))
-unfolding vectors
+    → vectors (suc f) k l at ≡ also v (vectors f k l (vectorEnd (firstLength k) (hasFour k) at 1))
+unfolding vectors typedIn vectorIn checkedIn vectorsFrom
 vectors-more f k l at v one header fits is three values =
-    rw (one, le-ltb (length l) (at + 2) header, le-ltb (length l) (vectorEnd k at 1) fits, is, three, values)
+    let events : overpacked (part (at + 2 + firstLength k) (threeLength 1) l) ≡ false = unfold vectorAt in (rw (← is) at three) in
+    rw (one, le-ltb (length l) (at + 2) header, le-ltb (length l) (vectorEnd (firstLength k) (hasFour k) at 1) fits, events, is, values, is)
 
 module _ (d : Declaration) (pre rest : List ℕ) where
   -- the list that has the vector at the place
@@ -113,22 +115,22 @@ module _ (d : Declaration) (pre rest : List ℕ) where
       piece-here (0 ∷ 1 ∷ first) (108 ∷ []) (fourOctets d ++ rest) (length pre + 2 + firstLength (registers (kindOf d))) 1
       (rw (vector-octets d) (simp append-assoc)) (rw (length-first d) (omega arith)) refl
 
-  four-here : part (length pre + 2 + firstLength (registers (kindOf d)) + 1) (fourLength (registers (kindOf d)) 1) here ≡ fourOctets d
+  four-here : part (length pre + 2 + firstLength (registers (kindOf d)) + 1) (fourLength (hasFour (registers (kindOf d))) 1) here ≡ fourOctets d
   unfolding first
   four-here =
       piece-here (0 ∷ 1 ∷ (first ++ (108 ∷ []))) (fourOctets d) rest (length pre + 2 + firstLength (registers (kindOf d)) + 1)
-      (fourLength (registers (kindOf d)) 1)
+      (fourLength (hasFour (registers (kindOf d))) 1)
       (rw (vector-octets d) (simp append-assoc)) (simp (length-append, length-first d) (omega arith)) (sym (length-four d))
 
   vector-here : vectorAt (registers (kindOf d)) here (length pre) 1 ≡ declarationVector d
   unfolding vectorAt threeLength
   vector-here = rw (first-here, three-here, four-here) (unfold first declarationVector in refl)
 
-  end-here : vectorEnd (registers (kindOf d)) (length pre) 1 ≡ length pre + vectorSize (kindOf d)
-  unfolding vectorEnd threeLength firstLength fourLength vectorSize
+  end-here : vectorEnd (firstLength (registers (kindOf d))) (hasFour (registers (kindOf d))) (length pre) 1 ≡ length pre + vectorSize (kindOf d)
+  unfolding vectorEnd threeLength firstLength fourLength hasFour vectorSize
   end-here = go (kindOf d)
     where
-      go : (k : Kind) → length pre + 2 + firstLength (registers k) + 1 + fourLength (registers k) 1 ≡ length pre + vectorSize k
+      go : (k : Kind) → length pre + 2 + firstLength (registers k) + 1 + fourLength (hasFour (registers k)) 1 ≡ length pre + vectorSize k
       go advertises = omega arith
       go faileds = omega arith
       go listeners = omega arith
@@ -160,12 +162,12 @@ VectorsRead n k s vs = (f : ℕ) (pre : List ℕ) → n ≤ f → vectors f k (p
 
 -- the EndMark, as the list's last two octets
 vectors-end : (k : Attribute) → VectorsRead 1 k (0 ∷ 0 ∷ []) []
-unfolding VectorsRead vectors
+unfolding VectorsRead vectors typedIn vectorIn checkedIn vectorsFrom
 vectors-end k zero pre h = absurd (omega arith)
 vectors-end k (suc f) pre h =
     let l : length (pre ++ (0 ∷ 0 ∷ [])) ≡ length pre + 2 = length-append pre (0 ∷ 0 ∷ []) in
     let e : beAt 2 (pre ++ (0 ∷ 0 ∷ [])) (length pre) ≡ 0 = beAt-here 2 pre (0 ∷ 0 ∷ []) ∙ (unfold beAt in refl) in
-    rw (e, l, le-ltb (length pre + 2) (length pre + 2) (omega arith), eq-eqb (length pre + 2) (length pre + 2) refl)
+    rw (e, l, le-ltb (length pre + 2) (length pre + 2) (omega arith), l, eq-eqb (length pre + 2) (length pre + 2) refl)
 
 -- one vector more, in front
 vectors-cons : (d : Declaration) (n : ℕ) (rest : List ℕ) (vs : List Vector) → VectorsRead n (registers (kindOf d)) rest vs
@@ -197,7 +199,7 @@ MessagesRead : ℕ → List ℕ → List Vector → Type 0
 MessagesRead n s vs = (f : ℕ) (pre : List ℕ) → n ≤ f → messages f 0 (pre ++ s) (length pre) ≡ found vs
 
 messages-end : MessagesRead 1 (0 ∷ 0 ∷ []) []
-unfolding MessagesRead messages endMark
+unfolding MessagesRead messages messageIn messagesFrom endMark
 messages-end zero pre h = absurd (omega arith)
 messages-end (suc f) pre h =
     let l : length (pre ++ (0 ∷ 0 ∷ [])) ≡ length pre + 2 = length-append pre (0 ∷ 0 ∷ []) in
@@ -221,7 +223,7 @@ messages-more : (f : ℕ) (k : Attribute) (s : List ℕ) (at n : ℕ) (list : Li
     → at + 4 + n ≤ length s → (beAt 2 s at ≡ 0 → ⊥) → typeOctet 0 (getD s at 0) ≡ known k → getD s (at + 1) 0 ≡ firstLength k
     → beAt 2 s (at + 2) ≡ n → part (at + 4) n s ≡ list → vectors (suc n) k list 0 ≡ found vs
     → messages (suc f) 0 s at ≡ both (found vs) (messages f 0 s (at + 4 + n))
-unfolding messages endMark message listLength listAt messageEnd
+unfolding messages messageIn messagesFrom headerIn endMark listLength listAt messageEnd
 messages-more f k s at n list vs fits marked type first long is read =
     rw (
       ne-eqb at (length s) (λ e. omega arith),
@@ -232,6 +234,7 @@ messages-more f k s at n list vs fits marked type first long is read =
       eq-eqb (getD s (at + 1) 0) (firstLength k) first,
       long,
       le-ltb (length s) (at + 4 + n) fits,
+      long,
       is,
       read,
     )
@@ -361,12 +364,12 @@ map-each : (a f n : List Declaration)
 map-each a f n = rw (append-nil (map declarationVector n), map-append declarationVector a (f ++ n), map-append declarationVector f n)
 
 -- a PDU whose Messages are read, and that is not too long
-walk-messages : (s : List ℕ) (vs : List Vector) → 1 ≤ length s → length s ≤ 1500 → messages (suc (length s)) (getD s 0 0) s 1 ≡ found vs → walk s ≡ found vs
+walk-messages : (s : List ℕ) (vs : List Vector) → 1 ≤ length s → length s ≤ longestPdu → messages (suc (length s)) (getD s 0 0) s 1 ≡ found vs → walk s ≡ found vs
 unfolding walk
-walk-messages s vs some few e = rw (ne-eqb (length s) 0 (λ q. omega arith), le-ltb 1500 (length s) few) e
+walk-messages s vs some few e = rw (ne-eqb (length s) 0 (λ q. omega arith), le-ltb longestPdu (length s) few) e
 
 -- a PDU of declarations in the order of types, if not too long, is read as their vectors
-pub walk-written : (l : List Declaration) → InOrder l → length (pduOctets l) ≤ 1500 → walk (pduOctets l) ≡ found (map declarationVector l)
+pub walk-written : (l : List Declaration) → InOrder l → length (pduOctets l) ≤ longestPdu → walk (pduOctets l) ≡ found (map declarationVector l)
 unfolding pduOctets MessagesRead
 walk-written l o h =
     walk-messages (pduOctets l) (map declarationVector l) (omega arith) h
@@ -551,7 +554,7 @@ declarations-within b h p =
     Ok = ValidStream (length (b .settings .ports)) (b .clock) (b .settings .leaveTime)
 
     result : (x : Stream) → Ok x → ValidResult (b .clock) (resultAt x (p - 1))
-    result x o = unfold resultAt in (all-getD (ValidResult (b .clock)) (x .results) (p - 1) unsettled (unsettled-valid (b .clock)) (o .results))
+    result x o = unfold resultAt in (all-getD (ValidResult (b .clock)) (x .results) (o .results) unsettled (unsettled-valid (b .clock)) (p - 1))
 
     of : (j : Kind) → All ValidDeclaration (ofKind j (p - 1) (b .streams))
     of j =

@@ -10,12 +10,12 @@ use lib.Dec.{ltb, leb, eqb}
 use borrow.Author.Tests.{ltb-true, ltb-false, leb-true, eqb-false}
 use Rattle.model.specs.Lists.{All, Octets}
 use Rattle.model.specs.State.{Settings, Leaving, stays, since, Fixed, Varying, Talker, noTalker, talker, Listener, noListener, listener, Ready, Cell, Stream, Bridge, empty, unsettled, noFixed, blank, fresh}
-use Rattle.model.specs.Registrations.{Kind, Act, leaveAll, leave, talk, listen, begin, talksAs, hearsAs, quitTalker, quitListener, quit, sameFixed, joinTalker, does, at, change, begun, touch, reach, apply, applyAll, Reading, refused, acts, Answer, holding, received, ids}
+use Rattle.model.specs.Registrations.{Kind, Act, leaveAll, leave, talk, listen, begin, talksAs, hearsAs, withLeaving, quitTalker, quitListener, quit, sameFixed, firstJoin, sameJoin, otherJoin, joinTalker, does, at, change, begun, touch, reach, apply, applyAll, Reading, refused, acts, Answer, holding, received, ids}
 use Rattle.model.specs.Frames.{wrongPort, reading}
 use Rattle.model.specs.Settling.{isTalking, isHearing, held}
 use Rattle.model.specs.Calls.{receive}
-use Rattle.model.proofs.Lists.{all-map, all-drop, all-replicate}
-use Rattle.model.proofs.Valid.{ValidLeaving, ValidFixed, ValidVarying, ValidTalker, ValidListener, ValidCell, ValidResult, ValidStream, Rising, Valid}
+use Rattle.model.proofs.Lists.{all-map, all-drop, all-replicate, length-at, all-changed}
+use Rattle.model.proofs.Valid.{ValidLeaving, ValidFixed, ValidVarying, ValidRegistration, ValidTalker, ValidListener, ValidCell, ValidResult, ValidStream, Rising, Valid}
 use Rattle.model.proofs.FoundVectors.{Fits, FitsReading, reading-fits, or-left, or-right}
 use Rattle.model.proofs.AdvanceKeepsForm.{all-mapped, unsettled-valid}
 
@@ -32,9 +32,13 @@ module _ (clock leaveTime : ℕ) (leaves : 1 ≤ leaveTime) where
   left-or-not false l v = v
 
   talker-quits : (k : Kind) (t : Talker) → ValidTalker clock leaveTime t → ValidTalker clock leaveTime (quitTalker clock k t)
-  unfolding quitTalker
+  unfolding quitTalker withLeaving
   talker-quits k noTalker v = tt
-  talker-quits k (talker f w m l) v = (v .0, v .1, left-or-not (talksAs k (w .health)) l (v .2))
+  talker-quits k (talker r) v = record {
+    fixed = v .fixed;
+    varying = v .varying;
+    leaving = left-or-not (talksAs k (r .varying .health)) (r .leaving) (v .leaving);
+  }
 
   listener-quits : (k : Kind) (t : Listener) → ValidListener clock leaveTime t → ValidListener clock leaveTime (quitListener clock k t)
   unfolding quitListener
@@ -47,13 +51,13 @@ module _ (clock leaveTime : ℕ) (leaves : 1 ≤ leaveTime) where
 
   talker-joins : (f : Fixed) (v : Varying) → ValidFixed f → ValidVarying v → (t : Talker) → ValidTalker clock leaveTime t →
       ValidTalker clock leaveTime (joinTalker f v t)
-  unfolding joinTalker
-  talker-joins f v vf vv noTalker w = (vf, vv, tt)
-  talker-joins f v vf vv (talker g u m l) w = go (sameFixed f g)
+  unfolding joinTalker firstJoin sameJoin otherJoin
+  talker-joins f v vf vv noTalker w = record { fixed = vf; varying = vv; leaving = tt }
+  talker-joins f v vf vv (talker r) w = go (sameFixed f (r .fixed))
     where
-      go : (t : Bool) → ValidTalker clock leaveTime (cond t (talker g v false stays) (talker g u true stays))
-      go true = (w .0, vv, tt)
-      go false = (w .0, w .1, tt)
+      go : (t : Bool) → ValidRegistration clock leaveTime (cond t (sameJoin v r) (otherJoin r))
+      go true = record { fixed = w .fixed; varying = vv; leaving = tt }
+      go false = record { fixed = w .fixed; varying = w .varying; leaving = tt }
 
   does-valid : (a : Act) → Fits a → (c : Cell) → ValidCell clock leaveTime c → ValidCell clock leaveTime (does clock a c)
   unfolding does
@@ -71,7 +75,7 @@ quit-talks : (now : ℕ) (k : Kind) (t : Talker) (h g : Listener) →
     isTalking record { talks = quitTalker now k t; hears = h } ≡ isTalking record { talks = t; hears = g }
 unfolding isTalking quitTalker
 quit-talks now k noTalker h g = refl
-quit-talks now k (talker f v m l) h g = refl
+quit-talks now k (talker r) h g = refl
 
 quit-hears : (now : ℕ) (k : Kind) (t u : Talker) (h : Listener) →
     isHearing record { talks = t; hears = quitListener now k h } ≡ isHearing record { talks = u; hears = h }
@@ -86,11 +90,7 @@ quit-stays now k c = ap₂ _||_ (quit-talks now k (c .talks) _ (c .hears)) (quit
 talk-joins : (f : Fixed) (v : Varying) (t : Talker) (h : Listener) → onPort record { talks = joinTalker f v t; hears = h } ≡ true
 unfolding onPort isTalking joinTalker
 talk-joins f v noTalker h = refl
-talk-joins f v (talker g w m l) h = go (sameFixed f g)
-  where
-    go : (b : Bool) → onPort record { talks = cond b (talker g v false stays) (talker g w true stays); hears = h } ≡ true
-    go true = refl
-    go false = refl
+talk-joins f v (talker r) h = refl
 
 or-true : (a : Bool) → (a || true) ≡ true
 or-true true = refl
@@ -120,18 +120,6 @@ does-stays now (talk i f v) c h = talk-puts now i f v c
 does-stays now (listen i r) c h = listen-puts now i r c
 
 -- Cells, with the one at a place changed.
-
-length-at : (p : ℕ) (u : Cell → Cell) (cs : List Cell) → length (at p u cs) ≡ length cs
-unfolding at
-length-at p u [] = refl
-length-at zero u (c ∷ cs) = refl
-length-at (suc p) u (c ∷ cs) = ap suc (length-at p u cs)
-
-all-at : (P : Cell → Type 0) (p : ℕ) (u : Cell → Cell) (cs : List Cell) → ((c : Cell) → P c → P (u c)) → All P cs → All P (at p u cs)
-unfolding at
-all-at P p u [] k a = tt
-all-at P zero u (c ∷ cs) k a = (k c (a .0), a .1)
-all-at P (suc p) u (c ∷ cs) k a = (a .0, all-at P p u cs k (a .1))
 
 -- those after it are as before
 drop-changed : (n p : ℕ) (u : Cell → Cell) (cs : List Cell) → p < n → drop n (at p u cs) ≡ drop n cs
@@ -169,7 +157,7 @@ module _ (ports clock leaveTime p : ℕ) (here : p < ports) (eight : ports ≤ 8
     id = v .id;
     settled = v .settled;
     eight-cells = length-at p u (x .cells) ∙ v .eight-cells;
-    cells = all-at (ValidCell clock leaveTime) p u (x .cells) valid-then (v .cells);
+    cells = all-changed (ValidCell clock leaveTime) p u (x .cells) valid-then (v .cells);
     no-other-cells = rw (drop-changed ports p u (x .cells) here) (v .no-other-cells);
     is-held = held-stays p u (x .cells) k (v .is-held);
     eight-results = v .eight-results;
@@ -185,7 +173,7 @@ module _ (ports clock leaveTime p : ℕ) (here : p < ports) (eight : ports ≤ 8
     settled = omega arith;
     eight-cells = length-at p u (replicate 8 empty);
     cells =
-        all-at (ValidCell clock leaveTime) p u (replicate 8 empty) valid-then
+        all-changed (ValidCell clock leaveTime) p u (replicate 8 empty) valid-then
         (all-replicate (ValidCell clock leaveTime) 8 empty record { talks = tt; hears = tt });
     no-other-cells =
         rw (drop-changed ports p u (replicate 8 empty) here)

@@ -6,19 +6,23 @@ use mathlib.Core.Path.{_≡_, refl, sym, _∙_, ap, subst}
 use mathlib.Core.Logic.{_↔_, Iff·rfl, Iff·trans, Iff·and, _⊎_, inl, inr, ⊎-elim}
 use mathlib.Core.List.{List, [], _∷_, List·Memᴰ, List·Memᴰ·not-nil, List·Memᴰ·cases-cons}
 use mathlib.Core.Bool.{Bool, true, false, cond, not, _||_, true≢false, false≢true}
-use Prim.Native.Nat.{ℕ, zero, suc, _+_, _-_, _/_, _≤_, _<_}
+use Prim.Native.Nat.{ℕ, zero, suc, _+_, _-_, _/_, _%_, _≤_, _<_}
 use native.Mathlib.Omega.{arith}
 use lib.ListN.{length, getD}
 use lib.Dec.{ltb, leb, eqb}
 use borrow.Author.Tests.{ltb-true, ltb-false, leb-true, leb-false, eqb-true, eqb-false, not-true, not-false, lt-ltb, le-ltb, eq-eqb, ne-eqb}
 use Rattle.octets.specs.Be.{beAt}
+use Rattle.octets.specs.Parts.{part}
+use Rattle.model.specs.Layout.{tableLength}
+use Rattle.model.specs.FrameLayout.{longestPdu}
 use Rattle.model.specs.Lists.{All, Octets}
 use Rattle.model.specs.State.{Settings, Bridge}
 use Rattle.model.specs.Registrations.{refused, Answer, received, applyAll, add, together, ids, joins}
-use Rattle.model.specs.Frames.{Attribute, TypeOctet, notAllowed, unknown, known, typeOctet, firstLength, Vector, vectorAt, vectorEnd, overpacked, overflows, listLength, listAt, messageEnd, endMark, Walk, fault, found, also, both, vectors, message, messages, walk, walked, frameActs, reading, wrongPort}
+use Rattle.model.specs.Frames.{Attribute, TypeOctet, notAllowed, unknown, known, typeOctet, firstLength, threeLength, hasFour, Vector, vectorAt, vectorEnd, overpacked, overflows, InList, badVector, listEnd, vectorHead, vectorIn, checkedIn, typedIn, InPdu, badMessage, pduEnd, listSkipped, listOf, listLength, listAt, messageEnd, endMark, headerIn, messageIn, Walk, fault, found, also, both, vectorsFrom, vectors, messagesFrom, messages, walk, walked, frameActs, reading, wrongPort}
 use Rattle.model.specs.Settling.{advance}
-use Rattle.model.specs.Declarations.{Written, write, Report, refusedReport, report, declarations}
-use Rattle.model.specs.Table.{decode, clockField, formed, tableLength, settingsFormed}
+use Rattle.model.specs.Declarations.{Written, write, declarations}
+use Rattle.model.specs.Reports.{Report, refusedReport, report}
+use Rattle.model.specs.Table.{decode, clockField, formed, settingsFormed}
 use Rattle.model.specs.Calls.{Call, startOn, leaves, onTable, receive, receiveOn, advanceOn, WriteCall, refusedWrite, writtenTo, writeOn, reportOn}
 use Rattle.model.proofs.Valid.{Rising, Valid}
 use Rattle.model.proofs.Tables.{valid-decode}
@@ -77,7 +81,7 @@ write-unwritten t p place buffer =
     let none : (n : ℕ) → Unwritten buffer (refusedWrite n buffer) = λ n. refused-unwritten n buffer in
     cond-either (Unwritten buffer) (not (formed t)) _ _ (none 12)
     (cond-either (Unwritten buffer) (wrongPort (decode t .settings) p) _ _ (none 1)
-    (cond-either (Unwritten buffer) (ltb (length buffer) 1500) _ _ (none 10)
+    (cond-either (Unwritten buffer) (ltb (length buffer) longestPdu) _ _ (none 10)
     (cond-either (Unwritten buffer) (eqb (write (decode t) p place .number) 0) _ _ (λ n. absurd (n refl)) (none _))))
 
 pub write-refused : (t : List ℕ) (p place : ℕ) (buffer : List ℕ) → (writeOn t p place buffer .number ≡ 0 → ⊥) →
@@ -269,39 +273,77 @@ both-faults (fault n) x h k = h
 both-faults (found vs) (fault n) h k = k
 both-faults (found vs) (found ws) h k = tt
 
+-- what stands at a place has no other number
+abbrev ListFaults : InList → Type 0
+ListFaults (badVector n) = (3 ≤ n) × (n ≤ 7)
+ListFaults listEnd = Unit {0}
+ListFaults (vectorHead h) = Unit {0}
+
+vector-faults : (first : ℕ) (four : Bool) (l : List ℕ) (at : ℕ) → ListFaults (vectorIn first four l at)
+unfolding vectorIn
+vector-faults first four l at =
+    let h = beAt 2 l at in
+    let three : ListFaults (badVector 3) = (omega arith, omega arith) in
+    let six : ListFaults (badVector 6) = (omega arith, omega arith) in
+    cond-either ListFaults (ltb (length l) (at + 2)) _ _ three
+    (cond-either ListFaults (eqb h 0) _ _ tt
+    (cond-either ListFaults (ltb 1 (h / 8192)) _ _ six
+    (cond-either ListFaults (ltb (length l) (vectorEnd first four at h)) _ _ three
+    (cond-either ListFaults (overpacked (part (at + 2 + first) (threeLength (h % 8192)) l)) _ _ six tt))))
+
+checked-faults : (k : Attribute) (l : List ℕ) (at : ℕ) (r : InList) → ListFaults r → ListFaults (checkedIn k l at r)
+unfolding checkedIn
+checked-faults k l at (badVector n) h = h
+checked-faults k l at listEnd h = cond-either ListFaults (eqb (at + 2) (length l)) _ _ tt (omega arith, omega arith)
+checked-faults k l at (vectorHead h) _ = cond-either ListFaults (overflows (vectorAt k l at h)) _ _ (omega arith, omega arith) tt
+
+from-faults : (k : Attribute) (l : List ℕ) (at : ℕ) (r : InList) (rest : ℕ → Walk) → ListFaults r → ((e : ℕ) → Faults (rest e)) →
+    Faults (vectorsFrom k l at r rest)
+unfolding vectorsFrom
+from-faults k l at (badVector n) rest h g = h
+from-faults k l at listEnd rest h g = tt
+from-faults k l at (vectorHead h) rest _ g = also-faults (vectorAt k l at h) _ (g _)
+
 vectors-faults : (f : ℕ) (k : Attribute) (l : List ℕ) (at : ℕ) → Faults (vectors f k l at)
-unfolding vectors
+unfolding vectors typedIn
 vectors-faults zero k l at = (omega arith, omega arith)
 vectors-faults (suc f) k l at =
-    let h = beAt 2 l at in
-    let three : Faults (fault 3) = (omega arith, omega arith) in
-    let six : Faults (fault 6) = (omega arith, omega arith) in
-    let seven : Faults (fault 7) = (omega arith, omega arith) in
-    cond-either Faults (ltb (length l) (at + 2)) _ _ three
-    (cond-either Faults (eqb h 0) _ _ (cond-either Faults (eqb (at + 2) (length l)) _ _ tt three)
-    (cond-either Faults (ltb 1 (h / 8192)) _ _ six
-    (cond-either Faults (ltb (length l) (vectorEnd k at h)) _ _ three
-    (cond-either Faults (overpacked (vectorAt k l at h .three)) _ _ six
-    (cond-either Faults (overflows (vectorAt k l at h)) _ _ seven
-    (also-faults (vectorAt k l at h) _ (vectors-faults f k l (vectorEnd k at h))))))))
+    from-faults k l at _ (vectors f k l) (checked-faults k l at _ (vector-faults (firstLength k) (hasFour k) l at)) (vectors-faults f k l)
 
-message-faults : (o : TypeOctet) (s : List ℕ) (at : ℕ) (rest : Walk) → Faults rest → Faults (message o s at rest)
-unfolding message
-message-faults notAllowed s at rest r = (omega arith, omega arith)
-message-faults unknown s at rest r = cond-either Faults (ltb (length s) (messageEnd s at)) _ _ (omega arith, omega arith) r
-message-faults (known k) s at rest r =
-    cond-either Faults (not (eqb (getD s (at + 1) 0) (firstLength k))) _ _ (omega arith, omega arith)
-    (cond-either Faults (ltb (length s) (messageEnd s at)) _ _ (omega arith, omega arith)
-    (both-faults _ rest (vectors-faults (suc (listLength s at)) k (listAt s at) 0) r))
+abbrev PduFaults : InPdu → Type 0
+PduFaults (badMessage n) = (3 ≤ n) × (n ≤ 7)
+PduFaults pduEnd = Unit {0}
+PduFaults listSkipped = Unit {0}
+PduFaults (listOf k) = Unit {0}
+
+header-faults : (o : TypeOctet) (s : List ℕ) (at : ℕ) → PduFaults (headerIn o s at)
+unfolding headerIn
+header-faults notAllowed s at = (omega arith, omega arith)
+header-faults unknown s at = cond-either PduFaults (ltb (length s) (messageEnd s at)) _ _ (omega arith, omega arith) tt
+header-faults (known k) s at =
+    cond-either PduFaults (not (eqb (getD s (at + 1) 0) (firstLength k))) _ _ (omega arith, omega arith)
+    (cond-either PduFaults (ltb (length s) (messageEnd s at)) _ _ (omega arith, omega arith) tt)
+
+message-faults : (version : ℕ) (s : List ℕ) (at : ℕ) → PduFaults (messageIn version s at)
+unfolding messageIn
+message-faults version s at =
+    cond-either PduFaults (eqb at (length s)) _ _ tt
+    (cond-either PduFaults (endMark s at) _ _ tt
+    (cond-either PduFaults (ltb (length s) (at + 4)) _ _ (omega arith, omega arith)
+    (header-faults (typeOctet version (getD s at 0)) s at)))
+
+list-faults : (s : List ℕ) (at : ℕ) (r : InPdu) (rest : Walk) → PduFaults r → Faults rest → Faults (messagesFrom s at r rest)
+unfolding messagesFrom
+list-faults s at (badMessage n) rest h g = h
+list-faults s at pduEnd rest h g = tt
+list-faults s at listSkipped rest h g = g
+list-faults s at (listOf k) rest h g = both-faults _ rest (vectors-faults (suc (listLength s at)) k (listAt s at) 0) g
 
 messages-faults : (f version : ℕ) (s : List ℕ) (at : ℕ) → Faults (messages f version s at)
 unfolding messages
 messages-faults zero version s at = (omega arith, omega arith)
 messages-faults (suc f) version s at =
-    cond-either Faults (eqb at (length s)) _ _ tt
-    (cond-either Faults (endMark s at) _ _ tt
-    (cond-either Faults (ltb (length s) (at + 4)) _ _ (omega arith, omega arith)
-    (message-faults (typeOctet version (getD s at 0)) s at _ (messages-faults f version s (messageEnd s at)))))
+    list-faults s at _ _ (message-faults version s at) (messages-faults f version s (messageEnd s at))
 
 afterVersion : List ℕ → Walk
 afterVersion s = messages (suc (length s)) (getD s 0 0) s 1
@@ -316,20 +358,20 @@ walk-faults s =
     let P : Walk → Type 0 = λ w. (n : ℕ) → w ≡ fault n → (2 ≤ n) × (n ≤ 7) in
     let two : P (fault 2) = λ n e. let k : 2 ≡ n = cc in (omega arith, omega arith) in
     let later : P (afterVersion s) = λ n e. let k = later-faults s n e in (omega arith, omega arith) in
-    cond-either P (eqb (length s) 0) _ _ two (cond-either P (ltb 1500 (length s)) _ _ two later)
+    cond-either P (eqb (length s) 0) _ _ two (cond-either P (ltb longestPdu (length s)) _ _ two later)
 
 -- 2: "PDU has 0 octets or more than 1,500"
-walk-2 : (s : List ℕ) → (walk s ≡ fault 2) ↔ ((length s ≡ 0) ⊎ (1500 < length s))
+walk-2 : (s : List ℕ) → (walk s ≡ fault 2) ↔ ((length s ≡ 0) ⊎ (longestPdu < length s))
 unfolding walk afterVersion
-walk-2 s = go (eqb (length s) 0) refl (ltb 1500 (length s)) refl
+walk-2 s = go (eqb (length s) 0) refl (ltb longestPdu (length s)) refl
   where
-    go : (a : Bool) → eqb (length s) 0 ≡ a → (b : Bool) → ltb 1500 (length s) ≡ b →
-        (cond a (fault 2) (cond b (fault 2) (afterVersion s)) ≡ fault 2) ↔ ((length s ≡ 0) ⊎ (1500 < length s))
+    go : (a : Bool) → eqb (length s) 0 ≡ a → (b : Bool) → ltb longestPdu (length s) ≡ b →
+        (cond a (fault 2) (cond b (fault 2) (afterVersion s)) ≡ fault 2) ↔ ((length s ≡ 0) ⊎ (longestPdu < length s))
     go true e b f = (λ k. inl (eqb-true _ _ e), λ k. refl)
     go false e true f = (λ k. inr (ltb-true _ _ f), λ k. refl)
     go false e false f = (
       λ k. let h = later-faults s 2 k in absurd (omega arith),
-      ⊎-elim (λ h. absurd (eqb-false _ _ e h)) (λ h. absurd (omega (arith, ltb-false 1500 (length s) f))),
+      ⊎-elim (λ h. absurd (eqb-false _ _ e h)) (λ h. absurd (omega (arith, ltb-false longestPdu (length s) f))),
     )
 
 -- 8 is tested as "at most 64"
@@ -418,7 +460,7 @@ module _ (t : List ℕ) (p : ℕ) (pdu : List ℕ) where
       rw receive-number
       (fronted-past t p _ n _ (λ e. omega arith) (λ e. omega arith) (frame-fault (decode t) p pdu n h k))
 
-  pub receive-2 : (receiveOn t p pdu .number ≡ 2) ↔ (OnPort t p × ((length pdu ≡ 0) ⊎ (1500 < length pdu)))
+  pub receive-2 : (receiveOn t p pdu .number ≡ 2) ↔ (OnPort t p × ((length pdu ≡ 0) ⊎ (longestPdu < length pdu)))
   receive-2 = Iff·trans (receive-fault 2 (omega arith) (omega arith)) (Iff·and Iff·rfl (walk-2 pdu))
 
   -- 8: "streams held plus different new ones joined by this PDU exceed 64"
@@ -516,17 +558,17 @@ module _ (t : List ℕ) (p place : ℕ) (buffer : List ℕ) where
   count = length (declarations (p - 1) (decode t .streams))
 
   roomNumber : ℕ
-  roomNumber = cond (ltb (length buffer) 1500) 10 (cond (ltb count place) 13 0)
+  roomNumber = cond (ltb (length buffer) longestPdu) 10 (cond (ltb count place) 13 0)
 
   no-room : (n : ℕ) → (10 ≡ n → ⊥) → (13 ≡ n → ⊥) → (0 ≡ n → ⊥) → roomNumber ≡ n → ⊥
   unfolding roomNumber
-  no-room n h k l = not-given (ltb (length buffer) 1500) 10 _ n h (not-given (ltb count place) 13 0 n k l)
+  no-room n h k l = not-given (ltb (length buffer) longestPdu) 10 _ n h (not-given (ltb count place) 13 0 n k l)
 
   write-number : writeOn t p place buffer .number ≡ fronted t p roomNumber
   unfolding writeOn writtenTo write refusedWrite fronted roomNumber count
   write-number =
-      go (not (formed t)) (wrongPort (decode t .settings) p) (ltb (length buffer) 1500) _
-      ∙ ap (λ (n : ℕ). fronted t p (cond (ltb (length buffer) 1500) 10 n))
+      go (not (formed t)) (wrongPort (decode t .settings) p) (ltb (length buffer) longestPdu) _
+      ∙ ap (λ (n : ℕ). fronted t p (cond (ltb (length buffer) longestPdu) 10 n))
       (written (write (decode t) p place) ∙ cond-of (λ (w : Written). w .number) (ltb count place) _ _)
     where
       written : (w : Written) → writtenTo buffer w .number ≡ w .number
@@ -546,30 +588,30 @@ module _ (t : List ℕ) (p place : ℕ) (buffer : List ℕ) where
   pub write-1 : (writeOn t p place buffer .number ≡ 1) ↔ ((formed t ≡ true) × (wrongPort (decode t .settings) p ≡ true))
   write-1 = rw write-number (fronted-1 t p roomNumber (no-room 1 (λ e. omega arith) (λ e. omega arith) (λ e. omega arith)))
 
-  pub write-10 : (writeOn t p place buffer .number ≡ 10) ↔ (OnPort t p × (length buffer < 1500))
+  pub write-10 : (writeOn t p place buffer .number ≡ 10) ↔ (OnPort t p × (length buffer < longestPdu))
   unfolding roomNumber
   write-10 =
       rw write-number
       (fronted-past t p roomNumber 10 _ (λ e. omega arith) (λ e. omega arith)
-      (given _ 10 _ _ (not-given (ltb count place) 13 0 10 (λ e. omega arith) (λ e. omega arith)) (is-below (length buffer) 1500)))
+      (given _ 10 _ _ (not-given (ltb count place) 13 0 10 (λ e. omega arith) (λ e. omega arith)) (is-below (length buffer) longestPdu)))
 
   -- once the buffer is long enough, the place's number
   write-place : (n : ℕ) (P : Type 0) → (12 ≡ n → ⊥) → (1 ≡ n → ⊥) → (10 ≡ n → ⊥) → (cond (ltb count place) 13 0 ≡ n) ↔ P →
-      (writeOn t p place buffer .number ≡ n) ↔ (OnPort t p × ((1500 ≤ length buffer) × P))
+      (writeOn t p place buffer .number ≡ n) ↔ (OnPort t p × ((longestPdu ≤ length buffer) × P))
   unfolding roomNumber
   write-place n P h k l i =
       rw write-number
-      (fronted-past t p roomNumber n _ h k (given-after _ 10 _ n _ P l (is-at-least (length buffer) 1500) i))
+      (fronted-past t p roomNumber n _ h k (given-after _ 10 _ n _ P l (is-at-least (length buffer) longestPdu) i))
 
   pub write-13 : (writeOn t p place buffer .number ≡ 13) ↔
-      (OnPort t p × ((1500 ≤ length buffer) × (length (declarations (p - 1) (decode t .streams)) < place)))
+      (OnPort t p × ((longestPdu ≤ length buffer) × (length (declarations (p - 1) (decode t .streams)) < place)))
   unfolding count
   write-13 =
       write-place 13 _ (λ e. omega arith) (λ e. omega arith) (λ e. omega arith)
       (given _ 13 0 _ (λ e. omega arith) (is-below count place))
 
   pub write-0 : (writeOn t p place buffer .number ≡ 0) ↔
-      (OnPort t p × ((1500 ≤ length buffer) × (place ≤ length (declarations (p - 1) (decode t .streams)))))
+      (OnPort t p × ((longestPdu ≤ length buffer) × (place ≤ length (declarations (p - 1) (decode t .streams)))))
   unfolding count
   write-0 =
       write-place 0 _ (λ e. omega arith) (λ e. omega arith) (λ e. omega arith)
@@ -580,7 +622,7 @@ module _ (t : List ℕ) (p place : ℕ) (buffer : List ℕ) where
   write-numbers =
       rw write-number
       (fronted-all (OneOf (0 ∷ 1 ∷ 10 ∷ 12 ∷ 13 ∷ [])) t p roomNumber (inr (inr (inr (inl refl)))) (inr (inl refl))
-      (cond-either (OneOf (0 ∷ 1 ∷ 10 ∷ 12 ∷ 13 ∷ [])) (ltb (length buffer) 1500) 10 _ (inr (inr (inl refl)))
+      (cond-either (OneOf (0 ∷ 1 ∷ 10 ∷ 12 ∷ 13 ∷ [])) (ltb (length buffer) longestPdu) 10 _ (inr (inr (inl refl)))
       (cond-either (OneOf (0 ∷ 1 ∷ 10 ∷ 12 ∷ 13 ∷ [])) (ltb count place) 13 0 (inr (inr (inr (inr (inl refl))))) (inl refl))))
 
 -- report: 13

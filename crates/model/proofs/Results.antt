@@ -5,19 +5,20 @@ use mathlib.Core.List.{List, [], _∷_}
 use mathlib.Core.Bool.{true, not}
 use Prim.Native.Nat.{ℕ, zero, suc, _/_, _^_, _≤_, _<_}
 use native.Mathlib.Omega.{arith}
-use lib.ListN.{length, getD, take, drop}
+use lib.ListN.{length, getD}
 use lib.Dec.{eqb, leb}
 use borrow.Author.Tests.{eqb-true, leb-true, eq-eqb, ne-eqb, le-leb}
 use Rattle.octets.specs.Be.{beAt}
 use Rattle.octets.specs.Parts.{zeros}
 use Rattle.octets.specs.Fields.{fields, Fit, width}
 use Rattle.octets.proofs.Fields.{length-packed-any, fields-of-packed, fields-fit, fit-at, packed-zeros}
+use Rattle.model.specs.Layout.{ageField, columnField, declaredField, entryField, failureCodeField, failureField, latencyOutField, resultSize, resultWidths}
 use Rattle.model.specs.Lists.{All, allTrue, implies, tabulate, Octets}
 use Rattle.model.specs.State.{Column, none, advertise, failed, Entry, noEntry, filters, forwards, Declared, nothing, tells, Result, unsettled}
-use Rattle.model.specs.Table.{resultWidths, columnNumber, columnBridge, columnCode, entryNumber, declaredNumber, resultNumbers, toColumn, toEntry, toDeclared, resultFrom, resultOctets, toResult, allZero, resultRules, resultFormed}
+use Rattle.model.specs.Table.{columnNumber, columnBridge, columnCode, entryNumber, declaredNumber, resultNumbers, toColumn, toEntry, toDeclared, resultFrom, resultOctets, toResult, allZero, resultRules, resultFormed}
 use Rattle.model.proofs.Lists.{all-each, implied, all-true, true-all}
 use Rattle.model.proofs.Valid.{ValidColumn, ValidAge, ValidResult}
-use Rattle.model.proofs.Parts.{_also_, octets-packed, octets-at, zero-between, packed-whole, Sized}
+use Rattle.model.proofs.Parts.{_also_, octets-packed, octets-at, two-zero, packed-whole, Sized}
 use Rattle.model.proofs.Cells.{ready-back, ready-forth, ready-number, ready-rules}
 
 -- The column, with latency and entry.
@@ -84,7 +85,7 @@ column-valid (suc (suc (suc k))) y b c e h l z some few p q = absurd (omega arit
 
 -- The entry, with its age.
 
-entry-back : (e : Entry) → toEntry (entryNumber e) ≡ e
+pub entry-back : (e : Entry) → toEntry (entryNumber e) ≡ e
 unfolding toEntry entryNumber
 entry-back noEntry = refl
 entry-back filters = refl
@@ -123,7 +124,7 @@ age-valid clock (suc (suc e)) a z h = rw (ne-eqb (suc (suc e)) 0 (λ x. omega ar
 
 -- The Listener declared.
 
-declared-back : (d : Declared) → toDeclared (declaredNumber d) ≡ d
+pub declared-back : (d : Declared) → toDeclared (declaredNumber d) ≡ d
 unfolding toDeclared declaredNumber
 declared-back nothing = refl
 declared-back (tells r) = rw (ready-rules r .1, ready-back r)
@@ -133,7 +134,7 @@ unfolding toDeclared declaredNumber
 declared-forth zero h = refl
 declared-forth (suc k) h = rw (ne-eqb (suc k) 0 (λ x. omega arith)) (ready-forth (suc k) (omega arith) h)
 
-declared-few : (d : Declared) → declaredNumber d ≤ 3
+pub declared-few : (d : Declared) → declaredNumber d ≤ 3
 unfolding declaredNumber
 declared-few nothing = omega arith
 declared-few (tells r) = ready-number r .1
@@ -141,7 +142,7 @@ declared-few (tells r) = ready-number r .1
 -- A valid result: its numbers fit and keep the rules; they come back in any case.
 
 pub result-fit : (clock : ℕ) (r : Result) → ValidResult clock r → clock < 2 ^ 32 → Fit resultWidths (resultNumbers r)
-unfolding Fit resultWidths resultNumbers
+unfolding Fit resultNumbers
 result-fit clock r v h =
     let (k, b, c) = column-fit (r .column) (r .latency) (r .entry) (v .column) in
     k
@@ -177,15 +178,15 @@ numbers-rules clock r v =
 -- Numbers that keep the rules: what they say is valid, and is written with the same numbers.
 
 record Kept (clock : ℕ) (vs : List ℕ) : Type 0 where
-  kind : getD vs 0 0 ≤ 2
-  still : getD vs 0 0 ≡ 0 → getD vs 1 0 ≡ 0
-  whole : getD vs 0 0 ≤ 1 → (getD vs 2 0 ≡ 0) × (getD vs 3 0 ≡ 0)
-  entry : getD vs 4 0 ≤ 2
-  some : (getD vs 0 0 ≡ 0 → ⊥) → 1 ≤ getD vs 4 0
-  few : (getD vs 0 0 ≡ 1 → ⊥) → getD vs 4 0 ≤ 1
-  ageless : getD vs 4 0 ≡ 0 → getD vs 5 0 ≡ 0
-  age : getD vs 5 0 ≤ clock / 100
-  declared : getD vs 6 0 ≤ 3
+  kind : getD vs columnField 0 ≤ 2
+  still : getD vs columnField 0 ≡ 0 → getD vs latencyOutField 0 ≡ 0
+  whole : getD vs columnField 0 ≤ 1 → (getD vs failureField 0 ≡ 0) × (getD vs failureCodeField 0 ≡ 0)
+  entry : getD vs entryField 0 ≤ 2
+  some : (getD vs columnField 0 ≡ 0 → ⊥) → 1 ≤ getD vs entryField 0
+  few : (getD vs columnField 0 ≡ 1 → ⊥) → getD vs entryField 0 ≤ 1
+  ageless : getD vs entryField 0 ≡ 0 → getD vs ageField 0 ≡ 0
+  age : getD vs ageField 0 ≤ clock / 100
+  declared : getD vs declaredField 0 ≤ 3
 
 kept : (clock : ℕ) (vs : List ℕ) → allTrue (resultRules clock vs) ≡ true → Kept clock vs
 unfolding resultRules
@@ -193,50 +194,48 @@ kept clock vs h =
     let at : ℕ → ℕ = λ i. getD vs i 0 in
     let r = all-true (resultRules clock vs) h in
     record {
-      kind = leb-true (at 0) 2 (r .0);
-      still = λ e. eqb-true (at 1) 0 (implied (eqb (at 0) 0) (eqb (at 1) 0) (r .1 .0) (eq-eqb (at 0) 0 e));
-      whole = λ e.
-          let z = zero-between 2 2 vs (implied (leb (at 0) 1) (allZero (take 2 (drop 2 vs))) (r .1 .1 .0) (le-leb (at 0) 1 e)) in
-          (z 0 (omega arith), z 1 (omega arith));
-      entry = leb-true (at 4) 2 (r .1 .1 .1 .0);
-      some = λ e. leb-true 1 (at 4) (implied (not (eqb (at 0) 0)) (leb 1 (at 4)) (r .1 .1 .1 .1 .0) (ap not (ne-eqb (at 0) 0 e)));
-      few = λ e. leb-true (at 4) 1 (implied (not (eqb (at 0) 1)) (leb (at 4) 1) (r .1 .1 .1 .1 .1 .0) (ap not (ne-eqb (at 0) 1 e)));
-      ageless = λ e. eqb-true (at 5) 0 (implied (eqb (at 4) 0) (eqb (at 5) 0) (r .1 .1 .1 .1 .1 .1 .0) (eq-eqb (at 4) 0 e));
-      age = leb-true (at 5) (clock / 100) (r .1 .1 .1 .1 .1 .1 .1 .0);
-      declared = leb-true (at 6) 3 (r .1 .1 .1 .1 .1 .1 .1 .1 .0);
+      kind = leb-true (at columnField) 2 (r .0);
+      still = λ e. eqb-true (at latencyOutField) 0 (implied (eqb (at columnField) 0) (eqb (at latencyOutField) 0) (r .1 .0) (eq-eqb (at columnField) 0 e));
+      whole = λ e. two-zero (at failureField) (at failureCodeField) (implied (leb (at columnField) 1) _ (r .1 .1 .0) (le-leb (at columnField) 1 e));
+      entry = leb-true (at entryField) 2 (r .1 .1 .1 .0);
+      some = λ e. leb-true 1 (at entryField) (implied (not (eqb (at columnField) 0)) (leb 1 (at entryField)) (r .1 .1 .1 .1 .0) (ap not (ne-eqb (at columnField) 0 e)));
+      few = λ e. leb-true (at entryField) 1 (implied (not (eqb (at columnField) 1)) (leb (at entryField) 1) (r .1 .1 .1 .1 .1 .0) (ap not (ne-eqb (at columnField) 1 e)));
+      ageless = λ e. eqb-true (at ageField) 0 (implied (eqb (at entryField) 0) (eqb (at ageField) 0) (r .1 .1 .1 .1 .1 .1 .0) (eq-eqb (at entryField) 0 e));
+      age = leb-true (at ageField) (clock / 100) (r .1 .1 .1 .1 .1 .1 .1 .0);
+      declared = leb-true (at declaredField) 3 (r .1 .1 .1 .1 .1 .1 .1 .1 .0);
     }
 
 module _ (clock : ℕ) (vs : List ℕ) (k : Kept clock vs) where
   numbers-forth : resultNumbers (resultFrom vs) ≡ tabulate 7 0 (λ i. getD vs i 0)
   unfolding resultNumbers resultFrom tabulate
   numbers-forth =
-      let (kind, bridge, code) = column-forth (getD vs 0 0) (getD vs 2 0) (getD vs 3 0) (k .kind) (k .whole) in
-      rw (kind, bridge, code, entry-forth (getD vs 4 0) (k .entry), declared-forth (getD vs 6 0) (k .declared))
+      let (kind, bridge, code) = column-forth (getD vs columnField 0) (getD vs failureField 0) (getD vs failureCodeField 0) (k .kind) (k .whole) in
+      rw (kind, bridge, code, entry-forth (getD vs entryField 0) (k .entry), declared-forth (getD vs declaredField 0) (k .declared))
 
   numbers-valid : Fit resultWidths vs → ValidResult clock (resultFrom vs)
-  unfolding resultFrom resultWidths
+  unfolding resultFrom
   numbers-valid fit =
       let at : (i : ℕ) → getD vs i 0 < 256 ^ getD resultWidths i 0 = fit-at resultWidths vs fit in
       record {
         column =
-            column-valid (getD vs 0 0) (getD vs 1 0) (getD vs 2 0) (getD vs 3 0) (getD vs 4 0) (k .kind) (k .entry) (k .still) (k .some) (k .few)
-            (at 2) (at 3);
-        latency = at 1;
-        age = age-valid clock (getD vs 4 0) (getD vs 5 0) (k .ageless) (k .age);
+            column-valid (getD vs columnField 0) (getD vs latencyOutField 0) (getD vs failureField 0) (getD vs failureCodeField 0) (getD vs entryField 0) (k .kind) (k .entry) (k .still) (k .some) (k .few)
+            (at failureField) (at failureCodeField);
+        latency = at latencyOutField;
+        age = age-valid clock (getD vs entryField 0) (getD vs ageField 0) (k .ageless) (k .age);
       }
 
 -- The octets of a result.
 
-pub result-length : (r : Result) → length (resultOctets r) ≡ 20
-unfolding resultOctets resultNumbers width resultWidths
+pub result-length : (r : Result) → length (resultOctets r) ≡ resultSize
+unfolding resultOctets resultNumbers width
 result-length r = length-packed-any resultWidths (resultNumbers r) refl
 
 pub result-octets : (r : Result) → Octets (resultOctets r)
 unfolding resultOctets
 result-octets r = octets-packed resultWidths (resultNumbers r)
 
-pub results-sized : (results : List Result) → All (Sized 20 resultOctets) results
-results-sized = all-each (Sized 20 resultOctets) result-length
+pub results-sized : (results : List Result) → All (Sized resultSize resultOctets) results
+results-sized = all-each (Sized resultSize resultOctets) result-length
 
 module _ (clock : ℕ) (small : clock < 2 ^ 32) (r : Result) (v : ValidResult clock r) where
   pub result-back : toResult (resultOctets r) ≡ r
@@ -249,15 +248,15 @@ module _ (clock : ℕ) (small : clock < 2 ^ 32) (r : Result) (v : ValidResult cl
 
 -- the numbers in a result's fields, one by one
 numbers : (s : List ℕ) → tabulate 7 0 (λ i. getD (fields resultWidths 0 s) i 0) ≡ fields resultWidths 0 s
-unfolding tabulate fields resultWidths
+unfolding tabulate fields
 numbers s = refl
 
-module _ (clock : ℕ) (s : List ℕ) (l : length s ≡ 20) (o : Octets s) (h : resultFormed clock s ≡ true) where
+module _ (clock : ℕ) (s : List ℕ) (l : length s ≡ resultSize) (o : Octets s) (h : resultFormed clock s ≡ true) where
   pub result-forth : resultOctets (toResult s) ≡ s
   unfolding resultOctets toResult resultFormed
   result-forth =
       let vs = fields resultWidths 0 s in
-      rw (numbers-forth clock vs (kept clock vs h), numbers s) (packed-whole resultWidths s (l ∙ unfold width resultWidths in refl) o)
+      rw (numbers-forth clock vs (kept clock vs h), numbers s) (packed-whole resultWidths s (l ∙ unfold width in refl) o)
 
   pub result-valid : ValidResult clock (toResult s)
   unfolding toResult resultFormed
@@ -267,14 +266,14 @@ module _ (clock : ℕ) (s : List ℕ) (l : length s ≡ 20) (o : Octets s) (h : 
 
 -- Nothing decided is 20 zeros.
 
-pub result-zeros : resultOctets unsettled ≡ zeros 20
-unfolding resultOctets resultNumbers columnNumber columnBridge columnCode entryNumber declaredNumber unsettled resultWidths width
+pub result-zeros : resultOctets unsettled ≡ zeros resultSize
+unfolding resultOctets resultNumbers columnNumber columnBridge columnCode entryNumber declaredNumber unsettled width
 result-zeros = packed-zeros resultWidths
 
-pub zeros-result : toResult (zeros 20) ≡ unsettled
-unfolding toResult resultFrom toColumn toEntry toDeclared fields resultWidths beAt unsettled
+pub zeros-result : toResult (zeros resultSize) ≡ unsettled
+unfolding toResult resultFrom toColumn toEntry toDeclared fields beAt unsettled
 zeros-result = refl
 
-pub result-zeros-formed : (clock : ℕ) → resultFormed clock (zeros 20) ≡ true
-unfolding resultFormed resultRules allTrue allZero fields resultWidths beAt
+pub result-zeros-formed : (clock : ℕ) → resultFormed clock (zeros resultSize) ≡ true
+unfolding resultFormed resultRules allTrue allZero fields beAt
 result-zeros-formed clock = rw (le-leb 0 (clock / 100) (omega arith))

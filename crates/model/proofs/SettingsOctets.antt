@@ -3,7 +3,7 @@ use mathlib.Core.Path.{_≡_, refl, sym, _∙_, ap}
 use mathlib.Core.List.{List, [], _∷_, _++_, append-assoc, append-nil}
 use mathlib.Core.Bool.{true}
 use Prim.Native.Nat.{ℕ, _+_, _*_, _/_, _%_, _≤_, _<_}
-use native.Mathlib.Nat.{add-zero, mul-comm}
+use native.Mathlib.Nat.{add-zero}
 use native.Mathlib.Omega.{arith}
 use lib.ListN.{length, getD, take, drop, length-append, length-drop}
 use lib.Seq.{take-add, take-all, drop-at}
@@ -13,9 +13,10 @@ use Rattle.octets.specs.Be.{beAt}
 use Rattle.octets.specs.Fields.{fields, packed, Fit, width, flat}
 use Rattle.octets.specs.Parts.{part}
 use Rattle.octets.proofs.Fields.{length-packed-any, length-flat, fields-packed, fields-of-packed, packed-fields, fields-fit, beAt-fits}
+use Rattle.model.specs.Layout.{headSize, headWidths, largestPlace, latencyAPlace, latencyBPlace, limitAPlace, limitBPlace, overheadPlace, portPlace, portSize, portWidths, portsPlace, portsUnit, priorityAUnit, priorityBUnit, settingsSize, wordPlace}
 use Rattle.model.specs.Lists.{All, allTrue, bit, Octets}
 use Rattle.model.specs.State.{Port, Settings}
-use Rattle.model.specs.Table.{headWidths, portWidths, portNumbers, portFrom, portOctets, toPort, headWord, settingsOctets, portsField, toSettings, portRule, everyPart, settingsRules, settingsFormed}
+use Rattle.model.specs.Table.{portNumbers, portFrom, portOctets, toPort, headWord, settingsOctets, portsField, toSettings, portRule, everyPart, settingsRules, settingsFormed}
 use Rattle.model.specs.Laid.{FitSettings}
 use Rattle.model.proofs.Cells.{bit-back, bit-forth, bit-few}
 use Rattle.model.proofs.Parts.{_also_, packed-whole, parts-flat, length-parts, octets-at, octets-drop, octets-append, octets-packed, octets-flat, every-read, every-flat, every-forth}
@@ -46,7 +47,7 @@ numbers-back f o m a b c d h z =
     (ap (λ (x : ℕ). x ∷ o ∷ m ∷ a ∷ b ∷ c ∷ d ∷ []) (omega arith))
 
 pub port-fit : (q : Port) → ValidPort q → Fit portWidths (portNumbers q)
-unfolding Fit portWidths portNumbers
+unfolding Fit portNumbers
 port-fit q v =
     let a = bit-few (q .supportsA) in
     let b = bit-few (q .supportsB) in
@@ -58,7 +59,7 @@ unfolding portNumbers
 port-flags q = omega arith
 
 port-from : (s : List ℕ) → Fit portWidths (fields portWidths 0 s) → ValidPort (toPort s)
-unfolding Fit portWidths fields toPort portFrom
+unfolding Fit fields toPort portFrom
 port-from s f = record {
   overhead = f .1 .0;
   largest = f .1 .1 .0;
@@ -75,12 +76,12 @@ pub octet-field : (s : List ℕ) (i : ℕ) → beAt 1 s i ≡ getD s i 0
 unfolding beAt
 octet-field s i = rw add-zero (omega arith)
 
-pub port-length : (q : Port) → length (portOctets q) ≡ 22
-unfolding portOctets portNumbers portWidths
+pub port-length : (q : Port) → length (portOctets q) ≡ portSize
+unfolding portOctets portNumbers
 port-length q = length-packed-any portWidths (portNumbers q) refl ∙ (unfold width in refl)
 
-ports-sized : (l : List Port) → All (λ q. length (portOctets q) ≡ 22) l
-ports-sized = all-each (λ q. length (portOctets q) ≡ 22) port-length
+ports-sized : (l : List Port) → All (λ q. length (portOctets q) ≡ portSize) l
+ports-sized = all-each (λ q. length (portOctets q) ≡ portSize) port-length
 
 pub port-back : (q : Port) → Fit portWidths (portNumbers q) → toPort (portOctets q) ≡ q
 unfolding toPort portOctets
@@ -88,7 +89,7 @@ port-back q f = rw (fields-of-packed portWidths (portNumbers q) f) (port-read q)
 
 -- the first number is the octet of the flags
 first-flags : (s : List ℕ) → getD (fields portWidths 0 s) 0 0 ≡ getD s 0 0
-unfolding fields portWidths
+unfolding fields
 first-flags s = octet-field s 0
 
 pub port-formed : (q : Port) → Fit portWidths (portNumbers q) → portRule (portOctets q) ≡ true
@@ -98,18 +99,18 @@ port-formed q f =
     rw e (eq-eqb (getD (portNumbers q) 0 0 % 32) 0 (port-flags q))
 
 numbers-forth : (s : List ℕ) → getD s 0 0 < 256 → portRule s ≡ true → portNumbers (toPort s) ≡ fields portWidths 0 s
-unfolding toPort portRule fields portWidths
+unfolding toPort portRule fields
 numbers-forth s h r =
     let e = octet-field s 0 in
     let z : getD s 0 0 % 32 ≡ 0 = eqb-true (getD s 0 0 % 32) 0 r in
-    numbers-back (beAt 1 s 0) (beAt 1 s 1) (beAt 2 s 2) (beAt 5 s 4) (beAt 5 s 9) (beAt 4 s 14) (beAt 4 s 18) (omega arith) (rw e z)
+    numbers-back (beAt 1 s 0) (beAt 1 s overheadPlace) (beAt 2 s largestPlace) (beAt 5 s limitAPlace) (beAt 5 s limitBPlace) (beAt 4 s latencyAPlace) (beAt 4 s latencyBPlace) (omega arith) (rw e z)
 
-pub port-forth : (s : List ℕ) → length s ≡ 22 → Octets s → portRule s ≡ true → portOctets (toPort s) ≡ s
+pub port-forth : (s : List ℕ) → length s ≡ portSize → Octets s → portRule s ≡ true → portOctets (toPort s) ≡ s
 unfolding portOctets
 port-forth s l o r =
-    ap (packed portWidths) (numbers-forth s (octets-at s o 0) r) ∙ packed-whole portWidths s (l ∙ unfold width portWidths in refl) o
+    ap (packed portWidths) (numbers-forth s (octets-at s o 0) r) ∙ packed-whole portWidths s (l ∙ unfold width in refl) o
 
-pub port-valid : (s : List ℕ) → length s ≡ 22 → Octets s → portRule s ≡ true → ValidPort (toPort s)
+pub port-valid : (s : List ℕ) → length s ≡ portSize → Octets s → portRule s ≡ true → ValidPort (toPort s)
 port-valid s l o r = port-from s (fields-fit portWidths 0 s (octets-at s o))
 
 -- What is read from the octets of settings, whatever follows them.
@@ -117,23 +118,22 @@ port-valid s l o r = port-from s (fields-fit portWidths 0 s (octets-at s o))
 abbrev head : Settings → List ℕ
 head st = packed headWidths (st .bridgeId ∷ headWord st ∷ [])
 
-head-length : (st : Settings) → length (head st) ≡ 11
-unfolding headWidths
+head-length : (st : Settings) → length (head st) ≡ headSize
 head-length st = length-packed-any headWidths (st .bridgeId ∷ headWord st ∷ []) refl ∙ (unfold width in refl)
 
 head-split : (st : Settings) (rest : List ℕ) → settingsOctets st ++ rest ≡ head st ++ (flat portOctets (st .ports) ++ rest)
 unfolding settingsOctets
 head-split st rest = append-assoc (head st) (flat portOctets (st .ports)) rest
 
-pub settings-length : (st : Settings) → length (settingsOctets st) ≡ 11 + 22 * length (st .ports)
+pub settings-length : (st : Settings) → length (settingsOctets st) ≡ portPlace (length (st .ports))
 unfolding settingsOctets
 settings-length st =
-    length-append (head st) (flat portOctets (st .ports)) ∙ omega (arith, head-length st, length-flat portOctets 22 port-length (st .ports))
+    length-append (head st) (flat portOctets (st .ports)) ∙ omega (arith, head-length st, length-flat portOctets portSize port-length (st .ports))
 
 -- numbers within their fields are read as they were written, whatever follows
 module _ (st : Settings) (v : FitSettings st) where
   head-fit : Fit headWidths (st .bridgeId ∷ headWord st ∷ [])
-  unfolding Fit headWidths headWord
+  unfolding Fit headWord
   head-fit = v .bridgeId also omega arith also tt
 
   module _ (rest : List ℕ) where
@@ -141,37 +141,37 @@ module _ (st : Settings) (v : FitSettings st) where
     head-read = rw (head-split st rest) (fields-packed headWidths (st .bridgeId ∷ headWord st ∷ []) (flat portOctets (st .ports) ++ rest) head-fit)
 
     pub id-read : beAt 8 (settingsOctets st ++ rest) 0 ≡ st .bridgeId
-    unfolding fields headWidths
+    unfolding fields
     id-read = ap (λ (vs : List ℕ). getD vs 0 0) head-read
 
     word-read : beAt 3 (settingsOctets st ++ rest) 8 ≡ headWord st
-    unfolding fields headWidths
+    unfolding fields
     word-read = ap (λ (vs : List ℕ). getD vs 1 0) head-read
 
     pub ports-read : portsField (settingsOctets st ++ rest) ≡ length (st .ports)
     unfolding portsField headWord
     ports-read = rw word-read (omega arith)
 
-    pub priority-a-read : beAt 3 (settingsOctets st ++ rest) 8 / 131072 % 8 ≡ st .priorityA
+    pub priority-a-read : beAt 3 (settingsOctets st ++ rest) 8 / priorityAUnit % 8 ≡ st .priorityA
     unfolding headWord
     priority-a-read = rw word-read (omega arith)
 
-    pub priority-b-read : beAt 3 (settingsOctets st ++ rest) 8 / 16384 % 8 ≡ st .priorityB
+    pub priority-b-read : beAt 3 (settingsOctets st ++ rest) 8 / priorityBUnit % 8 ≡ st .priorityB
     unfolding headWord
     priority-b-read = rw word-read (omega arith)
 
-    pub leave-read : beAt 3 (settingsOctets st ++ rest) 8 % 16384 ≡ st .leaveTime
+    pub leave-read : beAt 3 (settingsOctets st ++ rest) 8 % priorityBUnit ≡ st .leaveTime
     unfolding headWord
     leave-read = rw word-read (omega arith)
 
-    pub behind-head : drop 11 (settingsOctets st ++ rest) ≡ flat portOctets (st .ports) ++ rest
-    behind-head = rw (head-split st rest) (drop-at (head st) (flat portOctets (st .ports) ++ rest) 11 (head-length st))
+    pub behind-head : drop portsPlace (settingsOctets st ++ rest) ≡ flat portOctets (st .ports) ++ rest
+    behind-head = rw (head-split st rest) (drop-at (head st) (flat portOctets (st .ports) ++ rest) portsPlace (head-length st))
 
     pub fit-back : toSettings (settingsOctets st ++ rest) ≡ st
     unfolding toSettings
     fit-back =
         let ps =
-        parts-flat 22 portOctets toPort (st .ports) rest (ports-sized (st .ports))
+        parts-flat portSize portOctets toPort (st .ports) rest (ports-sized (st .ports))
         (all-map (λ q. Fit portWidths (portNumbers q)) (λ q. toPort (portOctets q) ≡ q) port-back (st .ports) (v .ports)) in
         rw (ports-read, behind-head, id-read, priority-a-read, priority-b-read, leave-read, ps)
 
@@ -195,7 +195,7 @@ module _ (st : Settings) (v : ValidSettings st) (rest : List ℕ) where
       let n = length (st .ports) in
       let w = settings-fit st v in
       let ps =
-      every-flat 22 portOctets portRule (st .ports) rest (ports-sized (st .ports))
+      every-flat portSize portOctets portRule (st .ports) rest (ports-sized (st .ports))
       (all-map (λ q. Fit portWidths (portNumbers q)) (λ q. portRule (portOctets q) ≡ true) port-formed (st .ports) (w .ports)) in
       let d = ne-eqb (st .priorityA) (st .priorityB) (v .different) in
       true-all (settingsRules (settingsOctets st ++ rest))
@@ -205,15 +205,15 @@ module _ (st : Settings) (v : ValidSettings st) (rest : List ℕ) where
 -- Octets that keep the rules are those of the settings that they are read as.
 
 -- the head word is made of its four fields
-word-back : (w : ℕ) → ((w / 1048576 * 8 + w / 131072 % 8) * 8 + w / 16384 % 8) * 16384 + w % 16384 ≡ w
+word-back : (w : ℕ) → ((w / portsUnit * 8 + w / priorityAUnit % 8) * 8 + w / priorityBUnit % 8) * priorityBUnit + w % priorityBUnit ≡ w
 word-back w = omega arith
 
-head-word : (s : List ℕ) → headWord (toSettings s) ≡ beAt 3 s 8
+head-word : (s : List ℕ) → headWord (toSettings s) ≡ beAt 3 s wordPlace
 unfolding headWord toSettings portsField
-head-word s = rw (length-parts 22 toPort (beAt 3 s 8 / 1048576) (drop 11 s)) (word-back (beAt 3 s 8))
+head-word s = rw (length-parts portSize toPort (beAt 3 s wordPlace / portsUnit) (drop portsPlace s)) (word-back (beAt 3 s wordPlace))
 
-head-forth : (s : List ℕ) → 11 ≤ length s → Octets s → head (toSettings s) ≡ take 11 s
-unfolding headWidths toSettings fields width part
+head-forth : (s : List ℕ) → headSize ≤ length s → Octets s → head (toSettings s) ≡ take headSize s
+unfolding toSettings fields width part
 head-forth s h o = rw (head-word s) (packed-fields headWidths 0 s h (octets-at s o))
 
 -- the rules as facts
@@ -229,38 +229,38 @@ module _ (s : List ℕ) (r : allTrue (settingsRules s) ≡ true) where
   unfolding settingsRules
   eight-ports = leb-true (portsField s) 8 (rules .1 .0)
 
-  different : beAt 3 s 8 / 131072 % 8 ≡ beAt 3 s 8 / 16384 % 8 → ⊥
+  different : beAt 3 s wordPlace / priorityAUnit % 8 ≡ beAt 3 s wordPlace / priorityBUnit % 8 → ⊥
   unfolding settingsRules
-  different = eqb-false (beAt 3 s 8 / 131072 % 8) (beAt 3 s 8 / 16384 % 8) (not-true (eqb (beAt 3 s 8 / 131072 % 8) (beAt 3 s 8 / 16384 % 8)) (rules .1 .1 .0))
+  different = eqb-false (beAt 3 s wordPlace / priorityAUnit % 8) (beAt 3 s wordPlace / priorityBUnit % 8) (not-true (eqb (beAt 3 s wordPlace / priorityAUnit % 8) (beAt 3 s wordPlace / priorityBUnit % 8)) (rules .1 .1 .0))
 
-  leaves : 1 ≤ beAt 3 s 8 % 16384
+  leaves : 1 ≤ beAt 3 s wordPlace % priorityBUnit
   unfolding settingsRules
-  leaves = leb-true 1 (beAt 3 s 8 % 16384) (rules .1 .1 .1 .0)
+  leaves = leb-true 1 (beAt 3 s wordPlace % priorityBUnit) (rules .1 .1 .1 .0)
 
-  port-rules : everyPart 22 portRule (portsField s) (drop 11 s) ≡ true
+  port-rules : everyPart portSize portRule (portsField s) (drop portsPlace s) ≡ true
   unfolding settingsRules
   port-rules = rules .1 .1 .1 .1 .0
 
 pub settings-ports : (s : List ℕ) → length (toSettings s .ports) ≡ portsField s
 unfolding toSettings
-settings-ports s = length-parts 22 toPort (portsField s) (drop 11 s)
+settings-ports s = length-parts portSize toPort (portsField s) (drop portsPlace s)
 
-module _ (s : List ℕ) (o : Octets s) (h : 11 + 22 * portsField s ≤ length s) (r : allTrue (settingsRules s) ≡ true) where
-  ports-room : portsField s * 22 ≤ length (drop 11 s)
-  ports-room = omega (arith, length-drop 11 s)
+module _ (s : List ℕ) (o : Octets s) (h : portPlace (portsField s) ≤ length s) (r : allTrue (settingsRules s) ≡ true) where
+  ports-room : portsField s * portSize ≤ length (drop portsPlace s)
+  ports-room = omega (arith, length-drop portsPlace s)
 
   -- what follows the settings does not matter
-  pub settings-taken : settingsOctets (toSettings s) ≡ take (11 + 22 * portsField s) s
+  pub settings-taken : settingsOctets (toSettings s) ≡ take (portPlace (portsField s)) s
   unfolding settingsOctets toSettings
   settings-taken =
       let f =
-      every-forth 22 portRule toPort portOctets port-forth (portsField s) (drop 11 s) ports-room (octets-drop 11 s o) (port-rules s r) in
-      rw (f, head-forth s (omega arith) o, mul-comm (portsField s) 22) (sym (take-add 11 (22 * portsField s) s))
+      every-forth portSize portRule toPort portOctets port-forth (portsField s) (drop portsPlace s) ports-room (octets-drop portsPlace s o) (port-rules s r) in
+      rw (f, head-forth s (omega arith) o) (sym (take-add portsPlace (portsField s * portSize) s))
 
   pub settings-valid : ValidSettings (toSettings s)
   unfolding toSettings
   settings-valid =
-      let w = beAt 3 s 8 in
+      let w = beAt 3 s wordPlace in
       record {
         bridgeId = beAt-fits 8 s 0 (octets-at s o);
         priorityA = omega arith;
@@ -270,11 +270,11 @@ module _ (s : List ℕ) (o : Octets s) (h : 11 + 22 * portsField s ≤ length s)
         leaveTime = omega arith;
         some-port = omega (arith, settings-ports s, some-ports s r);
         eight-ports = omega (arith, settings-ports s, eight-ports s r);
-        ports = every-read 22 portRule toPort ValidPort port-valid (portsField s) (drop 11 s) ports-room (octets-drop 11 s o) (port-rules s r);
+        ports = every-read portSize portRule toPort ValidPort port-valid (portsField s) (drop portsPlace s) ports-room (octets-drop portsPlace s o) (port-rules s r);
       }
 
 -- the settings of a table have room for eight ports
-pub settings-room : (s : List ℕ) → length s ≡ 187 → allTrue (settingsRules s) ≡ true → 11 + 22 * portsField s ≤ length s
+pub settings-room : (s : List ℕ) → length s ≡ settingsSize → allTrue (settingsRules s) ≡ true → portPlace (portsField s) ≤ length s
 settings-room s l r = omega (arith, eight-ports s r)
 
 -- Settings as they are handed to start: "Length 11 + 22 x ports".
@@ -285,22 +285,22 @@ settings-formed st v =
     let s = settingsOctets st in
     let e : portsField s ≡ length (st .ports) = ap portsField (sym (append-nil s)) ∙ ports-read st (settings-fit st v) [] in
     let r : allTrue (settingsRules s) ≡ true = ap (λ (t : List ℕ). allTrue (settingsRules t)) (sym (append-nil s)) ∙ settings-rules st v [] in
-    and-both (eqb (length s) (11 + 22 * portsField s)) (allTrue (settingsRules s)) (eq-eqb (length s) (11 + 22 * portsField s) (omega (arith, settings-length st))) r
+    and-both (eqb (length s) (portPlace (portsField s))) (allTrue (settingsRules s)) (eq-eqb (length s) (portPlace (portsField s)) (omega (arith, settings-length st))) r
 
 module _ (s : List ℕ) (f : settingsFormed s ≡ true) where
-  pub formed-length : length s ≡ 11 + 22 * portsField s
+  pub formed-length : length s ≡ portPlace (portsField s)
   unfolding settingsFormed
-  formed-length = eqb-true (length s) (11 + 22 * portsField s) (and-left (eqb (length s) (11 + 22 * portsField s)) (allTrue (settingsRules s)) f)
+  formed-length = eqb-true (length s) (portPlace (portsField s)) (and-left (eqb (length s) (portPlace (portsField s))) (allTrue (settingsRules s)) f)
 
   pub formed-rules : allTrue (settingsRules s) ≡ true
   unfolding settingsFormed
-  formed-rules = and-right (eqb (length s) (11 + 22 * portsField s)) (allTrue (settingsRules s)) f
+  formed-rules = and-right (eqb (length s) (portPlace (portsField s))) (allTrue (settingsRules s)) f
 
 module _ (s : List ℕ) (o : Octets s) (f : settingsFormed s ≡ true) where
   pub settings-forth : settingsOctets (toSettings s) ≡ s
   settings-forth =
       let l = formed-length s f in
-      settings-taken s o (omega arith) (formed-rules s f) ∙ take-all (11 + 22 * portsField s) s (omega arith)
+      settings-taken s o (omega arith) (formed-rules s f) ∙ take-all (portPlace (portsField s)) s (omega arith)
 
   pub formed-valid : ValidSettings (toSettings s)
   formed-valid =

@@ -3,7 +3,6 @@ use mathlib.Core.Path.{_≡_, refl, sym, _∙_, ap}
 use mathlib.Core.List.{List, [], _∷_, _++_, append-assoc, append-nil}
 use mathlib.Core.Bool.{Bool, true, _&&_}
 use Prim.Native.Nat.{ℕ, zero, suc, _+_, _*_, _-_, _%_, _^_, _≤_, _<_}
-use native.Mathlib.Nat.{mul-comm}
 use native.Mathlib.Omega.{arith}
 use lib.ListN.{length, getD, drop, replicate, take-append-drop, length-append, length-drop}
 use lib.Seq.{take-at, drop-at, drop-drop, take-all}
@@ -12,17 +11,18 @@ use borrow.Author.Tests.{eq-eqb, eqb-true, le-leb, leb-true}
 use Rattle.octets.specs.Fields.{fields, packed, Fit, width, flat}
 use Rattle.octets.specs.Parts.{part, zeros}
 use Rattle.octets.proofs.Parts.{length-part}
-use Rattle.octets.proofs.Fields.{length-packed-any, fields-packed, fields-packed-behind, fields-of-packed, packed-fields, fields-fit, fit-at, beAt-fits}
+use Rattle.octets.proofs.Fields.{length-packed-any, fields-packed, fields-packed-behind, fields-of-packed, packed-fields, fields-fit, fit-at, beAt-fits, packed-zeros}
+use Rattle.model.specs.Layout.{cellSize, cellsPlace, cellsSize, clockPlace, clockSize, clockWidths, countPlace, nameSize, nameWidths, portPlace, portSize, recordSize, recordsPlace, recordsSize, resultSize, resultsPlace, resultsSize, settingsSize, settledPriorityPlace, tableLength, totalSize, totalsPlace, totalsSize, totalsWidths}
 use Rattle.model.specs.Lists.{All, allTrue, parts, Octets}
 use Rattle.model.specs.State.{Port, Totals, Stream, Bridge, empty, unsettled, noTotals, started}
 use Rattle.model.specs.Registrations.{ids}
 use Rattle.model.specs.WrittenFrames.{fixedNumbers}
-use Rattle.model.specs.Table.{settingsOctets, portsField, toSettings, settingsRules, settingsFormed, everyPart, allZero, cellOctets, toCell, cellFormed, resultOctets, toResult, resultFormed, nameWidths, cellsPart, resultsPart, fixedFrom, holds, streamOctets, toStream, streamRules, streamFormed, totalsWidths, totalsOctets, toTotals, encode, settingsPart, clockField, countField, totalsPart, recordsPart, decode, rising, idOf, totalsWithin, tableLength, tableRules, formed}
+use Rattle.model.specs.Table.{settingsOctets, portsField, toSettings, settingsRules, settingsFormed, everyPart, allZero, cellOctets, toCell, cellFormed, resultOctets, toResult, resultFormed, cellsPart, resultsPart, fixedFrom, holds, streamOctets, toStream, streamRules, streamFormed, totalsOctets, toTotals, encode, settingsPart, clockField, countField, totalsPart, recordsPart, decode, rising, idOf, totalsWithin, tableRules, formed}
 use Rattle.model.specs.Laid.{FitSettings, FitStream, FitTotals, FitBridge}
 use Rattle.model.proofs.Lists.{and-left, and-right, and-both, all-map, all-each, all-true, true-all}
 use Rattle.model.proofs.Valid.{ValidCell, ValidResult, ValidPort, ValidFixed, ValidStream, Rising, Valid}
 use Rattle.model.proofs.Parts.{_also_, octets-at, packed-whole, octets-append, octets-drop, octets-part, octets-zeros, octets-packed, octets-flat, length-zeros, zero-zeros, zeros-zero, part-between, length-parts, parts-map, Sized, length-flat-sized, parts-flat, every-read, every-forth, every-fewer, every-padded, parts-padded, zero-padded, every-flat, rising-rises, rises-rising}
-use Rattle.model.proofs.Cells.{fixed-fit, fixed-back, fixed-forth, fixed-valid, fixedWidths, priority-spare, cell-length, cell-octets, cells-sized, cell-back, cell-formed, cell-forth, cell-valid, cell-zeros, holds-held, held-holds}
+use Rattle.model.proofs.Cells.{fixed-fit, fixed-back, fixed-forth, fixed-valid, priority-spare, cell-length, cell-octets, cells-sized, cell-back, cell-formed, cell-forth, cell-valid, cell-zeros, holds-held, held-holds}
 use Rattle.model.proofs.Results.{result-length, result-octets, results-sized, result-back, result-formed, result-forth, result-valid, result-zeros}
 use Rattle.model.proofs.SettingsOctets.{octet-field, settings-length, ports-read, fit-back, settings-fit, settings-rules, settings-ports, settings-taken, settings-valid, settings-room, eight-ports, formed-valid, octets-settings}
 
@@ -61,11 +61,11 @@ module _ {A : Type 0} {n : ℕ} {to : A → List ℕ} {from : List ℕ → A} {r
         (ap (everyPart n rule (length l)) (sym (append-nil (flat to l)))
         ∙ every-flat n to rule l [] (all-sized l) (all-map Good (λ a. rule (to a) ≡ true) (c .keeps) l g))
 
-    many-rest : All (λ a. a ≡ e) (drop k l) → allZero (drop (n * k) (flat to l)) ≡ true
+    many-rest : All (λ a. a ≡ e) (drop k l) → allZero (drop (k * n) (flat to l)) ≡ true
     many-rest z = zero-padded n to e (c .blank) k l (all-sized l) (omega arith) z
 
   module _ (k m : ℕ) (h : k ≤ m) (s : List ℕ) (q : length s ≡ m * n) (o : Octets s)
-      (r : everyPart n rule k s ≡ true) (z : allZero (drop (n * k) s) ≡ true) where
+      (r : everyPart n rule k s ≡ true) (z : allZero (drop (k * n) s) ≡ true) where
     all-keep : everyPart n rule m s ≡ true
     all-keep = every-padded n rule zeros-keep k m s h q r z
 
@@ -83,26 +83,26 @@ module _ {A : Type 0} {n : ℕ} {to : A → List ℕ} {from : List ℕ → A} {r
 abbrev pub name : Stream → List ℕ
 name x = packed nameWidths (x .id ∷ fixedNumbers (x .settled))
 
-pub name-length : (x : Stream) → length (name x) ≡ 21
-unfolding nameWidths fixedNumbers width
+pub name-length : (x : Stream) → length (name x) ≡ nameSize
+unfolding fixedNumbers width
 name-length x = length-packed-any nameWidths (x .id ∷ fixedNumbers (x .settled)) refl
 
 -- a record is its parts
-three-parts : (s : List ℕ) → length s ≡ 493 → s ≡ part 0 21 s ++ (cellsPart s ++ resultsPart s)
+three-parts : (s : List ℕ) → length s ≡ recordSize → s ≡ part 0 nameSize s ++ (cellsPart s ++ resultsPart s)
 unfolding part cellsPart resultsPart
 three-parts s l =
-    let r = drop 312 (drop 21 s) in
-    let h : length r ≤ 160 = omega (arith, length-drop 312 (drop 21 s), length-drop 21 s) in
-    rw (← drop-drop 312 21 s, take-all 160 r h, take-append-drop 312 (drop 21 s)) (sym (take-append-drop 21 s))
+    let r = drop cellsSize (drop nameSize s) in
+    let h : length r ≤ resultsSize = omega (arith, length-drop cellsSize (drop nameSize s), length-drop nameSize s) in
+    rw (← drop-drop cellsSize nameSize s, take-all resultsSize r h, take-append-drop cellsSize (drop nameSize s)) (sym (take-append-drop nameSize s))
 
 module _ (x : Stream) (eight-cells : length (x .cells) ≡ 8) (eight-results : length (x .results) ≡ 8) where
-  pub length-cells : length (flat cellOctets (x .cells)) ≡ 312
-  length-cells = omega (arith, length-flat-sized 39 cellOctets (x .cells) (cells-sized (x .cells)))
+  pub length-cells : length (flat cellOctets (x .cells)) ≡ cellsSize
+  length-cells = omega (arith, length-flat-sized cellSize cellOctets (x .cells) (cells-sized (x .cells)))
 
-  pub length-results : length (flat resultOctets (x .results)) ≡ 160
-  length-results = omega (arith, length-flat-sized 20 resultOctets (x .results) (results-sized (x .results)))
+  pub length-results : length (flat resultOctets (x .results)) ≡ resultsSize
+  length-results = omega (arith, length-flat-sized resultSize resultOctets (x .results) (results-sized (x .results)))
 
-  pub stream-length : length (streamOctets x) ≡ 493
+  pub stream-length : length (streamOctets x) ≡ recordSize
   unfolding streamOctets
   stream-length =
       length-append (name x) (flat cellOctets (x .cells) ++ flat resultOctets (x .results))
@@ -110,15 +110,15 @@ module _ (x : Stream) (eight-cells : length (x .cells) ≡ 8) (eight-results : l
 
   pub cells-of : cellsPart (streamOctets x) ≡ flat cellOctets (x .cells)
   unfolding cellsPart streamOctets
-  cells-of = part-between (name x) (flat cellOctets (x .cells)) (flat resultOctets (x .results)) 21 312 (name-length x) length-cells
+  cells-of = part-between (name x) (flat cellOctets (x .cells)) (flat resultOctets (x .results)) cellsPlace cellsSize (name-length x) length-cells
 
   pub results-of : resultsPart (streamOctets x) ≡ flat resultOctets (x .results)
   unfolding resultsPart streamOctets
   results-of =
       let cs = flat cellOctets (x .cells) in
       let rs = flat resultOctets (x .results) in
-      ap (part 333 160) (sym (append-assoc (name x) cs rs) ∙ ap (λ (r : List ℕ). (name x ++ cs) ++ r) (sym (append-nil rs)))
-      ∙ part-between (name x ++ cs) rs [] 333 160 (omega (arith, length-append (name x) cs, name-length x, length-cells)) length-results
+      ap (part resultsPlace resultsSize) (sym (append-assoc (name x) cs rs) ∙ ap (λ (r : List ℕ). (name x ++ cs) ++ r) (sym (append-nil rs)))
+      ∙ part-between (name x ++ cs) rs [] resultsPlace resultsSize (omega (arith, length-append (name x) cs, name-length x, length-cells)) length-results
 
 module _ (x : Stream) (f : Fit nameWidths (x .id ∷ fixedNumbers (x .settled))) where
   pub name-read : fields nameWidths 0 (streamOctets x) ≡ x .id ∷ fixedNumbers (x .settled)
@@ -126,13 +126,13 @@ module _ (x : Stream) (f : Fit nameWidths (x .id ∷ fixedNumbers (x .settled)))
   name-read = fields-packed nameWidths (x .id ∷ fixedNumbers (x .settled)) (flat cellOctets (x .cells) ++ flat resultOctets (x .results)) f
 
   pub id-read : idOf (streamOctets x) ≡ x .id
-  unfolding idOf fields nameWidths
+  unfolding idOf fields
   id-read = ap (λ (vs : List ℕ). getD vs 0 0) name-read
 
-  spare-read : getD (streamOctets x) 20 0 % 16 ≡ 0
-  unfolding fields nameWidths fixedNumbers
+  spare-read : getD (streamOctets x) settledPriorityPlace 0 % 16 ≡ 0
+  unfolding fields fixedNumbers
   spare-read =
-      ap (λ (o : ℕ). o % 16) (sym (octet-field (streamOctets x) 20) ∙ ap (λ (vs : List ℕ). getD vs 5 0) name-read) ∙ priority-spare (x .settled)
+      ap (λ (o : ℕ). o % 16) (sym (octet-field (streamOctets x) settledPriorityPlace) ∙ ap (λ (vs : List ℕ). getD vs 5 0) name-read) ∙ priority-spare (x .settled)
 
 pub octets-stream : (x : Stream) → Octets (streamOctets x)
 unfolding streamOctets
@@ -144,7 +144,7 @@ octets-stream x =
 
 -- at a bridge with so many ports, this clock and leave time
 module _ (ports clock leave : ℕ) (few : ports ≤ 8) (small : clock < 2 ^ 32) where
-  cells-coded : Coded 39 cellOctets toCell (cellFormed clock leave) (ValidCell clock leave) empty
+  cells-coded : Coded cellSize cellOctets toCell (cellFormed clock leave) (ValidCell clock leave) empty
   unfolding empty
   cells-coded = record {
     size = cell-length;
@@ -156,7 +156,7 @@ module _ (ports clock leave : ℕ) (few : ports ≤ 8) (small : clock < 2 ^ 32) 
     good = record { talks = tt; hears = tt };
   }
 
-  results-coded : Coded 20 resultOctets toResult (resultFormed clock) (ValidResult clock) unsettled
+  results-coded : Coded resultSize resultOctets toResult (resultFormed clock) (ValidResult clock) unsettled
   unfolding unsettled
   results-coded = record {
     size = result-length;
@@ -170,7 +170,7 @@ module _ (ports clock leave : ℕ) (few : ports ≤ 8) (small : clock < 2 ^ 32) 
 
   module _ (x : Stream) (v : ValidStream ports clock leave x) where
     name-fit : Fit nameWidths (x .id ∷ fixedNumbers (x .settled))
-    unfolding Fit nameWidths fixedWidths
+    unfolding Fit
     name-fit = v .id also fixed-fit (x .settled) (v .settled)
 
     settled-read : fixedFrom 1 (fields nameWidths 0 (streamOctets x)) ≡ x .settled
@@ -197,7 +197,7 @@ module _ (ports clock leave : ℕ) (few : ports ≤ 8) (small : clock < 2 ^ 32) 
         let held-there : holds ports cs ≡ true =
         ap (holds ports) (sym (append-nil cs)) ∙ held-holds ports (x .cells) [] back h (v .no-other-cells) (v .is-held) in
         true-all (streamRules ports clock leave (streamOctets x))
-        (eq-eqb (getD (streamOctets x) 20 0 % 16) 0 (spare-read x name-fit)
+        (eq-eqb (getD (streamOctets x) settledPriorityPlace 0 % 16) 0 (spare-read x name-fit)
         also rw (c, r)
         (many-keep cells-coded ports 8 few (x .cells) (v .eight-cells) (v .cells)
         also held-there
@@ -206,16 +206,16 @@ module _ (ports clock leave : ℕ) (few : ports ≤ 8) (small : clock < 2 ^ 32) 
         also many-rest results-coded ports 8 few (x .results) (v .eight-results) (v .results) (v .no-other-results)
         also tt))
 
-  module _ (s : List ℕ) (l : length s ≡ 493) (o : Octets s) (f : streamFormed ports clock leave s ≡ true) where
+  module _ (s : List ℕ) (l : length s ≡ recordSize) (o : Octets s) (f : streamFormed ports clock leave s ≡ true) where
     stream-rules : All (λ r. r ≡ true) (streamRules ports clock leave s)
     unfolding streamFormed
     stream-rules = all-true (streamRules ports clock leave s) f
 
     spare-kept : getD (fields nameWidths 0 s) 5 0 % 16 ≡ 0
-    unfolding streamRules fields nameWidths
-    spare-kept = ap (λ (b : ℕ). b % 16) (octet-field s 20) ∙ eqb-true (getD s 20 0 % 16) 0 (stream-rules .0)
+    unfolding streamRules fields
+    spare-kept = ap (λ (b : ℕ). b % 16) (octet-field s settledPriorityPlace) ∙ eqb-true (getD s settledPriorityPlace 0 % 16) 0 (stream-rules .0)
 
-    cells-kept : everyPart 39 (cellFormed clock leave) ports (cellsPart s) ≡ true
+    cells-kept : everyPart cellSize (cellFormed clock leave) ports (cellsPart s) ≡ true
     unfolding streamRules
     cells-kept = stream-rules .1 .0
 
@@ -223,36 +223,36 @@ module _ (ports clock leave : ℕ) (few : ports ≤ 8) (small : clock < 2 ^ 32) 
     unfolding streamRules
     held-kept = stream-rules .1 .1 .0
 
-    cells-zero : allZero (drop (39 * ports) (cellsPart s)) ≡ true
+    cells-zero : allZero (drop (ports * cellSize) (cellsPart s)) ≡ true
     unfolding streamRules
     cells-zero = stream-rules .1 .1 .1 .0
 
-    results-kept : everyPart 20 (resultFormed clock) ports (resultsPart s) ≡ true
+    results-kept : everyPart resultSize (resultFormed clock) ports (resultsPart s) ≡ true
     unfolding streamRules
     results-kept = stream-rules .1 .1 .1 .1 .0
 
-    results-zero : allZero (drop (20 * ports) (resultsPart s)) ≡ true
+    results-zero : allZero (drop (ports * resultSize) (resultsPart s)) ≡ true
     unfolding streamRules
     results-zero = stream-rules .1 .1 .1 .1 .1 .0
 
-    cells-312 : length (cellsPart s) ≡ 312
+    cells-room : length (cellsPart s) ≡ cellsSize
     unfolding cellsPart
-    cells-312 = length-part 21 312 s (omega arith)
+    cells-room = length-part cellsPlace cellsSize s (omega arith)
 
-    results-160 : length (resultsPart s) ≡ 160
+    results-room : length (resultsPart s) ≡ resultsSize
     unfolding resultsPart
-    results-160 = length-part 333 160 s (omega arith)
+    results-room = length-part resultsPlace resultsSize s (omega arith)
 
     cells-octets : Octets (cellsPart s)
     unfolding cellsPart
-    cells-octets = octets-part 21 312 s o
+    cells-octets = octets-part cellsPlace cellsSize s o
 
     results-octets : Octets (resultsPart s)
     unfolding resultsPart
-    results-octets = octets-part 333 160 s o
+    results-octets = octets-part resultsPlace resultsSize s o
 
-    name-forth : name (toStream s) ≡ part 0 21 s
-    unfolding toStream nameWidths fields width
+    name-forth : name (toStream s) ≡ part 0 nameSize s
+    unfolding toStream fields width
     name-forth =
         rw (fixed-forth 1 (fields nameWidths 0 s) spare-kept)
         (packed-fields nameWidths 0 s (omega arith) (octets-at s o))
@@ -262,13 +262,12 @@ module _ (ports clock leave : ℕ) (few : ports ≤ 8) (small : clock < 2 ^ 32) 
     stream-forth =
         rw (
           name-forth,
-          many-forth cells-coded ports 8 few (cellsPart s) cells-312 cells-octets cells-kept cells-zero,
-          many-forth results-coded ports 8 few (resultsPart s) results-160 results-octets results-kept results-zero,
+          many-forth cells-coded ports 8 few (cellsPart s) cells-room cells-octets cells-kept cells-zero,
+          many-forth results-coded ports 8 few (resultsPart s) results-room results-octets results-kept results-zero,
         )
         (sym (three-parts s l))
 
     settled-valid : ValidFixed (fixedFrom 1 (fields nameWidths 0 s))
-    unfolding nameWidths
     settled-valid =
         let vs = fields nameWidths 0 s in
         let fit = fit-at nameWidths vs (fields-fit nameWidths 0 s (octets-at s o)) in
@@ -279,13 +278,13 @@ module _ (ports clock leave : ℕ) (few : ports ≤ 8) (small : clock < 2 ^ 32) 
     stream-valid = record {
       id = beAt-fits 8 s 0 (octets-at s o);
       settled = settled-valid;
-      eight-cells = length-parts 39 toCell 8 (cellsPart s);
-      cells = many-valid cells-coded ports 8 few (cellsPart s) cells-312 cells-octets cells-kept cells-zero;
-      no-other-cells = many-others cells-coded ports 8 few (cellsPart s) cells-312 cells-octets cells-kept cells-zero;
+      eight-cells = length-parts cellSize toCell 8 (cellsPart s);
+      cells = many-valid cells-coded ports 8 few (cellsPart s) cells-room cells-octets cells-kept cells-zero;
+      no-other-cells = many-others cells-coded ports 8 few (cellsPart s) cells-room cells-octets cells-kept cells-zero;
       is-held = holds-held ports 8 (cellsPart s) few held-kept;
-      eight-results = length-parts 20 toResult 8 (resultsPart s);
-      results = many-valid results-coded ports 8 few (resultsPart s) results-160 results-octets results-kept results-zero;
-      no-other-results = many-others results-coded ports 8 few (resultsPart s) results-160 results-octets results-kept results-zero;
+      eight-results = length-parts resultSize toResult 8 (resultsPart s);
+      results = many-valid results-coded ports 8 few (resultsPart s) results-room results-octets results-kept results-zero;
+      no-other-results = many-others results-coded ports 8 few (resultsPart s) results-room results-octets results-kept results-zero;
     }
 
 -- One port's totals, which fit since its limits do.
@@ -308,79 +307,83 @@ totals-fit (t ∷ ts) (q ∷ qs) v e =
     let lb : q .limitB < 256 ^ 5 = v .0 .limitB in
     ((omega arith, omega arith), totals-fit ts qs (v .1) (and-right first (totalsWithin ts qs) e))
 
-pub totals-length : (t : Totals) → length (totalsOctets t) ≡ 10
-unfolding totalsOctets totalsWidths width
+pub totals-length : (t : Totals) → length (totalsOctets t) ≡ totalSize
+unfolding totalsOctets width
 totals-length t = length-packed-any totalsWidths (t .totalA ∷ t .totalB ∷ []) refl
 
 totals-octets : (t : Totals) → Octets (totalsOctets t)
 unfolding totalsOctets
 totals-octets t = octets-packed totalsWidths (t .totalA ∷ t .totalB ∷ [])
 
-pub totals-sized : (l : List Totals) → All (Sized 10 totalsOctets) l
-totals-sized = all-each (Sized 10 totalsOctets) totals-length
+pub totals-sized : (l : List Totals) → All (Sized totalSize totalsOctets) l
+totals-sized = all-each (Sized totalSize totalsOctets) totals-length
+
+pub no-totals : totalsOctets noTotals ≡ zeros totalSize
+unfolding totalsOctets noTotals width
+no-totals = packed-zeros totalsWidths
 
 pub totals-back : (t : Totals) → FitTotals t → toTotals (totalsOctets t) ≡ t
-unfolding totalsOctets toTotals fields totalsWidths Fit
+unfolding totalsOctets toTotals fields Fit
 totals-back t f =
     ap (λ (vs : List ℕ). record { totalA = getD vs 0 0; totalB = getD vs 1 0 })
     (fields-of-packed totalsWidths (t .totalA ∷ t .totalB ∷ []) (f .0 also f .1 also tt))
 
-totals-forth : (s : List ℕ) → length s ≡ 10 → Octets s → totalsOctets (toTotals s) ≡ s
-unfolding totalsOctets toTotals totalsWidths fields width
+totals-forth : (s : List ℕ) → length s ≡ totalSize → Octets s → totalsOctets (toTotals s) ≡ s
+unfolding totalsOctets toTotals fields width
 totals-forth s l o = packed-whole totalsWidths s l o
 
 -- The table's lay-out: settings, clock and count, totals, records.
 
-module _ (ss h ts rs : List ℕ) (a : length ss ≡ 187) (b : length h ≡ 5) (c : length ts ≡ 80) where
+module _ (ss h ts rs : List ℕ) (a : length ss ≡ settingsSize) (b : length h ≡ clockSize) (c : length ts ≡ totalsSize) where
   settings-of : settingsPart (ss ++ (h ++ (ts ++ rs))) ≡ ss
   unfolding settingsPart part
-  settings-of = take-at ss (h ++ (ts ++ rs)) 187 a
+  settings-of = take-at ss (h ++ (ts ++ rs)) settingsSize a
 
   totals-of : totalsPart (ss ++ (h ++ (ts ++ rs))) ≡ ts
   unfolding totalsPart
   totals-of =
-      ap (part 192 80) (sym (append-assoc ss h (ts ++ rs)))
-      ∙ part-between (ss ++ h) ts rs 192 80 (omega (arith, length-append ss h)) c
+      ap (part totalsPlace totalsSize) (sym (append-assoc ss h (ts ++ rs)))
+      ∙ part-between (ss ++ h) ts rs totalsPlace totalsSize (omega (arith, length-append ss h)) c
 
   records-of : recordsPart (ss ++ (h ++ (ts ++ rs))) ≡ rs
   unfolding recordsPart
   records-of =
-      ap (drop 272) (sym (append-assoc ss h (ts ++ rs)) ∙ sym (append-assoc (ss ++ h) ts rs))
-      ∙ drop-at ((ss ++ h) ++ ts) rs 272 (omega (arith, length-append (ss ++ h) ts, length-append ss h))
+      ap (drop recordsPlace) (sym (append-assoc ss h (ts ++ rs)) ∙ sym (append-assoc (ss ++ h) ts rs))
+      ∙ drop-at ((ss ++ h) ++ ts) rs recordsPlace (omega (arith, length-append (ss ++ h) ts, length-append ss h))
 
 -- a table is its parts
-four-parts : (t : List ℕ) → t ≡ settingsPart t ++ (part 187 5 t ++ (totalsPart t ++ recordsPart t))
+four-parts : (t : List ℕ) → t ≡ settingsPart t ++ (part clockPlace clockSize t ++ (totalsPart t ++ recordsPart t))
 unfolding settingsPart part totalsPart recordsPart
 four-parts t =
-    rw (← drop-drop 80 192 t, take-append-drop 80 (drop 192 t), ← drop-drop 5 187 t, take-append-drop 5 (drop 187 t)) (sym (take-append-drop 187 t))
+    rw (← drop-drop totalsSize totalsPlace t, take-append-drop totalsSize (drop totalsPlace t), ← drop-drop clockSize clockPlace t, take-append-drop clockSize (drop clockPlace t)) (sym (take-append-drop settingsSize t))
 
 -- The table of a bridge.
 
 abbrev pub settingsWhole : Bridge → List ℕ
-settingsWhole b = settingsOctets (b .settings) ++ zeros (22 * (8 - length (b .settings .ports)))
+settingsWhole b = settingsOctets (b .settings) ++ zeros ((8 - length (b .settings .ports)) * portSize)
 
 abbrev pub clockAndCount : Bridge → List ℕ
-clockAndCount b = packed (4 ∷ 1 ∷ []) (b .clock ∷ length (b .streams) ∷ [])
+clockAndCount b = packed clockWidths (b .clock ∷ length (b .streams) ∷ [])
 
 abbrev pub totalsWhole : Bridge → List ℕ
 totalsWhole b = flat totalsOctets (b .totals)
 
 abbrev pub recordsWhole : Bridge → List ℕ
-recordsWhole b = flat streamOctets (b .streams) ++ zeros (493 * (64 - length (b .streams)))
+recordsWhole b = flat streamOctets (b .streams) ++ zeros ((64 - length (b .streams)) * recordSize)
 
 pub encode-parts : (b : Bridge) → encode b ≡ settingsWhole b ++ (clockAndCount b ++ (totalsWhole b ++ recordsWhole b))
 unfolding encode
 encode-parts b =
-    sym (append-assoc (settingsOctets (b .settings)) (zeros (22 * (8 - length (b .settings .ports)))) (clockAndCount b ++ (totalsWhole b ++ recordsWhole b)))
+    sym (append-assoc (settingsOctets (b .settings)) (zeros ((8 - length (b .settings .ports)) * portSize)) (clockAndCount b ++ (totalsWhole b ++ recordsWhole b)))
 
 pub octets-encode : (b : Bridge) → Octets (encode b)
 octets-encode b =
-    let ps : ℕ = 22 * (8 - length (b .settings .ports)) in
-    let rs : ℕ = 493 * (64 - length (b .streams)) in
+    let ps : ℕ = (8 - length (b .settings .ports)) * portSize in
+    let rs : ℕ = (64 - length (b .streams)) * recordSize in
     rw (encode-parts b)
     (octets-append (settingsWhole b) (clockAndCount b ++ (totalsWhole b ++ recordsWhole b))
     (octets-append (settingsOctets (b .settings)) (zeros ps) (octets-settings (b .settings)) (octets-zeros ps))
-    (octets-append (clockAndCount b) (totalsWhole b ++ recordsWhole b) (octets-packed (4 ∷ 1 ∷ []) (b .clock ∷ length (b .streams) ∷ []))
+    (octets-append (clockAndCount b) (totalsWhole b ++ recordsWhole b) (octets-packed clockWidths (b .clock ∷ length (b .streams) ∷ []))
     (octets-append (totalsWhole b) (recordsWhole b) (octets-flat totalsOctets totals-octets (b .totals))
     (octets-append (flat streamOctets (b .streams)) (zeros rs) (octets-flat streamOctets octets-stream (b .streams)) (octets-zeros rs)))))
 
@@ -389,7 +392,7 @@ pub record Whole (b : Bridge) : Type 0 where
   pub eight-ports : length (b .settings .ports) ≤ 8
   pub eight-totals : length (b .totals) ≡ 8
   pub at-most-64 : length (b .streams) ≤ 64
-  pub streams : All (Sized 493 streamOctets) (b .streams)
+  pub streams : All (Sized recordSize streamOctets) (b .streams)
 
 pub valid-whole : (b : Bridge) → Valid b → Whole b
 valid-whole b v = record {
@@ -397,7 +400,7 @@ valid-whole b v = record {
   eight-totals = v .eight-totals;
   at-most-64 = v .at-most-64;
   streams =
-      all-map (ValidStream (length (b .settings .ports)) (b .clock) (b .settings .leaveTime)) (Sized 493 streamOctets)
+      all-map (ValidStream (length (b .settings .ports)) (b .clock) (b .settings .leaveTime)) (Sized recordSize streamOctets)
       (λ x w. stream-length x (w .eight-cells) (w .eight-results)) (b .streams) (v .streams);
 }
 
@@ -406,32 +409,31 @@ fit-whole b f = record {
   eight-ports = f .settings .eight-ports;
   eight-totals = f .eight-totals;
   at-most-64 = f .at-most-64;
-  streams = all-map FitStream (Sized 493 streamOctets) (λ x w. stream-length x (w .eight-cells) (w .eight-results)) (b .streams) (f .streams);
+  streams = all-map FitStream (Sized recordSize streamOctets) (λ x w. stream-length x (w .eight-cells) (w .eight-results)) (b .streams) (f .streams);
 }
 
-pub clock-length : (b : Bridge) → length (clockAndCount b) ≡ 5
+pub clock-length : (b : Bridge) → length (clockAndCount b) ≡ clockSize
 unfolding width
-clock-length b = length-packed-any (4 ∷ 1 ∷ []) (b .clock ∷ length (b .streams) ∷ []) refl
+clock-length b = length-packed-any clockWidths (b .clock ∷ length (b .streams) ∷ []) refl
 
 module _ (b : Bridge) (w : Whole b) where
-  pub settings-whole-length : length (settingsWhole b) ≡ 187
+  pub settings-whole-length : length (settingsWhole b) ≡ settingsSize
   settings-whole-length =
       let n = length (b .settings .ports) in
       let h : n ≤ 8 = w .eight-ports in
-      length-append (settingsOctets (b .settings)) (zeros (22 * (8 - n))) ∙ omega (arith, settings-length (b .settings), length-zeros (22 * (8 - n)))
+      length-append (settingsOctets (b .settings)) (zeros ((8 - n) * portSize)) ∙ omega (arith, settings-length (b .settings), length-zeros ((8 - n) * portSize))
 
-  pub totals-whole-length : length (totalsWhole b) ≡ 80
-  totals-whole-length = omega (arith, length-flat-sized 10 totalsOctets (b .totals) (totals-sized (b .totals)), w .eight-totals)
+  pub totals-whole-length : length (totalsWhole b) ≡ totalsSize
+  totals-whole-length = omega (arith, length-flat-sized totalSize totalsOctets (b .totals) (totals-sized (b .totals)), w .eight-totals)
 
-  pub records-whole-length : length (recordsWhole b) ≡ 31552
+  pub records-whole-length : length (recordsWhole b) ≡ recordsSize
   records-whole-length =
       let n = length (b .streams) in
       let h : n ≤ 64 = w .at-most-64 in
-      length-append (flat streamOctets (b .streams)) (zeros (493 * (64 - n)))
-      ∙ omega (arith, length-flat-sized 493 streamOctets (b .streams) (w .streams), length-zeros (493 * (64 - n)))
+      length-append (flat streamOctets (b .streams)) (zeros ((64 - n) * recordSize))
+      ∙ omega (arith, length-flat-sized recordSize streamOctets (b .streams) (w .streams), length-zeros ((64 - n) * recordSize))
 
   pub whole-length : length (encode b) ≡ tableLength
-  unfolding tableLength
   whole-length =
       let ss = settingsWhole b in
       let cc = clockAndCount b in
@@ -450,7 +452,7 @@ module _ (b : Bridge) (w : Whole b) where
       )
 
   -- what is read from it
-  pub settings-read : settingsPart (encode b) ≡ settingsOctets (b .settings) ++ zeros (22 * (8 - length (b .settings .ports)))
+  pub settings-read : settingsPart (encode b) ≡ settingsOctets (b .settings) ++ zeros ((8 - length (b .settings .ports)) * portSize)
   settings-read =
       ap settingsPart (encode-parts b)
       ∙ settings-of (settingsWhole b) (clockAndCount b) (totalsWhole b) (recordsWhole b) settings-whole-length (clock-length b) totals-whole-length
@@ -460,19 +462,19 @@ module _ (b : Bridge) (w : Whole b) where
       ap totalsPart (encode-parts b)
       ∙ totals-of (settingsWhole b) (clockAndCount b) (totalsWhole b) (recordsWhole b) settings-whole-length (clock-length b) totals-whole-length
 
-  pub records-read : recordsPart (encode b) ≡ flat streamOctets (b .streams) ++ zeros (493 * (64 - length (b .streams)))
+  pub records-read : recordsPart (encode b) ≡ flat streamOctets (b .streams) ++ zeros ((64 - length (b .streams)) * recordSize)
   records-read =
       ap recordsPart (encode-parts b)
       ∙ records-of (settingsWhole b) (clockAndCount b) (totalsWhole b) (recordsWhole b) settings-whole-length (clock-length b) totals-whole-length
 
   module _ (small : b .clock < 2 ^ 32) where
-    numbers-read : fields (4 ∷ 1 ∷ []) 187 (encode b) ≡ b .clock ∷ length (b .streams) ∷ []
+    numbers-read : fields clockWidths clockPlace (encode b) ≡ b .clock ∷ length (b .streams) ∷ []
     unfolding Fit
     numbers-read =
         let h : length (b .streams) ≤ 64 = w .at-most-64 in
-        ap (fields (4 ∷ 1 ∷ []) 187) (encode-parts b)
-        ∙ ap (λ (k : ℕ). fields (4 ∷ 1 ∷ []) k (settingsWhole b ++ (clockAndCount b ++ (totalsWhole b ++ recordsWhole b)))) (sym settings-whole-length)
-        ∙ fields-packed-behind (4 ∷ 1 ∷ []) (b .clock ∷ length (b .streams) ∷ []) (settingsWhole b) (totalsWhole b ++ recordsWhole b) (small also omega arith also tt)
+        ap (fields clockWidths clockPlace) (encode-parts b)
+        ∙ ap (λ (k : ℕ). fields clockWidths k (settingsWhole b ++ (clockAndCount b ++ (totalsWhole b ++ recordsWhole b)))) (sym settings-whole-length)
+        ∙ fields-packed-behind clockWidths (b .clock ∷ length (b .streams) ∷ []) (settingsWhole b) (totalsWhole b ++ recordsWhole b) (small also omega arith also tt)
 
     pub clock-read : clockField (encode b) ≡ b .clock
     unfolding clockField fields
@@ -480,16 +482,16 @@ module _ (b : Bridge) (w : Whole b) where
 
     pub count-read : countField (encode b) ≡ length (b .streams)
     unfolding countField fields
-    count-read = sym (octet-field (encode b) 191) ∙ ap (λ (vs : List ℕ). getD vs 1 0) numbers-read
+    count-read = sym (octet-field (encode b) countPlace) ∙ ap (λ (vs : List ℕ). getD vs 1 0) numbers-read
 
   pub settings-decoded : FitSettings (b .settings) → toSettings (settingsPart (encode b)) ≡ b .settings
-  settings-decoded f = ap toSettings settings-read ∙ fit-back (b .settings) f (zeros (22 * (8 - length (b .settings .ports))))
+  settings-decoded f = ap toSettings settings-read ∙ fit-back (b .settings) f (zeros ((8 - length (b .settings .ports)) * portSize))
 
-  pub totals-decoded : All FitTotals (b .totals) → parts 10 toTotals 8 (totalsPart (encode b)) ≡ b .totals
+  pub totals-decoded : All FitTotals (b .totals) → parts totalSize toTotals 8 (totalsPart (encode b)) ≡ b .totals
   totals-decoded f =
-      ap (parts 10 toTotals 8) (totals-read ∙ sym (append-nil (totalsWhole b)))
-      ∙ ap (λ (k : ℕ). parts 10 toTotals k (totalsWhole b ++ [])) (sym (w .eight-totals))
-      ∙ parts-flat 10 totalsOctets toTotals (b .totals) [] (totals-sized (b .totals))
+      ap (parts totalSize toTotals 8) (totals-read ∙ sym (append-nil (totalsWhole b)))
+      ∙ ap (λ (k : ℕ). parts totalSize toTotals k (totalsWhole b ++ [])) (sym (w .eight-totals))
+      ∙ parts-flat totalSize totalsOctets toTotals (b .totals) [] (totals-sized (b .totals))
       (all-map FitTotals (λ t. toTotals (totalsOctets t) ≡ t) totals-back (b .totals) f)
 
 -- A valid bridge is read back from its table, which keeps the form rules.
@@ -504,14 +506,14 @@ module _ (b : Bridge) (v : Valid b) where
   settings-same : toSettings (settingsPart (encode b)) ≡ b .settings
   settings-same = settings-decoded b whole (settings-fit (b .settings) (v .settings))
 
-  totals-same : parts 10 toTotals 8 (totalsPart (encode b)) ≡ b .totals
+  totals-same : parts totalSize toTotals 8 (totalsPart (encode b)) ≡ b .totals
   totals-same = totals-decoded b whole (totals-fit (b .totals) (b .settings .ports) (v .settings .ports) (v .totals))
 
-  streams-same : parts 493 toStream (countField (encode b)) (recordsPart (encode b)) ≡ b .streams
+  streams-same : parts recordSize toStream (countField (encode b)) (recordsPart (encode b)) ≡ b .streams
   streams-same =
       let n = length (b .settings .ports) in
       rw (count-read b whole (v .clock), records-read b whole)
-      (parts-flat 493 streamOctets toStream (b .streams) (zeros (493 * (64 - length (b .streams)))) (whole .streams)
+      (parts-flat recordSize streamOctets toStream (b .streams) (zeros ((64 - length (b .streams)) * recordSize)) (whole .streams)
       (all-map (ValidStream n (b .clock) (b .settings .leaveTime)) (λ x. toStream (streamOctets x) ≡ x)
       (stream-back n (b .clock) (b .settings .leaveTime) (v .settings .eight-ports) (v .clock)) (b .streams) (v .streams)))
 
@@ -522,33 +524,33 @@ module _ (b : Bridge) (v : Valid b) where
   ports-same : portsField (settingsPart (encode b)) ≡ length (b .settings .ports)
   ports-same =
       ap portsField (settings-read b whole)
-      ∙ ports-read (b .settings) (settings-fit (b .settings) (v .settings)) (zeros (22 * (8 - length (b .settings .ports))))
+      ∙ ports-read (b .settings) (settings-fit (b .settings) (v .settings)) (zeros ((8 - length (b .settings .ports)) * portSize))
 
-  settings-rest : allZero (drop (11 + 22 * portsField (settingsPart (encode b))) (settingsPart (encode b))) ≡ true
+  settings-rest : allZero (drop (portPlace (portsField (settingsPart (encode b)))) (settingsPart (encode b))) ≡ true
   settings-rest =
       let n = length (b .settings .ports) in
-      let z = zeros (22 * (8 - n)) in
-      rw (ports-same, settings-read b whole, drop-at (settingsOctets (b .settings)) z (11 + 22 * n) (settings-length (b .settings))) (zero-zeros (22 * (8 - n)))
+      let z = zeros ((8 - n) * portSize) in
+      rw (ports-same, settings-read b whole, drop-at (settingsOctets (b .settings)) z (portPlace n) (settings-length (b .settings))) (zero-zeros ((8 - n) * portSize))
 
-  ids-rise : rising (parts 493 idOf (countField (encode b)) (recordsPart (encode b))) ≡ true
+  ids-rise : rising (parts recordSize idOf (countField (encode b)) (recordsPart (encode b))) ≡ true
   unfolding idOf toStream ids
   ids-rise =
-      ap rising (parts-map 493 toStream (λ (x : Stream). x .id) (countField (encode b)) (recordsPart (encode b)) ∙ ap ids streams-same)
+      ap rising (parts-map recordSize toStream (λ (x : Stream). x .id) (countField (encode b)) (recordsPart (encode b)) ∙ ap ids streams-same)
       ∙ rises-rising (ids (b .streams)) (v .ascending)
 
-  records-rest : allZero (drop (493 * countField (encode b)) (recordsPart (encode b))) ≡ true
+  records-rest : allZero (drop (countField (encode b) * recordSize) (recordsPart (encode b))) ≡ true
   records-rest =
       let n = length (b .streams) in
       let rs = flat streamOctets (b .streams) in
-      let z = zeros (493 * (64 - n)) in
-      let l : length rs ≡ 493 * n = omega (arith, length-flat-sized 493 streamOctets (b .streams) (whole .streams)) in
-      rw (count-read b whole (v .clock), records-read b whole, drop-at rs z (493 * n) l) (zero-zeros (493 * (64 - n)))
+      let z = zeros ((64 - n) * recordSize) in
+      let l : length rs ≡ n * recordSize = omega (arith, length-flat-sized recordSize streamOctets (b .streams) (whole .streams)) in
+      rw (count-read b whole (v .clock), records-read b whole, drop-at rs z (n * recordSize) l) (zero-zeros ((64 - n) * recordSize))
 
-  streams-formed : everyPart 493 (streamFormed (length (b .settings .ports)) (b .clock) (b .settings .leaveTime)) (length (b .streams)) (recordsWhole b) ≡ true
+  streams-formed : everyPart recordSize (streamFormed (length (b .settings .ports)) (b .clock) (b .settings .leaveTime)) (length (b .streams)) (recordsWhole b) ≡ true
   streams-formed =
       let n = length (b .settings .ports) in
       let rule = streamFormed n (b .clock) (b .settings .leaveTime) in
-      every-flat 493 streamOctets rule (b .streams) (zeros (493 * (64 - length (b .streams)))) (whole .streams)
+      every-flat recordSize streamOctets rule (b .streams) (zeros ((64 - length (b .streams)) * recordSize)) (whole .streams)
       (all-map (ValidStream n (b .clock) (b .settings .leaveTime)) (λ x. rule (streamOctets x) ≡ true)
       (stream-formed n (b .clock) (b .settings .leaveTime) (v .settings .eight-ports) (v .clock)) (b .streams) (v .streams))
 
@@ -558,7 +560,7 @@ module _ (b : Bridge) (v : Valid b) where
       let clock = clock-read b whole (v .clock) in
       let count = count-read b whole (v .clock) in
       let settings-keep : allTrue (settingsRules (settingsPart (encode b))) ≡ true =
-      rw (settings-read b whole) (settings-rules (b .settings) (v .settings) (zeros (22 * (8 - length (b .settings .ports))))) in
+      rw (settings-read b whole) (settings-rules (b .settings) (v .settings) (zeros ((8 - length (b .settings .ports)) * portSize))) in
       and-both (eqb (length (encode b)) tableLength) (allTrue (tableRules (encode b))) (eq-eqb (length (encode b)) tableLength length-encode)
       (true-all (tableRules (encode b))
       (settings-keep
@@ -579,8 +581,8 @@ every-any n (suc k) s = every-any n k (drop n s)
 
 -- the rules as facts
 module _ (t : List ℕ) (f : formed t ≡ true) where
-  pub formed-table-length : length t ≡ 31824
-  unfolding formed tableLength
+  pub formed-table-length : length t ≡ tableLength
+  unfolding formed
   formed-table-length = eqb-true (length t) tableLength (and-left (eqb (length t) tableLength) (allTrue (tableRules t)) f)
 
   table-rules : All (λ r. r ≡ true) (tableRules t)
@@ -591,11 +593,11 @@ module _ (t : List ℕ) (f : formed t ≡ true) where
   unfolding tableRules
   settings-kept = table-rules .0
 
-  settings-zero : allZero (drop (11 + 22 * portsField (settingsPart t)) (settingsPart t)) ≡ true
+  settings-zero : allZero (drop (portPlace (portsField (settingsPart t))) (settingsPart t)) ≡ true
   unfolding tableRules
   settings-zero = table-rules .1 .0
 
-  totals-kept : totalsWithin (parts 10 toTotals 8 (totalsPart t)) (toSettings (settingsPart t) .ports) ≡ true
+  totals-kept : totalsWithin (parts totalSize toTotals 8 (totalsPart t)) (toSettings (settingsPart t) .ports) ≡ true
   unfolding tableRules
   totals-kept = table-rules .1 .1 .0
 
@@ -603,53 +605,53 @@ module _ (t : List ℕ) (f : formed t ≡ true) where
   unfolding tableRules
   count-kept = leb-true (countField t) 64 (table-rules .1 .1 .1 .0)
 
-  pub streams-kept : everyPart 493 (streamFormed (portsField (settingsPart t)) (clockField t) (toSettings (settingsPart t) .leaveTime))
+  pub streams-kept : everyPart recordSize (streamFormed (portsField (settingsPart t)) (clockField t) (toSettings (settingsPart t) .leaveTime))
       (countField t) (recordsPart t) ≡ true
   unfolding tableRules
   streams-kept = table-rules .1 .1 .1 .1 .0
 
-  ids-kept : rising (parts 493 idOf (countField t) (recordsPart t)) ≡ true
+  ids-kept : rising (parts recordSize idOf (countField t) (recordsPart t)) ≡ true
   unfolding tableRules
   ids-kept = table-rules .1 .1 .1 .1 .1 .0
 
-  records-zero : allZero (drop (493 * countField t) (recordsPart t)) ≡ true
+  records-zero : allZero (drop (countField t * recordSize) (recordsPart t)) ≡ true
   unfolding tableRules
   records-zero = table-rules .1 .1 .1 .1 .1 .1 .0
 
-  settings-187 : length (settingsPart t) ≡ 187
+  settings-room-length : length (settingsPart t) ≡ settingsSize
   unfolding settingsPart
-  settings-187 = length-part 0 187 t (omega (arith, formed-table-length))
+  settings-room-length = length-part 0 settingsSize t (omega (arith, formed-table-length))
 
-  totals-80 : length (totalsPart t) ≡ 80
+  totals-room : length (totalsPart t) ≡ totalsSize
   unfolding totalsPart
-  totals-80 = length-part 192 80 t (omega (arith, formed-table-length))
+  totals-room = length-part totalsPlace totalsSize t (omega (arith, formed-table-length))
 
-  records-31552 : length (recordsPart t) ≡ 31552
+  records-room : length (recordsPart t) ≡ recordsSize
   unfolding recordsPart
-  records-31552 = length-drop 272 t ∙ omega (arith, formed-table-length)
+  records-room = length-drop recordsPlace t ∙ omega (arith, formed-table-length)
 
 module _ (t : List ℕ) (o : Octets t) (f : formed t ≡ true) where
   octets-settings-part : Octets (settingsPart t)
   unfolding settingsPart
-  octets-settings-part = octets-part 0 187 t o
+  octets-settings-part = octets-part 0 settingsSize t o
 
   octets-totals-part : Octets (totalsPart t)
   unfolding totalsPart
-  octets-totals-part = octets-part 192 80 t o
+  octets-totals-part = octets-part totalsPlace totalsSize t o
 
   octets-records-part : Octets (recordsPart t)
   unfolding recordsPart
-  octets-records-part = octets-drop 272 t o
+  octets-records-part = octets-drop recordsPlace t o
 
-  ports-fit : 11 + 22 * portsField (settingsPart t) ≤ length (settingsPart t)
-  ports-fit = settings-room (settingsPart t) (settings-187 t f) (settings-kept t f)
+  ports-fit : portPlace (portsField (settingsPart t)) ≤ length (settingsPart t)
+  ports-fit = settings-room (settingsPart t) (settings-room-length t f) (settings-kept t f)
 
-  streams-fit : countField t * 493 ≤ length (recordsPart t)
-  streams-fit = omega (arith, records-31552 t f, count-kept t f)
+  streams-fit : countField t * recordSize ≤ length (recordsPart t)
+  streams-fit = omega (arith, records-room t f, count-kept t f)
 
   pub clock-fits : clockField t < 2 ^ 32
   unfolding clockField
-  clock-fits = beAt-fits 4 t 187 (octets-at t o)
+  clock-fits = beAt-fits 4 t clockPlace (octets-at t o)
 
   pub valid-decode : Valid (decode t)
   unfolding decode ids toStream idOf
@@ -661,18 +663,18 @@ module _ (t : List ℕ) (o : Octets t) (f : formed t ≡ true) where
       let h = eight-ports s (settings-kept t f) in
       let l = toSettings s .leaveTime in
       let rs = recordsPart t in
-      let rise = ap rising (sym (parts-map 493 toStream (λ (x : Stream). x .id) n rs)) ∙ ids-kept t f in
+      let rise = ap rising (sym (parts-map recordSize toStream (λ (x : Stream). x .id) n rs)) ∙ ids-kept t f in
       let read =
-      every-read 493 (streamFormed p (clockField t) l) toStream (ValidStream p (clockField t) l) (stream-valid p (clockField t) l h clock-fits)
+      every-read recordSize (streamFormed p (clockField t) l) toStream (ValidStream p (clockField t) l) (stream-valid p (clockField t) l h clock-fits)
       n rs streams-fit octets-records-part (streams-kept t f) in
       record {
         settings = settings-valid s octets-settings-part ports-fit (settings-kept t f);
         clock = clock-fits;
-        eight-totals = length-parts 10 toTotals 8 (totalsPart t);
+        eight-totals = length-parts totalSize toTotals 8 (totalsPart t);
         totals = totals-kept t f;
-        at-most-64 = omega (arith, length-parts 493 toStream n rs, count-kept t f);
+        at-most-64 = omega (arith, length-parts recordSize toStream n rs, count-kept t f);
         streams = rw e read;
-        ascending = rising-rises (ids (parts 493 toStream n rs)) rise;
+        ascending = rising-rises (ids (parts recordSize toStream n rs)) rise;
       }
 
   settings-written : settingsWhole (decode t) ≡ settingsPart t
@@ -680,23 +682,23 @@ module _ (t : List ℕ) (o : Octets t) (f : formed t ≡ true) where
   settings-written =
       let s = settingsPart t in
       let e = settings-ports s in
-      let k : length (drop (11 + 22 * portsField s) s) ≡ 22 * (8 - length (toSettings s .ports)) =
-      length-drop (11 + 22 * portsField s) s ∙ omega (arith, settings-187 t f, eight-ports s (settings-kept t f)) in
-      let z = zeros-zero (drop (11 + 22 * portsField s) s) (settings-zero t f) ∙ ap zeros k in
-      rw (← z, settings-taken s octets-settings-part ports-fit (settings-kept t f)) (take-append-drop (11 + 22 * portsField s) s)
+      let k : length (drop (portPlace (portsField s)) s) ≡ (8 - length (toSettings s .ports)) * portSize =
+      length-drop (portPlace (portsField s)) s ∙ omega (arith, settings-room-length t f, eight-ports s (settings-kept t f)) in
+      let z = zeros-zero (drop (portPlace (portsField s)) s) (settings-zero t f) ∙ ap zeros k in
+      rw (← z, settings-taken s octets-settings-part ports-fit (settings-kept t f)) (take-append-drop (portPlace (portsField s)) s)
 
-  clock-written : clockAndCount (decode t) ≡ part 187 5 t
+  clock-written : clockAndCount (decode t) ≡ part clockPlace clockSize t
   unfolding decode clockField countField fields width
   clock-written =
-      rw (length-parts 493 toStream (getD t 191 0) (recordsPart t), ← octet-field t 191)
-      (packed-fields (4 ∷ 1 ∷ []) 187 t (omega (arith, formed-table-length t f)) (octets-at t o))
+      rw (length-parts recordSize toStream (getD t countPlace 0) (recordsPart t), ← octet-field t countPlace)
+      (packed-fields clockWidths clockPlace t (omega (arith, formed-table-length t f)) (octets-at t o))
 
   totals-written : totalsWhole (decode t) ≡ totalsPart t
   unfolding decode
   totals-written =
-      every-forth 10 (λ p. true) toTotals totalsOctets (λ p l c e. totals-forth p l c) 8 (totalsPart t) (omega (arith, totals-80 t f)) octets-totals-part
-      (every-any 10 8 (totalsPart t))
-      ∙ take-all 80 (totalsPart t) (omega (arith, totals-80 t f))
+      every-forth totalSize (λ p. true) toTotals totalsOctets (λ p l c e. totals-forth p l c) 8 (totalsPart t) (omega (arith, totals-room t f)) octets-totals-part
+      (every-any totalSize 8 (totalsPart t))
+      ∙ take-all totalsSize (totalsPart t) (omega (arith, totals-room t f))
 
   records-written : recordsWhole (decode t) ≡ recordsPart t
   unfolding decode
@@ -708,13 +710,13 @@ module _ (t : List ℕ) (o : Octets t) (f : formed t ≡ true) where
       let l = toSettings s .leaveTime in
       let h = eight-ports s (settings-kept t f) in
       let w =
-      every-forth 493 (streamFormed p (clockField t) l) toStream streamOctets (stream-forth p (clockField t) l h clock-fits)
+      every-forth recordSize (streamFormed p (clockField t) l) toStream streamOctets (stream-forth p (clockField t) l h clock-fits)
       n r streams-fit octets-records-part (streams-kept t f) in
-      let e : length (parts 493 toStream n r) ≡ n = length-parts 493 toStream n r in
-      let k : length (drop (493 * n) r) ≡ 493 * (64 - length (parts 493 toStream n r)) =
-      length-drop (493 * n) r ∙ omega (arith, records-31552 t f, count-kept t f) in
-      let z = zeros-zero (drop (493 * n) r) (records-zero t f) ∙ ap zeros k in
-      rw (← z, w, mul-comm n 493) (take-append-drop (493 * n) r)
+      let e : length (parts recordSize toStream n r) ≡ n = length-parts recordSize toStream n r in
+      let k : length (drop (n * recordSize) r) ≡ (64 - length (parts recordSize toStream n r)) * recordSize =
+      length-drop (n * recordSize) r ∙ omega (arith, records-room t f, count-kept t f) in
+      let z = zeros-zero (drop (n * recordSize) r) (records-zero t f) ∙ ap zeros k in
+      rw (← z, w) (take-append-drop (n * recordSize) r)
 
   pub encode-decode : encode (decode t) ≡ t
   encode-decode = encode-parts (decode t) ∙ rw (settings-written, clock-written, totals-written, records-written) (sym (four-parts t))

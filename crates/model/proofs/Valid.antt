@@ -4,8 +4,9 @@ use mathlib.Core.List.{List, [], _∷_}
 use mathlib.Core.Bool.{true}
 use Prim.Native.Nat.{ℕ, _+_, _/_, _^_, _≤_, _<_}
 use lib.ListN.{length, drop}
+use Rattle.model.specs.Layout.{priorityBUnit}
 use Rattle.model.specs.Lists.{All}
-use Rattle.model.specs.State.{Port, Settings, Leaving, stays, since, Fixed, Health, sound, broken, Varying, Talker, noTalker, talker, Listener, noListener, listener, Cell, Column, none, advertise, failed, Entry, noEntry, filters, forwards, Result, Stream, Bridge, empty, unsettled}
+use Rattle.model.specs.State.{Port, Settings, Leaving, stays, since, Fixed, Health, sound, broken, Varying, Registration, Talker, noTalker, talker, Listener, noListener, listener, Cell, Column, none, advertise, failed, Entry, noEntry, filters, forwards, Result, Stream, Bridge, empty, unsettled}
 use Rattle.model.specs.Registrations.{ids}
 use Rattle.model.specs.Settling.{held}
 use Rattle.model.specs.Table.{totalsWithin}
@@ -24,7 +25,7 @@ pub record ValidSettings (st : Settings) : Type 0 where
   pub priorityB : st .priorityB < 8
   pub different : st .priorityA ≡ st .priorityB → ⊥
   pub leaves : 1 ≤ st .leaveTime
-  pub leaveTime : st .leaveTime < 16384
+  pub leaveTime : st .leaveTime < priorityBUnit
   pub some-port : 1 ≤ length (st .ports)
   pub eight-ports : length (st .ports) ≤ 8
   pub ports : All ValidPort (st .ports)
@@ -50,9 +51,14 @@ pub record ValidVarying (v : Varying) : Type 0 where
   pub health : ValidHealth (v .health)
   pub latency : v .latency < 2 ^ 32
 
+pub record ValidRegistration (clock leave : ℕ) (r : Registration) : Type 0 where
+  pub fixed : ValidFixed (r .fixed)
+  pub varying : ValidVarying (r .varying)
+  pub leaving : ValidLeaving clock leave (r .leaving)
+
 abbrev pub ValidTalker : ℕ → ℕ → Talker → Type 0
 ValidTalker clock leave noTalker = Unit {0}
-ValidTalker clock leave (talker f v m l) = ValidFixed f × ValidVarying v × ValidLeaving clock leave l
+ValidTalker clock leave (talker r) = ValidRegistration clock leave r
 
 abbrev pub ValidListener : ℕ → ℕ → Listener → Type 0
 ValidListener clock leave noListener = Unit {0}

@@ -13,6 +13,7 @@ use borrow.Author.Tests.{ltb-true, ltb-false, lt-ltb, le-ltb, eq-eqb, ne-eqb, eq
 use Rattle.octets.specs.Be.{be}
 use Rattle.octets.specs.Fields.{packed, flat}
 use Rattle.octets.proofs.Be.{length-be}
+use Rattle.model.specs.FrameLayout.{longestPdu}
 use Rattle.model.specs.Lists.{All, keep}
 use Rattle.model.specs.State.{Health, sound, broken, Column, none, advertise, failed, Declared, nothing, tells, Result, Stream, Bridge, resultAt}
 use Rattle.model.specs.Registrations.{Kind, advertises, faileds, listeners}
@@ -181,7 +182,7 @@ pub fitting-within : (used : ℕ) (o : Open) (l : List Declaration) → fitting 
 unfolding fitting
 fitting-within used o [] = omega arith
 fitting-within used o (d ∷ l) =
-    go (ltb 1500 (used + opening o (kindOf d) + vectorSize (kindOf d)))
+    go (ltb longestPdu (used + opening o (kindOf d) + vectorSize (kindOf d)))
     (fitting-within (used + opening o (kindOf d) + vectorSize (kindOf d)) (message (kindOf d)) l)
   where
     go : (t : Bool) {n : ℕ} → n ≤ length l → cond t 0 (suc n) ≤ suc (length l)
@@ -189,10 +190,10 @@ fitting-within used o (d ∷ l) =
     go false h = omega arith
 
 -- with so many octets used, those that fit do not run past 1,500, and one more would
-fitting-fits : (used : ℕ) (o : Open) (l : List Declaration) → used ≤ 1500 → used + size o (take (fitting used o l) l) ≤ 1500
+fitting-fits : (used : ℕ) (o : Open) (l : List Declaration) → used ≤ longestPdu → used + size o (take (fitting used o l) l) ≤ longestPdu
 unfolding fitting size
 fitting-fits used o [] h = omega arith
-fitting-fits used o (d ∷ l) h = go (ltb 1500 more) refl (fitting-fits more (message (kindOf d)) l)
+fitting-fits used o (d ∷ l) h = go (ltb longestPdu more) refl (fitting-fits more (message (kindOf d)) l)
   where
     more : ℕ
     more = used + opening o (kindOf d) + vectorSize (kindOf d)
@@ -200,15 +201,15 @@ fitting-fits used o (d ∷ l) h = go (ltb 1500 more) refl (fitting-fits more (me
     n : ℕ
     n = fitting more (message (kindOf d)) l
 
-    go : (t : Bool) → ltb 1500 more ≡ t → (more ≤ 1500 → more + size (message (kindOf d)) (take n l) ≤ 1500)
-        → used + size o (take (cond t 0 (suc n)) (d ∷ l)) ≤ 1500
+    go : (t : Bool) → ltb longestPdu more ≡ t → (more ≤ longestPdu → more + size (message (kindOf d)) (take n l) ≤ longestPdu)
+        → used + size o (take (cond t 0 (suc n)) (d ∷ l)) ≤ longestPdu
     go true e ih = omega arith
-    go false e ih = omega (arith, ih (ltb-false 1500 more e))
+    go false e ih = omega (arith, ih (ltb-false longestPdu more e))
 
-fitting-full : (used : ℕ) (o : Open) (l : List Declaration) → fitting used o l < length l → 1500 < used + size o (take (suc (fitting used o l)) l)
+fitting-full : (used : ℕ) (o : Open) (l : List Declaration) → fitting used o l < length l → longestPdu < used + size o (take (suc (fitting used o l)) l)
 unfolding fitting size
 fitting-full used o [] h = absurd (omega arith)
-fitting-full used o (d ∷ l) h = go (ltb 1500 more) refl (fitting-full more (message (kindOf d)) l) h
+fitting-full used o (d ∷ l) h = go (ltb longestPdu more) refl (fitting-full more (message (kindOf d)) l) h
   where
     more : ℕ
     more = used + opening o (kindOf d) + vectorSize (kindOf d)
@@ -216,9 +217,9 @@ fitting-full used o (d ∷ l) h = go (ltb 1500 more) refl (fitting-full more (me
     n : ℕ
     n = fitting more (message (kindOf d)) l
 
-    go : (t : Bool) → ltb 1500 more ≡ t → (n < length l → 1500 < more + size (message (kindOf d)) (take (suc n) l))
-        → cond t 0 (suc n) < suc (length l) → 1500 < used + size o (take (suc (cond t 0 (suc n))) (d ∷ l))
-    go true e ih h = omega (arith, ltb-true 1500 more e)
+    go : (t : Bool) → ltb longestPdu more ≡ t → (n < length l → longestPdu < more + size (message (kindOf d)) (take (suc n) l))
+        → cond t 0 (suc n) < suc (length l) → longestPdu < used + size o (take (suc (cond t 0 (suc n))) (d ∷ l))
+    go true e ih h = omega (arith, ltb-true longestPdu more e)
     go false e ih h = omega (arith, ih (omega arith))
 
 -- counted type by type: a Message of n declarations of type k
@@ -331,13 +332,13 @@ size-in-order (d ∷ e ∷ l) o = go (sameKind (kindOf d) (kindOf e)) refl (size
 
 -- "one PDU takes as many as fit in 1,500 octets whole".
 
-pub takes-fits : (l : List Declaration) → InOrder l → length (pduOctets (take (takes l) l)) ≤ 1500
+pub takes-fits : (l : List Declaration) → InOrder l → length (pduOctets (take (takes l) l)) ≤ longestPdu
 unfolding takes
 takes-fits l o =
     let run : List Declaration = take (fitting 3 noMessage l) l in
     omega (arith, length-pdu run, size-in-order run (order-take (fitting 3 noMessage l) l o), fitting-fits 3 noMessage l (omega arith))
 
-pub takes-full : (l : List Declaration) → InOrder l → takes l < length l → 1500 < length (pduOctets (take (suc (takes l)) l))
+pub takes-full : (l : List Declaration) → InOrder l → takes l < length l → longestPdu < length (pduOctets (take (suc (takes l)) l))
 unfolding takes
 takes-full l o h =
     let run : List Declaration = take (suc (fitting 3 noMessage l)) l in
@@ -353,7 +354,7 @@ unfolding takes fitting opening vectorSize
 takes-one [] h = absurd (omega arith)
 takes-one (d ∷ l) h = go (kindOf d)
   where
-    go : (k : Kind) → 1 ≤ cond (ltb 1500 (9 + vectorSize k)) 0 (suc (fitting (9 + vectorSize k) (message k) l))
+    go : (k : Kind) → 1 ≤ cond (ltb longestPdu (9 + vectorSize k)) 0 (suc (fitting (9 + vectorSize k) (message k) l))
     go advertises = omega arith
     go faileds = omega arith
     go listeners = omega arith
@@ -412,16 +413,16 @@ module _ (b : Bridge) (p place : ℕ) where
           rw (write-from (ltb-false (length (declared b p)) place e))
           (order-take (takes (drop place (declared b p))) (drop place (declared b p)) rest-in-order)
 
-  pub run-fits : length (pduOctets (write b p place .run)) ≤ 1500
+  pub run-fits : length (pduOctets (write b p place .run)) ≤ longestPdu
   run-fits = go (ltb (length (declared b p)) place) refl
     where
-      go : (t : Bool) → ltb (length (declared b p)) place ≡ t → length (pduOctets (write b p place .run)) ≤ 1500
+      go : (t : Bool) → ltb (length (declared b p)) place ≡ t → length (pduOctets (write b p place .run)) ≤ longestPdu
       go true e = rw (write-above (ltb-true (length (declared b p)) place e)) (omega (arith, ap length no-declarations))
       go false e = rw (write-from (ltb-false (length (declared b p)) place e)) (takes-fits (drop place (declared b p)) rest-in-order)
 
   -- where declarations are left, one more would not have fitted
   pub run-full : place ≤ length (declared b p) → write b p place .next < length (declared b p)
-      → 1500 < length (pduOctets (take (suc (length (write b p place .run))) (drop place (declared b p))))
+      → longestPdu < length (pduOctets (take (suc (length (write b p place .run))) (drop place (declared b p))))
   run-full h k =
       let rest : List Declaration = drop place (declared b p) in
       let left : takes rest < length rest = simp length-drop (omega (arith, ap (λ (w : Written). w .next) (write-from h))) in
@@ -489,7 +490,7 @@ all-runs P (suc f) b p place h = go (eqb place (length (declared b p))) (all-run
 
 -- a PDU of at least one declaration and at most 1,500 octets
 abbrev pub Filled : List Declaration → Type 0
-Filled run = (1 ≤ length run) × (length (pduOctets run) ≤ 1500)
+Filled run = (1 ≤ length run) × (length (pduOctets run) ≤ longestPdu)
 
 pub all-filled : (f : ℕ) (b : Bridge) (p place : ℕ) → place ≤ length (declared b p) → All Filled (writeAll f b p place)
 unfolding writeAll

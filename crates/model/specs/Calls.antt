@@ -6,13 +6,20 @@ use mathlib.Core.Bool.{cond, not}
 use Prim.Native.Nat.{ℕ}
 use lib.ListN.{length, drop}
 use lib.Dec.{ltb, eqb}
+use Rattle.model.specs.Layout.{tableLength}
+use Rattle.model.specs.FrameLayout.{longestPdu}
 use Rattle.model.specs.State.{Bridge, Settings, started}
 use Rattle.model.specs.Registrations.{Answer, received, asks}
 use Rattle.model.specs.Frames.{reading, wrongPort}
 use Rattle.model.specs.Settling.{advance}
-use Rattle.model.specs.Declarations.{Written, write, Report, refusedReport, report}
+use Rattle.model.specs.Declarations.{Written, write}
+use Rattle.model.specs.Reports.{Report, refusedReport, report}
 use Rattle.model.specs.WrittenFrames.{pduOctets}
-use Rattle.model.specs.Table.{encode, decode, formed, tableLength, settingsFormed, toSettings}
+use Rattle.model.specs.Table.{encode, decode, formed, settingsFormed, toSettings}
+
+-- A received frame, in the order of the definitions: `receiveOn` (this file) tests the form and reads the table; `reading` (Frames)
+-- tests the port and walks the PDU, vector by vector, into acts; `received` (Registrations) applies them to the streams, counts
+-- what is held then (8), and gives the bridge; `leaves` writes it back.
 
 -- what start, receive and advance answer and leave
 pub record Call : Type 0 where
@@ -65,7 +72,7 @@ writeOn t p place buffer =
     let b = decode t in
     cond (not (formed t)) (refusedWrite 12 buffer)
     (cond (wrongPort (b .settings) p) (refusedWrite 1 buffer)
-    (cond (ltb (length buffer) 1500) (refusedWrite 10 buffer)
+    (cond (ltb (length buffer) longestPdu) (refusedWrite 10 buffer)
     (writtenTo buffer (write b p place))))
 
 unfoldable pub reportOn : List ℕ → ℕ → ℕ → Report

@@ -1,10 +1,11 @@
--- Declarations: what a port writes, and what one PDU takes of it (01, "Writing"); the report (01, "What the bridge does").
+-- Declarations: what a port writes, and what one PDU takes of it (01, "Writing").
 use mathlib.Core.List.{List, [], _∷_, _++_}
 use mathlib.Core.Bool.{Bool, true, false, cond}
 use Prim.Native.Nat.{ℕ, suc, _+_, _-_}
 use lib.ListN.{length, getD, take, drop}
 use lib.Dec.{ltb}
-use Rattle.model.specs.State.{Fixed, Health, sound, broken, Varying, Ready, Column, none, advertise, failed, Entry, noEntry, Declared, nothing, tells, Result, Stream, Bridge, portAt, resultAt, noTotals, fresh}
+use Rattle.model.specs.FrameLayout.{advertiseLength, failedLength, listenerLength, longestPdu}
+use Rattle.model.specs.State.{Fixed, Health, sound, broken, Varying, Ready, Column, none, advertise, failed, Entry, noEntry, Declared, nothing, tells, Result, Stream, Bridge, resultAt}
 use Rattle.model.specs.Registrations.{Kind, advertises, faileds, listeners, Act, talk, listen}
 
 -- a declaration is a join of the neighbour's table
@@ -54,11 +55,11 @@ declarations p s = ofKind advertises p s ++ (ofKind faileds p s ++ ofKind listen
 
 -- "From a place (0 based) one PDU takes as many as fit in 1,500 octets whole, one Message per type, one value per vector".
 
--- the octets of a vector of one value
+-- the octets of a vector of one value: header, FirstValue, an octet of three-packed events, and for a Listener one of four-packed
 unfoldable pub vectorSize : Kind → ℕ
-vectorSize advertises = 28
-vectorSize faileds = 37
-vectorSize listeners = 12
+vectorSize advertises = 2 + advertiseLength + 1
+vectorSize faileds = 2 + failedLength + 1
+vectorSize listeners = 2 + listenerLength + 1 + 1
 
 unfoldable pub sameKind : Kind → Kind → Bool
 sameKind advertises advertises = true
@@ -85,7 +86,7 @@ unfoldable pub fitting : ℕ → Open → List Declaration → ℕ
 fitting used o [] = 0
 fitting used o (d ∷ l) =
     let more = used + opening o (kindOf d) + vectorSize (kindOf d) in
-    cond (ltb 1500 more) 0 (suc (fitting more (message (kindOf d)) l))
+    cond (ltb longestPdu more) 0 (suc (fitting more (message (kindOf d)) l))
 
 -- ProtocolVersion and EndMark are three octets
 unfoldable pub takes : List Declaration → ℕ
@@ -103,73 +104,3 @@ write b p place =
     let n = takes (drop place l) in
     cond (ltb (length l) place) record { number = 13; run = []; next = 0 }
     record { number = 0; run = take n (drop place l); next = place + n }
-
--- The report: "the streams held, the port's class totals and limits, and for the stream at that 0-based place by StreamID its
--- ID, column, code, Listener declared there and entry; at place = count these five are zero or none".
-
--- a column is shown by its word, and its code apart
-pub data ColumnWord : Type 0 where
-  noneWord advertiseWord failedWord : ColumnWord
-
-pub record Report : Type 0 where
-  pub number : ℕ
-  pub count : ℕ
-  pub totalA : ℕ
-  pub limitA : ℕ
-  pub totalB : ℕ
-  pub limitB : ℕ
-  pub id : ℕ
-  pub column : ColumnWord
-  pub code : ℕ
-  pub listener : Declared
-  pub entry : Entry
-
-unfoldable pub refusedReport : ℕ → Report
-refusedReport n = record {
-  number = n;
-  count = 0;
-  totalA = 0;
-  limitA = 0;
-  totalB = 0;
-  limitB = 0;
-  id = 0;
-  column = noneWord;
-  code = 0;
-  listener = nothing;
-  entry = noEntry;
-}
-
-unfoldable pub wordOf : Column → ColumnWord
-wordOf none = noneWord
-wordOf advertise = advertiseWord
-wordOf (failed b c) = failedWord
-
-unfoldable pub codeOf : Column → ℕ
-codeOf none = 0
-codeOf advertise = 0
-codeOf (failed b c) = c
-
--- past the last stream stands one that has no StreamID and no results
-unfoldable pub streamAt : List Stream → ℕ → Stream
-streamAt s place = getD s place (fresh 0)
-
-unfoldable pub report : Bridge → ℕ → ℕ → Report
-report b p place =
-    let q = portAt (b .settings) (p - 1) in
-    let t = getD (b .totals) (p - 1) noTotals in
-    let x = streamAt (b .streams) place in
-    let r = resultAt x (p - 1) in
-    cond (ltb (length (b .streams)) place) (refusedReport 13)
-    record {
-      number = 0;
-      count = length (b .streams);
-      totalA = t .totalA;
-      limitA = q .limitA;
-      totalB = t .totalB;
-      limitB = q .limitB;
-      id = x .id;
-      column = wordOf (r .column);
-      code = codeOf (r .column);
-      listener = r .declares;
-      entry = r .entry;
-    }

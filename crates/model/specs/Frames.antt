@@ -7,6 +7,7 @@ use lib.Dec.{ltb, leb, eqb}
 use Rattle.octets.specs.Be.{beAt}
 use Rattle.octets.specs.Fields.{fields}
 use Rattle.octets.specs.Parts.{part}
+use Rattle.model.specs.FrameLayout.{advertiseLength, advertiseWidths, domainLength, domainWidths, failedLength, failedWidths, firstDestination, firstUnique, listenerLength, listenerWidths, longestPdu}
 use Rattle.model.specs.State.{Fixed, Health, sound, broken, askingFailed, ready, readyFailed, Settings}
 use Rattle.model.specs.Registrations.{Kind, advertises, faileds, listeners, Act, leaveAll, leave, talk, listen, Reading, refused, acts}
 
@@ -30,31 +31,32 @@ typeOctet version (suc (suc (suc zero))) = known (registers listeners)
 typeOctet version (suc (suc (suc (suc zero)))) = known domain
 typeOctet version (suc (suc (suc (suc (suc t))))) = cond (eqb version 0) notAllowed unknown
 
--- the widths of FirstValue's fields.
--- Talker: StreamID, destination, VLAN, MaxFrameSize, MaxIntervalFrames, priority and rank, AccumulatedLatency; Failed adds
--- Bridge ID and code. Listener: StreamID. Domain: class ID, priority, VLAN.
+-- the widths of FirstValue's fields, and its octets
 unfoldable pub firstWidths : Attribute → List ℕ
-firstWidths (registers advertises) = 8 ∷ 6 ∷ 2 ∷ 2 ∷ 2 ∷ 1 ∷ 4 ∷ []
-firstWidths (registers faileds) = 8 ∷ 6 ∷ 2 ∷ 2 ∷ 2 ∷ 1 ∷ 4 ∷ 8 ∷ 1 ∷ []
-firstWidths (registers listeners) = 8 ∷ []
-firstWidths domain = 1 ∷ 1 ∷ 2 ∷ []
+firstWidths (registers advertises) = advertiseWidths
+firstWidths (registers faileds) = failedWidths
+firstWidths (registers listeners) = listenerWidths
+firstWidths domain = domainWidths
 
--- 25, 34, 8 and 4 octets
 unfoldable pub firstLength : Attribute → ℕ
-firstLength (registers advertises) = 25
-firstLength (registers faileds) = 34
-firstLength (registers listeners) = 8
-firstLength domain = 4
+firstLength (registers advertises) = advertiseLength
+firstLength (registers faileds) = failedLength
+firstLength (registers listeners) = listenerLength
+firstLength domain = domainLength
 
 -- "one ThreePackedEvents octet per three values or part, and for Listener one FourPackedEvents octet per four or part"
 unfoldable pub threeLength : ℕ → ℕ
 threeLength n = (n + 2) / 3
 
-unfoldable pub fourLength : Attribute → ℕ → ℕ
-fourLength (registers advertises) n = 0
-fourLength (registers faileds) n = 0
-fourLength (registers listeners) n = (n + 3) / 4
-fourLength domain n = 0
+unfoldable pub hasFour : Attribute → Bool
+hasFour (registers advertises) = false
+hasFour (registers faileds) = false
+hasFour (registers listeners) = true
+hasFour domain = false
+
+unfoldable pub fourLength : Bool → ℕ → ℕ
+fourLength true n = (n + 3) / 4
+fourLength false n = 0
 
 -- Vectors.
 
@@ -79,12 +81,12 @@ vectorAt k l at h =
       values = n;
       first = part first (firstLength k) l;
       three = part three (threeLength n) l;
-      four = part four (fourLength k n) l;
+      four = part four (fourLength (hasFour k) n) l;
     }
 
--- the place after it
-unfoldable pub vectorEnd : Attribute → ℕ → ℕ → ℕ
-vectorEnd k at h = at + 2 + firstLength k + threeLength (h % 8192) + fourLength k (h % 8192)
+-- the place after it, by the octets of its FirstValue and whether it has FourPackedEvents
+unfoldable pub vectorEnd : ℕ → Bool → ℕ → ℕ → ℕ
+vectorEnd first four at h = at + 2 + first + threeLength (h % 8192) + fourLength four (h % 8192)
 
 -- an event octet above 215 is 6
 unfoldable pub overpacked : List ℕ → Bool
@@ -94,14 +96,82 @@ overpacked (o ∷ l) = ltb 215 o || overpacked l
 -- "Value n adds n to Unique ID and destination; for Listener to Unique ID; for Domain to class ID and priority octets": n
 -- more than FirstValue runs past one of these fields
 unfoldable pub runsPast : Attribute → List ℕ → ℕ → Bool
-runsPast (registers listeners) s n = ltb 65535 (beAt 2 s 6 + n)
-runsPast (registers advertises) s n = ltb 65535 (beAt 2 s 6 + n) || ltb 281474976710655 (beAt 6 s 8 + n)
-runsPast (registers faileds) s n = ltb 65535 (beAt 2 s 6 + n) || ltb 281474976710655 (beAt 6 s 8 + n)
+runsPast (registers listeners) s n = ltb 65535 (beAt 2 s firstUnique + n)
+runsPast (registers advertises) s n = ltb 65535 (beAt 2 s firstUnique + n) || ltb 281474976710655 (beAt 6 s firstDestination + n)
+runsPast (registers faileds) s n = ltb 65535 (beAt 2 s firstUnique + n) || ltb 281474976710655 (beAt 6 s firstDestination + n)
 runsPast domain s n = ltb 255 (getD s 0 0 + n) || ltb 255 (getD s 1 0 + n)
 
 -- a value of the vector runs past its field: the last one does
 unfoldable pub overflows : Vector → Bool
 overflows v = not (eqb (v .values) 0) && runsPast (v .attribute) (v .first) (v .values - 1)
+
+-- What stands at a place of an AttributeList.
+
+-- a fault with its number, the EndMark, or a vector with its header
+pub data InList : Type 0 where
+  badVector : ℕ → InList
+  listEnd : InList
+  vectorHead : ℕ → InList
+
+-- "Checks: header (3), LeaveAllEvent (6), fits (3), event octets (6), values (7)"; "Header 00 00 is the EndMark". All but the
+-- values are read as in the lists of any MRP application, by the octets of FirstValue and whether FourPackedEvents follow
+unfoldable pub vectorIn : ℕ → Bool → List ℕ → ℕ → InList
+vectorIn first four l at =
+    let h = beAt 2 l at in
+    cond (ltb (length l) (at + 2)) (badVector 3)
+    (cond (eqb h 0) listEnd
+    (cond (ltb 1 (h / 8192)) (badVector 6)
+    (cond (ltb (length l) (vectorEnd first four at h)) (badVector 3)
+    (cond (overpacked (part (at + 2 + first) (threeLength (h % 8192)) l)) (badVector 6)
+    (vectorHead h)))))
+
+-- 3 too where "a list's EndMark isn't its last two octets"; and the values, of a type
+unfoldable pub checkedIn : Attribute → List ℕ → ℕ → InList → InList
+checkedIn k l at (badVector n) = badVector n
+checkedIn k l at listEnd = cond (eqb (at + 2) (length l)) listEnd (badVector 3)
+checkedIn k l at (vectorHead h) = cond (overflows (vectorAt k l at h)) (badVector 7) (vectorHead h)
+
+unfoldable pub typedIn : Attribute → List ℕ → ℕ → InList
+typedIn k l at = checkedIn k l at (vectorIn (firstLength k) (hasFour k) l at)
+
+-- What stands at a place of a PDU.
+
+-- a fault with its number, the end, or a Message: of a list that is skipped, or of a list to read, of its type
+pub data InPdu : Type 0 where
+  badMessage : ℕ → InPdu
+  pduEnd : InPdu
+  listSkipped : InPdu
+  listOf : Attribute → InPdu
+
+-- the list of a Message whose header stands at a place, as a part of the PDU, and the place after it
+unfoldable pub listLength : List ℕ → ℕ → ℕ
+listLength s at = beAt 2 s (at + 2)
+
+unfoldable pub listAt : List ℕ → ℕ → List ℕ
+listAt s at = part (at + 4) (listLength s at) s
+
+unfoldable pub messageEnd : List ℕ → ℕ → ℕ
+messageEnd s at = at + 4 + listLength s at
+
+-- 00 00
+unfoldable pub endMark : List ℕ → ℕ → Bool
+endMark s at = leb (at + 2) (length s) && eqb (beAt 2 s at) 0
+
+-- "A Message's checks: four header octets (3), type (4), length (5, known types), list within PDU (3)"; "types above 4 are
+-- skipped unread by their list length"
+unfoldable pub headerIn : TypeOctet → List ℕ → ℕ → InPdu
+headerIn notAllowed s at = badMessage 4
+headerIn unknown s at = cond (ltb (length s) (messageEnd s at)) (badMessage 3) listSkipped
+headerIn (known k) s at =
+    cond (not (eqb (getD s (at + 1) 0) (firstLength k))) (badMessage 5)
+    (cond (ltb (length s) (messageEnd s at)) (badMessage 3) (listOf k))
+
+unfoldable pub messageIn : ℕ → List ℕ → ℕ → InPdu
+messageIn version s at =
+    cond (eqb at (length s)) pduEnd
+    (cond (endMark s at) pduEnd
+    (cond (ltb (length s) (at + 4)) (badMessage 3)
+    (headerIn (typeOctet version (getD s at 0)) s at)))
 
 -- The walk.
 
@@ -119,59 +189,32 @@ both (fault n) w = fault n
 both (found vs) (fault n) = fault n
 both (found vs) (found ws) = found (vs ++ ws)
 
--- an AttributeList, from a place on: "Checks: header (3), LeaveAllEvent (6), fits (3), event octets (6), values (7)"; "Header
--- 00 00 is the EndMark", and 3 where it isn't the list's last two octets. (The first argument bounds the vectors left.)
+-- an AttributeList, from a place on. (The first argument bounds the vectors left.)
+unfoldable pub vectorsFrom : Attribute → List ℕ → ℕ → InList → (ℕ → Walk) → Walk
+vectorsFrom k l at (badVector n) rest = fault n
+vectorsFrom k l at listEnd rest = found []
+vectorsFrom k l at (vectorHead h) rest = also (vectorAt k l at h) (rest (vectorEnd (firstLength k) (hasFour k) at h))
+
 unfoldable pub vectors : ℕ → Attribute → List ℕ → ℕ → Walk
 vectors zero k l at = fault 3
-vectors (suc f) k l at =
-    let h = beAt 2 l at in
-    let v = vectorAt k l at h in
-    cond (ltb (length l) (at + 2)) (fault 3)
-    (cond (eqb h 0) (cond (eqb (at + 2) (length l)) (found []) (fault 3))
-    (cond (ltb 1 (h / 8192)) (fault 6)
-    (cond (ltb (length l) (vectorEnd k at h)) (fault 3)
-    (cond (overpacked (v .three)) (fault 6)
-    (cond (overflows v) (fault 7)
-    (also v (vectors f k l (vectorEnd k at h))))))))
-
--- the list of a Message whose header stands at a place, as a part of the PDU, and the place after it
-unfoldable pub listLength : List ℕ → ℕ → ℕ
-listLength s at = beAt 2 s (at + 2)
-
-unfoldable pub listAt : List ℕ → ℕ → List ℕ
-listAt s at = part (at + 4) (listLength s at) s
-
-unfoldable pub messageEnd : List ℕ → ℕ → ℕ
-messageEnd s at = at + 4 + listLength s at
-
--- 00 00
-unfoldable pub endMark : List ℕ → ℕ → Bool
-endMark s at = leb (at + 2) (length s) && eqb (beAt 2 s at) 0
-
--- "A Message's checks: four header octets (3), type (4), length (5, known types), list within PDU (3)"; "types above 4 are
--- skipped unread by their list length". The last argument is what the Messages after it give.
-unfoldable pub message : TypeOctet → List ℕ → ℕ → Walk → Walk
-message notAllowed s at rest = fault 4
-message unknown s at rest = cond (ltb (length s) (messageEnd s at)) (fault 3) rest
-message (known k) s at rest =
-    cond (not (eqb (getD s (at + 1) 0) (firstLength k))) (fault 5)
-    (cond (ltb (length s) (messageEnd s at)) (fault 3)
-    (both (vectors (suc (listLength s at)) k (listAt s at) 0) rest))
+vectors (suc f) k l at = vectorsFrom k l at (typedIn k l at) (vectors f k l)
 
 -- the Messages from a place on, to the EndMark or the end. (The first argument bounds the Messages left.)
+unfoldable pub messagesFrom : List ℕ → ℕ → InPdu → Walk → Walk
+messagesFrom s at (badMessage n) rest = fault n
+messagesFrom s at pduEnd rest = found []
+messagesFrom s at listSkipped rest = rest
+messagesFrom s at (listOf k) rest = both (vectors (suc (listLength s at)) k (listAt s at) 0) rest
+
 unfoldable pub messages : ℕ → ℕ → List ℕ → ℕ → Walk
 messages zero version s at = fault 3
-messages (suc f) version s at =
-    cond (eqb at (length s)) (found [])
-    (cond (endMark s at) (found [])
-    (cond (ltb (length s) (at + 4)) (fault 3)
-    (message (typeOctet version (getD s at 0)) s at (messages f version s (messageEnd s at)))))
+messages (suc f) version s at = messagesFrom s at (messageIn version s at) (messages f version s (messageEnd s at))
 
 -- a PDU: 2 "has 0 octets or more than 1,500"; then the walk, from behind the ProtocolVersion
 unfoldable pub walk : List ℕ → Walk
 walk s =
     cond (eqb (length s) 0) (fault 2)
-    (cond (ltb 1500 (length s)) (fault 2)
+    (cond (ltb longestPdu (length s)) (fault 2)
     (messages (suc (length s)) (getD s 0 0) s 1))
 
 -- Events.

@@ -5,16 +5,17 @@ use mathlib.Core.List.{List, [], _∷_}
 use Prim.Native.Nat.{ℕ, _≤_, _<_, _^_}
 use lib.ListN.{length}
 use Rattle.octets.specs.Fields.{Fit}
+use Rattle.model.specs.Layout.{cellWidths, nameWidths, portWidths, priorityBUnit, resultWidths}
 use Rattle.model.specs.Lists.{All}
 use Rattle.model.specs.State.{Settings, Talker, noTalker, talker, Cell, Result, Stream, Totals, Bridge}
 use Rattle.model.specs.Registrations.{ids}
 use Rattle.model.specs.WrittenFrames.{fixedNumbers}
-use Rattle.model.specs.Table.{cellWidths, cellNumbers, cellOctets, resultWidths, resultNumbers, resultOctets, nameWidths, streamOctets, portWidths, portNumbers, encode}
+use Rattle.model.specs.Table.{cellNumbers, cellOctets, resultNumbers, resultOctets, streamOctets, portNumbers, encode}
 
 -- a rank is one bit: it shares its octet with the priority, so that the octet's width alone does not say it
 abbrev pub FitRank : Talker → Type 0
 FitRank noTalker = Unit {0}
-FitRank (talker f v m l) = f .rank < 2
+FitRank (talker r) = r .fixed .rank < 2
 
 pub record FitCell (c : Cell) : Type 0 where
   pub numbers : Fit cellWidths (cellNumbers c)
@@ -35,7 +36,7 @@ pub record FitSettings (st : Settings) : Type 0 where
   pub bridgeId : st .bridgeId < 2 ^ 64
   pub priorityA : st .priorityA < 8
   pub priorityB : st .priorityB < 8
-  pub leaveTime : st .leaveTime < 16384
+  pub leaveTime : st .leaveTime < priorityBUnit
   pub eight-ports : length (st .ports) ≤ 8
   pub ports : All (λ q. Fit portWidths (portNumbers q)) (st .ports)
 

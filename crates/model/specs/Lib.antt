@@ -1,3 +1,5 @@
+pub mod Layout
+pub mod FrameLayout
 pub mod Lists
 pub mod State
 pub mod Registrations
@@ -5,6 +7,7 @@ pub mod Frames
 pub mod Bandwidth
 pub mod Settling
 pub mod Declarations
+pub mod Reports
 pub mod WrittenFrames
 pub mod Table
 pub mod Calls

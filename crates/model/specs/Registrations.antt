@@ -4,7 +4,7 @@ use mathlib.Core.Bool.{Bool, true, false, cond, _&&_}
 use Prim.Native.Nat.{ℕ, zero, suc, _-_}
 use lib.ListN.{length}
 use lib.Dec.{ltb, leb, eqb}
-use Rattle.model.specs.State.{Leaving, stays, since, Fixed, Health, sound, broken, Varying, Talker, noTalker, talker, Ready, Listener, noListener, listener, Cell, Stream, Bridge, fresh}
+use Rattle.model.specs.State.{Leaving, stays, since, Fixed, Health, sound, broken, Varying, Registration, Talker, noTalker, talker, Ready, Listener, noListener, listener, Cell, Stream, Bridge, fresh}
 
 -- the AttributeTypes that register
 pub data Kind : Type 0 where
@@ -35,10 +35,13 @@ hearsAs advertises = false
 hearsAs faileds = false
 hearsAs listeners = true
 
+unfoldable pub withLeaving : Leaving → Registration → Registration
+withLeaving l r = record { fixed = r .fixed; varying = r .varying; changed = r .changed; leaving = l }
+
 -- "Lv starts leaving, at the held clock, what is held of that StreamID and type"
 unfoldable pub quitTalker : ℕ → Kind → Talker → Talker
 quitTalker now k noTalker = noTalker
-quitTalker now k (talker f v c l) = talker f v c (cond (talksAs k (v .health)) (begin now l) l)
+quitTalker now k (talker r) = talker (withLeaving (cond (talksAs k (r .varying .health)) (begin now (r .leaving)) (r .leaving)) r)
 
 unfoldable pub quitListener : ℕ → Kind → Listener → Listener
 quitListener now k noListener = noListener
@@ -52,11 +55,21 @@ sameFixed f g =
     eqb (f .destination) (g .destination) && eqb (f .vlan) (g .vlan) && eqb (f .size) (g .size)
     && eqb (f .frames) (g .frames) && eqb (f .priority) (g .priority) && eqb (f .rank) (g .rank)
 
+unfoldable pub firstJoin : Fixed → Varying → Registration
+firstJoin f v = record { fixed = f; varying = v; changed = false; leaving = stays }
+
 -- "A Talker join whose destination, VLAN, TSpec, priority and rank equal the held ones replaces type, latency and failure
--- fields and clears the changed mark; else the held type and values stay, leaving ends all the same, and the mark is set"
+-- fields and clears the changed mark"
+unfoldable pub sameJoin : Varying → Registration → Registration
+sameJoin v r = record { fixed = r .fixed; varying = v; changed = false; leaving = stays }
+
+-- "else the held type and values stay, leaving ends all the same, and the mark is set"
+unfoldable pub otherJoin : Registration → Registration
+otherJoin r = record { fixed = r .fixed; varying = r .varying; changed = true; leaving = stays }
+
 unfoldable pub joinTalker : Fixed → Varying → Talker → Talker
-joinTalker f v noTalker = talker f v false stays
-joinTalker f v (talker g w c l) = cond (sameFixed f g) (talker g v false stays) (talker g w true stays)
+joinTalker f v noTalker = talker (firstJoin f v)
+joinTalker f v (talker r) = talker (cond (sameFixed f (r .fixed)) (sameJoin v r) (otherJoin r))
 
 -- what an act does to the one cell that it is about; "A Listener join replaces the declaration type"
 unfoldable pub does : ℕ → Act → Cell → Cell

@@ -4,7 +4,7 @@ use mathlib.Core.Bool.{Bool, true, false, cond, not, _&&_, _||_}
 use Prim.Native.Nat.{ℕ, suc, _+_, _/_}
 use lib.Dec.{ltb, leb, eqb}
 use Rattle.model.specs.Lists.{keep, tabulate}
-use Rattle.model.specs.State.{Settings, Leaving, stays, since, Fixed, Health, sound, broken, Varying, Talker, noTalker, talker, Ready, askingFailed, ready, readyFailed, Listener, noListener, listener, Cell, Column, none, advertise, failed, Entry, noEntry, filters, forwards, Declared, nothing, tells, Result, Stream, Totals, Bridge, noFixed, portAt, isPort, cellAt, resultAt, Class, classA, classB, classOf, isNoClass, sameClass, supports, limit, classLatency}
+use Rattle.model.specs.State.{Settings, Leaving, stays, since, Fixed, Health, sound, broken, Registration, Talker, noTalker, talker, Ready, askingFailed, ready, readyFailed, Listener, noListener, listener, Cell, Column, none, advertise, failed, Entry, noEntry, filters, forwards, Declared, nothing, tells, Result, Stream, Totals, Bridge, noFixed, portAt, isPort, cellAt, resultAt, Class, classA, classB, classOf, isNoClass, sameClass, supports, limit, classLatency}
 use Rattle.model.specs.Registrations.{Answer}
 use Rattle.model.specs.Bandwidth.{Claim, demand, rateOf, remains, total}
 
@@ -16,7 +16,7 @@ expired st now (since t) = leb (t + st .leaveTime) now
 
 unfoldable pub expireTalker : Settings → ℕ → Talker → Talker
 expireTalker st now noTalker = noTalker
-expireTalker st now (talker f v c l) = cond (expired st now l) noTalker (talker f v c l)
+expireTalker st now (talker r) = cond (expired st now (r .leaving)) noTalker (talker r)
 
 unfoldable pub expireListener : Settings → ℕ → Listener → Listener
 expireListener st now noListener = noListener
@@ -29,7 +29,7 @@ unfoldable pub expire : Settings → ℕ → Stream → Stream
 expire st now x = record { id = x .id; settled = x .settled; cells = map (expireCell st now) (x .cells); results = x .results }
 
 unfoldable pub isTalking : Cell → Bool
-isTalking c = elim (c .talks) [ noTalker ↦ false | talker f v m l ↦ true ]
+isTalking c = elim (c .talks) [ noTalker ↦ false | talker r ↦ true ]
 
 unfoldable pub isHearing : Cell → Bool
 isHearing c = elim (c .hears) [ noListener ↦ false | listener r l ↦ true ]
@@ -45,28 +45,37 @@ remain st now (x ∷ s) = keep (held (expire st now x .cells)) (expire st now x)
 
 -- The Talker: "The Talker port t of a stream is the lowest port with a Talker registration"; with what is registered there.
 
+-- the Talker port
+pub record Origin : Type 0 where
+  pub port : ℕ
+  pub registration : Registration
+
 pub data Source : Type 0 where
   nowhere : Source
-  from : (port : ℕ) → Fixed → Varying → (changed : Bool) → Source
+  from : Origin → Source
 
 unfoldable pub source : ℕ → List Cell → Source
 source p [] = nowhere
-source p (c ∷ cs) = elim (c .talks) [ noTalker ↦ source (suc p) cs | talker f v m l ↦ from p f v m ]
+source p (c ∷ cs) = elim (c .talks) [ noTalker ↦ source (suc p) cs | talker r ↦ from record { port = p; registration = r } ]
 
 unfoldable pub sourceOf : Stream → Source
 sourceOf x = source 0 (x .cells)
 
 unfoldable pub isSource : Source → ℕ → Bool
 isSource nowhere p = false
-isSource (from t f v m) p = eqb t p
+isSource (from o) p = eqb (o .port) p
 
 unfoldable pub fixedOf : Source → Fixed
 fixedOf nowhere = noFixed
-fixedOf (from t f v m) = f
+fixedOf (from o) = o .registration .fixed
 
 unfoldable pub latencyOf : Source → ℕ
 latencyOf nowhere = 0
-latencyOf (from t f v m) = v .latency
+latencyOf (from o) = o .registration .varying .latency
+
+unfoldable pub healthOf : Source → Health
+healthOf nowhere = sound
+healthOf (from o) = o .registration .varying .health
 
 unfoldable pub streamClass : Settings → Stream → Class
 streamClass st x = classOf st (fixedOf (sourceOf x) .priority)
@@ -88,14 +97,23 @@ isAdvertise (failed b c) = false
 
 -- The column: "first that applies".
 
-unfoldable pub first : List (Bool × Column) → Column → Column
-first [] c = c
-first (s ∷ l) c = cond (s .0) (s .1) (first l c)
+-- what a step gives: column none, the failure registered at t, or an own failure of some code
+pub data Outcome : Type 0 where
+  columnNone asRegistered : Outcome
+  ownFailure : (code : ℕ) → Outcome
+
+pub record Step : Type 0 where
+  pub test : Bool
+  pub outcome : Outcome
+
+unfoldable pub first : (Outcome → Column) → List Step → Column → Column
+first says [] c = c
+first says (s ∷ l) c = cond (s .test) (says (s .outcome)) (first says l c)
 
 -- none of the steps applies
-unfoldable pub clear : List (Bool × Column) → Bool
+unfoldable pub clear : List Step → Bool
 clear [] = true
-clear (s ∷ l) = not (s .0) && clear l
+clear (s ∷ l) = not (s .test) && clear l
 
 unfoldable pub isBroken : Health → Bool
 isBroken sound = false
@@ -105,24 +123,30 @@ unfoldable pub brokenColumn : Health → Column
 brokenColumn sound = none
 brokenColumn (broken b c) = failed b c
 
--- steps a to g on the port at place p; "Own failures carry this Bridge ID"
-unfoldable pub stepsFrom : Settings → ℕ → Cell → Source → List (Bool × Column)
-stepsFrom st p here nowhere = (true, none) ∷ []
-stepsFrom st p here (from t f v changed) =
-    let c = classOf st (f .priority) in
-    let own : ℕ → Column = failed (st .bridgeId) in
-    (eqb p t, none)
-    ∷ (not (supports (portAt st p) c), none)
-    ∷ (isBroken (v .health), brokenColumn (v .health))
-    ∷ (changed, own 16)
-    ∷ (isTalking here, own 4)
-    ∷ (isNoClass c, own 13)
-    ∷ (ltb (portAt st p .largest) (f .size), own 14)
+-- the column that an outcome is; "Own failures carry this Bridge ID"
+unfoldable pub outcomeColumn : Settings → Source → Outcome → Column
+outcomeColumn st s columnNone = none
+outcomeColumn st s asRegistered = brokenColumn (healthOf s)
+outcomeColumn st s (ownFailure code) = failed (st .bridgeId) code
+
+-- steps a to g on the port at place p
+unfoldable pub stepsFrom : Settings → ℕ → Cell → Source → List Step
+stepsFrom st p here nowhere = record { test = true; outcome = columnNone } ∷ []
+stepsFrom st p here (from o) =
+    let r = o .registration in
+    let c = classOf st (r .fixed .priority) in
+    record { test = eqb p (o .port); outcome = columnNone }
+    ∷ record { test = not (supports (portAt st p) c); outcome = columnNone }
+    ∷ record { test = isBroken (r .varying .health); outcome = asRegistered }
+    ∷ record { test = r .changed; outcome = ownFailure 16 }
+    ∷ record { test = isTalking here; outcome = ownFailure 4 }
+    ∷ record { test = isNoClass c; outcome = ownFailure 13 }
+    ∷ record { test = ltb (portAt st p .largest) (r .fixed .size); outcome = ownFailure 14 }
     ∷ []
 
 -- a place that is no port of this bridge has column none
-unfoldable pub steps : Settings → ℕ → Stream → List (Bool × Column)
-steps st p x = (not (isPort st p), none) ∷ stepsFrom st p (cellAt x p) (sourceOf x)
+unfoldable pub steps : Settings → ℕ → Stream → List Step
+steps st p x = record { test = not (isPort st p); outcome = columnNone } ∷ stepsFrom st p (cellAt x p) (sourceOf x)
 
 -- "Age is counted from the whole second, clock / 100 rounded down, of the advance that first made an entry"; "An entry made
 -- by this advance counts from this advance in the order above"
@@ -161,7 +185,7 @@ unfoldable pub byBandwidth : Settings → ℕ → ℕ → Column
 byBandwidth st demand left = cond (ltb left demand) (failed (st .bridgeId) 1) advertise
 
 unfoldable pub columnOf : Settings → ℕ → List Stream → ℕ → Stream → Column
-columnOf st now s p x = first (steps st p x) (byBandwidth st (claim st now p x .demand) (leftFor st now s p x))
+columnOf st now s p x = first (outcomeColumn st (sourceOf x)) (steps st p x) (byBandwidth st (claim st now p x .demand) (leftFor st now s p x))
 
 -- "Latency out is latency in plus the class latency of p (0 without a class), at most 2^32 - 1"
 unfoldable pub capped : ℕ → ℕ

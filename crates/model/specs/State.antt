@@ -50,9 +50,16 @@ pub record Varying : Type 0 where
   pub health : Health
   pub latency : ℕ
 
+-- what a port has registered of a Talker
+pub record Registration : Type 0 where
+  pub fixed : Fixed
+  pub varying : Varying
+  pub changed : Bool
+  pub leaving : Leaving
+
 pub data Talker : Type 0 where
   noTalker : Talker
-  talker : Fixed → Varying → (changed : Bool) → Leaving → Talker
+  talker : Registration → Talker
 
 -- the three declaration types of a Listener
 pub data Ready : Type 0 where
@@ -157,6 +164,14 @@ cellAt x p = getD (x .cells) p empty
 
 unfoldable pub resultAt : Stream → ℕ → Result
 resultAt x p = getD (x .results) p unsettled
+
+-- the stream at place k; past the last one stands one that has no StreamID and no results
+abbrev pub streamAt : ℕ → Bridge → Stream
+streamAt k b = getD (b .streams) k (fresh 0)
+
+-- the totals of the port at place p
+abbrev pub totalsAt : ℕ → Bridge → Totals
+totalsAt p b = getD (b .totals) p noTotals
 
 -- Classes (01, settings' class priorities; 35.2.2.9.2).
 

@@ -1,6 +1,6 @@
 -- The lent table and the settings, as octets and back, and the rules of their form (docs/TABLE.md; 01, "Numbers given back":
 -- 11 and 12). A table is: settings, clock, streams held, totals of eight ports, 64 stream records. A stream record is: StreamID,
--- settled values, eight cells, eight results. What is not used is zero.
+-- settled values, eight cells, eight results. What is not used is zero. The number behind a rule is its number in docs/TABLE.md.
 use mathlib.Core.List.{List, [], _∷_, _++_}
 use mathlib.Core.Bool.{Bool, true, false, cond, not, _&&_, _||_}
 use Prim.Native.Nat.{ℕ, zero, suc, _+_, _*_, _-_, _/_, _%_}
@@ -9,19 +9,13 @@ use lib.Dec.{ltb, leb, eqb}
 use Rattle.octets.specs.Be.{beAt}
 use Rattle.octets.specs.Parts.{part, zeros}
 use Rattle.octets.specs.Fields.{fields, packed, flat}
+use Rattle.model.specs.Layout.{ageField, bridgeField, cellFields, cellSize, cellWidths, cellsPlace, cellsSize, changedField, clockPlace, clockWidths, codeField, columnField, countPlace, declaredField, entryField, failureCodeField, failureField, fixedField, headWidths, latencyField, latencyOutField, listenerField, listenerLeavesField, listenerPlace, listenerSinceField, nameWidths, portPlace, portSize, portWidths, portsPlace, portsUnit, priorityAUnit, priorityBUnit, priorityField, recordSize, recordsPlace, resultSize, resultWidths, resultsPlace, resultsSize, settingsSize, settledPriorityPlace, tableLength, talkerField, talkerLeavesField, talkerSinceField, totalBPlace, totalSize, totalsPlace, totalsSize, totalsWidths, wordPlace}
 use Rattle.model.specs.Lists.{allTrue, implies, parts, bit, isOne}
-use Rattle.model.specs.State.{Port, Settings, Leaving, stays, since, Fixed, Health, sound, broken, Talker, noTalker, talker, Ready, askingFailed, ready, readyFailed, Listener, noListener, listener, Cell, Column, none, advertise, failed, Entry, noEntry, filters, forwards, Declared, nothing, tells, Result, Stream, Totals, Bridge}
+use Rattle.model.specs.State.{Port, Settings, Leaving, stays, since, Fixed, Health, sound, broken, Registration, Talker, noTalker, talker, Ready, askingFailed, ready, readyFailed, Listener, noListener, listener, Cell, Column, none, advertise, failed, Entry, noEntry, filters, forwards, Declared, nothing, tells, Result, Stream, Totals, Bridge}
 use Rattle.model.specs.Frames.{priorityOf, rankOf}
 use Rattle.model.specs.WrittenFrames.{fixedNumbers, readyNumber}
 
 -- Settings: Bridge ID; one field of ports 4 bits, class priorities 3 and 3, leave time 14; then each port.
-
-unfoldable pub headWidths : List ℕ
-headWidths = 8 ∷ 3 ∷ []
-
--- flags (supports A, supports B, sends twice, five zeros), overhead, largest frame, limits, latencies
-unfoldable pub portWidths : List ℕ
-portWidths = 1 ∷ 1 ∷ 2 ∷ 5 ∷ 5 ∷ 4 ∷ 4 ∷ []
 
 unfoldable pub portNumbers : Port → List ℕ
 portNumbers q =
@@ -48,22 +42,22 @@ unfoldable pub toPort : List ℕ → Port
 toPort s = portFrom (fields portWidths 0 s)
 
 unfoldable pub headWord : Settings → ℕ
-headWord st = ((length (st .ports) * 8 + st .priorityA) * 8 + st .priorityB) * 16384 + st .leaveTime
+headWord st = ((length (st .ports) * 8 + st .priorityA) * 8 + st .priorityB) * priorityBUnit + st .leaveTime
 
 -- as they are handed to start
 unfoldable pub settingsOctets : Settings → List ℕ
 settingsOctets st = packed headWidths (st .bridgeId ∷ headWord st ∷ []) ++ flat portOctets (st .ports)
 
 unfoldable pub portsField : List ℕ → ℕ
-portsField s = beAt 3 s 8 / 1048576
+portsField s = beAt 3 s wordPlace / portsUnit
 
 unfoldable pub toSettings : List ℕ → Settings
 toSettings s = record {
   bridgeId = beAt 8 s 0;
-  priorityA = beAt 3 s 8 / 131072 % 8;
-  priorityB = beAt 3 s 8 / 16384 % 8;
-  leaveTime = beAt 3 s 8 % 16384;
-  ports = parts 22 toPort (portsField s) (drop 11 s);
+  priorityA = beAt 3 s wordPlace / priorityAUnit % 8;
+  priorityB = beAt 3 s wordPlace / priorityBUnit % 8;
+  leaveTime = beAt 3 s wordPlace % priorityBUnit;
+  ports = parts portSize toPort (portsField s) (drop portsPlace s);
 }
 
 -- "zero 5": the five bits after a port's flags
@@ -77,24 +71,18 @@ everyPart n rule (suc k) s = rule (take n s) && everyPart n rule k (drop n s)
 -- "ports 4 (1 to 8), class A priority 3, class B priority 3 (different), leave time 14 (1 or more, hundredths)"
 unfoldable pub settingsRules : List ℕ → List Bool
 settingsRules s =
-    leb 1 (portsField s)
-    ∷ leb (portsField s) 8
-    ∷ not (eqb (beAt 3 s 8 / 131072 % 8) (beAt 3 s 8 / 16384 % 8))
-    ∷ leb 1 (beAt 3 s 8 % 16384)
-    ∷ everyPart 22 portRule (portsField s) (drop 11 s)
+    leb 1 (portsField s)  -- 2
+    ∷ leb (portsField s) 8  -- 2
+    ∷ not (eqb (beAt 3 s wordPlace / priorityAUnit % 8) (beAt 3 s wordPlace / priorityBUnit % 8))  -- 3
+    ∷ leb 1 (beAt 3 s wordPlace % priorityBUnit)  -- 4
+    ∷ everyPart portSize portRule (portsField s) (drop portsPlace s)  -- 5
     ∷ []
 
 -- 11: settings "Length 11 + 22 x ports", and as laid out
 unfoldable pub settingsFormed : List ℕ → Bool
-settingsFormed s = eqb (length s) (11 + 22 * portsField s) && allTrue (settingsRules s)
+settingsFormed s = eqb (length s) (portPlace (portsField s)) && allTrue (settingsRules s)
 
 -- A cell: Talker, then Listener.
-
--- Talker: kind (0 none, 1 Advertise, 2 Failed), changed mark, leaving, since, destination, VLAN, MaxFrameSize,
--- MaxIntervalFrames, priority and rank, latency, Bridge ID, code. Listener: kind (0 none, 1 Asking Failed, 2 Ready, 3 Ready
--- Failed), leaving, since.
-unfoldable pub cellWidths : List ℕ
-cellWidths = 1 ∷ 1 ∷ 1 ∷ 4 ∷ 6 ∷ 2 ∷ 2 ∷ 2 ∷ 1 ∷ 4 ∷ 8 ∷ 1 ∷ 1 ∷ 1 ∷ 4 ∷ []
 
 unfoldable pub leavingNumber : Leaving → ℕ
 leavingNumber stays = 0
@@ -123,13 +111,14 @@ unfoldable pub toHealth : ℕ → ℕ → ℕ → Health
 toHealth k b c = cond (eqb k 1) sound (broken b c)
 
 unfoldable pub talkerNumbers : Talker → List ℕ
-talkerNumbers noTalker = replicate 12 0
-talkerNumbers (talker f v m l) =
-    healthNumber (v .health) ∷ bit m ∷ leavingNumber l ∷ sinceNumber l
-    ∷ (fixedNumbers f ++ (v .latency ∷ bridgeNumber (v .health) ∷ codeNumber (v .health) ∷ []))
+talkerNumbers noTalker = replicate listenerField 0
+talkerNumbers (talker r) =
+    let v = r .varying in
+    healthNumber (v .health) ∷ bit (r .changed) ∷ leavingNumber (r .leaving) ∷ sinceNumber (r .leaving)
+    ∷ (fixedNumbers (r .fixed) ++ (v .latency ∷ bridgeNumber (v .health) ∷ codeNumber (v .health) ∷ []))
 
 unfoldable pub listenerNumbers : Listener → List ℕ
-listenerNumbers noListener = replicate 3 0
+listenerNumbers noListener = replicate (cellFields - listenerField) 0
 listenerNumbers (listener r l) = readyNumber r ∷ leavingNumber l ∷ sinceNumber l ∷ []
 
 unfoldable pub cellNumbers : Cell → List ℕ
@@ -149,16 +138,21 @@ fixedFrom i vs = record {
 unfoldable pub toReady : ℕ → Ready
 toReady k = cond (eqb k 1) askingFailed (cond (eqb k 2) ready readyFailed)
 
+unfoldable pub registrationFrom : List ℕ → Registration
+registrationFrom vs = record {
+  fixed = fixedFrom fixedField vs;
+  varying = record { health = toHealth (getD vs talkerField 0) (getD vs bridgeField 0) (getD vs codeField 0); latency = getD vs latencyField 0 };
+  changed = isOne (getD vs changedField 0);
+  leaving = toLeaving (getD vs talkerLeavesField 0) (getD vs talkerSinceField 0);
+}
+
 unfoldable pub talkerFrom : List ℕ → Talker
-talkerFrom vs =
-    cond (eqb (getD vs 0 0) 0) noTalker
-    (talker (fixedFrom 4 vs) record { health = toHealth (getD vs 0 0) (getD vs 10 0) (getD vs 11 0); latency = getD vs 9 0 }
-    (isOne (getD vs 1 0)) (toLeaving (getD vs 2 0) (getD vs 3 0)))
+talkerFrom vs = cond (eqb (getD vs talkerField 0) 0) noTalker (talker (registrationFrom vs))
 
 unfoldable pub listenerFrom : List ℕ → Listener
 listenerFrom vs =
-    cond (eqb (getD vs 12 0) 0) noListener
-    (listener (toReady (getD vs 12 0)) (toLeaving (getD vs 13 0) (getD vs 14 0)))
+    cond (eqb (getD vs listenerField 0) 0) noListener
+    (listener (toReady (getD vs listenerField 0)) (toLeaving (getD vs listenerLeavesField 0) (getD vs listenerSinceField 0)))
 
 unfoldable pub cellFrom : List ℕ → Cell
 cellFrom vs = record { talks = talkerFrom vs; hears = listenerFrom vs }
@@ -168,6 +162,10 @@ cellOctets c = packed cellWidths (cellNumbers c)
 
 unfoldable pub toCell : List ℕ → Cell
 toCell s = cellFrom (fields cellWidths 0 s)
+
+-- the numbers of the fields from a on, up to b
+abbrev pub between : ℕ → ℕ → List ℕ → List ℕ
+between a b vs = take (b - a) (drop a vs)
 
 -- numbers that are all zero
 unfoldable pub allZero : List ℕ → Bool
@@ -179,17 +177,19 @@ unfoldable pub leavingRule : ℕ → ℕ → ℕ → ℕ → Bool
 leavingRule clock leave k t =
     cond (eqb k 0) (eqb t 0) (eqb k 1 && (leb t clock && ltb clock (t + leave)))
 
+-- the rules of a cell's numbers
 unfoldable pub cellRules : ℕ → ℕ → List ℕ → List Bool
 cellRules clock leave vs =
-    leb (getD vs 0 0) 2
-    ∷ leb (getD vs 1 0) 1
-    ∷ leavingRule clock leave (getD vs 2 0) (getD vs 3 0)
-    ∷ eqb (getD vs 8 0 % 16) 0
-    ∷ implies (eqb (getD vs 0 0) 0) (allZero (take 11 (drop 1 vs)))
-    ∷ implies (eqb (getD vs 0 0) 1) (allZero (take 2 (drop 10 vs)))
-    ∷ leb (getD vs 12 0) 3
-    ∷ leavingRule clock leave (getD vs 13 0) (getD vs 14 0)
-    ∷ implies (eqb (getD vs 12 0) 0) (allZero (take 2 (drop 13 vs)))
+    let at : ℕ → ℕ = λ i. getD vs i 0 in
+    leb (at talkerField) 2  -- 14
+    ∷ leb (at changedField) 1  -- 15
+    ∷ leavingRule clock leave (at talkerLeavesField) (at talkerSinceField)  -- 16
+    ∷ eqb (at priorityField % 16) 0  -- 17
+    ∷ implies (eqb (at talkerField) 0) (allZero (between changedField listenerField vs))  -- 18
+    ∷ implies (eqb (at talkerField) 1) (allZero (at bridgeField ∷ at codeField ∷ []))  -- 19
+    ∷ leb (at listenerField) 3  -- 14
+    ∷ leavingRule clock leave (at listenerLeavesField) (at listenerSinceField)  -- 16
+    ∷ implies (eqb (at listenerField) 0) (allZero (at listenerLeavesField ∷ at listenerSinceField ∷ []))  -- 18
     ∷ []
 
 unfoldable pub cellFormed : ℕ → ℕ → List ℕ → Bool
@@ -197,9 +197,6 @@ cellFormed clock leave s = allTrue (cellRules clock leave (fields cellWidths 0 s
 
 -- A result: column (0 none, 1 Advertise, 2 Failed), latency out, Bridge ID, code, entry (0 none, 1 filter, 2 forward), the second
 -- its age counts from, Listener declared.
-
-unfoldable pub resultWidths : List ℕ
-resultWidths = 1 ∷ 4 ∷ 8 ∷ 1 ∷ 1 ∷ 4 ∷ 1 ∷ []
 
 unfoldable pub columnNumber : Column → ℕ
 columnNumber none = 0
@@ -254,17 +251,19 @@ resultOctets r = packed resultWidths (resultNumbers r)
 unfoldable pub toResult : List ℕ → Result
 toResult s = resultFrom (fields resultWidths 0 s)
 
+-- the rules of a result's numbers
 unfoldable pub resultRules : ℕ → List ℕ → List Bool
 resultRules clock vs =
-    leb (getD vs 0 0) 2
-    ∷ implies (eqb (getD vs 0 0) 0) (eqb (getD vs 1 0) 0)
-    ∷ implies (leb (getD vs 0 0) 1) (allZero (take 2 (drop 2 vs)))
-    ∷ leb (getD vs 4 0) 2
-    ∷ implies (not (eqb (getD vs 0 0) 0)) (leb 1 (getD vs 4 0))
-    ∷ implies (not (eqb (getD vs 0 0) 1)) (leb (getD vs 4 0) 1)
-    ∷ implies (eqb (getD vs 4 0) 0) (eqb (getD vs 5 0) 0)
-    ∷ leb (getD vs 5 0) (clock / 100)
-    ∷ leb (getD vs 6 0) 3
+    let at : ℕ → ℕ = λ i. getD vs i 0 in
+    leb (at columnField) 2  -- 20
+    ∷ implies (eqb (at columnField) 0) (eqb (at latencyOutField) 0)  -- 21
+    ∷ implies (leb (at columnField) 1) (allZero (at failureField ∷ at failureCodeField ∷ []))  -- 22
+    ∷ leb (at entryField) 2  -- 20
+    ∷ implies (not (eqb (at columnField) 0)) (leb 1 (at entryField))  -- 23
+    ∷ implies (not (eqb (at columnField) 1)) (leb (at entryField) 1)  -- 23
+    ∷ implies (eqb (at entryField) 0) (eqb (at ageField) 0)  -- 24
+    ∷ leb (at ageField) (clock / 100)  -- 24
+    ∷ leb (at declaredField) 3  -- 20
     ∷ []
 
 unfoldable pub resultFormed : ℕ → List ℕ → Bool
@@ -272,42 +271,39 @@ resultFormed clock s = allTrue (resultRules clock (fields resultWidths 0 s))
 
 -- A stream record of 493 octets: StreamID and settled values, 21 octets; cells of 39; results of 20.
 
-unfoldable pub nameWidths : List ℕ
-nameWidths = 8 ∷ 6 ∷ 2 ∷ 2 ∷ 2 ∷ 1 ∷ []
-
 unfoldable pub streamOctets : Stream → List ℕ
 streamOctets x =
     packed nameWidths (x .id ∷ fixedNumbers (x .settled))
     ++ (flat cellOctets (x .cells) ++ flat resultOctets (x .results))
 
 unfoldable pub cellsPart : List ℕ → List ℕ
-cellsPart s = part 21 312 s
+cellsPart s = part cellsPlace cellsSize s
 
 unfoldable pub resultsPart : List ℕ → List ℕ
-resultsPart s = part 333 160 s
+resultsPart s = part resultsPlace resultsSize s
 
 unfoldable pub toStream : List ℕ → Stream
 toStream s = record {
   id = beAt 8 s 0;
   settled = fixedFrom 1 (fields nameWidths 0 s);
-  cells = parts 39 toCell 8 (cellsPart s);
-  results = parts 20 toResult 8 (resultsPart s);
+  cells = parts cellSize toCell 8 (cellsPart s);
+  results = parts resultSize toResult 8 (resultsPart s);
 }
 
 -- some port has a registration: a kind that is not 0, of a Talker or of a Listener
 unfoldable pub holds : ℕ → List ℕ → Bool
 holds zero s = false
-holds (suc k) s = not (eqb (getD s 0 0) 0) || not (eqb (getD s 33 0) 0) || holds k (drop 39 s)
+holds (suc k) s = not (eqb (getD s 0 0) 0) || not (eqb (getD s listenerPlace 0) 0) || holds k (drop cellSize s)
 
 -- at a bridge of so many ports; what belongs to no port is zero
 unfoldable pub streamRules : ℕ → ℕ → ℕ → List ℕ → List Bool
 streamRules ports clock leave s =
-    eqb (getD s 20 0 % 16) 0
-    ∷ everyPart 39 (cellFormed clock leave) ports (cellsPart s)
-    ∷ holds ports (cellsPart s)
-    ∷ allZero (drop (39 * ports) (cellsPart s))
-    ∷ everyPart 20 (resultFormed clock) ports (resultsPart s)
-    ∷ allZero (drop (20 * ports) (resultsPart s))
+    eqb (getD s settledPriorityPlace 0 % 16) 0  -- 11
+    ∷ everyPart cellSize (cellFormed clock leave) ports (cellsPart s)  -- 14 to 19
+    ∷ holds ports (cellsPart s)  -- 12
+    ∷ allZero (drop (ports * cellSize) (cellsPart s))  -- 13
+    ∷ everyPart resultSize (resultFormed clock) ports (resultsPart s)  -- 20 to 24
+    ∷ allZero (drop (ports * resultSize) (resultsPart s))  -- 13
     ∷ []
 
 unfoldable pub streamFormed : ℕ → ℕ → ℕ → List ℕ → Bool
@@ -315,48 +311,42 @@ streamFormed ports clock leave s = allTrue (streamRules ports clock leave s)
 
 -- The table of 31,824 octets: settings 187, clock 4, streams held 1, totals 80, records 31,552.
 
-unfoldable pub tableLength : ℕ
-tableLength = 31824
-
-unfoldable pub totalsWidths : List ℕ
-totalsWidths = 5 ∷ 5 ∷ []
-
 unfoldable pub totalsOctets : Totals → List ℕ
 totalsOctets t = packed totalsWidths (t .totalA ∷ t .totalB ∷ [])
 
 unfoldable pub toTotals : List ℕ → Totals
-toTotals s = record { totalA = beAt 5 s 0; totalB = beAt 5 s 5 }
+toTotals s = record { totalA = beAt 5 s 0; totalB = beAt 5 s totalBPlace }
 
 unfoldable pub encode : Bridge → List ℕ
 encode b =
     settingsOctets (b .settings)
-    ++ (zeros (22 * (8 - length (b .settings .ports)))
-    ++ (packed (4 ∷ 1 ∷ []) (b .clock ∷ length (b .streams) ∷ [])
+    ++ (zeros ((8 - length (b .settings .ports)) * portSize)
+    ++ (packed clockWidths (b .clock ∷ length (b .streams) ∷ [])
     ++ (flat totalsOctets (b .totals)
     ++ (flat streamOctets (b .streams)
-    ++ zeros (493 * (64 - length (b .streams)))))))
+    ++ zeros ((64 - length (b .streams)) * recordSize)))))
 
 unfoldable pub settingsPart : List ℕ → List ℕ
-settingsPart t = part 0 187 t
+settingsPart t = part 0 settingsSize t
 
 unfoldable pub clockField : List ℕ → ℕ
-clockField t = beAt 4 t 187
+clockField t = beAt 4 t clockPlace
 
 unfoldable pub countField : List ℕ → ℕ
-countField t = getD t 191 0
+countField t = getD t countPlace 0
 
 unfoldable pub totalsPart : List ℕ → List ℕ
-totalsPart t = part 192 80 t
+totalsPart t = part totalsPlace totalsSize t
 
 unfoldable pub recordsPart : List ℕ → List ℕ
-recordsPart t = drop 272 t
+recordsPart t = drop recordsPlace t
 
 unfoldable pub decode : List ℕ → Bridge
 decode t = record {
   settings = toSettings (settingsPart t);
   clock = clockField t;
-  totals = parts 10 toTotals 8 (totalsPart t);
-  streams = parts 493 toStream (countField t) (recordsPart t);
+  totals = parts totalSize toTotals 8 (totalsPart t);
+  streams = parts recordSize toStream (countField t) (recordsPart t);
 }
 
 -- StreamIDs rise
@@ -378,13 +368,13 @@ unfoldable pub tableRules : List ℕ → List Bool
 tableRules t =
     let s = settingsPart t in
     let n = countField t in
-    allTrue (settingsRules s)
-    ∷ allZero (drop (11 + 22 * portsField s) s)
-    ∷ totalsWithin (parts 10 toTotals 8 (totalsPart t)) (toSettings s .ports)
-    ∷ leb n 64
-    ∷ everyPart 493 (streamFormed (portsField s) (clockField t) (toSettings s .leaveTime)) n (recordsPart t)
-    ∷ rising (parts 493 idOf n (recordsPart t))
-    ∷ allZero (drop (493 * n) (recordsPart t))
+    allTrue (settingsRules s)  -- 2 to 5
+    ∷ allZero (drop (portPlace (portsField s)) s)  -- 6
+    ∷ totalsWithin (parts totalSize toTotals 8 (totalsPart t)) (toSettings s .ports)  -- 7
+    ∷ leb n 64  -- 8
+    ∷ everyPart recordSize (streamFormed (portsField s) (clockField t) (toSettings s .leaveTime)) n (recordsPart t)  -- 11 to 24
+    ∷ rising (parts recordSize idOf n (recordsPart t))  -- 9
+    ∷ allZero (drop (n * recordSize) (recordsPart t))  -- 10
     ∷ []
 
 -- 12: "table has the wrong length (one length for every port count) or breaks a form rule"

@@ -1,194 +1,48 @@
--- What a walk that applies an accepted PDU reads is what the definitions apply: the parts of each vector at its places, the
--- event, StreamID and destination of each value, and the vectors that are left after each step. Assumes nothing.
-use mathlib.Core.Path.{_≡_, refl, sym, ap, _∙_}
+-- What a walk that applies an accepted PDU reads is what the definitions apply: the parts of each vector at its places, and the
+-- vectors that are left after each step. Assumes nothing.
+use mathlib.Core.Path.{_≡_, refl, sym, ap, subst, _∙_}
 use mathlib.Core.List.{List, [], _∷_, _++_, append-assoc}
-use mathlib.Core.Bool.{false}
-use Prim.Native.Nat.{ℕ, suc, _+_, _-_, _/_, _%_, _≤_, _<_}
+use Prim.Native.Nat.{ℕ, suc, _+_, _-_, _%_, _≤_}
 use native.Mathlib.Omega.{arith}
 use lib.ListN.{length, getD, take, drop}
 use lib.Dec.{ltb, eqb}
-use borrow.Author.Tests.{ltb-false, eqb-false, lt-ltb, ne-eqb}
+use borrow.Author.Tests.{ltb-false, eqb-false}
 use Rattle.octets.specs.Be.{beAt}
-use Rattle.octets.specs.Fields.{fields}
-use Rattle.octets.proofs.Parts.{lent-part, length-part}
-use Rattle.model.specs.Registrations.{Kind, advertises, faileds, listeners}
-use Rattle.model.specs.Frames.{Attribute, registers, TypeOctet, notAllowed, unknown, known, typeOctet, firstWidths, firstLength, threeLength, fourLength, Vector, vectorAt, vectorEnd, overflows, runsPast, Walk, fault, found, also, both, messages, walk, eventOf, fourOf, Asking, nothingAsked, join, withdraw, asking, fixedValue, idValue, vectorActs, frameActs}
-use Rattle.model.specs.Frames as frames
+use Rattle.octets.specs.Parts.{part}
+use Rattle.octets.proofs.Parts.{lent-length}
+use Rattle.model.specs.FrameLayout.{longestPdu}
+use Rattle.model.specs.Frames.{Attribute, TypeOctet, notAllowed, unknown, known, typeOctet, firstLength, threeLength, hasFour, fourLength, Vector, vectorAt, vectorEnd, vectorHead, typedIn, Walk, fault, found, also, both, messages, walk, vectorActs, frameActs}
 use Rattle.model.proofs.Refusals.{walk-faults}
-use Rattle.model.proofs.FoundVectors.{Sound, or-left, or-right}
-use Rattle.msrpdu.specs.Reader.{headOf, vectorRead, firstPart, messageRead, numberOf, eventMeant, eventIn, fourIn, streamIdIn, destinationIn}
+use Rattle.model.proofs.FoundVectors.{passed, passed-all, Sound, sound-at}
+use Rattle.msrpdu.specs.Reader.{headOf, headVector, typedRead, messageRead, numberOf}
 use Rattle.msrpdu.specs.declared.VectorHead.{VectorHead}
 use Rattle.msrpdu.specs.declared.VectorRead.the-variants as vector
 use Rattle.msrpdu.specs.declared.MessageHead.{MessageHead}
 use Rattle.msrpdu.specs.declared.MessageRead.the-variants as message
-use Rattle.msrpdu.specs.declared.ValueRead.the-variants.{Value}
-use Rattle.msrpdu.specs.declared.Event.{Event}
-use Rattle.msrpdu.specs.declared.Event.the-variants.{New, JoinIn, In, JoinMt, Mt, Lv, Missing}
-use Rattle.msrpdu.proofs.Laws.{value-read}
-use Rattle.msrpdu.proofs.Reading.{passed, Passed, passed-all, first-is}
+use Rattle.msrpdu.proofs.Reading.{Headed, read-head, first-here}
 use Rattle.msrpdu.proofs.Walking.{vectorsIn, vectors-refused, vectors-end, vectors-next, messages-refused, messages-end, messages-skipped, messages-list}
 
--- The parts of a vector that is read, v, are those at the places of its head, w.
+-- A vector that is read is the one that its head names.
 
-pub record Meant (k : Attribute) (l : List ℕ) (at : ℕ) (w : VectorHead) (v : Vector) : Type 0 where
-  pub attribute : v .attribute ≡ k
-  pub leaves : v .leavesAll ≡ w .leaves
-  pub values : v .values ≡ w .values
-  pub first : v .first ≡ take (w .three - (at + 2)) (drop (at + 2) l)
-  pub three : v .three ≡ take (w .four - w .three) (drop (w .three) l)
-  pub four : v .four ≡ take (w .next - w .four) (drop (w .four) l)
-  pub sound : Sound v
+head-vector : (k : Attribute) (l : List ℕ) (at h : ℕ) → typedIn k l at ≡ vectorHead h
+    → vectorAt k l at h ≡ headVector k l (headOf (firstLength k) (hasFour k) at h)
+unfolding vectorAt headVector headOf vectorEnd part
+head-vector k l at h e =
+    let f = first-here (firstLength k) (hasFour k) l at h (passed-all k l at h e .there) in
+    rw (f, lent-length (at + 2 + firstLength k) (threeLength (h % 8192)), lent-length (at + 2 + firstLength k + threeLength (h % 8192)) (fourLength (hasFour k) (h % 8192)))
 
-sound-at : (k : Attribute) (l : List ℕ) (at : ℕ) (w : VectorHead) → Passed k l at w → Sound (vectorAt k l at (beAt 2 l at))
-unfolding vectorAt vectorEnd
-sound-at k l at w p =
-    let n = beAt 2 l at % 8192 in
-    let f = p .fits in
-    record {
-      values = omega arith;
-      first = length-part (at + 2) (firstLength k) l (omega arith);
-      three = length-part (at + 2 + firstLength k) (threeLength n) l (omega arith);
-      four = length-part (at + 2 + firstLength k + threeLength n) (fourLength k n) l f;
-      packed = p .packed;
-      within = p .bounded;
-    }
+module _ (k : Attribute) (l : List ℕ) (at : ℕ) (w : VectorHead) (e : typedRead (known k) l at ≡ vector.Vector w) where
+  abbrev there : Headed (firstLength k) (hasFour k) at (typedIn k l at) w
+  there = read-head (firstLength k) (hasFour k) at (typedIn k l at) w (unfold typedRead in e)
 
-meant-at : (k : Attribute) (l : List ℕ) (at : ℕ) (w : VectorHead) → Passed k l at w → Meant k l at w (vectorAt k l at (beAt 2 l at))
-unfolding vectorAt headOf vectorEnd
-meant-at k l at w p =
-    let h = beAt 2 l at in
-    let s = sound-at k l at w p in
-    rw (← (p .head)) record {
-      attribute = refl;
-      leaves = refl;
-      values = refl;
-      first = sym (lent-part (at + 2) (firstLength k) l);
-      three = sym (lent-part (at + 2 + firstLength k) (threeLength (h % 8192)) l);
-      four = sym (lent-part (at + 2 + firstLength k + threeLength (h % 8192)) (fourLength k (h % 8192)) l);
-      sound = s;
-    }
+  named : vectorAt k l at (there .header) ≡ headVector k l w
+  named = head-vector k l at (there .header) (there .is) ∙ ap (headVector k l) (there .head)
 
-module _ (k : Attribute) (l : List ℕ) (at : ℕ) (w : VectorHead) (e : vectorRead (known k) l at ≡ vector.Vector w) where
-  pub meant : Meant k l at w (vectorAt k l at (beAt 2 l at))
-  unfolding vectorRead
-  meant = meant-at k l at w (passed-all k l at w e)
+  pub meant : vectorAt k l at (beAt 2 l at) ≡ headVector k l w
+  meant = ap (vectorAt k l at) (passed-all k l at (there .header) (there .is) .fitting .is) ∙ named
 
-  -- and `first_value` hands back its FirstValue
-  pub first-meant : firstPart (known k) at l (vectorRead (known k) l at) ≡ vectorAt k l at (beAt 2 l at) .first
-  first-meant = sym (meant .first ∙ first-is (known k) l at w e)
-
--- What is read of value n, below the number of values.
-
--- of FirstValue s, with m more values behind it, none of which runs past its field
-unique-below : (k : Kind) (s : List ℕ) (m : ℕ) → runsPast (registers k) s m ≡ false → beAt 2 s 6 + m ≤ 65535
-unfolding runsPast
-unique-below advertises s m e = ltb-false 65535 _ (or-left _ _ e)
-unique-below faileds s m e = ltb-false 65535 _ (or-left _ _ e)
-unique-below listeners s m e = ltb-false 65535 _ e
-
-destination-below : (k : Kind) → (k ≡ listeners → ⊥) → (s : List ℕ) (m : ℕ) → runsPast (registers k) s m ≡ false
-    → beAt 6 s 8 + m ≤ 281474976710655
-unfolding runsPast
-destination-below advertises t s m e = ltb-false 281474976710655 _ (or-right (ltb 65535 (beAt 2 s 6 + m)) _ e)
-destination-below faileds t s m e = ltb-false 281474976710655 _ (or-right (ltb 65535 (beAt 2 s 6 + m)) _ e)
-destination-below listeners t s m e = absurd (t refl)
-
--- room for a StreamID, and for a Talker's destination
-id-room : (k : Kind) → 8 ≤ firstLength (registers k)
-unfolding firstLength
-id-room advertises = omega arith
-id-room faileds = omega arith
-id-room listeners = omega arith
-
-destination-room : (k : Kind) → (k ≡ listeners → ⊥) → 14 ≤ firstLength (registers k)
-unfolding firstLength
-destination-room advertises t = omega arith
-destination-room faileds t = omega arith
-destination-room listeners t = absurd (t refl)
-
-id-is : (k : Kind) (s : List ℕ) (n : ℕ) → idValue (fields (firstWidths (registers k)) 0 s) n ≡ beAt 8 s 0 + n
-unfolding idValue fields firstWidths
-id-is advertises s n = refl
-id-is faileds s n = refl
-id-is listeners s n = refl
-
-destination-is : (k : Kind) → (k ≡ listeners → ⊥) → (s : List ℕ) (n : ℕ) → fixedValue (fields (firstWidths (registers k)) 0 s) n .destination ≡ beAt 6 s 8 + n
-unfolding fixedValue fields firstWidths
-destination-is advertises t s n = refl
-destination-is faileds t s n = refl
-destination-is listeners t s n = absurd (t refl)
-
-module _ (v : Vector) (sound : Sound v) (n : ℕ) (h : n < v .values) where
-  pub event-meant : eventIn (v .three) n ≡ eventMeant (eventOf v n)
-  unfolding eventIn eventOf threeLength
-  event-meant =
-      let e = sound .three in
-      let p : n / 3 < length (v .three) = omega arith in
-      rw (lt-ltb _ _ p)
-
-  -- the last value runs past no field
-  last-within : runsPast (v .attribute) (v .first) (v .values - 1) ≡ false
-  unfolding overflows
-  last-within = rw (ne-eqb (v .values) 0 (omega arith)) at (sound .within)
-
-  module _ (k : Kind) (e : v .attribute ≡ registers k) where
-    pub id-meant : streamIdIn (v .first) n ≡ Value (idValue (fields (firstWidths (v .attribute)) 0 (v .first)) n)
-    unfolding streamIdIn
-    id-meant =
-        let r : runsPast (registers k) (v .first) (v .values - 1) ≡ false = rw e at last-within in
-        let l : length (v .first) ≡ firstLength (registers k) = rw e at (sound .first) in
-        let p : 0 + 8 ≤ length (v .first) = omega (arith, id-room k) in
-        let q : beAt 2 (v .first) 6 + n ≤ 65535 = omega (arith, unique-below k (v .first) (v .values - 1) r) in
-        value-read 8 2 0 (v .first) n p _ refl q _ refl ∙ ap Value (rw e (sym (id-is k (v .first) n)))
-
-    pub destination-meant : (k ≡ listeners → ⊥)
-        → destinationIn (v .first) n ≡ Value (fixedValue (fields (firstWidths (v .attribute)) 0 (v .first)) n .destination)
-    unfolding destinationIn
-    destination-meant t =
-        let r : runsPast (registers k) (v .first) (v .values - 1) ≡ false = rw e at last-within in
-        let l : length (v .first) ≡ firstLength (registers k) = rw e at (sound .first) in
-        let p : 8 + 6 ≤ length (v .first) = omega (arith, destination-room k t) in
-        let q : beAt 6 (v .first) 8 + n ≤ 281474976710655 = omega (arith, destination-below k t (v .first) (v .values - 1) r) in
-        value-read 6 6 8 (v .first) n p _ refl q _ refl ∙ ap Value (rw e (sym (destination-is k t (v .first) n)))
-
--- what an event that was read does
-unfoldable pub askedBy : Event → Asking
-askedBy New = join
-askedBy JoinIn = join
-askedBy In = nothingAsked
-askedBy JoinMt = join
-askedBy Mt = nothingAsked
-askedBy Lv = withdraw
-askedBy Missing = nothingAsked
-
-pub asking-meant : (e : frames.Event) → askedBy (eventMeant e) ≡ asking e
-unfolding askedBy eventMeant asking
-asking-meant frames.new = refl
-asking-meant frames.joinIn = refl
-asking-meant frames.isIn = refl
-asking-meant frames.joinMt = refl
-asking-meant frames.mt = refl
-asking-meant frames.lv = refl
-
--- FirstValue's numbers, by their places
-pub advertise-fields : (s : List ℕ) → fields (firstWidths (registers advertises)) 0 s
-    ≡ beAt 8 s 0 ∷ beAt 6 s 8 ∷ beAt 2 s 14 ∷ beAt 2 s 16 ∷ beAt 2 s 18 ∷ beAt 1 s 20 ∷ beAt 4 s 21 ∷ []
-unfolding fields firstWidths
-advertise-fields s = refl
-
-pub failed-fields : (s : List ℕ) → fields (firstWidths (registers faileds)) 0 s
-    ≡ beAt 8 s 0 ∷ beAt 6 s 8 ∷ beAt 2 s 14 ∷ beAt 2 s 16 ∷ beAt 2 s 18 ∷ beAt 1 s 20 ∷ beAt 4 s 21 ∷ beAt 8 s 25 ∷ beAt 1 s 33 ∷ []
-unfolding fields firstWidths
-failed-fields s = refl
-
-pub listener-fields : (s : List ℕ) → fields (firstWidths (registers listeners)) 0 s ≡ beAt 8 s 0 ∷ []
-unfolding fields firstWidths
-listener-fields s = refl
-
--- the four-packed event of any value
-pub four-meant : (v : Vector) (n : ℕ) → fourIn (v .four) n ≡ fourOf v n
-unfolding fourIn fourOf
-four-meant v n = refl
+  pub sound : Sound (headVector k l w)
+  sound = subst Sound named (sound-at k l at (there .header) (there .is))
 
 -- The vectors that are left, after each step, of an accepted list and PDU.
 
@@ -222,18 +76,18 @@ pub record NextVector (f : ℕ) (k : Attribute) (l : List ℕ) (at : ℕ) (w : V
   pub left : vectorsIn (known k) f l (w .next) ≡ found rest
 
 module _ (f : ℕ) (k : Attribute) (l : List ℕ) (at : ℕ) (vs : List Vector) (e : vectorsIn (known k) (suc f) l at ≡ found vs) where
-  pub found-next : (w : VectorHead) → vectorRead (known k) l at ≡ vector.Vector w → NextVector f k l at w vs
-  unfolding vectorRead vectorsIn
+  pub found-next : (w : VectorHead) → typedRead (known k) l at ≡ vector.Vector w → NextVector f k l at w vs
+  unfolding vectorsIn
   found-next w r =
       let a = also-found _ _ vs (sym (vectors-next f k l at w r) ∙ e) in
       record { rest = a .0; first = a .2; left = a .1 }
 
-  pub found-end : vectorRead (known k) l at ≡ vector.EndMark → vs ≡ []
-  unfolding vectorRead vectorsIn
+  pub found-end : typedRead (known k) l at ≡ vector.EndMark → vs ≡ []
+  unfolding vectorsIn
   found-end r = let h = vectors-end f k l at r in cc
 
-  pub found-accepted : (n : ℕ) → vectorRead (known k) l at ≡ vector.Refused n → ⊥
-  unfolding vectorRead vectorsIn
+  pub found-accepted : (n : ℕ) → typedRead (known k) l at ≡ vector.Refused n → ⊥
+  unfolding vectorsIn
   found-accepted n r = let h = vectors-refused f k l at n r in let z : _≡_ {A = ℕ} 0 1 = cc in omega arith
 
 -- a Message's vectors are the first of those left, and the others come after it
@@ -280,7 +134,7 @@ accepted s = go (walk s) refl
     go (fault n) e z = let k = walk-faults s n e in absurd (omega arith)
     go (found vs) e z = (vs, e)
 
-no-fault : (n : ℕ) (vs : List Vector) → fault n ≡ found vs → ⊥
+pub no-fault : (n : ℕ) (vs : List Vector) → fault n ≡ found vs → ⊥
 no-fault n vs e = let z : _≡_ {A = ℕ} 0 1 = cc in omega arith
 
 -- its Messages start behind the ProtocolVersion
@@ -288,14 +142,14 @@ pub accepted-messages : (s : List ℕ) (vs : List Vector) → walk s ≡ found v
 unfolding walk
 accepted-messages s vs e =
     let a = passed (eqb (length s) 0) _ _ _ (no-fault 2 vs) e in
-    let b = passed (ltb 1500 (length s)) _ _ _ (no-fault 2 vs) (a .1) in
+    let b = passed (ltb longestPdu (length s)) _ _ _ (no-fault 2 vs) (a .1) in
     b .1
 
 -- and it has 1 to 1,500 octets
-pub accepted-length : (s : List ℕ) (vs : List Vector) → walk s ≡ found vs → (1 ≤ length s) × (length s ≤ 1500)
+pub accepted-length : (s : List ℕ) (vs : List Vector) → walk s ≡ found vs → (1 ≤ length s) × (length s ≤ longestPdu)
 unfolding walk
 accepted-length s vs e =
     let a = passed (eqb (length s) 0) _ _ _ (no-fault 2 vs) e in
-    let b = passed (ltb 1500 (length s)) _ _ _ (no-fault 2 vs) (a .1) in
+    let b = passed (ltb longestPdu (length s)) _ _ _ (no-fault 2 vs) (a .1) in
     let p : length s ≡ 0 → ⊥ = eqb-false _ _ (a .0) in
-    (omega arith, ltb-false 1500 _ (b .0))
+    (omega arith, ltb-false longestPdu _ (b .0))

@@ -1,8 +1,8 @@
 -- Laws of the reader's definitions, one for each arm. Assumes nothing.
-use mathlib.Core.Path.{_≡_, refl, sym, ap, _∙_}
-use mathlib.Core.List.{List}
+use mathlib.Core.Path.{_≡_, refl, ap, _∙_}
+use mathlib.Core.List.{List, []}
 use mathlib.Core.Bool.{Bool, true, false, _||_}
-use Prim.Native.Nat.{ℕ, zero, suc, _+_, _*_, _-_, _/_, _%_, _≤_, _<_, _^_}
+use Prim.Native.Nat.{ℕ, zero, suc, _+_, _-_, _/_, _%_, _≤_, _<_, _^_}
 use native.Mathlib.Omega.{arith}
 use lib.ListN.{length, getD, take, drop, drop-of-length-le, List·getD-eq-default}
 use lib.Seq.{drop-cons}
@@ -10,15 +10,16 @@ use native.Mathlib.Numerals.{add-one}
 use lib.Dec.{ltb, leb, eqb}
 use borrow.Author.Tests.{lt-ltb, le-ltb, le-leb, lt-leb, eq-eqb, ne-eqb}
 use Rattle.octets.specs.Be.{beAt}
-use Rattle.octets.proofs.Parts.{lent-part, length-part}
+use Rattle.octets.specs.Parts.{part}
+use Rattle.octets.proofs.Parts.{lent-part}
 use Rattle.model.proofs.Lists.{and-false}
 use Rattle.model.specs.Registrations.{advertises, faileds, listeners}
-use Rattle.model.specs.Frames.{Attribute, registers, domain, TypeOctet, notAllowed, unknown, known, typeOctet, firstLength, threeLength, fourLength, vectorAt, vectorEnd, overpacked, overflows, runsPast, listLength, endMark, messageEnd, threePacked, fourPacked}
+use Rattle.model.specs.Frames.{Attribute, registers, domain, TypeOctet, notAllowed, unknown, known, typeOctet, firstLength, threeLength, hasFour, vectorEnd, overpacked, runsPast, vectorIn, listLength, endMark, messageEnd, headerIn, messageIn, threePacked, fourPacked}
 use Rattle.model.specs.Frames as frames
-use Rattle.msrpdu.specs.Reader.{typeRead, fourOctets, pastField, headOf, valuesOf, vectorOf, valuesRead, vectorRead, messageFrom, messageRead, eventMeant, eventIn, fourIn, valueIn}
-use Rattle.msrpdu.specs.declared.TypeRead.{TypeRead}
+use Rattle.msrpdu.specs.Reader.{typeRead, pastField, headOf, vectorMeant, vectorRead, firstPart, messageMeant, messageRead, eventMeant, eventIn, fourIn, valueIn}
 use Rattle.msrpdu.specs.declared.TypeRead.the-variants.{Known, Skipped, Refused}
 use Rattle.msrpdu.specs.declared.VectorHead.{VectorHead}
+use Rattle.msrpdu.specs.declared.VectorRead.{VectorRead}
 use Rattle.msrpdu.specs.declared.VectorRead.the-variants as vector
 use Rattle.msrpdu.specs.declared.MessageRead.the-variants as message
 use Rattle.msrpdu.specs.declared.ValueRead.the-variants.{Value, Past}
@@ -37,16 +38,6 @@ module _ (version kind : ℕ) (p : 4 < kind) where
   pub type-skipped : (version ≡ 0 → ⊥) → typeRead (typeOctet version kind) ≡ Skipped
   unfolding typeRead typeOctet
   type-skipped e = rw (above kind p, ne-eqb _ _ e)
-
--- only Listeners have FourPackedEvents
-pub four-none : (kind n : ℕ) → (kind ≡ 3 → ⊥) → fourOctets (typeOctet 0 kind) n ≡ 0
-unfolding fourOctets typeOctet fourLength
-four-none zero n p = refl
-four-none (suc zero) n p = refl
-four-none (suc (suc zero)) n p = refl
-four-none (suc (suc (suc zero))) n p = absurd (p refl)
-four-none (suc (suc (suc (suc zero)))) n p = refl
-four-none (suc (suc (suc (suc (suc k))))) n p = refl
 
 -- Events.
 
@@ -166,11 +157,6 @@ module _ (w g at : ℕ) (first : List ℕ) (n : ℕ) where
     unfolding valueIn
     value-read q y f = rw (le-ltb _ _ p, ← e, le-ltb _ _ q, f)
 
--- a StreamID ends with its Unique ID
-pub id-split : (s : List ℕ) → beAt 8 s 0 ≡ beAt 6 s 0 * 65536 + beAt 2 s 6
-unfolding beAt
-id-split s = omega arith
-
 -- A type octet with octets of FirstValue is that of a known type.
 
 pub record Typed (t : TypeOctet) (first : ℕ) : Type 0 where
@@ -184,109 +170,95 @@ typed notAllowed first e = let z : _≡_ {A = ℕ} 0 1 = cc in absurd (omega ari
 typed unknown first e = let z : _≡_ {A = ℕ} 0 1 = cc in absurd (omega arith)
 typed (known k) first e = record { kind = k; is = refl; octets = cc }
 
-at-most : (k : Attribute) → firstLength k ≤ 34
-unfolding firstLength
-at-most (registers advertises) = omega arith
-at-most (registers faileds) = omega arith
-at-most (registers listeners) = omega arith
-at-most domain = omega arith
+-- only Listeners have FourPackedEvents
+pub four-is : (kind : ℕ) (k : Attribute) → typeOctet 0 kind ≡ known k → eqb kind 3 ≡ hasFour k
+unfolding typeOctet hasFour
+four-is zero k e = let z : _≡_ {A = ℕ} 0 1 = cc in absurd (omega arith)
+four-is (suc zero) k e = let i : registers advertises ≡ k = cc in rw (← i)
+four-is (suc (suc zero)) k e = let i : registers faileds ≡ k = cc in rw (← i)
+four-is (suc (suc (suc zero))) k e = let i : registers listeners ≡ k = cc in rw (← i)
+four-is (suc (suc (suc (suc zero)))) k e = let i : domain ≡ k = cc in rw (← i)
+four-is (suc (suc (suc (suc (suc n))))) k e = let z : _≡_ {A = ℕ} 0 1 = cc in absurd (omega arith)
 
--- a part of a list as the code lends it
-abbrev pub between : List ℕ → ℕ → ℕ → List ℕ
-between l a n = take (a + n - a) (drop a l)
+-- the places of a vector's head are in order
+pub head-rises : (first : ℕ) (four : Bool) (at h : ℕ) (w : VectorHead) → w ≡ headOf first four at h → (w .three ≤ w .four) × (w .four ≤ w .next)
+unfolding headOf vectorEnd
+head-rises first four at h w e = rw e (omega arith, omega arith)
 
-pub between-length : (l : List ℕ) (a n : ℕ) → a + n ≤ length l → length (between l a n) ≡ n
-between-length l a n p = ap length (lent-part a n l) ∙ length-part a n l p
+-- The vector at a place, in the order of the checks.
 
--- the head of a vector, by the octets that its FirstValue and its FourPackedEvents have
-abbrev pub headAt : ℕ → ℕ → ℕ → ℕ → VectorHead
-headAt first at h fours = record {
-  leaves = eqb (h / 8192) 1;
-  values = h % 8192;
-  three = at + 2 + first;
-  four = at + 2 + first + (h % 8192 + 2) / 3;
-  next = at + 2 + first + (h % 8192 + 2) / 3 + fours;
-}
+module _ (first : ℕ) (four : Bool) (l : List ℕ) (at : ℕ) where
+  pub vector-short : length l < at + 2 → vectorRead first four l at ≡ vector.Refused 3
+  unfolding vectorRead vectorMeant vectorIn
+  vector-short p = rw (lt-ltb _ _ p)
 
-module _ (t : TypeOctet) (first : ℕ) (e : typeRead t ≡ Known first) where
-  pub first-small : first ≤ 34
-  first-small = let y = typed t first e in omega (arith, at-most (y .kind), y .octets)
+  -- h is the header that was read
+  module _ (p : at + 2 ≤ length l) (h : ℕ) (i : h ≡ beAt 2 l at) where
+    pub vector-end : h ≡ 0 → vectorRead first four l at ≡ vector.EndMark
+    unfolding vectorRead vectorMeant vectorIn
+    vector-end q = rw (le-ltb _ _ p, ← i, eq-eqb _ _ q)
 
-  -- Event octets and values of a vector that fits, in the order of the checks; x is what the event octets gave.
-  module _ (l : List ℕ) (at h : ℕ) (x : Bool) (i : x ≡ overpacked (between l (at + 2 + first) ((h % 8192 + 2) / 3))) where
-    pub values-over : x ≡ true → valuesRead t l at h ≡ vector.Refused 6
-    unfolding valuesRead valuesOf vectorAt threeLength
-    values-over p = let y = typed t first e in rw (y .is, y .octets, ← (lent-part (at + 2 + first) ((h % 8192 + 2) / 3) l), ← i, p)
+    module _ (q : h ≡ 0 → ⊥) where
+      pub vector-event : 1 < h / 8192 → vectorRead first four l at ≡ vector.Refused 6
+      unfolding vectorRead vectorMeant vectorIn
+      vector-event r = rw (le-ltb _ _ p, ← i, ne-eqb _ _ q, lt-ltb 1 _ r)
 
-    module _ (p : x ≡ false) where
-      -- z is what the last value gave
-      module _ (q : 0 < h % 8192) (z : Bool) (j : z ≡ pastField t (between l (at + 2) first) (h % 8192 - 1)) where
-        pub values-past : z ≡ true → valuesRead t l at h ≡ vector.Refused 7
-        unfolding valuesRead valuesOf vectorAt threeLength pastField overflows
-        values-past r =
-            let y = typed t first e in
-            let m : runsPast (y .kind) (between l (at + 2) first) (h % 8192 - 1) ≡ true = sym (rw (y .is) at j) ∙ r in
-            rw (y .is, y .octets, ← (lent-part (at + 2 + first) ((h % 8192 + 2) / 3) l), ← i, p, ne-eqb (h % 8192) 0 (omega arith), ← (lent-part (at + 2) first l), m)
+      module _ (r : h / 8192 ≤ 1) where
+        vector-past : length l < vectorEnd first four at h → vectorRead first four l at ≡ vector.Refused 3
+        unfolding vectorRead vectorMeant vectorIn
+        vector-past s = rw (le-ltb _ _ p, ← i, ne-eqb _ _ q, le-ltb 1 _ r, lt-ltb _ _ s)
 
-      -- with no values, or with none that runs past its field
-      module _ (fours : ℕ) (f : fours ≡ fourOctets t (h % 8192)) where
-        pub values-none : h % 8192 ≡ 0 → valuesRead t l at h ≡ vector.Vector (headAt first at h fours)
-        unfolding valuesRead valuesOf vectorAt threeLength overflows headOf vectorEnd fourOctets
-        values-none q =
-            let y = typed t first e in
-            rw (f, y .is, y .octets, ← (lent-part (at + 2 + first) ((h % 8192 + 2) / 3) l), ← i, p, eq-eqb (h % 8192) 0 q)
+        pub first-past : length l < at + 2 + first → vectorRead first four l at ≡ vector.Refused 3
+        first-past s = vector-past (unfold vectorEnd in (omega arith))
 
-        pub values-read : 0 < h % 8192 → (z : Bool) → z ≡ pastField t (between l (at + 2) first) (h % 8192 - 1) → z ≡ false
-            → valuesRead t l at h ≡ vector.Vector (headAt first at h fours)
-        unfolding valuesRead valuesOf vectorAt threeLength pastField overflows headOf vectorEnd fourOctets
-        values-read q z j r =
-            let y = typed t first e in
-            let m : runsPast (y .kind) (between l (at + 2) first) (h % 8192 - 1) ≡ false = sym (rw (y .is) at j) ∙ r in
-            rw (f, y .is, y .octets, ← (lent-part (at + 2 + first) ((h % 8192 + 2) / 3) l), ← i, p, ne-eqb (h % 8192) 0 (omega arith), ← (lent-part (at + 2) first l), m)
+        -- w is its head
+        module _ (w : VectorHead) (g : w ≡ headOf first four at h) where
+          pub vector-long : length l < w .next → vectorRead first four l at ≡ vector.Refused 3
+          unfolding headOf
+          vector-long s = vector-past (rw g at s)
 
-  -- The vector at a place, in the order of the checks.
-  module _ (l : List ℕ) (at : ℕ) where
-    pub vector-short : length l < at + 2 → vectorRead t l at ≡ vector.Refused 3
-    unfolding vectorRead vectorOf
-    vector-short p = let y = typed t first e in rw (y .is, lt-ltb _ _ p)
+          -- x is what the event octets gave, as they are lent
+          module _ (s : w .next ≤ length l) (x : Bool) (o : x ≡ overpacked (take (w .four - w .three) (drop (w .three) l))) where
+            events-over : x ≡ overpacked (part (at + 2 + first) (threeLength (h % 8192)) l)
+            unfolding headOf
+            events-over = rw g at o ∙ ap overpacked (lent-part (at + 2 + first) (threeLength (h % 8192)) l)
 
-    -- h is the header that was read
-    module _ (p : at + 2 ≤ length l) (h : ℕ) (i : h ≡ beAt 2 l at) where
-      pub vector-end : h ≡ 0 → at + 2 ≡ length l → vectorRead t l at ≡ vector.EndMark
-      unfolding vectorRead vectorOf
-      vector-end q r = let y = typed t first e in rw (y .is, le-ltb _ _ p, ← i, eq-eqb _ _ q, eq-eqb _ _ r)
+            fits : vectorEnd first four at h ≤ length l
+            unfolding headOf
+            fits = rw g at s
 
-      pub vector-early : h ≡ 0 → (at + 2 ≡ length l → ⊥) → vectorRead t l at ≡ vector.Refused 3
-      unfolding vectorRead vectorOf
-      vector-early q r = let y = typed t first e in rw (y .is, le-ltb _ _ p, ← i, eq-eqb _ _ q, ne-eqb _ _ r)
+            pub vector-over : x ≡ true → vectorRead first four l at ≡ vector.Refused 6
+            unfolding vectorRead vectorMeant vectorIn
+            vector-over y = rw (le-ltb _ _ p, ← i, ne-eqb _ _ q, le-ltb 1 _ r, le-ltb _ _ fits, ← events-over, y)
 
-      module _ (q : h ≡ 0 → ⊥) where
-        pub vector-event : 1 < h / 8192 → vectorRead t l at ≡ vector.Refused 6
-        unfolding vectorRead vectorOf
-        vector-event r = let y = typed t first e in rw (y .is, le-ltb _ _ p, ← i, ne-eqb _ _ q, lt-ltb 1 _ r)
+            pub vector-read : x ≡ false → vectorRead first four l at ≡ vector.Vector w
+            unfolding vectorRead vectorMeant vectorIn
+            vector-read y = rw (le-ltb _ _ p, ← i, ne-eqb _ _ q, le-ltb 1 _ r, le-ltb _ _ fits, ← events-over, y, g)
 
-        module _ (r : h / 8192 ≤ 1) (four : ℕ) (f : four ≡ fourOctets t (h % 8192)) where
-          pub vector-long : length l < at + 2 + first + (h % 8192 + 2) / 3 + four → vectorRead t l at ≡ vector.Refused 3
-          unfolding vectorRead vectorOf vectorEnd threeLength fourOctets
-          vector-long s =
-              let y = typed t first e in
-              let g : four ≡ fourLength (y .kind) (h % 8192) = rw (y .is) at f in
-              rw (y .is, y .octets, le-ltb _ _ p, ← i, ne-eqb _ _ q, le-ltb 1 _ r, ← g, lt-ltb _ _ s)
+-- FirstValue as the code lends it.
 
-          pub vector-fits : at + 2 + first + (h % 8192 + 2) / 3 + four ≤ length l → vectorRead t l at ≡ valuesRead t l at h
-          unfolding vectorRead vectorOf vectorEnd threeLength fourOctets valuesRead
-          vector-fits s =
-              let y = typed t first e in
-              let g : four ≡ fourLength (y .kind) (h % 8192) = rw (y .is) at f in
-              rw (y .is, y .octets, le-ltb _ _ p, ← i, ne-eqb _ _ q, le-ltb 1 _ r, ← g, le-ltb _ _ s)
+module _ (l : List ℕ) (r : VectorRead) where
+  pub first-none : ((w : VectorHead) → r ≡ vector.Vector w → ⊥) → firstPart l r ≡ []
+  unfolding firstPart
+  first-none = go r
+    where
+      go : (r : VectorRead) → ((w : VectorHead) → r ≡ vector.Vector w → ⊥) → firstPart l r ≡ []
+      go (vector.Refused n) p = refl
+      go vector.EndMark p = refl
+      go (vector.Vector w) p = absurd (p w refl)
 
--- a list of any other type is not read; r is what the type octet gave
-pub vector-untyped : (t : TypeOctet) (r : TypeRead) → r ≡ typeRead t → ((n : ℕ) → r ≡ Known n → ⊥) → (l : List ℕ) (at : ℕ)
-    → vectorRead t l at ≡ vector.Refused 4
-unfolding vectorRead typeRead
-vector-untyped notAllowed r e p l at = refl
-vector-untyped unknown r e p l at = refl
-vector-untyped (known k) r e p l at = absurd (p _ e)
+  module _ (w : VectorHead) (e : r ≡ vector.Vector w) where
+    pub first-outside : length l < w .three → firstPart l r ≡ []
+    unfolding firstPart
+    first-outside p = rw (e, lt-ltb _ _ p)
+
+    module _ (p : w .three ≤ length l) where
+      pub first-lent : firstPart l r ≡ take (w .three - w .first) (drop (w .first) l)
+      unfolding firstPart part
+      first-lent = rw (e, le-ltb _ _ p)
+
+      pub first-turned : w .three < w .first → firstPart l r ≡ []
+      first-turned q = let z : w .three - w .first ≡ 0 = omega arith in first-lent ∙ rw z
 
 -- The Message at a place, in the order of the checks.
 
@@ -313,48 +285,49 @@ module _ (s : List ℕ) (at : ℕ) where
 
   module _ (version : ℕ) where
     pub message-done : at ≡ length s → messageRead version s at ≡ message.End
-    unfolding messageRead
+    unfolding messageRead messageMeant messageIn
     message-done p = rw (eq-eqb _ _ p)
 
     module _ (o : at ≡ length s → ⊥) where
       pub message-mark : at + 2 ≤ length s → (h : ℕ) → h ≡ beAt 2 s at → h ≡ 0 → messageRead version s at ≡ message.End
-      unfolding messageRead endMark
+      unfolding messageRead messageMeant messageIn endMark
       message-mark p h e q = rw (ne-eqb _ _ o, le-leb _ _ p, ← e, eq-eqb _ _ q)
 
       module _ (m : endMark s at ≡ false) where
         pub message-short : length s < at + 4 → messageRead version s at ≡ message.Refused 3
-        unfolding messageRead
+        unfolding messageRead messageMeant messageIn
         message-short p = rw (ne-eqb _ _ o, m, lt-ltb _ _ p)
 
-        pub message-from : at + 4 ≤ length s → messageRead version s at ≡ messageFrom (typeOctet version (getD s at 0)) s at
-        unfolding messageRead
+        pub message-from : at + 4 ≤ length s →
+            messageRead version s at ≡ messageMeant s at (headerIn (typeOctet version (getD s at 0)) s at)
+        unfolding messageRead messageIn
         message-from p = rw (ne-eqb _ _ o, m, le-ltb _ _ p)
 
   -- by what the type octet gave; n is the list's length
   module _ (t : TypeOctet) (n : ℕ) (i : n ≡ beAt 2 s (at + 2)) where
-    pub from-refused : typeRead t ≡ Refused → messageFrom t s at ≡ message.Refused 4
-    unfolding messageFrom
+    pub from-refused : typeRead t ≡ Refused → messageMeant s at (headerIn t s at) ≡ message.Refused 4
+    unfolding messageMeant headerIn
     from-refused e = rw (refused-type t e)
 
     module _ (e : typeRead t ≡ Skipped) where
-      pub skip-long : length s < at + 4 + n → messageFrom t s at ≡ message.Refused 3
-      unfolding messageFrom messageEnd listLength
+      pub skip-long : length s < at + 4 + n → messageMeant s at (headerIn t s at) ≡ message.Refused 3
+      unfolding messageMeant headerIn messageEnd listLength
       skip-long p = rw (skipped-type t e, ← i, lt-ltb _ _ p)
 
-      pub skip : at + 4 + n ≤ length s → messageFrom t s at ≡ message.Skipped (at + 4 + n)
-      unfolding messageFrom messageEnd listLength
-      skip p = rw (skipped-type t e, ← i, le-ltb _ _ p)
+      pub skip : at + 4 + n ≤ length s → messageMeant s at (headerIn t s at) ≡ message.Skipped (at + 4 + n)
+      unfolding messageMeant headerIn messageEnd listLength
+      skip p = rw (skipped-type t e, ← i, le-ltb _ _ p, ← i)
 
     module _ (first : ℕ) (e : typeRead t ≡ Known first) where
-      pub from-length : (getD s (at + 1) 0 ≡ first → ⊥) → messageFrom t s at ≡ message.Refused 5
-      unfolding messageFrom
+      pub from-length : (getD s (at + 1) 0 ≡ first → ⊥) → messageMeant s at (headerIn t s at) ≡ message.Refused 5
+      unfolding messageMeant headerIn
       from-length q = let y = typed t first e in rw (y .is, y .octets, ne-eqb _ _ q)
 
       module _ (q : getD s (at + 1) 0 ≡ first) where
-        pub list-long : length s < at + 4 + n → messageFrom t s at ≡ message.Refused 3
-        unfolding messageFrom messageEnd listLength
+        pub list-long : length s < at + 4 + n → messageMeant s at (headerIn t s at) ≡ message.Refused 3
+        unfolding messageMeant headerIn messageEnd listLength
         list-long p = let y = typed t first e in rw (y .is, y .octets, eq-eqb _ _ q, ← i, lt-ltb _ _ p)
 
-        pub list-read : at + 4 + n ≤ length s → messageFrom t s at ≡ message.List record { kind = getD s at 0; list = at + 4; next = at + 4 + n }
-        unfolding messageFrom messageEnd listLength
-        list-read p = let y = typed t first e in rw (y .is, y .octets, eq-eqb _ _ q, ← i, le-ltb _ _ p)
+        pub list-read : at + 4 + n ≤ length s → messageMeant s at (headerIn t s at) ≡ message.List record { kind = getD s at 0; list = at + 4; next = at + 4 + n }
+        unfolding messageMeant headerIn messageEnd listLength
+        list-read p = let y = typed t first e in rw (y .is, y .octets, eq-eqb _ _ q, ← i, le-ltb _ _ p, ← i)

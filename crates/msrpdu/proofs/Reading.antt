@@ -1,101 +1,193 @@
--- What it means that a vector is read: all its checks passed, its places are within its list, and its FirstValue is that part
--- of the list that `firstPart` names. Assumes nothing.
-use mathlib.Core.Path.{_≡_, refl}
-use mathlib.Core.List.{List, []}
-use mathlib.Core.Bool.{Bool, true, false, cond}
-use Prim.Native.Nat.{ℕ, _+_, _-_, _/_, _≤_}
+-- What it means that a vector is read: what stands at its place, that its places are within its list, and that its FirstValue is
+-- the part that `firstPart` names; and the answer of a type, by that of the vector reader. Assumes nothing.
+use mathlib.Core.Path.{_≡_, refl, sym, ap, _∙_}
+use mathlib.Core.List.{List}
+use mathlib.Core.Bool.{Bool, true, false, cond, not, _&&_}
+use Prim.Native.Nat.{ℕ, _+_, _-_, _%_, _≤_, _<_}
 use native.Mathlib.Omega.{arith}
-use lib.ListN.{length, take, drop}
+use lib.ListN.{length}
 use lib.Dec.{ltb, eqb}
-use borrow.Author.Tests.{ltb-false, eqb-false}
-use Rattle.octets.specs.Be.{beAt}
+use borrow.Author.Tests.{ltb-false, eq-eqb, ne-eqb}
 use Rattle.octets.specs.Parts.{part}
-use Rattle.octets.proofs.Parts.{lent-part}
-use Rattle.model.specs.Frames.{Attribute, TypeOctet, notAllowed, unknown, known, firstLength, vectorAt, vectorEnd, overpacked, overflows}
-use Rattle.msrpdu.specs.Reader.{headOf, valuesOf, vectorOf, vectorRead, firstPart}
+use Rattle.octets.proofs.Parts.{lent-part, length-part}
+use Rattle.model.specs.Frames.{Attribute, TypeOctet, notAllowed, unknown, known, typeOctet, firstLength, hasFour, vectorAt, vectorEnd, runsPast, overflows, InList, badVector, listEnd, vectorHead, vectorIn, checkedIn, typedIn}
+use Rattle.model.proofs.FoundVectors.{passed, fitting, passed-all}
+use Rattle.msrpdu.specs.Reader.{typeRead, headOf, vectorMeant, vectorRead, typedRead, firstPart}
+use Rattle.msrpdu.specs.declared.TypeRead.{TypeRead}
+use Rattle.msrpdu.specs.declared.TypeRead.the-variants.{Known}
 use Rattle.msrpdu.specs.declared.VectorHead.{VectorHead}
 use Rattle.msrpdu.specs.declared.VectorRead.{VectorRead}
 use Rattle.msrpdu.specs.declared.VectorRead.the-variants as vector
+use Rattle.msrpdu.proofs.Laws.{typed, four-is, first-lent}
 
--- a test that does not lead to an answer was false
-pub passed : {A : Type 0} (t : Bool) (x y z : A) → (x ≡ z → ⊥) → cond t x y ≡ z → (t ≡ false) × (y ≡ z)
-passed true x y z p e = absurd (p e)
-passed false x y z p e = (refl, e)
+-- What stands at a place, by the answer.
 
-refusal : (n : ℕ) (w : VectorHead) → vector.Refused n ≡ vector.Vector w → ⊥
-refusal n w e = let z : _≡_ {A = ℕ} 0 1 = cc in omega arith
+module _ (first : ℕ) (four : Bool) (at : ℕ) where
+  pub read-refused : (r : InList) (n : ℕ) → vectorMeant first four at r ≡ vector.Refused n → r ≡ badVector n
+  unfolding vectorMeant
+  read-refused (badVector m) n e = let i : m ≡ n = cc in ap badVector i
+  read-refused listEnd n e = let z : _≡_ {A = ℕ} 0 1 = cc in absurd (omega arith)
+  read-refused (vectorHead h) n e = let z : _≡_ {A = ℕ} 0 1 = cc in absurd (omega arith)
 
-mark : (t : Bool) (w : VectorHead) → cond t vector.EndMark (vector.Refused 3) ≡ vector.Vector w → ⊥
-mark true w e = let z : _≡_ {A = ℕ} 0 1 = cc in omega arith
-mark false w e = refusal 3 w e
+  pub read-end : (r : InList) → vectorMeant first four at r ≡ vector.EndMark → r ≡ listEnd
+  unfolding vectorMeant
+  read-end (badVector m) e = let z : _≡_ {A = ℕ} 0 1 = cc in absurd (omega arith)
+  read-end listEnd e = refl
+  read-end (vectorHead h) e = let z : _≡_ {A = ℕ} 0 1 = cc in absurd (omega arith)
 
--- all checks passed
-pub record Passed (k : Attribute) (l : List ℕ) (at : ℕ) (w : VectorHead) : Type 0 where
-  pub header : at + 2 ≤ length l
-  pub vector : beAt 2 l at ≡ 0 → ⊥
-  pub event : beAt 2 l at / 8192 ≤ 1
-  pub fits : vectorEnd k at (beAt 2 l at) ≤ length l
-  pub packed : overpacked (vectorAt k l at (beAt 2 l at) .three) ≡ false
-  pub bounded : overflows (vectorAt k l at (beAt 2 l at)) ≡ false
-  pub head : headOf k at (beAt 2 l at) ≡ w
+  -- a vector of a header
+  pub record Headed (r : InList) (w : VectorHead) : Type 0 where
+    pub header : ℕ
+    pub is : r ≡ vectorHead header
+    pub head : headOf first four at header ≡ w
 
-pub passed-all : (k : Attribute) (l : List ℕ) (at : ℕ) (w : VectorHead) → vectorOf k l at ≡ vector.Vector w → Passed k l at w
-unfolding vectorOf valuesOf
-passed-all k l at w e =
-    let a = passed (ltb (length l) (at + 2)) _ _ _ (refusal 3 w) e in
-    let b = passed (eqb (beAt 2 l at) 0) _ _ _ (mark (eqb (at + 2) (length l)) w) (a .1) in
-    let c = passed (ltb 1 (beAt 2 l at / 8192)) _ _ _ (refusal 6 w) (b .1) in
-    let d = passed (ltb (length l) (vectorEnd k at (beAt 2 l at))) _ _ _ (refusal 3 w) (c .1) in
-    let f = passed (overpacked (vectorAt k l at (beAt 2 l at) .three)) _ _ _ (refusal 6 w) (d .1) in
-    let g = passed (overflows (vectorAt k l at (beAt 2 l at))) _ _ _ (refusal 7 w) (f .1) in
-    record {
-      header = ltb-false _ _ (a .0);
-      vector = eqb-false _ _ (b .0);
-      event = ltb-false _ _ (c .0);
-      fits = ltb-false _ _ (d .0);
-      packed = f .0;
-      bounded = g .0;
-      head = cc;
-    }
+  pub read-head : (r : InList) (w : VectorHead) → vectorMeant first four at r ≡ vector.Vector w → Headed r w
+  unfolding vectorMeant
+  read-head (badVector m) w e = let z : _≡_ {A = ℕ} 0 1 = cc in absurd (omega arith)
+  read-head listEnd w e = let z : _≡_ {A = ℕ} 0 1 = cc in absurd (omega arith)
+  read-head (vectorHead h) w e = record { header = h; is = refl; head = cc }
 
--- and the type is a known one
-pub record Known (t : TypeOctet) (l : List ℕ) (at : ℕ) (w : VectorHead) : Type 0 where
+-- FirstValue of a vector that fits
+pub first-here : (first : ℕ) (four : Bool) (l : List ℕ) (at h : ℕ) → vectorIn first four l at ≡ vectorHead h
+    → firstPart l (vector.Vector (headOf first four at h)) ≡ part (at + 2) first l
+unfolding headOf vectorEnd
+first-here first four l at h e =
+    let f = fitting first four l at h e .fits in
+    first-lent l (vector.Vector (headOf first four at h)) (headOf first four at h) refl (omega arith) ∙ lent-part (at + 2) first l
+
+-- The answer of a type.
+
+-- a list of any other type is not read; r is what the type octet gave
+pub vector-untyped : (t : TypeOctet) (r : TypeRead) → r ≡ typeRead t → ((n : ℕ) → r ≡ Known n → ⊥) → (l : List ℕ) (at : ℕ)
+    → typedRead t l at ≡ vector.Refused 4
+unfolding typedRead typeRead
+vector-untyped notAllowed r e p l at = refl
+vector-untyped unknown r e p l at = refl
+vector-untyped (known k) r e p l at = absurd (p _ e)
+
+-- of a known type, v is what the vector reader gave
+module _ (kind : ℕ) (l : List ℕ) (at : ℕ) (v : VectorRead) where
+  pub record OfType : Type 0 where
+    pub type : Attribute
+    pub is : typeOctet 0 kind ≡ known type
+    pub answer : v ≡ vectorRead (firstLength type) (hasFour type) l at
+
+  pub of-type : (first : ℕ) → typeRead (typeOctet 0 kind) ≡ Known first
+      → v ≡ vectorRead first (eqb kind 3) l at → OfType
+  of-type first e a =
+      let y = typed (typeOctet 0 kind) first e in
+      record { type = y .kind; is = y .is; answer = rw (y .octets, ← four-is kind (y .kind) (y .is)) a }
+
+module _ (k : Attribute) (l : List ℕ) (at : ℕ) where
+  -- by what stands there
+  by : (r : InList) → vectorIn (firstLength k) (hasFour k) l at ≡ r → typedRead (known k) l at ≡ vectorMeant (firstLength k) (hasFour k) at (checkedIn k l at r)
+  unfolding typedRead typedIn
+  by r e = rw e
+
+  pub typed-refused : (n : ℕ) → vectorRead (firstLength k) (hasFour k) l at ≡ vector.Refused n → typedRead (known k) l at ≡ vector.Refused n
+  unfolding vectorRead vectorMeant checkedIn
+  typed-refused n a = by (badVector n) (read-refused (firstLength k) (hasFour k) at _ n a)
+
+  module _ (a : vectorRead (firstLength k) (hasFour k) l at ≡ vector.EndMark) where
+    ends : vectorIn (firstLength k) (hasFour k) l at ≡ listEnd
+    ends = read-end (firstLength k) (hasFour k) at _ (unfold vectorRead in a)
+
+    pub end-within : at + 2 ≤ length l
+    unfolding vectorIn
+    end-within = let p = passed (ltb (length l) (at + 2)) _ _ _ bad ends in ltb-false _ _ (p .0)
+      where
+        bad : badVector 3 ≡ listEnd → ⊥
+        bad e = let z : _≡_ {A = ℕ} 0 1 = cc in omega arith
+
+    pub typed-end : at + 2 ≡ length l → typedRead (known k) l at ≡ vector.EndMark
+    unfolding vectorMeant checkedIn
+    typed-end p = by listEnd ends ∙ rw (eq-eqb _ _ p)
+
+    pub typed-early : (at + 2 ≡ length l → ⊥) → typedRead (known k) l at ≡ vector.Refused 3
+    unfolding vectorMeant checkedIn
+    typed-early p = by listEnd ends ∙ rw (ne-eqb _ _ p)
+
+  -- a vector, by its head
+  module _ (w : VectorHead) (a : vectorRead (firstLength k) (hasFour k) l at ≡ vector.Vector w) where
+    abbrev there : Headed (firstLength k) (hasFour k) at (vectorIn (firstLength k) (hasFour k) l at) w
+    there = read-head (firstLength k) (hasFour k) at _ w (unfold vectorRead in a)
+
+    first-value : firstPart l (vector.Vector w) ≡ part (at + 2) (firstLength k) l
+    first-value =
+        ap (λ (u : VectorHead). firstPart l (vector.Vector u)) (sym (there .head))
+        ∙ first-here (firstLength k) (hasFour k) l at (there .header) (there .is)
+
+    pub first-octets : length (firstPart l (vector.Vector w)) ≡ firstLength k
+    unfolding vectorEnd
+    first-octets =
+        let f = fitting (firstLength k) (hasFour k) l at (there .header) (there .is) .fits in
+        ap length first-value ∙ length-part (at + 2) (firstLength k) l (omega arith)
+
+    value-count : there .header % 8192 ≡ w .values
+    unfolding headOf
+    value-count = ap (λ (u : VectorHead). u .values) (there .head)
+
+    pub few-values : w .values < 8192
+    few-values = omega (arith, value-count)
+
+    -- whether a value runs past its field
+    abbrev past : Bool
+    past = not (eqb (w .values) 0) && runsPast k (firstPart l (vector.Vector w)) (w .values - 1)
+
+    overflow : overflows (vectorAt k l at (there .header)) ≡ past
+    unfolding overflows vectorAt
+    overflow = rw (first-value, value-count)
+
+    tested : typedRead (known k) l at ≡ cond past (vector.Refused 7) (vector.Vector w)
+    unfolding checkedIn
+    tested = by (vectorHead (there .header)) (there .is) ∙ rw overflow (go past)
+      where
+        go : (x : Bool) → vectorMeant (firstLength k) (hasFour k) at (cond x (badVector 7) (vectorHead (there .header))) ≡ cond x (vector.Refused 7) (vector.Vector w)
+        go true = unfold vectorMeant in refl
+        go false = unfold vectorMeant in (ap vector.Vector (there .head))
+
+    pub typed-none : w .values ≡ 0 → typedRead (known k) l at ≡ vector.Vector w
+    typed-none p = tested ∙ rw (eq-eqb (w .values) 0 p)
+
+    -- z is what the last value gave
+    module _ (p : 0 < w .values) (z : Bool) (i : z ≡ runsPast k (firstPart l (vector.Vector w)) (w .values - 1)) where
+      pub typed-past : z ≡ true → typedRead (known k) l at ≡ vector.Refused 7
+      typed-past q = tested ∙ rw (ne-eqb (w .values) 0 (λ n. omega arith), ← i, q)
+
+      pub typed-within : z ≡ false → typedRead (known k) l at ≡ vector.Vector w
+      typed-within q = tested ∙ rw (ne-eqb (w .values) 0 (λ n. omega arith), ← i, q)
+
+-- A vector that is read, of a type.
+
+pub record Read (t : TypeOctet) (l : List ℕ) (at : ℕ) (w : VectorHead) : Type 0 where
   pub kind : Attribute
   pub is : t ≡ known kind
-  pub passes : Passed kind l at w
+  pub header : ℕ
+  pub there : typedIn kind l at ≡ vectorHead header
+  pub head : headOf (firstLength kind) (hasFour kind) at header ≡ w
 
-pub known-read : (t : TypeOctet) (l : List ℕ) (at : ℕ) (w : VectorHead) → vectorRead t l at ≡ vector.Vector w → Known t l at w
-unfolding vectorRead
-known-read notAllowed l at w e = absurd (refusal 4 w e)
-known-read unknown l at w e = absurd (refusal 4 w e)
-known-read (known k) l at w e = record { kind = k; is = refl; passes = passed-all k l at w e }
+no-vector : (n : ℕ) (w : VectorHead) → vector.Refused n ≡ vector.Vector w → ⊥
+no-vector n w e = let z : _≡_ {A = ℕ} 0 1 = cc in omega arith
 
--- the places of a vector that is read are within its list
-abbrev pub Within : List ℕ → ℕ → VectorHead → Type 0
-Within l at w = (at + 2 ≤ w .three) × (w .three ≤ w .four) × (w .four ≤ w .next) × (w .next ≤ length l)
+pub read : (t : TypeOctet) (l : List ℕ) (at : ℕ) (w : VectorHead) → typedRead t l at ≡ vector.Vector w → Read t l at w
+unfolding typedRead
+read notAllowed l at w e = absurd (no-vector 4 w e)
+read unknown l at w e = absurd (no-vector 4 w e)
+read (known k) l at w e =
+    let h = read-head (firstLength k) (hasFour k) at (typedIn k l at) w e in
+    record { kind = k; is = refl; header = h .header; there = h .is; head = h .head }
 
-within-list : (k : Attribute) (l : List ℕ) (at : ℕ) (w : VectorHead) → Passed k l at w → Within l at w
+-- its places are within its list
+pub record Within (l : List ℕ) (at : ℕ) (w : VectorHead) : Type 0 where
+  pub first : w .first ≡ at + 2
+  pub three : w .first ≤ w .three
+  pub four : w .three ≤ w .four
+  pub next : w .four ≤ w .next
+  pub list : w .next ≤ length l
+
+pub within : (t : TypeOctet) (l : List ℕ) (at : ℕ) (w : VectorHead) → typedRead t l at ≡ vector.Vector w → Within l at w
 unfolding headOf vectorEnd
-within-list k l at w p = rw (← (p .head)) (omega arith, omega arith, omega arith, p .fits)
-
-pub within : (t : TypeOctet) (l : List ℕ) (at : ℕ) (w : VectorHead) → vectorRead t l at ≡ vector.Vector w → Within l at w
-within t l at w e = let k = known-read t l at w e in within-list (k .kind) l at w (k .passes)
-
--- FirstValue, as the code lends it
-first-of : (k : Attribute) (l : List ℕ) (at : ℕ) (w : VectorHead) → Passed k l at w
-    → take (w .three - (at + 2)) (drop (at + 2) l) ≡ part (at + 2) (firstLength k) l
-unfolding headOf
-first-of k l at w p = rw (← (p .head)) (lent-part (at + 2) (firstLength k) l)
-
-pub first-is : (t : TypeOctet) (l : List ℕ) (at : ℕ) (w : VectorHead) → vectorRead t l at ≡ vector.Vector w
-    → take (w .three - (at + 2)) (drop (at + 2) l) ≡ firstPart t at l (vectorRead t l at)
-unfolding firstPart vectorRead
-first-is notAllowed l at w e = absurd (refusal 4 w e)
-first-is unknown l at w e = absurd (refusal 4 w e)
-first-is (known k) l at w e = rw e (first-of k l at w (passed-all k l at w e))
-
-pub first-none : (t : TypeOctet) (l : List ℕ) (at : ℕ) (r : VectorRead) → ((w : VectorHead) → r ≡ vector.Vector w → ⊥) → firstPart t at l r ≡ []
-unfolding firstPart
-first-none t l at (vector.Refused n) p = refl
-first-none t l at vector.EndMark p = refl
-first-none t l at (vector.Vector w) p = absurd (p w refl)
+within t l at w e =
+    let r = read t l at w e in
+    let f = passed-all (r .kind) l at (r .header) (r .there) .fitting .fits in
+    rw (← (r .head)) record { first = refl; three = omega arith; four = omega arith; next = omega arith; list = f }

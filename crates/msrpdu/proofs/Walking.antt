@@ -1,9 +1,9 @@
 -- The reader's steps are those of the walk: what `vectors` and `messages` give from a place on, by what is read there; and where
 -- a Message that is read ends. Assumes nothing.
-use mathlib.Core.Path.{_≡_, refl}
+use mathlib.Core.Path.{_≡_, refl, ap, subst}
 use mathlib.Core.List.{List, []}
 use mathlib.Core.Bool.{Bool, true, false, cond, not}
-use Prim.Native.Nat.{ℕ, zero, suc, _+_, _-_, _/_, _≤_, _<_}
+use Prim.Native.Nat.{ℕ, zero, suc, _+_, _-_, _≤_, _<_}
 use native.Mathlib.Omega.{arith}
 use lib.ListN.{length, getD, take, drop}
 use lib.Dec.{ltb, eqb}
@@ -11,54 +11,34 @@ use borrow.Author.Tests.{lt-ltb, le-ltb, eq-eqb, ne-eqb, ltb-false}
 use Rattle.octets.specs.Be.{beAt}
 use Rattle.octets.specs.Parts.{part}
 use Rattle.octets.proofs.Parts.{lent-part, lent-length, length-part}
-use Rattle.model.specs.Frames.{Attribute, TypeOctet, notAllowed, unknown, known, typeOctet, firstLength, Vector, vectorAt, vectorEnd, overpacked, overflows, Walk, fault, found, also, both, vectors, listLength, listAt, endMark, messageEnd, messages, walk}
-use Rattle.model.specs.Frames as frames
-use Rattle.msrpdu.specs.Reader.{headOf, valuesOf, vectorOf, vectorRead, messageFrom, messageRead, numberOf}
+use Rattle.model.specs.FrameLayout.{longestPdu}
+use Rattle.model.specs.Frames.{Attribute, TypeOctet, notAllowed, unknown, known, typeOctet, firstLength, hasFour, Vector, vectorAt, typedIn, InPdu, badMessage, pduEnd, listSkipped, listOf, listLength, listAt, messageEnd, endMark, headerIn, messageIn, Walk, fault, found, also, both, vectorsFrom, vectors, messagesFrom, messages, walk}
+use Rattle.model.proofs.FoundVectors.{passed-all}
+use Rattle.msrpdu.specs.Reader.{headOf, typedRead, messageMeant, messageRead, numberOf}
 use Rattle.msrpdu.specs.declared.VectorHead.{VectorHead}
-use Rattle.msrpdu.specs.declared.VectorRead.{VectorRead}
 use Rattle.msrpdu.specs.declared.VectorRead.the-variants as vector
 use Rattle.msrpdu.specs.declared.MessageHead.{MessageHead}
-use Rattle.msrpdu.specs.declared.MessageRead.{MessageRead}
 use Rattle.msrpdu.specs.declared.MessageRead.the-variants as message
-
--- two choices by the same test
-same : {A : Type 0} (F : A → Walk) (t : Bool) (x y : A) (u v : Walk) → u ≡ F x → v ≡ F y → cond t u v ≡ F (cond t x y)
-same F true x y u v p q = p
-same F false x y u v p q = q
+use Rattle.msrpdu.proofs.Reading.{read-refused, read-end, read-head}
 
 -- Vectors.
 
--- what the vectors from a place on give, by what is read there; the last argument is what those after it give
-unfoldable pub afterVector : Attribute → List ℕ → ℕ → VectorRead → (ℕ → Walk) → Walk
-afterVector k l at (vector.Refused n) rest = fault n
-afterVector k l at vector.EndMark rest = found []
-afterVector k l at (vector.Vector w) rest = also (vectorAt k l at (beAt 2 l at)) (rest (w .next))
-
-pub vectors-by : (f : ℕ) (k : Attribute) (l : List ℕ) (at : ℕ) → vectors (suc f) k l at ≡ afterVector k l at (vectorOf k l at) (vectors f k l)
-unfolding vectors vectorOf valuesOf afterVector headOf
-vectors-by f k l at =
-    let F : VectorRead → Walk = λ r. afterVector k l at r (vectors f k l) in
-    let h = beAt 2 l at in
-    same F (ltb (length l) (at + 2)) _ _ _ _ refl
-    (same F (eqb h 0) _ _ _ _ (same F (eqb (at + 2) (length l)) _ _ _ _ refl refl)
-    (same F (ltb 1 (h / 8192)) _ _ _ _ refl
-    (same F (ltb (length l) (vectorEnd k at h)) _ _ _ _ refl
-    (same F (overpacked (vectorAt k l at h .three)) _ _ _ _ refl
-    (same F (overflows (vectorAt k l at h)) _ _ _ _ refl refl)))))
-
 module _ (f : ℕ) (k : Attribute) (l : List ℕ) (at : ℕ) where
-  pub vectors-refused : (n : ℕ) → vectorOf k l at ≡ vector.Refused n → vectors (suc f) k l at ≡ fault n
-  unfolding afterVector
-  vectors-refused n e = rw e at (vectors-by f k l at)
+  pub vectors-refused : (n : ℕ) → typedRead (known k) l at ≡ vector.Refused n → vectors (suc f) k l at ≡ fault n
+  unfolding typedRead vectors vectorsFrom
+  vectors-refused n e = rw (read-refused (firstLength k) (hasFour k) at (typedIn k l at) n e)
 
-  pub vectors-end : vectorOf k l at ≡ vector.EndMark → vectors (suc f) k l at ≡ found []
-  unfolding afterVector
-  vectors-end e = rw e at (vectors-by f k l at)
+  pub vectors-end : typedRead (known k) l at ≡ vector.EndMark → vectors (suc f) k l at ≡ found []
+  unfolding typedRead vectors vectorsFrom
+  vectors-end e = rw (read-end (firstLength k) (hasFour k) at (typedIn k l at) e)
 
-  pub vectors-next : (w : VectorHead) → vectorOf k l at ≡ vector.Vector w
+  pub vectors-next : (w : VectorHead) → typedRead (known k) l at ≡ vector.Vector w
       → vectors (suc f) k l at ≡ also (vectorAt k l at (beAt 2 l at)) (vectors f k l (w .next))
-  unfolding afterVector
-  vectors-next w e = rw e at (vectors-by f k l at)
+  unfolding typedRead vectors vectorsFrom headOf
+  vectors-next w e =
+      let h = read-head (firstLength k) (hasFour k) at (typedIn k l at) w e in
+      rw (h .is, passed-all k l at (h .header) (h .is) .fitting .is)
+      (ap (λ (u : VectorHead). also (vectorAt k l at (h .header)) (vectors f k l (u .next))) (h .head))
 
 -- the vectors of a list whose type octet is read: those of a known type
 unfoldable pub vectorsIn : TypeOctet → ℕ → List ℕ → ℕ → Walk
@@ -68,13 +48,70 @@ vectorsIn (known k) f l at = vectors f k l at
 
 -- Messages.
 
--- what the Messages from a place on give, by what is read there; the last argument is what those after it give
-unfoldable pub afterMessage : List ℕ → MessageRead → (ℕ → Walk) → Walk
-afterMessage s (message.Refused n) rest = fault n
-afterMessage s message.End rest = found []
-afterMessage s (message.Skipped next) rest = rest next
-afterMessage s (message.List m) rest =
-    both (vectorsIn (typeOctet 0 (m .kind)) (suc (m .next - m .list)) (take (m .next - m .list) (drop (m .list) s)) 0) (rest (m .next))
+-- what stands at a place, by the answer
+module _ (s : List ℕ) (at : ℕ) where
+  message-refused : (r : InPdu) (n : ℕ) → messageMeant s at r ≡ message.Refused n → r ≡ badMessage n
+  unfolding messageMeant
+  message-refused (badMessage m) n e = let i : m ≡ n = cc in ap badMessage i
+  message-refused pduEnd n e = let z : _≡_ {A = ℕ} 0 1 = cc in absurd (omega arith)
+  message-refused listSkipped n e = let z : _≡_ {A = ℕ} 0 1 = cc in absurd (omega arith)
+  message-refused (listOf k) n e = let z : _≡_ {A = ℕ} 0 1 = cc in absurd (omega arith)
+
+  message-end : (r : InPdu) → messageMeant s at r ≡ message.End → r ≡ pduEnd
+  unfolding messageMeant
+  message-end (badMessage m) e = let z : _≡_ {A = ℕ} 0 1 = cc in absurd (omega arith)
+  message-end pduEnd e = refl
+  message-end listSkipped e = let z : _≡_ {A = ℕ} 0 1 = cc in absurd (omega arith)
+  message-end (listOf k) e = let z : _≡_ {A = ℕ} 0 1 = cc in absurd (omega arith)
+
+  message-skipped : (r : InPdu) (next : ℕ) → messageMeant s at r ≡ message.Skipped next → (r ≡ listSkipped) × (messageEnd s at ≡ next)
+  unfolding messageMeant
+  message-skipped (badMessage m) next e = let z : _≡_ {A = ℕ} 0 1 = cc in absurd (omega arith)
+  message-skipped pduEnd next e = let z : _≡_ {A = ℕ} 0 1 = cc in absurd (omega arith)
+  message-skipped listSkipped next e = (refl, cc)
+  message-skipped (listOf k) next e = let z : _≡_ {A = ℕ} 0 1 = cc in absurd (omega arith)
+
+  -- a list to read, of a type
+  record Listed (r : InPdu) (m : MessageHead) : Type 0 where
+    type : Attribute
+    is : r ≡ listOf type
+    kind : m .kind ≡ getD s at 0
+    list : m .list ≡ at + 4
+    next : m .next ≡ messageEnd s at
+
+  message-listed : (r : InPdu) (m : MessageHead) → messageMeant s at r ≡ message.List m → Listed r m
+  unfolding messageMeant
+  message-listed (badMessage n) m e = let z : _≡_ {A = ℕ} 0 1 = cc in absurd (omega arith)
+  message-listed pduEnd m e = let z : _≡_ {A = ℕ} 0 1 = cc in absurd (omega arith)
+  message-listed listSkipped m e = let z : _≡_ {A = ℕ} 0 1 = cc in absurd (omega arith)
+  message-listed (listOf k) m e = record { type = k; is = refl; kind = cc; list = cc; next = cc }
+
+-- a Message that is read lies within the PDU, and a list to read is of a known type
+abbrev Ahead : ℕ → List ℕ → ℕ → InPdu → Type 0
+Ahead version s at (badMessage n) = Unit {0}
+Ahead version s at pduEnd = Unit {0}
+Ahead version s at listSkipped = messageEnd s at ≤ length s
+Ahead version s at (listOf k) = (typeOctet version (getD s at 0) ≡ known k) × (messageEnd s at ≤ length s)
+
+keeps : (P : InPdu → Type 0) (t : Bool) (x y : InPdu) → P x → (t ≡ false → P y) → P (cond t x y)
+keeps P true x y p q = p
+keeps P false x y p q = q refl
+
+ahead-from : (version : ℕ) (s : List ℕ) (at : ℕ) (t : TypeOctet) → typeOctet version (getD s at 0) ≡ t → Ahead version s at (headerIn t s at)
+unfolding headerIn
+ahead-from version s at notAllowed e = tt
+ahead-from version s at unknown e = keeps (Ahead version s at) (ltb (length s) (messageEnd s at)) _ _ tt (λ p. ltb-false _ _ p)
+ahead-from version s at (known k) e =
+    keeps (Ahead version s at) (not (eqb (getD s (at + 1) 0) (firstLength k))) _ _ tt
+    (λ d. keeps (Ahead version s at) (ltb (length s) (messageEnd s at)) _ _ tt (λ p. (e, ltb-false _ _ p)))
+
+ahead : (version : ℕ) (s : List ℕ) (at : ℕ) → Ahead version s at (messageIn version s at)
+unfolding messageIn
+ahead version s at =
+    let P = Ahead version s at in
+    keeps P (eqb at (length s)) _ _ tt
+    (λ a. keeps P (endMark s at) _ _ tt
+    (λ b. keeps P (ltb (length s) (at + 4)) _ _ tt (λ c. ahead-from version s at (typeOctet version (getD s at 0)) refl)))
 
 -- a known type is the same in every version
 known-any : (version kind : ℕ) (k : Attribute) → typeOctet version kind ≡ known k → typeOctet 0 kind ≡ known k
@@ -97,77 +134,49 @@ listed : (version : ℕ) (s : List ℕ) (at : ℕ) (k : Attribute) → typeOctet
 unfolding vectorsIn messageEnd listAt
 listed version s at k e = rw (known-any version (getD s at 0) k e, lent-part (at + 4) (listLength s at) s, lent-length (at + 4) (listLength s at))
 
--- a Message by what its type octet gives
-message-by : (version : ℕ) (s : List ℕ) (at : ℕ) (rest : ℕ → Walk) (t : TypeOctet) → typeOctet version (getD s at 0) ≡ t
-    → frames.message t s at (rest (messageEnd s at)) ≡ afterMessage s (messageFrom t s at) rest
-unfolding frames.message messageFrom afterMessage
-message-by version s at rest notAllowed e = refl
-message-by version s at rest unknown e = same (λ r. afterMessage s r rest) (ltb (length s) (messageEnd s at)) _ _ _ _ refl refl
-message-by version s at rest (known k) e =
-    let F : MessageRead → Walk = λ r. afterMessage s r rest in
-    same F (not (eqb (getD s (at + 1) 0) (firstLength k))) _ _ _ _ refl
-    (same F (ltb (length s) (messageEnd s at)) _ _ _ _ refl (rw (listed version s at k e)))
+module _ (version : ℕ) (s : List ℕ) (at : ℕ) where
+  pub ahead-skipped : (next : ℕ) → messageRead version s at ≡ message.Skipped next → (at + 4 ≤ next) × (next ≤ length s)
+  unfolding messageRead messageEnd
+  ahead-skipped next e =
+      let r = message-skipped s at (messageIn version s at) next e in
+      let a : messageEnd s at ≤ length s = subst (Ahead version s at) (r .0) (ahead version s at) in
+      (omega (arith, r .1), omega (arith, r .1))
 
-pub messages-by : (f version : ℕ) (s : List ℕ) (at : ℕ) → messages (suc f) version s at ≡ afterMessage s (messageRead version s at) (messages f version s)
-unfolding messages messageRead afterMessage
-messages-by f version s at =
-    let F : MessageRead → Walk = λ r. afterMessage s r (messages f version s) in
-    same F (eqb at (length s)) _ _ _ _ refl
-    (same F (endMark s at) _ _ _ _ refl
-    (same F (ltb (length s) (at + 4)) _ _ _ _ refl (message-by version s at (messages f version s) (typeOctet version (getD s at 0)) refl)))
+  pub ahead-list : (m : MessageHead) → messageRead version s at ≡ message.List m → (m .list ≡ at + 4) × (m .list ≤ m .next) × (m .next ≤ length s)
+  unfolding messageRead messageEnd
+  ahead-list m e =
+      let r = message-listed s at (messageIn version s at) m e in
+      let a = subst (Ahead version s at) (r .is) (ahead version s at) in
+      (r .list, omega (arith, r .list, r .next), omega (arith, r .next, a .1))
 
 module _ (f version : ℕ) (s : List ℕ) (at : ℕ) where
   pub messages-refused : (n : ℕ) → messageRead version s at ≡ message.Refused n → messages (suc f) version s at ≡ fault n
-  unfolding afterMessage
-  messages-refused n e = rw e at (messages-by f version s at)
+  unfolding messageRead messages messagesFrom
+  messages-refused n e = rw (message-refused s at (messageIn version s at) n e)
 
   pub messages-end : messageRead version s at ≡ message.End → messages (suc f) version s at ≡ found []
-  unfolding afterMessage
-  messages-end e = rw e at (messages-by f version s at)
+  unfolding messageRead messages messagesFrom
+  messages-end e = rw (message-end s at (messageIn version s at) e)
 
   pub messages-skipped : (next : ℕ) → messageRead version s at ≡ message.Skipped next → messages (suc f) version s at ≡ messages f version s next
-  unfolding afterMessage
-  messages-skipped next e = rw e at (messages-by f version s at)
+  unfolding messageRead messages messagesFrom
+  messages-skipped next e = let r = message-skipped s at (messageIn version s at) next e in rw (r .0, r .1)
 
   pub messages-list : (m : MessageHead) → messageRead version s at ≡ message.List m
       → messages (suc f) version s at
       ≡ both (vectorsIn (typeOctet 0 (m .kind)) (suc (m .next - m .list)) (take (m .next - m .list) (drop (m .list) s)) 0) (messages f version s (m .next))
-  unfolding afterMessage
-  messages-list m e = rw e at (messages-by f version s at)
+  unfolding messageRead messages messagesFrom
+  messages-list m e = go (m .kind) (m .list) (m .next) (r .kind) (r .list) (r .next)
+    where
+      r : Listed s at (messageIn version s at) m
+      r = message-listed s at (messageIn version s at) m e
 
--- the places of a Message that is read are within the PDU, and after its own
-abbrev Ahead : List ℕ → ℕ → MessageRead → Type 0
-Ahead s at (message.Refused n) = Unit {0}
-Ahead s at message.End = Unit {0}
-Ahead s at (message.Skipped next) = (at + 4 ≤ next) × (next ≤ length s)
-Ahead s at (message.List m) = (m .list ≡ at + 4) × (m .list ≤ m .next) × (m .next ≤ length s)
-
-keeps : (P : MessageRead → Type 0) (t : Bool) (x y : MessageRead) → P x → (t ≡ false → P y) → P (cond t x y)
-keeps P true x y p q = p
-keeps P false x y p q = q refl
-
-ahead-from : (s : List ℕ) (at : ℕ) (t : TypeOctet) → Ahead s at (messageFrom t s at)
-unfolding messageFrom messageEnd
-ahead-from s at notAllowed = tt
-ahead-from s at unknown =
-    keeps (Ahead s at) (ltb (length s) (at + 4 + listLength s at)) _ _ tt (λ e. let h = ltb-false _ _ e in (omega arith, h))
-ahead-from s at (known k) =
-    keeps (Ahead s at) (not (eqb (getD s (at + 1) 0) (firstLength k))) _ _ tt
-    (λ d. keeps (Ahead s at) (ltb (length s) (at + 4 + listLength s at)) _ _ tt (λ e. (refl, omega arith, ltb-false _ _ e)))
-
-ahead : (version : ℕ) (s : List ℕ) (at : ℕ) → Ahead s at (messageRead version s at)
-unfolding messageRead
-ahead version s at =
-    keeps (Ahead s at) (eqb at (length s)) _ _ tt
-    (λ a. keeps (Ahead s at) (endMark s at) _ _ tt
-    (λ b. keeps (Ahead s at) (ltb (length s) (at + 4)) _ _ tt (λ c. ahead-from s at (typeOctet version (getD s at 0)))))
-
-module _ (version : ℕ) (s : List ℕ) (at : ℕ) where
-  pub ahead-skipped : (next : ℕ) → messageRead version s at ≡ message.Skipped next → (at + 4 ≤ next) × (next ≤ length s)
-  ahead-skipped next e = rw e at (ahead version s at)
-
-  pub ahead-list : (m : MessageHead) → messageRead version s at ≡ message.List m → (m .list ≡ at + 4) × (m .list ≤ m .next) × (m .next ≤ length s)
-  ahead-list m e = rw e at (ahead version s at)
+      go : (kind list next : ℕ) → kind ≡ getD s at 0 → list ≡ at + 4 → next ≡ messageEnd s at
+          → messages (suc f) version s at
+          ≡ both (vectorsIn (typeOctet 0 kind) (suc (next - list)) (take (next - list) (drop list s)) 0) (messages f version s next)
+      go kind list next p q o =
+          let a = subst (Ahead version s at) (r .is) (ahead version s at) in
+          rw (r .is, p, q, o, listed version s at (r .type) (a .0))
 
 -- a list's own length, as the code lends it
 pub list-length : (s : List ℕ) (a e : ℕ) → a ≤ e → e ≤ length s → length (take (e - a) (drop a s)) ≡ e - a
@@ -182,13 +191,13 @@ module _ (s : List ℕ) where
   walk-empty p = rw (eq-eqb _ _ p)
 
   module _ (o : length s ≡ 0 → ⊥) where
-    pub walk-long : 1500 < length s → walk s ≡ fault 2
+    pub walk-long : longestPdu < length s → walk s ≡ fault 2
     unfolding walk
-    walk-long p = rw (ne-eqb _ _ o, lt-ltb 1500 _ p)
+    walk-long p = rw (ne-eqb _ _ o, lt-ltb longestPdu _ p)
 
-    pub walk-in : length s ≤ 1500 → walk s ≡ messages (suc (length s)) (getD s 0 0) s 1
+    pub walk-in : length s ≤ longestPdu → walk s ≡ messages (suc (length s)) (getD s 0 0) s 1
     unfolding walk
-    walk-in p = rw (ne-eqb _ _ o, le-ltb 1500 _ p)
+    walk-in p = rw (ne-eqb _ _ o, le-ltb longestPdu _ p)
 
 -- The number that a walk gives, by what is read; w is what the Messages after the list give.
 
@@ -199,14 +208,14 @@ also-number v (found vs) (fault n) = refl
 also-number v (found vs) (found ws) = refl
 
 module _ (f : ℕ) (l : List ℕ) (at : ℕ) (w : Walk) where
-  pub number-refused : (t : TypeOctet) (n : ℕ) → vectorRead t l at ≡ vector.Refused n → numberOf (both (vectorsIn t (suc f) l at) w) ≡ n
-  unfolding vectorRead vectorsIn both numberOf
+  pub number-refused : (t : TypeOctet) (n : ℕ) → typedRead t l at ≡ vector.Refused n → numberOf (both (vectorsIn t (suc f) l at) w) ≡ n
+  unfolding typedRead vectorsIn both numberOf
   number-refused notAllowed n e = cc
   number-refused unknown n e = cc
   number-refused (known k) n e = rw (vectors-refused f k l at n e)
 
-  pub number-end : (t : TypeOctet) → vectorRead t l at ≡ vector.EndMark → numberOf (both (vectorsIn t (suc f) l at) w) ≡ numberOf w
-  unfolding vectorRead vectorsIn both numberOf
+  pub number-end : (t : TypeOctet) → typedRead t l at ≡ vector.EndMark → numberOf (both (vectorsIn t (suc f) l at) w) ≡ numberOf w
+  unfolding typedRead vectorsIn both numberOf
   number-end notAllowed e = let z : _≡_ {A = ℕ} 0 1 = cc in absurd (omega arith)
   number-end unknown e = let z : _≡_ {A = ℕ} 0 1 = cc in absurd (omega arith)
   number-end (known k) e = rw (vectors-end f k l at e) (none w)
@@ -215,13 +224,13 @@ module _ (f : ℕ) (l : List ℕ) (at : ℕ) (w : Walk) where
       none (fault n) = refl
       none (found vs) = refl
 
-  number-after : (t : TypeOctet) (h : VectorHead) → vectorRead t l at ≡ vector.Vector h
+  number-after : (t : TypeOctet) (h : VectorHead) → typedRead t l at ≡ vector.Vector h
       → numberOf (both (vectorsIn t (suc f) l at) w) ≡ numberOf (both (vectorsIn t f l (h .next)) w)
-  unfolding vectorRead vectorsIn
+  unfolding typedRead vectorsIn
   number-after notAllowed h e = let z : _≡_ {A = ℕ} 0 1 = cc in absurd (omega arith)
   number-after unknown h e = let z : _≡_ {A = ℕ} 0 1 = cc in absurd (omega arith)
   number-after (known k) h e = rw (vectors-next f k l at h e) (also-number (vectorAt k l at (beAt 2 l at)) (vectors f k l (h .next)) w)
 
-  pub number-next : (t : TypeOctet) (h : VectorHead) → vectorRead t l at ≡ vector.Vector h → (g : ℕ) → f ≡ suc g
+  pub number-next : (t : TypeOctet) (h : VectorHead) → typedRead t l at ≡ vector.Vector h → (g : ℕ) → f ≡ suc g
       → numberOf (both (vectorsIn t (suc f) l at) w) ≡ numberOf (both (vectorsIn t (suc g) l (h .next)) w)
   number-next t h e g m = rw (← m) (number-after t h e)

@@ -1,9 +1,11 @@
 // The reader of MSRPDUs (01, "The PDU"): each function's answer is that of the definitions in crate model, for every input.
 ghost use mathlib.Core.Path.{_≡_};
-ghost use Prim.Native.Nat.{_+_, _/_, _%_, _≤_, _<_};
+ghost use Prim.Native.Nat.{_+_, _^_, _≤_, _<_};
 ghost use lib.ListN.{length, getD};
-ghost use Rattle.model.specs.Frames.{typeOctet, overpacked, walk, threePacked};
-ghost use Rattle.msrpdu.specs.Reader.{typeRead, vectorRead, firstPart, messageFrom, messageRead, numberOf, eventIn, fourIn, fourOctets, pastField, valuesRead, streamIdIn, destinationIn};
+ghost use Rattle.model.specs.Frames.{typeOctet, fourLength, overpacked, headerIn, walk, threePacked};
+ghost use Rattle.msrpdu.specs.Reader.{typeRead, headOf, vectorRead, typedRead, firstPart, messageMeant, messageRead, numberOf, eventIn, fourIn, pastField, streamIdIn};
+use model::pdu;
+use model::refusal;
 
 // What the AttributeType octet decides: a known type with its octets of FirstValue, a list to skip unread, or a refusal.
 pub enum TypeRead {
@@ -17,10 +19,10 @@ pub fn type_read(version: u8, kind: u8) -> TypeRead
 {
     match kind {
         0 => TypeRead::Refused,
-        1 => TypeRead::Known(25),
-        2 => TypeRead::Known(34),
-        3 => TypeRead::Known(8),
-        4 => TypeRead::Known(4),
+        1 => TypeRead::Known(pdu::ADVERTISE),
+        2 => TypeRead::Known(pdu::FAILED),
+        3 => TypeRead::Known(pdu::LISTENER),
+        4 => TypeRead::Known(pdu::DOMAIN),
         5..=255 => {
             if version == 0 {
                 return TypeRead::Refused;
@@ -44,21 +46,12 @@ fn any_overpacked(events: &[u8]) -> bool
     false
 }
 
-// The FourPackedEvents octets of so many values: of Listeners only.
-fn four_octets(kind: u8, values: usize) -> usize
-    requires { ⌜ values ≤ 8191 ⌝ }
-    ensures { λ r. ⌜ (r ≡ fourOctets (typeOctet 0 kind) values) × (r ≤ values) ⌝ }
-{
-    if kind == 3 {
-        return (values + 3) / 4;
-    }
-    0
-}
-
-// A vector that was read: LeaveAll, the number of its values, the places of its event octets, and the place after it.
+// A vector that was read: LeaveAll, the number of its values, the places of FirstValue and of its event octets, and the place
+// after it.
 pub struct VectorHead {
     pub leaves: bool,
     pub values: usize,
+    pub first: usize,
     pub three: usize,
     pub four: usize,
     pub next: usize,
@@ -122,110 +115,141 @@ fn runs_past(kind: u8, first: &[u8], n: usize) -> bool
     281474976710655 < octets::get(first, 8, 6) + (n as u64)
 }
 
-// The event octets and values of a vector that fits, of header h: their checks, and its head.
-fn vector_values(
-    list: &[u8],
-    at: usize,
-    kind: u8,
-    first: usize,
-    h: usize,
-    fours: usize,
-) -> VectorRead
-    requires { ⌜ (h < 65536) × (typeRead (typeOctet 0 kind) ≡ TypeRead.Known first) × (fours ≡ fourOctets (typeOctet 0 kind) (h % 8192))
-        × (at + 2 + first + (h % 8192 + 2) / 3 + fours ≤ length (now list)) ⌝ }
-    ensures { λ r. ⌜ r ≡ valuesRead (typeOctet 0 kind) (now (list .entry)) at h ⌝ }
+// The FourPackedEvents octets of so many values, where a vector has them.
+fn four_octets(four: bool, values: usize) -> usize
+    requires { ⌜ values ≤ 8191 ⌝ }
+    ensures { λ r. ⌜ (r ≡ fourLength four values) × (r ≤ values) ⌝ }
+{
+    if four {
+        return (values + 3) / 4;
+    }
+    0
+}
+
+// The head of a vector at a place, of header h, by the octets of FirstValue and whether FourPackedEvents follow.
+fn head_of(at: usize, first: usize, four: bool, h: usize) -> VectorHead
+    requires { ⌜ at + first + 65536 < 2 ^ 64 ⌝ }
+    ensures { λ r. ⌜ r ≡ headOf first four at h ⌝ }
 {
     let values = h % 8192;
     let start = at + 2;
     let three = start + first;
-    let four = three + (values + 2) / 3;
-    let over = any_overpacked(&list[three..four]);
-    if over {
-        return VectorRead::Refused(6);
-    }
-    if 0 < values {
-        let past = runs_past(kind, &list[start..three], values - 1);
-        if past {
-            return VectorRead::Refused(7);
-        }
-    }
-    VectorRead::Vector(VectorHead {
+    let fours = three + (values + 2) / 3;
+    VectorHead {
         leaves: h / 8192 == 1,
         values: values,
+        first: start,
         three: three,
-        four: four,
-        next: four + fours,
-    })
+        four: fours,
+        next: fours + four_octets(four, values),
+    }
 }
 
-// The vector at a place of an AttributeList of a type: its checks, in 01's order.
-pub fn vector(list: &[u8], at: usize, kind: u8) -> VectorRead
-    ensures { λ r. ⌜ r ≡ vectorRead (typeOctet 0 kind) (now (list .entry)) at ⌝ }
+// The vector at a place of an AttributeList of any MRP application, by the octets of FirstValue and whether FourPackedEvents
+// follow: its checks, in 01's order, but for that of its values.
+pub fn vector(list: &[u8], at: usize, first: usize, four: bool) -> VectorRead
+    ensures { λ r. ⌜ r ≡ vectorRead first four (now (list .entry)) at ⌝ }
 {
-    let TypeRead::Known(first) = type_read(0, kind) else {
-        return VectorRead::Refused(4);
-    };
     let n = list.len();
     if n < 2 {
-        return VectorRead::Refused(3);
+        return VectorRead::Refused(refusal::PAST_END);
     }
     if n - 2 < at {
-        return VectorRead::Refused(3);
+        return VectorRead::Refused(refusal::PAST_END);
     }
     let h = octets::get(list, at, 2) as usize;
     if h == 0 {
-        if at + 2 == n {
-            return VectorRead::EndMark;
-        }
-        return VectorRead::Refused(3);
+        return VectorRead::EndMark;
     }
     if 1 < h / 8192 {
-        return VectorRead::Refused(6);
+        return VectorRead::Refused(refusal::EVENT);
     }
-    let values = h % 8192;
-    let events = (values + 2) / 3;
-    let fours = four_octets(kind, values);
-    if n - 2 - at < first + events + fours {
-        return VectorRead::Refused(3);
+    if n - 2 - at < first {
+        return VectorRead::Refused(refusal::PAST_END);
     }
-    vector_values(list, at, kind, first, h, fours)
+    let head = head_of(at, first, four, h);
+    if n < head.next {
+        return VectorRead::Refused(refusal::PAST_END);
+    }
+    let three = head.three;
+    let end = head.four;
+    let over = any_overpacked(&list[three..end]);
+    if over {
+        return VectorRead::Refused(refusal::EVENT);
+    }
+    VectorRead::Vector(head)
 }
 
-// FirstValue of the vector at a place, as that part of the list: empty where the vector is refused or is the EndMark.
-pub fn first_value(list: &[u8], at: usize, kind: u8) -> &[u8]
-    ensures { λ r. ⌜ now r ≡ firstPart (typeOctet 0 kind) at (now (list .entry)) (vectorRead (typeOctet 0 kind) (now (list .entry)) at) ⌝ }
+// FirstValue of what the vector reader gave, as that part of the list: empty where it refused or met the EndMark.
+pub fn first_value(list: &[u8], read: VectorRead) -> &[u8]
+    ensures { λ r. ⌜ now r ≡ firstPart (now (list .entry)) read ⌝ }
 {
-    let VectorRead::Vector(head) = vector(list, at, kind) else {
+    let VectorRead::Vector(head) = read else {
         return &list[0..0];
     };
-    let start = at + 2;
+    let start = head.first;
     let end = head.three;
+    if list.len() < end {
+        return &list[0..0];
+    }
+    if end < start {
+        return &list[0..0];
+    }
     &list[start..end]
+}
+
+// The vector at a place of an AttributeList of a type: the EndMark is the list's last two octets, and the values are checked last.
+pub fn typed_vector(list: &[u8], at: usize, kind: u8) -> VectorRead
+    ensures { λ r. ⌜ r ≡ typedRead (typeOctet 0 kind) (now (list .entry)) at ⌝ }
+{
+    let TypeRead::Known(octets) = type_read(0, kind) else {
+        return VectorRead::Refused(refusal::ATTRIBUTE_TYPE);
+    };
+    let v = vector(list, at, octets, kind == 3);
+    match v {
+        VectorRead::Refused(_) => v,
+        VectorRead::EndMark => {
+            if list.len() - at == 2 {
+                return v;
+            }
+            VectorRead::Refused(refusal::PAST_END)
+        }
+        VectorRead::Vector(w) => {
+            let values = w.values;
+            if 0 < values {
+                let first = first_value(list, v);
+                if runs_past(kind, first, values - 1) {
+                    return VectorRead::Refused(refusal::VALUE);
+                }
+            }
+            v
+        }
+    }
 }
 
 // A Message whose four header octets are there: type, length and list.
 fn message_header(pdu: &[u8], version: u8, at: usize) -> MessageRead
     requires { ⌜ at + 4 ≤ length (now pdu) ⌝ }
-    ensures { λ r. ⌜ r ≡ messageFrom (typeOctet version (getD (now (pdu .entry)) at 0)) (now (pdu .entry)) at ⌝ }
+    ensures { λ r. ⌜ r ≡ messageMeant (now (pdu .entry)) at (headerIn (typeOctet version (getD (now (pdu .entry)) at 0)) (now (pdu .entry)) at) ⌝ }
 {
     let left = pdu.len() - at - 4;
     let kind = pdu[at];
     let list = octets::get(pdu, at + 2, 2) as usize;
     let t = type_read(version, kind);
     match t {
-        TypeRead::Refused => MessageRead::Refused(4),
+        TypeRead::Refused => MessageRead::Refused(refusal::ATTRIBUTE_TYPE),
         TypeRead::Skipped => {
             if left < list {
-                return MessageRead::Refused(3);
+                return MessageRead::Refused(refusal::PAST_END);
             }
             MessageRead::Skipped(at + 4 + list)
         }
         TypeRead::Known(first) => {
             if (pdu[at + 1] as usize) != first {
-                return MessageRead::Refused(5);
+                return MessageRead::Refused(refusal::ATTRIBUTE_LENGTH);
             }
             if left < list {
-                return MessageRead::Refused(3);
+                return MessageRead::Refused(refusal::PAST_END);
             }
             MessageRead::List(MessageHead {
                 kind: kind,
@@ -245,7 +269,7 @@ pub fn message(pdu: &[u8], version: u8, at: usize) -> MessageRead
         return MessageRead::End;
     }
     if n < at {
-        return MessageRead::Refused(3);
+        return MessageRead::Refused(refusal::PAST_END);
     }
     if 2 <= n - at {
         if octets::get(pdu, at, 2) == 0 {
@@ -253,7 +277,7 @@ pub fn message(pdu: &[u8], version: u8, at: usize) -> MessageRead
         }
     }
     if n - at < 4 {
-        return MessageRead::Refused(3);
+        return MessageRead::Refused(refusal::PAST_END);
     }
     message_header(pdu, version, at)
 }
@@ -264,10 +288,10 @@ pub fn check(pdu: &[u8]) -> u8
 {
     let n = pdu.len();
     if n == 0 {
-        return 2;
+        return refusal::PDU_LENGTH;
     }
-    if 1500 < n {
-        return 2;
+    if pdu::LONGEST < n {
+        return refusal::PDU_LENGTH;
     }
     let version = pdu[0];
     let mut at: usize = 1;
@@ -275,7 +299,7 @@ pub fn check(pdu: &[u8]) -> u8
         let m = message(pdu, version, at);
         match m {
             MessageRead::Refused(number) => break 'messages number,
-            MessageRead::End => break 'messages 0,
+            MessageRead::End => break 'messages refusal::ACCEPTED,
             MessageRead::Skipped(next) => at = next,
             MessageRead::List(head) => {
                 let kind = head.kind;
@@ -283,7 +307,7 @@ pub fn check(pdu: &[u8]) -> u8
                 let end = head.next;
                 let mut place: usize = 0;
                 loop {
-                    let v = vector(&pdu[start..end], place, kind);
+                    let v = typed_vector(&pdu[start..end], place, kind);
                     match v {
                         VectorRead::Refused(number) => break 'messages number,
                         VectorRead::EndMark => break,
@@ -357,18 +381,4 @@ pub fn stream_id(first: &[u8], n: usize) -> ValueRead
         return ValueRead::Past;
     }
     ValueRead::Value(octets::get(first, 0, 8) + (n as u64))
-}
-
-// Destination of value n of a Talker's FirstValue.
-pub fn destination(first: &[u8], n: usize) -> ValueRead
-    ensures { λ r. ⌜ r ≡ destinationIn (now (first .entry)) n ⌝ }
-{
-    if first.len() < 14 {
-        return ValueRead::Past;
-    }
-    let address = octets::get(first, 8, 6);
-    if 281474976710655 - address < (n as u64) {
-        return ValueRead::Past;
-    }
-    ValueRead::Value(address + (n as u64))
 }

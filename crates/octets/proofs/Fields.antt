@@ -228,10 +228,6 @@ beAt-add n (suc m) s at =
     rw (e, a, beAt-add n m s at, pow-suc 256 m, add-mul, mul-assoc, add-assoc)
 
 -- what is done behind a list
-pub part-behind : (x y : List ℕ) (m a n : ℕ) → length x ≡ m → part (m + a) n (x ++ y) ≡ part a n y
-unfolding part
-part-behind x y m a n e = rw (← e) (rw (drop-append-add x y a))
-
 pub patch-behind : (x y z : List ℕ) (m a n : ℕ) → length x ≡ m → patch (m + a) n z (x ++ y) ≡ x ++ patch a n z y
 unfolding patch
 patch-behind x y z m a n e = rw (← e) (rw (take-append-add x y a, drop-append-add x y a, append-assoc))

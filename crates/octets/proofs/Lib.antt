@@ -3,4 +3,5 @@ pub mod Be
 pub mod Pick
 pub mod Frame
 pub mod Fields
+pub mod Patches
 pub mod Copies

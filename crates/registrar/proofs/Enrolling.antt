@@ -7,14 +7,14 @@ use native.Mathlib.Omega.{arith}
 use lib.ListN.{length, getD, take, drop, List·getD-map}
 use Rattle.model.specs.State.{Cell, Stream, Bridge, fresh}
 use Rattle.model.specs.Registrations.{Act, leaveAll, leave, talk, listen, does, at, change, touch, reach, apply, holding, ids}
-use Rattle.model.specs.Table.{streamOctets, toStream, encode, decode}
+use Rattle.model.specs.Table.{encode, decode}
 use Rattle.model.specs.Laid.{FitBridge, Laid}
 use Rattle.model.proofs.FoundVectors.{Fits}
 use Rattle.model.proofs.FrameOrder.{held-ids, joined}
 use Rattle.model.proofs.Fits.{bridge-read, laid-is, laid-fits}
 use Rattle.table.specs.declared.Found.the-variants.{At, Gap}
 use Rattle.table.specs.Find.{foundAt}
-use Rattle.table.specs.Updates.{inserted}
+use Rattle.table.specs.Updates.{inserted, withCell}
 use Rattle.table.proofs.Finding.{between-found, length-ids}
 use Rattle.table.proofs.Places.{at-gap, room-at, room-gap, getD-put-in, length-put-in}
 use Rattle.table.proofs.Fitting.{inserted-fits}
@@ -26,7 +26,7 @@ use Rattle.registrar.proofs.Room.{again}
 use Rattle.registrar.proofs.Keeps.{effect-fits}
 use Rattle.registrar.proofs.Walks.{done, act-done, act-stopped}
 use Rattle.registrar.proofs.ValueActs.{Joins}
-use Rattle.registrar.proofs.Touched.{record-touched}
+use Rattle.registrar.proofs.Touched.{cell-touched}
 
 -- A record is there, or is made, or there is no room.
 
@@ -117,13 +117,11 @@ module _ (p i : ℕ) (a : Act) (j : Joins i a) (t : List ℕ) where
       unfolding holding
       enrolled-found = rw enrolled-read (n .place)
 
-      pub join-applied : (b : ℕ) (y : List ℕ) → b ≡ 272 + 493 * k →
-          ((clock : ℕ) → y ≡ streamOctets (change (at p (does clock a)) (toStream (take (b + 493 - b) (drop b u))))) →
-          Walked true p (a ∷ []) t true (take b u ++ (y ++ drop (b + 493 - b) (drop b u)))
+      pub join-applied : (y : List ℕ) → ((clock : ℕ) → y ≡ encode (withCell k p (does clock a) (decode u))) → Walked true p (a ∷ []) t true y
       unfolding done
-      join-applied b y e q =
+      join-applied y q =
           act-done true p a t _ l f (rw (done-many true) (n .few))
-          (record-touched u enrolled-laid i k b enrolled-found e true v y (q (decode t .clock)) ∙ applied)
+          (q (decode t .clock) ∙ cell-touched u i k enrolled-found true p (does (decode t .clock) a) ∙ applied)
         where
           v : List Cell → List Cell
           v = at p (does (decode t .clock) a)

@@ -1,6 +1,6 @@
 -- The walk over a well-formed frame, Message by Message and vector by vector: the acts of what stands at a place, and then those
 -- of what follows.
-use Prim.Native.Nat.{ℕ, zero, suc, _+_, _-_, _≤_}
+use Prim.Native.Nat.{ℕ, zero, suc, _-_, _≤_}
 use mathlib.Core.Path.{_≡_, refl, sym, _∙_, ap}
 use mathlib.Core.List.{List, [], _++_}
 use mathlib.Core.Bool.{true, false≢true}
@@ -9,16 +9,16 @@ use lib.ListN.{length, take, drop}
 use Rattle.octets.specs.Be.{beAt}
 use Rattle.model.specs.Registrations.{Act}
 use Rattle.model.specs.Frames.{Attribute, known, typeOctet, Vector, vectorAt, Walk, fault, found, vectors, messages, vectorActs, frameActs}
-use Rattle.msrpdu.specs.Reader.{vectorRead, messageRead}
+use Rattle.msrpdu.specs.Reader.{typedRead, messageRead, headVector}
 use Rattle.msrpdu.specs.declared.VectorHead.{VectorHead}
 use Rattle.msrpdu.specs.declared.VectorRead.{VectorRead}
 use Rattle.msrpdu.specs.declared.MessageHead.{MessageHead}
 use Rattle.msrpdu.proofs.Walking.{vectorsIn, ahead-list, list-length}
-use Rattle.msrpdu.proofs.Applying.{found-next, found-end, found-accepted, found-typed, NextList, found-list, found-skipped, found-done, found-allowed, acts-next, acts-append}
+use Rattle.msrpdu.proofs.Applying.{found-next, found-end, found-accepted, found-typed, NextList, found-list, found-skipped, found-done, found-allowed, acts-next, acts-append, no-fault}
 use Rattle.msrpdu.specs.declared.VectorRead.the-variants as vector
 use Rattle.msrpdu.specs.declared.MessageRead.the-variants as message
 use Rattle.registrar.specs.Acts.{isFound, actsOf, attributeAt}
-use Rattle.registrar.proofs.VectorActs.{type-known}
+use Rattle.registrar.proofs.VectorActs.{type-known, vector-meant}
 
 -- the vectors that a walk without a fault finds
 pub record Finds (w : Walk) : Type 0 where
@@ -39,9 +39,6 @@ acts-are : (w : Walk) (vs : List Vector) → w ≡ found vs → actsOf w ≡ fra
 unfolding actsOf
 acts-are w vs e = rw e
 
-no-fault : (n : ℕ) (vs : List Vector) → fault n ≡ found vs → ⊥
-no-fault n vs e = let z : _≡_ {A = ℕ} 0 1 = cc in omega arith
-
 -- An AttributeList, with the vectors vs left from a place on.
 
 vectors-fuel : (f : ℕ) (k : Attribute) (l : List ℕ) (at : ℕ) (vs : List Vector) → vectors f k l at ≡ found vs → f ≡ suc (f - 1)
@@ -53,20 +50,22 @@ module _ (f : ℕ) (kind : ℕ) (low : 1 ≤ kind) (high : kind ≤ 4) (l : List
   -- a vector, and those after it
   pub record Next (w : VectorHead) : Type 0 where
     pub rest : List Vector
-    pub acts : frameActs vs ≡ vectorActs (vectorAt (attributeAt kind) l at (beAt 2 l at)) ++ frameActs rest
+    pub acts : frameActs vs ≡ vectorActs (headVector (attributeAt kind) l w) ++ frameActs rest
     pub left : vectors (suc (f - 1)) (attributeAt kind) l (w .next) ≡ found rest
 
-  pub next-vector : (w : VectorHead) → vectorRead (typeOctet 0 kind) l at ≡ vector.Vector w → Next w
+  pub next-vector : (w : VectorHead) → typedRead (typeOctet 0 kind) l at ≡ vector.Vector w → Next w
   unfolding vectorsIn
   next-vector w r =
       let n = found-next f (attributeAt kind) l at vs e w (rw (type-known kind low high) at r) in
       record {
         rest = n .rest;
-        acts = ap frameActs (n .first) ∙ acts-next (vectorAt (attributeAt kind) l at (beAt 2 l at)) (n .rest);
+        acts =
+            ap frameActs (n .first) ∙ acts-next (vectorAt (attributeAt kind) l at (beAt 2 l at)) (n .rest)
+            ∙ ap (λ (v : Vector). vectorActs v ++ frameActs (n .rest)) (vector-meant kind l at w low high r);
         left = rw (← vectors-fuel f (attributeAt kind) l (w .next) (n .rest) (n .left)) (n .left);
       }
 
-  pub last-vector : (r : VectorRead) → r ≡ vectorRead (typeOctet 0 kind) l at → ((w : VectorHead) → r ≡ vector.Vector w → ⊥) → frameActs vs ≡ []
+  pub last-vector : (r : VectorRead) → r ≡ typedRead (typeOctet 0 kind) l at → ((w : VectorHead) → r ≡ vector.Vector w → ⊥) → frameActs vs ≡ []
   unfolding vectorsIn frameActs
   last-vector (vector.Refused n) q h = absurd (found-accepted f (attributeAt kind) l at vs e n (rw (← type-known kind low high) (sym q)))
   last-vector vector.EndMark q h = rw (found-end f (attributeAt kind) l at vs e (rw (← type-known kind low high) (sym q)))

@@ -1,20 +1,21 @@
--- An act about one stream, done on its record; and LeaveAll, done on every record.
-use Prim.Native.Nat.{ℕ, zero, suc, _+_, _*_, _-_, _≤_, _<_, _^_}
+-- An act about one stream, done on its cell; and LeaveAll, done on the cell of every stream.
+use Prim.Native.Nat.{ℕ, _≤_, _<_, _^_}
 use mathlib.Core.Path.{_≡_, refl, sym, _∙_, ap}
-use mathlib.Core.List.{List, [], _∷_, _++_, map}
+use mathlib.Core.List.{List, [], _∷_, map}
 use mathlib.Core.Bool.{Bool, true, false}
-use lib.ListN.{length, take, drop, length-map}
+use lib.ListN.{length, length-map}
 use Rattle.model.specs.State.{Cell, Stream}
 use Rattle.model.specs.Registrations.{Kind, leaveAll, leave, quit, does, at, change, touch, reach, apply, holding, ids, joins, together}
-use Rattle.model.specs.Table.{streamOctets, toStream, encode, decode}
-use Rattle.model.specs.Laid.{Laid}
+use Rattle.model.specs.Table.{encode, decode}
+use Rattle.model.specs.Laid.{FitStream, Laid}
 use Rattle.model.proofs.FrameOrder.{held-ids}
 use Rattle.model.proofs.Fits.{laid-is, laid-fits}
 use Rattle.table.specs.declared.Found.the-variants.{At, Gap}
 use Rattle.table.specs.Find.{foundAt}
 use Rattle.table.proofs.Places.{at-place, at-gap}
-use Rattle.table.proofs.Turns.{KeepsEight}
-use Rattle.table.proofs.Records.{lent-record-left}
+use Rattle.table.specs.Updates.{withCell}
+use Rattle.table.proofs.Fitting.{changed-fits}
+use Rattle.cells.proofs.Keeps.{quit-fits}
 use Rattle.registrar.specs.Run.{room, effect}
 use Rattle.registrar.specs.Walked.{Walked}
 use Rattle.registrar.proofs.Room.{effect-ids}
@@ -22,33 +23,28 @@ use Rattle.registrar.proofs.Walks.{done, act-done}
 
 -- LeaveAll.
 
-length-at : (p : ℕ) (u : Cell → Cell) (cs : List Cell) → length (at p u cs) ≡ length cs
-unfolding at
-length-at p u [] = refl
-length-at zero u (c ∷ cs) = refl
-length-at (suc p) u (c ∷ cs) = ap suc (length-at p u cs)
-
 -- what it does to a stream
 abbrev pub leaving : ℕ → ℕ → Kind → Stream → Stream
 leaving p now k = change (at p (quit now k))
 
-pub leaving-eight : (p now : ℕ) (k : Kind) → KeepsEight (leaving p now k)
+pub leaving-fits : (p now : ℕ) → now < 2 ^ 32 → (k : Kind) (x : Stream) → FitStream x → FitStream (leaving p now k x)
+leaving-fits p now small k = changed-fits p (quit now k) (quit-fits now small k)
+
+pub leaving-id : (p now : ℕ) (k : Kind) (x : Stream) → leaving p now k x .id ≡ x .id
 unfolding change
-leaving-eight p now k x e f = (length-at p (quit now k) (x .cells) ∙ e, f)
+leaving-id p now k x = refl
 
 pub all-left : (p : ℕ) (k : Kind) (t u : List ℕ) → Laid t → u ≡ encode (holding (decode t) (map (leaving p (decode t .clock) k) (decode t .streams))) →
     Walked true p (leaveAll k ∷ []) t true u
 unfolding done effect apply reach does
 all-left p k t u l e = act-done true p (leaveAll k) t u l tt (rw (length-map (decode t .streams) (leaving p (decode t .clock) k)) (laid-fits t l .at-most-64)) e
 
--- On a table: the record found, changed as it was lent.
+-- On a table: the cell of the stream found.
 
-pub record-touched : (t : List ℕ) → Laid t → (i k a : ℕ) → foundAt i 0 (ids (decode t .streams)) ≡ At k → a ≡ 272 + 493 * k →
-    (b : Bool) (u : List Cell → List Cell) (y : List ℕ) → y ≡ streamOctets (change u (toStream (take (a + 493 - a) (drop a t)))) →
-    take a t ++ (y ++ drop (a + 493 - a) (drop a t)) ≡ encode (holding (decode t) (touch b i u (decode t .streams)))
-record-touched t l i k a e f b u y q =
-    let w = at-place i k (decode t .streams) e in
-    lent-record-left t l k a (w .within) f (change u) y q ∙ ap (λ (s : List Stream). encode (holding (decode t) s)) (sym (w .touched b u))
+pub cell-touched : (t : List ℕ) (i k : ℕ) → foundAt i 0 (ids (decode t .streams)) ≡ At k → (b : Bool) (p : ℕ) (u : Cell → Cell)
+    → encode (withCell k p u (decode t)) ≡ encode (holding (decode t) (touch b i (at p u) (decode t .streams)))
+cell-touched t i k e b p u =
+    ap (λ (s : List Stream). encode (holding (decode t) s)) (sym (at-place i k (decode t .streams) e .touched b (at p u)))
 
 -- Lv.
 
@@ -66,13 +62,11 @@ module _ (p : ℕ) (k : Kind) (t : List ℕ) (l : Laid t) (i : ℕ) (small : i <
       let s = decode t .streams in
       act-done true p (leave k i) t t l small leaves-as-many (laid-is t l ∙ ap (λ (x : List Stream). encode (holding (decode t) x)) (sym (at-gap i n s e .untouched _)))
 
-  pub left-held : (n a now : ℕ) → foundAt i 0 (ids (decode t .streams)) ≡ At n → a ≡ 272 + 493 * n → now ≡ decode t .clock →
-      (y : List ℕ) → y ≡ streamOctets (change (at p (quit now k)) (toStream (take (a + 493 - a) (drop a t)))) →
-      Walked true p (leave k i ∷ []) t true (take a t ++ (y ++ drop (a + 493 - a) (drop a t)))
+  pub left-held : (n now : ℕ) → foundAt i 0 (ids (decode t .streams)) ≡ At n → now ≡ decode t .clock
+      → (u : List ℕ) → u ≡ encode (withCell n p (quit now k) (decode t)) → Walked true p (leave k i ∷ []) t true u
   unfolding done effect apply reach does
-  left-held n a now e f c y q =
-      act-done true p (leave k i) t _ l small leaves-as-many
-      (record-touched t l i n a e f false (at p (quit (decode t .clock) k)) y (rw c at q))
+  left-held n now e c u q =
+      act-done true p (leave k i) t u l small leaves-as-many ((rw c at q) ∙ cell-touched t i n e false p (quit (decode t .clock) k))
 
   -- while room is made
   pub left-room : Walked false p (leave k i ∷ []) t true t

@@ -7,7 +7,7 @@ use native.Mathlib.Omega.{arith}
 use native.Mathlib.Decide.{ℕ-discrete}
 use lib.ListN.{length, getD}
 use lib.Dec.{ltb, eqb}
-use borrow.Author.Tests.{lt-ltb, ltb-false, eq-eqb, eqb-true, eqb-false, ne-eqb}
+use borrow.Author.Tests.{lt-ltb, eq-eqb, eqb-true, eqb-false, ne-eqb}
 use Rattle.octets.specs.Be.{beAt}
 use Rattle.octets.specs.Fields.{fields}
 use Rattle.octets.proofs.Fields.{beAt-fits}
@@ -16,7 +16,7 @@ use Rattle.model.specs.Frames.{registers, firstWidths, firstLength, runsPast, h
 use Rattle.model.specs.Lists.{Octets}
 use Rattle.model.proofs.Parts.{octets-at, octets-of}
 use Rattle.model.proofs.Valid.{ValidHealth}
-use Rattle.model.proofs.FoundVectors.{Fits, id-fits, talkerValues, fixed-fits, latency-fits, or-left, destination-within}
+use Rattle.model.proofs.FoundVectors.{Fits, unique-within, id-fits, talkerValues, fixed-fits, latency-fits, destination-within}
 use Rattle.model.specs.Table.{toReady}
 use Rattle.model.specs.Frames as frames
 use Rattle.msrpdu.specs.Reader.{eventMeant, eventIn, fourIn, streamIdIn}
@@ -206,12 +206,6 @@ join-fits kind first n v h o four = joins-within first n four (octets-of first o
 
 -- What the reader gives of it: its StreamID, or nothing of a Domain value.
 
-unique-fits : (k : Kind) (first : List ℕ) (n : ℕ) → runsPast (registers k) first n ≡ false → beAt 2 first 6 + n ≤ 65535
-unfolding runsPast
-unique-fits advertises first n r = ltb-false 65535 _ (or-left _ _ r)
-unique-fits faileds first n r = ltb-false 65535 _ (or-left _ _ r)
-unique-fits listeners first n r = ltb-false 65535 _ r
-
 has-id : (k : Kind) → 8 ≤ firstLength (registers k)
 unfolding firstLength
 has-id advertises = omega arith
@@ -222,7 +216,8 @@ value-id : (kind : ℕ) (first : List ℕ) (n : ℕ) → HasValue kind first n �
 unfolding streamIdIn
 value-id kind first n v h =
     let l : 0 + 8 ≤ length first = omega (arith, has-id (kindAt kind), first-octets kind first n v h) in
-    value-read 8 2 0 first n l _ refl (unique-fits (kindAt kind) first n (runs-within kind first n v h)) _ refl
+    let u : beAt 2 first 6 + n ≤ 65535 = omega (arith, unique-within (kindAt kind) first n (runs-within kind first n v h)) in
+    value-read 8 2 0 first n l _ refl u _ refl
 
 pub value-id-is : (kind : ℕ) (first : List ℕ) (n i : ℕ) → HasValue kind first n → kind ≤ 3 → streamIdIn first n ≡ Value i → i ≡ beAt 8 first 0 + n
 value-id-is kind first n i v h e = let p = value-id kind first n v h in cc

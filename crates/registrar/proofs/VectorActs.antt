@@ -1,22 +1,23 @@
 -- The acts of a vector: LeaveAll, then those of its values, one after another.
 use Prim.Native.Nat.{ℕ, zero, suc, _+_, _*_, _-_, _≤_, _<_}
-use mathlib.Core.Path.{_≡_, refl, sym, _∙_, ap, ap₂}
+use mathlib.Core.Path.{_≡_, refl, ap, ap₂}
 use mathlib.Core.List.{List, [], _∷_, _++_}
 use mathlib.Core.Bool.{Bool, true, false, _||_}
 use native.Mathlib.Omega.{arith}
 use native.Mathlib.Numerals.{add-one}
 use lib.ListN.{length, getD, take, drop}
 use lib.Dec.{ltb}
-use borrow.Author.Tests.{ltb-false, le-ltb, ne-eqb}
+use borrow.Author.Tests.{ltb-false, le-ltb}
 use Rattle.octets.specs.Be.{beAt}
-use Rattle.model.specs.Registrations.{advertises, faileds, listeners, leaveAll, holding}
-use Rattle.model.specs.Frames.{Attribute, registers, domain, known, typeOctet, firstLength, threeLength, runsPast, overflows, Vector, vectorAt, eventOf, fourOf, valueActs, valuesActs, leaveAllActs, vectorActs}
+use Rattle.octets.specs.Parts.{part}
+use Rattle.model.specs.Registrations.{Act, advertises, faileds, listeners, leaveAll, holding}
+use Rattle.model.specs.Frames.{Attribute, registers, domain, known, typeOctet, threeLength, runsPast, Vector, vectorAt, eventOf, fourOf, valueActs, valuesActs, leaveAllActs, vectorActs}
 use Rattle.model.specs.Laid.{Laid}
-use Rattle.model.proofs.FoundVectors.{or-left, or-right}
+use Rattle.model.proofs.FoundVectors.{Sound, last-within, or-left, or-right}
 use Rattle.model.proofs.Fits.{laid-is, laid-fits}
 use Rattle.msrpdu.specs.declared.VectorHead.{VectorHead}
-use Rattle.msrpdu.specs.Reader.{vectorRead, firstPart}
-use Rattle.msrpdu.proofs.Applying.{Meant, meant, first-meant}
+use Rattle.msrpdu.specs.Reader.{typedRead, firstPart, headVector}
+use Rattle.msrpdu.proofs.Applying.{meant, sound}
 use Rattle.msrpdu.specs.declared.VectorRead.the-variants as vector
 use Rattle.cells.specs.Acts.{kindAt}
 use Rattle.registrar.specs.Acts.{attributeAt, vectorOf, HasValue}
@@ -94,49 +95,36 @@ runs-less (registers listeners) s m n h e = le-ltb 65535 (beAt 2 s 6 + n) (omega
 runs-less domain s m n h e = less 255 (getD s 0 0) 255 (getD s 1 0) m n h e
 
 module _ (kind : ℕ) (l : List ℕ) (at : ℕ) (w : VectorHead) (low : 1 ≤ kind) (high : kind ≤ 4)
-    (e : vectorRead (typeOctet 0 kind) l at ≡ vector.Vector w) where
+    (e : typedRead (typeOctet 0 kind) l at ≡ vector.Vector w) where
   abbrev v : Vector
-  v = vectorAt (attributeAt kind) l at (beAt 2 l at)
+  v = headVector (attributeAt kind) l w
 
-  -- its parts, as they are lent
-  abbrev pub firstOf : List ℕ
-  firstOf = firstPart (typeOctet 0 kind) at l (vectorRead (typeOctet 0 kind) l at)
-
-  abbrev pub threeOf : List ℕ
-  threeOf = take (w .four - w .three) (drop (w .three) l)
-
-  abbrev pub fourPart : List ℕ
-  fourPart = take (w .next - w .four) (drop (w .four) l)
-
-  read : vectorRead (known (attributeAt kind)) l at ≡ vector.Vector w
+  read : typedRead (known (attributeAt kind)) l at ≡ vector.Vector w
   read = rw (type-known kind low high) at e
 
-  means : Meant (attributeAt kind) l at w v
-  means = meant (attributeAt kind) l at w read
+  pub vector-meant : vectorAt (attributeAt kind) l at (beAt 2 l at) ≡ v
+  vector-meant = meant (attributeAt kind) l at w read
 
-  first-read : firstOf ≡ v .first
-  first-read = rw (type-known kind low high) (first-meant (attributeAt kind) l at w read)
+  sounds : Sound v
+  sounds = sound (attributeAt kind) l at w read
 
-  pub vector-acts : vectorActs v ≡ leaveAllActs (attributeAt kind) (w .leaves) ++ valuesActs (vectorOf kind false 0 firstOf threeOf fourPart) 0 (w .values)
-  unfolding vectorActs
-  vector-acts = ap₂ _++_ (ap₂ leaveAllActs (means .attribute) (means .leaves)) values
-    where
-      values : valuesActs v 0 (v .values) ≡ valuesActs (vectorOf kind false 0 firstOf threeOf fourPart) 0 (w .values)
-      values = same-values kind v (means .attribute) 0 (v .values) ∙ rw (first-read, means .three, means .four, means .values)
+  pub enough-events : w .values ≤ 3 * length (take (w .four - w .three) (drop (w .three) l))
+  unfolding headVector part threeLength
+  enough-events = let m = sounds .three in omega arith
 
-  pub enough-events : w .values ≤ 3 * length threeOf
-  unfolding threeLength
-  enough-events = let m = means in omega (arith, m .sound .three, ap length (m .three), m .values)
-
-  pub has-values : (n : ℕ) → n < w .values → HasValue kind firstOf n
+  pub has-values : (n : ℕ) → n < w .values → HasValue kind (firstPart l (vector.Vector w)) n
+  unfolding headVector
   has-values n h = record {
     low = low;
     high = high;
-    octets = rw first-read (means .sound .first ∙ ap firstLength (means .attribute));
-    within = rw first-read (runs-less (attributeAt kind) (v .first) (v .values - 1) n (omega (arith, means .values)) last);
+    octets = sounds .first;
+    within = runs-less (attributeAt kind) (v .first) (w .values - 1) n (omega arith) (last-within v (sounds .within) (omega arith));
   }
-    where
-      last : runsPast (attributeAt kind) (v .first) (v .values - 1) ≡ false
-      last =
-          ap (λ (k : Attribute). runsPast k (v .first) (v .values - 1)) (sym (means .attribute))
-          ∙ unfold overflows in (rw (ne-eqb (v .values) 0 (λ z. omega (arith, means .values))) at (means .sound .within))
+
+-- its acts, with its parts as they are lent
+pub vector-acts : (kind : ℕ) (l : List ℕ) (w : VectorHead) →
+    vectorActs (headVector (attributeAt kind) l w)
+    ≡ leaveAllActs (attributeAt kind) (w .leaves)
+    ++ valuesActs (vectorOf kind false 0 (firstPart l (vector.Vector w)) (take (w .four - w .three) (drop (w .three) l)) (take (w .next - w .four) (drop (w .four) l))) 0 (w .values)
+unfolding vectorActs headVector part
+vector-acts kind l w = ap (λ (es : List Act). leaveAllActs (attributeAt kind) (w .leaves) ++ es) (same-values kind (headVector (attributeAt kind) l w) refl 0 (w .values))

@@ -2,20 +2,21 @@
 ghost use mathlib.Core.Path.{_≡_};
 ghost use mathlib.Core.Bool.{true, false};
 ghost use mathlib.Core.List.{_∷_, []};
-ghost use Prim.Native.Nat.{ℕ, suc, _≤_, _<_, _+_, _*_, _/_};
+ghost use Prim.Native.Nat.{ℕ, suc, _≤_, _<_};
 ghost use lib.ListN.{length};
-ghost use Rattle.octets.specs.Be.{beAt};
 ghost use Rattle.model.specs.Lists.{All};
 ghost use Rattle.model.specs.Settling.{held};
-ghost use Rattle.model.specs.Laid.{LaidStream, Laid};
-ghost use Rattle.model.specs.Table.{streamOctets, toStream, decode};
-ghost use Rattle.model.specs.Registrations.{leaveAll, leave, quit, does, at, change};
-ghost use Rattle.model.specs.Frames.{typeOctet, vectorAt, vectors, walk, valueActs, valuesActs, leaveAllActs, vectorActs};
+ghost use Rattle.model.specs.Laid.{Laid};
+ghost use Rattle.model.specs.Table.{encode, decode};
+ghost use Rattle.model.specs.Registrations.{leaveAll, leave, quit, does};
+ghost use Rattle.model.specs.Frames.{vectors, walk, valueActs, valuesActs, leaveAllActs, vectorActs};
+ghost use Rattle.table.specs.Updates.{withCell};
 ghost use Rattle.cells.specs.Acts.{kindAt};
-ghost use Rattle.msrpdu.specs.Reader.{vectorRead};
+ghost use Rattle.msrpdu.specs.Reader.{headVector};
 ghost use Rattle.registrar.specs.Walked.{Walked, Receives};
 ghost use Rattle.registrar.specs.Enrols.{Enrols};
-ghost use Rattle.registrar.specs.Acts.{isFound, actsOf, attributeAt, vectorOf, HasValue, joinOf, askedOf, Declares};
+ghost use Rattle.registrar.specs.Asks.{QuitGiven, LeaveGiven, CellGiven, FrameGiven, WalkGiven, ListGiven, VectorGiven, ValuesGiven, ValueGiven, JoinGiven};
+ghost use Rattle.registrar.specs.Acts.{actsOf, attributeAt, vectorOf, joinOf, askedOf, Declares};
 use msrpdu::Event;
 use msrpdu::MessageRead;
 use msrpdu::ValueRead;
@@ -30,63 +31,67 @@ enum Asked {
     Leave,
 }
 
+// A walk over an AttributeList: the place of its port, whether it applies the list or makes room for it, and the AttributeType.
+struct ListWalk {
+    place: usize,
+    applying: bool,
+    kind: u8,
+}
+
 // The record of a stream, or that there is no room for one.
 enum Enrolment {
     Record(usize),
     Full,
 }
 
-// Lv or LeaveAll of an AttributeType, on the cell of a place.
-fn quit_cell(rec: &mut [u8], place: usize, kind: u8, clock: u32)
-    requires { ⌜ LaidStream (now rec) × (length (now rec) ≡ 493) × (place < 8) × (1 ≤ kind) × (kind ≤ 3) ⌝ }
-    ensures { λ _. ⌜ now (rec .exit) ≡ streamOctets (change (at place (quit clock (kindAt kind))) (toStream (now (rec .entry)))) ⌝ }
+// Lv or LeaveAll of an AttributeType, on stream k's cell at a port.
+fn quit_cell(table: &mut [u8], k: usize, place: usize, kind: u8, clock: u32)
+    requires { ⌜ QuitGiven (now table) k place kind ⌝ }
+    ensures { λ _. ⌜ now (table .exit) ≡ encode (withCell k place (quit clock (kindAt kind)) (decode (now (table .entry)))) ⌝ }
 {
-    let a = table::CELLS + place * table::CELL;
-    cells::quit(&mut rec[a..a + table::CELL], kind, clock);
+    let a = table::cell_in(table, k, place);
+    cells::quit(&mut table[a..a + table::CELL], kind, clock);
 }
 
-// A join, on the cell of a place: value n of a FirstValue, or a Listener of a four-packed event.
-fn join_cell(rec: &mut [u8], place: usize, kind: u8, first: &[u8], four: u8, n: usize)
-    requires { ⌜ LaidStream (now rec) × (length (now rec) ≡ 493) × (place < 8) × (kind ≤ 3)
-        × HasValue kind (now first) n × (kind ≡ 3 → (1 ≤ four) × (four ≤ 3)) ⌝ }
-    ensures { λ _. ⌜ ((clock : ℕ) → now (rec .exit) ≡ streamOctets (change (at place (does clock (joinOf (kindAt kind) (now (first .entry)) four n)))
-        (toStream (now (rec .entry))))) ⌝ }
+// A join on stream k's cell: value n of a FirstValue, or a Listener of a four-packed event.
+fn join_cell(table: &mut [u8], k: usize, walk: ListWalk, first: &[u8], four: u8, n: usize)
+    requires { ⌜ CellGiven (now table) k walk (now first) four n ⌝ }
+    ensures { λ _. ⌜ ((clock : ℕ) → now (table .exit) ≡ encode (withCell k (walk .place)
+        (does clock (joinOf (kindAt (walk .kind)) (now (first .entry)) four n)) (decode (now (table .entry))))) ⌝ }
 {
-    let a = table::CELLS + place * table::CELL;
+    let a = table::cell_in(table, k, walk.place);
     let end = a + table::CELL;
-    if kind == 3 {
-        cells::join_listener(&mut rec[a..end], four);
+    if walk.kind == 3 {
+        cells::join_listener(&mut table[a..end], four);
     } else {
-        cells::join_talker(&mut rec[a..end], kind, first, n);
+        cells::join_talker(&mut table[a..end], walk.kind, first, n);
     }
 }
 
-// LeaveAll of an AttributeType at a port: on each record in use.
+// LeaveAll of an AttributeType at a port: on each stream.
 fn leave_all(table: &mut [u8], place: usize, kind: u8)
-    requires { ⌜ Laid (now table) × (place < 8) × (1 ≤ kind) × (kind ≤ 3) ⌝ }
+    requires { ⌜ LeaveGiven (now table) place kind ⌝ }
     ensures { λ _. ⌜ Walked true place (leaveAll (kindAt kind) ∷ []) (now (table .entry)) true (now (table .exit)) ⌝ }
 {
     let held = table::count(table);
     let now = table::clock(table);
     let mut k: usize = 0;
     while k < held {
-        let a = table::RECORDS + k * table::RECORD;
-        quit_cell(&mut table[a..a + table::RECORD], place, kind, now);
+        quit_cell(table, k, place, kind, now);
         k += 1;
     }
 }
 
-// Lv of a StreamID and an AttributeType at a port: on its record, where it has one.
+// Lv of a StreamID and an AttributeType at a port: on its cell, where it is held.
 fn withdraw(table: &mut [u8], place: usize, kind: u8, id: u64)
-    requires { ⌜ Laid (now table) × (place < 8) × (1 ≤ kind) × (kind ≤ 3) ⌝ }
+    requires { ⌜ LeaveGiven (now table) place kind ⌝ }
     ensures { λ _. ⌜ Walked true place (leave (kindAt kind) id ∷ []) (now (table .entry)) true (now (table .exit)) ⌝ }
 {
     let Found::At(k) = table::find(table, id) else {
         return;
     };
     let now = table::clock(table);
-    let a = table::RECORDS + k * table::RECORD;
-    quit_cell(&mut table[a..a + table::RECORD], place, kind, now);
+    quit_cell(table, k, place, kind, now);
 }
 
 // A record for a stream: the one that it has, or an empty one at its place, unless there are 64.
@@ -108,33 +113,16 @@ fn enrol(table: &mut [u8], id: u64) -> Enrolment
 }
 
 // A join at a port: its record is there or is made; where the frame is applied, its cell is changed.
-fn join(
-    table: &mut [u8],
-    place: usize,
-    applying: bool,
-    kind: u8,
-    id: u64,
-    first: &[u8],
-    four: u8,
-    n: usize,
-) -> bool
-    requires { ⌜ Laid (now table) × (place < 8) × (kind ≤ 3) × HasValue kind (now first) n × (id ≡ beAt 8 (now first) 0 + n)
-        × (kind ≡ 3 → (1 ≤ four) × (four ≤ 3)) ⌝ }
-    ensures { λ r. ⌜ Walked applying place (joinOf (kindAt kind) (now (first .entry)) four n ∷ []) (now (table .entry)) r (now (table .exit)) ⌝ }
+fn join(table: &mut [u8], walk: ListWalk, id: u64, first: &[u8], four: u8, n: usize) -> bool
+    requires { ⌜ JoinGiven (now table) walk id (now first) four n ⌝ }
+    ensures { λ r. ⌜ Walked (walk .applying) (walk .place) (joinOf (kindAt (walk .kind)) (now (first .entry)) four n ∷ []) (now (table .entry)) r
+        (now (table .exit)) ⌝ }
 {
     let Enrolment::Record(k) = enrol(table, id) else {
         return false;
     };
-    if applying {
-        let a = table::RECORDS + k * table::RECORD;
-        join_cell(
-            &mut table[a..a + table::RECORD],
-            place,
-            kind,
-            first,
-            four,
-            n,
-        );
+    if walk.applying {
+        join_cell(table, k, walk, first, four, n);
     }
     true
 }
@@ -164,28 +152,27 @@ fn ask(kind: u8, events: &[u8], fours: &[u8], n: usize) -> Asked
 // Value n of a vector at a port: "A value is applied only if the vector reader gave one". A Domain value has no StreamID.
 fn value(
     table: &mut [u8],
-    place: usize,
-    applying: bool,
-    kind: u8,
+    walk: ListWalk,
     first: &[u8],
     events: &[u8],
     fours: &[u8],
     n: usize,
 ) -> bool
-    requires { ⌜ Laid (now table) × (place < 8) × HasValue kind (now first) n × (n / 3 < length (now events)) ⌝ }
-    ensures { λ r. ⌜ Walked applying place (valueActs (vectorOf kind false 0 (now (first .entry)) (now (events .entry)) (now (fours .entry))) n)
+    requires { ⌜ ValueGiven (now table) walk (now first) (now events) n ⌝ }
+    ensures { λ r. ⌜ Walked (walk .applying) (walk .place)
+        (valueActs (vectorOf (walk .kind) false 0 (now (first .entry)) (now (events .entry)) (now (fours .entry))) n)
         (now (table .entry)) r (now (table .exit)) ⌝ }
 {
     let ValueRead::Value(id) = msrpdu::stream_id(first, n) else {
         return true;
     };
-    let a = ask(kind, events, fours, n);
+    let a = ask(walk.kind, events, fours, n);
     match a {
         Asked::Nothing => true,
-        Asked::Join(four) => join(table, place, applying, kind, id, first, four, n),
+        Asked::Join(four) => join(table, walk, id, first, four, n),
         Asked::Leave => {
-            if applying {
-                withdraw(table, place, kind, id);
+            if walk.applying {
+                withdraw(table, walk.place, walk.kind, id);
             }
             true
         }
@@ -195,21 +182,20 @@ fn value(
 // The values of a vector at a port, one after another.
 fn values(
     table: &mut [u8],
-    place: usize,
-    applying: bool,
-    kind: u8,
+    walk: ListWalk,
     first: &[u8],
     events: &[u8],
     fours: &[u8],
     count: usize,
 ) -> bool
-    requires { ⌜ Laid (now table) × (place < 8) × (count ≤ 3 * length (now events)) × ((n : ℕ) → n < count → HasValue kind (now first) n) ⌝ }
-    ensures { λ r. ⌜ Walked applying place (valuesActs (vectorOf kind false 0 (now (first .entry)) (now (events .entry)) (now (fours .entry))) 0 count)
+    requires { ⌜ ValuesGiven (now table) walk (now first) (now events) count ⌝ }
+    ensures { λ r. ⌜ Walked (walk .applying) (walk .place)
+        (valuesActs (vectorOf (walk .kind) false 0 (now (first .entry)) (now (events .entry)) (now (fours .entry))) 0 count)
         (now (table .entry)) r (now (table .exit)) ⌝ }
 {
     let mut n: usize = 0;
     while n < count {
-        let went = value(table, place, applying, kind, first, events, fours, n);
+        let went = value(table, walk, first, events, fours, n);
         if !went {
             return false;
         }
@@ -219,47 +205,38 @@ fn values(
 }
 
 // LeaveAll of a vector at a port, which asks for no room.
-fn begin_all(table: &mut [u8], place: usize, applying: bool, kind: u8, leaves: bool)
-    requires { ⌜ Laid (now table) × (place < 8) × (1 ≤ kind) × (kind ≤ 4) ⌝ }
-    ensures { λ _. ⌜ Walked applying place (leaveAllActs (attributeAt kind) leaves) (now (table .entry)) true (now (table .exit)) ⌝ }
+fn begin_all(table: &mut [u8], walk: ListWalk, leaves: bool)
+    requires { ⌜ WalkGiven (now table) walk ⌝ }
+    ensures { λ _. ⌜ Walked (walk .applying) (walk .place) (leaveAllActs (attributeAt (walk .kind)) leaves) (now (table .entry)) true
+        (now (table .exit)) ⌝ }
 {
-    if !applying {
+    if !walk.applying {
         return;
     }
     if !leaves {
         return;
     }
-    if kind == 4 {
+    if walk.kind == 4 {
         return;
     }
-    leave_all(table, place, kind);
+    leave_all(table, walk.place, walk.kind);
 }
 
 // The vector that was read at a place of its AttributeList: "LeaveAll first".
-fn vector(
-    table: &mut [u8],
-    place: usize,
-    applying: bool,
-    kind: u8,
-    list: &[u8],
-    at: usize,
-    head: VectorHead,
-) -> bool
-    requires { ⌜ Laid (now table) × (place < 8) × (1 ≤ kind) × (kind ≤ 4) × (vectorRead (typeOctet 0 kind) (now list) at ≡ VectorRead.Vector head) ⌝ }
-    ensures { λ r. ⌜ Walked applying place (vectorActs (vectorAt (attributeAt kind) (now (list .entry)) at (beAt 2 (now (list .entry)) at)))
+fn vector(table: &mut [u8], walk: ListWalk, list: &[u8], head: VectorHead) -> bool
+    requires { ⌜ VectorGiven (now table) walk (now list) head ⌝ }
+    ensures { λ r. ⌜ Walked (walk .applying) (walk .place) (vectorActs (headVector (attributeAt (walk .kind)) (now (list .entry)) head))
         (now (table .entry)) r (now (table .exit)) ⌝ }
 {
-    let first = msrpdu::first_value(list, at, kind);
+    let first = msrpdu::first_value(list, VectorRead::Vector(head));
     let count = head.values;
     let three = head.three;
     let four = head.four;
     let next = head.next;
-    begin_all(table, place, applying, kind, head.leaves);
+    begin_all(table, walk, head.leaves);
     values(
         table,
-        place,
-        applying,
-        kind,
+        walk,
         first,
         &list[three..four],
         &list[four..next],
@@ -268,20 +245,20 @@ fn vector(
 }
 
 // An AttributeList at a port, vector by vector to its EndMark.
-fn list(table: &mut [u8], place: usize, applying: bool, kind: u8, list: &[u8]) -> bool
-    requires { ⌜ Laid (now table) × (place < 8) × (1 ≤ kind) × (kind ≤ 4)
-        × (isFound (vectors (suc (length (now list))) (attributeAt kind) (now list) 0) ≡ true) ⌝ }
-    ensures { λ r. ⌜ Walked applying place (actsOf (vectors (suc (length (now (list .entry)))) (attributeAt kind) (now (list .entry)) 0))
+fn list(table: &mut [u8], walk: ListWalk, list: &[u8]) -> bool
+    requires { ⌜ ListGiven (now table) walk (now list) ⌝ }
+    ensures { λ r. ⌜ Walked (walk .applying) (walk .place)
+        (actsOf (vectors (suc (length (now (list .entry)))) (attributeAt (walk .kind)) (now (list .entry)) 0))
         (now (table .entry)) r (now (table .exit)) ⌝ }
 {
     let mut at: usize = 0;
     loop {
-        let v = msrpdu::vector(list, at, kind);
+        let v = msrpdu::typed_vector(list, at, walk.kind);
         let VectorRead::Vector(head) = v else {
             return true;
         };
         let next = head.next;
-        let went = vector(table, place, applying, kind, list, at, head);
+        let went = vector(table, walk, list, head);
         if !went {
             return false;
         }
@@ -291,7 +268,7 @@ fn list(table: &mut [u8], place: usize, applying: bool, kind: u8, list: &[u8]) -
 
 // A well-formed frame at a port, Message by Message: room is made for it, or it is applied.
 fn frame(table: &mut [u8], place: usize, applying: bool, pdu: &[u8]) -> bool
-    requires { ⌜ Laid (now table) × (place < 8) × (isFound (walk (now pdu)) ≡ true) ⌝ }
+    requires { ⌜ FrameGiven (now table) place (now pdu) ⌝ }
     ensures { λ r. ⌜ Walked applying place (actsOf (walk (now (pdu .entry)))) (now (table .entry)) r (now (table .exit)) ⌝ }
 {
     let version = pdu[0];
@@ -312,7 +289,12 @@ fn frame(table: &mut [u8], place: usize, applying: bool, pdu: &[u8]) -> bool
             MessageRead::List(head) => {
                 let start = head.list;
                 let end = head.next;
-                let went = list(table, place, applying, head.kind, &pdu[start..end]);
+                let walk = ListWalk {
+                    place,
+                    applying,
+                    kind: head.kind,
+                };
+                let went = list(table, walk, &pdu[start..end]);
                 if !went {
                     return false;
                 }
@@ -325,8 +307,7 @@ fn frame(table: &mut [u8], place: usize, applying: bool, pdu: &[u8]) -> bool
 // A well-formed frame at a port: first room is made for every stream that it joins; then it is applied. Where there is no
 // room for all, the records made for it go again.
 pub fn receive_frame(table: &mut [u8], place: usize, pdu: &[u8]) -> bool
-    requires { ⌜ Laid (now table) × (place < 8) × (isFound (walk (now pdu)) ≡ true)
-        × All (λ x. held (x .cells) ≡ true) (decode (now table) .streams) ⌝ }
+    requires { ⌜ FrameGiven (now table) place (now pdu) × All (λ x. held (x .cells) ≡ true) (decode (now table) .streams) ⌝ }
     ensures { λ r. ⌜ Receives place (now (pdu .entry)) (now (table .entry)) r (now (table .exit)) ⌝ }
 {
     let fits = frame(table, place, false, pdu);

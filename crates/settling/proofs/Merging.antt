@@ -1,35 +1,37 @@
--- The merged Listener: as numbers, in the octets of a record, and as the Talker port's result declares it.
+-- The merged Listener: as numbers, and as the Talker port's result declares it.
 use mathlib.Core.Path.{_≡_, refl, sym, _∙_, ap}
 use mathlib.Core.List.{List, _++_}
 use mathlib.Core.Bool.{Bool, true, false, cond}
-use Prim.Native.Nat.{ℕ, suc, _+_, _*_, _-_, _≤_, _<_}
+use Prim.Native.Nat.{ℕ, suc, _+_, _-_, _≤_, _<_}
 use native.Mathlib.Omega.{arith}
-use native.Mathlib.Nat.{add-zero}
 use lib.ListN.{length, getD, set, take, drop, length-set}
 use lib.Seq.{ext-getD, getD-set-same, getD-set-other}
 use lib.Dec.{eqb}
 use borrow.Author.Tests.{eq-eqb, ne-eqb, eqb-true, eqb-false}
 use Rattle.octets.specs.Be.{be}
 use Rattle.octets.specs.Parts.{patch}
-use Rattle.octets.specs.Fields.{width}
-use Rattle.octets.proofs.Parts.{lent-part}
-use Rattle.octets.proofs.Frame.{getD-part}
-use Rattle.octets.proofs.Fields.{get-octet, put-field}
+use Rattle.octets.specs.Fields.{Fit, width}
+use Rattle.octets.proofs.Fields.{put-field}
+use Rattle.model.specs.Layout.{declaredPlace, resultPlace, resultSize, resultWidths}
 use Rattle.model.specs.Lists.{tabulate}
-use Rattle.model.specs.State.{askingFailed, ready, readyFailed, Talker, noTalker, talker, Listener, noListener, listener, Column, none, advertise, failed, Declared, nothing, tells, Result, Stream, unsettled, cellAt, resultAt}
-use Rattle.model.specs.WrittenFrames.{readyNumber, fixedNumbers}
+use Rattle.model.specs.State.{askingFailed, ready, readyFailed, Column, none, advertise, failed, Declared, nothing, tells, Result, Stream, unsettled, cellAt, resultAt, streamAt}
+use Rattle.model.specs.WrittenFrames.{readyNumber}
 use Rattle.model.specs.Settling.{Source, nowhere, from, sourceOf, isSource, registered, passed, sameReady, merge, mergeAll}
-use Rattle.model.specs.Table.{columnNumber, declaredNumber, cellWidths, talkerNumbers, listenerNumbers, cellNumbers, cellOctets, resultWidths, resultNumbers, resultOctets, toResult, streamOctets, toStream}
-use Rattle.model.specs.Laid.{FitStream, LaidResult, LaidStream}
+use Rattle.model.specs.Table.{columnNumber, declaredNumber, resultNumbers, resultOctets, toResult, encode, decode}
+use Rattle.model.specs.Laid.{FitResult, FitStream, LaidResult}
+use Rattle.model.proofs.Lists.{all-getD, all-tabulate}
+use Rattle.model.proofs.Parts.{_also_}
+use Rattle.model.proofs.Results.{declared-few}
 use Rattle.model.proofs.AdvanceKeepsForm.{length-tabulate}
 use Rattle.model.proofs.ColumnRule.{at-place}
-use Rattle.model.proofs.Fits.{laid-result-is, laid-stream-is, laid-stream-fits}
-use Rattle.table.specs.Updates.{resulting}
-use Rattle.table.proofs.Turns.{KeepsEight}
-use Rattle.table.proofs.StreamParts.{cell-fits, lent-cell, lent-result, lent-result-read, lent-result-left, result-fits}
-use Rattle.columns.specs.Answers.{sourcePlace}
-use Rattle.columns.specs.declared.SourceRead.the-variants.{Nowhere, Port}
-use Rattle.columns.proofs.Sources.{place-bound, place-port}
+use Rattle.model.proofs.Fits.{laid-result-is}
+use Rattle.table.specs.Places.{Stands, StandsOn}
+use Rattle.table.specs.Updates.{resulting, withStream}
+use Rattle.table.proofs.Fitting.{unsettled-fits}
+use Rattle.table.proofs.ByPlace.{stands-on, stream-fits, stream-same, changed-result-at}
+use Rattle.streams.specs.Answers.{sourcePlace}
+use Rattle.streams.specs.declared.SourceRead.the-variants.{Nowhere, Port}
+use Rattle.streams.proofs.Sources.{place-bound, place-port}
 use Rattle.columns.specs.Stages.{mergedShown, declaring, mergedAt, merging}
 
 -- Numbers.
@@ -98,40 +100,6 @@ module _ (m n : ℕ) (d e : Declared) (p : m ≡ declaredNumber d) (q : n ≡ de
       pub merge-unlike : (m ≡ n → ⊥) → 3 ≡ declaredNumber (merge d e)
       merge-unlike h = sym (merge-number ∙ rw (ne-eqb m 0 first, ne-eqb n 0 second, ne-eqb m n h))
 
--- Octets.
-
-listener-number : (t : Talker) (h : Listener) → getD (talkerNumbers t ++ listenerNumbers h) 12 0 ≡ declaredNumber (registered record { talks = t; hears = h })
-unfolding talkerNumbers listenerNumbers fixedNumbers declaredNumber registered
-listener-number noTalker noListener = refl
-listener-number noTalker (listener r l) = refl
-listener-number (talker f v m k) noListener = refl
-listener-number (talker f v m k) (listener r l) = refl
-
--- an octet of a part that is lent
-lent-octet : (a k b : ℕ) (s : List ℕ) → b < k → getD (take (a + k - a) (drop a s)) b 0 ≡ getD s (a + b) 0
-lent-octet a k b s h = ap (λ (l : List ℕ). getD l b 0) (lent-part a k s) ∙ getD-part a k b s h
-
-module _ (s : List ℕ) (l : LaidStream s) (p : ℕ) (h : p < 8) where
-  pub column-octet : getD s (333 + p * 20) 0 ≡ columnNumber (resultAt (toStream s) p .column)
-  unfolding resultOctets resultWidths resultNumbers width
-  column-octet =
-      let a = 333 + p * 20 in
-      let r = resultAt (toStream s) p in
-      ap (λ (i : ℕ). getD s i 0) (sym (add-zero a))
-      ∙ sym (lent-octet a 20 0 s (omega arith))
-      ∙ ap (λ (t : List ℕ). getD t 0 0) (lent-result s l p a h (omega arith))
-      ∙ get-octet resultWidths (resultNumbers r) (result-fits (toStream s) (laid-stream-fits s l) p a h (omega arith)) 0 refl
-
-  pub listener-octet : getD s (21 + p * 39 + 33) 0 ≡ declaredNumber (registered (cellAt (toStream s) p))
-  unfolding cellOctets cellWidths cellNumbers width
-  listener-octet =
-      let a = 21 + p * 39 in
-      let c = cellAt (toStream s) p in
-      sym (lent-octet a 39 33 s (omega arith))
-      ∙ ap (λ (t : List ℕ). getD t 33 0) (lent-cell s l p a h (omega arith))
-      ∙ get-octet cellWidths (cellNumbers c) (cell-fits (toStream s) (laid-stream-fits s l) p a h (omega arith) .numbers) 12 refl
-      ∙ listener-number (c .talks) (c .hears)
-
 -- The places from 8 down: what is merged of those from p on.
 
 abbrev pub passedFrom : Stream → ℕ → Declared
@@ -156,19 +124,46 @@ merged-all x = refl
 
 -- The declared Listener's octet.
 
-pub declaring-octets : (s : List ℕ) → LaidResult s → (n : ℕ) (d : Declared) → n ≡ declaredNumber d → patch 19 1 (be 1 n) s ≡ resultOctets (declaring d (toResult s))
-unfolding resultOctets resultWidths resultNumbers width
+pub declaring-octets : (s : List ℕ) → LaidResult s → (n : ℕ) (d : Declared) → n ≡ declaredNumber d → patch declaredPlace 1 (be 1 n) s ≡ resultOctets (declaring d (toResult s))
+unfolding resultOctets resultNumbers width
 declaring-octets s l n d e =
     let r = toResult s in
-    ap (patch 19 1 (be 1 n)) (laid-result-is s l)
+    ap (patch declaredPlace 1 (be 1 n)) (laid-result-is s l)
     ∙ put-field resultWidths (resultNumbers r) 6 n refl
     ∙ rw e (unfold declaring in refl)
 
 -- The stream with the merged Listener at its Talker port.
 
-pub merging-eight : KeepsEight merging
+declaring-fits : (d : Declared) (r : Result) → FitResult r → FitResult (declaring d r)
+unfolding Fit resultNumbers declaring
+declaring-fits d r f =
+    f .0 also f .1 .0 also f .1 .1 .0 also f .1 .1 .1 .0 also f .1 .1 .1 .1 .0 also f .1 .1 .1 .1 .1 .0 also omega (arith, declared-few d) also tt
+
+merged-at-fits : (x : Stream) → FitStream x → (p : ℕ) → FitResult (mergedAt x p)
+unfolding mergedAt resultAt
+merged-at-fits x w p = go (isSource (sourceOf x) p)
+  where
+    r : FitResult (resultAt x p)
+    r = all-getD FitResult (x .results) (w .results) unsettled unsettled-fits p
+
+    go : (t : Bool) → FitResult (cond t (declaring (mergedShown x) (resultAt x p)) (resultAt x p))
+    go true = declaring-fits (mergedShown x) (resultAt x p) r
+    go false = r
+
+pub merging-fits : (x : Stream) → FitStream x → FitStream (merging x)
 unfolding merging
-merging-eight x h k = (h, length-tabulate 8 0 (mergedAt x))
+merging-fits x w = record {
+  name = w .name;
+  rank = w .rank;
+  eight-cells = w .eight-cells;
+  cells = w .cells;
+  eight-results = length-tabulate 8 0 (mergedAt x);
+  results = all-tabulate FitResult 8 0 (mergedAt x) (merged-at-fits x w);
+}
+
+pub merging-id : (x : Stream) → merging x .id ≡ x .id
+unfolding merging
+merging-id x = refl
 
 -- eight results, each as a place has it
 eight-of : (l : List Result) (f : ℕ → Result) → length l ≡ 8 → ((q : ℕ) → q < 8 → getD l q unsettled ≡ f q) → tabulate 8 0 f ≡ l
@@ -203,35 +198,34 @@ module _ (x : Stream) (w : FitStream x) where
         ap (λ (r : List Result). record { id = x .id; settled = x .settled; cells = x .cells; results = r })
         (eight-of (set (x .results) t r) (mergedAt x) (length-set (x .results) t r ∙ w .eight-results) placed)
 
--- What a record is left as: without a Talker port as it was, else with the result there declaring the merged Listener.
+-- What a stream is left as: without a Talker port as it was, else with the result there declaring the merged Listener.
 
 source-nowhere : (r : Source) → sourcePlace r ≡ Nowhere → r ≡ nowhere
 unfolding sourcePlace
 source-nowhere nowhere e = refl
-source-nowhere (from u f v m) e = let z : _≡_ {A = ℕ} 0 1 = cc in absurd (omega arith)
+source-nowhere (from o) e = let z : _≡_ {A = ℕ} 0 1 = cc in absurd (omega arith)
 
 source-port : (r : Source) (t : ℕ) → sourcePlace r ≡ Port t → (q : ℕ) → isSource r q ≡ eqb t q
 unfolding sourcePlace isSource
 source-port nowhere t e q = let z : _≡_ {A = ℕ} 0 1 = cc in absurd (omega arith)
-source-port (from u f v m) t e q = let z : u ≡ t = cc in rw z
+source-port (from o) t e q = let z : o .port ≡ t = cc in rw z
 
-module _ (s : List ℕ) (l : LaidStream s) where
-  pub left-alone : sourcePlace (sourceOf (toStream s)) ≡ Nowhere → s ≡ streamOctets (merging (toStream s))
+module _ {t : List ℕ} {k : ℕ} (s : Stands t k) where
+  abbrev x : Stream
+  x = streamAt k (decode t)
+
+  pub left-alone : sourcePlace (sourceOf x) ≡ Nowhere → t ≡ encode (withStream k (merging x) (decode t))
   left-alone e =
-      laid-stream-is s l ∙ ap streamOctets (sym (merging-nowhere (toStream s) (laid-stream-fits s l) (source-nowhere (sourceOf (toStream s)) e)))
+      stream-same s
+      ∙ ap (λ (y : Stream). encode (withStream k y (decode t))) (sym (merging-nowhere x (stream-fits s) (source-nowhere (sourceOf x) e)))
 
-  module _ (t : ℕ) (e : sourcePlace (sourceOf (toStream s)) ≡ Port t) where
-    pub port-place : t < 8
-    port-place =
-        let x = toStream s in
-        omega (arith, place-port (sourceOf x) t e, place-bound x (laid-stream-fits s l .eight-cells))
+  module _ (p : ℕ) (e : sourcePlace (sourceOf x) ≡ Port p) where
+    pub talker-on : StandsOn t k p
+    talker-on = stands-on s p (omega (arith, place-port (sourceOf x) p e, place-bound x (stream-fits s .eight-cells)))
 
-    pub left-merged : (a : ℕ) (y : List ℕ) → a ≡ 333 + t * 20 → y ≡ resultOctets (declaring (mergedShown (toStream s)) (toResult (take (a + 20 - a) (drop a s))))
-        → take a s ++ (y ++ drop (a + 20 - a) (drop a s)) ≡ streamOctets (merging (toStream s))
-    left-merged a y p q =
-        let x = toStream s in
-        let d = mergedShown x in
-        let e′ : a ≡ 333 + 20 * t = omega arith in
-        lent-result-left s l t a port-place e′ (declaring d (resultAt x t)) y
-        (q ∙ ap (λ (r : Result). resultOctets (declaring d r)) (lent-result-read s l t a port-place e′))
-        ∙ ap streamOctets (sym (merging-at x (laid-stream-fits s l) t port-place (source-port (sourceOf x) t e)))
+    pub left-merged : (a : ℕ) → a ≡ resultPlace k p → (y : List ℕ)
+        → y ≡ resultOctets (declaring (mergedShown x) (toResult (take (a + resultSize - a) (drop a t))))
+        → take a t ++ (y ++ drop (a + resultSize - a) (drop a t)) ≡ encode (withStream k (merging x) (decode t))
+    left-merged a q y r =
+        changed-result-at talker-on a q (declaring (mergedShown x)) y r
+        ∙ ap (λ (y : Stream). encode (withStream k y (decode t))) (sym (merging-at x (stream-fits s) p (talker-on .port) (source-port (sourceOf x) p e)))

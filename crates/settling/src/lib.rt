@@ -3,31 +3,35 @@
 // last each stream's Talker port declares the merged Listener.
 ghost use mathlib.Core.Path.{_≡_};
 ghost use mathlib.Core.List.{map};
-ghost use Prim.Native.Nat.{_≤_, _<_};
+ghost use Prim.Native.Nat.{_<_};
 ghost use lib.ListN.{length};
-ghost use Rattle.model.specs.State.{Settings, Column, Declared};
+ghost use Rattle.model.specs.Layout.{resultSize};
+ghost use Rattle.model.specs.State.{Column, Declared, streamAt};
 ghost use Rattle.model.specs.Registrations.{holding};
 ghost use Rattle.model.specs.Settling as model;
-ghost use Rattle.model.specs.Table.{columnNumber, declaredNumber, toResult, resultOctets, toStream, streamOctets, encode, decode};
-ghost use Rattle.model.specs.Laid.{LaidResult, LaidStream, Laid};
+ghost use Rattle.model.specs.Table.{columnNumber, declaredNumber, toResult, resultOctets, encode, decode};
+ghost use Rattle.model.specs.Laid.{LaidResult, Laid};
+ghost use Rattle.table.specs.Places.{Stands};
+ghost use Rattle.table.specs.Updates.{withStream};
 ghost use Rattle.columns.specs.Stages as stages;
 ghost use Rattle.settling.specs.Removed.{removed};
-use columns::SourceRead;
+use streams::SourceRead;
 
-// Removes from a record what has been leaving for at least the leave time.
-fn expire_record(rec: &mut [u8], leave: u32, time: u32)
-    requires { ⌜ LaidStream (now rec) × (length (now rec) ≡ 493) × (leave ≤ 16383) ⌝ }
-    ensures { λ _. ⌜ ((st : Settings) → st .leaveTime ≡ leave → now (rec .exit) ≡ streamOctets (model.expire st time (toStream (now (rec .entry))))) ⌝ }
+// Removes from stream k what has been leaving for at least the leave time.
+fn expire_stream(table: &mut [u8], k: usize, leave: u32, time: u32)
+    requires { ⌜ Stands (now table) k × (leave ≡ decode (now table) .settings .leaveTime) ⌝ }
+    ensures { λ _. ⌜ now (table .exit) ≡ encode (withStream k (model.expire (decode (now (table .entry)) .settings) time
+        (streamAt k (decode (now (table .entry))))) (decode (now (table .entry)))) ⌝ }
 {
     let mut p: usize = 0;
     while p < 8 {
-        let a = table::CELLS + p * table::CELL;
-        cells::expire(&mut rec[a..a + table::CELL], leave, time);
+        let a = table::cell_in(table, k, p);
+        cells::expire(&mut table[a..a + table::CELL], leave, time);
         p += 1;
     }
 }
 
-// The same on each record in use.
+// The same on each stream.
 fn expire_all(table: &mut [u8], time: u32)
     requires { ⌜ Laid (now table) ⌝ }
     ensures { λ _. ⌜ now (table .exit) ≡ encode (holding (decode (now (table .entry)))
@@ -37,8 +41,7 @@ fn expire_all(table: &mut [u8], time: u32)
     let leave = table::leave_time(table);
     let mut k: usize = 0;
     while k < held {
-        let a = table::RECORDS + k * table::RECORD;
-        expire_record(&mut table[a..a + table::RECORD], leave, time);
+        expire_stream(table, k, leave, time);
         k += 1;
     }
 }
@@ -50,8 +53,8 @@ fn remove(table: &mut [u8], time: u32)
 {
     expire_all(table, time);
     table::drop_unheld(table);
-    octets::put(table, table::CLOCK, 4, time as u64);
-    octets::clear(table, table::TOTALS, 8 * table::TOTAL);
+    table::set_clock(table, time);
+    table::clear_totals(table);
 }
 
 // Bandwidth shared out on each port, in class A and then in class B.
@@ -100,18 +103,18 @@ fn merge_two(a: u8, b: u8) -> u8
     3
 }
 
-// The Listeners passed on from all ports, merged.
-fn merged(rec: &[u8]) -> u8
-    requires { ⌜ LaidStream (now rec) × (length (now rec) ≡ 493) ⌝ }
-    ensures { λ r. ⌜ r ≡ declaredNumber (stages.mergedShown (toStream (now (rec .entry)))) ⌝ }
+// The Listeners of stream k passed on from all ports, merged.
+fn merged(table: &[u8], k: usize) -> u8
+    requires { ⌜ Stands (now table) k ⌝ }
+    ensures { λ r. ⌜ r ≡ declaredNumber (stages.mergedShown (streamAt k (decode (now (table .entry))))) ⌝ }
 {
     let mut sum: u8 = 0;
     let mut p: usize = 8;
     while 0 < p {
         p -= 1;
-        let column = rec[table::RESULTS + p * table::RESULT];
-        let listener = rec[table::CELLS + p * table::CELL + table::cell::LISTENER];
-        let passed = passed_on(column, listener);
+        let result = table::result_at(table, k, p);
+        let cell = table::cell_at(table, k, p);
+        let passed = passed_on(result[table::result::COLUMN], cell[table::cell::LISTENER]);
         sum = merge_two(passed, sum);
     }
     sum
@@ -119,26 +122,26 @@ fn merged(rec: &[u8]) -> u8
 
 // The Listener that a result declares, by its number.
 fn declare(result: &mut [u8], number: u8)
-    requires { ⌜ LaidResult (now result) × (length (now result) ≡ 20) ⌝ }
+    requires { ⌜ LaidResult (now result) × (length (now result) ≡ resultSize) ⌝ }
     ensures { λ _. ⌜ ((d : Declared) → number ≡ declaredNumber d → now (result .exit) ≡ resultOctets (stages.declaring d (toResult (now (result .entry))))) ⌝ }
 {
     octets::put(result, table::result::DECLARED, 1, number as u64);
 }
 
-// The Talker port of a record declares the merged Listener.
-fn merge_record(rec: &mut [u8])
-    requires { ⌜ LaidStream (now rec) × (length (now rec) ≡ 493) ⌝ }
-    ensures { λ _. ⌜ now (rec .exit) ≡ streamOctets (stages.merging (toStream (now (rec .entry)))) ⌝ }
+// The Talker port of stream k declares the merged Listener.
+fn merge_stream(table: &mut [u8], k: usize)
+    requires { ⌜ Stands (now table) k ⌝ }
+    ensures { λ _. ⌜ now (table .exit) ≡ encode (withStream k (stages.merging (streamAt k (decode (now (table .entry))))) (decode (now (table .entry)))) ⌝ }
 {
-    let SourceRead::Port(t) = columns::source(rec) else {
+    let SourceRead::Port(t) = streams::source(table, k) else {
         return;
     };
-    let number = merged(rec);
-    let a = table::RESULTS + t * table::RESULT;
-    declare(&mut rec[a..a + table::RESULT], number);
+    let number = merged(table, k);
+    let a = table::result_in(table, k, t);
+    declare(&mut table[a..a + table::RESULT], number);
 }
 
-// The same on each record in use.
+// The same on each stream.
 fn merge_all(table: &mut [u8])
     requires { ⌜ Laid (now table) ⌝ }
     ensures { λ _. ⌜ now (table .exit) ≡ encode (holding (decode (now (table .entry)))
@@ -147,8 +150,7 @@ fn merge_all(table: &mut [u8])
     let held = table::count(table);
     let mut k: usize = 0;
     while k < held {
-        let a = table::RECORDS + k * table::RECORD;
-        merge_record(&mut table[a..a + table::RECORD]);
+        merge_stream(table, k);
         k += 1;
     }
 }

@@ -32,12 +32,6 @@ enum Counted {
     Octets(usize),
 }
 
-fn least(a: usize, b: usize) -> usize
-    ensures { λ r. ⌜ (r ≤ a) × (r ≤ b) ⌝ }
-{
-    if a < b { a } else { b }
-}
-
 // Fills a field from the input; false where the input ends before. A read that fails counts as the end.
 fn read(field: &mut [u8]) -> bool {
     let n = io::read_full(STDIN_FILENO, field);
@@ -53,7 +47,7 @@ fn read_counted(octets: &mut [u8]) -> Counted
     if read(&mut field) {
         let n = octets::get(&field, 0, 2) as usize;
         if read(&mut octets[0..n]) {
-            return Counted::Octets(least(n, LONGEST));
+            return Counted::Octets(console::least(n, LONGEST));
         }
     }
     Counted::Cut
@@ -104,7 +98,7 @@ fn advance(table: &mut [u8], line: &mut [u8]) -> Step {
     Step::Stop
 }
 
-// Whether every octet from a place on is as it was filled.
+// Whether every octet but the first so many is as it was filled.
 fn is_kept(buffer: &[u8], from: usize) -> bool
     ensures { λ r. ⌜ r ≡ all 165 (drop from (now (buffer .entry))) ⌝ }
 {
@@ -136,7 +130,7 @@ fn put_some(line: &mut [u8], at: usize, octets: &[u8]) -> usize {
 
 // The line of a write. The length is within the buffer by what write promises; least shows it with no proof about tables.
 fn print_written(line: &mut [u8], wrote: bridge::Wrote, buffer: &[u8]) -> Step {
-    let long = least(wrote.length, buffer.len());
+    let long = console::least(wrote.length, buffer.len());
     let a = console::put(line, 0, b"write");
     let b = console::put_number(line, a, wrote.number as u64);
     let c = console::put_number(line, b, wrote.length as u64);
@@ -151,7 +145,7 @@ fn write(table: &[u8], port: u32, line: &mut [u8]) -> Step {
     if read(&mut field) {
         let place = octets::get(&field, 0, 2) as u32;
         let asked = octets::get(&field, 2, 2) as usize;
-        let n = least(asked, BUFFER);
+        let n = console::least(asked, BUFFER);
         let mut filled = [FILLING; BUFFER];
         let buffer = &mut filled[0..n];
         let wrote = bridge::write(table, port, place, buffer);
@@ -161,7 +155,7 @@ fn write(table: &[u8], port: u32, line: &mut [u8]) -> Step {
 }
 
 // The streams held, and the port's class totals and limits.
-fn put_totals(line: &mut [u8], at: usize, answer: declarations::Reported) -> usize {
+fn put_totals(line: &mut [u8], at: usize, answer: reports::Reported) -> usize {
     let a = console::put_number(line, at, answer.count as u64);
     let b = console::put_number(line, a, answer.total_a);
     let c = console::put_number(line, b, answer.limit_a);
@@ -169,7 +163,7 @@ fn put_totals(line: &mut [u8], at: usize, answer: declarations::Reported) -> usi
     console::put_number(line, d, answer.limit_b)
 }
 
-fn print_reported(line: &mut [u8], answer: declarations::Reported) -> Step {
+fn print_reported(line: &mut [u8], answer: reports::Reported) -> Step {
     let a = console::put(line, 0, b"report");
     let b = console::put_number(line, a, answer.number as u64);
     let c = put_totals(line, b, answer);
@@ -193,9 +187,9 @@ fn report(table: &[u8], port: u32, line: &mut [u8]) -> Step {
 fn store(room: &mut [u8]) -> Step {
     let mut field = [0u8; 3];
     if read(&mut field) {
-        let place = octets::get(&field, 0, 2) as usize;
-        if place < room.len() {
-            room[place] = field[2];
+        let at = octets::get(&field, 0, 2) as usize;
+        if at < room.len() {
+            room[at] = field[2];
         }
         return Step::Next;
     }
@@ -276,7 +270,7 @@ fn run(room: &mut [u8], octets: &mut [u8], line: &mut [u8])
         match next {
             Step::Next => {}
             Step::Lend(n) => {
-                lent = least(n, room.len());
+                lent = console::least(n, room.len());
             }
             Step::Stop => {
                 let at = console::put(line, 0, b"stop");

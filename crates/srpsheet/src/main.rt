@@ -14,17 +14,17 @@ const LINE: usize = 256;
 fn ports_field(input: &[u8]) -> u8
     ensures { λ r. ⌜ r ≤ 15 ⌝ }
 {
-    if input.len() < 9 {
+    if input.len() <= bridge::PORTS_FIELD {
         return 0;
     }
-    input[8] / 16
+    input[bridge::PORTS_FIELD] / 16
 }
 
 // The octets of the settings: as many as their ports field says, or what there is.
 fn settings_length(input: &[u8]) -> usize
     ensures { λ r. ⌜ r ≤ length (now (input .entry)) ⌝ }
 {
-    let asked = 11 + 22 * ports_field(input) as usize;
+    let asked = bridge::SETTINGS + bridge::PORT_SETTINGS * ports_field(input) as usize;
     if asked <= input.len() {
         asked
     } else {

@@ -12,6 +12,8 @@ use Rattle.octets.specs.Parts.{part, patch, zeros}
 use Rattle.octets.specs.Fields.{flat}
 use Rattle.octets.proofs.Parts.{lent-part}
 use Rattle.octets.proofs.Fields.{flat-append}
+use Rattle.octets.proofs.Patches.{patch-part}
+use Rattle.model.specs.Layout.{countPlace, recordPlace, recordSize}
 use Rattle.model.specs.Lists.{keep}
 use Rattle.model.specs.State.{Stream, Bridge, fresh}
 use Rattle.model.specs.Registrations.{holding}
@@ -28,21 +30,18 @@ use Rattle.table.proofs.Header.{header, header-records, header-length, 
 use Rattle.table.proofs.Records.{unused, records-sized}
 use Rattle.table.proofs.Fitting.{held-all}
 
--- A record moved to where it is leaves all as it is.
-pub patch-part : (a n : ℕ) (s : List ℕ) → patch a n (part a n s) s ≡ s
-unfolding patch part
-patch-part a n s = rw (take-append-drop n (drop a s)) (take-append-drop a s)
+-- A record moved down, or to where it is, which leaves all as it is.
 
 pub kept-moved : (i j : ℕ) (s : List ℕ) → j ≤ i
-    → patch (272 + j * 493) 493 (part (272 + j * 493 + (i - j) * 493) 493 s) s ≡ recordKept i j s
+    → patch (recordPlace j) recordSize (part (recordPlace j + (i - j) * recordSize) recordSize s) s ≡ recordKept i j s
 unfolding recordKept
 kept-moved i j s h =
-    let e : 272 + j * 493 + (i - j) * 493 ≡ 272 + i * 493 = omega arith in
-    ap (λ (a : ℕ). patch (272 + j * 493) 493 (part a 493 s) s) e
+    let e : recordPlace j + (i - j) * recordSize ≡ recordPlace i = omega arith in
+    ap (λ (a : ℕ). patch (recordPlace j) recordSize (part a recordSize s) s) e
 
 pub kept-there : (i j : ℕ) (s : List ℕ) → i ≡ j → s ≡ recordKept i j s
 unfolding recordKept
-kept-there i j s e = sym (ap (λ (k : ℕ). patch (272 + j * 493) 493 (part (272 + k * 493) 493 s) s) e ∙ patch-part (272 + j * 493) 493 s)
+kept-there i j s e = sym (ap (λ (k : ℕ). patch (recordPlace j) recordSize (part (recordPlace k) recordSize s) s) e ∙ patch-part (recordPlace j) recordSize s)
 
 -- The loop over the records.
 
@@ -69,7 +68,7 @@ pub record Closing (b : Bridge) (t : List ℕ) (i j : ℕ) : Type 0 where
   pub fewer : j ≤ i
   pub count : j ≡ length (heldOnly (take i (b .streams)))
   pub between : List ℕ
-  pub size : length between ≡ 493 * (i - j)
+  pub size : length between ≡ (i - j) * recordSize
   pub is : t ≡ (header b ++ flat streamOctets (heldOnly (take i (b .streams))))
       ++ (between ++ (flat streamOctets (drop i (b .streams)) ++ unused (length (b .streams))))
 
@@ -94,14 +93,14 @@ module _ (b : Bridge) (w : FitBridge b) (t : List ℕ) (i j : ℕ) (c : Closing 
   front : List ℕ
   front = header b ++ flat streamOctets kept-streams
 
-  front-length : length front ≡ 272 + 493 * j
+  front-length : length front ≡ recordPlace j
   unfolding front kept-streams
   front-length =
       let l = kept-streams in
       let e : length l ≡ j = sym (c .count) in
       let z =
-      length-flat-sized 493 streamOctets l
-      (held-all (Sized 493 streamOctets) (take i (b .streams)) (all-take (Sized 493 streamOctets) i (b .streams) (records-sized b w))) in
+      length-flat-sized recordSize streamOctets l
+      (held-all (Sized recordSize streamOctets) (take i (b .streams)) (all-take (Sized recordSize streamOctets) i (b .streams) (records-sized b w))) in
       length-append (header b) (flat streamOctets l) ∙ omega (arith, header-length b w)
 
   module _ (h : i < length (b .streams)) where
@@ -123,17 +122,17 @@ module _ (b : Bridge) (w : FitBridge b) (t : List ℕ) (i j : ℕ) (c : Closing 
         ∙ simp append-assoc
 
     -- the record at place i is still as it was
-    seen : part (272 + i * 493) 493 t ≡ streamOctets x
+    seen : part (recordPlace i) recordSize t ≡ streamOctets x
     seen =
-        ap (part (272 + i * 493) 493) (opened ∙ sym (append-assoc front (c .between) (streamOctets x ++ rest)))
-        ∙ part-between (front ++ c .between) (streamOctets x) rest (272 + i * 493) 493
+        ap (part (recordPlace i) recordSize) (opened ∙ sym (append-assoc front (c .between) (streamOctets x ++ rest)))
+        ∙ part-between (front ++ c .between) (streamOctets x) rest (recordPlace i) recordSize
         (length-append front (c .between) ∙ omega (arith, front-length, c .size, c .fewer)) (stream-size x x-fits)
 
     -- what a call sees of it
-    pub seen-held : held (toStream (take (272 + i * 493 + 493 - (272 + i * 493)) (drop (272 + i * 493) t)) .cells)
+    pub seen-held : held (toStream (take (recordPlace i + recordSize - recordPlace i) (drop (recordPlace i) t)) .cells)
         ≡ held (getD (b .streams) i (fresh 0) .cells)
     unfolding x
-    seen-held = ap (λ (s : List ℕ). held (toStream s .cells)) (lent-part (272 + i * 493) 493 t ∙ seen) ∙ ap (λ (y : Stream). held (y .cells)) (stream-read x x-fits)
+    seen-held = ap (λ (s : List ℕ). held (toStream s .cells)) (lent-part (recordPlace i) recordSize t ∙ seen) ∙ ap (λ (y : Stream). held (y .cells)) (stream-read x x-fits)
 
     kept-next : heldOnly (take (suc i) (b .streams)) ≡ kept-streams ++ heldOnly (x ∷ [])
     unfolding kept-streams x
@@ -160,23 +159,23 @@ module _ (b : Bridge) (w : FitBridge b) (t : List ℕ) (i j : ℕ) (c : Closing 
     gathered : List ℕ
     gathered = c .between ++ streamOctets x
 
-    gathered-length : length gathered ≡ 493 * (i - j) + 493
+    gathered-length : length gathered ≡ (i - j) * recordSize + recordSize
     unfolding gathered
     gathered-length = length-append (c .between) (streamOctets x) ∙ omega (arith, c .size, stream-size x x-fits)
 
-    moved : recordKept i j t ≡ front ++ (streamOctets x ++ (drop 493 gathered ++ rest))
+    moved : recordKept i j t ≡ front ++ (streamOctets x ++ (drop recordSize gathered ++ rest))
     unfolding recordKept gathered
     moved =
-        let split : t ≡ front ++ (take 493 gathered ++ (drop 493 gathered ++ rest)) =
+        let split : t ≡ front ++ (take recordSize gathered ++ (drop recordSize gathered ++ rest)) =
         opened
         ∙ ap (λ (s : List ℕ). front ++ s)
         (sym (append-assoc (c .between) (streamOctets x) rest)
-        ∙ ap (λ (s : List ℕ). s ++ rest) (sym (take-append-drop 493 gathered))
-        ∙ append-assoc (take 493 gathered) (drop 493 gathered) rest) in
-        ap (λ (s : List ℕ). patch (272 + j * 493) 493 s t) seen
-        ∙ ap (patch (272 + j * 493) 493 (streamOctets x)) split
-        ∙ patch-between front (take 493 gathered) (drop 493 gathered ++ rest) (streamOctets x) (272 + j * 493) 493 (omega (arith, front-length))
-        (length-take-le 493 gathered (omega (arith, gathered-length)))
+        ∙ ap (λ (s : List ℕ). s ++ rest) (sym (take-append-drop recordSize gathered))
+        ∙ append-assoc (take recordSize gathered) (drop recordSize gathered) rest) in
+        ap (λ (s : List ℕ). patch (recordPlace j) recordSize s t) seen
+        ∙ ap (patch (recordPlace j) recordSize (streamOctets x)) split
+        ∙ patch-between front (take recordSize gathered) (drop recordSize gathered ++ rest) (streamOctets x) (recordPlace j) recordSize (omega (arith, front-length))
+        (length-take-le recordSize gathered (omega (arith, gathered-length)))
 
     pub closing-keep : held (getD (b .streams) i (fresh 0) .cells) ≡ true → Closing b (recordKept i j t) (i + 1) (j + 1)
     unfolding x front rest kept-streams flat
@@ -189,35 +188,35 @@ module _ (b : Bridge) (w : FitBridge b) (t : List ℕ) (i j : ℕ) (c : Closing 
           within = omega arith;
           fewer = omega (arith, c .fewer);
           count = sym (ap length f ∙ length-append kept-streams (x ∷ []) ∙ omega (arith, c .count));
-          between = drop 493 gathered;
-          size = length-drop 493 gathered ∙ omega (arith, gathered-length, c .fewer);
+          between = drop recordSize gathered;
+          size = length-drop recordSize gathered ∙ omega (arith, gathered-length, c .fewer);
           is =
               moved
-              ∙ sym (append-assoc front (streamOctets x) (drop 493 gathered ++ rest))
-              ∙ ap (λ (s : List ℕ). s ++ (drop 493 gathered ++ rest)) (sym g)
-              ∙ ap (λ (l : List Stream). (header b ++ flat streamOctets l) ++ (drop 493 gathered ++ rest)) (sym f);
+              ∙ sym (append-assoc front (streamOctets x) (drop recordSize gathered ++ rest))
+              ∙ ap (λ (s : List ℕ). s ++ (drop recordSize gathered ++ rest)) (sym g)
+              ∙ ap (λ (l : List Stream). (header b ++ flat streamOctets l) ++ (drop recordSize gathered ++ rest)) (sym f);
         }
 
   -- all records seen: what lies behind the held ones is cleared, and their number is stored
   pub closing-end : (n : ℕ) → n ≡ length (b .streams) → i ≡ n
-      → patch 191 1 (be 1 j) (patch (272 + j * 493) ((n - j) * 493) (zeros ((n - j) * 493)) t) ≡ encode (holding b (heldOnly (b .streams)))
+      → patch countPlace 1 (be 1 j) (patch (recordPlace j) ((n - j) * recordSize) (zeros ((n - j) * recordSize)) t) ≡ encode (holding b (heldOnly (b .streams)))
   unfolding front kept-streams flat holding
   closing-end n a all =
       let e : i ≡ length (b .streams) = all ∙ a in
       let s = heldOnly (b .streams) in
-      let m : ℕ = (n - j) * 493 in
+      let m : ℕ = (n - j) * recordSize in
       let k : heldOnly (take i (b .streams)) ≡ s = ap heldOnly (ap (λ (l : ℕ). take l (b .streams)) e ∙ take-length (b .streams)) in
       let d : drop i (b .streams) ≡ [] = ap (λ (l : ℕ). drop l (b .streams)) e ∙ drop-length (b .streams) in
       let q : j ≡ length s = c .count ∙ ap length k in
       let there : t ≡ front ++ (c .between ++ unused n) = c .is ∙ rw (d, a) in
-      let o : m + 493 * (64 - n) ≡ 493 * (64 - length s) = omega (arith, q, c .fewer, w .at-most-64) in
-      let z : zeros m ++ unused n ≡ unused (length s) = sym (zeros-add m (493 * (64 - n))) ∙ ap zeros o in
-      let cleared : patch (272 + j * 493) m (zeros m) t ≡ header b ++ (flat streamOctets s ++ unused (length s)) =
-      ap (patch (272 + j * 493) m (zeros m)) there
-      ∙ patch-between front (c .between) (unused n) (zeros m) (272 + j * 493) m (omega (arith, front-length)) (omega (arith, c .size))
+      let o : m + (64 - n) * recordSize ≡ (64 - length s) * recordSize = omega (arith, q, c .fewer, w .at-most-64) in
+      let z : zeros m ++ unused n ≡ unused (length s) = sym (zeros-add m ((64 - n) * recordSize)) ∙ ap zeros o in
+      let cleared : patch (recordPlace j) m (zeros m) t ≡ header b ++ (flat streamOctets s ++ unused (length s)) =
+      ap (patch (recordPlace j) m (zeros m)) there
+      ∙ patch-between front (c .between) (unused n) (zeros m) (recordPlace j) m (omega (arith, front-length)) (omega (arith, c .size))
       ∙ append-assoc (header b) (flat streamOctets kept-streams) (zeros m ++ unused n)
       ∙ rw (z, k) in
-      ap (λ (l : ℕ). patch 191 1 (be 1 l) (patch (272 + j * 493) m (zeros m) t)) q
-      ∙ ap (patch 191 1 (be 1 (length s))) cleared
+      ap (λ (l : ℕ). patch countPlace 1 (be 1 l) (patch (recordPlace j) m (zeros m) t)) q
+      ∙ ap (patch countPlace 1 (be 1 (length s))) cleared
       ∙ count-patch b w s (flat streamOctets s ++ unused (length s))
       ∙ sym (header-records (holding b s))

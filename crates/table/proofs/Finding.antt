@@ -1,5 +1,5 @@
 -- Halving finds the place of a StreamID among ascending ones.
-use Prim.Native.Nat.{ℕ, zero, suc, _+_, _-_, _*_, _≤_, _<_}
+use Prim.Native.Nat.{ℕ, zero, suc, _+_, _≤_, _<_}
 use native.Mathlib.Nat.{eq-or-lt-of-le}
 use native.Mathlib.Omega.{arith}
 use mathlib.Core.Path.{_≡_, sym, ap, _∙_}
@@ -10,6 +10,7 @@ use borrow.Author.Tests.{lt-ltb, le-ltb, eq-eqb, ne-eqb}
 use Rattle.octets.specs.Be.{beAt}
 use Rattle.octets.specs.Parts.{part}
 use Rattle.octets.proofs.Frame.{beAt-part}
+use Rattle.model.specs.Layout.{recordPlace, recordSize}
 use Rattle.model.specs.State.{Stream, fresh}
 use Rattle.model.specs.Registrations.{ids}
 use Rattle.model.specs.Table.{streamOctets, decode}
@@ -108,19 +109,20 @@ between-none id l low high b h =
     sym (found-gap id 0 low l (b .lower) (omega (arith, b .within, b .ordered)) (λ p. b .higher low h p) ∙ ap Gap (omega arith))
 
 -- the StreamID that a record has
-pub record-id : (t : List ℕ) (l : Laid t) (k a : ℕ) → k < length (decode t .streams) → a ≡ 272 + 493 * k
-    → beAt 8 t a ≡ getD (ids (decode t .streams)) k 0
-unfolding ids fresh
-record-id t l k a h e =
-    let b = decode t in
-    let w = laid-fits t l in
-    let x = getD (b .streams) k (fresh 0) in
-    let there : part a 493 t ≡ streamOctets x = ap (part a 493) (laid-is t l) ∙ record-part b w k a h e in
-    let first : beAt 8 (part a 493 t) 0 ≡ beAt 8 t a = beAt-part 8 a 493 0 t (omega arith) ∙ ap (beAt 8 t) (omega arith) in
-    sym first
-    ∙ ap (λ (s : List ℕ). beAt 8 s 0) there
-    ∙ id-at x (all-at FitStream (b .streams) (w .streams) k (fresh 0) h)
-    ∙ sym (List·getD-map (λ (y : Stream). y .id) (b .streams) k (fresh 0))
+module _ (t : List ℕ) (l : Laid t) (k a : ℕ) (h : k < length (decode t .streams)) (e : a ≡ recordPlace k) where
+  pub stream-id : beAt 8 t a ≡ getD (decode t .streams) k (fresh 0) .id
+  stream-id =
+      let b = decode t in
+      let w = laid-fits t l in
+      let x = getD (b .streams) k (fresh 0) in
+      let there : part a recordSize t ≡ streamOctets x = ap (part a recordSize) (laid-is t l) ∙ record-part b w k a h e in
+      let first : beAt 8 (part a recordSize t) 0 ≡ beAt 8 t a = beAt-part 8 a recordSize 0 t (omega arith) ∙ ap (beAt 8 t) (omega arith) in
+      sym first ∙ ap (λ (s : List ℕ). beAt 8 s 0) there ∙ id-at x (all-at FitStream (b .streams) (w .streams) k (fresh 0) h)
+
+  -- among those of all
+  pub record-id : beAt 8 t a ≡ getD (ids (decode t .streams)) k 0
+  unfolding ids fresh
+  record-id = stream-id ∙ sym (List·getD-map (λ (y : Stream). y .id) (decode t .streams) k (fresh 0))
 
 pub length-ids : (s : List Stream) → length (ids s) ≡ length s
 unfolding ids

@@ -1,43 +1,32 @@
--- Changes of a bridge after which every number still fits its field: a cell, a record, a stream put in, streams dropped, the
+-- Changes of a bridge after which every number still fits its field: a cell, a result, a record, a stream put in, streams dropped, the
 -- clock, the totals.
-use Prim.Native.Nat.{ℕ, zero, suc, _+_, _^_, _≤_, _<_}
+use Prim.Native.Nat.{ℕ, zero, suc, _^_, _≤_, _<_}
 use native.Mathlib.Omega.{arith}
 use mathlib.Core.Path.{_≡_, refl, sym, ap, _∙_, subst}
 use mathlib.Core.Bool.{Bool, true, false}
 use mathlib.Core.List.{List, [], _∷_, _++_, map}
-use lib.ListN.{length, getD, set, take, drop, length-set, length-map}
+use lib.ListN.{length, getD, set, take, drop, replicate, length-set, length-map}
 use Rattle.octets.specs.Fields.{Fit}
 use Rattle.octets.proofs.Fields.{fit-zeros}
+use Rattle.model.specs.Layout.{cellWidths, fixedWidths, resultWidths}
 use Rattle.model.specs.Lists.{All, keep}
-use Rattle.model.specs.State.{Cell, Stream, Totals, Bridge, empty, unsettled, noFixed, blank, fresh}
+use Rattle.model.specs.State.{Cell, Result, Stream, Totals, Bridge, empty, unsettled, noFixed, blank, fresh, noTotals}
 use Rattle.model.specs.Registrations.{at, change, holding, together, ids}
 use Rattle.model.specs.Settling.{held}
 use Rattle.model.specs.WrittenFrames.{priorityOctet, fixedNumbers}
-use Rattle.model.specs.Table.{cellWidths, cellNumbers, talkerNumbers, listenerNumbers, resultWidths, resultNumbers, columnNumber, columnBridge, columnCode, entryNumber, declaredNumber, nameWidths}
+use Rattle.model.specs.Table.{cellNumbers, talkerNumbers, listenerNumbers, resultNumbers, columnNumber, columnBridge, columnCode, entryNumber, declaredNumber}
 use Rattle.model.specs.Laid.{FitCell, FitResult, FitStream, FitTotals, FitBridge, Ascending}
-use Rattle.model.proofs.Lists.{all-replicate, all-append, all-take, all-drop}
+use Rattle.model.proofs.Lists.{all-replicate, all-append, all-take, all-drop, all-set, length-at, all-changed}
 use Rattle.model.proofs.Parts.{_also_}
 use Rattle.model.proofs.FrameOrder.{joined, rising-together}
 use Rattle.model.proofs.Fits.{rising-ascends, ascending-rises}
 use Rattle.table.specs.declared.Found.the-variants.{Gap}
 use Rattle.table.specs.Find.{foundAt}
 use Rattle.table.specs.Held.{heldOnly}
-use Rattle.table.specs.Updates.{clocked, totalled, inserted}
+use Rattle.table.specs.Updates.{clocked, totalled, inserted, resulting}
 use Rattle.table.proofs.Places.{at-gap, length-put-in, room-gap}
 
 -- A stream with its cell at a place changed.
-
-length-at : (p : ℕ) (u : Cell → Cell) (l : List Cell) → length (at p u l) ≡ length l
-unfolding at
-length-at p u [] = refl
-length-at zero u (c ∷ l) = refl
-length-at (suc p) u (c ∷ l) = ap suc (length-at p u l)
-
-all-changed : (P : Cell → Type 0) (p : ℕ) (u : Cell → Cell) (l : List Cell) → ((c : Cell) → P c → P (u c)) → All P l → All P (at p u l)
-unfolding at
-all-changed P p u [] k a = tt
-all-changed P zero u (c ∷ l) k a = (k c (a .0), a .1)
-all-changed P (suc p) u (c ∷ l) k a = (a .0, all-changed P p u l k (a .1))
 
 pub changed-fits : (p : ℕ) (u : Cell → Cell) → ((c : Cell) → FitCell c → FitCell (u c)) → (x : Stream) → FitStream x → FitStream (change (at p u) x)
 unfolding change
@@ -50,20 +39,32 @@ changed-fits p u k x w = record {
   results = w .results;
 }
 
+-- A stream with its result at a place replaced.
+
+pub set-result-fits : (p : ℕ) (r : Result) → FitResult r → (x : Stream) → FitStream x → FitStream (resulting (λ l. set l p r) x)
+set-result-fits p r f x w = record {
+  name = w .name;
+  rank = w .rank;
+  eight-cells = w .eight-cells;
+  cells = w .cells;
+  eight-results = length-set (x .results) p r ∙ w .eight-results;
+  results = all-set FitResult (x .results) p r (w .results) f;
+}
+
 -- A stream without registrations.
 
-empty-fits : FitCell empty
-unfolding empty cellNumbers talkerNumbers listenerNumbers cellWidths
+pub empty-fits : FitCell empty
+unfolding empty cellNumbers talkerNumbers listenerNumbers
 empty-fits = record { numbers = fit-zeros cellWidths; rank = tt }
 
-unsettled-fits : FitResult unsettled
-unfolding unsettled resultNumbers columnNumber columnBridge columnCode entryNumber declaredNumber resultWidths
+pub unsettled-fits : FitResult unsettled
+unfolding unsettled resultNumbers columnNumber columnBridge columnCode entryNumber declaredNumber
 unsettled-fits = fit-zeros resultWidths
 
 pub fresh-fits : (id : ℕ) → id < 2 ^ 64 → FitStream (fresh id)
-unfolding fresh blank noFixed fixedNumbers priorityOctet nameWidths Fit
+unfolding fresh blank noFixed fixedNumbers priorityOctet Fit
 fresh-fits id h = record {
-  name = h also fit-zeros (6 ∷ 2 ∷ 2 ∷ 2 ∷ 1 ∷ []);
+  name = h also fit-zeros fixedWidths;
   rank = omega arith;
   eight-cells = refl;
   cells = all-replicate FitCell 8 empty empty-fits;
@@ -86,12 +87,7 @@ holding-fits b w s few all rise = record {
 }
 
 -- one replaced by one of its StreamID
-all-set : {A : Type 0} (P : A → Type 0) (l : List A) (k : ℕ) (y : A) → All P l → P y → All P (set l k y)
-all-set P [] k y a h = tt
-all-set P (x ∷ l) zero y a h = (h, a .1)
-all-set P (x ∷ l) (suc k) y a h = (a .0, all-set P l k y (a .1) h)
-
-ids-set : (s : List Stream) (k : ℕ) (d y : Stream) → y .id ≡ getD s k d .id → ids (set s k y) ≡ ids s
+pub ids-set : (s : List Stream) (k : ℕ) (d y : Stream) → y .id ≡ getD s k d .id → ids (set s k y) ≡ ids s
 unfolding ids
 ids-set [] k d y e = refl
 ids-set (x ∷ s) zero d y e = ap (λ (i : ℕ). i ∷ ids s) e
@@ -205,3 +201,11 @@ totalled-fits b w ts e f = record {
   streams = w .streams;
   ascending = w .ascending;
 }
+
+-- with nothing reserved
+pub no-totals-fit : FitTotals noTotals
+unfolding noTotals
+no-totals-fit = (omega arith, omega arith)
+
+pub cleared-fits : (b : Bridge) → FitBridge b → FitBridge (totalled (replicate 8 noTotals) b)
+cleared-fits b w = totalled-fits b w (replicate 8 noTotals) refl (all-replicate FitTotals 8 noTotals no-totals-fit)

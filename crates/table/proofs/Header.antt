@@ -11,15 +11,16 @@ use Rattle.octets.specs.Fields.{packed, Fit, width, flat}
 use Rattle.octets.proofs.Be.{length-be}
 use Rattle.octets.proofs.Frame.{beAt-part}
 use Rattle.octets.proofs.Fields.{flat-append, get-field, packed-zeros, fit-zeros, length-packed-any}
+use Rattle.model.specs.Layout.{clockPlace, countPlace, headWidths, portPlace, portSize, portWidths, portsPlace, portsUnit, priorityAUnit, priorityBUnit, recordsPlace, tableLength, totalPlace, totalSize, totalsPlace, totalsSize, wordPlace}
 use Rattle.model.specs.Lists.{All, bit}
 use Rattle.model.specs.State.{Port, Settings, Stream, Totals, Bridge, noPort, portAt, noTotals}
 use Rattle.model.specs.Registrations.{holding}
-use Rattle.model.specs.Table.{portWidths, portNumbers, portOctets, toPort, headWidths, headWord, settingsOctets, portsField, totalsOctets, tableLength, clockField, countField, encode, decode}
+use Rattle.model.specs.Table.{portNumbers, portOctets, toPort, headWord, settingsOctets, portsField, totalsOctets, clockField, countField, encode, decode}
 use Rattle.model.specs.Laid.{FitSettings, FitBridge, Laid}
 use Rattle.model.proofs.Lists.{all-each, all-replicate}
 use Rattle.model.proofs.Parts.{Sized, flat-zeros}
 use Rattle.model.proofs.SettingsOctets.{port-length, port-back, id-read, ports-read, priority-a-read, priority-b-read, leave-read}
-use Rattle.model.proofs.Tables.{settingsWhole, clockAndCount, totalsWhole, recordsWhole, encode-parts, clock-length, settings-whole-length, totals-whole-length, whole-length, totals-sized, clock-read, count-read, fit-whole}
+use Rattle.model.proofs.Tables.{settingsWhole, clockAndCount, totalsWhole, recordsWhole, encode-parts, clock-length, settings-whole-length, totals-whole-length, whole-length, totals-sized, no-totals, clock-read, count-read, fit-whole}
 use Rattle.model.proofs.Fits.{laid-is, laid-fits}
 use Rattle.table.specs.Updates.{clocked, totalled}
 use Rattle.table.proofs.Lens.{patch-between, part-one, patch-one, all-getD}
@@ -33,11 +34,10 @@ unfolding header
 header-records b = encode-parts b ∙ simp append-assoc
 
 module _ (b : Bridge) (w : FitBridge b) where
-  pub table-length : length (encode b) ≡ 31824
-  unfolding tableLength
+  pub table-length : length (encode b) ≡ tableLength
   table-length = whole-length b (fit-whole b w)
 
-  pub header-length : length (header b) ≡ 272
+  pub header-length : length (header b) ≡ recordsPlace
   unfolding header
   header-length =
       let o = fit-whole b w in
@@ -46,11 +46,11 @@ module _ (b : Bridge) (w : FitBridge b) where
 
   -- Clock and number of streams.
 
-  pub clock-at : beAt 4 (encode b) 187 ≡ b .clock
+  pub clock-at : beAt 4 (encode b) clockPlace ≡ b .clock
   unfolding clockField
   clock-at = clock-read b (fit-whole b w) (w .clock)
 
-  pub count-at : getD (encode b) 191 0 ≡ length (b .streams)
+  pub count-at : getD (encode b) countPlace 0 ≡ length (b .streams)
   unfolding countField
   count-at = count-read b (fit-whole b w) (w .clock)
 
@@ -60,26 +60,26 @@ module _ (b : Bridge) (w : FitBridge b) where
   unfolding encode
   bridge-id-at = id-read (b .settings) (w .settings) _
 
-  pub ports-at : beAt 3 (encode b) 8 / 1048576 ≡ length (b .settings .ports)
+  pub ports-at : beAt 3 (encode b) wordPlace / portsUnit ≡ length (b .settings .ports)
   unfolding encode portsField
   ports-at = ports-read (b .settings) (w .settings) _
 
-  pub priority-a-at : beAt 3 (encode b) 8 / 131072 % 8 ≡ b .settings .priorityA
+  pub priority-a-at : beAt 3 (encode b) wordPlace / priorityAUnit % 8 ≡ b .settings .priorityA
   unfolding encode
   priority-a-at = priority-a-read (b .settings) (w .settings) _
 
-  pub priority-b-at : beAt 3 (encode b) 8 / 16384 % 8 ≡ b .settings .priorityB
+  pub priority-b-at : beAt 3 (encode b) wordPlace / priorityBUnit % 8 ≡ b .settings .priorityB
   unfolding encode
   priority-b-at = priority-b-read (b .settings) (w .settings) _
 
-  pub leave-time-at : beAt 3 (encode b) 8 % 16384 ≡ b .settings .leaveTime
+  pub leave-time-at : beAt 3 (encode b) wordPlace % priorityBUnit ≡ b .settings .leaveTime
   unfolding encode
   leave-time-at = leave-read (b .settings) (w .settings) _
 
 -- Ports. A place that is no port has the octets of none, which are zeros.
 
-port-zeros : portOctets noPort ≡ zeros 22
-unfolding portOctets portNumbers noPort portWidths width bit
+port-zeros : portOctets noPort ≡ zeros portSize
+unfolding portOctets portNumbers noPort width bit
 port-zeros = packed-zeros portWidths
 
 abbrev eightPorts : Settings → List Port
@@ -102,16 +102,16 @@ padded-at (x ∷ l) m (suc p) d = padded-at l m p d
 abbrev head : Settings → List ℕ
 head st = packed headWidths (st .bridgeId ∷ headWord st ∷ [])
 
-head-length : (st : Settings) → length (head st) ≡ 11
-unfolding headWidths width
+head-length : (st : Settings) → length (head st) ≡ portsPlace
+unfolding width
 head-length st = length-packed-any headWidths (st .bridgeId ∷ headWord st ∷ []) refl
 
-flat-eight : (st : Settings) → flat portOctets (eightPorts st) ≡ flat portOctets (st .ports) ++ zeros (22 * (8 - length (st .ports)))
+flat-eight : (st : Settings) → flat portOctets (eightPorts st) ≡ flat portOctets (st .ports) ++ zeros ((8 - length (st .ports)) * portSize)
 flat-eight st =
     let m = 8 - length (st .ports) in
     let none = replicate m noPort in
-    let z = flat-zeros 22 portOctets noPort port-zeros none (all-replicate (λ q. q ≡ noPort) m noPort refl) in
-    let e : length none * 22 ≡ 22 * m = omega (arith, length-replicate m noPort) in
+    let z = flat-zeros portSize portOctets noPort port-zeros none (all-replicate (λ q. q ≡ noPort) m noPort refl) in
+    let e : length none * portSize ≡ m * portSize = omega (arith, length-replicate m noPort) in
     flat-append portOctets (st .ports) none ∙ ap (λ (l : List ℕ). flat portOctets (st .ports) ++ l) (z ∙ ap zeros e)
 
 ports-laid : (b : Bridge)
@@ -119,15 +119,15 @@ ports-laid : (b : Bridge)
 unfolding encode settingsOctets
 ports-laid b = rw (flat-eight (b .settings)) (simp append-assoc)
 
-ports-sized : (l : List Port) → All (Sized 22 portOctets) l
-ports-sized = all-each (Sized 22 portOctets) port-length
+ports-sized : (l : List Port) → All (Sized portSize portOctets) l
+ports-sized = all-each (Sized portSize portOctets) port-length
 
 -- a port's numbers fit, also at a place that is none
 no-port-fits : Fit portWidths (portNumbers noPort)
-unfolding portNumbers noPort portWidths bit
+unfolding portNumbers noPort bit
 no-port-fits = fit-zeros portWidths
 
-port-fits : (st : Settings) → FitSettings st → (p : ℕ) → Fit portWidths (portNumbers (portAt st p))
+pub port-fits : (st : Settings) → FitSettings st → (p : ℕ) → Fit portWidths (portNumbers (portAt st p))
 unfolding portAt
 port-fits st w p = all-getD (λ q. Fit portWidths (portNumbers q)) (st .ports) (w .ports) noPort no-port-fits p
 
@@ -139,27 +139,27 @@ field-within [] (suc i) = omega arith
 field-within (w ∷ ws) zero = omega arith
 field-within (w ∷ ws) (suc i) = omega (arith, field-within ws i)
 
-module _ (b : Bridge) (w : FitBridge b) (p a : ℕ) (h : p < 8) (e : a ≡ 11 + 22 * p) where
-  pub port-part : part a 22 (encode b) ≡ portOctets (portAt (b .settings) p)
+module _ (b : Bridge) (w : FitBridge b) (p a : ℕ) (h : p < 8) (e : a ≡ portPlace p) where
+  pub port-part : part a portSize (encode b) ≡ portOctets (portAt (b .settings) p)
   unfolding portAt
   port-part =
       let st = b .settings in
       let l = eightPorts st in
       let after = clockAndCount b ++ (totalsWhole b ++ recordsWhole b) in
       let few : p < length l = omega (arith, length-eight st (w .settings .eight-ports)) in
-      ap (part a 22) (ports-laid b)
-      ∙ part-one 22 portOctets 11 (head st) after (head-length st) l (ports-sized l) p a few e noPort
+      ap (part a portSize) (ports-laid b)
+      ∙ part-one portSize portOctets portsPlace (head st) after (head-length st) l (ports-sized l) p a few e noPort
       ∙ ap portOctets (padded-at (st .ports) (8 - length (st .ports)) p noPort)
 
   -- number i of the port, in its field
   pub port-number : (i : ℕ) → beAt (getD portWidths i 0) (encode b) (a + width (take i portWidths)) ≡ getD (portNumbers (portAt (b .settings) p)) i 0
   port-number i =
       let q = portAt (b .settings) p in
-      sym (beAt-part (getD portWidths i 0) a 22 (width (take i portWidths)) (encode b) (unfold portWidths width in field-within portWidths i))
+      sym (beAt-part (getD portWidths i 0) a portSize (width (take i portWidths)) (encode b) (unfold width in field-within portWidths i))
       ∙ ap (λ (s : List ℕ). beAt (getD portWidths i 0) s (width (take i portWidths))) port-part
       ∙ (unfold portOctets in get-field portWidths (portNumbers q) (port-fits (b .settings) (w .settings) p) i)
 
-  pub port-at : toPort (part a 22 (encode b)) ≡ portAt (b .settings) p
+  pub port-at : toPort (part a portSize (encode b)) ≡ portAt (b .settings) p
   port-at = ap toPort port-part ∙ port-back (portAt (b .settings) p) (port-fits (b .settings) (w .settings) p)
 
 -- Totals.
@@ -167,76 +167,95 @@ module _ (b : Bridge) (w : FitBridge b) (p a : ℕ) (h : p < 8) (e : a ≡ 11 + 
 totals-laid : (b : Bridge) → encode b ≡ (settingsWhole b ++ clockAndCount b) ++ (flat totalsOctets (b .totals) ++ recordsWhole b)
 totals-laid b = encode-parts b ∙ simp append-assoc
 
-module _ (b : Bridge) (w : FitBridge b) (p a : ℕ) (h : p < 8) (e : a ≡ 192 + 10 * p) where
-  before-totals : length (settingsWhole b ++ clockAndCount b) ≡ 192
-  before-totals = length-append (settingsWhole b) (clockAndCount b) ∙ omega (arith, settings-whole-length b (fit-whole b w), clock-length b)
+before-totals : (b : Bridge) (w : FitBridge b) → length (settingsWhole b ++ clockAndCount b) ≡ totalsPlace
+before-totals b w = length-append (settingsWhole b) (clockAndCount b) ∙ omega (arith, settings-whole-length b (fit-whole b w), clock-length b)
 
+module _ (b : Bridge) (w : FitBridge b) (p a : ℕ) (h : p < 8) (e : a ≡ totalPlace p) where
   a-total : p < length (b .totals)
   a-total = omega (arith, w .eight-totals)
 
-  pub totals-part : part a 10 (encode b) ≡ totalsOctets (getD (b .totals) p noTotals)
+  pub totals-part : part a totalSize (encode b) ≡ totalsOctets (getD (b .totals) p noTotals)
   totals-part =
-      ap (part a 10) (totals-laid b)
-      ∙ part-one 10 totalsOctets 192 (settingsWhole b ++ clockAndCount b) (recordsWhole b) before-totals (b .totals) (totals-sized (b .totals)) p a a-total
+      ap (part a totalSize) (totals-laid b)
+      ∙ part-one totalSize totalsOctets totalsPlace (settingsWhole b ++ clockAndCount b) (recordsWhole b) (before-totals b w) (b .totals) (totals-sized (b .totals)) p a a-total
       e noTotals
 
-  pub totals-patch : (t : Totals) → patch a 10 (totalsOctets t) (encode b) ≡ encode (totalled (set (b .totals) p t) b)
+  pub totals-patch : (t : Totals) → patch a totalSize (totalsOctets t) (encode b) ≡ encode (totalled (set (b .totals) p t) b)
   totals-patch t =
-      ap (patch a 10 (totalsOctets t)) (totals-laid b)
-      ∙ patch-one 10 totalsOctets 192 (settingsWhole b ++ clockAndCount b) (recordsWhole b) before-totals (b .totals) (totals-sized (b .totals)) p a a-total
+      ap (patch a totalSize (totalsOctets t)) (totals-laid b)
+      ∙ patch-one totalSize totalsOctets totalsPlace (settingsWhole b ++ clockAndCount b) (recordsWhole b) (before-totals b w) (b .totals) (totals-sized (b .totals)) p a a-total
       e t
       ∙ sym (totals-laid (totalled (set (b .totals) p t) b))
 
+pub totals-cleared : (b : Bridge) (w : FitBridge b) → patch totalsPlace totalsSize (zeros totalsSize) (encode b) ≡ encode (totalled (replicate 8 noTotals) b)
+totals-cleared b w =
+    let before = settingsWhole b ++ clockAndCount b in
+    let none : flat totalsOctets (replicate 8 noTotals) ≡ zeros totalsSize =
+    flat-zeros totalSize totalsOctets noTotals no-totals (replicate 8 noTotals) (all-replicate (λ t. t ≡ noTotals) 8 noTotals refl) in
+    ap (patch totalsPlace totalsSize (zeros totalsSize)) (totals-laid b)
+    ∙ patch-between before (totalsWhole b) (recordsWhole b) (zeros totalsSize) totalsPlace totalsSize (before-totals b w) (totals-whole-length b (fit-whole b w))
+    ∙ ap (λ (z : List ℕ). before ++ (z ++ recordsWhole b)) (sym none)
+    ∙ sym (totals-laid (totalled (replicate 8 noTotals) b))
+
 -- The clock replaced, and the number of streams.
 
-pub clock-patch : (b : Bridge) (w : FitBridge b) (now : ℕ) → patch 187 4 (be 4 now) (encode b) ≡ encode (clocked now b)
+pub clock-patch : (b : Bridge) (w : FitBridge b) (now : ℕ) → patch clockPlace 4 (be 4 now) (encode b) ≡ encode (clocked now b)
 unfolding packed
 clock-patch b w now =
     let n = be 1 (length (b .streams)) ++ [] in
     let after = totalsWhole b ++ recordsWhole b in
-    ap (patch 187 4 (be 4 now)) (encode-parts b ∙ ap (λ (s : List ℕ). settingsWhole b ++ s) (append-assoc (be 4 (b .clock)) n after))
-    ∙ patch-between (settingsWhole b) (be 4 (b .clock)) (n ++ after) (be 4 now) 187 4 (settings-whole-length b (fit-whole b w)) (length-be 4 (b .clock))
+    ap (patch clockPlace 4 (be 4 now)) (encode-parts b ∙ ap (λ (s : List ℕ). settingsWhole b ++ s) (append-assoc (be 4 (b .clock)) n after))
+    ∙ patch-between (settingsWhole b) (be 4 (b .clock)) (n ++ after) (be 4 now) clockPlace 4 (settings-whole-length b (fit-whole b w)) (length-be 4 (b .clock))
     ∙ sym (encode-parts (clocked now b) ∙ ap (λ (s : List ℕ). settingsWhole b ++ s) (append-assoc (be 4 now) n after))
 
 pub count-patch : (b : Bridge) (w : FitBridge b) (s : List Stream) (after : List ℕ)
-    → patch 191 1 (be 1 (length s)) (header b ++ after) ≡ header (holding b s) ++ after
+    → patch countPlace 1 (be 1 (length s)) (header b ++ after) ≡ header (holding b s) ++ after
 unfolding packed header holding
 count-patch b w s after =
     let before = settingsWhole b ++ be 4 (b .clock) in
     let n = be 1 (length (b .streams)) in
-    let l : length before ≡ 191 = length-append (settingsWhole b) (be 4 (b .clock)) ∙ omega (arith, settings-whole-length b (fit-whole b w), length-be 4 (b .clock)) in
+    let l : length before ≡ countPlace = length-append (settingsWhole b) (be 4 (b .clock)) ∙ omega (arith, settings-whole-length b (fit-whole b w), length-be 4 (b .clock)) in
     let split : (k : List ℕ) → (settingsWhole b ++ ((be 4 (b .clock) ++ (k ++ [])) ++ totalsWhole b)) ++ after ≡ before ++ (k ++ (totalsWhole b ++ after)) =
     λ k. simp (append-assoc, append-nil) in
-    ap (patch 191 1 (be 1 (length s))) (split n)
-    ∙ patch-between before n (totalsWhole b ++ after) (be 1 (length s)) 191 1 l (length-be 1 (length (b .streams)))
+    ap (patch countPlace 1 (be 1 (length s))) (split n)
+    ∙ patch-between before n (totalsWhole b ++ after) (be 1 (length s)) countPlace 1 l (length-be 1 (length (b .streams)))
     ∙ sym (split (be 1 (length s)))
 
 -- What is read of octets that are laid out as a table.
 
 module _ (t : List ℕ) (l : Laid t) where
-  pub laid-length : length t ≡ 31824
+  pub laid-length : length t ≡ tableLength
   laid-length = ap length (laid-is t l) ∙ table-length (decode t) (laid-fits t l)
 
-  pub laid-clock : beAt 4 t 187 ≡ decode t .clock
-  laid-clock = ap (λ (s : List ℕ). beAt 4 s 187) (laid-is t l) ∙ clock-at (decode t) (laid-fits t l)
+  pub laid-clock : beAt 4 t clockPlace ≡ decode t .clock
+  laid-clock = ap (λ (s : List ℕ). beAt 4 s clockPlace) (laid-is t l) ∙ clock-at (decode t) (laid-fits t l)
 
-  pub laid-count : getD t 191 0 ≡ length (decode t .streams)
-  laid-count = ap (λ (s : List ℕ). getD s 191 0) (laid-is t l) ∙ count-at (decode t) (laid-fits t l)
+  pub laid-count : getD t countPlace 0 ≡ length (decode t .streams)
+  laid-count = ap (λ (s : List ℕ). getD s countPlace 0) (laid-is t l) ∙ count-at (decode t) (laid-fits t l)
 
   pub laid-few : length (decode t .streams) ≤ 64
   laid-few = laid-fits t l .at-most-64
 
-  pub laid-ports : beAt 3 t 8 / 1048576 ≡ length (decode t .settings .ports)
-  laid-ports = ap (λ (s : List ℕ). beAt 3 s 8 / 1048576) (laid-is t l) ∙ ports-at (decode t) (laid-fits t l)
+  pub laid-bridge-id : beAt 8 t 0 ≡ decode t .settings .bridgeId
+  laid-bridge-id = ap (λ (s : List ℕ). beAt 8 s 0) (laid-is t l) ∙ bridge-id-at (decode t) (laid-fits t l)
+
+  pub laid-priority-a : beAt 3 t wordPlace / priorityAUnit % 8 ≡ decode t .settings .priorityA
+  laid-priority-a = ap (λ (s : List ℕ). beAt 3 s wordPlace / priorityAUnit % 8) (laid-is t l) ∙ priority-a-at (decode t) (laid-fits t l)
+
+  pub laid-priority-b : beAt 3 t wordPlace / priorityBUnit % 8 ≡ decode t .settings .priorityB
+  laid-priority-b = ap (λ (s : List ℕ). beAt 3 s wordPlace / priorityBUnit % 8) (laid-is t l) ∙ priority-b-at (decode t) (laid-fits t l)
+
+  pub laid-ports : beAt 3 t wordPlace / portsUnit ≡ length (decode t .settings .ports)
+  laid-ports = ap (λ (s : List ℕ). beAt 3 s wordPlace / portsUnit) (laid-is t l) ∙ ports-at (decode t) (laid-fits t l)
 
   pub laid-eight : length (decode t .settings .ports) ≤ 8
   laid-eight = laid-fits t l .settings .eight-ports
 
-  pub laid-leave-time : beAt 3 t 8 % 16384 ≡ decode t .settings .leaveTime
-  laid-leave-time = ap (λ (s : List ℕ). beAt 3 s 8 % 16384) (laid-is t l) ∙ leave-time-at (decode t) (laid-fits t l)
+  pub laid-leave-time : beAt 3 t wordPlace % priorityBUnit ≡ decode t .settings .leaveTime
+  laid-leave-time = ap (λ (s : List ℕ). beAt 3 s wordPlace % priorityBUnit) (laid-is t l) ∙ leave-time-at (decode t) (laid-fits t l)
 
 -- A limit in the settings of a port, five octets as number i of them.
-pub limit-at : (t : List ℕ) (l : Laid t) (p : ℕ) (h : p < 8) (i at : ℕ) → 11 + 22 * p + width (take i portWidths) ≡ at → getD portWidths i 0 ≡ 5
+pub limit-at : (t : List ℕ) (l : Laid t) (p : ℕ) (h : p < 8) (i at : ℕ) → portPlace p + width (take i portWidths) ≡ at → getD portWidths i 0 ≡ 5
     → beAt 5 t at ≡ getD (portNumbers (portAt (decode t .settings) p)) i 0
 limit-at t l p h i at e f =
-    ap (λ (s : List ℕ). beAt 5 s at) (laid-is t l) ∙ (rw (e, f) at (port-number (decode t) (laid-fits t l) p (11 + 22 * p) h refl i))
+    ap (λ (s : List ℕ). beAt 5 s at) (laid-is t l) ∙ (rw (e, f) at (port-number (decode t) (laid-fits t l) p (portPlace p) h refl i))

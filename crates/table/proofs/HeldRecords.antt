@@ -9,6 +9,7 @@ use lib.Seq.{getD-drop, drop-drop}
 use borrow.Author.Tests.{eq-eqb, ne-eqb}
 use Rattle.octets.specs.Parts.{part}
 use Rattle.octets.proofs.Frame.{getD-part}
+use Rattle.model.specs.Layout.{cellIn, cellSize, cellsPlace, cellsSize, listenerPlace}
 use Rattle.model.specs.Settling.{held}
 use Rattle.model.specs.Table.{toStream, cellsPart, holds}
 use Rattle.model.proofs.Cells.{holds-parts}
@@ -20,17 +21,17 @@ module _ (k : ℕ) (s : List ℕ) where
   unfolding holds
   holds-talker h = rw (ne-eqb (getD s 0 0) 0 h)
 
-  holds-listener : getD s 0 0 ≡ 0 → (getD s 33 0 ≡ 0 → ⊥) → holds (suc k) s ≡ true
+  holds-listener : getD s 0 0 ≡ 0 → (getD s listenerPlace 0 ≡ 0 → ⊥) → holds (suc k) s ≡ true
   unfolding holds
-  holds-listener h g = rw (eq-eqb (getD s 0 0) 0 h, ne-eqb (getD s 33 0) 0 g)
+  holds-listener h g = rw (eq-eqb (getD s 0 0) 0 h, ne-eqb (getD s listenerPlace 0) 0 g)
 
-  holds-next : getD s 0 0 ≡ 0 → getD s 33 0 ≡ 0 → holds (suc k) s ≡ holds k (drop 39 s)
+  holds-next : getD s 0 0 ≡ 0 → getD s listenerPlace 0 ≡ 0 → holds (suc k) s ≡ holds k (drop cellSize s)
   unfolding holds
-  holds-next h g = rw (eq-eqb (getD s 0 0) 0 h, eq-eqb (getD s 33 0) 0 g)
+  holds-next h g = rw (eq-eqb (getD s 0 0) 0 h, eq-eqb (getD s listenerPlace 0) 0 g)
 
 -- from cell p on
 unfoldable pub holdsFrom : ℕ → List ℕ → Bool
-holdsFrom p s = holds (8 - p) (drop (p * 39) (cellsPart s))
+holdsFrom p s = holds (8 - p) (drop (p * cellSize) (cellsPart s))
 
 pub held-is : (s : List ℕ) → held (toStream s .cells) ≡ holdsFrom 0 s
 unfolding holdsFrom toStream
@@ -44,28 +45,28 @@ module _ (p : ℕ) (s : List ℕ) (h : p < 8) where
   left : 8 - p ≡ suc (7 - p)
   left = omega arith
 
-  octet : (i : ℕ) → i < 39 → getD (drop (p * 39) (cellsPart s)) i 0 ≡ getD s (21 + p * 39 + i) 0
+  octet : (i : ℕ) → i < cellSize → getD (drop (p * cellSize) (cellsPart s)) i 0 ≡ getD s (cellIn p + i) 0
   unfolding cellsPart
-  octet i l = getD-drop (p * 39) (part 21 312 s) i 0 ∙ getD-part 21 312 (p * 39 + i) s (omega arith) ∙ ap (λ (k : ℕ). getD s k 0) (omega arith)
+  octet i l = getD-drop (p * cellSize) (part cellsPlace cellsSize s) i 0 ∙ getD-part cellsPlace cellsSize (p * cellSize + i) s (omega arith) ∙ ap (λ (k : ℕ). getD s k 0) (omega arith)
 
-  talker-octet : getD (drop (p * 39) (cellsPart s)) 0 0 ≡ getD s (21 + p * 39) 0
+  talker-octet : getD (drop (p * cellSize) (cellsPart s)) 0 0 ≡ getD s (cellIn p) 0
   talker-octet = octet 0 (omega arith) ∙ ap (λ (k : ℕ). getD s k 0) (omega arith)
 
-  pub holds-talking : (getD s (21 + p * 39) 0 ≡ 0 → ⊥) → holdsFrom p s ≡ true
+  pub holds-talking : (getD s (cellIn p) 0 ≡ 0 → ⊥) → holdsFrom p s ≡ true
   unfolding holdsFrom
-  holds-talking g = rw left (holds-talker (7 - p) (drop (p * 39) (cellsPart s)) (λ e. g (sym talker-octet ∙ e)))
+  holds-talking g = rw left (holds-talker (7 - p) (drop (p * cellSize) (cellsPart s)) (λ e. g (sym talker-octet ∙ e)))
 
-  module _ (g : getD s (21 + p * 39) 0 ≡ 0) where
-    pub holds-hearing : (getD s (21 + p * 39 + 33) 0 ≡ 0 → ⊥) → holdsFrom p s ≡ true
+  module _ (g : getD s (cellIn p) 0 ≡ 0) where
+    pub holds-hearing : (getD s (cellIn p + listenerPlace) 0 ≡ 0 → ⊥) → holdsFrom p s ≡ true
     unfolding holdsFrom
-    holds-hearing f = rw left (holds-listener (7 - p) (drop (p * 39) (cellsPart s)) (talker-octet ∙ g) (λ e. f (sym (octet 33 (omega arith)) ∙ e)))
+    holds-hearing f = rw left (holds-listener (7 - p) (drop (p * cellSize) (cellsPart s)) (talker-octet ∙ g) (λ e. f (sym (octet listenerPlace (omega arith)) ∙ e)))
 
-    pub holds-more : getD s (21 + p * 39 + 33) 0 ≡ 0 → holdsFrom p s ≡ holdsFrom (p + 1) s
+    pub holds-more : getD s (cellIn p + listenerPlace) 0 ≡ 0 → holdsFrom p s ≡ holdsFrom (p + 1) s
     unfolding holdsFrom
     holds-more f =
         let e : 7 - p ≡ 8 - (p + 1) = omega arith in
-        let q : p * 39 + 39 ≡ (p + 1) * 39 = omega arith in
+        let q : p * cellSize + cellSize ≡ (p + 1) * cellSize = omega arith in
         rw left
-        (holds-next (7 - p) (drop (p * 39) (cellsPart s)) (talker-octet ∙ g) (octet 33 (omega arith) ∙ f)
-        ∙ ap (holds (7 - p)) (drop-drop 39 (p * 39) (cellsPart s) ∙ ap (λ (k : ℕ). drop k (cellsPart s)) q)
-        ∙ ap (λ (k : ℕ). holds k (drop ((p + 1) * 39) (cellsPart s))) e)
+        (holds-next (7 - p) (drop (p * cellSize) (cellsPart s)) (talker-octet ∙ g) (octet listenerPlace (omega arith) ∙ f)
+        ∙ ap (holds (7 - p)) (drop-drop cellSize (p * cellSize) (cellsPart s) ∙ ap (λ (k : ℕ). drop k (cellsPart s)) q)
+        ∙ ap (λ (k : ℕ). holds k (drop ((p + 1) * cellSize) (cellsPart s))) e)

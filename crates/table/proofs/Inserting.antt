@@ -9,6 +9,7 @@ use Rattle.octets.specs.Be.{be}
 use Rattle.octets.specs.Parts.{patch, zeros}
 use Rattle.octets.specs.Fields.{width, flat}
 use Rattle.octets.proofs.Fields.{flat-append, packed-zeros}
+use Rattle.model.specs.Layout.{cellSize, cellsSize, countPlace, fixedSize, fixedWidths, recordPlace, recordSize, resultSize, resultsSize, settledPlace}
 use Rattle.model.specs.State.{Stream, Bridge, empty, unsettled, noFixed, blank, fresh}
 use Rattle.model.specs.Registrations.{holding}
 use Rattle.model.specs.WrittenFrames.{priorityOctet, fixedNumbers}
@@ -16,34 +17,35 @@ use Rattle.model.specs.Table.{cellOctets, resultOctets, streamOctets, encode}
 use Rattle.model.specs.Laid.{FitBridge}
 use Rattle.model.proofs.Lists.{all-replicate, all-take, all-drop}
 use Rattle.model.proofs.Parts.{Sized, length-zeros, zeros-add, length-flat-sized, flat-zeros}
-use Rattle.model.proofs.Cells.{fixedWidths, cell-zeros}
+use Rattle.model.proofs.Cells.{cell-zeros}
 use Rattle.model.proofs.Results.{result-zeros}
 use Rattle.table.specs.Octets.{recordPut}
 use Rattle.table.specs.Updates.{inserted}
+use Rattle.table.specs.Reads.{fixedOctets}
 use Rattle.table.proofs.Lens.{patch-between}
 use Rattle.table.proofs.Header.{header, header-records, header-length, count-patch}
 use Rattle.table.proofs.Records.{records-sized}
-use Rattle.table.proofs.StreamParts.{fixedOctets, settled-laid}
+use Rattle.table.proofs.StreamParts.{settled-laid}
 use Rattle.table.proofs.Moving.{gap-made}
 
 -- A stream without registrations is its StreamID and zeros.
 
-fixed-zeros : fixedOctets noFixed ≡ zeros 13
-unfolding fixedOctets fixedWidths fixedNumbers priorityOctet noFixed width
+fixed-zeros : fixedOctets noFixed ≡ zeros fixedSize
+unfolding fixedOctets fixedNumbers priorityOctet noFixed width
 fixed-zeros = packed-zeros fixedWidths
 
-blank-zeros : flat cellOctets blank ≡ zeros 312
+blank-zeros : flat cellOctets blank ≡ zeros cellsSize
 unfolding blank
-blank-zeros = flat-zeros 39 cellOctets empty cell-zeros (replicate 8 empty) (all-replicate (λ c. c ≡ empty) 8 empty refl)
+blank-zeros = flat-zeros cellSize cellOctets empty cell-zeros (replicate 8 empty) (all-replicate (λ c. c ≡ empty) 8 empty refl)
 
-unsettled-zeros : flat resultOctets (replicate 8 unsettled) ≡ zeros 160
-unsettled-zeros = flat-zeros 20 resultOctets unsettled result-zeros (replicate 8 unsettled) (all-replicate (λ r. r ≡ unsettled) 8 unsettled refl)
+unsettled-zeros : flat resultOctets (replicate 8 unsettled) ≡ zeros resultsSize
+unsettled-zeros = flat-zeros resultSize resultOctets unsettled result-zeros (replicate 8 unsettled) (all-replicate (λ r. r ≡ unsettled) 8 unsettled refl)
 
-pub fresh-octets : (id : ℕ) → streamOctets (fresh id) ≡ be 8 id ++ zeros 485
+pub fresh-octets : (id : ℕ) → streamOctets (fresh id) ≡ be 8 id ++ zeros (recordSize - settledPlace)
 unfolding fresh
 fresh-octets id =
     settled-laid (fresh id)
-    ∙ ap (λ (s : List ℕ). be 8 id ++ s) (rw (fixed-zeros, blank-zeros, unsettled-zeros) (sym (ap (λ (s : List ℕ). zeros 13 ++ s) (zeros-add 312 160)) ∙ sym (zeros-add 13 472)))
+    ∙ ap (λ (s : List ℕ). be 8 id ++ s) (rw (fixed-zeros, blank-zeros, unsettled-zeros) (sym (ap (λ (s : List ℕ). zeros fixedSize ++ s) (zeros-add cellsSize resultsSize)) ∙ sym (zeros-add fixedSize (cellsSize + resultsSize))))
 
 module _ (b : Bridge) (w : FitBridge b) (k id : ℕ) (h : k ≤ length (b .streams)) (few : length (b .streams) < 64) where
   abbrev n : ℕ
@@ -64,15 +66,15 @@ module _ (b : Bridge) (w : FitBridge b) (k id : ℕ) (h : k ≤ length (b .strea
 
   -- what stays unused
   rest : List ℕ
-  rest = zeros (493 * (63 - n))
+  rest = zeros ((63 - n) * recordSize)
 
-  split : encode b ≡ before ++ (flat streamOctets higher ++ (zeros 493 ++ rest))
+  split : encode b ≡ before ++ (flat streamOctets higher ++ (zeros recordSize ++ rest))
   unfolding lower higher before rest
   split =
-      let e : 493 * (64 - n) ≡ 493 + 493 * (63 - n) = omega arith in
+      let e : (64 - n) * recordSize ≡ recordSize + (63 - n) * recordSize = omega arith in
       header-records b
-      ∙ ap (λ (s : List Stream). header b ++ (flat streamOctets s ++ zeros (493 * (64 - n)))) (sym (take-append-drop k (b .streams)))
-      ∙ rw (flat-append streamOctets lower higher, e, zeros-add 493 (493 * (63 - n))) (simp append-assoc)
+      ∙ ap (λ (s : List Stream). header b ++ (flat streamOctets s ++ zeros ((64 - n) * recordSize))) (sym (take-append-drop k (b .streams)))
+      ∙ rw (flat-append streamOctets lower higher, e, zeros-add recordSize ((63 - n) * recordSize)) (simp append-assoc)
 
   more : List Stream
   more = lower ++ (fresh id ∷ higher)
@@ -89,46 +91,46 @@ module _ (b : Bridge) (w : FitBridge b) (k id : ℕ) (h : k ≤ length (b .strea
       sym (header-records (holding b more) ∙ rw (e, flat-append streamOctets lower (fresh id ∷ higher)) (simp append-assoc))
 
   abbrev at : ℕ
-  at = 272 + k * 493
+  at = recordPlace k
 
   abbrev m : ℕ
-  m = (n - k) * 493
+  m = (n - k) * recordSize
 
   before-length : length before ≡ at
   unfolding before lower
   before-length =
       let c : length (take k (b .streams)) ≡ k = length-take-le k (b .streams) h in
-      let z = length-flat-sized 493 streamOctets lower (all-take (Sized 493 streamOctets) k (b .streams) (records-sized b w)) in
+      let z = length-flat-sized recordSize streamOctets lower (all-take (Sized recordSize streamOctets) k (b .streams) (records-sized b w)) in
       length-append (header b) (flat streamOctets lower) ∙ omega (arith, header-length b w)
 
   moved-length : length (flat streamOctets higher) ≡ m
   unfolding higher
   moved-length =
-      let z = length-flat-sized 493 streamOctets higher (all-drop (Sized 493 streamOctets) k (b .streams) (records-sized b w)) in
+      let z = length-flat-sized recordSize streamOctets higher (all-drop (Sized recordSize streamOctets) k (b .streams) (records-sized b w)) in
       omega (arith, length-drop k (b .streams))
 
   behind : List ℕ
   behind = flat streamOctets higher ++ rest
 
-  named : patch at 8 (be 8 id) (before ++ (zeros 493 ++ behind)) ≡ before ++ (streamOctets (fresh id) ++ behind)
+  named : patch at 8 (be 8 id) (before ++ (zeros recordSize ++ behind)) ≡ before ++ (streamOctets (fresh id) ++ behind)
   named =
-      let eight : zeros 493 ++ behind ≡ zeros 8 ++ (zeros 485 ++ behind) =
-      ap (λ (s : List ℕ). s ++ behind) (zeros-add 8 485) ∙ append-assoc (zeros 8) (zeros 485) behind in
+      let eight : zeros recordSize ++ behind ≡ zeros settledPlace ++ (zeros (recordSize - settledPlace) ++ behind) =
+      ap (λ (s : List ℕ). s ++ behind) (zeros-add settledPlace (recordSize - settledPlace)) ∙ append-assoc (zeros settledPlace) (zeros (recordSize - settledPlace)) behind in
       ap (λ (s : List ℕ). patch at 8 (be 8 id) (before ++ s)) eight
-      ∙ patch-between before (zeros 8) (zeros 485 ++ behind) (be 8 id) at 8 before-length (length-zeros 8)
+      ∙ patch-between before (zeros settledPlace) (zeros (recordSize - settledPlace) ++ behind) (be 8 id) at 8 before-length (length-zeros settledPlace)
       ∙ ap (λ (s : List ℕ). before ++ s)
-      (sym (append-assoc (be 8 id) (zeros 485) behind) ∙ ap (λ (s : List ℕ). s ++ behind) (sym (fresh-octets id)))
+      (sym (append-assoc (be 8 id) (zeros (recordSize - settledPlace)) behind) ∙ ap (λ (s : List ℕ). s ++ behind) (sym (fresh-octets id)))
 
-  counted : patch 191 1 (be 1 (n + 1)) (before ++ (streamOctets (fresh id) ++ behind))
+  counted : patch countPlace 1 (be 1 (n + 1)) (before ++ (streamOctets (fresh id) ++ behind))
       ≡ header (holding b more) ++ (flat streamOctets lower ++ (streamOctets (fresh id) ++ behind))
   counted =
       let after = flat streamOctets lower ++ (streamOctets (fresh id) ++ behind) in
       rw (← length-more)
-      (ap (patch 191 1 (be 1 (length more))) (in-front (streamOctets (fresh id) ++ behind)) ∙ count-patch b w more after)
+      (ap (patch countPlace 1 (be 1 (length more))) (in-front (streamOctets (fresh id) ++ behind)) ∙ count-patch b w more after)
 
   -- the octets that the code leaves are those of the bridge with the stream put in
   pub record-put : recordPut n k id (encode b) ≡ encode (inserted k id b)
   unfolding recordPut more lower higher behind
   record-put =
       rw split
-      (rw (gap-made before (flat streamOctets higher) (zeros 493) rest at m 493 before-length moved-length (length-zeros 493), named, counted) joined)
+      (rw (gap-made before (flat streamOctets higher) (zeros recordSize) rest at m recordSize before-length moved-length (length-zeros recordSize), named, counted) joined)

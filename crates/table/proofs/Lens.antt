@@ -1,5 +1,5 @@
 -- One of many things of n octets each, among other octets: read, replaced; and all of them changed.
-use Prim.Native.Nat.{ℕ, zero, suc, _+_, _-_, _*_, _≤_, _<_}
+use Prim.Native.Nat.{ℕ, suc, _+_, _*_, _≤_, _<_}
 use native.Mathlib.Omega.{arith}
 use mathlib.Core.Path.{_≡_, refl, sym, ap, _∙_}
 use mathlib.Core.List.{List, [], _∷_, _++_, append-assoc, map}
@@ -7,33 +7,12 @@ use lib.ListN.{length, getD, set, take, drop, length-append}
 use lib.Seq.{take-at, drop-at, split-at, set-split, length-take-le}
 use Rattle.octets.specs.Parts.{part, patch, each, eachFrom}
 use Rattle.octets.specs.Fields.{flat}
-use Rattle.octets.proofs.Parts.{lent-length}
 use Rattle.octets.proofs.Fields.{flat-append}
+pub use Rattle.octets.proofs.Patches.{lent-patch, patch-between}
 use Rattle.model.specs.Lists.{All}
 use Rattle.model.proofs.Lists.{all-take}
+pub use Rattle.model.proofs.Lists.{all-at, all-getD}
 use Rattle.model.proofs.Parts.{Sized, part-between, length-flat-sized}
-
--- what a call leaves that was lent `&mut s[a..a + n]` and left y there
-pub lent-patch : (a n : ℕ) (y s : List ℕ) → take a s ++ (y ++ drop (a + n - a) (drop a s)) ≡ patch a n y s
-unfolding patch
-lent-patch a n y s = rw (lent-length a n)
-
--- what holds of each of a list holds of the one at a place
-pub all-at : {A : Type 0} (P : A → Type 0) (l : List A) → All P l → (k : ℕ) (d : A) → k < length l → P (getD l k d)
-all-at P [] a k d h = absurd (omega arith)
-all-at P (x ∷ l) a zero d h = a .0
-all-at P (x ∷ l) a (suc k) d h = all-at P l (a .1) k d (omega arith)
-
--- with what stands past the end
-pub all-getD : {A : Type 0} (P : A → Type 0) (l : List A) → All P l → (d : A) → P d → (k : ℕ) → P (getD l k d)
-all-getD P [] a d h k = h
-all-getD P (x ∷ l) a d h zero = a .0
-all-getD P (x ∷ l) a d h (suc k) = all-getD P l (a .1) d h k
-
--- y between x and z, replaced
-pub patch-between : (x y z w : List ℕ) (a n : ℕ) → length x ≡ a → length y ≡ n → patch a n w (x ++ (y ++ z)) ≡ x ++ (w ++ z)
-unfolding patch
-patch-between x y z w a n p q = rw (take-at x (y ++ z) a p, drop-at x (y ++ z) a p, drop-at y z n q)
 
 -- each of the things in front changed
 each-flat : {A : Type 0} (n : ℕ) (to : A → List ℕ) (f : List ℕ → List ℕ) (g : A → A) (after : List ℕ) (l : List A)
@@ -57,13 +36,13 @@ module _ {A : Type 0} (n : ℕ) (to : A → List ℕ) (m : ℕ) (before after : 
   around l r x = simp (flat-append to, append-assoc)
 
   module _ (l : List A) (sized : All (Sized n to) l) where
-    place : (k a : ℕ) → k ≤ length l → a ≡ m + n * k → length (before ++ flat to (take k l)) ≡ a
+    place : (k a : ℕ) → k ≤ length l → a ≡ m + k * n → length (before ++ flat to (take k l)) ≡ a
     place k a h e =
         let b = flat to (take k l) in
         let c : length (take k l) * n ≡ k * n = ap (λ (i : ℕ). i * n) (length-take-le k l h) in
         omega (arith, length-append before b, length-flat-sized n to (take k l) (all-take (Sized n to) k l sized))
 
-    module _ (k a : ℕ) (h : k < length l) (e : a ≡ m + n * k) where
+    module _ (k a : ℕ) (h : k < length l) (e : a ≡ m + k * n) where
       pub part-one : (d : A) → part a n (before ++ (flat to l ++ after)) ≡ to (getD l k d)
       part-one d =
           let f = take k l in

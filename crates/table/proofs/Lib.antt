@@ -10,3 +10,6 @@ pub mod Fitting
 pub mod HeldRecords
 pub mod Dropping
 pub mod Turns
+pub mod ByPlace
+pub mod EachStream
+pub mod ReadOctets

@@ -1,11 +1,11 @@
 -- What is done about one stream, by the place where its StreamID was found or is missing.
-use Prim.Native.Nat.{ℕ, suc, _+_, _-_, _≤_, _<_}
+use Prim.Native.Nat.{ℕ, suc, _+_, _≤_, _<_}
 use native.Mathlib.Omega.{arith}
 use mathlib.Core.Path.{_≡_, sym, ap, _∙_}
 use mathlib.Core.Bool.{Bool, true, false}
 use mathlib.Core.List.{List, [], _∷_, _++_}
 use lib.ListN.{length, getD, set, take, drop, length-append, length-drop, take-append-drop}
-use lib.Seq.{length-take-le, getD-at, set-at, set-getD}
+use lib.Seq.{length-take-le, getD-at, set-getD}
 use Rattle.model.specs.State.{Stream, fresh}
 use Rattle.model.specs.Registrations.{change, begun, touch, ids}
 use Rattle.model.proofs.Commute.{Change, Tri, less, same, more, tri, touch-nil, touch-before, touch-here, touch-past}
@@ -80,7 +80,7 @@ at-gap i k s f = go (search-for i 0 s)
         let q : j ≡ k = let p = same-place j g in omega arith in
         rw (← q) record { within = l; joined = t true; untouched = λ u. t false u ∙ take-append-drop j s }
 
--- A stream that was put in is there, and what a join does is done on it.
+-- A stream that was put in is there.
 
 module _ (i k : ℕ) (s : List Stream) (h : k ≤ length s) where
   pub getD-put-in : getD (take k s ++ (fresh i ∷ drop k s)) k (fresh 0) ≡ fresh i
@@ -88,15 +88,6 @@ module _ (i k : ℕ) (s : List Stream) (h : k ≤ length s) where
 
   pub length-put-in : length (take k s ++ (fresh i ∷ drop k s)) ≡ length s + 1
   length-put-in = length-append (take k s) (fresh i ∷ drop k s) ∙ omega (arith, length-take-le k s h, length-drop k s)
-
-  pub set-put-in : (y : Stream) → set (take k s ++ (fresh i ∷ drop k s)) k y ≡ take k s ++ (y ∷ drop k s)
-  set-put-in y = set-at (take k s) (fresh i) (drop k s) y k (length-take-le k s h)
-
-pub joined-put-in : (i k : ℕ) (s : List Stream) → foundAt i 0 (ids s) ≡ Gap k → (u : Change)
-    → touch true i u s ≡ set (take k s ++ (fresh i ∷ drop k s)) k (change u (getD (take k s ++ (fresh i ∷ drop k s)) k (fresh 0)))
-joined-put-in i k s f u =
-    let g = at-gap i k s f in
-    g .joined u ∙ sym (rw (getD-put-in i k s (g .within)) (set-put-in i k s (g .within) (change u (fresh i))))
 
 -- a join that changes nothing puts the stream in where it is missing, and leaves the streams where it is held
 pub room-at : (i k : ℕ) (s : List Stream) → foundAt i 0 (ids s) ≡ At k → touch true i (λ c. c) s ≡ s

@@ -1,6 +1,6 @@
--- The parts of a stream record: StreamID, settled values, cells and results; each read, replaced, or lent; and all cells, or
--- all results, changed.
-use Prim.Native.Nat.{ℕ, zero, suc, _+_, _-_, _*_, _<_}
+-- The parts of a stream record: StreamID, settled values, cells and results; each read, replaced, or lent; and all cells
+-- changed.
+use Prim.Native.Nat.{ℕ, zero, suc, _+_, _-_, _<_}
 use native.Mathlib.Omega.{arith}
 use mathlib.Core.Path.{_≡_, refl, sym, ap, _∙_}
 use mathlib.Core.List.{List, [], _∷_, _++_, append-assoc, append-nil, map}
@@ -11,18 +11,20 @@ use Rattle.octets.specs.Fields.{packed, width, flat}
 use Rattle.octets.proofs.Be.{length-be}
 use Rattle.octets.proofs.Parts.{lent-part}
 use Rattle.octets.proofs.Fields.{length-packed-any}
+use Rattle.model.specs.Layout.{cellIn, cellSize, cellsPlace, fixedSize, fixedWidths, resultIn, resultSize, resultsPlace, settledPlace}
 use Rattle.model.specs.Lists.{All}
 use Rattle.model.specs.State.{Fixed, Cell, Result, Stream, cellAt, resultAt, empty, unsettled}
 use Rattle.model.specs.Registrations.{at, change}
 use Rattle.model.specs.WrittenFrames.{fixedNumbers}
-use Rattle.model.specs.Table.{nameWidths, cellOctets, toCell, resultOctets, toResult, streamOctets, toStream, idOf}
+use Rattle.model.specs.Table.{cellOctets, toCell, resultOctets, toResult, streamOctets, toStream, idOf}
 use Rattle.model.specs.Laid.{FitCell, FitResult, FitStream, LaidCell, LaidResult, LaidStream}
 use Rattle.model.proofs.Parts.{part-between}
-use Rattle.model.proofs.Cells.{fixedWidths, cells-sized}
+use Rattle.model.proofs.Cells.{cells-sized}
 use Rattle.model.proofs.Results.{results-sized}
 use Rattle.model.proofs.Tables.{name, name-length, length-cells, id-read}
 use Rattle.model.proofs.Fits.{cell-read, result-read, laid-stream-is, laid-stream-fits}
 use Rattle.table.specs.Updates.{settledAs, resulting}
+pub use Rattle.table.specs.Reads.{fixedOctets}
 use Rattle.table.proofs.Lens.{lent-patch, patch-between, all-at, part-one, patch-one, each-one}
 
 -- StreamID and settled values.
@@ -31,34 +33,30 @@ pub id-at : (x : Stream) → FitStream x → beAt 8 (streamOctets x) 0 ≡ x .id
 unfolding idOf
 id-at x w = id-read x (w .name)
 
--- the settled values' octets
-unfoldable pub fixedOctets : Fixed → List ℕ
-fixedOctets f = packed fixedWidths (fixedNumbers f)
-
-fixed-length : (f : Fixed) → length (fixedOctets f) ≡ 13
-unfolding fixedOctets fixedWidths fixedNumbers width
+pub fixed-length : (f : Fixed) → length (fixedOctets f) ≡ fixedSize
+unfolding fixedOctets fixedNumbers width
 fixed-length f = length-packed-any fixedWidths (fixedNumbers f) refl
 
 pub settled-laid : (x : Stream) → streamOctets x ≡ be 8 (x .id) ++ (fixedOctets (x .settled) ++ (flat cellOctets (x .cells) ++ flat resultOctets (x .results)))
-unfolding streamOctets fixedOctets packed nameWidths fixedWidths
+unfolding streamOctets fixedOctets packed
 settled-laid x = append-assoc (be 8 (x .id)) (packed fixedWidths (fixedNumbers (x .settled))) (flat cellOctets (x .cells) ++ flat resultOctets (x .results))
 
-pub settled-part : (x : Stream) → part 8 13 (streamOctets x) ≡ fixedOctets (x .settled)
+pub settled-part : (x : Stream) → part settledPlace fixedSize (streamOctets x) ≡ fixedOctets (x .settled)
 settled-part x =
-    ap (part 8 13) (settled-laid x)
-    ∙ part-between (be 8 (x .id)) (fixedOctets (x .settled)) (flat cellOctets (x .cells) ++ flat resultOctets (x .results)) 8 13 (length-be 8 (x .id))
+    ap (part settledPlace fixedSize) (settled-laid x)
+    ∙ part-between (be 8 (x .id)) (fixedOctets (x .settled)) (flat cellOctets (x .cells) ++ flat resultOctets (x .results)) settledPlace fixedSize (length-be 8 (x .id))
     (fixed-length (x .settled))
 
-pub settled-patch : (x : Stream) (f : Fixed) → patch 8 13 (fixedOctets f) (streamOctets x) ≡ streamOctets (settledAs f x)
+pub settled-patch : (x : Stream) (f : Fixed) → patch settledPlace fixedSize (fixedOctets f) (streamOctets x) ≡ streamOctets (settledAs f x)
 settled-patch x f =
-    ap (patch 8 13 (fixedOctets f)) (settled-laid x)
-    ∙ patch-between (be 8 (x .id)) (fixedOctets (x .settled)) (flat cellOctets (x .cells) ++ flat resultOctets (x .results)) (fixedOctets f) 8 13
+    ap (patch settledPlace fixedSize (fixedOctets f)) (settled-laid x)
+    ∙ patch-between (be 8 (x .id)) (fixedOctets (x .settled)) (flat cellOctets (x .cells) ++ flat resultOctets (x .results)) (fixedOctets f) settledPlace fixedSize
     (length-be 8 (x .id)) (fixed-length (x .settled))
     ∙ sym (settled-laid (settledAs f x))
 
 -- Cells.
 
-at-set : (p : ℕ) (u : Cell → Cell) (l : List Cell) (d : Cell) → p < length l → set l p (u (getD l p d)) ≡ at p u l
+pub at-set : (p : ℕ) (u : Cell → Cell) (l : List Cell) (d : Cell) → p < length l → set l p (u (getD l p d)) ≡ at p u l
 unfolding at
 at-set p u [] d h = absurd (omega arith)
 at-set zero u (c ∷ l) d h = refl
@@ -66,24 +64,24 @@ at-set (suc p) u (c ∷ l) d h = ap (λ (m : List Cell). c ∷ m) (at-set p u l 
 
 module _ (x : Stream) (w : FitStream x) where
   pub cells-each : (f : List ℕ → List ℕ) (g : Cell → Cell) → All (λ c. f (cellOctets c) ≡ cellOctets (g c)) (x .cells)
-      → eachFrom 21 8 39 f (streamOctets x) ≡ streamOctets (change (map g) x)
+      → eachFrom cellsPlace 8 cellSize f (streamOctets x) ≡ streamOctets (change (map g) x)
   unfolding streamOctets change
   cells-each f g same =
-      ap (λ (k : ℕ). eachFrom 21 k 39 f (name x ++ (flat cellOctets (x .cells) ++ flat resultOctets (x .results)))) (sym (w .eight-cells))
-      ∙ each-one 39 cellOctets 21 (name x) (flat resultOctets (x .results)) (name-length x) (x .cells) (cells-sized (x .cells)) f g same
+      ap (λ (k : ℕ). eachFrom cellsPlace k cellSize f (name x ++ (flat cellOctets (x .cells) ++ flat resultOctets (x .results)))) (sym (w .eight-cells))
+      ∙ each-one cellSize cellOctets cellsPlace (name x) (flat resultOctets (x .results)) (name-length x) (x .cells) (cells-sized (x .cells)) f g same
 
-  module _ (p a : ℕ) (h : p < 8) (e : a ≡ 21 + 39 * p) where
+  module _ (p a : ℕ) (h : p < 8) (e : a ≡ cellIn p) where
     a-cell : p < length (x .cells)
     a-cell = omega (arith, w .eight-cells)
 
-    pub cell-part : part a 39 (streamOctets x) ≡ cellOctets (cellAt x p)
+    pub cell-part : part a cellSize (streamOctets x) ≡ cellOctets (cellAt x p)
     unfolding streamOctets cellAt
-    cell-part = part-one 39 cellOctets 21 (name x) (flat resultOctets (x .results)) (name-length x) (x .cells) (cells-sized (x .cells)) p a a-cell e empty
+    cell-part = part-one cellSize cellOctets cellsPlace (name x) (flat resultOctets (x .results)) (name-length x) (x .cells) (cells-sized (x .cells)) p a a-cell e empty
 
-    pub cell-patch : (u : Cell → Cell) → patch a 39 (cellOctets (u (cellAt x p))) (streamOctets x) ≡ streamOctets (change (at p u) x)
+    pub cell-patch : (u : Cell → Cell) → patch a cellSize (cellOctets (u (cellAt x p))) (streamOctets x) ≡ streamOctets (change (at p u) x)
     unfolding streamOctets cellAt change
     cell-patch u =
-        patch-one 39 cellOctets 21 (name x) (flat resultOctets (x .results)) (name-length x) (x .cells) (cells-sized (x .cells)) p a a-cell e
+        patch-one cellSize cellOctets cellsPlace (name x) (flat resultOctets (x .results)) (name-length x) (x .cells) (cells-sized (x .cells)) p a a-cell e
         (u (getD (x .cells) p empty))
         ∙ ap (λ (l : List Cell). name x ++ (flat cellOctets l ++ flat resultOctets (x .results))) (at-set p u (x .cells) empty a-cell)
 
@@ -101,72 +99,64 @@ unfolding streamOctets
 results-laid x = simp (append-assoc, append-nil)
 
 module _ (x : Stream) (w : FitStream x) where
-  ahead-length : length (ahead x) ≡ 333
+  ahead-length : length (ahead x) ≡ resultsPlace
   ahead-length = length-append (name x) (flat cellOctets (x .cells)) ∙ omega (arith, name-length x, length-cells x (w .eight-cells) (w .eight-results))
 
-  pub results-each : (f : List ℕ → List ℕ) (g : Result → Result) → All (λ r. f (resultOctets r) ≡ resultOctets (g r)) (x .results)
-      → eachFrom 333 8 20 f (streamOctets x) ≡ streamOctets (resulting (map g) x)
-  results-each f g same =
-      ap (eachFrom 333 8 20 f) (results-laid x)
-      ∙ ap (λ (k : ℕ). eachFrom 333 k 20 f (ahead x ++ (flat resultOctets (x .results) ++ []))) (sym (w .eight-results))
-      ∙ each-one 20 resultOctets 333 (ahead x) [] ahead-length (x .results) (results-sized (x .results)) f g same
-      ∙ sym (results-laid (resulting (map g) x))
-
-  module _ (p a : ℕ) (h : p < 8) (e : a ≡ 333 + 20 * p) where
+  module _ (p a : ℕ) (h : p < 8) (e : a ≡ resultIn p) where
     a-result : p < length (x .results)
     a-result = omega (arith, w .eight-results)
 
-    pub result-part : part a 20 (streamOctets x) ≡ resultOctets (resultAt x p)
+    pub result-part : part a resultSize (streamOctets x) ≡ resultOctets (resultAt x p)
     unfolding resultAt
     result-part =
-        ap (part a 20) (results-laid x)
-        ∙ part-one 20 resultOctets 333 (ahead x) [] ahead-length (x .results) (results-sized (x .results)) p a a-result e unsettled
+        ap (part a resultSize) (results-laid x)
+        ∙ part-one resultSize resultOctets resultsPlace (ahead x) [] ahead-length (x .results) (results-sized (x .results)) p a a-result e unsettled
 
-    pub result-patch : (r : Result) → patch a 20 (resultOctets r) (streamOctets x) ≡ streamOctets (resulting (λ l. set l p r) x)
+    pub result-patch : (r : Result) → patch a resultSize (resultOctets r) (streamOctets x) ≡ streamOctets (resulting (λ l. set l p r) x)
     result-patch r =
-        ap (patch a 20 (resultOctets r)) (results-laid x)
-        ∙ patch-one 20 resultOctets 333 (ahead x) [] ahead-length (x .results) (results-sized (x .results)) p a a-result e r
+        ap (patch a resultSize (resultOctets r)) (results-laid x)
+        ∙ patch-one resultSize resultOctets resultsPlace (ahead x) [] ahead-length (x .results) (results-sized (x .results)) p a a-result e r
         ∙ sym (results-laid (resulting (λ l. set l p r) x))
 
     pub result-fits : FitResult (resultAt x p)
     unfolding resultAt
     result-fits = all-at FitResult (x .results) (w .results) p unsettled a-result
 
--- A cell, or a result, lent: what a call sees of `&s[a..a + 39]`, and what it leaves of `&mut s[a..a + 39]`.
+-- A cell, or a result, lent: what a call sees of `&s[a..a + cellSize]`, and what it leaves of `&mut s[a..a + cellSize]`.
 
-module _ (s : List ℕ) (l : LaidStream s) (p a : ℕ) (h : p < 8) (e : a ≡ 21 + 39 * p) where
-  pub lent-cell : take (a + 39 - a) (drop a s) ≡ cellOctets (cellAt (toStream s) p)
-  lent-cell = lent-part a 39 s ∙ ap (part a 39) (laid-stream-is s l) ∙ cell-part (toStream s) (laid-stream-fits s l) p a h e
+module _ (s : List ℕ) (l : LaidStream s) (p a : ℕ) (h : p < 8) (e : a ≡ cellIn p) where
+  pub lent-cell : take (a + cellSize - a) (drop a s) ≡ cellOctets (cellAt (toStream s) p)
+  lent-cell = lent-part a cellSize s ∙ ap (part a cellSize) (laid-stream-is s l) ∙ cell-part (toStream s) (laid-stream-fits s l) p a h e
 
-  pub lent-cell-laid : LaidCell (take (a + 39 - a) (drop a s))
+  pub lent-cell-laid : LaidCell (take (a + cellSize - a) (drop a s))
   lent-cell-laid = record { cell = cellAt (toStream s) p; fits = cell-fits (toStream s) (laid-stream-fits s l) p a h e; is = lent-cell }
 
-  pub lent-cell-read : toCell (take (a + 39 - a) (drop a s)) ≡ cellAt (toStream s) p
+  pub lent-cell-read : toCell (take (a + cellSize - a) (drop a s)) ≡ cellAt (toStream s) p
   lent-cell-read = ap toCell lent-cell ∙ cell-read (cellAt (toStream s) p) (cell-fits (toStream s) (laid-stream-fits s l) p a h e)
 
   -- a call that ensures `now (p .exit) ≡ cellOctets (u (toCell (now (p .entry))))`
-  pub lent-cell-left : (u : Cell → Cell) (y : List ℕ) → y ≡ cellOctets (u (toCell (take (a + 39 - a) (drop a s))))
-      → take a s ++ (y ++ drop (a + 39 - a) (drop a s)) ≡ streamOctets (change (at p u) (toStream s))
+  pub lent-cell-left : (u : Cell → Cell) (y : List ℕ) → y ≡ cellOctets (u (toCell (take (a + cellSize - a) (drop a s))))
+      → take a s ++ (y ++ drop (a + cellSize - a) (drop a s)) ≡ streamOctets (change (at p u) (toStream s))
   lent-cell-left u y q =
-      lent-patch a 39 y s
-      ∙ ap (λ (z : List ℕ). patch a 39 z s) (q ∙ ap (λ (c : Cell). cellOctets (u c)) lent-cell-read)
-      ∙ ap (patch a 39 (cellOctets (u (cellAt (toStream s) p)))) (laid-stream-is s l)
+      lent-patch a cellSize y s
+      ∙ ap (λ (z : List ℕ). patch a cellSize z s) (q ∙ ap (λ (c : Cell). cellOctets (u c)) lent-cell-read)
+      ∙ ap (patch a cellSize (cellOctets (u (cellAt (toStream s) p)))) (laid-stream-is s l)
       ∙ cell-patch (toStream s) (laid-stream-fits s l) p a h e u
 
-module _ (s : List ℕ) (l : LaidStream s) (p a : ℕ) (h : p < 8) (e : a ≡ 333 + 20 * p) where
-  pub lent-result : take (a + 20 - a) (drop a s) ≡ resultOctets (resultAt (toStream s) p)
-  lent-result = lent-part a 20 s ∙ ap (part a 20) (laid-stream-is s l) ∙ result-part (toStream s) (laid-stream-fits s l) p a h e
+module _ (s : List ℕ) (l : LaidStream s) (p a : ℕ) (h : p < 8) (e : a ≡ resultIn p) where
+  pub lent-result : take (a + resultSize - a) (drop a s) ≡ resultOctets (resultAt (toStream s) p)
+  lent-result = lent-part a resultSize s ∙ ap (part a resultSize) (laid-stream-is s l) ∙ result-part (toStream s) (laid-stream-fits s l) p a h e
 
-  pub lent-result-laid : LaidResult (take (a + 20 - a) (drop a s))
+  pub lent-result-laid : LaidResult (take (a + resultSize - a) (drop a s))
   lent-result-laid = record { result = resultAt (toStream s) p; fits = result-fits (toStream s) (laid-stream-fits s l) p a h e; is = lent-result }
 
-  pub lent-result-read : toResult (take (a + 20 - a) (drop a s)) ≡ resultAt (toStream s) p
+  pub lent-result-read : toResult (take (a + resultSize - a) (drop a s)) ≡ resultAt (toStream s) p
   lent-result-read = ap toResult lent-result ∙ result-read (resultAt (toStream s) p) (result-fits (toStream s) (laid-stream-fits s l) p a h e)
 
   pub lent-result-left : (r : Result) (y : List ℕ) → y ≡ resultOctets r
-      → take a s ++ (y ++ drop (a + 20 - a) (drop a s)) ≡ streamOctets (resulting (λ m. set m p r) (toStream s))
+      → take a s ++ (y ++ drop (a + resultSize - a) (drop a s)) ≡ streamOctets (resulting (λ m. set m p r) (toStream s))
   lent-result-left r y q =
-      lent-patch a 20 y s
-      ∙ ap (λ (z : List ℕ). patch a 20 z s) q
-      ∙ ap (patch a 20 (resultOctets r)) (laid-stream-is s l)
+      lent-patch a resultSize y s
+      ∙ ap (λ (z : List ℕ). patch a resultSize z s) q
+      ∙ ap (patch a resultSize (resultOctets r)) (laid-stream-is s l)
       ∙ result-patch (toStream s) (laid-stream-fits s l) p a h e r

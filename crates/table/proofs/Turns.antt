@@ -1,58 +1,33 @@
--- Loops that lend one record of a table after another, or one cell or result of a record, to a call that changes it: what the
+-- Loops that lend one record of a table after another, or one cell of a record, to a call that changes it: what the
 -- call sees, a turn, and the end.
-use Prim.Native.Nat.{ℕ, zero, suc, _+_, _-_, _*_, _≤_, _<_}
-use native.Mathlib.Nat.{zero-mul, suc-mul}
+use Prim.Native.Nat.{ℕ, suc, _+_, _-_, _*_, _≤_, _<_}
 use native.Mathlib.Omega.{arith}
 use mathlib.Core.Path.{_≡_, sym, ap, _∙_, subst}
 use mathlib.Core.List.{List, _++_, map}
-use lib.ListN.{length, take, drop, length-drop}
-use lib.Seq.{length-take-le, drop-append-add, drop-drop}
-use Rattle.octets.specs.Parts.{each, eachFrom}
+use lib.ListN.{length, take, drop}
+use Rattle.octets.specs.Parts.{eachFrom}
 use Rattle.octets.proofs.Parts.{eachFrom-turn}
-use Rattle.model.specs.State.{Cell, Result, Stream}
+use Rattle.octets.proofs.Patches.{eachFrom-rest}
+use Rattle.model.specs.Layout.{cellIn, cellSize, cellsPlace, recordPlace, recordSize, recordsPlace, resultSize}
+use Rattle.model.specs.State.{Cell, Stream}
 use Rattle.model.specs.Registrations.{change, holding}
-use Rattle.model.specs.Table.{cellOctets, toCell, resultOctets, toResult, streamOctets, toStream, encode, decode}
-use Rattle.model.specs.Laid.{FitCell, FitResult, FitStream, LaidCell, LaidResult, LaidStream, Laid}
+use Rattle.model.specs.Table.{cellOctets, toCell, toResult, streamOctets, toStream, encode, decode}
+use Rattle.model.specs.Laid.{FitCell, FitStream, LaidCell, LaidStream, Laid}
 use Rattle.model.proofs.Lists.{all-map}
 use Rattle.model.proofs.Parts.{length-parts}
 use Rattle.model.proofs.Cells.{cell-length}
-use Rattle.model.proofs.Results.{result-length}
 use Rattle.model.proofs.Tables.{stream-length}
-use Rattle.model.proofs.Fits.{cell-read, result-read, stream-read, laid-is, laid-fits, laid-stream-is, laid-stream-fits}
-use Rattle.table.specs.Updates.{resulting}
+use Rattle.model.proofs.Fits.{cell-read, stream-read, laid-is, laid-fits, laid-stream-is, laid-stream-fits}
 use Rattle.table.proofs.Header.{laid-length}
 use Rattle.table.proofs.Records.{records-each, lent-record-laid}
-use Rattle.table.proofs.StreamParts.{cells-each, results-each, lent-cell-laid, lent-result-laid}
+use Rattle.table.proofs.StreamParts.{cells-each, lent-cell-laid}
 
--- What a loop has not come to is as it was.
+-- What a loop lends at its next turn is as it was.
 
 module _ (n : ℕ) (f : List ℕ → List ℕ) (hf : (x : List ℕ) → length x ≡ n → length (f x) ≡ n) where
-  each-rest : (k : ℕ) (s : List ℕ) → k * n ≤ length s → drop (k * n) (each k n f s) ≡ drop (k * n) s
-  unfolding each
-  each-rest zero s h = rw zero-mul
-  each-rest (suc k) s h =
-      let e : suc k * n ≡ n + k * n = omega (arith, suc-mul k n) in
-      let first = f (take n s) in
-      let l : length first ≡ n = hf (take n s) (length-take-le n s (omega arith)) in
-      rw e
-      (ap (λ (m : ℕ). drop (m + k * n) (first ++ each k n f (drop n s))) (sym l)
-      ∙ drop-append-add first (each k n f (drop n s)) (k * n)
-      ∙ each-rest k (drop n s) (omega (arith, length-drop n s))
-      ∙ drop-drop (k * n) n s)
-
-  eachFrom-rest : (b k : ℕ) (s : List ℕ) → b + k * n ≤ length s → drop (b + k * n) (eachFrom b k n f s) ≡ drop (b + k * n) s
-  unfolding eachFrom
-  eachFrom-rest b k s h =
-      let l : length (take b s) ≡ b = length-take-le b s (omega arith) in
-      ap (λ (m : ℕ). drop (m + k * n) (take b s ++ each k n f (drop b s))) (sym l)
-      ∙ drop-append-add (take b s) (each k n f (drop b s)) (k * n)
-      ∙ each-rest k (drop b s) (omega (arith, length-drop b s))
-      ∙ drop-drop (k * n) b s
-
-  -- so what it lends at its next turn is as it was
   lent-rest : (b k : ℕ) (s₀ s : List ℕ) → b + k * n ≤ length s₀ → s ≡ eachFrom b k n f s₀
       → take (b + k * n + n - (b + k * n)) (drop (b + k * n) s) ≡ take (b + k * n + n - (b + k * n)) (drop (b + k * n) s₀)
-  lent-rest b k s₀ s h e = ap (take (b + k * n + n - (b + k * n))) (ap (drop (b + k * n)) e ∙ eachFrom-rest b k s₀ h)
+  lent-rest b k s₀ s h e = ap (take (b + k * n + n - (b + k * n))) (ap (drop (b + k * n)) e ∙ eachFrom-rest n f hf b k s₀ h)
 
 -- Records. The call ensures `now (p .exit) ≡ streamOctets (g (toStream (now (p .entry))))`, and g keeps eight cells and results.
 
@@ -65,32 +40,32 @@ module _ (g : Stream → Stream) where
   KeepsEight = (x : Stream) → length (x .cells) ≡ 8 → length (x .results) ≡ 8 → (length (g x .cells) ≡ 8) × (length (g x .results) ≡ 8)
 
   module _ (keeps : KeepsEight) where
-    pub on-record-length : (s : List ℕ) → length s ≡ 493 → length (onRecord s) ≡ 493
+    pub on-record-length : (s : List ℕ) → length s ≡ recordSize → length (onRecord s) ≡ recordSize
     unfolding toStream
     on-record-length s e =
-        let k = keeps (toStream s) (length-parts 39 toCell 8 _) (length-parts 20 toResult 8 _) in
+        let k = keeps (toStream s) (length-parts cellSize toCell 8 _) (length-parts resultSize toResult 8 _) in
         stream-length (g (toStream s)) (k .0) (k .1)
 
-    module _ (t₀ t : List ℕ) (l : Laid t₀) (k : ℕ) (h : k < length (decode t₀ .streams)) (e : t ≡ eachFrom 272 k 493 onRecord t₀) where
-      room : 272 + suc k * 493 ≤ length t₀
+    module _ (t₀ t : List ℕ) (l : Laid t₀) (k : ℕ) (h : k < length (decode t₀ .streams)) (e : t ≡ eachFrom recordsPlace k recordSize onRecord t₀) where
+      room : recordsPlace + suc k * recordSize ≤ length t₀
       room = omega (arith, laid-length t₀ l, laid-fits t₀ l .at-most-64)
 
-      pub turn-record-laid : LaidStream (take (272 + k * 493 + 493 - (272 + k * 493)) (drop (272 + k * 493) t))
+      pub turn-record-laid : LaidStream (take (recordPlace k + recordSize - recordPlace k) (drop (recordPlace k) t))
       turn-record-laid =
-          subst LaidStream (sym (lent-rest 493 onRecord on-record-length 272 k t₀ t (omega (arith, room)) e))
-          (lent-record-laid t₀ l k (272 + k * 493) h (omega arith))
+          subst LaidStream (sym (lent-rest recordSize onRecord on-record-length recordsPlace k t₀ t (omega (arith, room)) e))
+          (lent-record-laid t₀ l k (recordPlace k) h (omega arith))
 
-      pub turn-record : (y : List ℕ) → y ≡ onRecord (take (272 + k * 493 + 493 - (272 + k * 493)) (drop (272 + k * 493) t))
-          → take (272 + k * 493) t ++ (y ++ drop (272 + k * 493 + 493 - (272 + k * 493)) (drop (272 + k * 493) t))
-          ≡ eachFrom 272 (k + 1) 493 onRecord t₀
-      turn-record y q = eachFrom-turn 272 493 onRecord on-record-length k t₀ t y room e q
+      pub turn-record : (y : List ℕ) → y ≡ onRecord (take (recordPlace k + recordSize - recordPlace k) (drop (recordPlace k) t))
+          → take (recordPlace k) t ++ (y ++ drop (recordPlace k + recordSize - recordPlace k) (drop (recordPlace k) t))
+          ≡ eachFrom recordsPlace (k + 1) recordSize onRecord t₀
+      turn-record y q = eachFrom-turn recordsPlace recordSize onRecord on-record-length k t₀ t y room e q
 
     pub turned-records : (t₀ : List ℕ) → Laid t₀
-        → eachFrom 272 (length (decode t₀ .streams)) 493 onRecord t₀ ≡ encode (holding (decode t₀) (map g (decode t₀ .streams)))
+        → eachFrom recordsPlace (length (decode t₀ .streams)) recordSize onRecord t₀ ≡ encode (holding (decode t₀) (map g (decode t₀ .streams)))
     turned-records t₀ l =
         let b = decode t₀ in
         let w = laid-fits t₀ l in
-        ap (eachFrom 272 (length (b .streams)) 493 onRecord) (laid-is t₀ l)
+        ap (eachFrom recordsPlace (length (b .streams)) recordSize onRecord) (laid-is t₀ l)
         ∙ records-each b w onRecord g
         (all-map FitStream (λ x. onRecord (streamOctets x) ≡ streamOctets (g x)) (λ x f. ap (λ (y : Stream). streamOctets (g y)) (stream-read x f)) (b .streams)
         (w .streams))
@@ -101,49 +76,22 @@ module _ (g : Cell → Cell) where
   abbrev pub onCell : List ℕ → List ℕ
   onCell s = cellOctets (g (toCell s))
 
-  pub on-cell-length : (s : List ℕ) → length s ≡ 39 → length (onCell s) ≡ 39
+  pub on-cell-length : (s : List ℕ) → length s ≡ cellSize → length (onCell s) ≡ cellSize
   on-cell-length s e = cell-length (g (toCell s))
 
-  module _ (s₀ s : List ℕ) (l : LaidStream s₀) (m : length s₀ ≡ 493) (p : ℕ) (h : p < 8) (e : s ≡ eachFrom 21 p 39 onCell s₀) where
-    pub turn-cell-laid : LaidCell (take (21 + p * 39 + 39 - (21 + p * 39)) (drop (21 + p * 39) s))
+  module _ (s₀ s : List ℕ) (l : LaidStream s₀) (m : length s₀ ≡ recordSize) (p : ℕ) (h : p < 8) (e : s ≡ eachFrom cellsPlace p cellSize onCell s₀) where
+    pub turn-cell-laid : LaidCell (take (cellIn p + cellSize - cellIn p) (drop (cellIn p) s))
     turn-cell-laid =
-        subst LaidCell (sym (lent-rest 39 onCell on-cell-length 21 p s₀ s (omega arith) e)) (lent-cell-laid s₀ l p (21 + p * 39) h (omega arith))
+        subst LaidCell (sym (lent-rest cellSize onCell on-cell-length cellsPlace p s₀ s (omega arith) e)) (lent-cell-laid s₀ l p (cellIn p) h (omega arith))
 
-    pub turn-cell : (y : List ℕ) → y ≡ onCell (take (21 + p * 39 + 39 - (21 + p * 39)) (drop (21 + p * 39) s))
-        → take (21 + p * 39) s ++ (y ++ drop (21 + p * 39 + 39 - (21 + p * 39)) (drop (21 + p * 39) s)) ≡ eachFrom 21 (p + 1) 39 onCell s₀
-    turn-cell y q = eachFrom-turn 21 39 onCell on-cell-length p s₀ s y (omega arith) e q
+    pub turn-cell : (y : List ℕ) → y ≡ onCell (take (cellIn p + cellSize - cellIn p) (drop (cellIn p) s))
+        → take (cellIn p) s ++ (y ++ drop (cellIn p + cellSize - cellIn p) (drop (cellIn p) s)) ≡ eachFrom cellsPlace (p + 1) cellSize onCell s₀
+    turn-cell y q = eachFrom-turn cellsPlace cellSize onCell on-cell-length p s₀ s y (omega arith) e q
 
-  pub turned-cells : (s₀ : List ℕ) → LaidStream s₀ → eachFrom 21 8 39 onCell s₀ ≡ streamOctets (change (map g) (toStream s₀))
+  pub turned-cells : (s₀ : List ℕ) → LaidStream s₀ → eachFrom cellsPlace 8 cellSize onCell s₀ ≡ streamOctets (change (map g) (toStream s₀))
   turned-cells s₀ l =
       let x = toStream s₀ in
       let w = laid-stream-fits s₀ l in
-      ap (eachFrom 21 8 39 onCell) (laid-stream-is s₀ l)
+      ap (eachFrom cellsPlace 8 cellSize onCell) (laid-stream-is s₀ l)
       ∙ cells-each x w onCell g
       (all-map FitCell (λ c. onCell (cellOctets c) ≡ cellOctets (g c)) (λ c f. ap (λ (d : Cell). cellOctets (g d)) (cell-read c f)) (x .cells) (w .cells))
-
--- Results. The call ensures `now (p .exit) ≡ resultOctets (g (toResult (now (p .entry))))`.
-
-module _ (g : Result → Result) where
-  abbrev pub onResult : List ℕ → List ℕ
-  onResult s = resultOctets (g (toResult s))
-
-  pub on-result-length : (s : List ℕ) → length s ≡ 20 → length (onResult s) ≡ 20
-  on-result-length s e = result-length (g (toResult s))
-
-  module _ (s₀ s : List ℕ) (l : LaidStream s₀) (m : length s₀ ≡ 493) (p : ℕ) (h : p < 8) (e : s ≡ eachFrom 333 p 20 onResult s₀) where
-    pub turn-result-laid : LaidResult (take (333 + p * 20 + 20 - (333 + p * 20)) (drop (333 + p * 20) s))
-    turn-result-laid =
-        subst LaidResult (sym (lent-rest 20 onResult on-result-length 333 p s₀ s (omega arith) e)) (lent-result-laid s₀ l p (333 + p * 20) h (omega arith))
-
-    pub turn-result : (y : List ℕ) → y ≡ onResult (take (333 + p * 20 + 20 - (333 + p * 20)) (drop (333 + p * 20) s))
-        → take (333 + p * 20) s ++ (y ++ drop (333 + p * 20 + 20 - (333 + p * 20)) (drop (333 + p * 20) s)) ≡ eachFrom 333 (p + 1) 20 onResult s₀
-    turn-result y q = eachFrom-turn 333 20 onResult on-result-length p s₀ s y (omega arith) e q
-
-  pub turned-results : (s₀ : List ℕ) → LaidStream s₀ → eachFrom 333 8 20 onResult s₀ ≡ streamOctets (resulting (map g) (toStream s₀))
-  turned-results s₀ l =
-      let x = toStream s₀ in
-      let w = laid-stream-fits s₀ l in
-      ap (eachFrom 333 8 20 onResult) (laid-stream-is s₀ l)
-      ∙ results-each x w onResult g
-      (all-map FitResult (λ r. onResult (resultOctets r) ≡ resultOctets (g r)) (λ r f. ap (λ (d : Result). resultOctets (g d)) (result-read r f)) (x .results)
-      (w .results))

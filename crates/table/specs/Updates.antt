@@ -1,10 +1,11 @@
--- A bridge with its clock or its totals replaced, or with one stream more; a stream with its settled values or its results
--- replaced.
+-- A bridge with its clock or its totals replaced, with one stream more, or with a part of it replaced by the place k of a stream
+-- and the place p of a port; a stream with its settled values or its results replaced.
 use mathlib.Core.List.{List, _∷_, _++_}
 use Prim.Native.Nat.{ℕ}
-use lib.ListN.{take, drop}
-use Rattle.model.specs.State.{Fixed, Result, Stream, Totals, Bridge, fresh}
-use Rattle.model.specs.Registrations.{holding}
+use lib.ListN.{set, take, drop}
+use Rattle.model.specs.State.{Fixed, Cell, Result, Stream, Totals, Bridge, fresh}
+pub use Rattle.model.specs.State.{streamAt, totalsAt}
+use Rattle.model.specs.Registrations.{at, change, holding}
 
 abbrev pub clocked : ℕ → Bridge → Bridge
 clocked now b = record { settings = b .settings; clock = now; totals = b .totals; streams = b .streams }
@@ -21,3 +22,20 @@ settledAs f x = record { id = x .id; settled = f; cells = x .cells; results = x 
 
 abbrev pub resulting : (List Result → List Result) → Stream → Stream
 resulting u x = record { id = x .id; settled = x .settled; cells = x .cells; results = u (x .results) }
+
+-- One part replaced: the stream, its settled values, its cell and its result on the port; the totals of the port.
+
+abbrev pub withStream : ℕ → Stream → Bridge → Bridge
+withStream k x b = holding b (set (b .streams) k x)
+
+abbrev pub withSettled : ℕ → Fixed → Bridge → Bridge
+withSettled k f b = withStream k (settledAs f (streamAt k b)) b
+
+abbrev pub withCell : ℕ → ℕ → (Cell → Cell) → Bridge → Bridge
+withCell k p u b = withStream k (change (at p u) (streamAt k b)) b
+
+abbrev pub withResult : ℕ → ℕ → Result → Bridge → Bridge
+withResult k p r b = withStream k (resulting (λ l. set l p r) (streamAt k b)) b
+
+abbrev pub withTotals : ℕ → Totals → Bridge → Bridge
+withTotals p t b = totalled (set (b .totals) p t) b

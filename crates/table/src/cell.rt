@@ -1,30 +1,30 @@
 // The places within a cell (docs/TABLE.md, "Cell").
 pub const TALKER: usize = 0;
 
-pub const CHANGED: usize = 1;
+pub const CHANGED: usize = TALKER + 1;
 
-pub const TALKER_LEAVES: usize = 2;
+pub const TALKER_LEAVES: usize = CHANGED + 1;
 
-pub const TALKER_SINCE: usize = 3;
+pub const TALKER_SINCE: usize = TALKER_LEAVES + 1;
 
-pub const DESTINATION: usize = 7;
+pub const DESTINATION: usize = TALKER_SINCE + 4;
 
-pub const VLAN: usize = 13;
+pub const VLAN: usize = DESTINATION + 6;
 
-pub const FRAME_SIZE: usize = 15;
+pub const FRAME_SIZE: usize = VLAN + 2;
 
-pub const FRAMES: usize = 17;
+pub const FRAMES: usize = FRAME_SIZE + 2;
 
-pub const PRIORITY: usize = 19;
+pub const PRIORITY: usize = FRAMES + 2;
 
-pub const LATENCY: usize = 20;
+pub const LATENCY: usize = PRIORITY + 1;
 
-pub const BRIDGE_ID: usize = 24;
+pub const BRIDGE_ID: usize = LATENCY + 4;
 
-pub const CODE: usize = 32;
+pub const CODE: usize = BRIDGE_ID + 8;
 
-pub const LISTENER: usize = 33;
+pub const LISTENER: usize = CODE + 1;
 
-pub const LISTENER_LEAVES: usize = 34;
+pub const LISTENER_LEAVES: usize = LISTENER + 1;
 
-pub const LISTENER_SINCE: usize = 35;
+pub const LISTENER_SINCE: usize = LISTENER_LEAVES + 1;

@@ -1,8 +1,11 @@
-// The caller's table: its layout, what is read of its header, and its stream records found, put in and dropped.
+// The caller's table: its layout; each part of it by the place k of a stream and the place p of a port, read where a function hands
+// it out, changed at the address that another gives; and its stream records found, put in and dropped.
 ghost use mathlib.Core.Path.{_≡_};
 ghost use Prim.Native.Nat.{_+_, _*_, _≤_, _<_};
-ghost use lib.ListN.{length};
+ghost use lib.ListN.{length, replicate};
 ghost use Rattle.octets.specs.Parts.{part, patch};
+ghost use Rattle.model.specs.Layout.{cellPlace, cellSize, fixedSize, priorityBUnit, recordPlace, recordSize, resultPlace, resultSize, settledOf, tableLength, totalPlace, totalSize};
+ghost use Rattle.model.specs.State.{portAt, cellAt, resultAt, noTotals};
 ghost use Rattle.model.specs.Registrations.{holding, ids};
 ghost use Rattle.model.specs.Settling.{held};
 ghost use Rattle.model.specs.Table.{toStream, encode, decode};
@@ -10,47 +13,61 @@ ghost use Rattle.model.specs.Laid.{Laid};
 ghost use Rattle.table.specs.Find.{foundAt};
 ghost use Rattle.table.specs.Held.{heldOnly};
 ghost use Rattle.table.specs.Octets.{recordPut, recordKept};
-ghost use Rattle.table.specs.Updates.{inserted};
+ghost use Rattle.table.specs.Updates.{clocked, totalled, inserted, streamAt, totalsAt};
+ghost use Rattle.table.specs.Places.{Stands, PortIn, StandsOn, RoomAt};
+ghost use Rattle.table.specs.Reads.{ReadsCell, ReadsResult, ReadsFixed, ReadsPort, ReadsTotals};
 
 pub mod cell;
 pub mod port;
 pub mod result;
 
-// The layout of a table, in octets (docs/TABLE.md): its length; where the field of the number of ports, class priorities and
-// leave time, the ports' settings, the clock, the number of streams, the totals and the stream records stand; and how long
-// one of each is.
-pub const LENGTH: usize = 31824;
+// The layout of a table, in octets (docs/TABLE.md). How long a port's settings and its totals are, where class B's stand among
+// these; a Talker's fixed values, which a stream's settled ones are; a cell and a result.
+pub const PORT: usize = port::LATENCY_B + 4;
 
-pub const HEAD: usize = 8;
+pub const TOTAL_B: usize = 5;
 
-pub const PORTS: usize = 11;
+pub const TOTAL: usize = TOTAL_B + 5;
 
-pub const PORT: usize = 22;
+pub const FIXED: usize = cell::PRIORITY + 1 - cell::DESTINATION;
 
-pub const CLOCK: usize = 187;
+pub const CELL: usize = cell::LISTENER_SINCE + 4;
 
-pub const COUNT: usize = 191;
+pub const RESULT: usize = result::DECLARED + 1;
 
-pub const TOTALS: usize = 192;
-
-pub const TOTAL: usize = 10;
-
-pub const RECORDS: usize = 272;
-
-pub const RECORD: usize = 493;
-
-// Within a record: settled values, with priority and rank last of them; cells and results.
+// A record: behind the StreamID the settled values, with priority and rank last of them; cells and results.
 pub const SETTLED: usize = 8;
 
-pub const SETTLED_PRIORITY: usize = 20;
+pub const SETTLED_PRIORITY: usize = CELLS - 1;
 
-pub const CELLS: usize = 21;
+pub const CELLS: usize = SETTLED + FIXED;
 
-pub const CELL: usize = 39;
+pub const RESULTS: usize = CELLS + 8 * CELL;
 
-pub const RESULTS: usize = 333;
+pub const RECORD: usize = RESULTS + 8 * RESULT;
 
-pub const RESULT: usize = 20;
+// A table: behind the Bridge ID the field of the number of ports, class priorities and leave time, the ports' settings, the clock,
+// the number of streams, the totals and the records.
+pub const HEAD: usize = 8;
+
+pub const PORTS: usize = HEAD + 3;
+
+pub const CLOCK: usize = PORTS + 8 * PORT;
+
+pub const COUNT: usize = CLOCK + 4;
+
+pub const TOTALS: usize = COUNT + 1;
+
+pub const RECORDS: usize = TOTALS + 8 * TOTAL;
+
+pub const LENGTH: usize = RECORDS + 64 * RECORD;
+
+// Units of the field of ports, class priorities and leave time.
+pub const PRIORITY_B_UNIT: u64 = 16384;
+
+pub const PRIORITY_A_UNIT: u64 = 8 * PRIORITY_B_UNIT;
+
+pub const PORTS_UNIT: u64 = 8 * PRIORITY_A_UNIT;
 
 // The number of streams held.
 pub fn count(table: &[u8]) -> usize
@@ -73,15 +90,148 @@ pub fn ports(table: &[u8]) -> usize
     requires { ⌜ Laid (now table) ⌝ }
     ensures { λ r. ⌜ (r ≡ length (decode (now (table .entry)) .settings .ports)) × (r ≤ 8) ⌝ }
 {
-    octets::get(table, HEAD, 3) as usize / 1048576
+    (octets::get(table, HEAD, 3) / PORTS_UNIT) as usize
 }
 
 // The leave time, in hundredths of a second.
 pub fn leave_time(table: &[u8]) -> u32
     requires { ⌜ Laid (now table) ⌝ }
-    ensures { λ r. ⌜ (r ≡ decode (now (table .entry)) .settings .leaveTime) × (r < 16384) ⌝ }
+    ensures { λ r. ⌜ (r ≡ decode (now (table .entry)) .settings .leaveTime) × (r < priorityBUnit) ⌝ }
 {
-    (octets::get(table, HEAD, 3) % 16384) as u32
+    (octets::get(table, HEAD, 3) % PRIORITY_B_UNIT) as u32
+}
+
+// The Bridge ID.
+pub fn bridge_id(table: &[u8]) -> u64
+    requires { ⌜ Laid (now table) ⌝ }
+    ensures { λ r. ⌜ r ≡ decode (now (table .entry)) .settings .bridgeId ⌝ }
+{
+    octets::get(table, 0, 8)
+}
+
+// The priorities of class A and class B.
+pub fn priority_a(table: &[u8]) -> u64
+    requires { ⌜ Laid (now table) ⌝ }
+    ensures { λ r. ⌜ r ≡ decode (now (table .entry)) .settings .priorityA ⌝ }
+{
+    octets::get(table, HEAD, 3) / PRIORITY_A_UNIT % 8
+}
+
+pub fn priority_b(table: &[u8]) -> u64
+    requires { ⌜ Laid (now table) ⌝ }
+    ensures { λ r. ⌜ r ≡ decode (now (table .entry)) .settings .priorityB ⌝ }
+{
+    octets::get(table, HEAD, 3) / PRIORITY_B_UNIT % 8
+}
+
+// The settings of the port at place p.
+pub fn port_at(table: &[u8], p: usize) -> &[u8]
+    requires { ⌜ PortIn (now table) p ⌝ }
+    ensures { λ r. ⌜ ReadsPort (now r) (portAt (decode (now (table .entry)) .settings) p) ⌝ }
+{
+    let a = PORTS + p * PORT;
+    let e = a + PORT;
+    &table[a..e]
+}
+
+// The address of its totals, and the totals.
+pub fn totals_in(table: &[u8], p: usize) -> usize
+    requires { ⌜ PortIn (now table) p ⌝ }
+    ensures { λ r. ⌜ (r ≡ totalPlace p) × (r + totalSize ≤ length (now (table .entry))) ⌝ }
+{
+    TOTALS + p * TOTAL
+}
+
+pub fn totals_at(table: &[u8], p: usize) -> &[u8]
+    requires { ⌜ PortIn (now table) p ⌝ }
+    ensures { λ r. ⌜ ReadsTotals (now r) (totalsAt p (decode (now (table .entry)))) ⌝ }
+{
+    let a = totals_in(table, p);
+    let e = a + TOTAL;
+    &table[a..e]
+}
+
+// The address of the record of stream k.
+fn record_in(table: &[u8], k: usize) -> usize
+    requires { ⌜ Stands (now table) k ⌝ }
+    ensures { λ r. ⌜ (r ≡ recordPlace k) × (r + recordSize ≤ length (now (table .entry))) ⌝ }
+{
+    RECORDS + k * RECORD
+}
+
+// The StreamID of stream k.
+pub fn id_at(table: &[u8], k: usize) -> u64
+    requires { ⌜ Stands (now table) k ⌝ }
+    ensures { λ r. ⌜ r ≡ streamAt k (decode (now (table .entry))) .id ⌝ }
+{
+    octets::get(table, record_in(table, k), 8)
+}
+
+// The address of its settled values, and the values.
+pub fn settled_in(table: &[u8], k: usize) -> usize
+    requires { ⌜ Stands (now table) k ⌝ }
+    ensures { λ r. ⌜ (r ≡ settledOf k) × (r + fixedSize ≤ length (now (table .entry))) ⌝ }
+{
+    record_in(table, k) + SETTLED
+}
+
+pub fn settled_at(table: &[u8], k: usize) -> &[u8]
+    requires { ⌜ Stands (now table) k ⌝ }
+    ensures { λ r. ⌜ ReadsFixed (now r) (streamAt k (decode (now (table .entry))) .settled) ⌝ }
+{
+    let a = settled_in(table, k);
+    let e = a + FIXED;
+    &table[a..e]
+}
+
+// The address of its cell on the port at place p, and the cell.
+pub fn cell_in(table: &[u8], k: usize, p: usize) -> usize
+    requires { ⌜ StandsOn (now table) k p ⌝ }
+    ensures { λ r. ⌜ (r ≡ cellPlace k p) × (r + cellSize ≤ length (now (table .entry))) ⌝ }
+{
+    record_in(table, k) + CELLS + p * CELL
+}
+
+pub fn cell_at(table: &[u8], k: usize, p: usize) -> &[u8]
+    requires { ⌜ StandsOn (now table) k p ⌝ }
+    ensures { λ r. ⌜ ReadsCell (now r) (cellAt (streamAt k (decode (now (table .entry)))) p) ⌝ }
+{
+    let a = cell_in(table, k, p);
+    let e = a + CELL;
+    &table[a..e]
+}
+
+// The address of its result there, and the result.
+pub fn result_in(table: &[u8], k: usize, p: usize) -> usize
+    requires { ⌜ StandsOn (now table) k p ⌝ }
+    ensures { λ r. ⌜ (r ≡ resultPlace k p) × (r + resultSize ≤ length (now (table .entry))) ⌝ }
+{
+    record_in(table, k) + RESULTS + p * RESULT
+}
+
+pub fn result_at(table: &[u8], k: usize, p: usize) -> &[u8]
+    requires { ⌜ StandsOn (now table) k p ⌝ }
+    ensures { λ r. ⌜ ReadsResult (now r) (resultAt (streamAt k (decode (now (table .entry)))) p) ⌝ }
+{
+    let a = result_in(table, k, p);
+    let e = a + RESULT;
+    &table[a..e]
+}
+
+// The clock set.
+pub fn set_clock(table: &mut [u8], time: u32)
+    requires { ⌜ Laid (now table) ⌝ }
+    ensures { λ _. ⌜ now (table .exit) ≡ encode (clocked time (decode (now (table .entry)))) ⌝ }
+{
+    octets::put(table, CLOCK, 4, time as u64);
+}
+
+// Nothing reserved on any port.
+pub fn clear_totals(table: &mut [u8])
+    requires { ⌜ Laid (now table) ⌝ }
+    ensures { λ _. ⌜ now (table .exit) ≡ encode (totalled (replicate 8 noTotals) (decode (now (table .entry)))) ⌝ }
+{
+    octets::clear(table, TOTALS, 8 * TOTAL);
 }
 
 // Where a stream is among the records in use, or where it would stand.
@@ -125,7 +275,7 @@ fn move_up(s: &mut [u8], at: usize, d: usize, n: usize)
 }
 
 // The n octets from place at on, moved down by d.
-fn move_down(s: &mut [u8], at: usize, d: usize, n: usize)
+pub fn move_down(s: &mut [u8], at: usize, d: usize, n: usize)
     requires { ⌜ at + d + n ≤ length (now s) ⌝ }
     ensures { λ _. ⌜ now (s .exit) ≡ patch at n (part (at + d) n (now (s .entry))) (now (s .entry)) ⌝ }
 {
@@ -138,7 +288,7 @@ fn move_down(s: &mut [u8], at: usize, d: usize, n: usize)
 
 // An empty record for the stream id at place k of n: those from there on move up.
 fn put_record(table: &mut [u8], n: usize, k: usize, id: u64)
-    requires { ⌜ (length (now table) ≡ 31824) × (k ≤ n) × (n < 64) ⌝ }
+    requires { ⌜ (length (now table) ≡ tableLength) × (k ≤ n) × (n < 64) ⌝ }
     ensures { λ _. ⌜ now (table .exit) ≡ recordPut n k id (now (table .entry)) ⌝ }
 {
     let at = RECORDS + k * RECORD;
@@ -150,7 +300,7 @@ fn put_record(table: &mut [u8], n: usize, k: usize, id: u64)
 
 // A record for the stream id, which is not held, at its place k.
 pub fn insert(table: &mut [u8], k: usize, id: u64)
-    requires { ⌜ Laid (now table) × (length (decode (now table) .streams) < 64) × (k ≤ length (decode (now table) .streams)) ⌝ }
+    requires { ⌜ RoomAt (now table) k ⌝ }
     ensures { λ _. ⌜ now (table .exit) ≡ encode (inserted k id (decode (now (table .entry)))) ⌝ }
 {
     let n = count(table);
@@ -158,8 +308,8 @@ pub fn insert(table: &mut [u8], k: usize, id: u64)
 }
 
 // Whether some port has a registration of the stream: a Talker or a Listener in one of the cells.
-pub fn is_held(rec: &[u8]) -> bool
-    requires { ⌜ length (now rec) ≡ 493 ⌝ }
+fn is_held(rec: &[u8]) -> bool
+    requires { ⌜ length (now rec) ≡ recordSize ⌝ }
     ensures { λ r. ⌜ r ≡ held (toStream (now (rec .entry)) .cells) ⌝ }
 {
     let mut p: usize = 0;
@@ -178,7 +328,7 @@ pub fn is_held(rec: &[u8]) -> bool
 
 // The record at place i, moved down to place j.
 fn keep_record(table: &mut [u8], i: usize, j: usize)
-    requires { ⌜ (length (now table) ≡ 31824) × (j ≤ i) × (i < 64) ⌝ }
+    requires { ⌜ (length (now table) ≡ tableLength) × (j ≤ i) × (i < 64) ⌝ }
     ensures { λ _. ⌜ now (table .exit) ≡ recordKept i j (now (table .entry)) ⌝ }
 {
     if j < i {

@@ -11,6 +11,7 @@ mod refusals;
 mod registering;
 mod reports_and_start;
 mod settling;
+mod texts;
 mod the_calls_console;
 mod the_sheet;
 mod the_table;

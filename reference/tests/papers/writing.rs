@@ -260,8 +260,9 @@ struct WritesReadBack {
 
 impl Watcher for WritesReadBack {
     fn called(&mut self, call: &Call, number: numbers::Number, table: &Table) {
-        let (Call::Write { port, place, answer }, 0) = (call, number) else {
-            return;
+        let (port, place, answer) = match (call, number) {
+            (Call::Write { port, place, answer }, 0) => (port, place, answer),
+            _ => return,
         };
         let bridge = table.bridge().unwrap();
         let declared = declarations::of_port(&bridge.settled, *port as usize);

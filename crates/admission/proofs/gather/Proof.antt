@@ -1,5 +1,5 @@
 -- `admission::gather` meets its contract. Assumes nothing.
-use Prim.Native.Nat.{_+_, _-_, _≤_, _<_}
+use Prim.Native.Nat.{_-_, _≤_, _<_}
 use mathlib.Core.Path.{_≡_, refl, sym, _∙_}
 use mathlib.Core.List.{_++_}
 use native.Mathlib.Omega.{arith}
@@ -7,8 +7,8 @@ use lib.ListN.{length, take, drop}
 use borrow.Author.Needs.{needs}
 use Rattle.model.specs.Table.{decode}
 use Rattle.admission.specs.Sharing.{classFor, orders}
-use Rattle.admission.proofs.gather.Statement.{statement}
 use Rattle.admission.proofs.Laws.{gather-more, gather-none}
+use Rattle.admission.proofs.gather.Statement.{statement}
 use Rattle.admission.proofs.gather.Tie as tie
 
 abbrev Inv-loop : tie.InvT-loop
@@ -26,9 +26,9 @@ loop-holds c = (omega arith, omega arith, omega arith, refl)
 
 note-requires : tie.Need-note-requires Inv-loop μ-loop
 note-requires c κs =
-    let pre = c .before .before .before .before .before .before .pre in
-    let n = c .before .before .before .count .ensures in
-    (pre .0, pre .1, omega (arith, n .0), omega (arith, n .1), omega arith, omega arith, omega arith)
+    let port = c .before .before .before .before .before .before .pre .0 in
+    let inv = c .before .before .loop .inv in
+    record { stands = record { laid = port .laid; held = omega (arith, c .before .before .before .count .ensures .0); port = port .port }; few = inv .1; room = inv .2 }
 
 loop-again : tie.Need-loop-again Inv-loop μ-loop
 loop-again c =

@@ -1,44 +1,39 @@
 -- `admission::note` meets its contract. Assumes nothing.
-use Prim.Native.Nat.{_+_, _*_, _≤_, _<_}
-use mathlib.Core.Path.{refl}
+use Prim.Native.Nat.{_<_}
 use native.Mathlib.Omega.{arith}
 use lib.ListN.{length}
 use borrow.Author.Needs.{needs}
-use Rattle.table.proofs.Records.{lent-record-laid}
+use Rattle.table.proofs.ByPlace.{stands, few-before}
+use Rattle.admission.proofs.Laws.{noted, not-noted}
 use Rattle.admission.proofs.note.Statement.{statement}
-use Rattle.admission.proofs.Laws.{lent-size, note-in, note-out}
 use Rattle.admission.proofs.note.Tie as tie
 
-waiting-requires : tie.Need-waiting-requires
-waiting-requires c κs =
-    let a = c .before .before .before .args in
-    let pre = c .before .before .before .pre in
-    let room : 272 + 493 * a .k + 493 ≤ length (a .table .now) = omega arith in
-    (omega arith, lent-record-laid _ (pre .0) _ _ (pre .2) refl, lent-size _ 493 _ room, omega arith)
+-- one number more has room
+room : (c : tie.After-order-of) → c .before .before .before .before .before .args .n < length (c .before .before .before .before .before .args .numbers .now)
+room c =
+    let pre = c .before .before .before .before .before .pre in
+    omega (arith, pre .few, pre .room, few-before (stands (pre .stands)))
 
-order-of-requires : tie.Need-order-of-requires
-order-of-requires c κs =
-    let a = c .before .before .before .before .before .before .args in
-    let pre = c .before .before .before .before .before .before .pre in
-    let room : 272 + 493 * a .k + 493 ≤ length (a .table .now) = omega arith in
-    (lent-record-laid _ (pre .0) _ _ (pre .2) refl, lent-size _ 493 _ room, omega arith, omega arith)
+mul-numbers : tie.Need-mul-numbers
+mul-numbers c = omega (arith, room c, c .before .before .before .before .before .pre .room)
+
+slice-write-numbers : tie.Need-slice-write-numbers
+slice-write-numbers c = room c
+
+add-result : tie.Need-add-result
+add-result c = omega (arith, room c)
 
 returns : tie.Need-returns
 returns c =
-    let a = c .before .before .before .before .before .before .before .args in
-    let pre = c .before .before .before .before .before .before .before .pre in
-    let room : a .n < length (a .numbers .now) = omega arith in
-    (note-in _ (pre .0) _ _ (pre .2) refl _ _ (a .numbers .now) (a .n) _ (c .before .before .before .waiting .ensures) _ room (c .before .before .if1 .taken) (c .order-of .ensures), omega arith)
+    (rw (c .order-of .ensures) (noted _ _ _ _ _ (c .before .before .waiting .ensures) (room c) (c .before .if1 .taken)), omega (arith, c .before .before .before .before .before .pre .few))
 
 returns-2 : tie.Need-returns-2
 returns-2 c =
-    let a = c .before .before .before .before .before .args in
-    let pre = c .before .before .before .before .before .pre in
-    (note-out _ (pre .0) _ _ (pre .2) refl _ _ (a .numbers .now) (a .n) _ (c .before .waiting .ensures) (c .if1 .left), omega arith)
+    let a = c .before .before .before .before .args in
+    (not-noted (a .numbers .now) (a .n) _ _ _ (c .before .waiting .ensures) (c .if1 .left), omega (arith, c .before .before .before .before .pre .few))
 
 pub note-spec : {M : Type 1} → statement M
 note-spec =
     tie.close
-    (tie.spec (λ c. search needs) (λ c. search needs) (λ c. search needs) (λ c. search needs) (λ c. search needs)
-    (λ c. search needs) waiting-requires (λ c. search needs) (λ c. search needs) (λ c. search needs) (λ c. search needs)
-    order-of-requires (λ c. search needs) (λ c. search needs) (λ c. search needs) (λ c. search needs) returns returns-2)
+    (tie.spec (λ c κs. search needs) (λ c κs. search needs) mul-numbers slice-write-numbers add-result (λ c. search needs) returns
+    returns-2)

@@ -26,8 +26,14 @@ receive-frame-requires : tie.Need-receive-frame-requires
 receive-frame-requires c κs =
     let t = c .before .before .before .before .before .before .before .before .before .before .before .before .args .table .now in
     let f = sym (c .before .before .before .before .before .before .before .before .is-formed .ensures) ∙ c .before .before .before .before .before .before .before .if1 .taken in
-    let o = octets-of t (λ i. omega (arith, c .before .before .before .before .before .before .before .before .before .before .before .slice-known .given i)) in
-    (formed-laid t o f, omega (arith, c .before .before .before .before .before .ports .ensures .1, c .before .before .before .if3 .left), accepted-found _ (sym (c .before .before .check .ensures) ∙ c .before .if4 .taken), formed-held t o f)
+    let o = octets-of t (λ i. omega (arith, c .before .before .before .before .before .before .before .before .before .before .before .slice-known .given i)) in (
+      record {
+        laid = formed-laid t o f;
+        place = omega (arith, c .before .before .before .before .before .ports .ensures .1, c .before .before .before .if3 .left);
+        found = accepted-found _ (sym (c .before .before .check .ensures) ∙ c .before .if4 .taken);
+      },
+      formed-held t o f,
+    )
 
 returns-3 : tie.Need-returns-3
 returns-3 c =

@@ -5,7 +5,7 @@ use mathlib.Core.Bool.{true, false}
 use native.Mathlib.Omega.{arith}
 use borrow.Author.Needs.{needs}
 use Rattle.model.specs.Frames.{wrongPort}
-use Rattle.model.specs.Declarations as model
+use Rattle.model.specs.Reports as model
 use Rattle.model.specs.Table.{formed, decode}
 use Rattle.model.specs.Laid.{Laid}
 use Rattle.model.proofs.Parts.{octets-of}
@@ -48,8 +48,11 @@ returns-3 c =
     ∙ sym (report-above _ _ _ (well-formed (c .before .before .before .before .before .before)) (a-port (c .before .before .before)) (rw (c .before .before .count .ensures .0) at (c .before .if4 .taken)))
 
 report-at-requires : tie.Need-report-at-requires
-report-at-requires c κs =
-    (laid (c .before .before .before .before .before), omega (arith, c .before .before .before .before .ports .ensures .1, c .before .before .if3 .left, c .before .before .before .if2 .left), omega (arith, c .before .count .ensures .0, c .if4 .left))
+report-at-requires c κs = record {
+  laid = laid (c .before .before .before .before .before);
+  port = omega (arith, c .before .before .before .before .ports .ensures .1, c .before .before .if3 .left, c .before .before .before .if2 .left);
+  within = omega (arith, c .before .count .ensures .0, c .if4 .left);
+}
 
 returns-4 : tie.Need-returns-4
 returns-4 c =

@@ -6,6 +6,7 @@ use mathlib.Core.List.{List, _++_}
 use native.Mathlib.Omega.{arith}
 use lib.ListN.{length, drop}
 use borrow.Author.Needs.{needs}
+use Rattle.model.specs.Layout.{tableLength}
 use Rattle.model.specs.Table.{settingsFormed}
 use Rattle.model.specs.Calls.{Call}
 use Rattle.model.proofs.Parts.{octets-of}
@@ -30,11 +31,11 @@ returns-2 c =
     let t = c .before .before .before .before .before .before .before .before .before .before .before .before .before .args .table .now in
     let f : settingsFormed s ≡ true = sym (c .before .before .before .before .before .before .before .before .before .settings-formed .ensures) ∙ c .before .before .before .before .before .before .before .before .if2 .taken in
     let z = c .before .before .before .before .before .before .clear .last .0 in
-    let h : length t ≡ 31824 = c .before .before .before .before .before .before .before .before .before .before .if1 .left in
-    let short : length s ≤ 31824 = omega (arith, settings-short s f) in
+    let h : length t ≡ tableLength = c .before .before .before .before .before .before .before .before .before .before .if1 .left in
+    let short : length s ≤ tableLength = omega (arith, settings-short s f) in
     let e = start-accepted t s h f (octets-of s (λ i. omega (arith, c .before .before .before .before .before .before .before .before .before .before .before .shared-slice-known .given i))) in (
       ap (λ (a : Call). a .number) (sym e),
-      ap (λ (x : List ℕ). x ++ drop (length s - 0) (drop 0 z)) (c .before .before .copy .ensures) ∙ settings-put 31824 s t z h short (c .before .before .before .before .before .before .clear .ensures) ∙ ap (λ (a : Call). a .table) (sym e),
+      ap (λ (x : List ℕ). x ++ drop (length s - 0) (drop 0 z)) (c .before .before .copy .ensures) ∙ settings-put tableLength s t z h short (c .before .before .before .before .before .before .clear .ensures) ∙ ap (λ (a : Call). a .table) (sym e),
     )
 
 returns-3 : tie.Need-returns-3

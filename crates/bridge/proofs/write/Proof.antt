@@ -5,6 +5,7 @@ use mathlib.Core.Bool.{true, false}
 use native.Mathlib.Omega.{arith}
 use borrow.Author.Needs.{needs}
 use lib.ListN.{length}
+use Rattle.model.specs.FrameLayout.{longestPdu}
 use Rattle.model.specs.Frames.{wrongPort}
 use Rattle.model.specs.Table.{formed, decode}
 use Rattle.model.specs.Laid.{Laid}
@@ -26,7 +27,7 @@ laid c =
 a-port : (c : tie.Else3) → wrongPort (decode (c .before .before .before .before .before .before .before .args .table .now) .settings) (c .before .before .before .before .before .before .before .args .port) ≡ false
 a-port c = port-right _ _ (c .before .if2 .left) (rw (c .before .before .ports .ensures .0) at (c .if3 .left))
 
-long-enough : (c : tie.Else4) → 1500 ≤ length (c .before .before .before .before .before .before .before .before .args .buffer .now)
+long-enough : (c : tie.Else4) → longestPdu ≤ length (c .before .before .before .before .before .before .before .before .args .buffer .now)
 long-enough c = omega (arith, c .if4 .left)
 
 ports-requires : tie.Need-ports-requires
@@ -45,12 +46,15 @@ returns-2 c =
 
 returns-3 : tie.Need-returns-3
 returns-3 c =
-    let short : length (c .before .before .before .before .before .before .before .before .before .args .buffer .now) < 1500 = omega (arith, c .before .if4 .taken) in
+    let short : length (c .before .before .before .before .before .before .before .before .before .args .buffer .now) < longestPdu = omega (arith, c .before .if4 .taken) in
     refused _ _ _ _ 10 _ _ _ (c .refused-write3 .ensures)
     (write-short _ _ _ _ (well-formed (c .before .before .before .before .before)) (a-port (c .before .before)) short)
 
 count-requires : tie.Need-count-declarations-requires
-count-requires c κs = (laid (c .before .before .before .before), omega (arith, c .before .before .before .ports .ensures .1, c .before .if3 .left, c .before .before .if2 .left))
+count-requires c κs = record {
+  laid = laid (c .before .before .before .before);
+  port = omega (arith, c .before .before .before .ports .ensures .1, c .before .if3 .left, c .before .before .if2 .left);
+}
 
 returns-4 : tie.Need-returns-4
 returns-4 c =
@@ -59,12 +63,14 @@ returns-4 c =
     (long-enough (c .before .before .before)) (rw (c .before .before .count-declarations .ensures .0) at (c .before .if5 .taken)))
 
 write-pdu-requires : tie.Need-write-pdu-requires
-write-pdu-requires c κs = (
-  laid (c .before .before .before .before .before .before .before),
-  omega (arith, c .before .before .before .before .before .before .ports .ensures .1, c .before .before .before .before .if3 .left, c .before .before .before .before .before .if2 .left),
-  omega (arith, c .before .before .count-declarations .ensures .1, c .before .if5 .left),
-  long-enough (c .before .before .before),
-)
+write-pdu-requires c κs = record {
+  port = record {
+    laid = laid (c .before .before .before .before .before .before .before);
+    port = omega (arith, c .before .before .before .before .before .before .ports .ensures .1, c .before .before .before .before .if3 .left, c .before .before .before .before .before .if2 .left);
+  };
+  within = omega (arith, c .before .before .count-declarations .ensures .1, c .before .if5 .left);
+  buffer = long-enough (c .before .before .before);
+}
 
 returns-5 : tie.Need-returns-5
 returns-5 c =

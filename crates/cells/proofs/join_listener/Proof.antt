@@ -2,6 +2,7 @@
 use mathlib.Core.Path.{ap, _∙_}
 use borrow.Author.Needs.{needs}
 use Rattle.octets.specs.Parts.{patch, zeros}
+use Rattle.model.specs.Layout.{leavingSize, listenerLeavesPlace}
 use Rattle.cells.specs.Steps.{heard}
 use Rattle.cells.proofs.Joining.{listens}
 use Rattle.cells.proofs.join_listener.Statement.{statement}
@@ -13,7 +14,7 @@ returns c clock id =
     let a = c .before .before .before .before .before .before .before .before .before .args in
     let p = c .before .before .before .before .before .before .before .before .before .pre in
     c .before .before .clear .ensures
-    ∙ ap (patch 34 5 (zeros 5)) (c .before .before .before .before .before .before .put .ensures)
+    ∙ ap (patch listenerLeavesPlace leavingSize (zeros leavingSize)) (c .before .before .before .before .before .before .put .ensures)
     ∙ listens (a .four) (p .2) (p .3) clock id (a .cell .now) (p .0)
 
 pub join-listener-spec : {M : Type 1} → statement M

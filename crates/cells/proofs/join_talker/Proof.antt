@@ -4,6 +4,7 @@ use mathlib.Core.Path.{_≡_, sym, ap, _∙_}
 use native.Mathlib.Omega.{arith}
 use lib.ListN.{length}
 use borrow.Author.Needs.{needs}
+use Rattle.model.specs.FrameLayout.{advertiseLength, failedLength}
 use Rattle.model.specs.Registrations.{does}
 use Rattle.model.specs.Table.{cellOctets, toCell}
 use Rattle.cells.specs.Acts.{kindAt, talkOf}
@@ -14,10 +15,10 @@ use Rattle.cells.proofs.join_talker.Tie as tie
 
 -- at the first read: FirstValue is long enough, and the step is the act's
 module _ (c : tie.After-shared-slice-known) where
-  long : 25 ≤ length (c .before .before .args .first .now)
+  long : advertiseLength ≤ length (c .before .before .args .first .now)
   long = omega (arith, first-long (c .before .before .args .kind) (c .before .before .pre .2) (c .before .before .pre .3))
 
-  failed : c .before .before .args .kind ≡ 2 → 34 ≤ length (c .before .before .args .first .now)
+  failed : c .before .before .args .kind ≡ 2 → failedLength ≤ length (c .before .before .args .first .now)
   failed e = omega (arith, first-failed (c .before .before .args .kind) e)
 
   acts : (clock : ℕ) → let a = c .before .before .args in

@@ -3,8 +3,8 @@ use native.Mathlib.Omega.{arith}
 use borrow.Author.Needs.{needs}
 use Rattle.octets.specs.Fields.{fields}
 use Rattle.model.specs.State.{classLatency}
-use Rattle.model.specs.Table.{toPort, portFrom, portWidths}
-use Rattle.columns.specs.Answers.{classShown}
+use Rattle.model.specs.Table.{toPort, portFrom}
+use Rattle.streams.specs.Answers.{classShown}
 use Rattle.columns.proofs.class_latency.Statement.{statement}
 use Rattle.columns.proofs.class_latency.Tie as tie
 
@@ -13,11 +13,11 @@ unfolding classShown classLatency
 returns c = (rw (c .enum-told .given .1), omega arith)
 
 returns-2 : tie.Need-returns-2
-unfolding classShown classLatency toPort portFrom portWidths fields
+unfolding classShown classLatency toPort portFrom fields
 returns-2 c = (rw (c .before .enum-told2 .given .1, c .get .ensures .0), c .get .ensures .1)
 
 returns-3 : tie.Need-returns-3
-unfolding classShown classLatency toPort portFrom portWidths fields
+unfolding classShown classLatency toPort portFrom fields
 returns-3 c = (rw (c .before .enum-told3 .given .1, c .get2 .ensures .0), c .get2 .ensures .1)
 
 pub class-latency-spec : {M : Type 1} → statement M

@@ -1,42 +1,38 @@
 -- `columns::early_places` meets its contract. The invariant: the places before p are decided, each from what the stream was at entry.
 -- Assumes nothing.
 use Prim.Native.Nat.{_-_, _≤_, _<_}
-use mathlib.Core.Path.{_≡_, refl, sym, ap, _∙_}
+use mathlib.Core.Path.{_≡_, refl}
 use native.Mathlib.Omega.{arith}
 use lib.ListN.{length}
 use borrow.Author.Needs.{needs}
-use Rattle.columns.specs.Answers.{talkerPlace}
-use Rattle.columns.specs.Records.{changedAt, earlyTo}
-use Rattle.columns.proofs.EarlyRecords.{places-start, places-laid, places-source, places-turn}
+use Rattle.model.specs.Table.{encode, decode}
+use Rattle.columns.specs.Places.{changedAt, earlyTo}
+use Rattle.columns.proofs.EarlyTables.{places-start, places-talker, places-turn}
 use Rattle.columns.proofs.early_places.Statement.{statement}
 use Rattle.columns.proofs.early_places.Tie as tie
 
 abbrev Inv-loop : tie.InvT-loop
-Inv-loop table₀ a t time p₀ table p = (p ≤ 8) × (length table ≡ length table₀) × (table ≡ changedAt a (earlyTo p time) table₀)
+Inv-loop table₀ k t time p₀ table p = (p ≤ 8) × (length table ≡ length table₀) × (table ≡ encode (changedAt k (earlyTo p time) (decode table₀)))
 
 abbrev μ-loop : tie.MeasureT-loop
-μ-loop table₀ a t time p₀ table p = 8 - p
+μ-loop table₀ k t time p₀ table p = 8 - p
 
 loop-holds : tie.Need-loop-holds Inv-loop μ-loop
-loop-holds c = (omega arith, refl, places-start _ _ (c .before .pre .0) _)
+loop-holds c = (omega arith, refl, places-start (c .before .pre) _ (omega arith))
 
 early-at-requires : tie.Need-early-at-requires Inv-loop μ-loop
 early-at-requires c κs =
     let l = c .before .before .loop in
     let s = c .before .before .before .before in
-    let soon : s .args .time < 4294967296 = omega arith in (
-      places-laid _ _ (s .pre .0) (s .args .time) soon (l .p) (l .inv .0) _ (l .inv .2),
-      omega arith,
-      s .pre .1,
-      s .pre .2 ∙ ap talkerPlace (sym (places-source _ _ (s .pre .0) (s .args .time) soon (l .p) (l .inv .0) _ (l .inv .2))),
-    )
+    let soon : s .args .time < 4294967296 = omega arith in
+    (places-talker (s .pre) (s .args .time) soon (l .p) (l .inv .0) _ (l .inv .2), omega arith)
 
 loop-again : tie.Need-loop-again Inv-loop μ-loop
 loop-again c =
     let l = c .before .before .before .before .before .loop in
     let s = c .before .before .before .before .before .before .before in
     let soon : s .args .time < 4294967296 = omega arith in
-    (omega arith, omega arith, c .before .before .early-at .ensures ∙ places-turn _ _ (s .pre .0) (s .args .time) soon (l .p) (l .inv .0) _ (l .inv .2))
+    (omega arith, omega arith, places-turn (s .pre) (s .args .time) soon (l .p) (l .inv .0) _ (l .inv .2) (omega arith) _ (c .before .before .early-at .ensures))
 
 returns : tie.Need-returns Inv-loop μ-loop
 returns c =

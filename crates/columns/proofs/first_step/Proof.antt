@@ -1,85 +1,86 @@
 -- `columns::first_step` meets its contract. Assumes nothing.
-use Prim.Native.Nat.{_/_}
+use Prim.Native.Nat.{ℕ}
 use mathlib.Core.Path.{_≡_, sym, _∙_}
-use mathlib.Core.Bool.{Bool, true, false}
+use mathlib.Core.List.{List}
 use native.Mathlib.Omega.{arith}
 use lib.ListN.{getD}
 use borrow.Author.Needs.{needs}
-use borrow.Author.Tests.{not-true, not-false}
-use Rattle.octets.specs.Be.{beAt}
-use Rattle.model.specs.State.{classOf, isNoClass, supports}
-use Rattle.model.specs.Table.{toPort, toSettings}
+use borrow.Author.Tests.{eq-eqb, ne-eqb, lt-ltb, le-ltb}
+use Rattle.model.specs.State.{Settings, Column}
+use Rattle.model.specs.Table.{decode}
+use Rattle.streams.specs.Answers.{classShown}
 use Rattle.columns.specs.Answers.{columnShown}
-use Rattle.columns.proofs.Steps.{no-source, at-the-talker, unsupported, registered-failed, changed-mark, talker-here, no-class, too-large, no-step}
+use Rattle.columns.proofs.Steps.{talking, not-talking, class, decided, from-a, from-b, from-c, from-d, from-e, from-f, from-g, no-source, steps-asked}
 use Rattle.columns.proofs.first_step.Statement.{statement}
 use Rattle.columns.proofs.first_step.Tie as tie
 
--- what the call of `supports` says of the stream's class
-supported : (c : tie.After-supports) (r : Bool) → c .supports .result ≡ r
-    → supports (toPort (c .before .before .before .before .before .before .before .before .before .before .before .args .port .now)) (classOf (toSettings (c .before .before .before .before .before .before .before .before .before .before .before .args .settings .now)) (beAt 1 (c .before .before .before .before .before .before .before .before .before .before .before .args .talker .now) 19 / 32)) ≡ r
-supported c r e = rw (← (c .before .before .get .ensures .0), ← (c .before .class-of .ensures)) (sym (c .supports .ensures) ∙ e)
+-- past the first test the Talker's cell has a Talker; there the column is what the steps from one of them on give
+abbrev Reaches : tie.Else1 → (Settings → List ℕ → List ℕ → List ℕ → ℕ → ℕ → Column) → Type 0
+Reaches c steps =
+    let a = c .before .before .before .before .before .before .before .args in
+    decided (decode (a .table .now) .settings) (a .port .now) (a .here .now) (a .talker .now) (a .p) (a .t)
+    ≡ steps (decode (a .table .now) .settings) (a .port .now) (a .here .now) (a .talker .now) (a .p) (a .t)
 
--- and that of `no_class`
-classless : (c : tie.After-no-class) (r : Bool) → c .no-class .result ≡ r
-    → isNoClass (classOf (toSettings (c .before .before .before .before .before .before .before .before .before .before .before .before .before .before .before .before .before .args .settings .now)) (beAt 1 (c .before .before .before .before .before .before .before .before .before .before .before .before .before .before .before .before .before .args .talker .now) 19 / 32)) ≡ r
-classless c r e = rw (← (c .before .before .before .before .before .before .before .before .get .ensures .0), ← (c .before .before .before .before .before .before .before .class-of .ensures)) (sym (c .no-class .ensures) ∙ e)
+-- the class, as the calls of `supports` and `no_class` were asked with it
+class-read : (c : tie.After-class-of) → let a = c .before .before .before .before .before .before .before .before .before .before .args in classShown (c .class-of .result) ≡ class (decode (a .table .now) .settings) (a .port .now) (a .here .now) (a .talker .now) (a .p) (a .t)
+class-read c = rw (← (c .before .get .ensures .0)) (c .class-of .ensures)
 
--- past step c the Talker is an Advertise
-advertised : (c : tie.Else4) → getD (c .before .before .before .before .before .before .before .before .before .before .before .before .before .args .talker .now) 0 0 ≡ 1
-advertised c = omega (arith, c .if4 .left)
+reaches-a : (c : tie.Else1) → Reaches c from-a
+reaches-a c = steps-asked _ _ _ _ _ _ (c .before .before .before .before .before .before .before .pre .settings .is) (c .if1 .left)
+
+reaches-b : (c : tie.Else2) → Reaches (c .before) from-b
+reaches-b c = reaches-a (c .before) ∙ rw (ne-eqb _ _ (c .if2 .left))
+
+reaches-c : (c : tie.Else3) → Reaches (c .before .before .before .before .before) from-c
+reaches-c c = reaches-b (c .before .before .before .before) ∙ rw (← class-read (c .before .before), ← (c .before .supports .ensures), c .if3 .left)
+
+reaches-d : (c : tie.Else4) → Reaches (c .before .before .before .before .before .before) from-d
+reaches-d c =
+    let e : getD (c .before .before .before .before .before .before .before .before .before .before .before .before .before .args .talker .now) 0 0 ≡ 1 = omega (arith, c .if4 .left) in
+    reaches-c (c .before) ∙ rw (eq-eqb _ _ e)
+
+reaches-e : (c : tie.Else5) → Reaches (c .before .before .before .before .before .before .before) from-e
+reaches-e c = reaches-d (c .before) ∙ rw (ne-eqb _ _ (c .if5 .left))
+
+reaches-f : (c : tie.Else6) → Reaches (c .before .before .before .before .before .before .before .before .before) from-f
+reaches-f c = reaches-e (c .before .before) ∙ rw (not-talking _ (c .if6 .left))
+
+reaches-g : (c : tie.Else7) → Reaches (c .before .before .before .before .before .before .before .before .before .before .before) from-g
+reaches-g c = reaches-f (c .before .before) ∙ rw (← class-read (c .before .before .before .before .before .before .before .before), ← (c .before .no-class .ensures), c .if7 .left)
 
 returns : tie.Need-returns
 unfolding columnShown
-returns c = no-source _ _ _ _ _ (c .if1 .taken)
+returns c = no-source _ (c .before .before .before .before .before .before .before .args .port .now) _ _ _ _ (c .if1 .taken)
 
 returns-2 : tie.Need-returns-2
 unfolding columnShown
-returns-2 c = at-the-talker _ _ _ _ _ _ (c .before .before .before .before .before .before .before .before .pre .4) (c .before .if1 .left) (c .if2 .taken)
+returns-2 c = sym (reaches-a (c .before) ∙ rw (eq-eqb _ _ (c .if2 .taken)))
 
 returns-3 : tie.Need-returns-3
 unfolding columnShown
-returns-3 c =
-    unsupported _ _ _ _ _ _ (c .before .before .before .before .before .before .before .before .before .before .before .before .pre .4) (c .before .before .before .before .before .if1 .left) (c .before .before .before .before .if2 .left)
-    (supported (c .before) false (not-true _ (c .if3 .taken)))
+returns-3 c = sym (reaches-b (c .before .before .before .before) ∙ rw (← class-read (c .before .before), ← (c .before .supports .ensures), c .if3 .taken))
 
 returns-4 : tie.Need-returns-4
 unfolding columnShown
-returns-4 c =
-    rw (c .before .get2 .ensures .0)
-    (registered-failed _ _ _ _ _ _ (c .before .before .before .before .before .before .before .before .before .before .before .before .before .before .before .pre .4) (c .before .before .before .before .before .before .before .before .if1 .left) (c .before .before .before .before .before .before .before .if2 .left)
-    (supported (c .before .before .before .before) true (not-false _ (c .before .before .before .if3 .left))) (λ e. omega (arith, e, c .before .before .if4 .taken)))
+returns-4 c = sym (reaches-c (c .before .before .before) ∙ rw (c .before .get2 .ensures .0, ne-eqb _ _ (c .before .before .if4 .taken)))
 
 returns-5 : tie.Need-returns-5
-returns-5 c =
-    c .own .ensures
-    ∙ changed-mark _ _ _ _ _ _ (c .before .before .before .before .before .before .before .before .before .before .before .before .before .before .before .pre .4) (c .before .before .before .before .before .before .before .before .if1 .left) (c .before .before .before .before .before .before .before .if2 .left)
-    (supported (c .before .before .before .before) true (not-false _ (c .before .before .before .if3 .left))) (advertised (c .before .before)) (c .before .if5 .taken)
+returns-5 c = c .own .ensures ∙ sym (reaches-d (c .before .before) ∙ rw (eq-eqb _ _ (c .before .if5 .taken)))
 
 returns-6 : tie.Need-returns-6
-returns-6 c =
-    c .own2 .ensures
-    ∙ talker-here _ _ _ _ _ _ (c .before .before .before .before .before .before .before .before .before .before .before .before .before .before .before .before .before .pre .4) (c .before .before .before .before .before .before .before .before .before .before .if1 .left) (c .before .before .before .before .before .before .before .before .before .if2 .left)
-    (supported (c .before .before .before .before .before .before) true (not-false _ (c .before .before .before .before .before .if3 .left))) (advertised (c .before .before .before .before)) (c .before .before .before .if5 .left) (c .before .if6 .taken)
+returns-6 c = c .own2 .ensures ∙ sym (reaches-e (c .before .before .before) ∙ rw (talking _ (c .before .if6 .taken)))
 
 returns-7 : tie.Need-returns-7
-returns-7 c =
-    c .own3 .ensures
-    ∙ no-class _ _ _ _ _ _ (c .before .before .before .before .before .before .before .before .before .before .before .before .before .before .before .before .before .before .before .pre .4) (c .before .before .before .before .before .before .before .before .before .before .before .before .if1 .left) (c .before .before .before .before .before .before .before .before .before .before .before .if2 .left)
-    (supported (c .before .before .before .before .before .before .before .before) true (not-false _ (c .before .before .before .before .before .before .before .if3 .left))) (advertised (c .before .before .before .before .before .before)) (c .before .before .before .before .before .if5 .left) (c .before .before .before .if6 .left) (classless (c .before .before) true (c .before .if7 .taken))
+returns-7 c = c .own3 .ensures ∙ sym (reaches-f (c .before .before .before) ∙ rw (← class-read (c .before .before .before .before .before .before .before .before .before), ← (c .before .before .no-class .ensures), c .before .if7 .taken))
 
 returns-8 : tie.Need-returns-8
 returns-8 c =
     c .own4 .ensures
-    ∙ too-large _ _ _ _ _ _ (c .before .before .before .before .before .before .before .before .before .before .before .before .before .before .before .before .before .before .before .before .before .before .pre .4) (c .before .before .before .before .before .before .before .before .before .before .before .before .before .before .before .if1 .left) (c .before .before .before .before .before .before .before .before .before .before .before .before .before .before .if2 .left)
-    (supported (c .before .before .before .before .before .before .before .before .before .before .before) true (not-false _ (c .before .before .before .before .before .before .before .before .before .before .if3 .left))) (advertised (c .before .before .before .before .before .before .before .before .before)) (c .before .before .before .before .before .before .before .before .if5 .left) (c .before .before .before .before .before .before .if6 .left) (classless (c .before .before .before .before .before) false (c .before .before .before .before .if7 .left))
-    (rw (c .before .before .before .get3 .ensures .0, c .before .before .get4 .ensures .0) at (c .before .if8 .taken))
+    ∙ sym (reaches-g (c .before .before .before .before) ∙ rw (lt-ltb _ _ (rw (c .before .before .before .get3 .ensures .0, c .before .before .get4 .ensures .0) at (c .before .if8 .taken))))
 
 returns-9 : tie.Need-returns-9
 unfolding columnShown
-returns-9 c =
-    no-step _ _ _ _ _ _ (c .before .before .before .before .before .before .before .before .before .before .before .before .before .before .before .before .before .before .before .before .before .pre .4) (c .before .before .before .before .before .before .before .before .before .before .before .before .before .before .if1 .left) (c .before .before .before .before .before .before .before .before .before .before .before .before .before .if2 .left)
-    (supported (c .before .before .before .before .before .before .before .before .before .before) true (not-false _ (c .before .before .before .before .before .before .before .before .before .if3 .left))) (advertised (c .before .before .before .before .before .before .before .before)) (c .before .before .before .before .before .before .before .if5 .left) (c .before .before .before .before .before .if6 .left) (classless (c .before .before .before .before) false (c .before .before .before .if7 .left))
-    (rw (c .before .before .get3 .ensures .0, c .before .get4 .ensures .0) at (c .if8 .left))
+returns-9 c = sym (reaches-g (c .before .before .before) ∙ rw (le-ltb _ _ (rw (c .before .before .get3 .ensures .0, c .before .get4 .ensures .0) at (c .if8 .left))))
 
 pub first-step-spec : {M : Type 1} → statement M
 first-step-spec =

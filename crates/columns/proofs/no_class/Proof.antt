@@ -1,7 +1,7 @@
 -- `columns::no_class` meets its contract. Assumes nothing.
 use borrow.Author.Needs.{needs}
 use Rattle.model.specs.State.{isNoClass}
-use Rattle.columns.specs.Answers.{classShown}
+use Rattle.streams.specs.Answers.{classShown}
 use Rattle.columns.proofs.no_class.Statement.{statement}
 use Rattle.columns.proofs.no_class.Tie as tie
 

@@ -1,13 +1,12 @@
 -- `console::put_decimal` meets its contract. Assumes nothing.
 use borrow.Author.Needs.{needs}
-use Rattle.console.proofs.Laws.{number-put}
 use Rattle.console.proofs.put_decimal.Statement.{statement}
 use Rattle.console.proofs.put_decimal.Tie as tie
 
 returns : tie.Need-returns
 returns c =
     let made = c .before .before .before .before .before .decimal .ensures in
-    number-put _ _ _ _ _ _ _ _ _ (made .1 .0) (made .1 .1) (c .before .before .put .ensures)
+    record { count = c .before .before .before .before .before .decimal .result; fewest = made .1 .0; puts = rw (← (made .1 .1)) (c .before .before .put .ensures) }
 
 pub put-decimal-spec : {M : Type 1} → statement M
 put-decimal-spec =

@@ -4,24 +4,9 @@ use Rattle.console.specs.Words.{entryText}
 use Rattle.console.proofs.put_entry.Statement.{statement}
 use Rattle.console.proofs.put_entry.Tie as tie
 
-returns : tie.Need-returns
-unfolding entryText
-returns c =
-    rw (c .before .before .before .before .before .enum-told .given .1) (c .before .before .put .ensures)
-
-returns-2 : tie.Need-returns-2
-unfolding entryText
-returns-2 c =
-    rw (c .before .before .before .before .before .enum-told2 .given .1) (c .before .before .put2 .ensures)
-
-returns-3 : tie.Need-returns-3
-unfolding entryText
-returns-3 c =
-    rw (c .before .before .before .before .before .enum-told3 .given .1) (c .before .before .put3 .ensures)
-
 pub put-entry-spec : {M : Type 1} → statement M
 put-entry-spec =
     tie.close
     (tie.spec (λ c. search needs) (λ c. search needs) (λ c κs. search needs) (λ c. search needs) (λ c. search needs)
-    (λ c κs. search needs) (λ c. search needs) (λ c. search needs) (λ c κs. search needs) (λ c. search needs) returns
-    (λ c. search needs) returns-2 (λ c. search needs) returns-3)
+    (λ c κs. search needs) (λ c. search needs) (λ c. search needs) (λ c κs. search needs) (λ c. search needs) (λ c. unfold entryText in rw (c .before .before .before .before .before .enum-told .given .1) (c .before .before .put .ensures))
+    (λ c. search needs) (λ c. unfold entryText in rw (c .before .before .before .before .before .enum-told2 .given .1) (c .before .before .put2 .ensures)) (λ c. search needs) (λ c. unfold entryText in rw (c .before .before .before .before .before .enum-told3 .given .1) (c .before .before .put3 .ensures)))

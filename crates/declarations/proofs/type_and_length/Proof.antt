@@ -7,20 +7,9 @@ use Rattle.declarations.specs.Passes.{kind}
 use Rattle.declarations.proofs.type_and_length.Statement.{statement}
 use Rattle.declarations.proofs.type_and_length.Tie as tie
 
-returns : tie.Need-returns
-unfolding kind be firstLength typeNumber
-returns c = rw (c .enum-told .given .1)
-
-returns-2 : tie.Need-returns-2
-unfolding kind be firstLength typeNumber
-returns-2 c = rw (c .enum-told2 .given .1)
-
-returns-3 : tie.Need-returns-3
-unfolding kind be firstLength typeNumber
-returns-3 c = rw (c .enum-told3 .given .1)
-
 pub type-and-length-spec : {M : Type 1} → statement M
 type-and-length-spec =
     tie.close
     (tie.spec (λ c. search needs) (λ c. search needs) (λ c. search needs) (λ c. search needs) (λ c. search needs) (λ c. search needs)
-    (λ c. search needs) (λ c. search needs) returns returns-2 returns-3)
+    (λ c. search needs) (λ c. search needs) (λ c. unfold kind be firstLength typeNumber in rw (c .enum-told .given .1))
+    (λ c. unfold kind be firstLength typeNumber in rw (c .enum-told2 .given .1)) (λ c. unfold kind be firstLength typeNumber in rw (c .enum-told3 .given .1)))

@@ -12,15 +12,22 @@ use Rattle.declarations.proofs.write_pdu.Tie as tie
 pass-requires-2 : tie.Need-pass-requires-2
 pass-requires-2 c κs =
     let start = c .before .before .before .before .before .before .before in
-    (start .pre .0, start .pre .1, c .before .before .before .pass .ensures .2, omega arith, omega (arith, length-set (c .before .before .before .before .before .before .before .args .buffer .now) 0 0))
+    let first = c .before .before .before .pass .ensures in
+    record { port = start .pre .port; room = first .room; next = omega (arith, first .next); buffer = omega (arith, length-set (start .args .buffer .now) 0 0) }
 
 pass-requires-3 : tie.Need-pass-requires-3
 pass-requires-3 c κs =
     let start = c .before .before .before .before .before .before .before .before .before .before .before in
-    (start .pre .0, start .pre .1, c .before .before .before .pass2 .ensures .2, omega arith, omega (arith, length-set (c .before .before .before .before .before .before .before .before .before .before .before .args .buffer .now) 0 0))
+    let second = c .before .before .before .pass2 .ensures in
+    record {
+      port = start .pre .port;
+      room = second .room;
+      next = omega (arith, second .next, c .before .before .before .before .before .before .before .pass .ensures .next);
+      buffer = omega (arith, length-set (start .args .buffer .now) 0 0);
+    }
 
 put-requires : tie.Need-put-requires
-put-requires c κs = omega (arith, length-set (c .before .before .before .before .before .before .before .before .before .before .before .before .before .before .before .args .buffer .now) 0 0)
+put-requires c κs = omega (arith, length-set (c .before .before .before .before .before .before .before .before .before .before .before .before .before .before .before .args .buffer .now) 0 0, c .before .before .before .pass3 .ensures .room)
 
 same-length : tie.Need-same-length
 same-length c = omega (arith, length-set (c .before .before .before .before .before .before .before .before .before .before .before .before .before .before .before .before .before .before .args .buffer .now) 0 0)
@@ -28,14 +35,9 @@ same-length c = omega (arith, length-set (c .before .before .before .before .bef
 returns : tie.Need-returns
 unfolding kind begun
 returns c =
-    let start = c .before .before .before .before .before .before .before .before .before .before .before .before .before .before .before .before .before .before in
-    let a = start .args in
+    let a = c .before .before .before .before .before .before .before .before .before .before .before .before .before .before .before .before .before .before .args in
     let some : 1 ≤ length (a .buffer .now) = omega arith in
-    let first = c .before .before .before .before .before .before .before .before .before .before .before .before .before .before .pass .ensures in
-    let second = c .before .before .before .before .before .before .before .before .before .before .pass2 .ensures in
-    let third = c .before .before .before .before .before .before .pass3 .ensures in
-    pdu-answer (a .p) (a .place) (decode (a .table .now) .streams) (a .buffer .now) _ _ _ _ _ _ _ some (first .0) (first .1) (second .0) (second .1)
-    (third .0) (third .1) (c .before .before .put .ensures)
+    pdu-answer (a .p) (a .place) (decode (a .table .now) .streams) some (c .before .before .before .before .before .before .before .before .before .before .before .before .before .before .pass .ensures) (c .before .before .before .before .before .before .before .before .before .before .pass2 .ensures) (c .before .before .before .before .before .before .pass3 .ensures) (c .before .before .put .ensures)
 
 pub write-pdu-spec : {M : Type 1} → statement M
 write-pdu-spec =

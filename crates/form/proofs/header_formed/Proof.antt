@@ -6,6 +6,7 @@ use native.Mathlib.Omega.{arith}
 use lib.ListN.{take}
 use borrow.Author.Needs.{needs}
 use borrow.Author.Tests.{not-true, not-false}
+use Rattle.model.specs.Layout.{portsUnit, settingsSize}
 use Rattle.model.specs.Lists.{allTrue}
 use Rattle.model.specs.Table.{settingsRules}
 use Rattle.form.proofs.Tables.{header-fails, header-tests, few-ports}
@@ -15,10 +16,10 @@ use Rattle.form.proofs.header_formed.Tie as tie
 returns : tie.Need-returns
 returns c = header-fails _ (sym (c .before .settings-rules .ensures) ∙ not-true _ (c .if1 .taken))
 
-kept : (c : tie.Else1) → allTrue (settingsRules (take 187 (c .before .before .before .before .args .table .now))) ≡ true
+kept : (c : tie.Else1) → allTrue (settingsRules (take settingsSize (c .before .before .before .before .args .table .now))) ≡ true
 kept c = sym (c .before .settings-rules .ensures) ∙ not-false _ (c .if1 .left)
 
-few : (c : tie.After-get) → c .get .result / 1048576 ≤ 8
+few : (c : tie.After-get) → c .get .result / portsUnit ≤ 8
 few c = few-ports _ _ (c .get .ensures .0) (kept (c .before))
 
 zero-from-requires : tie.Need-zero-from-requires

@@ -2,18 +2,18 @@
 use mathlib.Core.Path.{sym, _∙_}
 use borrow.Author.Needs.{needs}
 use borrow.Author.Tests.{eq-eqb, ne-eqb, not-true, not-false}
-use Rattle.model.specs.Table.{tableLength, tableRules, formed}
+use Rattle.model.specs.Table.{tableRules, formed}
 use Rattle.form.proofs.Tests.{all-true-split}
 use Rattle.form.proofs.Tables.{header-ports}
 use Rattle.form.proofs.is_formed.Statement.{statement}
 use Rattle.form.proofs.is_formed.Tie as tie
 
 returns : tie.Need-returns
-unfolding formed tableLength
+unfolding formed
 returns c = rw (ne-eqb _ _ (c .if1 .taken))
 
 returns-2 : tie.Need-returns-2
-unfolding formed tableLength
+unfolding formed
 returns-2 c =
     rw (
       eq-eqb _ _ (c .before .before .if1 .left),
@@ -27,7 +27,7 @@ streams-formed-requires c κs =
     (c .before .before .if1 .left, header-ports _ (sym (c .before .header-formed .ensures) ∙ not-false _ (c .if2 .left)))
 
 returns-3 : tie.Need-returns-3
-unfolding formed tableLength
+unfolding formed
 returns-3 c =
     rw (
       eq-eqb _ _ (c .before .before .before .if1 .left),

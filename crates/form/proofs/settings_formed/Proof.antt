@@ -1,10 +1,10 @@
 -- `form::settings_formed` meets its contract. Assumes nothing.
 use mathlib.Core.Path.{_≡_}
-use Prim.Native.Nat.{_+_, _*_}
 use native.Mathlib.Omega.{arith}
 use lib.ListN.{length}
 use borrow.Author.Needs.{needs}
 use borrow.Author.Tests.{eq-eqb, ne-eqb}
+use Rattle.model.specs.Layout.{portPlace}
 use Rattle.model.specs.Table.{portsField, settingsFormed}
 use Rattle.form.proofs.settings_formed.Statement.{statement}
 use Rattle.form.proofs.settings_formed.Tie as tie
@@ -13,8 +13,8 @@ returns : tie.Need-returns
 unfolding settingsFormed
 returns c =
     let s = c .before .before .args .settings .now in
-    let n : length s ≡ 11 + 22 * portsField s → ⊥ = λ e. omega arith in
-    rw (ne-eqb (length s) (11 + 22 * portsField s) n)
+    let n : length s ≡ portPlace (portsField s) → ⊥ = λ e. omega arith in
+    rw (ne-eqb (length s) (portPlace (portsField s)) n)
 
 returns-2 : tie.Need-returns-2
 unfolding settingsFormed portsField

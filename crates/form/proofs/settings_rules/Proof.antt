@@ -1,10 +1,11 @@
 -- `form::settings_rules` meets its contract. Assumes nothing.
 use mathlib.Core.Path.{ap, _∙_}
-use Prim.Native.Nat.{_+_, _*_, _/_, _≤_}
+use Prim.Native.Nat.{_/_, _≤_}
 use native.Mathlib.Omega.{arith}
 use lib.ListN.{length, length-drop}
 use borrow.Author.Needs.{needs}
 use Rattle.octets.specs.Be.{beAt}
+use Rattle.model.specs.Layout.{portPlace, portSize, portsPlace, portsUnit, wordPlace}
 use Rattle.model.specs.Table.{everyPart, portsField, portRule}
 use Rattle.form.proofs.Tests.{all-together}
 use Rattle.form.proofs.EveryPart.{lent-rest}
@@ -19,12 +20,12 @@ ports-formed-requires : tie.Need-ports-formed-requires
 unfolding portsField
 ports-formed-requires c κs =
     let s = c .before .before .before .before .args .settings .now in
-    let h : 11 + 22 * (beAt 3 s 8 / 1048576) ≤ length s = c .before .before .before .before .pre .1 (omega arith) in
-    rw (lent-rest 11 s) (omega (arith, length-drop 11 s))
+    let h : portPlace (beAt 3 s wordPlace / portsUnit) ≤ length s = c .before .before .before .before .pre .1 (omega arith) in
+    rw (lent-rest portsPlace s) (omega (arith, length-drop portsPlace s))
 
 returns-2 : tie.Need-returns-2
 returns-2 c =
-    rw (c .ports-formed .ensures ∙ ap (everyPart 22 portRule _) (lent-rest 11 (c .before .before .before .before .before .args .settings .now)))
+    rw (c .ports-formed .ensures ∙ ap (everyPart portSize portRule _) (lent-rest portsPlace (c .before .before .before .before .before .args .settings .now)))
     (all-together _ _ ∙ settings-tests _ _ (c .before .before .before .get .ensures .0) (c .before .before .if1 .left))
 
 pub settings-rules-spec : {M : Type 1} → statement M

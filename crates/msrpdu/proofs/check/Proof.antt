@@ -5,7 +5,7 @@ use native.Mathlib.Omega.{arith}
 use borrow.Author.Needs.{needs}
 use lib.ListN.{length, getD, take, drop}
 use Rattle.model.specs.Frames.{typeOctet, both, messages, walk}
-use Rattle.msrpdu.specs.Reader.{messageRead, vectorRead, numberOf}
+use Rattle.msrpdu.specs.Reader.{messageRead, typedRead, numberOf}
 use Rattle.msrpdu.proofs.Walking.{vectorsIn, messages-refused, messages-end, messages-skipped, messages-list, ahead-skipped, ahead-list, list-length, walk-empty, walk-long, walk-in, number-refused, number-end, number-next}
 use Rattle.msrpdu.proofs.Reading.{within}
 use Rattle.msrpdu.specs.declared.MessageRead.the-variants.{Skipped, List}
@@ -44,8 +44,8 @@ a-list c = sym (c .before .before .before .message .ensures) ∙ c .before .m3 .
 a-vector : (c : tie.After-known-told5 Inv-loop μ-loop Inv-messages μ-messages) →
     let m = c .before .before .before .before .before .before .before .m3 .given .0 .0 in
     let pdu = c .before .before .before .before .before .before .before .before .before .before .before .before .before .before .before .args .pdu .now in
-    vectorRead (typeOctet 0 (m .kind)) (take (m .next - m .list) (drop (m .list) pdu)) (c .before .before .before .before .before .loop .place) ≡ Vector (c .before .v2 .given .0 .0)
-a-vector c = sym (c .before .before .before .vector .ensures) ∙ c .before .v2 .given .1
+    typedRead (typeOctet 0 (m .kind)) (take (m .next - m .list) (drop (m .list) pdu)) (c .before .before .before .before .before .loop .place) ≡ Vector (c .before .v2 .given .0 .0)
+a-vector c = sym (c .before .before .before .typed-vector .ensures) ∙ c .before .v2 .given .1
 
 ends : (c : tie.After-known-told5 Inv-loop μ-loop Inv-messages μ-messages) →
     let m = c .before .before .before .before .before .before .before .m3 .given .0 .0 in
@@ -125,7 +125,7 @@ messages-less-2 c = omega (arith, c .before .before .before .before .loop .inv .
 messages-again-2 : tie.Need-messages-again-2 Inv-loop μ-loop Inv-messages μ-messages
 messages-again-2 c =
     let i = c .before .before .before .before .loop .inv in
-    (i .1, i .5, i .7, sym (number-end _ _ _ _ _ (sym (c .before .before .vector .ensures) ∙ c .enum-told2 .given .1)) ∙ i .8)
+    (i .1, i .5, i .7, sym (number-end _ _ _ _ _ (sym (c .before .before .typed-vector .ensures) ∙ c .enum-told2 .given .1)) ∙ i .8)
 
 returns-3 : tie.Need-returns-3 Inv-loop μ-loop Inv-messages μ-messages
 unfolding numberOf
@@ -142,7 +142,7 @@ returns-4 c =
 
 returns-5 : tie.Need-returns-5 Inv-loop μ-loop Inv-messages μ-messages
 returns-5 c =
-    sym (number-refused _ _ _ _ _ _ (sym (c .before .before .before .vector .ensures) ∙ c .before .v .given .1)) ∙
+    sym (number-refused _ _ _ _ _ _ (sym (c .before .before .before .typed-vector .ensures) ∙ c .before .v .given .1)) ∙
     c .before .before .before .before .before .loop .inv .8
 
 pub check-spec : {M : Type 1} → statement M

@@ -2,8 +2,9 @@
 use mathlib.Core.Path.{sym}
 use native.Mathlib.Omega.{arith}
 use borrow.Author.Needs.{needs}
+use Rattle.model.proofs.FoundVectors.{id-split}
 use Rattle.msrpdu.specs.Reader.{streamIdIn}
-use Rattle.msrpdu.proofs.Laws.{value-short, value-past, value-read, id-split}
+use Rattle.msrpdu.proofs.Laws.{value-short, value-past, value-read}
 use Rattle.msrpdu.proofs.stream_id.Statement.{statement}
 use Rattle.msrpdu.proofs.stream_id.Tie as tie
 

@@ -11,29 +11,34 @@ use Rattle.registrar.proofs.begin_all.Tie as tie
 
 returns : tie.Need-returns
 returns c =
-    let a = c .before .before in
-    rw (not-true (a .args .applying) (c .if1 .taken)) (leaves-room (a .args .place) (attributeAt (a .args .kind)) (a .args .leaves) (a .args .table .now) (a .pre .0))
+    let a = c .before .before .before in
+    let w = a .args .walk in
+    rw (not-true (w .applying) (c .if1 .taken)) (leaves-room (w .place) (attributeAt (w .kind)) (a .args .leaves) (a .args .table .now) (a .pre .laid))
 
 returns-2 : tie.Need-returns-2
 returns-2 c =
-    let a = c .before .before .before in
-    rw (none-leaves (attributeAt (a .args .kind)) (a .args .leaves) (not-true _ (c .if2 .taken))) (walked-none (a .args .applying) (a .args .place) (a .args .table .now) (a .pre .0))
+    let a = c .before .before .before .before in
+    let w = a .args .walk in
+    rw (none-leaves (attributeAt (w .kind)) (a .args .leaves) (not-true _ (c .if2 .taken))) (walked-none (w .applying) (w .place) (a .args .table .now) (a .pre .laid))
 
 returns-3 : tie.Need-returns-3
 returns-3 c =
-    let a = c .before .before .before .before in
-    rw (domain-leaves (a .args .kind) (a .args .leaves) (c .if3 .taken)) (walked-none (a .args .applying) (a .args .place) (a .args .table .now) (a .pre .0))
+    let a = c .before .before .before .before .before .before in
+    let w = a .args .walk in
+    rw (domain-leaves (w .kind) (a .args .leaves) (c .if3 .taken)) (walked-none (w .applying) (w .place) (a .args .table .now) (a .pre .laid))
 
 leave-all-requires : tie.Need-leave-all-requires
 leave-all-requires c κs =
-    let p = c .before .before .before .before .before .pre in
-    (p .0, p .1, p .2, omega (arith, c .before .if3 .left))
+    let p = c .before .before .before .before .before .before .before .pre in
+    record { laid = p .laid; place = p .place; low = p .low; high = omega (arith, p .high, c .before .if3 .left) }
 
 returns-4 : tie.Need-returns-4
 returns-4 c =
-    let a = c .before .before .before .before .before .before .before .before in
-    let k : a .args .kind ≤ 3 = omega (arith, c .before .before .before .before .if3 .left) in
-    rw (all-leaves (a .args .kind) (a .args .leaves) (a .pre .2) k (not-false _ (c .before .before .before .before .before .if2 .left)), not-false (a .args .applying) (c .before .before .before .before .before .before .if1 .left)) (c .before .before .leave-all .ensures)
+    let a = c .before .before .before .before .before .before .before .before .before .before in
+    let w = a .args .walk in
+    let k : w .kind ≤ 3 = omega (arith, a .pre .high, c .before .before .before .before .if3 .left) in
+    rw (all-leaves (w .kind) (a .args .leaves) (a .pre .low) k (not-false _ (c .before .before .before .before .before .before .if2 .left)), not-false (w .applying) (c .before .before .before .before .before .before .before .if1 .left))
+    (c .before .before .leave-all .ensures)
 
 pub begin-all-spec : {M : Type 1} → statement M
 begin-all-spec =

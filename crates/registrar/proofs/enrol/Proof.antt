@@ -24,7 +24,7 @@ insert-requires : tie.Need-insert-requires
 insert-requires c κs =
     let n = c .before .before .count .ensures in
     let g = at-gap _ _ _ (sym (c .before .before .before .before .before .before .before .find .ensures) ∙ c .before .before .before .before .before .f2 .given .1) in
-    (c .before .before .before .before .before .before .before .before .before .before .pre, search needs, g .within)
+    record { laid = c .before .before .before .before .before .before .before .before .before .before .pre; few = search needs; within = g .within }
 
 returns-2 : tie.Need-returns-2
 returns-2 c =

@@ -30,7 +30,7 @@ abbrev μ-loop : tie.MeasureT-loop
 
 -- the vectors of the frame
 found-all : (a : tie.Start Inv-loop μ-loop) → Finds (walk (a .args .pdu .now))
-found-all a = finds (walk (a .args .pdu .now)) (a .pre .2)
+found-all a = finds (walk (a .args .pdu .now)) (a .pre .found)
 
 some-octets : (a : tie.Start Inv-loop μ-loop) → 1 ≤ length (a .args .pdu .now)
 some-octets a = accepted-length (a .args .pdu .now) (found-all a .all) (found-all a .is) .0
@@ -44,7 +44,7 @@ loop-holds c =
     let n = found-all a in (
       some-octets a,
       refl,
-      a .pre .0,
+      a .pre .laid,
       length (a .args .pdu .now),
       n .all,
       accepted-messages (a .args .pdu .now) (n .all) (n .is),
@@ -116,7 +116,11 @@ list-requires : tie.Need-list-requires Inv-loop μ-loop
 list-requires c κs =
     let d = c .before .before in
     let n = next d in
-    (d .before .before .before .before .loop .inv .2, d .before .before .before .before .before .before .before .before .pre .1, n .low, n .high, n .there)
+    let p = d .before .before .before .before .before .before .before .before .pre in
+    record {
+      walk = record { laid = d .before .before .before .before .loop .inv .2; place = p .place; low = n .low; high = n .high };
+      found = n .there;
+    }
 
 returns-3 : tie.Need-returns-3 Inv-loop μ-loop
 returns-3 c =

@@ -1,17 +1,14 @@
 -- `registrar::join` meets its contract. Assumes nothing.
-use Prim.Native.Nat.{ℕ, _+_, _-_, _*_, _<_}
+use Prim.Native.Nat.{ℕ, _<_}
 use mathlib.Core.Path.{_≡_}
 use mathlib.Core.List.{List}
-use native.Mathlib.Omega.{arith}
 use lib.ListN.{length}
 use borrow.Author.Needs.{needs}
 use Rattle.model.specs.Registrations.{Act}
 use Rattle.model.specs.Table.{decode}
 use Rattle.model.specs.Laid.{Laid}
 use Rattle.model.proofs.FoundVectors.{Fits}
-use Rattle.table.proofs.Header.{laid-length, laid-few}
 use Rattle.table.proofs.Places.{at-place}
-use Rattle.table.proofs.Records.{lent-record-laid}
 use Rattle.cells.specs.Acts.{kindAt}
 use Rattle.registrar.specs.Acts.{joinOf}
 use Rattle.registrar.specs.Enrols.{EnrolledAt}
@@ -21,17 +18,17 @@ use Rattle.registrar.proofs.join.Statement.{statement}
 use Rattle.registrar.proofs.join.Tie as tie
 
 enrol-requires : tie.Need-enrol-requires
-enrol-requires c κs = c .before .before .before .pre .0
+enrol-requires c κs = c .before .before .before .pre .walk .laid
 
 -- the act, by its stream and its values
-joins : (a : tie.Start) → Joins (a .args .id) (joinOf (kindAt (a .args .kind)) (a .args .first .now) (a .args .four) (a .args .n))
-joins a = join-joins (kindAt (a .args .kind)) (a .args .first .now) (a .args .four) (a .args .n) (a .args .id) (a .pre .4)
+joins : (a : tie.Start) → Joins (a .args .id) (joinOf (kindAt (a .args .walk .kind)) (a .args .first .now) (a .args .four) (a .args .n))
+joins a = join-joins (kindAt (a .args .walk .kind)) (a .args .first .now) (a .args .four) (a .args .n) (a .args .id) (a .pre .id)
 
 returns : tie.Need-returns
 returns c =
     let a = c .before .before .before .before .before .before .before .before in
     let n = rw (c .enum-told .given .1) at (c .before .before .before .before .enrol .ensures) in
-    join-stopped (a .args .place) (a .args .id) _ (joins a) (a .args .table .now) (a .pre .0) (a .args .applying) _ n
+    join-stopped (a .args .walk .place) (a .args .id) _ (joins a) (a .args .table .now) (a .pre .walk .laid) (a .args .walk .applying) _ n
 
 -- where there is a record
 module _ (c : tie.After-known-told) where
@@ -47,7 +44,7 @@ module _ (c : tie.After-known-told) where
   abbrev act : Act
   act =
       let a = c .before .before .before .before .before .before .before .before .before .args in
-      joinOf (kindAt (a .kind)) (a .first .now) (a .four) (a .n)
+      joinOf (kindAt (a .walk .kind)) (a .first .now) (a .four) (a .n)
 
   recorded : EnrolledAt (c .before .before .before .before .before .before .before .before .before .args .id) t k u
   recorded = rw (c .before .k .given .1) at (c .before .before .before .before .before .enrol .ensures)
@@ -56,54 +53,37 @@ module _ (c : tie.After-known-told) where
   fitting =
       let a = c .before .before .before .before .before .before .before .before .before .args in
       let p = c .before .before .before .before .before .before .before .before .before .pre in
-      join-fits (a .kind) (a .first .now) (a .n) (p .3) (p .2) (λ i. c .before .before .before .before .before .before .before .shared-slice-known .given i .fits) (a .four)
+      join-fits (a .walk .kind) (a .first .now) (a .n) (p .value) (p .registers) (λ i. c .before .before .before .before .before .before .before .shared-slice-known .given i .fits) (a .four)
 
   laid : Laid u
-  laid = let a = c .before .before .before .before .before .before .before .before .before in enrolled-laid (a .args .place) (a .args .id) act (joins a) t (a .pre .0) k u recorded fitting
+  laid = let a = c .before .before .before .before .before .before .before .before .before in enrolled-laid (a .args .walk .place) (a .args .id) act (joins a) t (a .pre .walk .laid) k u recorded fitting
 
   within : k < length (decode u .streams)
   within =
       let a = c .before .before .before .before .before .before .before .before .before in
-      at-place (a .args .id) k (decode u .streams) (enrolled-found (a .args .place) (a .args .id) act (joins a) t (a .pre .0) k u recorded fitting) .within
-
-  few : (k < 64) × (length u ≡ 31824)
-  few = (omega (arith, within, laid-few u laid), laid-length u laid)
-
-mul-a : tie.Need-mul-a
-mul-a c = let h = few (c .before) in search needs
-
-add-a : tie.Need-add-a
-add-a c = let h = few (c .before) in search needs
-
-add-join-cell : tie.Need-add-join-cell
-add-join-cell c = let h = few (c .before) in search needs
-
-part-join-cell-end : tie.Need-part-join-cell-end
-part-join-cell-end c = let h = few (c .before) in search needs
+      at-place (a .args .id) k (decode u .streams) (enrolled-found (a .args .walk .place) (a .args .id) act (joins a) t (a .pre .walk .laid) k u recorded fitting) .within
 
 join-cell-requires : tie.Need-join-cell-requires
 join-cell-requires c κs =
     let d = c .before .before in
     let p = d .before .before .before .before .before .before .before .before .before .pre in
-    (lent-record-laid (u d) (laid d) (k d) (272 + k d * 493) (within d) (omega arith), search needs, p .1, p .2, p .3, p .5)
+    record { stands = record { laid = laid d; held = within d; port = p .walk .place }; registers = p .registers; value = p .value; four = p .four }
 
 returns-2 : tie.Need-returns-2
 returns-2 c =
     let d = c .before .before .before .before .before in
     let a = d .before .before .before .before .before .before .before .before .before in
     rw (c .before .before .before .before .if1 .taken)
-    (join-applied (a .args .place) (a .args .id) (act d) (joins a) (t d) (a .pre .0) (k d) (u d) (recorded d) (fitting d) (272 + k d * 493) _ (omega arith)
-    (c .before .before .join-cell .ensures))
+    (join-applied (a .args .walk .place) (a .args .id) (act d) (joins a) (t d) (a .pre .walk .laid) (k d) (u d) (recorded d) (fitting d) _ (c .before .before .join-cell .ensures))
 
 returns-3 : tie.Need-returns-3
 returns-3 c =
     let d = c .before in
     let a = d .before .before .before .before .before .before .before .before .before in
-    rw (c .if1 .left) (join-room (a .args .place) (a .args .id) (act d) (joins a) (t d) (a .pre .0) (k d) (u d) (recorded d) (fitting d))
+    rw (c .if1 .left) (join-room (a .args .walk .place) (a .args .id) (act d) (joins a) (t d) (a .pre .walk .laid) (k d) (u d) (recorded d) (fitting d))
 
 pub join-spec : {M : Type 1} → statement M
 join-spec =
     tie.close
-    (tie.spec enrol-requires (λ c. search needs) (λ c. search needs) (λ c. search needs) returns mul-a add-a add-join-cell
-    (λ c. search needs) (λ c. search needs) part-join-cell-end join-cell-requires (λ c. search needs) returns-2
-    (λ c. search needs) returns-3)
+    (tie.spec enrol-requires (λ c. search needs) (λ c. search needs) (λ c. search needs) returns join-cell-requires
+    (λ c. search needs) returns-2 (λ c. search needs) returns-3)

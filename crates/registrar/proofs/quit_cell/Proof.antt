@@ -1,25 +1,24 @@
 -- `registrar::quit_cell` meets its contract. Assumes nothing.
-use Prim.Native.Nat.{_+_, _-_, _*_}
-use native.Mathlib.Omega.{arith}
 use borrow.Author.Needs.{needs}
-use Rattle.table.proofs.StreamParts.{lent-cell-laid, lent-cell-left}
+use Rattle.table.proofs.ByPlace.{lent-cell-at, left-cell-at}
 use Rattle.registrar.proofs.quit_cell.Statement.{statement}
 use Rattle.registrar.proofs.quit_cell.Tie as tie
 
+cell-in-requires : tie.Need-cell-in-requires
+cell-in-requires c κs = c .before .before .pre .stands
+
 quit-requires : tie.Need-quit-requires
 quit-requires c κs =
-    let a = c .before .before .args in
-    let p = c .before .before .pre in
-    (lent-cell-laid (a .rec .now) (p .0) (a .place) (21 + a .place * 39) (p .2) (omega arith), search needs, p .3, p .4)
+    let p = c .before .before .before .before .pre in
+    let r = lent-cell-at (p .stands) _ (c .before .cell-in .ensures .0) in
+    (r .laid, r .size, p .low, p .high)
 
 returns : tie.Need-returns
 returns c =
-    let a = c .before .before .before .before .before .args in
-    let p = c .before .before .before .before .before .pre in
-    lent-cell-left (a .rec .now) (p .0) (a .place) (21 + a .place * 39) (p .2) (omega arith) _ _ (c .before .before .quit .ensures)
+    let p = c .before .before .before .before .before .before .before .pre in
+    left-cell-at (p .stands) _ (c .before .before .before .before .cell-in .ensures .0) _ _ (c .before .before .quit .ensures)
 
 pub quit-cell-spec : {M : Type 1} → statement M
 quit-cell-spec =
     tie.close
-    (tie.spec (λ c. search needs) (λ c. search needs) (λ c. search needs) (λ c. search needs) (λ c. search needs)
-    (λ c. search needs) quit-requires (λ c. search needs) returns)
+    (tie.spec cell-in-requires (λ c. search needs) (λ c. search needs) (λ c. search needs) (λ c. search needs) quit-requires (λ c. search needs) returns)

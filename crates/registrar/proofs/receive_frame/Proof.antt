@@ -8,7 +8,7 @@ use Rattle.registrar.proofs.receive_frame.Statement.{statement}
 use Rattle.registrar.proofs.receive_frame.Tie as tie
 
 frame-requires : tie.Need-frame-requires
-frame-requires c κs = let p = c .before .before .before .pre in (p .0, p .1, p .2)
+frame-requires c κs = c .before .before .before .pre .0
 
 drop-unheld-requires : tie.Need-drop-unheld-requires
 drop-unheld-requires c κs = walked-laid (c .before .before .before .before .frame .ensures)
@@ -16,16 +16,18 @@ drop-unheld-requires c κs = walked-laid (c .before .before .before .before .fra
 returns : tie.Need-returns
 returns c =
     let a = c .before .before .before .before .before .before .before .before .before .before .before in
-    received-not (a .args .place) (a .args .pdu .now) (a .args .table .now) (a .pre .0) _ _ (a .pre .3)
+    received-not (a .args .place) (a .args .pdu .now) (a .args .table .now) (a .pre .0 .laid) _ _ (a .pre .1)
     (rw (not-true (c .before .before .before .before .before .before .before .frame .result) (c .before .before .before .before .if1 .taken)) at (c .before .before .before .before .before .before .before .frame .ensures)) (c .before .before .drop-unheld .ensures)
 
 frame-requires-2 : tie.Need-frame-requires-2
-frame-requires-2 c κs = let p = c .before .before .before .before .before .before .before .before .pre in (walked-laid (c .before .before .before .before .frame .ensures), p .1, p .2)
+frame-requires-2 c κs =
+    let p = c .before .before .before .before .before .before .before .before .pre .0 in
+    record { laid = walked-laid (c .before .before .before .before .frame .ensures); place = p .place; found = p .found }
 
 returns-2 : tie.Need-returns-2
 returns-2 c =
     let a = c .before .before .before .before .before .before .before .before .before .before .before in
-    received-all (a .args .place) (a .args .pdu .now) (a .args .table .now) (a .pre .0) _ _ _
+    received-all (a .args .place) (a .args .pdu .now) (a .args .table .now) (a .pre .0 .laid) _ _ _
     (rw (not-false (c .before .before .before .before .before .before .before .frame .result) (c .before .before .before .before .if1 .left)) at (c .before .before .before .before .before .before .before .frame .ensures)) (c .before .before .frame2 .ensures)
 
 pub receive-frame-spec : {M : Type 1} → statement M

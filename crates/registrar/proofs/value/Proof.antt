@@ -19,51 +19,57 @@ returns : tie.Need-returns
 returns c =
     let a = c .before .before .before .before .before .before .before .args in
     let p = c .before .before .before .before .before .before .before .pre in
-    rw (no-value-acts (a .kind) false 0 (a .first .now) (a .events .now) (a .fours .now) (a .n) (p .2) (sym (c .before .before .stream-id .ensures) ∙ c .enum-told .given .1))
-    (walked-none (a .applying) (a .place) (a .table .now) (p .0))
+    rw (no-value-acts (a .walk .kind) false 0 (a .first .now) (a .events .now) (a .fours .now) (a .n) (p .value) (sym (c .before .before .stream-id .ensures) ∙ c .enum-told .given .1))
+    (walked-none (a .walk .applying) (a .walk .place) (a .table .now) (p .walk .laid))
 
 -- a value that was read: it registers, and its acts are those asked for
 module _ (c : tie.After-ask) where
   abbrev id : ℕ
   id = c .before .before .id .given .0 .0
 
-  registers : c .before .before .before .before .before .before .before .before .before .args .kind ≤ 3
+  registers : c .before .before .before .before .before .before .before .before .before .args .walk .kind ≤ 3
   registers =
       let a = c .before .before .before .before .before .before .before .before .before .args in
-      value-registers (a .kind) (a .first .now) (a .n) id (c .before .before .before .before .before .before .before .before .before .pre .2) (sym (c .before .before .before .before .stream-id .ensures) ∙ c .before .before .id .given .1)
+      value-registers (a .walk .kind) (a .first .now) (a .n) id (c .before .before .before .before .before .before .before .before .before .pre .value) (sym (c .before .before .before .before .stream-id .ensures) ∙ c .before .before .id .given .1)
 
   id-is : id ≡ beAt 8 (c .before .before .before .before .before .before .before .before .before .args .first .now) 0 + c .before .before .before .before .before .before .before .before .before .args .n
   id-is =
       let a = c .before .before .before .before .before .before .before .before .before .args in
-      value-id-is (a .kind) (a .first .now) (a .n) id (c .before .before .before .before .before .before .before .before .before .pre .2) registers (sym (c .before .before .before .before .stream-id .ensures) ∙ c .before .before .id .given .1)
+      value-id-is (a .walk .kind) (a .first .now) (a .n) id (c .before .before .before .before .before .before .before .before .before .pre .value) registers (sym (c .before .before .before .before .stream-id .ensures) ∙ c .before .before .id .given .1)
 
   acts : (r : Asked) → c .ask .result ≡ r →
-      valueActs (vectorOf (c .before .before .before .before .before .before .before .before .before .args .kind) false 0 (c .before .before .before .before .before .before .before .before .before .args .first .now) (c .before .before .before .before .before .before .before .before .before .args .events .now) (c .before .before .before .before .before .before .before .before .before .args .fours .now)) (c .before .before .before .before .before .before .before .before .before .args .n)
-      ≡ actsAsked (kindAt (c .before .before .before .before .before .before .before .before .before .args .kind)) (c .before .before .before .before .before .before .before .before .before .args .first .now) (c .before .before .before .before .before .before .before .before .before .args .n) r
+      valueActs (vectorOf (c .before .before .before .before .before .before .before .before .before .args .walk .kind) false 0 (c .before .before .before .before .before .before .before .before .before .args .first .now) (c .before .before .before .before .before .before .before .before .before .args .events .now) (c .before .before .before .before .before .before .before .before .before .args .fours .now)) (c .before .before .before .before .before .before .before .before .before .args .n)
+      ≡ actsAsked (kindAt (c .before .before .before .before .before .before .before .before .before .args .walk .kind)) (c .before .before .before .before .before .before .before .before .before .args .first .now) (c .before .before .before .before .before .before .before .before .before .args .n) r
   acts r e =
       let a = c .before .before .before .before .before .before .before .before .before .args in
       let p = c .before .before .before .before .before .before .before .before .before .pre in
-      value-acts false 0 (a .first .now) (a .events .now) (a .fours .now) (a .n) (p .3) (a .kind) (p .2 .low) registers
-      ∙ ap (actsAsked (kindAt (a .kind)) (a .first .now) (a .n)) (sym (c .ask .ensures .0) ∙ e)
+      value-acts false 0 (a .first .now) (a .events .now) (a .fours .now) (a .n) (p .event) (a .walk .kind) (p .value .low) registers
+      ∙ ap (actsAsked (kindAt (a .walk .kind)) (a .first .now) (a .n)) (sym (c .ask .ensures .0) ∙ e)
 
 join-requires : tie.Need-join-requires
 join-requires c κs =
     let d = c .before .before .before .before in
     let p = d .before .before .before .before .before .before .before .before .before .pre in
-    (p .0, p .1, registers d, p .2, id-is d, rw (c .before .before .a .given .1) at (d .ask .ensures .1))
+    record {
+      walk = p .walk;
+      registers = registers d;
+      value = p .value;
+      id = id-is d;
+      four = rw (c .before .before .a .given .1) at (d .ask .ensures .1);
+    }
 
 withdraw-requires : tie.Need-withdraw-requires
 withdraw-requires c κs =
     let d = c .before .before .before .before in
     let p = d .before .before .before .before .before .before .before .before .before .pre in
-    (p .0, p .1, p .2 .low, registers d)
+    record { laid = p .walk .laid; place = p .walk .place; low = p .value .low; high = registers d }
 
 returns-2 : tie.Need-returns-2
 unfolding actsAsked
 returns-2 c =
     let d = c .before .before in
     let a = d .before .before .before .before .before .before .before .before .before in
-    rw (acts d Nothing (c .enum-told2 .given .1)) (walked-none (a .args .applying) (a .args .place) (a .args .table .now) (a .pre .0))
+    rw (acts d Nothing (c .enum-told2 .given .1)) (walked-none (a .args .walk .applying) (a .args .walk .place) (a .args .table .now) (a .pre .walk .laid))
 
 returns-3 : tie.Need-returns-3
 unfolding actsAsked
@@ -83,7 +89,7 @@ returns-5 c =
     let d = c .before .before .before in
     let a = d .before .before .before .before .before .before .before .before .before in
     rw (acts d Leave (c .before .enum-told3 .given .1), c .if1 .left, ← id-is d)
-    (left-room (a .args .place) (kindAt (a .args .kind)) (a .args .table .now) (a .pre .0) (id d) (search needs))
+    (left-room (a .args .walk .place) (kindAt (a .args .walk .kind)) (a .args .table .now) (a .pre .walk .laid) (id d) (search needs))
 
 pub value-spec : {M : Type 1} → statement M
 value-spec =

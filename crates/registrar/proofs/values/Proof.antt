@@ -17,31 +17,37 @@ use Rattle.registrar.proofs.values.Statement.{statement}
 use Rattle.registrar.proofs.values.Tie as tie
 
 abbrev Inv-loop : tie.InvT-loop
-Inv-loop table₀ place applying kind first events fours count n₀ table n =
+Inv-loop table₀ walk first events fours count n₀ table n =
     (n ≤ count) × (length table ≡ length table₀) × Laid table
-    × Leads applying place (valuesActs (vectorOf kind false 0 first events fours) 0 count) table₀
-    (valuesActs (vectorOf kind false 0 first events fours) n (count - n)) table
+    × Leads (walk .applying) (walk .place) (valuesActs (vectorOf (walk .kind) false 0 first events fours) 0 count) table₀
+    (valuesActs (vectorOf (walk .kind) false 0 first events fours) n (count - n)) table
 
 abbrev μ-loop : tie.MeasureT-loop
-μ-loop table₀ place applying kind first events fours count n₀ table n = count - n
+μ-loop table₀ walk first events fours count n₀ table n = count - n
 
 loop-holds : tie.Need-loop-holds Inv-loop μ-loop
 loop-holds c =
     let a = c .before .before .before .before in
-    (omega arith, refl, a .pre .0, rw sub-zero (leads-start (a .args .applying) (a .args .place) _ (a .args .table .now)))
+    (omega arith, refl, a .pre .walk .laid, rw sub-zero (leads-start (a .args .walk .applying) (a .args .walk .place) _ (a .args .table .now)))
 
 value-requires : tie.Need-value-requires Inv-loop μ-loop
 value-requires c κs =
     let l = c .before .before .loop in
     let p = c .before .before .before .before .before .before .before .pre in
-    (l .inv .2, p .1, p .3 (l .n) (c .before .loop-test .taken), omega arith)
+    let w = p .walk in
+    let e = p .events in
+    record {
+      walk = record { laid = l .inv .2; place = w .place; low = w .low; high = w .high };
+      event = omega arith;
+      value = p .values (l .n) (c .before .loop-test .taken);
+    }
 
 -- the acts left are those of value n, and those of the values after it
 module _ (c : tie.In-loop Inv-loop μ-loop) where
   abbrev vec : Vector
   vec =
       let a = c .before .before .before .before .before .before .args in
-      vectorOf (a .kind) false 0 (a .first .now) (a .events .now) (a .fours .now)
+      vectorOf (a .walk .kind) false 0 (a .first .now) (a .events .now) (a .fours .now)
 
   abbrev n : ℕ
   n = c .before .loop .n
@@ -56,21 +62,21 @@ returns : tie.Need-returns Inv-loop μ-loop
 returns c =
     let d = c .before .before .before .before .before in
     let a = d .before .before .before .before .before .before .args in
-    leads-stopped (a .applying) (a .place) _ _ _ _ (d .before .loop .inv .3) _ _ _ (next d) (rw (not-true (c .before .before .before .value .result) (c .if1 .taken)) at (c .before .before .before .value .ensures))
+    leads-stopped (a .walk .applying) (a .walk .place) _ _ _ _ (d .before .loop .inv .3) _ _ _ (next d) (rw (not-true (c .before .before .before .value .result) (c .if1 .taken)) at (c .before .before .before .value .ensures))
 
 loop-again : tie.Need-loop-again Inv-loop μ-loop
 loop-again c =
     let d = c .before .before .before .before .before in
     let a = d .before .before .before .before .before .before .args in
     let w = rw (not-false (c .before .before .before .value .result) (c .if1 .left)) at (c .before .before .before .value .ensures) in
-    (omega arith, search needs, walked-laid w, leads-on (a .applying) (a .place) _ _ _ _ (d .before .loop .inv .3) _ _ _ (next d) w)
+    (omega arith, search needs, walked-laid w, leads-on (a .walk .applying) (a .walk .place) _ _ _ _ (d .before .loop .inv .3) _ _ _ (next d) w)
 
 returns-2 : tie.Need-returns-2 Inv-loop μ-loop
 returns-2 c =
     let l = c .before .loop in
     let a = c .before .before .before .before .before .before .args in
     let e : l .n ≡ a .count = omega arith in
-    leads-end (a .applying) (a .place) _ _ _ _ (l .inv .3) (values-done _ (l .n) (a .count) e) (l .inv .2)
+    leads-end (a .walk .applying) (a .walk .place) _ _ _ _ (l .inv .3) (values-done _ (l .n) (a .count) e) (l .inv .2)
 
 pub values-spec : {M : Type 1} → statement M
 values-spec =

@@ -9,11 +9,11 @@ use Rattle.registrar.proofs.vector.Statement.{statement}
 use Rattle.registrar.proofs.vector.Tie as tie
 
 begin-all-requires : tie.Need-begin-all-requires
-begin-all-requires c κs = let p = c .before .before .before .before .pre in (p .0, p .1, p .2, p .3)
+begin-all-requires c κs = c .before .before .before .before .pre .walk
 
 -- the places of the vector are within its list
-places : (a : tie.Start) → Within (a .args .list .now) (a .args .at) (a .args .head)
-places a = within (typeOctet 0 (a .args .kind)) (a .args .list .now) (a .args .at) (a .args .head) (a .pre .4)
+places : (a : tie.Start) → Within (a .args .list .now) (a .pre .at) (a .args .head)
+places a = within (typeOctet 0 (a .args .walk .kind)) (a .args .list .now) (a .pre .at) (a .args .head) (a .pre .read)
 
 sub-values : tie.Need-sub-values
 sub-values c = let h = places (c .before .before .before .before .before .before .before .before) in search needs
@@ -37,16 +37,20 @@ values-requires : tie.Need-values-requires
 values-requires c κs =
     let a = c .before .before .before .before .before .before .before .before .before .before in
     let p = a .pre in
-    let e = enough-events (a .args .kind) (a .args .list .now) (a .args .at) (a .args .head) (p .2) (p .3) (p .4) in
-    let h = has-values (a .args .kind) (a .args .list .now) (a .args .at) (a .args .head) (p .2) (p .3) (p .4) in
-    (walked-laid (c .before .before .before .before .before .begin-all .ensures), p .1, e, rw (c .before .before .before .before .before .before .before .first-value .ensures) h)
+    let w = p .walk in
+    record {
+      walk = record { laid = walked-laid (c .before .before .before .before .before .begin-all .ensures); place = w .place; low = w .low; high = w .high };
+      events = enough-events (a .args .walk .kind) (a .args .list .now) (p .at) (a .args .head) (w .low) (w .high) (p .read);
+      values =
+          rw (c .before .before .before .before .before .before .before .first-value .ensures)
+          (has-values (a .args .walk .kind) (a .args .list .now) (p .at) (a .args .head) (w .low) (w .high) (p .read));
+    }
 
 returns : tie.Need-returns
 returns c =
     let a = c .before .before .before .before .before .before .before .before .before .before .before .before .before in
-    let p = a .pre in
-    rw (vector-acts (a .args .kind) (a .args .list .now) (a .args .at) (a .args .head) (p .2) (p .3) (p .4))
-    (walked-on (a .args .applying) (a .args .place) _ _ (a .args .table .now) _ (c .before .before .before .before .before .before .before .before .begin-all .ensures)
+    rw (vector-acts (a .args .walk .kind) (a .args .list .now) (a .args .head))
+    (walked-on (a .args .walk .applying) (a .args .walk .place) _ _ (a .args .table .now) _ (c .before .before .before .before .before .before .before .before .begin-all .ensures)
     (rw (c .before .before .before .before .before .before .before .before .before .before .first-value .ensures) at (c .before .before .values .ensures)))
 
 pub vector-spec : {M : Type 1} → statement M

@@ -1,11 +1,7 @@
 -- `settling::remove` meets its contract. Assumes nothing.
-use Prim.Native.Nat.{_-_, _^_, _<_}
-use mathlib.Core.Path.{ap, _∙_}
-use native.Mathlib.Omega.{arith}
+use Prim.Native.Nat.{_^_, _<_}
 use borrow.Author.Needs.{needs}
-use Rattle.octets.specs.Parts.{patch, zeros}
-use Rattle.table.proofs.Header.{laid-length}
-use Rattle.settling.proofs.Removal.{expired-laid, removed-octets}
+use Rattle.settling.proofs.Removal.{expired-laid, dropped-laid, clocked-laid, removed-octets}
 use Rattle.settling.proofs.remove.Statement.{statement}
 use Rattle.settling.proofs.remove.Tie as tie
 
@@ -15,25 +11,26 @@ drop-unheld-requires c κs =
     let small : first .args .time < 2 ^ 32 = search needs in
     expired-laid _ (first .pre) (first .args .time) small _ (c .before .before .before .expire-all .ensures)
 
-put-requires : tie.Need-put-requires
-put-requires c κs =
-    let size = laid-length _ (c .before .before .before .before .before .before .before .before .before .before .pre) in
-    omega arith
+set-clock-requires : tie.Need-set-clock-requires
+set-clock-requires c κs =
+    let first = c .before .before .before .before .before .before .before .before .before .before in
+    let small : first .args .time < 2 ^ 32 = search needs in
+    dropped-laid _ (first .pre) (first .args .time) small _ (c .before .before .before .before .before .before .before .expire-all .ensures) _ (c .before .before .before .drop-unheld .ensures)
 
-clear-requires : tie.Need-clear-requires
-clear-requires c κs =
-    let size = laid-length _ (c .before .before .before .before .before .before .before .before .before .before .before .before .before .before .pre) in
-    omega arith
+clear-totals-requires : tie.Need-clear-totals-requires
+clear-totals-requires c κs =
+    let first = c .before .before .before .before .before .before .before .before .before .before .before .before .before .before in
+    let small : first .args .time < 2 ^ 32 = search needs in
+    clocked-laid _ (first .pre) (first .args .time) small _ (c .before .before .before .before .before .before .before .before .before .before .before .expire-all .ensures) _ (c .before .before .before .before .before .before .before .drop-unheld .ensures) _ (c .before .before .before .set-clock .ensures)
 
 returns : tie.Need-returns
 returns c =
     let first = c .before .before .before .before .before .before .before .before .before .before .before .before .before .before .before .before .before in
     let small : first .args .time < 2 ^ 32 = search needs in
-    c .before .before .clear .ensures
-    ∙ ap (patch 192 80 (zeros 80)) (c .before .before .before .before .before .before .put .ensures)
-    ∙ removed-octets _ (first .pre) (first .args .time) small _ (c .before .before .before .before .before .before .before .before .before .before .before .before .before .before .expire-all .ensures) _ (c .before .before .before .before .before .before .before .before .before .before .drop-unheld .ensures)
+    removed-octets _ (first .pre) (first .args .time) small _ (c .before .before .before .before .before .before .before .before .before .before .before .before .before .before .expire-all .ensures) _ (c .before .before .before .before .before .before .before .before .before .before .drop-unheld .ensures) _ (c .before .before .before .before .before .before .set-clock .ensures) _
+    (c .before .before .clear-totals .ensures)
 
 pub remove-spec : {M : Type 1} → statement M
 remove-spec =
     tie.close
-    (tie.spec (λ c κs. search needs) drop-unheld-requires put-requires (λ c. search needs) clear-requires (λ c. search needs) returns)
+    (tie.spec (λ c κs. search needs) drop-unheld-requires set-clock-requires clear-totals-requires (λ c. search needs) returns)

@@ -7,6 +7,7 @@ use native.Mathlib.Omega.{arith}
 use lib.ListN.{length, getD}
 use Rattle.octets.specs.Be.{be}
 use Rattle.octets.specs.Parts.{patch}
+use Rattle.model.specs.Layout.{countPlace, tableLength}
 use Rattle.model.specs.State.{fresh}
 use Rattle.model.specs.Settling.{held}
 use Rattle.model.specs.Table.{decode}
@@ -26,7 +27,7 @@ use Rattle.table.proofs.keep_record.Reads as keep-record-reads
 
 abbrev Inv-loop : tie.InvT-loop
 Inv-loop table₀ n j₀ i₀ table j i =
-    (length table ≡ 31824) × (n ≤ 64) × (n ≡ length (decode table₀ .streams)) × Closing (decode table₀) table i j
+    (length table ≡ tableLength) × (n ≤ 64) × (n ≡ length (decode table₀ .streams)) × Closing (decode table₀) table i j
 
 abbrev μ-loop : tie.MeasureT-loop
 μ-loop table₀ n j₀ i₀ table j i = n - i
@@ -72,7 +73,7 @@ returns c =
     let f = laid-fits _ (c .before .before .before .before .before .before .before .before .before .before .before .before .before .pre) in
     let n = c .before .before .before .before .before .before .before .before .before .before .count .result in
     c .before .before .put .ensures
-    ∙ ap (patch 191 1 (be 1 (l .j))) (c .before .before .before .before .before .before .clear .ensures)
+    ∙ ap (patch countPlace 1 (be 1 (l .j))) (c .before .before .before .before .before .before .clear .ensures)
     ∙ closing-end _ f (l .table) (l .i) (l .j) (l .inv .3) n (l .inv .2) (omega arith)
 
 pub drop-unheld-spec : {M : Type 1} → statement M

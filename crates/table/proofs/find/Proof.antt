@@ -1,9 +1,10 @@
 -- `table::find` meets its contract. The invariant: all before low are lower than id, and all from high on are higher. Assumes
 -- nothing.
-use Prim.Native.Nat.{_+_, _-_, _*_, _/_, _≤_, _<_}
-use mathlib.Core.Path.{_≡_, sym, _∙_}
+use Prim.Native.Nat.{_+_, _-_, _/_, _≤_, _<_}
+use mathlib.Core.Path.{_≡_, refl, sym, _∙_}
 use native.Mathlib.Omega.{arith}
 use lib.ListN.{length, getD}
+use Rattle.model.specs.Layout.{recordPlace, tableLength}
 use Rattle.model.specs.Registrations.{ids}
 use Rattle.model.specs.Table.{decode}
 use Rattle.model.proofs.Fits.{laid-fits}
@@ -18,7 +19,7 @@ use Rattle.table.proofs.count.Reads as count-reads
 
 abbrev Inv-loop : tie.InvT-loop
 Inv-loop table id low₀ high₀ low high =
-    (length table ≡ 31824) × (length (ids (decode table .streams)) ≤ 64) × Between id (ids (decode table .streams)) low high
+    (length table ≡ tableLength) × (length (ids (decode table .streams)) ≤ 64) × Between id (ids (decode table .streams)) low high
 
 abbrev μ-loop : tie.MeasureT-loop
 μ-loop table id low₀ high₀ low high = high - low
@@ -37,7 +38,7 @@ read c =
     let t = c .before .before .before .before .before .args .table .now in
     let m = l .low + (l .high - l .low) / 2 in
     let h : m < length (decode t .streams) = omega (arith, length-ids (decode t .streams)) in
-    c .get .ensures .0 ∙ record-id t (c .before .before .before .before .before .pre) m (272 + m * 493) h (omega arith)
+    c .get .ensures .0 ∙ record-id t (c .before .before .before .before .before .pre) m (recordPlace m) h refl
 
 returns : tie.Need-returns Inv-loop μ-loop
 returns c =

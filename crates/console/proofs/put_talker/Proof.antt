@@ -1,0 +1,17 @@
+-- `console::put_talker` meets its contract. Assumes nothing.
+use borrow.Author.Needs.{needs}
+use Rattle.console.specs.Words.{talkerText}
+use Rattle.console.proofs.Laws.{put-append}
+use Rattle.console.proofs.put_talker.Statement.{statement}
+use Rattle.console.proofs.put_talker.Tie as tie
+
+returns : tie.Need-returns
+unfolding talkerText
+returns c =
+    let code = c .before .before .put-number .ensures in
+    record { count = code .count; fewest = code .fewest; puts = put-append (put-append (c .before .before .before .before .before .before .before .before .before .before .before .put .ensures) (c .before .before .before .before .before .before .before .put-column .ensures)) (code .puts) }
+
+pub put-talker-spec : {M : Type 1} → statement M
+put-talker-spec =
+    tie.close
+    (tie.spec (λ c. search needs) (λ c κs. search needs) (λ c κs. search needs) (λ c. search needs) (λ c κs. search needs) (λ c. search needs) returns)

@@ -1,0 +1,82 @@
+-- `declarations::take_run` meets its contract. Assumes nothing.
+use Prim.Native.Nat.{ℕ, _+_, _*_, _≤_, _<_}
+use mathlib.Core.Path.{ap, _∙_}
+use mathlib.Core.List.{List}
+use native.Mathlib.Omega.{arith}
+use borrow.Author.Needs.{needs}
+use lib.ListN.{length}
+use Rattle.octets.specs.Parts.{patch}
+use Rattle.octets.proofs.Parts.{lent-part, length-part}
+use Rattle.octets.proofs.Patches.{lent-patch}
+use Rattle.model.specs.FrameLayout.{longestPdu}
+use Rattle.model.specs.Table.{decode}
+use Rattle.model.proofs.WritingPasses.{ofKind-kind}
+use Rattle.declarations.specs.Passes.{kind, found, fits}
+use Rattle.declarations.proofs.Fitting.{fits-within, fits-room, pass-closes, pass-takes-some}
+use Rattle.declarations.proofs.take_run.Statement.{statement}
+use Rattle.declarations.proofs.take_run.Tie as tie
+
+returns : tie.Need-returns
+returns c =
+    let start = c .before .before .before .before .before in
+    let a = start .args in
+    let pre = start .pre in
+    let k = kind (a .attribute) in
+    let made =
+    pass-closes k (found (a .attribute) (a .p) (a .table .now)) (a .from) (a .buffer .now) (ofKind-kind k (a .p) (decode (a .table .now) .streams)) (pre .unfilled)
+    _ _ (a .left) (c .before .before .vector-size .ensures .0) (pre .left-is) (c .before .fits2 .ensures) (pre .any) (c .if1 .taken) in
+    record { progress = made .0; buffer = made .1; room = pre .pass .room; next = omega arith }
+
+-- where some fit, the Message does
+room : (c : tie.Else1) → c .before .before .before .before .before .args .from .at + 8 + c .before .fits2 .result * c .before .before .vector-size .result ≤ longestPdu
+room c =
+    let a = c .before .before .before .before .before .args in
+    let size = c .before .before .vector-size .result in
+    let e = c .before .fits2 .ensures in
+    let some : 0 < fits (a .from .at + 8) size (a .left) = omega (arith, e) in
+    rw (← e) at (fits-room (a .from .at + 8) size (a .left) some)
+
+few : (c : tie.Else1) → c .before .fits2 .result ≤ c .before .before .before .before .before .args .left
+few c =
+    let a = c .before .before .before .before .before .args in
+    rw (← (c .before .fits2 .ensures)) at (fits-within (a .from .at + 8) (c .before .before .vector-size .result) (a .left))
+
+write-message-requires : tie.Need-write-message-requires
+write-message-requires c κs =
+    let start = c .before .before .before .before .before .before in
+    let b = start .args .buffer .now in
+    let at = start .args .from .at in
+    let n = c .before .before .fits2 .result in
+    let size = c .before .before .before .vector-size in
+    let long : ℕ = 6 + n * size .result in
+    let fits-in : at + long ≤ length b = omega (arith, room (c .before), start .pre .pass .buffer) in
+    let e = ap (λ (m : ℕ). n * m) (size .ensures .0) in (
+      record { port = start .pre .pass .port; any = omega arith; enough = omega (arith, few (c .before), start .pre .left-is) },
+      ap length (lent-part at long b) ∙ length-part at long b fits-in ∙ omega (arith, e),
+    )
+
+returns-2 : tie.Need-returns-2
+returns-2 c =
+    let start = c .before .before .before .before .before .before .before .before .before in
+    let a = start .args in
+    let pre = start .pre in
+    let k = kind (a .attribute) in
+    let b = a .buffer .now in
+    let long : ℕ = 6 + c .before .before .before .before .before .fits2 .result * c .before .before .before .before .before .before .vector-size .result in
+    let made =
+    pass-takes-some k (found (a .attribute) (a .p) (a .table .now)) (a .from) b (ofKind-kind k (a .p) (decode (a .table .now) .streams)) (pre .unfilled) _ _
+    (a .left) (c .before .before .before .before .before .before .vector-size .ensures .0) (pre .left-is) (c .before .before .before .before .before .fits2 .ensures) (c .before .before .before .before .if1 .left) in
+    let y = c .before .before .write-message .last .1 .1 .1 .0 in
+    record {
+      progress = made .0;
+      buffer = lent-patch (a .from .at) long y b ∙ ap (λ (z : List ℕ). patch (a .from .at) long z b) (c .before .before .write-message .ensures) ∙ made .1;
+      room = omega (arith, room (c .before .before .before .before));
+      next = omega (arith, few (c .before .before .before .before), pre .few);
+    }
+
+pub take-run-spec : {M : Type 1} → statement M
+take-run-spec =
+    tie.close
+    (tie.spec (λ c κs. search needs) (λ c. search needs) (λ c κs. search needs) returns (λ c. omega (arith, room c)) (λ c. omega (arith, room c))
+    (λ c. omega (arith, room c)) (λ c. search needs) (λ c. search needs) (λ c. omega (arith, room c, c .before .before .before .before .before .pre .pass .buffer)) write-message-requires
+    (λ c. omega (arith, room (c .before .before .before .before))) (λ c. omega (arith, few (c .before .before .before .before), c .before .before .before .before .before .before .before .before .before .pre .few, c .before .before .before .before .before .before .before .before .before .pre .pass .next)) (λ c. search needs) returns-2)

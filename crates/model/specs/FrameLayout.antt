@@ -1,0 +1,64 @@
+-- The layout of an MSRPDU (01, "The PDU"; Tables 35-1, 35-2): the widths of FirstValues' fields, and every length and place
+-- computed from them.
+use Prim.Native.Nat.{ℕ, _+_}
+use mathlib.Core.List.{List, [], _∷_}
+use Rattle.model.specs.Layout.{sum, before}
+
+-- Talker: StreamID, destination, VLAN, MaxFrameSize, MaxIntervalFrames, priority and rank, AccumulatedLatency, and more behind it
+abbrev pub talkerWidths : List ℕ → List ℕ
+talkerWidths more = 8 ∷ 6 ∷ 2 ∷ 2 ∷ 2 ∷ 1 ∷ 4 ∷ more
+
+abbrev pub advertiseWidths : List ℕ
+advertiseWidths = talkerWidths []
+
+-- Failed adds Bridge ID and code
+abbrev pub failedWidths : List ℕ
+failedWidths = talkerWidths (8 ∷ 1 ∷ [])
+
+-- StreamID
+abbrev pub listenerWidths : List ℕ
+listenerWidths = 8 ∷ []
+
+-- class ID, priority, VLAN
+abbrev pub domainWidths : List ℕ
+domainWidths = 1 ∷ 1 ∷ 2 ∷ []
+
+-- 25, 34, 8 and 4 octets
+abbrev pub advertiseLength : ℕ
+advertiseLength = sum advertiseWidths
+
+abbrev pub failedLength : ℕ
+failedLength = sum failedWidths
+
+abbrev pub listenerLength : ℕ
+listenerLength = sum listenerWidths
+
+abbrev pub domainLength : ℕ
+domainLength = sum domainWidths
+
+-- Places in a FirstValue: the Unique ID behind the MAC of a StreamID, then a Talker's fields.
+
+abbrev pub firstUnique : ℕ
+firstUnique = 6
+
+abbrev pub firstDestination : ℕ
+firstDestination = before 1 advertiseWidths
+
+abbrev pub firstVlan : ℕ
+firstVlan = before 2 advertiseWidths
+
+abbrev pub firstPriority : ℕ
+firstPriority = before 5 advertiseWidths
+
+abbrev pub firstLatency : ℕ
+firstLatency = before 6 advertiseWidths
+
+abbrev pub firstBridge : ℕ
+firstBridge = before 7 failedWidths
+
+abbrev pub firstCode : ℕ
+firstCode = before 8 failedWidths
+
+-- the octets of the longest PDU
+abbrev pub longestPdu : ℕ
+longestPdu = 1500

@@ -1,0 +1,343 @@
+-- The layout of the lent table (docs/TABLE.md): the widths of its fields, and every size and place, computed from them. Numbers of
+-- the layout stand here and in crate table's constants, and nowhere else.
+use Prim.Native.Nat.{ℕ, zero, suc, _+_, _-_, _*_}
+use mathlib.Core.List.{List, [], _∷_}
+
+-- the octets of fields, and of those before the field with an index
+abbrev pub sum : List ℕ → ℕ
+sum [] = 0
+sum (w ∷ ws) = w + sum ws
+
+abbrev pub before : ℕ → List ℕ → ℕ
+before zero ws = 0
+before (suc i) [] = 0
+before (suc i) (w ∷ ws) = w + before i ws
+
+-- Widths of fields, in octets.
+
+-- settings: Bridge ID; one word of ports 4 bits, class priorities 3 and 3, leave time 14
+abbrev pub headWidths : List ℕ
+headWidths = 8 ∷ 3 ∷ []
+
+-- a port's settings: flags (supports A, supports B, sends twice, five zeros), overhead, largest frame, limits, latencies
+abbrev pub portWidths : List ℕ
+portWidths = 1 ∷ 1 ∷ 2 ∷ 5 ∷ 5 ∷ 4 ∷ 4 ∷ []
+
+-- clock, streams held
+abbrev pub clockWidths : List ℕ
+clockWidths = 4 ∷ 1 ∷ []
+
+-- a port's totals of class A and class B
+abbrev pub totalsWidths : List ℕ
+totalsWidths = 5 ∷ 5 ∷ []
+
+-- a Talker's fixed values: destination, VLAN, MaxFrameSize, MaxIntervalFrames, priority and rank
+abbrev pub fixedWidths : List ℕ
+fixedWidths = 6 ∷ 2 ∷ 2 ∷ 2 ∷ 1 ∷ []
+
+-- a stream's StreamID and settled values
+abbrev pub nameWidths : List ℕ
+nameWidths = 8 ∷ fixedWidths
+
+-- leaving, since
+abbrev pub leavingWidths : List ℕ
+leavingWidths = 1 ∷ 4 ∷ []
+
+-- Bridge ID and code of a failure
+abbrev pub failureWidths : List ℕ
+failureWidths = 8 ∷ 1 ∷ []
+
+-- what varies in a Talker, behind its fixed values: latency and failure
+abbrev pub varyingWidths : List ℕ
+varyingWidths = 4 ∷ failureWidths
+
+-- a cell. Talker: kind (0 none, 1 Advertise, 2 Failed), changed mark, leaving, since, fixed values, latency, Bridge ID, code.
+-- Listener: kind (0 none, 1 Asking Failed, 2 Ready, 3 Ready Failed), leaving, since
+abbrev pub cellWidths : List ℕ
+cellWidths = 1 ∷ 1 ∷ 1 ∷ 4 ∷ 6 ∷ 2 ∷ 2 ∷ 2 ∷ 1 ∷ 4 ∷ 8 ∷ 1 ∷ 1 ∷ 1 ∷ 4 ∷ []
+
+-- a result: column (0 none, 1 Advertise, 2 Failed), latency out, Bridge ID, code, entry (0 none, 1 filter, 2 forward), the second
+-- that its age counts from, Listener declared
+abbrev pub resultWidths : List ℕ
+resultWidths = 1 ∷ 4 ∷ 8 ∷ 1 ∷ 1 ∷ 4 ∷ 1 ∷ []
+
+-- Sizes.
+
+abbrev pub headSize : ℕ
+headSize = sum headWidths
+
+abbrev pub portSize : ℕ
+portSize = sum portWidths
+
+abbrev pub settingsSize : ℕ
+settingsSize = headSize + 8 * portSize
+
+abbrev pub clockSize : ℕ
+clockSize = sum clockWidths
+
+abbrev pub totalSize : ℕ
+totalSize = sum totalsWidths
+
+abbrev pub totalsSize : ℕ
+totalsSize = 8 * totalSize
+
+abbrev pub fixedSize : ℕ
+fixedSize = sum fixedWidths
+
+abbrev pub nameSize : ℕ
+nameSize = sum nameWidths
+
+abbrev pub cellSize : ℕ
+cellSize = sum cellWidths
+
+abbrev pub leavingSize : ℕ
+leavingSize = sum leavingWidths
+
+abbrev pub failureSize : ℕ
+failureSize = sum failureWidths
+
+abbrev pub cellsSize : ℕ
+cellsSize = 8 * cellSize
+
+abbrev pub resultSize : ℕ
+resultSize = sum resultWidths
+
+abbrev pub resultsSize : ℕ
+resultsSize = 8 * resultSize
+
+abbrev pub recordSize : ℕ
+recordSize = nameSize + cellsSize + resultsSize
+
+abbrev pub recordsSize : ℕ
+recordsSize = 64 * recordSize
+
+-- Places in the table.
+
+-- the word of ports, class priorities and leave time; the settings of the ports
+abbrev pub wordPlace : ℕ
+wordPlace = before 1 headWidths
+
+abbrev pub portsPlace : ℕ
+portsPlace = headSize
+
+abbrev pub clockPlace : ℕ
+clockPlace = settingsSize
+
+abbrev pub countPlace : ℕ
+countPlace = clockPlace + before 1 clockWidths
+
+abbrev pub totalsPlace : ℕ
+totalsPlace = clockPlace + clockSize
+
+abbrev pub recordsPlace : ℕ
+recordsPlace = totalsPlace + totalsSize
+
+abbrev pub tableLength : ℕ
+tableLength = recordsPlace + recordsSize
+
+-- the settings and the totals of the port at place p, the record of stream k
+abbrev pub portPlace : ℕ → ℕ
+portPlace p = portsPlace + p * portSize
+
+abbrev pub totalPlace : ℕ → ℕ
+totalPlace p = totalsPlace + p * totalSize
+
+abbrev pub recordPlace : ℕ → ℕ
+recordPlace k = recordsPlace + k * recordSize
+
+-- Places in a record: the settled values, the cells and the results.
+
+abbrev pub settledPlace : ℕ
+settledPlace = before 1 nameWidths
+
+abbrev pub settledPriorityPlace : ℕ
+settledPriorityPlace = before 5 nameWidths
+
+abbrev pub cellsPlace : ℕ
+cellsPlace = nameSize
+
+abbrev pub resultsPlace : ℕ
+resultsPlace = cellsPlace + cellsSize
+
+abbrev pub cellIn : ℕ → ℕ
+cellIn p = cellsPlace + p * cellSize
+
+abbrev pub resultIn : ℕ → ℕ
+resultIn p = resultsPlace + p * resultSize
+
+-- Places in the table of stream k's settled values, and of its cell and its result on the port at place p.
+
+abbrev pub settledOf : ℕ → ℕ
+settledOf k = recordPlace k + settledPlace
+
+abbrev pub cellPlace : ℕ → ℕ → ℕ
+cellPlace k p = recordPlace k + cellIn p
+
+abbrev pub resultPlace : ℕ → ℕ → ℕ
+resultPlace k p = recordPlace k + resultIn p
+
+-- Places in a port's settings and totals.
+
+abbrev pub overheadPlace : ℕ
+overheadPlace = before 1 portWidths
+
+abbrev pub largestPlace : ℕ
+largestPlace = before 2 portWidths
+
+abbrev pub limitAPlace : ℕ
+limitAPlace = before 3 portWidths
+
+abbrev pub limitBPlace : ℕ
+limitBPlace = before 4 portWidths
+
+abbrev pub latencyAPlace : ℕ
+latencyAPlace = before 5 portWidths
+
+abbrev pub latencyBPlace : ℕ
+latencyBPlace = before 6 portWidths
+
+abbrev pub totalBPlace : ℕ
+totalBPlace = before 1 totalsWidths
+
+-- Fields of a cell by their index among its numbers, and their places.
+
+abbrev pub talkerField : ℕ
+talkerField = 0
+
+abbrev pub changedField : ℕ
+changedField = 1
+
+abbrev pub talkerLeavesField : ℕ
+talkerLeavesField = 2
+
+abbrev pub talkerSinceField : ℕ
+talkerSinceField = 3
+
+abbrev pub fixedField : ℕ
+fixedField = 4
+
+abbrev pub vlanField : ℕ
+vlanField = 5
+
+abbrev pub priorityField : ℕ
+priorityField = 8
+
+abbrev pub latencyField : ℕ
+latencyField = 9
+
+abbrev pub bridgeField : ℕ
+bridgeField = 10
+
+abbrev pub codeField : ℕ
+codeField = 11
+
+abbrev pub listenerField : ℕ
+listenerField = 12
+
+abbrev pub listenerLeavesField : ℕ
+listenerLeavesField = 13
+
+abbrev pub listenerSinceField : ℕ
+listenerSinceField = 14
+
+-- all of them; a Talker's are those before the Listener's
+abbrev pub cellFields : ℕ
+cellFields = 15
+
+abbrev pub talkerPlace : ℕ
+talkerPlace = before talkerField cellWidths
+
+abbrev pub changedPlace : ℕ
+changedPlace = before changedField cellWidths
+
+abbrev pub talkerLeavesPlace : ℕ
+talkerLeavesPlace = before talkerLeavesField cellWidths
+
+abbrev pub talkerSincePlace : ℕ
+talkerSincePlace = before talkerSinceField cellWidths
+
+abbrev pub fixedPlace : ℕ
+fixedPlace = before fixedField cellWidths
+
+abbrev pub vlanPlace : ℕ
+vlanPlace = before vlanField cellWidths
+
+abbrev pub priorityPlace : ℕ
+priorityPlace = before priorityField cellWidths
+
+abbrev pub latencyPlace : ℕ
+latencyPlace = before latencyField cellWidths
+
+abbrev pub bridgePlace : ℕ
+bridgePlace = before bridgeField cellWidths
+
+abbrev pub codePlace : ℕ
+codePlace = before codeField cellWidths
+
+-- the Talker stands before the Listener
+abbrev pub listenerPlace : ℕ
+listenerPlace = before listenerField cellWidths
+
+abbrev pub listenerSize : ℕ
+listenerSize = cellSize - listenerPlace
+
+abbrev pub listenerLeavesPlace : ℕ
+listenerLeavesPlace = before listenerLeavesField cellWidths
+
+abbrev pub listenerSincePlace : ℕ
+listenerSincePlace = before listenerSinceField cellWidths
+
+-- Fields of a result by their index among its numbers, and their places.
+
+abbrev pub columnField : ℕ
+columnField = 0
+
+abbrev pub latencyOutField : ℕ
+latencyOutField = 1
+
+abbrev pub failureField : ℕ
+failureField = 2
+
+abbrev pub failureCodeField : ℕ
+failureCodeField = 3
+
+abbrev pub entryField : ℕ
+entryField = 4
+
+abbrev pub ageField : ℕ
+ageField = 5
+
+abbrev pub declaredField : ℕ
+declaredField = 6
+
+abbrev pub columnPlace : ℕ
+columnPlace = before columnField resultWidths
+
+abbrev pub latencyOutPlace : ℕ
+latencyOutPlace = before latencyOutField resultWidths
+
+abbrev pub failurePlace : ℕ
+failurePlace = before failureField resultWidths
+
+abbrev pub failureCodePlace : ℕ
+failureCodePlace = before failureCodeField resultWidths
+
+abbrev pub entryPlace : ℕ
+entryPlace = before entryField resultWidths
+
+abbrev pub agePlace : ℕ
+agePlace = before ageField resultWidths
+
+abbrev pub declaredPlace : ℕ
+declaredPlace = before declaredField resultWidths
+
+-- Units of the settings' word: its number divided by one gives the field above, its remainder those below.
+
+abbrev pub portsUnit : ℕ
+portsUnit = 1048576
+
+abbrev pub priorityAUnit : ℕ
+priorityAUnit = 131072
+
+abbrev pub priorityBUnit : ℕ
+priorityBUnit = 16384

@@ -1,0 +1,27 @@
+-- What the code's answers say in the words of the definitions.
+use Prim.Native.Nat.{ℕ}
+use Rattle.model.specs.State.{noTalker, talker, Cell, Class, noClass, classA, classB}
+use Rattle.model.specs.Settling.{Source, nowhere, from}
+use Rattle.streams.specs.declared.SourceRead.{SourceRead}
+use Rattle.streams.specs.declared.SourceRead.the-variants.{Nowhere, Port}
+use Rattle.streams.specs.declared.ClassRead.{ClassRead}
+use Rattle.streams.specs.declared.ClassRead.the-variants.{NoClass, A, B}
+
+unfoldable pub classShown : ClassRead → Class
+classShown NoClass = noClass
+classShown A = classA
+classShown B = classB
+
+-- the place of a stream's Talker port
+unfoldable pub sourcePlace : Source → SourceRead
+sourcePlace nowhere = Nowhere
+sourcePlace (from o) = Port (o .port)
+
+-- the same as a number; 0 where there is none, as no place then has a Talker
+unfoldable pub talkerPlace : Source → ℕ
+talkerPlace nowhere = 0
+talkerPlace (from o) = o .port
+
+-- what a cell at place t has registered, as a source
+unfoldable pub sourceIn : ℕ → Cell → Source
+sourceIn t c = elim (c .talks) [ noTalker ↦ nowhere | talker r ↦ from record { port = t; registration = r } ]

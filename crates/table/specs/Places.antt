@@ -1,0 +1,25 @@
+-- What a part of a table is found by: the place k of a stream that the table holds, the place p of a port.
+use mathlib.Core.List.{List}
+use Prim.Native.Nat.{ℕ, _≤_, _<_}
+use lib.ListN.{length}
+use Rattle.model.specs.Table.{decode}
+use Rattle.model.specs.Laid.{Laid}
+
+pub record Stands (t : List ℕ) (k : ℕ) : Type 0 where
+  pub laid : Laid t
+  pub held : k < length (decode t .streams)
+
+pub record PortIn (t : List ℕ) (p : ℕ) : Type 0 where
+  pub laid : Laid t
+  pub port : p < 8
+
+pub record StandsOn (t : List ℕ) (k p : ℕ) : Type 0 where
+  pub laid : Laid t
+  pub held : k < length (decode t .streams)
+  pub port : p < 8
+
+-- room for one stream more, at place k
+pub record RoomAt (t : List ℕ) (k : ℕ) : Type 0 where
+  pub laid : Laid t
+  pub few : length (decode t .streams) < 64
+  pub within : k ≤ length (decode t .streams)

@@ -1,0 +1,156 @@
+//! The PDU of a line: its octets, or Messages in words.
+
+use super::words::{unknown, Field, Measure, Words};
+use crate::declarations;
+use crate::frame::{FrameDraft, MessageDraft, VectorDraft};
+use crate::pdu::{AttributeType, Failure, Talker};
+
+const VLAN: Field = Field::plain("a VLAN", 16);
+const SIZE: Field = Field::plain("a frame size", 16);
+const FRAMES: Field = Field::plain("a number of frames", 16);
+const PRIORITY: Field = Field::plain("a priority", 3);
+const RANK: Field = Field::plain("a rank", 1);
+const LATENCY: Field = Field::measured("a latency", 32, Measure::Nanoseconds);
+const CODE: Field = Field::plain("a code", 8);
+const CLASS_ID: Field = Field::plain("a class ID", 8);
+const DOMAIN_PRIORITY: Field = Field::plain("a priority", 8);
+const VALUES: Field = Field::plain("a number of values", 13);
+
+/// The PDU of the rest of a line: its octets, or Messages with `and` between them.
+pub fn pdu(words: &mut Words) -> Result<Vec<u8>, String> {
+    if words.first() == Some("octets") {
+        words.next();
+        return words.octets();
+    }
+    let mut messages = Vec::new();
+    loop {
+        messages.push(match words.word("talker, listener, domain, leaveall or octets")? {
+            "talker" => talker(words)?,
+            "listener" => listener(words)?,
+            "domain" => domain(words)?,
+            "leaveall" => leave_all(words)?,
+            other => return Err(unknown(other)),
+        });
+        match words.next() {
+            None => return Ok(FrameDraft::new(messages).octets()),
+            Some("and") => {}
+            Some(other) => return Err(unknown(other)),
+        }
+    }
+}
+
+fn talker(words: &mut Words) -> Result<MessageDraft, String> {
+    let mut talker = Talker::of_the_worked_example(words.stream()?);
+    let mut values = Values::default();
+    while let Some(word) = words.next_before_and() {
+        let parameters = &mut talker.parameters;
+        match word {
+            "to" => parameters.destination = words.address()?,
+            "vlan" => parameters.vlan = words.number(VLAN)?,
+            "size" => parameters.max_frame_size = words.number(SIZE)?,
+            "frames" => parameters.max_interval_frames = words.number(FRAMES)?,
+            "priority" => parameters.priority = words.number(PRIORITY)?,
+            "rank" => parameters.rank = words.number(RANK)?,
+            "latency" => talker.accumulated_latency = words.number(LATENCY)?,
+            "failed" => {
+                talker.failure = Some(Failure {
+                    bridge_id: words.hexadecimal("a Bridge ID", 64)?,
+                    code: words.number(CODE)?,
+                });
+            }
+            _ => values.word(word, words)?,
+        }
+    }
+    let attribute_type = match talker.failure {
+        None => AttributeType::TalkerAdvertise,
+        Some(_) => AttributeType::TalkerFailed,
+    };
+    Ok(values.message(attribute_type, declarations::first_value(&talker), None))
+}
+
+fn listener(words: &mut Words) -> Result<MessageDraft, String> {
+    let first_value = words.stream()?.to_be_bytes().to_vec();
+    let listener_type = match words.word("asking, ready, readyfailed or ignore")? {
+        "ignore" => 0,
+        "asking" => 1,
+        "ready" => 2,
+        "readyfailed" => 3,
+        other => return Err(unknown(other)),
+    };
+    let values = Values::read(words)?;
+    Ok(values.message(AttributeType::Listener, first_value, Some(listener_type)))
+}
+
+fn domain(words: &mut Words) -> Result<MessageDraft, String> {
+    let mut first_value = vec![words.number(CLASS_ID)?, words.number(DOMAIN_PRIORITY)?];
+    first_value.extend(words.number::<u16>(VLAN)?.to_be_bytes());
+    let values = Values::read(words)?;
+    Ok(values.message(AttributeType::Domain, first_value, None))
+}
+
+fn leave_all(words: &mut Words) -> Result<MessageDraft, String> {
+    let attribute_type = match words.word("advertise, failed, listener or domain")? {
+        "advertise" => AttributeType::TalkerAdvertise,
+        "failed" => AttributeType::TalkerFailed,
+        "listener" => AttributeType::Listener,
+        "domain" => AttributeType::Domain,
+        other => return Err(unknown(other)),
+    };
+    let vector = VectorDraft {
+        leave_all_event: 1,
+        first_value: vec![0; attribute_type.first_value_length()],
+        ..VectorDraft::default()
+    };
+    Ok(MessageDraft::new(attribute_type, vec![vector]))
+}
+
+/// How many values a vector has, and the event of each.
+struct Values {
+    count: usize,
+    event: u8,
+}
+
+impl Default for Values {
+    fn default() -> Values {
+        Values { count: 1, event: 3 }
+    }
+}
+
+impl Values {
+    fn read(words: &mut Words) -> Result<Values, String> {
+        let mut values = Values::default();
+        while let Some(word) = words.next_before_and() {
+            values.word(word, words)?;
+        }
+        Ok(values)
+    }
+
+    fn word(&mut self, word: &str, words: &mut Words) -> Result<(), String> {
+        match word {
+            "values" => self.count = words.number(VALUES)?,
+            "new" => self.event = 0,
+            "joinin" => self.event = 1,
+            "in" => self.event = 2,
+            "join" => self.event = 3,
+            "mt" => self.event = 4,
+            "leave" => self.event = 5,
+            _ => return Err(unknown(word)),
+        }
+        Ok(())
+    }
+
+    fn message(
+        &self,
+        attribute_type: AttributeType,
+        first_value: Vec<u8>,
+        listener_type: Option<u8>,
+    ) -> MessageDraft {
+        let vector = VectorDraft {
+            first_value,
+            events: vec![self.event; self.count],
+            listener_types: listener_type.map_or(Vec::new(), |part| vec![part; self.count]),
+            ..VectorDraft::default()
+        };
+        MessageDraft::new(attribute_type, vec![vector])
+    }
+}

@@ -1,0 +1,10 @@
+"""A workbench over the proved stream-reservation bridge. docs/WORKBENCH.md is its page."""
+from srp.answers import Answer, Octets, Report, Sum, Written
+from srp.bridge import Bridge
+from srp.faults import Fault, Missing
+from srp.inputs import Input, Ran, load, run
+from srp.layout import Cell, Parameters, Port, Result, Settings, Stream, Table, Totals
+from srp.views import Load, Share, loads
+
+__all__ = ["Answer", "Bridge", "Cell", "Fault", "Input", "Load", "Missing", "Octets", "Parameters", "Port", "Ran", "Report",
+           "Result", "Settings", "Share", "Stream", "Sum", "Table", "Totals", "Written", "load", "loads", "run"]

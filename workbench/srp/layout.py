@@ -1,0 +1,181 @@
+"""The lent table, as docs/TABLE.md lays it out. The layout stands here and nowhere else in the workbench: each class lists its
+fields with their widths, from which places and lengths follow. Numbers are most significant octet first."""
+from dataclasses import dataclass, field, fields
+
+from srp.faults import Fault
+
+
+def bits(width):
+    """A field of so many bits."""
+    return field(metadata={"bits": width})
+
+
+def octets(count):
+    """A field of so many octets."""
+    return bits(8 * count)
+
+
+def one(part):
+    """A part that a class of its own describes."""
+    return field(metadata={"part": part, "times": None})
+
+
+def several(part, times, used=None):
+    """So many parts of one class, of which only the first `used` (a field before) are read, where it is given."""
+    return field(metadata={"part": part, "times": times, "used": used})
+
+
+def width(description):
+    """The bits that a class describes."""
+    return sum(width_of_field(each.metadata) for each in fields(description))
+
+
+def width_of_field(layout):
+    return width(layout["part"]) * (layout["times"] or 1) if "part" in layout else layout["bits"]
+
+
+def length(description):
+    """The octets that a class describes."""
+    return width(description) // 8
+
+
+def place(description, name):
+    """The octet where a field begins."""
+    names = [each.name for each in fields(description)]
+    return sum(width_of_field(each.metadata) for each in fields(description)[:names.index(name)]) // 8
+
+
+def number(room, at, size):
+    """The number of so many bits from a bit on."""
+    end = at + size
+    covering = int.from_bytes(room[at // 8:(end + 7) // 8], "big")
+    return covering >> (-end % 8) & ((1 << size) - 1)
+
+
+def read(description, room):
+    """The object of a class that stands in octets."""
+    values, at = {}, 0
+    for each in fields(description):
+        values[each.name] = read_field(each.metadata, room, at, values)
+        at += width_of_field(each.metadata)
+    return description(**values)
+
+
+def read_field(layout, room, at, before):
+    if "part" not in layout:
+        return number(room, at, layout["bits"])
+    part, first = layout["part"], at // 8
+    size = length(part)
+    if layout["times"] is None:
+        return read(part, room[first:first + size])
+    times = min(before.get(layout["used"], layout["times"]), layout["times"])
+    places = (first + size * k for k in range(times))
+    return tuple(read(part, room[begin:begin + size]) for begin in places)
+
+
+PORTS = 8
+STREAMS = 64
+
+
+@dataclass(frozen=True)
+class Port:
+    """The settings of a port."""
+    supports_a: int = bits(1)
+    supports_b: int = bits(1)
+    sends_twice: int = bits(1)
+    zero: int = bits(5)
+    overhead: int = octets(1)
+    largest_frame: int = octets(2)
+    limit_a: int = octets(5)
+    limit_b: int = octets(5)
+    latency_a: int = octets(4)
+    latency_b: int = octets(4)
+
+
+@dataclass(frozen=True)
+class Settings:
+    """The settings of the whole bridge."""
+    bridge_id: int = octets(8)
+    ports: int = bits(4)
+    priority_a: int = bits(3)
+    priority_b: int = bits(3)
+    leave_time: int = bits(14)
+
+
+@dataclass(frozen=True)
+class Parameters:
+    """What a Talker asks for."""
+    destination: int = octets(6)
+    vlan: int = octets(2)
+    max_frame_size: int = octets(2)
+    max_interval_frames: int = octets(2)
+    priority: int = bits(3)
+    rank: int = bits(1)
+    zero: int = bits(4)
+
+
+@dataclass(frozen=True)
+class Cell:
+    """What a port has registered of a stream."""
+    talker: int = octets(1)
+    changed: int = octets(1)
+    talker_leaving: int = octets(1)
+    talker_since: int = octets(4)
+    parameters: Parameters = one(Parameters)
+    latency: int = octets(4)
+    failed_bridge: int = octets(8)
+    code: int = octets(1)
+    listener: int = octets(1)
+    listener_leaving: int = octets(1)
+    listener_since: int = octets(4)
+
+
+@dataclass(frozen=True)
+class Result:
+    """What the last advance decided of a stream on a port."""
+    column: int = octets(1)
+    latency: int = octets(4)
+    failed_bridge: int = octets(8)
+    code: int = octets(1)
+    entry: int = octets(1)
+    second: int = octets(4)
+    listener: int = octets(1)
+
+
+@dataclass(frozen=True)
+class Totals:
+    """What is reserved on a port."""
+    a: int = octets(5)
+    b: int = octets(5)
+
+
+@dataclass(frozen=True)
+class Stream:
+    """A stream record."""
+    stream_id: int = octets(8)
+    settled: Parameters = one(Parameters)
+    cells: tuple[Cell, ...] = several(Cell, PORTS)
+    results: tuple[Result, ...] = several(Result, PORTS)
+
+
+@dataclass(frozen=True)
+class Table:
+    """The whole table."""
+    settings: Settings = one(Settings)
+    port_settings: tuple[Port, ...] = several(Port, PORTS)
+    clock: int = octets(4)
+    held: int = octets(1)
+    totals: tuple[Totals, ...] = several(Totals, PORTS)
+    streams: tuple[Stream, ...] = several(Stream, STREAMS, used="held")
+
+
+def settings_length(ports):
+    """The octets of settings with so many ports."""
+    return length(Settings) + length(Port) * ports
+
+
+def read_table(room):
+    """The table in its octets."""
+    if len(room) != length(Table):
+        raise Fault(f"the bridge's table has {len(room)} octets and that of workbench/srp/layout.py {length(Table)}")
+    return read(Table, room)

@@ -1,0 +1,116 @@
+"""The sheet as a page that stands by itself: a bar for each port and class, and the streams with their codes in words."""
+from dataclasses import dataclass
+from pathlib import Path
+
+from srp import sheet
+from srp.needs import need
+from srp.views import Share, loads, ports, stream_line
+from srp.words import address, cause, rate, refusal, seconds, stream_id
+
+# A part of a bar that is narrower, in percent, has no room for a name.
+NARROW = 12
+
+# What a port's place in the streams' list says, by column and entry.
+STATES = {
+    ("advertise", "forward"): ("forward", "forwards"),
+    ("advertise", "filter"): ("filter", "advertised"),
+    ("failed", "filter"): ("failed", "refused"),
+    ("none", "filter"): ("filter", "filters"),
+}
+
+
+@dataclass(frozen=True)
+class Part:
+    """A part of a bar: where it begins and how wide it is, in percent."""
+    share: Share
+    left: float
+    wide: float
+    shade: int
+
+    @property
+    def label(self):
+        return "…" + self.share.stream[-4:] if self.wide >= NARROW else ""
+
+    @property
+    def middle(self):
+        return self.left + self.wide / 2
+
+
+@dataclass(frozen=True)
+class Place:
+    """What a port's place in the streams' list says, and what more is told of it."""
+    kind: str
+    word: str
+    lines: list
+
+
+def parts(load):
+    """The parts of a class's bar, in order of importance from the left. The bar is as long as the limit."""
+    whole, left = max(load.limit, load.total, 1), 0
+    for shade, share in enumerate(load.holders):
+        wide = 100 * share.demand / whole
+        yield Part(share, left, wide, min(shade, 7))
+        left += wide
+
+
+def reserved(load):
+    """What is reserved of the limit."""
+    if not load.supported:
+        return "not supported"
+    if not load.limit:
+        return "limit 0 bit/s"
+    return f"{rate(load.total)} of {rate(load.limit)}" + (f", {100 * load.total / load.limit:.0f} %" if load.total else "")
+
+
+def place_of(stream, port):
+    """What is said of a stream on a port."""
+    line, cell = stream_line(stream, port), stream.cells[port - 1]
+    kind, word = STATES.get((line.column, line.entry), ("none", "–"))
+    lines = [f"code {line.code}: {cause(line.code)}"] if line.code else []
+    if cell.talker and line.column == "none":
+        kind, word = "talker", "Talker"
+    if line.listener != "none":
+        lines.append(f"Listener {line.listener}")
+    if cell.talker_leaving or cell.listener_leaving:
+        lines.append("leaving")
+    return Place(kind, word, lines)
+
+
+def stream_row(stream, table):
+    """A row of the streams' list."""
+    asked = stream.settled
+    return {
+        "id": stream_id(stream.stream_id),
+        "rank": asked.rank,
+        "asked": f"{asked.max_interval_frames} × {asked.max_frame_size} octets, priority {asked.priority}",
+        "destination": f"{address(asked.destination)}, VLAN {asked.vlan}",
+        "places": [place_of(stream, port) for port in ports(table)],
+    }
+
+
+def view(ran):
+    """What the page shows of an input."""
+    table = ran.table
+    by_port = [[load for load in loads(table) if load.port == port] for port in ports(table)]
+    return {
+        "name": ran.input.name,
+        "bridge": stream_id(table.settings.bridge_id),
+        "clock": seconds(table.clock),
+        "leave": seconds(table.settings.leave_time),
+        "held": table.held,
+        "ports": by_port,
+        "numbers": list(ports(table)),
+        "streams": [stream_row(stream, table) for stream in table.streams],
+        "refused": [f"{number}: {refusal(number)}" for number in sheet.refused_numbers(ran)],
+        "stopped": ran.stopped,
+        "sheet": "\n".join(sheet.plain(ran)),
+    }
+
+
+def page(all_ran):
+    """The page of some inputs."""
+    jinja2 = need("jinja2")
+    maker = jinja2.Environment(autoescape=True, trim_blocks=True, lstrip_blocks=True, undefined=jinja2.StrictUndefined)
+    maker.filters.update(rate=rate, parts=parts, reserved=reserved)
+    template = maker.from_string(Path(__file__).with_name("page.html").read_text(encoding="utf-8"))
+    return template.render(inputs=[view(ran) for ran in all_ran])

@@ -1,0 +1,104 @@
+"""Records of srpcalls, as docs/SRPCALLS.md lays them out."""
+from dataclasses import dataclass
+
+from srp.faults import Fault
+
+START, RECEIVE, ADVANCE, WRITE, REPORT, STORE, SUM = 0x0, 0x1, 0x2, 0x3, 0x4, 0x5, 0x6
+
+# Octets behind the first one; None is a 16-bit length and so many octets. The second digit of those in PORTED is a port.
+PORTED = {RECEIVE: None, WRITE: 4, REPORT: 2}
+PLAIN = {0x00: None, 0x20: 4, 0x50: 3, 0x51: 2, 0x60: 0, 0x61: 0}
+TABLE_SUM, TABLE_OCTETS = b"\x60", b"\x61"
+
+
+@dataclass(frozen=True)
+class Record:
+    """A record: all its octets."""
+    octets: bytes
+
+    @property
+    def kind(self):
+        return self.octets[0] >> 4
+
+    @property
+    def port(self):
+        return self.octets[0] & 0xF
+
+    @property
+    def body(self):
+        """The settings or PDU of a start or receive."""
+        return self.octets[3:]
+
+    @property
+    def time(self):
+        """The time of an advance."""
+        return int.from_bytes(self.octets[1:5], "big")
+
+
+def is_of_a_sheet(first):
+    """Whether srpsheet knows records with this first octet."""
+    return first >> 4 == RECEIVE or first == 0x20
+
+
+def is_of_calls(first):
+    """Whether srpcalls knows records with this first octet."""
+    return first >> 4 in PORTED or first in PLAIN
+
+
+def record_length(octets, at):
+    """The octets of the record that begins at a place."""
+    first = octets[at]
+    size = PORTED[first >> 4] if first >> 4 in PORTED else PLAIN[first]
+    return 1 + (2 + int.from_bytes(octets[at + 1:at + 3], "big") if size is None else size)
+
+
+def split(octets, is_known):
+    """The records of octets, and the rest behind the last whole one that is known, which stops a program."""
+    records, at = [], 0
+    while at < len(octets) and is_known(octets[at]):
+        end = at + record_length(octets, at)
+        if end > len(octets):
+            break
+        records.append(Record(octets[at:end]))
+        at = end
+    return records, octets[at:]
+
+
+def counted(first, octets):
+    if len(octets) > 0xFFFF:
+        raise Fault(f"a record has at most 65535 octets, and not {len(octets)}")
+    return Record(bytes([first]) + len(octets).to_bytes(2, "big") + octets)
+
+
+def numbered(first, *numbers):
+    """A record of numbers: each with its octets."""
+    try:
+        return Record(bytes([first]) + b"".join(value.to_bytes(size, "big") for value, size in numbers))
+    except OverflowError:
+        raise Fault(f"a number does not fit in its record: {', '.join(str(value) for value, _ in numbers)}") from None
+
+
+def ported(kind, port):
+    if not 0 <= port <= 0xF:
+        raise Fault(f"port {port} does not fit in a record; it has room for 0 to 15")
+    return kind << 4 | port
+
+
+def start(settings):
+    return counted(START, settings)
+
+
+def receive(port, pdu):
+    return counted(ported(RECEIVE, port), pdu)
+
+
+def advance(time):
+    return numbered(0x20, (time, 4))
+
+
+def write(port, place=0, buffer=1500):
+    return numbered(ported(WRITE, port), (place, 2), (buffer, 2))
+
+
+def report(port, place=0):
+    return numbered(ported(REPORT, port), (place, 2))

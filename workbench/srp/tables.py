@@ -1,0 +1,115 @@
+"""The table in words: who is registered where, leaving since when, changed, of what age, and what is settled."""
+from srp.needs import need
+from srp.views import class_of, demand, loads, ports
+from srp.words import COLUMNS, ENTRIES, LISTENERS, address, cause, rate, seconds, stream_id, word
+
+TALKERS = ("none", "Advertise", "Failed")
+DECLARED = ("none", "Asking Failed", "Ready", "Ready Failed")
+
+
+def leaving(since, table):
+    """Since when a registration leaves, and from when on an advance removes it."""
+    return f"leaving since {seconds(since)}, gone from {seconds(since + table.settings.leave_time)} on"
+
+
+def asked_for(parameters):
+    """What a Talker asks for."""
+    return (f"to {address(parameters.destination)} VLAN {parameters.vlan}, {parameters.max_interval_frames} x"
+            f" {parameters.max_frame_size} octets, priority {parameters.priority}, rank {parameters.rank}")
+
+
+def talker_words(cell, table):
+    """The parts of what is said of a registered Talker."""
+    yield f"Talker {word(TALKERS, cell.talker)} {asked_for(cell.parameters)}, latency {cell.latency} ns"
+    if cell.talker == COLUMNS.index("failed"):
+        yield f"code {cell.code} ({cause(cell.code) or 'none'}) of bridge {stream_id(cell.failed_bridge)}"
+    if cell.changed:
+        yield "changed"
+    if cell.talker_leaving:
+        yield leaving(cell.talker_since, table)
+
+
+def listener_words(cell, table):
+    yield f"Listener {word(DECLARED, cell.listener)}"
+    if cell.listener_leaving:
+        yield leaving(cell.listener_since, table)
+
+
+def registered(stream, table):
+    """A line for each registration of a stream."""
+    for port in ports(table):
+        cell = stream.cells[port - 1]
+        if cell.talker:
+            yield f"port {port}: {', '.join(talker_words(cell, table))}"
+        if cell.listener:
+            yield f"port {port}: {', '.join(listener_words(cell, table))}"
+
+
+def age(result, table):
+    """Since which second there is an entry, and for how long."""
+    return f"second {result.second} ({table.clock // 100 - result.second} s)" if result.entry else ""
+
+
+def settled_row(stream, port, table):
+    """What the last advance decided of a stream on a port."""
+    result, settings = stream.results[port - 1], table.port_settings[port - 1]
+    name = class_of(table, stream.settled)
+    talker = word(COLUMNS, result.column)
+    if result.code:
+        talker += f" {result.code}: {cause(result.code)}, of bridge {stream_id(result.failed_bridge)}"
+    return (str(port), talker, f"{result.latency} ns" if result.column else "", word(LISTENERS, result.listener),
+            word(ENTRIES, result.entry), age(result, table),
+            rate(demand(stream.settled, settings, name)) if name and result.column else "")
+
+
+def grid(columns, rows, title=None):
+    """Rows under the names of their columns."""
+    shown = need("rich.table").Table(*columns, box=need("rich.box").SIMPLE, title=title, title_justify="left", pad_edge=False)
+    for row in rows:
+        shown.add_row(*row)
+    return shown
+
+
+def settled_grid(stream, table):
+    """The last advance's decisions on a stream."""
+    columns = ("port", "column", "latency out", "Listener declared", "entry", "entry since", "demand")
+    return grid(columns, [settled_row(stream, port, table) for port in ports(table)], "settled")
+
+
+def port_row(load, table):
+    """The settings and totals of a class on a port."""
+    one = table.port_settings[load.port - 1]
+    latency = one.latency_a if load.name == "A" else one.latency_b
+    return (str(load.port), load.name, "yes" if load.supported else "no", rate(load.total), rate(load.limit), f"{latency} ns",
+            str(one.overhead), str(one.largest_frame), "yes" if one.sends_twice else "no")
+
+
+def port_grid(table):
+    columns = ("port", "class", "supported", "reserved", "limit", "latency", "overhead", "largest frame", "sent twice")
+    return grid(columns, [port_row(load, table) for load in loads(table)], "ports")
+
+
+def head(table):
+    """The bridge as a whole."""
+    settings = table.settings
+    return (f"bridge {stream_id(settings.bridge_id)}, clock {seconds(table.clock)}, leave time {seconds(settings.leave_time)},"
+            f" class A priority {settings.priority_a}, class B priority {settings.priority_b}, {table.held} streams held")
+
+
+def show_stream(stream, table, console):
+    """Prints who is registered, and what the last advance decided, if it had the stream."""
+    is_settled = any(result.column or result.entry or result.listener for result in stream.results)
+    console.print(f"stream {stream_id(stream.stream_id)}, class {is_settled and class_of(table, stream.settled) or 'none'}")
+    console.print("\n".join(f"  {line}" for line in registered(stream, table)))
+    console.print(settled_grid(stream, table) if is_settled else "  no part in an advance yet\n")
+
+
+def show(ran, console):
+    """Prints the table of an input."""
+    if not ran.has_table:
+        console.print(f"{ran.input.name}: no bridge was started")
+        return
+    console.print(head(ran.table))
+    console.print(port_grid(ran.table))
+    for stream in ran.table.streams:
+        show_stream(stream, ran.table, console)

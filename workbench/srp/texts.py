@@ -1,0 +1,42 @@
+"""Texts as in examples/, written from settings and records. They are read by the text tool alone."""
+from itertools import groupby
+
+from srp.layout import Port, Settings, length, read, settings_length
+from srp.records import ADVANCE, RECEIVE
+from srp.words import stream_id
+
+CLASSES = {(1, 1): "AB", (1, 0): "A", (0, 1): "B", (0, 0): "none"}
+
+
+def bridge_line(settings):
+    return (f"bridge {stream_id(settings.bridge_id)} priorities {settings.priority_a} {settings.priority_b}"
+            f" leave {settings.leave_time}")
+
+
+def ports_line(count, port):
+    """So many ports with these settings."""
+    return (f"ports {count} classes {CLASSES[port.supports_a, port.supports_b]} overhead {port.overhead}"
+            f" largest {port.largest_frame} limits {port.limit_a} {port.limit_b} latencies {port.latency_a} {port.latency_b}"
+            + (" twice" if port.sends_twice else ""))
+
+
+def settings_lines(octets):
+    """The lines of accepted settings."""
+    settings = read(Settings, octets)
+    places = range(length(Settings), settings_length(settings.ports), length(Port))
+    ports = [read(Port, octets[at:at + length(Port)]) for at in places]
+    alike = ((port, len(list(group))) for port, group in groupby(ports))
+    return [bridge_line(settings)] + [ports_line(count, port) for port, count in alike]
+
+
+def frame_line(port, pdu):
+    return f"on {port} octets {pdu.hex()}"
+
+
+def record_line(record):
+    """The line of a record."""
+    if record.kind == RECEIVE:
+        return frame_line(record.port, record.body)
+    if record.kind == ADVANCE:
+        return f"time {record.time}"
+    return f"raw {record.octets.hex()}"

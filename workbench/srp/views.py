@@ -1,0 +1,118 @@
+"""What pages and tables show, taken out of the lent table."""
+from dataclasses import dataclass
+
+from srp.words import CLASSES, COLUMNS, ENTRIES, LISTENERS, stream_id, word
+
+INTERVALS = {"A": 8000, "B": 4000}
+ADVERTISE, FAILED = COLUMNS.index("advertise"), COLUMNS.index("failed")
+FORWARD = ENTRIES.index("forward")
+INSUFFICIENT_BANDWIDTH = 1
+
+
+@dataclass(frozen=True)
+class PortLine:
+    """What a sheet shows of a port."""
+    port: int
+    total_a: int
+    limit_a: int
+    total_b: int
+    limit_b: int
+
+
+@dataclass(frozen=True)
+class StreamLine:
+    """What a sheet shows of a stream on a port."""
+    stream: str
+    port: int
+    column: str
+    code: int
+    listener: str
+    entry: str
+
+
+@dataclass(frozen=True)
+class Share:
+    """What a stream asks for on a port, and what its importance is counted by."""
+    stream: str
+    rank: int
+    second: int
+    demand: int
+
+
+@dataclass(frozen=True)
+class Load:
+    """A class on a port: those who hold a share, and those who found no room, both in order of importance."""
+    port: int
+    name: str
+    supported: bool
+    total: int
+    limit: int
+    holders: list
+    waiting: list
+
+    @property
+    def adds_up(self):
+        return sum(share.demand for share in self.holders) == self.total
+
+
+def ports(table):
+    return range(1, table.settings.ports + 1)
+
+
+def port_lines(table):
+    return [PortLine(port, table.totals[port - 1].a, table.port_settings[port - 1].limit_a,
+                     table.totals[port - 1].b, table.port_settings[port - 1].limit_b) for port in ports(table)]
+
+
+def stream_line(stream, port):
+    result = stream.results[port - 1]
+    return StreamLine(stream_id(stream.stream_id), port, word(COLUMNS, result.column), result.code,
+                      word(LISTENERS, result.listener), word(ENTRIES, result.entry))
+
+
+def stream_lines(table):
+    return [stream_line(stream, port) for stream in table.streams for port in ports(table)]
+
+
+def class_of(table, parameters):
+    """The class of a priority, or none."""
+    classes = {table.settings.priority_a: "A", table.settings.priority_b: "B"}
+    return classes.get(parameters.priority)
+
+
+def demand(parameters, port, name):
+    """Bits per second of a stream on a port (35.2.4.2). Their sum is held against the table's total."""
+    octets = (parameters.max_frame_size + port.overhead + 1) * parameters.max_interval_frames
+    return octets * (2 if port.sends_twice else 1) * 8 * INTERVALS[name]
+
+
+def shares(table, port, name, is_taken):
+    """The shares of a class's streams whose result on a port is taken, by importance: rank, age, StreamID (35.2.4.1)."""
+    found = []
+    for stream in table.streams:
+        result, asked = stream.results[port - 1], stream.settled
+        if class_of(table, asked) == name and is_taken(result):
+            bandwidth = demand(asked, table.port_settings[port - 1], name)
+            found.append(Share(stream_id(stream.stream_id), asked.rank, result.second, bandwidth))
+    return sorted(found, key=lambda share: (share.rank, share.second, share.stream))
+
+
+def holds(result):
+    """Whether the stream reserves there: only an Advertise that is asked for forwards."""
+    return result.column == ADVERTISE and result.entry == FORWARD
+
+
+def finds_no_room(result):
+    return result.column == FAILED and result.code == INSUFFICIENT_BANDWIDTH
+
+
+def load_of(table, port, name):
+    settings, totals = table.port_settings[port - 1], table.totals[port - 1]
+    values = [getattr(part, field + name.lower()) for part, field in
+              ((settings, "supports_"), (totals, ""), (settings, "limit_"))]
+    return Load(port, name, bool(values[0]), values[1], values[2],
+                shares(table, port, name, holds), shares(table, port, name, finds_no_room))
+
+
+def loads(table):
+    return [load_of(table, port, name) for port in ports(table) for name in CLASSES]

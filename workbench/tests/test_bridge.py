@@ -1,0 +1,93 @@
+"""A bridge as an object, and the example of docs/WORKBENCH.md."""
+import os
+import re
+import subprocess
+import sys
+
+import pytest
+from conftest import CHOIR, ROOT, run
+
+SETTINGS = "bridge 8000000000000007\nports 2"
+TALKER = "on 1 talker 0200000000010001"
+LISTENER = "on 2 listener 0200000000010001 ready"
+
+
+def test_calls_one_by_one():
+    import srp
+
+    with srp.Bridge(SETTINGS) as bridge:
+        assert [answer.number for answer in bridge.feed(f"{TALKER}\n{LISTENER}")] == [0, 0]
+        assert bridge.report(2).column == "none"
+        assert bridge.advance(100) == srp.Answer("advance", 0)
+        report = bridge.report(2)
+        assert (report.stream, report.column) == ("0200000000010001", "advertise")
+        assert (report.entry, report.total_a) == ("forward", 17088000)
+        assert [one.stream for one in bridge.reports(2)] == ["0200000000010001"]
+        [pdu] = bridge.declarations(2)
+        assert pdu == bridge.write(2).pdu
+        assert bridge.write(2, place=1).pdu == bytes(3)
+        assert bridge.table().totals[1].a == 17088000
+        assert re.fullmatch("[0-9a-f]{8}", bridge.sum())
+
+
+def test_declarations_are_read_by_another_bridge():
+    import srp
+
+    with srp.Bridge(SETTINGS) as first, srp.Bridge(SETTINGS) as second:
+        first.feed(f"{TALKER}\n{LISTENER}\ntime 100")
+        for pdu in first.declarations(2):
+            assert second.receive(1, pdu).accepted
+        second.advance(100)
+        assert second.report(2).column == "advertise"
+        assert second.declarations(1) == [bytes(3)]
+
+
+def test_refusals_are_answers():
+    import srp
+
+    with srp.Bridge(SETTINGS) as bridge:
+        assert (bridge.receive(9, b"\0").number, bridge.receive(9, b"\0").why) == (1, "no such port")
+        assert bridge.receive(1, b"").number == 2
+        bridge.advance(5)
+        assert bridge.advance(4).number == 9
+        assert bridge.write(1, buffer=1499).number == 10
+        assert bridge.report(1, 1).number == 13
+        assert bridge.start(b"").number == 11
+        with pytest.raises(srp.Fault):
+            bridge.receive(16, b"\0")
+    with pytest.raises(srp.Fault, match="ended"):
+        bridge.advance(6)
+    with pytest.raises(srp.Fault, match="refused with 11"):
+        srp.Bridge("bridge 8000000000000007\nports 9")
+
+
+def test_an_input_as_an_object():
+    import srp
+
+    ran = srp.run(srp.load(str(ROOT / CHOIR)))
+    assert ran.refused == [] and ran.table.held == 7 and ran.table.totals[3].a == 68352000
+
+
+def test_the_example_of_the_page(tmp_path):
+    [example] = re.findall(r"```python\n(.*?)```", (ROOT / "docs/WORKBENCH.md").read_text(), re.DOTALL)
+    done = subprocess.run([sys.executable, "-c", example], cwd=tmp_path, capture_output=True, text=True, check=False,
+                          env=os.environ | {"PYTHONPATH": str(ROOT / "workbench"), "MPLBACKEND": "Agg",
+                                            "MPLCONFIGDIR": str(tmp_path)})
+    assert done.returncode == 0, done.stderr
+    assert (tmp_path / "reserved.png").read_bytes().startswith(b"\x89PNG")
+
+
+def test_a_missing_package_is_named(tmp_path):
+    """Each package hidden in turn: the command names it and what installs it, and what needs none of it still runs."""
+    from srp.needs import DEBIAN
+
+    uses = {"click": ["sheet", CHOIR], "rich": ["table", CHOIR], "jinja2": ["sheet", "--html", CHOIR],
+            "dpkt": ["capture", CHOIR, "-o", str(tmp_path / "out.pcap")]}
+    for package, words in uses.items():
+        hidden = tmp_path / package
+        hidden.mkdir()
+        (hidden / "sitecustomize.py").write_text(f"import sys\nsys.modules[{package!r}] = None\n")
+        done = run("./srp", *words, environment={"PYTHONPATH": str(hidden)})
+        assert done.returncode == 2 and f"apt-get install {DEBIAN[package]}" in done.stderr
+        if package != "click":
+            assert run("./srp", "sheet", CHOIR, environment={"PYTHONPATH": str(hidden)}).returncode == 0

@@ -1,0 +1,210 @@
+"""Captures: written, read back, and read from other tools, whole and broken."""
+import shutil
+import struct
+
+import pytest
+from conftest import CHOIR, ROOT, run
+
+needs_tshark = pytest.mark.skipif(not shutil.which("tshark"), reason="tshark is not installed")
+
+MIXER, STAGE = "00:1b:21:00:00:04", "00:1b:21:00:00:01"
+GROUP = "0180c200000e"
+TALKER = "000119001e0001020000000001000191e0f0000001000200e0000170000000006c00000000"
+LISTENER = "000308000e000102000000000100016c8000000000"
+HEAD = "bridge 8000000000000001\nports 2\n"
+
+
+def frame(source, pdu, tag="", kind="22ea", padding=46):
+    """The octets of a frame in hex."""
+    return GROUP + source.replace(":", "") + tag + kind + pdu.ljust(2 * padding, "0")
+
+
+def made_by_text2pcap(path, frames, *options):
+    """A capture that text2pcap makes of frames, each with its time in seconds."""
+    dump = path.with_suffix(".dump")
+    dump.write_text("".join(f"{time:.6f}\n0000 {' '.join(octets[k:k + 2] for k in range(0, len(octets), 2))}\n\n"
+                            for time, octets in frames))
+    done = run("text2pcap", "-q", "-t", "%s.%f", *options, dump, path)
+    assert done.returncode == 0, done.stderr
+    return path
+
+
+def complaints(path):
+    """What tshark holds against a capture, and the protocol of each packet."""
+    faults = run("tshark", "-r", path, "-Y", "_ws.malformed or _ws.expert.severity >= 0x400000")
+    protocols = run("tshark", "-r", path, "-T", "fields", "-e", "_ws.col.Protocol")
+    assert faults.returncode == protocols.returncode == 0, faults.stderr + protocols.stderr
+    assert "cut short" not in faults.stderr
+    return faults.stdout, protocols.stdout.split()
+
+
+@needs_tshark
+@pytest.mark.parametrize("suffix", ["pcap", "pcapng"])
+def test_what_ports_write_is_read_by_tshark_and_comes_back(srp, tmp_path, suffix):
+    capture, again = tmp_path / f"written.{suffix}", tmp_path / f"again.{suffix}"
+    srp("capture", CHOIR, "-o", capture)
+    assert complaints(capture) == ("", ["MRP-MSRP"] * 12)
+    text = tmp_path / "text.txt"
+    text.write_text(srp("capture", capture))
+    srp("capture", text, "--received", "-o", again)
+    assert again.read_bytes() == capture.read_bytes()
+    assert srp("capture", again) == text.read_text()
+
+
+def test_what_ports_write_is_what_write_gives(srp, tmp_path):
+    import srp as package
+
+    capture = tmp_path / "written.pcap"
+    srp("capture", CHOIR, "-o", capture)
+    expected = []
+    with package.Bridge() as bridge:
+        for record in package.load(str(ROOT / CHOIR)).records:
+            bridge.call(record)
+            if record.kind == 2:
+                expected.append(f"time {record.time}")
+                expected += [f"on {port} octets {pdu.hex()}" for port in range(1, 5) for pdu in bridge.declarations(port)]
+    assert srp("capture", capture).splitlines()[2:] == [*expected, "time 500"]
+
+
+def test_the_frames_of_an_input_give_its_sheet(srp, tmp_path):
+    capture = tmp_path / "received.pcapng"
+    srp("capture", CHOIR, "--received", "-o", capture)
+    sheet = (ROOT / "examples/choir/sheet").read_text()
+    assert srp("sheet", capture, "--settings", CHOIR, "--until", 500) == sheet
+    assert srp("diff", capture, CHOIR, "--settings", CHOIR, "--until", 500) == "no difference\n"
+
+
+@needs_tshark
+def test_the_empty_pdu_is_written_padded(srp, tmp_path):
+    text, capture = tmp_path / "idle.txt", tmp_path / "idle.pcap"
+    text.write_text("bridge 8000000000000007\nports 2\ntime 100\n")
+    srp("capture", text, "-o", capture)
+    assert complaints(capture) == ("", ["MRP-MSRP"] * 2)
+    octets = capture.read_bytes()
+    assert len(octets) == 24 + 2 * (16 + 60)
+    assert octets[24 + 16:24 + 16 + 60].hex() == GROUP + "020000000001" + "22ea" + "00" * 46
+    assert srp("capture", capture) == f"{HEAD}time 100\non 1 octets 000000\non 2 octets 000000\ntime 100\n"
+
+
+@pytest.mark.parametrize("pdu", ["00", "000304", TALKER[:-4], "000000" + "00" * 1498, "000000ff"])
+def test_frames_keep_their_meaning(srp, tmp_path, pdu):
+    """Nothing is padded that a bridge would look at, and nothing is taken away that it refuses."""
+    text, capture = tmp_path / "odd.txt", tmp_path / "odd.pcap"
+    text.write_text(f"bridge 8000000000000007\nports 2\non 1 octets {pdu}\ntime 100\n")
+    srp("capture", text, "--received", "-o", capture)
+    back = pdu if pdu != "000000ff" else "000000"
+    assert srp("capture", capture, "--settings", text).splitlines()[2] == f"on 1 octets {back}"
+    assert srp("sheet", text) == srp("sheet", capture, "--settings", text, "--until", 100)
+
+
+@needs_tshark
+@pytest.mark.parametrize("kind", ["pcap", "pcapng", "nsecpcap"])
+def test_tagged_and_padded_frames_of_other_tools(srp, tmp_path, kind):
+    capture = made_by_text2pcap(tmp_path / "other", [
+        (1700000000.25, frame(STAGE, TALKER)),
+        (1700000000.26, frame("00:1b:21:00:00:09", "45" * 46, kind="0800")),
+        (1700000000.75, frame(MIXER, LISTENER, tag="8100e002")),
+        (1700000001.75, frame(MIXER, LISTENER + "ffffffff", tag="88a800648100e002", padding=0)),
+    ], "-F", kind)
+    words = ["--port", f"{STAGE.upper().replace(':', '-')}=1", "--port", f"{MIXER}=2"]
+    expected = f"{HEAD}on 1 octets {TALKER}\ntime 50\non 2 octets {LISTENER}\ntime 150\non 2 octets {LISTENER}\ntime 150\n"
+    assert srp("capture", capture, *words) == expected
+    assert "port 2 A 17088000/75000000" in srp("sheet", capture, *words)
+    named = srp("capture", capture, "--named", *words).splitlines()
+    assert named[2].startswith(f"# packet 1, from {STAGE} on interface ") and named[5].startswith(f"# packet 3, from {MIXER}")
+
+
+@needs_tshark
+def test_ports_by_interface(srp, tmp_path):
+    single = [made_by_text2pcap(tmp_path / name, [(1700000000 + k, frame(STAGE, pdu))], "-F", "pcapng", "-N", name)
+              for k, (name, pdu) in enumerate((("eth0", TALKER), ("eth1", LISTENER)))]
+    merged = tmp_path / "merged.pcapng"
+    assert run("mergecap", "-w", merged, *single).returncode == 0
+    printed = srp("capture", merged, "--port", "eth0=1", "--port", "eth1=2")
+    assert printed == f"{HEAD}on 1 octets {TALKER}\ntime 100\non 2 octets {LISTENER}\ntime 100\n"
+
+
+def pcap(*packets, link=1, order="<"):
+    """A pcap file of packets: octets in hex, and how many of them were captured."""
+    octets = struct.pack(order + "IHHiIII", 0xA1B2C3D4, 2, 4, 0, 0, 65535, link)
+    for time, (full, kept) in enumerate(packets):
+        full = bytes.fromhex(full)
+        octets += struct.pack(order + "IIII", 1700000000 + time, 0, len(full[:kept]), len(full)) + full[:kept]
+    return octets
+
+
+def fault_of(srp, tmp_path, octets, *words):
+    capture = tmp_path / "broken"
+    capture.write_bytes(octets)
+    return srp("capture", capture, "--port", f"{STAGE}=1", *words, status=2)
+
+
+GOOD = (frame(STAGE, TALKER), None)
+
+
+@pytest.mark.parametrize("octets, said", [
+    (pcap(GOOD, GOOD)[:-1], "packet 2 is cut by the end of the file"),
+    (pcap(GOOD, GOOD)[:24 + 16 + 60 + 15], "packet 2 is cut by the end of the file"),
+    (pcap(GOOD, GOOD)[:20], "cut before packet 1"),
+    (pcap(GOOD, (frame(STAGE, TALKER), 40)), "packet 2 is cut: 40 of its 60 octets were captured"),
+    (pcap(GOOD, (frame(STAGE, TALKER), 13)), "packet 2 is cut: 13 of its 60 octets were captured"),
+    (pcap(GOOD, (frame(STAGE, TALKER, tag="8100e002"), 16)), "packet 2 is cut: 16 of its 64 octets were captured"),
+    (pcap((frame(STAGE, "45" * 46, kind="0800"), None)), "none of 1 packets is MSRP (EtherType 22ea); packet 1 has EtherType 0800"),
+    (pcap(GOOD, link=113), "packet 1 is no Ethernet frame: its link type is 113"),
+    (pcap(GOOD, (frame(MIXER, TALKER), None)), f"packet 2 is from {MIXER} on interface 0, which is no port; give --port {MIXER}=N"),
+    (pcap((frame(MIXER, TALKER), None), (frame(STAGE[:-1] + "9", TALKER), None)),
+     f"packet 1 is from {MIXER} on interface 0, which is no port; give --port {MIXER}=N --port {STAGE[:-1]}9=N"),
+    (pcap(), "none of 0 packets is MSRP"),
+])
+def test_broken_and_foreign_captures(srp, tmp_path, octets, said):
+    assert said in fault_of(srp, tmp_path, octets)
+
+
+def test_times_that_go_back_make_no_advance(srp, tmp_path):
+    later, earlier = pcap(GOOD, GOOD), pcap(GOOD)
+    capture = tmp_path / "unordered"
+    capture.write_bytes(later + earlier[24:])
+    frame_line = f"on 1 octets {TALKER}\n"
+    expected = f"bridge 8000000000000001\nports 1\n{frame_line}time 100\n{frame_line}{frame_line}time 100\n"
+    assert srp("capture", capture, "--port", f"{STAGE}=1") == expected
+
+
+def test_a_capture_of_what_is_written_from_a_capture(srp, tmp_path):
+    first, second = tmp_path / "first.pcap", tmp_path / "second.pcapng"
+    srp("capture", CHOIR, "--received", "-o", first)
+    srp("capture", first, "--settings", CHOIR, "-o", second)
+    assert srp("capture", second).count("on 4 octets") == 3
+
+
+def test_a_capture_on_standard_input(tmp_path, srp):
+    capture = tmp_path / "first.pcap"
+    srp("capture", CHOIR, "--received", "-o", capture)
+    piped = run("bash", "-c", f"./srp capture - <{capture} | ./srp sheet -")
+    assert piped.stdout == srp("sheet", capture) != ""
+
+
+def test_big_endian_captures_are_read(srp, tmp_path):
+    capture = tmp_path / "big"
+    capture.write_bytes(pcap(GOOD, GOOD, order=">"))
+    assert srp("capture", capture, "--port", f"{STAGE}=1").count("on 1 octets") == 2
+
+
+@pytest.mark.parametrize("change, said", [
+    (lambda octets: octets[:-1], "packet 2 is cut by the end of the file"),
+    (lambda octets: octets[:-60], "packet 2 is cut by the end of the file"),
+    (lambda octets: octets[:-92] + b"\3\0\0\0" + octets[-88:], "packet 2 has no time"),
+    (lambda octets: octets[:-4] + b"\0\0\0\0", "packet 2 cannot be read"),
+    (lambda octets: octets[:-88] + b"\7\0\0\0" + octets[-84:], "packet 2 cannot be found: a block before it has length 7"),
+])
+def test_broken_pcapng(srp, tmp_path, change, said):
+    text, capture = tmp_path / "two.txt", tmp_path / "two.pcapng"
+    text.write_text(f"{HEAD}on 1 octets {TALKER}\non 1 octets {TALKER}\ntime 100\n")
+    srp("capture", text, "--received", "-o", capture)
+    octets = change(capture.read_bytes())
+    assert said in fault_of(srp, tmp_path, octets, "--port", "port1=1")
+
+
+def test_words_that_are_no_ports(srp):
+    for word in ("eth0", "=1", "eth0=0", "eth0=9", "eth0=x"):
+        assert f"--port {word}" in srp("capture", CHOIR, "--port", word, status=2)
+    assert "is no capture" in srp("capture", CHOIR, status=2)

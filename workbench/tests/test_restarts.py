@@ -1,0 +1,92 @@
+"""The order among ports never matters: seen over many orders, and seen to be noticed where it does."""
+import random
+import shutil
+import sys
+
+import pytest
+from conftest import CHOIR, ROOT, run
+
+WRONG = {"SRP_CALLS": f"{sys.executable} {ROOT}/workbench/tests/first_come.py"}
+
+
+def test_choir_prints_one_line(srp):
+    [line] = srp("restarts", 1000, CHOIR).splitlines()
+    assert line.startswith("1000 of 1000 orders, first order 0: table ")
+    assert "reserved port 4 A 68352000; 4 forward, 3 failed; refused none" in line
+
+
+def test_first_come_first_served_prints_several(srp):
+    lines = srp("restarts", 60, CHOIR, status=1, environment=WRONG).splitlines()
+    assert len(lines) > 1
+    assert sum(int(line.split()[0]) for line in lines) == 60
+
+
+def test_orders_keep_each_ports_own(srp):
+    from srp import inputs, records, restarts
+
+    given = inputs.load(str(ROOT / CHOIR))
+    orders = [restarts.order(given.records, 0, number) for number in range(200)]
+    fixed = [place for place, record in enumerate(given.records) if record.kind != records.RECEIVE]
+    for places in orders:
+        served = sorted((given.records[place].port, at) for at, place in enumerate(places) if place not in fixed)
+        own = [(given.records[place].port, place) for _, at in served for place in [places[at]]]
+        assert own == sorted(own)
+        assert sorted(places) == list(range(len(given.records)))
+        assert [places[place] for place in fixed] == fixed
+    # 24 orders of the first four frames, and 2 of each of the pairs behind
+    assert 60 < len(set(map(tuple, orders))) <= 96
+    first, again, other = ([restarts.order(given.records, seed, number) for number in range(9)] for seed in (0, 0, 1))
+    assert first == again != other
+
+
+def test_every_interleaving_is_as_likely():
+    from srp import records, restarts
+
+    calls = [records.receive(port, b"") for port in (1, 1, 2)]
+    found = [tuple(restarts.interleaved([0, 1, 2], calls, random.Random(seed))) for seed in range(3000)]
+    assert {order: 900 < found.count(order) < 1100 for order in set(found)} == {(0, 1, 2): True, (0, 2, 1): True, (2, 0, 1): True}
+
+
+def test_an_order_as_a_text_gives_the_same_sheet(srp, tmp_path):
+    text = tmp_path / "order.txt"
+    text.write_text(srp("restarts", 1000, CHOIR, "--order", 17))
+    assert srp("sheet", text) == srp("sheet", CHOIR)
+
+
+def test_jobs_and_shards_add_up(srp, tmp_path):
+    whole = srp("restarts", 45, CHOIR, "--seed", 5, "--jobs", 1, status=1, environment=WRONG)
+    assert whole == srp("restarts", 45, CHOIR, "--seed", 5, "--jobs", 3, status=1, environment=WRONG)
+    parts = [tmp_path / f"part{shard}" for shard in (1, 2, 3)]
+    for shard, part in enumerate(parts, 1):
+        part.write_text(srp("restarts", 45, CHOIR, "--seed", 5, "--shard", f"{shard}/3", environment=WRONG))
+    assert srp("restarts", "--merge", *parts, status=1) == whole
+    assert "shard 2/3 is there 0 times" in srp("restarts", "--merge", parts[0], parts[2], status=2)
+    assert "shard 1/3 is there 2 times" in srp("restarts", "--merge", *parts, parts[0], status=2)
+
+
+def test_parts_of_two_sweeps_are_not_added(srp, tmp_path):
+    first = srp("restarts", 4, CHOIR, "--shard", "1/2")
+    second = srp("restarts", 4, CHOIR, "--seed", 1, "--shard", "2/2")
+    assert "must be the same" in srp("restarts", "--merge", "-", status=2, given=first + second)
+
+
+@pytest.mark.skipif(not shutil.which("parallel"), reason="GNU parallel is not installed")
+def test_gnu_parallel():
+    shards = f"parallel --will-cite -j 2 ./srp restarts 200 {CHOIR} --jobs 1 --shard {{}}/4 ::: 1 2 3 4"
+    done = run("bash", "-c", f"{shards} | ./srp restarts --merge -")
+    assert done.returncode == 0, done.stderr
+    [line] = done.stdout.splitlines()
+    assert line.startswith("200 of 200 orders")
+
+
+def test_a_text_of_calls(srp, tmp_path):
+    text = tmp_path / "calls.txt"
+    text.write_text("bridge 8000000000000007\nports 3\nstart\non 1 talker 0200000000010001\non 2 talker 0200000000010002\n"
+                    "on 3 listener 0200000000010001 ready values 2\ntime 100\nwrite 3\nreport 3 place 1\nsum\n")
+    [line] = srp("restarts", 30, text).splitlines()
+    assert "port 3 A 34176000" in line
+
+
+def test_inputs_that_cannot_be_restarted(srp):
+    assert "begins with settings" in srp("restarts", 3, "examples/console/numbers.txt", status=2)
+    assert "two numbers" in srp("restarts", 3, CHOIR, "--shard", "2", status=2)

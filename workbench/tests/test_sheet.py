@@ -1,0 +1,123 @@
+"""Sheets as CSV, JSON and a page; the table in words; differences."""
+import csv
+import io
+import json
+import re
+from html.parser import HTMLParser
+
+from conftest import CHOIR, ROOT
+
+OTHER = "examples/hall-quiet/hall.txt"
+
+
+def test_several_sheets(srp):
+    printed = srp("sheet", CHOIR, OTHER)
+    assert printed == f"==> {CHOIR} <==\n{srp('sheet', CHOIR)}==> {OTHER} <==\n{srp('sheet', OTHER)}"
+
+
+def test_csv(srp):
+    rows = list(csv.DictReader(io.StringIO(srp("sheet", "--csv", CHOIR, OTHER))))
+    assert {row["input"] for row in rows} == {CHOIR, OTHER}
+    ports = [row for row in rows if row["input"] == CHOIR and row["line"] == "port"]
+    assert [(row["port"], row["total_a"], row["limit_a"]) for row in ports][3] == ("4", "68352000", "75000000")
+    [refused] = [row for row in rows if (row["stream"], row["port"], row["input"]) == ("0200000000010004", "4", CHOIR)]
+    assert (refused["column"], refused["code"], refused["cause"]) == ("failed", "1", "insufficient bandwidth")
+
+
+def test_csv_of_refused_frames(srp):
+    rows = list(csv.DictReader(io.StringIO(srp("sheet", "--csv", "examples/refused-frames/numbers.txt"))))
+    numbers = [f"refused {row['number']}" for row in rows if row["line"] == "refused"]
+    sheet = (ROOT / "examples/refused-frames/sheet").read_text().splitlines()
+    assert numbers == [line for line in sheet if line.startswith("refused")] != []
+    assert ("stop" in sheet) == any(row["line"] == "stop" for row in rows)
+
+
+def test_json(srp):
+    [sheet] = json.loads(srp("sheet", "--json", CHOIR))
+    lines = [f"{line['stream']} {line['port']} {line['column']} {line['code']} {line['listener']} {line['entry']}"
+             for line in sheet["streams"]]
+    assert lines == srp("sheet", CHOIR).splitlines()[4:]
+    assert sheet["refused"] == [] and not sheet["stopped"] and sheet["ports"][3]["total_a"] == 68352000
+
+
+class Page(HTMLParser):
+    """The words of a page, and what it would fetch."""
+
+    def __init__(self, page):
+        super().__init__()
+        self.words, self.fetched, self.open = [], [], []
+        self.feed(page)
+
+    def handle_starttag(self, tag, attributes):
+        self.fetched += [value for name, value in attributes if name in ("src", "href", "xlink:href")]
+        if tag not in ("meta", "rect"):
+            self.open.append(tag)
+
+    def handle_endtag(self, tag):
+        if tag != "rect":
+            assert self.open.pop() == tag
+
+    def handle_data(self, data):
+        self.words += data.split()
+
+
+def test_page(srp):
+    source = srp("sheet", "--html", CHOIR)
+    page = Page(source)
+    text = " ".join(page.words)
+    assert page.fetched == [] and page.open == [] and "url(" not in source and "http" not in source
+    assert "68.352 Mbit/s of 75 Mbit/s, 91 %" in text and "code 1: insufficient bandwidth" in text
+    holders = re.findall(r"17\.088 Mbit/s (\w{16}) (no room)?", text)
+    order = ["9", "1", "2", "3", "4", "5", "0"]
+    assert holders == [(f"020000000001000{digit}", "no room" * (digit in "450")) for digit in order]
+    assert "do not add up" not in text
+
+
+def test_page_of_several_inputs(srp):
+    broken = "examples/refused-settings/cut.txt", "examples/refused-frames/numbers.txt"
+    text = " ".join(Page(srp("sheet", "--html", OTHER, *broken)).words)
+    assert "The reading stopped early: the settings are refused." in text and "Refused calls: " in text
+
+
+def test_shares_add_up_on_generated_sheets():
+    """Shares that pages show are those of the table's totals, in both classes and on ports that send twice."""
+    from srp import inputs, programs, views
+
+    loads = []
+    for seed in range(25):
+        octets = programs.run([str(ROOT / "tests/reference"), "make", "sheet", str(seed)], b"")
+        loads += views.loads(inputs.run(inputs.of_sheet(f"seed {seed}", octets)).table)
+    assert all(load.adds_up for load in loads)
+    assert {load.name for load in loads if load.holders} == {"A", "B"}
+
+
+def test_table(srp, tmp_path):
+    text = tmp_path / "leaving.txt"
+    text.write_text("bridge 8000000000000007\nports 3\n"
+                    "on 1 talker 0200000000010001\non 2 listener 0200000000010001 ready\ntime 250\n"
+                    "on 1 talker 0200000000010001 size 300\non 2 listener 0200000000010001 ready leave\n"
+                    "on 3 listener 0200000000010002 asking\n")
+    printed = srp("table", text)
+    for words in ("clock 2.50 s, leave time 0.60 s", "2 streams held", "port 1: Talker Advertise to 91:e0:f0:00:00:01 VLAN 2",
+                  "changed", "port 2: Listener Ready, leaving since 2.50 s, gone from 3.10 s on", "port 3: Listener Asking Failed",
+                  "second 2 (0 s)", "forward", "no part in an advance yet"):
+        assert words in printed
+    assert "no bridge was started" in srp("table", "examples/refused-settings/cut.txt")
+
+
+def test_diff(srp, tmp_path):
+    other = tmp_path / "other.txt"
+    other.write_text((ROOT / CHOIR).read_text().replace("ports 4", "ports 3\nports 1 limits 60000000 0"))
+    assert srp("diff", CHOIR, "examples/choir/high-ports-first.txt") == "no difference\n"
+    lines = [line.split() for line in srp("diff", CHOIR, other, status=1).splitlines()]
+    assert ["port", "4", "limit_a", "75000000", "60000000"] in lines
+    assert ["port", "4", "total_a", "68352000", "51264000"] in lines
+    assert ["0200000000010003", "port", "4", "column", "advertise", "failed"] in lines
+    assert ["0200000000010003", "port", "4", "code", "0", "1", "insufficient", "bandwidth"] in lines
+    assert ["0200000000010003", "port", "2", "listener", "ready", "asking"] in lines
+
+
+def test_a_fault_of_a_text_names_its_line(srp, tmp_path):
+    text = tmp_path / "wrong.txt"
+    text.write_text("bridge 8000000000000007\nports 4\non 1 tolker 0200000000010001\n")
+    assert "line 3" in srp("sheet", text, status=2)
