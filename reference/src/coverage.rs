@@ -3,16 +3,17 @@
 
 use std::collections::BTreeMap;
 
-use crate::bridge::{Bridge, Table};
+use crate::bridge::{Bridge, Table, WriteAnswer};
 use crate::calls;
-use crate::declarations;
+use crate::declarations::Declaration;
+use crate::domain::{self, Condition, DomainRegistration, Domains, SLOTS};
 use crate::generator;
 use crate::numbers::{self, Number};
-use crate::pdu::{self, AttributeType, Event, Message, Pdu, Value, Vector, LONGEST_PDU};
+use crate::pdu::{self, AttributeType, Domain, Event, Message, Pdu, Value, Vector, LONGEST_PDU};
 use crate::records::{Call, Watcher};
-use crate::registrations::MOST_STREAMS;
-use crate::settings::{self, Settings, MOST_PORTS};
-use crate::settling::{self, ByStreamAndPort, Column, Decision, SettledStream, Step};
+use crate::registrations::{is_join, MOST_STREAMS};
+use crate::settings::{self, PerClass, Settings, CLASSES, MOST_PORTS};
+use crate::settling::{self, ByStreamAndPort, Column, Decision, Facts, SettledStream, Step};
 use crate::sheet;
 use crate::table;
 use crate::words;
@@ -45,11 +46,15 @@ const ROWS: &[&str] = &[
     "report 12",
     "report 13",
     "settings refused: length",
+    "settings refused: length 11 + 22 x ports",
     "settings refused: no ports",
     "settings refused: ports above 8",
     "settings refused: equal priorities",
     "settings refused: leave time 0",
     "settings refused: zero bits set",
+    "settings refused: bits above the VLAN set",
+    "settings refused: VLAN 0",
+    "settings refused: VLAN 4095",
     "start again on a running bridge",
     "PDU of 0 octets",
     "PDU of 1500 octets accepted",
@@ -60,11 +65,13 @@ const ROWS: &[&str] = &[
     "column step d",
     "column step e",
     "column step f",
+    "column step j",
     "column step g",
     "column step h",
     "column step i",
     "own failure 1",
     "own failure 4",
+    "own failure 8",
     "own failure 13",
     "own failure 14",
     "own failure 16",
@@ -137,6 +144,7 @@ const ROWS: &[&str] = &[
     "tables with 60 to 63 streams after an advance",
     "number 8 with 64 streams held",
     "number 8 with fewer held",
+    "number 8 with a Domain join in the PDU",
     "changed mark set",
     "changed mark cleared",
     "leaving begun by Lv or LeaveAll",
@@ -148,6 +156,52 @@ const ROWS: &[&str] = &[
     "registration removed later",
     "registration kept though leaving",
     "stream dropped",
+    "Domain 5 with priority 0 registered",
+    "Domain 5 with priority 1 registered",
+    "Domain 5 with priority 2 registered",
+    "Domain 5 with priority 3 registered",
+    "Domain 5 with priority 4 registered",
+    "Domain 5 with priority 5 registered",
+    "Domain 5 with priority 6 registered",
+    "Domain 5 with priority 7 registered",
+    "Domain 6 with priority 0 registered",
+    "Domain 6 with priority 1 registered",
+    "Domain 6 with priority 2 registered",
+    "Domain 6 with priority 3 registered",
+    "Domain 6 with priority 4 registered",
+    "Domain 6 with priority 5 registered",
+    "Domain 6 with priority 6 registered",
+    "Domain 6 with priority 7 registered",
+    "Domain of an unsupported class registered",
+    "Domain class ID out of range",
+    "Domain priority out of range",
+    "Domain out of range leaves",
+    "Domain vector with values in range and out of range",
+    "Domain vector of both class IDs",
+    "Domain LeaveAll with values out of range alone",
+    "Domain VLAN replaced",
+    "Domain leaving begun by Lv",
+    "Domain leaving begun by LeaveAll",
+    "Domain leaving begun again, the first time stays",
+    "Domain leaving ended by a join",
+    "Domain removed exactly at the leave time",
+    "Domain removed later",
+    "Domain kept though leaving",
+    "boundary: not registered",
+    "boundary: other priority",
+    "boundary: other priority beside the bridge's own",
+    "boundary: not supported",
+    "no boundary: registered",
+    "no boundary: supported nowhere",
+    "boundary of class A alone",
+    "boundary of class B alone",
+    "boundary flag set",
+    "boundary flag cleared",
+    "code 8 with a Ready listener",
+    "code 8 before 14",
+    "code 13 on a boundary port of both classes",
+    "Advertise from a boundary port",
+    "Advertise on a boundary port of the other class",
     "advance to the same time",
     "advance to 2^32 - 2 or above",
     "latency summed below 2^32 - 1",
@@ -165,8 +219,14 @@ const ROWS: &[&str] = &[
     "reserved on a port that sends twice",
     "Talker port moved",
     "second Talker on a port above",
-    "write of Advertise, Failed and Listener",
+    "write of Advertise, Failed, Listener and Domain",
+    "write of Domain alone",
+    "write of Domain before an advance",
+    "write on a port without Domain",
+    "write that ends before the Domain Message",
+    "write that ends between two Domains",
     "write of exactly 1500 octets",
+    "write of exactly 1500 octets with Domain",
     "write with declarations left over",
     "write from a next place",
     "write at place = count",
@@ -203,6 +263,12 @@ const ROWS: &[&str] = &[
     "form rule 22 broken alone",
     "form rule 23 broken alone",
     "form rule 24 broken alone",
+    "form rule 25 broken alone",
+    "form rule 26 broken alone",
+    "form rule 27 broken alone",
+    "form rule 28 broken alone",
+    "form rule 29 broken alone",
+    "form rule 30 broken alone",
     "octet stored that breaks the form",
     "octet stored that keeps the form",
     "sum of the table's octets",
@@ -250,7 +316,26 @@ fn decisions(bridge: &Bridge) -> ByStreamAndPort<Decision> {
             }
         }
     }
-    settling::decide(&bridge.settings, &bridge.registrations, &since).columns
+    let Bridge { settings, registrations, settled, .. } = bridge;
+    let facts = Facts { settings, registrations, boundaries: &settled.boundaries };
+    settling::decide(&facts, &since).columns
+}
+
+/// The Domain values of a PDU with their events.
+fn domains_of(pdu: &Pdu) -> impl Iterator<Item = (Event, Domain)> + '_ {
+    pdu.vectors().flat_map(domains_of_vector)
+}
+
+fn domains_of_vector(vector: &Vector) -> impl Iterator<Item = (Event, Domain)> + '_ {
+    vector.values.iter().filter_map(|(event, value)| match value {
+        Value::Domain(domain) => Some((*event, *domain)),
+        _ => None,
+    })
+}
+
+/// Whether a bridge holds such a value.
+fn is_held(domain: Domain) -> bool {
+    domain::slot(domain.class_id, domain.priority).is_some()
 }
 
 fn talker_port(bridge: &Bridge, stream_id: u64) -> Option<usize> {
@@ -343,9 +428,16 @@ impl Coverage {
                 let priority_a = octets[8] >> 1 & 7;
                 let priority_b = (octets[8] & 1) << 2 | octets[9] >> 6;
                 let zeros = (0..ports).any(|port| octets[settings::length(port)] & 0x1f != 0);
+                let vlan = pdu::number_of(&octets[11..13]);
                 self.count_if("settings refused: equal priorities", priority_a == priority_b);
                 self.count_if("settings refused: leave time 0", leave_time == 0);
                 self.count_if("settings refused: zero bits set", zeros);
+                self.count_if("settings refused: bits above the VLAN set", vlan >> 12 != 0);
+                self.count_if("settings refused: VLAN 0", vlan == 0);
+                self.count_if("settings refused: VLAN 4095", vlan == 4_095);
+            }
+            Some(ports) if octets.len() + 2 == settings::length(ports) => {
+                self.count("settings refused: length 11 + 22 x ports");
             }
             _ => self.count("settings refused: length"),
         }
@@ -365,6 +457,7 @@ impl Coverage {
                 if let Some(before) = before {
                     self.registrations(&before, after);
                     self.left_again(&before, port as usize, &pdu);
+                    self.domains(&before, after, port as usize, &pdu);
                 }
                 let held = after.registrations.streams.len();
                 if held > held_before {
@@ -386,6 +479,10 @@ impl Coverage {
             numbers::STREAMS => {
                 self.count_if("number 8 with 64 streams held", held_before == MOST_STREAMS);
                 self.count_if("number 8 with fewer held", held_before < MOST_STREAMS);
+                let pdu = pdu::read(octets).expect("refused for its streams alone");
+                let joins =
+                    domains_of(&pdu).any(|(event, domain)| is_join(event) && is_held(domain));
+                self.count_if("number 8 with a Domain join in the PDU", joins);
             }
             _ => {}
         }
@@ -442,9 +539,10 @@ impl Coverage {
                 self.count_if("last destination at its bound", at_bound);
             }
             Some((_, Value::Listener(stream_id, _))) => self.last_unique_id(*stream_id, values),
-            Some((_, Value::Domain)) => {
-                let last = vector.first_value[0].max(vector.first_value[1]) as usize + values - 1;
-                self.count_if("last Domain octet at its bound", last == 255);
+            Some((_, Value::Domain(last))) => {
+                let at_bound = last.class_id.max(last.priority) == 255;
+                self.count_if("last Domain octet at its bound", at_bound);
+                self.domain_vector(vector);
             }
             None => {}
         }
@@ -502,12 +600,152 @@ impl Coverage {
                         let left_stream = match value {
                             Value::Talker(talker) => Some(talker.stream_id),
                             Value::Listener(stream_id, Some(_)) => Some(*stream_id),
-                            Value::Listener(_, None) | Value::Domain => None,
+                            Value::Listener(_, None) | Value::Domain(_) => None,
                         };
                         *event == Event::Lv && left_stream == Some(*stream_id)
                     });
                 self.count_if("leaving begun again, the first time stays", earlier && left);
             }
+        }
+    }
+
+    /// Domain values in range and out of range.
+    fn domain_vector(&mut self, vector: &Vector) {
+        let domains: Vec<(Event, Domain)> = domains_of_vector(vector).collect();
+        for (event, domain) in &domains {
+            let class_id_held = domain::CLASS_IDS.contains(&domain.class_id);
+            self.count_if("Domain class ID out of range", is_join(*event) && !class_id_held);
+            let dropped = !is_held(*domain);
+            let by_priority = class_id_held && dropped;
+            self.count_if("Domain priority out of range", is_join(*event) && by_priority);
+            self.count_if("Domain out of range leaves", *event == Event::Lv && dropped);
+        }
+        let joined: Vec<Domain> = domains
+            .iter()
+            .filter(|(event, _)| is_join(*event))
+            .map(|(_, domain)| *domain)
+            .collect();
+        let held = joined.iter().filter(|domain| is_held(**domain)).count();
+        let mixed = held > 0 && held < joined.len();
+        self.count_if("Domain vector with values in range and out of range", mixed);
+        self.count_if("Domain vector of both class IDs", held > 1);
+        let strange = !joined.is_empty() && held == 0;
+        let leaves_all = vector.leave_all && strange;
+        self.count_if("Domain LeaveAll with values out of range alone", leaves_all);
+    }
+
+    /// What an accepted PDU did to the Domain registrations of its port.
+    fn domains(&mut self, before: &Bridge, after: &Bridge, port: usize, pdu: &Pdu) {
+        let (was, is) =
+            (&before.registrations.domains[port - 1], &after.registrations.domains[port - 1]);
+        let leaves_all = pdu
+            .vectors()
+            .any(|vector| vector.leave_all && vector.attribute_type == AttributeType::Domain);
+        for slot in 0..SLOTS {
+            let class_id = domain::CLASS_IDS[slot / domain::PRIORITIES];
+            let priority = (slot % domain::PRIORITIES) as u8;
+            if was[slot].is_none() && is[slot].is_some() {
+                self.count(&format!("Domain {class_id} with priority {priority} registered"));
+            }
+            let left = domains_of(pdu).any(|(event, domain)| {
+                event == Event::Lv && domain::slot(domain.class_id, domain.priority) == Some(slot)
+            });
+            if let (Some(was), Some(is)) = (was[slot], is[slot]) {
+                self.domain_kept(was, is, (left, leaves_all), before.clock);
+            }
+        }
+        let supports = before.settings.ports[port - 1].supports;
+        for class in CLASSES {
+            let priorities = |domains: &Domains| domain::priorities(domains, class).count();
+            let more = priorities(is) > priorities(was);
+            self.count_if("Domain of an unsupported class registered", more && !supports.of(class));
+        }
+    }
+
+    /// A Domain registration before and after a PDU that has an Lv of it, or a LeaveAll.
+    fn domain_kept(
+        &mut self,
+        was: DomainRegistration,
+        is: DomainRegistration,
+        (left, left_by_all): (bool, bool),
+        clock: u32,
+    ) {
+        self.count_if("Domain VLAN replaced", was.vlan != is.vlan);
+        let begun = was.leaving.is_none() && is.leaving.is_some();
+        self.count_if("Domain leaving begun by Lv", begun && !left_by_all);
+        self.count_if("Domain leaving begun by LeaveAll", begun && !left);
+        let ended = was.leaving.is_some() && is.leaving.is_none();
+        self.count_if("Domain leaving ended by a join", ended);
+        let earlier = was.leaving.map_or(false, |begun| begun < clock);
+        let again = earlier && is.leaving.is_some() && (left || left_by_all);
+        self.count_if("Domain leaving begun again, the first time stays", again);
+    }
+
+    fn domains_left(&mut self, time: u32, before: &Bridge) {
+        let leave_time = before.settings.leave_time;
+        let domains = before.registrations.domains.iter().flatten().flatten();
+        for begun in domains.filter_map(|domain| domain.leaving) {
+            let gone_for = time - begun;
+            self.count_if("Domain removed exactly at the leave time", gone_for == leave_time);
+            self.count_if("Domain removed later", gone_for > leave_time);
+            self.count_if("Domain kept though leaving", gone_for < leave_time);
+        }
+    }
+
+    /// The boundary flags that an advance has decided.
+    fn boundaries(&mut self, before: &Bridge, after: &Bridge) {
+        let Bridge { settings, registrations, settled, .. } = after;
+        for port in 1..=settings.ports.len() {
+            for class in CLASSES {
+                let registered = || domain::priorities(&registrations.domains[port - 1], class);
+                let supported = settings.ports[port - 1].supports.of(class);
+                match domain::condition(settings, &registrations.domains, port, class) {
+                    Some(Condition::NotRegistered) => self.count("boundary: not registered"),
+                    Some(Condition::OtherPriority) => {
+                        self.count("boundary: other priority");
+                        let own = registered().any(|held| held == settings.priority.of(class));
+                        self.count_if("boundary: other priority beside the bridge's own", own);
+                    }
+                    Some(Condition::NotSupported) => self.count("boundary: not supported"),
+                    None if supported => self.count("no boundary: registered"),
+                    None => self.count("no boundary: supported nowhere"),
+                }
+                let was = before.settled.boundaries[port - 1].of(class);
+                let is = settled.boundaries[port - 1].of(class);
+                self.count_if("boundary flag set", !was && is);
+                self.count_if("boundary flag cleared", was && !is);
+            }
+            let both = settings.ports[port - 1].supports == PerClass { a: true, b: true };
+            let flags = settled.boundaries[port - 1];
+            self.count_if("boundary of class A alone", both && flags.a && !flags.b);
+            self.count_if("boundary of class B alone", both && flags.b && !flags.a);
+        }
+    }
+
+    /// A column on or beside a boundary port.
+    fn at_the_edge(&mut self, bridge: &Bridge, stream_id: u64, port: usize, step: Step) {
+        let flags = |port: usize| bridge.settled.boundaries[port - 1];
+        let settled = &bridge.settled.streams[&stream_id];
+        let on_port = &bridge.registrations.streams[&stream_id][port - 1];
+        let edge = step == Step::J;
+        let asked = on_port
+            .listener
+            .as_ref()
+            .map_or(false, |listener| listener.listener_type != pdu::ListenerType::AskingFailed);
+        self.count_if("code 8 with a Ready listener", edge && asked);
+        let largest = bridge.settings.ports[port - 1].largest_frame;
+        let large = settled.parameters.max_frame_size > largest;
+        self.count_if("code 8 before 14", edge && large);
+        let both = flags(port) == PerClass { a: true, b: true };
+        self.count_if("code 13 on a boundary port of both classes", step == Step::F && both);
+        if let (Step::I, Some(at), Some(class)) = (
+            step,
+            talker_port(bridge, stream_id),
+            bridge.settings.class_of(settled.parameters.priority),
+        ) {
+            self.count_if("Advertise from a boundary port", flags(at + 1).of(class));
+            let other = flags(port).a || flags(port).b;
+            self.count_if("Advertise on a boundary port of the other class", other);
         }
     }
 
@@ -540,6 +778,8 @@ impl Coverage {
         self.count_if("tables with 60 to 63 streams after an advance", (60..=63).contains(&held));
         self.settled(after);
         self.importance(after);
+        self.domains_left(time, before);
+        self.boundaries(before, after);
     }
 
     fn settled(&mut self, bridge: &Bridge) {
@@ -551,6 +791,7 @@ impl Coverage {
                 Step::D => ("column step d", Some(16)),
                 Step::E => ("column step e", Some(4)),
                 Step::F => ("column step f", Some(13)),
+                Step::J => ("column step j", Some(8)),
                 Step::G => ("column step g", Some(14)),
                 Step::H => ("column step h", Some(1)),
                 Step::I => ("column step i", None),
@@ -580,6 +821,7 @@ impl Coverage {
                 talker_port.map_or(false, |at| at + 1 < port) && on_port.talker.is_some()
             });
             self.latency(bridge, stream_id, port);
+            self.at_the_edge(bridge, stream_id, port, decision.step);
             if let Some(compared) = decision.compared {
                 let (demand, left) = (compared.demand.0, compared.left.0);
                 self.count_if("demand exactly what is left", demand == left && demand > 0);
@@ -660,9 +902,10 @@ impl Coverage {
         }
     }
 
-    fn wrote(&mut self, bridge: &Bridge, port: u32, place: u32, number: Number, next: usize) {
+    fn wrote(&mut self, bridge: &Bridge, port: u32, place: u32, answer: WriteAnswer) {
+        let WriteAnswer { number, length, next_place: next } = answer;
         let place = place as usize;
-        let declarations = declarations::of_port(&bridge.settled, port as usize);
+        let declarations = bridge.declarations(port as usize);
         let count = declarations.len();
         self.count_if("write at place = count + 1", number != 0 && place == count + 1);
         if number != numbers::ACCEPTED {
@@ -677,10 +920,21 @@ impl Coverage {
         let has = |attribute_type| {
             taken.iter().any(|declaration| declaration.attribute_type() == attribute_type)
         };
-        let all = has(AttributeType::TalkerAdvertise)
-            && has(AttributeType::TalkerFailed)
-            && has(AttributeType::Listener);
-        self.count_if("write of Advertise, Failed and Listener", all);
+        let all = pdu::ATTRIBUTE_TYPES.into_iter().all(has);
+        self.count_if("write of Advertise, Failed, Listener and Domain", all);
+        let full = length == LONGEST_PDU;
+        self.count_if("write of exactly 1500 octets", full);
+        let has_domain = has(AttributeType::Domain);
+        self.count_if("write of exactly 1500 octets with Domain", full && has_domain);
+        let is_domain = |one: &Declaration| one.attribute_type() == AttributeType::Domain;
+        self.count_if("write of Domain alone", has_domain && taken.iter().all(is_domain));
+        self.count_if("write of Domain before an advance", has_domain && bridge.clock == 0);
+        self.count_if("write on a port without Domain", !declarations.iter().any(is_domain));
+        if let (Some(last), Some(first_left)) = (taken.last(), declarations.get(next)) {
+            let ends_before = is_domain(first_left) && !is_domain(last);
+            self.count_if("write that ends before the Domain Message", ends_before);
+            self.count_if("write that ends between two Domains", is_domain(last));
+        }
     }
 
     fn reported(&mut self, bridge: &Bridge, place: u32, number: Number) {
@@ -731,8 +985,7 @@ impl Watcher for Coverage {
                     }
                 }
                 Call::Write { port, place, answer } => {
-                    self.wrote(bridge, *port, *place, number, answer.next_place);
-                    self.count_if("write of exactly 1500 octets", answer.length == LONGEST_PDU);
+                    self.wrote(bridge, *port, *place, *answer);
                 }
                 Call::Report { place, .. } => self.reported(bridge, *place, number),
             }

@@ -1,18 +1,21 @@
 //! Inputs for comparisons, each a function of its seed alone.
 //!
 //! Most of an input is a well-formed history: few streams, so that ports meet in them; Talkers
-//! and Listeners on different ports; limits around sums of demands. Damaged frames, wrong ports,
+//! and Listeners on different ports; limits around sums of demands; neighbours that are mostly in
+//! the bridge's own domain, so that streams are admitted towards them. Damaged frames, wrong ports,
 //! wrong settings and cut records are mixed in, in scripts of calls also octets stored in the
 //! table. The generator makes each call on a table of its own while it writes, so that it knows
 //! the clock, the streams held, the next places and the octet that stood where one is stored.
 
 use crate::bridge::{Table, ROOM_LENGTH};
 use crate::declarations;
+use crate::domain;
 use crate::frame::{FrameDraft, MessageDraft, VectorDraft};
-use crate::pdu::{AttributeType, Failure, Parameters, StreamId, Talker, LONGEST_PDU};
+use crate::pdu::{AttributeType, Domain, Failure, Parameters, StreamId, Talker, LONGEST_PDU};
 use crate::random::Random;
 use crate::registrations::MOST_STREAMS;
-use crate::settings::{self, PerClass, PortSettings, Settings, CLASSES, MOST_PORTS};
+use crate::settings::{self, Class, PerClass, PortSettings, Settings, CLASSES};
+use crate::settings::{GREATEST_VLAN, MOST_PORTS};
 use crate::settling;
 use crate::sheet;
 use crate::stored;
@@ -81,7 +84,9 @@ fn plan(random: &mut Random, size: Size) -> Plan {
     let any_leave_time = random.between(1, 16_383) as u32;
     let leave_time = random.one_of(&[60, 60, 60, 100, 1, 2, 10, 250, 16_383, any_leave_time]);
     let bridge_id = random.bits() >> random.one_of(&[0, 0, 16, 63]);
-    let mut settings = Settings { bridge_id, priority, leave_time, ports };
+    let any_vlan = random.between(1, u64::from(GREATEST_VLAN)) as u16;
+    let vlan = random.one_of(&[2, 2, 2, 1, GREATEST_VLAN, any_vlan]);
+    let mut settings = Settings { bridge_id, priority, leave_time, vlan, ports };
     let rivals = random.percent(30);
     let mut groups = groups(random, &settings, size, rivals);
     if rivals {
@@ -275,6 +280,104 @@ fn choose_limits(random: &mut Random, settings: &mut Settings, groups: &[Group],
     }
 }
 
+// ---- domains ----
+
+/// What a neighbour declares of a class that has the bridge's own priority there. The VLAN is
+/// compared with nothing.
+fn own_domain(random: &mut Random, settings: &Settings, class: Class) -> Domain {
+    let any_vlan = random.bits() as u16;
+    Domain {
+        class_id: domain::class_id(class),
+        priority: settings.priority.of(class),
+        vlan: random.one_of(&[settings.vlan, settings.vlan, settings.vlan, 0, any_vlan]),
+    }
+}
+
+/// The same with another priority.
+fn other_domain(random: &mut Random, settings: &Settings, class: Class) -> Domain {
+    let mut domain = own_domain(random, settings, class);
+    domain.priority = (domain.priority + random.between(1, 7) as u8) % 8;
+    domain
+}
+
+/// A Domain value: mostly of the bridge's own domain, else of another one or not held at all. With
+/// more values behind it one that isn't held may reach one that is.
+fn some_domain(random: &mut Random, settings: &Settings) -> Domain {
+    let class = random.one_of(&CLASSES);
+    let mut domain = own_domain(random, settings, class);
+    match random.below(20) {
+        0..=12 => {}
+        13..=14 => domain.priority = random.below(8) as u8,
+        15 => domain.class_id = random.one_of(&[0, 7, 250, 255]),
+        16 => domain.priority = random.one_of(&[8, 250, 255]),
+        _ => {
+            domain.class_id = random.one_of(&[3, 4, 4]);
+            domain.priority = random.below(8) as u8;
+        }
+    }
+    domain
+}
+
+/// A vector of some Domain values.
+fn domain_vector(random: &mut Random, settings: &Settings) -> VectorDraft {
+    let count = random.one_of(&[1, 1, 1, 1, 1, 1, 2, 2, 3, 4, 0]);
+    let style = random.below(20);
+    let one_join = random.one_of(&JOINS);
+    let event = |random: &mut Random| match style {
+        0..=13 => one_join,
+        14..=16 => LV,
+        _ => random.below(6) as u8,
+    };
+    VectorDraft {
+        leave_all_event: u8::from(count == 0 || random.percent(12)),
+        first_value: some_domain(random, settings).octets(),
+        events: (0..count).map(|_| event(random)).collect(),
+        spare_event: if random.percent(10) { random.below(6) as u8 } else { 0 },
+        ..VectorDraft::default()
+    }
+}
+
+/// A vector of one Domain that joins.
+fn domain_join(random: &mut Random, domain: Domain) -> VectorDraft {
+    VectorDraft {
+        first_value: domain.octets(),
+        events: vec![random.one_of(&JOINS)],
+        ..VectorDraft::default()
+    }
+}
+
+/// The vectors of a neighbour in the bridge's own domain, for both classes; one vector where the
+/// priorities follow each other as the class IDs do.
+fn own_domain_vectors(random: &mut Random, settings: &Settings) -> Vec<VectorDraft> {
+    let class_b = own_domain(random, settings, Class::B);
+    let mut first = domain_join(random, class_b);
+    if settings.priority.a == settings.priority.b + 1 && random.percent(70) {
+        first.events.push(random.one_of(&JOINS));
+        return vec![first];
+    }
+    let class_a = own_domain(random, settings, Class::A);
+    vec![first, domain_join(random, class_a)]
+}
+
+/// The vectors of a neighbour that isn't in the bridge's own domain, or only for one class.
+fn strange_domain_vectors(random: &mut Random, settings: &Settings) -> Vec<VectorDraft> {
+    let mut vectors = match random.below(4) {
+        0 => Vec::new(),
+        1 => own_domain_vectors(random, settings),
+        _ => {
+            let class = random.one_of(&CLASSES);
+            let domain = own_domain(random, settings, class);
+            vec![domain_join(random, domain)]
+        }
+    };
+    if random.percent(60) {
+        let class = random.one_of(&CLASSES);
+        let domain = other_domain(random, settings, class);
+        vectors.push(domain_join(random, domain));
+    }
+    vectors
+}
+
 // ---- frames ----
 
 /// A vector of neighbours of a group, of one of the known types.
@@ -284,6 +387,9 @@ fn vector(
     group: &Group,
     attribute_type: AttributeType,
 ) -> VectorDraft {
+    if attribute_type == AttributeType::Domain {
+        return domain_vector(random, settings);
+    }
     // Which of the group: all, one, some, or one past its end.
     let (skip, mut count) = match random.below(20) {
         0..=9 => (0, group.members),
@@ -361,9 +467,7 @@ fn first_value(
         }
         AttributeType::Listener => talker.stream_id.to_be_bytes().to_vec(),
         AttributeType::Domain => {
-            let class_id = random.one_of(&[5, 6, 6, 0, 250, 255]);
-            let priority = random.one_of(&[2, 3, 3, 7, 255]);
-            vec![class_id, priority, 0, 2]
+            vec![random.below(3) as u8, random.below(3) as u8, 0, settings.vlan as u8]
         }
     }
 }
@@ -605,7 +709,7 @@ fn near_the_fields_end(random: &mut Random, attribute_type: u8, vector: &mut Vec
 
 fn wrong_settings(random: &mut Random, settings: &Settings) -> Vec<u8> {
     let mut octets = settings::write(settings);
-    match random.below(11) {
+    match random.below(16) {
         0 => {
             octets[8] &= 0x0f; // no ports
             if random.percent(50) {
@@ -639,6 +743,12 @@ fn wrong_settings(random: &mut Random, settings: &Settings) -> Vec<u8> {
         7 => octets.push(0),
         8 => octets.resize(octets.len() + settings::PORT_LENGTH, 0),
         9 => octets.truncate(random.below(octets.len() as u64) as usize),
+        10 => octets[11] |= 1 << random.between(4, 7),
+        11..=12 => {
+            let vlan = random.one_of(&[0, GREATEST_VLAN + 1]);
+            octets[11..13].copy_from_slice(&vlan.to_be_bytes());
+        }
+        13..=14 => drop(octets.drain(11..13)), // the length without a VLAN
         _ => octets.truncate(octets.len() - settings::PORT_LENGTH),
     }
     octets
@@ -733,6 +843,53 @@ impl History {
         self.advance(time);
     }
 
+    /// What the neighbour of a port says of the domain, mostly that it is in the bridge's own; with
+    /// LeaveAll where it says so again. Nothing from one that knows no domain.
+    fn domain_frame(&mut self, plan: &Plan, leave_all_event: u8) -> Option<Vec<u8>> {
+        let (random, settings) = (&mut self.random, &plan.settings);
+        let mut vectors = match random.percent(86) {
+            true => own_domain_vectors(random, settings),
+            false => strange_domain_vectors(random, settings),
+        };
+        vectors.first_mut()?.leave_all_event = leave_all_event;
+        let message = MessageDraft::new(AttributeType::Domain, vectors);
+        Some(FrameDraft::new(vec![message]).octets())
+    }
+
+    /// The neighbours of all ports say what domain they are in.
+    fn hear_domains(&mut self, plan: &Plan) {
+        let mut ports: Vec<u32> = (1..=plan.ports()).collect();
+        self.random.shuffle(&mut ports);
+        for port in ports {
+            if let Some(frame) = self.domain_frame(plan, 0) {
+                self.receive(port, &frame);
+            }
+        }
+    }
+
+    /// A neighbour says again what domain it is in, at times after another one. What it doesn't say
+    /// again expires at the end of the leave time.
+    fn hear_domain_again(&mut self, plan: &Plan) {
+        let port = self.port(plan);
+        if self.random.percent(40) {
+            let vectors = strange_domain_vectors(&mut self.random, &plan.settings);
+            let message = MessageDraft::new(AttributeType::Domain, vectors);
+            self.receive(port, &FrameDraft::new(vec![message]).octets());
+            self.some_advance(plan);
+        }
+        let begun = self.clock();
+        if let Some(frame) = self.domain_frame(plan, 1) {
+            self.receive(port, &frame);
+        }
+        let leave_time = plan.settings.leave_time;
+        if self.random.percent(40) {
+            self.advance(begun.saturating_add(leave_time - 1));
+        }
+        if self.random.percent(60) {
+            self.advance(begun.saturating_add(leave_time));
+        }
+    }
+
     /// All groups: their Talker on its port and Listeners, mostly Ready, on others; then time. The
     /// frames come in any order, or group by group with time in between, so that ages differ.
     fn opening(&mut self, plan: &Plan) {
@@ -825,18 +982,26 @@ impl History {
             };
             MessageDraft::new(AttributeType::TalkerAdvertise, vec![vector])
         };
+        let mut messages = vec![message];
+        if self.random.percent(30) {
+            let vectors = strange_domain_vectors(&mut self.random, &plan.settings);
+            messages.insert(0, MessageDraft::new(AttributeType::Domain, vectors));
+        }
         // With no values the header would be an EndMark, and the list wouldn't end with it.
-        self.receive(port, &FrameDraft::new(vec![message]).octets());
+        self.receive(port, &FrameDraft::new(messages).octets());
     }
 
-    /// A group of streams leaves on a port, by Lv or by LeaveAll.
-    fn leave(&mut self, port: u32, group: &Group, attribute_type: AttributeType) {
+    /// A group of streams, or a Domain, leaves on a port, by Lv or by LeaveAll.
+    fn leave(&mut self, plan: &Plan, port: u32, group: &Group, attribute_type: AttributeType) {
         let mut vector = VectorDraft {
             first_value: vec![0; attribute_type.first_value_length()],
             ..VectorDraft::default()
         };
         if self.random.percent(35) {
             vector.leave_all_event = 1;
+        } else if attribute_type == AttributeType::Domain {
+            vector.first_value = some_domain(&mut self.random, &plan.settings).octets();
+            vector.events = vec![LV];
         } else {
             let stream_id = group.first.stream_id.to_be_bytes();
             vector.first_value[..8].copy_from_slice(&stream_id);
@@ -850,23 +1015,24 @@ impl History {
         self.receive(port, &FrameDraft::new(vec![message]).octets());
     }
 
-    /// A group leaves; before the leave time is over it leaves again, joins or does nothing; then
-    /// time goes to the end of the leave time, counted from the first leaving.
+    /// A group or a Domain leaves; before the leave time is over it leaves again, joins or does
+    /// nothing; then time goes to the end of the leave time, counted from the first leaving.
     fn leave_and_wait(&mut self, plan: &Plan) {
         let group = self.random.one_of(&plan.groups);
         let port = if self.random.percent(50) { group.talker_port } else { self.port(plan) };
         let attribute_type = match self.random.below(5) {
+            0 => AttributeType::Domain,
             _ if port != group.talker_port => AttributeType::Listener,
-            0 => AttributeType::TalkerFailed,
+            1 => AttributeType::TalkerFailed,
             _ => AttributeType::TalkerAdvertise,
         };
         let begun = self.clock();
         let leave_time = plan.settings.leave_time;
-        self.leave(port, &group, attribute_type);
+        self.leave(plan, port, &group, attribute_type);
         let part = self.random.below(u64::from(leave_time)) as u32;
         self.advance(begun.saturating_add(part));
         match self.random.below(6) {
-            0..=2 => self.leave(port, &group, attribute_type),
+            0..=2 => self.leave(plan, port, &group, attribute_type),
             3 => {
                 let frame = frame(&mut self.random, plan, port);
                 self.receive(port, &frame.octets());
@@ -879,13 +1045,18 @@ impl History {
         if self.random.percent(80) {
             self.advance(begun.saturating_add(leave_time));
         }
+        if attribute_type == AttributeType::Domain {
+            let vectors = own_domain_vectors(&mut self.random, &plan.settings);
+            let message = MessageDraft::new(AttributeType::Domain, vectors);
+            self.receive(port, &FrameDraft::new(vec![message]).octets());
+        }
     }
 
     /// One thing that happens to a bridge: mostly a frame or an advance.
     fn step(&mut self, plan: &Plan) {
         let port = self.port(plan);
         let fill_weight = if plan.size == Size::Full { 8 } else { 1 };
-        match self.random.weighted(&[58, 26, 11, 3, 3, fill_weight]) {
+        match self.random.weighted(&[58, 26, 11, 3, 4, 4, fill_weight]) {
             0 => {
                 let frame = frame(&mut self.random, plan, port);
                 self.receive(port, &frame.octets());
@@ -905,6 +1076,7 @@ impl History {
                 self.receive(port, &octets);
             }
             4 => self.leave_and_wait(plan),
+            5 => self.hear_domain_again(plan),
             _ => self.fill(plan),
         }
     }
@@ -976,6 +1148,9 @@ pub fn sheet(seed: u64) -> Vec<u8> {
     } else {
         history.octets = settings::write(&plan.settings);
         history.table.start(&history.octets.clone());
+    }
+    if history.random.percent(94) {
+        history.hear_domains(&plan);
     }
     if history.random.percent(80) {
         history.opening(&plan);
@@ -1122,8 +1297,11 @@ impl History {
 
     /// A bridge whose port 2 has declarations for a PDU of 1,500 octets, a few more or a few less.
     fn longest_pdu(&mut self) {
-        // Version and EndMark take 3 octets, each Message 6, and a value 28, 37 or 12.
+        // Version and EndMark take 3 octets, each Message 6, and a value 28, 37, 12 or, for a Domain,
+        // 7. There are two Domains: both fit with the first of these, one with the second.
         let (advertise, failed, listening) = self.random.one_of(&[
+            (26, 11, 27),
+            (28, 10, 26),
             (20, 25, 0),
             (0, 33, 22),
             (48, 3, 2),
@@ -1146,9 +1324,15 @@ impl History {
             bridge_id: self.random.bits(),
             priority: PerClass { a: 3, b: 2 },
             leave_time: 60,
+            vlan: 2,
             ports: vec![port.clone(), port],
         };
         self.start(&settings::write(&settings));
+        for port in [1, 2] {
+            let vectors = own_domain_vectors(&mut self.random, &settings);
+            let message = MessageDraft::new(AttributeType::Domain, vectors);
+            self.receive(port, &FrameDraft::new(vec![message]).octets());
+        }
         let mut stream_id: StreamId = 0x0200_0000_0001_0000 + self.random.below(1_000);
         let failure = Failure { bridge_id: self.random.bits(), code: self.random.octet() };
         for (port, count, failure) in
@@ -1200,7 +1384,7 @@ impl History {
         if self.random.percent(50) {
             let count = match self.table.bridge() {
                 Some(bridge) if (1..=bridge.settings.ports.len()).contains(&(port as usize)) => {
-                    declarations::of_port(&bridge.settled, port as usize).len() as u16
+                    bridge.declarations(port as usize).len() as u16
                 }
                 _ => 0,
             };
@@ -1308,7 +1492,7 @@ pub fn calls(seed: u64) -> Script {
             history.some_call(&plan);
         }
     }
-    if history.random.percent(4) {
+    if history.random.percent(6) {
         history.longest_pdu();
     }
     // A few scripts have no start of their own: alone they get 12 for all, in a batch they go on
@@ -1326,6 +1510,12 @@ pub fn calls(seed: u64) -> Script {
         if starts > 0 {
             let settings = settings::write(&plan.settings);
             history.start(&settings);
+        }
+        if history.random.percent(10) {
+            history.sweep(&plan);
+        }
+        if history.random.percent(94) {
+            history.hear_domains(&plan);
         }
         if history.random.percent(80) {
             history.opening(&plan);

@@ -1,8 +1,9 @@
-//! Settling: attribute propagation and reserved bandwidth (01, "Settling"; 802.1Qat clauses
-//! 35.2.4.1 to 35.2.4.4, Tables 35-12 and 35-14).
+//! Settling: attribute propagation and reserved bandwidth (01, "Settling"; 02, (ii); 802.1Qat
+//! clauses 35.2.4.1 to 35.2.4.4, Tables 35-12 and 35-14).
 
 use std::collections::BTreeMap;
 
+use crate::domain;
 use crate::pdu::{Failure, ListenerType, Parameters, StreamId};
 use crate::registrations::{OnPort, Registrations, TalkerRegistration};
 use crate::settings::{Class, PerClass, PortSettings, Settings, CLASSES};
@@ -36,7 +37,8 @@ pub fn rate(class: Class, demand: OctetsPerInterval) -> BitsPerSecond {
     BitsPerSecond(demand.0 * 8 * intervals)
 }
 
-/// The steps a to i, of which the first that applies gives the column.
+/// The steps, of which the first that applies gives the column. A step of a later request has a
+/// later letter, and stands where it is tested.
 #[derive(Clone, Copy, Debug, PartialEq, Eq, PartialOrd, Ord)]
 pub enum Step {
     A,
@@ -45,6 +47,7 @@ pub enum Step {
     D,
     E,
     F,
+    J,
     G,
     H,
     I,
@@ -132,13 +135,27 @@ pub struct Settled {
     pub streams: BTreeMap<StreamId, SettledStream>,
     /// The reserved sums of each port, port 1 first.
     pub totals: Vec<PerClass<u64>>,
+    /// The boundary flags of each port, port 1 first.
+    pub boundaries: Vec<PerClass<bool>>,
 }
 
 impl Settled {
     /// The state that start leaves.
     pub fn empty(port_count: usize) -> Settled {
-        Settled { streams: BTreeMap::new(), totals: vec![PerClass::default(); port_count] }
+        Settled {
+            streams: BTreeMap::new(),
+            totals: vec![PerClass::default(); port_count],
+            boundaries: vec![PerClass::default(); port_count],
+        }
     }
+}
+
+/// What the columns are decided by.
+pub struct Facts<'a> {
+    pub settings: &'a Settings,
+    pub registrations: &'a Registrations,
+    /// The boundary flags of each port, port 1 first.
+    pub boundaries: &'a [PerClass<bool>],
 }
 
 /// The Talker port of a stream: the lowest port with a Talker registration. With it, what is
@@ -147,12 +164,9 @@ fn talker_port(ports: &[OnPort]) -> Option<(usize, &TalkerRegistration)> {
     (1..).zip(ports).find_map(|(port, on_port)| Some((port, on_port.talker.as_ref()?)))
 }
 
-/// Steps a to g; nothing where the stream reaches step h.
-fn column_before_bandwidth(
-    settings: &Settings,
-    ports: &[OnPort],
-    port: usize,
-) -> Option<(Step, Column)> {
+/// The steps up to g; nothing where the stream reaches step h.
+fn column_before_bandwidth(facts: &Facts, ports: &[OnPort], port: usize) -> Option<(Step, Column)> {
+    let settings = facts.settings;
     let own_failure = |code| Column::Failed(Failure { bridge_id: settings.bridge_id, code });
     let port_settings = &settings.ports[port - 1];
     // a. no t, or p = t: none
@@ -178,8 +192,13 @@ fn column_before_bandwidth(
         return Some((Step::E, own_failure(4)));
     }
     // f. priority is no class: 13
-    if class.is_none() {
-        return Some((Step::F, own_failure(13)));
+    let class = match class {
+        Some(class) => class,
+        None => return Some((Step::F, own_failure(13))),
+    };
+    // j. p is a boundary port for the stream's class: 8
+    if facts.boundaries[port - 1].of(class) {
+        return Some((Step::J, own_failure(8)));
     }
     // g. MaxFrameSize above p's largest: 14
     if talker.parameters.max_frame_size > port_settings.largest_frame {
@@ -190,24 +209,19 @@ fn column_before_bandwidth(
 
 /// Whether a stream has an entry on a port: not with column none and without a Listener
 /// (Table 35-12). Steps h and i never give column none.
-fn has_entry(settings: &Settings, ports: &[OnPort], port: usize) -> bool {
+fn has_entry(facts: &Facts, ports: &[OnPort], port: usize) -> bool {
     let column_is_none =
-        matches!(column_before_bandwidth(settings, ports, port), Some((_, Column::None)));
+        matches!(column_before_bandwidth(facts, ports, port), Some((_, Column::None)));
     !column_is_none || ports[port - 1].listener.is_some()
 }
 
 /// The second from which each entry counts, by stream and port: that of the settled state where
 /// there was an entry already, else that of this advance.
-fn entries_since(
-    settings: &Settings,
-    registrations: &Registrations,
-    clock: u32,
-    before: &Settled,
-) -> ByStreamAndPort<u32> {
+fn entries_since(facts: &Facts, clock: u32, before: &Settled) -> ByStreamAndPort<u32> {
     let mut since = BTreeMap::new();
-    for (stream_id, ports) in &registrations.streams {
-        for port in 1..=settings.ports.len() {
-            if has_entry(settings, ports, port) {
+    for (stream_id, ports) in &facts.registrations.streams {
+        for port in 1..=facts.settings.ports.len() {
+            if has_entry(facts, ports, port) {
                 let earlier = before
                     .streams
                     .get(stream_id)
@@ -242,18 +256,15 @@ pub struct Decisions {
 }
 
 /// The columns of all streams on all ports, and the reserved sums of each port.
-pub fn decide(
-    settings: &Settings,
-    registrations: &Registrations,
-    entries_since: &ByStreamAndPort<u32>,
-) -> Decisions {
+pub fn decide(facts: &Facts, entries_since: &ByStreamAndPort<u32>) -> Decisions {
+    let Facts { settings, registrations, .. } = facts;
     let mut columns = BTreeMap::new();
     let mut totals = Vec::new();
     for (port, port_settings) in (1..).zip(&settings.ports) {
         // Those that reach step h, by class.
         let mut reaching: BTreeMap<Class, Vec<(u8, u32, StreamId)>> = BTreeMap::new();
         for (stream_id, ports) in &registrations.streams {
-            match column_before_bandwidth(settings, ports, port) {
+            match column_before_bandwidth(facts, ports, port) {
                 Some((step, column)) => {
                     columns.insert((*stream_id, port), Decision { step, column, compared: None });
                 }
@@ -351,8 +362,10 @@ pub fn settle(
     clock: u32,
     before: &Settled,
 ) -> Settled {
-    let since = entries_since(settings, registrations, clock, before);
-    let Decisions { columns, totals } = decide(settings, registrations, &since);
+    let boundaries = domain::boundaries(settings, &registrations.domains);
+    let facts = Facts { settings, registrations, boundaries: &boundaries };
+    let since = entries_since(&facts, clock, before);
+    let Decisions { columns, totals } = decide(&facts, &since);
     let mut streams = BTreeMap::new();
     for (stream_id, ports) in &registrations.streams {
         let talker = talker_port(ports);
@@ -382,5 +395,5 @@ pub fn settle(
         let parameters = talker.map_or(Parameters::default(), |(_, talker)| talker.parameters);
         streams.insert(*stream_id, SettledStream { parameters, ports: settled_ports });
     }
-    Settled { streams, totals }
+    Settled { streams, totals, boundaries }
 }

@@ -33,6 +33,7 @@ pub fn settings(ports: usize) -> Settings {
         bridge_id: 0x8000_0000_0000_0007,
         priority: PerClass { a: 3, b: 2 },
         leave_time: 60,
+        vlan: 2,
         ports: vec![port(); ports],
     }
 }
@@ -40,6 +41,22 @@ pub fn settings(ports: usize) -> Settings {
 pub fn started(settings: &Settings) -> Table {
     let mut table = Table::zeros();
     assert_eq!(table.start(&settings::write(settings)), 0);
+    table
+}
+
+/// A PDU of a neighbour in the domain of such a bridge: both classes with the bridge's priorities.
+pub fn own_domain(settings: &Settings) -> Vec<u8> {
+    let PerClass { a, b } = settings.priority;
+    let vectors = vec![domain_vector(5, b, &[JOIN_MT]), domain_vector(6, a, &[JOIN_MT])];
+    one_message(AttributeType::Domain, vectors)
+}
+
+/// A bridge whose neighbours are all in its domain.
+pub fn in_domain(settings: &Settings) -> Table {
+    let mut table = started(settings);
+    for port in 1..=settings.ports.len() as u32 {
+        accept(&mut table, port, &own_domain(settings));
+    }
     table
 }
 
@@ -100,6 +117,21 @@ pub fn domain_vector(class_id: u8, priority: u8, events: &[u8]) -> VectorDraft {
         events: events.to_vec(),
         ..VectorDraft::default()
     }
+}
+
+/// A PDU of one vector of Domain values.
+pub fn domain_frame(class_id: u8, priority: u8, events: &[u8]) -> Vec<u8> {
+    one_message(AttributeType::Domain, vec![domain_vector(class_id, priority, events)])
+}
+
+/// A PDU of a LeaveAll without values.
+pub fn leave_all(attribute_type: AttributeType) -> Vec<u8> {
+    let vector = VectorDraft {
+        leave_all_event: 1,
+        first_value: vec![0; attribute_type.first_value_length()],
+        ..VectorDraft::default()
+    };
+    one_message(attribute_type, vec![vector])
 }
 
 /// A PDU of one Message.
