@@ -4,7 +4,8 @@
 //! * `sheet`: srpsheet on standard input;
 //! * `calls`: srpcalls on standard input;
 //! * `records sheet`, `records calls`: the records of a text on standard input, as docs/TEXT.md
-//!   tells, with a warning where no time follows its last frame; `unsettled` leaves that out;
+//!   tells, with its warnings said; with `quiet` they aren't, and with `long` a sheet may be longer
+//!   than srpsheet reads;
 //! * `refusals sheet TEXT`, `refusals calls TEXT`: copies what the program printed of a text from
 //!   standard input, and tells on standard error the line of each refused call;
 //! * `written`: the declarations of PDUs in hex on standard input, as `written` tells;
@@ -26,7 +27,7 @@ const USAGE: &str = "\
 usage: reference
        reference sheet
        reference calls
-       reference records sheet|calls [unsettled]
+       reference records sheet|calls [quiet] [long]
        reference refusals sheet|calls TEXT
        reference written
        reference make sheet SEED
@@ -42,7 +43,7 @@ enum Task {
     Example,
     Sheet,
     Calls,
-    Records(Program, Warnings),
+    Records(Program, Options),
     Refusals(Program, PathBuf),
     Written,
     MakeSheet(u64),
@@ -53,10 +54,23 @@ enum Task {
     Coverage(u64),
 }
 
-/// Whether a text's warning is said.
-enum Warnings {
-    Said,
-    LeftOut,
+/// How records are made of a text.
+#[derive(Default)]
+struct Options {
+    quiet: bool,
+    long: bool,
+}
+
+fn options(arguments: &[&str]) -> Option<Options> {
+    let mut options = Options::default();
+    for argument in arguments {
+        match *argument {
+            "quiet" => options.quiet = true,
+            "long" => options.long = true,
+            _ => return None,
+        }
+    }
+    Some(options)
 }
 
 fn program(argument: &str) -> Option<Program> {
@@ -73,8 +87,7 @@ fn task(arguments: &[&str]) -> Option<Task> {
         [] => Some(Task::Example),
         ["sheet"] => Some(Task::Sheet),
         ["calls"] => Some(Task::Calls),
-        ["records", kind] => Some(Task::Records(program(kind)?, Warnings::Said)),
-        ["records", kind, "unsettled"] => Some(Task::Records(program(kind)?, Warnings::LeftOut)),
+        ["records", kind, rest @ ..] => Some(Task::Records(program(kind)?, options(rest)?)),
         ["refusals", kind, text] => Some(Task::Refusals(program(kind)?, text.into())),
         ["written"] => Some(Task::Written),
         ["make", "sheet", seed] => Some(Task::MakeSheet(number(seed)?)),
@@ -100,10 +113,13 @@ fn standard_input() -> std::io::Result<Vec<u8>> {
     Ok(input)
 }
 
-/// The records of a text, with its warning said.
-fn records(octets: &[u8], program: Program, warnings: Warnings) -> Result<Vec<u8>, String> {
+/// The records of a text, with its warnings said.
+fn records(octets: &[u8], program: Program, options: &Options) -> Result<Vec<u8>, String> {
     let script = script::read(&script::text(octets)?, program)?;
-    if let (Some(warning), Warnings::Said) = (script.warning(), warnings) {
+    if program == Program::Sheet && !options.long {
+        script.too_long_for_a_sheet().map_or(Ok(()), Err)?;
+    }
+    for warning in script.warnings().iter().filter(|_| !options.quiet) {
         eprintln!("{warning}");
     }
     Ok(script.octets)
@@ -134,7 +150,7 @@ fn run(task: Task) -> std::io::Result<ExitCode> {
         Task::Example => sheet::run(&sheet::worked_example()).into_bytes(),
         Task::Sheet => sheet::run(&standard_input()?).into_bytes(),
         Task::Calls => calls::run(&standard_input()?).into_bytes(),
-        Task::Records(program, warnings) => match records(&standard_input()?, program, warnings) {
+        Task::Records(program, options) => match records(&standard_input()?, program, &options) {
             Ok(octets) => octets,
             Err(fault) => return Ok(said(&fault)),
         },

@@ -33,6 +33,8 @@ pub struct Script {
     begins: Vec<(usize, usize)>,
     /// The line of the last frame, where no time follows it.
     unsettled: Option<usize>,
+    /// The line of settings that no start follows.
+    unstarted: Option<usize>,
 }
 
 impl Script {
@@ -43,10 +45,22 @@ impl Script {
     }
 
     /// What the writer of the text should know.
-    pub fn warning(&self) -> Option<String> {
-        let line = self.unsettled?;
+    pub fn warnings(&self) -> Vec<String> {
+        let warning = |line: &usize, words| format!("line {line}: warning: {words}");
+        let unstarted = "no start follows these settings, so no bridge has them";
+        let unsettled = "no time follows this frame, so nothing is decided by it";
+        let mut warnings = Vec::new();
+        warnings.extend(self.unstarted.iter().map(|line| warning(line, unstarted)));
+        warnings.extend(self.unsettled.iter().map(|line| warning(line, unsettled)));
+        warnings
+    }
+
+    /// The fault of records that srpsheet would not read to their end.
+    pub fn too_long_for_a_sheet(&self) -> Option<String> {
+        let line = self.line_at(LONGEST_INPUT).filter(|_| self.octets.len() > LONGEST_INPUT)?;
         Some(format!(
-            "line {line}: warning: no time follows this frame, so nothing is decided by it"
+            "line {line}: here the records pass 65,536 octets, and srpsheet reads no more \
+             (01, \"The printed sheet\"): use ./calls"
         ))
     }
 }
@@ -100,7 +114,10 @@ impl Reader {
             "bridge" if self.are_written => {
                 return Err("settings stand before the first call".to_string());
             }
-            "bridge" => self.settings = Some((line, settings_lines::bridge(words)?)),
+            "bridge" => {
+                self.settings = Some((line, settings_lines::bridge(words)?));
+                self.script.unstarted = Some(line).filter(|_| self.program == Program::Calls);
+            }
             "ports" => match &mut self.settings {
                 Some((_, settings)) if !self.are_written => settings_lines::ports(words, settings)?,
                 _ => return Err("ports stand after bridge, before the first call".to_string()),
@@ -109,15 +126,22 @@ impl Reader {
                 self.settings_of_a_sheet();
                 let record = self.call(first, words)?;
                 self.put(line, &record);
-                match first {
-                    "on" => self.script.unsettled = Some(line),
-                    "time" | "start" | "raw" => self.script.unsettled = None,
-                    _ => {}
-                }
+                self.watch(line, first);
             }
         }
-        words.end()?;
-        self.can_be_read()
+        words.end()
+    }
+
+    /// Keeps what warnings are made of.
+    fn watch(&mut self, line: usize, first: &str) {
+        match first {
+            "on" => self.script.unsettled = Some(line),
+            "time" | "start" | "raw" => self.script.unsettled = None,
+            _ => {}
+        }
+        if matches!(first, "start" | "raw") {
+            self.script.unstarted = None;
+        }
     }
 
     /// The record of a line that is a call.
@@ -164,16 +188,6 @@ impl Reader {
             self.script.begins.push((self.script.octets.len(), line));
             self.script.octets.extend(octets);
         }
-    }
-
-    /// srpsheet doesn't read past its bound.
-    fn can_be_read(&self) -> Result<(), String> {
-        if self.program == Program::Sheet && self.script.octets.len() > LONGEST_INPUT {
-            return Err("here the records pass 65,536 octets, and srpsheet reads no more \
-                        (01, \"The printed sheet\"): use ./calls"
-                .to_string());
-        }
-        Ok(())
     }
 }
 

@@ -228,24 +228,40 @@ fn a_byte_order_mark_is_skipped() {
 #[test]
 fn a_sheet_has_at_most_the_octets_that_are_read() {
     let line = format!("on 1 octets {}\n", "00".repeat(32));
-    let sheet = |lines: usize| format!("bridge 7\nports 1\n{}", line.repeat(lines));
-    assert_eq!(records(&sheet(1_871), Program::Sheet).map(|records| records.len()), Ok(65_520));
+    let sheet = |lines: usize, end: &str| {
+        let text = format!("bridge 7\nports 1\n{}raw {end}\n", line.repeat(lines));
+        read(&text, Program::Sheet).expect("records")
+    };
+    let just = sheet(1_871, &"00".repeat(16));
+    assert_eq!((just.octets.len(), just.too_long_for_a_sheet()), (65_536, None));
     let said = "line 1874: here the records pass 65,536 octets, and srpsheet reads no more (01, \"The printed sheet\"): use ./calls";
-    assert_eq!(records(&sheet(1_872), Program::Sheet), Err(said.to_string()));
-    assert!(records(&sheet(1_872), Program::Calls).is_ok());
+    assert_eq!(sheet(1_871, &"00".repeat(17)).too_long_for_a_sheet(), Some(said.to_string()));
+    assert_eq!(sheet(1_900, "").too_long_for_a_sheet(), Some(said.to_string()));
+}
+
+fn warnings(text: &str, program: Program) -> Vec<String> {
+    read(text, program).expect("records").warnings()
 }
 
 #[test]
 fn a_frame_that_no_time_follows_is_warned_of() {
-    let warning = |text: &str, program| read(text, program).expect("records").warning();
-    let frame = "bridge 7\nports 1\non 1 leaveall domain\n";
-    let said = "line 3: warning: no time follows this frame, so nothing is decided by it";
-    assert_eq!(warning(frame, Program::Sheet), Some(said.to_string()));
-    assert_eq!(warning(frame, Program::Calls), Some(said.to_string()));
-    assert_eq!(warning(&format!("{frame}report 1\n"), Program::Calls), Some(said.to_string()));
-    assert_eq!(warning(&format!("{frame}time 1\n"), Program::Sheet), None);
-    assert_eq!(warning(&format!("{frame}start\n"), Program::Calls), None);
-    assert_eq!(warning("bridge 7\nports 1\n", Program::Sheet), None);
+    let said = "line 4: warning: no time follows this frame, so nothing is decided by it";
+    let frame = "on 1 leaveall domain\n";
+    let sheet = format!("bridge 7\nports 1\n\n{frame}");
+    let calls = format!("bridge 7\nports 1\nstart\n{frame}");
+    assert_eq!(warnings(&sheet, Program::Sheet), [said]);
+    assert_eq!(warnings(&calls, Program::Calls), [said]);
+    assert_eq!(warnings(&format!("{calls}report 1\n"), Program::Calls), [said]);
+    assert!(warnings(&format!("{sheet}time 1\n"), Program::Sheet).is_empty());
+    assert!(warnings(&format!("{calls}start\n"), Program::Calls).is_empty());
+    assert!(warnings("bridge 7\nports 1\n", Program::Sheet).is_empty());
+}
+
+#[test]
+fn settings_that_no_start_follows_are_warned_of() {
+    let said = "line 1: warning: no start follows these settings, so no bridge has them";
+    assert_eq!(warnings("bridge 7\nports 1\ntime 1\n", Program::Calls), [said]);
+    assert!(warnings("time 1\nbridge 7\nports 1\nstart\n", Program::Calls).is_empty());
 }
 
 /// What is told of a text whose program printed that.
