@@ -7,19 +7,22 @@
 //! table. The generator makes each call on a table of its own while it writes, so that it knows
 //! the clock, the streams held, the next places and the octet that stood where one is stored.
 
+mod domains;
+
 use crate::bridge::{Table, ROOM_LENGTH};
 use crate::declarations;
-use crate::domain;
 use crate::frame::{FrameDraft, MessageDraft, VectorDraft};
-use crate::pdu::{AttributeType, Domain, Failure, Parameters, StreamId, Talker, LONGEST_PDU};
+use crate::pdu::{AttributeType, Failure, Parameters, StreamId, Talker, LONGEST_PDU};
 use crate::random::Random;
 use crate::registrations::MOST_STREAMS;
-use crate::settings::{self, Class, PerClass, PortSettings, Settings, CLASSES};
+use crate::settings::{self, PerClass, PortSettings, Settings, CLASSES};
 use crate::settings::{GREATEST_VLAN, MOST_PORTS};
 use crate::settling;
 use crate::sheet;
 use crate::stored;
 use crate::table::TABLE_LENGTH;
+use domains::strange_domain_vectors;
+use domains::{domain_pdu, domain_vector, own_domain_vectors, some_domain};
 
 /// The numbers of the events in a ThreePackedEvents octet.
 const JOINS: [u8; 3] = [0, 1, 3];
@@ -278,104 +281,6 @@ fn choose_limits(random: &mut Random, settings: &mut Settings, groups: &[Group],
             *port.limit.of_mut(class) = limit.min((1 << 40) - 1);
         }
     }
-}
-
-// ---- domains ----
-
-/// What a neighbour declares of a class that has the bridge's own priority there. The VLAN is
-/// compared with nothing.
-fn own_domain(random: &mut Random, settings: &Settings, class: Class) -> Domain {
-    let any_vlan = random.bits() as u16;
-    Domain {
-        class_id: domain::class_id(class),
-        priority: settings.priority.of(class),
-        vlan: random.one_of(&[settings.vlan, settings.vlan, settings.vlan, 0, any_vlan]),
-    }
-}
-
-/// The same with another priority.
-fn other_domain(random: &mut Random, settings: &Settings, class: Class) -> Domain {
-    let mut domain = own_domain(random, settings, class);
-    domain.priority = (domain.priority + random.between(1, 7) as u8) % 8;
-    domain
-}
-
-/// A Domain value: mostly of the bridge's own domain, else of another one or not held at all. With
-/// more values behind it one that isn't held may reach one that is.
-fn some_domain(random: &mut Random, settings: &Settings) -> Domain {
-    let class = random.one_of(&CLASSES);
-    let mut domain = own_domain(random, settings, class);
-    match random.below(20) {
-        0..=12 => {}
-        13..=14 => domain.priority = random.below(8) as u8,
-        15 => domain.class_id = random.one_of(&[0, 7, 250, 255]),
-        16 => domain.priority = random.one_of(&[8, 250, 255]),
-        _ => {
-            domain.class_id = random.one_of(&[3, 4, 4]);
-            domain.priority = random.below(8) as u8;
-        }
-    }
-    domain
-}
-
-/// A vector of some Domain values.
-fn domain_vector(random: &mut Random, settings: &Settings) -> VectorDraft {
-    let count = random.one_of(&[1, 1, 1, 1, 1, 1, 2, 2, 3, 4, 0]);
-    let style = random.below(20);
-    let one_join = random.one_of(&JOINS);
-    let event = |random: &mut Random| match style {
-        0..=13 => one_join,
-        14..=16 => LV,
-        _ => random.below(6) as u8,
-    };
-    VectorDraft {
-        leave_all_event: u8::from(count == 0 || random.percent(12)),
-        first_value: some_domain(random, settings).octets(),
-        events: (0..count).map(|_| event(random)).collect(),
-        spare_event: if random.percent(10) { random.below(6) as u8 } else { 0 },
-        ..VectorDraft::default()
-    }
-}
-
-/// A vector of one Domain that joins.
-fn domain_join(random: &mut Random, domain: Domain) -> VectorDraft {
-    VectorDraft {
-        first_value: domain.octets(),
-        events: vec![random.one_of(&JOINS)],
-        ..VectorDraft::default()
-    }
-}
-
-/// The vectors of a neighbour in the bridge's own domain, for both classes; one vector where the
-/// priorities follow each other as the class IDs do.
-fn own_domain_vectors(random: &mut Random, settings: &Settings) -> Vec<VectorDraft> {
-    let class_b = own_domain(random, settings, Class::B);
-    let mut first = domain_join(random, class_b);
-    if settings.priority.a == settings.priority.b + 1 && random.percent(70) {
-        first.events.push(random.one_of(&JOINS));
-        return vec![first];
-    }
-    let class_a = own_domain(random, settings, Class::A);
-    vec![first, domain_join(random, class_a)]
-}
-
-/// The vectors of a neighbour that isn't in the bridge's own domain, or only for one class.
-fn strange_domain_vectors(random: &mut Random, settings: &Settings) -> Vec<VectorDraft> {
-    let mut vectors = match random.below(4) {
-        0 => Vec::new(),
-        1 => own_domain_vectors(random, settings),
-        _ => {
-            let class = random.one_of(&CLASSES);
-            let domain = own_domain(random, settings, class);
-            vec![domain_join(random, domain)]
-        }
-    };
-    if random.percent(60) {
-        let class = random.one_of(&CLASSES);
-        let domain = other_domain(random, settings, class);
-        vectors.push(domain_join(random, domain));
-    }
-    vectors
 }
 
 // ---- frames ----
@@ -737,21 +642,26 @@ fn wrong_settings(random: &mut Random, settings: &Settings) -> Vec<u8> {
             let port = random.below(settings.ports.len() as u64) as usize;
             octets[settings::length(port)] |= 1 << random.below(5);
         }
-        6 => {
-            octets.pop();
-        }
+        6 => drop(octets.pop()),
         7 => octets.push(0),
         8 => octets.resize(octets.len() + settings::PORT_LENGTH, 0),
         9 => octets.truncate(random.below(octets.len() as u64) as usize),
-        10 => octets[11] |= 1 << random.between(4, 7),
-        11..=12 => {
-            let vlan = random.one_of(&[0, GREATEST_VLAN + 1]);
-            octets[11..13].copy_from_slice(&vlan.to_be_bytes());
-        }
-        13..=14 => drop(octets.drain(11..13)), // the length without a VLAN
+        10..=14 => wrong_vlan(random, &mut octets),
         _ => octets.truncate(octets.len() - settings::PORT_LENGTH),
     }
     octets
+}
+
+/// A VLAN of 0 or 4,095, one with a bit above it set, or none at all.
+fn wrong_vlan(random: &mut Random, settings: &mut Vec<u8>) {
+    match random.below(5) {
+        0 => settings[11] |= 1 << random.between(4, 7),
+        1..=2 => {
+            let vlan = random.one_of(&[0, GREATEST_VLAN + 1]);
+            settings[11..13].copy_from_slice(&vlan.to_be_bytes());
+        }
+        _ => drop(settings.drain(11..13)),
+    }
 }
 
 // ---- histories ----
@@ -852,8 +762,7 @@ impl History {
             false => strange_domain_vectors(random, settings),
         };
         vectors.first_mut()?.leave_all_event = leave_all_event;
-        let message = MessageDraft::new(AttributeType::Domain, vectors);
-        Some(FrameDraft::new(vec![message]).octets())
+        Some(domain_pdu(vectors))
     }
 
     /// The neighbours of all ports say what domain they are in.
@@ -873,8 +782,7 @@ impl History {
         let port = self.port(plan);
         if self.random.percent(40) {
             let vectors = strange_domain_vectors(&mut self.random, &plan.settings);
-            let message = MessageDraft::new(AttributeType::Domain, vectors);
-            self.receive(port, &FrameDraft::new(vec![message]).octets());
+            self.receive(port, &domain_pdu(vectors));
             self.some_advance(plan);
         }
         let begun = self.clock();
@@ -887,6 +795,16 @@ impl History {
         }
         if self.random.percent(60) {
             self.advance(begun.saturating_add(leave_time));
+        }
+    }
+
+    /// What mostly happens first: the neighbours say what domain they are in, and all groups join.
+    fn beginning(&mut self, plan: &Plan) {
+        if self.random.percent(94) {
+            self.hear_domains(plan);
+        }
+        if self.random.percent(80) {
+            self.opening(plan);
         }
     }
 
@@ -1047,8 +965,7 @@ impl History {
         }
         if attribute_type == AttributeType::Domain {
             let vectors = own_domain_vectors(&mut self.random, &plan.settings);
-            let message = MessageDraft::new(AttributeType::Domain, vectors);
-            self.receive(port, &FrameDraft::new(vec![message]).octets());
+            self.receive(port, &domain_pdu(vectors));
         }
     }
 
@@ -1149,12 +1066,7 @@ pub fn sheet(seed: u64) -> Vec<u8> {
         history.octets = settings::write(&plan.settings);
         history.table.start(&history.octets.clone());
     }
-    if history.random.percent(94) {
-        history.hear_domains(&plan);
-    }
-    if history.random.percent(80) {
-        history.opening(&plan);
-    }
+    history.beginning(&plan);
     for _ in 0..history.steps(size) {
         history.step(&plan);
     }
@@ -1192,6 +1104,39 @@ fn pass_the_longest_input(history: &mut History, plan: &Plan) {
 }
 
 // ---- scripts of calls ----
+
+/// How many Advertise, Failed and Listeners a port declares beside two Domains. Version and EndMark
+/// take 3 octets, each Message 6, and a value 28, 37, 12 or, for a Domain, 7. With the first three
+/// two Domains, one or none make 1,500 octets.
+const CROWDS: [(u64, u64, u64); 11] = [
+    (26, 11, 27),
+    (28, 10, 26),
+    (20, 25, 0),
+    (0, 33, 22),
+    (48, 3, 2),
+    (48, 3, 2),
+    (20, 25, 1),
+    (19, 26, 0),
+    (0, 33, 23),
+    (48, 3, 1),
+    (53, 0, 5),
+];
+
+/// Settings of two ports with room for all streams.
+fn roomy_settings(random: &mut Random) -> Settings {
+    let port = PortSettings {
+        limit: PerClass { a: (1 << 40) - 1, b: 0 },
+        latency: PerClass { a: 500, b: 0 },
+        ..PortSettings::of_the_worked_example()
+    };
+    Settings {
+        bridge_id: random.bits(),
+        priority: PerClass { a: 3, b: 2 },
+        leave_time: 60,
+        vlan: 2,
+        ports: vec![port.clone(), port],
+    }
+}
 
 /// An input of srpcalls.
 #[derive(Clone, Debug, PartialEq, Eq)]
@@ -1297,85 +1242,50 @@ impl History {
 
     /// A bridge whose port 2 has declarations for a PDU of 1,500 octets, a few more or a few less.
     fn longest_pdu(&mut self) {
-        // Version and EndMark take 3 octets, each Message 6, and a value 28, 37, 12 or, for a Domain,
-        // 7. There are two Domains: both fit with the first of these, one with the second.
-        let (advertise, failed, listening) = self.random.one_of(&[
-            (26, 11, 27),
-            (28, 10, 26),
-            (20, 25, 0),
-            (0, 33, 22),
-            (48, 3, 2),
-            (48, 3, 2),
-            (20, 25, 1),
-            (19, 26, 0),
-            (0, 33, 23),
-            (48, 3, 1),
-            (53, 0, 5),
-        ]);
-        let port = PortSettings {
-            supports: PerClass { a: true, b: true },
-            sends_twice: false,
-            overhead: 42,
-            largest_frame: 1522,
-            limit: PerClass { a: (1 << 40) - 1, b: 0 },
-            latency: PerClass { a: 500, b: 0 },
-        };
-        let settings = Settings {
-            bridge_id: self.random.bits(),
-            priority: PerClass { a: 3, b: 2 },
-            leave_time: 60,
-            vlan: 2,
-            ports: vec![port.clone(), port],
-        };
+        let (advertise, failed, listening) = self.random.one_of(&CROWDS);
+        let settings = roomy_settings(&mut self.random);
         self.start(&settings::write(&settings));
         for port in [1, 2] {
             let vectors = own_domain_vectors(&mut self.random, &settings);
-            let message = MessageDraft::new(AttributeType::Domain, vectors);
-            self.receive(port, &FrameDraft::new(vec![message]).octets());
+            self.receive(port, &domain_pdu(vectors));
         }
-        let mut stream_id: StreamId = 0x0200_0000_0001_0000 + self.random.below(1_000);
+        let first: StreamId = 0x0200_0000_0001_0000 + self.random.below(1_000);
         let failure = Failure { bridge_id: self.random.bits(), code: self.random.octet() };
-        for (port, count, failure) in
-            [(1, advertise, None), (1, failed, Some(failure)), (2, listening, None)]
-        {
-            let talker = Talker {
-                stream_id,
-                parameters: Parameters {
-                    destination: 0x91e0_f000_0000 + (stream_id & 0xffff),
-                    vlan: 2,
-                    max_frame_size: 100,
-                    max_interval_frames: 1,
-                    priority: 3,
-                    rank: 1,
-                },
-                accumulated_latency: accumulated_latency(&mut self.random),
-                failure,
-            };
-            let first_value = declarations::first_value(&talker);
-            let attribute_type = match failure {
-                None => AttributeType::TalkerAdvertise,
-                Some(_) => AttributeType::TalkerFailed,
-            };
-            let events = vec![self.random.one_of(&JOINS); count];
-            let listeners = VectorDraft {
-                first_value: stream_id.to_be_bytes().to_vec(),
-                events: events.clone(),
-                listener_types: vec![READY; count],
-                ..VectorDraft::default()
-            };
-            let talkers = VectorDraft { first_value, events, ..VectorDraft::default() };
-            if count > 0 {
-                let message = MessageDraft::new(attribute_type, vec![talkers]);
-                self.receive(port, &FrameDraft::new(vec![message]).octets());
-                let message = MessageDraft::new(AttributeType::Listener, vec![listeners]);
-                self.receive(3 - port, &FrameDraft::new(vec![message]).octets());
-            }
-            stream_id += count as u64;
-        }
+        self.join_crowd(1, first, advertise, None);
+        self.join_crowd(1, first + advertise, failed, Some(failure));
+        self.join_crowd(2, first + advertise + failed, listening, None);
         self.advance(100);
         for port in [1, 2] {
             self.sweep_port(port);
         }
+    }
+
+    /// So many Talkers on a port, and a Ready Listener of each on the other of two.
+    fn join_crowd(&mut self, port: u32, first: StreamId, count: u64, failure: Option<Failure>) {
+        if count == 0 {
+            return;
+        }
+        let mut talker = Talker::of_the_worked_example(first);
+        talker.parameters.max_frame_size = 100;
+        talker.accumulated_latency = accumulated_latency(&mut self.random);
+        talker.failure = failure;
+        let attribute_type = match failure {
+            None => AttributeType::TalkerAdvertise,
+            Some(_) => AttributeType::TalkerFailed,
+        };
+        let events = vec![self.random.one_of(&JOINS); count as usize];
+        let listeners = VectorDraft {
+            first_value: first.to_be_bytes().to_vec(),
+            events: events.clone(),
+            listener_types: vec![READY; count as usize],
+            ..VectorDraft::default()
+        };
+        let first_value = declarations::first_value(&talker);
+        let talkers = VectorDraft { first_value, events, ..VectorDraft::default() };
+        let message = MessageDraft::new(attribute_type, vec![talkers]);
+        self.receive(port, &FrameDraft::new(vec![message]).octets());
+        let message = MessageDraft::new(AttributeType::Listener, vec![listeners]);
+        self.receive(3 - port, &FrameDraft::new(vec![message]).octets());
     }
 
     /// A write or report with any arguments.
@@ -1514,12 +1424,7 @@ pub fn calls(seed: u64) -> Script {
         if history.random.percent(10) {
             history.sweep(&plan);
         }
-        if history.random.percent(94) {
-            history.hear_domains(&plan);
-        }
-        if history.random.percent(80) {
-            history.opening(&plan);
-        }
+        history.beginning(&plan);
         for _ in 0..history.steps(size) {
             history.script_step(&plan);
         }
