@@ -154,6 +154,16 @@ pub fn join_listener(table: &mut Table, port: u32, stream_id: StreamId, listener
     accept(table, port, &listener_frame(stream_id, JOIN_MT, listener_type));
 }
 
+/// A stream of class A and the next one of class B: Talkers on port 1, Ready Listeners on port 2.
+pub fn join_both_classes(table: &mut Table) {
+    let mut class_b = talker(STREAM + 1);
+    class_b.parameters.priority = 2;
+    for talker in [talker(STREAM), class_b] {
+        join_talker(table, 1, &talker);
+        join_listener(table, 2, talker.stream_id, READY);
+    }
+}
+
 /// Advances, which is to be accepted.
 pub fn advance(table: &mut Table, time: u32) {
     assert_eq!(table.advance(time), 0);

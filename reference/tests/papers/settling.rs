@@ -187,12 +187,7 @@ fn each_class_has_its_own_limit() {
     let mut settings = settings(2);
     settings.ports[1].limit = PerClass { a: 17_088_000, b: 8_544_000 };
     let mut table = in_domain(&settings);
-    let mut class_b = talker(STREAM + 1);
-    class_b.parameters.priority = 2;
-    for talker in [talker(STREAM), class_b] {
-        join_talker(&mut table, 1, &talker);
-        join_listener(&mut table, 2, talker.stream_id, READY);
-    }
+    join_both_classes(&mut table);
     advance(&mut table, 1);
     assert_eq!(line(&table, 2, STREAM), "advertise 0 none forward");
     assert_eq!(line(&table, 2, STREAM + 1), "advertise 0 none forward");

@@ -398,12 +398,7 @@ fn a_stream_with_8_takes_no_share() {
     settings.ports[1].limit = PerClass { a: 17_088_000, b: 8_544_000 };
     let mut table = started(&settings);
     accept(&mut table, 2, &domain_frame(5, 2, &[JOIN_MT]));
-    let mut class_b = talker(STREAM + 1);
-    class_b.parameters.priority = 2;
-    for talker in [talker(STREAM), class_b] {
-        join_talker(&mut table, 1, &talker);
-        join_listener(&mut table, 2, talker.stream_id, READY);
-    }
+    join_both_classes(&mut table);
     advance(&mut table, 1);
     assert_eq!(line(&table, 2, STREAM), "failed 8 none filter");
     assert_eq!(line(&table, 2, STREAM + 1), "advertise 0 none forward");
