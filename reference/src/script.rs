@@ -1,9 +1,9 @@
 //! Inputs written by hand: lines of words in, records out. The format's reference is
 //! docs/TEXT.md.
 //!
-//! * [`words`]: the words of a line, with numbers, units and names;
-//! * [`settings_lines`]: settings;
-//! * [`messages`]: the PDU of a line.
+//! * `words`: the words of a line, with numbers, units and names;
+//! * `settings_lines`: settings;
+//! * `messages`: the PDU of a line.
 
 mod messages;
 mod settings_lines;

@@ -319,3 +319,16 @@ the reference refuses other calls: the time is below the held clock
 ";
     assert_eq!(told(text, Program::Sheet, "refused 1\nrefused 9\n"), said);
 }
+
+/// The text that the format's page begins with is the worked example but for the Bridge ID and the
+/// destination.
+#[test]
+fn the_text_of_the_page_is_read() {
+    let page = include_str!("../../../docs/TEXT.md");
+    let lines = page.lines().skip_while(|line| !line.starts_with("    "));
+    let text: Vec<&str> = lines.take_while(|line| line.starts_with("    ")).collect();
+    let made = read(&text.join("\n"), Program::Sheet).expect("records");
+    assert!(made.warnings().is_empty());
+    let expected = sheet::run(&sheet::worked_example());
+    assert_eq!(sheet::run(&made.octets), expected);
+}
