@@ -87,25 +87,25 @@ module _ {A : Type 0} where
   none-there : (l : List A) → some l ≡ false → l ≡ []
   unfolding some
   none-there [] e = refl
-  none-there (x ∷ l) e = let z : _≡_ {A = ℕ} 0 1 = cc in absurd (omega arith)
+  none-there (x ∷ l) e = cc
 
   pass-one : (l m : List A) (n : ℕ) → length l ≤ 1 → some l ≡ true → 0 < n → drop n (l ++ m) ≡ drop (n - 1) m
   unfolding some
-  pass-one [] m n f e h = let z : _≡_ {A = ℕ} 0 1 = cc in absurd (omega arith)
+  pass-one [] m n f e h = cc
   pass-one (x ∷ []) m zero f e h = absurd (omega arith)
   pass-one (x ∷ []) m (suc n) f e h = let i : suc n - 1 ≡ n = omega arith in rw i
   pass-one (x ∷ y ∷ l) m n f e h = absurd (omega arith)
 
   take-one : (l m : List A) (n : ℕ) → length l ≤ 1 → some l ≡ true → 0 < n → take n (l ++ m) ≡ l ++ take (n - 1) m
   unfolding some
-  take-one [] m n f e h = let z : _≡_ {A = ℕ} 0 1 = cc in absurd (omega arith)
+  take-one [] m n f e h = cc
   take-one (x ∷ []) m zero f e h = absurd (omega arith)
   take-one (x ∷ []) m (suc n) f e h = let i : suc n - 1 ≡ n = omega arith in rw i
   take-one (x ∷ y ∷ l) m n f e h = absurd (omega arith)
 
   count-one : (l m : List A) → length l ≤ 1 → some l ≡ true → length (l ++ m) ≡ length m + 1
   unfolding some
-  count-one [] m f e = let z : _≡_ {A = ℕ} 0 1 = cc in absurd (omega arith)
+  count-one [] m f e = cc
   count-one (x ∷ []) m f e = omega arith
   count-one (x ∷ y ∷ l) m f e = absurd (omega arith)
 

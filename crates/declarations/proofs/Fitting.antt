@@ -185,7 +185,16 @@ module _ (k : Kind) (used : ℕ) (m : List Declaration) (after : All (After k) m
       ap (λ (i : ℕ). take i (d ∷ (l ++ m))) (fitting-opens used d (l ++ m) ∙ e)
       ∙ goes-on (d ∷ l) a (omega arith) n (fits-within (used + 6) (vectorSize k) (suc (length l)))
 
--- The passes. What is still taken of declarations, as far as the PDU is.
+-- The passes.
+
+filled-or-not : {P : Type 0} (s : Progress) → (s .full ≡ true → P) → (s .full ≡ false → P) → P
+filled-or-not {P = P} s = go (s .full)
+  where
+    go : (b : Bool) → (b ≡ true → P) → (b ≡ false → P) → P
+    go true f g = f refl
+    go false f g = g refl
+
+-- what is still taken of declarations, as far as the PDU is
 unfoldable pub remaining : Progress → List Declaration → List Declaration
 remaining s l = cond (s .full) [] (runFrom (s .at + 2) (s .skip) l)
 
@@ -201,61 +210,42 @@ module _ (k : Kind) (l m : List Declaration) (own : All (OfKind k) l) (after : A
 
   pub pass-takes : (s : Progress) → remaining s (l ++ m) ≡ taken k l s ++ remaining (passed k l s) m
   unfolding remaining taken passed
-  pass-takes s = go (s .at) (s .skip) (s .next) (s .full)
+  pass-takes s = filled-or-not s (λ e. rw e) (λ e. rw e more)
     where
-      go : (at skip next : ℕ) (full : Bool)
-          → let t : Progress = record { at = at; skip = skip; next = next; full = full } in
-          remaining t (l ++ m) ≡ taken k l t ++ remaining (passed k l t) m
-      go at skip next true = refl
-      go at skip next false =
-          let n = fits (at + 8) (vectorSize k) (length l - skip) in
-          let r = drop skip l in
-          let e : at + 2 + 6 ≡ at + 8 = omega arith in
-          let d : length r ≡ length l - skip = length-drop skip l in
-          let u : at + 2 + length (messageOctets k (take n r)) ≡ at + length (messageOctets k (take n r)) + 2 = omega arith in
-          let f : length (take n r) ≡ n = length-take-le n r (rw d (fits-within (at + 8) (vectorSize k) (length l - skip))) in
-          (rw (e, d, u) at (run-skip (at + 2) skip)) ∙ rw f
+      n : ℕ
+      n = fits (s .at + 8) (vectorSize k) (length l - s .skip)
+
+      r : List Declaration
+      r = drop (s .skip) l
+
+      more : runFrom (s .at + 2) (s .skip) (l ++ m)
+          ≡ take n r ++ cond (ltb (length (take n r)) (length l - s .skip)) [] (runFrom (s .at + length (messageOctets k (take n r)) + 2) (s .skip - length l) m)
+      more =
+          let e : s .at + 2 + 6 ≡ s .at + 8 = omega arith in
+          let d : length r ≡ length l - s .skip = length-drop (s .skip) l in
+          let u : s .at + 2 + length (messageOctets k (take n r)) ≡ s .at + length (messageOctets k (take n r)) + 2 = omega arith in
+          let f : length (take n r) ≡ n = length-take-le n r (rw d (fits-within (s .at + 8) (vectorSize k) (length l - s .skip))) in
+          (rw (e, d, u) at (run-skip (s .at + 2) (s .skip))) ∙ rw f
 
 -- what a pass took is of its type, and the octets and the place go on by it
 module _ (k : Kind) (l : List Declaration) where
   pub taken-kind : All (OfKind k) l → (s : Progress) → All (OfKind k) (taken k l s)
   unfolding taken
-  taken-kind own s = go (s .full)
-    where
-      n : ℕ
-      n = fits (s .at + 8) (vectorSize k) (length l - s .skip)
-
-      go : (t : Bool) → All (OfKind k) (cond t [] (take n (drop (s .skip) l)))
-      go true = tt
-      go false = all-take (OfKind k) n (drop (s .skip) l) (all-drop (OfKind k) (s .skip) l own)
+  taken-kind own s =
+      let n = fits (s .at + 8) (vectorSize k) (length l - s .skip) in
+      filled-or-not s (λ e. rw e tt) (λ e. rw e (all-take (OfKind k) n (drop (s .skip) l) (all-drop (OfKind k) (s .skip) l own)))
 
   pub passed-at : (s : Progress) → passed k l s .at ≡ s .at + length (messageOctets k (taken k l s))
   unfolding taken passed messageOctets
-  passed-at s = go (s .at) (s .skip) (s .next) (s .full)
-    where
-      go : (at skip next : ℕ) (full : Bool)
-          → let t : Progress = record { at = at; skip = skip; next = next; full = full } in
-          passed k l t .at ≡ at + length (messageOctets k (taken k l t))
-      go at skip next true = sym (add-zero at)
-      go at skip next false = refl
+  passed-at s = filled-or-not s (λ e. rw e (sym (add-zero (s .at)))) (λ e. rw e)
 
   pub passed-next : (s : Progress) → passed k l s .next ≡ s .next + length (taken k l s)
   unfolding taken passed
-  passed-next s = go (s .at) (s .skip) (s .next) (s .full)
-    where
-      go : (at skip next : ℕ) (full : Bool)
-          → let t : Progress = record { at = at; skip = skip; next = next; full = full } in
-          passed k l t .next ≡ next + length (taken k l t)
-      go at skip next true = sym (add-zero next)
-      go at skip next false = refl
+  passed-next s = filled-or-not s (λ e. rw e (sym (add-zero (s .next)))) (λ e. rw e)
 
 none-remaining : (s : Progress) → remaining s [] ≡ []
 unfolding remaining runFrom
-none-remaining s = go (s .full)
-  where
-    go : (t : Bool) → cond {A = List Declaration} t [] (take (fitting (s .at + 2) noMessage (drop (s .skip) [])) (drop (s .skip) [])) ≡ []
-    go true = refl
-    go false = rw (drop-nil (s .skip)) (take-nil (fitting (s .at + 2) noMessage []))
+none-remaining s = filled-or-not s (λ e. rw e) (λ e. rw (e, drop-nil (s .skip)) (take-nil (fitting (s .at + 2) noMessage [])))
 
 -- three passes, and nothing is left
 pub three-passes : (a f l : List Declaration) → All (OfKind advertises) a → All (OfKind faileds) f → All (OfKind listeners) l → (s : Progress)

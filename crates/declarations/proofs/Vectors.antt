@@ -7,7 +7,6 @@ use mathlib.Core.Bool.{true, not}
 use mathlib.Core.List.{List, [], _∷_, _++_, append-nil, append-assoc}
 use lib.ListN.{getD, take}
 use lib.Dec.{eqb}
-use Rattle.octets.specs.Be.{be}
 use Rattle.octets.specs.Parts.{part}
 use Rattle.octets.specs.Fields.{packed, width, flat}
 use Rattle.octets.proofs.Fields.{packed-append, part-run}
@@ -58,21 +57,21 @@ talker-vector x h latency ws e =
 advertised-octets : (x : Stream) (r : Result) (c : Column) → some (advertised x r c) ≡ true
     → vectors (advertised x r c) ≡ (talkerBegun x ++ packed (take 1 varyingWidths) (r .latency ∷ [])) ++ (108 ∷ [])
 unfolding some vectors flat advertised firstWidths healthKind failureNumbers
-advertised-octets x r none q = let z : _≡_ {A = ℕ} 0 1 = cc in absurd (omega arith)
+advertised-octets x r none q = cc
 advertised-octets x r advertise q = append-nil _ ∙ talker-vector x sound (r .latency) (take 1 varyingWidths) refl
-advertised-octets x r (failed b c) q = let z : _≡_ {A = ℕ} 0 1 = cc in absurd (omega arith)
+advertised-octets x r (failed b c) q = cc
 
 failing-octets : (x : Stream) (r : Result) (c : Column) → some (failing x r c) ≡ true
     → vectors (failing x r c) ≡ (talkerBegun x ++ packed varyingWidths (r .latency ∷ columnBridge c ∷ columnCode c ∷ [])) ++ (108 ∷ [])
 unfolding some vectors flat failing firstWidths healthKind failureNumbers columnBridge columnCode
-failing-octets x r none q = let z : _≡_ {A = ℕ} 0 1 = cc in absurd (omega arith)
-failing-octets x r advertise q = let z : _≡_ {A = ℕ} 0 1 = cc in absurd (omega arith)
+failing-octets x r none q = cc
+failing-octets x r advertise q = cc
 failing-octets x r (failed b c) q = append-nil _ ∙ talker-vector x (broken b c) (r .latency) varyingWidths refl
 
 listening-octets : (x : Stream) (d : Declared) → some (listening x d) ≡ true
     → vectors (listening x d) ≡ (headed (x .id) ++ (108 ∷ [])) ++ (declaredNumber d * 64 ∷ [])
 unfolding some vectors flat listening vectorOctets declarationVector firstNumbers fourOctets kindOf firstWidths packed bit declaredNumber headed
-listening-octets x nothing q = let z : _≡_ {A = ℕ} 0 1 = cc in absurd (omega arith)
+listening-octets x nothing q = cc
 listening-octets x (tells r) q = simp (append-assoc, append-nil)
 
 -- What is written is the vector of what is declared.

@@ -6,7 +6,7 @@ ghost use Prim.Native.Nat.{_+_, _*_, _≤_};
 ghost use lib.ListN.{length, drop};
 ghost use Rattle.octets.specs.Be.{be};
 ghost use Rattle.model.specs.FrameLayout.{firstDestination, firstLatency, listenerLength};
-ghost use Rattle.model.specs.State.{resultAt, streamAt};
+ghost use Rattle.model.specs.State.{streamAt};
 ghost use Rattle.model.specs.Frames.{registers, firstLength};
 ghost use Rattle.model.specs.Declarations as model;
 ghost use Rattle.model.specs.Declarations.{vectorSize};

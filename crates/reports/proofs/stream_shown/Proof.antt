@@ -1,6 +1,5 @@
 -- `reports::stream_shown` meets its contract. Assumes nothing.
 use mathlib.Core.Path.{_∙_}
-use native.Mathlib.Omega.{arith}
 use borrow.Author.Needs.{needs}
 use Rattle.table.proofs.ByPlace.{stands}
 use Rattle.reports.proofs.Showing.{column-shown, code-shown, listener-shown, entry-shown}
