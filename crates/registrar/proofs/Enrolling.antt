@@ -35,7 +35,7 @@ module _ (t : List ℕ) (l : Laid t) (i k : ℕ) where
   unfolding enrolled holding
   enrolled-there e =
       let r = room-at i k (decode t .streams) e in
-      record { few = rw r (laid-fits t l .at-most-64); place = rw r e; table = rw r (laid-is t l) }
+      record { few = rw r (laid-fits t l .at-most-64); found = rw r e; table = rw r (laid-is t l) }
 
   module _ (e : foundAt i 0 (ids (decode t .streams)) ≡ Gap k) where
     more : length (enrolled i t) ≡ length (decode t .streams) + 1
@@ -59,7 +59,7 @@ module _ (t : List ℕ) (l : Laid t) (i k : ℕ) where
     unfolding enrolled holding
     enrolled-made u small h q =
         let r = room-gap i k (decode t .streams) e in
-        record { few = omega (arith, more); place = rw r (stands small h); table = rw r q }
+        record { few = omega (arith, more); found = rw r (stands small h); table = rw r q }
 
 -- A join: it makes room and does nothing else, or changes the cell too.
 
@@ -115,7 +115,7 @@ module _ (p i : ℕ) (a : Act) (j : Joins i a) (t : List ℕ) where
 
       pub enrolled-found : foundAt i 0 (ids (decode u .streams)) ≡ At k
       unfolding holding
-      enrolled-found = rw enrolled-read (n .place)
+      enrolled-found = rw enrolled-read (n .found)
 
       pub join-applied : (y : List ℕ) → ((clock : ℕ) → y ≡ encode (withCell k p (does clock a) (decode u))) → Walked true p (a ∷ []) t true y
       unfolding done

@@ -20,13 +20,13 @@ use Rattle.registrar.proofs.frame.Statement.{statement}
 use Rattle.registrar.proofs.frame.Tie as tie
 
 abbrev Inv-loop : tie.InvT-loop
-Inv-loop table₀ place applying pdu version at₀ table at =
+Inv-loop table₀ p applying pdu version at₀ table at =
     (at ≤ length pdu) × (length table ≡ length table₀) × Laid table
     × (f : ℕ) × (vs : List Vector) × (messages (suc f) version pdu at ≡ found vs)
-    × Leads applying place (actsOf (walk pdu)) table₀ (frameActs vs) table
+    × Leads applying p (actsOf (walk pdu)) table₀ (frameActs vs) table
 
 abbrev μ-loop : tie.MeasureT-loop
-μ-loop table₀ place applying pdu version at₀ table at = length pdu - at
+μ-loop table₀ p applying pdu version at₀ table at = length pdu - at
 
 -- the vectors of the frame
 found-all : (a : tie.Start Inv-loop μ-loop) → Finds (walk (a .args .pdu .now))
@@ -48,7 +48,7 @@ loop-holds c =
       length (a .args .pdu .now),
       n .all,
       accepted-messages (a .args .pdu .now) (n .all) (n .is),
-      rw (n .acts) (leads-start (a .args .applying) (a .args .place) (frameActs (n .all)) (a .args .table .now)),
+      rw (n .acts) (leads-start (a .args .applying) (a .args .p) (frameActs (n .all)) (a .args .table .now)),
     )
 
 -- a well-formed frame is not refused
@@ -61,7 +61,7 @@ returns-2 : tie.Need-returns-2 Inv-loop μ-loop
 returns-2 c =
     let a = c .before .before .before .before .before .before .before .args in
     let l = c .before .before .before .loop in
-    leads-end (a .applying) (a .place) _ _ _ _ (l .inv .6)
+    leads-end (a .applying) (a .p) _ _ _ _ (l .inv .6)
     (last-list (l .inv .3) _ _ (l .at) (l .inv .4) (l .inv .5) (sym (c .before .before .message .ensures) ∙ c .enum-told2 .given .1)) (l .inv .2)
 
 -- a Message that is skipped
@@ -118,7 +118,7 @@ list-requires c κs =
     let n = next d in
     let p = d .before .before .before .before .before .before .before .before .pre in
     record {
-      walk = record { laid = d .before .before .before .before .loop .inv .2; place = p .place; low = n .low; high = n .high };
+      walk = record { laid = d .before .before .before .before .loop .inv .2; port = p .port; low = n .low; high = n .high };
       found = n .there;
     }
 
@@ -126,7 +126,7 @@ returns-3 : tie.Need-returns-3 Inv-loop μ-loop
 returns-3 c =
     let d = c .before .before .before .before .before .before in
     let a = d .before .before .before .before .before .before .before .before .args in
-    leads-stopped (a .applying) (a .place) _ _ _ _ (d .before .before .before .before .loop .inv .6) _ _ _ (next d .acts)
+    leads-stopped (a .applying) (a .p) _ _ _ _ (d .before .before .before .before .loop .inv .6) _ _ _ (next d .acts)
     (rw (not-true (c .before .before .before .list .result) (c .if1 .taken)) at (c .before .before .before .list .ensures))
 
 loop-less-2 : tie.Need-loop-less-2 Inv-loop μ-loop
@@ -145,7 +145,7 @@ loop-again-2 c =
       l .inv .3 - 1,
       n .rest,
       n .left,
-      leads-on (a .applying) (a .place) _ _ _ _ (l .inv .6) _ _ _ (n .acts) w,
+      leads-on (a .applying) (a .p) _ _ _ _ (l .inv .6) _ _ _ (n .acts) w,
     )
 
 pub frame-spec : {M : Type 1} → statement M

@@ -13,12 +13,12 @@ use Rattle.registrar.proofs.leave_all.Statement.{statement}
 use Rattle.registrar.proofs.leave_all.Tie as tie
 
 abbrev Inv-loop : tie.InvT-loop
-Inv-loop table₀ place kind held now k₀ table k =
+Inv-loop table₀ p kind held now k₀ table k =
     (k ≤ held) × (held ≡ length (decode table₀ .streams)) × (now ≡ decode table₀ .clock) × (length table ≡ length table₀)
-    × (table ≡ encode (partly (leaving place now (kindAt kind)) table₀ k))
+    × (table ≡ encode (partly (leaving p now (kindAt kind)) table₀ k))
 
 abbrev μ-loop : tie.MeasureT-loop
-μ-loop table₀ place kind held now k₀ table k = held - k
+μ-loop table₀ p kind held now k₀ table k = held - k
 
 count-requires : tie.Need-count-requires Inv-loop μ-loop
 count-requires c κs = c .before .before .pre .laid
@@ -41,8 +41,8 @@ quit-cell-requires c κs =
     let a = c .before .before .before .before .before .before .before .before in
     let n = c .before .before .before .clock .result in
     let k = kindAt (a .args .kind) in
-    let s = partly-stands _ (leaving-fits (a .args .place) n (search needs) k) (leaving-id (a .args .place) n k) _ (a .pre .laid) (l .k) _ (l .inv .4) (omega arith) in
-    record { stands = stands-on s _ (a .pre .place); low = a .pre .low; high = a .pre .high }
+    let s = partly-stands _ (leaving-fits (a .args .p) n (search needs) k) (leaving-id (a .args .p) n k) _ (a .pre .laid) (l .k) _ (l .inv .4) (omega arith) in
+    record { stands = stands-on s _ (a .pre .port); low = a .pre .low; high = a .pre .high }
 
 loop-again : tie.Need-loop-again Inv-loop μ-loop
 loop-again c =
@@ -54,14 +54,14 @@ loop-again c =
       l .inv .1,
       l .inv .2,
       search needs,
-      one-more _ (leaving-fits (a .args .place) n (search needs) k) (leaving-id (a .args .place) n k) _ (a .pre .laid) (l .k) _ (l .inv .4) _ (c .before .before .quit-cell .ensures),
+      one-more _ (leaving-fits (a .args .p) n (search needs) k) (leaving-id (a .args .p) n k) _ (a .pre .laid) (l .k) _ (l .inv .4) _ (c .before .before .quit-cell .ensures),
     )
 
 returns : tie.Need-returns Inv-loop μ-loop
 returns c =
     let l = c .before .loop in
     let a = c .before .before .before .before .before .before .before in
-    all-left (a .args .place) (kindAt (a .args .kind)) (a .args .table .now) (l .table) (a .pre .laid)
+    all-left (a .args .p) (kindAt (a .args .kind)) (a .args .table .now) (l .table) (a .pre .laid)
     (rw (l .inv .2) at (all-done _ _ _ (l .k) (l .inv .4) (omega arith)))
 
 pub leave-all-spec : {M : Type 1} → statement M

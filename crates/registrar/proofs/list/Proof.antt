@@ -23,7 +23,7 @@ abbrev Inv-loop : tie.InvT-loop
 Inv-loop table₀ walk list at₀ table at =
     (at ≤ length list) × (length table ≡ length table₀) × Laid table
     × (f : ℕ) × (vs : List Vector) × (vectors (suc f) (attributeAt (walk .kind)) list at ≡ found vs)
-    × Leads (walk .applying) (walk .place) (actsOf (vectors (suc (length list)) (attributeAt (walk .kind)) list 0)) table₀ (frameActs vs) table
+    × Leads (walk .applying) (walk .p) (actsOf (vectors (suc (length list)) (attributeAt (walk .kind)) list 0)) table₀ (frameActs vs) table
 
 abbrev μ-loop : tie.MeasureT-loop
 μ-loop table₀ walk list at₀ table at = length list - at
@@ -38,7 +38,7 @@ loop-holds c =
       length (a .args .list .now),
       n .all,
       n .is,
-      rw (n .acts) (leads-start (a .args .walk .applying) (a .args .walk .place) (frameActs (n .all)) (a .args .table .now)),
+      rw (n .acts) (leads-start (a .args .walk .applying) (a .args .walk .p) (frameActs (n .all)) (a .args .table .now)),
     )
 
 -- no vector is read: none is left
@@ -48,7 +48,7 @@ returns c =
     let l = c .before .before .loop in
     let none : (w : VectorHead) → c .before .typed-vector .result ≡ VectorRead.Vector w → ⊥ = λ w e.
     ⊎-elim (λ z. omega arith) (λ z. omega arith) (rw e at (c .match .keys2)) in
-    leads-end (a .args .walk .applying) (a .args .walk .place) _ _ _ _ (l .inv .6)
+    leads-end (a .args .walk .applying) (a .args .walk .p) _ _ _ _ (l .inv .6)
     (last-vector (l .inv .3) (a .args .walk .kind) (a .pre .walk .low) (a .pre .walk .high) (a .args .list .now) (l .at) (l .inv .4) (l .inv .5) _ (c .before .typed-vector .ensures) none)
     (l .inv .2)
 
@@ -57,7 +57,7 @@ vector-requires c κs =
     let p = c .before .before .before .before .before .before .before .before .pre in
     let w = p .walk in
     record {
-      walk = record { laid = c .before .before .before .before .before .loop .inv .2; place = w .place; low = w .low; high = w .high };
+      walk = record { laid = c .before .before .before .before .before .loop .inv .2; port = w .port; low = w .low; high = w .high };
       at = c .before .before .before .before .before .loop .at;
       read = sym (c .before .before .before .before .typed-vector .ensures) ∙ c .before .before .v .given .1;
     }
@@ -84,7 +84,7 @@ returns-2 : tie.Need-returns-2 Inv-loop μ-loop
 returns-2 c =
     let d = c .before .before .before .before .before in
     let a = d .before .before .before .before .before .before .before .args in
-    leads-stopped (a .walk .applying) (a .walk .place) _ _ _ _ (d .before .before .before .before .loop .inv .6) _ _ _ (next d .acts)
+    leads-stopped (a .walk .applying) (a .walk .p) _ _ _ _ (d .before .before .before .before .loop .inv .6) _ _ _ (next d .acts)
     (rw (not-true (c .before .before .before .vector .result) (c .if1 .taken)) at (c .before .before .before .vector .ensures))
 
 loop-less : tie.Need-loop-less Inv-loop μ-loop
@@ -102,7 +102,7 @@ loop-again c =
       l .inv .3 - 1,
       next d .rest,
       next d .left,
-      leads-on (a .walk .applying) (a .walk .place) _ _ _ _ (l .inv .6) _ _ _ (next d .acts) w,
+      leads-on (a .walk .applying) (a .walk .p) _ _ _ _ (l .inv .6) _ _ _ (next d .acts) w,
     )
 
 pub list-spec : {M : Type 1} → statement M

@@ -19,7 +19,7 @@ use Rattle.registrar.proofs.values.Tie as tie
 abbrev Inv-loop : tie.InvT-loop
 Inv-loop table₀ walk first events fours count n₀ table n =
     (n ≤ count) × (length table ≡ length table₀) × Laid table
-    × Leads (walk .applying) (walk .place) (valuesActs (vectorOf (walk .kind) false 0 first events fours) 0 count) table₀
+    × Leads (walk .applying) (walk .p) (valuesActs (vectorOf (walk .kind) false 0 first events fours) 0 count) table₀
     (valuesActs (vectorOf (walk .kind) false 0 first events fours) n (count - n)) table
 
 abbrev μ-loop : tie.MeasureT-loop
@@ -28,7 +28,7 @@ abbrev μ-loop : tie.MeasureT-loop
 loop-holds : tie.Need-loop-holds Inv-loop μ-loop
 loop-holds c =
     let a = c .before .before .before .before in
-    (omega arith, refl, a .pre .walk .laid, rw sub-zero (leads-start (a .args .walk .applying) (a .args .walk .place) _ (a .args .table .now)))
+    (omega arith, refl, a .pre .walk .laid, rw sub-zero (leads-start (a .args .walk .applying) (a .args .walk .p) _ (a .args .table .now)))
 
 value-requires : tie.Need-value-requires Inv-loop μ-loop
 value-requires c κs =
@@ -37,7 +37,7 @@ value-requires c κs =
     let w = p .walk in
     let e = p .events in
     record {
-      walk = record { laid = l .inv .2; place = w .place; low = w .low; high = w .high };
+      walk = record { laid = l .inv .2; port = w .port; low = w .low; high = w .high };
       event = omega arith;
       value = p .values (l .n) (c .before .loop-test .taken);
     }
@@ -62,21 +62,21 @@ returns : tie.Need-returns Inv-loop μ-loop
 returns c =
     let d = c .before .before .before .before .before in
     let a = d .before .before .before .before .before .before .args in
-    leads-stopped (a .walk .applying) (a .walk .place) _ _ _ _ (d .before .loop .inv .3) _ _ _ (next d) (rw (not-true (c .before .before .before .value .result) (c .if1 .taken)) at (c .before .before .before .value .ensures))
+    leads-stopped (a .walk .applying) (a .walk .p) _ _ _ _ (d .before .loop .inv .3) _ _ _ (next d) (rw (not-true (c .before .before .before .value .result) (c .if1 .taken)) at (c .before .before .before .value .ensures))
 
 loop-again : tie.Need-loop-again Inv-loop μ-loop
 loop-again c =
     let d = c .before .before .before .before .before in
     let a = d .before .before .before .before .before .before .args in
     let w = rw (not-false (c .before .before .before .value .result) (c .if1 .left)) at (c .before .before .before .value .ensures) in
-    (omega arith, search needs, walked-laid w, leads-on (a .walk .applying) (a .walk .place) _ _ _ _ (d .before .loop .inv .3) _ _ _ (next d) w)
+    (omega arith, search needs, walked-laid w, leads-on (a .walk .applying) (a .walk .p) _ _ _ _ (d .before .loop .inv .3) _ _ _ (next d) w)
 
 returns-2 : tie.Need-returns-2 Inv-loop μ-loop
 returns-2 c =
     let l = c .before .loop in
     let a = c .before .before .before .before .before .before .args in
     let e : l .n ≡ a .count = omega arith in
-    leads-end (a .walk .applying) (a .walk .place) _ _ _ _ (l .inv .3) (values-done _ (l .n) (a .count) e) (l .inv .2)
+    leads-end (a .walk .applying) (a .walk .p) _ _ _ _ (l .inv .3) (values-done _ (l .n) (a .count) e) (l .inv .2)
 
 pub values-spec : {M : Type 1} → statement M
 values-spec =

@@ -59,7 +59,7 @@ expire-requires c κs =
     let on = here (first .pre .0) (first .args .time) _ _ (c .before .before .before .before .loop .inv .2) (omega arith) in
     let r = lent-cell-at on _ (c .before .cell-in .ensures .0) in
     let w = laid-fits _ (first .pre .0 .laid) .settings .leaveTime in
-    (r .laid, r .size, omega (arith, first .pre .1))
+    record { laid = r .laid; size = r .size; leaves = omega (arith, first .pre .1) }
 
 loop-again : tie.Need-loop-again Inv-loop μ-loop
 loop-again c =
