@@ -1,9 +1,8 @@
 // The bridge: five calls on a table that the caller lends (docs/TABLE.md). None asks anything of its arguments. For every input
 // each promises the one number, the one content of the table and of the buffer: those of crate model's `Calls`, by the relations
 // of specs/Promises.
-ghost use mathlib.Core.Path.{_≡_};
 ghost use Rattle.reports.specs.Shown.{shown};
-ghost use Rattle.bridge.specs.Promises.{Starts, Receives, Advances, Writes, Reports};
+ghost use Rattle.bridge.specs.Promises.{Starts, Receives, Advances, Writes, RefusedWith, Reports};
 use model::pdu;
 use model::refusal;
 
@@ -85,7 +84,7 @@ pub struct Wrote {
 
 // A write that is refused.
 fn refused_write(number: u8) -> Wrote
-    ensures { λ r. ⌜ (r .number ≡ number) × (r .length ≡ 0) × (r .next ≡ 0) ⌝ }
+    ensures { λ r. ⌜ RefusedWith number (r .number) (r .length) (r .next) ⌝ }
 {
     Wrote {
         number,

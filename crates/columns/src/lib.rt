@@ -253,7 +253,7 @@ fn copy_fixed(table: &mut [u8], k: usize, t: usize)
 }
 
 // What stream k shows on each of the eight places.
-fn early_places(table: &mut [u8], k: usize, t: usize, time: u32)
+fn early_ports(table: &mut [u8], k: usize, t: usize, time: u32)
     requires { ⌜ TalkerAt (now table) k t ⌝ }
     ensures { λ _. ⌜ now (table .exit) ≡ encode (changedAt k (earlyTo 8 time) (decode (now (table .entry)))) ⌝ }
 {
@@ -269,9 +269,9 @@ fn early_record(table: &mut [u8], k: usize, time: u32)
     requires { ⌜ Stands (now table) k ⌝ }
     ensures { λ _. ⌜ now (table .exit) ≡ encode (changedAt k (λ st. early st time) (decode (now (table .entry)))) ⌝ }
 {
-    let t = streams::talker_place(table, k);
+    let t = streams::talker_port(table, k);
     copy_fixed(table, k, t);
-    early_places(table, k, t, time);
+    early_ports(table, k, t, time);
 }
 
 // Stage 1 for every stream held.

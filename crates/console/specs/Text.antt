@@ -6,6 +6,12 @@ use lib.ListN.{length, take}
 use Rattle.octets.specs.Parts.{patch}
 use Rattle.io.specs.Digits.{digits, Fewest}
 
+-- the lesser of two numbers
+pub record Least (a b r : ℕ) : Type 0 where
+  pub is : r ≡ min a b
+  pub first : r ≤ a
+  pub second : r ≤ b
+
 -- where a text starts that is put behind the first octets of a line
 unfoldable pub startOf : List ℕ → ℕ → ℕ
 startOf line at = min at (length line)

@@ -8,16 +8,15 @@ use reports::Reported;
 ghost use mathlib.Core.Path.{_≡_};
 ghost use mathlib.Core.Bool.{false};
 ghost use mathlib.Core.List.{_∷_};
-ghost use Prim.Native.Nat.{_≤_, min};
 ghost use lib.ListN.{length, set};
 ghost use Rattle.octets.specs.Fields.{flat};
 ghost use Rattle.io.specs.Digits.{digits};
-ghost use Rattle.console.specs.Text.{Put, PutDecimal};
+ghost use Rattle.console.specs.Text.{Least, Put, PutDecimal};
 ghost use Rattle.console.specs.Words.{columnText, listenerText, entryText, talkerText, shownText};
 
 // The lesser of two numbers.
 pub fn least(a: usize, b: usize) -> usize
-    ensures { λ r. ⌜ (r ≡ min a b) × (r ≤ a) × (r ≤ b) ⌝ }
+    ensures { λ r. ⌜ Least a b r ⌝ }
 {
     if a < b { a } else { b }
 }

@@ -305,13 +305,13 @@ pub fn check(pdu: &[u8]) -> u8
                 let kind = head.kind;
                 let start = head.list;
                 let end = head.next;
-                let mut place: usize = 0;
+                let mut reached: usize = 0;
                 loop {
-                    let v = typed_vector(&pdu[start..end], place, kind);
+                    let v = typed_vector(&pdu[start..end], reached, kind);
                     match v {
                         VectorRead::Refused(number) => break 'messages number,
                         VectorRead::EndMark => break,
-                        VectorRead::Vector(w) => place = w.next,
+                        VectorRead::Vector(w) => reached = w.next,
                     }
                 }
                 at = end;

@@ -29,9 +29,9 @@ use Rattle.table.specs.Places.{Stands, StandsOn}
 use Rattle.table.specs.Updates.{resulting, withStream}
 use Rattle.table.proofs.Fitting.{unsettled-fits}
 use Rattle.table.proofs.ByPlace.{stands-on, stream-fits, stream-same, changed-result-at}
-use Rattle.streams.specs.Answers.{sourcePlace}
+use Rattle.streams.specs.Answers.{sourcePort}
 use Rattle.streams.specs.declared.SourceRead.the-variants.{Nowhere, Port}
-use Rattle.streams.proofs.Sources.{place-bound, place-port}
+use Rattle.streams.proofs.Sources.{port-bound, port-is}
 use Rattle.columns.specs.Stages.{mergedShown, declaring, mergedAt, merging}
 
 -- Numbers.
@@ -200,13 +200,13 @@ module _ (x : Stream) (w : FitStream x) where
 
 -- What a stream is left as: without a Talker port as it was, else with the result there declaring the merged Listener.
 
-source-nowhere : (r : Source) → sourcePlace r ≡ Nowhere → r ≡ nowhere
-unfolding sourcePlace
+source-nowhere : (r : Source) → sourcePort r ≡ Nowhere → r ≡ nowhere
+unfolding sourcePort
 source-nowhere nowhere e = refl
 source-nowhere (from o) e = let z : _≡_ {A = ℕ} 0 1 = cc in absurd (omega arith)
 
-source-port : (r : Source) (t : ℕ) → sourcePlace r ≡ Port t → (q : ℕ) → isSource r q ≡ eqb t q
-unfolding sourcePlace isSource
+source-port : (r : Source) (t : ℕ) → sourcePort r ≡ Port t → (q : ℕ) → isSource r q ≡ eqb t q
+unfolding sourcePort isSource
 source-port nowhere t e q = let z : _≡_ {A = ℕ} 0 1 = cc in absurd (omega arith)
 source-port (from o) t e q = let z : o .port ≡ t = cc in rw z
 
@@ -214,14 +214,14 @@ module _ {t : List ℕ} {k : ℕ} (s : Stands t k) where
   abbrev x : Stream
   x = streamAt k (decode t)
 
-  pub left-alone : sourcePlace (sourceOf x) ≡ Nowhere → t ≡ encode (withStream k (merging x) (decode t))
+  pub left-alone : sourcePort (sourceOf x) ≡ Nowhere → t ≡ encode (withStream k (merging x) (decode t))
   left-alone e =
       stream-same s
       ∙ ap (λ (y : Stream). encode (withStream k y (decode t))) (sym (merging-nowhere x (stream-fits s) (source-nowhere (sourceOf x) e)))
 
-  module _ (p : ℕ) (e : sourcePlace (sourceOf x) ≡ Port p) where
+  module _ (p : ℕ) (e : sourcePort (sourceOf x) ≡ Port p) where
     pub talker-on : StandsOn t k p
-    talker-on = stands-on s p (omega (arith, place-port (sourceOf x) p e, place-bound x (stream-fits s .eight-cells)))
+    talker-on = stands-on s p (omega (arith, port-is (sourceOf x) p e, port-bound x (stream-fits s .eight-cells)))
 
     pub left-merged : (a : ℕ) → a ≡ resultPlace k p → (y : List ℕ)
         → y ≡ resultOctets (declaring (mergedShown x) (toResult (take (a + resultSize - a) (drop a t))))

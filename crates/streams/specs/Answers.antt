@@ -13,14 +13,14 @@ classShown A = classA
 classShown B = classB
 
 -- the place of a stream's Talker port
-unfoldable pub sourcePlace : Source → SourceRead
-sourcePlace nowhere = Nowhere
-sourcePlace (from o) = Port (o .port)
+unfoldable pub sourcePort : Source → SourceRead
+sourcePort nowhere = Nowhere
+sourcePort (from o) = Port (o .port)
 
 -- the same as a number; 0 where there is none, as no place then has a Talker
-unfoldable pub talkerPlace : Source → ℕ
-talkerPlace nowhere = 0
-talkerPlace (from o) = o .port
+unfoldable pub talkerPort : Source → ℕ
+talkerPort nowhere = 0
+talkerPort (from o) = o .port
 
 -- what a cell at place t has registered, as a source
 unfoldable pub sourceIn : ℕ → Cell → Source

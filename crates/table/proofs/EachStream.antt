@@ -1,6 +1,6 @@
 -- A loop that changes one stream of a table after another, or one stream by turns, as one cell after another: at each turn the table
 -- is laid out, and what the loop has not come to is as it was; a turn; the end. No place of an octet is in it.
-use Prim.Native.Nat.{ℕ, zero, suc, _+_, _<_}
+use Prim.Native.Nat.{ℕ, zero, suc, _+_, _≤_, _<_}
 use native.Mathlib.Omega.{arith}
 use native.Mathlib.Numerals.{add-one}
 use mathlib.Core.Path.{_≡_, refl, sym, ap, _∙_}
@@ -62,6 +62,13 @@ module _ (g : Stream → Stream) where
   -- the bridge of t₀ with its first k streams changed
   unfoldable pub partly : List ℕ → ℕ → Bridge
   partly t₀ k = holding (decode t₀) (firsts g k (decode t₀ .streams))
+
+  -- a loop over all n of them, at stream k
+  pub record Partly (t₀ : List ℕ) (n : ℕ) (t : List ℕ) (k : ℕ) : Type 0 where
+    pub within : k ≤ n
+    pub count : n ≡ length (decode t₀ .streams)
+    pub size : length t ≡ length t₀
+    pub is : t ≡ encode (partly t₀ k)
 
   pub none-yet : (t₀ : List ℕ) → Laid t₀ → t₀ ≡ encode (partly t₀ 0)
   unfolding partly firsts holding
