@@ -276,8 +276,9 @@ written-on : (p : ℕ) (s : List ℕ) → Frames.wrongPort (settled .settings) p
 unfolding Writing writtenTo
 written-on p s right w buffer n long next after enough call =
     let e = write-call settled settled-valid p 0 right buffer enough in
-    let c = rw (e, w .0, w .1, w .2) at call in
-    (c .0, c .1, c .2, rw (c .1, c .3) (take-append-seam s (drop (length s) buffer)))
+    let long-is = rw (e, w .0, w .1) at (call .length-is) in
+    let left = rw (e, w .0, w .1) at (call .buffer-is) in
+    (rw (e, w .0) at (call .number-is), long-is, rw (e, w .0, w .2) at (call .next-is), rw (long-is, left) (take-append-seam s (drop (length s) buffer)))
 
 -- Any table of the right length; the calls of the worked example, one after another.
 module _ (t : List ℕ) (right : length t ≡ tableLength)

@@ -8,6 +8,7 @@ use reports::Reported;
 ghost use mathlib.Core.Path.{_≡_};
 ghost use mathlib.Core.Bool.{false};
 ghost use mathlib.Core.List.{_∷_};
+ghost use Prim.Native.Nat.{_≤_};
 ghost use lib.ListN.{length, set};
 ghost use Rattle.octets.specs.Fields.{flat};
 ghost use Rattle.io.specs.Digits.{digits};

@@ -7,12 +7,13 @@ use borrow.Author.Needs.{needs}
 use borrow.Author.Tests.{not-true, not-false}
 use lib.ListN.{length}
 use Rattle.model.specs.Table.{decode}
+use Rattle.declarations.specs.declared.Attribute.{Attribute}
 use Rattle.declarations.specs.Passes.{kind, found}
 use Rattle.declarations.proofs.Declared.{from, none-here, one-counted, no-streams}
 use Rattle.declarations.proofs.count_of.Statement.{statement}
 use Rattle.declarations.proofs.count_of.Tie as tie
 
-record Counting (t : List ℕ) (p attribute count n k : ℕ) : Type 0 where
+record Counting (t : List ℕ) (p : ℕ) (attribute : Attribute) (count n k : ℕ) : Type 0 where
   within : k ≤ count
   few : n ≤ k
   left : n + length (from (kind attribute) p (decode t .streams) k) ≡ length (found attribute p t)
