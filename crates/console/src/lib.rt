@@ -82,7 +82,7 @@ pub fn put_octets(line: &mut [u8], at: usize, octets: &[u8]) -> usize
 }
 
 // The word of a column.
-pub fn put_column(line: &mut [u8], at: usize, column: ColumnShown) -> usize
+fn put_column(line: &mut [u8], at: usize, column: ColumnShown) -> usize
     ensures { λ r. ⌜ Put (now (line .entry)) at (columnText column) r (now (line .exit)) ⌝ }
 {
     match column {
@@ -93,7 +93,7 @@ pub fn put_column(line: &mut [u8], at: usize, column: ColumnShown) -> usize
 }
 
 // The word of the Listener declared on a port.
-pub fn put_listener(line: &mut [u8], at: usize, listener: ListenerShown) -> usize
+fn put_listener(line: &mut [u8], at: usize, listener: ListenerShown) -> usize
     ensures { λ r. ⌜ Put (now (line .entry)) at (listenerText listener) r (now (line .exit)) ⌝ }
 {
     match listener {
@@ -105,7 +105,7 @@ pub fn put_listener(line: &mut [u8], at: usize, listener: ListenerShown) -> usiz
 }
 
 // The word of an entry.
-pub fn put_entry(line: &mut [u8], at: usize, entry: EntryShown) -> usize
+fn put_entry(line: &mut [u8], at: usize, entry: EntryShown) -> usize
     ensures { λ r. ⌜ Put (now (line .entry)) at (entryText entry) r (now (line .exit)) ⌝ }
 {
     match entry {

@@ -8,13 +8,13 @@ use model::pdu;
 use model::refusal;
 
 // What the AttributeType octet decides: a known type with its octets of FirstValue, a list to skip unread, or a refusal.
-pub enum TypeRead {
+enum TypeRead {
     Known(usize),
     Skipped,
     Refused,
 }
 
-pub fn type_read(version: u8, kind: u8) -> TypeRead
+fn type_read(version: u8, kind: u8) -> TypeRead
     ensures { λ r. ⌜ r ≡ typeRead (typeOctet version kind) ⌝ }
 {
     match kind {
@@ -147,7 +147,7 @@ fn head_of(at: usize, first: usize, four: bool, h: usize) -> VectorHead
 
 // The vector at a place of an AttributeList of any MRP application, by the octets of FirstValue and whether FourPackedEvents
 // follow: its checks, in 01's order, but for that of its values.
-pub fn vector(list: &[u8], at: usize, first: usize, four: bool) -> VectorRead
+fn vector(list: &[u8], at: usize, first: usize, four: bool) -> VectorRead
     ensures { λ r. ⌜ r ≡ vectorRead first four (now (list .entry)) at ⌝ }
 {
     let n = list.len();
