@@ -16,6 +16,9 @@ pub const SETTINGS: usize = table::PORTS;
 
 pub const PORT_SETTINGS: usize = table::PORT;
 
+// The number of a call that is not refused.
+pub const ACCEPTED: u8 = refusal::ACCEPTED;
+
 // Starts a bridge with these settings: no streams, clock 0. It looks at the table's length only.
 pub fn start(table: &mut [u8], settings: &[u8]) -> u8
     ensures { λ r. ⌜ Starts (now (table .entry)) (now (settings .entry)) r (now (table .exit)) ⌝ }

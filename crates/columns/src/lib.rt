@@ -245,7 +245,7 @@ fn copy_fixed(table: &mut [u8], k: usize, t: usize)
     table::move_down(table, to, from - to, table::FIXED);
 }
 
-// What stream k shows on each of the eight places.
+// What stream k shows on each of the eight ports, of which some may be none.
 fn early_ports(table: &mut [u8], k: usize, t: usize, time: u32)
     requires { ⌜ TalkerAt (now table) k t ⌝ }
     ensures { λ _. ⌜ now (table .exit) ≡ encode (changedAt k (earlyTo 8 time) (decode (now (table .entry)))) ⌝ }

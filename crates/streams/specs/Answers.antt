@@ -12,12 +12,12 @@ classShown NoClass = noClass
 classShown A = classA
 classShown B = classB
 
--- the place of a stream's Talker port
+-- a stream's Talker port
 unfoldable pub sourcePort : Source → SourceRead
 sourcePort nowhere = Nowhere
 sourcePort (from o) = Port (o .port)
 
--- the same as a number; 0 where there is none, as no place then has a Talker
+-- the same as a number; 0 where there is none, as no port then has a Talker
 unfoldable pub talkerPort : Source → ℕ
 talkerPort nowhere = 0
 talkerPort (from o) = o .port

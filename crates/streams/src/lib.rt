@@ -106,7 +106,7 @@ pub fn source(table: &[u8], k: usize) -> SourceRead
     SourceRead::Nowhere
 }
 
-// Its place, or 0 where no place has a Talker.
+// The same as a number: 0 where no port has a Talker.
 pub fn talker_port(table: &[u8], k: usize) -> usize
     requires { ⌜ Stands (now table) k ⌝ }
     ensures { λ r. ⌜ (r ≡ talkerPort (sourceOf (streamAt k (decode (now (table .entry)))))) × (r < 8) ⌝ }

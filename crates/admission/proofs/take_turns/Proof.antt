@@ -35,8 +35,7 @@ loop-again : tie.Need-loop-again Inv-loop μ-loop
 loop-again c =
     let pre = c .before .before .before .before .before .before .before .before .before .pre in
     let l = c .before .before .before .before .before .before .loop in
-    let done = c .before .before .turn .ensures in
-    (
+    let done = c .before .before .turn .ensures in (
       record {
         within = omega arith;
         size = omega arith;
