@@ -275,12 +275,6 @@ module _ (limit : ℕ) (cs : List Claim) (distinct : Distinct cs) where
       ∙ reserved-is-taken limit (admitted limit cs) (sort cs) (sort cs)
       (all-each (Keeps limit (admitted limit cs) (sort cs)) (λ c. rw (above-sort (key c) cs)) (sort cs)) (cut-self (sort cs) (falls-sort cs distinct))
 
--- Claims that are not more important have no influence: whatever else differs between two lists, a claim above which both
--- have the same is admitted in both or in neither.
-pub untouched : (limit : ℕ) (cs ds : List Claim) (c : Claim) → above (key c) cs ≡ above (key c) ds → admitted limit cs c ≡ admitted limit ds c
-unfolding admitted remains
-untouched limit cs ds c h = rw h
-
 -- The order in which the claims are listed has no influence.
 
 pub data Shuffle : List Claim → List Claim → Type 0 where

@@ -7,7 +7,7 @@ use mathlib.Core.List.{List, [], _∷_, _++_, map}
 use mathlib.Core.Bool.{Bool, true, false, cond, not, _&&_, false≢true}
 use Prim.Native.Nat.{ℕ, zero, suc, _+_, _-_, _^_, _≤_, _<_}
 use native.Mathlib.Omega.{arith}
-use lib.ListN.{getD, take, length}
+use lib.ListN.{getD, length}
 use lib.Dec.{ltb, leb}
 use borrow.Author.Tests.{ltb-true, ltb-false, lt-leb, le-leb}
 use Rattle.model.specs.Lists.{All, keep, tabulate}
@@ -118,23 +118,6 @@ pub record Advanced (now : ℕ) (b c : Bridge) : Type 0 where
   pub decided : Settled c
 
 -- The first step that applies.
-
--- past the last step, one that does not apply
-abbrev noStep : Step
-noStep = record { test = false; outcome = columnNone }
-
--- where the step at place i applies and no earlier one does, it gives the column
-pub first-applies : (says : Outcome → Column) (l : List Step) (i : ℕ) (c : Column) →
-    clear (take i l) ≡ true → getD l i noStep .test ≡ true → first says l c ≡ says (getD l i noStep .outcome)
-unfolding first clear
-first-applies says [] i c h t = absurd (false≢true t)
-first-applies says (s ∷ l) zero c h t = rw t
-first-applies says (s ∷ l) (suc i) c h t = go (s .test) h (λ e. first-applies says l i c e t)
-  where
-    go : (b : Bool) → (not b && clear (take i l)) ≡ true → (clear (take i l) ≡ true → first says l c ≡ says (getD l i noStep .outcome)) →
-        cond b (says (s .outcome)) (first says l c) ≡ says (getD l i noStep .outcome)
-    go true h ih = absurd (false≢true h)
-    go false h ih = ih h
 
 -- where none applies, what follows the steps decides
 pub first-clear : (says : Outcome → Column) (l : List Step) (c : Column) → clear l ≡ true → first says l c ≡ c

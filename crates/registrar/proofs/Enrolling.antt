@@ -108,7 +108,7 @@ module _ (p i : ℕ) (a : Act) (j : Joins i a) (t : List ℕ) where
           (effect-fits false p a (decode t) w f (does-fits (decode t .clock) (w .clock) a f) (rw (done-many false) (n .few)))
 
       pub enrolled-laid : Laid u
-      enrolled-laid = record { bridge = holding (decode t) (enrolled i t); fits = enrolled-fits; is = n .table }
+      enrolled-laid = record { thing = holding (decode t) (enrolled i t); fits = enrolled-fits; is = n .table }
 
       pub enrolled-read : decode u ≡ holding (decode t) (enrolled i t)
       enrolled-read = ap decode (n .table) ∙ bridge-read (holding (decode t) (enrolled i t)) enrolled-fits
