@@ -339,4 +339,3 @@ reading-fits st p pdu o = go (wrongPort st p) (walk pdu) refl
     go true w e = tt
     go false (fault n) e = unfold walked in tt
     go false (found vs) e = unfold walked in acts-fit pdu vs o e
-

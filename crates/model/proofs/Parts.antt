@@ -111,6 +111,13 @@ less-and-rest k m h = omega arith
 suc-times : (k n : ℕ) → suc k * n ≡ n + k * n
 suc-times k n = omega (arith, suc-mul k n)
 
+-- the first n of so many zeros, and the others
+zeros-first : (k n : ℕ) → take n (zeros (suc k * n)) ≡ zeros n
+zeros-first k n = rw (suc-times k n, zeros-add n (k * n)) (take-at (zeros n) (zeros (k * n)) n (length-zeros n))
+
+zeros-rest : (k n : ℕ) → drop n (zeros (suc k * n)) ≡ zeros (k * n)
+zeros-rest k n = rw (suc-times k n, zeros-add n (k * n)) (drop-at (zeros n) (zeros (k * n)) n (length-zeros n))
+
 drop-suc-times : (k n : ℕ) (s : List ℕ) → drop (suc k * n) s ≡ drop (k * n) (drop n s)
 drop-suc-times k n s = ap (λ (m : ℕ). drop m s) (suc-times k n) ∙ sym (drop-drop (k * n) n s)
 
@@ -147,14 +154,7 @@ module _ {A : Type 0} (n : ℕ) (from : List ℕ → A) where
   pub parts-zeros : (k : ℕ) → parts n from k (zeros (k * n)) ≡ replicate k (from (zeros n))
   unfolding parts
   parts-zeros zero = refl
-  parts-zeros (suc k) =
-      rw (
-        suc-times k n,
-        zeros-add n (k * n),
-        take-at (zeros n) (zeros (k * n)) n (length-zeros n),
-        drop-at (zeros n) (zeros (k * n)) n (length-zeros n),
-        parts-zeros k,
-      )
+  parts-zeros (suc k) = rw (zeros-first k n, zeros-rest k n, parts-zeros k)
 
 -- what is read and then asked something
 pub parts-map : {A B : Type 0} (n : ℕ) (from : List ℕ → A) (f : A → B) (k : ℕ) (s : List ℕ) → parts n (λ p. f (from p)) k s ≡ map f (parts n from k s)
@@ -267,15 +267,7 @@ module _ (n : ℕ) (rule : List ℕ → Bool) where
     pub every-zeros : (k : ℕ) → everyPart n rule k (zeros (k * n)) ≡ true
     unfolding everyPart
     every-zeros zero = refl
-    every-zeros (suc k) =
-        rw (
-          suc-times k n,
-          zeros-add n (k * n),
-          take-at (zeros n) (zeros (k * n)) n (length-zeros n),
-          drop-at (zeros n) (zeros (k * n)) n (length-zeros n),
-          z,
-        )
-        (every-zeros k)
+    every-zeros (suc k) = rw (zeros-first k n, zeros-rest k n, z) (every-zeros k)
 
     -- m parts, of which those after the first k are zero
     pub every-padded : (k m : ℕ) (s : List ℕ) → k ≤ m → length s ≡ m * n → everyPart n rule k s ≡ true

@@ -268,4 +268,3 @@ module _ (clock : ℕ) (s : List ℕ) (l : length s ≡ resultSize) (o : Octets 
 pub result-zeros : resultOctets unsettled ≡ zeros resultSize
 unfolding resultOctets resultNumbers columnNumber columnBridge columnCode entryNumber declaredNumber unsettled width
 result-zeros = packed-zeros resultWidths
-

@@ -186,7 +186,6 @@ settings-fit st v = record {
 }
 
 module _ (st : Settings) (v : ValidSettings st) (rest : List ℕ) where
-
   pub settings-rules : allTrue (settingsRules (settingsOctets st ++ rest)) ≡ true
   unfolding settingsRules
   settings-rules =

@@ -27,7 +27,7 @@ use Rattle.model.proofs.Tables.{totals-length, totals-back}
 use Rattle.model.proofs.Fits.{fit-fixed, cell-read, result-read, id-fits, settled-fits, bridge-read, laid-is, laid-fits}
 use Rattle.table.specs.Updates.{settledAs, resulting, streamAt, totalsAt, withStream, withSettled, withCell, withResult, withTotals}
 use Rattle.table.specs.Places.{Stands, PortIn, StandsOn}
-use Rattle.table.specs.Reads.{fixedOctets, toFixed, FitFixed, ReadsCell, ReadsResult, ReadsFixed, ReadsPort, ReadsTotals}
+use Rattle.table.specs.Reads.{fixedOctets, toFixed, FitFixed, Reads, ReadsCell, ReadsResult, ReadsFixed, ReadsPort, ReadsTotals}
 use Rattle.table.proofs.Header.{table-length, laid-few, port-fits, port-part, totals-part, totals-patch}
 use Rattle.table.proofs.Records.{record-part, record-patch}
 use Rattle.table.proofs.StreamParts.{fixed-length, settled-part, settled-patch, cell-part, cell-patch, cell-fits, result-part, result-patch, result-fits}
@@ -120,18 +120,20 @@ module _ {t : List ℕ} {k : ℕ} (s : Stands t k) where
         ∙ ap (λ (r : List ℕ). patch (recordPlace k) recordSize r (encode (decode t))) e
         ∙ record-patch (decode t) (laid-fits t (s .laid)) k (recordPlace k) (s .held) refl x
 
+-- Octets of a thing that comes back from them.
+
+reads : {A : Type 0} {n : ℕ} {Of : List ℕ → A → Type 0} {from : List ℕ → A} (octets : A → List ℕ) (a : A) → length (octets a) ≡ n
+    → from (octets a) ≡ a → (s : List ℕ) → s ≡ octets a → Of s a → Reads n Of from s a
+reads {from = from} octets a size back s e of = record { size = ap length e ∙ size; laid = of; is = ap from e ∙ back }
+
 -- Its settled values.
 
 pub reads-fixed : (f : Fixed) → FitFixed f → (s : List ℕ) → s ≡ fixedOctets f → ReadsFixed s f
 unfolding fixedOctets toFixed fixedNumbers
-reads-fixed f w s e = record {
-  size = ap length e ∙ fixed-length f;
-  laid = e;
-  is =
-      ap toFixed e
-      ∙ ap (fixedFrom 0) (fields-of-packed fixedWidths (fixedNumbers f) (w .numbers))
-      ∙ fixed-back f (fit-fixed f (w .numbers) (w .rank)) [] [];
-}
+reads-fixed f w s e =
+    let back : toFixed (fixedOctets f) ≡ f =
+    ap (fixedFrom 0) (fields-of-packed fixedWidths (fixedNumbers f) (w .numbers)) ∙ fixed-back f (fit-fixed f (w .numbers) (w .rank)) [] [] in
+    reads fixedOctets f (fixed-length f) back s e e
 
 module _ {t : List ℕ} {k : ℕ} (s : Stands t k) where
   settled-fixed : FitFixed (streamAt k (decode t) .settled)
@@ -169,11 +171,7 @@ module _ {t : List ℕ} {k : ℕ} (s : Stands t k) where
 -- Its cell on the port.
 
 pub reads-cell : (c : Cell) → FitCell c → (s : List ℕ) → s ≡ cellOctets c → ReadsCell s c
-reads-cell c w s e = record {
-  size = ap length e ∙ cell-length c;
-  laid = record { thing = c; fits = w; is = e };
-  is = ap toCell e ∙ cell-read c w;
-}
+reads-cell c w s e = reads cellOctets c (cell-length c) (cell-read c w) s e record { thing = c; fits = w; is = e }
 
 module _ {t : List ℕ} {k p : ℕ} (s : StandsOn t k p) where
   abbrev x : Stream
@@ -208,11 +206,7 @@ module _ {t : List ℕ} {k p : ℕ} (s : StandsOn t k p) where
 -- Its result there.
 
 pub reads-result : (r : Result) → FitResult r → (s : List ℕ) → s ≡ resultOctets r → ReadsResult s r
-reads-result r w s e = record {
-  size = ap length e ∙ result-length r;
-  laid = record { thing = r; fits = w; is = e };
-  is = ap toResult e ∙ result-read r w;
-}
+reads-result r w s e = reads resultOctets r (result-length r) (result-read r w) s e record { thing = r; fits = w; is = e }
 
 module _ {t : List ℕ} {k p : ℕ} (s : StandsOn t k p) where
   pub result-at : ReadsResult (part (resultPlace k p) resultSize t) (resultAt (x s) p)
@@ -243,7 +237,7 @@ module _ {t : List ℕ} {k p : ℕ} (s : StandsOn t k p) where
 -- The settings of the port, and its totals.
 
 pub reads-totals : (t : Totals) → FitTotals t → (s : List ℕ) → s ≡ totalsOctets t → ReadsTotals s t
-reads-totals t w s e = record { size = ap length e ∙ totals-length t; laid = e; is = ap toTotals e ∙ totals-back t w }
+reads-totals t w s e = reads totalsOctets t (totals-length t) (totals-back t w) s e e
 
 module _ {t : List ℕ} {p : ℕ} (s : PortIn t p) where
   b-fits : FitBridge (decode t)
@@ -254,11 +248,7 @@ module _ {t : List ℕ} {p : ℕ} (s : PortIn t p) where
       let q = portAt (decode t .settings) p in
       let e : part (portPlace p) portSize t ≡ portOctets q =
       ap (part (portPlace p) portSize) (laid-is t (s .laid)) ∙ port-part (decode t) b-fits p (portPlace p) (s .port) refl in
-      record {
-        size = ap length e ∙ port-length q;
-        laid = e;
-        is = ap toPort e ∙ port-back q (port-fits (decode t .settings) (b-fits .settings) p);
-      }
+      reads portOctets q (port-length q) (port-back q (port-fits (decode t .settings) (b-fits .settings) p)) _ e e
 
   pub lent-port-at : (a : ℕ) → a ≡ portPlace p → ReadsPort (take (a + portSize - a) (drop a t)) (portAt (decode t .settings) p)
   lent-port-at a e = rw (e, lent-part (portPlace p) portSize t) port-there
