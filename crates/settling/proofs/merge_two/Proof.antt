@@ -1,5 +1,4 @@
 -- `settling::merge_two` meets its contract. Assumes nothing.
-use Prim.Native.Nat.{_-_}
 use Rattle.settling.proofs.Merging.{merge-none-first, merge-none-second, merge-alike, merge-unlike}
 use Rattle.settling.proofs.merge_two.Statement.{statement}
 use Rattle.settling.proofs.merge_two.Tie as tie

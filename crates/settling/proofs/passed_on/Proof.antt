@@ -1,5 +1,4 @@
 -- `settling::passed_on` meets its contract. Assumes nothing.
-use Prim.Native.Nat.{_-_}
 use Rattle.settling.proofs.Merging.{none-passes, advertise-passes, unheard-passes, heard-passes}
 use Rattle.settling.proofs.passed_on.Statement.{statement}
 use Rattle.settling.proofs.passed_on.Tie as tie
