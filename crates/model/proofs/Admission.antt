@@ -249,12 +249,7 @@ module _ (limit : ℕ) (cs : List Claim) (distinct : Distinct cs) where
       (all-each (Keeps limit (admitted limit cs) (sort cs)) (λ c. rw (above-sort (key c) cs)) (above k (sort cs))) (cut k)
       ∙ ap (reserved limit) (above-sort k cs)
 
-  -- What is admitted meets the rule,
-  pub meets : Rule limit cs (admitted limit cs)
-  unfolding Rule
-  meets = all-each (Obeys limit cs (admitted limit cs)) (λ c. rw (subtracted (key c)) (unfold admitted remains in refl)) cs
-
-  -- and no other assignment does.
+  -- No other assignment meets the rule.
   pub unique : (ok : Claim → Bool) → Rule limit cs ok → All (λ c. ok c ≡ admitted limit cs c) cs
   unfolding Rule admitted remains
   unique ok rule =

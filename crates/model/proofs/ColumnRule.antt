@@ -46,15 +46,6 @@ ruled st now s p col x =
     let left = limitOn st now s p c - spent st now p c col (λ e. ltb (key e) (key d)) s in
     first (outcomeColumn st (sourceOf x)) (steps st p x) (byBandwidth st (d .demand) left)
 
--- What is decided over the streams s, on every port, is what the rules give.
-pub record Given (st : Settings) (now : ℕ) (s : List Stream) : Type 0 where
-  -- each column is the first step that applies
-  pub columns : (p : ℕ) (x : Stream) → columnOf st now s p x ≡ ruled st now s p (columnOf st now s p) x
-  -- "A port's class total is its reserved sum"
-  pub totals : (p : ℕ) (c : Class) → totalOn st now s p c ≡ spent st now p c (columnOf st now s p) (λ e. true) s
-  -- no class total is above its limit
-  pub limits : (p : ℕ) (c : Class) → totalOn st now s p c ≤ limitOn st now s p c
-
 -- The settled bridge: all that it shows is what the rules give, read off the bridge itself.
 
 -- the column of a stream on p, as the bridge shows it
@@ -288,14 +279,6 @@ module _ (st : Settings) (now : ℕ) (s : List Stream) (p : ℕ) where
   pub total-within : (c : Class) → totalOn st now s p c ≤ limitOn st now s p c
   unfolding totalOn total
   total-within c = within (limitOn st now s p c) (sort (claims st now p c s))
-
--- What is decided is what the rules give.
-pub given : (st : Settings) (now : ℕ) (s : List Stream) → Rising (ids s) → All Small (ids s) → Given st now s
-given st now s r a = record {
-  columns = λ p x. columns-ruled st now s p r a x;
-  totals = λ p c. total-ruled st now s p r a c;
-  limits = λ p c. total-within st now s p c;
-}
 
 -- columns that agree on the streams spend the same
 module _ (st : Settings) (now p : ℕ) (col other : Stream → Column) where
