@@ -1,5 +1,5 @@
-// Lines of text, built in octets that the caller lends and written by one call each. None of these asks anything of its
-// arguments: an `at` past the end of the line counts as the end, and what does not fit is left out.
+// Lines of text, built in octets that the caller lends and written by one call each. None of the public ones asks
+// anything of its arguments: an `at` past the end of the line counts as the end, and what does not fit is left out.
 use libc::STDOUT_FILENO;
 use reports::ColumnShown;
 use reports::EntryShown;
@@ -8,7 +8,7 @@ use reports::Reported;
 ghost use mathlib.Core.Path.{_≡_};
 ghost use mathlib.Core.Bool.{false};
 ghost use mathlib.Core.List.{_∷_};
-ghost use Prim.Native.Nat.{_≤_};
+ghost use Prim.Native.Nat.{_^_, _≤_, _<_, min};
 ghost use lib.ListN.{length, set};
 ghost use Rattle.octets.specs.Fields.{flat};
 ghost use Rattle.io.specs.Digits.{digits};
@@ -50,22 +50,21 @@ pub fn put_number(line: &mut [u8], at: usize, n: u64) -> usize
     put_decimal(line, a, n)
 }
 
+// A number in so many hexadecimal digits.
+fn put_hex(line: &mut [u8], at: usize, n: u64, width: usize) -> usize
+    requires { ⌜ (1 ≤ width) × (width ≤ 16) × (n < 16 ^ width) ⌝ }
+    ensures { λ r. ⌜ Put (now (line .entry)) at (digits 16 width n) r (now (line .exit)) ⌝ }
+{
+    let mut text = [0u8; 16];
+    let k = io::hex(n, width, &mut text);
+    put(line, at, &text[..k])
+}
+
 // A StreamID: 16 hexadecimal digits.
 pub fn put_id(line: &mut [u8], at: usize, id: u64) -> usize
     ensures { λ r. ⌜ Put (now (line .entry)) at (digits 16 16 id) r (now (line .exit)) ⌝ }
 {
-    let mut text = [0u8; 16];
-    let k = io::hex(id, 16, &mut text);
-    put(line, at, &text[..k])
-}
-
-// An octet: two hexadecimal digits.
-fn put_octet(line: &mut [u8], at: usize, octet: u8) -> usize
-    ensures { λ r. ⌜ Put (now (line .entry)) at (digits 16 2 octet) r (now (line .exit)) ⌝ }
-{
-    let mut text = [0u8; 16];
-    let k = io::hex(octet as u64, 2, &mut text);
-    put(line, at, &text[..k])
+    put_hex(line, at, id, 16)
 }
 
 // Octets, two hexadecimal digits each.
@@ -75,7 +74,7 @@ pub fn put_octets(line: &mut [u8], at: usize, octets: &[u8]) -> usize
     let mut end = least(at, line.len());
     let mut i: usize = 0;
     while i < octets.len() {
-        end = put_octet(line, end, octets[i]);
+        end = put_hex(line, end, octets[i] as u64, 2);
         i += 1;
     }
     end

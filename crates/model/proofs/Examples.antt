@@ -25,32 +25,7 @@ use Rattle.model.specs.Reports
 use Rattle.model.specs.WrittenFrames
 use Rattle.model.specs.Table
 use Rattle.model.specs.Calls
-
--- To unfold one of these is to unfold what its line names; to unfold the last is to unfold all definitions of the bridge.
-
-stateOpened : Unit {0}
-unfolding Lists.tabulate Lists.bit State.empty State.unsettled State.noFixed State.noTotals State.blank State.fresh State.started State.noPort State.portAt State.isPort State.cellAt State.resultAt State.classOf State.isNoClass State.sameClass State.supports State.limit State.classLatency
-stateOpened = tt
-
-framesOpened : Unit {0}
-unfolding Be.beAt Be.be Fields.fields Fields.flat Parts.part Frames.typeOctet Frames.firstWidths Frames.firstLength Frames.threeLength Frames.hasFour Frames.fourLength Frames.vectorAt Frames.vectorEnd Frames.overpacked Frames.runsPast Frames.overflows Frames.vectorIn Frames.checkedIn Frames.typedIn Frames.listLength Frames.listAt Frames.messageEnd Frames.endMark Frames.headerIn Frames.messageIn Frames.also Frames.both Frames.vectorsFrom Frames.vectors Frames.messagesFrom Frames.messages Frames.walk Frames.event Frames.threePacked Frames.fourPacked Frames.eventOf Frames.fourOf Frames.asking Frames.priorityOf Frames.rankOf Frames.fixedValue Frames.healthValue Frames.idValue Frames.hearing Frames.talkerAct Frames.listenerAct Frames.valueActs Frames.valuesActs Frames.leaveAllActs Frames.vectorActs Frames.frameActs Frames.walked Frames.wrongPort Frames.reading
-framesOpened = tt
-
-registrationsOpened : Unit {0}
-unfolding Registrations.begin Registrations.talksAs Registrations.hearsAs Registrations.withLeaving Registrations.quitTalker Registrations.quitListener Registrations.quit Registrations.sameFixed Registrations.firstJoin Registrations.sameJoin Registrations.otherJoin Registrations.joinTalker Registrations.does Registrations.at Registrations.change Registrations.begun Registrations.touch Registrations.reach Registrations.apply Registrations.applyAll Registrations.holding Registrations.received Registrations.joins Registrations.asks
-registrationsOpened = tt
-
-settlingOpened : Unit {0}
-unfolding Bandwidth.demand Bandwidth.rate Bandwidth.rateOfA Bandwidth.rateOfB Bandwidth.rateOf Bandwidth.key Bandwidth.above Bandwidth.insert Bandwidth.sort Bandwidth.share Bandwidth.reserved Bandwidth.remains Bandwidth.admitted Bandwidth.total Settling.expired Settling.expireTalker Settling.expireListener Settling.expireCell Settling.expire Settling.isTalking Settling.isHearing Settling.held Settling.remain Settling.source Settling.sourceOf Settling.isSource Settling.fixedOf Settling.latencyOf Settling.healthOf Settling.streamClass Settling.registered Settling.isReady Settling.first Settling.clear Settling.isBroken Settling.brokenColumn Settling.outcomeColumn Settling.stepsFrom Settling.steps Settling.ageOf Settling.claim Settling.claims Settling.limitOn Settling.leftFor Settling.byBandwidth Settling.columnOf Settling.capped Settling.latencyOut Settling.entryOf Settling.ageKept Settling.latencyKept Settling.passed Settling.sameReady Settling.merge Settling.mergeAll Settling.merged Settling.decideAt Settling.decide Settling.totalOn Settling.totalsOn Settling.settle Settling.advance
-settlingOpened = tt
-
-answersOpened : Unit {0}
-unfolding Reports.refusedReport Reports.wordOf Reports.codeOf Reports.report WrittenFrames.typeNumber WrittenFrames.messageOf WrittenFrames.readyNumber WrittenFrames.fixedNumbers WrittenFrames.priorityOctet Table.columnNumber Table.columnCode Table.entryNumber Table.declaredNumber Table.leavingNumber Table.sinceNumber Table.healthNumber Table.bridgeNumber Table.codeNumber Table.talkerNumbers Table.listenerNumbers Table.cellNumbers Calls.receive
-answersOpened = tt
-
-opened : Unit {0}
-unfolding stateOpened framesOpened registrationsOpened settlingOpened answersOpened
-opened = tt
+use Rattle.model.proofs.Opened.{opened}
 
 -- what the definitions compute, and what 01 prints
 pub record Example : Type 0 where

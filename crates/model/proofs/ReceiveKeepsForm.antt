@@ -354,10 +354,6 @@ pub receive-clock : (b : Bridge) (p : ℕ) (pdu : List ℕ) → receive b p pdu 
 unfolding receive holding
 receive-clock b p pdu = received-same (λ c. c .clock) b p (reading (b .settings) p pdu) (λ s. refl)
 
-pub receive-totals : (b : Bridge) (p : ℕ) (pdu : List ℕ) → receive b p pdu .bridge .totals ≡ b .totals
-unfolding receive holding
-receive-totals b p pdu = received-same (λ c. c .totals) b p (reading (b .settings) p pdu) (λ s. refl)
-
 pub received-accepted-or-unchanged : (b : Bridge) (p : ℕ) (x : Reading) → (received b p x .number ≡ 0) ⊎ (received b p x .bridge ≡ b)
 unfolding received
 received-accepted-or-unchanged b p (refused n) = inr refl

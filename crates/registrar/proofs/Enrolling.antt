@@ -1,12 +1,12 @@
 -- A record for a stream is found or made; a join done on it is the act.
-use Prim.Native.Nat.{ℕ, _+_, _*_, _-_, _^_, _<_}
+use Prim.Native.Nat.{ℕ, _+_, _^_, _<_}
 use mathlib.Core.Path.{_≡_, refl, sym, _∙_, ap}
-use mathlib.Core.List.{List, [], _∷_, _++_}
+use mathlib.Core.List.{List, [], _∷_}
 use mathlib.Core.Bool.{Bool, true, false}
 use native.Mathlib.Omega.{arith}
-use lib.ListN.{length, getD, take, drop, List·getD-map}
+use lib.ListN.{length, getD, List·getD-map}
 use Rattle.model.specs.State.{Cell, Stream, Bridge, fresh}
-use Rattle.model.specs.Registrations.{Act, leaveAll, leave, talk, listen, does, at, change, touch, reach, apply, holding, ids}
+use Rattle.model.specs.Registrations.{Act, leaveAll, leave, talk, listen, does, at, touch, reach, apply, holding, ids}
 use Rattle.model.specs.Table.{encode, decode}
 use Rattle.model.specs.Laid.{FitBridge, Laid}
 use Rattle.model.proofs.FoundVectors.{Fits}
@@ -108,7 +108,7 @@ module _ (p i : ℕ) (a : Act) (j : Joins i a) (t : List ℕ) where
           (effect-fits false p a (decode t) w f (does-fits (decode t .clock) (w .clock) a f) (rw (done-many false) (n .few)))
 
       pub enrolled-laid : Laid u
-      enrolled-laid = record { bridge = holding (decode t) (enrolled i t); fits = enrolled-fits; is = n .table }
+      enrolled-laid = record { thing = holding (decode t) (enrolled i t); fits = enrolled-fits; is = n .table }
 
       pub enrolled-read : decode u ≡ holding (decode t) (enrolled i t)
       enrolled-read = ap decode (n .table) ∙ bridge-read (holding (decode t) (enrolled i t)) enrolled-fits

@@ -20,7 +20,7 @@ use Rattle.registrar.proofs.Keeps.{effect-fits}
 
 module _ {t : List ℕ} {q : Ran} {r : Bool} {u : List ℕ} (w : Leaves t q r u) where
   pub walked-laid : Laid u
-  walked-laid = record { bridge = holding (decode t) (streamsOf q); fits = w .fits; is = w .table }
+  walked-laid = record { thing = holding (decode t) (streamsOf q); fits = w .fits; is = w .table }
 
   pub walked-read : decode u ≡ holding (decode t) (streamsOf q)
   walked-read = ap decode (w .table) ∙ bridge-read _ (w .fits)

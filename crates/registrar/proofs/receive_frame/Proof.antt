@@ -1,5 +1,4 @@
 -- `registrar::receive_frame` meets its contract. Assumes nothing.
-use Prim.Native.Nat.{_-_}
 use borrow.Author.Tests.{not-true, not-false}
 use borrow.Author.Needs.{needs}
 use Rattle.registrar.proofs.Walks.{walked-laid}

@@ -1,5 +1,4 @@
 -- `registrar::vector` meets its contract. Assumes nothing.
-use Prim.Native.Nat.{_-_}
 use borrow.Author.Needs.{needs}
 use Rattle.model.specs.Frames.{typeOctet}
 use Rattle.msrpdu.proofs.Reading.{Within, within}

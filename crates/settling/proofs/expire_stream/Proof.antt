@@ -5,7 +5,7 @@ use mathlib.Core.List.{List}
 use native.Mathlib.Omega.{arith}
 use borrow.Author.Needs.{needs}
 use Rattle.octets.proofs.Loops.{Turned}
-use Rattle.model.specs.State.{Cell, Stream, streamAt}
+use Rattle.model.specs.State.{Cell, streamAt}
 use Rattle.model.specs.Registrations.{at, change}
 use Rattle.model.specs.Settling.{expireCell}
 use Rattle.model.specs.Table.{encode, decode}
