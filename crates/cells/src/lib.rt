@@ -1,6 +1,5 @@
-// What the events of a frame, expiry and reading do to one cell of 39 octets (docs/TABLE.md, "Cell").
+// What the events of a frame, and expiry, do to one cell of 39 octets (docs/TABLE.md, "Cell").
 ghost use mathlib.Core.Path.{_≡_};
-ghost use mathlib.Core.Bool.{_||_};
 ghost use Prim.Native.Nat.{ℕ, _+_, _≤_, _<_, _^_};
 ghost use lib.ListN.{length};
 ghost use Rattle.octets.specs.Be.{beAt};
@@ -9,7 +8,7 @@ ghost use Rattle.model.specs.Layout.{cellSize, listenerLeavesPlace, priorityBUn
 ghost use Rattle.model.specs.State.{Settings};
 ghost use Rattle.model.specs.Registrations.{quit, does, listen};
 ghost use Rattle.model.specs.Frames.{registers, firstLength};
-ghost use Rattle.model.specs.Settling.{expireCell, isTalking, isHearing};
+ghost use Rattle.model.specs.Settling.{expireCell};
 ghost use Rattle.model.specs.Table.{cellOctets, toCell, toReady};
 ghost use Rattle.model.specs.Laid.{LaidCell};
 ghost use Rattle.cells.specs.Acts.{kindAt, talkOf};
@@ -176,15 +175,4 @@ pub fn expire(cell: &mut [u8], leave: u32, time: u32)
 {
     lapse(cell, TALKER, 33, TALKER_LEAVES, leave, time);
     lapse(cell, LISTENER, 6, LISTENER_LEAVES, leave, time);
-}
-
-// Whether the port has a registration of the stream.
-pub fn is_held(cell: &[u8]) -> bool
-    requires { ⌜ length (now cell) ≡ cellSize ⌝ }
-    ensures { λ r. ⌜ r ≡ (isTalking (toCell (now (cell .entry))) || isHearing (toCell (now (cell .entry)))) ⌝ }
-{
-    if 0 < cell[TALKER] {
-        return true;
-    }
-    0 < cell[LISTENER]
 }

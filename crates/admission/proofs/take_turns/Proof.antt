@@ -42,7 +42,7 @@ returns : tie.Need-returns Inv-loop μ-loop
 returns c =
     let l = c .before .loop in
     let e : l .i ≡ c .before .before .before .before .args .n = omega arith in
-    (turns-used _ _ _ _ _ _ _ _ _ (l .inv .3) e, turns-done _ _ _ _ _ _ _ _ _ (l .inv .3) e)
+    (turns-used _ _ _ _ _ _ _ _ _ (l .inv .3) e, turns-done _ _ _ _ _ _ _ _ _ (l .inv .3) e, l .inv .1)
 
 pub take-turns-spec : {M : Type 1} → statement M
 take-turns-spec =
