@@ -171,7 +171,8 @@ unfoldable pub claims : Settings → ℕ → ℕ → Class → List Stream → L
 claims st now p c [] = []
 claims st now p c (x ∷ s) = keep (clear (steps st p x) && sameClass (streamClass st x) c) (claim st now p x) (claims st now p c s)
 
--- the limit in force
+-- the limit in force: "Each class has its own limit". It is asked of the time and the streams too, since a lower class may be given
+-- what a higher one leaves on the port in the same advance; here the port's settings alone decide
 unfoldable pub limitOn : Settings → ℕ → List Stream → ℕ → Class → ℕ
 limitOn st now s p c = limit (portAt st p) c
 

@@ -7,25 +7,26 @@ ghost use Rattle.msrpdu.specs.Reader.{typeRead, headOf, vectorRead, type
 use model::pdu;
 use model::refusal;
 
-// What the AttributeType octet decides: a known type with its octets of FirstValue, a list to skip unread, or a refusal.
+// What the AttributeType octet decides: a known type with its octets of FirstValue, a list to skip unread, or a refusal with its
+// number.
 enum TypeRead {
     Known(usize),
     Skipped,
-    Refused,
+    Refused(u8),
 }
 
 fn type_read(version: u8, kind: u8) -> TypeRead
     ensures { λ r. ⌜ r ≡ typeRead (typeOctet version kind) ⌝ }
 {
     match kind {
-        0 => TypeRead::Refused,
+        0 => TypeRead::Refused(refusal::ATTRIBUTE_TYPE),
         1 => TypeRead::Known(pdu::ADVERTISE),
         2 => TypeRead::Known(pdu::FAILED),
         3 => TypeRead::Known(pdu::LISTENER),
         4 => TypeRead::Known(pdu::DOMAIN),
         5..=255 => {
             if version == 0 {
-                return TypeRead::Refused;
+                return TypeRead::Refused(refusal::ATTRIBUTE_TYPE);
             }
             TypeRead::Skipped
         }
@@ -237,7 +238,7 @@ fn message_header(pdu: &[u8], version: u8, at: usize) -> MessageRead
     let list = octets::get(pdu, at + 2, 2) as usize;
     let t = type_read(version, kind);
     match t {
-        TypeRead::Refused => MessageRead::Refused(refusal::ATTRIBUTE_TYPE),
+        TypeRead::Refused(number) => MessageRead::Refused(number),
         TypeRead::Skipped => {
             if left < list {
                 return MessageRead::Refused(refusal::PAST_END);
