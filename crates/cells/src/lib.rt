@@ -14,12 +14,17 @@ use table::cell::BRIDGE_ID;
 use table::cell::CHANGED;
 use table::cell::CODE;
 use table::cell::DESTINATION;
+use table::cell::FAILURE;
 use table::cell::LATENCY;
+use table::cell::LEAVING;
 use table::cell::LISTENER;
 use table::cell::LISTENER_LEAVES;
+use table::cell::LISTENER_PART;
+use table::cell::MARKS;
 use table::cell::PRIORITY;
 use table::cell::TALKER;
 use table::cell::TALKER_LEAVES;
+use table::cell::TALKER_PART;
 use table::cell::VLAN;
 
 // The places of a Talker's FirstValue.
@@ -68,7 +73,7 @@ pub fn join_listener(cell: &mut [u8], four: u8)
     ensures { λ _. ⌜ ((clock id : ℕ) → now (cell .exit) ≡ cellOctets (does clock (listen id (toReady four)) (toCell (now (cell .entry))))) ⌝ }
 {
     octets::put(cell, LISTENER, 1, four as u64);
-    octets::clear(cell, LISTENER_LEAVES, 5);
+    octets::clear(cell, LISTENER_LEAVES, LEAVING);
 }
 
 // Whether destination, VLAN, TSpec, priority and rank are those of value n of a FirstValue. VLAN and TSpec are compared as one
@@ -109,7 +114,7 @@ fn write_failure(cell: &mut [u8], kind: u8, first: &[u8])
         octets::put(cell, BRIDGE_ID, 8, octets::get(first, FIRST_BRIDGE_ID, 8));
         octets::put(cell, CODE, 1, first[FIRST_CODE] as u64);
     } else {
-        octets::clear(cell, BRIDGE_ID, 9);
+        octets::clear(cell, BRIDGE_ID, FAILURE);
     }
 }
 
@@ -119,7 +124,7 @@ fn write_varying(cell: &mut [u8], kind: u8, first: &[u8])
     ensures { λ _. ⌜ now (cell .exit) ≡ varied kind (now (first .entry)) (now (cell .entry)) ⌝ }
 {
     octets::put(cell, TALKER, 1, kind as u64);
-    octets::clear(cell, CHANGED, 6);
+    octets::clear(cell, CHANGED, MARKS);
     octets::put(cell, LATENCY, 4, octets::get(first, FIRST_LATENCY, 4));
     write_failure(cell, kind, first);
 }
@@ -130,7 +135,7 @@ fn mark_changed(cell: &mut [u8])
     ensures { λ _. ⌜ now (cell .exit) ≡ marked (now (cell .entry)) ⌝ }
 {
     octets::put(cell, CHANGED, 1, 1);
-    octets::clear(cell, TALKER_LEAVES, 5);
+    octets::clear(cell, TALKER_LEAVES, LEAVING);
 }
 
 // A Talker's join, of value n of a FirstValue: it registers, replaces what may vary, or marks the held Talker as changed.
@@ -169,6 +174,6 @@ pub fn expire(cell: &mut [u8], leave: u32, time: u32)
     requires { ⌜ ExpiryGiven (now cell) leave ⌝ }
     ensures { λ _. ⌜ ((st : Settings) → st .leaveTime ≡ leave → now (cell .exit) ≡ cellOctets (expireCell st time (toCell (now (cell .entry))))) ⌝ }
 {
-    lapse(cell, TALKER, 33, TALKER_LEAVES, leave, time);
-    lapse(cell, LISTENER, 6, LISTENER_LEAVES, leave, time);
+    lapse(cell, TALKER, TALKER_PART, TALKER_LEAVES, leave, time);
+    lapse(cell, LISTENER, LISTENER_PART, LISTENER_LEAVES, leave, time);
 }

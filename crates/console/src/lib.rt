@@ -8,11 +8,11 @@ use reports::Reported;
 ghost use mathlib.Core.Path.{_≡_};
 ghost use mathlib.Core.Bool.{false};
 ghost use mathlib.Core.List.{_∷_};
-ghost use Prim.Native.Nat.{_^_, _≤_, _<_, min};
+ghost use Prim.Native.Nat.{_≤_};
 ghost use lib.ListN.{length, set};
 ghost use Rattle.octets.specs.Fields.{flat};
 ghost use Rattle.io.specs.Digits.{digits};
-ghost use Rattle.console.specs.Text.{Least, Put, PutDecimal};
+ghost use Rattle.console.specs.Text.{HexGiven, Least, Put, PutDecimal};
 ghost use Rattle.console.specs.Words.{columnText, listenerText, entryText, talkerText, shownText};
 
 // The lesser of two numbers.
@@ -52,7 +52,7 @@ pub fn put_number(line: &mut [u8], at: usize, n: u64) -> usize
 
 // A number in so many hexadecimal digits.
 fn put_hex(line: &mut [u8], at: usize, n: u64, width: usize) -> usize
-    requires { ⌜ (1 ≤ width) × (width ≤ 16) × (n < 16 ^ width) ⌝ }
+    requires { ⌜ HexGiven n width ⌝ }
     ensures { λ r. ⌜ Put (now (line .entry)) at (digits 16 width n) r (now (line .exit)) ⌝ }
 {
     let mut text = [0u8; 16];

@@ -90,7 +90,7 @@ fn talker_formed(cell: &[u8], clock: u64, leave: u64) -> bool
     }
     if kind == 1 {
         return registration_formed(cell, clock, leave)
-            & zero_from(&cell[cell::BRIDGE_ID..cell::LISTENER], 0);
+            & zero_from(&cell[cell::BRIDGE_ID..cell::FAILURE_END], 0);
     }
     (kind <= 2) & registration_formed(cell, clock, leave)
 }

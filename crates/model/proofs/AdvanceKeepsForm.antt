@@ -15,7 +15,7 @@ use Rattle.model.specs.Bandwidth.{sort, total}
 use Rattle.model.specs.Table.{totalsWithin}
 use Rattle.model.proofs.Lists.{all-getD, all-tabulate}
 use Rattle.model.proofs.Admission.{within}
-use Rattle.model.proofs.Valid.{ValidLeaving, ValidFixed, ValidHealth, ValidRegistration, ValidTalker, ValidListener, ValidCell, ValidColumn, ValidAge, ValidResult, ValidStream, Rising, Valid}
+use Rattle.model.proofs.Valid.{ValidLeaving, ValidFixed, ValidHealth, ValidRegistration, again-valid, ValidTalker, ValidListener, ValidCell, ValidColumn, ValidAge, ValidResult, ValidStream, Rising, Valid}
 
 -- Lists.
 
@@ -65,7 +65,7 @@ module _ (st : Settings) (clock now : ℕ) (later : clock ≤ now) where
     where
       go : (b : Bool) → expired st now (r .leaving) ≡ b → ValidTalker now (st .leaveTime) (cond b noTalker (talker r))
       go true e = tt
-      go false e = record { fixed = v .fixed; varying = v .varying; leaving = leaving-remains (r .leaving) e (v .leaving) }
+      go false e = again-valid clock (st .leaveTime) r v now (st .leaveTime) (r .changed) (r .leaving) (leaving-remains (r .leaving) e (v .leaving))
 
   listener-remains : (t : Listener) → ValidListener clock (st .leaveTime) t → ValidListener now (st .leaveTime) (expireListener st now t)
   unfolding expireListener

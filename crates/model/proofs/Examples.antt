@@ -3,12 +3,13 @@
 use mathlib.Core.Path.{_≡_, refl}
 use mathlib.Core.List.{List, [], _∷_, _++_, map}
 use mathlib.Core.Bool.{true, false, cond}
-use Prim.Native.Nat.{ℕ}
+use Prim.Native.Nat.{ℕ, _+_}
 use lib.ListN.{length, getD, take, replicate}
 use lib.Dec.{eqb}
 use Rattle.octets.specs.Be
 use Rattle.octets.specs.Fields
 use Rattle.octets.specs.Parts
+use Rattle.model.specs.Layout.{codeField}
 use Rattle.model.specs.Lists.{All}
 use Rattle.model.specs.Lists
 use Rattle.model.specs.State.{Port, Settings, Fixed, ready, askingFailed, tells, Stream, Bridge}
@@ -129,10 +130,10 @@ reserves b = getD (b .totals) 1 State.noTotals .totalA ∷ State.portAt (b .sett
 count : Bridge → List ℕ
 count b = length (b .streams) ∷ []
 
--- the Talker of the first stream on the port at place p: kind, changed mark, leaving, since, destination, ..; its Listener:
--- kind, leaving, since
+-- the Talker of the first stream on the port at place p: kind, changed mark, leaving, since, destination, .., code; its
+-- Listener: kind, leaving, since
 talker : ℕ → Bridge → List ℕ
-talker p b = Table.talkerNumbers (State.cellAt (State.streamAt 0 b) p .talks)
+talker p b = take (codeField + 1) (Table.talkerNumbers (State.cellAt (State.streamAt 0 b) p .talks))
 
 listener : ℕ → Bridge → List ℕ
 listener p b = Table.listenerNumbers (State.cellAt (State.streamAt 0 b) p .hears)

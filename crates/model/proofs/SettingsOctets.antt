@@ -16,7 +16,7 @@ use Rattle.octets.proofs.Fields.{length-packed-any, length-flat, fields-packed,
 use Rattle.model.specs.Layout.{headSize, headWidths, inPort, portPlace, portSize, portsPlace, portsUnit, portWidths, priorityAUnit, priorityBUnit, settingsSize, wordPlace}
 use Rattle.model.specs.Lists.{All, allTrue, bit, Octets}
 use Rattle.model.specs.State.{Port, Settings}
-use Rattle.model.specs.Table.{portNumbers, portFrom, portOctets, toPort, headWord, settingsOctets, portsField, toSettings, portRule, everyPart, settingsRules, settingsFormed}
+use Rattle.model.specs.Table.{portNumbers, portFrom, portOctets, toPort, headWord, headNumbers, settingsOctets, portsField, toSettings, portRule, everyPart, settingsRules, settingsFormed}
 use Rattle.model.specs.Laid.{FitSettings}
 use Rattle.model.proofs.Cells.{bit-back, bit-forth, bit-few}
 use Rattle.model.proofs.Parts.{_also_, packed-whole, parts-flat, length-parts, octets-at, octets-drop, octets-append, octets-packed, octets-flat, every-read, every-flat, every-forth}
@@ -115,11 +115,12 @@ port-valid s l o r = port-from s (fields-fit portWidths 0 s (octets-at s o))
 
 -- What is read from the octets of settings, whatever follows them.
 
-abbrev head : Settings → List ℕ
-head st = packed headWidths (st .bridgeId ∷ headWord st ∷ [])
+abbrev pub head : Settings → List ℕ
+head st = packed headWidths (headNumbers st)
 
-head-length : (st : Settings) → length (head st) ≡ headSize
-head-length st = length-packed-any headWidths (st .bridgeId ∷ headWord st ∷ []) refl ∙ (unfold width in refl)
+pub head-length : (st : Settings) → length (head st) ≡ headSize
+unfolding headNumbers
+head-length st = length-packed-any headWidths (headNumbers st) refl ∙ (unfold width in refl)
 
 head-split : (st : Settings) (rest : List ℕ) → settingsOctets st ++ rest ≡ head st ++ (flat portOctets (st .ports) ++ rest)
 unfolding settingsOctets
@@ -132,35 +133,35 @@ settings-length st =
 
 -- numbers within their fields are read as they were written, whatever follows
 module _ (st : Settings) (v : FitSettings st) where
-  head-fit : Fit headWidths (st .bridgeId ∷ headWord st ∷ [])
-  unfolding Fit headWord
+  head-fit : Fit headWidths (headNumbers st)
+  unfolding Fit headNumbers headWord
   head-fit = v .bridgeId also omega arith also tt
 
   module _ (rest : List ℕ) where
-    head-read : fields headWidths 0 (settingsOctets st ++ rest) ≡ st .bridgeId ∷ headWord st ∷ []
-    head-read = rw (head-split st rest) (fields-packed headWidths (st .bridgeId ∷ headWord st ∷ []) (flat portOctets (st .ports) ++ rest) head-fit)
+    head-read : fields headWidths 0 (settingsOctets st ++ rest) ≡ headNumbers st
+    head-read = rw (head-split st rest) (fields-packed headWidths (headNumbers st) (flat portOctets (st .ports) ++ rest) head-fit)
 
     pub id-read : beAt 8 (settingsOctets st ++ rest) 0 ≡ st .bridgeId
-    unfolding fields
+    unfolding fields headNumbers
     id-read = ap (λ (vs : List ℕ). getD vs 0 0) head-read
 
-    word-read : beAt 3 (settingsOctets st ++ rest) 8 ≡ headWord st
-    unfolding fields
+    word-read : beAt 3 (settingsOctets st ++ rest) wordPlace ≡ headWord st
+    unfolding fields headNumbers
     word-read = ap (λ (vs : List ℕ). getD vs 1 0) head-read
 
     pub ports-read : portsField (settingsOctets st ++ rest) ≡ length (st .ports)
     unfolding portsField headWord
     ports-read = rw word-read (omega arith)
 
-    pub priority-a-read : beAt 3 (settingsOctets st ++ rest) 8 / priorityAUnit % 8 ≡ st .priorityA
+    pub priority-a-read : beAt 3 (settingsOctets st ++ rest) wordPlace / priorityAUnit % 8 ≡ st .priorityA
     unfolding headWord
     priority-a-read = rw word-read (omega arith)
 
-    pub priority-b-read : beAt 3 (settingsOctets st ++ rest) 8 / priorityBUnit % 8 ≡ st .priorityB
+    pub priority-b-read : beAt 3 (settingsOctets st ++ rest) wordPlace / priorityBUnit % 8 ≡ st .priorityB
     unfolding headWord
     priority-b-read = rw word-read (omega arith)
 
-    pub leave-read : beAt 3 (settingsOctets st ++ rest) 8 % priorityBUnit ≡ st .leaveTime
+    pub leave-read : beAt 3 (settingsOctets st ++ rest) wordPlace % priorityBUnit ≡ st .leaveTime
     unfolding headWord
     leave-read = rw word-read (omega arith)
 
@@ -210,7 +211,7 @@ unfolding headWord toSettings portsField
 head-word s = rw (length-parts portSize toPort (beAt 3 s wordPlace / portsUnit) (drop portsPlace s)) (word-back (beAt 3 s wordPlace))
 
 head-forth : (s : List ℕ) → headSize ≤ length s → Octets s → head (toSettings s) ≡ take headSize s
-unfolding toSettings fields width part
+unfolding headNumbers toSettings fields width part
 head-forth s h o = rw (head-word s) (packed-fields headWidths 0 s h (octets-at s o))
 
 -- the rules as facts
@@ -299,5 +300,5 @@ module _ (s : List ℕ) (o : Octets s) (f : settingsFormed s ≡ true) where
 pub octets-settings : (st : Settings) → Octets (settingsOctets st)
 unfolding settingsOctets portOctets
 octets-settings st =
-    octets-append (head st) (flat portOctets (st .ports)) (octets-packed headWidths (st .bridgeId ∷ headWord st ∷ []))
+    octets-append (head st) (flat portOctets (st .ports)) (octets-packed headWidths (headNumbers st))
     (octets-flat portOctets (λ q. octets-packed portWidths (portNumbers q)) (st .ports))

@@ -9,16 +9,16 @@ use Rattle.octets.specs.Be.{beAt, be}
 use Rattle.octets.specs.Parts.{part, patch, zeros}
 use Rattle.octets.specs.Fields.{packed, Fit, width, flat}
 use Rattle.octets.proofs.Be.{length-be}
-use Rattle.octets.proofs.Fields.{flat-append, packed-zeros, fit-zeros, length-packed-any}
-use Rattle.model.specs.Layout.{clockPlace, countPlace, headWidths, portPlace, portSize, portWidths, portsPlace, portsUnit, priorityAUnit, priorityBUnit, recordsPlace, tableLength, totalPlace, totalSize, totalsPlace, totalsSize, wordPlace}
+use Rattle.octets.proofs.Fields.{flat-append, packed-zeros, fit-zeros}
+use Rattle.model.specs.Layout.{clockPlace, countPlace, portPlace, portSize, portWidths, portsPlace, portsUnit, priorityAUnit, priorityBUnit, recordsPlace, tableLength, totalPlace, totalSize, totalsPlace, totalsSize, wordPlace}
 use Rattle.model.specs.Lists.{All, bit}
 use Rattle.model.specs.State.{Port, Settings, Stream, Totals, Bridge, noPort, portAt, noTotals}
 use Rattle.model.specs.Registrations.{holding}
-use Rattle.model.specs.Table.{portNumbers, portOctets, headWord, settingsOctets, portsField, totalsOctets, clockField, countField, encode, decode}
+use Rattle.model.specs.Table.{portNumbers, portOctets, settingsOctets, portsField, totalsOctets, clockField, countField, encode, decode}
 use Rattle.model.specs.Laid.{FitSettings, FitBridge, Laid}
 use Rattle.model.proofs.Lists.{all-each, all-replicate}
 use Rattle.model.proofs.Parts.{Sized, flat-zeros}
-use Rattle.model.proofs.SettingsOctets.{port-length, id-read, ports-read, priority-a-read, priority-b-read, leave-read}
+use Rattle.model.proofs.SettingsOctets.{head, head-length, port-length, id-read, ports-read, priority-a-read, priority-b-read, leave-read}
 use Rattle.model.proofs.Tables.{settingsWhole, clockAndCount, totalsWhole, recordsWhole, encode-parts, clock-length, settings-whole-length, totals-whole-length, whole-length, totals-sized, no-totals, clock-read, count-read, fit-whole}
 use Rattle.model.proofs.Fits.{laid-is, laid-fits}
 use Rattle.table.specs.Updates.{clocked, totalled}
@@ -97,13 +97,6 @@ padded-at [] m p d = blank m p
     blank (suc m) (suc p) = blank m p
 padded-at (x ∷ l) m zero d = refl
 padded-at (x ∷ l) m (suc p) d = padded-at l m p d
-
-abbrev head : Settings → List ℕ
-head st = packed headWidths (st .bridgeId ∷ headWord st ∷ [])
-
-head-length : (st : Settings) → length (head st) ≡ portsPlace
-unfolding width
-head-length st = length-packed-any headWidths (st .bridgeId ∷ headWord st ∷ []) refl
 
 flat-eight : (st : Settings) → flat portOctets (eightPorts st) ≡ flat portOctets (st .ports) ++ zeros ((8 - length (st .ports)) * portSize)
 flat-eight st =

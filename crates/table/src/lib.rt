@@ -31,7 +31,7 @@ pub const TOTAL: usize = TOTAL_B + 5;
 
 pub const FIXED: usize = cell::PRIORITY + 1 - cell::DESTINATION;
 
-pub const CELL: usize = cell::LISTENER_SINCE + 4;
+pub const CELL: usize = cell::LISTENER + cell::LISTENER_PART;
 
 pub const RESULT: usize = result::DECLARED + 1;
 

@@ -48,7 +48,7 @@ returns : tie.Need-returns Inv-loop μ-loop
 returns c =
     let l = c .before .loop in
     let e : l .i ≡ c .before .before .before .before .args .n = omega arith in
-    (turns-used _ _ _ _ _ _ _ _ _ (l .inv .0 .holds) e, turns-done _ _ _ _ _ _ _ _ _ (l .inv .0 .holds) e, l .inv .1)
+    record { used = turns-used _ _ _ _ _ _ _ _ _ (l .inv .0 .holds) e; table = turns-done _ _ _ _ _ _ _ _ _ (l .inv .0 .holds) e; within = l .inv .1 }
 
 pub take-turns-spec : {M : Type 1} → statement M
 take-turns-spec =

@@ -12,8 +12,8 @@ returns : tie.Need-returns
 returns c =
     let made = c .before .before .before .before .before .hex .ensures in
     let first = c .before .before .before .before .before .before .before .before in
-    let width : min (max (first .args .width) 1) 16 ≡ first .args .width = omega (arith, first .pre .0, first .pre .1) in
-    let e = made .1 .1 ∙ ap (λ (k : ℕ). digits 16 k (first .args .n)) (fixed-width 16 (first .args .width) (first .args .n) _ (omega arith) (first .pre .2) (rw width at (made .1 .0))) in
+    let width : min (max (first .args .width) 1) 16 ≡ first .args .width = omega (arith, first .pre .some, first .pre .few) in
+    let e = made .1 .1 ∙ ap (λ (k : ℕ). digits 16 k (first .args .n)) (fixed-width 16 (first .args .width) (first .args .n) _ (omega arith) (first .pre .fits) (rw width at (made .1 .0))) in
     rw (← e) (c .before .before .put .ensures)
 
 pub put-hex-spec : {M : Type 1} → statement M
