@@ -26,7 +26,7 @@ loop-holds c = (omega arith, refl, put-none _ _ _ (c .least .ensures .0))
 loop-again : tie.Need-loop-again Inv-loop μ-loop
 loop-again c =
     let l = c .before .before .before .before .before .before .loop in
-    (omega arith, omega arith, rw (← (octets-more (c .before .before .before .before .before .before .before .before .before .before .args .octets .now) (l .i) (c .before .before .before .before .before .loop-test .taken))) (put-append (l .inv .2) (c .before .before .put-hex .ensures)))
+    (omega arith, omega arith, rw (← (octets-more (c .before .before .before .before .before .before .before .before .before .before .args .octets .now) (l .i) (c .before .before .before .before .before .loop-test .taken))) (put-append (l .inv .2) (c .before .before .put-octet .ensures)))
 
 returns : tie.Need-returns Inv-loop μ-loop
 returns c =
