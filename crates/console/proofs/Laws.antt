@@ -24,8 +24,8 @@ pub put-made : (line text y : List ℕ) (at from n : ℕ) → from ≡ min at (l
 unfolding startOf fitting putIn
 put-made line text y at from n a b e =
     let l : length (take n text) ≡ n = length-take-le n text (omega arith) in
-    let z : y ≡ take n text = e ∙ ap (λ (k : ℕ). take k text) (omega arith) in
-    let w = lent-patch from n y line ∙ ap (λ (t : List ℕ). patch from n t line) z in
+    let z : n - 0 ≡ n = omega arith in
+    let w = lent-patch from n y line ∙ ap (λ (t : List ℕ). patch from n t line) (rw z at e) in
     record {
       end-is = rw (← a, ← b);
       line-is = w ∙ rw (← a, ← b);

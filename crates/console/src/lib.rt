@@ -67,6 +67,13 @@ pub fn put_id(line: &mut [u8], at: usize, id: u64) -> usize
     put_hex(line, at, id, 16)
 }
 
+// An octet: two hexadecimal digits.
+fn put_octet(line: &mut [u8], at: usize, octet: u8) -> usize
+    ensures { λ r. ⌜ Put (now (line .entry)) at (digits 16 2 octet) r (now (line .exit)) ⌝ }
+{
+    put_hex(line, at, octet as u64, 2)
+}
+
 // Octets, two hexadecimal digits each.
 pub fn put_octets(line: &mut [u8], at: usize, octets: &[u8]) -> usize
     ensures { λ r. ⌜ Put (now (line .entry)) at (flat (digits 16 2) (now (octets .entry))) r (now (line .exit)) ⌝ }
@@ -74,7 +81,7 @@ pub fn put_octets(line: &mut [u8], at: usize, octets: &[u8]) -> usize
     let mut end = least(at, line.len());
     let mut i: usize = 0;
     while i < octets.len() {
-        end = put_hex(line, end, octets[i] as u64, 2);
+        end = put_octet(line, end, octets[i]);
         i += 1;
     }
     end

@@ -30,7 +30,7 @@ loop-again c =
     record {
       within = omega arith;
       size = omega arith;
-      holds = rw (← (octets-more (c .before .before .before .before .before .before .before .before .before .before .args .octets .now) (l .i) (c .before .before .before .before .before .loop-test .taken))) (put-append (l .inv .holds) (c .before .before .put-hex .ensures));
+      holds = rw (← (octets-more (c .before .before .before .before .before .before .before .before .before .before .args .octets .now) (l .i) (c .before .before .before .before .before .loop-test .taken))) (put-append (l .inv .holds) (c .before .before .put-octet .ensures));
     }
 
 returns : tie.Need-returns Inv-loop μ-loop
