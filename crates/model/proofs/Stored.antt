@@ -118,9 +118,9 @@ stored-stays n m c d r s h e =
     let column = not (hasColumn (r .column)) in
     true-all (storedRules m d r)
     (implies-more (hasColumn (r .column)) (ltb (bit (isTalking c)) n) (ltb (bit (isTalking d)) m)
-        (λ l. let before : bit (isTalking c) < n = ltb-true (bit (isTalking c)) n l in lt-ltb (bit (isTalking d)) m (omega arith)) (a .0)
+    (λ l. let before : bit (isTalking c) < n = ltb-true (bit (isTalking c)) n l in lt-ltb (bit (isTalking d)) m (omega arith)) (a .0)
     also implies-more (declares (r .declares)) (column && isTalking c) (column && isTalking d)
-        (λ l. and-both column (isTalking d) (and-left column (isTalking c) l) (s .talks (and-right column (isTalking c) l))) (a .1 .0)
+    (λ l. and-both column (isTalking d) (and-left column (isTalking c) l) (s .talks (and-right column (isTalking c) l))) (a .1 .0)
     also implies-more (forListener (r .column) (r .entry)) (isHearing c) (isHearing d) (s .hears) (a .1 .1 .0)
     also tt)
 

@@ -211,9 +211,9 @@ module _ (ports clock leave : ℕ) (few : ports ≤ 8) (small : clock < 2 ^ 32) 
         true-all (streamRules ports clock leave (streamOctets x))
         (eq-eqb (getD (streamOctets x) settledPriorityPlace 0 % 16) 0 (spare-read x name-fit)
         also rw (stream-back, c, r)
-        (many-keep cells-coded ports 8 few (x .cells) (v .eight-cells) (v .cells)
+        (implies-true (eqb n 0) (allZero (drop 1 (fields nameWidths 0 (streamOctets x)))) (λ e. rw (name-read x name-fit, v .idle (eqb-true n 0 e)) none-zero)
+        also many-keep cells-coded ports 8 few (x .cells) (v .eight-cells) (v .cells)
         also held-there
-        also implies-true (eqb n 0) (allZero (drop 1 (fields nameWidths 0 (streamOctets x)))) (λ e. rw (name-read x name-fit, v .idle (eqb-true n 0 e)) none-zero)
         also many-rest cells-coded ports 8 few (x .cells) (v .eight-cells) (v .cells) (v .no-other-cells)
         also many-keep results-coded ports 8 few (x .results) (v .eight-results) (v .results)
         also ports-kept (storedFormed n) ports (x .cells) (x .results) (v .stored)
@@ -230,17 +230,17 @@ module _ (ports clock leave : ℕ) (few : ports ≤ 8) (small : clock < 2 ^ 32) 
     unfolding streamRules fields
     spare-kept = ap (λ (b : ℕ). b % 16) (octet-field s settledPriorityPlace) ∙ eqb-true (getD s settledPriorityPlace 0 % 16) 0 (stream-rules .0)
 
+    idle-kept : implies (eqb (talkers ports (toStream s .cells)) 0) (allZero (drop 1 (fields nameWidths 0 s))) ≡ true
+    unfolding streamRules
+    idle-kept = stream-rules .1 .0
+
     cells-kept : everyPart cellSize (cellFormed clock leave) ports (cellsPart s) ≡ true
     unfolding streamRules
-    cells-kept = stream-rules .1 .0
+    cells-kept = stream-rules .1 .1 .0
 
     held-kept : holds ports (cellsPart s) ≡ true
     unfolding streamRules
-    held-kept = stream-rules .1 .1 .0
-
-    idle-kept : implies (eqb (talkers ports (toStream s .cells)) 0) (allZero (drop 1 (fields nameWidths 0 s))) ≡ true
-    unfolding streamRules
-    idle-kept = stream-rules .1 .1 .1 .0
+    held-kept = stream-rules .1 .1 .1 .0
 
     cells-zero : allZero (drop (ports * cellSize) (cellsPart s)) ≡ true
     unfolding streamRules
@@ -346,9 +346,10 @@ totals-fit some (t ∷ ts) (q ∷ qs) v e =
     let a : t .totalA ≤ mostA = leb-true (t .totalA) mostA (and-left (leb (t .totalA) mostA) (leb (t .totalB) mostB) u) in
     let b : t .totalB ≤ mostB = leb-true (t .totalB) mostB (and-right (leb (t .totalA) mostA) (leb (t .totalB) mostB) u) in
     let la : q .limitA < 256 ^ 5 = v .0 .limitA in
-    let lb : q .limitB < 256 ^ 5 = v .0 .limitB in
-    ((omega (arith, at-most-limit some (q .supportsA) (q .limitA)), omega (arith, at-most-limit some (q .supportsB) (q .limitB))),
-        totals-fit some ts qs (v .1) (and-right first (totalsWithin some ts qs) e))
+    let lb : q .limitB < 256 ^ 5 = v .0 .limitB in (
+      (omega (arith, at-most-limit some (q .supportsA) (q .limitA)), omega (arith, at-most-limit some (q .supportsB) (q .limitB))),
+      totals-fit some ts qs (v .1) (and-right first (totalsWithin some ts qs) e),
+    )
 
 pub totals-length : (t : Totals) → length (totalsOctets t) ≡ totalSize
 unfolding totalsOctets width

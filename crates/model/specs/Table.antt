@@ -350,9 +350,9 @@ streamRules ports clock leave s =
     let x = toStream s in
     let n = talkers ports (x .cells) in
     eqb (getD s settledPriorityPlace 0 % 16) 0  -- 11
+    ∷ implies (eqb n 0) (allZero (drop 1 (fields nameWidths 0 s)))  -- 25
     ∷ everyPart cellSize (cellFormed clock leave) ports (cellsPart s)  -- 14 to 19
     ∷ holds ports (cellsPart s)  -- 12
-    ∷ implies (eqb n 0) (allZero (drop 1 (fields nameWidths 0 s)))  -- 25
     ∷ allZero (drop (ports * cellSize) (cellsPart s))  -- 13
     ∷ everyPart resultSize (resultFormed clock) ports (resultsPart s)  -- 20 to 24
     ∷ everyPort (storedFormed n) ports (x .cells) (x .results)  -- 26 to 28
