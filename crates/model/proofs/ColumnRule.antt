@@ -15,11 +15,12 @@ use Rattle.model.specs.State.{Settings, Health, sound, broken, Column, a
 use Rattle.model.specs.Registrations.{ids}
 use Rattle.model.specs.Bandwidth.{Claim, key, above, sort, reserved, remains, admitted, total, taken}
 use Rattle.model.specs.Settling.{remain, Source, sourceOf, isSource, fixedOf, healthOf, streamClass, registered, isReady, isAdvertise, Outcome, columnNone, asRegistered, ownFailure, Step, first, clear, brokenColumn, outcomeColumn, steps, ageOf, claim, claims, limitOn, leftFor, byBandwidth, columnOf, latencyOut, entryOf, ageKept, latencyKept, passed, mergeAll, merged, decideAt, decide, totalOn, totalsOn, settle}
-use Rattle.model.proofs.Lists.{at-place, all-map, all-both, all-each, and-right, and-true, and-false}
+use Rattle.model.proofs.Lists.{all-map, all-both, all-each, and-right, and-true, and-false}
 use Rattle.model.proofs.Valid.{Rising}
 use Rattle.model.proofs.Admission.{Distinct, key-id, within, subtracted, total-is-sum, idle-above, idle-total}
-pub use Rattle.model.proofs.AdvanceKeepsForm.{remain-all, remain-rising}
-use Rattle.model.proofs.AdvanceKeepsForm.{same-class, decided-ids}
+pub use Rattle.model.proofs.Lists.{at-place}
+pub use Rattle.model.proofs.AdvanceKeepsForm.{same-class, remain-all, remain-rising}
+use Rattle.model.proofs.AdvanceKeepsForm.{decided-ids}
 
 -- The rule: what the columns of a port are, in terms of themselves.
 

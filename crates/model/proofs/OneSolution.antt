@@ -14,11 +14,10 @@ use Rattle.model.specs.State.{Settings, Column, none, Declared, nothing,
 use Rattle.model.specs.Registrations.{ids}
 use Rattle.model.specs.Bandwidth.{Claim, key, above, remains, admitted}
 use Rattle.model.specs.Settling.{remain, sourceOf, isSource, streamClass, registered, first, clear, outcomeColumn, steps, claim, claims, limitOn, leftFor, byBandwidth, columnOf, latencyOut, passed, mergeAll, merged, decideAt, decide, totalOn, totalsOn, settle, isAdvertise}
-use Rattle.model.proofs.Lists.{at-place, all-map, all-both}
+use Rattle.model.proofs.Lists.{all-map, all-both}
 use Rattle.model.proofs.Valid.{Rising}
 use Rattle.model.proofs.Admission.{Obeys, Rule, unique, subtracted, all-above, taken-same}
-use Rattle.model.proofs.AdvanceKeepsForm.{same-class}
-use Rattle.model.proofs.ColumnRule.{spent, ruled, Small, claims-distinct, advertised, Agrees, spent-above, columnAt, totalAt, SettledStream, Settled, Carried, Pairwise, Advanced, Shown, carried-column, carried-total, spent-same, total-ruled, advanced, tabulate-same, remain-all, remain-rising}
+use Rattle.model.proofs.ColumnRule.{spent, ruled, Small, claims-distinct, advertised, same-class, Agrees, spent-above, columnAt, totalAt, SettledStream, Settled, Carried, Pairwise, Advanced, Shown, carried-column, carried-total, spent-same, total-ruled, advanced, at-place, tabulate-same, remain-all, remain-rising}
 
 -- what holds of the claim of every stream that reaches step h holds of every claim
 module _ (st : Settings) (now p : ℕ) (c : Class) where

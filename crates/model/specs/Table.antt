@@ -296,7 +296,7 @@ unfoldable pub holds : ℕ → List ℕ → Bool
 holds zero s = false
 holds (suc k) s = not (eqb (getD s 0 0) 0) || not (eqb (getD s listenerPlace 0) 0) || holds k (drop cellSize s)
 
--- What the last advance stored, beside the registrations. Only advance removes one, and then decides anew.
+-- What the last advance stored, beside the registrations: only advance removes one, and then decides anew.
 
 -- how many of the first k ports have a Talker
 unfoldable pub talkers : ℕ → List Cell → ℕ
@@ -319,7 +319,7 @@ declarers zero rs = 0
 declarers (suc k) [] = 0
 declarers (suc k) (r ∷ rs) = bit (declares (r .declares)) + declarers k rs
 
--- an entry that stands for a Listener
+-- an entry that stands for a Listener: without a column, or forwarding
 unfoldable pub forListener : Column → Entry → Bool
 forListener k noEntry = false
 forListener none filters = true
@@ -327,7 +327,7 @@ forListener advertise filters = false
 forListener (failed b c) filters = false
 forListener k forwards = true
 
--- the rules of a result beside its cell, where n ports have a Talker
+-- the rules of a result beside its port's cell, where n ports have a Talker: another port, where they are more than this one's own
 unfoldable pub storedRules : ℕ → Cell → Result → List Bool
 storedRules n c r =
     implies (hasColumn (r .column)) (ltb (bit (isTalking c)) n)  -- 26
@@ -338,6 +338,7 @@ storedRules n c r =
 unfoldable pub storedFormed : ℕ → Cell → Result → Bool
 storedFormed n c r = allTrue (storedRules n c r)
 
+-- a rule of each of the first k ports
 unfoldable pub everyPort : (Cell → Result → Bool) → ℕ → List Cell → List Result → Bool
 everyPort rule zero cs rs = true
 everyPort rule (suc k) [] rs = true
@@ -412,7 +413,7 @@ rising (i ∷ j ∷ l) = ltb i j && rising (j ∷ l)
 unfoldable pub idOf : List ℕ → ℕ
 idOf s = beAt 8 s 0
 
--- what a total of a class may be, where some stream is held or none, and the port supports the class or not
+-- what a class total may be: the limit, where some stream is held and the port supports the class
 unfoldable pub atMost : Bool → Bool → ℕ → ℕ
 atMost some supports limit = cond (some && supports) limit 0
 
