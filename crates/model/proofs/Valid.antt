@@ -4,12 +4,13 @@ use mathlib.Core.List.{List, [], _∷_}
 use mathlib.Core.Bool.{Bool, true}
 use Prim.Native.Nat.{ℕ, _+_, _/_, _^_, _≤_, _<_}
 use lib.ListN.{length, drop}
+use lib.Dec.{leb}
 use Rattle.model.specs.Layout.{priorityBUnit}
 use Rattle.model.specs.Lists.{All}
-use Rattle.model.specs.State.{Port, Settings, Leaving, stays, since, Fixed, Health, sound, broken, Varying, Registration, Talker, noTalker, talker, Listener, noListener, listener, Cell, Column, none, advertise, failed, Entry, noEntry, filters, forwards, Result, Stream, Bridge, empty, unsettled}
+use Rattle.model.specs.State.{Port, Settings, Leaving, stays, since, Fixed, Health, sound, broken, Varying, Registration, Talker, noTalker, talker, Listener, noListener, listener, Cell, Column, none, advertise, failed, Entry, noEntry, filters, forwards, Result, Stream, Bridge, empty, unsettled, noFixed, cellAt, resultAt}
 use Rattle.model.specs.Registrations.{ids}
 use Rattle.model.specs.Settling.{held}
-use Rattle.model.specs.Table.{totalsWithin}
+use Rattle.model.specs.Table.{talkers, declarers, storedFormed, totalsWithin}
 
 pub record ValidPort (q : Port) : Type 0 where
   pub overhead : q .overhead < 256
@@ -106,6 +107,9 @@ pub record ValidStream (ports clock leave : ℕ) (x : Stream) : Type 0 where
   pub eight-results : length (x .results) ≡ 8
   pub results : All (ValidResult clock) (x .results)
   pub no-other-results : All (λ r. r ≡ unsettled) (drop ports (x .results))
+  pub idle : talkers ports (x .cells) ≡ 0 → x .settled ≡ noFixed
+  pub stored : (p : ℕ) → p < ports → storedFormed (talkers ports (x .cells)) (cellAt x p) (resultAt x p) ≡ true
+  pub one-declares : declarers ports (x .results) ≤ 1
 
 -- StreamIDs rise
 unfoldable pub Rising : List ℕ → Type 0
@@ -116,7 +120,7 @@ pub record Valid (b : Bridge) : Type 0 where
   pub settings : ValidSettings (b .settings)
   pub clock : b .clock < 2 ^ 32
   pub eight-totals : length (b .totals) ≡ 8
-  pub totals : totalsWithin (b .totals) (b .settings .ports) ≡ true
+  pub totals : totalsWithin (leb 1 (length (b .streams))) (b .totals) (b .settings .ports) ≡ true
   pub at-most-64 : length (b .streams) ≤ 64
   pub streams : All (ValidStream (length (b .settings .ports)) (b .clock) (b .settings .leaveTime)) (b .streams)
   pub ascending : Rising (ids (b .streams))
