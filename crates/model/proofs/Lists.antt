@@ -116,6 +116,11 @@ pub implied : (a b : Bool) → implies a b ≡ true → a ≡ true → b ≡ tru
 implied true b h e = h
 implied false b h e = absurd (false≢true e)
 
+-- a test that is not asked for, or holds
+pub implies-true : (a b : Bool) → (a ≡ true → b ≡ true) → implies a b ≡ true
+implies-true true b h = h refl
+implies-true false b h = refl
+
 pub all-true : (l : List Bool) → allTrue l ≡ true → All (λ b. b ≡ true) l
 unfolding allTrue
 all-true [] e = tt
