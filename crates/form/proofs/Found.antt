@@ -13,6 +13,7 @@ use Rattle.model.specs.Layout.{cellSize, listenerPlace, talkerPlace}
 use Rattle.model.specs.Lists.{parts, bit}
 use Rattle.model.specs.Table.{everyPart, cellFormed, toCell, holds, talkers}
 use Rattle.model.proofs.Cells.{talking-read}
+use Rattle.form.specs.Asks.{CellsFound}
 use Rattle.form.proofs.Counted.{Counted, counted-more, counted-all}
 use Rattle.form.proofs.EveryPart.{drop-part, one-left, PartsLeft, all-parts, parts-more, no-parts}
 use Rattle.form.proofs.Held.{CellsLeft, all-cells, cells-more, no-cells}
@@ -60,13 +61,14 @@ module _ (k clock leave : ℕ) (s : List ℕ) where
     pub count-fits : k ≤ 8 → p < k → (b : ℕ) → b ≤ 1 → Found formed none n p → n + b ≤ 8
     count-fits few h b one (ps, cs, ts) = omega (arith, ts .0)
 
-    pub none-left : k ≤ p → Found formed none n p → (formed ≡ everyPart cellSize (cellFormed clock leave) k s) × (not none ≡ holds k s) × (n ≡ all)
+    pub none-left : k ≤ p → Found formed none n p → CellsFound s k clock leave formed none n
     none-left h (ps, cs, ts) =
-        let e : k - p ≡ 0 = omega arith in (
-          no-parts cellSize (cellFormed clock leave) k s formed p h ps,
-          no-cells k s none p h cs,
-          counted-all left all n p (rw e unfold talkers in refl) ts,
-        )
+        let e : k - p ≡ 0 = omega arith in
+        record {
+          rules = no-parts cellSize (cellFormed clock leave) k s formed p h ps;
+          held = no-cells k s none p h cs;
+          talkers = counted-all left all n p (rw e unfold talkers in refl) ts;
+        }
 
 -- what closes the needs of such a loop: its start, its turns and its end
 pub ruleset turns = (needs, all-found, found-more, count-fits, none-left)

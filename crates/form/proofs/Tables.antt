@@ -18,13 +18,14 @@ use Rattle.model.specs.Table.{portsField, toPort, toSettings, settingsRules, al
 use Rattle.model.specs.Table.{settingsPart, clockField, countField, totalsPart, recordsPart, rising, idOf, totalsWithin, tableRules}
 use Rattle.model.proofs.Lists.{all-true}
 use Rattle.model.proofs.SettingsOctets.{eight-ports}
+use Rattle.form.specs.Asks.{CellsFound}
 use Rattle.form.proofs.EveryPart.{lent-rest}
 
 -- a stream record, of which the cells and results were lent and n ports have a Talker
 pub record-tests : (ports clock leave n : ℕ) (s cs rs : List ℕ) → cs ≡ take cellsSize (drop cellsPlace s) → rs ≡ take resultsSize (drop resultsPlace s)
     → (settled formed none others results rest : Bool)
     → settled ≡ (eqb (getD s settledPriorityPlace 0 % 16) 0 && implies (eqb n 0) (allZero (drop 1 (fields nameWidths 0 s))))
-    → (formed ≡ everyPart cellSize (cellFormed clock leave) ports cs) × (not none ≡ holds ports cs) × (n ≡ talkers ports (parts cellSize toCell 8 cs))
+    → CellsFound cs ports clock leave formed none n
     → others ≡ allZero (drop (ports * cellSize) cs)
     → results ≡ (everyPart resultSize (resultFormed clock) ports rs
     && everyPort (storedFormed n) ports (parts cellSize toCell 8 cs) (parts resultSize toResult 8 rs)
@@ -32,8 +33,8 @@ pub record-tests : (ports clock leave n : ℕ) (s cs rs : List ℕ) → cs ≡ t
     → rest ≡ allZero (drop (ports * resultSize) rs)
     → (settled && formed && not none && others && results && rest) ≡ streamFormed ports clock leave s
 unfolding streamFormed streamRules toStream cellsPart resultsPart part allTrue
-record-tests ports clock leave n s cs rs c r settled formed none others results rest a (f, h, t) b d e =
-    rw (a, f, h, b, d, e, t, c, r) simp (and-assoc, and-true)
+record-tests ports clock leave n s cs rs c r settled formed none others results rest a f b d e =
+    rw (a, f .rules, f .held, b, d, e, f .talkers, c, r) simp (and-assoc, and-true)
 
 -- settings that keep their rules have at most eight ports
 pub few-ports : (s : List ℕ) (w : ℕ) → w ≡ beAt 3 s wordPlace → allTrue (settingsRules s) ≡ true → w / portsUnit ≤ 8

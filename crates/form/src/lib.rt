@@ -15,7 +15,7 @@ ghost use Rattle.model.specs.Table.{allZero, everyPart};
 ghost use Rattle.model.specs.Table.{portsField, toPort, portRule, settingsRules, settingsFormed};
 ghost use Rattle.model.specs.Table.{leavingRule, cellRules, cellFormed, toCell, resultFormed, toResult, holds, talkers, declarers, storedFormed, everyPort, streamFormed};
 ghost use Rattle.model.specs.Table.{toTotals, atMost, totalsWithin, idOf, rising, settingsPart, tableRules, formed};
-ghost use Rattle.form.specs.Asks.{TotalsGiven};
+ghost use Rattle.form.specs.Asks.{TotalsGiven, ResultsGiven, CellsFound};
 use table::CELL;
 use table::CELLS;
 use table::CLOCK;
@@ -140,9 +140,7 @@ struct Registered {
 // The cells of the ports, each tested and counted.
 fn cells_formed(cells: &[u8], ports: usize, clock: u64, leave: u64) -> Registered
     requires { ⌜ (length (now cells) ≡ cellsSize) × (ports ≤ 8) ⌝ }
-    ensures { λ r. ⌜ (r .formed ≡ everyPart cellSize (cellFormed clock leave) ports (now (cells .entry)))
-        × (not (r .none) ≡ holds ports (now (cells .entry)))
-        × (r .talkers ≡ talkers ports (parts cellSize toCell 8 (now (cells .entry)))) ⌝ }
+    ensures { λ r. ⌜ CellsFound (now (cells .entry)) ports clock leave (r .formed) (r .none) (r .talkers) ⌝ }
 {
     let mut formed = true;
     let mut none = true;
@@ -196,7 +194,7 @@ fn result_formed(cell: &[u8], result: &[u8], clock: u64, talkers: usize) -> bool
 
 // The result of each port keeps its rules, where so many ports have a Talker, and at most one port declares a Listener.
 fn results_formed(cells: &[u8], results: &[u8], ports: usize, clock: u64, talkers: usize) -> bool
-    requires { ⌜ (length (now cells) ≡ cellsSize) × (length (now results) ≡ resultsSize) × (ports ≤ 8) ⌝ }
+    requires { ⌜ ResultsGiven (now cells) (now results) ports ⌝ }
     ensures { λ r. ⌜ r ≡ (everyPart resultSize (resultFormed clock) ports (now (results .entry))
         && everyPort (storedFormed talkers) ports (parts cellSize toCell 8 (now (cells .entry))) (parts resultSize toResult 8 (now (results .entry)))
         && leb (declarers ports (parts resultSize toResult 8 (now (results .entry)))) 1) ⌝ }
