@@ -26,7 +26,7 @@ const MOST_DRAWS: usize = 16;
 /// one that keeps them all, or any.
 pub fn some_octet(random: &mut Random, table: &[u8]) -> (usize, u8) {
     let full = table::used(table) == MOST_STREAMS;
-    let rule = if full && random.percent(20) { 8 } else { random.between(2, 24) as u8 };
+    let rule = if full && random.percent(20) { 8 } else { random.between(2, 29) as u8 };
     let aim = match random.below(20) {
         0..=12 => Aim::Breaks(rule),
         13..=18 => Aim::Keeps,
@@ -81,6 +81,7 @@ fn field_of_rule(random: &mut Random, table: &[u8], rule: u8) -> Range<usize> {
         5 => one(settings::length(port)),
         6 => settings::length(ports.min(MOST_PORTS - 1))..table::CLOCK.start,
         7 => table::TOTALS..table::RECORDS,
+        29 => table::TOTALS..table::TOTALS + table::TOTALS_LENGTH * ports.max(1),
         8 => one(table::COUNT),
         10 if past_used < TABLE_LENGTH && random.percent(30) => one(past_used),
         10 if past_used < TABLE_LENGTH => past_used..TABLE_LENGTH,
@@ -101,10 +102,10 @@ fn field_of_record(random: &mut Random, table: &[u8], rule: u8, port: usize) -> 
     let (part, field) = match rule {
         9 => (start, record::STREAM_ID),
         11 if random.percent(60) => (start, one(record::PRIORITY)),
-        11 => (start, record::PARAMETERS),
+        11 | 25 => (start, record::PARAMETERS),
         13 if random.percent(50) => (cells, cell::LENGTH * past..record::CELLS.len()),
         13 => (results, result::LENGTH * past..record::RESULTS.len()),
-        20..=24 => (results + result::LENGTH * port, field_of_result(random, rule)),
+        20..=28 => (results + result::LENGTH * port, field_of_result(random, rule)),
         _ => (cells + cell::LENGTH * port, field_of_cell(random, rule)),
     };
     part + field.start..part + field.end
@@ -130,6 +131,9 @@ fn field_of_result(random: &mut Random, rule: u8) -> Range<usize> {
         21 => result::LATENCY,
         22 => result::BRIDGE_ID.start..result::CODE + 1,
         23 => one(random.one_of(&[result::COLUMN, result::ENTRY])),
+        26 => one(result::COLUMN),
+        27 => one(result::LISTENER),
+        28 => one(result::ENTRY),
         _ => result::SINCE,
     }
 }

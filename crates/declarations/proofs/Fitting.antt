@@ -13,9 +13,9 @@ use Rattle.octets.specs.Parts.{patch}
 use Rattle.octets.proofs.Parts.{patch-none}
 use Rattle.model.specs.FrameLayout.{longestPdu}
 use Rattle.model.specs.Lists.{All}
-use Rattle.model.specs.Registrations.{Kind, advertises, faileds, listeners}
+use Rattle.model.specs.Registrations.{Kind, advertises, faileds, listeners, typeNumber}
 use Rattle.model.specs.Declarations.{Declaration, kindOf, vectorSize, noMessage, message, opening, fitting}
-use Rattle.model.specs.WrittenFrames.{typeNumber, messageOctets}
+use Rattle.model.specs.WrittenFrames.{messageOctets}
 use Rattle.model.proofs.Lists.{all-map, all-append, all-take, all-drop}
 use Rattle.model.proofs.WritingPasses.{OfKind, same-kind, other-kind, messageSize, length-message}
 use Rattle.declarations.specs.declared.Progress.{Progress}

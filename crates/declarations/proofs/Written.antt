@@ -13,10 +13,10 @@ use Rattle.octets.proofs.Patches.{lent-patch}
 use Rattle.octets.proofs.Be.{length-be, be-zero}
 use Rattle.model.specs.Lists.{All, keep}
 use Rattle.model.specs.State.{Stream}
-use Rattle.model.specs.Registrations.{Kind, advertises, faileds, listeners}
+use Rattle.model.specs.Registrations.{Kind, advertises, faileds, listeners, typeNumber, sameKind}
 use Rattle.model.specs.Frames.{registers, firstLength}
-use Rattle.model.specs.Declarations.{Declaration, kindOf, sameKind, ofKind, declarations, takes}
-use Rattle.model.specs.WrittenFrames.{typeNumber, messageOf, having, messageOctets, pduOctets}
+use Rattle.model.specs.Declarations.{Declaration, kindOf, ofKind, declarations, takes}
+use Rattle.model.specs.WrittenFrames.{messageOf, having, messageOctets, pduOctets}
 use Rattle.model.proofs.WritingPasses.{OfKind, same-kind, other-kind, ofKind-kind, takes-within}
 use Rattle.declarations.specs.declared.Progress.{Progress}
 use Rattle.declarations.specs.Vectors.{Holding}

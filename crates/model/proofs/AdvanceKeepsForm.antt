@@ -1,22 +1,23 @@
 -- Advance, accepted or refused, leaves a bridge that keeps the form rules.
 use mathlib.Core.Path.{_≡_, refl, sym, _∙_, ap}
-use mathlib.Core.Logic.{_⊎_, inl, inr}
 use mathlib.Core.List.{List, [], _∷_, map}
-use mathlib.Core.Bool.{Bool, true, false, cond}
+use mathlib.Core.Bool.{Bool, true, false, cond, not, _&&_, false≢true}
 use Prim.Native.Nat.{ℕ, zero, suc, _+_, _/_, _^_, _≤_, _<_}
 use native.Mathlib.Omega.{arith}
 use lib.ListN.{length, getD, drop, length-map}
-use lib.Dec.{ltb}
-use borrow.Author.Tests.{ltb-false, leb-false, le-ltb, le-leb, eq-eqb, ne-eqb}
-use Rattle.model.specs.Lists.{All, keep, tabulate}
-use Rattle.model.specs.State.{Port, Settings, Leaving, stays, since, Health, sound, broken, Talker, noTalker, talker, Listener, noListener, listener, Cell, Column, none, advertise, failed, Entry, noEntry, filters, forwards, Declared, nothing, tells, Result, Stream, Totals, Bridge, empty, unsettled, noFixed, noPort, portAt, isPort, cellAt, resultAt, Class, classA, classB, limit}
+use lib.Dec.{ltb, leb, eqb}
+use borrow.Author.Tests.{ltb-true, lt-ltb, eqb-true, eqb-false, ltb-false, leb-false, le-ltb, le-leb, eq-eqb, ne-eqb}
+use Rattle.model.specs.Lists.{All, implies, keep, tabulate, bit}
+use Rattle.model.specs.State.{Port, Settings, Leaving, stays, since, Health, sound, broken, Talker, noTalker, talker, Listener, noListener, listener, Cell, Column, none, advertise, failed, Entry, noEntry, filters, forwards, Declared, nothing, tells, Result, Stream, Totals, Bridge, empty, unsettled, noFixed, noPort, portAt, isPort, cellAt, resultAt, Class, noClass, classA, classB, sameClass, supports, limit}
 use Rattle.model.specs.Registrations.{Answer, ids}
-use Rattle.model.specs.Settling.{expired, expireTalker, expireListener, expireCell, expire, held, remain, Source, nowhere, from, source, sourceOf, isSource, fixedOf, healthOf, registered, isReady, Outcome, columnNone, asRegistered, ownFailure, Step, first, brokenColumn, outcomeColumn, stepsFrom, steps, ageOf, claims, limitOn, byBandwidth, columnOf, capped, latencyOut, entryOf, ageKept, latencyKept, decideAt, decide, totalOn, totalsOn, settle, advance}
-use Rattle.model.specs.Bandwidth.{sort, total}
-use Rattle.model.specs.Table.{totalsWithin}
-use Rattle.model.proofs.Lists.{all-getD, all-tabulate}
+use Rattle.model.specs.Settling.{expired, expireTalker, expireListener, expireCell, expire, isTalking, isHearing, held, remain, Origin, Source, nowhere, from, source, sourceOf, isSource, fixedOf, healthOf, streamClass, registered, isReady, Outcome, columnNone, asRegistered, ownFailure, Step, first, clear, brokenColumn, outcomeColumn, stepsFrom, steps, ageOf, claims, limitOn, byBandwidth, columnOf, capped, latencyOut, entryOf, ageKept, latencyKept, decideAt, decide, totalOn, totalsOn, settle, advance}
+use Rattle.model.specs.Bandwidth.{sort, reserved, total}
+use Rattle.model.specs.Table.{talkers, hasColumn, declares, declarers, forListener, storedRules, storedFormed, atMost, totalsWithin}
+use Rattle.model.proofs.Lists.{all-getD, all-tabulate, at-place, and-false, implies-true, true-all}
+use Rattle.model.proofs.Parts.{_also_}
+use Rattle.model.proofs.Stored.{talker-counts, other-counts, one-declares}
 use Rattle.model.proofs.Admission.{within}
-use Rattle.model.proofs.Valid.{ValidLeaving, ValidFixed, ValidHealth, ValidRegistration, ValidTalker, ValidListener, ValidCell, ValidColumn, ValidAge, ValidResult, ValidStream, Rising, Valid}
+use Rattle.model.proofs.Valid.{ValidLeaving, ValidFixed, ValidHealth, ValidRegistration, again-valid, ValidTalker, ValidListener, ValidCell, ValidColumn, ValidAge, ValidResult, ValidStream, Rising, Valid}
 
 -- Lists.
 
@@ -66,7 +67,7 @@ module _ (st : Settings) (clock now : ℕ) (later : clock ≤ now) where
     where
       go : (b : Bool) → expired st now (r .leaving) ≡ b → ValidTalker now (st .leaveTime) (cond b noTalker (talker r))
       go true e = tt
-      go false e = record { fixed = v .fixed; varying = v .varying; leaving = leaving-remains (r .leaving) e (v .leaving) }
+      go false e = again-valid clock (st .leaveTime) r v now (st .leaveTime) (r .changed) (r .leaving) (leaving-remains (r .leaving) e (v .leaving))
 
   listener-remains : (t : Listener) → ValidListener clock (st .leaveTime) t → ValidListener now (st .leaveTime) (expireListener st now t)
   unfolding expireListener
@@ -189,6 +190,12 @@ source-after p q (c ∷ cs) h = go (c .talks) (source-after (suc p) q cs (omega 
     go noTalker ih = ih
     go (talker r) ih = ne-eqb p q (omega arith)
 
+nowhere≢from : {o : Origin} → nowhere ≡ from o → ⊥
+nowhere≢from e = let z : _≡_ {A = ℕ} 0 1 = cc in omega arith
+
+from-port : {a b : Origin} → from a ≡ from b → a .port ≡ b .port
+from-port e = cc
+
 -- and none without a Talker registration
 not-source : (p k : ℕ) (cs : List Cell) → getD cs k empty ≡ empty → isSource (source p cs) (p + k) ≡ false
 unfolding source isSource empty
@@ -200,6 +207,25 @@ not-source p (suc k) (c ∷ cs) e = go (c .talks) (not-source (suc p) k cs e)
         isSource (elim t [ noTalker ↦ source (suc p) cs | talker r ↦ from record { port = p; registration = r } ]) (p + suc k) ≡ false
     go noTalker ih = let e : suc p + k ≡ p + suc k = omega arith in rw (sym e) ih
     go (talker r) ih = ne-eqb p (p + suc k) (omega arith)
+
+-- where it is, there is one
+abbrev Talks : Origin → ℕ → List Cell → Type 0
+Talks o p cs = (q : ℕ) × (o .port ≡ p + q) × (isTalking (getD cs q empty) ≡ true)
+
+source-talks : (p : ℕ) (cs : List Cell) (o : Origin) → source p cs ≡ from o → Talks o p cs
+unfolding source isTalking
+source-talks p [] o e = absurd (nowhere≢from e)
+source-talks p (c ∷ cs) o e = go (c .talks) refl e (source-talks (suc p) cs o)
+  where
+    go : (t : Talker) → c .talks ≡ t
+        → elim t [ noTalker ↦ source (suc p) cs | talker r ↦ from record { port = p; registration = r } ] ≡ from o
+        → (source (suc p) cs ≡ from o → Talks o (suc p) cs) → Talks o p (c ∷ cs)
+    go noTalker f g ih =
+        let (q, place, talks) = ih g in
+        (suc q, omega arith, talks)
+    go (talker r) f g ih =
+        let here : p ≡ o .port = from-port g in
+        (0, omega arith, rw f refl)
 
 -- The column: a Bridge ID and a code that fit their fields.
 
@@ -262,6 +288,22 @@ module _ (st : Settings) (named : st .bridgeId < 2 ^ 64) where
   unfolding columnOf
   column-valid now s p x v = steps-valid p x _ v (bandwidth-valid _ _)
 
+-- an entry for a Listener has one
+entry-heard : (k : Column) (c : Cell) → implies (forListener k (entryOf k (registered c))) (isHearing c) ≡ true
+unfolding forListener entryOf registered isHearing isReady
+entry-heard k c = go k (c .hears)
+  where
+    heard : Listener → Declared
+    heard h = elim h [ noListener ↦ nothing | listener r l ↦ tells r ]
+
+    go : (k : Column) (h : Listener) → implies (forListener k (entryOf k (heard h))) (elim h [ noListener ↦ false | listener r l ↦ true ]) ≡ true
+    go none noListener = refl
+    go none (listener r l) = refl
+    go advertise noListener = refl
+    go advertise (listener r l) = implies-true (forListener advertise (entryOf advertise (tells r))) true (λ _. refl)
+    go (failed b c) noListener = refl
+    go (failed b c) (listener r l) = refl
+
 -- Table 35-12 gives each column an entry that goes with it
 entry-fits : (c : Column) (d : Declared) (n : ℕ) → ValidFailure c → ValidColumn c (latencyKept c n) (entryOf c d)
 unfolding entryOf latencyKept
@@ -310,7 +352,7 @@ unsettled-valid clock = record { column = refl; latency = omega arith; age = ref
 
 -- The decision.
 
-module _ (st : Settings) (named : st .bridgeId < 2 ^ 64) (clock now : ℕ) (later : clock ≤ now) (s : List Stream) (x : Stream)
+module _ (st : Settings) (named : st .bridgeId < 2 ^ 64) (few : length (st .ports) ≤ 8) (clock now : ℕ) (later : clock ≤ now) (s : List Stream) (x : Stream)
     (r : Remaining (length (st .ports)) clock now (st .leaveTime) x) where
   source-fits : ValidSource now (st .leaveTime) (sourceOf x)
   unfolding sourceOf
@@ -340,8 +382,101 @@ module _ (st : Settings) (named : st .bridgeId < 2 ^ 64) (clock now : ℕ) (late
   unfolding decideAt columnOf steps isPort first outcomeColumn registered entryOf ageKept latencyKept unsettled empty
   unsettled-there p h = rw (le-ltb p (length (st .ports)) h, no-talker p h, no-cell p h)
 
+  -- What is stored goes with what is registered: only the Talker port declares, and the others have the columns.
+
+  port-there : (o : Origin) → sourceOf x ≡ from o → o .port < length (st .ports)
+  unfolding isSource
+  port-there o e = go (ltb (o .port) (length (st .ports))) refl
+    where
+      go : (t : Bool) → ltb (o .port) (length (st .ports)) ≡ t → o .port < length (st .ports)
+      go true f = ltb-true (o .port) (length (st .ports)) f
+      go false f =
+          let none-there = rw e at (no-talker (o .port) (ltb-false (o .port) (length (st .ports)) f)) in
+          absurd (false≢true (sym none-there ∙ eq-eqb (o .port) (o .port) refl))
+
+  talker-there : (o : Origin) → sourceOf x ≡ from o → isTalking (getD (x .cells) (o .port) empty) ≡ true
+  unfolding sourceOf
+  talker-there o e =
+      let (q, place, talks) = source-talks 0 (x .cells) o e in
+      let same : o .port ≡ q = omega arith in
+      rw same talks
+
+  either-none : (t : Bool) → cond (not t) none none ≡ none
+  either-none true = refl
+  either-none false = refl
+
+  no-column : (p : ℕ) → sourceOf x ≡ nowhere → columnOf st now s p x ≡ none
+  unfolding columnOf steps stepsFrom first outcomeColumn
+  no-column p e = rw e (either-none (isPort st p))
+
+  no-own-column : (o : Origin) (p : ℕ) → sourceOf x ≡ from o → p ≡ o .port → columnOf st now s p x ≡ none
+  unfolding columnOf steps stepsFrom first outcomeColumn
+  no-own-column o p e f = rw (e, eq-eqb p (o .port) f) (either-none (isPort st p))
+
+  idle-decided : talkers (length (st .ports)) (x .cells) ≡ 0 → fixedOf (sourceOf x) ≡ noFixed
+  unfolding fixedOf
+  idle-decided n = go (sourceOf x) refl
+    where
+      go : (t : Source) → sourceOf x ≡ t → fixedOf t ≡ noFixed
+      go nowhere e = refl
+      go (from o) e = absurd (omega (arith, talker-counts (length (st .ports)) (o .port) (x .cells) (port-there o e) (talker-there o e)))
+
+  module _ (p : ℕ) (h : p < length (st .ports)) where
+    n : ℕ
+    n = talkers (length (st .ports)) (x .cells)
+
+    column-decided : implies (hasColumn (columnOf st now s p x)) (ltb (bit (isTalking (getD (x .cells) p empty))) n) ≡ true
+    unfolding hasColumn n
+    column-decided = go (sourceOf x) refl
+      where
+        go : (t : Source) → sourceOf x ≡ t → implies (hasColumn (columnOf st now s p x)) (ltb (bit (isTalking (getD (x .cells) p empty))) n) ≡ true
+        go nowhere e = rw (no-column p e) refl
+        go (from o) e = at-port (eqb p (o .port)) refl
+          where
+            at-port : (t : Bool) → eqb p (o .port) ≡ t
+                → implies (hasColumn (columnOf st now s p x)) (ltb (bit (isTalking (getD (x .cells) p empty))) n) ≡ true
+            at-port true f = rw (no-own-column o p e (eqb-true p (o .port) f)) refl
+            at-port false f =
+                implies-true (hasColumn (columnOf st now s p x)) _
+                (λ _. lt-ltb _ n (other-counts (length (st .ports)) p (o .port) (x .cells) (eqb-false p (o .port) f) h (port-there o e) (talker-there o e)))
+
+    abbrev Own : Bool
+    Own = not (hasColumn (columnOf st now s p x)) && isTalking (getD (x .cells) p empty)
+
+    listener-decided : implies (declares (decideAt st now s x p .declares)) Own ≡ true
+    unfolding decideAt declares hasColumn isSource
+    listener-decided = go (sourceOf x) refl
+      where
+        go : (t : Source) → sourceOf x ≡ t → implies (declares (decideAt st now s x p .declares)) Own ≡ true
+        go nowhere e = rw e refl
+        go (from o) e = at-port (eqb (o .port) p) refl
+          where
+            at-port : (t : Bool) → eqb (o .port) p ≡ t → implies (declares (decideAt st now s x p .declares)) Own ≡ true
+            at-port true f =
+                let here : o .port ≡ p = eqb-true (o .port) p f in
+                let own : Own ≡ true = rw (no-own-column o p e (sym here), ← here) (talker-there o e) in
+                implies-true (declares (decideAt st now s x p .declares)) Own (λ _. own)
+            at-port false f = rw (e, f) refl
+
+    stored-decided : storedFormed n (getD (x .cells) p empty) (decideAt st now s x p) ≡ true
+    unfolding storedFormed storedRules cellAt decideAt
+    stored-decided =
+        let c = getD (x .cells) p empty in
+        true-all (storedRules n c (decideAt st now s x p))
+        (column-decided also listener-decided also entry-heard (columnOf st now s p x) c also tt)
+
+  one-decided : declarers (length (st .ports)) (tabulate 8 0 (decideAt st now s x)) ≤ 1
+  unfolding decideAt declares isSource
+  one-decided = go (sourceOf x) refl
+    where
+      go : (t : Source) → sourceOf x ≡ t → declarers (length (st .ports)) (tabulate 8 0 (decideAt st now s x)) ≤ 1
+      go nowhere e = one-declares (length (st .ports)) 8 0 0 (decideAt st now s x) (λ q n. rw e refl)
+      go (from o) e =
+          one-declares (length (st .ports)) 8 0 (o .port) (decideAt st now s x)
+          (λ q n. rw (e, ne-eqb (o .port) q (λ f. n (sym f))) refl)
+
   decided-valid : ValidStream (length (st .ports)) now (st .leaveTime) (decide st now s x)
-  unfolding decide
+  unfolding decide cellAt resultAt
   decided-valid = record {
     id = r .id;
     settled = fixed-valid now (st .leaveTime) (sourceOf x) source-fits;
@@ -354,37 +489,84 @@ module _ (st : Settings) (named : st .bridgeId < 2 ^ 64) (clock now : ℕ) (late
     no-other-results =
         all-drop-tabulate (λ y. y ≡ unsettled) (length (st .ports)) 8 0 (decideAt st now s x)
         (λ p h. unsettled-there p (omega arith));
+    idle = idle-decided;
+    stored = λ p h. rw (at-place (decideAt st now s x) p unsettled (omega arith)) (unfold n in stored-decided p h);
+    one-declares = one-decided;
   }
 
--- Totals: within the limits of their port, and so none where there is no port.
+-- Totals: at most what they may be, and so none where there is no port.
 
-totals-within : (n p : ℕ) (qs : List Port) (f : ℕ → Totals) →
-    ((i q : ℕ) → p + i ≡ q → (f q .totalA ≤ getD qs i noPort .limitA) × (f q .totalB ≤ getD qs i noPort .limitB)) →
-    totalsWithin (tabulate n p f) qs ≡ true
+no-limit : (some : Bool) → atMost some false 0 ≡ 0
+unfolding atMost
+no-limit true = refl
+no-limit false = refl
+
+totals-within : (some : Bool) (n p : ℕ) (qs : List Port) (f : ℕ → Totals) →
+    ((i q : ℕ) → p + i ≡ q →
+    let port = getD qs i noPort in
+    (f q .totalA ≤ atMost some (port .supportsA) (port .limitA)) × (f q .totalB ≤ atMost some (port .supportsB) (port .limitB))) →
+    totalsWithin some (tabulate n p f) qs ≡ true
 unfolding tabulate totalsWithin noPort
-totals-within zero p qs f h = refl
-totals-within (suc n) p [] f h =
-    let here : (f p .totalA ≤ 0) × (f p .totalB ≤ 0) = h 0 p (omega arith) in
+totals-within some zero p qs f h = refl
+totals-within some (suc n) p [] f h =
+    let here : (f p .totalA ≤ 0) × (f p .totalB ≤ 0) = rw (no-limit some) at (h 0 p (omega arith)) in
     rw (eq-eqb (f p .totalA) 0 (omega arith), eq-eqb (f p .totalB) 0 (omega arith))
-    (totals-within n (suc p) [] f (λ i q e. h (suc i) q (omega arith)))
-totals-within (suc n) p (q ∷ qs) f h =
-    let here : (f p .totalA ≤ q .limitA) × (f p .totalB ≤ q .limitB) = h 0 p (omega arith) in
-    rw (le-leb (f p .totalA) (q .limitA) (here .0), le-leb (f p .totalB) (q .limitB) (here .1))
-    (totals-within n (suc p) qs f (λ i q e. h (suc i) q (omega arith)))
+    (totals-within some n (suc p) [] f (λ i q e. h (suc i) q (omega arith)))
+totals-within some (suc n) p (q ∷ qs) f h =
+    let here = h 0 p (omega arith) in
+    rw (le-leb (f p .totalA) (atMost some (q .supportsA) (q .limitA)) (here .0), le-leb (f p .totalB) (atMost some (q .supportsB) (q .limitB)) (here .1))
+    (totals-within some n (suc p) qs f (λ i q e. h (suc i) q (omega arith)))
 
-total-within : (st : Settings) (now : ℕ) (s : List Stream) (p : ℕ) (c : Class) → totalOn st now s p c ≤ limit (portAt st p) c
-unfolding totalOn total limitOn
-total-within st now s p c = within (limit (portAt st p) c) (sort (claims st now p c s))
+-- without streams nothing is claimed, nor where the port does not support the class
+pub same-class : (a b : Class) → sameClass a b ≡ true → a ≡ b
+unfolding sameClass
+same-class noClass b e = absurd (false≢true e)
+same-class classA noClass e = absurd (false≢true e)
+same-class classA classA e = refl
+same-class classA classB e = absurd (false≢true e)
+same-class classB noClass e = absurd (false≢true e)
+same-class classB classA e = absurd (false≢true e)
+same-class classB classB e = refl
 
-totals-on-within : (st : Settings) (now : ℕ) (s : List Stream) (p : ℕ) →
-    (totalsOn st now s p .totalA ≤ getD (st .ports) p noPort .limitA) × (totalsOn st now s p .totalB ≤ getD (st .ports) p noPort .limitB)
-unfolding totalsOn limit portAt
-totals-on-within st now s p = (total-within st now s p classA, total-within st now s p classB)
+module _ (st : Settings) (now p : ℕ) where
+  stopped : (x : Stream) → supports (portAt st p) (streamClass st x) ≡ false → clear (steps st p x) ≡ false
+  unfolding streamClass fixedOf steps stepsFrom clear
+  stopped x f = go (sourceOf x) refl
+    where
+      go : (t : Source) → sourceOf x ≡ t → clear (steps st p x) ≡ false
+      go nowhere e = rw (e, and-false)
+      go (from o) e = rw (e, rw e at f, and-false, and-false) refl
 
-settled-totals : (st : Settings) (now : ℕ) (s : List Stream) → totalsWithin (tabulate 8 0 (totalsOn st now s)) (st .ports) ≡ true
+  module _ (c : Class) where
+    nothing-held : (s : List Stream) → length s < 1 → claims st now p c s ≡ []
+    unfolding claims
+    nothing-held [] h = refl
+    nothing-held (x ∷ s) h = absurd (omega arith)
+
+    unsupported : supports (portAt st p) c ≡ false → (s : List Stream) → claims st now p c s ≡ []
+    unfolding claims
+    unsupported f [] = refl
+    unsupported f (x ∷ s) = rw (unclaimed (sameClass (streamClass st x) c) refl) (unsupported f s)
+      where
+        unclaimed : (t : Bool) → sameClass (streamClass st x) c ≡ t → (clear (steps st p x) && sameClass (streamClass st x) c) ≡ false
+        unclaimed true e = rw (stopped x (ap (supports (portAt st p)) (same-class (streamClass st x) c e) ∙ f)) refl
+        unclaimed false e = rw e (and-false (clear (steps st p x)))
+
+    total-within : (s : List Stream) → totalOn st now s p c ≤ atMost (leb 1 (length s)) (supports (portAt st p) c) (limit (portAt st p) c)
+    unfolding totalOn total limitOn atMost
+    total-within s = go (leb 1 (length s)) (supports (portAt st p) c) refl refl
+      where
+        go : (some supported : Bool) → leb 1 (length s) ≡ some → supports (portAt st p) c ≡ supported
+            → reserved (limit (portAt st p) c) (sort (claims st now p c s)) ≤ cond (some && supported) (limit (portAt st p) c) 0
+        go true true e f = within (limit (portAt st p) c) (sort (claims st now p c s))
+        go true false e f = rw (unsupported f s) (unfold sort reserved in omega arith)
+        go false t e f = rw (nothing-held s (leb-false 1 (length s) e)) (unfold sort reserved in omega arith)
+
+settled-totals : (st : Settings) (now : ℕ) (s : List Stream) → totalsWithin (leb 1 (length s)) (tabulate 8 0 (totalsOn st now s)) (st .ports) ≡ true
+unfolding totalsOn supports limit portAt
 settled-totals st now s =
-    totals-within 8 0 (st .ports) (totalsOn st now s)
-    (λ i q e. let same : i ≡ q = omega arith in rw same (totals-on-within st now s q))
+    totals-within (leb 1 (length s)) 8 0 (st .ports) (totalsOn st now s)
+    (λ i q e. let same : i ≡ q = omega arith in rw same (total-within st now q classA s, total-within st now q classB s))
 
 -- The call.
 
@@ -399,11 +581,11 @@ settle-keeps b now small later v = record {
   settings = v .settings;
   clock = small;
   eight-totals = length-tabulate 8 0 (totalsOn st now s);
-  totals = settled-totals st now s;
+  totals = rw (length-map s (decide st now s)) (settled-totals st now s);
   at-most-64 = rw (length-map s (decide st now s)) (omega (arith, fewer-remain st now (b .streams), v .at-most-64));
   streams =
       all-mapped (Remaining ports (b .clock) now (st .leaveTime)) (ValidStream ports now (st .leaveTime)) (decide st now s)
-      (decided-valid st (v .settings .bridgeId) (b .clock) now later s) s
+      (decided-valid st (v .settings .bridgeId) (v .settings .eight-ports) (b .clock) now later s) s
       (streams-remain st (b .clock) now ports later (b .streams) (v .streams));
   ascending = rw (decided-ids st now s s) (remain-rising st now (b .streams) (v .ascending));
 }
@@ -425,24 +607,3 @@ advance-keeps b now small v = go (ltb now (b .clock)) refl
         Valid (cond {A = Answer} t record { number = 9; bridge = b } record { number = 0; bridge = settle now b } .bridge)
     go true e = v
     go false e = settle-keeps b now small (ltb-false now (b .clock) e) v
-
--- the settings stay
-pub advance-settings : (b : Bridge) (now : ℕ) → advance b now .bridge .settings ≡ b .settings
-unfolding advance settle
-advance-settings b now = go (ltb now (b .clock))
-  where
-    go : (t : Bool) → cond {A = Answer} t record { number = 9; bridge = b } record { number = 0; bridge = settle now b } .bridge .settings ≡ b .settings
-    go true = refl
-    go false = refl
-
--- a refusal changes nothing
-pub advance-accepted-or-unchanged : (b : Bridge) (now : ℕ) → (advance b now .number ≡ 0) ⊎ (advance b now .bridge ≡ b)
-unfolding advance
-advance-accepted-or-unchanged b now = go (ltb now (b .clock))
-  where
-    answer : Bool → Answer
-    answer t = cond t record { number = 9; bridge = b } record { number = 0; bridge = settle now b }
-
-    go : (t : Bool) → (answer t .number ≡ 0) ⊎ (answer t .bridge ≡ b)
-    go true = inr refl
-    go false = inl refl

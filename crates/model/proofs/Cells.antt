@@ -425,14 +425,6 @@ pub cell-zeros : cellOctets empty ≡ zeros cellSize
 unfolding cellOctets cellNumbers talkerNumbers listenerNumbers empty width
 cell-zeros = packed-zeros cellWidths
 
-pub zeros-cell : toCell (zeros cellSize) ≡ empty
-unfolding toCell cellFrom talkerFrom listenerFrom fields beAt empty
-zeros-cell = refl
-
-pub cell-zeros-formed : (clock leave : ℕ) → cellFormed clock leave (zeros cellSize) ≡ true
-unfolding cellFormed cellRules leavingRule allTrue allZero fields beAt
-cell-zeros-formed clock leave = refl
-
 -- A stream is held: as the octets of its cells say, and as the cells do.
 
 pub held-append : (l m : List Cell) → held (l ++ m) ≡ (held l || held m)
@@ -460,13 +452,13 @@ unfolding isHearing
 hearing-unless true r l k = refl
 hearing-unless false r l k = refl
 
-talking-read : (s : List ℕ) → isTalking (toCell s) ≡ not (eqb (getD s 0 0) 0)
+pub talking-read : (s : List ℕ) → isTalking (toCell s) ≡ not (eqb (getD s 0 0) 0)
 unfolding toCell cellFrom talkerFrom
 talking-read s =
     let vs = fields cellWidths 0 s in
     talking-unless (eqb (getD vs talkerField 0) 0) (registrationFrom vs) (listenerFrom vs) ∙ ap (λ (k : ℕ). not (eqb k 0)) (kinds s .0)
 
-hearing-read : (s : List ℕ) → isHearing (toCell s) ≡ not (eqb (getD s listenerPlace 0) 0)
+pub hearing-read : (s : List ℕ) → isHearing (toCell s) ≡ not (eqb (getD s listenerPlace 0) 0)
 unfolding toCell cellFrom listenerFrom
 hearing-read s =
     let vs = fields cellWidths 0 s in

@@ -7,7 +7,7 @@ use mathlib.Core.List.{List, [], _∷_, _++_, map}
 use mathlib.Core.Bool.{Bool, true, false, cond, not, _&&_, false≢true}
 use Prim.Native.Nat.{ℕ, zero, suc, _+_, _-_, _^_, _≤_, _<_}
 use native.Mathlib.Omega.{arith}
-use lib.ListN.{getD, take, length}
+use lib.ListN.{getD, length}
 use lib.Dec.{ltb, leb}
 use borrow.Author.Tests.{ltb-true, ltb-false, lt-leb, le-leb}
 use Rattle.model.specs.Lists.{All, keep, tabulate}
@@ -18,7 +18,8 @@ use Rattle.model.specs.Settling.{remain, Source, sourceOf, isSource, fix
 use Rattle.model.proofs.Lists.{all-map, all-both, all-each, and-right, and-true, and-false}
 use Rattle.model.proofs.Valid.{Rising}
 use Rattle.model.proofs.Admission.{Distinct, key-id, within, subtracted, total-is-sum, idle-above, idle-total}
-pub use Rattle.model.proofs.AdvanceKeepsForm.{remain-all, remain-rising}
+pub use Rattle.model.proofs.Lists.{at-place}
+pub use Rattle.model.proofs.AdvanceKeepsForm.{same-class, remain-all, remain-rising}
 use Rattle.model.proofs.AdvanceKeepsForm.{decided-ids}
 
 -- The rule: what the columns of a port are, in terms of themselves.
@@ -45,15 +46,6 @@ ruled st now s p col x =
     let d = claim st now p x in
     let left = limitOn st now s p c - spent st now p c col (λ e. ltb (key e) (key d)) s in
     first (outcomeColumn st (sourceOf x)) (steps st p x) (byBandwidth st (d .demand) left)
-
--- What is decided over the streams s, on every port, is what the rules give.
-pub record Given (st : Settings) (now : ℕ) (s : List Stream) : Type 0 where
-  -- each column is the first step that applies
-  pub columns : (p : ℕ) (x : Stream) → columnOf st now s p x ≡ ruled st now s p (columnOf st now s p) x
-  -- "A port's class total is its reserved sum"
-  pub totals : (p : ℕ) (c : Class) → totalOn st now s p c ≡ spent st now p c (columnOf st now s p) (λ e. true) s
-  -- no class total is above its limit
-  pub limits : (p : ℕ) (c : Class) → totalOn st now s p c ≤ limitOn st now s p c
 
 -- The settled bridge: all that it shows is what the rules give, read off the bridge itself.
 
@@ -118,23 +110,6 @@ pub record Advanced (now : ℕ) (b c : Bridge) : Type 0 where
   pub decided : Settled c
 
 -- The first step that applies.
-
--- past the last step, one that does not apply
-abbrev noStep : Step
-noStep = record { test = false; outcome = columnNone }
-
--- where the step at place i applies and no earlier one does, it gives the column
-pub first-applies : (says : Outcome → Column) (l : List Step) (i : ℕ) (c : Column) →
-    clear (take i l) ≡ true → getD l i noStep .test ≡ true → first says l c ≡ says (getD l i noStep .outcome)
-unfolding first clear
-first-applies says [] i c h t = absurd (false≢true t)
-first-applies says (s ∷ l) zero c h t = rw t
-first-applies says (s ∷ l) (suc i) c h t = go (s .test) h (λ e. first-applies says l i c e t)
-  where
-    go : (b : Bool) → (not b && clear (take i l)) ≡ true → (clear (take i l) ≡ true → first says l c ≡ says (getD l i noStep .outcome)) →
-        cond b (says (s .outcome)) (first says l c) ≡ says (getD l i noStep .outcome)
-    go true h ih = absurd (false≢true h)
-    go false h ih = ih h
 
 -- where none applies, what follows the steps decides
 pub first-clear : (says : Outcome → Column) (l : List Step) (c : Column) → clear l ≡ true → first says l c ≡ c
@@ -261,16 +236,6 @@ module _ (st : Settings) (now p : ℕ) (c : Class) (col : Stream → Column) (ok
       go true h = rw h
       go false h = omega arith
 
-pub same-class : (a b : Class) → sameClass a b ≡ true → a ≡ b
-unfolding sameClass
-same-class noClass b e = absurd (false≢true e)
-same-class classA noClass e = absurd (false≢true e)
-same-class classA classA e = refl
-same-class classA classB e = absurd (false≢true e)
-same-class classB noClass e = absurd (false≢true e)
-same-class classB classA e = absurd (false≢true e)
-same-class classB classB e = refl
-
 module _ (st : Settings) (now : ℕ) (s : List Stream) (p : ℕ) where
   column-agrees : (c : Class) (x : Stream) → Agrees st now p c (columnOf st now s p) (admitted (limitOn st now s p c) (claims st now p c s)) x
   unfolding admitted leftFor columnOf
@@ -305,14 +270,6 @@ module _ (st : Settings) (now : ℕ) (s : List Stream) (p : ℕ) where
   pub total-within : (c : Class) → totalOn st now s p c ≤ limitOn st now s p c
   unfolding totalOn total
   total-within c = within (limitOn st now s p c) (sort (claims st now p c s))
-
--- What is decided is what the rules give.
-pub given : (st : Settings) (now : ℕ) (s : List Stream) → Rising (ids s) → All Small (ids s) → Given st now s
-given st now s r a = record {
-  columns = λ p x. columns-ruled st now s p r a x;
-  totals = λ p c. total-ruled st now s p r a c;
-  limits = λ p c. total-within st now s p c;
-}
 
 -- columns that agree on the streams spend the same
 module _ (st : Settings) (now p : ℕ) (col other : Stream → Column) where
@@ -432,17 +389,6 @@ module _ (st : Settings) (now p : ℕ) (here : p < 8) where
         go false e =
             first-decided _ (steps st p y) _ (byBandwidth st (claim st now p x .demand) (leftFor st now s p x)) e
             ∙ rw (same-steps st now p y x (w .cells), same-source st now p y x (w .cells))
-
--- What a list made from a function has at a place.
-module _ {A : Type 0} (f : ℕ → A) where
-  pub getD-tabulate : (n p q : ℕ) (d : A) → q < n → getD (tabulate n p f) q d ≡ f (p + q)
-  unfolding tabulate
-  getD-tabulate zero p q d h = absurd (omega arith)
-  getD-tabulate (suc n) p zero d h = ap f (omega arith)
-  getD-tabulate (suc n) p (suc q) d h = getD-tabulate n (suc p) q d (omega arith) ∙ ap f (omega arith)
-
-  pub at-place : (q : ℕ) (d : A) → q < 8 → getD (tabulate 8 0 f) q d ≡ f q
-  at-place q d h = getD-tabulate 8 0 q d h ∙ ap f (omega arith)
 
 pub tabulate-same : {A : Type 0} (f g : ℕ → A) (n p : ℕ) → ((q : ℕ) → p ≤ q → q < p + n → f q ≡ g q) → tabulate n p f ≡ tabulate n p g
 unfolding tabulate

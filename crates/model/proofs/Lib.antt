@@ -1,6 +1,7 @@
 pub mod Lists
 pub mod Valid
 pub mod Parts
+pub mod Stored
 pub mod Cells
 pub mod Results
 pub mod SettingsOctets
@@ -19,6 +20,7 @@ pub mod AdvanceKeepsForm
 pub mod ReadBack
 pub mod WritingPasses
 pub mod Refusals
+pub mod Opened
 pub mod Examples
 pub mod FormKept
 pub mod Demand3

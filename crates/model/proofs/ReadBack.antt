@@ -15,17 +15,16 @@ use Rattle.octets.specs.Parts.{part}
 use Rattle.octets.proofs.Be.{beAt-ext, length-be}
 use Rattle.octets.proofs.Fields.{packed-octets, beAt-fits, fields-of-packed}
 use Rattle.model.specs.FrameLayout.{longestPdu}
-use Rattle.model.specs.Lists.{All, keep, Octets, bit}
+use Rattle.model.specs.Lists.{All, keep, bit}
 use Rattle.model.specs.State.{Settings, Fixed, Health, sound, broken, Ready, askingFailed, ready, readyFailed, Column, none, advertise, failed, Entry, noEntry, filters, forwards, Declared, nothing, tells, Result, Stream, Bridge, resultAt, unsettled}
-use Rattle.model.specs.Registrations.{Kind, advertises, faileds, listeners, talk, listen, acts}
+use Rattle.model.specs.Registrations.{Kind, advertises, faileds, listeners, talk, listen, acts, sameKind, typeNumber}
 use Rattle.model.specs.Frames.{Attribute, registers, known, typeOctet, firstWidths, firstLength, threeLength, hasFour, fourLength, Vector, vectorAt, vectorEnd, overpacked, runsPast, overflows, vectorIn, checkedIn, typedIn, listLength, listAt, messageEnd, endMark, headerIn, messageIn, found, also, both, vectorsFrom, vectors, messagesFrom, messages, walk, joinMt, event, threePacked, fourPacked, eventOf, fourOf, asking, join, priorityOf, rankOf, fixedValue, healthValue, idValue, hearing, talkerAct, listenerAct, valueActs, valuesActs, leaveAllActs, vectorActs, frameActs, walked, wrongPort, reading}
-use Rattle.model.specs.Declarations.{Declaration, talkerDeclaration, listenerDeclaration, healthKind, kindOf, joinOf, advertised, failing, listening, declarationsOf, ofKind, declarations, vectorSize, sameKind, takes, write}
-use Rattle.model.specs.WrittenFrames.{priorityOctet, fixedNumbers, failureNumbers, firstNumbers, readyNumber, fourOctets, declarationVector, vectorOctets, typeNumber, messageOf, messageOctets, having, pduOctets}
+use Rattle.model.specs.Declarations.{Declaration, talkerDeclaration, listenerDeclaration, healthKind, kindOf, joinOf, advertised, failing, listening, declarationsOf, ofKind, declarations, vectorSize, takes, write}
+use Rattle.model.specs.WrittenFrames.{priorityOctet, fixedNumbers, failureNumbers, firstNumbers, fourOctets, declarationVector, vectorOctets, messageOf, messageOctets, having, pduOctets, readyNumber}
 use Rattle.model.proofs.Lists.{all-map, all-append, all-take, all-drop, all-getD}
-use Rattle.model.proofs.Parts.{octets-append, octets-number, octets-packed}
 use Rattle.model.proofs.Valid.{Valid, ValidFixed, ValidHealth, ValidVarying, ValidColumn, ValidResult, ValidStream}
 use Rattle.model.proofs.AdvanceKeepsForm.{unsettled-valid}
-use Rattle.model.proofs.WritingPasses.{length-first, length-vector, NotBefore, OfKind, InOrder, all-of-kind, having-kind, having-none, declared, write-above, write-from, run-in-order, run-fits, writeAll, all-runs}
+use Rattle.model.proofs.WritingPasses.{length-first, length-vector, NotBefore, OfKind, InOrder, all-of-kind, having-kind, having-none, declared, write-above, write-from, run-in-order, run-fits}
 
 -- Octets behind a prefix.
 
@@ -335,21 +334,15 @@ unfolding having sameKind typeNumber
 having-each [] o = refl
 having-each (d ∷ l) o = go (kindOf d) (o .0) (having-each l (o .1))
   where
-    a : List Declaration
-    a = having advertises l
-
-    f : List Declaration
-    f = having faileds l
-
-    n : List Declaration
-    n = having listeners l
-
     -- no declaration of type j stands behind one of a later type
     gone : (j k : Kind) → typeNumber j < typeNumber k → All (NotBefore k) l → having j l ≡ []
     gone j k h b = having-none j l (all-map (NotBefore k) (λ e. typeNumber j < typeNumber (kindOf e)) (λ e q. omega arith) l b)
 
-    go : (k : Kind) → All (NotBefore k) l → a ++ (f ++ n) ≡ l
-        → keep (sameKind k advertises) d a ++ (keep (sameKind k faileds) d f ++ keep (sameKind k listeners) d n) ≡ d ∷ l
+    kept : Kind → Kind → List Declaration
+    kept k j = keep (sameKind k j) d (having j l)
+
+    go : (k : Kind) → All (NotBefore k) l → having advertises l ++ (having faileds l ++ having listeners l) ≡ l
+        → kept k advertises ++ (kept k faileds ++ kept k listeners) ≡ d ∷ l
     go advertises b ih = ap (λ (r : List Declaration). d ∷ r) ih
     go faileds b ih =
         let e : having advertises l ≡ [] = gone advertises faileds (omega arith) b in
@@ -397,47 +390,6 @@ walk-written l o h =
 -- what write puts into a PDU is found there again
 pub read-back : (b : Bridge) (p place : ℕ) → walk (pduOctets (write b p place .run)) ≡ found (map declarationVector (write b p place .run))
 read-back b p place = walk-written (write b p place .run) (run-in-order b p place) (run-fits b p place)
-
--- A PDU is octets.
-
-octets-four : (d : Declaration) → Octets (fourOctets d)
-unfolding fourOctets readyNumber
-octets-four (talkerDeclaration id f v) = tt
-octets-four (listenerDeclaration id askingFailed) = (omega arith, tt)
-octets-four (listenerDeclaration id ready) = (omega arith, tt)
-octets-four (listenerDeclaration id readyFailed) = (omega arith, tt)
-
-octets-vector : (d : Declaration) → Octets (vectorOctets (declarationVector d))
-octets-vector d =
-    rw (vector-octets d)
-    (omega arith, (omega arith, octets-append (declarationVector d .first) (108 ∷ fourOctets d) first (omega arith, octets-four d)))
-  where
-    first : Octets (declarationVector d .first)
-    first = unfold declarationVector in (octets-packed (firstWidths (registers (kindOf d))) (firstNumbers d))
-
-octets-list : (l : List Declaration) → Octets (listOctets l)
-octets-list [] = unfold listOctets flat in (omega arith, (omega arith, tt))
-octets-list (d ∷ l) = rw (list-cons d l) (octets-append (vectorOctets (declarationVector d)) (listOctets l) (octets-vector d) (octets-list l))
-
-octets-lead : (k : Kind) → (typeNumber k < 256) × (firstLength (registers k) < 256)
-unfolding typeNumber firstLength
-octets-lead advertises = (omega arith, omega arith)
-octets-lead faileds = (omega arith, omega arith)
-octets-lead listeners = (omega arith, omega arith)
-
-octets-message : (k : Kind) (l : List Declaration) → Octets (messageOctets k l)
-unfolding messageOctets messageOf listOctets
-octets-message k [] = tt
-octets-message k (d ∷ l) =
-    let list : List ℕ = listOctets (d ∷ l) in
-    (octets-lead k .0, (octets-lead k .1, octets-append (be 2 (length list)) list (octets-number 2 (length list)) (octets-list (d ∷ l))))
-
-pub octets-written : (l : List Declaration) → Octets (pduOctets l)
-unfolding pduOctets
-octets-written l = (omega arith, before advertises _ (before faileds _ (before listeners (0 ∷ 0 ∷ []) (omega arith, (omega arith, tt)))))
-  where
-    before : (k : Kind) (s : List ℕ) → Octets s → Octets (messageOctets k (having k l) ++ s)
-    before k s o = octets-append (messageOctets k (having k l)) s (octets-message k (having k l)) o
 
 -- What the vectors ask for.
 
@@ -580,9 +532,3 @@ pub neighbour-reads : (b : Bridge) → Valid b → (p place : ℕ) (st : Setting
 unfolding reading walked
 neighbour-reads b h p place st q right =
     rw (right, read-back b p place) (ap acts (frame-joins (write b p place .run) (run-within b h p place)))
-
--- so of all PDUs from a place on, which from place 0 on pass every declaration of the port
-pub neighbour-reads-all : (b : Bridge) → Valid b → (p place : ℕ) (st : Settings) (q : ℕ) → wrongPort st q ≡ false
-    → (f : ℕ) → All (λ run. reading st q (pduOctets run) ≡ acts (map joinOf run)) (writeAll f b p place)
-neighbour-reads-all b h p place st q right f =
-    all-runs (λ run. reading st q (pduOctets run) ≡ acts (map joinOf run)) f b p place (λ at. neighbour-reads b h p at st q right)

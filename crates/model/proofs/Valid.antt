@@ -1,15 +1,16 @@
 -- The form rules as facts about a bridge, for proofs: what `formed` tests on octets.
 use mathlib.Core.Path.{_≡_}
 use mathlib.Core.List.{List, [], _∷_}
-use mathlib.Core.Bool.{true}
+use mathlib.Core.Bool.{Bool, true}
 use Prim.Native.Nat.{ℕ, _+_, _/_, _^_, _≤_, _<_}
 use lib.ListN.{length, drop}
+use lib.Dec.{leb}
 use Rattle.model.specs.Layout.{priorityBUnit}
 use Rattle.model.specs.Lists.{All}
-use Rattle.model.specs.State.{Port, Settings, Leaving, stays, since, Fixed, Health, sound, broken, Varying, Registration, Talker, noTalker, talker, Listener, noListener, listener, Cell, Column, none, advertise, failed, Entry, noEntry, filters, forwards, Result, Stream, Bridge, empty, unsettled}
+use Rattle.model.specs.State.{Port, Settings, Leaving, stays, since, Fixed, Health, sound, broken, Varying, Registration, Talker, noTalker, talker, Listener, noListener, listener, Cell, Column, none, advertise, failed, Entry, noEntry, filters, forwards, Result, Stream, Bridge, empty, unsettled, noFixed, cellAt, resultAt}
 use Rattle.model.specs.Registrations.{ids}
 use Rattle.model.specs.Settling.{held}
-use Rattle.model.specs.Table.{totalsWithin}
+use Rattle.model.specs.Table.{talkers, declarers, storedFormed, totalsWithin}
 
 pub record ValidPort (q : Port) : Type 0 where
   pub overhead : q .overhead < 256
@@ -56,6 +57,11 @@ pub record ValidRegistration (clock leave : ℕ) (r : Registration) : Type 0 whe
   pub varying : ValidVarying (r .varying)
   pub leaving : ValidLeaving clock leave (r .leaving)
 
+-- it stays so with another changed mark, and with a leaving that is valid, at whatever time
+pub again-valid : (clock leave : ℕ) (r : Registration) → ValidRegistration clock leave r → (now time : ℕ) (mark : Bool) (l : Leaving) → ValidLeaving now time l
+    → ValidRegistration now time record { fixed = r .fixed; varying = r .varying; changed = mark; leaving = l }
+again-valid clock leave r v now time mark l w = record { fixed = v .fixed; varying = v .varying; leaving = w }
+
 abbrev pub ValidTalker : ℕ → ℕ → Talker → Type 0
 ValidTalker clock leave noTalker = Unit {0}
 ValidTalker clock leave (talker r) = ValidRegistration clock leave r
@@ -101,6 +107,9 @@ pub record ValidStream (ports clock leave : ℕ) (x : Stream) : Type 0 where
   pub eight-results : length (x .results) ≡ 8
   pub results : All (ValidResult clock) (x .results)
   pub no-other-results : All (λ r. r ≡ unsettled) (drop ports (x .results))
+  pub idle : talkers ports (x .cells) ≡ 0 → x .settled ≡ noFixed
+  pub stored : (p : ℕ) → p < ports → storedFormed (talkers ports (x .cells)) (cellAt x p) (resultAt x p) ≡ true
+  pub one-declares : declarers ports (x .results) ≤ 1
 
 -- StreamIDs rise
 unfoldable pub Rising : List ℕ → Type 0
@@ -111,7 +120,7 @@ pub record Valid (b : Bridge) : Type 0 where
   pub settings : ValidSettings (b .settings)
   pub clock : b .clock < 2 ^ 32
   pub eight-totals : length (b .totals) ≡ 8
-  pub totals : totalsWithin (b .totals) (b .settings .ports) ≡ true
+  pub totals : totalsWithin (leb 1 (length (b .streams))) (b .totals) (b .settings .ports) ≡ true
   pub at-most-64 : length (b .streams) ≤ 64
   pub streams : All (ValidStream (length (b .settings .ports)) (b .clock) (b .settings .leaveTime)) (b .streams)
   pub ascending : Rising (ids (b .streams))

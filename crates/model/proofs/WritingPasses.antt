@@ -16,10 +16,10 @@ use Rattle.octets.proofs.Be.{length-be}
 use Rattle.model.specs.FrameLayout.{longestPdu}
 use Rattle.model.specs.Lists.{All, keep}
 use Rattle.model.specs.State.{Health, sound, broken, Column, none, advertise, failed, Declared, nothing, tells, Result, Stream, Bridge, resultAt}
-use Rattle.model.specs.Registrations.{Kind, advertises, faileds, listeners}
+use Rattle.model.specs.Registrations.{Kind, advertises, faileds, listeners, sameKind, typeNumber}
 use Rattle.model.specs.Frames.{registers, firstWidths, firstLength}
-use Rattle.model.specs.Declarations.{Declaration, talkerDeclaration, listenerDeclaration, healthKind, kindOf, advertised, failing, listening, declarationsOf, ofKind, declarations, vectorSize, sameKind, Open, noMessage, message, opening, fitting, takes, Written, write}
-use Rattle.model.specs.WrittenFrames.{fixedNumbers, failureNumbers, firstNumbers, fourOctets, declarationVector, vectorOctets, typeNumber, messageOf, messageOctets, having, pduOctets}
+use Rattle.model.specs.Declarations.{Declaration, talkerDeclaration, listenerDeclaration, healthKind, kindOf, advertised, failing, listening, declarationsOf, ofKind, declarations, vectorSize, Open, noMessage, message, opening, fitting, takes, Written, write}
+use Rattle.model.specs.WrittenFrames.{fixedNumbers, failureNumbers, firstNumbers, fourOctets, declarationVector, vectorOctets, messageOf, messageOctets, having, pduOctets}
 use Rattle.model.proofs.Lists.{all-map, all-each, all-append, all-take}
 
 -- Lengths.
@@ -60,30 +60,21 @@ kind-back advertises = refl
 kind-back faileds = refl
 kind-back listeners = refl
 
-sameKind-numbers : (j k : Kind) → sameKind j k ≡ eqb (typeNumber j) (typeNumber k)
-unfolding sameKind typeNumber
-sameKind-numbers advertises advertises = refl
-sameKind-numbers advertises faileds = refl
-sameKind-numbers advertises listeners = refl
-sameKind-numbers faileds advertises = refl
-sameKind-numbers faileds faileds = refl
-sameKind-numbers faileds listeners = refl
-sameKind-numbers listeners advertises = refl
-sameKind-numbers listeners faileds = refl
-sameKind-numbers listeners listeners = refl
-
 pub kinds-same : (j k : Kind) → sameKind j k ≡ true → j ≡ k
-kinds-same j k e =
-    sym (kind-back j) ∙ ap kindNumbered (eqb-true (typeNumber j) (typeNumber k) (sym (sameKind-numbers j k) ∙ e)) ∙ kind-back k
+unfolding sameKind
+kinds-same j k e = sym (kind-back j) ∙ ap kindNumbered (eqb-true (typeNumber j) (typeNumber k) e) ∙ kind-back k
 
 pub kinds-other : (j k : Kind) → sameKind j k ≡ false → typeNumber j ≡ typeNumber k → ⊥
-kinds-other j k e = eqb-false (typeNumber j) (typeNumber k) (sym (sameKind-numbers j k) ∙ e)
+unfolding sameKind
+kinds-other j k e = eqb-false (typeNumber j) (typeNumber k) e
 
 pub same-kind : (k : Kind) → sameKind k k ≡ true
-same-kind k = sameKind-numbers k k ∙ eq-eqb (typeNumber k) (typeNumber k) refl
+unfolding sameKind
+same-kind k = eq-eqb (typeNumber k) (typeNumber k) refl
 
 pub other-kind : (j k : Kind) → (typeNumber j ≡ typeNumber k → ⊥) → sameKind j k ≡ false
-other-kind j k h = sameKind-numbers j k ∙ ne-eqb (typeNumber j) (typeNumber k) h
+unfolding sameKind
+other-kind j k h = ne-eqb (typeNumber j) (typeNumber k) h
 
 -- The order of types: Advertise, Failed, Listener.
 
@@ -249,13 +240,13 @@ count-cons d l k = go (sameKind (kindOf d) k)
 
 -- a declaration opens a Message where there is none of its type, and else lengthens one
 messages-open : (j : Kind) (c : Kind → ℕ) → c j ≡ 0 → messagesSize (oneMore j c) ≡ messagesSize c + 6 + vectorSize j
-unfolding messagesSize oneMore messageSize sameKind vectorSize
+unfolding messagesSize oneMore messageSize sameKind typeNumber vectorSize
 messages-open advertises c h = rw h (omega arith)
 messages-open faileds c h = rw h (omega arith)
 messages-open listeners c h = rw h (omega arith)
 
 messages-same : (j : Kind) (c : Kind → ℕ) (n : ℕ) → c j ≡ suc n → messagesSize (oneMore j c) ≡ messagesSize c + vectorSize j
-unfolding messagesSize oneMore messageSize sameKind vectorSize
+unfolding messagesSize oneMore messageSize sameKind typeNumber vectorSize
 messages-same advertises c n h = rw h (omega arith)
 messages-same faileds c n h = rw h (omega arith)
 messages-same listeners c n h = rw h (omega arith)
@@ -474,19 +465,6 @@ passes-from (suc f) b p place h k =
 -- the PDUs from place 0 on pass every declaration once, in order; there are not more of them than declarations
 pub passes-all : (b : Bridge) (p : ℕ) → flatten (writeAll (length (declared b p)) b p 0) ≡ declared b p
 passes-all b p = passes-from (length (declared b p)) b p 0 (omega arith) (omega arith)
-
--- what holds of every run that write gives holds of all of them
-pub all-runs : (P : List Declaration → Type 0) (f : ℕ) (b : Bridge) (p place : ℕ) → ((q : ℕ) → P (write b p q .run)) → All P (writeAll f b p place)
-unfolding writeAll
-all-runs P zero b p place h = tt
-all-runs P (suc f) b p place h = go (eqb place (length (declared b p))) (all-runs P f b p (write b p place .next) h)
-  where
-    rest : List (List Declaration)
-    rest = writeAll f b p (write b p place .next)
-
-    go : (t : Bool) → All P rest → All P (cond t [] (write b p place .run ∷ rest))
-    go true a = tt
-    go false a = (h place, a)
 
 -- a PDU of at least one declaration and at most 1,500 octets
 abbrev pub Filled : List Declaration → Type 0

@@ -1,12 +1,12 @@
 -- Declarations: what a port writes, and what one PDU takes of it (01, "Writing").
 use mathlib.Core.List.{List, [], _∷_, _++_}
-use mathlib.Core.Bool.{Bool, true, false, cond}
+use mathlib.Core.Bool.{Bool, cond}
 use Prim.Native.Nat.{ℕ, suc, _+_, _-_}
-use lib.ListN.{length, getD, take, drop}
+use lib.ListN.{length, take, drop}
 use lib.Dec.{ltb}
 use Rattle.model.specs.FrameLayout.{advertiseLength, failedLength, listenerLength, longestPdu}
-use Rattle.model.specs.State.{Fixed, Health, sound, broken, Varying, Ready, Column, none, advertise, failed, Entry, noEntry, Declared, nothing, tells, Result, Stream, Bridge, resultAt}
-use Rattle.model.specs.Registrations.{Kind, advertises, faileds, listeners, Act, talk, listen}
+use Rattle.model.specs.State.{Fixed, Health, sound, broken, Varying, Ready, Column, none, advertise, failed, Declared, nothing, tells, Result, Stream, Bridge, resultAt}
+use Rattle.model.specs.Registrations.{Kind, advertises, faileds, listeners, sameKind, Act, talk, listen}
 
 -- a declaration is a join of the neighbour's table
 pub data Declaration : Type 0 where
@@ -60,17 +60,6 @@ unfoldable pub vectorSize : Kind → ℕ
 vectorSize advertises = 2 + advertiseLength + 1
 vectorSize faileds = 2 + failedLength + 1
 vectorSize listeners = 2 + listenerLength + 1 + 1
-
-unfoldable pub sameKind : Kind → Kind → Bool
-sameKind advertises advertises = true
-sameKind advertises faileds = false
-sameKind advertises listeners = false
-sameKind faileds advertises = false
-sameKind faileds faileds = true
-sameKind faileds listeners = false
-sameKind listeners advertises = false
-sameKind listeners faileds = false
-sameKind listeners listeners = true
 
 -- the Message that is open, if any; a declaration of another type opens its own, with 4 octets of header and 2 of EndMark
 pub data Open : Type 0 where

@@ -10,7 +10,7 @@ use Rattle.model.specs.Lists.{All}
 use Rattle.model.specs.State.{Settings, Talker, noTalker, talker, Cell, Result, Stream, Totals, Bridge}
 use Rattle.model.specs.Registrations.{ids}
 use Rattle.model.specs.WrittenFrames.{fixedNumbers}
-use Rattle.model.specs.Table.{cellNumbers, cellOctets, resultNumbers, resultOctets, streamOctets, portNumbers, encode}
+use Rattle.model.specs.Table.{cellNumbers, cellOctets, resultNumbers, resultOctets, portNumbers, encode}
 
 -- a rank is one bit: it shares its octet with the priority, so that the octet's width alone does not say it
 abbrev pub FitRank : Talker → Type 0
@@ -57,23 +57,18 @@ pub record FitBridge (b : Bridge) : Type 0 where
   pub streams : All FitStream (b .streams)
   pub ascending : Ascending (ids (b .streams))
 
--- the octets of a cell, of a result, of a stream record, of a table
-pub record LaidCell (s : List ℕ) : Type 0 where
-  pub cell : Cell
-  pub fits : FitCell cell
-  pub is : s ≡ cellOctets cell
+-- the octets of some thing that fits
+pub record LaidOut {A : Type 0} (octets : A → List ℕ) (Fits : A → Type 0) (s : List ℕ) : Type 0 where
+  pub thing : A
+  pub fits : Fits thing
+  pub is : s ≡ octets thing
 
-pub record LaidResult (s : List ℕ) : Type 0 where
-  pub result : Result
-  pub fits : FitResult result
-  pub is : s ≡ resultOctets result
+-- of a cell, of a result, of a bridge
+abbrev pub LaidCell : List ℕ → Type 0
+LaidCell = LaidOut cellOctets FitCell
 
-pub record LaidStream (s : List ℕ) : Type 0 where
-  pub stream : Stream
-  pub fits : FitStream stream
-  pub is : s ≡ streamOctets stream
+abbrev pub LaidResult : List ℕ → Type 0
+LaidResult = LaidOut resultOctets FitResult
 
-pub record Laid (t : List ℕ) : Type 0 where
-  pub bridge : Bridge
-  pub fits : FitBridge bridge
-  pub is : t ≡ encode bridge
+abbrev pub Laid : List ℕ → Type 0
+Laid = LaidOut encode FitBridge

@@ -10,6 +10,15 @@ use Rattle.model.specs.State.{Leaving, stays, since, Fixed, Health, soun
 pub data Kind : Type 0 where
   advertises faileds listeners : Kind
 
+-- their numbers (Table 35-1)
+unfoldable pub typeNumber : Kind → ℕ
+typeNumber advertises = 1
+typeNumber faileds = 2
+typeNumber listeners = 3
+
+unfoldable pub sameKind : Kind → Kind → Bool
+sameKind j k = eqb (typeNumber j) (typeNumber k)
+
 -- what one event of a frame asks for
 pub data Act : Type 0 where
   leaveAll : Kind → Act

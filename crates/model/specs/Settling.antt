@@ -6,6 +6,7 @@ use lib.Dec.{ltb, leb, eqb}
 use Rattle.model.specs.Lists.{keep, tabulate}
 use Rattle.model.specs.State.{Settings, Leaving, stays, since, Fixed, Health, sound, broken, Registration, Talker, noTalker, talker, Ready, askingFailed, ready, readyFailed, Listener, noListener, listener, Cell, Column, none, advertise, failed, Entry, noEntry, filters, forwards, Declared, nothing, tells, Result, Stream, Totals, Bridge, noFixed, portAt, isPort, cellAt, resultAt, Class, classA, classB, classOf, isNoClass, sameClass, supports, limit, classLatency}
 use Rattle.model.specs.Registrations.{Answer}
+use Rattle.model.specs.WrittenFrames.{readyNumber}
 use Rattle.model.specs.Bandwidth.{Claim, demand, rateOf, remains, total}
 
 -- Removal: "removes every registration leaving for at least the leave time, drops unheld streams".
@@ -170,7 +171,8 @@ unfoldable pub claims : Settings → ℕ → ℕ → Class → List Stream → L
 claims st now p c [] = []
 claims st now p c (x ∷ s) = keep (clear (steps st p x) && sameClass (streamClass st x) c) (claim st now p x) (claims st now p c s)
 
--- the limit in force
+-- the limit in force: "Each class has its own limit". It is asked of the time and the streams too, since a lower class may be given
+-- what a higher one leaves on the port in the same advance; here the port's settings alone decide
 unfoldable pub limitOn : Settings → ℕ → List Stream → ℕ → Class → ℕ
 limitOn st now s p c = limit (portAt st p) c
 
@@ -223,15 +225,7 @@ passed (failed b c) nothing = nothing
 passed (failed b c) (tells r) = tells askingFailed
 
 unfoldable pub sameReady : Ready → Ready → Bool
-sameReady askingFailed askingFailed = true
-sameReady askingFailed ready = false
-sameReady askingFailed readyFailed = false
-sameReady ready askingFailed = false
-sameReady ready ready = true
-sameReady ready readyFailed = false
-sameReady readyFailed askingFailed = false
-sameReady readyFailed ready = false
-sameReady readyFailed readyFailed = true
+sameReady r q = eqb (readyNumber r) (readyNumber q)
 
 -- "Merged on t (35-14): alike gives itself; none gives the other; any two unlike give Ready Failed"
 unfoldable pub merge : Declared → Declared → Declared

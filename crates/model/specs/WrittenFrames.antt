@@ -7,9 +7,9 @@ use Rattle.octets.specs.Be.{be}
 use Rattle.octets.specs.Fields.{packed, flat}
 use Rattle.model.specs.Lists.{keep, bit}
 use Rattle.model.specs.State.{Fixed, Health, sound, broken, Ready, askingFailed, ready, readyFailed}
-use Rattle.model.specs.Registrations.{Kind, advertises, faileds, listeners}
+use Rattle.model.specs.Registrations.{Kind, advertises, faileds, listeners, typeNumber, sameKind}
 use Rattle.model.specs.Frames.{registers, Vector, firstWidths, firstLength}
-use Rattle.model.specs.Declarations.{Declaration, talkerDeclaration, listenerDeclaration, kindOf, sameKind}
+use Rattle.model.specs.Declarations.{Declaration, talkerDeclaration, listenerDeclaration, kindOf}
 
 -- the octet of priority (3 bits), rank (1 bit) and four reserved bits, written 0
 unfoldable pub priorityOctet : Fixed → ℕ
@@ -50,12 +50,6 @@ declarationVector d = record {
 
 unfoldable pub vectorOctets : Vector → List ℕ
 vectorOctets v = be 2 (bit (v .leavesAll) * 8192 + v .values) ++ (v .first ++ (v .three ++ v .four))
-
--- Table 35-1
-unfoldable pub typeNumber : Kind → ℕ
-typeNumber advertises = 1
-typeNumber faileds = 2
-typeNumber listeners = 3
 
 -- "The list length counts the list's own EndMark"
 unfoldable pub messageOf : Kind → List ℕ → List ℕ

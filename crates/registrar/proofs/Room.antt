@@ -19,11 +19,6 @@ use Rattle.registrar.specs.Run.{Ran, stopped, ran, room, effect, effects
 
 -- A walk over acts, one list after another.
 
-pub followed-twice : (r : Ran) (f g : List Stream → Ran) → followed (followed r f) g ≡ followed r (λ s. followed (f s) g)
-unfolding followed
-followed-twice (stopped s) f g = refl
-followed-twice (ran s) f g = refl
-
 pub run-append : (m : Bool) (now p : ℕ) (es fs : List Act) (s : List Stream) →
     run m now p (es ++ fs) s ≡ followed (run m now p es s) (run m now p fs)
 unfolding run

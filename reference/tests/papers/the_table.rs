@@ -241,9 +241,12 @@ fn rule_11_the_settled_priority_octet() {
 
 #[test]
 fn rule_12_a_registration_in_each_record() {
-    breaks(&three_streams(250), 12, cell(2, 2) + cell::LISTENER, 0);
+    let mut table = three_streams(250);
+    join_listener(&mut table, 1, STREAM + 3, READY);
+    breaks(&table, 12, cell(3, 1) + cell::LISTENER, 0);
     // The other registration of the stream is enough.
-    keeps(&three_streams(250), cell(0, 2) + cell::LISTENER, 0);
+    join_talker(&mut table, 2, &talker(STREAM + 3));
+    keeps(&table, cell(3, 1) + cell::LISTENER, 0);
 }
 
 #[test]
@@ -309,7 +312,10 @@ fn rule_18_fields_without_a_registration() {
     breaks(&table, 18, cell(0, 2) + cell::BRIDGE_ID.start, 1);
     breaks(&table, 18, cell(0, 2) + cell::CODE, 1);
     breaks(&table, 18, cell(0, 1) + cell::LISTENER_LEAVING, 1);
-    breaks(&table, 18, cell(0, 1) + cell::TALKER, 0);
+    let mut joined = table.clone();
+    join_talker(&mut joined, 1, &talker(STREAM + 3));
+    join_listener(&mut joined, 2, STREAM + 3, READY);
+    breaks(&joined, 18, cell(3, 1) + cell::TALKER, 0);
 }
 
 #[test]
@@ -324,11 +330,12 @@ fn rule_19_the_failure_of_an_advertise() {
 
 #[test]
 fn rule_20_kinds_of_results() {
-    let table = three_streams(250);
-    breaks(&table, 20, result(0, 1) + result::COLUMN, 3);
-    breaks(&table, 20, result(0, 1) + result::ENTRY, 3);
+    let mut table = three_streams(250);
+    breaks(&table, 20, result(0, 2) + result::ENTRY, 3);
     breaks(&table, 20, result(0, 1) + result::LISTENER, 4);
-    keeps(&table, result(0, 2) + result::LISTENER, 3);
+    keeps(&table, result(0, 1) + result::LISTENER, 3);
+    join_talker(&mut table, 1, &talker(STREAM + 3));
+    breaks(&table, 20, result(3, 2) + result::COLUMN, 3);
 }
 
 #[test]
@@ -354,12 +361,15 @@ fn rule_22_the_failure_of_a_column() {
 fn rule_23_entry_and_column() {
     breaks(&three_streams(99), 23, result(0, 2) + result::ENTRY, 0);
     breaks(&three_streams(99), 23, result(1, 2) + result::ENTRY, 0);
-    let table = three_streams(250);
+    let mut table = three_streams(250);
+    join_listener(&mut table, 2, STREAM + 1, READY);
     breaks(&table, 23, result(1, 2) + result::ENTRY, 2);
-    breaks(&table, 23, result(0, 1) + result::ENTRY, 2);
-    breaks(&table, 23, result(0, 1) + result::COLUMN, 1);
+    breaks(&table, 23, result(2, 2) + result::ENTRY, 2);
     keeps(&table, result(0, 2) + result::ENTRY, 1);
+    join_listener(&mut table, 1, STREAM, READY);
     keeps(&table, result(0, 1) + result::ENTRY, 1);
+    join_talker(&mut table, 1, &talker(STREAM + 3));
+    breaks(&table, 23, result(3, 2) + result::COLUMN, 1);
 }
 
 #[test]
@@ -370,6 +380,72 @@ fn rule_24_the_age_of_an_entry() {
     breaks(&table, 24, result(0, 2) + result::SINCE.start, 1);
     breaks(&table, 24, CLOCK.end - 2, 0);
     keeps(&table, result(0, 2) + result::SINCE.end - 1, 0);
+}
+
+#[test]
+fn rule_25_settled_values_without_a_talker() {
+    let mut table = three_streams(250);
+    for place in [record::PARAMETERS.start, record::PARAMETERS.end - 2] {
+        breaks(&table, 25, record(2) + place, 1);
+        keeps(&table, record(0) + place, 1);
+    }
+    breaks(&table, 25, record(2) + record::PRIORITY, 0x70);
+    // A Talker joined since is enough.
+    join_talker(&mut table, 2, &talker(STREAM + 2));
+    keeps(&table, record(2) + record::PRIORITY, 0x70);
+}
+
+#[test]
+fn rule_26_columns_without_another_talker() {
+    let mut table = three_streams(250);
+    breaks(&table, 26, result(2, 2) + result::COLUMN, 1);
+    breaks(&table, 26, result(2, 2) + result::COLUMN, 2);
+    // The port's own Talker is not enough, that of another is.
+    join_talker(&mut table, 2, &talker(STREAM + 2));
+    breaks(&table, 26, result(2, 2) + result::COLUMN, 1);
+    join_talker(&mut table, 1, &talker(STREAM + 2));
+    keeps(&table, result(2, 2) + result::COLUMN, 1);
+    keeps(&table, result(2, 2) + result::COLUMN, 2);
+}
+
+#[test]
+fn rule_27_the_listener_declared() {
+    let mut table = three_streams(250);
+    breaks(&table, 27, result(2, 2) + result::LISTENER, 2); // no Talker
+    join_talker(&mut table, 2, &talker(STREAM));
+    breaks(&table, 27, result(0, 2) + result::LISTENER, 2); // a column
+    join_talker(&mut table, 1, &talker(STREAM + 2));
+    join_talker(&mut table, 2, &talker(STREAM + 2));
+    keeps(&table, result(2, 1) + result::LISTENER, 1);
+    keeps(&table, result(2, 2) + result::LISTENER, 1);
+    table.store(result(2, 1) + result::LISTENER, 1);
+    breaks(&table, 27, result(2, 2) + result::LISTENER, 1); // a second port
+}
+
+#[test]
+fn rule_28_entries_without_a_listener() {
+    let mut table = three_streams(250);
+    breaks(&table, 28, result(0, 1) + result::ENTRY, 1);
+    breaks(&table, 28, result(2, 1) + result::ENTRY, 1);
+    join_listener(&mut table, 1, STREAM, READY);
+    keeps(&table, result(0, 1) + result::ENTRY, 1);
+    // An Advertise filters without a Listener, and forwards only with one.
+    join_talker(&mut table, 1, &talker(STREAM + 3));
+    advance(&mut table, 250);
+    breaks(&table, 28, result(3, 2) + result::ENTRY, 2);
+    join_listener(&mut table, 2, STREAM + 3, ASKING);
+    keeps(&table, result(3, 2) + result::ENTRY, 2);
+}
+
+#[test]
+fn rule_29_totals_of_no_stream() {
+    let mut settings = settings(2);
+    settings.ports[1].supports.a = false;
+    let mut table = started(&settings);
+    breaks(&table, 29, TOTALS + 4, 1);
+    join_listener(&mut table, 1, STREAM, READY);
+    keeps(&table, TOTALS + 4, 1);
+    breaks(&table, 29, TOTALS + 14, 1);
 }
 
 /// Checks that calls leave tables that keep the form, and that octets which do are taken over

@@ -2,7 +2,7 @@
 use borrow.Author.Needs.{needs}
 use Rattle.octets.specs.Be.{be}
 use Rattle.model.specs.Frames.{firstLength}
-use Rattle.model.specs.WrittenFrames.{typeNumber}
+use Rattle.model.specs.Registrations.{typeNumber}
 use Rattle.declarations.specs.Passes.{kind}
 use Rattle.declarations.proofs.type_and_length.Statement.{statement}
 use Rattle.declarations.proofs.type_and_length.Tie as tie

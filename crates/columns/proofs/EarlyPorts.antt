@@ -63,28 +63,28 @@ unfolding earlyAt shownAs earlyColumn steps latencyOut streamClass sourceOf cell
 same-early st now x f rs p e = rw e
 
 module _ (st : Settings) (now : ℕ) (x : Stream) where
-  pub no-place : earlyTo 0 now st x ≡ x
+  pub none-decided : earlyTo 0 now st x ≡ x
   unfolding earlyTo tabulate
-  no-place = refl
+  none-decided = refl
 
-  pub next-place : (n : ℕ) → n < length (x .results) → earlyOne n now st (earlyTo n now st x) ≡ earlyTo (n + 1) now st x
+  pub next-decided : (n : ℕ) → n < length (x .results) → earlyOne n now st (earlyTo n now st x) ≡ earlyTo (n + 1) now st x
   unfolding earlyOne earlyTo resultAt
-  next-place n h =
+  next-decided n h =
       let rs = tabulate n 0 (earlyAt st now x) ++ drop n (x .results) in
       let e = same-early st now x (x .settled) rs n (up-to-here (earlyAt st now x) (x .results) n unsettled) in
       rw (add-one n, e, up-to-next (earlyAt st now x) (x .results) n h)
 
-  pub all-places : length (x .results) ≡ 8 → earlyTo 8 now st (settledAs (fixedOf (sourceOf x)) x) ≡ early st now x
+  pub all-decided : length (x .results) ≡ 8 → earlyTo 8 now st (settledAs (fixedOf (sourceOf x)) x) ≡ early st now x
   unfolding earlyTo early resultAt
-  all-places l =
+  all-decided l =
       let f = fixedOf (sourceOf x) in
       ap (λ (rs : List Result). record { id = x .id; settled = f; cells = x .cells; results = rs })
       (up-to-eight (earlyAt st now (settledAs f x)) (x .results) l
       ∙ tabulate-same (earlyAt st now (settledAs f x)) (earlyAt st now x) 8 0 (λ q h k. same-early st now x f (x .results) q refl))
 
-  pub places-fit : st .bridgeId < 2 ^ 64 → now < 2 ^ 32 → FitStream x → (n : ℕ) → n ≤ 8 → FitStream (earlyTo n now st x)
+  pub decided-fits : st .bridgeId < 2 ^ 64 → now < 2 ^ 32 → FitStream x → (n : ℕ) → n ≤ 8 → FitStream (earlyTo n now st x)
   unfolding earlyTo
-  places-fit named soon w n h = record {
+  decided-fits named soon w n h = record {
     name = w .name;
     rank = w .rank;
     eight-cells = w .eight-cells;
