@@ -11,7 +11,7 @@ use borrow.Author.Tests.{ltb-false, leb-false, le-ltb, le-leb, eq-eqb, ne-eqb}
 use Rattle.model.specs.Lists.{All, keep, tabulate}
 use Rattle.model.specs.State.{Port, Settings, Leaving, stays, since, Health, sound, broken, Talker, noTalker, talker, Listener, noListener, listener, Cell, Column, none, advertise, failed, Entry, noEntry, filters, forwards, Declared, nothing, tells, Result, Stream, Totals, Bridge, empty, unsettled, noFixed, noPort, portAt, isPort, cellAt, resultAt, Class, classA, classB, limit}
 use Rattle.model.specs.Registrations.{Answer, ids}
-use Rattle.model.specs.Settling.{expired, expireTalker, expireListener, expireCell, expire, held, remain, Source, nowhere, from, source, sourceOf, isSource, fixedOf, healthOf, registered, isReady, Outcome, columnNone, asRegistered, ownFailure, Step, first, brokenColumn, outcomeColumn, stepsFrom, steps, ageOf, claims, limitOn, byBandwidth, columnOf, capped, latencyOut, entryOf, ageKept, latencyKept, decideAt, decide, totalOn, totalsOn, settle, advance}
+use Rattle.model.specs.Settling.{Scene, sceneOf, decideOwn, decideOwns, expired, expireTalker, expireListener, expireCell, expire, held, remain, Source, nowhere, from, source, sourceOf, isSource, fixedOf, healthOf, registered, isReady, Outcome, columnNone, asRegistered, ownFailure, Step, first, brokenColumn, outcomeColumn, stepsFrom, steps, ageOf, claims, limitOn, byBandwidth, columnOf, capped, latencyOut, entryOf, ageKept, latencyKept, decideAt, decide, totalOn, totalsOn, settle, advance}
 use Rattle.model.specs.Bandwidth.{sort, total}
 use Rattle.model.specs.Table.{totalsWithin}
 use Rattle.model.proofs.Lists.{all-getD, all-tabulate}
@@ -214,51 +214,51 @@ ValidOutcome columnNone = Unit {0}
 ValidOutcome asRegistered = Unit {0}
 ValidOutcome (ownFailure code) = code < 256
 
-codes-fit : (st : Settings) (p : ℕ) (here : Cell) (s : Source) → All (λ t. ValidOutcome (t .outcome)) (stepsFrom st p here s)
+codes-fit : (sc : Scene) (p : ℕ) (here : Cell) (s : Source) → All (λ t. ValidOutcome (t .outcome)) (stepsFrom sc p here s)
 unfolding stepsFrom
-codes-fit st p here nowhere = omega arith
-codes-fit st p here (from o) = omega arith
+codes-fit sc p here nowhere = omega arith
+codes-fit sc p here (from o) = omega arith
 
 broken-valid : (h : Health) → ValidHealth h → ValidFailure (brokenColumn h)
 unfolding brokenColumn
 broken-valid sound v = tt
 broken-valid (broken b c) v = v
 
-module _ (st : Settings) (named : st .bridgeId < 2 ^ 64) where
+module _ (sc : Scene) (named : sc .settings .bridgeId < 2 ^ 64) where
   module _ (s : Source) (v : ValidHealth (healthOf s)) where
-    outcome-valid : (o : Outcome) → ValidOutcome o → ValidFailure (outcomeColumn st s o)
+    outcome-valid : (o : Outcome) → ValidOutcome o → ValidFailure (outcomeColumn (sc .settings) s o)
     unfolding outcomeColumn
     outcome-valid columnNone h = tt
     outcome-valid asRegistered h = broken-valid (healthOf s) v
     outcome-valid (ownFailure code) h = (named, h)
 
-    first-valid : (l : List Step) (c : Column) → All (λ t. ValidOutcome (t .outcome)) l → ValidFailure c → ValidFailure (first (outcomeColumn st s) l c)
+    first-valid : (l : List Step) (c : Column) → All (λ t. ValidOutcome (t .outcome)) l → ValidFailure c → ValidFailure (first (outcomeColumn (sc .settings) s) l c)
     unfolding first
     first-valid [] c a w = w
     first-valid (t ∷ l) c a w = go (t .test) (first-valid l c (a .1) w)
       where
         rest : Column
-        rest = first (outcomeColumn st s) l c
+        rest = first (outcomeColumn (sc .settings) s) l c
 
-        go : (b : Bool) → ValidFailure rest → ValidFailure (cond b (outcomeColumn st s (t .outcome)) rest)
+        go : (b : Bool) → ValidFailure rest → ValidFailure (cond b (outcomeColumn (sc .settings) s (t .outcome)) rest)
         go true ih = outcome-valid (t .outcome) (a .0)
         go false ih = ih
 
   -- whichever step applies, and whatever follows them all
   pub steps-valid : (p : ℕ) (x : Stream) (c : Column) → ValidHealth (healthOf (sourceOf x)) → ValidFailure c
-      → ValidFailure (first (outcomeColumn st (sourceOf x)) (steps st p x) c)
+      → ValidFailure (first (outcomeColumn (sc .settings) (sourceOf x)) (steps sc p x) c)
   unfolding steps
-  steps-valid p x c v w = first-valid (sourceOf x) v _ c (tt, codes-fit st p (cellAt x p) (sourceOf x)) w
+  steps-valid p x c v w = first-valid (sourceOf x) v _ c (tt, codes-fit sc p (cellAt x p) (sourceOf x)) w
 
-  bandwidth-valid : (d l : ℕ) → ValidFailure (byBandwidth st d l)
+  bandwidth-valid : (d l : ℕ) → ValidFailure (byBandwidth (sc .settings) d l)
   unfolding byBandwidth
   bandwidth-valid d l = go (ltb l d)
     where
-      go : (t : Bool) → ValidFailure (cond t (failed (st .bridgeId) 1) advertise)
+      go : (t : Bool) → ValidFailure (cond t (failed (sc .settings .bridgeId) 1) advertise)
       go true = omega arith
       go false = tt
 
-  column-valid : (now : ℕ) (s : List Stream) (p : ℕ) (x : Stream) → ValidHealth (healthOf (sourceOf x)) → ValidFailure (columnOf st now s p x)
+  column-valid : (now : ℕ) (s : List Stream) (p : ℕ) (x : Stream) → ValidHealth (healthOf (sourceOf x)) → ValidFailure (columnOf sc now s p x)
   unfolding columnOf
   column-valid now s p x v = steps-valid p x _ v (bandwidth-valid _ _)
 
@@ -310,49 +310,49 @@ unsettled-valid clock = record { column = refl; latency = omega arith; age = ref
 
 -- The decision.
 
-module _ (st : Settings) (named : st .bridgeId < 2 ^ 64) (clock now : ℕ) (later : clock ≤ now) (s : List Stream) (x : Stream)
-    (r : Remaining (length (st .ports)) clock now (st .leaveTime) x) where
-  source-fits : ValidSource now (st .leaveTime) (sourceOf x)
+module _ (sc : Scene) (named : sc .settings .bridgeId < 2 ^ 64) (clock now : ℕ) (later : clock ≤ now) (s : List Stream) (x : Stream)
+    (r : Remaining (length (sc .settings .ports)) clock now (sc .settings .leaveTime) x) where
+  source-fits : ValidSource now (sc .settings .leaveTime) (sourceOf x)
   unfolding sourceOf
-  source-fits = source-valid now (st .leaveTime) 0 (x .cells) (r .cells)
+  source-fits = source-valid now (sc .settings .leaveTime) 0 (x .cells) (r .cells)
 
-  result-valid : (p : ℕ) → ValidResult now (decideAt st now s x p)
+  result-valid : (p : ℕ) → ValidResult now (decideAt sc now s x p)
   unfolding decideAt latencyOut resultAt
   result-valid p = record {
-    column = entry-fits (columnOf st now s p x) (registered (cellAt x p)) _ (column-valid st named now s p x (health-valid now (st .leaveTime) (sourceOf x) source-fits));
-    latency = latency-fits (columnOf st now s p x) _ (capped-fits _);
+    column = entry-fits (columnOf sc now s p x) (registered (cellAt x p)) _ (column-valid sc named now s p x (health-valid now (sc .settings .leaveTime) (sourceOf x) source-fits));
+    latency = latency-fits (columnOf sc now s p x) _ (capped-fits _);
     age =
-        age-fits now (entryOf (columnOf st now s p x) (registered (cellAt x p))) _
+        age-fits now (entryOf (columnOf sc now s p x) (registered (cellAt x p))) _
         (age-valid clock now (resultAt x p) later
         (all-getD (ValidResult clock) (x .results) (r .results) unsettled (unsettled-valid clock) p));
   }
 
   -- a place that is no port has no registration, so no result
-  no-cell : (p : ℕ) → length (st .ports) ≤ p → cellAt x p ≡ empty
+  no-cell : (p : ℕ) → length (sc .settings .ports) ≤ p → cellAt x p ≡ empty
   unfolding cellAt
-  no-cell p h = getD-past (λ c. c ≡ empty) (length (st .ports)) (x .cells) p empty h refl (r .no-other-cells)
+  no-cell p h = getD-past (λ c. c ≡ empty) (length (sc .settings .ports)) (x .cells) p empty h refl (r .no-other-cells)
 
-  no-talker : (p : ℕ) → length (st .ports) ≤ p → isSource (sourceOf x) p ≡ false
+  no-talker : (p : ℕ) → length (sc .settings .ports) ≤ p → isSource (sourceOf x) p ≡ false
   unfolding sourceOf cellAt
   no-talker p h = let e : 0 + p ≡ p = omega arith in rw e at (not-source 0 p (x .cells) (no-cell p h))
 
-  unsettled-there : (p : ℕ) → length (st .ports) ≤ p → decideAt st now s x p ≡ unsettled
+  unsettled-there : (p : ℕ) → length (sc .settings .ports) ≤ p → decideAt sc now s x p ≡ unsettled
   unfolding decideAt columnOf steps isPort first outcomeColumn registered entryOf ageKept latencyKept unsettled empty
-  unsettled-there p h = rw (le-ltb p (length (st .ports)) h, no-talker p h, no-cell p h)
+  unsettled-there p h = rw (le-ltb p (length (sc .settings .ports)) h, no-talker p h, no-cell p h)
 
-  decided-valid : ValidStream (length (st .ports)) now (st .leaveTime) (decide st now s x)
+  decided-valid : ValidStream (length (sc .settings .ports)) now (sc .settings .leaveTime) (decide sc now s x)
   unfolding decide
   decided-valid = record {
     id = r .id;
-    settled = fixed-valid now (st .leaveTime) (sourceOf x) source-fits;
+    settled = fixed-valid now (sc .settings .leaveTime) (sourceOf x) source-fits;
     eight-cells = r .eight-cells;
     cells = r .cells;
     no-other-cells = r .no-other-cells;
     is-held = r .is-held;
-    eight-results = length-tabulate 8 0 (decideAt st now s x);
-    results = all-tabulate (ValidResult now) 8 0 (decideAt st now s x) result-valid;
+    eight-results = length-tabulate 8 0 (decideAt sc now s x);
+    results = all-tabulate (ValidResult now) 8 0 (decideAt sc now s x) result-valid;
     no-other-results =
-        all-drop-tabulate (λ y. y ≡ unsettled) (length (st .ports)) 8 0 (decideAt st now s x)
+        all-drop-tabulate (λ y. y ≡ unsettled) (length (sc .settings .ports)) 8 0 (decideAt sc now s x)
         (λ p h. unsettled-there p (omega arith));
   }
 
@@ -372,44 +372,50 @@ totals-within (suc n) p (q ∷ qs) f h =
     rw (le-leb (f p .totalA) (q .limitA) (here .0), le-leb (f p .totalB) (q .limitB) (here .1))
     (totals-within n (suc p) qs f (λ i q e. h (suc i) q (omega arith)))
 
-total-within : (st : Settings) (now : ℕ) (s : List Stream) (p : ℕ) (c : Class) → totalOn st now s p c ≤ limit (portAt st p) c
+total-within : (sc : Scene) (now : ℕ) (s : List Stream) (p : ℕ) (c : Class) → totalOn sc now s p c ≤ limit (portAt (sc .settings) p) c
 unfolding totalOn total limitOn
-total-within st now s p c = within (limit (portAt st p) c) (sort (claims st now p c s))
+total-within sc now s p c = within (limit (portAt (sc .settings) p) c) (sort (claims sc now p c s))
 
-totals-on-within : (st : Settings) (now : ℕ) (s : List Stream) (p : ℕ) →
-    (totalsOn st now s p .totalA ≤ getD (st .ports) p noPort .limitA) × (totalsOn st now s p .totalB ≤ getD (st .ports) p noPort .limitB)
+totals-on-within : (sc : Scene) (now : ℕ) (s : List Stream) (p : ℕ) →
+    (totalsOn sc now s p .totalA ≤ getD (sc .settings .ports) p noPort .limitA) × (totalsOn sc now s p .totalB ≤ getD (sc .settings .ports) p noPort .limitB)
 unfolding totalsOn limit portAt
-totals-on-within st now s p = (total-within st now s p classA, total-within st now s p classB)
+totals-on-within sc now s p = (total-within sc now s p classA, total-within sc now s p classB)
 
-settled-totals : (st : Settings) (now : ℕ) (s : List Stream) → totalsWithin (tabulate 8 0 (totalsOn st now s)) (st .ports) ≡ true
-settled-totals st now s =
-    totals-within 8 0 (st .ports) (totalsOn st now s)
-    (λ i q e. let same : i ≡ q = omega arith in rw same (totals-on-within st now s q))
+settled-totals : (sc : Scene) (now : ℕ) (s : List Stream) → totalsWithin (tabulate 8 0 (totalsOn sc now s)) (sc .settings .ports) ≡ true
+settled-totals sc now s =
+    totals-within 8 0 (sc .settings .ports) (totalsOn sc now s)
+    (λ i q e. let same : i ≡ q = omega arith in rw same (totals-on-within sc now s q))
 
 -- The call.
 
-pub decided-ids : (st : Settings) (now : ℕ) (s l : List Stream) → ids (map (decide st now s) l) ≡ ids l
+pub decided-ids : (sc : Scene) (now : ℕ) (s l : List Stream) → ids (map (decide sc now s) l) ≡ ids l
 unfolding ids decide
-decided-ids st now s [] = refl
-decided-ids st now s (x ∷ l) = ap (λ (is : List ℕ). x .id ∷ is) (decided-ids st now s l)
+decided-ids sc now s [] = refl
+decided-ids sc now s (x ∷ l) = ap (λ (is : List ℕ). x .id ∷ is) (decided-ids sc now s l)
 
 pub settle-keeps : (b : Bridge) (now : ℕ) → now < 2 ^ 32 → b .clock ≤ now → Valid b → Valid (settle now b)
 unfolding settle
 settle-keeps b now small later v = record {
   settings = v .settings;
   clock = small;
-  eight-totals = length-tabulate 8 0 (totalsOn st now s);
-  totals = settled-totals st now s;
-  at-most-64 = rw (length-map s (decide st now s)) (omega (arith, fewer-remain st now (b .streams), v .at-most-64));
+  eight-totals = length-tabulate 8 0 (totalsOn sc now s);
+  totals = settled-totals sc now s;
+  eight-own = length-tabulate 8 0 (decideOwn st now (b .own));
+  own = ?;
+  no-other-own = ?;
+  at-most-64 = rw (length-map s (decide sc now s)) (omega (arith, fewer-remain st now (b .streams), v .at-most-64));
   streams =
-      all-mapped (Remaining ports (b .clock) now (st .leaveTime)) (ValidStream ports now (st .leaveTime)) (decide st now s)
-      (decided-valid st (v .settings .bridgeId) (b .clock) now later s) s
+      all-mapped (Remaining ports (b .clock) now (st .leaveTime)) (ValidStream ports now (st .leaveTime)) (decide sc now s)
+      (decided-valid sc (v .settings .bridgeId) (b .clock) now later s) s
       (streams-remain st (b .clock) now ports later (b .streams) (v .streams));
-  ascending = rw (decided-ids st now s s) (remain-rising st now (b .streams) (v .ascending));
+  ascending = rw (decided-ids sc now s s) (remain-rising st now (b .streams) (v .ascending));
 }
   where
     st : Settings
     st = b .settings
+
+    sc : Scene
+    sc = sceneOf (settle now b)
 
     ports : ℕ
     ports = length (st .ports)

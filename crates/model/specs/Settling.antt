@@ -155,6 +155,10 @@ pub record Scene : Type 0 where
   pub settings : Settings
   pub own : List Own
 
+-- of a bridge as it stands
+abbrev pub sceneOf : Bridge → Scene
+sceneOf b = record { settings = b .settings; own = b .own }
+
 -- The column: "first that applies".
 
 -- what a step gives: column none, the failure registered at t, or an own failure of some code
