@@ -91,6 +91,25 @@ module _ {A : Type 0} where
   drop-changed (suc n) zero u (x ∷ l) h = refl
   drop-changed (suc n) (suc p) u (x ∷ l) h = drop-changed n p u l (omega arith)
 
+  -- what stands at another place is as before
+  pub at-other : (p : ℕ) (u : A → A) (l : List A) (q : ℕ) (d : A) → (p ≡ q → ⊥) → getD (at p u l) q d ≡ getD l q d
+  unfolding at
+  at-other p u [] q d n = refl
+  at-other zero u (x ∷ l) zero d n = absurd (n refl)
+  at-other zero u (x ∷ l) (suc q) d n = refl
+  at-other (suc p) u (x ∷ l) zero d n = refl
+  at-other (suc p) u (x ∷ l) (suc q) d n = at-other p u l q d (λ e. n (ap suc e))
+
+  -- and at each place, what the change does not touch
+  pub at-each : {B : Type 0} (f : A → B) (p : ℕ) (u : A → A) → ((x : A) → f (u x) ≡ f x) →
+      (l : List A) (q : ℕ) (d : A) → f (getD (at p u l) q d) ≡ f (getD l q d)
+  unfolding at
+  at-each f p u k [] q d = refl
+  at-each f zero u k (x ∷ l) zero d = k x
+  at-each f zero u k (x ∷ l) (suc q) d = refl
+  at-each f (suc p) u k (x ∷ l) zero d = refl
+  at-each f (suc p) u k (x ∷ l) (suc q) d = at-each f p u k l q d
+
   -- changes at two different places commute
   pub at-commute : (p q : ℕ) (u v : A → A) → (p ≡ q → ⊥) → (l : List A) → at p u (at q v l) ≡ at q v (at p u l)
   unfolding at
