@@ -21,6 +21,7 @@ pub mod AdvanceKeepsForm
 pub mod ReadBack
 pub mod WritingPasses
 pub mod Refusals
+pub mod Edge
 pub mod Examples
 pub mod FormKept
 pub mod Demand3
