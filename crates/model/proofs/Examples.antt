@@ -45,7 +45,7 @@ unfolding Bandwidth.demand Bandwidth.rate Bandwidth.rateOfA Bandwidth.rateOfB Ba
 settlingOpened = tt
 
 answersOpened : Unit {0}
-unfolding Reports.refusedReport Reports.wordOf Reports.codeOf Reports.report WrittenFrames.typeNumber WrittenFrames.messageOf WrittenFrames.readyNumber WrittenFrames.fixedNumbers WrittenFrames.priorityOctet Table.columnNumber Table.columnCode Table.entryNumber Table.declaredNumber Table.leavingNumber Table.sinceNumber Table.healthNumber Table.bridgeNumber Table.codeNumber Table.talkerNumbers Table.listenerNumbers Table.cellNumbers Calls.receive
+unfolding Reports.refusedReport Reports.wordOf Reports.codeOf Reports.report Frames.typeNumber WrittenFrames.messageOf WrittenFrames.readyNumber WrittenFrames.fixedNumbers WrittenFrames.priorityOctet Table.columnNumber Table.columnCode Table.entryNumber Table.declaredNumber Table.leavingNumber Table.sinceNumber Table.healthNumber Table.bridgeNumber Table.codeNumber Table.talkerNumbers Table.listenerNumbers Table.cellNumbers Calls.receive
 answersOpened = tt
 
 opened : Unit {0}
