@@ -10,7 +10,7 @@ own-in-requires : tie.Need-own-in-requires
 own-in-requires c κs = port-of-slot (c .before .pre)
 
 returns : tie.Need-returns
-returns c = omega (arith, c .before .before .pre .slot, c .before .own-in .ensures .0, c .before .own-in .ensures .1)
+returns c = omega (arith, c .before .before .pre .slot, c .before .before .pre .port, c .own-in .ensures .0, laid-length _ (c .before .before .pre .laid))
 
 pub slot-in-spec : {M : Type 1} → statement M
 slot-in-spec = tie.close (tie.spec own-in-requires (λ c. search needs) (λ c. search needs) returns)
