@@ -8,8 +8,8 @@ use native.Mathlib.Omega.{arith}
 use lib.ListN.{length, getD, set, drop, length-append, length-drop}
 use lib.Seq.{drop-cons, drop-length, set-at, getD-append-add, getD-drop}
 use Rattle.model.specs.Lists.{tabulate}
-use Rattle.model.specs.State.{Settings, Fixed, Result, Stream, resultAt, cellAt, unsettled}
-use Rattle.model.specs.Settling.{sourceOf, fixedOf, steps, latencyOut, streamClass}
+use Rattle.model.specs.State.{Fixed, Result, Stream, resultAt, cellAt, unsettled}
+use Rattle.model.specs.Settling.{Scene, sourceOf, fixedOf, steps, latencyOut, streamClass}
 use Rattle.model.specs.Laid.{FitResult, FitStream}
 use Rattle.model.proofs.Lists.{all-append, all-drop, all-tabulate}
 use Rattle.model.proofs.AdvanceKeepsForm.{length-tabulate}
@@ -56,41 +56,41 @@ module _ (f : ℕ → Result) (l : List Result) where
 
 -- What is shown on a port hangs on the cells and on the result that the port had.
 
-same-early : (st : Settings) (now : ℕ) (x : Stream) (f : Fixed) (rs : List Result) (p : ℕ)
+same-early : (sc : Scene) (now : ℕ) (x : Stream) (f : Fixed) (rs : List Result) (p : ℕ)
     → resultAt record { id = x .id; settled = f; cells = x .cells; results = rs } p ≡ resultAt x p
-    → earlyAt st now record { id = x .id; settled = f; cells = x .cells; results = rs } p ≡ earlyAt st now x p
+    → earlyAt sc now record { id = x .id; settled = f; cells = x .cells; results = rs } p ≡ earlyAt sc now x p
 unfolding earlyAt shownAs earlyColumn steps latencyOut streamClass sourceOf cellAt
-same-early st now x f rs p e = rw e
+same-early sc now x f rs p e = rw e
 
-module _ (st : Settings) (now : ℕ) (x : Stream) where
-  pub no-place : earlyTo 0 now st x ≡ x
+module _ (sc : Scene) (now : ℕ) (x : Stream) where
+  pub no-place : earlyTo 0 now sc x ≡ x
   unfolding earlyTo tabulate
   no-place = refl
 
-  pub next-place : (n : ℕ) → n < length (x .results) → earlyOne n now st (earlyTo n now st x) ≡ earlyTo (n + 1) now st x
+  pub next-place : (n : ℕ) → n < length (x .results) → earlyOne n now sc (earlyTo n now sc x) ≡ earlyTo (n + 1) now sc x
   unfolding earlyOne earlyTo resultAt
   next-place n h =
-      let rs = tabulate n 0 (earlyAt st now x) ++ drop n (x .results) in
-      let e = same-early st now x (x .settled) rs n (up-to-here (earlyAt st now x) (x .results) n unsettled) in
-      rw (add-one n, e, up-to-next (earlyAt st now x) (x .results) n h)
+      let rs = tabulate n 0 (earlyAt sc now x) ++ drop n (x .results) in
+      let e = same-early sc now x (x .settled) rs n (up-to-here (earlyAt sc now x) (x .results) n unsettled) in
+      rw (add-one n, e, up-to-next (earlyAt sc now x) (x .results) n h)
 
-  pub all-places : length (x .results) ≡ 8 → earlyTo 8 now st (settledAs (fixedOf (sourceOf x)) x) ≡ early st now x
+  pub all-places : length (x .results) ≡ 8 → earlyTo 8 now sc (settledAs (fixedOf (sourceOf x)) x) ≡ early sc now x
   unfolding earlyTo early resultAt
   all-places l =
       let f = fixedOf (sourceOf x) in
       ap (λ (rs : List Result). record { id = x .id; settled = f; cells = x .cells; results = rs })
-      (up-to-eight (earlyAt st now (settledAs f x)) (x .results) l
-      ∙ tabulate-same (earlyAt st now (settledAs f x)) (earlyAt st now x) 8 0 (λ q h k. same-early st now x f (x .results) q refl))
+      (up-to-eight (earlyAt sc now (settledAs f x)) (x .results) l
+      ∙ tabulate-same (earlyAt sc now (settledAs f x)) (earlyAt sc now x) 8 0 (λ q h k. same-early sc now x f (x .results) q refl))
 
-  pub places-fit : st .bridgeId < 2 ^ 64 → now < 2 ^ 32 → FitStream x → (n : ℕ) → n ≤ 8 → FitStream (earlyTo n now st x)
+  pub places-fit : sc .settings .bridgeId < 2 ^ 64 → now < 2 ^ 32 → FitStream x → (n : ℕ) → n ≤ 8 → FitStream (earlyTo n now sc x)
   unfolding earlyTo
   places-fit named soon w n h = record {
     name = w .name;
     rank = w .rank;
     eight-cells = w .eight-cells;
     cells = w .cells;
-    eight-results = up-to-length (earlyAt st now x) (x .results) n (omega (arith, w .eight-results)) ∙ w .eight-results;
+    eight-results = up-to-length (earlyAt sc now x) (x .results) n (omega (arith, w .eight-results)) ∙ w .eight-results;
     results =
-        all-append FitResult (tabulate n 0 (earlyAt st now x)) (drop n (x .results))
-        (all-tabulate FitResult n 0 (earlyAt st now x) (early-result-fits st named now soon x w)) (all-drop FitResult n (x .results) (w .results));
+        all-append FitResult (tabulate n 0 (earlyAt sc now x)) (drop n (x .results))
+        (all-tabulate FitResult n 0 (earlyAt sc now x) (early-result-fits sc named now soon x w)) (all-drop FitResult n (x .results) (w .results));
   }

@@ -9,6 +9,7 @@ use lib.ListN.{length, getD, set}
 use Rattle.model.specs.Lists.{All}
 use Rattle.model.specs.State.{Cell, Stream, Bridge, fresh}
 use Rattle.model.specs.Registrations.{at, change, holding, ids}
+use Rattle.model.specs.Settling.{sceneOf}
 use Rattle.model.specs.Table.{encode, decode}
 use Rattle.model.specs.Laid.{FitCell, FitStream, FitBridge, Laid}
 use Rattle.model.proofs.Fits.{laid-is, laid-fits}
@@ -102,6 +103,9 @@ module _ (g : Stream → Stream) where
 
       pub partly-settings : decode t .settings ≡ decode t₀ .settings
       partly-settings = ap (λ (b : Bridge). b .settings) partly-read ∙ unfold partly holding in refl
+
+      pub partly-scene : sceneOf (decode t) ≡ sceneOf (decode t₀)
+      partly-scene = ap sceneOf partly-read ∙ unfold partly holding in refl
 
       -- the next stream
       pub partly-here : streamAt k (decode t) ≡ streamAt k (decode t₀)

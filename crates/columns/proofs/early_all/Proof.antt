@@ -4,6 +4,7 @@ use mathlib.Core.Path.{_≡_, refl}
 use native.Mathlib.Omega.{arith}
 use lib.ListN.{length}
 use borrow.Author.Needs.{needs}
+use Rattle.model.specs.Settling.{sceneOf}
 use Rattle.model.specs.Table.{encode, decode}
 use Rattle.table.proofs.EachStream.{partly, none-yet}
 use Rattle.columns.specs.Stages.{early}
@@ -13,7 +14,7 @@ use Rattle.columns.proofs.early_all.Tie as tie
 
 abbrev Inv-loop : tie.InvT-loop
 Inv-loop table₀ time count k₀ table k =
-    (k ≤ count) × (length table ≡ length table₀) × (table ≡ encode (partly (early (decode table₀ .settings) time) table₀ k))
+    (k ≤ count) × (length table ≡ length table₀) × (table ≡ encode (partly (early (sceneOf (decode table₀)) time) table₀ k))
 
 abbrev μ-loop : tie.MeasureT-loop
 μ-loop table₀ time count k₀ table k = count - k
