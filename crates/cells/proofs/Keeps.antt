@@ -9,7 +9,7 @@ use Rattle.octets.specs.Fields.{Fit}
 use Rattle.octets.proofs.Fields.{fit-append, fit-split, fit-zeros}
 use Rattle.model.specs.Layout.{cellWidths, fixedWidths, listenerField, varyingWidths}
 use Rattle.model.specs.State.{Settings, Leaving, stays, since, Fixed, Health, sound, broken, Varying, Registration, Talker, noTalker, talker, Ready, Listener, noListener, listener, Cell}
-use Rattle.model.specs.Registrations.{Kind, Act, leaveAll, leave, talk, listen, begin, talksAs, hearsAs, withLeaving, quitTalker, quitListener, quit, sameFixed, firstJoin, sameJoin, otherJoin, joinTalker, does}
+use Rattle.model.specs.Registrations.{Kind, Act, leaveAll, leave, talk, listen, ofDomain, begin, talksAs, hearsAs, withLeaving, quitTalker, quitListener, quit, sameFixed, firstJoin, sameJoin, otherJoin, joinTalker, does}
 use Rattle.model.specs.WrittenFrames.{fixedNumbers}
 use Rattle.model.specs.Settling.{expired, expireTalker, expireListener, expireCell}
 use Rattle.model.specs.Table.{leavingNumber, sinceNumber, healthNumber, bridgeNumber, codeNumber, talkerNumbers, listenerNumbers, cellNumbers}
@@ -169,6 +169,7 @@ module _ (clock : ℕ) (small : clock < 2 ^ 32) where
   does-fits (listen i r) p c fit =
       let (t, h) = halves c fit in
       whole (does clock (listen i r) c) t (listener-fits r stays stays-fits)
+  does-fits (ofDomain a) p c fit = fit
 
 -- What expiry leaves.
 
