@@ -4,6 +4,8 @@ pub mod Parts
 pub mod Cells
 pub mod Results
 pub mod SettingsOctets
+pub mod Coded
+pub mod Owns
 pub mod Tables
 pub mod Fits
 pub mod Arrivals
@@ -19,6 +21,7 @@ pub mod AdvanceKeepsForm
 pub mod ReadBack
 pub mod WritingPasses
 pub mod Refusals
+pub mod Edge
 pub mod Examples
 pub mod FormKept
 pub mod Demand3

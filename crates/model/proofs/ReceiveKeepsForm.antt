@@ -1,22 +1,23 @@
--- Receive, accepted or refused, leaves a bridge that keeps the form rules, its settings and its clock.
+-- Receive, accepted or refused, leaves a bridge that keeps the form rules, its settings, its clock and its totals.
 use mathlib.Core.Path.{_≡_, refl, _∙_, ap, ap₂}
 use mathlib.Core.Logic.{_⊎_, inl, inr}
 use mathlib.Core.List.{List, [], _∷_, map}
 use mathlib.Core.Bool.{Bool, true, false, cond, _||_, false≢true}
 use Prim.Native.Nat.{ℕ, zero, suc, _-_, _^_, _≤_, _<_}
 use native.Mathlib.Omega.{arith}
-use lib.ListN.{length, drop, replicate}
+use lib.ListN.{length, drop, replicate, length-map}
 use lib.Dec.{ltb, leb, eqb}
 use borrow.Author.Tests.{ltb-true, ltb-false, leb-true, eqb-false}
+use Rattle.model.specs.Layout.{slots}
 use Rattle.model.specs.Lists.{All, Octets}
-use Rattle.model.specs.State.{Settings, Leaving, stays, since, Fixed, Varying, Talker, noTalker, talker, Listener, noListener, listener, Ready, Cell, Stream, Bridge, empty, unsettled, noFixed, blank, fresh}
-use Rattle.model.specs.Registrations.{Kind, Act, leaveAll, leave, talk, listen, begin, talksAs, hearsAs, withLeaving, quitTalker, quitListener, quit, sameFixed, firstJoin, sameJoin, otherJoin, joinTalker, does, at, change, begun, touch, reach, apply, applyAll, Reading, refused, acts, Answer, holding, received, ids}
+use Rattle.model.specs.State.{Settings, Leaving, stays, since, Fixed, Varying, Talker, noTalker, talker, Listener, noListener, listener, Ready, Cell, Domain, noDomain, domain, Own, Stream, Bridge, empty, unsettled, noFixed, noOwn, blank, fresh}
+use Rattle.model.specs.Registrations.{Kind, Act, leaveAll, leave, talk, listen, ofDomain, DomainAct, leaveAllDomains, leaveDomain, joinDomain, begin, talksAs, hearsAs, withLeaving, quitTalker, quitListener, quit, sameFixed, firstJoin, sameJoin, otherJoin, joinTalker, does, at, change, begun, touch, reach, apply, applyAll, quitDomain, doesDomain, changeDomains, applyOwn, applyOwns, Reading, refused, acts, Answer, holding, owning, received, ids}
 use Rattle.model.specs.Frames.{wrongPort, reading}
 use Rattle.model.specs.Settling.{isTalking, isHearing, held}
 use Rattle.model.specs.Calls.{receive}
-use Rattle.model.proofs.Lists.{all-map, all-drop, all-replicate, length-at, all-changed}
-use Rattle.model.proofs.Valid.{ValidLeaving, ValidFixed, ValidVarying, ValidRegistration, ValidTalker, ValidListener, ValidCell, ValidResult, ValidStream, Rising, Valid}
-use Rattle.model.proofs.FoundVectors.{Fits, FitsReading, reading-fits, or-left, or-right}
+use Rattle.model.proofs.Lists.{all-map, all-drop, all-replicate, length-at, all-changed, drop-changed}
+use Rattle.model.proofs.Valid.{ValidLeaving, ValidFixed, ValidVarying, ValidRegistration, ValidTalker, ValidListener, ValidCell, ValidDomain, ValidOwn, ValidResult, ValidStream, Rising, Valid}
+use Rattle.model.proofs.FoundVectors.{Fits, FitsDomain, FitsReading, reading-fits, or-left, or-right}
 use Rattle.model.proofs.AdvanceKeepsForm.{all-mapped, unsettled-valid}
 
 -- One cell: an act keeps it valid. A leaving begins at the clock, so less than the leave time before it.
@@ -65,6 +66,7 @@ module _ (clock leaveTime : ℕ) (leaves : 1 ≤ leaveTime) where
   does-valid (leave k i) h c v = cell-quits k c v
   does-valid (talk i f w) h c v = record { talks = talker-joins f w (h .1) (h .2) (c .talks) (v .talks); hears = v .hears }
   does-valid (listen i r) h c v = record { talks = v .talks; hears = tt }
+  does-valid (ofDomain d) h c v = v
 
 -- A registration stays on its port, leaving or not, and a join puts one there.
 
@@ -118,16 +120,9 @@ does-stays now (leaveAll k) c h = quit-stays now k c ∙ h
 does-stays now (leave k i) c h = quit-stays now k c ∙ h
 does-stays now (talk i f v) c h = talk-puts now i f v c
 does-stays now (listen i r) c h = listen-puts now i r c
+does-stays now (ofDomain d) c h = h
 
 -- Cells, with the one at a place changed.
-
--- those after it are as before
-drop-changed : (n p : ℕ) (u : Cell → Cell) (cs : List Cell) → p < n → drop n (at p u cs) ≡ drop n cs
-unfolding at
-drop-changed zero p u cs h = absurd (omega arith)
-drop-changed (suc n) p u [] h = refl
-drop-changed (suc n) zero u (c ∷ cs) h = refl
-drop-changed (suc n) (suc p) u (c ∷ cs) h = drop-changed n p u cs (omega arith)
 
 held-stays : (p : ℕ) (u : Cell → Cell) (cs : List Cell) → ((c : Cell) → onPort c ≡ true → onPort (u c) ≡ true) →
     held cs ≡ true → held (at p u cs) ≡ true
@@ -279,6 +274,7 @@ module _ (ports clock leaveTime p : ℕ) (here : p < ports) (eight : ports ≤ 8
   apply-keeps (leave k i) fits s g = touch-keeps (leave k i) fits false i (λ e. absurd (false≢true e)) s g
   apply-keeps (talk i f v) fits s g = touch-keeps (talk i f v) fits true i (λ e. (fits .0, talk-puts clock i f v)) s g
   apply-keeps (listen i r) fits s g = touch-keeps (listen i r) fits true i (λ e. (fits, listen-puts clock i r)) s g
+  apply-keeps (ofDomain d) fits s g = g
 
   acts-keep : (es : List Act) → All Fits es → (s : List Stream) →
       ValidStreams ports clock leaveTime s → ValidStreams ports clock leaveTime (applyAll clock p es s)
@@ -286,11 +282,69 @@ module _ (ports clock leaveTime p : ℕ) (here : p < ports) (eight : ports ≤ 8
   acts-keep [] fits s g = g
   acts-keep (a ∷ es) fits s g = acts-keep es (fits .1) (apply clock p a s) (apply-keeps a (fits .0) s g)
 
+-- What the ports hold by themselves.
+
+module _ (clock leaveTime : ℕ) (leaves : 1 ≤ leaveTime) where
+  domain-quits : (d : Domain) → ValidDomain clock leaveTime d → ValidDomain clock leaveTime (quitDomain clock d)
+  unfolding quitDomain
+  domain-quits noDomain v = tt
+  domain-quits (domain x l) v = (v .0, begun-leaving clock leaveTime leaves l (v .1))
+
+  domains-valid : (a : DomainAct) → FitsDomain a → (ds : List Domain) →
+      All (ValidDomain clock leaveTime) ds → All (ValidDomain clock leaveTime) (doesDomain clock a ds)
+  unfolding doesDomain
+  domains-valid leaveAllDomains h ds v =
+      all-mapped (ValidDomain clock leaveTime) (ValidDomain clock leaveTime) (quitDomain clock) domain-quits ds v
+  domains-valid (leaveDomain i) h ds v = all-changed (ValidDomain clock leaveTime) i (quitDomain clock) ds domain-quits v
+  domains-valid (joinDomain i x) h ds v =
+      all-changed (ValidDomain clock leaveTime) i (λ d. domain x stays) ds (λ d w. (h .1, tt)) v
+
+  domains-slotted : (a : DomainAct) (ds : List Domain) → length (doesDomain clock a ds) ≡ length ds
+  unfolding doesDomain
+  domains-slotted leaveAllDomains ds = length-map ds (quitDomain clock)
+  domains-slotted (leaveDomain i) ds = length-at i (quitDomain clock) ds
+  domains-slotted (joinDomain i x) ds = length-at i (λ d. domain x stays) ds
+
+  own-valid : (a : DomainAct) → FitsDomain a → (o : Own) →
+      ValidOwn clock leaveTime o → ValidOwn clock leaveTime (changeDomains (doesDomain clock a) o)
+  unfolding changeDomains
+  own-valid a h o v = record {
+    slotted = domains-slotted a (o .domains) ∙ v .slotted;
+    domains = domains-valid a h (o .domains) (v .domains);
+  }
+
+-- what eight ports hold, and nothing behind the bridge's
+pub record ValidOwns (ports clock leaveTime : ℕ) (o : List Own) : Type 0 where
+  pub eight-own : length o ≡ 8
+  pub own : All (ValidOwn clock leaveTime) o
+  pub no-other-own : All (λ x. x ≡ noOwn) (drop ports o)
+
+module _ (ports clock leaveTime p : ℕ) (here : p < ports) (leaves : 1 ≤ leaveTime) where
+  own-kept : (a : Act) → Fits a → (o : List Own) → ValidOwns ports clock leaveTime o → ValidOwns ports clock leaveTime (applyOwn clock p a o)
+  unfolding applyOwn
+  own-kept (leaveAll k) fits o v = v
+  own-kept (leave k i) fits o v = v
+  own-kept (talk i f w) fits o v = v
+  own-kept (listen i r) fits o v = v
+  own-kept (ofDomain d) fits o v =
+      let u = changeDomains (doesDomain clock d) in
+      record {
+        eight-own = length-at p u o ∙ v .eight-own;
+        own = all-changed (ValidOwn clock leaveTime) p u o (own-valid clock leaveTime leaves d fits) (v .own);
+        no-other-own = rw (drop-changed ports p u o here) (v .no-other-own);
+      }
+
+  owns-kept : (es : List Act) → All Fits es → (o : List Own) →
+      ValidOwns ports clock leaveTime o → ValidOwns ports clock leaveTime (applyOwns clock p es o)
+  unfolding applyOwns
+  owns-kept [] fits o v = v
+  owns-kept (a ∷ es) fits o v = owns-kept es (fits .1) (applyOwn clock p a o) (own-kept a (fits .0) o v)
+
 -- The call.
 
 pub received-keeps : (b : Bridge) (p : ℕ) (x : Reading) → p - 1 < length (b .settings .ports) → FitsReading x → Valid b →
     Valid (received b p x .bridge)
-unfolding received holding
+unfolding received holding owning
 received-keeps b p (refused n) here fits v = v
 received-keeps b p (acts es) here fits v = go (leb (length s) 64) refl
   where
@@ -302,13 +356,24 @@ received-keeps b p (acts es) here fits v = go (leb (length s) 64) refl
         acts-keep (length (b .settings .ports)) (b .clock) (b .settings .leaveTime) (p - 1) here (v .settings .eight-ports)
         (v .settings .leaves) es fits (b .streams) (v .streams, v .ascending)
 
+    o : List Own
+    o = applyOwns (b .clock) (p - 1) es (b .own)
+
+    kept-own : ValidOwns (length (b .settings .ports)) (b .clock) (b .settings .leaveTime) o
+    kept-own =
+        owns-kept (length (b .settings .ports)) (b .clock) (b .settings .leaveTime) (p - 1) here (v .settings .leaves) es fits
+        (b .own) record { eight-own = v .eight-own; own = v .own; no-other-own = v .no-other-own }
+
     go : (t : Bool) → leb (length s) 64 ≡ t →
-        Valid (cond {A = Answer} t record { number = 0; bridge = holding b s } record { number = 8; bridge = b } .bridge)
+        Valid (cond {A = Answer} t record { number = 0; bridge = owning (holding b s) o } record { number = 8; bridge = b } .bridge)
     go true e = record {
       settings = v .settings;
       clock = v .clock;
       eight-totals = v .eight-totals;
       totals = v .totals;
+      eight-own = kept-own .eight-own;
+      own = kept-own .own;
+      no-other-own = kept-own .no-other-own;
       at-most-64 = leb-true (length s) 64 e;
       streams = kept .0;
       ascending = kept .1;
@@ -331,10 +396,10 @@ receive-keeps b p pdu o v = go (wrongPort (b .settings) p) refl
     go true e = unfold reading received in (rw e v)
     go false e = received-keeps b p (reading (b .settings) p pdu) (right-port (b .settings) p e) (reading-fits (b .settings) p pdu o) v
 
--- Streams are all that a frame changes, and a refusal changes nothing.
+-- Streams and what ports hold by themselves are all that a frame changes, and a refusal changes nothing.
 
-pub received-same : {A : Type 0} (f : Bridge → A) (b : Bridge) (p : ℕ) (x : Reading) → ((s : List Stream) → f (holding b s) ≡ f b) →
-    f (received b p x .bridge) ≡ f b
+pub received-same : {A : Type 0} (f : Bridge → A) (b : Bridge) (p : ℕ) (x : Reading) →
+    ((s : List Stream) (o : List Own) → f (owning (holding b s) o) ≡ f b) → f (received b p x .bridge) ≡ f b
 unfolding received
 received-same f b p (refused n) h = refl
 received-same f b p (acts es) h = go (leb (length s) 64)
@@ -342,21 +407,24 @@ received-same f b p (acts es) h = go (leb (length s) 64)
     s : List Stream
     s = applyAll (b .clock) (p - 1) es (b .streams)
 
-    go : (t : Bool) → f (cond {A = Answer} t record { number = 0; bridge = holding b s } record { number = 8; bridge = b } .bridge) ≡ f b
-    go true = h s
+    o : List Own
+    o = applyOwns (b .clock) (p - 1) es (b .own)
+
+    go : (t : Bool) → f (cond {A = Answer} t record { number = 0; bridge = owning (holding b s) o } record { number = 8; bridge = b } .bridge) ≡ f b
+    go true = h s o
     go false = refl
 
 pub receive-settings : (b : Bridge) (p : ℕ) (pdu : List ℕ) → receive b p pdu .bridge .settings ≡ b .settings
-unfolding receive holding
-receive-settings b p pdu = received-same (λ c. c .settings) b p (reading (b .settings) p pdu) (λ s. refl)
+unfolding receive holding owning
+receive-settings b p pdu = received-same (λ c. c .settings) b p (reading (b .settings) p pdu) (λ s o. refl)
 
 pub receive-clock : (b : Bridge) (p : ℕ) (pdu : List ℕ) → receive b p pdu .bridge .clock ≡ b .clock
-unfolding receive holding
-receive-clock b p pdu = received-same (λ c. c .clock) b p (reading (b .settings) p pdu) (λ s. refl)
+unfolding receive holding owning
+receive-clock b p pdu = received-same (λ c. c .clock) b p (reading (b .settings) p pdu) (λ s o. refl)
 
 pub receive-totals : (b : Bridge) (p : ℕ) (pdu : List ℕ) → receive b p pdu .bridge .totals ≡ b .totals
-unfolding receive holding
-receive-totals b p pdu = received-same (λ c. c .totals) b p (reading (b .settings) p pdu) (λ s. refl)
+unfolding receive holding owning
+receive-totals b p pdu = received-same (λ c. c .totals) b p (reading (b .settings) p pdu) (λ s o. refl)
 
 pub received-accepted-or-unchanged : (b : Bridge) (p : ℕ) (x : Reading) → (received b p x .number ≡ 0) ⊎ (received b p x .bridge ≡ b)
 unfolding received
@@ -366,8 +434,11 @@ received-accepted-or-unchanged b p (acts es) = go (leb (length s) 64)
     s : List Stream
     s = applyAll (b .clock) (p - 1) es (b .streams)
 
+    o : List Own
+    o = applyOwns (b .clock) (p - 1) es (b .own)
+
     answer : Bool → Answer
-    answer t = cond t record { number = 0; bridge = holding b s } record { number = 8; bridge = b }
+    answer t = cond t record { number = 0; bridge = owning (holding b s) o } record { number = 8; bridge = b }
 
     go : (t : Bool) → (answer t .number ≡ 0) ⊎ (answer t .bridge ≡ b)
     go true = inl refl
