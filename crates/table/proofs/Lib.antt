@@ -11,5 +11,6 @@ pub mod HeldRecords
 pub mod Dropping
 pub mod Turns
 pub mod ByPlace
+pub mod OwnParts
 pub mod EachStream
 pub mod ReadOctets

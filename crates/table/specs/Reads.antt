@@ -4,11 +4,11 @@ use mathlib.Core.List.{List}
 use Prim.Native.Nat.{ℕ, _<_}
 use lib.ListN.{length}
 use Rattle.octets.specs.Fields.{Fit, fields, packed}
-use Rattle.model.specs.Layout.{cellSize, fixedSize, fixedWidths, portSize, resultSize, totalSize}
-use Rattle.model.specs.State.{Port, Fixed, Cell, Result, Totals}
+use Rattle.model.specs.Layout.{cellSize, fixedSize, fixedWidths, ownSize, portSize, resultSize, slotSize, totalSize}
+use Rattle.model.specs.State.{Port, Fixed, Cell, Domain, Own, Result, Totals}
 use Rattle.model.specs.WrittenFrames.{fixedNumbers}
-use Rattle.model.specs.Table.{fixedFrom, portOctets, toPort, toCell, toResult, totalsOctets, toTotals}
-use Rattle.model.specs.Laid.{LaidCell, LaidResult}
+use Rattle.model.specs.Table.{fixedFrom, portOctets, toPort, toCell, toResult, totalsOctets, toTotals, toDomain, toOwn}
+use Rattle.model.specs.Laid.{LaidCell, LaidResult, LaidDomain, LaidOwn}
 
 -- A Talker's fixed values, as a stream's settled ones stand.
 
@@ -48,3 +48,13 @@ pub record ReadsTotals (s : List ℕ) (t : Totals) : Type 0 where
   pub size : length s ≡ totalSize
   pub laid : s ≡ totalsOctets t
   pub is : toTotals s ≡ t
+
+pub record ReadsDomain (s : List ℕ) (d : Domain) : Type 0 where
+  pub size : length s ≡ slotSize
+  pub laid : LaidDomain s
+  pub is : toDomain s ≡ d
+
+pub record ReadsOwn (s : List ℕ) (o : Own) : Type 0 where
+  pub size : length s ≡ ownSize
+  pub laid : LaidOwn s
+  pub is : toOwn s ≡ o
