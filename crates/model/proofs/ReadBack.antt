@@ -25,7 +25,7 @@ use Rattle.model.proofs.Lists.{all-map, all-append, all-take, all-drop,
 use Rattle.model.proofs.Parts.{octets-append, octets-number, octets-packed}
 use Rattle.model.proofs.Valid.{Valid, ValidSettings, ValidFixed, ValidHealth, ValidVarying, ValidColumn, ValidResult, ValidStream}
 use Rattle.model.proofs.AdvanceKeepsForm.{unsettled-valid}
-use Rattle.model.proofs.WritingPasses.{length-first, length-vector, known-type, NotBefore, OfAttribute, InOrder, all-of-kind, all-domains, having-attribute, having-none, declared, write-above, write-from, run-in-order, run-fits, writeAll, all-runs}
+use Rattle.model.proofs.WritingPasses.{length-first, length-vector, known-type, inTurn, NotBefore, OfAttribute, InOrder, all-of-kind, all-domains, having-attribute, having-none, declared, write-above, write-from, run-in-order, run-fits, writeAll, all-runs}
 
 -- Octets behind a prefix.
 
@@ -334,13 +334,9 @@ messages-read k (d ∷ l) rest ws a short r =
 
 -- A PDU.
 
--- what there is of each type, in turn
-inTurn : (Attribute → List Declaration) → List Declaration
-inTurn of = of (registers advertises) ++ (of (registers faileds) ++ (of (registers listeners) ++ of domain))
-
 -- declarations in the order of types are those of each type in turn
 having-each : (l : List Declaration) → InOrder l → inTurn (λ k. having k l) ≡ l
-unfolding inTurn having sameAttribute typeNumber
+unfolding having sameAttribute typeNumber
 having-each [] o = refl
 having-each (d ∷ l) o = go (attributeOf d) (o .0) (having-each l (o .1))
   where
@@ -371,7 +367,7 @@ vectorsInTurn of = vs (registers advertises) ++ (vs (registers faileds) ++ (vs (
     vs k = map declarationVector (of k)
 
 map-each : (of : Attribute → List Declaration) → vectorsInTurn of ≡ map declarationVector (inTurn of)
-unfolding vectorsInTurn inTurn
+unfolding vectorsInTurn
 map-each of = simp (map-append, append-nil)
 
 -- a PDU whose Messages are read, and that is not too long

@@ -84,6 +84,10 @@ other-attribute j k h = ne-eqb (typeNumber j) (typeNumber k) h
 
 -- The order of types: Advertise, Failed, Listener, Domain.
 
+-- what there is of each type, in turn
+abbrev pub inTurn : (Attribute → List Declaration) → List Declaration
+inTurn of = of (registers advertises) ++ (of (registers faileds) ++ (of (registers listeners) ++ of domain))
+
 -- a declaration that may stand after one of type k
 abbrev pub NotBefore : Attribute → Declaration → Type 0
 NotBefore k d = typeNumber k ≤ typeNumber (attributeOf d)

@@ -1,12 +1,12 @@
 -- Declarations: what a port writes, and what one PDU takes of it (01, "Writing").
 use mathlib.Core.List.{List, [], _∷_, _++_}
-use mathlib.Core.Bool.{Bool, true, false, cond}
+use mathlib.Core.Bool.{Bool, cond}
 use Prim.Native.Nat.{ℕ, suc, _+_, _-_}
-use lib.ListN.{length, getD, take, drop}
+use lib.ListN.{length, take, drop}
 use lib.Dec.{ltb, eqb}
 use Rattle.model.specs.FrameLayout.{advertiseLength, domainLength, failedLength, listenerLength, longestPdu}
 use Rattle.model.specs.Lists.{keep}
-use Rattle.model.specs.State.{Port, Settings, Fixed, Health, sound, broken, Varying, Ready, Column, none, advertise, failed, Entry, noEntry, Declared, nothing, tells, Result, Stream, Bridge, portAt, resultAt, Class, classA, classB, supports, classPriority, classId}
+use Rattle.model.specs.State.{Port, Settings, Fixed, Health, sound, broken, Varying, Ready, Column, none, advertise, failed, Declared, nothing, tells, Result, Stream, Bridge, portAt, resultAt, Class, classA, classB, supports, classPriority, classId}
 use Rattle.model.specs.Registrations.{Kind, advertises, faileds, listeners, Act, talk, listen, ofDomain, joinDomain}
 use Rattle.model.specs.Frames.{Attribute, registers, domain, typeNumber, slotOf}
 

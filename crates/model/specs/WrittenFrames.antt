@@ -7,7 +7,7 @@ use Rattle.octets.specs.Be.{be}
 use Rattle.octets.specs.Fields.{packed, flat}
 use Rattle.model.specs.Lists.{keep, bit}
 use Rattle.model.specs.State.{Fixed, Health, sound, broken, Ready, askingFailed, ready, readyFailed}
-use Rattle.model.specs.Registrations.{Kind, advertises, faileds, listeners}
+use Rattle.model.specs.Registrations.{advertises, faileds, listeners}
 use Rattle.model.specs.Frames.{Attribute, registers, domain, typeNumber, Vector, firstWidths, firstLength}
 use Rattle.model.specs.Declarations.{Declaration, talkerDeclaration, listenerDeclaration, domainDeclaration, attributeOf, sameAttribute}
 
