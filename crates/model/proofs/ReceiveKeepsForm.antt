@@ -8,7 +8,6 @@ use native.Mathlib.Omega.{arith}
 use lib.ListN.{length, drop, replicate, length-map}
 use lib.Dec.{ltb, leb, eqb}
 use borrow.Author.Tests.{ltb-true, ltb-false, leb-true, eqb-false}
-use Rattle.model.specs.Layout.{slots}
 use Rattle.model.specs.Lists.{All, Octets}
 use Rattle.model.specs.State.{Settings, Leaving, stays, since, Fixed, Varying, Talker, noTalker, talker, Listener, noListener, listener, Ready, Cell, Domain, noDomain, domain, Own, Stream, Bridge, empty, unsettled, noFixed, noOwn, blank, fresh}
 use Rattle.model.specs.Registrations.{Kind, Act, leaveAll, leave, talk, listen, ofDomain, DomainAct, leaveAllDomains, leaveDomain, joinDomain, begin, talksAs, hearsAs, withLeaving, quitTalker, quitListener, quit, sameFixed, firstJoin, sameJoin, otherJoin, joinTalker, does, at, change, begun, touch, reach, apply, applyAll, quitDomain, doesDomain, changeDomains, applyOwn, applyOwns, Reading, refused, acts, Answer, holding, owning, received, ids}
