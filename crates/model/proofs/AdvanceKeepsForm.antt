@@ -9,14 +9,15 @@ use lib.ListN.{length, getD, drop, length-map}
 use lib.Dec.{ltb}
 use borrow.Author.Tests.{ltb-false, leb-false, le-ltb, le-leb, eq-eqb, ne-eqb}
 use Rattle.model.specs.Lists.{All, keep, tabulate}
-use Rattle.model.specs.State.{Port, Settings, Leaving, stays, since, Health, sound, broken, Talker, noTalker, talker, Listener, noListener, listener, Cell, Column, none, advertise, failed, Entry, noEntry, filters, forwards, Declared, nothing, tells, Result, Stream, Totals, Bridge, empty, unsettled, noFixed, noPort, portAt, isPort, cellAt, resultAt, Class, classA, classB, limit}
+use Rattle.model.specs.State.{Port, Settings, Leaving, stays, since, Health, sound, broken, Talker, noTalker, talker, Listener, noListener, listener, Cell, Domain, noDomain, domain, Own, Column, none, advertise, failed, Entry, noEntry, filters, forwards, Declared, nothing, tells, Result, Stream, Totals, Bridge, empty, unsettled, noFixed, noOwn, noPort, ownAt, portAt, isPort, cellAt, resultAt, Class, classA, classB, limit}
 use Rattle.model.specs.Registrations.{Answer, ids}
-use Rattle.model.specs.Settling.{Scene, sceneOf, decideOwn, decideOwns, expired, expireTalker, expireListener, expireCell, expire, held, remain, Source, nowhere, from, source, sourceOf, isSource, fixedOf, healthOf, registered, isReady, Outcome, columnNone, asRegistered, ownFailure, Step, first, brokenColumn, outcomeColumn, stepsFrom, steps, ageOf, claims, limitOn, byBandwidth, columnOf, capped, latencyOut, entryOf, ageKept, latencyKept, decideAt, decide, totalOn, totalsOn, settle, advance}
+use Rattle.model.specs.Settling.{Scene, sceneOf, flagOf, decideOwn, decideOwns, expired, expireDomain, expireTalker, expireListener, expireCell, expire, held, remain, Source, nowhere, from, source, sourceOf, isSource, fixedOf, healthOf, registered, isReady, Outcome, columnNone, asRegistered, ownFailure, Step, first, brokenColumn, outcomeColumn, stepsFrom, steps, ageOf, claims, limitOn, byBandwidth, columnOf, capped, latencyOut, entryOf, ageKept, latencyKept, decideAt, decide, totalOn, totalsOn, settle, advance}
 use Rattle.model.specs.Bandwidth.{sort, total}
 use Rattle.model.specs.Table.{totalsWithin}
 use Rattle.model.proofs.Lists.{all-getD, all-tabulate}
 use Rattle.model.proofs.Admission.{within}
-use Rattle.model.proofs.Valid.{ValidLeaving, ValidFixed, ValidHealth, ValidRegistration, ValidTalker, ValidListener, ValidCell, ValidColumn, ValidAge, ValidResult, ValidStream, Rising, Valid}
+use Rattle.model.proofs.Owns.{no-own-valid}
+use Rattle.model.proofs.Valid.{ValidLeaving, ValidFixed, ValidHealth, ValidRegistration, ValidTalker, ValidListener, ValidCell, ValidDomain, ValidOwn, ValidColumn, ValidAge, ValidResult, ValidStream, Rising, Valid}
 
 -- Lists.
 
@@ -81,9 +82,38 @@ module _ (st : Settings) (clock now : ℕ) (later : clock ≤ now) where
   unfolding expireCell
   cell-remains c v = record { talks = talker-remains (c .talks) (v .talks); hears = listener-remains (c .hears) (v .hears) }
 
+  domain-remains : (d : Domain) → ValidDomain clock (st .leaveTime) d → ValidDomain now (st .leaveTime) (expireDomain st now d)
+  unfolding expireDomain
+  domain-remains noDomain v = tt
+  domain-remains (domain w l) v = go (expired st now l) refl
+    where
+      go : (b : Bool) → expired st now l ≡ b → ValidDomain now (st .leaveTime) (cond b noDomain (domain w l))
+      go true e = tt
+      go false e = (v .0, leaving-remains l e (v .1))
+
   empty-remains : (c : Cell) → c ≡ empty → expireCell st now c ≡ empty
   unfolding expireCell expireTalker expireListener empty
   empty-remains c e = rw e
+
+-- What a port holds by itself.
+module _ (st : Settings) (clock now : ℕ) (later : clock ≤ now) (o : List Own) (v : All (ValidOwn clock (st .leaveTime)) o) where
+  own-valid : (p : ℕ) → ValidOwn now (st .leaveTime) (decideOwn st now o p)
+  unfolding decideOwn
+  own-valid p =
+      let w = all-getD (ValidOwn clock (st .leaveTime)) o v noOwn (no-own-valid clock (st .leaveTime)) p in
+      record {
+        slotted = length-map (ownAt o p .domains) (expireDomain st now) ∙ w .slotted;
+        domains =
+            all-mapped (ValidDomain clock (st .leaveTime)) (ValidDomain now (st .leaveTime)) (expireDomain st now)
+            (domain-remains st clock now later) (ownAt o p .domains) (w .domains);
+      }
+
+  -- a place that is no port holds nothing
+  none-there : All (λ h. h ≡ noOwn) (drop (length (st .ports)) o) → (p : ℕ) → length (st .ports) ≤ p → decideOwn st now o p ≡ noOwn
+  unfolding decideOwn noOwn expireDomain flagOf isPort
+  none-there n p h =
+      let e : ownAt o p ≡ noOwn = getD-past (λ h. h ≡ noOwn) (length (st .ports)) o p noOwn h refl n in
+      rw (e, le-ltb p (length (st .ports)) h)
 
 -- a stream between removal and decision: its registrations stand at the new time, its results still at the old clock
 record Remaining (ports clock now leave : ℕ) (x : Stream) : Type 0 where
@@ -394,15 +424,17 @@ decided-ids sc now s [] = refl
 decided-ids sc now s (x ∷ l) = ap (λ (is : List ℕ). x .id ∷ is) (decided-ids sc now s l)
 
 pub settle-keeps : (b : Bridge) (now : ℕ) → now < 2 ^ 32 → b .clock ≤ now → Valid b → Valid (settle now b)
-unfolding settle
+unfolding settle decideOwns
 settle-keeps b now small later v = record {
   settings = v .settings;
   clock = small;
   eight-totals = length-tabulate 8 0 (totalsOn sc now s);
   totals = settled-totals sc now s;
   eight-own = length-tabulate 8 0 (decideOwn st now (b .own));
-  own = ?;
-  no-other-own = ?;
+  own = all-tabulate (ValidOwn now (st .leaveTime)) 8 0 (decideOwn st now (b .own)) (own-valid st (b .clock) now later (b .own) (v .own));
+  no-other-own =
+      all-drop-tabulate (λ o. o ≡ noOwn) ports 8 0 (decideOwn st now (b .own))
+      (λ p h. none-there st (b .clock) now later (b .own) (v .own) (v .no-other-own) p (omega arith));
   at-most-64 = rw (length-map s (decide sc now s)) (omega (arith, fewer-remain st now (b .streams), v .at-most-64));
   streams =
       all-mapped (Remaining ports (b .clock) now (st .leaveTime)) (ValidStream ports now (st .leaveTime)) (decide sc now s)

@@ -243,7 +243,7 @@ module _ (sc : Scene) (now p : ℕ) (c : Class) (col : Stream → Column) (ok : 
       d = claim (sc .settings) now p x
 
       go : (t b : Bool) → ltb (key d) k ≡ b → spent (sc .settings) now p c col (λ e. ltb (key e) k) s ≡ taken ok (above k (claims sc now p c s)) →
-          spent sc now p c col (λ e. ltb (key e) k) s + cond (b && ((t && ok d) && d .ready)) (d .demand) 0
+          spent (sc .settings) now p c col (λ e. ltb (key e) k) s + cond (b && ((t && ok d) && d .ready)) (d .demand) 0
           ≡ taken ok (above k (keep t d (claims sc now p c s)))
       go true true e h = rw (e, h)
       go true false e h = rw e (omega arith)
@@ -259,7 +259,7 @@ module _ (sc : Scene) (now p : ℕ) (c : Class) (col : Stream → Column) (ok : 
       d = claim (sc .settings) now p x
 
       go : (t : Bool) → spent (sc .settings) now p c col (λ e. true) s ≡ taken ok (claims sc now p c s) →
-          spent sc now p c col (λ e. true) s + cond ((t && ok d) && d .ready) (d .demand) 0 ≡ taken ok (keep t d (claims sc now p c s))
+          spent (sc .settings) now p c col (λ e. true) s + cond ((t && ok d) && d .ready) (d .demand) 0 ≡ taken ok (keep t d (claims sc now p c s))
       go true h = rw h
       go false h = omega arith
 
@@ -523,16 +523,16 @@ module _ (sc : Scene) (now : ℕ) (s : List Stream) where
       decided-ruled x =
           sym (again x)
           ∙ columns-ruled sc now decided p decided-rising decided-small (decide sc now s x)
-          ∙ ruled-same (sc .settings) now p (columnOf sc now decided p) (columnAt p) decided (decide sc now s x) all-again
+          ∙ ruled-same sc now p (columnOf sc now decided p) (columnAt p) decided (decide sc now s x) all-again
 
       decided-total : (c : Class) → totalOn sc now s p c ≡ spent (sc .settings) now p c (columnAt p) (λ e. true) decided
       decided-total c =
-          sym (carried-total (sc .settings) now p here s decided carries shows c)
+          sym (carried-total sc now p here s decided carries shows c)
           ∙ total-ruled sc now decided p decided-rising decided-small c
-          ∙ spent-same (sc .settings) now p (columnOf sc now decided p) (columnAt p) c (λ e. true) decided all-again
+          ∙ spent-same sc now p (columnOf sc now decided p) (columnAt p) c (λ e. true) decided all-again
 
     decided-within : (c : Class) → totalOn sc now s p c ≤ limitOn sc now decided p c
-    decided-within c = rw (← carried-total (sc .settings) now p here s decided carries shows c) (total-within sc now decided p c)
+    decided-within c = rw (← carried-total sc now p here s decided carries shows c) (total-within sc now decided p c)
 
     decided-latency : (x : Stream) →
         resultAt (decide sc now s x) p .latency ≡ latencyKept (columnAt p (decide sc now s x)) (latencyOut (sc .settings) p (decide sc now s x))

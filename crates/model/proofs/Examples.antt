@@ -15,7 +15,7 @@ use Rattle.model.specs.State.{Port, Settings, Fixed, ready, askingFailed
 use Rattle.model.specs.State
 use Rattle.model.specs.Registrations.{Kind, advertises, faileds, listeners, Reading, refused, acts, Answer}
 use Rattle.model.specs.Registrations
-use Rattle.model.specs.Frames.{Event, new, joinIn, isIn, joinMt, mt, lv}
+use Rattle.model.specs.Frames.{Attribute, registers, domain, Event, new, joinIn, isIn, joinMt, mt, lv}
 use Rattle.model.specs.Frames
 use Rattle.model.specs.Bandwidth
 use Rattle.model.specs.Settling
@@ -29,23 +29,23 @@ use Rattle.model.specs.Calls
 -- To unfold one of these is to unfold what its line names; to unfold the last is to unfold all definitions of the bridge.
 
 stateOpened : Unit {0}
-unfolding Lists.tabulate Lists.bit State.empty State.unsettled State.noFixed State.noTotals State.blank State.fresh State.started State.noPort State.portAt State.isPort State.cellAt State.resultAt State.classOf State.isNoClass State.sameClass State.supports State.limit State.classLatency
+unfolding Lists.tabulate Lists.bit State.empty State.unsettled State.noFixed State.noTotals State.noOwn State.blank State.fresh State.started State.noPort State.portAt State.isPort State.cellAt State.resultAt State.classOf State.isNoClass State.sameClass State.supports State.limit State.classLatency State.classPriority State.classId
 stateOpened = tt
 
 framesOpened : Unit {0}
-unfolding Be.beAt Be.be Fields.fields Fields.flat Parts.part Frames.typeOctet Frames.firstWidths Frames.firstLength Frames.threeLength Frames.hasFour Frames.fourLength Frames.vectorAt Frames.vectorEnd Frames.overpacked Frames.runsPast Frames.overflows Frames.vectorIn Frames.checkedIn Frames.typedIn Frames.listLength Frames.listAt Frames.messageEnd Frames.endMark Frames.headerIn Frames.messageIn Frames.also Frames.both Frames.vectorsFrom Frames.vectors Frames.messagesFrom Frames.messages Frames.walk Frames.event Frames.threePacked Frames.fourPacked Frames.eventOf Frames.fourOf Frames.asking Frames.priorityOf Frames.rankOf Frames.fixedValue Frames.healthValue Frames.idValue Frames.hearing Frames.talkerAct Frames.listenerAct Frames.valueActs Frames.valuesActs Frames.leaveAllActs Frames.vectorActs Frames.frameActs Frames.walked Frames.wrongPort Frames.reading
+unfolding Be.beAt Be.be Fields.fields Fields.flat Parts.part Frames.typeOctet Frames.firstWidths Frames.firstLength Frames.threeLength Frames.hasFour Frames.fourLength Frames.vectorAt Frames.vectorEnd Frames.overpacked Frames.runsPast Frames.overflows Frames.vectorIn Frames.checkedIn Frames.typedIn Frames.listLength Frames.listAt Frames.messageEnd Frames.endMark Frames.headerIn Frames.messageIn Frames.also Frames.both Frames.vectorsFrom Frames.vectors Frames.messagesFrom Frames.messages Frames.walk Frames.event Frames.threePacked Frames.fourPacked Frames.eventOf Frames.fourOf Frames.asking Frames.priorityOf Frames.rankOf Frames.fixedValue Frames.healthValue Frames.idValue Frames.hearing Frames.talkerAct Frames.listenerAct Frames.hasSlot Frames.slotOf Frames.slotAct Frames.domainAct Frames.valueActs Frames.valuesActs Frames.leaveAllActs Frames.vectorActs Frames.frameActs Frames.walked Frames.wrongPort Frames.reading
 framesOpened = tt
 
 registrationsOpened : Unit {0}
-unfolding Registrations.begin Registrations.talksAs Registrations.hearsAs Registrations.withLeaving Registrations.quitTalker Registrations.quitListener Registrations.quit Registrations.sameFixed Registrations.firstJoin Registrations.sameJoin Registrations.otherJoin Registrations.joinTalker Registrations.does Registrations.at Registrations.change Registrations.begun Registrations.touch Registrations.reach Registrations.apply Registrations.applyAll Registrations.holding Registrations.received Registrations.joins Registrations.asks
+unfolding Registrations.begin Registrations.talksAs Registrations.hearsAs Registrations.withLeaving Registrations.quitTalker Registrations.quitListener Registrations.quit Registrations.sameFixed Registrations.firstJoin Registrations.sameJoin Registrations.otherJoin Registrations.joinTalker Registrations.does Registrations.at Registrations.change Registrations.begun Registrations.touch Registrations.reach Registrations.apply Registrations.applyAll Registrations.quitDomain Registrations.doesDomain Registrations.changeDomains Registrations.applyOwn Registrations.applyOwns Registrations.holding Registrations.owning Registrations.received Registrations.joins Registrations.asks
 registrationsOpened = tt
 
 settlingOpened : Unit {0}
-unfolding Bandwidth.demand Bandwidth.rate Bandwidth.rateOfA Bandwidth.rateOfB Bandwidth.rateOf Bandwidth.key Bandwidth.above Bandwidth.insert Bandwidth.sort Bandwidth.share Bandwidth.reserved Bandwidth.remains Bandwidth.admitted Bandwidth.total Settling.expired Settling.expireTalker Settling.expireListener Settling.expireCell Settling.expire Settling.isTalking Settling.isHearing Settling.held Settling.remain Settling.source Settling.sourceOf Settling.isSource Settling.fixedOf Settling.latencyOf Settling.healthOf Settling.streamClass Settling.registered Settling.isReady Settling.first Settling.clear Settling.isBroken Settling.brokenColumn Settling.outcomeColumn Settling.stepsFrom Settling.steps Settling.ageOf Settling.claim Settling.claims Settling.limitOn Settling.leftFor Settling.byBandwidth Settling.columnOf Settling.capped Settling.latencyOut Settling.entryOf Settling.ageKept Settling.latencyKept Settling.passed Settling.sameReady Settling.merge Settling.mergeAll Settling.merged Settling.decideAt Settling.decide Settling.totalOn Settling.totalsOn Settling.settle Settling.advance
+unfolding Bandwidth.demand Bandwidth.rate Bandwidth.rateOfA Bandwidth.rateOfB Bandwidth.rateOf Bandwidth.key Bandwidth.above Bandwidth.insert Bandwidth.sort Bandwidth.share Bandwidth.reserved Bandwidth.remains Bandwidth.admitted Bandwidth.total Settling.expired Settling.expireTalker Settling.expireListener Settling.expireCell Settling.expire Settling.isTalking Settling.isHearing Settling.held Settling.remain Settling.source Settling.sourceOf Settling.isSource Settling.fixedOf Settling.latencyOf Settling.healthOf Settling.streamClass Settling.registered Settling.isReady Settling.expireDomain Settling.isDomain Settling.anyDomain Settling.otherPriority Settling.domainsOf Settling.anySupports Settling.isEdge Settling.flagOf Settling.decideOwn Settling.decideOwns Settling.boundary Settling.first Settling.clear Settling.isBroken Settling.brokenColumn Settling.outcomeColumn Settling.stepsFrom Settling.steps Settling.ageOf Settling.claim Settling.claims Settling.limitOn Settling.leftFor Settling.byBandwidth Settling.columnOf Settling.capped Settling.latencyOut Settling.entryOf Settling.ageKept Settling.latencyKept Settling.passed Settling.sameReady Settling.merge Settling.mergeAll Settling.merged Settling.decideAt Settling.decide Settling.totalOn Settling.totalsOn Settling.settle Settling.advance
 settlingOpened = tt
 
 answersOpened : Unit {0}
-unfolding Reports.refusedReport Reports.wordOf Reports.codeOf Reports.report WrittenFrames.typeNumber WrittenFrames.messageOf WrittenFrames.readyNumber WrittenFrames.fixedNumbers WrittenFrames.priorityOctet Table.columnNumber Table.columnCode Table.entryNumber Table.declaredNumber Table.leavingNumber Table.sinceNumber Table.healthNumber Table.bridgeNumber Table.codeNumber Table.talkerNumbers Table.listenerNumbers Table.cellNumbers Calls.receive
+unfolding Reports.refusedReport Reports.wordOf Reports.codeOf Reports.report Frames.typeNumber WrittenFrames.messageOf WrittenFrames.readyNumber WrittenFrames.fixedNumbers WrittenFrames.priorityOctet Table.columnNumber Table.columnCode Table.entryNumber Table.declaredNumber Table.leavingNumber Table.sinceNumber Table.healthNumber Table.bridgeNumber Table.codeNumber Table.talkerNumbers Table.listenerNumbers Table.cellNumbers Calls.receive
 answersOpened = tt
 
 opened : Unit {0}
@@ -61,7 +61,7 @@ abbrev pub Holds : Example → Type 0
 Holds e = e .computed ≡ e .printed
 
 -- The bridge of the worked example: "Two ports, both classes, overhead 42, largest 1522, limits 75000000 and 0, latency 0,
--- priorities 3 and 2, leave time 60"; with another limit for class A where an example asks for one.
+-- priorities 3 and 2, leave time 60", VLAN 2; with another limit for class A where an example asks for one.
 
 port : ℕ → Port
 port limit = record {
@@ -77,7 +77,7 @@ port limit = record {
 }
 
 settings : ℕ → Settings
-settings limit = record { bridgeId = 7; priorityA = 3; priorityB = 2; leaveTime = 60; ports = port limit ∷ port limit ∷ [] }
+settings limit = record { bridgeId = 7; priorityA = 3; priorityB = 2; leaveTime = 60; vlan = 2; ports = port limit ∷ port limit ∷ [] }
 
 -- what is handed over: a PDU on a port, or a time
 data Handed : Type 0 where
@@ -93,14 +93,24 @@ from b [] = b
 from b (pdu p s ∷ l) = from (accepted (Calls.receive b p s)) l
 from b (time now ∷ l) = from (accepted (Settling.advance b now)) l
 
--- the bridge with this limit, after what is handed over
-bridge : ℕ → List Handed → Bridge
-bridge limit l = from (State.started (settings limit)) l
-
 -- PDUs of one Message.
 
+messageOf : Attribute → List ℕ → List ℕ
+messageOf k vectors = 0 ∷ (WrittenFrames.messageOf k (vectors ++ (0 ∷ 0 ∷ [])) ++ (0 ∷ 0 ∷ []))
+
 message : Kind → List ℕ → List ℕ
-message k vectors = 0 ∷ (WrittenFrames.messageOf k (vectors ++ (0 ∷ 0 ∷ [])) ++ (0 ∷ 0 ∷ []))
+message k vectors = messageOf (registers k) vectors
+
+-- n Domain values from a class ID and a priority on, of VLAN 2, with their events; "matching Domain joins": {5, 2} and {6, 3}
+domainsOf : ℕ → ℕ → ℕ → List ℕ → List ℕ
+domainsOf classId priority n three = messageOf domain (Be.be 2 n ++ (classId ∷ priority ∷ 0 ∷ 2 ∷ three))
+
+matching : List ℕ
+matching = domainsOf 5 2 2 (126 ∷ [])
+
+-- the bridge with this limit, after matching Domain joins on each port and what is handed over
+bridge : ℕ → List Handed → Bridge
+bridge limit l = from (State.started (settings limit)) (pdu 1 matching ∷ pdu 2 matching ∷ l)
 
 -- FirstValues like those of the worked example: a StreamID by its Unique ID; MaxFrameSize, one frame per interval, and the
 -- octet of priority and rank
@@ -279,7 +289,7 @@ examples =
 
 -- to unfold this is to unfold the examples' own definitions
 shown : Unit {0}
-unfolding opened port settings accepted from bridge message streamId talkerFirst rank1 rank0 advertisesOf failedOf listenerVector listenersOf talks hears columns reserves count talker listener read eventNumber events wordNumber reported size224 one four withFifth settledTalker lvPdu leaver workedTalker workedListener worked
+unfolding opened port settings accepted from messageOf message domainsOf matching bridge streamId talkerFirst rank1 rank0 advertisesOf failedOf listenerVector listenersOf talks hears columns reserves count talker listener read eventNumber events wordNumber reported size224 one four withFifth settledTalker lvPdu leaver workedTalker workedListener worked
 shown = tt
 
 pub marked-examples : All Holds examples

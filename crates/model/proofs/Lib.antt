@@ -4,6 +4,8 @@ pub mod Parts
 pub mod Cells
 pub mod Results
 pub mod SettingsOctets
+pub mod Coded
+pub mod Owns
 pub mod Tables
 pub mod Fits
 pub mod Arrivals

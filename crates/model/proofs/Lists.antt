@@ -6,7 +6,7 @@ use Prim.Native.Nat.{ℕ, zero, suc, _<_}
 use native.Mathlib.Omega.{arith}
 use lib.ListN.{length, getD, set, take, drop, replicate}
 use borrow.Author.Tests.{eq-eqb, ne-eqb}
-use Rattle.model.specs.Lists.{All, allTrue, implies, tabulate, on}
+use Rattle.model.specs.Lists.{All, allTrue, implies, keep, tabulate, on}
 use Rattle.model.specs.Registrations.{at}
 
 -- All.
@@ -42,6 +42,10 @@ module _ {A : Type 0} (P : A → Type 0) where
   all-drop zero l a = a
   all-drop (suc n) [] a = tt
   all-drop (suc n) (x ∷ l) a = all-drop n l (a .1)
+
+  pub all-keep : (t : Bool) (x : A) (l : List A) → P x → All P l → All P (keep t x l)
+  all-keep true x l h a = (h, a)
+  all-keep false x l h a = a
 
   pub all-replicate : (n : ℕ) (x : A) → P x → All P (replicate n x)
   all-replicate zero x h = tt

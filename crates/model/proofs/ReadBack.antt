@@ -19,13 +19,13 @@ use Rattle.model.specs.Lists.{All, keep, Octets, bit}
 use Rattle.model.specs.State.{Settings, Fixed, Health, sound, broken, Ready, askingFailed, ready, readyFailed, Column, none, advertise, failed, Entry, noEntry, filters, forwards, Declared, nothing, tells, Result, Stream, Bridge, resultAt, unsettled}
 use Rattle.model.specs.Registrations.{Kind, advertises, faileds, listeners, talk, listen, acts}
 use Rattle.model.specs.Frames.{Attribute, registers, known, typeOctet, firstWidths, firstLength, threeLength, hasFour, fourLength, Vector, vectorAt, vectorEnd, overpacked, runsPast, overflows, vectorIn, checkedIn, typedIn, listLength, listAt, messageEnd, endMark, headerIn, messageIn, found, also, both, vectorsFrom, vectors, messagesFrom, messages, walk, joinMt, event, threePacked, fourPacked, eventOf, fourOf, asking, join, priorityOf, rankOf, fixedValue, healthValue, idValue, hearing, talkerAct, listenerAct, valueActs, valuesActs, leaveAllActs, vectorActs, frameActs, walked, wrongPort, reading}
-use Rattle.model.specs.Declarations.{Declaration, talkerDeclaration, listenerDeclaration, healthKind, kindOf, joinOf, advertised, failing, listening, declarationsOf, ofKind, declarations, vectorSize, sameKind, takes, write}
+use Rattle.model.specs.Declarations.{Declaration, talkerDeclaration, listenerDeclaration, healthKind, attributeOf, joinOf, advertised, failing, listening, declarationsOf, ofKind, declarations, vectorSize, sameAttribute, takes, write}
 use Rattle.model.specs.WrittenFrames.{priorityOctet, fixedNumbers, failureNumbers, firstNumbers, readyNumber, fourOctets, declarationVector, vectorOctets, typeNumber, messageOf, messageOctets, having, pduOctets}
 use Rattle.model.proofs.Lists.{all-map, all-append, all-take, all-drop, all-getD}
 use Rattle.model.proofs.Parts.{octets-append, octets-number, octets-packed}
 use Rattle.model.proofs.Valid.{Valid, ValidFixed, ValidHealth, ValidVarying, ValidColumn, ValidResult, ValidStream}
 use Rattle.model.proofs.AdvanceKeepsForm.{unsettled-valid}
-use Rattle.model.proofs.WritingPasses.{length-first, length-vector, NotBefore, OfKind, InOrder, all-of-kind, having-kind, having-none, declared, write-above, write-from, run-in-order, run-fits, writeAll, all-runs}
+use Rattle.model.proofs.WritingPasses.{length-first, length-vector, NotBefore, OfAttribute, InOrder, all-of-kind, having-attribute, having-none, declared, write-above, write-from, run-in-order, run-fits, writeAll, all-runs}
 
 -- Octets behind a prefix.
 
@@ -48,8 +48,8 @@ vector-octets : (d : Declaration) → vectorOctets (declarationVector d) ≡ 0 �
 unfolding vectorOctets declarationVector bit be
 vector-octets d = refl
 
-length-four : (d : Declaration) → length (fourOctets d) ≡ fourLength (hasFour (registers (kindOf d))) 1
-unfolding fourOctets kindOf healthKind fourLength hasFour
+length-four : (d : Declaration) → length (fourOctets d) ≡ fourLength (hasFour (attributeOf d)) 1
+unfolding fourOctets attributeOf healthKind fourLength hasFour
 length-four (talkerDeclaration id f v) = go (v .health)
   where
     go : (h : Health) → 0 ≡ fourLength (hasFour (registers (healthKind h))) 1
@@ -58,7 +58,7 @@ length-four (talkerDeclaration id f v) = go (v .health)
 length-four (listenerDeclaration id r) = refl
 
 -- one value adds nothing to the numbers of FirstValue, which are octets
-no-run-past : (k : Kind) (s : List ℕ) → ((i : ℕ) → getD s i 0 < 256) → runsPast (registers k) s 0 ≡ false
+no-run-past : (k : Attribute) (s : List ℕ) → ((i : ℕ) → getD s i 0 < 256) → runsPast k s 0 ≡ false
 unfolding runsPast
 no-run-past k s h = go k
   where
@@ -76,8 +76,8 @@ no-run-past k s h = go k
 no-overflow : (d : Declaration) → overflows (declarationVector d) ≡ false
 unfolding overflows declarationVector
 no-overflow d =
-    let ws : List ℕ = firstWidths (registers (kindOf d)) in
-    no-run-past (kindOf d) (packed ws (firstNumbers d)) (packed-octets ws (firstNumbers d))
+    let ws : List ℕ = firstWidths (attributeOf d) in
+    no-run-past (attributeOf d) (packed ws (firstNumbers d)) (packed-octets ws (firstNumbers d))
 
 -- a vector of one value that has no fault is found, and the walk goes on behind it
 vectors-more : (f : ℕ) (k : Attribute) (l : List ℕ) (at : ℕ) (v : Vector)
@@ -103,34 +103,34 @@ module _ (d : Declaration) (pre rest : List ℕ) where
   first : List ℕ
   first = declarationVector d .first
 
-  first-here : part (length pre + 2) (firstLength (registers (kindOf d))) here ≡ first
+  first-here : part (length pre + 2) (firstLength (attributeOf d)) here ≡ first
   unfolding first
   first-here =
-      piece-here (0 ∷ 1 ∷ []) first (108 ∷ (fourOctets d ++ rest)) (length pre + 2) (firstLength (registers (kindOf d)))
+      piece-here (0 ∷ 1 ∷ []) first (108 ∷ (fourOctets d ++ rest)) (length pre + 2) (firstLength (attributeOf d))
       (rw (vector-octets d) (simp append-assoc)) refl (sym (length-first d))
 
-  three-here : part (length pre + 2 + firstLength (registers (kindOf d))) 1 here ≡ 108 ∷ []
+  three-here : part (length pre + 2 + firstLength (attributeOf d)) 1 here ≡ 108 ∷ []
   unfolding first
   three-here =
-      piece-here (0 ∷ 1 ∷ first) (108 ∷ []) (fourOctets d ++ rest) (length pre + 2 + firstLength (registers (kindOf d))) 1
+      piece-here (0 ∷ 1 ∷ first) (108 ∷ []) (fourOctets d ++ rest) (length pre + 2 + firstLength (attributeOf d)) 1
       (rw (vector-octets d) (simp append-assoc)) (rw (length-first d) (omega arith)) refl
 
-  four-here : part (length pre + 2 + firstLength (registers (kindOf d)) + 1) (fourLength (hasFour (registers (kindOf d))) 1) here ≡ fourOctets d
+  four-here : part (length pre + 2 + firstLength (attributeOf d) + 1) (fourLength (hasFour (attributeOf d)) 1) here ≡ fourOctets d
   unfolding first
   four-here =
-      piece-here (0 ∷ 1 ∷ (first ++ (108 ∷ []))) (fourOctets d) rest (length pre + 2 + firstLength (registers (kindOf d)) + 1)
-      (fourLength (hasFour (registers (kindOf d))) 1)
+      piece-here (0 ∷ 1 ∷ (first ++ (108 ∷ []))) (fourOctets d) rest (length pre + 2 + firstLength (attributeOf d) + 1)
+      (fourLength (hasFour (attributeOf d)) 1)
       (rw (vector-octets d) (simp append-assoc)) (simp (length-append, length-first d) (omega arith)) (sym (length-four d))
 
-  vector-here : vectorAt (registers (kindOf d)) here (length pre) 1 ≡ declarationVector d
+  vector-here : vectorAt (attributeOf d) here (length pre) 1 ≡ declarationVector d
   unfolding vectorAt threeLength
   vector-here = rw (first-here, three-here, four-here) (unfold first declarationVector in refl)
 
-  end-here : vectorEnd (firstLength (registers (kindOf d))) (hasFour (registers (kindOf d))) (length pre) 1 ≡ length pre + vectorSize (kindOf d)
+  end-here : vectorEnd (firstLength (attributeOf d)) (hasFour (attributeOf d)) (length pre) 1 ≡ length pre + vectorSize (attributeOf d)
   unfolding vectorEnd threeLength firstLength fourLength hasFour vectorSize
-  end-here = go (kindOf d)
+  end-here = go (attributeOf d)
     where
-      go : (k : Kind) → length pre + 2 + firstLength (registers k) + 1 + fourLength (hasFour (registers k)) 1 ≡ length pre + vectorSize k
+      go : (k : Attribute) → length pre + 2 + firstLength k + 1 + fourLength (hasFour k) 1 ≡ length pre + vectorSize k
       go advertises = omega arith
       go faileds = omega arith
       go listeners = omega arith
@@ -139,20 +139,20 @@ module _ (d : Declaration) (pre rest : List ℕ) where
   unfolding here
   header-here = beAt-here 2 pre (vectorOctets (declarationVector d) ++ rest) ∙ rw (vector-octets d) (unfold beAt in refl)
 
-  length-here : length here ≡ length pre + (vectorSize (kindOf d) + length rest)
+  length-here : length here ≡ length pre + (vectorSize (attributeOf d) + length rest)
   unfolding here
   length-here = simp (length-append, length-vector d)
 
-  read-vector : (f : ℕ) → vectors (suc f) (registers (kindOf d)) here (length pre)
-      ≡ also (declarationVector d) (vectors f (registers (kindOf d)) here (length pre + vectorSize (kindOf d)))
+  read-vector : (f : ℕ) → vectors (suc f) (attributeOf d) here (length pre)
+      ≡ also (declarationVector d) (vectors f (attributeOf d) here (length pre + vectorSize (attributeOf d)))
   read-vector f =
-      vectors-more f (registers (kindOf d)) here (length pre) (declarationVector d) header-here
+      vectors-more f (attributeOf d) here (length pre) (declarationVector d) header-here
       (omega (arith, length-here, length-vector d, ap length (vector-octets d)))
       (omega (arith, length-here, end-here))
       vector-here
       (unfold declarationVector overpacked in refl)
       (no-overflow d)
-      ∙ ap (λ (e : ℕ). also (declarationVector d) (vectors f (registers (kindOf d)) here e)) end-here
+      ∙ ap (λ (e : ℕ). also (declarationVector d) (vectors f (attributeOf d) here e)) end-here
 
 -- An AttributeList.
 
@@ -170,13 +170,13 @@ vectors-end k (suc f) pre h =
     rw (e, l, le-ltb (length pre + 2) (length pre + 2) (omega arith), l, eq-eqb (length pre + 2) (length pre + 2) refl)
 
 -- one vector more, in front
-vectors-cons : (d : Declaration) (n : ℕ) (rest : List ℕ) (vs : List Vector) → VectorsRead n (registers (kindOf d)) rest vs
-    → VectorsRead (suc n) (registers (kindOf d)) (vectorOctets (declarationVector d) ++ rest) (declarationVector d ∷ vs)
+vectors-cons : (d : Declaration) (n : ℕ) (rest : List ℕ) (vs : List Vector) → VectorsRead n (attributeOf d) rest vs
+    → VectorsRead (suc n) (attributeOf d) (vectorOctets (declarationVector d) ++ rest) (declarationVector d ∷ vs)
 unfolding VectorsRead here also
 vectors-cons d n rest vs r zero pre h = absurd (omega arith)
 vectors-cons d n rest vs r (suc f) pre h =
     let v : List ℕ = vectorOctets (declarationVector d) in
-    let e : length pre + vectorSize (kindOf d) ≡ length (pre ++ v) = simp (length-append, length-vector d) in
+    let e : length pre + vectorSize (attributeOf d) ≡ length (pre ++ v) = simp (length-append, length-vector d) in
     read-vector d pre rest f ∙ rw (e, ← append-assoc pre v rest, r f (pre ++ v) (omega arith))
 
 listOctets : List Declaration → List ℕ
@@ -186,8 +186,8 @@ list-cons : (d : Declaration) (l : List Declaration) → listOctets (d ∷ l) �
 unfolding listOctets flat
 list-cons d l = append-assoc (vectorOctets (declarationVector d)) (flat (λ e. vectorOctets (declarationVector e)) l) (0 ∷ 0 ∷ [])
 
-vectors-read : (k : Kind) (l : List Declaration) → All (OfKind k) l → VectorsRead (suc (length l)) (registers k) (listOctets l) (map declarationVector l)
-vectors-read k [] a = unfold listOctets flat in (vectors-end (registers k))
+vectors-read : (k : Attribute) (l : List Declaration) → All (OfAttribute k) l → VectorsRead (suc (length l)) k (listOctets l) (map declarationVector l)
+vectors-read k [] a = unfold listOctets flat in (vectors-end (k))
 vectors-read k (d ∷ l) a =
     rw (list-cons d l, ← (a .0))
     (vectors-cons d (suc (length l)) (listOctets l) (map declarationVector l) (rw (a .0) (vectors-read k l (a .1))))
@@ -206,13 +206,13 @@ messages-end (suc f) pre h =
     let e : beAt 2 (pre ++ (0 ∷ 0 ∷ [])) (length pre) ≡ 0 = beAt-here 2 pre (0 ∷ 0 ∷ []) ∙ (unfold beAt in refl) in
     rw (e, l, ne-eqb (length pre) (length pre + 2) (λ q. omega arith), le-leb (length pre + 2) (length pre + 2) (omega arith))
 
-known-type : (k : Kind) → typeOctet 0 (typeNumber k) ≡ known (registers k)
+known-type : (k : Attribute) → typeOctet 0 (typeNumber k) ≡ known k
 unfolding typeOctet typeNumber
 known-type advertises = refl
 known-type faileds = refl
 known-type listeners = refl
 
-some-type : (k : Kind) → 1 ≤ typeNumber k
+some-type : (k : Attribute) → 1 ≤ typeNumber k
 unfolding typeNumber
 some-type advertises = omega arith
 some-type faileds = omega arith
@@ -244,14 +244,14 @@ two-octets : (n : ℕ) (y : List ℕ) → n < 65536 → beAt 2 (be 2 n ++ y) 0 �
 unfolding beAt be
 two-octets n y h = omega arith
 
-module _ (k : Kind) (list pre rest : List ℕ) (short : length list < 65536) where
+module _ (k : Attribute) (list pre rest : List ℕ) (short : length list < 65536) where
   -- the PDU that has the Message at the place
   pdu : List ℕ
   pdu = pre ++ (messageOf k list ++ rest)
 
   -- behind the prefix: the Message's type, the length of FirstValue, and from there on
   lead : List ℕ
-  lead = typeNumber k ∷ firstLength (registers k) ∷ []
+  lead = typeNumber k ∷ firstLength k ∷ []
 
   tail : List ℕ
   tail = be 2 (length list) ++ (list ++ rest)
@@ -266,9 +266,9 @@ module _ (k : Kind) (list pre rest : List ℕ) (short : length list < 65536) whe
 
   type-here : getD pdu (length pre) 0 ≡ typeNumber k
   unfolding pdu lead
-  type-here = rw message-here (getD-append-seam pre (typeNumber k) (firstLength (registers k) ∷ tail) 0)
+  type-here = rw message-here (getD-append-seam pre (typeNumber k) (firstLength k ∷ tail) 0)
 
-  first-length-here : getD pdu (length pre + 1) 0 ≡ firstLength (registers k)
+  first-length-here : getD pdu (length pre + 1) 0 ≡ firstLength k
   unfolding pdu lead
   first-length-here = rw message-here (getD-append-add pre (lead ++ tail) 1 0)
 
@@ -291,19 +291,19 @@ module _ (k : Kind) (list pre rest : List ℕ) (short : length list < 65536) whe
       rw (message-here, cut)
       (part-behind (pre ++ (lead ++ be 2 (length list))) list rest (length pre + 4) (length list) (simp (length-append, length-be)) refl)
 
-  read-message : (f : ℕ) (vs : List Vector) → vectors (suc (length list)) (registers k) list 0 ≡ found vs
+  read-message : (f : ℕ) (vs : List Vector) → vectors (suc (length list)) k list 0 ≡ found vs
       → messages (suc f) 0 pdu (length pre) ≡ both (found vs) (messages f 0 pdu (length pre + 4 + length list))
   read-message f vs read =
-      messages-more f (registers k) pdu (length pre) (length list) list vs
+      messages-more f k pdu (length pre) (length list) list vs
       (omega (arith, length-here-message)) no-end-here (rw type-here (known-type k)) first-length-here long-here list-here read
 
-length-messageOf : (k : Kind) (list : List ℕ) → length (messageOf k list) ≡ 4 + length list
+length-messageOf : (k : Attribute) (list : List ℕ) → length (messageOf k list) ≡ 4 + length list
 unfolding messageOf
 length-messageOf k list = simp (length-append, length-be) (omega arith)
 
 -- one Message more, in front
-messages-cons : (k : Kind) (list : List ℕ) (n : ℕ) (rest : List ℕ) (vs ws : List Vector) → length list < 65536
-    → vectors (suc (length list)) (registers k) list 0 ≡ found vs → MessagesRead n rest ws → MessagesRead (suc n) (messageOf k list ++ rest) (vs ++ ws)
+messages-cons : (k : Attribute) (list : List ℕ) (n : ℕ) (rest : List ℕ) (vs ws : List Vector) → length list < 65536
+    → vectors (suc (length list)) k list 0 ≡ found vs → MessagesRead n rest ws → MessagesRead (suc n) (messageOf k list ++ rest) (vs ++ ws)
 unfolding MessagesRead pdu both
 messages-cons k list n rest vs ws short read r zero pre h = absurd (omega arith)
 messages-cons k list n rest vs ws short read r (suc f) pre h =
@@ -317,7 +317,7 @@ list-longer [] = unfold listOctets flat in (omega arith)
 list-longer (d ∷ l) = rw (list-cons d l, vector-octets d) (simp length-append (omega (arith, list-longer l)))
 
 -- the Message of the declarations of a type, where there are any
-messages-read : (k : Kind) (l : List Declaration) (n : ℕ) (rest : List ℕ) (ws : List Vector) → All (OfKind k) l
+messages-read : (k : Attribute) (l : List Declaration) (n : ℕ) (rest : List ℕ) (ws : List Vector) → All (OfAttribute k) l
     → length (messageOctets k l) < 65536 → MessagesRead n rest ws → MessagesRead (suc n) (messageOctets k l ++ rest) (map declarationVector l ++ ws)
 unfolding messageOctets MessagesRead listOctets VectorsRead
 messages-read k [] n rest ws a short r = λ f pre h. r f pre (omega arith)
@@ -331,9 +331,9 @@ messages-read k (d ∷ l) n rest ws a short r =
 
 -- in the order of types, the declarations are those of each type in turn
 having-each : (l : List Declaration) → InOrder l → having advertises l ++ (having faileds l ++ having listeners l) ≡ l
-unfolding having sameKind typeNumber
+unfolding having sameAttribute typeNumber
 having-each [] o = refl
-having-each (d ∷ l) o = go (kindOf d) (o .0) (having-each l (o .1))
+having-each (d ∷ l) o = go (attributeOf d) (o .0) (having-each l (o .1))
   where
     a : List Declaration
     a = having advertises l
@@ -346,10 +346,10 @@ having-each (d ∷ l) o = go (kindOf d) (o .0) (having-each l (o .1))
 
     -- no declaration of type j stands behind one of a later type
     gone : (j k : Kind) → typeNumber j < typeNumber k → All (NotBefore k) l → having j l ≡ []
-    gone j k h b = having-none j l (all-map (NotBefore k) (λ e. typeNumber j < typeNumber (kindOf e)) (λ e q. omega arith) l b)
+    gone j k h b = having-none j l (all-map (NotBefore k) (λ e. typeNumber j < typeNumber (attributeOf e)) (λ e q. omega arith) l b)
 
-    go : (k : Kind) → All (NotBefore k) l → a ++ (f ++ n) ≡ l
-        → keep (sameKind k advertises) d a ++ (keep (sameKind k faileds) d f ++ keep (sameKind k listeners) d n) ≡ d ∷ l
+    go : (k : Attribute) → All (NotBefore k) l → a ++ (f ++ n) ≡ l
+        → keep (sameAttribute k advertises) d a ++ (keep (sameAttribute k faileds) d f ++ keep (sameAttribute k listeners) d n) ≡ d ∷ l
     go advertises b ih = ap (λ (r : List Declaration). d ∷ r) ih
     go faileds b ih =
         let e : having advertises l ≡ [] = gone advertises faileds (omega arith) b in
@@ -390,9 +390,9 @@ walk-written l o h =
     read : MessagesRead 4 (messageOctets advertises a ++ (messageOctets faileds f ++ (messageOctets listeners n ++ (0 ∷ 0 ∷ []))))
         (map declarationVector a ++ (map declarationVector f ++ (map declarationVector n ++ [])))
     read =
-        messages-read advertises a 3 _ _ (having-kind advertises l) (omega (arith, long))
-        (messages-read faileds f 2 _ _ (having-kind faileds l) (omega (arith, long))
-        (messages-read listeners n 1 _ _ (having-kind listeners l) (omega (arith, long)) messages-end))
+        messages-read advertises a 3 _ _ (having-attribute advertises l) (omega (arith, long))
+        (messages-read faileds f 2 _ _ (having-attribute faileds l) (omega (arith, long))
+        (messages-read listeners n 1 _ _ (having-attribute listeners l) (omega (arith, long)) messages-end))
 
 -- what write puts into a PDU is found there again
 pub read-back : (b : Bridge) (p place : ℕ) → walk (pduOctets (write b p place .run)) ≡ found (map declarationVector (write b p place .run))
@@ -413,19 +413,19 @@ octets-vector d =
     (omega arith, (omega arith, octets-append (declarationVector d .first) (108 ∷ fourOctets d) first (omega arith, octets-four d)))
   where
     first : Octets (declarationVector d .first)
-    first = unfold declarationVector in (octets-packed (firstWidths (registers (kindOf d))) (firstNumbers d))
+    first = unfold declarationVector in (octets-packed (firstWidths (attributeOf d)) (firstNumbers d))
 
 octets-list : (l : List Declaration) → Octets (listOctets l)
 octets-list [] = unfold listOctets flat in (omega arith, (omega arith, tt))
 octets-list (d ∷ l) = rw (list-cons d l) (octets-append (vectorOctets (declarationVector d)) (listOctets l) (octets-vector d) (octets-list l))
 
-octets-lead : (k : Kind) → (typeNumber k < 256) × (firstLength (registers k) < 256)
+octets-lead : (k : Attribute) → (typeNumber k < 256) × (firstLength k < 256)
 unfolding typeNumber firstLength
 octets-lead advertises = (omega arith, omega arith)
 octets-lead faileds = (omega arith, omega arith)
 octets-lead listeners = (omega arith, omega arith)
 
-octets-message : (k : Kind) (l : List Declaration) → Octets (messageOctets k l)
+octets-message : (k : Attribute) (l : List Declaration) → Octets (messageOctets k l)
 unfolding messageOctets messageOf listOctets
 octets-message k [] = tt
 octets-message k (d ∷ l) =
@@ -436,7 +436,7 @@ pub octets-written : (l : List Declaration) → Octets (pduOctets l)
 unfolding pduOctets
 octets-written l = (omega arith, before advertises _ (before faileds _ (before listeners (0 ∷ 0 ∷ []) (omega arith, (omega arith, tt)))))
   where
-    before : (k : Kind) (s : List ℕ) → Octets s → Octets (messageOctets k (having k l) ++ s)
+    before : (k : Attribute) (s : List ℕ) → Octets s → Octets (messageOctets k (having k l) ++ s)
     before k s o = octets-append (messageOctets k (having k l)) s (octets-message k (having k l)) o
 
 -- What the vectors ask for.
@@ -451,8 +451,8 @@ abbrev pub ValidDeclaration : Declaration → Type 0
 ValidDeclaration (talkerDeclaration id f v) = (id < 2 ^ 64) × ValidFixed f × ValidVarying v
 ValidDeclaration (listenerDeclaration id r) = id < 2 ^ 64
 
-first-fits : (d : Declaration) → ValidDeclaration d → Fit (firstWidths (registers (kindOf d))) (firstNumbers d)
-unfolding Fit firstWidths firstNumbers kindOf healthKind fixedNumbers failureNumbers priorityOctet
+first-fits : (d : Declaration) → ValidDeclaration d → Fit (firstWidths (attributeOf d)) (firstNumbers d)
+unfolding Fit firstWidths firstNumbers attributeOf healthKind fixedNumbers failureNumbers priorityOctet
 first-fits (talkerDeclaration id f v) h = go (v .health) (h .2 .health)
   where
     fixed : ValidFixed f
@@ -471,9 +471,9 @@ first-fits (talkerDeclaration id f v) h = go (v .health) (h .2 .health)
 first-fits (listenerDeclaration id r) h = (h, tt)
 
 -- the numbers of FirstValue, read
-first-read : (d : Declaration) → ValidDeclaration d → fields (firstWidths (registers (kindOf d))) 0 (declarationVector d .first) ≡ firstNumbers d
+first-read : (d : Declaration) → ValidDeclaration d → fields (firstWidths (attributeOf d)) 0 (declarationVector d .first) ≡ firstNumbers d
 unfolding declarationVector
-first-read d h = fields-of-packed (firstWidths (registers (kindOf d))) (firstNumbers d) (first-fits d h)
+first-read d h = fields-of-packed (firstWidths (attributeOf d)) (firstNumbers d) (first-fits d h)
 
 -- a Talker's fixed values come back: priority and rank out of one octet
 fixed-read : (id : ℕ) (f : Fixed) (vs : List ℕ) → ValidFixed f → fixedValue (id ∷ (fixedNumbers f ++ vs)) 0 ≡ f
@@ -497,7 +497,7 @@ listen-read id readyFailed = rw (add-zero id)
 
 -- a written vector asks for the join of its declaration
 vector-joins : (d : Declaration) → ValidDeclaration d → vectorActs (declarationVector d) ≡ joinOf d ∷ []
-unfolding vectorActs leaveAllActs valuesActs valueActs declarationVector kindOf healthKind eventOf threePacked event asking joinOf fourOf fourOctets firstNumbers
+unfolding vectorActs leaveAllActs valuesActs valueActs declarationVector attributeOf healthKind eventOf threePacked event asking joinOf fourOf fourOctets firstNumbers
 vector-joins (talkerDeclaration id f v) h = go (v .health) (h .2 .health)
   where
     talks : Health → Declaration

@@ -3,12 +3,12 @@ use mathlib.Core.List.{List, [], _∷_, _++_}
 use mathlib.Core.Bool.{Bool, true, false, cond}
 use Prim.Native.Nat.{ℕ, suc, _+_, _-_}
 use lib.ListN.{length, getD, take, drop}
-use lib.Dec.{ltb}
+use lib.Dec.{ltb, eqb}
 use Rattle.model.specs.FrameLayout.{advertiseLength, domainLength, failedLength, listenerLength, longestPdu}
 use Rattle.model.specs.Lists.{keep}
 use Rattle.model.specs.State.{Port, Settings, Fixed, Health, sound, broken, Varying, Ready, Column, none, advertise, failed, Entry, noEntry, Declared, nothing, tells, Result, Stream, Bridge, portAt, resultAt, Class, classA, classB, supports, classPriority, classId}
 use Rattle.model.specs.Registrations.{Kind, advertises, faileds, listeners, Act, talk, listen, ofDomain, joinDomain}
-use Rattle.model.specs.Frames.{Attribute, registers, domain, slotOf}
+use Rattle.model.specs.Frames.{Attribute, registers, domain, typeNumber, slotOf}
 
 -- a declaration is a join of the neighbour's table
 pub data Declaration : Type 0 where
@@ -75,22 +75,8 @@ vectorSize (registers faileds) = 2 + failedLength + 1
 vectorSize (registers listeners) = 2 + listenerLength + 1 + 1
 vectorSize domain = 2 + domainLength + 1
 
-unfoldable pub sameKind : Kind → Kind → Bool
-sameKind advertises advertises = true
-sameKind advertises faileds = false
-sameKind advertises listeners = false
-sameKind faileds advertises = false
-sameKind faileds faileds = true
-sameKind faileds listeners = false
-sameKind listeners advertises = false
-sameKind listeners faileds = false
-sameKind listeners listeners = true
-
 unfoldable pub sameAttribute : Attribute → Attribute → Bool
-sameAttribute (registers j) (registers k) = sameKind j k
-sameAttribute (registers j) domain = false
-sameAttribute domain (registers k) = false
-sameAttribute domain domain = true
+sameAttribute j k = eqb (typeNumber j) (typeNumber k)
 
 -- the Message that is open, if any; a declaration of another type opens its own, with 4 octets of header and 2 of EndMark
 pub data Open : Type 0 where

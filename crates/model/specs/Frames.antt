@@ -31,6 +31,12 @@ typeOctet version (suc (suc (suc zero))) = known (registers listeners)
 typeOctet version (suc (suc (suc (suc zero)))) = known domain
 typeOctet version (suc (suc (suc (suc (suc t))))) = cond (eqb version 0) notAllowed unknown
 
+unfoldable pub typeNumber : Attribute → ℕ
+typeNumber (registers advertises) = 1
+typeNumber (registers faileds) = 2
+typeNumber (registers listeners) = 3
+typeNumber domain = 4
+
 -- the widths of FirstValue's fields, and its octets
 unfoldable pub firstWidths : Attribute → List ℕ
 firstWidths (registers advertises) = advertiseWidths

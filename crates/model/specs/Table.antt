@@ -9,7 +9,7 @@ use lib.Dec.{ltb, leb, eqb}
 use Rattle.octets.specs.Be.{beAt}
 use Rattle.octets.specs.Parts.{part, zeros}
 use Rattle.octets.specs.Fields.{fields, packed, flat}
-use Rattle.model.specs.Layout.{ageField, boundaryBPlace, boundaryPlace, boundaryWidths, bridgeField, cellFields, cellSize, cellWidths, cellsPlace, cellsSize, changedField, clockPlace, clockWidths, codeField, columnField, countPlace, declaredField, domainVlanPlace, entryField, failureCodeField, failureField, fixedField, headWidths, heldField, latencyField, latencyOutField, listenerField, listenerLeavesField, listenerPlace, listenerSinceField, nameWidths, ownSize, ownsPlace, ownsSize, portPlace, portSize, portWidths, portsPlace, portsUnit, priorityAUnit, priorityBUnit, priorityField, recordSize, recordsPlace, resultSize, resultWidths, resultsPlace, resultsSize, settingsSize, settledPriorityPlace, slotLeavesField, slotSinceField, slotSize, slotVlanField, slotWidths, slots, tableLength, talkerField, talkerLeavesField, talkerSinceField, totalBPlace, totalSize, totalsPlace, totalsSize, totalsWidths, wordPlace}
+use Rattle.model.specs.Layout.{ageField, boundaryBPlace, boundaryPlace, boundaryWidths, bridgeField, cellFields, cellSize, cellWidths, cellsPlace, cellsSize, changedField, clockPlace, clockWidths, codeField, columnField, countPlace, declaredField, domainVlanPlace, entryField, failureCodeField, failureField, fixedField, headWidths, heldField, latencyField, latencyOutField, listenerField, listenerLeavesField, listenerPlace, listenerSinceField, nameWidths, ownSize, ownsPlace, ownsSize, portPlace, portSize, portWidths, portsPlace, portsUnit, priorityAUnit, priorityBUnit, priorityField, recordSize, recordsPlace, resultSize, resultWidths, resultsPlace, resultsSize, settingsSize, settledPriorityPlace, slotLeavesField, slotSinceField, slotSize, slotVlanField, slotWidths, slots, slotsSize, tableLength, talkerField, talkerLeavesField, talkerSinceField, totalBPlace, totalSize, totalsPlace, totalsSize, totalsWidths, wordPlace}
 use Rattle.model.specs.Lists.{allTrue, implies, parts, bit, isOne}
 use Rattle.model.specs.State.{Port, Settings, Leaving, stays, since, Fixed, Health, sound, broken, Registration, Talker, noTalker, talker, Domain, noDomain, domain, Own, Ready, askingFailed, ready, readyFailed, Listener, noListener, listener, Cell, Column, none, advertise, failed, Entry, noEntry, filters, forwards, Declared, nothing, tells, Result, Stream, Totals, Bridge}
 use Rattle.model.specs.Frames.{priorityOf, rankOf}
@@ -345,16 +345,19 @@ domainFormed clock leave s = allTrue (domainRules clock leave (fields slotWidths
 unfoldable pub ownOctets : Own → List ℕ
 ownOctets o = flat domainOctets (o .domains) ++ packed boundaryWidths (bit (o .boundaryA) ∷ bit (o .boundaryB) ∷ [])
 
+unfoldable pub slotsPart : List ℕ → List ℕ
+slotsPart s = part 0 slotsSize s
+
 unfoldable pub toOwn : List ℕ → Own
 toOwn s = record {
-  domains = parts slotSize toDomain slots s;
+  domains = parts slotSize toDomain slots (slotsPart s);
   boundaryA = isOne (getD s boundaryPlace 0);
   boundaryB = isOne (getD s boundaryBPlace 0);
 }
 
 unfoldable pub ownRules : ℕ → ℕ → List ℕ → List Bool
 ownRules clock leave s =
-    everyPart slotSize (domainFormed clock leave) slots s  -- 26 to 28
+    everyPart slotSize (domainFormed clock leave) slots (slotsPart s)  -- 26 to 28
     ∷ leb (getD s boundaryPlace 0) 1  -- 29
     ∷ leb (getD s boundaryBPlace 0) 1  -- 29
     ∷ []

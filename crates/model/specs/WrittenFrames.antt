@@ -8,7 +8,7 @@ use Rattle.octets.specs.Fields.{packed, flat}
 use Rattle.model.specs.Lists.{keep, bit}
 use Rattle.model.specs.State.{Fixed, Health, sound, broken, Ready, askingFailed, ready, readyFailed}
 use Rattle.model.specs.Registrations.{Kind, advertises, faileds, listeners}
-use Rattle.model.specs.Frames.{Attribute, registers, domain, Vector, firstWidths, firstLength}
+use Rattle.model.specs.Frames.{Attribute, registers, domain, typeNumber, Vector, firstWidths, firstLength}
 use Rattle.model.specs.Declarations.{Declaration, talkerDeclaration, listenerDeclaration, domainDeclaration, attributeOf, sameAttribute}
 
 -- the octet of priority (3 bits), rank (1 bit) and four reserved bits, written 0
@@ -52,13 +52,6 @@ declarationVector d = record {
 
 unfoldable pub vectorOctets : Vector → List ℕ
 vectorOctets v = be 2 (bit (v .leavesAll) * 8192 + v .values) ++ (v .first ++ (v .three ++ v .four))
-
--- Table 35-1
-unfoldable pub typeNumber : Attribute → ℕ
-typeNumber (registers advertises) = 1
-typeNumber (registers faileds) = 2
-typeNumber (registers listeners) = 3
-typeNumber domain = 4
 
 -- "The list length counts the list's own EndMark"
 unfoldable pub messageOf : Attribute → List ℕ → List ℕ
