@@ -31,6 +31,7 @@ typeOctet version (suc (suc (suc zero))) = known (registers listeners)
 typeOctet version (suc (suc (suc (suc zero)))) = known domain
 typeOctet version (suc (suc (suc (suc (suc t))))) = cond (eqb version 0) notAllowed unknown
 
+-- the octet of a type
 unfoldable pub typeNumber : Attribute → ℕ
 typeNumber (registers advertises) = 1
 typeNumber (registers faileds) = 2
