@@ -1,16 +1,15 @@
 -- The edge of the reservation domain (02, ii). A frame of Domain values alone changes nothing but the Domain values of its port: no
 -- stream, no total, no boundary flag; and it is never refused for want of room.
-use mathlib.Core.Path.{_≡_, refl, _∙_, ap}
+use mathlib.Core.Path.{_≡_, refl, _∙_}
 use mathlib.Core.List.{List, [], _∷_}
 use mathlib.Core.Bool.{Bool, true, false, cond}
 use Prim.Native.Nat.{ℕ, zero, suc, _+_, _-_}
 use lib.ListN.{length, getD}
-use lib.Dec.{leb}
 use borrow.Author.Tests.{le-leb}
 use Rattle.model.specs.Lists.{All}
 use Rattle.model.specs.State.{Domain, Own, Stream, Bridge, noOwn, ownAt, Class, noClass, classA, classB}
-use Rattle.model.specs.Registrations.{Act, leaveAll, leave, talk, listen, ofDomain, at, apply, applyAll, reach, changeDomains, doesDomain, applyOwn, applyOwns, Reading, refused, acts, Answer, holding, owning, received}
-use Rattle.model.specs.Frames.{Attribute, domain, Vector, Asking, nothingAsked, join, withdraw, hasSlot, slotOf, slotAct, domainAct, valueActs, valuesActs, leaveAllActs, vectorActs, frameActs, Walk, found, walk, walked, wrongPort, reading}
+use Rattle.model.specs.Registrations.{Act, leaveAll, leave, talk, listen, ofDomain, apply, applyAll, reach, changeDomains, doesDomain, applyOwn, applyOwns, acts, Answer, holding, owning, received}
+use Rattle.model.specs.Frames.{domain, Vector, Asking, nothingAsked, join, withdraw, hasSlot, slotOf, slotAct, domainAct, valueActs, valuesActs, leaveAllActs, vectorActs, frameActs, found, walk, walked, wrongPort, reading}
 use Rattle.model.specs.Settling.{boundary}
 use Rattle.model.specs.Calls.{receive}
 use Rattle.model.proofs.Lists.{all-append, at-other, at-each}

@@ -8,7 +8,6 @@ use native.Mathlib.Omega.{arith}
 use lib.ListN.{length, drop, replicate, length-map}
 use lib.Dec.{ltb, leb, eqb}
 use borrow.Author.Tests.{ltb-true, ltb-false, leb-true, eqb-false}
-use Rattle.model.specs.Layout.{slots}
 use Rattle.model.specs.Lists.{All, Octets}
 use Rattle.model.specs.State.{Settings, Leaving, stays, since, Fixed, Varying, Talker, noTalker, talker, Listener, noListener, listener, Ready, Cell, Domain, noDomain, domain, Own, Stream, Bridge, empty, unsettled, noFixed, noOwn, blank, fresh}
 use Rattle.model.specs.Registrations.{Kind, Act, leaveAll, leave, talk, listen, ofDomain, DomainAct, leaveAllDomains, leaveDomain, joinDomain, begin, talksAs, hearsAs, withLeaving, quitTalker, quitListener, quit, sameFixed, firstJoin, sameJoin, otherJoin, joinTalker, does, at, change, begun, touch, reach, apply, applyAll, quitDomain, doesDomain, changeDomains, applyOwn, applyOwns, Reading, refused, acts, Answer, holding, owning, received, ids}
@@ -284,6 +283,12 @@ module _ (ports clock leaveTime p : ℕ) (here : p < ports) (eight : ports ≤ 8
 
 -- What the ports hold by themselves.
 
+pub domains-slotted : (clock : ℕ) (a : DomainAct) (ds : List Domain) → length (doesDomain clock a ds) ≡ length ds
+unfolding doesDomain
+domains-slotted clock leaveAllDomains ds = length-map ds (quitDomain clock)
+domains-slotted clock (leaveDomain i) ds = length-at i (quitDomain clock) ds
+domains-slotted clock (joinDomain i x) ds = length-at i (λ d. domain x stays) ds
+
 module _ (clock leaveTime : ℕ) (leaves : 1 ≤ leaveTime) where
   domain-quits : (d : Domain) → ValidDomain clock leaveTime d → ValidDomain clock leaveTime (quitDomain clock d)
   unfolding quitDomain
@@ -299,17 +304,11 @@ module _ (clock leaveTime : ℕ) (leaves : 1 ≤ leaveTime) where
   domains-valid (joinDomain i x) h ds v =
       all-changed (ValidDomain clock leaveTime) i (λ d. domain x stays) ds (λ d w. (h .1, tt)) v
 
-  domains-slotted : (a : DomainAct) (ds : List Domain) → length (doesDomain clock a ds) ≡ length ds
-  unfolding doesDomain
-  domains-slotted leaveAllDomains ds = length-map ds (quitDomain clock)
-  domains-slotted (leaveDomain i) ds = length-at i (quitDomain clock) ds
-  domains-slotted (joinDomain i x) ds = length-at i (λ d. domain x stays) ds
-
   own-valid : (a : DomainAct) → FitsDomain a → (o : Own) →
       ValidOwn clock leaveTime o → ValidOwn clock leaveTime (changeDomains (doesDomain clock a) o)
   unfolding changeDomains
   own-valid a h o v = record {
-    slotted = domains-slotted a (o .domains) ∙ v .slotted;
+    slotted = domains-slotted clock a (o .domains) ∙ v .slotted;
     domains = domains-valid a h (o .domains) (v .domains);
   }
 

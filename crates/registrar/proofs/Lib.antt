@@ -1,4 +1,5 @@
 pub mod Room
+pub mod DomainActs
 pub mod Keeps
 pub mod Walks
 pub mod Touched

@@ -11,7 +11,7 @@ use borrow.Author.Tests.{lt-ltb, eq-eqb, eqb-true, eqb-false, ne-eqb}
 use Rattle.octets.specs.Be.{beAt}
 use Rattle.octets.specs.Fields.{fields}
 use Rattle.octets.proofs.Fields.{beAt-fits}
-use Rattle.model.specs.Registrations.{Kind, advertises, faileds, listeners, Act, leaveAll, leave, talk, listen}
+use Rattle.model.specs.Registrations.{Kind, advertises, faileds, listeners, Act, leaveAll, leave, talk, listen, ofDomain}
 use Rattle.model.specs.Frames.{registers, firstWidths, firstLength, runsPast, healthValue, idValue, valueActs, talkerAct, listenerAct, hearing, eventOf, fourOf, asking, threePacked, fourPacked}
 use Rattle.model.specs.Lists.{Octets}
 use Rattle.model.proofs.Parts.{octets-at, octets-of}
@@ -54,6 +54,7 @@ Joins i (leaveAll k) = ⊥
 Joins i (leave k j) = ⊥
 Joins i (talk j f v) = i ≡ j
 Joins i (listen j r) = i ≡ j
+Joins i (ofDomain d) = ⊥
 
 pub join-joins : (k : Kind) (first : List ℕ) (four n i : ℕ) → i ≡ beAt 8 first 0 + n → Joins i (joinOf k first four n)
 unfolding joinOf talkOf

@@ -5,6 +5,7 @@ use mathlib.Core.List.{List}
 use mathlib.Core.Bool.{true}
 use lib.ListN.{length}
 use Rattle.octets.specs.Be.{beAt}
+use Rattle.model.specs.Layout.{slots}
 use Rattle.model.specs.Frames.{typeOctet, vectors, walk}
 use Rattle.model.specs.Laid.{Laid}
 use Rattle.table.specs.Places.{StandsOn}
@@ -26,6 +27,12 @@ pub record LeaveGiven (t : List ℕ) (p kind : ℕ) : Type 0 where
   pub place : p < 8
   pub low : 1 ≤ kind
   pub high : kind ≤ 3
+
+-- a Domain value of a port
+pub record SlotGiven (t : List ℕ) (p i : ℕ) : Type 0 where
+  pub laid : Laid t
+  pub place : p < 8
+  pub slot : i < slots
 
 -- a laid-out table, the place of a port, and a well-formed frame
 pub record FrameGiven (t : List ℕ) (p : ℕ) (pdu : List ℕ) : Type 0 where
@@ -62,6 +69,13 @@ pub record ValueGiven (t : List ℕ) (w : ListWalk) (first three : List ℕ) (n 
   pub walk : WalkGiven t w
   pub event : n / 3 < length three
   pub value : HasValue (w .kind) first n
+
+-- one of a Domain vector
+pub record DomainGiven (t : List ℕ) (p : ℕ) (first three : List ℕ) (n : ℕ) : Type 0 where
+  pub laid : Laid t
+  pub place : p < 8
+  pub event : n / 3 < length three
+  pub value : HasValue 4 first n
 
 -- a join of it, of its StreamID, and for a Listener with a declaration type
 pub record JoinGiven (t : List ℕ) (w : ListWalk) (i : ℕ) (first : List ℕ) (f n : ℕ) : Type 0 where
