@@ -22,6 +22,7 @@ pub mod ReadBack
 pub mod WritingPasses
 pub mod Refusals
 pub mod Edge
+pub mod Boundaries
 pub mod Examples
 pub mod FormKept
 pub mod Demand3
