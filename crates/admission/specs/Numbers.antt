@@ -8,7 +8,7 @@ use Rattle.model.specs.State.{Class, Bridge}
 use Rattle.model.specs.Table.{decode, encode}
 use Rattle.model.specs.Laid.{Laid}
 use Rattle.table.specs.Places.{StandsOn}
-use Rattle.admission.specs.Sharing.{usedNext, turnAt}
+use Rattle.admission.specs.Sharing.{usedNext, turnAt, usedOn, turnsOn}
 
 -- of the streams before stream k, n are numbered; there is room for all
 pub record Noting (t numbers : List ℕ) (k p n : ℕ) : Type 0 where
@@ -26,4 +26,10 @@ pub record Numbered (t numbers : List ℕ) (n : ℕ) : Type 0 where
 pub record Turned (p : ℕ) (c : Class) (limit k before : ℕ) (b : Bridge) (t : List ℕ) (next : ℕ) : Type 0 where
   pub table : t ≡ encode (turnAt p c limit k before b)
   pub used : next ≡ usedNext p c limit k before b
+  pub within : next ≤ limit
+
+-- after the turns of these numbers on the bridge b
+pub record TookTurns (p : ℕ) (c : Class) (limit : ℕ) (numbers : List ℕ) (b : Bridge) (t : List ℕ) (next : ℕ) : Type 0 where
+  pub used : next ≡ usedOn p c limit numbers 0 b
+  pub table : t ≡ encode (turnsOn p c limit numbers 0 b)
   pub within : next ≤ limit

@@ -15,7 +15,7 @@ ghost use Rattle.streams.specs.Answers.{classShown};
 ghost use Rattle.columns.specs.Stages as stages;
 ghost use Rattle.sorting.specs.Sort.{sorted};
 ghost use Rattle.admission.specs.Sharing.{classFor, orderOf, isHeard, demandIn, ordersOn, usedOn, turnsOn};
-ghost use Rattle.admission.specs.Numbers.{Noting, Numbered, Turned};
+ghost use Rattle.admission.specs.Numbers.{Noting, Numbered, Turned, TookTurns};
 use streams::ClassRead;
 use streams::PerSecond;
 use table::cell;
@@ -104,7 +104,8 @@ fn in_order(table: &[u8], p: usize, b: bool, numbers: &mut [u64]) -> usize
 // The limit in force on the port at place p.
 fn limit_in_force(table: &[u8], p: usize, b: bool) -> u64
     requires { ⌜ PortIn (now table) p ⌝ }
-    ensures { λ r. ⌜ r ≡ stages.limitShown (decode (now (table .entry)) .settings) (decode (now (table .entry))) p (classFor b) ⌝ }
+    ensures { λ r. ⌜ (r ≡ stages.limitShown (decode (now (table .entry)) .settings) (decode (now (table .entry))) p (classFor b))
+        × (r < 256 ^ 5) ⌝ }
 {
     let port = table::port_at(table, p);
     if b {
@@ -179,8 +180,7 @@ fn turn(table: &mut [u8], k: usize, p: usize, b: bool, limit: u64, used: u64) ->
 // The turns of the streams with the first n of these numbers, one after another; what is used after them.
 fn take_turns(table: &mut [u8], numbers: &[u64], n: usize, p: usize, b: bool, limit: u64) -> u64
     requires { ⌜ Numbered (now table) (now numbers) n × (p < 8) ⌝ }
-    ensures { λ r. ⌜ (r ≡ usedOn p (classFor b) limit (take n (now (numbers .entry))) 0 (decode (now (table .entry))))
-        × (now (table .exit) ≡ encode (turnsOn p (classFor b) limit (take n (now (numbers .entry))) 0 (decode (now (table .entry))))) ⌝ }
+    ensures { λ r. ⌜ TookTurns p (classFor b) limit (take n (now (numbers .entry))) (decode (now (table .entry))) (now (table .exit)) r ⌝ }
 {
     let mut used: u64 = 0;
     let mut i: usize = 0;

@@ -104,13 +104,13 @@ pub record WriteAnswers (t : List ℕ) (p place : ℕ) (buffer : List ℕ) (n lo
 pub write-answers : (t : List ℕ) (p place : ℕ) (buffer : List ℕ) (n long next : ℕ) (u : List ℕ) →
     Writes t p place buffer n long next u → WriteAnswers t p place buffer n long next u
 write-answers t p place buffer n long next u call = record {
-  numbers = rw (call .0) (Refusals.write-numbers t p place buffer);
-  table = rw (call .0) (Refusals.write-12 t p place buffer);
-  port = rw (call .0) (Refusals.write-1 t p place buffer);
-  short = rw (call .0) (Refusals.write-10 t p place buffer);
-  above = rw (call .0) (Refusals.write-13 t p place buffer);
-  accepted = rw (call .0) (Refusals.write-0 t p place buffer);
-  unaltered = rw (call .0, call .1, call .2, call .3) (Refusals.write-refused t p place buffer);
+  numbers = rw (call .number-is) (Refusals.write-numbers t p place buffer);
+  table = rw (call .number-is) (Refusals.write-12 t p place buffer);
+  port = rw (call .number-is) (Refusals.write-1 t p place buffer);
+  short = rw (call .number-is) (Refusals.write-10 t p place buffer);
+  above = rw (call .number-is) (Refusals.write-13 t p place buffer);
+  accepted = rw (call .number-is) (Refusals.write-0 t p place buffer);
+  unaltered = rw (call .number-is, call .length-is, call .next-is, call .buffer-is) (Refusals.write-refused t p place buffer);
 }
 
 -- Report at a place, on port p, gives the answer r: that of the code, with its words by `shown` (crate reports).

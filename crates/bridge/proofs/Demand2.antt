@@ -145,7 +145,7 @@ pub write-tells : (t : List ℕ) (p place : ℕ) (buffer : List ℕ) (n long nex
     Writes t p place buffer n long next u → n ≡ 0 → Tells t p place buffer long next u
 unfolding declared
 write-tells t p place buffer n long next u o call z =
-    let h = write-0 t p place buffer .0 (sym (call .0) ∙ z) in
+    let h = write-0 t p place buffer .0 (sym (call .number-is) ∙ z) in
     let b = decode t in
     let l : List Declaration = declared b p in
     let rest : List Declaration = drop place l in
@@ -153,9 +153,9 @@ write-tells t p place buffer n long next u o call z =
     let w = write b p place in
     let s : List ℕ = pduOctets (w .run) in
     let c = written t p place buffer (h .0) (h .1 .0) (rw from) in
-    let long-is : long ≡ length s = call .1 ∙ ap (λ (a : WriteCall). a .length) c in
-    let next-is : next ≡ w .next = call .2 ∙ ap (λ (a : WriteCall). a .next) c in
-    let left : u ≡ s ++ drop (length s) buffer = call .3 ∙ ap (λ (a : WriteCall). a .buffer) c in
+    let long-is : long ≡ length s = call .length-is ∙ ap (λ (a : WriteCall). a .length) c in
+    let next-is : next ≡ w .next = call .next-is ∙ ap (λ (a : WriteCall). a .next) c in
+    let left : u ≡ s ++ drop (length s) buffer = call .buffer-is ∙ ap (λ (a : WriteCall). a .buffer) c in
     let fits : length s ≤ longestPdu = run-fits b p place in
     let pdu : take long u ≡ s = rw (long-is, left) (take-append-seam s (drop (length s) buffer)) in
     record {

@@ -13,14 +13,14 @@ use Rattle.model.specs.Table.{formed, decode}
 use Rattle.model.specs.Calls.{refusedWrite, writtenTo, writeOn, reportOn}
 use Rattle.declarations.specs.declared.Taken.{Taken}
 use Rattle.declarations.specs.Passes.{PduWritten}
-use Rattle.bridge.specs.Promises.{Writes}
+use Rattle.bridge.specs.Promises.{Writes, RefusedWith}
 
 -- what a refused write answers, and the buffer as it was
 module _ (t : List ℕ) (p place : ℕ) (buffer : List ℕ) (n number long next : ℕ)
-    (r : (number ≡ n) × (long ≡ 0) × (next ≡ 0)) where
+    (r : RefusedWith n number long next) where
   pub refused : writeOn t p place buffer ≡ refusedWrite n buffer → Writes t p place buffer number long next buffer
   unfolding refusedWrite
-  refused e = rw (e, r .0, r .1, r .2) (refl, refl, refl, refl)
+  refused e = record { number-is = rw e (r .number-is); length-is = rw e (r .length-is); next-is = rw e (r .next-is); buffer-is = rw e }
 
 module _ (t : List ℕ) (p place : ℕ) (buffer : List ℕ) where
   pub write-unformed : formed t ≡ false → writeOn t p place buffer ≡ refusedWrite 12 buffer
@@ -46,7 +46,12 @@ module _ (t : List ℕ) (p place : ℕ) (buffer : List ℕ) where
             → PduWritten (drop place (declarations (p - 1) (decode t .streams))) place buffer r after
             → Writes t p place buffer 0 (r .length) (r .next) after
         unfolding writeOn write writtenTo
-        write-done a r after d = rw (h, w, le-ltb (length buffer) longestPdu l, le-ltb _ _ a, d .size, d .next, d .buffer) (refl, refl, refl, refl)
+        write-done a r after d = record {
+          number-is = rw (h, w, le-ltb (length buffer) longestPdu l, le-ltb _ _ a);
+          length-is = rw (h, w, le-ltb (length buffer) longestPdu l, le-ltb _ _ a) (d .size);
+          next-is = rw (h, w, le-ltb (length buffer) longestPdu l, le-ltb _ _ a) (d .next);
+          buffer-is = rw (h, w, le-ltb (length buffer) longestPdu l, le-ltb _ _ a) (d .buffer);
+        }
 
 module _ (t : List ℕ) (p place : ℕ) where
   pub report-unformed : formed t ≡ false → reportOn t p place ≡ refusedReport 12

@@ -17,13 +17,13 @@ use Rattle.octets.specs.Parts
 use Rattle.model.specs.Layout.{tableLength}
 use Rattle.model.specs.Lists.{Octets, allTrue}
 use Rattle.model.specs.Lists
-use Rattle.model.specs.State.{Bridge, nothing, tells, ready, noEntry, forwards}
+use Rattle.model.specs.State.{Bridge, Declared, nothing, tells, ready, Entry, noEntry, forwards}
 use Rattle.model.specs.State
 use Rattle.model.specs.Registrations
 use Rattle.model.specs.Frames
 use Rattle.model.specs.Bandwidth
 use Rattle.model.specs.Settling
-use Rattle.model.specs.Reports.{Report, noneWord, advertiseWord}
+use Rattle.model.specs.Reports.{Report, ColumnWord, noneWord, advertiseWord}
 use Rattle.model.specs.Declarations
 use Rattle.model.specs.Reports as reports
 use Rattle.model.specs.WrittenFrames
@@ -32,6 +32,7 @@ use Rattle.model.specs.Table
 use Rattle.model.specs.Calls.{Call, startOn, receiveOn, advanceOn, reportOn, writeOn, writtenTo}
 use Rattle.model.specs.Calls
 use Rattle.model.proofs.Lists.{and-left, and-right}
+use Rattle.model.proofs.Opened.{opened}
 use Rattle.model.proofs.Valid.{Valid}
 use Rattle.model.proofs.Tables.{decode-encode, formed-encode, valid-started}
 use Rattle.model.proofs.ReceiveKeepsForm.{receive-keeps}
@@ -98,111 +99,70 @@ module _ (b : Bridge) (v : Valid b) (p place : ℕ) (w : Frames.wrongPort (b .se
 
 -- What is computed.
 
--- to unfold the last of these is to unfold all definitions of the bridge, and the example's own
-
-settingsOpened : Unit {0}
-unfolding Lists.allTrue Lists.parts Lists.isOne Parts.part Be.beAt Be.be Fields.fields Table.portFrom Table.toPort Table.portsField Table.toSettings Table.portRule Table.everyPart Table.settingsRules Table.settingsFormed port settings
-settingsOpened = tt
-
-stateOpened : Unit {0}
-unfolding Lists.tabulate Lists.bit State.empty State.unsettled State.noFixed State.noTotals State.blank State.fresh State.started State.noPort State.portAt State.isPort State.cellAt State.resultAt State.classOf State.isNoClass State.sameClass State.supports State.limit State.classLatency
-stateOpened = tt
-
-framesOpened : Unit {0}
-unfolding Frames.typeOctet Frames.firstWidths Frames.firstLength Frames.threeLength Frames.hasFour Frames.fourLength Frames.vectorAt Frames.vectorEnd Frames.overpacked Frames.runsPast Frames.overflows Frames.vectorIn Frames.checkedIn Frames.typedIn Frames.listLength Frames.listAt Frames.messageEnd Frames.endMark Frames.headerIn Frames.messageIn Frames.also Frames.both Frames.vectorsFrom Frames.vectors Frames.messagesFrom Frames.messages Frames.walk Frames.event Frames.threePacked Frames.fourPacked Frames.eventOf Frames.fourOf Frames.asking Frames.priorityOf Frames.rankOf Frames.fixedValue Frames.healthValue Frames.idValue Frames.hearing Frames.talkerAct Frames.listenerAct Frames.valueActs Frames.valuesActs Frames.leaveAllActs Frames.vectorActs Frames.frameActs Frames.walked Frames.wrongPort Frames.reading Calls.receive
-framesOpened = tt
-
-registrationsOpened : Unit {0}
-unfolding Registrations.begin Registrations.talksAs Registrations.hearsAs Registrations.withLeaving Registrations.quitTalker Registrations.quitListener Registrations.quit Registrations.sameFixed Registrations.firstJoin Registrations.sameJoin Registrations.otherJoin Registrations.joinTalker Registrations.does Registrations.at Registrations.change Registrations.begun Registrations.touch Registrations.reach Registrations.apply Registrations.applyAll Registrations.holding Registrations.received
-registrationsOpened = tt
-
-settlingOpened : Unit {0}
-unfolding Bandwidth.demand Bandwidth.rate Bandwidth.rateOfA Bandwidth.rateOfB Bandwidth.rateOf Bandwidth.key Bandwidth.above Bandwidth.insert Bandwidth.sort Bandwidth.share Bandwidth.reserved Bandwidth.remains Bandwidth.admitted Bandwidth.total Settling.expired Settling.expireTalker Settling.expireListener Settling.expireCell Settling.expire Settling.isTalking Settling.isHearing Settling.held Settling.remain Settling.source Settling.sourceOf Settling.isSource Settling.fixedOf Settling.latencyOf Settling.healthOf Settling.streamClass Settling.registered Settling.isReady Settling.first Settling.clear Settling.isBroken Settling.brokenColumn Settling.outcomeColumn Settling.stepsFrom Settling.steps Settling.ageOf Settling.claim Settling.claims Settling.limitOn Settling.leftFor Settling.byBandwidth Settling.columnOf Settling.capped Settling.latencyOut Settling.entryOf Settling.ageKept Settling.latencyKept Settling.passed Settling.sameReady Settling.merge Settling.mergeAll Settling.merged Settling.decideAt Settling.decide Settling.totalOn Settling.totalsOn Settling.settle
-settlingOpened = tt
-
-writingOpened : Unit {0}
-unfolding Fields.packed Fields.flat reports.wordOf reports.codeOf reports.report Declarations.healthKind Declarations.kindOf Declarations.advertised Declarations.failing Declarations.listening Declarations.declarationsOf Declarations.ofKind Declarations.declarations Declarations.vectorSize Declarations.sameKind Declarations.opening Declarations.fitting Declarations.takes Declarations.write WrittenFrames.priorityOctet WrittenFrames.fixedNumbers WrittenFrames.failureNumbers WrittenFrames.firstNumbers WrittenFrames.readyNumber WrittenFrames.fourOctets WrittenFrames.declarationVector WrittenFrames.vectorOctets WrittenFrames.typeNumber WrittenFrames.messageOf WrittenFrames.messageOctets WrittenFrames.having WrittenFrames.pduOctets
-writingOpened = tt
-
-opened : Unit {0}
-unfolding settingsOpened stateOpened framesOpened registrationsOpened settlingOpened writingOpened talker listener begun talking heard settled
-opened = tt
+-- to unfold this is to unfold all definitions of the bridge, and the example's own
+computing : Unit {0}
+unfolding opened port settings talker listener begun talking heard settled
+computing = tt
 
 settings-formed : settingsFormed settings ≡ true
-unfolding settingsOpened
+unfolding computing
 settings-formed = refl
 
 talker-taken : Calls.receive begun 1 talker .number ≡ 0
-unfolding opened
+unfolding computing
 talker-taken = refl
 
 listener-taken : Calls.receive talking 2 listener .number ≡ 0
-unfolding opened
+unfolding computing
 listener-taken = refl
 
 clock-zero : heard .clock ≡ 0
-unfolding opened
+unfolding computing
 clock-zero = refl
 
 ports-right : (Frames.wrongPort (settled .settings) 1 ≡ false) × (Frames.wrongPort (settled .settings) 2 ≡ false)
-unfolding opened
+unfolding computing
 ports-right = (refl, refl)
 
 no-port : Frames.wrongPort (settled .settings) 3 ≡ true
-unfolding opened
+unfolding computing
 no-port = refl
 
 clock-set : settled .clock ≡ 100
-unfolding opened
+unfolding computing
 clock-set = refl
+
+-- what both reports have: one stream, its StreamID, the limits 75000000 and 0, nothing reserved in class B, code 0
+shown : ℕ → ColumnWord → Declared → Entry → Report
+shown totalA column listener entry = record {
+  number = 0;
+  count = 1;
+  totalA = totalA;
+  limitA = 75000000;
+  totalB = 0;
+  limitB = 0;
+  id = 0x0200000000010001;
+  column = column;
+  code = 0;
+  listener = listener;
+  entry = entry;
+}
 
 -- "port 1 A 0/75000000 B 0/0", "0200000000010001 1 none 0 ready none"
 pub reportOne : Report
-reportOne = record {
-  number = 0;
-  count = 1;
-  totalA = 0;
-  limitA = 75000000;
-  totalB = 0;
-  limitB = 0;
-  id = 0x0200000000010001;
-  column = noneWord;
-  code = 0;
-  listener = tells ready;
-  entry = noEntry;
-}
+reportOne = shown 0 noneWord (tells ready) noEntry
 
 -- "port 2 A 17088000/75000000 B 0/0", "0200000000010001 2 advertise 0 none forward"
 pub reportTwo : Report
-reportTwo = record {
-  number = 0;
-  count = 1;
-  totalA = 17088000;
-  limitA = 75000000;
-  totalB = 0;
-  limitB = 0;
-  id = 0x0200000000010001;
-  column = advertiseWord;
-  code = 0;
-  listener = nothing;
-  entry = forwards;
-}
+reportTwo = shown 17088000 advertiseWord nothing forwards
 
 reports-computed : (reports.report settled 1 0 ≡ reportOne) × (reports.report settled 2 0 ≡ reportTwo)
-unfolding opened reportOne reportTwo
+unfolding computing shown reportOne reportTwo
 reports-computed = (refl, refl)
 
-settings-octets : Octets settings
-unfolding settings port allTrue
-settings-octets = octets-tested settings refl
-
-talker-octets : Octets talker
-unfolding talker allTrue
-talker-octets = octets-tested talker refl
-
-listener-octets : Octets listener
-unfolding listener allTrue
-listener-octets = octets-tested listener refl
+octets-given : Octets settings × Octets talker × Octets listener
+unfolding settings port talker listener allTrue
+octets-given = (octets-tested settings refl, octets-tested talker refl, octets-tested listener refl)
 
 -- port 1 declares the Listener as port 2 received it, and port 2 the Talker as port 1 did: one declaration each, so next place 1
 Writing : ℕ → List ℕ → Type 0
@@ -211,22 +171,22 @@ Writing p s =
     (w .number ≡ 0) × (WrittenFrames.pduOctets (w .run) ≡ s) × (w .next ≡ 1)
 
 writes-computed : Writing 1 listener × Writing 2 talker
-unfolding opened Writing
+unfolding computing Writing
 writes-computed = ((refl, refl, refl), (refl, refl, refl))
 
 -- The tables that the calls leave are those of these bridges.
 
 begun-valid : Valid begun
 unfolding begun
-begun-valid = valid-started settings settings-octets settings-formed
+begun-valid = valid-started settings (octets-given .0) settings-formed
 
 talking-valid : Valid talking
 unfolding talking
-talking-valid = receive-keeps begun 1 talker talker-octets begun-valid
+talking-valid = receive-keeps begun 1 talker (octets-given .1) begun-valid
 
 heard-valid : Valid heard
 unfolding heard
-heard-valid = receive-keeps talking 2 listener listener-octets talking-valid
+heard-valid = receive-keeps talking 2 listener (octets-given .2) talking-valid
 
 clock-passed : heard .clock ≤ 100
 clock-passed = omega (arith, clock-zero)
@@ -238,8 +198,8 @@ settled-valid = settle-keeps heard 100 (omega arith) clock-passed heard-valid
 started-on : (t : List ℕ) → length t ≡ tableLength → startOn t settings ≡ record { number = 0; table = encode begun }
 unfolding begun
 started-on t right =
-    start-accepted t settings right settings-formed settings-octets
-    ∙ ap (λ (u : List ℕ). record { number = 0; table = u }) (sym (started-table settings settings-octets settings-formed))
+    start-accepted t settings right settings-formed (octets-given .0)
+    ∙ ap (λ (u : List ℕ). record { number = 0; table = u }) (sym (started-table settings (octets-given .0) settings-formed))
 
 talker-on : receiveOn (encode begun) 1 talker ≡ record { number = 0; table = encode talking }
 unfolding talking
@@ -276,8 +236,9 @@ written-on : (p : ℕ) (s : List ℕ) → Frames.wrongPort (settled .settings) p
 unfolding Writing writtenTo
 written-on p s right w buffer n long next after enough call =
     let e = write-call settled settled-valid p 0 right buffer enough in
-    let c = rw (e, w .0, w .1, w .2) at call in
-    (c .0, c .1, c .2, rw (c .1, c .3) (take-append-seam s (drop (length s) buffer)))
+    let long-is = rw (e, w .0, w .1) at (call .length-is) in
+    let left = rw (e, w .0, w .1) at (call .buffer-is) in
+    (rw (e, w .0) at (call .number-is), long-is, rw (e, w .0, w .2) at (call .next-is), rw (long-is, left) (take-append-seam s (drop (length s) buffer)))
 
 -- Any table of the right length; the calls of the worked example, one after another.
 module _ (t : List ℕ) (right : length t ≡ tableLength)

@@ -19,10 +19,17 @@ abbrev pub Advances : List ℕ → ℕ → ℕ → List ℕ → Type 0
 Advances table time number after = (number ≡ advanceOn table time .number) × (after ≡ advanceOn table time .table)
 
 -- a table, a port, a place and a buffer: the number, the PDU's length, the next place, and the buffer afterwards
-abbrev pub Writes : List ℕ → ℕ → ℕ → List ℕ → ℕ → ℕ → ℕ → List ℕ → Type 0
-Writes table port place buffer number long next after =
-    let call = writeOn table port place buffer in
-    (number ≡ call .number) × (long ≡ call .length) × (next ≡ call .next) × (after ≡ call .buffer)
+pub record Writes (table : List ℕ) (port place : ℕ) (buffer : List ℕ) (number long next : ℕ) (after : List ℕ) : Type 0 where
+  pub number-is : number ≡ writeOn table port place buffer .number
+  pub length-is : long ≡ writeOn table port place buffer .length
+  pub next-is : next ≡ writeOn table port place buffer .next
+  pub buffer-is : after ≡ writeOn table port place buffer .buffer
+
+-- what a write that is refused with number n answers
+pub record RefusedWith (n number long next : ℕ) : Type 0 where
+  pub number-is : number ≡ n
+  pub length-is : long ≡ 0
+  pub next-is : next ≡ 0
 
 -- a table, a port and a place: the report
 abbrev pub Reports : List ℕ → ℕ → ℕ → Report → Type 0

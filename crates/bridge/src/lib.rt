@@ -1,9 +1,8 @@
 // The bridge: five calls on a table that the caller lends (docs/TABLE.md). None asks anything of its arguments. For every input
 // each promises the one number, the one content of the table and of the buffer: those of crate model's `Calls`, by the relations
 // of specs/Promises.
-ghost use mathlib.Core.Path.{_≡_};
 ghost use Rattle.reports.specs.Shown.{shown};
-ghost use Rattle.bridge.specs.Promises.{Starts, Receives, Advances, Writes, Reports};
+ghost use Rattle.bridge.specs.Promises.{Starts, Receives, Advances, Writes, RefusedWith, Reports};
 use model::pdu;
 use model::refusal;
 
@@ -16,6 +15,9 @@ pub const PORTS_FIELD: usize = table::HEAD;
 pub const SETTINGS: usize = table::PORTS;
 
 pub const PORT_SETTINGS: usize = table::PORT;
+
+// The number of a call that is not refused.
+pub const ACCEPTED: u8 = refusal::ACCEPTED;
 
 // Starts a bridge with these settings: no streams, clock 0. It looks at the table's length only.
 pub fn start(table: &mut [u8], settings: &[u8]) -> u8
@@ -85,7 +87,7 @@ pub struct Wrote {
 
 // A write that is refused.
 fn refused_write(number: u8) -> Wrote
-    ensures { λ r. ⌜ (r .number ≡ number) × (r .length ≡ 0) × (r .next ≡ 0) ⌝ }
+    ensures { λ r. ⌜ RefusedWith number (r .number) (r .length) (r .next) ⌝ }
 {
     Wrote {
         number,

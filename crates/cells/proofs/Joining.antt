@@ -81,7 +81,7 @@ module _ (vs : List ℕ) (size : length vs ≡ cellFields) where
       rw (put-field cellWidths vs fixedField (beAt 6 first firstDestination + n) size, octets, put-run cellWidths there vlanField 3 one (omega arith) (fields ws firstVlan first) spec)
       (put-field cellWidths (patch vlanField 3 (fields ws firstVlan first) there) priorityField (getD first firstPriority 0 / 16 * 16) two)
 
--- Fifteen numbers of a cell; those of the fixed values, which are zero without a Talker.
+-- The numbers of a cell; what is held, whose numbers behind the kind are zero without a Talker.
 
 cell-size : (t : Talker) (h : Listener) → length (cellNumbers (both t h)) ≡ cellFields
 unfolding cellNumbers talkerNumbers listenerNumbers fixedNumbers
@@ -90,9 +90,9 @@ cell-size noTalker (listener r l) = refl
 cell-size (talker k) noListener = refl
 cell-size (talker k) (listener r l) = refl
 
-heldFixed : Talker → Fixed
-heldFixed noTalker = noFixed
-heldFixed (talker r) = r .fixed
+held : Talker → Registration
+held noTalker = firstJoin noFixed record { health = sound; latency = 0 }
+held (talker r) = r
 
 -- A Listener's join.
 
@@ -125,15 +125,15 @@ module _ (t : Talker) (h : Listener) (kind latency : ℕ) where
   begins = set (patch changedField 3 (zeros 3) (set (cellNumbers (both t h)) 0 kind)) latencyField latency
 
 sound-again : (t : Talker) (h : Listener) (latency : ℕ)
-    → patch bridgeField 2 (zeros 2) (begins t h 1 latency) ≡ cellNumbers (both (talker (firstJoin (heldFixed t) record { health = sound; latency = latency })) h)
-unfolding begins firstJoin heldFixed cellNumbers talkerNumbers fixedNumbers priorityOctet noFixed leavingNumber sinceNumber healthNumber bridgeNumber codeNumber bit patch
+    → patch bridgeField 2 (zeros 2) (begins t h 1 latency) ≡ cellNumbers (both (talker (sameJoin record { health = sound; latency = latency } (held t))) h)
+unfolding begins firstJoin sameJoin held cellNumbers talkerNumbers fixedNumbers priorityOctet noFixed leavingNumber sinceNumber healthNumber bridgeNumber codeNumber bit patch
 sound-again noTalker h latency = refl
 sound-again (talker r) h latency = refl
 
 broken-again : (t : Talker) (h : Listener) (latency bridge code : ℕ)
     → set (set (begins t h 2 latency) bridgeField bridge) codeField code
-    ≡ cellNumbers (both (talker (firstJoin (heldFixed t) record { health = broken bridge code; latency = latency })) h)
-unfolding begins firstJoin heldFixed cellNumbers talkerNumbers fixedNumbers priorityOctet noFixed leavingNumber sinceNumber healthNumber bridgeNumber codeNumber bit patch
+    ≡ cellNumbers (both (talker (sameJoin record { health = broken bridge code; latency = latency } (held t))) h)
+unfolding begins firstJoin sameJoin held cellNumbers talkerNumbers fixedNumbers priorityOctet noFixed leavingNumber sinceNumber healthNumber bridgeNumber codeNumber bit patch
 broken-again noTalker h latency bridge code = refl
 broken-again (talker r) h latency bridge code = refl
 
@@ -145,7 +145,7 @@ varying : ℕ → List ℕ → Varying
 varying k first = record { health = healthValue (kindAt k) (firstNumbers k first); latency = getD (firstNumbers k first) 6 0 }
 
 varies : (k : ℕ) → 1 ≤ k → k ≤ 2 → (first : List ℕ) (t : Talker) (h : Listener)
-    → varied k first (cellOctets (both t h)) ≡ cellOctets (both (talker (firstJoin (heldFixed t) (varying k first))) h)
+    → varied k first (cellOctets (both t h)) ≡ cellOctets (both (talker (sameJoin (varying k first) (held t))) h)
 unfolding cellOctets varied varying firstNumbers kindAt firstWidths fields healthValue begins
 varies zero low high first t h = absurd (omega arith)
 varies (suc zero) low high first t h =
@@ -171,12 +171,12 @@ module _ (first : List ℕ) (long : advertiseLength ≤ length first) (octets : 
   talkerNumbersOf : List ℕ → List ℕ
   talkerNumbersOf more = fields (talkerWidths more) 0 first
 
-  takes : (more : List ℕ) (f : Fixed) (v : Varying) (h : Listener)
-      → fixed first n (cellOctets (both (talker (firstJoin f v)) h)) ≡ cellOctets (both (talker (firstJoin (fixedValue (talkerNumbersOf more) n) v)) h)
-  unfolding firstJoin cellOctets cellNumbers talkerNumbers fixedNumbers fixedValue talkerNumbersOf fields priorityOctet priorityOf rankOf patch
-  takes more f v h =
+  takes : (more : List ℕ) (v : Varying) (h : Listener)
+      → fixed first n (cellOctets (both (talker (sameJoin v (held noTalker))) h)) ≡ cellOctets (both (talker (firstJoin (fixedValue (talkerNumbersOf more) n) v)) h)
+  unfolding firstJoin sameJoin held cellOctets cellNumbers talkerNumbers fixedNumbers fixedValue talkerNumbersOf fields priorityOctet priorityOf rankOf patch
+  takes more v h =
       let o : getD first firstPriority 0 / 16 * 16 ≡ beAt 1 first firstPriority / 32 * 32 + beAt 1 first firstPriority / 16 % 2 * 16 = omega (arith, beAt-one first firstPriority) in
-      fixed-numbers (cellNumbers (both (talker (firstJoin f v)) h)) (cell-size (talker (firstJoin f v)) h) first n long octets ∙ rw o
+      fixed-numbers (cellNumbers (both (talker (sameJoin v (held noTalker))) h)) (cell-size (talker (sameJoin v (held noTalker))) h) first n long octets ∙ rw o
 
 -- Whether what is fixed is the same: as three numbers of octets, and field by field.
 
@@ -269,8 +269,8 @@ numbers-have vs fit g d v z n p r =
       rank = r;
     }
 
-has : (t : Talker) (h : Listener) → FitCell (both t h) → Has (cellOctets (both t h)) (heldFixed t)
-unfolding cellOctets cellNumbers talkerNumbers fixedNumbers priorityOctet heldFixed noFixed
+has : (t : Talker) (h : Listener) → FitCell (both t h) → Has (cellOctets (both t h)) (held t .fixed)
+unfolding cellOctets cellNumbers talkerNumbers fixedNumbers priorityOctet held firstJoin noFixed
 has noTalker h fit = numbers-have (cellNumbers (both noTalker h)) (fit .numbers) noFixed refl refl refl refl refl (omega arith)
 has (talker r) h fit = numbers-have (cellNumbers (both (talker r) h)) (fit .numbers) (r .fixed) refl refl refl refl refl (fit .rank)
 
@@ -343,26 +343,26 @@ module _ (k : ℕ) (low : 1 ≤ k) (high : k ≤ 2) (first : List ℕ) (long : a
   joining : Fixed
   joining = fixedValue (firstNumbers k first) n
 
-  takes-fixed : (f : Fixed) (v : Varying) (h : Listener)
-      → fixed first n (cellOctets (both (talker (firstJoin f v)) h)) ≡ cellOctets (both (talker (firstJoin joining v)) h)
+  takes-fixed : (v : Varying) (h : Listener)
+      → fixed first n (cellOctets (both (talker (sameJoin v (held noTalker))) h)) ≡ cellOctets (both (talker (firstJoin joining v)) h)
   unfolding joining firstNumbers talkerNumbersOf more
-  takes-fixed f v h = rw (first-widths k low high) (takes first long octets n more f v h)
+  takes-fixed v h = rw (first-widths k low high) (takes first long octets n more v h)
 
-  is-same : (t : Talker) (h : Listener) → FitCell (both t h) → same first n (cellOctets (both t h)) ≡ sameFixed joining (heldFixed t)
+  is-same : (t : Talker) (h : Listener) → FitCell (both t h) → same first n (cellOctets (both t h)) ≡ sameFixed joining (held t .fixed)
   unfolding joining firstNumbers new more
-  is-same t h fit = rw (first-widths k low high) (same-fixed first octets n more (cellOctets (both t h)) (heldFixed t) (has t h fit))
+  is-same t h fit = rw (first-widths k low high) (same-fixed first octets n more (cellOctets (both t h)) (held t .fixed) (has t h fit))
 
   joins-to : (t : Talker) (h : Listener) → FitCell (both t h)
       → joined k first n (cellOctets (both t h)) ≡ cellOctets (both (joinTalker joining (varying k first) t) h)
-  unfolding joined joinTalker firstJoin sameJoin heldFixed cellNumbers talkerNumbers pick
+  unfolding joined joinTalker held cellNumbers talkerNumbers pick
   joins-to noTalker h fit =
       rw (talker-kind (both noTalker h) fit, varies k low high first noTalker h)
-      (takes-fixed noFixed (varying k first) h)
+      (takes-fixed (varying k first) h)
   joins-to (talker r) h fit =
       rw (talker-kind (both (talker r) h) fit, some-kind (r .varying .health), is-same (talker r) h fit, varies k low high first (talker r) h, marks r h)
       (go (sameFixed joining (r .fixed)))
     where
-      go : (t : Bool) → pick t (cellOctets (both (talker (firstJoin (r .fixed) (varying k first))) h)) (cellOctets (both (talker (otherJoin r)) h))
+      go : (t : Bool) → pick t (cellOctets (both (talker (sameJoin (varying k first) r)) h)) (cellOctets (both (talker (otherJoin r)) h))
           ≡ cellOctets (both (talker (cond t (sameJoin (varying k first) r) (otherJoin r))) h)
       go true = refl
       go false = refl

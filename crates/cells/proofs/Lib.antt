@@ -1,5 +1,4 @@
 pub mod Keeps
 pub mod Leaving
 pub mod Joining
-pub mod Holding
 pub mod Acts

@@ -1,29 +1,30 @@
-// What the events of a frame, expiry and reading do to one cell of 39 octets (docs/TABLE.md, "Cell").
+// What the events of a frame and expiry do to one cell of 39 octets (docs/TABLE.md, "Cell").
 ghost use mathlib.Core.Path.{_≡_};
-ghost use mathlib.Core.Bool.{_||_};
-ghost use Prim.Native.Nat.{ℕ, _+_, _≤_, _<_, _^_};
+ghost use Prim.Native.Nat.{ℕ, _≤_};
 ghost use lib.ListN.{length};
-ghost use Rattle.octets.specs.Be.{beAt};
-ghost use Rattle.model.specs.FrameLayout.{advertiseLength, failedLength, firstDestination};
-ghost use Rattle.model.specs.Layout.{cellSize, listenerLeavesPlace, priorityBUnit};
+ghost use Rattle.model.specs.Layout.{cellSize, listenerLeavesPlace};
 ghost use Rattle.model.specs.State.{Settings};
 ghost use Rattle.model.specs.Registrations.{quit, does, listen};
-ghost use Rattle.model.specs.Frames.{registers, firstLength};
-ghost use Rattle.model.specs.Settling.{expireCell, isTalking, isHearing};
+ghost use Rattle.model.specs.Settling.{expireCell};
 ghost use Rattle.model.specs.Table.{cellOctets, toCell, toReady};
-ghost use Rattle.model.specs.Laid.{LaidCell};
 ghost use Rattle.cells.specs.Acts.{kindAt, talkOf};
+ghost use Rattle.cells.specs.Asks.{TypeGiven, TalkerGiven, FixedGiven, VaryingGiven, LapseGiven, ExpiryGiven};
 ghost use Rattle.cells.specs.Steps.{begun, lapsed, marked, failing, varied, fixed, same};
 use table::cell::BRIDGE_ID;
 use table::cell::CHANGED;
 use table::cell::CODE;
 use table::cell::DESTINATION;
+use table::cell::FAILURE;
 use table::cell::LATENCY;
+use table::cell::LEAVING;
 use table::cell::LISTENER;
 use table::cell::LISTENER_LEAVES;
+use table::cell::LISTENER_PART;
+use table::cell::MARKS;
 use table::cell::PRIORITY;
 use table::cell::TALKER;
 use table::cell::TALKER_LEAVES;
+use table::cell::TALKER_PART;
 use table::cell::VLAN;
 
 // The places of a Talker's FirstValue.
@@ -52,7 +53,7 @@ fn begin(cell: &mut [u8], at: usize, clock: u32)
 
 // Lv or LeaveAll of an AttributeType: what is held of that type begins to leave.
 pub fn quit(cell: &mut [u8], kind: u8, clock: u32)
-    requires { ⌜ LaidCell (now cell) × (length (now cell) ≡ cellSize) × (1 ≤ kind) × (kind ≤ 3) ⌝ }
+    requires { ⌜ TypeGiven (now cell) kind ⌝ }
     ensures { λ _. ⌜ now (cell .exit) ≡ cellOctets (quit clock (kindAt kind) (toCell (now (cell .entry)))) ⌝ }
 {
     if kind == 3 {
@@ -68,17 +69,17 @@ pub fn quit(cell: &mut [u8], kind: u8, clock: u32)
 
 // A Listener's join: the declaration type of a FourPackedEvent, not leaving.
 pub fn join_listener(cell: &mut [u8], four: u8)
-    requires { ⌜ LaidCell (now cell) × (length (now cell) ≡ cellSize) × (1 ≤ four) × (four ≤ 3) ⌝ }
+    requires { ⌜ TypeGiven (now cell) four ⌝ }
     ensures { λ _. ⌜ ((clock id : ℕ) → now (cell .exit) ≡ cellOctets (does clock (listen id (toReady four)) (toCell (now (cell .entry))))) ⌝ }
 {
     octets::put(cell, LISTENER, 1, four as u64);
-    octets::clear(cell, LISTENER_LEAVES, 5);
+    octets::clear(cell, LISTENER_LEAVES, LEAVING);
 }
 
 // Whether destination, VLAN, TSpec, priority and rank are those of value n of a FirstValue. VLAN and TSpec are compared as one
 // number of six octets.
 fn is_same(cell: &[u8], first: &[u8], n: usize) -> bool
-    requires { ⌜ (length (now cell) ≡ cellSize) × (advertiseLength ≤ length (now first)) × (beAt 6 (now first) firstDestination + n < 256 ^ 6) ⌝ }
+    requires { ⌜ FixedGiven (now cell) (now first) n ⌝ }
     ensures { λ r. ⌜ r ≡ same (now (first .entry)) n (now (cell .entry)) ⌝ }
 {
     if octets::get(cell, DESTINATION, 6) == octets::get(first, FIRST_DESTINATION, 6) + (n as u64) {
@@ -91,7 +92,7 @@ fn is_same(cell: &[u8], first: &[u8], n: usize) -> bool
 
 // Takes destination, VLAN, TSpec, priority and rank of value n of a FirstValue.
 fn write_fixed(cell: &mut [u8], first: &[u8], n: usize)
-    requires { ⌜ (length (now cell) ≡ cellSize) × (advertiseLength ≤ length (now first)) × (beAt 6 (now first) firstDestination + n < 256 ^ 6) ⌝ }
+    requires { ⌜ FixedGiven (now cell) (now first) n ⌝ }
     ensures { λ _. ⌜ now (cell .exit) ≡ fixed (now (first .entry)) n (now (cell .entry)) ⌝ }
 {
     octets::put(
@@ -106,24 +107,24 @@ fn write_fixed(cell: &mut [u8], first: &[u8], n: usize)
 
 // Takes the failure of a FirstValue, or none.
 fn write_failure(cell: &mut [u8], kind: u8, first: &[u8])
-    requires { ⌜ (length (now cell) ≡ cellSize) × (advertiseLength ≤ length (now first)) × (kind ≡ 2 → failedLength ≤ length (now first)) ⌝ }
+    requires { ⌜ VaryingGiven (now cell) kind (now first) ⌝ }
     ensures { λ _. ⌜ now (cell .exit) ≡ failing kind (now (first .entry)) (now (cell .entry)) ⌝ }
 {
     if kind == 2 {
         octets::put(cell, BRIDGE_ID, 8, octets::get(first, FIRST_BRIDGE_ID, 8));
         octets::put(cell, CODE, 1, first[FIRST_CODE] as u64);
     } else {
-        octets::clear(cell, BRIDGE_ID, 9);
+        octets::clear(cell, BRIDGE_ID, FAILURE);
     }
 }
 
 // Takes type, latency and failure of a FirstValue; clears the changed mark and ends leaving.
 fn write_varying(cell: &mut [u8], kind: u8, first: &[u8])
-    requires { ⌜ (length (now cell) ≡ cellSize) × (advertiseLength ≤ length (now first)) × (kind ≡ 2 → failedLength ≤ length (now first)) ⌝ }
+    requires { ⌜ VaryingGiven (now cell) kind (now first) ⌝ }
     ensures { λ _. ⌜ now (cell .exit) ≡ varied kind (now (first .entry)) (now (cell .entry)) ⌝ }
 {
     octets::put(cell, TALKER, 1, kind as u64);
-    octets::clear(cell, CHANGED, 6);
+    octets::clear(cell, CHANGED, MARKS);
     octets::put(cell, LATENCY, 4, octets::get(first, FIRST_LATENCY, 4));
     write_failure(cell, kind, first);
 }
@@ -134,13 +135,12 @@ fn mark_changed(cell: &mut [u8])
     ensures { λ _. ⌜ now (cell .exit) ≡ marked (now (cell .entry)) ⌝ }
 {
     octets::put(cell, CHANGED, 1, 1);
-    octets::clear(cell, TALKER_LEAVES, 5);
+    octets::clear(cell, TALKER_LEAVES, LEAVING);
 }
 
 // A Talker's join, of value n of a FirstValue: it registers, replaces what may vary, or marks the held Talker as changed.
 pub fn join_talker(cell: &mut [u8], kind: u8, first: &[u8], n: usize)
-    requires { ⌜ LaidCell (now cell) × (length (now cell) ≡ cellSize) × (1 ≤ kind) × (kind ≤ 2)
-        × (length (now first) ≡ firstLength (registers (kindAt kind))) × (beAt 6 (now first) firstDestination + n < 256 ^ 6) ⌝ }
+    requires { ⌜ TalkerGiven (now cell) kind (now first) n ⌝ }
     ensures { λ _. ⌜ ((clock : ℕ) → now (cell .exit) ≡ cellOctets (does clock (talkOf (kindAt kind) (now (first .entry)) n) (toCell (now (cell .entry))))) ⌝ }
 {
     if cell[TALKER] == 0 {
@@ -158,7 +158,7 @@ pub fn join_talker(cell: &mut [u8], kind: u8, first: &[u8], n: usize)
 
 // Clears n octets where the leaving with its mark at a place has lasted the leave time. The sum is of 64 bits, so that it does not wrap.
 fn lapse(cell: &mut [u8], from: usize, n: usize, mark: usize, leave: u32, time: u32)
-    requires { ⌜ (length (now cell) ≡ cellSize) × (from + n ≤ cellSize) × (mark ≤ listenerLeavesPlace) × (leave < priorityBUnit) ⌝ }
+    requires { ⌜ LapseGiven (now cell) from n mark leave ⌝ }
     ensures { λ _. ⌜ now (cell .exit) ≡ lapsed from n mark leave time (now (cell .entry)) ⌝ }
 {
     if cell[mark] == 0 {
@@ -171,20 +171,9 @@ fn lapse(cell: &mut [u8], from: usize, n: usize, mark: usize, leave: u32, time: 
 
 // Removes what has been leaving for at least the leave time.
 pub fn expire(cell: &mut [u8], leave: u32, time: u32)
-    requires { ⌜ LaidCell (now cell) × (length (now cell) ≡ cellSize) × (leave < priorityBUnit) ⌝ }
+    requires { ⌜ ExpiryGiven (now cell) leave ⌝ }
     ensures { λ _. ⌜ ((st : Settings) → st .leaveTime ≡ leave → now (cell .exit) ≡ cellOctets (expireCell st time (toCell (now (cell .entry))))) ⌝ }
 {
-    lapse(cell, TALKER, 33, TALKER_LEAVES, leave, time);
-    lapse(cell, LISTENER, 6, LISTENER_LEAVES, leave, time);
-}
-
-// Whether the port has a registration of the stream.
-pub fn is_held(cell: &[u8]) -> bool
-    requires { ⌜ length (now cell) ≡ cellSize ⌝ }
-    ensures { λ r. ⌜ r ≡ (isTalking (toCell (now (cell .entry))) || isHearing (toCell (now (cell .entry)))) ⌝ }
-{
-    if 0 < cell[TALKER] {
-        return true;
-    }
-    0 < cell[LISTENER]
+    lapse(cell, TALKER, TALKER_PART, TALKER_LEAVES, leave, time);
+    lapse(cell, LISTENER, LISTENER_PART, LISTENER_LEAVES, leave, time);
 }

@@ -18,14 +18,14 @@ use Rattle.table.specs.Places.{Stands, StandsOn}
 use Rattle.table.specs.Reads.{ReadsCell, fixedOctets}
 use Rattle.table.proofs.ByPlace.{stands, stands-on, stream-fits, stream-same, stream-replaced-stands, stream-replaced-at, stream-replaced-scene, stream-replaced-again, settled-as-fits, cell-at, settled-replaced, changed-result-at}
 use Rattle.table.proofs.EachStream.{partly, partly-scene, partly-stands, one-more, all-done}
-use Rattle.streams.specs.Answers.{talkerPlace, sourceIn}
+use Rattle.streams.specs.Answers.{talkerPort, sourceIn}
 use Rattle.streams.proofs.Sources.{source-at}
 use Rattle.columns.specs.Stages.{shownBy, shownAs, earlyColumn, earlyAt, early, earlyAll}
 use Rattle.columns.specs.Places.{TalkerAt, changedAt, earlyOne, earlyTo}
 use Rattle.columns.proofs.Entries.{registered-read}
 use Rattle.columns.proofs.Talkers.{fixed-part}
 use Rattle.columns.proofs.EarlyFits.{settled-values, early-fits}
-use Rattle.columns.proofs.EarlyPlaces.{no-place, next-place, all-places, places-fit}
+use Rattle.columns.proofs.EarlyPorts.{none-decided, next-decided, all-decided, decided-fits}
 pub use Rattle.columns.proofs.EarlyFits.{early-all-fits}
 
 -- the result of stream k on the port at place p, written from what was read of its column, latency out and Listener
@@ -33,13 +33,13 @@ module _ {table : List ℕ} {k p : ℕ} (s : StandsOn table k p) where
   abbrev x : Stream
   x = streamAt k (decode table)
 
-  pub place-written : (now latency listener a : ℕ) (column : Column) (here y : List ℕ) → a ≡ resultPlace k p
+  pub result-written : (now latency listener a : ℕ) (column : Column) (here y : List ℕ) → a ≡ resultPlace k p
       → column ≡ earlyColumn (sceneOf (decode table)) p x → latency ≡ latencyOut (decode table .settings) p x
       → ReadsCell here (cellAt x p) → listener ≡ beAt 1 here listenerPlace
       → y ≡ resultOctets (shownBy column latency (toDeclared listener) now (toResult (take (a + resultSize - a) (drop a table))))
       → take a table ++ (y ++ drop (a + resultSize - a) (drop a table)) ≡ encode (changedAt k (earlyOne p now) (decode table))
   unfolding earlyOne
-  place-written now latency listener a column here y e f g c h q =
+  result-written now latency listener a column here y e f g c h q =
       let shown : shownBy column latency (toDeclared listener) now (resultAt x p) ≡ earlyAt (sceneOf (decode table)) now x p =
       unfold earlyAt shownAs in rw (f, g, h, ← registered-read here, c .is) in
       changed-result-at s a e (shownBy column latency (toDeclared listener) now) y q ∙ ap (λ (r : Result). encode (withResult k p r (decode table))) shown
@@ -66,7 +66,7 @@ module _ {table : List ℕ} {k : ℕ} (s : Stands table k) (x : Stream) (w : Fit
   unfolding sourceOf
   talker-kept {t} i = record {
     stands = stands-on (stream-replaced-stands s x w same u e) t (i .stands .port);
-    is = i .is ∙ ap (λ (l : List Cell). talkerPlace (source 0 l)) (sym (ap (λ (y : Stream). y .cells) (stream-replaced-at s x w same u e) ∙ cells));
+    is = i .is ∙ ap (λ (l : List Cell). talkerPort (source 0 l)) (sym (ap (λ (y : Stream). y .cells) (stream-replaced-at s x w same u e) ∙ cells));
   }
 
   pub changed-again : (g : Scene → Stream → Stream) (z : Stream) → g (sceneOf (decode table)) x ≡ z
@@ -95,36 +95,36 @@ module _ {table : List ℕ} {k t : ℕ} (i : TalkerAt table k t) where
     settled-talker = talker-kept (stands (i .stands)) (settledAs f x₀) settled-fits refl refl u settled-there i
 
     -- and after them the places
-    pub settled-places : (now : ℕ) (y : List ℕ) → y ≡ encode (changedAt k (earlyTo 8 now) (decode u)) → y ≡ encode (changedAt k (λ sc. early sc now) (decode table))
-    settled-places now =
+    pub settled-ports : (now : ℕ) (y : List ℕ) → y ≡ encode (changedAt k (earlyTo 8 now) (decode u)) → y ≡ encode (changedAt k (λ sc. early sc now) (decode table))
+    settled-ports now =
         changed-again (stands (i .stands)) (settledAs f x₀) settled-fits refl refl u settled-there (earlyTo 8 now) (early (sceneOf (decode table)) now x₀)
-        (all-places (sceneOf (decode table)) now x₀ (stream-fits (stands (i .stands)) .eight-results))
+        (all-decided (sceneOf (decode table)) now x₀ (stream-fits (stands (i .stands)) .eight-results))
 
 -- The places, one after another.
 
 module _ {table : List ℕ} {k t : ℕ} (i : TalkerAt table k t) (now : ℕ) (soon : now < 2 ^ 32) where
-  pub places-start : table ≡ encode (changedAt k (earlyTo 0 now) (decode table))
-  places-start =
+  pub ports-start : table ≡ encode (changedAt k (earlyTo 0 now) (decode table))
+  ports-start =
       stream-same (stands (i .stands))
-      ∙ ap (λ (x : Stream). encode (withStream k x (decode table))) (sym (no-place (sceneOf (decode table)) now (x₀ i)))
+      ∙ ap (λ (x : Stream). encode (withStream k x (decode table))) (sym (none-decided (sceneOf (decode table)) now (x₀ i)))
 
   module _ (n : ℕ) (few : n ≤ 8) (s : List ℕ) (e : s ≡ encode (changedAt k (earlyTo n now) (decode table))) where
     abbrev xₙ : Stream
     xₙ = earlyTo n now (sceneOf (decode table)) (x₀ i)
 
-    places-fit-here : FitStream xₙ
-    places-fit-here =
-        places-fit (sceneOf (decode table)) now (x₀ i) (laid-fits table (i .stands .laid) .settings .bridgeId) soon (stream-fits (stands (i .stands))) n few
+    ports-fit-here : FitStream xₙ
+    ports-fit-here =
+        decided-fits (sceneOf (decode table)) now (x₀ i) (laid-fits table (i .stands .laid) .settings .bridgeId) soon (stream-fits (stands (i .stands))) n few
 
-    pub places-talker : TalkerAt s k t
+    pub ports-talker : TalkerAt s k t
     unfolding earlyTo
-    places-talker = talker-kept (stands (i .stands)) xₙ places-fit-here refl refl s e i
+    ports-talker = talker-kept (stands (i .stands)) xₙ ports-fit-here refl refl s e i
 
-    pub places-turn : n < 8 → (y : List ℕ) → y ≡ encode (changedAt k (earlyOne n now) (decode s)) → y ≡ encode (changedAt k (earlyTo (n + 1) now) (decode table))
-    places-turn h =
-        changed-again (stands (i .stands)) xₙ places-fit-here (unfold earlyTo in refl) (unfold earlyTo in refl) s e (earlyOne n now)
+    pub ports-turn : n < 8 → (y : List ℕ) → y ≡ encode (changedAt k (earlyOne n now) (decode s)) → y ≡ encode (changedAt k (earlyTo (n + 1) now) (decode table))
+    ports-turn h =
+        changed-again (stands (i .stands)) xₙ ports-fit-here (unfold earlyTo in refl) (unfold earlyTo in refl) s e (earlyOne n now)
         (earlyTo (n + 1) now (sceneOf (decode table)) (x₀ i))
-        (next-place (sceneOf (decode table)) now (x₀ i) n (omega (arith, stream-fits (stands (i .stands)) .eight-results)))
+        (next-decided (sceneOf (decode table)) now (x₀ i) n (omega (arith, stream-fits (stands (i .stands)) .eight-results)))
 
 -- Every stream, one after another.
 

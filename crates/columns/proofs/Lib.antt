@@ -3,5 +3,5 @@ pub mod Entries
 pub mod Talkers
 pub mod ResultFields
 pub mod EarlyFits
-pub mod EarlyPlaces
+pub mod EarlyPorts
 pub mod EarlyTables

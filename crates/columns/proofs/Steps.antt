@@ -8,7 +8,7 @@ use lib.Dec.{eqb, ltb}
 use borrow.Author.Tests.{lt-ltb, le-ltb}
 use Rattle.octets.specs.Be.{beAt}
 use Rattle.octets.specs.Fields.{fields}
-use Rattle.model.specs.Layout.{before, bridgePlace, changedPlace, codePlace, fixedPlace, fixedWidths, largestPlace, priorityPlace}
+use Rattle.model.specs.Layout.{before, bridgePlace, changedPlace, codePlace, fixedPlace, fixedWidths, inPort, priorityPlace}
 use Rattle.model.specs.Lists.{isOne}
 use Rattle.model.specs.State.{sound, broken, Column, none, advertise, failed, Stream, Class, portAt, isPort, cellAt, ownAt, classOf, isNoClass, supports}
 use Rattle.model.specs.Frames.{priorityOf}
@@ -54,7 +54,7 @@ module _ (sc : Scene) (port here said : List ℕ) (p t : ℕ) where
   class = classOf (sc .settings) (beAt 1 said priorityPlace / 32)
 
   abbrev pub from-g : Column
-  from-g = cond (ltb (beAt 2 port largestPlace) (beAt 2 said sizePlace)) (own 14) advertise
+  from-g = cond (ltb (beAt 2 port inPort.largest) (beAt 2 said sizePlace)) (own 14) advertise
 
   abbrev pub from-j : Column
   from-j = cond (boundary (ownAt (sc .own) p) class) (own 8) from-g

@@ -18,7 +18,7 @@ use Rattle.model.specs.Table.{toPort, cellNumbers, cellOctets, talkerNumbers, t
 use Rattle.model.specs.Laid.{FitRank, LaidCell}
 use Rattle.model.proofs.Fits.{laid-cell-is, laid-cell-fits}
 use Rattle.table.specs.Reads.{fixedOctets, ReadsCell, ReadsPort}
-use Rattle.streams.specs.Answers.{talkerPlace, sourceIn}
+use Rattle.streams.specs.Answers.{talkerPort, sourceIn}
 use Rattle.streams.proofs.Sources.{source-at}
 
 -- Of the numbers of any cell.
@@ -56,7 +56,7 @@ module _ (s : List ℕ) (l : LaidCell s) where
 
 -- The cell at place t of a stream whose Talker stands there, in the octets s.
 
-module _ (x : Stream) (t : ℕ) (e : t ≡ talkerPlace (sourceOf x)) (s : List ℕ) (r : ReadsCell s (cellAt x t)) where
+module _ (x : Stream) (t : ℕ) (e : t ≡ talkerPort (sourceOf x)) (s : List ℕ) (r : ReadsCell s (cellAt x t)) where
   pub source-read : sourceIn t (toCell s) ≡ sourceOf x
   source-read = ap (sourceIn t) (r .is) ∙ rw e (sym (source-at x))
 

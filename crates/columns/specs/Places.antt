@@ -13,7 +13,7 @@ use Rattle.model.specs.Laid.{Laid}
 use Rattle.table.specs.Updates.{resulting, streamAt, withStream}
 use Rattle.table.specs.Places.{StandsOn}
 use Rattle.table.specs.Reads.{ReadsPort}
-use Rattle.streams.specs.Answers.{talkerPlace}
+use Rattle.streams.specs.Answers.{talkerPort}
 use Rattle.columns.specs.Stages.{earlyAt}
 
 -- a table, the settings of its port at place p, and two cells
@@ -27,7 +27,7 @@ pub record Asked (table port here talker : List ℕ) (p : ℕ) : Type 0 where
 -- stream k of a table, and the place t of its Talker, which is 0 where it has none
 pub record TalkerAt (s : List ℕ) (k t : ℕ) : Type 0 where
   pub stands : StandsOn s k t
-  pub is : t ≡ talkerPlace (sourceOf (streamAt k (decode s)))
+  pub is : t ≡ talkerPort (sourceOf (streamAt k (decode s)))
 
 -- stream k changed by what g makes of the scene and the stream
 abbrev pub changedAt : ℕ → (Scene → Stream → Stream) → Bridge → Bridge

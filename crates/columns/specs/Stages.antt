@@ -75,7 +75,8 @@ unfoldable pub claimsShown : Settings → ℕ → Class → List Stream → List
 claimsShown st p c [] = []
 claimsShown st p c (x ∷ s) = keep (waits st p c x) (claimShown st p x) (claimsShown st p c s)
 
--- the limit in force
+-- the limit in force. It is asked of the bridge as the classes shared out before left it, since this one may be given what they
+-- leave; here the port's settings alone decide
 unfoldable pub limitShown : Settings → Bridge → ℕ → Class → ℕ
 limitShown st b p c = limit (portAt st p) c
 

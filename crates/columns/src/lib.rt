@@ -73,34 +73,27 @@ fn at_edge(table: &[u8], p: usize, class: ClassRead) -> bool
     }
 }
 
-// Steps a to g and j on the port at place p, whose cell is here, for the Talker registered at place t: the first that applies,
+// Steps a to g and j on the port at place p, whose cell is here, for the Talker's cell said at place t: the first that applies,
 // Advertise where none does.
-fn first_step(
-    table: &[u8],
-    port: &[u8],
-    here: &[u8],
-    talker: &[u8],
-    p: usize,
-    t: usize,
-) -> ColumnRead
-    requires { ⌜ Asked (now table) (now port) (now here) (now talker) p ⌝ }
+fn first_step(table: &[u8], port: &[u8], here: &[u8], said: &[u8], p: usize, t: usize) -> ColumnRead
+    requires { ⌜ Asked (now table) (now port) (now here) (now said) p ⌝ }
     ensures { λ r. ⌜ columnShown r ≡ firstStep (sceneOf (decode (now (table .entry)))) p (toCell (now (here .entry)))
-        (sourceIn t (toCell (now (talker .entry)))) ⌝ }
+        (sourceIn t (toCell (now (said .entry)))) ⌝ }
 {
-    let kind = talker[cell::TALKER];
-    let mark = talker[cell::CHANGED];
+    let kind = said[cell::TALKER];
+    let mark = said[cell::CHANGED];
     if kind == 0 {
         return ColumnRead::None;
     }
     if p == t {
         return ColumnRead::None;
     }
-    let class = streams::class_of(table, octets::get(talker, cell::PRIORITY, 1) / 32);
+    let class = streams::class_of(table, octets::get(said, cell::PRIORITY, 1) / 32);
     if !supports(port, class) {
         return ColumnRead::None;
     }
     if kind != 1 {
-        return ColumnRead::Failed(octets::get(talker, cell::BRIDGE_ID, 8), talker[cell::CODE]);
+        return ColumnRead::Failed(octets::get(said, cell::BRIDGE_ID, 8), said[cell::CODE]);
     }
     if mark == 1 {
         return own(table, 16);
@@ -114,7 +107,7 @@ fn first_step(
     if at_edge(table, p, class) {
         return own(table, 8);
     }
-    if octets::get(port, port::LARGEST, 2) < octets::get(talker, cell::FRAME_SIZE, 2) {
+    if octets::get(port, port::LARGEST, 2) < octets::get(said, cell::FRAME_SIZE, 2) {
         return own(table, 14);
     }
     ColumnRead::Advertise
@@ -268,8 +261,8 @@ fn copy_fixed(table: &mut [u8], k: usize, t: usize)
     table::move_down(table, to, from - to, table::FIXED);
 }
 
-// What stream k shows on each of the eight places.
-fn early_places(table: &mut [u8], k: usize, t: usize, time: u32)
+// What stream k shows on each of the eight ports, of which some may be none.
+fn early_ports(table: &mut [u8], k: usize, t: usize, time: u32)
     requires { ⌜ TalkerAt (now table) k t ⌝ }
     ensures { λ _. ⌜ now (table .exit) ≡ encode (changedAt k (earlyTo 8 time) (decode (now (table .entry)))) ⌝ }
 {
@@ -285,9 +278,9 @@ fn early_record(table: &mut [u8], k: usize, time: u32)
     requires { ⌜ Stands (now table) k ⌝ }
     ensures { λ _. ⌜ now (table .exit) ≡ encode (changedAt k (λ sc. early sc time) (decode (now (table .entry)))) ⌝ }
 {
-    let t = streams::talker_place(table, k);
+    let t = streams::talker_port(table, k);
     copy_fixed(table, k, t);
-    early_places(table, k, t, time);
+    early_ports(table, k, t, time);
 }
 
 // Stage 1 for every stream held.

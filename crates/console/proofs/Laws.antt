@@ -10,10 +10,10 @@ use lib.ListN.{length, getD, take, drop, length-append}
 use lib.Seq.{length-take-le, take-suc}
 use lib.Dec.{ltb}
 use borrow.Author.Tests.{ltb-true, ltb-false}
-use Rattle.octets.specs.Parts.{over}
+use Rattle.octets.specs.Parts.{patch}
 use Rattle.octets.specs.Fields.{flat}
-use Rattle.octets.proofs.Parts.{lent, length-patch, patch-none}
-use Rattle.octets.proofs.Patches.{patch-next}
+use Rattle.octets.proofs.Parts.{length-patch, patch-none}
+use Rattle.octets.proofs.Patches.{lent-patch, patch-next}
 use Rattle.octets.proofs.Fields.{flat-append}
 use Rattle.io.specs.Digits.{digits, Fewest}
 use Rattle.console.specs.Text.{startOf, fitting, putIn, Put}
@@ -21,11 +21,11 @@ use Rattle.console.specs.Text.{startOf, fitting, putIn, Put}
 -- what copying the part of a text that fits into the part of the line behind its start leaves
 pub put-made : (line text y : List ℕ) (at from n : ℕ) → from ≡ min at (length line) → n ≡ min (length text) (length line - from) → y ≡ take (n - 0) text
     → Put line at text (from + n) (take from line ++ (y ++ drop (from + n - from) (drop from line)))
-unfolding startOf fitting putIn over
+unfolding startOf fitting putIn
 put-made line text y at from n a b e =
     let l : length (take n text) ≡ n = length-take-le n text (omega arith) in
     let z : n - 0 ≡ n = omega arith in
-    let w = lent from n (λ _. take n text) line y (e ∙ rw z) in
+    let w = lent-patch from n y line ∙ ap (λ (t : List ℕ). patch from n t line) (rw z at e) in
     record {
       end-is = rw (← a, ← b);
       line-is = w ∙ rw (← a, ← b);

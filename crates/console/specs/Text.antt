@@ -1,10 +1,22 @@
 -- A text put into a line. Assumes nothing.
-use Prim.Native.Nat.{ℕ, _+_, _-_, _≤_, min}
+use Prim.Native.Nat.{ℕ, _+_, _-_, _^_, _≤_, _<_, min}
 use mathlib.Core.Path.{_≡_}
 use mathlib.Core.List.{List}
 use lib.ListN.{length, take}
 use Rattle.octets.specs.Parts.{patch}
 use Rattle.io.specs.Digits.{digits, Fewest}
+
+-- the lesser of two numbers
+pub record Least (a b r : ℕ) : Type 0 where
+  pub is : r ≡ min a b
+  pub first : r ≤ a
+  pub second : r ≤ b
+
+-- a number that stands in so many hexadecimal digits, at most 16
+pub record HexGiven (n width : ℕ) : Type 0 where
+  pub some : 1 ≤ width
+  pub few : width ≤ 16
+  pub fits : n < 16 ^ width
 
 -- where a text starts that is put behind the first octets of a line
 unfoldable pub startOf : List ℕ → ℕ → ℕ

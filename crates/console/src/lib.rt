@@ -1,5 +1,5 @@
-// Lines of text, built in octets that the caller lends and written by one call each. None of these asks anything of its
-// arguments: an `at` past the end of the line counts as the end, and what does not fit is left out.
+// Lines of text, built in octets that the caller lends and written by one call each. None of the public ones asks
+// anything of its arguments: an `at` past the end of the line counts as the end, and what does not fit is left out.
 use libc::STDOUT_FILENO;
 use reports::ColumnShown;
 use reports::EntryShown;
@@ -8,16 +8,16 @@ use reports::Reported;
 ghost use mathlib.Core.Path.{_≡_};
 ghost use mathlib.Core.Bool.{false};
 ghost use mathlib.Core.List.{_∷_};
-ghost use Prim.Native.Nat.{_≤_, min};
+ghost use Prim.Native.Nat.{_≤_};
 ghost use lib.ListN.{length, set};
 ghost use Rattle.octets.specs.Fields.{flat};
 ghost use Rattle.io.specs.Digits.{digits};
-ghost use Rattle.console.specs.Text.{Put, PutDecimal};
+ghost use Rattle.console.specs.Text.{HexGiven, Least, Put, PutDecimal};
 ghost use Rattle.console.specs.Words.{columnText, listenerText, entryText, talkerText, shownText};
 
 // The lesser of two numbers.
 pub fn least(a: usize, b: usize) -> usize
-    ensures { λ r. ⌜ (r ≡ min a b) × (r ≤ a) × (r ≤ b) ⌝ }
+    ensures { λ r. ⌜ Least a b r ⌝ }
 {
     if a < b { a } else { b }
 }
@@ -50,22 +50,28 @@ pub fn put_number(line: &mut [u8], at: usize, n: u64) -> usize
     put_decimal(line, a, n)
 }
 
+// A number in so many hexadecimal digits.
+fn put_hex(line: &mut [u8], at: usize, n: u64, width: usize) -> usize
+    requires { ⌜ HexGiven n width ⌝ }
+    ensures { λ r. ⌜ Put (now (line .entry)) at (digits 16 width n) r (now (line .exit)) ⌝ }
+{
+    let mut text = [0u8; 16];
+    let k = io::hex(n, width, &mut text);
+    put(line, at, &text[..k])
+}
+
 // A StreamID: 16 hexadecimal digits.
 pub fn put_id(line: &mut [u8], at: usize, id: u64) -> usize
     ensures { λ r. ⌜ Put (now (line .entry)) at (digits 16 16 id) r (now (line .exit)) ⌝ }
 {
-    let mut text = [0u8; 16];
-    let k = io::hex(id, 16, &mut text);
-    put(line, at, &text[..k])
+    put_hex(line, at, id, 16)
 }
 
 // An octet: two hexadecimal digits.
 fn put_octet(line: &mut [u8], at: usize, octet: u8) -> usize
     ensures { λ r. ⌜ Put (now (line .entry)) at (digits 16 2 octet) r (now (line .exit)) ⌝ }
 {
-    let mut text = [0u8; 16];
-    let k = io::hex(octet as u64, 2, &mut text);
-    put(line, at, &text[..k])
+    put_hex(line, at, octet as u64, 2)
 }
 
 // Octets, two hexadecimal digits each.
@@ -82,7 +88,7 @@ pub fn put_octets(line: &mut [u8], at: usize, octets: &[u8]) -> usize
 }
 
 // The word of a column.
-pub fn put_column(line: &mut [u8], at: usize, column: ColumnShown) -> usize
+fn put_column(line: &mut [u8], at: usize, column: ColumnShown) -> usize
     ensures { λ r. ⌜ Put (now (line .entry)) at (columnText column) r (now (line .exit)) ⌝ }
 {
     match column {
@@ -93,7 +99,7 @@ pub fn put_column(line: &mut [u8], at: usize, column: ColumnShown) -> usize
 }
 
 // The word of the Listener declared on a port.
-pub fn put_listener(line: &mut [u8], at: usize, listener: ListenerShown) -> usize
+fn put_listener(line: &mut [u8], at: usize, listener: ListenerShown) -> usize
     ensures { λ r. ⌜ Put (now (line .entry)) at (listenerText listener) r (now (line .exit)) ⌝ }
 {
     match listener {
@@ -105,7 +111,7 @@ pub fn put_listener(line: &mut [u8], at: usize, listener: ListenerShown) -> usiz
 }
 
 // The word of an entry.
-pub fn put_entry(line: &mut [u8], at: usize, entry: EntryShown) -> usize
+fn put_entry(line: &mut [u8], at: usize, entry: EntryShown) -> usize
     ensures { λ r. ⌜ Put (now (line .entry)) at (entryText entry) r (now (line .exit)) ⌝ }
 {
     match entry {

@@ -49,23 +49,19 @@ at-most-one domain p b k = go (supports (portAt (b .settings) p) (classAt k))
 
 -- Whether there is one, by the result's numbers.
 
+by-column : (x : Stream) (r : Result) (c : Column) → (some (advertised x r c) ≡ eqb (columnNumber c) 1) × (some (failing x r c) ≡ eqb (columnNumber c) 2)
+unfolding advertised failing some columnNumber
+by-column x r none = (refl, refl)
+by-column x r advertise = (refl, refl)
+by-column x r (failed b d) = (refl, refl)
+
 pub some-advertise : (p : ℕ) (x : Stream) → some (declares advertises p x) ≡ eqb (columnNumber (resultAt x p .column)) 1
-unfolding declares declarationsOf advertised some columnNumber
-some-advertise p x = go (resultAt x p .column)
-  where
-    go : (c : Column) → some (advertised x (resultAt x p) c) ≡ eqb (columnNumber c) 1
-    go none = refl
-    go advertise = refl
-    go (failed b d) = refl
+unfolding declares declarationsOf
+some-advertise p x = by-column x (resultAt x p) (resultAt x p .column) .0
 
 pub some-failed : (p : ℕ) (x : Stream) → some (declares faileds p x) ≡ eqb (columnNumber (resultAt x p .column)) 2
-unfolding declares declarationsOf failing some columnNumber
-some-failed p x = go (resultAt x p .column)
-  where
-    go : (c : Column) → some (failing x (resultAt x p) c) ≡ eqb (columnNumber c) 2
-    go none = refl
-    go advertise = refl
-    go (failed b d) = refl
+unfolding declares declarationsOf
+some-failed p x = by-column x (resultAt x p) (resultAt x p .column) .1
 
 pub some-listener : (p : ℕ) (x : Stream) → some (declares listeners p x) ≡ not (eqb (declaredNumber (resultAt x p .declares)) 0)
 unfolding declares declarationsOf listening some declaredNumber readyNumber

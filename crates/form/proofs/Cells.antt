@@ -12,7 +12,7 @@ use Rattle.octets.specs.Be.{beAt}
 use Rattle.octets.specs.Parts.{part}
 use Rattle.octets.specs.Fields.{fields, width}
 use Rattle.octets.proofs.Fields.{beAt-one}
-use Rattle.model.specs.Layout.{bridgeField, bridgePlace, cellSize, cellWidths, changedField, changedPlace, listenerField, listenerLeavesPlace, listenerPlace, listenerSincePlace, priorityField, priorityPlace, talkerField, talkerLeavesPlace, talkerPlace, talkerSincePlace}
+use Rattle.model.specs.Layout.{bridgePlace, cellSize, cellWidths, changedField, changedPlace, failureSize, failureWidths, listenerField, listenerLeavesPlace, listenerPlace, listenerSincePlace, priorityField, priorityPlace, talkerField, talkerLeavesPlace, talkerPlace, talkerSincePlace}
 use Rattle.model.specs.Lists.{allTrue, implies}
 use Rattle.model.specs.Table.{between, allZero, leavingRule, cellRules}
 use Rattle.model.proofs.Parts.{zero-between}
@@ -61,10 +61,10 @@ module _ (clock leave : ℕ) (s : List ℕ) (h : length s ≡ cellSize) where
       ∙ sym (talker-gone clock leave (fields cellWidths 0 s) (sym (beAt-one s talkerPlace) ∙ k))
 
   pub sound-talker : (z : Bool) → getD s talkerPlace 0 ≡ 1 → (t : Bool) → t ≡ allTrue (take 3 (drop 1 rules))
-      → z ≡ allZero (take (listenerPlace - bridgePlace) (drop bridgePlace s)) → (t && z) ≡ allTrue (take 6 rules)
+      → z ≡ allZero (take failureSize (drop bridgePlace s)) → (t && z) ≡ allTrue (take 6 rules)
   unfolding cellRules fields allTrue width part
   sound-talker z k t f e =
-      rw (f, e, ← (zero-fields (between bridgeField listenerField cellWidths) bridgePlace s (omega arith)), ← (beAt-one s talkerPlace), k) simp (and-assoc, and-true)
+      rw (f, e, ← (zero-fields failureWidths bridgePlace s (omega arith)), ← (beAt-one s talkerPlace), k) simp (and-assoc, and-true)
 
   pub broken-talker : (getD s talkerPlace 0 ≡ 0 → ⊥) → (getD s talkerPlace 0 ≡ 1 → ⊥) → (t : Bool) → t ≡ allTrue (take 3 (drop 1 rules))
       → (leb (getD s talkerPlace 0) 2 && t) ≡ allTrue (take 6 rules)

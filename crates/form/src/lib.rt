@@ -8,12 +8,13 @@ ghost use Prim.Native.Nat.{_+_, _*_, _≤_};
 ghost use lib.ListN.{length, take, drop};
 ghost use lib.Dec.{leb};
 ghost use Rattle.octets.specs.Fields.{fields};
-ghost use Rattle.model.specs.Layout.{cellSize, cellWidths, portPlace, portSize, portsPlace, recordSize, resultSize, tableLength, totalSize, totalsSize};
+ghost use Rattle.model.specs.Layout.{cellSize, cellWidths, portPlace, portSize, portsPlace, recordSize, resultSize, tableLength, totalSize};
 ghost use Rattle.model.specs.Lists.{allTrue, parts};
 ghost use Rattle.model.specs.Table.{allZero, everyPart};
 ghost use Rattle.model.specs.Table.{portsField, toPort, portRule, settingsRules, settingsFormed};
 ghost use Rattle.model.specs.Table.{leavingRule, cellRules, cellFormed, resultFormed, holds, streamFormed};
 ghost use Rattle.model.specs.Table.{toTotals, totalsWithin, idOf, rising, settingsPart, tableRules, formed};
+ghost use Rattle.form.specs.Asks.{TotalsGiven};
 use table::CELL;
 use table::CELLS;
 use table::CLOCK;
@@ -89,7 +90,7 @@ fn talker_formed(cell: &[u8], clock: u64, leave: u64) -> bool
     }
     if kind == 1 {
         return registration_formed(cell, clock, leave)
-            & zero_from(&cell[cell::BRIDGE_ID..cell::LISTENER], 0);
+            & zero_from(&cell[cell::BRIDGE_ID..cell::FAILURE_END], 0);
     }
     (kind <= 2) & registration_formed(cell, clock, leave)
 }
@@ -297,7 +298,7 @@ fn total_within(totals: &[u8], port: &[u8]) -> bool
 
 // No class total is above its port's limit, and places that are no port have none.
 fn totals_within(totals: &[u8], ports: &[u8], count: usize) -> bool
-    requires { ⌜ (length (now totals) ≡ totalsSize) × (count ≤ 8) × (count * portSize ≤ length (now ports)) ⌝ }
+    requires { ⌜ TotalsGiven (now totals) (now ports) count ⌝ }
     ensures { λ r. ⌜ r ≡ totalsWithin (parts totalSize toTotals 8 (now (totals .entry))) (parts portSize toPort count (now (ports .entry))) ⌝ }
 {
     let mut ok = true;

@@ -249,12 +249,7 @@ module _ (limit : ℕ) (cs : List Claim) (distinct : Distinct cs) where
       (all-each (Keeps limit (admitted limit cs) (sort cs)) (λ c. rw (above-sort (key c) cs)) (above k (sort cs))) (cut k)
       ∙ ap (reserved limit) (above-sort k cs)
 
-  -- What is admitted meets the rule,
-  pub meets : Rule limit cs (admitted limit cs)
-  unfolding Rule
-  meets = all-each (Obeys limit cs (admitted limit cs)) (λ c. rw (subtracted (key c)) (unfold admitted remains in refl)) cs
-
-  -- and no other assignment does.
+  -- No other assignment meets the rule.
   pub unique : (ok : Claim → Bool) → Rule limit cs ok → All (λ c. ok c ≡ admitted limit cs c) cs
   unfolding Rule admitted remains
   unique ok rule =
@@ -274,12 +269,6 @@ module _ (limit : ℕ) (cs : List Claim) (distinct : Distinct cs) where
       sym (taken-sort (admitted limit cs) cs)
       ∙ reserved-is-taken limit (admitted limit cs) (sort cs) (sort cs)
       (all-each (Keeps limit (admitted limit cs) (sort cs)) (λ c. rw (above-sort (key c) cs)) (sort cs)) (cut-self (sort cs) (falls-sort cs distinct))
-
--- Claims that are not more important have no influence: whatever else differs between two lists, a claim above which both
--- have the same is admitted in both or in neither.
-pub untouched : (limit : ℕ) (cs ds : List Claim) (c : Claim) → above (key c) cs ≡ above (key c) ds → admitted limit cs c ≡ admitted limit ds c
-unfolding admitted remains
-untouched limit cs ds c h = rw h
 
 -- The order in which the claims are listed has no influence.
 

@@ -1,6 +1,5 @@
 -- Advance, accepted or refused, leaves a bridge that keeps the form rules.
 use mathlib.Core.Path.{_≡_, refl, sym, _∙_, ap}
-use mathlib.Core.Logic.{_⊎_, inl, inr}
 use mathlib.Core.List.{List, [], _∷_, map}
 use mathlib.Core.Bool.{Bool, true, false, cond}
 use Prim.Native.Nat.{ℕ, zero, suc, _+_, _/_, _^_, _≤_, _<_}
@@ -17,7 +16,7 @@ use Rattle.model.specs.Table.{totalsWithin}
 use Rattle.model.proofs.Lists.{all-getD, all-tabulate}
 use Rattle.model.proofs.Admission.{within}
 use Rattle.model.proofs.Owns.{no-own-valid}
-use Rattle.model.proofs.Valid.{ValidLeaving, ValidFixed, ValidHealth, ValidRegistration, ValidTalker, ValidListener, ValidCell, ValidDomain, ValidOwn, ValidColumn, ValidAge, ValidResult, ValidStream, Rising, Valid}
+use Rattle.model.proofs.Valid.{ValidLeaving, ValidFixed, ValidHealth, ValidRegistration, ValidTalker, ValidListener, ValidCell, ValidDomain, ValidOwn, ValidColumn, ValidAge, ValidResult, ValidStream, Rising, Valid, again-valid}
 
 -- Lists.
 
@@ -67,7 +66,7 @@ module _ (st : Settings) (clock now : ℕ) (later : clock ≤ now) where
     where
       go : (b : Bool) → expired st now (r .leaving) ≡ b → ValidTalker now (st .leaveTime) (cond b noTalker (talker r))
       go true e = tt
-      go false e = record { fixed = v .fixed; varying = v .varying; leaving = leaving-remains (r .leaving) e (v .leaving) }
+      go false e = again-valid clock (st .leaveTime) r v now (st .leaveTime) (r .changed) (r .leaving) (leaving-remains (r .leaving) e (v .leaving))
 
   listener-remains : (t : Listener) → ValidListener clock (st .leaveTime) t → ValidListener now (st .leaveTime) (expireListener st now t)
   unfolding expireListener
@@ -463,24 +462,3 @@ advance-keeps b now small v = go (ltb now (b .clock)) refl
         Valid (cond {A = Answer} t record { number = 9; bridge = b } record { number = 0; bridge = settle now b } .bridge)
     go true e = v
     go false e = settle-keeps b now small (ltb-false now (b .clock) e) v
-
--- the settings stay
-pub advance-settings : (b : Bridge) (now : ℕ) → advance b now .bridge .settings ≡ b .settings
-unfolding advance settle
-advance-settings b now = go (ltb now (b .clock))
-  where
-    go : (t : Bool) → cond {A = Answer} t record { number = 9; bridge = b } record { number = 0; bridge = settle now b } .bridge .settings ≡ b .settings
-    go true = refl
-    go false = refl
-
--- a refusal changes nothing
-pub advance-accepted-or-unchanged : (b : Bridge) (now : ℕ) → (advance b now .number ≡ 0) ⊎ (advance b now .bridge ≡ b)
-unfolding advance
-advance-accepted-or-unchanged b now = go (ltb now (b .clock))
-  where
-    answer : Bool → Answer
-    answer t = cond t record { number = 9; bridge = b } record { number = 0; bridge = settle now b }
-
-    go : (t : Bool) → (answer t .number ≡ 0) ⊎ (answer t .bridge ≡ b)
-    go true = inr refl
-    go false = inl refl

@@ -425,14 +425,6 @@ pub cell-zeros : cellOctets empty ≡ zeros cellSize
 unfolding cellOctets cellNumbers talkerNumbers listenerNumbers empty width
 cell-zeros = packed-zeros cellWidths
 
-pub zeros-cell : toCell (zeros cellSize) ≡ empty
-unfolding toCell cellFrom talkerFrom listenerFrom fields beAt empty
-zeros-cell = refl
-
-pub cell-zeros-formed : (clock leave : ℕ) → cellFormed clock leave (zeros cellSize) ≡ true
-unfolding cellFormed cellRules leavingRule allTrue allZero fields beAt
-cell-zeros-formed clock leave = refl
-
 -- A stream is held: as the octets of its cells say, and as the cells do.
 
 pub held-append : (l m : List Cell) → held (l ++ m) ≡ (held l || held m)

@@ -7,7 +7,7 @@ use mathlib.Core.List.{List, [], _∷_, _++_, map}
 use mathlib.Core.Bool.{Bool, true, false, cond, not, _&&_, false≢true}
 use Prim.Native.Nat.{ℕ, zero, suc, _+_, _-_, _^_, _≤_, _<_}
 use native.Mathlib.Omega.{arith}
-use lib.ListN.{getD, take, length}
+use lib.ListN.{getD, length}
 use lib.Dec.{ltb, leb}
 use borrow.Author.Tests.{ltb-true, ltb-false, lt-leb, le-leb}
 use Rattle.model.specs.Lists.{All, keep, tabulate}
@@ -46,15 +46,6 @@ ruled sc now s p col x =
     let d = claim st now p x in
     let left = limitOn sc now s p c - spent st now p c col (λ e. ltb (key e) (key d)) s in
     first (outcomeColumn st (sourceOf x)) (steps sc p x) (byBandwidth st (d .demand) left)
-
--- What is decided over the streams s, on every port, is what the rules give.
-pub record Given (sc : Scene) (now : ℕ) (s : List Stream) : Type 0 where
-  -- each column is the first step that applies
-  pub columns : (p : ℕ) (x : Stream) → columnOf sc now s p x ≡ ruled sc now s p (columnOf sc now s p) x
-  -- "A port's class total is its reserved sum"
-  pub totals : (p : ℕ) (c : Class) → totalOn sc now s p c ≡ spent (sc .settings) now p c (columnOf sc now s p) (λ e. true) s
-  -- no class total is above its limit
-  pub limits : (p : ℕ) (c : Class) → totalOn sc now s p c ≤ limitOn sc now s p c
 
 -- The settled bridge: all that it shows is what the rules give, read off the bridge itself.
 
@@ -120,23 +111,6 @@ pub record Advanced (now : ℕ) (b c : Bridge) : Type 0 where
   pub decided : Settled c
 
 -- The first step that applies.
-
--- past the last step, one that does not apply
-abbrev noStep : Step
-noStep = record { test = false; outcome = columnNone }
-
--- where the step at place i applies and no earlier one does, it gives the column
-pub first-applies : (says : Outcome → Column) (l : List Step) (i : ℕ) (c : Column) →
-    clear (take i l) ≡ true → getD l i noStep .test ≡ true → first says l c ≡ says (getD l i noStep .outcome)
-unfolding first clear
-first-applies says [] i c h t = absurd (false≢true t)
-first-applies says (s ∷ l) zero c h t = rw t
-first-applies says (s ∷ l) (suc i) c h t = go (s .test) h (λ e. first-applies says l i c e t)
-  where
-    go : (b : Bool) → (not b && clear (take i l)) ≡ true → (clear (take i l) ≡ true → first says l c ≡ says (getD l i noStep .outcome)) →
-        cond b (says (s .outcome)) (first says l c) ≡ says (getD l i noStep .outcome)
-    go true h ih = absurd (false≢true h)
-    go false h ih = ih h
 
 -- where none applies, what follows the steps decides
 pub first-clear : (says : Outcome → Column) (l : List Step) (c : Column) → clear l ≡ true → first says l c ≡ c
@@ -307,14 +281,6 @@ module _ (sc : Scene) (now : ℕ) (s : List Stream) (p : ℕ) where
   pub total-within : (c : Class) → totalOn sc now s p c ≤ limitOn sc now s p c
   unfolding totalOn total
   total-within c = within (limitOn sc now s p c) (sort (claims sc now p c s))
-
--- What is decided is what the rules give.
-pub given : (sc : Scene) (now : ℕ) (s : List Stream) → Rising (ids s) → All Small (ids s) → Given sc now s
-given sc now s r a = record {
-  columns = λ p x. columns-ruled sc now s p r a x;
-  totals = λ p c. total-ruled sc now s p r a c;
-  limits = λ p c. total-within sc now s p c;
-}
 
 -- columns that agree on the streams spend the same
 module _ (sc : Scene) (now p : ℕ) (col other : Stream → Column) where

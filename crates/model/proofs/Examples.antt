@@ -1,14 +1,15 @@
 -- 01's marked examples P1 to P13 and its worked example, computed by the definitions and compared with what 01 prints; then
--- examples of what 01 says of registering and of ages, and of the near misses that it shuts out.
+-- examples of what 01 says of registering and of ages, of the near misses that it shuts out, and of the order of a PDU's checks.
 use mathlib.Core.Path.{_≡_, refl}
 use mathlib.Core.List.{List, [], _∷_, _++_, map}
 use mathlib.Core.Bool.{true, false, cond}
-use Prim.Native.Nat.{ℕ}
+use Prim.Native.Nat.{ℕ, _+_}
 use lib.ListN.{length, getD, take, replicate}
 use lib.Dec.{eqb}
 use Rattle.octets.specs.Be
 use Rattle.octets.specs.Fields
 use Rattle.octets.specs.Parts
+use Rattle.model.specs.Layout.{codeField}
 use Rattle.model.specs.Lists.{All}
 use Rattle.model.specs.Lists
 use Rattle.model.specs.State.{Port, Settings, Fixed, ready, askingFailed, tells, Stream, Bridge}
@@ -25,32 +26,7 @@ use Rattle.model.specs.Reports
 use Rattle.model.specs.WrittenFrames
 use Rattle.model.specs.Table
 use Rattle.model.specs.Calls
-
--- To unfold one of these is to unfold what its line names; to unfold the last is to unfold all definitions of the bridge.
-
-stateOpened : Unit {0}
-unfolding Lists.tabulate Lists.bit State.empty State.unsettled State.noFixed State.noTotals State.noOwn State.blank State.fresh State.started State.noPort State.portAt State.isPort State.cellAt State.resultAt State.classOf State.isNoClass State.sameClass State.supports State.limit State.classLatency State.classPriority State.classId
-stateOpened = tt
-
-framesOpened : Unit {0}
-unfolding Be.beAt Be.be Fields.fields Fields.flat Parts.part Frames.typeOctet Frames.firstWidths Frames.firstLength Frames.threeLength Frames.hasFour Frames.fourLength Frames.vectorAt Frames.vectorEnd Frames.overpacked Frames.runsPast Frames.overflows Frames.vectorIn Frames.checkedIn Frames.typedIn Frames.listLength Frames.listAt Frames.messageEnd Frames.endMark Frames.headerIn Frames.messageIn Frames.also Frames.both Frames.vectorsFrom Frames.vectors Frames.messagesFrom Frames.messages Frames.walk Frames.event Frames.threePacked Frames.fourPacked Frames.eventOf Frames.fourOf Frames.asking Frames.priorityOf Frames.rankOf Frames.fixedValue Frames.healthValue Frames.idValue Frames.hearing Frames.talkerAct Frames.listenerAct Frames.hasSlot Frames.slotOf Frames.slotAct Frames.domainAct Frames.valueActs Frames.valuesActs Frames.leaveAllActs Frames.vectorActs Frames.frameActs Frames.walked Frames.wrongPort Frames.reading
-framesOpened = tt
-
-registrationsOpened : Unit {0}
-unfolding Registrations.begin Registrations.talksAs Registrations.hearsAs Registrations.withLeaving Registrations.quitTalker Registrations.quitListener Registrations.quit Registrations.sameFixed Registrations.firstJoin Registrations.sameJoin Registrations.otherJoin Registrations.joinTalker Registrations.does Registrations.at Registrations.change Registrations.begun Registrations.touch Registrations.reach Registrations.apply Registrations.applyAll Registrations.quitDomain Registrations.doesDomain Registrations.changeDomains Registrations.applyOwn Registrations.applyOwns Registrations.holding Registrations.owning Registrations.received Registrations.joins Registrations.asks
-registrationsOpened = tt
-
-settlingOpened : Unit {0}
-unfolding Bandwidth.demand Bandwidth.rate Bandwidth.rateOfA Bandwidth.rateOfB Bandwidth.rateOf Bandwidth.key Bandwidth.above Bandwidth.insert Bandwidth.sort Bandwidth.share Bandwidth.reserved Bandwidth.remains Bandwidth.admitted Bandwidth.total Settling.expired Settling.expireTalker Settling.expireListener Settling.expireCell Settling.expire Settling.isTalking Settling.isHearing Settling.held Settling.remain Settling.source Settling.sourceOf Settling.isSource Settling.fixedOf Settling.latencyOf Settling.healthOf Settling.streamClass Settling.registered Settling.isReady Settling.expireDomain Settling.isDomain Settling.anyDomain Settling.otherPriority Settling.domainsOf Settling.anySupports Settling.isEdge Settling.flagOf Settling.decideOwn Settling.decideOwns Settling.boundary Settling.first Settling.clear Settling.isBroken Settling.brokenColumn Settling.outcomeColumn Settling.stepsFrom Settling.steps Settling.ageOf Settling.claim Settling.claims Settling.limitOn Settling.leftFor Settling.byBandwidth Settling.columnOf Settling.capped Settling.latencyOut Settling.entryOf Settling.ageKept Settling.latencyKept Settling.passed Settling.sameReady Settling.merge Settling.mergeAll Settling.merged Settling.decideAt Settling.decide Settling.totalOn Settling.totalsOn Settling.settle Settling.advance
-settlingOpened = tt
-
-answersOpened : Unit {0}
-unfolding Reports.refusedReport Reports.wordOf Reports.codeOf Reports.report Frames.typeNumber WrittenFrames.messageOf WrittenFrames.readyNumber WrittenFrames.fixedNumbers WrittenFrames.priorityOctet Table.columnNumber Table.columnCode Table.entryNumber Table.declaredNumber Table.leavingNumber Table.sinceNumber Table.healthNumber Table.bridgeNumber Table.codeNumber Table.talkerNumbers Table.listenerNumbers Table.cellNumbers Calls.receive
-answersOpened = tt
-
-opened : Unit {0}
-unfolding stateOpened framesOpened registrationsOpened settlingOpened answersOpened
-opened = tt
+use Rattle.model.proofs.Opened.{opened}
 
 -- what the definitions compute, and what 01 prints
 pub record Example : Type 0 where
@@ -164,10 +140,10 @@ reserves b = getD (b .totals) 1 State.noTotals .totalA ∷ State.portAt (b .sett
 count : Bridge → List ℕ
 count b = length (b .streams) ∷ []
 
--- the Talker of the first stream on the port at place p: kind, changed mark, leaving, since, destination, ..; its Listener:
--- kind, leaving, since
+-- the Talker of the first stream on the port at place p: kind, changed mark, leaving, since, destination, .., code; its
+-- Listener: kind, leaving, since
 talker : ℕ → Bridge → List ℕ
-talker p b = Table.talkerNumbers (State.cellAt (State.streamAt 0 b) p .talks)
+talker p b = take (codeField + 1) (Table.talkerNumbers (State.cellAt (State.streamAt 0 b) p .talks))
 
 listener : ℕ → Bridge → List ℕ
 listener p b = Table.listenerNumbers (State.cellAt (State.streamAt 0 b) p .hears)
@@ -404,3 +380,106 @@ pub registering-examples : All Holds further
 unfolding shown further leaveAllPdu mtPdu leftOnPort1 sameSecond oneTooLarge lessReady held63 twicePdu answered ages
 registering-examples =
     (refl, (refl, (refl, (refl, (refl, (refl, (refl, (refl, (refl, (refl, (refl, (refl, (refl, (refl, (refl, (refl, (refl, (refl, (refl, tt)))))))))))))))))))
+
+-- PDUs with two faults, at neighbouring checks, and each with the first fault mended: the first that the walk meets gives the
+-- number.
+pub twoFaults : List Example
+twoFaults =
+    -- 2, then the walk: 1,501 octets of AttributeType 5 (4)
+    record { computed = read (0x00 ∷ 0x05 ∷ replicate 1499 0xFF) ++ read (0x00 ∷ 0x05 ∷ replicate 1498 0xFF); printed = 2 ∷ 4 ∷ [] }
+    -- a Message's header (3), type (4): three octets of AttributeType 5
+    ∷ record {
+      computed =
+          read (0x00 ∷ 0x05 ∷ 0x08 ∷ 0x00 ∷ [])
+          ++ read (0x00 ∷ 0x05 ∷ 0x08 ∷ 0x00 ∷ 0x02 ∷ 0x00 ∷ 0x00 ∷ []);
+      printed = 3 ∷ 4 ∷ [];
+    }
+    -- type (4), length (5): AttributeType 5 with length 9; Listener with length 9
+    ∷ record {
+      computed =
+          read (0x00 ∷ 0x05 ∷ 0x09 ∷ 0x00 ∷ 0x02 ∷ 0x00 ∷ 0x00 ∷ [])
+          ++ read (0x00 ∷ 0x03 ∷ 0x09 ∷ 0x00 ∷ 0x02 ∷ 0x00 ∷ 0x00 ∷ []);
+      printed = 4 ∷ 5 ∷ [];
+    }
+    -- type (4), list within the PDU (3): AttributeType 5; with version 1 it is no fault
+    ∷ record {
+      computed =
+          read (0x00 ∷ 0x05 ∷ 0x08 ∷ 0xFF ∷ 0xFF ∷ [])
+          ++ read (0x01 ∷ 0x05 ∷ 0x08 ∷ 0xFF ∷ 0xFF ∷ []);
+      printed = 4 ∷ 3 ∷ [];
+    }
+    -- length (5), list within the PDU (3)
+    ∷ record {
+      computed =
+          read (0x00 ∷ 0x03 ∷ 0x07 ∷ 0xFF ∷ 0xFF ∷ [])
+          ++ read (0x00 ∷ 0x03 ∷ 0x08 ∷ 0xFF ∷ 0xFF ∷ []);
+      printed = 5 ∷ 3 ∷ [];
+    }
+    -- list within the PDU (3), then what is in it: LeaveAllEvent 2 (6)
+    ∷ record {
+      computed =
+          read (0x00 ∷ 0x03 ∷ 0x08 ∷ 0x00 ∷ 0x0F ∷ 0x40 ∷ 0x01 ∷ (streamId 1 ++ (0x6C ∷ 0x80 ∷ 0x00 ∷ 0x00 ∷ [])))
+          ++ read (0x00 ∷ 0x03 ∷ 0x08 ∷ 0x00 ∷ 0x0E ∷ 0x40 ∷ 0x01 ∷ (streamId 1 ++ (0x6C ∷ 0x80 ∷ 0x00 ∷ 0x00 ∷ [])));
+      printed = 3 ∷ 6 ∷ [];
+    }
+    -- a vector's header (3), LeaveAllEvent (6): one octet, whose bits say 2
+    ∷ record {
+      computed =
+          read (0x00 ∷ 0x03 ∷ 0x08 ∷ 0x00 ∷ 0x01 ∷ 0x40 ∷ [])
+          ++ read (0x00 ∷ 0x03 ∷ 0x08 ∷ 0x00 ∷ 0x0E ∷ 0x40 ∷ 0x01 ∷ (streamId 1 ++ (0x6C ∷ 0x80 ∷ 0x00 ∷ 0x00 ∷ [])));
+      printed = 3 ∷ 6 ∷ [];
+    }
+    -- LeaveAllEvent (6), fits (3)
+    ∷ record {
+      computed =
+          read (0x00 ∷ 0x03 ∷ 0x08 ∷ 0x00 ∷ 0x02 ∷ 0x40 ∷ 0x01 ∷ 0x00 ∷ 0x00 ∷ [])
+          ++ read (0x00 ∷ 0x03 ∷ 0x08 ∷ 0x00 ∷ 0x02 ∷ 0x00 ∷ 0x01 ∷ 0x00 ∷ 0x00 ∷ []);
+      printed = 6 ∷ 3 ∷ [];
+    }
+    -- fits (3), event octets (6): FourPackedEvents are missing, ThreePackedEvents are 216
+    ∷ record {
+      computed =
+          read (0x00 ∷ 0x03 ∷ 0x08 ∷ 0x00 ∷ 0x0B ∷ 0x00 ∷ 0x01 ∷ (streamId 1 ++ (0xD8 ∷ 0x00 ∷ 0x00 ∷ [])))
+          ++ read (0x00 ∷ 0x03 ∷ 0x08 ∷ 0x00 ∷ 0x0E ∷ 0x00 ∷ 0x01 ∷ (streamId 1 ++ (0xD8 ∷ 0x80 ∷ 0x00 ∷ 0x00 ∷ 0x00 ∷ 0x00 ∷ [])));
+      printed = 3 ∷ 6 ∷ [];
+    }
+    -- event octets (6), values (7): 216, and Unique ID FFFF with 2 values
+    ∷ record {
+      computed =
+          read (0x00 ∷ 0x03 ∷ 0x08 ∷ 0x00 ∷ 0x0E ∷ 0x00 ∷ 0x02 ∷ (streamId 0xFFFF ++ (0xD8 ∷ 0x80 ∷ 0x00 ∷ 0x00 ∷ 0x00 ∷ 0x00 ∷ [])))
+          ++ read (0x00 ∷ 0x03 ∷ 0x08 ∷ 0x00 ∷ 0x0E ∷ 0x00 ∷ 0x02 ∷ (streamId 0xFFFF ++ (0x6C ∷ 0x80 ∷ 0x00 ∷ 0x00 ∷ 0x00 ∷ 0x00 ∷ [])));
+      printed = 6 ∷ 7 ∷ [];
+    }
+    -- values (7), then the list's EndMark, which is not last (3)
+    ∷ record {
+      computed =
+          read (0x00 ∷ 0x03 ∷ 0x08 ∷ 0x00 ∷ 0x10 ∷ 0x00 ∷ 0x02 ∷ (streamId 0xFFFF ++ (0x6C ∷ 0xA0 ∷ 0x00 ∷ 0x00 ∷ 0x00 ∷ 0x00 ∷ 0x00 ∷ 0x00 ∷ [])))
+          ++ read (0x00 ∷ 0x03 ∷ 0x08 ∷ 0x00 ∷ 0x10 ∷ 0x00 ∷ 0x02 ∷ (streamId 0xFFFE ++ (0x6C ∷ 0xA0 ∷ 0x00 ∷ 0x00 ∷ 0x00 ∷ 0x00 ∷ 0x00 ∷ 0x00 ∷ [])));
+      printed = 7 ∷ 3 ∷ [];
+    }
+    -- values (7) of the first vector, LeaveAllEvent 2 (6) of the second
+    ∷ record {
+      computed =
+          read (0x00 ∷ 0x03 ∷ 0x08 ∷ 0x00 ∷ 0x1A ∷ 0x00 ∷ 0x02 ∷ 0x02 ∷ 0x00 ∷ 0x00 ∷ 0x00 ∷ 0x00 ∷ 0x01 ∷ 0xFF ∷ 0xFF ∷ 0x6C ∷ 0xA0 ∷ 0x40 ∷ 0x01 ∷ (streamId 1 ++ (0x6C ∷ 0x80 ∷ 0x00 ∷ 0x00 ∷ 0x00 ∷ 0x00 ∷ [])))
+          ++ read (0x00 ∷ 0x03 ∷ 0x08 ∷ 0x00 ∷ 0x1A ∷ 0x00 ∷ 0x02 ∷ 0x02 ∷ 0x00 ∷ 0x00 ∷ 0x00 ∷ 0x00 ∷ 0x01 ∷ 0xFF ∷ 0xFE ∷ 0x6C ∷ 0xA0 ∷ 0x40 ∷ 0x01 ∷ (streamId 1 ++ (0x6C ∷ 0x80 ∷ 0x00 ∷ 0x00 ∷ 0x00 ∷ 0x00 ∷ [])));
+      printed = 7 ∷ 6 ∷ [];
+    }
+    -- 3 in the first Message, its EndMark not last, 6 in the second, octet 216
+    ∷ record {
+      computed =
+          read (0x00 ∷ 0x03 ∷ 0x08 ∷ 0x00 ∷ 0x04 ∷ 0x00 ∷ 0x00 ∷ 0x00 ∷ 0x00 ∷ 0x03 ∷ 0x08 ∷ 0x00 ∷ 0x0E ∷ 0x00 ∷ 0x01 ∷ (streamId 1 ++ (0xD8 ∷ 0x80 ∷ 0x00 ∷ 0x00 ∷ 0x00 ∷ 0x00 ∷ [])))
+          ++ read (0x00 ∷ 0x03 ∷ 0x08 ∷ 0x00 ∷ 0x02 ∷ 0x00 ∷ 0x00 ∷ 0x03 ∷ 0x08 ∷ 0x00 ∷ 0x0E ∷ 0x00 ∷ 0x01 ∷ (streamId 1 ++ (0xD8 ∷ 0x80 ∷ 0x00 ∷ 0x00 ∷ 0x00 ∷ 0x00 ∷ [])));
+      printed = 3 ∷ 6 ∷ [];
+    }
+    -- and 6 in the first, 3 in the second
+    ∷ record {
+      computed =
+          read (0x00 ∷ 0x03 ∷ 0x08 ∷ 0x00 ∷ 0x0E ∷ 0x00 ∷ 0x01 ∷ (streamId 1 ++ (0xD8 ∷ 0x80 ∷ 0x00 ∷ 0x00 ∷ 0x03 ∷ 0x08 ∷ 0x00 ∷ 0x04 ∷ 0x00 ∷ 0x00 ∷ 0x00 ∷ 0x00 ∷ 0x00 ∷ 0x00 ∷ [])))
+          ++ read (0x00 ∷ 0x03 ∷ 0x08 ∷ 0x00 ∷ 0x0E ∷ 0x00 ∷ 0x01 ∷ (streamId 1 ++ (0xD7 ∷ 0x80 ∷ 0x00 ∷ 0x00 ∷ 0x03 ∷ 0x08 ∷ 0x00 ∷ 0x04 ∷ 0x00 ∷ 0x00 ∷ 0x00 ∷ 0x00 ∷ 0x00 ∷ 0x00 ∷ [])));
+      printed = 6 ∷ 3 ∷ [];
+    }
+    ∷ []
+
+pub order-examples : All Holds twoFaults
+unfolding shown twoFaults
+order-examples = (refl, (refl, (refl, (refl, (refl, (refl, (refl, (refl, (refl, (refl, (refl, (refl, (refl, (refl, tt))))))))))))))

@@ -15,7 +15,7 @@ use Rattle.model.specs.State.{Leaving, stays, since, Fixed, Health, soun
 use Rattle.model.specs.Registrations.{ids}
 use Rattle.model.specs.WrittenFrames.{priorityOctet, fixedNumbers}
 use Rattle.model.specs.Table.{sinceNumber, bridgeNumber, codeNumber, talkerNumbers, listenerNumbers, cellNumbers, cellOctets, toCell, resultNumbers, resultOctets, toResult, fixedFrom, streamOctets, toStream, countField, recordsPart, idOf, encode, decode, formed}
-use Rattle.model.specs.Laid.{FitRank, FitCell, FitOwn, FitResult, FitStream, FitBridge, Ascending, LaidCell, LaidResult, LaidStream, Laid}
+use Rattle.model.specs.Laid.{FitRank, FitCell, FitOwn, FitResult, FitStream, FitBridge, Ascending, LaidOut, LaidCell, LaidResult, Laid}
 use Rattle.model.proofs.Lists.{all-map}
 use Rattle.model.proofs.Valid.{ValidLeaving, ValidFixed, ValidHealth, ValidTalker, ValidListener, ValidCell, ValidOwn, ValidResult, ValidStream, Rising, Valid}
 use Rattle.model.proofs.Parts.{_also_, parts-flat, many-read}
@@ -139,44 +139,36 @@ module _ (b : Bridge) (w : FitBridge b) where
       let o = fit-whole b w in
       rw (settings-decoded b o (w .settings), clock-read b o (w .clock), totals-decoded b o (w .totals), owns-decoded b o (w .own), streams-read)
 
--- Laid out: the octets are those of what is read from them.
+-- Laid out: the octets are those of what is read from them, and that fits.
 
-module _ (s : List ℕ) where
-  pub laid-cell : (l : LaidCell s) → toCell s ≡ l .cell
-  laid-cell l = ap toCell (l .is) ∙ cell-read (l .cell) (l .fits)
+module _ {A : Type 0} (octets : A → List ℕ) (from : List ℕ → A) (Fits : A → Type 0) (back : (a : A) → Fits a → from (octets a) ≡ a)
+    (s : List ℕ) (l : LaidOut octets Fits s) where
+  laid-read : from s ≡ l .thing
+  laid-read = ap from (l .is) ∙ back (l .thing) (l .fits)
 
-  pub laid-cell-is : LaidCell s → s ≡ cellOctets (toCell s)
-  laid-cell-is l = l .is ∙ ap cellOctets (sym (laid-cell l))
+  laid-out : s ≡ octets (from s)
+  laid-out = l .is ∙ ap octets (sym laid-read)
 
-  pub laid-cell-fits : LaidCell s → FitCell (toCell s)
-  laid-cell-fits l = subst FitCell (sym (laid-cell l)) (l .fits)
+  laid-fit : Fits (from s)
+  laid-fit = subst Fits (sym laid-read) (l .fits)
 
-  pub laid-result : (l : LaidResult s) → toResult s ≡ l .result
-  laid-result l = ap toResult (l .is) ∙ result-read (l .result) (l .fits)
+pub laid-cell-is : (s : List ℕ) → LaidCell s → s ≡ cellOctets (toCell s)
+laid-cell-is = laid-out cellOctets toCell FitCell cell-read
 
-  pub laid-result-is : LaidResult s → s ≡ resultOctets (toResult s)
-  laid-result-is l = l .is ∙ ap resultOctets (sym (laid-result l))
+pub laid-cell-fits : (s : List ℕ) → LaidCell s → FitCell (toCell s)
+laid-cell-fits = laid-fit cellOctets toCell FitCell cell-read
 
-  pub laid-result-fits : LaidResult s → FitResult (toResult s)
-  laid-result-fits l = subst FitResult (sym (laid-result l)) (l .fits)
+pub laid-result-is : (s : List ℕ) → LaidResult s → s ≡ resultOctets (toResult s)
+laid-result-is = laid-out resultOctets toResult FitResult result-read
 
-  pub laid-stream : (l : LaidStream s) → toStream s ≡ l .stream
-  laid-stream l = ap toStream (l .is) ∙ stream-read (l .stream) (l .fits)
+pub laid-result-fits : (s : List ℕ) → LaidResult s → FitResult (toResult s)
+laid-result-fits = laid-fit resultOctets toResult FitResult result-read
 
-  pub laid-stream-is : LaidStream s → s ≡ streamOctets (toStream s)
-  laid-stream-is l = l .is ∙ ap streamOctets (sym (laid-stream l))
+pub laid-is : (s : List ℕ) → Laid s → s ≡ encode (decode s)
+laid-is = laid-out encode decode FitBridge bridge-read
 
-  pub laid-stream-fits : LaidStream s → FitStream (toStream s)
-  laid-stream-fits l = subst FitStream (sym (laid-stream l)) (l .fits)
-
-  pub laid-bridge : (l : Laid s) → decode s ≡ l .bridge
-  laid-bridge l = ap decode (l .is) ∙ bridge-read (l .bridge) (l .fits)
-
-  pub laid-is : Laid s → s ≡ encode (decode s)
-  laid-is l = l .is ∙ ap encode (sym (laid-bridge l))
-
-  pub laid-fits : Laid s → FitBridge (decode s)
-  laid-fits l = subst FitBridge (sym (laid-bridge l)) (l .fits)
+pub laid-fits : (s : List ℕ) → Laid s → FitBridge (decode s)
+laid-fits = laid-fit encode decode FitBridge bridge-read
 
 -- What keeps the form rules fits.
 
@@ -232,7 +224,7 @@ valid-fits b v =
 -- octets that keep the form rules are laid out
 pub formed-laid : (t : List ℕ) → Octets t → formed t ≡ true → Laid t
 formed-laid t o f = record {
-  bridge = decode t;
+  thing = decode t;
   fits = valid-fits (decode t) (valid-decode t o f);
   is = sym (encode-decode t o f);
 }

@@ -16,7 +16,7 @@ use Rattle.model.specs.Layout.{slots}
 use Rattle.model.specs.FrameLayout.{longestPdu}
 use Rattle.model.specs.Lists.{All, Octets}
 use Rattle.model.specs.State.{Settings}
-use Rattle.model.specs.Registrations.{Kind, advertises, faileds, listeners, Act, leaveAll, leave, talk, listen, ofDomain, DomainAct, leaveAllDomains, leaveDomain, joinDomain, Reading, refused, acts, joins, asks}
+use Rattle.model.specs.Registrations.{Kind, advertises, faileds, listeners, Act, leaveAll, leave, talk, listen, ofDomain, DomainAct, leaveAllDomains, leaveDomain, joinDomain, Reading, refused, acts}
 use Rattle.model.specs.Frames.{Attribute, registers, domain, firstWidths, firstLength, threeLength, hasFour, fourLength, Vector, vectorAt, vectorEnd, overpacked, runsPast, overflows, InList, badVector, listEnd, vectorHead, vectorIn, checkedIn, typedIn, InPdu, badMessage, pduEnd, listSkipped, listOf, listLength, listAt, messageEnd, Walk, fault, found, also, both, vectorsFrom, vectors, messagesFrom, messages, walk, Asking, nothingAsked, join, withdraw, priorityOf, rankOf, fixedValue, healthValue, idValue, hearing, talkerAct, listenerAct, hasSlot, slotOf, slotAct, domainAct, valueActs, valuesActs, leaveAllActs, vectorActs, frameActs, walked, wrongPort, reading}
 use Rattle.model.proofs.Lists.{all-append, and-left, and-right}
 use Rattle.model.proofs.Parts.{octets-at, octets-part}
@@ -376,20 +376,3 @@ reading-fits st p pdu o = go (wrongPort st p) (walk pdu) refl
     go true w e = tt
     go false (fault n) e = unfold walked in tt
     go false (found vs) e = unfold walked in acts-fit pdu vs o e
-
--- every StreamID that a frame asks to join is below 2^64
-joins-small : (es : List Act) → All Fits es → All (λ i. i < 2 ^ 64) (joins es)
-unfolding joins
-joins-small [] a = tt
-joins-small (leaveAll k ∷ es) a = joins-small es (a .1)
-joins-small (leave k i ∷ es) a = joins-small es (a .1)
-joins-small (talk i f v ∷ es) a = (a .0 .0, joins-small es (a .1))
-joins-small (listen i r ∷ es) a = (a .0, joins-small es (a .1))
-joins-small (ofDomain d ∷ es) a = joins-small es (a .1)
-
-pub asks-small : (st : Settings) (p : ℕ) (pdu : List ℕ) → Octets pdu → All (λ i. i < 2 ^ 64) (asks (reading st p pdu))
-asks-small st p pdu o = go (reading st p pdu) (reading-fits st p pdu o)
-  where
-    go : (r : Reading) → FitsReading r → All (λ i. i < 2 ^ 64) (asks r)
-    go (refused n) f = unfold asks in tt
-    go (acts es) f = unfold asks in joins-small es f

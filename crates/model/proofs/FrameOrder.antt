@@ -92,11 +92,6 @@ module _ (P : ℕ → Type 0) where
       go false true ih = a
       go false false ih = (a .0, ih)
 
-  pub all-together : (is l : List ℕ) → All P is → All P l → All P (together l is)
-  unfolding together
-  all-together [] l q a = a
-  all-together (i ∷ is) l q a = all-together is (add i l) (q .1) (all-add i l (q .0) a)
-
 rising-add : (i : ℕ) (l : List ℕ) → Rising l → Rising (add i l)
 unfolding add Rising
 rising-add i [] r = (tt, tt)

@@ -23,6 +23,7 @@ pub mod WritingPasses
 pub mod Refusals
 pub mod Edge
 pub mod Boundaries
+pub mod Opened
 pub mod Examples
 pub mod FormKept
 pub mod Demand3

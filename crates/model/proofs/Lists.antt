@@ -29,10 +29,6 @@ module _ {A : Type 0} (P : A → Type 0) where
   all-append [] m a b = b
   all-append (x ∷ l) m a b = (a .0, all-append l m (a .1) b)
 
-  pub all-split : (l m : List A) → All P (l ++ m) → All P l × All P m
-  all-split [] m a = (tt, a)
-  all-split (x ∷ l) m a = ((a .0, all-split l m (a .1) .0), all-split l m (a .1) .1)
-
   pub all-take : (n : ℕ) (l : List A) → All P l → All P (take n l)
   all-take zero l a = tt
   all-take (suc n) [] a = tt
@@ -144,11 +140,6 @@ and-true false = refl
 pub and-false : (a : Bool) → (a && false) ≡ false
 and-false true = refl
 and-false false = refl
-
--- a test that is not asked for, or holds
-pub implies-true : (a b : Bool) → (a ≡ true → b ≡ true) → implies a b ≡ true
-implies-true true b h = h refl
-implies-true false b h = refl
 
 pub implied : (a b : Bool) → implies a b ≡ true → a ≡ true → b ≡ true
 implied true b h e = h

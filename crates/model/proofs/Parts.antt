@@ -7,13 +7,12 @@ use Prim.Native.Nat.{ℕ, zero, suc, _+_, _*_, _-_, _≤_, _<_}
 use native.Mathlib.Nat.{zero-mul, suc-mul, zero-add, suc-add, add-mul}
 use native.Mathlib.Omega.{arith}
 use lib.ListN.{length, getD, take, drop, replicate, length-append, length-drop, length-replicate, replicate-append-replicate}
-use lib.Seq.{take-at, drop-at, take-add, drop-drop, length-take-le, take-all, take-append-le, drop-append-le, getD-take, getD-drop}
+use lib.Seq.{take-at, drop-at, take-add, drop-drop, length-take-le, take-all, getD-take, getD-drop}
 use lib.Dec.{eqb, ltb}
 use borrow.Author.Tests.{eqb-true, ltb-true, lt-ltb}
-use Rattle.octets.specs.Be.{be}
 use Rattle.octets.specs.Parts.{part, zeros}
 use Rattle.octets.specs.Fields.{fields, packed, width, flat}
-use Rattle.octets.proofs.Fields.{octets-be, packed-octets, packed-fields}
+use Rattle.octets.proofs.Fields.{packed-octets, packed-fields}
 use Rattle.model.specs.Lists.{All, tabulate, parts, Octet, Octets}
 use Rattle.model.specs.Table.{everyPart, allZero, rising}
 use Rattle.model.proofs.Lists.{all-map, all-append, all-take, all-drop, all-replicate, and-left, and-right, and-both}
@@ -51,9 +50,6 @@ octets-part at n s o = octets-take n (drop at s) (octets-drop at s o)
 
 pub octets-zeros : (n : ℕ) → Octets (zeros n)
 octets-zeros n = all-replicate Octet n 0 (omega arith)
-
-pub octets-number : (n x : ℕ) → Octets (be n x)
-octets-number n x = octets-of (be n x) (octets-be n x)
 
 pub octets-packed : (ws vs : List ℕ) → Octets (packed ws vs)
 octets-packed ws vs = octets-of (packed ws vs) (packed-octets ws vs)
@@ -115,6 +111,13 @@ less-and-rest k m h = omega arith
 suc-times : (k n : ℕ) → suc k * n ≡ n + k * n
 suc-times k n = omega (arith, suc-mul k n)
 
+-- the first n of so many zeros, and the others
+zeros-first : (k n : ℕ) → take n (zeros (suc k * n)) ≡ zeros n
+zeros-first k n = rw (suc-times k n, zeros-add n (k * n)) (take-at (zeros n) (zeros (k * n)) n (length-zeros n))
+
+zeros-rest : (k n : ℕ) → drop n (zeros (suc k * n)) ≡ zeros (k * n)
+zeros-rest k n = rw (suc-times k n, zeros-add n (k * n)) (drop-at (zeros n) (zeros (k * n)) n (length-zeros n))
+
 drop-suc-times : (k n : ℕ) (s : List ℕ) → drop (suc k * n) s ≡ drop (k * n) (drop n s)
 drop-suc-times k n s = ap (λ (m : ℕ). drop m s) (suc-times k n) ∙ sym (drop-drop (k * n) n s)
 
@@ -135,12 +138,6 @@ module _ {A : Type 0} (n : ℕ) (from : List ℕ → A) where
   length-parts zero s = refl
   length-parts (suc k) s = ap suc (length-parts k (drop n s))
 
-  pub parts-at : (j k : ℕ) (s : List ℕ) (d : A) → j < k → getD (parts n from k s) j d ≡ from (take n (drop (j * n) s))
-  unfolding parts
-  parts-at j zero s d h = absurd (omega arith)
-  parts-at zero (suc k) s d h = rw (drop-zero-times n s)
-  parts-at (suc j) (suc k) s d h = rw (drop-suc-times j n s) (parts-at j k (drop n s) d (omega arith))
-
   -- the first j, and those after them
   pub parts-take : (j k : ℕ) (s : List ℕ) → j ≤ k → take j (parts n from k s) ≡ parts n from j s
   unfolding parts
@@ -153,26 +150,11 @@ module _ {A : Type 0} (n : ℕ) (from : List ℕ → A) where
   parts-drop zero k s = rw (drop-zero-times n s, zero-add)
   parts-drop (suc j) k s = rw (drop-suc-times j n s, suc-add) (parts-drop j k (drop n s))
 
-  -- octets behind do not matter
-  pub parts-front : (k : ℕ) (s rest : List ℕ) → k * n ≤ length s → parts n from k (s ++ rest) ≡ parts n from k s
-  unfolding parts
-  parts-front zero s rest h = refl
-  parts-front (suc k) s rest h =
-      let r = room k n s h in
-      rw (take-append-le n s rest (r .0), drop-append-le n s rest (r .0), parts-front k (drop n s) rest (r .1))
-
   -- parts of zeros
   pub parts-zeros : (k : ℕ) → parts n from k (zeros (k * n)) ≡ replicate k (from (zeros n))
   unfolding parts
   parts-zeros zero = refl
-  parts-zeros (suc k) =
-      rw (
-        suc-times k n,
-        zeros-add n (k * n),
-        take-at (zeros n) (zeros (k * n)) n (length-zeros n),
-        drop-at (zeros n) (zeros (k * n)) n (length-zeros n),
-        parts-zeros k,
-      )
+  parts-zeros (suc k) = rw (zeros-first k n, zeros-rest k n, parts-zeros k)
 
 -- what is read and then asked something
 pub parts-map : {A B : Type 0} (n : ℕ) (from : List ℕ → A) (f : A → B) (k : ℕ) (s : List ℕ) → parts n (λ p. f (from p)) k s ≡ map f (parts n from k s)
@@ -191,20 +173,6 @@ module _ {A : Type 0} (n : ℕ) (to : A → List ℕ) where
   unfolding flat
   length-flat-sized [] z = omega arith
   length-flat-sized (a ∷ l) z = omega (arith, length-append (to a) (flat to l), z .0, length-flat-sized l (z .1), suc-times (length l) n)
-
-  pub flat-take : (k : ℕ) (l : List A) (rest : List ℕ) → All Sized l → k ≤ length l → take (k * n) (flat to l ++ rest) ≡ flat to (take k l)
-  unfolding flat
-  flat-take zero l rest z h = rw zero-mul
-  flat-take (suc k) [] rest z h = absurd (omega arith)
-  flat-take (suc k) (a ∷ l) rest z h =
-      rw (
-        suc-times k n,
-        append-assoc (to a) (flat to l) rest,
-        take-add n (k * n) (to a ++ (flat to l ++ rest)),
-        take-at (to a) (flat to l ++ rest) n (z .0),
-        drop-at (to a) (flat to l ++ rest) n (z .0),
-        flat-take k l rest (z .1) (omega arith),
-      )
 
   pub flat-drop : (k : ℕ) (l : List A) (rest : List ℕ) → All Sized l → k ≤ length l → drop (k * n) (flat to l ++ rest) ≡ flat to (drop k l) ++ rest
   unfolding flat
@@ -302,28 +270,12 @@ module _ (n : ℕ) (rule : List ℕ → Bool) where
       and-left (everyPart n rule j s) (everyPart n rule (k - j) (drop (j * n) s))
       (sym (ap (λ (m : ℕ). everyPart n rule m s) (less-and-rest j k h) ∙ every-add j (k - j) s) ∙ e)
 
-  -- octets behind do not matter
-  pub every-front : (k : ℕ) (s rest : List ℕ) → k * n ≤ length s → everyPart n rule k (s ++ rest) ≡ everyPart n rule k s
-  unfolding everyPart
-  every-front zero s rest h = refl
-  every-front (suc k) s rest h =
-      let r = room k n s h in
-      rw (take-append-le n s rest (r .0), drop-append-le n s rest (r .0), every-front k (drop n s) rest (r .1))
-
   -- zeros meet it
   module _ (z : rule (zeros n) ≡ true) where
     pub every-zeros : (k : ℕ) → everyPart n rule k (zeros (k * n)) ≡ true
     unfolding everyPart
     every-zeros zero = refl
-    every-zeros (suc k) =
-        rw (
-          suc-times k n,
-          zeros-add n (k * n),
-          take-at (zeros n) (zeros (k * n)) n (length-zeros n),
-          drop-at (zeros n) (zeros (k * n)) n (length-zeros n),
-          z,
-        )
-        (every-zeros k)
+    every-zeros (suc k) = rw (zeros-first k n, zeros-rest k n, z) (every-zeros k)
 
     -- m parts, of which those after the first k are zero
     pub every-padded : (k m : ℕ) (s : List ℕ) → k ≤ m → length s ≡ m * n → everyPart n rule k s ≡ true

@@ -15,17 +15,16 @@ use Rattle.octets.specs.Parts.{part}
 use Rattle.octets.proofs.Be.{beAt-ext, length-be}
 use Rattle.octets.proofs.Fields.{packed-octets, beAt-fits, fields-of-packed}
 use Rattle.model.specs.FrameLayout.{longestPdu}
-use Rattle.model.specs.Lists.{All, keep, Octets, bit}
+use Rattle.model.specs.Lists.{All, keep, bit}
 use Rattle.model.specs.State.{Port, Settings, Fixed, Health, sound, broken, Ready, askingFailed, ready, readyFailed, Column, none, advertise, failed, Entry, noEntry, filters, forwards, Declared, nothing, tells, Result, Stream, Bridge, portAt, resultAt, classPriority, classId, unsettled}
 use Rattle.model.specs.Registrations.{Kind, advertises, faileds, listeners, talk, listen, ofDomain, joinDomain, acts}
 use Rattle.model.specs.Frames.{Attribute, registers, domain, known, typeOctet, typeNumber, firstWidths, firstLength, threeLength, hasFour, fourLength, Vector, vectorAt, vectorEnd, overpacked, runsPast, overflows, vectorIn, checkedIn, typedIn, listLength, listAt, messageEnd, endMark, headerIn, messageIn, found, also, both, vectorsFrom, vectors, messagesFrom, messages, walk, joinMt, event, threePacked, fourPacked, eventOf, fourOf, asking, join, priorityOf, rankOf, fixedValue, healthValue, idValue, hearing, talkerAct, listenerAct, hasSlot, slotOf, slotAct, domainAct, valueActs, valuesActs, leaveAllActs, vectorActs, frameActs, walked, wrongPort, reading}
 use Rattle.model.specs.Declarations.{Declaration, talkerDeclaration, listenerDeclaration, domainDeclaration, healthKind, attributeOf, joinOf, advertised, failing, listening, declarationsOf, ofKind, domainOf, domainValues, declarations, vectorSize, sameAttribute, takes, write}
 use Rattle.model.specs.WrittenFrames.{priorityOctet, fixedNumbers, failureNumbers, firstNumbers, readyNumber, fourOctets, declarationVector, vectorOctets, messageOf, messageOctets, having, pduOctets}
 use Rattle.model.proofs.Lists.{all-map, all-append, all-take, all-drop, all-getD, and-left, and-right}
-use Rattle.model.proofs.Parts.{octets-append, octets-number, octets-packed}
 use Rattle.model.proofs.Valid.{Valid, ValidSettings, ValidFixed, ValidHealth, ValidVarying, ValidColumn, ValidResult, ValidStream}
 use Rattle.model.proofs.AdvanceKeepsForm.{unsettled-valid}
-use Rattle.model.proofs.WritingPasses.{length-first, length-vector, known-type, inTurn, NotBefore, OfAttribute, InOrder, all-of-kind, all-domains, having-attribute, having-none, declared, write-above, write-from, run-in-order, run-fits, writeAll, all-runs}
+use Rattle.model.proofs.WritingPasses.{length-first, length-vector, known-type, inTurn, NotBefore, OfAttribute, InOrder, all-of-kind, all-domains, having-attribute, having-none, declared, write-above, write-from, run-in-order, run-fits}
 
 -- Octets behind a prefix.
 
@@ -409,53 +408,6 @@ walk-written l o h =
 pub read-back : (b : Bridge) (p place : ℕ) → walk (pduOctets (write b p place .run)) ≡ found (map declarationVector (write b p place .run))
 read-back b p place = walk-written (write b p place .run) (run-in-order b p place) (run-fits b p place)
 
--- A PDU is octets.
-
-octets-four : (d : Declaration) → Octets (fourOctets d)
-unfolding fourOctets readyNumber
-octets-four (talkerDeclaration id f v) = tt
-octets-four (domainDeclaration id q v) = tt
-octets-four (listenerDeclaration id askingFailed) = (omega arith, tt)
-octets-four (listenerDeclaration id ready) = (omega arith, tt)
-octets-four (listenerDeclaration id readyFailed) = (omega arith, tt)
-
-octets-vector : (d : Declaration) → Octets (vectorOctets (declarationVector d))
-octets-vector d =
-    rw (vector-octets d)
-    (omega arith, (omega arith, octets-append (declarationVector d .first) (108 ∷ fourOctets d) first (omega arith, octets-four d)))
-  where
-    first : Octets (declarationVector d .first)
-    first = unfold declarationVector in (octets-packed (firstWidths (attributeOf d)) (firstNumbers d))
-
-octets-list : (l : List Declaration) → Octets (listOctets l)
-octets-list [] = unfold listOctets flat in (omega arith, (omega arith, tt))
-octets-list (d ∷ l) = rw (list-cons d l) (octets-append (vectorOctets (declarationVector d)) (listOctets l) (octets-vector d) (octets-list l))
-
-octets-lead : (k : Attribute) → (typeNumber k < 256) × (firstLength k < 256)
-unfolding typeNumber firstLength
-octets-lead (registers advertises) = (omega arith, omega arith)
-octets-lead (registers faileds) = (omega arith, omega arith)
-octets-lead (registers listeners) = (omega arith, omega arith)
-octets-lead domain = (omega arith, omega arith)
-
-octets-message : (k : Attribute) (l : List Declaration) → Octets (messageOctets k l)
-unfolding messageOctets messageOf listOctets
-octets-message k [] = tt
-octets-message k (d ∷ l) =
-    let list : List ℕ = listOctets (d ∷ l) in
-    (octets-lead k .0, (octets-lead k .1, octets-append (be 2 (length list)) list (octets-number 2 (length list)) (octets-list (d ∷ l))))
-
-pub octets-written : (l : List Declaration) → Octets (pduOctets l)
-unfolding pduOctets
-octets-written l = (
-  omega arith,
-  before (registers advertises) _
-      (before (registers faileds) _ (before (registers listeners) _ (before domain (0 ∷ 0 ∷ []) (omega arith, (omega arith, tt))))),
-)
-  where
-    before : (k : Attribute) (s : List ℕ) → Octets s → Octets (messageOctets k (having k l) ++ s)
-    before k s o = octets-append (messageOctets k (having k l)) s (octets-message k (having k l)) o
-
 -- What the vectors ask for.
 
 -- "event JoinMt"
@@ -625,9 +577,3 @@ pub neighbour-reads : (b : Bridge) → Valid b → (p place : ℕ) (st : Setting
 unfolding reading walked
 neighbour-reads b h p place st q right =
     rw (right, read-back b p place) (ap acts (frame-joins (write b p place .run) (run-within b h p place)))
-
--- so of all PDUs from a place on, which from place 0 on pass every declaration of the port
-pub neighbour-reads-all : (b : Bridge) → Valid b → (p place : ℕ) (st : Settings) (q : ℕ) → wrongPort st q ≡ false
-    → (f : ℕ) → All (λ run. reading st q (pduOctets run) ≡ acts (map joinOf run)) (writeAll f b p place)
-neighbour-reads-all b h p place st q right f =
-    all-runs (λ run. reading st q (pduOctets run) ≡ acts (map joinOf run)) f b p place (λ at. neighbour-reads b h p at st q right)

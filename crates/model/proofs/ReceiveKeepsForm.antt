@@ -3,7 +3,7 @@ use mathlib.Core.Path.{_≡_, refl, _∙_, ap, ap₂}
 use mathlib.Core.Logic.{_⊎_, inl, inr}
 use mathlib.Core.List.{List, [], _∷_, map}
 use mathlib.Core.Bool.{Bool, true, false, cond, _||_, false≢true}
-use Prim.Native.Nat.{ℕ, zero, suc, _-_, _^_, _≤_, _<_}
+use Prim.Native.Nat.{ℕ, zero, suc, _+_, _-_, _^_, _≤_, _<_}
 use native.Mathlib.Omega.{arith}
 use lib.ListN.{length, drop, replicate, length-map}
 use lib.Dec.{ltb, leb, eqb}
@@ -15,39 +15,36 @@ use Rattle.model.specs.Frames.{wrongPort, reading}
 use Rattle.model.specs.Settling.{isTalking, isHearing, held}
 use Rattle.model.specs.Calls.{receive}
 use Rattle.model.proofs.Lists.{all-map, all-drop, all-replicate, length-at, all-changed, drop-changed}
-use Rattle.model.proofs.Valid.{ValidLeaving, ValidFixed, ValidVarying, ValidRegistration, ValidTalker, ValidListener, ValidCell, ValidDomain, ValidOwn, ValidResult, ValidStream, Rising, Valid}
+use Rattle.model.proofs.Valid.{ValidLeaving, ValidFixed, ValidVarying, ValidRegistration, ValidTalker, ValidListener, ValidCell, ValidDomain, ValidOwn, ValidResult, ValidStream, Rising, Valid, again-valid}
 use Rattle.model.proofs.FoundVectors.{Fits, FitsDomain, FitsReading, reading-fits, or-left, or-right}
 use Rattle.model.proofs.AdvanceKeepsForm.{all-mapped, unsettled-valid}
 
--- One cell: an act keeps it valid. A leaving begins at the clock, so less than the leave time before it.
+-- One cell: an act keeps it valid, as it does at the clock, and at any earlier time that is less than the leave time before it.
 
-module _ (clock leaveTime : ℕ) (leaves : 1 ≤ leaveTime) where
-  begun-leaving : (l : Leaving) → ValidLeaving clock leaveTime l → ValidLeaving clock leaveTime (begin clock l)
+module _ (clock leaveTime now : ℕ) (past : now ≤ clock) (recent : clock < now + leaveTime) where
+  begun-leaving : (l : Leaving) → ValidLeaving clock leaveTime l → ValidLeaving clock leaveTime (begin now l)
   unfolding begin
-  begun-leaving stays v = omega arith
+  begun-leaving stays v = (past, recent)
   begun-leaving (since t) v = v
 
-  left-or-not : (t : Bool) (l : Leaving) → ValidLeaving clock leaveTime l → ValidLeaving clock leaveTime (cond t (begin clock l) l)
+  left-or-not : (t : Bool) (l : Leaving) → ValidLeaving clock leaveTime l → ValidLeaving clock leaveTime (cond t (begin now l) l)
   left-or-not true l v = begun-leaving l v
   left-or-not false l v = v
 
-  talker-quits : (k : Kind) (t : Talker) → ValidTalker clock leaveTime t → ValidTalker clock leaveTime (quitTalker clock k t)
+  talker-quits : (k : Kind) (t : Talker) → ValidTalker clock leaveTime t → ValidTalker clock leaveTime (quitTalker now k t)
   unfolding quitTalker withLeaving
   talker-quits k noTalker v = tt
-  talker-quits k (talker r) v = record {
-    fixed = v .fixed;
-    varying = v .varying;
-    leaving = left-or-not (talksAs k (r .varying .health)) (r .leaving) (v .leaving);
-  }
+  talker-quits k (talker r) v =
+      again-valid clock leaveTime r v clock leaveTime (r .changed) _ (left-or-not (talksAs k (r .varying .health)) (r .leaving) (v .leaving))
 
-  listener-quits : (k : Kind) (t : Listener) → ValidListener clock leaveTime t → ValidListener clock leaveTime (quitListener clock k t)
+  listener-quits : (k : Kind) (t : Listener) → ValidListener clock leaveTime t → ValidListener clock leaveTime (quitListener now k t)
   unfolding quitListener
   listener-quits k noListener v = tt
   listener-quits k (listener r l) v = left-or-not (hearsAs k) l v
 
-  cell-quits : (k : Kind) (c : Cell) → ValidCell clock leaveTime c → ValidCell clock leaveTime (quit clock k c)
+  pub quit-valid : (k : Kind) (c : Cell) → ValidCell clock leaveTime c → ValidCell clock leaveTime (quit now k c)
   unfolding quit
-  cell-quits k c v = record { talks = talker-quits k (c .talks) (v .talks); hears = listener-quits k (c .hears) (v .hears) }
+  quit-valid k c v = record { talks = talker-quits k (c .talks) (v .talks); hears = listener-quits k (c .hears) (v .hears) }
 
   talker-joins : (f : Fixed) (v : Varying) → ValidFixed f → ValidVarying v → (t : Talker) → ValidTalker clock leaveTime t →
       ValidTalker clock leaveTime (joinTalker f v t)
@@ -57,12 +54,12 @@ module _ (clock leaveTime : ℕ) (leaves : 1 ≤ leaveTime) where
     where
       go : (t : Bool) → ValidRegistration clock leaveTime (cond t (sameJoin v r) (otherJoin r))
       go true = record { fixed = w .fixed; varying = vv; leaving = tt }
-      go false = record { fixed = w .fixed; varying = w .varying; leaving = tt }
+      go false = again-valid clock leaveTime r w clock leaveTime true stays tt
 
-  does-valid : (a : Act) → Fits a → (c : Cell) → ValidCell clock leaveTime c → ValidCell clock leaveTime (does clock a c)
+  pub does-valid : (a : Act) → Fits a → (c : Cell) → ValidCell clock leaveTime c → ValidCell clock leaveTime (does now a c)
   unfolding does
-  does-valid (leaveAll k) h c v = cell-quits k c v
-  does-valid (leave k i) h c v = cell-quits k c v
+  does-valid (leaveAll k) h c v = quit-valid k c v
+  does-valid (leave k i) h c v = quit-valid k c v
   does-valid (talk i f w) h c v = record { talks = talker-joins f w (h .1) (h .2) (c .talks) (v .talks); hears = v .hears }
   does-valid (listen i r) h c v = record { talks = v .talks; hears = tt }
   does-valid (ofDomain d) h c v = v
@@ -255,7 +252,7 @@ module _ (ports clock leaveTime p : ℕ) (here : p < ports) (eight : ports ≤ 8
   touch-keeps : (a : Act) → Fits a → (join : Bool) (i : ℕ) → Makes (does clock a) join i → (s : List Stream) →
       ValidStreams ports clock leaveTime s → ValidStreams ports clock leaveTime (touch join i (at p (does clock a)) s)
   touch-keeps a fits join i m s g = (
-    touch-valid ports clock leaveTime p here eight (does clock a) (does-valid clock leaveTime leaves a fits)
+    touch-valid ports clock leaveTime p here eight (does clock a) (does-valid clock leaveTime clock (omega arith) (omega arith) a fits)
         (does-stays clock a) join i m s (g .0),
     touch-rising join i (at p (does clock a)) s (g .1),
   )
@@ -266,7 +263,7 @@ module _ (ports clock leaveTime p : ℕ) (here : p < ports) (eight : ports ≤ 8
   apply-keeps (leaveAll k) fits s g =
       let a = leaveAll k in (
         all-mapped (ValidStream ports clock leaveTime) (ValidStream ports clock leaveTime) (change (at p (does clock a)))
-            (changed-valid ports clock leaveTime p here eight (does clock a) (does-valid clock leaveTime leaves a fits)
+            (changed-valid ports clock leaveTime p here eight (does clock a) (does-valid clock leaveTime clock (omega arith) (omega arith) a fits)
             (does-stays clock a)) s (g .0),
         rw (changed-ids (at p (does clock a)) s) (g .1),
       )
@@ -293,7 +290,7 @@ module _ (clock leaveTime : ℕ) (leaves : 1 ≤ leaveTime) where
   domain-quits : (d : Domain) → ValidDomain clock leaveTime d → ValidDomain clock leaveTime (quitDomain clock d)
   unfolding quitDomain
   domain-quits noDomain v = tt
-  domain-quits (domain x l) v = (v .0, begun-leaving clock leaveTime leaves l (v .1))
+  domain-quits (domain x l) v = (v .0, begun-leaving clock leaveTime clock (omega arith) (omega arith) l (v .1))
 
   domains-valid : (a : DomainAct) → FitsDomain a → (ds : List Domain) →
       All (ValidDomain clock leaveTime) ds → All (ValidDomain clock leaveTime) (doesDomain clock a ds)
@@ -420,10 +417,6 @@ receive-settings b p pdu = received-same (λ c. c .settings) b p (reading (b .se
 pub receive-clock : (b : Bridge) (p : ℕ) (pdu : List ℕ) → receive b p pdu .bridge .clock ≡ b .clock
 unfolding receive holding owning
 receive-clock b p pdu = received-same (λ c. c .clock) b p (reading (b .settings) p pdu) (λ s o. refl)
-
-pub receive-totals : (b : Bridge) (p : ℕ) (pdu : List ℕ) → receive b p pdu .bridge .totals ≡ b .totals
-unfolding receive holding owning
-receive-totals b p pdu = received-same (λ c. c .totals) b p (reading (b .settings) p pdu) (λ s o. refl)
 
 pub received-accepted-or-unchanged : (b : Bridge) (p : ℕ) (x : Reading) → (received b p x .number ≡ 0) ⊎ (received b p x .bridge ≡ b)
 unfolding received

@@ -8,7 +8,6 @@ use native.Mathlib.Omega.{arith}
 use lib.ListN.{length, getD}
 use lib.Dec.{eqb, leb}
 use borrow.Author.Tests.{eqb-true, leb-true, eq-eqb, ne-eqb, le-leb}
-use Rattle.octets.specs.Be.{beAt}
 use Rattle.octets.specs.Parts.{zeros}
 use Rattle.octets.specs.Fields.{fields, Fit, width}
 use Rattle.octets.proofs.Fields.{length-packed-any, fields-of-packed, fields-fit, fit-at, packed-zeros}
@@ -269,11 +268,3 @@ module _ (clock : ℕ) (s : List ℕ) (l : length s ≡ resultSize) (o : Octets 
 pub result-zeros : resultOctets unsettled ≡ zeros resultSize
 unfolding resultOctets resultNumbers columnNumber columnBridge columnCode entryNumber declaredNumber unsettled width
 result-zeros = packed-zeros resultWidths
-
-pub zeros-result : toResult (zeros resultSize) ≡ unsettled
-unfolding toResult resultFrom toColumn toEntry toDeclared fields beAt unsettled
-zeros-result = refl
-
-pub result-zeros-formed : (clock : ℕ) → resultFormed clock (zeros resultSize) ≡ true
-unfolding resultFormed resultRules allTrue allZero fields beAt
-result-zeros-formed clock = rw (le-leb 0 (clock / 100) (omega arith))

@@ -1,6 +1,6 @@
 -- Settings as octets and back: nothing is lost either way, and the octets that keep the rules are those of valid settings.
 use mathlib.Core.Path.{_≡_, refl, sym, _∙_, ap}
-use mathlib.Core.List.{List, [], _∷_, _++_, append-assoc, append-nil}
+use mathlib.Core.List.{List, [], _∷_, _++_, append-assoc}
 use mathlib.Core.Bool.{true}
 use Prim.Native.Nat.{ℕ, _+_, _*_, _/_, _%_, _≤_, _<_}
 use native.Mathlib.Nat.{add-zero}
@@ -13,14 +13,14 @@ use Rattle.octets.specs.Be.{beAt}
 use Rattle.octets.specs.Fields.{fields, packed, Fit, width, flat}
 use Rattle.octets.specs.Parts.{part}
 use Rattle.octets.proofs.Fields.{length-packed-any, length-flat, fields-packed, fields-of-packed, packed-fields, fields-fit, beAt-fits}
-use Rattle.model.specs.Layout.{domainVlanPlace, headSize, headWidths, largestPlace, latencyAPlace, latencyBPlace, limitAPlace, limitBPlace, overheadPlace, portPlace, portSize, portWidths, portsPlace, portsUnit, priorityAUnit, priorityBUnit, settingsSize, wordPlace}
+use Rattle.model.specs.Layout.{domainVlanPlace, headSize, headWidths, inPort, portPlace, portSize, portsPlace, portsUnit, portWidths, priorityAUnit, priorityBUnit, settingsSize, wordPlace}
 use Rattle.model.specs.Lists.{All, allTrue, bit, Octets}
 use Rattle.model.specs.State.{Port, Settings}
-use Rattle.model.specs.Table.{portNumbers, portFrom, portOctets, toPort, headWord, settingsOctets, portsField, toSettings, portRule, everyPart, settingsRules, settingsFormed}
+use Rattle.model.specs.Table.{portNumbers, portFrom, portOctets, toPort, headWord, headNumbers, settingsOctets, portsField, toSettings, portRule, everyPart, settingsRules, settingsFormed}
 use Rattle.model.specs.Laid.{FitSettings}
 use Rattle.model.proofs.Cells.{bit-back, bit-forth, bit-few}
 use Rattle.model.proofs.Parts.{_also_, packed-whole, parts-flat, length-parts, octets-at, octets-drop, octets-append, octets-packed, octets-flat, every-read, every-flat, every-forth}
-use Rattle.model.proofs.Lists.{all-map, all-each, and-left, and-right, and-both, all-true, true-all}
+use Rattle.model.proofs.Lists.{all-map, all-each, and-left, and-right, all-true, true-all}
 use Rattle.model.proofs.Valid.{ValidPort, ValidSettings}
 
 -- A port's numbers: the flags are three bits of one octet.
@@ -103,7 +103,7 @@ unfolding toPort portRule fields
 numbers-forth s h r =
     let e = octet-field s 0 in
     let z : getD s 0 0 % 32 ≡ 0 = eqb-true (getD s 0 0 % 32) 0 r in
-    numbers-back (beAt 1 s 0) (beAt 1 s overheadPlace) (beAt 2 s largestPlace) (beAt 5 s limitAPlace) (beAt 5 s limitBPlace) (beAt 4 s latencyAPlace) (beAt 4 s latencyBPlace) (omega arith) (rw e z)
+    numbers-back (beAt 1 s 0) (beAt 1 s inPort.overhead) (beAt 2 s inPort.largest) (beAt 5 s inPort.limitA) (beAt 5 s inPort.limitB) (beAt 4 s inPort.latencyA) (beAt 4 s inPort.latencyB) (omega arith) (rw e z)
 
 pub port-forth : (s : List ℕ) → length s ≡ portSize → Octets s → portRule s ≡ true → portOctets (toPort s) ≡ s
 unfolding portOctets
@@ -115,11 +115,12 @@ port-valid s l o r = port-from s (fields-fit portWidths 0 s (octets-at s o))
 
 -- What is read from the octets of settings, whatever follows them.
 
-abbrev head : Settings → List ℕ
-head st = packed headWidths (st .bridgeId ∷ headWord st ∷ st .vlan ∷ [])
+abbrev pub head : Settings → List ℕ
+head st = packed headWidths (headNumbers st)
 
-head-length : (st : Settings) → length (head st) ≡ headSize
-head-length st = length-packed-any headWidths (st .bridgeId ∷ headWord st ∷ st .vlan ∷ []) refl ∙ (unfold width in refl)
+pub head-length : (st : Settings) → length (head st) ≡ headSize
+unfolding headNumbers
+head-length st = length-packed-any headWidths (headNumbers st) refl ∙ (unfold width in refl)
 
 head-split : (st : Settings) (rest : List ℕ) → settingsOctets st ++ rest ≡ head st ++ (flat portOctets (st .ports) ++ rest)
 unfolding settingsOctets
@@ -132,40 +133,40 @@ settings-length st =
 
 -- numbers within their fields are read as they were written, whatever follows
 module _ (st : Settings) (v : FitSettings st) where
-  head-fit : Fit headWidths (st .bridgeId ∷ headWord st ∷ st .vlan ∷ [])
-  unfolding Fit headWord
+  head-fit : Fit headWidths (headNumbers st)
+  unfolding Fit headNumbers headWord
   head-fit = v .bridgeId also omega arith also v .vlan also tt
 
   module _ (rest : List ℕ) where
-    head-read : fields headWidths 0 (settingsOctets st ++ rest) ≡ st .bridgeId ∷ headWord st ∷ st .vlan ∷ []
-    head-read = rw (head-split st rest) (fields-packed headWidths (st .bridgeId ∷ headWord st ∷ st .vlan ∷ []) (flat portOctets (st .ports) ++ rest) head-fit)
+    head-read : fields headWidths 0 (settingsOctets st ++ rest) ≡ headNumbers st
+    head-read = rw (head-split st rest) (fields-packed headWidths (headNumbers st) (flat portOctets (st .ports) ++ rest) head-fit)
 
     pub id-read : beAt 8 (settingsOctets st ++ rest) 0 ≡ st .bridgeId
-    unfolding fields
+    unfolding fields headNumbers
     id-read = ap (λ (vs : List ℕ). getD vs 0 0) head-read
 
-    word-read : beAt 3 (settingsOctets st ++ rest) 8 ≡ headWord st
-    unfolding fields
+    word-read : beAt 3 (settingsOctets st ++ rest) wordPlace ≡ headWord st
+    unfolding fields headNumbers
     word-read = ap (λ (vs : List ℕ). getD vs 1 0) head-read
 
     pub ports-read : portsField (settingsOctets st ++ rest) ≡ length (st .ports)
     unfolding portsField headWord
     ports-read = rw word-read (omega arith)
 
-    pub priority-a-read : beAt 3 (settingsOctets st ++ rest) 8 / priorityAUnit % 8 ≡ st .priorityA
+    pub priority-a-read : beAt 3 (settingsOctets st ++ rest) wordPlace / priorityAUnit % 8 ≡ st .priorityA
     unfolding headWord
     priority-a-read = rw word-read (omega arith)
 
-    pub priority-b-read : beAt 3 (settingsOctets st ++ rest) 8 / priorityBUnit % 8 ≡ st .priorityB
+    pub priority-b-read : beAt 3 (settingsOctets st ++ rest) wordPlace / priorityBUnit % 8 ≡ st .priorityB
     unfolding headWord
     priority-b-read = rw word-read (omega arith)
 
-    pub leave-read : beAt 3 (settingsOctets st ++ rest) 8 % priorityBUnit ≡ st .leaveTime
+    pub leave-read : beAt 3 (settingsOctets st ++ rest) wordPlace % priorityBUnit ≡ st .leaveTime
     unfolding headWord
     leave-read = rw word-read (omega arith)
 
     pub vlan-read : beAt 2 (settingsOctets st ++ rest) domainVlanPlace ≡ st .vlan
-    unfolding fields
+    unfolding fields headNumbers
     vlan-read = ap (λ (vs : List ℕ). getD vs 2 0) head-read
 
     pub behind-head : drop portsPlace (settingsOctets st ++ rest) ≡ flat portOctets (st .ports) ++ rest
@@ -191,9 +192,6 @@ settings-fit st v = record {
 }
 
 module _ (st : Settings) (v : ValidSettings st) (rest : List ℕ) where
-  pub settings-back : toSettings (settingsOctets st ++ rest) ≡ st
-  settings-back = fit-back st (settings-fit st v) rest
-
   pub settings-rules : allTrue (settingsRules (settingsOctets st ++ rest)) ≡ true
   unfolding settingsRules
   settings-rules =
@@ -219,7 +217,7 @@ unfolding headWord toSettings portsField
 head-word s = rw (length-parts portSize toPort (beAt 3 s wordPlace / portsUnit) (drop portsPlace s)) (word-back (beAt 3 s wordPlace))
 
 head-forth : (s : List ℕ) → headSize ≤ length s → Octets s → head (toSettings s) ≡ take headSize s
-unfolding toSettings fields width part
+unfolding headNumbers toSettings fields width part
 head-forth s h o = rw (head-word s) (packed-fields headWidths 0 s h (octets-at s o))
 
 -- the rules as facts
@@ -295,14 +293,6 @@ settings-room s l r = omega (arith, eight-ports s r)
 
 -- Settings as they are handed to start: "Length 13 + 22 x ports".
 
-pub settings-formed : (st : Settings) → ValidSettings st → settingsFormed (settingsOctets st) ≡ true
-unfolding settingsFormed
-settings-formed st v =
-    let s = settingsOctets st in
-    let e : portsField s ≡ length (st .ports) = ap portsField (sym (append-nil s)) ∙ ports-read st (settings-fit st v) [] in
-    let r : allTrue (settingsRules s) ≡ true = ap (λ (t : List ℕ). allTrue (settingsRules t)) (sym (append-nil s)) ∙ settings-rules st v [] in
-    and-both (eqb (length s) (portPlace (portsField s))) (allTrue (settingsRules s)) (eq-eqb (length s) (portPlace (portsField s)) (omega (arith, settings-length st))) r
-
 module _ (s : List ℕ) (f : settingsFormed s ≡ true) where
   pub formed-length : length s ≡ portPlace (portsField s)
   unfolding settingsFormed
@@ -326,5 +316,5 @@ module _ (s : List ℕ) (o : Octets s) (f : settingsFormed s ≡ true) where
 pub octets-settings : (st : Settings) → Octets (settingsOctets st)
 unfolding settingsOctets portOctets
 octets-settings st =
-    octets-append (head st) (flat portOctets (st .ports)) (octets-packed headWidths (st .bridgeId ∷ headWord st ∷ st .vlan ∷ []))
+    octets-append (head st) (flat portOctets (st .ports)) (octets-packed headWidths (headNumbers st))
     (octets-flat portOctets (λ q. octets-packed portWidths (portNumbers q)) (st .ports))

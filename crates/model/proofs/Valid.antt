@@ -1,7 +1,7 @@
 -- The form rules as facts about a bridge, for proofs: what `formed` tests on octets.
 use mathlib.Core.Path.{_≡_}
 use mathlib.Core.List.{List, [], _∷_}
-use mathlib.Core.Bool.{true}
+use mathlib.Core.Bool.{Bool, true}
 use Prim.Native.Nat.{ℕ, _+_, _/_, _^_, _≤_, _<_}
 use lib.ListN.{length, drop}
 use Rattle.model.specs.Layout.{priorityBUnit, slots}
@@ -57,6 +57,11 @@ pub record ValidRegistration (clock leave : ℕ) (r : Registration) : Type 0 whe
   pub fixed : ValidFixed (r .fixed)
   pub varying : ValidVarying (r .varying)
   pub leaving : ValidLeaving clock leave (r .leaving)
+
+-- it stays so with another changed mark, and with a leaving that is valid, at whatever time
+pub again-valid : (clock leave : ℕ) (r : Registration) → ValidRegistration clock leave r → (now time : ℕ) (mark : Bool) (l : Leaving) → ValidLeaving now time l
+    → ValidRegistration now time record { fixed = r .fixed; varying = r .varying; changed = mark; leaving = l }
+again-valid clock leave r v now time mark l w = record { fixed = v .fixed; varying = v .varying; leaving = w }
 
 abbrev pub ValidTalker : ℕ → ℕ → Talker → Type 0
 ValidTalker clock leave noTalker = Unit {0}

@@ -486,19 +486,6 @@ passes-from (suc f) b p place h k =
 pub passes-all : (b : Bridge) (p : ℕ) → flatten (writeAll (length (declared b p)) b p 0) ≡ declared b p
 passes-all b p = passes-from (length (declared b p)) b p 0 (omega arith) (omega arith)
 
--- what holds of every run that write gives holds of all of them
-pub all-runs : (P : List Declaration → Type 0) (f : ℕ) (b : Bridge) (p place : ℕ) → ((q : ℕ) → P (write b p q .run)) → All P (writeAll f b p place)
-unfolding writeAll
-all-runs P zero b p place h = tt
-all-runs P (suc f) b p place h = go (eqb place (length (declared b p))) (all-runs P f b p (write b p place .next) h)
-  where
-    rest : List (List Declaration)
-    rest = writeAll f b p (write b p place .next)
-
-    go : (t : Bool) → All P rest → All P (cond t [] (write b p place .run ∷ rest))
-    go true a = tt
-    go false a = (h place, a)
-
 -- a PDU of at least one declaration and at most 1,500 octets
 abbrev pub Filled : List Declaration → Type 0
 Filled run = (1 ≤ length run) × (length (pduOctets run) ≤ longestPdu)

@@ -1,6 +1,6 @@
 -- The layout of an MSRPDU (01, "The PDU"; Tables 35-1, 35-2): the widths of FirstValues' fields, and every length and place
 -- computed from them.
-use Prim.Native.Nat.{ℕ, _+_}
+use Prim.Native.Nat.{ℕ}
 use mathlib.Core.List.{List, [], _∷_}
 use Rattle.model.specs.Layout.{sum, before}
 

@@ -7,10 +7,10 @@ use lib.ListN.{length}
 use Rattle.octets.specs.Fields.{Fit}
 use Rattle.model.specs.Layout.{cellWidths, nameWidths, portWidths, priorityBUnit, resultWidths, slotWidths, slots}
 use Rattle.model.specs.Lists.{All}
-use Rattle.model.specs.State.{Settings, Talker, noTalker, talker, Cell, Domain, Own, Result, Stream, Totals, Bridge}
+use Rattle.model.specs.State.{Settings, Talker, noTalker, talker, Cell, Own, Result, Stream, Totals, Bridge}
 use Rattle.model.specs.Registrations.{ids}
 use Rattle.model.specs.WrittenFrames.{fixedNumbers}
-use Rattle.model.specs.Table.{cellNumbers, cellOctets, domainNumbers, domainOctets, ownOctets, resultNumbers, resultOctets, streamOctets, portNumbers, encode}
+use Rattle.model.specs.Table.{cellNumbers, cellOctets, domainNumbers, domainOctets, ownOctets, resultNumbers, resultOctets, portNumbers, encode}
 
 -- a rank is one bit: it shares its octet with the priority, so that the octet's width alone does not say it
 abbrev pub FitRank : Talker → Type 0
@@ -65,33 +65,25 @@ pub record FitBridge (b : Bridge) : Type 0 where
   pub streams : All FitStream (b .streams)
   pub ascending : Ascending (ids (b .streams))
 
--- the octets of a cell, of a result, of a Domain value, of what a port holds, of a stream record, of a table
-pub record LaidCell (s : List ℕ) : Type 0 where
-  pub cell : Cell
-  pub fits : FitCell cell
-  pub is : s ≡ cellOctets cell
+-- the octets of some thing that fits
+pub record LaidOut {A : Type 0} (octets : A → List ℕ) (Fits : A → Type 0) (s : List ℕ) : Type 0 where
+  pub thing : A
+  pub fits : Fits thing
+  pub is : s ≡ octets thing
 
-pub record LaidResult (s : List ℕ) : Type 0 where
-  pub result : Result
-  pub fits : FitResult result
-  pub is : s ≡ resultOctets result
+-- of a cell, of a result, of a bridge
+abbrev pub LaidCell : List ℕ → Type 0
+LaidCell = LaidOut cellOctets FitCell
 
-pub record LaidDomain (s : List ℕ) : Type 0 where
-  pub value : Domain
-  pub fits : Fit slotWidths (domainNumbers value)
-  pub is : s ≡ domainOctets value
+abbrev pub LaidResult : List ℕ → Type 0
+LaidResult = LaidOut resultOctets FitResult
 
-pub record LaidOwn (s : List ℕ) : Type 0 where
-  pub own : Own
-  pub fits : FitOwn own
-  pub is : s ≡ ownOctets own
+-- of a Domain value, of what a port holds
+abbrev pub LaidDomain : List ℕ → Type 0
+LaidDomain = LaidOut domainOctets (λ d. Fit slotWidths (domainNumbers d))
 
-pub record LaidStream (s : List ℕ) : Type 0 where
-  pub stream : Stream
-  pub fits : FitStream stream
-  pub is : s ≡ streamOctets stream
+abbrev pub LaidOwn : List ℕ → Type 0
+LaidOwn = LaidOut ownOctets FitOwn
 
-pub record Laid (t : List ℕ) : Type 0 where
-  pub bridge : Bridge
-  pub fits : FitBridge bridge
-  pub is : t ≡ encode bridge
+abbrev pub Laid : List ℕ → Type 0
+Laid = LaidOut encode FitBridge

@@ -1,6 +1,6 @@
 -- The layout of the lent table (docs/TABLE.md): the widths of its fields, and every size and place, computed from them. Numbers of
 -- the layout stand here and in crate table's constants, and nowhere else.
-use Prim.Native.Nat.{ℕ, zero, suc, _+_, _-_, _*_}
+use Prim.Native.Nat.{ℕ, zero, suc, _+_, _-_, _*_, _^_}
 use mathlib.Core.List.{List, [], _∷_}
 
 -- the octets of fields, and of those before the field with an index
@@ -225,25 +225,17 @@ cellPlace k p = recordPlace k + cellIn p
 abbrev pub resultPlace : ℕ → ℕ → ℕ
 resultPlace k p = recordPlace k + resultIn p
 
--- Places in a port's settings and totals.
+-- Places in a port's settings, and in its totals.
 
-abbrev pub overheadPlace : ℕ
-overheadPlace = before 1 portWidths
-
-abbrev pub largestPlace : ℕ
-largestPlace = before 2 portWidths
-
-abbrev pub limitAPlace : ℕ
-limitAPlace = before 3 portWidths
-
-abbrev pub limitBPlace : ℕ
-limitBPlace = before 4 portWidths
-
-abbrev pub latencyAPlace : ℕ
-latencyAPlace = before 5 portWidths
-
-abbrev pub latencyBPlace : ℕ
-latencyBPlace = before 6 portWidths
+abbrev pub inPort : record { overhead : ℕ; largest : ℕ; limitA : ℕ; limitB : ℕ; latencyA : ℕ; latencyB : ℕ }
+inPort = record {
+  overhead = before 1 portWidths;
+  largest = before 2 portWidths;
+  limitA = before 3 portWidths;
+  limitB = before 4 portWidths;
+  latencyA = before 5 portWidths;
+  latencyB = before 6 portWidths;
+}
 
 abbrev pub totalBPlace : ℕ
 totalBPlace = before 1 totalsWidths
@@ -400,13 +392,14 @@ slotLeavesPlace = before slotLeavesField slotWidths
 abbrev pub slotVlanPlace : ℕ
 slotVlanPlace = before slotVlanField slotWidths
 
--- Units of the settings' word: its number divided by one gives the field above, its remainder those below.
-
-abbrev pub portsUnit : ℕ
-portsUnit = 1048576
-
-abbrev pub priorityAUnit : ℕ
-priorityAUnit = 131072
+-- Units of the settings' word, from its lowest field up (14 bits, 3, 3): its number divided by one gives the fields above, its
+-- remainder those below.
 
 abbrev pub priorityBUnit : ℕ
-priorityBUnit = 16384
+priorityBUnit = 2 ^ 14
+
+abbrev pub priorityAUnit : ℕ
+priorityAUnit = 8 * priorityBUnit
+
+abbrev pub portsUnit : ℕ
+portsUnit = 8 * priorityAUnit

@@ -7,6 +7,7 @@ use lib.Dec.{ltb, leb, eqb}
 use Rattle.model.specs.Lists.{keep, tabulate}
 use Rattle.model.specs.State.{Port, Settings, Leaving, stays, since, Fixed, Health, sound, broken, Registration, Talker, noTalker, talker, Ready, askingFailed, ready, readyFailed, Listener, noListener, listener, Cell, Domain, noDomain, domain, Own, Column, none, advertise, failed, Entry, noEntry, filters, forwards, Declared, nothing, tells, Result, Stream, Totals, Bridge, noFixed, portAt, isPort, cellAt, resultAt, ownAt, Class, noClass, classA, classB, classOf, isNoClass, sameClass, supports, limit, classLatency, classPriority}
 use Rattle.model.specs.Registrations.{Answer}
+use Rattle.model.specs.WrittenFrames.{readyNumber}
 use Rattle.model.specs.Bandwidth.{Claim, demand, rateOf, remains, total}
 
 -- Removal: "removes every registration leaving for at least the leave time, drops unheld streams".
@@ -236,7 +237,8 @@ unfoldable pub claims : Scene → ℕ → ℕ → Class → List Stream → List
 claims sc now p c [] = []
 claims sc now p c (x ∷ s) = keep (clear (steps sc p x) && sameClass (streamClass (sc .settings) x) c) (claim (sc .settings) now p x) (claims sc now p c s)
 
--- the limit in force
+-- the limit in force: "Each class has its own limit". It is asked of the time and the streams too, since a lower class may be given
+-- what a higher one leaves on the port in the same advance; here the port's settings alone decide
 unfoldable pub limitOn : Scene → ℕ → List Stream → ℕ → Class → ℕ
 limitOn sc now s p c = limit (portAt (sc .settings) p) c
 
@@ -291,15 +293,7 @@ passed (failed b c) nothing = nothing
 passed (failed b c) (tells r) = tells askingFailed
 
 unfoldable pub sameReady : Ready → Ready → Bool
-sameReady askingFailed askingFailed = true
-sameReady askingFailed ready = false
-sameReady askingFailed readyFailed = false
-sameReady ready askingFailed = false
-sameReady ready ready = true
-sameReady ready readyFailed = false
-sameReady readyFailed askingFailed = false
-sameReady readyFailed ready = false
-sameReady readyFailed readyFailed = true
+sameReady r q = eqb (readyNumber r) (readyNumber q)
 
 -- "Merged on t (35-14): alike gives itself; none gives the other; any two unlike give Ready Failed"
 unfoldable pub merge : Declared → Declared → Declared

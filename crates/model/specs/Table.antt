@@ -44,9 +44,12 @@ toPort s = portFrom (fields portWidths 0 s)
 unfoldable pub headWord : Settings → ℕ
 headWord st = ((length (st .ports) * 8 + st .priorityA) * 8 + st .priorityB) * priorityBUnit + st .leaveTime
 
+unfoldable pub headNumbers : Settings → List ℕ
+headNumbers st = st .bridgeId ∷ headWord st ∷ st .vlan ∷ []
+
 -- as they are handed to start
 unfoldable pub settingsOctets : Settings → List ℕ
-settingsOctets st = packed headWidths (st .bridgeId ∷ headWord st ∷ st .vlan ∷ []) ++ flat portOctets (st .ports)
+settingsOctets st = packed headWidths (headNumbers st) ++ flat portOctets (st .ports)
 
 unfoldable pub portsField : List ℕ → ℕ
 portsField s = beAt 3 s wordPlace / portsUnit

@@ -33,7 +33,7 @@ above : (kind : ℕ) → 4 < kind → kind ≡ suc (suc (suc (suc (suc (kind - 5
 above kind p = omega arith
 
 module _ (version kind : ℕ) (p : 4 < kind) where
-  pub type-refused : version ≡ 0 → typeRead (typeOctet version kind) ≡ Refused
+  pub type-refused : version ≡ 0 → typeRead (typeOctet version kind) ≡ Refused 4
   unfolding typeRead typeOctet
   type-refused e = rw (above kind p, eq-eqb _ _ e)
 
@@ -264,11 +264,11 @@ module _ (l : List ℕ) (r : VectorRead) where
 
 -- The Message at a place, in the order of the checks.
 
-pub refused-type : (t : TypeOctet) → typeRead t ≡ Refused → t ≡ notAllowed
+pub refused-type : (t : TypeOctet) (n : ℕ) → typeRead t ≡ Refused n → (t ≡ notAllowed) × (n ≡ 4)
 unfolding typeRead
-refused-type notAllowed e = refl
-refused-type unknown e = let z : _≡_ {A = ℕ} 0 1 = cc in absurd (omega arith)
-refused-type (known k) e = let z : _≡_ {A = ℕ} 0 1 = cc in absurd (omega arith)
+refused-type notAllowed n e = let z : n ≡ 4 = cc in (refl, z)
+refused-type unknown n e = let z : _≡_ {A = ℕ} 0 1 = cc in absurd (omega arith)
+refused-type (known k) n e = let z : _≡_ {A = ℕ} 0 1 = cc in absurd (omega arith)
 
 pub skipped-type : (t : TypeOctet) → typeRead t ≡ Skipped → t ≡ unknown
 unfolding typeRead
@@ -307,9 +307,9 @@ module _ (s : List ℕ) (at : ℕ) where
 
   -- by what the type octet gave; n is the list's length
   module _ (t : TypeOctet) (n : ℕ) (i : n ≡ beAt 2 s (at + 2)) where
-    pub from-refused : typeRead t ≡ Refused → messageMeant s at (headerIn t s at) ≡ message.Refused 4
+    pub from-refused : (number : ℕ) → typeRead t ≡ Refused number → messageMeant s at (headerIn t s at) ≡ message.Refused number
     unfolding messageMeant headerIn
-    from-refused e = rw (refused-type t e)
+    from-refused number e = rw (refused-type t number e .0, refused-type t number e .1)
 
     module _ (e : typeRead t ≡ Skipped) where
       pub skip-long : length s < at + 4 + n → messageMeant s at (headerIn t s at) ≡ message.Refused 3

@@ -134,6 +134,12 @@ listed : (version : ℕ) (s : List ℕ) (at : ℕ) (k : Attribute) → typeOctet
 unfolding vectorsIn messageEnd listAt
 listed version s at k e = rw (known-any version (getD s at 0) k e, lent-part (at + 4) (listLength s at) s, lent-length (at + 4) (listLength s at))
 
+-- a list that is read stands behind its Message's header, and within the PDU
+pub record ListWithin (s : List ℕ) (at : ℕ) (m : MessageHead) : Type 0 where
+  pub list : m .list ≡ at + 4
+  pub ends : m .list ≤ m .next
+  pub within : m .next ≤ length s
+
 module _ (version : ℕ) (s : List ℕ) (at : ℕ) where
   pub ahead-skipped : (next : ℕ) → messageRead version s at ≡ message.Skipped next → (at + 4 ≤ next) × (next ≤ length s)
   unfolding messageRead messageEnd
@@ -142,12 +148,12 @@ module _ (version : ℕ) (s : List ℕ) (at : ℕ) where
       let a : messageEnd s at ≤ length s = subst (Ahead version s at) (r .0) (ahead version s at) in
       (omega (arith, r .1), omega (arith, r .1))
 
-  pub ahead-list : (m : MessageHead) → messageRead version s at ≡ message.List m → (m .list ≡ at + 4) × (m .list ≤ m .next) × (m .next ≤ length s)
+  pub ahead-list : (m : MessageHead) → messageRead version s at ≡ message.List m → ListWithin s at m
   unfolding messageRead messageEnd
   ahead-list m e =
       let r = message-listed s at (messageIn version s at) m e in
       let a = subst (Ahead version s at) (r .is) (ahead version s at) in
-      (r .list, omega (arith, r .list, r .next), omega (arith, r .next, a .1))
+      record { list = r .list; ends = omega (arith, r .list, r .next); within = omega (arith, r .next, a .1) }
 
 module _ (f version : ℕ) (s : List ℕ) (at : ℕ) where
   pub messages-refused : (n : ℕ) → messageRead version s at ≡ message.Refused n → messages (suc f) version s at ≡ fault n
@@ -234,3 +240,24 @@ module _ (f : ℕ) (l : List ℕ) (at : ℕ) (w : Walk) where
   pub number-next : (t : TypeOctet) (h : VectorHead) → typedRead t l at ≡ vector.Vector h → (g : ℕ) → f ≡ suc g
       → numberOf (both (vectorsIn t (suc f) l at) w) ≡ numberOf (both (vectorsIn t (suc g) l (h .next)) w)
   number-next t h e g m = rw (← m) (number-after t h e)
+
+-- The number is not yet given: that of what is left, from here, is the answer.
+
+-- from a Message on
+pub record PduLeft (s : List ℕ) (version at : ℕ) : Type 0 where
+  pub within : at ≤ length s
+  pub turns : ℕ
+  pub enough : length s ≤ at + turns
+  pub answer : numberOf (messages (suc turns) version s at) ≡ numberOf (walk s)
+
+-- from a vector on, in the list from start to end of the Message at a place
+pub record ListLeft (s : List ℕ) (version at kind start end reached : ℕ) : Type 0 where
+  pub list : start ≤ end
+  pub within : end ≤ length s
+  pub ahead : at < end
+  pub inside : reached ≤ end - start
+  pub turns : ℕ
+  pub later : ℕ
+  pub enough : end - start ≤ reached + turns
+  pub enough-later : length s ≤ end + later
+  pub answer : numberOf (both (vectorsIn (typeOctet 0 kind) (suc turns) (take (end - start) (drop start s)) reached) (messages (suc later) version s end)) ≡ numberOf (walk s)

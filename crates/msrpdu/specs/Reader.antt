@@ -23,9 +23,9 @@ use Rattle.msrpdu.specs.declared.DomainRead.the-variants.{Slot, Dropped}
 use Rattle.msrpdu.specs.declared.Event.{Event}
 use Rattle.msrpdu.specs.declared.Event.the-variants.{New, JoinIn, In, JoinMt, Mt, Lv, Missing}
 
--- the type octet
+-- the type octet: refused with 4, skipped, or known, with the octets of FirstValue
 unfoldable pub typeRead : TypeOctet → TypeRead
-typeRead notAllowed = Refused
+typeRead notAllowed = Refused 4
 typeRead unknown = Skipped
 typeRead (known k) = Known (firstLength k)
 

@@ -7,25 +7,26 @@ ghost use Rattle.msrpdu.specs.Reader.{typeRead, headOf, vectorRead, type
 use model::pdu;
 use model::refusal;
 
-// What the AttributeType octet decides: a known type with its octets of FirstValue, a list to skip unread, or a refusal.
-pub enum TypeRead {
+// What the AttributeType octet decides: a known type with its octets of FirstValue, a list to skip unread, or a refusal with its
+// number.
+enum TypeRead {
     Known(usize),
     Skipped,
-    Refused,
+    Refused(u8),
 }
 
-pub fn type_read(version: u8, kind: u8) -> TypeRead
+fn type_read(version: u8, kind: u8) -> TypeRead
     ensures { λ r. ⌜ r ≡ typeRead (typeOctet version kind) ⌝ }
 {
     match kind {
-        0 => TypeRead::Refused,
+        0 => TypeRead::Refused(refusal::ATTRIBUTE_TYPE),
         1 => TypeRead::Known(pdu::ADVERTISE),
         2 => TypeRead::Known(pdu::FAILED),
         3 => TypeRead::Known(pdu::LISTENER),
         4 => TypeRead::Known(pdu::DOMAIN),
         5..=255 => {
             if version == 0 {
-                return TypeRead::Refused;
+                return TypeRead::Refused(refusal::ATTRIBUTE_TYPE);
             }
             TypeRead::Skipped
         }
@@ -153,7 +154,7 @@ fn head_of(at: usize, first: usize, four: bool, h: usize) -> VectorHead
 
 // The vector at a place of an AttributeList of any MRP application, by the octets of FirstValue and whether FourPackedEvents
 // follow: its checks, in 01's order, but for that of its values.
-pub fn vector(list: &[u8], at: usize, first: usize, four: bool) -> VectorRead
+fn vector(list: &[u8], at: usize, first: usize, four: bool) -> VectorRead
     ensures { λ r. ⌜ r ≡ vectorRead first four (now (list .entry)) at ⌝ }
 {
     let n = list.len();
@@ -243,7 +244,7 @@ fn message_header(pdu: &[u8], version: u8, at: usize) -> MessageRead
     let list = octets::get(pdu, at + 2, 2) as usize;
     let t = type_read(version, kind);
     match t {
-        TypeRead::Refused => MessageRead::Refused(refusal::ATTRIBUTE_TYPE),
+        TypeRead::Refused(number) => MessageRead::Refused(number),
         TypeRead::Skipped => {
             if left < list {
                 return MessageRead::Refused(refusal::PAST_END);
@@ -311,13 +312,13 @@ pub fn check(pdu: &[u8]) -> u8
                 let kind = head.kind;
                 let start = head.list;
                 let end = head.next;
-                let mut place: usize = 0;
+                let mut reached: usize = 0;
                 loop {
-                    let v = typed_vector(&pdu[start..end], place, kind);
+                    let v = typed_vector(&pdu[start..end], reached, kind);
                     match v {
                         VectorRead::Refused(number) => break 'messages number,
                         VectorRead::EndMark => break,
-                        VectorRead::Vector(w) => place = w.next,
+                        VectorRead::Vector(w) => reached = w.next,
                     }
                 }
                 at = end;

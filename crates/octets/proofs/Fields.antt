@@ -12,7 +12,6 @@ use Rattle.octets.specs.Fields.{fields, packed, Fit, width, flat}
 use Rattle.octets.specs.Parts.{part, patch, zeros}
 use Rattle.octets.proofs.Be.{length-be, beAt-ext, beAt-be, be-zero, put-none}
 use Rattle.octets.proofs.Parts.{length-part, part-none, part-more}
-use Rattle.octets.proofs.Frame.{getD-part}
 
 -- Octets: each element, also that found past the end, is below 256.
 
@@ -68,12 +67,6 @@ fields-ext (w ∷ ws) s t a b h =
           let q : b + w + j ≡ b + (w + j) = omega arith in
           rw (p, q) (h (w + j) (omega arith))),
     )
-
--- of a part
-pub fields-part : (ws : List ℕ) (a n at : ℕ) (s : List ℕ) → at + width ws ≤ n → fields ws at (part a n s) ≡ fields ws (a + at) s
-fields-part ws a n at s h =
-    fields-ext ws (part a n s) s at (a + at)
-    (λ j l. getD-part a n (at + j) s (omega arith) ∙ ap (λ (k : ℕ). getD s k 0) (omega arith))
 
 -- of the first of two lists, and of the second
 pub fields-front : (ws : List ℕ) (at : ℕ) (x y : List ℕ) → at + width ws ≤ length x → fields ws at (x ++ y) ≡ fields ws at x
@@ -153,11 +146,6 @@ pub fields-fit : (ws : List ℕ) (at : ℕ) (s : List ℕ) → ((i : ℕ) → ge
 unfolding fields Fit
 fields-fit [] at s h = tt
 fields-fit (w ∷ ws) at s h = (beAt-fits w s at h, fields-fit ws (at + w) s h)
-
-pub length-fields : (ws : List ℕ) (at : ℕ) (s : List ℕ) → length (fields ws at s) ≡ length ws
-unfolding fields
-length-fields [] at s = refl
-length-fields (w ∷ ws) at s = ap suc (length-fields ws (at + w) s)
 
 -- Numbers that fit: one of them, and those of two lists.
 
@@ -262,14 +250,6 @@ put-field (w ∷ ws) (x ∷ vs) (suc i) v e =
     patch-behind (be w x) (packed ws vs) (be (getD ws i 0) v) w (width (take i ws)) (getD ws i 0) (length-be w x)
     ∙ ap (λ (l : List ℕ). be w x ++ l) (put-field ws vs i v (omega arith))
 
-pub fit-set : (ws vs : List ℕ) (i v : ℕ) → Fit ws vs → v < 256 ^ getD ws i 0 → Fit ws (set vs i v)
-unfolding Fit
-fit-set [] [] i v h l = tt
-fit-set [] (x ∷ vs) i v h l = absurd h
-fit-set (w ∷ ws) [] i v h l = absurd h
-fit-set (w ∷ ws) (x ∷ vs) zero v h l = (l, h .1)
-fit-set (w ∷ ws) (x ∷ vs) (suc i) v h l = (h .0, fit-set ws vs i v (h .1) l)
-
 pub packed-append : (ws us vs xs : List ℕ) → length vs ≡ length ws → packed (ws ++ us) (vs ++ xs) ≡ packed ws vs ++ packed us xs
 unfolding packed
 packed-append [] us [] xs e = refl
@@ -277,11 +257,6 @@ packed-append [] us (v ∷ vs) xs e = absurd (omega arith)
 packed-append (w ∷ ws) us [] xs e = absurd (omega arith)
 packed-append (w ∷ ws) us (v ∷ vs) xs e =
     rw (packed-append ws us vs xs (omega arith)) (sym (append-assoc (be w v) (packed ws vs) (packed us xs)))
-
-pub width-append : (ws us : List ℕ) → width (ws ++ us) ≡ width ws + width us
-unfolding width
-width-append [] us = omega arith
-width-append (w ∷ ws) us = omega (arith, width-append ws us)
 
 -- several fields that follow each other, of the widths ws and with the numbers vs; before them bs with us, behind them cs with xs
 module _ (bs ws cs us vs xs : List ℕ) (p : length us ≡ length bs) (q : length vs ≡ length ws) where

@@ -5,3 +5,4 @@ pub mod Frame
 pub mod Fields
 pub mod Patches
 pub mod Copies
+pub mod Loops

@@ -1,13 +1,12 @@
 -- A part replaced: between others, within a part, twice, or by what it was; what a call leaves that was lent it; and what a loop
 -- over parts leaves behind those that it has done. Assumes nothing.
-use Prim.Native.Nat.{ℕ, zero, suc, _+_, _*_, _-_, _≤_}
-use native.Mathlib.Nat.{zero-mul, suc-mul}
+use Prim.Native.Nat.{ℕ, _+_, _-_, _≤_}
 use native.Mathlib.Omega.{arith}
 use mathlib.Core.Path.{_≡_, sym, ap, _∙_}
 use mathlib.Core.List.{List, _++_, append-assoc}
 use lib.ListN.{length, take, drop, length-append, length-drop, take-append-drop}
-use lib.Seq.{length-take-le, take-at, drop-at, take-append-le, drop-append-le, drop-drop, drop-append-add}
-use Rattle.octets.specs.Parts.{part, patch, each, eachFrom}
+use lib.Seq.{length-take-le, take-at, drop-at, take-append-le, drop-append-le, drop-drop}
+use Rattle.octets.specs.Parts.{part, patch}
 use Rattle.octets.proofs.Parts.{lent-length, length-part}
 use Rattle.octets.proofs.Fields.{patch-behind}
 
@@ -52,12 +51,6 @@ patch-within a n b m y s h k =
     ∙ ap (λ (r : List ℕ). x ++ r) (patch-front w z y b m (omega arith))
     ∙ sym (ap (patch a n (patch b m y w)) (around a n s) ∙ patch-between x w z (patch b m y w) a n e f)
 
-pub patch-again : (a n : ℕ) (y z s : List ℕ) → length z ≡ n → a + n ≤ length s → patch a n y (patch a n z s) ≡ patch a n y s
-unfolding patch
-patch-again a n y z s e h =
-    let l : length (take a s) ≡ a = length-take-le a s (omega arith) in
-    rw (take-at (take a s) (z ++ drop n (drop a s)) a l, drop-at (take a s) (z ++ drop n (drop a s)) a l, drop-at z (drop n (drop a s)) n e)
-
 -- the part behind one that was replaced
 pub patch-next : (a n k : ℕ) (y z s : List ℕ) → length y ≡ n → a + n ≤ length s → patch (a + n) k z (patch a n y s) ≡ patch a (n + k) (y ++ z) s
 unfolding patch
@@ -67,28 +60,3 @@ patch-next a n k y z s e h =
     ap (patch (a + n) k z) (sym (append-assoc (take a s) y rest))
     ∙ rw (take-at (take a s ++ y) rest (a + n) l, drop-at (take a s ++ y) rest (a + n) l, drop-drop k n (drop a s))
     (append-assoc (take a s) y (z ++ drop (n + k) (drop a s)) ∙ ap (λ (r : List ℕ). take a s ++ r) (sym (append-assoc y z (drop (n + k) (drop a s)))))
-
--- What a loop has not come to is as it was.
-
-module _ (n : ℕ) (f : List ℕ → List ℕ) (hf : (x : List ℕ) → length x ≡ n → length (f x) ≡ n) where
-  pub each-rest : (k : ℕ) (s : List ℕ) → k * n ≤ length s → drop (k * n) (each k n f s) ≡ drop (k * n) s
-  unfolding each
-  each-rest zero s h = rw zero-mul
-  each-rest (suc k) s h =
-      let e : suc k * n ≡ n + k * n = omega (arith, suc-mul k n) in
-      let first = f (take n s) in
-      let l : length first ≡ n = hf (take n s) (length-take-le n s (omega arith)) in
-      rw e
-      (ap (λ (m : ℕ). drop (m + k * n) (first ++ each k n f (drop n s))) (sym l)
-      ∙ drop-append-add first (each k n f (drop n s)) (k * n)
-      ∙ each-rest k (drop n s) (omega (arith, length-drop n s))
-      ∙ drop-drop (k * n) n s)
-
-  pub eachFrom-rest : (b k : ℕ) (s : List ℕ) → b + k * n ≤ length s → drop (b + k * n) (eachFrom b k n f s) ≡ drop (b + k * n) s
-  unfolding eachFrom
-  eachFrom-rest b k s h =
-      let l : length (take b s) ≡ b = length-take-le b s (omega arith) in
-      ap (λ (m : ℕ). drop (m + k * n) (take b s ++ each k n f (drop b s))) (sym l)
-      ∙ drop-append-add (take b s) (each k n f (drop b s)) (k * n)
-      ∙ each-rest k (drop b s) (omega (arith, length-drop b s))
-      ∙ drop-drop (k * n) b s

@@ -1,10 +1,10 @@
 -- A record for a stream is found or made; a join done on it is the act.
-use Prim.Native.Nat.{ℕ, _+_, _*_, _-_, _^_, _<_}
+use Prim.Native.Nat.{ℕ, _+_, _^_, _<_}
 use mathlib.Core.Path.{_≡_, refl, sym, _∙_, ap}
-use mathlib.Core.List.{List, [], _∷_, _++_}
+use mathlib.Core.List.{List, [], _∷_}
 use mathlib.Core.Bool.{Bool, true, false}
 use native.Mathlib.Omega.{arith}
-use lib.ListN.{length, getD, take, drop, List·getD-map}
+use lib.ListN.{length, getD, List·getD-map}
 use Rattle.model.specs.State.{Cell, Stream, Bridge, fresh}
 use Rattle.model.specs.Registrations.{Act, leaveAll, leave, talk, listen, ofDomain, does, at, change, touch, reach, apply, holding, owning, ids}
 use Rattle.model.specs.Table.{encode, decode}
@@ -35,7 +35,7 @@ module _ (t : List ℕ) (l : Laid t) (i k : ℕ) where
   unfolding enrolled holding
   enrolled-there e =
       let r = room-at i k (decode t .streams) e in
-      record { few = rw r (laid-fits t l .at-most-64); place = rw r e; table = rw r (laid-is t l) }
+      record { few = rw r (laid-fits t l .at-most-64); found = rw r e; table = rw r (laid-is t l) }
 
   module _ (e : foundAt i 0 (ids (decode t .streams)) ≡ Gap k) where
     more : length (enrolled i t) ≡ length (decode t .streams) + 1
@@ -59,7 +59,7 @@ module _ (t : List ℕ) (l : Laid t) (i k : ℕ) where
     unfolding enrolled holding
     enrolled-made u small h q =
         let r = room-gap i k (decode t .streams) e in
-        record { few = omega (arith, more); place = rw r (stands small h); table = rw r q }
+        record { few = omega (arith, more); found = rw r (stands small h); table = rw r q }
 
 -- A join: it makes room and does nothing else, or changes the cell too.
 
@@ -117,14 +117,14 @@ module _ (p i : ℕ) (a : Act) (j : Joins i a) (t : List ℕ) where
           (effect-fits false p a (decode t) w f (does-fits (decode t .clock) (w .clock) a f) (rw (done-many false) (n .few)))
 
       pub enrolled-laid : Laid u
-      enrolled-laid = record { bridge = holding (decode t) (enrolled i t); fits = enrolled-fits; is = n .table }
+      enrolled-laid = record { thing = holding (decode t) (enrolled i t); fits = enrolled-fits; is = n .table }
 
       pub enrolled-read : decode u ≡ holding (decode t) (enrolled i t)
       enrolled-read = ap decode (n .table) ∙ bridge-read (holding (decode t) (enrolled i t)) enrolled-fits
 
       pub enrolled-found : foundAt i 0 (ids (decode u .streams)) ≡ At k
       unfolding holding
-      enrolled-found = rw enrolled-read (n .place)
+      enrolled-found = rw enrolled-read (n .found)
 
       pub join-applied : (y : List ℕ) → ((clock : ℕ) → y ≡ encode (withCell k p (does clock a) (decode u))) → Walked true p (a ∷ []) t true y
       unfolding done

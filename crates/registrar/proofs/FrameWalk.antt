@@ -138,7 +138,7 @@ module _ (f version : ℕ) (s : List ℕ) (at : ℕ) (vs : List Vector) (e : mes
         t = typed (m .kind) (k .0) (k .1)
 
         size : length lentList ≡ m .next - m .list
-        size = let a = ahead-list version s at m r in list-length s (m .list) (m .next) (a .1) (a .2)
+        size = let a = ahead-list version s at m r in list-length s (m .list) (m .next) (a .ends) (a .within)
 
         own : vectors (suc (length lentList)) (attributeAt (m .kind)) lentList 0 ≡ found (n .own)
         own = rw size (unfold vectorsIn in (rw (type-known (m .kind) (t .low) (t .high)) at (n .list)))

@@ -12,7 +12,7 @@ use Rattle.octets.specs.Be.{beAt}
 use Rattle.octets.specs.Fields.{fields}
 use Rattle.octets.proofs.Fields.{beAt-fits}
 use Rattle.model.specs.Registrations.{Kind, advertises, faileds, listeners, Act, leaveAll, leave, talk, listen, ofDomain}
-use Rattle.model.specs.Frames.{registers, firstWidths, firstLength, runsPast, healthValue, idValue, valueActs, talkerAct, listenerAct, hearing, eventOf, fourOf, asking, threePacked, fourPacked}
+use Rattle.model.specs.Frames.{registers, firstWidths, firstLength, runsPast, healthValue, idValue, valueActs, talkerAct, listenerAct, hearing, eventOf, fourOf, asking, threePacked, fourPacked, Asking, nothingAsked, join, withdraw}
 use Rattle.model.specs.Lists.{Octets}
 use Rattle.model.proofs.Parts.{octets-at, octets-of}
 use Rattle.model.proofs.Valid.{ValidHealth}
@@ -76,14 +76,11 @@ module _ (first : List ℕ) (n four : ℕ) where
   talker-asks k j frames.lv = rw (id-is k first n)
 
   -- Ignore
-  listener-ignores : (e : frames.Event) → listenerAct (fields (firstWidths (registers listeners)) 0 first) n (asking e) 0 ≡ []
-  unfolding listenerAct asking hearing
-  listener-ignores frames.new = refl
-  listener-ignores frames.joinIn = refl
-  listener-ignores frames.isIn = refl
-  listener-ignores frames.joinMt = refl
-  listener-ignores frames.mt = refl
-  listener-ignores frames.lv = refl
+  listener-ignores : (a : Asking) → listenerAct (fields (firstWidths (registers listeners)) 0 first) n a 0 ≡ []
+  unfolding listenerAct hearing
+  listener-ignores nothingAsked = refl
+  listener-ignores join = refl
+  listener-ignores withdraw = refl
 
   hearing-joins : (i f : ℕ) → (f ≡ 0 → ⊥) → hearing i f ≡ listen i (toReady f) ∷ []
   unfolding hearing toReady
@@ -110,7 +107,7 @@ listener-value first n four e = go (eqb four 0) refl
     go : (t : Bool) → eqb four 0 ≡ t →
         listenerAct (fields (firstWidths (registers listeners)) 0 first) n (asking e) four
         ≡ actsAsked listeners first n (cond t Nothing (askedBy (eventMeant e) four))
-    go true q = rw (eqb-true four 0 q) (unfold actsAsked in (listener-ignores first n 0 e))
+    go true q = rw (eqb-true four 0 q) (unfold actsAsked in (listener-ignores first n 0 (asking e)))
     go false q = listener-asks first n four (eqb-false four 0 q) e
 
 module _ (leaves : Bool) (values : ℕ) (first three four : List ℕ) (n : ℕ) (there : n / 3 < length three) where

@@ -7,6 +7,7 @@ use lib.ListN.{length}
 use borrow.Author.Tests.{le-leb, lt-leb}
 use Rattle.model.specs.State.{Own, Stream, Bridge}
 use Rattle.model.specs.Registrations.{Act, leaveAll, leave, talk, listen, ofDomain, DomainAct, at, reach, apply, changeDomains, doesDomain, applyOwn, holding, owning}
+use Rattle.model.specs.Frames.{Vector, Walk, found, frameActs}
 use Rattle.model.specs.Table.{encode, decode}
 use Rattle.model.specs.Laid.{FitBridge, Laid}
 use Rattle.model.proofs.FoundVectors.{Fits, FitsDomain}
@@ -19,7 +20,7 @@ use Rattle.registrar.proofs.Keeps.{effect-fits}
 
 module _ {t : List ℕ} {q : Ran} {r : Bool} {u : List ℕ} (w : Leaves t q r u) where
   pub walked-laid : Laid u
-  walked-laid = record { bridge = keeping (decode t) (leftBy q); fits = w .fits; is = w .table }
+  walked-laid = record { thing = keeping (decode t) (leftBy q); fits = w .fits; is = w .table }
 
   pub walked-read : decode u ≡ keeping (decode t) (leftBy q)
   walked-read = ap decode (w .table) ∙ bridge-read _ (w .fits)
@@ -66,6 +67,20 @@ module _ (m : Bool) (p : ℕ) (es fs : List Act) (t u : List ℕ) where
 
 abbrev pub Leads : Bool → ℕ → List Act → List ℕ → List Act → List ℕ → Type 0
 Leads m p es t fs u = (r : Bool) (v : List ℕ) → Walked m p fs u r v → Walked m p es t r v
+
+-- .. at place at of so many, with the table laid out and as long as it was
+pub record Going (at end : ℕ) (m : Bool) (p : ℕ) (es : List Act) (t : List ℕ) (fs : List Act) (u : List ℕ) : Type 0 where
+  pub within : at ≤ end
+  pub size : length u ≡ length t
+  pub laid : Laid u
+  pub leads : Leads m p es t fs u
+
+-- .. with the acts of the vectors left that are found from there on, in a number of turns
+pub record Walking (at end : ℕ) (finding : ℕ → Walk) (m : Bool) (p : ℕ) (es : List Act) (t u : List ℕ) : Type 0 where
+  pub turns : ℕ
+  pub left : List Vector
+  pub finds : finding turns ≡ found left
+  pub going : Going at end m p es t (frameActs left) u
 
 module _ (m : Bool) (p : ℕ) (es : List Act) (t : List ℕ) where
   pub leads-start : Leads m p es t es t

@@ -24,26 +24,26 @@ pub record QuitGiven (t : List ℕ) (k p kind : ℕ) : Type 0 where
 -- all streams at a port
 pub record LeaveGiven (t : List ℕ) (p kind : ℕ) : Type 0 where
   pub laid : Laid t
-  pub place : p < 8
+  pub port : p < 8
   pub low : 1 ≤ kind
   pub high : kind ≤ 3
 
 -- a Domain value of a port
 pub record SlotGiven (t : List ℕ) (p i : ℕ) : Type 0 where
   pub laid : Laid t
-  pub place : p < 8
+  pub port : p < 8
   pub slot : i < slots
 
--- a laid-out table, the place of a port, and a well-formed frame
+-- a laid-out table, the place p of a port, and a well-formed frame
 pub record FrameGiven (t : List ℕ) (p : ℕ) (pdu : List ℕ) : Type 0 where
   pub laid : Laid t
-  pub place : p < 8
+  pub port : p < 8
   pub found : isFound (walk pdu) ≡ true
 
--- a laid-out table, the place of a port, and a known type
+-- a laid-out table, the place p of a port, and a known type
 pub record WalkGiven (t : List ℕ) (w : ListWalk) : Type 0 where
   pub laid : Laid t
-  pub place : w .place < 8
+  pub port : w .p < 8
   pub low : 1 ≤ w .kind
   pub high : w .kind ≤ 4
 
@@ -87,7 +87,7 @@ pub record JoinGiven (t : List ℕ) (w : ListWalk) (i : ℕ) (first : List ℕ) 
 
 -- the same on stream k's cell
 pub record CellGiven (t : List ℕ) (k : ℕ) (w : ListWalk) (first : List ℕ) (f n : ℕ) : Type 0 where
-  pub stands : StandsOn t k (w .place)
+  pub stands : StandsOn t k (w .p)
   pub registers : w .kind ≤ 3
   pub value : HasValue (w .kind) first n
   pub four : w .kind ≡ 3 → (1 ≤ f) × (f ≤ 3)

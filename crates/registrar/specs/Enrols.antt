@@ -19,7 +19,7 @@ enrolled i t = touch true i (λ c. c) (decode t .streams)
 -- from the table t it leaves the table u, where the record stands at place k
 pub record EnrolledAt (i : ℕ) (t : List ℕ) (k : ℕ) (u : List ℕ) : Type 0 where
   pub few : length (enrolled i t) ≤ 64
-  pub place : foundAt i 0 (ids (enrolled i t)) ≡ At k
+  pub found : foundAt i 0 (ids (enrolled i t)) ≡ At k
   pub table : u ≡ encode (holding (decode t) (enrolled i t))
 
 -- there would be more than 64, and the table stays

@@ -1,4 +1,4 @@
--- A walk over acts at the port of a place, on a table.
+-- A walk over acts at the port of place p, on a table.
 use Prim.Native.Nat.{ℕ}
 use mathlib.Core.Path.{_≡_}
 use mathlib.Core.List.{List}

@@ -37,9 +37,9 @@ enum Asked {
     Leave,
 }
 
-// A walk over an AttributeList: the place of its port, whether it applies the list or makes room for it, and the AttributeType.
+// A walk over an AttributeList: the place p of its port, whether it applies the list or makes room for it, and the AttributeType.
 struct ListWalk {
-    place: usize,
+    p: usize,
     applying: bool,
     kind: u8,
 }
@@ -51,21 +51,21 @@ enum Enrolment {
 }
 
 // Lv or LeaveAll of an AttributeType, on stream k's cell at a port.
-fn quit_cell(table: &mut [u8], k: usize, place: usize, kind: u8, clock: u32)
-    requires { ⌜ QuitGiven (now table) k place kind ⌝ }
-    ensures { λ _. ⌜ now (table .exit) ≡ encode (withCell k place (quit clock (kindAt kind)) (decode (now (table .entry)))) ⌝ }
+fn quit_cell(table: &mut [u8], k: usize, p: usize, kind: u8, clock: u32)
+    requires { ⌜ QuitGiven (now table) k p kind ⌝ }
+    ensures { λ _. ⌜ now (table .exit) ≡ encode (withCell k p (quit clock (kindAt kind)) (decode (now (table .entry)))) ⌝ }
 {
-    let a = table::cell_in(table, k, place);
+    let a = table::cell_in(table, k, p);
     cells::quit(&mut table[a..a + table::CELL], kind, clock);
 }
 
 // A join on stream k's cell: value n of a FirstValue, or a Listener of a four-packed event.
 fn join_cell(table: &mut [u8], k: usize, walk: ListWalk, first: &[u8], four: u8, n: usize)
     requires { ⌜ CellGiven (now table) k walk (now first) four n ⌝ }
-    ensures { λ _. ⌜ ((clock : ℕ) → now (table .exit) ≡ encode (withCell k (walk .place)
+    ensures { λ _. ⌜ ((clock : ℕ) → now (table .exit) ≡ encode (withCell k (walk .p)
         (does clock (joinOf (kindAt (walk .kind)) (now (first .entry)) four n)) (decode (now (table .entry))))) ⌝ }
 {
-    let a = table::cell_in(table, k, walk.place);
+    let a = table::cell_in(table, k, walk.p);
     let end = a + table::CELL;
     if walk.kind == 3 {
         cells::join_listener(&mut table[a..end], four);
@@ -106,29 +106,29 @@ fn leave_domains(table: &mut [u8], place: usize)
 }
 
 // LeaveAll of an AttributeType at a port: on each stream.
-fn leave_all(table: &mut [u8], place: usize, kind: u8)
-    requires { ⌜ LeaveGiven (now table) place kind ⌝ }
-    ensures { λ _. ⌜ Walked true place (leaveAll (kindAt kind) ∷ []) (now (table .entry)) true (now (table .exit)) ⌝ }
+fn leave_all(table: &mut [u8], p: usize, kind: u8)
+    requires { ⌜ LeaveGiven (now table) p kind ⌝ }
+    ensures { λ _. ⌜ Walked true p (leaveAll (kindAt kind) ∷ []) (now (table .entry)) true (now (table .exit)) ⌝ }
 {
     let held = table::count(table);
     let now = table::clock(table);
     let mut k: usize = 0;
     while k < held {
-        quit_cell(table, k, place, kind, now);
+        quit_cell(table, k, p, kind, now);
         k += 1;
     }
 }
 
 // Lv of a StreamID and an AttributeType at a port: on its cell, where it is held.
-fn withdraw(table: &mut [u8], place: usize, kind: u8, id: u64)
-    requires { ⌜ LeaveGiven (now table) place kind ⌝ }
-    ensures { λ _. ⌜ Walked true place (leave (kindAt kind) id ∷ []) (now (table .entry)) true (now (table .exit)) ⌝ }
+fn withdraw(table: &mut [u8], p: usize, kind: u8, id: u64)
+    requires { ⌜ LeaveGiven (now table) p kind ⌝ }
+    ensures { λ _. ⌜ Walked true p (leave (kindAt kind) id ∷ []) (now (table .entry)) true (now (table .exit)) ⌝ }
 {
     let Found::At(k) = table::find(table, id) else {
         return;
     };
     let now = table::clock(table);
-    quit_cell(table, k, place, kind, now);
+    quit_cell(table, k, p, kind, now);
 }
 
 // A record for a stream: the one that it has, or an empty one at its place, unless there are 64.
@@ -152,7 +152,7 @@ fn enrol(table: &mut [u8], id: u64) -> Enrolment
 // A join at a port: its record is there or is made; where the frame is applied, its cell is changed.
 fn join(table: &mut [u8], walk: ListWalk, id: u64, first: &[u8], four: u8, n: usize) -> bool
     requires { ⌜ JoinGiven (now table) walk id (now first) four n ⌝ }
-    ensures { λ r. ⌜ Walked (walk .applying) (walk .place) (joinOf (kindAt (walk .kind)) (now (first .entry)) four n ∷ []) (now (table .entry)) r
+    ensures { λ r. ⌜ Walked (walk .applying) (walk .p) (joinOf (kindAt (walk .kind)) (now (first .entry)) four n ∷ []) (now (table .entry)) r
         (now (table .exit)) ⌝ }
 {
     let Enrolment::Record(k) = enrol(table, id) else {
@@ -227,7 +227,7 @@ fn value(
     n: usize,
 ) -> bool
     requires { ⌜ ValueGiven (now table) walk (now first) (now events) n ⌝ }
-    ensures { λ r. ⌜ Walked (walk .applying) (walk .place)
+    ensures { λ r. ⌜ Walked (walk .applying) (walk .p)
         (valueActs (vectorOf (walk .kind) false 0 (now (first .entry)) (now (events .entry)) (now (fours .entry))) n)
         (now (table .entry)) r (now (table .exit)) ⌝ }
 {
@@ -246,7 +246,7 @@ fn value(
         Asked::Join(four) => join(table, walk, id, first, four, n),
         Asked::Leave => {
             if walk.applying {
-                withdraw(table, walk.place, walk.kind, id);
+                withdraw(table, walk.p, walk.kind, id);
             }
             true
         }
@@ -263,7 +263,7 @@ fn values(
     count: usize,
 ) -> bool
     requires { ⌜ ValuesGiven (now table) walk (now first) (now events) count ⌝ }
-    ensures { λ r. ⌜ Walked (walk .applying) (walk .place)
+    ensures { λ r. ⌜ Walked (walk .applying) (walk .p)
         (valuesActs (vectorOf (walk .kind) false 0 (now (first .entry)) (now (events .entry)) (now (fours .entry))) 0 count)
         (now (table .entry)) r (now (table .exit)) ⌝ }
 {
@@ -281,7 +281,7 @@ fn values(
 // LeaveAll of a vector at a port, which asks for no room.
 fn begin_all(table: &mut [u8], walk: ListWalk, leaves: bool)
     requires { ⌜ WalkGiven (now table) walk ⌝ }
-    ensures { λ _. ⌜ Walked (walk .applying) (walk .place) (leaveAllActs (attributeAt (walk .kind)) leaves) (now (table .entry)) true
+    ensures { λ _. ⌜ Walked (walk .applying) (walk .p) (leaveAllActs (attributeAt (walk .kind)) leaves) (now (table .entry)) true
         (now (table .exit)) ⌝ }
 {
     if !walk.applying {
@@ -294,13 +294,13 @@ fn begin_all(table: &mut [u8], walk: ListWalk, leaves: bool)
         leave_domains(table, walk.place);
         return;
     }
-    leave_all(table, walk.place, walk.kind);
+    leave_all(table, walk.p, walk.kind);
 }
 
 // The vector that was read at a place of its AttributeList: "LeaveAll first".
 fn vector(table: &mut [u8], walk: ListWalk, list: &[u8], head: VectorHead) -> bool
     requires { ⌜ VectorGiven (now table) walk (now list) head ⌝ }
-    ensures { λ r. ⌜ Walked (walk .applying) (walk .place) (vectorActs (headVector (attributeAt (walk .kind)) (now (list .entry)) head))
+    ensures { λ r. ⌜ Walked (walk .applying) (walk .p) (vectorActs (headVector (attributeAt (walk .kind)) (now (list .entry)) head))
         (now (table .entry)) r (now (table .exit)) ⌝ }
 {
     let first = msrpdu::first_value(list, VectorRead::Vector(head));
@@ -322,7 +322,7 @@ fn vector(table: &mut [u8], walk: ListWalk, list: &[u8], head: VectorHead) -> bo
 // An AttributeList at a port, vector by vector to its EndMark.
 fn list(table: &mut [u8], walk: ListWalk, list: &[u8]) -> bool
     requires { ⌜ ListGiven (now table) walk (now list) ⌝ }
-    ensures { λ r. ⌜ Walked (walk .applying) (walk .place)
+    ensures { λ r. ⌜ Walked (walk .applying) (walk .p)
         (actsOf (vectors (suc (length (now (list .entry)))) (attributeAt (walk .kind)) (now (list .entry)) 0))
         (now (table .entry)) r (now (table .exit)) ⌝ }
 {
@@ -342,9 +342,9 @@ fn list(table: &mut [u8], walk: ListWalk, list: &[u8]) -> bool
 }
 
 // A well-formed frame at a port, Message by Message: room is made for it, or it is applied.
-fn frame(table: &mut [u8], place: usize, applying: bool, pdu: &[u8]) -> bool
-    requires { ⌜ FrameGiven (now table) place (now pdu) ⌝ }
-    ensures { λ r. ⌜ Walked applying place (actsOf (walk (now (pdu .entry)))) (now (table .entry)) r (now (table .exit)) ⌝ }
+fn frame(table: &mut [u8], p: usize, applying: bool, pdu: &[u8]) -> bool
+    requires { ⌜ FrameGiven (now table) p (now pdu) ⌝ }
+    ensures { λ r. ⌜ Walked applying p (actsOf (walk (now (pdu .entry)))) (now (table .entry)) r (now (table .exit)) ⌝ }
 {
     let version = pdu[0];
     let mut at: usize = 1;
@@ -365,7 +365,7 @@ fn frame(table: &mut [u8], place: usize, applying: bool, pdu: &[u8]) -> bool
                 let start = head.list;
                 let end = head.next;
                 let walk = ListWalk {
-                    place,
+                    p,
                     applying,
                     kind: head.kind,
                 };
@@ -381,14 +381,14 @@ fn frame(table: &mut [u8], place: usize, applying: bool, pdu: &[u8]) -> bool
 
 // A well-formed frame at a port: first room is made for every stream that it joins; then it is applied. Where there is no
 // room for all, the records made for it go again.
-pub fn receive_frame(table: &mut [u8], place: usize, pdu: &[u8]) -> bool
-    requires { ⌜ FrameGiven (now table) place (now pdu) × All (λ x. held (x .cells) ≡ true) (decode (now table) .streams) ⌝ }
-    ensures { λ r. ⌜ Receives place (now (pdu .entry)) (now (table .entry)) r (now (table .exit)) ⌝ }
+pub fn receive_frame(table: &mut [u8], p: usize, pdu: &[u8]) -> bool
+    requires { ⌜ FrameGiven (now table) p (now pdu) × All (λ x. held (x .cells) ≡ true) (decode (now table) .streams) ⌝ }
+    ensures { λ r. ⌜ Receives p (now (pdu .entry)) (now (table .entry)) r (now (table .exit)) ⌝ }
 {
-    let fits = frame(table, place, false, pdu);
+    let fits = frame(table, p, false, pdu);
     if !fits {
         table::drop_unheld(table);
         return false;
     }
-    frame(table, place, true, pdu)
+    frame(table, p, true, pdu)
 }

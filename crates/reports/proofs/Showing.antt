@@ -7,7 +7,7 @@ use lib.ListN.{length, getD, getD-replicate, List·getD-eq-default}
 use borrow.Author.Tests.{le-ltb}
 use Rattle.octets.specs.Be.{beAt}
 use Rattle.octets.specs.Fields.{fields}
-use Rattle.model.specs.Layout.{declaredPlace, entryPlace, failureCodePlace, limitAPlace, limitBPlace, totalBPlace}
+use Rattle.model.specs.Layout.{declaredPlace, entryPlace, failureCodePlace, inPort, totalBPlace}
 use Rattle.model.specs.State.{Port, Column, none, advertise, failed, Result, Totals, Bridge, resultAt, streamAt, unsettled, fresh}
 use Rattle.model.specs.Reports.{wordOf, codeOf, report}
 use Rattle.model.specs.Table.{portFrom, toPort, columnNumber, columnCode, toColumn, toEntry, toDeclared, toTotals}
@@ -60,11 +60,11 @@ module _ {s : List ℕ} {t : Totals} (w : ReadsTotals s t) where
   total-b-shown = ap (λ (u : Totals). u .totalB) (w .is)
 
 module _ {s : List ℕ} {q : Port} (w : ReadsPort s q) where
-  pub limit-a-shown : beAt 5 s limitAPlace ≡ q .limitA
+  pub limit-a-shown : beAt 5 s inPort.limitA ≡ q .limitA
   unfolding toPort portFrom fields
   limit-a-shown = ap (λ (u : Port). u .limitA) (w .is)
 
-  pub limit-b-shown : beAt 5 s limitBPlace ≡ q .limitB
+  pub limit-b-shown : beAt 5 s inPort.limitB ≡ q .limitB
   unfolding toPort portFrom fields
   limit-b-shown = ap (λ (u : Port). u .limitB) (w .is)
 

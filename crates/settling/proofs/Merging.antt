@@ -29,9 +29,9 @@ use Rattle.table.specs.Places.{Stands, StandsOn}
 use Rattle.table.specs.Updates.{resulting, withStream}
 use Rattle.table.proofs.Fitting.{unsettled-fits}
 use Rattle.table.proofs.ByPlace.{stands-on, stream-fits, stream-same, changed-result-at}
-use Rattle.streams.specs.Answers.{sourcePlace}
+use Rattle.streams.specs.Answers.{sourcePort}
 use Rattle.streams.specs.declared.SourceRead.the-variants.{Nowhere, Port}
-use Rattle.streams.proofs.Sources.{place-bound, place-port}
+use Rattle.streams.proofs.Sources.{port-bound, port-is}
 use Rattle.columns.specs.Stages.{mergedShown, declaring, mergedAt, merging}
 
 -- Numbers.
@@ -46,23 +46,27 @@ passed-table (failed b k) (tells askingFailed) = refl
 passed-table (failed b k) (tells ready) = refl
 passed-table (failed b k) (tells readyFailed) = refl
 
-module _ (m n : ℕ) (c : Column) (d : Declared) (p : m ≡ columnNumber c) (q : n ≡ declaredNumber d) where
-  passed-number : declaredNumber (passed c d) ≡ cond (eqb m 0) 0 (cond (eqb m 1) n (cond (eqb n 0) 0 1))
-  passed-number = rw (p, q) (passed-table c d)
+-- by the numbers m of a column and n of a Listener
+module _ (m n : ℕ) where
+  abbrev Passes : ℕ → Type 0
+  Passes r = (c : Column) (d : Declared) → m ≡ columnNumber c → n ≡ declaredNumber d → r ≡ declaredNumber (passed c d)
 
-  pub none-passes : m ≡ 0 → 0 ≡ declaredNumber (passed c d)
-  none-passes h = sym (passed-number ∙ rw (eq-eqb m 0 h))
+  passed-number : Passes (cond (eqb m 0) 0 (cond (eqb m 1) n (cond (eqb n 0) 0 1)))
+  passed-number c d p q = rw (p, q) (sym (passed-table c d))
+
+  pub none-passes : m ≡ 0 → Passes 0
+  none-passes h = rw (eq-eqb m 0 h) at passed-number
 
   module _ (some : m ≡ 0 → ⊥) where
-    pub advertise-passes : m ≡ 1 → n ≡ declaredNumber (passed c d)
-    advertise-passes h = sym (passed-number ∙ rw (ne-eqb m 0 some, eq-eqb m 1 h))
+    pub advertise-passes : m ≡ 1 → Passes n
+    advertise-passes h = rw (ne-eqb m 0 some, eq-eqb m 1 h) at passed-number
 
     module _ (fails : m ≡ 1 → ⊥) where
-      pub unheard-passes : n ≡ 0 → 0 ≡ declaredNumber (passed c d)
-      unheard-passes h = sym (passed-number ∙ rw (ne-eqb m 0 some, ne-eqb m 1 fails, eq-eqb n 0 h))
+      pub unheard-passes : n ≡ 0 → Passes 0
+      unheard-passes h = rw (ne-eqb m 0 some, ne-eqb m 1 fails, eq-eqb n 0 h) at passed-number
 
-      pub heard-passes : (n ≡ 0 → ⊥) → 1 ≡ declaredNumber (passed c d)
-      heard-passes h = sym (passed-number ∙ rw (ne-eqb m 0 some, ne-eqb m 1 fails, ne-eqb n 0 h))
+      pub heard-passes : (n ≡ 0 → ⊥) → Passes 1
+      heard-passes h = rw (ne-eqb m 0 some, ne-eqb m 1 fails, ne-eqb n 0 h) at passed-number
 
 merge-table : (d e : Declared) → declaredNumber (merge d e) ≡
     cond (eqb (declaredNumber d) 0) (declaredNumber e)
@@ -82,23 +86,27 @@ merge-table (tells readyFailed) (tells askingFailed) = refl
 merge-table (tells readyFailed) (tells ready) = refl
 merge-table (tells readyFailed) (tells readyFailed) = refl
 
-module _ (m n : ℕ) (d e : Declared) (p : m ≡ declaredNumber d) (q : n ≡ declaredNumber e) where
-  merge-number : declaredNumber (merge d e) ≡ cond (eqb m 0) n (cond (eqb n 0) m (cond (eqb m n) m 3))
-  merge-number = rw (p, q) (merge-table d e)
+-- by the numbers m and n of two Listeners
+module _ (m n : ℕ) where
+  abbrev Merges : ℕ → Type 0
+  Merges r = (d e : Declared) → m ≡ declaredNumber d → n ≡ declaredNumber e → r ≡ declaredNumber (merge d e)
 
-  pub merge-none-first : m ≡ 0 → n ≡ declaredNumber (merge d e)
-  merge-none-first h = sym (merge-number ∙ rw (eq-eqb m 0 h))
+  merge-number : Merges (cond (eqb m 0) n (cond (eqb n 0) m (cond (eqb m n) m 3)))
+  merge-number d e p q = rw (p, q) (sym (merge-table d e))
+
+  pub merge-none-first : m ≡ 0 → Merges n
+  merge-none-first h = rw (eq-eqb m 0 h) at merge-number
 
   module _ (first : m ≡ 0 → ⊥) where
-    pub merge-none-second : n ≡ 0 → m ≡ declaredNumber (merge d e)
-    merge-none-second h = sym (merge-number ∙ rw (ne-eqb m 0 first, eq-eqb n 0 h))
+    pub merge-none-second : n ≡ 0 → Merges m
+    merge-none-second h = rw (ne-eqb m 0 first, eq-eqb n 0 h) at merge-number
 
     module _ (second : n ≡ 0 → ⊥) where
-      pub merge-alike : m ≡ n → m ≡ declaredNumber (merge d e)
-      merge-alike h = sym (merge-number ∙ rw (ne-eqb m 0 first, ne-eqb n 0 second, eq-eqb m n h))
+      pub merge-alike : m ≡ n → Merges m
+      merge-alike h = rw (ne-eqb m 0 first, ne-eqb n 0 second, eq-eqb m n h) at merge-number
 
-      pub merge-unlike : (m ≡ n → ⊥) → 3 ≡ declaredNumber (merge d e)
-      merge-unlike h = sym (merge-number ∙ rw (ne-eqb m 0 first, ne-eqb n 0 second, ne-eqb m n h))
+      pub merge-unlike : (m ≡ n → ⊥) → Merges 3
+      merge-unlike h = rw (ne-eqb m 0 first, ne-eqb n 0 second, ne-eqb m n h) at merge-number
 
 -- The places from 8 down: what is merged of those from p on.
 
@@ -200,13 +208,13 @@ module _ (x : Stream) (w : FitStream x) where
 
 -- What a stream is left as: without a Talker port as it was, else with the result there declaring the merged Listener.
 
-source-nowhere : (r : Source) → sourcePlace r ≡ Nowhere → r ≡ nowhere
-unfolding sourcePlace
+source-nowhere : (r : Source) → sourcePort r ≡ Nowhere → r ≡ nowhere
+unfolding sourcePort
 source-nowhere nowhere e = refl
 source-nowhere (from o) e = let z : _≡_ {A = ℕ} 0 1 = cc in absurd (omega arith)
 
-source-port : (r : Source) (t : ℕ) → sourcePlace r ≡ Port t → (q : ℕ) → isSource r q ≡ eqb t q
-unfolding sourcePlace isSource
+source-port : (r : Source) (t : ℕ) → sourcePort r ≡ Port t → (q : ℕ) → isSource r q ≡ eqb t q
+unfolding sourcePort isSource
 source-port nowhere t e q = let z : _≡_ {A = ℕ} 0 1 = cc in absurd (omega arith)
 source-port (from o) t e q = let z : o .port ≡ t = cc in rw z
 
@@ -214,14 +222,14 @@ module _ {t : List ℕ} {k : ℕ} (s : Stands t k) where
   abbrev x : Stream
   x = streamAt k (decode t)
 
-  pub left-alone : sourcePlace (sourceOf x) ≡ Nowhere → t ≡ encode (withStream k (merging x) (decode t))
+  pub left-alone : sourcePort (sourceOf x) ≡ Nowhere → t ≡ encode (withStream k (merging x) (decode t))
   left-alone e =
       stream-same s
       ∙ ap (λ (y : Stream). encode (withStream k y (decode t))) (sym (merging-nowhere x (stream-fits s) (source-nowhere (sourceOf x) e)))
 
-  module _ (p : ℕ) (e : sourcePlace (sourceOf x) ≡ Port p) where
+  module _ (p : ℕ) (e : sourcePort (sourceOf x) ≡ Port p) where
     pub talker-on : StandsOn t k p
-    talker-on = stands-on s p (omega (arith, place-port (sourceOf x) p e, place-bound x (stream-fits s .eight-cells)))
+    talker-on = stands-on s p (omega (arith, port-is (sourceOf x) p e, port-bound x (stream-fits s .eight-cells)))
 
     pub left-merged : (a : ℕ) → a ≡ resultPlace k p → (y : List ℕ)
         → y ≡ resultOctets (declaring (mergedShown x) (toResult (take (a + resultSize - a) (drop a t))))

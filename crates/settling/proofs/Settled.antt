@@ -28,7 +28,7 @@ module _ (t : List ℕ) (l : Laid t) (time : ℕ) (small : time < 2 ^ 32) (t₁ 
   w₁ = removed-fits time small b (laid-fits t l)
 
   pub removed-laid : Laid t₁
-  removed-laid = record { bridge = b₁; fits = w₁; is = e₁ }
+  removed-laid = record { thing = b₁; fits = w₁; is = e₁ }
 
   module _ (t₂ : List ℕ) (e₂ : t₂ ≡ encode (earlyAll time (decode t₁))) where
     abbrev b₂ : Bridge
@@ -41,7 +41,7 @@ module _ (t : List ℕ) (l : Laid t) (time : ℕ) (small : time < 2 ^ 32) (t₁ 
     early-is = e₂ ∙ ap (λ (d : Bridge). encode (earlyAll time d)) (ap decode e₁ ∙ bridge-read b₁ w₁)
 
     pub early-laid : Laid t₂
-    early-laid = record { bridge = b₂; fits = w₂; is = early-is }
+    early-laid = record { thing = b₂; fits = w₂; is = early-is }
 
     module _ (t₃ : List ℕ) (e₃ : t₃ ≡ encode (admissions (length (decode t₂ .settings .ports)) 0 (decode t₂))) where
       abbrev b₃ : Bridge
@@ -57,7 +57,7 @@ module _ (t : List ℕ) (l : Laid t) (time : ℕ) (small : time < 2 ^ 32) (t₁ 
           ∙ ap (λ (d : Bridge). encode (admissions (length (d .settings .ports)) 0 d)) (ap decode early-is ∙ bridge-read b₂ w₂)
 
       pub all-shared-laid : Laid t₃
-      all-shared-laid = record { bridge = b₃; fits = w₃; is = shared-is }
+      all-shared-laid = record { thing = b₃; fits = w₃; is = shared-is }
 
       pub settled-octets : (t₄ : List ℕ) → t₄ ≡ encode (merging-all (decode t₃)) → t₄ ≡ encode (settle time b)
       settled-octets t₄ e₄ =

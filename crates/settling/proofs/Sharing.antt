@@ -40,7 +40,7 @@ module _ (t : List ℕ) (l : Laid t) (p : ℕ) (h : p < 8) (b : Bool) (t₁ : Li
   kept = admission-fits (decode t) (laid-fits t l) p h (classFor b)
 
   pub shared-laid : Laid t₁
-  shared-laid = record { bridge = admission p (classFor b) (decode t); fits = kept; is = e }
+  shared-laid = record { thing = admission p (classFor b) (decode t); fits = kept; is = e }
 
   shared-read : decode t₁ ≡ admission p (classFor b) (decode t)
   shared-read = ap decode e ∙ bridge-read (admission p (classFor b) (decode t)) kept

@@ -43,11 +43,17 @@ fn receive(table: &mut [u8], rest: &[u8]) -> Done
     ensures { λ r. ⌜ r .size ≤ length (now (rest .entry)) ⌝ }
 {
     if rest.len() < 3 {
-        return Done { number: 0, size: 0 };
+        return Done {
+            number: bridge::ACCEPTED,
+            size: 0,
+        };
     }
     let size = 3 + octets::get(rest, 1, 2) as usize;
     if rest.len() < size {
-        return Done { number: 0, size: 0 };
+        return Done {
+            number: bridge::ACCEPTED,
+            size: 0,
+        };
     }
     let port = (rest[0] % 16) as u32;
     let number = bridge::receive(table, port, &rest[3..size]);
@@ -59,7 +65,10 @@ fn advance(table: &mut [u8], rest: &[u8]) -> Done
     ensures { λ r. ⌜ r .size ≤ length (now (rest .entry)) ⌝ }
 {
     if rest.len() < 5 {
-        return Done { number: 0, size: 0 };
+        return Done {
+            number: bridge::ACCEPTED,
+            size: 0,
+        };
     }
     let time = octets::get(rest, 1, 4) as u32;
     let number = bridge::advance(table, time);
@@ -74,13 +83,16 @@ fn call(table: &mut [u8], rest: &[u8]) -> Done
     match rest[0] {
         0x10..=0x1f => receive(table, rest),
         0x20 => advance(table, rest),
-        _ => Done { number: 0, size: 0 },
+        _ => Done {
+            number: bridge::ACCEPTED,
+            size: 0,
+        },
     }
 }
 
 // Prints the number of a refused call: false where it could not be written.
 fn print_refused(line: &mut [u8], number: u8) -> bool {
-    if number == 0 {
+    if number == bridge::ACCEPTED {
         return true;
     }
     let at = console::put(line, 0, b"refused");
@@ -185,7 +197,7 @@ fn print_sheet(input: &[u8]) {
     let mut line = [0u8; LINE];
     let n = settings_length(input);
     let number = bridge::start(&mut table, &input[0..n]);
-    if number == 0 {
+    if number == bridge::ACCEPTED {
         let ports = ports_field(input) as u32;
         let called = call_all(&mut table, &input[n..], &mut line);
         if called {

@@ -9,7 +9,7 @@ use lib.Dec.{eqb}
 use borrow.Author.Tests.{eq-eqb, ne-eqb}
 use Rattle.octets.specs.Be.{beAt}
 use Rattle.octets.specs.Fields.{fields}
-use Rattle.model.specs.Layout.{before, fixedWidths, overheadPlace}
+use Rattle.model.specs.Layout.{before, fixedWidths, inPort}
 use Rattle.model.specs.Lists.{isOne}
 use Rattle.model.specs.Bandwidth.{demand}
 use Rattle.model.specs.Table.{portFrom, toPort, fixedFrom}
@@ -18,7 +18,7 @@ use Rattle.table.specs.Reads.{toFixed}
 -- MaxFrameSize, MaxIntervalFrames, overhead and flags as they are read
 module _ (port fixed : List ℕ) (size frames overhead flags : ℕ)
     (s : size ≡ beAt 2 fixed (before 2 fixedWidths)) (n : frames ≡ beAt 2 fixed (before 3 fixedWidths))
-    (o : overhead ≡ beAt 1 port overheadPlace) (f : flags ≡ beAt 1 port 0) where
+    (o : overhead ≡ beAt 1 port inPort.overhead) (f : flags ≡ beAt 1 port 0) where
   demand-read : demand (toPort port) (toFixed fixed) .octets ≡ (size + overhead + 1) * frames * cond (eqb (flags / 32 % 2) 1) 2 1
   unfolding demand toPort toFixed portFrom fixedFrom fields isOne
   demand-read = rw (s, n, o, f)

@@ -13,7 +13,7 @@ use Rattle.model.specs.State.{Registration, Talker, noTalker, talker, Cell, Str
 use Rattle.model.specs.Settling.{Origin, Source, nowhere, from, source, sourceOf}
 use Rattle.model.specs.Table.{toCell, cellFrom, registrationFrom, talkerFrom}
 use Rattle.model.proofs.SettingsOctets.{octet-field}
-use Rattle.streams.specs.Answers.{sourcePlace, talkerPlace, sourceIn}
+use Rattle.streams.specs.Answers.{sourcePort, talkerPort, sourceIn}
 use Rattle.streams.specs.declared.SourceRead.the-variants.{Nowhere, Port}
 
 -- The Talker that a cell's octets say.
@@ -34,18 +34,18 @@ module _ (x : Stream) (l : length (x .cells) ≡ 8) where
   source-none = rw (← l, drop-length)
 
   module _ (p : ℕ) (h : p < 8) (s : List ℕ) (e : toCell s ≡ cellAt x p) where
-    from-place : source p (drop p (x .cells)) ≡ source p (toCell s ∷ drop (suc p) (x .cells))
+    from-here : source p (drop p (x .cells)) ≡ source p (toCell s ∷ drop (suc p) (x .cells))
     unfolding cellAt
-    from-place =
+    from-here =
         ap (source p) (drop-cons (x .cells) p empty (omega (arith, l))) ∙ ap (λ (c : Cell). source p (c ∷ drop (suc p) (x .cells))) (sym e)
 
-    pub source-here : (getD s 0 0 ≡ 0 → ⊥) → Port p ≡ sourcePlace (source p (drop p (x .cells)))
-    unfolding source sourcePlace
-    source-here n = sym (ap sourcePlace from-place ∙ rw (a-talker s n))
+    pub source-here : (getD s 0 0 ≡ 0 → ⊥) → Port p ≡ sourcePort (source p (drop p (x .cells)))
+    unfolding source sourcePort
+    source-here n = sym (ap sourcePort from-here ∙ rw (a-talker s n))
 
     pub source-past : getD s 0 0 ≡ 0 → source (suc p) (drop (suc p) (x .cells)) ≡ source p (drop p (x .cells))
     unfolding source
-    source-past n = sym (from-place ∙ rw (no-talker s n))
+    source-past n = sym (from-here ∙ rw (no-talker s n))
 
 -- What is registered at the Talker port.
 
@@ -100,31 +100,31 @@ stands p (c ∷ cs) o e = go (c .talks) refl (stands (suc p) cs o)
         record { after = omega arith; within = omega arith; is = rw y (rw q (rw z at b)) }
 
 module _ (x : Stream) where
-  by-source : (r : Source) → sourceOf x ≡ r → sourceOf x ≡ sourceIn (talkerPlace r) (cellAt x (talkerPlace r))
-  unfolding sourceOf cellAt talkerPlace
+  by-source : (r : Source) → sourceOf x ≡ r → sourceOf x ≡ sourceIn (talkerPort r) (cellAt x (talkerPort r))
+  unfolding sourceOf cellAt talkerPort
   by-source nowhere e = e ∙ sym (nowhere-in 0 (x .cells) e 0 0)
   by-source (from o) e =
       let z : o .port - 0 ≡ o .port = omega arith in
       e ∙ sym (rw z at (stands 0 (x .cells) o e .is))
 
   -- the source of a stream is what its Talker port has registered; without one, what place 0 has
-  pub source-at : sourceOf x ≡ sourceIn (talkerPlace (sourceOf x)) (cellAt x (talkerPlace (sourceOf x)))
+  pub source-at : sourceOf x ≡ sourceIn (talkerPort (sourceOf x)) (cellAt x (talkerPort (sourceOf x)))
   source-at = by-source (sourceOf x) refl
 
-  pub place-bound : length (x .cells) ≡ 8 → talkerPlace (sourceOf x) < 8
-  unfolding sourceOf talkerPlace
-  place-bound l = go (sourceOf x) refl
+  pub port-bound : length (x .cells) ≡ 8 → talkerPort (sourceOf x) < 8
+  unfolding sourceOf talkerPort
+  port-bound l = go (sourceOf x) refl
     where
-      go : (r : Source) → source 0 (x .cells) ≡ r → talkerPlace r < 8
+      go : (r : Source) → source 0 (x .cells) ≡ r → talkerPort r < 8
       go nowhere e = omega arith
       go (from o) e = omega (arith, stands 0 (x .cells) o e .within)
 
-pub place-port : (r : Source) (t : ℕ) → sourcePlace r ≡ Port t → t ≡ talkerPlace r
-unfolding sourcePlace talkerPlace
-place-port nowhere t e = let z : _≡_ {A = ℕ} 0 1 = cc in absurd (omega arith)
-place-port (from o) t e = cc
+pub port-is : (r : Source) (t : ℕ) → sourcePort r ≡ Port t → t ≡ talkerPort r
+unfolding sourcePort talkerPort
+port-is nowhere t e = let z : _≡_ {A = ℕ} 0 1 = cc in absurd (omega arith)
+port-is (from o) t e = cc
 
-pub place-nowhere : (r : Source) → sourcePlace r ≡ Nowhere → 0 ≡ talkerPlace r
-unfolding sourcePlace talkerPlace
-place-nowhere nowhere e = refl
-place-nowhere (from o) e = let z : _≡_ {A = ℕ} 0 1 = cc in absurd (omega arith)
+pub port-nowhere : (r : Source) → sourcePort r ≡ Nowhere → 0 ≡ talkerPort r
+unfolding sourcePort talkerPort
+port-nowhere nowhere e = refl
+port-nowhere (from o) e = let z : _≡_ {A = ℕ} 0 1 = cc in absurd (omega arith)

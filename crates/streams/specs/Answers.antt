@@ -12,15 +12,15 @@ classShown NoClass = noClass
 classShown A = classA
 classShown B = classB
 
--- the place of a stream's Talker port
-unfoldable pub sourcePlace : Source → SourceRead
-sourcePlace nowhere = Nowhere
-sourcePlace (from o) = Port (o .port)
+-- a stream's Talker port
+unfoldable pub sourcePort : Source → SourceRead
+sourcePort nowhere = Nowhere
+sourcePort (from o) = Port (o .port)
 
--- the same as a number; 0 where there is none, as no place then has a Talker
-unfoldable pub talkerPlace : Source → ℕ
-talkerPlace nowhere = 0
-talkerPlace (from o) = o .port
+-- the same as a number; 0 where there is none, as no port then has a Talker
+unfoldable pub talkerPort : Source → ℕ
+talkerPort nowhere = 0
+talkerPort (from o) = o .port
 
 -- what a cell at place t has registered, as a source
 unfoldable pub sourceIn : ℕ → Cell → Source

@@ -11,7 +11,7 @@ ghost use Rattle.model.specs.Laid.{Laid};
 ghost use Rattle.table.specs.Updates.{streamAt};
 ghost use Rattle.table.specs.Places.{Stands};
 ghost use Rattle.table.specs.Reads.{toFixed};
-ghost use Rattle.streams.specs.Answers.{classShown, sourcePlace, talkerPlace};
+ghost use Rattle.streams.specs.Answers.{classShown, sourcePort, talkerPort};
 use table::cell;
 use table::port;
 
@@ -93,7 +93,7 @@ pub enum SourceRead {
 
 pub fn source(table: &[u8], k: usize) -> SourceRead
     requires { ⌜ Stands (now table) k ⌝ }
-    ensures { λ r. ⌜ r ≡ sourcePlace (sourceOf (streamAt k (decode (now (table .entry))))) ⌝ }
+    ensures { λ r. ⌜ r ≡ sourcePort (sourceOf (streamAt k (decode (now (table .entry))))) ⌝ }
 {
     let mut p: usize = 0;
     while p < 8 {
@@ -106,10 +106,10 @@ pub fn source(table: &[u8], k: usize) -> SourceRead
     SourceRead::Nowhere
 }
 
-// Its place, or 0 where no place has a Talker.
-pub fn talker_place(table: &[u8], k: usize) -> usize
+// The same as a number: 0 where no port has a Talker.
+pub fn talker_port(table: &[u8], k: usize) -> usize
     requires { ⌜ Stands (now table) k ⌝ }
-    ensures { λ r. ⌜ (r ≡ talkerPlace (sourceOf (streamAt k (decode (now (table .entry)))))) × (r < 8) ⌝ }
+    ensures { λ r. ⌜ (r ≡ talkerPort (sourceOf (streamAt k (decode (now (table .entry)))))) × (r < 8) ⌝ }
 {
     match source(table, k) {
         SourceRead::Port(t) => t,

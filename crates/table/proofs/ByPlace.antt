@@ -1,11 +1,11 @@
 -- The parts of a laid-out table by the place k of a stream and the place p of a port. Of each: what is read there, what the table
 -- is once it is replaced, and that the table stays laid out; and the same as a call sees it and leaves it.
-use Prim.Native.Nat.{ℕ, zero, suc, _+_, _-_, _<_, _≤_}
+use Prim.Native.Nat.{ℕ, _+_, _-_, _<_, _≤_}
 use native.Mathlib.Omega.{arith}
 use mathlib.Core.Path.{_≡_, refl, sym, ap, _∙_}
-use mathlib.Core.List.{List, [], _∷_, _++_}
+use mathlib.Core.List.{List, [], _++_}
 use lib.ListN.{length, set, take, drop, length-set}
-use lib.Seq.{getD-set-same, set-getD}
+use lib.Seq.{getD-set-same, set-getD, set-set}
 use Rattle.octets.specs.Parts.{part, patch}
 use Rattle.octets.specs.Fields.{Fit}
 use Rattle.octets.proofs.Parts.{lent-part}
@@ -19,7 +19,7 @@ use Rattle.model.specs.Settling.{sceneOf}
 use Rattle.model.specs.WrittenFrames.{fixedNumbers}
 use Rattle.model.specs.Table.{portOctets, toPort, fixedFrom, cellOctets, toCell, resultOctets, toResult, streamOctets, totalsOctets, toTotals, encode, decode}
 use Rattle.model.specs.Laid.{FitCell, FitResult, FitStream, FitTotals, FitBridge, Laid}
-use Rattle.model.proofs.Lists.{all-at, all-set}
+use Rattle.model.proofs.Lists.{all-at}
 use Rattle.model.proofs.Parts.{_also_}
 use Rattle.model.proofs.Cells.{fixed-back, cell-length}
 use Rattle.model.proofs.Results.{result-length}
@@ -28,17 +28,17 @@ use Rattle.model.proofs.Tables.{totals-length, totals-back}
 use Rattle.model.proofs.Fits.{fit-fixed, cell-read, result-read, id-fits, settled-fits, bridge-read, laid-is, laid-fits}
 use Rattle.table.specs.Updates.{settledAs, resulting, streamAt, totalsAt, withStream, withSettled, withCell, withResult, withTotals}
 use Rattle.table.specs.Places.{Stands, PortIn, StandsOn}
-use Rattle.table.specs.Reads.{fixedOctets, toFixed, FitFixed, ReadsCell, ReadsResult, ReadsFixed, ReadsPort, ReadsTotals}
+use Rattle.table.specs.Reads.{fixedOctets, toFixed, FitFixed, Reads, ReadsCell, ReadsResult, ReadsFixed, ReadsPort, ReadsTotals}
 use Rattle.table.proofs.Header.{table-length, laid-few, port-fits, port-part, totals-part, totals-patch}
 use Rattle.table.proofs.Records.{record-part, record-patch}
 use Rattle.table.proofs.StreamParts.{fixed-length, settled-part, settled-patch, cell-part, cell-patch, cell-fits, result-part, result-patch, result-fits}
-use Rattle.table.proofs.Fitting.{changed-fits, set-result-fits, set-fits, totalled-fits}
+use Rattle.table.proofs.Fitting.{set-fits}
 
 -- Octets that encode a bridge whose numbers fit are laid out, and read as that bridge.
 
 module _ (b : Bridge) (w : FitBridge b) (s : List ℕ) (e : s ≡ encode b) where
   pub encoded-laid : Laid s
-  encoded-laid = record { bridge = b; fits = w; is = e }
+  encoded-laid = record { thing = b; fits = w; is = e }
 
   pub encoded-read : decode s ≡ b
   encoded-read = ap decode e ∙ bridge-read b w
@@ -48,18 +48,10 @@ module _ (b : Bridge) (w : FitBridge b) (s : List ℕ) (e : s ≡ encode b) wher
 pub stands : {t : List ℕ} {k p : ℕ} → StandsOn t k p → Stands t k
 stands s = record { laid = s .laid; held = s .held }
 
-pub port-in : {t : List ℕ} {k p : ℕ} → StandsOn t k p → PortIn t p
-port-in s = record { laid = s .laid; port = s .port }
-
 pub stands-on : {t : List ℕ} {k : ℕ} → Stands t k → (p : ℕ) → p < 8 → StandsOn t k p
 stands-on s p h = record { laid = s .laid; held = s .held; port = h }
 
 -- A stream.
-
-set-again : {A : Type 0} (l : List A) (k : ℕ) (x y : A) → set (set l k x) k y ≡ set l k y
-set-again [] k x y = refl
-set-again (z ∷ l) zero x y = refl
-set-again {A = A} (z ∷ l) (suc k) x y = ap (λ (r : List A). z ∷ r) (set-again l k x y)
 
 module _ {t : List ℕ} {k : ℕ} (s : Stands t k) where
   pub few-before : k < 64
@@ -110,7 +102,7 @@ module _ {t : List ℕ} {k : ℕ} (s : Stands t k) where
       stream-replaced-again y v q =
           q
           ∙ ap (λ (b : Bridge). encode (withStream k y b)) stream-replaced-read
-          ∙ ap (λ (l : List Stream). encode (holding (decode t) l)) (set-again (decode t .streams) k x y)
+          ∙ ap (λ (l : List Stream). encode (holding (decode t) l)) (set-set (decode t .streams) k x y)
 
   -- any part of m octets, at place b of the record
   module _ (b m : ℕ) (w : b + m ≤ recordSize) where
@@ -133,18 +125,20 @@ module _ {t : List ℕ} {k : ℕ} (s : Stands t k) where
         ∙ ap (λ (r : List ℕ). patch (recordPlace k) recordSize r (encode (decode t))) e
         ∙ record-patch (decode t) (laid-fits t (s .laid)) k (recordPlace k) (s .held) refl x
 
+-- Octets of a thing that comes back from them.
+
+reads : {A : Type 0} {n : ℕ} {Of : List ℕ → A → Type 0} {from : List ℕ → A} (octets : A → List ℕ) (a : A) → length (octets a) ≡ n
+    → from (octets a) ≡ a → (s : List ℕ) → s ≡ octets a → Of s a → Reads n Of from s a
+reads {from = from} octets a size back s e of = record { size = ap length e ∙ size; laid = of; is = ap from e ∙ back }
+
 -- Its settled values.
 
 pub reads-fixed : (f : Fixed) → FitFixed f → (s : List ℕ) → s ≡ fixedOctets f → ReadsFixed s f
 unfolding fixedOctets toFixed fixedNumbers
-reads-fixed f w s e = record {
-  size = ap length e ∙ fixed-length f;
-  laid = e;
-  is =
-      ap toFixed e
-      ∙ ap (fixedFrom 0) (fields-of-packed fixedWidths (fixedNumbers f) (w .numbers))
-      ∙ fixed-back f (fit-fixed f (w .numbers) (w .rank)) [] [];
-}
+reads-fixed f w s e =
+    let back : toFixed (fixedOctets f) ≡ f =
+    ap (fixedFrom 0) (fields-of-packed fixedWidths (fixedNumbers f) (w .numbers)) ∙ fixed-back f (fit-fixed f (w .numbers) (w .rank)) [] [] in
+    reads fixedOctets f (fixed-length f) back s e e
 
 module _ {t : List ℕ} {k : ℕ} (s : Stands t k) where
   settled-fixed : FitFixed (streamAt k (decode t) .settled)
@@ -174,26 +168,15 @@ module _ {t : List ℕ} {k : ℕ} (s : Stands t k) where
           results = x .results;
         }
 
-    pub settled-replaced-laid : FitFixed f → (u : List ℕ) → u ≡ encode (withSettled k f (decode t)) → Laid u
-    settled-replaced-laid w = stream-replaced-laid s (settledAs f (streamAt k (decode t))) (settled-as-fits w) refl
-
   -- lent as `&t[a..a + fixedSize]`, and left
   module _ (a : ℕ) (e : a ≡ settledOf k) where
     pub lent-settled-at : ReadsFixed (take (a + fixedSize - a) (drop a t)) (streamAt k (decode t) .settled)
     lent-settled-at = rw (e, lent-part (settledOf k) fixedSize t) settled-at
 
-    pub left-settled-at : (f : Fixed) (y : List ℕ) → y ≡ fixedOctets f
-        → take a t ++ (y ++ drop (a + fixedSize - a) (drop a t)) ≡ encode (withSettled k f (decode t))
-    left-settled-at f y q = lent-patch a fixedSize y t ∙ rw (e, q) (settled-replaced f)
-
 -- Its cell on the port.
 
 pub reads-cell : (c : Cell) → FitCell c → (s : List ℕ) → s ≡ cellOctets c → ReadsCell s c
-reads-cell c w s e = record {
-  size = ap length e ∙ cell-length c;
-  laid = record { cell = c; fits = w; is = e };
-  is = ap toCell e ∙ cell-read c w;
-}
+reads-cell c w s e = reads cellOctets c (cell-length c) (cell-read c w) s e record { thing = c; fits = w; is = e }
 
 module _ {t : List ℕ} {k p : ℕ} (s : StandsOn t k p) where
   abbrev x : Stream
@@ -213,10 +196,6 @@ module _ {t : List ℕ} {k p : ℕ} (s : StandsOn t k p) where
         in-record-replaced (stands s) (cellIn p) cellSize (omega arith) (cellOctets (u (cellAt x p))) (change (at p u) x)
         (cell-patch x x-fits p (cellIn p) (s .port) refl u)
 
-    pub cell-replaced-laid : ((c : Cell) → FitCell c → FitCell (u c)) → (v : List ℕ) → v ≡ encode (withCell k p u (decode t)) → Laid v
-    unfolding change
-    cell-replaced-laid keeps = stream-replaced-laid (stands s) (change (at p u) x) (changed-fits p u keeps x x-fits) refl
-
   module _ (a : ℕ) (e : a ≡ cellPlace k p) where
     pub lent-cell-at : ReadsCell (take (a + cellSize - a) (drop a t)) (cellAt x p)
     lent-cell-at = rw (e, lent-part (cellPlace k p) cellSize t) cell-at
@@ -232,11 +211,7 @@ module _ {t : List ℕ} {k p : ℕ} (s : StandsOn t k p) where
 -- Its result there.
 
 pub reads-result : (r : Result) → FitResult r → (s : List ℕ) → s ≡ resultOctets r → ReadsResult s r
-reads-result r w s e = record {
-  size = ap length e ∙ result-length r;
-  laid = record { result = r; fits = w; is = e };
-  is = ap toResult e ∙ result-read r w;
-}
+reads-result r w s e = reads resultOctets r (result-length r) (result-read r w) s e record { thing = r; fits = w; is = e }
 
 module _ {t : List ℕ} {k p : ℕ} (s : StandsOn t k p) where
   pub result-at : ReadsResult (part (resultPlace k p) resultSize t) (resultAt (x s) p)
@@ -249,9 +224,6 @@ module _ {t : List ℕ} {k p : ℕ} (s : StandsOn t k p) where
     result-replaced =
         in-record-replaced (stands s) (resultIn p) resultSize (omega arith) (resultOctets r) (resulting (λ l. set l p r) (x s))
         (result-patch (x s) (x-fits s) p (resultIn p) (s .port) refl r)
-
-    pub result-replaced-laid : FitResult r → (v : List ℕ) → v ≡ encode (withResult k p r (decode t)) → Laid v
-    result-replaced-laid f = stream-replaced-laid (stands s) (resulting (λ l. set l p r) (x s)) (set-result-fits p r f (x s) (x-fits s)) refl
 
   module _ (a : ℕ) (e : a ≡ resultPlace k p) where
     pub lent-result-at : ReadsResult (take (a + resultSize - a) (drop a t)) (resultAt (x s) p)
@@ -270,7 +242,7 @@ module _ {t : List ℕ} {k p : ℕ} (s : StandsOn t k p) where
 -- The settings of the port, and its totals.
 
 pub reads-totals : (t : Totals) → FitTotals t → (s : List ℕ) → s ≡ totalsOctets t → ReadsTotals s t
-reads-totals t w s e = record { size = ap length e ∙ totals-length t; laid = e; is = ap toTotals e ∙ totals-back t w }
+reads-totals t w s e = reads totalsOctets t (totals-length t) (totals-back t w) s e e
 
 module _ {t : List ℕ} {p : ℕ} (s : PortIn t p) where
   b-fits : FitBridge (decode t)
@@ -281,11 +253,7 @@ module _ {t : List ℕ} {p : ℕ} (s : PortIn t p) where
       let q = portAt (decode t .settings) p in
       let e : part (portPlace p) portSize t ≡ portOctets q =
       ap (part (portPlace p) portSize) (laid-is t (s .laid)) ∙ port-part (decode t) b-fits p (portPlace p) (s .port) refl in
-      record {
-        size = ap length e ∙ port-length q;
-        laid = e;
-        is = ap toPort e ∙ port-back q (port-fits (decode t .settings) (b-fits .settings) p);
-      }
+      reads portOctets q (port-length q) (port-back q (port-fits (decode t .settings) (b-fits .settings) p)) _ e e
 
   pub lent-port-at : (a : ℕ) → a ≡ portPlace p → ReadsPort (take (a + portSize - a) (drop a t)) (portAt (decode t .settings) p)
   lent-port-at a e = rw (e, lent-part (portPlace p) portSize t) port-there
@@ -300,14 +268,6 @@ module _ {t : List ℕ} {p : ℕ} (s : PortIn t p) where
     pub totals-replaced : patch (totalPlace p) totalSize (totalsOctets c) t ≡ encode (withTotals p c (decode t))
     totals-replaced =
         ap (patch (totalPlace p) totalSize (totalsOctets c)) (laid-is t (s .laid)) ∙ totals-patch (decode t) b-fits p (totalPlace p) (s .port) refl c
-
-    pub with-totals-fits : FitTotals c → FitBridge (withTotals p c (decode t))
-    with-totals-fits f =
-        totalled-fits (decode t) b-fits (set (decode t .totals) p c) (length-set (decode t .totals) p c ∙ b-fits .eight-totals)
-        (all-set FitTotals (decode t .totals) p c (b-fits .totals) f)
-
-    pub totals-replaced-laid : FitTotals c → (v : List ℕ) → v ≡ encode (withTotals p c (decode t)) → Laid v
-    totals-replaced-laid f = encoded-laid (withTotals p c (decode t)) (with-totals-fits f)
 
   module _ (a : ℕ) (e : a ≡ totalPlace p) where
     pub lent-totals-at : ReadsTotals (take (a + totalSize - a) (drop a t)) (totalsAt p (decode t))

@@ -1,6 +1,6 @@
 -- A loop that changes one stream of a table after another, or one stream by turns, as one cell after another: at each turn the table
 -- is laid out, and what the loop has not come to is as it was; a turn; the end. No place of an octet is in it.
-use Prim.Native.Nat.{ℕ, zero, suc, _+_, _<_}
+use Prim.Native.Nat.{ℕ, zero, suc, _+_, _≤_, _<_}
 use native.Mathlib.Omega.{arith}
 use native.Mathlib.Numerals.{add-one}
 use mathlib.Core.Path.{_≡_, refl, sym, ap, _∙_}
@@ -16,7 +16,7 @@ use Rattle.model.proofs.Fits.{laid-is, laid-fits}
 use Rattle.table.specs.Updates.{streamAt, withStream}
 use Rattle.table.specs.Places.{Stands}
 use Rattle.table.proofs.Fitting.{holding-fits}
-use Rattle.table.proofs.ByPlace.{encoded-laid, encoded-read, stream-same, stream-replaced-stands, stream-replaced-at, stream-replaced-settings, stream-replaced-again}
+use Rattle.table.proofs.ByPlace.{encoded-laid, encoded-read, stream-same, stream-replaced-stands, stream-replaced-at, stream-replaced-again}
 
 -- The first k of a list changed.
 
@@ -31,13 +31,6 @@ module _ {A : Type 0} (g : A → A) where
   firsts-length zero l = refl
   firsts-length (suc k) [] = refl
   firsts-length (suc k) (x ∷ l) = ap suc (firsts-length k l)
-
-  -- the next is as it was
-  pub firsts-here : (k : ℕ) (l : List A) (d : A) → getD (firsts k l) k d ≡ getD l k d
-  unfolding firsts
-  firsts-here zero l d = refl
-  firsts-here (suc k) [] d = refl
-  firsts-here (suc k) (x ∷ l) d = firsts-here k l d
 
   pub firsts-next : (k : ℕ) (l : List A) (d : A) → set (firsts k l) k (g (getD (firsts k l) k d)) ≡ firsts (suc k) l
   unfolding firsts
@@ -63,6 +56,13 @@ module _ (g : Stream → Stream) where
   -- the bridge of t₀ with its first k streams changed
   unfoldable pub partly : List ℕ → ℕ → Bridge
   partly t₀ k = holding (decode t₀) (firsts g k (decode t₀ .streams))
+
+  -- a loop over all n of them, at stream k
+  pub record Partly (t₀ : List ℕ) (n : ℕ) (t : List ℕ) (k : ℕ) : Type 0 where
+    pub within : k ≤ n
+    pub count : n ≡ length (decode t₀ .streams)
+    pub size : length t ≡ length t₀
+    pub is : t ≡ encode (partly t₀ k)
 
   pub none-yet : (t₀ : List ℕ) → Laid t₀ → t₀ ≡ encode (partly t₀ 0)
   unfolding partly firsts holding
@@ -107,10 +107,6 @@ module _ (g : Stream → Stream) where
       pub partly-scene : sceneOf (decode t) ≡ sceneOf (decode t₀)
       partly-scene = ap sceneOf partly-read ∙ unfold partly holding in refl
 
-      -- the next stream
-      pub partly-here : streamAt k (decode t) ≡ streamAt k (decode t₀)
-      partly-here = ap (streamAt k) partly-read ∙ unfold partly holding in firsts-here g k (decode t₀ .streams) (fresh 0)
-
       pub partly-stands : k < length (decode t₀ .streams) → Stands t k
       partly-stands h = record { laid = partly-laid; held = omega (arith, partly-many) }
 
@@ -145,10 +141,6 @@ module _ (h : ℕ → Stream → Stream) where
         pub partlyAt-here : streamAt k (decode t) ≡ h p (streamAt k (decode t₀))
         unfolding partlyAt
         partlyAt-here = stream-replaced-at s (h p (streamAt k (decode t₀))) w i t e
-
-        pub partlyAt-settings : decode t .settings ≡ decode t₀ .settings
-        unfolding partlyAt
-        partlyAt-settings = stream-replaced-settings s (h p (streamAt k (decode t₀))) w i t e
 
         -- g is what a turn does to the stream as it stands
         pub one-turn-more : (g : Stream → Stream) → g (h p (streamAt k (decode t₀))) ≡ h (p + 1) (streamAt k (decode t₀)) → (y : List ℕ)

@@ -1,25 +1,24 @@
 -- What stands before the stream records of a table: settings, clock, number of streams, totals, what the ports hold; how each is read, and what the
 -- table is when it is replaced.
-use Prim.Native.Nat.{ℕ, zero, suc, _+_, _-_, _*_, _/_, _%_, _≤_, _<_}
+use Prim.Native.Nat.{ℕ, zero, suc, _-_, _*_, _/_, _%_, _≤_, _<_}
 use native.Mathlib.Omega.{arith}
 use mathlib.Core.Path.{_≡_, refl, sym, ap, _∙_}
 use mathlib.Core.List.{List, [], _∷_, _++_, append-assoc, append-nil}
-use lib.ListN.{length, getD, set, take, replicate, length-append, length-replicate}
+use lib.ListN.{length, getD, set, replicate, length-append, length-replicate}
 use Rattle.octets.specs.Be.{beAt, be}
 use Rattle.octets.specs.Parts.{part, patch, zeros}
 use Rattle.octets.specs.Fields.{packed, Fit, width, flat}
 use Rattle.octets.proofs.Be.{length-be}
-use Rattle.octets.proofs.Frame.{beAt-part}
-use Rattle.octets.proofs.Fields.{flat-append, get-field, packed-zeros, fit-zeros, length-packed-any}
-use Rattle.model.specs.Layout.{clockPlace, countPlace, domainVlanPlace, headWidths, ownPlace, ownSize, ownsPlace, portPlace, portSize, portWidths, portsPlace, portsUnit, priorityAUnit, priorityBUnit, recordsPlace, tableLength, totalPlace, totalSize, totalsPlace, totalsSize, wordPlace}
+use Rattle.octets.proofs.Fields.{flat-append, packed-zeros, fit-zeros}
+use Rattle.model.specs.Layout.{clockPlace, countPlace, domainVlanPlace, ownPlace, ownSize, ownsPlace, portPlace, portSize, portWidths, portsPlace, portsUnit, priorityAUnit, priorityBUnit, recordsPlace, tableLength, totalPlace, totalSize, totalsPlace, totalsSize, wordPlace}
 use Rattle.model.specs.Lists.{All, bit}
 use Rattle.model.specs.State.{Port, Settings, Own, Stream, Totals, Bridge, noPort, portAt, noTotals, noOwn, ownAt}
 use Rattle.model.specs.Registrations.{holding, owning}
-use Rattle.model.specs.Table.{portNumbers, portOctets, toPort, headWord, settingsOctets, portsField, totalsOctets, ownOctets, clockField, countField, encode, decode}
+use Rattle.model.specs.Table.{portNumbers, portOctets, settingsOctets, portsField, totalsOctets, ownOctets, clockField, countField, encode, decode}
 use Rattle.model.specs.Laid.{FitSettings, FitBridge, Laid}
 use Rattle.model.proofs.Lists.{all-each, all-replicate}
 use Rattle.model.proofs.Parts.{Sized, flat-zeros}
-use Rattle.model.proofs.SettingsOctets.{port-length, port-back, id-read, ports-read, priority-a-read, priority-b-read, leave-read, vlan-read}
+use Rattle.model.proofs.SettingsOctets.{head, head-length, port-length, id-read, ports-read, priority-a-read, priority-b-read, leave-read, vlan-read}
 use Rattle.model.proofs.Tables.{settingsWhole, clockAndCount, totalsWhole, ownsWhole, recordsWhole, encode-parts, clock-length, settings-whole-length, totals-whole-length, owns-whole-length, whole-length, totals-sized, no-totals, clock-read, count-read, fit-whole}
 use Rattle.model.proofs.Fits.{laid-is, laid-fits}
 use Rattle.table.specs.Updates.{clocked, totalled}
@@ -111,13 +110,6 @@ padded-at [] m p d = blank m p
 padded-at (x ∷ l) m zero d = refl
 padded-at (x ∷ l) m (suc p) d = padded-at l m p d
 
-abbrev head : Settings → List ℕ
-head st = packed headWidths (st .bridgeId ∷ headWord st ∷ st .vlan ∷ [])
-
-head-length : (st : Settings) → length (head st) ≡ portsPlace
-unfolding width
-head-length st = length-packed-any headWidths (st .bridgeId ∷ headWord st ∷ st .vlan ∷ []) refl
-
 flat-eight : (st : Settings) → flat portOctets (eightPorts st) ≡ flat portOctets (st .ports) ++ zeros ((8 - length (st .ports)) * portSize)
 flat-eight st =
     let m = 8 - length (st .ports) in
@@ -143,14 +135,6 @@ pub port-fits : (st : Settings) → FitSettings st → (p : ℕ) → Fit portWid
 unfolding portAt
 port-fits st w p = all-getD (λ q. Fit portWidths (portNumbers q)) (st .ports) (w .ports) noPort no-port-fits p
 
--- a field stands within its fields
-field-within : (ws : List ℕ) (i : ℕ) → width (take i ws) + getD ws i 0 ≤ width ws
-unfolding width
-field-within [] zero = omega arith
-field-within [] (suc i) = omega arith
-field-within (w ∷ ws) zero = omega arith
-field-within (w ∷ ws) (suc i) = omega (arith, field-within ws i)
-
 module _ (b : Bridge) (w : FitBridge b) (p a : ℕ) (h : p < 8) (e : a ≡ portPlace p) where
   pub port-part : part a portSize (encode b) ≡ portOctets (portAt (b .settings) p)
   unfolding portAt
@@ -162,17 +146,6 @@ module _ (b : Bridge) (w : FitBridge b) (p a : ℕ) (h : p < 8) (e : a ≡ portP
       ap (part a portSize) (ports-laid b)
       ∙ part-one portSize portOctets portsPlace (head st) after (head-length st) l (ports-sized l) p a few e noPort
       ∙ ap portOctets (padded-at (st .ports) (8 - length (st .ports)) p noPort)
-
-  -- number i of the port, in its field
-  pub port-number : (i : ℕ) → beAt (getD portWidths i 0) (encode b) (a + width (take i portWidths)) ≡ getD (portNumbers (portAt (b .settings) p)) i 0
-  port-number i =
-      let q = portAt (b .settings) p in
-      sym (beAt-part (getD portWidths i 0) a portSize (width (take i portWidths)) (encode b) (unfold width in field-within portWidths i))
-      ∙ ap (λ (s : List ℕ). beAt (getD portWidths i 0) s (width (take i portWidths))) port-part
-      ∙ (unfold portOctets in get-field portWidths (portNumbers q) (port-fits (b .settings) (w .settings) p) i)
-
-  pub port-at : toPort (part a portSize (encode b)) ≡ portAt (b .settings) p
-  port-at = ap toPort port-part ∙ port-back (portAt (b .settings) p) (port-fits (b .settings) (w .settings) p)
 
 -- Totals.
 
@@ -299,9 +272,3 @@ module _ (t : List ℕ) (l : Laid t) where
 
   pub laid-leave-time : beAt 3 t wordPlace % priorityBUnit ≡ decode t .settings .leaveTime
   laid-leave-time = ap (λ (s : List ℕ). beAt 3 s wordPlace % priorityBUnit) (laid-is t l) ∙ leave-time-at (decode t) (laid-fits t l)
-
--- A limit in the settings of a port, five octets as number i of them.
-pub limit-at : (t : List ℕ) (l : Laid t) (p : ℕ) (h : p < 8) (i at : ℕ) → portPlace p + width (take i portWidths) ≡ at → getD portWidths i 0 ≡ 5
-    → beAt 5 t at ≡ getD (portNumbers (portAt (decode t .settings) p)) i 0
-limit-at t l p h i at e f =
-    ap (λ (s : List ℕ). beAt 5 s at) (laid-is t l) ∙ (rw (e, f) at (port-number (decode t) (laid-fits t l) p (portPlace p) h refl i))

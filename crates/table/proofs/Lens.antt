@@ -1,11 +1,11 @@
--- One of many things of n octets each, among other octets: read, replaced; and all of them changed.
+-- One of many things of n octets each, among other octets: read, or replaced.
 use Prim.Native.Nat.{ℕ, suc, _+_, _*_, _≤_, _<_}
 use native.Mathlib.Omega.{arith}
-use mathlib.Core.Path.{_≡_, refl, sym, ap, _∙_}
-use mathlib.Core.List.{List, [], _∷_, _++_, append-assoc, map}
+use mathlib.Core.Path.{_≡_, sym, ap, _∙_}
+use mathlib.Core.List.{List, _∷_, _++_, append-assoc}
 use lib.ListN.{length, getD, set, take, drop, length-append}
-use lib.Seq.{take-at, drop-at, split-at, set-split, length-take-le}
-use Rattle.octets.specs.Parts.{part, patch, each, eachFrom}
+use lib.Seq.{split-at, set-split, length-take-le}
+use Rattle.octets.specs.Parts.{part, patch}
 use Rattle.octets.specs.Fields.{flat}
 use Rattle.octets.proofs.Fields.{flat-append}
 pub use Rattle.octets.proofs.Patches.{lent-patch, patch-between}
@@ -13,21 +13,6 @@ use Rattle.model.specs.Lists.{All}
 use Rattle.model.proofs.Lists.{all-take}
 pub use Rattle.model.proofs.Lists.{all-at, all-getD}
 use Rattle.model.proofs.Parts.{Sized, part-between, length-flat-sized}
-
--- each of the things in front changed
-each-flat : {A : Type 0} (n : ℕ) (to : A → List ℕ) (f : List ℕ → List ℕ) (g : A → A) (after : List ℕ) (l : List A)
-    → All (Sized n to) l → All (λ a. f (to a) ≡ to (g a)) l → each (length l) n f (flat to l ++ after) ≡ flat to (map g l) ++ after
-unfolding each flat
-each-flat n to f g after [] sized same = refl
-each-flat n to f g after (x ∷ l) sized same =
-    rw (
-      append-assoc (to x) (flat to l) after,
-      take-at (to x) (flat to l ++ after) n (sized .0),
-      drop-at (to x) (flat to l ++ after) n (sized .0),
-      same .0,
-      each-flat n to f g after l (sized .1) (same .1),
-      append-assoc (to (g x)) (flat to (map g l)) after,
-    )
 
 -- things of n octets each after m octets, with others behind
 module _ {A : Type 0} (n : ℕ) (to : A → List ℕ) (m : ℕ) (before after : List ℕ) (size : length before ≡ m) where
@@ -60,10 +45,3 @@ module _ {A : Type 0} (n : ℕ) (to : A → List ℕ) (m : ℕ) (before after : 
           ∙ ap (patch a n (to x)) (around f r y)
           ∙ patch-between (before ++ flat to f) (to y) (flat to r ++ after) (to x) a n (place k a (omega arith) e) (all-at (Sized n to) l sized k x h)
           ∙ sym (ap (λ (s : List A). before ++ (flat to s ++ after)) (set-split l k x h) ∙ around f r x)
-
-    pub each-one : (f : List ℕ → List ℕ) (g : A → A) → All (λ a. f (to a) ≡ to (g a)) l
-        → eachFrom m (length l) n f (before ++ (flat to l ++ after)) ≡ before ++ (flat to (map g l) ++ after)
-    unfolding eachFrom
-    each-one f g same =
-        rw (take-at before (flat to l ++ after) m size, drop-at before (flat to l ++ after) m size)
-        (ap (λ (s : List ℕ). before ++ s) (each-flat n to f g after l sized same))

@@ -9,7 +9,6 @@ pub mod Places
 pub mod Fitting
 pub mod HeldRecords
 pub mod Dropping
-pub mod Turns
 pub mod ByPlace
 pub mod OwnParts
 pub mod EachStream

@@ -30,14 +30,14 @@ use Rattle.table.proofs.ByPlace.{encoded-laid}
 pub reads-own : (o : Own) → FitOwn o → (s : List ℕ) → s ≡ ownOctets o → ReadsOwn s o
 reads-own o f s e = record {
   size = ap length e ∙ own-length o (f .slotted);
-  laid = record { own = o; fits = f; is = e };
+  laid = record { thing = o; fits = f; is = e };
   is = ap toOwn e ∙ own-fit-back o f;
 }
 
 pub reads-domain : (d : Domain) → Fit slotWidths (domainNumbers d) → (s : List ℕ) → s ≡ domainOctets d → ReadsDomain s d
 reads-domain d f s e = record {
   size = ap length e ∙ domain-length d;
-  laid = record { value = d; fits = f; is = e };
+  laid = record { thing = d; fits = f; is = e };
   is = ap toDomain e ∙ fit-back d f;
 }
 

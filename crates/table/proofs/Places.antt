@@ -9,6 +9,7 @@ use lib.Seq.{length-take-le, getD-at, set-getD}
 use Rattle.model.specs.State.{Stream, fresh}
 use Rattle.model.specs.Registrations.{change, begun, touch, ids}
 use Rattle.model.proofs.Commute.{Change, Tri, less, same, more, tri, touch-nil, touch-before, touch-here, touch-past}
+use Rattle.table.specs.declared.Found.{Found}
 use Rattle.table.specs.declared.Found.the-variants.{At, Gap}
 use Rattle.table.specs.Find.{foundAt}
 use Rattle.table.proofs.Finding.{found-before, found-here, found-past}
@@ -35,6 +36,10 @@ search-for i n (x ∷ s) = go (tri i (x .id)) (search-for i (suc n) s)
         missing (suc k) (found-past i n (x .id) (ids s) h ∙ f ∙ ap Gap (omega arith)) (omega arith)
         (λ b u. touch-past b i u x s h ∙ ap (λ (z : List Stream). x ∷ z) (t b u))
 
+-- What was searched is found or missing, not both.
+not-both : {r : Found} {j k : ℕ} → r ≡ At j → r ≡ Gap k → ⊥
+not-both f g = let z : _≡_ {A = ℕ} 0 1 = cc in omega arith
+
 -- Found.
 
 pub record AtPlace (i k : ℕ) (s : List Stream) : Type 0 where
@@ -45,17 +50,12 @@ pub record AtPlace (i k : ℕ) (s : List Stream) : Type 0 where
 pub at-place : (i k : ℕ) (s : List Stream) → foundAt i 0 (ids s) ≡ At k → AtPlace i k s
 at-place i k s f = go (search-for i 0 s)
   where
-    same-place : (j : ℕ) → foundAt i 0 (ids s) ≡ At (0 + j) → k ≡ 0 + j
-    same-place j g = cc
-
-    other : (j : ℕ) → foundAt i 0 (ids s) ≡ Gap (0 + j) → ⊥
-    other j g = let z : _≡_ {A = ℕ} 0 1 = cc in omega arith
-
     go : Search i 0 s → AtPlace i k s
     go (there j g l e t) =
-        let q : j ≡ k = let p = same-place j g in omega arith in
+        let p : k ≡ 0 + j = cc in
+        let q : j ≡ k = omega arith in
         rw (← q) record { within = l; is = e; touched = t }
-    go (missing j g l t) = absurd (other j g)
+    go (missing j g l t) = absurd (not-both f g)
 
 -- Not found: a join makes the stream there, and anything else does nothing.
 
@@ -68,16 +68,11 @@ pub at-gap : (i k : ℕ) (s : List Stream) → foundAt i 0 (ids s) ≡ Gap k →
 unfolding begun
 at-gap i k s f = go (search-for i 0 s)
   where
-    same-place : (j : ℕ) → foundAt i 0 (ids s) ≡ Gap (0 + j) → k ≡ 0 + j
-    same-place j g = cc
-
-    other : (j : ℕ) → foundAt i 0 (ids s) ≡ At (0 + j) → ⊥
-    other j g = let z : _≡_ {A = ℕ} 0 1 = cc in omega arith
-
     go : Search i 0 s → AtGap i k s
-    go (there j g l e t) = absurd (other j g)
+    go (there j g l e t) = absurd (not-both g f)
     go (missing j g l t) =
-        let q : j ≡ k = let p = same-place j g in omega arith in
+        let p : k ≡ 0 + j = cc in
+        let q : j ≡ k = omega arith in
         rw (← q) record { within = l; joined = t true; untouched = λ u. t false u ∙ take-append-drop j s }
 
 -- A stream that was put in is there.

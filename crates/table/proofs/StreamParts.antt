@@ -1,31 +1,27 @@
--- The parts of a stream record: StreamID, settled values, cells and results; each read, replaced, or lent; and all cells
--- changed.
-use Prim.Native.Nat.{ℕ, zero, suc, _+_, _-_, _<_}
+-- The parts of a stream record: StreamID, settled values, cells and results; each read, or replaced.
+use Prim.Native.Nat.{ℕ, zero, suc, _<_}
 use native.Mathlib.Omega.{arith}
 use mathlib.Core.Path.{_≡_, refl, sym, ap, _∙_}
-use mathlib.Core.List.{List, [], _∷_, _++_, append-assoc, append-nil, map}
-use lib.ListN.{length, getD, set, take, drop, length-append}
+use mathlib.Core.List.{List, [], _∷_, _++_, append-assoc, append-nil}
+use lib.ListN.{length, getD, set, length-append}
 use Rattle.octets.specs.Be.{beAt, be}
-use Rattle.octets.specs.Parts.{part, patch, eachFrom}
+use Rattle.octets.specs.Parts.{part, patch}
 use Rattle.octets.specs.Fields.{packed, width, flat}
 use Rattle.octets.proofs.Be.{length-be}
-use Rattle.octets.proofs.Parts.{lent-part}
 use Rattle.octets.proofs.Fields.{length-packed-any}
 use Rattle.model.specs.Layout.{cellIn, cellSize, cellsPlace, fixedSize, fixedWidths, resultIn, resultSize, resultsPlace, settledPlace}
-use Rattle.model.specs.Lists.{All}
 use Rattle.model.specs.State.{Fixed, Cell, Result, Stream, cellAt, resultAt, empty, unsettled}
 use Rattle.model.specs.Registrations.{at, change}
 use Rattle.model.specs.WrittenFrames.{fixedNumbers}
-use Rattle.model.specs.Table.{cellOctets, toCell, resultOctets, toResult, streamOctets, toStream, idOf}
-use Rattle.model.specs.Laid.{FitCell, FitResult, FitStream, LaidCell, LaidResult, LaidStream}
+use Rattle.model.specs.Table.{cellOctets, resultOctets, streamOctets, idOf}
+use Rattle.model.specs.Laid.{FitCell, FitResult, FitStream}
 use Rattle.model.proofs.Parts.{part-between}
 use Rattle.model.proofs.Cells.{cells-sized}
 use Rattle.model.proofs.Results.{results-sized}
 use Rattle.model.proofs.Tables.{name, name-length, length-cells, id-read}
-use Rattle.model.proofs.Fits.{cell-read, result-read, laid-stream-is, laid-stream-fits}
 use Rattle.table.specs.Updates.{settledAs, resulting}
 pub use Rattle.table.specs.Reads.{fixedOctets}
-use Rattle.table.proofs.Lens.{lent-patch, patch-between, all-at, part-one, patch-one, each-one}
+use Rattle.table.proofs.Lens.{patch-between, all-at, part-one, patch-one}
 
 -- StreamID and settled values.
 
@@ -62,32 +58,24 @@ at-set p u [] d h = absurd (omega arith)
 at-set zero u (c ∷ l) d h = refl
 at-set {A = A} (suc p) u (c ∷ l) d h = ap (λ (m : List A). c ∷ m) (at-set p u l d (omega arith))
 
-module _ (x : Stream) (w : FitStream x) where
-  pub cells-each : (f : List ℕ → List ℕ) (g : Cell → Cell) → All (λ c. f (cellOctets c) ≡ cellOctets (g c)) (x .cells)
-      → eachFrom cellsPlace 8 cellSize f (streamOctets x) ≡ streamOctets (change (map g) x)
-  unfolding streamOctets change
-  cells-each f g same =
-      ap (λ (k : ℕ). eachFrom cellsPlace k cellSize f (name x ++ (flat cellOctets (x .cells) ++ flat resultOctets (x .results)))) (sym (w .eight-cells))
-      ∙ each-one cellSize cellOctets cellsPlace (name x) (flat resultOctets (x .results)) (name-length x) (x .cells) (cells-sized (x .cells)) f g same
+module _ (x : Stream) (w : FitStream x) (p a : ℕ) (h : p < 8) (e : a ≡ cellIn p) where
+  a-cell : p < length (x .cells)
+  a-cell = omega (arith, w .eight-cells)
 
-  module _ (p a : ℕ) (h : p < 8) (e : a ≡ cellIn p) where
-    a-cell : p < length (x .cells)
-    a-cell = omega (arith, w .eight-cells)
+  pub cell-part : part a cellSize (streamOctets x) ≡ cellOctets (cellAt x p)
+  unfolding streamOctets cellAt
+  cell-part = part-one cellSize cellOctets cellsPlace (name x) (flat resultOctets (x .results)) (name-length x) (x .cells) (cells-sized (x .cells)) p a a-cell e empty
 
-    pub cell-part : part a cellSize (streamOctets x) ≡ cellOctets (cellAt x p)
-    unfolding streamOctets cellAt
-    cell-part = part-one cellSize cellOctets cellsPlace (name x) (flat resultOctets (x .results)) (name-length x) (x .cells) (cells-sized (x .cells)) p a a-cell e empty
+  pub cell-patch : (u : Cell → Cell) → patch a cellSize (cellOctets (u (cellAt x p))) (streamOctets x) ≡ streamOctets (change (at p u) x)
+  unfolding streamOctets cellAt change
+  cell-patch u =
+      patch-one cellSize cellOctets cellsPlace (name x) (flat resultOctets (x .results)) (name-length x) (x .cells) (cells-sized (x .cells)) p a a-cell e
+      (u (getD (x .cells) p empty))
+      ∙ ap (λ (l : List Cell). name x ++ (flat cellOctets l ++ flat resultOctets (x .results))) (at-set p u (x .cells) empty a-cell)
 
-    pub cell-patch : (u : Cell → Cell) → patch a cellSize (cellOctets (u (cellAt x p))) (streamOctets x) ≡ streamOctets (change (at p u) x)
-    unfolding streamOctets cellAt change
-    cell-patch u =
-        patch-one cellSize cellOctets cellsPlace (name x) (flat resultOctets (x .results)) (name-length x) (x .cells) (cells-sized (x .cells)) p a a-cell e
-        (u (getD (x .cells) p empty))
-        ∙ ap (λ (l : List Cell). name x ++ (flat cellOctets l ++ flat resultOctets (x .results))) (at-set p u (x .cells) empty a-cell)
-
-    pub cell-fits : FitCell (cellAt x p)
-    unfolding cellAt
-    cell-fits = all-at FitCell (x .cells) (w .cells) p empty a-cell
+  pub cell-fits : FitCell (cellAt x p)
+  unfolding cellAt
+  cell-fits = all-at FitCell (x .cells) (w .cells) p empty a-cell
 
 -- Results.
 
@@ -121,42 +109,3 @@ module _ (x : Stream) (w : FitStream x) where
     pub result-fits : FitResult (resultAt x p)
     unfolding resultAt
     result-fits = all-at FitResult (x .results) (w .results) p unsettled a-result
-
--- A cell, or a result, lent: what a call sees of `&s[a..a + cellSize]`, and what it leaves of `&mut s[a..a + cellSize]`.
-
-module _ (s : List ℕ) (l : LaidStream s) (p a : ℕ) (h : p < 8) (e : a ≡ cellIn p) where
-  pub lent-cell : take (a + cellSize - a) (drop a s) ≡ cellOctets (cellAt (toStream s) p)
-  lent-cell = lent-part a cellSize s ∙ ap (part a cellSize) (laid-stream-is s l) ∙ cell-part (toStream s) (laid-stream-fits s l) p a h e
-
-  pub lent-cell-laid : LaidCell (take (a + cellSize - a) (drop a s))
-  lent-cell-laid = record { cell = cellAt (toStream s) p; fits = cell-fits (toStream s) (laid-stream-fits s l) p a h e; is = lent-cell }
-
-  pub lent-cell-read : toCell (take (a + cellSize - a) (drop a s)) ≡ cellAt (toStream s) p
-  lent-cell-read = ap toCell lent-cell ∙ cell-read (cellAt (toStream s) p) (cell-fits (toStream s) (laid-stream-fits s l) p a h e)
-
-  -- a call that ensures `now (p .exit) ≡ cellOctets (u (toCell (now (p .entry))))`
-  pub lent-cell-left : (u : Cell → Cell) (y : List ℕ) → y ≡ cellOctets (u (toCell (take (a + cellSize - a) (drop a s))))
-      → take a s ++ (y ++ drop (a + cellSize - a) (drop a s)) ≡ streamOctets (change (at p u) (toStream s))
-  lent-cell-left u y q =
-      lent-patch a cellSize y s
-      ∙ ap (λ (z : List ℕ). patch a cellSize z s) (q ∙ ap (λ (c : Cell). cellOctets (u c)) lent-cell-read)
-      ∙ ap (patch a cellSize (cellOctets (u (cellAt (toStream s) p)))) (laid-stream-is s l)
-      ∙ cell-patch (toStream s) (laid-stream-fits s l) p a h e u
-
-module _ (s : List ℕ) (l : LaidStream s) (p a : ℕ) (h : p < 8) (e : a ≡ resultIn p) where
-  pub lent-result : take (a + resultSize - a) (drop a s) ≡ resultOctets (resultAt (toStream s) p)
-  lent-result = lent-part a resultSize s ∙ ap (part a resultSize) (laid-stream-is s l) ∙ result-part (toStream s) (laid-stream-fits s l) p a h e
-
-  pub lent-result-laid : LaidResult (take (a + resultSize - a) (drop a s))
-  lent-result-laid = record { result = resultAt (toStream s) p; fits = result-fits (toStream s) (laid-stream-fits s l) p a h e; is = lent-result }
-
-  pub lent-result-read : toResult (take (a + resultSize - a) (drop a s)) ≡ resultAt (toStream s) p
-  lent-result-read = ap toResult lent-result ∙ result-read (resultAt (toStream s) p) (result-fits (toStream s) (laid-stream-fits s l) p a h e)
-
-  pub lent-result-left : (r : Result) (y : List ℕ) → y ≡ resultOctets r
-      → take a s ++ (y ++ drop (a + resultSize - a) (drop a s)) ≡ streamOctets (resulting (λ m. set m p r) (toStream s))
-  lent-result-left r y q =
-      lent-patch a resultSize y s
-      ∙ ap (λ (z : List ℕ). patch a resultSize z s) q
-      ∙ ap (patch a resultSize (resultOctets r)) (laid-stream-is s l)
-      ∙ result-patch (toStream s) (laid-stream-fits s l) p a h e r

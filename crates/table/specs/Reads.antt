@@ -24,37 +24,29 @@ pub record FitFixed (f : Fixed) : Type 0 where
 
 -- The parts.
 
-pub record ReadsCell (s : List ℕ) (c : Cell) : Type 0 where
-  pub size : length s ≡ cellSize
-  pub laid : LaidCell s
-  pub is : toCell s ≡ c
+-- n octets of a thing, laid out as it is, and read as it is
+pub record Reads {A : Type 0} (n : ℕ) (Of : List ℕ → A → Type 0) (from : List ℕ → A) (s : List ℕ) (a : A) : Type 0 where
+  pub size : length s ≡ n
+  pub laid : Of s a
+  pub is : from s ≡ a
 
-pub record ReadsResult (s : List ℕ) (r : Result) : Type 0 where
-  pub size : length s ≡ resultSize
-  pub laid : LaidResult s
-  pub is : toResult s ≡ r
+abbrev pub ReadsCell : List ℕ → Cell → Type 0
+ReadsCell = Reads cellSize (λ s _. LaidCell s) toCell
 
-pub record ReadsFixed (s : List ℕ) (f : Fixed) : Type 0 where
-  pub size : length s ≡ fixedSize
-  pub laid : s ≡ fixedOctets f
-  pub is : toFixed s ≡ f
+abbrev pub ReadsResult : List ℕ → Result → Type 0
+ReadsResult = Reads resultSize (λ s _. LaidResult s) toResult
 
-pub record ReadsPort (s : List ℕ) (q : Port) : Type 0 where
-  pub size : length s ≡ portSize
-  pub laid : s ≡ portOctets q
-  pub is : toPort s ≡ q
+abbrev pub ReadsFixed : List ℕ → Fixed → Type 0
+ReadsFixed = Reads fixedSize (λ s f. s ≡ fixedOctets f) toFixed
 
-pub record ReadsTotals (s : List ℕ) (t : Totals) : Type 0 where
-  pub size : length s ≡ totalSize
-  pub laid : s ≡ totalsOctets t
-  pub is : toTotals s ≡ t
+abbrev pub ReadsPort : List ℕ → Port → Type 0
+ReadsPort = Reads portSize (λ s q. s ≡ portOctets q) toPort
 
-pub record ReadsDomain (s : List ℕ) (d : Domain) : Type 0 where
-  pub size : length s ≡ slotSize
-  pub laid : LaidDomain s
-  pub is : toDomain s ≡ d
+abbrev pub ReadsTotals : List ℕ → Totals → Type 0
+ReadsTotals = Reads totalSize (λ s t. s ≡ totalsOctets t) toTotals
 
-pub record ReadsOwn (s : List ℕ) (o : Own) : Type 0 where
-  pub size : length s ≡ ownSize
-  pub laid : LaidOwn s
-  pub is : toOwn s ≡ o
+abbrev pub ReadsDomain : List ℕ → Domain → Type 0
+ReadsDomain = Reads slotSize (λ s _. LaidDomain s) toDomain
+
+abbrev pub ReadsOwn : List ℕ → Own → Type 0
+ReadsOwn = Reads ownSize (λ s _. LaidOwn s) toOwn

@@ -23,8 +23,21 @@ pub const BRIDGE_ID: usize = LATENCY + 4;
 
 pub const CODE: usize = BRIDGE_ID + 8;
 
-pub const LISTENER: usize = CODE + 1;
+pub const FAILURE_END: usize = CODE + 1;
+
+pub const LISTENER: usize = FAILURE_END;
 
 pub const LISTENER_LEAVES: usize = LISTENER + 1;
 
 pub const LISTENER_SINCE: usize = LISTENER_LEAVES + 1;
+
+// How many octets they take: leaving with its time, alone and behind the changed mark; a failure; a Talker, a Listener.
+pub const LEAVING: usize = DESTINATION - TALKER_LEAVES;
+
+pub const MARKS: usize = DESTINATION - CHANGED;
+
+pub const FAILURE: usize = FAILURE_END - BRIDGE_ID;
+
+pub const TALKER_PART: usize = LISTENER - TALKER;
+
+pub const LISTENER_PART: usize = LISTENER_SINCE + 4 - LISTENER;

@@ -14,7 +14,7 @@ ghost use Rattle.table.specs.Find.{foundAt};
 ghost use Rattle.table.specs.Held.{heldOnly};
 ghost use Rattle.table.specs.Octets.{recordPut, recordKept};
 ghost use Rattle.table.specs.Updates.{clocked, totalled, inserted, streamAt, totalsAt};
-ghost use Rattle.table.specs.Places.{Stands, PortIn, SlotIn, StandsOn, RoomAt};
+ghost use Rattle.table.specs.Places.{Stands, PortIn, SlotIn, StandsOn, RoomAt, RecordTo};
 ghost use Rattle.table.specs.Reads.{ReadsCell, ReadsResult, ReadsFixed, ReadsPort, ReadsTotals, ReadsOwn};
 
 pub mod cell;
@@ -32,7 +32,7 @@ pub const TOTAL: usize = TOTAL_B + 5;
 
 pub const FIXED: usize = cell::PRIORITY + 1 - cell::DESTINATION;
 
-pub const CELL: usize = cell::LISTENER_SINCE + 4;
+pub const CELL: usize = cell::LISTENER + cell::LISTENER_PART;
 
 pub const RESULT: usize = result::DECLARED + 1;
 
@@ -336,7 +336,7 @@ pub fn move_down(s: &mut [u8], at: usize, d: usize, n: usize)
 
 // An empty record for the stream id at place k of n: those from there on move up.
 fn put_record(table: &mut [u8], n: usize, k: usize, id: u64)
-    requires { ⌜ (length (now table) ≡ tableLength) × (k ≤ n) × (n < 64) ⌝ }
+    requires { ⌜ RecordTo (now table) k n ⌝ }
     ensures { λ _. ⌜ now (table .exit) ≡ recordPut n k id (now (table .entry)) ⌝ }
 {
     let at = RECORDS + k * RECORD;
@@ -376,7 +376,7 @@ fn is_held(rec: &[u8]) -> bool
 
 // The record at place i, moved down to place j.
 fn keep_record(table: &mut [u8], i: usize, j: usize)
-    requires { ⌜ (length (now table) ≡ tableLength) × (j ≤ i) × (i < 64) ⌝ }
+    requires { ⌜ RecordTo (now table) j i ⌝ }
     ensures { λ _. ⌜ now (table .exit) ≡ recordKept i j (now (table .entry)) ⌝ }
 {
     if j < i {

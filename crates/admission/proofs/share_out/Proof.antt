@@ -18,13 +18,13 @@ store-total-requires : tie.Need-store-total-requires
 store-total-requires c κs =
     let o = c .before .before .before .before .before .before .before .before .before .before .in-order in
     let t = c .before .before .before .take-turns .ensures in
-    after-in (c .before .before .before .before .before .before .before .before .before .before .before .before .before .before .before .pre .0) _ (o .result) (o .last .1 .1 .1 .0) (o .ensures .0) _ _ (c .before .before .before .before .before .before .limit-in-force .ensures) _ (t .0) (t .1)
+    after-in (c .before .before .before .before .before .before .before .before .before .before .before .before .before .before .before .pre .0) _ (o .result) (o .last .1 .1 .1 .0) (o .ensures .0) _ _ (c .before .before .before .before .before .before .limit-in-force .ensures .0) _ (t .used) (t .table)
 
 returns : tie.Need-returns
 returns c =
     let o = c .before .before .before .before .before .before .before .before .before .before .before .before .before .in-order in
     let t = c .before .before .before .before .before .before .take-turns .ensures in
-    whole (c .before .before .before .before .before .before .before .before .before .before .before .before .before .before .before .before .before .before .pre .0) _ (o .result) (o .last .1 .1 .1 .0) (o .ensures .0) _ _ (c .before .before .before .before .before .before .before .before .before .limit-in-force .ensures) _ (t .0) (t .1) _ (c .before .before .store-total .ensures)
+    whole (c .before .before .before .before .before .before .before .before .before .before .before .before .before .before .before .before .before .before .pre .0) _ (o .result) (o .last .1 .1 .1 .0) (o .ensures .0) _ _ (c .before .before .before .before .before .before .before .before .before .limit-in-force .ensures .0) _ (t .used) (t .table) _ (c .before .before .store-total .ensures)
 
 pub share-out-spec : {M : Type 1} → statement M
 share-out-spec =

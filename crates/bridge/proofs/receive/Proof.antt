@@ -1,5 +1,4 @@
 -- `bridge::receive` meets its contract. Assumes nothing.
-use Prim.Native.Nat.{_-_}
 use mathlib.Core.Path.{sym, _∙_}
 use native.Mathlib.Omega.{arith}
 use borrow.Author.Needs.{needs}
@@ -29,7 +28,7 @@ receive-frame-requires c κs =
     let o = octets-of t (λ i. omega (arith, c .before .before .before .before .before .before .before .before .before .before .before .slice-known .given i)) in (
       record {
         laid = formed-laid t o f;
-        place = omega (arith, c .before .before .before .before .before .ports .ensures .1, c .before .before .before .if3 .left);
+        port = omega (arith, c .before .before .before .before .before .ports .ensures .1, c .before .before .before .if3 .left);
         found = accepted-found _ (sym (c .before .before .check .ensures) ∙ c .before .if4 .taken);
       },
       formed-held t o f,

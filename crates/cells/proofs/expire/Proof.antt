@@ -7,7 +7,7 @@ use Rattle.cells.proofs.expire.Tie as tie
 returns : tie.Need-returns
 returns c st e =
     let a = c .before .before .before .before .before .before .before .before .before .args in
-    expires-both st (a .leave) (a .time) e (a .cell .now) _ _ (c .before .before .before .before .before .before .before .before .before .pre .0) (c .before .before .before .before .before .before .lapse .ensures) (c .before .before .lapse2 .ensures)
+    expires-both st (a .leave) (a .time) e (a .cell .now) _ _ (c .before .before .before .before .before .before .before .before .before .pre .laid) (c .before .before .before .before .before .before .lapse .ensures) (c .before .before .lapse2 .ensures)
 
 pub expire-spec : {M : Type 1} → statement M
 expire-spec =

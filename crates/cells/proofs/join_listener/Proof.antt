@@ -15,7 +15,7 @@ returns c clock id =
     let p = c .before .before .before .before .before .before .before .before .before .pre in
     c .before .before .clear .ensures
     ∙ ap (patch listenerLeavesPlace leavingSize (zeros leavingSize)) (c .before .before .before .before .before .before .put .ensures)
-    ∙ listens (a .four) (p .2) (p .3) clock id (a .cell .now) (p .0)
+    ∙ listens (a .four) (p .low) (p .high) clock id (a .cell .now) (p .laid)
 
 pub join-listener-spec : {M : Type 1} → statement M
 join-listener-spec =

@@ -16,7 +16,7 @@ use Rattle.cells.proofs.join_talker.Tie as tie
 -- at the first read: FirstValue is long enough, and the step is the act's
 module _ (c : tie.After-shared-slice-known) where
   long : advertiseLength ≤ length (c .before .before .args .first .now)
-  long = omega (arith, first-long (c .before .before .args .kind) (c .before .before .pre .2) (c .before .before .pre .3))
+  long = omega (arith, first-long (c .before .before .args .kind) (c .before .before .pre .low) (c .before .before .pre .high))
 
   failed : c .before .before .args .kind ≡ 2 → failedLength ≤ length (c .before .before .args .first .now)
   failed e = omega (arith, first-failed (c .before .before .args .kind) e)
@@ -27,13 +27,13 @@ module _ (c : tie.After-shared-slice-known) where
   acts clock =
       let a = c .before .before .args in
       let p = c .before .before .pre in
-      joins (a .kind) (p .2) (p .3) (a .first .now) long (λ i. omega (arith, c .shared-slice-known .given i)) (a .n) clock (a .cell .now) (p .0)
+      joins (a .kind) (p .low) (p .high) (a .first .now) long (λ i. omega (arith, c .shared-slice-known .given i)) (a .n) clock (a .cell .now) (p .laid)
 
 write-varying-requires : tie.Need-write-varying-requires
-write-varying-requires c κs = (omega arith, long (c .before .before .before), failed (c .before .before .before))
+write-varying-requires c κs = record { size = omega arith; octets = long (c .before .before .before); failure = failed (c .before .before .before) }
 
 write-fixed-requires : tie.Need-write-fixed-requires
-write-fixed-requires c κs = (omega arith, long (c .before .before .before .before .before .before .before), omega arith)
+write-fixed-requires c κs = record { size = omega arith; octets = long (c .before .before .before .before .before .before .before); destination = omega arith }
 
 returns : tie.Need-returns
 returns c clock =
@@ -44,10 +44,11 @@ returns c clock =
     ∙ acts (c .before .before .before .before .before .before .before .before .before .before) clock
 
 is-same-requires : tie.Need-is-same-requires
-is-same-requires c κs = (omega arith, long (c .before .before .before), omega arith)
+is-same-requires c κs = record { size = omega arith; octets = long (c .before .before .before); destination = omega arith }
 
 write-varying-requires-2 : tie.Need-write-varying-requires-2
-write-varying-requires-2 c κs = (omega arith, long (c .before .before .before .before .before .before), failed (c .before .before .before .before .before .before))
+write-varying-requires-2 c κs =
+    record { size = omega arith; octets = long (c .before .before .before .before .before .before); failure = failed (c .before .before .before .before .before .before) }
 
 returns-2 : tie.Need-returns-2
 returns-2 c clock =

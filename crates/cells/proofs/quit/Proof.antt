@@ -11,24 +11,24 @@ returns : tie.Need-returns
 unfolding kindAt
 returns c =
     let a = c .before .before .before .before .before .before .before .before .args in
-    rw (c .before .before .before .before .before .before .if1 .taken) (c .before .before .begin .ensures ∙ quits-listener (a .cell .now) (c .before .before .before .before .before .before .before .before .pre .0) (a .clock) (c .before .before .before .before .if2 .taken))
+    rw (c .before .before .before .before .before .before .if1 .taken) (c .before .before .begin .ensures ∙ quits-listener (a .cell .now) (c .before .before .before .before .before .before .before .before .pre .laid) (a .clock) (c .before .before .before .before .if2 .taken))
 
 returns-2 : tie.Need-returns-2
 unfolding kindAt
 returns-2 c =
     let a = c .before .before .before .before .args in
-    rw (c .before .before .if1 .taken) (quits-no-listener (a .cell .now) (c .before .before .before .before .pre .0) (a .clock) (omega arith))
+    rw (c .before .before .if1 .taken) (quits-no-listener (a .cell .now) (c .before .before .before .before .pre .laid) (a .clock) (omega arith))
 
 returns-3 : tie.Need-returns-3
 returns-3 c =
     let a = c .before .before .before .before .before .before .before .before .args in
     c .before .before .begin2 .ensures
-    ∙ quits-talker (a .cell .now) (c .before .before .before .before .before .before .before .before .pre .0) (a .clock) (a .kind) (c .before .before .before .before .before .before .before .before .pre .2) (omega arith) (c .before .before .before .before .if3 .taken)
+    ∙ quits-talker (a .cell .now) (c .before .before .before .before .before .before .before .before .pre .laid) (a .clock) (a .kind) (c .before .before .before .before .before .before .before .before .pre .low) (omega arith) (c .before .before .before .before .if3 .taken)
 
 returns-4 : tie.Need-returns-4
 returns-4 c =
     let a = c .before .before .before .before .args in
-    quits-no-talker (a .cell .now) (c .before .before .before .before .pre .0) (a .clock) (a .kind) (c .before .before .before .before .pre .2) (omega arith) (c .if3 .left)
+    quits-no-talker (a .cell .now) (c .before .before .before .before .pre .laid) (a .clock) (a .kind) (c .before .before .before .before .pre .low) (omega arith) (c .if3 .left)
 
 pub quit-spec : {M : Type 1} → statement M
 quit-spec =

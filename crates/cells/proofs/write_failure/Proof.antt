@@ -9,12 +9,12 @@ use Rattle.cells.proofs.write_failure.Tie as tie
 
 get-requires : tie.Need-get-requires
 get-requires c κs =
-    let h = c .before .before .before .before .pre .2 (c .before .if1 .taken) in
+    let h = c .before .before .before .before .pre .failure (c .before .if1 .taken) in
     (omega arith, omega arith)
 
 shared-slice-read-put : tie.Need-shared-slice-read-put
 shared-slice-read-put c =
-    let h = c .before .before .before .before .before .before .before .before .before .before .pre .2 (c .before .before .before .before .before .before .before .if1 .taken) in
+    let h = c .before .before .before .before .before .before .before .before .before .before .pre .failure (c .before .before .before .before .before .before .before .if1 .taken) in
     omega arith
 
 cast-put : tie.Need-cast-put

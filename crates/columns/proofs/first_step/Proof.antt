@@ -19,11 +19,11 @@ use Rattle.columns.proofs.first_step.Tie as tie
 abbrev Reaches : tie.Else1 → (Scene → List ℕ → List ℕ → List ℕ → ℕ → ℕ → Column) → Type 0
 Reaches c steps =
     let a = c .before .before .before .before .before .before .before .args in
-    decided (sceneOf (decode (a .table .now))) (a .port .now) (a .here .now) (a .talker .now) (a .p) (a .t)
-    ≡ steps (sceneOf (decode (a .table .now))) (a .port .now) (a .here .now) (a .talker .now) (a .p) (a .t)
+    decided (sceneOf (decode (a .table .now))) (a .port .now) (a .here .now) (a .said .now) (a .p) (a .t)
+    ≡ steps (sceneOf (decode (a .table .now))) (a .port .now) (a .here .now) (a .said .now) (a .p) (a .t)
 
 -- the class, as the calls of `supports` and `no_class` were asked with it
-class-read : (c : tie.After-class-of) → let a = c .before .before .before .before .before .before .before .before .before .before .args in classShown (c .class-of .result) ≡ class (sceneOf (decode (a .table .now))) (a .port .now) (a .here .now) (a .talker .now) (a .p) (a .t)
+class-read : (c : tie.After-class-of) → let a = c .before .before .before .before .before .before .before .before .before .before .args in classShown (c .class-of .result) ≡ class (sceneOf (decode (a .table .now))) (a .port .now) (a .here .now) (a .said .now) (a .p) (a .t)
 class-read c = rw (← (c .before .get .ensures .0)) (c .class-of .ensures)
 
 reaches-a : (c : tie.Else1) → Reaches c from-a
@@ -37,7 +37,7 @@ reaches-c c = reaches-b (c .before .before .before .before) ∙ rw (← class-re
 
 reaches-d : (c : tie.Else4) → Reaches (c .before .before .before .before .before .before) from-d
 reaches-d c =
-    let e : getD (c .before .before .before .before .before .before .before .before .before .before .before .before .before .args .talker .now) 0 0 ≡ 1 = omega (arith, c .if4 .left) in
+    let e : getD (c .before .before .before .before .before .before .before .before .before .before .before .before .before .args .said .now) 0 0 ≡ 1 = omega (arith, c .if4 .left) in
     reaches-c (c .before) ∙ rw (eq-eqb _ _ e)
 
 reaches-e : (c : tie.Else5) → Reaches (c .before .before .before .before .before .before .before) from-e

@@ -26,7 +26,11 @@ zero-from-requires : tie.Need-zero-from-requires
 zero-from-requires c κs = omega (arith, few c)
 
 totals-within-requires : tie.Need-totals-within-requires
-totals-within-requires c κs = (omega arith, few (c .before .before .before), omega (arith, few (c .before .before .before)))
+totals-within-requires c κs = record {
+  size = omega arith;
+  few = few (c .before .before .before);
+  octets = omega (arith, few (c .before .before .before));
+}
 
 returns-2 : tie.Need-returns-2
 returns-2 c =

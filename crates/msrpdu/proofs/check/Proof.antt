@@ -4,9 +4,9 @@ use mathlib.Core.Path.{_≡_, sym, ap, _∙_}
 use native.Mathlib.Omega.{arith}
 use borrow.Author.Needs.{needs}
 use lib.ListN.{length, getD, take, drop}
-use Rattle.model.specs.Frames.{typeOctet, both, messages, walk}
+use Rattle.model.specs.Frames.{typeOctet}
 use Rattle.msrpdu.specs.Reader.{messageRead, typedRead, numberOf}
-use Rattle.msrpdu.proofs.Walking.{vectorsIn, messages-refused, messages-end, messages-skipped, messages-list, ahead-skipped, ahead-list, list-length, walk-empty, walk-long, walk-in, number-refused, number-end, number-next}
+use Rattle.msrpdu.proofs.Walking.{PduLeft, ListLeft, messages-refused, messages-end, messages-skipped, messages-list, ahead-skipped, ahead-list, list-length, walk-empty, walk-long, walk-in, number-refused, number-end, number-next}
 use Rattle.msrpdu.proofs.Reading.{within}
 use Rattle.msrpdu.specs.declared.MessageRead.the-variants.{Skipped, List}
 use Rattle.msrpdu.specs.declared.VectorRead.the-variants.{Vector}
@@ -14,17 +14,13 @@ use Rattle.msrpdu.proofs.check.Statement.{statement}
 use Rattle.msrpdu.proofs.check.Tie as tie
 
 abbrev Inv-loop : tie.InvT-loop
-Inv-loop pdu n version at kind start end place₀ place =
-    (start ≤ end) × (end ≤ length pdu) × (at < end) × (place ≤ end - start)
-    × (f g : ℕ) × (end - start ≤ place + f) × (length pdu ≤ end + g)
-    × (numberOf (both (vectorsIn (typeOctet 0 kind) (suc f) (take (end - start) (drop start pdu)) place) (messages (suc g) version pdu end)) ≡ numberOf (walk pdu))
+Inv-loop pdu n version at kind start end reached₀ reached = ListLeft pdu version at kind start end reached
 
 abbrev μ-loop : tie.MeasureT-loop
-μ-loop pdu n version at kind start end place₀ place = end - start - place
+μ-loop pdu n version at kind start end reached₀ reached = end - start - reached
 
 abbrev Inv-messages : tie.InvT-messages
-Inv-messages pdu n version at₀ at =
-    (at ≤ length pdu) × (f : ℕ) × (length pdu ≤ at + f) × (numberOf (messages (suc f) version pdu at) ≡ numberOf (walk pdu))
+Inv-messages pdu n version at₀ at = PduLeft pdu version at
 
 abbrev μ-messages : tie.MeasureT-messages
 μ-messages pdu n version at₀ at = length pdu - at
@@ -44,16 +40,16 @@ a-list c = sym (c .before .before .before .message .ensures) ∙ c .before .m3 .
 a-vector : (c : tie.After-known-told5 Inv-loop μ-loop Inv-messages μ-messages) →
     let m = c .before .before .before .before .before .before .before .m3 .given .0 .0 in
     let pdu = c .before .before .before .before .before .before .before .before .before .before .before .before .before .before .before .args .pdu .now in
-    typedRead (typeOctet 0 (m .kind)) (take (m .next - m .list) (drop (m .list) pdu)) (c .before .before .before .before .before .loop .place) ≡ Vector (c .before .v2 .given .0 .0)
+    typedRead (typeOctet 0 (m .kind)) (take (m .next - m .list) (drop (m .list) pdu)) (c .before .before .before .before .before .loop .reached) ≡ Vector (c .before .v2 .given .0 .0)
 a-vector c = sym (c .before .before .before .typed-vector .ensures) ∙ c .before .v2 .given .1
 
 ends : (c : tie.After-known-told5 Inv-loop μ-loop Inv-messages μ-messages) →
     let m = c .before .before .before .before .before .before .before .m3 .given .0 .0 in
-    (c .before .before .before .before .before .loop .place + 2 ≤ c .before .v2 .given .0 .0 .next) × (c .before .v2 .given .0 .0 .next ≤ m .next - m .list)
+    (c .before .before .before .before .before .loop .reached + 2 ≤ c .before .v2 .given .0 .0 .next) × (c .before .v2 .given .0 .0 .next ≤ m .next - m .list)
 ends c =
     let i = c .before .before .before .before .before .loop .inv in
     let w = within _ _ _ _ (a-vector c) in
-    let e = list-length (c .before .before .before .before .before .before .before .before .before .before .before .before .before .before .before .args .pdu .now) _ _ (i .0) (i .1) in
+    let e = list-length (c .before .before .before .before .before .before .before .before .before .before .before .before .before .before .before .args .pdu .now) _ _ (i .list) (i .within) in
     (omega arith, omega arith)
 
 returns : tie.Need-returns Inv-loop μ-loop Inv-messages μ-messages
@@ -65,13 +61,12 @@ unfolding numberOf
 returns-2 c = sym (ap numberOf (walk-long _ (c .before .if1 .left) (c .if2 .taken)))
 
 messages-holds : tie.Need-messages-holds Inv-loop μ-loop Inv-messages μ-messages
-messages-holds c = (
-  omega arith,
-  length (c .before .before .before .before .args .pdu .now),
-  omega arith,
-  sym
-      (ap numberOf (walk-in _ (c .before .before .if1 .left) (c .before .if2 .left))),
-)
+messages-holds c = record {
+  within = omega arith;
+  turns = length (c .before .before .before .before .args .pdu .now);
+  enough = omega arith;
+  answer = sym (ap numberOf (walk-in _ (c .before .before .if1 .left) (c .before .if2 .left)));
+}
 
 messages-less : tie.Need-messages-less Inv-loop μ-loop Inv-messages μ-messages
 messages-less c = omega (arith, ahead-skipped _ _ _ _ (a-skip c))
@@ -80,25 +75,31 @@ messages-again : tie.Need-messages-again Inv-loop μ-loop Inv-messages μ-messag
 messages-again c =
     let i = c .before .before .before .before .messages .inv in
     let a = ahead-skipped _ _ _ _ (a-skip c) in
-    let e : i .1 ≡ suc (i .1 - 1) = omega arith in
-    (a .1, i .1 - 1, omega arith, rw (← e) (sym (ap numberOf (messages-skipped _ _ _ _ _ (a-skip c))) ∙ i .3))
+    let e : i .turns ≡ suc (i .turns - 1) = omega arith in
+    record {
+      within = a .1;
+      turns = i .turns - 1;
+      enough = omega arith;
+      answer = rw (← e) (sym (ap numberOf (messages-skipped _ _ _ _ _ (a-skip c))) ∙ i .answer);
+    }
 
 loop-holds : tie.Need-loop-holds Inv-loop μ-loop Inv-messages μ-messages
 loop-holds c =
     let i = c .before .before .before .before .messages .inv in
     let a = ahead-list _ _ _ _ (a-list c) in
     let m = c .before .m3 .given .0 .0 in
-    let e : i .1 ≡ suc (i .1 - 1) = omega arith in (
-      omega arith,
-      omega arith,
-      omega arith,
-      omega arith,
-      m .next - m .list,
-      i .1 - 1,
-      omega arith,
-      omega arith,
-      rw (← e) (sym (ap numberOf (messages-list _ _ _ _ _ (a-list c))) ∙ i .3),
-    )
+    let e : i .turns ≡ suc (i .turns - 1) = omega arith in
+    record {
+      list = a .ends;
+      within = a .within;
+      ahead = omega arith;
+      inside = omega arith;
+      turns = m .next - m .list;
+      later = i .turns - 1;
+      enough = omega arith;
+      enough-later = omega arith;
+      answer = rw (← e) (sym (ap numberOf (messages-list _ _ _ _ _ (a-list c))) ∙ i .answer);
+    }
 
 loop-less : tie.Need-loop-less Inv-loop μ-loop Inv-messages μ-messages
 loop-less c = omega (arith, ends c)
@@ -107,43 +108,49 @@ loop-again : tie.Need-loop-again Inv-loop μ-loop Inv-messages μ-messages
 loop-again c =
     let i = c .before .before .before .before .before .loop .inv in
     let a = ends c in
-    let e : i .4 ≡ suc (i .4 - 1) = omega arith in (
-      i .0,
-      i .1,
-      i .2,
-      a .1,
-      i .4 - 1,
-      i .5,
-      omega arith,
-      i .7,
-      sym (number-next _ _ _ _ _ _ (a-vector c) _ e) ∙ i .8,
-    )
+    let e : i .turns ≡ suc (i .turns - 1) = omega arith in
+    record {
+      list = i .list;
+      within = i .within;
+      ahead = i .ahead;
+      inside = a .1;
+      turns = i .turns - 1;
+      later = i .later;
+      enough = omega arith;
+      enough-later = i .enough-later;
+      answer = sym (number-next _ _ _ _ _ _ (a-vector c) _ e) ∙ i .answer;
+    }
 
 messages-less-2 : tie.Need-messages-less-2 Inv-loop μ-loop Inv-messages μ-messages
-messages-less-2 c = omega (arith, c .before .before .before .before .loop .inv .2)
+messages-less-2 c = omega (arith, c .before .before .before .before .loop .inv .ahead)
 
 messages-again-2 : tie.Need-messages-again-2 Inv-loop μ-loop Inv-messages μ-messages
 messages-again-2 c =
     let i = c .before .before .before .before .loop .inv in
-    (i .1, i .5, i .7, sym (number-end _ _ _ _ _ (sym (c .before .before .typed-vector .ensures) ∙ c .enum-told2 .given .1)) ∙ i .8)
+    record {
+      within = i .within;
+      turns = i .later;
+      enough = i .enough-later;
+      answer = sym (number-end _ _ _ _ _ (sym (c .before .before .typed-vector .ensures) ∙ c .enum-told2 .given .1)) ∙ i .answer;
+    }
 
 returns-3 : tie.Need-returns-3 Inv-loop μ-loop Inv-messages μ-messages
 unfolding numberOf
 returns-3 c =
     sym (ap numberOf
     (messages-refused _ _ _ _ _ (sym (c .before .before .before .message .ensures) ∙ c .before .m .given .1))) ∙
-    c .before .before .before .before .messages .inv .3
+    c .before .before .before .before .messages .inv .answer
 
 returns-4 : tie.Need-returns-4 Inv-loop μ-loop Inv-messages μ-messages
 unfolding numberOf
 returns-4 c =
     sym (ap numberOf (messages-end _ _ _ _ (sym (c .before .before .message .ensures) ∙ c .enum-told .given .1))) ∙
-    c .before .before .before .messages .inv .3
+    c .before .before .before .messages .inv .answer
 
 returns-5 : tie.Need-returns-5 Inv-loop μ-loop Inv-messages μ-messages
 returns-5 c =
     sym (number-refused _ _ _ _ _ _ (sym (c .before .before .before .typed-vector .ensures) ∙ c .before .v .given .1)) ∙
-    c .before .before .before .before .before .loop .inv .8
+    c .before .before .before .before .before .loop .inv .answer
 
 pub check-spec : {M : Type 1} → statement M
 check-spec =

@@ -12,18 +12,6 @@ use Rattle.msrpdu.proofs.four_of.Tie as tie
 returns : tie.Need-returns
 returns c = sym (four-past _ _ (c .if1 .taken))
 
-returns-2 : tie.Need-returns-2
-unfolding fourIn fourPacked
-returns-2 c = rw (c .match .keys1)
-
-returns-3 : tie.Need-returns-3
-unfolding fourIn fourPacked
-returns-3 c = rw (c .match .keys2)
-
-returns-4 : tie.Need-returns-4
-unfolding fourIn fourPacked
-returns-4 c = rw (c .match .keys3)
-
 returns-5 : tie.Need-returns-5
 unfolding fourIn fourPacked
 returns-5 c = let k : ℕ = c .before .before .before .args .n % 4 in let e : k ≡ suc (suc (suc (k - 3))) = omega arith in rw e
@@ -31,4 +19,4 @@ returns-5 c = let k : ℕ = c .before .before .before .args .n % 4 in let e : k 
 pub four-of-spec : {M : Type 1} → statement M
 four-of-spec =
     tie.close
-    (tie.spec returns (λ c. search needs) returns-2 returns-3 returns-4 returns-5)
+    (tie.spec returns (λ c. search needs) (λ c. unfold fourIn fourPacked in rw (c .match .keys1)) (λ c. unfold fourIn fourPacked in rw (c .match .keys2)) (λ c. unfold fourIn fourPacked in rw (c .match .keys3)) returns-5)

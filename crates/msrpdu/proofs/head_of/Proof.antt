@@ -1,5 +1,4 @@
 -- `msrpdu::head_of` meets its contract. Assumes nothing.
-use native.Mathlib.Omega.{arith}
 use borrow.Author.Needs.{needs}
 use Rattle.model.specs.Frames.{threeLength, vectorEnd}
 use Rattle.msrpdu.specs.Reader.{headOf}

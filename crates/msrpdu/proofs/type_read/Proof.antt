@@ -11,30 +11,10 @@ use Rattle.msrpdu.proofs.type_read.Tie as tie
 returns : tie.Need-returns
 returns c = let p : 4 < c .before .before .args .kind = omega arith in sym (type-refused _ _ p (c .if1 .taken))
 
-returns-2 : tie.Need-returns-2
-unfolding typeRead typeOctet firstLength
-returns-2 c = rw (c .match .keys1)
-
-returns-3 : tie.Need-returns-3
-unfolding typeRead typeOctet firstLength
-returns-3 c = rw (c .match .keys2)
-
-returns-4 : tie.Need-returns-4
-unfolding typeRead typeOctet firstLength
-returns-4 c = rw (c .match .keys3)
-
-returns-5 : tie.Need-returns-5
-unfolding typeRead typeOctet firstLength
-returns-5 c = rw (c .match .keys4)
-
-returns-6 : tie.Need-returns-6
-unfolding typeRead typeOctet firstLength
-returns-6 c = rw (c .match .keys5)
-
 returns-7 : tie.Need-returns-7
 returns-7 c = let p : 4 < c .before .before .args .kind = omega arith in sym (type-skipped _ _ p (c .if1 .left))
 
 pub type-read-spec : {M : Type 1} → statement M
 type-read-spec =
     tie.close
-    (tie.spec returns returns-2 returns-3 returns-4 returns-5 returns-6 returns-7)
+    (tie.spec returns (λ c. unfold typeRead typeOctet firstLength in rw (c .match .keys1)) (λ c. unfold typeRead typeOctet firstLength in rw (c .match .keys2)) (λ c. unfold typeRead typeOctet firstLength in rw (c .match .keys3)) (λ c. unfold typeRead typeOctet firstLength in rw (c .match .keys4)) (λ c. unfold typeRead typeOctet firstLength in rw (c .match .keys5)) returns-7)

@@ -1,5 +1,5 @@
 -- `registrar::begin_all` meets its contract. Assumes nothing.
-use Prim.Native.Nat.{_-_, _≤_}
+use Prim.Native.Nat.{_≤_}
 use native.Mathlib.Omega.{arith}
 use borrow.Author.Tests.{not-true, not-false}
 use borrow.Author.Needs.{needs}
@@ -13,24 +13,24 @@ returns : tie.Need-returns
 returns c =
     let a = c .before .before .before in
     let w = a .args .walk in
-    rw (not-true (w .applying) (c .if1 .taken)) (leaves-room (w .place) (attributeAt (w .kind)) (a .args .leaves) (a .args .table .now) (a .pre .laid))
+    rw (not-true (w .applying) (c .if1 .taken)) (leaves-room (w .p) (attributeAt (w .kind)) (a .args .leaves) (a .args .table .now) (a .pre .laid))
 
 returns-2 : tie.Need-returns-2
 returns-2 c =
     let a = c .before .before .before .before in
     let w = a .args .walk in
-    rw (none-leaves (attributeAt (w .kind)) (a .args .leaves) (not-true _ (c .if2 .taken))) (walked-none (w .applying) (w .place) (a .args .table .now) (a .pre .laid))
+    rw (none-leaves (attributeAt (w .kind)) (a .args .leaves) (not-true _ (c .if2 .taken))) (walked-none (w .applying) (w .p) (a .args .table .now) (a .pre .laid))
 
 returns-3 : tie.Need-returns-3
 returns-3 c =
     let a = c .before .before .before .before .before .before in
     let w = a .args .walk in
-    rw (domain-leaves (w .kind) (a .args .leaves) (c .if3 .taken)) (walked-none (w .applying) (w .place) (a .args .table .now) (a .pre .laid))
+    rw (domain-leaves (w .kind) (a .args .leaves) (c .if3 .taken)) (walked-none (w .applying) (w .p) (a .args .table .now) (a .pre .laid))
 
 leave-all-requires : tie.Need-leave-all-requires
 leave-all-requires c κs =
     let p = c .before .before .before .before .before .before .before .pre in
-    record { laid = p .laid; place = p .place; low = p .low; high = omega (arith, p .high, c .before .if3 .left) }
+    record { laid = p .laid; port = p .port; low = p .low; high = omega (arith, p .high, c .before .if3 .left) }
 
 returns-4 : tie.Need-returns-4
 returns-4 c =

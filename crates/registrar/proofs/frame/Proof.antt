@@ -6,27 +6,24 @@ use native.Mathlib.Omega.{arith}
 use lib.ListN.{length, getD}
 use borrow.Author.Tests.{not-true, not-false}
 use borrow.Author.Needs.{needs}
-use Rattle.model.specs.Frames.{Vector, found, messages, walk, frameActs}
-use Rattle.model.specs.Laid.{Laid}
+use Rattle.model.specs.Frames.{messages, walk, frameActs}
 use Rattle.msrpdu.specs.Reader.{messageRead}
 use Rattle.msrpdu.specs.declared.MessageHead.{MessageHead}
-use Rattle.msrpdu.proofs.Walking.{ahead-skipped, ahead-list}
+use Rattle.msrpdu.proofs.Walking.{ListWithin, ahead-skipped, ahead-list}
 use Rattle.msrpdu.proofs.Applying.{accepted-length, accepted-messages}
 use Rattle.msrpdu.specs.declared.MessageRead.the-variants as message
 use Rattle.registrar.specs.Acts.{actsOf}
-use Rattle.registrar.proofs.Walks.{walked-laid, Leads, leads-start, leads-on, leads-stopped, leads-end}
+use Rattle.registrar.proofs.Walks.{walked-laid, Walking, leads-start, leads-on, leads-stopped, leads-end}
 use Rattle.registrar.proofs.FrameWalk.{Finds, finds, skipped-list, last-list, no-refusal, NextMessage, next-message}
 use Rattle.registrar.proofs.frame.Statement.{statement}
 use Rattle.registrar.proofs.frame.Tie as tie
 
 abbrev Inv-loop : tie.InvT-loop
-Inv-loop table₀ place applying pdu version at₀ table at =
-    (at ≤ length pdu) × (length table ≡ length table₀) × Laid table
-    × (f : ℕ) × (vs : List Vector) × (messages (suc f) version pdu at ≡ found vs)
-    × Leads applying place (actsOf (walk pdu)) table₀ (frameActs vs) table
+Inv-loop table₀ p applying pdu version at₀ table at =
+    Walking at (length pdu) (λ f. messages (suc f) version pdu at) applying p (actsOf (walk pdu)) table₀ table
 
 abbrev μ-loop : tie.MeasureT-loop
-μ-loop table₀ place applying pdu version at₀ table at = length pdu - at
+μ-loop table₀ p applying pdu version at₀ table at = length pdu - at
 
 -- the vectors of the frame
 found-all : (a : tie.Start Inv-loop μ-loop) → Finds (walk (a .args .pdu .now))
@@ -41,28 +38,31 @@ shared-slice-read-version c = let h = some-octets (c .before .before .before) in
 loop-holds : tie.Need-loop-holds Inv-loop μ-loop
 loop-holds c =
     let a = c .before .before .before in
-    let n = found-all a in (
-      some-octets a,
-      refl,
-      a .pre .laid,
-      length (a .args .pdu .now),
-      n .all,
-      accepted-messages (a .args .pdu .now) (n .all) (n .is),
-      rw (n .acts) (leads-start (a .args .applying) (a .args .place) (frameActs (n .all)) (a .args .table .now)),
-    )
+    let n = found-all a in
+    record {
+      turns = length (a .args .pdu .now);
+      left = n .all;
+      finds = accepted-messages (a .args .pdu .now) (n .all) (n .is);
+      going = record {
+        within = some-octets a;
+        size = refl;
+        laid = a .pre .laid;
+        leads = rw (n .acts) (leads-start (a .args .applying) (a .args .p) (frameActs (n .all)) (a .args .table .now));
+      };
+    }
 
 -- a well-formed frame is not refused
 returns : tie.Need-returns Inv-loop μ-loop
 returns c =
     let l = c .before .before .before .loop in
-    absurd (no-refusal (l .inv .3) _ _ (l .at) (l .inv .4) (l .inv .5) _ (sym (c .before .before .message .ensures) ∙ c .enum-told .given .1))
+    absurd (no-refusal (l .inv .turns) _ _ (l .at) (l .inv .left) (l .inv .finds) _ (sym (c .before .before .message .ensures) ∙ c .enum-told .given .1))
 
 returns-2 : tie.Need-returns-2 Inv-loop μ-loop
 returns-2 c =
     let a = c .before .before .before .before .before .before .before .args in
     let l = c .before .before .before .loop in
-    leads-end (a .applying) (a .place) _ _ _ _ (l .inv .6)
-    (last-list (l .inv .3) _ _ (l .at) (l .inv .4) (l .inv .5) (sym (c .before .before .message .ensures) ∙ c .enum-told2 .given .1)) (l .inv .2)
+    leads-end (a .applying) (a .p) _ _ _ _ (l .inv .going .leads)
+    (last-list (l .inv .turns) _ _ (l .at) (l .inv .left) (l .inv .finds) (sym (c .before .before .message .ensures) ∙ c .enum-told2 .given .1)) (l .inv .going .laid)
 
 -- a Message that is skipped
 skipped : (c : tie.After-known-told Inv-loop μ-loop) →
@@ -74,15 +74,14 @@ loop-less c = let h = ahead-skipped _ _ _ _ (skipped c) in omega arith
 
 loop-again : tie.Need-loop-again Inv-loop μ-loop
 loop-again c =
-    let l = c .before .before .before .before .loop in (
-      ahead-skipped _ _ _ _ (skipped c) .1,
-      l .inv .1,
-      l .inv .2,
-      l .inv .3 - 1,
-      l .inv .4,
-      skipped-list (l .inv .3) _ _ (l .at) (l .inv .4) (l .inv .5) _ (skipped c),
-      l .inv .6,
-    )
+    let l = c .before .before .before .before .loop in
+    let g = l .inv .going in
+    record {
+      turns = l .inv .turns - 1;
+      left = l .inv .left;
+      finds = skipped-list (l .inv .turns) _ _ (l .at) (l .inv .left) (l .inv .finds) _ (skipped c);
+      going = record { within = ahead-skipped _ _ _ _ (skipped c) .1; size = g .size; laid = g .laid; leads = g .leads };
+    }
 
 -- a Message whose list is read: its acts are the first of those left
 module _ (c : tie.After-known-told2 Inv-loop μ-loop) where
@@ -95,22 +94,22 @@ module _ (c : tie.After-known-told2 Inv-loop μ-loop) where
   read : messageRead (getD pdu 0 0) pdu (c .before .before .before .before .loop .at) ≡ message.List head
   read = sym (c .before .before .before .message .ensures) ∙ c .before .m2 .given .1
 
-  next : NextMessage (c .before .before .before .before .loop .inv .3) (getD pdu 0 0) pdu (c .before .before .before .before .loop .at) (c .before .before .before .before .loop .inv .4) (c .before .before .before .before .loop .inv .5) head
+  next : NextMessage (c .before .before .before .before .loop .inv .turns) (getD pdu 0 0) pdu (c .before .before .before .before .loop .at) (c .before .before .before .before .loop .inv .left) (c .before .before .before .before .loop .inv .finds) head
   next =
       let l = c .before .before .before .before .loop in
-      next-message (l .inv .3) (getD pdu 0 0) pdu (l .at) (l .inv .4) (l .inv .5) head read
+      next-message (l .inv .turns) (getD pdu 0 0) pdu (l .at) (l .inv .left) (l .inv .finds) head read
 
-  places : (head .list ≡ c .before .before .before .before .loop .at + 4) × (head .list ≤ head .next) × (head .next ≤ length pdu)
-  places = ahead-list (getD pdu 0 0) pdu (c .before .before .before .before .loop .at) head read
+  ends : ListWithin pdu (c .before .before .before .before .loop .at) head
+  ends = ahead-list (getD pdu 0 0) pdu (c .before .before .before .before .loop .at) head read
 
 sub-list : tie.Need-sub-list Inv-loop μ-loop
-sub-list c = let h = places (c .before) in search needs
+sub-list c = let h = ends (c .before) in search needs
 
 part-list-start : tie.Need-part-list-start Inv-loop μ-loop
-part-list-start c = let h = places (c .before) in search needs
+part-list-start c = let h = ends (c .before) in search needs
 
 part-list-end : tie.Need-part-list-end Inv-loop μ-loop
-part-list-end c = let h = places (c .before) in search needs
+part-list-end c = let h = ends (c .before) in search needs
 
 list-requires : tie.Need-list-requires Inv-loop μ-loop
 list-requires c κs =
@@ -118,7 +117,7 @@ list-requires c κs =
     let n = next d in
     let p = d .before .before .before .before .before .before .before .before .pre in
     record {
-      walk = record { laid = d .before .before .before .before .loop .inv .2; place = p .place; low = n .low; high = n .high };
+      walk = record { laid = d .before .before .before .before .loop .inv .going .laid; port = p .port; low = n .low; high = n .high };
       found = n .there;
     }
 
@@ -126,11 +125,11 @@ returns-3 : tie.Need-returns-3 Inv-loop μ-loop
 returns-3 c =
     let d = c .before .before .before .before .before .before in
     let a = d .before .before .before .before .before .before .before .before .args in
-    leads-stopped (a .applying) (a .place) _ _ _ _ (d .before .before .before .before .loop .inv .6) _ _ _ (next d .acts)
+    leads-stopped (a .applying) (a .p) _ _ _ _ (d .before .before .before .before .loop .inv .going .leads) _ _ _ (next d .acts)
     (rw (not-true (c .before .before .before .list .result) (c .if1 .taken)) at (c .before .before .before .list .ensures))
 
 loop-less-2 : tie.Need-loop-less-2 Inv-loop μ-loop
-loop-less-2 c = let h = places (c .before .before .before .before .before .before) in omega arith
+loop-less-2 c = let h = ends (c .before .before .before .before .before .before) in omega arith
 
 loop-again-2 : tie.Need-loop-again-2 Inv-loop μ-loop
 loop-again-2 c =
@@ -138,15 +137,18 @@ loop-again-2 c =
     let a = d .before .before .before .before .before .before .before .before .args in
     let l = d .before .before .before .before .loop in
     let n = next d in
-    let w = rw (not-false (c .before .before .before .list .result) (c .if1 .left)) at (c .before .before .before .list .ensures) in (
-      places d .2,
-      search needs,
-      walked-laid w,
-      l .inv .3 - 1,
-      n .rest,
-      n .left,
-      leads-on (a .applying) (a .place) _ _ _ _ (l .inv .6) _ _ _ (n .acts) w,
-    )
+    let w = rw (not-false (c .before .before .before .list .result) (c .if1 .left)) at (c .before .before .before .list .ensures) in
+    record {
+      turns = l .inv .turns - 1;
+      left = n .rest;
+      finds = n .left;
+      going = record {
+        within = ends d .within;
+        size = search needs;
+        laid = walked-laid w;
+        leads = leads-on (a .applying) (a .p) _ _ _ _ (l .inv .going .leads) _ _ _ (n .acts) w;
+      };
+    }
 
 pub frame-spec : {M : Type 1} → statement M
 frame-spec =

@@ -1,6 +1,5 @@
 -- `registrar::join` meets its contract. Assumes nothing.
 use Prim.Native.Nat.{ℕ, _<_}
-use mathlib.Core.Path.{_≡_}
 use mathlib.Core.List.{List}
 use lib.ListN.{length}
 use borrow.Author.Needs.{needs}
@@ -28,7 +27,7 @@ returns : tie.Need-returns
 returns c =
     let a = c .before .before .before .before .before .before .before .before in
     let n = rw (c .enum-told .given .1) at (c .before .before .before .before .enrol .ensures) in
-    join-stopped (a .args .walk .place) (a .args .id) _ (joins a) (a .args .table .now) (a .pre .walk .laid) (a .args .walk .applying) _ n
+    join-stopped (a .args .walk .p) (a .args .id) _ (joins a) (a .args .table .now) (a .pre .walk .laid) (a .args .walk .applying) _ n
 
 -- where there is a record
 module _ (c : tie.After-known-told) where
@@ -56,31 +55,31 @@ module _ (c : tie.After-known-told) where
       join-fits (a .walk .kind) (a .first .now) (a .n) (p .value) (p .registers) (λ i. c .before .before .before .before .before .before .before .shared-slice-known .given i .fits) (a .four)
 
   laid : Laid u
-  laid = let a = c .before .before .before .before .before .before .before .before .before in enrolled-laid (a .args .walk .place) (a .args .id) act (joins a) t (a .pre .walk .laid) k u recorded fitting
+  laid = let a = c .before .before .before .before .before .before .before .before .before in enrolled-laid (a .args .walk .p) (a .args .id) act (joins a) t (a .pre .walk .laid) k u recorded fitting
 
   within : k < length (decode u .streams)
   within =
       let a = c .before .before .before .before .before .before .before .before .before in
-      at-place (a .args .id) k (decode u .streams) (enrolled-found (a .args .walk .place) (a .args .id) act (joins a) t (a .pre .walk .laid) k u recorded fitting) .within
+      at-place (a .args .id) k (decode u .streams) (enrolled-found (a .args .walk .p) (a .args .id) act (joins a) t (a .pre .walk .laid) k u recorded fitting) .within
 
 join-cell-requires : tie.Need-join-cell-requires
 join-cell-requires c κs =
     let d = c .before .before in
     let p = d .before .before .before .before .before .before .before .before .before .pre in
-    record { stands = record { laid = laid d; held = within d; port = p .walk .place }; registers = p .registers; value = p .value; four = p .four }
+    record { stands = record { laid = laid d; held = within d; port = p .walk .port }; registers = p .registers; value = p .value; four = p .four }
 
 returns-2 : tie.Need-returns-2
 returns-2 c =
     let d = c .before .before .before .before .before in
     let a = d .before .before .before .before .before .before .before .before .before in
     rw (c .before .before .before .before .if1 .taken)
-    (join-applied (a .args .walk .place) (a .args .id) (act d) (joins a) (t d) (a .pre .walk .laid) (k d) (u d) (recorded d) (fitting d) _ (c .before .before .join-cell .ensures))
+    (join-applied (a .args .walk .p) (a .args .id) (act d) (joins a) (t d) (a .pre .walk .laid) (k d) (u d) (recorded d) (fitting d) _ (c .before .before .join-cell .ensures))
 
 returns-3 : tie.Need-returns-3
 returns-3 c =
     let d = c .before in
     let a = d .before .before .before .before .before .before .before .before .before in
-    rw (c .if1 .left) (join-room (a .args .walk .place) (a .args .id) (act d) (joins a) (t d) (a .pre .walk .laid) (k d) (u d) (recorded d) (fitting d))
+    rw (c .if1 .left) (join-room (a .args .walk .p) (a .args .id) (act d) (joins a) (t d) (a .pre .walk .laid) (k d) (u d) (recorded d) (fitting d))
 
 pub join-spec : {M : Type 1} → statement M
 join-spec =

@@ -15,21 +15,22 @@ join-listener-requires c κs =
     let p = c .before .before .before .before .before .before .before .pre in
     let r = lent-cell-at (p .stands) _ (c .before .before .before .cell-in .ensures .0) in
     let f = p .four (c .before .if1 .taken) in
-    (r .laid, r .size, f .0, f .1)
+    record { laid = r .laid; size = r .size; low = f .0; high = f .1 }
 
 join-talker-requires : tie.Need-join-talker-requires
 join-talker-requires c κs =
     let a = c .before .before .before .before .before .before .before .args in
     let p = c .before .before .before .before .before .before .before .pre in
     let r = lent-cell-at (p .stands) _ (c .before .before .before .cell-in .ensures .0) in
-    let k : a .walk .kind ≤ 2 = omega (arith, p .registers, c .before .if1 .left) in (
-      r .laid,
-      r .size,
-      p .value .low,
-      k,
-      first-octets (a .walk .kind) (a .first .now) (a .n) (p .value) (p .registers),
-      destination-fits (a .walk .kind) (a .first .now) (a .n) (p .value) k,
-    )
+    let k : a .walk .kind ≤ 2 = omega (arith, p .registers, c .before .if1 .left) in
+    record {
+      laid = r .laid;
+      size = r .size;
+      low = p .value .low;
+      high = k;
+      octets = first-octets (a .walk .kind) (a .first .now) (a .n) (p .value) (p .registers);
+      destination = destination-fits (a .walk .kind) (a .first .now) (a .n) (p .value) k;
+    }
 
 returns : tie.Need-returns
 returns c clock =

@@ -1,24 +1,22 @@
 -- `registrar::leave_all` meets its contract. The invariant: the streams before the loop's place are changed. Assumes nothing.
-use Prim.Native.Nat.{_-_, _≤_}
+use Prim.Native.Nat.{_-_}
 use mathlib.Core.Path.{_≡_, refl}
 use native.Mathlib.Omega.{arith}
-use lib.ListN.{length}
 use borrow.Author.Needs.{needs}
-use Rattle.model.specs.Table.{encode, decode}
+use Rattle.model.specs.Table.{decode}
 use Rattle.table.proofs.ByPlace.{stands-on}
-use Rattle.table.proofs.EachStream.{partly, none-yet, partly-stands, one-more, all-done}
+use Rattle.table.proofs.EachStream.{Partly, none-yet, partly-stands, one-more, all-done}
 use Rattle.cells.specs.Acts.{kindAt}
 use Rattle.registrar.proofs.Touched.{leaving, leaving-fits, leaving-id, all-left}
 use Rattle.registrar.proofs.leave_all.Statement.{statement}
 use Rattle.registrar.proofs.leave_all.Tie as tie
 
 abbrev Inv-loop : tie.InvT-loop
-Inv-loop table₀ place kind held now k₀ table k =
-    (k ≤ held) × (held ≡ length (decode table₀ .streams)) × (now ≡ decode table₀ .clock) × (length table ≡ length table₀)
-    × (table ≡ encode (partly (leaving place now (kindAt kind)) table₀ k))
+Inv-loop table₀ p kind held now k₀ table k =
+    Partly (leaving p now (kindAt kind)) table₀ held table k × (now ≡ decode table₀ .clock)
 
 abbrev μ-loop : tie.MeasureT-loop
-μ-loop table₀ place kind held now k₀ table k = held - k
+μ-loop table₀ p kind held now k₀ table k = held - k
 
 count-requires : tie.Need-count-requires Inv-loop μ-loop
 count-requires c κs = c .before .before .pre .laid
@@ -28,11 +26,8 @@ clock-requires c κs = c .before .before .before .before .pre .laid
 
 loop-holds : tie.Need-loop-holds Inv-loop μ-loop
 loop-holds c = (
-  omega arith,
-  c .before .before .count .ensures .0,
+  record { within = omega arith; count = c .before .before .count .ensures .0; size = refl; is = none-yet _ _ (c .before .before .before .before .before .pre .laid) },
   c .clock .ensures,
-  refl,
-  none-yet _ _ (c .before .before .before .before .before .pre .laid),
 )
 
 quit-cell-requires : tie.Need-quit-cell-requires Inv-loop μ-loop
@@ -41,8 +36,8 @@ quit-cell-requires c κs =
     let a = c .before .before .before .before .before .before .before .before in
     let n = c .before .before .before .clock .result in
     let k = kindAt (a .args .kind) in
-    let s = partly-stands _ (leaving-fits (a .args .place) n (search needs) k) (leaving-id (a .args .place) n k) _ (a .pre .laid) (l .k) _ (l .inv .4) (omega arith) in
-    record { stands = stands-on s _ (a .pre .place); low = a .pre .low; high = a .pre .high }
+    let s = partly-stands _ (leaving-fits (a .args .p) n (search needs) k) (leaving-id (a .args .p) n k) _ (a .pre .laid) (l .k) _ (l .inv .0 .is) (omega arith) in
+    record { stands = stands-on s _ (a .pre .port); low = a .pre .low; high = a .pre .high }
 
 loop-again : tie.Need-loop-again Inv-loop μ-loop
 loop-again c =
@@ -50,19 +45,21 @@ loop-again c =
     let a = c .before .before .before .before .before .before .before .before .before .before .before in
     let n = c .before .before .before .before .before .before .clock .result in
     let k = kindAt (a .args .kind) in (
-      search needs,
+      record {
+        within = search needs;
+        count = l .inv .0 .count;
+        size = search needs;
+        is = one-more _ (leaving-fits (a .args .p) n (search needs) k) (leaving-id (a .args .p) n k) _ (a .pre .laid) (l .k) _ (l .inv .0 .is) _ (c .before .before .quit-cell .ensures);
+      },
       l .inv .1,
-      l .inv .2,
-      search needs,
-      one-more _ (leaving-fits (a .args .place) n (search needs) k) (leaving-id (a .args .place) n k) _ (a .pre .laid) (l .k) _ (l .inv .4) _ (c .before .before .quit-cell .ensures),
     )
 
 returns : tie.Need-returns Inv-loop μ-loop
 returns c =
     let l = c .before .loop in
     let a = c .before .before .before .before .before .before .before in
-    all-left (a .args .place) (kindAt (a .args .kind)) (a .args .table .now) (l .table) (a .pre .laid)
-    (rw (l .inv .2) at (all-done _ _ _ (l .k) (l .inv .4) (omega arith)))
+    all-left (a .args .p) (kindAt (a .args .kind)) (a .args .table .now) (l .table) (a .pre .laid)
+    (rw (l .inv .1) at (all-done _ _ _ (l .k) (l .inv .0 .is) (omega arith)))
 
 pub leave-all-spec : {M : Type 1} → statement M
 leave-all-spec =

@@ -7,23 +7,21 @@ use native.Mathlib.Omega.{arith}
 use lib.ListN.{length}
 use borrow.Author.Tests.{not-true, not-false}
 use borrow.Author.Needs.{needs}
-use Rattle.model.specs.Frames.{typeOctet, Vector, found, vectors, frameActs}
-use Rattle.model.specs.Laid.{Laid}
+use Rattle.model.specs.Frames.{typeOctet, vectors, frameActs}
 use Rattle.msrpdu.specs.Reader.{typedRead}
 use Rattle.msrpdu.specs.declared.VectorHead.{VectorHead}
 use Rattle.msrpdu.proofs.Reading.{Within, within}
 use Rattle.msrpdu.specs.declared.VectorRead.the-variants as VectorRead
 use Rattle.registrar.specs.Acts.{actsOf, attributeAt}
-use Rattle.registrar.proofs.Walks.{walked-laid, Leads, leads-start, leads-on, leads-stopped, leads-end}
+use Rattle.registrar.proofs.Walks.{walked-laid, Walking, leads-start, leads-on, leads-stopped, leads-end}
 use Rattle.registrar.proofs.FrameWalk.{finds, Next, next-vector, last-vector}
 use Rattle.registrar.proofs.list.Statement.{statement}
 use Rattle.registrar.proofs.list.Tie as tie
 
 abbrev Inv-loop : tie.InvT-loop
 Inv-loop table₀ walk list at₀ table at =
-    (at ≤ length list) × (length table ≡ length table₀) × Laid table
-    × (f : ℕ) × (vs : List Vector) × (vectors (suc f) (attributeAt (walk .kind)) list at ≡ found vs)
-    × Leads (walk .applying) (walk .place) (actsOf (vectors (suc (length list)) (attributeAt (walk .kind)) list 0)) table₀ (frameActs vs) table
+    Walking at (length list) (λ f. vectors (suc f) (attributeAt (walk .kind)) list at) (walk .applying) (walk .p)
+    (actsOf (vectors (suc (length list)) (attributeAt (walk .kind)) list 0)) table₀ table
 
 abbrev μ-loop : tie.MeasureT-loop
 μ-loop table₀ walk list at₀ table at = length list - at
@@ -31,15 +29,18 @@ abbrev μ-loop : tie.MeasureT-loop
 loop-holds : tie.Need-loop-holds Inv-loop μ-loop
 loop-holds c =
     let a = c .before .before in
-    let n = finds _ (a .pre .found) in (
-      omega arith,
-      refl,
-      a .pre .walk .laid,
-      length (a .args .list .now),
-      n .all,
-      n .is,
-      rw (n .acts) (leads-start (a .args .walk .applying) (a .args .walk .place) (frameActs (n .all)) (a .args .table .now)),
-    )
+    let n = finds _ (a .pre .found) in
+    record {
+      turns = length (a .args .list .now);
+      left = n .all;
+      finds = n .is;
+      going = record {
+        within = omega arith;
+        size = refl;
+        laid = a .pre .walk .laid;
+        leads = rw (n .acts) (leads-start (a .args .walk .applying) (a .args .walk .p) (frameActs (n .all)) (a .args .table .now));
+      };
+    }
 
 -- no vector is read: none is left
 returns : tie.Need-returns Inv-loop μ-loop
@@ -48,16 +49,16 @@ returns c =
     let l = c .before .before .loop in
     let none : (w : VectorHead) → c .before .typed-vector .result ≡ VectorRead.Vector w → ⊥ = λ w e.
     ⊎-elim (λ z. omega arith) (λ z. omega arith) (rw e at (c .match .keys2)) in
-    leads-end (a .args .walk .applying) (a .args .walk .place) _ _ _ _ (l .inv .6)
-    (last-vector (l .inv .3) (a .args .walk .kind) (a .pre .walk .low) (a .pre .walk .high) (a .args .list .now) (l .at) (l .inv .4) (l .inv .5) _ (c .before .typed-vector .ensures) none)
-    (l .inv .2)
+    leads-end (a .args .walk .applying) (a .args .walk .p) _ _ _ _ (l .inv .going .leads)
+    (last-vector (l .inv .turns) (a .args .walk .kind) (a .pre .walk .low) (a .pre .walk .high) (a .args .list .now) (l .at) (l .inv .left) (l .inv .finds) _ (c .before .typed-vector .ensures) none)
+    (l .inv .going .laid)
 
 vector-requires : tie.Need-vector-requires Inv-loop μ-loop
 vector-requires c κs =
     let p = c .before .before .before .before .before .before .before .before .pre in
     let w = p .walk in
     record {
-      walk = record { laid = c .before .before .before .before .before .loop .inv .2; place = w .place; low = w .low; high = w .high };
+      walk = record { laid = c .before .before .before .before .before .loop .inv .going .laid; port = w .port; low = w .low; high = w .high };
       at = c .before .before .before .before .before .loop .at;
       read = sym (c .before .before .before .before .typed-vector .ensures) ∙ c .before .before .v .given .1;
     }
@@ -70,40 +71,43 @@ module _ (c : tie.After-known-told Inv-loop μ-loop) where
   read : typedRead (typeOctet 0 (c .before .before .before .before .before .before .before .args .walk .kind)) (c .before .before .before .before .before .before .before .args .list .now) (c .before .before .before .before .loop .at) ≡ VectorRead.Vector head
   read = sym (c .before .before .before .typed-vector .ensures) ∙ c .before .v .given .1
 
-  next : Next (c .before .before .before .before .loop .inv .3) (c .before .before .before .before .before .before .before .args .walk .kind) (c .before .before .before .before .before .before .before .pre .walk .low) (c .before .before .before .before .before .before .before .pre .walk .high) (c .before .before .before .before .before .before .before .args .list .now) (c .before .before .before .before .loop .at)
-      (c .before .before .before .before .loop .inv .4) (c .before .before .before .before .loop .inv .5) head
+  next : Next (c .before .before .before .before .loop .inv .turns) (c .before .before .before .before .before .before .before .args .walk .kind) (c .before .before .before .before .before .before .before .pre .walk .low) (c .before .before .before .before .before .before .before .pre .walk .high) (c .before .before .before .before .before .before .before .args .list .now) (c .before .before .before .before .loop .at)
+      (c .before .before .before .before .loop .inv .left) (c .before .before .before .before .loop .inv .finds) head
   next =
       let a = c .before .before .before .before .before .before .before in
       let l = c .before .before .before .before .loop in
-      next-vector (l .inv .3) (a .args .walk .kind) (a .pre .walk .low) (a .pre .walk .high) (a .args .list .now) (l .at) (l .inv .4) (l .inv .5) head read
+      next-vector (l .inv .turns) (a .args .walk .kind) (a .pre .walk .low) (a .pre .walk .high) (a .args .list .now) (l .at) (l .inv .left) (l .inv .finds) head read
 
-  places : Within (c .before .before .before .before .before .before .before .args .list .now) (c .before .before .before .before .loop .at) head
-  places = within (typeOctet 0 (c .before .before .before .before .before .before .before .args .walk .kind)) (c .before .before .before .before .before .before .before .args .list .now) (c .before .before .before .before .loop .at) head read
+  ends : Within (c .before .before .before .before .before .before .before .args .list .now) (c .before .before .before .before .loop .at) head
+  ends = within (typeOctet 0 (c .before .before .before .before .before .before .before .args .walk .kind)) (c .before .before .before .before .before .before .before .args .list .now) (c .before .before .before .before .loop .at) head read
 
 returns-2 : tie.Need-returns-2 Inv-loop μ-loop
 returns-2 c =
     let d = c .before .before .before .before .before in
     let a = d .before .before .before .before .before .before .before .args in
-    leads-stopped (a .walk .applying) (a .walk .place) _ _ _ _ (d .before .before .before .before .loop .inv .6) _ _ _ (next d .acts)
+    leads-stopped (a .walk .applying) (a .walk .p) _ _ _ _ (d .before .before .before .before .loop .inv .going .leads) _ _ _ (next d .acts)
     (rw (not-true (c .before .before .before .vector .result) (c .if1 .taken)) at (c .before .before .before .vector .ensures))
 
 loop-less : tie.Need-loop-less Inv-loop μ-loop
-loop-less c = let p = places (c .before .before .before .before .before) in omega arith
+loop-less c = let p = ends (c .before .before .before .before .before) in omega arith
 
 loop-again : tie.Need-loop-again Inv-loop μ-loop
 loop-again c =
     let d = c .before .before .before .before .before in
     let a = d .before .before .before .before .before .before .before .args in
     let l = d .before .before .before .before .loop in
-    let w = rw (not-false (c .before .before .before .vector .result) (c .if1 .left)) at (c .before .before .before .vector .ensures) in (
-      places d .list,
-      search needs,
-      walked-laid w,
-      l .inv .3 - 1,
-      next d .rest,
-      next d .left,
-      leads-on (a .walk .applying) (a .walk .place) _ _ _ _ (l .inv .6) _ _ _ (next d .acts) w,
-    )
+    let w = rw (not-false (c .before .before .before .vector .result) (c .if1 .left)) at (c .before .before .before .vector .ensures) in
+    record {
+      turns = l .inv .turns - 1;
+      left = next d .rest;
+      finds = next d .left;
+      going = record {
+        within = ends d .list;
+        size = search needs;
+        laid = walked-laid w;
+        leads = leads-on (a .walk .applying) (a .walk .p) _ _ _ _ (l .inv .going .leads) _ _ _ (next d .acts) w;
+      };
+    }
 
 pub list-spec : {M : Type 1} → statement M
 list-spec =

@@ -11,7 +11,7 @@ quit-requires : tie.Need-quit-requires
 quit-requires c κs =
     let p = c .before .before .before .before .pre in
     let r = lent-cell-at (p .stands) _ (c .before .cell-in .ensures .0) in
-    (r .laid, r .size, p .low, p .high)
+    record { laid = r .laid; size = r .size; low = p .low; high = p .high }
 
 returns : tie.Need-returns
 returns c =

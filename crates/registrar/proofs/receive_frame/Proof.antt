@@ -1,5 +1,4 @@
 -- `registrar::receive_frame` meets its contract. Assumes nothing.
-use Prim.Native.Nat.{_-_}
 use borrow.Author.Tests.{not-true, not-false}
 use borrow.Author.Needs.{needs}
 use Rattle.registrar.proofs.Walks.{walked-laid}
@@ -16,18 +15,18 @@ drop-unheld-requires c κs = walked-laid (c .before .before .before .before .fra
 returns : tie.Need-returns
 returns c =
     let a = c .before .before .before .before .before .before .before .before .before .before .before in
-    received-not (a .args .place) (a .args .pdu .now) (a .args .table .now) (a .pre .0 .laid) _ _ (a .pre .1)
+    received-not (a .args .p) (a .args .pdu .now) (a .args .table .now) (a .pre .0 .laid) _ _ (a .pre .1)
     (rw (not-true (c .before .before .before .before .before .before .before .frame .result) (c .before .before .before .before .if1 .taken)) at (c .before .before .before .before .before .before .before .frame .ensures)) (c .before .before .drop-unheld .ensures)
 
 frame-requires-2 : tie.Need-frame-requires-2
 frame-requires-2 c κs =
     let p = c .before .before .before .before .before .before .before .before .pre .0 in
-    record { laid = walked-laid (c .before .before .before .before .frame .ensures); place = p .place; found = p .found }
+    record { laid = walked-laid (c .before .before .before .before .frame .ensures); port = p .port; found = p .found }
 
 returns-2 : tie.Need-returns-2
 returns-2 c =
     let a = c .before .before .before .before .before .before .before .before .before .before .before in
-    received-all (a .args .place) (a .args .pdu .now) (a .args .table .now) (a .pre .0 .laid) _ _ _
+    received-all (a .args .p) (a .args .pdu .now) (a .args .table .now) (a .pre .0 .laid) _ _ _
     (rw (not-false (c .before .before .before .before .before .before .before .frame .result) (c .before .before .before .before .if1 .left)) at (c .before .before .before .before .before .before .before .frame .ensures)) (c .before .before .frame2 .ensures)
 
 pub receive-frame-spec : {M : Type 1} → statement M

@@ -1,5 +1,5 @@
 -- `registrar::value` meets its contract. Assumes nothing.
-use Prim.Native.Nat.{ℕ, _+_, _-_, _≤_}
+use Prim.Native.Nat.{ℕ, _+_, _≤_}
 use mathlib.Core.Path.{_≡_, sym, ap, _∙_}
 use mathlib.Core.Bool.{false}
 use borrow.Author.Needs.{needs}
@@ -20,7 +20,7 @@ returns c =
     let a = c .before .before .before .before .before .before .before .args in
     let p = c .before .before .before .before .before .before .before .pre in
     rw (no-value-acts (a .walk .kind) false 0 (a .first .now) (a .events .now) (a .fours .now) (a .n) (p .value) (sym (c .before .before .stream-id .ensures) ∙ c .enum-told .given .1))
-    (walked-none (a .walk .applying) (a .walk .place) (a .table .now) (p .walk .laid))
+    (walked-none (a .walk .applying) (a .walk .p) (a .table .now) (p .walk .laid))
 
 -- a value that was read: it registers, and its acts are those asked for
 module _ (c : tie.After-ask) where
@@ -62,14 +62,14 @@ withdraw-requires : tie.Need-withdraw-requires
 withdraw-requires c κs =
     let d = c .before .before .before .before in
     let p = d .before .before .before .before .before .before .before .before .before .pre in
-    record { laid = p .walk .laid; place = p .walk .place; low = p .value .low; high = registers d }
+    record { laid = p .walk .laid; port = p .walk .port; low = p .value .low; high = registers d }
 
 returns-2 : tie.Need-returns-2
 unfolding actsAsked
 returns-2 c =
     let d = c .before .before in
     let a = d .before .before .before .before .before .before .before .before .before in
-    rw (acts d Nothing (c .enum-told2 .given .1)) (walked-none (a .args .walk .applying) (a .args .walk .place) (a .args .table .now) (a .pre .walk .laid))
+    rw (acts d Nothing (c .enum-told2 .given .1)) (walked-none (a .args .walk .applying) (a .args .walk .p) (a .args .table .now) (a .pre .walk .laid))
 
 returns-3 : tie.Need-returns-3
 unfolding actsAsked
@@ -89,7 +89,7 @@ returns-5 c =
     let d = c .before .before .before in
     let a = d .before .before .before .before .before .before .before .before .before in
     rw (acts d Leave (c .before .enum-told3 .given .1), c .if1 .left, ← id-is d)
-    (left-room (a .args .walk .place) (kindAt (a .args .walk .kind)) (a .args .table .now) (a .pre .walk .laid) (id d) (search needs))
+    (left-room (a .args .walk .p) (kindAt (a .args .walk .kind)) (a .args .table .now) (a .pre .walk .laid) (id d) (search needs))
 
 pub value-spec : {M : Type 1} → statement M
 value-spec =

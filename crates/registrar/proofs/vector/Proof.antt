@@ -1,5 +1,4 @@
 -- `registrar::vector` meets its contract. Assumes nothing.
-use Prim.Native.Nat.{_-_}
 use borrow.Author.Needs.{needs}
 use Rattle.model.specs.Frames.{typeOctet}
 use Rattle.msrpdu.proofs.Reading.{Within, within}
@@ -39,7 +38,7 @@ values-requires c κs =
     let p = a .pre in
     let w = p .walk in
     record {
-      walk = record { laid = walked-laid (c .before .before .before .before .before .begin-all .ensures); place = w .place; low = w .low; high = w .high };
+      walk = record { laid = walked-laid (c .before .before .before .before .before .begin-all .ensures); port = w .port; low = w .low; high = w .high };
       events = enough-events (a .args .walk .kind) (a .args .list .now) (p .at) (a .args .head) (w .low) (w .high) (p .read);
       values =
           rw (c .before .before .before .before .before .before .before .first-value .ensures)
@@ -50,7 +49,7 @@ returns : tie.Need-returns
 returns c =
     let a = c .before .before .before .before .before .before .before .before .before .before .before .before .before in
     rw (vector-acts (a .args .walk .kind) (a .args .list .now) (a .args .head))
-    (walked-on (a .args .walk .applying) (a .args .walk .place) _ _ (a .args .table .now) _ (c .before .before .before .before .before .before .before .before .begin-all .ensures)
+    (walked-on (a .args .walk .applying) (a .args .walk .p) _ _ (a .args .table .now) _ (c .before .before .before .before .before .before .before .before .begin-all .ensures)
     (rw (c .before .before .before .before .before .before .before .before .before .before .first-value .ensures) at (c .before .before .values .ensures)))
 
 pub vector-spec : {M : Type 1} → statement M

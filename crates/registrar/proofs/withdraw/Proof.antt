@@ -13,7 +13,7 @@ find-requires c κs = c .before .before .pre .laid
 returns : tie.Need-returns
 returns c =
     let a = c .before .before .before .before .before .args in
-    left-unheld (a .place) (kindAt (a .kind)) (a .table .now) (c .before .before .before .before .before .pre .laid) (a .id) (search needs) (c .enum-told .given .0 .0)
+    left-unheld (a .p) (kindAt (a .kind)) (a .table .now) (c .before .before .before .before .before .pre .laid) (a .id) (search needs) (c .enum-told .given .0 .0)
     (sym (c .before .before .find .ensures) ∙ c .enum-told .given .1)
 
 clock-requires : tie.Need-clock-requires
@@ -24,14 +24,14 @@ quit-cell-requires c κs =
     let first = c .before .before .before .before .before .before .before .before .before in
     let p = first .pre in
     let e = sym (c .before .before .before .before .before .before .find .ensures) ∙ c .before .before .before .before .k .given .1 in
-    record { stands = record { laid = p .laid; held = at-place (first .args .id) _ _ e .within; port = p .place }; low = p .low; high = p .high }
+    record { stands = record { laid = p .laid; held = at-place (first .args .id) _ _ e .within; port = p .port }; low = p .low; high = p .high }
 
 returns-2 : tie.Need-returns-2
 returns-2 c =
     let first = c .before .before .before .before .before .before .before .before .before .before .before .before in
     let a = first .args in
     let e = sym (c .before .before .before .before .before .before .before .before .before .find .ensures) ∙ c .before .before .before .before .before .before .before .k .given .1 in
-    left-held (a .place) (kindAt (a .kind)) (a .table .now) (first .pre .laid) (a .id) (search needs) _ _ e (c .before .before .before .before .clock .ensures) _
+    left-held (a .p) (kindAt (a .kind)) (a .table .now) (first .pre .laid) (a .id) (search needs) _ _ e (c .before .before .before .before .clock .ensures) _
     (c .before .before .quit-cell .ensures)
 
 pub withdraw-spec : {M : Type 1} → statement M

@@ -1,6 +1,7 @@
 -- `settling::admit_all` meets its contract. Assumes nothing.
-use Prim.Native.Nat.{_-_, _≤_, _<_}
+use Prim.Native.Nat.{ℕ, _-_, _≤_, _<_}
 use mathlib.Core.Path.{_≡_, refl}
+use mathlib.Core.List.{List}
 use native.Mathlib.Omega.{arith}
 use borrow.Author.Needs.{needs}
 use lib.ListN.{length}
@@ -10,44 +11,57 @@ use Rattle.settling.proofs.Sharing.{Sharing, sharing-start, sharing-tur
 use Rattle.settling.proofs.admit_all.Statement.{statement}
 use Rattle.settling.proofs.admit_all.Tie as tie
 
+record Admitting (t₀ : List ℕ) (n : ℕ) (t : List ℕ) (p : ℕ) : Type 0 where
+  within : p ≤ n
+  few : n ≤ 8
+  count : n ≡ length (decode t₀ .settings .ports)
+  size : length t ≡ length t₀
+  sharing : Sharing n t₀ t p
+
 abbrev Inv-loop : tie.InvT-loop
-Inv-loop table₀ ports p₀ table p =
-    (p ≤ ports) × (ports ≤ 8) × (ports ≡ length (decode table₀ .settings .ports)) × (length table ≡ length table₀) × Sharing ports table₀ table p
+Inv-loop table₀ ports p₀ table p = Admitting table₀ ports table p
 
 abbrev μ-loop : tie.MeasureT-loop
 μ-loop table₀ ports p₀ table p = ports - p
 
 loop-holds : tie.Need-loop-holds Inv-loop μ-loop
-loop-holds c = (omega arith, c .ports .ensures .1, c .ports .ensures .0, refl, sharing-start _ _ (c .before .before .before .pre))
+loop-holds c = record {
+  within = omega arith;
+  few = c .ports .ensures .1;
+  count = c .ports .ensures .0;
+  size = refl;
+  sharing = sharing-start _ _ (c .before .before .before .pre);
+}
 
 admit-class-requires : tie.Need-admit-class-requires Inv-loop μ-loop
 admit-class-requires c κs =
     let l = c .before .before .loop in
-    (l .inv .4 .laid, omega arith)
+    (l .inv .sharing .laid, omega arith)
 
 admit-class-requires-2 : tie.Need-admit-class-requires-2 Inv-loop μ-loop
 admit-class-requires-2 c κs =
     let l = c .before .before .before .before .before .before .loop in
     let h : l .p < 8 = omega arith in
-    (shared-laid (l .table) (l .inv .4 .laid) (l .p) h false _ (c .before .before .before .admit-class .ensures), h)
+    (shared-laid (l .table) (l .inv .sharing .laid) (l .p) h false _ (c .before .before .before .admit-class .ensures), h)
 
 loop-again : tie.Need-loop-again Inv-loop μ-loop
 loop-again c =
     let l = c .before .before .before .before .before .before .before .before .before .loop in
     let few : l .p < c .before .before .before .before .before .before .before .before .before .before .ports .result = omega arith in
-    let h : l .p < 8 = omega arith in (
-      omega arith,
-      l .inv .1,
-      l .inv .2,
-      omega arith,
-      sharing-turn _ _ (l .table) _ _ (l .p) (l .inv .4) few h (c .before .before .before .before .before .before .admit-class .ensures) (c .before .before .admit-class2 .ensures),
-    )
+    let h : l .p < 8 = omega arith in
+    record {
+      within = omega arith;
+      few = l .inv .few;
+      count = l .inv .count;
+      size = omega arith;
+      sharing = sharing-turn _ _ (l .table) _ _ (l .p) (l .inv .sharing) few h (c .before .before .before .before .before .before .admit-class .ensures) (c .before .before .admit-class2 .ensures);
+    }
 
 returns : tie.Need-returns Inv-loop μ-loop
 returns c =
     let l = c .before .loop in
     let e : l .p ≡ c .before .before .ports .result = omega arith in
-    rw (l .inv .2) at (sharing-done _ _ (l .table) (l .p) (l .inv .4) e)
+    rw (l .inv .count) at (sharing-done _ _ (l .table) (l .p) (l .inv .sharing) e)
 
 pub admit-all-spec : {M : Type 1} → statement M
 admit-all-spec =

@@ -1,5 +1,4 @@
 -- `settling::declare` meets its contract. Assumes nothing.
-use Prim.Native.Nat.{_-_}
 use mathlib.Core.Path.{_∙_}
 use borrow.Author.Needs.{needs}
 use Rattle.settling.proofs.Merging.{declaring-octets}

@@ -1,11 +1,11 @@
 -- `settling::expire_stream` meets its contract. Assumes nothing.
-use Prim.Native.Nat.{ℕ, _+_, _-_, _≤_, _<_}
+use Prim.Native.Nat.{ℕ, _+_, _-_, _<_}
 use mathlib.Core.Path.{_≡_, sym, _∙_}
 use mathlib.Core.List.{List}
 use native.Mathlib.Omega.{arith}
 use borrow.Author.Needs.{needs}
-use lib.ListN.{length}
-use Rattle.model.specs.State.{Cell, Stream, streamAt}
+use Rattle.octets.proofs.Loops.{Turned}
+use Rattle.model.specs.State.{Cell, streamAt}
 use Rattle.model.specs.Registrations.{at, change}
 use Rattle.model.specs.Settling.{expireCell}
 use Rattle.model.specs.Table.{encode, decode}
@@ -26,7 +26,7 @@ lapses t time = expireCell (decode t .settings) time
 
 abbrev Inv-loop : tie.InvT-loop
 Inv-loop table₀ k leave time p₀ table p =
-    (p ≤ 8) × (length table ≡ length table₀) × (table ≡ encode (partlyAt (cellsTo (lapses table₀ time)) table₀ k p))
+    Turned p 8 table₀ table (table ≡ encode (partlyAt (cellsTo (lapses table₀ time)) table₀ k p))
 
 abbrev μ-loop : tie.MeasureT-loop
 μ-loop table₀ k leave time p₀ table p = 8 - p
@@ -46,38 +46,39 @@ module _ {t₀ : List ℕ} {k : ℕ} (s : Stands t₀ k) (time p : ℕ) where
         (cells-next (lapses t₀ time) p (streamAt k (decode t₀)))
 
 loop-holds : tie.Need-loop-holds Inv-loop μ-loop
-loop-holds c = (omega arith, search needs, no-turn-yet _ (c .before .pre .0) (cells-none _ _))
+loop-holds c = record { within = omega arith; size = search needs; holds = no-turn-yet _ (c .before .pre .0) (cells-none _ _) }
 
 cell-in-requires : tie.Need-cell-in-requires Inv-loop μ-loop
 cell-in-requires c κs =
     let first = c .before .before .before .before in
-    here (first .pre .0) (first .args .time) _ _ (c .before .before .loop .inv .2) (omega arith)
+    here (first .pre .0) (first .args .time) _ _ (c .before .before .loop .inv .holds) (omega arith)
 
 expire-requires : tie.Need-expire-requires Inv-loop μ-loop
 expire-requires c κs =
     let first = c .before .before .before .before .before .before in
-    let on = here (first .pre .0) (first .args .time) _ _ (c .before .before .before .before .loop .inv .2) (omega arith) in
+    let on = here (first .pre .0) (first .args .time) _ _ (c .before .before .before .before .loop .inv .holds) (omega arith) in
     let r = lent-cell-at on _ (c .before .cell-in .ensures .0) in
     let w = laid-fits _ (first .pre .0 .laid) .settings .leaveTime in
-    (r .laid, r .size, omega (arith, first .pre .1))
+    record { laid = r .laid; size = r .size; leaves = omega (arith, first .pre .1) }
 
 loop-again : tie.Need-loop-again Inv-loop μ-loop
 loop-again c =
     let first = c .before .before .before .before .before .before .before .before .before in
     let l = c .before .before .before .before .before .before .before .loop in
-    let on = here (first .pre .0) (first .args .time) _ _ (l .inv .2) (omega arith) in (
-      search needs,
-      search needs,
-      next (first .pre .0) (first .args .time) (l .p) (l .table) (l .inv .2) _
-          (left-cell-at on _ (c .before .before .before .before .cell-in .ensures .0) _ _ (c .before .before .expire .ensures (decode (first .args .table .now) .settings) (sym (first .pre .1)))),
-    )
+    let on = here (first .pre .0) (first .args .time) _ _ (l .inv .holds) (omega arith) in
+    record {
+      within = search needs;
+      size = search needs;
+      holds = next (first .pre .0) (first .args .time) (l .p) (l .table) (l .inv .holds) _
+          (left-cell-at on _ (c .before .before .before .before .cell-in .ensures .0) _ _ (c .before .before .expire .ensures (decode (first .args .table .now) .settings) (sym (first .pre .1))));
+    }
 
 returns : tie.Need-returns Inv-loop μ-loop
 returns c =
     let first = c .before .before .before in
     let l = c .before .loop in
     let e : l .p ≡ 8 = omega arith in
-    all-turns _ (first .pre .0) 8 _ (rw e at (l .inv .2)) _
+    all-turns _ (first .pre .0) 8 _ (rw e at (l .inv .holds)) _
     (cells-done _ 8 _ (stream-fits (first .pre .0) .eight-cells) ∙ expire-cells _ (first .args .time) _)
 
 pub expire-stream-spec : {M : Type 1} → statement M

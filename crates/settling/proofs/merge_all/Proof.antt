@@ -1,38 +1,40 @@
 -- `settling::merge_all` meets its contract. Assumes nothing.
-use Prim.Native.Nat.{_-_, _≤_}
-use mathlib.Core.Path.{_≡_, refl}
+use Prim.Native.Nat.{_-_}
+use mathlib.Core.Path.{refl}
 use native.Mathlib.Omega.{arith}
 use borrow.Author.Needs.{needs}
-use lib.ListN.{length}
-use Rattle.model.specs.Table.{encode, decode}
-use Rattle.table.proofs.EachStream.{partly, none-yet, partly-stands, one-more, all-done}
+use Rattle.table.proofs.EachStream.{Partly, none-yet, partly-stands, one-more, all-done}
 use Rattle.columns.specs.Stages.{merging}
 use Rattle.settling.proofs.Merging.{merging-fits, merging-id}
 use Rattle.settling.proofs.merge_all.Statement.{statement}
 use Rattle.settling.proofs.merge_all.Tie as tie
 
 abbrev Inv-loop : tie.InvT-loop
-Inv-loop table₀ held k₀ table k =
-    (k ≤ held) × (held ≡ length (decode table₀ .streams)) × (length table ≡ length table₀) × (table ≡ encode (partly merging table₀ k))
+Inv-loop table₀ held k₀ table k = Partly merging table₀ held table k
 
 abbrev μ-loop : tie.MeasureT-loop
 μ-loop table₀ held k₀ table k = held - k
 
 loop-holds : tie.Need-loop-holds Inv-loop μ-loop
-loop-holds c = (omega arith, c .count .ensures .0, refl, none-yet _ _ (c .before .before .before .pre))
+loop-holds c = record { within = omega arith; count = c .count .ensures .0; size = refl; is = none-yet _ _ (c .before .before .before .pre) }
 
 merge-stream-requires : tie.Need-merge-stream-requires Inv-loop μ-loop
 merge-stream-requires c κs =
     let l = c .before .before .loop in
-    partly-stands merging merging-fits merging-id _ (c .before .before .before .before .before .before .pre) (l .k) _ (l .inv .3) (omega arith)
+    partly-stands merging merging-fits merging-id _ (c .before .before .before .before .before .before .pre) (l .k) _ (l .inv .is) (omega arith)
 
 loop-again : tie.Need-loop-again Inv-loop μ-loop
 loop-again c =
     let l = c .before .before .before .before .before .loop in
-    (search needs, l .inv .1, search needs, one-more merging merging-fits merging-id _ (c .before .before .before .before .before .before .before .before .before .pre) (l .k) _ (l .inv .3) _ (c .before .before .merge-stream .ensures))
+    record {
+      within = search needs;
+      count = l .inv .count;
+      size = search needs;
+      is = one-more merging merging-fits merging-id _ (c .before .before .before .before .before .before .before .before .before .pre) (l .k) _ (l .inv .is) _ (c .before .before .merge-stream .ensures);
+    }
 
 returns : tie.Need-returns Inv-loop μ-loop
-returns c = let l = c .before .loop in all-done _ _ _ (l .k) (l .inv .3) (omega arith)
+returns c = let l = c .before .loop in all-done _ _ _ (l .k) (l .inv .is) (omega arith)
 
 pub merge-all-spec : {M : Type 1} → statement M
 merge-all-spec =

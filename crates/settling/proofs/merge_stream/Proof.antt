@@ -1,9 +1,8 @@
 -- `settling::merge_stream` meets its contract. Assumes nothing.
-use mathlib.Core.Path.{_≡_, sym, _∙_}
+use mathlib.Core.Path.{sym, _∙_}
 use borrow.Author.Needs.{needs}
 use Rattle.model.specs.State.{streamAt}
 use Rattle.model.specs.Table.{decode}
-use Rattle.table.specs.Places.{StandsOn}
 use Rattle.table.proofs.ByPlace.{lent-result-at}
 use Rattle.columns.specs.Stages.{mergedShown}
 use Rattle.settling.proofs.Merging.{left-alone, talker-on, left-merged}

@@ -1,12 +1,11 @@
 -- `settling::merged` meets its contract. Assumes nothing.
-use Prim.Native.Nat.{ℕ, suc, _-_, _≤_, _<_}
+use Prim.Native.Nat.{ℕ, suc, _-_, _≤_}
 use mathlib.Core.Path.{_≡_, ap, _∙_}
 use native.Mathlib.Omega.{arith}
 use borrow.Author.Needs.{needs}
 use Rattle.model.specs.State.{cellAt, resultAt, streamAt}
 use Rattle.model.specs.Settling.{registered}
 use Rattle.model.specs.Table.{declaredNumber, decode}
-use Rattle.table.proofs.ByPlace.{stands-on}
 use Rattle.table.proofs.ReadOctets.{column-octet, listener-octet}
 use Rattle.settling.proofs.Merging.{passedFrom, mergedFrom, merged-none, merged-more, merged-all}
 use Rattle.settling.proofs.merged.Statement.{statement}

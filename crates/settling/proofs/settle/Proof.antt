@@ -1,5 +1,5 @@
 -- `settling::settle` meets its contract. Assumes nothing.
-use Prim.Native.Nat.{_-_, _^_, _<_}
+use Prim.Native.Nat.{_^_, _<_}
 use borrow.Author.Needs.{needs}
 use Rattle.settling.proofs.Settled.{removed-laid, early-laid, all-shared-laid, settled-octets}
 use Rattle.settling.proofs.settle.Statement.{statement}

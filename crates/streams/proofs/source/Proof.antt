@@ -9,7 +9,7 @@ use Rattle.model.specs.Settling.{source, sourceOf}
 use Rattle.model.specs.Table.{decode}
 use Rattle.table.specs.Updates.{streamAt}
 use Rattle.table.proofs.ByPlace.{stream-fits, stands-on}
-use Rattle.streams.specs.Answers.{sourcePlace}
+use Rattle.streams.specs.Answers.{sourcePort}
 use Rattle.streams.proofs.Sources.{source-here, source-past, source-none}
 use Rattle.streams.proofs.source.Statement.{statement}
 use Rattle.streams.proofs.source.Tie as tie
@@ -31,7 +31,7 @@ returns : tie.Need-returns Inv-loop μ-loop
 returns c =
     let l = c .before .before .before .before .loop in
     let w = stream-fits (c .before .before .before .before .before .before .pre) in
-    source-here _ (w .eight-cells) (l .p) (omega arith) _ (c .before .before .cell-at .ensures .is) (c .if1 .taken) ∙ ap sourcePlace (l .inv .1)
+    source-here _ (w .eight-cells) (l .p) (omega arith) _ (c .before .before .cell-at .ensures .is) (c .if1 .taken) ∙ ap sourcePort (l .inv .1)
 
 loop-again : tie.Need-loop-again Inv-loop μ-loop
 loop-again c =
@@ -40,7 +40,7 @@ loop-again c =
     (omega arith, rw (add-one) (source-past _ (w .eight-cells) (l .p) (omega arith) _ (c .before .before .cell-at .ensures .is) (c .if1 .left) ∙ l .inv .1))
 
 returns-2 : tie.Need-returns-2 Inv-loop μ-loop
-unfolding sourcePlace
+unfolding sourcePort
 returns-2 c =
     let l = c .before .loop in
     let a = c .before .before .before .args in

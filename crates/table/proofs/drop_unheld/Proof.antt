@@ -1,7 +1,8 @@
 -- `table::drop_unheld` meets its contract. The invariant: the records seen and held stand first, those not yet seen are as they
 -- were. Assumes nothing.
-use Prim.Native.Nat.{_-_, _≤_, _<_}
+use Prim.Native.Nat.{ℕ, _-_, _≤_, _<_}
 use mathlib.Core.Path.{_≡_, sym, ap, _∙_}
+use mathlib.Core.List.{List}
 use mathlib.Core.Logic.{⊎-elim}
 use native.Mathlib.Omega.{arith}
 use lib.ListN.{length, getD}
@@ -25,9 +26,14 @@ use Rattle.table.proofs.count.Reads as count-reads
 use Rattle.table.proofs.is_held.Reads as is-held-reads
 use Rattle.table.proofs.keep_record.Reads as keep-record-reads
 
+record Dropping (t₀ : List ℕ) (n : ℕ) (t : List ℕ) (j i : ℕ) : Type 0 where
+  size : length t ≡ tableLength
+  few : n ≤ 64
+  count : n ≡ length (decode t₀ .streams)
+  closing : Closing (decode t₀) t i j
+
 abbrev Inv-loop : tie.InvT-loop
-Inv-loop table₀ n j₀ i₀ table j i =
-    (length table ≡ tableLength) × (n ≤ 64) × (n ≡ length (decode table₀ .streams)) × Closing (decode table₀) table i j
+Inv-loop table₀ n j₀ i₀ table j i = Dropping table₀ n table j i
 
 abbrev μ-loop : tie.MeasureT-loop
 μ-loop table₀ n j₀ i₀ table j i = n - i
@@ -36,7 +42,7 @@ loop-holds : tie.Need-loop-holds Inv-loop μ-loop
 loop-holds c =
     let t = c .before .before .before .args .table .now in
     let p = c .before .before .before .pre in
-    (laid-length t p, c .count .ensures .1, c .count .ensures .0, closing-start t p)
+    record { size = laid-length t p; few = c .count .ensures .1; count = c .count .ensures .0; closing = closing-start t p }
 
 -- the record that was looked at is held, or not, as its stream is
 looked : (c : tie.After-is-held Inv-loop μ-loop)
@@ -45,7 +51,7 @@ looked : (c : tie.After-is-held Inv-loop μ-loop)
 looked c =
     let l = c .before .before .before .before .loop in
     let p = c .before .before .before .before .before .before .before .before .pre in
-    c .is-held .ensures ∙ seen-held _ (laid-fits _ p) (l .table) (l .i) (l .j) (l .inv .3) (omega arith)
+    c .is-held .ensures ∙ seen-held _ (laid-fits _ p) (l .table) (l .i) (l .j) (l .inv .closing) (omega arith)
 
 loop-again : tie.Need-loop-again Inv-loop μ-loop
 loop-again c =
@@ -55,13 +61,18 @@ loop-again c =
     let e = looked (c .before) in
     let h : l .i < length (decode (c .before .before .before .before .before .before .before .before .before .args .table .now) .streams) = omega arith in
     ⊎-elim
-    (λ w. (
-      ap length (w .5) ∙ w .2 .kept .0 ∙ l .inv .0,
-      l .inv .1,
-      l .inv .2,
-      rw (w .5 ∙ w .2 .ensures, w .6) (closing-keep _ f (l .table) (l .i) (l .j) (l .inv .3) h (sym e ∙ w .0 .taken)),
-    ))
-    (λ w. (ap length (w .1) ∙ l .inv .0, l .inv .1, l .inv .2, rw (w .1, w .2) (closing-drop _ f (l .table) (l .i) (l .j) (l .inv .3) h (sym e ∙ w .0 .left))))
+    (λ w. record {
+      size = ap length (w .5) ∙ w .2 .kept .0 ∙ l .inv .size;
+      few = l .inv .few;
+      count = l .inv .count;
+      closing = rw (w .5 ∙ w .2 .ensures, w .6) (closing-keep _ f (l .table) (l .i) (l .j) (l .inv .closing) h (sym e ∙ w .0 .taken));
+    })
+    (λ w. record {
+      size = ap length (w .1) ∙ l .inv .size;
+      few = l .inv .few;
+      count = l .inv .count;
+      closing = rw (w .1, w .2) (closing-drop _ f (l .table) (l .i) (l .j) (l .inv .closing) h (sym e ∙ w .0 .left));
+    })
     (c .if1 .came)
 
 same-length : tie.Need-same-length Inv-loop μ-loop
@@ -74,7 +85,7 @@ returns c =
     let n = c .before .before .before .before .before .before .before .before .before .before .count .result in
     c .before .before .put .ensures
     ∙ ap (patch countPlace 1 (be 1 (l .j))) (c .before .before .before .before .before .before .clear .ensures)
-    ∙ closing-end _ f (l .table) (l .i) (l .j) (l .inv .3) n (l .inv .2) (omega arith)
+    ∙ closing-end _ f (l .table) (l .i) (l .j) (l .inv .closing) n (l .inv .count) (omega arith)
 
 pub drop-unheld-spec : {M : Type 1} → statement M
 drop-unheld-spec =

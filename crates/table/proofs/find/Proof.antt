@@ -1,7 +1,8 @@
 -- `table::find` meets its contract. The invariant: all before low are lower than id, and all from high on are higher. Assumes
 -- nothing.
-use Prim.Native.Nat.{_+_, _-_, _/_, _≤_, _<_}
+use Prim.Native.Nat.{ℕ, _+_, _-_, _/_, _≤_, _<_}
 use mathlib.Core.Path.{_≡_, refl, sym, _∙_}
+use mathlib.Core.List.{List}
 use native.Mathlib.Omega.{arith}
 use lib.ListN.{length, getD}
 use Rattle.model.specs.Layout.{recordPlace, tableLength}
@@ -17,9 +18,13 @@ use Rattle.table.proofs.find.Lts as lts
 use Rattle.octets.proofs.get.Reads as get-reads
 use Rattle.table.proofs.count.Reads as count-reads
 
+record Halving (t : List ℕ) (id low high : ℕ) : Type 0 where
+  size : length t ≡ tableLength
+  few : length (ids (decode t .streams)) ≤ 64
+  between : Between id (ids (decode t .streams)) low high
+
 abbrev Inv-loop : tie.InvT-loop
-Inv-loop table id low₀ high₀ low high =
-    (length table ≡ tableLength) × (length (ids (decode table .streams)) ≤ 64) × Between id (ids (decode table .streams)) low high
+Inv-loop table id low₀ high₀ low high = Halving table id low high
 
 abbrev μ-loop : tie.MeasureT-loop
 μ-loop table id low₀ high₀ low high = high - low
@@ -27,7 +32,7 @@ abbrev μ-loop : tie.MeasureT-loop
 loop-holds : tie.Need-loop-holds Inv-loop μ-loop
 loop-holds c =
     let e = length-ids (decode (c .before .before .args .table .now) .streams) in
-    (laid-length _ (c .before .before .pre), omega arith, between-all _ _ _ (c .count .ensures .0 ∙ sym e))
+    record { size = laid-length _ (c .before .before .pre); few = omega arith; between = between-all _ _ _ (c .count .ensures .0 ∙ sym e) }
 
 -- the StreamID that was read is the one in the middle
 read : (c : tie.After-get Inv-loop μ-loop)
@@ -51,17 +56,25 @@ loop-again c =
     let l = c .before .before .before .before .loop in
     let w = laid-fits _ (c .before .before .before .before .before .before .before .pre) in
     let e = read (c .before .before) in
-    (l .inv .0, l .inv .1, between-high _ _ (w .ascending) _ _ (l .low + (l .high - l .low) / 2) (l .inv .2) (omega arith) (omega arith) (omega arith))
+    record {
+      size = l .inv .size;
+      few = l .inv .few;
+      between = between-high _ _ (w .ascending) _ _ (l .low + (l .high - l .low) / 2) (l .inv .between) (omega arith) (omega arith) (omega arith);
+    }
 
 loop-again-2 : tie.Need-loop-again-2 Inv-loop μ-loop
 loop-again-2 c =
     let l = c .before .before .before .before .loop in
     let w = laid-fits _ (c .before .before .before .before .before .before .before .pre) in
     let e = read (c .before .before) in
-    (l .inv .0, l .inv .1, between-low _ _ (w .ascending) _ _ (l .low + (l .high - l .low) / 2) (l .inv .2) (omega arith) (omega arith) (omega arith))
+    record {
+      size = l .inv .size;
+      few = l .inv .few;
+      between = between-low _ _ (w .ascending) _ _ (l .low + (l .high - l .low) / 2) (l .inv .between) (omega arith) (omega arith) (omega arith);
+    }
 
 returns-2 : tie.Need-returns-2 Inv-loop μ-loop
-returns-2 c = between-none _ _ _ _ (c .before .loop .inv .2) (c .loop-test .left)
+returns-2 c = between-none _ _ _ _ (c .before .loop .inv .between) (c .loop-test .left)
 
 pub find-spec : {M : Type 1} → statement M
 find-spec =

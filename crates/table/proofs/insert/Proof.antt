@@ -11,7 +11,9 @@ use Rattle.table.proofs.insert.Statement.{statement}
 use Rattle.table.proofs.insert.Tie as tie
 
 put-record-requires : tie.Need-put-record-requires
-put-record-requires c κs = omega (arith, laid-length _ (c .before .before .before .before .pre .laid))
+put-record-requires c κs =
+    let p = c .before .before .before .before .pre in
+    record { size = laid-length _ (p .laid); within = omega arith; few = omega arith }
 
 returns : tie.Need-returns
 returns c =

@@ -63,28 +63,28 @@ unfolding earlyAt shownAs earlyColumn steps latencyOut streamClass sourceOf cell
 same-early sc now x f rs p e = rw e
 
 module _ (sc : Scene) (now : ℕ) (x : Stream) where
-  pub no-place : earlyTo 0 now sc x ≡ x
+  pub none-decided : earlyTo 0 now sc x ≡ x
   unfolding earlyTo tabulate
-  no-place = refl
+  none-decided = refl
 
-  pub next-place : (n : ℕ) → n < length (x .results) → earlyOne n now sc (earlyTo n now sc x) ≡ earlyTo (n + 1) now sc x
+  pub next-decided : (n : ℕ) → n < length (x .results) → earlyOne n now sc (earlyTo n now sc x) ≡ earlyTo (n + 1) now sc x
   unfolding earlyOne earlyTo resultAt
-  next-place n h =
+  next-decided n h =
       let rs = tabulate n 0 (earlyAt sc now x) ++ drop n (x .results) in
       let e = same-early sc now x (x .settled) rs n (up-to-here (earlyAt sc now x) (x .results) n unsettled) in
       rw (add-one n, e, up-to-next (earlyAt sc now x) (x .results) n h)
 
-  pub all-places : length (x .results) ≡ 8 → earlyTo 8 now sc (settledAs (fixedOf (sourceOf x)) x) ≡ early sc now x
+  pub all-decided : length (x .results) ≡ 8 → earlyTo 8 now sc (settledAs (fixedOf (sourceOf x)) x) ≡ early sc now x
   unfolding earlyTo early resultAt
-  all-places l =
+  all-decided l =
       let f = fixedOf (sourceOf x) in
       ap (λ (rs : List Result). record { id = x .id; settled = f; cells = x .cells; results = rs })
       (up-to-eight (earlyAt sc now (settledAs f x)) (x .results) l
       ∙ tabulate-same (earlyAt sc now (settledAs f x)) (earlyAt sc now x) 8 0 (λ q h k. same-early sc now x f (x .results) q refl))
 
-  pub places-fit : sc .settings .bridgeId < 2 ^ 64 → now < 2 ^ 32 → FitStream x → (n : ℕ) → n ≤ 8 → FitStream (earlyTo n now sc x)
+  pub decided-fits : sc .settings .bridgeId < 2 ^ 64 → now < 2 ^ 32 → FitStream x → (n : ℕ) → n ≤ 8 → FitStream (earlyTo n now sc x)
   unfolding earlyTo
-  places-fit named soon w n h = record {
+  decided-fits named soon w n h = record {
     name = w .name;
     rank = w .rank;
     eight-cells = w .eight-cells;
