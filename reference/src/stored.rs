@@ -27,7 +27,7 @@ const MOST_DRAWS: usize = 16;
 /// one that keeps them all, or any.
 pub fn some_octet(random: &mut Random, table: &[u8]) -> (usize, u8) {
     let full = table::used(table) == MOST_STREAMS;
-    let rule = if full && random.percent(20) { 8 } else { random.between(2, 30) as u8 };
+    let rule = if full && random.percent(20) { 8 } else { random.between(2, 35) as u8 };
     let aim = match random.below(20) {
         0..=12 => Aim::Breaks(rule),
         13..=18 => Aim::Keeps,
@@ -82,9 +82,10 @@ fn field_of_rule(random: &mut Random, table: &[u8], rule: u8) -> Range<usize> {
         5 => one(settings::length(port)),
         6 => settings::length(ports.min(MOST_PORTS - 1))..table::CLOCK.start,
         7 => table::TOTALS..table::EDGES,
+        29 => table::TOTALS..table::TOTALS + table::TOTALS_LENGTH * ports.max(1),
         8 => one(table::COUNT),
-        25 => 11..13,
-        26..=30 => field_of_edge(random, table, rule, port),
+        30 => 11..13,
+        31..=35 => field_of_edge(random, table, rule, port),
         10 if past_used < TABLE_LENGTH && random.percent(30) => one(past_used),
         10 if past_used < TABLE_LENGTH => past_used..TABLE_LENGTH,
         _ => field_of_record(random, table, rule, port),
@@ -99,14 +100,14 @@ fn field_of_edge(random: &mut Random, table: &[u8], rule: u8, port: usize) -> Ra
     let records = (0..SLOTS).map(|slot| start + domain::LENGTH * slot);
     let is_registered = |record: &usize| table[record + domain::REGISTERED] != 0;
     let (held, free): (Vec<usize>, Vec<usize>) = records.partition(is_registered);
-    let takes_free = rule == 28 && !free.is_empty() || held.is_empty();
+    let takes_free = rule == 33 && !free.is_empty() || held.is_empty();
     let wanted = if takes_free { free } else { held };
     let record = random.one_of(&wanted);
     match rule {
-        26 => one(record + domain::REGISTERED),
-        27 => record + domain::LEAVING..record + domain::SINCE.end,
-        28 => record..record + domain::LENGTH,
-        29 => start + edge::FLAGS.start..start + edge::FLAGS.end,
+        31 => one(record + domain::REGISTERED),
+        32 => record + domain::LEAVING..record + domain::SINCE.end,
+        33 => record..record + domain::LENGTH,
+        34 => start + edge::FLAGS.start..start + edge::FLAGS.end,
         _ => past..table::RECORDS,
     }
 }
@@ -124,10 +125,10 @@ fn field_of_record(random: &mut Random, table: &[u8], rule: u8, port: usize) -> 
     let (part, field) = match rule {
         9 => (start, record::STREAM_ID),
         11 if random.percent(60) => (start, one(record::PRIORITY)),
-        11 => (start, record::PARAMETERS),
+        11 | 25 => (start, record::PARAMETERS),
         13 if random.percent(50) => (cells, cell::LENGTH * past..record::CELLS.len()),
         13 => (results, result::LENGTH * past..record::RESULTS.len()),
-        20..=24 => (results + result::LENGTH * port, field_of_result(random, rule)),
+        20..=28 => (results + result::LENGTH * port, field_of_result(random, rule)),
         _ => (cells + cell::LENGTH * port, field_of_cell(random, rule)),
     };
     part + field.start..part + field.end
@@ -153,6 +154,9 @@ fn field_of_result(random: &mut Random, rule: u8) -> Range<usize> {
         21 => result::LATENCY,
         22 => result::BRIDGE_ID.start..result::CODE + 1,
         23 => one(random.one_of(&[result::COLUMN, result::ENTRY])),
+        26 => one(result::COLUMN),
+        27 => one(result::LISTENER),
+        28 => one(result::ENTRY),
         _ => result::SINCE,
     }
 }

@@ -1,6 +1,7 @@
 //! The octets of the lent table (docs/TABLE.md): its layout, its form rules, and the bridge that
 //! it holds. Numbers stand most significant octet first.
 
+use std::iter::zip;
 use std::ops::Range;
 
 use crate::bridge::Bridge;
@@ -171,7 +172,7 @@ fn results(record: &[u8]) -> impl Iterator<Item = &[u8]> {
 type Rule = fn(&[u8]) -> bool;
 
 /// The form rules, in the order and by the numbers of docs/TABLE.md.
-const RULES: [(u8, Rule); 30] = [
+const RULES: [(u8, Rule); 35] = [
     (1, |table| table.len() == TABLE_LENGTH),
     (2, |table| (1..=MOST_PORTS as u8).contains(&(table[8] >> 4))),
     (3, |table| priorities(table).a != priorities(table).b),
@@ -196,12 +197,19 @@ const RULES: [(u8, Rule); 30] = [
     (22, |table| every_result(table, only_failed_has_a_failure)),
     (23, |table| every_result(table, entry_agrees_with_column)),
     (24, ages_agree_with_entries),
-    (25, |table| (1..=settings::GREATEST_VLAN).contains(&vlan(table))),
-    (26, |table| every_domain(table, |domain| domain[domain::REGISTERED] <= 1)),
-    (27, domains_left_lately),
-    (28, |table| every_domain(table, |domain| domain[domain::REGISTERED] != 0 || is_zero(domain))),
-    (29, |table| edges(table).take(ports(table)).all(has_flags)),
-    (30, |table| edges(table).skip(ports(table)).all(is_zero)),
+    (25, |table| every_stream(table, |cells, _, record| talkers(cells) > 0 || unsettled(record))),
+    (26, |table| {
+        every_stream(table, |cells, results, _| columns_come_from_elsewhere(cells, results))
+    }),
+    (27, |table| every_stream(table, |cells, results, _| one_talker_port_declares(cells, results))),
+    (28, |table| every_stream(table, |cells, results, _| entries_have_listeners(cells, results))),
+    (29, totals_are_of_streams),
+    (30, |table| (1..=settings::GREATEST_VLAN).contains(&vlan(table))),
+    (31, |table| every_domain(table, |domain| domain[domain::REGISTERED] <= 1)),
+    (32, domains_left_lately),
+    (33, |table| every_domain(table, |domain| domain[domain::REGISTERED] != 0 || is_zero(domain))),
+    (34, |table| edges(table).take(ports(table)).all(has_flags)),
+    (35, |table| edges(table).skip(ports(table)).all(is_zero)),
 ];
 
 /// Whether a table keeps all form rules.
@@ -323,6 +331,55 @@ fn ages_agree_with_entries(table: &[u8]) -> bool {
     every_result(table, |result| {
         let since = number_of(&result[result::SINCE]);
         since == 0 || result[result::ENTRY] != 0 && since <= second
+    })
+}
+
+/// Whether something holds of the cells and results of the ports, and of the whole record, of each
+/// stream.
+fn every_stream(table: &[u8], holds: impl Fn(&[&[u8]], &[&[u8]], &[u8]) -> bool) -> bool {
+    used_records(table).all(|record| {
+        let cells: Vec<&[u8]> = cells(record).take(ports(table)).collect();
+        let results: Vec<&[u8]> = results(record).take(ports(table)).collect();
+        holds(&cells, &results, record)
+    })
+}
+
+/// How many ports have a Talker.
+fn talkers(cells: &[&[u8]]) -> usize {
+    cells.iter().filter(|cell| cell[cell::TALKER] != 0).count()
+}
+
+fn unsettled(record: &[u8]) -> bool {
+    is_zero(&record[record::PARAMETERS])
+}
+
+fn columns_come_from_elsewhere(cells: &[&[u8]], results: &[&[u8]]) -> bool {
+    let elsewhere = |cell: &[u8]| talkers(cells) > usize::from(cell[cell::TALKER] != 0);
+    zip(cells, results).all(|(cell, result)| !has_column(result) || elsewhere(cell))
+}
+
+fn one_talker_port_declares(cells: &[&[u8]], results: &[&[u8]]) -> bool {
+    let declares = |result: &[u8]| result[result::LISTENER] != 0;
+    let may = |cell: &[u8], result: &[u8]| !has_column(result) && cell[cell::TALKER] != 0;
+    results.iter().filter(|result| declares(result)).count() <= 1
+        && zip(cells, results).all(|(cell, result)| !declares(result) || may(cell, result))
+}
+
+fn entries_have_listeners(cells: &[&[u8]], results: &[&[u8]]) -> bool {
+    let for_a_listener = |result: &[u8]| match result[result::ENTRY] {
+        0 => false,
+        FORWARD => true,
+        _ => !has_column(result),
+    };
+    zip(cells, results).all(|(cell, result)| !for_a_listener(result) || cell[cell::LISTENER] != 0)
+}
+
+fn totals_are_of_streams(table: &[u8]) -> bool {
+    (0..ports(table)).all(|place| {
+        let total = totals(table, place);
+        let flags = table[settings::length(place)];
+        let earned = |total, supports| total == 0 || supports && table[COUNT] > 0;
+        earned(total.a, flags & 0x80 != 0) && earned(total.b, flags & 0x40 != 0)
     })
 }
 

@@ -9,7 +9,7 @@ use mathlib.Core.List.{List, [], _∷_, _++_}
 use lib.ListN.{length, getD, take, drop}
 use lib.Dec.{eqb}
 use Rattle.model.specs.Lists.{keep}
-use Rattle.model.specs.State.{Column, none, advertise, failed, askingFailed, ready, readyFailed, Declared, nothing, tells, Port, Settings, Stream, Bridge, portAt, resultAt, streamAt, fresh, Class, classA, classB, supports}
+use Rattle.model.specs.State.{Column, none, advertise, failed, askingFailed, ready, readyFailed, Declared, nothing, tells, Port, Settings, Result, Stream, Bridge, portAt, resultAt, streamAt, fresh, Class, classA, classB, supports}
 use Rattle.model.specs.Registrations.{Kind, advertises, faileds, listeners}
 use Rattle.model.specs.Frames.{Attribute, registers, domain}
 use Rattle.model.specs.WrittenFrames.{readyNumber}

@@ -1,7 +1,7 @@
 -- The rules of a cell in terms of its octets, by its Talker's kind and for its Listener.
 use mathlib.Core.Path.{_≡_, refl, sym, ap, _∙_}
 use mathlib.Core.List.{List, [], _∷_}
-use mathlib.Core.Bool.{Bool, true, false, not, _&&_, _||_, and-assoc, and-true, and-false}
+use mathlib.Core.Bool.{Bool, true, false, not, _&&_, and-assoc, and-comm, and-true, and-false}
 use Prim.Native.Nat.{ℕ, zero, suc, _-_, _%_}
 use native.Mathlib.Omega.{arith}
 use lib.ListN.{length, getD, take, drop}
@@ -30,17 +30,23 @@ talker-gone clock leave vs e = go (allZero (between changedField listenerField v
         rw (e, h, at 0 (omega arith), at 1 (omega arith), at 2 (omega arith), at (priorityField - changedField) (omega arith))
     go false h = rw (e, h, and-false, and-false, and-false)
 
--- without a Listener: not leaving is enough
-listener-gone : (clock leave k l t : ℕ)
-    → (leavingRule clock leave l t && (not (eqb k 0) || eqb l 0)) ≡ (leavingRule clock leave l t && implies (eqb k 0) (allZero (l ∷ t ∷ [])))
+-- a Listener that is not leaving has no time, and one that is leaving is there
+listener-stays : (clock leave k t : ℕ) → (leavingRule clock leave 0 t && implies (eqb k 0) (allZero (0 ∷ t ∷ []))) ≡ eqb t 0
 unfolding leavingRule allZero
-listener-gone clock leave zero zero t = go (eqb t 0)
+listener-stays clock leave k t = go (eqb k 0) (eqb t 0)
   where
-    go : (x : Bool) → (x && true) ≡ (x && (x && true))
+    go : (a x : Bool) → (x && implies a (x && true)) ≡ x
+    go true true = refl
+    go false true = refl
+    go a false = refl
+
+listener-leaves : (k l t : ℕ) → (l ≡ 0 → ⊥) → implies (eqb k 0) (allZero (l ∷ t ∷ [])) ≡ not (eqb k 0)
+unfolding allZero
+listener-leaves k l t n = rw (ne-eqb l 0 n) (go (eqb k 0))
+  where
+    go : (a : Bool) → implies a false ≡ not a
     go true = refl
     go false = refl
-listener-gone clock leave zero (suc l) t = rw (ne-eqb (suc l) 0 (λ e. omega arith))
-listener-gone clock leave (suc k) l t = rw (ne-eqb (suc k) 0 (λ e. omega arith))
 
 module _ (clock leave : ℕ) (s : List ℕ) (h : length s ≡ cellSize) where
   abbrev rules : List Bool
@@ -71,12 +77,28 @@ module _ (clock leave : ℕ) (s : List ℕ) (h : length s ≡ cellSize) where
   unfolding cellRules fields allTrue
   broken-talker k l t f = rw (f, ← (beAt-one s talkerPlace), ne-eqb (getD s talkerPlace 0) 0 k, ne-eqb (getD s talkerPlace 0) 1 l) refl
 
-  pub listener-rules : (since : ℕ) → since ≡ beAt 4 s listenerSincePlace → (t : Bool) → t ≡ leavingRule clock leave (getD s listenerLeavesPlace 0) since
-      → (leb (getD s listenerPlace 0) 3 && t && (not (eqb (getD s listenerPlace 0) 0) || eqb (getD s listenerLeavesPlace 0) 0)) ≡ allTrue (drop 6 rules)
+  pub listener-there : (since : ℕ) → since ≡ beAt 4 s listenerSincePlace → getD s listenerLeavesPlace 0 ≡ 0
+      → (leb (getD s listenerPlace 0) 3 && eqb since 0) ≡ allTrue (drop 6 rules)
   unfolding cellRules fields allTrue
-  listener-rules since g t e =
-      rw (e, g, beAt-one s listenerPlace, beAt-one s listenerLeavesPlace, and-true, and-assoc)
-      (ap (λ (b : Bool). leb (beAt 1 s listenerPlace) 3 && b) (listener-gone clock leave (beAt 1 s listenerPlace) (beAt 1 s listenerLeavesPlace) (beAt 4 s listenerSincePlace)))
+  listener-there since g e =
+      rw (g, ← (beAt-one s listenerLeavesPlace), e, and-true, beAt-one s listenerPlace)
+      (ap (λ (b : Bool). leb (beAt 1 s listenerPlace) 3 && b) (sym (listener-stays clock leave (beAt 1 s listenerPlace) (beAt 4 s listenerSincePlace))))
+
+  pub listener-leaving : (since : ℕ) → since ≡ beAt 4 s listenerSincePlace → (getD s listenerLeavesPlace 0 ≡ 0 → ⊥)
+      → (t : Bool) → t ≡ leavingRule clock leave (getD s listenerLeavesPlace 0) since
+      → (leb (getD s listenerPlace 0) 3 && not (eqb (getD s listenerPlace 0) 0) && t) ≡ allTrue (drop 6 rules)
+  unfolding cellRules fields allTrue
+  listener-leaving since g n t e =
+      rw (
+        e,
+        g,
+        ← (beAt-one s listenerLeavesPlace),
+        ← (beAt-one s listenerPlace),
+        listener-leaves (getD s listenerPlace 0) (getD s listenerLeavesPlace 0) (beAt 4 s listenerSincePlace) n,
+        and-true,
+        and-assoc,
+      )
+      (ap (λ (b : Bool). leb (getD s listenerPlace 0) 3 && b) (and-comm (not (eqb (getD s listenerPlace 0) 0)) _))
 
 -- what closes the needs of a cell's tests
-pub ruleset by-octets = (needs, registration-rules, no-talker, sound-talker, broken-talker, listener-rules)
+pub ruleset by-octets = (needs, registration-rules, no-talker, sound-talker, broken-talker, listener-there, listener-leaving)

@@ -5,6 +5,10 @@ pub mod EveryPart
 pub mod Cells
 pub mod Results
 pub mod Held
+pub mod Counted
+pub mod Found
+pub mod Stored
+pub mod EveryPort
 pub mod Rising
 pub mod Settings
 pub mod Totals

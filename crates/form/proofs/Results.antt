@@ -6,7 +6,6 @@ use Prim.Native.Nat.{ℕ, zero, suc, _-_, _/_, _≤_}
 use native.Mathlib.Omega.{arith}
 use lib.ListN.{length, getD, take, drop}
 use lib.Dec.{leb, eqb}
-use borrow.Author.Needs.{needs}
 use borrow.Author.Tests.{ne-eqb, lt-leb}
 use Rattle.octets.specs.Be.{beAt}
 use Rattle.octets.specs.Parts.{part}
@@ -84,6 +83,3 @@ module _ (clock : ℕ) (s : List ℕ) (h : length s ≡ resultSize) (second : �
         lt-leb (getD s columnPlace 0) 1 m,
       )
       simp (and-assoc, and-true, entry-filters)
-
--- what closes the needs of a result's tests
-pub ruleset by-octets = (needs, no-column, advertised, failed-column)

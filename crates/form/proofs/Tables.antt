@@ -1,22 +1,40 @@
 -- The rules of a table in terms of its octets: settings and totals, then stream records.
 use mathlib.Core.Path.{_≡_, _∙_}
 use mathlib.Core.List.{List, [], _∷_}
-use mathlib.Core.Bool.{true, false, _&&_, and-true}
+use mathlib.Core.Bool.{Bool, true, false, not, _&&_, and-assoc, and-true}
 use Prim.Native.Nat.{ℕ, _-_, _*_, _/_, _%_, _≤_, _<_}
 use native.Mathlib.Omega.{arith}
 use lib.ListN.{length, getD, take, drop, length-drop}
 use lib.Seq.{length-take-le, take-all}
+use lib.Dec.{leb, eqb}
 use borrow.Author.Tests.{le-leb, lt-leb}
 use Rattle.octets.specs.Be.{beAt}
 use Rattle.octets.specs.Parts.{part}
+use Rattle.octets.specs.Fields.{fields}
 use Rattle.octets.proofs.Frame.{beAt-part}
-use Rattle.model.specs.Layout.{clockPlace, countPlace, portPlace, portSize, portsPlace, portsUnit, priorityBUnit, recordSize, recordsPlace, recordsSize, settingsSize, tableLength, totalSize, totalsPlace, totalsSize, wordPlace}
-use Rattle.model.specs.Lists.{allTrue, parts}
-use Rattle.model.specs.Table.{portsField, toPort, toSettings, settingsRules, allZero, everyPart, streamFormed, toTotals}
+use Rattle.model.specs.Layout.{cellSize, cellsPlace, cellsSize, clockPlace, countPlace, nameWidths, portPlace, portSize, portsPlace, portsUnit, priorityBUnit, recordSize, recordsPlace, recordsSize, resultSize, resultsPlace, resultsSize, settingsSize, settledPriorityPlace, tableLength, totalSize, totalsPlace, totalsSize, wordPlace}
+use Rattle.model.specs.Lists.{allTrue, implies, parts}
+use Rattle.model.specs.Table.{portsField, toPort, toSettings, settingsRules, allZero, everyPart, cellFormed, toCell, resultFormed, toResult, cellsPart, resultsPart, toStream, holds, talkers, declarers, storedFormed, everyPort, streamRules, streamFormed, toTotals}
 use Rattle.model.specs.Table.{settingsPart, clockField, countField, totalsPart, recordsPart, rising, idOf, totalsWithin, tableRules}
 use Rattle.model.proofs.Lists.{all-true}
 use Rattle.model.proofs.SettingsOctets.{eight-ports}
+use Rattle.form.specs.Asks.{CellsFound}
 use Rattle.form.proofs.EveryPart.{lent-rest}
+
+-- a stream record, of which the cells and results were lent and n ports have a Talker
+pub record-tests : (ports clock leave n : ℕ) (s cs rs : List ℕ) → cs ≡ take cellsSize (drop cellsPlace s) → rs ≡ take resultsSize (drop resultsPlace s)
+    → (settled formed none others results rest : Bool)
+    → settled ≡ (eqb (getD s settledPriorityPlace 0 % 16) 0 && implies (eqb n 0) (allZero (drop 1 (fields nameWidths 0 s))))
+    → CellsFound cs ports clock leave formed none n
+    → others ≡ allZero (drop (ports * cellSize) cs)
+    → results ≡ (everyPart resultSize (resultFormed clock) ports rs
+    && everyPort (storedFormed n) ports (parts cellSize toCell 8 cs) (parts resultSize toResult 8 rs)
+    && leb (declarers ports (parts resultSize toResult 8 rs)) 1)
+    → rest ≡ allZero (drop (ports * resultSize) rs)
+    → (settled && formed && not none && others && results && rest) ≡ streamFormed ports clock leave s
+unfolding streamFormed streamRules toStream cellsPart resultsPart part allTrue
+record-tests ports clock leave n s cs rs c r settled formed none others results rest a f b d e =
+    rw (a, f .rules, f .held, b, d, e, f .talkers, c, r) simp (and-assoc, and-true)
 
 -- settings that keep their rules have at most eight ports
 pub few-ports : (s : List ℕ) (w : ℕ) → w ≡ beAt 3 s wordPlace → allTrue (settingsRules s) ≡ true → w / portsUnit ≤ 8
@@ -34,9 +52,9 @@ module _ (t : List ℕ) where
   pub header-tests : (w : ℕ) → w ≡ beAt 3 (take settingsSize t) wordPlace → allTrue (settingsRules (take settingsSize t)) ≡ true
       → (q : List ℕ) → q ≡ take (length (take settingsSize t) - portsPlace) (drop portsPlace (take settingsSize t))
       → (allZero (drop (portPlace (w / portsUnit)) (take settingsSize t))
-      && totalsWithin (parts totalSize toTotals 8 (take totalsSize (drop totalsPlace t))) (parts portSize toPort (w / portsUnit) q))
+      && totalsWithin (leb 1 (getD t countPlace 0)) (parts totalSize toTotals 8 (take totalsSize (drop totalsPlace t))) (parts portSize toPort (w / portsUnit) q))
       ≡ allTrue (take 3 (tableRules t))
-  unfolding tableRules settingsPart portsField toSettings totalsPart part allTrue
+  unfolding tableRules settingsPart portsField toSettings countField totalsPart part allTrue
   header-tests w e r q f = rw (r, e, f ∙ lent-rest portsPlace (take settingsSize t), and-true)
 
   pub header-ports : allTrue (take 3 (tableRules t)) ≡ true → portsField (settingsPart t) ≤ 8

@@ -30,28 +30,28 @@ unfolding toTotals fields width part
 none-reserved s h =
     both-zero (beAt 5 s 0) (beAt 5 s totalBPlace) ∙ zero-fields totalsWidths 0 s (omega arith) ∙ ap allZero (take-all totalSize s (omega arith))
 
-no-ports : (k : ℕ) (s : List ℕ) → length s ≡ k * totalSize → totalsWithin (parts totalSize toTotals k s) [] ≡ allZero s
+no-ports : (some : Bool) (k : ℕ) (s : List ℕ) → length s ≡ k * totalSize → totalsWithin some (parts totalSize toTotals k s) [] ≡ allZero s
 unfolding totalsWithin parts
-no-ports zero [] h = unfold allZero in refl
-no-ports zero (b ∷ s) h = absurd (omega arith)
-no-ports (suc k) s h =
+no-ports some zero [] h = unfold allZero in refl
+no-ports some zero (b ∷ s) h = absurd (omega arith)
+no-ports some (suc k) s h =
     rw (
       none-reserved (take totalSize s) (length-take-le totalSize s (omega arith)),
-      no-ports k (drop totalSize s) (omega (arith, length-drop totalSize s)),
+      no-ports some k (drop totalSize s) (omega (arith, length-drop totalSize s)),
       ← (zero-append (take totalSize s) (drop totalSize s)),
       take-append-drop totalSize s,
     )
 
 -- as one port's octets are compared
-abbrev within : List ℕ → List ℕ → Bool
-within t q = leb (toTotals t .totalA) (toPort q .limitA) && leb (toTotals t .totalB) (toPort q .limitB)
+abbrev within : Bool → List ℕ → List ℕ → Bool
+within some t q = totalsWithin some (toTotals t ∷ []) (toPort q ∷ [])
 
-module _ (k : ℕ) (s q : List ℕ) where
+module _ (some : Bool) (k : ℕ) (s q : List ℕ) where
   abbrev rest : ℕ → Bool
-  rest p = totalsWithin (parts totalSize toTotals (8 - p) (drop (p * totalSize) s)) (parts portSize toPort (k - p) (drop (p * portSize) q))
+  rest p = totalsWithin some (parts totalSize toTotals (8 - p) (drop (p * totalSize) s)) (parts portSize toPort (k - p) (drop (p * portSize) q))
 
   abbrev pub TotalsLeft : Bool → ℕ → Type 0
-  TotalsLeft = Left rest k (totalsWithin (parts totalSize toTotals 8 s) (parts portSize toPort k q))
+  TotalsLeft = Left rest k (totalsWithin some (parts totalSize toTotals 8 s) (parts portSize toPort k q))
 
   pub all-totals : TotalsLeft true 0
   all-totals = (omega arith, rw (sub-zero k))
@@ -59,21 +59,21 @@ module _ (k : ℕ) (s q : List ℕ) where
   module _ (ok : Bool) (p : ℕ) where
     -- t is whether the totals of the port that was lent are within its limits
     pub totals-more : k ≤ 8 → p < k → (t : Bool)
-        → t ≡ within (take (p * totalSize + totalSize - p * totalSize) (drop (p * totalSize) s)) (take (p * portSize + portSize - p * portSize) (drop (p * portSize) q))
+        → t ≡ within some (take (p * totalSize + totalSize - p * totalSize) (drop (p * totalSize) s)) (take (p * portSize + portSize - p * portSize) (drop (p * portSize) q))
         → TotalsLeft ok p → TotalsLeft (ok && t) (p + 1)
     totals-more few h t e =
         left-more rest k _ ok p t h
         (rw (one-left 8 p (omega arith), one-left k p h, e, lent-part (p * totalSize) totalSize s, lent-part (p * portSize) portSize q, ← (drop-part totalSize p s), ← (drop-part portSize p q))
-        unfold totalsWithin parts part in refl)
+        unfold totalsWithin parts part in rw and-true)
 
     -- the places that are no port
     pub no-totals : k ≤ 8 → length s ≡ totalsSize → k ≤ p → (t : Bool) → t ≡ allZero (drop (k * totalSize) s) → TotalsLeft ok p
-        → (ok && t) ≡ totalsWithin (parts totalSize toTotals 8 s) (parts portSize toPort k q)
+        → (ok && t) ≡ totalsWithin some (parts totalSize toTotals 8 s) (parts portSize toPort k q)
     unfolding parts
     no-totals few whole h t e l =
         let f : p ≡ k = omega arith in
         let g : k - p ≡ 0 = omega arith in
-        rw (e, ← (no-ports (8 - k) (drop (k * totalSize) s) (omega (arith, length-drop (k * totalSize) s)))) (rw (g, f) at (l .1))
+        rw (e, ← (no-ports some (8 - k) (drop (k * totalSize) s) (omega (arith, length-drop (k * totalSize) s)))) (rw (g, f) at (l .1))
 
 -- what closes the needs of such a loop: its start, its turns and its end
 pub ruleset turns = (needs, all-totals, totals-more, no-totals)

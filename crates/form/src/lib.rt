@@ -3,18 +3,19 @@
 // order, and no loop stops early: what is in form is tested whole anyway, and tests without an exit go many octets at a time.
 
 ghost use mathlib.Core.Path.{_≡_};
-ghost use mathlib.Core.Bool.{_&&_};
-ghost use Prim.Native.Nat.{_+_, _*_, _≤_};
-ghost use lib.ListN.{length, take, drop};
-ghost use lib.Dec.{leb};
+ghost use mathlib.Core.List.{[], _∷_};
+ghost use mathlib.Core.Bool.{not, _&&_};
+ghost use Prim.Native.Nat.{_+_, _*_, _%_, _≤_};
+ghost use lib.ListN.{length, getD, take, drop};
+ghost use lib.Dec.{leb, eqb};
 ghost use Rattle.octets.specs.Fields.{fields};
-ghost use Rattle.model.specs.Layout.{cellSize, cellWidths, portPlace, portSize, portsPlace, recordSize, resultSize, tableLength, totalSize};
-ghost use Rattle.model.specs.Lists.{allTrue, parts};
+ghost use Rattle.model.specs.Layout.{cellSize, cellWidths, cellsSize, nameWidths, portPlace, portSize, portsPlace, recordSize, resultSize, resultsSize, settledPriorityPlace, tableLength, totalSize};
+ghost use Rattle.model.specs.Lists.{allTrue, implies, parts, bit};
 ghost use Rattle.model.specs.Table.{allZero, everyPart};
 ghost use Rattle.model.specs.Table.{portsField, toPort, portRule, settingsRules, settingsFormed};
-ghost use Rattle.model.specs.Table.{leavingRule, cellRules, cellFormed, resultFormed, holds, streamFormed};
-ghost use Rattle.model.specs.Table.{toTotals, totalsWithin, idOf, rising, settingsPart, tableRules, formed};
-ghost use Rattle.form.specs.Asks.{TotalsGiven};
+ghost use Rattle.model.specs.Table.{leavingRule, cellRules, cellFormed, toCell, resultFormed, toResult, holds, talkers, declarers, storedFormed, everyPort, streamFormed};
+ghost use Rattle.model.specs.Table.{toTotals, atMost, totalsWithin, idOf, rising, settingsPart, tableRules, formed};
+ghost use Rattle.form.specs.Asks.{TotalsGiven, ResultsGiven, CellsFound};
 use table::CELL;
 use table::CELLS;
 use table::CLOCK;
@@ -30,6 +31,7 @@ use table::RECORD;
 use table::RECORDS;
 use table::RESULT;
 use table::RESULTS;
+use table::SETTLED;
 use table::SETTLED_PRIORITY;
 use table::TOTAL;
 use table::TOTAL_B;
@@ -37,6 +39,16 @@ use table::TOTALS;
 use table::cell;
 use table::port;
 use table::result;
+
+// What a truth value adds to a count.
+fn bit(b: bool) -> usize
+    ensures { λ r. ⌜ (r ≡ bit b) × (r ≤ 1) ⌝ }
+{
+    if b {
+        return 1;
+    }
+    0
+}
 
 // Every octet from a place on is zero.
 fn zero_from(s: &[u8], from: usize) -> bool
@@ -103,7 +115,10 @@ fn listener_formed(cell: &[u8], clock: u64, leave: u64) -> bool
     let kind = cell[cell::LISTENER];
     let leaves = cell[cell::LISTENER_LEAVES];
     let since = octets::get(cell, cell::LISTENER_SINCE, 4);
-    (kind <= 3) & leaving_formed(leaves, since, clock, leave) & ((kind != 0) | (leaves == 0))
+    if leaves == 0 {
+        return (kind <= 3) & (since == 0);
+    }
+    (kind <= 3) & (kind != 0) & leaving_formed(leaves, since, clock, leave)
 }
 
 // The rules of a cell.
@@ -114,74 +129,100 @@ fn cell_formed(cell: &[u8], clock: u64, leave: u64) -> bool
     talker_formed(cell, clock, leave) & listener_formed(cell, clock, leave)
 }
 
-// Some port has a Talker or a Listener.
-fn some_held(cells: &[u8], ports: usize) -> bool
-    requires { ⌜ ports * cellSize ≤ length (now cells) ⌝ }
-    ensures { λ r. ⌜ r ≡ holds ports (now (cells .entry)) ⌝ }
+// What the cells of a stream's ports are: whether each keeps its rules, whether none has a Talker or a Listener, and how many have a
+// Talker.
+struct Registered {
+    formed: bool,
+    none: bool,
+    talkers: usize,
+}
+
+// The cells of the ports, each tested and counted.
+fn cells_formed(cells: &[u8], ports: usize, clock: u64, leave: u64) -> Registered
+    requires { ⌜ (length (now cells) ≡ cellsSize) × (ports ≤ 8) ⌝ }
+    ensures { λ r. ⌜ CellsFound (now (cells .entry)) ports clock leave (r .formed) (r .none) (r .talkers) ⌝ }
 {
+    let mut formed = true;
     let mut none = true;
+    let mut talkers: usize = 0;
     let mut p: usize = 0;
     while p < ports {
         let a = p * CELL;
+        formed = formed & cell_formed(&cells[a..a + CELL], clock, leave);
         none = none & ((cells[a + cell::TALKER] == 0) & (cells[a + cell::LISTENER] == 0));
+        talkers += bit(cells[a + cell::TALKER] != 0);
         p += 1;
     }
-    !none
-}
-
-// The cell of each port keeps its rules.
-fn cells_formed(cells: &[u8], ports: usize, clock: u64, leave: u64) -> bool
-    requires { ⌜ ports * cellSize ≤ length (now cells) ⌝ }
-    ensures { λ r. ⌜ r ≡ everyPart cellSize (cellFormed clock leave) ports (now (cells .entry)) ⌝ }
-{
-    let mut ok = true;
-    let mut p: usize = 0;
-    while p < ports {
-        let a = p * CELL;
-        ok = ok & cell_formed(&cells[a..a + CELL], clock, leave);
-        p += 1;
+    Registered {
+        formed,
+        none,
+        talkers,
     }
-    ok
 }
 
-// The rules of a result: no latency without a column, no failure unless Failed, an entry for a column, forwarding for an
-// Advertise alone, and no second of an age without an entry or after the clock's.
-fn result_formed(result: &[u8], clock: u64) -> bool
-    requires { ⌜ length (now result) ≡ resultSize ⌝ }
-    ensures { λ r. ⌜ r ≡ resultFormed clock (now (result .entry)) ⌝ }
+// The rules of a result, by its column: no latency without one, no failure unless Failed, an entry for a column, forwarding for an
+// Advertise alone, and no second of an age without an entry or after the clock's. Beside its port's cell, where so many ports have a
+// Talker: a column only from another port's, a Listener declared only to this port's, and an entry for a Listener only where one is.
+fn result_formed(cell: &[u8], result: &[u8], clock: u64, talkers: usize) -> bool
+    requires { ⌜ (length (now cell) ≡ cellSize) × (length (now result) ≡ resultSize) ⌝ }
+    ensures { λ r. ⌜ r ≡ (resultFormed clock (now (result .entry)) && storedFormed talkers (toCell (now (cell .entry))) (toResult (now (result .entry)))) ⌝ }
 {
     let column = result[result::COLUMN];
     let entry = result[result::ENTRY];
+    let declared = result[result::DECLARED];
     let second = octets::get(result, result::AGE, 4);
-    let rest = (second <= clock / 100) & (result[result::DECLARED] <= 3);
+    let rest = (second <= clock / 100) & (declared <= 3);
     if column == 0 {
         return zero_from(&result[result::LATENCY..result::ENTRY], 0)
             & (entry <= 1)
             & ((entry != 0) | (second == 0))
-            & rest;
+            & rest
+            & ((declared == 0) | (cell[cell::TALKER] != 0))
+            & ((entry == 0) | (cell[cell::LISTENER] != 0));
     }
+    let apart = (bit(cell[cell::TALKER] != 0) < talkers) & (declared == 0);
     if column == 1 {
         return zero_from(&result[result::BRIDGE_ID..result::ENTRY], 0)
             & (entry <= 2)
             & (1 <= entry)
-            & rest;
+            & rest
+            & apart
+            & ((entry <= 1) | (cell[cell::LISTENER] != 0));
     }
-    (column <= 2) & (entry == 1) & rest
+    (column <= 2) & (entry == 1) & rest & apart
 }
 
-// The result of each port keeps its rules.
-fn results_formed(results: &[u8], ports: usize, clock: u64) -> bool
-    requires { ⌜ ports * resultSize ≤ length (now results) ⌝ }
-    ensures { λ r. ⌜ r ≡ everyPart resultSize (resultFormed clock) ports (now (results .entry)) ⌝ }
+// The result of each port keeps its rules, where so many ports have a Talker, and at most one port declares a Listener.
+fn results_formed(cells: &[u8], results: &[u8], ports: usize, clock: u64, talkers: usize) -> bool
+    requires { ⌜ ResultsGiven (now cells) (now results) ports ⌝ }
+    ensures { λ r. ⌜ r ≡ (everyPart resultSize (resultFormed clock) ports (now (results .entry))
+        && everyPort (storedFormed talkers) ports (parts cellSize toCell 8 (now (cells .entry))) (parts resultSize toResult 8 (now (results .entry)))
+        && leb (declarers ports (parts resultSize toResult 8 (now (results .entry)))) 1) ⌝ }
 {
     let mut ok = true;
+    let mut declarers: usize = 0;
     let mut p: usize = 0;
     while p < ports {
-        let a = p * RESULT;
-        ok = ok & result_formed(&results[a..a + RESULT], clock);
+        let a = p * CELL;
+        let b = p * RESULT;
+        ok = ok & result_formed(&cells[a..a + CELL], &results[b..b + RESULT], clock, talkers);
+        declarers += bit(results[b + result::DECLARED] != 0);
         p += 1;
     }
-    ok
+    ok & (declarers <= 1)
+}
+
+// The settled values of a stream of which so many ports have a Talker: zero without one.
+fn settled_formed(rec: &[u8], talkers: usize) -> bool
+    requires { ⌜ length (now rec) ≡ recordSize ⌝ }
+    ensures { λ r. ⌜ r ≡ (eqb (getD (now (rec .entry)) settledPriorityPlace 0 % 16) 0
+        && implies (eqb talkers 0) (allZero (drop 1 (fields nameWidths 0 (now (rec .entry)))))) ⌝ }
+{
+    let spare = rec[SETTLED_PRIORITY] % 16 == 0;
+    if talkers == 0 {
+        return spare & zero_from(&rec[SETTLED..CELLS], 0);
+    }
+    spare
 }
 
 // The rules of a stream record: what belongs to no port is zero.
@@ -191,11 +232,12 @@ fn record_formed(rec: &[u8], ports: usize, clock: u64, leave: u64) -> bool
 {
     let cells = &rec[CELLS..RESULTS];
     let results = &rec[RESULTS..RECORD];
-    (rec[SETTLED_PRIORITY] % 16 == 0)
-        & cells_formed(cells, ports, clock, leave)
-        & some_held(cells, ports)
+    let held = cells_formed(cells, ports, clock, leave);
+    settled_formed(rec, held.talkers)
+        & held.formed
+        & !held.none
         & zero_from(cells, ports * CELL)
-        & results_formed(results, ports, clock)
+        & results_formed(cells, results, ports, clock, held.talkers)
         & zero_from(results, ports * RESULT)
 }
 
@@ -283,30 +325,41 @@ pub fn settings_formed(settings: &[u8]) -> bool
     settings_rules(settings)
 }
 
-// Neither class total of a port is above its limit.
-fn total_within(totals: &[u8], port: &[u8]) -> bool
+// What a class total may be: the port's limit, where some stream is held and the port supports the class.
+fn at_most(some: bool, supports: bool, limit: u64) -> u64
+    ensures { λ r. ⌜ r ≡ atMost some supports limit ⌝ }
+{
+    if some & supports {
+        return limit;
+    }
+    0
+}
+
+// Neither class total of a port is above what it may be, where some stream is held or none.
+fn total_within(totals: &[u8], port: &[u8], some: bool) -> bool
     requires { ⌜ (length (now totals) ≡ totalSize) × (length (now port) ≡ portSize) ⌝ }
-    ensures { λ r. ⌜ r ≡ (leb (toTotals (now (totals .entry)) .totalA) (toPort (now (port .entry)) .limitA)
-        && leb (toTotals (now (totals .entry)) .totalB) (toPort (now (port .entry)) .limitB)) ⌝ }
+    ensures { λ r. ⌜ r ≡ totalsWithin some (toTotals (now (totals .entry)) ∷ []) (toPort (now (port .entry)) ∷ []) ⌝ }
 {
     let total_a = octets::get(totals, 0, 5);
     let total_b = octets::get(totals, TOTAL_B, 5);
     let limit_a = octets::get(port, port::LIMIT_A, 5);
     let limit_b = octets::get(port, port::LIMIT_B, 5);
-    (total_a <= limit_a) & (total_b <= limit_b)
+    let flags = octets::get(port, port::FLAGS, 1);
+    (total_a <= at_most(some, flags / 128 == 1, limit_a))
+        & (total_b <= at_most(some, flags / 64 % 2 == 1, limit_b))
 }
 
-// No class total is above its port's limit, and places that are no port have none.
-fn totals_within(totals: &[u8], ports: &[u8], count: usize) -> bool
+// No class total is above what it may be, and places that are no port have none.
+fn totals_within(totals: &[u8], ports: &[u8], count: usize, some: bool) -> bool
     requires { ⌜ TotalsGiven (now totals) (now ports) count ⌝ }
-    ensures { λ r. ⌜ r ≡ totalsWithin (parts totalSize toTotals 8 (now (totals .entry))) (parts portSize toPort count (now (ports .entry))) ⌝ }
+    ensures { λ r. ⌜ r ≡ totalsWithin some (parts totalSize toTotals 8 (now (totals .entry))) (parts portSize toPort count (now (ports .entry))) ⌝ }
 {
     let mut ok = true;
     let mut p: usize = 0;
     while p < count {
         let a = p * TOTAL;
         let b = p * PORT;
-        ok = ok & total_within(&totals[a..a + TOTAL], &ports[b..b + PORT]);
+        ok = ok & total_within(&totals[a..a + TOTAL], &ports[b..b + PORT], some);
         p += 1;
     }
     ok & zero_from(totals, count * TOTAL)
@@ -323,7 +376,12 @@ fn header_formed(table: &[u8]) -> bool
     }
     let ports = (octets::get(settings, HEAD, 3) / PORTS_UNIT) as usize;
     zero_from(settings, PORTS + ports * PORT)
-        & totals_within(&table[TOTALS..RECORDS], &settings[PORTS..], ports)
+        & totals_within(
+            &table[TOTALS..RECORDS],
+            &settings[PORTS..],
+            ports,
+            1 <= table[COUNT],
+        )
 }
 
 // The rules of the stream records of a table; what follows those in use is zero.

@@ -1,19 +1,21 @@
 -- Advance, accepted or refused, leaves a bridge that keeps the form rules.
 use mathlib.Core.Path.{_≡_, refl, sym, _∙_, ap}
 use mathlib.Core.List.{List, [], _∷_, map}
-use mathlib.Core.Bool.{Bool, true, false, cond}
+use mathlib.Core.Bool.{Bool, true, false, cond, not, _&&_, false≢true}
 use Prim.Native.Nat.{ℕ, zero, suc, _+_, _/_, _^_, _≤_, _<_}
 use native.Mathlib.Omega.{arith}
 use lib.ListN.{length, getD, drop, length-map}
-use lib.Dec.{ltb}
-use borrow.Author.Tests.{ltb-false, leb-false, le-ltb, le-leb, eq-eqb, ne-eqb}
-use Rattle.model.specs.Lists.{All, keep, tabulate}
-use Rattle.model.specs.State.{Port, Settings, Leaving, stays, since, Health, sound, broken, Talker, noTalker, talker, Listener, noListener, listener, Cell, Domain, noDomain, domain, Own, Column, none, advertise, failed, Entry, noEntry, filters, forwards, Declared, nothing, tells, Result, Stream, Totals, Bridge, empty, unsettled, noFixed, noOwn, noPort, ownAt, portAt, isPort, cellAt, resultAt, Class, classA, classB, limit}
+use lib.Dec.{ltb, leb, eqb}
+use borrow.Author.Tests.{ltb-false, leb-false, le-ltb, le-leb, eq-eqb, ne-eqb, ltb-true, lt-ltb, eqb-true, eqb-false}
+use Rattle.model.specs.Lists.{All, keep, tabulate, implies, bit}
+use Rattle.model.specs.State.{Port, Settings, Leaving, stays, since, Health, sound, broken, Talker, noTalker, talker, Listener, noListener, listener, Cell, Domain, noDomain, domain, Own, Column, none, advertise, failed, Entry, noEntry, filters, forwards, Declared, nothing, tells, Result, Stream, Totals, Bridge, empty, unsettled, noFixed, noOwn, noPort, ownAt, portAt, isPort, cellAt, resultAt, Class, classA, classB, limit, noClass, sameClass, supports}
 use Rattle.model.specs.Registrations.{Answer, ids}
-use Rattle.model.specs.Settling.{Scene, sceneOf, flagOf, decideOwn, decideOwns, expired, expireDomain, expireTalker, expireListener, expireCell, expire, held, remain, Source, nowhere, from, source, sourceOf, isSource, fixedOf, healthOf, registered, isReady, Outcome, columnNone, asRegistered, ownFailure, Step, first, brokenColumn, outcomeColumn, stepsFrom, steps, ageOf, claims, limitOn, byBandwidth, columnOf, capped, latencyOut, entryOf, ageKept, latencyKept, decideAt, decide, totalOn, totalsOn, settle, advance}
-use Rattle.model.specs.Bandwidth.{sort, total}
-use Rattle.model.specs.Table.{totalsWithin}
-use Rattle.model.proofs.Lists.{all-getD, all-tabulate}
+use Rattle.model.specs.Settling.{Scene, sceneOf, flagOf, decideOwn, decideOwns, expired, expireDomain, expireTalker, expireListener, expireCell, expire, held, remain, Source, nowhere, from, source, sourceOf, isSource, fixedOf, healthOf, registered, isReady, Outcome, columnNone, asRegistered, ownFailure, Step, first, brokenColumn, outcomeColumn, stepsFrom, steps, ageOf, claims, limitOn, byBandwidth, columnOf, capped, latencyOut, entryOf, ageKept, latencyKept, decideAt, decide, totalOn, totalsOn, settle, advance, isTalking, isHearing, Origin, streamClass, clear}
+use Rattle.model.specs.Bandwidth.{sort, total, reserved}
+use Rattle.model.specs.Table.{totalsWithin, talkers, hasColumn, declares, declarers, forListener, storedRules, storedFormed, atMost}
+use Rattle.model.proofs.Lists.{all-getD, all-tabulate, at-place, and-false, implies-true, true-all}
+use Rattle.model.proofs.Parts.{_also_}
+use Rattle.model.proofs.Stored.{talker-counts, other-counts, one-declares}
 use Rattle.model.proofs.Admission.{within}
 use Rattle.model.proofs.Owns.{no-own-valid}
 use Rattle.model.proofs.Valid.{ValidLeaving, ValidFixed, ValidHealth, ValidRegistration, ValidTalker, ValidListener, ValidCell, ValidDomain, ValidOwn, ValidColumn, ValidAge, ValidResult, ValidStream, Rising, Valid, again-valid}
@@ -218,6 +220,12 @@ source-after p q (c ∷ cs) h = go (c .talks) (source-after (suc p) q cs (omega 
     go noTalker ih = ih
     go (talker r) ih = ne-eqb p q (omega arith)
 
+nowhere≢from : {o : Origin} → nowhere ≡ from o → ⊥
+nowhere≢from e = let z : _≡_ {A = ℕ} 0 1 = cc in omega arith
+
+from-port : {a b : Origin} → from a ≡ from b → a .port ≡ b .port
+from-port e = cc
+
 -- and none without a Talker registration
 not-source : (p k : ℕ) (cs : List Cell) → getD cs k empty ≡ empty → isSource (source p cs) (p + k) ≡ false
 unfolding source isSource empty
@@ -229,6 +237,25 @@ not-source p (suc k) (c ∷ cs) e = go (c .talks) (not-source (suc p) k cs e)
         isSource (elim t [ noTalker ↦ source (suc p) cs | talker r ↦ from record { port = p; registration = r } ]) (p + suc k) ≡ false
     go noTalker ih = let e : suc p + k ≡ p + suc k = omega arith in rw (sym e) ih
     go (talker r) ih = ne-eqb p (p + suc k) (omega arith)
+
+-- where it is, there is one
+abbrev Talks : Origin → ℕ → List Cell → Type 0
+Talks o p cs = (q : ℕ) × (o .port ≡ p + q) × (isTalking (getD cs q empty) ≡ true)
+
+source-talks : (p : ℕ) (cs : List Cell) (o : Origin) → source p cs ≡ from o → Talks o p cs
+unfolding source isTalking
+source-talks p [] o e = absurd (nowhere≢from e)
+source-talks p (c ∷ cs) o e = go (c .talks) refl e (source-talks (suc p) cs o)
+  where
+    go : (t : Talker) → c .talks ≡ t
+        → elim t [ noTalker ↦ source (suc p) cs | talker r ↦ from record { port = p; registration = r } ] ≡ from o
+        → (source (suc p) cs ≡ from o → Talks o (suc p) cs) → Talks o p (c ∷ cs)
+    go noTalker f g ih =
+        let (q, place, talks) = ih g in
+        (suc q, omega arith, talks)
+    go (talker r) f g ih =
+        let here : p ≡ o .port = from-port g in
+        (0, omega arith, rw f refl)
 
 -- The column: a Bridge ID and a code that fit their fields.
 
@@ -291,6 +318,22 @@ module _ (sc : Scene) (named : sc .settings .bridgeId < 2 ^ 64) where
   unfolding columnOf
   column-valid now s p x v = steps-valid p x _ v (bandwidth-valid _ _)
 
+-- an entry for a Listener has one
+entry-heard : (k : Column) (c : Cell) → implies (forListener k (entryOf k (registered c))) (isHearing c) ≡ true
+unfolding forListener entryOf registered isHearing isReady
+entry-heard k c = go k (c .hears)
+  where
+    heard : Listener → Declared
+    heard h = elim h [ noListener ↦ nothing | listener r l ↦ tells r ]
+
+    go : (k : Column) (h : Listener) → implies (forListener k (entryOf k (heard h))) (elim h [ noListener ↦ false | listener r l ↦ true ]) ≡ true
+    go none noListener = refl
+    go none (listener r l) = refl
+    go advertise noListener = refl
+    go advertise (listener r l) = implies-true (forListener advertise (entryOf advertise (tells r))) true (λ _. refl)
+    go (failed b c) noListener = refl
+    go (failed b c) (listener r l) = refl
+
 -- Table 35-12 gives each column an entry that goes with it
 entry-fits : (c : Column) (d : Declared) (n : ℕ) → ValidFailure c → ValidColumn c (latencyKept c n) (entryOf c d)
 unfolding entryOf latencyKept
@@ -339,7 +382,7 @@ unsettled-valid clock = record { column = refl; latency = omega arith; age = ref
 
 -- The decision.
 
-module _ (sc : Scene) (named : sc .settings .bridgeId < 2 ^ 64) (clock now : ℕ) (later : clock ≤ now) (s : List Stream) (x : Stream)
+module _ (sc : Scene) (named : sc .settings .bridgeId < 2 ^ 64) (few : length (sc .settings .ports) ≤ 8) (clock now : ℕ) (later : clock ≤ now) (s : List Stream) (x : Stream)
     (r : Remaining (length (sc .settings .ports)) clock now (sc .settings .leaveTime) x) where
   source-fits : ValidSource now (sc .settings .leaveTime) (sourceOf x)
   unfolding sourceOf
@@ -369,8 +412,101 @@ module _ (sc : Scene) (named : sc .settings .bridgeId < 2 ^ 64) (clock now : ℕ
   unfolding decideAt columnOf steps isPort first outcomeColumn registered entryOf ageKept latencyKept unsettled empty
   unsettled-there p h = rw (le-ltb p (length (sc .settings .ports)) h, no-talker p h, no-cell p h)
 
+  -- What is stored goes with what is registered: only the Talker port declares, and the others have the columns.
+
+  port-there : (o : Origin) → sourceOf x ≡ from o → o .port < length (sc .settings .ports)
+  unfolding isSource
+  port-there o e = go (ltb (o .port) (length (sc .settings .ports))) refl
+    where
+      go : (t : Bool) → ltb (o .port) (length (sc .settings .ports)) ≡ t → o .port < length (sc .settings .ports)
+      go true f = ltb-true (o .port) (length (sc .settings .ports)) f
+      go false f =
+          let none-there = rw e at (no-talker (o .port) (ltb-false (o .port) (length (sc .settings .ports)) f)) in
+          absurd (false≢true (sym none-there ∙ eq-eqb (o .port) (o .port) refl))
+
+  talker-there : (o : Origin) → sourceOf x ≡ from o → isTalking (getD (x .cells) (o .port) empty) ≡ true
+  unfolding sourceOf
+  talker-there o e =
+      let (q, place, talks) = source-talks 0 (x .cells) o e in
+      let same : o .port ≡ q = omega arith in
+      rw same talks
+
+  either-none : (t : Bool) → cond (not t) none none ≡ none
+  either-none true = refl
+  either-none false = refl
+
+  no-column : (p : ℕ) → sourceOf x ≡ nowhere → columnOf sc now s p x ≡ none
+  unfolding columnOf steps stepsFrom first outcomeColumn
+  no-column p e = rw e (either-none (isPort (sc .settings) p))
+
+  no-own-column : (o : Origin) (p : ℕ) → sourceOf x ≡ from o → p ≡ o .port → columnOf sc now s p x ≡ none
+  unfolding columnOf steps stepsFrom first outcomeColumn
+  no-own-column o p e f = rw (e, eq-eqb p (o .port) f) (either-none (isPort (sc .settings) p))
+
+  idle-decided : talkers (length (sc .settings .ports)) (x .cells) ≡ 0 → fixedOf (sourceOf x) ≡ noFixed
+  unfolding fixedOf
+  idle-decided n = go (sourceOf x) refl
+    where
+      go : (t : Source) → sourceOf x ≡ t → fixedOf t ≡ noFixed
+      go nowhere e = refl
+      go (from o) e = absurd (omega (arith, talker-counts (length (sc .settings .ports)) (o .port) (x .cells) (port-there o e) (talker-there o e)))
+
+  module _ (p : ℕ) (h : p < length (sc .settings .ports)) where
+    n : ℕ
+    n = talkers (length (sc .settings .ports)) (x .cells)
+
+    column-decided : implies (hasColumn (columnOf sc now s p x)) (ltb (bit (isTalking (getD (x .cells) p empty))) n) ≡ true
+    unfolding hasColumn n
+    column-decided = go (sourceOf x) refl
+      where
+        go : (t : Source) → sourceOf x ≡ t → implies (hasColumn (columnOf sc now s p x)) (ltb (bit (isTalking (getD (x .cells) p empty))) n) ≡ true
+        go nowhere e = rw (no-column p e) refl
+        go (from o) e = at-port (eqb p (o .port)) refl
+          where
+            at-port : (t : Bool) → eqb p (o .port) ≡ t
+                → implies (hasColumn (columnOf sc now s p x)) (ltb (bit (isTalking (getD (x .cells) p empty))) n) ≡ true
+            at-port true f = rw (no-own-column o p e (eqb-true p (o .port) f)) refl
+            at-port false f =
+                implies-true (hasColumn (columnOf sc now s p x)) _
+                (λ _. lt-ltb _ n (other-counts (length (sc .settings .ports)) p (o .port) (x .cells) (eqb-false p (o .port) f) h (port-there o e) (talker-there o e)))
+
+    abbrev Goes : Bool
+    Goes = not (hasColumn (columnOf sc now s p x)) && isTalking (getD (x .cells) p empty)
+
+    listener-decided : implies (declares (decideAt sc now s x p .declares)) Goes ≡ true
+    unfolding decideAt declares hasColumn isSource
+    listener-decided = go (sourceOf x) refl
+      where
+        go : (t : Source) → sourceOf x ≡ t → implies (declares (decideAt sc now s x p .declares)) Goes ≡ true
+        go nowhere e = rw e refl
+        go (from o) e = at-port (eqb (o .port) p) refl
+          where
+            at-port : (t : Bool) → eqb (o .port) p ≡ t → implies (declares (decideAt sc now s x p .declares)) Goes ≡ true
+            at-port true f =
+                let here : o .port ≡ p = eqb-true (o .port) p f in
+                let own : Goes ≡ true = rw (no-own-column o p e (sym here), ← here) (talker-there o e) in
+                implies-true (declares (decideAt sc now s x p .declares)) Goes (λ _. own)
+            at-port false f = rw (e, f) refl
+
+    stored-decided : storedFormed n (getD (x .cells) p empty) (decideAt sc now s x p) ≡ true
+    unfolding storedFormed storedRules cellAt decideAt
+    stored-decided =
+        let c = getD (x .cells) p empty in
+        true-all (storedRules n c (decideAt sc now s x p))
+        (column-decided also listener-decided also entry-heard (columnOf sc now s p x) c also tt)
+
+  one-decided : declarers (length (sc .settings .ports)) (tabulate 8 0 (decideAt sc now s x)) ≤ 1
+  unfolding decideAt declares isSource
+  one-decided = go (sourceOf x) refl
+    where
+      go : (t : Source) → sourceOf x ≡ t → declarers (length (sc .settings .ports)) (tabulate 8 0 (decideAt sc now s x)) ≤ 1
+      go nowhere e = one-declares (length (sc .settings .ports)) 8 0 0 (decideAt sc now s x) (λ q n. rw e refl)
+      go (from o) e =
+          one-declares (length (sc .settings .ports)) 8 0 (o .port) (decideAt sc now s x)
+          (λ q n. rw (e, ne-eqb (o .port) q (λ f. n (sym f))) refl)
+
   decided-valid : ValidStream (length (sc .settings .ports)) now (sc .settings .leaveTime) (decide sc now s x)
-  unfolding decide
+  unfolding decide cellAt resultAt
   decided-valid = record {
     id = r .id;
     settled = fixed-valid now (sc .settings .leaveTime) (sourceOf x) source-fits;
@@ -383,37 +519,84 @@ module _ (sc : Scene) (named : sc .settings .bridgeId < 2 ^ 64) (clock now : ℕ
     no-other-results =
         all-drop-tabulate (λ y. y ≡ unsettled) (length (sc .settings .ports)) 8 0 (decideAt sc now s x)
         (λ p h. unsettled-there p (omega arith));
+    idle = idle-decided;
+    stored = λ p h. rw (at-place (decideAt sc now s x) p unsettled (omega arith)) (unfold n in stored-decided p h);
+    one-declares = one-decided;
   }
 
--- Totals: within the limits of their port, and so none where there is no port.
+-- Totals: at most what they may be, and so none where there is no port.
 
-totals-within : (n p : ℕ) (qs : List Port) (f : ℕ → Totals) →
-    ((i q : ℕ) → p + i ≡ q → (f q .totalA ≤ getD qs i noPort .limitA) × (f q .totalB ≤ getD qs i noPort .limitB)) →
-    totalsWithin (tabulate n p f) qs ≡ true
+no-limit : (some : Bool) → atMost some false 0 ≡ 0
+unfolding atMost
+no-limit true = refl
+no-limit false = refl
+
+totals-within : (some : Bool) (n p : ℕ) (qs : List Port) (f : ℕ → Totals) →
+    ((i q : ℕ) → p + i ≡ q →
+    let port = getD qs i noPort in
+    (f q .totalA ≤ atMost some (port .supportsA) (port .limitA)) × (f q .totalB ≤ atMost some (port .supportsB) (port .limitB))) →
+    totalsWithin some (tabulate n p f) qs ≡ true
 unfolding tabulate totalsWithin noPort
-totals-within zero p qs f h = refl
-totals-within (suc n) p [] f h =
-    let here : (f p .totalA ≤ 0) × (f p .totalB ≤ 0) = h 0 p (omega arith) in
+totals-within some zero p qs f h = refl
+totals-within some (suc n) p [] f h =
+    let here : (f p .totalA ≤ 0) × (f p .totalB ≤ 0) = rw (no-limit some) at (h 0 p (omega arith)) in
     rw (eq-eqb (f p .totalA) 0 (omega arith), eq-eqb (f p .totalB) 0 (omega arith))
-    (totals-within n (suc p) [] f (λ i q e. h (suc i) q (omega arith)))
-totals-within (suc n) p (q ∷ qs) f h =
-    let here : (f p .totalA ≤ q .limitA) × (f p .totalB ≤ q .limitB) = h 0 p (omega arith) in
-    rw (le-leb (f p .totalA) (q .limitA) (here .0), le-leb (f p .totalB) (q .limitB) (here .1))
-    (totals-within n (suc p) qs f (λ i q e. h (suc i) q (omega arith)))
+    (totals-within some n (suc p) [] f (λ i q e. h (suc i) q (omega arith)))
+totals-within some (suc n) p (q ∷ qs) f h =
+    let here = h 0 p (omega arith) in
+    rw (le-leb (f p .totalA) (atMost some (q .supportsA) (q .limitA)) (here .0), le-leb (f p .totalB) (atMost some (q .supportsB) (q .limitB)) (here .1))
+    (totals-within some n (suc p) qs f (λ i q e. h (suc i) q (omega arith)))
 
-total-within : (sc : Scene) (now : ℕ) (s : List Stream) (p : ℕ) (c : Class) → totalOn sc now s p c ≤ limit (portAt (sc .settings) p) c
-unfolding totalOn total limitOn
-total-within sc now s p c = within (limit (portAt (sc .settings) p) c) (sort (claims sc now p c s))
+-- without streams nothing is claimed, nor where the port does not support the class
+pub same-class : (a b : Class) → sameClass a b ≡ true → a ≡ b
+unfolding sameClass
+same-class noClass b e = absurd (false≢true e)
+same-class classA noClass e = absurd (false≢true e)
+same-class classA classA e = refl
+same-class classA classB e = absurd (false≢true e)
+same-class classB noClass e = absurd (false≢true e)
+same-class classB classA e = absurd (false≢true e)
+same-class classB classB e = refl
 
-totals-on-within : (sc : Scene) (now : ℕ) (s : List Stream) (p : ℕ) →
-    (totalsOn sc now s p .totalA ≤ getD (sc .settings .ports) p noPort .limitA) × (totalsOn sc now s p .totalB ≤ getD (sc .settings .ports) p noPort .limitB)
-unfolding totalsOn limit portAt
-totals-on-within sc now s p = (total-within sc now s p classA, total-within sc now s p classB)
+module _ (sc : Scene) (now p : ℕ) where
+  stopped : (x : Stream) → supports (portAt (sc .settings) p) (streamClass (sc .settings) x) ≡ false → clear (steps sc p x) ≡ false
+  unfolding streamClass fixedOf steps stepsFrom clear
+  stopped x f = go (sourceOf x) refl
+    where
+      go : (t : Source) → sourceOf x ≡ t → clear (steps sc p x) ≡ false
+      go nowhere e = rw (e, and-false)
+      go (from o) e = rw (e, rw e at f, and-false, and-false) refl
 
-settled-totals : (sc : Scene) (now : ℕ) (s : List Stream) → totalsWithin (tabulate 8 0 (totalsOn sc now s)) (sc .settings .ports) ≡ true
+  module _ (c : Class) where
+    nothing-held : (s : List Stream) → length s < 1 → claims sc now p c s ≡ []
+    unfolding claims
+    nothing-held [] h = refl
+    nothing-held (x ∷ s) h = absurd (omega arith)
+
+    unsupported : supports (portAt (sc .settings) p) c ≡ false → (s : List Stream) → claims sc now p c s ≡ []
+    unfolding claims
+    unsupported f [] = refl
+    unsupported f (x ∷ s) = rw (unclaimed (sameClass (streamClass (sc .settings) x) c) refl) (unsupported f s)
+      where
+        unclaimed : (t : Bool) → sameClass (streamClass (sc .settings) x) c ≡ t → (clear (steps sc p x) && sameClass (streamClass (sc .settings) x) c) ≡ false
+        unclaimed true e = rw (stopped x (ap (supports (portAt (sc .settings) p)) (same-class (streamClass (sc .settings) x) c e) ∙ f)) refl
+        unclaimed false e = rw e (and-false (clear (steps sc p x)))
+
+    total-within : (s : List Stream) → totalOn sc now s p c ≤ atMost (leb 1 (length s)) (supports (portAt (sc .settings) p) c) (limit (portAt (sc .settings) p) c)
+    unfolding totalOn total limitOn atMost
+    total-within s = go (leb 1 (length s)) (supports (portAt (sc .settings) p) c) refl refl
+      where
+        go : (some supported : Bool) → leb 1 (length s) ≡ some → supports (portAt (sc .settings) p) c ≡ supported
+            → reserved (limit (portAt (sc .settings) p) c) (sort (claims sc now p c s)) ≤ cond (some && supported) (limit (portAt (sc .settings) p) c) 0
+        go true true e f = within (limit (portAt (sc .settings) p) c) (sort (claims sc now p c s))
+        go true false e f = rw (unsupported f s) (unfold sort reserved in omega arith)
+        go false t e f = rw (nothing-held s (leb-false 1 (length s) e)) (unfold sort reserved in omega arith)
+
+settled-totals : (sc : Scene) (now : ℕ) (s : List Stream) → totalsWithin (leb 1 (length s)) (tabulate 8 0 (totalsOn sc now s)) (sc .settings .ports) ≡ true
+unfolding totalsOn supports limit portAt
 settled-totals sc now s =
-    totals-within 8 0 (sc .settings .ports) (totalsOn sc now s)
-    (λ i q e. let same : i ≡ q = omega arith in rw same (totals-on-within sc now s q))
+    totals-within (leb 1 (length s)) 8 0 (sc .settings .ports) (totalsOn sc now s)
+    (λ i q e. let same : i ≡ q = omega arith in rw same (total-within sc now q classA s, total-within sc now q classB s))
 
 -- The call.
 
@@ -428,7 +611,7 @@ settle-keeps b now small later v = record {
   settings = v .settings;
   clock = small;
   eight-totals = length-tabulate 8 0 (totalsOn sc now s);
-  totals = settled-totals sc now s;
+  totals = rw (length-map s (decide sc now s)) (settled-totals sc now s);
   eight-own = length-tabulate 8 0 (decideOwn st now (b .own));
   own = all-tabulate (ValidOwn now (st .leaveTime)) 8 0 (decideOwn st now (b .own)) (own-valid st (b .clock) now later (b .own) (v .own));
   no-other-own =
@@ -437,7 +620,7 @@ settle-keeps b now small later v = record {
   at-most-64 = rw (length-map s (decide sc now s)) (omega (arith, fewer-remain st now (b .streams), v .at-most-64));
   streams =
       all-mapped (Remaining ports (b .clock) now (st .leaveTime)) (ValidStream ports now (st .leaveTime)) (decide sc now s)
-      (decided-valid sc (v .settings .bridgeId) (b .clock) now later s) s
+      (decided-valid sc (v .settings .bridgeId) (v .settings .eight-ports) (b .clock) now later s) s
       (streams-remain st (b .clock) now ports later (b .streams) (v .streams));
   ascending = rw (decided-ids sc now s s) (remain-rising st now (b .streams) (v .ascending));
 }

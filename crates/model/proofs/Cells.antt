@@ -452,13 +452,13 @@ unfolding isHearing
 hearing-unless true r l k = refl
 hearing-unless false r l k = refl
 
-talking-read : (s : List ℕ) → isTalking (toCell s) ≡ not (eqb (getD s 0 0) 0)
+pub talking-read : (s : List ℕ) → isTalking (toCell s) ≡ not (eqb (getD s 0 0) 0)
 unfolding toCell cellFrom talkerFrom
 talking-read s =
     let vs = fields cellWidths 0 s in
     talking-unless (eqb (getD vs talkerField 0) 0) (registrationFrom vs) (listenerFrom vs) ∙ ap (λ (k : ℕ). not (eqb k 0)) (kinds s .0)
 
-hearing-read : (s : List ℕ) → isHearing (toCell s) ≡ not (eqb (getD s listenerPlace 0) 0)
+pub hearing-read : (s : List ℕ) → isHearing (toCell s) ≡ not (eqb (getD s listenerPlace 0) 0)
 unfolding toCell cellFrom listenerFrom
 hearing-read s =
     let vs = fields cellWidths 0 s in

@@ -18,7 +18,8 @@ use Rattle.model.specs.Settling.{Scene, sceneOf, decideOwns, remain, Sou
 use Rattle.model.proofs.Lists.{all-map, all-both, all-each, and-right, and-true, and-false}
 use Rattle.model.proofs.Valid.{Rising}
 use Rattle.model.proofs.Admission.{Distinct, key-id, within, subtracted, total-is-sum, idle-above, idle-total}
-pub use Rattle.model.proofs.AdvanceKeepsForm.{remain-all, remain-rising}
+pub use Rattle.model.proofs.Lists.{at-place}
+pub use Rattle.model.proofs.AdvanceKeepsForm.{same-class, remain-all, remain-rising}
 use Rattle.model.proofs.AdvanceKeepsForm.{decided-ids}
 
 -- The rule: what the columns of a port are, in terms of themselves.
@@ -237,16 +238,6 @@ module _ (sc : Scene) (now p : ℕ) (c : Class) (col : Stream → Column) (ok : 
       go true h = rw h
       go false h = omega arith
 
-pub same-class : (a b : Class) → sameClass a b ≡ true → a ≡ b
-unfolding sameClass
-same-class noClass b e = absurd (false≢true e)
-same-class classA noClass e = absurd (false≢true e)
-same-class classA classA e = refl
-same-class classA classB e = absurd (false≢true e)
-same-class classB noClass e = absurd (false≢true e)
-same-class classB classA e = absurd (false≢true e)
-same-class classB classB e = refl
-
 module _ (sc : Scene) (now : ℕ) (s : List Stream) (p : ℕ) where
   column-agrees : (c : Class) (x : Stream) → Agrees sc now p c (columnOf sc now s p) (admitted (limitOn sc now s p c) (claims sc now p c s)) x
   unfolding admitted leftFor columnOf
@@ -400,17 +391,6 @@ module _ (sc : Scene) (now p : ℕ) (here : p < 8) where
         go false e =
             first-decided _ (steps sc p y) _ (byBandwidth (sc .settings) (claim (sc .settings) now p x .demand) (leftFor sc now s p x)) e
             ∙ rw (same-steps sc now p y x (w .cells), same-source sc now p y x (w .cells))
-
--- What a list made from a function has at a place.
-module _ {A : Type 0} (f : ℕ → A) where
-  pub getD-tabulate : (n p q : ℕ) (d : A) → q < n → getD (tabulate n p f) q d ≡ f (p + q)
-  unfolding tabulate
-  getD-tabulate zero p q d h = absurd (omega arith)
-  getD-tabulate (suc n) p zero d h = ap f (omega arith)
-  getD-tabulate (suc n) p (suc q) d h = getD-tabulate n (suc p) q d (omega arith) ∙ ap f (omega arith)
-
-  pub at-place : (q : ℕ) (d : A) → q < 8 → getD (tabulate 8 0 f) q d ≡ f q
-  at-place q d h = getD-tabulate 8 0 q d h ∙ ap f (omega arith)
 
 pub tabulate-same : {A : Type 0} (f g : ℕ → A) (n p : ℕ) → ((q : ℕ) → p ≤ q → q < p + n → f q ≡ g q) → tabulate n p f ≡ tabulate n p g
 unfolding tabulate

@@ -1,6 +1,7 @@
 pub mod Lists
 pub mod Valid
 pub mod Parts
+pub mod Stored
 pub mod Cells
 pub mod Results
 pub mod SettingsOctets

@@ -1,8 +1,8 @@
 -- Laws of lists, tests and `All`.
-use mathlib.Core.Path.{_≡_, refl, ap}
+use mathlib.Core.Path.{_≡_, refl, ap, _∙_}
 use mathlib.Core.List.{List, [], _∷_, _++_}
 use mathlib.Core.Bool.{Bool, true, false, _&&_, false≢true}
-use Prim.Native.Nat.{ℕ, zero, suc, _<_}
+use Prim.Native.Nat.{ℕ, zero, suc, _+_, _<_}
 use native.Mathlib.Omega.{arith}
 use lib.ListN.{length, getD, set, take, drop, replicate}
 use borrow.Author.Tests.{eq-eqb, ne-eqb}
@@ -67,6 +67,17 @@ module _ {A : Type 0} (P : A → Type 0) where
   unfolding tabulate
   all-tabulate zero p f h = tt
   all-tabulate (suc n) p f h = (h p, all-tabulate n (suc p) f h)
+
+-- What a list made from a function has at a place.
+module _ {A : Type 0} (f : ℕ → A) where
+  getD-tabulate : (n p q : ℕ) (d : A) → q < n → getD (tabulate n p f) q d ≡ f (p + q)
+  unfolding tabulate
+  getD-tabulate zero p q d h = absurd (omega arith)
+  getD-tabulate (suc n) p zero d h = ap f (omega arith)
+  getD-tabulate (suc n) p (suc q) d h = getD-tabulate n (suc p) q d (omega arith) ∙ ap f (omega arith)
+
+  pub at-place : (q : ℕ) (d : A) → q < 8 → getD (tabulate 8 0 f) q d ≡ f q
+  at-place q d h = getD-tabulate 8 0 q d h ∙ ap f (omega arith)
 
 -- A list with what stands at a place changed.
 
@@ -144,6 +155,11 @@ and-false false = refl
 pub implied : (a b : Bool) → implies a b ≡ true → a ≡ true → b ≡ true
 implied true b h e = h
 implied false b h e = absurd (false≢true e)
+
+-- a test that is not asked for, or holds
+pub implies-true : (a b : Bool) → (a ≡ true → b ≡ true) → implies a b ≡ true
+implies-true true b h = h refl
+implies-true false b h = refl
 
 pub all-true : (l : List Bool) → allTrue l ≡ true → All (λ b. b ≡ true) l
 unfolding allTrue

@@ -79,6 +79,9 @@ zero-at [] h i = refl
 zero-at (b ∷ s) h zero = eqb-true b 0 (and-left (eqb b 0) (allZero s) h)
 zero-at (b ∷ s) h (suc i) = zero-at s (and-right (eqb b 0) (allZero s) h) i
 
+pub zero-behind : (a : ℕ) (vs : List ℕ) → allZero (drop a vs) ≡ true → (j : ℕ) → getD vs (a + j) 0 ≡ 0
+zero-behind a vs h j = sym (getD-drop a vs j 0) ∙ zero-at (drop a vs) h j
+
 pub zero-between : (a n : ℕ) (vs : List ℕ) → allZero (take n (drop a vs)) ≡ true → (j : ℕ) → j < n → getD vs (a + j) 0 ≡ 0
 zero-between a n vs h j l = sym (getD-take n (drop a vs) j 0 l ∙ getD-drop a vs j 0) ∙ zero-at (take n (drop a vs)) h j
 

@@ -2,21 +2,23 @@
 use mathlib.Core.Path.{_≡_, refl, _∙_, ap, ap₂}
 use mathlib.Core.Logic.{_⊎_, inl, inr}
 use mathlib.Core.List.{List, [], _∷_, map}
-use mathlib.Core.Bool.{Bool, true, false, cond, _||_, false≢true}
+use mathlib.Core.Bool.{Bool, true, false, cond, _||_, false≢true, _&&_}
 use Prim.Native.Nat.{ℕ, zero, suc, _+_, _-_, _^_, _≤_, _<_}
 use native.Mathlib.Omega.{arith}
-use lib.ListN.{length, drop, replicate, length-map}
+use lib.ListN.{length, drop, replicate, length-map, getD-replicate}
 use lib.Dec.{ltb, leb, eqb}
-use borrow.Author.Tests.{ltb-true, ltb-false, leb-true, eqb-false}
+use borrow.Author.Tests.{ltb-true, ltb-false, leb-true, le-leb, eqb-false}
 use Rattle.model.specs.Lists.{All, Octets}
-use Rattle.model.specs.State.{Settings, Leaving, stays, since, Fixed, Varying, Talker, noTalker, talker, Listener, noListener, listener, Ready, Cell, Domain, noDomain, domain, Own, Stream, Bridge, empty, unsettled, noFixed, noOwn, blank, fresh}
+use Rattle.model.specs.State.{Settings, Leaving, stays, since, Fixed, Varying, Talker, noTalker, talker, Listener, noListener, listener, Ready, Cell, Domain, noDomain, domain, Own, Stream, Bridge, empty, unsettled, noFixed, noOwn, blank, fresh, Port, Totals, cellAt, resultAt}
 use Rattle.model.specs.Registrations.{Kind, Act, leaveAll, leave, talk, listen, ofDomain, DomainAct, leaveAllDomains, leaveDomain, joinDomain, begin, talksAs, hearsAs, withLeaving, quitTalker, quitListener, quit, sameFixed, firstJoin, sameJoin, otherJoin, joinTalker, does, at, change, begun, touch, reach, apply, applyAll, quitDomain, doesDomain, changeDomains, applyOwn, applyOwns, Reading, refused, acts, Answer, holding, owning, received, ids}
 use Rattle.model.specs.Frames.{wrongPort, reading}
 use Rattle.model.specs.Settling.{isTalking, isHearing, held}
+use Rattle.model.specs.Table.{atMost, totalsWithin}
 use Rattle.model.specs.Calls.{receive}
-use Rattle.model.proofs.Lists.{all-map, all-drop, all-replicate, length-at, all-changed, drop-changed}
+use Rattle.model.proofs.Lists.{all-map, all-drop, all-replicate, length-at, all-changed, drop-changed, and-left, and-right, and-both}
 use Rattle.model.proofs.Valid.{ValidLeaving, ValidFixed, ValidVarying, ValidRegistration, ValidTalker, ValidListener, ValidCell, ValidDomain, ValidOwn, ValidResult, ValidStream, Rising, Valid, again-valid}
 use Rattle.model.proofs.FoundVectors.{Fits, FitsDomain, FitsReading, reading-fits, or-left, or-right}
+use Rattle.model.proofs.Stored.{Stays, talkers-stay, stored-kept, unsettled-stored, unsettled-declare}
 use Rattle.model.proofs.AdvanceKeepsForm.{all-mapped, unsettled-valid}
 
 -- One cell: an act keeps it valid, as it does at the clock, and at any earlier time that is less than the leave time before it.
@@ -81,10 +83,6 @@ unfolding isHearing quitListener
 quit-hears now k t u noListener = refl
 quit-hears now k t u (listener r l) = refl
 
-quit-stays : (now : ℕ) (k : Kind) (c : Cell) → onPort (quit now k c) ≡ onPort c
-unfolding onPort quit
-quit-stays now k c = ap₂ _||_ (quit-talks now k (c .talks) _ (c .hears)) (quit-hears now k _ (c .talks) (c .hears))
-
 talk-joins : (f : Fixed) (v : Varying) (t : Talker) (h : Listener) → onPort record { talks = joinTalker f v t; hears = h } ≡ true
 unfolding onPort isTalking joinTalker
 talk-joins f v noTalker h = refl
@@ -110,13 +108,29 @@ listen-puts : (now i : ℕ) (r : Ready) (c : Cell) → onPort (does now (listen 
 unfolding does
 listen-puts now i r c = listen-joins (c .talks) r
 
-does-stays : (now : ℕ) (a : Act) (c : Cell) → onPort c ≡ true → onPort (does now a c) ≡ true
-unfolding does
-does-stays now (leaveAll k) c h = quit-stays now k c ∙ h
-does-stays now (leave k i) c h = quit-stays now k c ∙ h
-does-stays now (talk i f v) c h = talk-puts now i f v c
-does-stays now (listen i r) c h = listen-puts now i r c
-does-stays now (ofDomain d) c h = h
+quit-keeps : (now : ℕ) (k : Kind) (c : Cell) → Stays c (quit now k c)
+unfolding quit
+quit-keeps now k c = record {
+  talks = λ h. quit-talks now k (c .talks) _ (c .hears) ∙ h;
+  hears = λ h. quit-hears now k _ (c .talks) (c .hears) ∙ h;
+}
+
+talk-talks : (f : Fixed) (v : Varying) (t : Talker) (h : Listener) → isTalking record { talks = joinTalker f v t; hears = h } ≡ true
+unfolding isTalking joinTalker
+talk-talks f v noTalker h = refl
+talk-talks f v (talker r) h = refl
+
+does-keeps : (now : ℕ) (a : Act) (c : Cell) → Stays c (does now a c)
+unfolding does isTalking isHearing
+does-keeps now (leaveAll k) c = quit-keeps now k c
+does-keeps now (leave k i) c = quit-keeps now k c
+does-keeps now (talk i f v) c = record { talks = λ h. talk-talks f v (c .talks) (c .hears); hears = λ h. h }
+does-keeps now (listen i r) c = record { talks = λ h. h; hears = λ h. refl }
+does-keeps now (ofDomain d) c = record { talks = λ h. h; hears = λ h. h }
+
+port-stays : (c d : Cell) → Stays c d → onPort c ≡ true → onPort d ≡ true
+unfolding onPort
+port-stays c d s h = or-map (isTalking c) (isTalking d) (isHearing c) (isHearing d) (s .talks) (s .hears) h
 
 -- Cells, with the one at a place changed.
 
@@ -141,24 +155,27 @@ Makes u join i = join ≡ true → (i < 2 ^ 64) × ((c : Cell) → onPort (u c) 
 
 module _ (ports clock leaveTime p : ℕ) (here : p < ports) (eight : ports ≤ 8) (u : Cell → Cell)
     (valid-then : (c : Cell) → ValidCell clock leaveTime c → ValidCell clock leaveTime (u c)) where
-  changed-valid : ((c : Cell) → onPort c ≡ true → onPort (u c) ≡ true) → (x : Stream) →
+  changed-valid : ((c : Cell) → Stays c (u c)) → (x : Stream) →
       ValidStream ports clock leaveTime x → ValidStream ports clock leaveTime (change (at p u) x)
-  unfolding change
+  unfolding change cellAt resultAt
   changed-valid k x v = record {
     id = v .id;
     settled = v .settled;
     eight-cells = length-at p u (x .cells) ∙ v .eight-cells;
     cells = all-changed (ValidCell clock leaveTime) p u (x .cells) valid-then (v .cells);
     no-other-cells = rw (drop-changed ports p u (x .cells) here) (v .no-other-cells);
-    is-held = held-stays p u (x .cells) k (v .is-held);
+    is-held = held-stays p u (x .cells) (λ c. port-stays c (u c) (k c)) (v .is-held);
     eight-results = v .eight-results;
     results = v .results;
     no-other-results = v .no-other-results;
+    idle = λ e. v .idle (omega (arith, talkers-stay u k ports p (x .cells) here (omega (arith, v .eight-cells))));
+    stored = stored-kept u k ports p (x .cells) here (omega (arith, v .eight-cells)) (x .results) (v .stored);
+    one-declares = v .one-declares;
   }
 
   -- a stream that a join makes is held by that join's registration
   joined-valid : ((c : Cell) → onPort (u c) ≡ true) → (i : ℕ) → i < 2 ^ 64 → ValidStream ports clock leaveTime (change (at p u) (fresh i))
-  unfolding change fresh blank noFixed empty
+  unfolding change fresh blank noFixed empty cellAt resultAt
   joined-valid k i small = record {
     id = small;
     settled = omega arith;
@@ -174,6 +191,9 @@ module _ (ports clock leaveTime p : ℕ) (here : p < ports) (eight : ports ≤ 8
     results = all-replicate (ValidResult clock) 8 unsettled (unsettled-valid clock);
     no-other-results =
         all-drop (λ r. r ≡ unsettled) ports (replicate 8 unsettled) (all-replicate (λ r. r ≡ unsettled) 8 unsettled refl);
+    idle = λ e. refl;
+    stored = λ q h. rw (getD-replicate 8 q unsettled unsettled (omega arith)) (unsettled-stored _ _);
+    one-declares = omega (arith, unsettled-declare ports 8);
   }
 
   begun-valid : (join : Bool) (i : ℕ) → Makes u join i → (s : List Stream) →
@@ -182,7 +202,7 @@ module _ (ports clock leaveTime p : ℕ) (here : p < ports) (eight : ports ≤ 8
   begun-valid true i m s a = (joined-valid (m refl .1) i (m refl .0), a)
   begun-valid false i m s a = a
 
-  touch-valid : ((c : Cell) → onPort c ≡ true → onPort (u c) ≡ true) → (join : Bool) (i : ℕ) → Makes u join i → (s : List Stream) →
+  touch-valid : ((c : Cell) → Stays c (u c)) → (join : Bool) (i : ℕ) → Makes u join i → (s : List Stream) →
       All (ValidStream ports clock leaveTime) s → All (ValidStream ports clock leaveTime) (touch join i (at p u) s)
   unfolding touch
   touch-valid k join i m [] a = begun-valid join i m [] a
@@ -242,6 +262,63 @@ unfolding ids change
 changed-ids u [] = refl
 changed-ids u (x ∷ s) = ap (λ (l : List ℕ). x .id ∷ l) (changed-ids u s)
 
+-- No act drops a stream, so class totals stay what they may be.
+
+touch-grows : (join : Bool) (i : ℕ) (u : List Cell → List Cell) (s : List Stream) → length s ≤ length (touch join i u s)
+unfolding touch begun
+touch-grows true i u [] = omega arith
+touch-grows false i u [] = omega arith
+touch-grows join i u (x ∷ s) = go join (ltb i (x .id)) (eqb i (x .id)) (touch-grows join i u s)
+  where
+    go : (j t t′ : Bool) → length s ≤ length (touch join i u s) →
+        suc (length s) ≤ length (cond t (begun j i u (x ∷ s)) (cond t′ (change u x ∷ s) (x ∷ touch join i u s)))
+    go true true t′ ih = omega arith
+    go false true t′ ih = omega arith
+    go j false true ih = omega arith
+    go j false false ih = omega arith
+
+acts-grow : (now p : ℕ) (es : List Act) (s : List Stream) → length s ≤ length (applyAll now p es s)
+unfolding applyAll apply reach
+acts-grow now p [] s = omega arith
+acts-grow now p (leaveAll k ∷ es) s =
+    let u = at p (does now (leaveAll k)) in
+    omega (arith, length-map s (change u), acts-grow now p es (map (change u) s))
+acts-grow now p (leave k i ∷ es) s =
+    let u = at p (does now (leave k i)) in
+    omega (arith, touch-grows false i u s, acts-grow now p es (touch false i u s))
+acts-grow now p (talk i f v ∷ es) s =
+    let u = at p (does now (talk i f v)) in
+    omega (arith, touch-grows true i u s, acts-grow now p es (touch true i u s))
+acts-grow now p (listen i r ∷ es) s =
+    let u = at p (does now (listen i r)) in
+    omega (arith, touch-grows true i u s, acts-grow now p es (touch true i u s))
+acts-grow now p (ofDomain d ∷ es) s = acts-grow now p es s
+
+most-grows : (some more : Bool) → (some ≡ true → more ≡ true) → (supports : Bool) (limit : ℕ) → atMost some supports limit ≤ atMost more supports limit
+unfolding atMost
+most-grows true more h supports limit = rw (h refl) (omega arith)
+most-grows false more h supports limit = omega arith
+
+totals-stay : (some more : Bool) → (some ≡ true → more ≡ true) → (ts : List Totals) (qs : List Port)
+    → totalsWithin some ts qs ≡ true → totalsWithin more ts qs ≡ true
+unfolding totalsWithin
+totals-stay some more h [] qs e = refl
+totals-stay some more h (t ∷ ts) [] e =
+    let first = eqb (t .totalA) 0 && eqb (t .totalB) 0 in
+    and-both first (totalsWithin more ts []) (and-left first (totalsWithin some ts []) e)
+    (totals-stay some more h ts [] (and-right first (totalsWithin some ts []) e))
+totals-stay some more h (t ∷ ts) (q ∷ qs) e =
+    let a = leb (t .totalA) (atMost some (q .supportsA) (q .limitA)) in
+    let b = leb (t .totalB) (atMost some (q .supportsB) (q .limitB)) in
+    let u = and-left (a && b) (totalsWithin some ts qs) e in
+    let before = leb-true (t .totalA) _ (and-left a b u) in
+    let behind = leb-true (t .totalB) _ (and-right a b u) in
+    rw (
+      le-leb (t .totalA) (atMost more (q .supportsA) (q .limitA)) (omega (arith, before, most-grows some more h (q .supportsA) (q .limitA))),
+      le-leb (t .totalB) (atMost more (q .supportsB) (q .limitB)) (omega (arith, behind, most-grows some more h (q .supportsB) (q .limitB))),
+    )
+    (totals-stay some more h ts qs (and-right (a && b) (totalsWithin some ts qs) e))
+
 -- The acts of a frame.
 
 -- valid streams, by ascending StreamID
@@ -253,7 +330,7 @@ module _ (ports clock leaveTime p : ℕ) (here : p < ports) (eight : ports ≤ 8
       ValidStreams ports clock leaveTime s → ValidStreams ports clock leaveTime (touch join i (at p (does clock a)) s)
   touch-keeps a fits join i m s g = (
     touch-valid ports clock leaveTime p here eight (does clock a) (does-valid clock leaveTime clock (omega arith) (omega arith) a fits)
-        (does-stays clock a) join i m s (g .0),
+        (does-keeps clock a) join i m s (g .0),
     touch-rising join i (at p (does clock a)) s (g .1),
   )
 
@@ -264,7 +341,7 @@ module _ (ports clock leaveTime p : ℕ) (here : p < ports) (eight : ports ≤ 8
       let a = leaveAll k in (
         all-mapped (ValidStream ports clock leaveTime) (ValidStream ports clock leaveTime) (change (at p (does clock a)))
             (changed-valid ports clock leaveTime p here eight (does clock a) (does-valid clock leaveTime clock (omega arith) (omega arith) a fits)
-            (does-stays clock a)) s (g .0),
+            (does-keeps clock a)) s (g .0),
         rw (changed-ids (at p (does clock a)) s) (g .1),
       )
   apply-keeps (leave k i) fits s g = touch-keeps (leave k i) fits false i (λ e. absurd (false≢true e)) s g
@@ -366,7 +443,10 @@ received-keeps b p (acts es) here fits v = go (leb (length s) 64) refl
       settings = v .settings;
       clock = v .clock;
       eight-totals = v .eight-totals;
-      totals = v .totals;
+      totals =
+          totals-stay (leb 1 (length (b .streams))) (leb 1 (length s))
+          (λ f. le-leb 1 (length s) (omega (arith, leb-true 1 (length (b .streams)) f, acts-grow (b .clock) (p - 1) es (b .streams))))
+          (b .totals) (b .settings .ports) (v .totals);
       eight-own = kept-own .eight-own;
       own = kept-own .own;
       no-other-own = kept-own .no-other-own;

@@ -1,7 +1,7 @@
 -- The table as octets and back: nothing is lost either way, and the octets that keep the form rules are those of valid bridges.
 use mathlib.Core.Path.{_≡_, refl, sym, _∙_, ap}
 use mathlib.Core.List.{List, [], _∷_, _++_, append-assoc, append-nil}
-use mathlib.Core.Bool.{Bool, true, _&&_}
+use mathlib.Core.Bool.{Bool, true, false, cond, _&&_}
 use Prim.Native.Nat.{ℕ, zero, suc, _+_, _*_, _-_, _%_, _^_, _≤_, _<_}
 use native.Mathlib.Omega.{arith}
 use lib.ListN.{length, getD, drop, replicate, take-append-drop, length-append, length-drop}
@@ -13,15 +13,17 @@ use Rattle.octets.specs.Parts.{part, zeros}
 use Rattle.octets.proofs.Parts.{length-part}
 use Rattle.octets.proofs.Fields.{length-packed-any, fields-packed, fields-packed-behind, fields-of-packed, packed-fields, fields-fit, fit-at, beAt-fits, packed-zeros}
 use Rattle.model.specs.Layout.{cellSize, cellsPlace, cellsSize, clockPlace, clockSize, clockWidths, countPlace, nameSize, nameWidths, ownSize, ownsPlace, ownsSize, portPlace, portSize, recordSize, recordsPlace, recordsSize, resultSize, resultsPlace, resultsSize, settingsSize, settledPriorityPlace, tableLength, totalSize, totalsPlace, totalsSize, totalsWidths}
-use Rattle.model.specs.Lists.{All, allTrue, parts, Octets}
-use Rattle.model.specs.State.{Port, Totals, Own, Stream, Bridge, empty, unsettled, noTotals, noOwn, started}
+use Rattle.model.specs.Lists.{All, allTrue, parts, Octets, implies}
+use Rattle.model.specs.State.{Port, Totals, Own, Stream, Bridge, empty, unsettled, noTotals, noOwn, started, noFixed, cellAt, resultAt}
 use Rattle.model.specs.Registrations.{ids}
-use Rattle.model.specs.WrittenFrames.{fixedNumbers}
-use Rattle.model.specs.Table.{settingsOctets, portsField, toSettings, settingsRules, settingsFormed, everyPart, allZero, cellOctets, toCell, cellFormed, resultOctets, toResult, resultFormed, cellsPart, resultsPart, fixedFrom, holds, streamOctets, toStream, streamRules, streamFormed, totalsOctets, toTotals, ownOctets, toOwn, ownFormed, encode, settingsPart, clockField, countField, totalsPart, ownsPart, recordsPart, decode, rising, idOf, totalsWithin, tableRules, formed}
+use Rattle.model.specs.WrittenFrames.{fixedNumbers, priorityOctet}
+use Rattle.model.specs.Table.{settingsOctets, portsField, toSettings, settingsRules, settingsFormed, everyPart, allZero, cellOctets, toCell, cellFormed, resultOctets, toResult, resultFormed, cellsPart, resultsPart, fixedFrom, holds, streamOctets, toStream, streamRules, streamFormed, totalsOctets, toTotals, ownOctets, toOwn, ownFormed, encode, settingsPart, clockField, countField, totalsPart, ownsPart, recordsPart, decode, rising, idOf, totalsWithin, tableRules, formed, talkers, declarers, storedFormed, everyPort, atMost}
 use Rattle.model.specs.Laid.{FitSettings, FitOwn, FitStream, FitTotals, FitBridge}
-use Rattle.model.proofs.Lists.{and-left, and-right, and-both, all-map, all-each, all-drop, all-replicate, all-true, true-all}
+use Rattle.model.proofs.Lists.{and-left, and-right, and-both, all-map, all-each, all-drop, all-replicate, all-true, true-all, implied, implies-true}
 use Rattle.model.proofs.Valid.{ValidCell, ValidResult, ValidPort, ValidFixed, ValidOwn, ValidStream, Rising, Valid}
-use Rattle.model.proofs.Parts.{_also_, octets-at, packed-whole, octets-append, octets-drop, octets-part, octets-zeros, octets-packed, octets-flat, length-zeros, zero-zeros, zeros-zero, part-between, length-parts, parts-map, Sized, length-flat-sized, parts-flat, many-read, every-read, every-forth, every-fewer, every-padded, parts-padded, zero-padded, every-flat, rising-rises, rises-rising}
+use Rattle.model.proofs.Parts.{_also_, octets-at, packed-whole, octets-append, octets-drop, octets-part, octets-zeros, octets-packed, octets-flat, length-zeros, zero-zeros, zeros-zero, part-between, length-parts, parts-map, Sized, length-flat-sized, parts-flat, many-read, every-read, every-forth, every-fewer, every-padded, parts-padded, zero-padded, every-flat, rising-rises, rises-rising, zero-behind}
+use Rattle.model.specs.Frames.{priorityOf, rankOf}
+use Rattle.model.proofs.Stored.{port-kept, ports-kept}
 use Rattle.model.proofs.Cells.{fixed-fit, fixed-back, fixed-forth, fixed-valid, priority-spare, cell-length, cell-octets, cells-sized, cell-back, cell-formed, cell-forth, cell-valid, cell-zeros, holds-held, held-holds}
 use Rattle.model.proofs.Results.{result-length, result-octets, results-sized, result-back, result-formed, result-forth, result-valid, result-zeros}
 use Rattle.model.proofs.Coded.{Coded, many-back, many-keep, many-rest, many-forth, many-valid, many-others}
@@ -92,6 +94,15 @@ octets-stream x =
     octets-append (name x) (cs ++ rs) (octets-packed nameWidths (x .id ∷ fixedNumbers (x .settled)))
     (octets-append cs rs (octets-flat cellOctets cell-octets (x .cells)) (octets-flat resultOctets result-octets (x .results)))
 
+-- settled values that are none
+none-zero : allZero (fixedNumbers noFixed) ≡ true
+unfolding allZero fixedNumbers noFixed priorityOctet
+none-zero = refl
+
+zero-none : (vs : List ℕ) → allZero (drop 1 vs) ≡ true → fixedFrom 1 vs ≡ noFixed
+unfolding fixedFrom noFixed priorityOf rankOf
+zero-none vs e = rw (zero-behind 1 vs e 0, zero-behind 1 vs e 1, zero-behind 1 vs e 2, zero-behind 1 vs e 3, zero-behind 1 vs e 4)
+
 -- at a bridge with so many ports, this clock and leave time
 module _ (ports clock leave : ℕ) (few : ports ≤ 8) (small : clock < 2 ^ 32) where
   cells-coded : Coded cellSize cellOctets toCell (cellFormed clock leave) (ValidCell clock leave) empty
@@ -137,7 +148,7 @@ module _ (ports clock leave : ℕ) (few : ports ≤ 8) (small : clock < 2 ^ 32) 
         rw (id-read x name-fit, settled-read, c, r, cs, rs)
 
     pub stream-formed : streamFormed ports clock leave (streamOctets x) ≡ true
-    unfolding streamFormed streamRules
+    unfolding streamFormed streamRules cellAt resultAt
     stream-formed =
         let c = cells-of x (v .eight-cells) (v .eight-results) in
         let r = results-of x (v .eight-cells) (v .eight-results) in
@@ -146,13 +157,17 @@ module _ (ports clock leave : ℕ) (few : ports ≤ 8) (small : clock < 2 ^ 32) 
         let back = all-map (ValidCell clock leave) (λ d. toCell (cellOctets d) ≡ d) (cell-back clock leave small) (x .cells) (v .cells) in
         let held-there : holds ports cs ≡ true =
         ap (holds ports) (sym (append-nil cs)) ∙ held-holds ports (x .cells) [] back h (v .no-other-cells) (v .is-held) in
+        let n = talkers ports (x .cells) in
         true-all (streamRules ports clock leave (streamOctets x))
         (eq-eqb (getD (streamOctets x) settledPriorityPlace 0 % 16) 0 (spare-read x name-fit)
-        also rw (c, r)
-        (many-keep cells-coded ports 8 few (x .cells) (v .eight-cells) (v .cells)
+        also rw (stream-back, c, r)
+        (implies-true (eqb n 0) (allZero (drop 1 (fields nameWidths 0 (streamOctets x)))) (λ e. rw (name-read x name-fit, v .idle (eqb-true n 0 e)) none-zero)
+        also many-keep cells-coded ports 8 few (x .cells) (v .eight-cells) (v .cells)
         also held-there
         also many-rest cells-coded ports 8 few (x .cells) (v .eight-cells) (v .cells) (v .no-other-cells)
         also many-keep results-coded ports 8 few (x .results) (v .eight-results) (v .results)
+        also ports-kept (storedFormed n) ports (x .cells) (x .results) (v .stored)
+        also le-leb (declarers ports (x .results)) 1 (v .one-declares)
         also many-rest results-coded ports 8 few (x .results) (v .eight-results) (v .results) (v .no-other-results)
         also tt))
 
@@ -165,25 +180,37 @@ module _ (ports clock leave : ℕ) (few : ports ≤ 8) (small : clock < 2 ^ 32) 
     unfolding streamRules fields
     spare-kept = ap (λ (b : ℕ). b % 16) (octet-field s settledPriorityPlace) ∙ eqb-true (getD s settledPriorityPlace 0 % 16) 0 (stream-rules .0)
 
+    idle-kept : implies (eqb (talkers ports (toStream s .cells)) 0) (allZero (drop 1 (fields nameWidths 0 s))) ≡ true
+    unfolding streamRules
+    idle-kept = stream-rules .1 .0
+
     cells-kept : everyPart cellSize (cellFormed clock leave) ports (cellsPart s) ≡ true
     unfolding streamRules
-    cells-kept = stream-rules .1 .0
+    cells-kept = stream-rules .1 .1 .0
 
     held-kept : holds ports (cellsPart s) ≡ true
     unfolding streamRules
-    held-kept = stream-rules .1 .1 .0
+    held-kept = stream-rules .1 .1 .1 .0
 
     cells-zero : allZero (drop (ports * cellSize) (cellsPart s)) ≡ true
     unfolding streamRules
-    cells-zero = stream-rules .1 .1 .1 .0
+    cells-zero = stream-rules .1 .1 .1 .1 .0
 
     results-kept : everyPart resultSize (resultFormed clock) ports (resultsPart s) ≡ true
     unfolding streamRules
-    results-kept = stream-rules .1 .1 .1 .1 .0
+    results-kept = stream-rules .1 .1 .1 .1 .1 .0
+
+    stored-kept : everyPort (storedFormed (talkers ports (toStream s .cells))) ports (toStream s .cells) (toStream s .results) ≡ true
+    unfolding streamRules
+    stored-kept = stream-rules .1 .1 .1 .1 .1 .1 .0
+
+    one-kept : declarers ports (toStream s .results) ≤ 1
+    unfolding streamRules
+    one-kept = leb-true (declarers ports (toStream s .results)) 1 (stream-rules .1 .1 .1 .1 .1 .1 .1 .0)
 
     results-zero : allZero (drop (ports * resultSize) (resultsPart s)) ≡ true
     unfolding streamRules
-    results-zero = stream-rules .1 .1 .1 .1 .1 .0
+    results-zero = stream-rules .1 .1 .1 .1 .1 .1 .1 .1 .0
 
     cells-room : length (cellsPart s) ≡ cellsSize
     unfolding cellsPart
@@ -224,7 +251,7 @@ module _ (ports clock leave : ℕ) (few : ports ≤ 8) (small : clock < 2 ^ 32) 
         fixed-valid 1 vs (fit 1) (fit 2) (fit 3) (fit 4) (fit 5)
 
     pub stream-valid : ValidStream ports clock leave (toStream s)
-    unfolding toStream
+    unfolding toStream cellAt resultAt
     stream-valid = record {
       id = beAt-fits 8 s 0 (octets-at s o);
       settled = settled-valid;
@@ -235,27 +262,44 @@ module _ (ports clock leave : ℕ) (few : ports ≤ 8) (small : clock < 2 ^ 32) 
       eight-results = length-parts resultSize toResult 8 (resultsPart s);
       results = many-valid results-coded ports 8 few (resultsPart s) results-room results-octets results-kept results-zero;
       no-other-results = many-others results-coded ports 8 few (resultsPart s) results-room results-octets results-kept results-zero;
+      idle = λ e. zero-none (fields nameWidths 0 s) (implied (eqb (talkers ports (toStream s .cells)) 0) _ idle-kept (eq-eqb _ 0 e));
+      stored = λ p h.
+          port-kept (storedFormed (talkers ports (toStream s .cells))) ports (toStream s .cells) (toStream s .results) stored-kept p h
+          (omega (arith, length-parts cellSize toCell 8 (cellsPart s))) (omega (arith, length-parts resultSize toResult 8 (resultsPart s)));
+      one-declares = one-kept;
     }
 
 -- One port's totals, which fit since its limits do.
 
-pub totals-fit : (ts : List Totals) (qs : List Port) → All ValidPort qs → totalsWithin ts qs ≡ true → All FitTotals ts
+at-most-limit : (some supports : Bool) (limit : ℕ) → atMost some supports limit ≤ limit
+unfolding atMost
+at-most-limit some supports limit = go (some && supports)
+  where
+    go : (t : Bool) → cond t limit 0 ≤ limit
+    go true = omega arith
+    go false = omega arith
+
+pub totals-fit : (some : Bool) (ts : List Totals) (qs : List Port) → All ValidPort qs → totalsWithin some ts qs ≡ true → All FitTotals ts
 unfolding totalsWithin
-totals-fit [] qs v e = tt
-totals-fit (t ∷ ts) [] v e =
+totals-fit some [] qs v e = tt
+totals-fit some (t ∷ ts) [] v e =
     let first = eqb (t .totalA) 0 && eqb (t .totalB) 0 in
-    let u = and-left first (totalsWithin ts []) e in
+    let u = and-left first (totalsWithin some ts []) e in
     let a : t .totalA ≡ 0 = eqb-true (t .totalA) 0 (and-left (eqb (t .totalA) 0) (eqb (t .totalB) 0) u) in
     let b : t .totalB ≡ 0 = eqb-true (t .totalB) 0 (and-right (eqb (t .totalA) 0) (eqb (t .totalB) 0) u) in
-    ((omega arith, omega arith), totals-fit ts [] v (and-right first (totalsWithin ts []) e))
-totals-fit (t ∷ ts) (q ∷ qs) v e =
-    let first = leb (t .totalA) (q .limitA) && leb (t .totalB) (q .limitB) in
-    let u = and-left first (totalsWithin ts qs) e in
-    let a : t .totalA ≤ q .limitA = leb-true (t .totalA) (q .limitA) (and-left (leb (t .totalA) (q .limitA)) (leb (t .totalB) (q .limitB)) u) in
-    let b : t .totalB ≤ q .limitB = leb-true (t .totalB) (q .limitB) (and-right (leb (t .totalA) (q .limitA)) (leb (t .totalB) (q .limitB)) u) in
+    ((omega arith, omega arith), totals-fit some ts [] v (and-right first (totalsWithin some ts []) e))
+totals-fit some (t ∷ ts) (q ∷ qs) v e =
+    let mostA = atMost some (q .supportsA) (q .limitA) in
+    let mostB = atMost some (q .supportsB) (q .limitB) in
+    let first = leb (t .totalA) mostA && leb (t .totalB) mostB in
+    let u = and-left first (totalsWithin some ts qs) e in
+    let a : t .totalA ≤ mostA = leb-true (t .totalA) mostA (and-left (leb (t .totalA) mostA) (leb (t .totalB) mostB) u) in
+    let b : t .totalB ≤ mostB = leb-true (t .totalB) mostB (and-right (leb (t .totalA) mostA) (leb (t .totalB) mostB) u) in
     let la : q .limitA < 256 ^ 5 = v .0 .limitA in
-    let lb : q .limitB < 256 ^ 5 = v .0 .limitB in
-    ((omega arith, omega arith), totals-fit ts qs (v .1) (and-right first (totalsWithin ts qs) e))
+    let lb : q .limitB < 256 ^ 5 = v .0 .limitB in (
+      (omega (arith, at-most-limit some (q .supportsA) (q .limitA)), omega (arith, at-most-limit some (q .supportsB) (q .limitB))),
+      totals-fit some ts qs (v .1) (and-right first (totalsWithin some ts qs) e),
+    )
 
 pub totals-length : (t : Totals) → length (totalsOctets t) ≡ totalSize
 unfolding totalsOctets width
@@ -509,7 +553,7 @@ module _ (b : Bridge) (v : Valid b) where
   settings-same = settings-decoded b whole (settings-fit (b .settings) (v .settings))
 
   totals-same : parts totalSize toTotals 8 (totalsPart (encode b)) ≡ b .totals
-  totals-same = totals-decoded b whole (totals-fit (b .totals) (b .settings .ports) (v .settings .ports) (v .totals))
+  totals-same = totals-decoded b whole (totals-fit _ (b .totals) (b .settings .ports) (v .settings .ports) (v .totals))
 
   own-same : parts ownSize toOwn 8 (ownsPart (encode b)) ≡ b .own
   own-same =
@@ -582,7 +626,7 @@ module _ (b : Bridge) (v : Valid b) where
       (true-all (tableRules (encode b))
       (settings-keep
       also settings-rest
-      also rw (totals-same, settings-same) (v .totals)
+      also rw (count, totals-same, settings-same) (v .totals)
       also rw (ports-same, clock, settings-same, owns-read b whole) owns-formed
       also rw (ports-same, owns-read b whole) owns-rest
       also rw count (le-leb (length (b .streams)) 64 (v .at-most-64))
@@ -616,7 +660,7 @@ module _ (t : List ℕ) (f : formed t ≡ true) where
   unfolding tableRules
   settings-zero = table-rules .1 .0
 
-  totals-kept : totalsWithin (parts totalSize toTotals 8 (totalsPart t)) (toSettings (settingsPart t) .ports) ≡ true
+  totals-kept : totalsWithin (leb 1 (countField t)) (parts totalSize toTotals 8 (totalsPart t)) (toSettings (settingsPart t) .ports) ≡ true
   unfolding tableRules
   totals-kept = table-rules .1 .1 .0
 
@@ -707,7 +751,7 @@ module _ (t : List ℕ) (o : Octets t) (f : formed t ≡ true) where
         settings = settings-valid s octets-settings-part ports-fit (settings-kept t f);
         clock = clock-fits;
         eight-totals = length-parts totalSize toTotals 8 (totalsPart t);
-        totals = totals-kept t f;
+        totals = rw (length-parts recordSize toStream n rs) (totals-kept t f);
         eight-own = length-parts ownSize toOwn 8 (ownsPart t);
         own = many-valid coded p 8 h (ownsPart t) (owns-room t f) octets-owns-part (owns-kept t f) (owns-zero t f);
         no-other-own = rw e (many-others coded p 8 h (ownsPart t) (owns-room t f) octets-owns-part (owns-kept t f) (owns-zero t f));
@@ -773,11 +817,13 @@ same-octets t u o p f g e = sym (encode-decode t o f) ∙ ap encode e ∙ encode
 
 -- Start.
 
-none-within : (n : ℕ) (qs : List Port) → totalsWithin (replicate n noTotals) qs ≡ true
+none-within : (some : Bool) (n : ℕ) (qs : List Port) → totalsWithin some (replicate n noTotals) qs ≡ true
 unfolding totalsWithin noTotals
-none-within zero qs = refl
-none-within (suc n) [] = none-within n []
-none-within (suc n) (q ∷ qs) = rw (le-leb 0 (q .limitA) (omega arith), le-leb 0 (q .limitB) (omega arith)) (none-within n qs)
+none-within some zero qs = refl
+none-within some (suc n) [] = none-within some n []
+none-within some (suc n) (q ∷ qs) =
+    rw (le-leb 0 (atMost some (q .supportsA) (q .limitA)) (omega arith), le-leb 0 (atMost some (q .supportsB) (q .limitB)) (omega arith))
+    (none-within some n qs)
 
 pub valid-started : (s : List ℕ) → Octets s → settingsFormed s ≡ true → Valid (started (toSettings s))
 unfolding started ids Rising
@@ -785,7 +831,7 @@ valid-started s o f = record {
   settings = formed-valid s o f;
   clock = omega arith;
   eight-totals = refl;
-  totals = none-within 8 (toSettings s .ports);
+  totals = none-within _ 8 (toSettings s .ports);
   eight-own = refl;
   own = all-replicate (ValidOwn 0 (toSettings s .leaveTime)) 8 noOwn (owns-coded 0 (toSettings s .leaveTime) (omega arith) .good);
   no-other-own = all-drop (λ o. o ≡ noOwn) (length (toSettings s .ports)) (replicate 8 noOwn) (all-replicate (λ o. o ≡ noOwn) 8 noOwn refl);

@@ -6,10 +6,11 @@ use Prim.Native.Nat.{ℕ, _+_, _/_, _^_, _≤_, _<_}
 use lib.ListN.{length, drop}
 use Rattle.model.specs.Layout.{priorityBUnit, slots}
 use Rattle.model.specs.Lists.{All}
-use Rattle.model.specs.State.{Port, Settings, Leaving, stays, since, Fixed, Health, sound, broken, Varying, Registration, Talker, noTalker, talker, Listener, noListener, listener, Cell, Domain, noDomain, domain, Own, Column, none, advertise, failed, Entry, noEntry, filters, forwards, Result, Stream, Bridge, empty, unsettled, noOwn}
+use Rattle.model.specs.State.{Port, Settings, Leaving, stays, since, Fixed, Health, sound, broken, Varying, Registration, Talker, noTalker, talker, Listener, noListener, listener, Cell, Domain, noDomain, domain, Own, Column, none, advertise, failed, Entry, noEntry, filters, forwards, Result, Stream, Bridge, empty, unsettled, noOwn, noFixed, cellAt, resultAt}
+use lib.Dec.{leb}
 use Rattle.model.specs.Registrations.{ids}
 use Rattle.model.specs.Settling.{held}
-use Rattle.model.specs.Table.{totalsWithin}
+use Rattle.model.specs.Table.{talkers, declarers, storedFormed, totalsWithin}
 
 pub record ValidPort (q : Port) : Type 0 where
   pub overhead : q .overhead < 256
@@ -116,6 +117,9 @@ pub record ValidStream (ports clock leave : ℕ) (x : Stream) : Type 0 where
   pub eight-results : length (x .results) ≡ 8
   pub results : All (ValidResult clock) (x .results)
   pub no-other-results : All (λ r. r ≡ unsettled) (drop ports (x .results))
+  pub idle : talkers ports (x .cells) ≡ 0 → x .settled ≡ noFixed
+  pub stored : (p : ℕ) → p < ports → storedFormed (talkers ports (x .cells)) (cellAt x p) (resultAt x p) ≡ true
+  pub one-declares : declarers ports (x .results) ≤ 1
 
 -- StreamIDs rise
 unfoldable pub Rising : List ℕ → Type 0
@@ -126,7 +130,7 @@ pub record Valid (b : Bridge) : Type 0 where
   pub settings : ValidSettings (b .settings)
   pub clock : b .clock < 2 ^ 32
   pub eight-totals : length (b .totals) ≡ 8
-  pub totals : totalsWithin (b .totals) (b .settings .ports) ≡ true
+  pub totals : totalsWithin (leb 1 (length (b .streams))) (b .totals) (b .settings .ports) ≡ true
   pub eight-own : length (b .own) ≡ 8
   pub own : All (ValidOwn (b .clock) (b .settings .leaveTime)) (b .own)
   pub no-other-own : All (λ o. o ≡ noOwn) (drop (length (b .settings .ports)) (b .own))

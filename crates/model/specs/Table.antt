@@ -12,6 +12,7 @@ use Rattle.octets.specs.Fields.{fields, packed, flat}
 use Rattle.model.specs.Layout.{ageField, boundaryBPlace, boundaryPlace, boundaryWidths, bridgeField, cellFields, cellSize, cellWidths, cellsPlace, cellsSize, changedField, clockPlace, clockWidths, codeField, columnField, countPlace, declaredField, domainVlanPlace, entryField, failureCodeField, failureField, fixedField, headWidths, heldField, latencyField, latencyOutField, listenerField, listenerLeavesField, listenerPlace, listenerSinceField, nameWidths, ownSize, ownsPlace, ownsSize, portPlace, portSize, portWidths, portsPlace, portsUnit, priorityAUnit, priorityBUnit, priorityField, recordSize, recordsPlace, resultSize, resultWidths, resultsPlace, resultsSize, settingsSize, settledPriorityPlace, slotLeavesField, slotSinceField, slotSize, slotVlanField, slotWidths, slots, slotsSize, tableLength, talkerField, talkerLeavesField, talkerSinceField, totalBPlace, totalSize, totalsPlace, totalsSize, totalsWidths, wordPlace}
 use Rattle.model.specs.Lists.{allTrue, implies, parts, bit, isOne}
 use Rattle.model.specs.State.{Port, Settings, Leaving, stays, since, Fixed, Health, sound, broken, Registration, Talker, noTalker, talker, Domain, noDomain, domain, Own, Ready, askingFailed, ready, readyFailed, Listener, noListener, listener, Cell, Column, none, advertise, failed, Entry, noEntry, filters, forwards, Declared, nothing, tells, Result, Stream, Totals, Bridge}
+use Rattle.model.specs.Settling.{isTalking, isHearing}
 use Rattle.model.specs.Frames.{priorityOf, rankOf}
 use Rattle.model.specs.WrittenFrames.{fixedNumbers, readyNumber}
 
@@ -80,8 +81,8 @@ settingsRules s =
     ∷ not (eqb (beAt 3 s wordPlace / priorityAUnit % 8) (beAt 3 s wordPlace / priorityBUnit % 8))  -- 3
     ∷ leb 1 (beAt 3 s wordPlace % priorityBUnit)  -- 4
     ∷ everyPart portSize portRule (portsField s) (drop portsPlace s)  -- 5
-    ∷ leb 1 (beAt 2 s domainVlanPlace)  -- 25
-    ∷ leb (beAt 2 s domainVlanPlace) 4094  -- 25
+    ∷ leb 1 (beAt 2 s domainVlanPlace)  -- 30
+    ∷ leb (beAt 2 s domainVlanPlace) 4094  -- 30
     ∷ []
 
 -- 11: settings "Length 13 + 22 x ports", and as laid out; 02: "11 where the VLAN setting is 0 or 4,095, or one of the upper four
@@ -302,14 +303,68 @@ unfoldable pub holds : ℕ → List ℕ → Bool
 holds zero s = false
 holds (suc k) s = not (eqb (getD s 0 0) 0) || not (eqb (getD s listenerPlace 0) 0) || holds k (drop cellSize s)
 
+-- What the last advance stored, beside the registrations: only advance removes one, and then decides anew.
+
+-- how many of the first k ports have a Talker
+unfoldable pub talkers : ℕ → List Cell → ℕ
+talkers zero cs = 0
+talkers (suc k) [] = 0
+talkers (suc k) (c ∷ cs) = bit (isTalking c) + talkers k cs
+
+unfoldable pub hasColumn : Column → Bool
+hasColumn none = false
+hasColumn advertise = true
+hasColumn (failed b c) = true
+
+unfoldable pub declares : Declared → Bool
+declares nothing = false
+declares (tells r) = true
+
+-- how many of the first k ports declare a Listener
+unfoldable pub declarers : ℕ → List Result → ℕ
+declarers zero rs = 0
+declarers (suc k) [] = 0
+declarers (suc k) (r ∷ rs) = bit (declares (r .declares)) + declarers k rs
+
+-- an entry that stands for a Listener: without a column, or forwarding
+unfoldable pub forListener : Column → Entry → Bool
+forListener k noEntry = false
+forListener none filters = true
+forListener advertise filters = false
+forListener (failed b c) filters = false
+forListener k forwards = true
+
+-- the rules of a result beside its port's cell, where n ports have a Talker: another port, where they are more than this one's own
+unfoldable pub storedRules : ℕ → Cell → Result → List Bool
+storedRules n c r =
+    implies (hasColumn (r .column)) (ltb (bit (isTalking c)) n)  -- 26
+    ∷ implies (declares (r .declares)) (not (hasColumn (r .column)) && isTalking c)  -- 27
+    ∷ implies (forListener (r .column) (r .entry)) (isHearing c)  -- 28
+    ∷ []
+
+unfoldable pub storedFormed : ℕ → Cell → Result → Bool
+storedFormed n c r = allTrue (storedRules n c r)
+
+-- a rule of each of the first k ports
+unfoldable pub everyPort : (Cell → Result → Bool) → ℕ → List Cell → List Result → Bool
+everyPort rule zero cs rs = true
+everyPort rule (suc k) [] rs = true
+everyPort rule (suc k) (c ∷ cs) [] = true
+everyPort rule (suc k) (c ∷ cs) (r ∷ rs) = rule c r && everyPort rule k cs rs
+
 -- at a bridge of so many ports; what belongs to no port is zero
 unfoldable pub streamRules : ℕ → ℕ → ℕ → List ℕ → List Bool
 streamRules ports clock leave s =
+    let x = toStream s in
+    let n = talkers ports (x .cells) in
     eqb (getD s settledPriorityPlace 0 % 16) 0  -- 11
+    ∷ implies (eqb n 0) (allZero (drop 1 (fields nameWidths 0 s)))  -- 25
     ∷ everyPart cellSize (cellFormed clock leave) ports (cellsPart s)  -- 14 to 19
     ∷ holds ports (cellsPart s)  -- 12
     ∷ allZero (drop (ports * cellSize) (cellsPart s))  -- 13
     ∷ everyPart resultSize (resultFormed clock) ports (resultsPart s)  -- 20 to 24
+    ∷ everyPort (storedFormed n) ports (x .cells) (x .results)  -- 26 to 28
+    ∷ leb (declarers ports (x .results)) 1  -- 27
     ∷ allZero (drop (ports * resultSize) (resultsPart s))  -- 13
     ∷ []
 
@@ -337,9 +392,9 @@ toDomain s = domainFrom (fields slotWidths 0 s)
 unfoldable pub domainRules : ℕ → ℕ → List ℕ → List Bool
 domainRules clock leave vs =
     let at : ℕ → ℕ = λ i. getD vs i 0 in
-    leb (at heldField) 1  -- 26
-    ∷ leavingRule clock leave (at slotLeavesField) (at slotSinceField)  -- 27
-    ∷ implies (eqb (at heldField) 0) (allZero (at slotLeavesField ∷ at slotSinceField ∷ at slotVlanField ∷ []))  -- 28
+    leb (at heldField) 1  -- 31
+    ∷ leavingRule clock leave (at slotLeavesField) (at slotSinceField)  -- 32
+    ∷ implies (eqb (at heldField) 0) (allZero (at slotLeavesField ∷ at slotSinceField ∷ at slotVlanField ∷ []))  -- 33
     ∷ []
 
 unfoldable pub domainFormed : ℕ → ℕ → List ℕ → Bool
@@ -360,9 +415,9 @@ toOwn s = record {
 
 unfoldable pub ownRules : ℕ → ℕ → List ℕ → List Bool
 ownRules clock leave s =
-    everyPart slotSize (domainFormed clock leave) slots (slotsPart s)  -- 26 to 28
-    ∷ leb (getD s boundaryPlace 0) 1  -- 29
-    ∷ leb (getD s boundaryBPlace 0) 1  -- 29
+    everyPart slotSize (domainFormed clock leave) slots (slotsPart s)  -- 31 to 33
+    ∷ leb (getD s boundaryPlace 0) 1  -- 34
+    ∷ leb (getD s boundaryBPlace 0) 1  -- 34
     ∷ []
 
 unfoldable pub ownFormed : ℕ → ℕ → List ℕ → Bool
@@ -422,11 +477,18 @@ rising (i ∷ j ∷ l) = ltb i j && rising (j ∷ l)
 unfoldable pub idOf : List ℕ → ℕ
 idOf s = beAt 8 s 0
 
--- no class total above its limit, port by port; a place that is no port has none
-unfoldable pub totalsWithin : List Totals → List Port → Bool
-totalsWithin [] qs = true
-totalsWithin (t ∷ ts) [] = eqb (t .totalA) 0 && eqb (t .totalB) 0 && totalsWithin ts []
-totalsWithin (t ∷ ts) (q ∷ qs) = leb (t .totalA) (q .limitA) && leb (t .totalB) (q .limitB) && totalsWithin ts qs
+-- what a class total may be: the limit, where some stream is held and the port supports the class
+unfoldable pub atMost : Bool → Bool → ℕ → ℕ
+atMost some supports limit = cond (some && supports) limit 0
+
+-- no class total above that, port by port; a place that is no port has none
+unfoldable pub totalsWithin : Bool → List Totals → List Port → Bool
+totalsWithin some [] qs = true
+totalsWithin some (t ∷ ts) [] = eqb (t .totalA) 0 && eqb (t .totalB) 0 && totalsWithin some ts []
+totalsWithin some (t ∷ ts) (q ∷ qs) =
+    leb (t .totalA) (atMost some (q .supportsA) (q .limitA))
+    && leb (t .totalB) (atMost some (q .supportsB) (q .limitB))
+    && totalsWithin some ts qs
 
 unfoldable pub tableRules : List ℕ → List Bool
 tableRules t =
@@ -434,11 +496,11 @@ tableRules t =
     let n = countField t in
     allTrue (settingsRules s)  -- 2 to 5
     ∷ allZero (drop (portPlace (portsField s)) s)  -- 6
-    ∷ totalsWithin (parts totalSize toTotals 8 (totalsPart t)) (toSettings s .ports)  -- 7
-    ∷ everyPart ownSize (ownFormed (clockField t) (toSettings s .leaveTime)) (portsField s) (ownsPart t)  -- 26 to 29
-    ∷ allZero (drop (portsField s * ownSize) (ownsPart t))  -- 30
+    ∷ totalsWithin (leb 1 n) (parts totalSize toTotals 8 (totalsPart t)) (toSettings s .ports)  -- 7, 29
+    ∷ everyPart ownSize (ownFormed (clockField t) (toSettings s .leaveTime)) (portsField s) (ownsPart t)  -- 31 to 34
+    ∷ allZero (drop (portsField s * ownSize) (ownsPart t))  -- 35
     ∷ leb n 64  -- 8
-    ∷ everyPart recordSize (streamFormed (portsField s) (clockField t) (toSettings s .leaveTime)) n (recordsPart t)  -- 11 to 24
+    ∷ everyPart recordSize (streamFormed (portsField s) (clockField t) (toSettings s .leaveTime)) n (recordsPart t)  -- 11 to 28
     ∷ rising (parts recordSize idOf n (recordsPart t))  -- 9
     ∷ allZero (drop (n * recordSize) (recordsPart t))  -- 10
     ∷ []

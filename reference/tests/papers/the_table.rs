@@ -252,9 +252,12 @@ fn rule_11_the_settled_priority_octet() {
 
 #[test]
 fn rule_12_a_registration_in_each_record() {
-    breaks(&three_streams(250), 12, cell(2, 2) + cell::LISTENER, 0);
+    let mut table = three_streams(250);
+    join_listener(&mut table, 1, STREAM + 3, READY);
+    breaks(&table, 12, cell(3, 1) + cell::LISTENER, 0);
     // The other registration of the stream is enough.
-    keeps(&three_streams(250), cell(0, 2) + cell::LISTENER, 0);
+    join_talker(&mut table, 2, &talker(STREAM + 3));
+    keeps(&table, cell(3, 1) + cell::LISTENER, 0);
 }
 
 #[test]
@@ -320,7 +323,10 @@ fn rule_18_fields_without_a_registration() {
     breaks(&table, 18, cell(0, 2) + cell::BRIDGE_ID.start, 1);
     breaks(&table, 18, cell(0, 2) + cell::CODE, 1);
     breaks(&table, 18, cell(0, 1) + cell::LISTENER_LEAVING, 1);
-    breaks(&table, 18, cell(0, 1) + cell::TALKER, 0);
+    let mut joined = table.clone();
+    join_talker(&mut joined, 1, &talker(STREAM + 3));
+    join_listener(&mut joined, 2, STREAM + 3, READY);
+    breaks(&joined, 18, cell(3, 1) + cell::TALKER, 0);
 }
 
 #[test]
@@ -335,11 +341,12 @@ fn rule_19_the_failure_of_an_advertise() {
 
 #[test]
 fn rule_20_kinds_of_results() {
-    let table = three_streams(250);
-    breaks(&table, 20, result(0, 1) + result::COLUMN, 3);
-    breaks(&table, 20, result(0, 1) + result::ENTRY, 3);
+    let mut table = three_streams(250);
+    breaks(&table, 20, result(0, 2) + result::ENTRY, 3);
     breaks(&table, 20, result(0, 1) + result::LISTENER, 4);
-    keeps(&table, result(0, 2) + result::LISTENER, 3);
+    keeps(&table, result(0, 1) + result::LISTENER, 3);
+    join_talker(&mut table, 1, &talker(STREAM + 3));
+    breaks(&table, 20, result(3, 2) + result::COLUMN, 3);
 }
 
 #[test]
@@ -365,12 +372,15 @@ fn rule_22_the_failure_of_a_column() {
 fn rule_23_entry_and_column() {
     breaks(&three_streams(99), 23, result(0, 2) + result::ENTRY, 0);
     breaks(&three_streams(99), 23, result(1, 2) + result::ENTRY, 0);
-    let table = three_streams(250);
+    let mut table = three_streams(250);
+    join_listener(&mut table, 2, STREAM + 1, READY);
     breaks(&table, 23, result(1, 2) + result::ENTRY, 2);
-    breaks(&table, 23, result(0, 1) + result::ENTRY, 2);
-    breaks(&table, 23, result(0, 1) + result::COLUMN, 1);
+    breaks(&table, 23, result(2, 2) + result::ENTRY, 2);
     keeps(&table, result(0, 2) + result::ENTRY, 1);
+    join_listener(&mut table, 1, STREAM, READY);
     keeps(&table, result(0, 1) + result::ENTRY, 1);
+    join_talker(&mut table, 1, &talker(STREAM + 3));
+    breaks(&table, 23, result(3, 2) + result::COLUMN, 1);
 }
 
 #[test]
@@ -381,6 +391,72 @@ fn rule_24_the_age_of_an_entry() {
     breaks(&table, 24, result(0, 2) + result::SINCE.start, 1);
     breaks(&table, 24, CLOCK.end - 2, 0);
     keeps(&table, result(0, 2) + result::SINCE.end - 1, 0);
+}
+
+#[test]
+fn rule_25_settled_values_without_a_talker() {
+    let mut table = three_streams(250);
+    for place in [record::PARAMETERS.start, record::PARAMETERS.end - 2] {
+        breaks(&table, 25, record(2) + place, 1);
+        keeps(&table, record(0) + place, 1);
+    }
+    breaks(&table, 25, record(2) + record::PRIORITY, 0x70);
+    // A Talker joined since is enough.
+    join_talker(&mut table, 2, &talker(STREAM + 2));
+    keeps(&table, record(2) + record::PRIORITY, 0x70);
+}
+
+#[test]
+fn rule_26_columns_without_another_talker() {
+    let mut table = three_streams(250);
+    breaks(&table, 26, result(2, 2) + result::COLUMN, 1);
+    breaks(&table, 26, result(2, 2) + result::COLUMN, 2);
+    // The port's own Talker is not enough, that of another is.
+    join_talker(&mut table, 2, &talker(STREAM + 2));
+    breaks(&table, 26, result(2, 2) + result::COLUMN, 1);
+    join_talker(&mut table, 1, &talker(STREAM + 2));
+    keeps(&table, result(2, 2) + result::COLUMN, 1);
+    keeps(&table, result(2, 2) + result::COLUMN, 2);
+}
+
+#[test]
+fn rule_27_the_listener_declared() {
+    let mut table = three_streams(250);
+    breaks(&table, 27, result(2, 2) + result::LISTENER, 2); // no Talker
+    join_talker(&mut table, 2, &talker(STREAM));
+    breaks(&table, 27, result(0, 2) + result::LISTENER, 2); // a column
+    join_talker(&mut table, 1, &talker(STREAM + 2));
+    join_talker(&mut table, 2, &talker(STREAM + 2));
+    keeps(&table, result(2, 1) + result::LISTENER, 1);
+    keeps(&table, result(2, 2) + result::LISTENER, 1);
+    table.store(result(2, 1) + result::LISTENER, 1);
+    breaks(&table, 27, result(2, 2) + result::LISTENER, 1); // a second port
+}
+
+#[test]
+fn rule_28_entries_without_a_listener() {
+    let mut table = three_streams(250);
+    breaks(&table, 28, result(0, 1) + result::ENTRY, 1);
+    breaks(&table, 28, result(2, 1) + result::ENTRY, 1);
+    join_listener(&mut table, 1, STREAM, READY);
+    keeps(&table, result(0, 1) + result::ENTRY, 1);
+    // An Advertise filters without a Listener, and forwards only with one.
+    join_talker(&mut table, 1, &talker(STREAM + 3));
+    advance(&mut table, 250);
+    breaks(&table, 28, result(3, 2) + result::ENTRY, 2);
+    join_listener(&mut table, 2, STREAM + 3, ASKING);
+    keeps(&table, result(3, 2) + result::ENTRY, 2);
+}
+
+#[test]
+fn rule_29_totals_of_no_stream() {
+    let mut settings = settings(2);
+    settings.ports[1].supports.a = false;
+    let mut table = started(&settings);
+    breaks(&table, 29, TOTALS + 4, 1);
+    join_listener(&mut table, 1, STREAM, READY);
+    keeps(&table, TOTALS + 4, 1);
+    breaks(&table, 29, TOTALS + 14, 1);
 }
 
 #[test]
@@ -409,76 +485,76 @@ fn the_octets_of_the_domain() {
 }
 
 #[test]
-fn rule_25_the_vlan_setting() {
+fn rule_30_the_vlan_setting() {
     let table = three_streams(250);
     assert_eq!(table.lent()[11..13], [0, 2]);
-    breaks(&table, 25, 12, 0);
+    breaks(&table, 30, 12, 0);
     for bit in 4..8 {
-        breaks(&table, 25, 11, 1 << bit);
+        breaks(&table, 30, 11, 1 << bit);
     }
     let mut last = table.clone();
     last.store(11, 0x0f);
-    breaks(&last, 25, 12, 0xff);
+    breaks(&last, 30, 12, 0xff);
     keeps(&last, 12, 0xfe);
     keeps(&table, 12, 1);
 }
 
 #[test]
-fn rule_26_registered() {
+fn rule_31_registered() {
     let table = three_streams(250);
     for place in [domain(1, 5, 2), domain(2, 6, 3), domain(1, 5, 0), domain(2, 6, 7)] {
-        breaks(&table, 26, place + domain::REGISTERED, 2);
-        breaks(&table, 26, place + domain::REGISTERED, 255);
+        breaks(&table, 31, place + domain::REGISTERED, 2);
+        breaks(&table, 31, place + domain::REGISTERED, 255);
     }
     keeps(&table, domain(1, 5, 0) + domain::REGISTERED, 1);
     keeps(&table, domain(2, 6, 7) + domain::REGISTERED, 1);
 }
 
 #[test]
-fn rule_27_a_leaving_domain() {
+fn rule_32_a_leaving_domain() {
     let table = three_streams(250);
     let (flag, since) = (domain::LEAVING, domain::SINCE.end - 1);
     let place = domain(2, 6, 3);
-    breaks(&table, 27, place + flag, 2);
-    breaks(&table, 27, place + flag, 1); // from 0, long before
-    breaks(&table, 27, place + since, 250); // not leaving
+    breaks(&table, 32, place + flag, 2);
+    breaks(&table, 32, place + flag, 1); // from 0, long before
+    breaks(&table, 32, place + since, 250); // not leaving
     let mut leaving = table.clone();
     accept(&mut leaving, 2, &domain_frame(6, 3, &[LV]));
     keeps(&leaving, place + since, 191); // 59 before the clock
-    breaks(&leaving, 27, place + since, 190);
-    breaks(&leaving, 27, place + since, 251);
-    breaks(&leaving, 27, place + flag, 0);
+    breaks(&leaving, 32, place + since, 190);
+    breaks(&leaving, 32, place + since, 251);
+    breaks(&leaving, 32, place + flag, 0);
     keeps(&three_streams(59), place + flag, 1);
-    breaks(&three_streams(60), 27, place + flag, 1);
+    breaks(&three_streams(60), 32, place + flag, 1);
 }
 
 #[test]
-fn rule_28_fields_without_a_domain_registration() {
+fn rule_33_fields_without_a_domain_registration() {
     let table = three_streams(59);
     for place in [domain(1, 5, 0), domain(1, 6, 2), domain(2, 6, 7)] {
-        breaks(&table, 28, place + domain::LEAVING, 1);
-        breaks(&table, 28, place + domain::VLAN.start, 1);
-        breaks(&table, 28, place + domain::VLAN.end - 1, 1);
+        breaks(&table, 33, place + domain::LEAVING, 1);
+        breaks(&table, 33, place + domain::VLAN.start, 1);
+        breaks(&table, 33, place + domain::VLAN.end - 1, 1);
     }
-    breaks(&table, 28, domain(1, 5, 2) + domain::REGISTERED, 0);
+    breaks(&table, 33, domain(1, 5, 2) + domain::REGISTERED, 0);
     keeps(&table, domain(1, 5, 2) + domain::VLAN.start, 0xff);
 }
 
 #[test]
-fn rule_29_boundary_flags() {
+fn rule_34_boundary_flags() {
     let table = three_streams(250);
     for flag in [edge(1) + 128, edge(1) + 129, edge(2) + 128, edge(2) + 129] {
-        breaks(&table, 29, flag, 2);
+        breaks(&table, 34, flag, 2);
         // Registrations may have changed since, so no rule ties the flags to them.
         keeps(&table, flag, 1);
     }
 }
 
 #[test]
-fn rule_30_the_domain_of_no_port() {
+fn rule_35_the_domain_of_no_port() {
     let table = three_streams(250);
     for place in [edge(3), edge(3) + 7, edge(3) + 128, edge(8), RECORDS - 1] {
-        breaks(&table, 30, place, 1);
+        breaks(&table, 35, place, 1);
     }
 }
 

@@ -6,5 +6,5 @@ use Rattle.form.proofs.listener_formed.Tie as tie
 pub listener-formed-spec : {M : Type 1} → statement M
 listener-formed-spec =
     tie.close
-    (tie.spec (λ c. search by-octets) (λ c. search by-octets) (λ c κs. search by-octets) (λ c κs. search by-octets)
-    (λ c. search by-octets))
+    (tie.spec (λ c. search by-octets) (λ c. search by-octets) (λ c κs. search by-octets) (λ c. search by-octets)
+    (λ c κs. search by-octets) (λ c. search by-octets))

@@ -1,26 +1,23 @@
 -- `form::record_formed` meets its contract. Assumes nothing.
+use mathlib.Core.Path.{refl}
 use borrow.Author.Needs.{needs}
-use Rattle.octets.specs.Parts.{part}
-use Rattle.model.specs.Table.{streamFormed, streamRules, cellsPart, resultsPart}
-use Rattle.form.proofs.Tests.{all-together}
+use Rattle.form.proofs.Tables.{record-tests}
 use Rattle.form.proofs.record_formed.Statement.{statement}
 use Rattle.form.proofs.record_formed.Tie as tie
 
 returns : tie.Need-returns
-unfolding streamFormed streamRules cellsPart resultsPart part
 returns c =
-    rw (
-      c .before .before .before .before .cells-formed .ensures,
-      c .before .before .before .some-held .ensures,
-      c .before .before .zero-from .ensures,
-      c .before .results-formed .ensures,
-      c .zero-from2 .ensures,
-    )
-    (all-together _ _)
+    let held = c .before .before .before .before .before .before .cells-formed in
+    record-tests _ _ _ _ _ _ _ refl refl _ _ (held .result .none) _ _ _
+    (c .before .before .before .before .before .settled-formed .ensures)
+    (held .ensures)
+    (c .before .before .zero-from .ensures)
+    (c .before .results-formed .ensures)
+    (c .zero-from2 .ensures)
 
 pub record-formed-spec : {M : Type 1} → statement M
 record-formed-spec =
     tie.close
     (tie.spec (λ c. search needs) (λ c. search needs) (λ c. search needs) (λ c. search needs) (λ c. search needs)
-    (λ c. search needs) (λ c. search needs) (λ c κs. search needs) (λ c κs. search needs) (λ c. search needs)
-    (λ c κs. search needs) (λ c κs. search needs) (λ c. search needs) (λ c κs. search needs) returns)
+    (λ c. search needs) (λ c κs. search needs) (λ c κs. search needs) (λ c. search needs) (λ c κs. search needs)
+    (λ c κs. search needs) (λ c. search needs) (λ c κs. search needs) returns)

@@ -1,0 +1,152 @@
+-- The rules of a result beside the cell of its port, in terms of their octets, by its column.
+use mathlib.Core.Path.{_≡_, refl, sym, ap, _∙_}
+use mathlib.Core.List.{List}
+use mathlib.Core.Bool.{Bool, true, false, cond, not, _&&_, _||_, and-assoc, and-true, and-false}
+use Prim.Native.Nat.{ℕ, zero, suc, _-_, _/_}
+use native.Mathlib.Omega.{arith}
+use lib.ListN.{length, getD, take, drop}
+use lib.Dec.{ltb, leb, eqb}
+use borrow.Author.Needs.{needs}
+use borrow.Author.Tests.{eqb-true, eq-eqb, ne-eqb, lt-leb}
+use Rattle.octets.specs.Be.{beAt}
+use Rattle.octets.specs.Fields.{fields}
+use Rattle.octets.proofs.Fields.{beAt-one}
+use Rattle.model.specs.Layout.{agePlace, columnPlace, declaredPlace, entryPlace, failurePlace, latencyOutPlace, listenerPlace, resultSize, talkerPlace}
+use Rattle.model.specs.Lists.{allTrue, implies, bit}
+use Rattle.model.specs.State.{none, advertise, failed, nothing, tells}
+use Rattle.model.specs.Table.{allZero, toReady, toCell, toColumn, toEntry, toDeclared, resultFrom, toResult, resultFormed, hasColumn, declares, forListener, storedRules, storedFormed}
+use Rattle.model.proofs.Cells.{talking-read, hearing-read}
+use Rattle.form.proofs.Results.{no-column, advertised, failed-column}
+
+implies-not : (a b : Bool) → implies (not a) b ≡ (a || b)
+implies-not true b = refl
+implies-not false b = refl
+
+implies-false : (a : Bool) → implies (not a) false ≡ a
+implies-false true = refl
+implies-false false = refl
+
+-- what a result's numbers say of it
+declares-read : (k : ℕ) → declares (toDeclared k) ≡ not (eqb k 0)
+unfolding declares toDeclared
+declares-read k = go (eqb k 0)
+  where
+    go : (t : Bool) → declares (cond t nothing (tells (toReady k))) ≡ not t
+    go true = refl
+    go false = refl
+
+pub declared-read : (s : List ℕ) → declares (toResult s .declares) ≡ not (eqb (getD s declaredPlace 0) 0)
+unfolding toResult resultFrom fields
+declared-read s = declares-read (beAt 1 s declaredPlace) ∙ ap (λ (k : ℕ). not (eqb k 0)) (sym (beAt-one s declaredPlace))
+
+entry-some : (e : ℕ) → forListener none (toEntry e) ≡ not (eqb e 0)
+unfolding forListener toEntry
+entry-some zero = refl
+entry-some (suc zero) = refl
+entry-some (suc (suc e)) = rw (ne-eqb (suc (suc e)) 0 (λ x. omega arith), ne-eqb (suc (suc e)) 1 (λ x. omega arith)) refl
+
+entry-forwards : (e : ℕ) → forListener advertise (toEntry e) ≡ not (leb e 1)
+unfolding forListener toEntry
+entry-forwards zero = refl
+entry-forwards (suc zero) = refl
+entry-forwards (suc (suc e)) =
+    rw (ne-eqb (suc (suc e)) 0 (λ x. omega arith), ne-eqb (suc (suc e)) 1 (λ x. omega arith), lt-leb (suc (suc e)) 1 (omega arith)) refl
+
+entry-filters : (b c : ℕ) → forListener (failed b c) (toEntry 1) ≡ false
+unfolding forListener toEntry
+entry-filters b c = refl
+
+module _ (clock n : ℕ) (c s : List ℕ) (h : length s ≡ resultSize) (second : ℕ) (aged : second ≡ beAt 4 s agePlace) where
+  abbrev column : ℕ
+  column = getD s columnPlace 0
+
+  abbrev entry : ℕ
+  entry = getD s entryPlace 0
+
+  abbrev declared : ℕ
+  declared = getD s declaredPlace 0
+
+  abbrev talks : Bool
+  talks = not (eqb (getD c talkerPlace 0) 0)
+
+  abbrev hears : Bool
+  hears = not (eqb (getD c listenerPlace 0) 0)
+
+  abbrev Rest : Bool
+  Rest = leb second (clock / 100) && leb declared 3
+
+  abbrev Formed : Bool
+  Formed = resultFormed clock s && storedFormed n (toCell c) (toResult s)
+
+  -- by a column's kind
+  stored-none : column ≡ 0 → storedFormed n (toCell c) (toResult s) ≡ ((eqb declared 0 || talks) && (eqb entry 0 || hears))
+  unfolding storedFormed storedRules allTrue hasColumn toColumn toResult resultFrom fields
+  stored-none k =
+      rw (
+        talking-read c,
+        hearing-read c,
+        declares-read (beAt 1 s declaredPlace),
+        ← (beAt-one s columnPlace),
+        ← (beAt-one s entryPlace),
+        ← (beAt-one s declaredPlace),
+        k,
+        entry-some entry,
+        implies-not (eqb declared 0) talks,
+        implies-not (eqb entry 0) hears,
+        and-true,
+      )
+
+  stored-advertise : column ≡ 1 → storedFormed n (toCell c) (toResult s) ≡ (ltb (bit talks) n && (eqb declared 0 && (leb entry 1 || hears)))
+  unfolding storedFormed storedRules allTrue hasColumn toColumn toResult resultFrom fields
+  stored-advertise k =
+      rw (
+        talking-read c,
+        hearing-read c,
+        declares-read (beAt 1 s declaredPlace),
+        ← (beAt-one s columnPlace),
+        ← (beAt-one s entryPlace),
+        ← (beAt-one s declaredPlace),
+        k,
+        entry-forwards entry,
+        implies-false (eqb declared 0),
+        implies-not (leb entry 1) hears,
+        and-true,
+      )
+
+  stored-failed : (column ≡ 0 → ⊥) → (column ≡ 1 → ⊥) → entry ≡ 1 → storedFormed n (toCell c) (toResult s) ≡ (ltb (bit talks) n && eqb declared 0)
+  unfolding storedFormed storedRules allTrue hasColumn toColumn toResult resultFrom fields
+  stored-failed k l e =
+      rw (
+        talking-read c,
+        hearing-read c,
+        declares-read (beAt 1 s declaredPlace),
+        ← (beAt-one s columnPlace),
+        ← (beAt-one s entryPlace),
+        ← (beAt-one s declaredPlace),
+        ne-eqb column 0 k,
+        ne-eqb column 1 l,
+        e,
+        entry-filters,
+        implies-false (eqb declared 0),
+        and-true,
+      )
+
+  -- b is what the cell's Talker counts
+  pub none-kept : (z : Bool) → column ≡ 0 → z ≡ allZero (take (entryPlace - latencyOutPlace) (drop latencyOutPlace s))
+      → (z && leb entry 1 && (not (eqb entry 0) || eqb second 0) && Rest && (eqb declared 0 || talks) && (eqb entry 0 || hears)) ≡ Formed
+  none-kept z k e = rw (no-column clock s h second aged z k e, stored-none k, and-assoc)
+
+  pub advertise-kept : (z : Bool) → column ≡ 1 → z ≡ allZero (take (entryPlace - failurePlace) (drop failurePlace s)) → (b : ℕ) → b ≡ bit talks
+      → (z && leb entry 2 && leb 1 entry && Rest && (ltb b n && eqb declared 0) && (leb entry 1 || hears)) ≡ Formed
+  advertise-kept z k e b f = rw (advertised clock s h second aged z k e, stored-advertise k, f, and-assoc, and-assoc)
+
+  pub failed-kept : (column ≡ 0 → ⊥) → (column ≡ 1 → ⊥) → (b : ℕ) → b ≡ bit talks
+      → (leb column 2 && eqb entry 1 && Rest && (ltb b n && eqb declared 0)) ≡ Formed
+  failed-kept k l b f = rw (← (failed-column clock s h second aged k l), f) (go (eqb entry 1) refl)
+    where
+      go : (t : Bool) → eqb entry 1 ≡ t → (leb column 2 && t && Rest && (ltb (bit talks) n && eqb declared 0)) ≡ (leb column 2 && t && Rest && storedFormed n (toCell c) (toResult s))
+      go true e = rw (stored-failed k l (eqb-true entry 1 e))
+      go false e = rw and-false
+
+-- what closes the needs of a result's tests
+pub ruleset by-octets = (needs, none-kept, advertise-kept, failed-kept)

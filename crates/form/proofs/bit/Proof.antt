@@ -1,0 +1,17 @@
+-- `form::bit` meets its contract. Assumes nothing.
+use mathlib.Core.Path.{refl}
+use native.Mathlib.Omega.{arith}
+use Rattle.model.specs.Lists.{bit}
+use Rattle.form.proofs.bit.Statement.{statement}
+use Rattle.form.proofs.bit.Tie as tie
+
+returns : tie.Need-returns
+unfolding bit
+returns c = (rw (c .if1 .taken), omega arith)
+
+returns-2 : tie.Need-returns-2
+unfolding bit
+returns-2 c = (rw (c .if1 .left), omega arith)
+
+pub bit-spec : {M : Type 1} → statement M
+bit-spec = tie.close (tie.spec returns returns-2)
