@@ -12,4 +12,5 @@ pub mod Dropping
 pub mod ByPlace
 pub mod OwnParts
 pub mod EachStream
+pub mod EachPort
 pub mod ReadOctets
