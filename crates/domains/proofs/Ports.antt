@@ -34,8 +34,8 @@ use Rattle.domains.proofs.Values.{held-octet}
 
 -- Octets that are laid out as what a port holds.
 module _ (s : List ℕ) (l : LaidOwn s) where
-  back : toOwn s ≡ l .own
-  back = ap toOwn (l .is) ∙ own-fit-back (l .own) (l .fits)
+  back : toOwn s ≡ l .thing
+  back = ap toOwn (l .is) ∙ own-fit-back (l .thing) (l .fits)
 
   pub laid-own-is : s ≡ ownOctets (toOwn s)
   laid-own-is = l .is ∙ ap ownOctets (sym back)

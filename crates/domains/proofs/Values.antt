@@ -26,8 +26,8 @@ use Rattle.domains.proofs.Keeps.{FitDomain}
 -- what holds of the octets of a Domain value holds of octets that are laid out as one
 laid : (P : List ℕ → Domain → Type 0) → ((d : Domain) → FitDomain d → P (domainOctets d) d) → (s : List ℕ) → LaidDomain s → P s (toDomain s)
 laid P h s l =
-    let back : toDomain s ≡ l .value = ap toDomain (l .is) ∙ fit-back (l .value) (l .fits) in
-    subst (λ (t : List ℕ). P t (toDomain s)) (sym (l .is)) (subst (P (domainOctets (l .value))) (sym back) (h (l .value) (l .fits)))
+    let back : toDomain s ≡ l .thing = ap toDomain (l .is) ∙ fit-back (l .thing) (l .fits) in
+    subst (λ (t : List ℕ). P t (toDomain s)) (sym (l .is)) (subst (P (domainOctets (l .thing))) (sym back) (h (l .thing) (l .fits)))
 
 -- the octet that says whether it is registered
 pub held-octet : (d : Domain) → FitDomain d → getD (domainOctets d) heldField 0 ≡ getD (domainNumbers d) heldField 0
