@@ -130,10 +130,10 @@ fn decide_owns(table: &mut [u8], time: u32)
         (model.decideOwns (decode (now (table .entry)) .settings) time (decode (now (table .entry)) .own))) ⌝ }
 {
     let leave = table::leave_time(table);
-    let mut p: usize = 0;
-    while p < 8 {
-        decide_own(table, p, leave, time);
-        p += 1;
+    let mut place: usize = 0;
+    while place < 8 {
+        decide_own(table, place, leave, time);
+        place += 1;
     }
 }
 

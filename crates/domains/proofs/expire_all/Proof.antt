@@ -47,9 +47,9 @@ loop-again c =
       omega arith,
       search needs,
       λ st e.
-      left-slot (lapsedTo st time (l .i) (toOwn s)) (lapsed-fits st time (toOwn s) fits (l .i)) (l .own) (l .inv .2 st e) (l .i) (omega arith) (expireDomain st time) _
+          left-slot (lapsedTo st time (l .i) (toOwn s)) (lapsed-fits st time (toOwn s) fits (l .i)) (l .own) (l .inv .2 st e) (l .i) (omega arith) (expireDomain st time) _
           (c .before .before .expire .ensures st e)
-      ∙ ap ownOctets (lapsed-next st time (toOwn s) fits (l .i)),
+          ∙ ap ownOctets (lapsed-next st time (toOwn s) fits (l .i)),
     )
 
 returns : tie.Need-returns Inv-loop μ-loop

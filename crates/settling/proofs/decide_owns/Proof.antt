@@ -21,11 +21,11 @@ abbrev decision : List ℕ → ℕ → ℕ → Own
 decision t time = decideOwn (decode t .settings) time (decode t .own)
 
 abbrev Inv-loop : tie.InvT-loop
-Inv-loop table₀ time leave p₀ table p =
-    (p ≤ 8) × (leave ≡ decode table₀ .settings .leaveTime) × (length table ≡ length table₀) × (table ≡ encode (ownsTo (decision table₀ time) table₀ p))
+Inv-loop table₀ time leave place₀ table place =
+    (place ≤ 8) × (leave ≡ decode table₀ .settings .leaveTime) × (length table ≡ length table₀) × (table ≡ encode (ownsTo (decision table₀ time) table₀ place))
 
 abbrev μ-loop : tie.MeasureT-loop
-μ-loop table₀ time leave p₀ table p = 8 - p
+μ-loop table₀ time leave place₀ table place = 8 - place
 
 fits : (t : List ℕ) → Laid t → (time q : ℕ) → FitOwn (decision t time q)
 fits t l time = decision-fits (decode t .settings) time (decode t .own) (laid-fits t l .own)
@@ -39,9 +39,10 @@ decide-own-requires c κs =
     let l = c .before .before .loop in
     let t₀ = first .args .table .now in
     let time = first .args .time in
-    let h : l .p < 8 = omega arith in
-    (own-next-in (decision t₀ time) t₀ (first .pre) (fits t₀ (first .pre) time) (l .p) h (l .table) (l .inv .3),
-        rw (owns-settings (decision t₀ time) t₀ (first .pre) (fits t₀ (first .pre) time) (l .p) h (l .table) (l .inv .3)) (l .inv .1))
+    let h : l .place < 8 = omega arith in (
+      own-next-in (decision t₀ time) t₀ (first .pre) (fits t₀ (first .pre) time) (l .place) h (l .table) (l .inv .3),
+      rw (owns-settings (decision t₀ time) t₀ (first .pre) (fits t₀ (first .pre) time) (l .place) h (l .table) (l .inv .3)) (l .inv .1),
+    )
 
 loop-again : tie.Need-loop-again Inv-loop μ-loop
 loop-again c =
@@ -49,17 +50,17 @@ loop-again c =
     let l = c .before .before .before .before .before .loop in
     let t₀ = first .args .table .now in
     let time = first .args .time in
-    let h : l .p < 8 = omega arith in
+    let h : l .place < 8 = omega arith in
     let f = fits t₀ (first .pre) time in
     let b = decode (l .table) in (
       omega arith,
       l .inv .1,
       search needs,
-      one-own-more (decision t₀ time) t₀ (first .pre) f (l .p) h (l .table) (l .inv .3) _
+      one-own-more (decision t₀ time) t₀ (first .pre) f (l .place) h (l .table) (l .inv .3) _
           (c .before .before .decide-own .ensures
-          ∙ ap (λ (st : Settings). encode (withOwn (l .p) (decideOwn st time (b .own) (l .p)) b)) (owns-settings (decision t₀ time) t₀ (first .pre) f (l .p) h (l .table) (l .inv .3))
-          ∙ ap (λ (o : Own). encode (withOwn (l .p) o b))
-          (same-decision (decode t₀ .settings) time (b .own) (decode t₀ .own) (l .p) (own-next (decision t₀ time) t₀ (first .pre) f (l .p) h (l .table) (l .inv .3)))),
+          ∙ ap (λ (st : Settings). encode (withOwn (l .place) (decideOwn st time (b .own) (l .place)) b)) (owns-settings (decision t₀ time) t₀ (first .pre) f (l .place) h (l .table) (l .inv .3))
+          ∙ ap (λ (o : Own). encode (withOwn (l .place) o b))
+          (same-decision (decode t₀ .settings) time (b .own) (decode t₀ .own) (l .place) (own-next (decision t₀ time) t₀ (first .pre) f (l .place) h (l .table) (l .inv .3)))),
     )
 
 returns : tie.Need-returns Inv-loop μ-loop
@@ -67,7 +68,7 @@ unfolding decideOwns
 returns c =
     let first = c .before .before .before .before .before in
     let l = c .before .loop in
-    let e : l .p ≡ 8 = omega arith in
+    let e : l .place ≡ 8 = omega arith in
     all-own (decision _ (first .args .time)) _ (first .pre) _ (rw e at (l .inv .3))
 
 pub decide-owns-spec : {M : Type 1} → statement M
