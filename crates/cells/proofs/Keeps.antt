@@ -12,11 +12,11 @@ use Rattle.model.specs.State.{Settings, Leaving, stays, since, Fixed, Health, s
 use Rattle.model.specs.Registrations.{Kind, Act, leaveAll, leave, talk, listen, ofDomain, begin, talksAs, hearsAs, withLeaving, quitTalker, quitListener, quit, sameFixed, firstJoin, sameJoin, otherJoin, joinTalker, does}
 use Rattle.model.specs.WrittenFrames.{fixedNumbers}
 use Rattle.model.specs.Settling.{expired, expireTalker, expireListener, expireCell}
-use Rattle.model.specs.Table.{leavingNumber, sinceNumber, healthNumber, bridgeNumber, codeNumber, talkerNumbers, listenerNumbers, cellNumbers}
+use Rattle.model.specs.Table.{sinceNumber, healthNumber, bridgeNumber, codeNumber, talkerNumbers, listenerNumbers, cellNumbers}
 use Rattle.model.specs.Laid.{FitRank, FitCell}
 use Rattle.model.proofs.Valid.{ValidFixed, ValidHealth, ValidVarying}
 use Rattle.model.proofs.Parts.{_also_}
-use Rattle.model.proofs.Cells.{fixed-fit, bit-few, ready-number}
+use Rattle.model.proofs.Cells.{fixed-fit, bit-few, leaving-few, ready-number}
 use Rattle.model.proofs.FoundVectors.{Fits}
 
 -- The halves of a cell.
@@ -57,14 +57,9 @@ no-listener = fit-zeros (drop listenerField cellWidths)
 
 -- Leaving.
 
-leaving-few : (l : Leaving) → leavingNumber l < 256
-unfolding leavingNumber
-leaving-few stays = omega arith
-leaving-few (since t) = omega arith
-
 -- begun at the clock, or not
 module _ (clock : ℕ) (small : clock < 2 ^ 32) where
-  begun-fits : (l : Leaving) → sinceNumber l < 2 ^ 32 → sinceNumber (begin clock l) < 2 ^ 32
+  pub begun-fits : (l : Leaving) → sinceNumber l < 2 ^ 32 → sinceNumber (begin clock l) < 2 ^ 32
   unfolding begin sinceNumber
   begun-fits stays h = small
   begun-fits (since t) h = h
@@ -73,7 +68,7 @@ module _ (clock : ℕ) (small : clock < 2 ^ 32) where
   maybe-begun-fits true l h = begun-fits l h
   maybe-begun-fits false l h = h
 
-stays-fits : sinceNumber stays < 2 ^ 32
+pub stays-fits : sinceNumber stays < 2 ^ 32
 unfolding sinceNumber
 stays-fits = omega arith
 

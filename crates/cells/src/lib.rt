@@ -5,7 +5,7 @@ ghost use Prim.Native.Nat.{ℕ, _+_, _≤_, _<_, _^_};
 ghost use lib.ListN.{length};
 ghost use Rattle.octets.specs.Be.{beAt};
 ghost use Rattle.model.specs.FrameLayout.{advertiseLength, failedLength, firstDestination};
-ghost use Rattle.model.specs.Layout.{cellSize, listenerLeavesPlace, priorityBUnit};
+ghost use Rattle.model.specs.Layout.{cellSize, leavingSize, priorityBUnit};
 ghost use Rattle.model.specs.State.{Settings};
 ghost use Rattle.model.specs.Registrations.{quit, does, listen};
 ghost use Rattle.model.specs.Frames.{registers, firstLength};
@@ -40,8 +40,8 @@ const FIRST_BRIDGE_ID: usize = 25;
 const FIRST_CODE: usize = 33;
 
 // Begins leaving at the clock, unless it was begun: the mark at a place, and the time behind it.
-fn begin(cell: &mut [u8], at: usize, clock: u32)
-    requires { ⌜ (length (now cell) ≡ cellSize) × (at ≤ listenerLeavesPlace) ⌝ }
+pub fn begin(cell: &mut [u8], at: usize, clock: u32)
+    requires { ⌜ at + leavingSize ≤ length (now cell) ⌝ }
     ensures { λ _. ⌜ now (cell .exit) ≡ begun at clock (now (cell .entry)) ⌝ }
 {
     if cell[at] == 0 {
@@ -157,8 +157,8 @@ pub fn join_talker(cell: &mut [u8], kind: u8, first: &[u8], n: usize)
 }
 
 // Clears n octets where the leaving with its mark at a place has lasted the leave time. The sum is of 64 bits, so that it does not wrap.
-fn lapse(cell: &mut [u8], from: usize, n: usize, mark: usize, leave: u32, time: u32)
-    requires { ⌜ (length (now cell) ≡ cellSize) × (from + n ≤ cellSize) × (mark ≤ listenerLeavesPlace) × (leave < priorityBUnit) ⌝ }
+pub fn lapse(cell: &mut [u8], from: usize, n: usize, mark: usize, leave: u32, time: u32)
+    requires { ⌜ (from + n ≤ length (now cell)) × (mark + leavingSize ≤ length (now cell)) ⌝ }
     ensures { λ _. ⌜ now (cell .exit) ≡ lapsed from n mark leave time (now (cell .entry)) ⌝ }
 {
     if cell[mark] == 0 {
