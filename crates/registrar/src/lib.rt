@@ -12,12 +12,12 @@ ghost use Rattle.model.specs.Table.{encode, decode};
 ghost use Rattle.model.specs.Registrations.{leaveAll, leave, quit, does, ofDomain, leaveAllDomains, quitDomain};
 ghost use Rattle.model.specs.Frames.{vectors, walk, valueActs, valuesActs, leaveAllActs, vectorActs};
 ghost use Rattle.table.specs.Updates.{withCell, withSlot};
-ghost use Rattle.table.specs.Places.{PortIn};
+ghost use Rattle.table.specs.Places.{PortIn, SlotIn};
 ghost use Rattle.cells.specs.Acts.{kindAt};
 ghost use Rattle.msrpdu.specs.Reader.{headVector};
 ghost use Rattle.registrar.specs.Walked.{Walked, Receives};
 ghost use Rattle.registrar.specs.Enrols.{Enrols};
-ghost use Rattle.registrar.specs.Asks.{QuitGiven, SlotGiven, DomainGiven, LeaveGiven, CellGiven, FrameGiven, WalkGiven, ListGiven, VectorGiven, ValuesGiven, ValueGiven, JoinGiven};
+ghost use Rattle.registrar.specs.Asks.{QuitGiven, DomainGiven, LeaveGiven, CellGiven, FrameGiven, WalkGiven, ListGiven, VectorGiven, ValuesGiven, ValueGiven, JoinGiven};
 ghost use Rattle.registrar.specs.Acts.{actsOf, attributeAt, vectorOf, joinOf, askedOf, Declares};
 use msrpdu::DomainRead;
 use msrpdu::Event;
@@ -76,20 +76,20 @@ fn join_cell(table: &mut [u8], k: usize, walk: ListWalk, first: &[u8], four: u8,
 
 // Lv or LeaveAll of a Domain value of a port.
 fn quit_slot(table: &mut [u8], place: usize, slot: usize, clock: u32)
-    requires { ⌜ SlotGiven (now table) place slot ⌝ }
+    requires { ⌜ SlotIn (now table) place slot ⌝ }
     ensures { λ _. ⌜ now (table .exit) ≡ encode (withSlot place slot (quitDomain clock) (decode (now (table .entry)))) ⌝ }
 {
     let a = table::slot_in(table, place, slot);
-    cells::quit_domain(&mut table[a..a + table::SLOT], clock);
+    domains::quit(&mut table[a..a + table::SLOT], clock);
 }
 
 // A join of a Domain value of a port, with its VLAN.
 fn join_slot(table: &mut [u8], place: usize, slot: usize, vlan: u64)
-    requires { ⌜ SlotGiven (now table) place slot × (vlan < 65536) ⌝ }
+    requires { ⌜ SlotIn (now table) place slot × (vlan < 65536) ⌝ }
     ensures { λ _. ⌜ now (table .exit) ≡ encode (withSlot place slot (λ d. domain vlan stays) (decode (now (table .entry)))) ⌝ }
 {
     let a = table::slot_in(table, place, slot);
-    cells::join_domain(&mut table[a..a + table::SLOT], vlan);
+    domains::join(&mut table[a..a + table::SLOT], vlan);
 }
 
 // LeaveAll of the Domain values of a port.
