@@ -48,7 +48,7 @@ fn no_class(class: ClassRead) -> bool
 }
 
 // Whether a port supports a class; a priority that is no class is not one that it fails to support.
-fn supports(port: &[u8], class: ClassRead) -> bool
+pub fn supports(port: &[u8], class: ClassRead) -> bool
     requires { ⌜ length (now port) ≡ portSize ⌝ }
     ensures { λ r. ⌜ r ≡ state.supports (toPort (now (port .entry))) (classShown class) ⌝ }
 {

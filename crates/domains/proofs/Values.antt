@@ -10,7 +10,6 @@ use Rattle.octets.specs.Be.{be}
 use Rattle.octets.specs.Parts.{part, patch, zeros}
 use Rattle.octets.specs.Pick.{pick}
 use Rattle.octets.specs.Fields.{packed, Fit, width}
-use Rattle.octets.proofs.Parts.{patch-whole}
 use Rattle.octets.proofs.Fields.{get-octet, put-field}
 use Rattle.model.specs.Layout.{heldField, slotLeavesField, slotLeavesPlace, slotSinceField, slotSize, slotVlanField, slotVlanPlace, slotWidths}
 use Rattle.model.specs.State.{Settings, Leaving, stays, since, Domain, noDomain, domain}
@@ -19,6 +18,7 @@ use Rattle.model.specs.Settling.{expired, expireDomain}
 use Rattle.model.specs.Table.{leavingNumber, sinceNumber, domainNumbers, domainOctets, toDomain}
 use Rattle.model.specs.Laid.{LaidDomain}
 use Rattle.model.proofs.Owns.{fit-back, domain-zeros}
+use Rattle.table.proofs.Lens.{patch-whole}
 use Rattle.cells.specs.Steps.{begun, lapsed}
 use Rattle.cells.proofs.Leaving.{begun-numbers, lapsed-numbers}
 use Rattle.domains.proofs.Keeps.{FitDomain}

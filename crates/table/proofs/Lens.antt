@@ -2,9 +2,9 @@
 use Prim.Native.Nat.{ℕ, suc, _+_, _*_, _≤_, _<_}
 use native.Mathlib.Omega.{arith}
 use mathlib.Core.Path.{_≡_, refl, sym, ap, _∙_}
-use mathlib.Core.List.{List, [], _∷_, _++_, append-assoc, map}
+use mathlib.Core.List.{List, [], _∷_, _++_, append-assoc, append-nil, map}
 use lib.ListN.{length, getD, set, take, drop, length-append}
-use lib.Seq.{take-at, drop-at, split-at, set-split, length-take-le}
+use lib.Seq.{take-at, drop-at, drop-length, split-at, set-split, length-take-le}
 use Rattle.octets.specs.Parts.{part, patch, each, eachFrom}
 use Rattle.octets.specs.Fields.{flat}
 use Rattle.octets.proofs.Fields.{flat-append}
@@ -13,6 +13,11 @@ use Rattle.model.specs.Lists.{All}
 use Rattle.model.proofs.Lists.{all-take}
 pub use Rattle.model.proofs.Lists.{all-at, all-getD}
 use Rattle.model.proofs.Parts.{Sized, part-between, length-flat-sized}
+
+-- all octets replaced
+pub patch-whole : (n : ℕ) (y s : List ℕ) → length s ≡ n → patch 0 n y s ≡ y
+unfolding patch
+patch-whole n y s e = rw (← e, drop-length s, append-nil y)
 
 -- each of the things in front changed
 each-flat : {A : Type 0} (n : ℕ) (to : A → List ℕ) (f : List ℕ → List ℕ) (g : A → A) (after : List ℕ) (l : List A)

@@ -13,4 +13,5 @@ pub mod Turns
 pub mod ByPlace
 pub mod OwnParts
 pub mod EachStream
+pub mod EachPort
 pub mod ReadOctets
