@@ -8,7 +8,7 @@ use native.Mathlib.Numerals.{add-one}
 use lib.ListN.{length}
 use Rattle.model.specs.Layout.{slots}
 use Rattle.model.specs.Lists.{All}
-use Rattle.model.specs.State.{Domain, noDomain, Own, Bridge}
+use Rattle.model.specs.State.{Own, Bridge}
 use Rattle.model.specs.Registrations.{ofDomain, leaveAllDomains, quitDomain, doesDomain, at, changeDomains, owning}
 use Rattle.model.specs.Table.{encode, decode}
 use Rattle.model.specs.Laid.{FitOwn, FitBridge, Laid}
@@ -16,10 +16,9 @@ use Rattle.model.proofs.Lists.{length-at, all-changed}
 use Rattle.model.proofs.Fits.{laid-is, laid-fits}
 use Rattle.table.specs.Updates.{withSlot}
 use Rattle.table.specs.Places.{SlotIn}
-use Rattle.table.proofs.StreamParts.{at-set}
 use Rattle.table.proofs.Fitting.{owning-fits}
 use Rattle.table.proofs.ByPlace.{encoded-laid, encoded-read}
-use Rattle.table.proofs.EachStream.{firsts, firsts-length, firsts-next, firsts-all, firsts-keep}
+use Rattle.table.proofs.EachStream.{firsts, firsts-length, firsts-at, firsts-all, firsts-keep}
 use Rattle.domains.proofs.Keeps.{FitDomain, quit-domain-fits}
 use Rattle.registrar.specs.Walked.{Walked}
 use Rattle.registrar.proofs.Walks.{domain-done}
@@ -50,12 +49,9 @@ module _ (p now : ℕ) where
   leftTo : ℕ → Own → Own
   leftTo i = changeDomains (firsts (quitDomain now) i)
 
-  left-next : (i : ℕ) → i < slots → (o : Own) → FitOwn o → changeDomains (at i (quitDomain now)) (leftTo i o) ≡ leftTo (i + 1) o
+  left-next : (i : ℕ) (o : Own) → changeDomains (at i (quitDomain now)) (leftTo i o) ≡ leftTo (i + 1) o
   unfolding leftTo changeDomains
-  left-next i h o w =
-      let g = quitDomain now in
-      let long : i < length (firsts g i (o .domains)) = omega (arith, firsts-length g i (o .domains), w .slotted) in
-      rw (add-one i, ← at-set i g (firsts g i (o .domains)) noDomain long, firsts-next g i (o .domains) noDomain)
+  left-next i o = rw (add-one i, firsts-at (quitDomain now) i (o .domains))
 
   left-all : (o : Own) → FitOwn o → leftTo slots o ≡ changeDomains (doesDomain now leaveAllDomains) o
   unfolding leftTo changeDomains doesDomain
@@ -89,14 +85,14 @@ module _ (p now : ℕ) where
       pub slot-stands : p < 8 → i < slots → SlotIn t p i
       slot-stands q h = record { laid = encoded-laid (slotsLeft t₀ i) slots-fit t e; port = q; slot = h }
 
-      pub one-left : i < slots → (y : List ℕ) → y ≡ encode (withSlot p i (quitDomain now) (decode t)) → y ≡ encode (slotsLeft t₀ (i + 1))
+      pub one-left : (y : List ℕ) → y ≡ encode (withSlot p i (quitDomain now) (decode t)) → y ≡ encode (slotsLeft t₀ (i + 1))
       unfolding slotsLeft owning
-      one-left h y q =
+      one-left y q =
           let o = decode t₀ .own in
           q
           ∙ ap (λ (b : Bridge). encode (withSlot p i (quitDomain now) b)) (encoded-read (slotsLeft t₀ i) slots-fit t e)
           ∙ ap (λ (x : List Own). encode (owning (decode t₀) x)) (at-again p (changeDomains (at i (quitDomain now))) (leftTo i) o
-          ∙ at-alike FitOwn p (λ x. changeDomains (at i (quitDomain now)) (leftTo i x)) (leftTo (i + 1)) (left-next i h) o (laid-fits t₀ l .own))
+          ∙ at-alike FitOwn p (λ x. changeDomains (at i (quitDomain now)) (leftTo i x)) (leftTo (i + 1)) (λ x w. left-next i x) o (laid-fits t₀ l .own))
 
 pub slots-left : (p : ℕ) (t u : List ℕ) → Laid t → u ≡ encode (slotsLeft p (decode t .clock) t slots) →
     Walked true p (ofDomain leaveAllDomains ∷ []) t true u
