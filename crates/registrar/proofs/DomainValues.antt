@@ -1,5 +1,5 @@
 -- What a Domain value asks for, and that it is done on its slot.
-use Prim.Native.Nat.{ℕ, _+_, _/_, _%_, _<_}
+use Prim.Native.Nat.{ℕ, _+_, _/_, _%_, _≤_, _<_}
 use mathlib.Core.Path.{_≡_, refl, _∙_, subst}
 use mathlib.Core.List.{List, [], _∷_}
 use mathlib.Core.Bool.{Bool, true, false, cond}
@@ -62,6 +62,11 @@ module _ (first : List ℕ) (n : ℕ) where
       go : (t : Bool) → hasSlot class priority ≡ t → cond t (Slot (slotOf class priority)) Dropped ≡ Dropped → hasSlot class priority ≡ false
       go true h e = let z : _≡_ {A = ℕ} 0 1 = cc in absurd (omega arith)
       go false h e = h
+
+-- its VLAN is the last field
+pub vlan-within : (first : List ℕ) (n : ℕ) → HasValue 4 first n → 2 + 2 ≤ length first
+unfolding attributeAt firstLength
+vlan-within first n v = omega (arith, v .octets)
 
 -- Its acts.
 

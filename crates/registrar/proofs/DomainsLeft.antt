@@ -46,7 +46,7 @@ module _ {A : Type 0} where
 
 module _ (p now : ℕ) where
   -- what a port holds with its first i Domain values leaving
-  leftTo : ℕ → Own → Own
+  unfoldable pub leftTo : ℕ → Own → Own
   leftTo i = changeDomains (firsts (quitDomain now) i)
 
   left-next : (i : ℕ) (o : Own) → changeDomains (at i (quitDomain now)) (leftTo i o) ≡ leftTo (i + 1) o
