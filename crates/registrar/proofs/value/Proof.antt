@@ -105,14 +105,14 @@ returns-6 : tie.Need-returns-6
 unfolding actsAsked
 returns-6 c =
     let d = c .before .before .before .before .before .before .before in
-    rw (acts d Leave (c .before .before .before .before .before .enum-told3 .given .1), c .before .before .before .before .if3 .taken, ← id-is d) (c .before .before .withdraw .ensures)
+    rw (c .before .before .before .before .if3 .taken, acts d Leave (c .before .before .before .before .before .enum-told3 .given .1), ← id-is d) (c .before .before .withdraw .ensures)
 
 returns-7 : tie.Need-returns-7
 unfolding actsAsked
 returns-7 c =
     let d = c .before .before .before in
     let s = start d in
-    rw (acts d Leave (c .before .enum-told3 .given .1), c .if3 .left, ← id-is d)
+    rw (c .if3 .left, acts d Leave (c .before .enum-told3 .given .1), ← id-is d)
     (left-room (s .args .walk .place) (kindAt (s .args .walk .kind)) (s .args .table .now) (s .pre .walk .laid) (id d) (search needs))
 
 pub value-spec : {M : Type 1} → statement M
