@@ -187,14 +187,7 @@ fn ask(kind: u8, events: &[u8], fours: &[u8], n: usize) -> Asked
 }
 
 // Value n of a Domain vector at a port: "other values are checked and dropped".
-fn domain_value(
-    table: &mut [u8],
-    place: usize,
-    first: &[u8],
-    events: &[u8],
-    fours: &[u8],
-    n: usize,
-)
+fn domain_value(table: &mut [u8], place: usize, first: &[u8], events: &[u8], fours: &[u8], n: usize)
     requires { ⌜ DomainGiven (now table) place (now first) (now events) n ⌝ }
     ensures { λ _. ⌜ Walked true place
         (valueActs (vectorOf 4 false 0 (now (first .entry)) (now (events .entry)) (now (fours .entry))) n)
