@@ -3,41 +3,24 @@ use Prim.Native.Nat.{ℕ, _^_, _<_}
 use mathlib.Core.Path.{_≡_, refl, _∙_}
 use mathlib.Core.List.{List}
 use mathlib.Core.Bool.{Bool, true, false}
-use native.Mathlib.Omega.{arith}
 use lib.ListN.{length}
-use Rattle.octets.specs.Fields.{Fit}
-use Rattle.model.specs.Layout.{slotWidths}
 use Rattle.model.specs.Lists.{All}
-use Rattle.model.specs.State.{Leaving, stays, since, Domain, noDomain, domain, Own}
-use Rattle.model.specs.Registrations.{Act, leaveAll, leave, talk, listen, ofDomain, DomainAct, leaveAllDomains, leaveDomain, joinDomain, begin, quitDomain, doesDomain, changeDomains, applyOwn}
-use Rattle.model.specs.Table.{leavingNumber, sinceNumber, domainNumbers}
+use Rattle.model.specs.State.{stays, Domain, domain, Own}
+use Rattle.model.specs.Registrations.{Act, leaveAll, leave, talk, listen, ofDomain, DomainAct, leaveAllDomains, leaveDomain, joinDomain, quitDomain, doesDomain, changeDomains, applyOwn}
 use Rattle.model.specs.Laid.{FitOwn}
 use Rattle.model.proofs.Lists.{length-at, all-changed}
-use Rattle.model.proofs.Parts.{_also_}
 use Rattle.model.proofs.FoundVectors.{Fits, FitsDomain}
 use Rattle.model.proofs.AdvanceKeepsForm.{all-mapped}
 use Rattle.model.proofs.ReceiveKeepsForm.{domains-slotted}
+use Rattle.domains.proofs.Keeps.{FitDomain, quit-domain-fits, join-domain-fits}
 use Rattle.registrar.specs.Run.{ownEffect}
 
-abbrev FitDomain : Domain → Type 0
-FitDomain d = Fit slotWidths (domainNumbers d)
-
 module _ (clock : ℕ) (small : clock < 2 ^ 32) where
-  quit-fits : (d : Domain) → FitDomain d → FitDomain (quitDomain clock d)
-  unfolding quitDomain domainNumbers begin leavingNumber sinceNumber Fit
-  quit-fits noDomain f = f
-  quit-fits (domain v stays) f = f .0 also omega arith also small also f .1 .1 .1
-  quit-fits (domain v (since t)) f = f
-
-  join-fits : (v : ℕ) → v < 65536 → FitDomain (domain v stays)
-  unfolding domainNumbers leavingNumber sinceNumber Fit
-  join-fits v h = omega arith also omega arith also omega arith also h also tt
-
   domains-fit : (a : DomainAct) → FitsDomain a → (ds : List Domain) → All FitDomain ds → All FitDomain (doesDomain clock a ds)
   unfolding doesDomain
-  domains-fit leaveAllDomains f ds w = all-mapped FitDomain FitDomain (quitDomain clock) quit-fits ds w
-  domains-fit (leaveDomain i) f ds w = all-changed FitDomain i (quitDomain clock) ds quit-fits w
-  domains-fit (joinDomain i v) f ds w = all-changed FitDomain i (λ d. domain v stays) ds (λ d h. join-fits v (f .1)) w
+  domains-fit leaveAllDomains f ds w = all-mapped FitDomain FitDomain (quitDomain clock) (quit-domain-fits clock small) ds w
+  domains-fit (leaveDomain i) f ds w = all-changed FitDomain i (quitDomain clock) ds (quit-domain-fits clock small) w
+  domains-fit (joinDomain i v) f ds w = all-changed FitDomain i (λ d. domain v stays) ds (λ d h. join-domain-fits v (f .1)) w
 
   own-fits : (a : DomainAct) → FitsDomain a → (o : Own) → FitOwn o → FitOwn (changeDomains (doesDomain clock a) o)
   unfolding changeDomains

@@ -6,13 +6,13 @@ use mathlib.Core.Bool.{Bool, true, false, cond, true≢false}
 use lib.ListN.{length}
 use lib.Dec.{ltb, eqb}
 use Rattle.model.specs.Lists.{All}
-use Rattle.model.specs.State.{Cell, Own, Stream, Bridge, fresh}
-use Rattle.model.specs.Registrations.{Act, leaveAll, leave, talk, listen, ofDomain, change, begun, touch, reach, apply, does, holding, owning, ids, joins}
-use Rattle.model.specs.Laid.{FitCell, FitOwn, FitStream, FitBridge}
+use Rattle.model.specs.State.{Cell, Stream, Bridge, fresh}
+use Rattle.model.specs.Registrations.{Act, leaveAll, leave, talk, listen, ofDomain, change, begun, touch, reach, apply, does, holding, ids, joins}
+use Rattle.model.specs.Laid.{FitCell, FitStream, FitBridge}
 use Rattle.model.proofs.FoundVectors.{Fits}
 use Rattle.model.proofs.FrameOrder.{rising-together}
 use Rattle.model.proofs.Fits.{rising-ascends, ascending-rises}
-use Rattle.table.proofs.Fitting.{changed-fits, fresh-fits, holding-fits}
+use Rattle.table.proofs.Fitting.{changed-fits, fresh-fits, holding-fits, owning-fits}
 use Rattle.registrar.specs.Run.{registeredOf, keeping, room, effect, ownEffect, after}
 use Rattle.registrar.proofs.Room.{effect-ids}
 use Rattle.registrar.proofs.DomainActs.{own-effect-fits, own-effect-length}
@@ -68,21 +68,6 @@ module _ (now p : ℕ) (s : List Stream) (fit : All FitStream s) where
   unfolding effect
   effect-streams-fit true a f d = applied-fits a f d
   effect-streams-fit false a f d = room-fits a f
-
--- other things that the ports hold by themselves
-owning-fits : (b : Bridge) → FitBridge b → (o : List Own) → length o ≡ 8 → All FitOwn o → FitBridge (owning b o)
-unfolding owning
-owning-fits b w o eight all = record {
-  settings = w .settings;
-  clock = w .clock;
-  eight-totals = w .eight-totals;
-  totals = w .totals;
-  eight-own = eight;
-  own = all;
-  at-most-64 = w .at-most-64;
-  streams = w .streams;
-  ascending = w .ascending;
-}
 
 pub effect-fits : (m : Bool) (p : ℕ) (a : Act) (b : Bridge) → FitBridge b → Fits a → ((c : Cell) → FitCell c → FitCell (does (b .clock) a c)) →
     length (effect m (b .clock) p a (b .streams)) ≤ 64 → FitBridge (keeping b (after m (b .clock) p a (registeredOf b)))

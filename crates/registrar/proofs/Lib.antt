@@ -5,6 +5,8 @@ pub mod Walks
 pub mod Touched
 pub mod Enrolling
 pub mod ValueActs
+pub mod DomainValues
+pub mod DomainsLeft
 pub mod VectorActs
 pub mod FrameWalk
 pub mod Receiving

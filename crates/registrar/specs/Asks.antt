@@ -5,7 +5,6 @@ use mathlib.Core.List.{List}
 use mathlib.Core.Bool.{true}
 use lib.ListN.{length}
 use Rattle.octets.specs.Be.{beAt}
-use Rattle.model.specs.Layout.{slots}
 use Rattle.model.specs.Frames.{typeOctet, vectors, walk}
 use Rattle.model.specs.Laid.{Laid}
 use Rattle.table.specs.Places.{StandsOn}
@@ -27,12 +26,6 @@ pub record LeaveGiven (t : List ℕ) (p kind : ℕ) : Type 0 where
   pub port : p < 8
   pub low : 1 ≤ kind
   pub high : kind ≤ 3
-
--- a Domain value of a port
-pub record SlotGiven (t : List ℕ) (p i : ℕ) : Type 0 where
-  pub laid : Laid t
-  pub port : p < 8
-  pub slot : i < slots
 
 -- a laid-out table, the place p of a port, and a well-formed frame
 pub record FrameGiven (t : List ℕ) (p : ℕ) (pdu : List ℕ) : Type 0 where
@@ -73,7 +66,7 @@ pub record ValueGiven (t : List ℕ) (w : ListWalk) (first three : List ℕ) (n 
 -- one of a Domain vector
 pub record DomainGiven (t : List ℕ) (p : ℕ) (first three : List ℕ) (n : ℕ) : Type 0 where
   pub laid : Laid t
-  pub place : p < 8
+  pub port : p < 8
   pub event : n / 3 < length three
   pub value : HasValue 4 first n
 

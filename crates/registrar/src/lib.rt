@@ -12,12 +12,12 @@ ghost use Rattle.model.specs.Table.{encode, decode};
 ghost use Rattle.model.specs.Registrations.{leaveAll, leave, quit, does, ofDomain, leaveAllDomains, quitDomain};
 ghost use Rattle.model.specs.Frames.{vectors, walk, valueActs, valuesActs, leaveAllActs, vectorActs};
 ghost use Rattle.table.specs.Updates.{withCell, withSlot};
-ghost use Rattle.table.specs.Places.{PortIn};
+ghost use Rattle.table.specs.Places.{PortIn, SlotIn};
 ghost use Rattle.cells.specs.Acts.{kindAt};
 ghost use Rattle.msrpdu.specs.Reader.{headVector};
 ghost use Rattle.registrar.specs.Walked.{Walked, Receives};
 ghost use Rattle.registrar.specs.Enrols.{Enrols};
-ghost use Rattle.registrar.specs.Asks.{QuitGiven, SlotGiven, DomainGiven, LeaveGiven, CellGiven, FrameGiven, WalkGiven, ListGiven, VectorGiven, ValuesGiven, ValueGiven, JoinGiven};
+ghost use Rattle.registrar.specs.Asks.{QuitGiven, DomainGiven, LeaveGiven, CellGiven, FrameGiven, WalkGiven, ListGiven, VectorGiven, ValuesGiven, ValueGiven, JoinGiven};
 ghost use Rattle.registrar.specs.Acts.{actsOf, attributeAt, vectorOf, joinOf, askedOf, Declares};
 use msrpdu::DomainRead;
 use msrpdu::Event;
@@ -75,32 +75,32 @@ fn join_cell(table: &mut [u8], k: usize, walk: ListWalk, first: &[u8], four: u8,
 }
 
 // Lv or LeaveAll of a Domain value of a port.
-fn quit_slot(table: &mut [u8], place: usize, slot: usize, clock: u32)
-    requires { ⌜ SlotGiven (now table) place slot ⌝ }
-    ensures { λ _. ⌜ now (table .exit) ≡ encode (withSlot place slot (quitDomain clock) (decode (now (table .entry)))) ⌝ }
+fn quit_slot(table: &mut [u8], p: usize, slot: usize, clock: u32)
+    requires { ⌜ SlotIn (now table) p slot ⌝ }
+    ensures { λ _. ⌜ now (table .exit) ≡ encode (withSlot p slot (quitDomain clock) (decode (now (table .entry)))) ⌝ }
 {
-    let a = table::slot_in(table, place, slot);
-    cells::quit_domain(&mut table[a..a + table::SLOT], clock);
+    let a = table::slot_in(table, p, slot);
+    domains::quit(&mut table[a..a + table::SLOT], clock);
 }
 
 // A join of a Domain value of a port, with its VLAN.
-fn join_slot(table: &mut [u8], place: usize, slot: usize, vlan: u64)
-    requires { ⌜ SlotGiven (now table) place slot × (vlan < 65536) ⌝ }
-    ensures { λ _. ⌜ now (table .exit) ≡ encode (withSlot place slot (λ d. domain vlan stays) (decode (now (table .entry)))) ⌝ }
+fn join_slot(table: &mut [u8], p: usize, slot: usize, vlan: u64)
+    requires { ⌜ SlotIn (now table) p slot × (vlan < 65536) ⌝ }
+    ensures { λ _. ⌜ now (table .exit) ≡ encode (withSlot p slot (λ d. domain vlan stays) (decode (now (table .entry)))) ⌝ }
 {
-    let a = table::slot_in(table, place, slot);
-    cells::join_domain(&mut table[a..a + table::SLOT], vlan);
+    let a = table::slot_in(table, p, slot);
+    domains::join(&mut table[a..a + table::SLOT], vlan);
 }
 
 // LeaveAll of the Domain values of a port.
-fn leave_domains(table: &mut [u8], place: usize)
-    requires { ⌜ PortIn (now table) place ⌝ }
-    ensures { λ _. ⌜ Walked true place (ofDomain leaveAllDomains ∷ []) (now (table .entry)) true (now (table .exit)) ⌝ }
+fn leave_domains(table: &mut [u8], p: usize)
+    requires { ⌜ PortIn (now table) p ⌝ }
+    ensures { λ _. ⌜ Walked true p (ofDomain leaveAllDomains ∷ []) (now (table .entry)) true (now (table .exit)) ⌝ }
 {
     let now = table::clock(table);
     let mut slot: usize = 0;
     while slot < table::SLOTS {
-        quit_slot(table, place, slot, now);
+        quit_slot(table, p, slot, now);
         slot += 1;
     }
 }
@@ -187,16 +187,9 @@ fn ask(kind: u8, events: &[u8], fours: &[u8], n: usize) -> Asked
 }
 
 // Value n of a Domain vector at a port: "other values are checked and dropped".
-fn domain_value(
-    table: &mut [u8],
-    place: usize,
-    first: &[u8],
-    events: &[u8],
-    fours: &[u8],
-    n: usize,
-)
-    requires { ⌜ DomainGiven (now table) place (now first) (now events) n ⌝ }
-    ensures { λ _. ⌜ Walked true place
+fn domain_value(table: &mut [u8], p: usize, first: &[u8], events: &[u8], fours: &[u8], n: usize)
+    requires { ⌜ DomainGiven (now table) p (now first) (now events) n ⌝ }
+    ensures { λ _. ⌜ Walked true p
         (valueActs (vectorOf 4 false 0 (now (first .entry)) (now (events .entry)) (now (fours .entry))) n)
         (now (table .entry)) true (now (table .exit)) ⌝ }
 {
@@ -208,11 +201,11 @@ fn domain_value(
         Asked::Nothing => {}
         Asked::Join(_) => {
             let vlan = octets::get(first, FIRST_DOMAIN_VLAN, 2);
-            join_slot(table, place, slot, vlan);
+            join_slot(table, p, slot, vlan);
         }
         Asked::Leave => {
             let now = table::clock(table);
-            quit_slot(table, place, slot, now);
+            quit_slot(table, p, slot, now);
         }
     }
 }
@@ -233,7 +226,7 @@ fn value(
 {
     if walk.kind == 4 {
         if walk.applying {
-            domain_value(table, walk.place, first, events, fours, n);
+            domain_value(table, walk.p, first, events, fours, n);
         }
         return true;
     }
@@ -291,7 +284,7 @@ fn begin_all(table: &mut [u8], walk: ListWalk, leaves: bool)
         return;
     }
     if walk.kind == 4 {
-        leave_domains(table, walk.place);
+        leave_domains(table, walk.p);
         return;
     }
     leave_all(table, walk.p, walk.kind);
