@@ -1,18 +1,17 @@
 -- What the code finds and leaves among the octets of what a port holds.
 use mathlib.Core.Path.{_≡_, refl, sym, ap, _∙_, subst}
 use mathlib.Core.List.{List, [], _∷_, _++_, map}
-use mathlib.Core.Bool.{Bool, true, false, not, _&&_, _||_}
-use Prim.Native.Nat.{ℕ, zero, suc, _+_, _-_, _≤_, _<_}
+use mathlib.Core.Bool.{Bool, true, false}
+use Prim.Native.Nat.{ℕ, _+_, _-_, _<_}
 use native.Mathlib.Nat.{add-zero}
 use native.Mathlib.Numerals.{add-one}
 use native.Mathlib.Omega.{arith}
-use lib.ListN.{length, getD, take, drop, length-take, length-drop, drop-of-length-le}
+use lib.ListN.{length, getD, take, drop, length-drop, drop-of-length-le}
 use lib.Seq.{drop-cons, getD-take, getD-drop, length-take-le}
-use lib.Dec.{eqb}
 use borrow.Author.Tests.{eq-eqb, ne-eqb}
 use Rattle.octets.specs.Be.{be}
 use Rattle.octets.specs.Parts.{part, patch}
-use Rattle.octets.specs.Fields.{Fit, flat, packed, width}
+use Rattle.octets.specs.Fields.{flat, packed, width}
 use Rattle.octets.proofs.Parts.{lent-part}
 use Rattle.octets.proofs.Frame.{getD-part}
 use Rattle.octets.proofs.Patches.{lent-patch}

@@ -1,15 +1,15 @@
 -- What the code does to the octets of a Domain value, `quitDomain`, a join and `expireDomain` do to the value.
 use mathlib.Core.Path.{_≡_, refl, sym, ap, _∙_, subst}
-use mathlib.Core.List.{List, [], _∷_}
+use mathlib.Core.List.{List}
 use mathlib.Core.Bool.{Bool, true, false, cond}
-use Prim.Native.Nat.{ℕ, zero, suc, _+_, _≤_, _<_}
+use Prim.Native.Nat.{ℕ, _+_, _<_}
 use native.Mathlib.Omega.{arith}
 use lib.ListN.{length, getD, set}
 use lib.Dec.{eqb, leb}
 use Rattle.octets.specs.Be.{be}
 use Rattle.octets.specs.Parts.{part, patch, zeros}
 use Rattle.octets.specs.Pick.{pick}
-use Rattle.octets.specs.Fields.{packed, Fit, width}
+use Rattle.octets.specs.Fields.{packed, width}
 use Rattle.octets.proofs.Fields.{get-octet, put-field}
 use Rattle.model.specs.Layout.{heldField, slotLeavesField, slotLeavesPlace, slotSinceField, slotSize, slotVlanField, slotVlanPlace, slotWidths}
 use Rattle.model.specs.State.{Settings, Leaving, stays, since, Domain, noDomain, domain}

@@ -2,8 +2,8 @@
 // say of a class (docs/TABLE.md, "What a port holds").
 ghost use mathlib.Core.Path.{_≡_};
 ghost use mathlib.Core.List.{map};
-ghost use mathlib.Core.Bool.{Bool, not, _||_};
-ghost use Prim.Native.Nat.{ℕ, _≤_, _<_};
+ghost use mathlib.Core.Bool.{not, _||_};
+ghost use Prim.Native.Nat.{_<_};
 ghost use lib.ListN.{length};
 ghost use Rattle.model.specs.Layout.{ownSize, slotSize};
 ghost use Rattle.model.specs.State.{Settings, stays, domain};

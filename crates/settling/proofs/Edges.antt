@@ -1,26 +1,25 @@
 -- What a port decides by itself: its Domain values expired, and whether it is at the edge of each class's domain.
-use mathlib.Core.Path.{_≡_, refl, sym, ap, _∙_}
-use mathlib.Core.List.{List, [], _∷_, map}
-use mathlib.Core.Bool.{Bool, true, false}
+use mathlib.Core.Path.{_≡_, refl, ap, _∙_}
+use mathlib.Core.List.{List, _∷_}
+use mathlib.Core.Bool.{true, false}
 use Prim.Native.Nat.{ℕ, _+_, _≤_, _<_}
 use native.Mathlib.Numerals.{add-one}
 use native.Mathlib.Omega.{arith}
-use lib.ListN.{length, getD, set, take, drop, length-drop}
+use lib.ListN.{length, drop, length-drop}
 use lib.Seq.{drop-cons, drop-length, take-all, getD-set-same, set-set}
 use borrow.Author.Tests.{lt-ltb, le-ltb}
 use Rattle.model.specs.Layout.{slots}
-use Rattle.model.specs.Lists.{All, tabulate}
+use Rattle.model.specs.Lists.{All}
 use Rattle.model.specs.State.{Settings, Domain, noDomain, Own, noOwn, Bridge, noPort, portAt, isPort, ownAt, Class, classA, classB, supports}
 use Rattle.model.specs.Registrations.{changeDomains, owning}
-use Rattle.model.specs.Settling.{expireDomain, domainsOf, anySupports, isEdge, flagOf, decideOwn, decideOwns}
+use Rattle.model.specs.Settling.{domainsOf, anySupports, isEdge, flagOf, decideOwn, decideOwns}
 use Rattle.model.specs.Table.{encode, decode}
-use Rattle.model.specs.Laid.{FitOwn, FitBridge, Laid}
+use Rattle.model.specs.Laid.{FitOwn}
 use Rattle.model.proofs.Lists.{all-getD, all-replicate, all-tabulate}
 use Rattle.model.proofs.AdvanceKeepsForm.{length-tabulate}
 use Rattle.model.proofs.Fits.{laid-fits}
 use Rattle.table.specs.Places.{PortIn}
 use Rattle.table.specs.Updates.{withOwn}
-use Rattle.table.proofs.Fitting.{owning-fits}
 use Rattle.table.proofs.ByPlace.{encoded-read}
 use Rattle.table.proofs.OwnParts.{own-fits, with-own-fits, own-replaced-laid}
 use Rattle.domains.specs.Classes.{classFrom}

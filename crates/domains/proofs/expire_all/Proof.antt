@@ -1,12 +1,11 @@
 -- `domains::expire_all` meets its contract. Assumes nothing.
-use Prim.Native.Nat.{ℕ, _+_, _-_, _*_, _≤_, _<_}
+use Prim.Native.Nat.{_-_, _≤_}
 use mathlib.Core.Path.{_≡_, refl, sym, ap, _∙_}
-use mathlib.Core.List.{List}
 use native.Mathlib.Omega.{arith}
 use borrow.Author.Needs.{needs}
 use lib.ListN.{length}
 use Rattle.model.specs.Layout.{ownSize, slots}
-use Rattle.model.specs.State.{Settings, Own}
+use Rattle.model.specs.State.{Settings}
 use Rattle.model.specs.Settling.{expireDomain}
 use Rattle.model.specs.Table.{ownOctets, toOwn}
 use Rattle.domains.proofs.Ports.{laid-own-is, laid-own-fits, lent-slot, left-slot, leaving, lapsedTo, lapsed-fits, lapsed-none, lapsed-next, lapsed-all}

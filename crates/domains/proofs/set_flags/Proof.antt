@@ -1,7 +1,5 @@
 -- `domains::set_flags` meets its contract. Assumes nothing.
 use mathlib.Core.Path.{ap, _∙_}
-use mathlib.Core.List.{List}
-use Prim.Native.Nat.{ℕ}
 use borrow.Author.Needs.{needs}
 use Rattle.octets.specs.Be.{be}
 use Rattle.octets.specs.Parts.{patch}

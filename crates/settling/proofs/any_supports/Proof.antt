@@ -1,10 +1,10 @@
 -- `settling::any_supports` meets its contract. Assumes nothing.
-use Prim.Native.Nat.{ℕ, _+_, _-_, _≤_, _<_}
+use Prim.Native.Nat.{_-_, _≤_}
 use mathlib.Core.Path.{_≡_, refl, sym, ap, _∙_}
 use native.Mathlib.Omega.{arith}
 use borrow.Author.Needs.{needs}
 use lib.ListN.{length, drop}
-use Rattle.model.specs.State.{Port, Settings, supports}
+use Rattle.model.specs.State.{Port, supports}
 use Rattle.model.specs.Settling.{anySupports}
 use Rattle.model.specs.Table.{decode}
 use Rattle.streams.specs.Answers.{classShown}

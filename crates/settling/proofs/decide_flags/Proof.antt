@@ -1,8 +1,8 @@
 -- `settling::decide_flags` meets its contract. Assumes nothing.
-use mathlib.Core.Path.{_≡_, ap, _∙_}
+use mathlib.Core.Path.{ap, _∙_}
 use mathlib.Core.Bool.{Bool}
 use borrow.Author.Needs.{needs}
-use Rattle.model.specs.State.{Own, ownAt, classA, classB}
+use Rattle.model.specs.State.{ownAt, classA}
 use Rattle.model.specs.Settling.{flagOf}
 use Rattle.model.specs.Table.{encode, decode}
 use Rattle.table.specs.Updates.{withOwn}

@@ -1,9 +1,8 @@
 -- `settling::unmatched` meets its contract. Assumes nothing.
-use mathlib.Core.Path.{_≡_, refl, sym, ap, _∙_}
 use native.Mathlib.Omega.{arith}
 use borrow.Author.Needs.{needs}
 use Rattle.model.specs.State.{ownAt, classPriority}
-use Rattle.model.specs.Settling.{anyDomain, otherPriority, domainsOf}
+use Rattle.model.specs.Settling.{anyDomain, domainsOf}
 use Rattle.model.specs.Table.{decode}
 use Rattle.table.proofs.OwnParts.{own-fits}
 use Rattle.streams.specs.Answers.{classShown}
