@@ -1,9 +1,10 @@
 -- 01's marked examples P1 to P13 and its worked example, computed by the definitions and compared with what 01 prints; then
--- examples of what 01 says of registering and of ages, of the near misses that it shuts out, and of the order of a PDU's checks.
+-- examples of what 01 says of registering and of ages, of the near misses that it shuts out, of the domain's edge, and of the order
+-- of a PDU's checks.
 use mathlib.Core.Path.{_≡_, refl}
 use mathlib.Core.List.{List, [], _∷_, _++_, map}
 use mathlib.Core.Bool.{true, false, cond}
-use Prim.Native.Nat.{ℕ, _+_}
+use Prim.Native.Nat.{ℕ, suc, _+_}
 use lib.ListN.{length, getD, take, replicate}
 use lib.Dec.{eqb}
 use Rattle.octets.specs.Be
@@ -380,6 +381,53 @@ pub registering-examples : All Holds further
 unfolding shown further leaveAllPdu mtPdu leftOnPort1 sameSecond oneTooLarge lessReady held63 twicePdu answered ages
 registering-examples =
     (refl, (refl, (refl, (refl, (refl, (refl, (refl, (refl, (refl, (refl, (refl, (refl, (refl, (refl, (refl, (refl, (refl, (refl, (refl, tt)))))))))))))))))))
+
+-- The edge of the domain.
+
+-- no Domain value heard; a stream of this size and priority octet, Ready
+alone : ℕ → ℕ → Bridge
+alone size octet = from (State.started (settings 75000000)) (pdu 1 (talks 1 size octet) ∷ pdu 2 (hears 1 128) ∷ time 100 ∷ [])
+
+-- the worked example's stream; then port 2's neighbour changes class A's priority from 3 to 4 at 100, withdrawing the old value
+changed : List Handed → Bridge
+changed l =
+    bridge 75000000
+    (pdu 1 (talks 1 224 rank1) ∷ pdu 2 (hears 1 128) ∷ time 100 ∷ pdu 2 (domainsOf 6 3 1 (180 ∷ [])) ∷ pdu 2 (domainsOf 6 4 1 (108 ∷ [])) ∷ l)
+
+-- what the port at place p has registered: the slots that are held, and the flags of class A and class B
+slotsHeld : ℕ → List State.Domain → List ℕ
+slotsHeld i [] = []
+slotsHeld i (State.noDomain ∷ ds) = slotsHeld (suc i) ds
+slotsHeld i (State.domain v l ∷ ds) = i ∷ slotsHeld (suc i) ds
+
+edge : ℕ → Bridge → List ℕ
+edge p b = let o = State.ownAt (b .own) p in slotsHeld 0 (o .domains) ++ (Lists.bit (o .boundaryA) ∷ Lists.bit (o .boundaryB) ∷ [])
+
+pub edges : List Example
+edges =
+    -- without a Domain value every port is at the edge, and the stream fails with 8
+    record { computed = edge 1 (alone 224 rank1) ++ columns (alone 224 rank1); printed = 1 ∷ 1 ∷ 2 ∷ 8 ∷ [] }
+    -- 13 comes before 8, and 8 before 14
+    ∷ record { computed = columns (alone 224 0x10); printed = 2 ∷ 13 ∷ [] }
+    ∷ record { computed = columns (alone 1523 rank1); printed = 2 ∷ 8 ∷ [] }
+    -- {4, 1} with 4 values holds (5, 2) and (6, 3)
+    ∷ record { computed = edge 0 (from (State.started (settings 0)) (pdu 1 (domainsOf 4 1 4 (129 ∷ 108 ∷ [])) ∷ [])); printed = 2 ∷ 11 ∷ 0 ∷ 0 ∷ [] }
+    -- a neighbour that changes its priority is outside until its old value has expired, and then it is one of another priority
+    ∷ record { computed = edge 1 (changed (time 159 ∷ [])); printed = 2 ∷ 11 ∷ 12 ∷ 1 ∷ 0 ∷ [] }
+    ∷ record { computed = edge 1 (changed (time 160 ∷ [])) ++ columns (changed (time 160 ∷ [])); printed = 2 ∷ 12 ∷ 1 ∷ 0 ∷ 2 ∷ 8 ∷ [] }
+    -- with the bridge's own value joined again and the other withdrawn, it is inside once that has expired, in the same advance
+    ∷ record {
+      computed = edge 1 (changed (pdu 2 matching ∷ pdu 2 (domainsOf 6 4 1 (180 ∷ [])) ∷ time 160 ∷ []));
+      printed = 2 ∷ 11 ∷ 0 ∷ 0 ∷ [];
+    }
+    -- LeaveAll of another type leaves Domain values alone, that of type 4 all of them on its port
+    ∷ record { computed = edge 0 (bridge 0 (pdu 1 leaveAllPdu ∷ time 60 ∷ [])); printed = 2 ∷ 11 ∷ 0 ∷ 0 ∷ [] }
+    ∷ record { computed = edge 0 (bridge 0 (pdu 1 (domainsOf 5 2 8192 []) ∷ time 60 ∷ [])); printed = 1 ∷ 1 ∷ [] }
+    ∷ []
+
+pub edge-examples : All Holds edges
+unfolding shown edges alone changed slotsHeld edge leaveAllPdu
+edge-examples = (refl, (refl, (refl, (refl, (refl, (refl, (refl, (refl, (refl, tt)))))))))
 
 -- PDUs with two faults, at neighbouring checks, and each with the first fault mended: the first that the walk meets gives the
 -- number.

@@ -263,7 +263,7 @@ one-bridge now b c r small advanced =
     let remaining : Rising (ids s) = remain-rising st now (b .streams) r in
     let few : All Small (ids s) = remain-all st now Small (b .streams) small in
     let settled : Settled (bridge sc now (c .totals) (c .streams)) =
-        rw (advanced .settings, advanced .clock, advanced .own) at (advanced .decided) in
+    rw (advanced .settings, advanced .clock, advanced .own) at (advanced .decided) in
     rw (
       advanced .settings,
       advanced .clock,
