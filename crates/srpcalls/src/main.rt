@@ -4,6 +4,7 @@ use libc::STDIN_FILENO;
 ghost use Prim.Native.Nat.{_≤_};
 ghost use mathlib.Core.Path.{_≡_};
 ghost use lib.ListN.{length, drop};
+ghost use Rattle.model.specs.Layout.{tableLength};
 ghost use Rattle.srpcalls.specs.Sums.{adler32, all};
 ghost use Rattle.srpcalls.specs.Records.{Handed};
 
@@ -260,7 +261,7 @@ fn take_record(room: &mut [u8], lent: usize, octets: &mut [u8], line: &mut [u8])
 // A proved loop has to end, and nothing says that an input does. So the loop counts its turns down, from a number that no run
 // uses up.
 fn run(room: &mut [u8], octets: &mut [u8], line: &mut [u8])
-    requires { ⌜ (length (now room) ≡ 31888) × (65535 ≤ length (now octets)) ⌝ }
+    requires { ⌜ (tableLength ≤ length (now room)) × (65535 ≤ length (now octets)) ⌝ }
 {
     let mut lent = bridge::TABLE;
     let mut turns = u64::MAX;
