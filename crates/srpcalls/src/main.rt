@@ -11,6 +11,9 @@ ghost use Rattle.srpcalls.specs.Records.{Handed};
 // The room for the table.
 const ROOM: usize = bridge::TABLE + 64;
 
+// The longest line: `octets`, a blank, two digits for each octet of the room, and the line's end.
+const LINE: usize = 8 + 2 * ROOM;
+
 // Settings and PDUs are handed to a call up to this length.
 const LONGEST: usize = 4096;
 
@@ -288,6 +291,6 @@ fn run(room: &mut [u8], octets: &mut [u8], line: &mut [u8])
 fn main() {
     let mut room = [0u8; ROOM];
     let mut octets = io::large_buffer();
-    let mut line = io::large_buffer();
+    let mut line = [0u8; LINE];
     run(&mut room, &mut octets, &mut line);
 }
