@@ -2,7 +2,7 @@
 //!
 //! [`Bridge`] makes them on what a table holds, [`Table`] on the octets that a caller lends.
 
-use crate::declarations;
+use crate::declarations::{self, Declaration};
 use crate::numbers::{self, Number};
 use crate::pdu::{self, ListenerType, StreamId, LONGEST_PDU};
 use crate::registrations::{Registrations, MOST_STREAMS};
@@ -86,6 +86,12 @@ impl Bridge {
             Ok(port)
         }
     }
+
+    /// The declarations of a port.
+    pub fn declarations(&self, port: usize) -> Vec<Declaration> {
+        declarations::of_port(&self.settings, &self.settled, port)
+    }
+
     /// receive: 1, 2, the walk from the front, 8. Registers what the PDU asks for.
     fn receive(&mut self, port: u32, pdu: &[u8]) -> Result<(), Number> {
         let port = self.port(port)?;
@@ -115,7 +121,7 @@ impl Bridge {
         if buffer.len() < LONGEST_PDU {
             return Err(numbers::BUFFER);
         }
-        let declarations = declarations::of_port(&self.settled, port);
+        let declarations = self.declarations(port);
         let place = place as usize;
         if place > declarations.len() {
             return Err(numbers::PLACE);

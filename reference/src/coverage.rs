@@ -1,21 +1,24 @@
 //! What the generated inputs reach: how often each thing worth comparing occurs when the reference
 //! runs on them.
 
+mod domains;
+
 use std::collections::BTreeMap;
 
-use crate::bridge::{Bridge, Table};
+use crate::bridge::{Bridge, Table, WriteAnswer};
 use crate::calls;
-use crate::declarations;
+use crate::declarations::Declaration;
 use crate::generator;
 use crate::numbers::{self, Number};
 use crate::pdu::{self, AttributeType, Event, Message, Pdu, Value, Vector, LONGEST_PDU};
 use crate::records::{Call, Watcher};
-use crate::registrations::MOST_STREAMS;
+use crate::registrations::{is_join, MOST_STREAMS};
 use crate::settings::{self, Settings, MOST_PORTS};
-use crate::settling::{self, ByStreamAndPort, Column, Decision, SettledStream, Step};
+use crate::settling::{self, ByStreamAndPort, Column, Decision, Facts, SettledStream, Step};
 use crate::sheet;
 use crate::table;
 use crate::words;
+use domains::{domains_of, is_held};
 
 /// The rows of the table: all that is counted.
 const ROWS: &[&str] = &[
@@ -45,11 +48,15 @@ const ROWS: &[&str] = &[
     "report 12",
     "report 13",
     "settings refused: length",
+    "settings refused: length 11 + 22 x ports",
     "settings refused: no ports",
     "settings refused: ports above 8",
     "settings refused: equal priorities",
     "settings refused: leave time 0",
     "settings refused: zero bits set",
+    "settings refused: bits above the VLAN set",
+    "settings refused: VLAN 0",
+    "settings refused: VLAN 4095",
     "start again on a running bridge",
     "PDU of 0 octets",
     "PDU of 1500 octets accepted",
@@ -60,11 +67,13 @@ const ROWS: &[&str] = &[
     "column step d",
     "column step e",
     "column step f",
+    "column step j",
     "column step g",
     "column step h",
     "column step i",
     "own failure 1",
     "own failure 4",
+    "own failure 8",
     "own failure 13",
     "own failure 14",
     "own failure 16",
@@ -137,6 +146,7 @@ const ROWS: &[&str] = &[
     "tables with 60 to 63 streams after an advance",
     "number 8 with 64 streams held",
     "number 8 with fewer held",
+    "number 8 with a Domain join in the PDU",
     "changed mark set",
     "changed mark cleared",
     "leaving begun by Lv or LeaveAll",
@@ -148,6 +158,52 @@ const ROWS: &[&str] = &[
     "registration removed later",
     "registration kept though leaving",
     "stream dropped",
+    "Domain 5 with priority 0 registered",
+    "Domain 5 with priority 1 registered",
+    "Domain 5 with priority 2 registered",
+    "Domain 5 with priority 3 registered",
+    "Domain 5 with priority 4 registered",
+    "Domain 5 with priority 5 registered",
+    "Domain 5 with priority 6 registered",
+    "Domain 5 with priority 7 registered",
+    "Domain 6 with priority 0 registered",
+    "Domain 6 with priority 1 registered",
+    "Domain 6 with priority 2 registered",
+    "Domain 6 with priority 3 registered",
+    "Domain 6 with priority 4 registered",
+    "Domain 6 with priority 5 registered",
+    "Domain 6 with priority 6 registered",
+    "Domain 6 with priority 7 registered",
+    "Domain of an unsupported class registered",
+    "Domain class ID out of range",
+    "Domain priority out of range",
+    "Domain out of range leaves",
+    "Domain vector with values in range and out of range",
+    "Domain vector of both class IDs",
+    "Domain LeaveAll with values out of range alone",
+    "Domain VLAN replaced",
+    "Domain leaving begun by Lv",
+    "Domain leaving begun by LeaveAll",
+    "Domain leaving begun again, the first time stays",
+    "Domain leaving ended by a join",
+    "Domain removed exactly at the leave time",
+    "Domain removed later",
+    "Domain kept though leaving",
+    "boundary: not registered",
+    "boundary: other priority",
+    "boundary: other priority beside the bridge's own",
+    "boundary: not supported",
+    "no boundary: registered",
+    "no boundary: supported nowhere",
+    "boundary of class A alone",
+    "boundary of class B alone",
+    "boundary flag set",
+    "boundary flag cleared",
+    "code 8 with a Ready listener",
+    "code 8 before 14",
+    "code 13 on a boundary port of both classes",
+    "Advertise from a boundary port",
+    "Advertise on a boundary port of the other class",
     "advance to the same time",
     "advance to 2^32 - 2 or above",
     "latency summed below 2^32 - 1",
@@ -165,8 +221,14 @@ const ROWS: &[&str] = &[
     "reserved on a port that sends twice",
     "Talker port moved",
     "second Talker on a port above",
-    "write of Advertise, Failed and Listener",
+    "write of Advertise, Failed, Listener and Domain",
+    "write of Domain alone",
+    "write of Domain before an advance",
+    "write on a port without Domain",
+    "write that ends before the Domain Message",
+    "write that ends between two Domains",
     "write of exactly 1500 octets",
+    "write of exactly 1500 octets with Domain",
     "write with declarations left over",
     "write from a next place",
     "write at place = count",
@@ -208,6 +270,12 @@ const ROWS: &[&str] = &[
     "form rule 27 broken alone",
     "form rule 28 broken alone",
     "form rule 29 broken alone",
+    "form rule 30 broken alone",
+    "form rule 31 broken alone",
+    "form rule 32 broken alone",
+    "form rule 33 broken alone",
+    "form rule 34 broken alone",
+    "form rule 35 broken alone",
     "octet stored that breaks the form",
     "octet stored that keeps the form",
     "sum of the table's octets",
@@ -255,7 +323,9 @@ fn decisions(bridge: &Bridge) -> ByStreamAndPort<Decision> {
             }
         }
     }
-    settling::decide(&bridge.settings, &bridge.registrations, &since).columns
+    let Bridge { settings, registrations, settled, .. } = bridge;
+    let facts = Facts { settings, registrations, boundaries: &settled.boundaries };
+    settling::decide(&facts, &since).columns
 }
 
 fn talker_port(bridge: &Bridge, stream_id: u64) -> Option<usize> {
@@ -348,9 +418,16 @@ impl Coverage {
                 let priority_a = octets[8] >> 1 & 7;
                 let priority_b = (octets[8] & 1) << 2 | octets[9] >> 6;
                 let zeros = (0..ports).any(|port| octets[settings::length(port)] & 0x1f != 0);
+                let vlan = pdu::number_of(&octets[11..13]);
                 self.count_if("settings refused: equal priorities", priority_a == priority_b);
                 self.count_if("settings refused: leave time 0", leave_time == 0);
                 self.count_if("settings refused: zero bits set", zeros);
+                self.count_if("settings refused: bits above the VLAN set", vlan >> 12 != 0);
+                self.count_if("settings refused: VLAN 0", vlan == 0);
+                self.count_if("settings refused: VLAN 4095", vlan == 4_095);
+            }
+            Some(ports) if octets.len() + 2 == settings::length(ports) => {
+                self.count("settings refused: length 11 + 22 x ports");
             }
             _ => self.count("settings refused: length"),
         }
@@ -370,6 +447,7 @@ impl Coverage {
                 if let Some(before) = before {
                     self.registrations(&before, after);
                     self.left_again(&before, port as usize, &pdu);
+                    self.domains(&before, after, port as usize, &pdu);
                 }
                 let held = after.registrations.streams.len();
                 if held > held_before {
@@ -389,11 +467,18 @@ impl Coverage {
                 self.value_past(attribute_type, &first_value, values);
             }
             numbers::STREAMS => {
-                self.count_if("number 8 with 64 streams held", held_before == MOST_STREAMS);
-                self.count_if("number 8 with fewer held", held_before < MOST_STREAMS);
+                let pdu = pdu::read(octets).expect("refused for its streams alone");
+                self.streams_past(&pdu, held_before);
             }
             _ => {}
         }
+    }
+
+    fn streams_past(&mut self, pdu: &Pdu, held_before: usize) {
+        self.count_if("number 8 with 64 streams held", held_before == MOST_STREAMS);
+        self.count_if("number 8 with fewer held", held_before < MOST_STREAMS);
+        let joins = domains_of(pdu).any(|(event, domain)| is_join(event) && is_held(domain));
+        self.count_if("number 8 with a Domain join in the PDU", joins);
     }
 
     fn value_past(&mut self, attribute_type: AttributeType, first_value: &[u8], values: usize) {
@@ -447,9 +532,10 @@ impl Coverage {
                 self.count_if("last destination at its bound", at_bound);
             }
             Some((_, Value::Listener(stream_id, _))) => self.last_unique_id(*stream_id, values),
-            Some((_, Value::Domain)) => {
-                let last = vector.first_value[0].max(vector.first_value[1]) as usize + values - 1;
-                self.count_if("last Domain octet at its bound", last == 255);
+            Some((_, Value::Domain(last))) => {
+                let at_bound = last.class_id.max(last.priority) == 255;
+                self.count_if("last Domain octet at its bound", at_bound);
+                self.domain_vector(vector);
             }
             None => {}
         }
@@ -507,7 +593,7 @@ impl Coverage {
                         let left_stream = match value {
                             Value::Talker(talker) => Some(talker.stream_id),
                             Value::Listener(stream_id, Some(_)) => Some(*stream_id),
-                            Value::Listener(_, None) | Value::Domain => None,
+                            Value::Listener(_, None) | Value::Domain(_) => None,
                         };
                         *event == Event::Lv && left_stream == Some(*stream_id)
                     });
@@ -545,6 +631,8 @@ impl Coverage {
         self.count_if("tables with 60 to 63 streams after an advance", (60..=63).contains(&held));
         self.settled(after);
         self.importance(after);
+        self.domains_left(time, before);
+        self.boundaries(before, after);
     }
 
     fn settled(&mut self, bridge: &Bridge) {
@@ -556,6 +644,7 @@ impl Coverage {
                 Step::D => ("column step d", Some(16)),
                 Step::E => ("column step e", Some(4)),
                 Step::F => ("column step f", Some(13)),
+                Step::J => ("column step j", Some(8)),
                 Step::G => ("column step g", Some(14)),
                 Step::H => ("column step h", Some(1)),
                 Step::I => ("column step i", None),
@@ -585,6 +674,7 @@ impl Coverage {
                 talker_port.map_or(false, |at| at + 1 < port) && on_port.talker.is_some()
             });
             self.latency(bridge, stream_id, port);
+            self.at_the_edge(bridge, stream_id, port, decision.step);
             if let Some(compared) = decision.compared {
                 let (demand, left) = (compared.demand.0, compared.left.0);
                 self.count_if("demand exactly what is left", demand == left && demand > 0);
@@ -665,9 +755,10 @@ impl Coverage {
         }
     }
 
-    fn wrote(&mut self, bridge: &Bridge, port: u32, place: u32, number: Number, next: usize) {
+    fn wrote(&mut self, bridge: &Bridge, port: u32, place: u32, answer: WriteAnswer) {
+        let WriteAnswer { number, length, next_place: next } = answer;
         let place = place as usize;
-        let declarations = declarations::of_port(&bridge.settled, port as usize);
+        let declarations = bridge.declarations(port as usize);
         let count = declarations.len();
         self.count_if("write at place = count + 1", number != 0 && place == count + 1);
         if number != numbers::ACCEPTED {
@@ -682,10 +773,21 @@ impl Coverage {
         let has = |attribute_type| {
             taken.iter().any(|declaration| declaration.attribute_type() == attribute_type)
         };
-        let all = has(AttributeType::TalkerAdvertise)
-            && has(AttributeType::TalkerFailed)
-            && has(AttributeType::Listener);
-        self.count_if("write of Advertise, Failed and Listener", all);
+        let all = pdu::ATTRIBUTE_TYPES.into_iter().all(has);
+        self.count_if("write of Advertise, Failed, Listener and Domain", all);
+        let full = length == LONGEST_PDU;
+        self.count_if("write of exactly 1500 octets", full);
+        let has_domain = has(AttributeType::Domain);
+        self.count_if("write of exactly 1500 octets with Domain", full && has_domain);
+        let is_domain = |one: &Declaration| one.attribute_type() == AttributeType::Domain;
+        self.count_if("write of Domain alone", has_domain && taken.iter().all(is_domain));
+        self.count_if("write of Domain before an advance", has_domain && bridge.clock == 0);
+        self.count_if("write on a port without Domain", !declarations.iter().any(is_domain));
+        if let (Some(last), Some(first_left)) = (taken.last(), declarations.get(next)) {
+            let ends_before = is_domain(first_left) && !is_domain(last);
+            self.count_if("write that ends before the Domain Message", ends_before);
+            self.count_if("write that ends between two Domains", is_domain(last));
+        }
     }
 
     fn reported(&mut self, bridge: &Bridge, place: u32, number: Number) {
@@ -736,8 +838,7 @@ impl Watcher for Coverage {
                     }
                 }
                 Call::Write { port, place, answer } => {
-                    self.wrote(bridge, *port, *place, number, answer.next_place);
-                    self.count_if("write of exactly 1500 octets", answer.length == LONGEST_PDU);
+                    self.wrote(bridge, *port, *place, *answer);
                 }
                 Call::Report { place, .. } => self.reported(bridge, *place, number),
             }

@@ -1,7 +1,10 @@
-//! Declarations of a port and writing them (01, "Writing"; 802.1Q clause 10.8, 802.1Qat clause
-//! 35.2.2).
+//! Declarations of a port and writing them (01, "Writing"; 02, (ii); 802.1Q clause 10.8, 802.1Qat
+//! clause 35.2.2).
 
-use crate::pdu::{AttributeType, ListenerType, StreamId, Talker, END_MARK, LONGEST_PDU};
+use crate::domain;
+use crate::pdu::{AttributeType, Domain, ListenerType, StreamId, Talker};
+use crate::pdu::{ATTRIBUTE_TYPES, END_MARK, LONGEST_PDU};
+use crate::settings::{Class, Settings};
 use crate::settling::{Column, Settled};
 
 /// A declaration of a port.
@@ -9,6 +12,7 @@ use crate::settling::{Column, Settled};
 pub enum Declaration {
     Talker(Talker),
     Listener(StreamId, ListenerType),
+    Domain(Domain),
 }
 
 /// JoinMt at the first position of a ThreePackedEvents octet, spare positions 0.
@@ -20,6 +24,7 @@ impl Declaration {
             Declaration::Talker(Talker { failure: None, .. }) => AttributeType::TalkerAdvertise,
             Declaration::Talker(Talker { failure: Some(_), .. }) => AttributeType::TalkerFailed,
             Declaration::Listener(..) => AttributeType::Listener,
+            Declaration::Domain(_) => AttributeType::Domain,
         }
     }
 
@@ -42,6 +47,10 @@ impl Declaration {
                 };
                 octets.push(part << 6);
             }
+            Declaration::Domain(domain) => {
+                octets.extend(domain.octets());
+                octets.push(JOIN_MT);
+            }
         }
         octets
     }
@@ -59,8 +68,23 @@ pub fn first_value(talker: &Talker) -> Vec<u8> {
     octets
 }
 
-/// The declarations of a port: Advertise, Failed, Listener; in each by ascending StreamID.
-pub fn of_port(settled: &Settled, port: usize) -> Vec<Declaration> {
+/// The Domain declarations of a port, by ascending class ID: one for each class that it supports,
+/// from start on, whatever is registered.
+fn domains(settings: &Settings, port: usize) -> Vec<Declaration> {
+    let is_supported = |class: &Class| settings.ports[port - 1].supports.of(*class);
+    let domain = |class| {
+        Declaration::Domain(Domain {
+            class_id: domain::class_id(class),
+            priority: settings.priority.of(class),
+            vlan: settings.vlan,
+        })
+    };
+    [Class::B, Class::A].into_iter().filter(is_supported).map(domain).collect()
+}
+
+/// The declarations of a port: Advertise, Failed, Listener, in each by ascending StreamID; then
+/// Domain.
+pub fn of_port(settings: &Settings, settled: &Settled, port: usize) -> Vec<Declaration> {
     let mut advertise = Vec::new();
     let mut failed = Vec::new();
     let mut listener = Vec::new();
@@ -83,16 +107,14 @@ pub fn of_port(settled: &Settled, port: usize) -> Vec<Declaration> {
             listener.push(Declaration::Listener(*stream_id, listener_type));
         }
     }
-    [advertise, failed, listener].concat()
+    [advertise, failed, listener, domains(settings, port)].concat()
 }
 
 /// The PDU of these declarations, which stand by type: ProtocolVersion 0, one Message per type
 /// that occurs, one value per vector, EndMark.
 pub fn pdu(declarations: &[Declaration]) -> Vec<u8> {
     let mut octets = vec![0];
-    for attribute_type in
-        [AttributeType::TalkerAdvertise, AttributeType::TalkerFailed, AttributeType::Listener]
-    {
+    for attribute_type in ATTRIBUTE_TYPES {
         let mut list = Vec::new();
         for declaration in declarations {
             if declaration.attribute_type() == attribute_type {

@@ -1,10 +1,13 @@
 //! Inputs for comparisons, each a function of its seed alone.
 //!
 //! Most of an input is a well-formed history: few streams, so that ports meet in them; Talkers
-//! and Listeners on different ports; limits around sums of demands. Damaged frames, wrong ports,
+//! and Listeners on different ports; limits around sums of demands; neighbours that are mostly in
+//! the bridge's own domain, so that streams are admitted towards them. Damaged frames, wrong ports,
 //! wrong settings and cut records are mixed in, in scripts of calls also octets stored in the
 //! table. The generator makes each call on a table of its own while it writes, so that it knows
 //! the clock, the streams held, the next places and the octet that stood where one is stored.
+
+mod domains;
 
 use crate::bridge::{Table, ROOM_LENGTH};
 use crate::declarations;
@@ -12,11 +15,14 @@ use crate::frame::{FrameDraft, MessageDraft, VectorDraft};
 use crate::pdu::{AttributeType, Failure, Parameters, StreamId, Talker, LONGEST_PDU};
 use crate::random::Random;
 use crate::registrations::MOST_STREAMS;
-use crate::settings::{self, PerClass, PortSettings, Settings, CLASSES, MOST_PORTS};
+use crate::settings::{self, PerClass, PortSettings, Settings, CLASSES};
+use crate::settings::{GREATEST_VLAN, MOST_PORTS};
 use crate::settling;
 use crate::sheet;
 use crate::stored;
 use crate::table::TABLE_LENGTH;
+use domains::strange_domain_vectors;
+use domains::{domain_pdu, domain_vector, own_domain_vectors, some_domain};
 
 /// The numbers of the events in a ThreePackedEvents octet.
 const JOINS: [u8; 3] = [0, 1, 3];
@@ -81,7 +87,9 @@ fn plan(random: &mut Random, size: Size) -> Plan {
     let any_leave_time = random.between(1, 16_383) as u32;
     let leave_time = random.one_of(&[60, 60, 60, 100, 1, 2, 10, 250, 16_383, any_leave_time]);
     let bridge_id = random.bits() >> random.one_of(&[0, 0, 16, 63]);
-    let mut settings = Settings { bridge_id, priority, leave_time, ports };
+    let any_vlan = random.between(1, u64::from(GREATEST_VLAN)) as u16;
+    let vlan = random.one_of(&[2, 2, 2, 1, GREATEST_VLAN, any_vlan]);
+    let mut settings = Settings { bridge_id, priority, leave_time, vlan, ports };
     let rivals = random.percent(30);
     let mut groups = groups(random, &settings, size, rivals);
     if rivals {
@@ -284,6 +292,9 @@ fn vector(
     group: &Group,
     attribute_type: AttributeType,
 ) -> VectorDraft {
+    if attribute_type == AttributeType::Domain {
+        return domain_vector(random, settings);
+    }
     // Which of the group: all, one, some, or one past its end.
     let (skip, mut count) = match random.below(20) {
         0..=9 => (0, group.members),
@@ -361,9 +372,7 @@ fn first_value(
         }
         AttributeType::Listener => talker.stream_id.to_be_bytes().to_vec(),
         AttributeType::Domain => {
-            let class_id = random.one_of(&[5, 6, 6, 0, 250, 255]);
-            let priority = random.one_of(&[2, 3, 3, 7, 255]);
-            vec![class_id, priority, 0, 2]
+            vec![random.below(3) as u8, random.below(3) as u8, 0, settings.vlan as u8]
         }
     }
 }
@@ -605,7 +614,7 @@ fn near_the_fields_end(random: &mut Random, attribute_type: u8, vector: &mut Vec
 
 fn wrong_settings(random: &mut Random, settings: &Settings) -> Vec<u8> {
     let mut octets = settings::write(settings);
-    match random.below(11) {
+    match random.below(16) {
         0 => {
             octets[8] &= 0x0f; // no ports
             if random.percent(50) {
@@ -633,15 +642,26 @@ fn wrong_settings(random: &mut Random, settings: &Settings) -> Vec<u8> {
             let port = random.below(settings.ports.len() as u64) as usize;
             octets[settings::length(port)] |= 1 << random.below(5);
         }
-        6 => {
-            octets.pop();
-        }
+        6 => drop(octets.pop()),
         7 => octets.push(0),
         8 => octets.resize(octets.len() + settings::PORT_LENGTH, 0),
         9 => octets.truncate(random.below(octets.len() as u64) as usize),
+        10..=14 => wrong_vlan(random, &mut octets),
         _ => octets.truncate(octets.len() - settings::PORT_LENGTH),
     }
     octets
+}
+
+/// A VLAN of 0 or 4,095, one with a bit above it set, or none at all.
+fn wrong_vlan(random: &mut Random, settings: &mut Vec<u8>) {
+    match random.below(5) {
+        0 => settings[11] |= 1 << random.between(4, 7),
+        1..=2 => {
+            let vlan = random.one_of(&[0, GREATEST_VLAN + 1]);
+            settings[11..13].copy_from_slice(&vlan.to_be_bytes());
+        }
+        _ => drop(settings.drain(11..13)),
+    }
 }
 
 // ---- histories ----
@@ -731,6 +751,61 @@ impl History {
             _ => clock.saturating_sub(random.one_of(&[1, 1, 10, clock, clock / 2])),
         };
         self.advance(time);
+    }
+
+    /// What the neighbour of a port says of the domain, mostly that it is in the bridge's own; with
+    /// LeaveAll where it says so again. Nothing from one that knows no domain.
+    fn domain_frame(&mut self, plan: &Plan, leave_all_event: u8) -> Option<Vec<u8>> {
+        let (random, settings) = (&mut self.random, &plan.settings);
+        let mut vectors = match random.percent(86) {
+            true => own_domain_vectors(random, settings),
+            false => strange_domain_vectors(random, settings),
+        };
+        vectors.first_mut()?.leave_all_event = leave_all_event;
+        Some(domain_pdu(vectors))
+    }
+
+    /// The neighbours of all ports say what domain they are in.
+    fn hear_domains(&mut self, plan: &Plan) {
+        let mut ports: Vec<u32> = (1..=plan.ports()).collect();
+        self.random.shuffle(&mut ports);
+        for port in ports {
+            if let Some(frame) = self.domain_frame(plan, 0) {
+                self.receive(port, &frame);
+            }
+        }
+    }
+
+    /// A neighbour says again what domain it is in, at times after another one. What it doesn't say
+    /// again expires at the end of the leave time.
+    fn hear_domain_again(&mut self, plan: &Plan) {
+        let port = self.port(plan);
+        if self.random.percent(40) {
+            let vectors = strange_domain_vectors(&mut self.random, &plan.settings);
+            self.receive(port, &domain_pdu(vectors));
+            self.some_advance(plan);
+        }
+        let begun = self.clock();
+        if let Some(frame) = self.domain_frame(plan, 1) {
+            self.receive(port, &frame);
+        }
+        let leave_time = plan.settings.leave_time;
+        if self.random.percent(40) {
+            self.advance(begun.saturating_add(leave_time - 1));
+        }
+        if self.random.percent(60) {
+            self.advance(begun.saturating_add(leave_time));
+        }
+    }
+
+    /// What mostly happens first: the neighbours say what domain they are in, and all groups join.
+    fn beginning(&mut self, plan: &Plan) {
+        if self.random.percent(94) {
+            self.hear_domains(plan);
+        }
+        if self.random.percent(80) {
+            self.opening(plan);
+        }
     }
 
     /// All groups: their Talker on its port and Listeners, mostly Ready, on others; then time. The
@@ -825,18 +900,26 @@ impl History {
             };
             MessageDraft::new(AttributeType::TalkerAdvertise, vec![vector])
         };
+        let mut messages = vec![message];
+        if self.random.percent(30) {
+            let vectors = strange_domain_vectors(&mut self.random, &plan.settings);
+            messages.insert(0, MessageDraft::new(AttributeType::Domain, vectors));
+        }
         // With no values the header would be an EndMark, and the list wouldn't end with it.
-        self.receive(port, &FrameDraft::new(vec![message]).octets());
+        self.receive(port, &FrameDraft::new(messages).octets());
     }
 
-    /// A group of streams leaves on a port, by Lv or by LeaveAll.
-    fn leave(&mut self, port: u32, group: &Group, attribute_type: AttributeType) {
+    /// A group of streams, or a Domain, leaves on a port, by Lv or by LeaveAll.
+    fn leave(&mut self, plan: &Plan, port: u32, group: &Group, attribute_type: AttributeType) {
         let mut vector = VectorDraft {
             first_value: vec![0; attribute_type.first_value_length()],
             ..VectorDraft::default()
         };
         if self.random.percent(35) {
             vector.leave_all_event = 1;
+        } else if attribute_type == AttributeType::Domain {
+            vector.first_value = some_domain(&mut self.random, &plan.settings).octets();
+            vector.events = vec![LV];
         } else {
             let stream_id = group.first.stream_id.to_be_bytes();
             vector.first_value[..8].copy_from_slice(&stream_id);
@@ -850,23 +933,24 @@ impl History {
         self.receive(port, &FrameDraft::new(vec![message]).octets());
     }
 
-    /// A group leaves; before the leave time is over it leaves again, joins or does nothing; then
-    /// time goes to the end of the leave time, counted from the first leaving.
+    /// A group or a Domain leaves; before the leave time is over it leaves again, joins or does
+    /// nothing; then time goes to the end of the leave time, counted from the first leaving.
     fn leave_and_wait(&mut self, plan: &Plan) {
         let group = self.random.one_of(&plan.groups);
         let port = if self.random.percent(50) { group.talker_port } else { self.port(plan) };
         let attribute_type = match self.random.below(5) {
+            0 => AttributeType::Domain,
             _ if port != group.talker_port => AttributeType::Listener,
-            0 => AttributeType::TalkerFailed,
+            1 => AttributeType::TalkerFailed,
             _ => AttributeType::TalkerAdvertise,
         };
         let begun = self.clock();
         let leave_time = plan.settings.leave_time;
-        self.leave(port, &group, attribute_type);
+        self.leave(plan, port, &group, attribute_type);
         let part = self.random.below(u64::from(leave_time)) as u32;
         self.advance(begun.saturating_add(part));
         match self.random.below(6) {
-            0..=2 => self.leave(port, &group, attribute_type),
+            0..=2 => self.leave(plan, port, &group, attribute_type),
             3 => {
                 let frame = frame(&mut self.random, plan, port);
                 self.receive(port, &frame.octets());
@@ -879,13 +963,17 @@ impl History {
         if self.random.percent(80) {
             self.advance(begun.saturating_add(leave_time));
         }
+        if attribute_type == AttributeType::Domain {
+            let vectors = own_domain_vectors(&mut self.random, &plan.settings);
+            self.receive(port, &domain_pdu(vectors));
+        }
     }
 
     /// One thing that happens to a bridge: mostly a frame or an advance.
     fn step(&mut self, plan: &Plan) {
         let port = self.port(plan);
         let fill_weight = if plan.size == Size::Full { 8 } else { 1 };
-        match self.random.weighted(&[58, 26, 11, 3, 3, fill_weight]) {
+        match self.random.weighted(&[58, 26, 11, 3, 4, 4, fill_weight]) {
             0 => {
                 let frame = frame(&mut self.random, plan, port);
                 self.receive(port, &frame.octets());
@@ -905,6 +993,7 @@ impl History {
                 self.receive(port, &octets);
             }
             4 => self.leave_and_wait(plan),
+            5 => self.hear_domain_again(plan),
             _ => self.fill(plan),
         }
     }
@@ -977,9 +1066,7 @@ pub fn sheet(seed: u64) -> Vec<u8> {
         history.octets = settings::write(&plan.settings);
         history.table.start(&history.octets.clone());
     }
-    if history.random.percent(80) {
-        history.opening(&plan);
-    }
+    history.beginning(&plan);
     for _ in 0..history.steps(size) {
         history.step(&plan);
     }
@@ -1017,6 +1104,39 @@ fn pass_the_longest_input(history: &mut History, plan: &Plan) {
 }
 
 // ---- scripts of calls ----
+
+/// How many Advertise, Failed and Listeners a port declares beside two Domains. Version and EndMark
+/// take 3 octets, each Message 6, and a value 28, 37, 12 or, for a Domain, 7. With the first three
+/// two Domains, one or none make 1,500 octets.
+const CROWDS: [(u64, u64, u64); 11] = [
+    (26, 11, 27),
+    (28, 10, 26),
+    (20, 25, 0),
+    (0, 33, 22),
+    (48, 3, 2),
+    (48, 3, 2),
+    (20, 25, 1),
+    (19, 26, 0),
+    (0, 33, 23),
+    (48, 3, 1),
+    (53, 0, 5),
+];
+
+/// Settings of two ports with room for all streams.
+fn roomy_settings(random: &mut Random) -> Settings {
+    let port = PortSettings {
+        limit: PerClass { a: (1 << 40) - 1, b: 0 },
+        latency: PerClass { a: 500, b: 0 },
+        ..PortSettings::of_the_worked_example()
+    };
+    Settings {
+        bridge_id: random.bits(),
+        priority: PerClass { a: 3, b: 2 },
+        leave_time: 60,
+        vlan: 2,
+        ports: vec![port.clone(), port],
+    }
+}
 
 /// An input of srpcalls.
 #[derive(Clone, Debug, PartialEq, Eq)]
@@ -1122,76 +1242,50 @@ impl History {
 
     /// A bridge whose port 2 has declarations for a PDU of 1,500 octets, a few more or a few less.
     fn longest_pdu(&mut self) {
-        // Version and EndMark take 3 octets, each Message 6, and a value 28, 37 or 12.
-        let (advertise, failed, listening) = self.random.one_of(&[
-            (20, 25, 0),
-            (0, 33, 22),
-            (48, 3, 2),
-            (48, 3, 2),
-            (20, 25, 1),
-            (19, 26, 0),
-            (0, 33, 23),
-            (48, 3, 1),
-            (53, 0, 5),
-        ]);
-        let port = PortSettings {
-            supports: PerClass { a: true, b: true },
-            sends_twice: false,
-            overhead: 42,
-            largest_frame: 1522,
-            limit: PerClass { a: (1 << 40) - 1, b: 0 },
-            latency: PerClass { a: 500, b: 0 },
-        };
-        let settings = Settings {
-            bridge_id: self.random.bits(),
-            priority: PerClass { a: 3, b: 2 },
-            leave_time: 60,
-            ports: vec![port.clone(), port],
-        };
+        let (advertise, failed, listening) = self.random.one_of(&CROWDS);
+        let settings = roomy_settings(&mut self.random);
         self.start(&settings::write(&settings));
-        let mut stream_id: StreamId = 0x0200_0000_0001_0000 + self.random.below(1_000);
-        let failure = Failure { bridge_id: self.random.bits(), code: self.random.octet() };
-        for (port, count, failure) in
-            [(1, advertise, None), (1, failed, Some(failure)), (2, listening, None)]
-        {
-            let talker = Talker {
-                stream_id,
-                parameters: Parameters {
-                    destination: 0x91e0_f000_0000 + (stream_id & 0xffff),
-                    vlan: 2,
-                    max_frame_size: 100,
-                    max_interval_frames: 1,
-                    priority: 3,
-                    rank: 1,
-                },
-                accumulated_latency: accumulated_latency(&mut self.random),
-                failure,
-            };
-            let first_value = declarations::first_value(&talker);
-            let attribute_type = match failure {
-                None => AttributeType::TalkerAdvertise,
-                Some(_) => AttributeType::TalkerFailed,
-            };
-            let events = vec![self.random.one_of(&JOINS); count];
-            let listeners = VectorDraft {
-                first_value: stream_id.to_be_bytes().to_vec(),
-                events: events.clone(),
-                listener_types: vec![READY; count],
-                ..VectorDraft::default()
-            };
-            let talkers = VectorDraft { first_value, events, ..VectorDraft::default() };
-            if count > 0 {
-                let message = MessageDraft::new(attribute_type, vec![talkers]);
-                self.receive(port, &FrameDraft::new(vec![message]).octets());
-                let message = MessageDraft::new(AttributeType::Listener, vec![listeners]);
-                self.receive(3 - port, &FrameDraft::new(vec![message]).octets());
-            }
-            stream_id += count as u64;
+        for port in [1, 2] {
+            let vectors = own_domain_vectors(&mut self.random, &settings);
+            self.receive(port, &domain_pdu(vectors));
         }
+        let first: StreamId = 0x0200_0000_0001_0000 + self.random.below(1_000);
+        let failure = Failure { bridge_id: self.random.bits(), code: self.random.octet() };
+        self.join_crowd(1, first, advertise, None);
+        self.join_crowd(1, first + advertise, failed, Some(failure));
+        self.join_crowd(2, first + advertise + failed, listening, None);
         self.advance(100);
         for port in [1, 2] {
             self.sweep_port(port);
         }
+    }
+
+    /// So many Talkers on a port, and a Ready Listener of each on the other of two.
+    fn join_crowd(&mut self, port: u32, first: StreamId, count: u64, failure: Option<Failure>) {
+        if count == 0 {
+            return;
+        }
+        let mut talker = Talker::of_the_worked_example(first);
+        talker.parameters.max_frame_size = 100;
+        talker.accumulated_latency = accumulated_latency(&mut self.random);
+        talker.failure = failure;
+        let attribute_type = match failure {
+            None => AttributeType::TalkerAdvertise,
+            Some(_) => AttributeType::TalkerFailed,
+        };
+        let events = vec![self.random.one_of(&JOINS); count as usize];
+        let listeners = VectorDraft {
+            first_value: first.to_be_bytes().to_vec(),
+            events: events.clone(),
+            listener_types: vec![READY; count as usize],
+            ..VectorDraft::default()
+        };
+        let first_value = declarations::first_value(&talker);
+        let talkers = VectorDraft { first_value, events, ..VectorDraft::default() };
+        let message = MessageDraft::new(attribute_type, vec![talkers]);
+        self.receive(port, &FrameDraft::new(vec![message]).octets());
+        let message = MessageDraft::new(AttributeType::Listener, vec![listeners]);
+        self.receive(3 - port, &FrameDraft::new(vec![message]).octets());
     }
 
     /// A write or report with any arguments.
@@ -1200,7 +1294,7 @@ impl History {
         if self.random.percent(50) {
             let count = match self.table.bridge() {
                 Some(bridge) if (1..=bridge.settings.ports.len()).contains(&(port as usize)) => {
-                    declarations::of_port(&bridge.settled, port as usize).len() as u16
+                    bridge.declarations(port as usize).len() as u16
                 }
                 _ => 0,
             };
@@ -1308,7 +1402,7 @@ pub fn calls(seed: u64) -> Script {
             history.some_call(&plan);
         }
     }
-    if history.random.percent(4) {
+    if history.random.percent(6) {
         history.longest_pdu();
     }
     // A few scripts have no start of their own: alone they get 12 for all, in a batch they go on
@@ -1327,9 +1421,10 @@ pub fn calls(seed: u64) -> Script {
             let settings = settings::write(&plan.settings);
             history.start(&settings);
         }
-        if history.random.percent(80) {
-            history.opening(&plan);
+        if history.random.percent(10) {
+            history.sweep(&plan);
         }
+        history.beginning(&plan);
         for _ in 0..history.steps(size) {
             history.script_step(&plan);
         }

@@ -1,14 +1,16 @@
 //! A stream-reservation bridge of IEEE 802.1Qat, written from the papers alone.
 //!
-//! "01" in the comments is the paper that lays down the bridge and its rules; clause numbers
-//! such as 35.2.4.2 are those of IEEE 802.1Qat-2010. The program is meant to be compared with
-//! another implementation, so it is written for the reader and not for speed.
+//! "01" in the comments is the paper that lays down the bridge and its rules, "02" that of the
+//! requests for more, of which (ii) is in; clause numbers such as 35.2.4.2 are those of IEEE
+//! 802.1Qat-2010. The program is meant to be compared with another implementation, so it is
+//! written for the reader and not for speed.
 //!
 //! The order of the modules follows a frame through the bridge:
 //!
 //! * [`numbers`]: the numbers that calls give back;
 //! * [`settings`]: what a bridge is started with;
 //! * [`pdu`]: reading MSRPDUs;
+//! * [`domain`]: the SRP domain, and where it ends;
 //! * [`registrations`]: what each port has registered;
 //! * [`settling`]: attribute propagation and reserved bandwidth;
 //! * [`declarations`]: writing MSRPDUs;
@@ -27,6 +29,7 @@ pub mod bridge;
 pub mod calls;
 pub mod coverage;
 pub mod declarations;
+pub mod domain;
 pub mod files;
 pub mod frame;
 pub mod generator;

@@ -20,6 +20,13 @@ pub enum AttributeType {
     Domain,
 }
 
+pub const ATTRIBUTE_TYPES: [AttributeType; 4] = [
+    AttributeType::TalkerAdvertise,
+    AttributeType::TalkerFailed,
+    AttributeType::Listener,
+    AttributeType::Domain,
+];
+
 impl AttributeType {
     /// The octet of Table 35-1.
     pub fn octet(self) -> u8 {
@@ -159,14 +166,30 @@ impl Talker {
     }
 }
 
+/// A Domain declaration (35.2.2.9).
+#[derive(Clone, Copy, Debug, PartialEq, Eq)]
+pub struct Domain {
+    pub class_id: u8,
+    pub priority: u8,
+    pub vlan: u16,
+}
+
+impl Domain {
+    /// Its FirstValue.
+    pub fn octets(&self) -> Vec<u8> {
+        let mut octets = vec![self.class_id, self.priority];
+        octets.extend(self.vlan.to_be_bytes());
+        octets
+    }
+}
+
 /// One value of a vector, with its event.
 #[derive(Clone, Copy, Debug, PartialEq, Eq)]
 pub enum Value {
     Talker(Talker),
     /// Without a Listener type where the FourPackedEvents say Ignore.
     Listener(StreamId, Option<ListenerType>),
-    /// Checked, and without effect.
-    Domain,
+    Domain(Domain),
 }
 
 /// A vector, its checks passed.
@@ -349,7 +372,8 @@ fn values_fit(attribute_type: AttributeType, first_value: &[u8], number_of_value
     }
 }
 
-/// Value n: for Talkers n is added to Unique ID and destination, for Listener to Unique ID.
+/// Value n: for Talkers n is added to Unique ID and destination, for Listener to Unique ID, for
+/// Domain to class ID and priority.
 fn value(
     attribute_type: AttributeType,
     first_value: &[u8],
@@ -363,7 +387,11 @@ fn value(
         AttributeType::Listener => {
             Value::Listener(number_of(&first_value[0..8]) + n, listener_type)
         }
-        AttributeType::Domain => Value::Domain,
+        AttributeType::Domain => Value::Domain(Domain {
+            class_id: first_value[0] + n as u8,
+            priority: first_value[1] + n as u8,
+            vlan: number_of(&first_value[2..4]) as u16,
+        }),
     }
 }
 

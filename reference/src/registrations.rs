@@ -1,9 +1,10 @@
-//! Registrations per port (01, "Registering").
+//! Registrations per port (01, "Registering"; 02, (ii)).
 
 use std::collections::{BTreeMap, BTreeSet};
 
-use crate::pdu::{AttributeType, Event, Failure, ListenerType, Parameters, Pdu, StreamId};
-use crate::pdu::{Talker, Value, Vector};
+use crate::domain::{self, DomainRegistration, Domains, SLOTS};
+use crate::pdu::{AttributeType, Domain, Event, Failure, ListenerType, Parameters, Pdu};
+use crate::pdu::{StreamId, Talker, Value, Vector};
 
 /// The most streams that a bridge holds.
 pub const MOST_STREAMS: usize = 64;
@@ -44,12 +45,13 @@ pub struct OnPort {
     pub listener: Option<ListenerRegistration>,
 }
 
-/// The registrations of all streams held. Each stream has one [`OnPort`] for each port of the
-/// bridge, port 1 first, and at least one of them holds a registration.
+/// The registrations of all streams held, and of the domain. Each stream has one [`OnPort`] for
+/// each port of the bridge, port 1 first, and at least one of them holds a registration.
 #[derive(Clone, Debug, PartialEq, Eq)]
 pub struct Registrations {
-    port_count: usize,
     pub streams: BTreeMap<StreamId, Vec<OnPort>>,
+    /// Those of each port, port 1 first.
+    pub domains: Vec<Domains>,
 }
 
 /// Whether an event registers.
@@ -86,7 +88,7 @@ fn start_leaving(leaving: &mut Option<u32>, clock: u32) {
 
 impl Registrations {
     pub fn none(port_count: usize) -> Registrations {
-        Registrations { port_count, streams: BTreeMap::new() }
+        Registrations { streams: BTreeMap::new(), domains: vec![[None; SLOTS]; port_count] }
     }
 
     /// Streams held plus different new ones joined by this PDU.
@@ -124,15 +126,24 @@ impl Registrations {
                 (Value::Listener(stream_id, Some(_)), Event::Lv) => {
                     self.leave(port, stream_id, AttributeType::Listener, clock);
                 }
-                // Ignore, In and Mt do nothing; Domain has no effect.
-                (Value::Listener(_, None), _) | (_, Event::In | Event::Mt) | (Value::Domain, _) => {
+                (Value::Domain(domain), Event::New | Event::JoinIn | Event::JoinMt) => {
+                    self.join_domain(port, domain);
                 }
+                (Value::Domain(domain), Event::Lv) => self.leave_domain(port, domain, clock),
+                // Ignore, In and Mt do nothing.
+                (Value::Listener(_, None), _) | (_, Event::In | Event::Mt) => {}
             }
         }
     }
 
     /// Starts leaving all registrations of that AttributeType on that port.
     fn leave_all(&mut self, port: usize, attribute_type: AttributeType, clock: u32) {
+        if attribute_type == AttributeType::Domain {
+            for domain in self.domains[port - 1].iter_mut().flatten() {
+                start_leaving(&mut domain.leaving, clock);
+            }
+            return;
+        }
         let stream_ids: Vec<StreamId> = self.streams.keys().copied().collect();
         for stream_id in stream_ids {
             self.leave(port, stream_id, attribute_type, clock);
@@ -165,12 +176,13 @@ impl Registrations {
                     start_leaving(&mut listener.leaving, clock);
                 }
             }
+            // No Domain is of a stream.
             AttributeType::Domain => {}
         }
     }
 
     fn on_port(&mut self, port: usize, stream_id: StreamId) -> &mut OnPort {
-        let port_count = self.port_count;
+        let port_count = self.domains.len();
         let ports =
             self.streams.entry(stream_id).or_insert_with(|| vec![OnPort::default(); port_count]);
         &mut ports[port - 1]
@@ -204,6 +216,22 @@ impl Registrations {
         *held = Some(ListenerRegistration { listener_type, leaving: None });
     }
 
+    /// A Domain join replaces the VLAN and ends any leaving; a value out of range is dropped.
+    fn join_domain(&mut self, port: usize, joined: Domain) {
+        if let Some(slot) = domain::slot(joined.class_id, joined.priority) {
+            let held = &mut self.domains[port - 1][slot];
+            *held = Some(DomainRegistration { vlan: joined.vlan, leaving: None });
+        }
+    }
+
+    /// Starts leaving what the port holds of that class ID and priority, whatever the VLAN is.
+    fn leave_domain(&mut self, port: usize, left: Domain, clock: u32) {
+        let slot = domain::slot(left.class_id, left.priority);
+        if let Some(held) = slot.and_then(|slot| self.domains[port - 1][slot].as_mut()) {
+            start_leaving(&mut held.leaving, clock);
+        }
+    }
+
     /// Removes every registration leaving for at least the leave time, then drops the streams
     /// that no port holds a registration of.
     pub fn remove_left(&mut self, clock: u32, leave_time: u32) {
@@ -215,6 +243,11 @@ impl Registrations {
             }
             if on_port.listener.as_ref().map_or(false, |listener| left(listener.leaving)) {
                 on_port.listener = None;
+            }
+        }
+        for domain in self.domains.iter_mut().flatten() {
+            if domain.as_ref().map_or(false, |domain| left(domain.leaving)) {
+                *domain = None;
             }
         }
         self.streams.retain(|_, ports| {

@@ -1,8 +1,9 @@
-//! Settling: attribute propagation and reserved bandwidth (01, "Settling"; 802.1Qat clauses
-//! 35.2.4.1 to 35.2.4.4, Tables 35-12 and 35-14).
+//! Settling: attribute propagation and reserved bandwidth (01, "Settling"; 02, (ii); 802.1Qat
+//! clauses 35.2.4.1 to 35.2.4.4, Tables 35-12 and 35-14).
 
 use std::collections::BTreeMap;
 
+use crate::domain;
 use crate::pdu::{Failure, ListenerType, Parameters, StreamId};
 use crate::registrations::{OnPort, Registrations, TalkerRegistration};
 use crate::settings::{Class, PerClass, PortSettings, Settings, CLASSES};
@@ -36,7 +37,8 @@ pub fn rate(class: Class, demand: OctetsPerInterval) -> BitsPerSecond {
     BitsPerSecond(demand.0 * 8 * intervals)
 }
 
-/// The steps a to i, of which the first that applies gives the column.
+/// The steps, of which the first that applies gives the column. A step of a later request has a
+/// later letter, and stands where it is tested.
 #[derive(Clone, Copy, Debug, PartialEq, Eq, PartialOrd, Ord)]
 pub enum Step {
     A,
@@ -45,6 +47,7 @@ pub enum Step {
     D,
     E,
     F,
+    J,
     G,
     H,
     I,
@@ -132,13 +135,27 @@ pub struct Settled {
     pub streams: BTreeMap<StreamId, SettledStream>,
     /// The reserved sums of each port, port 1 first.
     pub totals: Vec<PerClass<u64>>,
+    /// The boundary flags of each port, port 1 first.
+    pub boundaries: Vec<PerClass<bool>>,
 }
 
 impl Settled {
     /// The state that start leaves.
     pub fn empty(port_count: usize) -> Settled {
-        Settled { streams: BTreeMap::new(), totals: vec![PerClass::default(); port_count] }
+        Settled {
+            streams: BTreeMap::new(),
+            totals: vec![PerClass::default(); port_count],
+            boundaries: vec![PerClass::default(); port_count],
+        }
     }
+}
+
+/// What the columns are decided by.
+pub struct Facts<'a> {
+    pub settings: &'a Settings,
+    pub registrations: &'a Registrations,
+    /// The boundary flags of each port, port 1 first.
+    pub boundaries: &'a [PerClass<bool>],
 }
 
 /// The Talker port of a stream: the lowest port with a Talker registration. With it, what is
@@ -147,12 +164,9 @@ fn talker_port(ports: &[OnPort]) -> Option<(usize, &TalkerRegistration)> {
     (1..).zip(ports).find_map(|(port, on_port)| Some((port, on_port.talker.as_ref()?)))
 }
 
-/// Steps a to g; nothing where the stream reaches step h.
-fn column_before_bandwidth(
-    settings: &Settings,
-    ports: &[OnPort],
-    port: usize,
-) -> Option<(Step, Column)> {
+/// The steps up to g; nothing where the stream reaches step h.
+fn column_before_bandwidth(facts: &Facts, ports: &[OnPort], port: usize) -> Option<(Step, Column)> {
+    let settings = facts.settings;
     let own_failure = |code| Column::Failed(Failure { bridge_id: settings.bridge_id, code });
     let port_settings = &settings.ports[port - 1];
     // a. no t, or p = t: none
@@ -178,36 +192,34 @@ fn column_before_bandwidth(
         return Some((Step::E, own_failure(4)));
     }
     // f. priority is no class: 13
-    if class.is_none() {
-        return Some((Step::F, own_failure(13)));
+    let class = match class {
+        Some(class) => class,
+        None => return Some((Step::F, own_failure(13))),
+    };
+    // j. p is a boundary port for the stream's class: 8
+    if facts.boundaries[port - 1].of(class) {
+        return Some((Step::J, own_failure(8)));
     }
     // g. MaxFrameSize above p's largest: 14
-    if talker.parameters.max_frame_size > port_settings.largest_frame {
-        return Some((Step::G, own_failure(14)));
-    }
-    None
+    let is_large = talker.parameters.max_frame_size > port_settings.largest_frame;
+    is_large.then(|| (Step::G, own_failure(14)))
 }
 
 /// Whether a stream has an entry on a port: not with column none and without a Listener
 /// (Table 35-12). Steps h and i never give column none.
-fn has_entry(settings: &Settings, ports: &[OnPort], port: usize) -> bool {
+fn has_entry(facts: &Facts, ports: &[OnPort], port: usize) -> bool {
     let column_is_none =
-        matches!(column_before_bandwidth(settings, ports, port), Some((_, Column::None)));
+        matches!(column_before_bandwidth(facts, ports, port), Some((_, Column::None)));
     !column_is_none || ports[port - 1].listener.is_some()
 }
 
 /// The second from which each entry counts, by stream and port: that of the settled state where
 /// there was an entry already, else that of this advance.
-fn entries_since(
-    settings: &Settings,
-    registrations: &Registrations,
-    clock: u32,
-    before: &Settled,
-) -> ByStreamAndPort<u32> {
+fn entries_since(facts: &Facts, clock: u32, before: &Settled) -> ByStreamAndPort<u32> {
     let mut since = BTreeMap::new();
-    for (stream_id, ports) in &registrations.streams {
-        for port in 1..=settings.ports.len() {
-            if has_entry(settings, ports, port) {
+    for (stream_id, ports) in &facts.registrations.streams {
+        for port in 1..=facts.settings.ports.len() {
+            if has_entry(facts, ports, port) {
                 let earlier = before
                     .streams
                     .get(stream_id)
@@ -241,68 +253,84 @@ pub struct Decisions {
     pub totals: Vec<PerClass<u64>>,
 }
 
+/// Rank, the second of the entry and StreamID. The less is the more important: rank 0 before 1, then
+/// older, then lower StreamID (35.2.4.1).
+type Importance = (u8, u32, StreamId);
+
 /// The columns of all streams on all ports, and the reserved sums of each port.
-pub fn decide(
-    settings: &Settings,
-    registrations: &Registrations,
-    entries_since: &ByStreamAndPort<u32>,
-) -> Decisions {
-    let mut columns = BTreeMap::new();
-    let mut totals = Vec::new();
-    for (port, port_settings) in (1..).zip(&settings.ports) {
-        // Those that reach step h, by class.
-        let mut reaching: BTreeMap<Class, Vec<(u8, u32, StreamId)>> = BTreeMap::new();
-        for (stream_id, ports) in &registrations.streams {
-            match column_before_bandwidth(settings, ports, port) {
-                Some((step, column)) => {
-                    columns.insert((*stream_id, port), Decision { step, column, compared: None });
-                }
-                None => {
-                    let (_, talker) = talker_port(ports).expect("step a has passed");
-                    let class =
-                        settings.class_of(talker.parameters.priority).expect("step f has passed");
-                    let since = entries_since[&(*stream_id, port)];
-                    let importance = (talker.parameters.rank, since, *stream_id);
-                    reaching.entry(class).or_default().push(importance);
-                }
-            }
-        }
+pub fn decide(facts: &Facts, entries_since: &ByStreamAndPort<u32>) -> Decisions {
+    let mut decisions = Decisions { columns: BTreeMap::new(), totals: Vec::new() };
+    for port in 1..=facts.settings.ports.len() {
+        let mut reaching = decide_before_bandwidth(facts, port, entries_since, &mut decisions);
         let mut total = PerClass::default();
         for class in CLASSES {
             let mut by_importance = reaching.remove(&class).unwrap_or_default();
-            // Rank 0 before 1, then older, then lower StreamID (35.2.4.1).
             by_importance.sort();
             for (_, _, stream_id) in by_importance {
-                let ports = &registrations.streams[&stream_id];
-                let (_, talker) = talker_port(ports).expect("step a has passed");
-                let parameters = talker.parameters;
-                let demand = rate(
-                    class,
-                    demand(
-                        port_settings,
-                        parameters.max_frame_size,
-                        parameters.max_interval_frames,
-                    ),
-                );
-                let left = BitsPerSecond(port_settings.limit.of(class) - total.of(class));
-                let compared = Some(Compared { demand, left });
-                // h. demand above what is left: 1
-                let decision = if demand > left {
-                    let failure = Failure { bridge_id: settings.bridge_id, code: 1 };
-                    Decision { step: Step::H, column: Column::Failed(failure), compared }
-                } else {
-                    // i. Advertise. Only those with Listener Ready or Ready Failed reserve.
-                    if is_ready(listener_type(&ports[port - 1])) {
-                        *total.of_mut(class) += demand.0;
-                    }
-                    Decision { step: Step::I, column: Column::Advertise, compared }
-                };
-                columns.insert((stream_id, port), decision);
+                let decision = admit(facts, stream_id, port, class, total.of_mut(class));
+                decisions.columns.insert((stream_id, port), decision);
             }
         }
-        totals.push(total);
+        decisions.totals.push(total);
     }
-    Decisions { columns, totals }
+    decisions
+}
+
+/// Decides all streams on a port but those that reach step h. Gives these by class.
+fn decide_before_bandwidth(
+    facts: &Facts,
+    port: usize,
+    entries_since: &ByStreamAndPort<u32>,
+    decisions: &mut Decisions,
+) -> BTreeMap<Class, Vec<Importance>> {
+    let mut reaching: BTreeMap<Class, Vec<Importance>> = BTreeMap::new();
+    for (stream_id, ports) in &facts.registrations.streams {
+        match column_before_bandwidth(facts, ports, port) {
+            Some((step, column)) => {
+                let decision = Decision { step, column, compared: None };
+                decisions.columns.insert((*stream_id, port), decision);
+            }
+            None => {
+                let Parameters { priority, rank, .. } = reaching_talker(ports);
+                let class = facts.settings.class_of(priority).expect("step f has passed");
+                let since = entries_since[&(*stream_id, port)];
+                reaching.entry(class).or_default().push((rank, since, *stream_id));
+            }
+        }
+    }
+    reaching
+}
+
+/// Steps h and i for a stream, with what more important ones have reserved of its class.
+fn admit(
+    facts: &Facts,
+    stream_id: StreamId,
+    port: usize,
+    class: Class,
+    reserved: &mut u64,
+) -> Decision {
+    let ports = &facts.registrations.streams[&stream_id];
+    let port_settings = &facts.settings.ports[port - 1];
+    let Parameters { max_frame_size, max_interval_frames, .. } = reaching_talker(ports);
+    let demand = rate(class, demand(port_settings, max_frame_size, max_interval_frames));
+    let left = BitsPerSecond(port_settings.limit.of(class) - *reserved);
+    let compared = Some(Compared { demand, left });
+    // h. demand above what is left: 1
+    if demand > left {
+        let failure = Failure { bridge_id: facts.settings.bridge_id, code: 1 };
+        return Decision { step: Step::H, column: Column::Failed(failure), compared };
+    }
+    // i. Advertise. Only those with Listener Ready or Ready Failed reserve.
+    if is_ready(listener_type(&ports[port - 1])) {
+        *reserved += demand.0;
+    }
+    Decision { step: Step::I, column: Column::Advertise, compared }
+}
+
+/// The parameters of a stream that has passed step a.
+fn reaching_talker(ports: &[OnPort]) -> Parameters {
+    let (_, talker) = talker_port(ports).expect("step a has passed");
+    talker.parameters
 }
 
 /// The entry of Table 35-12.
@@ -351,36 +379,52 @@ pub fn settle(
     clock: u32,
     before: &Settled,
 ) -> Settled {
-    let since = entries_since(settings, registrations, clock, before);
-    let Decisions { columns, totals } = decide(settings, registrations, &since);
+    let boundaries = domain::boundaries(settings, &registrations.domains);
+    let facts = Facts { settings, registrations, boundaries: &boundaries };
+    let since = entries_since(&facts, clock, before);
+    let Decisions { columns, totals } = decide(&facts, &since);
     let mut streams = BTreeMap::new();
     for (stream_id, ports) in &registrations.streams {
-        let talker = talker_port(ports);
-        let mut settled_ports = Vec::new();
-        let mut merged = None;
-        for (port, on_port) in (1..).zip(ports) {
+        let on_each = |port| {
             let column = columns[&(*stream_id, port)].column;
-            let listener = listener_type(on_port);
-            merged = merge(merged, passed_on(column, listener));
-            let latency_out = match (column, talker) {
-                (Column::Advertise | Column::Failed(_), Some((_, talker))) => {
-                    latency_out(settings, port, talker)
-                }
-                (Column::None, _) | (_, None) => 0,
-            };
-            settled_ports.push(SettledOnPort {
-                column,
-                latency_out,
-                listener: None,
-                entry: entry(column, listener),
-                entry_since: since.get(&(*stream_id, port)).copied(),
-            });
-        }
-        if let Some((talker_port, _)) = talker {
-            settled_ports[talker_port - 1].listener = merged;
-        }
-        let parameters = talker.map_or(Parameters::default(), |(_, talker)| talker.parameters);
-        streams.insert(*stream_id, SettledStream { parameters, ports: settled_ports });
+            (column, since.get(&(*stream_id, port)).copied())
+        };
+        streams.insert(*stream_id, settle_stream(settings, ports, on_each));
     }
-    Settled { streams, totals }
+    Settled { streams, totals, boundaries }
+}
+
+/// What is taken down of a stream, with its column on each port and the second of its entry.
+fn settle_stream(
+    settings: &Settings,
+    ports: &[OnPort],
+    on_each: impl Fn(usize) -> (Column, Option<u32>),
+) -> SettledStream {
+    let talker = talker_port(ports);
+    let mut settled_ports = Vec::new();
+    let mut merged = None;
+    for (port, on_port) in (1..).zip(ports) {
+        let (column, entry_since) = on_each(port);
+        let listener = listener_type(on_port);
+        merged = merge(merged, passed_on(column, listener));
+        let latency_out = match (column, talker) {
+            (Column::Advertise | Column::Failed(_), Some((_, talker))) => {
+                latency_out(settings, port, talker)
+            }
+            (Column::None, _) | (_, None) => 0,
+        };
+        let entry = entry(column, listener);
+        settled_ports.push(SettledOnPort {
+            column,
+            latency_out,
+            listener: None,
+            entry,
+            entry_since,
+        });
+    }
+    if let Some((talker_port, _)) = talker {
+        settled_ports[talker_port - 1].listener = merged;
+    }
+    let parameters = talker.map_or(Parameters::default(), |(_, talker)| talker.parameters);
+    SettledStream { parameters, ports: settled_ports }
 }

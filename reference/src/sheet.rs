@@ -111,10 +111,14 @@ fn report(table: &Table, ports: u32) -> String {
 }
 
 /// The input of 01's worked example: two ports, both classes, overhead 42, largest 1522, limits
-/// 75000000 and 0, latency 0, priorities 3 and 2, leave time 60; a Talker on port 1, a Listener
-/// on port 2, then time 100.
+/// 75000000 and 0, latency 0, priorities 3 and 2, leave time 60; matching Domain joins on each port
+/// (02, (ii)), a Talker on port 1, a Listener on port 2, then time 100.
 pub fn worked_example() -> Vec<u8> {
     let port = settings::PortSettings::of_the_worked_example();
+    let domain_pdu = [
+        0x00, 0x04, 0x04, 0x00, 0x09, 0x00, 0x02, 0x05, 0x02, 0x00, 0x02, 0x7e, 0x00, 0x00, 0x00,
+        0x00,
+    ];
     let talker_pdu = [
         0x00, 0x01, 0x19, 0x00, 0x1e, 0x00, 0x01, 0x02, 0x00, 0x00, 0x00, 0x00, 0x01, 0x00, 0x01,
         0x91, 0xe0, 0xf0, 0x00, 0xfe, 0x00, 0x00, 0x02, 0x00, 0xe0, 0x00, 0x01, 0x70, 0x00, 0x00,
@@ -128,9 +132,15 @@ pub fn worked_example() -> Vec<u8> {
         bridge_id: 0,
         priority: settings::PerClass { a: 3, b: 2 },
         leave_time: 60,
+        vlan: 2,
         ports: vec![port.clone(), port],
     });
-    for (first, pdu) in [(0x11, talker_pdu.as_slice()), (0x12, listener_pdu.as_slice())] {
+    for (first, pdu) in [
+        (0x11, domain_pdu.as_slice()),
+        (0x12, domain_pdu.as_slice()),
+        (0x11, talker_pdu.as_slice()),
+        (0x12, listener_pdu.as_slice()),
+    ] {
         input.push(first);
         input.extend((pdu.len() as u16).to_be_bytes());
         input.extend(pdu);

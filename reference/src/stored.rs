@@ -3,10 +3,11 @@
 
 use std::ops::Range;
 
+use crate::domain::SLOTS;
 use crate::random::Random;
 use crate::registrations::MOST_STREAMS;
 use crate::settings::{self, MOST_PORTS};
-use crate::table::{self, cell, record, result, TABLE_LENGTH};
+use crate::table::{self, cell, domain, edge, record, result, TABLE_LENGTH};
 
 /// What an octet is stored for.
 #[derive(Clone, Copy, Debug, PartialEq, Eq)]
@@ -26,7 +27,7 @@ const MOST_DRAWS: usize = 16;
 /// one that keeps them all, or any.
 pub fn some_octet(random: &mut Random, table: &[u8]) -> (usize, u8) {
     let full = table::used(table) == MOST_STREAMS;
-    let rule = if full && random.percent(20) { 8 } else { random.between(2, 29) as u8 };
+    let rule = if full && random.percent(20) { 8 } else { random.between(2, 35) as u8 };
     let aim = match random.below(20) {
         0..=12 => Aim::Breaks(rule),
         13..=18 => Aim::Keeps,
@@ -80,12 +81,34 @@ fn field_of_rule(random: &mut Random, table: &[u8], rule: u8) -> Range<usize> {
         4 => 9..11,
         5 => one(settings::length(port)),
         6 => settings::length(ports.min(MOST_PORTS - 1))..table::CLOCK.start,
-        7 => table::TOTALS..table::RECORDS,
+        7 => table::TOTALS..table::EDGES,
         29 => table::TOTALS..table::TOTALS + table::TOTALS_LENGTH * ports.max(1),
         8 => one(table::COUNT),
+        30 => 11..13,
+        31..=35 => field_of_edge(random, table, rule, port),
         10 if past_used < TABLE_LENGTH && random.percent(30) => one(past_used),
         10 if past_used < TABLE_LENGTH => past_used..TABLE_LENGTH,
         _ => field_of_record(random, table, rule, port),
+    }
+}
+
+/// A field that a form rule on the domain looks at: of a Domain record, the flags, or those of
+/// places that are no port.
+fn field_of_edge(random: &mut Random, table: &[u8], rule: u8, port: usize) -> Range<usize> {
+    let start = table::EDGES + edge::LENGTH * port;
+    let past = table::EDGES + edge::LENGTH * table::ports(table).min(MOST_PORTS - 1);
+    let records = (0..SLOTS).map(|slot| start + domain::LENGTH * slot);
+    let is_registered = |record: &usize| table[record + domain::REGISTERED] != 0;
+    let (held, free): (Vec<usize>, Vec<usize>) = records.partition(is_registered);
+    let takes_free = rule == 33 && !free.is_empty() || held.is_empty();
+    let wanted = if takes_free { free } else { held };
+    let record = random.one_of(&wanted);
+    match rule {
+        31 => one(record + domain::REGISTERED),
+        32 => record + domain::LEAVING..record + domain::SINCE.end,
+        33 => record..record + domain::LENGTH,
+        34 => start + edge::FLAGS.start..start + edge::FLAGS.end,
+        _ => past..table::RECORDS,
     }
 }
 
@@ -138,14 +161,19 @@ fn field_of_result(random: &mut Random, rule: u8) -> Range<usize> {
     }
 }
 
-/// A field whose octets differ among tables that keep the form: settings, clock, totals, or one of
-/// a used record.
+/// A field whose octets differ among tables that keep the form: settings, clock, totals, domain, or
+/// one of a used record.
 fn field_in_use(random: &mut Random, table: &[u8]) -> Range<usize> {
     let ports = table::ports(table).max(1);
     match random.below(10) {
         0..=1 => 0..settings::length(ports),
         2 => table::CLOCK,
         3 => table::TOTALS..table::TOTALS + table::TOTALS_LENGTH * ports,
+        4 => {
+            let rule = random.one_of(&[26, 27, 28, 29]);
+            let port = random.below(ports as u64) as usize;
+            field_of_edge(random, table, rule, port)
+        }
         _ => {
             let rule = random.one_of(&[9, 11, 12, 14, 15, 16, 17, 18, 18, 20, 21, 22, 23, 24]);
             let port = random.below(ports as u64) as usize;

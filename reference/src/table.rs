@@ -5,6 +5,7 @@ use std::iter::zip;
 use std::ops::Range;
 
 use crate::bridge::Bridge;
+use crate::domain::{DomainRegistration, Domains, SLOTS};
 use crate::pdu::{number_of, Failure, ListenerType, Parameters, StreamId, PARAMETERS_LENGTH};
 use crate::registrations::MOST_STREAMS;
 use crate::registrations::{ListenerRegistration, OnPort, Registrations, TalkerRegistration};
@@ -14,18 +15,40 @@ use crate::settling::{Column, Entry, Settled, SettledOnPort, SettledStream};
 // ---- layout ----
 
 /// The settings of eight ports stand first, as they were handed to start.
-pub const CLOCK: Range<usize> = 187..191;
+pub const CLOCK: Range<usize> = 189..193;
 /// Streams held.
-pub const COUNT: usize = 191;
+pub const COUNT: usize = 193;
 /// The totals of eight ports.
-pub const TOTALS: usize = 192;
+pub const TOTALS: usize = 194;
 /// Octets of one port's totals: class A 5, class B 5.
 pub const TOTALS_LENGTH: usize = 10;
+/// What eight ports have of the domain: their Domain records and boundary flags.
+pub const EDGES: usize = 274;
 /// The stream records, those in use first.
-pub const RECORDS: usize = 272;
+pub const RECORDS: usize = 1_314;
 pub const RECORD_LENGTH: usize = 493;
 /// The length of the table; one length for every port count.
 pub const TABLE_LENGTH: usize = RECORDS + MOST_STREAMS * RECORD_LENGTH;
+
+/// Places in what a port has of the domain.
+pub mod edge {
+    use super::Range;
+    pub const LENGTH: usize = 130;
+    /// 16 Domain records.
+    pub const DOMAINS: Range<usize> = 0..128;
+    /// The boundary flags of class A and of class B.
+    pub const FLAGS: Range<usize> = 128..130;
+}
+
+/// Places in a Domain record.
+pub mod domain {
+    use super::Range;
+    pub const LENGTH: usize = 8;
+    pub const REGISTERED: usize = 0;
+    pub const LEAVING: usize = 1;
+    pub const SINCE: Range<usize> = 2..6;
+    pub const VLAN: Range<usize> = 6..8;
+}
 
 /// Places in a stream record.
 pub mod record {
@@ -70,7 +93,10 @@ pub mod result {
     pub const LISTENER: usize = 19;
 }
 
-const _: () = assert!(TABLE_LENGTH == 31_824);
+const _: () = assert!(TABLE_LENGTH == 32_866);
+const _: () = assert!(CLOCK.start == settings::HEAD_LENGTH + MOST_PORTS * settings::PORT_LENGTH);
+const _: () = assert!(RECORDS == EDGES + MOST_PORTS * edge::LENGTH);
+const _: () = assert!(edge::DOMAINS.end == SLOTS * domain::LENGTH);
 const _: () = assert!(record::PARAMETERS.end - record::PARAMETERS.start == PARAMETERS_LENGTH);
 
 /// The kinds of a Talker and of a column.
@@ -114,6 +140,20 @@ fn limits(table: &[u8], place: usize) -> PerClass<u64> {
     PerClass { a: number_of(&octets[..5]), b: number_of(&octets[5..]) }
 }
 
+/// The VLAN setting with the four bits before it.
+fn vlan(table: &[u8]) -> u16 {
+    number_of(&table[11..13]) as u16
+}
+
+/// What each of the eight places has of the domain.
+fn edges(table: &[u8]) -> impl Iterator<Item = &[u8]> {
+    table[EDGES..RECORDS].chunks_exact(edge::LENGTH)
+}
+
+fn domain_records(edge: &[u8]) -> impl Iterator<Item = &[u8]> {
+    edge[edge::DOMAINS].chunks_exact(domain::LENGTH)
+}
+
 fn used_records(table: &[u8]) -> impl Iterator<Item = &[u8]> {
     table[RECORDS..].chunks_exact(RECORD_LENGTH).take(used(table))
 }
@@ -132,7 +172,7 @@ fn results(record: &[u8]) -> impl Iterator<Item = &[u8]> {
 type Rule = fn(&[u8]) -> bool;
 
 /// The form rules, in the order and by the numbers of docs/TABLE.md.
-const RULES: [(u8, Rule); 29] = [
+const RULES: [(u8, Rule); 35] = [
     (1, |table| table.len() == TABLE_LENGTH),
     (2, |table| (1..=MOST_PORTS as u8).contains(&(table[8] >> 4))),
     (3, |table| priorities(table).a != priorities(table).b),
@@ -164,6 +204,12 @@ const RULES: [(u8, Rule); 29] = [
     (27, |table| every_stream(table, |cells, results, _| one_talker_port_declares(cells, results))),
     (28, |table| every_stream(table, |cells, results, _| entries_have_listeners(cells, results))),
     (29, totals_are_of_streams),
+    (30, |table| (1..=settings::GREATEST_VLAN).contains(&vlan(table))),
+    (31, |table| every_domain(table, |domain| domain[domain::REGISTERED] <= 1)),
+    (32, domains_left_lately),
+    (33, |table| every_domain(table, |domain| domain[domain::REGISTERED] != 0 || is_zero(domain))),
+    (34, |table| edges(table).take(ports(table)).all(has_flags)),
+    (35, |table| edges(table).skip(ports(table)).all(is_zero)),
 ];
 
 /// Whether a table keeps all form rules.
@@ -196,12 +242,17 @@ fn every_result(table: &[u8], holds: impl Fn(&[u8]) -> bool) -> bool {
     used_records(table).all(|record| results(record).take(ports(table)).all(&holds))
 }
 
+/// Whether something holds of each Domain record of a port.
+fn every_domain(table: &[u8], holds: impl Fn(&[u8]) -> bool) -> bool {
+    edges(table).take(ports(table)).all(|edge| domain_records(edge).all(&holds))
+}
+
 fn totals_are_within_limits(table: &[u8]) -> bool {
     let within = |place| {
         let (total, limit) = (totals(table, place), limits(table, place));
         total.a <= limit.a && total.b <= limit.b
     };
-    (0..ports(table)).all(within) && is_zero(&table[TOTALS + TOTALS_LENGTH * ports(table)..RECORDS])
+    (0..ports(table)).all(within) && is_zero(&table[TOTALS + TOTALS_LENGTH * ports(table)..EDGES])
 }
 
 fn stream_ids_rise(table: &[u8]) -> bool {
@@ -218,20 +269,29 @@ fn is_zero_past(record: &[u8], ports: usize) -> bool {
     cells(record).skip(ports).all(is_zero) && results(record).skip(ports).all(is_zero)
 }
 
+/// Whether a leaving flag with its time is one that calls leave.
+fn is_lately(table: &[u8], flag: u8, since: &[u8]) -> bool {
+    let (clock, since) = (clock(table), number_of(since) as u32);
+    match flag {
+        0 => since == 0,
+        1 => since <= clock && clock - since < leave_time(table),
+        _ => false,
+    }
+}
+
 fn leaving_began_lately(table: &[u8]) -> bool {
-    let (clock, leave_time) = (clock(table), leave_time(table));
-    let lately = |flag: u8, since: &[u8]| {
-        let since = number_of(since) as u32;
-        match flag {
-            0 => since == 0,
-            1 => since <= clock && clock - since < leave_time,
-            _ => false,
-        }
-    };
     every_cell(table, |cell| {
-        lately(cell[cell::TALKER_LEAVING], &cell[cell::TALKER_SINCE])
-            && lately(cell[cell::LISTENER_LEAVING], &cell[cell::LISTENER_SINCE])
+        is_lately(table, cell[cell::TALKER_LEAVING], &cell[cell::TALKER_SINCE])
+            && is_lately(table, cell[cell::LISTENER_LEAVING], &cell[cell::LISTENER_SINCE])
     })
+}
+
+fn domains_left_lately(table: &[u8]) -> bool {
+    every_domain(table, |domain| is_lately(table, domain[domain::LEAVING], &domain[domain::SINCE]))
+}
+
+fn has_flags(edge: &[u8]) -> bool {
+    edge[edge::FLAGS].iter().all(|flag| *flag <= 1)
 }
 
 fn is_zero_where_unregistered(cell: &[u8]) -> bool {
@@ -336,6 +396,10 @@ pub fn encode(bridge: &Bridge) -> Vec<u8> {
         out.extend(&total.a.to_be_bytes()[3..]);
         out.extend(&total.b.to_be_bytes()[3..]);
     }
+    out.resize(EDGES, 0);
+    for (domains, flags) in bridge.registrations.domains.iter().zip(&bridge.settled.boundaries) {
+        put_edge(&mut out, domains, *flags);
+    }
     out.resize(RECORDS, 0);
     for (stream_id, on_ports) in &bridge.registrations.streams {
         let settled = bridge.settled.streams.get(stream_id);
@@ -343,6 +407,19 @@ pub fn encode(bridge: &Bridge) -> Vec<u8> {
     }
     out.resize(TABLE_LENGTH, 0);
     out
+}
+
+fn put_edge(out: &mut Vec<u8>, domains: &Domains, flags: PerClass<bool>) {
+    for domain in domains {
+        let start = out.len();
+        if let Some(domain) = domain {
+            out.push(1);
+            put_leaving(out, domain.leaving);
+            out.extend(domain.vlan.to_be_bytes());
+        }
+        out.resize(start + domain::LENGTH, 0);
+    }
+    out.extend([u8::from(flags.a), u8::from(flags.b)]);
 }
 
 fn put_record(
@@ -436,6 +513,8 @@ pub fn decode(table: &[u8]) -> Option<Bridge> {
     let mut registrations = Registrations::none(ports);
     let mut settled = Settled::empty(ports);
     settled.totals = (0..ports).map(|place| totals(table, place)).collect();
+    registrations.domains = edges(table).take(ports).map(domains).collect();
+    settled.boundaries = edges(table).take(ports).map(flags).collect();
     for record in used_records(table) {
         let stream_id = number_of(&record[record::STREAM_ID]);
         let on_ports = cells(record).take(ports).map(on_port).collect();
@@ -449,8 +528,27 @@ pub fn decode(table: &[u8]) -> Option<Bridge> {
     Some(Bridge { settings, clock: clock(table), registrations, settled })
 }
 
+fn leaving(flag: u8, since: &[u8]) -> Option<u32> {
+    (flag == 1).then_some(number_of(since) as u32)
+}
+
+fn domains(edge: &[u8]) -> Domains {
+    let mut domains = [None; SLOTS];
+    for (slot, record) in domains.iter_mut().zip(domain_records(edge)) {
+        *slot = (record[domain::REGISTERED] == 1).then(|| DomainRegistration {
+            vlan: number_of(&record[domain::VLAN]) as u16,
+            leaving: leaving(record[domain::LEAVING], &record[domain::SINCE]),
+        });
+    }
+    domains
+}
+
+fn flags(edge: &[u8]) -> PerClass<bool> {
+    let flags = &edge[edge::FLAGS];
+    PerClass { a: flags[0] == 1, b: flags[1] == 1 }
+}
+
 fn on_port(cell: &[u8]) -> OnPort {
-    let leaving = |flag: u8, since: &[u8]| (flag == 1).then_some(number_of(since) as u32);
     let failure = Failure { bridge_id: number_of(&cell[cell::BRIDGE_ID]), code: cell[cell::CODE] };
     let talker = (cell[cell::TALKER] != 0).then(|| TalkerRegistration {
         parameters: Parameters::of(&cell[cell::PARAMETERS]),

@@ -1,9 +1,9 @@
-//! PDUs that a port has written, taken apart again and held to 01, "Writing".
+//! PDUs that a port has written, taken apart again and held to 01, "Writing", and 02, (ii).
 
 use std::fmt::Write;
 
 use crate::declarations::{self, Declaration};
-use crate::pdu::{self, Event, StreamId, Value, Vector, LONGEST_PDU};
+use crate::pdu::{self, Event, Talker, Value, Vector, LONGEST_PDU};
 use crate::words;
 
 /// Takes PDUs in hex, one to a line, all that a port writes from place 0 on. Gives for each a
@@ -55,50 +55,50 @@ fn declaration(vector: &Vector) -> Option<Declaration> {
         [(Event::JoinMt, Value::Listener(stream_id, listener_type))] => {
             Some(Declaration::Listener(stream_id, listener_type?))
         }
+        [(Event::JoinMt, Value::Domain(domain))] => Some(Declaration::Domain(domain)),
         _ => None,
     }
 }
 
-/// Advertise, Failed, Listener; in each by ascending StreamID.
-fn place_in_order(declaration: &Declaration) -> (u8, StreamId) {
-    let stream_id = match declaration {
+/// Advertise, Failed, Listener, in each by ascending StreamID; then Domain by ascending class ID.
+fn place_in_order(declaration: &Declaration) -> (u8, u64) {
+    let key = match declaration {
         Declaration::Talker(talker) => talker.stream_id,
         Declaration::Listener(stream_id, _) => *stream_id,
+        Declaration::Domain(domain) => u64::from(domain.class_id),
     };
-    (declaration.attribute_type().octet(), stream_id)
+    (declaration.attribute_type().octet(), key)
 }
 
 fn print(out: &mut String, length: usize, declarations: &[Declaration]) -> std::fmt::Result {
     let of_type =
         |octet: u8| declarations.iter().filter(|one| one.attribute_type().octet() == octet).count();
-    let (advertise, failed, listener) = (of_type(1), of_type(2), of_type(3));
-    writeln!(out, "pdu {length} advertise {advertise} failed {failed} listener {listener}")?;
+    write!(out, "pdu {length} advertise {} failed {} ", of_type(1), of_type(2))?;
+    writeln!(out, "listener {} domain {}", of_type(3), of_type(4))?;
     for declaration in declarations {
         match declaration {
-            Declaration::Talker(talker) => {
-                let parameters = &talker.parameters;
-                write!(
-                    out,
-                    "talker {:016x} to {:012x} ",
-                    talker.stream_id, parameters.destination
-                )?;
-                write!(out, "vlan {} size {} ", parameters.vlan, parameters.max_frame_size)?;
-                write!(out, "frames {} ", parameters.max_interval_frames)?;
-                write!(out, "priority {} rank {} ", parameters.priority, parameters.rank)?;
-                write!(out, "latency {}", talker.accumulated_latency)?;
-                if let Some(failure) = talker.failure {
-                    write!(out, " failed {:016x} {}", failure.bridge_id, failure.code)?;
-                }
-                writeln!(out)?;
-            }
+            Declaration::Talker(talker) => print_talker(out, talker)?,
             Declaration::Listener(stream_id, listener_type) => {
-                writeln!(
-                    out,
-                    "listener {stream_id:016x} {}",
-                    words::listener(Some(*listener_type))
-                )?;
+                let listener = words::listener(Some(*listener_type));
+                writeln!(out, "listener {stream_id:016x} {listener}")?;
+            }
+            Declaration::Domain(domain) => {
+                writeln!(out, "domain {} {} {}", domain.class_id, domain.priority, domain.vlan)?;
             }
         }
     }
     Ok(())
+}
+
+fn print_talker(out: &mut String, talker: &Talker) -> std::fmt::Result {
+    let parameters = &talker.parameters;
+    write!(out, "talker {:016x} to {:012x} ", talker.stream_id, parameters.destination)?;
+    write!(out, "vlan {} size {} ", parameters.vlan, parameters.max_frame_size)?;
+    write!(out, "frames {} ", parameters.max_interval_frames)?;
+    write!(out, "priority {} rank {} ", parameters.priority, parameters.rank)?;
+    write!(out, "latency {}", talker.accumulated_latency)?;
+    if let Some(failure) = talker.failure {
+        write!(out, " failed {:016x} {}", failure.bridge_id, failure.code)?;
+    }
+    writeln!(out)
 }

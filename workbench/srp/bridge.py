@@ -1,7 +1,7 @@
 """A bridge as an object: the five calls over one process of srpcalls, which answers each record at once."""
 import subprocess
 
-from srp import answers, layout, programs, records
+from srp import answers, layout, programs, records, texts
 from srp.faults import Fault
 
 
@@ -67,15 +67,23 @@ class Bridge:
 
     def feed(self, text):
         """Makes the calls of a text's lines, and gives their answers."""
-        calls, _ = records.split(programs.records_of_text(text.encode(), "calls"), records.is_of_calls)
+        # quiet: these lines are a part of what is called, and an advance may come by itself
+        calls, _ = records.split(programs.records_of_text(text.encode(), "calls", "quiet"), records.is_of_calls)
         return [answer for record in calls if (answer := self.call(record))]
+
+    def hear_domain(self, *ports):
+        """Hands over what a neighbour in the bridge's domain declares on these ports, or on all where none is named. Towards a port
+        that has heard no such neighbour no stream is admitted (code 8)."""
+        settings = self.table().settings
+        lines = [texts.domain_line(port, settings) for port in ports] or texts.domain_lines(settings)
+        return self.feed("\n".join(lines))
 
     def reports(self, port):
         """The reports of all streams held."""
         return [self.report(port, place) for place in range(self.report(port).count)]
 
     def declarations(self, port):
-        """All PDUs that a port writes: the empty one where it declares nothing."""
+        """All PDUs that a port writes: the empty one where it declares nothing, not even a class's Domain value."""
         pdus, place = [], 0
         while True:
             answer = self.write(port, place)

@@ -2,7 +2,7 @@
 import re
 from dataclasses import dataclass, field
 
-from srp import layout, packets, texts
+from srp import layout, packets, programs, texts
 from srp.bridge import Bridge
 from srp.faults import Fault
 from srp.needs import need
@@ -21,11 +21,12 @@ OWN_PORTS = {f"02:00:00:00:00:{port:02x}": port for port in range(16)}
 
 @dataclass(frozen=True)
 class Reading:
-    """How a capture is read: the port of each source address or interface, the settings, the time of the last advance, and
-    whether each frame is named by its packet."""
+    """How a capture is read: the port of each source address or interface, the settings, the time of the last advance, whether
+    neighbours in the domain are supposed, and whether each frame is named by its packet."""
     ports: dict = field(default_factory=lambda: OWN_PORTS)
     settings: bytes | None = None
     until: int | None = None
+    domain: bool = False
     named: bool = False
 
 
@@ -125,11 +126,18 @@ def default_settings(frames, ports):
     return ["bridge 8000000000000001", f"ports {min(max(highest, 1), layout.PORTS)}"]
 
 
+def supposed_domain(lines):
+    """The lines by which each port of the settings in lines hears a neighbour in the domain."""
+    settings = layout.read(layout.Settings, programs.records_of_text("\n".join(lines).encode(), "sheet"))
+    return ["# supposed, and not in the capture: each port's neighbour is in the bridge's domain", *texts.domain_lines(settings)]
+
+
 def text(name, octets, reading):
     """A capture as a text. The clock is advanced to each frame's time before the frame, and once more after the last one."""
     try:
         frames = frames_of(octets, reading.ports)
         lines = texts.settings_lines(reading.settings) if reading.settings else default_settings(frames, reading.ports)
+        lines += supposed_domain(lines) if reading.domain else []
         clock = 0
         for frame in frames:
             time = clock_of(frame, frames[0])
@@ -189,7 +197,7 @@ def written(given):
                 ports = range(1, bridge.table().settings.ports + 1)
                 frames += [(clock, port, pdu) for port in ports for pdu in bridge.declarations(port)]
     if not frames:
-        raise Fault(f"{given.name}: no port writes before an accepted advance")
+        raise Fault(f"{given.name}: no advance is accepted, and what ports write is taken after one")
     return frames
 
 

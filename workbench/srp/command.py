@@ -16,6 +16,7 @@ def capture_options(command):
     """The options by which captures are read, and records told apart."""
     for option in (
         click.option("--calls", is_flag=True, help="Records are those of srpcalls, and not of srpsheet."),
+        click.option("--domain", is_flag=True, help="Each port first hears a neighbour in the bridge's domain, captured or not."),
         click.option("--until", type=int, metavar="TIME", help="Ends a capture with an advance to this time, in hundredths."),
         click.option("--settings", type=FILE, metavar="FILE", help="An input whose settings a capture's bridge has."),
         click.option("--port", "ports", multiple=True, metavar="SOURCE=PORT",
@@ -25,9 +26,9 @@ def capture_options(command):
     return command
 
 
-def reading_of(ports, settings, until, named=False):
+def reading_of(ports, settings, until, domain, named=False):
     octets = inputs.load(settings).settings if settings else None
-    return captures.Reading(captures.ports_of(ports), octets, until, named)
+    return captures.Reading(captures.ports_of(ports), octets, until, domain, named)
 
 
 def load_files(files, calls, **options):

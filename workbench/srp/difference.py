@@ -1,7 +1,7 @@
-"""What differs between two set-ups: settings, totals, and what is decided of each stream on each port."""
+"""What differs between two set-ups: settings, totals, the domain's edge, and what is decided of each stream on each port."""
 from dataclasses import asdict, dataclass, fields
 
-from srp.views import ports, stream_lines
+from srp.views import edge_line, ports, stream_lines
 from srp.words import cause
 
 # Fields that tell where something stands, and fields that need another name.
@@ -45,6 +45,10 @@ def totals_of(table):
     return {f"port {port}": table.totals[port - 1] for port in ports(table)}
 
 
+def edges_of(table):
+    return {f"port {port}": edge_line(table, port) for port in ports(table)}
+
+
 def results_of(table):
     """What a sheet shows of each stream on each port."""
     return {f"{line.stream} port {line.port}": line for line in stream_lines(table)}
@@ -53,6 +57,6 @@ def results_of(table):
 def between(first, second):
     """The differences of two tables."""
     found = list(differences_of("bridge", first.settings, second.settings))
-    for part in (settings_of, totals_of, results_of):
+    for part in (settings_of, totals_of, edges_of, results_of):
         found += (one for where, left, right in pair_up(part(first), part(second)) for one in differences_of(where, left, right))
     return found

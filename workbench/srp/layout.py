@@ -75,6 +75,7 @@ def read_field(layout, room, at, before):
 
 PORTS = 8
 STREAMS = 64
+PRIORITIES = 8
 
 
 @dataclass(frozen=True)
@@ -100,6 +101,8 @@ class Settings:
     priority_a: int = bits(3)
     priority_b: int = bits(3)
     leave_time: int = bits(14)
+    zero: int = bits(4)
+    vlan: int = bits(12)
 
 
 @dataclass(frozen=True)
@@ -150,6 +153,25 @@ class Totals:
 
 
 @dataclass(frozen=True)
+class Domain:
+    """A Domain record: what a port has registered for a class ID and priority."""
+    registered: int = octets(1)
+    leaving: int = octets(1)
+    since: int = octets(4)
+    vlan: int = octets(2)
+
+
+@dataclass(frozen=True)
+class Edge:
+    """What a port has of the reservation domain: the Domain records of class ID 5, which is class B, and of class ID 6, each by
+    priority; and the boundary flags that the last advance decided."""
+    domains_b: tuple[Domain, ...] = several(Domain, PRIORITIES)
+    domains_a: tuple[Domain, ...] = several(Domain, PRIORITIES)
+    boundary_a: int = octets(1)
+    boundary_b: int = octets(1)
+
+
+@dataclass(frozen=True)
 class Stream:
     """A stream record."""
     stream_id: int = octets(8)
@@ -166,6 +188,7 @@ class Table:
     clock: int = octets(4)
     held: int = octets(1)
     totals: tuple[Totals, ...] = several(Totals, PORTS)
+    edges: tuple[Edge, ...] = several(Edge, PORTS)
     streams: tuple[Stream, ...] = several(Stream, STREAMS, used="held")
 
 

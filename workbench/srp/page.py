@@ -5,7 +5,7 @@ from pathlib import Path
 from srp import sheet
 from srp.needs import need
 from srp.views import Share, loads, ports, stream_line
-from srp.words import address, cause, rate, refusal, seconds, stream_id
+from srp.words import address, cause, edge, rate, refusal, seconds, stream_id
 
 # A part of a bar that is narrower, in percent, has no room for a name.
 NARROW = 12
@@ -62,6 +62,12 @@ def reserved(load):
     return f"{rate(load.total)} of {rate(load.limit)}" + (f", {100 * load.total / load.limit:.0f} %" if load.total else "")
 
 
+def edge_note(load):
+    """What is said of a class where the port is at its domain's edge, with what is registered there now."""
+    declared = "; ".join(f"priority {value.priority}, VLAN {value.vlan}" for value in load.domains)
+    return f"{edge(load.name)}; registered of it: {declared or 'nothing'}"
+
+
 def place_of(stream, port):
     """What is said of a stream on a port."""
     line, cell = stream_line(stream, port), stream.cells[port - 1]
@@ -111,6 +117,6 @@ def page(all_ran):
     """The page of some inputs."""
     jinja2 = need("jinja2")
     maker = jinja2.Environment(autoescape=True, trim_blocks=True, lstrip_blocks=True, undefined=jinja2.StrictUndefined)
-    maker.filters.update(rate=rate, parts=parts, reserved=reserved)
+    maker.filters.update(rate=rate, parts=parts, reserved=reserved, edge_note=edge_note)
     template = maker.from_string(Path(__file__).with_name("page.html").read_text(encoding="utf-8"))
     return template.render(inputs=[view(ran) for ran in all_ran])

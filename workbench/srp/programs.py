@@ -44,6 +44,7 @@ def calls(octets):
     return run(calls_command(), octets).decode().splitlines()
 
 
-def records_of_text(text, kind):
-    """The records of a text as in examples/, of any length; kind is sheet or calls. Its warnings are passed on."""
-    return run([*TEXT_TOOL, kind, "long"], text, subprocess.PIPE)
+def records_of_text(text, kind, *options):
+    """The records of a text as in examples/, of any length; kind is sheet or calls. Its warnings are passed on, but for the option
+    quiet."""
+    return run([*TEXT_TOOL, kind, "long", *options], text, subprocess.PIPE)

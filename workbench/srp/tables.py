@@ -1,7 +1,8 @@
-"""The table in words: who is registered where, leaving since when, changed, of what age, and what is settled."""
+"""The table in words: who is registered where, leaving since when, changed, of what age, where the domain ends, and what is
+settled."""
 from srp.needs import need
 from srp.views import class_of, demand, loads, ports
-from srp.words import COLUMNS, ENTRIES, LISTENERS, address, cause, rate, seconds, stream_id, word
+from srp.words import COLUMNS, ENTRIES, LISTENERS, address, cause, edge, rate, seconds, stream_id, word
 
 TALKERS = ("none", "Advertise", "Failed")
 DECLARED = ("none", "Asking Failed", "Ready", "Ready Failed")
@@ -89,11 +90,35 @@ def port_grid(table):
     return grid(columns, [port_row(load, table) for load in loads(table)], "ports")
 
 
+def domain_words(value, table):
+    """The parts of what is said of a registered Domain value."""
+    yield f"priority {value.priority}, VLAN {value.vlan}"
+    if value.leaving_since is not None:
+        yield leaving(value.leaving_since, table)
+
+
+def domain_lines(table):
+    """A line for each Domain registration, and for each class that has its domain's edge at a port."""
+    for load in loads(table):
+        for value in load.domains:
+            yield f"port {load.port}: Domain of class {load.name}, {', '.join(domain_words(value, table))}"
+        if load.at_edge:
+            yield f"port {load.port}: {edge(load.name)}"
+
+
+def show_domain(table, console):
+    """Prints what is registered of the domain, and where it ends."""
+    console.print("domain")
+    console.print("\n".join(f"  {line}" for line in domain_lines(table)) or "  nothing is registered, and no port is at an edge")
+    console.print()
+
+
 def head(table):
     """The bridge as a whole."""
     settings = table.settings
     return (f"bridge {stream_id(settings.bridge_id)}, clock {seconds(table.clock)}, leave time {seconds(settings.leave_time)},"
-            f" class A priority {settings.priority_a}, class B priority {settings.priority_b}, {table.held} streams held")
+            f" class A priority {settings.priority_a}, class B priority {settings.priority_b}, Domain VLAN {settings.vlan},"
+            f" {table.held} streams held")
 
 
 def show_stream(stream, table, console):
@@ -111,5 +136,6 @@ def show(ran, console):
         return
     console.print(head(ran.table))
     console.print(port_grid(ran.table))
+    show_domain(ran.table, console)
     for stream in ran.table.streams:
         show_stream(stream, ran.table, console)

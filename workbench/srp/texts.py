@@ -3,14 +3,14 @@ from itertools import groupby
 
 from srp.layout import Port, Settings, length, read, settings_length
 from srp.records import ADVANCE, RECEIVE
-from srp.words import stream_id
+from srp.words import CLASS_IDS, stream_id
 
 CLASSES = {(1, 1): "AB", (1, 0): "A", (0, 1): "B", (0, 0): "none"}
 
 
 def bridge_line(settings):
     return (f"bridge {stream_id(settings.bridge_id)} priorities {settings.priority_a} {settings.priority_b}"
-            f" leave {settings.leave_time}")
+            f" leave {settings.leave_time} vlan {settings.vlan}")
 
 
 def ports_line(count, port):
@@ -27,6 +27,17 @@ def settings_lines(octets):
     ports = [read(Port, octets[at:at + length(Port)]) for at in places]
     alike = ((port, len(list(group))) for port, group in groupby(ports))
     return [bridge_line(settings)] + [ports_line(count, port) for port, count in alike]
+
+
+def domain_line(port, settings):
+    """The frame of a neighbour in the bridge's domain: both classes, with the bridge's priorities and VLAN."""
+    values = ((CLASS_IDS["B"], settings.priority_b), (CLASS_IDS["A"], settings.priority_a))
+    return f"on {port} " + " and ".join(f"domain {class_id} {priority} {settings.vlan}" for class_id, priority in values)
+
+
+def domain_lines(settings):
+    """Such a frame on each port."""
+    return [domain_line(port, settings) for port in range(1, settings.ports + 1)]
 
 
 def frame_line(port, pdu):

@@ -31,6 +31,22 @@ class StreamLine:
 
 
 @dataclass(frozen=True)
+class EdgeLine:
+    """Whether the last advance found a port at the edge of each class's domain."""
+    port: int
+    edge_a: str
+    edge_b: str
+
+
+@dataclass(frozen=True)
+class DomainValue:
+    """What a port has registered of a class's domain; leaving since a time of the clock, or none."""
+    priority: int
+    vlan: int
+    leaving_since: int | None
+
+
+@dataclass(frozen=True)
 class Share:
     """What a stream asks for on a port, and what its importance is counted by."""
     stream: str
@@ -41,10 +57,13 @@ class Share:
 
 @dataclass(frozen=True)
 class Load:
-    """A class on a port: those who hold a share, and those who found no room, both in order of importance."""
+    """A class on a port: what is registered of its domain and whether the port is at its edge; those who hold a share, and those
+    who found no room, both in order of importance."""
     port: int
     name: str
     supported: bool
+    domains: list
+    at_edge: bool
     total: int
     limit: int
     holders: list
@@ -62,6 +81,21 @@ def ports(table):
 def port_lines(table):
     return [PortLine(port, table.totals[port - 1].a, table.port_settings[port - 1].limit_a,
                      table.totals[port - 1].b, table.port_settings[port - 1].limit_b) for port in ports(table)]
+
+
+def of_class(part, field, name):
+    """A part's field of class A or B."""
+    return getattr(part, f"{field}{name.lower()}")
+
+
+def domains_of(edge, name):
+    """A class's Domain values that are registered, by priority."""
+    return [DomainValue(priority, record.vlan, record.since if record.leaving else None)
+            for priority, record in enumerate(of_class(edge, "domains_", name)) if record.registered]
+
+
+def edge_line(table, port):
+    return EdgeLine(port, *("yes" if of_class(table.edges[port - 1], "boundary_", name) else "no" for name in CLASSES))
 
 
 def stream_line(stream, port):
@@ -107,10 +141,10 @@ def finds_no_room(result):
 
 
 def load_of(table, port, name):
-    settings, totals = table.port_settings[port - 1], table.totals[port - 1]
-    values = [getattr(part, field + name.lower()) for part, field in
-              ((settings, "supports_"), (totals, ""), (settings, "limit_"))]
-    return Load(port, name, bool(values[0]), values[1], values[2],
+    settings, totals, edge = table.port_settings[port - 1], table.totals[port - 1], table.edges[port - 1]
+    return Load(port, name, bool(of_class(settings, "supports_", name)),
+                domains_of(edge, name), bool(of_class(edge, "boundary_", name)),
+                of_class(totals, "", name), of_class(settings, "limit_", name),
                 shares(table, port, name, holds), shares(table, port, name, finds_no_room))
 
 

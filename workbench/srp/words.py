@@ -5,6 +5,9 @@ LISTENERS = ("none", "asking", "ready", "readyfailed")
 ENTRIES = ("none", "filter", "forward")
 CLASSES = ("A", "B")
 
+# Class IDs of Domain values (Table 35-7).
+CLASS_IDS = {"A": 6, "B": 5}
+
 CAUSES = {
     1: "insufficient bandwidth",
     2: "insufficient Bridge resources",
@@ -52,6 +55,11 @@ def word(words, number):
 def cause(code):
     """A failure code in words; nothing for 0."""
     return CAUSES.get(code, "not in Table 35-6") if code else ""
+
+
+def edge(name):
+    """What a port is where a class's domain ends."""
+    return f"at the edge of class {name}'s domain"
 
 
 def refusal(number):

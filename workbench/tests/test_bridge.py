@@ -10,12 +10,15 @@ from conftest import CHOIR, ROOT, run
 SETTINGS = "bridge 8000000000000007\nports 2"
 TALKER = "on 1 talker 0200000000010001"
 LISTENER = "on 2 listener 0200000000010001 ready"
+# What a port declares of the domain: class B (5) with priority 2, then class A (6) with priority 3, VLAN 2.
+DOMAIN = bytes.fromhex("00 04 04 0010 0001 05020002 6c 0001 06030002 6c 0000 0000")
 
 
 def test_calls_one_by_one():
     import srp
 
     with srp.Bridge(SETTINGS) as bridge:
+        bridge.hear_domain()
         assert [answer.number for answer in bridge.feed(f"{TALKER}\n{LISTENER}")] == [0, 0]
         assert bridge.report(2).column == "none"
         assert bridge.advance(100) == srp.Answer("advance", 0)
@@ -25,7 +28,8 @@ def test_calls_one_by_one():
         assert [one.stream for one in bridge.reports(2)] == ["0200000000010001"]
         [pdu] = bridge.declarations(2)
         assert pdu == bridge.write(2).pdu
-        assert bridge.write(2, place=1).pdu == bytes(3)
+        # its Talker and two Domain values
+        assert bridge.write(2, place=3).pdu == bytes(3)
         assert bridge.table().totals[1].a == 17088000
         assert re.fullmatch("[0-9a-f]{8}", bridge.sum())
 
@@ -34,12 +38,36 @@ def test_declarations_are_read_by_another_bridge():
     import srp
 
     with srp.Bridge(SETTINGS) as first, srp.Bridge(SETTINGS) as second:
+        idle = second.declarations(1)
+        # each is a neighbour in the other's domain: from start on, Domain values are declared
+        for pdu in idle:
+            assert first.receive(2, pdu).accepted
         first.feed(f"{TALKER}\n{LISTENER}\ntime 100")
         for pdu in first.declarations(2):
             assert second.receive(1, pdu).accepted
+        second.hear_domain(2)
         second.advance(100)
         assert second.report(2).column == "advertise"
-        assert second.declarations(1) == [bytes(3)]
+        assert second.declarations(1) == idle == [DOMAIN]
+
+
+def test_the_edge_of_the_domain():
+    import srp
+
+    with srp.Bridge("bridge 8000000000000007 priorities 5 1 vlan 70\nports 3") as bridge:
+        assert [answer.number for answer in bridge.hear_domain(1, 2)] == [0, 0]
+        bridge.feed("on 1 talker 0200000000010001 priority 5\non 3 listener 0200000000010001 ready")
+        assert not any(load.at_edge for load in srp.loads(bridge.table()))
+        bridge.advance(100)
+        edges = bridge.table().edges
+        assert [(edge.boundary_a, edge.boundary_b) for edge in edges[:3]] == [(0, 0), (0, 0), (1, 1)]
+        assert edges[0] == edges[1] and edges[1].domains_a[5] == edges[1].domains_b[1] == srp.Domain(1, 0, 0, 70)
+        assert [(one.column, one.code) for port in (2, 3) for one in bridge.reports(port)] == [("advertise", 0), ("failed", 8)]
+        assert bridge.hear_domain() == [srp.Answer("receive", 0)] * 3
+        bridge.advance(200)
+        assert bridge.report(3).entry == "forward"
+        [load] = [load for load in srp.loads(bridge.table()) if (load.port, load.name) == (3, "A")]
+        assert load.domains == [srp.DomainValue(5, 70, None)] and not load.at_edge
 
 
 def test_refusals_are_answers():
@@ -59,6 +87,8 @@ def test_refusals_are_answers():
         bridge.advance(6)
     with pytest.raises(srp.Fault, match="refused with 11"):
         srp.Bridge("bridge 8000000000000007\nports 9")
+    with pytest.raises(srp.Fault, match="refused with 11"):
+        srp.Bridge("bridge 8000000000000007 vlan 4095\nports 2")
 
 
 def test_an_input_as_an_object():

@@ -11,6 +11,7 @@ MIXER, STAGE = "00:1b:21:00:00:04", "00:1b:21:00:00:01"
 GROUP = "0180c200000e"
 TALKER = "000119001e0001020000000001000191e0f0000001000200e0000170000000006c00000000"
 LISTENER = "000308000e000102000000000100016c8000000000"
+DOMAIN = "0004040009000205020002" + "7e" + "00000000"
 HEAD = "bridge 8000000000000001\nports 2\n"
 
 
@@ -77,13 +78,40 @@ def test_the_frames_of_an_input_give_its_sheet(srp, tmp_path):
 @needs_tshark
 def test_the_empty_pdu_is_written_padded(srp, tmp_path):
     text, capture = tmp_path / "idle.txt", tmp_path / "idle.pcap"
-    text.write_text("bridge 8000000000000007\nports 2\ntime 100\n")
+    text.write_text("bridge 8000000000000007\nports 2 classes none\ntime 100\n")
     srp("capture", text, "-o", capture)
     assert complaints(capture) == ("", ["MRP-MSRP"] * 2)
     octets = capture.read_bytes()
     assert len(octets) == 24 + 2 * (16 + 60)
     assert octets[24 + 16:24 + 16 + 60].hex() == GROUP + "020000000001" + "22ea" + "00" * 46
     assert srp("capture", capture) == f"{HEAD}time 100\non 1 octets 000000\non 2 octets 000000\ntime 100\n"
+
+
+@needs_tshark
+def test_domain_values_are_written_and_read_by_tshark(srp, tmp_path):
+    text, capture = tmp_path / "idle.txt", tmp_path / "idle.pcap"
+    text.write_text("bridge 8000000000000007 priorities 6 1 vlan 4094\nports 1\nports 1 classes B\ntime 100\n")
+    srp("capture", text, "-o", capture)
+    assert complaints(capture) == ("", ["MRP-MSRP"] * 2)
+    names = [f"mrp-msrp.sr_class_{name}" for name in ("id", "priority", "vid")]
+    shown = run("tshark", "-r", capture, "-T", "fields", *(word for name in names for word in ("-e", name)))
+    assert shown.stdout.splitlines() == ["5,6\t1,6\t4094,4094", "5\t1\t4094"]
+
+
+def test_a_capture_without_domain_frames(srp, tmp_path):
+    """With --domain each port's neighbour is supposed to be in the domain, and the text says so."""
+    capture = tmp_path / "late"
+    capture.write_bytes(pcap(GOOD, (frame(MIXER, LISTENER), None)))
+    words = ["--port", f"{STAGE}=1", "--port", f"{MIXER}=2", "--until", 200]
+    assert "port 2 A 0/75000000" in srp("sheet", capture, *words)
+    assert "port 2 A 17088000/75000000" in srp("sheet", capture, *words, "--domain")
+    text = srp("capture", capture, *words, "--domain").splitlines()
+    assert text[2].startswith("# supposed") and text[3:5] == [f"on {port} domain 5 2 2 and domain 6 3 2" for port in (1, 2)]
+    settings = tmp_path / "settings.txt"
+    settings.write_text("bridge 8000000000000001 priorities 3 0 vlan 70\nports 2 classes A\n")
+    printed = srp("capture", capture, *words, "--domain", "--settings", settings)
+    assert "\non 2 domain 5 0 70 and domain 6 3 70\n" in printed
+    assert "port 2 A 17088000/75000000" in srp("sheet", "-", given=printed)
 
 
 @pytest.mark.parametrize("pdu", ["00", "000304", TALKER[:-4], "000000" + "00" * 1498, "000000ff"])
@@ -102,16 +130,19 @@ def test_frames_keep_their_meaning(srp, tmp_path, pdu):
 def test_tagged_and_padded_frames_of_other_tools(srp, tmp_path, kind):
     capture = made_by_text2pcap(tmp_path / "other", [
         (1700000000.25, frame(STAGE, TALKER)),
+        (1700000000.25, frame(MIXER, DOMAIN)),
         (1700000000.26, frame("00:1b:21:00:00:09", "45" * 46, kind="0800")),
         (1700000000.75, frame(MIXER, LISTENER, tag="8100e002")),
         (1700000001.75, frame(MIXER, LISTENER + "ffffffff", tag="88a800648100e002", padding=0)),
     ], "-F", kind)
     words = ["--port", f"{STAGE.upper().replace(':', '-')}=1", "--port", f"{MIXER}=2"]
-    expected = f"{HEAD}on 1 octets {TALKER}\ntime 50\non 2 octets {LISTENER}\ntime 150\non 2 octets {LISTENER}\ntime 150\n"
+    expected = (f"{HEAD}on 1 octets {TALKER}\non 2 octets {DOMAIN}\n"
+                f"time 50\non 2 octets {LISTENER}\ntime 150\non 2 octets {LISTENER}\ntime 150\n")
     assert srp("capture", capture, *words) == expected
     assert "port 2 A 17088000/75000000" in srp("sheet", capture, *words)
     named = srp("capture", capture, "--named", *words).splitlines()
-    assert named[2].startswith(f"# packet 1, from {STAGE} on interface ") and named[5].startswith(f"# packet 3, from {MIXER}")
+    assert named[2].startswith(f"# packet 1, from {STAGE} on interface ") and named[4].startswith(f"# packet 2, from {MIXER}")
+    assert named[7].startswith(f"# packet 4, from {MIXER}")
 
 
 @needs_tshark

@@ -15,7 +15,8 @@ def rows(title):
     return [(line.split("|")[1].strip(), line.split("|")[2].strip()) for line in section.splitlines() if re.match(r"\| \d", line)]
 
 
-@pytest.mark.parametrize("title, part", [("Cell", layout.Cell), ("Result", layout.Result), ("Stream record", layout.Stream)])
+@pytest.mark.parametrize("title, part", [("Domain record", layout.Domain), ("Cell", layout.Cell), ("Result", layout.Result),
+                                         ("Stream record", layout.Stream)])
 def test_places_and_lengths(title, part):
     begins = [int(begin) for begin, _ in rows(title)]
     places = {layout.place(part, field) for field in part.__dataclass_fields__}
@@ -26,17 +27,27 @@ def test_places_and_lengths(title, part):
 
 
 def test_whole_table():
-    begins = [int(begin) for begin, _ in rows("Layout")]
-    fields = ("settings", "clock", "held", "totals", "streams")
+    begins = [int(begin.replace(",", "")) for begin, _ in rows("Layout")]
+    fields = ("settings", "clock", "held", "totals", "edges", "streams")
+    assert [int(size.replace(",", "")) for _, size in rows("Layout")] == [
+        *(after - before for before, after in zip(begins, begins[1:])), layout.length(layout.Table) - begins[-1]]
     assert begins == [layout.place(layout.Table, field) for field in fields]
     total = re.search(r"table of \*\*([\d,]+) octets", (ROOT / "docs/TABLE.md").read_text())[1]
     assert layout.length(layout.Table) == int(total.replace(",", ""))
 
 
 def test_settings():
-    assert [(begin, size) for begin, size in rows("Settings")][:2] == [("0", "8"), ("8", "3")]
-    first = int(rows("Settings")[2][0].split()[0])
+    assert rows("Settings")[:3] == [("0", "8"), ("8", "3"), ("11", "2")]
+    first = int(rows("Settings")[3][0].split()[0])
     assert layout.place(layout.Table, "port_settings") == layout.length(layout.Settings) == first
+    said = f"{layout.length(layout.Settings)} + {layout.length(layout.Port)} x ports"
+    assert said in (ROOT / "docs/TABLE.md").read_text()
+
+
+def test_an_edge():
+    assert layout.length(layout.Edge) == 2 * layout.PRIORITIES * layout.length(layout.Domain) + 2
+    places = [layout.place(layout.Edge, field) for field in layout.Edge.__dataclass_fields__]
+    assert places == [0, 64, 128, 129]
 
 
 def test_a_number_across_octets():

@@ -33,8 +33,8 @@ def test_orders_keep_each_ports_own(srp):
         assert own == sorted(own)
         assert sorted(places) == list(range(len(given.records)))
         assert [places[place] for place in fixed] == fixed
-    # 24 orders of the first four frames, and 2 of each of the pairs behind
-    assert 60 < len(set(map(tuple, orders))) <= 96
+    # 2520 orders of the first eight frames, two of each port, and 2 of each of the pairs behind
+    assert 190 < len(set(map(tuple, orders)))
     first, again, other = ([restarts.order(given.records, seed, number) for number in range(9)] for seed in (0, 0, 1))
     assert first == again != other
 
@@ -82,9 +82,23 @@ def test_gnu_parallel():
 def test_a_text_of_calls(srp, tmp_path):
     text = tmp_path / "calls.txt"
     text.write_text("bridge 8000000000000007\nports 3\nstart\non 1 talker 0200000000010001\non 2 talker 0200000000010002\n"
-                    "on 3 listener 0200000000010001 ready values 2\ntime 100\nwrite 3\nreport 3 place 1\nsum\n")
+                    "on 3 listener 0200000000010001 ready values 2 and domain 5 2 2 values 2\n"
+                    "time 100\nwrite 3\nreport 3 place 1\nsum\n")
     [line] = srp("restarts", 30, text).splitlines()
     assert "port 3 A 34176000" in line
+
+
+def test_domain_frames_are_frames_like_others(srp, tmp_path):
+    """Domain values joined, changed and left among other frames: whatever the order, the edge is the same."""
+    text = tmp_path / "domain.txt"
+    text.write_text("bridge 8000000000000007\nports 3\non 1 talker 0200000000010001\non 3 listener 0200000000010001 ready\n"
+                    "on 2 domain 5 2 2 values 2\non 3 domain 6 3 9\non 3 domain 6 3 2\non 1 leaveall domain\ntime 100\n"
+                    "on 2 leaveall domain\non 3 domain 6 4 2\non 2 domain 5 2 2\non 1 domain 6 3 2\ntime 200\n")
+    [line] = srp("restarts", 60, text).splitlines()
+    assert line.startswith("60 of 60 orders, first order 0: ") and "reserved nothing; 0 forward, 2 failed; refused none" in line
+    order = tmp_path / "order.txt"
+    order.write_text(srp("restarts", 60, text, "--order", 7))
+    assert srp("diff", text, order) == "no difference\n" and srp("table", text) == srp("table", order)
 
 
 def test_inputs_that_cannot_be_restarted(srp):

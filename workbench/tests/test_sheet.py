@@ -93,16 +93,36 @@ def test_shares_add_up_on_generated_sheets():
 
 def test_table(srp, tmp_path):
     text = tmp_path / "leaving.txt"
-    text.write_text("bridge 8000000000000007\nports 3\n"
+    text.write_text("bridge 8000000000000007 vlan 70\nports 3\non 2 domain 5 2 8 values 2\n"
                     "on 1 talker 0200000000010001\non 2 listener 0200000000010001 ready\ntime 250\n"
                     "on 1 talker 0200000000010001 size 300\non 2 listener 0200000000010001 ready leave\n"
-                    "on 3 listener 0200000000010002 asking\n")
+                    "on 3 listener 0200000000010002 asking\non 2 domain 5 2 8 leave\n")
     printed = srp("table", text)
     for words in ("clock 2.50 s, leave time 0.60 s", "2 streams held", "port 1: Talker Advertise to 91:e0:f0:00:00:01 VLAN 2",
                   "changed", "port 2: Listener Ready, leaving since 2.50 s, gone from 3.10 s on", "port 3: Listener Asking Failed",
-                  "second 2 (0 s)", "forward", "no part in an advance yet"):
+                  "second 2 (0 s)", "forward", "no part in an advance yet", "Domain VLAN 70",
+                  "failed 8: egress port is not AVB capable"):
         assert words in printed
+    domain = [line.strip() for line in printed.split("\ndomain\n")[1].split("\n\n")[0].splitlines()]
+    assert domain == ["port 1: at the edge of class A's domain", "port 1: at the edge of class B's domain",
+                      "port 2: Domain of class A, priority 3, VLAN 8",
+                      "port 2: Domain of class B, priority 2, VLAN 8, leaving since 2.50 s, gone from 3.10 s on",
+                      "port 3: at the edge of class A's domain", "port 3: at the edge of class B's domain"]
     assert "no bridge was started" in srp("table", "examples/refused-settings/cut.txt")
+
+
+def test_table_without_a_domain(srp, tmp_path):
+    text = tmp_path / "unheard.txt"
+    text.write_text("bridge 8000000000000007\nports 2 classes none\ntime 100\n")
+    assert "nothing is registered, and no port is at an edge" in srp("table", text)
+
+
+def test_page_at_the_edge(srp):
+    assert "at the edge" not in srp("sheet", "--html", CHOIR)
+    text = " ".join(Page(srp("sheet", "--html", "examples/other-priority/not-yet-expired.txt")).words)
+    assert text.count("at the edge") == 1
+    assert "at the edge of class A's domain; registered of it: priority 3, VLAN 2; priority 5, VLAN 2" in text
+    assert "code 8: egress port is not AVB capable" in text
 
 
 def test_diff(srp, tmp_path):
@@ -115,6 +135,16 @@ def test_diff(srp, tmp_path):
     assert ["0200000000010003", "port", "4", "column", "advertise", "failed"] in lines
     assert ["0200000000010003", "port", "4", "code", "0", "1", "insufficient", "bandwidth"] in lines
     assert ["0200000000010003", "port", "2", "listener", "ready", "asking"] in lines
+
+
+def test_diff_of_domains(srp, tmp_path):
+    other = tmp_path / "other.txt"
+    text = (ROOT / CHOIR).read_text().replace("bridge 8000000000000007", "bridge 8000000000000007 vlan 70")
+    other.write_text(text.replace("on 4 domain 5 2 2 values 2\n", "on 4 domain 5 2 2\n"))
+    lines = [line.split() for line in srp("diff", CHOIR, other, status=1).splitlines()]
+    assert ["bridge", "vlan", "2", "70"] in lines and ["port", "4", "edge_a", "no", "yes"] in lines
+    assert not any("edge_b" in line for line in lines)
+    assert ["0200000000010009", "port", "4", "code", "0", "8", "egress", "port", "is", "not", "AVB", "capable"] in lines
 
 
 def test_a_fault_of_a_text_names_its_line(srp, tmp_path):

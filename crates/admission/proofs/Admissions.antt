@@ -13,7 +13,7 @@ use borrow.Author.Tests.{lt-ltb, le-ltb, leb-true, leb-false, eqb-true, eqb-fals
 use Rattle.model.specs.Lists.{keep, tabulate}
 use Rattle.model.specs.State.{Settings, Column, advertise, failed, filters, forwards, Result, Stream, Totals, Bridge, noTotals, unsettled, isPort, cellAt, resultAt, Class, noClass, classA, classB, classOf, isNoClass, sameClass}
 use Rattle.model.specs.Bandwidth.{Claim, remains, admitted, sort, reserved, total}
-use Rattle.model.specs.Settling.{Source, nowhere, from, sourceOf, fixedOf, streamClass, registered, isReady, clear, steps, stepsFrom, ageOf, claim, claims, limitOn, leftFor, byBandwidth, columnOf, entryOf, ageKept, latencyKept, totalOn, totalsOn, isAdvertise}
+use Rattle.model.specs.Settling.{Scene, Source, nowhere, from, sourceOf, fixedOf, streamClass, registered, isReady, clear, steps, stepsFrom, ageOf, claim, claims, limitOn, leftFor, byBandwidth, columnOf, entryOf, ageKept, latencyKept, totalOn, totalsOn, isAdvertise}
 use Rattle.model.proofs.Lists.{and-true, and-false}
 use Rattle.model.proofs.AdvanceKeepsForm.{length-tabulate}
 use Rattle.model.proofs.Admission.{Two, lo, hi, two}
@@ -53,60 +53,61 @@ showing st now col x = record {
   results = tabulate 8 0 (λ q. shownAs st now x q (col q x));
 }
 
--- Steps a to g alone.
+-- Steps a to g and j alone.
 
-module _ (st : Settings) (q : ℕ) (x : Stream) where
+module _ (sc : Scene) (q : ℕ) (x : Stream) where
   -- they leave Advertise where none of them applies
-  early-advertised : isAdvertise (earlyColumn st q x) ≡ clear (steps st q x)
+  early-advertised : isAdvertise (earlyColumn sc q x) ≡ clear (steps sc q x)
   unfolding earlyColumn byBandwidth
-  early-advertised = advertised st q x 0 0 ∙ and-true (clear (steps st q x))
+  early-advertised = advertised sc q x 0 0 ∙ and-true (clear (steps sc q x))
 
   -- one of them applies to a priority that is no class, and at a place that is no port
-  no-class : streamClass st x ≡ noClass → clear (steps st q x) ≡ false
+  no-class : streamClass (sc .settings) x ≡ noClass → clear (steps sc q x) ≡ false
   unfolding steps stepsFrom streamClass fixedOf isNoClass clear
   no-class e = simp (go (sourceOf x) e, and-false)
     where
-      go : (t : Source) → classOf st (fixedOf t .priority) ≡ noClass → clear (stepsFrom st q (cellAt x q) t) ≡ false
+      go : (t : Source) → classOf (sc .settings) (fixedOf t .priority) ≡ noClass → clear (stepsFrom sc q (cellAt x q) t) ≡ false
       go nowhere e = refl
       go (from o) e = simp (e, and-false)
 
-  no-port : isPort st q ≡ false → clear (steps st q x) ≡ false
+  no-port : isPort (sc .settings) q ≡ false → clear (steps sc q x) ≡ false
   unfolding steps clear
   no-port e = rw e
 
   -- where one of them applies, the rest of the streams does not matter
-  decided-early : (now : ℕ) (s : List Stream) → clear (steps st q x) ≡ false → earlyColumn st q x ≡ columnOf st now s q x
+  decided-early : (now : ℕ) (s : List Stream) → clear (steps sc q x) ≡ false → earlyColumn sc q x ≡ columnOf sc now s q x
   unfolding earlyColumn columnOf
-  decided-early now s e = first-decided _ (steps st q x) advertise _ e
+  decided-early now s e = first-decided _ (steps sc q x) advertise _ e
 
 -- After some of the ports and classes.
 
-module _ (st : Settings) (now : ℕ) (s : List Stream) where
-  showing-same : (f g : ℕ → Stream → Column) (x : Stream) → ((q : ℕ) → q < 8 → f q x ≡ g q x) → showing st now f x ≡ showing st now g x
+module _ (sc : Scene) (now : ℕ) (s : List Stream) where
+  showing-same : (f g : ℕ → Stream → Column) (x : Stream) → ((q : ℕ) → q < 8 → f q x ≡ g q x) → showing (sc .settings) now f x ≡ showing (sc .settings) now g x
   unfolding showing
   showing-same f g x h =
-      rw (tabulate-same (λ q. shownAs st now x q (f q x)) (λ q. shownAs st now x q (g q x)) 8 0 (λ q a b. rw (h q (omega arith))))
+      rw (tabulate-same (λ q. shownAs (sc .settings) now x q (f q x)) (λ q. shownAs (sc .settings) now x q (g q x)) 8 0 (λ q a b. rw (h q (omega arith))))
 
   module _ (done : ℕ → Class → Bool) where
     columnBy : ℕ → Stream → Column
-    columnBy q x = cond (done q (streamClass st x)) (columnOf st now s q x) (earlyColumn st q x)
+    columnBy q x = cond (done q (streamClass (sc .settings) x)) (columnOf sc now s q x) (earlyColumn sc q x)
 
     totalsBy : ℕ → Totals
     totalsBy q = record {
-      totalA = cond (done q classA) (totalOn st now s q classA) 0;
-      totalB = cond (done q classB) (totalOn st now s q classB) 0;
+      totalA = cond (done q classA) (totalOn sc now s q classA) 0;
+      totalB = cond (done q classB) (totalOn sc now s q classB) 0;
     }
 
     shared : ℕ → Bridge
     shared clock = record {
-      settings = st;
+      settings = sc .settings;
       clock = clock;
       totals = tabulate 8 0 totalsBy;
-      streams = map (showing st now columnBy) s;
+      own = sc .own;
+      streams = map (showing (sc .settings) now columnBy) s;
     }
 
   -- an Advertise has an entry, and so an age
-  age-at : (p : ℕ) (x : Stream) → shownAs st now x p advertise .age ≡ ageOf now (resultAt x p)
+  age-at : (p : ℕ) (x : Stream) → shownAs (sc .settings) now x p advertise .age ≡ ageOf now (resultAt x p)
   unfolding shownAs entryOf ageKept
   age-at p x = go (isReady (registered (cellAt x p)))
     where
@@ -115,21 +116,21 @@ module _ (st : Settings) (now : ℕ) (s : List Stream) where
       go false = refl
 
   -- what fails with code 1 keeps latency and age
-  lacks-at : (p : ℕ) (x : Stream) → lacking st (shownAs st now x p advertise) ≡ shownAs st now x p (failed (st .bridgeId) 1)
+  lacks-at : (p : ℕ) (x : Stream) → lacking (sc .settings) (shownAs (sc .settings) now x p advertise) ≡ shownAs (sc .settings) now x p (failed (sc .settings .bridgeId) 1)
   unfolding lacking latencyKept
   lacks-at p x = rw (age-at p x) (unfold shownAs latencyKept entryOf ageKept in refl)
 
   -- what stands on a port where the columns are known
   module _ (col : ℕ → Stream → Column) (p : ℕ) (h : p < 8) (x : Stream) where
-    shown-at : resultAt (showing st now col x) p ≡ shownAs st now x p (col p x)
+    shown-at : resultAt (showing (sc .settings) now col x) p ≡ shownAs (sc .settings) now x p (col p x)
     unfolding showing resultAt
-    shown-at = at-place (λ q. shownAs st now x q (col q x)) p unsettled h
+    shown-at = at-place (λ q. shownAs (sc .settings) now x q (col q x)) p unsettled h
 
-    waits-at : (c : Class) → waits st p c (showing st now col x) ≡ (isAdvertise (col p x) && sameClass (streamClass st x) c)
+    waits-at : (c : Class) → waits (sc .settings) p c (showing (sc .settings) now col x) ≡ (isAdvertise (col p x) && sameClass (streamClass (sc .settings) x) c)
     unfolding waits settledClass streamClass
     waits-at c = rw shown-at (unfold shownAs showing in refl)
 
-    claim-at : col p x ≡ advertise → claimShown st p (showing st now col x) ≡ claim st now p x
+    claim-at : col p x ≡ advertise → claimShown (sc .settings) p (showing (sc .settings) now col x) ≡ claim (sc .settings) now p x
     unfolding claimShown claim
     claim-at e = rw (shown-at, e, age-at p x) (unfold showing settledClass cellAt in refl)
 
@@ -142,122 +143,122 @@ module _ (st : Settings) (now : ℕ) (s : List Stream) where
     new : ℕ → Stream → Column
     new = columnBy then
 
-    stays : (q : ℕ) (x : Stream) → (q ≡ p → streamClass st x ≡ c → ⊥) → old q x ≡ new q x
+    stays : (q : ℕ) (x : Stream) → (q ≡ p → streamClass (sc .settings) x ≡ c → ⊥) → old q x ≡ new q x
     unfolding old new columnBy
-    stays q x n = rw (else q (streamClass st x) n)
+    stays q x n = rw (else q (streamClass (sc .settings) x) n)
 
     -- a stream of the class
-    module _ (x : Stream) (e : streamClass st x ≡ c) where
-      was : old p x ≡ earlyColumn st p x
+    module _ (x : Stream) (e : streamClass (sc .settings) x ≡ c) where
+      was : old p x ≡ earlyColumn sc p x
       unfolding old columnBy
       was = rw (e, open-before)
 
-      becomes : new p x ≡ columnOf st now s p x
+      becomes : new p x ≡ columnOf sc now s p x
       unfolding new columnBy
       becomes = rw (e, done-now)
 
-    other-class : (x : Stream) → sameClass (streamClass st x) c ≡ false → streamClass st x ≡ c → ⊥
+    other-class : (x : Stream) → sameClass (streamClass (sc .settings) x) c ≡ false → streamClass (sc .settings) x ≡ c → ⊥
     other-class x e f = true≢false (sym real ∙ ap (λ (d : Class). sameClass d c) (sym f) ∙ e)
 
-    waiting : (x : Stream) → waits st p c (showing st now old x) ≡ (clear (steps st p x) && sameClass (streamClass st x) c)
-    waiting x = waits-at old p h x c ∙ go (sameClass (streamClass st x) c) refl
+    waiting : (x : Stream) → waits (sc .settings) p c (showing (sc .settings) now old x) ≡ (clear (steps sc p x) && sameClass (streamClass (sc .settings) x) c)
+    waiting x = waits-at old p h x c ∙ go (sameClass (streamClass (sc .settings) x) c) refl
       where
-        go : (t : Bool) → sameClass (streamClass st x) c ≡ t → (isAdvertise (old p x) && t) ≡ (clear (steps st p x) && t)
+        go : (t : Bool) → sameClass (streamClass (sc .settings) x) c ≡ t → (isAdvertise (old p x) && t) ≡ (clear (steps sc p x) && t)
         go true e =
             ap (λ (t : Bool). t && true)
-            (ap isAdvertise (was x (same-class (streamClass st x) c e)) ∙ early-advertised st p x)
-        go false e = and-false (isAdvertise (old p x)) ∙ sym (and-false (clear (steps st p x)))
+            (ap isAdvertise (was x (same-class (streamClass (sc .settings) x) c e)) ∙ early-advertised sc p x)
+        go false e = and-false (isAdvertise (old p x)) ∙ sym (and-false (clear (steps sc p x)))
 
     -- a stream that waits
-    module _ (x : Stream) (free : clear (steps st p x) ≡ true) (e : streamClass st x ≡ c) where
+    module _ (x : Stream) (free : clear (steps sc p x) ≡ true) (e : streamClass (sc .settings) x ≡ c) where
       was-advertise : old p x ≡ advertise
       unfolding earlyColumn
-      was-advertise = was x e ∙ first-clear _ (steps st p x) advertise free
+      was-advertise = was x e ∙ first-clear _ (steps sc p x) advertise free
 
-      claimed : claimShown st p (showing st now old x) ≡ claim st now p x
+      claimed : claimShown (sc .settings) p (showing (sc .settings) now old x) ≡ claim (sc .settings) now p x
       claimed = claim-at old p h x was-advertise
 
-    claims-same : (l : List Stream) → claimsShown st p c (map (showing st now old) l) ≡ claims st now p c l
+    claims-same : (l : List Stream) → claimsShown (sc .settings) p c (map (showing (sc .settings) now old) l) ≡ claims sc now p c l
     unfolding claimsShown claims
     claims-same [] = refl
-    claims-same (x ∷ l) = rw (waiting x, claims-same l) (go (clear (steps st p x)) (sameClass (streamClass st x) c) refl refl)
+    claims-same (x ∷ l) = rw (waiting x, claims-same l) (go (clear (steps sc p x)) (sameClass (streamClass (sc .settings) x) c) refl refl)
       where
-        go : (t u : Bool) → clear (steps st p x) ≡ t → sameClass (streamClass st x) c ≡ u →
-            keep (t && u) (claimShown st p (showing st now old x)) (claims st now p c l) ≡ keep (t && u) (claim st now p x) (claims st now p c l)
-        go true true f e = rw (claimed x f (same-class (streamClass st x) c e))
+        go : (t u : Bool) → clear (steps sc p x) ≡ t → sameClass (streamClass (sc .settings) x) c ≡ u →
+            keep (t && u) (claimShown (sc .settings) p (showing (sc .settings) now old x)) (claims sc now p c l) ≡ keep (t && u) (claim (sc .settings) now p x) (claims sc now p c l)
+        go true true f e = rw (claimed x f (same-class (streamClass (sc .settings) x) c e))
         go true false f e = refl
         go false u f e = refl
 
     l : ℕ
-    l = limitOn st now s p c
+    l = limitOn sc now s p c
 
     cs : List Claim
-    cs = claims st now p c s
+    cs = claims sc now p c s
 
     -- what bandwidth decides
-    module _ (x : Stream) (free : clear (steps st p x) ≡ true) (e : streamClass st x ≡ c) where
-      by-claims : columnOf st now s p x ≡ byBandwidth st (claim st now p x .demand) (remains l cs (claim st now p x))
+    module _ (x : Stream) (free : clear (steps sc p x) ≡ true) (e : streamClass (sc .settings) x ≡ c) where
+      by-claims : columnOf sc now s p x ≡ byBandwidth (sc .settings) (claim (sc .settings) now p x .demand) (remains l cs (claim (sc .settings) now p x))
       unfolding columnOf leftFor l cs
-      by-claims = first-clear _ (steps st p x) _ free ∙ rw e
+      by-claims = first-clear _ (steps sc p x) _ free ∙ rw e
 
-      fits : admitted l cs (claim st now p x) ≡ true → columnOf st now s p x ≡ advertise
+      fits : admitted l cs (claim (sc .settings) now p x) ≡ true → columnOf sc now s p x ≡ advertise
       unfolding admitted byBandwidth
       fits a =
-          let d = claim st now p x .demand in
-          let r = remains l cs (claim st now p x) in
+          let d = claim (sc .settings) now p x .demand in
+          let r = remains l cs (claim (sc .settings) now p x) in
           by-claims ∙ rw (le-ltb r d (leb-true d r a))
 
-      lacks : admitted l cs (claim st now p x) ≡ false → columnOf st now s p x ≡ failed (st .bridgeId) 1
+      lacks : admitted l cs (claim (sc .settings) now p x) ≡ false → columnOf sc now s p x ≡ failed (sc .settings .bridgeId) 1
       unfolding admitted byBandwidth
       lacks a =
-          let d = claim st now p x .demand in
-          let r = remains l cs (claim st now p x) in
+          let d = claim (sc .settings) now p x .demand in
+          let r = remains l cs (claim (sc .settings) now p x) in
           by-claims ∙ rw (lt-ltb r d (leb-false d r a))
 
-    same-if : (x : Stream) → old p x ≡ new p x → showing st now old x ≡ showing st now new x
+    same-if : (x : Stream) → old p x ≡ new p x → showing (sc .settings) now old x ≡ showing (sc .settings) now new x
     same-if x e = showing-same old new x (λ q b. go q (eqb q p) refl)
       where
         go : (q : ℕ) (t : Bool) → eqb q p ≡ t → old q x ≡ new q x
         go q true f = rw (eqb-true q p f) e
         go q false f = stays q x (λ i j. eqb-false q p f i)
 
-    fails-with : (x : Stream) → old p x ≡ advertise → new p x ≡ failed (st .bridgeId) 1 →
-        withResult p (lacking st (resultAt (showing st now old x) p)) (showing st now old x) ≡ showing st now new x
+    fails-with : (x : Stream) → old p x ≡ advertise → new p x ≡ failed (sc .settings .bridgeId) 1 →
+        withResult p (lacking (sc .settings) (resultAt (showing (sc .settings) now old x) p)) (showing (sc .settings) now old x) ≡ showing (sc .settings) now new x
     unfolding withResult
     fails-with x e f =
         rw (shown-at old p h x, e, lacks-at p x)
         (unfold showing in ap (λ (r : List Result). record { id = x .id; settled = fixedOf (sourceOf x); cells = x .cells; results = r })
-        (set-tabulate (λ q. shownAs st now x q (old q x)) (λ q. shownAs st now x q (new q x)) p (shownAs st now x p (failed (st .bridgeId) 1)) h (rw f)
+        (set-tabulate (λ q. shownAs (sc .settings) now x q (old q x)) (λ q. shownAs (sc .settings) now x q (new q x)) p (shownAs (sc .settings) now x p (failed (sc .settings .bridgeId) 1)) h (rw f)
         (λ q b n. rw (stays q x (λ i j. n i)))))
 
-    admit-one : (x : Stream) → admit st p c l cs (showing st now old x) ≡ showing st now new x
+    admit-one : (x : Stream) → admit (sc .settings) p c l cs (showing (sc .settings) now old x) ≡ showing (sc .settings) now new x
     unfolding admit
-    admit-one x = rw (waiting x) (go (clear (steps st p x)) (sameClass (streamClass st x) c) refl refl)
+    admit-one x = rw (waiting x) (go (clear (steps sc p x)) (sameClass (streamClass (sc .settings) x) c) refl refl)
       where
-        go : (t u : Bool) → clear (steps st p x) ≡ t → sameClass (streamClass st x) c ≡ u →
-            cond ((t && u) && not (admitted l cs (claimShown st p (showing st now old x))))
-            (withResult p (lacking st (resultAt (showing st now old x) p)) (showing st now old x)) (showing st now old x)
-            ≡ showing st now new x
+        go : (t u : Bool) → clear (steps sc p x) ≡ t → sameClass (streamClass (sc .settings) x) c ≡ u →
+            cond ((t && u) && not (admitted l cs (claimShown (sc .settings) p (showing (sc .settings) now old x))))
+            (withResult p (lacking (sc .settings) (resultAt (showing (sc .settings) now old x) p)) (showing (sc .settings) now old x)) (showing (sc .settings) now old x)
+            ≡ showing (sc .settings) now new x
         go true true f e =
-            let d = same-class (streamClass st x) c e in
-            rw (claimed x f d) (decides (admitted l cs (claim st now p x)) refl)
+            let d = same-class (streamClass (sc .settings) x) c e in
+            rw (claimed x f d) (decides (admitted l cs (claim (sc .settings) now p x)) refl)
           where
-            decides : (v : Bool) → admitted l cs (claim st now p x) ≡ v →
-                cond (not v) (withResult p (lacking st (resultAt (showing st now old x) p)) (showing st now old x)) (showing st now old x)
-                ≡ showing st now new x
+            decides : (v : Bool) → admitted l cs (claim (sc .settings) now p x) ≡ v →
+                cond (not v) (withResult p (lacking (sc .settings) (resultAt (showing (sc .settings) now old x) p)) (showing (sc .settings) now old x)) (showing (sc .settings) now old x)
+                ≡ showing (sc .settings) now new x
             decides true a =
-                let d = same-class (streamClass st x) c e in
+                let d = same-class (streamClass (sc .settings) x) c e in
                 same-if x (was-advertise x f d ∙ sym (becomes x d ∙ fits x f d a))
             decides false a =
-                let d = same-class (streamClass st x) c e in
+                let d = same-class (streamClass (sc .settings) x) c e in
                 fails-with x (was-advertise x f d) (becomes x d ∙ lacks x f d a)
         go true false f e = showing-same old new x (λ q b. stays q x (λ i j. other-class x e j))
         go false true f e =
-            let d = same-class (streamClass st x) c e in
-            same-if x (was x d ∙ decided-early st p x now s f ∙ sym (becomes x d))
+            let d = same-class (streamClass (sc .settings) x) c e in
+            same-if x (was x d ∙ decided-early sc p x now s f ∙ sym (becomes x d))
         go false false f e = showing-same old new x (λ q b. stays q x (λ i j. other-class x e j))
 
-    admit-all : (m : List Stream) → map (admit st p c l cs) (map (showing st now old) m) ≡ map (showing st now new) m
+    admit-all : (m : List Stream) → map (admit (sc .settings) p c l cs) (map (showing (sc .settings) now old) m) ≡ map (showing (sc .settings) now new) m
     admit-all [] = refl
     admit-all (x ∷ m) = rw (admit-one x, admit-all m)
 
@@ -296,11 +297,11 @@ ltb-next m n h = go (two m n)
     go (lo g) = rw (lt-ltb m n g, lt-ltb m (suc n) (omega arith))
     go (hi g) = rw (le-ltb m n g, le-ltb m (suc n) (omega (arith, h)))
 
-module _ (st : Settings) (now : ℕ) (s : List Stream) (clock : ℕ) where
-  turn-a : (p : ℕ) → p < 8 → admission p classA (shared st now s (doneBefore (2 * p)) clock) ≡ shared st now s (doneBefore (suc (2 * p))) clock
+module _ (sc : Scene) (now : ℕ) (s : List Stream) (clock : ℕ) where
+  turn-a : (p : ℕ) → p < 8 → admission p classA (shared sc now s (doneBefore (2 * p)) clock) ≡ shared sc now s (doneBefore (suc (2 * p))) clock
   unfolding doneBefore sameClass
   turn-a p h =
-      admission-one st now s p h classA refl (doneBefore (2 * p)) (doneBefore (suc (2 * p)))
+      admission-one sc now s p h classA refl (doneBefore (2 * p)) (doneBefore (suc (2 * p)))
       (le-ltb (2 * p) (2 * p) (omega arith)) (lt-ltb (2 * p) (suc (2 * p)) (omega arith)) else clock
     where
       else : (q : ℕ) (d : Class) → (q ≡ p → d ≡ classA → ⊥) → doneBefore (2 * p) q d ≡ doneBefore (suc (2 * p)) q d
@@ -308,10 +309,10 @@ module _ (st : Settings) (now : ℕ) (s : List Stream) (clock : ℕ) where
       else q classA n = ltb-next (2 * q) (2 * p) (λ e. n (omega (arith, e)) refl)
       else q classB n = ltb-next (2 * q + 1) (2 * p) (λ e. omega (arith, e))
 
-  turn-b : (p : ℕ) → p < 8 → admission p classB (shared st now s (doneBefore (suc (2 * p))) clock) ≡ shared st now s (doneBefore (2 * suc p)) clock
+  turn-b : (p : ℕ) → p < 8 → admission p classB (shared sc now s (doneBefore (suc (2 * p))) clock) ≡ shared sc now s (doneBefore (2 * suc p)) clock
   unfolding doneBefore sameClass
   turn-b p h =
-      admission-one st now s p h classB refl (doneBefore (suc (2 * p))) (doneBefore (2 * suc p))
+      admission-one sc now s p h classB refl (doneBefore (suc (2 * p))) (doneBefore (2 * suc p))
       (le-ltb (2 * p + 1) (suc (2 * p)) (omega arith)) (lt-ltb (2 * p + 1) (2 * suc p) (omega arith)) else clock
     where
       next : 2 * suc p ≡ suc (suc (2 * p))
@@ -322,7 +323,7 @@ module _ (st : Settings) (now : ℕ) (s : List Stream) (clock : ℕ) where
       else q classA n = rw next (ltb-next (2 * q) (suc (2 * p)) (λ e. omega (arith, e)))
       else q classB n = rw next (ltb-next (2 * q + 1) (suc (2 * p)) (λ e. n (omega (arith, e)) refl))
 
-  turns : (n p : ℕ) → p + n ≤ 8 → admissions n p (shared st now s (doneBefore (2 * p)) clock) ≡ shared st now s (doneBefore (2 * (p + n))) clock
+  turns : (n p : ℕ) → p + n ≤ 8 → admissions n p (shared sc now s (doneBefore (2 * p)) clock) ≡ shared sc now s (doneBefore (2 * (p + n))) clock
   unfolding admissions
   turns zero p h = rw (add-zero p)
   turns (suc n) p h =
@@ -339,64 +340,64 @@ module _ (st : Settings) (now : ℕ) (s : List Stream) (clock : ℕ) where
   none-done q classA = le-ltb (2 * q) 0 (omega arith)
   none-done q classB = le-ltb (2 * q + 1) 0 (omega arith)
 
-  at-first : record { settings = st; clock = clock; totals = replicate 8 noTotals; streams = map (early st now) s } ≡ shared st now s (doneBefore 0) clock
+  at-first : record { settings = sc .settings; clock = clock; totals = replicate 8 noTotals; own = sc .own; streams = map (early sc now) s } ≡ shared sc now s (doneBefore 0) clock
   unfolding shared
   at-first =
       rw (
-        tabulate-same (totalsBy st now s (doneBefore 0)) (λ q. noTotals) 8 0 no-total,
-        map-same (early st now) (showing st now (columnBy st now s (doneBefore 0))) s early-shown,
+        tabulate-same (totalsBy sc now s (doneBefore 0)) (λ q. noTotals) 8 0 no-total,
+        map-same (early sc now) (showing (sc .settings) now (columnBy sc now s (doneBefore 0))) s early-shown,
       )
       (unfold tabulate in refl)
     where
-      no-total : (q : ℕ) → 0 ≤ q → q < 0 + 8 → totalsBy st now s (doneBefore 0) q ≡ noTotals
+      no-total : (q : ℕ) → 0 ≤ q → q < 0 + 8 → totalsBy sc now s (doneBefore 0) q ≡ noTotals
       no-total q a b = unfold totalsBy noTotals in (rw (none-done q classA, none-done q classB))
 
-      early-shown : (x : Stream) → early st now x ≡ showing st now (columnBy st now s (doneBefore 0)) x
+      early-shown : (x : Stream) → early sc now x ≡ showing (sc .settings) now (columnBy sc now s (doneBefore 0)) x
       early-shown x =
-          let alone : early st now x ≡ showing st now (earlyColumn st) x = unfold early earlyAt showing in refl in
+          let alone : early sc now x ≡ showing (sc .settings) now (earlyColumn sc) x = unfold early earlyAt showing in refl in
           alone
-          ∙ showing-same st now s (earlyColumn st) (columnBy st now s (doneBefore 0)) x
-          (λ q b. unfold columnBy in (rw (none-done q (streamClass st x))))
+          ∙ showing-same sc now s (earlyColumn sc) (columnBy sc now s (doneBefore 0)) x
+          (λ q b. unfold columnBy in (rw (none-done q (streamClass (sc .settings) x))))
 
   -- after the last
-  module _ (ports : length (st .ports) ≤ 8) where
+  module _ (ports : length (sc .settings .ports) ≤ 8) where
     n : ℕ
-    n = length (st .ports)
+    n = length (sc .settings .ports)
 
-    past : (q : ℕ) → n ≤ q → isPort st q ≡ false
+    past : (q : ℕ) → n ≤ q → isPort (sc .settings) q ≡ false
     unfolding isPort n
     past q h = le-ltb q n h
 
-    decided-column : (q : ℕ) (x : Stream) → columnBy st now s (doneBefore (2 * n)) q x ≡ columnOf st now s q x
+    decided-column : (q : ℕ) (x : Stream) → columnBy sc now s (doneBefore (2 * n)) q x ≡ columnOf sc now s q x
     unfolding columnBy
-    decided-column q x = go (streamClass st x) refl (two q n)
+    decided-column q x = go (streamClass (sc .settings) x) refl (two q n)
       where
-        nothing-applies : clear (steps st q x) ≡ false → earlyColumn st q x ≡ columnOf st now s q x
-        nothing-applies = decided-early st q x now s
+        nothing-applies : clear (steps sc q x) ≡ false → earlyColumn sc q x ≡ columnOf sc now s q x
+        nothing-applies = decided-early sc q x now s
 
-        go : (d : Class) → streamClass st x ≡ d → Two q n →
-            cond (doneBefore (2 * n) q d) (columnOf st now s q x) (earlyColumn st q x) ≡ columnOf st now s q x
-        go noClass e w = unfold doneBefore in (nothing-applies (no-class st q x e))
+        go : (d : Class) → streamClass (sc .settings) x ≡ d → Two q n →
+            cond (doneBefore (2 * n) q d) (columnOf sc now s q x) (earlyColumn sc q x) ≡ columnOf sc now s q x
+        go noClass e w = unfold doneBefore in (nothing-applies (no-class sc q x e))
         go classA e (lo h) = unfold doneBefore in (rw (lt-ltb (2 * q) (2 * n) (omega arith)))
-        go classA e (hi h) = unfold doneBefore in (rw (le-ltb (2 * q) (2 * n) (omega arith)) (nothing-applies (no-port st q x (past q h))))
+        go classA e (hi h) = unfold doneBefore in (rw (le-ltb (2 * q) (2 * n) (omega arith)) (nothing-applies (no-port sc q x (past q h))))
         go classB e (lo h) = unfold doneBefore in (rw (lt-ltb (2 * q + 1) (2 * n) (omega arith)))
-        go classB e (hi h) = unfold doneBefore in (rw (le-ltb (2 * q + 1) (2 * n) (omega arith)) (nothing-applies (no-port st q x (past q h))))
+        go classB e (hi h) = unfold doneBefore in (rw (le-ltb (2 * q + 1) (2 * n) (omega arith)) (nothing-applies (no-port sc q x (past q h))))
 
     -- no stream waits at a place that is no port
-    no-claims : (q : ℕ) (c : Class) → n ≤ q → (l : List Stream) → claims st now q c l ≡ []
+    no-claims : (q : ℕ) (c : Class) → n ≤ q → (l : List Stream) → claims sc now q c l ≡ []
     unfolding claims
     no-claims q c h [] = refl
-    no-claims q c h (x ∷ l) = rw (no-port st q x (past q h)) (no-claims q c h l)
+    no-claims q c h (x ∷ l) = rw (no-port sc q x (past q h)) (no-claims q c h l)
 
-    no-total : (q : ℕ) (c : Class) → n ≤ q → totalOn st now s q c ≡ 0
+    no-total : (q : ℕ) (c : Class) → n ≤ q → totalOn sc now s q c ≡ 0
     unfolding totalOn total sort reserved
     no-total q c h = rw (no-claims q c h s)
 
-    decided-totals : (q : ℕ) → totalsBy st now s (doneBefore (2 * n)) q ≡ totalsOn st now s q
+    decided-totals : (q : ℕ) → totalsBy sc now s (doneBefore (2 * n)) q ≡ totalsOn sc now s q
     unfolding totalsBy totalsOn doneBefore
     decided-totals q = go (two q n)
       where
-        go : Two q n → totalsBy st now s (doneBefore (2 * n)) q ≡ totalsOn st now s q
+        go : Two q n → totalsBy sc now s (doneBefore (2 * n)) q ≡ totalsOn sc now s q
         go (lo h) = rw (lt-ltb (2 * q) (2 * n) (omega arith), lt-ltb (2 * q + 1) (2 * n) (omega arith))
         go (hi h) =
             rw (
@@ -406,24 +407,25 @@ module _ (st : Settings) (now : ℕ) (s : List Stream) (clock : ℕ) where
               no-total q classB h,
             )
 
-    at-last : shared st now s (doneBefore (2 * n)) clock
-        ≡ record { settings = st; clock = clock; totals = tabulate 8 0 (totalsOn st now s); streams = map (showing st now (columnOf st now s)) s }
+    at-last : shared sc now s (doneBefore (2 * n)) clock
+        ≡ record { settings = sc .settings; clock = clock; totals = tabulate 8 0 (totalsOn sc now s); own = sc .own; streams = map (showing (sc .settings) now (columnOf sc now s)) s }
     unfolding shared
     at-last =
         rw (
-          tabulate-same (totalsBy st now s (doneBefore (2 * n))) (totalsOn st now s) 8 0 (λ q a b. decided-totals q),
-          map-same (showing st now (columnBy st now s (doneBefore (2 * n)))) (showing st now (columnOf st now s)) s
-              (λ x. showing-same st now s (columnBy st now s (doneBefore (2 * n))) (columnOf st now s) x (λ q b. decided-column q x)),
+          tabulate-same (totalsBy sc now s (doneBefore (2 * n))) (totalsOn sc now s) 8 0 (λ q a b. decided-totals q),
+          map-same (showing (sc .settings) now (columnBy sc now s (doneBefore (2 * n)))) (showing (sc .settings) now (columnOf sc now s)) s
+              (λ x. showing-same sc now s (columnBy sc now s (doneBefore (2 * n))) (columnOf sc now s) x (λ q b. decided-column q x)),
         )
 
-    -- After steps a to g the admissions of all ports leave what advance decides, but for the Listeners declared.
+    -- After steps a to g and j the admissions of all ports leave what advance decides, but for the Listeners declared.
     pub admissions-decide :
-        admissions (length (st .ports)) 0 record { settings = st; clock = clock; totals = replicate 8 noTotals; streams = map (early st now) s }
+        admissions (length (sc .settings .ports)) 0 record { settings = sc .settings; clock = clock; totals = replicate 8 noTotals; own = sc .own; streams = map (early sc now) s }
         ≡ record {
-          settings = st;
+          settings = sc .settings;
           clock = clock;
-          totals = tabulate 8 0 (totalsOn st now s);
-          streams = map (showing st now (columnOf st now s)) s;
+          totals = tabulate 8 0 (totalsOn sc now s);
+          own = sc .own;
+          streams = map (showing (sc .settings) now (columnOf sc now s)) s;
         }
     unfolding n
     admissions-decide = ap (admissions n 0) at-first ∙ (rw (zero-add n) at (turns n 0 (omega arith))) ∙ at-last

@@ -97,8 +97,8 @@ pub record WriteAnswers (t : List ℕ) (p place : ℕ) (buffer : List ℕ) (n lo
   pub table : (n ≡ 12) ↔ (formed t ≡ false)
   pub port : (n ≡ 1) ↔ ((formed t ≡ true) × (wrongPort (decode t .settings) p ≡ true))
   pub short : (n ≡ 10) ↔ (OnPort t p × (length buffer < longestPdu))
-  pub above : (n ≡ 13) ↔ (OnPort t p × ((longestPdu ≤ length buffer) × (length (declarations (p - 1) (decode t .streams)) < place)))
-  pub accepted : (n ≡ 0) ↔ (OnPort t p × ((longestPdu ≤ length buffer) × (place ≤ length (declarations (p - 1) (decode t .streams)))))
+  pub above : (n ≡ 13) ↔ (OnPort t p × ((longestPdu ≤ length buffer) × (length (declarations (decode t .settings) (p - 1) (decode t .streams)) < place)))
+  pub accepted : (n ≡ 0) ↔ (OnPort t p × ((longestPdu ≤ length buffer) × (place ≤ length (declarations (decode t .settings) (p - 1) (decode t .streams)))))
   pub unaltered : (n ≡ 0 → ⊥) → (long ≡ 0) × (next ≡ 0) × (u ≡ buffer)
 
 pub write-answers : (t : List ℕ) (p place : ℕ) (buffer : List ℕ) (n long next : ℕ) (u : List ℕ) →

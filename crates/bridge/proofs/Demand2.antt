@@ -16,7 +16,7 @@ use Rattle.octets.specs.Parts.{zeros}
 use Rattle.model.specs.Layout.{tableLength}
 use Rattle.model.specs.Lists.{Octets}
 use Rattle.model.specs.State.{Settings, Bridge, started, portAt, resultAt, noTotals}
-use Rattle.model.specs.Registrations.{Answer, acts, applyAll, holding, together, ids, joins, received}
+use Rattle.model.specs.Registrations.{Answer, acts, applyAll, holding, owning, together, ids, joins, received}
 use Rattle.model.specs.FrameLayout.{longestPdu}
 use Rattle.model.specs.Frames.{Vector, found, walk, walked, frameActs, reading, wrongPort}
 use Rattle.model.specs.Settling.{settle}
@@ -40,7 +40,7 @@ use Rattle.model.proofs.Refusals.{OnPort, start-0, receive-0, advance-0, write-
 use Rattle.bridge.specs.Promises.{Starts, Receives, Advances, Writes, Reports}
 use Rattle.bridge.proofs.Started.{started-table}
 use Rattle.bridge.proofs.Starting.{start-accepted}
-use Rattle.bridge.proofs.OnTables.{receive-taken, advance-settles}
+use Rattle.bridge.proofs.OnTables.{acted, receive-taken, advance-settles}
 
 -- An accepted start leaves the settings, and zeros behind them: a bridge with these settings, no streams, clock 0.
 pub start-leaves : (t s : List ℕ) (n : ℕ) (u : List ℕ) → Octets s → Starts t s n u → n ≡ 0 →
@@ -54,20 +54,20 @@ start-leaves t s n u o call z =
 pub record Registers (t : List ℕ) (p : ℕ) (pdu u : List ℕ) : Type 0 where
   pub vectors : List Vector
   pub read : walk pdu ≡ found vectors
-  pub bridge : decode u ≡ holding (decode t) (applyAll (decode t .clock) (p - 1) (frameActs vectors) (decode t .streams))
-  pub table : u ≡ encode (holding (decode t) (applyAll (decode t .clock) (p - 1) (frameActs vectors) (decode t .streams)))
+  pub bridge : decode u ≡ acted (decode t) p (frameActs vectors)
+  pub table : u ≡ encode (acted (decode t) p (frameActs vectors))
   -- every stream that it joins is held afterwards, and no other is added
   pub joined : ids (decode u .streams) ≡ together (ids (decode t .streams)) (joins (frameActs vectors))
 
 received-all : (b : Bridge) (p : ℕ) (pdu : List ℕ) (vs : List Vector) → wrongPort (b .settings) p ≡ false → walk pdu ≡ found vs →
     length (applyAll (b .clock) (p - 1) (frameActs vs) (b .streams)) ≤ 64 →
-    receive b p pdu ≡ record { number = 0; bridge = holding b (applyAll (b .clock) (p - 1) (frameActs vs) (b .streams)) }
+    receive b p pdu ≡ record { number = 0; bridge = acted b p (frameActs vs) }
 unfolding receive reading received walked
 received-all b p pdu vs w e l = rw (w, e, le-leb _ _ l)
 
 pub receive-registers : (t : List ℕ) (p : ℕ) (pdu : List ℕ) (n : ℕ) (u : List ℕ) → Octets t → Octets pdu → Receives t p pdu n u → n ≡ 0 →
     Registers t p pdu u
-unfolding holding
+unfolding holding owning
 receive-registers t p pdu n u o q call z =
     let h = receive-0 t p pdu .0 (sym (call .0) ∙ z) in
     let b = decode t in
@@ -76,9 +76,9 @@ receive-registers t p pdu n u o q call z =
     let same : ids s ≡ together (ids (b .streams)) (joins (frameActs vs)) = acts-ids (b .clock) (p - 1) (frameActs vs) (b .streams) in
     let room : length s ≤ 64 = rw (held-ids s, same) (h .1 .2) in
     let e = ap (λ (a : Answer). a .bridge) (received-all b p pdu vs (h .0 .1) (h .1 .1) room) in
-    let v : Valid (holding b s) = rw e at (receive-keeps b p pdu q (valid-decode t o (h .0 .0))) in
-    let table : u ≡ encode (holding b s) = call .1 ∙ ap (λ (c : Call). c .table) (receive-taken t p pdu (h .0 .0) (h .0 .1) vs (h .1 .1) room) in
-    let bridge : decode u ≡ holding b s = ap decode table ∙ decode-encode (holding b s) v in
+    let v : Valid (acted b p (frameActs vs)) = rw e at (receive-keeps b p pdu q (valid-decode t o (h .0 .0))) in
+    let table : u ≡ encode (acted b p (frameActs vs)) = call .1 ∙ ap (λ (c : Call). c .table) (receive-taken t p pdu (h .0 .0) (h .0 .1) vs (h .1 .1) room) in
+    let bridge : decode u ≡ acted b p (frameActs vs) = ap decode table ∙ decode-encode (acted b p (frameActs vs)) v in
     record {
       vectors = vs;
       read = h .1 .1;

@@ -7,12 +7,16 @@ use native.Mathlib.Omega.{arith}
 use lib.ListN.{length}
 use borrow.Author.Tests.{lt-ltb, le-ltb, le-leb, lt-leb, eq-eqb, ne-eqb}
 use Rattle.model.specs.State.{Settings, Bridge}
-use Rattle.model.specs.Registrations.{Answer, applyAll, holding, received}
+use Rattle.model.specs.Registrations.{Answer, Act, applyAll, applyOwns, holding, owning, received}
 use Rattle.model.specs.Frames.{Vector, Walk, fault, found, walk, walked, frameActs, wrongPort, reading}
 use Rattle.model.specs.Settling.{settle, advance}
 use Rattle.model.specs.Table.{formed, encode, decode}
 use Rattle.model.specs.Calls.{Call, onTable, leaves, receive, receiveOn, advanceOn}
 use Rattle.msrpdu.specs.Reader.{numberOf}
+
+-- the bridge b once the acts of a frame on port p are done
+abbrev pub acted : Bridge → ℕ → List Act → Bridge
+acted b p es = owning (holding b (applyAll (b .clock) (p - 1) es (b .streams))) (applyOwns (b .clock) (p - 1) es (b .own))
 
 -- a call's answer and the table it leaves, as a contract has them
 pub answers : (number : ℕ) (table : List ℕ) (c : Call) → c ≡ record { number = number; table = table } →
@@ -71,7 +75,7 @@ module _ (t : List ℕ) (p : ℕ) (pdu : List ℕ) where
 
         pub receive-taken : length (applyAll (decode t .clock) (p - 1) (frameActs vs) (decode t .streams)) ≤ 64 →
             receiveOn t p pdu
-            ≡ record { number = 0; table = encode (holding (decode t) (applyAll (decode t .clock) (p - 1) (frameActs vs) (decode t .streams))) }
+            ≡ record { number = 0; table = encode (acted (decode t) p (frameActs vs)) }
         unfolding receiveOn onTable leaves receive reading received walked
         receive-taken l = rw (h, w, e, le-leb _ _ l)
 

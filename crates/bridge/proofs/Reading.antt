@@ -38,12 +38,12 @@ module _ (t : List ℕ) (p place : ℕ) (buffer : List ℕ) where
       write-short l = rw (h, w, lt-ltb (length buffer) longestPdu l)
 
       module _ (l : longestPdu ≤ length buffer) where
-        pub write-above : length (declarations (p - 1) (decode t .streams)) < place → writeOn t p place buffer ≡ refusedWrite 13 buffer
+        pub write-above : length (declarations (decode t .settings) (p - 1) (decode t .streams)) < place → writeOn t p place buffer ≡ refusedWrite 13 buffer
         unfolding writeOn write writtenTo
         write-above a = rw (h, w, le-ltb (length buffer) longestPdu l, lt-ltb _ _ a)
 
-        pub write-done : place ≤ length (declarations (p - 1) (decode t .streams)) → (r : Taken) (after : List ℕ)
-            → PduWritten (drop place (declarations (p - 1) (decode t .streams))) place buffer r after
+        pub write-done : place ≤ length (declarations (decode t .settings) (p - 1) (decode t .streams)) → (r : Taken) (after : List ℕ)
+            → PduWritten (drop place (declarations (decode t .settings) (p - 1) (decode t .streams))) place buffer r after
             → Writes t p place buffer 0 (r .length) (r .next) after
         unfolding writeOn write writtenTo
         write-done a r after d = record {

@@ -1,4 +1,4 @@
--- The worked example of 01, of the code: the calls of start, receive, receive, advance, report and write, on any table of the right
+-- The worked example of 01, of the code: the calls of start, two receives of matching Domain joins, receive, receive, advance, report and write, on any table of the right
 -- length. Each premise is that call's contract (specs/Promises). What they answer is computed by the definitions and compared with
 -- what 01 prints; so a bridge that refuses all, has a single answer, does nothing, or makes up totals, lengths or places is none
 -- that meets the contracts.
@@ -52,19 +52,43 @@ port =
     0xC0 ∷ 0x2A ∷ 0x05 ∷ 0xF2 ∷ 0x00 ∷ 0x04 ∷ 0x78 ∷ 0x68 ∷ 0xC0 ∷ 0x00 ∷ 0x00 ∷ 0x00 ∷ 0x00 ∷ 0x00
     ∷ 0x00 ∷ 0x00 ∷ 0x00 ∷ 0x00 ∷ 0x00 ∷ 0x00 ∷ 0x00 ∷ 0x00 ∷ []
 
--- Bridge ID 7, "Two ports", "priorities 3 and 2, leave time 60"
+-- Bridge ID 7, "Two ports", "priorities 3 and 2, leave time 60", VLAN 2
 pub settings : List ℕ
-settings = 0x00 ∷ 0x00 ∷ 0x00 ∷ 0x00 ∷ 0x00 ∷ 0x00 ∷ 0x00 ∷ 0x07 ∷ 0x26 ∷ 0x80 ∷ 0x3C ∷ (port ++ port)
+settings = 0x00 ∷ 0x00 ∷ 0x00 ∷ 0x00 ∷ 0x00 ∷ 0x00 ∷ 0x00 ∷ 0x07 ∷ 0x26 ∷ 0x80 ∷ 0x3C ∷ 0x00 ∷ 0x02 ∷ (port ++ port)
+
+-- "matching Domain joins": {5, 2} and {6, 3}, VLAN 2
+pub matching : List ℕ
+matching = 0x00 ∷ 0x04 ∷ 0x04 ∷ 0x00 ∷ 0x09 ∷ 0x00 ∷ 0x02 ∷ 0x05 ∷ 0x02 ∷ 0x00 ∷ 0x02 ∷ 0x7E ∷ 0x00 ∷ 0x00 ∷ 0x00 ∷ 0x00 ∷ []
+
+-- the PDUs without their EndMark
+talkerMessage : List ℕ
+talkerMessage =
+    0x00 ∷ 0x01 ∷ 0x19 ∷ 0x00 ∷ 0x1E ∷ 0x00 ∷ 0x01 ∷ 0x02 ∷ 0x00 ∷ 0x00 ∷ 0x00 ∷ 0x00 ∷ 0x01 ∷ 0x00 ∷ 0x01 ∷ 0x91 ∷ 0xE0 ∷ 0xF0
+    ∷ 0x00 ∷ 0xFE ∷ 0x00 ∷ 0x00 ∷ 0x02 ∷ 0x00 ∷ 0xE0 ∷ 0x00 ∷ 0x01 ∷ 0x70 ∷ 0x00 ∷ 0x00 ∷ 0x00 ∷ 0x00 ∷ 0x6C ∷ 0x00 ∷ 0x00 ∷ []
+
+listenerMessage : List ℕ
+listenerMessage =
+    0x00 ∷ 0x03 ∷ 0x08 ∷ 0x00 ∷ 0x0E ∷ 0x00 ∷ 0x01 ∷ 0x02 ∷ 0x00 ∷ 0x00 ∷ 0x00 ∷ 0x00 ∷ 0x01 ∷ 0x00 ∷ 0x01 ∷ 0x6C ∷ 0x80
+    ∷ 0x00 ∷ 0x00 ∷ []
 
 pub talker : List ℕ
-talker =
-    0x00 ∷ 0x01 ∷ 0x19 ∷ 0x00 ∷ 0x1E ∷ 0x00 ∷ 0x01 ∷ 0x02 ∷ 0x00 ∷ 0x00 ∷ 0x00 ∷ 0x00 ∷ 0x01 ∷ 0x00 ∷ 0x01 ∷ 0x91 ∷ 0xE0 ∷ 0xF0
-    ∷ 0x00 ∷ 0xFE ∷ 0x00 ∷ 0x00 ∷ 0x02 ∷ 0x00 ∷ 0xE0 ∷ 0x00 ∷ 0x01 ∷ 0x70 ∷ 0x00 ∷ 0x00 ∷ 0x00 ∷ 0x00 ∷ 0x6C ∷ 0x00 ∷ 0x00 ∷ 0x00 ∷ 0x00 ∷ []
+talker = talkerMessage ++ (0x00 ∷ 0x00 ∷ [])
 
 pub listener : List ℕ
-listener =
-    0x00 ∷ 0x03 ∷ 0x08 ∷ 0x00 ∷ 0x0E ∷ 0x00 ∷ 0x01 ∷ 0x02 ∷ 0x00 ∷ 0x00 ∷ 0x00 ∷ 0x00 ∷ 0x01 ∷ 0x00 ∷ 0x01 ∷ 0x6C ∷ 0x80
+listener = listenerMessage ++ (0x00 ∷ 0x00 ∷ [])
+
+-- the Domain values of both classes, one per vector, and the EndMark
+domains : List ℕ
+domains =
+    0x04 ∷ 0x04 ∷ 0x00 ∷ 0x10 ∷ 0x00 ∷ 0x01 ∷ 0x05 ∷ 0x02 ∷ 0x00 ∷ 0x02 ∷ 0x6C ∷ 0x00 ∷ 0x01 ∷ 0x06 ∷ 0x03 ∷ 0x00 ∷ 0x02 ∷ 0x6C
     ∷ 0x00 ∷ 0x00 ∷ 0x00 ∷ 0x00 ∷ []
+
+-- what is written: the Message that the other port received, and the Domain values
+pub talkerOut : List ℕ
+talkerOut = talkerMessage ++ domains
+
+pub listenerOut : List ℕ
+listenerOut = listenerMessage ++ domains
 
 octets-tested : (s : List ℕ) → allTrue (map (λ (b : ℕ). ltb b 256) s) ≡ true → Octets s
 unfolding allTrue
@@ -78,8 +102,14 @@ octets-tested (b ∷ s) e =
 begun : Bridge
 begun = State.started (toSettings settings)
 
+near : Bridge
+near = Calls.receive begun 1 matching .bridge
+
+inside : Bridge
+inside = Calls.receive near 2 matching .bridge
+
 talking : Bridge
-talking = Calls.receive begun 1 talker .bridge
+talking = Calls.receive inside 1 talker .bridge
 
 heard : Bridge
 heard = Calls.receive talking 2 listener .bridge
@@ -101,14 +131,22 @@ module _ (b : Bridge) (v : Valid b) (p place : ℕ) (w : Frames.wrongPort (b .se
 
 -- to unfold this is to unfold all definitions of the bridge, and the example's own
 computing : Unit {0}
-unfolding opened port settings talker listener begun talking heard settled
+unfolding opened port settings matching talkerMessage listenerMessage talker listener domains talkerOut listenerOut begun near inside talking heard settled
 computing = tt
 
 settings-formed : settingsFormed settings ≡ true
 unfolding computing
 settings-formed = refl
 
-talker-taken : Calls.receive begun 1 talker .number ≡ 0
+near-taken : Calls.receive begun 1 matching .number ≡ 0
+unfolding computing
+near-taken = refl
+
+inside-taken : Calls.receive near 2 matching .number ≡ 0
+unfolding computing
+inside-taken = refl
+
+talker-taken : Calls.receive inside 1 talker .number ≡ 0
 unfolding computing
 talker-taken = refl
 
@@ -160,17 +198,18 @@ reports-computed : (reports.report settled 1 0 ≡ reportOne) × (reports.report
 unfolding computing shown reportOne reportTwo
 reports-computed = (refl, refl)
 
-octets-given : Octets settings × Octets talker × Octets listener
-unfolding settings port talker listener allTrue
-octets-given = (octets-tested settings refl, octets-tested talker refl, octets-tested listener refl)
+octets-given : Octets settings × Octets matching × Octets talker × Octets listener
+unfolding settings port matching talkerMessage listenerMessage talker listener allTrue
+octets-given = (octets-tested settings refl, octets-tested matching refl, octets-tested talker refl, octets-tested listener refl)
 
--- port 1 declares the Listener as port 2 received it, and port 2 the Talker as port 1 did: one declaration each, so next place 1
+-- port 1 declares the Listener as port 2 received it, and port 2 the Talker as port 1 did, and both the Domain values of two
+-- classes: three declarations each, so next place 3
 Writing : ℕ → List ℕ → Type 0
 Writing p s =
     let w = Declarations.write settled p 0 in
-    (w .number ≡ 0) × (WrittenFrames.pduOctets (w .run) ≡ s) × (w .next ≡ 1)
+    (w .number ≡ 0) × (WrittenFrames.pduOctets (w .run) ≡ s) × (w .next ≡ 3)
 
-writes-computed : Writing 1 listener × Writing 2 talker
+writes-computed : Writing 1 listenerOut × Writing 2 talkerOut
 unfolding computing Writing
 writes-computed = ((refl, refl, refl), (refl, refl, refl))
 
@@ -180,13 +219,21 @@ begun-valid : Valid begun
 unfolding begun
 begun-valid = valid-started settings (octets-given .0) settings-formed
 
+near-valid : Valid near
+unfolding near
+near-valid = receive-keeps begun 1 matching (octets-given .1) begun-valid
+
+inside-valid : Valid inside
+unfolding inside
+inside-valid = receive-keeps near 2 matching (octets-given .1) near-valid
+
 talking-valid : Valid talking
 unfolding talking
-talking-valid = receive-keeps begun 1 talker (octets-given .1) begun-valid
+talking-valid = receive-keeps inside 1 talker (octets-given .2) inside-valid
 
 heard-valid : Valid heard
 unfolding heard
-heard-valid = receive-keeps talking 2 listener (octets-given .2) talking-valid
+heard-valid = receive-keeps talking 2 listener (octets-given .3) talking-valid
 
 clock-passed : heard .clock ≤ 100
 clock-passed = omega (arith, clock-zero)
@@ -201,13 +248,9 @@ started-on t right =
     start-accepted t settings right settings-formed (octets-given .0)
     ∙ ap (λ (u : List ℕ). record { number = 0; table = u }) (sym (started-table settings (octets-given .0) settings-formed))
 
-talker-on : receiveOn (encode begun) 1 talker ≡ record { number = 0; table = encode talking }
-unfolding talking
-talker-on = receive-call begun 1 talker begun-valid ∙ ap (λ (n : ℕ). record { number = n; table = encode (Calls.receive begun 1 talker .bridge) }) talker-taken
-
-listener-on : receiveOn (encode talking) 2 listener ≡ record { number = 0; table = encode heard }
-unfolding heard
-listener-on = receive-call talking 2 listener talking-valid ∙ ap (λ (n : ℕ). record { number = n; table = encode (Calls.receive talking 2 listener .bridge) }) listener-taken
+received-on : (b : Bridge) (p : ℕ) (pdu : List ℕ) → Valid b → Calls.receive b p pdu .number ≡ 0
+    → receiveOn (encode b) p pdu ≡ record { number = 0; table = encode (Calls.receive b p pdu .bridge) }
+received-on b p pdu v e = receive-call b p pdu v ∙ ap (λ (n : ℕ). record { number = n; table = encode (Calls.receive b p pdu .bridge) }) e
 
 advanced-on : advanceOn (encode heard) 100 ≡ record { number = 0; table = encode settled }
 unfolding settled
@@ -227,10 +270,10 @@ time-refused =
 taken : (n : ℕ) (u : List ℕ) (c : Call) (m : ℕ) (v : List ℕ) → (n ≡ c .number) × (u ≡ c .table) → c ≡ record { number = m; table = v } → (n ≡ m) × (u ≡ v)
 taken n u c m v h e = (h .0 ∙ ap (λ (a : Call). a .number) e, h .1 ∙ ap (λ (a : Call). a .table) e)
 
--- a write of port p that leaves the PDU s, its one declaration
+-- a write of port p that leaves the PDU s, of all its declarations
 abbrev pub Leaves : ℕ → List ℕ → List ℕ → Type 0
 Leaves p u s = (buffer : List ℕ) (n long next : ℕ) (after : List ℕ) → longestPdu ≤ length buffer → Writes u p 0 buffer n long next after →
-    (n ≡ 0) × (long ≡ length s) × (next ≡ 1) × (take long after ≡ s)
+    (n ≡ 0) × (long ≡ length s) × (next ≡ 3) × (take long after ≡ s)
 
 written-on : (p : ℕ) (s : List ℕ) → Frames.wrongPort (settled .settings) p ≡ false → Writing p s → Leaves p (encode settled) s
 unfolding Writing writtenTo
@@ -243,41 +286,53 @@ written-on p s right w buffer n long next after enough call =
 -- Any table of the right length; the calls of the worked example, one after another.
 module _ (t : List ℕ) (right : length t ≡ tableLength)
     (n₀ : ℕ) (u₀ : List ℕ) (start : Starts t settings n₀ u₀)
-    (n₁ : ℕ) (u₁ : List ℕ) (first : Receives u₀ 1 talker n₁ u₁)
-    (n₂ : ℕ) (u₂ : List ℕ) (second : Receives u₁ 2 listener n₂ u₂)
-    (n₃ : ℕ) (u₃ : List ℕ) (advance : Advances u₂ 100 n₃ u₃) where
+    (n₁ : ℕ) (u₁ : List ℕ) (first : Receives u₀ 1 matching n₁ u₁)
+    (n₂ : ℕ) (u₂ : List ℕ) (second : Receives u₁ 2 matching n₂ u₂)
+    (n₃ : ℕ) (u₃ : List ℕ) (third : Receives u₂ 1 talker n₃ u₃)
+    (n₄ : ℕ) (u₄ : List ℕ) (fourth : Receives u₃ 2 listener n₄ u₄)
+    (n₅ : ℕ) (u₅ : List ℕ) (advance : Advances u₄ 100 n₅ u₅) where
   after-start : (n₀ ≡ 0) × (u₀ ≡ encode begun)
   after-start = taken n₀ u₀ _ 0 _ start (started-on t right)
 
-  after-first : (n₁ ≡ 0) × (u₁ ≡ encode talking)
-  after-first = taken n₁ u₁ _ 0 _ (rw (after-start .1) at first) talker-on
+  after-first : (n₁ ≡ 0) × (u₁ ≡ encode near)
+  unfolding near
+  after-first = taken n₁ u₁ _ 0 _ (rw (after-start .1) at first) (received-on begun 1 matching begun-valid near-taken)
 
-  after-second : (n₂ ≡ 0) × (u₂ ≡ encode heard)
-  after-second = taken n₂ u₂ _ 0 _ (rw (after-first .1) at second) listener-on
+  after-second : (n₂ ≡ 0) × (u₂ ≡ encode inside)
+  unfolding inside
+  after-second = taken n₂ u₂ _ 0 _ (rw (after-first .1) at second) (received-on near 2 matching near-valid inside-taken)
 
-  after-advance : (n₃ ≡ 0) × (u₃ ≡ encode settled)
-  after-advance = taken n₃ u₃ _ 0 _ (rw (after-second .1) at advance) advanced-on
+  after-third : (n₃ ≡ 0) × (u₃ ≡ encode talking)
+  unfolding talking
+  after-third = taken n₃ u₃ _ 0 _ (rw (after-second .1) at third) (received-on inside 1 talker inside-valid talker-taken)
 
-  pub all-accepted : (n₀ ≡ 0) × (n₁ ≡ 0) × (n₂ ≡ 0) × (n₃ ≡ 0)
-  all-accepted = (after-start .0, after-first .0, after-second .0, after-advance .0)
+  after-fourth : (n₄ ≡ 0) × (u₄ ≡ encode heard)
+  unfolding heard
+  after-fourth = taken n₄ u₄ _ 0 _ (rw (after-third .1) at fourth) (received-on talking 2 listener talking-valid listener-taken)
+
+  after-advance : (n₅ ≡ 0) × (u₅ ≡ encode settled)
+  after-advance = taken n₅ u₅ _ 0 _ (rw (after-fourth .1) at advance) advanced-on
+
+  pub all-accepted : (n₀ ≡ 0) × (n₁ ≡ 0) × (n₂ ≡ 0) × (n₃ ≡ 0) × (n₄ ≡ 0) × (n₅ ≡ 0)
+  all-accepted = (after-start .0, after-first .0, after-second .0, after-third .0, after-fourth .0, after-advance .0)
 
   -- the sheet that 01 prints
-  pub reports-printed : (r₁ r₂ : Report) → Reports u₃ 1 0 r₁ → Reports u₃ 2 0 r₂ → (r₁ ≡ reportOne) × (r₂ ≡ reportTwo)
+  pub reports-printed : (r₁ r₂ : Report) → Reports u₅ 1 0 r₁ → Reports u₅ 2 0 r₂ → (r₁ ≡ reportOne) × (r₂ ≡ reportTwo)
   reports-printed r₁ r₂ one two = (
     one ∙ rw (after-advance .1) (report-call settled settled-valid 1 0 (ports-right .0) ∙ reports-computed .0),
     two ∙ rw (after-advance .1) (report-call settled settled-valid 2 0 (ports-right .1) ∙ reports-computed .1),
   )
 
-  -- what port 2 received goes out on port 1, and what port 1 received on port 2
-  pub listener-written : Leaves 1 u₃ listener
-  listener-written = rw (after-advance .1) (written-on 1 listener (ports-right .0) (writes-computed .0))
+  -- what port 2 received goes out on port 1, and what port 1 received on port 2, each with the Domain values behind it
+  pub listener-written : Leaves 1 u₅ listenerOut
+  listener-written = rw (after-advance .1) (written-on 1 listenerOut (ports-right .0) (writes-computed .0))
 
-  pub talker-written : Leaves 2 u₃ talker
-  talker-written = rw (after-advance .1) (written-on 2 talker (ports-right .1) (writes-computed .1))
+  pub talker-written : Leaves 2 u₅ talkerOut
+  talker-written = rw (after-advance .1) (written-on 2 talkerOut (ports-right .1) (writes-computed .1))
 
   -- a port that it has not is refused with 1, a time before its clock with 9, and the table stays
-  pub wrong-port-refused : (n : ℕ) (u : List ℕ) → Receives u₃ 3 talker n u → (n ≡ 1) × (u ≡ u₃)
+  pub wrong-port-refused : (n : ℕ) (u : List ℕ) → Receives u₅ 3 talker n u → (n ≡ 1) × (u ≡ u₅)
   wrong-port-refused n u call = rw (after-advance .1) (taken n u _ 1 _ (rw (after-advance .1) at call) port-refused)
 
-  pub early-time-refused : (n : ℕ) (u : List ℕ) → Advances u₃ 99 n u → (n ≡ 9) × (u ≡ u₃)
+  pub early-time-refused : (n : ℕ) (u : List ℕ) → Advances u₅ 99 n u → (n ≡ 9) × (u ≡ u₅)
   early-time-refused n u call = rw (after-advance .1) (taken n u _ 9 _ (rw (after-advance .1) at call) time-refused)

@@ -49,7 +49,7 @@ module _ (ws vs : List ℕ) (fit : Fit ws vs) (i at : ℕ) (place : width (take 
   times : beAt 4 (packed ws vs) (at + 1) ≡ getD vs (suc i) 0
   times = rw (time, next) at (get-field ws vs fit (suc i))
 
-  begun-numbers : (clock : ℕ) → begun at clock (packed ws vs) ≡ packed ws (pick (eqb (getD vs i 0) 0) (set (set vs i 1) (suc i) clock) vs)
+  pub begun-numbers : (clock : ℕ) → begun at clock (packed ws vs) ≡ packed ws (pick (eqb (getD vs i 0) 0) (set (set vs i 1) (suc i) clock) vs)
   unfolding begun
   begun-numbers clock = rw marks (go (eqb (getD vs i 0) 0))
     where
@@ -68,7 +68,7 @@ module _ (ws vs : List ℕ) (fit : Fit ws vs) (i at : ℕ) (place : width (take 
       go false = unfold pick in refl
 
   -- the k fields from field j on, cleared
-  lapsed-numbers : (j k leave now : ℕ) → j + k ≤ length ws → lapsed (width (take j ws)) (width (part j k ws)) at leave now (packed ws vs)
+  pub lapsed-numbers : (j k leave now : ℕ) → j + k ≤ length ws → lapsed (width (take j ws)) (width (part j k ws)) at leave now (packed ws vs)
       ≡ packed ws (pick (eqb (getD vs i 0) 0) vs (pick (leb (getD vs (suc i) 0 + leave) now) (patch j k (zeros k) vs) vs))
   unfolding lapsed
   lapsed-numbers j k leave now h = rw (marks, times) (go (eqb (getD vs i 0) 0) (leb (getD vs (suc i) 0 + leave) now))

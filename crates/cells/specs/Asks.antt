@@ -38,13 +38,6 @@ pub record VaryingGiven (s : List ℕ) (kind : ℕ) (first : List ℕ) : Type 0 
   pub octets : advertiseLength ≤ length first
   pub failure : kind ≡ 2 → failedLength ≤ length first
 
--- octets as many as a cell's, n of them from a place on, the place of a leaving's mark, and a leave time
-pub record LapseGiven (s : List ℕ) (from n mark leave : ℕ) : Type 0 where
-  pub size : length s ≡ cellSize
-  pub within : from + n ≤ cellSize
-  pub marked : mark ≤ listenerLeavesPlace
-  pub leaves : leave < priorityBUnit
-
 -- a laid-out cell, and a leave time
 pub record ExpiryGiven (s : List ℕ) (leave : ℕ) : Type 0 where
   pub laid : LaidCell s

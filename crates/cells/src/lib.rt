@@ -1,14 +1,14 @@
 // What the events of a frame and expiry do to one cell of 39 octets (docs/TABLE.md, "Cell").
 ghost use mathlib.Core.Path.{_≡_};
-ghost use Prim.Native.Nat.{ℕ, _≤_};
+ghost use Prim.Native.Nat.{ℕ, _+_, _≤_};
 ghost use lib.ListN.{length};
-ghost use Rattle.model.specs.Layout.{cellSize, listenerLeavesPlace};
+ghost use Rattle.model.specs.Layout.{cellSize, leavingSize};
 ghost use Rattle.model.specs.State.{Settings};
 ghost use Rattle.model.specs.Registrations.{quit, does, listen};
 ghost use Rattle.model.specs.Settling.{expireCell};
 ghost use Rattle.model.specs.Table.{cellOctets, toCell, toReady};
 ghost use Rattle.cells.specs.Acts.{kindAt, talkOf};
-ghost use Rattle.cells.specs.Asks.{TypeGiven, TalkerGiven, FixedGiven, VaryingGiven, LapseGiven, ExpiryGiven};
+ghost use Rattle.cells.specs.Asks.{TypeGiven, TalkerGiven, FixedGiven, VaryingGiven, ExpiryGiven};
 ghost use Rattle.cells.specs.Steps.{begun, lapsed, marked, failing, varied, fixed, same};
 use table::cell::BRIDGE_ID;
 use table::cell::CHANGED;
@@ -41,8 +41,8 @@ const FIRST_BRIDGE_ID: usize = 25;
 const FIRST_CODE: usize = 33;
 
 // Begins leaving at the clock, unless it was begun: the mark at a place, and the time behind it.
-fn begin(cell: &mut [u8], at: usize, clock: u32)
-    requires { ⌜ (length (now cell) ≡ cellSize) × (at ≤ listenerLeavesPlace) ⌝ }
+pub fn begin(cell: &mut [u8], at: usize, clock: u32)
+    requires { ⌜ at + leavingSize ≤ length (now cell) ⌝ }
     ensures { λ _. ⌜ now (cell .exit) ≡ begun at clock (now (cell .entry)) ⌝ }
 {
     if cell[at] == 0 {
@@ -157,8 +157,8 @@ pub fn join_talker(cell: &mut [u8], kind: u8, first: &[u8], n: usize)
 }
 
 // Clears n octets where the leaving with its mark at a place has lasted the leave time. The sum is of 64 bits, so that it does not wrap.
-fn lapse(cell: &mut [u8], from: usize, n: usize, mark: usize, leave: u32, time: u32)
-    requires { ⌜ LapseGiven (now cell) from n mark leave ⌝ }
+pub fn lapse(cell: &mut [u8], from: usize, n: usize, mark: usize, leave: u32, time: u32)
+    requires { ⌜ (from + n ≤ length (now cell)) × (mark + leavingSize ≤ length (now cell)) ⌝ }
     ensures { λ _. ⌜ now (cell .exit) ≡ lapsed from n mark leave time (now (cell .entry)) ⌝ }
 {
     if cell[mark] == 0 {

@@ -3,8 +3,8 @@ use Prim.Native.Nat.{ℕ, _/_, _^_, _<_}
 use native.Mathlib.Omega.{arith}
 use mathlib.Core.Path.{refl}
 use Rattle.octets.specs.Fields.{Fit}
-use Rattle.model.specs.State.{Settings, Result, Stream, Bridge, Column, none, advertise, failed, Entry, noEntry, filters, forwards, cellAt, resultAt, unsettled}
-use Rattle.model.specs.Settling.{sourceOf, fixedOf, ageOf, latencyOut, entryOf, ageKept, registered}
+use Rattle.model.specs.State.{Result, Stream, Bridge, Column, none, advertise, failed, Entry, noEntry, filters, forwards, cellAt, resultAt, unsettled}
+use Rattle.model.specs.Settling.{Scene, sceneOf, sourceOf, fixedOf, ageOf, latencyOut, entryOf, ageKept, registered}
 use Rattle.model.specs.Table.{resultNumbers, columnNumber, columnBridge, columnCode, entryNumber, declaredNumber}
 use Rattle.model.specs.Laid.{FitCell, FitResult, FitStream, FitBridge}
 use Rattle.model.proofs.Lists.{all-map, all-getD, all-tabulate}
@@ -63,32 +63,32 @@ module _ (x : Stream) (w : FitStream x) where
       let v = fixed-valid latest longest (sourceOf x) source-fits in
       record { numbers = fixed-fit (fixedOf (sourceOf x)) v; rank = v .rank }
 
-module _ (st : Settings) (named : st .bridgeId < 2 ^ 64) (now : ℕ) (soon : now < 2 ^ 32) (x : Stream) (w : FitStream x) where
-  early-column-fits : (p : ℕ) → ValidFailure (earlyColumn st p x)
+module _ (sc : Scene) (named : sc .settings .bridgeId < 2 ^ 64) (now : ℕ) (soon : now < 2 ^ 32) (x : Stream) (w : FitStream x) where
+  early-column-fits : (p : ℕ) → ValidFailure (earlyColumn sc p x)
   unfolding earlyColumn
-  early-column-fits p = steps-valid st named p x advertise (health-valid latest longest (sourceOf x) (source-fits x w)) tt
+  early-column-fits p = steps-valid sc named p x advertise (health-valid latest longest (sourceOf x) (source-fits x w)) tt
 
-  pub early-result-fits : (p : ℕ) → FitResult (earlyAt st now x p)
+  pub early-result-fits : (p : ℕ) → FitResult (earlyAt sc now x p)
   unfolding Fit resultNumbers earlyAt shownAs latencyOut declaredNumber resultAt
   early-result-fits p =
-      let c = earlyColumn st p x in
+      let c = earlyColumn sc p x in
       let e = entryOf c (registered (cellAt x p)) in
       let r = all-getD FitResult (x .results) (w .results) unsettled unsettled-fits p in
       let n = column-numbers c (early-column-fits p) in
       n .0 also latency-fits c _ (capped-fits _) also n .1 also n .2 also entry-few e
       also age-fits e _ (began-fits now (resultAt x p) soon (age-of-result (resultAt x p) r)) also omega arith also tt
 
-  pub early-fits : FitStream (early st now x)
+  pub early-fits : FitStream (early sc now x)
   unfolding Fit early
   early-fits = record {
     name = id-fits x w also settled-values x w .numbers;
     rank = settled-values x w .rank;
     eight-cells = w .eight-cells;
     cells = w .cells;
-    eight-results = length-tabulate 8 0 (earlyAt st now x);
-    results = all-tabulate FitResult 8 0 (earlyAt st now x) early-result-fits;
+    eight-results = length-tabulate 8 0 (earlyAt sc now x);
+    results = all-tabulate FitResult 8 0 (earlyAt sc now x) early-result-fits;
   }
 
 pub early-all-fits : (b : Bridge) → FitBridge b → (now : ℕ) → now < 2 ^ 32 → FitBridge (earlyAll now b)
 unfolding earlyAll early
-early-all-fits b w now soon = map-fits b w (early (b .settings) now) (early-fits (b .settings) (w .settings .bridgeId) now soon) (λ x. refl)
+early-all-fits b w now soon = map-fits b w (early (sceneOf b) now) (early-fits (sceneOf b) (w .settings .bridgeId) now soon) (λ x. refl)

@@ -8,16 +8,16 @@ use Rattle.octets.specs.Be.{beAt}
 use Rattle.octets.specs.Parts.{part, patch}
 use Rattle.octets.proofs.Frame.{part-part}
 use Rattle.model.specs.Layout.{cellPlace, cellSize, fixedPlace, fixedSize, listenerPlace, resultPlace, resultSize, settledOf}
-use Rattle.model.specs.State.{Settings, Fixed, Cell, Result, Stream, Column, cellAt, resultAt, streamAt}
-use Rattle.model.specs.Settling.{Source, source, sourceOf, fixedOf, latencyOut}
+use Rattle.model.specs.State.{Fixed, Cell, Result, Stream, Column, cellAt, resultAt, streamAt}
+use Rattle.model.specs.Settling.{Scene, sceneOf, Source, source, sourceOf, fixedOf, latencyOut}
 use Rattle.model.specs.Table.{toDeclared, toResult, resultOctets, encode, decode}
 use Rattle.model.specs.Laid.{FitStream, Laid}
 use Rattle.model.proofs.Fits.{laid-fits}
 use Rattle.table.specs.Updates.{settledAs, withStream, withResult, withSettled}
 use Rattle.table.specs.Places.{Stands, StandsOn}
 use Rattle.table.specs.Reads.{ReadsCell, fixedOctets}
-use Rattle.table.proofs.ByPlace.{stands, stands-on, stream-fits, stream-same, stream-replaced-stands, stream-replaced-at, stream-replaced-settings, stream-replaced-again, settled-as-fits, cell-at, settled-replaced, changed-result-at}
-use Rattle.table.proofs.EachStream.{partly, partly-settings, partly-stands, one-more, all-done}
+use Rattle.table.proofs.ByPlace.{stands, stands-on, stream-fits, stream-same, stream-replaced-stands, stream-replaced-at, stream-replaced-scene, stream-replaced-again, settled-as-fits, cell-at, settled-replaced, changed-result-at}
+use Rattle.table.proofs.EachStream.{partly, partly-scene, partly-stands, one-more, all-done}
 use Rattle.streams.specs.Answers.{talkerPort, sourceIn}
 use Rattle.streams.proofs.Sources.{source-at}
 use Rattle.columns.specs.Stages.{shownBy, shownAs, earlyColumn, earlyAt, early, earlyAll}
@@ -34,13 +34,13 @@ module _ {table : List ℕ} {k p : ℕ} (s : StandsOn table k p) where
   x = streamAt k (decode table)
 
   pub result-written : (now latency listener a : ℕ) (column : Column) (here y : List ℕ) → a ≡ resultPlace k p
-      → column ≡ earlyColumn (decode table .settings) p x → latency ≡ latencyOut (decode table .settings) p x
+      → column ≡ earlyColumn (sceneOf (decode table)) p x → latency ≡ latencyOut (decode table .settings) p x
       → ReadsCell here (cellAt x p) → listener ≡ beAt 1 here listenerPlace
       → y ≡ resultOctets (shownBy column latency (toDeclared listener) now (toResult (take (a + resultSize - a) (drop a table))))
       → take a table ++ (y ++ drop (a + resultSize - a) (drop a table)) ≡ encode (changedAt k (earlyOne p now) (decode table))
   unfolding earlyOne
   result-written now latency listener a column here y e f g c h q =
-      let shown : shownBy column latency (toDeclared listener) now (resultAt x p) ≡ earlyAt (decode table .settings) now x p =
+      let shown : shownBy column latency (toDeclared listener) now (resultAt x p) ≡ earlyAt (sceneOf (decode table)) now x p =
       unfold earlyAt shownAs in rw (f, g, h, ← registered-read here, c .is) in
       changed-result-at s a e (shownBy column latency (toDeclared listener) now) y q ∙ ap (λ (r : Result). encode (withResult k p r (decode table))) shown
 
@@ -69,11 +69,11 @@ module _ {table : List ℕ} {k : ℕ} (s : Stands table k) (x : Stream) (w : Fit
     is = i .is ∙ ap (λ (l : List Cell). talkerPort (source 0 l)) (sym (ap (λ (y : Stream). y .cells) (stream-replaced-at s x w same u e) ∙ cells));
   }
 
-  pub changed-again : (g : Settings → Stream → Stream) (z : Stream) → g (decode table .settings) x ≡ z
+  pub changed-again : (g : Scene → Stream → Stream) (z : Stream) → g (sceneOf (decode table)) x ≡ z
       → (y : List ℕ) → y ≡ encode (changedAt k g (decode u)) → y ≡ encode (withStream k z (decode table))
   changed-again g z n y q =
       stream-replaced-again s x w same u e z y
-      (q ∙ ap (λ (v : Stream). encode (withStream k v (decode u))) (rw (stream-replaced-settings s x w same u e, stream-replaced-at s x w same u e) n))
+      (q ∙ ap (λ (v : Stream). encode (withStream k v (decode u))) (rw (stream-replaced-scene s x w same u e, stream-replaced-at s x w same u e) n))
 
 -- The settled values taken over.
 
@@ -95,10 +95,10 @@ module _ {table : List ℕ} {k t : ℕ} (i : TalkerAt table k t) where
     settled-talker = talker-kept (stands (i .stands)) (settledAs f x₀) settled-fits refl refl u settled-there i
 
     -- and after them the places
-    pub settled-ports : (now : ℕ) (y : List ℕ) → y ≡ encode (changedAt k (earlyTo 8 now) (decode u)) → y ≡ encode (changedAt k (λ st. early st now) (decode table))
+    pub settled-ports : (now : ℕ) (y : List ℕ) → y ≡ encode (changedAt k (earlyTo 8 now) (decode u)) → y ≡ encode (changedAt k (λ sc. early sc now) (decode table))
     settled-ports now =
-        changed-again (stands (i .stands)) (settledAs f x₀) settled-fits refl refl u settled-there (earlyTo 8 now) (early (decode table .settings) now x₀)
-        (all-decided (decode table .settings) now x₀ (stream-fits (stands (i .stands)) .eight-results))
+        changed-again (stands (i .stands)) (settledAs f x₀) settled-fits refl refl u settled-there (earlyTo 8 now) (early (sceneOf (decode table)) now x₀)
+        (all-decided (sceneOf (decode table)) now x₀ (stream-fits (stands (i .stands)) .eight-results))
 
 -- The places, one after another.
 
@@ -106,15 +106,15 @@ module _ {table : List ℕ} {k t : ℕ} (i : TalkerAt table k t) (now : ℕ) (so
   pub ports-start : table ≡ encode (changedAt k (earlyTo 0 now) (decode table))
   ports-start =
       stream-same (stands (i .stands))
-      ∙ ap (λ (x : Stream). encode (withStream k x (decode table))) (sym (none-decided (decode table .settings) now (x₀ i)))
+      ∙ ap (λ (x : Stream). encode (withStream k x (decode table))) (sym (none-decided (sceneOf (decode table)) now (x₀ i)))
 
   module _ (n : ℕ) (few : n ≤ 8) (s : List ℕ) (e : s ≡ encode (changedAt k (earlyTo n now) (decode table))) where
     abbrev xₙ : Stream
-    xₙ = earlyTo n now (decode table .settings) (x₀ i)
+    xₙ = earlyTo n now (sceneOf (decode table)) (x₀ i)
 
     ports-fit-here : FitStream xₙ
     ports-fit-here =
-        decided-fits (decode table .settings) now (x₀ i) (laid-fits table (i .stands .laid) .settings .bridgeId) soon (stream-fits (stands (i .stands))) n few
+        decided-fits (sceneOf (decode table)) now (x₀ i) (laid-fits table (i .stands .laid) .settings .bridgeId) soon (stream-fits (stands (i .stands))) n few
 
     pub ports-talker : TalkerAt s k t
     unfolding earlyTo
@@ -123,17 +123,17 @@ module _ {table : List ℕ} {k t : ℕ} (i : TalkerAt table k t) (now : ℕ) (so
     pub ports-turn : n < 8 → (y : List ℕ) → y ≡ encode (changedAt k (earlyOne n now) (decode s)) → y ≡ encode (changedAt k (earlyTo (n + 1) now) (decode table))
     ports-turn h =
         changed-again (stands (i .stands)) xₙ ports-fit-here (unfold earlyTo in refl) (unfold earlyTo in refl) s e (earlyOne n now)
-        (earlyTo (n + 1) now (decode table .settings) (x₀ i))
-        (next-decided (decode table .settings) now (x₀ i) n (omega (arith, stream-fits (stands (i .stands)) .eight-results)))
+        (earlyTo (n + 1) now (sceneOf (decode table)) (x₀ i))
+        (next-decided (sceneOf (decode table)) now (x₀ i) n (omega (arith, stream-fits (stands (i .stands)) .eight-results)))
 
 -- Every stream, one after another.
 
 module _ (table : List ℕ) (l : Laid table) (now : ℕ) (soon : now < 2 ^ 32) where
   abbrev pub stage : Stream → Stream
-  stage = early (decode table .settings) now
+  stage = early (sceneOf (decode table)) now
 
   stage-fits : (x : Stream) → FitStream x → FitStream (stage x)
-  stage-fits = early-fits (decode table .settings) (laid-fits table l .settings .bridgeId) now soon
+  stage-fits = early-fits (sceneOf (decode table)) (laid-fits table l .settings .bridgeId) now soon
 
   stage-id : (x : Stream) → stage x .id ≡ x .id
   unfolding early
@@ -143,10 +143,10 @@ module _ (table : List ℕ) (l : Laid table) (now : ℕ) (soon : now < 2 ^ 32) w
     pub next-stands : k < length (decode table .streams) → Stands s k
     next-stands = partly-stands stage stage-fits stage-id table l k s e
 
-    pub next-done : (y : List ℕ) → y ≡ encode (changedAt k (λ st. early st now) (decode s)) → y ≡ encode (partly stage table (k + 1))
+    pub next-done : (y : List ℕ) → y ≡ encode (changedAt k (λ sc. early sc now) (decode s)) → y ≡ encode (partly stage table (k + 1))
     next-done y q =
         one-more stage stage-fits stage-id table l k s e y
-        (q ∙ ap (λ (st : Settings). encode (withStream k (early st now (streamAt k (decode s))) (decode s))) (partly-settings stage stage-fits stage-id table l k s e))
+        (q ∙ ap (λ (sc : Scene). encode (withStream k (early sc now (streamAt k (decode s))) (decode s))) (partly-scene stage stage-fits stage-id table l k s e))
 
     pub every-done : k ≡ length (decode table .streams) → s ≡ encode (earlyAll now (decode table))
     unfolding earlyAll

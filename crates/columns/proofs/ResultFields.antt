@@ -1,11 +1,11 @@
 -- A result's fields, written one after another over what was there.
 use mathlib.Core.Path.{_≡_, refl, sym, ap, _∙_}
-use mathlib.Core.List.{List, [], _∷_, _++_, append-assoc, append-nil}
+use mathlib.Core.List.{List, [], _∷_, _++_, append-assoc}
 use Prim.Native.Nat.{ℕ, _+_, _≤_}
 use native.Mathlib.Nat.{add-zero, add-assoc}
 use native.Mathlib.Omega.{arith}
 use lib.ListN.{length, take, drop}
-use lib.Seq.{length-take-le, drop-drop, drop-length}
+use lib.Seq.{length-take-le, drop-drop}
 use Rattle.octets.specs.Be.{be}
 use Rattle.octets.specs.Parts.{patch}
 use Rattle.octets.specs.Fields.{packed, width}
@@ -17,6 +17,7 @@ use Rattle.model.specs.State.{Column, Declared}
 use Rattle.model.specs.Settling.{entryOf, ageOf, ageKept}
 use Rattle.model.specs.Table.{resultNumbers, resultOctets, entryNumber, declaredNumber, toEntry, toResult}
 use Rattle.model.proofs.Results.{entry-back}
+use Rattle.table.proofs.Lens.{patch-whole}
 use Rattle.columns.specs.Stages.{shownBy}
 use Rattle.columns.specs.Answers.{columnWidths, columnNumbers, entryWidths, entrySize}
 
@@ -29,11 +30,6 @@ patch-next a n m x y s e h =
     ∙ ap (λ (k : ℕ). take a s ++ patch k m y (x ++ r)) (sym (add-zero n))
     ∙ ap (λ (l : List ℕ). take a s ++ l) (patch-behind x r y n 0 m e)
     ∙ unfold patch in rw (drop-drop m (a + n) s, drop-drop (n + m) a s, append-assoc, add-assoc)
-
--- all of it replaced
-patch-whole : (n : ℕ) (y s : List ℕ) → length s ≡ n → patch 0 n y s ≡ y
-unfolding patch
-patch-whole n y s e = rw (← e, drop-length s, append-nil y)
 
 -- fields put one after another, from place a on
 unfoldable pub puts : List ℕ → List ℕ → ℕ → List ℕ → List ℕ

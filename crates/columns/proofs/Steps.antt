@@ -1,4 +1,4 @@
--- Which of steps a to g is the first that applies, by the octets that the code tests.
+-- Which of steps a to g and j is the first that applies, by the octets that the code tests.
 use mathlib.Core.Path.{_≡_, refl}
 use mathlib.Core.List.{List}
 use mathlib.Core.Bool.{Bool, true, false, cond, not}
@@ -10,9 +10,9 @@ use Rattle.octets.specs.Be.{beAt}
 use Rattle.octets.specs.Fields.{fields}
 use Rattle.model.specs.Layout.{before, bridgePlace, changedPlace, codePlace, fixedPlace, fixedWidths, inPort, priorityPlace}
 use Rattle.model.specs.Lists.{isOne}
-use Rattle.model.specs.State.{Settings, sound, broken, Column, none, advertise, failed, Stream, Class, portAt, isPort, cellAt, classOf, isNoClass, supports}
+use Rattle.model.specs.State.{sound, broken, Column, none, advertise, failed, Stream, Class, portAt, isPort, cellAt, ownAt, classOf, isNoClass, supports}
 use Rattle.model.specs.Frames.{priorityOf}
-use Rattle.model.specs.Settling.{sourceOf, isTalking, healthOf, isBroken, brokenColumn, first, outcomeColumn, stepsFrom, steps}
+use Rattle.model.specs.Settling.{Scene, boundary, sourceOf, isTalking, healthOf, isBroken, brokenColumn, first, outcomeColumn, stepsFrom, steps}
 use Rattle.model.specs.Table.{toPort, toCell, registrationFrom, fixedFrom, toHealth, portFrom}
 use Rattle.model.proofs.SettingsOctets.{octet-field}
 use Rattle.streams.specs.Answers.{sourceIn}
@@ -39,25 +39,28 @@ failed-asked k b c d = go (eqb k 1)
     go true = refl
     go false = refl
 
--- The steps, from each on, every test as the code asks it: settings st, the port's octets, the cell here on the port at place p,
+-- The steps, from each on, every test as the code asks it: of a scene, the port's octets, the cell here on the port at place p,
 -- the Talker's cell said at place t.
 
 -- MaxFrameSize in a cell
 abbrev sizePlace : ℕ
 sizePlace = fixedPlace + before 2 fixedWidths
 
-module _ (st : Settings) (port here said : List ℕ) (p t : ℕ) where
+module _ (sc : Scene) (port here said : List ℕ) (p t : ℕ) where
   abbrev own : ℕ → Column
-  own = failed (st .bridgeId)
+  own = failed (sc .settings .bridgeId)
 
   abbrev pub class : Class
-  class = classOf st (beAt 1 said priorityPlace / 32)
+  class = classOf (sc .settings) (beAt 1 said priorityPlace / 32)
 
   abbrev pub from-g : Column
   from-g = cond (ltb (beAt 2 port inPort.largest) (beAt 2 said sizePlace)) (own 14) advertise
 
+  abbrev pub from-j : Column
+  from-j = cond (boundary (ownAt (sc .own) p) class) (own 8) from-g
+
   abbrev pub from-f : Column
-  from-f = cond (isNoClass class) (own 13) from-g
+  from-f = cond (isNoClass class) (own 13) from-j
 
   abbrev pub from-e : Column
   from-e = cond (isTalking (toCell here)) (own 4) from-f
@@ -75,24 +78,24 @@ module _ (st : Settings) (port here said : List ℕ) (p t : ℕ) where
   from-a = cond (eqb p t) none from-b
 
   abbrev pub decided : Column
-  decided = firstStep st p (toCell here) (sourceIn t (toCell said))
+  decided = firstStep sc p (toCell here) (sourceIn t (toCell said))
 
   -- a, no Talker port
   pub no-source : getD said 0 0 ≡ 0 → none ≡ decided
   unfolding firstStep sourceIn stepsFrom first outcomeColumn
   no-source e = rw (no-talker said e)
 
-  pub steps-asked : toPort port ≡ portAt st p → (getD said 0 0 ≡ 0 → ⊥) → decided ≡ from-a
+  pub steps-asked : toPort port ≡ portAt (sc .settings) p → (getD said 0 0 ≡ 0 → ⊥) → decided ≡ from-a
   unfolding firstStep sourceIn registrationFrom healthOf stepsFrom first outcomeColumn isOne fields fixedFrom priorityOf toPort portFrom
   steps-asked there k = rw (a-talker said k, ← there, octet-field said 0, octet-field said changedPlace, octet-field said codePlace, failed-asked)
 
 -- A place that is no port has column none; a port has what its steps give.
 
-module _ (st : Settings) (p : ℕ) (x : Stream) where
-  pub no-port : length (st .ports) ≤ p → none ≡ earlyColumn st p x
+module _ (sc : Scene) (p : ℕ) (x : Stream) where
+  pub no-port : length (sc .settings .ports) ≤ p → none ≡ earlyColumn sc p x
   unfolding earlyColumn steps first outcomeColumn isPort
-  no-port h = rw (le-ltb p (length (st .ports)) h)
+  no-port h = rw (le-ltb p (length (sc .settings .ports)) h)
 
-  pub a-port : p < length (st .ports) → firstStep st p (cellAt x p) (sourceOf x) ≡ earlyColumn st p x
+  pub a-port : p < length (sc .settings .ports) → firstStep sc p (cellAt x p) (sourceOf x) ≡ earlyColumn sc p x
   unfolding earlyColumn firstStep steps first isPort
-  a-port h = rw (lt-ltb p (length (st .ports)) h)
+  a-port h = rw (lt-ltb p (length (sc .settings .ports)) h)

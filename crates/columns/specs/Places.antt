@@ -2,12 +2,12 @@
 -- after another.
 use mathlib.Core.Path.{_≡_}
 use mathlib.Core.List.{List, _++_}
-use Prim.Native.Nat.{ℕ}
+use Prim.Native.Nat.{ℕ, _<_}
 use lib.ListN.{length, set, drop}
 use Rattle.model.specs.Layout.{cellSize}
 use Rattle.model.specs.Lists.{tabulate}
-use Rattle.model.specs.State.{Settings, Stream, Bridge, portAt}
-use Rattle.model.specs.Settling.{sourceOf}
+use Rattle.model.specs.State.{Stream, Bridge, portAt}
+use Rattle.model.specs.Settling.{Scene, sceneOf, sourceOf}
 use Rattle.model.specs.Table.{decode}
 use Rattle.model.specs.Laid.{Laid}
 use Rattle.table.specs.Updates.{resulting, streamAt, withStream}
@@ -19,6 +19,7 @@ use Rattle.columns.specs.Stages.{earlyAt}
 -- a table, the settings of its port at place p, and two cells
 pub record Asked (table port here talker : List ℕ) (p : ℕ) : Type 0 where
   pub laid : Laid table
+  pub place : p < 8
   pub settings : ReadsPort port (portAt (decode table .settings) p)
   pub here-size : length here ≡ cellSize
   pub talker-size : length talker ≡ cellSize
@@ -28,14 +29,14 @@ pub record TalkerAt (s : List ℕ) (k t : ℕ) : Type 0 where
   pub stands : StandsOn s k t
   pub is : t ≡ talkerPort (sourceOf (streamAt k (decode s)))
 
--- stream k changed by what g makes of the settings and the stream
-abbrev pub changedAt : ℕ → (Settings → Stream → Stream) → Bridge → Bridge
-changedAt k g b = withStream k (g (b .settings) (streamAt k b)) b
+-- stream k changed by what g makes of the scene and the stream
+abbrev pub changedAt : ℕ → (Scene → Stream → Stream) → Bridge → Bridge
+changedAt k g b = withStream k (g (sceneOf b) (streamAt k b)) b
 
 -- the result at place p decided
-unfoldable pub earlyOne : ℕ → ℕ → Settings → Stream → Stream
-earlyOne p now st x = resulting (λ l. set l p (earlyAt st now x p)) x
+unfoldable pub earlyOne : ℕ → ℕ → Scene → Stream → Stream
+earlyOne p now sc x = resulting (λ l. set l p (earlyAt sc now x p)) x
 
 -- the results at the first n places decided, each from what the stream was before
-unfoldable pub earlyTo : ℕ → ℕ → Settings → Stream → Stream
-earlyTo n now st x = resulting (λ l. tabulate n 0 (earlyAt st now x) ++ drop n l) x
+unfoldable pub earlyTo : ℕ → ℕ → Scene → Stream → Stream
+earlyTo n now sc x = resulting (λ l. tabulate n 0 (earlyAt sc now x) ++ drop n l) x

@@ -1,5 +1,5 @@
 -- Settling in stages, as the code takes them after removal: (1) every stream gets its settled values and, on every port, the
--- result of steps a to g, as if step h admitted it; (2) for each port and class, those that h does not admit become failed with
+-- result of steps a to g and j, as if step h admitted it; (2) for each port and class, those that h does not admit become failed with
 -- code 1; (3) the Talker port declares the merged Listener. Each stage reads what the one before left in the table.
 use mathlib.Core.List.{List, [], _∷_, map}
 use mathlib.Core.Bool.{Bool, cond, not, _&&_}
@@ -9,7 +9,7 @@ use Rattle.model.specs.Lists.{keep, tabulate}
 use Rattle.model.specs.State.{Settings, Cell, Column, advertise, failed, filters, Declared, nothing, Result, Stream, Totals, Bridge, noTotals, portAt, cellAt, resultAt, Class, noClass, classA, classB, classOf, sameClass, limit}
 use Rattle.model.specs.Registrations.{holding}
 use Rattle.model.specs.Bandwidth.{Claim, demand, rateOf, admitted, total}
-use Rattle.model.specs.Settling.{Source, sourceOf, fixedOf, isSource, registered, isReady, isAdvertise, first, outcomeColumn, stepsFrom, steps, ageOf, latencyOut, entryOf, ageKept, latencyKept, passed, mergeAll}
+use Rattle.model.specs.Settling.{Scene, sceneOf, Source, sourceOf, fixedOf, isSource, registered, isReady, isAdvertise, first, outcomeColumn, stepsFrom, steps, ageOf, latencyOut, entryOf, ageKept, latencyKept, passed, mergeAll}
 use Rattle.table.specs.Updates.{resulting}
 
 -- (1)
@@ -30,28 +30,28 @@ shownBy column latency heard now old =
 unfoldable pub shownAs : Settings → ℕ → Stream → ℕ → Column → Result
 shownAs st now x p column = shownBy column (latencyOut st p x) (registered (cellAt x p)) now (resultAt x p)
 
--- steps a to g, and Advertise where none of them applies: on a port, from its cell and the stream's source
-unfoldable pub firstStep : Settings → ℕ → Cell → Source → Column
-firstStep st p here s = first (outcomeColumn st s) (stepsFrom st p here s) advertise
+-- steps a to g and j, and Advertise where none of them applies: on a port, from its cell and the stream's source
+unfoldable pub firstStep : Scene → ℕ → Cell → Source → Column
+firstStep sc p here s = first (outcomeColumn (sc .settings) s) (stepsFrom sc p here s) advertise
 
 -- and at any place
-unfoldable pub earlyColumn : Settings → ℕ → Stream → Column
-earlyColumn st p x = first (outcomeColumn st (sourceOf x)) (steps st p x) advertise
+unfoldable pub earlyColumn : Scene → ℕ → Stream → Column
+earlyColumn sc p x = first (outcomeColumn (sc .settings) (sourceOf x)) (steps sc p x) advertise
 
-unfoldable pub earlyAt : Settings → ℕ → Stream → ℕ → Result
-earlyAt st now x p = shownAs st now x p (earlyColumn st p x)
+unfoldable pub earlyAt : Scene → ℕ → Stream → ℕ → Result
+earlyAt sc now x p = shownAs (sc .settings) now x p (earlyColumn sc p x)
 
-unfoldable pub early : Settings → ℕ → Stream → Stream
-early st now x = record {
+unfoldable pub early : Scene → ℕ → Stream → Stream
+early sc now x = record {
   id = x .id;
   settled = fixedOf (sourceOf x);
   cells = x .cells;
-  results = tabulate 8 0 (earlyAt st now x);
+  results = tabulate 8 0 (earlyAt sc now x);
 }
 
 -- the whole of (1)
 unfoldable pub earlyAll : ℕ → Bridge → Bridge
-earlyAll now b = holding b (map (early (b .settings) now) (b .streams))
+earlyAll now b = holding b (map (early (sceneOf b) now) (b .streams))
 
 -- (2), on the port at place p, in class c
 
@@ -113,6 +113,7 @@ admission p c b =
       settings = st;
       clock = b .clock;
       totals = set (b .totals) p (withTotal c (total l cs) (getD (b .totals) p noTotals));
+      own = b .own;
       streams = map (admit st p c l cs) (b .streams);
     }
 

@@ -1,4 +1,4 @@
-// Stage 1 of settling: steps a to g, and what a stream shows on a port before bandwidth is shared.
+// Stage 1 of settling: steps a to g and j, and what a stream shows on a port before bandwidth is shared.
 ghost use mathlib.Core.Path.{_≡_};
 ghost use mathlib.Core.List.{[], _∷_};
 ghost use Prim.Native.Nat.{_<_, _^_};
@@ -7,12 +7,12 @@ ghost use Rattle.octets.specs.Fields.{packed};
 ghost use Rattle.octets.specs.Parts.{patch};
 ghost use Rattle.model.specs.Layout.{entryPlace, portSize, resultSize};
 ghost use Rattle.model.specs.State as state;
-ghost use Rattle.model.specs.State.{isNoClass, classLatency, cellAt, failed};
-ghost use Rattle.model.specs.Settling.{fixedOf, ageOf, latencyOut, entryOf, ageKept};
+ghost use Rattle.model.specs.State.{isNoClass, classLatency, cellAt, ownAt, failed};
+ghost use Rattle.model.specs.Settling.{sceneOf, boundary, fixedOf, ageOf, latencyOut, entryOf, ageKept};
 ghost use Rattle.model.specs.Table.{toPort, toCell, toResult, toEntry, toDeclared, entryNumber, resultOctets, encode, decode};
 ghost use Rattle.model.specs.Laid.{Laid};
 ghost use Rattle.table.specs.Updates.{streamAt, withSettled};
-ghost use Rattle.table.specs.Places.{Stands, StandsOn};
+ghost use Rattle.table.specs.Places.{Stands, PortIn, StandsOn};
 ghost use Rattle.streams.specs.Answers.{classShown, sourceIn};
 ghost use Rattle.columns.specs.Stages.{shownBy, firstStep, earlyColumn, early, earlyAll};
 ghost use Rattle.columns.specs.Answers.{columnShown, columnWidths, columnNumbers, entryWidths, entrySize};
@@ -48,7 +48,7 @@ fn no_class(class: ClassRead) -> bool
 }
 
 // Whether a port supports a class; a priority that is no class is not one that it fails to support.
-fn supports(port: &[u8], class: ClassRead) -> bool
+pub fn supports(port: &[u8], class: ClassRead) -> bool
     requires { ⌜ length (now port) ≡ portSize ⌝ }
     ensures { λ r. ⌜ r ≡ state.supports (toPort (now (port .entry))) (classShown class) ⌝ }
 {
@@ -60,11 +60,24 @@ fn supports(port: &[u8], class: ClassRead) -> bool
     }
 }
 
-// Steps a to g on the port at place p, whose cell is here, for the Talker's cell said at place t: the first that applies,
+// Whether the port at place p is at the edge of a class's domain.
+fn at_edge(table: &[u8], p: usize, class: ClassRead) -> bool
+    requires { ⌜ PortIn (now table) p ⌝ }
+    ensures { λ r. ⌜ r ≡ boundary (ownAt (decode (now (table .entry)) .own) p) (classShown class) ⌝ }
+{
+    let own = table::own_at(table, p);
+    match class {
+        ClassRead::NoClass => false,
+        ClassRead::A => own[table::BOUNDARY] == 1,
+        ClassRead::B => own[table::BOUNDARY_B] == 1,
+    }
+}
+
+// Steps a to g and j on the port at place p, whose cell is here, for the Talker's cell said at place t: the first that applies,
 // Advertise where none does.
 fn first_step(table: &[u8], port: &[u8], here: &[u8], said: &[u8], p: usize, t: usize) -> ColumnRead
     requires { ⌜ Asked (now table) (now port) (now here) (now said) p ⌝ }
-    ensures { λ r. ⌜ columnShown r ≡ firstStep (decode (now (table .entry)) .settings) p (toCell (now (here .entry)))
+    ensures { λ r. ⌜ columnShown r ≡ firstStep (sceneOf (decode (now (table .entry)))) p (toCell (now (here .entry)))
         (sourceIn t (toCell (now (said .entry)))) ⌝ }
 {
     let kind = said[cell::TALKER];
@@ -91,6 +104,9 @@ fn first_step(table: &[u8], port: &[u8], here: &[u8], said: &[u8], p: usize, t: 
     if no_class(class) {
         return own(table, 13);
     }
+    if at_edge(table, p, class) {
+        return own(table, 8);
+    }
     if octets::get(port, port::LARGEST, 2) < octets::get(said, cell::FRAME_SIZE, 2) {
         return own(table, 14);
     }
@@ -100,7 +116,7 @@ fn first_step(table: &[u8], port: &[u8], here: &[u8], said: &[u8], p: usize, t: 
 // The column of stream k on the port at place p before bandwidth is shared, where t is its Talker's place.
 fn early_column(table: &[u8], k: usize, p: usize, t: usize) -> ColumnRead
     requires { ⌜ TalkerAt (now table) k t × (p < 8) ⌝ }
-    ensures { λ r. ⌜ columnShown r ≡ earlyColumn (decode (now (table .entry)) .settings) p (streamAt k (decode (now (table .entry)))) ⌝ }
+    ensures { λ r. ⌜ columnShown r ≡ earlyColumn (sceneOf (decode (now (table .entry)))) p (streamAt k (decode (now (table .entry)))) ⌝ }
 {
     if table::ports(table) <= p {
         return ColumnRead::None;
@@ -260,7 +276,7 @@ fn early_ports(table: &mut [u8], k: usize, t: usize, time: u32)
 // The settled values of stream k, and what it shows on every port before bandwidth is shared.
 fn early_record(table: &mut [u8], k: usize, time: u32)
     requires { ⌜ Stands (now table) k ⌝ }
-    ensures { λ _. ⌜ now (table .exit) ≡ encode (changedAt k (λ st. early st time) (decode (now (table .entry)))) ⌝ }
+    ensures { λ _. ⌜ now (table .exit) ≡ encode (changedAt k (λ sc. early sc time) (decode (now (table .entry)))) ⌝ }
 {
     let t = streams::talker_port(table, k);
     copy_fixed(table, k, t);

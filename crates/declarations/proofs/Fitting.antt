@@ -13,11 +13,12 @@ use Rattle.octets.specs.Parts.{patch}
 use Rattle.octets.proofs.Parts.{patch-none}
 use Rattle.model.specs.FrameLayout.{longestPdu}
 use Rattle.model.specs.Lists.{All}
-use Rattle.model.specs.Registrations.{Kind, advertises, faileds, listeners, typeNumber}
-use Rattle.model.specs.Declarations.{Declaration, kindOf, vectorSize, noMessage, message, opening, fitting}
+use Rattle.model.specs.Registrations.{advertises, faileds, listeners}
+use Rattle.model.specs.Frames.{Attribute, registers, domain, typeNumber}
+use Rattle.model.specs.Declarations.{Declaration, attributeOf, vectorSize, noMessage, message, opening, fitting}
 use Rattle.model.specs.WrittenFrames.{messageOctets}
 use Rattle.model.proofs.Lists.{all-map, all-append, all-take, all-drop}
-use Rattle.model.proofs.WritingPasses.{OfKind, same-kind, other-kind, messageSize, length-message}
+use Rattle.model.proofs.WritingPasses.{OfAttribute, same-attribute, other-attribute, messageSize, length-message}
 use Rattle.declarations.specs.declared.Progress.{Progress}
 use Rattle.declarations.specs.Passes.{fits, taken, passed, written}
 
@@ -78,26 +79,27 @@ module _ (used size : ℕ) where
 
 -- Declarations of one type, before those of later types.
 
-abbrev pub After : Kind → Declaration → Type 0
-After k d = typeNumber k < typeNumber (kindOf d)
+abbrev pub After : Attribute → Declaration → Type 0
+After k d = typeNumber k < typeNumber (attributeOf d)
 
 -- a declaration that opens its Message
-fitting-opens : (used : ℕ) (d : Declaration) (l : List Declaration) → fitting used noMessage (d ∷ l) ≡ fitting (used + 6) (message (kindOf d)) (d ∷ l)
+fitting-opens : (used : ℕ) (d : Declaration) (l : List Declaration) → fitting used noMessage (d ∷ l) ≡ fitting (used + 6) (message (attributeOf d)) (d ∷ l)
 unfolding fitting opening
-fitting-opens used d l = rw (same-kind (kindOf d), add-zero (used + 6))
+fitting-opens used d l = rw (same-attribute (attributeOf d), add-zero (used + 6))
 
-fitting-after : (used : ℕ) (k : Kind) (m : List Declaration) → All (After k) m → fitting used (message k) m ≡ fitting used noMessage m
+fitting-after : (used : ℕ) (k : Attribute) (m : List Declaration) → All (After k) m → fitting used (message k) m ≡ fitting used noMessage m
 unfolding fitting opening
 fitting-after used k [] a = refl
-fitting-after used k (d ∷ m) a = rw (other-kind k (kindOf d) (λ e. omega (arith, a .0)))
+fitting-after used k (d ∷ m) a = rw (other-attribute k (attributeOf d) (λ e. omega (arith, a .0)))
 
-vector-some : (k : Kind) → 0 < vectorSize k
+vector-some : (k : Attribute) → 0 < vectorSize k
 unfolding vectorSize
-vector-some advertises = omega arith
-vector-some faileds = omega arith
-vector-some listeners = omega arith
+vector-some (registers advertises) = omega arith
+vector-some (registers faileds) = omega arith
+vector-some (registers listeners) = omega arith
+vector-some domain = omega arith
 
-module _ (k : Kind) (m : List Declaration) where
+module _ (k : Attribute) (m : List Declaration) where
   abbrev then : ℕ → ℕ → ℕ → ℕ
   then used n left = n + cond (ltb n left) 0 (fitting (used + n * vectorSize k) (message k) m)
 
@@ -113,12 +115,12 @@ module _ (k : Kind) (m : List Declaration) where
       go true e = rw (lt-ltb (suc n) (suc left) (omega (arith, ltb-true n left e))) (omega arith)
       go false e = rw (le-ltb (suc n) (suc left) (omega (arith, ltb-false n left e))) (omega arith)
 
-  fitting-next : (used : ℕ) (d : Declaration) (l : List Declaration) → kindOf d ≡ k
+  fitting-next : (used : ℕ) (d : Declaration) (l : List Declaration) → attributeOf d ≡ k
       → fitting used (message k) (d ∷ l) ≡ cond (ltb longestPdu (used + vectorSize k)) 0 (suc (fitting (used + vectorSize k) (message k) l))
   unfolding fitting opening
-  fitting-next used d l a = rw (a, same-kind k, add-zero used)
+  fitting-next used d l a = rw (a, same-attribute k, add-zero used)
 
-  fitting-all : (used : ℕ) (l : List Declaration) → All (OfKind k) l
+  fitting-all : (used : ℕ) (l : List Declaration) → All (OfAttribute k) l
       → fitting used (message k) (l ++ m) ≡ then used (fits used (vectorSize k) (length l)) (length l)
   fitting-all used [] a = rw (fits-none used (vectorSize k), zero-mul (vectorSize k), add-zero used) (omega arith)
   fitting-all used (d ∷ l) a = fitting-next used d (l ++ m) (a .0) ∙ go (ltb longestPdu more) refl (fitting-all more l (a .1))
@@ -142,15 +144,15 @@ drop-append n [] m = let e : n - 0 ≡ n = omega arith in rw (e, drop-nil n)
 drop-append zero (x ∷ l) m = let e : 0 - suc (length l) ≡ 0 = omega arith in rw e
 drop-append (suc n) (x ∷ l) m = let e : suc n - suc (length l) ≡ n - length l = omega arith in rw e (drop-append n l m)
 
-module _ (k : Kind) (used : ℕ) (m : List Declaration) (after : All (After k) m) where
+module _ (k : Attribute) (used : ℕ) (m : List Declaration) (after : All (After k) m) where
   -- the octets of a Message of n
-  message-size : (l : List Declaration) → All (OfKind k) l → 0 < length l → length (messageOctets k l) ≡ 6 + length l * vectorSize k
+  message-size : (l : List Declaration) → All (OfAttribute k) l → 0 < length l → length (messageOctets k l) ≡ 6 + length l * vectorSize k
   unfolding messageSize
   message-size [] a h = absurd (omega arith)
   message-size (d ∷ l) a h = length-message k (d ∷ l) a
 
   -- what is taken of declarations l of type k, of which n fit, and then of m
-  goes-on : (l : List Declaration) → All (OfKind k) l → 0 < length l → (n : ℕ) → n ≤ length l
+  goes-on : (l : List Declaration) → All (OfAttribute k) l → 0 < length l → (n : ℕ) → n ≤ length l
       → take (then k m (used + 6) n (length l)) (l ++ m)
       ≡ take n l ++ cond (ltb n (length l)) [] (runFrom (used + length (messageOctets k (take n l))) 0 m)
   unfolding runFrom
@@ -172,7 +174,7 @@ module _ (k : Kind) (used : ℕ) (m : List Declaration) (after : All (After k) m
           rw (size, all, ← fitting-after (used + 6 + n * vectorSize k) k m after)
           (ap (λ (i : ℕ). take (i + f) (l ++ m)) same ∙ take-append-add l m f)
 
-  run-all : (l : List Declaration) → All (OfKind k) l
+  run-all : (l : List Declaration) → All (OfAttribute k) l
       → let n = fits (used + 6) (vectorSize k) (length l) in
       runFrom used 0 (l ++ m) ≡ take n l ++ cond (ltb n (length l)) [] (runFrom (used + length (messageOctets k (take n l))) 0 m)
   unfolding runFrom
@@ -181,7 +183,7 @@ module _ (k : Kind) (used : ℕ) (m : List Declaration) (after : All (After k) m
       rw (fits-none (used + 6) (vectorSize k), e)
   run-all (d ∷ l) a =
       let n = fits (used + 6) (vectorSize k) (suc (length l)) in
-      let e : fitting (used + 6) (message (kindOf d)) (d ∷ (l ++ m)) ≡ then k m (used + 6) n (suc (length l)) = rw (a .0) (fitting-all k m (used + 6) (d ∷ l) a) in
+      let e : fitting (used + 6) (message (attributeOf d)) (d ∷ (l ++ m)) ≡ then k m (used + 6) n (suc (length l)) = rw (a .0) (fitting-all k m (used + 6) (d ∷ l) a) in
       ap (λ (i : ℕ). take i (d ∷ (l ++ m))) (fitting-opens used d (l ++ m) ∙ e)
       ∙ goes-on (d ∷ l) a (omega arith) n (fits-within (used + 6) (vectorSize k) (suc (length l)))
 
@@ -198,7 +200,7 @@ filled-or-not {P = P} s = go (s .full)
 unfoldable pub remaining : Progress → List Declaration → List Declaration
 remaining s l = cond (s .full) [] (runFrom (s .at + 2) (s .skip) l)
 
-module _ (k : Kind) (l m : List Declaration) (own : All (OfKind k) l) (after : All (After k) m) where
+module _ (k : Attribute) (l m : List Declaration) (own : All (OfAttribute k) l) (after : All (After k) m) where
   run-skip : (used skip : ℕ)
       → let n = fits (used + 6) (vectorSize k) (length (drop skip l)) in
       runFrom used skip (l ++ m)
@@ -206,7 +208,7 @@ module _ (k : Kind) (l m : List Declaration) (own : All (OfKind k) l) (after : A
   unfolding runFrom
   run-skip used skip =
       rw (drop-append skip l m)
-      (run-all k used (drop (skip - length l) m) (all-drop (After k) (skip - length l) m after) (drop skip l) (all-drop (OfKind k) skip l own))
+      (run-all k used (drop (skip - length l) m) (all-drop (After k) (skip - length l) m after) (drop skip l) (all-drop (OfAttribute k) skip l own))
 
   pub pass-takes : (s : Progress) → remaining s (l ++ m) ≡ taken k l s ++ remaining (passed k l s) m
   unfolding remaining taken passed
@@ -228,12 +230,12 @@ module _ (k : Kind) (l m : List Declaration) (own : All (OfKind k) l) (after : A
           (rw (e, d, u) at (run-skip (s .at + 2) (s .skip))) ∙ rw f
 
 -- what a pass took is of its type, and the octets and the place go on by it
-module _ (k : Kind) (l : List Declaration) where
-  pub taken-kind : All (OfKind k) l → (s : Progress) → All (OfKind k) (taken k l s)
+module _ (k : Attribute) (l : List Declaration) where
+  pub taken-attribute : All (OfAttribute k) l → (s : Progress) → All (OfAttribute k) (taken k l s)
   unfolding taken
-  taken-kind own s =
+  taken-attribute own s =
       let n = fits (s .at + 8) (vectorSize k) (length l - s .skip) in
-      filled-or-not s (λ e. rw e tt) (λ e. rw e (all-take (OfKind k) n (drop (s .skip) l) (all-drop (OfKind k) (s .skip) l own)))
+      filled-or-not s (λ e. rw e tt) (λ e. rw e (all-take (OfAttribute k) n (drop (s .skip) l) (all-drop (OfAttribute k) (s .skip) l own)))
 
   pub passed-at : (s : Progress) → passed k l s .at ≡ s .at + length (messageOctets k (taken k l s))
   unfolding taken passed messageOctets
@@ -247,32 +249,45 @@ none-remaining : (s : Progress) → remaining s [] ≡ []
 unfolding remaining runFrom
 none-remaining s = filled-or-not s (λ e. rw e) (λ e. rw (e, drop-nil (s .skip)) (take-nil (fitting (s .at + 2) noMessage [])))
 
--- three passes, and nothing is left
-pub three-passes : (a f l : List Declaration) → All (OfKind advertises) a → All (OfKind faileds) f → All (OfKind listeners) l → (s : Progress)
-    → let s₁ = passed advertises a s in
-    let s₂ = passed faileds f s₁ in
-    remaining s (a ++ (f ++ l)) ≡ taken advertises a s ++ (taken faileds f s₁ ++ taken listeners l s₂)
-unfolding typeNumber
-three-passes a f l pa pf pl s =
-    let s₁ = passed advertises a s in
-    let s₂ = passed faileds f s₁ in
-    let s₃ = passed listeners l s₂ in
-    let third : remaining s₂ l ≡ taken listeners l s₂ =
-    ap (remaining s₂) (sym (append-nil l)) ∙ pass-takes listeners l [] pl tt s₂ ∙ ap (λ (m : List Declaration). taken listeners l s₂ ++ m) (none-remaining s₃) ∙ append-nil (taken listeners l s₂) in
-    pass-takes advertises a (f ++ l) pa (all-append (After advertises) f l (later advertises faileds f pf (omega arith)) (later advertises listeners l pl (omega arith))) s
-    ∙ ap (λ (m : List Declaration). taken advertises a s ++ m)
-    (pass-takes faileds f l pf (later faileds listeners l pl (omega arith)) s₁ ∙ ap (λ (m : List Declaration). taken faileds f s₁ ++ m) third)
-  where
-    later : (j k : Kind) (m : List Declaration) → All (OfKind k) m → typeNumber j < typeNumber k → All (After j) m
-    later j k m q h = all-map (OfKind k) (After j) (λ d e. rw e h) m q
+-- Passes of types one after the other: of those of each, what they take, and how far the PDU then is.
+module _ (of : Attribute → List Declaration) (own : (k : Attribute) → All (OfAttribute k) (of k)) where
+  unfoldable pub each : List Attribute → List Declaration
+  each [] = []
+  each (k ∷ ks) = of k ++ each ks
 
-message-of-some : (k : Kind) (n : ℕ) → (n ≡ 0 → ⊥) → messageSize k n ≡ 6 + n * vectorSize k
+  unfoldable pub takenAll : List Attribute → Progress → List Declaration
+  takenAll [] s = []
+  takenAll (k ∷ ks) s = taken k (of k) s ++ takenAll ks (passed k (of k) s)
+
+  abbrev Later : Attribute → List Attribute → Type 0
+  Later k ks = All (λ j. typeNumber k < typeNumber j) ks
+
+  -- each type is later than those before it
+  abbrev pub Ordered : List Attribute → Type 0
+  Ordered [] = Unit {0}
+  Ordered (k ∷ ks) = Later k ks × Ordered ks
+
+  each-after : (k : Attribute) (ks : List Attribute) → Later k ks → All (After k) (each ks)
+  unfolding each
+  each-after k [] a = tt
+  each-after k (j ∷ ks) a =
+      all-append (After k) (of j) (each ks) (all-map (OfAttribute j) (After k) (λ d e. rw e (a .0)) (of j) (own j)) (each-after k ks (a .1))
+
+  -- the passes take all that a PDU still takes
+  pub passes-take : (ks : List Attribute) → Ordered ks → (s : Progress) → remaining s (each ks) ≡ takenAll ks s
+  unfolding each takenAll
+  passes-take [] o s = none-remaining s
+  passes-take (k ∷ ks) o s =
+      pass-takes k (of k) (each ks) (own k) (each-after k ks (o .0)) s
+      ∙ ap (λ (m : List Declaration). taken k (of k) s ++ m) (passes-take ks (o .1) (passed k (of k) s))
+
+message-of-some : (k : Attribute) (n : ℕ) → (n ≡ 0 → ⊥) → messageSize k n ≡ 6 + n * vectorSize k
 unfolding messageSize
 message-of-some k zero h = absurd (h refl)
 message-of-some k (suc n) h = refl
 
 -- What a pass does to how far the PDU is, r, and to the buffer.
-module _ (k : Kind) (l : List Declaration) (s : Progress) (b : List ℕ) where
+module _ (k : Attribute) (l : List Declaration) (s : Progress) (b : List ℕ) where
   abbrev Does : Progress → List ℕ → Type 0
   Does r c = (r ≡ passed k l s) × (c ≡ written k l s b)
 
@@ -282,7 +297,7 @@ module _ (k : Kind) (l : List Declaration) (s : Progress) (b : List ℕ) where
   pass-full e = (rw e, rw e (sym (patch-none (s .at) b)))
 
   -- else it takes so many as fit
-  module _ (own : All (OfKind k) l) (unfilled : s .full ≡ false) (n : ℕ) (e : n ≡ fits (s .at + 8) (vectorSize k) (length l - s .skip)) where
+  module _ (own : All (OfAttribute k) l) (unfilled : s .full ≡ false) (n : ℕ) (e : n ≡ fits (s .at + 8) (vectorSize k) (length l - s .skip)) where
     taken-is : taken k l s ≡ take n (drop (s .skip) l)
     unfolding taken
     taken-is = rw (unfilled, ← e)
@@ -292,14 +307,14 @@ module _ (k : Kind) (l : List Declaration) (s : Progress) (b : List ℕ) where
 
     message-length : length (messageOctets k (take n (drop (s .skip) l))) ≡ messageSize k n
     message-length =
-        length-message k (take n (drop (s .skip) l)) (all-take (OfKind k) n (drop (s .skip) l) (all-drop (OfKind k) (s .skip) l own)) ∙ ap (messageSize k) taken-length
+        length-message k (take n (drop (s .skip) l)) (all-take (OfAttribute k) n (drop (s .skip) l) (all-drop (OfAttribute k) (s .skip) l own)) ∙ ap (messageSize k) taken-length
 
     does : Does record { at = s .at + messageSize k n; skip = s .skip - length l; next = s .next + n; full = ltb n (length l - s .skip) }
         (patch (s .at) (messageSize k n) (messageOctets k (take n (drop (s .skip) l))) b)
     unfolding passed written
     does = (rw (taken-is, taken-length, message-length, unfilled), rw (taken-is, message-length))
 
-  module _ (own : All (OfKind k) l) (unfilled : s .full ≡ false) where
+  module _ (own : All (OfAttribute k) l) (unfilled : s .full ≡ false) where
     -- all are passed over
     pub pass-over : (found : ℕ) → found ≡ length l → found ≤ s .skip → Does record { at = s .at; skip = s .skip - found; next = s .next; full = false } b
     unfolding messageSize messageOctets

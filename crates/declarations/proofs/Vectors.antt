@@ -1,40 +1,27 @@
 -- The octets of a declaration's vector are those that its stream and its result there hold: StreamID and settled values, and of the
 -- result latency, Bridge ID and code.
-use Prim.Native.Nat.{ℕ, _+_, _*_, _≤_}
+use Prim.Native.Nat.{ℕ, zero, suc, _+_, _*_, _≤_, _<_}
 use native.Mathlib.Omega.{arith}
-use mathlib.Core.Path.{_≡_, refl, sym, ap, _∙_}
-use mathlib.Core.Bool.{true, not}
+use mathlib.Core.Path.{_≡_, refl, sym, _∙_}
+use mathlib.Core.Bool.{Bool, true, false}
 use mathlib.Core.List.{List, [], _∷_, _++_, append-nil, append-assoc}
 use lib.ListN.{getD, take}
-use lib.Dec.{eqb}
 use Rattle.octets.specs.Parts.{part}
 use Rattle.octets.specs.Fields.{packed, width, flat}
 use Rattle.octets.proofs.Fields.{packed-append, part-run}
 use Rattle.model.specs.Layout.{sum, before, declaredPlace, fixedWidths, latencyOutPlace, resultWidths, varyingWidths}
-use Rattle.model.specs.Lists.{bit}
-use Rattle.model.specs.State.{Health, sound, broken, Column, none, advertise, failed, Declared, nothing, tells, Result, Stream, resultAt}
+use Rattle.model.specs.Lists.{keep, bit}
+use Rattle.model.specs.State.{Health, sound, broken, Column, none, advertise, failed, Declared, nothing, tells, Result, Stream, Port, Settings, resultAt, Class, supports, classId}
 use Rattle.model.specs.Registrations.{advertises, faileds, listeners}
 use Rattle.model.specs.Frames.{registers, firstWidths}
 use Rattle.model.specs.WrittenFrames.{fixedNumbers, failureNumbers, firstNumbers, fourOctets, declarationVector, vectorOctets}
-use Rattle.model.specs.Declarations.{talkerDeclaration, healthKind, kindOf, advertised, failing, listening, declarationsOf}
+use Rattle.model.specs.Declarations.{talkerDeclaration, healthKind, attributeOf, advertised, failing, listening, declarationsOf, domainOf}
 use Rattle.model.specs.Table.{columnBridge, columnCode, declaredNumber, resultNumbers, resultOctets}
 use Rattle.model.proofs.Results.{declared-few}
 use Rattle.table.specs.Reads.{fixedOctets, ReadsResult}
-use Rattle.table.proofs.ReadOctets.{column-octet, declared-octet}
-use Rattle.declarations.specs.Vectors.{some, headed, talkerBegun, talkerVector, listenerVector}
-use Rattle.declarations.specs.Passes.{declares, vectors}
-use Rattle.declarations.proofs.Declared.{some-advertise, some-failed, some-listener}
-
--- Whether a stream declares a type, by its result's octets.
-module _ {s : List ℕ} (x : Stream) (p : ℕ) (w : ReadsResult s (resultAt x p)) where
-  pub advertise-seen : eqb (getD s 0 0) 1 ≡ some (declares advertises p x)
-  advertise-seen = ap (λ (n : ℕ). eqb n 1) (column-octet w) ∙ sym (some-advertise p x)
-
-  pub failed-seen : eqb (getD s 0 0) 2 ≡ some (declares faileds p x)
-  failed-seen = ap (λ (n : ℕ). eqb n 2) (column-octet w) ∙ sym (some-failed p x)
-
-  pub listener-seen : not (eqb (getD s declaredPlace 0) 0) ≡ some (declares listeners p x)
-  listener-seen = ap (λ (n : ℕ). not (eqb n 0)) (declared-octet w) ∙ sym (some-listener p x)
+use Rattle.table.proofs.ReadOctets.{declared-octet}
+use Rattle.declarations.specs.Vectors.{some, headed, talkerBegun, talkerVector, listenerVector, domainVector}
+use Rattle.declarations.specs.Passes.{declares, classAt, declaresClass, vectors}
 
 -- 1, 2 or 3, or 0 where none is declared
 pub declared-small : {s : List ℕ} {r : Result} → ReadsResult s r → getD s declaredPlace 0 ≤ 3
@@ -50,7 +37,7 @@ result-fields r k few = part-run resultWidths (resultNumbers r) 1 k refl few
 talker-vector : (x : Stream) (h : Health) (latency : ℕ) (ws : List ℕ) → firstWidths (registers (healthKind h)) ≡ 8 ∷ (fixedWidths ++ ws)
     → vectorOctets (declarationVector (talkerDeclaration (x .id) (x .settled) record { health = h; latency = latency }))
     ≡ (talkerBegun x ++ packed ws (latency ∷ failureNumbers h)) ++ (108 ∷ [])
-unfolding vectorOctets declarationVector fourOctets firstNumbers kindOf bit packed headed talkerBegun fixedOctets
+unfolding vectorOctets declarationVector fourOctets firstNumbers attributeOf bit packed headed talkerBegun fixedOctets
 talker-vector x h latency ws e =
     rw (e, packed-append fixedWidths ws (fixedNumbers (x .settled)) (latency ∷ failureNumbers h) (unfold fixedNumbers in refl)) (simp append-assoc)
 
@@ -70,7 +57,7 @@ failing-octets x r (failed b c) q = append-nil _ ∙ talker-vector x (broken b c
 
 listening-octets : (x : Stream) (d : Declared) → some (listening x d) ≡ true
     → vectors (listening x d) ≡ (headed (x .id) ++ (108 ∷ [])) ++ (declaredNumber d * 64 ∷ [])
-unfolding some vectors flat listening vectorOctets declarationVector firstNumbers fourOctets kindOf firstWidths packed bit declaredNumber headed
+unfolding some vectors flat listening vectorOctets declarationVector firstNumbers fourOctets attributeOf firstWidths packed bit declaredNumber headed
 listening-octets x nothing q = cc
 listening-octets x (tells r) q = simp (append-assoc, append-nil)
 
@@ -91,3 +78,19 @@ module _ (p : ℕ) (x : Stream) where
   pub listener-vector : some (declares listeners p x) ≡ true → listenerVector p x ≡ vectors (declares listeners p x)
   unfolding declares declarationsOf listenerVector
   listener-vector q = sym (listening-octets x (resultAt x p .declares) q)
+
+-- Class ID, priority and VLAN of a class.
+
+pub class-id : (k : ℕ) → k < 2 → 5 + k ≡ classId (classAt k)
+unfolding classId classAt
+class-id zero h = refl
+class-id (suc zero) h = refl
+class-id (suc (suc k)) h = absurd (omega arith)
+
+pub domain-vector : (st : Settings) (q : Port) (c : Class) → some (declaresClass st q c) ≡ true → domainVector st c ≡ vectors (declaresClass st q c)
+unfolding declaresClass domainVector vectors
+domain-vector st q c = go (supports q c)
+  where
+    go : (t : Bool) → some (keep t (domainOf st c) []) ≡ true → domainVector st c ≡ vectors (keep t (domainOf st c) [])
+    go true e = unfold flat vectorOctets declarationVector firstNumbers fourOctets attributeOf firstWidths packed bit domainOf in (simp (append-assoc, append-nil))
+    go false e = unfold some in cc

@@ -1,4 +1,4 @@
--- The walk over the streams that writes the vectors of one type: what is written, with what is left to write, is the whole.
+-- The walk over the declarers that writes the vectors of one type: what is written, with what is left to write, is the whole.
 use Prim.Native.Nat.{ℕ, suc, _+_, _-_, _*_, _≤_, _<_}
 use native.Mathlib.Nat.{suc-mul}
 use native.Mathlib.Omega.{arith}
@@ -13,24 +13,24 @@ use Rattle.octets.specs.Fields.{flat}
 use Rattle.octets.proofs.Parts.{length-patch}
 use Rattle.octets.proofs.Patches.{lent-patch}
 use Rattle.octets.proofs.Fields.{flat-append}
-use Rattle.model.specs.State.{Stream}
-use Rattle.model.specs.Registrations.{Kind}
+use Rattle.model.specs.State.{Bridge}
+use Rattle.model.specs.Frames.{Attribute}
 use Rattle.model.specs.Declarations.{Declaration}
 use Rattle.model.specs.WrittenFrames.{declarationVector, vectorOctets}
 use Rattle.declarations.specs.Vectors.{some}
-use Rattle.declarations.specs.Passes.{vectors}
-use Rattle.declarations.proofs.Declared.{here, from, no-streams, none-here, one-counted, one-passed, one-taken}
+use Rattle.declarations.specs.Passes.{declarers, vectors}
+use Rattle.declarations.proofs.Declared.{here, from, none-left, none-here, one-counted, one-passed, one-taken}
 
 vectors-append : (l m : List Declaration) → vectors (l ++ m) ≡ vectors l ++ vectors m
 unfolding vectors
 vectors-append l m = flat-append (λ d. vectorOctets (declarationVector d)) l m
 
--- vectors of a size, in a slice out: so many declarations are still to pass over and so many to write, from stream k on
-module _ (j : Kind) (p : ℕ) (s : List Stream) (size : ℕ) (whole : List Declaration) where
+-- vectors of a size, in a slice out: so many declarations are still to pass over and so many to write, from place k on
+module _ (j : Attribute) (p : ℕ) (b : Bridge) (size : ℕ) (whole : List Declaration) where
   pub record Left (out : List ℕ) (before left at k : ℕ) : Type 0 where
     pub room : at + left * size ≡ length out
-    pub enough : before + left ≤ length (from j p s k)
-    pub is : take at out ++ vectors (take left (drop before (from j p s k))) ≡ vectors whole
+    pub enough : before + left ≤ length (from j p b k)
+    pub is : take at out ++ vectors (take left (drop before (from j p b k))) ≡ vectors whole
 
   module _ {out : List ℕ} {before left at k : ℕ} (w : Left out before left at k) where
     pub left-done : left ≡ 0 → out ≡ vectors whole
@@ -39,31 +39,31 @@ module _ (j : Kind) (p : ℕ) (s : List Stream) (size : ℕ) (whole : List Decla
         let e : length out ≤ at = omega (arith, rw h at (w .room)) in
         sym (take-all at out e) ∙ sym (append-nil (take at out)) ∙ (rw h at (w .is))
 
-    -- where some are left, a stream is, and the octets of a vector
+    -- where some are left, a declarer is, and the octets of a vector
     module _ (some-left : 0 < left) where
-      pub stream-left : k < length s
-      stream-left = go (ltb k (length s)) refl
+      pub one-left : k < declarers j b
+      one-left = go (ltb k (declarers j b)) refl
         where
-          go : (b : Bool) → ltb k (length s) ≡ b → k < length s
-          go true e = ltb-true k (length s) e
-          go false e = absurd (omega (arith, w .enough, ap length (no-streams j p s k (ltb-false k (length s) e))))
+          go : (t : Bool) → ltb k (declarers j b) ≡ t → k < declarers j b
+          go true e = ltb-true k (declarers j b) e
+          go false e = absurd (omega (arith, w .enough, ap length (none-left j p b k (ltb-false k (declarers j b) e))))
 
       pub one-fits : at + size ≤ length out
       one-fits =
           let i : suc (left - 1) ≡ left = omega arith in
           omega (arith, w .room, rw i at (suc-mul (left - 1) size))
 
-      pub left-none : some (here j p s k) ≡ false → Left out before left at (k + 1)
+      pub left-none : some (here j p b k) ≡ false → Left out before left at (k + 1)
       left-none q =
-          let e = none-here j p s k stream-left q in
+          let e = none-here j p b k one-left q in
           record { room = w .room; enough = omega (arith, w .enough, ap length e); is = rw e at (w .is) }
 
-      module _ (q : some (here j p s k) ≡ true) where
+      module _ (q : some (here j p b k) ≡ true) where
         pub left-pass : 0 < before → Left out (before - 1) left at (k + 1)
         left-pass g = record {
           room = w .room;
-          enough = omega (arith, w .enough, one-counted j p s k stream-left q);
-          is = rw (one-passed j p s k stream-left q before g) at (w .is);
+          enough = omega (arith, w .enough, one-counted j p b k one-left q);
+          is = rw (one-passed j p b k one-left q before g) at (w .is);
         }
 
         -- a vector y written behind the others
@@ -71,24 +71,24 @@ module _ (j : Kind) (p : ℕ) (s : List Stream) (size : ℕ) (whole : List Decla
           pub left-long : length (take at out ++ (y ++ drop (at + size - at) (drop at out))) ≡ length out
           left-long = ap length (lent-patch at size y out) ∙ length-patch at size y out z one-fits
 
-          pub left-take : before ≡ 0 → y ≡ vectors (here j p s k)
+          pub left-take : before ≡ 0 → y ≡ vectors (here j p b k)
               → Left (take at out ++ (y ++ drop (at + size - at) (drop at out))) before (left - 1) (at + size) (k + 1)
-          left-take b v =
+          left-take none v =
               let i : suc (left - 1) ≡ left = omega arith in
               let m = rw i at (suc-mul (left - 1) size) in
               let front = take at out in
               let behind = drop (at + size - at) (drop at out) in
-              let rest = take (left - 1) (from j p s (k + 1)) in
+              let rest = take (left - 1) (from j p b (k + 1)) in
               let long : length (front ++ y) ≡ at + size = length-append front y ∙ omega (arith, length-take-le at out (omega (arith, one-fits))) in
               record {
                 room = omega (arith, left-long, w .room);
-                enough = omega (arith, w .enough, one-counted j p s k stream-left q);
-                is = rw b (
+                enough = omega (arith, w .enough, one-counted j p b k one-left q);
+                is = rw none (
                     ap (λ (u : List ℕ). u ++ vectors rest)
                     (ap (take (at + size)) (sym (append-assoc front y behind)) ∙ take-at (front ++ y) behind (at + size) long)
                     ∙ append-assoc front y (vectors rest)
                     ∙ ap (λ (u : List ℕ). front ++ (u ++ vectors rest)) v
-                    ∙ ap (λ (u : List ℕ). front ++ u) (sym (vectors-append (here j p s k) rest))
-                    ∙ ap (λ (u : List Declaration). front ++ vectors u) (sym (one-taken j p s k stream-left q left some-left))
-                    ∙ (rw b at (w .is)));
+                    ∙ ap (λ (u : List ℕ). front ++ u) (sym (vectors-append (here j p b k) rest))
+                    ∙ ap (λ (u : List Declaration). front ++ vectors u) (sym (one-taken j p b k one-left q left some-left))
+                    ∙ (rw none at (w .is)));
               }

@@ -3,7 +3,7 @@
 use Prim.Native.Nat.{ℕ, _+_, _-_, _%_, _≤_, _<_}
 use native.Mathlib.Omega.{arith}
 use mathlib.Core.Path.{_≡_, refl, sym, ap, _∙_}
-use mathlib.Core.Bool.{Bool, true, false}
+use mathlib.Core.Bool.{Bool, true, false, cond}
 use mathlib.Core.List.{List, [], _∷_, _++_, append-nil, append-assoc}
 use lib.ListN.{length, set, take, drop, length-append, drop-of-length-le}
 use lib.Seq.{take-at, drop-at, drop-drop, length-take-le}
@@ -12,16 +12,16 @@ use Rattle.octets.specs.Be.{be}
 use Rattle.octets.proofs.Patches.{lent-patch}
 use Rattle.octets.proofs.Be.{length-be, be-zero}
 use Rattle.model.specs.Lists.{All, keep}
-use Rattle.model.specs.State.{Stream}
-use Rattle.model.specs.Registrations.{Kind, advertises, faileds, listeners, typeNumber, sameKind}
-use Rattle.model.specs.Frames.{registers, firstLength}
-use Rattle.model.specs.Declarations.{Declaration, kindOf, ofKind, declarations, takes}
+use Rattle.model.specs.State.{Bridge, portAt}
+use Rattle.model.specs.Registrations.{advertises, faileds, listeners}
+use Rattle.model.specs.Frames.{Attribute, registers, domain, typeNumber, firstLength}
+use Rattle.model.specs.Declarations.{Declaration, attributeOf, sameAttribute, domainValues, declarations, takes}
 use Rattle.model.specs.WrittenFrames.{messageOf, having, messageOctets, pduOctets}
-use Rattle.model.proofs.WritingPasses.{OfKind, same-kind, other-kind, ofKind-kind, takes-within}
+use Rattle.model.proofs.WritingPasses.{inTurn, OfAttribute, ofKind-attribute, domains-attribute, takes-within}
 use Rattle.declarations.specs.declared.Progress.{Progress}
 use Rattle.declarations.specs.Vectors.{Holding}
-use Rattle.declarations.specs.Passes.{vectors, taken, passed, written, begun, PassLeaves, PduWritten}
-use Rattle.declarations.proofs.Fitting.{runFrom, remaining, taken-kind, passed-at, passed-next, three-passes}
+use Rattle.declarations.specs.Passes.{allOf, vectors, taken, passed, written, begun, PassLeaves, PduWritten}
+use Rattle.declarations.proofs.Fitting.{runFrom, remaining, taken-attribute, passed-at, passed-next, each, takenAll, passes-take}
 
 -- Octets written behind others.
 
@@ -56,7 +56,7 @@ unfolding be
 be-one x h = let e : x % 256 ≡ x = omega arith in rw e
 
 -- the parts of a Message
-pub message-is : (k : Kind) (run : List Declaration) (h n : ℕ) → 0 < length run → be 2 h ≡ typeNumber k ∷ firstLength (registers k) ∷ []
+pub message-is : (k : Attribute) (run : List Declaration) (h n : ℕ) → 0 < length run → be 2 h ≡ typeNumber k ∷ firstLength k ∷ []
     → length (vectors run) ≡ n → ((be 2 h ++ be 2 (n + 2)) ++ vectors run) ++ be 2 0 ≡ messageOctets k run
 unfolding messageOctets messageOf vectors
 message-is k [] h n some e l = absurd (omega arith)
@@ -67,49 +67,53 @@ message-is k (d ∷ run) h n some e l =
 
 -- The Messages of a PDU, type by type.
 
-having-append : (k : Kind) (l m : List Declaration) → having k (l ++ m) ≡ having k l ++ having k m
+having-append : (k : Attribute) (l m : List Declaration) → having k (l ++ m) ≡ having k l ++ having k m
 unfolding having
 having-append k [] m = refl
-having-append k (d ∷ l) m = go (sameKind (kindOf d) k) (having-append k l m)
+having-append k (d ∷ l) m = go (sameAttribute (attributeOf d) k) (having-append k l m)
   where
     go : (t : Bool) → having k (l ++ m) ≡ having k l ++ having k m → keep t d (having k (l ++ m)) ≡ keep t d (having k l) ++ having k m
     go true e = ap (λ (r : List Declaration). d ∷ r) e
     go false e = e
 
-having-own : (k : Kind) (l : List Declaration) → All (OfKind k) l → having k l ≡ l
+-- of declarations of one type, all or none are of a type
+having-all : (j k : Attribute) (t : Bool) → sameAttribute j k ≡ t → (l : List Declaration) → All (OfAttribute j) l → having k l ≡ cond t l []
 unfolding having
-having-own k [] a = refl
-having-own k (d ∷ l) a = rw (a .0, same-kind k) (ap (λ (r : List Declaration). d ∷ r) (having-own k l (a .1)))
+having-all j k true e [] a = refl
+having-all j k true e (d ∷ l) a = rw (a .0, e) (ap (λ (r : List Declaration). d ∷ r) (having-all j k true e l (a .1)))
+having-all j k false e [] a = refl
+having-all j k false e (d ∷ l) a = rw (a .0, e) (having-all j k false e l (a .1))
 
-having-other : (j k : Kind) (l : List Declaration) → All (OfKind j) l → (typeNumber j ≡ typeNumber k → ⊥) → having k l ≡ []
-unfolding having
-having-other j k [] a h = refl
-having-other j k (d ∷ l) a h = rw (a .0, other-kind j k h) (having-other j k l (a .1) h)
+module _ (of : Attribute → List Declaration) (own : (k : Attribute) → All (OfAttribute k) (of k)) where
+  having-of : (j k : Attribute) → having k (of j) ≡ cond (sameAttribute j k) (of j) []
+  having-of j k = having-all j k (sameAttribute j k) refl (of j) (own j)
 
-module _ (a f l : List Declaration) (pa : All (OfKind advertises) a) (pf : All (OfKind faileds) f) (pl : All (OfKind listeners) l) where
-  in-three : (k : Kind) → having k (a ++ (f ++ l)) ≡ having k a ++ (having k f ++ having k l)
-  in-three k = having-append k a (f ++ l) ∙ ap (λ (m : List Declaration). having k a ++ m) (having-append k f l)
-
-  pdu-of-three : pduOctets (a ++ (f ++ l))
-      ≡ 0 ∷ (messageOctets advertises a ++ (messageOctets faileds f ++ (messageOctets listeners l ++ (0 ∷ 0 ∷ []))))
-  unfolding pduOctets typeNumber
-  pdu-of-three =
+  only : (k : Attribute) → having k (inTurn of) ≡ of k
+  unfolding sameAttribute typeNumber
+  only k =
       rw (
-        in-three advertises,
-        in-three faileds,
-        in-three listeners,
-        having-own advertises a pa,
-        having-other faileds advertises f pf (λ e. omega arith),
-        having-other listeners advertises l pl (λ e. omega arith),
-        having-other advertises faileds a pa (λ e. omega arith),
-        having-own faileds f pf,
-        having-other listeners faileds l pl (λ e. omega arith),
-        having-other advertises listeners a pa (λ e. omega arith),
-        having-other faileds listeners f pf (λ e. omega arith),
-        having-own listeners l pl,
-        append-nil a,
-        append-nil f,
+        having-append k (of (registers advertises)) _,
+        having-append k (of (registers faileds)) _,
+        having-append k (of (registers listeners)) _,
+        having-of (registers advertises) k,
+        having-of (registers faileds) k,
+        having-of (registers listeners) k,
+        having-of domain k,
       )
+      (go k)
+    where
+      go : (k : Attribute) → inTurn (λ j. cond (sameAttribute j k) (of j) []) ≡ of k
+      go (registers advertises) = append-nil (of (registers advertises))
+      go (registers faileds) = append-nil (of (registers faileds))
+      go (registers listeners) = append-nil (of (registers listeners))
+      go domain = refl
+
+  pdu-of-each : pduOctets (inTurn of)
+      ≡ 0 ∷ (messageOctets (registers advertises) (of (registers advertises))
+      ++ (messageOctets (registers faileds) (of (registers faileds))
+      ++ (messageOctets (registers listeners) (of (registers listeners)) ++ (messageOctets domain (of domain) ++ (0 ∷ 0 ∷ [])))))
+  unfolding pduOctets
+  pdu-of-each = rw (only (registers advertises), only (registers faileds), only (registers listeners), only domain)
 
 -- the version octet
 holding-version : (b : List ℕ) → 1 ≤ length b → Holding (0 ∷ []) 1 b (set b 0 0)
@@ -117,101 +121,133 @@ holding-version [] h = absurd (omega arith)
 holding-version (x ∷ b) h = record { long = refl; is = refl }
 
 -- a pass
-holding-pass : (k : Kind) (l : List Declaration) (s : Progress) (w b now : List ℕ) → Holding w (s .at) b now
+holding-pass : (k : Attribute) (l : List Declaration) (s : Progress) (w b now : List ℕ) → Holding w (s .at) b now
     → Holding (w ++ messageOctets k (taken k l s)) (passed k l s .at) b (written k l s now)
 unfolding written
 holding-pass k l s w b now h =
     let m = messageOctets k (taken k l s) in
     rw (passed-at k l s) (holding-more h m (length m) refl)
 
-behind-version : (a f l e : List ℕ) → ((((0 ∷ []) ++ a) ++ f) ++ l) ++ e ≡ 0 ∷ (a ++ (f ++ (l ++ e)))
-behind-version a f l e = ap (λ (m : List ℕ). 0 ∷ m) (append-assoc (a ++ f) l e ∙ append-assoc a f (l ++ e))
+behind-version : (a f l d e : List ℕ) → (((((0 ∷ []) ++ a) ++ f) ++ l) ++ d) ++ e ≡ 0 ∷ (a ++ (f ++ (l ++ (d ++ e))))
+behind-version a f l d e = simp append-assoc
+
+-- what is declared of a type is of that type
+pub of-type : (k : Attribute) (p : ℕ) (b : Bridge) → All (OfAttribute k) (allOf k p b)
+unfolding allOf
+of-type (registers k) p b = ofKind-attribute k p (b .streams)
+of-type domain p b = domains-attribute (b .settings) (portAt (b .settings) p)
 
 -- From a place on, of the declarations of port p: how far the PDU is before each pass and at the end.
-module _ (p place : ℕ) (s : List Stream) where
-  abbrev of : Kind → List Declaration
-  of k = ofKind k p s
+module _ (p place : ℕ) (b : Bridge) where
+  abbrev of : Attribute → List Declaration
+  of k = allOf k p b
+
+  own : (k : Attribute) → All (OfAttribute k) (of k)
+  own k = of-type k p b
 
   abbrev second : Progress
-  second = passed advertises (of advertises) (begun place)
+  second = passed (registers advertises) (of (registers advertises)) (begun place)
 
   abbrev third : Progress
-  third = passed faileds (of faileds) second
+  third = passed (registers faileds) (of (registers faileds)) second
+
+  abbrev fourth : Progress
+  fourth = passed (registers listeners) (of (registers listeners)) third
 
   abbrev last : Progress
-  last = passed listeners (of listeners) third
+  last = passed domain (of domain) fourth
+
+  -- before the pass of a type, and what that pass takes
+  abbrev start : Attribute → Progress
+  start (registers advertises) = begun place
+  start (registers faileds) = second
+  start (registers listeners) = third
+  start domain = fourth
+
+  abbrev took : Attribute → List Declaration
+  took k = taken k (of k) (start k)
+
+  abbrev said : Attribute → List ℕ
+  said k = messageOctets k (took k)
 
   abbrev rest : List Declaration
-  rest = drop place (declarations p s)
+  rest = drop place (declarations (b .settings) p (b .streams))
 
   abbrev run : List Declaration
   run = take (takes rest) rest
 
-  run-passes : run ≡ taken advertises (of advertises) (begun place) ++ (taken faileds (of faileds) second ++ taken listeners (of listeners) third)
-  unfolding remaining runFrom begun takes declarations
+  abbrev types : List Attribute
+  types = registers advertises ∷ registers faileds ∷ registers listeners ∷ domain ∷ []
+
+  declared-each : each of own types ≡ declarations (b .settings) p (b .streams)
+  unfolding each allOf declarations
+  declared-each = rw (append-nil (domainValues (b .settings) (portAt (b .settings) p)))
+
+  run-passes : run ≡ inTurn took
+  unfolding remaining runFrom begun takes takenAll typeNumber
   run-passes =
-      three-passes (of advertises) (of faileds) (of listeners) (ofKind-kind advertises p s) (ofKind-kind faileds p s) (ofKind-kind listeners p s) (begun place)
+      ap (remaining (begun place)) (sym declared-each)
+      ∙ passes-take of own types ((omega arith, (omega arith, (omega arith, tt))), ((omega arith, (omega arith, tt)), ((omega arith, tt), (tt, tt)))) (begun place)
+      ∙ rw (append-nil (took domain))
 
   pub next-place : last .next ≡ place + takes rest
   next-place =
-      let a = taken advertises (of advertises) (begun place) in
-      let f = taken faileds (of faileds) second in
-      let l = taken listeners (of listeners) third in
       let e : begun place .next ≡ place = unfold begun in refl in
+      let a = took (registers advertises) in
+      let f = took (registers faileds) in
+      let l = took (registers listeners) in
+      let d = took domain in
       omega (
         arith,
         e,
-        passed-next advertises (of advertises) (begun place),
-        passed-next faileds (of faileds) second,
-        passed-next listeners (of listeners) third,
-        length-append a (f ++ l),
-        length-append f l,
+        passed-next (registers advertises) (of (registers advertises)) (begun place),
+        passed-next (registers faileds) (of (registers faileds)) second,
+        passed-next (registers listeners) (of (registers listeners)) third,
+        passed-next domain (of domain) fourth,
+        length-append a (f ++ (l ++ d)),
+        length-append f (l ++ d),
+        length-append l d,
         ap length run-passes,
         length-take-le (takes rest) rest (takes-within rest),
       )
 
-  abbrev octets : List ℕ
-  octets =
-      (((0 ∷ []) ++ messageOctets advertises (taken advertises (of advertises) (begun place)))
-      ++ messageOctets faileds (taken faileds (of faileds) second))
-      ++ messageOctets listeners (taken listeners (of listeners) third)
-
-  octets-pdu : pduOctets run ≡ octets ++ be 2 0
+  octets-pdu : pduOctets run ≡ (((((0 ∷ []) ++ said (registers advertises)) ++ said (registers faileds)) ++ said (registers listeners)) ++ said domain) ++ be 2 0
   octets-pdu =
-      let a = taken advertises (of advertises) (begun place) in
-      let f = taken faileds (of faileds) second in
-      let l = taken listeners (of listeners) third in
       ap pduOctets run-passes
-      ∙ pdu-of-three a f l (taken-kind advertises (of advertises) (ofKind-kind advertises p s) (begun place))
-      (taken-kind faileds (of faileds) (ofKind-kind faileds p s) second) (taken-kind listeners (of listeners) (ofKind-kind listeners p s) third)
-      ∙ sym (behind-version (messageOctets advertises a) (messageOctets faileds f) (messageOctets listeners l) (be 2 0) ∙ (rw (be-zero 2)))
+      ∙ pdu-of-each took (λ k. taken-attribute k (of k) (own k) (start k))
+      ∙ sym (behind-version (said (registers advertises)) (said (registers faileds)) (said (registers listeners)) (said domain) (be 2 0) ∙ (rw (be-zero 2)))
 
   -- the buffer after the passes and the EndMark
-  pub pdu-written : (b : List ℕ) → 1 ≤ length b
-      → Holding (pduOctets run) (last .at + 2) b
+  pub pdu-written : (c : List ℕ) → 1 ≤ length c
+      → Holding (pduOctets run) (last .at + 2) c
       (patch (last .at) 2 (be 2 0)
-      (written listeners (of listeners) third (written faileds (of faileds) second (written advertises (of advertises) (begun place) (set b 0 0)))))
-  pdu-written b long =
-      let b₁ = written advertises (of advertises) (begun place) (set b 0 0) in
-      let b₂ = written faileds (of faileds) second b₁ in
-      let w₁ = (0 ∷ []) ++ messageOctets advertises (taken advertises (of advertises) (begun place)) in
-      let w₂ = w₁ ++ messageOctets faileds (taken faileds (of faileds) second) in
-      let h₀ : Holding (0 ∷ []) (begun place .at) b (set b 0 0) = unfold begun in holding-version b long in
-      let h₁ = holding-pass advertises (of advertises) (begun place) (0 ∷ []) b (set b 0 0) h₀ in
-      let h₂ = holding-pass faileds (of faileds) second w₁ b b₁ h₁ in
-      let h₃ = holding-pass listeners (of listeners) third w₂ b b₂ h₂ in
-      rw octets-pdu (holding-more h₃ (be 2 0) 2 (length-be 2 0))
+      (written domain (of domain) fourth
+      (written (registers listeners) (of (registers listeners)) third
+      (written (registers faileds) (of (registers faileds)) second (written (registers advertises) (of (registers advertises)) (begun place) (set c 0 0))))))
+  pdu-written c long =
+      let h₀ : Holding (0 ∷ []) (begun place .at) c (set c 0 0) = unfold begun in holding-version c long in
+      let h₁ = holding-pass (registers advertises) (of (registers advertises)) (begun place) _ c _ h₀ in
+      let h₂ = holding-pass (registers faileds) (of (registers faileds)) second _ c _ h₁ in
+      let h₃ = holding-pass (registers listeners) (of (registers listeners)) third _ c _ h₂ in
+      let h₄ = holding-pass domain (of domain) fourth _ c _ h₃ in
+      rw octets-pdu (holding-more h₄ (be 2 0) 2 (length-be 2 0))
 
   -- as the calls of the passes give it
-  pub pdu-answer : {b b₁ b₂ b₃ b₄ : List ℕ} {r₁ r₂ r₃ : Progress} → 1 ≤ length b → PassLeaves advertises (of advertises) (begun place) (set b 0 0) r₁ b₁
-      → PassLeaves faileds (of faileds) r₁ b₁ r₂ b₂ → PassLeaves listeners (of listeners) r₂ b₂ r₃ b₃ → b₄ ≡ patch (r₃ .at) 2 (be 2 0) b₃
-      → PduWritten rest place b (record { length = r₃ .at + 2; next = r₃ .next }) b₄
-  pdu-answer {b = b} {r₃ = r₃} long a f l e =
-      let h = pdu-written b long in
-      let third-is = f .progress ∙ ap (passed faileds (of faileds)) (a .progress) in
-      let last-is : r₃ ≡ last = l .progress ∙ ap (passed listeners (of listeners)) third-is in
+  pub pdu-answer : {c c₁ c₂ c₃ c₄ c₅ : List ℕ} {r₁ r₂ r₃ r₄ : Progress} → 1 ≤ length c
+      → PassLeaves (registers advertises) (of (registers advertises)) (begun place) (set c 0 0) r₁ c₁
+      → PassLeaves (registers faileds) (of (registers faileds)) r₁ c₁ r₂ c₂
+      → PassLeaves (registers listeners) (of (registers listeners)) r₂ c₂ r₃ c₃
+      → PassLeaves domain (of domain) r₃ c₃ r₄ c₄ → c₅ ≡ patch (r₄ .at) 2 (be 2 0) c₄
+      → PduWritten rest place c (record { length = r₄ .at + 2; next = r₄ .next }) c₅
+  pdu-answer {c = c} {r₄ = r₄} long a f l d e =
+      let h = pdu-written c long in
+      let third-is = f .progress ∙ ap (passed (registers faileds) (of (registers faileds))) (a .progress) in
+      let fourth-is = l .progress ∙ ap (passed (registers listeners) (of (registers listeners))) third-is in
+      let last-is : r₄ ≡ last = d .progress ∙ ap (passed domain (of domain)) fourth-is in
       record {
         size = ap (λ (r : Progress). r .at + 2) last-is ∙ sym (h .long);
         next = ap (λ (r : Progress). r .next) last-is ∙ next-place;
-        buffer = rw (e, l .buffer, f .buffer, a .buffer, last-is, third-is, a .progress) (h .is ∙ ap (λ (n : ℕ). pduOctets run ++ drop n b) (sym (h .long)));
+        buffer =
+            rw (e, d .buffer, l .buffer, f .buffer, a .buffer, last-is, fourth-is, third-is, a .progress)
+            (h .is ∙ ap (λ (n : ℕ). pduOctets run ++ drop n c) (sym (h .long)));
       }

@@ -8,7 +8,7 @@ use Rattle.octets.specs.Be.{be}
 use Rattle.octets.specs.Parts.{part}
 use Rattle.model.specs.Layout.{latencyOutPlace, resultSize}
 use Rattle.model.specs.FrameLayout.{firstLatency}
-use Rattle.model.specs.State.{Stream, resultAt}
+use Rattle.model.specs.State.{Settings, Stream, resultAt, Class, classPriority, classId}
 use Rattle.model.specs.Table.{declaredNumber, resultOctets}
 use Rattle.table.specs.Places.{StandsOn}
 use Rattle.table.specs.Reads.{fixedOctets}
@@ -37,6 +37,10 @@ talkerVector more p x = (talkerBegun x ++ part latencyOutPlace more (resultOctet
 -- JoinMt, and the declaration type as the first of four packed events
 unfoldable pub listenerVector : ℕ → Stream → List ℕ
 listenerVector p x = (headed (x .id) ++ (108 ∷ [])) ++ (declaredNumber (resultAt x p .declares) * 64 ∷ [])
+
+-- a class's ID, priority and the VLAN of the settings behind the header, and JoinMt
+unfoldable pub domainVector : Settings → Class → List ℕ
+domainVector st c = (((be 2 1 ++ be 1 (classId c)) ++ be 1 (classPriority st c)) ++ be 2 (st .vlan)) ++ (108 ∷ [])
 
 -- room for a Talker's vector
 pub record TalkerIn (t : List ℕ) (k p more : ℕ) (out : List ℕ) : Type 0 where

@@ -1,22 +1,25 @@
 // What a port writes: its declarations by place, and the PDU that takes as many as fit from a place on. Ports p and streams k are
 // counted from 0.
 ghost use mathlib.Core.Path.{_≡_};
+ghost use mathlib.Core.Bool.{not};
 ghost use mathlib.Core.List.{[], _∷_};
-ghost use Prim.Native.Nat.{_+_, _*_, _≤_};
+ghost use Prim.Native.Nat.{_+_, _*_, _≤_, _<_};
 ghost use lib.ListN.{length, drop};
+ghost use lib.Dec.{eqb};
 ghost use Rattle.octets.specs.Be.{be};
-ghost use Rattle.model.specs.FrameLayout.{firstDestination, firstLatency, listenerLength};
-ghost use Rattle.model.specs.State.{streamAt};
-ghost use Rattle.model.specs.Frames.{registers, firstLength};
+ghost use Rattle.model.specs.FrameLayout.{domainLength, firstDestination, firstLatency, listenerLength};
+ghost use Rattle.model.specs.State as state;
+ghost use Rattle.model.specs.State.{portAt, resultAt, streamAt, classPriority};
+ghost use Rattle.model.specs.Frames.{typeNumber, firstLength};
 ghost use Rattle.model.specs.Declarations as model;
 ghost use Rattle.model.specs.Declarations.{vectorSize};
-ghost use Rattle.model.specs.Registrations.{typeNumber};
 ghost use Rattle.model.specs.WrittenFrames.{messageOctets};
-ghost use Rattle.model.specs.Table.{decode};
+ghost use Rattle.model.specs.Laid.{Laid};
+ghost use Rattle.model.specs.Table.{columnNumber, declaredNumber, decode};
 ghost use Rattle.table.specs.Places.{Stands, StandsOn, PortIn};
-ghost use Rattle.declarations.specs.Vectors.{some, Holding, headed, talkerBegun, talkerVector, listenerVector, TalkerIn};
+ghost use Rattle.declarations.specs.Vectors.{some, Holding, headed, talkerBegun, talkerVector, listenerVector, domainVector, TalkerIn};
 ghost use Rattle.declarations.specs.Passes as passes;
-ghost use Rattle.declarations.specs.Passes.{kind, vectors, found, VectorIn, RunIn, runOf, PassIn, OpenIn, PassLeaves, WriteIn, PduWritten};
+ghost use Rattle.declarations.specs.Passes.{type, classAt, declaredBy, vectors, found, Declarer, VectorIn, RunIn, runOf, PassIn, OpenIn, PassLeaves, WriteIn, PduWritten};
 use model::pdu;
 
 // The octets of an EndMark; of a Message's AttributeType, AttributeLength and list length; of all that a Message has beside its
@@ -41,12 +44,26 @@ const LATENCY: usize = table::result::BRIDGE_ID - table::result::LATENCY;
 
 const FAILURE: usize = table::result::ENTRY - table::result::BRIDGE_ID;
 
+// The octets of a Domain value's class ID, priority and VLAN.
+const CLASS_ID: usize = 1;
+
+const PRIORITY: usize = 1;
+
+const VLAN: usize = 2;
+
+// The classes, and the class ID of the lower one, class B; that of class A is the next.
+const CLASSES: usize = 2;
+
+const CLASS_B: u64 = 5;
+
 // The octets of each type's FirstValue, and of its vector of one value: an octet of packed events follows, for a Listener two.
 const ADVERTISE_LENGTH: usize = VARYING + LATENCY - FIRST;
 
 const FAILED_LENGTH: usize = ADVERTISE_LENGTH + FAILURE;
 
 const LISTENER_LENGTH: usize = SETTLED - FIRST;
+
+const DOMAIN_LENGTH: usize = CLASS_ID + PRIORITY + VLAN;
 
 const EVENTS: usize = 1;
 
@@ -56,6 +73,8 @@ const FAILED_VECTOR: usize = FIRST + FAILED_LENGTH + EVENTS;
 
 const LISTENER_VECTOR: usize = FIRST + LISTENER_LENGTH + 2 * EVENTS;
 
+const DOMAIN_VECTOR: usize = FIRST + DOMAIN_LENGTH + EVENTS;
+
 // The event JoinMt as the first of three packed events.
 const JOIN_MT: u64 = 108;
 
@@ -64,40 +83,86 @@ pub enum Attribute {
     Advertise,
     Failed,
     Listener,
+    Domain,
 }
 
 // The octets of a vector of one value.
 fn vector_size(attribute: Attribute) -> usize
-    ensures { λ r. ⌜ (r ≡ vectorSize (kind attribute)) × (1 ≤ r) ⌝ }
+    ensures { λ r. ⌜ (r ≡ vectorSize (type attribute)) × (1 ≤ r) ⌝ }
 {
     match attribute {
         Attribute::Advertise => ADVERTISE_VECTOR,
         Attribute::Failed => FAILED_VECTOR,
         Attribute::Listener => LISTENER_VECTOR,
+        Attribute::Domain => DOMAIN_VECTOR,
     }
 }
 
 // AttributeType and AttributeLength, as one number.
 fn type_and_length(attribute: Attribute) -> u64
-    ensures { λ r. ⌜ be 2 r ≡ typeNumber (kind attribute) ∷ firstLength (registers (kind attribute)) ∷ [] ⌝ }
+    ensures { λ r. ⌜ be 2 r ≡ typeNumber (type attribute) ∷ firstLength (type attribute) ∷ [] ⌝ }
 {
     match attribute {
         Attribute::Advertise => 256 + ADVERTISE_LENGTH as u64,
         Attribute::Failed => 2 * 256 + FAILED_LENGTH as u64,
         Attribute::Listener => 3 * 256 + LISTENER_LENGTH as u64,
+        Attribute::Domain => 4 * 256 + DOMAIN_LENGTH as u64,
     }
 }
 
-// Whether stream k has a declaration of a type on port p.
-fn declares(table: &[u8], k: usize, p: usize, attribute: Attribute) -> bool
+// The number of those that may declare something of a type: the streams, or for Domain the classes by ascending class ID.
+fn declarers(table: &[u8], attribute: Attribute) -> usize
+    requires { ⌜ Laid (now table) ⌝ }
+    ensures { λ r. ⌜ (r ≡ passes.declarers (type attribute) (decode (now (table .entry)))) × (r ≤ 64) ⌝ }
+{
+    match attribute {
+        Attribute::Advertise => table::count(table),
+        Attribute::Failed => table::count(table),
+        Attribute::Listener => table::count(table),
+        Attribute::Domain => CLASSES,
+    }
+}
+
+// Whether stream k has this column on port p, and whether it declares a Listener there.
+fn has_column(table: &[u8], k: usize, p: usize, column: u8) -> bool
     requires { ⌜ StandsOn (now table) k p ⌝ }
-    ensures { λ r. ⌜ r ≡ some (passes.declares (kind attribute) p (streamAt k (decode (now (table .entry))))) ⌝ }
+    ensures { λ r. ⌜ r ≡ eqb (columnNumber (resultAt (streamAt k (decode (now (table .entry)))) p .column)) column ⌝ }
 {
     let result = table::result_at(table, k, p);
+    result[table::result::COLUMN] == column
+}
+
+fn has_listener(table: &[u8], k: usize, p: usize) -> bool
+    requires { ⌜ StandsOn (now table) k p ⌝ }
+    ensures { λ r. ⌜ r ≡ not (eqb (declaredNumber (resultAt (streamAt k (decode (now (table .entry)))) p .declares)) 0) ⌝ }
+{
+    let result = table::result_at(table, k, p);
+    result[table::result::DECLARED] != 0
+}
+
+// Whether port p supports class k.
+fn supports(table: &[u8], k: usize, p: usize) -> bool
+    requires { ⌜ PortIn (now table) p × (k < 2) ⌝ }
+    ensures { λ r. ⌜ r ≡ state.supports (portAt (decode (now (table .entry)) .settings) p) (classAt k) ⌝ }
+{
+    let port = table::port_at(table, p);
+    let flags = octets::get(port, table::port::FLAGS, 1);
+    if k == 0 {
+        return flags / 64 % 2 == 1;
+    }
+    flags / 128 == 1
+}
+
+// Whether the declarer at place k has a declaration of a type on port p.
+fn declares(table: &[u8], k: usize, p: usize, attribute: Attribute) -> bool
+    requires { ⌜ Declarer (now table) k p (type attribute) ⌝ }
+    ensures { λ r. ⌜ r ≡ some (declaredBy (type attribute) p (decode (now (table .entry))) k) ⌝ }
+{
     match attribute {
-        Attribute::Advertise => result[table::result::COLUMN] == 1,
-        Attribute::Failed => result[table::result::COLUMN] == 2,
-        Attribute::Listener => result[table::result::DECLARED] != 0,
+        Attribute::Advertise => has_column(table, k, p, 1),
+        Attribute::Failed => has_column(table, k, p, 2),
+        Attribute::Listener => has_listener(table, k, p),
+        Attribute::Domain => supports(table, k, p),
     }
 }
 
@@ -106,7 +171,7 @@ fn count_of(table: &[u8], p: usize, attribute: Attribute) -> usize
     requires { ⌜ PortIn (now table) p ⌝ }
     ensures { λ r. ⌜ (r ≡ length (found attribute p (now (table .entry)))) × (r ≤ 64) ⌝ }
 {
-    let count = table::count(table);
+    let count = declarers(table, attribute);
     let mut n: usize = 0;
     let mut k: usize = 0;
     while k < count {
@@ -123,12 +188,13 @@ fn count_of(table: &[u8], p: usize, attribute: Attribute) -> usize
 // The number of declarations of port p.
 pub fn count_declarations(table: &[u8], p: usize) -> usize
     requires { ⌜ PortIn (now table) p ⌝ }
-    ensures { λ r. ⌜ (r ≡ length (model.declarations p (decode (now (table .entry)) .streams))) × (r ≤ 192) ⌝ }
+    ensures { λ r. ⌜ (r ≡ length (model.declarations (decode (now (table .entry)) .settings) p (decode (now (table .entry)) .streams))) × (r ≤ 256) ⌝ }
 {
     let advertise = count_of(table, p, Attribute::Advertise);
     let failed = count_of(table, p, Attribute::Failed);
     let listener = count_of(table, p, Attribute::Listener);
-    advertise + failed + listener
+    let domain = count_of(table, p, Attribute::Domain);
+    advertise + failed + listener + domain
 }
 
 // The header of a vector, one value and no LeaveAll, and a StreamID.
@@ -174,15 +240,44 @@ fn write_listener(table: &[u8], k: usize, p: usize, out: &mut [u8])
     octets::put(out, SETTLED + EVENTS, EVENTS, (declared as u64) * 64);
 }
 
-// The vector of the stream's declaration of a type.
+// The priority of class k.
+fn class_priority(table: &[u8], k: usize) -> u64
+    requires { ⌜ Laid (now table) × (k < 2) ⌝ }
+    ensures { λ r. ⌜ r ≡ classPriority (decode (now (table .entry)) .settings) (classAt k) ⌝ }
+{
+    if k == 0 {
+        return table::priority_b(table);
+    }
+    table::priority_a(table)
+}
+
+// The vector of class k's Domain value: class ID, priority, VLAN.
+fn write_domain(table: &[u8], k: usize, out: &mut [u8])
+    requires { ⌜ Laid (now table) × (k < 2) × (length (now out) ≡ 2 + domainLength + 1) ⌝ }
+    ensures { λ _. ⌜ now (out .exit) ≡ domainVector (decode (now (table .entry)) .settings) (classAt k) ⌝ }
+{
+    octets::put(out, 0, FIRST, 1);
+    octets::put(out, FIRST, CLASS_ID, CLASS_B + k as u64);
+    octets::put(out, FIRST + CLASS_ID, PRIORITY, class_priority(table, k));
+    octets::put(
+        out,
+        FIRST + CLASS_ID + PRIORITY,
+        VLAN,
+        table::domain_vlan(table),
+    );
+    octets::put(out, FIRST + DOMAIN_LENGTH, EVENTS, JOIN_MT);
+}
+
+// The vector of the declaration of a type that the declarer at place k has.
 fn write_vector(table: &[u8], k: usize, p: usize, attribute: Attribute, out: &mut [u8])
-    requires { ⌜ VectorIn (now table) k p (kind attribute) (now out) ⌝ }
-    ensures { λ _. ⌜ now (out .exit) ≡ vectors (passes.declares (kind attribute) p (streamAt k (decode (now (table .entry))))) ⌝ }
+    requires { ⌜ VectorIn (now table) k p (type attribute) (now out) ⌝ }
+    ensures { λ _. ⌜ now (out .exit) ≡ vectors (declaredBy (type attribute) p (decode (now (table .entry))) k) ⌝ }
 {
     match attribute {
         Attribute::Advertise => write_talker(table, k, p, LATENCY, out),
         Attribute::Failed => write_talker(table, k, p, LATENCY + FAILURE, out),
         Attribute::Listener => write_listener(table, k, p, out),
+        Attribute::Domain => write_domain(table, k, out),
     }
 }
 
@@ -195,7 +290,7 @@ pub struct Run {
 
 // The vectors of a run.
 fn write_vectors(table: &[u8], p: usize, run: Run, out: &mut [u8])
-    requires { ⌜ RunIn (now table) p run × (length (now out) ≡ run .count * vectorSize (kind (run .attribute))) ⌝ }
+    requires { ⌜ RunIn (now table) p run × (length (now out) ≡ run .count * vectorSize (type (run .attribute))) ⌝ }
     ensures { λ _. ⌜ now (out .exit) ≡ vectors (runOf (now (table .entry)) p run) ⌝ }
 {
     let attribute = run.attribute;
@@ -222,8 +317,8 @@ fn write_vectors(table: &[u8], p: usize, run: Run, out: &mut [u8])
 
 // The Message of a run: header, vectors, and the list's EndMark.
 fn write_message(table: &[u8], p: usize, run: Run, out: &mut [u8])
-    requires { ⌜ RunIn (now table) p run × (length (now out) ≡ 6 + run .count * vectorSize (kind (run .attribute))) ⌝ }
-    ensures { λ _. ⌜ now (out .exit) ≡ messageOctets (kind (run .attribute)) (runOf (now (table .entry)) p run) ⌝ }
+    requires { ⌜ RunIn (now table) p run × (length (now out) ≡ 6 + run .count * vectorSize (type (run .attribute))) ⌝ }
+    ensures { λ _. ⌜ now (out .exit) ≡ messageOctets (type (run .attribute)) (runOf (now (table .entry)) p run) ⌝ }
 {
     let attribute = run.attribute;
     let list = out.len() - AROUND;
@@ -266,7 +361,7 @@ fn take_run(
     buffer: &mut [u8],
 ) -> Progress
     requires { ⌜ OpenIn (now table) p attribute left from (now buffer) ⌝ }
-    ensures { λ r. ⌜ PassLeaves (kind attribute) (found attribute p (now (table .entry))) from (now (buffer .entry)) r (now (buffer .exit)) ⌝ }
+    ensures { λ r. ⌜ PassLeaves (type attribute) (found attribute p (now (table .entry))) from (now (buffer .entry)) r (now (buffer .exit)) ⌝ }
 {
     let at = from.at;
     let next = from.next;
@@ -298,7 +393,7 @@ fn take_run(
 // The pass of a type.
 fn pass(table: &[u8], p: usize, attribute: Attribute, from: Progress, buffer: &mut [u8]) -> Progress
     requires { ⌜ PassIn (now table) p from (now buffer) ⌝ }
-    ensures { λ r. ⌜ PassLeaves (kind attribute) (found attribute p (now (table .entry))) from (now (buffer .entry)) r (now (buffer .exit)) ⌝ }
+    ensures { λ r. ⌜ PassLeaves (type attribute) (found attribute p (now (table .entry))) from (now (buffer .entry)) r (now (buffer .exit)) ⌝ }
 {
     if from.full {
         return from;
@@ -326,7 +421,7 @@ pub struct Taken {
 // EndMark.
 pub fn write_pdu(table: &[u8], p: usize, place: usize, buffer: &mut [u8]) -> Taken
     requires { ⌜ WriteIn (now table) p place (now buffer) ⌝ }
-    ensures { λ r. ⌜ PduWritten (drop place (model.declarations p (decode (now (table .entry)) .streams))) place (now (buffer .entry)) r (now (buffer .exit)) ⌝ }
+    ensures { λ r. ⌜ PduWritten (drop place (model.declarations (decode (now (table .entry)) .settings) p (decode (now (table .entry)) .streams))) place (now (buffer .entry)) r (now (buffer .exit)) ⌝ }
 {
     buffer[0] = 0;
     let begun = Progress {
@@ -338,10 +433,11 @@ pub fn write_pdu(table: &[u8], p: usize, place: usize, buffer: &mut [u8]) -> Tak
     let a = pass(table, p, Attribute::Advertise, begun, buffer);
     let f = pass(table, p, Attribute::Failed, a, buffer);
     let l = pass(table, p, Attribute::Listener, f, buffer);
-    let end = l.at;
+    let d = pass(table, p, Attribute::Domain, l, buffer);
+    let end = d.at;
     octets::put(buffer, end, END_MARK, 0);
     Taken {
         length: end + END_MARK,
-        next: l.next,
+        next: d.next,
     }
 }

@@ -12,4 +12,5 @@ pub mod EveryPort
 pub mod Rising
 pub mod Settings
 pub mod Totals
+pub mod Edges
 pub mod Tables

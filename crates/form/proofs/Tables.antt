@@ -12,9 +12,9 @@ use Rattle.octets.specs.Be.{beAt}
 use Rattle.octets.specs.Parts.{part}
 use Rattle.octets.specs.Fields.{fields}
 use Rattle.octets.proofs.Frame.{beAt-part}
-use Rattle.model.specs.Layout.{cellSize, cellsPlace, cellsSize, clockPlace, countPlace, nameWidths, portPlace, portSize, portsPlace, portsUnit, priorityBUnit, recordSize, recordsPlace, recordsSize, resultSize, resultsPlace, resultsSize, settingsSize, settledPriorityPlace, tableLength, totalSize, totalsPlace, totalsSize, wordPlace}
+use Rattle.model.specs.Layout.{cellSize, cellsPlace, cellsSize, clockPlace, countPlace, nameWidths, ownSize, ownsPlace, ownsSize, portPlace, portSize, portsPlace, portsUnit, priorityBUnit, recordSize, recordsPlace, recordsSize, resultSize, resultsPlace, resultsSize, settingsSize, settledPriorityPlace, tableLength, totalSize, totalsPlace, totalsSize, wordPlace}
 use Rattle.model.specs.Lists.{allTrue, implies, parts}
-use Rattle.model.specs.Table.{portsField, toPort, toSettings, settingsRules, allZero, everyPart, cellFormed, toCell, resultFormed, toResult, cellsPart, resultsPart, toStream, holds, talkers, declarers, storedFormed, everyPort, streamRules, streamFormed, toTotals}
+use Rattle.model.specs.Table.{portsField, toPort, toSettings, settingsRules, allZero, everyPart, cellFormed, toCell, resultFormed, toResult, cellsPart, resultsPart, toStream, holds, talkers, declarers, storedFormed, everyPort, streamRules, streamFormed, toTotals, ownFormed, ownsPart}
 use Rattle.model.specs.Table.{settingsPart, clockField, countField, totalsPart, recordsPart, rising, idOf, totalsWithin, tableRules}
 use Rattle.model.proofs.Lists.{all-true}
 use Rattle.model.proofs.SettingsOctets.{eight-ports}
@@ -62,7 +62,7 @@ module _ (t : List ℕ) where
   header-ports r = eight-ports (settingsPart t) (all-true (take 3 (tableRules t)) r .0)
 
   -- stream records
-  pub too-many-streams : 64 < getD t countPlace 0 → false ≡ allTrue (drop 3 (tableRules t))
+  pub too-many-streams : 64 < getD t countPlace 0 → false ≡ allTrue (drop 2 (drop 3 (tableRules t)))
   unfolding tableRules countField allTrue
   too-many-streams h = rw (lt-leb (getD t countPlace 0) 64 h)
 
@@ -74,16 +74,26 @@ module _ (t : List ℕ) where
   unfolding portsField
   table-ports w e h = rw (e, ← word) h
 
+  -- what the ports hold
+  pub edges-tests : (w c : ℕ) → w ≡ beAt 3 t wordPlace → c ≡ beAt 4 t clockPlace → (s : List ℕ) → s ≡ take ownsSize (drop ownsPlace t)
+      → allTrue (everyPart ownSize (ownFormed c (w % priorityBUnit)) (w / portsUnit) s ∷ allZero (drop (w / portsUnit * ownSize) s) ∷ [])
+      ≡ allTrue (take 2 (drop 3 (tableRules t)))
+  unfolding tableRules clockField ownsPart part portsField toSettings allTrue
+  edges-tests w c e f s g = rw (word, e, f, g)
+
   pub streams-tests : length t ≡ tableLength → getD t countPlace 0 ≤ 64 → (w c : ℕ) → w ≡ beAt 3 t wordPlace → c ≡ beAt 4 t clockPlace → (s : List ℕ) → s ≡ take recordsSize (drop recordsPlace t)
       → allTrue (everyPart recordSize (streamFormed (w / portsUnit) c (w % priorityBUnit)) (getD t countPlace 0) s
       ∷ rising (parts recordSize idOf (getD t countPlace 0) s)
       ∷ allZero (drop (getD t countPlace 0 * recordSize) s)
       ∷ [])
-      ≡ allTrue (drop 3 (tableRules t))
+      ≡ allTrue (drop 2 (drop 3 (tableRules t)))
   unfolding tableRules countField clockField recordsPart portsField toSettings allTrue
   streams-tests whole few w c e f s g =
       let all : s ≡ drop recordsPlace t = g ∙ take-all recordsSize (drop recordsPlace t) (omega (arith, length-drop recordsPlace t)) in
       rw (le-leb (getD t countPlace 0) 64 few, word, e, f, all)
+
+pub owns-room : (t : List ℕ) (n : ℕ) → length t ≡ tableLength → n ≤ 8 → n * ownSize ≤ length (take ownsSize (drop ownsPlace t))
+owns-room t n h few = omega (arith, length-take-le ownsSize (drop ownsPlace t) (omega (arith, length-drop ownsPlace t)))
 
 pub records-room : (t : List ℕ) (n : ℕ) → length t ≡ tableLength → n ≤ 64 → n * recordSize ≤ length (take recordsSize (drop recordsPlace t))
 records-room t n h few = omega (arith, length-take-le recordsSize (drop recordsPlace t) (omega (arith, length-drop recordsPlace t)))

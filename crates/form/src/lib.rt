@@ -9,19 +9,23 @@ ghost use Prim.Native.Nat.{_+_, _*_, _%_, _≤_};
 ghost use lib.ListN.{length, getD, take, drop};
 ghost use lib.Dec.{leb, eqb};
 ghost use Rattle.octets.specs.Fields.{fields};
-ghost use Rattle.model.specs.Layout.{cellSize, cellWidths, cellsSize, nameWidths, portPlace, portSize, portsPlace, recordSize, resultSize, resultsSize, settledPriorityPlace, tableLength, totalSize};
+ghost use Rattle.model.specs.Layout.{cellSize, cellWidths, cellsSize, nameWidths, ownSize, portPlace, portSize, portsPlace, recordSize, resultSize, resultsSize, settledPriorityPlace, slotSize, slots, slotsSize, tableLength, totalSize};
 ghost use Rattle.model.specs.Lists.{allTrue, implies, parts, bit};
 ghost use Rattle.model.specs.Table.{allZero, everyPart};
 ghost use Rattle.model.specs.Table.{portsField, toPort, portRule, settingsRules, settingsFormed};
-ghost use Rattle.model.specs.Table.{leavingRule, cellRules, cellFormed, toCell, resultFormed, toResult, holds, talkers, declarers, storedFormed, everyPort, streamFormed};
+ghost use Rattle.model.specs.Table.{leavingRule, cellRules, cellFormed, toCell, resultFormed, toResult, holds, talkers, declarers, domainFormed, ownFormed, storedFormed, everyPort, streamFormed};
 ghost use Rattle.model.specs.Table.{toTotals, atMost, totalsWithin, idOf, rising, settingsPart, tableRules, formed};
 ghost use Rattle.form.specs.Asks.{TotalsGiven, ResultsGiven, CellsFound};
+use table::BOUNDARY;
+use table::BOUNDARY_B;
 use table::CELL;
 use table::CELLS;
 use table::CLOCK;
 use table::COUNT;
 use table::HEAD;
 use table::LENGTH;
+use table::OWN;
+use table::OWNS;
 use table::PORT;
 use table::PORTS;
 use table::PORTS_UNIT;
@@ -33,12 +37,16 @@ use table::RESULT;
 use table::RESULTS;
 use table::SETTLED;
 use table::SETTLED_PRIORITY;
+use table::SLOT;
+use table::SLOTS;
 use table::TOTAL;
 use table::TOTAL_B;
 use table::TOTALS;
+use table::VLAN;
 use table::cell;
 use table::port;
 use table::result;
+use table::slot;
 
 // What a truth value adds to a count.
 fn bit(b: bool) -> usize
@@ -305,10 +313,13 @@ fn settings_rules(settings: &[u8]) -> bool
     if 8 < ports {
         return false;
     }
+    let vlan = octets::get(settings, VLAN, 2);
     (1 <= ports)
         & (head / PRIORITY_A_UNIT % 8 != head / PRIORITY_B_UNIT % 8)
         & (1 <= head % PRIORITY_B_UNIT)
         & ports_formed(&settings[PORTS..], ports as usize)
+        & (1 <= vlan)
+        & (vlan <= 4094)
 }
 
 // Number 11: settings have their length and keep every rule.
@@ -377,17 +388,81 @@ fn header_formed(table: &[u8]) -> bool
     let ports = (octets::get(settings, HEAD, 3) / PORTS_UNIT) as usize;
     zero_from(settings, PORTS + ports * PORT)
         & totals_within(
-            &table[TOTALS..RECORDS],
+            &table[TOTALS..OWNS],
             &settings[PORTS..],
             ports,
             1 <= table[COUNT],
         )
 }
 
+// The rules of a Domain value: one that is not registered is zero.
+fn slot_formed(slot: &[u8], clock: u64, leave: u64) -> bool
+    requires { ⌜ length (now slot) ≡ slotSize ⌝ }
+    ensures { λ r. ⌜ r ≡ domainFormed clock leave (now (slot .entry)) ⌝ }
+{
+    let held = slot[slot::HELD];
+    let leaves = slot[slot::LEAVES];
+    let since = octets::get(slot, slot::SINCE, 4);
+    let vlan = octets::get(slot, slot::VLAN, 2);
+    (held <= 1)
+        & leaving_formed(leaves, since, clock, leave)
+        & ((held != 0) | ((leaves == 0) & (since == 0) & (vlan == 0)))
+}
+
+// Each Domain value of a port keeps its rules.
+fn slots_formed(values: &[u8], clock: u64, leave: u64) -> bool
+    requires { ⌜ length (now values) ≡ slotsSize ⌝ }
+    ensures { λ r. ⌜ r ≡ everyPart slotSize (domainFormed clock leave) slots (now (values .entry)) ⌝ }
+{
+    let mut ok = true;
+    let mut i: usize = 0;
+    while i < SLOTS {
+        let a = i * SLOT;
+        ok = ok & slot_formed(&values[a..a + SLOT], clock, leave);
+        i += 1;
+    }
+    ok
+}
+
+// The rules of what a port holds by itself: its Domain values, and its flags.
+fn own_formed(own: &[u8], clock: u64, leave: u64) -> bool
+    requires { ⌜ length (now own) ≡ ownSize ⌝ }
+    ensures { λ r. ⌜ r ≡ ownFormed clock leave (now (own .entry)) ⌝ }
+{
+    slots_formed(&own[0..BOUNDARY], clock, leave) & (own[BOUNDARY] <= 1) & (own[BOUNDARY_B] <= 1)
+}
+
+// What each port holds keeps its rules.
+fn owns_formed(owns: &[u8], ports: usize, clock: u64, leave: u64) -> bool
+    requires { ⌜ ports * ownSize ≤ length (now owns) ⌝ }
+    ensures { λ r. ⌜ r ≡ everyPart ownSize (ownFormed clock leave) ports (now (owns .entry)) ⌝ }
+{
+    let mut ok = true;
+    let mut p: usize = 0;
+    while p < ports {
+        let a = p * OWN;
+        ok = ok & own_formed(&owns[a..a + OWN], clock, leave);
+        p += 1;
+    }
+    ok
+}
+
+// The rules of what the ports of a table hold; what belongs to no port is zero.
+fn edges_formed(table: &[u8]) -> bool
+    requires { ⌜ (length (now table) ≡ tableLength) × (portsField (settingsPart (now table)) ≤ 8) ⌝ }
+    ensures { λ r. ⌜ r ≡ allTrue (take 2 (drop 3 (tableRules (now (table .entry))))) ⌝ }
+{
+    let head = octets::get(table, HEAD, 3);
+    let ports = (head / PORTS_UNIT) as usize;
+    let clock = octets::get(table, CLOCK, 4);
+    let owns = &table[OWNS..RECORDS];
+    owns_formed(owns, ports, clock, head % PRIORITY_B_UNIT) & zero_from(owns, ports * OWN)
+}
+
 // The rules of the stream records of a table; what follows those in use is zero.
 fn streams_formed(table: &[u8]) -> bool
     requires { ⌜ (length (now table) ≡ tableLength) × (portsField (settingsPart (now table)) ≤ 8) ⌝ }
-    ensures { λ r. ⌜ r ≡ allTrue (drop 3 (tableRules (now (table .entry)))) ⌝ }
+    ensures { λ r. ⌜ r ≡ allTrue (drop 2 (drop 3 (tableRules (now (table .entry))))) ⌝ }
 {
     let count = table[COUNT] as usize;
     if 64 < count {
@@ -412,5 +487,5 @@ pub fn is_formed(table: &[u8]) -> bool
     if !header_formed(table) {
         return false;
     }
-    streams_formed(table)
+    edges_formed(table) & streams_formed(table)
 }

@@ -6,18 +6,19 @@ use Prim.Native.Nat.{ℕ, zero, suc, _+_, _/_, _^_, _≤_, _<_}
 use native.Mathlib.Omega.{arith}
 use lib.ListN.{length, getD, drop, length-map}
 use lib.Dec.{ltb, leb, eqb}
-use borrow.Author.Tests.{ltb-true, lt-ltb, eqb-true, eqb-false, ltb-false, leb-false, le-ltb, le-leb, eq-eqb, ne-eqb}
-use Rattle.model.specs.Lists.{All, implies, keep, tabulate, bit}
-use Rattle.model.specs.State.{Port, Settings, Leaving, stays, since, Health, sound, broken, Talker, noTalker, talker, Listener, noListener, listener, Cell, Column, none, advertise, failed, Entry, noEntry, filters, forwards, Declared, nothing, tells, Result, Stream, Totals, Bridge, empty, unsettled, noFixed, noPort, portAt, isPort, cellAt, resultAt, Class, noClass, classA, classB, sameClass, supports, limit}
+use borrow.Author.Tests.{ltb-false, leb-false, le-ltb, le-leb, eq-eqb, ne-eqb, ltb-true, lt-ltb, eqb-true, eqb-false}
+use Rattle.model.specs.Lists.{All, keep, tabulate, implies, bit}
+use Rattle.model.specs.State.{Port, Settings, Leaving, stays, since, Health, sound, broken, Talker, noTalker, talker, Listener, noListener, listener, Cell, Domain, noDomain, domain, Own, Column, none, advertise, failed, Entry, noEntry, filters, forwards, Declared, nothing, tells, Result, Stream, Totals, Bridge, empty, unsettled, noFixed, noOwn, noPort, ownAt, portAt, isPort, cellAt, resultAt, Class, classA, classB, limit, noClass, sameClass, supports}
 use Rattle.model.specs.Registrations.{Answer, ids}
-use Rattle.model.specs.Settling.{expired, expireTalker, expireListener, expireCell, expire, isTalking, isHearing, held, remain, Origin, Source, nowhere, from, source, sourceOf, isSource, fixedOf, healthOf, streamClass, registered, isReady, Outcome, columnNone, asRegistered, ownFailure, Step, first, clear, brokenColumn, outcomeColumn, stepsFrom, steps, ageOf, claims, limitOn, byBandwidth, columnOf, capped, latencyOut, entryOf, ageKept, latencyKept, decideAt, decide, totalOn, totalsOn, settle, advance}
-use Rattle.model.specs.Bandwidth.{sort, reserved, total}
-use Rattle.model.specs.Table.{talkers, hasColumn, declares, declarers, forListener, storedRules, storedFormed, atMost, totalsWithin}
+use Rattle.model.specs.Settling.{Scene, sceneOf, flagOf, decideOwn, decideOwns, expired, expireDomain, expireTalker, expireListener, expireCell, expire, held, remain, Source, nowhere, from, source, sourceOf, isSource, fixedOf, healthOf, registered, isReady, Outcome, columnNone, asRegistered, ownFailure, Step, first, brokenColumn, outcomeColumn, stepsFrom, steps, ageOf, claims, limitOn, byBandwidth, columnOf, capped, latencyOut, entryOf, ageKept, latencyKept, decideAt, decide, totalOn, totalsOn, settle, advance, isTalking, isHearing, Origin, streamClass, clear}
+use Rattle.model.specs.Bandwidth.{sort, total, reserved}
+use Rattle.model.specs.Table.{totalsWithin, talkers, hasColumn, declares, declarers, forListener, storedRules, storedFormed, atMost}
 use Rattle.model.proofs.Lists.{all-getD, all-tabulate, at-place, and-false, implies-true, true-all}
 use Rattle.model.proofs.Parts.{_also_}
 use Rattle.model.proofs.Stored.{talker-counts, other-counts, one-declares}
 use Rattle.model.proofs.Admission.{within}
-use Rattle.model.proofs.Valid.{ValidLeaving, ValidFixed, ValidHealth, ValidRegistration, again-valid, ValidTalker, ValidListener, ValidCell, ValidColumn, ValidAge, ValidResult, ValidStream, Rising, Valid}
+use Rattle.model.proofs.Owns.{no-own-valid}
+use Rattle.model.proofs.Valid.{ValidLeaving, ValidFixed, ValidHealth, ValidRegistration, ValidTalker, ValidListener, ValidCell, ValidDomain, ValidOwn, ValidColumn, ValidAge, ValidResult, ValidStream, Rising, Valid, again-valid}
 
 -- Lists.
 
@@ -82,9 +83,38 @@ module _ (st : Settings) (clock now : ℕ) (later : clock ≤ now) where
   unfolding expireCell
   cell-remains c v = record { talks = talker-remains (c .talks) (v .talks); hears = listener-remains (c .hears) (v .hears) }
 
+  domain-remains : (d : Domain) → ValidDomain clock (st .leaveTime) d → ValidDomain now (st .leaveTime) (expireDomain st now d)
+  unfolding expireDomain
+  domain-remains noDomain v = tt
+  domain-remains (domain w l) v = go (expired st now l) refl
+    where
+      go : (b : Bool) → expired st now l ≡ b → ValidDomain now (st .leaveTime) (cond b noDomain (domain w l))
+      go true e = tt
+      go false e = (v .0, leaving-remains l e (v .1))
+
   empty-remains : (c : Cell) → c ≡ empty → expireCell st now c ≡ empty
   unfolding expireCell expireTalker expireListener empty
   empty-remains c e = rw e
+
+-- What a port holds by itself.
+module _ (st : Settings) (clock now : ℕ) (later : clock ≤ now) (o : List Own) (v : All (ValidOwn clock (st .leaveTime)) o) where
+  own-valid : (p : ℕ) → ValidOwn now (st .leaveTime) (decideOwn st now o p)
+  unfolding decideOwn
+  own-valid p =
+      let w = all-getD (ValidOwn clock (st .leaveTime)) o v noOwn (no-own-valid clock (st .leaveTime)) p in
+      record {
+        slotted = length-map (ownAt o p .domains) (expireDomain st now) ∙ w .slotted;
+        domains =
+            all-mapped (ValidDomain clock (st .leaveTime)) (ValidDomain now (st .leaveTime)) (expireDomain st now)
+            (domain-remains st clock now later) (ownAt o p .domains) (w .domains);
+      }
+
+  -- a place that is no port holds nothing
+  none-there : All (λ h. h ≡ noOwn) (drop (length (st .ports)) o) → (p : ℕ) → length (st .ports) ≤ p → decideOwn st now o p ≡ noOwn
+  unfolding decideOwn noOwn expireDomain flagOf isPort
+  none-there n p h =
+      let e : ownAt o p ≡ noOwn = getD-past (λ h. h ≡ noOwn) (length (st .ports)) o p noOwn h refl n in
+      rw (e, le-ltb p (length (st .ports)) h)
 
 -- a stream between removal and decision: its registrations stand at the new time, its results still at the old clock
 record Remaining (ports clock now leave : ℕ) (x : Stream) : Type 0 where
@@ -240,51 +270,51 @@ ValidOutcome columnNone = Unit {0}
 ValidOutcome asRegistered = Unit {0}
 ValidOutcome (ownFailure code) = code < 256
 
-codes-fit : (st : Settings) (p : ℕ) (here : Cell) (s : Source) → All (λ t. ValidOutcome (t .outcome)) (stepsFrom st p here s)
+codes-fit : (sc : Scene) (p : ℕ) (here : Cell) (s : Source) → All (λ t. ValidOutcome (t .outcome)) (stepsFrom sc p here s)
 unfolding stepsFrom
-codes-fit st p here nowhere = omega arith
-codes-fit st p here (from o) = omega arith
+codes-fit sc p here nowhere = omega arith
+codes-fit sc p here (from o) = omega arith
 
 broken-valid : (h : Health) → ValidHealth h → ValidFailure (brokenColumn h)
 unfolding brokenColumn
 broken-valid sound v = tt
 broken-valid (broken b c) v = v
 
-module _ (st : Settings) (named : st .bridgeId < 2 ^ 64) where
+module _ (sc : Scene) (named : sc .settings .bridgeId < 2 ^ 64) where
   module _ (s : Source) (v : ValidHealth (healthOf s)) where
-    outcome-valid : (o : Outcome) → ValidOutcome o → ValidFailure (outcomeColumn st s o)
+    outcome-valid : (o : Outcome) → ValidOutcome o → ValidFailure (outcomeColumn (sc .settings) s o)
     unfolding outcomeColumn
     outcome-valid columnNone h = tt
     outcome-valid asRegistered h = broken-valid (healthOf s) v
     outcome-valid (ownFailure code) h = (named, h)
 
-    first-valid : (l : List Step) (c : Column) → All (λ t. ValidOutcome (t .outcome)) l → ValidFailure c → ValidFailure (first (outcomeColumn st s) l c)
+    first-valid : (l : List Step) (c : Column) → All (λ t. ValidOutcome (t .outcome)) l → ValidFailure c → ValidFailure (first (outcomeColumn (sc .settings) s) l c)
     unfolding first
     first-valid [] c a w = w
     first-valid (t ∷ l) c a w = go (t .test) (first-valid l c (a .1) w)
       where
         rest : Column
-        rest = first (outcomeColumn st s) l c
+        rest = first (outcomeColumn (sc .settings) s) l c
 
-        go : (b : Bool) → ValidFailure rest → ValidFailure (cond b (outcomeColumn st s (t .outcome)) rest)
+        go : (b : Bool) → ValidFailure rest → ValidFailure (cond b (outcomeColumn (sc .settings) s (t .outcome)) rest)
         go true ih = outcome-valid (t .outcome) (a .0)
         go false ih = ih
 
   -- whichever step applies, and whatever follows them all
   pub steps-valid : (p : ℕ) (x : Stream) (c : Column) → ValidHealth (healthOf (sourceOf x)) → ValidFailure c
-      → ValidFailure (first (outcomeColumn st (sourceOf x)) (steps st p x) c)
+      → ValidFailure (first (outcomeColumn (sc .settings) (sourceOf x)) (steps sc p x) c)
   unfolding steps
-  steps-valid p x c v w = first-valid (sourceOf x) v _ c (tt, codes-fit st p (cellAt x p) (sourceOf x)) w
+  steps-valid p x c v w = first-valid (sourceOf x) v _ c (tt, codes-fit sc p (cellAt x p) (sourceOf x)) w
 
-  bandwidth-valid : (d l : ℕ) → ValidFailure (byBandwidth st d l)
+  bandwidth-valid : (d l : ℕ) → ValidFailure (byBandwidth (sc .settings) d l)
   unfolding byBandwidth
   bandwidth-valid d l = go (ltb l d)
     where
-      go : (t : Bool) → ValidFailure (cond t (failed (st .bridgeId) 1) advertise)
+      go : (t : Bool) → ValidFailure (cond t (failed (sc .settings .bridgeId) 1) advertise)
       go true = omega arith
       go false = tt
 
-  column-valid : (now : ℕ) (s : List Stream) (p : ℕ) (x : Stream) → ValidHealth (healthOf (sourceOf x)) → ValidFailure (columnOf st now s p x)
+  column-valid : (now : ℕ) (s : List Stream) (p : ℕ) (x : Stream) → ValidHealth (healthOf (sourceOf x)) → ValidFailure (columnOf sc now s p x)
   unfolding columnOf
   column-valid now s p x v = steps-valid p x _ v (bandwidth-valid _ _)
 
@@ -352,46 +382,46 @@ unsettled-valid clock = record { column = refl; latency = omega arith; age = ref
 
 -- The decision.
 
-module _ (st : Settings) (named : st .bridgeId < 2 ^ 64) (few : length (st .ports) ≤ 8) (clock now : ℕ) (later : clock ≤ now) (s : List Stream) (x : Stream)
-    (r : Remaining (length (st .ports)) clock now (st .leaveTime) x) where
-  source-fits : ValidSource now (st .leaveTime) (sourceOf x)
+module _ (sc : Scene) (named : sc .settings .bridgeId < 2 ^ 64) (few : length (sc .settings .ports) ≤ 8) (clock now : ℕ) (later : clock ≤ now) (s : List Stream) (x : Stream)
+    (r : Remaining (length (sc .settings .ports)) clock now (sc .settings .leaveTime) x) where
+  source-fits : ValidSource now (sc .settings .leaveTime) (sourceOf x)
   unfolding sourceOf
-  source-fits = source-valid now (st .leaveTime) 0 (x .cells) (r .cells)
+  source-fits = source-valid now (sc .settings .leaveTime) 0 (x .cells) (r .cells)
 
-  result-valid : (p : ℕ) → ValidResult now (decideAt st now s x p)
+  result-valid : (p : ℕ) → ValidResult now (decideAt sc now s x p)
   unfolding decideAt latencyOut resultAt
   result-valid p = record {
-    column = entry-fits (columnOf st now s p x) (registered (cellAt x p)) _ (column-valid st named now s p x (health-valid now (st .leaveTime) (sourceOf x) source-fits));
-    latency = latency-fits (columnOf st now s p x) _ (capped-fits _);
+    column = entry-fits (columnOf sc now s p x) (registered (cellAt x p)) _ (column-valid sc named now s p x (health-valid now (sc .settings .leaveTime) (sourceOf x) source-fits));
+    latency = latency-fits (columnOf sc now s p x) _ (capped-fits _);
     age =
-        age-fits now (entryOf (columnOf st now s p x) (registered (cellAt x p))) _
+        age-fits now (entryOf (columnOf sc now s p x) (registered (cellAt x p))) _
         (age-valid clock now (resultAt x p) later
         (all-getD (ValidResult clock) (x .results) (r .results) unsettled (unsettled-valid clock) p));
   }
 
   -- a place that is no port has no registration, so no result
-  no-cell : (p : ℕ) → length (st .ports) ≤ p → cellAt x p ≡ empty
+  no-cell : (p : ℕ) → length (sc .settings .ports) ≤ p → cellAt x p ≡ empty
   unfolding cellAt
-  no-cell p h = getD-past (λ c. c ≡ empty) (length (st .ports)) (x .cells) p empty h refl (r .no-other-cells)
+  no-cell p h = getD-past (λ c. c ≡ empty) (length (sc .settings .ports)) (x .cells) p empty h refl (r .no-other-cells)
 
-  no-talker : (p : ℕ) → length (st .ports) ≤ p → isSource (sourceOf x) p ≡ false
+  no-talker : (p : ℕ) → length (sc .settings .ports) ≤ p → isSource (sourceOf x) p ≡ false
   unfolding sourceOf cellAt
   no-talker p h = let e : 0 + p ≡ p = omega arith in rw e at (not-source 0 p (x .cells) (no-cell p h))
 
-  unsettled-there : (p : ℕ) → length (st .ports) ≤ p → decideAt st now s x p ≡ unsettled
+  unsettled-there : (p : ℕ) → length (sc .settings .ports) ≤ p → decideAt sc now s x p ≡ unsettled
   unfolding decideAt columnOf steps isPort first outcomeColumn registered entryOf ageKept latencyKept unsettled empty
-  unsettled-there p h = rw (le-ltb p (length (st .ports)) h, no-talker p h, no-cell p h)
+  unsettled-there p h = rw (le-ltb p (length (sc .settings .ports)) h, no-talker p h, no-cell p h)
 
   -- What is stored goes with what is registered: only the Talker port declares, and the others have the columns.
 
-  port-there : (o : Origin) → sourceOf x ≡ from o → o .port < length (st .ports)
+  port-there : (o : Origin) → sourceOf x ≡ from o → o .port < length (sc .settings .ports)
   unfolding isSource
-  port-there o e = go (ltb (o .port) (length (st .ports))) refl
+  port-there o e = go (ltb (o .port) (length (sc .settings .ports))) refl
     where
-      go : (t : Bool) → ltb (o .port) (length (st .ports)) ≡ t → o .port < length (st .ports)
-      go true f = ltb-true (o .port) (length (st .ports)) f
+      go : (t : Bool) → ltb (o .port) (length (sc .settings .ports)) ≡ t → o .port < length (sc .settings .ports)
+      go true f = ltb-true (o .port) (length (sc .settings .ports)) f
       go false f =
-          let none-there = rw e at (no-talker (o .port) (ltb-false (o .port) (length (st .ports)) f)) in
+          let none-there = rw e at (no-talker (o .port) (ltb-false (o .port) (length (sc .settings .ports)) f)) in
           absurd (false≢true (sym none-there ∙ eq-eqb (o .port) (o .port) refl))
 
   talker-there : (o : Origin) → sourceOf x ≡ from o → isTalking (getD (x .cells) (o .port) empty) ≡ true
@@ -405,92 +435,92 @@ module _ (st : Settings) (named : st .bridgeId < 2 ^ 64) (few : length (st .port
   either-none true = refl
   either-none false = refl
 
-  no-column : (p : ℕ) → sourceOf x ≡ nowhere → columnOf st now s p x ≡ none
+  no-column : (p : ℕ) → sourceOf x ≡ nowhere → columnOf sc now s p x ≡ none
   unfolding columnOf steps stepsFrom first outcomeColumn
-  no-column p e = rw e (either-none (isPort st p))
+  no-column p e = rw e (either-none (isPort (sc .settings) p))
 
-  no-own-column : (o : Origin) (p : ℕ) → sourceOf x ≡ from o → p ≡ o .port → columnOf st now s p x ≡ none
+  no-own-column : (o : Origin) (p : ℕ) → sourceOf x ≡ from o → p ≡ o .port → columnOf sc now s p x ≡ none
   unfolding columnOf steps stepsFrom first outcomeColumn
-  no-own-column o p e f = rw (e, eq-eqb p (o .port) f) (either-none (isPort st p))
+  no-own-column o p e f = rw (e, eq-eqb p (o .port) f) (either-none (isPort (sc .settings) p))
 
-  idle-decided : talkers (length (st .ports)) (x .cells) ≡ 0 → fixedOf (sourceOf x) ≡ noFixed
+  idle-decided : talkers (length (sc .settings .ports)) (x .cells) ≡ 0 → fixedOf (sourceOf x) ≡ noFixed
   unfolding fixedOf
   idle-decided n = go (sourceOf x) refl
     where
       go : (t : Source) → sourceOf x ≡ t → fixedOf t ≡ noFixed
       go nowhere e = refl
-      go (from o) e = absurd (omega (arith, talker-counts (length (st .ports)) (o .port) (x .cells) (port-there o e) (talker-there o e)))
+      go (from o) e = absurd (omega (arith, talker-counts (length (sc .settings .ports)) (o .port) (x .cells) (port-there o e) (talker-there o e)))
 
-  module _ (p : ℕ) (h : p < length (st .ports)) where
+  module _ (p : ℕ) (h : p < length (sc .settings .ports)) where
     n : ℕ
-    n = talkers (length (st .ports)) (x .cells)
+    n = talkers (length (sc .settings .ports)) (x .cells)
 
-    column-decided : implies (hasColumn (columnOf st now s p x)) (ltb (bit (isTalking (getD (x .cells) p empty))) n) ≡ true
+    column-decided : implies (hasColumn (columnOf sc now s p x)) (ltb (bit (isTalking (getD (x .cells) p empty))) n) ≡ true
     unfolding hasColumn n
     column-decided = go (sourceOf x) refl
       where
-        go : (t : Source) → sourceOf x ≡ t → implies (hasColumn (columnOf st now s p x)) (ltb (bit (isTalking (getD (x .cells) p empty))) n) ≡ true
+        go : (t : Source) → sourceOf x ≡ t → implies (hasColumn (columnOf sc now s p x)) (ltb (bit (isTalking (getD (x .cells) p empty))) n) ≡ true
         go nowhere e = rw (no-column p e) refl
         go (from o) e = at-port (eqb p (o .port)) refl
           where
             at-port : (t : Bool) → eqb p (o .port) ≡ t
-                → implies (hasColumn (columnOf st now s p x)) (ltb (bit (isTalking (getD (x .cells) p empty))) n) ≡ true
+                → implies (hasColumn (columnOf sc now s p x)) (ltb (bit (isTalking (getD (x .cells) p empty))) n) ≡ true
             at-port true f = rw (no-own-column o p e (eqb-true p (o .port) f)) refl
             at-port false f =
-                implies-true (hasColumn (columnOf st now s p x)) _
-                (λ _. lt-ltb _ n (other-counts (length (st .ports)) p (o .port) (x .cells) (eqb-false p (o .port) f) h (port-there o e) (talker-there o e)))
+                implies-true (hasColumn (columnOf sc now s p x)) _
+                (λ _. lt-ltb _ n (other-counts (length (sc .settings .ports)) p (o .port) (x .cells) (eqb-false p (o .port) f) h (port-there o e) (talker-there o e)))
 
-    abbrev Own : Bool
-    Own = not (hasColumn (columnOf st now s p x)) && isTalking (getD (x .cells) p empty)
+    abbrev Goes : Bool
+    Goes = not (hasColumn (columnOf sc now s p x)) && isTalking (getD (x .cells) p empty)
 
-    listener-decided : implies (declares (decideAt st now s x p .declares)) Own ≡ true
+    listener-decided : implies (declares (decideAt sc now s x p .declares)) Goes ≡ true
     unfolding decideAt declares hasColumn isSource
     listener-decided = go (sourceOf x) refl
       where
-        go : (t : Source) → sourceOf x ≡ t → implies (declares (decideAt st now s x p .declares)) Own ≡ true
+        go : (t : Source) → sourceOf x ≡ t → implies (declares (decideAt sc now s x p .declares)) Goes ≡ true
         go nowhere e = rw e refl
         go (from o) e = at-port (eqb (o .port) p) refl
           where
-            at-port : (t : Bool) → eqb (o .port) p ≡ t → implies (declares (decideAt st now s x p .declares)) Own ≡ true
+            at-port : (t : Bool) → eqb (o .port) p ≡ t → implies (declares (decideAt sc now s x p .declares)) Goes ≡ true
             at-port true f =
                 let here : o .port ≡ p = eqb-true (o .port) p f in
-                let own : Own ≡ true = rw (no-own-column o p e (sym here), ← here) (talker-there o e) in
-                implies-true (declares (decideAt st now s x p .declares)) Own (λ _. own)
+                let own : Goes ≡ true = rw (no-own-column o p e (sym here), ← here) (talker-there o e) in
+                implies-true (declares (decideAt sc now s x p .declares)) Goes (λ _. own)
             at-port false f = rw (e, f) refl
 
-    stored-decided : storedFormed n (getD (x .cells) p empty) (decideAt st now s x p) ≡ true
+    stored-decided : storedFormed n (getD (x .cells) p empty) (decideAt sc now s x p) ≡ true
     unfolding storedFormed storedRules cellAt decideAt
     stored-decided =
         let c = getD (x .cells) p empty in
-        true-all (storedRules n c (decideAt st now s x p))
-        (column-decided also listener-decided also entry-heard (columnOf st now s p x) c also tt)
+        true-all (storedRules n c (decideAt sc now s x p))
+        (column-decided also listener-decided also entry-heard (columnOf sc now s p x) c also tt)
 
-  one-decided : declarers (length (st .ports)) (tabulate 8 0 (decideAt st now s x)) ≤ 1
+  one-decided : declarers (length (sc .settings .ports)) (tabulate 8 0 (decideAt sc now s x)) ≤ 1
   unfolding decideAt declares isSource
   one-decided = go (sourceOf x) refl
     where
-      go : (t : Source) → sourceOf x ≡ t → declarers (length (st .ports)) (tabulate 8 0 (decideAt st now s x)) ≤ 1
-      go nowhere e = one-declares (length (st .ports)) 8 0 0 (decideAt st now s x) (λ q n. rw e refl)
+      go : (t : Source) → sourceOf x ≡ t → declarers (length (sc .settings .ports)) (tabulate 8 0 (decideAt sc now s x)) ≤ 1
+      go nowhere e = one-declares (length (sc .settings .ports)) 8 0 0 (decideAt sc now s x) (λ q n. rw e refl)
       go (from o) e =
-          one-declares (length (st .ports)) 8 0 (o .port) (decideAt st now s x)
+          one-declares (length (sc .settings .ports)) 8 0 (o .port) (decideAt sc now s x)
           (λ q n. rw (e, ne-eqb (o .port) q (λ f. n (sym f))) refl)
 
-  decided-valid : ValidStream (length (st .ports)) now (st .leaveTime) (decide st now s x)
+  decided-valid : ValidStream (length (sc .settings .ports)) now (sc .settings .leaveTime) (decide sc now s x)
   unfolding decide cellAt resultAt
   decided-valid = record {
     id = r .id;
-    settled = fixed-valid now (st .leaveTime) (sourceOf x) source-fits;
+    settled = fixed-valid now (sc .settings .leaveTime) (sourceOf x) source-fits;
     eight-cells = r .eight-cells;
     cells = r .cells;
     no-other-cells = r .no-other-cells;
     is-held = r .is-held;
-    eight-results = length-tabulate 8 0 (decideAt st now s x);
-    results = all-tabulate (ValidResult now) 8 0 (decideAt st now s x) result-valid;
+    eight-results = length-tabulate 8 0 (decideAt sc now s x);
+    results = all-tabulate (ValidResult now) 8 0 (decideAt sc now s x) result-valid;
     no-other-results =
-        all-drop-tabulate (λ y. y ≡ unsettled) (length (st .ports)) 8 0 (decideAt st now s x)
+        all-drop-tabulate (λ y. y ≡ unsettled) (length (sc .settings .ports)) 8 0 (decideAt sc now s x)
         (λ p h. unsettled-there p (omega arith));
     idle = idle-decided;
-    stored = λ p h. rw (at-place (decideAt st now s x) p unsettled (omega arith)) (unfold n in stored-decided p h);
+    stored = λ p h. rw (at-place (decideAt sc now s x) p unsettled (omega arith)) (unfold n in stored-decided p h);
     one-declares = one-decided;
   }
 
@@ -528,70 +558,78 @@ same-class classB noClass e = absurd (false≢true e)
 same-class classB classA e = absurd (false≢true e)
 same-class classB classB e = refl
 
-module _ (st : Settings) (now p : ℕ) where
-  stopped : (x : Stream) → supports (portAt st p) (streamClass st x) ≡ false → clear (steps st p x) ≡ false
+module _ (sc : Scene) (now p : ℕ) where
+  stopped : (x : Stream) → supports (portAt (sc .settings) p) (streamClass (sc .settings) x) ≡ false → clear (steps sc p x) ≡ false
   unfolding streamClass fixedOf steps stepsFrom clear
   stopped x f = go (sourceOf x) refl
     where
-      go : (t : Source) → sourceOf x ≡ t → clear (steps st p x) ≡ false
+      go : (t : Source) → sourceOf x ≡ t → clear (steps sc p x) ≡ false
       go nowhere e = rw (e, and-false)
       go (from o) e = rw (e, rw e at f, and-false, and-false) refl
 
   module _ (c : Class) where
-    nothing-held : (s : List Stream) → length s < 1 → claims st now p c s ≡ []
+    nothing-held : (s : List Stream) → length s < 1 → claims sc now p c s ≡ []
     unfolding claims
     nothing-held [] h = refl
     nothing-held (x ∷ s) h = absurd (omega arith)
 
-    unsupported : supports (portAt st p) c ≡ false → (s : List Stream) → claims st now p c s ≡ []
+    unsupported : supports (portAt (sc .settings) p) c ≡ false → (s : List Stream) → claims sc now p c s ≡ []
     unfolding claims
     unsupported f [] = refl
-    unsupported f (x ∷ s) = rw (unclaimed (sameClass (streamClass st x) c) refl) (unsupported f s)
+    unsupported f (x ∷ s) = rw (unclaimed (sameClass (streamClass (sc .settings) x) c) refl) (unsupported f s)
       where
-        unclaimed : (t : Bool) → sameClass (streamClass st x) c ≡ t → (clear (steps st p x) && sameClass (streamClass st x) c) ≡ false
-        unclaimed true e = rw (stopped x (ap (supports (portAt st p)) (same-class (streamClass st x) c e) ∙ f)) refl
-        unclaimed false e = rw e (and-false (clear (steps st p x)))
+        unclaimed : (t : Bool) → sameClass (streamClass (sc .settings) x) c ≡ t → (clear (steps sc p x) && sameClass (streamClass (sc .settings) x) c) ≡ false
+        unclaimed true e = rw (stopped x (ap (supports (portAt (sc .settings) p)) (same-class (streamClass (sc .settings) x) c e) ∙ f)) refl
+        unclaimed false e = rw e (and-false (clear (steps sc p x)))
 
-    total-within : (s : List Stream) → totalOn st now s p c ≤ atMost (leb 1 (length s)) (supports (portAt st p) c) (limit (portAt st p) c)
+    total-within : (s : List Stream) → totalOn sc now s p c ≤ atMost (leb 1 (length s)) (supports (portAt (sc .settings) p) c) (limit (portAt (sc .settings) p) c)
     unfolding totalOn total limitOn atMost
-    total-within s = go (leb 1 (length s)) (supports (portAt st p) c) refl refl
+    total-within s = go (leb 1 (length s)) (supports (portAt (sc .settings) p) c) refl refl
       where
-        go : (some supported : Bool) → leb 1 (length s) ≡ some → supports (portAt st p) c ≡ supported
-            → reserved (limit (portAt st p) c) (sort (claims st now p c s)) ≤ cond (some && supported) (limit (portAt st p) c) 0
-        go true true e f = within (limit (portAt st p) c) (sort (claims st now p c s))
+        go : (some supported : Bool) → leb 1 (length s) ≡ some → supports (portAt (sc .settings) p) c ≡ supported
+            → reserved (limit (portAt (sc .settings) p) c) (sort (claims sc now p c s)) ≤ cond (some && supported) (limit (portAt (sc .settings) p) c) 0
+        go true true e f = within (limit (portAt (sc .settings) p) c) (sort (claims sc now p c s))
         go true false e f = rw (unsupported f s) (unfold sort reserved in omega arith)
         go false t e f = rw (nothing-held s (leb-false 1 (length s) e)) (unfold sort reserved in omega arith)
 
-settled-totals : (st : Settings) (now : ℕ) (s : List Stream) → totalsWithin (leb 1 (length s)) (tabulate 8 0 (totalsOn st now s)) (st .ports) ≡ true
+settled-totals : (sc : Scene) (now : ℕ) (s : List Stream) → totalsWithin (leb 1 (length s)) (tabulate 8 0 (totalsOn sc now s)) (sc .settings .ports) ≡ true
 unfolding totalsOn supports limit portAt
-settled-totals st now s =
-    totals-within (leb 1 (length s)) 8 0 (st .ports) (totalsOn st now s)
-    (λ i q e. let same : i ≡ q = omega arith in rw same (total-within st now q classA s, total-within st now q classB s))
+settled-totals sc now s =
+    totals-within (leb 1 (length s)) 8 0 (sc .settings .ports) (totalsOn sc now s)
+    (λ i q e. let same : i ≡ q = omega arith in rw same (total-within sc now q classA s, total-within sc now q classB s))
 
 -- The call.
 
-pub decided-ids : (st : Settings) (now : ℕ) (s l : List Stream) → ids (map (decide st now s) l) ≡ ids l
+pub decided-ids : (sc : Scene) (now : ℕ) (s l : List Stream) → ids (map (decide sc now s) l) ≡ ids l
 unfolding ids decide
-decided-ids st now s [] = refl
-decided-ids st now s (x ∷ l) = ap (λ (is : List ℕ). x .id ∷ is) (decided-ids st now s l)
+decided-ids sc now s [] = refl
+decided-ids sc now s (x ∷ l) = ap (λ (is : List ℕ). x .id ∷ is) (decided-ids sc now s l)
 
 pub settle-keeps : (b : Bridge) (now : ℕ) → now < 2 ^ 32 → b .clock ≤ now → Valid b → Valid (settle now b)
-unfolding settle
+unfolding settle decideOwns
 settle-keeps b now small later v = record {
   settings = v .settings;
   clock = small;
-  eight-totals = length-tabulate 8 0 (totalsOn st now s);
-  totals = rw (length-map s (decide st now s)) (settled-totals st now s);
-  at-most-64 = rw (length-map s (decide st now s)) (omega (arith, fewer-remain st now (b .streams), v .at-most-64));
+  eight-totals = length-tabulate 8 0 (totalsOn sc now s);
+  totals = rw (length-map s (decide sc now s)) (settled-totals sc now s);
+  eight-own = length-tabulate 8 0 (decideOwn st now (b .own));
+  own = all-tabulate (ValidOwn now (st .leaveTime)) 8 0 (decideOwn st now (b .own)) (own-valid st (b .clock) now later (b .own) (v .own));
+  no-other-own =
+      all-drop-tabulate (λ o. o ≡ noOwn) ports 8 0 (decideOwn st now (b .own))
+      (λ p h. none-there st (b .clock) now later (b .own) (v .own) (v .no-other-own) p (omega arith));
+  at-most-64 = rw (length-map s (decide sc now s)) (omega (arith, fewer-remain st now (b .streams), v .at-most-64));
   streams =
-      all-mapped (Remaining ports (b .clock) now (st .leaveTime)) (ValidStream ports now (st .leaveTime)) (decide st now s)
-      (decided-valid st (v .settings .bridgeId) (v .settings .eight-ports) (b .clock) now later s) s
+      all-mapped (Remaining ports (b .clock) now (st .leaveTime)) (ValidStream ports now (st .leaveTime)) (decide sc now s)
+      (decided-valid sc (v .settings .bridgeId) (v .settings .eight-ports) (b .clock) now later s) s
       (streams-remain st (b .clock) now ports later (b .streams) (v .streams));
-  ascending = rw (decided-ids st now s s) (remain-rising st now (b .streams) (v .ascending));
+  ascending = rw (decided-ids sc now s s) (remain-rising st now (b .streams) (v .ascending));
 }
   where
     st : Settings
     st = b .settings
+
+    sc : Scene
+    sc = sceneOf (settle now b)
 
     ports : ℕ
     ports = length (st .ports)

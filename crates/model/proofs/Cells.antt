@@ -80,7 +80,7 @@ fixed-valid i vs d v z n o = record {
 
 -- Leaving: whether, and since when.
 
-leaving-back : (l : Leaving) → toLeaving (leavingNumber l) (sinceNumber l) ≡ l
+pub leaving-back : (l : Leaving) → toLeaving (leavingNumber l) (sinceNumber l) ≡ l
 unfolding toLeaving leavingNumber sinceNumber
 leaving-back stays = refl
 leaving-back (since t) = refl
@@ -90,22 +90,22 @@ unfolding leavingNumber
 leaving-few stays = omega arith
 leaving-few (since t) = omega arith
 
-since-within : (clock leave : ℕ) (l : Leaving) → ValidLeaving clock leave l → clock < 2 ^ 32 → sinceNumber l < 2 ^ 32
+pub since-within : (clock leave : ℕ) (l : Leaving) → ValidLeaving clock leave l → clock < 2 ^ 32 → sinceNumber l < 2 ^ 32
 unfolding sinceNumber
 since-within clock leave stays v h = omega arith
 since-within clock leave (since t) v h = omega (arith, v .0)
 
-leaving-formed : (clock leave : ℕ) (l : Leaving) → ValidLeaving clock leave l → leavingRule clock leave (leavingNumber l) (sinceNumber l) ≡ true
+pub leaving-formed : (clock leave : ℕ) (l : Leaving) → ValidLeaving clock leave l → leavingRule clock leave (leavingNumber l) (sinceNumber l) ≡ true
 unfolding leavingRule leavingNumber sinceNumber
 leaving-formed clock leave stays v = refl
 leaving-formed clock leave (since t) v = and-both (leb t clock) (ltb clock (t + leave)) (le-leb t clock (v .0)) (lt-ltb clock (t + leave) (v .1))
 
 -- what the rule says of two numbers
-record Left (clock leave k t : ℕ) : Type 0 where
-  forth : (leavingNumber (toLeaving k t) ≡ k) × (sinceNumber (toLeaving k t) ≡ t)
-  valid : ValidLeaving clock leave (toLeaving k t)
+pub record Left (clock leave k t : ℕ) : Type 0 where
+  pub forth : (leavingNumber (toLeaving k t) ≡ k) × (sinceNumber (toLeaving k t) ≡ t)
+  pub valid : ValidLeaving clock leave (toLeaving k t)
 
-left : (clock leave k t : ℕ) → leavingRule clock leave k t ≡ true → Left clock leave k t
+pub left : (clock leave k t : ℕ) → leavingRule clock leave k t ≡ true → Left clock leave k t
 unfolding leavingRule toLeaving leavingNumber sinceNumber
 left clock leave zero t h = record { forth = (refl, sym (eqb-true t 0 h)); valid = tt }
 left clock leave (suc zero) t h = record {

@@ -14,7 +14,7 @@ use Rattle.model.specs.Lists.{All, keep, tabulate}
 use Rattle.model.specs.State.{Settings, Health, sound, broken, Column, advertise, failed, Entry, noEntry, filters, forwards, Declared, nothing, Result, Stream, Bridge, Class, noClass, classA, classB, sameClass, limit, cellAt, resultAt, unsettled, Totals, noTotals}
 use Rattle.model.specs.Registrations.{ids}
 use Rattle.model.specs.Bandwidth.{Claim, key, above, sort, reserved, remains, admitted, total, taken}
-use Rattle.model.specs.Settling.{remain, Source, sourceOf, isSource, fixedOf, healthOf, streamClass, registered, isReady, isAdvertise, Outcome, columnNone, asRegistered, ownFailure, Step, first, clear, brokenColumn, outcomeColumn, steps, ageOf, claim, claims, limitOn, leftFor, byBandwidth, columnOf, latencyOut, entryOf, ageKept, latencyKept, passed, mergeAll, merged, decideAt, decide, totalOn, totalsOn, settle}
+use Rattle.model.specs.Settling.{Scene, sceneOf, decideOwns, remain, Source, sourceOf, isSource, fixedOf, healthOf, streamClass, registered, isReady, isAdvertise, Outcome, columnNone, asRegistered, ownFailure, Step, first, clear, brokenColumn, outcomeColumn, steps, ageOf, claim, claims, limitOn, leftFor, byBandwidth, columnOf, latencyOut, entryOf, ageKept, latencyKept, passed, mergeAll, merged, decideAt, decide, totalOn, totalsOn, settle}
 use Rattle.model.proofs.Lists.{all-map, all-both, all-each, and-right, and-true, and-false}
 use Rattle.model.proofs.Valid.{Rising}
 use Rattle.model.proofs.Admission.{Distinct, key-id, within, subtracted, total-is-sum, idle-above, idle-total}
@@ -40,12 +40,13 @@ spent st now p c col test (x ∷ s) =
 -- The column of x on p: the first of the steps a to i that applies, where col gives the columns on p and "What is left is the
 -- limit less demands of more important Advertise streams of that class with Listener Ready or Ready Failed on p"; the more
 -- important has the lower key.
-unfoldable pub ruled : Settings → ℕ → List Stream → ℕ → (Stream → Column) → Stream → Column
-ruled st now s p col x =
+unfoldable pub ruled : Scene → ℕ → List Stream → ℕ → (Stream → Column) → Stream → Column
+ruled sc now s p col x =
+    let st = sc .settings in
     let c = streamClass st x in
     let d = claim st now p x in
-    let left = limitOn st now s p c - spent st now p c col (λ e. ltb (key e) (key d)) s in
-    first (outcomeColumn st (sourceOf x)) (steps st p x) (byBandwidth st (d .demand) left)
+    let left = limitOn sc now s p c - spent st now p c col (λ e. ltb (key e) (key d)) s in
+    first (outcomeColumn st (sourceOf x)) (steps sc p x) (byBandwidth st (d .demand) left)
 
 -- The settled bridge: all that it shows is what the rules give, read off the bridge itself.
 
@@ -62,7 +63,7 @@ totalAt b p classB = getD (b .totals) p noTotals .totalB
 -- the stream x on the port at place p of the bridge b
 pub record SettledAt (b : Bridge) (x : Stream) (p : ℕ) : Type 0 where
   -- "Its column on port p, first that applies", from the columns and ages that the bridge shows
-  pub column : columnAt p x ≡ ruled (b .settings) (b .clock) (b .streams) p (columnAt p) x
+  pub column : columnAt p x ≡ ruled (sceneOf b) (b .clock) (b .streams) p (columnAt p) x
   -- "Latency out is latency in plus the class latency of p (0 without a class), at most 2^32 - 1"; with column none, 0
   pub latency : resultAt x p .latency ≡ latencyKept (columnAt p x) (latencyOut (b .settings) p x)
   -- Table 35-12: the entry for this column and the Listener registered on p
@@ -84,7 +85,7 @@ pub record Settled (b : Bridge) : Type 0 where
   -- "A port's class total is its reserved sum"
   pub totals : (p : ℕ) → p < 8 → (c : Class) → totalAt b p c ≡ spent (b .settings) (b .clock) p c (columnAt p) (λ e. true) (b .streams)
   -- no class total is above its limit
-  pub limits : (p : ℕ) → p < 8 → (c : Class) → totalAt b p c ≤ limitOn (b .settings) (b .clock) (b .streams) p c
+  pub limits : (p : ℕ) → p < 8 → (c : Class) → totalAt b p c ≤ limitOn (sceneOf b) (b .clock) (b .streams) p c
 
 -- what an advance to the time now carries over from a stream x to the stream y that it leaves
 pub record Carried (now : ℕ) (x y : Stream) : Type 0 where
@@ -106,6 +107,7 @@ Pairwise R (x ∷ l) (y ∷ m) = R x y × Pairwise R l m
 pub record Advanced (now : ℕ) (b c : Bridge) : Type 0 where
   pub settings : c .settings ≡ b .settings
   pub clock : c .clock ≡ now
+  pub own : c .own ≡ decideOwns (b .settings) now (b .own)
   pub streams : Pairwise (Carried now) (remain (b .settings) now (b .streams)) (c .streams)
   pub decided : Settled c
 
@@ -162,11 +164,11 @@ by-bandwidth st d l = go (ltb l d) refl
     go false e = unfold isAdvertise in (rw (le-leb d l (ltb-false l d e)))
 
 -- a stream is Advertise where no step before bandwidth applies and its demand is not above what is left
-pub advertised : (st : Settings) (p : ℕ) (x : Stream) (d left : ℕ) →
-    isAdvertise (first (outcomeColumn st (sourceOf x)) (steps st p x) (byBandwidth st d left)) ≡ (clear (steps st p x) && leb d left)
-advertised st p x d left =
-    first-advertise (outcomeColumn st (sourceOf x)) (plain st (sourceOf x)) (steps st p x) (byBandwidth st d left)
-    ∙ ap (λ (t : Bool). clear (steps st p x) && t) (by-bandwidth st d left)
+pub advertised : (sc : Scene) (p : ℕ) (x : Stream) (d left : ℕ) →
+    isAdvertise (first (outcomeColumn (sc .settings) (sourceOf x)) (steps sc p x) (byBandwidth (sc .settings) d left)) ≡ (clear (steps sc p x) && leb d left)
+advertised sc p x d left =
+    first-advertise (outcomeColumn (sc .settings) (sourceOf x)) (plain (sc .settings) (sourceOf x)) (steps sc p x) (byBandwidth (sc .settings) d left)
+    ∙ ap (λ (t : Bool). clear (steps sc p x) && t) (by-bandwidth (sc .settings) d left)
 
 -- No two claims are equally important.
 
@@ -174,117 +176,117 @@ advertised st p x d left =
 abbrev pub Small : ℕ → Type 0
 Small i = i < 2 ^ 64
 
-module _ (st : Settings) (now : ℕ) where
-  claims-all : (p : ℕ) (c : Class) (P : ℕ → Type 0) (s : List Stream) → All P (ids s) → All (λ d. P (d .id)) (claims st now p c s)
+module _ (sc : Scene) (now : ℕ) where
+  claims-all : (p : ℕ) (c : Class) (P : ℕ → Type 0) (s : List Stream) → All P (ids s) → All (λ d. P (d .id)) (claims sc now p c s)
   unfolding ids claims claim
   claims-all p c P [] a = tt
-  claims-all p c P (x ∷ s) a = go (clear (steps st p x) && sameClass (streamClass st x) c) (claims-all p c P s (a .1))
+  claims-all p c P (x ∷ s) a = go (clear (steps sc p x) && sameClass (streamClass (sc .settings) x) c) (claims-all p c P s (a .1))
     where
-      go : (t : Bool) → All (λ d. P (d .id)) (claims st now p c s) → All (λ d. P (d .id)) (keep t (claim st now p x) (claims st now p c s))
+      go : (t : Bool) → All (λ d. P (d .id)) (claims sc now p c s) → All (λ d. P (d .id)) (keep t (claim (sc .settings) now p x) (claims sc now p c s))
       go true ih = (a .0, ih)
       go false ih = ih
 
-  pub claims-distinct : (p : ℕ) (c : Class) (s : List Stream) → Rising (ids s) → All Small (ids s) → Distinct (claims st now p c s)
+  pub claims-distinct : (p : ℕ) (c : Class) (s : List Stream) → Rising (ids s) → All Small (ids s) → Distinct (claims sc now p c s)
   unfolding ids claims Rising Distinct
   claims-distinct p c [] r a = tt
   claims-distinct p c (x ∷ s) r a =
-      go (clear (steps st p x) && sameClass (streamClass st x) c) (claims-distinct p c s (r .1) (a .1))
+      go (clear (steps sc p x) && sameClass (streamClass (sc .settings) x) c) (claims-distinct p c s (r .1) (a .1))
     where
-      other : All (λ d. key d ≡ key (claim st now p x) → ⊥) (claims st now p c s)
+      other : All (λ d. key d ≡ key (claim (sc .settings) now p x) → ⊥) (claims sc now p c s)
       other =
           all-map (λ d. (x .id < d .id) × Small (d .id)) _
-          (λ d h e. unfold claim in (omega (arith, key-id d (claim st now p x) (h .1) (a .0) e, h .0)))
-          (claims st now p c s)
+          (λ d h e. unfold claim in (omega (arith, key-id d (claim (sc .settings) now p x) (h .1) (a .0) e, h .0)))
+          (claims sc now p c s)
           (claims-all p c (λ j. (x .id < j) × Small j) s (all-both _ _ (ids s) (r .0) (a .1)))
 
-      go : (t : Bool) → Distinct (claims st now p c s) → Distinct (keep t (claim st now p x) (claims st now p c s))
+      go : (t : Bool) → Distinct (claims sc now p c s) → Distinct (keep t (claim (sc .settings) now p x) (claims sc now p c s))
       go true ih = (other, ih)
       go false ih = ih
 
 -- From streams to claims: what columns spend is what claims take, where the columns and the claims admitted agree.
-module _ (st : Settings) (now p : ℕ) (c : Class) (col : Stream → Column) (ok : Claim → Bool) where
+module _ (sc : Scene) (now p : ℕ) (c : Class) (col : Stream → Column) (ok : Claim → Bool) where
   -- a stream of the class is Advertise where it reaches step h and its claim is admitted
   abbrev pub Agrees : Stream → Type 0
-  Agrees x = (sameClass (streamClass st x) c && isAdvertise (col x)) ≡ ((clear (steps st p x) && sameClass (streamClass st x) c) && ok (claim st now p x))
+  Agrees x = (sameClass (streamClass (sc .settings) x) c && isAdvertise (col x)) ≡ ((clear (steps sc p x) && sameClass (streamClass (sc .settings) x) c) && ok (claim (sc .settings) now p x))
 
-  pub spent-above : (k : ℕ) (s : List Stream) → All Agrees s → spent st now p c col (λ e. ltb (key e) k) s ≡ taken ok (above k (claims st now p c s))
+  pub spent-above : (k : ℕ) (s : List Stream) → All Agrees s → spent (sc .settings) now p c col (λ e. ltb (key e) k) s ≡ taken ok (above k (claims sc now p c s))
   unfolding spent reserves claim claims above taken
   spent-above k [] a = refl
-  spent-above k (x ∷ s) a = rw (a .0) (go (clear (steps st p x) && sameClass (streamClass st x) c) (ltb (key d) k) refl (spent-above k s (a .1)))
+  spent-above k (x ∷ s) a = rw (a .0) (go (clear (steps sc p x) && sameClass (streamClass (sc .settings) x) c) (ltb (key d) k) refl (spent-above k s (a .1)))
     where
       d : Claim
-      d = claim st now p x
+      d = claim (sc .settings) now p x
 
-      go : (t b : Bool) → ltb (key d) k ≡ b → spent st now p c col (λ e. ltb (key e) k) s ≡ taken ok (above k (claims st now p c s)) →
-          spent st now p c col (λ e. ltb (key e) k) s + cond (b && ((t && ok d) && d .ready)) (d .demand) 0
-          ≡ taken ok (above k (keep t d (claims st now p c s)))
+      go : (t b : Bool) → ltb (key d) k ≡ b → spent (sc .settings) now p c col (λ e. ltb (key e) k) s ≡ taken ok (above k (claims sc now p c s)) →
+          spent (sc .settings) now p c col (λ e. ltb (key e) k) s + cond (b && ((t && ok d) && d .ready)) (d .demand) 0
+          ≡ taken ok (above k (keep t d (claims sc now p c s)))
       go true true e h = rw (e, h)
       go true false e h = rw e (omega arith)
       go false true e h = omega arith
       go false false e h = omega arith
 
-  spent-all : (s : List Stream) → All Agrees s → spent st now p c col (λ e. true) s ≡ taken ok (claims st now p c s)
+  spent-all : (s : List Stream) → All Agrees s → spent (sc .settings) now p c col (λ e. true) s ≡ taken ok (claims sc now p c s)
   unfolding spent reserves claim claims taken
   spent-all [] a = refl
-  spent-all (x ∷ s) a = rw (a .0) (go (clear (steps st p x) && sameClass (streamClass st x) c) (spent-all s (a .1)))
+  spent-all (x ∷ s) a = rw (a .0) (go (clear (steps sc p x) && sameClass (streamClass (sc .settings) x) c) (spent-all s (a .1)))
     where
       d : Claim
-      d = claim st now p x
+      d = claim (sc .settings) now p x
 
-      go : (t : Bool) → spent st now p c col (λ e. true) s ≡ taken ok (claims st now p c s) →
-          spent st now p c col (λ e. true) s + cond ((t && ok d) && d .ready) (d .demand) 0 ≡ taken ok (keep t d (claims st now p c s))
+      go : (t : Bool) → spent (sc .settings) now p c col (λ e. true) s ≡ taken ok (claims sc now p c s) →
+          spent (sc .settings) now p c col (λ e. true) s + cond ((t && ok d) && d .ready) (d .demand) 0 ≡ taken ok (keep t d (claims sc now p c s))
       go true h = rw h
       go false h = omega arith
 
-module _ (st : Settings) (now : ℕ) (s : List Stream) (p : ℕ) where
-  column-agrees : (c : Class) (x : Stream) → Agrees st now p c (columnOf st now s p) (admitted (limitOn st now s p c) (claims st now p c s)) x
+module _ (sc : Scene) (now : ℕ) (s : List Stream) (p : ℕ) where
+  column-agrees : (c : Class) (x : Stream) → Agrees sc now p c (columnOf sc now s p) (admitted (limitOn sc now s p c) (claims sc now p c s)) x
   unfolding admitted leftFor columnOf
   column-agrees c x =
-      rw (advertised st p x (claim st now p x .demand) (leftFor st now s p x)) (go (sameClass (streamClass st x) c) refl)
+      rw (advertised sc p x (claim (sc .settings) now p x .demand) (leftFor sc now s p x)) (go (sameClass (streamClass (sc .settings) x) c) refl)
     where
-      go : (t : Bool) → sameClass (streamClass st x) c ≡ t →
-          (t && (clear (steps st p x) && leb (claim st now p x .demand) (leftFor st now s p x)))
-          ≡ ((clear (steps st p x) && t) && admitted (limitOn st now s p c) (claims st now p c s) (claim st now p x))
-      go true e = rw (and-true (clear (steps st p x)), ← same-class (streamClass st x) c e)
-      go false e = rw (and-false (clear (steps st p x)))
+      go : (t : Bool) → sameClass (streamClass (sc .settings) x) c ≡ t →
+          (t && (clear (steps sc p x) && leb (claim (sc .settings) now p x .demand) (leftFor sc now s p x)))
+          ≡ ((clear (steps sc p x) && t) && admitted (limitOn sc now s p c) (claims sc now p c s) (claim (sc .settings) now p x))
+      go true e = rw (and-true (clear (steps sc p x)), ← same-class (streamClass (sc .settings) x) c e)
+      go false e = rw (and-false (clear (steps sc p x)))
 
   module _ (r : Rising (ids s)) (a : All Small (ids s)) where
     -- the columns are those that the rule gives, in terms of the columns themselves
-    pub columns-ruled : (x : Stream) → columnOf st now s p x ≡ ruled st now s p (columnOf st now s p) x
+    pub columns-ruled : (x : Stream) → columnOf sc now s p x ≡ ruled sc now s p (columnOf sc now s p) x
     unfolding ruled columnOf leftFor remains
     columns-ruled x =
-        let c = streamClass st x in
-        let k = key (claim st now p x) in
-        ap (λ (n : ℕ). first (outcomeColumn st (sourceOf x)) (steps st p x) (byBandwidth st (claim st now p x .demand) (limitOn st now s p c - n)))
-        (sym (subtracted (limitOn st now s p c) (claims st now p c s) (claims-distinct st now p c s r a) k)
-        ∙ sym (spent-above st now p c (columnOf st now s p) _ k s (all-each _ (column-agrees c) s)))
+        let c = streamClass (sc .settings) x in
+        let k = key (claim (sc .settings) now p x) in
+        ap (λ (n : ℕ). first (outcomeColumn (sc .settings) (sourceOf x)) (steps sc p x) (byBandwidth (sc .settings) (claim (sc .settings) now p x .demand) (limitOn sc now s p c - n)))
+        (sym (subtracted (limitOn sc now s p c) (claims sc now p c s) (claims-distinct sc now p c s r a) k)
+        ∙ sym (spent-above sc now p c (columnOf sc now s p) _ k s (all-each _ (column-agrees c) s)))
 
     -- a port's class total is its reserved sum
-    pub total-ruled : (c : Class) → totalOn st now s p c ≡ spent st now p c (columnOf st now s p) (λ e. true) s
+    pub total-ruled : (c : Class) → totalOn sc now s p c ≡ spent (sc .settings) now p c (columnOf sc now s p) (λ e. true) s
     unfolding totalOn
     total-ruled c =
-        sym (total-is-sum (limitOn st now s p c) (claims st now p c s) (claims-distinct st now p c s r a))
-        ∙ sym (spent-all st now p c (columnOf st now s p) _ s (all-each _ (column-agrees c) s))
+        sym (total-is-sum (limitOn sc now s p c) (claims sc now p c s) (claims-distinct sc now p c s r a))
+        ∙ sym (spent-all sc now p c (columnOf sc now s p) _ s (all-each _ (column-agrees c) s))
 
   -- no class total is above its limit
-  pub total-within : (c : Class) → totalOn st now s p c ≤ limitOn st now s p c
+  pub total-within : (c : Class) → totalOn sc now s p c ≤ limitOn sc now s p c
   unfolding totalOn total
-  total-within c = within (limitOn st now s p c) (sort (claims st now p c s))
+  total-within c = within (limitOn sc now s p c) (sort (claims sc now p c s))
 
 -- columns that agree on the streams spend the same
-module _ (st : Settings) (now p : ℕ) (col other : Stream → Column) where
-  pub spent-same : (c : Class) (test : Claim → Bool) (s : List Stream) → All (λ x. col x ≡ other x) s → spent st now p c col test s ≡ spent st now p c other test s
+module _ (sc : Scene) (now p : ℕ) (col other : Stream → Column) where
+  pub spent-same : (c : Class) (test : Claim → Bool) (s : List Stream) → All (λ x. col x ≡ other x) s → spent (sc .settings) now p c col test s ≡ spent (sc .settings) now p c other test s
   unfolding spent
   spent-same c test [] a = refl
   spent-same c test (x ∷ s) a = rw (a .0, spent-same c test s (a .1))
 
-  pub ruled-same : (s : List Stream) (x : Stream) → All (λ y. col y ≡ other y) s → ruled st now s p col x ≡ ruled st now s p other x
+  pub ruled-same : (s : List Stream) (x : Stream) → All (λ y. col y ≡ other y) s → ruled sc now s p col x ≡ ruled sc now s p other x
   unfolding ruled
-  ruled-same s x a = rw (spent-same (streamClass st x) (λ e. ltb (key e) (key (claim st now p x))) s a)
+  ruled-same s x a = rw (spent-same (streamClass (sc .settings) x) (λ e. ltb (key e) (key (claim (sc .settings) now p x))) s a)
 
 -- streams with the same registrations go through the same steps; with the same age too, they have the same claim
-module _ (st : Settings) (now p : ℕ) (x y : Stream) (cells : x .cells ≡ y .cells) where
-  same-steps : steps st p x ≡ steps st p y
+module _ (sc : Scene) (now p : ℕ) (x y : Stream) (cells : x .cells ≡ y .cells) where
+  same-steps : steps sc p x ≡ steps sc p y
   unfolding steps cellAt sourceOf
   same-steps = rw cells
 
@@ -292,11 +294,11 @@ module _ (st : Settings) (now p : ℕ) (x y : Stream) (cells : x .cells ≡ y .c
   unfolding sourceOf
   same-source = rw cells
 
-  same-stream-class : streamClass st x ≡ streamClass st y
+  same-stream-class : streamClass (sc .settings) x ≡ streamClass (sc .settings) y
   unfolding streamClass sourceOf
   same-stream-class = rw cells
 
-  same-claim : x .id ≡ y .id → ageOf now (resultAt x p) ≡ ageOf now (resultAt y p) → claim st now p x ≡ claim st now p y
+  same-claim : x .id ≡ y .id → ageOf now (resultAt x p) ≡ ageOf now (resultAt y p) → claim (sc .settings) now p x ≡ claim (sc .settings) now p y
   unfolding claim cellAt sourceOf
   same-claim i age = rw (age, i, cells)
 
@@ -306,15 +308,15 @@ hasEntry filters = true
 hasEntry forwards = true
 
 -- a stream whose column on p is decided by the steps, and whose entry by the column
-pub record Shown (st : Settings) (p : ℕ) (y : Stream) : Type 0 where
+pub record Shown (sc : Scene) (p : ℕ) (y : Stream) : Type 0 where
   pub demand : ℕ
   pub left : ℕ
-  pub column : columnAt p y ≡ first (outcomeColumn st (sourceOf y)) (steps st p y) (byBandwidth st demand left)
+  pub column : columnAt p y ≡ first (outcomeColumn (sc .settings) (sourceOf y)) (steps sc p y) (byBandwidth (sc .settings) demand left)
   pub entry : resultAt y p .entry ≡ entryOf (columnAt p y) (registered (cellAt y p))
 
 -- where such a stream reaches step h it has an entry and so keeps its age: its claim is the same before and after an advance
-module _ (st : Settings) (now p : ℕ) (here : p < 8) where
-  entry-made : (demand left : ℕ) (d : Declared) → hasEntry (entryOf (byBandwidth st demand left) d) ≡ true
+module _ (sc : Scene) (now p : ℕ) (here : p < 8) where
+  entry-made : (demand left : ℕ) (d : Declared) → hasEntry (entryOf (byBandwidth (sc .settings) demand left) d) ≡ true
   unfolding byBandwidth hasEntry entryOf
   entry-made demand left d = go (ltb left demand)
     where
@@ -322,7 +324,7 @@ module _ (st : Settings) (now p : ℕ) (here : p < 8) where
       made true = refl
       made false = refl
 
-      go : (t : Bool) → hasEntry (entryOf (cond t (failed (st .bridgeId) 1) advertise) d) ≡ true
+      go : (t : Bool) → hasEntry (entryOf (cond t (failed (sc .settings .bridgeId) 1) advertise) d) ≡ true
       go true = refl
       go false = made (isReady d)
 
@@ -335,60 +337,60 @@ module _ (st : Settings) (now p : ℕ) (here : p < 8) where
       go filters q = rw q (rw q at e)
       go forwards q = rw q (rw q at e)
 
-  carried-claim : (x y : Stream) → Carried now x y → Shown st p y → clear (steps st p y) ≡ true → claim st now p y ≡ claim st now p x
+  carried-claim : (x y : Stream) → Carried now x y → Shown sc p y → clear (steps sc p y) ≡ true → claim (sc .settings) now p y ≡ claim (sc .settings) now p x
   carried-claim x y carried shown free =
-      same-claim st now p y x (carried .cells) (carried .id)
+      same-claim sc now p y x (carried .cells) (carried .id)
       (age-runs (resultAt y p) (ageOf now (resultAt x p)) made (carried .ages p here))
     where
-      decided : columnAt p y ≡ byBandwidth st (shown .demand) (shown .left)
-      decided = shown .column ∙ first-clear _ (steps st p y) _ free
+      decided : columnAt p y ≡ byBandwidth (sc .settings) (shown .demand) (shown .left)
+      decided = shown .column ∙ first-clear _ (steps sc p y) _ free
 
       made : hasEntry (resultAt y p .entry) ≡ true
       made =
           ap hasEntry (shown .entry ∙ ap (λ (z : Column). entryOf z (registered (cellAt y p))) decided)
           ∙ entry-made (shown .demand) (shown .left) (registered (cellAt y p))
 
-  carried-claims : (c : Class) (s t : List Stream) → Pairwise (Carried now) s t → All (Shown st p) t → claims st now p c t ≡ claims st now p c s
+  carried-claims : (c : Class) (s t : List Stream) → Pairwise (Carried now) s t → All (Shown sc p) t → claims sc now p c t ≡ claims sc now p c s
   unfolding claims
   carried-claims c [] [] w a = refl
   carried-claims c [] (y ∷ t) w a = absurd w
   carried-claims c (x ∷ s) [] w a = absurd w
   carried-claims c (x ∷ s) (y ∷ t) w a =
-      rw (same-stream-class st now p y x (w .0 .cells)) (go (clear (steps st p y)) refl (sameClass (streamClass st x) c) (carried-claims c s t (w .1) (a .1)))
+      rw (same-stream-class sc now p y x (w .0 .cells)) (go (clear (steps sc p y)) refl (sameClass (streamClass (sc .settings) x) c) (carried-claims c s t (w .1) (a .1)))
     where
-      go : (b : Bool) → clear (steps st p y) ≡ b → (k : Bool) → claims st now p c t ≡ claims st now p c s →
-          keep (clear (steps st p y) && k) (claim st now p y) (claims st now p c t) ≡ keep (clear (steps st p x) && k) (claim st now p x) (claims st now p c s)
-      go true e k ih = rw (carried-claim x y (w .0) (a .0) e, same-steps st now p y x (w .0 .cells), ih)
-      go false e k ih = rw (← same-steps st now p y x (w .0 .cells), e) ih
+      go : (b : Bool) → clear (steps sc p y) ≡ b → (k : Bool) → claims sc now p c t ≡ claims sc now p c s →
+          keep (clear (steps sc p y) && k) (claim (sc .settings) now p y) (claims sc now p c t) ≡ keep (clear (steps sc p x) && k) (claim (sc .settings) now p x) (claims sc now p c s)
+      go true e k ih = rw (carried-claim x y (w .0) (a .0) e, same-steps sc now p y x (w .0 .cells), ih)
+      go false e k ih = rw (← same-steps sc now p y x (w .0 .cells), e) ih
 
-  module _ (s t : List Stream) (carried : Pairwise (Carried now) s t) (shown : All (Shown st p) t) where
-    carried-limit : (c : Class) → limitOn st now t p c ≡ limitOn st now s p c
+  module _ (s t : List Stream) (carried : Pairwise (Carried now) s t) (shown : All (Shown sc p) t) where
+    carried-limit : (c : Class) → limitOn sc now t p c ≡ limitOn sc now s p c
     unfolding limitOn
     carried-limit c = refl
 
-    pub carried-total : (c : Class) → totalOn st now t p c ≡ totalOn st now s p c
+    pub carried-total : (c : Class) → totalOn sc now t p c ≡ totalOn sc now s p c
     unfolding totalOn
     carried-total c = rw (carried-limit c, carried-claims c s t carried shown)
 
     -- decided again from what the advance left, a column is the same
-    pub carried-column : (x y : Stream) → Carried now x y → Shown st p y → columnOf st now t p y ≡ columnOf st now s p x
+    pub carried-column : (x y : Stream) → Carried now x y → Shown sc p y → columnOf sc now t p y ≡ columnOf sc now s p x
     unfolding columnOf leftFor
-    carried-column x y w z = go (clear (steps st p y)) refl
+    carried-column x y w z = go (clear (steps sc p y)) refl
       where
-        go : (b : Bool) → clear (steps st p y) ≡ b → columnOf st now t p y ≡ columnOf st now s p x
+        go : (b : Bool) → clear (steps sc p y) ≡ b → columnOf sc now t p y ≡ columnOf sc now s p x
         go true e =
-            let c = streamClass st x in
+            let c = streamClass (sc .settings) x in
             rw (
-              same-stream-class st now p y x (w .cells),
+              same-stream-class sc now p y x (w .cells),
               carried-limit c,
               carried-claims c s t carried shown,
               carried-claim x y w z e,
-              same-steps st now p y x (w .cells),
-              same-source st now p y x (w .cells),
+              same-steps sc now p y x (w .cells),
+              same-source sc now p y x (w .cells),
             )
         go false e =
-            first-decided _ (steps st p y) _ (byBandwidth st (claim st now p x .demand) (leftFor st now s p x)) e
-            ∙ rw (same-steps st now p y x (w .cells), same-source st now p y x (w .cells))
+            first-decided _ (steps sc p y) _ (byBandwidth (sc .settings) (claim (sc .settings) now p x .demand) (leftFor sc now s p x)) e
+            ∙ rw (same-steps sc now p y x (w .cells), same-source sc now p y x (w .cells))
 
 pub tabulate-same : {A : Type 0} (f g : ℕ → A) (n p : ℕ) → ((q : ℕ) → p ≤ q → q < p + n → f q ≡ g q) → tabulate n p f ≡ tabulate n p g
 unfolding tabulate
@@ -404,108 +406,111 @@ pairwise-image R f h [] = tt
 pairwise-image R f h (x ∷ l) = (h x, pairwise-image R f h l)
 
 -- What is decided over the streams s is what the rules give over the streams that are left.
-module _ (st : Settings) (now : ℕ) (s : List Stream) where
-  decided-at : (x : Stream) (p : ℕ) → p < 8 → resultAt (decide st now s x) p ≡ decideAt st now s x p
+module _ (sc : Scene) (now : ℕ) (s : List Stream) where
+  decided-at : (x : Stream) (p : ℕ) → p < 8 → resultAt (decide sc now s x) p ≡ decideAt sc now s x p
   unfolding decide resultAt
-  decided-at x p h = at-place (decideAt st now s x) p unsettled h
+  decided-at x p h = at-place (decideAt sc now s x) p unsettled h
 
-  decide-carries : (x : Stream) → Carried now x (decide st now s x)
+  decide-carries : (x : Stream) → Carried now x (decide sc now s x)
   unfolding decide decideAt
   decide-carries x = record { id = refl; cells = refl; ages = λ p h. rw (decided-at x p h) }
 
-  decided-column : (x : Stream) (p : ℕ) → p < 8 → columnAt p (decide st now s x) ≡ columnOf st now s p x
+  decided-column : (x : Stream) (p : ℕ) → p < 8 → columnAt p (decide sc now s x) ≡ columnOf sc now s p x
   unfolding columnAt decideAt
   decided-column x p h = ap (λ (r : Result). r .column) (decided-at x p h)
 
   decided-entry : (x : Stream) (p : ℕ) → p < 8 →
-      resultAt (decide st now s x) p .entry ≡ entryOf (columnAt p (decide st now s x)) (registered (cellAt (decide st now s x) p))
+      resultAt (decide sc now s x) p .entry ≡ entryOf (columnAt p (decide sc now s x)) (registered (cellAt (decide sc now s x) p))
   unfolding decideAt cellAt decide
   decided-entry x p h =
       ap (λ (r : Result). r .entry) (decided-at x p h)
       ∙ ap (λ (c : Column). entryOf c (registered (cellAt x p))) (sym (decided-column x p h))
 
-  decide-shows : (p : ℕ) → p < 8 → (x : Stream) → Shown st p (decide st now s x)
+  decide-shows : (p : ℕ) → p < 8 → (x : Stream) → Shown sc p (decide sc now s x)
   unfolding columnOf cellAt steps sourceOf decide
   decide-shows p h x = record {
-    demand = claim st now p x .demand;
-    left = leftFor st now s p x;
+    demand = claim (sc .settings) now p x .demand;
+    left = leftFor sc now s p x;
     column = decided-column x p h;
     entry = decided-entry x p h;
   }
 
   decided : List Stream
-  decided = map (decide st now s) s
+  decided = map (decide sc now s) s
 
   carries : Pairwise (Carried now) s decided
   unfolding decided
-  carries = pairwise-image (Carried now) (decide st now s) decide-carries s
+  carries = pairwise-image (Carried now) (decide sc now s) decide-carries s
 
   module _ (p : ℕ) (here : p < 8) where
-    shows : All (Shown st p) decided
+    shows : All (Shown sc p) decided
     unfolding decided
-    shows = all-image (Shown st p) (decide st now s) (decide-shows p here) s
+    shows = all-image (Shown sc p) (decide sc now s) (decide-shows p here) s
 
-    again : (x : Stream) → columnOf st now decided p (decide st now s x) ≡ columnAt p (decide st now s x)
+    again : (x : Stream) → columnOf sc now decided p (decide sc now s x) ≡ columnAt p (decide sc now s x)
     again x =
-        carried-column st now p here s decided carries shows x (decide st now s x) (decide-carries x) (decide-shows p here x)
+        carried-column sc now p here s decided carries shows x (decide sc now s x) (decide-carries x) (decide-shows p here x)
         ∙ sym (decided-column x p here)
 
-    all-again : All (λ y. columnOf st now decided p y ≡ columnAt p y) decided
+    all-again : All (λ y. columnOf sc now decided p y ≡ columnAt p y) decided
     unfolding decided
-    all-again = all-image (λ y. columnOf st now decided p y ≡ columnAt p y) (decide st now s) again s
+    all-again = all-image (λ y. columnOf sc now decided p y ≡ columnAt p y) (decide sc now s) again s
 
     module _ (r : Rising (ids s)) (a : All Small (ids s)) where
       decided-rising : Rising (ids decided)
       unfolding decided
-      decided-rising = rw (decided-ids st now s s) r
+      decided-rising = rw (decided-ids sc now s s) r
 
       decided-small : All Small (ids decided)
       unfolding decided
-      decided-small = rw (decided-ids st now s s) a
+      decided-small = rw (decided-ids sc now s s) a
 
-      decided-ruled : (x : Stream) → columnAt p (decide st now s x) ≡ ruled st now decided p (columnAt p) (decide st now s x)
+      decided-ruled : (x : Stream) → columnAt p (decide sc now s x) ≡ ruled sc now decided p (columnAt p) (decide sc now s x)
       decided-ruled x =
           sym (again x)
-          ∙ columns-ruled st now decided p decided-rising decided-small (decide st now s x)
-          ∙ ruled-same st now p (columnOf st now decided p) (columnAt p) decided (decide st now s x) all-again
+          ∙ columns-ruled sc now decided p decided-rising decided-small (decide sc now s x)
+          ∙ ruled-same sc now p (columnOf sc now decided p) (columnAt p) decided (decide sc now s x) all-again
 
-      decided-total : (c : Class) → totalOn st now s p c ≡ spent st now p c (columnAt p) (λ e. true) decided
+      decided-total : (c : Class) → totalOn sc now s p c ≡ spent (sc .settings) now p c (columnAt p) (λ e. true) decided
       decided-total c =
-          sym (carried-total st now p here s decided carries shows c)
-          ∙ total-ruled st now decided p decided-rising decided-small c
-          ∙ spent-same st now p (columnOf st now decided p) (columnAt p) c (λ e. true) decided all-again
+          sym (carried-total sc now p here s decided carries shows c)
+          ∙ total-ruled sc now decided p decided-rising decided-small c
+          ∙ spent-same sc now p (columnOf sc now decided p) (columnAt p) c (λ e. true) decided all-again
 
-    decided-within : (c : Class) → totalOn st now s p c ≤ limitOn st now decided p c
-    decided-within c = rw (← carried-total st now p here s decided carries shows c) (total-within st now decided p c)
+    decided-within : (c : Class) → totalOn sc now s p c ≤ limitOn sc now decided p c
+    decided-within c = rw (← carried-total sc now p here s decided carries shows c) (total-within sc now decided p c)
 
     decided-latency : (x : Stream) →
-        resultAt (decide st now s x) p .latency ≡ latencyKept (columnAt p (decide st now s x)) (latencyOut st p (decide st now s x))
+        resultAt (decide sc now s x) p .latency ≡ latencyKept (columnAt p (decide sc now s x)) (latencyOut (sc .settings) p (decide sc now s x))
     unfolding decideAt latencyOut streamClass sourceOf decide
     decided-latency x =
         ap (λ (r : Result). r .latency) (decided-at x p here)
-        ∙ ap (λ (c : Column). latencyKept c (latencyOut st p x)) (sym (decided-column x p here))
+        ∙ ap (λ (c : Column). latencyKept c (latencyOut (sc .settings) p x)) (sym (decided-column x p here))
 
-    decided-declares : (x : Stream) → resultAt (decide st now s x) p .declares
-        ≡ cond (isSource (sourceOf (decide st now s x)) p)
-        (mergeAll (tabulate 8 0 (λ q. passed (columnAt q (decide st now s x)) (registered (cellAt (decide st now s x) q))))) nothing
+    decided-declares : (x : Stream) → resultAt (decide sc now s x) p .declares
+        ≡ cond (isSource (sourceOf (decide sc now s x)) p)
+        (mergeAll (tabulate 8 0 (λ q. passed (columnAt q (decide sc now s x)) (registered (cellAt (decide sc now s x) q))))) nothing
     unfolding decideAt merged sourceOf cellAt decide
     decided-declares x =
         ap (λ (r : Result). r .declares) (decided-at x p here)
         ∙ ap (λ (l : List Declared). cond (isSource (sourceOf x) p) (mergeAll l) nothing)
-        (tabulate-same (λ q. passed (columnOf st now s q x) (registered (cellAt x q)))
-        (λ q. passed (columnAt q (decide st now s x)) (registered (cellAt x q))) 8 0
+        (tabulate-same (λ q. passed (columnOf sc now s q x) (registered (cellAt x q)))
+        (λ q. passed (columnAt q (decide sc now s x)) (registered (cellAt x q))) 8 0
         (λ q l h. ap (λ (c : Column). passed c (registered (cellAt x q))) (sym (decided-column x q h))))
 
 module _ (now : ℕ) (b : Bridge) where
   remaining : List Stream
   remaining = remain (b .settings) now (b .streams)
 
+  abbrev there : Scene
+  there = sceneOf (settle now b)
+
   -- the totals that the settled bridge holds are those decided
-  total-kept : (p : ℕ) → p < 8 → (c : Class) → totalAt (settle now b) p c ≡ totalOn (b .settings) now remaining p c
+  total-kept : (p : ℕ) → p < 8 → (c : Class) → totalAt (settle now b) p c ≡ totalOn there now remaining p c
   unfolding settle totalAt totalsOn limitOn limit remaining
-  total-kept p h noClass = omega (arith, total-within (b .settings) now remaining p noClass)
-  total-kept p h classA = ap (λ (t : Totals). t .totalA) (at-place (totalsOn (b .settings) now remaining) p noTotals h)
-  total-kept p h classB = ap (λ (t : Totals). t .totalB) (at-place (totalsOn (b .settings) now remaining) p noTotals h)
+  total-kept p h noClass = omega (arith, total-within there now remaining p noClass)
+  total-kept p h classA = ap (λ (t : Totals). t .totalA) (at-place (totalsOn there now remaining) p noTotals h)
+  total-kept p h classB = ap (λ (t : Totals). t .totalB) (at-place (totalsOn there now remaining) p noTotals h)
 
   module _ (r : Rising (ids (b .streams))) (a : All Small (ids (b .streams))) where
     risen : Rising (ids remaining)
@@ -516,16 +521,16 @@ module _ (now : ℕ) (b : Bridge) where
     unfolding remaining
     small = remain-all (b .settings) now Small (b .streams) a
 
-    settled-stream : (x : Stream) → SettledStream (settle now b) (decide (b .settings) now remaining x)
+    settled-stream : (x : Stream) → SettledStream (settle now b) (decide there now remaining x)
     unfolding settle remaining decided decide tabulate sourceOf
     settled-stream x = record {
       values = refl;
       places = refl;
       shows = λ p h. record {
-        column = decided-ruled (b .settings) now remaining p h risen small x;
-        latency = decided-latency (b .settings) now remaining p h x;
-        entry = decided-entry (b .settings) now remaining x p h;
-        declares = decided-declares (b .settings) now remaining p h x;
+        column = decided-ruled there now remaining p h risen small x;
+        latency = decided-latency there now remaining p h x;
+        entry = decided-entry there now remaining x p h;
+        declares = decided-declares there now remaining p h x;
       };
     }
 
@@ -533,10 +538,10 @@ module _ (now : ℕ) (b : Bridge) where
     pub settled : Settled (settle now b)
     unfolding settle remaining decided tabulate
     settled = record {
-      streams = all-image (SettledStream (settle now b)) (decide (b .settings) now remaining) settled-stream remaining;
+      streams = all-image (SettledStream (settle now b)) (decide there now remaining) settled-stream remaining;
       places = refl;
-      totals = λ p h c. total-kept p h c ∙ decided-total (b .settings) now remaining p h risen small c;
-      limits = λ p h c. rw (total-kept p h c) (decided-within (b .settings) now remaining p h c);
+      totals = λ p h c. total-kept p h c ∙ decided-total there now remaining p h risen small c;
+      limits = λ p h c. rw (total-kept p h c) (decided-within there now remaining p h c);
     }
 
     -- and so it is what an advance leaves.
@@ -545,95 +550,96 @@ module _ (now : ℕ) (b : Bridge) where
     advanced = record {
       settings = refl;
       clock = refl;
-      streams = carries (b .settings) now remaining;
+      own = refl;
+      streams = carries there now remaining;
       decided = settled;
     }
 
 -- What an unimportant stream can't touch: two bridges at one advance that agree on a stream's registrations and age on p, on
 -- the more important claims of its class there, and on the limit, give it the same column and entry on p, however the less
 -- important streams differ.
-module _ (st : Settings) (now p : ℕ) (s s′ : List Stream) (x x′ : Stream)
+module _ (sc : Scene) (now p : ℕ) (s s′ : List Stream) (x x′ : Stream)
     (sameId : x .id ≡ x′ .id) (sameCells : x .cells ≡ x′ .cells)
     (sameAge : ageOf now (resultAt x p) ≡ ageOf now (resultAt x′ p))
-    (sameAbove : above (key (claim st now p x)) (claims st now p (streamClass st x) s)
-    ≡ above (key (claim st now p x)) (claims st now p (streamClass st x) s′))
-    (sameLimit : limitOn st now s p (streamClass st x) ≡ limitOn st now s′ p (streamClass st x)) where
-  same-column : columnOf st now s p x ≡ columnOf st now s′ p x′
+    (sameAbove : above (key (claim (sc .settings) now p x)) (claims sc now p (streamClass (sc .settings) x) s)
+    ≡ above (key (claim (sc .settings) now p x)) (claims sc now p (streamClass (sc .settings) x) s′))
+    (sameLimit : limitOn sc now s p (streamClass (sc .settings) x) ≡ limitOn sc now s′ p (streamClass (sc .settings) x)) where
+  same-column : columnOf sc now s p x ≡ columnOf sc now s′ p x′
   unfolding columnOf leftFor remains
   same-column =
       rw (
         sameAbove,
         sameLimit,
-        same-steps st now p x x′ sameCells,
-        same-source st now p x x′ sameCells,
-        same-claim st now p x x′ sameCells sameId sameAge,
-        same-stream-class st now p x x′ sameCells,
+        same-steps sc now p x x′ sameCells,
+        same-source sc now p x x′ sameCells,
+        same-claim sc now p x x′ sameCells sameId sameAge,
+        same-stream-class sc now p x x′ sameCells,
       )
 
-  pub untouchable : (decideAt st now s x p .column ≡ decideAt st now s′ x′ p .column) × (decideAt st now s x p .entry ≡ decideAt st now s′ x′ p .entry)
+  pub untouchable : (decideAt sc now s x p .column ≡ decideAt sc now s′ x′ p .column) × (decideAt sc now s x p .entry ≡ decideAt sc now s′ x′ p .entry)
   unfolding decideAt cellAt
   untouchable = (same-column, rw (same-column, sameCells))
 
 -- A stream that reserves nothing on p, because it is refused or has no ready Listener there, changes no column and no class
 -- total on p: all is as if it were not held.
-module _ (st : Settings) (now p : ℕ) where
-  claims-append : (c : Class) (s t : List Stream) → claims st now p c (s ++ t) ≡ claims st now p c s ++ claims st now p c t
+module _ (sc : Scene) (now p : ℕ) where
+  claims-append : (c : Class) (s t : List Stream) → claims sc now p c (s ++ t) ≡ claims sc now p c s ++ claims sc now p c t
   unfolding claims
   claims-append c [] t = refl
-  claims-append c (x ∷ s) t = go (clear (steps st p x) && sameClass (streamClass st x) c) (claims-append c s t)
+  claims-append c (x ∷ s) t = go (clear (steps sc p x) && sameClass (streamClass (sc .settings) x) c) (claims-append c s t)
     where
-      go : (b : Bool) → claims st now p c (s ++ t) ≡ claims st now p c s ++ claims st now p c t →
-          keep b (claim st now p x) (claims st now p c (s ++ t)) ≡ keep b (claim st now p x) (claims st now p c s) ++ claims st now p c t
-      go true ih = ap (λ (l : List Claim). claim st now p x ∷ l) ih
+      go : (b : Bool) → claims sc now p c (s ++ t) ≡ claims sc now p c s ++ claims sc now p c t →
+          keep b (claim (sc .settings) now p x) (claims sc now p c (s ++ t)) ≡ keep b (claim (sc .settings) now p x) (claims sc now p c s) ++ claims sc now p c t
+      go true ih = ap (λ (l : List Claim). claim (sc .settings) now p x ∷ l) ih
       go false ih = ih
 
   module _ (s t : List Stream) (x : Stream) (r : Rising (ids (s ++ x ∷ t))) (a : All Small (ids (s ++ x ∷ t)))
-      (idle : (isAdvertise (columnOf st now (s ++ x ∷ t) p x) && isReady (registered (cellAt x p))) ≡ false) where
+      (idle : (isAdvertise (columnOf sc now (s ++ x ∷ t) p x) && isReady (registered (cellAt x p))) ≡ false) where
     module _ (c : Class) where
       abbrev d : Claim
-      d = claim st now p x
+      d = claim (sc .settings) now p x
 
       abbrev earlier : List Claim
-      earlier = claims st now p c s
+      earlier = claims sc now p c s
 
       abbrev later : List Claim
-      later = claims st now p c t
+      later = claims sc now p c t
 
       abbrev all-claims : List Claim
-      all-claims = claims st now p c (s ++ x ∷ t)
+      all-claims = claims sc now p c (s ++ x ∷ t)
 
       abbrev limit-in-force : ℕ
-      limit-in-force = limitOn st now (s ++ x ∷ t) p c
+      limit-in-force = limitOn sc now (s ++ x ∷ t) p c
 
-      takes-nothing : (clear (steps st p x) && sameClass (streamClass st x) c) ≡ true →
+      takes-nothing : (clear (steps sc p x) && sameClass (streamClass (sc .settings) x) c) ≡ true →
           (admitted limit-in-force all-claims d && d .ready) ≡ false
       unfolding claim
       takes-nothing e =
-          let k : isAdvertise (columnOf st now (s ++ x ∷ t) p x) ≡ admitted limit-in-force all-claims d =
-          rw (e, and-right (clear (steps st p x)) (sameClass (streamClass st x) c) e) at (column-agrees st now (s ++ x ∷ t) p c x) in
+          let k : isAdvertise (columnOf sc now (s ++ x ∷ t) p x) ≡ admitted limit-in-force all-claims d =
+          rw (e, and-right (clear (steps sc p x)) (sameClass (streamClass (sc .settings) x) c) e) at (column-agrees sc now (s ++ x ∷ t) p c x) in
           rw (← k) idle
 
       dropped : (f : List Claim → ℕ) →
           (Distinct (earlier ++ d ∷ later) → (admitted limit-in-force (earlier ++ d ∷ later) d && d .ready) ≡ false → f (earlier ++ d ∷ later) ≡ f (earlier ++ later)) →
-          f all-claims ≡ f (claims st now p c (s ++ t))
+          f all-claims ≡ f (claims sc now p c (s ++ t))
       unfolding claims
-      dropped f h = go (clear (steps st p x) && sameClass (streamClass st x) c) refl ∙ ap f (sym (claims-append c s t))
+      dropped f h = go (clear (steps sc p x) && sameClass (streamClass (sc .settings) x) c) refl ∙ ap f (sym (claims-append c s t))
         where
-          go : (b : Bool) → (clear (steps st p x) && sameClass (streamClass st x) c) ≡ b → f all-claims ≡ f (earlier ++ later)
+          go : (b : Bool) → (clear (steps sc p x) && sameClass (streamClass (sc .settings) x) c) ≡ b → f all-claims ≡ f (earlier ++ later)
           go true e =
               let split : all-claims ≡ earlier ++ d ∷ later = claims-append c s (x ∷ t) ∙ rw e in
-              ap f split ∙ h (rw split at (claims-distinct st now p c (s ++ x ∷ t) r a)) (rw split at (takes-nothing e))
+              ap f split ∙ h (rw split at (claims-distinct sc now p c (s ++ x ∷ t) r a)) (rw split at (takes-nothing e))
           go false e = ap f (claims-append c s (x ∷ t) ∙ rw e)
 
-    pub without-idle-total : (c : Class) → totalOn st now (s ++ x ∷ t) p c ≡ totalOn st now (s ++ t) p c
+    pub without-idle-total : (c : Class) → totalOn sc now (s ++ x ∷ t) p c ≡ totalOn sc now (s ++ t) p c
     unfolding totalOn limitOn
     without-idle-total c = dropped c (total (limit-in-force c)) (idle-total (limit-in-force c) (earlier c) (later c) (d c))
 
-    pub without-idle-column : (y : Stream) → columnOf st now (s ++ x ∷ t) p y ≡ columnOf st now (s ++ t) p y
+    pub without-idle-column : (y : Stream) → columnOf sc now (s ++ x ∷ t) p y ≡ columnOf sc now (s ++ t) p y
     unfolding columnOf leftFor remains limitOn
     without-idle-column y =
-        let c = streamClass st y in
-        let k = key (claim st now p y) in
-        ap (λ (n : ℕ). first (outcomeColumn st (sourceOf y)) (steps st p y) (byBandwidth st (claim st now p y .demand) (limit-in-force c - n)))
+        let c = streamClass (sc .settings) y in
+        let k = key (claim (sc .settings) now p y) in
+        ap (λ (n : ℕ). first (outcomeColumn (sc .settings) (sourceOf y)) (steps sc p y) (byBandwidth (sc .settings) (claim (sc .settings) now p y .demand) (limit-in-force c - n)))
         (dropped c (λ cs. reserved (limit-in-force c) (sort (above k cs)))
         (λ distinct idle. idle-above (limit-in-force c) (earlier c) (later c) (d c) distinct idle k))

@@ -1,5 +1,5 @@
--- Acts at two different places, hence the frames of two different ports, commute on the streams held. Of what acts do to a cell
--- this needs only that a leave does nothing to an empty one.
+-- Acts at two different places, hence the frames of two different ports, commute on the streams held and on what the ports hold
+-- by themselves. Of what acts do to a cell this needs only that a leave does nothing to an empty one.
 use mathlib.Core.Path.{_≡_, refl, sym, _∙_, ap, ap₂}
 use mathlib.Core.List.{List, [], _∷_, map}
 use mathlib.Core.Bool.{Bool, true, false, true≢false}
@@ -8,8 +8,9 @@ use native.Mathlib.Omega.{arith}
 use native.Mathlib.Decide.{ℕ-discrete, decLt}
 use lib.ListN.{replicate}
 use borrow.Author.Tests.{lt-ltb, le-ltb, eq-eqb, ne-eqb}
-use Rattle.model.specs.State.{Cell, Stream, fresh, empty, blank}
-use Rattle.model.specs.Registrations.{Act, leaveAll, leave, talk, listen, Kind, at, change, begun, touch, apply, applyAll, quit, quitTalker, quitListener, does, reach}
+use Rattle.model.specs.State.{Cell, Own, Stream, fresh, empty, blank}
+use Rattle.model.specs.Registrations.{Act, leaveAll, leave, talk, listen, ofDomain, Kind, at, change, begun, touch, apply, applyAll, quit, quitTalker, quitListener, does, reach, changeDomains, doesDomain, applyOwn, applyOwns}
+use Rattle.model.proofs.Lists.{at-commute}
 
 abbrev pub Change : Type 0
 Change = List Cell → List Cell
@@ -160,12 +161,16 @@ module _ (u v : Change) (uv : Commute u v) where
   every-every [] = refl
   every-every (x ∷ s) = ap₂ (λ (y : Stream) (l : List Stream). y ∷ l) (changes-commute u v uv x) (every-every s)
 
--- what an act does to the table is one of two things
+-- what an act does to the streams is one of three things
 pub data Does (u : Change) : (List Stream → List Stream) → Type 0 where
   every : u blank ≡ blank → Does u (map (change u))
   single : (b : Bool) (i : ℕ) → (b ≡ false → u blank ≡ blank) → Does u (touch b i u)
+  untouched : Does u (λ s. s)
 
 pub does-commute : {f g : List Stream → List Stream} (u v : Change) → Does u f → Does v g → Commute u v → (s : List Stream) → f (g s) ≡ g (f s)
+does-commute u v untouched g uv s = refl
+does-commute u v (every p) untouched uv s = refl
+does-commute u v (single a i p) untouched uv s = refl
 does-commute u v (every p) (every q) uv s = every-every u v uv s
 does-commute u v (every p) (single b j q) uv s = every-touch u v uv b j p s
 does-commute u v (single a i p) (every q) uv s = sym (every-touch v u (λ c. sym (uv c)) a i q s)
@@ -196,25 +201,43 @@ act-does now p (leaveAll k) = every (quit-blank now p k)
 act-does now p (leave k i) = single false i (λ e. quit-blank now p k)
 act-does now p (talk i f v) = single true i (λ e. absurd (true≢false e))
 act-does now p (listen i d) = single true i (λ e. absurd (true≢false e))
+act-does now p (ofDomain d) = untouched
 
-at-commute : (p q : ℕ) (u v : Cell → Cell) → (p ≡ q → ⊥) → Commute (at p u) (at q v)
-unfolding at
-at-commute p q u v n [] = refl
-at-commute zero zero u v n (c ∷ cs) = absurd (n refl)
-at-commute zero (suc q) u v n (c ∷ cs) = refl
-at-commute (suc p) zero u v n (c ∷ cs) = refl
-at-commute (suc p) (suc q) u v n (c ∷ cs) = ap (λ (l : List Cell). c ∷ l) (at-commute p q u v (λ e. n (ap suc e)) cs)
+-- Acts one after another, at two places where single ones commute.
+module _ {S : Type 0} (one : ℕ → Act → S → S) (many : ℕ → List Act → S → S) (none : (p : ℕ) (s : S) → many p [] s ≡ s)
+    (more : (p : ℕ) (a : Act) (es : List Act) (s : S) → many p (a ∷ es) s ≡ many p es (one p a s))
+    (p q : ℕ) (commute : (a b : Act) (s : S) → one p a (one q b s) ≡ one q b (one p a s)) where
+  one-past : (a : Act) (fs : List Act) (s : S) → one p a (many q fs s) ≡ many q fs (one p a s)
+  one-past a [] s = rw (none q s, none q (one p a s))
+  one-past a (b ∷ fs) s = rw (more q b fs s, more q b fs (one p a s)) (one-past a fs (one q b s) ∙ ap (many q fs) (commute a b s))
+
+  many-commute : (es fs : List Act) (s : S) → many p es (many q fs s) ≡ many q fs (many p es s)
+  many-commute [] fs s = rw (none p s, none p (many q fs s))
+  many-commute (a ∷ es) fs s =
+      rw (more p a es s, more p a es (many q fs s)) (ap (many p es) (one-past a fs s) ∙ many-commute es fs (one p a s))
 
 module _ (now p q : ℕ) (n : p ≡ q → ⊥) where
   acts-commute : (a b : Act) (s : List Stream) → apply now p a (apply now q b s) ≡ apply now q b (apply now p a s)
   acts-commute a b s = does-commute _ _ (act-does now p a) (act-does now q b) (at-commute p q (does now a) (does now b) n) s
 
-  act-past : (a : Act) (fs : List Act) (s : List Stream) → apply now p a (applyAll now q fs s) ≡ applyAll now q fs (apply now p a s)
-  unfolding applyAll
-  act-past a [] s = refl
-  act-past a (b ∷ fs) s = act-past a fs (apply now q b s) ∙ ap (applyAll now q fs) (acts-commute a b s)
-
   pub frames-commute : (es fs : List Act) (s : List Stream) → applyAll now p es (applyAll now q fs s) ≡ applyAll now q fs (applyAll now p es s)
   unfolding applyAll
-  frames-commute [] fs s = refl
-  frames-commute (a ∷ es) fs s = ap (applyAll now p es) (act-past a fs s) ∙ frames-commute es fs (apply now p a s)
+  frames-commute es fs s = many-commute (apply now) (applyAll now) (λ p s. refl) (λ p a es s. refl) p q acts-commute es fs s
+
+  -- and of what the ports hold by themselves, which only Domain acts change
+  own-acts-commute : (a b : Act) (o : List Own) → applyOwn now p a (applyOwn now q b o) ≡ applyOwn now q b (applyOwn now p a o)
+  unfolding applyOwn
+  own-acts-commute (leaveAll k) b o = refl
+  own-acts-commute (leave k i) b o = refl
+  own-acts-commute (talk i f v) b o = refl
+  own-acts-commute (listen i r) b o = refl
+  own-acts-commute (ofDomain d) (leaveAll k) o = refl
+  own-acts-commute (ofDomain d) (leave k i) o = refl
+  own-acts-commute (ofDomain d) (talk i f v) o = refl
+  own-acts-commute (ofDomain d) (listen i r) o = refl
+  own-acts-commute (ofDomain d) (ofDomain e) o =
+      at-commute p q (changeDomains (doesDomain now d)) (changeDomains (doesDomain now e)) n o
+
+  pub own-frames-commute : (es fs : List Act) (o : List Own) → applyOwns now p es (applyOwns now q fs o) ≡ applyOwns now q fs (applyOwns now p es o)
+  unfolding applyOwns
+  own-frames-commute es fs o = many-commute (applyOwn now) (applyOwns now) (λ p o. refl) (λ p a es o. refl) p q own-acts-commute es fs o

@@ -1,9 +1,10 @@
 -- 01's marked examples P1 to P13 and its worked example, computed by the definitions and compared with what 01 prints; then
--- examples of what 01 says of registering and of ages, of the near misses that it shuts out, and of the order of a PDU's checks.
+-- examples of what 01 says of registering and of ages, of the near misses that it shuts out, of the domain's edge, and of the order
+-- of a PDU's checks.
 use mathlib.Core.Path.{_≡_, refl}
 use mathlib.Core.List.{List, [], _∷_, _++_, map}
 use mathlib.Core.Bool.{true, false, cond}
-use Prim.Native.Nat.{ℕ, _+_}
+use Prim.Native.Nat.{ℕ, suc, _+_}
 use lib.ListN.{length, getD, take, replicate}
 use lib.Dec.{eqb}
 use Rattle.octets.specs.Be
@@ -16,7 +17,7 @@ use Rattle.model.specs.State.{Port, Settings, Fixed, ready, askingFailed
 use Rattle.model.specs.State
 use Rattle.model.specs.Registrations.{Kind, advertises, faileds, listeners, Reading, refused, acts, Answer}
 use Rattle.model.specs.Registrations
-use Rattle.model.specs.Frames.{Event, new, joinIn, isIn, joinMt, mt, lv}
+use Rattle.model.specs.Frames.{Attribute, registers, domain, Event, new, joinIn, isIn, joinMt, mt, lv}
 use Rattle.model.specs.Frames
 use Rattle.model.specs.Bandwidth
 use Rattle.model.specs.Settling
@@ -37,7 +38,7 @@ abbrev pub Holds : Example → Type 0
 Holds e = e .computed ≡ e .printed
 
 -- The bridge of the worked example: "Two ports, both classes, overhead 42, largest 1522, limits 75000000 and 0, latency 0,
--- priorities 3 and 2, leave time 60"; with another limit for class A where an example asks for one.
+-- priorities 3 and 2, leave time 60", VLAN 2; with another limit for class A where an example asks for one.
 
 port : ℕ → Port
 port limit = record {
@@ -53,7 +54,7 @@ port limit = record {
 }
 
 settings : ℕ → Settings
-settings limit = record { bridgeId = 7; priorityA = 3; priorityB = 2; leaveTime = 60; ports = port limit ∷ port limit ∷ [] }
+settings limit = record { bridgeId = 7; priorityA = 3; priorityB = 2; leaveTime = 60; vlan = 2; ports = port limit ∷ port limit ∷ [] }
 
 -- what is handed over: a PDU on a port, or a time
 data Handed : Type 0 where
@@ -69,14 +70,24 @@ from b [] = b
 from b (pdu p s ∷ l) = from (accepted (Calls.receive b p s)) l
 from b (time now ∷ l) = from (accepted (Settling.advance b now)) l
 
--- the bridge with this limit, after what is handed over
-bridge : ℕ → List Handed → Bridge
-bridge limit l = from (State.started (settings limit)) l
-
 -- PDUs of one Message.
 
+messageOf : Attribute → List ℕ → List ℕ
+messageOf k vectors = 0 ∷ (WrittenFrames.messageOf k (vectors ++ (0 ∷ 0 ∷ [])) ++ (0 ∷ 0 ∷ []))
+
 message : Kind → List ℕ → List ℕ
-message k vectors = 0 ∷ (WrittenFrames.messageOf k (vectors ++ (0 ∷ 0 ∷ [])) ++ (0 ∷ 0 ∷ []))
+message k vectors = messageOf (registers k) vectors
+
+-- n Domain values from a class ID and a priority on, of VLAN 2, with their events; "matching Domain joins": {5, 2} and {6, 3}
+domainsOf : ℕ → ℕ → ℕ → List ℕ → List ℕ
+domainsOf classId priority n three = messageOf domain (Be.be 2 n ++ (classId ∷ priority ∷ 0 ∷ 2 ∷ three))
+
+matching : List ℕ
+matching = domainsOf 5 2 2 (126 ∷ [])
+
+-- the bridge with this limit, after matching Domain joins on each port and what is handed over
+bridge : ℕ → List Handed → Bridge
+bridge limit l = from (State.started (settings limit)) (pdu 1 matching ∷ pdu 2 matching ∷ l)
 
 -- FirstValues like those of the worked example: a StreamID by its Unique ID; MaxFrameSize, one frame per interval, and the
 -- octet of priority and rank
@@ -255,7 +266,7 @@ examples =
 
 -- to unfold this is to unfold the examples' own definitions
 shown : Unit {0}
-unfolding opened port settings accepted from bridge message streamId talkerFirst rank1 rank0 advertisesOf failedOf listenerVector listenersOf talks hears columns reserves count talker listener read eventNumber events wordNumber reported size224 one four withFifth settledTalker lvPdu leaver workedTalker workedListener worked
+unfolding opened port settings accepted from messageOf message domainsOf matching bridge streamId talkerFirst rank1 rank0 advertisesOf failedOf listenerVector listenersOf talks hears columns reserves count talker listener read eventNumber events wordNumber reported size224 one four withFifth settledTalker lvPdu leaver workedTalker workedListener worked
 shown = tt
 
 pub marked-examples : All Holds examples
@@ -370,6 +381,53 @@ pub registering-examples : All Holds further
 unfolding shown further leaveAllPdu mtPdu leftOnPort1 sameSecond oneTooLarge lessReady held63 twicePdu answered ages
 registering-examples =
     (refl, (refl, (refl, (refl, (refl, (refl, (refl, (refl, (refl, (refl, (refl, (refl, (refl, (refl, (refl, (refl, (refl, (refl, (refl, tt)))))))))))))))))))
+
+-- The edge of the domain.
+
+-- no Domain value heard; a stream of this size and priority octet, Ready
+alone : ℕ → ℕ → Bridge
+alone size octet = from (State.started (settings 75000000)) (pdu 1 (talks 1 size octet) ∷ pdu 2 (hears 1 128) ∷ time 100 ∷ [])
+
+-- the worked example's stream; then port 2's neighbour changes class A's priority from 3 to 4 at 100, withdrawing the old value
+changed : List Handed → Bridge
+changed l =
+    bridge 75000000
+    (pdu 1 (talks 1 224 rank1) ∷ pdu 2 (hears 1 128) ∷ time 100 ∷ pdu 2 (domainsOf 6 3 1 (180 ∷ [])) ∷ pdu 2 (domainsOf 6 4 1 (108 ∷ [])) ∷ l)
+
+-- what the port at place p has registered: the slots that are held, and the flags of class A and class B
+slotsHeld : ℕ → List State.Domain → List ℕ
+slotsHeld i [] = []
+slotsHeld i (State.noDomain ∷ ds) = slotsHeld (suc i) ds
+slotsHeld i (State.domain v l ∷ ds) = i ∷ slotsHeld (suc i) ds
+
+edge : ℕ → Bridge → List ℕ
+edge p b = let o = State.ownAt (b .own) p in slotsHeld 0 (o .domains) ++ (Lists.bit (o .boundaryA) ∷ Lists.bit (o .boundaryB) ∷ [])
+
+pub edges : List Example
+edges =
+    -- without a Domain value every port is at the edge, and the stream fails with 8
+    record { computed = edge 1 (alone 224 rank1) ++ columns (alone 224 rank1); printed = 1 ∷ 1 ∷ 2 ∷ 8 ∷ [] }
+    -- 13 comes before 8, and 8 before 14
+    ∷ record { computed = columns (alone 224 0x10); printed = 2 ∷ 13 ∷ [] }
+    ∷ record { computed = columns (alone 1523 rank1); printed = 2 ∷ 8 ∷ [] }
+    -- {4, 1} with 4 values holds (5, 2) and (6, 3)
+    ∷ record { computed = edge 0 (from (State.started (settings 0)) (pdu 1 (domainsOf 4 1 4 (129 ∷ 108 ∷ [])) ∷ [])); printed = 2 ∷ 11 ∷ 0 ∷ 0 ∷ [] }
+    -- a neighbour that changes its priority is outside until its old value has expired, and then it is one of another priority
+    ∷ record { computed = edge 1 (changed (time 159 ∷ [])); printed = 2 ∷ 11 ∷ 12 ∷ 1 ∷ 0 ∷ [] }
+    ∷ record { computed = edge 1 (changed (time 160 ∷ [])) ++ columns (changed (time 160 ∷ [])); printed = 2 ∷ 12 ∷ 1 ∷ 0 ∷ 2 ∷ 8 ∷ [] }
+    -- with the bridge's own value joined again and the other withdrawn, it is inside once that has expired, in the same advance
+    ∷ record {
+      computed = edge 1 (changed (pdu 2 matching ∷ pdu 2 (domainsOf 6 4 1 (180 ∷ [])) ∷ time 160 ∷ []));
+      printed = 2 ∷ 11 ∷ 0 ∷ 0 ∷ [];
+    }
+    -- LeaveAll of another type leaves Domain values alone, that of type 4 all of them on its port
+    ∷ record { computed = edge 0 (bridge 0 (pdu 1 leaveAllPdu ∷ time 60 ∷ [])); printed = 2 ∷ 11 ∷ 0 ∷ 0 ∷ [] }
+    ∷ record { computed = edge 0 (bridge 0 (pdu 1 (domainsOf 5 2 8192 []) ∷ time 60 ∷ [])); printed = 1 ∷ 1 ∷ [] }
+    ∷ []
+
+pub edge-examples : All Holds edges
+unfolding shown edges alone changed slotsHeld edge leaveAllPdu
+edge-examples = (refl, (refl, (refl, (refl, (refl, (refl, (refl, (refl, (refl, tt)))))))))
 
 -- PDUs with two faults, at neighbouring checks, and each with the first fault mended: the first that the walk meets gives the
 -- number.

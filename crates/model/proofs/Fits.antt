@@ -1,7 +1,7 @@
 -- What fits its fields is read back from its octets; octets that are laid out are those of what is read from them; and what
 -- keeps the form rules fits.
 use mathlib.Core.Path.{_≡_, sym, ap, _∙_, subst}
-use mathlib.Core.List.{List, [], _∷_, _++_, append-nil}
+use mathlib.Core.List.{List, [], _∷_, _++_}
 use mathlib.Core.Bool.{true}
 use Prim.Native.Nat.{ℕ, _+_, _*_, _-_, _^_, _<_}
 use native.Mathlib.Omega.{arith}
@@ -15,14 +15,15 @@ use Rattle.model.specs.State.{Leaving, stays, since, Fixed, Health, soun
 use Rattle.model.specs.Registrations.{ids}
 use Rattle.model.specs.WrittenFrames.{priorityOctet, fixedNumbers}
 use Rattle.model.specs.Table.{sinceNumber, bridgeNumber, codeNumber, talkerNumbers, listenerNumbers, cellNumbers, cellOctets, toCell, resultNumbers, resultOctets, toResult, fixedFrom, streamOctets, toStream, countField, recordsPart, idOf, encode, decode, formed}
-use Rattle.model.specs.Laid.{FitRank, FitCell, FitResult, FitStream, FitBridge, Ascending, LaidOut, LaidCell, LaidResult, Laid}
+use Rattle.model.specs.Laid.{FitRank, FitCell, FitOwn, FitResult, FitStream, FitBridge, Ascending, LaidOut, LaidCell, LaidResult, Laid}
 use Rattle.model.proofs.Lists.{all-map}
-use Rattle.model.proofs.Valid.{ValidLeaving, ValidFixed, ValidHealth, ValidTalker, ValidListener, ValidCell, ValidResult, ValidStream, Rising, Valid}
-use Rattle.model.proofs.Parts.{_also_, Sized, parts-flat}
+use Rattle.model.proofs.Valid.{ValidLeaving, ValidFixed, ValidHealth, ValidTalker, ValidListener, ValidCell, ValidOwn, ValidResult, ValidStream, Rising, Valid}
+use Rattle.model.proofs.Parts.{_also_, parts-flat, many-read}
 use Rattle.model.proofs.Cells.{fixed-fit, fixed-back, cell-fit, cell-back, cells-sized}
 use Rattle.model.proofs.Results.{result-fit, numbers-back, results-sized}
+use Rattle.model.proofs.Owns.{valid-own-fits}
 use Rattle.model.proofs.SettingsOctets.{settings-fit}
-use Rattle.model.proofs.Tables.{stream-length, cells-of, results-of, name-read, id-read, totals-fit, fit-whole, clock-read, count-read, records-read, settings-decoded, totals-decoded, valid-decode, encode-decode}
+use Rattle.model.proofs.Tables.{stream-length, cells-of, results-of, name-read, id-read, totals-fit, fit-whole, clock-read, count-read, records-read, settings-decoded, totals-decoded, owns-decoded, valid-decode, encode-decode}
 
 -- Read back: a cell. With the latest clock and the longest leave time that a field holds, every time that fits is valid.
 
@@ -91,14 +92,6 @@ result-read r w = rw (fields-of-packed resultWidths (resultNumbers r) w) (number
 
 -- A stream.
 
--- m things, each of which comes back from its octets
-many-read : {A : Type 0} (n m : ℕ) (to : A → List ℕ) (from : List ℕ → A) (l : List A) → length l ≡ m → All (Sized n to) l
-    → All (λ a. from (to a) ≡ a) l → parts n from m (flat to l) ≡ l
-many-read n m to from l e z g =
-    ap (λ (k : ℕ). parts n from k (flat to l)) (sym e)
-    ∙ ap (parts n from (length l)) (sym (append-nil (flat to l)))
-    ∙ parts-flat n to from l [] z g
-
 module _ (x : Stream) (w : FitStream x) where
   pub stream-size : length (streamOctets x) ≡ recordSize
   stream-size = stream-length x (w .eight-cells) (w .eight-results)
@@ -126,8 +119,8 @@ module _ (x : Stream) (w : FitStream x) where
         settled-read,
         cells-of x (w .eight-cells) (w .eight-results),
         results-of x (w .eight-cells) (w .eight-results),
-        many-read cellSize 8 cellOctets toCell (x .cells) (w .eight-cells) (cells-sized (x .cells)) cs,
-        many-read resultSize 8 resultOctets toResult (x .results) (w .eight-results) (results-sized (x .results)) rs,
+        many-read cellSize cellOctets 8 toCell (x .cells) (w .eight-cells) (cells-sized (x .cells)) cs,
+        many-read resultSize resultOctets 8 toResult (x .results) (w .eight-results) (results-sized (x .results)) rs,
       )
 
 -- A bridge.
@@ -144,7 +137,7 @@ module _ (b : Bridge) (w : FitBridge b) where
   unfolding decode
   bridge-read =
       let o = fit-whole b w in
-      rw (settings-decoded b o (w .settings), clock-read b o (w .clock), totals-decoded b o (w .totals), streams-read)
+      rw (settings-decoded b o (w .settings), clock-read b o (w .clock), totals-decoded b o (w .totals), owns-decoded b o (w .own), streams-read)
 
 -- Laid out: the octets are those of what is read from them, and that fits.
 
@@ -221,6 +214,8 @@ valid-fits b v =
       clock = v .clock;
       eight-totals = v .eight-totals;
       totals = totals-fit _ (b .totals) (b .settings .ports) (v .settings .ports) (v .totals);
+      eight-own = v .eight-own;
+      own = all-map (ValidOwn (b .clock) t) FitOwn (valid-own-fits (b .clock) t (v .clock)) (b .own) (v .own);
       at-most-64 = v .at-most-64;
       streams = all-map (ValidStream n (b .clock) t) FitStream (valid-stream-fits n (b .clock) t (v .clock)) (b .streams) (v .streams);
       ascending = rising-ascends (ids (b .streams)) (v .ascending);

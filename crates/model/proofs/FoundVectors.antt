@@ -6,18 +6,19 @@ use mathlib.Core.Bool.{Bool, true, false, cond, _||_, true≢false}
 use Prim.Native.Nat.{ℕ, zero, suc, _+_, _*_, _-_, _/_, _%_, _^_, _≤_, _<_}
 use native.Mathlib.Omega.{arith}
 use lib.ListN.{length, getD}
-use lib.Dec.{ltb, eqb}
-use borrow.Author.Tests.{ltb-false, ne-eqb}
+use lib.Dec.{ltb, leb, eqb}
+use borrow.Author.Tests.{ltb-false, leb-true, ne-eqb}
 use Rattle.octets.specs.Be.{beAt}
 use Rattle.octets.specs.Parts.{part}
 use Rattle.octets.specs.Fields.{fields}
 use Rattle.octets.proofs.Parts.{length-part}
+use Rattle.model.specs.Layout.{slots}
 use Rattle.model.specs.FrameLayout.{longestPdu}
 use Rattle.model.specs.Lists.{All, Octets}
 use Rattle.model.specs.State.{Settings}
-use Rattle.model.specs.Registrations.{Kind, advertises, faileds, listeners, Act, leaveAll, leave, talk, listen, Reading, refused, acts}
-use Rattle.model.specs.Frames.{Attribute, registers, domain, firstWidths, firstLength, threeLength, hasFour, fourLength, Vector, vectorAt, vectorEnd, overpacked, runsPast, overflows, InList, badVector, listEnd, vectorHead, vectorIn, checkedIn, typedIn, InPdu, badMessage, pduEnd, listSkipped, listOf, listLength, listAt, messageEnd, Walk, fault, found, also, both, vectorsFrom, vectors, messagesFrom, messages, walk, Asking, nothingAsked, join, withdraw, priorityOf, rankOf, fixedValue, healthValue, idValue, hearing, talkerAct, listenerAct, valueActs, valuesActs, leaveAllActs, vectorActs, frameActs, walked, wrongPort, reading}
-use Rattle.model.proofs.Lists.{all-append}
+use Rattle.model.specs.Registrations.{Kind, advertises, faileds, listeners, Act, leaveAll, leave, talk, listen, ofDomain, DomainAct, leaveAllDomains, leaveDomain, joinDomain, Reading, refused, acts}
+use Rattle.model.specs.Frames.{Attribute, registers, domain, firstWidths, firstLength, threeLength, hasFour, fourLength, Vector, vectorAt, vectorEnd, overpacked, runsPast, overflows, InList, badVector, listEnd, vectorHead, vectorIn, checkedIn, typedIn, InPdu, badMessage, pduEnd, listSkipped, listOf, listLength, listAt, messageEnd, Walk, fault, found, also, both, vectorsFrom, vectors, messagesFrom, messages, walk, Asking, nothingAsked, join, withdraw, priorityOf, rankOf, fixedValue, healthValue, idValue, hearing, talkerAct, listenerAct, hasSlot, slotOf, slotAct, domainAct, valueActs, valuesActs, leaveAllActs, vectorActs, frameActs, walked, wrongPort, reading}
+use Rattle.model.proofs.Lists.{all-append, and-left, and-right}
 use Rattle.model.proofs.Parts.{octets-at, octets-part}
 use Rattle.octets.proofs.Fields.{beAt-fits}
 use Rattle.model.proofs.Valid.{ValidFixed, ValidHealth, ValidVarying}
@@ -182,12 +183,18 @@ walk-octets s vs o e = every-walk InOctets s (λ k place at h _. vector-octets k
 
 -- What they ask for.
 
--- the values of an act are within their fields
+-- the values of an act are within their fields, and a slot is one of a port's
+abbrev pub FitsDomain : DomainAct → Type 0
+FitsDomain leaveAllDomains = Unit {0}
+FitsDomain (leaveDomain i) = i < slots
+FitsDomain (joinDomain i v) = (i < slots) × (v < 65536)
+
 abbrev pub Fits : Act → Type 0
 Fits (leaveAll k) = Unit {0}
 Fits (leave k i) = i < 2 ^ 64
 Fits (talk i f v) = (i < 2 ^ 64) × ValidFixed f × ValidVarying v
 Fits (listen i r) = i < 2 ^ 64
+Fits (ofDomain a) = FitsDomain a
 
 pub or-left : (a b : Bool) → (a || b) ≡ false → a ≡ false
 or-left true b e = e
@@ -268,6 +275,35 @@ listener-fits vs n withdraw f i = go (eqb f 0)
     go true = tt
     go false = (i, tt)
 
+-- class IDs 5 and 6 and priorities up to 7 give 16 slots
+pub slot-within : (c q : ℕ) → hasSlot c q ≡ true → slotOf c q < slots
+unfolding hasSlot slotOf
+slot-within c q e =
+    let a : 5 ≤ c = leb-true 5 c (and-left (leb 5 c) _ e) in
+    let b : c ≤ 6 = leb-true c 6 (and-left (leb c 6) (leb q 7) (and-right (leb 5 c) _ e)) in
+    let d : q ≤ 7 = leb-true q 7 (and-right (leb c 6) (leb q 7) (and-right (leb 5 c) _ e)) in
+    omega arith
+
+slot-fits : (i v : ℕ) (a : Asking) → i < slots → v < 65536 → All Fits (slotAct i v a)
+unfolding slotAct
+slot-fits i v nothingAsked h k = tt
+slot-fits i v join h k = ((h, k), tt)
+slot-fits i v withdraw h k = (h, tt)
+
+domain-fits : (vs : List ℕ) (n : ℕ) (a : Asking) → getD vs 2 0 < 65536 → All Fits (domainAct vs n a)
+unfolding domainAct
+domain-fits vs n a k = go (hasSlot c q) refl
+  where
+    c : ℕ
+    c = getD vs 0 0 + n
+
+    q : ℕ
+    q = getD vs 1 0 + n
+
+    go : (t : Bool) → hasSlot c q ≡ t → All Fits (cond t (slotAct (slotOf c q) (getD vs 2 0) a) [])
+    go true e = slot-fits (slotOf c q) (getD vs 2 0) a (slot-within c q e) k
+    go false e = tt
+
 pub destination-within : (t : Bool) (d : ℕ) → (t || ltb 281474976710655 d) ≡ false → d < 256 ^ 6
 destination-within t d e = omega (arith, ltb-false 281474976710655 d (or-right t _ e))
 
@@ -297,7 +333,7 @@ value-fits v n o e h = go (v .attribute) (last-within v e (omega arith))
         let c : beAt 1 s 33 < 256 = omega (arith, beAt-below-width 1 s 33 o) in
         talker-fits faileds _ n _ (id-fits s o m n l faileds r) (fixed-fits s o m n l (8 ∷ 1 ∷ []) d) (b, c) (latency-fits s o m n l (8 ∷ 1 ∷ []) d)
     go (registers listeners) r = listener-fits _ n _ _ (id-fits s o m n l listeners r)
-    go domain r = tt
+    go domain r = domain-fits _ n _ (omega (arith, beAt-below-width 2 s 2 o))
 
 values-fit : (v : Vector) (n k : ℕ) → Octets (v .first) → overflows v ≡ false → n + k ≤ v .values → All Fits (valuesActs v n k)
 unfolding valuesActs
@@ -314,7 +350,8 @@ vector-fits v o e =
     go : (k : Attribute) (t : Bool) → All Fits (leaveAllActs k t)
     go (registers k) true = (tt, tt)
     go (registers k) false = tt
-    go domain t = tt
+    go domain true = (tt, tt)
+    go domain false = tt
 
 vectors-fit : (vs : List Vector) → All Sound vs → All InOctets vs → All Fits (frameActs vs)
 unfolding frameActs

@@ -1,7 +1,7 @@
 -- Frames of several ports: two orders that keep each port's own order give every frame the same answer and leave the same
 -- bridge, where there is room for all streams asked for. An accepted frame joins every stream that it asks for, and a refused
 -- one changes nothing.
-use mathlib.Core.Path.{_≡_, refl, sym, _∙_, ap}
+use mathlib.Core.Path.{_≡_, refl, sym, _∙_, ap, ap₂}
 use mathlib.Core.List.{List, [], _∷_, _++_, map, List·Memᴰ, List·Memᴰ·head, List·Memᴰ·tail, List·Memᴰ·cases-cons}
 use mathlib.Core.Logic.{_⊎_, inl, inr}
 use mathlib.Core.Bool.{Bool, true, false, cond}
@@ -13,8 +13,8 @@ use lib.ListN.{length, length-map}
 use lib.Dec.{ltb, leb, eqb}
 use borrow.Author.Tests.{le-leb, lt-leb, ltb-true, ltb-false, eqb-true, eqb-false}
 use Rattle.model.specs.Lists.{All, on}
-use Rattle.model.specs.State.{Settings, Stream, Bridge, fresh}
-use Rattle.model.specs.Registrations.{Act, leaveAll, leave, talk, listen, Reading, refused, acts, Answer, begun, touch, change, apply, applyAll, reach, holding, received, add, together, ids, joins, asks}
+use Rattle.model.specs.State.{Settings, Own, Stream, Bridge, fresh}
+use Rattle.model.specs.Registrations.{Act, leaveAll, leave, talk, listen, ofDomain, Reading, refused, acts, Answer, begun, touch, change, apply, applyAll, reach, applyOwns, holding, owning, received, add, together, ids, joins, asks}
 use Rattle.model.specs.Frames.{reading, wrongPort}
 use Rattle.model.specs.Calls.{receive, asked}
 use Rattle.model.proofs.Lists.{all-map, on-same, on-other}
@@ -22,7 +22,7 @@ use Rattle.model.proofs.Valid.{Rising}
 use Rattle.model.proofs.FoundVectors.{or-left}
 use Rattle.model.proofs.ReceiveKeepsForm.{receive-settings, receive-clock, receive-accepted-or-unchanged}
 use Rattle.model.proofs.Arrivals.{run, same-run}
-use Rattle.model.proofs.Commute.{Change, frames-commute}
+use Rattle.model.proofs.Commute.{Change, frames-commute, own-frames-commute}
 
 -- Frames handed over one after another, each with its port: the bridge they leave, and the answers with their ports.
 
@@ -72,6 +72,7 @@ acts-ids now p (leaveAll k ∷ es) s = acts-ids now p es _ ∙ ap (λ (l : List 
 acts-ids now p (leave k i ∷ es) s = acts-ids now p es _ ∙ ap (λ (l : List ℕ). together l (joins es)) (left i _ s)
 acts-ids now p (talk i f v ∷ es) s = acts-ids now p es _ ∙ ap (λ (l : List ℕ). together l (joins es)) (joined i _ s)
 acts-ids now p (listen i r ∷ es) s = acts-ids now p es _ ∙ ap (λ (l : List ℕ). together l (joins es)) (joined i _ s)
+acts-ids now p (ofDomain d ∷ es) s = acts-ids now p es s
 
 pub held-ids : (s : List Stream) → length s ≡ length (ids s)
 unfolding ids
@@ -141,16 +142,16 @@ has-asked (i ∷ is) l = (has-held i is (add i l) (has-added i l), has-asked is 
 
 -- One frame.
 
--- what it does where there is always room, and its number
-effect : ℕ → ℕ → Reading → List Stream → List Stream
-effect now p (refused n) s = s
-effect now p (acts es) s = applyAll now p es s
+-- what it does where there is always room, by what acts do at a place; and its number
+effect : {S : Type 0} → (ℕ → List Act → S → S) → ℕ → Reading → S → S
+effect many p (refused n) s = s
+effect many p (acts es) s = many p es s
 
 number : Reading → ℕ
 number (refused n) = n
 number (acts es) = 0
 
-effect-ids : (now p : ℕ) (r : Reading) (s : List Stream) → ids (effect now p r s) ≡ together (ids s) (asks r)
+effect-ids : (now p : ℕ) (r : Reading) (s : List Stream) → ids (effect (applyAll now) p r s) ≡ together (ids s) (asks r)
 unfolding effect asks together
 effect-ids now p (refused n) s = refl
 effect-ids now p (acts es) s = acts-ids now p es s
@@ -158,7 +159,9 @@ effect-ids now p (acts es) s = acts-ids now p es s
 module _ (b : Bridge) (p : ℕ) where
   -- the bridge after a frame that finds room
   next : Reading → Bridge
-  next r = holding b (effect (b .clock) (p - 1) r (b .streams))
+  next r =
+      owning (holding b (effect (applyAll (b .clock)) (p - 1) r (b .streams)))
+      (effect (applyOwns (b .clock)) (p - 1) r (b .own))
 
   -- 8 is given exactly where the streams held and those joined are more than 64
   pub too-many : (es : List Act) → 64 < length (together (ids (b .streams)) (joins es)) → received b p (acts es) ≡ record { number = 8; bridge = b }
@@ -169,23 +172,27 @@ module _ (b : Bridge) (p : ℕ) where
       rw (lt-leb (length s) 64 k)
 
   room : (r : Reading) → length (together (ids (b .streams)) (asks r)) ≤ 64 → received b p r ≡ record { number = number r; bridge = next r }
-  unfolding received number effect next asks holding
+  unfolding received number effect next asks holding owning
   room (refused n) h = refl
   room (acts es) h =
       let s = applyAll (b .clock) (p - 1) es (b .streams) in
       let k : length s ≤ 64 = rw (held-ids s, acts-ids (b .clock) (p - 1) es (b .streams)) h in
       rw (le-leb (length s) 64 k)
 
-  accepted : (r : Reading) → received b p r .number ≡ 0 → received b p r .bridge .streams ≡ effect (b .clock) (p - 1) r (b .streams)
-  unfolding received effect holding
+  accepted : (r : Reading) → received b p r .number ≡ 0 → received b p r .bridge .streams ≡ effect (applyAll (b .clock)) (p - 1) r (b .streams)
+  unfolding received effect holding owning
   accepted (refused n) e = refl
   accepted (acts es) e = go (leb (length s) 64) e
     where
       s : List Stream
       s = applyAll (b .clock) (p - 1) es (b .streams)
 
-      go : (t : Bool) → cond {A = Answer} t record { number = 0; bridge = holding b s } record { number = 8; bridge = b } .number ≡ 0 →
-          cond {A = Answer} t record { number = 0; bridge = holding b s } record { number = 8; bridge = b } .bridge .streams ≡ s
+      answer : Bool → Answer
+      answer t =
+          cond t record { number = 0; bridge = owning (holding b s) (applyOwns (b .clock) (p - 1) es (b .own)) }
+          record { number = 8; bridge = b }
+
+      go : (t : Bool) → answer t .number ≡ 0 → answer t .bridge .streams ≡ s
       go true e = refl
       go false e = absurd (omega arith)
 
@@ -220,34 +227,39 @@ after-clock (a ∷ f) b = after-clock f (receive b (a .0) (a .1) .bridge) ∙ re
 
 -- Two orders of frames.
 
--- what a frame does to the streams, with room for all
-module _ (st : Settings) (now : ℕ) where
-  step : ℕ → List ℕ → List Stream → List Stream
-  step p pdu s = effect now (p - 1) (reading st p pdu) s
+-- what a frame does with room for all, by what acts do at a place
+module _ {S : Type 0} (st : Settings) (many : ℕ → List Act → S → S) where
+  step : ℕ → List ℕ → S → S
+  step p pdu s = effect many (p - 1) (reading st p pdu) s
 
-  effects-commute : (p q : ℕ) (x y : Reading) (s : List Stream) → (p ≡ q → ⊥) → effect now p x (effect now q y s) ≡ effect now q y (effect now p x s)
-  unfolding effect
-  effects-commute p q (refused m) y s n = refl
-  effects-commute p q (acts es) (refused m) s n = refl
-  effects-commute p q (acts es) (acts fs) s n = frames-commute now p q n es fs s
+  -- where the acts of two places commute
+  module _ (commute : (p q : ℕ) → (p ≡ q → ⊥) → (es fs : List Act) (s : S) → many p es (many q fs s) ≡ many q fs (many p es s)) where
+    effects-commute : (p q : ℕ) (x y : Reading) (s : S) → (p ≡ q → ⊥) → effect many p x (effect many q y s) ≡ effect many q y (effect many p x s)
+    unfolding effect
+    effects-commute p q (refused m) y s n = refl
+    effects-commute p q (acts es) (refused m) s n = refl
+    effects-commute p q (acts es) (acts fs) s n = commute p q n es fs s
 
-  -- different ports of the bridge have different places, and a frame on no port of it is refused
-  step-commute : (p q : ℕ) (x y : List ℕ) (s : List Stream) → (p ≡ q → ⊥) → step p x (step q y s) ≡ step q y (step p x s)
-  unfolding step
-  step-commute p q x y s n = go (wrongPort st p) (wrongPort st q) refl refl
-    where
-      ported : (p : ℕ) → wrongPort st p ≡ false → p ≡ 0 → ⊥
-      ported p e = unfold wrongPort in (eqb-false p 0 (or-left (eqb p 0) (ltb (length (st .ports)) p) e))
+    -- different ports of the bridge have different places, and a frame on no port of it is refused
+    step-commute : (p q : ℕ) (x y : List ℕ) (s : S) → (p ≡ q → ⊥) → step p x (step q y s) ≡ step q y (step p x s)
+    unfolding step
+    step-commute p q x y s n = go (wrongPort st p) (wrongPort st q) refl refl
+      where
+        ported : (p : ℕ) → wrongPort st p ≡ false → p ≡ 0 → ⊥
+        ported p e = unfold wrongPort in (eqb-false p 0 (or-left (eqb p 0) (ltb (length (st .ports)) p) e))
 
-      nothing-done : (p : ℕ) (pdu : List ℕ) (s : List Stream) → wrongPort st p ≡ true → step p pdu s ≡ s
-      nothing-done p pdu s e = unfold reading effect in (rw e)
+        nothing-done : (p : ℕ) (pdu : List ℕ) (s : S) → wrongPort st p ≡ true → step p pdu s ≡ s
+        nothing-done p pdu s e = unfold reading effect in (rw e)
 
-      go : (t u : Bool) → wrongPort st p ≡ t → wrongPort st q ≡ u → step p x (step q y s) ≡ step q y (step p x s)
-      go true u d e = rw (nothing-done p x (step q y s) d, nothing-done p x s d)
-      go false true d e = rw (nothing-done q y s e, nothing-done q y (step p x s) e)
-      go false false d e =
-          effects-commute (p - 1) (q - 1) (reading st p x) (reading st q y) s
-          (λ h. n (let a = ported p d in let b = ported q e in omega arith))
+        go : (t u : Bool) → wrongPort st p ≡ t → wrongPort st q ≡ u → step p x (step q y s) ≡ step q y (step p x s)
+        go true u d e = rw (nothing-done p x (step q y s) d, nothing-done p x s d)
+        go false true d e = rw (nothing-done q y s e, nothing-done q y (step p x s) e)
+        go false false d e =
+            effects-commute (p - 1) (q - 1) (reading st p x) (reading st q y) s
+            (λ h. n (let a = ported p d in let b = ported q e in omega arith))
+
+    same-order : (f g : List (ℕ × List ℕ)) (s : S) → ((p : ℕ) → on p f ≡ on p g) → run step f s ≡ run step g s
+    same-order f g s same = same-run step step-commute f g s same
 
 together-append : (held xs ys : List ℕ) → together held (xs ++ ys) ≡ together (together held xs) ys
 unfolding together
@@ -269,11 +281,11 @@ unfolding together
 together-grows [] l = omega arith
 together-grows (i ∷ xs) l = omega (arith, add-grows i l, together-grows xs (add i l))
 
-run-ids : (st : Settings) (now : ℕ) (f : List (ℕ × List ℕ)) (s : List Stream) → ids (run (step st now) f s) ≡ together (ids s) (asked st f)
+run-ids : (st : Settings) (now : ℕ) (f : List (ℕ × List ℕ)) (s : List Stream) → ids (run (step st (applyAll now)) f s) ≡ together (ids s) (asked st f)
 unfolding run asked step together
 run-ids st now [] s = refl
 run-ids st now (a ∷ f) s =
-    run-ids st now f (step st now (a .0) (a .1) s)
+    run-ids st now f (step st (applyAll now) (a .0) (a .1) s)
     ∙ ap (λ (l : List ℕ). together l (asked st f)) (effect-ids now (a .0 - 1) (reading st (a .0) (a .1)) s)
     ∙ sym (together-append (ids s) (asks (reading st (a .0) (a .1))) (asked st f))
 
@@ -290,18 +302,26 @@ module _ (a : ℕ × List ℕ) (f : List (ℕ × List ℕ)) (b : Bridge) (h : Ro
       room b (a .0) r (le-trans (together-grows more (together (ids (b .streams)) (asks r))) (rw (← together-append (ids (b .streams)) (asks r) more) h))
 
   rest-room : Room f (next b (a .0) (reading (b .settings) (a .0) (a .1)))
-  unfolding Room asked next holding
+  unfolding Room asked next holding owning
   rest-room = rw (effect-ids, ← together-append (ids (b .streams)) (asks (reading (b .settings) (a .0) (a .1))) (asked (b .settings) f)) h
 
-after-run : (f : List (ℕ × List ℕ)) (b : Bridge) → Room f b → afterFrames f b ≡ holding b (run (step (b .settings) (b .clock)) f (b .streams))
-unfolding afterFrames run step next holding
+-- the streams, and what the ports hold by themselves, after frames that find room
+module _ (f : List (ℕ × List ℕ)) (b : Bridge) where
+  streamsAfter : List Stream
+  streamsAfter = run (step (b .settings) (applyAll (b .clock))) f (b .streams)
+
+  ownAfter : List Own
+  ownAfter = run (step (b .settings) (applyOwns (b .clock))) f (b .own)
+
+after-run : (f : List (ℕ × List ℕ)) (b : Bridge) → Room f b → afterFrames f b ≡ owning (holding b (streamsAfter f b)) (ownAfter f b)
+unfolding afterFrames streamsAfter ownAfter run step next holding owning
 after-run [] b h = refl
 after-run (a ∷ f) b h = rw (first-room a f b h) (after-run f (next b (a .0) (reading (b .settings) (a .0) (a .1))) (rest-room a f b h))
 
 -- the streams held after them
 pub after-ids : (f : List (ℕ × List ℕ)) (b : Bridge) → length (together (ids (b .streams)) (asked (b .settings) f)) ≤ 64 →
     ids (afterFrames f b .streams) ≡ together (ids (b .streams)) (asked (b .settings) f)
-unfolding Room holding
+unfolding Room holding owning streamsAfter
 after-ids f b h = rw (after-run f b h) (run-ids (b .settings) (b .clock) f (b .streams))
 
 -- the answer to a frame depends on it and its port alone
@@ -309,7 +329,7 @@ ruling : Settings → ℕ × List ℕ → ℕ × ℕ
 ruling st a = (a .0, number (reading st (a .0) (a .1)))
 
 all-answers : (f : List (ℕ × List ℕ)) (b : Bridge) → Room f b → frameAnswers f b ≡ map (ruling (b .settings)) f
-unfolding frameAnswers ruling next holding
+unfolding frameAnswers ruling next holding owning
 all-answers [] b h = refl
 all-answers (a ∷ f) b h =
     rw (first-room a f b h)
@@ -330,12 +350,13 @@ on-ruling st p (a ∷ f) = go (ℕ-discrete (a .0) p) (on-ruling st p f)
 pub order : (f g : List (ℕ × List ℕ)) (b : Bridge) → ((p : ℕ) → on p f ≡ on p g) →
     length (together (ids (b .streams)) (asked (b .settings) f)) ≤ 64 →
     (afterFrames f b ≡ afterFrames g b) × ((p : ℕ) → on p (frameAnswers f b) ≡ on p (frameAnswers g b))
-unfolding Room
+unfolding Room streamsAfter ownAfter
 order f g b same fits =
     let st = b .settings in
-    let runs : run (step st (b .clock)) f (b .streams) ≡ run (step st (b .clock)) g (b .streams) =
-    same-run (step st (b .clock)) (step-commute st (b .clock)) f g (b .streams) same in
-    let fits′ : Room g b = rw (← run-ids st (b .clock) g (b .streams), ← runs, run-ids) fits in (
-      after-run f b fits ∙ ap (holding b) runs ∙ sym (after-run g b fits′),
+    let now = b .clock in
+    let streams : streamsAfter f b ≡ streamsAfter g b = same-order st (applyAll now) (frames-commute now) f g (b .streams) same in
+    let own : ownAfter f b ≡ ownAfter g b = same-order st (applyOwns now) (own-frames-commute now) f g (b .own) same in
+    let fits′ : Room g b = rw (← run-ids st now g (b .streams), ← streams, run-ids) fits in (
+      after-run f b fits ∙ ap₂ (λ (s : List Stream) (o : List Own). owning (holding b s) o) streams own ∙ sym (after-run g b fits′),
       λ p. rw (all-answers f b fits, all-answers g b fits′, on-ruling st p f, on-ruling st p g, same p),
     )

@@ -5,6 +5,8 @@ pub mod Stored
 pub mod Cells
 pub mod Results
 pub mod SettingsOctets
+pub mod Coded
+pub mod Owns
 pub mod Tables
 pub mod Fits
 pub mod Arrivals
@@ -20,6 +22,8 @@ pub mod AdvanceKeepsForm
 pub mod ReadBack
 pub mod WritingPasses
 pub mod Refusals
+pub mod Edge
+pub mod Boundaries
 pub mod Opened
 pub mod Examples
 pub mod FormKept

@@ -6,8 +6,7 @@ use Prim.Native.Nat.{ℕ, zero, suc, _+_, _<_}
 use native.Mathlib.Omega.{arith}
 use lib.ListN.{length, getD, set, take, drop, replicate}
 use borrow.Author.Tests.{eq-eqb, ne-eqb}
-use Rattle.model.specs.Lists.{All, allTrue, implies, tabulate, on}
-use Rattle.model.specs.State.{Cell}
+use Rattle.model.specs.Lists.{All, allTrue, implies, keep, tabulate, on}
 use Rattle.model.specs.Registrations.{at}
 
 -- All.
@@ -39,6 +38,10 @@ module _ {A : Type 0} (P : A → Type 0) where
   all-drop zero l a = a
   all-drop (suc n) [] a = tt
   all-drop (suc n) (x ∷ l) a = all-drop n l (a .1)
+
+  pub all-keep : (t : Bool) (x : A) (l : List A) → P x → All P l → All P (keep t x l)
+  all-keep true x l h a = (h, a)
+  all-keep false x l h a = a
 
   pub all-replicate : (n : ℕ) (x : A) → P x → All P (replicate n x)
   all-replicate zero x h = tt
@@ -76,19 +79,56 @@ module _ {A : Type 0} (f : ℕ → A) where
   pub at-place : (q : ℕ) (d : A) → q < 8 → getD (tabulate 8 0 f) q d ≡ f q
   at-place q d h = getD-tabulate 8 0 q d h ∙ ap f (omega arith)
 
--- Cells, with the one at a place changed.
+-- A list with what stands at a place changed.
 
-pub length-at : (p : ℕ) (u : Cell → Cell) (l : List Cell) → length (at p u l) ≡ length l
-unfolding at
-length-at p u [] = refl
-length-at zero u (c ∷ l) = refl
-length-at (suc p) u (c ∷ l) = ap suc (length-at p u l)
+module _ {A : Type 0} where
+  pub length-at : (p : ℕ) (u : A → A) (l : List A) → length (at p u l) ≡ length l
+  unfolding at
+  length-at p u [] = refl
+  length-at zero u (x ∷ l) = refl
+  length-at (suc p) u (x ∷ l) = ap suc (length-at p u l)
 
-pub all-changed : (P : Cell → Type 0) (p : ℕ) (u : Cell → Cell) (l : List Cell) → ((c : Cell) → P c → P (u c)) → All P l → All P (at p u l)
-unfolding at
-all-changed P p u [] k a = tt
-all-changed P zero u (c ∷ l) k a = (k c (a .0), a .1)
-all-changed P (suc p) u (c ∷ l) k a = (a .0, all-changed P p u l k (a .1))
+  pub all-changed : (P : A → Type 0) (p : ℕ) (u : A → A) (l : List A) → ((x : A) → P x → P (u x)) → All P l → All P (at p u l)
+  unfolding at
+  all-changed P p u [] k a = tt
+  all-changed P zero u (x ∷ l) k a = (k x (a .0), a .1)
+  all-changed P (suc p) u (x ∷ l) k a = (a .0, all-changed P p u l k (a .1))
+
+  -- those from a later place on are as before
+  pub drop-changed : (n p : ℕ) (u : A → A) (l : List A) → p < n → drop n (at p u l) ≡ drop n l
+  unfolding at
+  drop-changed zero p u l h = absurd (omega arith)
+  drop-changed (suc n) p u [] h = refl
+  drop-changed (suc n) zero u (x ∷ l) h = refl
+  drop-changed (suc n) (suc p) u (x ∷ l) h = drop-changed n p u l (omega arith)
+
+  -- what stands at another place is as before
+  pub at-other : (p : ℕ) (u : A → A) (l : List A) (q : ℕ) (d : A) → (p ≡ q → ⊥) → getD (at p u l) q d ≡ getD l q d
+  unfolding at
+  at-other p u [] q d n = refl
+  at-other zero u (x ∷ l) zero d n = absurd (n refl)
+  at-other zero u (x ∷ l) (suc q) d n = refl
+  at-other (suc p) u (x ∷ l) zero d n = refl
+  at-other (suc p) u (x ∷ l) (suc q) d n = at-other p u l q d (λ e. n (ap suc e))
+
+  -- and at each place, what the change does not touch
+  pub at-each : {B : Type 0} (f : A → B) (p : ℕ) (u : A → A) → ((x : A) → f (u x) ≡ f x) →
+      (l : List A) (q : ℕ) (d : A) → f (getD (at p u l) q d) ≡ f (getD l q d)
+  unfolding at
+  at-each f p u k [] q d = refl
+  at-each f zero u k (x ∷ l) zero d = k x
+  at-each f zero u k (x ∷ l) (suc q) d = refl
+  at-each f (suc p) u k (x ∷ l) zero d = refl
+  at-each f (suc p) u k (x ∷ l) (suc q) d = at-each f p u k l q d
+
+  -- changes at two different places commute
+  pub at-commute : (p q : ℕ) (u v : A → A) → (p ≡ q → ⊥) → (l : List A) → at p u (at q v l) ≡ at q v (at p u l)
+  unfolding at
+  at-commute p q u v n [] = refl
+  at-commute zero zero u v n (x ∷ l) = absurd (n refl)
+  at-commute zero (suc q) u v n (x ∷ l) = refl
+  at-commute (suc p) zero u v n (x ∷ l) = refl
+  at-commute (suc p) (suc q) u v n (x ∷ l) = ap (λ (m : List A). x ∷ m) (at-commute p q u v (λ e. n (ap suc e)) l)
 
 -- Tests.
 

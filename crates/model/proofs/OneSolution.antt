@@ -13,21 +13,21 @@ use Rattle.model.specs.Lists.{All, keep, tabulate}
 use Rattle.model.specs.State.{Settings, Column, none, Declared, nothing, Result, Stream, Totals, Bridge, Class, classA, classB, sameClass, cellAt, resultAt, unsettled, noTotals}
 use Rattle.model.specs.Registrations.{ids}
 use Rattle.model.specs.Bandwidth.{Claim, key, above, remains, admitted}
-use Rattle.model.specs.Settling.{remain, sourceOf, isSource, streamClass, registered, first, clear, outcomeColumn, steps, claim, claims, limitOn, leftFor, byBandwidth, columnOf, latencyOut, passed, mergeAll, merged, decideAt, decide, totalOn, totalsOn, settle, isAdvertise}
+use Rattle.model.specs.Settling.{Scene, decideOwns, remain, sourceOf, isSource, streamClass, registered, first, clear, outcomeColumn, steps, claim, claims, limitOn, leftFor, byBandwidth, columnOf, latencyOut, passed, mergeAll, merged, decideAt, decide, totalOn, totalsOn, settle, isAdvertise}
 use Rattle.model.proofs.Lists.{all-map, all-both}
 use Rattle.model.proofs.Valid.{Rising}
 use Rattle.model.proofs.Admission.{Obeys, Rule, unique, subtracted, all-above, taken-same}
 use Rattle.model.proofs.ColumnRule.{spent, ruled, Small, claims-distinct, advertised, same-class, Agrees, spent-above, columnAt, totalAt, SettledStream, Settled, Carried, Pairwise, Advanced, Shown, carried-column, carried-total, spent-same, total-ruled, advanced, at-place, tabulate-same, remain-all, remain-rising}
 
 -- what holds of the claim of every stream that reaches step h holds of every claim
-module _ (st : Settings) (now p : ℕ) (c : Class) where
+module _ (sc : Scene) (now p : ℕ) (c : Class) where
   claims-from : (P : Claim → Type 0) (s : List Stream) →
-      All (λ x. clear (steps st p x) ≡ true → sameClass (streamClass st x) c ≡ true → P (claim st now p x)) s → All P (claims st now p c s)
+      All (λ x. clear (steps sc p x) ≡ true → sameClass (streamClass (sc .settings) x) c ≡ true → P (claim (sc .settings) now p x)) s → All P (claims sc now p c s)
   unfolding claims
   claims-from P [] a = tt
-  claims-from P (x ∷ s) a = go (clear (steps st p x)) (sameClass (streamClass st x) c) (a .0) (claims-from P s (a .1))
+  claims-from P (x ∷ s) a = go (clear (steps sc p x)) (sameClass (streamClass (sc .settings) x) c) (a .0) (claims-from P s (a .1))
     where
-      go : (t u : Bool) → (t ≡ true → u ≡ true → P (claim st now p x)) → All P (claims st now p c s) → All P (keep (t && u) (claim st now p x) (claims st now p c s))
+      go : (t u : Bool) → (t ≡ true → u ≡ true → P (claim (sc .settings) now p x)) → All P (claims sc now p c s) → All P (keep (t && u) (claim (sc .settings) now p x) (claims sc now p c s))
       go true true h ih = (h refl refl, ih)
       go true false h ih = ih
       go false u h ih = ih
@@ -48,68 +48,68 @@ module _ (col : Stream → Column) where
       later [] a h = tt
       later (y ∷ l) a h = (rw (ne-eqb (x .id) (y .id) (λ e. omega (arith, a .0, e))) (h .0), later l (a .1) (h .1))
 
-module _ (st : Settings) (now : ℕ) (s : List Stream) (p : ℕ) (r : Rising (ids s)) (small : All Small (ids s)) (col : Stream → Column) where
+module _ (sc : Scene) (now : ℕ) (s : List Stream) (p : ℕ) (r : Rising (ids s)) (small : All Small (ids s)) (col : Stream → Column) where
   -- the claims that columns admit
   ok : Claim → Bool
   ok d = isAdvertise (columnById col s (d .id))
 
   -- columns that meet the rule at a stream
   abbrev pub Meets : Stream → Type 0
-  Meets x = col x ≡ ruled st now s p col x
+  Meets x = col x ≡ ruled sc now s p col x
 
   module _ (meets : All Meets s) where
     abbrev Opened : Stream → Type 0
-    Opened x = (col x ≡ ruled st now s p col x) × (ok (claim st now p x) ≡ isAdvertise (col x))
+    Opened x = (col x ≡ ruled sc now s p col x) × (ok (claim (sc .settings) now p x) ≡ isAdvertise (col x))
 
     known : All Opened s
     unfolding ok claim
     known =
-        all-both Meets (λ x. ok (claim st now p x) ≡ isAdvertise (col x)) s meets
-        (all-map (λ x. columnById col s (x .id) ≡ col x) (λ x. ok (claim st now p x) ≡ isAdvertise (col x))
+        all-both Meets (λ x. ok (claim (sc .settings) now p x) ≡ isAdvertise (col x)) s meets
+        (all-map (λ x. columnById col s (x .id) ≡ col x) (λ x. ok (claim (sc .settings) now p x) ≡ isAdvertise (col x))
         (λ x e. ap isAdvertise e) s (column-by-id col s r))
 
     left : Stream → ℕ
-    left x = limitOn st now s p (streamClass st x) - spent st now p (streamClass st x) col (λ e. ltb (key e) (key (claim st now p x))) s
+    left x = limitOn sc now s p (streamClass (sc .settings) x) - spent (sc .settings) now p (streamClass (sc .settings) x) col (λ e. ltb (key e) (key (claim (sc .settings) now p x))) s
 
-    fits : (x : Stream) → Meets x → isAdvertise (col x) ≡ (clear (steps st p x) && leb (claim st now p x .demand) (left x))
+    fits : (x : Stream) → Meets x → isAdvertise (col x) ≡ (clear (steps sc p x) && leb (claim (sc .settings) now p x .demand) (left x))
     unfolding ruled left
-    fits x m = ap isAdvertise m ∙ advertised st p x (claim st now p x .demand) (left x)
+    fits x m = ap isAdvertise m ∙ advertised sc p x (claim (sc .settings) now p x .demand) (left x)
 
-    agree : (c : Class) → All (Agrees st now p c col ok) s
-    agree c = all-map Opened (Agrees st now p c col ok) one s known
+    agree : (c : Class) → All (Agrees sc now p c col ok) s
+    agree c = all-map Opened (Agrees sc now p c col ok) one s known
       where
         bool : (t u v w : Bool) → v ≡ (t && w) → (u && v) ≡ ((t && u) && v)
         bool true u v w e = refl
         bool false true v w e = e
         bool false false v w e = refl
 
-        one : (x : Stream) → Opened x → Agrees st now p c col ok x
-        one x k = rw (k .1) (bool (clear (steps st p x)) (sameClass (streamClass st x) c) (isAdvertise (col x)) _ (fits x (k .0)))
+        one : (x : Stream) → Opened x → Agrees sc now p c col ok x
+        one x k = rw (k .1) (bool (clear (steps sc p x)) (sameClass (streamClass (sc .settings) x) c) (isAdvertise (col x)) _ (fits x (k .0)))
 
-    rule : (c : Class) → Rule (limitOn st now s p c) (claims st now p c s) ok
+    rule : (c : Class) → Rule (limitOn sc now s p c) (claims sc now p c s) ok
     unfolding Rule
-    rule c = claims-from st now p c (Obeys (limitOn st now s p c) (claims st now p c s) ok) s (all-map Opened _ one s known)
+    rule c = claims-from sc now p c (Obeys (limitOn sc now s p c) (claims sc now p c s) ok) s (all-map Opened _ one s known)
       where
-        one : (x : Stream) → Opened x → clear (steps st p x) ≡ true → sameClass (streamClass st x) c ≡ true →
-            Obeys (limitOn st now s p c) (claims st now p c s) ok (claim st now p x)
+        one : (x : Stream) → Opened x → clear (steps sc p x) ≡ true → sameClass (streamClass (sc .settings) x) c ≡ true →
+            Obeys (limitOn sc now s p c) (claims sc now p c s) ok (claim (sc .settings) now p x)
         one x k t u =
             k .1 ∙ fits x (k .0)
-            ∙ unfold left in (rw (t, same-class (streamClass st x) c u, spent-above st now p c col ok (key (claim st now p x)) s (agree c)))
+            ∙ unfold left in (rw (t, same-class (streamClass (sc .settings) x) c u, spent-above sc now p c col ok (key (claim (sc .settings) now p x)) s (agree c)))
 
     -- Columns that meet the rule on p are those of advance.
-    pub unique-columns : All (λ x. col x ≡ columnOf st now s p x) s
+    pub unique-columns : All (λ x. col x ≡ columnOf sc now s p x) s
     unfolding ruled columnOf leftFor remains
-    unique-columns = all-map Meets (λ x. col x ≡ columnOf st now s p x) one s meets
+    unique-columns = all-map Meets (λ x. col x ≡ columnOf sc now s p x) one s meets
       where
-        one : (x : Stream) → Meets x → col x ≡ columnOf st now s p x
+        one : (x : Stream) → Meets x → col x ≡ columnOf sc now s p x
         one x m =
-            let c = streamClass st x in
-            let k = key (claim st now p x) in
-            let l = limitOn st now s p c in
-            let cs = claims st now p c s in
-            let d = claims-distinct st now p c s r small in
-            m ∙ ap (λ (n : ℕ). first (outcomeColumn st (sourceOf x)) (steps st p x) (byBandwidth st (claim st now p x .demand) (l - n)))
-            (spent-above st now p c col ok k s (agree c)
+            let c = streamClass (sc .settings) x in
+            let k = key (claim (sc .settings) now p x) in
+            let l = limitOn sc now s p c in
+            let cs = claims sc now p c s in
+            let d = claims-distinct sc now p c s r small in
+            m ∙ ap (λ (n : ℕ). first (outcomeColumn (sc .settings) (sourceOf x)) (steps sc p x) (byBandwidth (sc .settings) (claim (sc .settings) now p x .demand) (l - n)))
+            (spent-above sc now p c col ok k s (agree c)
             ∙ taken-same ok (admitted l cs) (above k cs) (all-above _ k cs (unique l cs d ok (rule c)))
             ∙ subtracted l cs d k)
 
@@ -151,11 +151,11 @@ carried-ids now (x ∷ s) (y ∷ t) w = rw (w .0 .id) (ap (λ (is : List ℕ). x
 
 -- What by the rules an advance leaves of the streams s are the columns, results and totals that it decides.
 
-abbrev bridge : Settings → ℕ → List Totals → List Stream → Bridge
-bridge st now ts t = record { settings = st; clock = now; totals = ts; streams = t }
+abbrev bridge : Scene → ℕ → List Totals → List Stream → Bridge
+bridge sc now ts t = record { settings = sc .settings; clock = now; totals = ts; own = sc .own; streams = t }
 
-module _ (st : Settings) (now : ℕ) (ts : List Totals) (s t : List Stream) (r : Rising (ids s)) (small : All Small (ids s))
-    (carried : Pairwise (Carried now) s t) (settled : Settled (bridge st now ts t)) where
+module _ (sc : Scene) (now : ℕ) (ts : List Totals) (s t : List Stream) (r : Rising (ids s)) (small : All Small (ids s))
+    (carried : Pairwise (Carried now) s t) (settled : Settled (bridge sc now ts t)) where
   rises : Rising (ids t)
   rises = rw (carried-ids now s t carried) r
 
@@ -163,43 +163,43 @@ module _ (st : Settings) (now : ℕ) (ts : List Totals) (s t : List Stream) (r :
   fit = rw (carried-ids now s t carried) small
 
   module _ (p : ℕ) (here : p < 8) where
-    shown : All (Shown st p) t
+    shown : All (Shown sc p) t
     unfolding ruled
-    shown = all-map (SettledStream (bridge st now ts t)) (Shown st p) one t (settled .streams)
+    shown = all-map (SettledStream (bridge sc now ts t)) (Shown sc p) one t (settled .streams)
       where
-        one : (y : Stream) → SettledStream (bridge st now ts t) y → Shown st p y
+        one : (y : Stream) → SettledStream (bridge sc now ts t) y → Shown sc p y
         one y k = record {
-          demand = claim st now p y .demand;
+          demand = claim (sc .settings) now p y .demand;
           left =
-              limitOn st now t p (streamClass st y)
-              - spent st now p (streamClass st y) (columnAt p) (λ e. ltb (key e) (key (claim st now p y))) t;
+              limitOn sc now t p (streamClass (sc .settings) y)
+              - spent (sc .settings) now p (streamClass (sc .settings) y) (columnAt p) (λ e. ltb (key e) (key (claim (sc .settings) now p y))) t;
           column = k .shows p here .column;
           entry = k .shows p here .entry;
         }
 
-    solved : All (λ y. columnAt p y ≡ columnOf st now t p y) t
+    solved : All (λ y. columnAt p y ≡ columnOf sc now t p y) t
     solved =
-        unique-columns st now t p rises fit (columnAt p)
-        (all-map (SettledStream (bridge st now ts t)) (λ y. columnAt p y ≡ ruled st now t p (columnAt p) y)
+        unique-columns sc now t p rises fit (columnAt p)
+        (all-map (SettledStream (bridge sc now ts t)) (λ y. columnAt p y ≡ ruled sc now t p (columnAt p) y)
         (λ y k. k .shows p here .column) t (settled .streams))
 
-    total-solved : (c : Class) → totalAt (bridge st now ts t) p c ≡ totalOn st now s p c
+    total-solved : (c : Class) → totalAt (bridge sc now ts t) p c ≡ totalOn sc now s p c
     total-solved c =
         settled .totals p here c
-        ∙ spent-same st now p (columnAt p) (columnOf st now t p) c (λ e. true) t solved
-        ∙ sym (total-ruled st now t p rises fit c)
-        ∙ carried-total st now p here s t carried shown c
+        ∙ spent-same sc now p (columnAt p) (columnOf sc now t p) c (λ e. true) t solved
+        ∙ sym (total-ruled sc now t p rises fit c)
+        ∙ carried-total sc now p here s t carried shown c
 
   -- a stream whose columns are those decided
   abbrev Decided : Stream → Type 0
-  Decided y = (p : ℕ) → p < 8 → Shown st p y × (columnAt p y ≡ columnOf st now t p y)
+  Decided y = (p : ℕ) → p < 8 → Shown sc p y × (columnAt p y ≡ columnOf sc now t p y)
 
   all-decided : All Decided t
   all-decided =
-      all-places (λ p y. Shown st p y × (columnAt p y ≡ columnOf st now t p y)) t
-      (λ p h. all-both (Shown st p) (λ y. columnAt p y ≡ columnOf st now t p y) t (shown p h) (solved p h))
+      all-places (λ p y. Shown sc p y × (columnAt p y ≡ columnOf sc now t p y)) t
+      (λ p h. all-both (Shown sc p) (λ y. columnAt p y ≡ columnOf sc now t p y) t (shown p h) (solved p h))
 
-  module _ (x y : Stream) (c : Carried now x y) (k : SettledStream (bridge st now ts t) y) (known : Decided y) where
+  module _ (x y : Stream) (c : Carried now x y) (k : SettledStream (bridge sc now ts t) y) (known : Decided y) where
     same-cell : (p : ℕ) → cellAt y p ≡ cellAt x p
     unfolding cellAt
     same-cell p = rw (c .cells)
@@ -208,65 +208,68 @@ module _ (st : Settings) (now : ℕ) (ts : List Totals) (s t : List Stream) (r :
     unfolding sourceOf
     same-source = rw (c .cells)
 
-    same-latency : (p : ℕ) → latencyOut st p y ≡ latencyOut st p x
+    same-latency : (p : ℕ) → latencyOut (sc .settings) p y ≡ latencyOut (sc .settings) p x
     unfolding latencyOut streamClass
     same-latency p = rw same-source
 
-    same-column : (p : ℕ) → p < 8 → columnAt p y ≡ columnOf st now s p x
-    same-column p h = known p h .1 ∙ carried-column st now p h s t carried (shown p h) x y c (known p h .0)
+    same-column : (p : ℕ) → p < 8 → columnAt p y ≡ columnOf sc now s p x
+    same-column p h = known p h .1 ∙ carried-column sc now p h s t carried (shown p h) x y c (known p h .0)
 
     module _ (p : ℕ) (h : p < 8) where
-      same-entry : resultAt y p .entry ≡ decideAt st now s x p .entry
+      same-entry : resultAt y p .entry ≡ decideAt sc now s x p .entry
       unfolding decideAt
       same-entry = k .shows p h .entry ∙ rw (same-column p h, same-cell p)
 
-      same-declares : resultAt y p .declares ≡ decideAt st now s x p .declares
+      same-declares : resultAt y p .declares ≡ decideAt sc now s x p .declares
       unfolding decideAt merged
       same-declares =
           k .shows p h .declares
           ∙ rw same-source
           (ap (λ (l : List Declared). cond (isSource (sourceOf x) p) (mergeAll l) nothing)
-          (tabulate-same (λ q. passed (columnAt q y) (registered (cellAt y q))) (λ q. passed (columnOf st now s q x) (registered (cellAt x q))) 8 0
+          (tabulate-same (λ q. passed (columnAt q y) (registered (cellAt y q))) (λ q. passed (columnOf sc now s q x) (registered (cellAt x q))) 8 0
           (λ q l g. rw (same-column q g, same-cell q))))
 
-      same-result : resultAt y p ≡ decideAt st now s x p
+      same-result : resultAt y p ≡ decideAt sc now s x p
       unfolding decideAt columnAt
       same-result =
-          result-is (resultAt y p) (decideAt st now s x p) (same-column p h) (k .shows p h .latency ∙ rw (same-column p h, same-latency p))
+          result-is (resultAt y p) (decideAt sc now s x p) (same-column p h) (k .shows p h .latency ∙ rw (same-column p h, same-latency p))
           same-entry (c .ages p h ∙ rw same-entry) same-declares
 
-    same-stream : y ≡ decide st now s x
+    same-stream : y ≡ decide sc now s x
     unfolding decide resultAt
     same-stream =
-        stream-is y (decide st now s x) (c .id) (k .values ∙ rw same-source) (c .cells)
-        (eight-places unsettled (y .results) (decideAt st now s x) (k .places) same-result)
+        stream-is y (decide sc now s x) (c .id) (k .values ∙ rw same-source) (c .cells)
+        (eight-places unsettled (y .results) (decideAt sc now s x) (k .places) same-result)
 
-  streams-solved : t ≡ map (decide st now s) s
+  streams-solved : t ≡ map (decide sc now s) s
   streams-solved =
-      pairwise-is (Carried now) (λ y. SettledStream (bridge st now ts t) y × Decided y) (decide st now s)
+      pairwise-is (Carried now) (λ y. SettledStream (bridge sc now ts t) y × Decided y) (decide sc now s)
       (λ x y c k. same-stream x y c (k .0) (k .1)) s t carried
-      (all-both (SettledStream (bridge st now ts t)) Decided t (settled .streams) all-decided)
+      (all-both (SettledStream (bridge sc now ts t)) Decided t (settled .streams) all-decided)
 
-  totals-solved : ts ≡ tabulate 8 0 (totalsOn st now s)
+  totals-solved : ts ≡ tabulate 8 0 (totalsOn sc now s)
   unfolding totalsOn totalAt
   totals-solved =
-      eight-places noTotals ts (totalsOn st now s) (settled .places)
-      (λ p h. totals-is (getD ts p noTotals) (totalsOn st now s p) (total-solved p h classA) (total-solved p h classB))
+      eight-places noTotals ts (totalsOn sc now s) (settled .places)
+      (λ p h. totals-is (getD ts p noTotals) (totalsOn sc now s p) (total-solved p h classA) (total-solved p h classB))
 
 -- A bridge that is what an advance leaves by the rules is the one that advance leaves.
 pub one-bridge : (now : ℕ) (b c : Bridge) → Rising (ids (b .streams)) → All Small (ids (b .streams)) → Advanced now b c → c ≡ settle now b
 unfolding settle
 one-bridge now b c r small advanced =
     let st = b .settings in
+    let sc : Scene = record { settings = st; own = decideOwns st now (b .own) } in
     let s = remain st now (b .streams) in
     let remaining : Rising (ids s) = remain-rising st now (b .streams) r in
     let few : All Small (ids s) = remain-all st now Small (b .streams) small in
-    let settled : Settled (bridge st now (c .totals) (c .streams)) = rw (advanced .settings, advanced .clock) at (advanced .decided) in
+    let settled : Settled (bridge sc now (c .totals) (c .streams)) =
+    rw (advanced .settings, advanced .clock, advanced .own) at (advanced .decided) in
     rw (
       advanced .settings,
       advanced .clock,
-      totals-solved st now (c .totals) s (c .streams) remaining few (advanced .streams) settled,
-      streams-solved st now (c .totals) s (c .streams) remaining few (advanced .streams) settled,
+      advanced .own,
+      totals-solved sc now (c .totals) s (c .streams) remaining few (advanced .streams) settled,
+      streams-solved sc now (c .totals) s (c .streams) remaining few (advanced .streams) settled,
     )
 
 -- The rules of settling have exactly one solution, and advance leaves it.

@@ -73,7 +73,7 @@ zeros-zero [] h = refl
 zeros-zero (b ∷ s) h = rw (eqb-true b 0 (and-left (eqb b 0) (allZero s) h)) (ap (λ (l : List ℕ). 0 ∷ l) (zeros-zero s (and-right (eqb b 0) (allZero s) h)))
 
 -- numbers that are all zero, and each of them
-zero-at : (s : List ℕ) → allZero s ≡ true → (i : ℕ) → getD s i 0 ≡ 0
+pub zero-at : (s : List ℕ) → allZero s ≡ true → (i : ℕ) → getD s i 0 ≡ 0
 unfolding allZero
 zero-at [] h i = refl
 zero-at (b ∷ s) h zero = eqb-true b 0 (and-left (eqb b 0) (allZero s) h)
@@ -209,6 +209,14 @@ module _ {A : Type 0} (n : ℕ) (to : A → List ℕ) where
         g .0,
         parts-flat from l rest (z .1) (g .1),
       )
+
+  -- m of them
+  pub many-read : (m : ℕ) (from : List ℕ → A) (l : List A) → length l ≡ m → All Sized l → All (λ a. from (to a) ≡ a) l
+      → parts n from m (flat to l) ≡ l
+  many-read m from l e z g =
+      ap (λ (k : ℕ). parts n from k (flat to l)) (sym e)
+      ∙ ap (parts n from (length l)) (sym (append-nil (flat to l)))
+      ∙ parts-flat from l [] z g
 
 module _ {A : Type 0} (n : ℕ) (to : A → List ℕ) (from : List ℕ → A) where
   -- read and written: the parts that come back from what they say

@@ -1,14 +1,14 @@
 -- A written PDU is octets and well-formed, and a neighbour reads of it exactly the declarations written, each as a JoinMt.
 use mathlib.Core.Path.{_≡_, refl, sym, _∙_, ap}
 use mathlib.Core.List.{List, [], _∷_, _++_, map, append-nil, append-assoc, map-append}
-use mathlib.Core.Bool.{Bool, true, false}
+use mathlib.Core.Bool.{Bool, true, false, _&&_}
 use Prim.Native.Nat.{ℕ, zero, suc, _+_, _*_, _-_, _/_, _%_, _^_, _≤_, _<_}
 use native.Mathlib.Nat.{add-zero}
 use native.Mathlib.Omega.{arith}
 use lib.ListN.{length, getD, drop, length-append}
 use lib.Seq.{take-append-seam, drop-append-seam, getD-append-seam, getD-append-add}
-use lib.Dec.{ltb}
-use borrow.Author.Tests.{ltb-true, ltb-false, le-ltb, le-leb, eq-eqb, ne-eqb}
+use lib.Dec.{ltb, leb}
+use borrow.Author.Tests.{ltb-true, ltb-false, leb-true, le-ltb, le-leb, eq-eqb, ne-eqb}
 use Rattle.octets.specs.Be.{beAt, be}
 use Rattle.octets.specs.Fields.{fields, packed, Fit, flat}
 use Rattle.octets.specs.Parts.{part}
@@ -16,15 +16,15 @@ use Rattle.octets.proofs.Be.{beAt-ext, length-be}
 use Rattle.octets.proofs.Fields.{packed-octets, beAt-fits, fields-of-packed}
 use Rattle.model.specs.FrameLayout.{longestPdu}
 use Rattle.model.specs.Lists.{All, keep, bit}
-use Rattle.model.specs.State.{Settings, Fixed, Health, sound, broken, Ready, askingFailed, ready, readyFailed, Column, none, advertise, failed, Entry, noEntry, filters, forwards, Declared, nothing, tells, Result, Stream, Bridge, resultAt, unsettled}
-use Rattle.model.specs.Registrations.{Kind, advertises, faileds, listeners, talk, listen, acts, sameKind, typeNumber}
-use Rattle.model.specs.Frames.{Attribute, registers, known, typeOctet, firstWidths, firstLength, threeLength, hasFour, fourLength, Vector, vectorAt, vectorEnd, overpacked, runsPast, overflows, vectorIn, checkedIn, typedIn, listLength, listAt, messageEnd, endMark, headerIn, messageIn, found, also, both, vectorsFrom, vectors, messagesFrom, messages, walk, joinMt, event, threePacked, fourPacked, eventOf, fourOf, asking, join, priorityOf, rankOf, fixedValue, healthValue, idValue, hearing, talkerAct, listenerAct, valueActs, valuesActs, leaveAllActs, vectorActs, frameActs, walked, wrongPort, reading}
-use Rattle.model.specs.Declarations.{Declaration, talkerDeclaration, listenerDeclaration, healthKind, kindOf, joinOf, advertised, failing, listening, declarationsOf, ofKind, declarations, vectorSize, takes, write}
-use Rattle.model.specs.WrittenFrames.{priorityOctet, fixedNumbers, failureNumbers, firstNumbers, fourOctets, declarationVector, vectorOctets, messageOf, messageOctets, having, pduOctets, readyNumber}
-use Rattle.model.proofs.Lists.{all-map, all-append, all-take, all-drop, all-getD}
-use Rattle.model.proofs.Valid.{Valid, ValidFixed, ValidHealth, ValidVarying, ValidColumn, ValidResult, ValidStream}
+use Rattle.model.specs.State.{Port, Settings, Fixed, Health, sound, broken, Ready, askingFailed, ready, readyFailed, Column, none, advertise, failed, Entry, noEntry, filters, forwards, Declared, nothing, tells, Result, Stream, Bridge, portAt, resultAt, classPriority, classId, unsettled}
+use Rattle.model.specs.Registrations.{Kind, advertises, faileds, listeners, talk, listen, ofDomain, joinDomain, acts}
+use Rattle.model.specs.Frames.{Attribute, registers, domain, known, typeOctet, typeNumber, firstWidths, firstLength, threeLength, hasFour, fourLength, Vector, vectorAt, vectorEnd, overpacked, runsPast, overflows, vectorIn, checkedIn, typedIn, listLength, listAt, messageEnd, endMark, headerIn, messageIn, found, also, both, vectorsFrom, vectors, messagesFrom, messages, walk, joinMt, event, threePacked, fourPacked, eventOf, fourOf, asking, join, priorityOf, rankOf, fixedValue, healthValue, idValue, hearing, talkerAct, listenerAct, hasSlot, slotOf, slotAct, domainAct, valueActs, valuesActs, leaveAllActs, vectorActs, frameActs, walked, wrongPort, reading}
+use Rattle.model.specs.Declarations.{Declaration, talkerDeclaration, listenerDeclaration, domainDeclaration, healthKind, attributeOf, joinOf, advertised, failing, listening, declarationsOf, ofKind, domainOf, domainValues, declarations, vectorSize, sameAttribute, takes, write}
+use Rattle.model.specs.WrittenFrames.{priorityOctet, fixedNumbers, failureNumbers, firstNumbers, readyNumber, fourOctets, declarationVector, vectorOctets, messageOf, messageOctets, having, pduOctets}
+use Rattle.model.proofs.Lists.{all-map, all-append, all-take, all-drop, all-getD, and-left, and-right}
+use Rattle.model.proofs.Valid.{Valid, ValidSettings, ValidFixed, ValidHealth, ValidVarying, ValidColumn, ValidResult, ValidStream}
 use Rattle.model.proofs.AdvanceKeepsForm.{unsettled-valid}
-use Rattle.model.proofs.WritingPasses.{length-first, length-vector, NotBefore, OfKind, InOrder, all-of-kind, having-kind, having-none, declared, write-above, write-from, run-in-order, run-fits}
+use Rattle.model.proofs.WritingPasses.{length-first, length-vector, known-type, inTurn, NotBefore, OfAttribute, InOrder, all-of-kind, all-domains, having-attribute, having-none, declared, write-above, write-from, run-in-order, run-fits}
 
 -- Octets behind a prefix.
 
@@ -47,17 +47,18 @@ vector-octets : (d : Declaration) → vectorOctets (declarationVector d) ≡ 0 �
 unfolding vectorOctets declarationVector bit be
 vector-octets d = refl
 
-length-four : (d : Declaration) → length (fourOctets d) ≡ fourLength (hasFour (registers (kindOf d))) 1
-unfolding fourOctets kindOf healthKind fourLength hasFour
+length-four : (d : Declaration) → length (fourOctets d) ≡ fourLength (hasFour (attributeOf d)) 1
+unfolding fourOctets attributeOf healthKind fourLength hasFour
 length-four (talkerDeclaration id f v) = go (v .health)
   where
     go : (h : Health) → 0 ≡ fourLength (hasFour (registers (healthKind h))) 1
     go sound = refl
     go (broken b c) = refl
 length-four (listenerDeclaration id r) = refl
+length-four (domainDeclaration id q v) = refl
 
 -- one value adds nothing to the numbers of FirstValue, which are octets
-no-run-past : (k : Kind) (s : List ℕ) → ((i : ℕ) → getD s i 0 < 256) → runsPast (registers k) s 0 ≡ false
+no-run-past : (k : Attribute) (s : List ℕ) → ((i : ℕ) → getD s i 0 < 256) → runsPast k s 0 ≡ false
 unfolding runsPast
 no-run-past k s h = go k
   where
@@ -67,16 +68,20 @@ no-run-past k s h = go k
     destination : ltb 281474976710655 (beAt 6 s 8 + 0) ≡ false
     destination = le-ltb 281474976710655 (beAt 6 s 8 + 0) (omega (arith, beAt-fits 6 s 8 h))
 
-    go : (j : Kind) → runsPast (registers j) s 0 ≡ false
-    go advertises = rw (unique, destination)
-    go faileds = rw (unique, destination)
-    go listeners = unique
+    octet : (i : ℕ) → ltb 255 (getD s i 0 + 0) ≡ false
+    octet i = le-ltb 255 (getD s i 0 + 0) (omega (arith, h i))
+
+    go : (j : Attribute) → runsPast j s 0 ≡ false
+    go (registers advertises) = rw (unique, destination)
+    go (registers faileds) = rw (unique, destination)
+    go (registers listeners) = unique
+    go domain = rw (octet 0, octet 1)
 
 no-overflow : (d : Declaration) → overflows (declarationVector d) ≡ false
 unfolding overflows declarationVector
 no-overflow d =
-    let ws : List ℕ = firstWidths (registers (kindOf d)) in
-    no-run-past (kindOf d) (packed ws (firstNumbers d)) (packed-octets ws (firstNumbers d))
+    let ws : List ℕ = firstWidths (attributeOf d) in
+    no-run-past (attributeOf d) (packed ws (firstNumbers d)) (packed-octets ws (firstNumbers d))
 
 -- a vector of one value that has no fault is found, and the walk goes on behind it
 vectors-more : (f : ℕ) (k : Attribute) (l : List ℕ) (at : ℕ) (v : Vector)
@@ -102,65 +107,66 @@ module _ (d : Declaration) (pre rest : List ℕ) where
   first : List ℕ
   first = declarationVector d .first
 
-  first-here : part (length pre + 2) (firstLength (registers (kindOf d))) here ≡ first
+  first-here : part (length pre + 2) (firstLength (attributeOf d)) here ≡ first
   unfolding first
   first-here =
-      piece-here (0 ∷ 1 ∷ []) first (108 ∷ (fourOctets d ++ rest)) (length pre + 2) (firstLength (registers (kindOf d)))
+      piece-here (0 ∷ 1 ∷ []) first (108 ∷ (fourOctets d ++ rest)) (length pre + 2) (firstLength (attributeOf d))
       (rw (vector-octets d) (simp append-assoc)) refl (sym (length-first d))
 
-  three-here : part (length pre + 2 + firstLength (registers (kindOf d))) 1 here ≡ 108 ∷ []
+  three-here : part (length pre + 2 + firstLength (attributeOf d)) 1 here ≡ 108 ∷ []
   unfolding first
   three-here =
-      piece-here (0 ∷ 1 ∷ first) (108 ∷ []) (fourOctets d ++ rest) (length pre + 2 + firstLength (registers (kindOf d))) 1
+      piece-here (0 ∷ 1 ∷ first) (108 ∷ []) (fourOctets d ++ rest) (length pre + 2 + firstLength (attributeOf d)) 1
       (rw (vector-octets d) (simp append-assoc)) (rw (length-first d) (omega arith)) refl
 
-  four-here : part (length pre + 2 + firstLength (registers (kindOf d)) + 1) (fourLength (hasFour (registers (kindOf d))) 1) here ≡ fourOctets d
+  four-here : part (length pre + 2 + firstLength (attributeOf d) + 1) (fourLength (hasFour (attributeOf d)) 1) here ≡ fourOctets d
   unfolding first
   four-here =
-      piece-here (0 ∷ 1 ∷ (first ++ (108 ∷ []))) (fourOctets d) rest (length pre + 2 + firstLength (registers (kindOf d)) + 1)
-      (fourLength (hasFour (registers (kindOf d))) 1)
+      piece-here (0 ∷ 1 ∷ (first ++ (108 ∷ []))) (fourOctets d) rest (length pre + 2 + firstLength (attributeOf d) + 1)
+      (fourLength (hasFour (attributeOf d)) 1)
       (rw (vector-octets d) (simp append-assoc)) (simp (length-append, length-first d) (omega arith)) (sym (length-four d))
 
-  vector-here : vectorAt (registers (kindOf d)) here (length pre) 1 ≡ declarationVector d
+  vector-here : vectorAt (attributeOf d) here (length pre) 1 ≡ declarationVector d
   unfolding vectorAt threeLength
   vector-here = rw (first-here, three-here, four-here) (unfold first declarationVector in refl)
 
-  end-here : vectorEnd (firstLength (registers (kindOf d))) (hasFour (registers (kindOf d))) (length pre) 1 ≡ length pre + vectorSize (kindOf d)
+  end-here : vectorEnd (firstLength (attributeOf d)) (hasFour (attributeOf d)) (length pre) 1 ≡ length pre + vectorSize (attributeOf d)
   unfolding vectorEnd threeLength firstLength fourLength hasFour vectorSize
-  end-here = go (kindOf d)
+  end-here = go (attributeOf d)
     where
-      go : (k : Kind) → length pre + 2 + firstLength (registers k) + 1 + fourLength (hasFour (registers k)) 1 ≡ length pre + vectorSize k
-      go advertises = omega arith
-      go faileds = omega arith
-      go listeners = omega arith
+      go : (k : Attribute) → length pre + 2 + firstLength k + 1 + fourLength (hasFour k) 1 ≡ length pre + vectorSize k
+      go (registers advertises) = omega arith
+      go (registers faileds) = omega arith
+      go (registers listeners) = omega arith
+      go domain = omega arith
 
   header-here : beAt 2 here (length pre) ≡ 1
   unfolding here
   header-here = beAt-here 2 pre (vectorOctets (declarationVector d) ++ rest) ∙ rw (vector-octets d) (unfold beAt in refl)
 
-  length-here : length here ≡ length pre + (vectorSize (kindOf d) + length rest)
+  length-here : length here ≡ length pre + (vectorSize (attributeOf d) + length rest)
   unfolding here
   length-here = simp (length-append, length-vector d)
 
-  read-vector : (f : ℕ) → vectors (suc f) (registers (kindOf d)) here (length pre)
-      ≡ also (declarationVector d) (vectors f (registers (kindOf d)) here (length pre + vectorSize (kindOf d)))
+  read-vector : (f : ℕ) → vectors (suc f) (attributeOf d) here (length pre)
+      ≡ also (declarationVector d) (vectors f (attributeOf d) here (length pre + vectorSize (attributeOf d)))
   read-vector f =
-      vectors-more f (registers (kindOf d)) here (length pre) (declarationVector d) header-here
+      vectors-more f (attributeOf d) here (length pre) (declarationVector d) header-here
       (omega (arith, length-here, length-vector d, ap length (vector-octets d)))
       (omega (arith, length-here, end-here))
       vector-here
       (unfold declarationVector overpacked in refl)
       (no-overflow d)
-      ∙ ap (λ (e : ℕ). also (declarationVector d) (vectors f (registers (kindOf d)) here e)) end-here
+      ∙ ap (λ (e : ℕ). also (declarationVector d) (vectors f (attributeOf d) here e)) end-here
 
 -- An AttributeList.
 
--- behind any prefix, and with fuel for n vectors, the list is read as these vectors
-VectorsRead : ℕ → Attribute → List ℕ → List Vector → Type 0
-VectorsRead n k s vs = (f : ℕ) (pre : List ℕ) → n ≤ f → vectors f k (pre ++ s) (length pre) ≡ found vs
+-- behind any prefix, and with fuel for its octets, the list is read as these vectors
+VectorsRead : Attribute → List ℕ → List Vector → Type 0
+VectorsRead k s vs = (f : ℕ) (pre : List ℕ) → length s ≤ f → vectors f k (pre ++ s) (length pre) ≡ found vs
 
 -- the EndMark, as the list's last two octets
-vectors-end : (k : Attribute) → VectorsRead 1 k (0 ∷ 0 ∷ []) []
+vectors-end : (k : Attribute) → VectorsRead k (0 ∷ 0 ∷ []) []
 unfolding VectorsRead vectors typedIn vectorIn checkedIn vectorsFrom
 vectors-end k zero pre h = absurd (omega arith)
 vectors-end k (suc f) pre h =
@@ -169,14 +175,19 @@ vectors-end k (suc f) pre h =
     rw (e, l, le-ltb (length pre + 2) (length pre + 2) (omega arith), l, eq-eqb (length pre + 2) (length pre + 2) refl)
 
 -- one vector more, in front
-vectors-cons : (d : Declaration) (n : ℕ) (rest : List ℕ) (vs : List Vector) → VectorsRead n (registers (kindOf d)) rest vs
-    → VectorsRead (suc n) (registers (kindOf d)) (vectorOctets (declarationVector d) ++ rest) (declarationVector d ∷ vs)
+vectors-cons : (d : Declaration) (rest : List ℕ) (vs : List Vector) → VectorsRead (attributeOf d) rest vs
+    → VectorsRead (attributeOf d) (vectorOctets (declarationVector d) ++ rest) (declarationVector d ∷ vs)
 unfolding VectorsRead here also
-vectors-cons d n rest vs r zero pre h = absurd (omega arith)
-vectors-cons d n rest vs r (suc f) pre h =
-    let v : List ℕ = vectorOctets (declarationVector d) in
-    let e : length pre + vectorSize (kindOf d) ≡ length (pre ++ v) = simp (length-append, length-vector d) in
-    read-vector d pre rest f ∙ rw (e, ← append-assoc pre v rest, r f (pre ++ v) (omega arith))
+vectors-cons d rest vs r f pre h = go f (omega (arith, length-append v rest, ap length (vector-octets d)))
+  where
+    v : List ℕ
+    v = vectorOctets (declarationVector d)
+
+    go : (f : ℕ) → suc (length rest) ≤ f → vectors f (attributeOf d) (pre ++ (v ++ rest)) (length pre) ≡ found (declarationVector d ∷ vs)
+    go zero h = absurd (omega arith)
+    go (suc f) h =
+        let e : length pre + vectorSize (attributeOf d) ≡ length (pre ++ v) = simp (length-append, length-vector d) in
+        read-vector d pre rest f ∙ rw (e, ← append-assoc pre v rest, r f (pre ++ v) (omega arith))
 
 listOctets : List Declaration → List ℕ
 listOctets l = flat (λ e. vectorOctets (declarationVector e)) l ++ (0 ∷ 0 ∷ [])
@@ -185,19 +196,19 @@ list-cons : (d : Declaration) (l : List Declaration) → listOctets (d ∷ l) �
 unfolding listOctets flat
 list-cons d l = append-assoc (vectorOctets (declarationVector d)) (flat (λ e. vectorOctets (declarationVector e)) l) (0 ∷ 0 ∷ [])
 
-vectors-read : (k : Kind) (l : List Declaration) → All (OfKind k) l → VectorsRead (suc (length l)) (registers k) (listOctets l) (map declarationVector l)
-vectors-read k [] a = unfold listOctets flat in (vectors-end (registers k))
+vectors-read : (k : Attribute) (l : List Declaration) → All (OfAttribute k) l → VectorsRead k (listOctets l) (map declarationVector l)
+vectors-read k [] a = unfold listOctets flat in (vectors-end k)
 vectors-read k (d ∷ l) a =
     rw (list-cons d l, ← (a .0))
-    (vectors-cons d (suc (length l)) (listOctets l) (map declarationVector l) (rw (a .0) (vectors-read k l (a .1))))
+    (vectors-cons d (listOctets l) (map declarationVector l) (rw (a .0) (vectors-read k l (a .1))))
 
 -- Messages.
 
--- behind any prefix, and with fuel for n Messages, the octets are read as Messages of these vectors
-MessagesRead : ℕ → List ℕ → List Vector → Type 0
-MessagesRead n s vs = (f : ℕ) (pre : List ℕ) → n ≤ f → messages f 0 (pre ++ s) (length pre) ≡ found vs
+-- behind any prefix, and with fuel for them, the octets are read as Messages of these vectors
+MessagesRead : List ℕ → List Vector → Type 0
+MessagesRead s vs = (f : ℕ) (pre : List ℕ) → length s ≤ f → messages f 0 (pre ++ s) (length pre) ≡ found vs
 
-messages-end : MessagesRead 1 (0 ∷ 0 ∷ []) []
+messages-end : MessagesRead (0 ∷ 0 ∷ []) []
 unfolding MessagesRead messages messageIn messagesFrom endMark
 messages-end zero pre h = absurd (omega arith)
 messages-end (suc f) pre h =
@@ -205,17 +216,12 @@ messages-end (suc f) pre h =
     let e : beAt 2 (pre ++ (0 ∷ 0 ∷ [])) (length pre) ≡ 0 = beAt-here 2 pre (0 ∷ 0 ∷ []) ∙ (unfold beAt in refl) in
     rw (e, l, ne-eqb (length pre) (length pre + 2) (λ q. omega arith), le-leb (length pre + 2) (length pre + 2) (omega arith))
 
-known-type : (k : Kind) → typeOctet 0 (typeNumber k) ≡ known (registers k)
-unfolding typeOctet typeNumber
-known-type advertises = refl
-known-type faileds = refl
-known-type listeners = refl
-
-some-type : (k : Kind) → 1 ≤ typeNumber k
+some-type : (k : Attribute) → 1 ≤ typeNumber k
 unfolding typeNumber
-some-type advertises = omega arith
-some-type faileds = omega arith
-some-type listeners = omega arith
+some-type (registers advertises) = omega arith
+some-type (registers faileds) = omega arith
+some-type (registers listeners) = omega arith
+some-type domain = omega arith
 
 -- a Message without fault is read, and the walk goes on behind it
 messages-more : (f : ℕ) (k : Attribute) (s : List ℕ) (at n : ℕ) (list : List ℕ) (vs : List Vector)
@@ -243,14 +249,14 @@ two-octets : (n : ℕ) (y : List ℕ) → n < 65536 → beAt 2 (be 2 n ++ y) 0 �
 unfolding beAt be
 two-octets n y h = omega arith
 
-module _ (k : Kind) (list pre rest : List ℕ) (short : length list < 65536) where
+module _ (k : Attribute) (list pre rest : List ℕ) (short : length list < 65536) where
   -- the PDU that has the Message at the place
   pdu : List ℕ
   pdu = pre ++ (messageOf k list ++ rest)
 
   -- behind the prefix: the Message's type, the length of FirstValue, and from there on
   lead : List ℕ
-  lead = typeNumber k ∷ firstLength (registers k) ∷ []
+  lead = typeNumber k ∷ firstLength k ∷ []
 
   tail : List ℕ
   tail = be 2 (length list) ++ (list ++ rest)
@@ -265,9 +271,9 @@ module _ (k : Kind) (list pre rest : List ℕ) (short : length list < 65536) whe
 
   type-here : getD pdu (length pre) 0 ≡ typeNumber k
   unfolding pdu lead
-  type-here = rw message-here (getD-append-seam pre (typeNumber k) (firstLength (registers k) ∷ tail) 0)
+  type-here = rw message-here (getD-append-seam pre (typeNumber k) (firstLength k ∷ tail) 0)
 
-  first-length-here : getD pdu (length pre + 1) 0 ≡ firstLength (registers k)
+  first-length-here : getD pdu (length pre + 1) 0 ≡ firstLength k
   unfolding pdu lead
   first-length-here = rw message-here (getD-append-add pre (lead ++ tail) 1 0)
 
@@ -290,71 +296,78 @@ module _ (k : Kind) (list pre rest : List ℕ) (short : length list < 65536) whe
       rw (message-here, cut)
       (part-behind (pre ++ (lead ++ be 2 (length list))) list rest (length pre + 4) (length list) (simp (length-append, length-be)) refl)
 
-  read-message : (f : ℕ) (vs : List Vector) → vectors (suc (length list)) (registers k) list 0 ≡ found vs
+  read-message : (f : ℕ) (vs : List Vector) → vectors (suc (length list)) k list 0 ≡ found vs
       → messages (suc f) 0 pdu (length pre) ≡ both (found vs) (messages f 0 pdu (length pre + 4 + length list))
   read-message f vs read =
-      messages-more f (registers k) pdu (length pre) (length list) list vs
+      messages-more f k pdu (length pre) (length list) list vs
       (omega (arith, length-here-message)) no-end-here (rw type-here (known-type k)) first-length-here long-here list-here read
 
-length-messageOf : (k : Kind) (list : List ℕ) → length (messageOf k list) ≡ 4 + length list
+length-messageOf : (k : Attribute) (list : List ℕ) → length (messageOf k list) ≡ 4 + length list
 unfolding messageOf
 length-messageOf k list = simp (length-append, length-be) (omega arith)
 
 -- one Message more, in front
-messages-cons : (k : Kind) (list : List ℕ) (n : ℕ) (rest : List ℕ) (vs ws : List Vector) → length list < 65536
-    → vectors (suc (length list)) (registers k) list 0 ≡ found vs → MessagesRead n rest ws → MessagesRead (suc n) (messageOf k list ++ rest) (vs ++ ws)
+messages-cons : (k : Attribute) (list rest : List ℕ) (vs ws : List Vector) → length list < 65536
+    → vectors (suc (length list)) k list 0 ≡ found vs → MessagesRead rest ws → MessagesRead (messageOf k list ++ rest) (vs ++ ws)
 unfolding MessagesRead pdu both
-messages-cons k list n rest vs ws short read r zero pre h = absurd (omega arith)
-messages-cons k list n rest vs ws short read r (suc f) pre h =
-    let m : List ℕ = messageOf k list in
-    let e : length pre + 4 + length list ≡ length (pre ++ m) = simp (length-append, length-messageOf k list) (omega arith) in
-    read-message k list pre rest short f vs read ∙ rw (e, ← append-assoc pre m rest, r f (pre ++ m) (omega arith))
+messages-cons k list rest vs ws short read r f pre h = go f (omega (arith, length-append m rest, length-messageOf k list))
+  where
+    m : List ℕ
+    m = messageOf k list
 
--- a list has more octets than vectors
-list-longer : (l : List Declaration) → suc (length l) ≤ length (listOctets l)
-list-longer [] = unfold listOctets flat in (omega arith)
-list-longer (d ∷ l) = rw (list-cons d l, vector-octets d) (simp length-append (omega (arith, list-longer l)))
+    go : (f : ℕ) → suc (length rest) ≤ f → messages f 0 (pre ++ (m ++ rest)) (length pre) ≡ found (vs ++ ws)
+    go zero h = absurd (omega arith)
+    go (suc f) h =
+        let e : length pre + 4 + length list ≡ length (pre ++ m) = simp (length-append, length-messageOf k list) (omega arith) in
+        read-message k list pre rest short f vs read ∙ rw (e, ← append-assoc pre m rest, r f (pre ++ m) (omega arith))
 
 -- the Message of the declarations of a type, where there are any
-messages-read : (k : Kind) (l : List Declaration) (n : ℕ) (rest : List ℕ) (ws : List Vector) → All (OfKind k) l
-    → length (messageOctets k l) < 65536 → MessagesRead n rest ws → MessagesRead (suc n) (messageOctets k l ++ rest) (map declarationVector l ++ ws)
+messages-read : (k : Attribute) (l : List Declaration) (rest : List ℕ) (ws : List Vector) → All (OfAttribute k) l
+    → length (messageOctets k l) < 65536 → MessagesRead rest ws → MessagesRead (messageOctets k l ++ rest) (map declarationVector l ++ ws)
 unfolding messageOctets MessagesRead listOctets VectorsRead
-messages-read k [] n rest ws a short r = λ f pre h. r f pre (omega arith)
-messages-read k (d ∷ l) n rest ws a short r =
+messages-read k [] rest ws a short r = r
+messages-read k (d ∷ l) rest ws a short r =
     let list : List ℕ = listOctets (d ∷ l) in
     let m : length (messageOf k list) ≡ 4 + length list = length-messageOf k list in
-    messages-cons k list n rest (map declarationVector (d ∷ l)) ws (omega arith)
-    (vectors-read k (d ∷ l) a (suc (length list)) [] (omega (arith, list-longer (d ∷ l)))) r
+    messages-cons k list rest (map declarationVector (d ∷ l)) ws (omega arith) (vectors-read k (d ∷ l) a (suc (length list)) [] (omega arith)) r
 
 -- A PDU.
 
--- in the order of types, the declarations are those of each type in turn
-having-each : (l : List Declaration) → InOrder l → having advertises l ++ (having faileds l ++ having listeners l) ≡ l
-unfolding having sameKind typeNumber
+-- declarations in the order of types are those of each type in turn
+having-each : (l : List Declaration) → InOrder l → inTurn (λ k. having k l) ≡ l
+unfolding having sameAttribute typeNumber
 having-each [] o = refl
-having-each (d ∷ l) o = go (kindOf d) (o .0) (having-each l (o .1))
+having-each (d ∷ l) o = go (attributeOf d) (o .0) (having-each l (o .1))
   where
     -- no declaration of type j stands behind one of a later type
-    gone : (j k : Kind) → typeNumber j < typeNumber k → All (NotBefore k) l → having j l ≡ []
-    gone j k h b = having-none j l (all-map (NotBefore k) (λ e. typeNumber j < typeNumber (kindOf e)) (λ e q. omega arith) l b)
+    gone : (j k : Attribute) → typeNumber j < typeNumber k → All (NotBefore k) l → having j l ≡ []
+    gone j k h b = having-none j l (all-map (NotBefore k) (λ e. typeNumber j < typeNumber (attributeOf e)) (λ e q. omega arith) l b)
 
-    kept : Kind → Kind → List Declaration
-    kept k j = keep (sameKind k j) d (having j l)
+    go : (k : Attribute) → All (NotBefore k) l → inTurn (λ j. having j l) ≡ l → inTurn (λ j. keep (sameAttribute k j) d (having j l)) ≡ d ∷ l
+    go (registers advertises) b ih = ap (λ (r : List Declaration). d ∷ r) ih
+    go (registers faileds) b ih =
+        let a : having (registers advertises) l ≡ [] = gone (registers advertises) (registers faileds) (omega arith) b in
+        rw a (ap (λ (r : List Declaration). d ∷ r) (rw a at ih))
+    go (registers listeners) b ih =
+        let a : having (registers advertises) l ≡ [] = gone (registers advertises) (registers listeners) (omega arith) b in
+        let f : having (registers faileds) l ≡ [] = gone (registers faileds) (registers listeners) (omega arith) b in
+        rw (a, f) (ap (λ (r : List Declaration). d ∷ r) (rw (a, f) at ih))
+    go domain b ih =
+        let a : having (registers advertises) l ≡ [] = gone (registers advertises) domain (omega arith) b in
+        let f : having (registers faileds) l ≡ [] = gone (registers faileds) domain (omega arith) b in
+        let n : having (registers listeners) l ≡ [] = gone (registers listeners) domain (omega arith) b in
+        rw (a, f, n) (ap (λ (r : List Declaration). d ∷ r) (rw (a, f, n) at ih))
 
-    go : (k : Kind) → All (NotBefore k) l → having advertises l ++ (having faileds l ++ having listeners l) ≡ l
-        → kept k advertises ++ (kept k faileds ++ kept k listeners) ≡ d ∷ l
-    go advertises b ih = ap (λ (r : List Declaration). d ∷ r) ih
-    go faileds b ih =
-        let e : having advertises l ≡ [] = gone advertises faileds (omega arith) b in
-        rw e (ap (λ (r : List Declaration). d ∷ r) (rw e at ih))
-    go listeners b ih =
-        let e : having advertises l ≡ [] = gone advertises listeners (omega arith) b in
-        let g : having faileds l ≡ [] = gone faileds listeners (omega arith) b in
-        rw (e, g) (ap (λ (r : List Declaration). d ∷ r) (rw (e, g) at ih))
+-- their vectors, type by type
+vectorsInTurn : (Attribute → List Declaration) → List Vector
+vectorsInTurn of = vs (registers advertises) ++ (vs (registers faileds) ++ (vs (registers listeners) ++ (vs domain ++ [])))
+  where
+    vs : Attribute → List Vector
+    vs k = map declarationVector (of k)
 
-map-each : (a f n : List Declaration)
-    → map declarationVector a ++ (map declarationVector f ++ (map declarationVector n ++ [])) ≡ map declarationVector (a ++ (f ++ n))
-map-each a f n = rw (append-nil (map declarationVector n), map-append declarationVector a (f ++ n), map-append declarationVector f n)
+map-each : (of : Attribute → List Declaration) → vectorsInTurn of ≡ map declarationVector (inTurn of)
+unfolding vectorsInTurn
+map-each of = simp (map-append, append-nil)
 
 -- a PDU whose Messages are read, and that is not too long
 walk-messages : (s : List ℕ) (vs : List Vector) → 1 ≤ length s → length s ≤ longestPdu → messages (suc (length s)) (getD s 0 0) s 1 ≡ found vs → walk s ≡ found vs
@@ -363,29 +376,33 @@ walk-messages s vs some few e = rw (ne-eqb (length s) 0 (λ q. omega arith), le-
 
 -- a PDU of declarations in the order of types, if not too long, is read as their vectors
 pub walk-written : (l : List Declaration) → InOrder l → length (pduOctets l) ≤ longestPdu → walk (pduOctets l) ≡ found (map declarationVector l)
-unfolding pduOctets MessagesRead
+unfolding pduOctets MessagesRead vectorsInTurn
 walk-written l o h =
     walk-messages (pduOctets l) (map declarationVector l) (omega arith) h
-    (read (suc (length (pduOctets l))) (0 ∷ []) (omega (arith, long)) ∙ ap found (map-each a f n ∙ ap (map declarationVector) (having-each l o)))
+    (read (suc (length (pduOctets l))) (0 ∷ []) (omega arith) ∙ ap found (map-each of ∙ ap (map declarationVector) (having-each l o)))
   where
-    a : List Declaration
-    a = having advertises l
+    of : Attribute → List Declaration
+    of k = having k l
 
-    f : List Declaration
-    f = having faileds l
+    octets : Attribute → List ℕ
+    octets k = messageOctets k (of k)
 
-    n : List Declaration
-    n = having listeners l
+    size : Attribute → ℕ
+    size k = length (octets k)
 
-    long : length (pduOctets l) ≡ 3 + (length (messageOctets advertises a) + (length (messageOctets faileds f) + length (messageOctets listeners n)))
+    long : length (pduOctets l) ≡ 3 + (size (registers advertises) + (size (registers faileds) + (size (registers listeners) + size domain)))
     long = simp length-append (omega arith)
 
-    read : MessagesRead 4 (messageOctets advertises a ++ (messageOctets faileds f ++ (messageOctets listeners n ++ (0 ∷ 0 ∷ []))))
-        (map declarationVector a ++ (map declarationVector f ++ (map declarationVector n ++ [])))
+    one : (k : Attribute) (rest : List ℕ) (ws : List Vector) → size k < 65536 → MessagesRead rest ws
+        → MessagesRead (octets k ++ rest) (map declarationVector (of k) ++ ws)
+    one k rest ws short r = messages-read k (of k) rest ws (having-attribute k l) short r
+
+    read : MessagesRead (octets (registers advertises) ++ (octets (registers faileds) ++ (octets (registers listeners) ++ (octets domain ++ (0 ∷ 0 ∷ [])))))
+        (vectorsInTurn of)
     read =
-        messages-read advertises a 3 _ _ (having-kind advertises l) (omega (arith, long))
-        (messages-read faileds f 2 _ _ (having-kind faileds l) (omega (arith, long))
-        (messages-read listeners n 1 _ _ (having-kind listeners l) (omega (arith, long)) messages-end))
+        one (registers advertises) _ _ (omega (arith, long))
+        (one (registers faileds) _ _ (omega (arith, long))
+        (one (registers listeners) _ _ (omega (arith, long)) (one domain _ _ (omega (arith, long)) messages-end)))
 
 -- what write puts into a PDU is found there again
 pub read-back : (b : Bridge) (p place : ℕ) → walk (pduOctets (write b p place .run)) ≡ found (map declarationVector (write b p place .run))
@@ -402,9 +419,19 @@ event-written d = refl
 abbrev pub ValidDeclaration : Declaration → Type 0
 ValidDeclaration (talkerDeclaration id f v) = (id < 2 ^ 64) × ValidFixed f × ValidVarying v
 ValidDeclaration (listenerDeclaration id r) = id < 2 ^ 64
+ValidDeclaration (domainDeclaration id q v) = (hasSlot id q ≡ true) × (v < 65536)
 
-first-fits : (d : Declaration) → ValidDeclaration d → Fit (firstWidths (registers (kindOf d))) (firstNumbers d)
-unfolding Fit firstWidths firstNumbers kindOf healthKind fixedNumbers failureNumbers priorityOctet
+-- a class ID and a priority with a slot are octets
+slot-octets : (c q : ℕ) → hasSlot c q ≡ true → (c < 256) × (q < 256)
+unfolding hasSlot
+slot-octets c q h =
+    let r : (leb c 6 && leb q 7) ≡ true = and-right (leb 5 c) (leb c 6 && leb q 7) h in (
+      omega (arith, leb-true c 6 (and-left (leb c 6) (leb q 7) r)),
+      omega (arith, leb-true q 7 (and-right (leb c 6) (leb q 7) r)),
+    )
+
+first-fits : (d : Declaration) → ValidDeclaration d → Fit (firstWidths (attributeOf d)) (firstNumbers d)
+unfolding Fit firstWidths firstNumbers attributeOf healthKind fixedNumbers failureNumbers priorityOctet
 first-fits (talkerDeclaration id f v) h = go (v .health) (h .2 .health)
   where
     fixed : ValidFixed f
@@ -421,11 +448,14 @@ first-fits (talkerDeclaration id f v) h = go (v .health) (h .2 .health)
     go sound w = both-types [] [] tt
     go (broken b c) w = both-types (8 ∷ 1 ∷ []) (b ∷ c ∷ []) (w .0, (w .1, tt))
 first-fits (listenerDeclaration id r) h = (h, tt)
+first-fits (domainDeclaration id q v) h =
+    let s = slot-octets id q (h .0) in
+    (s .0, (s .1, (h .1, tt)))
 
 -- the numbers of FirstValue, read
-first-read : (d : Declaration) → ValidDeclaration d → fields (firstWidths (registers (kindOf d))) 0 (declarationVector d .first) ≡ firstNumbers d
+first-read : (d : Declaration) → ValidDeclaration d → fields (firstWidths (attributeOf d)) 0 (declarationVector d .first) ≡ firstNumbers d
 unfolding declarationVector
-first-read d h = fields-of-packed (firstWidths (registers (kindOf d))) (firstNumbers d) (first-fits d h)
+first-read d h = fields-of-packed (firstWidths (attributeOf d)) (firstNumbers d) (first-fits d h)
 
 -- a Talker's fixed values come back: priority and rank out of one octet
 fixed-read : (id : ℕ) (f : Fixed) (vs : List ℕ) → ValidFixed f → fixedValue (id ∷ (fixedNumbers f ++ vs)) 0 ≡ f
@@ -447,9 +477,13 @@ listen-read id askingFailed = rw (add-zero id)
 listen-read id ready = rw (add-zero id)
 listen-read id readyFailed = rw (add-zero id)
 
+domain-read : (id q v : ℕ) → hasSlot id q ≡ true → domainAct (id ∷ q ∷ v ∷ []) 0 join ≡ ofDomain (joinDomain (slotOf id q) v) ∷ []
+unfolding domainAct slotAct
+domain-read id q v h = rw (add-zero id, add-zero q, h)
+
 -- a written vector asks for the join of its declaration
 vector-joins : (d : Declaration) → ValidDeclaration d → vectorActs (declarationVector d) ≡ joinOf d ∷ []
-unfolding vectorActs leaveAllActs valuesActs valueActs declarationVector kindOf healthKind eventOf threePacked event asking joinOf fourOf fourOctets firstNumbers
+unfolding vectorActs leaveAllActs valuesActs valueActs declarationVector attributeOf healthKind eventOf threePacked event asking joinOf fourOf fourOctets firstNumbers
 vector-joins (talkerDeclaration id f v) h = go (v .health) (h .2 .health)
   where
     talks : Health → Declaration
@@ -462,6 +496,7 @@ vector-joins (talkerDeclaration id f v) h = go (v .health) (h .2 .health)
     go sound w = rw (first-read (talks sound) (valid sound w), append-nil) (talk-read id f (v .latency) sound (h .1))
     go (broken b c) w = rw (first-read (talks (broken b c)) (valid (broken b c) w), append-nil) (talk-read id f (v .latency) (broken b c) (h .1))
 vector-joins (listenerDeclaration id r) h = rw (first-read (listenerDeclaration id r) h, append-nil) (listen-read id r)
+vector-joins (domainDeclaration id q v) h = rw (first-read (domainDeclaration id q v) h, append-nil) (domain-read id q v (h .0))
 
 pub frame-joins : (l : List Declaration) → All ValidDeclaration l → frameActs (map declarationVector l) ≡ map joinOf l
 unfolding frameActs
@@ -496,11 +531,21 @@ module _ (ports clock leave : ℕ) (x : Stream) (h : ValidStream ports clock lea
   stream-within faileds = failed-within (r .column) (r .entry) (k .column)
   stream-within listeners = listening-within (r .declares)
 
+-- both classes' IDs have slots, and every priority of the settings
+domains-within : (st : Settings) → ValidSettings st → (q : Port) → All ValidDeclaration (domainValues st q)
+unfolding domainOf classId classPriority hasSlot
+domains-within st h q = all-domains ValidDeclaration st q (within (h .priorityB)) (within (h .priorityA))
+  where
+    within : {r : ℕ} → r < 8 → (leb r 7 ≡ true) × (st .vlan < 65536)
+    within {r} l = (le-leb r 7 (omega arith), omega (arith, h .vlan))
+
 pub declarations-within : (b : Bridge) → Valid b → (p : ℕ) → All ValidDeclaration (declared b p)
 unfolding declared declarations
 declarations-within b h p =
     all-append ValidDeclaration (ofKind advertises (p - 1) (b .streams)) _ (of advertises)
-    (all-append ValidDeclaration (ofKind faileds (p - 1) (b .streams)) _ (of faileds) (of listeners))
+    (all-append ValidDeclaration (ofKind faileds (p - 1) (b .streams)) _ (of faileds)
+    (all-append ValidDeclaration (ofKind listeners (p - 1) (b .streams)) _ (of listeners)
+    (domains-within (b .settings) (h .settings) (portAt (b .settings) (p - 1)))))
   where
     Ok : Stream → Type 0
     Ok = ValidStream (length (b .settings .ports)) (b .clock) (b .settings .leaveTime)

@@ -555,7 +555,7 @@ module _ (t : List ℕ) (now : ℕ) where
 module _ (t : List ℕ) (p place : ℕ) (buffer : List ℕ) where
   -- the port's declarations
   count : ℕ
-  count = length (declarations (p - 1) (decode t .streams))
+  count = length (declarations (decode t .settings) (p - 1) (decode t .streams))
 
   roomNumber : ℕ
   roomNumber = cond (ltb (length buffer) longestPdu) 10 (cond (ltb count place) 13 0)
@@ -604,14 +604,14 @@ module _ (t : List ℕ) (p place : ℕ) (buffer : List ℕ) where
       (fronted-past t p roomNumber n _ h k (given-after _ 10 _ n _ P l (is-at-least (length buffer) longestPdu) i))
 
   pub write-13 : (writeOn t p place buffer .number ≡ 13) ↔
-      (OnPort t p × ((longestPdu ≤ length buffer) × (length (declarations (p - 1) (decode t .streams)) < place)))
+      (OnPort t p × ((longestPdu ≤ length buffer) × (length (declarations (decode t .settings) (p - 1) (decode t .streams)) < place)))
   unfolding count
   write-13 =
       write-place 13 _ (λ e. omega arith) (λ e. omega arith) (λ e. omega arith)
       (given _ 13 0 _ (λ e. omega arith) (is-below count place))
 
   pub write-0 : (writeOn t p place buffer .number ≡ 0) ↔
-      (OnPort t p × ((longestPdu ≤ length buffer) × (place ≤ length (declarations (p - 1) (decode t .streams)))))
+      (OnPort t p × ((longestPdu ≤ length buffer) × (place ≤ length (declarations (decode t .settings) (p - 1) (decode t .streams)))))
   unfolding count
   write-0 =
       write-place 0 _ (λ e. omega arith) (λ e. omega arith) (λ e. omega arith)

@@ -12,73 +12,23 @@ use Rattle.octets.specs.Fields.{fields, packed, Fit, width, flat}
 use Rattle.octets.specs.Parts.{part, zeros}
 use Rattle.octets.proofs.Parts.{length-part}
 use Rattle.octets.proofs.Fields.{length-packed-any, fields-packed, fields-packed-behind, fields-of-packed, packed-fields, fields-fit, fit-at, beAt-fits, packed-zeros}
-use Rattle.model.specs.Layout.{cellSize, cellsPlace, cellsSize, clockPlace, clockSize, clockWidths, countPlace, nameSize, nameWidths, portPlace, portSize, recordSize, recordsPlace, recordsSize, resultSize, resultsPlace, resultsSize, settingsSize, settledPriorityPlace, tableLength, totalSize, totalsPlace, totalsSize, totalsWidths}
-use Rattle.model.specs.Lists.{All, allTrue, implies, parts, Octets}
-use Rattle.model.specs.State.{Port, Totals, Stream, Bridge, empty, unsettled, noFixed, noTotals, cellAt, resultAt, started}
+use Rattle.model.specs.Layout.{cellSize, cellsPlace, cellsSize, clockPlace, clockSize, clockWidths, countPlace, nameSize, nameWidths, ownSize, ownsPlace, ownsSize, portPlace, portSize, recordSize, recordsPlace, recordsSize, resultSize, resultsPlace, resultsSize, settingsSize, settledPriorityPlace, tableLength, totalSize, totalsPlace, totalsSize, totalsWidths}
+use Rattle.model.specs.Lists.{All, allTrue, parts, Octets, implies}
+use Rattle.model.specs.State.{Port, Totals, Own, Stream, Bridge, empty, unsettled, noTotals, noOwn, started, noFixed, cellAt, resultAt}
 use Rattle.model.specs.Registrations.{ids}
+use Rattle.model.specs.WrittenFrames.{fixedNumbers, priorityOctet}
+use Rattle.model.specs.Table.{settingsOctets, portsField, toSettings, settingsRules, settingsFormed, everyPart, allZero, cellOctets, toCell, cellFormed, resultOctets, toResult, resultFormed, cellsPart, resultsPart, fixedFrom, holds, streamOctets, toStream, streamRules, streamFormed, totalsOctets, toTotals, ownOctets, toOwn, ownFormed, encode, settingsPart, clockField, countField, totalsPart, ownsPart, recordsPart, decode, rising, idOf, totalsWithin, tableRules, formed, talkers, declarers, storedFormed, everyPort, atMost}
+use Rattle.model.specs.Laid.{FitSettings, FitOwn, FitStream, FitTotals, FitBridge}
+use Rattle.model.proofs.Lists.{and-left, and-right, and-both, all-map, all-each, all-drop, all-replicate, all-true, true-all, implied, implies-true}
+use Rattle.model.proofs.Valid.{ValidCell, ValidResult, ValidPort, ValidFixed, ValidOwn, ValidStream, Rising, Valid}
+use Rattle.model.proofs.Parts.{_also_, octets-at, packed-whole, octets-append, octets-drop, octets-part, octets-zeros, octets-packed, octets-flat, length-zeros, zero-zeros, zeros-zero, part-between, length-parts, parts-map, Sized, length-flat-sized, parts-flat, many-read, every-read, every-forth, every-fewer, every-padded, parts-padded, zero-padded, every-flat, rising-rises, rises-rising, zero-behind}
 use Rattle.model.specs.Frames.{priorityOf, rankOf}
-use Rattle.model.specs.WrittenFrames.{priorityOctet, fixedNumbers}
-use Rattle.model.specs.Table.{settingsOctets, portsField, toSettings, settingsRules, settingsFormed, everyPart, allZero, cellOctets, toCell, cellFormed, resultOctets, toResult, resultFormed, cellsPart, resultsPart, fixedFrom, holds, talkers, declarers, storedFormed, everyPort, streamOctets, toStream, streamRules, streamFormed, totalsOctets, toTotals, encode, settingsPart, clockField, countField, totalsPart, recordsPart, decode, rising, idOf, atMost, totalsWithin, tableRules, formed}
-use Rattle.model.specs.Laid.{FitSettings, FitStream, FitTotals, FitBridge}
-use Rattle.model.proofs.Lists.{and-left, and-right, and-both, implied, implies-true, all-map, all-each, all-true, true-all}
-use Rattle.model.proofs.Valid.{ValidCell, ValidResult, ValidPort, ValidFixed, ValidStream, Rising, Valid}
-use Rattle.model.proofs.Parts.{_also_, octets-at, packed-whole, octets-append, octets-drop, octets-part, octets-zeros, octets-packed, octets-flat, length-zeros, zero-zeros, zeros-zero, zero-behind, part-between, length-parts, parts-map, Sized, length-flat-sized, parts-flat, every-read, every-forth, every-fewer, every-padded, parts-padded, zero-padded, every-flat, rising-rises, rises-rising}
 use Rattle.model.proofs.Stored.{port-kept, ports-kept}
 use Rattle.model.proofs.Cells.{fixed-fit, fixed-back, fixed-forth, fixed-valid, priority-spare, cell-length, cell-octets, cells-sized, cell-back, cell-formed, cell-forth, cell-valid, cell-zeros, holds-held, held-holds}
 use Rattle.model.proofs.Results.{result-length, result-octets, results-sized, result-back, result-formed, result-forth, result-valid, result-zeros}
+use Rattle.model.proofs.Coded.{Coded, many-back, many-keep, many-rest, many-forth, many-valid, many-others}
+use Rattle.model.proofs.Owns.{own-length, own-octets, own-fit-back, valid-own-fits, owns-coded}
 use Rattle.model.proofs.SettingsOctets.{octet-field, settings-length, ports-read, fit-back, settings-fit, settings-rules, settings-ports, settings-taken, settings-valid, settings-room, eight-ports, formed-valid, octets-settings}
-
--- m things of n octets each, of which those after the first k are the blank one, written as zeros: cells, and results.
-
-record Coded {A : Type 0} (n : ℕ) (to : A → List ℕ) (from : List ℕ → A) (rule : List ℕ → Bool) (Good : A → Type 0) (e : A) : Type 0 where
-  size : (a : A) → length (to a) ≡ n
-  back : (a : A) → Good a → from (to a) ≡ a
-  keeps : (a : A) → Good a → rule (to a) ≡ true
-  forth : (s : List ℕ) → length s ≡ n → Octets s → rule s ≡ true → to (from s) ≡ s
-  valid : (s : List ℕ) → length s ≡ n → Octets s → rule s ≡ true → Good (from s)
-  blank : to e ≡ zeros n
-  good : Good e
-
-module _ {A : Type 0} {n : ℕ} {to : A → List ℕ} {from : List ℕ → A} {rule : List ℕ → Bool} {Good : A → Type 0} {e : A}
-    (c : Coded n to from rule Good e) where
-  all-sized : (l : List A) → All (Sized n to) l
-  all-sized = all-each (Sized n to) (c .size)
-
-  zeros-keep : rule (zeros n) ≡ true
-  zeros-keep = ap rule (sym (c .blank)) ∙ c .keeps e (c .good)
-
-  zeros-say : from (zeros n) ≡ e
-  zeros-say = ap from (sym (c .blank)) ∙ c .back e (c .good)
-
-  module _ (k m : ℕ) (h : k ≤ m) (l : List A) (q : length l ≡ m) (g : All Good l) where
-    many-back : parts n from m (flat to l) ≡ l
-    many-back =
-        ap (λ (i : ℕ). parts n from i (flat to l)) (sym q)
-        ∙ ap (parts n from (length l)) (sym (append-nil (flat to l)))
-        ∙ parts-flat n to from l [] (all-sized l) (all-map Good (λ a. from (to a) ≡ a) (c .back) l g)
-
-    many-keep : everyPart n rule k (flat to l) ≡ true
-    many-keep =
-        every-fewer n rule k (length l) (flat to l) (omega arith)
-        (ap (everyPart n rule (length l)) (sym (append-nil (flat to l)))
-        ∙ every-flat n to rule l [] (all-sized l) (all-map Good (λ a. rule (to a) ≡ true) (c .keeps) l g))
-
-    many-rest : All (λ a. a ≡ e) (drop k l) → allZero (drop (k * n) (flat to l)) ≡ true
-    many-rest z = zero-padded n to e (c .blank) k l (all-sized l) (omega arith) z
-
-  module _ (k m : ℕ) (h : k ≤ m) (s : List ℕ) (q : length s ≡ m * n) (o : Octets s)
-      (r : everyPart n rule k s ≡ true) (z : allZero (drop (k * n) s) ≡ true) where
-    all-keep : everyPart n rule m s ≡ true
-    all-keep = every-padded n rule zeros-keep k m s h q r z
-
-    many-forth : flat to (parts n from m s) ≡ s
-    many-forth = every-forth n rule from to (c .forth) m s (omega arith) o all-keep ∙ take-all (m * n) s (omega arith)
-
-    many-valid : All Good (parts n from m s)
-    many-valid = every-read n rule from Good (c .valid) m s (omega arith) o all-keep
-
-    many-others : All (λ a. a ≡ e) (drop k (parts n from m s))
-    many-others = all-map (λ a. a ≡ from (zeros n)) (λ a. a ≡ e) (λ a p. p ∙ zeros-say) (drop k (parts n from m s)) (parts-padded n from k m s h q z)
 
 -- A stream's record: StreamID and settled values, cells, results.
 
@@ -158,7 +108,7 @@ module _ (ports clock leave : ℕ) (few : ports ≤ 8) (small : clock < 2 ^ 32) 
   cells-coded : Coded cellSize cellOctets toCell (cellFormed clock leave) (ValidCell clock leave) empty
   unfolding empty
   cells-coded = record {
-    size = cell-length;
+    size = λ c v. cell-length c;
     back = cell-back clock leave small;
     keeps = cell-formed clock leave small;
     forth = cell-forth clock leave;
@@ -170,7 +120,7 @@ module _ (ports clock leave : ℕ) (few : ports ≤ 8) (small : clock < 2 ^ 32) 
   results-coded : Coded resultSize resultOctets toResult (resultFormed clock) (ValidResult clock) unsettled
   unfolding unsettled
   results-coded = record {
-    size = result-length;
+    size = λ r v. result-length r;
     back = result-back clock small;
     keeps = result-formed clock small;
     forth = result-forth clock;
@@ -376,30 +326,53 @@ totals-forth : (s : List ℕ) → length s ≡ totalSize → Octets s → totals
 unfolding totalsOctets toTotals fields width
 totals-forth s l o = packed-whole totalsWidths s l o
 
--- The table's lay-out: settings, clock and count, totals, records.
+-- The table's lay-out: settings, clock and count, totals, what the ports hold, records.
 
-module _ (ss h ts rs : List ℕ) (a : length ss ≡ settingsSize) (b : length h ≡ clockSize) (c : length ts ≡ totalsSize) where
-  settings-of : settingsPart (ss ++ (h ++ (ts ++ rs))) ≡ ss
+module _ (ss h ts os rs : List ℕ) (a : length ss ≡ settingsSize) (b : length h ≡ clockSize) (c : length ts ≡ totalsSize)
+    (d : length os ≡ ownsSize) where
+  abbrev laid : List ℕ
+  laid = ss ++ (h ++ (ts ++ (os ++ rs)))
+
+  settings-of : settingsPart laid ≡ ss
   unfolding settingsPart part
-  settings-of = take-at ss (h ++ (ts ++ rs)) settingsSize a
+  settings-of = take-at ss (h ++ (ts ++ (os ++ rs))) settingsSize a
 
-  totals-of : totalsPart (ss ++ (h ++ (ts ++ rs))) ≡ ts
+  totals-of : totalsPart laid ≡ ts
   unfolding totalsPart
   totals-of =
-      ap (part totalsPlace totalsSize) (sym (append-assoc ss h (ts ++ rs)))
-      ∙ part-between (ss ++ h) ts rs totalsPlace totalsSize (omega (arith, length-append ss h)) c
+      ap (part totalsPlace totalsSize) (sym (append-assoc ss h (ts ++ (os ++ rs))))
+      ∙ part-between (ss ++ h) ts (os ++ rs) totalsPlace totalsSize (omega (arith, length-append ss h)) c
 
-  records-of : recordsPart (ss ++ (h ++ (ts ++ rs))) ≡ rs
+  -- what is behind the totals
+  behind : laid ≡ ((ss ++ h) ++ ts) ++ (os ++ rs)
+  behind = sym (append-assoc ss h (ts ++ (os ++ rs))) ∙ sym (append-assoc (ss ++ h) ts (os ++ rs))
+
+  owns-of : ownsPart laid ≡ os
+  unfolding ownsPart
+  owns-of =
+      ap (part ownsPlace ownsSize) behind
+      ∙ part-between ((ss ++ h) ++ ts) os rs ownsPlace ownsSize (omega (arith, length-append (ss ++ h) ts, length-append ss h)) d
+
+  records-of : recordsPart laid ≡ rs
   unfolding recordsPart
   records-of =
-      ap (drop recordsPlace) (sym (append-assoc ss h (ts ++ rs)) ∙ sym (append-assoc (ss ++ h) ts rs))
-      ∙ drop-at ((ss ++ h) ++ ts) rs recordsPlace (omega (arith, length-append (ss ++ h) ts, length-append ss h))
+      ap (drop recordsPlace) (behind ∙ sym (append-assoc ((ss ++ h) ++ ts) os rs))
+      ∙ drop-at (((ss ++ h) ++ ts) ++ os) rs recordsPlace
+      (omega (arith, length-append ((ss ++ h) ++ ts) os, length-append (ss ++ h) ts, length-append ss h))
 
 -- a table is its parts
-four-parts : (t : List ℕ) → t ≡ settingsPart t ++ (part clockPlace clockSize t ++ (totalsPart t ++ recordsPart t))
-unfolding settingsPart part totalsPart recordsPart
-four-parts t =
-    rw (← drop-drop totalsSize totalsPlace t, take-append-drop totalsSize (drop totalsPlace t), ← drop-drop clockSize clockPlace t, take-append-drop clockSize (drop clockPlace t)) (sym (take-append-drop settingsSize t))
+five-parts : (t : List ℕ) → t ≡ settingsPart t ++ (part clockPlace clockSize t ++ (totalsPart t ++ (ownsPart t ++ recordsPart t)))
+unfolding settingsPart part totalsPart ownsPart recordsPart
+five-parts t =
+    rw (
+      ← drop-drop ownsSize ownsPlace t,
+      take-append-drop ownsSize (drop ownsPlace t),
+      ← drop-drop totalsSize totalsPlace t,
+      take-append-drop totalsSize (drop totalsPlace t),
+      ← drop-drop clockSize clockPlace t,
+      take-append-drop clockSize (drop clockPlace t),
+    )
+    (sym (take-append-drop settingsSize t))
 
 -- The table of a bridge.
 
@@ -412,29 +385,35 @@ clockAndCount b = packed clockWidths (b .clock ∷ length (b .streams) ∷ [])
 abbrev pub totalsWhole : Bridge → List ℕ
 totalsWhole b = flat totalsOctets (b .totals)
 
+abbrev pub ownsWhole : Bridge → List ℕ
+ownsWhole b = flat ownOctets (b .own)
+
 abbrev pub recordsWhole : Bridge → List ℕ
 recordsWhole b = flat streamOctets (b .streams) ++ zeros ((64 - length (b .streams)) * recordSize)
 
-pub encode-parts : (b : Bridge) → encode b ≡ settingsWhole b ++ (clockAndCount b ++ (totalsWhole b ++ recordsWhole b))
+pub encode-parts : (b : Bridge) → encode b ≡ settingsWhole b ++ (clockAndCount b ++ (totalsWhole b ++ (ownsWhole b ++ recordsWhole b)))
 unfolding encode
 encode-parts b =
-    sym (append-assoc (settingsOctets (b .settings)) (zeros ((8 - length (b .settings .ports)) * portSize)) (clockAndCount b ++ (totalsWhole b ++ recordsWhole b)))
+    sym (append-assoc (settingsOctets (b .settings)) (zeros ((8 - length (b .settings .ports)) * portSize)) (clockAndCount b ++ (totalsWhole b ++ (ownsWhole b ++ recordsWhole b))))
 
 pub octets-encode : (b : Bridge) → Octets (encode b)
 octets-encode b =
     let ps : ℕ = (8 - length (b .settings .ports)) * portSize in
     let rs : ℕ = (64 - length (b .streams)) * recordSize in
     rw (encode-parts b)
-    (octets-append (settingsWhole b) (clockAndCount b ++ (totalsWhole b ++ recordsWhole b))
+    (octets-append (settingsWhole b) (clockAndCount b ++ (totalsWhole b ++ (ownsWhole b ++ recordsWhole b)))
     (octets-append (settingsOctets (b .settings)) (zeros ps) (octets-settings (b .settings)) (octets-zeros ps))
-    (octets-append (clockAndCount b) (totalsWhole b ++ recordsWhole b) (octets-packed clockWidths (b .clock ∷ length (b .streams) ∷ []))
-    (octets-append (totalsWhole b) (recordsWhole b) (octets-flat totalsOctets totals-octets (b .totals))
-    (octets-append (flat streamOctets (b .streams)) (zeros rs) (octets-flat streamOctets octets-stream (b .streams)) (octets-zeros rs)))))
+    (octets-append (clockAndCount b) (totalsWhole b ++ (ownsWhole b ++ recordsWhole b)) (octets-packed clockWidths (b .clock ∷ length (b .streams) ∷ []))
+    (octets-append (totalsWhole b) (ownsWhole b ++ recordsWhole b) (octets-flat totalsOctets totals-octets (b .totals))
+    (octets-append (ownsWhole b) (recordsWhole b) (octets-flat ownOctets own-octets (b .own))
+    (octets-append (flat streamOctets (b .streams)) (zeros rs) (octets-flat streamOctets octets-stream (b .streams)) (octets-zeros rs))))))
 
 -- what gives each part of the table its place
 pub record Whole (b : Bridge) : Type 0 where
   pub eight-ports : length (b .settings .ports) ≤ 8
   pub eight-totals : length (b .totals) ≡ 8
+  pub eight-own : length (b .own) ≡ 8
+  pub own : All (Sized ownSize ownOctets) (b .own)
   pub at-most-64 : length (b .streams) ≤ 64
   pub streams : All (Sized recordSize streamOctets) (b .streams)
 
@@ -442,6 +421,8 @@ pub valid-whole : (b : Bridge) → Valid b → Whole b
 valid-whole b v = record {
   eight-ports = v .settings .eight-ports;
   eight-totals = v .eight-totals;
+  eight-own = v .eight-own;
+  own = all-map (ValidOwn (b .clock) (b .settings .leaveTime)) (Sized ownSize ownOctets) (λ o w. own-length o (w .slotted)) (b .own) (v .own);
   at-most-64 = v .at-most-64;
   streams =
       all-map (ValidStream (length (b .settings .ports)) (b .clock) (b .settings .leaveTime)) (Sized recordSize streamOctets)
@@ -452,6 +433,8 @@ pub fit-whole : (b : Bridge) → FitBridge b → Whole b
 fit-whole b f = record {
   eight-ports = f .settings .eight-ports;
   eight-totals = f .eight-totals;
+  eight-own = f .eight-own;
+  own = all-map FitOwn (Sized ownSize ownOctets) (λ o w. own-length o (w .slotted)) (b .own) (f .own);
   at-most-64 = f .at-most-64;
   streams = all-map FitStream (Sized recordSize streamOctets) (λ x w. stream-length x (w .eight-cells) (w .eight-results)) (b .streams) (f .streams);
 }
@@ -470,6 +453,9 @@ module _ (b : Bridge) (w : Whole b) where
   pub totals-whole-length : length (totalsWhole b) ≡ totalsSize
   totals-whole-length = omega (arith, length-flat-sized totalSize totalsOctets (b .totals) (totals-sized (b .totals)), w .eight-totals)
 
+  pub owns-whole-length : length (ownsWhole b) ≡ ownsSize
+  owns-whole-length = omega (arith, length-flat-sized ownSize ownOctets (b .own) (w .own), w .eight-own)
+
   pub records-whole-length : length (recordsWhole b) ≡ recordsSize
   records-whole-length =
       let n = length (b .streams) in
@@ -482,16 +468,19 @@ module _ (b : Bridge) (w : Whole b) where
       let ss = settingsWhole b in
       let cc = clockAndCount b in
       let ts = totalsWhole b in
+      let os = ownsWhole b in
       let rs = recordsWhole b in
       ap length (encode-parts b)
       ∙ omega (
         arith,
-        length-append ss (cc ++ (ts ++ rs)),
-        length-append cc (ts ++ rs),
-        length-append ts rs,
+        length-append ss (cc ++ (ts ++ (os ++ rs))),
+        length-append cc (ts ++ (os ++ rs)),
+        length-append ts (os ++ rs),
+        length-append os rs,
         settings-whole-length,
         clock-length b,
         totals-whole-length,
+        owns-whole-length,
         records-whole-length,
       )
 
@@ -499,17 +488,26 @@ module _ (b : Bridge) (w : Whole b) where
   pub settings-read : settingsPart (encode b) ≡ settingsOctets (b .settings) ++ zeros ((8 - length (b .settings .ports)) * portSize)
   settings-read =
       ap settingsPart (encode-parts b)
-      ∙ settings-of (settingsWhole b) (clockAndCount b) (totalsWhole b) (recordsWhole b) settings-whole-length (clock-length b) totals-whole-length
+      ∙ settings-of (settingsWhole b) (clockAndCount b) (totalsWhole b) (ownsWhole b) (recordsWhole b) settings-whole-length (clock-length b)
+      totals-whole-length owns-whole-length
 
   pub totals-read : totalsPart (encode b) ≡ flat totalsOctets (b .totals)
   totals-read =
       ap totalsPart (encode-parts b)
-      ∙ totals-of (settingsWhole b) (clockAndCount b) (totalsWhole b) (recordsWhole b) settings-whole-length (clock-length b) totals-whole-length
+      ∙ totals-of (settingsWhole b) (clockAndCount b) (totalsWhole b) (ownsWhole b) (recordsWhole b) settings-whole-length (clock-length b)
+      totals-whole-length owns-whole-length
+
+  pub owns-read : ownsPart (encode b) ≡ flat ownOctets (b .own)
+  owns-read =
+      ap ownsPart (encode-parts b)
+      ∙ owns-of (settingsWhole b) (clockAndCount b) (totalsWhole b) (ownsWhole b) (recordsWhole b) settings-whole-length (clock-length b)
+      totals-whole-length owns-whole-length
 
   pub records-read : recordsPart (encode b) ≡ flat streamOctets (b .streams) ++ zeros ((64 - length (b .streams)) * recordSize)
   records-read =
       ap recordsPart (encode-parts b)
-      ∙ records-of (settingsWhole b) (clockAndCount b) (totalsWhole b) (recordsWhole b) settings-whole-length (clock-length b) totals-whole-length
+      ∙ records-of (settingsWhole b) (clockAndCount b) (totalsWhole b) (ownsWhole b) (recordsWhole b) settings-whole-length (clock-length b)
+      totals-whole-length owns-whole-length
 
   module _ (small : b .clock < 2 ^ 32) where
     numbers-read : fields clockWidths clockPlace (encode b) ≡ b .clock ∷ length (b .streams) ∷ []
@@ -517,8 +515,8 @@ module _ (b : Bridge) (w : Whole b) where
     numbers-read =
         let h : length (b .streams) ≤ 64 = w .at-most-64 in
         ap (fields clockWidths clockPlace) (encode-parts b)
-        ∙ ap (λ (k : ℕ). fields clockWidths k (settingsWhole b ++ (clockAndCount b ++ (totalsWhole b ++ recordsWhole b)))) (sym settings-whole-length)
-        ∙ fields-packed-behind clockWidths (b .clock ∷ length (b .streams) ∷ []) (settingsWhole b) (totalsWhole b ++ recordsWhole b) (small also omega arith also tt)
+        ∙ ap (λ (k : ℕ). fields clockWidths k (settingsWhole b ++ (clockAndCount b ++ (totalsWhole b ++ (ownsWhole b ++ recordsWhole b))))) (sym settings-whole-length)
+        ∙ fields-packed-behind clockWidths (b .clock ∷ length (b .streams) ∷ []) (settingsWhole b) (totalsWhole b ++ (ownsWhole b ++ recordsWhole b)) (small also omega arith also tt)
 
     pub clock-read : clockField (encode b) ≡ b .clock
     unfolding clockField fields
@@ -533,10 +531,14 @@ module _ (b : Bridge) (w : Whole b) where
 
   pub totals-decoded : All FitTotals (b .totals) → parts totalSize toTotals 8 (totalsPart (encode b)) ≡ b .totals
   totals-decoded f =
-      ap (parts totalSize toTotals 8) (totals-read ∙ sym (append-nil (totalsWhole b)))
-      ∙ ap (λ (k : ℕ). parts totalSize toTotals k (totalsWhole b ++ [])) (sym (w .eight-totals))
-      ∙ parts-flat totalSize totalsOctets toTotals (b .totals) [] (totals-sized (b .totals))
+      ap (parts totalSize toTotals 8) totals-read
+      ∙ many-read totalSize totalsOctets 8 toTotals (b .totals) (w .eight-totals) (totals-sized (b .totals))
       (all-map FitTotals (λ t. toTotals (totalsOctets t) ≡ t) totals-back (b .totals) f)
+
+  pub owns-decoded : All FitOwn (b .own) → parts ownSize toOwn 8 (ownsPart (encode b)) ≡ b .own
+  owns-decoded f =
+      ap (parts ownSize toOwn 8) owns-read
+      ∙ many-read ownSize ownOctets 8 toOwn (b .own) (w .eight-own) (w .own) (all-map FitOwn (λ o. toOwn (ownOctets o) ≡ o) own-fit-back (b .own) f)
 
 -- A valid bridge is read back from its table, which keeps the form rules.
 
@@ -553,6 +555,11 @@ module _ (b : Bridge) (v : Valid b) where
   totals-same : parts totalSize toTotals 8 (totalsPart (encode b)) ≡ b .totals
   totals-same = totals-decoded b whole (totals-fit _ (b .totals) (b .settings .ports) (v .settings .ports) (v .totals))
 
+  own-same : parts ownSize toOwn 8 (ownsPart (encode b)) ≡ b .own
+  own-same =
+      owns-decoded b whole
+      (all-map (ValidOwn (b .clock) (b .settings .leaveTime)) FitOwn (valid-own-fits (b .clock) (b .settings .leaveTime) (v .clock)) (b .own) (v .own))
+
   streams-same : parts recordSize toStream (countField (encode b)) (recordsPart (encode b)) ≡ b .streams
   streams-same =
       let n = length (b .settings .ports) in
@@ -563,7 +570,7 @@ module _ (b : Bridge) (v : Valid b) where
 
   pub decode-encode : decode (encode b) ≡ b
   unfolding decode
-  decode-encode = rw (settings-same, clock-read b whole (v .clock), totals-same, streams-same)
+  decode-encode = rw (settings-same, clock-read b whole (v .clock), totals-same, own-same, streams-same)
 
   ports-same : portsField (settingsPart (encode b)) ≡ length (b .settings .ports)
   ports-same =
@@ -598,6 +605,16 @@ module _ (b : Bridge) (v : Valid b) where
       (all-map (ValidStream n (b .clock) (b .settings .leaveTime)) (λ x. rule (streamOctets x) ≡ true)
       (stream-formed n (b .clock) (b .settings .leaveTime) (v .settings .eight-ports) (v .clock)) (b .streams) (v .streams))
 
+  owns-formed : everyPart ownSize (ownFormed (b .clock) (b .settings .leaveTime)) (length (b .settings .ports)) (flat ownOctets (b .own)) ≡ true
+  owns-formed =
+      many-keep (owns-coded (b .clock) (b .settings .leaveTime) (v .clock)) (length (b .settings .ports)) 8 (v .settings .eight-ports) (b .own)
+      (v .eight-own) (v .own)
+
+  owns-rest : allZero (drop (length (b .settings .ports) * ownSize) (flat ownOctets (b .own))) ≡ true
+  owns-rest =
+      many-rest (owns-coded (b .clock) (b .settings .leaveTime) (v .clock)) (length (b .settings .ports)) 8 (v .settings .eight-ports) (b .own)
+      (v .eight-own) (v .own) (v .no-other-own)
+
   pub formed-encode : formed (encode b) ≡ true
   unfolding formed tableRules
   formed-encode =
@@ -610,6 +627,8 @@ module _ (b : Bridge) (v : Valid b) where
       (settings-keep
       also settings-rest
       also rw (count, totals-same, settings-same) (v .totals)
+      also rw (ports-same, clock, settings-same, owns-read b whole) owns-formed
+      also rw (ports-same, owns-read b whole) owns-rest
       also rw count (le-leb (length (b .streams)) 64 (v .at-most-64))
       also rw (ports-same, clock, settings-same, count, records-read b whole) streams-formed
       also ids-rise
@@ -645,22 +664,30 @@ module _ (t : List ℕ) (f : formed t ≡ true) where
   unfolding tableRules
   totals-kept = table-rules .1 .1 .0
 
+  pub owns-kept : everyPart ownSize (ownFormed (clockField t) (toSettings (settingsPart t) .leaveTime)) (portsField (settingsPart t)) (ownsPart t) ≡ true
+  unfolding tableRules
+  owns-kept = table-rules .1 .1 .1 .0
+
+  pub owns-zero : allZero (drop (portsField (settingsPart t) * ownSize) (ownsPart t)) ≡ true
+  unfolding tableRules
+  owns-zero = table-rules .1 .1 .1 .1 .0
+
   pub count-kept : countField t ≤ 64
   unfolding tableRules
-  count-kept = leb-true (countField t) 64 (table-rules .1 .1 .1 .0)
+  count-kept = leb-true (countField t) 64 (table-rules .1 .1 .1 .1 .1 .0)
 
   pub streams-kept : everyPart recordSize (streamFormed (portsField (settingsPart t)) (clockField t) (toSettings (settingsPart t) .leaveTime))
       (countField t) (recordsPart t) ≡ true
   unfolding tableRules
-  streams-kept = table-rules .1 .1 .1 .1 .0
+  streams-kept = table-rules .1 .1 .1 .1 .1 .1 .0
 
   ids-kept : rising (parts recordSize idOf (countField t) (recordsPart t)) ≡ true
   unfolding tableRules
-  ids-kept = table-rules .1 .1 .1 .1 .1 .0
+  ids-kept = table-rules .1 .1 .1 .1 .1 .1 .1 .0
 
   records-zero : allZero (drop (countField t * recordSize) (recordsPart t)) ≡ true
   unfolding tableRules
-  records-zero = table-rules .1 .1 .1 .1 .1 .1 .0
+  records-zero = table-rules .1 .1 .1 .1 .1 .1 .1 .1 .0
 
   settings-room-length : length (settingsPart t) ≡ settingsSize
   unfolding settingsPart
@@ -669,6 +696,10 @@ module _ (t : List ℕ) (f : formed t ≡ true) where
   totals-room : length (totalsPart t) ≡ totalsSize
   unfolding totalsPart
   totals-room = length-part totalsPlace totalsSize t (omega (arith, formed-table-length))
+
+  owns-room : length (ownsPart t) ≡ ownsSize
+  unfolding ownsPart
+  owns-room = length-part ownsPlace ownsSize t (omega (arith, formed-table-length))
 
   records-room : length (recordsPart t) ≡ recordsSize
   unfolding recordsPart
@@ -682,6 +713,10 @@ module _ (t : List ℕ) (o : Octets t) (f : formed t ≡ true) where
   octets-totals-part : Octets (totalsPart t)
   unfolding totalsPart
   octets-totals-part = octets-part totalsPlace totalsSize t o
+
+  octets-owns-part : Octets (ownsPart t)
+  unfolding ownsPart
+  octets-owns-part = octets-part ownsPlace ownsSize t o
 
   octets-records-part : Octets (recordsPart t)
   unfolding recordsPart
@@ -707,6 +742,7 @@ module _ (t : List ℕ) (o : Octets t) (f : formed t ≡ true) where
       let h = eight-ports s (settings-kept t f) in
       let l = toSettings s .leaveTime in
       let rs = recordsPart t in
+      let coded = owns-coded (clockField t) l clock-fits in
       let rise = ap rising (sym (parts-map recordSize toStream (λ (x : Stream). x .id) n rs)) ∙ ids-kept t f in
       let read =
       every-read recordSize (streamFormed p (clockField t) l) toStream (ValidStream p (clockField t) l) (stream-valid p (clockField t) l h clock-fits)
@@ -716,6 +752,9 @@ module _ (t : List ℕ) (o : Octets t) (f : formed t ≡ true) where
         clock = clock-fits;
         eight-totals = length-parts totalSize toTotals 8 (totalsPart t);
         totals = rw (length-parts recordSize toStream n rs) (totals-kept t f);
+        eight-own = length-parts ownSize toOwn 8 (ownsPart t);
+        own = many-valid coded p 8 h (ownsPart t) (owns-room t f) octets-owns-part (owns-kept t f) (owns-zero t f);
+        no-other-own = rw e (many-others coded p 8 h (ownsPart t) (owns-room t f) octets-owns-part (owns-kept t f) (owns-zero t f));
         at-most-64 = omega (arith, length-parts recordSize toStream n rs, count-kept t f);
         streams = rw e read;
         ascending = rising-rises (ids (parts recordSize toStream n rs)) rise;
@@ -744,6 +783,13 @@ module _ (t : List ℕ) (o : Octets t) (f : formed t ≡ true) where
       (every-any totalSize 8 (totalsPart t))
       ∙ take-all totalsSize (totalsPart t) (omega (arith, totals-room t f))
 
+  owns-written : ownsWhole (decode t) ≡ ownsPart t
+  unfolding decode
+  owns-written =
+      let s = settingsPart t in
+      many-forth (owns-coded (clockField t) (toSettings s .leaveTime) clock-fits) (portsField s) 8 (eight-ports s (settings-kept t f))
+      (ownsPart t) (owns-room t f) octets-owns-part (owns-kept t f) (owns-zero t f)
+
   records-written : recordsWhole (decode t) ≡ recordsPart t
   unfolding decode
   records-written =
@@ -763,7 +809,7 @@ module _ (t : List ℕ) (o : Octets t) (f : formed t ≡ true) where
       rw (← z, w) (take-append-drop (n * recordSize) r)
 
   pub encode-decode : encode (decode t) ≡ t
-  encode-decode = encode-parts (decode t) ∙ rw (settings-written, clock-written, totals-written, records-written) (sym (four-parts t))
+  encode-decode = encode-parts (decode t) ∙ rw (settings-written, clock-written, totals-written, owns-written, records-written) (sym (five-parts t))
 
 -- equal contents are equal octets
 pub same-octets : (t u : List ℕ) → Octets t → Octets u → formed t ≡ true → formed u ≡ true → decode t ≡ decode u → t ≡ u
@@ -786,6 +832,9 @@ valid-started s o f = record {
   clock = omega arith;
   eight-totals = refl;
   totals = none-within _ 8 (toSettings s .ports);
+  eight-own = refl;
+  own = all-replicate (ValidOwn 0 (toSettings s .leaveTime)) 8 noOwn (owns-coded 0 (toSettings s .leaveTime) (omega arith) .good);
+  no-other-own = all-drop (λ o. o ≡ noOwn) (length (toSettings s .ports)) (replicate 8 noOwn) (all-replicate (λ o. o ≡ noOwn) 8 noOwn refl);
   at-most-64 = omega arith;
   streams = tt;
   ascending = tt;

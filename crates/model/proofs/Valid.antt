@@ -4,10 +4,10 @@ use mathlib.Core.List.{List, [], _∷_}
 use mathlib.Core.Bool.{Bool, true}
 use Prim.Native.Nat.{ℕ, _+_, _/_, _^_, _≤_, _<_}
 use lib.ListN.{length, drop}
-use lib.Dec.{leb}
-use Rattle.model.specs.Layout.{priorityBUnit}
+use Rattle.model.specs.Layout.{priorityBUnit, slots}
 use Rattle.model.specs.Lists.{All}
-use Rattle.model.specs.State.{Port, Settings, Leaving, stays, since, Fixed, Health, sound, broken, Varying, Registration, Talker, noTalker, talker, Listener, noListener, listener, Cell, Column, none, advertise, failed, Entry, noEntry, filters, forwards, Result, Stream, Bridge, empty, unsettled, noFixed, cellAt, resultAt}
+use Rattle.model.specs.State.{Port, Settings, Leaving, stays, since, Fixed, Health, sound, broken, Varying, Registration, Talker, noTalker, talker, Listener, noListener, listener, Cell, Domain, noDomain, domain, Own, Column, none, advertise, failed, Entry, noEntry, filters, forwards, Result, Stream, Bridge, empty, unsettled, noOwn, noFixed, cellAt, resultAt}
+use lib.Dec.{leb}
 use Rattle.model.specs.Registrations.{ids}
 use Rattle.model.specs.Settling.{held}
 use Rattle.model.specs.Table.{talkers, declarers, storedFormed, totalsWithin}
@@ -27,6 +27,8 @@ pub record ValidSettings (st : Settings) : Type 0 where
   pub different : st .priorityA ≡ st .priorityB → ⊥
   pub leaves : 1 ≤ st .leaveTime
   pub leaveTime : st .leaveTime < priorityBUnit
+  pub some-vlan : 1 ≤ st .vlan
+  pub vlan : st .vlan ≤ 4094
   pub some-port : 1 ≤ length (st .ports)
   pub eight-ports : length (st .ports) ≤ 8
   pub ports : All ValidPort (st .ports)
@@ -73,6 +75,14 @@ ValidListener clock leave (listener r l) = ValidLeaving clock leave l
 pub record ValidCell (clock leave : ℕ) (c : Cell) : Type 0 where
   pub talks : ValidTalker clock leave (c .talks)
   pub hears : ValidListener clock leave (c .hears)
+
+abbrev pub ValidDomain : ℕ → ℕ → Domain → Type 0
+ValidDomain clock leave noDomain = Unit {0}
+ValidDomain clock leave (domain v l) = (v < 65536) × ValidLeaving clock leave l
+
+pub record ValidOwn (clock leave : ℕ) (o : Own) : Type 0 where
+  pub slotted : length (o .domains) ≡ slots
+  pub domains : All (ValidDomain clock leave) (o .domains)
 
 -- which entry, and which latency, goes with a column
 abbrev pub ValidColumn : Column → ℕ → Entry → Type 0
@@ -121,6 +131,9 @@ pub record Valid (b : Bridge) : Type 0 where
   pub clock : b .clock < 2 ^ 32
   pub eight-totals : length (b .totals) ≡ 8
   pub totals : totalsWithin (leb 1 (length (b .streams))) (b .totals) (b .settings .ports) ≡ true
+  pub eight-own : length (b .own) ≡ 8
+  pub own : All (ValidOwn (b .clock) (b .settings .leaveTime)) (b .own)
+  pub no-other-own : All (λ o. o ≡ noOwn) (drop (length (b .settings .ports)) (b .own))
   pub at-most-64 : length (b .streams) ≤ 64
   pub streams : All (ValidStream (length (b .settings .ports)) (b .clock) (b .settings .leaveTime)) (b .streams)
   pub ascending : Rising (ids (b .streams))

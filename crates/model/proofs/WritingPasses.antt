@@ -1,7 +1,7 @@
 -- Writing: a PDU takes whole declarations, is at most 1,500 octets long and as full as that allows, and the PDUs from place 0
 -- on pass every declaration of the port once.
 use mathlib.Core.Path.{_≡_, refl, sym, _∙_, ap}
-use mathlib.Core.List.{List, [], _∷_, _++_, flatten}
+use mathlib.Core.List.{List, [], _∷_, _++_, flatten, append-nil}
 use mathlib.Core.Bool.{Bool, true, false, cond}
 use Prim.Native.Nat.{ℕ, zero, suc, _+_, _*_, _-_, _≤_, _<_}
 use native.Mathlib.Nat.{suc-mul, add-zero}
@@ -15,18 +15,18 @@ use Rattle.octets.specs.Fields.{packed, flat}
 use Rattle.octets.proofs.Be.{length-be}
 use Rattle.model.specs.FrameLayout.{longestPdu}
 use Rattle.model.specs.Lists.{All, keep}
-use Rattle.model.specs.State.{Health, sound, broken, Column, none, advertise, failed, Declared, nothing, tells, Result, Stream, Bridge, resultAt}
-use Rattle.model.specs.Registrations.{Kind, advertises, faileds, listeners, sameKind, typeNumber}
-use Rattle.model.specs.Frames.{registers, firstWidths, firstLength}
-use Rattle.model.specs.Declarations.{Declaration, talkerDeclaration, listenerDeclaration, healthKind, kindOf, advertised, failing, listening, declarationsOf, ofKind, declarations, vectorSize, Open, noMessage, message, opening, fitting, takes, Written, write}
+use Rattle.model.specs.State.{Port, Settings, Health, sound, broken, Column, none, advertise, failed, Declared, nothing, tells, Result, Stream, Bridge, portAt, resultAt, classA, classB, supports}
+use Rattle.model.specs.Registrations.{Kind, advertises, faileds, listeners}
+use Rattle.model.specs.Frames.{Attribute, registers, domain, TypeOctet, notAllowed, unknown, known, typeOctet, typeNumber, firstWidths, firstLength}
+use Rattle.model.specs.Declarations.{Declaration, talkerDeclaration, listenerDeclaration, domainDeclaration, healthKind, attributeOf, advertised, failing, listening, declarationsOf, ofKind, domainOf, domainValues, declarations, vectorSize, sameAttribute, Open, noMessage, message, opening, fitting, takes, Written, write}
 use Rattle.model.specs.WrittenFrames.{fixedNumbers, failureNumbers, firstNumbers, fourOctets, declarationVector, vectorOctets, messageOf, messageOctets, having, pduOctets}
-use Rattle.model.proofs.Lists.{all-map, all-each, all-append, all-take}
+use Rattle.model.proofs.Lists.{all-map, all-each, all-append, all-take, all-keep}
 
 -- Lengths.
 
 -- FirstValue is as long as its type says
-pub length-first : (d : Declaration) → length (declarationVector d .first) ≡ firstLength (registers (kindOf d))
-unfolding declarationVector firstNumbers kindOf healthKind firstWidths firstLength packed be fixedNumbers failureNumbers
+pub length-first : (d : Declaration) → length (declarationVector d .first) ≡ firstLength (attributeOf d)
+unfolding declarationVector firstNumbers attributeOf healthKind firstWidths firstLength packed be fixedNumbers failureNumbers
 length-first (talkerDeclaration id f v) = go (v .health)
   where
     go : (h : Health)
@@ -34,87 +34,90 @@ length-first (talkerDeclaration id f v) = go (v .health)
     go sound = refl
     go (broken b c) = refl
 length-first (listenerDeclaration id r) = refl
+length-first (domainDeclaration id q v) = refl
 
 -- and a declaration's vector as its size says
-pub length-vector : (d : Declaration) → length (vectorOctets (declarationVector d)) ≡ vectorSize (kindOf d)
-unfolding vectorOctets declarationVector firstNumbers fourOctets vectorSize kindOf healthKind firstWidths packed be fixedNumbers failureNumbers
+pub length-vector : (d : Declaration) → length (vectorOctets (declarationVector d)) ≡ vectorSize (attributeOf d)
+unfolding vectorOctets declarationVector firstNumbers fourOctets vectorSize attributeOf healthKind firstWidths packed be fixedNumbers failureNumbers
 length-vector (talkerDeclaration id f v) = go (v .health)
   where
     go : (h : Health)
-        → length (vectorOctets (declarationVector (talkerDeclaration id f record { health = h; latency = v .latency }))) ≡ vectorSize (healthKind h)
+        → length (vectorOctets (declarationVector (talkerDeclaration id f record { health = h; latency = v .latency }))) ≡ vectorSize (registers (healthKind h))
     go sound = refl
     go (broken b c) = refl
 length-vector (listenerDeclaration id r) = refl
+length-vector (domainDeclaration id q v) = refl
 
 -- Types.
 
-kindNumbered : ℕ → Kind
-kindNumbered zero = listeners
-kindNumbered (suc zero) = advertises
-kindNumbered (suc (suc zero)) = faileds
-kindNumbered (suc (suc (suc n))) = listeners
+-- each type's number is read as that type
+pub known-type : (k : Attribute) → typeOctet 0 (typeNumber k) ≡ known k
+unfolding typeOctet typeNumber
+known-type (registers advertises) = refl
+known-type (registers faileds) = refl
+known-type (registers listeners) = refl
+known-type domain = refl
 
-kind-back : (k : Kind) → kindNumbered (typeNumber k) ≡ k
-unfolding kindNumbered typeNumber
-kind-back advertises = refl
-kind-back faileds = refl
-kind-back listeners = refl
+same-number : (j k : Attribute) → typeNumber j ≡ typeNumber k → j ≡ k
+same-number j k e = ap type (sym (known-type j) ∙ ap (typeOctet 0) e ∙ known-type k)
+  where
+    type : TypeOctet → Attribute
+    type notAllowed = j
+    type unknown = j
+    type (known a) = a
 
-pub kinds-same : (j k : Kind) → sameKind j k ≡ true → j ≡ k
-unfolding sameKind
-kinds-same j k e = sym (kind-back j) ∙ ap kindNumbered (eqb-true (typeNumber j) (typeNumber k) e) ∙ kind-back k
+attributes-same : (j k : Attribute) → sameAttribute j k ≡ true → j ≡ k
+unfolding sameAttribute
+attributes-same j k e = same-number j k (eqb-true (typeNumber j) (typeNumber k) e)
 
-pub kinds-other : (j k : Kind) → sameKind j k ≡ false → typeNumber j ≡ typeNumber k → ⊥
-unfolding sameKind
-kinds-other j k e = eqb-false (typeNumber j) (typeNumber k) e
+attributes-other : (j k : Attribute) → sameAttribute j k ≡ false → typeNumber j ≡ typeNumber k → ⊥
+unfolding sameAttribute
+attributes-other j k e = eqb-false (typeNumber j) (typeNumber k) e
 
-pub same-kind : (k : Kind) → sameKind k k ≡ true
-unfolding sameKind
-same-kind k = eq-eqb (typeNumber k) (typeNumber k) refl
+pub same-attribute : (k : Attribute) → sameAttribute k k ≡ true
+unfolding sameAttribute
+same-attribute k = eq-eqb (typeNumber k) (typeNumber k) refl
 
-pub other-kind : (j k : Kind) → (typeNumber j ≡ typeNumber k → ⊥) → sameKind j k ≡ false
-unfolding sameKind
-other-kind j k h = ne-eqb (typeNumber j) (typeNumber k) h
+pub other-attribute : (j k : Attribute) → (typeNumber j ≡ typeNumber k → ⊥) → sameAttribute j k ≡ false
+unfolding sameAttribute
+other-attribute j k h = ne-eqb (typeNumber j) (typeNumber k) h
 
--- The order of types: Advertise, Failed, Listener.
+-- The order of types: Advertise, Failed, Listener, Domain.
+
+-- what there is of each type, in turn
+abbrev pub inTurn : (Attribute → List Declaration) → List Declaration
+inTurn of = of (registers advertises) ++ (of (registers faileds) ++ (of (registers listeners) ++ of domain))
 
 -- a declaration that may stand after one of type k
-abbrev pub NotBefore : Kind → Declaration → Type 0
-NotBefore k d = typeNumber k ≤ typeNumber (kindOf d)
+abbrev pub NotBefore : Attribute → Declaration → Type 0
+NotBefore k d = typeNumber k ≤ typeNumber (attributeOf d)
 
-abbrev pub OfKind : Kind → Declaration → Type 0
-OfKind k d = kindOf d ≡ k
+abbrev pub OfAttribute : Attribute → Declaration → Type 0
+OfAttribute k d = attributeOf d ≡ k
 
 abbrev pub InOrder : List Declaration → Type 0
 InOrder [] = Unit {0}
-InOrder (d ∷ l) = All (NotBefore (kindOf d)) l × InOrder l
+InOrder (d ∷ l) = All (NotBefore (attributeOf d)) l × InOrder l
 
 pub order-take : (n : ℕ) (l : List Declaration) → InOrder l → InOrder (take n l)
 order-take zero l o = tt
 order-take (suc n) [] o = tt
-order-take (suc n) (d ∷ l) o = (all-take (NotBefore (kindOf d)) n l (o .0), order-take n l (o .1))
+order-take (suc n) (d ∷ l) o = (all-take (NotBefore (attributeOf d)) n l (o .0), order-take n l (o .1))
 
 pub order-drop : (n : ℕ) (l : List Declaration) → InOrder l → InOrder (drop n l)
 order-drop zero l o = o
 order-drop (suc n) [] o = tt
 order-drop (suc n) (d ∷ l) o = order-drop n l (o .1)
 
-order-one-kind : (k : Kind) (l : List Declaration) → All (OfKind k) l → InOrder l
-order-one-kind k [] a = tt
-order-one-kind k (d ∷ l) a = (all-map (OfKind k) (NotBefore (kindOf d)) (λ e h. rw (a .0, h) (omega arith)) l (a .1), order-one-kind k l (a .1))
+-- declarations that may stand after those of a type, in order; and with declarations of a type before them
+abbrev From : Attribute → List Declaration → Type 0
+From k l = All (NotBefore k) l × InOrder l
 
--- declarations of type k, before declarations that may follow them
-order-append : (k : Kind) (l m : List Declaration) → All (OfKind k) l → All (NotBefore k) m → InOrder m → InOrder (l ++ m)
-order-append k [] m a b o = o
-order-append k (d ∷ l) m a b o = (
-  all-append (NotBefore (kindOf d)) l m
-      (all-map (OfKind k) (NotBefore (kindOf d)) (λ e h. rw (a .0, h) (omega arith)) l (a .1))
-      (rw (a .0) b),
-  order-append k l m (a .1) b o,
-)
-
-kinds-not-before : (j k : Kind) (l : List Declaration) → typeNumber j ≤ typeNumber k → All (OfKind k) l → All (NotBefore j) l
-kinds-not-before j k l h a = all-map (OfKind k) (NotBefore j) (λ e q. rw q h) l a
+from-append : (j k : Attribute) (l m : List Declaration) → typeNumber j ≤ typeNumber k → All (OfAttribute j) l → From k m → From j (l ++ m)
+from-append j k [] m h a b = (all-map (NotBefore k) (NotBefore j) (λ e q. omega arith) m (b .0), b .1)
+from-append j k (d ∷ l) m h a b =
+    let r : From j (l ++ m) = from-append j k l m h (a .1) b in
+    ((rw (a .0) (omega arith), r .0), (rw (a .0) (r .0), r .1))
 
 -- what holds of each stream's declarations of a type holds of all of that type
 pub all-of-kind : (P : Declaration → Type 0) (k : Kind) (p : ℕ) (s : List Stream)
@@ -123,58 +126,72 @@ unfolding ofKind
 all-of-kind P k p [] a = tt
 all-of-kind P k p (x ∷ s) a = all-append P (declarationsOf k x (resultAt x p)) (ofKind k p s) (a .0) (all-of-kind P k p s (a .1))
 
-stream-kind : (k : Kind) (x : Stream) (r : Result) → All (OfKind k) (declarationsOf k x r)
-unfolding declarationsOf advertised failing listening kindOf healthKind
-stream-kind advertises x r = go (r .column)
+stream-attribute : (k : Kind) (x : Stream) (r : Result) → All (OfAttribute (registers k)) (declarationsOf k x r)
+unfolding declarationsOf advertised failing listening attributeOf healthKind
+stream-attribute advertises x r = go (r .column)
   where
-    go : (c : Column) → All (OfKind advertises) (advertised x r c)
+    go : (c : Column) → All (OfAttribute (registers advertises)) (advertised x r c)
     go none = tt
     go advertise = (refl, tt)
     go (failed b c) = tt
-stream-kind faileds x r = go (r .column)
+stream-attribute faileds x r = go (r .column)
   where
-    go : (c : Column) → All (OfKind faileds) (failing x r c)
+    go : (c : Column) → All (OfAttribute (registers faileds)) (failing x r c)
     go none = tt
     go advertise = tt
     go (failed b c) = (refl, tt)
-stream-kind listeners x r = go (r .declares)
+stream-attribute listeners x r = go (r .declares)
   where
-    go : (d : Declared) → All (OfKind listeners) (listening x d)
+    go : (d : Declared) → All (OfAttribute (registers listeners)) (listening x d)
     go nothing = tt
     go (tells q) = (refl, tt)
 
-pub ofKind-kind : (k : Kind) (p : ℕ) (s : List Stream) → All (OfKind k) (ofKind k p s)
-ofKind-kind k p s =
-    all-of-kind (OfKind k) k p s (all-each (λ x. All (OfKind k) (declarationsOf k x (resultAt x p))) (λ x. stream-kind k x (resultAt x p)) s)
+pub ofKind-attribute : (k : Kind) (p : ℕ) (s : List Stream) → All (OfAttribute (registers k)) (ofKind k p s)
+ofKind-attribute k p s =
+    let Own : Stream → Type 0 = λ x. All (OfAttribute (registers k)) (declarationsOf k x (resultAt x p)) in
+    all-of-kind (OfAttribute (registers k)) k p s (all-each Own (λ x. stream-attribute k x (resultAt x p)) s)
 
--- "Declarations of a port: Advertise, Failed, Listener"
-pub declarations-in-order : (p : ℕ) (s : List Stream) → InOrder (declarations p s)
+-- what holds of each class's Domain value holds of those of a port
+pub all-domains : (P : Declaration → Type 0) (st : Settings) (q : Port) → P (domainOf st classB) → P (domainOf st classA) → All P (domainValues st q)
+unfolding domainValues
+all-domains P st q b a = all-keep P (supports q classB) _ _ b (all-keep P (supports q classA) _ [] a tt)
+
+pub domains-attribute : (st : Settings) (q : Port) → All (OfAttribute domain) (domainValues st q)
+domains-attribute st q = unfold domainOf attributeOf in (all-domains (OfAttribute domain) st q refl refl)
+
+-- "Declarations of a port: Advertise, Failed, Listener", then Domain values
+pub declarations-in-order : (st : Settings) (p : ℕ) (s : List Stream) → InOrder (declarations st p s)
 unfolding declarations typeNumber
-declarations-in-order p s =
-    let a = ofKind-kind advertises p s in
-    let f = ofKind-kind faileds p s in
-    let l = ofKind-kind listeners p s in
-    order-append advertises (ofKind advertises p s) (ofKind faileds p s ++ ofKind listeners p s) a
-    (all-append (NotBefore advertises) (ofKind faileds p s) (ofKind listeners p s)
-    (kinds-not-before advertises faileds (ofKind faileds p s) (omega arith) f)
-    (kinds-not-before advertises listeners (ofKind listeners p s) (omega arith) l))
-    (order-append faileds (ofKind faileds p s) (ofKind listeners p s) f
-    (kinds-not-before faileds listeners (ofKind listeners p s) (omega arith) l)
-    (order-one-kind listeners (ofKind listeners p s) l))
+declarations-in-order st p s = before advertises faileds _ (omega arith) (before faileds listeners _ (omega arith) listed) .1
+  where
+    domains : List Declaration
+    domains = domainValues st (portAt st p)
+
+    last : From domain (domains ++ [])
+    last = from-append domain domain domains [] (omega arith) (domains-attribute st (portAt st p)) (tt, tt)
+
+    listed : From (registers listeners) (ofKind listeners p s ++ domains)
+    listed =
+        from-append (registers listeners) domain (ofKind listeners p s) domains (omega arith) (ofKind-attribute listeners p s)
+        (rw (append-nil domains) at last)
+
+    before : (j k : Kind) (m : List Declaration) → typeNumber (registers j) ≤ typeNumber (registers k)
+        → From (registers k) m → From (registers j) (ofKind j p s ++ m)
+    before j k m h f = from-append (registers j) (registers k) (ofKind j p s) m h (ofKind-attribute j p s) f
 
 -- The octets of declarations.
 
 -- counted one by one, as `fitting` does
 unfoldable pub size : Open → List Declaration → ℕ
 size o [] = 0
-size o (d ∷ l) = opening o (kindOf d) + vectorSize (kindOf d) + size (message (kindOf d)) l
+size o (d ∷ l) = opening o (attributeOf d) + vectorSize (attributeOf d) + size (message (attributeOf d)) l
 
 pub fitting-within : (used : ℕ) (o : Open) (l : List Declaration) → fitting used o l ≤ length l
 unfolding fitting
 fitting-within used o [] = omega arith
 fitting-within used o (d ∷ l) =
-    go (ltb longestPdu (used + opening o (kindOf d) + vectorSize (kindOf d)))
-    (fitting-within (used + opening o (kindOf d) + vectorSize (kindOf d)) (message (kindOf d)) l)
+    go (ltb longestPdu (used + opening o (attributeOf d) + vectorSize (attributeOf d)))
+    (fitting-within (used + opening o (attributeOf d) + vectorSize (attributeOf d)) (message (attributeOf d)) l)
   where
     go : (t : Bool) {n : ℕ} → n ≤ length l → cond t 0 (suc n) ≤ suc (length l)
     go true h = omega arith
@@ -184,15 +201,15 @@ fitting-within used o (d ∷ l) =
 fitting-fits : (used : ℕ) (o : Open) (l : List Declaration) → used ≤ longestPdu → used + size o (take (fitting used o l) l) ≤ longestPdu
 unfolding fitting size
 fitting-fits used o [] h = omega arith
-fitting-fits used o (d ∷ l) h = go (ltb longestPdu more) refl (fitting-fits more (message (kindOf d)) l)
+fitting-fits used o (d ∷ l) h = go (ltb longestPdu more) refl (fitting-fits more (message (attributeOf d)) l)
   where
     more : ℕ
-    more = used + opening o (kindOf d) + vectorSize (kindOf d)
+    more = used + opening o (attributeOf d) + vectorSize (attributeOf d)
 
     n : ℕ
-    n = fitting more (message (kindOf d)) l
+    n = fitting more (message (attributeOf d)) l
 
-    go : (t : Bool) → ltb longestPdu more ≡ t → (more ≤ longestPdu → more + size (message (kindOf d)) (take n l) ≤ longestPdu)
+    go : (t : Bool) → ltb longestPdu more ≡ t → (more ≤ longestPdu → more + size (message (attributeOf d)) (take n l) ≤ longestPdu)
         → used + size o (take (cond t 0 (suc n)) (d ∷ l)) ≤ longestPdu
     go true e ih = omega arith
     go false e ih = omega (arith, ih (ltb-false longestPdu more e))
@@ -200,126 +217,128 @@ fitting-fits used o (d ∷ l) h = go (ltb longestPdu more) refl (fitting-fits mo
 fitting-full : (used : ℕ) (o : Open) (l : List Declaration) → fitting used o l < length l → longestPdu < used + size o (take (suc (fitting used o l)) l)
 unfolding fitting size
 fitting-full used o [] h = absurd (omega arith)
-fitting-full used o (d ∷ l) h = go (ltb longestPdu more) refl (fitting-full more (message (kindOf d)) l) h
+fitting-full used o (d ∷ l) h = go (ltb longestPdu more) refl (fitting-full more (message (attributeOf d)) l) h
   where
     more : ℕ
-    more = used + opening o (kindOf d) + vectorSize (kindOf d)
+    more = used + opening o (attributeOf d) + vectorSize (attributeOf d)
 
     n : ℕ
-    n = fitting more (message (kindOf d)) l
+    n = fitting more (message (attributeOf d)) l
 
-    go : (t : Bool) → ltb longestPdu more ≡ t → (n < length l → longestPdu < more + size (message (kindOf d)) (take (suc n) l))
+    go : (t : Bool) → ltb longestPdu more ≡ t → (n < length l → longestPdu < more + size (message (attributeOf d)) (take (suc n) l))
         → cond t 0 (suc n) < suc (length l) → longestPdu < used + size o (take (suc (cond t 0 (suc n))) (d ∷ l))
     go true e ih h = omega (arith, ltb-true longestPdu more e)
     go false e ih h = omega (arith, ih (omega arith))
 
 -- counted type by type: a Message of n declarations of type k
-unfoldable pub messageSize : Kind → ℕ → ℕ
+unfoldable pub messageSize : Attribute → ℕ → ℕ
 messageSize k zero = 0
 messageSize k (suc n) = 6 + suc n * vectorSize k
 
 -- Messages of so many declarations of each type
-unfoldable pub messagesSize : (Kind → ℕ) → ℕ
-messagesSize c = messageSize advertises (c advertises) + messageSize faileds (c faileds) + messageSize listeners (c listeners)
+unfoldable pub messagesSize : (Attribute → ℕ) → ℕ
+messagesSize c = of (registers advertises) + of (registers faileds) + of (registers listeners) + of domain
+  where
+    of : Attribute → ℕ
+    of k = messageSize k (c k)
 
 -- of declarations, how many are of a type
-unfoldable pub count : List Declaration → Kind → ℕ
+unfoldable pub count : List Declaration → Attribute → ℕ
 count l k = length (having k l)
 
 -- one of type j more
-unfoldable pub oneMore : Kind → (Kind → ℕ) → Kind → ℕ
-oneMore j c k = cond (sameKind j k) (suc (c k)) (c k)
+unfoldable pub oneMore : Attribute → (Attribute → ℕ) → Attribute → ℕ
+oneMore j c k = cond (sameAttribute j k) (suc (c k)) (c k)
 
-count-cons : (d : Declaration) (l : List Declaration) (k : Kind) → count (d ∷ l) k ≡ oneMore (kindOf d) (count l) k
+count-cons : (d : Declaration) (l : List Declaration) (k : Attribute) → count (d ∷ l) k ≡ oneMore (attributeOf d) (count l) k
 unfolding having oneMore count
-count-cons d l k = go (sameKind (kindOf d) k)
+count-cons d l k = go (sameAttribute (attributeOf d) k)
   where
     go : (t : Bool) → length (keep t d (having k l)) ≡ cond t (suc (length (having k l))) (length (having k l))
     go true = refl
     go false = refl
 
 -- a declaration opens a Message where there is none of its type, and else lengthens one
-messages-open : (j : Kind) (c : Kind → ℕ) → c j ≡ 0 → messagesSize (oneMore j c) ≡ messagesSize c + 6 + vectorSize j
-unfolding messagesSize oneMore messageSize sameKind typeNumber vectorSize
-messages-open advertises c h = rw h (omega arith)
-messages-open faileds c h = rw h (omega arith)
-messages-open listeners c h = rw h (omega arith)
+messages-open : (j : Attribute) (c : Attribute → ℕ) → c j ≡ 0 → messagesSize (oneMore j c) ≡ messagesSize c + 6 + vectorSize j
+unfolding messagesSize oneMore messageSize sameAttribute typeNumber vectorSize
+messages-open (registers advertises) c h = rw h (omega arith)
+messages-open (registers faileds) c h = rw h (omega arith)
+messages-open (registers listeners) c h = rw h (omega arith)
+messages-open domain c h = rw h (omega arith)
 
-messages-same : (j : Kind) (c : Kind → ℕ) (n : ℕ) → c j ≡ suc n → messagesSize (oneMore j c) ≡ messagesSize c + vectorSize j
-unfolding messagesSize oneMore messageSize sameKind typeNumber vectorSize
-messages-same advertises c n h = rw h (omega arith)
-messages-same faileds c n h = rw h (omega arith)
-messages-same listeners c n h = rw h (omega arith)
+messages-same : (j : Attribute) (c : Attribute → ℕ) (n : ℕ) → c j ≡ suc n → messagesSize (oneMore j c) ≡ messagesSize c + vectorSize j
+unfolding messagesSize oneMore messageSize sameAttribute typeNumber vectorSize
+messages-same (registers advertises) c n h = rw h (omega arith)
+messages-same (registers faileds) c n h = rw h (omega arith)
+messages-same (registers listeners) c n h = rw h (omega arith)
+messages-same domain c n h = rw h (omega arith)
 
-pub having-kind : (k : Kind) (l : List Declaration) → All (OfKind k) (having k l)
+pub having-attribute : (k : Attribute) (l : List Declaration) → All (OfAttribute k) (having k l)
 unfolding having
-having-kind k [] = tt
-having-kind k (d ∷ l) = go (sameKind (kindOf d) k) refl (having-kind k l)
+having-attribute k [] = tt
+having-attribute k (d ∷ l) = go (sameAttribute (attributeOf d) k) refl (having-attribute k l)
   where
-    go : (t : Bool) → sameKind (kindOf d) k ≡ t → All (OfKind k) (having k l) → All (OfKind k) (keep t d (having k l))
-    go true e a = (kinds-same (kindOf d) k e, a)
+    go : (t : Bool) → sameAttribute (attributeOf d) k ≡ t → All (OfAttribute k) (having k l) → All (OfAttribute k) (keep t d (having k l))
+    go true e a = (attributes-same (attributeOf d) k e, a)
     go false e a = a
 
 -- types that only earlier declarations have
-pub having-none : (k : Kind) (l : List Declaration) → All (λ d. typeNumber k < typeNumber (kindOf d)) l → having k l ≡ []
+pub having-none : (k : Attribute) (l : List Declaration) → All (λ d. typeNumber k < typeNumber (attributeOf d)) l → having k l ≡ []
 unfolding having
 having-none k [] a = refl
-having-none k (d ∷ l) a = rw (other-kind (kindOf d) k (λ e. omega arith)) (having-none k l (a .1))
+having-none k (d ∷ l) a = rw (other-attribute (attributeOf d) k (λ e. omega arith)) (having-none k l (a .1))
 
-length-vectors : (k : Kind) (l : List Declaration) → All (OfKind k) l → length (flat (λ e. vectorOctets (declarationVector e)) l) ≡ length l * vectorSize k
+length-vectors : (k : Attribute) (l : List Declaration) → All (OfAttribute k) l → length (flat (λ e. vectorOctets (declarationVector e)) l) ≡ length l * vectorSize k
 unfolding flat
 length-vectors k [] a = omega arith
 length-vectors k (d ∷ l) a =
     let e = suc-mul (length l) (vectorSize k) in
     simp (length-append, length-vector d, a .0, length-vectors k l (a .1)) (omega arith)
 
-pub length-message : (k : Kind) (l : List Declaration) → All (OfKind k) l → length (messageOctets k l) ≡ messageSize k (length l)
+pub length-message : (k : Attribute) (l : List Declaration) → All (OfAttribute k) l → length (messageOctets k l) ≡ messageSize k (length l)
 unfolding messageOctets messageOf messageSize
 length-message k [] a = refl
 length-message k (d ∷ l) a = simp (length-append, length-be, length-vectors k (d ∷ l) a) (omega arith)
 
 length-pdu : (l : List Declaration) → length (pduOctets l) ≡ 3 + messagesSize (count l)
 unfolding pduOctets messagesSize count
-length-pdu l =
-    simp (
-      length-append,
-      length-message advertises (having advertises l) (having-kind advertises l),
-      length-message faileds (having faileds l) (having-kind faileds l),
-      length-message listeners (having listeners l) (having-kind listeners l),
-    )
-    (omega arith)
+length-pdu l = simp (length-append, of (registers advertises), of (registers faileds), of (registers listeners), of domain) (omega arith)
+  where
+    of : (k : Attribute) → length (messageOctets k (having k l)) ≡ messageSize k (length (having k l))
+    of k = length-message k (having k l) (having-attribute k l)
 
-count-messages : (d : Declaration) (l : List Declaration) → messagesSize (count (d ∷ l)) ≡ messagesSize (oneMore (kindOf d) (count l))
+count-messages : (d : Declaration) (l : List Declaration) → messagesSize (count (d ∷ l)) ≡ messagesSize (oneMore (attributeOf d) (count l))
 unfolding messagesSize
-count-messages d l = rw (count-cons d l advertises, count-cons d l faileds, count-cons d l listeners)
+count-messages d l =
+    rw (count-cons d l (registers advertises), count-cons d l (registers faileds), count-cons d l (registers listeners), count-cons d l domain)
 
-count-none : (k : Kind) (l : List Declaration) → All (λ d. typeNumber k < typeNumber (kindOf d)) l → count l k ≡ 0
+count-none : (k : Attribute) (l : List Declaration) → All (λ d. typeNumber k < typeNumber (attributeOf d)) l → count l k ≡ 0
 unfolding count
 count-none k l a = rw (having-none k l a)
 
-count-head : (d : Declaration) (l : List Declaration) → count (d ∷ l) (kindOf d) ≡ suc (count l (kindOf d))
+count-head : (d : Declaration) (l : List Declaration) → count (d ∷ l) (attributeOf d) ≡ suc (count l (attributeOf d))
 unfolding oneMore
-count-head d l = count-cons d l (kindOf d) ∙ rw (same-kind (kindOf d))
+count-head d l = count-cons d l (attributeOf d) ∙ rw (same-attribute (attributeOf d))
 
 -- in the order of types the two counts agree
 size-in-order : (l : List Declaration) → InOrder l → size noMessage l ≡ messagesSize (count l)
 unfolding size opening
 size-in-order [] o = unfold messagesSize messageSize count having in refl
 size-in-order (d ∷ []) o =
-    omega (arith, count-messages d [], messages-open (kindOf d) (count []) (count-none (kindOf d) [] tt), size-in-order [] tt)
-size-in-order (d ∷ e ∷ l) o = go (sameKind (kindOf d) (kindOf e)) refl (size-in-order (e ∷ l) (o .1))
+    omega (arith, count-messages d [], messages-open (attributeOf d) (count []) (count-none (attributeOf d) [] tt), size-in-order [] tt)
+size-in-order (d ∷ e ∷ l) o = go (sameAttribute (attributeOf d) (attributeOf e)) refl (size-in-order (e ∷ l) (o .1))
   where
-    go : (t : Bool) → sameKind (kindOf d) (kindOf e) ≡ t
-        → 6 + vectorSize (kindOf e) + size (message (kindOf e)) l ≡ messagesSize (count (e ∷ l))
-        → 6 + vectorSize (kindOf d) + (cond t 0 6 + vectorSize (kindOf e) + size (message (kindOf e)) l) ≡ messagesSize (count (d ∷ e ∷ l))
+    go : (t : Bool) → sameAttribute (attributeOf d) (attributeOf e) ≡ t
+        → 6 + vectorSize (attributeOf e) + size (message (attributeOf e)) l ≡ messagesSize (count (e ∷ l))
+        → 6 + vectorSize (attributeOf d) + (cond t 0 6 + vectorSize (attributeOf e) + size (message (attributeOf e)) l) ≡ messagesSize (count (d ∷ e ∷ l))
     go true q ih =
-        let s : count (e ∷ l) (kindOf d) ≡ suc (count l (kindOf d)) = rw (kinds-same (kindOf d) (kindOf e) q) (count-head e l) in
-        omega (arith, count-messages d (e ∷ l), messages-same (kindOf d) (count (e ∷ l)) (count l (kindOf d)) s)
+        let s : count (e ∷ l) (attributeOf d) ≡ suc (count l (attributeOf d)) = rw (attributes-same (attributeOf d) (attributeOf e) q) (count-head e l) in
+        omega (arith, count-messages d (e ∷ l), messages-same (attributeOf d) (count (e ∷ l)) (count l (attributeOf d)) s)
     go false q ih =
-        let apart : typeNumber (kindOf d) ≡ typeNumber (kindOf e) → ⊥ = kinds-other (kindOf d) (kindOf e) q in
-        let less : typeNumber (kindOf d) < typeNumber (kindOf e) = omega (arith, o .0 .0) in
-        let later : All (λ x. typeNumber (kindOf d) < typeNumber (kindOf x)) l = all-map (NotBefore (kindOf e)) (λ x. typeNumber (kindOf d) < typeNumber (kindOf x)) (λ x h. omega arith) l (o .1 .0) in
-        omega (arith, count-messages d (e ∷ l), messages-open (kindOf d) (count (e ∷ l)) (count-none (kindOf d) (e ∷ l) (less, later)))
+        let apart : typeNumber (attributeOf d) ≡ typeNumber (attributeOf e) → ⊥ = attributes-other (attributeOf d) (attributeOf e) q in
+        let less : typeNumber (attributeOf d) < typeNumber (attributeOf e) = omega (arith, o .0 .0) in
+        let later : All (λ x. typeNumber (attributeOf d) < typeNumber (attributeOf x)) l = all-map (NotBefore (attributeOf e)) (λ x. typeNumber (attributeOf d) < typeNumber (attributeOf x)) (λ x h. omega arith) l (o .1 .0) in
+        omega (arith, count-messages d (e ∷ l), messages-open (attributeOf d) (count (e ∷ l)) (count-none (attributeOf d) (e ∷ l) (less, later)))
 
 -- "one PDU takes as many as fit in 1,500 octets whole".
 
@@ -343,12 +362,13 @@ takes-within l = fitting-within 3 noMessage l
 pub takes-one : (l : List Declaration) → 1 ≤ length l → 1 ≤ takes l
 unfolding takes fitting opening vectorSize
 takes-one [] h = absurd (omega arith)
-takes-one (d ∷ l) h = go (kindOf d)
+takes-one (d ∷ l) h = go (attributeOf d)
   where
-    go : (k : Kind) → 1 ≤ cond (ltb longestPdu (9 + vectorSize k)) 0 (suc (fitting (9 + vectorSize k) (message k) l))
-    go advertises = omega arith
-    go faileds = omega arith
-    go listeners = omega arith
+    go : (k : Attribute) → 1 ≤ cond (ltb longestPdu (9 + vectorSize k)) 0 (suc (fitting (9 + vectorSize k) (message k) l))
+    go (registers advertises) = omega arith
+    go (registers faileds) = omega arith
+    go (registers listeners) = omega arith
+    go domain = omega arith
 
 -- no declaration is left
 pub no-declarations : pduOctets [] ≡ 0 ∷ 0 ∷ 0 ∷ []
@@ -359,13 +379,13 @@ no-declarations = refl
 
 -- the declarations of port p, numbered from 1
 unfoldable pub declared : Bridge → ℕ → List Declaration
-declared b p = declarations (p - 1) (b .streams)
+declared b p = declarations (b .settings) (p - 1) (b .streams)
 
 module _ (b : Bridge) (p place : ℕ) where
   -- 13 "place is above the number of declarations"
   pub write-above : length (declared b p) < place → write b p place ≡ record { number = 13; run = []; next = 0 }
   unfolding write declared
-  write-above h = rw (lt-ltb (length (declarations (p - 1) (b .streams))) place h)
+  write-above h = rw (lt-ltb (length (declarations (b .settings) (p - 1) (b .streams))) place h)
 
   pub write-from : place ≤ length (declared b p)
       → write b p place ≡ record {
@@ -374,7 +394,7 @@ module _ (b : Bridge) (p place : ℕ) where
         next = place + takes (drop place (declared b p));
       }
   unfolding write declared
-  write-from h = rw (le-ltb (length (declarations (p - 1) (b .streams))) place h)
+  write-from h = rw (le-ltb (length (declarations (b .settings) (p - 1) (b .streams))) place h)
 
   -- the answer's next place is past what was written, and not past the count
   pub next-place : place ≤ length (declared b p) → write b p place .next ≡ place + length (write b p place .run)
@@ -393,7 +413,7 @@ module _ (b : Bridge) (p place : ℕ) where
 
   rest-in-order : InOrder (drop place (declared b p))
   unfolding declared
-  rest-in-order = order-drop place (declarations (p - 1) (b .streams)) (declarations-in-order (p - 1) (b .streams))
+  rest-in-order = order-drop place (declarations (b .settings) (p - 1) (b .streams)) (declarations-in-order (b .settings) (p - 1) (b .streams))
 
   pub run-in-order : InOrder (write b p place .run)
   run-in-order = go (ltb (length (declared b p)) place) refl

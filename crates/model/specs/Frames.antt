@@ -1,7 +1,7 @@
 -- The MSRPDU: octets read as vectors or refused with a number, and what the vectors ask for (01, "The PDU"; 10.8, 35.2.2).
 use mathlib.Core.List.{List, [], _∷_, _++_}
 use mathlib.Core.Bool.{Bool, true, false, cond, not, _&&_, _||_}
-use Prim.Native.Nat.{ℕ, zero, suc, _+_, _-_, _/_, _%_}
+use Prim.Native.Nat.{ℕ, zero, suc, _+_, _-_, _*_, _/_, _%_}
 use lib.ListN.{length, getD}
 use lib.Dec.{ltb, leb, eqb}
 use Rattle.octets.specs.Be.{beAt}
@@ -9,7 +9,7 @@ use Rattle.octets.specs.Fields.{fields}
 use Rattle.octets.specs.Parts.{part}
 use Rattle.model.specs.FrameLayout.{advertiseLength, advertiseWidths, domainLength, domainWidths, failedLength, failedWidths, firstDestination, firstUnique, listenerLength, listenerWidths, longestPdu}
 use Rattle.model.specs.State.{Fixed, Health, sound, broken, askingFailed, ready, readyFailed, Settings}
-use Rattle.model.specs.Registrations.{Kind, advertises, faileds, listeners, Act, leaveAll, leave, talk, listen, Reading, refused, acts}
+use Rattle.model.specs.Registrations.{Kind, advertises, faileds, listeners, Act, leaveAll, leave, talk, listen, ofDomain, leaveAllDomains, leaveDomain, joinDomain, Reading, refused, acts}
 
 -- Attribute types (Tables 35-1, 35-2).
 
@@ -30,6 +30,13 @@ typeOctet version (suc (suc zero)) = known (registers faileds)
 typeOctet version (suc (suc (suc zero))) = known (registers listeners)
 typeOctet version (suc (suc (suc (suc zero)))) = known domain
 typeOctet version (suc (suc (suc (suc (suc t))))) = cond (eqb version 0) notAllowed unknown
+
+-- the octet of a type
+unfoldable pub typeNumber : Attribute → ℕ
+typeNumber (registers advertises) = 1
+typeNumber (registers faileds) = 2
+typeNumber (registers listeners) = 3
+typeNumber domain = 4
 
 -- the widths of FirstValue's fields, and its octets
 unfoldable pub firstWidths : Attribute → List ℕ
@@ -309,6 +316,24 @@ listenerAct vs n nothingAsked f = []
 listenerAct vs n join f = hearing (idValue vs n) f
 listenerAct vs n withdraw f = cond (eqb f 0) [] (leave listeners (idValue vs n) ∷ [])
 
+-- 02: "IDs 5 and 6, priorities 0 to 7; other values are checked and dropped": the slot of a class ID and a priority
+unfoldable pub hasSlot : ℕ → ℕ → Bool
+hasSlot c q = leb 5 c && (leb c 6 && leb q 7)
+
+unfoldable pub slotOf : ℕ → ℕ → ℕ
+slotOf c q = (c - 5) * 8 + q
+
+unfoldable pub slotAct : ℕ → ℕ → Asking → List Act
+slotAct i vlan nothingAsked = []
+slotAct i vlan join = ofDomain (joinDomain i vlan) ∷ []
+slotAct i vlan withdraw = ofDomain (leaveDomain i) ∷ []
+
+unfoldable pub domainAct : List ℕ → ℕ → Asking → List Act
+domainAct vs n a =
+    let c = getD vs 0 0 + n in
+    let q = getD vs 1 0 + n in
+    cond (hasSlot c q) (slotAct (slotOf c q) (getD vs 2 0) a) []
+
 unfoldable pub valueActs : Vector → ℕ → List Act
 valueActs v n = go (v .attribute)
   where
@@ -319,18 +344,19 @@ valueActs v n = go (v .attribute)
     go (registers advertises) = talkerAct advertises vs n (asking (eventOf v n))
     go (registers faileds) = talkerAct faileds vs n (asking (eventOf v n))
     go (registers listeners) = listenerAct vs n (asking (eventOf v n)) (fourOf v n)
-    go domain = []
+    go domain = domainAct vs n (asking (eventOf v n))
 
 -- the k values from value n on
 unfoldable pub valuesActs : Vector → ℕ → ℕ → List Act
 valuesActs v n zero = []
 valuesActs v n (suc k) = valueActs v n ++ valuesActs v (suc n) k
 
--- "LeaveAll first starts leaving all registrations of that type on that port"; "Domain values are checked and have no effect"
+-- "LeaveAll first starts leaving all registrations of that type on that port"
 unfoldable pub leaveAllActs : Attribute → Bool → List Act
 leaveAllActs (registers k) true = leaveAll k ∷ []
 leaveAllActs (registers k) false = []
-leaveAllActs domain b = []
+leaveAllActs domain true = ofDomain leaveAllDomains ∷ []
+leaveAllActs domain false = []
 
 unfoldable pub vectorActs : Vector → List Act
 vectorActs v = leaveAllActs (v .attribute) (v .leavesAll) ++ valuesActs v 0 (v .values)

@@ -5,12 +5,12 @@ use mathlib.Core.List.{List, [], _∷_}
 use Prim.Native.Nat.{ℕ, _≤_, _<_, _^_}
 use lib.ListN.{length}
 use Rattle.octets.specs.Fields.{Fit}
-use Rattle.model.specs.Layout.{cellWidths, nameWidths, portWidths, priorityBUnit, resultWidths}
+use Rattle.model.specs.Layout.{cellWidths, nameWidths, portWidths, priorityBUnit, resultWidths, slotWidths, slots}
 use Rattle.model.specs.Lists.{All}
-use Rattle.model.specs.State.{Settings, Talker, noTalker, talker, Cell, Result, Stream, Totals, Bridge}
+use Rattle.model.specs.State.{Settings, Talker, noTalker, talker, Cell, Own, Result, Stream, Totals, Bridge}
 use Rattle.model.specs.Registrations.{ids}
 use Rattle.model.specs.WrittenFrames.{fixedNumbers}
-use Rattle.model.specs.Table.{cellNumbers, cellOctets, resultNumbers, resultOctets, portNumbers, encode}
+use Rattle.model.specs.Table.{cellNumbers, cellOctets, domainNumbers, domainOctets, ownOctets, resultNumbers, resultOctets, portNumbers, encode}
 
 -- a rank is one bit: it shares its octet with the priority, so that the octet's width alone does not say it
 abbrev pub FitRank : Talker → Type 0
@@ -32,11 +32,17 @@ pub record FitStream (x : Stream) : Type 0 where
   pub eight-results : length (x .results) ≡ 8
   pub results : All FitResult (x .results)
 
+-- what a port holds by itself
+pub record FitOwn (o : Own) : Type 0 where
+  pub slotted : length (o .domains) ≡ slots
+  pub domains : All (λ d. Fit slotWidths (domainNumbers d)) (o .domains)
+
 pub record FitSettings (st : Settings) : Type 0 where
   pub bridgeId : st .bridgeId < 2 ^ 64
   pub priorityA : st .priorityA < 8
   pub priorityB : st .priorityB < 8
   pub leaveTime : st .leaveTime < priorityBUnit
+  pub vlan : st .vlan < 2 ^ 16
   pub eight-ports : length (st .ports) ≤ 8
   pub ports : All (λ q. Fit portWidths (portNumbers q)) (st .ports)
 
@@ -53,6 +59,8 @@ pub record FitBridge (b : Bridge) : Type 0 where
   pub clock : b .clock < 2 ^ 32
   pub eight-totals : length (b .totals) ≡ 8
   pub totals : All FitTotals (b .totals)
+  pub eight-own : length (b .own) ≡ 8
+  pub own : All FitOwn (b .own)
   pub at-most-64 : length (b .streams) ≤ 64
   pub streams : All FitStream (b .streams)
   pub ascending : Ascending (ids (b .streams))
@@ -69,6 +77,13 @@ LaidCell = LaidOut cellOctets FitCell
 
 abbrev pub LaidResult : List ℕ → Type 0
 LaidResult = LaidOut resultOctets FitResult
+
+-- of a Domain value, of what a port holds
+abbrev pub LaidDomain : List ℕ → Type 0
+LaidDomain = LaidOut domainOctets (λ d. Fit slotWidths (domainNumbers d))
+
+abbrev pub LaidOwn : List ℕ → Type 0
+LaidOwn = LaidOut ownOctets FitOwn
 
 abbrev pub Laid : List ℕ → Type 0
 Laid = LaidOut encode FitBridge

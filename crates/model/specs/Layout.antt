@@ -15,9 +15,9 @@ before (suc i) (w ∷ ws) = w + before i ws
 
 -- Widths of fields, in octets.
 
--- settings: Bridge ID; one word of ports 4 bits, class priorities 3 and 3, leave time 14
+-- settings: Bridge ID; one word of ports 4 bits, class priorities 3 and 3, leave time 14; the VLAN of the Domain values declared
 abbrev pub headWidths : List ℕ
-headWidths = 8 ∷ 3 ∷ []
+headWidths = 8 ∷ 3 ∷ 2 ∷ []
 
 -- a port's settings: flags (supports A, supports B, sends twice, five zeros), overhead, largest frame, limits, latencies
 abbrev pub portWidths : List ℕ
@@ -30,6 +30,14 @@ clockWidths = 4 ∷ 1 ∷ []
 -- a port's totals of class A and class B
 abbrev pub totalsWidths : List ℕ
 totalsWidths = 5 ∷ 5 ∷ []
+
+-- a Domain value of a port: registered, leaving, since, VLAN
+abbrev pub slotWidths : List ℕ
+slotWidths = 1 ∷ 1 ∷ 4 ∷ 2 ∷ []
+
+-- whether a port is at the edge of class A's domain, and of class B's
+abbrev pub boundaryWidths : List ℕ
+boundaryWidths = 1 ∷ 1 ∷ []
 
 -- a Talker's fixed values: destination, VLAN, MaxFrameSize, MaxIntervalFrames, priority and rank
 abbrev pub fixedWidths : List ℕ
@@ -81,6 +89,23 @@ totalSize = sum totalsWidths
 abbrev pub totalsSize : ℕ
 totalsSize = 8 * totalSize
 
+abbrev pub slotSize : ℕ
+slotSize = sum slotWidths
+
+-- two classes of eight priorities
+abbrev pub slots : ℕ
+slots = 16
+
+abbrev pub slotsSize : ℕ
+slotsSize = slots * slotSize
+
+-- what a port holds by itself
+abbrev pub ownSize : ℕ
+ownSize = slotsSize + sum boundaryWidths
+
+abbrev pub ownsSize : ℕ
+ownsSize = 8 * ownSize
+
 abbrev pub fixedSize : ℕ
 fixedSize = sum fixedWidths
 
@@ -113,9 +138,12 @@ recordsSize = 64 * recordSize
 
 -- Places in the table.
 
--- the word of ports, class priorities and leave time; the settings of the ports
+-- the word of ports, class priorities and leave time; the Domain values' VLAN; the settings of the ports
 abbrev pub wordPlace : ℕ
 wordPlace = before 1 headWidths
+
+abbrev pub domainVlanPlace : ℕ
+domainVlanPlace = before 2 headWidths
 
 abbrev pub portsPlace : ℕ
 portsPlace = headSize
@@ -129,21 +157,42 @@ countPlace = clockPlace + before 1 clockWidths
 abbrev pub totalsPlace : ℕ
 totalsPlace = clockPlace + clockSize
 
+abbrev pub ownsPlace : ℕ
+ownsPlace = totalsPlace + totalsSize
+
 abbrev pub recordsPlace : ℕ
-recordsPlace = totalsPlace + totalsSize
+recordsPlace = ownsPlace + ownsSize
 
 abbrev pub tableLength : ℕ
 tableLength = recordsPlace + recordsSize
 
--- the settings and the totals of the port at place p, the record of stream k
+-- the settings, the totals and what is held of the port at place p, the record of stream k
 abbrev pub portPlace : ℕ → ℕ
 portPlace p = portsPlace + p * portSize
 
 abbrev pub totalPlace : ℕ → ℕ
 totalPlace p = totalsPlace + p * totalSize
 
+abbrev pub ownPlace : ℕ → ℕ
+ownPlace p = ownsPlace + p * ownSize
+
 abbrev pub recordPlace : ℕ → ℕ
 recordPlace k = recordsPlace + k * recordSize
+
+-- Places in what a port holds by itself: the Domain value in slot i, and the flags behind all.
+
+abbrev pub slotIn : ℕ → ℕ
+slotIn i = i * slotSize
+
+abbrev pub boundaryPlace : ℕ
+boundaryPlace = slotsSize
+
+abbrev pub boundaryBPlace : ℕ
+boundaryBPlace = boundaryPlace + before 1 boundaryWidths
+
+-- the Domain value in slot i of the port at place p
+abbrev pub slotPlace : ℕ → ℕ → ℕ
+slotPlace p i = ownPlace p + slotIn i
 
 -- Places in a record: the settled values, the cells and the results.
 
@@ -322,6 +371,26 @@ agePlace = before ageField resultWidths
 
 abbrev pub declaredPlace : ℕ
 declaredPlace = before declaredField resultWidths
+
+-- Fields of a Domain value by their index among its numbers, and their places.
+
+abbrev pub heldField : ℕ
+heldField = 0
+
+abbrev pub slotLeavesField : ℕ
+slotLeavesField = 1
+
+abbrev pub slotSinceField : ℕ
+slotSinceField = 2
+
+abbrev pub slotVlanField : ℕ
+slotVlanField = 3
+
+abbrev pub slotLeavesPlace : ℕ
+slotLeavesPlace = before slotLeavesField slotWidths
+
+abbrev pub slotVlanPlace : ℕ
+slotVlanPlace = before slotVlanField slotWidths
 
 -- Units of the settings' word, from its lowest field up (14 bits, 3, 3): its number divided by one gives the fields above, its
 -- remainder those below.

@@ -4,20 +4,17 @@ use mathlib.Core.Bool.{Bool, true, false, cond, _&&_}
 use Prim.Native.Nat.{ℕ, zero, suc, _-_}
 use lib.ListN.{length}
 use lib.Dec.{ltb, leb, eqb}
-use Rattle.model.specs.State.{Leaving, stays, since, Fixed, Health, sound, broken, Varying, Registration, Talker, noTalker, talker, Ready, Listener, noListener, listener, Cell, Stream, Bridge, fresh}
+use Rattle.model.specs.State.{Leaving, stays, since, Fixed, Health, sound, broken, Varying, Registration, Talker, noTalker, talker, Ready, Listener, noListener, listener, Cell, Domain, noDomain, domain, Own, Stream, Bridge, fresh}
 
--- the AttributeTypes that register
+-- the AttributeTypes that register a stream
 pub data Kind : Type 0 where
   advertises faileds listeners : Kind
 
--- their numbers (Table 35-1)
-unfoldable pub typeNumber : Kind → ℕ
-typeNumber advertises = 1
-typeNumber faileds = 2
-typeNumber listeners = 3
-
-unfoldable pub sameKind : Kind → Kind → Bool
-sameKind j k = eqb (typeNumber j) (typeNumber k)
+-- what one event of a Domain value asks for; a value is named by its slot among a port's Domain values
+pub data DomainAct : Type 0 where
+  leaveAllDomains : DomainAct
+  leaveDomain : (slot : ℕ) → DomainAct
+  joinDomain : (slot vlan : ℕ) → DomainAct
 
 -- what one event of a frame asks for
 pub data Act : Type 0 where
@@ -25,6 +22,7 @@ pub data Act : Type 0 where
   leave : Kind → (id : ℕ) → Act
   talk : (id : ℕ) → Fixed → Varying → Act
   listen : (id : ℕ) → Ready → Act
+  ofDomain : DomainAct → Act
 
 -- "if already leaving, by Lv or LeaveAll, the first time stays"
 unfoldable pub begin : ℕ → Leaving → Leaving
@@ -86,9 +84,10 @@ does now (leaveAll k) c = quit now k c
 does now (leave k i) c = quit now k c
 does now (talk i f v) c = record { talks = joinTalker f v (c .talks); hears = c .hears }
 does now (listen i r) c = record { talks = c .talks; hears = listener r stays }
+does now (ofDomain a) c = c
 
--- the cells with the one at place p changed
-unfoldable pub at : ℕ → (Cell → Cell) → List Cell → List Cell
+-- a list with what stands at place p changed
+unfoldable pub at : {A : Type 0} → ℕ → (A → A) → List A → List A
 at p u [] = []
 at zero u (c ∷ cs) = u c ∷ cs
 at (suc p) u (c ∷ cs) = c ∷ at p u cs
@@ -114,6 +113,7 @@ reach (leaveAll k) u s = map (change u) s
 reach (leave k i) u s = touch false i u s
 reach (talk i f v) u s = touch true i u s
 reach (listen i r) u s = touch true i u s
+reach (ofDomain a) u s = s
 
 -- an act on the port at place p, at time now; then the acts of a frame, in their order
 unfoldable pub apply : ℕ → ℕ → Act → List Stream → List Stream
@@ -122,6 +122,34 @@ apply now p a s = reach a (at p (does now a)) s
 unfoldable pub applyAll : ℕ → ℕ → List Act → List Stream → List Stream
 applyAll now p [] s = s
 applyAll now p (a ∷ es) s = applyAll now p es (apply now p a s)
+
+-- Domain values: "the same joining, leaving and LeaveAll apply".
+
+unfoldable pub quitDomain : ℕ → Domain → Domain
+quitDomain now noDomain = noDomain
+quitDomain now (domain v l) = domain v (begin now l)
+
+-- "with the VLAN of the last join"
+unfoldable pub doesDomain : ℕ → DomainAct → List Domain → List Domain
+doesDomain now leaveAllDomains ds = map (quitDomain now) ds
+doesDomain now (leaveDomain i) ds = at i (quitDomain now) ds
+doesDomain now (joinDomain i v) ds = at i (λ d. domain v stays) ds
+
+-- only Domain values change: the flags stay
+unfoldable pub changeDomains : (List Domain → List Domain) → Own → Own
+changeDomains u o = record { domains = u (o .domains); boundaryA = o .boundaryA; boundaryB = o .boundaryB }
+
+-- an act on the port at place p, of what the ports hold by themselves; then the acts of a frame, in their order
+unfoldable pub applyOwn : ℕ → ℕ → Act → List Own → List Own
+applyOwn now p (leaveAll k) o = o
+applyOwn now p (leave k i) o = o
+applyOwn now p (talk i f v) o = o
+applyOwn now p (listen i r) o = o
+applyOwn now p (ofDomain a) o = at p (changeDomains (doesDomain now a)) o
+
+unfoldable pub applyOwns : ℕ → ℕ → List Act → List Own → List Own
+applyOwns now p [] o = o
+applyOwns now p (a ∷ es) o = applyOwns now p es (applyOwn now p a o)
 
 -- Receiving. A frame is refused with a number, or read as a list of acts, whatever is held.
 
@@ -135,14 +163,18 @@ pub record Answer : Type 0 where
   pub bridge : Bridge
 
 unfoldable pub holding : Bridge → List Stream → Bridge
-holding b s = record { settings = b .settings; clock = b .clock; totals = b .totals; streams = s }
+holding b s = record { settings = b .settings; clock = b .clock; totals = b .totals; own = b .own; streams = s }
+
+unfoldable pub owning : Bridge → List Own → Bridge
+owning b o = record { settings = b .settings; clock = b .clock; totals = b .totals; own = o; streams = b .streams }
 
 -- a frame on port p, numbered from 1; 8: "streams held plus different new ones joined by this PDU exceed 64"
 unfoldable pub received : Bridge → ℕ → Reading → Answer
 received b p (refused n) = record { number = n; bridge = b }
 received b p (acts es) =
     let s = applyAll (b .clock) (p - 1) es (b .streams) in
-    cond (leb (length s) 64) record { number = 0; bridge = holding b s } record { number = 8; bridge = b }
+    let o = applyOwns (b .clock) (p - 1) es (b .own) in
+    cond (leb (length s) 64) record { number = 0; bridge = owning (holding b s) o } record { number = 8; bridge = b }
 
 -- The different StreamIDs of an ascending list and of others.
 
@@ -164,6 +196,7 @@ joins (leaveAll k ∷ es) = joins es
 joins (leave k i ∷ es) = joins es
 joins (talk i f v ∷ es) = i ∷ joins es
 joins (listen i r ∷ es) = i ∷ joins es
+joins (ofDomain a ∷ es) = joins es
 
 unfoldable pub asks : Reading → List ℕ
 asks (refused n) = []

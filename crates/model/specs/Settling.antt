@@ -2,9 +2,10 @@
 use mathlib.Core.List.{List, [], _∷_, map}
 use mathlib.Core.Bool.{Bool, true, false, cond, not, _&&_, _||_}
 use Prim.Native.Nat.{ℕ, suc, _+_, _/_}
+use lib.ListN.{take, drop}
 use lib.Dec.{ltb, leb, eqb}
 use Rattle.model.specs.Lists.{keep, tabulate}
-use Rattle.model.specs.State.{Settings, Leaving, stays, since, Fixed, Health, sound, broken, Registration, Talker, noTalker, talker, Ready, askingFailed, ready, readyFailed, Listener, noListener, listener, Cell, Column, none, advertise, failed, Entry, noEntry, filters, forwards, Declared, nothing, tells, Result, Stream, Totals, Bridge, noFixed, portAt, isPort, cellAt, resultAt, Class, classA, classB, classOf, isNoClass, sameClass, supports, limit, classLatency}
+use Rattle.model.specs.State.{Port, Settings, Leaving, stays, since, Fixed, Health, sound, broken, Registration, Talker, noTalker, talker, Ready, askingFailed, ready, readyFailed, Listener, noListener, listener, Cell, Domain, noDomain, domain, Own, Column, none, advertise, failed, Entry, noEntry, filters, forwards, Declared, nothing, tells, Result, Stream, Totals, Bridge, noFixed, portAt, isPort, cellAt, resultAt, ownAt, Class, noClass, classA, classB, classOf, isNoClass, sameClass, supports, limit, classLatency, classPriority}
 use Rattle.model.specs.Registrations.{Answer}
 use Rattle.model.specs.WrittenFrames.{readyNumber}
 use Rattle.model.specs.Bandwidth.{Claim, demand, rateOf, remains, total}
@@ -96,6 +97,69 @@ isAdvertise none = false
 isAdvertise advertise = true
 isAdvertise (failed b c) = false
 
+-- The edge of the domain: "The boundary flag, clear at start, follows 35.2.1.4 h) and is decided in advance after the removals".
+
+unfoldable pub expireDomain : Settings → ℕ → Domain → Domain
+expireDomain st now noDomain = noDomain
+expireDomain st now (domain v l) = cond (expired st now l) noDomain (domain v l)
+
+unfoldable pub isDomain : Domain → Bool
+isDomain noDomain = false
+isDomain (domain v l) = true
+
+-- of the Domain values of a class, by priority from q on: one is registered; one of another priority than the bridge's is
+unfoldable pub anyDomain : List Domain → Bool
+anyDomain [] = false
+anyDomain (d ∷ ds) = isDomain d || anyDomain ds
+
+unfoldable pub otherPriority : ℕ → ℕ → List Domain → Bool
+otherPriority own q [] = false
+otherPriority own q (d ∷ ds) = (isDomain d && not (eqb q own)) || otherPriority own (suc q) ds
+
+-- a port's Domain values of a class: class ID 5 before 6
+unfoldable pub domainsOf : Class → List Domain → List Domain
+domainsOf noClass ds = []
+domainsOf classA ds = drop 8 ds
+domainsOf classB ds = take 8 ds
+
+unfoldable pub anySupports : Class → List Port → Bool
+anySupports c [] = false
+anySupports c (q ∷ qs) = supports q c || anySupports c qs
+
+-- h): a port that declares the class (here: supports it) is at its edge where no Domain value of the class is registered, or one
+-- of another priority is; any other port where some port declares it
+unfoldable pub isEdge : Settings → ℕ → Class → List Domain → Bool
+isEdge st p c ds =
+    let own = domainsOf c ds in
+    cond (supports (portAt st p) c) (not (anyDomain own) || otherPriority (classPriority st c) 0 own) (anySupports c (st .ports))
+
+-- a place that is no port has no flag
+unfoldable pub flagOf : Settings → ℕ → Class → List Domain → Bool
+flagOf st p c ds = isPort st p && isEdge st p c ds
+
+unfoldable pub decideOwn : Settings → ℕ → List Own → ℕ → Own
+decideOwn st now o p =
+    let ds = map (expireDomain st now) (ownAt o p .domains) in
+    record { domains = ds; boundaryA = flagOf st p classA ds; boundaryB = flagOf st p classB ds }
+
+unfoldable pub decideOwns : Settings → ℕ → List Own → List Own
+decideOwns st now o = tabulate 8 0 (decideOwn st now o)
+
+-- the flag of a class
+unfoldable pub boundary : Own → Class → Bool
+boundary o noClass = false
+boundary o classA = o .boundaryA
+boundary o classB = o .boundaryB
+
+-- What the columns of all streams are decided by, beside the streams: the settings, and what the ports hold by themselves.
+pub record Scene : Type 0 where
+  pub settings : Settings
+  pub own : List Own
+
+-- of a bridge as it stands
+abbrev pub sceneOf : Bridge → Scene
+sceneOf b = record { settings = b .settings; own = b .own }
+
 -- The column: "first that applies".
 
 -- what a step gives: column none, the failure registered at t, or an own failure of some code
@@ -130,10 +194,11 @@ outcomeColumn st s columnNone = none
 outcomeColumn st s asRegistered = brokenColumn (healthOf s)
 outcomeColumn st s (ownFailure code) = failed (st .bridgeId) code
 
--- steps a to g on the port at place p
-unfoldable pub stepsFrom : Settings → ℕ → Cell → Source → List Step
-stepsFrom st p here nowhere = record { test = true; outcome = columnNone } ∷ []
-stepsFrom st p here (from o) =
+-- steps a to g and j on the port at place p
+unfoldable pub stepsFrom : Scene → ℕ → Cell → Source → List Step
+stepsFrom sc p here nowhere = record { test = true; outcome = columnNone } ∷ []
+stepsFrom sc p here (from o) =
+    let st = sc .settings in
     let r = o .registration in
     let c = classOf st (r .fixed .priority) in
     record { test = eqb p (o .port); outcome = columnNone }
@@ -142,12 +207,13 @@ stepsFrom st p here (from o) =
     ∷ record { test = r .changed; outcome = ownFailure 16 }
     ∷ record { test = isTalking here; outcome = ownFailure 4 }
     ∷ record { test = isNoClass c; outcome = ownFailure 13 }
+    ∷ record { test = boundary (ownAt (sc .own) p) c; outcome = ownFailure 8 }
     ∷ record { test = ltb (portAt st p .largest) (r .fixed .size); outcome = ownFailure 14 }
     ∷ []
 
 -- a place that is no port of this bridge has column none
-unfoldable pub steps : Settings → ℕ → Stream → List Step
-steps st p x = record { test = not (isPort st p); outcome = columnNone } ∷ stepsFrom st p (cellAt x p) (sourceOf x)
+unfoldable pub steps : Scene → ℕ → Stream → List Step
+steps sc p x = record { test = not (isPort (sc .settings) p); outcome = columnNone } ∷ stepsFrom sc p (cellAt x p) (sourceOf x)
 
 -- "Age is counted from the whole second, clock / 100 rounded down, of the advance that first made an entry"; "An entry made
 -- by this advance counts from this advance in the order above"
@@ -167,27 +233,29 @@ claim st now p x =
     }
 
 -- the streams of a class that reach step h on a port
-unfoldable pub claims : Settings → ℕ → ℕ → Class → List Stream → List Claim
-claims st now p c [] = []
-claims st now p c (x ∷ s) = keep (clear (steps st p x) && sameClass (streamClass st x) c) (claim st now p x) (claims st now p c s)
+unfoldable pub claims : Scene → ℕ → ℕ → Class → List Stream → List Claim
+claims sc now p c [] = []
+claims sc now p c (x ∷ s) = keep (clear (steps sc p x) && sameClass (streamClass (sc .settings) x) c) (claim (sc .settings) now p x) (claims sc now p c s)
 
 -- the limit in force: "Each class has its own limit". It is asked of the time and the streams too, since a lower class may be given
 -- what a higher one leaves on the port in the same advance; here the port's settings alone decide
-unfoldable pub limitOn : Settings → ℕ → List Stream → ℕ → Class → ℕ
-limitOn st now s p c = limit (portAt st p) c
+unfoldable pub limitOn : Scene → ℕ → List Stream → ℕ → Class → ℕ
+limitOn sc now s p c = limit (portAt (sc .settings) p) c
 
 -- what is left for a stream on a port
-unfoldable pub leftFor : Settings → ℕ → List Stream → ℕ → Stream → ℕ
-leftFor st now s p x =
-    let c = streamClass st x in
-    remains (limitOn st now s p c) (claims st now p c s) (claim st now p x)
+unfoldable pub leftFor : Scene → ℕ → List Stream → ℕ → Stream → ℕ
+leftFor sc now s p x =
+    let c = streamClass (sc .settings) x in
+    remains (limitOn sc now s p c) (claims sc now p c s) (claim (sc .settings) now p x)
 
 -- steps h and i
 unfoldable pub byBandwidth : Settings → ℕ → ℕ → Column
 byBandwidth st demand left = cond (ltb left demand) (failed (st .bridgeId) 1) advertise
 
-unfoldable pub columnOf : Settings → ℕ → List Stream → ℕ → Stream → Column
-columnOf st now s p x = first (outcomeColumn st (sourceOf x)) (steps st p x) (byBandwidth st (claim st now p x .demand) (leftFor st now s p x))
+unfoldable pub columnOf : Scene → ℕ → List Stream → ℕ → Stream → Column
+columnOf sc now s p x =
+    let st = sc .settings in
+    first (outcomeColumn st (sourceOf x)) (steps sc p x) (byBandwidth st (claim st now p x .demand) (leftFor sc now s p x))
 
 -- "Latency out is latency in plus the class latency of p (0 without a class), at most 2^32 - 1"
 unfoldable pub capped : ℕ → ℕ
@@ -237,47 +305,49 @@ unfoldable pub mergeAll : List Declared → Declared
 mergeAll [] = nothing
 mergeAll (d ∷ l) = merge d (mergeAll l)
 
-unfoldable pub merged : Settings → ℕ → List Stream → Stream → Declared
-merged st now s x = mergeAll (tabulate 8 0 (λ q. passed (columnOf st now s q x) (registered (cellAt x q))))
+unfoldable pub merged : Scene → ℕ → List Stream → Stream → Declared
+merged sc now s x = mergeAll (tabulate 8 0 (λ q. passed (columnOf sc now s q x) (registered (cellAt x q))))
 
 -- The decision.
 
-unfoldable pub decideAt : Settings → ℕ → List Stream → Stream → ℕ → Result
-decideAt st now s x p =
-    let column = columnOf st now s p x in
+unfoldable pub decideAt : Scene → ℕ → List Stream → Stream → ℕ → Result
+decideAt sc now s x p =
+    let column = columnOf sc now s p x in
     let entry = entryOf column (registered (cellAt x p)) in
     record {
       column = column;
-      latency = latencyKept column (latencyOut st p x);
+      latency = latencyKept column (latencyOut (sc .settings) p x);
       entry = entry;
       age = ageKept entry (ageOf now (resultAt x p));
-      declares = cond (isSource (sourceOf x) p) (merged st now s x) nothing;
+      declares = cond (isSource (sourceOf x) p) (merged sc now s x) nothing;
     }
 
-unfoldable pub decide : Settings → ℕ → List Stream → Stream → Stream
-decide st now s x = record {
+unfoldable pub decide : Scene → ℕ → List Stream → Stream → Stream
+decide sc now s x = record {
   id = x .id;
   settled = fixedOf (sourceOf x);
   cells = x .cells;
-  results = tabulate 8 0 (decideAt st now s x);
+  results = tabulate 8 0 (decideAt sc now s x);
 }
 
-unfoldable pub totalOn : Settings → ℕ → List Stream → ℕ → Class → ℕ
-totalOn st now s p c = total (limitOn st now s p c) (claims st now p c s)
+unfoldable pub totalOn : Scene → ℕ → List Stream → ℕ → Class → ℕ
+totalOn sc now s p c = total (limitOn sc now s p c) (claims sc now p c s)
 
-unfoldable pub totalsOn : Settings → ℕ → List Stream → ℕ → Totals
-totalsOn st now s p = record { totalA = totalOn st now s p classA; totalB = totalOn st now s p classB }
+unfoldable pub totalsOn : Scene → ℕ → List Stream → ℕ → Totals
+totalsOn sc now s p = record { totalA = totalOn sc now s p classA; totalB = totalOn sc now s p classB }
 
 -- "Advance sets the clock, removes .., drops unheld streams, then decides"
 unfoldable pub settle : ℕ → Bridge → Bridge
 settle now b =
     let st = b .settings in
     let s = remain st now (b .streams) in
+    let sc : Scene = record { settings = st; own = decideOwns st now (b .own) } in
     record {
       settings = st;
       clock = now;
-      totals = tabulate 8 0 (totalsOn st now s);
-      streams = map (decide st now s) s;
+      totals = tabulate 8 0 (totalsOn sc now s);
+      own = sc .own;
+      streams = map (decide sc now s) s;
     }
 
 -- 9: "time is below the held clock"

@@ -4,6 +4,7 @@ use mathlib.Core.Bool.{Bool, true, false, cond}
 use Prim.Native.Nat.{ℕ}
 use lib.ListN.{getD, replicate, length}
 use lib.Dec.{ltb, eqb}
+use Rattle.model.specs.Layout.{slots}
 
 -- Settings (01, "Numbers given back": "Settings, fields most significant bit first").
 
@@ -23,6 +24,7 @@ pub record Settings : Type 0 where
   pub priorityA : ℕ
   pub priorityB : ℕ
   pub leaveTime : ℕ
+  pub vlan : ℕ
   pub ports : List Port
 
 -- Registrations (01, "Registering"; 35.2.2.8).
@@ -74,6 +76,19 @@ pub record Cell : Type 0 where
   pub talks : Talker
   pub hears : Listener
 
+-- Domain values (02, ii; 35.2.2.9): registered on a port by class ID and priority, with the VLAN of the last join.
+
+pub data Domain : Type 0 where
+  noDomain : Domain
+  domain : (vlan : ℕ) → Leaving → Domain
+
+-- what a port holds by itself: its Domain values, those of class ID 5 by priority 0 to 7, then those of class ID 6; and, as the
+-- last advance decided, whether it is a boundary port of class A and of class B (35.2.1.4 h)
+pub record Own : Type 0 where
+  pub domains : List Domain
+  pub boundaryA : Bool
+  pub boundaryB : Bool
+
 -- Results (01, "Settling"): what the last advance decided for one stream on one port.
 
 pub data Column : Type 0 where
@@ -112,6 +127,7 @@ pub record Bridge : Type 0 where
   pub settings : Settings
   pub clock : ℕ
   pub totals : List Totals
+  pub own : List Own
   pub streams : List Stream
 
 -- What is there before anything is registered or decided.
@@ -128,15 +144,18 @@ noFixed = record { destination = 0; vlan = 0; size = 0; frames = 0; priority = 0
 unfoldable pub noTotals : Totals
 noTotals = record { totalA = 0; totalB = 0 }
 
+unfoldable pub noOwn : Own
+noOwn = record { domains = replicate slots noDomain; boundaryA = false; boundaryB = false }
+
 unfoldable pub blank : List Cell
 blank = replicate 8 empty
 
 unfoldable pub fresh : ℕ → Stream
 fresh i = record { id = i; settled = noFixed; cells = blank; results = replicate 8 unsettled }
 
--- start: no streams, clock 0, nothing reserved
+-- start: no streams, clock 0, nothing reserved, no Domain value, no boundary
 unfoldable pub started : Settings → Bridge
-started st = record { settings = st; clock = 0; totals = replicate 8 noTotals; streams = [] }
+started st = record { settings = st; clock = 0; totals = replicate 8 noTotals; own = replicate 8 noOwn; streams = [] }
 
 -- Places. Ports are numbered from 1 by callers, and from 0 in lists.
 
@@ -172,6 +191,10 @@ streamAt k b = getD (b .streams) k (fresh 0)
 -- the totals of the port at place p
 abbrev pub totalsAt : ℕ → Bridge → Totals
 totalsAt p b = getD (b .totals) p noTotals
+
+-- what the port at place p holds by itself
+abbrev pub ownAt : List Own → ℕ → Own
+ownAt o p = getD o p noOwn
 
 -- Classes (01, settings' class priorities; 35.2.2.9.2).
 
@@ -210,3 +233,14 @@ unfoldable pub classLatency : Port → Class → ℕ
 classLatency q noClass = 0
 classLatency q classA = q .latencyA
 classLatency q classB = q .latencyB
+
+unfoldable pub classPriority : Settings → Class → ℕ
+classPriority st noClass = 0
+classPriority st classA = st .priorityA
+classPriority st classB = st .priorityB
+
+-- Table 35-7: SR class ID 6 is class A, 5 is class B
+unfoldable pub classId : Class → ℕ
+classId noClass = 0
+classId classA = 6
+classId classB = 5

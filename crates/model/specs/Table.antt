@@ -9,14 +9,14 @@ use lib.Dec.{ltb, leb, eqb}
 use Rattle.octets.specs.Be.{beAt}
 use Rattle.octets.specs.Parts.{part, zeros}
 use Rattle.octets.specs.Fields.{fields, packed, flat}
-use Rattle.model.specs.Layout.{ageField, bridgeField, cellFields, cellSize, cellWidths, cellsPlace, cellsSize, changedField, clockPlace, clockWidths, codeField, columnField, countPlace, declaredField, entryField, failureCodeField, failureField, fixedField, headWidths, latencyField, latencyOutField, listenerField, listenerLeavesField, listenerPlace, listenerSinceField, nameWidths, portPlace, portSize, portWidths, portsPlace, portsUnit, priorityAUnit, priorityBUnit, priorityField, recordSize, recordsPlace, resultSize, resultWidths, resultsPlace, resultsSize, settingsSize, settledPriorityPlace, tableLength, talkerField, talkerLeavesField, talkerSinceField, totalBPlace, totalSize, totalsPlace, totalsSize, totalsWidths, wordPlace}
+use Rattle.model.specs.Layout.{ageField, boundaryBPlace, boundaryPlace, boundaryWidths, bridgeField, cellFields, cellSize, cellWidths, cellsPlace, cellsSize, changedField, clockPlace, clockWidths, codeField, columnField, countPlace, declaredField, domainVlanPlace, entryField, failureCodeField, failureField, fixedField, headWidths, heldField, latencyField, latencyOutField, listenerField, listenerLeavesField, listenerPlace, listenerSinceField, nameWidths, ownSize, ownsPlace, ownsSize, portPlace, portSize, portWidths, portsPlace, portsUnit, priorityAUnit, priorityBUnit, priorityField, recordSize, recordsPlace, resultSize, resultWidths, resultsPlace, resultsSize, settingsSize, settledPriorityPlace, slotLeavesField, slotSinceField, slotSize, slotVlanField, slotWidths, slots, slotsSize, tableLength, talkerField, talkerLeavesField, talkerSinceField, totalBPlace, totalSize, totalsPlace, totalsSize, totalsWidths, wordPlace}
 use Rattle.model.specs.Lists.{allTrue, implies, parts, bit, isOne}
+use Rattle.model.specs.State.{Port, Settings, Leaving, stays, since, Fixed, Health, sound, broken, Registration, Talker, noTalker, talker, Domain, noDomain, domain, Own, Ready, askingFailed, ready, readyFailed, Listener, noListener, listener, Cell, Column, none, advertise, failed, Entry, noEntry, filters, forwards, Declared, nothing, tells, Result, Stream, Totals, Bridge}
 use Rattle.model.specs.Settling.{isTalking, isHearing}
-use Rattle.model.specs.State.{Port, Settings, Leaving, stays, since, Fixed, Health, sound, broken, Registration, Talker, noTalker, talker, Ready, askingFailed, ready, readyFailed, Listener, noListener, listener, Cell, Column, none, advertise, failed, Entry, noEntry, filters, forwards, Declared, nothing, tells, Result, Stream, Totals, Bridge}
 use Rattle.model.specs.Frames.{priorityOf, rankOf}
 use Rattle.model.specs.WrittenFrames.{fixedNumbers, readyNumber}
 
--- Settings: Bridge ID; one field of ports 4 bits, class priorities 3 and 3, leave time 14; then each port.
+-- Settings: Bridge ID; one field of ports 4 bits, class priorities 3 and 3, leave time 14; the Domain values' VLAN; then each port.
 
 unfoldable pub portNumbers : Port → List ℕ
 portNumbers q =
@@ -46,7 +46,7 @@ unfoldable pub headWord : Settings → ℕ
 headWord st = ((length (st .ports) * 8 + st .priorityA) * 8 + st .priorityB) * priorityBUnit + st .leaveTime
 
 unfoldable pub headNumbers : Settings → List ℕ
-headNumbers st = st .bridgeId ∷ headWord st ∷ []
+headNumbers st = st .bridgeId ∷ headWord st ∷ st .vlan ∷ []
 
 -- as they are handed to start
 unfoldable pub settingsOctets : Settings → List ℕ
@@ -61,6 +61,7 @@ toSettings s = record {
   priorityA = beAt 3 s wordPlace / priorityAUnit % 8;
   priorityB = beAt 3 s wordPlace / priorityBUnit % 8;
   leaveTime = beAt 3 s wordPlace % priorityBUnit;
+  vlan = beAt 2 s domainVlanPlace;
   ports = parts portSize toPort (portsField s) (drop portsPlace s);
 }
 
@@ -80,9 +81,12 @@ settingsRules s =
     ∷ not (eqb (beAt 3 s wordPlace / priorityAUnit % 8) (beAt 3 s wordPlace / priorityBUnit % 8))  -- 3
     ∷ leb 1 (beAt 3 s wordPlace % priorityBUnit)  -- 4
     ∷ everyPart portSize portRule (portsField s) (drop portsPlace s)  -- 5
+    ∷ leb 1 (beAt 2 s domainVlanPlace)  -- 30
+    ∷ leb (beAt 2 s domainVlanPlace) 4094  -- 30
     ∷ []
 
--- 11: settings "Length 11 + 22 x ports", and as laid out
+-- 11: settings "Length 13 + 22 x ports", and as laid out; 02: "11 where the VLAN setting is 0 or 4,095, or one of the upper four
+-- bits is set"
 unfoldable pub settingsFormed : List ℕ → Bool
 settingsFormed s = eqb (length s) (portPlace (portsField s)) && allTrue (settingsRules s)
 
@@ -367,7 +371,59 @@ streamRules ports clock leave s =
 unfoldable pub streamFormed : ℕ → ℕ → ℕ → List ℕ → Bool
 streamFormed ports clock leave s = allTrue (streamRules ports clock leave s)
 
--- The table of 31,824 octets: settings 187, clock 4, streams held 1, totals 80, records 31,552.
+-- What a port holds by itself, of 130 octets: 16 Domain values of 8, then its two flags.
+
+unfoldable pub domainNumbers : Domain → List ℕ
+domainNumbers noDomain = replicate 4 0
+domainNumbers (domain v l) = 1 ∷ leavingNumber l ∷ sinceNumber l ∷ v ∷ []
+
+unfoldable pub domainFrom : List ℕ → Domain
+domainFrom vs =
+    cond (eqb (getD vs heldField 0) 0) noDomain
+    (domain (getD vs slotVlanField 0) (toLeaving (getD vs slotLeavesField 0) (getD vs slotSinceField 0)))
+
+unfoldable pub domainOctets : Domain → List ℕ
+domainOctets d = packed slotWidths (domainNumbers d)
+
+unfoldable pub toDomain : List ℕ → Domain
+toDomain s = domainFrom (fields slotWidths 0 s)
+
+-- the rules of a Domain value's numbers
+unfoldable pub domainRules : ℕ → ℕ → List ℕ → List Bool
+domainRules clock leave vs =
+    let at : ℕ → ℕ = λ i. getD vs i 0 in
+    leb (at heldField) 1  -- 31
+    ∷ leavingRule clock leave (at slotLeavesField) (at slotSinceField)  -- 32
+    ∷ implies (eqb (at heldField) 0) (allZero (at slotLeavesField ∷ at slotSinceField ∷ at slotVlanField ∷ []))  -- 33
+    ∷ []
+
+unfoldable pub domainFormed : ℕ → ℕ → List ℕ → Bool
+domainFormed clock leave s = allTrue (domainRules clock leave (fields slotWidths 0 s))
+
+unfoldable pub ownOctets : Own → List ℕ
+ownOctets o = flat domainOctets (o .domains) ++ packed boundaryWidths (bit (o .boundaryA) ∷ bit (o .boundaryB) ∷ [])
+
+unfoldable pub slotsPart : List ℕ → List ℕ
+slotsPart s = part 0 slotsSize s
+
+unfoldable pub toOwn : List ℕ → Own
+toOwn s = record {
+  domains = parts slotSize toDomain slots (slotsPart s);
+  boundaryA = isOne (getD s boundaryPlace 0);
+  boundaryB = isOne (getD s boundaryBPlace 0);
+}
+
+unfoldable pub ownRules : ℕ → ℕ → List ℕ → List Bool
+ownRules clock leave s =
+    everyPart slotSize (domainFormed clock leave) slots (slotsPart s)  -- 31 to 33
+    ∷ leb (getD s boundaryPlace 0) 1  -- 34
+    ∷ leb (getD s boundaryBPlace 0) 1  -- 34
+    ∷ []
+
+unfoldable pub ownFormed : ℕ → ℕ → List ℕ → Bool
+ownFormed clock leave s = allTrue (ownRules clock leave s)
+
+-- The table of 32,866 octets: settings 189, clock 4, streams held 1, totals 80, what the ports hold 1,040, records 31,552.
 
 unfoldable pub totalsOctets : Totals → List ℕ
 totalsOctets t = packed totalsWidths (t .totalA ∷ t .totalB ∷ [])
@@ -381,8 +437,9 @@ encode b =
     ++ (zeros ((8 - length (b .settings .ports)) * portSize)
     ++ (packed clockWidths (b .clock ∷ length (b .streams) ∷ [])
     ++ (flat totalsOctets (b .totals)
+    ++ (flat ownOctets (b .own)
     ++ (flat streamOctets (b .streams)
-    ++ zeros ((64 - length (b .streams)) * recordSize)))))
+    ++ zeros ((64 - length (b .streams)) * recordSize))))))
 
 unfoldable pub settingsPart : List ℕ → List ℕ
 settingsPart t = part 0 settingsSize t
@@ -396,6 +453,9 @@ countField t = getD t countPlace 0
 unfoldable pub totalsPart : List ℕ → List ℕ
 totalsPart t = part totalsPlace totalsSize t
 
+unfoldable pub ownsPart : List ℕ → List ℕ
+ownsPart t = part ownsPlace ownsSize t
+
 unfoldable pub recordsPart : List ℕ → List ℕ
 recordsPart t = drop recordsPlace t
 
@@ -404,6 +464,7 @@ decode t = record {
   settings = toSettings (settingsPart t);
   clock = clockField t;
   totals = parts totalSize toTotals 8 (totalsPart t);
+  own = parts ownSize toOwn 8 (ownsPart t);
   streams = parts recordSize toStream (countField t) (recordsPart t);
 }
 
@@ -436,6 +497,8 @@ tableRules t =
     allTrue (settingsRules s)  -- 2 to 5
     ∷ allZero (drop (portPlace (portsField s)) s)  -- 6
     ∷ totalsWithin (leb 1 n) (parts totalSize toTotals 8 (totalsPart t)) (toSettings s .ports)  -- 7, 29
+    ∷ everyPart ownSize (ownFormed (clockField t) (toSettings s .leaveTime)) (portsField s) (ownsPart t)  -- 31 to 34
+    ∷ allZero (drop (portsField s * ownSize) (ownsPart t))  -- 35
     ∷ leb n 64  -- 8
     ∷ everyPart recordSize (streamFormed (portsField s) (clockField t) (toSettings s .leaveTime)) n (recordsPart t)  -- 11 to 28
     ∷ rising (parts recordSize idOf n (recordsPart t))  -- 9

@@ -2,7 +2,7 @@
 use mathlib.Core.Path.{_≡_, refl, ap, _∙_}
 use mathlib.Core.List.{List, []}
 use mathlib.Core.Bool.{Bool, true, false, _||_}
-use Prim.Native.Nat.{ℕ, zero, suc, _+_, _-_, _/_, _%_, _≤_, _<_, _^_}
+use Prim.Native.Nat.{ℕ, zero, suc, _+_, _-_, _*_, _/_, _%_, _≤_, _<_, _^_}
 use native.Mathlib.Omega.{arith}
 use lib.ListN.{length, getD, take, drop, drop-of-length-le, List·getD-eq-default}
 use lib.Seq.{drop-cons}
@@ -13,16 +13,18 @@ use Rattle.octets.specs.Be.{beAt}
 use Rattle.octets.specs.Parts.{part}
 use Rattle.octets.proofs.Parts.{lent-part}
 use Rattle.model.proofs.Lists.{and-false}
+use Rattle.model.specs.FrameLayout.{domainLength}
 use Rattle.model.specs.Registrations.{advertises, faileds, listeners}
-use Rattle.model.specs.Frames.{Attribute, registers, domain, TypeOctet, notAllowed, unknown, known, typeOctet, firstLength, threeLength, hasFour, vectorEnd, overpacked, runsPast, vectorIn, listLength, endMark, messageEnd, headerIn, messageIn, threePacked, fourPacked}
+use Rattle.model.specs.Frames.{Attribute, registers, domain, TypeOctet, notAllowed, unknown, known, typeOctet, firstLength, threeLength, hasFour, vectorEnd, overpacked, runsPast, vectorIn, listLength, endMark, messageEnd, headerIn, messageIn, threePacked, fourPacked, hasSlot, slotOf}
 use Rattle.model.specs.Frames as frames
-use Rattle.msrpdu.specs.Reader.{typeRead, pastField, headOf, vectorMeant, vectorRead, firstPart, messageMeant, messageRead, eventMeant, eventIn, fourIn, valueIn}
+use Rattle.msrpdu.specs.Reader.{typeRead, pastField, headOf, vectorMeant, vectorRead, firstPart, messageMeant, messageRead, eventMeant, eventIn, fourIn, valueIn, domainIn}
 use Rattle.msrpdu.specs.declared.TypeRead.the-variants.{Known, Skipped, Refused}
 use Rattle.msrpdu.specs.declared.VectorHead.{VectorHead}
 use Rattle.msrpdu.specs.declared.VectorRead.{VectorRead}
 use Rattle.msrpdu.specs.declared.VectorRead.the-variants as vector
 use Rattle.msrpdu.specs.declared.MessageRead.the-variants as message
 use Rattle.msrpdu.specs.declared.ValueRead.the-variants.{Value, Past}
+use Rattle.msrpdu.specs.declared.DomainRead.the-variants.{Slot, Dropped}
 use Rattle.msrpdu.specs.declared.Event.the-variants.{Lv, Missing}
 
 -- The type octet.
@@ -331,3 +333,36 @@ module _ (s : List ℕ) (at : ℕ) where
         pub list-read : at + 4 + n ≤ length s → messageMeant s at (headerIn t s at) ≡ message.List record { kind = getD s at 0; list = at + 4; next = at + 4 + n }
         unfolding messageMeant headerIn messageEnd listLength
         list-read p = let y = typed t first e in rw (y .is, y .octets, eq-eqb _ _ q, ← i, le-ltb _ _ p, ← i)
+
+-- Domain values: what has a slot, and what has none.
+
+pub class-below : (c q : ℕ) → c < 5 → hasSlot c q ≡ false
+unfolding hasSlot
+class-below c q h = rw (lt-leb 5 c h)
+
+pub class-above : (c q : ℕ) → 6 < c → hasSlot c q ≡ false
+unfolding hasSlot
+class-above c q h = rw (le-leb 5 c (omega arith), lt-leb c 6 h)
+
+pub priority-above : (c q : ℕ) → 7 < q → hasSlot c q ≡ false
+unfolding hasSlot
+priority-above c q h = rw (lt-leb q 7 h, and-false (leb c 6), and-false (leb 5 c))
+
+pub slot-there : (c q : ℕ) → 5 ≤ c → c ≤ 6 → q ≤ 7 → hasSlot c q ≡ true
+unfolding hasSlot
+slot-there c q h k l = rw (le-leb 5 c h, le-leb c 6 k, le-leb q 7 l)
+
+module _ (first : List ℕ) (n : ℕ) where
+  pub domain-short : length first < domainLength → domainIn first n ≡ Dropped
+  unfolding domainIn
+  domain-short p = rw (lt-ltb _ _ p)
+
+  -- x and y are FirstValue's class ID and priority
+  module _ (p : domainLength ≤ length first) (x y : ℕ) (e : x ≡ beAt 1 first 0) (f : y ≡ beAt 1 first 1) where
+    pub domain-none : hasSlot (x + n) (y + n) ≡ false → domainIn first n ≡ Dropped
+    unfolding domainIn
+    domain-none h = rw (le-ltb _ _ p, ← e, ← f, h)
+
+    pub domain-there : hasSlot (x + n) (y + n) ≡ true → domainIn first n ≡ Slot ((x + n - 5) * 8 + (y + n))
+    unfolding domainIn slotOf
+    domain-there h = rw (le-ltb _ _ p, ← e, ← f, h)

@@ -6,7 +6,8 @@ use lib.ListN.{length, getD}
 use lib.Dec.{ltb, eqb}
 use Rattle.octets.specs.Be.{beAt}
 use Rattle.octets.specs.Parts.{part}
-use Rattle.model.specs.Frames.{Attribute, TypeOctet, notAllowed, unknown, known, firstLength, threeLength, hasFour, Vector, vectorEnd, runsPast, InList, badVector, listEnd, vectorHead, vectorIn, typedIn, InPdu, badMessage, pduEnd, listSkipped, listOf, messageEnd, messageIn, Walk, fault, found, threePacked, fourPacked}
+use Rattle.model.specs.Frames.{Attribute, TypeOctet, notAllowed, unknown, known, firstLength, threeLength, hasFour, Vector, vectorEnd, runsPast, InList, badVector, listEnd, vectorHead, vectorIn, typedIn, InPdu, badMessage, pduEnd, listSkipped, listOf, messageEnd, messageIn, Walk, fault, found, threePacked, fourPacked, hasSlot, slotOf}
+use Rattle.model.specs.FrameLayout.{domainLength}
 use Rattle.model.specs.Frames as frames
 use Rattle.msrpdu.specs.declared.TypeRead.{TypeRead}
 use Rattle.msrpdu.specs.declared.TypeRead.the-variants.{Known, Skipped, Refused}
@@ -17,6 +18,8 @@ use Rattle.msrpdu.specs.declared.MessageRead.{MessageRead}
 use Rattle.msrpdu.specs.declared.MessageRead.the-variants as message
 use Rattle.msrpdu.specs.declared.ValueRead.{ValueRead}
 use Rattle.msrpdu.specs.declared.ValueRead.the-variants.{Value, Past}
+use Rattle.msrpdu.specs.declared.DomainRead.{DomainRead}
+use Rattle.msrpdu.specs.declared.DomainRead.the-variants.{Slot, Dropped}
 use Rattle.msrpdu.specs.declared.Event.{Event}
 use Rattle.msrpdu.specs.declared.Event.the-variants.{New, JoinIn, In, JoinMt, Mt, Lv, Missing}
 
@@ -117,3 +120,10 @@ valueIn w g at first n =
 -- "Value n adds n to Unique ID and destination": StreamID is 8 octets, and Unique ID its last two
 unfoldable pub streamIdIn : List ℕ → ℕ → ValueRead
 streamIdIn first n = valueIn 8 2 0 first n
+
+-- "Value n adds n .. for Domain to class ID and priority octets"; "other values are checked and dropped"
+unfoldable pub domainIn : List ℕ → ℕ → DomainRead
+domainIn first n =
+    let c = beAt 1 first 0 + n in
+    let q = beAt 1 first 1 + n in
+    cond (ltb (length first) domainLength) Dropped (cond (hasSlot c q) (Slot (slotOf c q)) Dropped)

@@ -3,7 +3,7 @@ ghost use mathlib.Core.Path.{_≡_};
 ghost use Prim.Native.Nat.{_+_, _^_, _≤_, _<_};
 ghost use lib.ListN.{length, getD};
 ghost use Rattle.model.specs.Frames.{typeOctet, fourLength, overpacked, headerIn, walk, threePacked};
-ghost use Rattle.msrpdu.specs.Reader.{typeRead, headOf, vectorRead, typedRead, firstPart, messageMeant, messageRead, numberOf, eventIn, fourIn, pastField, streamIdIn};
+ghost use Rattle.msrpdu.specs.Reader.{typeRead, headOf, vectorRead, typedRead, firstPart, messageMeant, messageRead, numberOf, eventIn, fourIn, pastField, streamIdIn, domainIn};
 use model::pdu;
 use model::refusal;
 
@@ -84,6 +84,12 @@ pub enum MessageRead {
 pub enum ValueRead {
     Value(u64),
     Past,
+}
+
+// The slot of a Domain value among those that a port holds, or that it has none.
+pub enum DomainRead {
+    Slot(usize),
+    Dropped,
 }
 
 pub enum Event {
@@ -382,4 +388,28 @@ pub fn stream_id(first: &[u8], n: usize) -> ValueRead
         return ValueRead::Past;
     }
     ValueRead::Value(octets::get(first, 0, 8) + (n as u64))
+}
+
+// The slot of value n of a Domain FirstValue: class IDs 5 and 6, and priorities 0 to 7 of each.
+pub fn domain_slot(first: &[u8], n: usize) -> DomainRead
+    ensures { λ r. ⌜ r ≡ domainIn (now (first .entry)) n ⌝ }
+{
+    if first.len() < pdu::DOMAIN {
+        return DomainRead::Dropped;
+    }
+    if 6 < n {
+        return DomainRead::Dropped;
+    }
+    let id = (octets::get(first, 0, 1) as usize) + n;
+    let priority = (octets::get(first, 1, 1) as usize) + n;
+    if id < 5 {
+        return DomainRead::Dropped;
+    }
+    if 6 < id {
+        return DomainRead::Dropped;
+    }
+    if 7 < priority {
+        return DomainRead::Dropped;
+    }
+    DomainRead::Slot((id - 5) * 8 + priority)
 }

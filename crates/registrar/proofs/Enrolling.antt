@@ -6,7 +6,7 @@ use mathlib.Core.Bool.{Bool, true, false}
 use native.Mathlib.Omega.{arith}
 use lib.ListN.{length, getD, List·getD-map}
 use Rattle.model.specs.State.{Cell, Stream, Bridge, fresh}
-use Rattle.model.specs.Registrations.{Act, leaveAll, leave, talk, listen, does, at, touch, reach, apply, holding, ids}
+use Rattle.model.specs.Registrations.{Act, leaveAll, leave, talk, listen, ofDomain, does, at, change, touch, reach, apply, holding, owning, ids}
 use Rattle.model.specs.Table.{encode, decode}
 use Rattle.model.specs.Laid.{FitBridge, Laid}
 use Rattle.model.proofs.FoundVectors.{Fits}
@@ -19,12 +19,12 @@ use Rattle.table.proofs.Finding.{between-found, length-ids}
 use Rattle.table.proofs.Places.{at-gap, room-at, room-gap, getD-put-in, length-put-in}
 use Rattle.table.proofs.Fitting.{inserted-fits}
 use Rattle.cells.proofs.Keeps.{does-fits}
-use Rattle.registrar.specs.Run.{room, effect}
+use Rattle.registrar.specs.Run.{keeping, room, effect, ownEffect, after}
 use Rattle.registrar.specs.Walked.{Walked}
 use Rattle.registrar.specs.Enrols.{enrolled, EnrolledAt, NoRoom}
 use Rattle.registrar.proofs.Room.{again}
 use Rattle.registrar.proofs.Keeps.{effect-fits}
-use Rattle.registrar.proofs.Walks.{done, act-done, act-stopped}
+use Rattle.registrar.proofs.Walks.{OfStream, done, act-done, act-stopped}
 use Rattle.registrar.proofs.ValueActs.{Joins}
 use Rattle.registrar.proofs.Touched.{cell-touched}
 
@@ -70,6 +70,7 @@ module _ (i now p : ℕ) (s : List Stream) where
   joins-apply (leave k h) j = absurd j
   joins-apply (talk h f v) j = rw j
   joins-apply (listen h r) j = rw j
+  joins-apply (ofDomain d) j = absurd j
 
   joins-room : (a : Act) → Joins i a → effect false now p a s ≡ touch true i (λ c. c) s
   unfolding effect room
@@ -77,6 +78,14 @@ module _ (i now p : ℕ) (s : List Stream) where
   joins-room (leave k h) j = absurd j
   joins-room (talk h f v) j = rw j
   joins-room (listen h r) j = rw j
+  joins-room (ofDomain d) j = absurd j
+
+joins-stream : (i : ℕ) (a : Act) → Joins i a → OfStream a
+joins-stream i (leaveAll k) j = absurd j
+joins-stream i (leave k h) j = absurd j
+joins-stream i (talk h f v) j = tt
+joins-stream i (listen h r) j = tt
+joins-stream i (ofDomain d) j = absurd j
 
 -- as many streams are held, whatever is done to the one that is joined
 as-many : (i : ℕ) (u v : List Cell → List Cell) (s : List Stream) → length (touch true i u s) ≡ length (touch true i v s)
@@ -96,12 +105,12 @@ module _ (p i : ℕ) (a : Act) (j : Joins i a) (t : List ℕ) where
       pub join-room : Walked false p (a ∷ []) t true u
       unfolding done enrolled
       join-room =
-          act-done false p a t u l f (rw (done-many false) (n .few))
+          act-done false p a t (joins-stream i a j) u l f (rw (done-many false) (n .few))
           (n .table ∙ ap (λ (s : List Stream). encode (holding (decode t) s)) (sym (joins-room i (decode t .clock) p (decode t .streams) a j)))
 
       -- the table in which there is room
       enrolled-fits : FitBridge (holding (decode t) (enrolled i t))
-      unfolding enrolled done
+      unfolding enrolled done keeping after ownEffect holding owning
       enrolled-fits =
           let w = laid-fits t l in
           rw (← joins-room i (decode t .clock) p (decode t .streams) a j)
@@ -120,7 +129,7 @@ module _ (p i : ℕ) (a : Act) (j : Joins i a) (t : List ℕ) where
       pub join-applied : (y : List ℕ) → ((clock : ℕ) → y ≡ encode (withCell k p (does clock a) (decode u))) → Walked true p (a ∷ []) t true y
       unfolding done
       join-applied y q =
-          act-done true p a t _ l f (rw (done-many true) (n .few))
+          act-done true p a t (joins-stream i a j) _ l f (rw (done-many true) (n .few))
           (q (decode t .clock) ∙ cell-touched u i k enrolled-found true p (does (decode t .clock) a) ∙ applied)
         where
           v : List Cell → List Cell

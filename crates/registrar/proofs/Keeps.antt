@@ -1,20 +1,21 @@
 -- An act whose values are within their fields leaves what fits its fields.
 use Prim.Native.Nat.{ℕ, _^_, _≤_, _<_}
-use mathlib.Core.Path.{_≡_, refl, sym}
+use mathlib.Core.Path.{_≡_, refl, sym, _∙_}
 use mathlib.Core.List.{List, [], _∷_, map}
 use mathlib.Core.Bool.{Bool, true, false, cond, true≢false}
 use lib.ListN.{length}
 use lib.Dec.{ltb, eqb}
 use Rattle.model.specs.Lists.{All}
 use Rattle.model.specs.State.{Cell, Stream, Bridge, fresh}
-use Rattle.model.specs.Registrations.{Act, leaveAll, leave, talk, listen, change, begun, touch, reach, apply, does, holding, ids, joins}
+use Rattle.model.specs.Registrations.{Act, leaveAll, leave, talk, listen, ofDomain, change, begun, touch, reach, apply, does, holding, ids, joins}
 use Rattle.model.specs.Laid.{FitCell, FitStream, FitBridge}
 use Rattle.model.proofs.FoundVectors.{Fits}
 use Rattle.model.proofs.FrameOrder.{rising-together}
 use Rattle.model.proofs.Fits.{rising-ascends, ascending-rises}
-use Rattle.table.proofs.Fitting.{changed-fits, fresh-fits, holding-fits}
-use Rattle.registrar.specs.Run.{room, effect}
+use Rattle.table.proofs.Fitting.{changed-fits, fresh-fits, holding-fits, owning-fits}
+use Rattle.registrar.specs.Run.{registeredOf, keeping, room, effect, ownEffect, after}
 use Rattle.registrar.proofs.Room.{effect-ids}
+use Rattle.registrar.proofs.DomainActs.{own-effect-fits, own-effect-length}
 
 -- The streams after an act.
 
@@ -52,6 +53,7 @@ module _ (now p : ℕ) (s : List Stream) (fit : All FitStream s) where
   applied-fits (leave k i) f d = touched-fits false i _ (changed-fits p _ d) (λ e. absurd (true≢false (sym e))) s fit
   applied-fits (talk i g v) f d = joined-fits i (f .0) _ (changed-fits p _ d)
   applied-fits (listen i r) f d = joined-fits i f _ (changed-fits p _ d)
+  applied-fits (ofDomain e) f d = fit
 
   -- the cells of a stream that room is made for are as they were
   room-fits : (a : Act) → Fits a → All FitStream (room a s)
@@ -60,6 +62,7 @@ module _ (now p : ℕ) (s : List Stream) (fit : All FitStream s) where
   room-fits (leave k i) f = fit
   room-fits (talk i g v) f = joined-fits i (f .0) (λ c. c) (λ x w. w)
   room-fits (listen i r) f = joined-fits i f (λ c. c) (λ x w. w)
+  room-fits (ofDomain e) f = fit
 
   effect-streams-fit : (m : Bool) (a : Act) → Fits a → ((c : Cell) → FitCell c → FitCell (does now a c)) → All FitStream (effect m now p a s)
   unfolding effect
@@ -67,8 +70,13 @@ module _ (now p : ℕ) (s : List Stream) (fit : All FitStream s) where
   effect-streams-fit false a f d = room-fits a f
 
 pub effect-fits : (m : Bool) (p : ℕ) (a : Act) (b : Bridge) → FitBridge b → Fits a → ((c : Cell) → FitCell c → FitCell (does (b .clock) a c)) →
-    length (effect m (b .clock) p a (b .streams)) ≤ 64 → FitBridge (holding b (effect m (b .clock) p a (b .streams)))
+    length (effect m (b .clock) p a (b .streams)) ≤ 64 → FitBridge (keeping b (after m (b .clock) p a (registeredOf b)))
+unfolding keeping after
 effect-fits m p a b w f d h =
-    holding-fits b w (effect m (b .clock) p a (b .streams)) h (effect-streams-fit (b .clock) p (b .streams) (w .streams) m a f d)
+    let s = effect m (b .clock) p a (b .streams) in
+    let streams : FitBridge (holding b s) =
+    holding-fits b w s h (effect-streams-fit (b .clock) p (b .streams) (w .streams) m a f d)
     (rw (effect-ids m (b .clock) p a (b .streams))
-    (rising-ascends _ (rising-together (joins (a ∷ [])) (ids (b .streams)) (ascending-rises _ (w .ascending)))))
+    (rising-ascends _ (rising-together (joins (a ∷ [])) (ids (b .streams)) (ascending-rises _ (w .ascending))))) in
+    owning-fits (holding b s) streams (ownEffect m (b .clock) p a (b .own))
+    (own-effect-length m (b .clock) p a (b .own) ∙ w .eight-own) (own-effect-fits (b .clock) (w .clock) m p a f (b .own) (w .own))

@@ -1,9 +1,12 @@
 pub mod Room
+pub mod DomainActs
 pub mod Keeps
 pub mod Walks
 pub mod Touched
 pub mod Enrolling
 pub mod ValueActs
+pub mod DomainValues
+pub mod DomainsLeft
 pub mod VectorActs
 pub mod FrameWalk
 pub mod Receiving

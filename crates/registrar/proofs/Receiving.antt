@@ -9,7 +9,7 @@ use borrow.Author.Tests.{leb-true, leb-false}
 use Rattle.model.specs.Lists.{All, Octets}
 use Rattle.model.specs.State.{Stream, Bridge}
 use Rattle.model.specs.Settling.{held}
-use Rattle.model.specs.Registrations.{Act, applyAll, holding}
+use Rattle.model.specs.Registrations.{Act, applyAll, holding, owning}
 use Rattle.model.specs.Frames.{walk}
 use Rattle.model.specs.Table.{encode, decode, formed}
 use Rattle.model.specs.Laid.{Laid}
@@ -21,10 +21,10 @@ use Rattle.msrpdu.specs.Reader.{numberOf}
 use Rattle.msrpdu.proofs.Applying.{accepted}
 use Rattle.table.specs.Held.{heldOnly}
 use Rattle.registrar.specs.Acts.{isFound, actsOf}
-use Rattle.registrar.specs.Run.{Ran, ran, effects, run, streamsOf, went}
+use Rattle.registrar.specs.Run.{Registered, registeredOf, keeping, Ran, ran, effects, run, leftBy, went}
 use Rattle.registrar.specs.Walked.{runOn, Walked, taken, Receives}
 use Rattle.registrar.proofs.FrameWalk.{is-found}
-use Rattle.registrar.proofs.Room.{room-made, applied, room-lacking}
+use Rattle.registrar.proofs.Room.{streaming, applied, room-made, all-applied, Lacking, room-lacking}
 use Rattle.registrar.proofs.Walks.{walked-read}
 
 -- streams that are all held stay when those that are not are dropped
@@ -40,62 +40,72 @@ module _ (p : ℕ) (pdu t : List ℕ) (l : Laid t) where
   abbrev now : ℕ
   now = decode t .clock
 
-  abbrev s : List Stream
-  s = decode t .streams
+  -- what is registered
+  abbrev x : Registered
+  x = registeredOf (decode t)
+
+  taken-applied : taken p pdu t ≡ applied now p es x
+  unfolding taken applied
+  taken-applied = refl
 
   -- the first walk stops exactly where there is no room
-  stops : (u : List ℕ) → Walked false p es t false u → leb (length (taken p pdu t)) 64 ≡ false
+  stops : (u : List ℕ) → Walked false p es t false u → leb (length (taken p pdu t .streams)) 64 ≡ false
   unfolding taken runOn
-  stops u w = go (leb (length (applyAll now p es s)) 64) refl
+  stops u w = go (leb (length (applyAll now p es (x .streams))) 64) refl
     where
-      go : (b : Bool) → leb (length (applyAll now p es s)) 64 ≡ b → b ≡ false
-      go true e = absurd (true≢false (sym (w .answer ∙ ap went (room-made now p es s (leb-true _ 64 e)) ∙ unfold went in refl)))
+      go : (b : Bool) → leb (length (applyAll now p es (x .streams))) 64 ≡ b → b ≡ false
+      go true e = absurd (true≢false (sym (w .answer ∙ ap went (room-made now p es x (leb-true _ 64 e)) ∙ unfold went in refl)))
       go false e = refl
 
-  goes : (u : List ℕ) → Walked false p es t true u → leb (length (taken p pdu t)) 64 ≡ true
+  goes : (u : List ℕ) → Walked false p es t true u → leb (length (taken p pdu t .streams)) 64 ≡ true
   unfolding taken runOn
-  goes u w = go (leb (length (applyAll now p es s)) 64) refl
+  goes u w = go (leb (length (applyAll now p es (x .streams))) 64) refl
     where
-      go : (b : Bool) → leb (length (applyAll now p es s)) 64 ≡ b → b ≡ true
+      go : (b : Bool) → leb (length (applyAll now p es (x .streams))) 64 ≡ b → b ≡ true
       go true e = refl
       go false e =
-          let k = room-lacking now p es s (laid-fits t l .at-most-64) (leb-false _ 64 e) in
+          let k = room-lacking now p es x (laid-fits t l .at-most-64) (leb-false _ 64 e) in
           absurd (true≢false (w .answer ∙ ap went (k .stops) ∙ unfold went in refl))
 
   -- no room: what was made for the frame is dropped
   pub received-not : (u v : List ℕ) → All (λ x. held (x .cells) ≡ true) (decode t .streams) → Walked false p (actsOf (walk pdu)) t false u →
       v ≡ encode (holding (decode u) (heldOnly (decode u .streams))) → Receives p pdu t false v
-  unfolding holding
+  unfolding keeping holding owning
   received-not u v h w q = record { answer = sym (stops u w); table = q ∙ ap encode back ∙ sym (laid-is t l) }
     where
-      kept : heldOnly (streamsOf (runOn false p es t)) ≡ s
-      kept =
-          let k = room-lacking now p es s (laid-fits t l .at-most-64) (leb-false _ 64 (unfold taken in stops u w)) in
-          unfold runOn streamsOf in (ap (λ (q : Ran). heldOnly (streamsOf q)) (k .stops) ∙ k .restored ∙ all-held s h)
+      lacking : Lacking now p es x
+      lacking = room-lacking now p es x (laid-fits t l .at-most-64) (leb-false _ 64 (unfold taken in stops u w))
+
+      left : leftBy (runOn false p es t) ≡ streaming (lacking .left) x
+      left = unfold runOn leftBy in (ap leftBy (lacking .stops))
 
       back : holding (decode u) (heldOnly (decode u .streams)) ≡ decode t
-      back = ap (λ (b : Bridge). holding b (heldOnly (b .streams))) (walked-read w) ∙ ap (holding (decode t)) kept
+      back =
+          ap (λ (b : Bridge). holding b (heldOnly (b .streams))) (walked-read w ∙ ap (keeping (decode t)) left)
+          ∙ ap (holding (decode t)) (lacking .restored ∙ all-held (x .streams) h)
 
   -- room: the second walk does all
   pub received-all : (u v : List ℕ) (r : Bool) → Walked false p (actsOf (walk pdu)) t true u → Walked true p (actsOf (walk pdu)) u r v → Receives p pdu t r v
-  unfolding holding taken
-  received-all u v r w x =
-      let e : r ≡ true = x .answer ∙ ap went second ∙ unfold went in refl in
-      record { answer = e ∙ sym (goes u w); table = rw e (x .table ∙ ap encode whole) }
+  unfolding keeping holding owning
+  received-all u v r w y =
+      let e : r ≡ true = y .answer ∙ ap went second ∙ unfold went in refl in
+      record { answer = e ∙ sym (goes u w); table = rw e (y .table ∙ ap encode whole) }
     where
-      few : length (applyAll now p es s) ≤ 64
+      few : length (applyAll now p es (x .streams)) ≤ 64
       few = leb-true _ 64 (unfold taken in goes u w)
 
-      made : decode u ≡ holding (decode t) (effects false now p es s)
-      made = walked-read w ∙ unfold runOn streamsOf in (ap (λ (q : Ran). holding (decode t) (streamsOf q)) (room-made now p es s few))
+      made : decode u ≡ keeping (decode t) (streaming (effects false now p es (x .streams)) x)
+      made = walked-read w ∙ unfold runOn leftBy in (ap (λ (q : Ran). keeping (decode t) (leftBy q)) (room-made now p es x few))
 
-      second : runOn true p es u ≡ ran (applyAll now p es s)
-      second = unfold runOn in (ap (λ (b : Bridge). run true (b .clock) p es (b .streams)) made ∙ applied now p es s few)
+      second : runOn true p es u ≡ ran (taken p pdu t)
+      second =
+          unfold runOn in
+          (ap (λ (b : Bridge). run true (b .clock) p es (registeredOf b)) made ∙ all-applied now p es x few ∙ ap ran (sym taken-applied))
 
-      whole : holding (decode u) (streamsOf (runOn true p es u)) ≡ holding (decode t) (applyAll now p es s)
+      whole : keeping (decode u) (leftBy (runOn true p es u)) ≡ keeping (decode t) (taken p pdu t)
       whole =
-          unfold streamsOf in
-          (ap (λ (q : Ran). holding (decode u) (streamsOf q)) second ∙ ap (λ (b : Bridge). holding b (applyAll now p es s)) made)
+          unfold leftBy in
+          (ap (λ (q : Ran). keeping (decode u) (leftBy q)) second ∙ ap (λ (b : Bridge). keeping b (taken p pdu t)) made)
 
 -- For callers: a frame of number 0 is well-formed, and a table that keeps the form rules holds no stream without a registration.
 

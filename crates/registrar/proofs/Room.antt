@@ -1,7 +1,8 @@
 -- The two walks over a frame: the first makes room for all streams joined or stops, the second then does what the acts ask
--- for. Where the first stops, dropping the streams without a registration restores what was held.
+-- for. Where the first stops, dropping the streams without a registration restores what was held. The first changes nothing of
+-- what the ports hold by themselves.
 use Prim.Native.Nat.{ℕ, _≤_, _<_}
-use mathlib.Core.Path.{_≡_, refl, _∙_, ap}
+use mathlib.Core.Path.{_≡_, refl, _∙_, ap, ap₂}
 use mathlib.Core.List.{List, [], _∷_, _++_}
 use mathlib.Core.Bool.{Bool, true, false, cond, true≢false}
 use native.Mathlib.Nat.{le-trans}
@@ -9,26 +10,31 @@ use native.Mathlib.Omega.{arith}
 use lib.ListN.{length}
 use lib.Dec.{ltb, leb, eqb}
 use borrow.Author.Tests.{le-leb, leb-true}
-use Rattle.model.specs.State.{Cell, Stream, fresh, blank, empty}
+use Rattle.model.specs.State.{Cell, Own, Stream, fresh, blank, empty}
 use Rattle.model.specs.Settling.{held, isTalking, isHearing}
-use Rattle.model.specs.Registrations.{Act, leaveAll, leave, talk, listen, begun, change, touch, reach, apply, applyAll, together, ids, joins}
+use Rattle.model.specs.Registrations.{Act, leaveAll, leave, talk, listen, ofDomain, begun, change, touch, reach, apply, applyAll, applyOwn, applyOwns, together, ids, joins}
 use Rattle.model.proofs.Commute.{Change, Tri, less, same, more, tri, single, does-commute, act-does, touch-nil, touch-before, touch-here, touch-past}
 use Rattle.model.proofs.FrameOrder.{acts-ids, held-ids, joined, together-grows}
 use Rattle.table.specs.Held.{heldOnly}
-use Rattle.registrar.specs.Run.{Ran, stopped, ran, room, effect, effects, next, followed, run}
+use Rattle.registrar.specs.Run.{Registered, Ran, stopped, ran, room, effect, effects, ownEffect, ownEffects, after, afterAll, next, followed, run}
 
 -- A walk over acts, one list after another.
 
-pub run-append : (m : Bool) (now p : ℕ) (es fs : List Act) (s : List Stream) →
-    run m now p (es ++ fs) s ≡ followed (run m now p es s) (run m now p fs)
+pub followed-twice : (r : Ran) (f g : Registered → Ran) → followed (followed r f) g ≡ followed r (λ x. followed (f x) g)
+unfolding followed
+followed-twice (stopped x) f g = refl
+followed-twice (ran x) f g = refl
+
+pub run-append : (m : Bool) (now p : ℕ) (es fs : List Act) (x : Registered) →
+    run m now p (es ++ fs) x ≡ followed (run m now p es x) (run m now p fs)
 unfolding run
-run-append m now p [] fs s = unfold followed in refl
-run-append m now p (a ∷ es) fs s = go (next m now p a s) (run-append m now p es fs)
+run-append m now p [] fs x = unfold followed in refl
+run-append m now p (a ∷ es) fs x = go (next m now p a x) (run-append m now p es fs)
   where
-    go : (r : Ran) → ((t : List Stream) → run m now p (es ++ fs) t ≡ followed (run m now p es t) (run m now p fs)) →
+    go : (r : Ran) → ((y : Registered) → run m now p (es ++ fs) y ≡ followed (run m now p es y) (run m now p fs)) →
         followed r (run m now p (es ++ fs)) ≡ followed (followed r (run m now p es)) (run m now p fs)
-    go (stopped t) h = unfold followed in refl
-    go (ran t) h = unfold followed in (h t)
+    go (stopped y) h = unfold followed in refl
+    go (ran y) h = unfold followed in (h y)
 
 -- The StreamIDs held after acts, done or only made room for.
 
@@ -39,6 +45,7 @@ effect-ids false now p (leaveAll k) s = refl
 effect-ids false now p (leave k i) s = refl
 effect-ids false now p (talk i f v) s = joined i (λ c. c) s
 effect-ids false now p (listen i r) s = joined i (λ c. c) s
+effect-ids false now p (ofDomain d) s = refl
 
 joins-cons : (a : Act) (es : List Act) (l : List ℕ) → together (together l (joins (a ∷ []))) (joins es) ≡ together l (joins (a ∷ es))
 unfolding joins together
@@ -46,6 +53,7 @@ joins-cons (leaveAll k) es l = refl
 joins-cons (leave k i) es l = refl
 joins-cons (talk i f v) es l = refl
 joins-cons (listen i r) es l = refl
+joins-cons (ofDomain d) es l = refl
 
 pub effects-ids : (m : Bool) (now p : ℕ) (es : List Act) (s : List Stream) → ids (effects m now p es s) ≡ together (ids s) (joins es)
 unfolding effects
@@ -70,17 +78,29 @@ same-length now p es s =
 
 -- A walk with room for all goes to its end.
 
-next-ran : (m : Bool) (now p : ℕ) (a : Act) (s : List Stream) → length (effect m now p a s) ≤ 64 → next m now p a s ≡ ran (effect m now p a s)
+next-ran : (m : Bool) (now p : ℕ) (a : Act) (x : Registered) → length (effect m now p a (x .streams)) ≤ 64 → next m now p a x ≡ ran (after m now p a x)
 unfolding next
-next-ran m now p a s h = rw (le-leb _ 64 h)
+next-ran m now p a x h = rw (le-leb _ 64 h)
 
-all-ran : (m : Bool) (now p : ℕ) (es : List Act) (s : List Stream) → length (effects m now p es s) ≤ 64 → run m now p es s ≡ ran (effects m now p es s)
-unfolding run effects followed
-all-ran m now p [] s h = refl
-all-ran m now p (a ∷ es) s h =
-    let t = effect m now p a s in
-    let k : length t ≤ 64 = le-trans (effects-grow m now p es t) h in
-    rw (next-ran m now p a s k) (all-ran m now p es t h)
+all-ran : (m : Bool) (now p : ℕ) (es : List Act) (x : Registered) → length (effects m now p es (x .streams)) ≤ 64 →
+    run m now p es x ≡ ran (afterAll m now p es x)
+unfolding run effects ownEffects after afterAll followed
+all-ran m now p [] x h = refl
+all-ran m now p (a ∷ es) x h =
+    let k : length (effect m now p a (x .streams)) ≤ 64 = le-trans (effects-grow m now p es (effect m now p a (x .streams))) h in
+    rw (next-ran m now p a x k) (all-ran m now p es (after m now p a x) h)
+
+-- What the ports hold by themselves needs no room.
+
+own-same : (now p : ℕ) (es : List Act) (o : List Own) → ownEffects false now p es o ≡ o
+unfolding ownEffects ownEffect
+own-same now p [] o = refl
+own-same now p (a ∷ es) o = own-same now p es o
+
+own-applied : (now p : ℕ) (es : List Act) (o : List Own) → ownEffects true now p es o ≡ applyOwns now p es o
+unfolding ownEffects ownEffect applyOwns
+own-applied now p [] o = refl
+own-applied now p (a ∷ es) o = own-applied now p es (applyOwn now p a o)
 
 -- Room is made without a registration.
 
@@ -105,6 +125,7 @@ effect-unheld now p (leaveAll k) s = refl
 effect-unheld now p (leave k i) s = refl
 effect-unheld now p (talk i f v) s = room-unheld i s
 effect-unheld now p (listen i r) s = room-unheld i s
+effect-unheld now p (ofDomain d) s = refl
 
 -- Acts where room was made do what they do without it.
 
@@ -128,6 +149,7 @@ act-again now p (leaveAll k) s = refl
 act-again now p (leave k i) s = refl
 act-again now p (talk i f v) s = again i _ s
 act-again now p (listen i r) s = again i _ s
+act-again now p (ofDomain d) s = refl
 
 room-commutes : (i now p : ℕ) (a : Act) (s : List Stream) → apply now p a (touch true i (λ c. c) s) ≡ touch true i (λ c. c) (apply now p a s)
 room-commutes i now p a s =
@@ -139,6 +161,7 @@ act-commutes now p a (leaveAll k) s = refl
 act-commutes now p a (leave k i) s = refl
 act-commutes now p a (talk i f v) s = room-commutes i now p a s
 act-commutes now p a (listen i r) s = room-commutes i now p a s
+act-commutes now p a (ofDomain d) s = refl
 
 act-past : (now p : ℕ) (a : Act) (es : List Act) (s : List Stream) →
     apply now p a (effects false now p es s) ≡ effects false now p es (apply now p a s)
@@ -156,36 +179,56 @@ applied-after-room now p (a ∷ es) s =
 
 -- The two walks.
 
-module _ (now p : ℕ) where
-  pub room-made : (es : List Act) (s : List Stream) → length (applyAll now p es s) ≤ 64 → run false now p es s ≡ ran (effects false now p es s)
-  room-made es s h = all-ran false now p es s (rw (same-length now p es s) h)
+-- what is registered, with other streams
+abbrev pub streaming : List Stream → Registered → Registered
+streaming s x = record { streams = s; own = x .own }
 
-  pub applied : (es : List Act) (s : List Stream) → length (applyAll now p es s) ≤ 64 →
-      run true now p es (effects false now p es s) ≡ ran (applyAll now p es s)
-  applied es s h =
-      let e : effects true now p es (effects false now p es s) ≡ applyAll now p es s =
-      effects-applied now p es (effects false now p es s) ∙ applied-after-room now p es s in
-      all-ran true now p es (effects false now p es s) (rw e h) ∙ ap ran e
+module _ (now p : ℕ) where
+  -- all acts done
+  unfoldable pub applied : List Act → Registered → Registered
+  applied es x = record { streams = applyAll now p es (x .streams); own = applyOwns now p es (x .own) }
+
+  pub room-made : (es : List Act) (x : Registered) → length (applyAll now p es (x .streams)) ≤ 64 →
+      run false now p es x ≡ ran (streaming (effects false now p es (x .streams)) x)
+  unfolding afterAll
+  room-made es x h =
+      all-ran false now p es x (rw (same-length now p es (x .streams)) h)
+      ∙ ap (λ (o : List Own). ran record { streams = effects false now p es (x .streams); own = o }) (own-same now p es (x .own))
+
+  pub all-applied : (es : List Act) (x : Registered) → length (applyAll now p es (x .streams)) ≤ 64 →
+      run true now p es (streaming (effects false now p es (x .streams)) x) ≡ ran (applied es x)
+  unfolding afterAll applied
+  all-applied es x h =
+      let s = effects false now p es (x .streams) in
+      let e : effects true now p es s ≡ applyAll now p es (x .streams) =
+      effects-applied now p es s ∙ applied-after-room now p es (x .streams) in
+      all-ran true now p es (streaming s x) (rw e h)
+      ∙ ap₂ (λ (s : List Stream) (o : List Own). ran record { streams = s; own = o }) e (own-applied now p es (x .own))
 
   -- the streams held before and no other have a registration where the first walk stopped
-  pub record Lacking (es : List Act) (s : List Stream) : Type 0 where
+  pub record Lacking (es : List Act) (x : Registered) : Type 0 where
     pub left : List Stream
-    pub stops : run false now p es s ≡ stopped left
-    pub restored : heldOnly left ≡ heldOnly s
+    pub stops : run false now p es x ≡ stopped (streaming left x)
+    pub restored : heldOnly left ≡ heldOnly (x .streams)
 
-  lacking : (es : List Act) (s : List Stream) → length s ≤ 64 → 64 < length (effects false now p es s) → Lacking es s
+  lacking : (es : List Act) (x : Registered) → length (x .streams) ≤ 64 → 64 < length (effects false now p es (x .streams)) → Lacking es x
   unfolding effects run followed
-  lacking [] s fits h = absurd (omega arith)
-  lacking (a ∷ es) s fits h = go (leb (length t) 64) refl (lacking es t)
+  lacking [] x fits h = absurd (omega arith)
+  lacking (a ∷ es) x fits h = go (leb (length t) 64) refl (lacking es (streaming t x))
     where
       t : List Stream
-      t = effect false now p a s
+      t = effect false now p a (x .streams)
 
-      go : (b : Bool) → leb (length t) 64 ≡ b → (length t ≤ 64 → 64 < length (effects false now p es t) → Lacking es t) → Lacking (a ∷ es) s
+      go : (b : Bool) → leb (length t) 64 ≡ b →
+          (length t ≤ 64 → 64 < length (effects false now p es t) → Lacking es (streaming t x)) → Lacking (a ∷ es) x
       go true e ih =
           let r = ih (leb-true _ 64 e) h in
-          record { left = r .left; stops = unfold next in (rw e (r .stops)); restored = r .restored ∙ effect-unheld now p a s }
-      go false e ih = record { left = s; stops = unfold next in (rw e); restored = refl }
+          record {
+            left = r .left;
+            stops = unfold next after ownEffect in (rw e (r .stops));
+            restored = r .restored ∙ effect-unheld now p a (x .streams);
+          }
+      go false e ih = record { left = x .streams; stops = unfold next in (rw e); restored = refl }
 
-  pub room-lacking : (es : List Act) (s : List Stream) → length s ≤ 64 → 64 < length (applyAll now p es s) → Lacking es s
-  room-lacking es s fits h = lacking es s fits (rw (same-length now p es s) h)
+  pub room-lacking : (es : List Act) (x : Registered) → length (x .streams) ≤ 64 → 64 < length (applyAll now p es (x .streams)) → Lacking es x
+  room-lacking es x fits h = lacking es x fits (rw (same-length now p es (x .streams)) h)

@@ -37,7 +37,7 @@ leaving-id p now k x = refl
 pub all-left : (p : ℕ) (k : Kind) (t u : List ℕ) → Laid t → u ≡ encode (holding (decode t) (map (leaving p (decode t .clock) k) (decode t .streams))) →
     Walked true p (leaveAll k ∷ []) t true u
 unfolding done effect apply reach does
-all-left p k t u l e = act-done true p (leaveAll k) t u l tt (rw (length-map (decode t .streams) (leaving p (decode t .clock) k)) (laid-fits t l .at-most-64)) e
+all-left p k t u l e = act-done true p (leaveAll k) t tt u l tt (rw (length-map (decode t .streams) (leaving p (decode t .clock) k)) (laid-fits t l .at-most-64)) e
 
 -- On a table: the cell of the stream found.
 
@@ -60,15 +60,15 @@ module _ (p : ℕ) (k : Kind) (t : List ℕ) (l : Laid t) (i : ℕ) (small : i <
   unfolding done effect apply reach holding
   left-unheld n e =
       let s = decode t .streams in
-      act-done true p (leave k i) t t l small leaves-as-many (laid-is t l ∙ ap (λ (x : List Stream). encode (holding (decode t) x)) (sym (at-gap i n s e .untouched _)))
+      act-done true p (leave k i) t tt t l small leaves-as-many (laid-is t l ∙ ap (λ (x : List Stream). encode (holding (decode t) x)) (sym (at-gap i n s e .untouched _)))
 
   pub left-held : (n now : ℕ) → foundAt i 0 (ids (decode t .streams)) ≡ At n → now ≡ decode t .clock
       → (u : List ℕ) → u ≡ encode (withCell n p (quit now k) (decode t)) → Walked true p (leave k i ∷ []) t true u
   unfolding done effect apply reach does
   left-held n now e c u q =
-      act-done true p (leave k i) t u l small leaves-as-many ((rw c at q) ∙ cell-touched t i n e false p (quit (decode t .clock) k))
+      act-done true p (leave k i) t tt u l small leaves-as-many ((rw c at q) ∙ cell-touched t i n e false p (quit (decode t .clock) k))
 
   -- while room is made
   pub left-room : Walked false p (leave k i ∷ []) t true t
   unfolding done effect room holding
-  left-room = act-done false p (leave k i) t t l small (laid-fits t l .at-most-64) (laid-is t l)
+  left-room = act-done false p (leave k i) t tt t l small (laid-fits t l .at-most-64) (laid-is t l)

@@ -11,8 +11,8 @@ use borrow.Author.Tests.{lt-ltb, eq-eqb, eqb-true, eqb-false, ne-eqb}
 use Rattle.octets.specs.Be.{beAt}
 use Rattle.octets.specs.Fields.{fields}
 use Rattle.octets.proofs.Fields.{beAt-fits}
-use Rattle.model.specs.Registrations.{Kind, advertises, faileds, listeners, Act, leaveAll, leave, talk, listen}
-use Rattle.model.specs.Frames.{registers, firstWidths, firstLength, runsPast, healthValue, idValue, valueActs, talkerAct, listenerAct, hearing, eventOf, fourOf, Asking, nothingAsked, join, withdraw, asking, threePacked, fourPacked}
+use Rattle.model.specs.Registrations.{Kind, advertises, faileds, listeners, Act, leaveAll, leave, talk, listen, ofDomain}
+use Rattle.model.specs.Frames.{registers, firstWidths, firstLength, runsPast, healthValue, idValue, valueActs, talkerAct, listenerAct, hearing, eventOf, fourOf, asking, threePacked, fourPacked, Asking, nothingAsked, join, withdraw}
 use Rattle.model.specs.Lists.{Octets}
 use Rattle.model.proofs.Parts.{octets-at, octets-of}
 use Rattle.model.proofs.Valid.{ValidHealth}
@@ -22,7 +22,7 @@ use Rattle.model.specs.Frames as frames
 use Rattle.msrpdu.specs.Reader.{eventMeant, eventIn, fourIn, streamIdIn}
 use Rattle.msrpdu.specs.declared.Event.{Event}
 use Rattle.msrpdu.specs.declared.ValueRead.the-variants.{Value, Past}
-use Rattle.msrpdu.proofs.Laws.{value-short, value-read}
+use Rattle.msrpdu.proofs.Laws.{value-read}
 use Rattle.cells.specs.Acts.{kindAt, talkOf}
 use Rattle.registrar.specs.declared.Asked.the-variants.{Nothing}
 use Rattle.registrar.specs.Acts.{HasValue, attributeAt, vectorOf, joinOf, askedBy, askedOf, actsAsked}
@@ -54,6 +54,7 @@ Joins i (leaveAll k) = ⊥
 Joins i (leave k j) = ⊥
 Joins i (talk j f v) = i ≡ j
 Joins i (listen j r) = i ≡ j
+Joins i (ofDomain d) = ⊥
 
 pub join-joins : (k : Kind) (first : List ℕ) (four n i : ℕ) → i ≡ beAt 8 first 0 + n → Joins i (joinOf k first four n)
 unfolding joinOf talkOf
@@ -109,18 +110,19 @@ listener-value first n four e = go (eqb four 0) refl
     go true q = rw (eqb-true four 0 q) (unfold actsAsked in (listener-ignores first n 0 (asking e)))
     go false q = listener-asks first n four (eqb-false four 0 q) e
 
-module _ (leaves : Bool) (values : ℕ) (first three four : List ℕ) (n : ℕ) (there : n / 3 < length three) where
-  event-there : eventIn three n ≡ eventMeant (frames.event (threePacked (getD three (n / 3) 0) (n % 3)))
-  unfolding eventIn
-  event-there = rw (lt-ltb (n / 3) (length three) there)
+pub event-there : (three : List ℕ) (n : ℕ) → n / 3 < length three →
+    eventIn three n ≡ eventMeant (frames.event (threePacked (getD three (n / 3) 0) (n % 3)))
+unfolding eventIn
+event-there three n there = rw (lt-ltb (n / 3) (length three) there)
 
+module _ (leaves : Bool) (values : ℕ) (first three four : List ℕ) (n : ℕ) (there : n / 3 < length three) where
   pub value-acts : (kind : ℕ) → 1 ≤ kind → kind ≤ 3 →
       valueActs (vectorOf kind leaves values first three four) n ≡ actsAsked (kindAt kind) first n (askedOf kind three four n)
   unfolding valueActs vectorOf attributeAt kindAt askedOf eventOf
   value-acts zero p q = absurd (omega arith)
-  value-acts (suc zero) p q = rw event-there (talker-asks first n (fourIn four n) advertises (join-talks 1 first (fourIn four n) n p (omega arith)) _)
-  value-acts (suc (suc zero)) p q = rw event-there (talker-asks first n (fourIn four n) faileds (join-talks 2 first (fourIn four n) n p (omega arith)) _)
-  value-acts (suc (suc (suc zero))) p q = rw event-there (unfold fourOf fourIn in (listener-value first n _ _))
+  value-acts (suc zero) p q = rw (event-there three n there) (talker-asks first n (fourIn four n) advertises (join-talks 1 first (fourIn four n) n p (omega arith)) _)
+  value-acts (suc (suc zero)) p q = rw (event-there three n there) (talker-asks first n (fourIn four n) faileds (join-talks 2 first (fourIn four n) n p (omega arith)) _)
+  value-acts (suc (suc (suc zero))) p q = rw (event-there three n there) (unfold fourOf fourIn in (listener-value first n _ _))
   value-acts (suc (suc (suc (suc k)))) p q = absurd (omega arith)
 
 -- What is asked for, by the numbers read: f is the four-packed event, e the other.
@@ -201,7 +203,7 @@ pub join-fits : (kind : ℕ) (first : List ℕ) (n : ℕ) → HasValue kind firs
     Fits (joinOf (kindAt kind) first four n)
 join-fits kind first n v h o four = joins-within first n four (octets-of first o) (kindAt kind) (runs-within kind first n v h)
 
--- What the reader gives of it: its StreamID, or nothing of a Domain value.
+-- What the reader gives of it: its StreamID.
 
 has-id : (k : Kind) → 8 ≤ firstLength (registers k)
 unfolding firstLength
@@ -219,28 +221,5 @@ value-id kind first n v h =
 pub value-id-is : (kind : ℕ) (first : List ℕ) (n i : ℕ) → HasValue kind first n → kind ≤ 3 → streamIdIn first n ≡ Value i → i ≡ beAt 8 first 0 + n
 value-id-is kind first n i v h e = let p = value-id kind first n v h in cc
 
-domain-past : (kind : ℕ) (first : List ℕ) (n : ℕ) → HasValue kind first n → kind ≡ 4 → streamIdIn first n ≡ Past
-unfolding streamIdIn attributeAt firstLength
-domain-past kind first n v h =
-    let e : length first ≡ 4 = rw h at (v .octets) in
-    value-short 8 2 0 first n (omega arith)
-
-pub value-registers : (kind : ℕ) (first : List ℕ) (n i : ℕ) → HasValue kind first n → streamIdIn first n ≡ Value i → kind ≤ 3
-value-registers kind first n i v e = go (ℕ-discrete kind 4)
-  where
-    go : Dec (kind ≡ 4) → kind ≤ 3
-    go (yes h) = let p = domain-past kind first n v h in let z : _≡_ {A = ℕ} 0 1 = cc in absurd (omega arith)
-    go (no h) = omega (arith, v .high)
-
-domain-acts : (kind : ℕ) (leaves : Bool) (values : ℕ) (first three four : List ℕ) (n : ℕ) → kind ≡ 4 →
-    valueActs (vectorOf kind leaves values first three four) n ≡ []
-unfolding valueActs vectorOf attributeAt
-domain-acts kind leaves values first three four n h = rw h
-
-pub no-value-acts : (kind : ℕ) (leaves : Bool) (values : ℕ) (first three four : List ℕ) (n : ℕ) → HasValue kind first n → streamIdIn first n ≡ Past →
-    valueActs (vectorOf kind leaves values first three four) n ≡ []
-no-value-acts kind leaves values first three four n v e = go (ℕ-discrete kind 4)
-  where
-    go : Dec (kind ≡ 4) → valueActs (vectorOf kind leaves values first three four) n ≡ []
-    go (yes h) = domain-acts kind leaves values first three four n h
-    go (no h) = let p = value-id kind first n v (omega (arith, v .high)) in let z : _≡_ {A = ℕ} 0 1 = cc in absurd (omega arith)
+pub not-past : (kind : ℕ) (first : List ℕ) (n : ℕ) → HasValue kind first n → kind ≤ 3 → streamIdIn first n ≡ Past → ⊥
+not-past kind first n v h e = let p = value-id kind first n v h in let z : _≡_ {A = ℕ} 0 1 = cc in omega arith

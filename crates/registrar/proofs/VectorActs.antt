@@ -10,7 +10,7 @@ use lib.Dec.{ltb}
 use borrow.Author.Tests.{ltb-false, le-ltb}
 use Rattle.octets.specs.Be.{beAt}
 use Rattle.octets.specs.Parts.{part}
-use Rattle.model.specs.Registrations.{Act, advertises, faileds, listeners, leaveAll, holding}
+use Rattle.model.specs.Registrations.{Act, advertises, faileds, listeners, leaveAll, ofDomain, leaveAllDomains, holding}
 use Rattle.model.specs.Frames.{Attribute, registers, domain, known, typeOctet, threeLength, runsPast, Vector, vectorAt, eventOf, fourOf, valueActs, valuesActs, leaveAllActs, vectorActs}
 use Rattle.model.specs.Laid.{Laid}
 use Rattle.model.proofs.FoundVectors.{Sound, last-within, or-left, or-right}
@@ -24,7 +24,7 @@ use Rattle.registrar.specs.Acts.{attributeAt, vectorOf, HasValue}
 use Rattle.registrar.specs.Run.{room, effect}
 use Rattle.registrar.specs.Walked.{Walked}
 use Rattle.registrar.proofs.ValueActs.{attribute-kind}
-use Rattle.registrar.proofs.Walks.{walked-none, done, act-done}
+use Rattle.registrar.proofs.Walks.{walked-none, done, act-done, domain-room}
 
 -- Values.
 
@@ -39,14 +39,14 @@ module _ (v : Vector) (n count : ℕ) where
 
 -- LeaveAll.
 
-pub domain-leaves : (kind : ℕ) (b : Bool) → kind ≡ 4 → leaveAllActs (attributeAt kind) b ≡ []
+pub domain-leaves : (kind : ℕ) (b : Bool) → kind ≡ 4 → b ≡ true → leaveAllActs (attributeAt kind) b ≡ ofDomain leaveAllDomains ∷ []
 unfolding attributeAt leaveAllActs
-domain-leaves kind b e = rw e
+domain-leaves kind b e d = rw (e, d)
 
 pub none-leaves : (k : Attribute) (b : Bool) → b ≡ false → leaveAllActs k b ≡ []
 unfolding leaveAllActs
 none-leaves (registers k) b e = rw e
-none-leaves domain b e = refl
+none-leaves domain b e = rw e
 
 pub all-leaves : (kind : ℕ) (b : Bool) → 1 ≤ kind → kind ≤ 3 → b ≡ true → leaveAllActs (attributeAt kind) b ≡ leaveAll (kindAt kind) ∷ []
 unfolding leaveAllActs
@@ -55,9 +55,10 @@ all-leaves kind b p q e = rw (attribute-kind kind p q, e)
 -- it asks for no room
 pub leaves-room : (p : ℕ) (k : Attribute) (b : Bool) (t : List ℕ) → Laid t → Walked false p (leaveAllActs k b) t true t
 unfolding leaveAllActs
-leaves-room p domain b t l = walked-none false p t l
+leaves-room p domain false t l = walked-none false p t l
+leaves-room p domain true t l = domain-room p leaveAllDomains t l tt
 leaves-room p (registers k) false t l = walked-none false p t l
-leaves-room p (registers k) true t l = unfold done effect room holding in (act-done false p (leaveAll k) t t l tt (laid-fits t l .at-most-64) (laid-is t l))
+leaves-room p (registers k) true t l = unfold done effect room holding in (act-done false p (leaveAll k) t tt t l tt (laid-fits t l .at-most-64) (laid-is t l))
 
 -- A vector that was read.
 

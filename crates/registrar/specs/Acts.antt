@@ -7,7 +7,7 @@ use lib.ListN.{length}
 use lib.Dec.{eqb}
 use Rattle.octets.specs.Be.{beAt}
 use Rattle.octets.specs.Fields.{fields}
-use Rattle.model.specs.Registrations.{Kind, advertises, faileds, listeners, Act, leave, listen}
+use Rattle.model.specs.Registrations.{Kind, advertises, faileds, listeners, Act, leave, listen, ofDomain, leaveDomain, joinDomain}
 use Rattle.model.specs.Frames.{Attribute, registers, domain, firstWidths, firstLength, runsPast, Vector, Walk, fault, found, frameActs, idValue}
 use Rattle.model.specs.Table.{toReady}
 use Rattle.msrpdu.specs.declared.Event.{Event}
@@ -85,8 +85,14 @@ Declares kind Nothing = Unit {0}
 Declares kind (Join four) = kind ≡ 3 → (1 ≤ four) × (four ≤ 3)
 Declares kind Leave = Unit {0}
 
--- the acts
+-- the acts of a value that registers a stream
 unfoldable pub actsAsked : Kind → List ℕ → ℕ → Asked → List Act
 actsAsked k first n Nothing = []
 actsAsked k first n (Join four) = joinOf k first four n ∷ []
 actsAsked k first n Leave = leave k (beAt 8 first 0 + n) ∷ []
+
+-- the acts of a Domain value that has a slot
+unfoldable pub domainAsked : ℕ → ℕ → Asked → List Act
+domainAsked slot vlan Nothing = []
+domainAsked slot vlan (Join four) = ofDomain (joinDomain slot vlan) ∷ []
+domainAsked slot vlan Leave = ofDomain (leaveDomain slot) ∷ []

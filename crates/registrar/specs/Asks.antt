@@ -63,6 +63,13 @@ pub record ValueGiven (t : List ℕ) (w : ListWalk) (first three : List ℕ) (n 
   pub event : n / 3 < length three
   pub value : HasValue (w .kind) first n
 
+-- one of a Domain vector
+pub record DomainGiven (t : List ℕ) (p : ℕ) (first three : List ℕ) (n : ℕ) : Type 0 where
+  pub laid : Laid t
+  pub port : p < 8
+  pub event : n / 3 < length three
+  pub value : HasValue 4 first n
+
 -- a join of it, of its StreamID, and for a Listener with a declaration type
 pub record JoinGiven (t : List ℕ) (w : ListWalk) (i : ℕ) (first : List ℕ) (f n : ℕ) : Type 0 where
   pub walk : WalkGiven t w

@@ -1,17 +1,30 @@
--- What a walk over the acts of a frame does to the streams held. A frame is walked twice: first room is made, an empty record for
--- each StreamID that it joins and that is not held; then the acts are done. A walk stops where a 65th record would be needed.
+-- What a walk over the acts of a frame does to the streams held, and to what the ports hold by themselves. A frame is walked
+-- twice: first room is made, an empty record for each StreamID that it joins and that is not held; then the acts are done. A walk
+-- stops where a 65th record would be needed.
 use Prim.Native.Nat.{ℕ}
 use mathlib.Core.List.{List, [], _∷_}
 use mathlib.Core.Bool.{Bool, true, false, cond}
 use lib.ListN.{length}
 use lib.Dec.{leb}
-use Rattle.model.specs.State.{Stream}
-use Rattle.model.specs.Registrations.{Act, leaveAll, leave, talk, listen, touch, apply}
+use Rattle.model.specs.State.{Own, Stream, Bridge}
+use Rattle.model.specs.Registrations.{Act, leaveAll, leave, talk, listen, ofDomain, touch, apply, applyOwn, holding, owning}
 
--- the streams that a walk left, stopped or to its end
+-- what acts change
+pub record Registered : Type 0 where
+  pub streams : List Stream
+  pub own : List Own
+
+-- of a bridge, and a bridge with it
+abbrev pub registeredOf : Bridge → Registered
+registeredOf b = record { streams = b .streams; own = b .own }
+
+unfoldable pub keeping : Bridge → Registered → Bridge
+keeping b x = owning (holding b (x .streams)) (x .own)
+
+-- what a walk left, stopped or to its end
 pub data Ran : Type 0 where
-  stopped : List Stream → Ran
-  ran : List Stream → Ran
+  stopped : Registered → Ran
+  ran : Registered → Ran
 
 -- an empty record for a stream that is joined and not held
 unfoldable pub room : Act → List Stream → List Stream
@@ -19,8 +32,9 @@ room (leaveAll k) s = s
 room (leave k i) s = s
 room (talk i f v) s = touch true i (λ c. c) s
 room (listen i r) s = touch true i (λ c. c) s
+room (ofDomain d) s = s
 
--- what one act does on a walk that applies, or that makes room
+-- what one act does on a walk that applies, or that makes room: to the streams
 unfoldable pub effect : Bool → ℕ → ℕ → Act → List Stream → List Stream
 effect true now p a s = apply now p a s
 effect false now p a s = room a s
@@ -29,23 +43,38 @@ unfoldable pub effects : Bool → ℕ → ℕ → List Act → List Stream → L
 effects m now p [] s = s
 effects m now p (a ∷ es) s = effects m now p es (effect m now p a s)
 
+-- and to what the ports hold by themselves
+unfoldable pub ownEffect : Bool → ℕ → ℕ → Act → List Own → List Own
+ownEffect true now p a o = applyOwn now p a o
+ownEffect false now p a o = o
+
+unfoldable pub ownEffects : Bool → ℕ → ℕ → List Act → List Own → List Own
+ownEffects m now p [] o = o
+ownEffects m now p (a ∷ es) o = ownEffects m now p es (ownEffect m now p a o)
+
+unfoldable pub after : Bool → ℕ → ℕ → Act → Registered → Registered
+after m now p a x = record { streams = effect m now p a (x .streams); own = ownEffect m now p a (x .own) }
+
+unfoldable pub afterAll : Bool → ℕ → ℕ → List Act → Registered → Registered
+afterAll m now p es x = record { streams = effects m now p es (x .streams); own = ownEffects m now p es (x .own) }
+
 -- it stops where there is no room
-unfoldable pub next : Bool → ℕ → ℕ → Act → List Stream → Ran
-next m now p a s = cond (leb (length (effect m now p a s)) 64) (ran (effect m now p a s)) (stopped s)
+unfoldable pub next : Bool → ℕ → ℕ → Act → Registered → Ran
+next m now p a x = cond (leb (length (effect m now p a (x .streams))) 64) (ran (after m now p a x)) (stopped x)
 
-unfoldable pub followed : Ran → (List Stream → Ran) → Ran
-followed (stopped s) f = stopped s
-followed (ran s) f = f s
+unfoldable pub followed : Ran → (Registered → Ran) → Ran
+followed (stopped x) f = stopped x
+followed (ran x) f = f x
 
-unfoldable pub run : Bool → ℕ → ℕ → List Act → List Stream → Ran
-run m now p [] s = ran s
-run m now p (a ∷ es) s = followed (next m now p a s) (run m now p es)
+unfoldable pub run : Bool → ℕ → ℕ → List Act → Registered → Ran
+run m now p [] x = ran x
+run m now p (a ∷ es) x = followed (next m now p a x) (run m now p es)
 
 -- what it leaves, and whether it went to its end
-unfoldable pub streamsOf : Ran → List Stream
-streamsOf (stopped s) = s
-streamsOf (ran s) = s
+unfoldable pub leftBy : Ran → Registered
+leftBy (stopped x) = x
+leftBy (ran x) = x
 
 unfoldable pub went : Ran → Bool
-went (stopped s) = false
-went (ran s) = true
+went (stopped x) = false
+went (ran x) = true

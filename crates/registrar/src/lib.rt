@@ -5,24 +5,30 @@ ghost use mathlib.Core.List.{_∷_, []};
 ghost use Prim.Native.Nat.{ℕ, suc, _≤_, _<_};
 ghost use lib.ListN.{length};
 ghost use Rattle.model.specs.Lists.{All};
+ghost use Rattle.model.specs.State.{stays, domain};
 ghost use Rattle.model.specs.Settling.{held};
 ghost use Rattle.model.specs.Laid.{Laid};
 ghost use Rattle.model.specs.Table.{encode, decode};
-ghost use Rattle.model.specs.Registrations.{leaveAll, leave, quit, does};
+ghost use Rattle.model.specs.Registrations.{leaveAll, leave, quit, does, ofDomain, leaveAllDomains, quitDomain};
 ghost use Rattle.model.specs.Frames.{vectors, walk, valueActs, valuesActs, leaveAllActs, vectorActs};
-ghost use Rattle.table.specs.Updates.{withCell};
+ghost use Rattle.table.specs.Updates.{withCell, withSlot};
+ghost use Rattle.table.specs.Places.{PortIn, SlotIn};
 ghost use Rattle.cells.specs.Acts.{kindAt};
 ghost use Rattle.msrpdu.specs.Reader.{headVector};
 ghost use Rattle.registrar.specs.Walked.{Walked, Receives};
 ghost use Rattle.registrar.specs.Enrols.{Enrols};
-ghost use Rattle.registrar.specs.Asks.{QuitGiven, LeaveGiven, CellGiven, FrameGiven, WalkGiven, ListGiven, VectorGiven, ValuesGiven, ValueGiven, JoinGiven};
+ghost use Rattle.registrar.specs.Asks.{QuitGiven, DomainGiven, LeaveGiven, CellGiven, FrameGiven, WalkGiven, ListGiven, VectorGiven, ValuesGiven, ValueGiven, JoinGiven};
 ghost use Rattle.registrar.specs.Acts.{actsOf, attributeAt, vectorOf, joinOf, askedOf, Declares};
+use msrpdu::DomainRead;
 use msrpdu::Event;
 use msrpdu::MessageRead;
 use msrpdu::ValueRead;
 use msrpdu::VectorHead;
 use msrpdu::VectorRead;
 use table::Found;
+
+// The place of the VLAN in a Domain FirstValue.
+const FIRST_DOMAIN_VLAN: usize = 2;
 
 // What the events of a value ask for: a join, of a Listener with its four-packed event, a leave, or nothing.
 enum Asked {
@@ -65,6 +71,37 @@ fn join_cell(table: &mut [u8], k: usize, walk: ListWalk, first: &[u8], four: u8,
         cells::join_listener(&mut table[a..end], four);
     } else {
         cells::join_talker(&mut table[a..end], walk.kind, first, n);
+    }
+}
+
+// Lv or LeaveAll of a Domain value of a port.
+fn quit_slot(table: &mut [u8], p: usize, slot: usize, clock: u32)
+    requires { ⌜ SlotIn (now table) p slot ⌝ }
+    ensures { λ _. ⌜ now (table .exit) ≡ encode (withSlot p slot (quitDomain clock) (decode (now (table .entry)))) ⌝ }
+{
+    let a = table::slot_in(table, p, slot);
+    domains::quit(&mut table[a..a + table::SLOT], clock);
+}
+
+// A join of a Domain value of a port, with its VLAN.
+fn join_slot(table: &mut [u8], p: usize, slot: usize, vlan: u64)
+    requires { ⌜ SlotIn (now table) p slot × (vlan < 65536) ⌝ }
+    ensures { λ _. ⌜ now (table .exit) ≡ encode (withSlot p slot (λ d. domain vlan stays) (decode (now (table .entry)))) ⌝ }
+{
+    let a = table::slot_in(table, p, slot);
+    domains::join(&mut table[a..a + table::SLOT], vlan);
+}
+
+// LeaveAll of the Domain values of a port.
+fn leave_domains(table: &mut [u8], p: usize)
+    requires { ⌜ PortIn (now table) p ⌝ }
+    ensures { λ _. ⌜ Walked true p (ofDomain leaveAllDomains ∷ []) (now (table .entry)) true (now (table .exit)) ⌝ }
+{
+    let now = table::clock(table);
+    let mut slot: usize = 0;
+    while slot < table::SLOTS {
+        quit_slot(table, p, slot, now);
+        slot += 1;
     }
 }
 
@@ -149,7 +186,31 @@ fn ask(kind: u8, events: &[u8], fours: &[u8], n: usize) -> Asked
     }
 }
 
-// Value n of a vector at a port: "A value is applied only if the vector reader gave one". A Domain value has no StreamID.
+// Value n of a Domain vector at a port: "other values are checked and dropped".
+fn domain_value(table: &mut [u8], p: usize, first: &[u8], events: &[u8], fours: &[u8], n: usize)
+    requires { ⌜ DomainGiven (now table) p (now first) (now events) n ⌝ }
+    ensures { λ _. ⌜ Walked true p
+        (valueActs (vectorOf 4 false 0 (now (first .entry)) (now (events .entry)) (now (fours .entry))) n)
+        (now (table .entry)) true (now (table .exit)) ⌝ }
+{
+    let DomainRead::Slot(slot) = msrpdu::domain_slot(first, n) else {
+        return;
+    };
+    let a = ask(4, events, fours, n);
+    match a {
+        Asked::Nothing => {}
+        Asked::Join(_) => {
+            let vlan = octets::get(first, FIRST_DOMAIN_VLAN, 2);
+            join_slot(table, p, slot, vlan);
+        }
+        Asked::Leave => {
+            let now = table::clock(table);
+            quit_slot(table, p, slot, now);
+        }
+    }
+}
+
+// Value n of a vector at a port: "A value is applied only if the vector reader gave one". A Domain value asks for no room.
 fn value(
     table: &mut [u8],
     walk: ListWalk,
@@ -163,6 +224,12 @@ fn value(
         (valueActs (vectorOf (walk .kind) false 0 (now (first .entry)) (now (events .entry)) (now (fours .entry))) n)
         (now (table .entry)) r (now (table .exit)) ⌝ }
 {
+    if walk.kind == 4 {
+        if walk.applying {
+            domain_value(table, walk.p, first, events, fours, n);
+        }
+        return true;
+    }
     let ValueRead::Value(id) = msrpdu::stream_id(first, n) else {
         return true;
     };
@@ -217,6 +284,7 @@ fn begin_all(table: &mut [u8], walk: ListWalk, leaves: bool)
         return;
     }
     if walk.kind == 4 {
+        leave_domains(table, walk.p);
         return;
     }
     leave_all(table, walk.p, walk.kind);

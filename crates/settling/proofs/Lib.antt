@@ -1,3 +1,4 @@
+pub mod Edges
 pub mod Removal
 pub mod Merging
 pub mod Sharing

@@ -6,17 +6,18 @@ use Prim.Native.Nat.{ℕ, _^_, _<_}
 use lib.ListN.{replicate, length-map}
 use Rattle.model.specs.Lists.{All}
 use Rattle.model.specs.State.{Settings, Cell, Stream, Bridge, noTotals}
-use Rattle.model.specs.Registrations.{change, holding}
-use Rattle.model.specs.Settling.{expireCell, expire, remain}
+use Rattle.model.specs.Registrations.{change, holding, owning}
+use Rattle.model.specs.Settling.{expireCell, expire, remain, decideOwns}
 use Rattle.model.specs.Table.{encode, decode}
 use Rattle.model.specs.Laid.{FitCell, FitStream, FitBridge, Laid}
 use Rattle.model.proofs.Fits.{laid-fits}
 use Rattle.cells.proofs.Keeps.{expire-fits}
 use Rattle.table.specs.Held.{heldOnly}
 use Rattle.table.specs.Updates.{clocked, totalled}
-use Rattle.table.proofs.Fitting.{map-fits, held-fits, clocked-fits, cleared-fits}
+use Rattle.table.proofs.Fitting.{map-fits, held-fits, clocked-fits, cleared-fits, owning-fits}
 use Rattle.table.proofs.ByPlace.{encoded-laid, encoded-read}
 use Rattle.settling.specs.Removed.{removed}
+use Rattle.settling.proofs.Edges.{decisions-fit, decisions-eight}
 
 -- Expiry of one stream.
 
@@ -72,8 +73,16 @@ module _ (time : ℕ) (small : time < 2 ^ 32) (b : Bridge) (w : FitBridge b) whe
   clocked-left-fits : FitBridge (clocked time left)
   clocked-left-fits = clocked-fits left left-fits time small
 
+  abbrev cleared : Bridge
+  cleared = totalled (replicate 8 noTotals) (clocked time left)
+
+  all-cleared-fits : FitBridge cleared
+  all-cleared-fits = cleared-fits (clocked time left) clocked-left-fits
+
   pub removed-fits : FitBridge (removed time b)
-  removed-fits = cleared-fits (clocked time left) clocked-left-fits
+  removed-fits =
+      owning-fits cleared all-cleared-fits (decideOwns (b .settings) time (b .own)) (decisions-eight (b .settings) time (b .own))
+      (decisions-fit (b .settings) time (b .own) (w .own))
 
 -- the octets after each step
 module _ (t : List ℕ) (l : Laid t) (time : ℕ) (small : time < 2 ^ 32) (t₁ : List ℕ)
@@ -101,8 +110,19 @@ module _ (t : List ℕ) (l : Laid t) (time : ℕ) (small : time < 2 ^ 32) (t₁ 
       pub clocked-laid : Laid t₃
       clocked-laid = encoded-laid (clocked time (left time small (decode t) w)) (clocked-left-fits time small (decode t) w) t₃ clocked-is
 
-      pub removed-octets : (t₄ : List ℕ) → t₄ ≡ encode (totalled (replicate 8 noTotals) (decode t₃)) → t₄ ≡ encode (removed time (decode t))
-      removed-octets t₄ e₄ =
-          e₄
-          ∙ ap (λ (c : Bridge). encode (totalled (replicate 8 noTotals) c))
-          (encoded-read (clocked time (left time small (decode t) w)) (clocked-left-fits time small (decode t) w) t₃ clocked-is)
+      module _ (t₄ : List ℕ) (e₄ : t₄ ≡ encode (totalled (replicate 8 noTotals) (decode t₃))) where
+        cleared-is : t₄ ≡ encode (cleared time small (decode t) w)
+        cleared-is =
+            e₄
+            ∙ ap (λ (c : Bridge). encode (totalled (replicate 8 noTotals) c))
+            (encoded-read (clocked time (left time small (decode t) w)) (clocked-left-fits time small (decode t) w) t₃ clocked-is)
+
+        pub cleared-laid : Laid t₄
+        cleared-laid = encoded-laid (cleared time small (decode t) w) (all-cleared-fits time small (decode t) w) t₄ cleared-is
+
+        pub removed-octets : (t₅ : List ℕ) → t₅ ≡ encode (owning (decode t₄) (decideOwns (decode t₄ .settings) time (decode t₄ .own))) → t₅ ≡ encode (removed time (decode t))
+        removed-octets t₅ e₅ =
+            e₅
+            ∙ ap (λ (c : Bridge). encode (owning c (decideOwns (c .settings) time (c .own))))
+            (encoded-read (cleared time small (decode t) w) (all-cleared-fits time small (decode t) w) t₄ cleared-is)
+            ∙ unfold holding in refl

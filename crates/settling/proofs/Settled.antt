@@ -5,7 +5,7 @@ use Prim.Native.Nat.{ℕ, _^_, _<_}
 use native.Mathlib.Omega.{arith}
 use lib.ListN.{length}
 use Rattle.model.specs.State.{Bridge}
-use Rattle.model.specs.Registrations.{holding}
+use Rattle.model.specs.Registrations.{holding, owning}
 use Rattle.model.specs.Settling.{settle}
 use Rattle.model.specs.Table.{encode, decode}
 use Rattle.model.specs.Laid.{FitBridge, Laid}
@@ -51,7 +51,7 @@ module _ (t : List ℕ) (l : Laid t) (time : ℕ) (small : time < 2 ^ 32) (t₁ 
       w₃ = admissions-fit (length (b .settings .ports)) 0 b₂ (omega (arith, laid-fits t l .settings .eight-ports)) w₂
 
       shared-is : t₃ ≡ encode b₃
-      unfolding earlyAll holding
+      unfolding earlyAll holding owning
       shared-is =
           e₃
           ∙ ap (λ (d : Bridge). encode (admissions (length (d .settings .ports)) 0 d)) (ap decode early-is ∙ bridge-read b₂ w₂)

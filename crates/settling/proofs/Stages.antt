@@ -6,9 +6,9 @@ use Prim.Native.Nat.{ℕ, _≤_, _<_}
 use native.Mathlib.Omega.{arith}
 use lib.ListN.{length}
 use Rattle.model.specs.Lists.{tabulate}
-use Rattle.model.specs.State.{Settings, nothing, Result, Stream, Bridge, unsettled, cellAt, resultAt}
-use Rattle.model.specs.Settling.{sourceOf, isSource, registered, columnOf, passed, mergeAll, merged, decideAt, decide, remain, totalsOn, settle}
-use Rattle.model.specs.Registrations.{holding}
+use Rattle.model.specs.State.{nothing, Result, Stream, Bridge, unsettled, cellAt, resultAt}
+use Rattle.model.specs.Settling.{Scene, sourceOf, isSource, registered, columnOf, passed, mergeAll, merged, decideAt, decide, decideOwns, remain, totalsOn, settle}
+use Rattle.model.specs.Registrations.{holding, owning}
 use Rattle.model.proofs.ColumnRule.{at-place, tabulate-same}
 use Rattle.columns.specs.Stages.{shownAs, earlyAll, admissions, mergedShown, declaring, mergedAt, merging}
 use Rattle.admission.proofs.Admissions.{showing, admissions-decide}
@@ -16,15 +16,15 @@ use Rattle.settling.specs.Removed.{removed}
 
 -- A stream with its decided columns, and the merged Listener at its Talker port.
 
-module _ (st : Settings) (now : ℕ) (s : List Stream) (x : Stream) where
+module _ (sc : Scene) (now : ℕ) (s : List Stream) (x : Stream) where
   shown : Stream
-  shown = showing st now (columnOf st now s) x
+  shown = showing (sc .settings) now (columnOf sc now s) x
 
-  shown-at : (q : ℕ) → q < 8 → resultAt shown q ≡ shownAs st now x q (columnOf st now s q x)
+  shown-at : (q : ℕ) → q < 8 → resultAt shown q ≡ shownAs (sc .settings) now x q (columnOf sc now s q x)
   unfolding shown showing resultAt
-  shown-at q h = at-place (λ q. shownAs st now x q (columnOf st now s q x)) q unsettled h
+  shown-at q h = at-place (λ q. shownAs (sc .settings) now x q (columnOf sc now s q x)) q unsettled h
 
-  shown-column : (q : ℕ) → q < 8 → resultAt shown q .column ≡ columnOf st now s q x
+  shown-column : (q : ℕ) → q < 8 → resultAt shown q .column ≡ columnOf sc now s q x
   unfolding shownAs
   shown-column q h = ap (λ (r : Result). r .column) (shown-at q h)
 
@@ -32,54 +32,55 @@ module _ (st : Settings) (now : ℕ) (s : List Stream) (x : Stream) where
   unfolding shown showing cellAt
   shown-cell q = refl
 
-  merged-same : mergedShown shown ≡ merged st now s x
+  merged-same : mergedShown shown ≡ merged sc now s x
   unfolding mergedShown merged
   merged-same =
       ap mergeAll
-      (tabulate-same (λ q. passed (resultAt shown q .column) (registered (cellAt shown q))) (λ q. passed (columnOf st now s q x) (registered (cellAt x q))) 8 0
+      (tabulate-same (λ q. passed (resultAt shown q .column) (registered (cellAt shown q))) (λ q. passed (columnOf sc now s q x) (registered (cellAt x q))) 8 0
       (λ q a b. rw (shown-column q (omega arith), shown-cell q)))
 
   same-source : sourceOf shown ≡ sourceOf x
   unfolding shown showing sourceOf
   same-source = refl
 
-  decided-at : (q : ℕ) → q < 8 → mergedAt shown q ≡ decideAt st now s x q
+  decided-at : (q : ℕ) → q < 8 → mergedAt shown q ≡ decideAt sc now s x q
   unfolding mergedAt decideAt
   decided-at q h = rw (shown-at q h, merged-same, same-source) (go (isSource (sourceOf x) q))
     where
-      go : (t : Bool) → cond t (declaring (merged st now s x) (shownAs st now x q (columnOf st now s q x))) (shownAs st now x q (columnOf st now s q x))
+      go : (t : Bool) → cond t (declaring (merged sc now s x) (shownAs (sc .settings) now x q (columnOf sc now s q x))) (shownAs (sc .settings) now x q (columnOf sc now s q x))
           ≡ record {
-            column = decideAt st now s x q .column;
-            latency = decideAt st now s x q .latency;
-            entry = decideAt st now s x q .entry;
-            age = decideAt st now s x q .age;
-            declares = cond t (merged st now s x) nothing;
+            column = decideAt sc now s x q .column;
+            latency = decideAt sc now s x q .latency;
+            entry = decideAt sc now s x q .entry;
+            age = decideAt sc now s x q .age;
+            declares = cond t (merged sc now s x) nothing;
           }
       go true = unfold declaring shownAs in refl
       go false = unfold shownAs in refl
 
-  decided-stream : merging shown ≡ decide st now s x
+  decided-stream : merging shown ≡ decide sc now s x
   unfolding merging decide
   decided-stream =
       ap (λ (r : List Result). record { id = shown .id; settled = shown .settled; cells = shown .cells; results = r })
-      (tabulate-same (mergedAt shown) (decideAt st now s x) 8 0 (λ q a b. decided-at q (omega arith)))
+      (tabulate-same (mergedAt shown) (decideAt sc now s x) 8 0 (λ q a b. decided-at q (omega arith)))
       ∙ (unfold shown showing in refl)
 
 abbrev pub merging-all : Bridge → Bridge
 merging-all b = holding b (map merging (b .streams))
 
-decided-all : (st : Settings) (now : ℕ) (s l : List Stream) → map merging (map (showing st now (columnOf st now s)) l) ≡ map (decide st now s) l
+decided-all : (sc : Scene) (now : ℕ) (s l : List Stream) → map merging (map (showing (sc .settings) now (columnOf sc now s)) l) ≡ map (decide sc now s) l
 unfolding shown
-decided-all st now s [] = refl
-decided-all st now s (x ∷ l) = rw (decided-stream st now s x, decided-all st now s l)
+decided-all sc now s [] = refl
+decided-all sc now s (x ∷ l) = rw (decided-stream sc now s x, decided-all sc now s l)
 
--- After removal: steps a to g, then bandwidth shared out on each port, then the Listeners merged.
+-- After removal: steps a to g and j, then bandwidth shared out on each port, then the Listeners merged.
 pub stages-settle : (now : ℕ) (b : Bridge) → length (b .settings .ports) ≤ 8 →
     merging-all (admissions (length (b .settings .ports)) 0 (earlyAll now (removed now b))) ≡ settle now b
-unfolding settle holding earlyAll
+unfolding settle holding owning earlyAll
 stages-settle now b h =
     let st = b .settings in
     let s = remain st now (b .streams) in
-    ap merging-all (admissions-decide st now s now h)
-    ∙ ap (λ (l : List Stream). record { settings = st; clock = now; totals = tabulate 8 0 (totalsOn st now s); streams = l })
-    (decided-all st now s s)
+    let sc : Scene = record { settings = st; own = decideOwns st now (b .own) } in
+    ap merging-all (admissions-decide sc now s now h)
+    ∙ ap (λ (l : List Stream). record { settings = st; clock = now; totals = tabulate 8 0 (totalsOn sc now s); own = sc .own; streams = l })
+    (decided-all sc now s s)

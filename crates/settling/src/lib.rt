@@ -1,20 +1,22 @@
 // Settling: what advance does to the table. First every registration that has been leaving for at least the leave time goes, and
-// with it each stream that no port has a registration of; then each stream is decided, bandwidth is shared out on each port, and
-// last each stream's Talker port declares the merged Listener.
+// with it each stream that no port has a registration of, and each port finds whether it is at the edge of a class's domain; then
+// each stream is decided, bandwidth is shared out on each port, and last each stream's Talker port declares the merged Listener.
 ghost use mathlib.Core.Path.{_≡_};
 ghost use mathlib.Core.List.{map};
 ghost use Prim.Native.Nat.{_<_};
 ghost use lib.ListN.{length};
 ghost use Rattle.model.specs.Layout.{resultSize};
-ghost use Rattle.model.specs.State.{Column, Declared, streamAt};
-ghost use Rattle.model.specs.Registrations.{holding};
+ghost use Rattle.model.specs.State.{Column, Declared, streamAt, ownAt};
+ghost use Rattle.model.specs.Registrations.{holding, owning};
 ghost use Rattle.model.specs.Settling as model;
 ghost use Rattle.model.specs.Table.{columnNumber, declaredNumber, toResult, resultOctets, encode, decode};
 ghost use Rattle.model.specs.Laid.{LaidResult, Laid};
-ghost use Rattle.table.specs.Places.{Stands};
-ghost use Rattle.table.specs.Updates.{withStream};
+ghost use Rattle.table.specs.Places.{Stands, PortIn};
+ghost use Rattle.table.specs.Updates.{withStream, withOwn};
+ghost use Rattle.streams.specs.Answers.{classShown};
 ghost use Rattle.columns.specs.Stages as stages;
-ghost use Rattle.settling.specs.Removed.{removed};
+ghost use Rattle.settling.specs.Removed.{unmatchedOf, expiredOwn, flaggedOwn, removed};
+use streams::ClassRead;
 use streams::SourceRead;
 
 // Removes from stream k what has been leaving for at least the leave time.
@@ -46,7 +48,97 @@ fn expire_all(table: &mut [u8], time: u32)
     }
 }
 
-// The clock set, what has lasted the leave time removed, the streams that are no longer held dropped, and nothing reserved.
+// Whether some port of the bridge supports a class.
+fn any_supports(table: &[u8], class: ClassRead) -> bool
+    requires { ⌜ Laid (now table) ⌝ }
+    ensures { λ r. ⌜ r ≡ model.anySupports (classShown class) (decode (now (table .entry)) .settings .ports) ⌝ }
+{
+    let ports = table::ports(table);
+    let mut p: usize = 0;
+    while p < ports {
+        if columns::supports(table::port_at(table, p), class) {
+            return true;
+        }
+        p += 1;
+    }
+    false
+}
+
+// Whether the Domain values of a class on the port at place p are other than the bridge's; class ID 5 stands before 6.
+fn unmatched(table: &[u8], p: usize, class: ClassRead) -> bool
+    requires { ⌜ PortIn (now table) p ⌝ }
+    ensures { λ r. ⌜ r ≡ unmatchedOf (decode (now (table .entry)) .settings) (classShown class) (ownAt (decode (now (table .entry)) .own) p .domains) ⌝ }
+{
+    let own = table::own_at(table, p);
+    match class {
+        ClassRead::NoClass => true,
+        ClassRead::A => domains::unmatched(own, 8, table::priority_a(table)),
+        ClassRead::B => domains::unmatched(own, 0, table::priority_b(table)),
+    }
+}
+
+// Whether the port at place p is at the edge of a class's domain; a place that is no port is not.
+fn flag(table: &[u8], p: usize, class: ClassRead) -> bool
+    requires { ⌜ PortIn (now table) p ⌝ }
+    ensures { λ r. ⌜ r ≡ model.flagOf (decode (now (table .entry)) .settings) p (classShown class) (ownAt (decode (now (table .entry)) .own) p .domains) ⌝ }
+{
+    if table::ports(table) <= p {
+        return false;
+    }
+    if columns::supports(table::port_at(table, p), class) {
+        return unmatched(table, p, class);
+    }
+    any_supports(table, class)
+}
+
+// Removes from the port at place p each Domain value that has been leaving for at least the leave time.
+fn expire_own(table: &mut [u8], p: usize, leave: u32, time: u32)
+    requires { ⌜ PortIn (now table) p × (leave ≡ decode (now table) .settings .leaveTime) ⌝ }
+    ensures { λ _. ⌜ now (table .exit) ≡ encode (withOwn p (expiredOwn (decode (now (table .entry)) .settings) time (ownAt (decode (now (table .entry)) .own) p))
+        (decode (now (table .entry)))) ⌝ }
+{
+    let a = table::own_in(table, p);
+    domains::expire_all(&mut table[a..a + table::OWN], leave, time);
+}
+
+// The flags of the port at place p, by the Domain values that it holds.
+fn decide_flags(table: &mut [u8], p: usize)
+    requires { ⌜ PortIn (now table) p ⌝ }
+    ensures { λ _. ⌜ now (table .exit) ≡ encode (withOwn p (flaggedOwn (decode (now (table .entry)) .settings) p (ownAt (decode (now (table .entry)) .own) p))
+        (decode (now (table .entry)))) ⌝ }
+{
+    let edge_a = flag(table, p, ClassRead::A);
+    let edge_b = flag(table, p, ClassRead::B);
+    let a = table::own_in(table, p);
+    domains::set_flags(&mut table[a..a + table::OWN], edge_a, edge_b);
+}
+
+// What the port at place p holds by itself: first the removals, then its flags.
+fn decide_own(table: &mut [u8], p: usize, leave: u32, time: u32)
+    requires { ⌜ PortIn (now table) p × (leave ≡ decode (now table) .settings .leaveTime) ⌝ }
+    ensures { λ _. ⌜ now (table .exit) ≡ encode (withOwn p (model.decideOwn (decode (now (table .entry)) .settings) time (decode (now (table .entry)) .own) p)
+        (decode (now (table .entry)))) ⌝ }
+{
+    expire_own(table, p, leave, time);
+    decide_flags(table, p);
+}
+
+// The same at each place.
+fn decide_owns(table: &mut [u8], time: u32)
+    requires { ⌜ Laid (now table) ⌝ }
+    ensures { λ _. ⌜ now (table .exit) ≡ encode (owning (decode (now (table .entry)))
+        (model.decideOwns (decode (now (table .entry)) .settings) time (decode (now (table .entry)) .own))) ⌝ }
+{
+    let leave = table::leave_time(table);
+    let mut place: usize = 0;
+    while place < 8 {
+        decide_own(table, place, leave, time);
+        place += 1;
+    }
+}
+
+// The clock set, what has lasted the leave time removed, the streams that are no longer held dropped, what the ports hold by
+// themselves decided, and nothing reserved.
 fn remove(table: &mut [u8], time: u32)
     requires { ⌜ Laid (now table) ⌝ }
     ensures { λ _. ⌜ now (table .exit) ≡ encode (removed time (decode (now (table .entry)))) ⌝ }
@@ -55,6 +147,7 @@ fn remove(table: &mut [u8], time: u32)
     table::drop_unheld(table);
     table::set_clock(table, time);
     table::clear_totals(table);
+    decide_owns(table, time);
 }
 
 // Bandwidth shared out on each port, in class A and then in class B.

@@ -4,11 +4,15 @@ use libc::STDIN_FILENO;
 ghost use Prim.Native.Nat.{_≤_};
 ghost use mathlib.Core.Path.{_≡_};
 ghost use lib.ListN.{length, drop};
+ghost use Rattle.model.specs.Layout.{tableLength};
 ghost use Rattle.srpcalls.specs.Sums.{adler32, all};
 ghost use Rattle.srpcalls.specs.Records.{Handed};
 
 // The room for the table.
 const ROOM: usize = bridge::TABLE + 64;
+
+// The longest line: `octets`, a blank, two digits for each octet of the room, and the line's end.
+const LINE: usize = 8 + 2 * ROOM;
 
 // Settings and PDUs are handed to a call up to this length.
 const LONGEST: usize = 4096;
@@ -260,7 +264,7 @@ fn take_record(room: &mut [u8], lent: usize, octets: &mut [u8], line: &mut [u8])
 // A proved loop has to end, and nothing says that an input does. So the loop counts its turns down, from a number that no run
 // uses up.
 fn run(room: &mut [u8], octets: &mut [u8], line: &mut [u8])
-    requires { ⌜ (length (now room) ≡ 31888) × (65535 ≤ length (now octets)) ⌝ }
+    requires { ⌜ (tableLength ≤ length (now room)) × (65535 ≤ length (now octets)) ⌝ }
 {
     let mut lent = bridge::TABLE;
     let mut turns = u64::MAX;
@@ -287,6 +291,6 @@ fn run(room: &mut [u8], octets: &mut [u8], line: &mut [u8])
 fn main() {
     let mut room = [0u8; ROOM];
     let mut octets = io::large_buffer();
-    let mut line = io::large_buffer();
+    let mut line = [0u8; LINE];
     run(&mut room, &mut octets, &mut line);
 }

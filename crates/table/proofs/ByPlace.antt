@@ -15,6 +15,7 @@ use Rattle.octets.proofs.Patches.{lent-patch, patch-within}
 use Rattle.model.specs.Layout.{cellIn, cellPlace, cellSize, fixedSize, fixedWidths, portPlace, portSize, recordPlace, recordSize, resultIn, resultPlace, resultSize, settledOf, settledPlace, totalPlace, totalSize}
 use Rattle.model.specs.State.{Fixed, Cell, Result, Stream, Totals, Bridge, portAt, cellAt, resultAt, noTotals, fresh}
 use Rattle.model.specs.Registrations.{at, change, holding}
+use Rattle.model.specs.Settling.{sceneOf}
 use Rattle.model.specs.WrittenFrames.{fixedNumbers}
 use Rattle.model.specs.Table.{portOctets, toPort, fixedFrom, cellOctets, toCell, resultOctets, toResult, streamOctets, totalsOctets, toTotals, encode, decode}
 use Rattle.model.specs.Laid.{FitCell, FitResult, FitStream, FitTotals, FitBridge, Laid}
@@ -91,6 +92,10 @@ module _ {t : List ℕ} {k : ℕ} (s : Stands t k) where
       pub stream-replaced-settings : decode u .settings ≡ decode t .settings
       unfolding holding
       stream-replaced-settings = ap (λ (b : Bridge). b .settings) stream-replaced-read
+
+      pub stream-replaced-scene : sceneOf (decode u) ≡ sceneOf (decode t)
+      unfolding holding
+      stream-replaced-scene = ap sceneOf stream-replaced-read
 
       pub stream-replaced-again : (y : Stream) (v : List ℕ) → v ≡ encode (withStream k y (decode u)) → v ≡ encode (withStream k y (decode t))
       unfolding holding

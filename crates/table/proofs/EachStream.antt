@@ -9,6 +9,7 @@ use lib.ListN.{length, getD, set}
 use Rattle.model.specs.Lists.{All}
 use Rattle.model.specs.State.{Cell, Stream, Bridge, fresh}
 use Rattle.model.specs.Registrations.{at, change, holding, ids}
+use Rattle.model.specs.Settling.{sceneOf}
 use Rattle.model.specs.Table.{encode, decode}
 use Rattle.model.specs.Laid.{FitCell, FitStream, FitBridge, Laid}
 use Rattle.model.proofs.Fits.{laid-is, laid-fits}
@@ -37,6 +38,13 @@ module _ {A : Type 0} (g : A → A) where
   firsts-next zero (x ∷ l) d = refl
   firsts-next (suc k) [] d = refl
   firsts-next (suc k) (x ∷ l) d = ap (λ (r : List A). g x ∷ r) (firsts-next k l d)
+
+  pub firsts-at : (k : ℕ) (l : List A) → at k g (firsts k l) ≡ firsts (suc k) l
+  unfolding at firsts
+  firsts-at zero [] = refl
+  firsts-at zero (x ∷ l) = refl
+  firsts-at (suc k) [] = refl
+  firsts-at (suc k) (x ∷ l) = ap (λ (r : List A). g x ∷ r) (firsts-at k l)
 
   pub firsts-all : (l : List A) → firsts (length l) l ≡ map g l
   unfolding firsts
@@ -103,6 +111,9 @@ module _ (g : Stream → Stream) where
       pub partly-settings : decode t .settings ≡ decode t₀ .settings
       partly-settings = ap (λ (b : Bridge). b .settings) partly-read ∙ unfold partly holding in refl
 
+      pub partly-scene : sceneOf (decode t) ≡ sceneOf (decode t₀)
+      partly-scene = ap sceneOf partly-read ∙ unfold partly holding in refl
+
       pub partly-stands : k < length (decode t₀ .streams) → Stands t k
       partly-stands h = record { laid = partly-laid; held = omega (arith, partly-many) }
 
@@ -157,16 +168,9 @@ module _ (u : Cell → Cell) where
   unfolding change firsts
   cells-none x = refl
 
-  at-next : (p : ℕ) (l : List Cell) → at p u (firsts u p l) ≡ firsts u (suc p) l
-  unfolding at firsts
-  at-next zero [] = refl
-  at-next zero (c ∷ l) = refl
-  at-next (suc p) [] = refl
-  at-next (suc p) (c ∷ l) = ap (λ (r : List Cell). u c ∷ r) (at-next p l)
-
   pub cells-next : (p : ℕ) (x : Stream) → change (at p u) (cellsTo p x) ≡ cellsTo (p + 1) x
   unfolding change
-  cells-next p x = rw (add-one p, at-next p (x .cells))
+  cells-next p x = rw (add-one p, firsts-at u p (x .cells))
 
   pub cells-done : (n : ℕ) (x : Stream) → length (x .cells) ≡ n → cellsTo n x ≡ change (map u) x
   unfolding change

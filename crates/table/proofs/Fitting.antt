@@ -10,12 +10,12 @@ use Rattle.octets.specs.Fields.{Fit}
 use Rattle.octets.proofs.Fields.{fit-zeros}
 use Rattle.model.specs.Layout.{cellWidths, fixedWidths, resultWidths}
 use Rattle.model.specs.Lists.{All, keep}
-use Rattle.model.specs.State.{Cell, Result, Stream, Totals, Bridge, empty, unsettled, noFixed, blank, fresh, noTotals}
-use Rattle.model.specs.Registrations.{at, change, holding, together, ids}
+use Rattle.model.specs.State.{Cell, Own, Result, Stream, Totals, Bridge, empty, unsettled, noFixed, blank, fresh, noTotals}
+use Rattle.model.specs.Registrations.{at, change, holding, owning, together, ids}
 use Rattle.model.specs.Settling.{held}
 use Rattle.model.specs.WrittenFrames.{priorityOctet, fixedNumbers}
 use Rattle.model.specs.Table.{cellNumbers, talkerNumbers, listenerNumbers, resultNumbers, columnNumber, columnBridge, columnCode, entryNumber, declaredNumber}
-use Rattle.model.specs.Laid.{FitCell, FitResult, FitStream, FitTotals, FitBridge, Ascending}
+use Rattle.model.specs.Laid.{FitCell, FitResult, FitStream, FitTotals, FitOwn, FitBridge, Ascending}
 use Rattle.model.proofs.Lists.{all-replicate, all-append, all-take, all-drop, all-set, length-at, all-changed}
 use Rattle.model.proofs.Parts.{_also_}
 use Rattle.model.proofs.FrameOrder.{joined, rising-together}
@@ -81,6 +81,8 @@ holding-fits b w s few all rise = record {
   clock = w .clock;
   eight-totals = w .eight-totals;
   totals = w .totals;
+  eight-own = w .eight-own;
+  own = w .own;
   at-most-64 = few;
   streams = all;
   ascending = rise;
@@ -186,6 +188,8 @@ clocked-fits b w now h = record {
   clock = h;
   eight-totals = w .eight-totals;
   totals = w .totals;
+  eight-own = w .eight-own;
+  own = w .own;
   at-most-64 = w .at-most-64;
   streams = w .streams;
   ascending = w .ascending;
@@ -197,6 +201,22 @@ totalled-fits b w ts e f = record {
   clock = w .clock;
   eight-totals = e;
   totals = f;
+  eight-own = w .eight-own;
+  own = w .own;
+  at-most-64 = w .at-most-64;
+  streams = w .streams;
+  ascending = w .ascending;
+}
+
+pub owning-fits : (b : Bridge) → FitBridge b → (o : List Own) → length o ≡ 8 → All FitOwn o → FitBridge (owning b o)
+unfolding owning
+owning-fits b w o e f = record {
+  settings = w .settings;
+  clock = w .clock;
+  eight-totals = w .eight-totals;
+  totals = w .totals;
+  eight-own = e;
+  own = f;
   at-most-64 = w .at-most-64;
   streams = w .streams;
   ascending = w .ascending;

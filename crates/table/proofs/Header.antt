@@ -1,4 +1,4 @@
--- What stands before the stream records of a table: settings, clock, number of streams, totals; how each is read, and what the
+-- What stands before the stream records of a table: settings, clock, number of streams, totals, what the ports hold; how each is read, and what the
 -- table is when it is replaced.
 use Prim.Native.Nat.{ℕ, zero, suc, _-_, _*_, _/_, _%_, _≤_, _<_}
 use native.Mathlib.Omega.{arith}
@@ -10,23 +10,23 @@ use Rattle.octets.specs.Parts.{part, patch, zeros}
 use Rattle.octets.specs.Fields.{packed, Fit, width, flat}
 use Rattle.octets.proofs.Be.{length-be}
 use Rattle.octets.proofs.Fields.{flat-append, packed-zeros, fit-zeros}
-use Rattle.model.specs.Layout.{clockPlace, countPlace, portPlace, portSize, portWidths, portsPlace, portsUnit, priorityAUnit, priorityBUnit, recordsPlace, tableLength, totalPlace, totalSize, totalsPlace, totalsSize, wordPlace}
+use Rattle.model.specs.Layout.{clockPlace, countPlace, domainVlanPlace, ownPlace, ownSize, ownsPlace, portPlace, portSize, portWidths, portsPlace, portsUnit, priorityAUnit, priorityBUnit, recordsPlace, tableLength, totalPlace, totalSize, totalsPlace, totalsSize, wordPlace}
 use Rattle.model.specs.Lists.{All, bit}
-use Rattle.model.specs.State.{Port, Settings, Stream, Totals, Bridge, noPort, portAt, noTotals}
-use Rattle.model.specs.Registrations.{holding}
-use Rattle.model.specs.Table.{portNumbers, portOctets, settingsOctets, portsField, totalsOctets, clockField, countField, encode, decode}
+use Rattle.model.specs.State.{Port, Settings, Own, Stream, Totals, Bridge, noPort, portAt, noTotals, noOwn, ownAt}
+use Rattle.model.specs.Registrations.{holding, owning}
+use Rattle.model.specs.Table.{portNumbers, portOctets, settingsOctets, portsField, totalsOctets, ownOctets, clockField, countField, encode, decode}
 use Rattle.model.specs.Laid.{FitSettings, FitBridge, Laid}
 use Rattle.model.proofs.Lists.{all-each, all-replicate}
 use Rattle.model.proofs.Parts.{Sized, flat-zeros}
-use Rattle.model.proofs.SettingsOctets.{head, head-length, port-length, id-read, ports-read, priority-a-read, priority-b-read, leave-read}
-use Rattle.model.proofs.Tables.{settingsWhole, clockAndCount, totalsWhole, recordsWhole, encode-parts, clock-length, settings-whole-length, totals-whole-length, whole-length, totals-sized, no-totals, clock-read, count-read, fit-whole}
+use Rattle.model.proofs.SettingsOctets.{head, head-length, port-length, id-read, ports-read, priority-a-read, priority-b-read, leave-read, vlan-read}
+use Rattle.model.proofs.Tables.{settingsWhole, clockAndCount, totalsWhole, ownsWhole, recordsWhole, encode-parts, clock-length, settings-whole-length, totals-whole-length, owns-whole-length, whole-length, totals-sized, no-totals, clock-read, count-read, fit-whole}
 use Rattle.model.proofs.Fits.{laid-is, laid-fits}
 use Rattle.table.specs.Updates.{clocked, totalled}
 use Rattle.table.proofs.Lens.{patch-between, part-one, patch-one, all-getD}
 
 -- all that stands before the records
 unfoldable pub header : Bridge → List ℕ
-header b = settingsWhole b ++ (clockAndCount b ++ totalsWhole b)
+header b = settingsWhole b ++ (clockAndCount b ++ (totalsWhole b ++ ownsWhole b))
 
 pub header-records : (b : Bridge) → encode b ≡ header b ++ recordsWhole b
 unfolding header
@@ -40,8 +40,16 @@ module _ (b : Bridge) (w : FitBridge b) where
   unfolding header
   header-length =
       let o = fit-whole b w in
-      length-append (settingsWhole b) (clockAndCount b ++ totalsWhole b)
-      ∙ omega (arith, length-append (clockAndCount b) (totalsWhole b), settings-whole-length b o, clock-length b, totals-whole-length b o)
+      length-append (settingsWhole b) (clockAndCount b ++ (totalsWhole b ++ ownsWhole b))
+      ∙ omega (
+        arith,
+        length-append (clockAndCount b) (totalsWhole b ++ ownsWhole b),
+        length-append (totalsWhole b) (ownsWhole b),
+        settings-whole-length b o,
+        clock-length b,
+        totals-whole-length b o,
+        owns-whole-length b o,
+      )
 
   -- Clock and number of streams.
 
@@ -75,6 +83,10 @@ module _ (b : Bridge) (w : FitBridge b) where
   unfolding encode
   leave-time-at = leave-read (b .settings) (w .settings) _
 
+  pub domain-vlan-at : beAt 2 (encode b) domainVlanPlace ≡ b .settings .vlan
+  unfolding encode
+  domain-vlan-at = vlan-read (b .settings) (w .settings) _
+
 -- Ports. A place that is no port has the octets of none, which are zeros.
 
 port-zeros : portOctets noPort ≡ zeros portSize
@@ -107,7 +119,7 @@ flat-eight st =
     flat-append portOctets (st .ports) none ∙ ap (λ (l : List ℕ). flat portOctets (st .ports) ++ l) (z ∙ ap zeros e)
 
 ports-laid : (b : Bridge)
-    → encode b ≡ head (b .settings) ++ (flat portOctets (eightPorts (b .settings)) ++ (clockAndCount b ++ (totalsWhole b ++ recordsWhole b)))
+    → encode b ≡ head (b .settings) ++ (flat portOctets (eightPorts (b .settings)) ++ (clockAndCount b ++ (totalsWhole b ++ (ownsWhole b ++ recordsWhole b))))
 unfolding encode settingsOctets
 ports-laid b = rw (flat-eight (b .settings)) (simp append-assoc)
 
@@ -129,7 +141,7 @@ module _ (b : Bridge) (w : FitBridge b) (p a : ℕ) (h : p < 8) (e : a ≡ portP
   port-part =
       let st = b .settings in
       let l = eightPorts st in
-      let after = clockAndCount b ++ (totalsWhole b ++ recordsWhole b) in
+      let after = clockAndCount b ++ (totalsWhole b ++ (ownsWhole b ++ recordsWhole b)) in
       let few : p < length l = omega (arith, length-eight st (w .settings .eight-ports)) in
       ap (part a portSize) (ports-laid b)
       ∙ part-one portSize portOctets portsPlace (head st) after (head-length st) l (ports-sized l) p a few e noPort
@@ -137,7 +149,7 @@ module _ (b : Bridge) (w : FitBridge b) (p a : ℕ) (h : p < 8) (e : a ≡ portP
 
 -- Totals.
 
-totals-laid : (b : Bridge) → encode b ≡ (settingsWhole b ++ clockAndCount b) ++ (flat totalsOctets (b .totals) ++ recordsWhole b)
+totals-laid : (b : Bridge) → encode b ≡ (settingsWhole b ++ clockAndCount b) ++ (flat totalsOctets (b .totals) ++ (ownsWhole b ++ recordsWhole b))
 totals-laid b = encode-parts b ∙ simp append-assoc
 
 before-totals : (b : Bridge) (w : FitBridge b) → length (settingsWhole b ++ clockAndCount b) ≡ totalsPlace
@@ -150,13 +162,13 @@ module _ (b : Bridge) (w : FitBridge b) (p a : ℕ) (h : p < 8) (e : a ≡ total
   pub totals-part : part a totalSize (encode b) ≡ totalsOctets (getD (b .totals) p noTotals)
   totals-part =
       ap (part a totalSize) (totals-laid b)
-      ∙ part-one totalSize totalsOctets totalsPlace (settingsWhole b ++ clockAndCount b) (recordsWhole b) (before-totals b w) (b .totals) (totals-sized (b .totals)) p a a-total
+      ∙ part-one totalSize totalsOctets totalsPlace (settingsWhole b ++ clockAndCount b) (ownsWhole b ++ recordsWhole b) (before-totals b w) (b .totals) (totals-sized (b .totals)) p a a-total
       e noTotals
 
   pub totals-patch : (t : Totals) → patch a totalSize (totalsOctets t) (encode b) ≡ encode (totalled (set (b .totals) p t) b)
   totals-patch t =
       ap (patch a totalSize (totalsOctets t)) (totals-laid b)
-      ∙ patch-one totalSize totalsOctets totalsPlace (settingsWhole b ++ clockAndCount b) (recordsWhole b) (before-totals b w) (b .totals) (totals-sized (b .totals)) p a a-total
+      ∙ patch-one totalSize totalsOctets totalsPlace (settingsWhole b ++ clockAndCount b) (ownsWhole b ++ recordsWhole b) (before-totals b w) (b .totals) (totals-sized (b .totals)) p a a-total
       e t
       ∙ sym (totals-laid (totalled (set (b .totals) p t) b))
 
@@ -166,9 +178,40 @@ totals-cleared b w =
     let none : flat totalsOctets (replicate 8 noTotals) ≡ zeros totalsSize =
     flat-zeros totalSize totalsOctets noTotals no-totals (replicate 8 noTotals) (all-replicate (λ t. t ≡ noTotals) 8 noTotals refl) in
     ap (patch totalsPlace totalsSize (zeros totalsSize)) (totals-laid b)
-    ∙ patch-between before (totalsWhole b) (recordsWhole b) (zeros totalsSize) totalsPlace totalsSize (before-totals b w) (totals-whole-length b (fit-whole b w))
-    ∙ ap (λ (z : List ℕ). before ++ (z ++ recordsWhole b)) (sym none)
+    ∙ patch-between before (totalsWhole b) (ownsWhole b ++ recordsWhole b) (zeros totalsSize) totalsPlace totalsSize (before-totals b w) (totals-whole-length b (fit-whole b w))
+    ∙ ap (λ (z : List ℕ). before ++ (z ++ (ownsWhole b ++ recordsWhole b))) (sym none)
     ∙ sym (totals-laid (totalled (replicate 8 noTotals) b))
+
+-- What the ports hold.
+
+owns-laid : (b : Bridge) → encode b ≡ (settingsWhole b ++ (clockAndCount b ++ totalsWhole b)) ++ (flat ownOctets (b .own) ++ recordsWhole b)
+owns-laid b = encode-parts b ∙ simp append-assoc
+
+before-owns : (b : Bridge) (w : FitBridge b) → length (settingsWhole b ++ (clockAndCount b ++ totalsWhole b)) ≡ ownsPlace
+before-owns b w =
+    let o = fit-whole b w in
+    length-append (settingsWhole b) (clockAndCount b ++ totalsWhole b)
+    ∙ omega (arith, length-append (clockAndCount b) (totalsWhole b), settings-whole-length b o, clock-length b, totals-whole-length b o)
+
+module _ (b : Bridge) (w : FitBridge b) (p : ℕ) (h : p < 8) where
+  before : List ℕ
+  before = settingsWhole b ++ (clockAndCount b ++ totalsWhole b)
+
+  an-own : p < length (b .own)
+  an-own = omega (arith, w .eight-own)
+
+  pub own-part : part (ownPlace p) ownSize (encode b) ≡ ownOctets (ownAt (b .own) p)
+  unfolding before
+  own-part =
+      ap (part (ownPlace p) ownSize) (owns-laid b)
+      ∙ part-one ownSize ownOctets ownsPlace before (recordsWhole b) (before-owns b w) (b .own) (fit-whole b w .own) p (ownPlace p) an-own refl noOwn
+
+  pub own-patch : (o : Own) → patch (ownPlace p) ownSize (ownOctets o) (encode b) ≡ encode (owning b (set (b .own) p o))
+  unfolding before owning
+  own-patch o =
+      ap (patch (ownPlace p) ownSize (ownOctets o)) (owns-laid b)
+      ∙ patch-one ownSize ownOctets ownsPlace before (recordsWhole b) (before-owns b w) (b .own) (fit-whole b w .own) p (ownPlace p) an-own refl o
+      ∙ sym (owns-laid (owning b (set (b .own) p o)))
 
 -- The clock replaced, and the number of streams.
 
@@ -176,7 +219,7 @@ pub clock-patch : (b : Bridge) (w : FitBridge b) (now : ℕ) → patch clockPlac
 unfolding packed
 clock-patch b w now =
     let n = be 1 (length (b .streams)) ++ [] in
-    let after = totalsWhole b ++ recordsWhole b in
+    let after = totalsWhole b ++ (ownsWhole b ++ recordsWhole b) in
     ap (patch clockPlace 4 (be 4 now)) (encode-parts b ∙ ap (λ (s : List ℕ). settingsWhole b ++ s) (append-assoc (be 4 (b .clock)) n after))
     ∙ patch-between (settingsWhole b) (be 4 (b .clock)) (n ++ after) (be 4 now) clockPlace 4 (settings-whole-length b (fit-whole b w)) (length-be 4 (b .clock))
     ∙ sym (encode-parts (clocked now b) ∙ ap (λ (s : List ℕ). settingsWhole b ++ s) (append-assoc (be 4 now) n after))
@@ -188,10 +231,10 @@ count-patch b w s after =
     let before = settingsWhole b ++ be 4 (b .clock) in
     let n = be 1 (length (b .streams)) in
     let l : length before ≡ countPlace = length-append (settingsWhole b) (be 4 (b .clock)) ∙ omega (arith, settings-whole-length b (fit-whole b w), length-be 4 (b .clock)) in
-    let split : (k : List ℕ) → (settingsWhole b ++ ((be 4 (b .clock) ++ (k ++ [])) ++ totalsWhole b)) ++ after ≡ before ++ (k ++ (totalsWhole b ++ after)) =
+    let split : (k : List ℕ) → (settingsWhole b ++ ((be 4 (b .clock) ++ (k ++ [])) ++ (totalsWhole b ++ ownsWhole b))) ++ after ≡ before ++ (k ++ ((totalsWhole b ++ ownsWhole b) ++ after)) =
     λ k. simp (append-assoc, append-nil) in
     ap (patch countPlace 1 (be 1 (length s))) (split n)
-    ∙ patch-between before n (totalsWhole b ++ after) (be 1 (length s)) countPlace 1 l (length-be 1 (length (b .streams)))
+    ∙ patch-between before n ((totalsWhole b ++ ownsWhole b) ++ after) (be 1 (length s)) countPlace 1 l (length-be 1 (length (b .streams)))
     ∙ sym (split (be 1 (length s)))
 
 -- What is read of octets that are laid out as a table.
@@ -217,6 +260,9 @@ module _ (t : List ℕ) (l : Laid t) where
 
   pub laid-priority-b : beAt 3 t wordPlace / priorityBUnit % 8 ≡ decode t .settings .priorityB
   laid-priority-b = ap (λ (s : List ℕ). beAt 3 s wordPlace / priorityBUnit % 8) (laid-is t l) ∙ priority-b-at (decode t) (laid-fits t l)
+
+  pub laid-domain-vlan : beAt 2 t domainVlanPlace ≡ decode t .settings .vlan
+  laid-domain-vlan = ap (λ (s : List ℕ). beAt 2 s domainVlanPlace) (laid-is t l) ∙ domain-vlan-at (decode t) (laid-fits t l)
 
   pub laid-ports : beAt 3 t wordPlace / portsUnit ≡ length (decode t .settings .ports)
   laid-ports = ap (λ (s : List ℕ). beAt 3 s wordPlace / portsUnit) (laid-is t l) ∙ ports-at (decode t) (laid-fits t l)

@@ -2,9 +2,9 @@
 use Prim.Native.Nat.{ℕ, suc, _+_, _*_, _≤_, _<_}
 use native.Mathlib.Omega.{arith}
 use mathlib.Core.Path.{_≡_, sym, ap, _∙_}
-use mathlib.Core.List.{List, _∷_, _++_, append-assoc}
+use mathlib.Core.List.{List, _∷_, _++_, append-assoc, append-nil}
 use lib.ListN.{length, getD, set, take, drop, length-append}
-use lib.Seq.{split-at, set-split, length-take-le}
+use lib.Seq.{drop-length, split-at, set-split, length-take-le}
 use Rattle.octets.specs.Parts.{part, patch}
 use Rattle.octets.specs.Fields.{flat}
 use Rattle.octets.proofs.Fields.{flat-append}
@@ -13,6 +13,11 @@ use Rattle.model.specs.Lists.{All}
 use Rattle.model.proofs.Lists.{all-take}
 pub use Rattle.model.proofs.Lists.{all-at, all-getD}
 use Rattle.model.proofs.Parts.{Sized, part-between, length-flat-sized}
+
+-- all octets replaced
+pub patch-whole : (n : ℕ) (y s : List ℕ) → length s ≡ n → patch 0 n y s ≡ y
+unfolding patch
+patch-whole n y s e = rw (← e, drop-length s, append-nil y)
 
 -- things of n octets each after m octets, with others behind
 module _ {A : Type 0} (n : ℕ) (to : A → List ℕ) (m : ℕ) (before after : List ℕ) (size : length before ≡ m) where

@@ -10,5 +10,7 @@ pub mod Fitting
 pub mod HeldRecords
 pub mod Dropping
 pub mod ByPlace
+pub mod OwnParts
 pub mod EachStream
+pub mod EachPort
 pub mod ReadOctets

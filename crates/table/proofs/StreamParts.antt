@@ -52,11 +52,11 @@ settled-patch x f =
 
 -- Cells.
 
-pub at-set : (p : ℕ) (u : Cell → Cell) (l : List Cell) (d : Cell) → p < length l → set l p (u (getD l p d)) ≡ at p u l
+pub at-set : {A : Type 0} (p : ℕ) (u : A → A) (l : List A) (d : A) → p < length l → set l p (u (getD l p d)) ≡ at p u l
 unfolding at
 at-set p u [] d h = absurd (omega arith)
 at-set zero u (c ∷ l) d h = refl
-at-set (suc p) u (c ∷ l) d h = ap (λ (m : List Cell). c ∷ m) (at-set p u l d (omega arith))
+at-set {A = A} (suc p) u (c ∷ l) d h = ap (λ (m : List A). c ∷ m) (at-set p u l d (omega arith))
 
 module _ (x : Stream) (w : FitStream x) (p a : ℕ) (h : p < 8) (e : a ≡ cellIn p) where
   a-cell : p < length (x .cells)

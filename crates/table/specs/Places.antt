@@ -3,7 +3,7 @@ use mathlib.Core.Path.{_≡_}
 use mathlib.Core.List.{List}
 use Prim.Native.Nat.{ℕ, _≤_, _<_}
 use lib.ListN.{length}
-use Rattle.model.specs.Layout.{tableLength}
+use Rattle.model.specs.Layout.{slots, tableLength}
 use Rattle.model.specs.Table.{decode}
 use Rattle.model.specs.Laid.{Laid}
 
@@ -14,6 +14,12 @@ pub record Stands (t : List ℕ) (k : ℕ) : Type 0 where
 pub record PortIn (t : List ℕ) (p : ℕ) : Type 0 where
   pub laid : Laid t
   pub port : p < 8
+
+-- its Domain value in slot i
+pub record SlotIn (t : List ℕ) (p i : ℕ) : Type 0 where
+  pub laid : Laid t
+  pub port : p < 8
+  pub slot : i < slots
 
 pub record StandsOn (t : List ℕ) (k p : ℕ) : Type 0 where
   pub laid : Laid t

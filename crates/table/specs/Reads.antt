@@ -4,11 +4,11 @@ use mathlib.Core.List.{List}
 use Prim.Native.Nat.{ℕ, _<_}
 use lib.ListN.{length}
 use Rattle.octets.specs.Fields.{Fit, fields, packed}
-use Rattle.model.specs.Layout.{cellSize, fixedSize, fixedWidths, portSize, resultSize, totalSize}
-use Rattle.model.specs.State.{Port, Fixed, Cell, Result, Totals}
+use Rattle.model.specs.Layout.{cellSize, fixedSize, fixedWidths, ownSize, portSize, resultSize, slotSize, totalSize}
+use Rattle.model.specs.State.{Port, Fixed, Cell, Domain, Own, Result, Totals}
 use Rattle.model.specs.WrittenFrames.{fixedNumbers}
-use Rattle.model.specs.Table.{fixedFrom, portOctets, toPort, toCell, toResult, totalsOctets, toTotals}
-use Rattle.model.specs.Laid.{LaidCell, LaidResult}
+use Rattle.model.specs.Table.{fixedFrom, portOctets, toPort, toCell, toResult, totalsOctets, toTotals, toDomain, toOwn}
+use Rattle.model.specs.Laid.{LaidCell, LaidResult, LaidDomain, LaidOwn}
 
 -- A Talker's fixed values, as a stream's settled ones stand.
 
@@ -44,3 +44,9 @@ ReadsPort = Reads portSize (λ s q. s ≡ portOctets q) toPort
 
 abbrev pub ReadsTotals : List ℕ → Totals → Type 0
 ReadsTotals = Reads totalSize (λ s t. s ≡ totalsOctets t) toTotals
+
+abbrev pub ReadsDomain : List ℕ → Domain → Type 0
+ReadsDomain = Reads slotSize (λ s _. LaidDomain s) toDomain
+
+abbrev pub ReadsOwn : List ℕ → Own → Type 0
+ReadsOwn = Reads ownSize (λ s _. LaidOwn s) toOwn

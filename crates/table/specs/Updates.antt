@@ -3,15 +3,15 @@
 use mathlib.Core.List.{List, _∷_, _++_}
 use Prim.Native.Nat.{ℕ}
 use lib.ListN.{set, take, drop}
-use Rattle.model.specs.State.{Fixed, Cell, Result, Stream, Totals, Bridge, fresh}
+use Rattle.model.specs.State.{Fixed, Cell, Domain, Own, Result, Stream, Totals, Bridge, fresh}
 pub use Rattle.model.specs.State.{streamAt, totalsAt}
-use Rattle.model.specs.Registrations.{at, change, holding}
+use Rattle.model.specs.Registrations.{at, change, changeDomains, holding, owning}
 
 abbrev pub clocked : ℕ → Bridge → Bridge
-clocked now b = record { settings = b .settings; clock = now; totals = b .totals; streams = b .streams }
+clocked now b = record { settings = b .settings; clock = now; totals = b .totals; own = b .own; streams = b .streams }
 
 abbrev pub totalled : List Totals → Bridge → Bridge
-totalled ts b = record { settings = b .settings; clock = b .clock; totals = ts; streams = b .streams }
+totalled ts b = record { settings = b .settings; clock = b .clock; totals = ts; own = b .own; streams = b .streams }
 
 -- a stream without registrations at place k
 abbrev pub inserted : ℕ → ℕ → Bridge → Bridge
@@ -23,7 +23,8 @@ settledAs f x = record { id = x .id; settled = f; cells = x .cells; results = x 
 abbrev pub resulting : (List Result → List Result) → Stream → Stream
 resulting u x = record { id = x .id; settled = x .settled; cells = x .cells; results = u (x .results) }
 
--- One part replaced: the stream, its settled values, its cell and its result on the port; the totals of the port.
+-- One part replaced: the stream, its settled values, its cell and its result on the port; the totals of the port, what it holds by
+-- itself, and its Domain value in slot i.
 
 abbrev pub withStream : ℕ → Stream → Bridge → Bridge
 withStream k x b = holding b (set (b .streams) k x)
@@ -39,3 +40,9 @@ withResult k p r b = withStream k (resulting (λ l. set l p r) (streamAt k b)) b
 
 abbrev pub withTotals : ℕ → Totals → Bridge → Bridge
 withTotals p t b = totalled (set (b .totals) p t) b
+
+abbrev pub withOwn : ℕ → Own → Bridge → Bridge
+withOwn p o b = owning b (set (b .own) p o)
+
+abbrev pub withSlot : ℕ → ℕ → (Domain → Domain) → Bridge → Bridge
+withSlot p i u b = owning b (at p (changeDomains (at i u)) (b .own))

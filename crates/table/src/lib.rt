@@ -4,8 +4,8 @@ ghost use mathlib.Core.Path.{_≡_};
 ghost use Prim.Native.Nat.{_+_, _*_, _≤_, _<_};
 ghost use lib.ListN.{length, replicate};
 ghost use Rattle.octets.specs.Parts.{part, patch};
-ghost use Rattle.model.specs.Layout.{cellPlace, cellSize, fixedSize, priorityBUnit, recordPlace, recordSize, resultPlace, resultSize, settledOf, tableLength, totalPlace, totalSize};
-ghost use Rattle.model.specs.State.{portAt, cellAt, resultAt, noTotals};
+ghost use Rattle.model.specs.Layout.{cellPlace, cellSize, fixedSize, priorityBUnit, recordPlace, recordSize, ownPlace, ownSize, resultPlace, resultSize, settledOf, slotPlace, slotSize, tableLength, totalPlace, totalSize};
+ghost use Rattle.model.specs.State.{portAt, cellAt, resultAt, ownAt, noTotals};
 ghost use Rattle.model.specs.Registrations.{holding, ids};
 ghost use Rattle.model.specs.Settling.{held};
 ghost use Rattle.model.specs.Table.{toStream, encode, decode};
@@ -14,12 +14,13 @@ ghost use Rattle.table.specs.Find.{foundAt};
 ghost use Rattle.table.specs.Held.{heldOnly};
 ghost use Rattle.table.specs.Octets.{recordPut, recordKept};
 ghost use Rattle.table.specs.Updates.{clocked, totalled, inserted, streamAt, totalsAt};
-ghost use Rattle.table.specs.Places.{Stands, PortIn, StandsOn, RoomAt, RecordTo};
-ghost use Rattle.table.specs.Reads.{ReadsCell, ReadsResult, ReadsFixed, ReadsPort, ReadsTotals};
+ghost use Rattle.table.specs.Places.{Stands, PortIn, SlotIn, StandsOn, RoomAt, RecordTo};
+ghost use Rattle.table.specs.Reads.{ReadsCell, ReadsResult, ReadsFixed, ReadsPort, ReadsTotals, ReadsOwn};
 
 pub mod cell;
 pub mod port;
 pub mod result;
+pub mod slot;
 
 // The layout of a table, in octets (docs/TABLE.md). How long a port's settings and its totals are, where class B's stand among
 // these; a Talker's fixed values, which a stream's settled ones are; a cell and a result.
@@ -35,6 +36,17 @@ pub const CELL: usize = cell::LISTENER + cell::LISTENER_PART;
 
 pub const RESULT: usize = result::DECLARED + 1;
 
+// What a port holds by itself: two classes of eight Domain values, then whether it is at the edge of class A and of class B.
+pub const SLOT: usize = slot::VLAN + 2;
+
+pub const SLOTS: usize = 16;
+
+pub const BOUNDARY: usize = SLOTS * SLOT;
+
+pub const BOUNDARY_B: usize = BOUNDARY + 1;
+
+pub const OWN: usize = BOUNDARY_B + 1;
+
 // A record: behind the StreamID the settled values, with priority and rank last of them; cells and results.
 pub const SETTLED: usize = 8;
 
@@ -46,11 +58,13 @@ pub const RESULTS: usize = CELLS + 8 * CELL;
 
 pub const RECORD: usize = RESULTS + 8 * RESULT;
 
-// A table: behind the Bridge ID the field of the number of ports, class priorities and leave time, the ports' settings, the clock,
-// the number of streams, the totals and the records.
+// A table: behind the Bridge ID the field of the number of ports, class priorities and leave time, the VLAN of the Domain values, the
+// ports' settings, the clock, the number of streams, the totals, what the ports hold and the records.
 pub const HEAD: usize = 8;
 
-pub const PORTS: usize = HEAD + 3;
+pub const VLAN: usize = HEAD + 3;
+
+pub const PORTS: usize = VLAN + 2;
 
 pub const CLOCK: usize = PORTS + 8 * PORT;
 
@@ -58,7 +72,9 @@ pub const COUNT: usize = CLOCK + 4;
 
 pub const TOTALS: usize = COUNT + 1;
 
-pub const RECORDS: usize = TOTALS + 8 * TOTAL;
+pub const OWNS: usize = TOTALS + 8 * TOTAL;
+
+pub const RECORDS: usize = OWNS + 8 * OWN;
 
 pub const LENGTH: usize = RECORDS + 64 * RECORD;
 
@@ -124,6 +140,14 @@ pub fn priority_b(table: &[u8]) -> u64
     octets::get(table, HEAD, 3) / PRIORITY_B_UNIT % 8
 }
 
+// The VLAN of the Domain values declared.
+pub fn domain_vlan(table: &[u8]) -> u64
+    requires { ⌜ Laid (now table) ⌝ }
+    ensures { λ r. ⌜ r ≡ decode (now (table .entry)) .settings .vlan ⌝ }
+{
+    octets::get(table, VLAN, 2)
+}
+
 // The settings of the port at place p.
 pub fn port_at(table: &[u8], p: usize) -> &[u8]
     requires { ⌜ PortIn (now table) p ⌝ }
@@ -149,6 +173,30 @@ pub fn totals_at(table: &[u8], p: usize) -> &[u8]
     let a = totals_in(table, p);
     let e = a + TOTAL;
     &table[a..e]
+}
+
+// The address of what it holds by itself, and that; the address of its Domain value in slot i.
+pub fn own_in(table: &[u8], p: usize) -> usize
+    requires { ⌜ PortIn (now table) p ⌝ }
+    ensures { λ r. ⌜ (r ≡ ownPlace p) × (r + ownSize ≤ length (now (table .entry))) ⌝ }
+{
+    OWNS + p * OWN
+}
+
+pub fn own_at(table: &[u8], p: usize) -> &[u8]
+    requires { ⌜ PortIn (now table) p ⌝ }
+    ensures { λ r. ⌜ ReadsOwn (now r) (ownAt (decode (now (table .entry)) .own) p) ⌝ }
+{
+    let a = own_in(table, p);
+    let e = a + OWN;
+    &table[a..e]
+}
+
+pub fn slot_in(table: &[u8], p: usize, i: usize) -> usize
+    requires { ⌜ SlotIn (now table) p i ⌝ }
+    ensures { λ r. ⌜ (r ≡ slotPlace p i) × (r + slotSize ≤ length (now (table .entry))) ⌝ }
+{
+    own_in(table, p) + i * SLOT
 }
 
 // The address of the record of stream k.

@@ -6,6 +6,7 @@ use crate::settings::{PerClass, PortSettings, Settings};
 const PORTS: Field = Field::plain("a number of ports", 4);
 const PRIORITY: Field = Field::plain("a priority", 3);
 const LEAVE_TIME: Field = Field::measured("a leave time", 14, Measure::Hundredths);
+const VLAN: Field = Field::plain("a VLAN", 12);
 const OVERHEAD: Field = Field::plain("an overhead", 8);
 const LARGEST: Field = Field::plain("a largest frame", 16);
 const LIMIT: Field = Field::measured("a limit", 40, Measure::BitsPerSecond);
@@ -24,12 +25,14 @@ pub fn bridge(words: &mut Words) -> Result<Settings, String> {
         bridge_id: words.hexadecimal("a Bridge ID", 64)?,
         priority: PerClass { a: 3, b: 2 },
         leave_time: 60,
+        vlan: 2,
         ports: Vec::new(),
     };
     while let Some(word) = words.next() {
         match word {
             "priorities" => settings.priority = per_class(words, PRIORITY)?,
             "leave" => settings.leave_time = words.number(LEAVE_TIME)?,
+            "vlan" => settings.vlan = words.number(VLAN)?,
             _ => return Err(unknown(word)),
         }
     }

@@ -57,6 +57,8 @@ fn words_make_the_octets_of_the_worked_example() {
     let text = "
         bridge 0   # all else is as in the worked example
         ports 2
+        on 1 domain 5 2 2 values 2
+        on 2 domain 5 2 2 values 2
         on 1 talker 0200000000010001 to 91e0f000fe00
         on 2 listener 0200000000010001 ready
         time 100

@@ -33,6 +33,7 @@ pub fn settings(ports: usize) -> Settings {
         bridge_id: 0x8000_0000_0000_0007,
         priority: PerClass { a: 3, b: 2 },
         leave_time: 60,
+        vlan: 2,
         ports: vec![port(); ports],
     }
 }
@@ -40,6 +41,22 @@ pub fn settings(ports: usize) -> Settings {
 pub fn started(settings: &Settings) -> Table {
     let mut table = Table::zeros();
     assert_eq!(table.start(&settings::write(settings)), 0);
+    table
+}
+
+/// A PDU of a neighbour in the domain of such a bridge: both classes with the bridge's priorities.
+pub fn own_domain(settings: &Settings) -> Vec<u8> {
+    let PerClass { a, b } = settings.priority;
+    let vectors = vec![domain_vector(5, b, &[JOIN_MT]), domain_vector(6, a, &[JOIN_MT])];
+    one_message(AttributeType::Domain, vectors)
+}
+
+/// A bridge whose neighbours are all in its domain.
+pub fn in_domain(settings: &Settings) -> Table {
+    let mut table = started(settings);
+    for port in 1..=settings.ports.len() as u32 {
+        accept(&mut table, port, &own_domain(settings));
+    }
     table
 }
 
@@ -102,6 +119,21 @@ pub fn domain_vector(class_id: u8, priority: u8, events: &[u8]) -> VectorDraft {
     }
 }
 
+/// A PDU of one vector of Domain values.
+pub fn domain_frame(class_id: u8, priority: u8, events: &[u8]) -> Vec<u8> {
+    one_message(AttributeType::Domain, vec![domain_vector(class_id, priority, events)])
+}
+
+/// A PDU of a LeaveAll without values.
+pub fn leave_all(attribute_type: AttributeType) -> Vec<u8> {
+    let vector = VectorDraft {
+        leave_all_event: 1,
+        first_value: vec![0; attribute_type.first_value_length()],
+        ..VectorDraft::default()
+    };
+    one_message(attribute_type, vec![vector])
+}
+
 /// A PDU of one Message.
 pub fn one_message(attribute_type: AttributeType, vectors: Vec<VectorDraft>) -> Vec<u8> {
     FrameDraft::new(vec![MessageDraft::new(attribute_type, vectors)]).octets()
@@ -120,6 +152,16 @@ pub fn join_talker(table: &mut Table, port: u32, talker: &Talker) {
 /// Registers a Listener on a port.
 pub fn join_listener(table: &mut Table, port: u32, stream_id: StreamId, listener_type: u8) {
     accept(table, port, &listener_frame(stream_id, JOIN_MT, listener_type));
+}
+
+/// A stream of class A and the next one of class B: Talkers on port 1, Ready Listeners on port 2.
+pub fn join_both_classes(table: &mut Table) {
+    let mut class_b = talker(STREAM + 1);
+    class_b.parameters.priority = 2;
+    for talker in [talker(STREAM), class_b] {
+        join_talker(table, 1, &talker);
+        join_listener(table, 2, talker.stream_id, READY);
+    }
 }
 
 /// Advances, which is to be accepted.

@@ -13,6 +13,7 @@ mod reports_and_start;
 mod settling;
 mod texts;
 mod the_calls_console;
+mod the_domain;
 mod the_sheet;
 mod the_table;
 mod worked_example;

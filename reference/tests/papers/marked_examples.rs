@@ -1,4 +1,4 @@
-//! P1 to P13 of 01, "Marked examples and near misses".
+//! P1 to P13 of 01, "Marked examples and near misses", with matching Domain joins first (02, (ii)).
 
 use crate::helpers::*;
 use reference::bridge::Table;
@@ -20,12 +20,12 @@ fn p1_event_octet_215_is_three_times_lv() {
     let events: Vec<Event> =
         read.vectors().flat_map(|vector| &vector.values).map(|(event, _)| *event).collect();
     assert_eq!(events, [Event::Lv; 3]);
-    assert_eq!(started(&settings(2)).receive(1, &frame_with_event_octet(215)), 0);
+    assert_eq!(in_domain(&settings(2)).receive(1, &frame_with_event_octet(215)), 0);
 }
 
 #[test]
 fn p2_event_octet_216_is_refused_with_6() {
-    assert_eq!(started(&settings(2)).receive(1, &frame_with_event_octet(216)), 6);
+    assert_eq!(in_domain(&settings(2)).receive(1, &frame_with_event_octet(216)), 6);
 }
 
 #[test]
@@ -39,7 +39,7 @@ fn p4_the_same_is_8544000_in_class_b() {
     assert_eq!(settling::rate(Class::B, OctetsPerInterval(267)), BitsPerSecond(8_544_000));
     let mut settings = settings(2);
     settings.ports[1].limit = PerClass { a: 0, b: 8_544_000 };
-    let mut table = started(&settings);
+    let mut table = in_domain(&settings);
     let mut class_b = talker(STREAM);
     class_b.parameters.priority = 2;
     join_talker(&mut table, 1, &class_b);
@@ -52,7 +52,7 @@ fn p4_the_same_is_8544000_in_class_b() {
 fn with_limit(limit: u64) -> Table {
     let mut settings = settings(2);
     settings.ports[1].limit.a = limit;
-    let mut table = started(&settings);
+    let mut table = in_domain(&settings);
     join_talker(&mut table, 1, &talker(STREAM));
     join_listener(&mut table, 2, STREAM, READY);
     advance(&mut table, 100);
@@ -80,7 +80,7 @@ fn p7_ready_with_asking_failed_is_ready_failed() {
         settling::merge(Some(ListenerType::Ready), Some(ListenerType::AskingFailed)),
         Some(ListenerType::ReadyFailed)
     );
-    let mut table = started(&settings(3));
+    let mut table = in_domain(&settings(3));
     join_talker(&mut table, 1, &talker(STREAM));
     join_listener(&mut table, 2, STREAM, READY);
     join_listener(&mut table, 3, STREAM, ASKING);
@@ -90,7 +90,7 @@ fn p7_ready_with_asking_failed_is_ready_failed() {
 
 /// Four Talkers of rank 1 on port 1, each with a Ready Listener on port 2.
 fn four_ready() -> Table {
-    let mut table = started(&settings(2));
+    let mut table = in_domain(&settings(2));
     for n in 0..4 {
         join_talker(&mut table, 1, &talker(STREAM + n));
         join_listener(&mut table, 2, STREAM + n, READY);
@@ -119,7 +119,7 @@ fn p9_a_less_important_fifth_gets_1() {
     assert_eq!(line(&table, 2, STREAM - 1), "failed 1 none filter");
     assert_eq!(table.report(2, 0).totals.a, 68_352_000);
     // Of the same second the highest StreamID is the least important.
-    let mut table = started(&settings(2));
+    let mut table = in_domain(&settings(2));
     for n in 0..5 {
         join_talker(&mut table, 1, &talker(STREAM + n));
         join_listener(&mut table, 2, STREAM + n, READY);
@@ -151,12 +151,12 @@ fn at_the_last_unique_id() -> Talker {
 #[test]
 fn p11_unique_id_ffff_with_2_values_is_7() {
     let frame = talker_frame(&at_the_last_unique_id(), &[JOIN_MT, JOIN_MT]);
-    assert_eq!(started(&settings(2)).receive(1, &frame), 7);
+    assert_eq!(in_domain(&settings(2)).receive(1, &frame), 7);
 }
 
 #[test]
 fn p12_unique_id_ffff_with_1_value_is_read() {
-    let mut table = started(&settings(2));
+    let mut table = in_domain(&settings(2));
     assert_eq!(table.receive(1, &talker_frame(&at_the_last_unique_id(), &[JOIN_MT])), 0);
     assert_eq!(held(&table), [0x0200_0000_0001_ffff]);
 }
@@ -164,7 +164,7 @@ fn p12_unique_id_ffff_with_1_value_is_read() {
 #[test]
 fn p13_leave_time_60_begun_at_100_is_held_at_159_and_gone_at_160() {
     for event in [LV, JOIN_MT] {
-        let mut table = started(&settings(2));
+        let mut table = in_domain(&settings(2));
         join_talker(&mut table, 1, &talker(STREAM));
         advance(&mut table, 100);
         accept(&mut table, 1, &talker_frame(&talker(STREAM), &[event]));
@@ -182,7 +182,7 @@ fn shut_out_ages_as_rounded_difference() {
     for (first, second, older_wins) in [(199, 200, true), (100, 199, false)] {
         let mut settings = settings(2);
         settings.ports[1].limit.a = 17_088_000;
-        let mut table = started(&settings);
+        let mut table = in_domain(&settings);
         join_talker(&mut table, 1, &talker(STREAM + 1));
         join_listener(&mut table, 2, STREAM + 1, READY);
         advance(&mut table, first);
@@ -202,7 +202,7 @@ fn shut_out_ages_as_rounded_difference() {
 fn shut_out_stopping_at_the_first_stream_that_does_not_fit() {
     let mut settings = settings(2);
     settings.ports[1].limit.a = 17_088_000;
-    let mut table = started(&settings);
+    let mut table = in_domain(&settings);
     let mut large = talker(STREAM);
     large.parameters.max_frame_size = 225;
     join_talker(&mut table, 1, &large);
@@ -218,7 +218,7 @@ fn shut_out_stopping_at_the_first_stream_that_does_not_fit() {
 fn shut_out_giving_a_stream_without_ready_listeners_a_share() {
     let mut settings = settings(2);
     settings.ports[1].limit.a = 17_088_000;
-    let mut table = started(&settings);
+    let mut table = in_domain(&settings);
     join_talker(&mut table, 1, &talker(STREAM));
     join_talker(&mut table, 1, &talker(STREAM + 1));
     join_listener(&mut table, 2, STREAM + 1, ASKING);

@@ -3,7 +3,7 @@
 use crate::helpers::*;
 use reference::bridge::Table;
 use reference::frame::{FrameDraft, MessageDraft, VectorDraft};
-use reference::pdu::{self, AttributeType, Event, ListenerType, Message, Value};
+use reference::pdu::{self, AttributeType, Domain, Event, ListenerType, Message, Value};
 
 fn number(frame: &[u8]) -> u8 {
     started(&settings(2)).receive(1, frame)
@@ -256,14 +256,13 @@ fn domain_octets_run_past_at_8_bits_each() {
 }
 
 #[test]
-fn domain_values_have_no_effect() {
-    let mut table = started(&settings(2));
-    join_talker(&mut table, 1, &talker(STREAM));
-    let before = table.clone();
-    let mut vector = domain_vector(6, 3, &[JOIN_MT, LV]);
-    vector.leave_all_event = 1;
-    accept(&mut table, 1, &one_message(AttributeType::Domain, vec![vector]));
-    assert_eq!(table, before);
+fn value_n_of_a_domain_adds_n_to_class_id_and_priority() {
+    let read = pdu::read(&domain_frame(4, 1, &[JOIN_MT, MT, LV])).unwrap();
+    let values: Vec<Value> =
+        read.vectors().flat_map(|vector| &vector.values).map(|(_, value)| *value).collect();
+    let expected = [(4, 1), (5, 2), (6, 3)]
+        .map(|(class_id, priority)| Value::Domain(Domain { class_id, priority, vlan: 2 }));
+    assert_eq!(values, expected);
 }
 
 #[test]

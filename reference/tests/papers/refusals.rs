@@ -10,7 +10,7 @@ use reference::table::TABLE_LENGTH;
 
 /// A bridge with a stream, settled.
 fn running() -> Table {
-    let mut table = started(&settings(2));
+    let mut table = in_domain(&settings(2));
     join_talker(&mut table, 1, &talker(STREAM));
     join_listener(&mut table, 2, STREAM, READY);
     advance(&mut table, 100);
@@ -215,10 +215,37 @@ fn number_11_settings_not_as_laid_out() {
         }
     }
     for octets in wrong {
-        let mut table = running();
-        let before = table.clone();
-        assert_eq!(table.start(&octets), 11, "{octets:02x?}");
-        assert_eq!(table, before);
+        start_refuses(&octets);
+    }
+}
+
+/// A refused start gives 11 and changes nothing.
+fn start_refuses(settings: &[u8]) {
+    let mut table = running();
+    let before = table.clone();
+    assert_eq!(table.start(settings), 11, "{settings:02x?}");
+    assert_eq!(table, before);
+}
+
+#[test]
+fn number_11_the_vlan_setting() {
+    let with_vlan = |vlan: u16| {
+        let mut octets = settings::write(&settings(2));
+        octets[11..13].copy_from_slice(&vlan.to_be_bytes());
+        octets
+    };
+    for vlan in [0, 4_095, 0x1002, 0x2002, 0x4002, 0x8002, 0xf002, 0x1000, 0xffff] {
+        start_refuses(&with_vlan(vlan));
+    }
+    for vlan in [1, 2, 0x0800, 4_094] {
+        assert_eq!(running().start(&with_vlan(vlan)), 0);
+    }
+    // Settings of 11 + 22 x ports octets, without a VLAN.
+    for ports in 1..=8 {
+        let mut octets = settings::write(&settings(ports));
+        octets.drain(11..13);
+        assert_eq!(octets.len(), 11 + 22 * ports);
+        start_refuses(&octets);
     }
 }
 
@@ -248,12 +275,13 @@ fn number_12_wrong_table_length_or_no_bridge() {
 #[test]
 fn number_13_place_above_declarations_or_streams_held() {
     let table = running();
-    for place in [2, 3, 65_535, u32::MAX] {
-        assert_eq!(table.write(1, place, &mut [0; 1500]).number, 13);
-        assert_eq!(table.report(1, place).number, 13);
+    // A Listener and two Domains are declared on port 1, and one stream is held.
+    for (place, write, report) in
+        [(1, 0, 0), (2, 0, 13), (3, 0, 13), (4, 13, 13), (65_535, 13, 13), (u32::MAX, 13, 13)]
+    {
+        assert_eq!(table.write(1, place, &mut [0; 1500]).number, write);
+        assert_eq!(table.report(1, place).number, report);
     }
-    assert_eq!(table.write(1, 1, &mut [0; 1500]).number, 0);
-    assert_eq!(table.report(1, 1).number, 0);
 }
 
 #[test]

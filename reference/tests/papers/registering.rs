@@ -23,13 +23,6 @@ fn leaving_of_talker(table: &Table) -> Option<u32> {
     talker_on(table, 1).leaving
 }
 
-fn leave_all(attribute_type: AttributeType) -> Vec<u8> {
-    let mut vector = listener_vector(0, &[], &[]);
-    vector.leave_all_event = 1;
-    vector.first_value = vec![0; attribute_type.first_value_length()];
-    one_message(attribute_type, vec![vector])
-}
-
 /// A bridge with a Talker Advertise on port 1, at clock 100.
 fn with_talker() -> Table {
     let mut table = started(&settings(2));

@@ -6,7 +6,7 @@ use reference::settings::{self, PerClass, Settings};
 use reference::settling::{Column, Entry};
 
 fn example() -> Table {
-    let mut table = started(&settings(2));
+    let mut table = in_domain(&settings(2));
     join_talker(&mut table, 1, &talker(STREAM));
     join_listener(&mut table, 2, STREAM, READY);
     advance(&mut table, 100);
@@ -115,6 +115,7 @@ fn settings_fields_stand_where_the_paper_says() {
     settings.bridge_id = 0x0102_0304_0506_0708;
     settings.priority = PerClass { a: 5, b: 6 };
     settings.leave_time = 0x2abc;
+    settings.vlan = 0x0def;
     settings.ports[0].supports = PerClass { a: false, b: true };
     settings.ports[0].sends_twice = true;
     settings.ports[0].overhead = 0x99;
@@ -122,7 +123,7 @@ fn settings_fields_stand_where_the_paper_says() {
     settings.ports[0].limit = PerClass { a: 0x01_0203_0405, b: 0xf1_f2f3_f4f5 };
     settings.ports[0].latency = PerClass { a: 0x1122_3344, b: 0x5566_7788 };
     let bits = "0000000100000010000000110000010000000101000001100000011100001000 \
-                0001 101 110 10101010111100 \
+                0001 101 110 10101010111100 0000 110111101111 \
                 0 1 1 00000 10011001 0001001000110100 \
                 0000000100000010000000110000010000000101 \
                 1111000111110010111100111111010011110101 \
@@ -145,7 +146,7 @@ fn settings_of_1_to_8_ports_are_accepted_with_any_overhead_limit_and_latency() {
             port.latency = PerClass { a: u32::MAX, b: 0 };
         }
         wide.leave_time = 16_383;
-        assert_eq!(settings::write(&wide).len(), 11 + 22 * ports);
+        assert_eq!(settings::write(&wide).len(), 13 + 22 * ports);
         assert_eq!(settings::read(&settings::write(&wide)), Some(wide.clone()));
         assert_eq!(started(&wide).report(ports as u32, 0).number, 0);
     }

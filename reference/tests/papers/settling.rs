@@ -8,7 +8,7 @@ use reference::settling::{self, BitsPerSecond, Column, OctetsPerInterval, Settle
 
 /// Port 1 has the Talker, port 2 a Ready Listener; settled.
 fn settled_with(settings: &Settings, talker: &Talker) -> Table {
-    let mut table = started(settings);
+    let mut table = in_domain(settings);
     join_talker(&mut table, 1, talker);
     join_listener(&mut table, 2, talker.stream_id, READY);
     advance(&mut table, 100);
@@ -22,7 +22,7 @@ fn settled(table: &Table) -> SettledStream {
 
 #[test]
 fn column_a_none_without_a_talker_and_on_the_talker_port() {
-    let mut table = started(&settings(3));
+    let mut table = in_domain(&settings(3));
     join_listener(&mut table, 2, STREAM, READY);
     advance(&mut table, 1);
     assert_eq!(line(&table, 1, STREAM), "none 0 none none");
@@ -36,7 +36,7 @@ fn column_a_none_without_a_talker_and_on_the_talker_port() {
 
 #[test]
 fn the_talker_port_is_the_lowest_with_a_talker_registration() {
-    let mut table = started(&settings(3));
+    let mut table = in_domain(&settings(3));
     join_talker(&mut table, 3, &talker(STREAM));
     join_talker(&mut table, 2, &failed(STREAM, 77));
     advance(&mut table, 1);
@@ -84,7 +84,7 @@ fn column_d_changed_mark_at_t_gives_16_with_this_bridge_id() {
 
 #[test]
 fn column_e_a_second_talker_gives_4_on_its_port_only_and_d_comes_first() {
-    let mut table = started(&settings(3));
+    let mut table = in_domain(&settings(3));
     join_talker(&mut table, 1, &talker(STREAM));
     // The second one's values, type and mark don't matter.
     let mut second = failed(STREAM, 99);
@@ -146,7 +146,7 @@ fn column_h_a_demand_equal_to_what_is_left_is_admitted() {
         [(2 * 17_088_000, "advertise 0 none forward"), (2 * 17_088_000 - 1, "failed 1 none filter")]
     {
         settings.ports[1].limit.a = limit;
-        let mut table = started(&settings);
+        let mut table = in_domain(&settings);
         for stream_id in [STREAM, STREAM + 1] {
             join_talker(&mut table, 1, &talker(stream_id));
             join_listener(&mut table, 2, stream_id, READY);
@@ -160,7 +160,7 @@ fn column_h_a_demand_equal_to_what_is_left_is_admitted() {
 fn streams_without_a_ready_listener_are_tested_against_what_the_more_important_left() {
     let mut settings = settings(2);
     settings.ports[1].limit.a = 17_088_000;
-    let mut table = started(&settings);
+    let mut table = in_domain(&settings);
     join_talker(&mut table, 1, &talker(STREAM));
     join_listener(&mut table, 2, STREAM, READY);
     join_talker(&mut table, 1, &talker(STREAM + 1));
@@ -186,13 +186,8 @@ fn demand_0_always_fits() {
 fn each_class_has_its_own_limit() {
     let mut settings = settings(2);
     settings.ports[1].limit = PerClass { a: 17_088_000, b: 8_544_000 };
-    let mut table = started(&settings);
-    let mut class_b = talker(STREAM + 1);
-    class_b.parameters.priority = 2;
-    for talker in [talker(STREAM), class_b] {
-        join_talker(&mut table, 1, &talker);
-        join_listener(&mut table, 2, talker.stream_id, READY);
-    }
+    let mut table = in_domain(&settings);
+    join_both_classes(&mut table);
     advance(&mut table, 1);
     assert_eq!(line(&table, 2, STREAM), "advertise 0 none forward");
     assert_eq!(line(&table, 2, STREAM + 1), "advertise 0 none forward");
@@ -229,7 +224,7 @@ fn the_largest_demand_is_exact() {
 fn rank_comes_before_age_and_age_before_stream_id() {
     let mut settings = settings(2);
     settings.ports[1].limit.a = 17_088_000;
-    let mut table = started(&settings);
+    let mut table = in_domain(&settings);
     // Old, rank 1, high StreamID.
     join_talker(&mut table, 1, &talker(STREAM + 9));
     join_listener(&mut table, 2, STREAM + 9, READY);
@@ -253,7 +248,7 @@ fn rank_comes_before_age_and_age_before_stream_id() {
 
 #[test]
 fn age_is_counted_from_the_whole_second_of_the_advance_that_first_made_an_entry() {
-    let mut table = started(&settings(2));
+    let mut table = in_domain(&settings(2));
     let since = |table: &Table, port: usize| settled(table).ports[port - 1].entry_since;
     join_talker(&mut table, 1, &talker(STREAM));
     advance(&mut table, 199);
@@ -270,7 +265,7 @@ fn age_is_counted_from_the_whole_second_of_the_advance_that_first_made_an_entry(
 
 #[test]
 fn age_is_forgotten_when_the_entry_goes_and_runs_on_while_it_stays() {
-    let mut table = started(&settings(2));
+    let mut table = in_domain(&settings(2));
     let since = |table: &Table| settled(table).ports[1].entry_since;
     // A Listener without a Talker has an entry already.
     join_listener(&mut table, 2, STREAM, READY);
@@ -299,7 +294,7 @@ fn age_is_forgotten_when_the_entry_goes_and_runs_on_while_it_stays() {
 fn an_entry_made_by_this_advance_counts_from_this_advance() {
     let mut settings = settings(2);
     settings.ports[1].limit.a = 17_088_000;
-    let mut table = started(&settings);
+    let mut table = in_domain(&settings);
     join_talker(&mut table, 1, &talker(STREAM + 1));
     advance(&mut table, 100);
     // Same second: the lower StreamID wins, though its entry is younger.
@@ -330,7 +325,7 @@ fn the_entries_of_table_35_12() {
     ] {
         let mut settings = settings.clone();
         settings.ports[2].supports.a = false;
-        let mut table = started(&settings);
+        let mut table = in_domain(&settings);
         join_talker(&mut table, 1, &talker(STREAM));
         for port in [2, 3, 4] {
             if let Some(listener) = listener {
@@ -372,7 +367,7 @@ fn the_listener_passed_on_follows_the_column() {
     let mut settings = settings(4);
     settings.ports[2].largest_frame = 0;
     settings.ports[3].supports.a = false;
-    let mut table = started(&settings);
+    let mut table = in_domain(&settings);
     join_talker(&mut table, 1, &talker(STREAM));
     join_listener(&mut table, 2, STREAM, READY);
     advance(&mut table, 1);
@@ -393,7 +388,7 @@ fn the_listener_passed_on_follows_the_column() {
 
 #[test]
 fn a_listener_registered_on_t_passes_nothing_on() {
-    let mut table = started(&settings(2));
+    let mut table = in_domain(&settings(2));
     join_talker(&mut table, 1, &talker(STREAM));
     join_listener(&mut table, 1, STREAM, ASKING);
     join_listener(&mut table, 2, STREAM, READY);
@@ -418,7 +413,7 @@ fn a_leaving_registration_counts_as_registered_until_removed() {
 
 #[test]
 fn a_time_equal_to_the_clock_settles_again() {
-    let mut table = started(&settings(2));
+    let mut table = in_domain(&settings(2));
     join_talker(&mut table, 1, &talker(STREAM));
     assert_eq!(line(&table, 2, STREAM), "none 0 none none");
     advance(&mut table, 0);
@@ -427,7 +422,7 @@ fn a_time_equal_to_the_clock_settles_again() {
 
 #[test]
 fn the_leave_time_near_the_clocks_end() {
-    let mut table = started(&settings(2));
+    let mut table = in_domain(&settings(2));
     join_talker(&mut table, 1, &talker(STREAM));
     advance(&mut table, u32::MAX - 60);
     accept(&mut table, 1, &talker_frame(&talker(STREAM), &[LV]));
@@ -470,7 +465,7 @@ fn rank_and_values_are_those_of_the_talker_port() {
     // The second Talker on port 3 has rank 0; the one on port 1 has rank 1 and counts.
     let mut settings = settings(3);
     settings.ports[1].limit.a = 17_088_000;
-    let mut table = started(&settings);
+    let mut table = in_domain(&settings);
     let mut second = talker(STREAM + 1);
     second.parameters.rank = 0;
     join_talker(&mut table, 1, &talker(STREAM));

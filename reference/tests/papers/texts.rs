@@ -16,6 +16,7 @@ fn a_number_above_its_field_is_an_error() {
         ("bridge 7 leave ", 16_383, "a leave time"),
         ("bridge 7 priorities 3 ", 7, "a priority"),
         ("bridge 7 priorities ", 7, "a priority"),
+        ("bridge 7 vlan ", 4_095, "a VLAN"),
         ("ports ", 15, "a number of ports"),
         ("ports 1 overhead ", 255, "an overhead"),
         ("ports 1 largest ", 65_535, "a largest frame"),
@@ -170,6 +171,8 @@ fn names_stand_for_streams_and_addresses() {
         stream soprano-1 0200000000010001
         ports 2 limits 75M 0
         stream hall 0200000000010002   # an address has this name too
+        on 1 domain 5 2 2 values 2
+        on 2 domain 5 2 2 values 2
         on 1 talker soprano-1 to hall
         on 2 listener soprano-1 ready
         time 1s
@@ -221,7 +224,7 @@ fn a_byte_order_mark_is_skipped() {
     assert_eq!(text(b"\xff\xfeb\0"), Err("the text is UTF-16, not UTF-8".to_string()));
 }
 
-/// 33 octets of settings, 35 of each line's record: the line that passes 65,536 is named.
+/// 35 octets of settings, 35 of each line's record: the line that passes 65,536 is named.
 #[test]
 fn a_sheet_has_at_most_the_octets_that_are_read() {
     let line = format!("on 1 octets {}\n", "00".repeat(32));
@@ -229,10 +232,10 @@ fn a_sheet_has_at_most_the_octets_that_are_read() {
         let text = format!("bridge 7\nports 1\n{}raw {end}\n", line.repeat(lines));
         read(&text, Program::Sheet).expect("records")
     };
-    let just = sheet(1_871, &"00".repeat(18));
+    let just = sheet(1_871, &"00".repeat(16));
     assert_eq!((just.octets.len(), just.too_long_for_a_sheet()), (65_536, None));
     let said = "line 1874: here the records pass 65,536 octets, and srpsheet reads no more (01, \"The printed sheet\"): use ./calls";
-    assert_eq!(sheet(1_871, &"00".repeat(19)).too_long_for_a_sheet(), Some(said.to_string()));
+    assert_eq!(sheet(1_871, &"00".repeat(17)).too_long_for_a_sheet(), Some(said.to_string()));
     assert_eq!(sheet(1_900, "").too_long_for_a_sheet(), Some(said.to_string()));
 }
 

@@ -3,10 +3,11 @@
 use crate::helpers::*;
 use reference::bridge::{Table, ROOM_LENGTH};
 use reference::numbers::Number;
+use reference::pdu::AttributeType;
 use reference::random::Random;
 use reference::records::{Call, Watcher};
-use reference::table::{self, broken_rules, cell, record, result, TABLE_LENGTH};
-use reference::table::{CLOCK, COUNT, RECORDS, RECORD_LENGTH, TOTALS};
+use reference::table::{self, broken_rules, cell, domain, edge, record, result};
+use reference::table::{CLOCK, COUNT, EDGES, RECORDS, RECORD_LENGTH, TABLE_LENGTH, TOTALS};
 use reference::{calls, generator, settings};
 
 fn record(place: usize) -> usize {
@@ -21,11 +22,21 @@ fn result(place: usize, port: usize) -> usize {
     record(place) + record::RESULTS.start + result::LENGTH * (port - 1)
 }
 
-/// Two ports and three streams, settled at that clock: one with a Talker Advertise on port 1 and
+/// What a port has of the domain.
+fn edge(port: usize) -> usize {
+    EDGES + edge::LENGTH * (port - 1)
+}
+
+/// The Domain record of a port for a class ID and priority.
+fn domain(port: usize, class_id: usize, priority: usize) -> usize {
+    edge(port) + domain::LENGTH * (8 * (class_id - 5) + priority)
+}
+
+/// Two ports, whose neighbours are in the bridge's domain, and three streams, settled at that clock: one with a Talker Advertise on port 1 and
 /// a Ready Listener on port 2, one with a Talker Failed on port 1, one with a Ready Listener on
 /// port 2 alone.
 fn three_streams(clock: u32) -> Table {
-    let mut table = started(&settings(2));
+    let mut table = in_domain(&settings(2));
     join_talker(&mut table, 1, &talker(STREAM));
     join_listener(&mut table, 2, STREAM, READY);
     join_talker(&mut table, 1, &failed(STREAM + 1, 9));
@@ -170,15 +181,15 @@ fn rule_4_the_leave_time() {
 #[test]
 fn rule_5_the_zero_bits() {
     for bit in 0..5 {
-        breaks(&three_streams(250), 5, 11, 0xc0 | 1 << bit);
-        breaks(&three_streams(250), 5, 33, 0xc0 | 1 << bit);
+        breaks(&three_streams(250), 5, 13, 0xc0 | 1 << bit);
+        breaks(&three_streams(250), 5, 35, 0xc0 | 1 << bit);
     }
-    keeps(&three_streams(250), 11, 0xe0);
+    keeps(&three_streams(250), 13, 0xe0);
 }
 
 #[test]
 fn rule_6_settings_of_no_port() {
-    for place in [55, 56, 186] {
+    for place in [57, 58, 188] {
         breaks(&three_streams(250), 6, place, 1);
     }
 }
@@ -446,6 +457,105 @@ fn rule_29_totals_of_no_stream() {
     join_listener(&mut table, 1, STREAM, READY);
     keeps(&table, TOTALS + 4, 1);
     breaks(&table, 29, TOTALS + 14, 1);
+}
+
+#[test]
+fn the_octets_of_the_domain() {
+    let mut settings = settings(3);
+    settings.ports[2].supports.a = false;
+    let mut table = started(&settings);
+    advance(&mut table, 0x0102_0304);
+    // Class B on port 1 with VLAN 2, leaving; class A on port 2 with another priority.
+    accept(&mut table, 1, &domain_frame(5, 2, &[JOIN_MT]));
+    accept(&mut table, 1, &domain_frame(5, 2, &[LV]));
+    let mut other = domain_vector(6, 7, &[JOIN_MT]);
+    other.first_value[2..].copy_from_slice(&[0xff, 0xfe]);
+    accept(&mut table, 2, &one_message(AttributeType::Domain, vec![other]));
+    advance(&mut table, 0x0102_0305);
+    let octets = table.lent();
+    let mut expected = vec![0; 8 * edge::LENGTH];
+    expected[2 * 8..3 * 8].copy_from_slice(&[1, 1, 1, 2, 3, 4, 0, 2]);
+    expected[130 + 15 * 8..130 + 16 * 8].copy_from_slice(&[1, 0, 0, 0, 0, 0, 0xff, 0xfe]);
+    // The flags of classes A and B: port 1 has no class A, port 2 another one and no class B, port 3
+    // doesn't support class A and has no class B.
+    for (port, flags) in [[1, 0], [1, 1], [1, 1]].into_iter().enumerate() {
+        expected[130 * port + 128..130 * port + 130].copy_from_slice(&flags);
+    }
+    assert_eq!(octets[274..1_314], expected);
+}
+
+#[test]
+fn rule_30_the_vlan_setting() {
+    let table = three_streams(250);
+    assert_eq!(table.lent()[11..13], [0, 2]);
+    breaks(&table, 30, 12, 0);
+    for bit in 4..8 {
+        breaks(&table, 30, 11, 1 << bit);
+    }
+    let mut last = table.clone();
+    last.store(11, 0x0f);
+    breaks(&last, 30, 12, 0xff);
+    keeps(&last, 12, 0xfe);
+    keeps(&table, 12, 1);
+}
+
+#[test]
+fn rule_31_registered() {
+    let table = three_streams(250);
+    for place in [domain(1, 5, 2), domain(2, 6, 3), domain(1, 5, 0), domain(2, 6, 7)] {
+        breaks(&table, 31, place + domain::REGISTERED, 2);
+        breaks(&table, 31, place + domain::REGISTERED, 255);
+    }
+    keeps(&table, domain(1, 5, 0) + domain::REGISTERED, 1);
+    keeps(&table, domain(2, 6, 7) + domain::REGISTERED, 1);
+}
+
+#[test]
+fn rule_32_a_leaving_domain() {
+    let table = three_streams(250);
+    let (flag, since) = (domain::LEAVING, domain::SINCE.end - 1);
+    let place = domain(2, 6, 3);
+    breaks(&table, 32, place + flag, 2);
+    breaks(&table, 32, place + flag, 1); // from 0, long before
+    breaks(&table, 32, place + since, 250); // not leaving
+    let mut leaving = table.clone();
+    accept(&mut leaving, 2, &domain_frame(6, 3, &[LV]));
+    keeps(&leaving, place + since, 191); // 59 before the clock
+    breaks(&leaving, 32, place + since, 190);
+    breaks(&leaving, 32, place + since, 251);
+    breaks(&leaving, 32, place + flag, 0);
+    keeps(&three_streams(59), place + flag, 1);
+    breaks(&three_streams(60), 32, place + flag, 1);
+}
+
+#[test]
+fn rule_33_fields_without_a_domain_registration() {
+    let table = three_streams(59);
+    for place in [domain(1, 5, 0), domain(1, 6, 2), domain(2, 6, 7)] {
+        breaks(&table, 33, place + domain::LEAVING, 1);
+        breaks(&table, 33, place + domain::VLAN.start, 1);
+        breaks(&table, 33, place + domain::VLAN.end - 1, 1);
+    }
+    breaks(&table, 33, domain(1, 5, 2) + domain::REGISTERED, 0);
+    keeps(&table, domain(1, 5, 2) + domain::VLAN.start, 0xff);
+}
+
+#[test]
+fn rule_34_boundary_flags() {
+    let table = three_streams(250);
+    for flag in [edge(1) + 128, edge(1) + 129, edge(2) + 128, edge(2) + 129] {
+        breaks(&table, 34, flag, 2);
+        // Registrations may have changed since, so no rule ties the flags to them.
+        keeps(&table, flag, 1);
+    }
+}
+
+#[test]
+fn rule_35_the_domain_of_no_port() {
+    let table = three_streams(250);
+    for place in [edge(3), edge(3) + 7, edge(3) + 128, edge(8), RECORDS - 1] {
+        breaks(&table, 35, place, 1);
+    }
 }
 
 /// Checks that calls leave tables that keep the form, and that octets which do are taken over

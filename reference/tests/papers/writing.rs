@@ -1,4 +1,4 @@
-//! Writing (01, "Writing"), and reading back what is written.
+//! Writing (01, "Writing"; 02, (ii)), and reading back what is written.
 
 use crate::helpers::*;
 use reference::bridge::{Table, WriteAnswer};
@@ -31,8 +31,12 @@ fn all_pdus(table: &Table, port: u32) -> Vec<Vec<u8>> {
     }
 }
 
+fn declared(table: &Table, port: usize) -> Vec<Declaration> {
+    table.bridge().unwrap().declarations(port)
+}
+
 fn count(table: &Table, port: usize) -> usize {
-    declarations::of_port(&table.bridge().unwrap().settled, port).len()
+    declared(table, port).len()
 }
 
 /// Talkers on port 1, so many of them Advertise and so many Failed, and Listeners of others on
@@ -41,7 +45,7 @@ fn crowd(advertise: usize, failing: usize, listening: usize) -> Table {
     let mut settings = settings(2);
     settings.ports[1].limit.a = (1 << 40) - 1;
     settings.ports[0].limit.a = (1 << 40) - 1;
-    let mut table = started(&settings);
+    let mut table = in_domain(&settings);
     let mut stream_id: StreamId = STREAM;
     for n in 0..advertise + failing {
         let talker = if n % 2 == 0 && n / 2 < failing || n >= 2 * advertise {
@@ -65,23 +69,23 @@ fn crowd(advertise: usize, failing: usize, listening: usize) -> Table {
 fn what_is_written_reads_back_as_the_declarations_in_order() {
     let table = crowd(30, 5, 20);
     for port in [1, 2] {
-        let expected = declarations::of_port(&table.bridge().unwrap().settled, port as usize);
         let read: Vec<Declaration> =
             all_pdus(&table, port).iter().flat_map(|octets| read_back(octets)).collect();
-        assert_eq!(read, expected);
+        assert_eq!(read, declared(&table, port as usize));
     }
 }
 
 #[test]
-fn declarations_stand_by_type_then_stream_id() {
+fn declarations_stand_by_type_then_stream_id_or_class_id() {
     let table = crowd(6, 4, 5);
     let (octets, next) = written(&table, 2, 0);
     assert_eq!(next, count(&table, 2));
-    let order: Vec<(AttributeType, StreamId)> = read_back(&octets)
+    let order: Vec<(AttributeType, u64)> = read_back(&octets)
         .iter()
         .map(|declaration| match declaration {
             Declaration::Talker(talker) => (declaration.attribute_type(), talker.stream_id),
             Declaration::Listener(stream_id, _) => (declaration.attribute_type(), *stream_id),
+            Declaration::Domain(domain) => (AttributeType::Domain, u64::from(domain.class_id)),
         })
         .collect();
     let mut sorted = order.clone();
@@ -91,8 +95,9 @@ fn declarations_stand_by_type_then_stream_id() {
     assert_eq!(of(AttributeType::TalkerAdvertise), 6);
     assert_eq!(of(AttributeType::TalkerFailed), 4);
     assert_eq!(of(AttributeType::Listener), 5);
+    assert_eq!(order[15..], [(AttributeType::Domain, 5), (AttributeType::Domain, 6)]);
     // One Message per type.
-    assert_eq!(pdu::read(&octets).unwrap().messages.len(), 3);
+    assert_eq!(pdu::read(&octets).unwrap().messages.len(), 4);
 }
 
 #[test]
@@ -105,8 +110,9 @@ fn as_many_as_fit_in_1500_octets_whole() {
     let table = crowd(54, 0, 0);
     let (octets, next) = written(&table, 2, 0);
     assert_eq!((octets.len(), next), (1493, 53));
+    // With the last one the Domain Message of 20 octets.
     let (octets, next) = written(&table, 2, 53);
-    assert_eq!((octets.len(), next), (37, 54));
+    assert_eq!((octets.len(), next), (37 + 20, 56));
 }
 
 #[test]
@@ -118,17 +124,36 @@ fn a_pdu_may_have_exactly_1500_octets() {
     let table = crowd(20, 26, 0);
     let (octets, next) = written(&table, 2, 0);
     assert_eq!((octets.len(), next), (1500, 45));
+    // 3 + (6 + 26 x 28) + (6 + 11 x 37) + (6 + 27 x 12) + (6 + 2 x 7)
+    let (octets, next) = written(&crowd(26, 11, 27), 2, 0);
+    assert_eq!((octets.len(), next), (1500, 66));
+}
+
+#[test]
+fn a_pdu_may_end_before_the_domain_message_or_within_it() {
+    // 53 Advertise leave 7 octets: a Domain's vector has 7, and its Message 6 more.
+    let table = crowd(53, 0, 0);
+    assert_eq!(written(&table, 2, 0).1, 53);
+    let (octets, next) = written(&table, 2, 53);
+    assert_eq!((octets.len(), next), (3 + 20, 55));
+    // 3 + (6 + 28 x 28) + (6 + 10 x 37) + (6 + 26 x 12) + (6 + 7)
+    let table = crowd(28, 10, 26);
+    let (octets, next) = written(&table, 2, 0);
+    assert_eq!((octets.len(), next), (1500, 65));
+    let (octets, next) = written(&table, 2, 65);
+    assert_eq!((octets.len(), next), (3 + 13, 66));
+    assert_eq!(read_back(&octets), declared(&table, 2)[65..]);
 }
 
 #[test]
 fn the_first_that_does_not_fit_ends_the_pdu_though_a_shorter_one_would() {
     // 52 Advertise leave 1,500 - 1,465 = 35 octets: a Failed needs 43, a Listener 18.
     let table = crowd(52, 1, 1);
-    assert_eq!(count(&table, 2), 54);
+    assert_eq!(count(&table, 2), 56);
     let (octets, next) = written(&table, 2, 0);
     assert_eq!((octets.len(), next), (1465, 52));
     let (octets, next) = written(&table, 2, 52);
-    assert_eq!((octets.len(), next), (3 + 43 + 18, 54));
+    assert_eq!((octets.len(), next), (3 + 43 + 18 + 20, 56));
 }
 
 #[test]
@@ -146,7 +171,7 @@ fn a_new_message_needs_room_for_its_own_header_and_end_mark() {
 #[test]
 fn from_a_place_in_the_middle() {
     let table = crowd(3, 2, 2);
-    let expected = declarations::of_port(&table.bridge().unwrap().settled, 2);
+    let expected = declared(&table, 2);
     for place in 0..=expected.len() {
         let (octets, next) = written(&table, 2, place as u32);
         assert_eq!(next, expected.len());
@@ -157,13 +182,14 @@ fn from_a_place_in_the_middle() {
 #[test]
 fn place_equal_to_count_gives_the_empty_pdu() {
     let table = crowd(3, 2, 2);
-    assert_eq!(written(&table, 2, 7), (vec![0, 0, 0], 7));
+    assert_eq!(written(&table, 2, 9), (vec![0, 0, 0], 9));
     let mut buffer = [0; 1500];
-    assert_eq!(table.write(2, 8, &mut buffer).number, 13);
-    // Start leaves the settled state empty.
+    assert_eq!(table.write(2, 10, &mut buffer).number, 13);
+    // Start leaves the settled state empty, and the Domain declarations.
     let table = started(&settings(2));
-    assert_eq!(written(&table, 1, 0), (vec![0, 0, 0], 0));
-    assert_eq!(table.write(1, 1, &mut buffer).number, 13);
+    assert_eq!(written(&table, 1, 0).1, 2);
+    assert_eq!(written(&table, 1, 2), (vec![0, 0, 0], 2));
+    assert_eq!(table.write(1, 3, &mut buffer).number, 13);
 }
 
 #[test]
@@ -195,7 +221,8 @@ fn the_octets_of_each_type() {
     let mut settings = settings(2);
     settings.ports[1].latency = PerClass { a: 0x0102, b: 0 };
     settings.ports[1].largest_frame = 300;
-    let mut table = started(&settings);
+    settings.vlan = 0x0abc;
+    let mut table = in_domain(&settings);
     let mut advertise = talker(STREAM);
     advertise.accumulated_latency = 0x0a00_0000;
     advertise.parameters.vlan = 0xf123;
@@ -208,7 +235,7 @@ fn the_octets_of_each_type() {
     join_listener(&mut table, 1, STREAM + 2, READY_FAILED);
     advance(&mut table, 1);
     let (octets, next) = written(&table, 2, 0);
-    assert_eq!(next, 3);
+    assert_eq!(next, 5);
     let mut expected: Vec<u8> = vec![0];
     expected.extend([1, 25, 0, 30, 0, 1, 2, 0, 0, 0, 0, 1, 0, 1]);
     expected.extend([0x91, 0xe0, 0xf0, 0, 0, 1, 0xf1, 0x23, 0, 224, 0, 1, 0x70]);
@@ -217,6 +244,8 @@ fn the_octets_of_each_type() {
     expected.extend([0x91, 0xe0, 0xf0, 0, 0, 2, 0, 2, 1, 0x2d, 0, 1, 0x60]);
     expected.extend([0, 0, 0x01, 0x02, 0x80, 0, 0, 0, 0, 0, 0, 7, 14, 0x6c, 0, 0]);
     expected.extend([3, 8, 0, 14, 0, 1, 2, 0, 0, 0, 0, 1, 0, 3, 0x6c, 0xc0, 0, 0]);
+    expected.extend([4, 4, 0, 16, 0, 1, 5, 2, 0x0a, 0xbc, 0x6c]);
+    expected.extend([0, 1, 6, 3, 0x0a, 0xbc, 0x6c, 0, 0]);
     expected.extend([0, 0]);
     assert_eq!(octets, expected);
 }
@@ -225,7 +254,7 @@ fn the_octets_of_each_type() {
 fn reserved_bits_are_written_0() {
     let mut vector = talker_vector(&talker(STREAM), &[JOIN_MT]);
     vector.first_value[20] |= 0x0f;
-    let mut table = started(&settings(2));
+    let mut table = in_domain(&settings(2));
     accept(&mut table, 1, &one_message(AttributeType::TalkerAdvertise, vec![vector]));
     advance(&mut table, 1);
     let (octets, _) = written(&table, 2, 0);
@@ -234,7 +263,7 @@ fn reserved_bits_are_written_0() {
 
 #[test]
 fn written_declarations_show_the_last_settled_state() {
-    let mut table = started(&settings(3));
+    let mut table = in_domain(&settings(3));
     join_talker(&mut table, 2, &talker(STREAM));
     join_listener(&mut table, 3, STREAM, READY);
     advance(&mut table, 1);
@@ -264,8 +293,7 @@ impl Watcher for WritesReadBack {
             (Call::Write { port, place, answer }, 0) => (port, place, answer),
             _ => return,
         };
-        let bridge = table.bridge().unwrap();
-        let declared = declarations::of_port(&bridge.settled, *port as usize);
+        let declared = declared(table, *port as usize);
         let (octets, next) = written(table, *port, *place);
         let expected = WriteAnswer { number: 0, length: octets.len(), next_place: next };
         assert_eq!(*answer, expected);
@@ -301,8 +329,10 @@ fn pdus_are_taken_apart_into_the_words_of_a_text() {
     let printed = taken_apart(&in_hex(&pdus)).expect("they are as 01 says");
     let (lengths, words): (Vec<&str>, Vec<&str>) =
         printed.lines().partition(|line| line.starts_with("pdu"));
-    let expected =
-        ["pdu 1493 advertise 53 failed 0 listener 0", "pdu 197 advertise 0 failed 2 listener 9"];
+    let expected = [
+        "pdu 1493 advertise 53 failed 0 listener 0 domain 0",
+        "pdu 217 advertise 0 failed 2 listener 9 domain 2",
+    ];
     assert_eq!(lengths, expected);
     let declared: Vec<Declaration> = pdus.iter().flat_map(|pdu| read_back(pdu)).collect();
     assert_eq!(words.len(), declared.len());

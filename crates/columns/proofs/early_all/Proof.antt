@@ -3,6 +3,7 @@ use Prim.Native.Nat.{_-_, _<_}
 use mathlib.Core.Path.{refl}
 use native.Mathlib.Omega.{arith}
 use borrow.Author.Needs.{needs}
+use Rattle.model.specs.Settling.{sceneOf}
 use Rattle.model.specs.Table.{decode}
 use Rattle.table.proofs.EachStream.{Partly, none-yet}
 use Rattle.columns.specs.Stages.{early}
@@ -11,7 +12,7 @@ use Rattle.columns.proofs.early_all.Statement.{statement}
 use Rattle.columns.proofs.early_all.Tie as tie
 
 abbrev Inv-loop : tie.InvT-loop
-Inv-loop table₀ time count k₀ table k = Partly (early (decode table₀ .settings) time) table₀ count table k
+Inv-loop table₀ time count k₀ table k = Partly (early (sceneOf (decode table₀)) time) table₀ count table k
 
 abbrev μ-loop : tie.MeasureT-loop
 μ-loop table₀ time count k₀ table k = count - k

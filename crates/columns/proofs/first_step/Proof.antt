@@ -6,23 +6,24 @@ use native.Mathlib.Omega.{arith}
 use lib.ListN.{getD}
 use borrow.Author.Needs.{needs}
 use borrow.Author.Tests.{eq-eqb, ne-eqb, lt-ltb, le-ltb}
-use Rattle.model.specs.State.{Settings, Column}
+use Rattle.model.specs.State.{Column}
+use Rattle.model.specs.Settling.{Scene, sceneOf}
 use Rattle.model.specs.Table.{decode}
 use Rattle.streams.specs.Answers.{classShown}
 use Rattle.columns.specs.Answers.{columnShown}
-use Rattle.columns.proofs.Steps.{talking, not-talking, class, decided, from-a, from-b, from-c, from-d, from-e, from-f, from-g, no-source, steps-asked}
+use Rattle.columns.proofs.Steps.{talking, not-talking, class, decided, from-a, from-b, from-c, from-d, from-e, from-f, from-g, from-j, no-source, steps-asked}
 use Rattle.columns.proofs.first_step.Statement.{statement}
 use Rattle.columns.proofs.first_step.Tie as tie
 
 -- past the first test the Talker's cell has a Talker; there the column is what the steps from one of them on give
-abbrev Reaches : tie.Else1 → (Settings → List ℕ → List ℕ → List ℕ → ℕ → ℕ → Column) → Type 0
+abbrev Reaches : tie.Else1 → (Scene → List ℕ → List ℕ → List ℕ → ℕ → ℕ → Column) → Type 0
 Reaches c steps =
     let a = c .before .before .before .before .before .before .before .args in
-    decided (decode (a .table .now) .settings) (a .port .now) (a .here .now) (a .said .now) (a .p) (a .t)
-    ≡ steps (decode (a .table .now) .settings) (a .port .now) (a .here .now) (a .said .now) (a .p) (a .t)
+    decided (sceneOf (decode (a .table .now))) (a .port .now) (a .here .now) (a .said .now) (a .p) (a .t)
+    ≡ steps (sceneOf (decode (a .table .now))) (a .port .now) (a .here .now) (a .said .now) (a .p) (a .t)
 
 -- the class, as the calls of `supports` and `no_class` were asked with it
-class-read : (c : tie.After-class-of) → let a = c .before .before .before .before .before .before .before .before .before .before .args in classShown (c .class-of .result) ≡ class (decode (a .table .now) .settings) (a .port .now) (a .here .now) (a .said .now) (a .p) (a .t)
+class-read : (c : tie.After-class-of) → let a = c .before .before .before .before .before .before .before .before .before .before .args in classShown (c .class-of .result) ≡ class (sceneOf (decode (a .table .now))) (a .port .now) (a .here .now) (a .said .now) (a .p) (a .t)
 class-read c = rw (← (c .before .get .ensures .0)) (c .class-of .ensures)
 
 reaches-a : (c : tie.Else1) → Reaches c from-a
@@ -45,8 +46,13 @@ reaches-e c = reaches-d (c .before) ∙ rw (ne-eqb _ _ (c .if5 .left))
 reaches-f : (c : tie.Else6) → Reaches (c .before .before .before .before .before .before .before .before .before) from-f
 reaches-f c = reaches-e (c .before .before) ∙ rw (not-talking _ (c .if6 .left))
 
-reaches-g : (c : tie.Else7) → Reaches (c .before .before .before .before .before .before .before .before .before .before .before) from-g
-reaches-g c = reaches-f (c .before .before) ∙ rw (← class-read (c .before .before .before .before .before .before .before .before), ← (c .before .no-class .ensures), c .if7 .left)
+reaches-j : (c : tie.Else7) → Reaches (c .before .before .before .before .before .before .before .before .before .before .before) from-j
+reaches-j c = reaches-f (c .before .before) ∙ rw (← class-read (c .before .before .before .before .before .before .before .before), ← (c .before .no-class .ensures), c .if7 .left)
+
+reaches-g : (c : tie.Else8) → Reaches (c .before .before .before .before .before .before .before .before .before .before .before .before .before) from-g
+reaches-g c =
+    reaches-j (c .before .before)
+    ∙ rw (← class-read (c .before .before .before .before .before .before .before .before .before .before), ← (c .before .at-edge .ensures), c .if8 .left)
 
 returns : tie.Need-returns
 unfolding columnShown
@@ -76,11 +82,17 @@ returns-7 c = c .own3 .ensures ∙ sym (reaches-f (c .before .before .before) �
 returns-8 : tie.Need-returns-8
 returns-8 c =
     c .own4 .ensures
-    ∙ sym (reaches-g (c .before .before .before .before) ∙ rw (lt-ltb _ _ (rw (c .before .before .before .get3 .ensures .0, c .before .before .get4 .ensures .0) at (c .before .if8 .taken))))
+    ∙ sym (reaches-j (c .before .before .before)
+    ∙ rw (← class-read (c .before .before .before .before .before .before .before .before .before .before .before), ← (c .before .before .at-edge .ensures), c .before .if8 .taken))
 
 returns-9 : tie.Need-returns-9
+returns-9 c =
+    c .own5 .ensures
+    ∙ sym (reaches-g (c .before .before .before .before) ∙ rw (lt-ltb _ _ (rw (c .before .before .before .get3 .ensures .0, c .before .before .get4 .ensures .0) at (c .before .if9 .taken))))
+
+returns-10 : tie.Need-returns-10
 unfolding columnShown
-returns-9 c = sym (reaches-g (c .before .before .before) ∙ rw (le-ltb _ _ (rw (c .before .before .get3 .ensures .0, c .before .get4 .ensures .0) at (c .if8 .left))))
+returns-10 c = sym (reaches-g (c .before .before .before) ∙ rw (le-ltb _ _ (rw (c .before .before .get3 .ensures .0, c .before .get4 .ensures .0) at (c .if9 .left))))
 
 pub first-step-spec : {M : Type 1} → statement M
 first-step-spec =
@@ -88,4 +100,5 @@ first-step-spec =
     (tie.spec (λ c. search needs) (λ c. search needs) returns returns-2 (λ c κs. search needs) (λ c κs. search needs)
     (λ c κs. search needs) returns-3 (λ c κs. search needs) (λ c. search needs) returns-4 (λ c κs. search needs) returns-5
     (λ c. search needs) (λ c κs. search needs) returns-6 (λ c κs. search needs) (λ c κs. search needs) returns-7
-    (λ c κs. search needs) (λ c κs. search needs) (λ c κs. search needs) returns-8 returns-9)
+    (λ c κs. search needs) (λ c κs. search needs) returns-8 (λ c κs. search needs) (λ c κs. search needs) (λ c κs. search needs)
+    returns-9 returns-10)

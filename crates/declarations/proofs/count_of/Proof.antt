@@ -8,15 +8,15 @@ use borrow.Author.Tests.{not-true, not-false}
 use lib.ListN.{length}
 use Rattle.model.specs.Table.{decode}
 use Rattle.declarations.specs.declared.Attribute.{Attribute}
-use Rattle.declarations.specs.Passes.{kind, found}
-use Rattle.declarations.proofs.Declared.{from, none-here, one-counted, no-streams}
+use Rattle.declarations.specs.Passes.{type, declarers, found}
+use Rattle.declarations.proofs.Declared.{from, from-first, none-left, none-here, one-counted}
 use Rattle.declarations.proofs.count_of.Statement.{statement}
 use Rattle.declarations.proofs.count_of.Tie as tie
 
 record Counting (t : List ℕ) (p : ℕ) (attribute : Attribute) (count n k : ℕ) : Type 0 where
   within : k ≤ count
   few : n ≤ k
-  left : n + length (from (kind attribute) p (decode t .streams) k) ≡ length (found attribute p t)
+  left : n + length (from (type attribute) p (decode t) k) ≡ length (found attribute p t)
 
 abbrev Inv-loop : tie.InvT-loop
 Inv-loop table p attribute count n₀ k₀ n k = Counting table p attribute count n k
@@ -25,10 +25,13 @@ abbrev μ-loop : tie.MeasureT-loop
 μ-loop table p attribute count n₀ k₀ n k = count - k
 
 loop-holds : tie.Need-loop-holds Inv-loop μ-loop
-loop-holds c = record { within = omega arith; few = omega arith; left = omega arith }
+loop-holds c =
+    let a = c .before .before .args in
+    record { within = omega arith; few = omega arith; left = omega (arith, ap length (from-first (type (a .attribute)) (a .p) (decode (a .table .now)))) }
 
--- there is a stream k
-held : (c : tie.In-loop Inv-loop μ-loop) → c .before .loop .k < length (decode (c .before .before .before .before .args .table .now) .streams)
+-- there is a declarer at place k
+held : (c : tie.In-loop Inv-loop μ-loop)
+    → c .before .loop .k < declarers (type (c .before .before .before .before .args .attribute)) (decode (c .before .before .before .before .args .table .now))
 held c = omega arith
 
 declares-requires : tie.Need-declares-requires Inv-loop μ-loop
@@ -42,7 +45,7 @@ loop-again c =
     record {
       within = omega arith;
       few = omega arith;
-      left = omega (arith, ap length (none-here (kind (a .attribute)) (a .p) (decode (a .table .now) .streams) (l .k) (held (c .before .before)) q), l .inv .left);
+      left = omega (arith, ap length (none-here (type (a .attribute)) (a .p) (decode (a .table .now)) (l .k) (held (c .before .before)) q), l .inv .left);
     }
 
 loop-again-2 : tie.Need-loop-again-2 Inv-loop μ-loop
@@ -53,16 +56,15 @@ loop-again-2 c =
     record {
       within = omega arith;
       few = omega arith;
-      left = omega (arith, one-counted (kind (a .attribute)) (a .p) (decode (a .table .now) .streams) (l .k) (held (c .before .before)) q, l .inv .left);
+      left = omega (arith, one-counted (type (a .attribute)) (a .p) (decode (a .table .now)) (l .k) (held (c .before .before)) q, l .inv .left);
     }
 
 returns : tie.Need-returns Inv-loop μ-loop
 returns c =
     let l = c .before .loop in
     let a = c .before .before .before .before .args in
-    let s = decode (a .table .now) .streams in
-    let h : length s ≤ l .k = omega arith in
-    (omega (arith, ap length (no-streams (kind (a .attribute)) (a .p) s (l .k) h), l .inv .left), omega arith)
+    let h : declarers (type (a .attribute)) (decode (a .table .now)) ≤ l .k = omega arith in
+    (omega (arith, ap length (none-left (type (a .attribute)) (a .p) (decode (a .table .now)) (l .k) h), l .inv .left), omega arith)
 
 pub count-of-spec : {M : Type 1} → statement M
 count-of-spec =

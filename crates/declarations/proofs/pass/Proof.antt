@@ -2,8 +2,8 @@
 use native.Mathlib.Omega.{arith}
 use borrow.Author.Needs.{needs}
 use Rattle.model.specs.Table.{decode}
-use Rattle.model.proofs.WritingPasses.{ofKind-kind}
-use Rattle.declarations.specs.Passes.{kind, found}
+use Rattle.declarations.specs.Passes.{type, found}
+use Rattle.declarations.proofs.Written.{of-type}
 use Rattle.declarations.proofs.Fitting.{pass-full, pass-over}
 use Rattle.declarations.proofs.pass.Statement.{statement}
 use Rattle.declarations.proofs.pass.Tie as tie
@@ -12,7 +12,7 @@ returns : tie.Need-returns
 returns c =
     let start = c .before .before .before in
     let a = start .args in
-    let made = pass-full (kind (a .attribute)) (found (a .attribute) (a .p) (a .table .now)) (a .from) (a .buffer .now) (c .if1 .taken) in
+    let made = pass-full (type (a .attribute)) (found (a .attribute) (a .p) (a .table .now)) (a .from) (a .buffer .now) (c .if1 .taken) in
     record { progress = made .0; buffer = made .1; room = start .pre .room; next = omega arith }
 
 take-run-requires : tie.Need-take-run-requires
@@ -28,9 +28,9 @@ returns-3 : tie.Need-returns-3
 returns-3 c =
     let start = c .before .before .before .before .before in
     let a = start .args in
-    let k = kind (a .attribute) in
+    let k = type (a .attribute) in
     let made =
-    pass-over k (found (a .attribute) (a .p) (a .table .now)) (a .from) (a .buffer .now) (ofKind-kind k (a .p) (decode (a .table .now) .streams)) (c .before .before .if1 .left)
+    pass-over k (found (a .attribute) (a .p) (a .table .now)) (a .from) (a .buffer .now) (of-type k (a .p) (decode (a .table .now))) (c .before .before .if1 .left)
     _ (c .before .count-of .ensures .0) (c .if2 .left) in
     record { progress = made .0; buffer = made .1; room = start .pre .room; next = omega arith }
 

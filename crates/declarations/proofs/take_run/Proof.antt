@@ -10,8 +10,8 @@ use Rattle.octets.proofs.Parts.{lent-part, length-part}
 use Rattle.octets.proofs.Patches.{lent-patch}
 use Rattle.model.specs.FrameLayout.{longestPdu}
 use Rattle.model.specs.Table.{decode}
-use Rattle.model.proofs.WritingPasses.{ofKind-kind}
-use Rattle.declarations.specs.Passes.{kind, found, fits}
+use Rattle.declarations.specs.Passes.{type, found, fits}
+use Rattle.declarations.proofs.Written.{of-type}
 use Rattle.declarations.proofs.Fitting.{fits-within, fits-room, pass-closes, pass-takes-some}
 use Rattle.declarations.proofs.take_run.Statement.{statement}
 use Rattle.declarations.proofs.take_run.Tie as tie
@@ -21,9 +21,9 @@ returns c =
     let start = c .before .before .before .before .before in
     let a = start .args in
     let pre = start .pre in
-    let k = kind (a .attribute) in
+    let k = type (a .attribute) in
     let made =
-    pass-closes k (found (a .attribute) (a .p) (a .table .now)) (a .from) (a .buffer .now) (ofKind-kind k (a .p) (decode (a .table .now) .streams)) (pre .unfilled)
+    pass-closes k (found (a .attribute) (a .p) (a .table .now)) (a .from) (a .buffer .now) (of-type k (a .p) (decode (a .table .now))) (pre .unfilled)
     _ _ (a .left) (c .before .before .vector-size .ensures .0) (pre .left-is) (c .before .fits2 .ensures) (pre .any) (c .if1 .taken) in
     record { progress = made .0; buffer = made .1; room = pre .pass .room; next = omega arith }
 
@@ -60,11 +60,11 @@ returns-2 c =
     let start = c .before .before .before .before .before .before .before .before .before in
     let a = start .args in
     let pre = start .pre in
-    let k = kind (a .attribute) in
+    let k = type (a .attribute) in
     let b = a .buffer .now in
     let long : ℕ = 6 + c .before .before .before .before .before .fits2 .result * c .before .before .before .before .before .before .vector-size .result in
     let made =
-    pass-takes-some k (found (a .attribute) (a .p) (a .table .now)) (a .from) b (ofKind-kind k (a .p) (decode (a .table .now) .streams)) (pre .unfilled) _ _
+    pass-takes-some k (found (a .attribute) (a .p) (a .table .now)) (a .from) b (of-type k (a .p) (decode (a .table .now))) (pre .unfilled) _ _
     (a .left) (c .before .before .before .before .before .before .vector-size .ensures .0) (pre .left-is) (c .before .before .before .before .before .fits2 .ensures) (c .before .before .before .before .if1 .left) in
     let y = c .before .before .write-message .last .1 .1 .1 .0 in
     record {

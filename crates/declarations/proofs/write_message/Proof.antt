@@ -6,7 +6,7 @@ use borrow.Author.Needs.{needs}
 use lib.ListN.{length, drop, length-drop}
 use lib.Seq.{length-take-le}
 use Rattle.octets.proofs.Parts.{lent-part, length-part}
-use Rattle.declarations.specs.Passes.{kind, found, runOf}
+use Rattle.declarations.specs.Passes.{type, found, runOf}
 use Rattle.declarations.proofs.Written.{holding-none, holding-put, holding-lent, holding-all, message-is}
 use Rattle.declarations.proofs.write_message.Statement.{statement}
 use Rattle.declarations.proofs.write_message.Tie as tie
@@ -32,7 +32,7 @@ returns c =
     let counted = holding-put typed 2 (n + 2) (c .before .before .before .before .before .before .before .before .before .before .put2 .ensures) in
     let listed = holding-lent counted n (c .before .before .before .before .before .before .write-vectors .ensures) long in
     holding-all (holding-put listed 2 0 (c .before .before .put3 .ensures)) (omega arith)
-    ∙ message-is (kind (a .run .attribute)) run (header .result) n some (header .ensures) long
+    ∙ message-is (type (a .run .attribute)) run (header .result) n some (header .ensures) long
 
 pub write-message-spec : {M : Type 1} → statement M
 write-message-spec =

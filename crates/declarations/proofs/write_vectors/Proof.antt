@@ -1,45 +1,56 @@
 -- `declarations::write_vectors` meets its contract. Assumes nothing.
 use Prim.Native.Nat.{ℕ, _+_, _-_, _*_, _≤_}
+use mathlib.Core.List.{List}
 use mathlib.Core.Path.{_≡_, refl, sym, ap, _∙_}
 use native.Mathlib.Omega.{arith}
 use borrow.Author.Needs.{needs}
 use borrow.Author.Tests.{not-true, not-false}
 use lib.ListN.{length, take, drop}
 use Rattle.octets.proofs.Parts.{lent-part, length-part}
+use Rattle.model.specs.Frames.{Attribute, registers, domain}
 use Rattle.model.specs.Table.{decode}
-use Rattle.table.specs.Places.{StandsOn}
+use Rattle.model.specs.Laid.{Laid}
 use Rattle.table.proofs.Header.{laid-few}
-use Rattle.declarations.specs.Passes.{kind, found}
-use Rattle.declarations.proofs.Walk.{Left, stream-left, one-fits, left-done, left-none, left-pass, left-long, left-take}
+use Rattle.declarations.specs.Passes.{type, declarers, found, Declarer}
+use Rattle.declarations.proofs.Declared.{from-first}
+use Rattle.declarations.proofs.Walk.{Left, one-left, one-fits, left-done, left-none, left-pass, left-long, left-take}
 use Rattle.declarations.proofs.write_vectors.Statement.{statement}
 use Rattle.declarations.proofs.write_vectors.Tie as tie
+
+few-declarers : (j : Attribute) {t : List ℕ} → Laid t → declarers j (decode t) ≤ 64
+unfolding declarers
+few-declarers (registers k) {t} l = laid-few t l
+few-declarers domain l = omega arith
 
 abbrev Inv-loop : tie.InvT-loop
 Inv-loop table p out₀ attribute size before₀ left₀ at₀ k₀ out before left at k =
     (length out ≡ length out₀)
-    × Left (kind attribute) p (decode table .streams) size (take left₀ (drop before₀ (found attribute p table))) out before left at k
+    × Left (type attribute) p (decode table) size (take left₀ (drop before₀ (found attribute p table))) out before left at k
 
 abbrev μ-loop : tie.MeasureT-loop
-μ-loop table p out₀ attribute size before₀ left₀ at₀ k₀ out before left at k = length (decode table .streams) - k
+μ-loop table p out₀ attribute size before₀ left₀ at₀ k₀ out before left at k = declarers (type attribute) (decode table) - k
 
 loop-holds : tie.Need-loop-holds Inv-loop μ-loop
 loop-holds c =
     let start = c .before .before .before in
     let e = ap (λ (m : ℕ). start .args .run .count * m) (c .vector-size .ensures .0) in
-    (refl, record { room = omega (arith, e, start .pre .1); enough = start .pre .0 .enough; is = refl })
+    let all = from-first (type (start .args .run .attribute)) (start .args .p) (decode (start .args .table .now)) in
+    (refl, record { room = omega (arith, e, start .pre .1); enough = rw all (start .pre .0 .enough); is = rw all })
 
--- there is a stream k
-places : (c : tie.In-loop Inv-loop μ-loop) → StandsOn (c .before .before .before .before .before .args .table .now) (c .before .loop .k) (c .before .before .before .before .before .args .p)
+-- there is a declarer at place k
+places : (c : tie.In-loop Inv-loop μ-loop)
+    → Declarer (c .before .before .before .before .before .args .table .now) (c .before .loop .k) (c .before .before .before .before .before .args .p)
+    (type (c .before .before .before .before .before .args .run .attribute))
 places c =
     let port = c .before .before .before .before .before .pre .0 .port in
-    record { laid = port .laid; held = stream-left _ _ _ _ _ (c .before .loop .inv .1) (c .loop-test .taken); port = port .port }
+    record { laid = port .laid; held = one-left _ _ _ _ _ (c .before .loop .inv .1) (c .loop-test .taken); port = port .port }
 
 -- and room for its vector
 room : (c : tie.In-loop Inv-loop μ-loop) → c .before .loop .at + c .before .before .vector-size .result ≤ length (c .before .loop .out)
 room c = one-fits _ _ _ _ _ (c .before .loop .inv .1) (c .loop-test .taken)
 
 add-k : tie.Need-add-k Inv-loop μ-loop
-add-k c = omega (arith, places c .held, laid-few _ (places c .laid))
+add-k c = omega (arith, places c .held, few-declarers (type (c .before .before .before .before .before .args .run .attribute)) (places c .laid))
 
 loop-again : tie.Need-loop-again Inv-loop μ-loop
 loop-again c =

@@ -2,6 +2,7 @@
 use mathlib.Core.Path.{sym, _∙_}
 use borrow.Author.Needs.{needs}
 use borrow.Author.Tests.{eq-eqb, ne-eqb, not-true, not-false}
+use lib.ListN.{drop}
 use Rattle.model.specs.Table.{tableRules, formed}
 use Rattle.form.proofs.Tests.{all-true-split}
 use Rattle.form.proofs.Tables.{header-ports}
@@ -22,22 +23,29 @@ returns-2 c =
       not-true (c .before .header-formed .result) (c .if2 .taken),
     )
 
+edges-formed-requires : tie.Need-edges-formed-requires
+edges-formed-requires c κs =
+    (c .before .before .if1 .left, header-ports _ (sym (c .before .header-formed .ensures) ∙ not-false _ (c .if2 .left)))
+
 streams-formed-requires : tie.Need-streams-formed-requires
 streams-formed-requires c κs =
-    (c .before .before .if1 .left, header-ports _ (sym (c .before .header-formed .ensures) ∙ not-false _ (c .if2 .left)))
+    (c .before .before .before .if1 .left, header-ports _ (sym (c .before .before .header-formed .ensures) ∙ not-false _ (c .before .if2 .left)))
 
 returns-3 : tie.Need-returns-3
 unfolding formed
 returns-3 c =
+    let t = c .before .before .before .before .before .before .args .table .now in
     rw (
-      eq-eqb _ _ (c .before .before .before .if1 .left),
-      ← (all-true-split 3 (tableRules (c .before .before .before .before .before .args .table .now))),
-      ← (c .before .before .header-formed .ensures),
-      not-false (c .before .before .header-formed .result) (c .before .if2 .left),
+      eq-eqb _ _ (c .before .before .before .before .if1 .left),
+      ← (all-true-split 3 (tableRules t)),
+      ← (c .before .before .before .header-formed .ensures),
+      not-false (c .before .before .before .header-formed .result) (c .before .before .if2 .left),
+      ← (all-true-split 2 (drop 3 (tableRules t))),
+      ← (c .before .edges-formed .ensures),
+      ← (c .streams-formed .ensures),
     )
-    (c .streams-formed .ensures)
 
 pub is-formed-spec : {M : Type 1} → statement M
 is-formed-spec =
     tie.close
-    (tie.spec returns (λ c κs. search needs) returns-2 streams-formed-requires returns-3)
+    (tie.spec returns (λ c κs. search needs) returns-2 edges-formed-requires streams-formed-requires returns-3)

@@ -21,11 +21,17 @@ returns-2 c =
     let w = a .args .walk in
     rw (none-leaves (attributeAt (w .kind)) (a .args .leaves) (not-true _ (c .if2 .taken))) (walked-none (w .applying) (w .p) (a .args .table .now) (a .pre .laid))
 
+leave-domains-requires : tie.Need-leave-domains-requires
+leave-domains-requires c κs =
+    let p = c .before .before .before .before .before .before .before .pre in
+    record { laid = p .laid; port = p .port }
+
 returns-3 : tie.Need-returns-3
 returns-3 c =
-    let a = c .before .before .before .before .before .before in
+    let a = c .before .before .before .before .before .before .before .before .before .before in
     let w = a .args .walk in
-    rw (domain-leaves (w .kind) (a .args .leaves) (c .if3 .taken)) (walked-none (w .applying) (w .p) (a .args .table .now) (a .pre .laid))
+    rw (domain-leaves (w .kind) (a .args .leaves) (c .before .before .before .before .if3 .taken) (not-false _ (c .before .before .before .before .before .before .if2 .left)), not-false (w .applying) (c .before .before .before .before .before .before .before .if1 .left))
+    (c .before .before .leave-domains .ensures)
 
 leave-all-requires : tie.Need-leave-all-requires
 leave-all-requires c κs =
@@ -43,4 +49,4 @@ returns-4 c =
 pub begin-all-spec : {M : Type 1} → statement M
 begin-all-spec =
     tie.close
-    (tie.spec returns returns-2 returns-3 leave-all-requires (λ c. search needs) returns-4)
+    (tie.spec returns returns-2 leave-domains-requires (λ c. search needs) returns-3 leave-all-requires (λ c. search needs) returns-4)

@@ -1,0 +1,285 @@
+-- The boundary flags (35.2.1.4 h) and code 8: a settled flag is set exactly where one of h)'s three conditions holds; an own failure
+-- has code 8 exactly where no earlier step applies and the flag is set; where every port hears the bridge's own values alone, no
+-- flag of a class that it supports is set.
+use mathlib.Core.Path.{_≡_, refl, sym, ap, _∙_}
+use mathlib.Core.List.{List, [], _∷_, _++_}
+use mathlib.Core.Bool.{Bool, true, false, cond, not, _&&_, _||_, true≢false, false≢true}
+use Prim.Native.Nat.{ℕ, zero, suc, _+_, _<_}
+use native.Mathlib.Omega.{arith}
+use lib.ListN.{length, getD, take, drop}
+use lib.Dec.{eqb, ltb}
+use borrow.Author.Tests.{eqb-false, ne-eqb, lt-ltb}
+use Rattle.model.specs.Lists.{All}
+use Rattle.model.specs.State.{Port, Settings, Cell, Domain, noDomain, domain, Own, noOwn, Health, sound, broken, Column, none, advertise, failed, Stream, Bridge, noPort, portAt, isPort, cellAt, ownAt, Class, noClass, classA, classB, classOf, isNoClass, supports, classPriority}
+use Rattle.model.specs.Settling.{isTalking, Source, nowhere, from, sourceOf, fixedOf, healthOf, streamClass, isDomain, anyDomain, otherPriority, domainsOf, anySupports, isEdge, flagOf, decideOwn, decideOwns, boundary, Scene, sceneOf, Outcome, columnNone, asRegistered, ownFailure, Step, first, clear, isBroken, brokenColumn, outcomeColumn, stepsFrom, steps, claim, leftFor, byBandwidth, columnOf, settle}
+use Rattle.model.specs.Table.{columnCode}
+use Rattle.model.proofs.Parts.{_also_}
+use Rattle.model.proofs.ColumnRule.{at-place}
+
+-- h), condition by condition; a port declares the classes that it supports.
+pub data Outside (st : Settings) (p : ℕ) (c : Class) (ds : List Domain) : Type 0 where
+  -- "1) The port is declaring an MSRP Domain attribute for that SR class, and the port has no MSRP Domain attribute registrations for
+  -- that SR class"
+  none-registered : supports (portAt st p) c ≡ true → ((q : ℕ) → isDomain (getD (domainsOf c ds) q noDomain) ≡ false) → Outside st p c ds
+  -- "2) .. and the port has at least one MSRP Domain attribute registration for that SR class with a different priority"
+  other-registered : supports (portAt st p) c ≡ true → (q : ℕ) → (q ≡ classPriority st c → ⊥)
+      → isDomain (getD (domainsOf c ds) q noDomain) ≡ true → Outside st p c ds
+  -- "3) One or more ports which support that SR class are declaring MSRP Domain attributes for that SR class, and this port does not
+  -- support that SR class"
+  declared-elsewhere : supports (portAt st p) c ≡ false → (r : ℕ) → r < length (st .ports) → supports (portAt st r) c ≡ true → Outside st p c ds
+
+-- What the tests over a class's values and over the ports say.
+
+none-is : (ds : List Domain) → anyDomain ds ≡ false → (q : ℕ) → isDomain (getD ds q noDomain) ≡ false
+unfolding anyDomain isDomain
+none-is [] e q = refl
+none-is (noDomain ∷ ds) e zero = refl
+none-is (noDomain ∷ ds) e (suc q) = none-is ds e q
+none-is (domain v l ∷ ds) e q = absurd (true≢false e)
+
+is-none : (ds : List Domain) → ((q : ℕ) → isDomain (getD ds q noDomain) ≡ false) → anyDomain ds ≡ false
+unfolding anyDomain
+is-none [] h = refl
+is-none (d ∷ ds) h = rw (h 0) (is-none ds (λ q. h (suc q)))
+
+-- a value of another priority, at place q of those from priority n on
+pub record Other (own n : ℕ) (ds : List Domain) : Type 0 where
+  pub place : ℕ
+  pub other : n + place ≡ own → ⊥
+  pub held : isDomain (getD ds place noDomain) ≡ true
+
+-- the next ones, from one on
+further : (own n : ℕ) (d : Domain) (ds : List Domain) → Other own (suc n) ds → Other own n (d ∷ ds)
+further own n d ds o = record { place = suc (o .place); other = λ f. o .other (omega (arith, f)); held = o .held }
+
+other-is : (own n : ℕ) (ds : List Domain) → otherPriority own n ds ≡ true → Other own n ds
+unfolding otherPriority
+other-is own n [] e = absurd (false≢true e)
+other-is own n (d ∷ ds) e = go (isDomain d) (eqb n own) refl refl e (other-is own (suc n) ds)
+  where
+    go : (a b : Bool) → isDomain d ≡ a → eqb n own ≡ b → ((a && not b) || otherPriority own (suc n) ds) ≡ true
+        → (otherPriority own (suc n) ds ≡ true → Other own (suc n) ds) → Other own n (d ∷ ds)
+    go true false f g h ih = record { place = 0; other = λ i. eqb-false n own g (omega (arith, i)); held = f }
+    go true true f g h ih = further own n d ds (ih h)
+    go false b f g h ih = further own n d ds (ih h)
+
+is-other : (own n : ℕ) (ds : List Domain) (q : ℕ) → (n + q ≡ own → ⊥) → isDomain (getD ds q noDomain) ≡ true → otherPriority own n ds ≡ true
+unfolding otherPriority isDomain
+is-other own n [] q o h = absurd (false≢true h)
+is-other own n (d ∷ ds) zero o h = rw (h, ne-eqb n own (λ e. o (omega (arith, e))))
+is-other own n (d ∷ ds) (suc q) o h = go (isDomain d && not (eqb n own)) (is-other own (suc n) ds q (λ e. o (omega (arith, e))) h)
+  where
+    go : (t : Bool) → otherPriority own (suc n) ds ≡ true → (t || otherPriority own (suc n) ds) ≡ true
+    go true e = refl
+    go false e = e
+
+-- a port that supports a class
+pub record Supporting (c : Class) (qs : List Port) : Type 0 where
+  pub place : ℕ
+  pub within : place < length qs
+  pub does : supports (getD qs place noPort) c ≡ true
+
+some-supports : (c : Class) (qs : List Port) → anySupports c qs ≡ true → Supporting c qs
+unfolding anySupports
+some-supports c [] e = absurd (false≢true e)
+some-supports c (q ∷ qs) e = go (supports q c) refl e (some-supports c qs)
+  where
+    go : (t : Bool) → supports q c ≡ t → (t || anySupports c qs) ≡ true → (anySupports c qs ≡ true → Supporting c qs) → Supporting c (q ∷ qs)
+    go true f h ih = record { place = 0; within = omega arith; does = f }
+    go false f h ih = let s = ih h in record { place = suc (s .place); within = omega (arith, s .within); does = s .does }
+
+supports-some : (c : Class) (qs : List Port) (r : ℕ) → r < length qs → supports (getD qs r noPort) c ≡ true → anySupports c qs ≡ true
+unfolding anySupports
+supports-some c [] r l h = absurd (omega arith)
+supports-some c (q ∷ qs) zero l h = rw h
+supports-some c (q ∷ qs) (suc r) l h = go (supports q c) (supports-some c qs r (omega arith) h)
+  where
+    go : (t : Bool) → anySupports c qs ≡ true → (t || anySupports c qs) ≡ true
+    go true e = refl
+    go false e = e
+
+-- The test is h).
+
+module _ (st : Settings) (p : ℕ) (c : Class) (ds : List Domain) where
+  abbrev own : List Domain
+  own = domainsOf c ds
+
+  pub edge-outside : isEdge st p c ds ≡ true → Outside st p c ds
+  unfolding isEdge
+  edge-outside e = go (supports (portAt st p) c) refl e
+    where
+      heard : supports (portAt st p) c ≡ true → (t : Bool) → anyDomain own ≡ t → (not t || otherPriority (classPriority st c) 0 own) ≡ true → Outside st p c ds
+      heard s false a h = none-registered s (none-is own a)
+      heard s true a h =
+          let o = other-is (classPriority st c) 0 own h in
+          other-registered s (o .place) (λ e. o .other (omega (arith, e))) (o .held)
+
+      go : (t : Bool) → supports (portAt st p) c ≡ t
+          → cond t (not (anyDomain own) || otherPriority (classPriority st c) 0 own) (anySupports c (st .ports)) ≡ true → Outside st p c ds
+      go true s h = heard s (anyDomain own) refl h
+      go false s h =
+          let r = some-supports c (st .ports) h in
+          declared-elsewhere s (r .place) (r .within) (unfold portAt in r .does)
+
+  pub outside-edge : Outside st p c ds → isEdge st p c ds ≡ true
+  unfolding isEdge portAt
+  outside-edge (none-registered s h) = rw (s, is-none own h)
+  outside-edge (other-registered s q o h) = rw (s, is-other (classPriority st c) 0 own q (λ e. o (omega (arith, e))) h) (go (not (anyDomain own)))
+    where
+      go : (t : Bool) → (t || true) ≡ true
+      go true = refl
+      go false = refl
+  outside-edge (declared-elsewhere s r l h) = rw s (supports-some c (st .ports) r l h)
+
+  -- "only Domain values of the bridge's own priority, and some"
+  pub matching : supports (portAt st p) c ≡ true → isDomain (getD own (classPriority st c) noDomain) ≡ true
+      → ((q : ℕ) → isDomain (getD own q noDomain) ≡ true → q ≡ classPriority st c) → isEdge st p c ds ≡ false
+  matching s some alone = go (isEdge st p c ds) refl
+    where
+      not-outside : Outside st p c ds → ⊥
+      not-outside (none-registered t h) = true≢false (sym some ∙ h (classPriority st c))
+      not-outside (other-registered t q o h) = o (alone q h)
+      not-outside (declared-elsewhere t r l h) = true≢false (sym s ∙ t)
+
+      go : (t : Bool) → isEdge st p c ds ≡ t → isEdge st p c ds ≡ false
+      go true e = absurd (not-outside (edge-outside e))
+      go false e = e
+
+-- A settled bridge: the flag of a port and a class, by the Domain values that are registered on it then.
+
+module _ (now : ℕ) (b : Bridge) (p : ℕ) (port : p < length (b .settings .ports)) (eight : p < 8) where
+  abbrev left : Own
+  left = ownAt (settle now b .own) p
+
+  decided : left ≡ decideOwn (b .settings) now (b .own) p
+  unfolding settle decideOwns
+  decided = at-place (decideOwn (b .settings) now (b .own)) p noOwn eight
+
+  settled-flag : (c : Class) → isNoClass c ≡ false → boundary left c ≡ isEdge (b .settings) p c (left .domains)
+  unfolding boundary isNoClass
+  settled-flag noClass n = absurd (true≢false n)
+  settled-flag classA n = rw decided (unfold decideOwn flagOf isPort in rw (lt-ltb p (length (b .settings .ports)) port))
+  settled-flag classB n = rw decided (unfold decideOwn flagOf isPort in rw (lt-ltb p (length (b .settings .ports)) port))
+
+  -- The flag is set exactly where one of h)'s conditions holds.
+  pub flag-exactly : (c : Class) → isNoClass c ≡ false
+      → (boundary left c ≡ true → Outside (b .settings) p c (left .domains)) × (Outside (b .settings) p c (left .domains) → boundary left c ≡ true)
+  flag-exactly c n = (
+    λ e. edge-outside (b .settings) p c (left .domains) (sym (settled-flag c n) ∙ e),
+    λ o. settled-flag c n ∙ outside-edge (b .settings) p c (left .domains) o,
+  )
+
+  -- Where the port hears only the bridge's own value of a class that it supports, its flag is clear.
+  pub no-flag : (c : Class) → isNoClass c ≡ false → supports (portAt (b .settings) p) c ≡ true
+      → isDomain (getD (domainsOf c (left .domains)) (classPriority (b .settings) c) noDomain) ≡ true
+      → ((q : ℕ) → isDomain (getD (domainsOf c (left .domains)) q noDomain) ≡ true → q ≡ classPriority (b .settings) c) → boundary left c ≡ false
+  no-flag c n s some alone = settled-flag c n ∙ matching (b .settings) p c (left .domains) s some alone
+
+-- Code 8.
+
+-- the steps before j, which asks for the flag
+abbrev pub earlier : Scene → ℕ → Stream → List Step
+earlier sc p x = take 7 (steps sc p x)
+
+-- of any seven steps, then j, then others: what decides
+module _ (says : Outcome → Column) (flag : Bool) (rest : List Step) (last : Column) where
+  abbrev withJ : List Step → List Step
+  withJ l = l ++ (record { test = flag; outcome = ownFailure 8 } ∷ rest)
+
+  reaches-j : (l : List Step) → clear l ≡ true → flag ≡ true → first says (withJ l) last ≡ says (ownFailure 8)
+  unfolding first clear
+  reaches-j [] free set = rw set
+  reaches-j (t ∷ l) free set = go (t .test) refl free (reaches-j l)
+    where
+      go : (b : Bool) → t .test ≡ b → (not b && clear l) ≡ true → (clear l ≡ true → flag ≡ true → first says (withJ l) last ≡ says (ownFailure 8))
+          → cond b (says (t .outcome)) (first says (withJ l) last) ≡ says (ownFailure 8)
+      go true e f ih = absurd (false≢true f)
+      go false e f ih = ih f set
+
+  -- the other way: where no step before j and none after it can give code 8
+  only-j : (l : List Step) → All (λ t. t .test ≡ true → columnCode (says (t .outcome)) ≡ 8 → ⊥) l → (columnCode (first says rest last) ≡ 8 → ⊥)
+      → columnCode (first says (withJ l) last) ≡ 8 → (clear l ≡ true) × (flag ≡ true)
+  unfolding first clear
+  only-j [] a after e = go flag refl e
+    where
+      go : (b : Bool) → flag ≡ b → columnCode (cond b (says (ownFailure 8)) (first says rest last)) ≡ 8 → (true ≡ true) × (flag ≡ true)
+      go true f h = (refl, f)
+      go false f h = absurd (after h)
+  only-j (t ∷ l) a after e = go (t .test) refl e (only-j l (a .1) after)
+    where
+      go : (b : Bool) → t .test ≡ b → columnCode (cond b (says (t .outcome)) (first says (withJ l) last)) ≡ 8
+          → (columnCode (first says (withJ l) last) ≡ 8 → (clear l ≡ true) × (flag ≡ true)) → ((not b && clear l) ≡ true) × (flag ≡ true)
+      go true f h ih = absurd (a .0 f h)
+      go false f h ih = ih h
+
+-- by the Talker's place, if there is one
+module _ (sc : Scene) (p : ℕ) (here : Cell) where
+  abbrev stepsOf : Source → List Step
+  stepsOf o = record { test = not (isPort (sc .settings) p); outcome = columnNone } ∷ stepsFrom sc p here o
+
+  abbrev flagOn : Source → Bool
+  flagOn o = boundary (ownAt (sc .own) p) (classOf (sc .settings) (fixedOf o .priority))
+
+  no-source : (t : Bool) → (not (not t) && (not true && true)) ≡ true → ⊥
+  no-source true e = false≢true e
+  no-source false e = false≢true e
+
+  eight-from : (o : Source) (c : Column) → clear (take 7 (stepsOf o)) ≡ true → flagOn o ≡ true
+      → first (outcomeColumn (sc .settings) o) (stepsOf o) c ≡ failed (sc .settings .bridgeId) 8
+  unfolding stepsFrom fixedOf
+  eight-from nowhere c free set = absurd (no-source (isPort (sc .settings) p) (unfold clear in free))
+  eight-from (from o) c free set =
+      reaches-j (outcomeColumn (sc .settings) (from o)) (flagOn (from o)) (drop 8 (stepsOf (from o))) c (take 7 (stepsOf (from o))) free set
+      ∙ (unfold outcomeColumn in refl)
+
+  -- an own failure of another code
+  own-code : (o : Source) (code : ℕ) → (code ≡ 8 → ⊥) → {t : Bool} → t ≡ true → columnCode (outcomeColumn (sc .settings) o (ownFailure code)) ≡ 8 → ⊥
+  unfolding outcomeColumn columnCode
+  own-code o code n t h = n h
+
+  none-code : (o : Source) {t : Bool} → t ≡ true → columnCode (outcomeColumn (sc .settings) o columnNone) ≡ 8 → ⊥
+  unfolding outcomeColumn columnCode
+  none-code o t h = omega (arith, h)
+
+  -- g, behind j
+  size-code : (o : Source) (t : Bool) (c : Column) → (columnCode c ≡ 8 → ⊥)
+      → columnCode (first (outcomeColumn (sc .settings) o) (record { test = t; outcome = ownFailure 14 } ∷ []) c) ≡ 8 → ⊥
+  unfolding first outcomeColumn columnCode
+  size-code o true c other h = omega (arith, h)
+  size-code o false c other h = other h
+
+  only-from : (o : Source) (c : Column) → (columnCode c ≡ 8 → ⊥) → isBroken (healthOf o) ≡ false
+      → columnCode (first (outcomeColumn (sc .settings) o) (stepsOf o) c) ≡ 8 → (clear (take 7 (stepsOf o)) ≡ true) × (flagOn o ≡ true)
+  unfolding stepsFrom fixedOf healthOf
+  only-from nowhere c other whole e = absurd (go (isPort (sc .settings) p) (unfold first outcomeColumn columnCode in e))
+    where
+      go : (t : Bool) → columnCode (cond (not t) none none) ≡ 8 → ⊥
+      go true h = unfold columnCode in omega (arith, h)
+      go false h = unfold columnCode in omega (arith, h)
+  only-from (from o) c other whole e =
+      only-j (outcomeColumn (sc .settings) (from o)) (flagOn (from o)) (drop 8 (stepsOf (from o))) c (take 7 (stepsOf (from o)))
+      (none-code (from o) also none-code (from o) also none-code (from o) also (λ t h. true≢false (sym t ∙ whole))
+      also own-code (from o) 16 (λ e. omega (arith, e)) also own-code (from o) 4 (λ e. omega (arith, e))
+      also own-code (from o) 13 (λ e. omega (arith, e)) also tt)
+      (size-code (from o) _ c other) e
+
+module _ (sc : Scene) (now : ℕ) (s : List Stream) (p : ℕ) (x : Stream) where
+  abbrev flag : Bool
+  flag = boundary (ownAt (sc .own) p) (streamClass (sc .settings) x)
+
+  -- where none of them applies and the flag is set, the column is Failed with this Bridge ID and code 8
+  pub eight-decided : clear (earlier sc p x) ≡ true → flag ≡ true → columnOf sc now s p x ≡ failed (sc .settings .bridgeId) 8
+  unfolding columnOf steps streamClass
+  eight-decided free set = eight-from sc p (cellAt x p) (sourceOf x) _ free set
+
+  -- and code 8 of a stream that is not registered as Failed says so
+  pub eight-only : isBroken (healthOf (sourceOf x)) ≡ false → columnCode (columnOf sc now s p x) ≡ 8 → (clear (earlier sc p x) ≡ true) × (flag ≡ true)
+  unfolding columnOf steps streamClass byBandwidth
+  eight-only whole e = only-from sc p (cellAt x p) (sourceOf x) _ (not-bandwidth (claim (sc .settings) now p x .demand) (leftFor sc now s p x)) whole e
+    where
+      not-bandwidth : (d l : ℕ) → columnCode (byBandwidth (sc .settings) d l) ≡ 8 → ⊥
+      not-bandwidth d l = go (ltb l d)
+        where
+          go : (t : Bool) → columnCode (cond t (failed (sc .settings .bridgeId) 1) advertise) ≡ 8 → ⊥
+          go true h = unfold columnCode in omega (arith, h)
+          go false h = unfold columnCode in omega (arith, h)

@@ -1,0 +1,278 @@
+-- What a port holds by itself, as octets and back: its Domain values and its flags.
+use mathlib.Core.Path.{_≡_, refl, sym, _∙_, ap}
+use mathlib.Core.List.{List, [], _∷_, _++_, append-nil}
+use mathlib.Core.Bool.{Bool, true, false, cond}
+use Prim.Native.Nat.{ℕ, zero, suc, _+_, _^_, _≤_, _<_}
+use native.Mathlib.Omega.{arith}
+use lib.ListN.{length, getD, drop, replicate, take-append-drop, length-append, length-drop, drop-of-length-le}
+use lib.Seq.{take-all}
+use lib.Dec.{eqb, leb}
+use borrow.Author.Tests.{eq-eqb, ne-eqb, le-leb, leb-true}
+use Rattle.octets.specs.Fields.{fields, packed, Fit, width, flat}
+use Rattle.octets.specs.Parts.{part, zeros}
+use Rattle.octets.proofs.Parts.{length-part}
+use Rattle.octets.proofs.Fields.{length-packed-any, fields-of-packed, fields-packed-behind, packed-fields, fields-fit, fit-at, fit-zeros, packed-zeros}
+use Rattle.model.specs.Layout.{boundaryBPlace, boundaryPlace, boundaryWidths, heldField, ownSize, slotLeavesField, slotSinceField, slotSize, slotVlanField, slotWidths, slots, slotsSize}
+use Rattle.model.specs.Lists.{All, allTrue, bit, Octets}
+use Rattle.model.specs.State.{Domain, noDomain, domain, Own, noOwn}
+use Rattle.model.specs.Table.{leavingNumber, sinceNumber, toLeaving, leavingRule, allZero, everyPart, domainNumbers, domainFrom, domainOctets, toDomain, domainRules, domainFormed, ownOctets, slotsPart, toOwn, ownRules, ownFormed}
+use Rattle.model.specs.Laid.{FitOwn}
+use Rattle.model.proofs.Lists.{all-each, all-map, all-replicate, implied, all-true, true-all}
+use Rattle.model.proofs.Valid.{ValidLeaving, ValidDomain, ValidOwn}
+use Rattle.model.proofs.Parts.{_also_, Sized, octets-at, octets-append, octets-packed, octets-flat, octets-part, zero-at, packed-whole, length-parts, length-flat-sized, flat-zeros, zeros-add, many-read, part-between}
+use Rattle.model.proofs.Cells.{bit-back, bit-forth, bit-few, leaving-back, leaving-few, since-within, leaving-formed, left}
+use Rattle.model.proofs.Coded.{Coded, many-keep, many-forth, many-valid}
+use Rattle.model.proofs.SettingsOctets.{octet-field}
+
+-- A Domain value.
+
+domain-size : (d : Domain) → length (domainNumbers d) ≡ length slotWidths
+unfolding domainNumbers
+domain-size noDomain = refl
+domain-size (domain v l) = refl
+
+pub domain-length : (d : Domain) → length (domainOctets d) ≡ slotSize
+unfolding domainOctets width
+domain-length d = length-packed-any slotWidths (domainNumbers d) (domain-size d)
+
+pub domain-octets : (d : Domain) → Octets (domainOctets d)
+unfolding domainOctets
+domain-octets d = octets-packed slotWidths (domainNumbers d)
+
+pub domains-sized : (ds : List Domain) → All (Sized slotSize domainOctets) ds
+domains-sized = all-each (Sized slotSize domainOctets) domain-length
+
+-- its numbers are read as it
+pub domain-read : (d : Domain) → domainFrom (domainNumbers d) ≡ d
+unfolding domainFrom domainNumbers
+domain-read noDomain = refl
+domain-read (domain v l) = rw (leaving-back l)
+
+pub fit-back : (d : Domain) → Fit slotWidths (domainNumbers d) → toDomain (domainOctets d) ≡ d
+unfolding toDomain domainOctets
+fit-back d f = rw (fields-of-packed slotWidths (domainNumbers d) f) (domain-read d)
+
+module _ (clock leave : ℕ) where
+  pub domain-fit : clock < 2 ^ 32 → (d : Domain) → ValidDomain clock leave d → Fit slotWidths (domainNumbers d)
+  unfolding Fit domainNumbers
+  domain-fit h noDomain v = fit-zeros slotWidths
+  domain-fit h (domain w l) v = omega arith also leaving-few l also since-within clock leave l (v .1) h also v .0 also tt
+
+  domain-rules : (d : Domain) → ValidDomain clock leave d → allTrue (domainRules clock leave (domainNumbers d)) ≡ true
+  unfolding domainRules domainNumbers leavingRule allZero
+  domain-rules noDomain v = true-all (domainRules clock leave (domainNumbers noDomain)) (refl also refl also refl also tt)
+  domain-rules (domain w l) v =
+      true-all (domainRules clock leave (domainNumbers (domain w l))) (refl also leaving-formed clock leave l (v .1) also refl also tt)
+
+  module _ (small : clock < 2 ^ 32) (d : Domain) (v : ValidDomain clock leave d) where
+    domain-back : toDomain (domainOctets d) ≡ d
+    domain-back = fit-back d (domain-fit small d v)
+
+    domain-formed : domainFormed clock leave (domainOctets d) ≡ true
+    unfolding domainFormed domainOctets
+    domain-formed = rw (fields-of-packed slotWidths (domainNumbers d) (domain-fit small d v)) (domain-rules d v)
+
+  -- numbers that keep the rules: what they say is valid, and is written with the same numbers
+  module _ (n k t v : ℕ) (h : allTrue (domainRules clock leave (n ∷ k ∷ t ∷ v ∷ [])) ≡ true) where
+    rules : All (λ b. b ≡ true) (domainRules clock leave (n ∷ k ∷ t ∷ v ∷ []))
+    rules = all-true (domainRules clock leave (n ∷ k ∷ t ∷ v ∷ [])) h
+
+    few : n ≤ 1
+    unfolding domainRules
+    few = leb-true n 1 (rules .0)
+
+    leaves : leavingRule clock leave k t ≡ true
+    unfolding domainRules
+    leaves = rules .1 .0
+
+    gone : n ≡ 0 → allZero (k ∷ t ∷ v ∷ []) ≡ true
+    unfolding domainRules
+    gone e = implied (eqb n 0) (allZero (k ∷ t ∷ v ∷ [])) (rules .1 .1 .0) (eq-eqb n 0 e)
+
+    numbers-forth : domainNumbers (domainFrom (n ∷ k ∷ t ∷ v ∷ [])) ≡ n ∷ k ∷ t ∷ v ∷ []
+    unfolding domainNumbers domainFrom
+    numbers-forth = go n refl
+      where
+        go : (m : ℕ) → n ≡ m → domainNumbers (domainFrom (n ∷ k ∷ t ∷ v ∷ [])) ≡ n ∷ k ∷ t ∷ v ∷ []
+        go zero e =
+            let z = zero-at (k ∷ t ∷ v ∷ []) (gone e) in
+            rw (e, z 0, z 1, z 2)
+        go (suc m) e =
+            let one : n ≡ 1 = omega (arith, few) in
+            let (whether, when) = left clock leave k t leaves .forth in
+            rw (one, whether, when)
+
+    numbers-valid : v < 65536 → ValidDomain clock leave (domainFrom (n ∷ k ∷ t ∷ v ∷ []))
+    unfolding domainFrom
+    numbers-valid w = go (eqb n 0)
+      where
+        go : (b : Bool) → ValidDomain clock leave (cond b noDomain (domain v (toLeaving k t)))
+        go true = tt
+        go false = (w, left clock leave k t leaves .valid)
+
+  module _ (s : List ℕ) (l : length s ≡ slotSize) (o : Octets s) (h : domainFormed clock leave s ≡ true) where
+    domain-forth : domainOctets (toDomain s) ≡ s
+    unfolding domainOctets toDomain domainFormed fields
+    domain-forth = rw (numbers-forth _ _ _ _ h) (packed-whole slotWidths s (l ∙ unfold width in refl) o)
+
+    domain-valid : ValidDomain clock leave (toDomain s)
+    unfolding toDomain domainFormed fields
+    domain-valid = numbers-valid _ _ _ _ h (fit-at slotWidths (fields slotWidths 0 s) (fields-fit slotWidths 0 s (octets-at s o)) slotVlanField)
+
+pub domain-zeros : domainOctets noDomain ≡ zeros slotSize
+unfolding domainOctets domainNumbers width
+domain-zeros = packed-zeros slotWidths
+
+domains-coded : (clock leave : ℕ) → clock < 2 ^ 32 → Coded slotSize domainOctets toDomain (domainFormed clock leave) (ValidDomain clock leave) noDomain
+domains-coded clock leave small = record {
+  size = λ d v. domain-length d;
+  back = domain-back clock leave small;
+  keeps = domain-formed clock leave small;
+  forth = domain-forth clock leave;
+  valid = domain-valid clock leave;
+  blank = domain-zeros;
+  good = tt;
+}
+
+-- What a port holds.
+
+abbrev pub flags : Own → List ℕ
+flags o = packed boundaryWidths (bit (o .boundaryA) ∷ bit (o .boundaryB) ∷ [])
+
+flags-length : (o : Own) → length (flags o) ≡ 2
+unfolding width
+flags-length o = length-packed-any boundaryWidths (bit (o .boundaryA) ∷ bit (o .boundaryB) ∷ []) refl
+
+flags-fit : (o : Own) → Fit boundaryWidths (bit (o .boundaryA) ∷ bit (o .boundaryB) ∷ [])
+unfolding Fit
+flags-fit o = omega (arith, bit-few (o .boundaryA)) also omega (arith, bit-few (o .boundaryB)) also tt
+
+module _ (o : Own) (slotted : length (o .domains) ≡ slots) where
+  pub slots-length : length (flat domainOctets (o .domains)) ≡ slotsSize
+  slots-length = omega (arith, length-flat-sized slotSize domainOctets (o .domains) (domains-sized (o .domains)), slotted)
+
+  pub own-length : length (ownOctets o) ≡ ownSize
+  unfolding ownOctets
+  own-length = length-append (flat domainOctets (o .domains)) (flags o) ∙ omega (arith, slots-length, flags-length o)
+
+  pub slots-of : slotsPart (ownOctets o) ≡ flat domainOctets (o .domains)
+  unfolding slotsPart ownOctets
+  slots-of = part-between [] (flat domainOctets (o .domains)) (flags o) 0 slotsSize refl slots-length
+
+  flags-read : fields boundaryWidths boundaryPlace (ownOctets o) ≡ bit (o .boundaryA) ∷ bit (o .boundaryB) ∷ []
+  unfolding ownOctets
+  flags-read =
+      let ds = flat domainOctets (o .domains) in
+      ap (λ (s : List ℕ). fields boundaryWidths boundaryPlace (ds ++ s)) (sym (append-nil (flags o)))
+      ∙ ap (λ (k : ℕ). fields boundaryWidths k (ds ++ (flags o ++ []))) (sym slots-length)
+      ∙ fields-packed-behind boundaryWidths (bit (o .boundaryA) ∷ bit (o .boundaryB) ∷ []) ds [] (flags-fit o)
+
+  pub flag-a : getD (ownOctets o) boundaryPlace 0 ≡ bit (o .boundaryA)
+  unfolding fields
+  flag-a = sym (octet-field (ownOctets o) boundaryPlace) ∙ ap (λ (vs : List ℕ). getD vs 0 0) flags-read
+
+  pub flag-b : getD (ownOctets o) boundaryBPlace 0 ≡ bit (o .boundaryB)
+  unfolding fields
+  flag-b = sym (octet-field (ownOctets o) boundaryBPlace) ∙ ap (λ (vs : List ℕ). getD vs 1 0) flags-read
+
+-- what fits its fields is read back
+pub own-fit-back : (o : Own) → FitOwn o → toOwn (ownOctets o) ≡ o
+unfolding toOwn
+own-fit-back o f =
+    let back =
+    many-read slotSize domainOctets slots toDomain (o .domains) (f .slotted) (domains-sized (o .domains))
+    (all-map (λ d. Fit slotWidths (domainNumbers d)) (λ d. toDomain (domainOctets d) ≡ d) fit-back (o .domains) (f .domains)) in
+    rw (slots-of o (f .slotted), flag-a o (f .slotted), flag-b o (f .slotted), bit-back (o .boundaryA), bit-back (o .boundaryB), back)
+
+pub valid-own-fits : (clock leave : ℕ) → clock < 2 ^ 32 → (o : Own) → ValidOwn clock leave o → FitOwn o
+valid-own-fits clock leave small o v = record {
+  slotted = v .slotted;
+  domains = all-map (ValidDomain clock leave) (λ d. Fit slotWidths (domainNumbers d)) (domain-fit clock leave small) (o .domains) (v .domains);
+}
+
+pub own-octets : (o : Own) → Octets (ownOctets o)
+unfolding ownOctets
+own-octets o = octets-append (flat domainOctets (o .domains)) (flags o) (octets-flat domainOctets domain-octets (o .domains)) (octets-packed boundaryWidths _)
+
+module _ (clock leave : ℕ) (small : clock < 2 ^ 32) where
+  module _ (o : Own) (v : ValidOwn clock leave o) where
+    own-back : toOwn (ownOctets o) ≡ o
+    own-back = own-fit-back o (valid-own-fits clock leave small o v)
+
+    own-formed : ownFormed clock leave (ownOctets o) ≡ true
+    unfolding ownFormed ownRules
+    own-formed =
+        true-all (ownRules clock leave (ownOctets o))
+        (rw (slots-of o (v .slotted)) (many-keep (domains-coded clock leave small) slots slots (omega arith) (o .domains) (v .slotted) (v .domains))
+        also rw (flag-a o (v .slotted)) (le-leb (bit (o .boundaryA)) 1 (bit-few (o .boundaryA)))
+        also rw (flag-b o (v .slotted)) (le-leb (bit (o .boundaryB)) 1 (bit-few (o .boundaryB)))
+        also tt)
+
+  module _ (s : List ℕ) (l : length s ≡ ownSize) (q : Octets s) (h : ownFormed clock leave s ≡ true) where
+    own-rules : All (λ b. b ≡ true) (ownRules clock leave s)
+    unfolding ownFormed
+    own-rules = all-true (ownRules clock leave s) h
+
+    slots-kept : everyPart slotSize (domainFormed clock leave) slots (slotsPart s) ≡ true
+    unfolding ownRules
+    slots-kept = own-rules .0
+
+    one-a : getD s boundaryPlace 0 ≤ 1
+    unfolding ownRules
+    one-a = leb-true (getD s boundaryPlace 0) 1 (own-rules .1 .0)
+
+    one-b : getD s boundaryBPlace 0 ≤ 1
+    unfolding ownRules
+    one-b = leb-true (getD s boundaryBPlace 0) 1 (own-rules .1 .1 .0)
+
+    slots-room : length (slotsPart s) ≡ slotsSize
+    unfolding slotsPart
+    slots-room = length-part 0 slotsSize s (omega arith)
+
+    slots-octets : Octets (slotsPart s)
+    unfolding slotsPart
+    slots-octets = octets-part 0 slotsSize s q
+
+    none-behind : allZero (drop slotsSize (slotsPart s)) ≡ true
+    unfolding allZero
+    none-behind = rw (drop-of-length-le (slotsPart s) {i = slotsSize} (omega (arith, slots-room))) refl
+
+    flags-forth : flags (toOwn s) ≡ drop slotsSize s
+    unfolding toOwn fields width part
+    flags-forth =
+        rw (bit-forth (getD s boundaryPlace 0) one-a, bit-forth (getD s boundaryBPlace 0) one-b, ← octet-field s boundaryPlace, ← octet-field s boundaryBPlace)
+        (packed-fields boundaryWidths boundaryPlace s (omega arith) (octets-at s q) ∙ take-all 2 (drop slotsSize s) (omega (arith, length-drop slotsSize s)))
+
+    own-forth : ownOctets (toOwn s) ≡ s
+    unfolding ownOctets toOwn slotsPart part
+    own-forth =
+        rw (flags-forth, many-forth (domains-coded clock leave small) slots slots (omega arith) (slotsPart s) slots-room slots-octets slots-kept none-behind)
+        (take-append-drop slotsSize s)
+
+    own-valid : ValidOwn clock leave (toOwn s)
+    unfolding toOwn
+    own-valid = record {
+      slotted = length-parts slotSize toDomain slots (slotsPart s);
+      domains = many-valid (domains-coded clock leave small) slots slots (omega arith) (slotsPart s) slots-room slots-octets slots-kept none-behind;
+    }
+
+pub own-zeros : ownOctets noOwn ≡ zeros ownSize
+unfolding ownOctets noOwn bit width
+own-zeros =
+    rw (flat-zeros slotSize domainOctets noDomain domain-zeros (replicate slots noDomain) (all-replicate (λ d. d ≡ noDomain) slots noDomain refl), packed-zeros boundaryWidths)
+    (sym (zeros-add slotsSize 2))
+
+pub no-own-valid : (clock leave : ℕ) → ValidOwn clock leave noOwn
+unfolding noOwn
+no-own-valid clock leave = record { slotted = refl; domains = all-replicate (ValidDomain clock leave) slots noDomain tt }
+
+pub owns-coded : (clock leave : ℕ) → clock < 2 ^ 32 → Coded ownSize ownOctets toOwn (ownFormed clock leave) (ValidOwn clock leave) noOwn
+owns-coded clock leave small = record {
+  size = λ o v. own-length o (v .slotted);
+  back = own-back clock leave small;
+  keeps = own-formed clock leave small;
+  forth = own-forth clock leave small;
+  valid = own-valid clock leave small;
+  blank = own-zeros;
+  good = no-own-valid clock leave;
+}

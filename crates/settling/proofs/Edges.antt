@@ -1,0 +1,136 @@
+-- What a port decides by itself: its Domain values expired, and whether it is at the edge of each class's domain.
+use mathlib.Core.Path.{_≡_, refl, ap, _∙_}
+use mathlib.Core.List.{List, _∷_}
+use mathlib.Core.Bool.{true, false}
+use Prim.Native.Nat.{ℕ, _+_, _≤_, _<_}
+use native.Mathlib.Numerals.{add-one}
+use native.Mathlib.Omega.{arith}
+use lib.ListN.{length, drop, length-drop}
+use lib.Seq.{drop-cons, drop-length, take-all, getD-set-same, set-set}
+use borrow.Author.Tests.{lt-ltb, le-ltb}
+use Rattle.model.specs.Layout.{slots}
+use Rattle.model.specs.Lists.{All}
+use Rattle.model.specs.State.{Settings, Domain, noDomain, Own, noOwn, Bridge, noPort, portAt, isPort, ownAt, Class, classA, classB, supports}
+use Rattle.model.specs.Registrations.{changeDomains, owning}
+use Rattle.model.specs.Settling.{domainsOf, anySupports, isEdge, flagOf, decideOwn, decideOwns}
+use Rattle.model.specs.Table.{encode, decode}
+use Rattle.model.specs.Laid.{FitOwn}
+use Rattle.model.proofs.Lists.{all-getD, all-replicate, all-tabulate}
+use Rattle.model.proofs.AdvanceKeepsForm.{length-tabulate}
+use Rattle.model.proofs.Fits.{laid-fits}
+use Rattle.table.specs.Places.{PortIn}
+use Rattle.table.specs.Updates.{withOwn}
+use Rattle.table.proofs.ByPlace.{encoded-read}
+use Rattle.table.proofs.OwnParts.{own-fits, with-own-fits, own-replaced-laid}
+use Rattle.domains.specs.Classes.{classFrom}
+use Rattle.domains.proofs.Keeps.{FitDomain, no-domain-fits}
+use Rattle.domains.proofs.Ports.{expired-own-fits}
+use Rattle.settling.specs.Removed.{unmatchedOf, expiredOwn, flaggedOwn}
+
+-- Some port supports the class.
+
+module _ (st : Settings) (c : Class) where
+  module _ (p : ℕ) (h : p < length (st .ports)) where
+    one-port : drop p (st .ports) ≡ portAt st p ∷ drop (p + 1) (st .ports)
+    unfolding portAt
+    one-port = rw (add-one p) (drop-cons (st .ports) p noPort h)
+
+    pub supported-here : supports (portAt st p) c ≡ true → anySupports c (drop p (st .ports)) ≡ true
+    unfolding anySupports
+    supported-here e = rw (one-port, e)
+
+    pub unsupported-next : supports (portAt st p) c ≡ false → anySupports c (drop p (st .ports)) ≡ anySupports c (drop (p + 1) (st .ports))
+    unsupported-next e = rw one-port (unfold anySupports in rw e)
+
+  pub no-port-left : anySupports c (drop (length (st .ports)) (st .ports)) ≡ false
+  unfolding anySupports
+  no-port-left = rw (drop-length (st .ports))
+
+-- The values of a class by their first slot.
+
+pub a-from : (ds : List Domain) → length ds ≡ slots → classFrom 8 ds ≡ domainsOf classA ds
+unfolding classFrom domainsOf
+a-from ds e = take-all 8 (drop 8 ds) (omega (arith, length-drop 8 ds))
+
+pub b-from : (ds : List Domain) → classFrom 0 ds ≡ domainsOf classB ds
+unfolding classFrom domainsOf
+b-from ds = refl
+
+-- The flag.
+
+module _ (st : Settings) (p : ℕ) (c : Class) (ds : List Domain) where
+  pub no-flag : length (st .ports) ≤ p → flagOf st p c ds ≡ false
+  unfolding flagOf isPort
+  no-flag h = rw (le-ltb p (length (st .ports)) h)
+
+  module _ (h : p < length (st .ports)) where
+    pub supported-flag : supports (portAt st p) c ≡ true → flagOf st p c ds ≡ unmatchedOf st c ds
+    unfolding flagOf isPort isEdge
+    supported-flag e = rw (lt-ltb p (length (st .ports)) h, e)
+
+    pub unsupported-flag : supports (portAt st p) c ≡ false → flagOf st p c ds ≡ anySupports c (st .ports)
+    unfolding flagOf isPort isEdge
+    unsupported-flag e = rw (lt-ltb p (length (st .ports)) h, e)
+
+-- One port: the removals, then the flags.
+
+pub decided-own : (st : Settings) (now : ℕ) (o : List Own) (p : ℕ) → flaggedOwn st p (expiredOwn st now (ownAt o p)) ≡ decideOwn st now o p
+unfolding decideOwn changeDomains
+decided-own st now o p = refl
+
+-- it hangs on what the port held
+pub same-decision : (st : Settings) (now : ℕ) (o r : List Own) (p : ℕ) → ownAt o p ≡ ownAt r p → decideOwn st now o p ≡ decideOwn st now r p
+unfolding decideOwn
+same-decision st now o r p e = rw e
+
+flagged-fits : (st : Settings) (p : ℕ) (o : Own) → FitOwn o → FitOwn (flaggedOwn st p o)
+flagged-fits st p o f = record { slotted = f .slotted; domains = f .domains }
+
+module _ (st : Settings) (now : ℕ) (t : List ℕ) (p : ℕ) (s : PortIn t p) (t₁ : List ℕ) (e₁ : t₁ ≡ encode (withOwn p (expiredOwn st now (ownAt (decode t .own) p)) (decode t))) where
+  abbrev o : Own
+  o = expiredOwn st now (ownAt (decode t .own) p)
+
+  fits : FitOwn o
+  fits = expired-own-fits st now (ownAt (decode t .own) p) (own-fits s)
+
+  pub expired-own-in : PortIn t₁ p
+  expired-own-in = record { laid = own-replaced-laid s o fits t₁ e₁; port = s .port }
+
+  read : decode t₁ ≡ withOwn p o (decode t)
+  read = encoded-read (withOwn p o (decode t)) (with-own-fits s o fits) t₁ e₁
+
+  here : ownAt (decode t₁ .own) p ≡ o
+  here =
+      ap (λ (b : Bridge). ownAt (b .own) p) read
+      ∙ unfold owning in getD-set-same (decode t .own) p o noOwn (omega (arith, s .port, laid-fits t (s .laid) .eight-own))
+
+  pub decided-octets : decode t .settings ≡ st → (t₂ : List ℕ) → t₂ ≡ encode (withOwn p (flaggedOwn (decode t₁ .settings) p (ownAt (decode t₁ .own) p)) (decode t₁))
+      → t₂ ≡ encode (withOwn p (decideOwn st now (decode t .own) p) (decode t))
+  decided-octets k t₂ e₂ =
+      let same : decode t₁ .settings ≡ st = ap (λ (b : Bridge). b .settings) read ∙ unfold owning in k in
+      e₂
+      ∙ ap (λ (v : Settings). encode (withOwn p (flaggedOwn v p (ownAt (decode t₁ .own) p)) (decode t₁))) same
+      ∙ ap (λ (x : Own). encode (withOwn p (flaggedOwn st p x) (decode t₁))) here
+      ∙ ap (λ (b : Bridge). encode (withOwn p (flaggedOwn st p o) b)) read
+      ∙ ap (λ (x : Own). encode (withOwn p x (withOwn p o (decode t)))) (decided-own st now (decode t .own) p)
+      ∙ unfold owning in ap (λ (l : List Own). encode (owning (decode t) l)) (set-set (decode t .own) p o (decideOwn st now (decode t .own) p))
+
+-- Every port.
+
+no-own-fits : FitOwn noOwn
+unfolding noOwn
+no-own-fits = record { slotted = refl; domains = all-replicate FitDomain slots noDomain no-domain-fits }
+
+module _ (st : Settings) (now : ℕ) (l : List Own) (a : All FitOwn l) where
+  pub decision-fits : (p : ℕ) → FitOwn (decideOwn st now l p)
+  decision-fits p =
+      rw (decided-own st now l p) at
+      (flagged-fits st p (expiredOwn st now (ownAt l p)) (expired-own-fits st now (ownAt l p) (all-getD FitOwn l a noOwn no-own-fits p)))
+
+  pub decisions-fit : All FitOwn (decideOwns st now l)
+  unfolding decideOwns
+  decisions-fit = all-tabulate FitOwn 8 0 (decideOwn st now l) decision-fits
+
+pub decisions-eight : (st : Settings) (now : ℕ) (l : List Own) → length (decideOwns st now l) ≡ 8
+unfolding decideOwns
+decisions-eight st now l = length-tabulate 8 0 (decideOwn st now l)

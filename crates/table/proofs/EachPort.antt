@@ -1,0 +1,105 @@
+-- A loop that decides what stands at one place of a list after another, and what one port after another holds by itself: at each turn
+-- the table is laid out, and what the loop has not come to is as it was; a turn; the end.
+use Prim.Native.Nat.{ℕ, zero, suc, _+_, _≤_, _<_}
+use native.Mathlib.Nat.{add-zero}
+use native.Mathlib.Numerals.{add-one}
+use native.Mathlib.Omega.{arith}
+use mathlib.Core.Path.{_≡_, refl, sym, ap, _∙_}
+use mathlib.Core.List.{List, [], _∷_, _++_, append-assoc, append-nil}
+use lib.ListN.{length, getD, set, drop, length-append, length-drop}
+use lib.Seq.{drop-cons, drop-length, set-at, getD-append-add, getD-drop}
+use Rattle.model.specs.Lists.{All, tabulate}
+use Rattle.model.specs.State.{Own, Bridge, noOwn, ownAt}
+use Rattle.model.specs.Registrations.{owning}
+use Rattle.model.specs.Table.{encode, decode}
+use Rattle.model.specs.Laid.{FitOwn, FitBridge, Laid}
+use Rattle.model.proofs.Lists.{all-append, all-drop, all-tabulate}
+use Rattle.model.proofs.AdvanceKeepsForm.{length-tabulate}
+use Rattle.model.proofs.Fits.{laid-is, laid-fits}
+use Rattle.table.specs.Updates.{withOwn}
+use Rattle.table.specs.Places.{PortIn}
+use Rattle.table.proofs.Fitting.{owning-fits}
+use Rattle.table.proofs.ByPlace.{encoded-laid, encoded-read}
+
+-- The first n of a list decided by f.
+
+tabulate-last : {A : Type 0} (n p : ℕ) (f : ℕ → A) → tabulate (suc n) p f ≡ tabulate n p f ++ (f (p + n) ∷ [])
+unfolding tabulate
+tabulate-last zero p f = ap (λ (q : ℕ). f q ∷ []) (omega arith)
+tabulate-last {A = A} (suc n) p f =
+    ap (λ (l : List A). f p ∷ l) (tabulate-last n (suc p) f ∙ ap (λ (q : ℕ). tabulate n (suc p) f ++ (f q ∷ [])) (omega arith))
+
+module _ {A : Type 0} (f : ℕ → A) (l : List A) where
+  abbrev pub upTo : ℕ → List A
+  upTo n = tabulate n 0 f ++ drop n l
+
+  pub up-to-length : (n : ℕ) → n ≤ length l → length (upTo n) ≡ length l
+  up-to-length n h = length-append (tabulate n 0 f) (drop n l) ∙ omega (arith, length-tabulate n 0 f, length-drop n l)
+
+  -- the next is as it was
+  pub up-to-here : (n : ℕ) (d : A) → getD (upTo n) n d ≡ getD l n d
+  up-to-here n d =
+      ap (λ (i : ℕ). getD (upTo n) i d) (sym (length-tabulate n 0 f) ∙ sym (add-zero (length (tabulate n 0 f))))
+      ∙ getD-append-add (tabulate n 0 f) (drop n l) 0 d
+      ∙ getD-drop n l 0 d
+      ∙ ap (λ (i : ℕ). getD l i d) (add-zero n)
+
+  pub up-to-next : (n : ℕ) (d : A) → n < length l → set (upTo n) n (f n) ≡ upTo (suc n)
+  up-to-next n d h =
+      let e : 0 + n ≡ n = omega arith in
+      ap (λ (r : List A). set (tabulate n 0 f ++ r) n (f n)) (drop-cons l n d h)
+      ∙ set-at (tabulate n 0 f) (getD l n d) (drop (suc n) l) (f n) n (length-tabulate n 0 f)
+      ∙ sym (ap (λ (r : List A). r ++ drop (suc n) l) (tabulate-last n 0 f)
+      ∙ append-assoc (tabulate n 0 f) (f (0 + n) ∷ []) (drop (suc n) l)
+      ∙ ap (λ (q : ℕ). tabulate n 0 f ++ (f q ∷ drop (suc n) l)) e)
+
+  pub up-to-eight : length l ≡ 8 → upTo 8 ≡ tabulate 8 0 f
+  up-to-eight e = rw (← e, drop-length l, append-nil)
+
+  pub up-to-keep : (P : A → Type 0) → ((q : ℕ) → P (f q)) → All P l → (n : ℕ) → All P (upTo n)
+  up-to-keep P decided a n = all-append P (tabulate n 0 f) (drop n l) (all-tabulate P n 0 f decided) (all-drop P n l a)
+
+-- What one port after another holds by itself.
+
+module _ (f : ℕ → Own) where
+  -- the bridge of t₀ with what its first n places hold decided
+  unfoldable pub ownsTo : List ℕ → ℕ → Bridge
+  ownsTo t₀ n = owning (decode t₀) (upTo f (decode t₀ .own) n)
+
+  module _ (t₀ : List ℕ) (l : Laid t₀) where
+    pub no-own-yet : t₀ ≡ encode (ownsTo t₀ 0)
+    unfolding ownsTo tabulate owning
+    no-own-yet = laid-is t₀ l
+
+    pub all-own : (t : List ℕ) → t ≡ encode (ownsTo t₀ 8) → t ≡ encode (owning (decode t₀) (tabulate 8 0 f))
+    unfolding ownsTo
+    all-own t e = e ∙ ap (λ (o : List Own). encode (owning (decode t₀) o)) (up-to-eight f (decode t₀ .own) (laid-fits t₀ l .eight-own))
+
+    module _ (fits : (q : ℕ) → FitOwn (f q)) (n : ℕ) (h : n < 8) (t : List ℕ) (e : t ≡ encode (ownsTo t₀ n)) where
+      w : FitBridge (decode t₀)
+      w = laid-fits t₀ l
+
+      owns-fit : FitBridge (ownsTo t₀ n)
+      unfolding ownsTo
+      owns-fit =
+          let o = decode t₀ .own in
+          owning-fits (decode t₀) w (upTo f o n) (up-to-length f o n (omega (arith, w .eight-own)) ∙ w .eight-own) (up-to-keep f o FitOwn fits (w .own) n)
+
+      pub own-next-in : PortIn t n
+      own-next-in = record { laid = encoded-laid (ownsTo t₀ n) owns-fit t e; port = h }
+
+      owns-read : decode t ≡ ownsTo t₀ n
+      owns-read = encoded-read (ownsTo t₀ n) owns-fit t e
+
+      pub owns-settings : decode t .settings ≡ decode t₀ .settings
+      owns-settings = ap (λ (b : Bridge). b .settings) owns-read ∙ unfold ownsTo owning in refl
+
+      -- the next place
+      pub own-next : ownAt (decode t .own) n ≡ ownAt (decode t₀ .own) n
+      own-next = ap (λ (b : Bridge). ownAt (b .own) n) owns-read ∙ unfold ownsTo owning in up-to-here f (decode t₀ .own) n noOwn
+
+      pub one-own-more : (y : List ℕ) → y ≡ encode (withOwn n (f n) (decode t)) → y ≡ encode (ownsTo t₀ (n + 1))
+      one-own-more y q =
+          q
+          ∙ ap (λ (b : Bridge). encode (withOwn n (f n) b)) owns-read
+          ∙ unfold ownsTo owning in rw (add-one n) (ap (λ (o : List Own). encode (owning (decode t₀) o)) (up-to-next f (decode t₀ .own) n noOwn (omega (arith, w .eight-own))))
