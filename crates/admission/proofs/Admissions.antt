@@ -136,7 +136,7 @@ module _ (sc : Scene) (now : ℕ) (s : List Stream) where
 
   -- one port in one class, which was not done and now is
   module _ (p : ℕ) (h : p < 8) (c : Class) (real : sameClass c c ≡ true) (done then : ℕ → Class → Bool) (open-before : done p c ≡ false)
-      (done-now : then p c ≡ true) (else : (q : ℕ) (d : Class) → (q ≡ p → d ≡ c → ⊥) → done q d ≡ then q d) where
+      (done-now : then p c ≡ true) (a-first : c ≡ classB → done p classA ≡ true) (else : (q : ℕ) (d : Class) → (q ≡ p → d ≡ c → ⊥) → done q d ≡ then q d) where
     old : ℕ → Stream → Column
     old = columnBy done
 
@@ -277,9 +277,23 @@ module _ (sc : Scene) (now : ℕ) (s : List Stream) where
         other-port : (q : ℕ) → q < 8 → (q ≡ p → ⊥) → totalsBy done q ≡ totalsBy then q
         other-port q b n = unfold totalsBy in (rw (else q classA (λ i j. n i), else q classB (λ i j. n i)))
 
+    -- the limit in force is read off the total that class A left
+    limit-same : (clock : ℕ) → limitShown (sc .settings) (shared done clock) p c ≡ l
+    unfolding limitShown limitOn shared totalsBy l
+    limit-same clock =
+        rw (at-place (totalsBy done) p noTotals h, reserved-a sc now s p) (go c refl)
+      where
+        used : ℕ
+        used = cond (done p classA) (totalOn sc now s p classA) 0
+
+        go : (d : Class) → c ≡ d → inForce (portAt (sc .settings) p) used d ≡ inForce (portAt (sc .settings) p) (totalOn sc now s p classA) d
+        go noClass e = unfold inForce in refl
+        go classA e = unfold inForce in refl
+        go classB e = unfold used in (rw (a-first e))
+
     admission-one : (clock : ℕ) → admission p c (shared done clock) ≡ shared then clock
-    unfolding admission shared limitShown limitOn old new l cs
-    admission-one clock = rw (claims-same s, totals-set, admit-all s)
+    unfolding admission shared old new cs
+    admission-one clock = rw (limit-same clock, claims-same s, totals-set, admit-all s)
 
 -- All of them: on each port class A, then class B.
 

@@ -67,17 +67,26 @@ module _ (st : Settings) (p : ℕ) (c : Class) where
 
 -- Totals.
 
-limit-fits : (b : Bridge) → FitBridge b → (p : ℕ) (c : Class) → limitShown (b .settings) b p c < 256 ^ 5
-unfolding limitShown limit portNumbers
-limit-fits b w p noClass = omega arith
-limit-fits b w p classA = fit-at portWidths (portNumbers (portAt (b .settings) p)) (port-fits (b .settings) (w .settings) p) 3
-limit-fits b w p classB = fit-at portWidths (portNumbers (portAt (b .settings) p)) (port-fits (b .settings) (w .settings) p) 4
+-- a class total that is at most its limit in force has room where it stands
+limit-fits : (b : Bridge) → FitBridge b → (p : ℕ) (c : Class) (n : ℕ) → n ≤ limitShown (b .settings) b p c → (t : Totals) → FitTotals t → FitTotals (withTotal c n t)
+unfolding limitShown portNumbers withTotal
+limit-fits b w p c n h t f = go c h
+  where
+    q : Port
+    q = portAt (b .settings) p
 
-total-fits : (c : Class) (n : ℕ) (t : Totals) → n < 256 ^ 5 → FitTotals t → FitTotals (withTotal c n t)
-unfolding withTotal
-total-fits noClass n t h f = f
-total-fits classA n t h f = (h, f .1)
-total-fits classB n t h f = (f .0, h)
+    limit-a : q .limitA < 256 ^ 5
+    unfolding q
+    limit-a = fit-at portWidths (portNumbers q) (port-fits (b .settings) (w .settings) p) 3
+
+    limit-b : q .limitB < 256 ^ 5
+    unfolding q
+    limit-b = fit-at portWidths (portNumbers q) (port-fits (b .settings) (w .settings) p) 4
+
+    go : (d : Class) → n ≤ inForce q (totalsAt p b .totalA) d → FitTotals (withTotal d n t)
+    go noClass h = f
+    go classA h = (unfold inForce in omega (arith, limit-a), f .1)
+    go classB h = (f .0, omega (arith, limit-b-fits q limit-a limit-b (totalsAt p b .totalA)))
 
 -- The admission of a port and class.
 
@@ -96,8 +105,7 @@ module _ (b : Bridge) (w : FitBridge b) (p : ℕ) (h : p < 8) (c : Class) where
   unfolding admission holding
   admission-fits =
       let t = withTotal c (total l cs) (totalsAt p b) in
-      let small : total l cs < 256 ^ 5 = unfold total in (omega (arith, within l (sort cs), limit-fits b w p c)) in
       totalled-fits (holding b (map (admit (b .settings) p c l cs) (b .streams))) admitted-fits (set (b .totals) p t)
       (length-set (b .totals) p t ∙ w .eight-totals)
       (all-set FitTotals (b .totals) p t (w .totals)
-      (total-fits c (total l cs) (totalsAt p b) small (all-getD FitTotals (b .totals) (w .totals) noTotals no-totals-fit p)))
+      (limit-fits b w p c (total l cs) (unfold total in within l (sort cs)) (totalsAt p b) (all-getD FitTotals (b .totals) (w .totals) noTotals no-totals-fit p)))
