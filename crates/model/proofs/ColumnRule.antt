@@ -633,7 +633,7 @@ module _ (sc : Scene) (now p : ℕ) (s s′ : List Stream) (x x′ : Stream)
 -- A stream that reserves nothing on p, because it is refused or has no ready Listener there, changes no column and no class
 -- total on p: all is as if it were not held.
 module _ (sc : Scene) (now p : ℕ) where
-  claims-append : (c : Class) (s t : List Stream) → claims sc now p c (s ++ t) ≡ claims sc now p c s ++ claims sc now p c t
+  pub claims-append : (c : Class) (s t : List Stream) → claims sc now p c (s ++ t) ≡ claims sc now p c s ++ claims sc now p c t
   unfolding claims
   claims-append c [] t = refl
   claims-append c (x ∷ s) t = go (clear (steps sc p x) && sameClass (streamClass (sc .settings) x) c) (claims-append c s t)

@@ -63,6 +63,15 @@ both-fit q a b = go (q .supportsA)
     go true = omega arith
     go false = omega arith
 
+-- and are at most the two as they are configured
+pub both-at-most : (q : Port) → bothLimits q ≤ q .limitA + q .limitB
+unfolding bothLimits
+both-at-most q = go (q .supportsA)
+  where
+    go : (t : Bool) → cond t (q .limitA) 0 + q .limitB ≤ q .limitA + q .limitB
+    go true = omega arith
+    go false = omega arith
+
 pub limit-b-fits : (q : Port) → q .limitA < 256 ^ 5 → q .limitB < 256 ^ 5 → (n : ℕ) → inForce q n classB < 256 ^ 6
 unfolding inForce
 limit-b-fits q a b n = omega (arith, both-fit q a b)
