@@ -539,7 +539,7 @@ totals-within : (some : Bool) (n p : ℕ) (qs : List Port) (f : ℕ → Totals) 
 unfolding tabulate totalsWithin noPort
 totals-within some zero p qs f h = refl
 totals-within some (suc n) p [] f h =
-    let here : (f p .totalA ≤ 0) × (f p .totalB ≤ 0) = 
+    let here : (f p .totalA ≤ 0) × (f p .totalB ≤ 0) =
     rw (no-limit some 0, no-limit some (inForce noPort (f p .totalA) classB)) at (h 0 p (omega arith)) in
     rw (eq-eqb (f p .totalA) 0 (omega arith), eq-eqb (f p .totalB) 0 (omega arith))
     (totals-within some n (suc p) [] f (λ i q e. h (suc i) q (omega arith)))
