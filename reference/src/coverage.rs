@@ -1,6 +1,7 @@
 //! What the generated inputs reach: how often each thing worth comparing occurs when the reference
 //! runs on them.
 
+mod borrowing;
 mod domains;
 
 use std::collections::BTreeMap;
@@ -10,7 +11,9 @@ use crate::calls;
 use crate::declarations::Declaration;
 use crate::generator;
 use crate::numbers::{self, Number};
-use crate::pdu::{self, AttributeType, Event, Message, Pdu, Value, Vector, LONGEST_PDU};
+use crate::pdu::{
+    self, AttributeType, Event, Message, Parameters, Pdu, Value, Vector, LONGEST_PDU,
+};
 use crate::records::{Call, Watcher};
 use crate::registrations::{is_join, MOST_STREAMS};
 use crate::settings::{self, Settings, MOST_PORTS};
@@ -219,6 +222,22 @@ const ROWS: &[&str] = &[
     "class B reserved",
     "class total equal to its limit",
     "reserved on a port that sends twice",
+    "class A refused where it would fit in both limits",
+    "class B admitted by borrowing alone",
+    "class B borrows exactly what is left",
+    "class B one above what class A leaves",
+    "class B borrows with the higher priority",
+    "class B refused for what class A reserves",
+    "class B of rank 0 gives way to class A of rank 1",
+    "class B refused where limit A counts 0",
+    "class B admitted where limit A counts 0",
+    "class B thrown out where class A grows",
+    "class B back where class A shrinks",
+    "class B total above its limit",
+    "class B total above a limit of 0",
+    "both totals equal to the sum of limits",
+    "limit in force of 2^40 or above",
+    "class B total of 2^40 or above",
     "Talker port moved",
     "second Talker on a port above",
     "write of Advertise, Failed, Listener and Domain",
@@ -331,6 +350,13 @@ fn decisions(bridge: &Bridge) -> ByStreamAndPort<Decision> {
 fn talker_port(bridge: &Bridge, stream_id: u64) -> Option<usize> {
     let ports = bridge.registrations.streams.get(&stream_id)?;
     ports.iter().position(|on_port| on_port.talker.is_some())
+}
+
+/// What is registered at the Talker port of a stream that has one.
+fn talker_of(bridge: &Bridge, stream_id: u64) -> Parameters {
+    let at = talker_port(bridge, stream_id).expect("a stream with a Talker");
+    let talker = bridge.registrations.streams[&stream_id][at].talker.as_ref();
+    talker.expect("the Talker port's").parameters
 }
 
 impl Coverage {
@@ -629,13 +655,13 @@ impl Coverage {
         let held = after.registrations.streams.len();
         self.count_if("tables with exactly 64 streams after an advance", held == MOST_STREAMS);
         self.count_if("tables with 60 to 63 streams after an advance", (60..=63).contains(&held));
-        self.settled(after);
+        self.settled(before, after);
         self.importance(after);
         self.domains_left(time, before);
         self.boundaries(before, after);
     }
 
-    fn settled(&mut self, bridge: &Bridge) {
+    fn settled(&mut self, before: &Bridge, bridge: &Bridge) {
         for ((stream_id, port), decision) in decisions(bridge) {
             let (row, own_code) = match decision.step {
                 Step::A => ("column step a", None),
@@ -675,6 +701,7 @@ impl Coverage {
             });
             self.latency(bridge, stream_id, port);
             self.at_the_edge(bridge, stream_id, port, decision.step);
+            self.borrowed((before, bridge), stream_id, port, &decision);
             if let Some(compared) = decision.compared {
                 let (demand, left) = (compared.demand.0, compared.left.0);
                 self.count_if("demand exactly what is left", demand == left && demand > 0);
@@ -685,6 +712,7 @@ impl Coverage {
                 self.count_if("admitted without a Ready listener", admitted && idle);
             }
         }
+        self.both_totals(bridge);
         for (port, total) in bridge.settings.ports.iter().zip(&bridge.settled.totals) {
             self.count_if("class A reserved", total.a > 0);
             self.count_if("class B reserved", total.b > 0);
@@ -719,9 +747,7 @@ impl Coverage {
     fn importance(&mut self, bridge: &Bridge) {
         let decisions = decisions(bridge);
         let priority_and_rank = |stream_id: u64| {
-            let at = talker_port(bridge, stream_id).expect("it reached step h");
-            let talker = bridge.registrations.streams[&stream_id][at].talker.as_ref();
-            let parameters = talker.expect("the Talker port's").parameters;
+            let parameters = talker_of(bridge, stream_id);
             (parameters.priority, parameters.rank)
         };
         for ((admitted, port), decision) in &decisions {

@@ -32,6 +32,9 @@ const ASKING: u8 = 1;
 const READY: u8 = 2;
 const READY_FAILED: u8 = 3;
 
+/// The greatest limit of a class.
+const GREATEST_LIMIT: u64 = (1 << 40) - 1;
+
 /// How much happens in a history.
 #[derive(Clone, Copy, Debug, PartialEq, Eq)]
 enum Size {
@@ -96,6 +99,9 @@ fn plan(random: &mut Random, size: Size) -> Plan {
         make_rivals(random, &mut settings, &mut groups);
     }
     choose_limits(random, &mut settings, &groups, rivals);
+    if random.percent(3) {
+        make_great(random, &mut settings, &mut groups);
+    }
     Plan { settings, groups, size, rivals }
 }
 
@@ -275,11 +281,38 @@ fn choose_limits(random: &mut Random, settings: &mut Settings, groups: &[Group],
                 12..=13 => sum + random.below(64_000),
                 14 => 0,
                 15..=16 => 75_000_000,
-                17 => (1 << 40) - 1,
+                17 => GREATEST_LIMIT,
                 _ => random.below(200_000_000),
             };
-            *port.limit.of_mut(class) = limit.min((1 << 40) - 1);
+            *port.limit.of_mut(class) = limit.min(GREATEST_LIMIT);
         }
+        if random.percent(30) {
+            lend_to_class_b(random, port);
+        }
+    }
+}
+
+/// Moves what is in limit B to limit A, all or a part, so that class B meets it by borrowing.
+fn lend_to_class_b(random: &mut Random, port: &mut PortSettings) {
+    let PerClass { a, b } = port.limit;
+    let lent = random.one_of(&[b, b, b / 2]).min(GREATEST_LIMIT - a);
+    port.limit = PerClass { a: a + lent, b: b - lent };
+}
+
+/// Makes streams of class B ask for around 2^40 bits per second, on ports with both limits so high.
+fn make_great(random: &mut Random, settings: &mut Settings, groups: &mut [Group]) {
+    for port in &mut settings.ports {
+        port.supports = PerClass { a: true, b: true };
+        port.largest_frame = port.largest_frame.max(1_000);
+        port.limit = PerClass { a: GREATEST_LIMIT, b: GREATEST_LIMIT - random.below(2) };
+    }
+    for group in groups {
+        let parameters = &mut group.first.parameters;
+        if random.percent(70) {
+            parameters.priority = settings.priority.b;
+        }
+        parameters.max_frame_size = random.one_of(&[64, 224, 480]);
+        parameters.max_interval_frames = random.one_of(&[32_768, 65_535, 65_535]);
     }
 }
 
@@ -422,6 +455,17 @@ fn wide_vector(
         listener_types,
         ..VectorDraft::default()
     }
+}
+
+/// A frame of Listeners of a whole group, with these events.
+fn listeners_frame(group: &Group, events: &[u8], listener_type: u8) -> Vec<u8> {
+    let vector = VectorDraft {
+        first_value: group.first.stream_id.to_be_bytes().to_vec(),
+        events: events.to_vec(),
+        listener_types: vec![listener_type; events.len()],
+        ..VectorDraft::default()
+    };
+    FrameDraft::new(vec![MessageDraft::new(AttributeType::Listener, vec![vector])]).octets()
 }
 
 /// The type of what a group mostly has to say on a port.
@@ -860,17 +904,26 @@ impl History {
             if port != group.talker_port && self.random.percent(75) {
                 let listener_type =
                     self.random.one_of(&[READY, READY, READY, READY_FAILED, ASKING]);
-                let vector = VectorDraft {
-                    first_value: group.first.stream_id.to_be_bytes().to_vec(),
-                    events: joins.clone(),
-                    listener_types: vec![listener_type; group.members as usize],
-                    ..VectorDraft::default()
-                };
-                let message = MessageDraft::new(AttributeType::Listener, vec![vector]);
-                frames.push((port, FrameDraft::new(vec![message]).octets()));
+                frames.push((port, listeners_frame(group, &joins, listener_type)));
             }
         }
         frames
+    }
+
+    /// What class A has reserved on a port goes and comes again, so that class B borrows it and gives
+    /// it back.
+    fn class_a_goes_and_comes(&mut self, plan: &Plan) {
+        let port = self.port(plan);
+        let priority = plan.settings.priority.a;
+        let is_a = |group: &&Group| group.first.parameters.priority == priority;
+        for listener_type in [ASKING, READY] {
+            for group in plan.groups.iter().filter(is_a) {
+                let joins = vec![self.random.one_of(&JOINS); group.members as usize];
+                self.receive(port, &listeners_frame(group, &joins, listener_type));
+            }
+            let time = self.clock().saturating_add(self.random.below(3) as u32);
+            self.advance(time);
+        }
     }
 
     /// Joins new streams up to 64, one less or one more.
@@ -973,7 +1026,7 @@ impl History {
     fn step(&mut self, plan: &Plan) {
         let port = self.port(plan);
         let fill_weight = if plan.size == Size::Full { 8 } else { 1 };
-        match self.random.weighted(&[58, 26, 11, 3, 4, 4, fill_weight]) {
+        match self.random.weighted(&[58, 26, 11, 3, 4, 4, 2, fill_weight]) {
             0 => {
                 let frame = frame(&mut self.random, plan, port);
                 self.receive(port, &frame.octets());
@@ -994,6 +1047,7 @@ impl History {
             }
             4 => self.leave_and_wait(plan),
             5 => self.hear_domain_again(plan),
+            6 => self.class_a_goes_and_comes(plan),
             _ => self.fill(plan),
         }
     }
@@ -1125,7 +1179,7 @@ const CROWDS: [(u64, u64, u64); 11] = [
 /// Settings of two ports with room for all streams.
 fn roomy_settings(random: &mut Random) -> Settings {
     let port = PortSettings {
-        limit: PerClass { a: (1 << 40) - 1, b: 0 },
+        limit: PerClass { a: GREATEST_LIMIT, b: 0 },
         latency: PerClass { a: 500, b: 0 },
         ..PortSettings::of_the_worked_example()
     };

@@ -1,5 +1,5 @@
-//! Settling: attribute propagation and reserved bandwidth (01, "Settling"; 02, (ii); 802.1Qat
-//! clauses 35.2.4.1 to 35.2.4.4, Tables 35-12 and 35-14).
+//! Settling: attribute propagation and reserved bandwidth (01, "Settling"; 02, (ii) and (i);
+//! 802.1Qat clauses 35.2.4.1 to 35.2.4.4, Tables 35-12 and 35-14; 802.1Q clause 34.3.1).
 
 use std::collections::BTreeMap;
 
@@ -267,7 +267,8 @@ pub fn decide(facts: &Facts, entries_since: &ByStreamAndPort<u32>) -> Decisions 
             let mut by_importance = reaching.remove(&class).unwrap_or_default();
             by_importance.sort();
             for (_, _, stream_id) in by_importance {
-                let decision = admit(facts, stream_id, port, class, total.of_mut(class));
+                let limit = limit_in_force(&facts.settings.ports[port - 1], class, total.a);
+                let decision = admit(facts, stream_id, port, limit, total.of_mut(class));
                 decisions.columns.insert((stream_id, port), decision);
             }
         }
@@ -301,19 +302,32 @@ fn decide_before_bandwidth(
     reaching
 }
 
-/// Steps h and i for a stream, with what more important ones have reserved of its class.
+/// The limit of a class on a port, with what class A has reserved there in this advance. Class A is
+/// settled first and never borrows; B's limit is limit A plus limit B less A's total (02, (i)).
+pub fn limit_in_force(port: &PortSettings, class: Class, total_a: u64) -> BitsPerSecond {
+    // Limit A counts as 0 where the port doesn't support A.
+    let limit_a = if port.supports.a { port.limit.a } else { 0 };
+    BitsPerSecond(match class {
+        Class::A => port.limit.a,
+        Class::B => limit_a + port.limit.b - total_a,
+    })
+}
+
+/// Steps h and i for a stream, with the limit in force for its class and what more important ones
+/// have reserved of it.
 fn admit(
     facts: &Facts,
     stream_id: StreamId,
     port: usize,
-    class: Class,
+    limit: BitsPerSecond,
     reserved: &mut u64,
 ) -> Decision {
     let ports = &facts.registrations.streams[&stream_id];
     let port_settings = &facts.settings.ports[port - 1];
-    let Parameters { max_frame_size, max_interval_frames, .. } = reaching_talker(ports);
+    let Parameters { max_frame_size, max_interval_frames, priority, .. } = reaching_talker(ports);
+    let class = facts.settings.class_of(priority).expect("step f has passed");
     let demand = rate(class, demand(port_settings, max_frame_size, max_interval_frames));
-    let left = BitsPerSecond(port_settings.limit.of(class) - *reserved);
+    let left = BitsPerSecond(limit.0 - *reserved);
     let compared = Some(Compared { demand, left });
     // h. demand above what is left: 1
     if demand > left {

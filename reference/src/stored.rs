@@ -170,7 +170,7 @@ fn field_in_use(random: &mut Random, table: &[u8]) -> Range<usize> {
         2 => table::CLOCK,
         3 => table::TOTALS..table::TOTALS + table::TOTALS_LENGTH * ports,
         4 => {
-            let rule = random.one_of(&[26, 27, 28, 29]);
+            let rule = random.one_of(&[31, 32, 33, 34]);
             let port = random.below(ports as u64) as usize;
             field_of_edge(random, table, rule, port)
         }

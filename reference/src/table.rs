@@ -20,12 +20,12 @@ pub const CLOCK: Range<usize> = 189..193;
 pub const COUNT: usize = 193;
 /// The totals of eight ports.
 pub const TOTALS: usize = 194;
-/// Octets of one port's totals: class A 5, class B 5.
-pub const TOTALS_LENGTH: usize = 10;
+/// Octets of one port's totals: class A 5, and class B 6, since it may borrow class A's limit.
+pub const TOTALS_LENGTH: usize = 11;
 /// What eight ports have of the domain: their Domain records and boundary flags.
-pub const EDGES: usize = 274;
+pub const EDGES: usize = 282;
 /// The stream records, those in use first.
-pub const RECORDS: usize = 1_314;
+pub const RECORDS: usize = 1_322;
 pub const RECORD_LENGTH: usize = 493;
 /// The length of the table; one length for every port count.
 pub const TABLE_LENGTH: usize = RECORDS + MOST_STREAMS * RECORD_LENGTH;
@@ -93,8 +93,9 @@ pub mod result {
     pub const LISTENER: usize = 19;
 }
 
-const _: () = assert!(TABLE_LENGTH == 32_866);
+const _: () = assert!(TABLE_LENGTH == 32_874);
 const _: () = assert!(CLOCK.start == settings::HEAD_LENGTH + MOST_PORTS * settings::PORT_LENGTH);
+const _: () = assert!(EDGES == TOTALS + MOST_PORTS * TOTALS_LENGTH);
 const _: () = assert!(RECORDS == EDGES + MOST_PORTS * edge::LENGTH);
 const _: () = assert!(edge::DOMAINS.end == SLOTS * domain::LENGTH);
 const _: () = assert!(record::PARAMETERS.end - record::PARAMETERS.start == PARAMETERS_LENGTH);
@@ -132,6 +133,12 @@ pub fn used(table: &[u8]) -> usize {
 fn totals(table: &[u8], place: usize) -> PerClass<u64> {
     let octets = &table[TOTALS + TOTALS_LENGTH * place..][..TOTALS_LENGTH];
     PerClass { a: number_of(&octets[..5]), b: number_of(&octets[5..]) }
+}
+
+/// The classes that the port at a place supports.
+fn supports(table: &[u8], place: usize) -> PerClass<bool> {
+    let flags = table[settings::length(place)];
+    PerClass { a: flags & 0x80 != 0, b: flags & 0x40 != 0 }
 }
 
 /// The class limits of the port at a place.
@@ -250,7 +257,10 @@ fn every_domain(table: &[u8], holds: impl Fn(&[u8]) -> bool) -> bool {
 fn totals_are_within_limits(table: &[u8]) -> bool {
     let within = |place| {
         let (total, limit) = (totals(table, place), limits(table, place));
-        total.a <= limit.a && total.b <= limit.b
+        let supports = supports(table, place);
+        let of_supported = |limit, supports| if supports { limit } else { 0 };
+        let sum = of_supported(limit.a, supports.a) + of_supported(limit.b, supports.b);
+        total.a <= limit.a && total.a + total.b <= sum
     };
     (0..ports(table)).all(within) && is_zero(&table[TOTALS + TOTALS_LENGTH * ports(table)..EDGES])
 }
@@ -376,10 +386,9 @@ fn entries_have_listeners(cells: &[&[u8]], results: &[&[u8]]) -> bool {
 
 fn totals_are_of_streams(table: &[u8]) -> bool {
     (0..ports(table)).all(|place| {
-        let total = totals(table, place);
-        let flags = table[settings::length(place)];
+        let (total, supports) = (totals(table, place), supports(table, place));
         let earned = |total, supports| total == 0 || supports && table[COUNT] > 0;
-        earned(total.a, flags & 0x80 != 0) && earned(total.b, flags & 0x40 != 0)
+        earned(total.a, supports.a) && earned(total.b, supports.b)
     })
 }
 
@@ -394,7 +403,7 @@ pub fn encode(bridge: &Bridge) -> Vec<u8> {
     out.push(bridge.registrations.streams.len() as u8);
     for total in &bridge.settled.totals {
         out.extend(&total.a.to_be_bytes()[3..]);
-        out.extend(&total.b.to_be_bytes()[3..]);
+        out.extend(&total.b.to_be_bytes()[2..]);
     }
     out.resize(EDGES, 0);
     for (domains, flags) in bridge.registrations.domains.iter().zip(&bridge.settled.boundaries) {

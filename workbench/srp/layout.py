@@ -147,9 +147,9 @@ class Result:
 
 @dataclass(frozen=True)
 class Totals:
-    """What is reserved on a port."""
+    """What is reserved on a port. Class B may borrow of class A's limit."""
     a: int = octets(5)
-    b: int = octets(5)
+    b: int = octets(6)
 
 
 @dataclass(frozen=True)

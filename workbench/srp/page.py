@@ -45,7 +45,8 @@ class Place:
 
 
 def parts(load):
-    """The parts of a class's bar, in order of importance from the left. The bar is as long as the limit."""
+    """The parts of a class's bar, in order of importance from the left. The bar is as long as the limit, or as the total where class
+    B borrows."""
     whole, left = max(load.limit, load.total, 1), 0
     for shade, share in enumerate(load.holders):
         wide = 100 * share.demand / whole
@@ -54,12 +55,14 @@ def parts(load):
 
 
 def reserved(load):
-    """What is reserved of the limit."""
+    """What is reserved, and the configured limit."""
     if not load.supported:
         return "not supported"
-    if not load.limit:
-        return "limit 0 bit/s"
-    return f"{rate(load.total)} of {rate(load.limit)}" + (f", {100 * load.total / load.limit:.0f} %" if load.total else "")
+    if not load.total:
+        return f"{rate(load.total)} of {rate(load.limit)}" if load.limit else "limit 0 bit/s"
+    if load.total > load.limit:
+        return f"{rate(load.total)}, limit {rate(load.limit)} and a part of class A's"
+    return f"{rate(load.total)} of {rate(load.limit)}, {100 * load.total / load.limit:.0f} %"
 
 
 def edge_note(load):

@@ -6,6 +6,7 @@ import re
 from html.parser import HTMLParser
 
 from conftest import CHOIR, ROOT
+from srp import inputs, page, views
 
 OTHER = "examples/hall-quiet/hall.txt"
 
@@ -151,3 +152,13 @@ def test_a_fault_of_a_text_names_its_line(srp, tmp_path):
     text = tmp_path / "wrong.txt"
     text.write_text("bridge 8000000000000007\nports 4\non 1 tolker 0200000000010001\n")
     assert "line 3" in srp("sheet", text, status=2)
+
+
+def test_what_is_reserved_where_class_b_borrows():
+    ran = inputs.run(inputs.load(str(ROOT / "examples/hall-intercom/hall.txt")))
+    said = {(load.port, load.name): page.reserved(load) for load in views.loads(ran.table)}
+    assert said[2, "A"] == "17.088 Mbit/s of 75 Mbit/s, 23 %"
+    assert said[2, "B"] == "25.632 Mbit/s, limit 0 bit/s and a part of class A's"
+    assert said[1, "B"] == "limit 0 bit/s"
+    assert said[3, "A"] == "not supported"
+    assert said[3, "B"] == "17.088 Mbit/s of 17.088 Mbit/s, 100 %"

@@ -11,13 +11,13 @@ use lib.Seq.{ext-getD, getD-set-same, getD-set-other}
 use lib.Dec.{ltb, eqb}
 use borrow.Author.Tests.{lt-ltb, le-ltb, leb-true, leb-false, eqb-true, eqb-false}
 use Rattle.model.specs.Lists.{keep, tabulate}
-use Rattle.model.specs.State.{Settings, Column, advertise, failed, filters, forwards, Result, Stream, Totals, Bridge, noTotals, unsettled, isPort, cellAt, resultAt, Class, noClass, classA, classB, classOf, isNoClass, sameClass}
+use Rattle.model.specs.State.{Settings, Column, advertise, failed, filters, forwards, Result, Stream, Totals, Bridge, noTotals, unsettled, inForce, portAt, isPort, cellAt, resultAt, Class, noClass, classA, classB, classOf, isNoClass, sameClass}
 use Rattle.model.specs.Bandwidth.{Claim, remains, admitted, sort, reserved, total}
 use Rattle.model.specs.Settling.{Scene, Source, nowhere, from, sourceOf, fixedOf, streamClass, registered, isReady, clear, steps, stepsFrom, ageOf, claim, claims, limitOn, leftFor, byBandwidth, columnOf, entryOf, ageKept, latencyKept, totalOn, totalsOn, isAdvertise}
 use Rattle.model.proofs.Lists.{and-true, and-false}
 use Rattle.model.proofs.AdvanceKeepsForm.{length-tabulate}
 use Rattle.model.proofs.Admission.{Two, lo, hi, two}
-use Rattle.model.proofs.ColumnRule.{at-place, tabulate-same, same-class, first-clear, first-decided, advertised}
+use Rattle.model.proofs.ColumnRule.{at-place, tabulate-same, same-class, first-clear, first-decided, advertised, reserved-a}
 use Rattle.columns.specs.Stages.{shownAs, earlyColumn, earlyAt, early, settledClass, waits, claimShown, claimsShown, limitShown, lacking, withResult, admit, withTotal, admission, admissions}
 
 -- a place set in a list of eight
@@ -136,7 +136,7 @@ module _ (sc : Scene) (now : ℕ) (s : List Stream) where
 
   -- one port in one class, which was not done and now is
   module _ (p : ℕ) (h : p < 8) (c : Class) (real : sameClass c c ≡ true) (done then : ℕ → Class → Bool) (open-before : done p c ≡ false)
-      (done-now : then p c ≡ true) (else : (q : ℕ) (d : Class) → (q ≡ p → d ≡ c → ⊥) → done q d ≡ then q d) where
+      (done-now : then p c ≡ true) (a-first : c ≡ classB → done p classA ≡ true) (else : (q : ℕ) (d : Class) → (q ≡ p → d ≡ c → ⊥) → done q d ≡ then q d) where
     old : ℕ → Stream → Column
     old = columnBy done
 
@@ -277,9 +277,21 @@ module _ (sc : Scene) (now : ℕ) (s : List Stream) where
         other-port : (q : ℕ) → q < 8 → (q ≡ p → ⊥) → totalsBy done q ≡ totalsBy then q
         other-port q b n = unfold totalsBy in (rw (else q classA (λ i j. n i), else q classB (λ i j. n i)))
 
+    -- the limit in force is read off the total that class A left
+    limit-same : (clock : ℕ) → limitShown (sc .settings) (shared done clock) p c ≡ l
+    unfolding limitShown limitOn shared totalsBy l
+    limit-same clock =
+        rw (at-place (totalsBy done) p noTotals h, reserved-a sc now s p) (go c refl)
+      where
+        go : (d : Class) → c ≡ d → inForce (portAt (sc .settings) p) (cond (done p classA) (totalOn sc now s p classA) 0) d
+            ≡ inForce (portAt (sc .settings) p) (totalOn sc now s p classA) d
+        go noClass e = unfold inForce in refl
+        go classA e = unfold inForce in refl
+        go classB e = rw (a-first e)
+
     admission-one : (clock : ℕ) → admission p c (shared done clock) ≡ shared then clock
-    unfolding admission shared limitShown limitOn old new l cs
-    admission-one clock = rw (claims-same s, totals-set, admit-all s)
+    unfolding admission shared old new cs
+    admission-one clock = rw (limit-same clock, claims-same s, totals-set, admit-all s)
 
 -- All of them: on each port class A, then class B.
 
@@ -302,7 +314,7 @@ module _ (sc : Scene) (now : ℕ) (s : List Stream) (clock : ℕ) where
   unfolding doneBefore sameClass
   turn-a p h =
       admission-one sc now s p h classA refl (doneBefore (2 * p)) (doneBefore (suc (2 * p)))
-      (le-ltb (2 * p) (2 * p) (omega arith)) (lt-ltb (2 * p) (suc (2 * p)) (omega arith)) else clock
+      (le-ltb (2 * p) (2 * p) (omega arith)) (lt-ltb (2 * p) (suc (2 * p)) (omega arith)) (λ e. absurd (a-not-b e)) else clock
     where
       else : (q : ℕ) (d : Class) → (q ≡ p → d ≡ classA → ⊥) → doneBefore (2 * p) q d ≡ doneBefore (suc (2 * p)) q d
       else q noClass n = refl
@@ -313,7 +325,7 @@ module _ (sc : Scene) (now : ℕ) (s : List Stream) (clock : ℕ) where
   unfolding doneBefore sameClass
   turn-b p h =
       admission-one sc now s p h classB refl (doneBefore (suc (2 * p))) (doneBefore (2 * suc p))
-      (le-ltb (2 * p + 1) (suc (2 * p)) (omega arith)) (lt-ltb (2 * p + 1) (2 * suc p) (omega arith)) else clock
+      (le-ltb (2 * p + 1) (suc (2 * p)) (omega arith)) (lt-ltb (2 * p + 1) (2 * suc p) (omega arith)) (λ e. lt-ltb (2 * p) (suc (2 * p)) (omega arith)) else clock
     where
       next : 2 * suc p ≡ suc (suc (2 * p))
       next = omega arith

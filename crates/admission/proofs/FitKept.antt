@@ -1,5 +1,5 @@
 -- What fits its fields still does after a stream's turn, and after the admission of a port and class.
-use Prim.Native.Nat.{ℕ, _-_, _^_, _<_}
+use Prim.Native.Nat.{ℕ, _-_, _^_, _≤_, _<_}
 use mathlib.Core.Path.{_≡_, refl, _∙_}
 use mathlib.Core.List.{List, map}
 use mathlib.Core.Bool.{Bool, not, _&&_}
@@ -9,12 +9,13 @@ use lib.Dec.{leb}
 use Rattle.octets.specs.Fields.{Fit}
 use Rattle.octets.proofs.Fields.{fit-at}
 use Rattle.model.specs.Layout.{portWidths, resultIn}
-use Rattle.model.specs.State.{Settings, Class, noClass, classA, classB, Result, Stream, Totals, Bridge, noTotals, totalsAt, portAt, resultAt, limit}
+use Rattle.model.specs.State.{Settings, Class, noClass, classA, classB, Result, Stream, Totals, Bridge, noTotals, totalsAt, Port, portAt, resultAt, inForce}
 use Rattle.model.specs.Registrations.{holding}
 use Rattle.model.specs.Bandwidth.{Claim, sort, admitted, total}
 use Rattle.model.specs.Table.{portNumbers, resultNumbers, columnNumber, columnBridge, columnCode, entryNumber}
 use Rattle.model.specs.Laid.{FitResult, FitStream, FitSettings, FitTotals, FitBridge}
 use Rattle.model.proofs.Lists.{all-getD, all-set}
+use Rattle.model.proofs.SettingsOctets.{limit-b-fits}
 use Rattle.model.proofs.Parts.{_also_}
 use Rattle.model.proofs.Refusals.{cond-either}
 use Rattle.model.proofs.Admission.{within}
@@ -67,17 +68,21 @@ module _ (st : Settings) (p : ℕ) (c : Class) where
 
 -- Totals.
 
-limit-fits : (b : Bridge) → FitBridge b → (p : ℕ) (c : Class) → limitShown (b .settings) b p c < 256 ^ 5
-unfolding limitShown limit portNumbers
-limit-fits b w p noClass = omega arith
-limit-fits b w p classA = fit-at portWidths (portNumbers (portAt (b .settings) p)) (port-fits (b .settings) (w .settings) p) 3
-limit-fits b w p classB = fit-at portWidths (portNumbers (portAt (b .settings) p)) (port-fits (b .settings) (w .settings) p) 4
+-- a class total that is at most its limit in force has room where it stands
+limit-fits : (b : Bridge) → FitBridge b → (p : ℕ) (c : Class) (n : ℕ) → n ≤ limitShown (b .settings) b p c → (t : Totals) → FitTotals t → FitTotals (withTotal c n t)
+unfolding limitShown portNumbers withTotal inForce
+limit-fits b w p c n h t f = go c h
+  where
+    limit-a : portAt (b .settings) p .limitA < 256 ^ 5
+    limit-a = fit-at portWidths (portNumbers (portAt (b .settings) p)) (port-fits (b .settings) (w .settings) p) 3
 
-total-fits : (c : Class) (n : ℕ) (t : Totals) → n < 256 ^ 5 → FitTotals t → FitTotals (withTotal c n t)
-unfolding withTotal
-total-fits noClass n t h f = f
-total-fits classA n t h f = (h, f .1)
-total-fits classB n t h f = (f .0, h)
+    limit-b : portAt (b .settings) p .limitB < 256 ^ 5
+    limit-b = fit-at portWidths (portNumbers (portAt (b .settings) p)) (port-fits (b .settings) (w .settings) p) 4
+
+    go : (d : Class) → n ≤ inForce (portAt (b .settings) p) (totalsAt p b .totalA) d → FitTotals (withTotal d n t)
+    go noClass h = f
+    go classA h = (omega (arith, limit-a), f .1)
+    go classB h = (f .0, omega (arith, limit-b-fits (portAt (b .settings) p) limit-a limit-b (totalsAt p b .totalA)))
 
 -- The admission of a port and class.
 
@@ -96,8 +101,7 @@ module _ (b : Bridge) (w : FitBridge b) (p : ℕ) (h : p < 8) (c : Class) where
   unfolding admission holding
   admission-fits =
       let t = withTotal c (total l cs) (totalsAt p b) in
-      let small : total l cs < 256 ^ 5 = unfold total in (omega (arith, within l (sort cs), limit-fits b w p c)) in
       totalled-fits (holding b (map (admit (b .settings) p c l cs) (b .streams))) admitted-fits (set (b .totals) p t)
       (length-set (b .totals) p t ∙ w .eight-totals)
       (all-set FitTotals (b .totals) p t (w .totals)
-      (total-fits c (total l cs) (totalsAt p b) small (all-getD FitTotals (b .totals) (w .totals) noTotals no-totals-fit p)))
+      (limit-fits b w p c (total l cs) (unfold total in within l (sort cs)) (totalsAt p b) (all-getD FitTotals (b .totals) (w .totals) noTotals no-totals-fit p)))

@@ -157,6 +157,6 @@ pub total-a : (t : Totals) (n : ℕ) → patch 0 5 (be 5 n) (totalsOctets t) ≡
 unfolding totalsOctets withTotal classFor width
 total-a t n = put-field totalsWidths (t .totalA ∷ t .totalB ∷ []) 0 n refl
 
-pub total-b : (t : Totals) (n : ℕ) → patch totalBPlace 5 (be 5 n) (totalsOctets t) ≡ totalsOctets (withTotal (classFor true) n t)
+pub total-b : (t : Totals) (n : ℕ) → patch totalBPlace 6 (be 6 n) (totalsOctets t) ≡ totalsOctets (withTotal (classFor true) n t)
 unfolding totalsOctets withTotal classFor width
 total-b t n = put-field totalsWidths (t .totalA ∷ t .totalB ∷ []) 1 n refl

@@ -101,18 +101,18 @@ fn in_order(table: &[u8], p: usize, b: bool, numbers: &mut [u64]) -> usize
     n
 }
 
-// The limit in force on the port at place p.
+// The limit in force on the port at place p; class A is shared out before B, and has its total there.
 fn limit_in_force(table: &[u8], p: usize, b: bool) -> u64
     requires { ⌜ PortIn (now table) p ⌝ }
     ensures { λ r. ⌜ (r ≡ stages.limitShown (decode (now (table .entry)) .settings) (decode (now (table .entry))) p (classFor b))
-        × (r < 256 ^ 5) ⌝ }
+        × (r < 256 ^ 6) ⌝ }
 {
     let port = table::port_at(table, p);
     if b {
-        octets::get(port, port::LIMIT_B, 5)
-    } else {
-        octets::get(port, port::LIMIT_A, 5)
+        let used_by_a = octets::get(table::totals_at(table, p), 0, 5);
+        return table::limit_b(port, used_by_a);
     }
+    octets::get(port, port::LIMIT_A, 5)
 }
 
 // The demand of stream k on the port at place p.
@@ -198,7 +198,7 @@ fn put_total(totals: &mut [u8], b: bool, total: u64)
     ensures { λ _. ⌜ ((t : Totals) → now (totals .entry) ≡ totalsOctets t → now (totals .exit) ≡ totalsOctets (stages.withTotal (classFor b) total t)) ⌝ }
 {
     if b {
-        octets::put(totals, table::TOTAL_B, 5, total);
+        octets::put(totals, table::TOTAL_B, 6, total);
     } else {
         octets::put(totals, 0, 5, total);
     }

@@ -92,7 +92,7 @@ pub record Decides (t : List ℕ) (time : ℕ) (u : List ℕ) : Type 0 where
   pub bridge : decode u ≡ settle time (decode t)
   pub table : u ≡ encode (settle time (decode t))
   -- each column is the first step that applies; entries, latencies, ages and Listeners as 01 says; each class total is the sum of
-  -- what is reserved, and at most its limit
+  -- what is reserved, and at most its limit in force
   pub rules : Advanced time (decode t) (decode u)
   pub no-other : (c : Bridge) → Advanced time (decode t) c → c ≡ decode u
 

@@ -55,7 +55,8 @@ pub record SameByCode (f : List (ℕ × List ℕ)) (t : List ℕ) (time : ℕ) (
   -- the streams held until then are those held before, and all that are asked for
   pub joined : ids (decode u .streams) ≡ together (ids (decode t .streams)) (asked (decode t .settings) f)
   pub settings : decode u .settings ≡ decode t .settings
-  -- the table is well formed, and holds what the rules of settling give, with no class total above its limit
+  -- the table is well formed, and holds what the rules of settling give, class A's total within its limit and both within the
+  -- sum of limits
   pub well-formed : formed v ≡ true
   pub rules : Advanced time (decode u) (decode v)
 

@@ -15,13 +15,10 @@ use Rattle.model.specs.Table.{encode, toSettings, settingsFormed, totalsOctets,
 use Rattle.model.proofs.Lists.{all-replicate}
 use Rattle.model.proofs.Parts.{zeros-add, flat-zeros}
 use Rattle.model.proofs.Owns.{own-zeros}
+use Rattle.model.proofs.Tables.{no-totals}
 use Rattle.model.proofs.SettingsOctets.{settings-forth, settings-ports, formed-length, formed-rules, eight-ports}
 
-no-totals : totalsOctets noTotals ≡ zeros 10
-unfolding totalsOctets noTotals width
-no-totals = packed-zeros (5 ∷ 5 ∷ [])
-
-totals-zeros : (l : List Totals) → All (λ t. t ≡ noTotals) l → flat totalsOctets l ≡ zeros (length l * 10)
+totals-zeros : (l : List Totals) → All (λ t. t ≡ noTotals) l → flat totalsOctets l ≡ zeros (length l * totalSize)
 totals-zeros l h = flat-zeros totalSize totalsOctets noTotals no-totals l h
 
 clock-and-count : packed clockWidths (0 ∷ 0 ∷ []) ≡ zeros 5

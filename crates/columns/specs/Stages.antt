@@ -6,7 +6,7 @@ use mathlib.Core.Bool.{Bool, cond, not, _&&_}
 use Prim.Native.Nat.{ℕ, zero, suc}
 use lib.ListN.{getD, set}
 use Rattle.model.specs.Lists.{keep, tabulate}
-use Rattle.model.specs.State.{Settings, Cell, Column, advertise, failed, filters, Declared, nothing, Result, Stream, Totals, Bridge, noTotals, portAt, cellAt, resultAt, Class, noClass, classA, classB, classOf, sameClass, limit}
+use Rattle.model.specs.State.{Settings, Cell, Column, advertise, failed, filters, Declared, nothing, Result, Stream, Totals, Bridge, noTotals, portAt, cellAt, resultAt, Class, noClass, classA, classB, classOf, sameClass, inForce}
 use Rattle.model.specs.Registrations.{holding}
 use Rattle.model.specs.Bandwidth.{Claim, demand, rateOf, admitted, total}
 use Rattle.model.specs.Settling.{Scene, sceneOf, Source, sourceOf, fixedOf, isSource, registered, isReady, isAdvertise, first, outcomeColumn, stepsFrom, steps, ageOf, latencyOut, entryOf, ageKept, latencyKept, passed, mergeAll}
@@ -75,10 +75,9 @@ unfoldable pub claimsShown : Settings → ℕ → Class → List Stream → List
 claimsShown st p c [] = []
 claimsShown st p c (x ∷ s) = keep (waits st p c x) (claimShown st p x) (claimsShown st p c s)
 
--- the limit in force. It is asked of the bridge as the classes shared out before left it, since this one may be given what they
--- leave; here the port's settings alone decide
+-- the limit in force, on the bridge as the classes shared out before left it
 unfoldable pub limitShown : Settings → Bridge → ℕ → Class → ℕ
-limitShown st b p c = limit (portAt st p) c
+limitShown st b p c = inForce (portAt st p) (getD (b .totals) p noTotals .totalA) c
 
 -- code 1: a failed column filters
 unfoldable pub lacking : Settings → Result → Result

@@ -28,7 +28,7 @@ both-zero x y = rw and-true
 none-reserved : (s : List ℕ) → length s ≡ totalSize → (eqb (toTotals s .totalA) 0 && eqb (toTotals s .totalB) 0) ≡ allZero s
 unfolding toTotals fields width part
 none-reserved s h =
-    both-zero (beAt 5 s 0) (beAt 5 s totalBPlace) ∙ zero-fields totalsWidths 0 s (omega arith) ∙ ap allZero (take-all totalSize s (omega arith))
+    both-zero (beAt 5 s 0) (beAt 6 s totalBPlace) ∙ zero-fields totalsWidths 0 s (omega arith) ∙ ap allZero (take-all totalSize s (omega arith))
 
 no-ports : (some : Bool) (k : ℕ) (s : List ℕ) → length s ≡ k * totalSize → totalsWithin some (parts totalSize toTotals k s) [] ≡ allZero s
 unfolding totalsWithin parts

@@ -336,7 +336,7 @@ pub fn settings_formed(settings: &[u8]) -> bool
     settings_rules(settings)
 }
 
-// What a class total may be: the port's limit, where some stream is held and the port supports the class.
+// What a class total may be: the limit in force, where some stream is held and the port supports the class.
 fn at_most(some: bool, supports: bool, limit: u64) -> u64
     ensures { λ r. ⌜ r ≡ atMost some supports limit ⌝ }
 {
@@ -352,9 +352,9 @@ fn total_within(totals: &[u8], port: &[u8], some: bool) -> bool
     ensures { λ r. ⌜ r ≡ totalsWithin some (toTotals (now (totals .entry)) ∷ []) (toPort (now (port .entry)) ∷ []) ⌝ }
 {
     let total_a = octets::get(totals, 0, 5);
-    let total_b = octets::get(totals, TOTAL_B, 5);
+    let total_b = octets::get(totals, TOTAL_B, 6);
     let limit_a = octets::get(port, port::LIMIT_A, 5);
-    let limit_b = octets::get(port, port::LIMIT_B, 5);
+    let limit_b = table::limit_b(port, total_a);
     let flags = octets::get(port, port::FLAGS, 1);
     (total_a <= at_most(some, flags / 128 == 1, limit_a))
         & (total_b <= at_most(some, flags / 64 % 2 == 1, limit_b))

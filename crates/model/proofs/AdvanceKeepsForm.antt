@@ -8,9 +8,9 @@ use lib.ListN.{length, getD, drop, length-map}
 use lib.Dec.{ltb, leb, eqb}
 use borrow.Author.Tests.{ltb-false, leb-false, le-ltb, le-leb, eq-eqb, ne-eqb, ltb-true, lt-ltb, eqb-true, eqb-false}
 use Rattle.model.specs.Lists.{All, keep, tabulate, implies, bit}
-use Rattle.model.specs.State.{Port, Settings, Leaving, stays, since, Health, sound, broken, Talker, noTalker, talker, Listener, noListener, listener, Cell, Domain, noDomain, domain, Own, Column, none, advertise, failed, Entry, noEntry, filters, forwards, Declared, nothing, tells, Result, Stream, Totals, Bridge, empty, unsettled, noFixed, noOwn, noPort, ownAt, portAt, isPort, cellAt, resultAt, Class, classA, classB, limit, noClass, sameClass, supports}
+use Rattle.model.specs.State.{Port, Settings, Leaving, stays, since, Health, sound, broken, Talker, noTalker, talker, Listener, noListener, listener, Cell, Domain, noDomain, domain, Own, Column, none, advertise, failed, Entry, noEntry, filters, forwards, Declared, nothing, tells, Result, Stream, Totals, Bridge, empty, unsettled, noFixed, noOwn, noPort, ownAt, portAt, isPort, cellAt, resultAt, Class, classA, classB, inForce, noClass, sameClass, supports}
 use Rattle.model.specs.Registrations.{Answer, ids}
-use Rattle.model.specs.Settling.{Scene, sceneOf, flagOf, decideOwn, decideOwns, expired, expireDomain, expireTalker, expireListener, expireCell, expire, held, remain, Source, nowhere, from, source, sourceOf, isSource, fixedOf, healthOf, registered, isReady, Outcome, columnNone, asRegistered, ownFailure, Step, first, brokenColumn, outcomeColumn, stepsFrom, steps, ageOf, claims, limitOn, byBandwidth, columnOf, capped, latencyOut, entryOf, ageKept, latencyKept, decideAt, decide, totalOn, totalsOn, settle, advance, isTalking, isHearing, Origin, streamClass, clear}
+use Rattle.model.specs.Settling.{Scene, sceneOf, flagOf, decideOwn, decideOwns, expired, expireDomain, expireTalker, expireListener, expireCell, expire, held, remain, Source, nowhere, from, source, sourceOf, isSource, fixedOf, healthOf, registered, isReady, Outcome, columnNone, asRegistered, ownFailure, Step, first, brokenColumn, outcomeColumn, stepsFrom, steps, ageOf, claims, reservedA, limitOn, byBandwidth, columnOf, capped, latencyOut, entryOf, ageKept, latencyKept, decideAt, decide, totalOn, totalsOn, settle, advance, isTalking, isHearing, Origin, streamClass, clear}
 use Rattle.model.specs.Bandwidth.{sort, total, reserved}
 use Rattle.model.specs.Table.{totalsWithin, talkers, hasColumn, declares, declarers, forListener, storedRules, storedFormed, atMost}
 use Rattle.model.proofs.Lists.{all-getD, all-tabulate, at-place, and-false, implies-true, true-all}
@@ -526,25 +526,26 @@ module _ (sc : Scene) (named : sc .settings .bridgeId < 2 ^ 64) (few : length (s
 
 -- Totals: at most what they may be, and so none where there is no port.
 
-no-limit : (some : Bool) → atMost some false 0 ≡ 0
+no-limit : (some : Bool) (n : ℕ) → atMost some false n ≡ 0
 unfolding atMost
-no-limit true = refl
-no-limit false = refl
+no-limit true n = refl
+no-limit false n = refl
 
 totals-within : (some : Bool) (n p : ℕ) (qs : List Port) (f : ℕ → Totals) →
     ((i q : ℕ) → p + i ≡ q →
     let port = getD qs i noPort in
-    (f q .totalA ≤ atMost some (port .supportsA) (port .limitA)) × (f q .totalB ≤ atMost some (port .supportsB) (port .limitB))) →
+    (f q .totalA ≤ atMost some (port .supportsA) (port .limitA)) × (f q .totalB ≤ atMost some (port .supportsB) (inForce port (f q .totalA) classB))) →
     totalsWithin some (tabulate n p f) qs ≡ true
 unfolding tabulate totalsWithin noPort
 totals-within some zero p qs f h = refl
 totals-within some (suc n) p [] f h =
-    let here : (f p .totalA ≤ 0) × (f p .totalB ≤ 0) = rw (no-limit some) at (h 0 p (omega arith)) in
+    let here : (f p .totalA ≤ 0) × (f p .totalB ≤ 0) =
+    rw (no-limit some 0, no-limit some (inForce noPort (f p .totalA) classB)) at (h 0 p (omega arith)) in
     rw (eq-eqb (f p .totalA) 0 (omega arith), eq-eqb (f p .totalB) 0 (omega arith))
     (totals-within some n (suc p) [] f (λ i q e. h (suc i) q (omega arith)))
 totals-within some (suc n) p (q ∷ qs) f h =
     let here = h 0 p (omega arith) in
-    rw (le-leb (f p .totalA) (atMost some (q .supportsA) (q .limitA)) (here .0), le-leb (f p .totalB) (atMost some (q .supportsB) (q .limitB)) (here .1))
+    rw (le-leb (f p .totalA) (atMost some (q .supportsA) (q .limitA)) (here .0), le-leb (f p .totalB) (atMost some (q .supportsB) (inForce q (f p .totalA) classB)) (here .1))
     (totals-within some n (suc p) qs f (λ i q e. h (suc i) q (omega arith)))
 
 -- without streams nothing is claimed, nor where the port does not support the class
@@ -582,21 +583,21 @@ module _ (sc : Scene) (now p : ℕ) where
         unclaimed true e = rw (stopped x (ap (supports (portAt (sc .settings) p)) (same-class (streamClass (sc .settings) x) c e) ∙ f)) refl
         unclaimed false e = rw e (and-false (clear (steps sc p x)))
 
-    total-within : (s : List Stream) → totalOn sc now s p c ≤ atMost (leb 1 (length s)) (supports (portAt (sc .settings) p) c) (limit (portAt (sc .settings) p) c)
-    unfolding totalOn total limitOn atMost
-    total-within s = go (leb 1 (length s)) (supports (portAt (sc .settings) p) c) refl refl
+    pub total-at-most : (s : List Stream) → totalOn sc now s p c ≤ atMost (leb 1 (length s)) (supports (portAt (sc .settings) p) c) (limitOn sc now s p c)
+    unfolding totalOn total atMost
+    total-at-most s = go (leb 1 (length s)) (supports (portAt (sc .settings) p) c) refl refl
       where
         go : (some supported : Bool) → leb 1 (length s) ≡ some → supports (portAt (sc .settings) p) c ≡ supported
-            → reserved (limit (portAt (sc .settings) p) c) (sort (claims sc now p c s)) ≤ cond (some && supported) (limit (portAt (sc .settings) p) c) 0
-        go true true e f = within (limit (portAt (sc .settings) p) c) (sort (claims sc now p c s))
+            → reserved (limitOn sc now s p c) (sort (claims sc now p c s)) ≤ cond (some && supported) (limitOn sc now s p c) 0
+        go true true e f = within (limitOn sc now s p c) (sort (claims sc now p c s))
         go true false e f = rw (unsupported f s) (unfold sort reserved in omega arith)
         go false t e f = rw (nothing-held s (leb-false 1 (length s) e)) (unfold sort reserved in omega arith)
 
 settled-totals : (sc : Scene) (now : ℕ) (s : List Stream) → totalsWithin (leb 1 (length s)) (tabulate 8 0 (totalsOn sc now s)) (sc .settings .ports) ≡ true
-unfolding totalsOn supports limit portAt
+unfolding totalsOn supports totalOn limitOn inForce reservedA portAt
 settled-totals sc now s =
     totals-within (leb 1 (length s)) 8 0 (sc .settings .ports) (totalsOn sc now s)
-    (λ i q e. let same : i ≡ q = omega arith in rw same (total-within sc now q classA s, total-within sc now q classB s))
+    (λ i q e. let same : i ≡ q = omega arith in rw same (total-at-most sc now q classA s, total-at-most sc now q classB s))
 
 -- The call.
 

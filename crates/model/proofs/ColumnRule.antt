@@ -11,16 +11,17 @@ use lib.ListN.{getD, length}
 use lib.Dec.{ltb, leb}
 use borrow.Author.Tests.{ltb-true, ltb-false, lt-leb, le-leb}
 use Rattle.model.specs.Lists.{All, keep, tabulate}
-use Rattle.model.specs.State.{Settings, Health, sound, broken, Column, advertise, failed, Entry, noEntry, filters, forwards, Declared, nothing, Result, Stream, Bridge, Class, noClass, classA, classB, sameClass, limit, cellAt, resultAt, unsettled, Totals, noTotals}
+use Rattle.model.specs.State.{Settings, Health, sound, broken, Column, advertise, failed, Entry, noEntry, filters, forwards, Declared, nothing, Result, Stream, Bridge, Class, noClass, classA, classB, sameClass, supports, bothLimits, inForce, portAt, cellAt, resultAt, unsettled, Totals, noTotals}
 use Rattle.model.specs.Registrations.{ids}
+use Rattle.model.specs.Table.{atMost}
 use Rattle.model.specs.Bandwidth.{Claim, key, above, sort, reserved, remains, admitted, total, taken}
-use Rattle.model.specs.Settling.{Scene, sceneOf, decideOwns, remain, Source, sourceOf, isSource, fixedOf, healthOf, streamClass, registered, isReady, isAdvertise, Outcome, columnNone, asRegistered, ownFailure, Step, first, clear, brokenColumn, outcomeColumn, steps, ageOf, claim, claims, limitOn, leftFor, byBandwidth, columnOf, latencyOut, entryOf, ageKept, latencyKept, passed, mergeAll, merged, decideAt, decide, totalOn, totalsOn, settle}
+use Rattle.model.specs.Settling.{Scene, sceneOf, decideOwns, remain, Source, sourceOf, isSource, fixedOf, healthOf, streamClass, registered, isReady, isAdvertise, Outcome, columnNone, asRegistered, ownFailure, Step, first, clear, brokenColumn, outcomeColumn, steps, ageOf, claim, claims, reservedA, limitOn, leftFor, byBandwidth, columnOf, latencyOut, entryOf, ageKept, latencyKept, passed, mergeAll, merged, decideAt, decide, totalOn, totalsOn, settle}
 use Rattle.model.proofs.Lists.{all-map, all-both, all-each, and-right, and-true, and-false}
 use Rattle.model.proofs.Valid.{Rising}
 use Rattle.model.proofs.Admission.{Distinct, key-id, within, subtracted, total-is-sum, idle-above, idle-total}
 pub use Rattle.model.proofs.Lists.{at-place}
 pub use Rattle.model.proofs.AdvanceKeepsForm.{same-class, remain-all, remain-rising}
-use Rattle.model.proofs.AdvanceKeepsForm.{decided-ids}
+use Rattle.model.proofs.AdvanceKeepsForm.{decided-ids, total-at-most}
 
 -- The rule: what the columns of a port are, in terms of themselves.
 
@@ -37,16 +38,27 @@ spent st now p c col test (x ∷ s) =
     let d = claim st now p x in
     spent st now p c col test s + cond (test d && reserves st p c (col x) x) (d .demand) 0
 
--- The column of x on p: the first of the steps a to i that applies, where col gives the columns on p and "What is left is the
--- limit less demands of more important Advertise streams of that class with Listener Ready or Ready Failed on p"; the more
--- important has the lower key.
+-- all that is reserved on p in class c, where col gives the columns there
+abbrev pub spentIn : Settings → ℕ → ℕ → (Stream → Column) → List Stream → Class → ℕ
+spentIn st now p col s c = spent st now p c col (λ e. true) s
+
+-- the limit in force on p: class B's is what class A leaves by these columns
+unfoldable pub limitBy : Scene → ℕ → List Stream → ℕ → (Stream → Column) → Class → ℕ
+limitBy sc now s p col c = inForce (portAt (sc .settings) p) (spentIn (sc .settings) now p col s classA) c
+
+-- "What is left is the limit less demands of more important Advertise streams of that class with Listener Ready or Ready Failed
+-- on p"; the more important has the lower key
+unfoldable pub leftBy : Scene → ℕ → List Stream → ℕ → (Stream → Column) → Stream → ℕ
+leftBy sc now s p col x =
+    let st = sc .settings in
+    let c = streamClass st x in
+    limitBy sc now s p col c - spent st now p c col (λ e. ltb (key e) (key (claim st now p x))) s
+
+-- The column of x on p: the first of the steps a to i that applies, where col gives the columns on p
 unfoldable pub ruled : Scene → ℕ → List Stream → ℕ → (Stream → Column) → Stream → Column
 ruled sc now s p col x =
     let st = sc .settings in
-    let c = streamClass st x in
-    let d = claim st now p x in
-    let left = limitOn sc now s p c - spent st now p c col (λ e. ltb (key e) (key d)) s in
-    first (outcomeColumn st (sourceOf x)) (steps sc p x) (byBandwidth st (d .demand) left)
+    first (outcomeColumn st (sourceOf x)) (steps sc p x) (byBandwidth st (claim st now p x .demand) (leftBy sc now s p col x))
 
 -- The settled bridge: all that it shows is what the rules give, read off the bridge itself.
 
@@ -83,9 +95,11 @@ pub record Settled (b : Bridge) : Type 0 where
   pub streams : All (SettledStream b) (b .streams)
   pub places : length (b .totals) ≡ 8
   -- "A port's class total is its reserved sum"
-  pub totals : (p : ℕ) → p < 8 → (c : Class) → totalAt b p c ≡ spent (b .settings) (b .clock) p c (columnAt p) (λ e. true) (b .streams)
-  -- no class total is above its limit
-  pub limits : (p : ℕ) → p < 8 → (c : Class) → totalAt b p c ≤ limitOn (sceneOf b) (b .clock) (b .streams) p c
+  pub totals : (p : ℕ) → p < 8 → (c : Class) → totalAt b p c ≡ spentIn (b .settings) (b .clock) p (columnAt p) (b .streams) c
+  -- no class total is above its limit in force: "A's total stays within limit A,
+  pub limits : (p : ℕ) → p < 8 → (c : Class) → totalAt b p c ≤ inForce (portAt (b .settings) p) (totalAt b p classA) c
+  -- and both totals together within the sum of limits"
+  pub together : (p : ℕ) → p < 8 → totalAt b p classA + totalAt b p classB ≤ bothLimits (portAt (b .settings) p)
 
 -- what an advance to the time now carries over from a stream x to the stream y that it leaves
 pub record Carried (now : ℕ) (x y : Stream) : Type 0 where
@@ -225,7 +239,7 @@ module _ (sc : Scene) (now p : ℕ) (c : Class) (col : Stream → Column) (ok : 
       go false true e h = omega arith
       go false false e h = omega arith
 
-  spent-all : (s : List Stream) → All Agrees s → spent (sc .settings) now p c col (λ e. true) s ≡ taken ok (claims sc now p c s)
+  pub spent-all : (s : List Stream) → All Agrees s → spent (sc .settings) now p c col (λ e. true) s ≡ taken ok (claims sc now p c s)
   unfolding spent reserves claim claims taken
   spent-all [] a = refl
   spent-all (x ∷ s) a = rw (a .0) (go (clear (steps sc p x) && sameClass (streamClass (sc .settings) x) c) (spent-all s (a .1)))
@@ -237,6 +251,11 @@ module _ (sc : Scene) (now p : ℕ) (c : Class) (col : Stream → Column) (ok : 
           spent (sc .settings) now p c col (λ e. true) s + cond ((t && ok d) && d .ready) (d .demand) 0 ≡ taken ok (keep t d (claims sc now p c s))
       go true h = rw h
       go false h = omega arith
+
+-- A's total is what class B's limit is less by
+pub reserved-a : (sc : Scene) (now : ℕ) (s : List Stream) (p : ℕ) → reservedA sc now s p ≡ totalOn sc now s p classA
+unfolding reservedA totalOn limitOn inForce
+reserved-a sc now s p = refl
 
 module _ (sc : Scene) (now : ℕ) (s : List Stream) (p : ℕ) where
   column-agrees : (c : Class) (x : Stream) → Agrees sc now p c (columnOf sc now s p) (admitted (limitOn sc now s p c) (claims sc now p c s)) x
@@ -251,27 +270,51 @@ module _ (sc : Scene) (now : ℕ) (s : List Stream) (p : ℕ) where
       go false e = rw (and-false (clear (steps sc p x)))
 
   module _ (r : Rising (ids s)) (a : All Small (ids s)) where
-    -- the columns are those that the rule gives, in terms of the columns themselves
-    pub columns-ruled : (x : Stream) → columnOf sc now s p x ≡ ruled sc now s p (columnOf sc now s p) x
-    unfolding ruled columnOf leftFor remains
-    columns-ruled x =
-        let c = streamClass (sc .settings) x in
-        let k = key (claim (sc .settings) now p x) in
-        ap (λ (n : ℕ). first (outcomeColumn (sc .settings) (sourceOf x)) (steps sc p x) (byBandwidth (sc .settings) (claim (sc .settings) now p x .demand) (limitOn sc now s p c - n)))
-        (sym (subtracted (limitOn sc now s p c) (claims sc now p c s) (claims-distinct sc now p c s r a) k)
-        ∙ sym (spent-above sc now p c (columnOf sc now s p) _ k s (all-each _ (column-agrees c) s)))
-
     -- a port's class total is its reserved sum
-    pub total-ruled : (c : Class) → totalOn sc now s p c ≡ spent (sc .settings) now p c (columnOf sc now s p) (λ e. true) s
+    pub total-ruled : (c : Class) → totalOn sc now s p c ≡ spentIn (sc .settings) now p (columnOf sc now s p) s c
     unfolding totalOn
     total-ruled c =
         sym (total-is-sum (limitOn sc now s p c) (claims sc now p c s) (claims-distinct sc now p c s r a))
         ∙ sym (spent-all sc now p c (columnOf sc now s p) _ s (all-each _ (column-agrees c) s))
 
-  -- no class total is above its limit
+    limit-ruled : (c : Class) → limitOn sc now s p c ≡ limitBy sc now s p (columnOf sc now s p) c
+    unfolding limitOn limitBy
+    limit-ruled c = ap (λ (n : ℕ). inForce (portAt (sc .settings) p) n c) (reserved-a sc now s p ∙ total-ruled classA)
+
+    -- the columns are those that the rule gives, in terms of the columns themselves
+    pub columns-ruled : (x : Stream) → columnOf sc now s p x ≡ ruled sc now s p (columnOf sc now s p) x
+    unfolding ruled leftBy columnOf leftFor remains
+    columns-ruled x =
+        let c = streamClass (sc .settings) x in
+        let k = key (claim (sc .settings) now p x) in
+        rw (← limit-ruled c)
+        (ap (λ (n : ℕ). first (outcomeColumn (sc .settings) (sourceOf x)) (steps sc p x) (byBandwidth (sc .settings) (claim (sc .settings) now p x .demand) (limitOn sc now s p c - n)))
+        (sym (subtracted (limitOn sc now s p c) (claims sc now p c s) (claims-distinct sc now p c s r a) k)
+        ∙ sym (spent-above sc now p c (columnOf sc now s p) _ k s (all-each _ (column-agrees c) s))))
+
+  -- no class total is above its limit in force
   pub total-within : (c : Class) → totalOn sc now s p c ≤ limitOn sc now s p c
   unfolding totalOn total
   total-within c = within (limitOn sc now s p c) (sort (claims sc now p c s))
+
+  -- where the port does not support class A, its total is 0
+  a-of-both : totalOn sc now s p classA ≤ bothLimits (portAt (sc .settings) p)
+  unfolding bothLimits supports limitOn inForce atMost
+  a-of-both = go (leb 1 (length s)) (portAt (sc .settings) p .supportsA) (total-at-most sc now p classA s)
+    where
+      go : (some supported : Bool) → totalOn sc now s p classA ≤ cond (some && supported) (portAt (sc .settings) p .limitA) 0
+          → totalOn sc now s p classA ≤ cond supported (portAt (sc .settings) p .limitA) 0 + portAt (sc .settings) p .limitB
+      go true true h = omega arith
+      go true false h = omega arith
+      go false true h = omega arith
+      go false false h = omega arith
+
+  -- both totals are within the sum of the limits
+  pub totals-together : totalOn sc now s p classA + totalOn sc now s p classB ≤ bothLimits (portAt (sc .settings) p)
+  totals-together =
+      let b : totalOn sc now s p classB ≤ bothLimits (portAt (sc .settings) p) - totalOn sc now s p classA =
+      rw (← reserved-a sc now s p) (unfold limitOn inForce in (total-within classB)) in
+      omega (arith, a-of-both)
 
 -- columns that agree on the streams spend the same
 module _ (sc : Scene) (now p : ℕ) (col other : Stream → Column) where
@@ -281,8 +324,9 @@ module _ (sc : Scene) (now p : ℕ) (col other : Stream → Column) where
   spent-same c test (x ∷ s) a = rw (a .0, spent-same c test s (a .1))
 
   pub ruled-same : (s : List Stream) (x : Stream) → All (λ y. col y ≡ other y) s → ruled sc now s p col x ≡ ruled sc now s p other x
-  unfolding ruled
-  ruled-same s x a = rw (spent-same (streamClass (sc .settings) x) (λ e. ltb (key e) (key (claim (sc .settings) now p x))) s a)
+  unfolding ruled leftBy limitBy
+  ruled-same s x a =
+      rw (spent-same classA (λ e. true) s a, spent-same (streamClass (sc .settings) x) (λ e. ltb (key e) (key (claim (sc .settings) now p x))) s a)
 
 -- streams with the same registrations go through the same steps; with the same age too, they have the same claim
 module _ (sc : Scene) (now p : ℕ) (x y : Stream) (cells : x .cells ≡ y .cells) where
@@ -365,8 +409,8 @@ module _ (sc : Scene) (now p : ℕ) (here : p < 8) where
 
   module _ (s t : List Stream) (carried : Pairwise (Carried now) s t) (shown : All (Shown sc p) t) where
     carried-limit : (c : Class) → limitOn sc now t p c ≡ limitOn sc now s p c
-    unfolding limitOn
-    carried-limit c = refl
+    unfolding limitOn reservedA
+    carried-limit c = rw (carried-claims classA s t carried shown)
 
     pub carried-total : (c : Class) → totalOn sc now t p c ≡ totalOn sc now s p c
     unfolding totalOn
@@ -471,14 +515,11 @@ module _ (sc : Scene) (now : ℕ) (s : List Stream) where
           ∙ columns-ruled sc now decided p decided-rising decided-small (decide sc now s x)
           ∙ ruled-same sc now p (columnOf sc now decided p) (columnAt p) decided (decide sc now s x) all-again
 
-      decided-total : (c : Class) → totalOn sc now s p c ≡ spent (sc .settings) now p c (columnAt p) (λ e. true) decided
+      decided-total : (c : Class) → totalOn sc now s p c ≡ spentIn (sc .settings) now p (columnAt p) decided c
       decided-total c =
           sym (carried-total sc now p here s decided carries shows c)
           ∙ total-ruled sc now decided p decided-rising decided-small c
           ∙ spent-same sc now p (columnOf sc now decided p) (columnAt p) c (λ e. true) decided all-again
-
-    decided-within : (c : Class) → totalOn sc now s p c ≤ limitOn sc now decided p c
-    decided-within c = rw (← carried-total sc now p here s decided carries shows c) (total-within sc now decided p c)
 
     decided-latency : (x : Stream) →
         resultAt (decide sc now s x) p .latency ≡ latencyKept (columnAt p (decide sc now s x)) (latencyOut (sc .settings) p (decide sc now s x))
@@ -507,10 +548,18 @@ module _ (now : ℕ) (b : Bridge) where
 
   -- the totals that the settled bridge holds are those decided
   total-kept : (p : ℕ) → p < 8 → (c : Class) → totalAt (settle now b) p c ≡ totalOn there now remaining p c
-  unfolding settle totalAt totalsOn limitOn limit remaining
+  unfolding settle totalAt totalsOn limitOn inForce remaining
   total-kept p h noClass = omega (arith, total-within there now remaining p noClass)
   total-kept p h classA = ap (λ (t : Totals). t .totalA) (at-place (totalsOn there now remaining) p noTotals h)
   total-kept p h classB = ap (λ (t : Totals). t .totalB) (at-place (totalsOn there now remaining) p noTotals h)
+
+  limits-kept : (p : ℕ) → p < 8 → (c : Class) → totalAt (settle now b) p c ≤ inForce (portAt (b .settings) p) (totalAt (settle now b) p classA) c
+  limits-kept p h c =
+      rw (total-kept p h c, total-kept p h classA, ← reserved-a there now remaining p)
+      (unfold limitOn settle in (total-within there now remaining p c))
+
+  together-kept : (p : ℕ) → p < 8 → totalAt (settle now b) p classA + totalAt (settle now b) p classB ≤ bothLimits (portAt (b .settings) p)
+  together-kept p h = rw (total-kept p h classA, total-kept p h classB) (unfold settle in (totals-together there now remaining p))
 
   module _ (r : Rising (ids (b .streams))) (a : All Small (ids (b .streams))) where
     risen : Rising (ids remaining)
@@ -541,7 +590,8 @@ module _ (now : ℕ) (b : Bridge) where
       streams = all-image (SettledStream (settle now b)) (decide there now remaining) settled-stream remaining;
       places = refl;
       totals = λ p h c. total-kept p h c ∙ decided-total there now remaining p h risen small c;
-      limits = λ p h c. rw (total-kept p h c) (decided-within there now remaining p h c);
+      limits = limits-kept;
+      together = together-kept;
     }
 
     -- and so it is what an advance leaves.
@@ -583,7 +633,7 @@ module _ (sc : Scene) (now p : ℕ) (s s′ : List Stream) (x x′ : Stream)
 -- A stream that reserves nothing on p, because it is refused or has no ready Listener there, changes no column and no class
 -- total on p: all is as if it were not held.
 module _ (sc : Scene) (now p : ℕ) where
-  claims-append : (c : Class) (s t : List Stream) → claims sc now p c (s ++ t) ≡ claims sc now p c s ++ claims sc now p c t
+  pub claims-append : (c : Class) (s t : List Stream) → claims sc now p c (s ++ t) ≡ claims sc now p c s ++ claims sc now p c t
   unfolding claims
   claims-append c [] t = refl
   claims-append c (x ∷ s) t = go (clear (steps sc p x) && sameClass (streamClass (sc .settings) x) c) (claims-append c s t)
@@ -631,15 +681,22 @@ module _ (sc : Scene) (now p : ℕ) where
               ap f split ∙ h (rw split at (claims-distinct sc now p c (s ++ x ∷ t) r a)) (rw split at (takes-nothing e))
           go false e = ap f (claims-append c s (x ∷ t) ∙ rw e)
 
+    without-idle-claims : (c : Class) → total (limit-in-force c) (all-claims c) ≡ total (limit-in-force c) (claims sc now p c (s ++ t))
+    without-idle-claims c = dropped c (total (limit-in-force c)) (idle-total (limit-in-force c) (earlier c) (later c) (d c))
+
+    without-idle-limit : (c : Class) → limit-in-force c ≡ limitOn sc now (s ++ t) p c
+    unfolding limitOn reservedA inForce
+    without-idle-limit c = ap (λ (n : ℕ). inForce (portAt (sc .settings) p) n c) (without-idle-claims classA)
+
     pub without-idle-total : (c : Class) → totalOn sc now (s ++ x ∷ t) p c ≡ totalOn sc now (s ++ t) p c
-    unfolding totalOn limitOn
-    without-idle-total c = dropped c (total (limit-in-force c)) (idle-total (limit-in-force c) (earlier c) (later c) (d c))
+    unfolding totalOn
+    without-idle-total c = rw (← without-idle-limit c) (without-idle-claims c)
 
     pub without-idle-column : (y : Stream) → columnOf sc now (s ++ x ∷ t) p y ≡ columnOf sc now (s ++ t) p y
-    unfolding columnOf leftFor remains limitOn
+    unfolding columnOf leftFor remains
     without-idle-column y =
         let c = streamClass (sc .settings) y in
         let k = key (claim (sc .settings) now p y) in
-        ap (λ (n : ℕ). first (outcomeColumn (sc .settings) (sourceOf y)) (steps sc p y) (byBandwidth (sc .settings) (claim (sc .settings) now p y .demand) (limit-in-force c - n)))
+        rw (← without-idle-limit c) (ap (λ (n : ℕ). first (outcomeColumn (sc .settings) (sourceOf y)) (steps sc p y) (byBandwidth (sc .settings) (claim (sc .settings) now p y .demand) (limit-in-force c - n)))
         (dropped c (λ cs. reserved (limit-in-force c) (sort (above k cs)))
-        (λ distinct idle. idle-above (limit-in-force c) (earlier c) (later c) (d c) distinct idle k))
+        (λ distinct idle. idle-above (limit-in-force c) (earlier c) (later c) (d c) distinct idle k)))

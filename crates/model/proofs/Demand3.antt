@@ -1,6 +1,6 @@
 -- Demand 3: the order among ports never matters. Frames handed over in two orders that both keep each port's own order get the
--- same answers and leave the same table; settled at one time, both tables hold what the rules give, with no class total above
--- its limit.
+-- same answers and leave the same table; settled at one time, both tables hold what the rules give: A's total stays within
+-- limit A, and both totals together within the sum of limits.
 use mathlib.Core.Path.{_≡_, refl, sym, _∙_, ap, subst}
 use mathlib.Core.List.{List, [], _∷_}
 use mathlib.Core.Bool.{Bool, true, false, cond}
@@ -34,7 +34,8 @@ pub record Same (f g : List (ℕ × List ℕ)) (t : List ℕ) (now : ℕ) : Type
   -- the streams held until then are those held before, and all that are asked for
   pub joined : ids (decode (afterOn f t) .streams) ≡ together (ids (decode t .streams)) (asked (decode t .settings) f)
   pub settings : decode (afterOn f t) .settings ≡ decode t .settings
-  -- the table is well formed, and holds what the rules of settling give, with no class total above its limit
+  -- the table is well formed, and holds what the rules of settling give, class A's total within its limit and both within the
+  -- sum of limits
   pub well-formed : formed (advanceOn (afterOn f t) now .table) ≡ true
   pub rules : Advanced now (decode (afterOn f t)) (decode (advanceOn (afterOn f t) now .table))
 

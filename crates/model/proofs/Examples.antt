@@ -1,6 +1,6 @@
 -- 01's marked examples P1 to P13 and its worked example, computed by the definitions and compared with what 01 prints; then
--- examples of what 01 says of registering and of ages, of the near misses that it shuts out, of the domain's edge, and of the order
--- of a PDU's checks.
+-- examples of what 01 says of registering and of ages, of the near misses that it shuts out, of the domain's edge, of class B's
+-- limit in force, and of the order of a PDU's checks.
 use mathlib.Core.Path.{_≡_, refl}
 use mathlib.Core.List.{List, [], _∷_, _++_, map}
 use mathlib.Core.Bool.{true, false, cond}
@@ -428,6 +428,65 @@ edges =
 pub edge-examples : All Holds edges
 unfolding shown edges alone changed slotsHeld edge leaveAllPdu
 edge-examples = (refl, (refl, (refl, (refl, (refl, (refl, (refl, (refl, (refl, tt)))))))))
+
+-- Class B takes what class A leaves (02, i): limit A 75,000,000, limit B 0; a stream of B asks for 8,544,000.
+
+-- priority 2, which is class B, with rank 0
+inB : ℕ
+inB = 0x40
+
+-- an intercom in class B, Ready; then what is handed over
+intercom : List Handed → Bridge
+intercom l = bridge 75000000 (pdu 1 (talks 9 224 inB) ∷ pdu 2 (hears 9 128) ∷ time 100 ∷ l)
+
+-- four streams of class A, of rank 1, Ready, settled at 200
+show : List Handed
+show = pdu 1 (advertisesOf 1 224 rank1 4 (129 ∷ 108 ∷ [])) ∷ pdu 2 (listenersOf 1 4 (129 ∷ 108 ∷ []) (0xAA ∷ [])) ∷ time 200 ∷ []
+
+-- the bridge whose port 2 does not support class A, with this limit for class B there, and the intercom
+withoutA : ℕ → Bridge
+withoutA limit =
+    from (State.started record {
+      bridgeId = 7;
+      priorityA = 3;
+      priorityB = 2;
+      leaveTime = 60;
+      vlan = 2;
+      ports =
+          port 75000000
+          ∷ record {
+            supportsA = false;
+            supportsB = true;
+            sendsTwice = false;
+            overhead = 42;
+            largest = 1522;
+            limitA = 75000000;
+            limitB = limit;
+            latencyA = 0;
+            latencyB = 0;
+          }
+          ∷ [];
+    })
+    (pdu 1 matching ∷ pdu 2 matching ∷ pdu 1 (talks 9 224 inB) ∷ pdu 2 (hears 9 128) ∷ time 100 ∷ [])
+
+-- port 2's columns, and its totals
+decided : Bridge → List ℕ
+decided b = let t = State.totalsAt 1 b in columns b ++ (t .totalA ∷ t .totalB ∷ [])
+
+pub borrowing : List Example
+borrowing =
+    -- with no stream of A the intercom is admitted on A's idle share
+    record { computed = decided (intercom []); printed = 1 ∷ 0 ∷ 0 ∷ 8544000 ∷ [] }
+    -- when A grows, it gives way to later streams of lower rank, and gets 1
+    ∷ record { computed = decided (intercom show); printed = 1 ∷ 0 ∷ 1 ∷ 0 ∷ 1 ∷ 0 ∷ 1 ∷ 0 ∷ 2 ∷ 1 ∷ 68352000 ∷ 0 ∷ [] }
+    -- on a port without A, limit A counts as 0
+    ∷ record { computed = decided (withoutA 8544000); printed = 1 ∷ 0 ∷ 0 ∷ 8544000 ∷ [] }
+    ∷ record { computed = decided (withoutA 8543999); printed = 2 ∷ 1 ∷ 0 ∷ 0 ∷ [] }
+    ∷ []
+
+pub borrowing-examples : All Holds borrowing
+unfolding shown borrowing inB intercom show withoutA decided
+borrowing-examples = (refl, (refl, (refl, (refl, tt))))
 
 -- PDUs with two faults, at neighbouring checks, and each with the first fault mended: the first that the walk meets gives the
 -- number.

@@ -17,6 +17,7 @@ pub mod Admission
 pub mod Importance
 pub mod ColumnRule
 pub mod OneSolution
+pub mod Borrowing
 pub mod ReceiveKeepsForm
 pub mod AdvanceKeepsForm
 pub mod ReadBack

@@ -10,14 +10,14 @@ use lib.Seq.{ext-getD}
 use lib.Dec.{leb, ltb, eqb}
 use borrow.Author.Tests.{eq-eqb, ne-eqb}
 use Rattle.model.specs.Lists.{All, keep, tabulate}
-use Rattle.model.specs.State.{Settings, Column, none, Declared, nothing, Result, Stream, Totals, Bridge, Class, classA, classB, sameClass, cellAt, resultAt, unsettled, noTotals}
+use Rattle.model.specs.State.{Settings, Column, none, Declared, nothing, Result, Stream, Totals, Bridge, Class, classA, classB, sameClass, inForce, portAt, cellAt, resultAt, unsettled, noTotals}
 use Rattle.model.specs.Registrations.{ids}
 use Rattle.model.specs.Bandwidth.{Claim, key, above, remains, admitted}
-use Rattle.model.specs.Settling.{Scene, decideOwns, remain, sourceOf, isSource, streamClass, registered, first, clear, outcomeColumn, steps, claim, claims, limitOn, leftFor, byBandwidth, columnOf, latencyOut, passed, mergeAll, merged, decideAt, decide, totalOn, totalsOn, settle, isAdvertise}
+use Rattle.model.specs.Settling.{Scene, decideOwns, remain, sourceOf, isSource, streamClass, registered, first, clear, outcomeColumn, steps, claim, claims, reservedA, limitOn, leftFor, byBandwidth, columnOf, latencyOut, passed, mergeAll, merged, decideAt, decide, totalOn, totalsOn, settle, isAdvertise}
 use Rattle.model.proofs.Lists.{all-map, all-both}
 use Rattle.model.proofs.Valid.{Rising}
-use Rattle.model.proofs.Admission.{Obeys, Rule, unique, subtracted, all-above, taken-same}
-use Rattle.model.proofs.ColumnRule.{spent, ruled, Small, claims-distinct, advertised, same-class, Agrees, spent-above, columnAt, totalAt, SettledStream, Settled, Carried, Pairwise, Advanced, Shown, carried-column, carried-total, spent-same, total-ruled, advanced, at-place, tabulate-same, remain-all, remain-rising}
+use Rattle.model.proofs.Admission.{Obeys, Rule, unique, subtracted, total-is-sum, all-above, taken-same}
+use Rattle.model.proofs.ColumnRule.{spent, spentIn, limitBy, leftBy, ruled, Small, claims-distinct, advertised, same-class, Agrees, spent-above, spent-all, columnAt, totalAt, SettledStream, Settled, Carried, Pairwise, Advanced, Shown, carried-column, carried-total, spent-same, total-ruled, advanced, at-place, tabulate-same, remain-all, remain-rising}
 
 -- what holds of the claim of every stream that reaches step h holds of every claim
 module _ (sc : Scene) (now p : ℕ) (c : Class) where
@@ -68,12 +68,9 @@ module _ (sc : Scene) (now : ℕ) (s : List Stream) (p : ℕ) (r : Rising (ids s
         (all-map (λ x. columnById col s (x .id) ≡ col x) (λ x. ok (claim (sc .settings) now p x) ≡ isAdvertise (col x))
         (λ x e. ap isAdvertise e) s (column-by-id col s r))
 
-    left : Stream → ℕ
-    left x = limitOn sc now s p (streamClass (sc .settings) x) - spent (sc .settings) now p (streamClass (sc .settings) x) col (λ e. ltb (key e) (key (claim (sc .settings) now p x))) s
-
-    fits : (x : Stream) → Meets x → isAdvertise (col x) ≡ (clear (steps sc p x) && leb (claim (sc .settings) now p x .demand) (left x))
-    unfolding ruled left
-    fits x m = ap isAdvertise m ∙ advertised sc p x (claim (sc .settings) now p x .demand) (left x)
+    fits : (x : Stream) → Meets x → isAdvertise (col x) ≡ (clear (steps sc p x) && leb (claim (sc .settings) now p x .demand) (leftBy sc now s p col x))
+    unfolding ruled
+    fits x m = ap isAdvertise m ∙ advertised sc p x (claim (sc .settings) now p x .demand) (leftBy sc now s p col x)
 
     agree : (c : Class) → All (Agrees sc now p c col ok) s
     agree c = all-map Opened (Agrees sc now p c col ok) one s known
@@ -86,19 +83,36 @@ module _ (sc : Scene) (now : ℕ) (s : List Stream) (p : ℕ) (r : Rising (ids s
         one : (x : Stream) → Opened x → Agrees sc now p c col ok x
         one x k = rw (k .1) (bool (clear (steps sc p x)) (sameClass (streamClass (sc .settings) x) c) (isAdvertise (col x)) _ (fits x (k .0)))
 
-    rule : (c : Class) → Rule (limitOn sc now s p c) (claims sc now p c s) ok
+    rule : (c : Class) → limitBy sc now s p col c ≡ limitOn sc now s p c → Rule (limitOn sc now s p c) (claims sc now p c s) ok
     unfolding Rule
-    rule c = claims-from sc now p c (Obeys (limitOn sc now s p c) (claims sc now p c s) ok) s (all-map Opened _ one s known)
+    rule c same = claims-from sc now p c (Obeys (limitOn sc now s p c) (claims sc now p c s) ok) s (all-map Opened _ one s known)
       where
         one : (x : Stream) → Opened x → clear (steps sc p x) ≡ true → sameClass (streamClass (sc .settings) x) c ≡ true →
             Obeys (limitOn sc now s p c) (claims sc now p c s) ok (claim (sc .settings) now p x)
         one x k t u =
             k .1 ∙ fits x (k .0)
-            ∙ unfold left in (rw (t, same-class (streamClass (sc .settings) x) c u, spent-above sc now p c col ok (key (claim (sc .settings) now p x)) s (agree c)))
+            ∙ unfold leftBy in (rw (t, same-class (streamClass (sc .settings) x) c u, same, spent-above sc now p c col ok (key (claim (sc .settings) now p x)) s (agree c)))
+
+    solved-rule : (c : Class) → limitBy sc now s p col c ≡ limitOn sc now s p c → All (λ d. ok d ≡ admitted (limitOn sc now s p c) (claims sc now p c s) d) (claims sc now p c s)
+    solved-rule c same = unique (limitOn sc now s p c) (claims sc now p c s) (claims-distinct sc now p c s r small) ok (rule c same)
+
+    -- class A's limit is its own, so what A reserves is settled first; that settles class B's limit
+    same-reserved : spentIn (sc .settings) now p col s classA ≡ reservedA sc now s p
+    same-reserved =
+        let l = limitOn sc now s p classA in
+        let cs = claims sc now p classA s in
+        spent-all sc now p classA col ok s (agree classA)
+        ∙ taken-same ok (admitted l cs) cs (solved-rule classA (unfold limitBy limitOn inForce in refl))
+        ∙ total-is-sum l cs (claims-distinct sc now p classA s r small)
+        ∙ (unfold reservedA limitOn inForce in refl)
+
+    same-limit : (c : Class) → limitBy sc now s p col c ≡ limitOn sc now s p c
+    unfolding limitBy limitOn
+    same-limit c = ap (λ (n : ℕ). inForce (portAt (sc .settings) p) n c) same-reserved
 
     -- Columns that meet the rule on p are those of advance.
     pub unique-columns : All (λ x. col x ≡ columnOf sc now s p x) s
-    unfolding ruled columnOf leftFor remains
+    unfolding ruled leftBy columnOf leftFor remains
     unique-columns = all-map Meets (λ x. col x ≡ columnOf sc now s p x) one s meets
       where
         one : (x : Stream) → Meets x → col x ≡ columnOf sc now s p x
@@ -107,11 +121,11 @@ module _ (sc : Scene) (now : ℕ) (s : List Stream) (p : ℕ) (r : Rising (ids s
             let k = key (claim (sc .settings) now p x) in
             let l = limitOn sc now s p c in
             let cs = claims sc now p c s in
-            let d = claims-distinct sc now p c s r small in
-            m ∙ ap (λ (n : ℕ). first (outcomeColumn (sc .settings) (sourceOf x)) (steps sc p x) (byBandwidth (sc .settings) (claim (sc .settings) now p x .demand) (l - n)))
+            m ∙ rw (same-limit c)
+            (ap (λ (n : ℕ). first (outcomeColumn (sc .settings) (sourceOf x)) (steps sc p x) (byBandwidth (sc .settings) (claim (sc .settings) now p x .demand) (l - n)))
             (spent-above sc now p c col ok k s (agree c)
-            ∙ taken-same ok (admitted l cs) (above k cs) (all-above _ k cs (unique l cs d ok (rule c)))
-            ∙ subtracted l cs d k)
+            ∙ taken-same ok (admitted l cs) (above k cs) (all-above _ k cs (solved-rule c (same-limit c)))
+            ∙ subtracted l cs (claims-distinct sc now p c s r small) k))
 
 -- Records with equal fields are equal.
 
@@ -170,9 +184,7 @@ module _ (sc : Scene) (now : ℕ) (ts : List Totals) (s t : List Stream) (r : Ri
         one : (y : Stream) → SettledStream (bridge sc now ts t) y → Shown sc p y
         one y k = record {
           demand = claim (sc .settings) now p y .demand;
-          left =
-              limitOn sc now t p (streamClass (sc .settings) y)
-              - spent (sc .settings) now p (streamClass (sc .settings) y) (columnAt p) (λ e. ltb (key e) (key (claim (sc .settings) now p y))) t;
+          left = leftBy sc now t p (columnAt p) y;
           column = k .shows p here .column;
           entry = k .shows p here .entry;
         }

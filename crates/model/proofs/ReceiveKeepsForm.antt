@@ -9,7 +9,7 @@ use lib.ListN.{length, drop, replicate, length-map, getD-replicate}
 use lib.Dec.{ltb, leb, eqb}
 use borrow.Author.Tests.{ltb-true, ltb-false, leb-true, le-leb, eqb-false}
 use Rattle.model.specs.Lists.{All, Octets}
-use Rattle.model.specs.State.{Settings, Leaving, stays, since, Fixed, Varying, Talker, noTalker, talker, Listener, noListener, listener, Ready, Cell, Domain, noDomain, domain, Own, Stream, Bridge, empty, unsettled, noFixed, noOwn, blank, fresh, Port, Totals, cellAt, resultAt}
+use Rattle.model.specs.State.{Settings, Leaving, stays, since, Fixed, Varying, Talker, noTalker, talker, Listener, noListener, listener, Ready, Cell, Domain, noDomain, domain, Own, Stream, Bridge, empty, unsettled, noFixed, noOwn, blank, fresh, Port, Totals, cellAt, resultAt, classB, inForce}
 use Rattle.model.specs.Registrations.{Kind, Act, leaveAll, leave, talk, listen, ofDomain, DomainAct, leaveAllDomains, leaveDomain, joinDomain, begin, talksAs, hearsAs, withLeaving, quitTalker, quitListener, quit, sameFixed, firstJoin, sameJoin, otherJoin, joinTalker, does, at, change, begun, touch, reach, apply, applyAll, quitDomain, doesDomain, changeDomains, applyOwn, applyOwns, Reading, refused, acts, Answer, holding, owning, received, ids}
 use Rattle.model.specs.Frames.{wrongPort, reading}
 use Rattle.model.specs.Settling.{isTalking, isHearing, held}
@@ -309,13 +309,14 @@ totals-stay some more h (t ∷ ts) [] e =
     (totals-stay some more h ts [] (and-right first (totalsWithin some ts []) e))
 totals-stay some more h (t ∷ ts) (q ∷ qs) e =
     let a = leb (t .totalA) (atMost some (q .supportsA) (q .limitA)) in
-    let b = leb (t .totalB) (atMost some (q .supportsB) (q .limitB)) in
+    let limitB = inForce q (t .totalA) classB in
+    let b = leb (t .totalB) (atMost some (q .supportsB) limitB) in
     let u = and-left (a && b) (totalsWithin some ts qs) e in
     let before = leb-true (t .totalA) _ (and-left a b u) in
     let behind = leb-true (t .totalB) _ (and-right a b u) in
     rw (
       le-leb (t .totalA) (atMost more (q .supportsA) (q .limitA)) (omega (arith, before, most-grows some more h (q .supportsA) (q .limitA))),
-      le-leb (t .totalB) (atMost more (q .supportsB) (q .limitB)) (omega (arith, behind, most-grows some more h (q .supportsB) (q .limitB))),
+      le-leb (t .totalB) (atMost more (q .supportsB) limitB) (omega (arith, behind, most-grows some more h (q .supportsB) limitB)),
     )
     (totals-stay some more h ts qs (and-right (a && b) (totalsWithin some ts qs) e))
 

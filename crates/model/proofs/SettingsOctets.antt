@@ -1,8 +1,8 @@
 -- Settings as octets and back: nothing is lost either way, and the octets that keep the rules are those of valid settings.
 use mathlib.Core.Path.{_≡_, refl, sym, _∙_, ap}
 use mathlib.Core.List.{List, [], _∷_, _++_, append-assoc}
-use mathlib.Core.Bool.{true}
-use Prim.Native.Nat.{ℕ, _+_, _*_, _/_, _%_, _≤_, _<_}
+use mathlib.Core.Bool.{Bool, true, false, cond}
+use Prim.Native.Nat.{ℕ, _+_, _*_, _/_, _%_, _^_, _≤_, _<_}
 use native.Mathlib.Nat.{add-zero}
 use native.Mathlib.Omega.{arith}
 use lib.ListN.{length, getD, take, drop, length-append, length-drop}
@@ -15,7 +15,7 @@ use Rattle.octets.specs.Parts.{part}
 use Rattle.octets.proofs.Fields.{length-packed-any, length-flat, fields-packed, fields-of-packed, packed-fields, fields-fit, beAt-fits}
 use Rattle.model.specs.Layout.{domainVlanPlace, headSize, headWidths, inPort, portPlace, portSize, portsPlace, portsUnit, portWidths, priorityAUnit, priorityBUnit, settingsSize, wordPlace}
 use Rattle.model.specs.Lists.{All, allTrue, bit, Octets}
-use Rattle.model.specs.State.{Port, Settings}
+use Rattle.model.specs.State.{Port, Settings, classB, bothLimits, inForce}
 use Rattle.model.specs.Table.{portNumbers, portFrom, portOctets, toPort, headWord, headNumbers, settingsOctets, portsField, toSettings, portRule, everyPart, settingsRules, settingsFormed}
 use Rattle.model.specs.Laid.{FitSettings}
 use Rattle.model.proofs.Cells.{bit-back, bit-forth, bit-few}
@@ -53,6 +53,28 @@ port-fit q v =
     let b = bit-few (q .supportsB) in
     let t = bit-few (q .sendsTwice) in
     omega arith also v .overhead also v .largest also v .limitA also v .limitB also v .latencyA also v .latencyB also tt
+
+-- both limits, and with them the limit in force of class B, fit in six octets
+pub both-fit : (q : Port) → q .limitA < 256 ^ 5 → q .limitB < 256 ^ 5 → bothLimits q < 256 ^ 6
+unfolding bothLimits
+both-fit q a b = go (q .supportsA)
+  where
+    go : (t : Bool) → cond t (q .limitA) 0 + q .limitB < 256 ^ 6
+    go true = omega arith
+    go false = omega arith
+
+-- and are at most the two as they are configured
+pub both-at-most : (q : Port) → bothLimits q ≤ q .limitA + q .limitB
+unfolding bothLimits
+both-at-most q = go (q .supportsA)
+  where
+    go : (t : Bool) → cond t (q .limitA) 0 + q .limitB ≤ q .limitA + q .limitB
+    go true = omega arith
+    go false = omega arith
+
+pub limit-b-fits : (q : Port) → q .limitA < 256 ^ 5 → q .limitB < 256 ^ 5 → (n : ℕ) → inForce q n classB < 256 ^ 6
+unfolding inForce
+limit-b-fits q a b n = omega (arith, both-fit q a b)
 
 port-flags : (q : Port) → (getD (portNumbers q) 0 0) % 32 ≡ 0
 unfolding portNumbers

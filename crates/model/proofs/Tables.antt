@@ -14,7 +14,7 @@ use Rattle.octets.proofs.Parts.{length-part}
 use Rattle.octets.proofs.Fields.{length-packed-any, fields-packed, fields-packed-behind, fields-of-packed, packed-fields, fields-fit, fit-at, beAt-fits, packed-zeros}
 use Rattle.model.specs.Layout.{cellSize, cellsPlace, cellsSize, clockPlace, clockSize, clockWidths, countPlace, nameSize, nameWidths, ownSize, ownsPlace, ownsSize, portPlace, portSize, recordSize, recordsPlace, recordsSize, resultSize, resultsPlace, resultsSize, settingsSize, settledPriorityPlace, tableLength, totalSize, totalsPlace, totalsSize, totalsWidths}
 use Rattle.model.specs.Lists.{All, allTrue, parts, Octets, implies}
-use Rattle.model.specs.State.{Port, Totals, Own, Stream, Bridge, empty, unsettled, noTotals, noOwn, started, noFixed, cellAt, resultAt}
+use Rattle.model.specs.State.{Port, Totals, Own, Stream, Bridge, empty, unsettled, noTotals, noOwn, started, noFixed, cellAt, resultAt, classB, inForce}
 use Rattle.model.specs.Registrations.{ids}
 use Rattle.model.specs.WrittenFrames.{fixedNumbers, priorityOctet}
 use Rattle.model.specs.Table.{settingsOctets, portsField, toSettings, settingsRules, settingsFormed, everyPart, allZero, cellOctets, toCell, cellFormed, resultOctets, toResult, resultFormed, cellsPart, resultsPart, fixedFrom, holds, streamOctets, toStream, streamRules, streamFormed, totalsOctets, toTotals, ownOctets, toOwn, ownFormed, encode, settingsPart, clockField, countField, totalsPart, ownsPart, recordsPart, decode, rising, idOf, totalsWithin, tableRules, formed, talkers, declarers, storedFormed, everyPort, atMost}
@@ -28,7 +28,7 @@ use Rattle.model.proofs.Cells.{fixed-fit, fixed-back, fixed-forth, fixe
 use Rattle.model.proofs.Results.{result-length, result-octets, results-sized, result-back, result-formed, result-forth, result-valid, result-zeros}
 use Rattle.model.proofs.Coded.{Coded, many-back, many-keep, many-rest, many-forth, many-valid, many-others}
 use Rattle.model.proofs.Owns.{own-length, own-octets, own-fit-back, valid-own-fits, owns-coded}
-use Rattle.model.proofs.SettingsOctets.{octet-field, settings-length, ports-read, fit-back, settings-fit, settings-rules, settings-ports, settings-taken, settings-valid, settings-room, eight-ports, formed-valid, octets-settings}
+use Rattle.model.proofs.SettingsOctets.{limit-b-fits, octet-field, settings-length, ports-read, fit-back, settings-fit, settings-rules, settings-ports, settings-taken, settings-valid, settings-room, eight-ports, formed-valid, octets-settings}
 
 -- A stream's record: StreamID and settled values, cells, results.
 
@@ -290,14 +290,15 @@ totals-fit some (t ∷ ts) [] v e =
     ((omega arith, omega arith), totals-fit some ts [] v (and-right first (totalsWithin some ts []) e))
 totals-fit some (t ∷ ts) (q ∷ qs) v e =
     let mostA = atMost some (q .supportsA) (q .limitA) in
-    let mostB = atMost some (q .supportsB) (q .limitB) in
+    let limitB = inForce q (t .totalA) classB in
+    let mostB = atMost some (q .supportsB) limitB in
     let first = leb (t .totalA) mostA && leb (t .totalB) mostB in
     let u = and-left first (totalsWithin some ts qs) e in
     let a : t .totalA ≤ mostA = leb-true (t .totalA) mostA (and-left (leb (t .totalA) mostA) (leb (t .totalB) mostB) u) in
     let b : t .totalB ≤ mostB = leb-true (t .totalB) mostB (and-right (leb (t .totalA) mostA) (leb (t .totalB) mostB) u) in
     let la : q .limitA < 256 ^ 5 = v .0 .limitA in
-    let lb : q .limitB < 256 ^ 5 = v .0 .limitB in (
-      (omega (arith, at-most-limit some (q .supportsA) (q .limitA)), omega (arith, at-most-limit some (q .supportsB) (q .limitB))),
+    let lb : limitB < 256 ^ 6 = limit-b-fits q (v .0 .limitA) (v .0 .limitB) (t .totalA) in (
+      (omega (arith, at-most-limit some (q .supportsA) (q .limitA)), omega (arith, at-most-limit some (q .supportsB) limitB)),
       totals-fit some ts qs (v .1) (and-right first (totalsWithin some ts qs) e),
     )
 
@@ -822,7 +823,7 @@ unfolding totalsWithin noTotals
 none-within some zero qs = refl
 none-within some (suc n) [] = none-within some n []
 none-within some (suc n) (q ∷ qs) =
-    rw (le-leb 0 (atMost some (q .supportsA) (q .limitA)) (omega arith), le-leb 0 (atMost some (q .supportsB) (q .limitB)) (omega arith))
+    rw (le-leb 0 (atMost some (q .supportsA) (q .limitA)) (omega arith), le-leb 0 (atMost some (q .supportsB) (inForce q 0 classB)) (omega arith))
     (none-within some n qs)
 
 pub valid-started : (s : List ℕ) → Octets s → settingsFormed s ≡ true → Valid (started (toSettings s))

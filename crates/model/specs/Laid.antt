@@ -47,7 +47,7 @@ pub record FitSettings (st : Settings) : Type 0 where
   pub ports : All (λ q. Fit portWidths (portNumbers q)) (st .ports)
 
 abbrev pub FitTotals : Totals → Type 0
-FitTotals t = (t .totalA < 256 ^ 5) × (t .totalB < 256 ^ 5)
+FitTotals t = (t .totalA < 256 ^ 5) × (t .totalB < 256 ^ 6)
 
 -- StreamIDs rise
 abbrev pub Ascending : List ℕ → Type 0

@@ -27,9 +27,9 @@ portWidths = 1 ∷ 1 ∷ 2 ∷ 5 ∷ 5 ∷ 4 ∷ 4 ∷ []
 abbrev pub clockWidths : List ℕ
 clockWidths = 4 ∷ 1 ∷ []
 
--- a port's totals of class A and class B
+-- a port's totals of class A and class B; that of B may come up to both limits
 abbrev pub totalsWidths : List ℕ
-totalsWidths = 5 ∷ 5 ∷ []
+totalsWidths = 5 ∷ 6 ∷ []
 
 -- a Domain value of a port: registered, leaving, since, VLAN
 abbrev pub slotWidths : List ℕ

@@ -5,7 +5,7 @@ use Prim.Native.Nat.{ℕ, suc, _+_, _/_}
 use lib.ListN.{take, drop}
 use lib.Dec.{ltb, leb, eqb}
 use Rattle.model.specs.Lists.{keep, tabulate}
-use Rattle.model.specs.State.{Port, Settings, Leaving, stays, since, Fixed, Health, sound, broken, Registration, Talker, noTalker, talker, Ready, askingFailed, ready, readyFailed, Listener, noListener, listener, Cell, Domain, noDomain, domain, Own, Column, none, advertise, failed, Entry, noEntry, filters, forwards, Declared, nothing, tells, Result, Stream, Totals, Bridge, noFixed, portAt, isPort, cellAt, resultAt, ownAt, Class, noClass, classA, classB, classOf, isNoClass, sameClass, supports, limit, classLatency, classPriority}
+use Rattle.model.specs.State.{Port, Settings, Leaving, stays, since, Fixed, Health, sound, broken, Registration, Talker, noTalker, talker, Ready, askingFailed, ready, readyFailed, Listener, noListener, listener, Cell, Domain, noDomain, domain, Own, Column, none, advertise, failed, Entry, noEntry, filters, forwards, Declared, nothing, tells, Result, Stream, Totals, Bridge, noFixed, portAt, isPort, cellAt, resultAt, ownAt, Class, noClass, classA, classB, classOf, isNoClass, sameClass, supports, inForce, classLatency, classPriority}
 use Rattle.model.specs.Registrations.{Answer}
 use Rattle.model.specs.WrittenFrames.{readyNumber}
 use Rattle.model.specs.Bandwidth.{Claim, demand, rateOf, remains, total}
@@ -237,10 +237,13 @@ unfoldable pub claims : Scene → ℕ → ℕ → Class → List Stream → List
 claims sc now p c [] = []
 claims sc now p c (x ∷ s) = keep (clear (steps sc p x) && sameClass (streamClass (sc .settings) x) c) (claim (sc .settings) now p x) (claims sc now p c s)
 
--- the limit in force: "Each class has its own limit". It is asked of the time and the streams too, since a lower class may be given
--- what a higher one leaves on the port in the same advance; here the port's settings alone decide
+-- A's total, "Settle A first as now": no other class plays a part in it
+unfoldable pub reservedA : Scene → ℕ → List Stream → ℕ → ℕ
+reservedA sc now s p = total (portAt (sc .settings) p .limitA) (claims sc now p classA s)
+
+-- the limit in force: class B may use what class A leaves on the port in this same advance
 unfoldable pub limitOn : Scene → ℕ → List Stream → ℕ → Class → ℕ
-limitOn sc now s p c = limit (portAt (sc .settings) p) c
+limitOn sc now s p c = inForce (portAt (sc .settings) p) (reservedA sc now s p) c
 
 -- what is left for a stream on a port
 unfoldable pub leftFor : Scene → ℕ → List Stream → ℕ → Stream → ℕ

@@ -1,7 +1,7 @@
 -- What a bridge holds: its settings, the registrations of each stream on each port, and what the last advance decided.
 use mathlib.Core.List.{List, []}
 use mathlib.Core.Bool.{Bool, true, false, cond}
-use Prim.Native.Nat.{ℕ}
+use Prim.Native.Nat.{ℕ, _+_, _-_}
 use lib.ListN.{getD, replicate, length}
 use lib.Dec.{ltb, eqb}
 use Rattle.model.specs.Layout.{slots}
@@ -224,10 +224,15 @@ supports q noClass = true
 supports q classA = q .supportsA
 supports q classB = q .supportsB
 
-unfoldable pub limit : Port → Class → ℕ
-limit q noClass = 0
-limit q classA = q .limitA
-limit q classB = q .limitB
+-- what both classes together may reserve on a port (02, i): "limit A counts as 0 there if the port doesn't support A"
+unfoldable pub bothLimits : Port → ℕ
+bothLimits q = cond (q .supportsA) (q .limitA) 0 + q .limitB
+
+-- the limit in force, where class A reserves so much on the port: A's own, and for B "limit A plus limit B less A's total"
+unfoldable pub inForce : Port → ℕ → Class → ℕ
+inForce q usedByA noClass = 0
+inForce q usedByA classA = q .limitA
+inForce q usedByA classB = bothLimits q - usedByA
 
 unfoldable pub classLatency : Port → Class → ℕ
 classLatency q noClass = 0

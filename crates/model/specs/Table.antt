@@ -11,7 +11,7 @@ use Rattle.octets.specs.Parts.{part, zeros}
 use Rattle.octets.specs.Fields.{fields, packed, flat}
 use Rattle.model.specs.Layout.{ageField, boundaryBPlace, boundaryPlace, boundaryWidths, bridgeField, cellFields, cellSize, cellWidths, cellsPlace, cellsSize, changedField, clockPlace, clockWidths, codeField, columnField, countPlace, declaredField, domainVlanPlace, entryField, failureCodeField, failureField, fixedField, headWidths, heldField, latencyField, latencyOutField, listenerField, listenerLeavesField, listenerPlace, listenerSinceField, nameWidths, ownSize, ownsPlace, ownsSize, portPlace, portSize, portWidths, portsPlace, portsUnit, priorityAUnit, priorityBUnit, priorityField, recordSize, recordsPlace, resultSize, resultWidths, resultsPlace, resultsSize, settingsSize, settledPriorityPlace, slotLeavesField, slotSinceField, slotSize, slotVlanField, slotWidths, slots, slotsSize, tableLength, talkerField, talkerLeavesField, talkerSinceField, totalBPlace, totalSize, totalsPlace, totalsSize, totalsWidths, wordPlace}
 use Rattle.model.specs.Lists.{allTrue, implies, parts, bit, isOne}
-use Rattle.model.specs.State.{Port, Settings, Leaving, stays, since, Fixed, Health, sound, broken, Registration, Talker, noTalker, talker, Domain, noDomain, domain, Own, Ready, askingFailed, ready, readyFailed, Listener, noListener, listener, Cell, Column, none, advertise, failed, Entry, noEntry, filters, forwards, Declared, nothing, tells, Result, Stream, Totals, Bridge}
+use Rattle.model.specs.State.{Port, Settings, Leaving, stays, since, Fixed, Health, sound, broken, Registration, Talker, noTalker, talker, Domain, noDomain, domain, Own, Ready, askingFailed, ready, readyFailed, Listener, noListener, listener, Cell, Column, none, advertise, failed, Entry, noEntry, filters, forwards, Declared, nothing, tells, Result, Stream, Totals, Bridge, classB, inForce}
 use Rattle.model.specs.Settling.{isTalking, isHearing}
 use Rattle.model.specs.Frames.{priorityOf, rankOf}
 use Rattle.model.specs.WrittenFrames.{fixedNumbers, readyNumber}
@@ -423,13 +423,13 @@ ownRules clock leave s =
 unfoldable pub ownFormed : ℕ → ℕ → List ℕ → Bool
 ownFormed clock leave s = allTrue (ownRules clock leave s)
 
--- The table of 32,866 octets: settings 189, clock 4, streams held 1, totals 80, what the ports hold 1,040, records 31,552.
+-- The table of 32,874 octets: settings 189, clock 4, streams held 1, totals 88, what the ports hold 1,040, records 31,552.
 
 unfoldable pub totalsOctets : Totals → List ℕ
 totalsOctets t = packed totalsWidths (t .totalA ∷ t .totalB ∷ [])
 
 unfoldable pub toTotals : List ℕ → Totals
-toTotals s = record { totalA = beAt 5 s 0; totalB = beAt 5 s totalBPlace }
+toTotals s = record { totalA = beAt 5 s 0; totalB = beAt 6 s totalBPlace }
 
 unfoldable pub encode : Bridge → List ℕ
 encode b =
@@ -477,7 +477,7 @@ rising (i ∷ j ∷ l) = ltb i j && rising (j ∷ l)
 unfoldable pub idOf : List ℕ → ℕ
 idOf s = beAt 8 s 0
 
--- what a class total may be: the limit, where some stream is held and the port supports the class
+-- what a class total may be: the limit in force, where some stream is held and the port supports the class
 unfoldable pub atMost : Bool → Bool → ℕ → ℕ
 atMost some supports limit = cond (some && supports) limit 0
 
@@ -487,7 +487,7 @@ totalsWithin some [] qs = true
 totalsWithin some (t ∷ ts) [] = eqb (t .totalA) 0 && eqb (t .totalB) 0 && totalsWithin some ts []
 totalsWithin some (t ∷ ts) (q ∷ qs) =
     leb (t .totalA) (atMost some (q .supportsA) (q .limitA))
-    && leb (t .totalB) (atMost some (q .supportsB) (q .limitB))
+    && leb (t .totalB) (atMost some (q .supportsB) (inForce q (t .totalA) classB))
     && totalsWithin some ts qs
 
 unfoldable pub tableRules : List ℕ → List Bool

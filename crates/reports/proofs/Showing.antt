@@ -55,7 +55,7 @@ module _ {s : List ℕ} {t : Totals} (w : ReadsTotals s t) where
   unfolding toTotals
   total-a-shown = ap (λ (u : Totals). u .totalA) (w .is)
 
-  pub total-b-shown : beAt 5 s totalBPlace ≡ t .totalB
+  pub total-b-shown : beAt 6 s totalBPlace ≡ t .totalB
   unfolding toTotals
   total-b-shown = ap (λ (u : Totals). u .totalB) (w .is)
 

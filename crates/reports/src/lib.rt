@@ -144,7 +144,7 @@ fn port_shown(table: &[u8], p: usize) -> PortShown
     PortShown {
         total_a: octets::get(totals, 0, 5),
         limit_a: octets::get(port, table::port::LIMIT_A, 5),
-        total_b: octets::get(totals, table::TOTAL_B, 5),
+        total_b: octets::get(totals, table::TOTAL_B, 6),
         limit_b: octets::get(port, table::port::LIMIT_B, 5),
     }
 }

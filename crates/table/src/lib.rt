@@ -1,14 +1,14 @@
 // The caller's table: its layout; each part of it by the place k of a stream and the place p of a port, read where a function hands
 // it out, changed at the address that another gives; and its stream records found, put in and dropped.
 ghost use mathlib.Core.Path.{_≡_};
-ghost use Prim.Native.Nat.{_+_, _*_, _≤_, _<_};
+ghost use Prim.Native.Nat.{_+_, _*_, _^_, _≤_, _<_};
 ghost use lib.ListN.{length, replicate};
 ghost use Rattle.octets.specs.Parts.{part, patch};
-ghost use Rattle.model.specs.Layout.{cellPlace, cellSize, fixedSize, priorityBUnit, recordPlace, recordSize, ownPlace, ownSize, resultPlace, resultSize, settledOf, slotPlace, slotSize, tableLength, totalPlace, totalSize};
-ghost use Rattle.model.specs.State.{portAt, cellAt, resultAt, ownAt, noTotals};
+ghost use Rattle.model.specs.Layout.{cellPlace, cellSize, fixedSize, priorityBUnit, recordPlace, recordSize, ownPlace, ownSize, portSize, resultPlace, resultSize, settledOf, slotPlace, slotSize, tableLength, totalPlace, totalSize};
+ghost use Rattle.model.specs.State.{portAt, cellAt, resultAt, ownAt, noTotals, classB, bothLimits, inForce};
 ghost use Rattle.model.specs.Registrations.{holding, ids};
 ghost use Rattle.model.specs.Settling.{held};
-ghost use Rattle.model.specs.Table.{toStream, encode, decode};
+ghost use Rattle.model.specs.Table.{toPort, toStream, encode, decode};
 ghost use Rattle.model.specs.Laid.{Laid};
 ghost use Rattle.table.specs.Find.{foundAt};
 ghost use Rattle.table.specs.Held.{heldOnly};
@@ -28,7 +28,7 @@ pub const PORT: usize = port::LATENCY_B + 4;
 
 pub const TOTAL_B: usize = 5;
 
-pub const TOTAL: usize = TOTAL_B + 5;
+pub const TOTAL: usize = TOTAL_B + 6;
 
 pub const FIXED: usize = cell::PRIORITY + 1 - cell::DESTINATION;
 
@@ -158,7 +158,32 @@ pub fn port_at(table: &[u8], p: usize) -> &[u8]
     &table[a..e]
 }
 
-// The address of its totals, and the totals.
+// What both classes together may reserve on a port, by its settings: class A's limit counts where the port supports the class.
+pub fn both_limits(port: &[u8]) -> u64
+    requires { ⌜ length (now port) ≡ portSize ⌝ }
+    ensures { λ r. ⌜ (r ≡ bothLimits (toPort (now (port .entry)))) × (r < 256 ^ 6) ⌝ }
+{
+    let limit_b = octets::get(port, port::LIMIT_B, 5);
+    let flags = octets::get(port, port::FLAGS, 1);
+    if flags / 128 == 1 {
+        return octets::get(port, port::LIMIT_A, 5) + limit_b;
+    }
+    limit_b
+}
+
+// The limit in force of class B there, where class A reserves so much.
+pub fn limit_b(port: &[u8], used: u64) -> u64
+    requires { ⌜ length (now port) ≡ portSize ⌝ }
+    ensures { λ r. ⌜ (r ≡ inForce (toPort (now (port .entry))) used classB) × (r < 256 ^ 6) ⌝ }
+{
+    let both = both_limits(port);
+    if both < used {
+        return 0;
+    }
+    both - used
+}
+
+// The address of a port's totals, and the totals.
 pub fn totals_in(table: &[u8], p: usize) -> usize
     requires { ⌜ PortIn (now table) p ⌝ }
     ensures { λ r. ⌜ (r ≡ totalPlace p) × (r + totalSize ≤ length (now (table .entry))) ⌝ }

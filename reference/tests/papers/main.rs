@@ -1,6 +1,7 @@
 //! Tests of the reference program against the papers.
 
 mod any_octets;
+mod borrowing;
 mod examples;
 mod generated_inputs;
 mod helpers;

@@ -100,7 +100,9 @@ fn frames_in_any_order_that_keeps_each_ports_own_give_the_same_answers_and_table
             }
             let bridge = expected.1.bridge().unwrap();
             for (port, total) in bridge.settings.ports.iter().zip(&bridge.settled.totals) {
-                assert!(total.a <= port.limit.a && total.b <= port.limit.b);
+                // 02, (i): A's total within limit A, and both totals within the sum of limits.
+                assert!(total.a <= port.limit.a);
+                assert!(total.a + total.b <= port.limit.a + port.limit.b);
             }
         }
     }

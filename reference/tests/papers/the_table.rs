@@ -6,6 +6,7 @@ use reference::numbers::Number;
 use reference::pdu::AttributeType;
 use reference::random::Random;
 use reference::records::{Call, Watcher};
+use reference::settings::PerClass;
 use reference::table::{self, broken_rules, cell, domain, edge, record, result};
 use reference::table::{CLOCK, COUNT, EDGES, RECORDS, RECORD_LENGTH, TABLE_LENGTH, TOTALS};
 use reference::{calls, generator, settings};
@@ -55,7 +56,7 @@ fn the_octets_of_a_settled_bridge() {
     assert_eq!(octets[CLOCK], [0, 0, 0, 250]);
     assert_eq!(octets[COUNT], 3);
     // 17,088,000 in class A on port 2.
-    assert_eq!(octets[TOTALS + 10..TOTALS + 20], [0, 1, 4, 0xbe, 0, 0, 0, 0, 0, 0]);
+    assert_eq!(octets[TOTALS + 11..TOTALS + 22], [0, 1, 4, 0xbe, 0, 0, 0, 0, 0, 0, 0]);
     let parameters = [0x91, 0xe0, 0xf0, 0, 0, 1, 0, 2, 0, 224, 0, 1, 0x70];
     assert_eq!(octets[record(0)..record(0) + 8], STREAM.to_be_bytes());
     assert_eq!(octets[record(0) + 8..record(0) + 21], parameters);
@@ -197,17 +198,42 @@ fn rule_6_settings_of_no_port() {
 #[test]
 fn rule_7_totals() {
     let table = three_streams(250);
-    breaks(&table, 7, TOTALS + 9, 1); // limit B is 0
     breaks(&table, 7, TOTALS, 1); // limit A needs four octets
-    breaks(&table, 7, TOTALS + 20, 1); // no port
-    breaks(&table, 7, TOTALS + 79, 1);
+    breaks(&table, 7, TOTALS + 5, 1); // both limits too
+    breaks(&table, 7, TOTALS + 22, 1); // no port
+    breaks(&table, 7, TOTALS + 87, 1);
     // Limit A is 75,000,000, in octets 04 78 68 c0.
-    let mut table = table.clone();
+    let mut full = table.clone();
     for (place, octet) in [(1, 4), (2, 0x78), (3, 0x68)] {
-        table.store(TOTALS + place, octet);
+        full.store(TOTALS + place, octet);
     }
-    breaks(&table, 7, TOTALS + 4, 0xc1);
-    keeps(&table, TOTALS + 4, 0xc0);
+    breaks(&full, 7, TOTALS + 4, 0xc1);
+    keeps(&full, TOTALS + 4, 0xc0);
+    // Limit B is 0: class B has what class A leaves.
+    full.store(TOTALS + 4, 0xbf);
+    keeps(&full, TOTALS + 10, 1);
+    breaks(&full, 7, TOTALS + 10, 2);
+}
+
+#[test]
+fn rule_7_both_totals_and_the_limits_of_supported_classes() {
+    let mut settings = settings(2);
+    settings.ports[0].limit = PerClass { a: 3, b: 4 };
+    settings.ports[1].limit = PerClass { a: 3, b: 4 };
+    settings.ports[1].supports.a = false;
+    let mut table = started(&settings);
+    join_listener(&mut table, 1, STREAM, READY);
+    // Class A keeps to its limit, whatever class B leaves.
+    keeps(&table, TOTALS + 4, 3);
+    breaks(&table, 7, TOTALS + 4, 4);
+    keeps(&table, TOTALS + 10, 7);
+    breaks(&table, 7, TOTALS + 10, 8);
+    table.store(TOTALS + 4, 2);
+    keeps(&table, TOTALS + 10, 5);
+    breaks(&table, 7, TOTALS + 10, 6);
+    // On port 2 limit A doesn't count.
+    keeps(&table, TOTALS + 21, 4);
+    breaks(&table, 7, TOTALS + 21, 5);
 }
 
 #[test]
@@ -452,11 +478,15 @@ fn rule_28_entries_without_a_listener() {
 fn rule_29_totals_of_no_stream() {
     let mut settings = settings(2);
     settings.ports[1].supports.a = false;
+    settings.ports[1].limit.b = 1;
     let mut table = started(&settings);
     breaks(&table, 29, TOTALS + 4, 1);
+    breaks(&table, 29, TOTALS + 10, 1);
     join_listener(&mut table, 1, STREAM, READY);
     keeps(&table, TOTALS + 4, 1);
-    breaks(&table, 29, TOTALS + 14, 1);
+    keeps(&table, TOTALS + 10, 1);
+    breaks(&table, 29, TOTALS + 15, 1);
+    keeps(&table, TOTALS + 21, 1);
 }
 
 #[test]
@@ -481,7 +511,7 @@ fn the_octets_of_the_domain() {
     for (port, flags) in [[1, 0], [1, 1], [1, 1]].into_iter().enumerate() {
         expected[130 * port + 128..130 * port + 130].copy_from_slice(&flags);
     }
-    assert_eq!(octets[274..1_314], expected);
+    assert_eq!(octets[282..1_322], expected);
 }
 
 #[test]

@@ -13,8 +13,8 @@ returns c =
     rw (
       c .at-most2 .ensures,
       c .before .at-most .ensures,
-      c .before .before .get5 .ensures .0,
-      c .before .before .before .get4 .ensures .0,
+      c .before .before .get4 .ensures .0,
+      c .before .before .before .limit-b .ensures .0,
       c .before .before .before .before .get3 .ensures .0,
       c .before .before .before .before .before .get2 .ensures .0,
       c .before .before .before .before .before .before .get .ensures .0,
