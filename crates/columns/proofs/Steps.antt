@@ -1,4 +1,4 @@
--- Which of steps a to g, j and k is the first that applies, by the octets that the code tests.
+-- Which of the steps before h is the first that applies, by the octets that the code tests.
 use mathlib.Core.Path.{_≡_, refl}
 use mathlib.Core.List.{List}
 use mathlib.Core.Bool.{Bool, true, false, cond, not}

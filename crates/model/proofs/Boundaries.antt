@@ -1,19 +1,18 @@
 -- The boundary flags (35.2.1.4 h) and code 8: a settled flag is set exactly where one of h)'s three conditions holds; an own failure
 -- has code 8 exactly where no earlier step applies and the flag is set; where every port hears the bridge's own values alone, no
 -- flag of a class that it supports is set.
-use mathlib.Core.Path.{_≡_, refl, sym, ap, _∙_}
-use mathlib.Core.List.{List, [], _∷_, _++_}
+use mathlib.Core.Path.{_≡_, refl, sym, _∙_}
+use mathlib.Core.List.{List, [], _∷_}
 use mathlib.Core.Bool.{Bool, true, false, cond, not, _&&_, _||_, true≢false, false≢true}
 use Prim.Native.Nat.{ℕ, zero, suc, _+_, _<_}
 use native.Mathlib.Omega.{arith}
-use lib.ListN.{length, getD, take, drop}
-use lib.Dec.{eqb, ltb}
+use lib.ListN.{length, getD}
+use lib.Dec.{eqb}
 use borrow.Author.Tests.{eqb-false, ne-eqb, lt-ltb}
-use Rattle.model.specs.Lists.{All}
-use Rattle.model.specs.State.{Port, Settings, Cell, Domain, noDomain, domain, Own, noOwn, Health, sound, broken, Column, none, advertise, failed, Stream, Bridge, noPort, portAt, isPort, cellAt, ownAt, Class, noClass, classA, classB, classOf, isNoClass, supports, classPriority}
-use Rattle.model.specs.Settling.{isTalking, Source, nowhere, from, sourceOf, fixedOf, healthOf, streamClass, isDomain, anyDomain, otherPriority, domainsOf, anySupports, isEdge, flagOf, decideOwn, decideOwns, boundary, Scene, sceneOf, Outcome, columnNone, asRegistered, ownFailure, Step, first, clear, isBroken, brokenColumn, outcomeColumn, stepsFrom, steps, claim, leftFor, byBandwidth, columnOf, settle}
+use Rattle.model.specs.State.{Port, Settings, Cell, Domain, noDomain, domain, Own, noOwn, failed, Stream, Bridge, noPort, portAt, isPort, cellAt, ownAt, Class, noClass, classA, classB, classOf, isNoClass, supports, classPriority}
+use Rattle.model.specs.Settling.{Source, nowhere, from, sourceOf, fixedOf, healthOf, streamClass, isDomain, anyDomain, otherPriority, domainsOf, anySupports, isEdge, flagOf, decideOwn, decideOwns, boundary, Scene, clear, isBroken, stepsFrom, steps, columnOf, settle}
 use Rattle.model.specs.Table.{columnCode}
-use Rattle.model.proofs.OwnCodes.{gives, earlier, asked, never, once, own-decided, own-only}
+use Rattle.model.proofs.OwnCodes.{gives, earlier, asked, never, once, stepsOf, own-decided, own-only}
 use Rattle.model.proofs.ColumnRule.{at-place}
 
 -- h), condition by condition; a port declares the classes that it supports.
@@ -178,12 +177,8 @@ module _ (now : ℕ) (b : Bridge) (p : ℕ) (port : p < length (b .settings .por
 -- Code 8: what step j tests is the flag.
 
 module _ (sc : Scene) (p : ℕ) (here : Cell) where
-  -- by the Talker's place, if there is one
-  abbrev stepsOf : Source → List Step
-  stepsOf o = record { test = not (isPort (sc .settings) p); outcome = columnNone } ∷ stepsFrom sc p here o
-
-  eight-asked : (o : Source) → clear (earlier 8 (stepsOf o)) ≡ true
-      → asked 8 (stepsOf o) ≡ boundary (ownAt (sc .own) p) (classOf (sc .settings) (fixedOf o .priority))
+  eight-asked : (o : Source) → clear (earlier 8 (stepsOf sc p here o)) ≡ true
+      → asked 8 (stepsOf sc p here o) ≡ boundary (ownAt (sc .own) p) (classOf (sc .settings) (fixedOf o .priority))
   unfolding stepsFrom clear earlier asked gives fixedOf
   eight-asked nowhere free = absurd (go (isPort (sc .settings) p) free)
     where
@@ -192,7 +187,7 @@ module _ (sc : Scene) (p : ℕ) (here : Cell) where
       go false e = false≢true e
   eight-asked (from o) free = refl
 
-  eight-once : (o : Source) → once 8 (stepsOf o) ≡ true
+  eight-once : (o : Source) → once 8 (stepsOf sc p here o) ≡ true
   unfolding stepsFrom once never gives
   eight-once nowhere = refl
   eight-once (from o) = refl

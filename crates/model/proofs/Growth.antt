@@ -2,19 +2,19 @@
 -- registration is removed; an own failure has code 7 exactly where no earlier step applies and the present latency is above the
 -- first; once it has fallen back, the next advance gives another column.
 use mathlib.Core.Path.{_≡_, refl, sym, _∙_}
-use mathlib.Core.List.{List, [], _∷_}
+use mathlib.Core.List.{List}
 use mathlib.Core.Logic.{_⊎_, inl, inr}
-use mathlib.Core.Bool.{Bool, true, false, cond, not, _&&_, false≢true}
+use mathlib.Core.Bool.{Bool, true, false, cond}
 use Prim.Native.Nat.{ℕ, _≤_, _<_}
 use native.Mathlib.Omega.{arith}
 use lib.Dec.{ltb}
 use borrow.Author.Tests.{lt-ltb, ltb-true}
 use Rattle.model.specs.Lists.{All}
-use Rattle.model.specs.State.{Settings, Leaving, Fixed, Varying, Registration, Talker, noTalker, talker, Cell, failed, Stream, Bridge, unsettled, isPort, cellAt, resultAt}
+use Rattle.model.specs.State.{Settings, Fixed, Varying, Talker, noTalker, talker, Cell, failed, Stream, Bridge, unsettled, cellAt, resultAt}
 use Rattle.model.specs.Registrations.{Kind, Act, leaveAll, leave, talk, listen, ofDomain, withLeaving, quitTalker, quit, sameFixed, firstJoin, sameJoin, otherJoin, joinTalker, does}
-use Rattle.model.specs.Settling.{expired, expireTalker, remain, Source, nowhere, from, sourceOf, latencyOf, firstLatencyOf, healthOf, decideOwns, Scene, columnNone, Step, clear, isBroken, stepsFrom, steps, columnOf, decideAt, decide, settle}
+use Rattle.model.specs.Settling.{expired, expireTalker, remain, Source, nowhere, from, sourceOf, latencyOf, firstLatencyOf, healthOf, decideOwns, Scene, clear, isBroken, stepsFrom, steps, columnOf, decideAt, decide, settle}
 use Rattle.model.specs.Table.{columnCode}
-use Rattle.model.proofs.OwnCodes.{gives, earlier, asked, never, once, own-decided, own-only}
+use Rattle.model.proofs.OwnCodes.{gives, earlier, asked, never, once, stepsOf, own-decided, own-only}
 use Rattle.model.proofs.ColumnRule.{at-place, all-image}
 
 -- The first latency. A Talker that is held has the first latency n.
@@ -65,16 +65,12 @@ module _ (n now : ℕ) where
 -- Code 7: what step k tests is whether the latency is above the first.
 
 module _ (sc : Scene) (p : ℕ) (here : Cell) where
-  -- by the Talker's place, if there is one
-  abbrev stepsOf : Source → List Step
-  stepsOf o = record { test = not (isPort (sc .settings) p); outcome = columnNone } ∷ stepsFrom sc p here o
-
-  seven-asked : (o : Source) → asked 7 (stepsOf o) ≡ ltb (firstLatencyOf o) (latencyOf o)
+  seven-asked : (o : Source) → asked 7 (stepsOf sc p here o) ≡ ltb (firstLatencyOf o) (latencyOf o)
   unfolding stepsFrom asked gives firstLatencyOf latencyOf
   seven-asked nowhere = refl
   seven-asked (from o) = refl
 
-  seven-once : (o : Source) → once 7 (stepsOf o) ≡ true
+  seven-once : (o : Source) → once 7 (stepsOf sc p here o) ≡ true
   unfolding stepsFrom once never gives
   seven-once nowhere = refl
   seven-once (from o) = refl
