@@ -3,6 +3,7 @@
 
 mod borrowing;
 mod domains;
+mod latencies;
 
 use std::collections::BTreeMap;
 
@@ -15,13 +16,14 @@ use crate::pdu::{
     self, AttributeType, Event, Message, Parameters, Pdu, Value, Vector, LONGEST_PDU,
 };
 use crate::records::{Call, Watcher};
-use crate::registrations::{is_join, MOST_STREAMS};
+use crate::registrations::{is_join, TalkerRegistration, MOST_STREAMS};
 use crate::settings::{self, Settings, MOST_PORTS};
 use crate::settling::{self, ByStreamAndPort, Column, Decision, Facts, SettledStream, Step};
 use crate::sheet;
 use crate::table;
 use crate::words;
 use domains::{domains_of, is_held};
+use latencies::Latencies;
 
 /// The rows of the table: all that is counted.
 const ROWS: &[&str] = &[
@@ -68,6 +70,7 @@ const ROWS: &[&str] = &[
     "column step b",
     "column step c",
     "column step d",
+    "column step k",
     "column step e",
     "column step f",
     "column step j",
@@ -76,6 +79,7 @@ const ROWS: &[&str] = &[
     "column step i",
     "own failure 1",
     "own failure 4",
+    "own failure 7",
     "own failure 8",
     "own failure 13",
     "own failure 14",
@@ -207,6 +211,29 @@ const ROWS: &[&str] = &[
     "code 13 on a boundary port of both classes",
     "Advertise from a boundary port",
     "Advertise on a boundary port of the other class",
+    "latency grown",
+    "latency grown by a join while leaving",
+    "latency grown with another type",
+    "latency grown and fallen back before an advance",
+    "latency fallen back to the first",
+    "latency fallen below the first",
+    "latency fallen, and still above the first",
+    "latency from below back to the first",
+    "changed join with a larger latency",
+    "registration made and grown in one PDU",
+    "registration made anew with a larger latency",
+    "Talker port moved to a larger first latency",
+    "Talker port moved to a latency that has grown",
+    "registered failure with a larger latency",
+    "code 16 before 7",
+    "code 7 for a latency one above the first",
+    "code 7 before 4",
+    "code 7 before 13",
+    "code 7 before 8",
+    "code 7 with a Ready listener",
+    "code 7 with latency out capped",
+    "code 7 with the present latency out",
+    "code 4 where the second Talker's latency has grown",
     "advance to the same time",
     "advance to 2^32 - 2 or above",
     "latency summed below 2^32 - 1",
@@ -306,6 +333,7 @@ pub struct Coverage {
     counts: BTreeMap<&'static str, u64>,
     before: Option<Bridge>,
     last_write: Option<(u32, usize)>,
+    latencies: Latencies,
 }
 
 fn event_word(event: Event) -> &'static str {
@@ -352,17 +380,21 @@ fn talker_port(bridge: &Bridge, stream_id: u64) -> Option<usize> {
     ports.iter().position(|on_port| on_port.talker.is_some())
 }
 
-/// What is registered at the Talker port of a stream that has one.
+/// What is registered at the Talker port of a stream.
+fn registered_at(bridge: &Bridge, stream_id: u64) -> Option<&TalkerRegistration> {
+    let at = talker_port(bridge, stream_id)?;
+    bridge.registrations.streams[&stream_id][at].talker.as_ref()
+}
+
+/// What the Talker of a stream that has one asks for.
 fn talker_of(bridge: &Bridge, stream_id: u64) -> Parameters {
-    let at = talker_port(bridge, stream_id).expect("a stream with a Talker");
-    let talker = bridge.registrations.streams[&stream_id][at].talker.as_ref();
-    talker.expect("the Talker port's").parameters
+    registered_at(bridge, stream_id).expect("a stream with a Talker").parameters
 }
 
 impl Coverage {
     pub fn new() -> Coverage {
         let counts = ROWS.iter().map(|row| (*row, 0)).collect();
-        Coverage { counts, before: None, last_write: None }
+        Coverage { counts, before: None, last_write: None, latencies: Latencies::default() }
     }
 
     fn count(&mut self, row: &str) {
@@ -385,8 +417,14 @@ impl Coverage {
         coverage
     }
 
+    /// A bridge of its own, or octets stored in one: what was before says nothing of it.
+    fn begin(&mut self, bridge: Option<Bridge>) {
+        self.before = bridge;
+        self.latencies = Latencies::default();
+    }
+
     fn sheet(&mut self, input: &[u8]) {
-        self.before = None;
+        self.begin(None);
         let printed = sheet::run_watched(input, self);
         let refused = printed == "stop\n";
         self.count_if("sheets refused in their settings", refused);
@@ -398,7 +436,7 @@ impl Coverage {
     }
 
     fn script(&mut self, script: &generator::Script) {
-        self.before = None;
+        self.begin(None);
         let printed = calls::run_watched(&script.octets, self);
         let stops = printed.lines().any(|line| line == "stop");
         assert_eq!(stops, script.stops, "a script stops exactly where it is meant to");
@@ -474,6 +512,7 @@ impl Coverage {
                     self.registrations(&before, after);
                     self.left_again(&before, port as usize, &pdu);
                     self.domains(&before, after, port as usize, &pdu);
+                    self.latencies(&before, after, port as usize, &pdu);
                 }
                 let held = after.registrations.streams.len();
                 if held > held_before {
@@ -659,6 +698,7 @@ impl Coverage {
         self.importance(after);
         self.domains_left(time, before);
         self.boundaries(before, after);
+        self.latencies_settled(before, after);
     }
 
     fn settled(&mut self, before: &Bridge, bridge: &Bridge) {
@@ -668,6 +708,7 @@ impl Coverage {
                 Step::B => ("column step b", None),
                 Step::C => ("column step c", None),
                 Step::D => ("column step d", Some(16)),
+                Step::K => ("column step k", Some(7)),
                 Step::E => ("column step e", Some(4)),
                 Step::F => ("column step f", Some(13)),
                 Step::J => ("column step j", Some(8)),
@@ -702,6 +743,7 @@ impl Coverage {
             self.latency(bridge, stream_id, port);
             self.at_the_edge(bridge, stream_id, port, decision.step);
             self.borrowed((before, bridge), stream_id, port, &decision);
+            self.grown(bridge, stream_id, port, decision.step);
             if let Some(compared) = decision.compared {
                 let (demand, left) = (compared.demand.0, compared.left.0);
                 self.count_if("demand exactly what is left", demand == left && demand > 0);
@@ -734,9 +776,8 @@ impl Coverage {
             Some(class) => class,
             None => return,
         };
-        let at = talker_port(bridge, stream_id).expect("a Talker is declared");
-        let registered = bridge.registrations.streams[&stream_id][at].talker.as_ref();
-        let latency_in = registered.expect("the Talker port's").accumulated_latency;
+        let registered = registered_at(bridge, stream_id).expect("a Talker is declared");
+        let latency_in = registered.accumulated_latency;
         let added = ports[port - 1].latency.of(class);
         let capped = latency_in.checked_add(added).is_none();
         self.count_if("latency capped at 2^32 - 1", capped);
@@ -852,6 +893,9 @@ impl Watcher for Coverage {
         let bridge = table.bridge();
         if let Call::Start(octets) = call {
             self.started(octets, number);
+            if number == numbers::ACCEPTED {
+                self.begin(bridge.cloned());
+            }
         }
         let reached = number != numbers::TABLE && number != numbers::PORT;
         if let (Some(bridge), true) = (bridge, reached) {
@@ -869,14 +913,14 @@ impl Watcher for Coverage {
                 Call::Report { place, .. } => self.reported(bridge, *place, number),
             }
         }
-        let changed = matches!(call, Call::Start(_) | Call::Receive(..) | Call::Advance(_));
+        let changed = matches!(call, Call::Receive(..) | Call::Advance(_));
         if changed && number == numbers::ACCEPTED {
             self.before = bridge.cloned();
         }
     }
 
     fn stored(&mut self, table: &Table) {
-        self.before = table.bridge().cloned();
+        self.begin(table.bridge().cloned());
         self.count_if("octet stored that breaks the form", self.before.is_none());
         self.count_if("octet stored that keeps the form", self.before.is_some());
     }

@@ -893,13 +893,8 @@ impl History {
     /// Frames that join a group's Talker on its port and Listeners on others.
     fn joining_frames(&mut self, plan: &Plan, group: &Group) -> Vec<(u32, Vec<u8>)> {
         let joins: Vec<u8> = vec![self.random.one_of(&JOINS); group.members as usize];
-        let vector = VectorDraft {
-            first_value: declarations::first_value(&group.first),
-            events: joins.clone(),
-            ..VectorDraft::default()
-        };
-        let message = MessageDraft::new(AttributeType::TalkerAdvertise, vec![vector]);
-        let mut frames = vec![(group.talker_port, FrameDraft::new(vec![message]).octets())];
+        let frame = self.talkers_frame(group, group.first.accumulated_latency);
+        let mut frames = vec![(group.talker_port, frame)];
         for port in 1..=plan.ports() {
             if port != group.talker_port && self.random.percent(75) {
                 let listener_type =
@@ -924,6 +919,47 @@ impl History {
             let time = self.clock().saturating_add(self.random.below(3) as u32);
             self.advance(time);
         }
+    }
+
+    /// The latency of a group's path moves a little, up and down. The group may begin to leave before,
+    /// and its path may be as before at the end.
+    fn path_changes(&mut self, plan: &Plan) {
+        let group = self.random.one_of(&plan.groups);
+        if self.random.percent(20) {
+            let attribute_type = AttributeType::TalkerAdvertise;
+            self.leave(plan, group.talker_port, &group, attribute_type);
+            self.some_advance(plan);
+        }
+        let first = group.first.accumulated_latency;
+        for _ in 0..self.random.between(1, 4) {
+            let step = self.random.one_of(&[1, 1, 1, 2, 1_000]);
+            let latency = match self.random.below(7) {
+                0..=3 => first.saturating_add(step),
+                4..=5 => first,
+                _ => first.saturating_sub(step),
+            };
+            let frame = self.talkers_frame(&group, latency);
+            self.receive(group.talker_port, &frame);
+            if self.random.percent(70) {
+                let time = self.clock().saturating_add(self.random.below(3) as u32);
+                self.advance(time);
+            }
+        }
+        if self.random.percent(60) {
+            let frame = self.talkers_frame(&group, first);
+            self.receive(group.talker_port, &frame);
+        }
+    }
+
+    /// A frame that joins a group's Talkers with this latency.
+    fn talkers_frame(&mut self, group: &Group, accumulated_latency: u32) -> Vec<u8> {
+        let vector = VectorDraft {
+            first_value: declarations::first_value(&Talker { accumulated_latency, ..group.first }),
+            events: vec![self.random.one_of(&JOINS); group.members as usize],
+            ..VectorDraft::default()
+        };
+        let message = MessageDraft::new(AttributeType::TalkerAdvertise, vec![vector]);
+        FrameDraft::new(vec![message]).octets()
     }
 
     /// Joins new streams up to 64, one less or one more.
@@ -1026,7 +1062,7 @@ impl History {
     fn step(&mut self, plan: &Plan) {
         let port = self.port(plan);
         let fill_weight = if plan.size == Size::Full { 8 } else { 1 };
-        match self.random.weighted(&[58, 26, 11, 3, 4, 4, 2, fill_weight]) {
+        match self.random.weighted(&[58, 26, 11, 3, 4, 4, 2, 2, fill_weight]) {
             0 => {
                 let frame = frame(&mut self.random, plan, port);
                 self.receive(port, &frame.octets());
@@ -1048,6 +1084,7 @@ impl History {
             4 => self.leave_and_wait(plan),
             5 => self.hear_domain_again(plan),
             6 => self.class_a_goes_and_comes(plan),
+            7 => self.path_changes(plan),
             _ => self.fill(plan),
         }
     }

@@ -1,4 +1,4 @@
-//! Registrations per port (01, "Registering"; 02, (ii)).
+//! Registrations per port (01, "Registering"; 02, (ii) and (v)).
 
 use std::collections::{BTreeMap, BTreeSet};
 
@@ -14,6 +14,8 @@ pub const MOST_STREAMS: usize = 64;
 pub struct TalkerRegistration {
     pub parameters: Parameters,
     pub accumulated_latency: u32,
+    /// That of the join that made the registration.
+    pub first_latency: u32,
     pub failure: Option<Failure>,
     /// Set by a join whose parameters differ from the held ones.
     pub changed: bool,
@@ -22,6 +24,11 @@ pub struct TalkerRegistration {
 }
 
 impl TalkerRegistration {
+    /// Whether the present latency is larger than the first.
+    pub fn has_grown(&self) -> bool {
+        self.accumulated_latency > self.first_latency
+    }
+
     pub fn attribute_type(&self) -> AttributeType {
         match self.failure {
             None => AttributeType::TalkerAdvertise,
@@ -190,7 +197,7 @@ impl Registrations {
 
     /// A Talker join whose parameters equal the held ones replaces type, latency and failure
     /// fields and clears the changed mark; else the held type and values stay and the mark is
-    /// set. Either way leaving ends.
+    /// set. Either way leaving ends, and the first latency stays.
     fn join_talker(&mut self, port: usize, joined: Talker) {
         let held = &mut self.on_port(port, joined.stream_id).talker;
         match held {
@@ -199,9 +206,11 @@ impl Registrations {
                 talker.leaving = None;
             }
             _ => {
+                let first = held.as_ref().map(|talker| talker.first_latency);
                 *held = Some(TalkerRegistration {
                     parameters: joined.parameters,
                     accumulated_latency: joined.accumulated_latency,
+                    first_latency: first.unwrap_or(joined.accumulated_latency),
                     failure: joined.failure,
                     changed: false,
                     leaving: None,

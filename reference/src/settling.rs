@@ -1,4 +1,4 @@
-//! Settling: attribute propagation and reserved bandwidth (01, "Settling"; 02, (ii) and (i);
+//! Settling: attribute propagation and reserved bandwidth (01, "Settling"; 02, (ii), (i), (v);
 //! 802.1Qat clauses 35.2.4.1 to 35.2.4.4, Tables 35-12 and 35-14; 802.1Q clause 34.3.1).
 
 use std::collections::BTreeMap;
@@ -45,6 +45,7 @@ pub enum Step {
     B,
     C,
     D,
+    K,
     E,
     F,
     J,
@@ -186,6 +187,10 @@ fn column_before_bandwidth(facts: &Facts, ports: &[OnPort], port: usize) -> Opti
     // d. changed mark at t: 16
     if talker.changed {
         return Some((Step::D, own_failure(16)));
+    }
+    // k. latency at t above that of its first join: 7
+    if talker.has_grown() {
+        return Some((Step::K, own_failure(7)));
     }
     // e. p holds a Talker registration: 4
     if ports[port - 1].talker.is_some() {

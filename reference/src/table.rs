@@ -26,7 +26,7 @@ pub const TOTALS_LENGTH: usize = 11;
 pub const EDGES: usize = 282;
 /// The stream records, those in use first.
 pub const RECORDS: usize = 1_322;
-pub const RECORD_LENGTH: usize = 493;
+pub const RECORD_LENGTH: usize = 525;
 /// The length of the table; one length for every port count.
 pub const TABLE_LENGTH: usize = RECORDS + MOST_STREAMS * RECORD_LENGTH;
 
@@ -57,14 +57,14 @@ pub mod record {
     pub const PARAMETERS: Range<usize> = 8..21;
     /// The last octet of the parameters: priority, rank and four zero bits.
     pub const PRIORITY: usize = 20;
-    pub const CELLS: Range<usize> = 21..333;
-    pub const RESULTS: Range<usize> = 333..493;
+    pub const CELLS: Range<usize> = 21..365;
+    pub const RESULTS: Range<usize> = 365..525;
 }
 
 /// Places in a cell: what a port has registered of a stream.
 pub mod cell {
     use super::Range;
-    pub const LENGTH: usize = 39;
+    pub const LENGTH: usize = 43;
     pub const TALKER: usize = 0;
     pub const CHANGED: usize = 1;
     pub const TALKER_LEAVING: usize = 2;
@@ -75,9 +75,10 @@ pub mod cell {
     pub const LATENCY: Range<usize> = 20..24;
     pub const BRIDGE_ID: Range<usize> = 24..32;
     pub const CODE: usize = 32;
-    pub const LISTENER: usize = 33;
-    pub const LISTENER_LEAVING: usize = 34;
-    pub const LISTENER_SINCE: Range<usize> = 35..39;
+    pub const FIRST_LATENCY: Range<usize> = 33..37;
+    pub const LISTENER: usize = 37;
+    pub const LISTENER_LEAVING: usize = 38;
+    pub const LISTENER_SINCE: Range<usize> = 39..43;
 }
 
 /// Places in a result: what the last advance decided for a stream on a port.
@@ -93,7 +94,7 @@ pub mod result {
     pub const LISTENER: usize = 19;
 }
 
-const _: () = assert!(TABLE_LENGTH == 32_874);
+const _: () = assert!(TABLE_LENGTH == 34_922);
 const _: () = assert!(CLOCK.start == settings::HEAD_LENGTH + MOST_PORTS * settings::PORT_LENGTH);
 const _: () = assert!(EDGES == TOTALS + MOST_PORTS * TOTALS_LENGTH);
 const _: () = assert!(RECORDS == EDGES + MOST_PORTS * edge::LENGTH);
@@ -463,6 +464,7 @@ fn put_cell(out: &mut Vec<u8>, on_port: &OnPort) {
         out.extend(talker.parameters.octets());
         out.extend(talker.accumulated_latency.to_be_bytes());
         put_failure(out, talker.failure);
+        out.extend(talker.first_latency.to_be_bytes());
     }
     out.resize(start + cell::LISTENER, 0);
     if let Some(listener) = &on_port.listener {
@@ -562,6 +564,7 @@ fn on_port(cell: &[u8]) -> OnPort {
     let talker = (cell[cell::TALKER] != 0).then(|| TalkerRegistration {
         parameters: Parameters::of(&cell[cell::PARAMETERS]),
         accumulated_latency: number_of(&cell[cell::LATENCY]) as u32,
+        first_latency: number_of(&cell[cell::FIRST_LATENCY]) as u32,
         failure: (cell[cell::TALKER] == FAILED).then_some(failure),
         changed: cell[cell::CHANGED] == 1,
         leaving: leaving(cell[cell::TALKER_LEAVING], &cell[cell::TALKER_SINCE]),

@@ -128,6 +128,7 @@ class Cell:
     latency: int = octets(4)
     failed_bridge: int = octets(8)
     code: int = octets(1)
+    first_latency: int = octets(4)
     listener: int = octets(1)
     listener_leaving: int = octets(1)
     listener_since: int = octets(4)

@@ -22,6 +22,8 @@ def asked_for(parameters):
 def talker_words(cell, table):
     """The parts of what is said of a registered Talker."""
     yield f"Talker {word(TALKERS, cell.talker)} {asked_for(cell.parameters)}, latency {cell.latency} ns"
+    if cell.latency != cell.first_latency:
+        yield f"first {cell.first_latency} ns"
     if cell.talker == COLUMNS.index("failed"):
         yield f"code {cell.code} ({cause(cell.code) or 'none'}) of bridge {stream_id(cell.failed_bridge)}"
     if cell.changed:

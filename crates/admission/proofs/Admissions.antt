@@ -1,4 +1,4 @@
--- After steps a to g, the admissions of every port and class leave on every port the column, latency, entry and age that
+-- After the steps before h, the admissions of every port and class leave on every port the column, latency, entry and age that
 -- advance decides there, and the class totals: what is missing of the decision is the Listener declared.
 use Prim.Native.Nat.{ℕ, zero, suc, _+_, _*_, _≤_, _<_}
 use mathlib.Core.Path.{_≡_, refl, sym, _∙_, ap}
@@ -53,7 +53,7 @@ showing st now col x = record {
   results = tabulate 8 0 (λ q. shownAs st now x q (col q x));
 }
 
--- Steps a to g and j alone.
+-- The steps before h alone.
 
 module _ (sc : Scene) (q : ℕ) (x : Stream) where
   -- they leave Advertise where none of them applies
@@ -429,7 +429,7 @@ module _ (sc : Scene) (now : ℕ) (s : List Stream) (clock : ℕ) where
               (λ x. showing-same sc now s (columnBy sc now s (doneBefore (2 * n))) (columnOf sc now s) x (λ q b. decided-column q x)),
         )
 
-    -- After steps a to g and j the admissions of all ports leave what advance decides, but for the Listeners declared.
+    -- After the steps before h the admissions of all ports leave what advance decides, but for the Listeners declared.
     pub admissions-decide :
         admissions (length (sc .settings .ports)) 0 record { settings = sc .settings; clock = clock; totals = replicate 8 noTotals; own = sc .own; streams = map (early sc now) s }
         ≡ record {

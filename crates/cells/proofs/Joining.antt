@@ -14,7 +14,7 @@ use Rattle.octets.specs.Fields.{fields, packed, Fit, width}
 use Rattle.octets.proofs.Parts.{length-patch}
 use Rattle.octets.proofs.Fields.{fit-at, be-beAt, packed-fields, beAt-fits, beAt-one, beAt-add, get-field, get-octet, put-field, put-run, clear-run}
 use Rattle.model.specs.FrameLayout.{advertiseLength, failedLength, firstBridge, firstCode, firstDestination, firstLatency, firstPriority, firstVlan, talkerWidths}
-use Rattle.model.specs.Layout.{bridgeField, cellFields, cellWidths, changedField, changedPlace, codeField, fixedField, fixedPlace, latencyField, latencyPlace, leavingSize, listenerField, listenerLeavesField, priorityField, priorityPlace, talkerLeavesField, vlanField, vlanPlace}
+use Rattle.model.specs.Layout.{bridgeField, cellFields, cellWidths, changedField, changedPlace, codeField, firstLatencyField, fixedField, fixedPlace, latencyField, latencyPlace, leavingSize, listenerField, listenerLeavesField, priorityField, priorityPlace, talkerLeavesField, vlanField, vlanPlace}
 use Rattle.model.specs.State.{stays, Fixed, Health, sound, broken, Varying, Registration, Talker, noTalker, talker, Listener, noListener, listener, noFixed}
 use Rattle.model.specs.Registrations.{sameFixed, firstJoin, sameJoin, otherJoin, joinTalker, does, listen}
 use Rattle.model.specs.Frames.{registers, firstWidths, firstLength, priorityOf, rankOf, fixedValue, healthValue}
@@ -68,7 +68,7 @@ module _ (vs : List ℕ) (size : length vs ≡ cellFields) where
   fixed-numbers : (first : List ℕ) (n : ℕ) → advertiseLength ≤ length first → ((i : ℕ) → getD first i 0 < 256)
       → fixed first n (packed cellWidths vs)
       ≡ packed cellWidths
-      (set (patch vlanField 3 (fields (2 ∷ 2 ∷ 2 ∷ []) firstVlan first) (set vs fixedField (beAt 6 first firstDestination + n))) priorityField (getD first firstPriority 0 / 16 * 16))
+      (set (set (patch vlanField 3 (fields (2 ∷ 2 ∷ 2 ∷ []) firstVlan first) (set vs fixedField (beAt 6 first firstDestination + n))) priorityField (getD first firstPriority 0 / 16 * 16)) firstLatencyField (beAt 4 first firstLatency))
   unfolding fixed width part
   fixed-numbers first n l o =
       let ws : List ℕ = 2 ∷ 2 ∷ 2 ∷ [] in
@@ -78,8 +78,14 @@ module _ (vs : List ℕ) (size : length vs ≡ cellFields) where
       let two : length (patch vlanField 3 (fields ws firstVlan first) there) ≡ cellFields = length-patch vlanField 3 (fields ws firstVlan first) there spec (omega arith) ∙ one in
       let octets : be 6 (beAt 6 first firstVlan) ≡ packed ws (fields ws firstVlan first) =
       be-beAt 6 first firstVlan (omega arith) o ∙ sym (packed-fields ws firstVlan first (omega arith) o) in
-      rw (put-field cellWidths vs fixedField (beAt 6 first firstDestination + n) size, octets, put-run cellWidths there vlanField 3 one (omega arith) (fields ws firstVlan first) spec)
-      (put-field cellWidths (patch vlanField 3 (fields ws firstVlan first) there) priorityField (getD first firstPriority 0 / 16 * 16) two)
+      let three : List ℕ = set (patch vlanField 3 (fields ws firstVlan first) there) priorityField (getD first firstPriority 0 / 16 * 16) in
+      rw (
+        put-field cellWidths vs fixedField (beAt 6 first firstDestination + n) size,
+        octets,
+        put-run cellWidths there vlanField 3 one (omega arith) (fields ws firstVlan first) spec,
+        put-field cellWidths (patch vlanField 3 (fields ws firstVlan first) there) priorityField (getD first firstPriority 0 / 16 * 16) two,
+      )
+      (put-field cellWidths three firstLatencyField (beAt 4 first firstLatency) (simp length-set two))
 
 -- The numbers of a cell; what is held, whose numbers behind the kind are zero without a Talker.
 
@@ -171,12 +177,12 @@ module _ (first : List ℕ) (long : advertiseLength ≤ length first) (octets : 
   talkerNumbersOf : List ℕ → List ℕ
   talkerNumbersOf more = fields (talkerWidths more) 0 first
 
-  takes : (more : List ℕ) (v : Varying) (h : Listener)
+  takes : (more : List ℕ) (v : Varying) (h : Listener) → beAt 4 first firstLatency ≡ v .latency
       → fixed first n (cellOctets (both (talker (sameJoin v (held noTalker))) h)) ≡ cellOctets (both (talker (firstJoin (fixedValue (talkerNumbersOf more) n) v)) h)
   unfolding firstJoin sameJoin held cellOctets cellNumbers talkerNumbers fixedNumbers fixedValue talkerNumbersOf fields priorityOctet priorityOf rankOf patch
-  takes more v h =
+  takes more v h e =
       let o : getD first firstPriority 0 / 16 * 16 ≡ beAt 1 first firstPriority / 32 * 32 + beAt 1 first firstPriority / 16 % 2 * 16 = omega (arith, beAt-one first firstPriority) in
-      fixed-numbers (cellNumbers (both (talker (sameJoin v (held noTalker))) h)) (cell-size (talker (sameJoin v (held noTalker))) h) first n long octets ∙ rw o
+      fixed-numbers (cellNumbers (both (talker (sameJoin v (held noTalker))) h)) (cell-size (talker (sameJoin v (held noTalker))) h) first n long octets ∙ rw (o, e)
 
 -- Whether what is fixed is the same: as three numbers of octets, and field by field.
 
@@ -343,10 +349,14 @@ module _ (k : ℕ) (low : 1 ≤ k) (high : k ≤ 2) (first : List ℕ) (long : a
   joining : Fixed
   joining = fixedValue (firstNumbers k first) n
 
-  takes-fixed : (v : Varying) (h : Listener)
+  takes-fixed : (v : Varying) (h : Listener) → beAt 4 first firstLatency ≡ v .latency
       → fixed first n (cellOctets (both (talker (sameJoin v (held noTalker))) h)) ≡ cellOctets (both (talker (firstJoin joining v)) h)
   unfolding joining firstNumbers talkerNumbersOf more
-  takes-fixed v h = rw (first-widths k low high) (takes first long octets n more v h)
+  takes-fixed v h e = rw (first-widths k low high) (takes first long octets n more v h e)
+
+  latency-read : beAt 4 first firstLatency ≡ varying k first .latency
+  unfolding varying firstNumbers fields
+  latency-read = rw (first-widths k low high)
 
   is-same : (t : Talker) (h : Listener) → FitCell (both t h) → same first n (cellOctets (both t h)) ≡ sameFixed joining (held t .fixed)
   unfolding joining firstNumbers new more
@@ -357,7 +367,7 @@ module _ (k : ℕ) (low : 1 ≤ k) (high : k ≤ 2) (first : List ℕ) (long : a
   unfolding joined joinTalker held cellNumbers talkerNumbers pick
   joins-to noTalker h fit =
       rw (talker-kind (both noTalker h) fit, varies k low high first noTalker h)
-      (takes-fixed (varying k first) h)
+      (takes-fixed (varying k first) h latency-read)
   joins-to (talker r) h fit =
       rw (talker-kind (both (talker r) h) fit, some-kind (r .varying .health), is-same (talker r) h fit, varies k low high first (talker r) h, marks r h)
       (go (sameFixed joining (r .fixed)))

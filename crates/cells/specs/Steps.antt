@@ -8,7 +8,7 @@ use Rattle.octets.specs.Be.{beAt, be}
 use Rattle.octets.specs.Parts.{patch, zeros}
 use Rattle.octets.specs.Pick.{pick}
 use Rattle.model.specs.FrameLayout.{firstBridge, firstCode, firstDestination, firstLatency, firstPriority, firstVlan}
-use Rattle.model.specs.Layout.{bridgePlace, changedPlace, codePlace, failureSize, fixedPlace, latencyPlace, leavingSize, listenerLeavesPlace, listenerPlace, priorityPlace, talkerLeavesPlace, vlanPlace}
+use Rattle.model.specs.Layout.{bridgePlace, changedPlace, codePlace, failureSize, firstLatencyPlace, fixedPlace, latencyPlace, leavingSize, listenerLeavesPlace, listenerPlace, priorityPlace, talkerLeavesPlace, vlanPlace}
 
 -- leaving begun at the clock, unless it was: the mark at a place, and the time behind it
 unfoldable pub begun : ℕ → ℕ → List ℕ → List ℕ
@@ -39,11 +39,12 @@ unfoldable pub varied : ℕ → List ℕ → List ℕ → List ℕ
 varied kind first s =
     failing kind first (patch latencyPlace 4 (be 4 (beAt 4 first firstLatency)) (patch changedPlace (1 + leavingSize) (zeros (1 + leavingSize)) (patch 0 1 (be 1 kind) s)))
 
--- destination, VLAN, TSpec, priority and rank of value n of a FirstValue
+-- destination, VLAN, TSpec, priority and rank of value n of a FirstValue, and its latency as the first
 unfoldable pub fixed : List ℕ → ℕ → List ℕ → List ℕ
 fixed first n s =
-    patch priorityPlace 1 (be 1 (getD first firstPriority 0 / 16 * 16))
-    (patch vlanPlace 6 (be 6 (beAt 6 first firstVlan)) (patch fixedPlace 6 (be 6 (beAt 6 first firstDestination + n)) s))
+    patch firstLatencyPlace 4 (be 4 (beAt 4 first firstLatency))
+    (patch priorityPlace 1 (be 1 (getD first firstPriority 0 / 16 * 16))
+    (patch vlanPlace 6 (be 6 (beAt 6 first firstVlan)) (patch fixedPlace 6 (be 6 (beAt 6 first firstDestination + n)) s)))
 
 -- whether these are the cell's
 unfoldable pub same : List ℕ → ℕ → List ℕ → Bool

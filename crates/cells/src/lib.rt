@@ -1,4 +1,4 @@
-// What the events of a frame and expiry do to one cell of 39 octets (docs/TABLE.md, "Cell").
+// What the events of a frame and expiry do to one cell of 43 octets (docs/TABLE.md, "Cell").
 ghost use mathlib.Core.Path.{_≡_};
 ghost use Prim.Native.Nat.{ℕ, _+_, _≤_};
 ghost use lib.ListN.{length};
@@ -16,6 +16,7 @@ use table::cell::CODE;
 use table::cell::DESTINATION;
 use table::cell::FAILURE;
 use table::cell::LATENCY;
+use table::cell::LATENCY_AT_FIRST;
 use table::cell::LEAVING;
 use table::cell::LISTENER;
 use table::cell::LISTENER_LEAVES;
@@ -90,7 +91,7 @@ fn is_same(cell: &[u8], first: &[u8], n: usize) -> bool
     false
 }
 
-// Takes destination, VLAN, TSpec, priority and rank of value n of a FirstValue.
+// Takes destination, VLAN, TSpec, priority and rank of value n of a FirstValue, and its latency as the first.
 fn write_fixed(cell: &mut [u8], first: &[u8], n: usize)
     requires { ⌜ FixedGiven (now cell) (now first) n ⌝ }
     ensures { λ _. ⌜ now (cell .exit) ≡ fixed (now (first .entry)) n (now (cell .entry)) ⌝ }
@@ -103,6 +104,12 @@ fn write_fixed(cell: &mut [u8], first: &[u8], n: usize)
     );
     octets::put(cell, VLAN, 6, octets::get(first, FIRST_VLAN, 6));
     octets::put(cell, PRIORITY, 1, (first[FIRST_PRIORITY] / 16 * 16) as u64);
+    octets::put(
+        cell,
+        LATENCY_AT_FIRST,
+        4,
+        octets::get(first, FIRST_LATENCY, 4),
+    );
 }
 
 // Takes the failure of a FirstValue, or none.

@@ -1,4 +1,4 @@
--- Which of steps a to g and j is the first that applies, by the octets that the code tests.
+-- Which of the steps before h is the first that applies, by the octets that the code tests.
 use mathlib.Core.Path.{_≡_, refl}
 use mathlib.Core.List.{List}
 use mathlib.Core.Bool.{Bool, true, false, cond, not}
@@ -8,7 +8,7 @@ use lib.Dec.{eqb, ltb}
 use borrow.Author.Tests.{lt-ltb, le-ltb}
 use Rattle.octets.specs.Be.{beAt}
 use Rattle.octets.specs.Fields.{fields}
-use Rattle.model.specs.Layout.{before, bridgePlace, changedPlace, codePlace, fixedPlace, fixedWidths, inPort, priorityPlace}
+use Rattle.model.specs.Layout.{before, bridgePlace, changedPlace, codePlace, firstLatencyPlace, fixedPlace, fixedWidths, inPort, latencyPlace, priorityPlace}
 use Rattle.model.specs.Lists.{isOne}
 use Rattle.model.specs.State.{sound, broken, Column, none, advertise, failed, Stream, Class, portAt, isPort, cellAt, ownAt, classOf, isNoClass, supports}
 use Rattle.model.specs.Frames.{priorityOf}
@@ -65,8 +65,11 @@ module _ (sc : Scene) (port here said : List ℕ) (p t : ℕ) where
   abbrev pub from-e : Column
   from-e = cond (isTalking (toCell here)) (own 4) from-f
 
+  abbrev pub from-k : Column
+  from-k = cond (ltb (beAt 4 said firstLatencyPlace) (beAt 4 said latencyPlace)) (own 7) from-e
+
   abbrev pub from-d : Column
-  from-d = cond (eqb (getD said changedPlace 0) 1) (own 16) from-e
+  from-d = cond (eqb (getD said changedPlace 0) 1) (own 16) from-k
 
   abbrev pub from-c : Column
   from-c = cond (not (eqb (getD said 0 0) 1)) (failed (beAt 8 said bridgePlace) (getD said codePlace 0)) from-d

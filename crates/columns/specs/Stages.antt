@@ -1,5 +1,5 @@
 -- Settling in stages, as the code takes them after removal: (1) every stream gets its settled values and, on every port, the
--- result of steps a to g and j, as if step h admitted it; (2) for each port and class, those that h does not admit become failed with
+-- result of the steps before h, as if step h admitted it; (2) for each port and class, those that h does not admit become failed with
 -- code 1; (3) the Talker port declares the merged Listener. Each stage reads what the one before left in the table.
 use mathlib.Core.List.{List, [], _∷_, map}
 use mathlib.Core.Bool.{Bool, cond, not, _&&_}
@@ -30,7 +30,7 @@ shownBy column latency heard now old =
 unfoldable pub shownAs : Settings → ℕ → Stream → ℕ → Column → Result
 shownAs st now x p column = shownBy column (latencyOut st p x) (registered (cellAt x p)) now (resultAt x p)
 
--- steps a to g and j, and Advertise where none of them applies: on a port, from its cell and the stream's source
+-- the steps before h, and Advertise where none of them applies: on a port, from its cell and the stream's source
 unfoldable pub firstStep : Scene → ℕ → Cell → Source → Column
 firstStep sc p here s = first (outcomeColumn (sc .settings) s) (stepsFrom sc p here s) advertise
 

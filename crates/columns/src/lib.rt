@@ -1,4 +1,4 @@
-// Stage 1 of settling: steps a to g and j, and what a stream shows on a port before bandwidth is shared.
+// Stage 1 of settling: the steps before h, and what a stream shows on a port before bandwidth is shared.
 ghost use mathlib.Core.Path.{_≡_};
 ghost use mathlib.Core.List.{[], _∷_};
 ghost use Prim.Native.Nat.{_<_, _^_};
@@ -73,7 +73,7 @@ fn at_edge(table: &[u8], p: usize, class: ClassRead) -> bool
     }
 }
 
-// Steps a to g and j on the port at place p, whose cell is here, for the Talker's cell said at place t: the first that applies,
+// The steps before h on the port at place p, whose cell is here, for the Talker's cell said at place t: the first that applies,
 // Advertise where none does.
 fn first_step(table: &[u8], port: &[u8], here: &[u8], said: &[u8], p: usize, t: usize) -> ColumnRead
     requires { ⌜ Asked (now table) (now port) (now here) (now said) p ⌝ }
@@ -97,6 +97,9 @@ fn first_step(table: &[u8], port: &[u8], here: &[u8], said: &[u8], p: usize, t: 
     }
     if mark == 1 {
         return own(table, 16);
+    }
+    if octets::get(said, cell::LATENCY_AT_FIRST, 4) < octets::get(said, cell::LATENCY, 4) {
+        return own(table, 7);
     }
     if here[cell::TALKER] != 0 {
         return own(table, 4);

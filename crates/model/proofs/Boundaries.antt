@@ -1,19 +1,18 @@
 -- The boundary flags (35.2.1.4 h) and code 8: a settled flag is set exactly where one of h)'s three conditions holds; an own failure
 -- has code 8 exactly where no earlier step applies and the flag is set; where every port hears the bridge's own values alone, no
 -- flag of a class that it supports is set.
-use mathlib.Core.Path.{_≡_, refl, sym, ap, _∙_}
-use mathlib.Core.List.{List, [], _∷_, _++_}
+use mathlib.Core.Path.{_≡_, refl, sym, _∙_}
+use mathlib.Core.List.{List, [], _∷_}
 use mathlib.Core.Bool.{Bool, true, false, cond, not, _&&_, _||_, true≢false, false≢true}
 use Prim.Native.Nat.{ℕ, zero, suc, _+_, _<_}
 use native.Mathlib.Omega.{arith}
-use lib.ListN.{length, getD, take, drop}
-use lib.Dec.{eqb, ltb}
+use lib.ListN.{length, getD}
+use lib.Dec.{eqb}
 use borrow.Author.Tests.{eqb-false, ne-eqb, lt-ltb}
-use Rattle.model.specs.Lists.{All}
-use Rattle.model.specs.State.{Port, Settings, Cell, Domain, noDomain, domain, Own, noOwn, Health, sound, broken, Column, none, advertise, failed, Stream, Bridge, noPort, portAt, isPort, cellAt, ownAt, Class, noClass, classA, classB, classOf, isNoClass, supports, classPriority}
-use Rattle.model.specs.Settling.{isTalking, Source, nowhere, from, sourceOf, fixedOf, healthOf, streamClass, isDomain, anyDomain, otherPriority, domainsOf, anySupports, isEdge, flagOf, decideOwn, decideOwns, boundary, Scene, sceneOf, Outcome, columnNone, asRegistered, ownFailure, Step, first, clear, isBroken, brokenColumn, outcomeColumn, stepsFrom, steps, claim, leftFor, byBandwidth, columnOf, settle}
+use Rattle.model.specs.State.{Port, Settings, Cell, Domain, noDomain, domain, Own, noOwn, failed, Stream, Bridge, noPort, portAt, isPort, cellAt, ownAt, Class, noClass, classA, classB, classOf, isNoClass, supports, classPriority}
+use Rattle.model.specs.Settling.{Source, nowhere, from, sourceOf, fixedOf, healthOf, streamClass, isDomain, anyDomain, otherPriority, domainsOf, anySupports, isEdge, flagOf, decideOwn, decideOwns, boundary, Scene, clear, isBroken, stepsFrom, steps, columnOf, settle}
 use Rattle.model.specs.Table.{columnCode}
-use Rattle.model.proofs.Parts.{_also_}
+use Rattle.model.proofs.OwnCodes.{gives, earlier, asked, never, once, stepsOf, own-decided, own-only}
 use Rattle.model.proofs.ColumnRule.{at-place}
 
 -- h), condition by condition; a port declares the classes that it supports.
@@ -175,111 +174,37 @@ module _ (now : ℕ) (b : Bridge) (p : ℕ) (port : p < length (b .settings .por
       → ((q : ℕ) → isDomain (getD (domainsOf c (left .domains)) q noDomain) ≡ true → q ≡ classPriority (b .settings) c) → boundary left c ≡ false
   no-flag c n s some alone = settled-flag c n ∙ matching (b .settings) p c (left .domains) s some alone
 
--- Code 8.
+-- Code 8: what step j tests is the flag.
 
--- the steps before j, which asks for the flag
-abbrev pub earlier : Scene → ℕ → Stream → List Step
-earlier sc p x = take 7 (steps sc p x)
-
--- of any seven steps, then j, then others: what decides
-module _ (says : Outcome → Column) (flag : Bool) (rest : List Step) (last : Column) where
-  abbrev withJ : List Step → List Step
-  withJ l = l ++ (record { test = flag; outcome = ownFailure 8 } ∷ rest)
-
-  reaches-j : (l : List Step) → clear l ≡ true → flag ≡ true → first says (withJ l) last ≡ says (ownFailure 8)
-  unfolding first clear
-  reaches-j [] free set = rw set
-  reaches-j (t ∷ l) free set = go (t .test) refl free (reaches-j l)
-    where
-      go : (b : Bool) → t .test ≡ b → (not b && clear l) ≡ true → (clear l ≡ true → flag ≡ true → first says (withJ l) last ≡ says (ownFailure 8))
-          → cond b (says (t .outcome)) (first says (withJ l) last) ≡ says (ownFailure 8)
-      go true e f ih = absurd (false≢true f)
-      go false e f ih = ih f set
-
-  -- the other way: where no step before j and none after it can give code 8
-  only-j : (l : List Step) → All (λ t. t .test ≡ true → columnCode (says (t .outcome)) ≡ 8 → ⊥) l → (columnCode (first says rest last) ≡ 8 → ⊥)
-      → columnCode (first says (withJ l) last) ≡ 8 → (clear l ≡ true) × (flag ≡ true)
-  unfolding first clear
-  only-j [] a after e = go flag refl e
-    where
-      go : (b : Bool) → flag ≡ b → columnCode (cond b (says (ownFailure 8)) (first says rest last)) ≡ 8 → (true ≡ true) × (flag ≡ true)
-      go true f h = (refl, f)
-      go false f h = absurd (after h)
-  only-j (t ∷ l) a after e = go (t .test) refl e (only-j l (a .1) after)
-    where
-      go : (b : Bool) → t .test ≡ b → columnCode (cond b (says (t .outcome)) (first says (withJ l) last)) ≡ 8
-          → (columnCode (first says (withJ l) last) ≡ 8 → (clear l ≡ true) × (flag ≡ true)) → ((not b && clear l) ≡ true) × (flag ≡ true)
-      go true f h ih = absurd (a .0 f h)
-      go false f h ih = ih h
-
--- by the Talker's place, if there is one
 module _ (sc : Scene) (p : ℕ) (here : Cell) where
-  abbrev stepsOf : Source → List Step
-  stepsOf o = record { test = not (isPort (sc .settings) p); outcome = columnNone } ∷ stepsFrom sc p here o
-
-  abbrev flagOn : Source → Bool
-  flagOn o = boundary (ownAt (sc .own) p) (classOf (sc .settings) (fixedOf o .priority))
-
-  no-source : (t : Bool) → (not (not t) && (not true && true)) ≡ true → ⊥
-  no-source true e = false≢true e
-  no-source false e = false≢true e
-
-  eight-from : (o : Source) (c : Column) → clear (take 7 (stepsOf o)) ≡ true → flagOn o ≡ true
-      → first (outcomeColumn (sc .settings) o) (stepsOf o) c ≡ failed (sc .settings .bridgeId) 8
-  unfolding stepsFrom fixedOf
-  eight-from nowhere c free set = absurd (no-source (isPort (sc .settings) p) (unfold clear in free))
-  eight-from (from o) c free set =
-      reaches-j (outcomeColumn (sc .settings) (from o)) (flagOn (from o)) (drop 8 (stepsOf (from o))) c (take 7 (stepsOf (from o))) free set
-      ∙ (unfold outcomeColumn in refl)
-
-  -- an own failure of another code
-  own-code : (o : Source) (code : ℕ) → (code ≡ 8 → ⊥) → {t : Bool} → t ≡ true → columnCode (outcomeColumn (sc .settings) o (ownFailure code)) ≡ 8 → ⊥
-  unfolding outcomeColumn columnCode
-  own-code o code n t h = n h
-
-  none-code : (o : Source) {t : Bool} → t ≡ true → columnCode (outcomeColumn (sc .settings) o columnNone) ≡ 8 → ⊥
-  unfolding outcomeColumn columnCode
-  none-code o t h = omega (arith, h)
-
-  -- g, behind j
-  size-code : (o : Source) (t : Bool) (c : Column) → (columnCode c ≡ 8 → ⊥)
-      → columnCode (first (outcomeColumn (sc .settings) o) (record { test = t; outcome = ownFailure 14 } ∷ []) c) ≡ 8 → ⊥
-  unfolding first outcomeColumn columnCode
-  size-code o true c other h = omega (arith, h)
-  size-code o false c other h = other h
-
-  only-from : (o : Source) (c : Column) → (columnCode c ≡ 8 → ⊥) → isBroken (healthOf o) ≡ false
-      → columnCode (first (outcomeColumn (sc .settings) o) (stepsOf o) c) ≡ 8 → (clear (take 7 (stepsOf o)) ≡ true) × (flagOn o ≡ true)
-  unfolding stepsFrom fixedOf healthOf
-  only-from nowhere c other whole e = absurd (go (isPort (sc .settings) p) (unfold first outcomeColumn columnCode in e))
+  eight-asked : (o : Source) → clear (earlier 8 (stepsOf sc p here o)) ≡ true
+      → asked 8 (stepsOf sc p here o) ≡ boundary (ownAt (sc .own) p) (classOf (sc .settings) (fixedOf o .priority))
+  unfolding stepsFrom clear earlier asked gives fixedOf
+  eight-asked nowhere free = absurd (go (isPort (sc .settings) p) free)
     where
-      go : (t : Bool) → columnCode (cond (not t) none none) ≡ 8 → ⊥
-      go true h = unfold columnCode in omega (arith, h)
-      go false h = unfold columnCode in omega (arith, h)
-  only-from (from o) c other whole e =
-      only-j (outcomeColumn (sc .settings) (from o)) (flagOn (from o)) (drop 8 (stepsOf (from o))) c (take 7 (stepsOf (from o)))
-      (none-code (from o) also none-code (from o) also none-code (from o) also (λ t h. true≢false (sym t ∙ whole))
-      also own-code (from o) 16 (λ e. omega (arith, e)) also own-code (from o) 4 (λ e. omega (arith, e))
-      also own-code (from o) 13 (λ e. omega (arith, e)) also tt)
-      (size-code (from o) _ c other) e
+      go : (t : Bool) → (not (not t) && (not true && true)) ≡ true → ⊥
+      go true e = false≢true e
+      go false e = false≢true e
+  eight-asked (from o) free = refl
+
+  eight-once : (o : Source) → once 8 (stepsOf sc p here o) ≡ true
+  unfolding stepsFrom once never gives
+  eight-once nowhere = refl
+  eight-once (from o) = refl
 
 module _ (sc : Scene) (now : ℕ) (s : List Stream) (p : ℕ) (x : Stream) where
   abbrev flag : Bool
   flag = boundary (ownAt (sc .own) p) (streamClass (sc .settings) x)
 
-  -- where none of them applies and the flag is set, the column is Failed with this Bridge ID and code 8
-  pub eight-decided : clear (earlier sc p x) ≡ true → flag ≡ true → columnOf sc now s p x ≡ failed (sc .settings .bridgeId) 8
-  unfolding columnOf steps streamClass
-  eight-decided free set = eight-from sc p (cellAt x p) (sourceOf x) _ free set
+  -- where no step before j applies and the flag is set, the column is Failed with this Bridge ID and code 8
+  pub eight-decided : clear (earlier 8 (steps sc p x)) ≡ true → flag ≡ true → columnOf sc now s p x ≡ failed (sc .settings .bridgeId) 8
+  unfolding steps streamClass
+  eight-decided free set = own-decided sc now s p x 8 free (eight-asked sc p (cellAt x p) (sourceOf x) free ∙ set)
 
   -- and code 8 of a stream that is not registered as Failed says so
-  pub eight-only : isBroken (healthOf (sourceOf x)) ≡ false → columnCode (columnOf sc now s p x) ≡ 8 → (clear (earlier sc p x) ≡ true) × (flag ≡ true)
-  unfolding columnOf steps streamClass byBandwidth
-  eight-only whole e = only-from sc p (cellAt x p) (sourceOf x) _ (not-bandwidth (claim (sc .settings) now p x .demand) (leftFor sc now s p x)) whole e
-    where
-      not-bandwidth : (d l : ℕ) → columnCode (byBandwidth (sc .settings) d l) ≡ 8 → ⊥
-      not-bandwidth d l = go (ltb l d)
-        where
-          go : (t : Bool) → columnCode (cond t (failed (sc .settings .bridgeId) 1) advertise) ≡ 8 → ⊥
-          go true h = unfold columnCode in omega (arith, h)
-          go false h = unfold columnCode in omega (arith, h)
+  pub eight-only : isBroken (healthOf (sourceOf x)) ≡ false → columnCode (columnOf sc now s p x) ≡ 8
+      → (clear (earlier 8 (steps sc p x)) ≡ true) × (flag ≡ true)
+  unfolding steps streamClass
+  eight-only whole e =
+      let o = own-only sc now s p x 8 (omega arith) (eight-once sc p (cellAt x p) (sourceOf x)) whole e in
+      (o .0, sym (eight-asked sc p (cellAt x p) (sourceOf x) (o .0)) ∙ o .1)

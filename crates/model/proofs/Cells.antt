@@ -1,4 +1,4 @@
--- A cell in its 39 octets: it is read back as it was written, well-formed octets are written back as they were read, and they
+-- A cell in its 43 octets: it is read back as it was written, well-formed octets are written back as they were read, and they
 -- are well-formed exactly when the cell is valid.
 use mathlib.Core.Path.{_≡_, refl, sym, ap, _∙_}
 use mathlib.Core.List.{List, [], _∷_, _++_}
@@ -13,7 +13,7 @@ use Rattle.octets.specs.Be.{beAt}
 use Rattle.octets.specs.Parts.{zeros}
 use Rattle.octets.specs.Fields.{fields, Fit, width, flat}
 use Rattle.octets.proofs.Fields.{length-packed-any, fields-of-packed, fields-fit, fit-at, fit-append, fit-zeros, packed-zeros}
-use Rattle.model.specs.Layout.{bridgeField, cellFields, cellSize, cellWidths, changedField, codeField, fixedField, fixedWidths, latencyField, listenerField, listenerLeavesField, listenerPlace, listenerSinceField, priorityField, talkerField, talkerLeavesField, talkerSinceField, varyingWidths}
+use Rattle.model.specs.Layout.{bridgeField, cellFields, cellSize, cellWidths, changedField, codeField, firstLatencyField, fixedField, fixedWidths, latencyField, listenerField, listenerLeavesField, listenerPlace, listenerSinceField, priorityField, talkerField, talkerLeavesField, talkerSinceField}
 use Rattle.model.specs.Lists.{All, allTrue, implies, tabulate, parts, Octets, bit, isOne}
 use Rattle.model.specs.State.{Leaving, stays, since, Fixed, Health, sound, broken, Registration, Talker, noTalker, talker, Ready, askingFailed, ready, readyFailed, Listener, noListener, listener, Cell, empty}
 use Rattle.model.specs.Frames.{priorityOf, rankOf}
@@ -223,8 +223,9 @@ module _ (clock leave : ℕ) where
       also omega (arith, bit-few (r .changed))
       also leaving-few (r .leaving)
       also since-within clock leave (r .leaving) (v .leaving) h
-      also fit-append fixedWidths (fixedNumbers (r .fixed)) varyingWidths (w .latency ∷ bridgeNumber (w .health) ∷ codeNumber (w .health) ∷ [])
-      (fixed-fit (r .fixed) (v .fixed)) (v .varying .latency also b also c also tt)
+      also fit-append fixedWidths (fixedNumbers (r .fixed)) (between latencyField listenerField cellWidths)
+      (w .latency ∷ bridgeNumber (w .health) ∷ codeNumber (w .health) ∷ r .firstLatency ∷ [])
+      (fixed-fit (r .fixed) (v .fixed)) (v .varying .latency also b also c also v .firstLatency also tt)
 
   listener-fit : (h : Listener) → ValidListener clock leave h → clock < 2 ^ 32 → Fit (drop listenerField cellWidths) (listenerNumbers h)
   unfolding Fit listenerNumbers
@@ -248,7 +249,7 @@ module _ (clock leave : ℕ) where
         leaving-back (r .leaving),
         health-back (w .health),
         fixed-back (r .fixed) (v .fixed) (healthNumber (w .health) ∷ bit (r .changed) ∷ leavingNumber (r .leaving) ∷ sinceNumber (r .leaving) ∷ [])
-            (w .latency ∷ bridgeNumber (w .health) ∷ codeNumber (w .health) ∷ after),
+            (w .latency ∷ bridgeNumber (w .health) ∷ codeNumber (w .health) ∷ r .firstLatency ∷ after),
       )
 
   hearing-rules : (h : Listener) → ValidListener clock leave h
@@ -352,6 +353,7 @@ module _ (clock leave : ℕ) (vs : List ℕ) (k : Kept clock leave vs) where
         go false = record {
           fixed = fixed-valid fixedField vs (at fixedField) (at (fixedField + 1)) (at (fixedField + 2)) (at (fixedField + 3)) (at priorityField);
           varying = record { health = health-valid (getD vs talkerField 0) (getD vs bridgeField 0) (getD vs codeField 0) (at bridgeField) (at codeField); latency = at latencyField };
+          firstLatency = at firstLatencyField;
           leaving = left clock leave (getD vs talkerLeavesField 0) (getD vs talkerSinceField 0) (k .leaves) .valid;
         }
 
@@ -375,7 +377,7 @@ pub cell-octets : (c : Cell) → Octets (cellOctets c)
 unfolding cellOctets
 cell-octets c = octets-packed cellWidths (cellNumbers c)
 
--- cells that are all 39 octets long
+-- cells that are all 43 octets long
 pub cells-sized : (cells : List Cell) → All (Sized cellSize cellOctets) cells
 cells-sized = all-each (Sized cellSize cellOctets) cell-length
 
@@ -419,7 +421,7 @@ module _ (clock leave : ℕ) (s : List ℕ) (l : length s ≡ cellSize) (o : Oct
         hears = listener-valid clock leave vs k;
       }
 
--- Nothing registered is 39 zeros.
+-- Nothing registered is 43 zeros.
 
 pub cell-zeros : cellOctets empty ≡ zeros cellSize
 unfolding cellOctets cellNumbers talkerNumbers listenerNumbers empty width

@@ -441,7 +441,7 @@ unfolding tabulate
 tabulate-same f g zero p h = refl
 tabulate-same f g (suc n) p h = rw (h p (omega arith) (omega arith), tabulate-same f g n (suc p) (λ q a b. h q (omega arith) (omega arith)))
 
-all-image : {A B : Type 0} (P : B → Type 0) (f : A → B) → ((x : A) → P (f x)) → (l : List A) → All P (map f l)
+pub all-image : {A B : Type 0} (P : B → Type 0) (f : A → B) → ((x : A) → P (f x)) → (l : List A) → All P (map f l)
 all-image P f h [] = tt
 all-image P f h (x ∷ l) = (h x, all-image P f h l)
 

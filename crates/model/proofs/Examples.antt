@@ -1,6 +1,6 @@
 -- 01's marked examples P1 to P13 and its worked example, computed by the definitions and compared with what 01 prints; then
 -- examples of what 01 says of registering and of ages, of the near misses that it shuts out, of the domain's edge, of class B's
--- limit in force, and of the order of a PDU's checks.
+-- limit in force, of latency that grows, and of the order of a PDU's checks.
 use mathlib.Core.Path.{_≡_, refl}
 use mathlib.Core.List.{List, [], _∷_, _++_, map}
 use mathlib.Core.Bool.{true, false, cond}
@@ -94,10 +94,17 @@ bridge limit l = from (State.started (settings limit)) (pdu 1 matching ∷ pdu 2
 streamId : ℕ → List ℕ
 streamId unique = 0x02 ∷ 0 ∷ 0 ∷ 0 ∷ 0 ∷ 0x01 ∷ Be.be 2 unique
 
-talkerFirst : ℕ → ℕ → ℕ → List ℕ
-talkerFirst unique size octet =
+delayedFirst : ℕ → ℕ → ℕ → ℕ → List ℕ
+delayedFirst latency unique size octet =
     streamId unique
-    ++ (0x91 ∷ 0xE0 ∷ 0xF0 ∷ 0 ∷ 0xFE ∷ 0 ∷ 0 ∷ 0x02 ∷ (Be.be 2 size ++ (0 ∷ 0x01 ∷ octet ∷ 0 ∷ 0 ∷ 0 ∷ 0 ∷ [])))
+    ++ (0x91 ∷ 0xE0 ∷ 0xF0 ∷ 0 ∷ 0xFE ∷ 0 ∷ 0 ∷ 0x02 ∷ (Be.be 2 size ++ (0 ∷ 0x01 ∷ octet ∷ Be.be 4 latency)))
+
+talkerFirst : ℕ → ℕ → ℕ → List ℕ
+talkerFirst = delayedFirst 0
+
+-- what a Talker Failed adds: Bridge ID 9 and code 2
+failure : List ℕ
+failure = 0 ∷ 0 ∷ 0 ∷ 0 ∷ 0 ∷ 0 ∷ 0 ∷ 0x09 ∷ 0x02 ∷ []
 
 -- priority 3, which is class A, with rank 1 or 0
 rank1 : ℕ
@@ -112,7 +119,7 @@ advertisesOf unique size octet n three = message advertises (Be.be 2 n ++ (talke
 
 failedOf : ℕ → ℕ → ℕ → ℕ → List ℕ → List ℕ
 failedOf unique size octet n three =
-    message faileds (Be.be 2 n ++ (talkerFirst unique size octet ++ (0 ∷ 0 ∷ 0 ∷ 0 ∷ 0 ∷ 0 ∷ 0 ∷ 0x09 ∷ 0x02 ∷ three)))
+    message faileds (Be.be 2 n ++ (talkerFirst unique size octet ++ (failure ++ three)))
 
 listenerVector : ℕ → ℕ → List ℕ → List ℕ → List ℕ
 listenerVector unique n three four = Be.be 2 n ++ (streamId unique ++ (three ++ four))
@@ -266,7 +273,7 @@ examples =
 
 -- to unfold this is to unfold the examples' own definitions
 shown : Unit {0}
-unfolding opened port settings accepted from messageOf message domainsOf matching bridge streamId talkerFirst rank1 rank0 advertisesOf failedOf listenerVector listenersOf talks hears columns reserves count talker listener read eventNumber events wordNumber reported size224 one four withFifth settledTalker lvPdu leaver workedTalker workedListener worked
+unfolding opened port settings accepted from messageOf message domainsOf matching bridge streamId delayedFirst talkerFirst failure rank1 rank0 advertisesOf failedOf listenerVector listenersOf talks hears columns reserves count talker listener read eventNumber events wordNumber reported size224 one four withFifth settledTalker lvPdu leaver workedTalker workedListener worked
 shown = tt
 
 pub marked-examples : All Holds examples
@@ -487,6 +494,55 @@ borrowing =
 pub borrowing-examples : All Holds borrowing
 unfolding shown borrowing inB intercom show withoutA decided
 borrowing-examples = (refl, (refl, (refl, (refl, tt))))
+
+-- Latency that grows.
+
+-- the worked example's stream, of this latency: of another MaxFrameSize too; as Talker Failed
+delayed : ℕ → ℕ → List ℕ
+delayed latency size = message advertises (Be.be 2 1 ++ (delayedFirst latency 1 size rank1 ++ (108 ∷ [])))
+
+delayedFailed : ℕ → List ℕ
+delayedFailed latency = message faileds (Be.be 2 1 ++ (delayedFirst latency 1 224 rank1 ++ (failure ++ (108 ∷ []))))
+
+-- its latency is 100 at first; then joins follow on port 1, and an advance
+joined : List (List ℕ) → List Handed
+joined l = map (pdu 1) l ++ (time 100 ∷ [])
+
+grown : List (List ℕ) → Bridge
+grown l = bridge 75000000 (pdu 1 (delayed 100 224) ∷ joined l)
+
+-- the latency declared on port 2
+latencies : Bridge → List ℕ
+latencies b = map (λ (x : Stream). State.resultAt x 1 .latency) (b .streams)
+
+pub growths : List Example
+growths =
+    -- above the first latency the stream fails with 7 and declares the present one; as high as the first it does not
+    record { computed = columns (grown (delayed 101 224 ∷ [])) ++ latencies (grown (delayed 101 224 ∷ [])); printed = 2 ∷ 7 ∷ 101 ∷ [] }
+    ∷ record { computed = columns (grown (delayed 100 224 ∷ [])); printed = 1 ∷ 0 ∷ [] }
+    -- falling back clears it at the next advance, and leaves no trace before
+    ∷ record { computed = columns (from (grown (delayed 101 224 ∷ [])) (joined (delayed 100 224 ∷ []))); printed = 1 ∷ 0 ∷ [] }
+    ∷ record { computed = columns (grown (delayed 101 224 ∷ delayed 99 224 ∷ [])); printed = 1 ∷ 0 ∷ [] }
+    -- a lower latency does not become the first
+    ∷ record { computed = columns (grown (delayed 50 224 ∷ delayed 100 224 ∷ [])); printed = 1 ∷ 0 ∷ [] }
+    -- a join while leaving keeps the first; removal forgets it
+    ∷ record { computed = columns (grown (lvPdu ∷ delayed 101 224 ∷ [])); printed = 2 ∷ 7 ∷ [] }
+    ∷ record { computed = columns (from (grown []) (pdu 1 lvPdu ∷ time 159 ∷ pdu 1 (delayed 101 224) ∷ time 160 ∷ [])); printed = 2 ∷ 7 ∷ [] }
+    ∷ record { computed = columns (from (grown []) (pdu 1 lvPdu ∷ time 160 ∷ pdu 1 (delayed 101 224) ∷ time 160 ∷ [])); printed = 1 ∷ 0 ∷ [] }
+    -- Talker Failed keeps it too, and is passed on with its own code
+    ∷ record { computed = columns (grown (delayedFailed 101 ∷ [])); printed = 2 ∷ 2 ∷ [] }
+    ∷ record { computed = columns (grown (delayedFailed 101 ∷ delayed 101 224 ∷ [])); printed = 2 ∷ 7 ∷ [] }
+    -- a join of other values alters neither latency, and 16 comes before 7
+    ∷ record { computed = columns (grown (delayed 101 225 ∷ [])) ++ latencies (grown (delayed 101 225 ∷ [])); printed = 2 ∷ 16 ∷ 100 ∷ [] }
+    ∷ record { computed = columns (grown (delayed 101 225 ∷ delayed 100 224 ∷ [])); printed = 1 ∷ 0 ∷ [] }
+    ∷ record { computed = columns (grown (delayed 101 224 ∷ delayed 101 225 ∷ [])); printed = 2 ∷ 16 ∷ [] }
+    -- 7 comes before 4
+    ∷ record { computed = columns (from (grown []) (pdu 2 (delayed 300 224) ∷ joined (delayed 101 224 ∷ []))); printed = 2 ∷ 7 ∷ [] }
+    ∷ []
+
+pub growth-examples : All Holds growths
+unfolding shown growths delayed delayedFailed joined grown latencies
+growth-examples = (refl, (refl, (refl, (refl, (refl, (refl, (refl, (refl, (refl, (refl, (refl, (refl, (refl, (refl, tt))))))))))))))
 
 -- PDUs with two faults, at neighbouring checks, and each with the first fault mended: the first that the walk meets gives the
 -- number.

@@ -9,7 +9,7 @@ use lib.ListN.{length, getD}
 use Rattle.octets.specs.Parts.{zeros}
 use Rattle.octets.specs.Fields.{fields, Fit, flat}
 use Rattle.octets.proofs.Fields.{fields-of-packed, fit-at}
-use Rattle.model.specs.Layout.{bridgeField, cellSize, cellWidths, codeField, fixedField, fixedWidths, latencyField, listenerSinceField, nameWidths, priorityField, recordSize, resultSize, resultWidths, talkerSinceField, vlanField}
+use Rattle.model.specs.Layout.{bridgeField, cellSize, cellWidths, codeField, firstLatencyField, fixedField, fixedWidths, latencyField, listenerSinceField, nameWidths, priorityField, recordSize, resultSize, resultWidths, talkerSinceField, vlanField}
 use Rattle.model.specs.Lists.{All, parts, Octets}
 use Rattle.model.specs.State.{Leaving, stays, since, Fixed, Health, sound, broken, Talker, noTalker, talker, Listener, noListener, listener, Cell, Result, Stream, Bridge}
 use Rattle.model.specs.Registrations.{ids}
@@ -62,6 +62,7 @@ fit-talker noTalker after at rank = tt
 fit-talker (talker r) after at rank = record {
   fixed = fit-fixed (r .fixed) (at fixedField also at vlanField also at (vlanField + 1) also at (vlanField + 2) also at priorityField also tt) rank;
   varying = record { health = fit-health (r .varying .health) (at bridgeField) (at codeField); latency = at latencyField };
+  firstLatency = at firstLatencyField;
   leaving = fit-leaving (r .leaving) (at talkerSinceField);
 }
 

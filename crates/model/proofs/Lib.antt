@@ -24,7 +24,9 @@ pub mod ReadBack
 pub mod WritingPasses
 pub mod Refusals
 pub mod Edge
+pub mod OwnCodes
 pub mod Boundaries
+pub mod Growth
 pub mod Opened
 pub mod Examples
 pub mod FormKept

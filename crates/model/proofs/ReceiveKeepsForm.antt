@@ -51,11 +51,11 @@ module _ (clock leaveTime now : ℕ) (past : now ≤ clock) (recent : clock < no
   talker-joins : (f : Fixed) (v : Varying) → ValidFixed f → ValidVarying v → (t : Talker) → ValidTalker clock leaveTime t →
       ValidTalker clock leaveTime (joinTalker f v t)
   unfolding joinTalker firstJoin sameJoin otherJoin
-  talker-joins f v vf vv noTalker w = record { fixed = vf; varying = vv; leaving = tt }
+  talker-joins f v vf vv noTalker w = record { fixed = vf; varying = vv; firstLatency = vv .latency; leaving = tt }
   talker-joins f v vf vv (talker r) w = go (sameFixed f (r .fixed))
     where
       go : (t : Bool) → ValidRegistration clock leaveTime (cond t (sameJoin v r) (otherJoin r))
-      go true = record { fixed = w .fixed; varying = vv; leaving = tt }
+      go true = record { fixed = w .fixed; varying = vv; firstLatency = w .firstLatency; leaving = tt }
       go false = again-valid clock leaveTime r w clock leaveTime true stays tt
 
   pub does-valid : (a : Act) → Fits a → (c : Cell) → ValidCell clock leaveTime c → ValidCell clock leaveTime (does now a c)

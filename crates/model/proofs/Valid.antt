@@ -57,12 +57,13 @@ pub record ValidVarying (v : Varying) : Type 0 where
 pub record ValidRegistration (clock leave : ℕ) (r : Registration) : Type 0 where
   pub fixed : ValidFixed (r .fixed)
   pub varying : ValidVarying (r .varying)
+  pub firstLatency : r .firstLatency < 2 ^ 32
   pub leaving : ValidLeaving clock leave (r .leaving)
 
 -- it stays so with another changed mark, and with a leaving that is valid, at whatever time
 pub again-valid : (clock leave : ℕ) (r : Registration) → ValidRegistration clock leave r → (now time : ℕ) (mark : Bool) (l : Leaving) → ValidLeaving now time l
-    → ValidRegistration now time record { fixed = r .fixed; varying = r .varying; changed = mark; leaving = l }
-again-valid clock leave r v now time mark l w = record { fixed = v .fixed; varying = v .varying; leaving = w }
+    → ValidRegistration now time record { fixed = r .fixed; varying = r .varying; firstLatency = r .firstLatency; changed = mark; leaving = l }
+again-valid clock leave r v now time mark l w = record { fixed = v .fixed; varying = v .varying; firstLatency = v .firstLatency; leaving = w }
 
 abbrev pub ValidTalker : ℕ → ℕ → Talker → Type 0
 ValidTalker clock leave noTalker = Unit {0}

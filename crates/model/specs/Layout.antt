@@ -59,10 +59,10 @@ failureWidths = 8 ∷ 1 ∷ []
 abbrev pub varyingWidths : List ℕ
 varyingWidths = 4 ∷ failureWidths
 
--- a cell. Talker: kind (0 none, 1 Advertise, 2 Failed), changed mark, leaving, since, fixed values, latency, Bridge ID, code.
--- Listener: kind (0 none, 1 Asking Failed, 2 Ready, 3 Ready Failed), leaving, since
+-- a cell. Talker: kind (0 none, 1 Advertise, 2 Failed), changed mark, leaving, since, fixed values, latency, Bridge ID, code, first
+-- latency. Listener: kind (0 none, 1 Asking Failed, 2 Ready, 3 Ready Failed), leaving, since
 abbrev pub cellWidths : List ℕ
-cellWidths = 1 ∷ 1 ∷ 1 ∷ 4 ∷ 6 ∷ 2 ∷ 2 ∷ 2 ∷ 1 ∷ 4 ∷ 8 ∷ 1 ∷ 1 ∷ 1 ∷ 4 ∷ []
+cellWidths = 1 ∷ 1 ∷ 1 ∷ 4 ∷ 6 ∷ 2 ∷ 2 ∷ 2 ∷ 1 ∷ 4 ∷ 8 ∷ 1 ∷ 4 ∷ 1 ∷ 1 ∷ 4 ∷ []
 
 -- a result: column (0 none, 1 Advertise, 2 Failed), latency out, Bridge ID, code, entry (0 none, 1 filter, 2 forward), the second
 -- that its age counts from, Listener declared
@@ -272,18 +272,21 @@ bridgeField = 10
 abbrev pub codeField : ℕ
 codeField = 11
 
+abbrev pub firstLatencyField : ℕ
+firstLatencyField = 12
+
 abbrev pub listenerField : ℕ
-listenerField = 12
+listenerField = 13
 
 abbrev pub listenerLeavesField : ℕ
-listenerLeavesField = 13
+listenerLeavesField = 14
 
 abbrev pub listenerSinceField : ℕ
-listenerSinceField = 14
+listenerSinceField = 15
 
 -- all of them; a Talker's are those before the Listener's
 abbrev pub cellFields : ℕ
-cellFields = 15
+cellFields = 16
 
 abbrev pub talkerPlace : ℕ
 talkerPlace = before talkerField cellWidths
@@ -314,6 +317,9 @@ bridgePlace = before bridgeField cellWidths
 
 abbrev pub codePlace : ℕ
 codePlace = before codeField cellWidths
+
+abbrev pub firstLatencyPlace : ℕ
+firstLatencyPlace = before firstLatencyField cellWidths
 
 -- the Talker stands before the Listener
 abbrev pub listenerPlace : ℕ

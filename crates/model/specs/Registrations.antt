@@ -43,7 +43,7 @@ hearsAs faileds = false
 hearsAs listeners = true
 
 unfoldable pub withLeaving : Leaving → Registration → Registration
-withLeaving l r = record { fixed = r .fixed; varying = r .varying; changed = r .changed; leaving = l }
+withLeaving l r = record { fixed = r .fixed; varying = r .varying; firstLatency = r .firstLatency; changed = r .changed; leaving = l }
 
 -- "Lv starts leaving, at the held clock, what is held of that StreamID and type"
 unfoldable pub quitTalker : ℕ → Kind → Talker → Talker
@@ -62,17 +62,18 @@ sameFixed f g =
     eqb (f .destination) (g .destination) && eqb (f .vlan) (g .vlan) && eqb (f .size) (g .size)
     && eqb (f .frames) (g .frames) && eqb (f .priority) (g .priority) && eqb (f .rank) (g .rank)
 
+-- the join that makes the registration
 unfoldable pub firstJoin : Fixed → Varying → Registration
-firstJoin f v = record { fixed = f; varying = v; changed = false; leaving = stays }
+firstJoin f v = record { fixed = f; varying = v; firstLatency = v .latency; changed = false; leaving = stays }
 
 -- "A Talker join whose destination, VLAN, TSpec, priority and rank equal the held ones replaces type, latency and failure
 -- fields and clears the changed mark"
 unfoldable pub sameJoin : Varying → Registration → Registration
-sameJoin v r = record { fixed = r .fixed; varying = v; changed = false; leaving = stays }
+sameJoin v r = record { fixed = r .fixed; varying = v; firstLatency = r .firstLatency; changed = false; leaving = stays }
 
 -- "else the held type and values stay, leaving ends all the same, and the mark is set"
 unfoldable pub otherJoin : Registration → Registration
-otherJoin r = record { fixed = r .fixed; varying = r .varying; changed = true; leaving = stays }
+otherJoin r = record { fixed = r .fixed; varying = r .varying; firstLatency = r .firstLatency; changed = true; leaving = stays }
 
 unfoldable pub joinTalker : Fixed → Varying → Talker → Talker
 joinTalker f v noTalker = talker (firstJoin f v)

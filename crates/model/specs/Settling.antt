@@ -75,6 +75,10 @@ unfoldable pub latencyOf : Source → ℕ
 latencyOf nowhere = 0
 latencyOf (from o) = o .registration .varying .latency
 
+unfoldable pub firstLatencyOf : Source → ℕ
+firstLatencyOf nowhere = 0
+firstLatencyOf (from o) = o .registration .firstLatency
+
 unfoldable pub healthOf : Source → Health
 healthOf nowhere = sound
 healthOf (from o) = o .registration .varying .health
@@ -194,7 +198,7 @@ outcomeColumn st s columnNone = none
 outcomeColumn st s asRegistered = brokenColumn (healthOf s)
 outcomeColumn st s (ownFailure code) = failed (st .bridgeId) code
 
--- steps a to g and j on the port at place p
+-- steps a to g, j and k on the port at place p; 02, v: "While the present one is larger, an Advertise is declared Failed with code 7"
 unfoldable pub stepsFrom : Scene → ℕ → Cell → Source → List Step
 stepsFrom sc p here nowhere = record { test = true; outcome = columnNone } ∷ []
 stepsFrom sc p here (from o) =
@@ -205,6 +209,7 @@ stepsFrom sc p here (from o) =
     ∷ record { test = not (supports (portAt st p) c); outcome = columnNone }
     ∷ record { test = isBroken (r .varying .health); outcome = asRegistered }
     ∷ record { test = r .changed; outcome = ownFailure 16 }
+    ∷ record { test = ltb (r .firstLatency) (r .varying .latency); outcome = ownFailure 7 }
     ∷ record { test = isTalking here; outcome = ownFailure 4 }
     ∷ record { test = isNoClass c; outcome = ownFailure 13 }
     ∷ record { test = boundary (ownAt (sc .own) p) c; outcome = ownFailure 8 }

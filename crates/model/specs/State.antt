@@ -52,10 +52,11 @@ pub record Varying : Type 0 where
   pub health : Health
   pub latency : ℕ
 
--- what a port has registered of a Talker
+-- what a port has registered of a Talker; 02, v: "Keep with each Talker registration the latency of its first join"
 pub record Registration : Type 0 where
   pub fixed : Fixed
   pub varying : Varying
+  pub firstLatency : ℕ
   pub changed : Bool
   pub leaving : Leaving
 

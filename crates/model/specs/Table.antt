@@ -9,7 +9,7 @@ use lib.Dec.{ltb, leb, eqb}
 use Rattle.octets.specs.Be.{beAt}
 use Rattle.octets.specs.Parts.{part, zeros}
 use Rattle.octets.specs.Fields.{fields, packed, flat}
-use Rattle.model.specs.Layout.{ageField, boundaryBPlace, boundaryPlace, boundaryWidths, bridgeField, cellFields, cellSize, cellWidths, cellsPlace, cellsSize, changedField, clockPlace, clockWidths, codeField, columnField, countPlace, declaredField, domainVlanPlace, entryField, failureCodeField, failureField, fixedField, headWidths, heldField, latencyField, latencyOutField, listenerField, listenerLeavesField, listenerPlace, listenerSinceField, nameWidths, ownSize, ownsPlace, ownsSize, portPlace, portSize, portWidths, portsPlace, portsUnit, priorityAUnit, priorityBUnit, priorityField, recordSize, recordsPlace, resultSize, resultWidths, resultsPlace, resultsSize, settingsSize, settledPriorityPlace, slotLeavesField, slotSinceField, slotSize, slotVlanField, slotWidths, slots, slotsSize, tableLength, talkerField, talkerLeavesField, talkerSinceField, totalBPlace, totalSize, totalsPlace, totalsSize, totalsWidths, wordPlace}
+use Rattle.model.specs.Layout.{ageField, boundaryBPlace, boundaryPlace, boundaryWidths, bridgeField, cellFields, cellSize, cellWidths, cellsPlace, cellsSize, changedField, clockPlace, clockWidths, codeField, columnField, countPlace, declaredField, domainVlanPlace, entryField, failureCodeField, failureField, firstLatencyField, fixedField, headWidths, heldField, latencyField, latencyOutField, listenerField, listenerLeavesField, listenerPlace, listenerSinceField, nameWidths, ownSize, ownsPlace, ownsSize, portPlace, portSize, portWidths, portsPlace, portsUnit, priorityAUnit, priorityBUnit, priorityField, recordSize, recordsPlace, resultSize, resultWidths, resultsPlace, resultsSize, settingsSize, settledPriorityPlace, slotLeavesField, slotSinceField, slotSize, slotVlanField, slotWidths, slots, slotsSize, tableLength, talkerField, talkerLeavesField, talkerSinceField, totalBPlace, totalSize, totalsPlace, totalsSize, totalsWidths, wordPlace}
 use Rattle.model.specs.Lists.{allTrue, implies, parts, bit, isOne}
 use Rattle.model.specs.State.{Port, Settings, Leaving, stays, since, Fixed, Health, sound, broken, Registration, Talker, noTalker, talker, Domain, noDomain, domain, Own, Ready, askingFailed, ready, readyFailed, Listener, noListener, listener, Cell, Column, none, advertise, failed, Entry, noEntry, filters, forwards, Declared, nothing, tells, Result, Stream, Totals, Bridge, classB, inForce}
 use Rattle.model.specs.Settling.{isTalking, isHearing}
@@ -123,7 +123,7 @@ talkerNumbers noTalker = replicate listenerField 0
 talkerNumbers (talker r) =
     let v = r .varying in
     healthNumber (v .health) ∷ bit (r .changed) ∷ leavingNumber (r .leaving) ∷ sinceNumber (r .leaving)
-    ∷ (fixedNumbers (r .fixed) ++ (v .latency ∷ bridgeNumber (v .health) ∷ codeNumber (v .health) ∷ []))
+    ∷ (fixedNumbers (r .fixed) ++ (v .latency ∷ bridgeNumber (v .health) ∷ codeNumber (v .health) ∷ r .firstLatency ∷ []))
 
 unfoldable pub listenerNumbers : Listener → List ℕ
 listenerNumbers noListener = replicate (cellFields - listenerField) 0
@@ -150,6 +150,7 @@ unfoldable pub registrationFrom : List ℕ → Registration
 registrationFrom vs = record {
   fixed = fixedFrom fixedField vs;
   varying = record { health = toHealth (getD vs talkerField 0) (getD vs bridgeField 0) (getD vs codeField 0); latency = getD vs latencyField 0 };
+  firstLatency = getD vs firstLatencyField 0;
   changed = isOne (getD vs changedField 0);
   leaving = toLeaving (getD vs talkerLeavesField 0) (getD vs talkerSinceField 0);
 }
@@ -277,7 +278,7 @@ resultRules clock vs =
 unfoldable pub resultFormed : ℕ → List ℕ → Bool
 resultFormed clock s = allTrue (resultRules clock (fields resultWidths 0 s))
 
--- A stream record of 493 octets: StreamID and settled values, 21 octets; cells of 39; results of 20.
+-- A stream record of 525 octets: StreamID and settled values, 21 octets; cells of 43; results of 20.
 
 unfoldable pub streamOctets : Stream → List ℕ
 streamOctets x =
@@ -423,7 +424,7 @@ ownRules clock leave s =
 unfoldable pub ownFormed : ℕ → ℕ → List ℕ → Bool
 ownFormed clock leave s = allTrue (ownRules clock leave s)
 
--- The table of 32,874 octets: settings 189, clock 4, streams held 1, totals 88, what the ports hold 1,040, records 31,552.
+-- The table: settings, clock, streams held, totals, what the ports hold, records.
 
 unfoldable pub totalsOctets : Totals → List ℕ
 totalsOctets t = packed totalsWidths (t .totalA ∷ t .totalB ∷ [])

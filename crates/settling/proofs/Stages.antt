@@ -73,7 +73,7 @@ unfolding shown
 decided-all sc now s [] = refl
 decided-all sc now s (x ∷ l) = rw (decided-stream sc now s x, decided-all sc now s l)
 
--- After removal: steps a to g and j, then bandwidth shared out on each port, then the Listeners merged.
+-- After removal: the steps before h, then bandwidth shared out on each port, then the Listeners merged.
 pub stages-settle : (now : ℕ) (b : Bridge) → length (b .settings .ports) ≤ 8 →
     merging-all (admissions (length (b .settings .ports)) 0 (earlyAll now (removed now b))) ≡ settle now b
 unfolding settle holding owning earlyAll

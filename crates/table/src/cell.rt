@@ -25,7 +25,10 @@ pub const CODE: usize = BRIDGE_ID + 8;
 
 pub const FAILURE_END: usize = CODE + 1;
 
-pub const LISTENER: usize = FAILURE_END;
+// the latency of the join that made the registration
+pub const LATENCY_AT_FIRST: usize = FAILURE_END;
+
+pub const LISTENER: usize = LATENCY_AT_FIRST + 4;
 
 pub const LISTENER_LEAVES: usize = LISTENER + 1;
 

@@ -4,6 +4,7 @@ mod any_octets;
 mod borrowing;
 mod examples;
 mod generated_inputs;
+mod growing_latency;
 mod helpers;
 mod marked_examples;
 mod order_among_ports;

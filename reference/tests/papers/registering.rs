@@ -224,6 +224,7 @@ fn a_changed_talker_join_keeps_held_type_and_values_ends_leaving_and_sets_the_ma
         let expected = TalkerRegistration {
             parameters: talker(STREAM).parameters,
             accumulated_latency: 0,
+            first_latency: 0,
             failure: None,
             changed: true,
             leaving: None,

@@ -62,10 +62,10 @@ fn the_octets_of_a_settled_bridge() {
     assert_eq!(octets[record(0) + 8..record(0) + 21], parameters);
     assert_eq!(octets[cell(0, 1)..cell(0, 1) + 7], [1, 0, 0, 0, 0, 0, 0]);
     assert_eq!(octets[cell(0, 1) + 7..cell(0, 1) + 20], parameters);
-    assert_eq!(octets[cell(0, 1) + 20..cell(0, 2)], [0; 19]);
-    assert_eq!(octets[cell(0, 2)..cell(0, 2) + 33], [0; 33]);
-    assert_eq!(octets[cell(0, 2) + 33..cell(0, 3)], [2, 1, 0, 0, 0, 250]);
-    assert_eq!(octets[cell(0, 3)..result(0, 1)], [0; 6 * 39]);
+    assert_eq!(octets[cell(0, 1) + 20..cell(0, 2)], [0; 23]);
+    assert_eq!(octets[cell(0, 2)..cell(0, 2) + 37], [0; 37]);
+    assert_eq!(octets[cell(0, 2) + 37..cell(0, 3)], [2, 1, 0, 0, 0, 250]);
+    assert_eq!(octets[cell(0, 3)..result(0, 1)], [0; 6 * 43]);
     assert_eq!(octets[result(0, 1)..result(0, 1) + 19], [0; 19]);
     assert_eq!(octets[result(0, 1) + 19], 2);
     let forwarded = [1, 0, 0, 0, 0, 0, 0, 0, 0, 0, 0, 0, 0, 0, 2, 0, 0, 0, 2, 0];
@@ -82,14 +82,17 @@ fn the_octets_of_failures_marks_and_latencies() {
     talker.accumulated_latency = 0x0203_0405;
     join_talker(&mut table, 1, &talker);
     advance(&mut table, 1_234);
+    talker.accumulated_latency = 0x0203_0406;
+    join_talker(&mut table, 1, &talker);
     talker.parameters.vlan = 3;
     join_talker(&mut table, 1, &talker);
     accept(&mut table, 1, &talker_frame(&talker, &[LV]));
     let octets = table.lent();
     assert_eq!(octets[cell(0, 1)..cell(0, 1) + 7], [2, 1, 1, 0, 0, 4, 0xd2]);
     let failure = [0x11, 0x11, 0x22, 0x22, 0x33, 0x33, 0x44, 0x44, 9];
-    assert_eq!(octets[cell(0, 1) + 20..cell(0, 1) + 24], [2, 3, 4, 5]);
+    assert_eq!(octets[cell(0, 1) + 20..cell(0, 1) + 24], [2, 3, 4, 6]);
     assert_eq!(octets[cell(0, 1) + 24..cell(0, 1) + 33], failure);
+    assert_eq!(octets[cell(0, 1) + 33..cell(0, 1) + 37], [2, 3, 4, 5]);
     assert_eq!(octets[result(0, 2)..result(0, 2) + 5], [2, 2, 3, 5, 5]);
     assert_eq!(octets[result(0, 2) + 5..result(0, 2) + 14], failure);
     assert_eq!(octets[result(0, 2) + 14..result(0, 3)], [1, 0, 0, 0, 12, 0]);
@@ -288,7 +291,7 @@ fn rule_12_a_registration_in_each_record() {
 
 #[test]
 fn rule_13_cells_and_results_of_no_port() {
-    for place in [cell(0, 3), cell(2, 8) + 38, result(0, 3), result(2, 8) + 19] {
+    for place in [cell(0, 3), cell(2, 8) + 42, result(0, 3), result(2, 8) + 19] {
         breaks(&three_streams(250), 13, place, 1);
     }
 }
@@ -348,6 +351,11 @@ fn rule_18_fields_without_a_registration() {
     }
     breaks(&table, 18, cell(0, 2) + cell::BRIDGE_ID.start, 1);
     breaks(&table, 18, cell(0, 2) + cell::CODE, 1);
+    breaks(&table, 18, cell(0, 2) + cell::FIRST_LATENCY.start, 1);
+    breaks(&table, 18, cell(0, 2) + cell::FIRST_LATENCY.end - 1, 1);
+    // With a Talker it may be any, larger or smaller than the present one.
+    keeps(&table, cell(0, 1) + cell::FIRST_LATENCY.start, 255);
+    keeps(&table, cell(1, 1) + cell::FIRST_LATENCY.end - 1, 1);
     breaks(&table, 18, cell(0, 1) + cell::LISTENER_LEAVING, 1);
     let mut joined = table.clone();
     join_talker(&mut joined, 1, &talker(STREAM + 3));

@@ -19,4 +19,4 @@ pub write-fixed-spec : {M : Type 1} → statement M
 write-fixed-spec =
     tie.close
     (tie.spec (λ c κs. search needs) (λ c. search needs) (λ c κs. search needs) (λ c κs. search needs) (λ c κs. search needs)
-    (λ c. search needs) mul-put cast-put (λ c κs. search needs) (λ c. search needs) returns)
+    (λ c. search needs) mul-put cast-put (λ c κs. search needs) (λ c κs. search needs) (λ c κs. search needs) (λ c. search needs) returns)

@@ -1,0 +1,121 @@
+-- Own failures: a step that gives an own code decides a column exactly where it applies and none before it does.
+use mathlib.Core.Path.{_≡_, refl, sym, ap, _∙_}
+use mathlib.Core.List.{List, [], _∷_}
+use mathlib.Core.Bool.{Bool, true, false, cond, not, _&&_, true≢false, false≢true}
+use Prim.Native.Nat.{ℕ, _≤_}
+use native.Mathlib.Omega.{arith}
+use lib.Dec.{eqb, ltb}
+use borrow.Author.Tests.{eqb-true, eq-eqb}
+use Rattle.model.specs.State.{Settings, Health, sound, broken, Column, advertise, failed, Cell, Stream, isPort}
+use Rattle.model.specs.Settling.{Source, sourceOf, healthOf, Scene, Outcome, columnNone, asRegistered, ownFailure, Step, first, clear, isBroken, brokenColumn, outcomeColumn, stepsFrom, steps, claim, leftFor, byBandwidth, columnOf}
+use Rattle.model.specs.Table.{columnCode}
+
+-- whether an outcome is the own failure of code n
+unfoldable pub gives : ℕ → Outcome → Bool
+gives n columnNone = false
+gives n asRegistered = false
+gives n (ownFailure code) = eqb code n
+
+-- the steps before the one that gives it, and what that one tests
+unfoldable pub earlier : ℕ → List Step → List Step
+earlier n [] = []
+earlier n (s ∷ l) = cond (gives n (s .outcome)) [] (s ∷ earlier n l)
+
+unfoldable pub asked : ℕ → List Step → Bool
+asked n [] = false
+asked n (s ∷ l) = cond (gives n (s .outcome)) (s .test) (asked n l)
+
+-- no step gives it; not more than one does
+unfoldable pub never : ℕ → List Step → Bool
+never n [] = true
+never n (s ∷ l) = not (gives n (s .outcome)) && never n l
+
+unfoldable pub once : ℕ → List Step → Bool
+once n [] = true
+once n (s ∷ l) = cond (gives n (s .outcome)) (never n l) (once n l)
+
+-- Of any steps, with c behind them.
+module _ (says : Outcome → Column) (n : ℕ) (c : Column) where
+  gives-is : (o : Outcome) → gives n o ≡ true → o ≡ ownFailure n
+  unfolding gives
+  gives-is columnNone e = absurd (false≢true e)
+  gives-is asRegistered e = absurd (false≢true e)
+  gives-is (ownFailure code) e = ap ownFailure (eqb-true code n e)
+
+  decides : (l : List Step) → clear (earlier n l) ≡ true → asked n l ≡ true → first says l c ≡ says (ownFailure n)
+  unfolding first clear earlier asked
+  decides [] free a = absurd (false≢true a)
+  decides (s ∷ l) free a = go (gives n (s .outcome)) (s .test) refl free a (decides l)
+    where
+      go : (g t : Bool) → gives n (s .outcome) ≡ g → clear (cond g [] (record { test = t; outcome = s .outcome } ∷ earlier n l)) ≡ true
+          → cond g t (asked n l) ≡ true → (clear (earlier n l) ≡ true → asked n l ≡ true → first says l c ≡ says (ownFailure n))
+          → cond t (says (s .outcome)) (first says l c) ≡ says (ownFailure n)
+      go true true e f a ih = ap says (gives-is (s .outcome) e)
+      go true false e f a ih = absurd (false≢true a)
+      go false true e f a ih = absurd (false≢true f)
+      go false false e f a ih = ih f a
+
+  -- the other way, where no other outcome has the code, and c has not
+  module _ (coded : (o : Outcome) → columnCode (says o) ≡ n → gives n o ≡ true) (other : columnCode c ≡ n → ⊥) where
+    silent : (l : List Step) → never n l ≡ true → columnCode (first says l c) ≡ n → ⊥
+    unfolding first never
+    silent [] h e = other e
+    silent (s ∷ l) h e = go (gives n (s .outcome)) (s .test) refl h e (silent l)
+      where
+        go : (g t : Bool) → gives n (s .outcome) ≡ g → (not g && never n l) ≡ true → columnCode (cond t (says (s .outcome)) (first says l c)) ≡ n
+            → (never n l ≡ true → columnCode (first says l c) ≡ n → ⊥) → ⊥
+        go true t f h e ih = false≢true h
+        go false true f h e ih = true≢false (sym (coded (s .outcome) e) ∙ f)
+        go false false f h e ih = ih h e
+
+    only : (l : List Step) → once n l ≡ true → columnCode (first says l c) ≡ n → (clear (earlier n l) ≡ true) × (asked n l ≡ true)
+    unfolding first clear earlier asked once
+    only [] h e = absurd (other e)
+    only (s ∷ l) h e = go (gives n (s .outcome)) (s .test) refl h e (only l)
+      where
+        go : (g t : Bool) → gives n (s .outcome) ≡ g → cond g (never n l) (once n l) ≡ true
+            → columnCode (cond t (says (s .outcome)) (first says l c)) ≡ n
+            → (once n l ≡ true → columnCode (first says l c) ≡ n → (clear (earlier n l) ≡ true) × (asked n l ≡ true))
+            → (clear (cond g [] (record { test = t; outcome = s .outcome } ∷ earlier n l)) ≡ true) × (cond g t (asked n l) ≡ true)
+        go true true f h e ih = (refl, refl)
+        go true false f h e ih = absurd (silent l h e)
+        go false true f h e ih = absurd (true≢false (sym (coded (s .outcome) e) ∙ f))
+        go false false f h e ih = ih h e
+
+-- Of a stream on a port. A code above 1: 0 is none, and 1 is that of bandwidth.
+
+-- the steps by the cell here and the Talker's place, if there is one
+abbrev pub stepsOf : Scene → ℕ → Cell → Source → List Step
+stepsOf sc p here o = record { test = not (isPort (sc .settings) p); outcome = columnNone } ∷ stepsFrom sc p here o
+
+sound-code : (st : Settings) (o : Source) (n : ℕ) → 2 ≤ n → isBroken (healthOf o) ≡ false
+    → (w : Outcome) → columnCode (outcomeColumn st o w) ≡ n → gives n w ≡ true
+unfolding outcomeColumn columnCode gives
+sound-code st o n h whole columnNone e = absurd (omega arith)
+sound-code st o n h whole asRegistered e = absurd (go (healthOf o) whole e)
+  where
+    go : (b : Health) → isBroken b ≡ false → columnCode (brokenColumn b) ≡ n → ⊥
+    go sound f e = unfold brokenColumn columnCode in omega arith
+    go (broken b code) f e = true≢false (unfold isBroken in f)
+sound-code st o n h whole (ownFailure code) e = eq-eqb code n e
+
+bandwidth-code : (st : Settings) (n d left : ℕ) → 2 ≤ n → columnCode (byBandwidth st d left) ≡ n → ⊥
+unfolding byBandwidth
+bandwidth-code st n d left h = go (ltb left d)
+  where
+    go : (t : Bool) → columnCode (cond t (failed (st .bridgeId) 1) advertise) ≡ n → ⊥
+    go true e = unfold columnCode in omega arith
+    go false e = unfold columnCode in omega arith
+
+module _ (sc : Scene) (now : ℕ) (s : List Stream) (p : ℕ) (x : Stream) (n : ℕ) where
+  pub own-decided : clear (earlier n (steps sc p x)) ≡ true → asked n (steps sc p x) ≡ true → columnOf sc now s p x ≡ failed (sc .settings .bridgeId) n
+  unfolding columnOf outcomeColumn
+  own-decided = decides (outcomeColumn (sc .settings) (sourceOf x)) n _ (steps sc p x)
+
+  -- and the code of a stream that is not registered as Failed says so
+  pub own-only : 2 ≤ n → once n (steps sc p x) ≡ true → isBroken (healthOf (sourceOf x)) ≡ false → columnCode (columnOf sc now s p x) ≡ n
+      → (clear (earlier n (steps sc p x)) ≡ true) × (asked n (steps sc p x) ≡ true)
+  unfolding columnOf
+  own-only h one whole =
+      only (outcomeColumn (sc .settings) (sourceOf x)) n _ (sound-code (sc .settings) (sourceOf x) n h whole)
+      (bandwidth-code (sc .settings) n (claim (sc .settings) now p x .demand) (leftFor sc now s p x) h) (steps sc p x) one
