@@ -2,7 +2,7 @@
 -- its field.
 use mathlib.Core.Path.{_≡_, refl, subst}
 use mathlib.Core.List.{List, [], _∷_}
-use mathlib.Core.Bool.{Bool, true, false, cond, _||_, true≢false}
+use mathlib.Core.Bool.{Bool, true, false, cond, _&&_, _||_, true≢false}
 use Prim.Native.Nat.{ℕ, zero, suc, _+_, _*_, _-_, _/_, _%_, _^_, _≤_, _<_}
 use native.Mathlib.Omega.{arith}
 use lib.ListN.{length, getD}
@@ -17,7 +17,7 @@ use Rattle.model.specs.FrameLayout.{longestPdu}
 use Rattle.model.specs.Lists.{All, Octets}
 use Rattle.model.specs.State.{Settings}
 use Rattle.model.specs.Registrations.{Kind, advertises, faileds, listeners, Act, leaveAll, leave, talk, listen, ofDomain, DomainAct, leaveAllDomains, leaveDomain, joinDomain, Reading, refused, acts}
-use Rattle.model.specs.Frames.{Attribute, registers, domain, firstWidths, firstLength, threeLength, hasFour, fourLength, Vector, vectorAt, vectorEnd, overpacked, runsPast, overflows, InList, badVector, listEnd, vectorHead, vectorIn, checkedIn, typedIn, InPdu, badMessage, pduEnd, listSkipped, listOf, listLength, listAt, messageEnd, Walk, fault, found, also, both, vectorsFrom, vectors, messagesFrom, messages, walk, Asking, nothingAsked, join, withdraw, priorityOf, rankOf, fixedValue, healthValue, idValue, hearing, talkerAct, listenerAct, hasSlot, slotOf, slotAct, domainAct, valueActs, valuesActs, leaveAllActs, vectorActs, frameActs, walked, wrongPort, reading}
+use Rattle.model.specs.Frames.{Attribute, registers, domain, firstWidths, firstLength, threeLength, hasFour, fourLength, Vector, vectorAt, vectorEnd, overpacked, runsPast, overflows, InList, badVector, listEnd, vectorHead, passedOver, strangeLeave, strangeVector, vectorIn, checkedIn, typedIn, InPdu, badMessage, pduEnd, listSkipped, listOf, listLength, listAt, messageEnd, Walk, fault, found, also, both, vectorsFrom, vectors, messagesFrom, messages, walk, Asking, nothingAsked, join, withdraw, priorityOf, rankOf, fixedValue, healthValue, idValue, hearing, talkerAct, listenerAct, hasSlot, slotOf, slotAct, domainAct, valueActs, valuesActs, leaveAllActs, vectorActs, frameActs, walked, wrongPort, reading}
 use Rattle.model.proofs.Lists.{all-append, and-left, and-right}
 use Rattle.model.proofs.Parts.{octets-at, octets-part}
 use Rattle.octets.proofs.Fields.{beAt-fits}
@@ -56,32 +56,33 @@ module _ (P : Vector → Type 0) where
   passing false n w a = a
 
   -- P of each vector that stands in an AttributeList
-  module _ (k : Attribute) (l : List ℕ) (each : (at h : ℕ) → typedIn k l at ≡ vectorHead h → P (vectorAt k l at h)) where
-    every-from : (at : ℕ) (r : InList) → typedIn k l at ≡ r → (rest : ℕ → Walk) → ((e : ℕ) → Every (rest e)) → Every (vectorsFrom k l at r rest)
+  module _ (version : ℕ) (k : Attribute) (l : List ℕ) (each : (at h : ℕ) → typedIn version k l at ≡ vectorHead h → P (vectorAt k l at h)) where
+    every-from : (at : ℕ) (r : InList) → typedIn version k l at ≡ r → (rest : ℕ → Walk) → ((e : ℕ) → Every (rest e)) → Every (vectorsFrom k l at r rest)
     unfolding Every vectorsFrom
     every-from at (badVector n) e rest a = tt
     every-from at listEnd e rest a = tt
     every-from at (vectorHead h) e rest a = every-also (vectorAt k l at h) _ (each at h e) (a _)
+    every-from at (passedOver h) e rest a = a _
 
-    every-vectors : (f at : ℕ) → Every (vectors f k l at)
+    every-vectors : (f at : ℕ) → Every (vectors f version k l at)
     unfolding vectors
     every-vectors zero at = unfold Every in tt
-    every-vectors (suc f) at = every-from at _ refl (vectors f k l) (every-vectors f)
+    every-vectors (suc f) at = every-from at _ refl (vectors f version k l) (every-vectors f)
 
   -- and in each list of a PDU
   module _ (s : List ℕ)
-      (each : (k : Attribute) (place at h : ℕ) → typedIn k (listAt s place) at ≡ vectorHead h → P (vectorAt k (listAt s place) at h)) where
-    every-message : (at : ℕ) (r : InPdu) (rest : Walk) → Every rest → Every (messagesFrom s at r rest)
+      (each : (version : ℕ) (k : Attribute) (place at h : ℕ) → typedIn version k (listAt s place) at ≡ vectorHead h → P (vectorAt k (listAt s place) at h)) where
+    every-message : (version at : ℕ) (r : InPdu) (rest : Walk) → Every rest → Every (messagesFrom version s at r rest)
     unfolding Every messagesFrom
-    every-message at (badMessage n) rest a = tt
-    every-message at pduEnd rest a = tt
-    every-message at listSkipped rest a = a
-    every-message at (listOf k) rest a = every-both _ rest (every-vectors k (listAt s at) (each k at) (suc (listLength s at)) 0) a
+    every-message version at (badMessage n) rest a = tt
+    every-message version at pduEnd rest a = tt
+    every-message version at listSkipped rest a = a
+    every-message version at (listOf k) rest a = every-both _ rest (every-vectors version k (listAt s at) (each version k at) (suc (listLength s at)) 0) a
 
     every-messages : (f version at : ℕ) → Every (messages f version s at)
     unfolding messages
     every-messages zero version at = unfold Every in tt
-    every-messages (suc f) version at = every-message at _ _ (every-messages f version (messageEnd s at))
+    every-messages (suc f) version at = every-message version at _ _ (every-messages f version (messageEnd s at))
 
     every-walk : (vs : List Vector) → walk s ≡ found vs → All P vs
     unfolding walk
@@ -96,51 +97,77 @@ pub passed : {A : Type 0} (t : Bool) (x y z : A) → (x ≡ z → ⊥) → cond 
 passed true x y z p e = absurd (p e)
 passed false x y z p e = (refl, e)
 
+pub or-left : (a b : Bool) → (a || b) ≡ false → a ≡ false
+or-left true b e = e
+or-left false b e = refl
+
+pub or-right : (a b : Bool) → (a || b) ≡ false → b ≡ false
+or-right true b e = absurd (true≢false e)
+or-right false b e = e
+
 bad-vector : (n h : ℕ) → badVector n ≡ vectorHead h → ⊥
 bad-vector n h e = let z : _≡_ {A = ℕ} 0 1 = cc in omega arith
 
 no-end : (h : ℕ) → listEnd ≡ vectorHead h → ⊥
 no-end h e = let z : _≡_ {A = ℕ} 0 1 = cc in omega arith
 
+-- a vector that is passed over is not read
+no-strange : (version m h : ℕ) → strangeVector version m ≡ vectorHead h → ⊥
+unfolding strangeVector
+no-strange version m h = go (eqb version 0)
+  where
+    go : (t : Bool) → cond t (badVector 6) (passedOver m) ≡ vectorHead h → ⊥
+    go true e = bad-vector 6 h e
+    go false e = let z : _≡_ {A = ℕ} 0 1 = cc in omega arith
+
 -- of a vector of any MRP application
 pub record Fitting (first : ℕ) (four : Bool) (l : List ℕ) (at h : ℕ) : Type 0 where
   pub header : at + 2 ≤ length l
   pub is : beAt 2 l at ≡ h
   pub fits : vectorEnd first four at h ≤ length l
+  pub leave : strangeLeave h ≡ false
   pub packed : overpacked (part (at + 2 + first) (threeLength (h % 8192)) l) ≡ false
 
-pub fitting : (first : ℕ) (four : Bool) (l : List ℕ) (at h : ℕ) → vectorIn first four l at ≡ vectorHead h → Fitting first four l at h
+pub fitting : (version first : ℕ) (four : Bool) (l : List ℕ) (at h : ℕ) → vectorIn version first four l at ≡ vectorHead h → Fitting first four l at h
 unfolding vectorIn
-fitting first four l at h e =
+fitting version first four l at h e =
     let n = beAt 2 l at in
     let a = passed (ltb (length l) (at + 2)) _ _ _ (bad-vector 3 h) e in
     let b = passed (eqb n 0) _ _ _ (no-end h) (a .1) in
-    let c = passed (ltb 1 (n / 8192)) _ _ _ (bad-vector 6 h) (b .1) in
+    let c = passed (eqb version 0 && strangeLeave n) _ _ _ (bad-vector 6 h) (b .1) in
     let d = passed (ltb (length l) (vectorEnd first four at n)) _ _ _ (bad-vector 3 h) (c .1) in
-    let f = passed (overpacked (part (at + 2 + first) (threeLength (n % 8192)) l)) _ _ _ (bad-vector 6 h) (d .1) in
+    let x = overpacked (part (at + 2 + first) (threeLength (n % 8192)) l) in
+    let f = passed (strangeLeave n || x) _ _ _ (no-strange version n h) (d .1) in
     let i : n ≡ h = cc in
     let p : vectorEnd first four at n ≤ length l = ltb-false _ _ (d .0) in
-    record { header = ltb-false _ _ (a .0); is = i; fits = rw i at p; packed = rw i at (f .0) }
+    record {
+      header = ltb-false _ _ (a .0);
+      is = i;
+      fits = rw i at p;
+      leave = rw i at (or-left (strangeLeave n) x (f .0));
+      packed = rw i at (or-right (strangeLeave n) x (f .0));
+    }
 
 -- and of a type
-module _ (k : Attribute) (l : List ℕ) (at h : ℕ) where
+module _ (version : ℕ) (k : Attribute) (l : List ℕ) (at h : ℕ) where
   pub record Passed : Type 0 where
-    pub there : vectorIn (firstLength k) (hasFour k) l at ≡ vectorHead h
+    pub there : vectorIn version (firstLength k) (hasFour k) l at ≡ vectorHead h
     pub fitting : Fitting (firstLength k) (hasFour k) l at h
     pub within : overflows (vectorAt k l at h) ≡ false
 
-  pub passed-all : typedIn k l at ≡ vectorHead h → Passed
+  pub passed-all : typedIn version k l at ≡ vectorHead h → Passed
   unfolding typedIn checkedIn
-  passed-all = go (vectorIn (firstLength k) (hasFour k) l at) refl
+  passed-all = go (vectorIn version (firstLength k) (hasFour k) l at) refl
     where
-      go : (r : InList) → vectorIn (firstLength k) (hasFour k) l at ≡ r → checkedIn k l at r ≡ vectorHead h → Passed
+      go : (r : InList) → vectorIn version (firstLength k) (hasFour k) l at ≡ r → checkedIn k l at r ≡ vectorHead h → Passed
       go (badVector n) i e = absurd (bad-vector n h e)
       go listEnd i e = let a = passed (eqb (at + 2) (length l)) _ _ _ (no-end h) e in absurd (bad-vector 3 h (a .1))
       go (vectorHead m) i e =
           let a = passed (overflows (vectorAt k l at m)) _ _ _ (bad-vector 7 h) e in
           let q : m ≡ h = cc in
-          let there : vectorIn (firstLength k) (hasFour k) l at ≡ vectorHead h = rw q at i in
-          record { there = there; fitting = fitting (firstLength k) (hasFour k) l at h there; within = rw q at (a .0) }
+          let there : vectorIn version (firstLength k) (hasFour k) l at ≡ vectorHead h = rw q at i in
+          record { there = there; fitting = fitting version (firstLength k) (hasFour k) l at h there; within = rw q at (a .0) }
+      go (passedOver m) i e = let z : _≡_ {A = ℕ} 0 1 = cc in absurd (omega arith)
 
 -- The facts of a vector found.
 
@@ -158,10 +185,10 @@ pub record InOctets (v : Vector) : Type 0 where
   pub three : Octets (v .three)
   pub four : Octets (v .four)
 
-pub sound-at : (k : Attribute) (l : List ℕ) (at h : ℕ) → typedIn k l at ≡ vectorHead h → Sound (vectorAt k l at h)
+pub sound-at : (version : ℕ) (k : Attribute) (l : List ℕ) (at h : ℕ) → typedIn version k l at ≡ vectorHead h → Sound (vectorAt k l at h)
 unfolding vectorAt vectorEnd
-sound-at k l at h e =
-    let p = passed-all k l at h e in
+sound-at version k l at h e =
+    let p = passed-all version k l at h e in
     let f = p .fitting .fits in
     record {
       values = omega arith;
@@ -173,10 +200,10 @@ sound-at k l at h e =
     }
 
 pub walk-sound : (s : List ℕ) (vs : List Vector) → walk s ≡ found vs → All Sound vs
-walk-sound s vs e = every-walk Sound s (λ k place at h. sound-at k (listAt s place) at h) vs e
+walk-sound s vs e = every-walk Sound s (λ version k place at h. sound-at version k (listAt s place) at h) vs e
 
 pub walk-octets : (s : List ℕ) (vs : List Vector) → Octets s → walk s ≡ found vs → All InOctets vs
-walk-octets s vs o e = every-walk InOctets s (λ k place at h _. vector-octets k at h (listAt s place) (unfold listAt in (octets-part _ _ s o))) vs e
+walk-octets s vs o e = every-walk InOctets s (λ version k place at h _. vector-octets k at h (listAt s place) (unfold listAt in (octets-part _ _ s o))) vs e
   where
     vector-octets : (k : Attribute) (at h : ℕ) (l : List ℕ) → Octets l → InOctets (vectorAt k l at h)
     vector-octets k at h l o = unfold vectorAt in record { first = octets-part _ _ l o; three = octets-part _ _ l o; four = octets-part _ _ l o }
@@ -195,14 +222,6 @@ Fits (leave k i) = i < 2 ^ 64
 Fits (talk i f v) = (i < 2 ^ 64) × ValidFixed f × ValidVarying v
 Fits (listen i r) = i < 2 ^ 64
 Fits (ofDomain a) = FitsDomain a
-
-pub or-left : (a b : Bool) → (a || b) ≡ false → a ≡ false
-or-left true b e = e
-or-left false b e = refl
-
-pub or-right : (a b : Bool) → (a || b) ≡ false → b ≡ false
-or-right true b e = absurd (true≢false e)
-or-right false b e = e
 
 -- the last value of a vector runs past no field
 pub last-within : (v : Vector) → overflows v ≡ false → 1 ≤ v .values → runsPast (v .attribute) (v .first) (v .values - 1) ≡ false

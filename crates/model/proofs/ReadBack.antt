@@ -18,7 +18,7 @@ use Rattle.model.specs.FrameLayout.{longestPdu}
 use Rattle.model.specs.Lists.{All, keep, bit}
 use Rattle.model.specs.State.{Port, Settings, Fixed, Health, sound, broken, Ready, askingFailed, ready, readyFailed, Column, none, advertise, failed, Entry, noEntry, filters, forwards, Declared, nothing, tells, Result, Stream, Bridge, portAt, resultAt, classPriority, classId, unsettled}
 use Rattle.model.specs.Registrations.{Kind, advertises, faileds, listeners, talk, listen, ofDomain, joinDomain, acts}
-use Rattle.model.specs.Frames.{Attribute, registers, domain, known, typeOctet, typeNumber, firstWidths, firstLength, threeLength, hasFour, fourLength, Vector, vectorAt, vectorEnd, overpacked, runsPast, overflows, vectorIn, checkedIn, typedIn, listLength, listAt, messageEnd, endMark, headerIn, messageIn, found, also, both, vectorsFrom, vectors, messagesFrom, messages, walk, joinMt, event, threePacked, fourPacked, eventOf, fourOf, asking, join, priorityOf, rankOf, fixedValue, healthValue, idValue, hearing, talkerAct, listenerAct, hasSlot, slotOf, slotAct, domainAct, valueActs, valuesActs, leaveAllActs, vectorActs, frameActs, walked, wrongPort, reading}
+use Rattle.model.specs.Frames.{Attribute, registers, domain, known, typeOctet, typeNumber, firstWidths, firstLength, threeLength, hasFour, fourLength, Vector, vectorAt, vectorEnd, overpacked, runsPast, overflows, strangeLeave, vectorIn, checkedIn, typedIn, listLength, listAt, messageEnd, endMark, headerIn, messageIn, found, also, both, vectorsFrom, vectors, messagesFrom, messages, walk, joinMt, event, threePacked, fourPacked, eventOf, fourOf, asking, join, priorityOf, rankOf, fixedValue, healthValue, idValue, hearing, talkerAct, listenerAct, hasSlot, slotOf, slotAct, domainAct, valueActs, valuesActs, leaveAllActs, vectorActs, frameActs, walked, wrongPort, reading}
 use Rattle.model.specs.Declarations.{Declaration, talkerDeclaration, listenerDeclaration, domainDeclaration, healthKind, attributeOf, joinOf, advertised, failing, listening, declarationsOf, ofKind, domainOf, domainValues, declarations, vectorSize, sameAttribute, takes, write}
 use Rattle.model.specs.WrittenFrames.{priorityOctet, fixedNumbers, failureNumbers, firstNumbers, readyNumber, fourOctets, declarationVector, vectorOctets, messageOf, messageOctets, having, pduOctets}
 use Rattle.model.proofs.Lists.{all-map, all-append, all-take, all-drop, all-getD, and-left, and-right}
@@ -87,8 +87,8 @@ no-overflow d =
 vectors-more : (f : ℕ) (k : Attribute) (l : List ℕ) (at : ℕ) (v : Vector)
     → beAt 2 l at ≡ 1 → at + 2 ≤ length l → vectorEnd (firstLength k) (hasFour k) at 1 ≤ length l → vectorAt k l at 1 ≡ v
     → overpacked (v .three) ≡ false → overflows v ≡ false
-    → vectors (suc f) k l at ≡ also v (vectors f k l (vectorEnd (firstLength k) (hasFour k) at 1))
-unfolding vectors typedIn vectorIn checkedIn vectorsFrom
+    → vectors (suc f) 0 k l at ≡ also v (vectors f 0 k l (vectorEnd (firstLength k) (hasFour k) at 1))
+unfolding vectors typedIn vectorIn strangeLeave checkedIn vectorsFrom
 vectors-more f k l at v one header fits is three values =
     let events : overpacked (part (at + 2 + firstLength k) (threeLength 1) l) ≡ false = unfold vectorAt in (rw (← is) at three) in
     rw (one, le-ltb (length l) (at + 2) header, le-ltb (length l) (vectorEnd (firstLength k) (hasFour k) at 1) fits, events, is, values, is)
@@ -148,8 +148,8 @@ module _ (d : Declaration) (pre rest : List ℕ) where
   unfolding here
   length-here = simp (length-append, length-vector d)
 
-  read-vector : (f : ℕ) → vectors (suc f) (attributeOf d) here (length pre)
-      ≡ also (declarationVector d) (vectors f (attributeOf d) here (length pre + vectorSize (attributeOf d)))
+  read-vector : (f : ℕ) → vectors (suc f) 0 (attributeOf d) here (length pre)
+      ≡ also (declarationVector d) (vectors f 0 (attributeOf d) here (length pre + vectorSize (attributeOf d)))
   read-vector f =
       vectors-more f (attributeOf d) here (length pre) (declarationVector d) header-here
       (omega (arith, length-here, length-vector d, ap length (vector-octets d)))
@@ -157,17 +157,17 @@ module _ (d : Declaration) (pre rest : List ℕ) where
       vector-here
       (unfold declarationVector overpacked in refl)
       (no-overflow d)
-      ∙ ap (λ (e : ℕ). also (declarationVector d) (vectors f (attributeOf d) here e)) end-here
+      ∙ ap (λ (e : ℕ). also (declarationVector d) (vectors f 0 (attributeOf d) here e)) end-here
 
 -- An AttributeList.
 
 -- behind any prefix, and with fuel for its octets, the list is read as these vectors
 VectorsRead : Attribute → List ℕ → List Vector → Type 0
-VectorsRead k s vs = (f : ℕ) (pre : List ℕ) → length s ≤ f → vectors f k (pre ++ s) (length pre) ≡ found vs
+VectorsRead k s vs = (f : ℕ) (pre : List ℕ) → length s ≤ f → vectors f 0 k (pre ++ s) (length pre) ≡ found vs
 
 -- the EndMark, as the list's last two octets
 vectors-end : (k : Attribute) → VectorsRead k (0 ∷ 0 ∷ []) []
-unfolding VectorsRead vectors typedIn vectorIn checkedIn vectorsFrom
+unfolding VectorsRead vectors typedIn vectorIn strangeLeave checkedIn vectorsFrom
 vectors-end k zero pre h = absurd (omega arith)
 vectors-end k (suc f) pre h =
     let l : length (pre ++ (0 ∷ 0 ∷ [])) ≡ length pre + 2 = length-append pre (0 ∷ 0 ∷ []) in
@@ -183,7 +183,7 @@ vectors-cons d rest vs r f pre h = go f (omega (arith, length-append v rest, ap 
     v : List ℕ
     v = vectorOctets (declarationVector d)
 
-    go : (f : ℕ) → suc (length rest) ≤ f → vectors f (attributeOf d) (pre ++ (v ++ rest)) (length pre) ≡ found (declarationVector d ∷ vs)
+    go : (f : ℕ) → suc (length rest) ≤ f → vectors f 0 (attributeOf d) (pre ++ (v ++ rest)) (length pre) ≡ found (declarationVector d ∷ vs)
     go zero h = absurd (omega arith)
     go (suc f) h =
         let e : length pre + vectorSize (attributeOf d) ≡ length (pre ++ v) = simp (length-append, length-vector d) in
@@ -226,7 +226,7 @@ some-type domain = omega arith
 -- a Message without fault is read, and the walk goes on behind it
 messages-more : (f : ℕ) (k : Attribute) (s : List ℕ) (at n : ℕ) (list : List ℕ) (vs : List Vector)
     → at + 4 + n ≤ length s → (beAt 2 s at ≡ 0 → ⊥) → typeOctet 0 (getD s at 0) ≡ known k → getD s (at + 1) 0 ≡ firstLength k
-    → beAt 2 s (at + 2) ≡ n → part (at + 4) n s ≡ list → vectors (suc n) k list 0 ≡ found vs
+    → beAt 2 s (at + 2) ≡ n → part (at + 4) n s ≡ list → vectors (suc n) 0 k list 0 ≡ found vs
     → messages (suc f) 0 s at ≡ both (found vs) (messages f 0 s (at + 4 + n))
 unfolding messages messageIn messagesFrom headerIn endMark listLength listAt messageEnd
 messages-more f k s at n list vs fits marked type first long is read =
@@ -296,7 +296,7 @@ module _ (k : Attribute) (list pre rest : List ℕ) (short : length list < 65536
       rw (message-here, cut)
       (part-behind (pre ++ (lead ++ be 2 (length list))) list rest (length pre + 4) (length list) (simp (length-append, length-be)) refl)
 
-  read-message : (f : ℕ) (vs : List Vector) → vectors (suc (length list)) k list 0 ≡ found vs
+  read-message : (f : ℕ) (vs : List Vector) → vectors (suc (length list)) 0 k list 0 ≡ found vs
       → messages (suc f) 0 pdu (length pre) ≡ both (found vs) (messages f 0 pdu (length pre + 4 + length list))
   read-message f vs read =
       messages-more f k pdu (length pre) (length list) list vs
@@ -308,7 +308,7 @@ length-messageOf k list = simp (length-append, length-be) (omega arith)
 
 -- one Message more, in front
 messages-cons : (k : Attribute) (list rest : List ℕ) (vs ws : List Vector) → length list < 65536
-    → vectors (suc (length list)) k list 0 ≡ found vs → MessagesRead rest ws → MessagesRead (messageOf k list ++ rest) (vs ++ ws)
+    → vectors (suc (length list)) 0 k list 0 ≡ found vs → MessagesRead rest ws → MessagesRead (messageOf k list ++ rest) (vs ++ ws)
 unfolding MessagesRead pdu both
 messages-cons k list rest vs ws short read r f pre h = go f (omega (arith, length-append m rest, length-messageOf k list))
   where
