@@ -1,6 +1,6 @@
 -- What holds of every vector that the walk over a PDU finds, and of the acts that such vectors ask for: each value is within
 -- its field.
-use mathlib.Core.Path.{_≡_, refl, subst}
+use mathlib.Core.Path.{_≡_, refl, subst, _∙_}
 use mathlib.Core.List.{List, [], _∷_}
 use mathlib.Core.Bool.{Bool, true, false, cond, _&&_, _||_, true≢false}
 use Prim.Native.Nat.{ℕ, zero, suc, _+_, _*_, _-_, _/_, _%_, _^_, _≤_, _<_}
@@ -111,7 +111,26 @@ bad-vector n h e = let z : _≡_ {A = ℕ} 0 1 = cc in omega arith
 no-end : (h : ℕ) → listEnd ≡ vectorHead h → ⊥
 no-end h e = let z : _≡_ {A = ℕ} 0 1 = cc in omega arith
 
--- a vector that is passed over is not read
+-- a vector of any MRP application, read or passed over: what stands there is neither a fault nor the EndMark
+module _ (version first : ℕ) (four : Bool) (l : List ℕ) (at : ℕ) (r : InList) (bad : (n : ℕ) → badVector n ≡ r → ⊥) (end : listEnd ≡ r → ⊥) where
+  record LaidOut : Type 0 where
+    header : at + 2 ≤ length l
+    fits : vectorEnd first four at (beAt 2 l at) ≤ length l
+    known : (eqb version 0 && strangeLeave (beAt 2 l at)) ≡ false
+    is : cond (strangeLeave (beAt 2 l at) || overpacked (part (at + 2 + first) (threeLength (beAt 2 l at % 8192)) l))
+        (strangeVector version (beAt 2 l at)) (vectorHead (beAt 2 l at)) ≡ r
+
+  laid-out : vectorIn version first four l at ≡ r → LaidOut
+  unfolding vectorIn
+  laid-out e =
+      let h = beAt 2 l at in
+      let a = passed (ltb (length l) (at + 2)) _ _ _ (bad 3) e in
+      let b = passed (eqb h 0) _ _ _ end (a .1) in
+      let c = passed (eqb version 0 && strangeLeave h) _ _ _ (bad 6) (b .1) in
+      let d = passed (ltb (length l) (vectorEnd first four at h)) _ _ _ (bad 3) (c .1) in
+      record { header = ltb-false _ _ (a .0); fits = ltb-false _ _ (d .0); known = c .0; is = d .1 }
+
+-- one that is passed over is not read
 no-strange : (version m h : ℕ) → strangeVector version m ≡ vectorHead h → ⊥
 unfolding strangeVector
 no-strange version m h = go (eqb version 0)
@@ -120,7 +139,7 @@ no-strange version m h = go (eqb version 0)
     go true e = bad-vector 6 h e
     go false e = let z : _≡_ {A = ℕ} 0 1 = cc in omega arith
 
--- of a vector of any MRP application
+-- read
 pub record Fitting (first : ℕ) (four : Bool) (l : List ℕ) (at h : ℕ) : Type 0 where
   pub header : at + 2 ≤ length l
   pub is : beAt 2 l at ≡ h
@@ -129,24 +148,51 @@ pub record Fitting (first : ℕ) (four : Bool) (l : List ℕ) (at h : ℕ) : Typ
   pub packed : overpacked (part (at + 2 + first) (threeLength (h % 8192)) l) ≡ false
 
 pub fitting : (version first : ℕ) (four : Bool) (l : List ℕ) (at h : ℕ) → vectorIn version first four l at ≡ vectorHead h → Fitting first four l at h
-unfolding vectorIn
 fitting version first four l at h e =
     let n = beAt 2 l at in
-    let a = passed (ltb (length l) (at + 2)) _ _ _ (bad-vector 3 h) e in
-    let b = passed (eqb n 0) _ _ _ (no-end h) (a .1) in
-    let c = passed (eqb version 0 && strangeLeave n) _ _ _ (bad-vector 6 h) (b .1) in
-    let d = passed (ltb (length l) (vectorEnd first four at n)) _ _ _ (bad-vector 3 h) (c .1) in
     let x = overpacked (part (at + 2 + first) (threeLength (n % 8192)) l) in
-    let f = passed (strangeLeave n || x) _ _ _ (no-strange version n h) (d .1) in
+    let a = laid-out version first four l at (vectorHead h) (λ m. bad-vector m h) (no-end h) e in
+    let f = passed (strangeLeave n || x) _ _ _ (no-strange version n h) (a .is) in
     let i : n ≡ h = cc in
-    let p : vectorEnd first four at n ≤ length l = ltb-false _ _ (d .0) in
     record {
-      header = ltb-false _ _ (a .0);
+      header = a .header;
       is = i;
-      fits = rw i at p;
+      fits = rw i at (a .fits);
       leave = rw i at (or-left (strangeLeave n) x (f .0));
       packed = rw i at (or-right (strangeLeave n) x (f .0));
     }
+
+-- passed over, which is for versions above 0
+pub record PassedOver (version first : ℕ) (four : Bool) (l : List ℕ) (at h : ℕ) : Type 0 where
+  pub newer : eqb version 0 ≡ false
+  pub header : at + 2 ≤ length l
+  pub is : beAt 2 l at ≡ h
+  pub fits : vectorEnd first four at h ≤ length l
+  pub strange : (strangeLeave h || overpacked (part (at + 2 + first) (threeLength (h % 8192)) l)) ≡ true
+
+bad-over : (n h : ℕ) → badVector n ≡ passedOver h → ⊥
+bad-over n h e = let z : _≡_ {A = ℕ} 0 1 = cc in omega arith
+
+pub passing-over : (version first : ℕ) (four : Bool) (l : List ℕ) (at h : ℕ) → vectorIn version first four l at ≡ passedOver h
+    → PassedOver version first four l at h
+passing-over version first four l at h e = go (eqb version 0) refl (strangeLeave n || x) refl (unfold strangeVector in (a .is))
+  where
+    n : ℕ
+    n = beAt 2 l at
+
+    x : Bool
+    x = overpacked (part (at + 2 + first) (threeLength (n % 8192)) l)
+
+    a : LaidOut version first four l at (passedOver h) (λ m. bad-over m h) (λ i. let z : _≡_ {A = ℕ} 0 1 = cc in omega arith)
+    a = laid-out version first four l at (passedOver h) (λ m. bad-over m h) (λ i. let z : _≡_ {A = ℕ} 0 1 = cc in omega arith) e
+
+    go : (v : Bool) → eqb version 0 ≡ v → (t : Bool) → (strangeLeave n || x) ≡ t
+        → cond t (cond v (badVector 6) (passedOver n)) (vectorHead n) ≡ passedOver h → PassedOver version first four l at h
+    go v p false q i = let z : _≡_ {A = ℕ} 0 1 = cc in absurd (omega arith)
+    go true p true q i = absurd (bad-over 6 h i)
+    go false p true q i =
+        let j : n ≡ h = cc in
+        record { newer = p; header = a .header; is = j; fits = rw j at (a .fits); strange = rw j at q }
 
 -- and of a type
 module _ (version : ℕ) (k : Attribute) (l : List ℕ) (at h : ℕ) where
@@ -168,6 +214,23 @@ module _ (version : ℕ) (k : Attribute) (l : List ℕ) (at h : ℕ) where
           let there : vectorIn version (firstLength k) (hasFour k) l at ≡ vectorHead h = rw q at i in
           record { there = there; fitting = fitting version (firstLength k) (hasFour k) l at h there; within = rw q at (a .0) }
       go (passedOver m) i e = let z : _≡_ {A = ℕ} 0 1 = cc in absurd (omega arith)
+
+  -- one that is passed over is so of every type: its values are not looked at
+  pub over-typed : typedIn version k l at ≡ passedOver h → vectorIn version (firstLength k) (hasFour k) l at ≡ passedOver h
+  unfolding typedIn checkedIn
+  over-typed = go (vectorIn version (firstLength k) (hasFour k) l at) refl
+    where
+      go : (r : InList) → vectorIn version (firstLength k) (hasFour k) l at ≡ r → checkedIn k l at r ≡ passedOver h
+          → vectorIn version (firstLength k) (hasFour k) l at ≡ passedOver h
+      go (badVector n) i e = i ∙ e
+      go listEnd i e =
+          let a = passed (eqb (at + 2) (length l)) listEnd _ _ (λ j. let z : _≡_ {A = ℕ} 0 1 = cc in omega arith) e in
+          absurd (bad-over 3 h (a .1))
+      go (vectorHead m) i e =
+          let a = passed (overflows (vectorAt k l at m)) _ _ _ (bad-over 7 h) e in
+          let z : _≡_ {A = ℕ} 0 1 = cc in
+          absurd (omega arith)
+      go (passedOver m) i e = i ∙ e
 
 -- The facts of a vector found.
 
