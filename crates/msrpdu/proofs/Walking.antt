@@ -1,6 +1,6 @@
 -- The reader's steps are those of the walk: what `vectors` and `messages` give from a place on, by what is read there; and where
 -- a Message that is read ends. Assumes nothing.
-use mathlib.Core.Path.{_≡_, refl, ap, subst}
+use mathlib.Core.Path.{_≡_, refl, sym, ap, subst, _∙_}
 use mathlib.Core.List.{List, []}
 use mathlib.Core.Bool.{Bool, true, false, cond, not}
 use Prim.Native.Nat.{ℕ, zero, suc, _+_, _-_, _≤_, _<_}
@@ -283,3 +283,23 @@ pub record ListLeft (s : List ℕ) (version at kind start end reached : ℕ) : T
   pub enough : end - start ≤ reached + turns
   pub enough-later : length s ≤ end + later
   pub answer : numberOf (both (vectorsIn version (typeOctet 0 kind) (suc turns) (take (end - start) (drop start s)) reached) (messages (suc later) version s end)) ≡ numberOf (walk s)
+
+-- .. and from a later place of the list on, where the vectors from there on give the same number
+pub list-on : (s : List ℕ) (version at kind start end reached next : ℕ) → ListLeft s version at kind start end reached → reached < next → next ≤ end - start
+    → let t = typeOctet 0 kind in
+    let l = take (end - start) (drop start s) in
+    ((f g : ℕ) (w : Walk) → f ≡ suc g → numberOf (both (vectorsIn version t (suc f) l reached) w) ≡ numberOf (both (vectorsIn version t (suc g) l next) w))
+    → ListLeft s version at kind start end next
+list-on s version at kind start end reached next i up inside same =
+    let e : i .turns ≡ suc (i .turns - 1) = omega arith in
+    record {
+      list = i .list;
+      within = i .within;
+      ahead = i .ahead;
+      inside = inside;
+      turns = i .turns - 1;
+      later = i .later;
+      enough = omega arith;
+      enough-later = i .enough-later;
+      answer = sym (same (i .turns) (i .turns - 1) _ e) ∙ i .answer;
+    }

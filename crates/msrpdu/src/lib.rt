@@ -180,7 +180,7 @@ fn vector(list: &[u8], at: usize, version: u8, first: usize, four: bool) -> Vect
         return VectorRead::EndMark;
     }
     let strange = 1 < h / 8192;
-    if strange & (version == 0) {
+    if (version == 0) & strange {
         return VectorRead::Refused(refusal::EVENT);
     }
     if n - 2 - at < first {
