@@ -20,6 +20,7 @@ pub mod OneSolution
 pub mod ReceiveKeepsForm
 pub mod AdvanceKeepsForm
 pub mod ReadBack
+pub mod Versions
 pub mod WritingPasses
 pub mod Refusals
 pub mod Edge
