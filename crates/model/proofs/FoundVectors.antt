@@ -1,13 +1,13 @@
 -- What holds of every vector that the walk over a PDU finds, and of the acts that such vectors ask for: each value is within
 -- its field.
 use mathlib.Core.Path.{_≡_, refl, subst, _∙_}
-use mathlib.Core.List.{List, [], _∷_}
+use mathlib.Core.List.{List, [], _∷_, _++_}
 use mathlib.Core.Bool.{Bool, true, false, cond, _&&_, _||_, true≢false}
 use Prim.Native.Nat.{ℕ, zero, suc, _+_, _*_, _-_, _/_, _%_, _^_, _≤_, _<_}
 use native.Mathlib.Omega.{arith}
 use lib.ListN.{length, getD}
 use lib.Dec.{ltb, leb, eqb}
-use borrow.Author.Tests.{ltb-false, leb-true, ne-eqb}
+use borrow.Author.Tests.{ltb-false, eqb-false, leb-true, ne-eqb}
 use Rattle.octets.specs.Be.{beAt}
 use Rattle.octets.specs.Parts.{part}
 use Rattle.octets.specs.Fields.{fields}
@@ -90,6 +90,23 @@ module _ (P : Vector → Type 0) where
         every-found (walk s) vs e
         (passing (eqb (length s) 0) 2 _ (passing (ltb longestPdu (length s)) 2 _ (every-messages (suc (length s)) (getD s 0 0) 1)))
 
+-- A walk that finds vectors has met no fault.
+
+pub no-fault : (n : ℕ) (vs : List Vector) → fault n ≡ found vs → ⊥
+no-fault n vs e = let z : _≡_ {A = ℕ} 0 1 = cc in omega arith
+
+pub also-found : (v : Vector) (w : Walk) (vs : List Vector) → also v w ≡ found vs → (rest : List Vector) × (w ≡ found rest) × (vs ≡ v ∷ rest)
+unfolding also
+also-found v (fault n) vs e = absurd (no-fault n vs e)
+also-found v (found rest) vs e = (rest, refl, cc)
+
+pub both-found : (w x : Walk) (vs : List Vector) → both w x ≡ found vs
+    → (us ws : List Vector) × (w ≡ found us) × (x ≡ found ws) × (vs ≡ us ++ ws)
+unfolding both
+both-found (fault n) x vs e = absurd (no-fault n vs e)
+both-found (found us) (fault n) vs e = absurd (no-fault n vs e)
+both-found (found us) (found ws) vs e = (us, ws, refl, refl, cc)
+
 -- A vector that stands in an AttributeList has passed every check.
 
 -- a test that does not lead to an answer was false
@@ -115,6 +132,7 @@ no-end h e = let z : _≡_ {A = ℕ} 0 1 = cc in omega arith
 module _ (version first : ℕ) (four : Bool) (l : List ℕ) (at : ℕ) (r : InList) (bad : (n : ℕ) → badVector n ≡ r → ⊥) (end : listEnd ≡ r → ⊥) where
   record LaidOut : Type 0 where
     header : at + 2 ≤ length l
+    some : beAt 2 l at ≡ 0 → ⊥
     fits : vectorEnd first four at (beAt 2 l at) ≤ length l
     known : (eqb version 0 && strangeLeave (beAt 2 l at)) ≡ false
     is : cond (strangeLeave (beAt 2 l at) || overpacked (part (at + 2 + first) (threeLength (beAt 2 l at % 8192)) l))
@@ -128,7 +146,7 @@ module _ (version first : ℕ) (four : Bool) (l : List ℕ) (at : ℕ) (r : InLi
       let b = passed (eqb h 0) _ _ _ end (a .1) in
       let c = passed (eqb version 0 && strangeLeave h) _ _ _ (bad 6) (b .1) in
       let d = passed (ltb (length l) (vectorEnd first four at h)) _ _ _ (bad 3) (c .1) in
-      record { header = ltb-false _ _ (a .0); fits = ltb-false _ _ (d .0); known = c .0; is = d .1 }
+      record { header = ltb-false _ _ (a .0); some = eqb-false _ _ (b .0); fits = ltb-false _ _ (d .0); known = c .0; is = d .1 }
 
 -- one that is passed over is not read
 no-strange : (version m h : ℕ) → strangeVector version m ≡ vectorHead h → ⊥
@@ -143,6 +161,7 @@ no-strange version m h = go (eqb version 0)
 pub record Fitting (first : ℕ) (four : Bool) (l : List ℕ) (at h : ℕ) : Type 0 where
   pub header : at + 2 ≤ length l
   pub is : beAt 2 l at ≡ h
+  pub some : h ≡ 0 → ⊥
   pub fits : vectorEnd first four at h ≤ length l
   pub leave : strangeLeave h ≡ false
   pub packed : overpacked (part (at + 2 + first) (threeLength (h % 8192)) l) ≡ false
@@ -157,6 +176,7 @@ fitting version first four l at h e =
     record {
       header = a .header;
       is = i;
+      some = rw i at (a .some);
       fits = rw i at (a .fits);
       leave = rw i at (or-left (strangeLeave n) x (f .0));
       packed = rw i at (or-right (strangeLeave n) x (f .0));

@@ -173,11 +173,11 @@ module _ (d : Declaration) (pre rest : List ℕ) where
 -- An AttributeList.
 
 -- behind any prefix, and with fuel for its octets, the list is read as these vectors
-VectorsRead : Attribute → List ℕ → List Vector → Type 0
+unfoldable pub VectorsRead : Attribute → List ℕ → List Vector → Type 0
 VectorsRead k s vs = (f : ℕ) (pre : List ℕ) → length s ≤ f → vectors f 0 k (pre ++ s) (length pre) ≡ found vs
 
 -- the EndMark, as the list's last two octets
-vectors-end : (k : Attribute) → VectorsRead k (0 ∷ 0 ∷ []) []
+pub vectors-end : (k : Attribute) → VectorsRead k (0 ∷ 0 ∷ []) []
 unfolding VectorsRead vectors typedIn vectorIn strangeLeave checkedIn vectorsFrom
 vectors-end k zero pre h = absurd (omega arith)
 vectors-end k (suc f) pre h =

@@ -13,7 +13,7 @@ use Rattle.octets.proofs.Parts.{lent-length}
 use Rattle.model.specs.FrameLayout.{longestPdu}
 use Rattle.model.specs.Frames.{Attribute, TypeOctet, notAllowed, unknown, known, typeOctet, firstLength, threeLength, hasFour, fourLength, Vector, vectorAt, vectorEnd, vectorHead, typedIn, Walk, fault, found, also, both, messages, walk, vectorActs, frameActs}
 use Rattle.model.proofs.Refusals.{walk-faults}
-use Rattle.model.proofs.FoundVectors.{passed, passed-all, Sound, sound-at}
+use Rattle.model.proofs.FoundVectors.{no-fault, also-found, both-found, passed, passed-all, Sound, sound-at}
 use Rattle.msrpdu.specs.Reader.{headOf, headVector, typedRead, messageRead, numberOf}
 use Rattle.msrpdu.specs.declared.VectorHead.{VectorHead}
 use Rattle.msrpdu.specs.declared.VectorRead.the-variants as vector
@@ -45,18 +45,6 @@ module _ (version : ℕ) (k : Attribute) (l : List ℕ) (at : ℕ) (w : VectorHe
   sound = subst Sound named (sound-at version k l at (there .header) (there .is))
 
 -- The vectors that are left, after each step, of an accepted list and PDU.
-
-also-found : (v : Vector) (w : Walk) (vs : List Vector) → also v w ≡ found vs → (rest : List Vector) × (w ≡ found rest) × (vs ≡ v ∷ rest)
-unfolding also
-also-found v (fault n) vs e = let z : _≡_ {A = ℕ} 0 1 = cc in absurd (omega arith)
-also-found v (found rest) vs e = (rest, refl, cc)
-
-both-found : (w x : Walk) (vs : List Vector) → both w x ≡ found vs
-    → (us ws : List Vector) × (w ≡ found us) × (x ≡ found ws) × (vs ≡ us ++ ws)
-unfolding both
-both-found (fault n) x vs e = let z : _≡_ {A = ℕ} 0 1 = cc in absurd (omega arith)
-both-found (found us) (fault n) vs e = let z : _≡_ {A = ℕ} 0 1 = cc in absurd (omega arith)
-both-found (found us) (found ws) vs e = (us, ws, refl, refl, cc)
 
 -- a list of which only the vectors from a place on are left, by what is read there
 module _ (f version : ℕ) (t : TypeOctet) (l : List ℕ) (at : ℕ) (vs : List Vector) (e : vectorsIn version t (suc f) l at ≡ found vs) where
@@ -137,9 +125,6 @@ accepted s = go (walk s) refl
     go : (w : Walk) → walk s ≡ w → numberOf w ≡ 0 → (vs : List Vector) × (walk s ≡ found vs)
     go (fault n) e z = let k = walk-faults s n e in absurd (omega arith)
     go (found vs) e z = (vs, e)
-
-pub no-fault : (n : ℕ) (vs : List Vector) → fault n ≡ found vs → ⊥
-no-fault n vs e = let z : _≡_ {A = ℕ} 0 1 = cc in omega arith
 
 -- its Messages start behind the ProtocolVersion
 pub accepted-messages : (s : List ℕ) (vs : List Vector) → walk s ≡ found vs → messages (suc (length s)) (getD s 0 0) s 1 ≡ found vs

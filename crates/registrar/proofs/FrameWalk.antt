@@ -9,11 +9,12 @@ use lib.ListN.{length, take, drop}
 use Rattle.octets.specs.Be.{beAt}
 use Rattle.model.specs.Registrations.{Act}
 use Rattle.model.specs.Frames.{Attribute, known, typeOctet, Vector, vectorAt, Walk, fault, found, vectors, messages, vectorActs, frameActs}
+use Rattle.model.proofs.FoundVectors.{no-fault}
 use Rattle.msrpdu.specs.Reader.{typedRead, messageRead, headVector}
 use Rattle.msrpdu.specs.declared.VectorHead.{VectorHead}
 use Rattle.msrpdu.specs.declared.MessageHead.{MessageHead}
 use Rattle.msrpdu.proofs.Walking.{vectorsIn, ahead-list, list-length}
-use Rattle.msrpdu.proofs.Applying.{found-next, found-over, found-end, found-accepted, found-typed, NextList, found-list, found-skipped, found-done, found-allowed, acts-next, acts-append, no-fault}
+use Rattle.msrpdu.proofs.Applying.{found-next, found-over, found-end, found-accepted, found-typed, NextList, found-list, found-skipped, found-done, found-allowed, acts-next, acts-append}
 use Rattle.msrpdu.specs.declared.VectorRead.the-variants as vector
 use Rattle.msrpdu.specs.declared.MessageRead.the-variants as message
 use Rattle.registrar.specs.Acts.{isFound, actsOf, attributeAt}
