@@ -17,11 +17,11 @@ use Rattle.octets.proofs.Parts.{length-part}
 use Rattle.octets.proofs.Frame.{getD-part, part-part}
 use Rattle.model.specs.FrameLayout.{longestPdu}
 use Rattle.model.specs.State.{Settings}
-use Rattle.model.specs.Registrations.{Reading, refused}
+use Rattle.model.specs.Registrations.{Act, Reading, refused, acts}
 use Rattle.model.specs.Frames.{Attribute, TypeOctet, notAllowed, unknown, known, typeOctet, firstLength, threeLength, hasFour, fourLength, Vector, vectorAt, vectorEnd, overpacked, overflows, InList, badVector, listEnd, vectorHead, passedOver, strangeLeave, strangeVector, vectorIn, checkedIn, typedIn, InPdu, badMessage, pduEnd, listSkipped, listOf, listLength, listAt, messageEnd, endMark, headerIn, messageIn, Walk, fault, found, also, both, vectorsFrom, vectors, messagesFrom, messages, walk, walked, wrongPort, reading}
 use Rattle.model.proofs.Lists.{and-left, and-right}
 use Rattle.model.proofs.Parts.{part-between}
-use Rattle.model.proofs.FoundVectors.{no-fault, also-found, both-found, passed, Passed, passed-all}
+use Rattle.model.proofs.FoundVectors.{no-fault, also-found, both-found, passed, Passed, passed-all, passing-over, over-typed}
 use Rattle.model.proofs.ReadBack.{VectorsRead, vectors-end, beAt-behind, beAt-here, two-octets, vectors-more, message-known}
 
 -- The reading as it was, word for word.
@@ -668,3 +668,114 @@ cut-out s vs e =
       version,
     )
     (rw (length-piece 0 1 s [] rest one) at m)
+
+-- What was accepted is read as it was, at every version.
+
+end-any : (version first : ℕ) (four : Bool) (l : List ℕ) (at : ℕ) → vectorIn 0 first four l at ≡ listEnd → vectorIn version first four l at ≡ listEnd
+unfolding vectorIn strangeVector
+end-any version first four l at e = go (ltb (length l) (at + 2)) (eqb h 0) _ e
+  where
+    h : ℕ
+    h = beAt 2 l at
+
+    bad : (n : ℕ) → badVector n ≡ listEnd → ⊥
+    bad n i = let z : _≡_ {A = ℕ} 0 1 = cc in omega arith
+
+    neither : (b : Bool) → cond b (badVector 6) (vectorHead h) ≡ listEnd → ⊥
+    neither true i = bad 6 i
+    neither false i = let z : _≡_ {A = ℕ} 0 1 = cc in omega arith
+
+    go : (a b : Bool) (x : InList)
+        → cond a (badVector 3)
+        (cond b listEnd
+        (cond (strangeLeave h) (badVector 6)
+        (cond (ltb (length l) (vectorEnd first four at h)) (badVector 3)
+        (cond (strangeLeave h || overpacked (part (at + 2 + first) (threeLength (h % 8192)) l)) (badVector 6) (vectorHead h))))) ≡ listEnd
+        → cond a (badVector 3) (cond b listEnd x) ≡ listEnd
+    go true b x i = i
+    go false true x i = refl
+    go false false x i =
+        let c = passed (strangeLeave h) _ _ _ (bad 6) i in
+        let d = passed (ltb (length l) (vectorEnd first four at h)) _ _ _ (bad 3) (c .1) in
+        absurd (neither (strangeLeave h || overpacked (part (at + 2 + first) (threeLength (h % 8192)) l)) (d .1))
+
+-- an EndMark of a type is one that was read
+end-typed : (version : ℕ) (k : Attribute) (l : List ℕ) (at : ℕ) (r : InList) → vectorIn 0 (firstLength k) (hasFour k) l at ≡ r → checkedIn k l at r ≡ listEnd
+    → typedIn version k l at ≡ listEnd
+unfolding checkedIn typedIn
+end-typed version k l at (badVector n) i e = let z : _≡_ {A = ℕ} 0 1 = cc in absurd (omega arith)
+end-typed version k l at listEnd i e = ap (checkedIn k l at) (end-any version (firstLength k) (hasFour k) l at i) ∙ e
+end-typed version k l at (vectorHead h) i e =
+    let a = passed (overflows (vectorAt k l at h)) (badVector 7) _ _ (λ j. let z : _≡_ {A = ℕ} 0 1 = cc in omega arith) e in
+    let z : _≡_ {A = ℕ} 0 1 = cc in
+    absurd (omega arith)
+end-typed version k l at (passedOver h) i e = let z : _≡_ {A = ℕ} 0 1 = cc in absurd (omega arith)
+
+module _ (version : ℕ) (k : Attribute) (l : List ℕ) where
+  alike-from : (f : ℕ) → ((at : ℕ) (vs : List Vector) → vectors f 0 k l at ≡ found vs → vectors f version k l at ≡ found vs) → (at : ℕ) (r : InList) → typedIn 0 k l at ≡ r
+      → (vs : List Vector) → vectorsFrom k l at r (vectors f 0 k l) ≡ found vs → vectors (suc f) version k l at ≡ found vs
+  unfolding vectors vectorsFrom also
+  alike-from f ih at (badVector n) i vs e = absurd (no-fault n vs e)
+  alike-from f ih at listEnd i vs e =
+      let t : typedIn version k l at ≡ listEnd = end-typed version k l at (vectorIn 0 (firstLength k) (hasFour k) l at) refl (unfold typedIn in i) in
+      rw t e
+  alike-from f ih at (vectorHead h) i vs e =
+      let a = also-found (vectorAt k l at h) _ vs e in
+      let p = passed-all 0 k l at h i in
+      let q = p .fitting in
+      vectors-more f version k l at h (vectorAt k l at h) (q .is) (q .some) (q .leave) (q .header) (q .fits) refl (unfold vectorAt in (q .packed)) (p .within)
+      ∙ ap (also (vectorAt k l at h)) (ih _ (a .0) (a .1)) ∙ sym (ap found (a .2))
+  alike-from f ih at (passedOver h) i vs e =
+      absurd (true≢false (passing-over 0 (firstLength k) (hasFour k) l at h (over-typed 0 k l at h i) .newer))
+
+  alike-vectors : (f at : ℕ) (vs : List Vector) → vectors f 0 k l at ≡ found vs → vectors f version k l at ≡ found vs
+  alike-vectors zero at vs e = absurd (no-fault 3 vs (unfold vectors in e))
+  alike-vectors (suc f) at vs e = alike-from f (alike-vectors f) at (typedIn 0 k l at) refl vs (unfold vectors in e)
+
+module _ (version : ℕ) (s : List ℕ) where
+  alike-message : (f at : ℕ) → ((vs : List Vector) → wasMessages f version s (messageEnd s at) ≡ found vs → messages f version s (messageEnd s at) ≡ found vs)
+      → (i : InPdu) (vs : List Vector) → wasMessagesFrom s at i (wasMessages f version s (messageEnd s at)) ≡ found vs
+      → messagesFrom version s at i (messages f version s (messageEnd s at)) ≡ found vs
+  unfolding wasMessagesFrom messagesFrom both
+  alike-message f at ih (badMessage n) vs e = e
+  alike-message f at ih pduEnd vs e = e
+  alike-message f at ih listSkipped vs e = ih vs e
+  alike-message f at ih (listOf k) vs e =
+      let n = suc (listLength s at) in
+      let b = both-found (wasVectors n k (listAt s at) 0) _ vs e in
+      let own : vectors n version k (listAt s at) 0 ≡ found (b .0) = alike-vectors version k (listAt s at) n 0 (b .0) (sym (was-vectors n k (listAt s at) 0) ∙ b .2) in
+      rw (own, ih (b .1) (b .3)) (sym (ap found (b .4)))
+
+  alike-messages : (f at : ℕ) (vs : List Vector) → wasMessages f version s at ≡ found vs → messages f version s at ≡ found vs
+  unfolding wasMessages messages
+  alike-messages zero at vs e = e
+  alike-messages (suc f) at vs e = alike-message f at (alike-messages f (messageEnd s at)) (messageIn version s at) vs e
+
+pub accepted-before : (s : List ℕ) (vs : List Vector) → wasWalk s ≡ found vs → walk s ≡ found vs
+unfolding walk wasWalk
+accepted-before s vs e =
+    let a = passed (eqb (length s) 0) _ _ _ (no-fault 2 vs) e in
+    let b = passed (ltb longestPdu (length s)) _ _ _ (no-fault 2 vs) (a .1) in
+    rw (a .0, b .0) (alike-messages (getD s 0 0) s (suc (length s)) 1 vs (b .1))
+
+-- So the acts of an accepted PDU are those of the PDU with the vectors that are passed over cut out, by the reading as it was, and
+-- as it is.
+
+pub acts-cut : (st : Settings) (p : ℕ) (s : List ℕ) (es : List Act) → reading st p s ≡ acts es
+    → (wasReading st p (cutOut s) ≡ acts es) × (reading st p (cutOut s) ≡ acts es)
+unfolding reading wasReading walked
+acts-cut st p s es = go (wrongPort st p) (walk s) refl
+  where
+    go : (t : Bool) (w : Walk) → walk s ≡ w → cond t (refused 1) (walked w) ≡ acts es
+        → (cond t (refused 1) (walked (wasWalk (cutOut s))) ≡ acts es) × (cond t (refused 1) (walked (walk (cutOut s))) ≡ acts es)
+    go true w e r = let z : _≡_ {A = ℕ} 0 1 = cc in absurd (omega arith)
+    go false (fault n) e r = let z : _≡_ {A = ℕ} 0 1 = cc in absurd (omega arith)
+    go false (found vs) e r =
+        let c = cut-out s vs e in
+        (ap walked c ∙ r, ap walked (accepted-before (cutOut s) vs c) ∙ r)
+
+-- A fault behind a vector that is passed over is the list's: the walk goes on behind it.
+pub later-fault : (f version : ℕ) (k : Attribute) (l : List ℕ) (at h n : ℕ) → typedIn version k l at ≡ passedOver h
+    → vectors f version k l (vectorEnd (firstLength k) (hasFour k) at h) ≡ fault n → vectors (suc f) version k l at ≡ fault n
+unfolding vectors vectorsFrom
+later-fault f version k l at h n e r = rw e r
