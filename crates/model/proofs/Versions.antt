@@ -310,7 +310,7 @@ module _ (version : ℕ) (k : Attribute) (l : List ℕ) where
       let c = cutList f version k l n in
       let s = span-fits version k l at h e [] [] in
       let g : length (part at (spanOf k h) l ++ c) ≤ length l - at =
-          omega (arith, length-append (part at (spanOf k h) l) c, length-piece at (spanOf k h) l [] c s, ih n) in
+      omega (arith, length-append (part at (spanOf k h) l) c, length-piece at (spanOf k h) l [] c s, ih n) in
       g
   from-shorter f at (passedOver h) e ih =
       let n = vectorEnd (firstLength k) (hasFour k) at h in
@@ -605,7 +605,7 @@ module _ (version : ℕ) (s : List ℕ) (short : length s ≤ longestPdu) where
           let o = listBefore version s short at k e pre c ++ l in
           let z : wasMessages g version (o ++ c) (length o) ≡ found (b .1) = ih (messageEnd s at) (b .1) (b .3) g o (omega arith) in
           let y : wasMessages g version (pre ++ t) (length pre + 4 + length l) ≡ found (b .1) =
-              rw (← length-behind version s short at k e pre c, moved-behind version s short at k e pre c) z in
+          rw (← length-behind version s short at k e pre c, moved-behind version s short at k e pre c) z in
           list-moved version s short at k e pre c g (b .0) own ∙ ap (both (found (b .0))) y ∙ (unfold both in (sym (ap found (b .4))))
 
   cut-message : (f : ℕ) → PduReads version s f → (at : ℕ) (i : InPdu) → messageIn version s at ≡ i → (vs : List Vector)
