@@ -95,7 +95,7 @@ vectorAt k l at h =
 unfoldable pub vectorEnd : ℕ → Bool → ℕ → ℕ → ℕ
 vectorEnd first four at h = at + 2 + first + threeLength (h % 8192) + fourLength four (h % 8192)
 
--- an event octet above 215 is 6
+-- "a ThreePackedEvents octet above 215"
 unfoldable pub overpacked : List ℕ → Bool
 overpacked [] = false
 overpacked (o ∷ l) = ltb 215 o || overpacked l
@@ -121,12 +121,12 @@ pub data InList : Type 0 where
   vectorHead : ℕ → InList
   passedOver : ℕ → InList
 
--- 6: "LeaveAllEvent above 1, or a ThreePackedEvents octet above 215"
+-- "LeaveAllEvent above 1", of a header
 unfoldable pub strangeLeave : ℕ → Bool
 strangeLeave h = ltb 1 (h / 8192)
 
--- 02: "With ProtocolVersion above 0, a vector with LeaveAllEvent above 1 or an event octet above 215 should be passed over";
--- "Version 0 keeps number 6"
+-- a vector that has one or the other: "With ProtocolVersion above 0 [it] should be passed over, since its layout still gives its
+-- length"; "Version 0 keeps number 6" (02)
 unfoldable pub strangeVector : ℕ → ℕ → InList
 strangeVector version h = cond (eqb version 0) (badVector 6) (passedOver h)
 
