@@ -130,7 +130,7 @@ no-end h e = let z : _≡_ {A = ℕ} 0 1 = cc in omega arith
 
 -- a vector of any MRP application, read or passed over: what stands there is neither a fault nor the EndMark
 module _ (version first : ℕ) (four : Bool) (l : List ℕ) (at : ℕ) (r : InList) (bad : (n : ℕ) → badVector n ≡ r → ⊥) (end : listEnd ≡ r → ⊥) where
-  record LaidOut : Type 0 where
+  record Measured : Type 0 where
     header : at + 2 ≤ length l
     some : beAt 2 l at ≡ 0 → ⊥
     fits : vectorEnd first four at (beAt 2 l at) ≤ length l
@@ -138,9 +138,9 @@ module _ (version first : ℕ) (four : Bool) (l : List ℕ) (at : ℕ) (r : InLi
     is : cond (strangeLeave (beAt 2 l at) || overpacked (part (at + 2 + first) (threeLength (beAt 2 l at % 8192)) l))
         (strangeVector version (beAt 2 l at)) (vectorHead (beAt 2 l at)) ≡ r
 
-  laid-out : vectorIn version first four l at ≡ r → LaidOut
+  measured : vectorIn version first four l at ≡ r → Measured
   unfolding vectorIn
-  laid-out e =
+  measured e =
       let h = beAt 2 l at in
       let a = passed (ltb (length l) (at + 2)) _ _ _ (bad 3) e in
       let b = passed (eqb h 0) _ _ _ end (a .1) in
@@ -170,7 +170,7 @@ pub fitting : (version first : ℕ) (four : Bool) (l : List ℕ) (at h : ℕ) �
 fitting version first four l at h e =
     let n = beAt 2 l at in
     let x = overpacked (part (at + 2 + first) (threeLength (n % 8192)) l) in
-    let a = laid-out version first four l at (vectorHead h) (λ m. bad-vector m h) (no-end h) e in
+    let a = measured version first four l at (vectorHead h) (λ m. bad-vector m h) (no-end h) e in
     let f = passed (strangeLeave n || x) _ _ _ (no-strange version n h) (a .is) in
     let i : n ≡ h = cc in
     record {
@@ -203,8 +203,8 @@ passing-over version first four l at h e = go (eqb version 0) refl (strangeLeave
     x : Bool
     x = overpacked (part (at + 2 + first) (threeLength (n % 8192)) l)
 
-    a : LaidOut version first four l at (passedOver h) (λ m. bad-over m h) (λ i. let z : _≡_ {A = ℕ} 0 1 = cc in omega arith)
-    a = laid-out version first four l at (passedOver h) (λ m. bad-over m h) (λ i. let z : _≡_ {A = ℕ} 0 1 = cc in omega arith) e
+    a : Measured version first four l at (passedOver h) (λ m. bad-over m h) (λ i. let z : _≡_ {A = ℕ} 0 1 = cc in omega arith)
+    a = measured version first four l at (passedOver h) (λ m. bad-over m h) (λ i. let z : _≡_ {A = ℕ} 0 1 = cc in omega arith) e
 
     go : (v : Bool) → eqb version 0 ≡ v → (t : Bool) → (strangeLeave n || x) ≡ t
         → cond t (cond v (badVector 6) (passedOver n)) (vectorHead n) ≡ passedOver h → PassedOver version first four l at h
