@@ -595,3 +595,11 @@ acts-cut st p s es = go (wrongPort st p) (walk s) refl
     go false (found vs) e r =
         let c = cut-out s vs e in
         (ap walked c ∙ r, ap walked (accepted-before (cutOut s) vs c) ∙ r)
+
+-- And a fault of what is left refuses the whole PDU.
+pub later-fault : (s : List ℕ) (n : ℕ) → walk (cutOut s) ≡ fault n → (m : ℕ) × (walk s ≡ fault m)
+later-fault s n e = go (walk s) refl
+  where
+    go : (w : Walk) → walk s ≡ w → (m : ℕ) × (walk s ≡ fault m)
+    go (fault m) i = (m, i)
+    go (found vs) i = absurd (no-fault n vs (sym e ∙ accepted-before (cutOut s) vs (cut-out s vs i)))

@@ -192,8 +192,8 @@ accepted-before s vs e =
     let b = passed (ltb longestPdu (length s)) _ _ _ (no-fault 2 vs) (a .1) in
     rw (a .0, b .0) (alike-messages (getD s 0 0) s (suc (length s)) 1 vs (b .1))
 
--- A fault behind a vector that is passed over is the list's: the walk goes on behind it.
-pub later-fault : (f version : ℕ) (k : Attribute) (l : List ℕ) (at h n : ℕ) → typedIn version k l at ≡ passedOver h
-    → vectors f version k l (vectorEnd (firstLength k) (hasFour k) at h) ≡ fault n → vectors (suc f) version k l at ≡ fault n
+-- "the vectors after it should be read": the walk goes on behind a vector that is passed over.
+pub goes-on : (f version : ℕ) (k : Attribute) (l : List ℕ) (at h : ℕ) → typedIn version k l at ≡ passedOver h
+    → vectors (suc f) version k l at ≡ vectors f version k l (vectorEnd (firstLength k) (hasFour k) at h)
 unfolding vectors vectorsFrom
-later-fault f version k l at h n e r = rw e r
+goes-on f version k l at h e = rw e
