@@ -1,6 +1,6 @@
 -- 01's marked examples P1 to P13 and its worked example, computed by the definitions and compared with what 01 prints; then
 -- examples of what 01 says of registering and of ages, of the near misses that it shuts out, of the domain's edge, of class B's
--- limit in force, of latency that grows, and of the order of a PDU's checks.
+-- limit in force, of latency that grows, of the order of a PDU's checks, and of vectors that are passed over.
 use mathlib.Core.Path.{_≡_, refl}
 use mathlib.Core.List.{List, [], _∷_, _++_, map}
 use mathlib.Core.Bool.{true, false, cond}
@@ -646,3 +646,67 @@ twoFaults =
 pub order-examples : All Holds twoFaults
 unfolding shown twoFaults
 order-examples = (refl, (refl, (refl, (refl, (refl, (refl, (refl, (refl, (refl, (refl, (refl, (refl, (refl, (refl, tt))))))))))))))
+
+-- Vectors with events that are not known here: 6 at version 0; passed over at a higher one.
+
+-- a PDU at another version
+versioned : ℕ → List ℕ → List ℕ
+versioned v [] = []
+versioned v (o ∷ s) = v ∷ s
+
+-- a Listener vector of this header from Unique ID 1 on, and one that joins 5 behind it
+before5 : ℕ → List ℕ → List ℕ → List ℕ
+before5 header three four = message listeners (listenerVector 1 header three four ++ listenerVector 5 1 (108 ∷ []) (128 ∷ []))
+
+-- LeaveAllEvent 2, with 1 value, and with none; 2 values from Unique ID FFFF on
+leaveEvent2 : List ℕ
+leaveEvent2 = before5 16385 (108 ∷ []) (128 ∷ [])
+
+past : ℕ → List ℕ
+past octet = listenerVector 0xFFFF 2 (octet ∷ []) (0xA0 ∷ [])
+
+id5 : ℕ
+id5 = 0x0200000000010005
+
+pub newerVersions : List Example
+newerVersions =
+    -- LeaveAllEvent 2, and the vector behind it
+    record { computed = read leaveEvent2 ++ (read (versioned 1 leaveEvent2) ++ read (versioned 255 leaveEvent2)); printed = 6 ∷ 0 ∷ id5 ∷ 0 ∷ id5 ∷ [] }
+    -- of 0 values FirstValue is there
+    ∷ record { computed = read (versioned 1 (before5 16384 [] [])); printed = 0 ∷ id5 ∷ [] }
+    -- octet 216, and 4 values with a good octet beside it and their FourPackedEvents
+    ∷ record { computed = read (before5 1 (216 ∷ []) (128 ∷ [])) ++ read (versioned 1 (before5 1 (216 ∷ []) (128 ∷ []))); printed = 6 ∷ 0 ∷ id5 ∷ [] }
+    ∷ record { computed = read (versioned 1 (before5 4 (129 ∷ 216 ∷ []) (0xAA ∷ []))); printed = 0 ∷ id5 ∷ [] }
+    -- FourPackedEvents have no bound
+    ∷ record { computed = read (versioned 1 (listenersOf 5 1 (108 ∷ []) (0xFF ∷ []))); printed = 0 ∷ id5 ∷ [] }
+    -- the other types
+    ∷ record {
+      computed =
+          read (versioned 1 (advertisesOf 1 224 rank1 1 (216 ∷ [])))
+          ++ (read (versioned 1 (failedOf 1 224 rank1 1 (216 ∷ []))) ++ read (versioned 1 (domainsOf 5 2 1 (216 ∷ []))));
+      printed = 0 ∷ 0 ∷ 0 ∷ [];
+    }
+    -- its LeaveAll is not applied: the Listener held is not leaving
+    ∷ record {
+      computed = listener 1 (bridge 0 (time 100 ∷ pdu 2 (hears 1 128) ∷ pdu 2 (versioned 1 (listenersOf 1 8193 (216 ∷ []) (128 ∷ []))) ∷ []));
+      printed = 2 ∷ 0 ∷ 0 ∷ [];
+    }
+    -- values past their field: 7, and none where the vector is passed over
+    ∷ record { computed = read (versioned 1 (message listeners (past 108))) ++ read (versioned 1 (message listeners (past 216))); printed = 7 ∷ 0 ∷ [] }
+    -- whether it fits counts first
+    ∷ record {
+      computed =
+          read (0x00 ∷ 0x03 ∷ 0x08 ∷ 0x00 ∷ 0x02 ∷ 0x40 ∷ 0x01 ∷ 0x00 ∷ 0x00 ∷ [])
+          ++ read (0x01 ∷ 0x03 ∷ 0x08 ∷ 0x00 ∷ 0x02 ∷ 0x40 ∷ 0x01 ∷ 0x00 ∷ 0x00 ∷ []);
+      printed = 6 ∷ 3 ∷ [];
+    }
+    -- a later fault refuses the whole PDU
+    ∷ record {
+      computed = read (versioned 1 (message listeners (listenerVector 1 1 (216 ∷ []) (128 ∷ []) ++ (listenerVector 5 1 (108 ∷ []) (128 ∷ []) ++ past 108))));
+      printed = 7 ∷ [];
+    }
+    ∷ []
+
+pub newer-examples : All Holds newerVersions
+unfolding shown newerVersions versioned before5 leaveEvent2 past id5
+newer-examples = (refl, (refl, (refl, (refl, (refl, (refl, (refl, (refl, (refl, (refl, tt))))))))))

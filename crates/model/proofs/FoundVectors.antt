@@ -1,13 +1,13 @@
 -- What holds of every vector that the walk over a PDU finds, and of the acts that such vectors ask for: each value is within
 -- its field.
-use mathlib.Core.Path.{_≡_, refl, subst}
-use mathlib.Core.List.{List, [], _∷_}
-use mathlib.Core.Bool.{Bool, true, false, cond, _||_, true≢false}
+use mathlib.Core.Path.{_≡_, refl, subst, _∙_}
+use mathlib.Core.List.{List, [], _∷_, _++_}
+use mathlib.Core.Bool.{Bool, true, false, cond, _&&_, _||_, true≢false}
 use Prim.Native.Nat.{ℕ, zero, suc, _+_, _*_, _-_, _/_, _%_, _^_, _≤_, _<_}
 use native.Mathlib.Omega.{arith}
 use lib.ListN.{length, getD}
 use lib.Dec.{ltb, leb, eqb}
-use borrow.Author.Tests.{ltb-false, leb-true, ne-eqb}
+use borrow.Author.Tests.{ltb-false, eqb-false, leb-true, ne-eqb}
 use Rattle.octets.specs.Be.{beAt}
 use Rattle.octets.specs.Parts.{part}
 use Rattle.octets.specs.Fields.{fields}
@@ -17,7 +17,7 @@ use Rattle.model.specs.FrameLayout.{longestPdu}
 use Rattle.model.specs.Lists.{All, Octets}
 use Rattle.model.specs.State.{Settings}
 use Rattle.model.specs.Registrations.{Kind, advertises, faileds, listeners, Act, leaveAll, leave, talk, listen, ofDomain, DomainAct, leaveAllDomains, leaveDomain, joinDomain, Reading, refused, acts}
-use Rattle.model.specs.Frames.{Attribute, registers, domain, firstWidths, firstLength, threeLength, hasFour, fourLength, Vector, vectorAt, vectorEnd, overpacked, runsPast, overflows, InList, badVector, listEnd, vectorHead, vectorIn, checkedIn, typedIn, InPdu, badMessage, pduEnd, listSkipped, listOf, listLength, listAt, messageEnd, Walk, fault, found, also, both, vectorsFrom, vectors, messagesFrom, messages, walk, Asking, nothingAsked, join, withdraw, priorityOf, rankOf, fixedValue, healthValue, idValue, hearing, talkerAct, listenerAct, hasSlot, slotOf, slotAct, domainAct, valueActs, valuesActs, leaveAllActs, vectorActs, frameActs, walked, wrongPort, reading}
+use Rattle.model.specs.Frames.{Attribute, registers, domain, firstWidths, firstLength, threeLength, hasFour, fourLength, Vector, vectorAt, vectorEnd, overpacked, runsPast, overflows, InList, badVector, listEnd, vectorHead, passedOver, strangeLeave, strangeVector, vectorIn, checkedIn, typedIn, InPdu, badMessage, pduEnd, listSkipped, listOf, listLength, listAt, messageEnd, Walk, fault, found, also, both, vectorsFrom, vectors, messagesFrom, messages, walk, Asking, nothingAsked, join, withdraw, priorityOf, rankOf, fixedValue, healthValue, idValue, hearing, talkerAct, listenerAct, hasSlot, slotOf, slotAct, domainAct, valueActs, valuesActs, leaveAllActs, vectorActs, frameActs, walked, wrongPort, reading}
 use Rattle.model.proofs.Lists.{all-append, and-left, and-right}
 use Rattle.model.proofs.Parts.{octets-at, octets-part}
 use Rattle.octets.proofs.Fields.{beAt-fits}
@@ -56,38 +56,56 @@ module _ (P : Vector → Type 0) where
   passing false n w a = a
 
   -- P of each vector that stands in an AttributeList
-  module _ (k : Attribute) (l : List ℕ) (each : (at h : ℕ) → typedIn k l at ≡ vectorHead h → P (vectorAt k l at h)) where
-    every-from : (at : ℕ) (r : InList) → typedIn k l at ≡ r → (rest : ℕ → Walk) → ((e : ℕ) → Every (rest e)) → Every (vectorsFrom k l at r rest)
+  module _ (version : ℕ) (k : Attribute) (l : List ℕ) (each : (at h : ℕ) → typedIn version k l at ≡ vectorHead h → P (vectorAt k l at h)) where
+    every-from : (at : ℕ) (r : InList) → typedIn version k l at ≡ r → (rest : ℕ → Walk) → ((e : ℕ) → Every (rest e)) → Every (vectorsFrom k l at r rest)
     unfolding Every vectorsFrom
     every-from at (badVector n) e rest a = tt
     every-from at listEnd e rest a = tt
     every-from at (vectorHead h) e rest a = every-also (vectorAt k l at h) _ (each at h e) (a _)
+    every-from at (passedOver h) e rest a = a _
 
-    every-vectors : (f at : ℕ) → Every (vectors f k l at)
+    every-vectors : (f at : ℕ) → Every (vectors f version k l at)
     unfolding vectors
     every-vectors zero at = unfold Every in tt
-    every-vectors (suc f) at = every-from at _ refl (vectors f k l) (every-vectors f)
+    every-vectors (suc f) at = every-from at _ refl (vectors f version k l) (every-vectors f)
 
   -- and in each list of a PDU
   module _ (s : List ℕ)
-      (each : (k : Attribute) (place at h : ℕ) → typedIn k (listAt s place) at ≡ vectorHead h → P (vectorAt k (listAt s place) at h)) where
-    every-message : (at : ℕ) (r : InPdu) (rest : Walk) → Every rest → Every (messagesFrom s at r rest)
+      (each : (version : ℕ) (k : Attribute) (place at h : ℕ) → typedIn version k (listAt s place) at ≡ vectorHead h → P (vectorAt k (listAt s place) at h)) where
+    every-message : (version at : ℕ) (r : InPdu) (rest : Walk) → Every rest → Every (messagesFrom version s at r rest)
     unfolding Every messagesFrom
-    every-message at (badMessage n) rest a = tt
-    every-message at pduEnd rest a = tt
-    every-message at listSkipped rest a = a
-    every-message at (listOf k) rest a = every-both _ rest (every-vectors k (listAt s at) (each k at) (suc (listLength s at)) 0) a
+    every-message version at (badMessage n) rest a = tt
+    every-message version at pduEnd rest a = tt
+    every-message version at listSkipped rest a = a
+    every-message version at (listOf k) rest a = every-both _ rest (every-vectors version k (listAt s at) (each version k at) (suc (listLength s at)) 0) a
 
     every-messages : (f version at : ℕ) → Every (messages f version s at)
     unfolding messages
     every-messages zero version at = unfold Every in tt
-    every-messages (suc f) version at = every-message at _ _ (every-messages f version (messageEnd s at))
+    every-messages (suc f) version at = every-message version at _ _ (every-messages f version (messageEnd s at))
 
     every-walk : (vs : List Vector) → walk s ≡ found vs → All P vs
     unfolding walk
     every-walk vs e =
         every-found (walk s) vs e
         (passing (eqb (length s) 0) 2 _ (passing (ltb longestPdu (length s)) 2 _ (every-messages (suc (length s)) (getD s 0 0) 1)))
+
+-- A walk that finds vectors has met no fault.
+
+pub no-fault : (n : ℕ) (vs : List Vector) → fault n ≡ found vs → ⊥
+no-fault n vs e = let z : _≡_ {A = ℕ} 0 1 = cc in omega arith
+
+pub also-found : (v : Vector) (w : Walk) (vs : List Vector) → also v w ≡ found vs → (rest : List Vector) × (w ≡ found rest) × (vs ≡ v ∷ rest)
+unfolding also
+also-found v (fault n) vs e = absurd (no-fault n vs e)
+also-found v (found rest) vs e = (rest, refl, cc)
+
+pub both-found : (w x : Walk) (vs : List Vector) → both w x ≡ found vs
+    → (us ws : List Vector) × (w ≡ found us) × (x ≡ found ws) × (vs ≡ us ++ ws)
+unfolding both
+both-found (fault n) x vs e = absurd (no-fault n vs e)
+both-found (found us) (fault n) vs e = absurd (no-fault n vs e)
+both-found (found us) (found ws) vs e = (us, ws, refl, refl, cc)
 
 -- A vector that stands in an AttributeList has passed every check.
 
@@ -96,51 +114,143 @@ pub passed : {A : Type 0} (t : Bool) (x y z : A) → (x ≡ z → ⊥) → cond 
 passed true x y z p e = absurd (p e)
 passed false x y z p e = (refl, e)
 
+pub or-left : (a b : Bool) → (a || b) ≡ false → a ≡ false
+or-left true b e = e
+or-left false b e = refl
+
+pub or-right : (a b : Bool) → (a || b) ≡ false → b ≡ false
+or-right true b e = absurd (true≢false e)
+or-right false b e = e
+
 bad-vector : (n h : ℕ) → badVector n ≡ vectorHead h → ⊥
 bad-vector n h e = let z : _≡_ {A = ℕ} 0 1 = cc in omega arith
 
 no-end : (h : ℕ) → listEnd ≡ vectorHead h → ⊥
 no-end h e = let z : _≡_ {A = ℕ} 0 1 = cc in omega arith
 
--- of a vector of any MRP application
+-- a vector of any MRP application, read or passed over: what stands there is neither a fault nor the EndMark
+module _ (version first : ℕ) (four : Bool) (l : List ℕ) (at : ℕ) (r : InList) (bad : (n : ℕ) → badVector n ≡ r → ⊥) (end : listEnd ≡ r → ⊥) where
+  record Measured : Type 0 where
+    header : at + 2 ≤ length l
+    some : beAt 2 l at ≡ 0 → ⊥
+    fits : vectorEnd first four at (beAt 2 l at) ≤ length l
+    known : (eqb version 0 && strangeLeave (beAt 2 l at)) ≡ false
+    is : cond (strangeLeave (beAt 2 l at) || overpacked (part (at + 2 + first) (threeLength (beAt 2 l at % 8192)) l))
+        (strangeVector version (beAt 2 l at)) (vectorHead (beAt 2 l at)) ≡ r
+
+  measured : vectorIn version first four l at ≡ r → Measured
+  unfolding vectorIn
+  measured e =
+      let h = beAt 2 l at in
+      let a = passed (ltb (length l) (at + 2)) _ _ _ (bad 3) e in
+      let b = passed (eqb h 0) _ _ _ end (a .1) in
+      let c = passed (eqb version 0 && strangeLeave h) _ _ _ (bad 6) (b .1) in
+      let d = passed (ltb (length l) (vectorEnd first four at h)) _ _ _ (bad 3) (c .1) in
+      record { header = ltb-false _ _ (a .0); some = eqb-false _ _ (b .0); fits = ltb-false _ _ (d .0); known = c .0; is = d .1 }
+
+-- one that is passed over is not read
+no-strange : (version m h : ℕ) → strangeVector version m ≡ vectorHead h → ⊥
+unfolding strangeVector
+no-strange version m h = go (eqb version 0)
+  where
+    go : (t : Bool) → cond t (badVector 6) (passedOver m) ≡ vectorHead h → ⊥
+    go true e = bad-vector 6 h e
+    go false e = let z : _≡_ {A = ℕ} 0 1 = cc in omega arith
+
+-- read
 pub record Fitting (first : ℕ) (four : Bool) (l : List ℕ) (at h : ℕ) : Type 0 where
   pub header : at + 2 ≤ length l
   pub is : beAt 2 l at ≡ h
+  pub some : h ≡ 0 → ⊥
   pub fits : vectorEnd first four at h ≤ length l
+  pub leave : strangeLeave h ≡ false
   pub packed : overpacked (part (at + 2 + first) (threeLength (h % 8192)) l) ≡ false
 
-pub fitting : (first : ℕ) (four : Bool) (l : List ℕ) (at h : ℕ) → vectorIn first four l at ≡ vectorHead h → Fitting first four l at h
-unfolding vectorIn
-fitting first four l at h e =
+pub fitting : (version first : ℕ) (four : Bool) (l : List ℕ) (at h : ℕ) → vectorIn version first four l at ≡ vectorHead h → Fitting first four l at h
+fitting version first four l at h e =
     let n = beAt 2 l at in
-    let a = passed (ltb (length l) (at + 2)) _ _ _ (bad-vector 3 h) e in
-    let b = passed (eqb n 0) _ _ _ (no-end h) (a .1) in
-    let c = passed (ltb 1 (n / 8192)) _ _ _ (bad-vector 6 h) (b .1) in
-    let d = passed (ltb (length l) (vectorEnd first four at n)) _ _ _ (bad-vector 3 h) (c .1) in
-    let f = passed (overpacked (part (at + 2 + first) (threeLength (n % 8192)) l)) _ _ _ (bad-vector 6 h) (d .1) in
+    let x = overpacked (part (at + 2 + first) (threeLength (n % 8192)) l) in
+    let a = measured version first four l at (vectorHead h) (λ m. bad-vector m h) (no-end h) e in
+    let f = passed (strangeLeave n || x) _ _ _ (no-strange version n h) (a .is) in
     let i : n ≡ h = cc in
-    let p : vectorEnd first four at n ≤ length l = ltb-false _ _ (d .0) in
-    record { header = ltb-false _ _ (a .0); is = i; fits = rw i at p; packed = rw i at (f .0) }
+    record {
+      header = a .header;
+      is = i;
+      some = rw i at (a .some);
+      fits = rw i at (a .fits);
+      leave = rw i at (or-left (strangeLeave n) x (f .0));
+      packed = rw i at (or-right (strangeLeave n) x (f .0));
+    }
+
+-- passed over, which is for versions above 0
+pub record PassedOver (version first : ℕ) (four : Bool) (l : List ℕ) (at h : ℕ) : Type 0 where
+  pub newer : eqb version 0 ≡ false
+  pub header : at + 2 ≤ length l
+  pub is : beAt 2 l at ≡ h
+  pub fits : vectorEnd first four at h ≤ length l
+  pub strange : (strangeLeave h || overpacked (part (at + 2 + first) (threeLength (h % 8192)) l)) ≡ true
+
+bad-over : (n h : ℕ) → badVector n ≡ passedOver h → ⊥
+bad-over n h e = let z : _≡_ {A = ℕ} 0 1 = cc in omega arith
+
+pub passing-over : (version first : ℕ) (four : Bool) (l : List ℕ) (at h : ℕ) → vectorIn version first four l at ≡ passedOver h
+    → PassedOver version first four l at h
+passing-over version first four l at h e = go (eqb version 0) refl (strangeLeave n || x) refl (unfold strangeVector in (a .is))
+  where
+    n : ℕ
+    n = beAt 2 l at
+
+    x : Bool
+    x = overpacked (part (at + 2 + first) (threeLength (n % 8192)) l)
+
+    a : Measured version first four l at (passedOver h) (λ m. bad-over m h) (λ i. let z : _≡_ {A = ℕ} 0 1 = cc in omega arith)
+    a = measured version first four l at (passedOver h) (λ m. bad-over m h) (λ i. let z : _≡_ {A = ℕ} 0 1 = cc in omega arith) e
+
+    go : (v : Bool) → eqb version 0 ≡ v → (t : Bool) → (strangeLeave n || x) ≡ t
+        → cond t (cond v (badVector 6) (passedOver n)) (vectorHead n) ≡ passedOver h → PassedOver version first four l at h
+    go v p false q i = let z : _≡_ {A = ℕ} 0 1 = cc in absurd (omega arith)
+    go true p true q i = absurd (bad-over 6 h i)
+    go false p true q i =
+        let j : n ≡ h = cc in
+        record { newer = p; header = a .header; is = j; fits = rw j at (a .fits); strange = rw j at q }
 
 -- and of a type
-module _ (k : Attribute) (l : List ℕ) (at h : ℕ) where
+module _ (version : ℕ) (k : Attribute) (l : List ℕ) (at h : ℕ) where
   pub record Passed : Type 0 where
-    pub there : vectorIn (firstLength k) (hasFour k) l at ≡ vectorHead h
+    pub there : vectorIn version (firstLength k) (hasFour k) l at ≡ vectorHead h
     pub fitting : Fitting (firstLength k) (hasFour k) l at h
     pub within : overflows (vectorAt k l at h) ≡ false
 
-  pub passed-all : typedIn k l at ≡ vectorHead h → Passed
+  pub passed-all : typedIn version k l at ≡ vectorHead h → Passed
   unfolding typedIn checkedIn
-  passed-all = go (vectorIn (firstLength k) (hasFour k) l at) refl
+  passed-all = go (vectorIn version (firstLength k) (hasFour k) l at) refl
     where
-      go : (r : InList) → vectorIn (firstLength k) (hasFour k) l at ≡ r → checkedIn k l at r ≡ vectorHead h → Passed
+      go : (r : InList) → vectorIn version (firstLength k) (hasFour k) l at ≡ r → checkedIn k l at r ≡ vectorHead h → Passed
       go (badVector n) i e = absurd (bad-vector n h e)
       go listEnd i e = let a = passed (eqb (at + 2) (length l)) _ _ _ (no-end h) e in absurd (bad-vector 3 h (a .1))
       go (vectorHead m) i e =
           let a = passed (overflows (vectorAt k l at m)) _ _ _ (bad-vector 7 h) e in
           let q : m ≡ h = cc in
-          let there : vectorIn (firstLength k) (hasFour k) l at ≡ vectorHead h = rw q at i in
-          record { there = there; fitting = fitting (firstLength k) (hasFour k) l at h there; within = rw q at (a .0) }
+          let there : vectorIn version (firstLength k) (hasFour k) l at ≡ vectorHead h = rw q at i in
+          record { there = there; fitting = fitting version (firstLength k) (hasFour k) l at h there; within = rw q at (a .0) }
+      go (passedOver m) i e = let z : _≡_ {A = ℕ} 0 1 = cc in absurd (omega arith)
+
+  -- one that is passed over is so of every type: its values are not looked at
+  pub over-typed : typedIn version k l at ≡ passedOver h → vectorIn version (firstLength k) (hasFour k) l at ≡ passedOver h
+  unfolding typedIn checkedIn
+  over-typed = go (vectorIn version (firstLength k) (hasFour k) l at) refl
+    where
+      go : (r : InList) → vectorIn version (firstLength k) (hasFour k) l at ≡ r → checkedIn k l at r ≡ passedOver h
+          → vectorIn version (firstLength k) (hasFour k) l at ≡ passedOver h
+      go (badVector n) i e = i ∙ e
+      go listEnd i e =
+          let a = passed (eqb (at + 2) (length l)) listEnd _ _ (λ j. let z : _≡_ {A = ℕ} 0 1 = cc in omega arith) e in
+          absurd (bad-over 3 h (a .1))
+      go (vectorHead m) i e =
+          let a = passed (overflows (vectorAt k l at m)) _ _ _ (bad-over 7 h) e in
+          let z : _≡_ {A = ℕ} 0 1 = cc in
+          absurd (omega arith)
+      go (passedOver m) i e = i ∙ e
 
 -- The facts of a vector found.
 
@@ -158,10 +268,10 @@ pub record InOctets (v : Vector) : Type 0 where
   pub three : Octets (v .three)
   pub four : Octets (v .four)
 
-pub sound-at : (k : Attribute) (l : List ℕ) (at h : ℕ) → typedIn k l at ≡ vectorHead h → Sound (vectorAt k l at h)
+pub sound-at : (version : ℕ) (k : Attribute) (l : List ℕ) (at h : ℕ) → typedIn version k l at ≡ vectorHead h → Sound (vectorAt k l at h)
 unfolding vectorAt vectorEnd
-sound-at k l at h e =
-    let p = passed-all k l at h e in
+sound-at version k l at h e =
+    let p = passed-all version k l at h e in
     let f = p .fitting .fits in
     record {
       values = omega arith;
@@ -173,10 +283,10 @@ sound-at k l at h e =
     }
 
 pub walk-sound : (s : List ℕ) (vs : List Vector) → walk s ≡ found vs → All Sound vs
-walk-sound s vs e = every-walk Sound s (λ k place at h. sound-at k (listAt s place) at h) vs e
+walk-sound s vs e = every-walk Sound s (λ version k place at h. sound-at version k (listAt s place) at h) vs e
 
 pub walk-octets : (s : List ℕ) (vs : List Vector) → Octets s → walk s ≡ found vs → All InOctets vs
-walk-octets s vs o e = every-walk InOctets s (λ k place at h _. vector-octets k at h (listAt s place) (unfold listAt in (octets-part _ _ s o))) vs e
+walk-octets s vs o e = every-walk InOctets s (λ version k place at h _. vector-octets k at h (listAt s place) (unfold listAt in (octets-part _ _ s o))) vs e
   where
     vector-octets : (k : Attribute) (at h : ℕ) (l : List ℕ) → Octets l → InOctets (vectorAt k l at h)
     vector-octets k at h l o = unfold vectorAt in record { first = octets-part _ _ l o; three = octets-part _ _ l o; four = octets-part _ _ l o }
@@ -195,14 +305,6 @@ Fits (leave k i) = i < 2 ^ 64
 Fits (talk i f v) = (i < 2 ^ 64) × ValidFixed f × ValidVarying v
 Fits (listen i r) = i < 2 ^ 64
 Fits (ofDomain a) = FitsDomain a
-
-pub or-left : (a b : Bool) → (a || b) ≡ false → a ≡ false
-or-left true b e = e
-or-left false b e = refl
-
-pub or-right : (a b : Bool) → (a || b) ≡ false → b ≡ false
-or-right true b e = absurd (true≢false e)
-or-right false b e = e
 
 -- the last value of a vector runs past no field
 pub last-within : (v : Vector) → overflows v ≡ false → 1 ≤ v .values → runsPast (v .attribute) (v .first) (v .values - 1) ≡ false

@@ -21,6 +21,8 @@ pub mod Borrowing
 pub mod ReceiveKeepsForm
 pub mod AdvanceKeepsForm
 pub mod ReadBack
+pub mod Versions
+pub mod CutOut
 pub mod WritingPasses
 pub mod Refusals
 pub mod Edge

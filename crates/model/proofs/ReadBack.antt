@@ -7,7 +7,7 @@ use native.Mathlib.Nat.{add-zero}
 use native.Mathlib.Omega.{arith}
 use lib.ListN.{length, getD, drop, length-append}
 use lib.Seq.{take-append-seam, drop-append-seam, getD-append-seam, getD-append-add}
-use lib.Dec.{ltb, leb}
+use lib.Dec.{ltb, leb, eqb}
 use borrow.Author.Tests.{ltb-true, ltb-false, leb-true, le-ltb, le-leb, eq-eqb, ne-eqb}
 use Rattle.octets.specs.Be.{beAt, be}
 use Rattle.octets.specs.Fields.{fields, packed, Fit, flat}
@@ -18,21 +18,21 @@ use Rattle.model.specs.FrameLayout.{longestPdu}
 use Rattle.model.specs.Lists.{All, keep, bit}
 use Rattle.model.specs.State.{Port, Settings, Fixed, Health, sound, broken, Ready, askingFailed, ready, readyFailed, Column, none, advertise, failed, Entry, noEntry, filters, forwards, Declared, nothing, tells, Result, Stream, Bridge, portAt, resultAt, classPriority, classId, unsettled}
 use Rattle.model.specs.Registrations.{Kind, advertises, faileds, listeners, talk, listen, ofDomain, joinDomain, acts}
-use Rattle.model.specs.Frames.{Attribute, registers, domain, known, typeOctet, typeNumber, firstWidths, firstLength, threeLength, hasFour, fourLength, Vector, vectorAt, vectorEnd, overpacked, runsPast, overflows, vectorIn, checkedIn, typedIn, listLength, listAt, messageEnd, endMark, headerIn, messageIn, found, also, both, vectorsFrom, vectors, messagesFrom, messages, walk, joinMt, event, threePacked, fourPacked, eventOf, fourOf, asking, join, priorityOf, rankOf, fixedValue, healthValue, idValue, hearing, talkerAct, listenerAct, hasSlot, slotOf, slotAct, domainAct, valueActs, valuesActs, leaveAllActs, vectorActs, frameActs, walked, wrongPort, reading}
+use Rattle.model.specs.Frames.{Attribute, registers, domain, known, typeOctet, typeNumber, firstWidths, firstLength, threeLength, hasFour, fourLength, Vector, vectorAt, vectorEnd, overpacked, runsPast, overflows, strangeLeave, vectorIn, checkedIn, typedIn, listLength, listAt, messageEnd, endMark, headerIn, messageIn, listOf, found, also, both, vectorsFrom, vectors, messagesFrom, messages, walk, joinMt, event, threePacked, fourPacked, eventOf, fourOf, asking, join, priorityOf, rankOf, fixedValue, healthValue, idValue, hearing, talkerAct, listenerAct, hasSlot, slotOf, slotAct, domainAct, valueActs, valuesActs, leaveAllActs, vectorActs, frameActs, walked, wrongPort, reading}
 use Rattle.model.specs.Declarations.{Declaration, talkerDeclaration, listenerDeclaration, domainDeclaration, healthKind, attributeOf, joinOf, advertised, failing, listening, declarationsOf, ofKind, domainOf, domainValues, declarations, vectorSize, sameAttribute, takes, write}
 use Rattle.model.specs.WrittenFrames.{priorityOctet, fixedNumbers, failureNumbers, firstNumbers, readyNumber, fourOctets, declarationVector, vectorOctets, messageOf, messageOctets, having, pduOctets}
-use Rattle.model.proofs.Lists.{all-map, all-append, all-take, all-drop, all-getD, and-left, and-right}
+use Rattle.model.proofs.Lists.{all-map, all-append, all-take, all-drop, all-getD, and-left, and-right, and-false}
 use Rattle.model.proofs.Valid.{Valid, ValidSettings, ValidFixed, ValidHealth, ValidVarying, ValidColumn, ValidResult, ValidStream}
 use Rattle.model.proofs.AdvanceKeepsForm.{unsettled-valid}
 use Rattle.model.proofs.WritingPasses.{length-first, length-vector, known-type, inTurn, NotBefore, OfAttribute, InOrder, all-of-kind, all-domains, having-attribute, having-none, declared, write-above, write-from, run-in-order, run-fits}
 
 -- Octets behind a prefix.
 
-beAt-behind : (n : ℕ) (x y : List ℕ) (at : ℕ) → beAt n (x ++ y) (length x + at) ≡ beAt n y at
+pub beAt-behind : (n : ℕ) (x y : List ℕ) (at : ℕ) → beAt n (x ++ y) (length x + at) ≡ beAt n y at
 beAt-behind n x y at =
     beAt-ext n (x ++ y) y (length x + at) at (λ j l. ap (λ (k : ℕ). getD (x ++ y) k 0) (omega arith) ∙ getD-append-add x y (at + j) 0)
 
-beAt-here : (n : ℕ) (x y : List ℕ) → beAt n (x ++ y) (length x) ≡ beAt n y 0
+pub beAt-here : (n : ℕ) (x y : List ℕ) → beAt n (x ++ y) (length x) ≡ beAt n y 0
 beAt-here n x y = ap (beAt n (x ++ y)) (omega arith) ∙ beAt-behind n x y 0
 
 -- a part that stands behind a prefix
@@ -83,15 +83,26 @@ no-overflow d =
     let ws : List ℕ = firstWidths (attributeOf d) in
     no-run-past (attributeOf d) (packed ws (firstNumbers d)) (packed-octets ws (firstNumbers d))
 
--- a vector of one value that has no fault is found, and the walk goes on behind it
-vectors-more : (f : ℕ) (k : Attribute) (l : List ℕ) (at : ℕ) (v : Vector)
-    → beAt 2 l at ≡ 1 → at + 2 ≤ length l → vectorEnd (firstLength k) (hasFour k) at 1 ≤ length l → vectorAt k l at 1 ≡ v
-    → overpacked (v .three) ≡ false → overflows v ≡ false
-    → vectors (suc f) k l at ≡ also v (vectors f k l (vectorEnd (firstLength k) (hasFour k) at 1))
+-- a vector of header h that has no fault is found, at every version, and the walk goes on behind it
+pub vectors-more : (f version : ℕ) (k : Attribute) (l : List ℕ) (at h : ℕ) (v : Vector)
+    → beAt 2 l at ≡ h → (h ≡ 0 → ⊥) → strangeLeave h ≡ false → at + 2 ≤ length l → vectorEnd (firstLength k) (hasFour k) at h ≤ length l
+    → vectorAt k l at h ≡ v → overpacked (v .three) ≡ false → overflows v ≡ false
+    → vectors (suc f) version k l at ≡ also v (vectors f version k l (vectorEnd (firstLength k) (hasFour k) at h))
 unfolding vectors typedIn vectorIn checkedIn vectorsFrom
-vectors-more f k l at v one header fits is three values =
-    let events : overpacked (part (at + 2 + firstLength k) (threeLength 1) l) ≡ false = unfold vectorAt in (rw (← is) at three) in
-    rw (one, le-ltb (length l) (at + 2) header, le-ltb (length l) (vectorEnd (firstLength k) (hasFour k) at 1) fits, events, is, values, is)
+vectors-more f version k l at h v is some leave header fits one three values =
+    let events : overpacked (part (at + 2 + firstLength k) (threeLength (h % 8192)) l) ≡ false = unfold vectorAt in (rw (← one) at three) in
+    rw (
+      is,
+      le-ltb (length l) (at + 2) header,
+      ne-eqb h 0 some,
+      leave,
+      and-false (eqb version 0),
+      le-ltb (length l) (vectorEnd (firstLength k) (hasFour k) at h) fits,
+      events,
+      one,
+      values,
+      one,
+    )
 
 module _ (d : Declaration) (pre rest : List ℕ) where
   -- the list that has the vector at the place
@@ -148,26 +159,26 @@ module _ (d : Declaration) (pre rest : List ℕ) where
   unfolding here
   length-here = simp (length-append, length-vector d)
 
-  read-vector : (f : ℕ) → vectors (suc f) (attributeOf d) here (length pre)
-      ≡ also (declarationVector d) (vectors f (attributeOf d) here (length pre + vectorSize (attributeOf d)))
+  read-vector : (f : ℕ) → vectors (suc f) 0 (attributeOf d) here (length pre)
+      ≡ also (declarationVector d) (vectors f 0 (attributeOf d) here (length pre + vectorSize (attributeOf d)))
   read-vector f =
-      vectors-more f (attributeOf d) here (length pre) (declarationVector d) header-here
+      vectors-more f 0 (attributeOf d) here (length pre) 1 (declarationVector d) header-here (λ e. omega arith) (unfold strangeLeave in refl)
       (omega (arith, length-here, length-vector d, ap length (vector-octets d)))
       (omega (arith, length-here, end-here))
       vector-here
       (unfold declarationVector overpacked in refl)
       (no-overflow d)
-      ∙ ap (λ (e : ℕ). also (declarationVector d) (vectors f (attributeOf d) here e)) end-here
+      ∙ ap (λ (e : ℕ). also (declarationVector d) (vectors f 0 (attributeOf d) here e)) end-here
 
 -- An AttributeList.
 
 -- behind any prefix, and with fuel for its octets, the list is read as these vectors
-VectorsRead : Attribute → List ℕ → List Vector → Type 0
-VectorsRead k s vs = (f : ℕ) (pre : List ℕ) → length s ≤ f → vectors f k (pre ++ s) (length pre) ≡ found vs
+unfoldable pub VectorsRead : Attribute → List ℕ → List Vector → Type 0
+VectorsRead k s vs = (f : ℕ) (pre : List ℕ) → length s ≤ f → vectors f 0 k (pre ++ s) (length pre) ≡ found vs
 
 -- the EndMark, as the list's last two octets
-vectors-end : (k : Attribute) → VectorsRead k (0 ∷ 0 ∷ []) []
-unfolding VectorsRead vectors typedIn vectorIn checkedIn vectorsFrom
+pub vectors-end : (k : Attribute) → VectorsRead k (0 ∷ 0 ∷ []) []
+unfolding VectorsRead vectors typedIn vectorIn strangeLeave checkedIn vectorsFrom
 vectors-end k zero pre h = absurd (omega arith)
 vectors-end k (suc f) pre h =
     let l : length (pre ++ (0 ∷ 0 ∷ [])) ≡ length pre + 2 = length-append pre (0 ∷ 0 ∷ []) in
@@ -183,7 +194,7 @@ vectors-cons d rest vs r f pre h = go f (omega (arith, length-append v rest, ap 
     v : List ℕ
     v = vectorOctets (declarationVector d)
 
-    go : (f : ℕ) → suc (length rest) ≤ f → vectors f (attributeOf d) (pre ++ (v ++ rest)) (length pre) ≡ found (declarationVector d ∷ vs)
+    go : (f : ℕ) → suc (length rest) ≤ f → vectors f 0 (attributeOf d) (pre ++ (v ++ rest)) (length pre) ≡ found (declarationVector d ∷ vs)
     go zero h = absurd (omega arith)
     go (suc f) h =
         let e : length pre + vectorSize (attributeOf d) ≡ length (pre ++ v) = simp (length-append, length-vector d) in
@@ -223,13 +234,12 @@ some-type (registers faileds) = omega arith
 some-type (registers listeners) = omega arith
 some-type domain = omega arith
 
--- a Message without fault is read, and the walk goes on behind it
-messages-more : (f : ℕ) (k : Attribute) (s : List ℕ) (at n : ℕ) (list : List ℕ) (vs : List Vector)
-    → at + 4 + n ≤ length s → (beAt 2 s at ≡ 0 → ⊥) → typeOctet 0 (getD s at 0) ≡ known k → getD s (at + 1) 0 ≡ firstLength k
-    → beAt 2 s (at + 2) ≡ n → part (at + 4) n s ≡ list → vectors (suc n) k list 0 ≡ found vs
-    → messages (suc f) 0 s at ≡ both (found vs) (messages f 0 s (at + 4 + n))
-unfolding messages messageIn messagesFrom headerIn endMark listLength listAt messageEnd
-messages-more f k s at n list vs fits marked type first long is read =
+-- a Message of a known type without fault is one whose list is read
+pub message-known : (version : ℕ) (k : Attribute) (s : List ℕ) (at n : ℕ)
+    → at + 4 + n ≤ length s → (beAt 2 s at ≡ 0 → ⊥) → typeOctet version (getD s at 0) ≡ known k → getD s (at + 1) 0 ≡ firstLength k
+    → beAt 2 s (at + 2) ≡ n → messageIn version s at ≡ listOf k
+unfolding messageIn headerIn endMark listLength messageEnd
+message-known version k s at n fits marked type first long =
     rw (
       ne-eqb at (length s) (λ e. omega arith),
       le-leb (at + 2) (length s) (omega arith),
@@ -239,13 +249,19 @@ messages-more f k s at n list vs fits marked type first long is read =
       eq-eqb (getD s (at + 1) 0) (firstLength k) first,
       long,
       le-ltb (length s) (at + 4 + n) fits,
-      long,
-      is,
-      read,
     )
 
+-- and the walk goes on behind it
+messages-more : (f : ℕ) (k : Attribute) (s : List ℕ) (at n : ℕ) (list : List ℕ) (vs : List Vector)
+    → at + 4 + n ≤ length s → (beAt 2 s at ≡ 0 → ⊥) → typeOctet 0 (getD s at 0) ≡ known k → getD s (at + 1) 0 ≡ firstLength k
+    → beAt 2 s (at + 2) ≡ n → part (at + 4) n s ≡ list → vectors (suc n) 0 k list 0 ≡ found vs
+    → messages (suc f) 0 s at ≡ both (found vs) (messages f 0 s (at + 4 + n))
+unfolding messages messagesFrom listLength listAt messageEnd
+messages-more f k s at n list vs fits marked type first long is read =
+    rw (message-known 0 k s at n fits marked type first long, long, is, read)
+
 -- a number of two octets
-two-octets : (n : ℕ) (y : List ℕ) → n < 65536 → beAt 2 (be 2 n ++ y) 0 ≡ n
+pub two-octets : (n : ℕ) (y : List ℕ) → n < 65536 → beAt 2 (be 2 n ++ y) 0 ≡ n
 unfolding beAt be
 two-octets n y h = omega arith
 
@@ -296,7 +312,7 @@ module _ (k : Attribute) (list pre rest : List ℕ) (short : length list < 65536
       rw (message-here, cut)
       (part-behind (pre ++ (lead ++ be 2 (length list))) list rest (length pre + 4) (length list) (simp (length-append, length-be)) refl)
 
-  read-message : (f : ℕ) (vs : List Vector) → vectors (suc (length list)) k list 0 ≡ found vs
+  read-message : (f : ℕ) (vs : List Vector) → vectors (suc (length list)) 0 k list 0 ≡ found vs
       → messages (suc f) 0 pdu (length pre) ≡ both (found vs) (messages f 0 pdu (length pre + 4 + length list))
   read-message f vs read =
       messages-more f k pdu (length pre) (length list) list vs
@@ -308,7 +324,7 @@ length-messageOf k list = simp (length-append, length-be) (omega arith)
 
 -- one Message more, in front
 messages-cons : (k : Attribute) (list rest : List ℕ) (vs ws : List Vector) → length list < 65536
-    → vectors (suc (length list)) k list 0 ≡ found vs → MessagesRead rest ws → MessagesRead (messageOf k list ++ rest) (vs ++ ws)
+    → vectors (suc (length list)) 0 k list 0 ≡ found vs → MessagesRead rest ws → MessagesRead (messageOf k list ++ rest) (vs ++ ws)
 unfolding MessagesRead pdu both
 messages-cons k list rest vs ws short read r f pre h = go f (omega (arith, length-append m rest, length-messageOf k list))
   where

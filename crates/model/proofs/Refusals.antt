@@ -5,7 +5,7 @@
 use mathlib.Core.Path.{_≡_, refl, sym, _∙_, ap, subst}
 use mathlib.Core.Logic.{_↔_, Iff·rfl, Iff·trans, Iff·and, _⊎_, inl, inr, ⊎-elim}
 use mathlib.Core.List.{List, [], _∷_, List·Memᴰ, List·Memᴰ·not-nil, List·Memᴰ·cases-cons}
-use mathlib.Core.Bool.{Bool, true, false, cond, not, _||_, true≢false, false≢true}
+use mathlib.Core.Bool.{Bool, true, false, cond, not, _&&_, _||_, true≢false, false≢true}
 use Prim.Native.Nat.{ℕ, zero, suc, _+_, _-_, _/_, _%_, _≤_, _<_}
 use native.Mathlib.Omega.{arith}
 use lib.ListN.{length, getD}
@@ -18,7 +18,7 @@ use Rattle.model.specs.FrameLayout.{longestPdu}
 use Rattle.model.specs.Lists.{All, Octets}
 use Rattle.model.specs.State.{Settings, Bridge}
 use Rattle.model.specs.Registrations.{refused, Answer, received, applyAll, add, together, ids, joins}
-use Rattle.model.specs.Frames.{Attribute, TypeOctet, notAllowed, unknown, known, typeOctet, firstLength, threeLength, hasFour, Vector, vectorAt, vectorEnd, overpacked, overflows, InList, badVector, listEnd, vectorHead, vectorIn, checkedIn, typedIn, InPdu, badMessage, pduEnd, listSkipped, listOf, listLength, listAt, messageEnd, endMark, headerIn, messageIn, Walk, fault, found, also, both, vectorsFrom, vectors, messagesFrom, messages, walk, walked, frameActs, reading, wrongPort}
+use Rattle.model.specs.Frames.{Attribute, TypeOctet, notAllowed, unknown, known, typeOctet, firstLength, threeLength, hasFour, Vector, vectorAt, vectorEnd, overpacked, overflows, InList, badVector, listEnd, vectorHead, passedOver, strangeLeave, strangeVector, vectorIn, checkedIn, typedIn, InPdu, badMessage, pduEnd, listSkipped, listOf, listLength, listAt, messageEnd, endMark, headerIn, messageIn, Walk, fault, found, also, both, vectorsFrom, vectors, messagesFrom, messages, walk, walked, frameActs, reading, wrongPort}
 use Rattle.model.specs.Settling.{advance}
 use Rattle.model.specs.Declarations.{Written, write, declarations}
 use Rattle.model.specs.Reports.{Report, refusedReport, report}
@@ -278,24 +278,27 @@ abbrev ListFaults : InList → Type 0
 ListFaults (badVector n) = (3 ≤ n) × (n ≤ 7)
 ListFaults listEnd = Unit {0}
 ListFaults (vectorHead h) = Unit {0}
+ListFaults (passedOver h) = Unit {0}
 
-vector-faults : (first : ℕ) (four : Bool) (l : List ℕ) (at : ℕ) → ListFaults (vectorIn first four l at)
-unfolding vectorIn
-vector-faults first four l at =
+vector-faults : (version first : ℕ) (four : Bool) (l : List ℕ) (at : ℕ) → ListFaults (vectorIn version first four l at)
+unfolding vectorIn strangeVector
+vector-faults version first four l at =
     let h = beAt 2 l at in
     let three : ListFaults (badVector 3) = (omega arith, omega arith) in
     let six : ListFaults (badVector 6) = (omega arith, omega arith) in
     cond-either ListFaults (ltb (length l) (at + 2)) _ _ three
     (cond-either ListFaults (eqb h 0) _ _ tt
-    (cond-either ListFaults (ltb 1 (h / 8192)) _ _ six
+    (cond-either ListFaults (eqb version 0 && strangeLeave h) _ _ six
     (cond-either ListFaults (ltb (length l) (vectorEnd first four at h)) _ _ three
-    (cond-either ListFaults (overpacked (part (at + 2 + first) (threeLength (h % 8192)) l)) _ _ six tt))))
+    (cond-either ListFaults (strangeLeave h || overpacked (part (at + 2 + first) (threeLength (h % 8192)) l)) _ _
+    (cond-either ListFaults (eqb version 0) _ _ six tt) tt))))
 
 checked-faults : (k : Attribute) (l : List ℕ) (at : ℕ) (r : InList) → ListFaults r → ListFaults (checkedIn k l at r)
 unfolding checkedIn
 checked-faults k l at (badVector n) h = h
 checked-faults k l at listEnd h = cond-either ListFaults (eqb (at + 2) (length l)) _ _ tt (omega arith, omega arith)
 checked-faults k l at (vectorHead h) _ = cond-either ListFaults (overflows (vectorAt k l at h)) _ _ (omega arith, omega arith) tt
+checked-faults k l at (passedOver h) _ = tt
 
 from-faults : (k : Attribute) (l : List ℕ) (at : ℕ) (r : InList) (rest : ℕ → Walk) → ListFaults r → ((e : ℕ) → Faults (rest e)) →
     Faults (vectorsFrom k l at r rest)
@@ -303,12 +306,13 @@ unfolding vectorsFrom
 from-faults k l at (badVector n) rest h g = h
 from-faults k l at listEnd rest h g = tt
 from-faults k l at (vectorHead h) rest _ g = also-faults (vectorAt k l at h) _ (g _)
+from-faults k l at (passedOver h) rest _ g = g _
 
-vectors-faults : (f : ℕ) (k : Attribute) (l : List ℕ) (at : ℕ) → Faults (vectors f k l at)
+vectors-faults : (f version : ℕ) (k : Attribute) (l : List ℕ) (at : ℕ) → Faults (vectors f version k l at)
 unfolding vectors typedIn
-vectors-faults zero k l at = (omega arith, omega arith)
-vectors-faults (suc f) k l at =
-    from-faults k l at _ (vectors f k l) (checked-faults k l at _ (vector-faults (firstLength k) (hasFour k) l at)) (vectors-faults f k l)
+vectors-faults zero version k l at = (omega arith, omega arith)
+vectors-faults (suc f) version k l at =
+    from-faults k l at _ (vectors f version k l) (checked-faults k l at _ (vector-faults version (firstLength k) (hasFour k) l at)) (vectors-faults f version k l)
 
 abbrev PduFaults : InPdu → Type 0
 PduFaults (badMessage n) = (3 ≤ n) × (n ≤ 7)
@@ -332,18 +336,18 @@ message-faults version s at =
     (cond-either PduFaults (ltb (length s) (at + 4)) _ _ (omega arith, omega arith)
     (header-faults (typeOctet version (getD s at 0)) s at)))
 
-list-faults : (s : List ℕ) (at : ℕ) (r : InPdu) (rest : Walk) → PduFaults r → Faults rest → Faults (messagesFrom s at r rest)
+list-faults : (version : ℕ) (s : List ℕ) (at : ℕ) (r : InPdu) (rest : Walk) → PduFaults r → Faults rest → Faults (messagesFrom version s at r rest)
 unfolding messagesFrom
-list-faults s at (badMessage n) rest h g = h
-list-faults s at pduEnd rest h g = tt
-list-faults s at listSkipped rest h g = g
-list-faults s at (listOf k) rest h g = both-faults _ rest (vectors-faults (suc (listLength s at)) k (listAt s at) 0) g
+list-faults version s at (badMessage n) rest h g = h
+list-faults version s at pduEnd rest h g = tt
+list-faults version s at listSkipped rest h g = g
+list-faults version s at (listOf k) rest h g = both-faults _ rest (vectors-faults (suc (listLength s at)) version k (listAt s at) 0) g
 
 messages-faults : (f version : ℕ) (s : List ℕ) (at : ℕ) → Faults (messages f version s at)
 unfolding messages
 messages-faults zero version s at = (omega arith, omega arith)
 messages-faults (suc f) version s at =
-    list-faults s at _ _ (message-faults version s at) (messages-faults f version s (messageEnd s at))
+    list-faults version s at _ _ (message-faults version s at) (messages-faults f version s (messageEnd s at))
 
 afterVersion : List ℕ → Walk
 afterVersion s = messages (suc (length s)) (getD s 0 0) s 1

@@ -95,7 +95,7 @@ vectorAt k l at h =
 unfoldable pub vectorEnd : ℕ → Bool → ℕ → ℕ → ℕ
 vectorEnd first four at h = at + 2 + first + threeLength (h % 8192) + fourLength four (h % 8192)
 
--- an event octet above 215 is 6
+-- "a ThreePackedEvents octet above 215"
 unfoldable pub overpacked : List ℕ → Bool
 overpacked [] = false
 overpacked (o ∷ l) = ltb 215 o || overpacked l
@@ -114,32 +114,45 @@ overflows v = not (eqb (v .values) 0) && runsPast (v .attribute) (v .first) (v .
 
 -- What stands at a place of an AttributeList.
 
--- a fault with its number, the EndMark, or a vector with its header
+-- a fault with its number, the EndMark, or a vector with its header, one that is read or one that is passed over
 pub data InList : Type 0 where
   badVector : ℕ → InList
   listEnd : InList
   vectorHead : ℕ → InList
+  passedOver : ℕ → InList
+
+-- "LeaveAllEvent above 1", of a header
+unfoldable pub strangeLeave : ℕ → Bool
+strangeLeave h = ltb 1 (h / 8192)
+
+-- a vector that has one or the other: "With ProtocolVersion above 0 [it] should be passed over, since its layout still gives its
+-- length"; "Version 0 keeps number 6" (02)
+unfoldable pub strangeVector : ℕ → ℕ → InList
+strangeVector version h = cond (eqb version 0) (badVector 6) (passedOver h)
 
 -- "Checks: header (3), LeaveAllEvent (6), fits (3), event octets (6), values (7)"; "Header 00 00 is the EndMark". All but the
--- values are read as in the lists of any MRP application, by the octets of FirstValue and whether FourPackedEvents follow
-unfoldable pub vectorIn : ℕ → Bool → List ℕ → ℕ → InList
-vectorIn first four l at =
+-- values are read as in the lists of any MRP application, by the octets of FirstValue and whether FourPackedEvents follow. Where
+-- a vector may be passed over, "whether it fits is still checked (3)", so its LeaveAllEvent counts after that
+unfoldable pub vectorIn : ℕ → ℕ → Bool → List ℕ → ℕ → InList
+vectorIn version first four l at =
     let h = beAt 2 l at in
     cond (ltb (length l) (at + 2)) (badVector 3)
     (cond (eqb h 0) listEnd
-    (cond (ltb 1 (h / 8192)) (badVector 6)
+    (cond (eqb version 0 && strangeLeave h) (badVector 6)
     (cond (ltb (length l) (vectorEnd first four at h)) (badVector 3)
-    (cond (overpacked (part (at + 2 + first) (threeLength (h % 8192)) l)) (badVector 6)
+    (cond (strangeLeave h || overpacked (part (at + 2 + first) (threeLength (h % 8192)) l)) (strangeVector version h)
     (vectorHead h)))))
 
--- 3 too where "a list's EndMark isn't its last two octets"; and the values, of a type
+-- 3 too where "a list's EndMark isn't its last two octets"; and the values, of a type: "Passing over a vector skips its check for
+-- number 7 too"
 unfoldable pub checkedIn : Attribute → List ℕ → ℕ → InList → InList
 checkedIn k l at (badVector n) = badVector n
 checkedIn k l at listEnd = cond (eqb (at + 2) (length l)) listEnd (badVector 3)
 checkedIn k l at (vectorHead h) = cond (overflows (vectorAt k l at h)) (badVector 7) (vectorHead h)
+checkedIn k l at (passedOver h) = passedOver h
 
-unfoldable pub typedIn : Attribute → List ℕ → ℕ → InList
-typedIn k l at = checkedIn k l at (vectorIn (firstLength k) (hasFour k) l at)
+unfoldable pub typedIn : ℕ → Attribute → List ℕ → ℕ → InList
+typedIn version k l at = checkedIn k l at (vectorIn version (firstLength k) (hasFour k) l at)
 
 -- What stands at a place of a PDU.
 
@@ -196,26 +209,28 @@ both (fault n) w = fault n
 both (found vs) (fault n) = fault n
 both (found vs) (found ws) = found (vs ++ ws)
 
--- an AttributeList, from a place on. (The first argument bounds the vectors left.)
+-- an AttributeList, from a place on: a vector that is passed over is none, and "the vectors after it should be read". (The first
+-- argument bounds the vectors left.)
 unfoldable pub vectorsFrom : Attribute → List ℕ → ℕ → InList → (ℕ → Walk) → Walk
 vectorsFrom k l at (badVector n) rest = fault n
 vectorsFrom k l at listEnd rest = found []
 vectorsFrom k l at (vectorHead h) rest = also (vectorAt k l at h) (rest (vectorEnd (firstLength k) (hasFour k) at h))
+vectorsFrom k l at (passedOver h) rest = rest (vectorEnd (firstLength k) (hasFour k) at h)
 
-unfoldable pub vectors : ℕ → Attribute → List ℕ → ℕ → Walk
-vectors zero k l at = fault 3
-vectors (suc f) k l at = vectorsFrom k l at (typedIn k l at) (vectors f k l)
+unfoldable pub vectors : ℕ → ℕ → Attribute → List ℕ → ℕ → Walk
+vectors zero version k l at = fault 3
+vectors (suc f) version k l at = vectorsFrom k l at (typedIn version k l at) (vectors f version k l)
 
 -- the Messages from a place on, to the EndMark or the end. (The first argument bounds the Messages left.)
-unfoldable pub messagesFrom : List ℕ → ℕ → InPdu → Walk → Walk
-messagesFrom s at (badMessage n) rest = fault n
-messagesFrom s at pduEnd rest = found []
-messagesFrom s at listSkipped rest = rest
-messagesFrom s at (listOf k) rest = both (vectors (suc (listLength s at)) k (listAt s at) 0) rest
+unfoldable pub messagesFrom : ℕ → List ℕ → ℕ → InPdu → Walk → Walk
+messagesFrom version s at (badMessage n) rest = fault n
+messagesFrom version s at pduEnd rest = found []
+messagesFrom version s at listSkipped rest = rest
+messagesFrom version s at (listOf k) rest = both (vectors (suc (listLength s at)) version k (listAt s at) 0) rest
 
 unfoldable pub messages : ℕ → ℕ → List ℕ → ℕ → Walk
 messages zero version s at = fault 3
-messages (suc f) version s at = messagesFrom s at (messageIn version s at) (messages f version s (messageEnd s at))
+messages (suc f) version s at = messagesFrom version s at (messageIn version s at) (messages f version s (messageEnd s at))
 
 -- a PDU: 2 "has 0 octets or more than 1,500"; then the walk, from behind the ProtocolVersion
 unfoldable pub walk : List ℕ → Walk

@@ -12,7 +12,7 @@ pub const PAST_END: u8 = 3;
 pub const ATTRIBUTE_TYPE: u8 = 4;
 // AttributeLength not that of the type
 pub const ATTRIBUTE_LENGTH: u8 = 5;
-// LeaveAllEvent above 1, or a ThreePackedEvents octet above 215
+// with ProtocolVersion 0, LeaveAllEvent above 1 or a ThreePackedEvents octet above 215
 pub const EVENT: u8 = 6;
 // a value runs past its field
 pub const VALUE: u8 = 7;

@@ -13,89 +13,81 @@ use Rattle.octets.proofs.Parts.{lent-length}
 use Rattle.model.specs.FrameLayout.{longestPdu}
 use Rattle.model.specs.Frames.{Attribute, TypeOctet, notAllowed, unknown, known, typeOctet, firstLength, threeLength, hasFour, fourLength, Vector, vectorAt, vectorEnd, vectorHead, typedIn, Walk, fault, found, also, both, messages, walk, vectorActs, frameActs}
 use Rattle.model.proofs.Refusals.{walk-faults}
-use Rattle.model.proofs.FoundVectors.{passed, passed-all, Sound, sound-at}
+use Rattle.model.proofs.FoundVectors.{no-fault, also-found, both-found, passed, passed-all, Sound, sound-at}
 use Rattle.msrpdu.specs.Reader.{headOf, headVector, typedRead, messageRead, numberOf}
 use Rattle.msrpdu.specs.declared.VectorHead.{VectorHead}
 use Rattle.msrpdu.specs.declared.VectorRead.the-variants as vector
 use Rattle.msrpdu.specs.declared.MessageHead.{MessageHead}
 use Rattle.msrpdu.specs.declared.MessageRead.the-variants as message
 use Rattle.msrpdu.proofs.Reading.{Headed, read-head, first-here}
-use Rattle.msrpdu.proofs.Walking.{vectorsIn, vectors-refused, vectors-end, vectors-next, messages-refused, messages-end, messages-skipped, messages-list}
+use Rattle.msrpdu.proofs.Walking.{vectorsIn, vectors-refused, vectors-end, vectors-next, vectors-over, messages-refused, messages-end, messages-skipped, messages-list}
 
 -- A vector that is read is the one that its head names.
 
-head-vector : (k : Attribute) (l : List ℕ) (at h : ℕ) → typedIn k l at ≡ vectorHead h
+head-vector : (version : ℕ) (k : Attribute) (l : List ℕ) (at h : ℕ) → typedIn version k l at ≡ vectorHead h
     → vectorAt k l at h ≡ headVector k l (headOf (firstLength k) (hasFour k) at h)
 unfolding vectorAt headVector headOf vectorEnd part
-head-vector k l at h e =
-    let f = first-here (firstLength k) (hasFour k) l at h (passed-all k l at h e .there) in
+head-vector version k l at h e =
+    let f = first-here version (firstLength k) (hasFour k) l at h (passed-all version k l at h e .there) in
     rw (f, lent-length (at + 2 + firstLength k) (threeLength (h % 8192)), lent-length (at + 2 + firstLength k + threeLength (h % 8192)) (fourLength (hasFour k) (h % 8192)))
 
-module _ (k : Attribute) (l : List ℕ) (at : ℕ) (w : VectorHead) (e : typedRead (known k) l at ≡ vector.Vector w) where
-  abbrev there : Headed (firstLength k) (hasFour k) at (typedIn k l at) w
-  there = read-head (firstLength k) (hasFour k) at (typedIn k l at) w (unfold typedRead in e)
+module _ (version : ℕ) (k : Attribute) (l : List ℕ) (at : ℕ) (w : VectorHead) (e : typedRead version (known k) l at ≡ vector.Vector w) where
+  abbrev there : Headed (firstLength k) (hasFour k) at (typedIn version k l at) w
+  there = read-head (firstLength k) (hasFour k) at (typedIn version k l at) w (unfold typedRead in e)
 
   named : vectorAt k l at (there .header) ≡ headVector k l w
-  named = head-vector k l at (there .header) (there .is) ∙ ap (headVector k l) (there .head)
+  named = head-vector version k l at (there .header) (there .is) ∙ ap (headVector k l) (there .head)
 
   pub meant : vectorAt k l at (beAt 2 l at) ≡ headVector k l w
-  meant = ap (vectorAt k l at) (passed-all k l at (there .header) (there .is) .fitting .is) ∙ named
+  meant = ap (vectorAt k l at) (passed-all version k l at (there .header) (there .is) .fitting .is) ∙ named
 
   pub sound : Sound (headVector k l w)
-  sound = subst Sound named (sound-at k l at (there .header) (there .is))
+  sound = subst Sound named (sound-at version k l at (there .header) (there .is))
 
 -- The vectors that are left, after each step, of an accepted list and PDU.
 
-also-found : (v : Vector) (w : Walk) (vs : List Vector) → also v w ≡ found vs → (rest : List Vector) × (w ≡ found rest) × (vs ≡ v ∷ rest)
-unfolding also
-also-found v (fault n) vs e = let z : _≡_ {A = ℕ} 0 1 = cc in absurd (omega arith)
-also-found v (found rest) vs e = (rest, refl, cc)
-
-both-found : (w x : Walk) (vs : List Vector) → both w x ≡ found vs
-    → (us ws : List Vector) × (w ≡ found us) × (x ≡ found ws) × (vs ≡ us ++ ws)
-unfolding both
-both-found (fault n) x vs e = let z : _≡_ {A = ℕ} 0 1 = cc in absurd (omega arith)
-both-found (found us) (fault n) vs e = let z : _≡_ {A = ℕ} 0 1 = cc in absurd (omega arith)
-both-found (found us) (found ws) vs e = (us, ws, refl, refl, cc)
-
 -- a list of which only the vectors from a place on are left, by what is read there
-module _ (f : ℕ) (t : TypeOctet) (l : List ℕ) (at : ℕ) (vs : List Vector) (e : vectorsIn t (suc f) l at ≡ found vs) where
+module _ (f version : ℕ) (t : TypeOctet) (l : List ℕ) (at : ℕ) (vs : List Vector) (e : vectorsIn version t (suc f) l at ≡ found vs) where
   pub found-typed : (k : Attribute) × (t ≡ known k)
   unfolding vectorsIn
   found-typed = go t e
     where
-      go : (t : TypeOctet) → vectorsIn t (suc f) l at ≡ found vs → (k : Attribute) × (t ≡ known k)
+      go : (t : TypeOctet) → vectorsIn version t (suc f) l at ≡ found vs → (k : Attribute) × (t ≡ known k)
       go notAllowed h = let z : _≡_ {A = ℕ} 0 1 = cc in absurd (omega arith)
       go unknown h = let z : _≡_ {A = ℕ} 0 1 = cc in absurd (omega arith)
       go (known k) h = (k, refl)
 
 -- a vector is the first of those left, and the others come after it
-pub record NextVector (f : ℕ) (k : Attribute) (l : List ℕ) (at : ℕ) (w : VectorHead) (vs : List Vector) : Type 0 where
+pub record NextVector (f version : ℕ) (k : Attribute) (l : List ℕ) (at : ℕ) (w : VectorHead) (vs : List Vector) : Type 0 where
   pub rest : List Vector
   pub first : vs ≡ vectorAt k l at (beAt 2 l at) ∷ rest
-  pub left : vectorsIn (known k) f l (w .next) ≡ found rest
+  pub left : vectorsIn version (known k) f l (w .next) ≡ found rest
 
-module _ (f : ℕ) (k : Attribute) (l : List ℕ) (at : ℕ) (vs : List Vector) (e : vectorsIn (known k) (suc f) l at ≡ found vs) where
-  pub found-next : (w : VectorHead) → typedRead (known k) l at ≡ vector.Vector w → NextVector f k l at w vs
+module _ (f version : ℕ) (k : Attribute) (l : List ℕ) (at : ℕ) (vs : List Vector) (e : vectorsIn version (known k) (suc f) l at ≡ found vs) where
+  pub found-next : (w : VectorHead) → typedRead version (known k) l at ≡ vector.Vector w → NextVector f version k l at w vs
   unfolding vectorsIn
   found-next w r =
-      let a = also-found _ _ vs (sym (vectors-next f k l at w r) ∙ e) in
+      let a = also-found _ _ vs (sym (vectors-next f version k l at w r) ∙ e) in
       record { rest = a .0; first = a .2; left = a .1 }
 
-  pub found-end : typedRead (known k) l at ≡ vector.EndMark → vs ≡ []
+  pub found-over : (next : ℕ) → typedRead version (known k) l at ≡ vector.PassedOver next → vectorsIn version (known k) f l next ≡ found vs
   unfolding vectorsIn
-  found-end r = let h = vectors-end f k l at r in cc
+  found-over next r = sym (vectors-over f version k l at next r) ∙ e
 
-  pub found-accepted : (n : ℕ) → typedRead (known k) l at ≡ vector.Refused n → ⊥
+  pub found-end : typedRead version (known k) l at ≡ vector.EndMark → vs ≡ []
   unfolding vectorsIn
-  found-accepted n r = let h = vectors-refused f k l at n r in let z : _≡_ {A = ℕ} 0 1 = cc in omega arith
+  found-end r = let h = vectors-end f version k l at r in cc
+
+  pub found-accepted : (n : ℕ) → typedRead version (known k) l at ≡ vector.Refused n → ⊥
+  unfolding vectorsIn
+  found-accepted n r = let h = vectors-refused f version k l at n r in let z : _≡_ {A = ℕ} 0 1 = cc in omega arith
 
 -- a Message's vectors are the first of those left, and the others come after it
 pub record NextList (f version : ℕ) (s : List ℕ) (m : MessageHead) (vs : List Vector) : Type 0 where
   pub own : List Vector
   pub rest : List Vector
   pub split : vs ≡ own ++ rest
-  pub list : vectorsIn (typeOctet 0 (m .kind)) (suc (m .next - m .list)) (take (m .next - m .list) (drop (m .list) s)) 0 ≡ found own
+  pub list : vectorsIn version (typeOctet 0 (m .kind)) (suc (m .next - m .list)) (take (m .next - m .list) (drop (m .list) s)) 0 ≡ found own
   pub left : messages f version s (m .next) ≡ found rest
 
 module _ (f version : ℕ) (s : List ℕ) (at : ℕ) (vs : List Vector) (e : messages (suc f) version s at ≡ found vs) where
@@ -133,9 +125,6 @@ accepted s = go (walk s) refl
     go : (w : Walk) → walk s ≡ w → numberOf w ≡ 0 → (vs : List Vector) × (walk s ≡ found vs)
     go (fault n) e z = let k = walk-faults s n e in absurd (omega arith)
     go (found vs) e z = (vs, e)
-
-pub no-fault : (n : ℕ) (vs : List Vector) → fault n ≡ found vs → ⊥
-no-fault n vs e = let z : _≡_ {A = ℕ} 0 1 = cc in omega arith
 
 -- its Messages start behind the ProtocolVersion
 pub accepted-messages : (s : List ℕ) (vs : List Vector) → walk s ≡ found vs → messages (suc (length s)) (getD s 0 0) s 1 ≡ found vs

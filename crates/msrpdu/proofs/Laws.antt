@@ -1,7 +1,7 @@
 -- Laws of the reader's definitions, one for each arm. Assumes nothing.
 use mathlib.Core.Path.{_≡_, refl, ap, _∙_}
 use mathlib.Core.List.{List, []}
-use mathlib.Core.Bool.{Bool, true, false, _||_}
+use mathlib.Core.Bool.{Bool, true, false, cond, _&&_, _||_}
 use Prim.Native.Nat.{ℕ, zero, suc, _+_, _-_, _*_, _/_, _%_, _≤_, _<_, _^_}
 use native.Mathlib.Omega.{arith}
 use lib.ListN.{length, getD, take, drop, drop-of-length-le, List·getD-eq-default}
@@ -15,9 +15,9 @@ use Rattle.octets.proofs.Parts.{lent-part}
 use Rattle.model.proofs.Lists.{and-false}
 use Rattle.model.specs.FrameLayout.{domainLength}
 use Rattle.model.specs.Registrations.{advertises, faileds, listeners}
-use Rattle.model.specs.Frames.{Attribute, registers, domain, TypeOctet, notAllowed, unknown, known, typeOctet, firstLength, threeLength, hasFour, vectorEnd, overpacked, runsPast, vectorIn, listLength, endMark, messageEnd, headerIn, messageIn, threePacked, fourPacked, hasSlot, slotOf}
+use Rattle.model.specs.Frames.{Attribute, registers, domain, TypeOctet, notAllowed, unknown, known, typeOctet, firstLength, threeLength, hasFour, vectorEnd, badVector, passedOver, overpacked, runsPast, strangeLeave, strangeVector, vectorIn, listLength, endMark, messageEnd, headerIn, messageIn, threePacked, fourPacked, hasSlot, slotOf}
 use Rattle.model.specs.Frames as frames
-use Rattle.msrpdu.specs.Reader.{typeRead, pastField, headOf, vectorMeant, vectorRead, firstPart, messageMeant, messageRead, eventMeant, eventIn, fourIn, valueIn, domainIn}
+use Rattle.msrpdu.specs.Reader.{typeRead, pastField, headOf, vectorMeant, vectorRead, strangeRead, firstPart, messageMeant, messageRead, eventMeant, eventIn, fourIn, valueIn, domainIn}
 use Rattle.msrpdu.specs.declared.TypeRead.the-variants.{Known, Skipped, Refused}
 use Rattle.msrpdu.specs.declared.VectorHead.{VectorHead}
 use Rattle.msrpdu.specs.declared.VectorRead.{VectorRead}
@@ -189,33 +189,43 @@ head-rises first four at h w e = rw e (omega arith, omega arith)
 
 -- The vector at a place, in the order of the checks.
 
-module _ (first : ℕ) (four : Bool) (l : List ℕ) (at : ℕ) where
-  pub vector-short : length l < at + 2 → vectorRead first four l at ≡ vector.Refused 3
+-- one with strange events, by its header and by its head
+strange-meant : (version first : ℕ) (four : Bool) (at h : ℕ) → vectorMeant first four at (strangeVector version h) ≡ strangeRead version (headOf first four at h)
+unfolding strangeVector strangeRead headOf
+strange-meant version first four at h = go (eqb version 0)
+  where
+    go : (b : Bool) → vectorMeant first four at (cond b (badVector 6) (passedOver h)) ≡ cond b (vector.Refused 6) (vector.PassedOver (vectorEnd first four at h))
+    go true = unfold vectorMeant in refl
+    go false = unfold vectorMeant in refl
+
+module _ (version first : ℕ) (four : Bool) (l : List ℕ) (at : ℕ) where
+  pub vector-short : length l < at + 2 → vectorRead version first four l at ≡ vector.Refused 3
   unfolding vectorRead vectorMeant vectorIn
   vector-short p = rw (lt-ltb _ _ p)
 
   -- h is the header that was read
   module _ (p : at + 2 ≤ length l) (h : ℕ) (i : h ≡ beAt 2 l at) where
-    pub vector-end : h ≡ 0 → vectorRead first four l at ≡ vector.EndMark
+    pub vector-end : h ≡ 0 → vectorRead version first four l at ≡ vector.EndMark
     unfolding vectorRead vectorMeant vectorIn
     vector-end q = rw (le-ltb _ _ p, ← i, eq-eqb _ _ q)
 
-    module _ (q : h ≡ 0 → ⊥) where
-      pub vector-event : 1 < h / 8192 → vectorRead first four l at ≡ vector.Refused 6
+    -- b tells whether its LeaveAllEvent is strange
+    module _ (q : h ≡ 0 → ⊥) (b : Bool) (u : b ≡ strangeLeave h) where
+      pub vector-event : (eqb version 0 && b) ≡ true → vectorRead version first four l at ≡ vector.Refused 6
       unfolding vectorRead vectorMeant vectorIn
-      vector-event r = rw (le-ltb _ _ p, ← i, ne-eqb _ _ q, lt-ltb 1 _ r)
+      vector-event r = rw (le-ltb _ _ p, ← i, ne-eqb _ _ q, ← u, r)
 
-      module _ (r : h / 8192 ≤ 1) where
-        vector-past : length l < vectorEnd first four at h → vectorRead first four l at ≡ vector.Refused 3
+      module _ (r : (eqb version 0 && b) ≡ false) where
+        vector-past : length l < vectorEnd first four at h → vectorRead version first four l at ≡ vector.Refused 3
         unfolding vectorRead vectorMeant vectorIn
-        vector-past s = rw (le-ltb _ _ p, ← i, ne-eqb _ _ q, le-ltb 1 _ r, lt-ltb _ _ s)
+        vector-past s = rw (le-ltb _ _ p, ← i, ne-eqb _ _ q, ← u, r, lt-ltb _ _ s)
 
-        pub first-past : length l < at + 2 + first → vectorRead first four l at ≡ vector.Refused 3
+        pub first-past : length l < at + 2 + first → vectorRead version first four l at ≡ vector.Refused 3
         first-past s = vector-past (unfold vectorEnd in (omega arith))
 
         -- w is its head
         module _ (w : VectorHead) (g : w ≡ headOf first four at h) where
-          pub vector-long : length l < w .next → vectorRead first four l at ≡ vector.Refused 3
+          pub vector-long : length l < w .next → vectorRead version first four l at ≡ vector.Refused 3
           unfolding headOf
           vector-long s = vector-past (rw g at s)
 
@@ -229,13 +239,13 @@ module _ (first : ℕ) (four : Bool) (l : List ℕ) (at : ℕ) where
             unfolding headOf
             fits = rw g at s
 
-            pub vector-over : x ≡ true → vectorRead first four l at ≡ vector.Refused 6
-            unfolding vectorRead vectorMeant vectorIn
-            vector-over y = rw (le-ltb _ _ p, ← i, ne-eqb _ _ q, le-ltb 1 _ r, le-ltb _ _ fits, ← events-over, y)
+            pub vector-strange : (b || x) ≡ true → vectorRead version first four l at ≡ strangeRead version w
+            unfolding vectorRead vectorIn
+            vector-strange y = rw (le-ltb _ _ p, ← i, ne-eqb _ _ q, ← u, r, le-ltb _ _ fits, ← events-over, y, strange-meant version first four at h, g)
 
-            pub vector-read : x ≡ false → vectorRead first four l at ≡ vector.Vector w
+            pub vector-read : (b || x) ≡ false → vectorRead version first four l at ≡ vector.Vector w
             unfolding vectorRead vectorMeant vectorIn
-            vector-read y = rw (le-ltb _ _ p, ← i, ne-eqb _ _ q, le-ltb 1 _ r, le-ltb _ _ fits, ← events-over, y, g)
+            vector-read y = rw (le-ltb _ _ p, ← i, ne-eqb _ _ q, ← u, r, le-ltb _ _ fits, ← events-over, y, g)
 
 -- FirstValue as the code lends it.
 
@@ -247,6 +257,7 @@ module _ (l : List ℕ) (r : VectorRead) where
       go : (r : VectorRead) → ((w : VectorHead) → r ≡ vector.Vector w → ⊥) → firstPart l r ≡ []
       go (vector.Refused n) p = refl
       go vector.EndMark p = refl
+      go (vector.PassedOver n) p = refl
       go (vector.Vector w) p = absurd (p w refl)
 
   module _ (w : VectorHead) (e : r ≡ vector.Vector w) where

@@ -1,6 +1,6 @@
 -- The reader's steps are those of the walk: what `vectors` and `messages` give from a place on, by what is read there; and where
 -- a Message that is read ends. Assumes nothing.
-use mathlib.Core.Path.{_≡_, refl, ap, subst}
+use mathlib.Core.Path.{_≡_, refl, sym, ap, subst, _∙_}
 use mathlib.Core.List.{List, []}
 use mathlib.Core.Bool.{Bool, true, false, cond, not}
 use Prim.Native.Nat.{ℕ, zero, suc, _+_, _-_, _≤_, _<_}
@@ -19,32 +19,39 @@ use Rattle.msrpdu.specs.declared.VectorHead.{VectorHead}
 use Rattle.msrpdu.specs.declared.VectorRead.the-variants as vector
 use Rattle.msrpdu.specs.declared.MessageHead.{MessageHead}
 use Rattle.msrpdu.specs.declared.MessageRead.the-variants as message
-use Rattle.msrpdu.proofs.Reading.{read-refused, read-end, read-head}
+use Rattle.msrpdu.proofs.Reading.{read-refused, read-end, read-head, read-over}
 
 -- Vectors.
 
-module _ (f : ℕ) (k : Attribute) (l : List ℕ) (at : ℕ) where
-  pub vectors-refused : (n : ℕ) → typedRead (known k) l at ≡ vector.Refused n → vectors (suc f) k l at ≡ fault n
+module _ (f version : ℕ) (k : Attribute) (l : List ℕ) (at : ℕ) where
+  pub vectors-refused : (n : ℕ) → typedRead version (known k) l at ≡ vector.Refused n → vectors (suc f) version k l at ≡ fault n
   unfolding typedRead vectors vectorsFrom
-  vectors-refused n e = rw (read-refused (firstLength k) (hasFour k) at (typedIn k l at) n e)
+  vectors-refused n e = rw (read-refused (firstLength k) (hasFour k) at (typedIn version k l at) n e)
 
-  pub vectors-end : typedRead (known k) l at ≡ vector.EndMark → vectors (suc f) k l at ≡ found []
+  pub vectors-end : typedRead version (known k) l at ≡ vector.EndMark → vectors (suc f) version k l at ≡ found []
   unfolding typedRead vectors vectorsFrom
-  vectors-end e = rw (read-end (firstLength k) (hasFour k) at (typedIn k l at) e)
+  vectors-end e = rw (read-end (firstLength k) (hasFour k) at (typedIn version k l at) e)
 
-  pub vectors-next : (w : VectorHead) → typedRead (known k) l at ≡ vector.Vector w
-      → vectors (suc f) k l at ≡ also (vectorAt k l at (beAt 2 l at)) (vectors f k l (w .next))
+  pub vectors-next : (w : VectorHead) → typedRead version (known k) l at ≡ vector.Vector w
+      → vectors (suc f) version k l at ≡ also (vectorAt k l at (beAt 2 l at)) (vectors f version k l (w .next))
   unfolding typedRead vectors vectorsFrom headOf
   vectors-next w e =
-      let h = read-head (firstLength k) (hasFour k) at (typedIn k l at) w e in
-      rw (h .is, passed-all k l at (h .header) (h .is) .fitting .is)
-      (ap (λ (u : VectorHead). also (vectorAt k l at (h .header)) (vectors f k l (u .next))) (h .head))
+      let h = read-head (firstLength k) (hasFour k) at (typedIn version k l at) w e in
+      rw (h .is, passed-all version k l at (h .header) (h .is) .fitting .is)
+      (ap (λ (u : VectorHead). also (vectorAt k l at (h .header)) (vectors f version k l (u .next))) (h .head))
+
+  pub vectors-over : (next : ℕ) → typedRead version (known k) l at ≡ vector.PassedOver next
+      → vectors (suc f) version k l at ≡ vectors f version k l next
+  unfolding typedRead vectors vectorsFrom
+  vectors-over next e =
+      let h = read-over (firstLength k) (hasFour k) at (typedIn version k l at) next e in
+      rw (h .is, h .ends)
 
 -- the vectors of a list whose type octet is read: those of a known type
-unfoldable pub vectorsIn : TypeOctet → ℕ → List ℕ → ℕ → Walk
-vectorsIn notAllowed f l at = fault 4
-vectorsIn unknown f l at = fault 4
-vectorsIn (known k) f l at = vectors f k l at
+unfoldable pub vectorsIn : ℕ → TypeOctet → ℕ → List ℕ → ℕ → Walk
+vectorsIn version notAllowed f l at = fault 4
+vectorsIn version unknown f l at = fault 4
+vectorsIn version (known k) f l at = vectors f version k l at
 
 -- Messages.
 
@@ -129,8 +136,8 @@ known-any version (suc (suc (suc (suc (suc t))))) k e = absurd (none (eqb versio
 
 -- the list of a known type, by its places
 listed : (version : ℕ) (s : List ℕ) (at : ℕ) (k : Attribute) → typeOctet version (getD s at 0) ≡ known k
-    → vectors (suc (listLength s at)) k (listAt s at) 0
-    ≡ vectorsIn (typeOctet 0 (getD s at 0)) (suc (messageEnd s at - (at + 4))) (take (messageEnd s at - (at + 4)) (drop (at + 4) s)) 0
+    → vectors (suc (listLength s at)) version k (listAt s at) 0
+    ≡ vectorsIn version (typeOctet 0 (getD s at 0)) (suc (messageEnd s at - (at + 4))) (take (messageEnd s at - (at + 4)) (drop (at + 4) s)) 0
 unfolding vectorsIn messageEnd listAt
 listed version s at k e = rw (known-any version (getD s at 0) k e, lent-part (at + 4) (listLength s at) s, lent-length (at + 4) (listLength s at))
 
@@ -170,7 +177,7 @@ module _ (f version : ℕ) (s : List ℕ) (at : ℕ) where
 
   pub messages-list : (m : MessageHead) → messageRead version s at ≡ message.List m
       → messages (suc f) version s at
-      ≡ both (vectorsIn (typeOctet 0 (m .kind)) (suc (m .next - m .list)) (take (m .next - m .list) (drop (m .list) s)) 0) (messages f version s (m .next))
+      ≡ both (vectorsIn version (typeOctet 0 (m .kind)) (suc (m .next - m .list)) (take (m .next - m .list) (drop (m .list) s)) 0) (messages f version s (m .next))
   unfolding messageRead messages messagesFrom
   messages-list m e = go (m .kind) (m .list) (m .next) (r .kind) (r .list) (r .next)
     where
@@ -179,7 +186,7 @@ module _ (f version : ℕ) (s : List ℕ) (at : ℕ) where
 
       go : (kind list next : ℕ) → kind ≡ getD s at 0 → list ≡ at + 4 → next ≡ messageEnd s at
           → messages (suc f) version s at
-          ≡ both (vectorsIn (typeOctet 0 kind) (suc (next - list)) (take (next - list) (drop list s)) 0) (messages f version s next)
+          ≡ both (vectorsIn version (typeOctet 0 kind) (suc (next - list)) (take (next - list) (drop list s)) 0) (messages f version s next)
       go kind list next p q o =
           let a = subst (Ahead version s at) (r .is) (ahead version s at) in
           rw (r .is, p, q, o, listed version s at (r .type) (a .0))
@@ -213,33 +220,48 @@ also-number v (fault n) w = refl
 also-number v (found vs) (fault n) = refl
 also-number v (found vs) (found ws) = refl
 
-module _ (f : ℕ) (l : List ℕ) (at : ℕ) (w : Walk) where
-  pub number-refused : (t : TypeOctet) (n : ℕ) → typedRead t l at ≡ vector.Refused n → numberOf (both (vectorsIn t (suc f) l at) w) ≡ n
+module _ (f version : ℕ) (l : List ℕ) (at : ℕ) (w : Walk) where
+  pub number-refused : (t : TypeOctet) (n : ℕ) → typedRead version t l at ≡ vector.Refused n → numberOf (both (vectorsIn version t (suc f) l at) w) ≡ n
   unfolding typedRead vectorsIn both numberOf
   number-refused notAllowed n e = cc
   number-refused unknown n e = cc
-  number-refused (known k) n e = rw (vectors-refused f k l at n e)
+  number-refused (known k) n e = rw (vectors-refused f version k l at n e)
 
-  pub number-end : (t : TypeOctet) → typedRead t l at ≡ vector.EndMark → numberOf (both (vectorsIn t (suc f) l at) w) ≡ numberOf w
+  pub number-end : (t : TypeOctet) → typedRead version t l at ≡ vector.EndMark → numberOf (both (vectorsIn version t (suc f) l at) w) ≡ numberOf w
   unfolding typedRead vectorsIn both numberOf
   number-end notAllowed e = let z : _≡_ {A = ℕ} 0 1 = cc in absurd (omega arith)
   number-end unknown e = let z : _≡_ {A = ℕ} 0 1 = cc in absurd (omega arith)
-  number-end (known k) e = rw (vectors-end f k l at e) (none w)
+  number-end (known k) e = rw (vectors-end f version k l at e) (none w)
     where
       none : (w : Walk) → numberOf (both (found []) w) ≡ numberOf w
       none (fault n) = refl
       none (found vs) = refl
 
-  number-after : (t : TypeOctet) (h : VectorHead) → typedRead t l at ≡ vector.Vector h
-      → numberOf (both (vectorsIn t (suc f) l at) w) ≡ numberOf (both (vectorsIn t f l (h .next)) w)
+  -- behind a vector, and behind one that is passed over
+  abbrev Goes : TypeOctet → ℕ → Type 0
+  Goes t next = numberOf (both (vectorsIn version t (suc f) l at) w) ≡ numberOf (both (vectorsIn version t f l next) w)
+
+  number-after : (t : TypeOctet) (h : VectorHead) → typedRead version t l at ≡ vector.Vector h → Goes t (h .next)
   unfolding typedRead vectorsIn
   number-after notAllowed h e = let z : _≡_ {A = ℕ} 0 1 = cc in absurd (omega arith)
   number-after unknown h e = let z : _≡_ {A = ℕ} 0 1 = cc in absurd (omega arith)
-  number-after (known k) h e = rw (vectors-next f k l at h e) (also-number (vectorAt k l at (beAt 2 l at)) (vectors f k l (h .next)) w)
+  number-after (known k) h e =
+      rw (vectors-next f version k l at h e) (also-number (vectorAt k l at (beAt 2 l at)) (vectors f version k l (h .next)) w)
 
-  pub number-next : (t : TypeOctet) (h : VectorHead) → typedRead t l at ≡ vector.Vector h → (g : ℕ) → f ≡ suc g
-      → numberOf (both (vectorsIn t (suc f) l at) w) ≡ numberOf (both (vectorsIn t (suc g) l (h .next)) w)
-  number-next t h e g m = rw (← m) (number-after t h e)
+  number-over : (t : TypeOctet) (next : ℕ) → typedRead version t l at ≡ vector.PassedOver next → Goes t next
+  unfolding typedRead vectorsIn
+  number-over notAllowed next e = let z : _≡_ {A = ℕ} 0 1 = cc in absurd (omega arith)
+  number-over unknown next e = let z : _≡_ {A = ℕ} 0 1 = cc in absurd (omega arith)
+  number-over (known k) next e = rw (vectors-over f version k l at next e)
+
+  module _ (t : TypeOctet) (g : ℕ) (m : f ≡ suc g) where
+    pub number-next : (h : VectorHead) → typedRead version t l at ≡ vector.Vector h
+        → numberOf (both (vectorsIn version t (suc f) l at) w) ≡ numberOf (both (vectorsIn version t (suc g) l (h .next)) w)
+    number-next h e = rw (← m) (number-after t h e)
+
+    pub number-passed : (next : ℕ) → typedRead version t l at ≡ vector.PassedOver next
+        → numberOf (both (vectorsIn version t (suc f) l at) w) ≡ numberOf (both (vectorsIn version t (suc g) l next) w)
+    number-passed next e = rw (← m) (number-over t next e)
 
 -- The number is not yet given: that of what is left, from here, is the answer.
 
@@ -260,4 +282,24 @@ pub record ListLeft (s : List ℕ) (version at kind start end reached : ℕ) : T
   pub later : ℕ
   pub enough : end - start ≤ reached + turns
   pub enough-later : length s ≤ end + later
-  pub answer : numberOf (both (vectorsIn (typeOctet 0 kind) (suc turns) (take (end - start) (drop start s)) reached) (messages (suc later) version s end)) ≡ numberOf (walk s)
+  pub answer : numberOf (both (vectorsIn version (typeOctet 0 kind) (suc turns) (take (end - start) (drop start s)) reached) (messages (suc later) version s end)) ≡ numberOf (walk s)
+
+-- .. and from a later place of the list on, where the vectors from there on give the same number
+pub list-on : (s : List ℕ) (version at kind start end reached next : ℕ) → ListLeft s version at kind start end reached → reached < next → next ≤ end - start
+    → let t = typeOctet 0 kind in
+    let l = take (end - start) (drop start s) in
+    ((f g : ℕ) (w : Walk) → f ≡ suc g → numberOf (both (vectorsIn version t (suc f) l reached) w) ≡ numberOf (both (vectorsIn version t (suc g) l next) w))
+    → ListLeft s version at kind start end next
+list-on s version at kind start end reached next i up inside same =
+    let e : i .turns ≡ suc (i .turns - 1) = omega arith in
+    record {
+      list = i .list;
+      within = i .within;
+      ahead = i .ahead;
+      inside = inside;
+      turns = i .turns - 1;
+      later = i .later;
+      enough = omega arith;
+      enough-later = i .enough-later;
+      answer = sym (same (i .turns) (i .turns - 1) _ e) ∙ i .answer;
+    }

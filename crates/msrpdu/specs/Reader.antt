@@ -6,7 +6,7 @@ use lib.ListN.{length, getD}
 use lib.Dec.{ltb, eqb}
 use Rattle.octets.specs.Be.{beAt}
 use Rattle.octets.specs.Parts.{part}
-use Rattle.model.specs.Frames.{Attribute, TypeOctet, notAllowed, unknown, known, firstLength, threeLength, hasFour, Vector, vectorEnd, runsPast, InList, badVector, listEnd, vectorHead, vectorIn, typedIn, InPdu, badMessage, pduEnd, listSkipped, listOf, messageEnd, messageIn, Walk, fault, found, threePacked, fourPacked, hasSlot, slotOf}
+use Rattle.model.specs.Frames.{Attribute, TypeOctet, notAllowed, unknown, known, firstLength, threeLength, hasFour, Vector, vectorEnd, runsPast, InList, badVector, listEnd, vectorHead, passedOver, vectorIn, typedIn, InPdu, badMessage, pduEnd, listSkipped, listOf, messageEnd, messageIn, Walk, fault, found, threePacked, fourPacked, hasSlot, slotOf}
 use Rattle.model.specs.FrameLayout.{domainLength}
 use Rattle.model.specs.Frames as frames
 use Rattle.msrpdu.specs.declared.TypeRead.{TypeRead}
@@ -46,26 +46,33 @@ headOf first four at h = record {
   next = vectorEnd first four at h;
 }
 
--- what stands at a place of an AttributeList, by the octets of FirstValue and whether FourPackedEvents follow
+-- what stands at a place of an AttributeList, by the octets of FirstValue and whether FourPackedEvents follow; a vector that is
+-- passed over has the place after it, "since its layout still gives its length"
 unfoldable pub vectorMeant : ℕ → Bool → ℕ → InList → VectorRead
 vectorMeant first four at (badVector n) = vector.Refused n
 vectorMeant first four at listEnd = vector.EndMark
 vectorMeant first four at (vectorHead h) = vector.Vector (headOf first four at h)
+vectorMeant first four at (passedOver h) = vector.PassedOver (vectorEnd first four at h)
 
-unfoldable pub vectorRead : ℕ → Bool → List ℕ → ℕ → VectorRead
-vectorRead first four l at = vectorMeant first four at (vectorIn first four l at)
+unfoldable pub vectorRead : ℕ → ℕ → Bool → List ℕ → ℕ → VectorRead
+vectorRead version first four l at = vectorMeant first four at (vectorIn version first four l at)
+
+-- a vector that fits and has events that are not known here, by its head
+unfoldable pub strangeRead : ℕ → VectorHead → VectorRead
+strangeRead version w = cond (eqb version 0) (vector.Refused 6) (vector.PassedOver (w .next))
 
 -- of a known type; a list of any other type is not read
-unfoldable pub typedRead : TypeOctet → List ℕ → ℕ → VectorRead
-typedRead notAllowed l at = vector.Refused 4
-typedRead unknown l at = vector.Refused 4
-typedRead (known k) l at = vectorMeant (firstLength k) (hasFour k) at (typedIn k l at)
+unfoldable pub typedRead : ℕ → TypeOctet → List ℕ → ℕ → VectorRead
+typedRead version notAllowed l at = vector.Refused 4
+typedRead version unknown l at = vector.Refused 4
+typedRead version (known k) l at = vectorMeant (firstLength k) (hasFour k) at (typedIn version k l at)
 
 -- "The vector reader hands back the FirstValue itself, as that part of the caller's frame; where it refuses or meets the
--- EndMark, the part is empty". So it is for a head with places past the list
+-- EndMark, the part is empty". So it is where it passes over, and for a head with places past the list
 unfoldable pub firstPart : List ℕ → VectorRead → List ℕ
 firstPart l (vector.Refused n) = []
 firstPart l vector.EndMark = []
+firstPart l (vector.PassedOver n) = []
 firstPart l (vector.Vector w) = cond (ltb (length l) (w .three)) [] (part (w .first) (w .three - w .first) l)
 
 -- the vector that a head names in its list

@@ -3,7 +3,7 @@ ghost use mathlib.Core.Path.{_≡_};
 ghost use Prim.Native.Nat.{_+_, _^_, _≤_, _<_};
 ghost use lib.ListN.{length, getD};
 ghost use Rattle.model.specs.Frames.{typeOctet, fourLength, overpacked, headerIn, walk, threePacked};
-ghost use Rattle.msrpdu.specs.Reader.{typeRead, headOf, vectorRead, typedRead, firstPart, messageMeant, messageRead, numberOf, eventIn, fourIn, pastField, streamIdIn, domainIn};
+ghost use Rattle.msrpdu.specs.Reader.{typeRead, headOf, strangeRead, vectorRead, typedRead, firstPart, messageMeant, messageRead, numberOf, eventIn, fourIn, pastField, streamIdIn, domainIn};
 use model::pdu;
 use model::refusal;
 
@@ -58,11 +58,12 @@ pub struct VectorHead {
     pub next: usize,
 }
 
-// What stands at a place of an AttributeList.
+// What stands at a place of an AttributeList. A vector that is passed over has its place after.
 pub enum VectorRead {
     Refused(u8),
     EndMark,
     Vector(VectorHead),
+    PassedOver(usize),
 }
 
 // A Message whose list is to be read: its AttributeType octet, the place of its list and the place after it.
@@ -152,10 +153,20 @@ fn head_of(at: usize, first: usize, four: bool, h: usize) -> VectorHead
     }
 }
 
+// A vector that fits and has events that are not known here: refused at version 0, and passed over at a higher one.
+fn strange_vector(version: u8, head: VectorHead) -> VectorRead
+    ensures { λ r. ⌜ r ≡ strangeRead version head ⌝ }
+{
+    if version == 0 {
+        return VectorRead::Refused(refusal::EVENT);
+    }
+    VectorRead::PassedOver(head.next)
+}
+
 // The vector at a place of an AttributeList of any MRP application, by the octets of FirstValue and whether FourPackedEvents
 // follow: its checks, in 01's order, but for that of its values.
-fn vector(list: &[u8], at: usize, first: usize, four: bool) -> VectorRead
-    ensures { λ r. ⌜ r ≡ vectorRead first four (now (list .entry)) at ⌝ }
+fn vector(list: &[u8], at: usize, version: u8, first: usize, four: bool) -> VectorRead
+    ensures { λ r. ⌜ r ≡ vectorRead version first four (now (list .entry)) at ⌝ }
 {
     let n = list.len();
     if n < 2 {
@@ -168,7 +179,8 @@ fn vector(list: &[u8], at: usize, first: usize, four: bool) -> VectorRead
     if h == 0 {
         return VectorRead::EndMark;
     }
-    if 1 < h / 8192 {
+    let strange = 1 < h / 8192;
+    if (version == 0) & strange {
         return VectorRead::Refused(refusal::EVENT);
     }
     if n - 2 - at < first {
@@ -181,13 +193,13 @@ fn vector(list: &[u8], at: usize, first: usize, four: bool) -> VectorRead
     let three = head.three;
     let end = head.four;
     let over = any_overpacked(&list[three..end]);
-    if over {
-        return VectorRead::Refused(refusal::EVENT);
+    if strange | over {
+        return strange_vector(version, head);
     }
     VectorRead::Vector(head)
 }
 
-// FirstValue of what the vector reader gave, as that part of the list: empty where it refused or met the EndMark.
+// FirstValue of what the vector reader gave, as that part of the list: empty where it refused, met the EndMark or passed over.
 pub fn first_value(list: &[u8], read: VectorRead) -> &[u8]
     ensures { λ r. ⌜ now r ≡ firstPart (now (list .entry)) read ⌝ }
 {
@@ -205,14 +217,15 @@ pub fn first_value(list: &[u8], read: VectorRead) -> &[u8]
     &list[start..end]
 }
 
-// The vector at a place of an AttributeList of a type: the EndMark is the list's last two octets, and the values are checked last.
-pub fn typed_vector(list: &[u8], at: usize, kind: u8) -> VectorRead
-    ensures { λ r. ⌜ r ≡ typedRead (typeOctet 0 kind) (now (list .entry)) at ⌝ }
+// The vector at a place of an AttributeList of a type, in a PDU of a version: the EndMark is the list's last two octets, and the
+// values are checked last, of a vector that is not passed over.
+pub fn typed_vector(list: &[u8], at: usize, version: u8, kind: u8) -> VectorRead
+    ensures { λ r. ⌜ r ≡ typedRead version (typeOctet 0 kind) (now (list .entry)) at ⌝ }
 {
     let TypeRead::Known(octets) = type_read(0, kind) else {
         return VectorRead::Refused(refusal::ATTRIBUTE_TYPE);
     };
-    let v = vector(list, at, octets, kind == 3);
+    let v = vector(list, at, version, octets, kind == 3);
     match v {
         VectorRead::Refused(_) => v,
         VectorRead::EndMark => {
@@ -231,6 +244,7 @@ pub fn typed_vector(list: &[u8], at: usize, kind: u8) -> VectorRead
             }
             v
         }
+        VectorRead::PassedOver(_) => v,
     }
 }
 
@@ -314,11 +328,12 @@ pub fn check(pdu: &[u8]) -> u8
                 let end = head.next;
                 let mut reached: usize = 0;
                 loop {
-                    let v = typed_vector(&pdu[start..end], reached, kind);
+                    let v = typed_vector(&pdu[start..end], reached, version, kind);
                     match v {
                         VectorRead::Refused(number) => break 'messages number,
                         VectorRead::EndMark => break,
                         VectorRead::Vector(w) => reached = w.next,
+                        VectorRead::PassedOver(next) => reached = next,
                     }
                 }
                 at = end;

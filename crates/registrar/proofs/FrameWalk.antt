@@ -9,12 +9,12 @@ use lib.ListN.{length, take, drop}
 use Rattle.octets.specs.Be.{beAt}
 use Rattle.model.specs.Registrations.{Act}
 use Rattle.model.specs.Frames.{Attribute, known, typeOctet, Vector, vectorAt, Walk, fault, found, vectors, messages, vectorActs, frameActs}
+use Rattle.model.proofs.FoundVectors.{no-fault}
 use Rattle.msrpdu.specs.Reader.{typedRead, messageRead, headVector}
 use Rattle.msrpdu.specs.declared.VectorHead.{VectorHead}
-use Rattle.msrpdu.specs.declared.VectorRead.{VectorRead}
 use Rattle.msrpdu.specs.declared.MessageHead.{MessageHead}
 use Rattle.msrpdu.proofs.Walking.{vectorsIn, ahead-list, list-length}
-use Rattle.msrpdu.proofs.Applying.{found-next, found-end, found-accepted, found-typed, NextList, found-list, found-skipped, found-done, found-allowed, acts-next, acts-append, no-fault}
+use Rattle.msrpdu.proofs.Applying.{found-next, found-over, found-end, found-accepted, found-typed, NextList, found-list, found-skipped, found-done, found-allowed, acts-next, acts-append}
 use Rattle.msrpdu.specs.declared.VectorRead.the-variants as vector
 use Rattle.msrpdu.specs.declared.MessageRead.the-variants as message
 use Rattle.registrar.specs.Acts.{isFound, actsOf, attributeAt}
@@ -41,35 +41,45 @@ acts-are w vs e = rw e
 
 -- An AttributeList, with the vectors vs left from a place on.
 
-vectors-fuel : (f : ℕ) (k : Attribute) (l : List ℕ) (at : ℕ) (vs : List Vector) → vectors f k l at ≡ found vs → f ≡ suc (f - 1)
-vectors-fuel zero k l at vs e = absurd (no-fault 3 vs (unfold vectors in e))
-vectors-fuel (suc f) k l at vs e = omega arith
+vectors-fuel : (f version : ℕ) (k : Attribute) (l : List ℕ) (at : ℕ) (vs : List Vector) → vectors f version k l at ≡ found vs → f ≡ suc (f - 1)
+vectors-fuel zero version k l at vs e = absurd (no-fault 3 vs (unfold vectors in e))
+vectors-fuel (suc f) version k l at vs e = omega arith
 
-module _ (f : ℕ) (kind : ℕ) (low : 1 ≤ kind) (high : kind ≤ 4) (l : List ℕ) (at : ℕ) (vs : List Vector)
-    (e : vectors (suc f) (attributeAt kind) l at ≡ found vs) where
+module _ (f version kind : ℕ) (low : 1 ≤ kind) (high : kind ≤ 4) (l : List ℕ) (at : ℕ) (vs : List Vector)
+    (e : vectors (suc f) version (attributeAt kind) l at ≡ found vs) where
   -- a vector, and those after it
   pub record Next (w : VectorHead) : Type 0 where
     pub rest : List Vector
     pub acts : frameActs vs ≡ vectorActs (headVector (attributeAt kind) l w) ++ frameActs rest
-    pub left : vectors (suc (f - 1)) (attributeAt kind) l (w .next) ≡ found rest
+    pub left : vectors (suc (f - 1)) version (attributeAt kind) l (w .next) ≡ found rest
 
-  pub next-vector : (w : VectorHead) → typedRead (typeOctet 0 kind) l at ≡ vector.Vector w → Next w
+  pub next-vector : (w : VectorHead) → typedRead version (typeOctet 0 kind) l at ≡ vector.Vector w → Next w
   unfolding vectorsIn
   next-vector w r =
-      let n = found-next f (attributeAt kind) l at vs e w (rw (type-known kind low high) at r) in
+      let n = found-next f version (attributeAt kind) l at vs e w (rw (type-known kind low high) at r) in
       record {
         rest = n .rest;
         acts =
             ap frameActs (n .first) ∙ acts-next (vectorAt (attributeAt kind) l at (beAt 2 l at)) (n .rest)
-            ∙ ap (λ (v : Vector). vectorActs v ++ frameActs (n .rest)) (vector-meant kind l at w low high r);
-        left = rw (← vectors-fuel f (attributeAt kind) l (w .next) (n .rest) (n .left)) (n .left);
+            ∙ ap (λ (v : Vector). vectorActs v ++ frameActs (n .rest)) (vector-meant version kind l at w low high r);
+        left = rw (← vectors-fuel f version (attributeAt kind) l (w .next) (n .rest) (n .left)) (n .left);
       }
 
-  pub last-vector : (r : VectorRead) → r ≡ typedRead (typeOctet 0 kind) l at → ((w : VectorHead) → r ≡ vector.Vector w → ⊥) → frameActs vs ≡ []
+  -- one that is passed over, and those after it
+  pub passed-vector : (next : ℕ) → typedRead version (typeOctet 0 kind) l at ≡ vector.PassedOver next
+      → vectors (suc (f - 1)) version (attributeAt kind) l next ≡ found vs
+  unfolding vectorsIn
+  passed-vector next r =
+      let g = found-over f version (attributeAt kind) l at vs e next (rw (type-known kind low high) at r) in
+      rw (← vectors-fuel f version (attributeAt kind) l next vs g) g
+
+  pub last-vector : typedRead version (typeOctet 0 kind) l at ≡ vector.EndMark → frameActs vs ≡ []
   unfolding vectorsIn frameActs
-  last-vector (vector.Refused n) q h = absurd (found-accepted f (attributeAt kind) l at vs e n (rw (← type-known kind low high) (sym q)))
-  last-vector vector.EndMark q h = rw (found-end f (attributeAt kind) l at vs e (rw (← type-known kind low high) (sym q)))
-  last-vector (vector.Vector w) q h = absurd (h w refl)
+  last-vector r = rw (found-end f version (attributeAt kind) l at vs e (rw (type-known kind low high) at r))
+
+  pub no-fault-here : (n : ℕ) → typedRead version (typeOctet 0 kind) l at ≡ vector.Refused n → ⊥
+  unfolding vectorsIn
+  no-fault-here n r = found-accepted f version (attributeAt kind) l at vs e n (rw (type-known kind low high) at r)
 
 -- A frame, with the vectors vs left from a Message on.
 
@@ -114,8 +124,8 @@ module _ (f version : ℕ) (s : List ℕ) (at : ℕ) (vs : List Vector) (e : mes
       pub rest : List Vector
       pub low : 1 ≤ m .kind
       pub high : m .kind ≤ 4
-      pub there : isFound (vectors (suc (length lentList)) (attributeAt (m .kind)) lentList 0) ≡ true
-      pub acts : frameActs vs ≡ actsOf (vectors (suc (length lentList)) (attributeAt (m .kind)) lentList 0) ++ frameActs rest
+      pub there : isFound (vectors (suc (length lentList)) version (attributeAt (m .kind)) lentList 0) ≡ true
+      pub acts : frameActs vs ≡ actsOf (vectors (suc (length lentList)) version (attributeAt (m .kind)) lentList 0) ++ frameActs rest
       pub left : messages (suc (f - 1)) version s (m .next) ≡ found rest
 
     pub next-message : messageRead version s at ≡ message.List m → NextMessage
@@ -132,7 +142,7 @@ module _ (f version : ℕ) (s : List ℕ) (at : ℕ) (vs : List Vector) (e : mes
         n = found-list f version s at vs e m r
 
         k : (k : Attribute) × (typeOctet 0 (m .kind) ≡ known k)
-        k = found-typed (m .next - m .list) (typeOctet 0 (m .kind)) lentList 0 (n .own) (n .list)
+        k = found-typed (m .next - m .list) version (typeOctet 0 (m .kind)) lentList 0 (n .own) (n .list)
 
         t : Typed (m .kind) (k .0)
         t = typed (m .kind) (k .0) (k .1)
@@ -140,5 +150,5 @@ module _ (f version : ℕ) (s : List ℕ) (at : ℕ) (vs : List Vector) (e : mes
         size : length lentList ≡ m .next - m .list
         size = let a = ahead-list version s at m r in list-length s (m .list) (m .next) (a .ends) (a .within)
 
-        own : vectors (suc (length lentList)) (attributeAt (m .kind)) lentList 0 ≡ found (n .own)
+        own : vectors (suc (length lentList)) version (attributeAt (m .kind)) lentList 0 ≡ found (n .own)
         own = rw size (unfold vectorsIn in (rw (type-known (m .kind) (t .low) (t .high)) at (n .list)))

@@ -95,19 +95,19 @@ runs-less (registers faileds) s m n h e = less 65535 (beAt 2 s 6) 28147497671065
 runs-less (registers listeners) s m n h e = le-ltb 65535 (beAt 2 s 6 + n) (omega (arith, ltb-false 65535 (beAt 2 s 6 + m) e))
 runs-less domain s m n h e = less 255 (getD s 0 0) 255 (getD s 1 0) m n h e
 
-module _ (kind : ℕ) (l : List ℕ) (at : ℕ) (w : VectorHead) (low : 1 ≤ kind) (high : kind ≤ 4)
-    (e : typedRead (typeOctet 0 kind) l at ≡ vector.Vector w) where
+module _ (version kind : ℕ) (l : List ℕ) (at : ℕ) (w : VectorHead) (low : 1 ≤ kind) (high : kind ≤ 4)
+    (e : typedRead version (typeOctet 0 kind) l at ≡ vector.Vector w) where
   abbrev v : Vector
   v = headVector (attributeAt kind) l w
 
-  read : typedRead (known (attributeAt kind)) l at ≡ vector.Vector w
+  read : typedRead version (known (attributeAt kind)) l at ≡ vector.Vector w
   read = rw (type-known kind low high) at e
 
   pub vector-meant : vectorAt (attributeAt kind) l at (beAt 2 l at) ≡ v
-  vector-meant = meant (attributeAt kind) l at w read
+  vector-meant = meant version (attributeAt kind) l at w read
 
   sounds : Sound v
-  sounds = sound (attributeAt kind) l at w read
+  sounds = sound version (attributeAt kind) l at w read
 
   pub enough-events : w .values ≤ 3 * length (take (w .four - w .three) (drop (w .three) l))
   unfolding headVector part threeLength

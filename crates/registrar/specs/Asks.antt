@@ -43,13 +43,13 @@ pub record WalkGiven (t : List ℕ) (w : ListWalk) : Type 0 where
 -- a well-formed list
 pub record ListGiven (t : List ℕ) (w : ListWalk) (l : List ℕ) : Type 0 where
   pub walk : WalkGiven t w
-  pub found : isFound (vectors (suc (length l)) (attributeAt (w .kind)) l 0) ≡ true
+  pub found : isFound (vectors (suc (length l)) (w .version) (attributeAt (w .kind)) l 0) ≡ true
 
 -- a vector that was read at a place of its list
 pub record VectorGiven (t : List ℕ) (w : ListWalk) (l : List ℕ) (head : VectorHead) : Type 0 where
   pub walk : WalkGiven t w
   pub at : ℕ
-  pub read : typedRead (typeOctet 0 (w .kind)) l at ≡ Vector head
+  pub read : typedRead (w .version) (typeOctet 0 (w .kind)) l at ≡ Vector head
 
 -- values within their fields, with their events
 pub record ValuesGiven (t : List ℕ) (w : ListWalk) (first three : List ℕ) (count : ℕ) : Type 0 where

@@ -37,10 +37,12 @@ enum Asked {
     Leave,
 }
 
-// A walk over an AttributeList: the place p of its port, whether it applies the list or makes room for it, and the AttributeType.
+// A walk over an AttributeList: the place p of its port, whether it applies the list or makes room for it, the PDU's version and
+// the AttributeType.
 struct ListWalk {
     p: usize,
     applying: bool,
+    version: u8,
     kind: u8,
 }
 
@@ -312,25 +314,36 @@ fn vector(table: &mut [u8], walk: ListWalk, list: &[u8], head: VectorHead) -> bo
     )
 }
 
-// An AttributeList at a port, vector by vector to its EndMark.
+// An AttributeList at a port, vector by vector to its EndMark; what is passed over asks for nothing.
 fn list(table: &mut [u8], walk: ListWalk, list: &[u8]) -> bool
     requires { ⌜ ListGiven (now table) walk (now list) ⌝ }
     ensures { λ r. ⌜ Walked (walk .applying) (walk .p)
-        (actsOf (vectors (suc (length (now (list .entry)))) (attributeAt (walk .kind)) (now (list .entry)) 0))
+        (actsOf (vectors (suc (length (now (list .entry)))) (walk .version) (attributeAt (walk .kind)) (now (list .entry)) 0))
         (now (table .entry)) r (now (table .exit)) ⌝ }
 {
     let mut at: usize = 0;
     loop {
-        let v = msrpdu::typed_vector(list, at, walk.kind);
-        let VectorRead::Vector(head) = v else {
-            return true;
-        };
-        let next = head.next;
-        let went = vector(table, walk, list, head);
-        if !went {
-            return false;
+        let v = msrpdu::typed_vector(list, at, walk.version, walk.kind);
+        match v {
+            // none in a frame that is well-formed
+            VectorRead::Refused(_) => {
+                return true;
+            }
+            VectorRead::EndMark => {
+                return true;
+            }
+            VectorRead::Vector(head) => {
+                let next = head.next;
+                let went = vector(table, walk, list, head);
+                if !went {
+                    return false;
+                }
+                at = next;
+            }
+            VectorRead::PassedOver(next) => {
+                at = next;
+            }
         }
-        at = next;
     }
 }
 
@@ -360,6 +373,7 @@ fn frame(table: &mut [u8], p: usize, applying: bool, pdu: &[u8]) -> bool
                 let walk = ListWalk {
                     p,
                     applying,
+                    version,
                     kind: head.kind,
                 };
                 let went = list(table, walk, &pdu[start..end]);

@@ -7,6 +7,7 @@ mod generated_inputs;
 mod growing_latency;
 mod helpers;
 mod marked_examples;
+mod newer_versions;
 mod order_among_ports;
 mod reading;
 mod refusals;

@@ -6,10 +6,10 @@ use borrow.Author.Needs.{needs}
 use lib.ListN.{length, getD, take, drop}
 use Rattle.model.specs.Frames.{typeOctet}
 use Rattle.msrpdu.specs.Reader.{messageRead, typedRead, numberOf}
-use Rattle.msrpdu.proofs.Walking.{PduLeft, ListLeft, messages-refused, messages-end, messages-skipped, messages-list, ahead-skipped, ahead-list, list-length, walk-empty, walk-long, walk-in, number-refused, number-end, number-next}
-use Rattle.msrpdu.proofs.Reading.{within}
+use Rattle.msrpdu.proofs.Walking.{PduLeft, ListLeft, messages-refused, messages-end, messages-skipped, messages-list, ahead-skipped, ahead-list, list-length, walk-empty, walk-long, walk-in, number-refused, number-end, number-next, number-passed, list-on}
+use Rattle.msrpdu.proofs.Reading.{within, over-within}
 use Rattle.msrpdu.specs.declared.MessageRead.the-variants.{Skipped, List}
-use Rattle.msrpdu.specs.declared.VectorRead.the-variants.{Vector}
+use Rattle.msrpdu.specs.declared.VectorRead.the-variants.{Vector, PassedOver}
 use Rattle.msrpdu.proofs.check.Statement.{statement}
 use Rattle.msrpdu.proofs.check.Tie as tie
 
@@ -40,7 +40,7 @@ a-list c = sym (c .before .before .before .message .ensures) ∙ c .before .m3 .
 a-vector : (c : tie.After-known-told5 Inv-loop μ-loop Inv-messages μ-messages) →
     let m = c .before .before .before .before .before .before .before .m3 .given .0 .0 in
     let pdu = c .before .before .before .before .before .before .before .before .before .before .before .before .before .before .before .args .pdu .now in
-    typedRead (typeOctet 0 (m .kind)) (take (m .next - m .list) (drop (m .list) pdu)) (c .before .before .before .before .before .loop .reached) ≡ Vector (c .before .v2 .given .0 .0)
+    typedRead (getD pdu 0 0) (typeOctet 0 (m .kind)) (take (m .next - m .list) (drop (m .list) pdu)) (c .before .before .before .before .before .loop .reached) ≡ Vector (c .before .v2 .given .0 .0)
 a-vector c = sym (c .before .before .before .typed-vector .ensures) ∙ c .before .v2 .given .1
 
 ends : (c : tie.After-known-told5 Inv-loop μ-loop Inv-messages μ-messages) →
@@ -48,9 +48,25 @@ ends : (c : tie.After-known-told5 Inv-loop μ-loop Inv-messages μ-messages) →
     (c .before .before .before .before .before .loop .reached + 2 ≤ c .before .v2 .given .0 .0 .next) × (c .before .v2 .given .0 .0 .next ≤ m .next - m .list)
 ends c =
     let i = c .before .before .before .before .before .loop .inv in
-    let w = within _ _ _ _ (a-vector c) in
+    let w = within _ _ _ _ _ (a-vector c) in
     let e = list-length (c .before .before .before .before .before .before .before .before .before .before .before .before .before .before .before .args .pdu .now) _ _ (i .list) (i .within) in
     (omega arith, omega arith)
+
+-- and of one that is passed over
+a-passed : (c : tie.After-known-told6 Inv-loop μ-loop Inv-messages μ-messages) →
+    let m = c .before .before .before .before .before .before .before .m3 .given .0 .0 in
+    let pdu = c .before .before .before .before .before .before .before .before .before .before .before .before .before .before .before .args .pdu .now in
+    typedRead (getD pdu 0 0) (typeOctet 0 (m .kind)) (take (m .next - m .list) (drop (m .list) pdu)) (c .before .before .before .before .before .loop .reached) ≡ PassedOver (c .before .v3 .given .0 .0)
+a-passed c = sym (c .before .before .before .typed-vector .ensures) ∙ c .before .v3 .given .1
+
+passes : (c : tie.After-known-told6 Inv-loop μ-loop Inv-messages μ-messages) →
+    let m = c .before .before .before .before .before .before .before .m3 .given .0 .0 in
+    (c .before .before .before .before .before .loop .reached + 2 ≤ c .before .v3 .given .0 .0) × (c .before .v3 .given .0 .0 ≤ m .next - m .list)
+passes c =
+    let i = c .before .before .before .before .before .loop .inv in
+    let w = over-within _ _ _ _ _ (a-passed c) in
+    let e = list-length (c .before .before .before .before .before .before .before .before .before .before .before .before .before .before .before .args .pdu .now) _ _ (i .list) (i .within) in
+    (w .0, omega arith)
 
 returns : tie.Need-returns Inv-loop μ-loop Inv-messages μ-messages
 unfolding numberOf
@@ -106,20 +122,16 @@ loop-less c = omega (arith, ends c)
 
 loop-again : tie.Need-loop-again Inv-loop μ-loop Inv-messages μ-messages
 loop-again c =
-    let i = c .before .before .before .before .before .loop .inv in
     let a = ends c in
-    let e : i .turns ≡ suc (i .turns - 1) = omega arith in
-    record {
-      list = i .list;
-      within = i .within;
-      ahead = i .ahead;
-      inside = a .1;
-      turns = i .turns - 1;
-      later = i .later;
-      enough = omega arith;
-      enough-later = i .enough-later;
-      answer = sym (number-next _ _ _ _ _ _ (a-vector c) _ e) ∙ i .answer;
-    }
+    list-on _ _ _ _ _ _ _ _ (c .before .before .before .before .before .loop .inv) (omega arith) (a .1) (λ f g w m. number-next f _ _ _ w _ g m _ (a-vector c))
+
+loop-less-2 : tie.Need-loop-less-2 Inv-loop μ-loop Inv-messages μ-messages
+loop-less-2 c = omega (arith, passes c)
+
+loop-again-2 : tie.Need-loop-again-2 Inv-loop μ-loop Inv-messages μ-messages
+loop-again-2 c =
+    let a = passes c in
+    list-on _ _ _ _ _ _ _ _ (c .before .before .before .before .before .loop .inv) (omega arith) (a .1) (λ f g w m. number-passed f _ _ _ w _ g m _ (a-passed c))
 
 messages-less-2 : tie.Need-messages-less-2 Inv-loop μ-loop Inv-messages μ-messages
 messages-less-2 c = omega (arith, c .before .before .before .before .loop .inv .ahead)
@@ -131,7 +143,7 @@ messages-again-2 c =
       within = i .within;
       turns = i .later;
       enough = i .enough-later;
-      answer = sym (number-end _ _ _ _ _ (sym (c .before .before .typed-vector .ensures) ∙ c .enum-told2 .given .1)) ∙ i .answer;
+      answer = sym (number-end _ _ _ _ _ _ (sym (c .before .before .typed-vector .ensures) ∙ c .enum-told2 .given .1)) ∙ i .answer;
     }
 
 returns-3 : tie.Need-returns-3 Inv-loop μ-loop Inv-messages μ-messages
@@ -149,7 +161,7 @@ returns-4 c =
 
 returns-5 : tie.Need-returns-5 Inv-loop μ-loop Inv-messages μ-messages
 returns-5 c =
-    sym (number-refused _ _ _ _ _ _ (sym (c .before .before .before .typed-vector .ensures) ∙ c .before .v .given .1)) ∙
+    sym (number-refused _ _ _ _ _ _ _ (sym (c .before .before .before .typed-vector .ensures) ∙ c .before .v .given .1)) ∙
     c .before .before .before .before .before .loop .inv .answer
 
 pub check-spec : {M : Type 1} → statement M
@@ -158,5 +170,5 @@ check-spec =
     (tie.spec Inv-loop μ-loop Inv-messages μ-messages returns returns-2 (λ c. search needs) messages-holds
     (λ c κs. search needs) (λ c. search needs) (λ c. search needs) (λ c. search needs) messages-less messages-again
     (λ c. search needs) loop-holds (λ c. search needs) (λ c. search needs) (λ c. search needs) (λ c κs. search needs)
-    (λ c. search needs) (λ c. search needs) (λ c. search needs) loop-less loop-again messages-less-2 messages-again-2 returns-3
-    returns-4 returns-5)
+    (λ c. search needs) (λ c. search needs) (λ c. search needs) loop-less loop-again (λ c. search needs) loop-less-2
+    loop-again-2 messages-less-2 messages-again-2 returns-3 returns-4 returns-5)

@@ -8,7 +8,7 @@ use Rattle.msrpdu.proofs.first_value.Statement.{statement}
 use Rattle.msrpdu.proofs.first_value.Tie as tie
 
 returns : tie.Need-returns
-returns c = sym (first-none _ _ (λ w e. ⊎-elim (λ z. omega arith) (λ z. omega arith) (rw e at (c .before .match .keys2))))
+returns c = sym (first-none _ _ (λ w e. ⊎-elim (λ z. omega arith) (⊎-elim (λ z. omega arith) (λ z. omega arith)) (rw e at (c .before .match .keys2))))
 
 returns-2 : tie.Need-returns-2
 returns-2 c = sym (first-outside _ _ _ (c .before .before .before .read .given .1) (c .before .if1 .taken))

@@ -12,7 +12,7 @@ begin-all-requires c κs = c .before .before .before .before .pre .walk
 
 -- the places of the vector are within its list
 places : (a : tie.Start) → Within (a .args .list .now) (a .pre .at) (a .args .head)
-places a = within (typeOctet 0 (a .args .walk .kind)) (a .args .list .now) (a .pre .at) (a .args .head) (a .pre .read)
+places a = within (a .args .walk .version) (typeOctet 0 (a .args .walk .kind)) (a .args .list .now) (a .pre .at) (a .args .head) (a .pre .read)
 
 sub-values : tie.Need-sub-values
 sub-values c = let h = places (c .before .before .before .before .before .before .before .before) in search needs
@@ -39,10 +39,10 @@ values-requires c κs =
     let w = p .walk in
     record {
       walk = record { laid = walked-laid (c .before .before .before .before .before .begin-all .ensures); port = w .port; low = w .low; high = w .high };
-      events = enough-events (a .args .walk .kind) (a .args .list .now) (p .at) (a .args .head) (w .low) (w .high) (p .read);
+      events = enough-events (a .args .walk .version) (a .args .walk .kind) (a .args .list .now) (p .at) (a .args .head) (w .low) (w .high) (p .read);
       values =
           rw (c .before .before .before .before .before .before .before .first-value .ensures)
-          (has-values (a .args .walk .kind) (a .args .list .now) (p .at) (a .args .head) (w .low) (w .high) (p .read));
+          (has-values (a .args .walk .version) (a .args .walk .kind) (a .args .list .now) (p .at) (a .args .head) (w .low) (w .high) (p .read));
     }
 
 returns : tie.Need-returns
