@@ -85,14 +85,14 @@ fn entry_number(entry: EntryShown) -> u64
 
 // The parts stand in the order of srp.h's struct srp_reported.
 #[no_mangle]
-pub extern "C" fn srp_report(table: &[u8], port: u32, place: u32, parts: &mut [u64; PARTS]) -> u8
-    ensures { λ r. ⌜ Tells (now (table .entry)) port place r (now (parts .exit)) ⌝ }
+pub extern "C" fn srp_report(table: &[u8], port: u32, place: u32, reported: &mut [u64; PARTS]) -> u8
+    ensures { λ r. ⌜ Tells (now (table .entry)) port place r (now (reported .exit)) ⌝ }
 {
     let answer = bridge::report(table, port, place);
     let column = answer.column;
     let listener = answer.listener;
     let entry = answer.entry;
-    *parts = [
+    *reported = [
         answer.count as u64,
         answer.total_a,
         answer.limit_a,
