@@ -19,7 +19,7 @@ partsOf r =
     ∷ entryNumber (r .entry) ∷ []
 
 -- a table, a port and a place: a number, and the parts behind the pointer, are those of the report
-pub record Tells (table : List ℕ) (port place number : ℕ) (parts : List ℕ) : Type 0 where
+pub record Told (table : List ℕ) (port place number : ℕ) (parts : List ℕ) : Type 0 where
   pub answer : Report
   pub reports : Reports table port place answer
   pub number-is : number ≡ answer .number

@@ -5,7 +5,7 @@ ghost use mathlib.Core.Path.{_≡_};
 ghost use Rattle.reports.specs.Shown.{columnWord, declared, entered};
 ghost use Rattle.bridge.specs.Promises.{Starts, Receives, Advances, Writes};
 ghost use Rattle.model.specs.Table.{declaredNumber, entryNumber};
-ghost use Rattle.embed.specs.Boundary.{wordNumber, Tells};
+ghost use Rattle.embed.specs.Boundary.{wordNumber, Told};
 use reports::ColumnShown;
 use reports::EntryShown;
 use reports::ListenerShown;
@@ -86,7 +86,7 @@ fn entry_number(entry: EntryShown) -> u64
 // The parts stand in the order of srp.h's struct srp_reported.
 #[no_mangle]
 pub extern "C" fn srp_report(table: &[u8], port: u32, place: u32, reported: &mut [u64; PARTS]) -> u8
-    ensures { λ r. ⌜ Tells (now (table .entry)) port place r (now (reported .exit)) ⌝ }
+    ensures { λ r. ⌜ Told (now (table .entry)) port place r (now (reported .exit)) ⌝ }
 {
     let answer = bridge::report(table, port, place);
     let column = answer.column;
