@@ -1,0 +1,152 @@
+/*
+ * srpcalls through the boundary: reads the records of docs/SRPCALLS.md from standard input, makes each call by srp.h, and prints the
+ * lines that srpcalls prints.
+ */
+#include <inttypes.h>
+#include <stdio.h>
+#include <stdlib.h>
+#include <string.h>
+
+#include "srp.h"
+
+#define ROOM (SRP_TABLE + 64)
+#define LONGEST 4096
+#define BUFFER 2048
+#define FILLING 0xA5
+
+static const char *const columns[] = {"none", "advertise", "failed"};
+static const char *const listeners[] = {"none", "asking", "ready", "readyfailed"};
+static const char *const entries[] = {"none", "filter", "forward"};
+
+static uint8_t room[ROOM];
+static size_t lent = SRP_TABLE;
+static uint8_t octets[65535];
+
+/* A record that the input cuts, or no record, ends the run. */
+static void stop(void) {
+    puts("stop");
+    exit(0);
+}
+
+static void fill(uint8_t *field, size_t length) {
+    if (fread(field, 1, length, stdin) != length) stop();
+}
+
+/* A number of so many octets, most significant first. */
+static uint32_t number(size_t length) {
+    uint8_t field[4];
+    uint32_t n = 0;
+    size_t i;
+
+    fill(field, length);
+    for (i = 0; i < length; i++) n = n << 8 | field[i];
+    return n;
+}
+
+/* Reads a length and so many octets; a call is handed no more than the longest. */
+static size_t counted(void) {
+    size_t length = number(2);
+
+    fill(octets, length);
+    return length < LONGEST ? length : LONGEST;
+}
+
+/* A space before octets in hex; nothing where there are none. */
+static void print_octets(const uint8_t *from, size_t length) {
+    size_t i;
+
+    if (length > 0) putchar(' ');
+    for (i = 0; i < length; i++) printf("%02x", (unsigned)from[i]);
+    putchar('\n');
+}
+
+static void write_from(uint32_t port) {
+    static uint8_t buffer[BUFFER];
+    uint32_t place = number(2);
+    size_t asked = number(2), length = 1, next = 1, at;
+    unsigned given;
+
+    if (asked > BUFFER) asked = BUFFER;
+    memset(buffer, FILLING, sizeof buffer);
+    given = srp_write(room, lent, port, place, buffer, asked, &length, &next);
+    for (at = length; at < BUFFER && buffer[at] == FILLING; at++) {
+    }
+    printf("write %u %zu %zu %s", given, length, next, at == BUFFER ? "kept" : "spoiled");
+    print_octets(buffer, length);
+}
+
+static void report_at(uint32_t port) {
+    struct srp_reported told;
+    unsigned given;
+
+    memset(&told, 0xFF, sizeof told);
+    given = srp_report(room, lent, port, number(2), &told);
+    printf("report %u %" PRIu64 " %" PRIu64 " %" PRIu64 " %" PRIu64 " %" PRIu64, given, told.count, told.total_a, told.limit_a,
+           told.total_b, told.limit_b);
+    printf(" %016" PRIx64 " %s %" PRIu64 " %s %s\n", told.id, columns[told.column], told.code, listeners[told.listener],
+           entries[told.entry]);
+}
+
+/* Stores an octet in the table's room; past it nothing happens. */
+static void store(void) {
+    size_t at = number(2);
+    uint8_t octet = (uint8_t)number(1);
+
+    if (at < ROOM) room[at] = octet;
+}
+
+static void lend(void) {
+    size_t length = number(2);
+
+    lent = length < ROOM ? length : ROOM;
+}
+
+/* Adler-32 (RFC 1950). */
+static void print_sum(void) {
+    uint32_t a = 1, b = 0;
+    size_t i;
+
+    for (i = 0; i < lent; i++) {
+        a = (a + room[i]) % 65521;
+        b = (b + a) % 65521;
+    }
+    printf("table %08" PRIx32 "\n", b << 16 | a);
+}
+
+/* The rest of a record, by its first octet; the low digit is the port. */
+static void take(unsigned kind) {
+    uint32_t port = kind % 16;
+    size_t length;
+
+    if (kind == 0x00) {
+        length = counted();
+        printf("start %u\n", (unsigned)srp_start(room, lent, octets, length));
+    } else if (kind / 16 == 1) {
+        length = counted();
+        printf("receive %u\n", (unsigned)srp_receive(room, lent, port, octets, length));
+    } else if (kind == 0x20) {
+        printf("advance %u\n", (unsigned)srp_advance(room, lent, number(4)));
+    } else if (kind / 16 == 3) {
+        write_from(port);
+    } else if (kind / 16 == 4) {
+        report_at(port);
+    } else if (kind == 0x50) {
+        store();
+    } else if (kind == 0x51) {
+        lend();
+    } else if (kind == 0x60) {
+        print_sum();
+    } else if (kind == 0x61) {
+        printf("octets");
+        print_octets(room, lent);
+    } else {
+        stop();
+    }
+}
+
+int main(void) {
+    int kind;
+
+    while ((kind = getchar()) != EOF) take((unsigned)kind);
+    return 0;
+}

@@ -1,0 +1,151 @@
+/*
+ * The stream-reservation bridge for programs in C, C++ and Rust: the five calls of libembed.a. docs/EMBEDDING.md tells how to build
+ * and link it, README.md what each call does, docs/TABLE.md the octets of settings and table.
+ *
+ * What every call does:
+ *
+ * - It answers a number: 0, or why it was refused (enum srp_number). A refusal changes no octet of table and buffer, and puts 0
+ *   behind every other pointer. Every input has an answer: nothing is asked of numbers and of the octets handed over.
+ * - It keeps nothing: the table is the bridge's whole state. It has no statics, takes no memory, and locks nothing. Calls on
+ *   different tables may run at the same time; those on one table are made one after the other.
+ *
+ * What only the caller can see to, since C has no way to ask it:
+ *
+ * - A pointer and its length name octets that are there: a length that is too great makes the call read, and for a table or buffer
+ *   write, what is not the caller's. A length that is too small is refused by number, as any other wrong length.
+ * - A pointer may be NULL where its length is 0, and never elsewhere: a table is then refused with 12, settings with 11, a PDU with
+ *   2 and a buffer with 10. The pointers without a length (length, next, reported) are never NULL.
+ * - What the pointers of one call name does not overlap, and nobody else changes it while the call runs.
+ */
+#ifndef SRP_H
+#define SRP_H
+
+#include <stddef.h>
+#include <stdint.h>
+
+#ifdef __cplusplus
+extern "C" {
+#endif
+
+/*
+ * Sizes, in octets where nothing else is said. They are those of the archive that this header came with: where start refuses a table
+ * of SRP_TABLE octets with 12, it is another.
+ */
+
+/* Ports of a bridge, and streams that it holds, at most. */
+#define SRP_PORTS 8
+#define SRP_STREAMS 64
+
+/* A table, for every number of ports. */
+#define SRP_TABLE 34922
+
+/* Settings: what stands before the first port's, each port's, and all of so many ports. */
+#define SRP_SETTINGS_HEAD 13
+#define SRP_SETTINGS_PORT 22
+#define SRP_SETTINGS(ports) (SRP_SETTINGS_HEAD + SRP_SETTINGS_PORT * (ports))
+
+/* The longest PDU, which is the shortest buffer of a write. */
+#define SRP_PDU 1500
+
+/* The numbers that calls answer. Where several apply, it is the first in the order that stands with each call. */
+enum srp_number {
+    SRP_ACCEPTED = 0,
+    SRP_REFUSED_PORT = 1,             /* the port is 0 or above the bridge's ports */
+    SRP_REFUSED_PDU_LENGTH = 2,       /* the PDU has 0 octets or more than SRP_PDU */
+    SRP_REFUSED_PAST_END = 3,         /* a field runs past the PDU or its list, or a list's EndMark isn't its last two octets */
+    SRP_REFUSED_ATTRIBUTE_TYPE = 4,   /* AttributeType 0; or above 4 with ProtocolVersion 0 */
+    SRP_REFUSED_ATTRIBUTE_LENGTH = 5, /* AttributeLength is not that of the type */
+    SRP_REFUSED_EVENT = 6,            /* LeaveAllEvent above 1, or a ThreePackedEvents octet above 215, with ProtocolVersion 0 */
+    SRP_REFUSED_VALUE = 7,            /* a value runs past its field */
+    SRP_REFUSED_STREAMS = 8,          /* streams held and different new ones joined by this PDU are more than SRP_STREAMS */
+    SRP_REFUSED_TIME = 9,             /* the time is below the held clock */
+    SRP_REFUSED_BUFFER = 10,          /* the buffer is shorter than SRP_PDU */
+    SRP_REFUSED_SETTINGS = 11,        /* the settings are not as docs/TABLE.md lays them out, their length included */
+    SRP_REFUSED_TABLE = 12,           /* the table's length is not SRP_TABLE, or its octets break a form rule */
+    SRP_REFUSED_PLACE = 13            /* the place is above the number of declarations (write) or of streams held (report) */
+};
+
+/*
+ * Failure codes (IEEE 802.1Qat, Table 35-6): why a stream is not admitted on a port. "own": this bridge gives it; all of them, and any
+ * other octet, are relayed where a neighbour gave them.
+ */
+enum srp_code {
+    SRP_CODE_NONE = 0,
+    SRP_CODE_BANDWIDTH = 1,            /* own: insufficient bandwidth */
+    SRP_CODE_BRIDGE_RESOURCES = 2,     /* insufficient Bridge resources */
+    SRP_CODE_CLASS_BANDWIDTH = 3,      /* insufficient bandwidth for the traffic class */
+    SRP_CODE_STREAM_ID = 4,            /* own: StreamID in use by another Talker */
+    SRP_CODE_DESTINATION_IN_USE = 5,   /* destination address already in use */
+    SRP_CODE_PREEMPTED = 6,            /* preempted by higher rank */
+    SRP_CODE_LATENCY_CHANGED = 7,      /* own: reported latency has changed */
+    SRP_CODE_NOT_AVB = 8,              /* own: egress port is not AVB capable */
+    SRP_CODE_OTHER_DESTINATION = 9,    /* use a different destination address */
+    SRP_CODE_MSRP_RESOURCES = 10,      /* out of MSRP resources */
+    SRP_CODE_MMRP_RESOURCES = 11,      /* out of MMRP resources */
+    SRP_CODE_STORE_DESTINATION = 12,   /* cannot store the destination address */
+    SRP_CODE_PRIORITY = 13,            /* own: requested priority is not an SR class priority */
+    SRP_CODE_FRAME_SIZE = 14,          /* own: MaxFrameSize is too large for media */
+    SRP_CODE_INBOUND_PORTS = 15,       /* limit of inbound ports has been reached */
+    SRP_CODE_FIRST_VALUE_CHANGED = 16, /* own: changes in FirstValue for a registered StreamID */
+    SRP_CODE_VLAN_BLOCKED = 17,        /* VLAN is blocked on this egress port */
+    SRP_CODE_VLAN_TAGGING = 18,        /* VLAN tagging is disabled on this egress port */
+    SRP_CODE_CLASS_PRIORITY = 19       /* SR class priority mismatch */
+};
+
+/* The words of a report. */
+enum srp_column { SRP_COLUMN_NONE = 0, SRP_COLUMN_ADVERTISE = 1, SRP_COLUMN_FAILED = 2 };
+enum srp_listener { SRP_LISTENER_NONE = 0, SRP_LISTENER_ASKING_FAILED = 1, SRP_LISTENER_READY = 2, SRP_LISTENER_READY_FAILED = 3 };
+enum srp_entry { SRP_ENTRY_NONE = 0, SRP_ENTRY_FILTER = 1, SRP_ENTRY_FORWARD = 2 };
+
+/*
+ * What a report tells beside its number. Of the last five there is a stream where the place is below the count; at the count itself
+ * they are 0.
+ */
+struct srp_reported {
+    uint64_t count;    /* streams held now */
+    uint64_t total_a;  /* of the port, in bits per second: what class A has reserved, by the last advance */
+    uint64_t limit_a;  /* and its limit, by the settings */
+    uint64_t total_b;  /* the same of class B, which may use what class A leaves: it can be above limit_b */
+    uint64_t limit_b;
+    uint64_t id;       /* StreamID */
+    uint64_t column;   /* enum srp_column: the Talker declared on the port */
+    uint64_t code;     /* enum srp_code, or another octet that was relayed; 0 where the column is not SRP_COLUMN_FAILED */
+    uint64_t listener; /* enum srp_listener: the Listener declared on the port */
+    uint64_t entry;    /* enum srp_entry: what the port does with the stream's frames */
+};
+
+/*
+ * Starts a bridge in the table, whatever stands there: no streams, clock 0. Refused with 12 for its length only, then 11.
+ */
+uint8_t srp_start(uint8_t *table, size_t table_length, const uint8_t *settings, size_t settings_length);
+
+/*
+ * Takes a PDU that arrived on a port, numbered from 1: all of its events are applied, or it is refused with 12, 1, 2 to 7 (the first
+ * from the front), 8. The PDU begins with ProtocolVersion, behind the EtherType.
+ */
+uint8_t srp_receive(uint8_t *table, size_t table_length, uint32_t port, const uint8_t *pdu, size_t pdu_length);
+
+/*
+ * Sets the clock, in hundredths of a second, removes what has left, and decides what every port admits. Refused with 12, 9.
+ */
+uint8_t srp_advance(uint8_t *table, size_t table_length, uint32_t time);
+
+/*
+ * Writes into the buffer a PDU of a port's declarations, from a place on, which counts from 0: its length, and the place to go on
+ * from. Octets of the buffer past the length stay. With no declaration left the PDU is 00 00 00, with the place itself as the next.
+ * Refused with 12, 1, 10, 13.
+ */
+uint8_t srp_write(const uint8_t *table, size_t table_length, uint32_t port, uint32_t place, uint8_t *buffer, size_t buffer_length,
+                  size_t *length, size_t *next);
+
+/*
+ * Reports the streams held, a port's totals and limits, and the stream at a place, which counts from 0 by ascending StreamID, as the
+ * last advance left it on that port. Refused with 12, 1, 13.
+ */
+uint8_t srp_report(const uint8_t *table, size_t table_length, uint32_t port, uint32_t place, struct srp_reported *reported);
+
+#ifdef __cplusplus
+}
+#endif
+
+#endif
