@@ -23,6 +23,7 @@ pub mod ReadBack
 pub mod WritingPasses
 pub mod Refusals
 pub mod Edge
+pub mod OwnFailures
 pub mod Boundaries
 pub mod Opened
 pub mod Examples
