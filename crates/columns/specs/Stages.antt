@@ -1,12 +1,13 @@
 -- Settling in stages, as the code takes them after removal: (1) every stream gets its settled values and, on every port, the
--- result of steps a to g and j, as if step h admitted it; (2) for each port and class, those that h does not admit become failed with
+-- result of steps a to g and j, 5 and 15, as if step h admitted it; (2) for each port and class, those that h does not admit become failed with
 -- code 1; (3) the Talker port declares the merged Listener. Each stage reads what the one before left in the table.
 use mathlib.Core.List.{List, [], _∷_, map}
 use mathlib.Core.Bool.{Bool, cond, not, _&&_}
 use Prim.Native.Nat.{ℕ, zero, suc}
 use lib.ListN.{getD, set}
+use lib.Dec.{eqb, ltb}
 use Rattle.model.specs.Lists.{keep, tabulate}
-use Rattle.model.specs.State.{Settings, Cell, Column, advertise, failed, filters, Declared, nothing, Result, Stream, Totals, Bridge, noTotals, portAt, cellAt, resultAt, Class, noClass, classA, classB, classOf, sameClass, limit}
+use Rattle.model.specs.State.{Port, Settings, Cell, Column, none, advertise, failed, filters, Declared, nothing, Result, Stream, Totals, Bridge, noTotals, portAt, cellAt, resultAt, Class, noClass, classA, classB, classOf, sameClass, limit}
 use Rattle.model.specs.Registrations.{holding}
 use Rattle.model.specs.Bandwidth.{Claim, demand, rateOf, admitted, total}
 use Rattle.model.specs.Settling.{Scene, sceneOf, Source, sourceOf, fixedOf, isSource, registered, isReady, isAdvertise, first, outcomeColumn, stepsFrom, steps, ageOf, latencyOut, entryOf, ageKept, latencyKept, passed, mergeAll}
@@ -30,9 +31,20 @@ shownBy column latency heard now old =
 unfoldable pub shownAs : Settings → ℕ → Stream → ℕ → Column → Result
 shownAs st now x p column = shownBy column (latencyOut st p x) (registered (cellAt x p)) now (resultAt x p)
 
--- steps a to g and j, and Advertise where none of them applies: on a port, from its cell and the stream's source
+-- steps a to f and j, and Advertise where none of them applies: on a port, from its cell and the stream's source
 unfoldable pub firstStep : Scene → ℕ → Cell → Source → Column
 firstStep sc p here s = first (outcomeColumn (sc .settings) s) (stepsFrom sc p here s) advertise
+
+-- the steps behind them, from the own failure that the stream has on every port, a port and MaxFrameSize
+unfoldable pub lastStep : Settings → ℕ → Port → ℕ → Column
+lastStep st common q size =
+    cond (eqb common 0) (cond (ltb (q .largest) size) (failed (st .bridgeId) 14) advertise) (failed (st .bridgeId) common)
+
+-- a column, or what follows where no step has applied
+unfoldable pub orElse : Column → Column → Column
+orElse none d = none
+orElse advertise d = d
+orElse (failed b c) d = failed b c
 
 -- and at any place
 unfoldable pub earlyColumn : Scene → ℕ → Stream → Column

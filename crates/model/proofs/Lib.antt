@@ -25,6 +25,7 @@ pub mod Refusals
 pub mod Edge
 pub mod OwnFailures
 pub mod Boundaries
+pub mod FanIn
 pub mod Opened
 pub mod Examples
 pub mod FormKept
