@@ -190,9 +190,10 @@ few-bring-in sc now s e some f all n = few (sc .settings .fanIn) (sc .inbound) s
     one : (q : ℕ) → f q ≡ true → (isInbound (sc .inbound) q ≡ true) × (mayBring (sc .settings .fanIn) (sc .inbound) q ≡ true)
     one q h =
         let b = all q h in
-        let x = getD s (b .place) (fresh 0) in
-        (rw e (inbound-held s (b .place) (b .held) q (b .source)),
-            brings (sc .settings .fanIn) (sc .inbound) (sourceOf x) q (free sc now s (b .port) x (b .advertises) .1) (b .source))
+        let x = getD s (b .place) (fresh 0) in (
+          rw e (inbound-held s (b .place) (b .held) q (b .source)),
+          brings (sc .settings .fanIn) (sc .inbound) (sourceOf x) q (free sc now s (b .port) x (b .advertises) .1) (b .source),
+        )
 
 -- Shared addresses.
 

@@ -24,10 +24,11 @@ early-record-requires : tie.Need-early-record-requires Inv-loop μ-loop
 early-record-requires c κs =
     let l = c .before .before .loop in
     let s = c .before .before .before .before .before .before .before .before in
-    let soon : s .args .time < 4294967296 = omega arith in
-    (next-stands _ (s .pre) (s .args .time) soon (l .k) _ (l .inv .is) (omega arith),
-        next-settled _ (s .pre) (s .args .time) soon (l .k) _ (l .inv .is) (omega (arith, l .inv .within, l .inv .count)),
-        next-inbound _ (s .pre) (s .args .time) soon (l .k) _ (l .inv .is) _ (c .before .before .before .before .before .inbound-ports .ensures))
+    let soon : s .args .time < 4294967296 = omega arith in (
+      next-stands _ (s .pre) (s .args .time) soon (l .k) _ (l .inv .is) (omega arith),
+      next-settled _ (s .pre) (s .args .time) soon (l .k) _ (l .inv .is) (omega (arith, l .inv .within, l .inv .count)),
+      next-inbound _ (s .pre) (s .args .time) soon (l .k) _ (l .inv .is) _ (c .before .before .before .before .before .inbound-ports .ensures),
+    )
 
 loop-again : tie.Need-loop-again Inv-loop μ-loop
 loop-again c =

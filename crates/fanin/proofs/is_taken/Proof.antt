@@ -43,9 +43,10 @@ returns c =
 loop-again : tie.Need-loop-again Inv-loop μ-loop
 loop-again c =
     let a = c .before .before .before .before .before .args in
-    let l = c .before .before .before .loop in
-    (omega (arith, c .before .before .loop-test .taken),
-        sym (not-here (hasIt (a .table .now) (a .wanted)) (l .j) _ _ (left (c .before)) (sym (c .before .has-address .ensures) ∙ c .if1 .left)) ∙ l .inv .1)
+    let l = c .before .before .before .loop in (
+      omega (arith, c .before .before .loop-test .taken),
+      sym (not-here (hasIt (a .table .now) (a .wanted)) (l .j) _ _ (left (c .before)) (sym (c .before .has-address .ensures) ∙ c .if1 .left)) ∙ l .inv .1,
+    )
 
 returns-2 : tie.Need-returns-2 Inv-loop μ-loop
 unfolding anyFrom
