@@ -12,8 +12,8 @@ use Rattle.octets.specs.Be.{beAt}
 use Rattle.octets.specs.Parts.{part, patch}
 use Rattle.octets.proofs.Frame.{part-part}
 use Rattle.model.specs.Layout.{cellPlace, cellSize, fixedPlace, fixedSize, listenerPlace, resultPlace, resultSize, settledOf}
-use Rattle.model.specs.State.{Fixed, Cell, Result, Stream, Bridge, Column, cellAt, resultAt, streamAt, fresh}
-use Rattle.model.specs.Settling.{Scene, sceneOf, Source, source, sourceOf, fixedOf, inboundOf, isInbound, latencyOut}
+use Rattle.model.specs.State.{Fixed, Cell, Result, Stream, Column, cellAt, resultAt, streamAt, fresh}
+use Rattle.model.specs.Settling.{Scene, sceneOf, Source, source, sourceOf, fixedOf, isInbound, latencyOut}
 use Rattle.model.specs.Table.{toDeclared, toResult, resultOctets, encode, decode}
 use Rattle.model.specs.Registrations.{holding}
 use Rattle.model.specs.Laid.{FitStream, Laid}
@@ -26,7 +26,6 @@ use Rattle.table.proofs.EachStream.{partly, partly-scene, partly-stands, partly
 use Rattle.streams.specs.Answers.{talkerPort, sourceIn}
 use Rattle.streams.proofs.Sources.{source-at}
 use Rattle.fanin.specs.Sets.{setTo}
-use Rattle.fanin.specs.Failures.{commonFailure}
 use Rattle.fanin.specs.Places.{SettledTo}
 use Rattle.columns.specs.Stages.{shownBy, shownAs, earlyColumn, earlyAt, early, earlyAll}
 use Rattle.columns.specs.Places.{TalkerAt, FailureAt, changedAt, earlyOne, earlyTo}

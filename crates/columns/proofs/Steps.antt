@@ -147,9 +147,6 @@ module _ (sc : Scene) (p : ℕ) (x : Stream) where
   unfolding first outcomeColumn lastSteps lastStep commonFailure inboundOf
   last-steps common e = rw e (go (shares (sc .inbound) (inboundOf x)) (isKeptOut (sc .settings .fanIn) (sc .inbound) (sourceOf x)))
     where
-      own : ℕ → Column
-      own = failed (sc .settings .bridgeId)
-
       go : (a b : Bool) → let rest = cond (ltb (portAt (sc .settings) p .largest) (fixedOf (sourceOf x) .size)) (failed (sc .settings .bridgeId) 14) advertise in
           cond a (failed (sc .settings .bridgeId) 5) (cond b (failed (sc .settings .bridgeId) 15) rest)
           ≡ cond (eqb (cond a 5 (cond b 15 0)) 0) rest (failed (sc .settings .bridgeId) (cond a 5 (cond b 15 0)))

@@ -2,7 +2,7 @@
 -- StreamID.
 use mathlib.Core.Path.{_≡_, refl, sym, ap, _∙_}
 use mathlib.Core.List.{List, [], _∷_}
-use mathlib.Core.Bool.{Bool, true, false, cond, not, _&&_, _||_, and-false, or-false}
+use mathlib.Core.Bool.{Bool, true, false, not, _&&_, _||_, and-false}
 use Prim.Native.Nat.{ℕ, zero, suc, _+_, _-_, _*_, _^_, _≤_, _<_}
 use native.Mathlib.Omega.{arith}
 use native.Mathlib.Numerals.{add-one}
@@ -14,19 +14,18 @@ use Rattle.octets.specs.Fields.{fields}
 use Rattle.octets.proofs.Fields.{fields-of-packed}
 use Rattle.model.specs.Layout.{fixedWidths}
 use Rattle.model.specs.Lists.{All}
-use Rattle.model.specs.State.{Fixed, Stream, Bridge, fresh}
+use Rattle.model.specs.State.{Fixed, Stream, fresh}
 use Rattle.model.specs.Registrations.{ids}
 use Rattle.model.specs.WrittenFrames.{fixedNumbers}
 use Rattle.model.specs.Settling.{Scene, sceneOf, Origin, Source, nowhere, from, sourceOf, fixedOf, Inbound, inboundOf, inboundsOf, sameAddress, sameAddressAt, shares, isKeptOut, mayBring}
 use Rattle.model.specs.Table.{decode}
-use Rattle.model.specs.Laid.{Ascending, FitStream, Laid}
+use Rattle.model.specs.Laid.{Ascending}
 use Rattle.model.proofs.Fits.{settled-fits, fit-fixed, laid-fits}
-use Rattle.model.proofs.Lists.{all-getD}
 use Rattle.table.specs.Updates.{streamAt}
 use Rattle.table.specs.Places.{Stands}
 use Rattle.table.specs.Reads.{fixedOctets}
 use Rattle.table.proofs.ByPlace.{stream-fits}
-use Rattle.streams.specs.Answers.{sourcePort, talkerPort}
+use Rattle.streams.specs.Answers.{sourcePort}
 use Rattle.streams.specs.declared.SourceRead.the-variants.{Nowhere, Port}
 use Rattle.fanin.specs.Failures.{addressOf, hasAddress, anyFrom, commonFailure}
 use Rattle.fanin.specs.Places.{SettledTo}

@@ -13,7 +13,7 @@ use lib.Dec.{ltb, eqb}
 use lib.Pow.{pow-pos, pow-lt, pow-add, low}
 use lib.Bits.{bitOr, bitAnd, and-le-l, and-mask, or-block, or-zero-r}
 use lib.Count.{ones, ones-cat, ones-le}
-use borrow.Author.Tests.{eq-eqb, ne-eqb, eqb-true, eqb-false}
+use borrow.Author.Tests.{eq-eqb, ne-eqb}
 use Rattle.model.specs.Lists.{bit, countTo}
 use Rattle.model.specs.State.{Stream, fresh}
 use Rattle.model.specs.Settling.{Source, nowhere, from, sourceOf, isSource, Inbound, inboundOf, inboundsOf, isInbound, inboundBelow, mayBring}

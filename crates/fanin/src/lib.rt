@@ -1,6 +1,6 @@
 // Inbound ports and shared addresses: the own failure that a stream has on every port alike.
 ghost use mathlib.Core.Path.{_≡_};
-ghost use Prim.Native.Nat.{_<_, _≤_, _+_};
+ghost use Prim.Native.Nat.{_<_, _+_};
 ghost use Rattle.model.specs.Settling.{sceneOf, inboundOf, inboundsOf, sourceOf, fixedOf, isInbound, mayBring};
 ghost use Rattle.model.specs.Table.{decode};
 ghost use Rattle.model.specs.Laid.{Laid};

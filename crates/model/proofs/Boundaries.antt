@@ -1,17 +1,17 @@
 -- The boundary flags (35.2.1.4 h) and code 8: a settled flag is set exactly where one of h)'s three conditions holds; an own failure
 -- has code 8 exactly where no earlier step applies and the flag is set; where every port hears the bridge's own values alone, no
 -- flag of a class that it supports is set.
-use mathlib.Core.Path.{_≡_, refl, sym, ap, _∙_}
+use mathlib.Core.Path.{_≡_, refl, sym, _∙_}
 use mathlib.Core.List.{List, [], _∷_, _++_}
 use mathlib.Core.Bool.{Bool, true, false, cond, not, _&&_, _||_, true≢false, false≢true}
 use Prim.Native.Nat.{ℕ, zero, suc, _+_, _<_}
 use native.Mathlib.Omega.{arith}
-use lib.ListN.{length, getD, take, drop}
-use lib.Dec.{eqb, ltb}
+use lib.ListN.{length, getD, take}
+use lib.Dec.{eqb}
 use borrow.Author.Tests.{eqb-false, ne-eqb, lt-ltb}
 use Rattle.model.specs.Lists.{All}
-use Rattle.model.specs.State.{Port, Settings, Cell, Domain, noDomain, domain, Own, noOwn, Health, sound, broken, Column, none, advertise, failed, Stream, Bridge, noPort, portAt, isPort, cellAt, ownAt, Class, noClass, classA, classB, classOf, isNoClass, supports, classPriority}
-use Rattle.model.specs.Settling.{isTalking, Source, nowhere, from, sourceOf, fixedOf, healthOf, streamClass, isDomain, anyDomain, otherPriority, domainsOf, anySupports, isEdge, flagOf, decideOwn, decideOwns, boundary, Scene, sceneOf, Outcome, columnNone, asRegistered, ownFailure, Step, first, clear, isBroken, brokenColumn, outcomeColumn, inboundOf, stepsFrom, lastSteps, steps, claim, leftFor, columnOf, settle}
+use Rattle.model.specs.State.{Port, Settings, Cell, Domain, noDomain, domain, Own, noOwn, Column, none, failed, Stream, Bridge, noPort, portAt, isPort, cellAt, ownAt, Class, noClass, classA, classB, classOf, isNoClass, supports, classPriority}
+use Rattle.model.specs.Settling.{Source, nowhere, from, sourceOf, fixedOf, healthOf, streamClass, isDomain, anyDomain, otherPriority, domainsOf, anySupports, isEdge, flagOf, decideOwn, decideOwns, boundary, Scene, columnNone, Step, first, clear, isBroken, outcomeColumn, inboundOf, stepsFrom, lastSteps, steps, claim, leftFor, columnOf, settle}
 use Rattle.model.specs.Table.{columnCode}
 use Rattle.model.proofs.Parts.{_also_}
 use Rattle.model.proofs.ColumnRule.{at-place}

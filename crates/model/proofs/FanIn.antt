@@ -3,17 +3,17 @@
 -- advertises; of streams with one address at most one is advertised on a port.
 use mathlib.Core.Path.{_≡_, refl, sym, ap, _∙_}
 use mathlib.Core.List.{List, [], _∷_, _++_, append-assoc}
-use mathlib.Core.Bool.{Bool, true, false, not, _&&_, _||_, true≢false, false≢true, or-true}
+use mathlib.Core.Bool.{Bool, true, false, not, _&&_, true≢false, false≢true, or-true}
 use Prim.Native.Nat.{ℕ, zero, suc, _+_, _≤_, _<_}
 use native.Mathlib.Omega.{arith}
 use lib.ListN.{length, getD, drop}
 use lib.Dec.{eqb, ltb, leb}
 use borrow.Author.Tests.{eq-eqb, ne-eqb, eqb-true, eqb-false, lt-ltb, ltb-true, ltb-false}
 use Rattle.model.specs.Lists.{All, bit, countTo}
-use Rattle.model.specs.State.{Cell, Fixed, Column, failed, Stream, fresh, isPort, cellAt}
-use Rattle.model.specs.Settling.{Source, nowhere, from, sourceOf, isSource, healthOf, isBroken, Inbound, inboundOf, inboundsOf, isInbound, inboundBelow, mayBring, isKeptOut, sameAddress, sameAddressAt, shares, Scene, isAdvertise, Outcome, columnNone, ownFailure, Step, first, clear, outcomeColumn, stepsFrom, lastSteps, steps, claim, leftFor, byBandwidth, columnOf}
+use Rattle.model.specs.State.{Cell, Column, failed, Stream, fresh, isPort, cellAt}
+use Rattle.model.specs.Settling.{Source, nowhere, from, sourceOf, isSource, healthOf, isBroken, Inbound, inboundOf, inboundsOf, isInbound, inboundBelow, mayBring, isKeptOut, sameAddress, sameAddressAt, shares, Scene, isAdvertise, Outcome, columnNone, ownFailure, Step, clear, outcomeColumn, stepsFrom, lastSteps, steps, claim, leftFor, byBandwidth, columnOf}
 use Rattle.model.specs.Table.{columnCode}
-use Rattle.model.proofs.Lists.{all-append, all-at, and-left, and-right}
+use Rattle.model.proofs.Lists.{all-append, and-left, and-right}
 use Rattle.model.proofs.Parts.{_also_}
 use Rattle.model.proofs.ColumnRule.{Pairwise, advertised}
 use Rattle.model.proofs.OwnFailures.{GivesOther, withStep, reached, only-there, others-give, own-code, none-code, registered-code, bandwidth-code}

@@ -3,11 +3,10 @@ use mathlib.Core.Path.{_≡_, refl, sym, _∙_}
 use mathlib.Core.List.{List, [], _∷_, _++_}
 use mathlib.Core.Bool.{Bool, true, false, cond, not, _&&_, true≢false, false≢true}
 use Prim.Native.Nat.{ℕ}
-use native.Mathlib.Omega.{arith}
 use lib.Dec.{ltb}
 use Rattle.model.specs.Lists.{All}
-use Rattle.model.specs.State.{Settings, Health, sound, broken, Column, advertise, failed}
-use Rattle.model.specs.Settling.{Source, healthOf, Outcome, columnNone, asRegistered, ownFailure, Step, first, clear, isBroken, brokenColumn, outcomeColumn, byBandwidth}
+use Rattle.model.specs.State.{Settings, Column, advertise, failed}
+use Rattle.model.specs.Settling.{Source, healthOf, Outcome, columnNone, asRegistered, ownFailure, Step, first, clear, isBroken, outcomeColumn, byBandwidth}
 use Rattle.model.specs.Table.{columnCode}
 
 -- a step that applies gives another code

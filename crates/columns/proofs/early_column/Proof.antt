@@ -4,7 +4,7 @@ use mathlib.Core.Logic.{⊎-elim}
 use native.Mathlib.Omega.{arith}
 use borrow.Author.Needs.{needs}
 use Rattle.octets.specs.Be.{beAt}
-use Rattle.model.specs.State.{cellAt, portAt}
+use Rattle.model.specs.State.{cellAt}
 use Rattle.model.specs.Settling.{sceneOf, sourceOf}
 use Rattle.model.specs.Table.{toPort, decode}
 use Rattle.table.specs.Updates.{streamAt}

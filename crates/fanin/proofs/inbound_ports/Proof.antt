@@ -1,17 +1,14 @@
 -- `fanin::inbound_ports` meets its contract. The invariant: the Talker ports of the streams before k are in the set. Assumes nothing.
-use Prim.Native.Nat.{_-_, _≤_, _<_}
-use mathlib.Core.Path.{_≡_, sym, _∙_}
+use Prim.Native.Nat.{_-_, _≤_}
+use mathlib.Core.Path.{_≡_, _∙_}
 use native.Mathlib.Omega.{arith}
 use borrow.Author.Needs.{needs}
-use lib.ListN.{length}
 use Rattle.model.specs.State.{Stream}
-use Rattle.model.specs.Settling.{sourceOf}
 use Rattle.model.specs.Table.{decode}
 use Rattle.table.specs.Updates.{streamAt}
 use Rattle.table.specs.Places.{Stands}
 use Rattle.table.proofs.ByPlace.{stream-fits}
-use Rattle.streams.specs.Answers.{sourcePort}
-use Rattle.fanin.specs.Sets.{setTo, includes, Placed}
+use Rattle.fanin.specs.Sets.{setTo}
 use Rattle.fanin.proofs.Sets.{placed, first, none-inbound, next-inbound, all-inbound}
 use Rattle.fanin.proofs.inbound_ports.Statement.{statement}
 use Rattle.fanin.proofs.inbound_ports.Tie as tie

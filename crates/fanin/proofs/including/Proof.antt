@@ -1,10 +1,10 @@
 -- `fanin::including` meets its contract. Assumes nothing.
-use mathlib.Core.Path.{_≡_, ap}
+use mathlib.Core.Path.{ap}
 use Prim.Native.Nat.{_<_}
 use native.Mathlib.Omega.{arith}
 use borrow.Author.Needs.{needs}
 use lib.Bits.{bitOr}
-use Rattle.fanin.specs.Sets.{includes, Placed}
+use Rattle.fanin.specs.Sets.{includes}
 use Rattle.fanin.proofs.Sets.{unit}
 use Rattle.fanin.proofs.including.Statement.{statement}
 use Rattle.fanin.proofs.including.Tie as tie
