@@ -6,6 +6,7 @@ mod examples;
 mod generated_inputs;
 mod growing_latency;
 mod helpers;
+mod inbound_ports;
 mod marked_examples;
 mod order_among_ports;
 mod reading;
