@@ -5,6 +5,7 @@ mod borrowing;
 mod domains;
 mod fan_in;
 mod latencies;
+mod newer;
 
 use std::collections::BTreeMap;
 
@@ -157,6 +158,31 @@ const ROWS: &[&str] = &[
     "frame ended by EndMark",
     "frame ended without EndMark",
     "higher version accepted",
+    "passed over: talker advertise",
+    "passed over: talker failed",
+    "passed over: listener",
+    "passed over: domain",
+    "passed over for its LeaveAllEvent",
+    "passed over for an event octet",
+    "passed over for its LeaveAllEvent and an event octet",
+    "passed over for an event octet behind a good one",
+    "passed over with LeaveAllEvent 1",
+    "passed over with 0 values",
+    "passed over with several values",
+    "passed over with several four-packed octets",
+    "passed over with a value past its field",
+    "passed over, with a vector read before it",
+    "passed over, with a vector read behind it",
+    "passed over, last of its list",
+    "passed over, with streams that there is no room for",
+    "passed over at version 1",
+    "passed over at version 2 to 254",
+    "passed over at version 255",
+    "PDU of vectors passed over alone",
+    "LeaveAllEvent above 1 that doesn't fit, refused with 3",
+    "fault behind a vector passed over",
+    "number 7 behind a vector passed over",
+    "number 6 at version 0",
     "unknown type at higher version skipped",
     "Unique ID FFFF with 1 value",
     "Unique ID FFFF with 2 values",
@@ -556,6 +582,9 @@ impl Coverage {
         self.count_if("PDU of 1501 octets", number == numbers::PDU_LENGTH && octets.len() == 1501);
         let before = self.before.clone();
         let held_before = before.as_ref().map_or(0, |bridge| bridge.registrations.streams.len());
+        if let Err(fault) = pdu::read(octets) {
+            self.newer_refused(octets.first().copied().unwrap_or(0), number, &fault);
+        }
         match number {
             numbers::ACCEPTED => {
                 self.count_if("PDU of 1500 octets accepted", octets.len() == 1500);
@@ -567,6 +596,7 @@ impl Coverage {
                     self.left_again(&before, port as usize, &pdu);
                     self.domains(&before, after, port as usize, &pdu);
                     self.latencies(&before, after, port as usize, &pdu);
+                    self.passed_over(octets[0], &pdu, &before);
                 }
                 let held = after.registrations.streams.len();
                 if held > held_before {

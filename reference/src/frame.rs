@@ -18,6 +18,8 @@ pub struct VectorDraft {
     pub spare_listener_type: u8,
     /// Stands in place of the first ThreePackedEvents octet.
     pub first_event_octet: Option<u8>,
+    /// Stands in place of the last one.
+    pub last_event_octet: Option<u8>,
 }
 
 /// A Message.
@@ -48,11 +50,13 @@ impl VectorDraft {
         let header = u16::from(self.leave_all_event) << 13 | number_of_values & 0x1fff;
         let mut octets = header.to_be_bytes().to_vec();
         octets.extend(&self.first_value);
-        for (place, three) in self.events.chunks(3).enumerate() {
+        let last = (self.events.len() + 2) / 3;
+        for (place, three) in (1..).zip(self.events.chunks(3)) {
             let event = |n: usize| three.get(n).copied().unwrap_or(self.spare_event);
             let packed = (event(0) * 6 + event(1)) * 6 + event(2);
-            octets.push(match self.first_event_octet {
-                Some(octet) if place == 0 => octet,
+            octets.push(match (self.first_event_octet, self.last_event_octet) {
+                (Some(octet), _) if place == 1 => octet,
+                (_, Some(octet)) if place == last => octet,
                 _ => packed,
             });
         }

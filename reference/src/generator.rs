@@ -393,6 +393,7 @@ fn vector(
         spare_event: if spare { random.below(6) as u8 } else { 0 },
         spare_listener_type: if spare { random.below(4) as u8 } else { 0 },
         first_event_octet: None,
+        last_event_octet: None,
     }
 }
 
@@ -537,12 +538,13 @@ fn frame(random: &mut Random, plan: &Plan, port: u32) -> FrameDraft {
         _ => {}
     }
     let mut frame = FrameDraft::new(messages);
-    if random.percent(8) {
-        frame.version = random.one_of(&[1, 2, 255]);
-        if random.percent(60) {
+    if random.percent(14) {
+        frame.version = random.one_of(&[1, 1, 2, 255]);
+        if random.percent(40) {
             let place = random.below(frame.messages.len() as u64 + 1) as usize;
             frame.messages.insert(place, unknown_message(random));
         }
+        make_some_strange(random, &mut frame);
     }
     match random.below(20) {
         0..=1 => frame.end_mark = false,
@@ -550,6 +552,30 @@ fn frame(random: &mut Random, plan: &Plan, port: u32) -> FrameDraft {
         _ => {}
     }
     frame
+}
+
+/// Gives a vector an event that only a newer version knows; at times one that says LeaveAll too.
+fn make_strange(random: &mut Random, vector: &mut VectorDraft) {
+    let any = random.between(216, 255) as u8;
+    let octet = random.one_of(&[216, 255, any]);
+    match random.below(6) {
+        0..=1 => vector.leave_all_event = random.between(2, 7) as u8,
+        2..=3 => vector.first_event_octet = Some(octet),
+        4 => vector.last_event_octet = Some(octet),
+        _ => {
+            vector.leave_all_event = random.one_of(&[1, 1, 2]);
+            vector.last_event_octet = Some(octet);
+        }
+    }
+}
+
+/// The same for some vectors of a frame.
+fn make_some_strange(random: &mut Random, frame: &mut FrameDraft) {
+    for vector in frame.messages.iter_mut().flat_map(|message| &mut message.vectors) {
+        if random.percent(40) {
+            make_strange(random, vector);
+        }
+    }
 }
 
 fn octets_up_to(random: &mut Random, most: u64) -> Vec<u8> {
@@ -572,6 +598,10 @@ fn unknown_message(random: &mut Random) -> MessageDraft {
 
 /// A frame damaged in one or more of many ways. Some of the damage does no harm.
 fn damaged(random: &mut Random, mut frame: FrameDraft) -> Vec<u8> {
+    if random.percent(20) {
+        frame.version = random.one_of(&[1, 255]);
+        make_some_strange(random, &mut frame);
+    }
     for _ in 0..random.one_of(&[0, 1, 1, 1, 1, 1, 2, 2]) {
         damage(random, &mut frame);
     }
@@ -624,6 +654,7 @@ fn damage(random: &mut Random, frame: &mut FrameDraft) {
         frame.version = random.one_of(&[0, 0, 1, 200]);
         return;
     }
+    let newer = frame.version > 0;
     let message = &mut frame.messages[place];
     match random.below(20) {
         0..=1 => message.list_length_off = random.one_of(&[-2, -1, 1, 2, 3, 4, 300]),
@@ -649,6 +680,9 @@ fn damage(random: &mut Random, frame: &mut FrameDraft) {
                     let values = vector.events.len() as u64;
                     vector.number_of_values =
                         Some(random.one_of(&[values + 1, values + 3, values + 4, 0x1fff]) as u16);
+                    if newer && random.percent(50) {
+                        vector.leave_all_event = random.between(2, 7) as u8;
+                    }
                 }
                 15..=18 => near_the_fields_end(random, message.attribute_type, vector),
                 _ => vector.events.push(random.below(6) as u8),
@@ -1027,8 +1061,15 @@ impl History {
             let vectors = strange_domain_vectors(&mut self.random, &plan.settings);
             messages.insert(0, MessageDraft::new(AttributeType::Domain, vectors));
         }
+        let mut frame = FrameDraft::new(messages);
+        if self.random.percent(15) {
+            frame.version = 1;
+            for vector in frame.messages.iter_mut().flat_map(|message| &mut message.vectors) {
+                make_strange(&mut self.random, vector);
+            }
+        }
         // With no values the header would be an EndMark, and the list wouldn't end with it.
-        self.receive(port, &FrameDraft::new(messages).octets());
+        self.receive(port, &frame.octets());
     }
 
     /// A group of streams, or a Domain, leaves on a port, by Lv or by LeaveAll.

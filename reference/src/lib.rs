@@ -1,7 +1,7 @@
 //! A stream-reservation bridge of IEEE 802.1Qat, written from the papers alone.
 //!
 //! "01" in the comments is the paper that lays down the bridge and its rules, "02" that of the
-//! requests for more, of which (ii), (i), (v) and (x) are in; clause numbers such as 35.2.4.2 are those of IEEE
+//! requests for more, of which (ii), (i), (v), (x) and (iv) are in; clause numbers such as 35.2.4.2 are those of IEEE
 //! 802.1Qat-2010. The program is meant to be compared with another implementation, so it is
 //! written for the reader and not for speed.
 //!

@@ -1,4 +1,4 @@
-//! Reading MSRPDUs (01, "The PDU"; 802.1Q clause 10.8, 802.1Qat clause 35.2.2).
+//! Reading MSRPDUs (01, "The PDU"; 02, (iv); 802.1Q clause 10.8, 802.1Qat clause 35.2.2).
 
 use crate::numbers::{self, Number};
 
@@ -201,10 +201,29 @@ pub struct Vector {
     pub values: Vec<(Event, Value)>,
 }
 
+/// A vector with events that only a higher version knows: passed over whole, by the length that its
+/// layout gives.
+#[derive(Clone, Debug, PartialEq, Eq)]
+pub struct PassedOver {
+    pub attribute_type: AttributeType,
+    /// Above 1, unless it is passed over for an event octet.
+    pub leave_all_event: usize,
+    pub number_of_values: usize,
+    pub first_value: Vec<u8>,
+    pub three_packed: Vec<u8>,
+}
+
+/// A vector of a list.
+#[derive(Clone, Debug, PartialEq, Eq)]
+pub enum VectorRead {
+    Read(Vector),
+    PassedOver(PassedOver),
+}
+
 /// A Message.
 #[derive(Clone, Debug, PartialEq, Eq)]
 pub enum Message {
-    Known(Vec<Vector>),
+    Known(Vec<VectorRead>),
     /// A type above 4 with a higher version: skipped unread.
     Skipped,
 }
@@ -218,11 +237,19 @@ pub struct Pdu {
 }
 
 impl Pdu {
-    /// All vectors in the order they stand in.
+    /// All vectors that were read, in the order they stand in.
     pub fn vectors(&self) -> impl Iterator<Item = &Vector> {
-        self.messages.iter().flat_map(|message| match message {
-            Message::Known(vectors) => vectors.as_slice(),
-            Message::Skipped => &[],
+        self.lists().flatten().filter_map(|vector| match vector {
+            VectorRead::Read(vector) => Some(vector),
+            VectorRead::PassedOver(_) => None,
+        })
+    }
+
+    /// The vectors of each list of a known type.
+    pub fn lists(&self) -> impl Iterator<Item = &[VectorRead]> {
+        self.messages.iter().filter_map(|message| match message {
+            Message::Known(vectors) => Some(vectors.as_slice()),
+            Message::Skipped => None,
         })
     }
 }
@@ -233,11 +260,15 @@ pub struct Fault {
     pub number: Number,
     /// For number 7 the vector: its type, FirstValue and NumberOfValues.
     pub vector: Option<(AttributeType, Vec<u8>, usize)>,
+    /// For a vector that doesn't fit, its LeaveAllEvent.
+    pub unfit: Option<usize>,
+    /// Whether a vector of the same list was passed over before it.
+    pub behind_passed_over: bool,
 }
 
 impl From<Number> for Fault {
     fn from(number: Number) -> Fault {
-        Fault { number, vector: None }
+        Fault { number, vector: None, unfit: None, behind_passed_over: false }
     }
 }
 
@@ -286,7 +317,7 @@ pub fn read(pdu: &[u8]) -> Result<Pdu, Fault> {
         }
         let (list, after) = rest[4..].split_at(list_length);
         messages.push(match known_type {
-            Some(attribute_type) => Message::Known(read_list(attribute_type, list)?),
+            Some(attribute_type) => Message::Known(read_list(attribute_type, version, list)?),
             None => Message::Skipped,
         });
         rest = after;
@@ -295,67 +326,108 @@ pub fn read(pdu: &[u8]) -> Result<Pdu, Fault> {
 
 /// Reads an AttributeList on its own, from its first vector to its EndMark, which must be its
 /// last two octets.
-fn read_list(attribute_type: AttributeType, list: &[u8]) -> Result<Vec<Vector>, Fault> {
+fn read_list(
+    attribute_type: AttributeType,
+    version: u8,
+    list: &[u8],
+) -> Result<Vec<VectorRead>, Fault> {
     let mut vectors = Vec::new();
     let mut rest = list;
     loop {
-        // Checks: header (3), LeaveAllEvent (6), fits (3), event octets (6), values (7).
         if rest.len() < 2 {
             return Err(numbers::RUNS_PAST.into());
         }
         if rest.starts_with(&END_MARK) {
             return if rest.len() == 2 { Ok(vectors) } else { Err(numbers::RUNS_PAST.into()) };
         }
-        let header = usize::from(rest[0]) << 8 | usize::from(rest[1]);
-        let leave_all_event = header >> 13;
-        let number_of_values = header & 0x1fff;
-        if leave_all_event > 1 {
-            return Err(numbers::EVENT.into());
-        }
-        let three_packed_octets = (number_of_values + 2) / 3;
-        let four_packed_octets = match attribute_type {
-            AttributeType::Listener => (number_of_values + 3) / 4,
-            _ => 0,
-        };
-        let first_value_length = attribute_type.first_value_length();
-        let length = 2 + first_value_length + three_packed_octets + four_packed_octets;
-        if rest.len() < length {
-            return Err(numbers::RUNS_PAST.into());
-        }
-        let (first_value, packed) = rest[2..length].split_at(first_value_length);
-        let (three_packed, four_packed) = packed.split_at(three_packed_octets);
-        if three_packed.iter().any(|octet| *octet > GREATEST_THREE_PACKED) {
-            return Err(numbers::EVENT.into());
-        }
-        if !values_fit(attribute_type, first_value, number_of_values) {
-            return Err(Fault {
-                number: numbers::VALUE,
-                vector: Some((attribute_type, first_value.to_vec(), number_of_values)),
-            });
-        }
-        let events = three_packed.iter().flat_map(|octet| three_events(*octet));
-        let mut listener_types = four_packed.iter().flat_map(|octet| four_listener_types(*octet));
-        let values = events
-            .take(number_of_values)
-            .enumerate()
-            .map(|(n, event)| {
-                let listener_type = listener_types.next().flatten();
-                (event, value(attribute_type, first_value, n as u64, listener_type))
-            })
-            .collect();
-        vectors.push(Vector {
-            attribute_type,
-            leave_all: leave_all_event == 1,
-            first_value: first_value.to_vec(),
-            values,
-        });
+        let is_passed_over = |vector: &VectorRead| matches!(vector, VectorRead::PassedOver(_));
+        let behind_passed_over = vectors.iter().any(is_passed_over);
+        let (vector, length) = read_vector(attribute_type, version, rest)
+            .map_err(|fault| Fault { behind_passed_over, ..fault })?;
+        vectors.push(vector);
         rest = &rest[length..];
     }
 }
 
+/// Reads the vector that octets begin with, its header being there, and gives its length. Checks:
+/// LeaveAllEvent (6), fits (3), event octets (6), values (7). With a higher version there is no 6:
+/// a vector that fits is passed over instead, its values unchecked.
+fn read_vector(
+    attribute_type: AttributeType,
+    version: u8,
+    octets: &[u8],
+) -> Result<(VectorRead, usize), Fault> {
+    let header = usize::from(octets[0]) << 8 | usize::from(octets[1]);
+    let leave_all_event = header >> 13;
+    let number_of_values = header & 0x1fff;
+    if leave_all_event > 1 && version == 0 {
+        return Err(numbers::EVENT.into());
+    }
+    let three_packed_octets = (number_of_values + 2) / 3;
+    let four_packed_octets = match attribute_type {
+        AttributeType::Listener => (number_of_values + 3) / 4,
+        _ => 0,
+    };
+    let first_value_length = attribute_type.first_value_length();
+    let length = 2 + first_value_length + three_packed_octets + four_packed_octets;
+    if octets.len() < length {
+        return Err(Fault { unfit: Some(leave_all_event), ..Fault::from(numbers::RUNS_PAST) });
+    }
+    let (first_value, packed) = octets[2..length].split_at(first_value_length);
+    let (three_packed, four_packed) = packed.split_at(three_packed_octets);
+    let strange = three_packed.iter().any(|octet| *octet > GREATEST_THREE_PACKED);
+    if strange && version == 0 {
+        return Err(numbers::EVENT.into());
+    }
+    if strange || leave_all_event > 1 {
+        let passed_over = PassedOver {
+            attribute_type,
+            leave_all_event,
+            number_of_values,
+            first_value: first_value.to_vec(),
+            three_packed: three_packed.to_vec(),
+        };
+        return Ok((VectorRead::PassedOver(passed_over), length));
+    }
+    if !values_fit(attribute_type, first_value, number_of_values) {
+        let vector = Some((attribute_type, first_value.to_vec(), number_of_values));
+        return Err(Fault { vector, ..Fault::from(numbers::VALUE) });
+    }
+    let vector = Vector {
+        attribute_type,
+        leave_all: leave_all_event == 1,
+        first_value: first_value.to_vec(),
+        values: values(attribute_type, first_value, number_of_values, (three_packed, four_packed)),
+    };
+    Ok((VectorRead::Read(vector), length))
+}
+
+/// The values of a vector with their events, of ThreePackedEvents and FourPackedEvents.
+fn values(
+    attribute_type: AttributeType,
+    first_value: &[u8],
+    number_of_values: usize,
+    (three_packed, four_packed): (&[u8], &[u8]),
+) -> Vec<(Event, Value)> {
+    let events = three_packed.iter().flat_map(|octet| three_events(*octet));
+    let mut listener_types = four_packed.iter().flat_map(|octet| four_listener_types(*octet));
+    events
+        .take(number_of_values)
+        .enumerate()
+        .map(|(n, event)| {
+            let listener_type = listener_types.next().flatten();
+            (event, value(attribute_type, first_value, n as u64, listener_type))
+        })
+        .collect()
+}
+
 /// Whether all values stay within their fields: Unique ID 16 bits, destination 48 bits, Domain's
 /// class ID and priority 8 bits each. With 0 values FirstValue isn't looked at.
-fn values_fit(attribute_type: AttributeType, first_value: &[u8], number_of_values: usize) -> bool {
+pub fn values_fit(
+    attribute_type: AttributeType,
+    first_value: &[u8],
+    number_of_values: usize,
+) -> bool {
     if number_of_values == 0 {
         return true;
     }

@@ -8,6 +8,7 @@ mod growing_latency;
 mod helpers;
 mod inbound_ports;
 mod marked_examples;
+mod newer_versions;
 mod order_among_ports;
 mod reading;
 mod refusals;

@@ -138,13 +138,13 @@ fn unknown_types_at_a_higher_version_are_skipped_by_their_list_length() {
 }
 
 #[test]
-fn known_types_at_a_higher_version_are_read_as_at_version_0() {
-    for (octet, expected) in [(215, 0), (216, 6)] {
+fn known_types_at_a_higher_version_are_read_as_at_version_0_but_for_number_6() {
+    for (version, octet, expected) in [(0, 215, 0), (0, 216, 6), (200, 215, 0), (200, 216, 0)] {
         let mut vector = talker_vector(&talker(STREAM), &[LV, LV, LV]);
         vector.first_event_octet = Some(octet);
         let message = MessageDraft::new(AttributeType::TalkerAdvertise, vec![vector]);
         let mut frame = FrameDraft::new(vec![message]);
-        frame.version = 200;
+        frame.version = version;
         assert_eq!(number(&frame.octets()), expected);
     }
     assert_eq!(number(&[1, 1, 24, 0, 2, 0, 0]), 5);
