@@ -37,10 +37,10 @@ extern "C" {
 #define SRP_STREAMS 64
 
 /* A table, for every number of ports. */
-#define SRP_TABLE 34922
+#define SRP_TABLE 34923
 
 /* Settings: what stands before the first port's, each port's, and all of so many ports. */
-#define SRP_SETTINGS_HEAD 13
+#define SRP_SETTINGS_HEAD 14
 #define SRP_SETTINGS_PORT 22
 #define SRP_SETTINGS(ports) (SRP_SETTINGS_HEAD + SRP_SETTINGS_PORT * (ports))
 
@@ -75,7 +75,7 @@ enum srp_code {
     SRP_CODE_BRIDGE_RESOURCES = 2,     /* insufficient Bridge resources */
     SRP_CODE_CLASS_BANDWIDTH = 3,      /* insufficient bandwidth for the traffic class */
     SRP_CODE_STREAM_ID = 4,            /* own: StreamID in use by another Talker */
-    SRP_CODE_DESTINATION_IN_USE = 5,   /* destination address already in use */
+    SRP_CODE_DESTINATION_IN_USE = 5,   /* own: destination address already in use */
     SRP_CODE_PREEMPTED = 6,            /* preempted by higher rank */
     SRP_CODE_LATENCY_CHANGED = 7,      /* own: reported latency has changed */
     SRP_CODE_NOT_AVB = 8,              /* own: egress port is not AVB capable */
@@ -85,7 +85,7 @@ enum srp_code {
     SRP_CODE_STORE_DESTINATION = 12,   /* cannot store the destination address */
     SRP_CODE_PRIORITY = 13,            /* own: requested priority is not an SR class priority */
     SRP_CODE_FRAME_SIZE = 14,          /* own: MaxFrameSize is too large for media */
-    SRP_CODE_INBOUND_PORTS = 15,       /* limit of inbound ports has been reached */
+    SRP_CODE_INBOUND_PORTS = 15,       /* own: limit of inbound ports has been reached */
     SRP_CODE_FIRST_VALUE_CHANGED = 16, /* own: changes in FirstValue for a registered StreamID */
     SRP_CODE_VLAN_BLOCKED = 17,        /* VLAN is blocked on this egress port */
     SRP_CODE_VLAN_TAGGING = 18,        /* VLAN tagging is disabled on this egress port */

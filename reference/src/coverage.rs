@@ -3,6 +3,7 @@
 
 mod borrowing;
 mod domains;
+mod fan_in;
 mod latencies;
 mod newer;
 
@@ -11,6 +12,7 @@ use std::collections::BTreeMap;
 use crate::bridge::{Bridge, Table, WriteAnswer};
 use crate::calls;
 use crate::declarations::Declaration;
+use crate::fan_in::GREATEST_LIMIT;
 use crate::generator;
 use crate::numbers::{self, Number};
 use crate::pdu::{
@@ -55,6 +57,7 @@ const ROWS: &[&str] = &[
     "report 13",
     "settings refused: length",
     "settings refused: length 11 + 22 x ports",
+    "settings refused: length 13 + 22 x ports",
     "settings refused: no ports",
     "settings refused: ports above 8",
     "settings refused: equal priorities",
@@ -63,6 +66,17 @@ const ROWS: &[&str] = &[
     "settings refused: bits above the VLAN set",
     "settings refused: VLAN 0",
     "settings refused: VLAN 4095",
+    "settings refused: limit of inbound ports above 8",
+    "limit of inbound ports 0",
+    "limit of inbound ports 1",
+    "limit of inbound ports 2",
+    "limit of inbound ports 3",
+    "limit of inbound ports 4",
+    "limit of inbound ports 5",
+    "limit of inbound ports 6",
+    "limit of inbound ports 7",
+    "limit of inbound ports 8",
+    "limit of inbound ports above the number of ports",
     "start again on a running bridge",
     "PDU of 0 octets",
     "PDU of 1500 octets accepted",
@@ -75,15 +89,19 @@ const ROWS: &[&str] = &[
     "column step e",
     "column step f",
     "column step j",
+    "column step l",
+    "column step m",
     "column step g",
     "column step h",
     "column step i",
     "own failure 1",
     "own failure 4",
+    "own failure 5",
     "own failure 7",
     "own failure 8",
     "own failure 13",
     "own failure 14",
+    "own failure 15",
     "own failure 16",
     "registered failure, code 0",
     "registered failure, code 1 to 254",
@@ -237,6 +255,30 @@ const ROWS: &[&str] = &[
     "code 13 on a boundary port of both classes",
     "Advertise from a boundary port",
     "Advertise on a boundary port of the other class",
+    "several inbound ports without a limit",
+    "inbound port with Failed streams alone",
+    "inbound port with leaving streams alone",
+    "second Talkers alone on a port",
+    "last port within the limit",
+    "first port past the limit",
+    "first port past a limit of 4 or more",
+    "further port past the limit",
+    "three streams with one address",
+    "one destination with two VLANs",
+    "address of a stream from another port",
+    "address of a Failed stream",
+    "address of a changed stream",
+    "address of a leaving stream",
+    "address of a stream with column none",
+    "code 13 before 5",
+    "code 13 before 15",
+    "code 8 before 5",
+    "code 8 before 15",
+    "code 5 before 15",
+    "code 5 before 14",
+    "code 15 before 14",
+    "code 5 cleared",
+    "code 15 cleared",
     "latency grown",
     "latency grown by a join while leaving",
     "latency grown with another type",
@@ -348,6 +390,7 @@ const ROWS: &[&str] = &[
     "form rule 33 broken alone",
     "form rule 34 broken alone",
     "form rule 35 broken alone",
+    "form rule 36 broken alone",
     "octet stored that breaks the form",
     "octet stored that keeps the form",
     "sum of the table's octets",
@@ -397,7 +440,7 @@ fn decisions(bridge: &Bridge) -> ByStreamAndPort<Decision> {
         }
     }
     let Bridge { settings, registrations, settled, .. } = bridge;
-    let facts = Facts { settings, registrations, boundaries: &settled.boundaries };
+    let facts = Facts::new(settings, registrations, &settled.boundaries);
     settling::decide(&facts, &since).columns
 }
 
@@ -496,6 +539,12 @@ impl Coverage {
 
     fn started(&mut self, octets: &[u8], number: Number) {
         self.count_if("start again on a running bridge", number == 0 && self.before.is_some());
+        if let (numbers::ACCEPTED, Some(settings)) = (number, settings::read(octets)) {
+            let limit = settings.fan_in_limit;
+            self.count(&format!("limit of inbound ports {limit}"));
+            let above = usize::from(limit) > settings.ports.len();
+            self.count_if("limit of inbound ports above the number of ports", above);
+        }
         if number != numbers::SETTINGS {
             return;
         }
@@ -515,9 +564,14 @@ impl Coverage {
                 self.count_if("settings refused: bits above the VLAN set", vlan >> 12 != 0);
                 self.count_if("settings refused: VLAN 0", vlan == 0);
                 self.count_if("settings refused: VLAN 4095", vlan == 4_095);
+                let inbound = octets[table::FAN_IN_LIMIT] > GREATEST_LIMIT;
+                self.count_if("settings refused: limit of inbound ports above 8", inbound);
             }
-            Some(ports) if octets.len() + 2 == settings::length(ports) => {
+            Some(ports) if octets.len() + 3 == settings::length(ports) => {
                 self.count("settings refused: length 11 + 22 x ports");
+            }
+            Some(ports) if octets.len() + 1 == settings::length(ports) => {
+                self.count("settings refused: length 13 + 22 x ports");
             }
             _ => self.count("settings refused: length"),
         }
@@ -729,6 +783,7 @@ impl Coverage {
         self.domains_left(time, before);
         self.boundaries(before, after);
         self.latencies_settled(before, after);
+        self.inbound(after);
     }
 
     fn settled(&mut self, before: &Bridge, bridge: &Bridge) {
@@ -742,6 +797,8 @@ impl Coverage {
                 Step::E => ("column step e", Some(4)),
                 Step::F => ("column step f", Some(13)),
                 Step::J => ("column step j", Some(8)),
+                Step::L => ("column step l", Some(5)),
+                Step::M => ("column step m", Some(15)),
                 Step::G => ("column step g", Some(14)),
                 Step::H => ("column step h", Some(1)),
                 Step::I => ("column step i", None),
@@ -774,6 +831,7 @@ impl Coverage {
             self.at_the_edge(bridge, stream_id, port, decision.step);
             self.borrowed((before, bridge), stream_id, port, &decision);
             self.grown(bridge, stream_id, port, decision.step);
+            self.in_common((before, bridge), stream_id, port, decision.step);
             if let Some(compared) = decision.compared {
                 let (demand, left) = (compared.demand.0, compared.left.0);
                 self.count_if("demand exactly what is left", demand == left && demand > 0);

@@ -11,6 +11,7 @@ mod domains;
 
 use crate::bridge::{Table, ROOM_LENGTH};
 use crate::declarations;
+use crate::fan_in::GREATEST_LIMIT as GREATEST_FAN_IN;
 use crate::frame::{FrameDraft, MessageDraft, VectorDraft};
 use crate::pdu::{AttributeType, Failure, Parameters, StreamId, Talker, LONGEST_PDU};
 use crate::random::Random;
@@ -20,7 +21,7 @@ use crate::settings::{GREATEST_VLAN, MOST_PORTS};
 use crate::settling;
 use crate::sheet;
 use crate::stored;
-use crate::table::TABLE_LENGTH;
+use crate::table::{FAN_IN_LIMIT, TABLE_LENGTH};
 use domains::strange_domain_vectors;
 use domains::{domain_pdu, domain_vector, own_domain_vectors, some_domain};
 
@@ -92,11 +93,20 @@ fn plan(random: &mut Random, size: Size) -> Plan {
     let bridge_id = random.bits() >> random.one_of(&[0, 0, 16, 63]);
     let any_vlan = random.between(1, u64::from(GREATEST_VLAN)) as u16;
     let vlan = random.one_of(&[2, 2, 2, 1, GREATEST_VLAN, any_vlan]);
-    let mut settings = Settings { bridge_id, priority, leave_time, vlan, ports };
+    let fan_in_limit = match random.below(12) {
+        0..=5 => 0,
+        6..=7 => random.between(1, 3) as u8,
+        8..=10 => random.between(1, port_count as u64) as u8,
+        _ => random.below(u64::from(GREATEST_FAN_IN) + 1) as u8,
+    };
+    let mut settings = Settings { bridge_id, priority, leave_time, vlan, fan_in_limit, ports };
     let rivals = random.percent(30);
     let mut groups = groups(random, &settings, size, rivals);
     if rivals {
         make_rivals(random, &mut settings, &mut groups);
+    }
+    if random.percent(12) {
+        share_addresses(random, &mut groups);
     }
     choose_limits(random, &mut settings, &groups, rivals);
     if random.percent(3) {
@@ -250,6 +260,18 @@ fn make_rivals(random: &mut Random, settings: &mut Settings, groups: &mut [Group
         parameters.max_interval_frames = max_interval_frames;
         if !both_ranks {
             parameters.rank = first.rank;
+        }
+    }
+}
+
+/// Gives some groups the addresses of the first, rarely with another VLAN.
+fn share_addresses(random: &mut Random, groups: &mut [Group]) {
+    let Parameters { destination, vlan, .. } = groups[0].first.parameters;
+    for group in groups {
+        if random.percent(70) {
+            // A group with more members would go past the destination's bound.
+            group.first.parameters.destination = destination.min((1 << 48) - group.members);
+            group.first.parameters.vlan = if random.percent(85) { vlan } else { vlan ^ 1 };
         }
     }
 }
@@ -692,7 +714,7 @@ fn near_the_fields_end(random: &mut Random, attribute_type: u8, vector: &mut Vec
 
 fn wrong_settings(random: &mut Random, settings: &Settings) -> Vec<u8> {
     let mut octets = settings::write(settings);
-    match random.below(16) {
+    match random.below(18) {
         0 => {
             octets[8] &= 0x0f; // no ports
             if random.percent(50) {
@@ -725,12 +747,23 @@ fn wrong_settings(random: &mut Random, settings: &Settings) -> Vec<u8> {
         8 => octets.resize(octets.len() + settings::PORT_LENGTH, 0),
         9 => octets.truncate(random.below(octets.len() as u64) as usize),
         10..=14 => wrong_vlan(random, &mut octets),
+        15..=16 => wrong_fan_in_limit(random, &mut octets),
         _ => octets.truncate(octets.len() - settings::PORT_LENGTH),
     }
     octets
 }
 
-/// A VLAN of 0 or 4,095, one with a bit above it set, or none at all.
+/// A limit of inbound ports above 8, or none at all.
+fn wrong_fan_in_limit(random: &mut Random, settings: &mut Vec<u8>) {
+    if random.percent(30) {
+        settings.remove(FAN_IN_LIMIT);
+    } else {
+        let any = random.between(u64::from(GREATEST_FAN_IN) + 1, 255) as u8;
+        settings[FAN_IN_LIMIT] = random.one_of(&[GREATEST_FAN_IN + 1, 255, any]);
+    }
+}
+
+/// A VLAN of 0 or 4,095, one with a bit above it set, or neither VLAN nor what follows it.
 fn wrong_vlan(random: &mut Random, settings: &mut Vec<u8>) {
     match random.below(5) {
         0 => settings[11] |= 1 << random.between(4, 7),
@@ -738,7 +771,7 @@ fn wrong_vlan(random: &mut Random, settings: &mut Vec<u8>) {
             let vlan = random.one_of(&[0, GREATEST_VLAN + 1]);
             settings[11..13].copy_from_slice(&vlan.to_be_bytes());
         }
-        _ => drop(settings.drain(11..13)),
+        _ => drop(settings.drain(11..settings::HEAD_LENGTH)),
     }
 }
 
@@ -1266,6 +1299,7 @@ fn roomy_settings(random: &mut Random) -> Settings {
         priority: PerClass { a: 3, b: 2 },
         leave_time: 60,
         vlan: 2,
+        fan_in_limit: 0,
         ports: vec![port.clone(), port],
     }
 }

@@ -1,7 +1,7 @@
 //! A stream-reservation bridge of IEEE 802.1Qat, written from the papers alone.
 //!
 //! "01" in the comments is the paper that lays down the bridge and its rules, "02" that of the
-//! requests for more, of which (ii), (i), (v) and (iv) are in; clause numbers such as 35.2.4.2 are those of IEEE
+//! requests for more, of which (ii), (i), (v), (x) and (iv) are in; clause numbers such as 35.2.4.2 are those of IEEE
 //! 802.1Qat-2010. The program is meant to be compared with another implementation, so it is
 //! written for the reader and not for speed.
 //!
@@ -12,6 +12,7 @@
 //! * [`pdu`]: reading MSRPDUs;
 //! * [`domain`]: the SRP domain, and where it ends;
 //! * [`registrations`]: what each port has registered;
+//! * [`fan_in`]: the ports that bring streams in, and addresses that streams share;
 //! * [`settling`]: attribute propagation and reserved bandwidth;
 //! * [`declarations`]: writing MSRPDUs;
 //! * [`bridge`]: the five calls;
@@ -30,6 +31,7 @@ pub mod calls;
 pub mod coverage;
 pub mod declarations;
 pub mod domain;
+pub mod fan_in;
 pub mod files;
 pub mod frame;
 pub mod generator;

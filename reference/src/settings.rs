@@ -1,4 +1,6 @@
-//! Settings (01, "Numbers given back", the paragraph on settings; 02, (ii)).
+//! Settings (01, "Numbers given back", the paragraph on settings; 02, (ii) and (x)).
+
+use crate::fan_in::GREATEST_LIMIT;
 
 /// The two stream reservation classes. Each has its own priority, limit, latency and interval.
 #[derive(Clone, Copy, Debug, PartialEq, Eq, PartialOrd, Ord)]
@@ -68,19 +70,21 @@ pub struct Settings {
     pub leave_time: u32,
     /// That of the Domain declarations, 1 to 4,094.
     pub vlan: u16,
+    /// msrpMaxFanInPorts, at most 8; 0 means no limit.
+    pub fan_in_limit: u8,
     pub ports: Vec<PortSettings>,
 }
 
 /// A bridge has 1 to 8 ports.
 pub const MOST_PORTS: usize = 8;
 /// Octets before the ports' own settings.
-pub const HEAD_LENGTH: usize = 13;
+pub const HEAD_LENGTH: usize = 14;
 /// Octets of one port's settings.
 pub const PORT_LENGTH: usize = 22;
 /// The greatest VLAN.
 pub const GREATEST_VLAN: u16 = 4_094;
 
-/// Length of settings with that ports field: 13 + 22 x ports.
+/// Length of settings with that ports field: 14 + 22 x ports.
 pub fn length(ports_field: usize) -> usize {
     HEAD_LENGTH + PORT_LENGTH * ports_field
 }
@@ -115,8 +119,8 @@ impl Fields<'_> {
 }
 
 /// Reads settings; nothing where they are not as laid out (number 11): another length than
-/// 13 + 22 x ports, ports 0 or above 8, equal priorities, leave time 0, a VLAN of 0 or 4,095, or a
-/// zero bit set, of the four before the VLAN or of a port's five.
+/// 14 + 22 x ports, ports 0 or above 8, equal priorities, leave time 0, a VLAN of 0 or 4,095, a limit
+/// of inbound ports above 8, or a zero bit set, of the four before the VLAN or of a port's five.
 pub fn read(octets: &[u8]) -> Option<Settings> {
     let port_count = ports_field(octets)?;
     if port_count == 0 || port_count > MOST_PORTS || octets.len() != length(port_count) {
@@ -133,6 +137,10 @@ pub fn read(octets: &[u8]) -> Option<Settings> {
     let zero = fields.take(4);
     let vlan = fields.take(12) as u16;
     if zero != 0 || vlan == 0 || vlan > GREATEST_VLAN {
+        return None;
+    }
+    let fan_in_limit = fields.take(8) as u8;
+    if fan_in_limit > GREATEST_LIMIT {
         return None;
     }
     let mut ports = Vec::new();
@@ -152,7 +160,7 @@ pub fn read(octets: &[u8]) -> Option<Settings> {
             latency: PerClass { a: fields.take(32) as u32, b: fields.take(32) as u32 },
         });
     }
-    Some(Settings { bridge_id, priority, leave_time, vlan, ports })
+    Some(Settings { bridge_id, priority, leave_time, vlan, fan_in_limit, ports })
 }
 
 /// Puts fields into octets, most significant bit first.
@@ -186,6 +194,7 @@ pub fn write(settings: &Settings) -> Vec<u8> {
     out.put(14, u64::from(settings.leave_time));
     out.put(4, 0);
     out.put(12, u64::from(settings.vlan));
+    out.put(8, u64::from(settings.fan_in_limit));
     for port in &settings.ports {
         out.put(1, u64::from(port.supports.a));
         out.put(1, u64::from(port.supports.b));

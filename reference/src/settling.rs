@@ -1,9 +1,10 @@
-//! Settling: attribute propagation and reserved bandwidth (01, "Settling"; 02, (ii), (i), (v);
+//! Settling: attribute propagation and reserved bandwidth (01, "Settling"; 02, (ii), (i), (v), (x);
 //! 802.1Qat clauses 35.2.4.1 to 35.2.4.4, Tables 35-12 and 35-14; 802.1Q clause 34.3.1).
 
 use std::collections::BTreeMap;
 
 use crate::domain;
+use crate::fan_in::FanIn;
 use crate::pdu::{Failure, ListenerType, Parameters, StreamId};
 use crate::registrations::{OnPort, Registrations, TalkerRegistration};
 use crate::settings::{Class, PerClass, PortSettings, Settings, CLASSES};
@@ -49,6 +50,8 @@ pub enum Step {
     E,
     F,
     J,
+    L,
+    M,
     G,
     H,
     I,
@@ -157,22 +160,39 @@ pub struct Facts<'a> {
     pub registrations: &'a Registrations,
     /// The boundary flags of each port, port 1 first.
     pub boundaries: &'a [PerClass<bool>],
+    pub fan_in: FanIn,
+}
+
+impl<'a> Facts<'a> {
+    /// What follows from the registrations, with the boundary flags that were decided of them.
+    pub fn new(
+        settings: &'a Settings,
+        registrations: &'a Registrations,
+        boundaries: &'a [PerClass<bool>],
+    ) -> Facts<'a> {
+        Facts { settings, registrations, boundaries, fan_in: FanIn::of(registrations) }
+    }
 }
 
 /// The Talker port of a stream: the lowest port with a Talker registration. With it, what is
 /// registered there.
-fn talker_port(ports: &[OnPort]) -> Option<(usize, &TalkerRegistration)> {
+pub fn talker_port(ports: &[OnPort]) -> Option<(usize, &TalkerRegistration)> {
     (1..).zip(ports).find_map(|(port, on_port)| Some((port, on_port.talker.as_ref()?)))
 }
 
 /// The steps up to g; nothing where the stream reaches step h.
-fn column_before_bandwidth(facts: &Facts, ports: &[OnPort], port: usize) -> Option<(Step, Column)> {
+fn column_before_bandwidth(
+    facts: &Facts,
+    stream_id: StreamId,
+    port: usize,
+) -> Option<(Step, Column)> {
     let settings = facts.settings;
+    let ports = &facts.registrations.streams[&stream_id];
     let own_failure = |code| Column::Failed(Failure { bridge_id: settings.bridge_id, code });
     let port_settings = &settings.ports[port - 1];
     // a. no t, or p = t: none
-    let talker = match talker_port(ports) {
-        Some((talker_port, talker)) if port != talker_port => talker,
+    let (talker_port, talker) = match talker_port(ports) {
+        Some((talker_port, talker)) if port != talker_port => (talker_port, talker),
         _ => return Some((Step::A, Column::None)),
     };
     // b. the priority is a class that p doesn't support: none
@@ -205,6 +225,14 @@ fn column_before_bandwidth(facts: &Facts, ports: &[OnPort], port: usize) -> Opti
     if facts.boundaries[port - 1].of(class) {
         return Some((Step::J, own_failure(8)));
     }
+    // l. a lower StreamID has the same destination and VLAN, each at its own t: 5
+    if facts.fan_in.is_shared(stream_id, &talker.parameters) {
+        return Some((Step::L, own_failure(5)));
+    }
+    // m. t may not bring streams in: 15
+    if !facts.fan_in.may_bring_in(talker_port, settings.fan_in_limit) {
+        return Some((Step::M, own_failure(15)));
+    }
     // g. MaxFrameSize above p's largest: 14
     let is_large = talker.parameters.max_frame_size > port_settings.largest_frame;
     is_large.then(|| (Step::G, own_failure(14)))
@@ -212,19 +240,19 @@ fn column_before_bandwidth(facts: &Facts, ports: &[OnPort], port: usize) -> Opti
 
 /// Whether a stream has an entry on a port: not with column none and without a Listener
 /// (Table 35-12). Steps h and i never give column none.
-fn has_entry(facts: &Facts, ports: &[OnPort], port: usize) -> bool {
+fn has_entry(facts: &Facts, stream_id: StreamId, port: usize) -> bool {
     let column_is_none =
-        matches!(column_before_bandwidth(facts, ports, port), Some((_, Column::None)));
-    !column_is_none || ports[port - 1].listener.is_some()
+        matches!(column_before_bandwidth(facts, stream_id, port), Some((_, Column::None)));
+    !column_is_none || facts.registrations.streams[&stream_id][port - 1].listener.is_some()
 }
 
 /// The second from which each entry counts, by stream and port: that of the settled state where
 /// there was an entry already, else that of this advance.
 fn entries_since(facts: &Facts, clock: u32, before: &Settled) -> ByStreamAndPort<u32> {
     let mut since = BTreeMap::new();
-    for (stream_id, ports) in &facts.registrations.streams {
+    for stream_id in facts.registrations.streams.keys() {
         for port in 1..=facts.settings.ports.len() {
-            if has_entry(facts, ports, port) {
+            if has_entry(facts, *stream_id, port) {
                 let earlier = before
                     .streams
                     .get(stream_id)
@@ -291,7 +319,7 @@ fn decide_before_bandwidth(
 ) -> BTreeMap<Class, Vec<Importance>> {
     let mut reaching: BTreeMap<Class, Vec<Importance>> = BTreeMap::new();
     for (stream_id, ports) in &facts.registrations.streams {
-        match column_before_bandwidth(facts, ports, port) {
+        match column_before_bandwidth(facts, *stream_id, port) {
             Some((step, column)) => {
                 let decision = Decision { step, column, compared: None };
                 decisions.columns.insert((*stream_id, port), decision);
@@ -399,7 +427,7 @@ pub fn settle(
     before: &Settled,
 ) -> Settled {
     let boundaries = domain::boundaries(settings, &registrations.domains);
-    let facts = Facts { settings, registrations, boundaries: &boundaries };
+    let facts = Facts::new(settings, registrations, &boundaries);
     let since = entries_since(&facts, clock, before);
     let Decisions { columns, totals } = decide(&facts, &since);
     let mut streams = BTreeMap::new();

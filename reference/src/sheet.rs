@@ -133,6 +133,7 @@ pub fn worked_example() -> Vec<u8> {
         priority: settings::PerClass { a: 3, b: 2 },
         leave_time: 60,
         vlan: 2,
+        fan_in_limit: 0,
         ports: vec![port.clone(), port],
     });
     for (first, pdu) in [

@@ -27,7 +27,7 @@ const MOST_DRAWS: usize = 16;
 /// one that keeps them all, or any.
 pub fn some_octet(random: &mut Random, table: &[u8]) -> (usize, u8) {
     let full = table::used(table) == MOST_STREAMS;
-    let rule = if full && random.percent(20) { 8 } else { random.between(2, 35) as u8 };
+    let rule = if full && random.percent(20) { 8 } else { random.between(2, 36) as u8 };
     let aim = match random.below(20) {
         0..=12 => Aim::Breaks(rule),
         13..=18 => Aim::Keeps,
@@ -85,6 +85,7 @@ fn field_of_rule(random: &mut Random, table: &[u8], rule: u8) -> Range<usize> {
         29 => table::TOTALS..table::TOTALS + table::TOTALS_LENGTH * ports.max(1),
         8 => one(table::COUNT),
         30 => 11..13,
+        36 => one(table::FAN_IN_LIMIT),
         31..=35 => field_of_edge(random, table, rule, port),
         10 if past_used < TABLE_LENGTH && random.percent(30) => one(past_used),
         10 if past_used < TABLE_LENGTH => past_used..TABLE_LENGTH,

@@ -6,6 +6,7 @@ use std::ops::Range;
 
 use crate::bridge::Bridge;
 use crate::domain::{DomainRegistration, Domains, SLOTS};
+use crate::fan_in::GREATEST_LIMIT;
 use crate::pdu::{number_of, Failure, ListenerType, Parameters, StreamId, PARAMETERS_LENGTH};
 use crate::registrations::MOST_STREAMS;
 use crate::registrations::{ListenerRegistration, OnPort, Registrations, TalkerRegistration};
@@ -14,18 +15,20 @@ use crate::settling::{Column, Entry, Settled, SettledOnPort, SettledStream};
 
 // ---- layout ----
 
-/// The settings of eight ports stand first, as they were handed to start.
-pub const CLOCK: Range<usize> = 189..193;
+/// The settings of eight ports stand first, as they were handed to start. Among them is the limit of
+/// inbound ports.
+pub const FAN_IN_LIMIT: usize = 13;
+pub const CLOCK: Range<usize> = 190..194;
 /// Streams held.
-pub const COUNT: usize = 193;
+pub const COUNT: usize = 194;
 /// The totals of eight ports.
-pub const TOTALS: usize = 194;
+pub const TOTALS: usize = 195;
 /// Octets of one port's totals: class A 5, and class B 6, since it may borrow class A's limit.
 pub const TOTALS_LENGTH: usize = 11;
 /// What eight ports have of the domain: their Domain records and boundary flags.
-pub const EDGES: usize = 282;
+pub const EDGES: usize = 283;
 /// The stream records, those in use first.
-pub const RECORDS: usize = 1_322;
+pub const RECORDS: usize = 1_323;
 pub const RECORD_LENGTH: usize = 525;
 /// The length of the table; one length for every port count.
 pub const TABLE_LENGTH: usize = RECORDS + MOST_STREAMS * RECORD_LENGTH;
@@ -94,7 +97,7 @@ pub mod result {
     pub const LISTENER: usize = 19;
 }
 
-const _: () = assert!(TABLE_LENGTH == 34_922);
+const _: () = assert!(TABLE_LENGTH == 34_923);
 const _: () = assert!(CLOCK.start == settings::HEAD_LENGTH + MOST_PORTS * settings::PORT_LENGTH);
 const _: () = assert!(EDGES == TOTALS + MOST_PORTS * TOTALS_LENGTH);
 const _: () = assert!(RECORDS == EDGES + MOST_PORTS * edge::LENGTH);
@@ -180,7 +183,7 @@ fn results(record: &[u8]) -> impl Iterator<Item = &[u8]> {
 type Rule = fn(&[u8]) -> bool;
 
 /// The form rules, in the order and by the numbers of docs/TABLE.md.
-const RULES: [(u8, Rule); 35] = [
+const RULES: [(u8, Rule); 36] = [
     (1, |table| table.len() == TABLE_LENGTH),
     (2, |table| (1..=MOST_PORTS as u8).contains(&(table[8] >> 4))),
     (3, |table| priorities(table).a != priorities(table).b),
@@ -218,6 +221,7 @@ const RULES: [(u8, Rule); 35] = [
     (33, |table| every_domain(table, |domain| domain[domain::REGISTERED] != 0 || is_zero(domain))),
     (34, |table| edges(table).take(ports(table)).all(has_flags)),
     (35, |table| edges(table).skip(ports(table)).all(is_zero)),
+    (36, |table| table[FAN_IN_LIMIT] <= GREATEST_LIMIT),
 ];
 
 /// Whether a table keeps all form rules.

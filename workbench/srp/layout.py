@@ -103,6 +103,7 @@ class Settings:
     leave_time: int = bits(14)
     zero: int = bits(4)
     vlan: int = bits(12)
+    fan_in_limit: int = octets(1)
 
 
 @dataclass(frozen=True)

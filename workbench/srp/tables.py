@@ -120,7 +120,7 @@ def head(table):
     settings = table.settings
     return (f"bridge {stream_id(settings.bridge_id)}, clock {seconds(table.clock)}, leave time {seconds(settings.leave_time)},"
             f" class A priority {settings.priority_a}, class B priority {settings.priority_b}, Domain VLAN {settings.vlan},"
-            f" {table.held} streams held")
+            f" fan-in limit {settings.fan_in_limit or 'none'}, {table.held} streams held")
 
 
 def show_stream(stream, table, console):

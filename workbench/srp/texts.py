@@ -10,7 +10,7 @@ CLASSES = {(1, 1): "AB", (1, 0): "A", (0, 1): "B", (0, 0): "none"}
 
 def bridge_line(settings):
     return (f"bridge {stream_id(settings.bridge_id)} priorities {settings.priority_a} {settings.priority_b}"
-            f" leave {settings.leave_time} vlan {settings.vlan}")
+            f" leave {settings.leave_time} vlan {settings.vlan} fanin {settings.fan_in_limit}")
 
 
 def ports_line(count, port):

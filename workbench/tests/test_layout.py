@@ -37,8 +37,8 @@ def test_whole_table():
 
 
 def test_settings():
-    assert rows("Settings")[:3] == [("0", "8"), ("8", "3"), ("11", "2")]
-    first = int(rows("Settings")[3][0].split()[0])
+    assert rows("Settings")[:4] == [("0", "8"), ("8", "3"), ("11", "2"), ("13", "1")]
+    first = int(rows("Settings")[4][0].split()[0])
     assert layout.place(layout.Table, "port_settings") == layout.length(layout.Settings) == first
     said = f"{layout.length(layout.Settings)} + {layout.length(layout.Port)} x ports"
     assert said in (ROOT / "docs/TABLE.md").read_text()

@@ -1,5 +1,5 @@
--- What the cell at a stream's Talker port says in fields that are zero without a Talker: latency, priority, and the fixed values'
--- octets.
+-- What the cell at a stream's Talker port says in fields that are zero without a Talker: latency, MaxFrameSize, priority, and the
+-- fixed values' octets.
 use mathlib.Core.Path.{_≡_, refl, sym, ap, _∙_}
 use mathlib.Core.List.{List}
 use Prim.Native.Nat.{ℕ, _+_, _/_, _≤_, _<_}
@@ -20,6 +20,7 @@ use Rattle.model.proofs.Fits.{laid-cell-is, laid-cell-fits}
 use Rattle.table.specs.Reads.{fixedOctets, ReadsCell, ReadsPort}
 use Rattle.streams.specs.Answers.{talkerPort, sourceIn}
 use Rattle.streams.proofs.Sources.{source-at}
+use Rattle.columns.specs.Answers.{sizePlace}
 
 -- Of the numbers of any cell.
 
@@ -32,6 +33,11 @@ priority-number : (t : ℕ) (k : Talker) (c : Cell) → c .talks ≡ k → FitRa
 unfolding fixedOf noFixed sourceIn cellNumbers talkerNumbers fixedNumbers priorityOctet
 priority-number t noTalker c e r = rw e
 priority-number t (talker k) c e r = rw e (omega arith)
+
+size-number : (t : ℕ) (k : Talker) (c : Cell) → c .talks ≡ k → getD (cellNumbers c) (fixedField + 2) 0 ≡ fixedOf (sourceIn t c) .size
+unfolding fixedOf noFixed sourceIn cellNumbers talkerNumbers fixedNumbers
+size-number t noTalker c e = rw e
+size-number t (talker r) c e = rw e
 
 fixed-numbers : (t : ℕ) (k : Talker) (c : Cell) → c .talks ≡ k → part fixedField (length fixedWidths) (cellNumbers c) ≡ fixedNumbers (fixedOf (sourceIn t c))
 unfolding part fixedOf noFixed sourceIn cellNumbers talkerNumbers fixedNumbers priorityOctet
@@ -66,6 +72,13 @@ module _ (x : Stream) (t : ℕ) (e : t ≡ talkerPort (sourceOf x)) (s : List �
       ap (λ (vs : List ℕ). getD vs latencyField 0) (numbers-laid s (r .laid))
       ∙ latency-number t (toCell s .talks) (toCell s) refl
       ∙ ap latencyOf source-read
+
+  pub size-read : beAt 2 s sizePlace ≡ fixedOf (sourceOf x) .size
+  unfolding fields
+  size-read =
+      ap (λ (vs : List ℕ). getD vs (fixedField + 2) 0) (numbers-laid s (r .laid))
+      ∙ size-number t (toCell s .talks) (toCell s) refl
+      ∙ ap (λ (o : Source). fixedOf o .size) source-read
 
   priority-read : beAt 1 s priorityPlace / 32 ≡ fixedOf (sourceOf x) .priority
   unfolding fields

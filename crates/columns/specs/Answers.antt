@@ -1,8 +1,8 @@
 -- What the code's answers say in the words of the definitions, and what it writes of a result.
 use mathlib.Core.List.{List, [], _∷_}
-use Prim.Native.Nat.{ℕ, _-_}
+use Prim.Native.Nat.{ℕ, _+_, _-_}
 use lib.ListN.{take, drop}
-use Rattle.model.specs.Layout.{entryPlace, resultSize, resultWidths}
+use Rattle.model.specs.Layout.{before, entryPlace, fixedPlace, fixedWidths, resultSize, resultWidths}
 use Rattle.model.specs.State.{Column, none, advertise, failed}
 use Rattle.model.specs.Settling.{latencyKept}
 use Rattle.model.specs.Table.{columnNumber, columnBridge, columnCode}
@@ -26,3 +26,7 @@ entryWidths = drop 4 resultWidths
 
 abbrev pub entrySize : ℕ
 entrySize = resultSize - entryPlace
+
+-- MaxFrameSize in a cell
+abbrev pub sizePlace : ℕ
+sizePlace = fixedPlace + before 2 fixedWidths

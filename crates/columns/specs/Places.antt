@@ -7,13 +7,14 @@ use lib.ListN.{length, set, drop}
 use Rattle.model.specs.Layout.{cellSize}
 use Rattle.model.specs.Lists.{tabulate}
 use Rattle.model.specs.State.{Stream, Bridge, portAt}
-use Rattle.model.specs.Settling.{Scene, sceneOf, sourceOf}
+use Rattle.model.specs.Settling.{Scene, sceneOf, sourceOf, inboundOf}
 use Rattle.model.specs.Table.{decode}
 use Rattle.model.specs.Laid.{Laid}
 use Rattle.table.specs.Updates.{resulting, streamAt, withStream}
 use Rattle.table.specs.Places.{StandsOn}
 use Rattle.table.specs.Reads.{ReadsPort}
 use Rattle.streams.specs.Answers.{talkerPort}
+use Rattle.fanin.specs.Failures.{commonFailure}
 use Rattle.columns.specs.Stages.{earlyAt}
 
 -- a table, the settings of its port at place p, and two cells
@@ -28,6 +29,11 @@ pub record Asked (table port here talker : List ℕ) (p : ℕ) : Type 0 where
 pub record TalkerAt (s : List ℕ) (k t : ℕ) : Type 0 where
   pub stands : StandsOn s k t
   pub is : t ≡ talkerPort (sourceOf (streamAt k (decode s)))
+
+-- with the own failure that it has on every port
+pub record FailureAt (s : List ℕ) (k t common : ℕ) : Type 0 where
+  pub talker : TalkerAt s k t
+  pub is : common ≡ commonFailure (sceneOf (decode s)) (inboundOf (streamAt k (decode s)))
 
 -- stream k changed by what g makes of the scene and the stream
 abbrev pub changedAt : ℕ → (Scene → Stream → Stream) → Bridge → Bridge

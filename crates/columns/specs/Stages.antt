@@ -5,8 +5,9 @@ use mathlib.Core.List.{List, [], _∷_, map}
 use mathlib.Core.Bool.{Bool, cond, not, _&&_}
 use Prim.Native.Nat.{ℕ, zero, suc}
 use lib.ListN.{getD, set}
+use lib.Dec.{eqb, ltb}
 use Rattle.model.specs.Lists.{keep, tabulate}
-use Rattle.model.specs.State.{Settings, Cell, Column, advertise, failed, filters, Declared, nothing, Result, Stream, Totals, Bridge, noTotals, portAt, cellAt, resultAt, Class, noClass, classA, classB, classOf, sameClass, inForce}
+use Rattle.model.specs.State.{Settings, Cell, Column, advertise, failed, filters, Declared, nothing, Result, Stream, Totals, Bridge, noTotals, portAt, cellAt, resultAt, Class, noClass, classA, classB, classOf, sameClass, inForce, Port, none}
 use Rattle.model.specs.Registrations.{holding}
 use Rattle.model.specs.Bandwidth.{Claim, demand, rateOf, admitted, total}
 use Rattle.model.specs.Settling.{Scene, sceneOf, Source, sourceOf, fixedOf, isSource, registered, isReady, isAdvertise, first, outcomeColumn, stepsFrom, steps, ageOf, latencyOut, entryOf, ageKept, latencyKept, passed, mergeAll}
@@ -30,9 +31,20 @@ shownBy column latency heard now old =
 unfoldable pub shownAs : Settings → ℕ → Stream → ℕ → Column → Result
 shownAs st now x p column = shownBy column (latencyOut st p x) (registered (cellAt x p)) now (resultAt x p)
 
--- the steps before h, and Advertise where none of them applies: on a port, from its cell and the stream's source
+-- steps a to f, j and k, and Advertise where none of them applies: on a port, from its cell and the stream's source
 unfoldable pub firstStep : Scene → ℕ → Cell → Source → Column
 firstStep sc p here s = first (outcomeColumn (sc .settings) s) (stepsFrom sc p here s) advertise
+
+-- the steps behind them, from the own failure that the stream has on every port, a port and MaxFrameSize
+unfoldable pub lastStep : Settings → ℕ → Port → ℕ → Column
+lastStep st common q size =
+    cond (eqb common 0) (cond (ltb (q .largest) size) (failed (st .bridgeId) 14) advertise) (failed (st .bridgeId) common)
+
+-- a column, or what follows where no step has applied
+unfoldable pub orElse : Column → Column → Column
+orElse none d = none
+orElse advertise d = d
+orElse (failed b c) d = failed b c
 
 -- and at any place
 unfoldable pub earlyColumn : Scene → ℕ → Stream → Column

@@ -5,18 +5,21 @@ ghost use Prim.Native.Nat.{_<_, _^_};
 ghost use lib.ListN.{length};
 ghost use Rattle.octets.specs.Fields.{packed};
 ghost use Rattle.octets.specs.Parts.{patch};
-ghost use Rattle.model.specs.Layout.{entryPlace, portSize, resultSize};
+ghost use Rattle.octets.specs.Be.{beAt};
+ghost use Rattle.model.specs.Layout.{cellSize, entryPlace, portSize, resultSize};
 ghost use Rattle.model.specs.State as state;
 ghost use Rattle.model.specs.State.{isNoClass, classLatency, cellAt, ownAt, failed};
-ghost use Rattle.model.specs.Settling.{sceneOf, boundary, fixedOf, ageOf, latencyOut, entryOf, ageKept};
+ghost use Rattle.model.specs.Settling.{sceneOf, isInbound, boundary, fixedOf, ageOf, latencyOut, entryOf, ageKept};
 ghost use Rattle.model.specs.Table.{toPort, toCell, toResult, toEntry, toDeclared, entryNumber, resultOctets, encode, decode};
 ghost use Rattle.model.specs.Laid.{Laid};
 ghost use Rattle.table.specs.Updates.{streamAt, withSettled};
 ghost use Rattle.table.specs.Places.{Stands, PortIn, StandsOn};
 ghost use Rattle.streams.specs.Answers.{classShown, sourceIn};
-ghost use Rattle.columns.specs.Stages.{shownBy, firstStep, earlyColumn, early, earlyAll};
-ghost use Rattle.columns.specs.Answers.{columnShown, columnWidths, columnNumbers, entryWidths, entrySize};
-ghost use Rattle.columns.specs.Places.{Asked, TalkerAt, changedAt, earlyOne, earlyTo};
+ghost use Rattle.fanin.specs.Sets.{setTo};
+ghost use Rattle.fanin.specs.Places.{SettledTo};
+ghost use Rattle.columns.specs.Stages.{shownBy, firstStep, lastStep, earlyColumn, early, earlyAll};
+ghost use Rattle.columns.specs.Answers.{columnShown, sizePlace, columnWidths, columnNumbers, entryWidths, entrySize};
+ghost use Rattle.columns.specs.Places.{Asked, TalkerAt, FailureAt, changedAt, earlyOne, earlyTo};
 use streams::ClassRead;
 use table::cell;
 use table::port;
@@ -73,7 +76,7 @@ fn at_edge(table: &[u8], p: usize, class: ClassRead) -> bool
     }
 }
 
-// The steps before h on the port at place p, whose cell is here, for the Talker's cell said at place t: the first that applies,
+// Steps a to f, j and k on the port at place p, whose cell is here, for the Talker's cell said at place t: the first that applies,
 // Advertise where none does.
 fn first_step(table: &[u8], port: &[u8], here: &[u8], said: &[u8], p: usize, t: usize) -> ColumnRead
     requires { ⌜ Asked (now table) (now port) (now here) (now said) p ⌝ }
@@ -110,15 +113,27 @@ fn first_step(table: &[u8], port: &[u8], here: &[u8], said: &[u8], p: usize, t: 
     if at_edge(table, p, class) {
         return own(table, 8);
     }
+    ColumnRead::Advertise
+}
+
+// The steps behind them, for the Talker's cell said: the own failure that the stream has on every port, then g.
+fn last_step(table: &[u8], port: &[u8], said: &[u8], common: u8) -> ColumnRead
+    requires { ⌜ Laid (now table) × (length (now port) ≡ portSize) × (length (now said) ≡ cellSize) ⌝ }
+    ensures { λ r. ⌜ columnShown r ≡ lastStep (decode (now (table .entry)) .settings) common (toPort (now (port .entry))) (beAt 2 (now (said .entry)) sizePlace) ⌝ }
+{
+    if common != 0 {
+        return own(table, common);
+    }
     if octets::get(port, port::LARGEST, 2) < octets::get(said, cell::FRAME_SIZE, 2) {
         return own(table, 14);
     }
     ColumnRead::Advertise
 }
 
-// The column of stream k on the port at place p before bandwidth is shared, where t is its Talker's place.
-fn early_column(table: &[u8], k: usize, p: usize, t: usize) -> ColumnRead
-    requires { ⌜ TalkerAt (now table) k t × (p < 8) ⌝ }
+// The column of stream k on the port at place p before bandwidth is shared, where t is its Talker's place and common the own
+// failure that it has on every port.
+fn early_column(table: &[u8], k: usize, p: usize, t: usize, common: u8) -> ColumnRead
+    requires { ⌜ FailureAt (now table) k t common × (p < 8) ⌝ }
     ensures { λ r. ⌜ columnShown r ≡ earlyColumn (sceneOf (decode (now (table .entry)))) p (streamAt k (decode (now (table .entry)))) ⌝ }
 {
     if table::ports(table) <= p {
@@ -127,7 +142,11 @@ fn early_column(table: &[u8], k: usize, p: usize, t: usize) -> ColumnRead
     let port = table::port_at(table, p);
     let here = table::cell_at(table, k, p);
     let talker = table::cell_at(table, k, t);
-    first_step(table, port, here, talker, p, t)
+    let column = first_step(table, port, here, talker, p, t);
+    let ColumnRead::Advertise = column else {
+        return column;
+    };
+    last_step(table, port, talker, common)
 }
 
 // A port's latency of a class, in nanoseconds; 0 without a class.
@@ -235,12 +254,12 @@ fn write_result(result: &mut [u8], column: ColumnRead, latency: u64, listener: u
     write_entry(result, entry, age);
 }
 
-// What stream k shows on the port at place p, where t is its Talker's place.
-fn early_at(table: &mut [u8], k: usize, p: usize, t: usize, time: u32)
-    requires { ⌜ TalkerAt (now table) k t × (p < 8) ⌝ }
+// What stream k shows on the port at place p, where t is its Talker's place and common the own failure that it has on every port.
+fn early_at(table: &mut [u8], k: usize, p: usize, t: usize, common: u8, time: u32)
+    requires { ⌜ FailureAt (now table) k t common × (p < 8) ⌝ }
     ensures { λ _. ⌜ now (table .exit) ≡ encode (changedAt k (earlyOne p time) (decode (now (table .entry)))) ⌝ }
 {
-    let column = early_column(table, k, p, t);
+    let column = early_column(table, k, p, t, common);
     let latency = latency_out(table, k, p, t);
     let listener = octets::get(table::cell_at(table, k, p), cell::LISTENER, 1);
     let r = table::result_in(table, k, p);
@@ -265,25 +284,26 @@ fn copy_fixed(table: &mut [u8], k: usize, t: usize)
 }
 
 // What stream k shows on each of the eight ports, of which some may be none.
-fn early_ports(table: &mut [u8], k: usize, t: usize, time: u32)
-    requires { ⌜ TalkerAt (now table) k t ⌝ }
+fn early_ports(table: &mut [u8], k: usize, t: usize, common: u8, time: u32)
+    requires { ⌜ FailureAt (now table) k t common ⌝ }
     ensures { λ _. ⌜ now (table .exit) ≡ encode (changedAt k (earlyTo 8 time) (decode (now (table .entry)))) ⌝ }
 {
     let mut p: usize = 0;
     while p < 8 {
-        early_at(table, k, p, t, time);
+        early_at(table, k, p, t, common, time);
         p += 1;
     }
 }
 
-// The settled values of stream k, and what it shows on every port before bandwidth is shared.
-fn early_record(table: &mut [u8], k: usize, time: u32)
-    requires { ⌜ Stands (now table) k ⌝ }
+// The settled values of stream k, and what it shows on every port before bandwidth is shared; those before it are done.
+fn early_record(table: &mut [u8], k: usize, inbound: u8, time: u32)
+    requires { ⌜ Stands (now table) k × SettledTo (now table) k × (inbound ≡ setTo (isInbound (sceneOf (decode (now table)) .inbound)) 8) ⌝ }
     ensures { λ _. ⌜ now (table .exit) ≡ encode (changedAt k (λ sc. early sc time) (decode (now (table .entry)))) ⌝ }
 {
     let t = streams::talker_port(table, k);
     copy_fixed(table, k, t);
-    early_ports(table, k, t, time);
+    let common = fanin::common_failure(table, k, inbound);
+    early_ports(table, k, t, common, time);
 }
 
 // Stage 1 for every stream held.
@@ -291,10 +311,11 @@ pub fn early_all(table: &mut [u8], time: u32)
     requires { ⌜ Laid (now table) ⌝ }
     ensures { λ _. ⌜ now (table .exit) ≡ encode (earlyAll time (decode (now (table .entry)))) ⌝ }
 {
+    let inbound = fanin::inbound_ports(table);
     let count = table::count(table);
     let mut k: usize = 0;
     while k < count {
-        early_record(table, k, time);
+        early_record(table, k, inbound, time);
         k += 1;
     }
 }

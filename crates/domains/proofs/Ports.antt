@@ -64,7 +64,7 @@ module _ (o : Own) (f : FitOwn o) (s : List ℕ) (e : s ≡ ownOctets o) (i : �
 
 -- some settings of a leave time
 abbrev pub leaving : ℕ → Settings
-leaving leave = record { bridgeId = 0; priorityA = 0; priorityB = 0; leaveTime = leave; vlan = 0; ports = [] }
+leaving leave = record { bridgeId = 0; priorityA = 0; priorityB = 0; leaveTime = leave; vlan = 0; fanIn = 0; ports = [] }
 
 module _ (st : Settings) (time : ℕ) where
   -- the first i expired

@@ -7,7 +7,7 @@ use lib.ListN.{drop}
 use lib.Dec.{leb, eqb}
 use borrow.Author.Tests.{le-leb, lt-leb}
 use Rattle.octets.specs.Be.{beAt}
-use Rattle.model.specs.Layout.{domainVlanPlace, portSize, portsPlace, portsUnit, priorityAUnit, priorityBUnit, wordPlace}
+use Rattle.model.specs.Layout.{domainVlanPlace, fanInPlace, portSize, portsPlace, portsUnit, priorityAUnit, priorityBUnit, wordPlace}
 use Rattle.model.specs.Lists.{allTrue}
 use Rattle.model.specs.Table.{everyPart, portsField, portRule, settingsRules}
 
@@ -23,6 +23,7 @@ module _ (s : List ℕ) (w : ℕ) (e : w ≡ beAt 3 s wordPlace) where
       ∷ everyPart portSize portRule (w / portsUnit) (drop portsPlace s)
       ∷ leb 1 (beAt 2 s domainVlanPlace)
       ∷ leb (beAt 2 s domainVlanPlace) 4094
+      ∷ leb (beAt 1 s fanInPlace) 8
       ∷ [])
       ≡ allTrue (settingsRules s)
   unfolding settingsRules portsField allTrue

@@ -22,6 +22,7 @@ use table::CELL;
 use table::CELLS;
 use table::CLOCK;
 use table::COUNT;
+use table::FAN_IN;
 use table::HEAD;
 use table::LENGTH;
 use table::OWN;
@@ -314,12 +315,14 @@ fn settings_rules(settings: &[u8]) -> bool
         return false;
     }
     let vlan = octets::get(settings, VLAN, 2);
+    let fan_in = octets::get(settings, FAN_IN, 1);
     (1 <= ports)
         & (head / PRIORITY_A_UNIT % 8 != head / PRIORITY_B_UNIT % 8)
         & (1 <= head % PRIORITY_B_UNIT)
         & ports_formed(&settings[PORTS..], ports as usize)
         & (1 <= vlan)
         & (vlan <= 4094)
+        & (fan_in <= 8)
 }
 
 // Number 11: settings have their length and keep every rule.

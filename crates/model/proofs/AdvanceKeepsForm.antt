@@ -10,10 +10,10 @@ use borrow.Author.Tests.{ltb-false, leb-false, le-ltb, le-leb, eq-eqb, ne-eqb, l
 use Rattle.model.specs.Lists.{All, keep, tabulate, implies, bit}
 use Rattle.model.specs.State.{Port, Settings, Leaving, stays, since, Health, sound, broken, Talker, noTalker, talker, Listener, noListener, listener, Cell, Domain, noDomain, domain, Own, Column, none, advertise, failed, Entry, noEntry, filters, forwards, Declared, nothing, tells, Result, Stream, Totals, Bridge, empty, unsettled, noFixed, noOwn, noPort, ownAt, portAt, isPort, cellAt, resultAt, Class, classA, classB, inForce, noClass, sameClass, supports}
 use Rattle.model.specs.Registrations.{Answer, ids}
-use Rattle.model.specs.Settling.{Scene, sceneOf, flagOf, decideOwn, decideOwns, expired, expireDomain, expireTalker, expireListener, expireCell, expire, held, remain, Source, nowhere, from, source, sourceOf, isSource, fixedOf, healthOf, registered, isReady, Outcome, columnNone, asRegistered, ownFailure, Step, first, brokenColumn, outcomeColumn, stepsFrom, steps, ageOf, claims, reservedA, limitOn, byBandwidth, columnOf, capped, latencyOut, entryOf, ageKept, latencyKept, decideAt, decide, totalOn, totalsOn, settle, advance, isTalking, isHearing, Origin, streamClass, clear}
+use Rattle.model.specs.Settling.{Scene, sceneOf, flagOf, decideOwn, decideOwns, expired, expireDomain, expireTalker, expireListener, expireCell, expire, held, remain, Source, nowhere, from, source, sourceOf, isSource, fixedOf, healthOf, registered, isReady, Outcome, columnNone, asRegistered, ownFailure, Step, first, brokenColumn, outcomeColumn, stepsFrom, steps, ageOf, claims, reservedA, limitOn, byBandwidth, columnOf, capped, latencyOut, entryOf, ageKept, latencyKept, decideAt, decide, totalOn, totalsOn, settle, advance, isTalking, isHearing, Origin, streamClass, clear, Inbound, inboundOf, inboundsOf, lastSteps}
 use Rattle.model.specs.Bandwidth.{sort, total, reserved}
 use Rattle.model.specs.Table.{totalsWithin, talkers, hasColumn, declares, declarers, forListener, storedRules, storedFormed, atMost}
-use Rattle.model.proofs.Lists.{all-getD, all-tabulate, at-place, and-false, implies-true, true-all}
+use Rattle.model.proofs.Lists.{all-append, all-getD, all-tabulate, at-place, and-false, implies-true, true-all}
 use Rattle.model.proofs.Parts.{_also_}
 use Rattle.model.proofs.Stored.{talker-counts, other-counts, one-declares}
 use Rattle.model.proofs.Admission.{within}
@@ -275,6 +275,10 @@ unfolding stepsFrom
 codes-fit sc p here nowhere = omega arith
 codes-fit sc p here (from o) = omega arith
 
+last-codes-fit : (sc : Scene) (p : ℕ) (i : Inbound) → All (λ t. ValidOutcome (t .outcome)) (lastSteps sc p i)
+unfolding lastSteps
+last-codes-fit sc p i = omega arith
+
 broken-valid : (h : Health) → ValidHealth h → ValidFailure (brokenColumn h)
 unfolding brokenColumn
 broken-valid sound v = tt
@@ -304,7 +308,9 @@ module _ (sc : Scene) (named : sc .settings .bridgeId < 2 ^ 64) where
   pub steps-valid : (p : ℕ) (x : Stream) (c : Column) → ValidHealth (healthOf (sourceOf x)) → ValidFailure c
       → ValidFailure (first (outcomeColumn (sc .settings) (sourceOf x)) (steps sc p x) c)
   unfolding steps
-  steps-valid p x c v w = first-valid (sourceOf x) v _ c (tt, codes-fit sc p (cellAt x p) (sourceOf x)) w
+  steps-valid p x c v w =
+      first-valid (sourceOf x) v _ c
+      (tt, all-append _ (stepsFrom sc p (cellAt x p) (sourceOf x)) _ (codes-fit sc p (cellAt x p) (sourceOf x)) (last-codes-fit sc p (inboundOf x))) w
 
   bandwidth-valid : (d l : ℕ) → ValidFailure (byBandwidth (sc .settings) d l)
   unfolding byBandwidth
@@ -629,14 +635,14 @@ settle-keeps b now small later v = record {
     st : Settings
     st = b .settings
 
-    sc : Scene
-    sc = sceneOf (settle now b)
-
     ports : ℕ
     ports = length (st .ports)
 
     s : List Stream
     s = remain st now (b .streams)
+
+    sc : Scene
+    sc = record { settings = st; own = decideOwns st now (b .own); inbound = inboundsOf s }
 
 pub advance-keeps : (b : Bridge) (now : ℕ) → now < 2 ^ 32 → Valid b → Valid (advance b now .bridge)
 unfolding advance

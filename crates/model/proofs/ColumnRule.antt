@@ -2,7 +2,7 @@
 -- with what is left computed from the columns of the more important streams; entries, latencies and Listeners follow from the
 -- columns; each class total is the sum of what is reserved and at most its limit; and less important streams, or such as
 -- reserve nothing, change none of it (01, "Settling").
-use mathlib.Core.Path.{_≡_, refl, sym, _∙_, ap}
+use mathlib.Core.Path.{_≡_, refl, sym, _∙_, ap, subst}
 use mathlib.Core.List.{List, [], _∷_, _++_, map}
 use mathlib.Core.Bool.{Bool, true, false, cond, not, _&&_, false≢true}
 use Prim.Native.Nat.{ℕ, zero, suc, _+_, _-_, _^_, _≤_, _<_}
@@ -15,7 +15,7 @@ use Rattle.model.specs.State.{Settings, Health, sound, broken, Column, a
 use Rattle.model.specs.Registrations.{ids}
 use Rattle.model.specs.Table.{atMost}
 use Rattle.model.specs.Bandwidth.{Claim, key, above, sort, reserved, remains, admitted, total, taken}
-use Rattle.model.specs.Settling.{Scene, sceneOf, decideOwns, remain, Source, sourceOf, isSource, fixedOf, healthOf, streamClass, registered, isReady, isAdvertise, Outcome, columnNone, asRegistered, ownFailure, Step, first, clear, brokenColumn, outcomeColumn, steps, ageOf, claim, claims, reservedA, limitOn, leftFor, byBandwidth, columnOf, latencyOut, entryOf, ageKept, latencyKept, passed, mergeAll, merged, decideAt, decide, totalOn, totalsOn, settle}
+use Rattle.model.specs.Settling.{Scene, sceneOf, decideOwns, remain, Source, sourceOf, isSource, fixedOf, healthOf, streamClass, registered, isReady, isAdvertise, Outcome, columnNone, asRegistered, ownFailure, Step, first, clear, brokenColumn, outcomeColumn, steps, ageOf, claim, claims, reservedA, limitOn, leftFor, byBandwidth, columnOf, latencyOut, entryOf, ageKept, latencyKept, passed, mergeAll, merged, decideAt, decide, totalOn, totalsOn, settle, Inbound, inboundOf, inboundsOf}
 use Rattle.model.proofs.Lists.{all-map, all-both, all-each, and-right, and-true, and-false}
 use Rattle.model.proofs.Valid.{Rising}
 use Rattle.model.proofs.Admission.{Distinct, key-id, within, subtracted, total-is-sum, idle-above, idle-total}
@@ -330,9 +330,9 @@ module _ (sc : Scene) (now p : ℕ) (col other : Stream → Column) where
 
 -- streams with the same registrations go through the same steps; with the same age too, they have the same claim
 module _ (sc : Scene) (now p : ℕ) (x y : Stream) (cells : x .cells ≡ y .cells) where
-  same-steps : steps sc p x ≡ steps sc p y
-  unfolding steps cellAt sourceOf
-  same-steps = rw cells
+  same-steps : x .id ≡ y .id → steps sc p x ≡ steps sc p y
+  unfolding steps inboundOf cellAt sourceOf
+  same-steps i = rw (i, cells)
 
   same-source : sourceOf x ≡ sourceOf y
   unfolding sourceOf
@@ -404,8 +404,8 @@ module _ (sc : Scene) (now p : ℕ) (here : p < 8) where
     where
       go : (b : Bool) → clear (steps sc p y) ≡ b → (k : Bool) → claims sc now p c t ≡ claims sc now p c s →
           keep (clear (steps sc p y) && k) (claim (sc .settings) now p y) (claims sc now p c t) ≡ keep (clear (steps sc p x) && k) (claim (sc .settings) now p x) (claims sc now p c s)
-      go true e k ih = rw (carried-claim x y (w .0) (a .0) e, same-steps sc now p y x (w .0 .cells), ih)
-      go false e k ih = rw (← same-steps sc now p y x (w .0 .cells), e) ih
+      go true e k ih = rw (carried-claim x y (w .0) (a .0) e, same-steps sc now p y x (w .0 .cells) (w .0 .id), ih)
+      go false e k ih = rw (← same-steps sc now p y x (w .0 .cells) (w .0 .id), e) ih
 
   module _ (s t : List Stream) (carried : Pairwise (Carried now) s t) (shown : All (Shown sc p) t) where
     carried-limit : (c : Class) → limitOn sc now t p c ≡ limitOn sc now s p c
@@ -429,12 +429,20 @@ module _ (sc : Scene) (now p : ℕ) (here : p < 8) where
               carried-limit c,
               carried-claims c s t carried shown,
               carried-claim x y w z e,
-              same-steps sc now p y x (w .cells),
+              same-steps sc now p y x (w .cells) (w .id),
               same-source sc now p y x (w .cells),
             )
         go false e =
             first-decided _ (steps sc p y) _ (byBandwidth (sc .settings) (claim (sc .settings) now p x .demand) (leftFor sc now s p x)) e
-            ∙ rw (same-steps sc now p y x (w .cells), same-source sc now p y x (w .cells))
+            ∙ rw (same-steps sc now p y x (w .cells) (w .id), same-source sc now p y x (w .cells))
+
+-- streams that an advance carried over come in as they did
+pub carried-inbound : (now : ℕ) (s t : List Stream) → Pairwise (Carried now) s t → inboundsOf t ≡ inboundsOf s
+unfolding inboundsOf inboundOf sourceOf
+carried-inbound now [] [] w = refl
+carried-inbound now [] (y ∷ t) w = absurd w
+carried-inbound now (x ∷ s) [] w = absurd w
+carried-inbound now (x ∷ s) (y ∷ t) w = rw (w .0 .id, w .0 .cells, carried-inbound now s t (w .1))
 
 pub tabulate-same : {A : Type 0} (f g : ℕ → A) (n p : ℕ) → ((q : ℕ) → p ≤ q → q < p + n → f q ≡ g q) → tabulate n p f ≡ tabulate n p g
 unfolding tabulate
@@ -471,7 +479,7 @@ module _ (sc : Scene) (now : ℕ) (s : List Stream) where
       ∙ ap (λ (c : Column). entryOf c (registered (cellAt x p))) (sym (decided-column x p h))
 
   decide-shows : (p : ℕ) → p < 8 → (x : Stream) → Shown sc p (decide sc now s x)
-  unfolding columnOf cellAt steps sourceOf decide
+  unfolding columnOf cellAt steps inboundOf sourceOf decide
   decide-shows p h x = record {
     demand = claim (sc .settings) now p x .demand;
     left = leftFor sc now s p x;
@@ -543,8 +551,15 @@ module _ (now : ℕ) (b : Bridge) where
   remaining : List Stream
   remaining = remain (b .settings) now (b .streams)
 
+  abbrev sceneWith : List Inbound → Scene
+  sceneWith l = record { settings = b .settings; own = decideOwns (b .settings) now (b .own); inbound = l }
+
   abbrev there : Scene
-  there = sceneOf (settle now b)
+  there = sceneWith (inboundsOf remaining)
+
+  settled-scene : sceneOf (settle now b) ≡ there
+  unfolding settle remaining decided
+  settled-scene = ap sceneWith (carried-inbound now remaining (decided there now remaining) (carries there now remaining))
 
   -- the totals that the settled bridge holds are those decided
   total-kept : (p : ℕ) → p < 8 → (c : Class) → totalAt (settle now b) p c ≡ totalOn there now remaining p c
@@ -576,7 +591,9 @@ module _ (now : ℕ) (b : Bridge) where
       values = refl;
       places = refl;
       shows = λ p h. record {
-        column = decided-ruled there now remaining p h risen small x;
+        column =
+            decided-ruled there now remaining p h risen small x
+            ∙ ap (λ (sc : Scene). ruled sc now (decided there now remaining) p (columnAt p) (decide there now remaining x)) (sym settled-scene);
         latency = decided-latency there now remaining p h x;
         entry = decided-entry there now remaining x p h;
         declares = decided-declares there now remaining p h x;
@@ -620,7 +637,7 @@ module _ (sc : Scene) (now p : ℕ) (s s′ : List Stream) (x x′ : Stream)
       rw (
         sameAbove,
         sameLimit,
-        same-steps sc now p x x′ sameCells,
+        same-steps sc now p x x′ sameCells sameId,
         same-source sc now p x x′ sameCells,
         same-claim sc now p x x′ sameCells sameId sameAge,
         same-stream-class sc now p x x′ sameCells,

@@ -264,6 +264,12 @@ no-list n k e = let z : _≡_ {A = ℕ} 0 1 = cc in omega arith
 no-skip : (n : ℕ) → badMessage n ≡ listSkipped → ⊥
 no-skip n e = let z : _≡_ {A = ℕ} 0 1 = cc in omega arith
 
+end-no-list : (k : Attribute) → pduEnd ≡ listOf k → ⊥
+end-no-list k e = let z : _≡_ {A = ℕ} 0 1 = cc in omega arith
+
+end-no-skip : pduEnd ≡ listSkipped → ⊥
+end-no-skip e = let z : _≡_ {A = ℕ} 0 1 = cc in omega arith
+
 no-end : (n : ℕ) → badMessage n ≡ pduEnd → ⊥
 no-end n e = let z : _≡_ {A = ℕ} 0 1 = cc in omega arith
 
@@ -367,8 +373,8 @@ PduReads version s f = (at : ℕ) (vs : List Vector) → messages f version s at
 
 -- behind a Message whose list is skipped
 module _ (version : ℕ) (s : List ℕ) (at : ℕ) (e : messageIn version s at ≡ listSkipped) (pre rest : List ℕ) where
-  abbrev skipHead : Headed version s at listSkipped no-skip (λ i. let z : _≡_ {A = ℕ} 0 1 = cc in omega arith)
-  skipHead = headed version s at listSkipped no-skip (λ i. let z : _≡_ {A = ℕ} 0 1 = cc in omega arith) e
+  abbrev skipHead : Headed version s at listSkipped no-skip end-no-skip
+  skipHead = headed version s at listSkipped no-skip end-no-skip e
 
   abbrev skipType : (typeOctet version (getD s at 0) ≡ unknown) × (messageEnd s at ≤ length s)
   skipType = skipped-from s at (typeOctet version (getD s at 0)) (skipHead .is)
@@ -399,8 +405,8 @@ module _ (version : ℕ) (s : List ℕ) (at : ℕ) (e : messageIn version s at �
 
 -- behind a Message whose list is read
 module _ (version : ℕ) (s : List ℕ) (short : length s ≤ longestPdu) (at : ℕ) (k : Attribute) (e : messageIn version s at ≡ listOf k) (pre rest : List ℕ) where
-  abbrev listHead : Headed version s at (listOf k) (λ n. no-list n k) (λ i. let z : _≡_ {A = ℕ} 0 1 = cc in omega arith)
-  listHead = headed version s at (listOf k) (λ n. no-list n k) (λ i. let z : _≡_ {A = ℕ} 0 1 = cc in omega arith) e
+  abbrev listHead : Headed version s at (listOf k) (λ n. no-list n k) (end-no-list k)
+  listHead = headed version s at (listOf k) (λ n. no-list n k) (end-no-list k) e
 
   abbrev ofList : Listed version s at k
   ofList = listed-from version s at k (typeOctet version (getD s at 0)) refl (listHead .is)

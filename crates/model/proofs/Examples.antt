@@ -1,10 +1,11 @@
 -- 01's marked examples P1 to P13 and its worked example, computed by the definitions and compared with what 01 prints; then
 -- examples of what 01 says of registering and of ages, of the near misses that it shuts out, of the domain's edge, of class B's
--- limit in force, of latency that grows, of the order of a PDU's checks, and of vectors that are passed over.
+-- limit in force, of latency that grows, of inbound ports and shared addresses, of the order of a PDU's checks, and of vectors that
+-- are passed over.
 use mathlib.Core.Path.{_≡_, refl}
 use mathlib.Core.List.{List, [], _∷_, _++_, map}
 use mathlib.Core.Bool.{true, false, cond}
-use Prim.Native.Nat.{ℕ, suc, _+_}
+use Prim.Native.Nat.{ℕ, suc, _+_, _-_}
 use lib.ListN.{length, getD, take, replicate}
 use lib.Dec.{eqb}
 use Rattle.octets.specs.Be
@@ -38,7 +39,7 @@ abbrev pub Holds : Example → Type 0
 Holds e = e .computed ≡ e .printed
 
 -- The bridge of the worked example: "Two ports, both classes, overhead 42, largest 1522, limits 75000000 and 0, latency 0,
--- priorities 3 and 2, leave time 60", VLAN 2; with another limit for class A where an example asks for one.
+-- priorities 3 and 2, leave time 60", VLAN 2, no limit of inbound ports; with another limit for class A where an example asks for one.
 
 port : ℕ → Port
 port limit = record {
@@ -53,8 +54,19 @@ port limit = record {
   latencyB = 0;
 }
 
+settingsWith : ℕ → ℕ → Settings
+settingsWith fanIn limit = record {
+  bridgeId = 7;
+  priorityA = 3;
+  priorityB = 2;
+  leaveTime = 60;
+  vlan = 2;
+  fanIn = fanIn;
+  ports = port limit ∷ port limit ∷ [];
+}
+
 settings : ℕ → Settings
-settings limit = record { bridgeId = 7; priorityA = 3; priorityB = 2; leaveTime = 60; vlan = 2; ports = port limit ∷ port limit ∷ [] }
+settings limit = settingsWith 0 limit
 
 -- what is handed over: a PDU on a port, or a time
 data Handed : Type 0 where
@@ -86,18 +98,29 @@ matching : List ℕ
 matching = domainsOf 5 2 2 (126 ∷ [])
 
 -- the bridge with this limit, after matching Domain joins on each port and what is handed over
-bridge : ℕ → List Handed → Bridge
-bridge limit l = from (State.started (settings limit)) (pdu 1 matching ∷ pdu 2 matching ∷ l)
+bridgeWith : ℕ → ℕ → List Handed → Bridge
+bridgeWith fanIn limit l = from (State.started (settingsWith fanIn limit)) (pdu 1 matching ∷ pdu 2 matching ∷ l)
 
--- FirstValues like those of the worked example: a StreamID by its Unique ID; MaxFrameSize, one frame per interval, and the
--- octet of priority and rank
+bridge : ℕ → List Handed → Bridge
+bridge limit l = bridgeWith 0 limit l
+
+-- FirstValues like those of the worked example: a StreamID by its Unique ID; the last two octets of the destination, and VLAN 2;
+-- MaxFrameSize, one frame per interval, and the octet of priority and rank
 streamId : ℕ → List ℕ
 streamId unique = 0x02 ∷ 0 ∷ 0 ∷ 0 ∷ 0 ∷ 0x01 ∷ Be.be 2 unique
 
-delayedFirst : ℕ → ℕ → ℕ → ℕ → List ℕ
-delayedFirst latency unique size octet =
+talkerOf : (destination latency unique size octet : ℕ) → List ℕ
+talkerOf destination latency unique size octet =
     streamId unique
-    ++ (0x91 ∷ 0xE0 ∷ 0xF0 ∷ 0 ∷ 0xFE ∷ 0 ∷ 0 ∷ 0x02 ∷ (Be.be 2 size ++ (0 ∷ 0x01 ∷ octet ∷ Be.be 4 latency)))
+    ++ (0x91 ∷ 0xE0 ∷ 0xF0 ∷ 0
+    ∷ (Be.be 2 destination ++ (0 ∷ 0x02 ∷ (Be.be 2 size ++ (0 ∷ 0x01 ∷ octet ∷ Be.be 4 latency)))))
+
+talkerTo : ℕ → ℕ → ℕ → ℕ → List ℕ
+talkerTo unique destination size octet = talkerOf destination 0 unique size octet
+
+-- each stream with a destination of its own
+delayedFirst : ℕ → ℕ → ℕ → ℕ → List ℕ
+delayedFirst latency unique size octet = talkerOf (0xFE00 + unique - 1) latency unique size octet
 
 talkerFirst : ℕ → ℕ → ℕ → List ℕ
 talkerFirst = delayedFirst 0
@@ -273,7 +296,7 @@ examples =
 
 -- to unfold this is to unfold the examples' own definitions
 shown : Unit {0}
-unfolding opened port settings accepted from messageOf message domainsOf matching bridge streamId delayedFirst talkerFirst failure rank1 rank0 advertisesOf failedOf listenerVector listenersOf talks hears columns reserves count talker listener read eventNumber events wordNumber reported size224 one four withFifth settledTalker lvPdu leaver workedTalker workedListener worked
+unfolding opened port settingsWith settings accepted from messageOf message domainsOf matching bridgeWith bridge streamId talkerTo talkerOf delayedFirst talkerFirst failure rank1 rank0 advertisesOf failedOf listenerVector listenersOf talks hears columns reserves count talker listener read eventNumber events wordNumber reported size224 one four withFifth settledTalker lvPdu leaver workedTalker workedListener worked
 shown = tt
 
 pub marked-examples : All Holds examples
@@ -459,6 +482,7 @@ withoutA limit =
       priorityB = 2;
       leaveTime = 60;
       vlan = 2;
+      fanIn = 0;
       ports =
           port 75000000
           ∷ record {
@@ -543,6 +567,43 @@ growths =
 pub growth-examples : All Holds growths
 unfolding shown growths delayed delayedFailed joined grown latencies
 growth-examples = (refl, (refl, (refl, (refl, (refl, (refl, (refl, (refl, (refl, (refl, (refl, (refl, (refl, (refl, tt))))))))))))))
+
+-- Inbound ports and shared addresses.
+
+-- with a limit of inbound ports, a stream with its Talker on port 1, another of this size and destination with its Talker on port 2
+inbound : ℕ → ℕ → ℕ → List Handed → Bridge
+inbound fanIn size destination l =
+    bridgeWith fanIn 75000000
+    (pdu 1 (talks 1 224 rank1) ∷ pdu 2 (message advertises (Be.be 2 1 ++ (talkerTo 2 destination size rank1 ++ (108 ∷ [])))) ∷ time 100 ∷ l)
+
+-- the column of the first on port 2, and of the second on port 1
+across : Bridge → List ℕ
+across b =
+    let c = State.resultAt (State.streamAt 0 b) 1 .column in
+    let d = State.resultAt (State.streamAt 1 b) 0 .column in
+    Table.columnNumber c ∷ Table.columnCode c ∷ Table.columnNumber d ∷ Table.columnCode d ∷ []
+
+pub fanIns : List Example
+fanIns =
+    -- with a limit of 1 the higher of two inbound ports brings nothing in; a limit of 2, and none, lets both
+    record { computed = across (inbound 1 224 0 []); printed = 1 ∷ 0 ∷ 2 ∷ 15 ∷ [] }
+    ∷ record { computed = across (inbound 2 224 0 []) ++ across (inbound 0 224 0 []); printed = 1 ∷ 0 ∷ 1 ∷ 0 ∷ 1 ∷ 0 ∷ 1 ∷ 0 ∷ [] }
+    -- a Talker that is leaving makes its port an inbound one until it is removed
+    ∷ record { computed = across (inbound 1 224 0 (pdu 1 lvPdu ∷ time 159 ∷ [])); printed = 1 ∷ 0 ∷ 2 ∷ 15 ∷ [] }
+    ∷ record {
+      computed = let c = State.resultAt (State.streamAt 0 (inbound 1 224 0 (pdu 1 lvPdu ∷ time 160 ∷ []))) 0 .column in Table.columnNumber c ∷ [];
+      printed = 1 ∷ [];
+    }
+    -- the higher StreamID with the address of a lower one fails with 5, whichever ports their Talkers are on; 5 comes before 15, and
+    -- 15 before 14
+    ∷ record { computed = across (inbound 0 224 0xFE00 []); printed = 1 ∷ 0 ∷ 2 ∷ 5 ∷ [] }
+    ∷ record { computed = across (inbound 1 224 0xFE00 []); printed = 1 ∷ 0 ∷ 2 ∷ 5 ∷ [] }
+    ∷ record { computed = across (inbound 1 1523 0 []); printed = 1 ∷ 0 ∷ 2 ∷ 15 ∷ [] }
+    ∷ []
+
+pub fan-in-examples : All Holds fanIns
+unfolding shown fanIns inbound across
+fan-in-examples = (refl, (refl, (refl, (refl, (refl, (refl, (refl, tt)))))))
 
 -- PDUs with two faults, at neighbouring checks, and each with the first fault mended: the first that the walk meets gives the
 -- number.

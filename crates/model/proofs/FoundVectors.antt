@@ -190,6 +190,9 @@ pub record PassedOver (version first : ℕ) (four : Bool) (l : List ℕ) (at h :
   pub fits : vectorEnd first four at h ≤ length l
   pub strange : (strangeLeave h || overpacked (part (at + 2 + first) (threeLength (h % 8192)) l)) ≡ true
 
+end-over : (h : ℕ) → listEnd ≡ passedOver h → ⊥
+end-over h e = let z : _≡_ {A = ℕ} 0 1 = cc in omega arith
+
 bad-over : (n h : ℕ) → badVector n ≡ passedOver h → ⊥
 bad-over n h e = let z : _≡_ {A = ℕ} 0 1 = cc in omega arith
 
@@ -203,8 +206,8 @@ passing-over version first four l at h e = go (eqb version 0) refl (strangeLeave
     x : Bool
     x = overpacked (part (at + 2 + first) (threeLength (n % 8192)) l)
 
-    a : Measured version first four l at (passedOver h) (λ m. bad-over m h) (λ i. let z : _≡_ {A = ℕ} 0 1 = cc in omega arith)
-    a = measured version first four l at (passedOver h) (λ m. bad-over m h) (λ i. let z : _≡_ {A = ℕ} 0 1 = cc in omega arith) e
+    a : Measured version first four l at (passedOver h) (λ m. bad-over m h) (end-over h)
+    a = measured version first four l at (passedOver h) (λ m. bad-over m h) (end-over h) e
 
     go : (v : Bool) → eqb version 0 ≡ v → (t : Bool) → (strangeLeave n || x) ≡ t
         → cond t (cond v (badVector 6) (passedOver n)) (vectorHead n) ≡ passedOver h → PassedOver version first four l at h
@@ -244,7 +247,7 @@ module _ (version : ℕ) (k : Attribute) (l : List ℕ) (at h : ℕ) where
           → vectorIn version (firstLength k) (hasFour k) l at ≡ passedOver h
       go (badVector n) i e = i ∙ e
       go listEnd i e =
-          let a = passed (eqb (at + 2) (length l)) listEnd _ _ (λ j. let z : _≡_ {A = ℕ} 0 1 = cc in omega arith) e in
+          let a = passed (eqb (at + 2) (length l)) listEnd _ _ (end-over h) e in
           absurd (bad-over 3 h (a .1))
       go (vectorHead m) i e =
           let a = passed (overflows (vectorAt k l at m)) _ _ _ (bad-over 7 h) e in

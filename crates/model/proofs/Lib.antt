@@ -29,6 +29,7 @@ pub mod Edge
 pub mod OwnCodes
 pub mod Boundaries
 pub mod Growth
+pub mod FanIn
 pub mod Opened
 pub mod Examples
 pub mod FormKept

@@ -13,11 +13,11 @@ use Rattle.model.specs.Lists.{All, keep, tabulate}
 use Rattle.model.specs.State.{Settings, Column, none, Declared, nothing, Result, Stream, Totals, Bridge, Class, classA, classB, sameClass, inForce, portAt, cellAt, resultAt, unsettled, noTotals}
 use Rattle.model.specs.Registrations.{ids}
 use Rattle.model.specs.Bandwidth.{Claim, key, above, remains, admitted}
-use Rattle.model.specs.Settling.{Scene, decideOwns, remain, sourceOf, isSource, streamClass, registered, first, clear, outcomeColumn, steps, claim, claims, reservedA, limitOn, leftFor, byBandwidth, columnOf, latencyOut, passed, mergeAll, merged, decideAt, decide, totalOn, totalsOn, settle, isAdvertise}
+use Rattle.model.specs.Settling.{Scene, decideOwns, remain, sourceOf, isSource, streamClass, registered, first, clear, outcomeColumn, steps, claim, claims, reservedA, limitOn, leftFor, byBandwidth, columnOf, latencyOut, passed, mergeAll, merged, decideAt, decide, totalOn, totalsOn, settle, isAdvertise, sceneOf, Inbound, inboundsOf}
 use Rattle.model.proofs.Lists.{all-map, all-both}
 use Rattle.model.proofs.Valid.{Rising}
 use Rattle.model.proofs.Admission.{Obeys, Rule, unique, subtracted, total-is-sum, all-above, taken-same}
-use Rattle.model.proofs.ColumnRule.{spent, spentIn, limitBy, leftBy, ruled, Small, claims-distinct, advertised, same-class, Agrees, spent-above, spent-all, columnAt, totalAt, SettledStream, Settled, Carried, Pairwise, Advanced, Shown, carried-column, carried-total, spent-same, total-ruled, advanced, at-place, tabulate-same, remain-all, remain-rising}
+use Rattle.model.proofs.ColumnRule.{spent, spentIn, limitBy, leftBy, ruled, Small, claims-distinct, advertised, same-class, Agrees, spent-above, spent-all, columnAt, totalAt, SettledStream, Settled, Carried, Pairwise, Advanced, Shown, carried-column, carried-total, spent-same, total-ruled, advanced, at-place, tabulate-same, remain-all, remain-rising, carried-inbound}
 
 -- what holds of the claim of every stream that reaches step h holds of every claim
 module _ (sc : Scene) (now p : ℕ) (c : Class) where
@@ -169,12 +169,17 @@ abbrev bridge : Scene → ℕ → List Totals → List Stream → Bridge
 bridge sc now ts t = record { settings = sc .settings; clock = now; totals = ts; own = sc .own; streams = t }
 
 module _ (sc : Scene) (now : ℕ) (ts : List Totals) (s t : List Stream) (r : Rising (ids s)) (small : All Small (ids s))
-    (carried : Pairwise (Carried now) s t) (settled : Settled (bridge sc now ts t)) where
+    (carried : Pairwise (Carried now) s t) (inbound : sc .inbound ≡ inboundsOf s) (settled : Settled (bridge sc now ts t)) where
   rises : Rising (ids t)
   rises = rw (carried-ids now s t carried) r
 
   fit : All Small (ids t)
   fit = rw (carried-ids now s t carried) small
+
+  same-rule : (p : ℕ) (y : Stream) → ruled (sceneOf (bridge sc now ts t)) now t p (columnAt p) y ≡ ruled sc now t p (columnAt p) y
+  same-rule p y =
+      ap (λ (l : List Inbound). ruled record { settings = sc .settings; own = sc .own; inbound = l } now t p (columnAt p) y)
+      (carried-inbound now s t carried ∙ sym inbound)
 
   module _ (p : ℕ) (here : p < 8) where
     shown : All (Shown sc p) t
@@ -185,7 +190,7 @@ module _ (sc : Scene) (now : ℕ) (ts : List Totals) (s t : List Stream) (r : Ri
         one y k = record {
           demand = claim (sc .settings) now p y .demand;
           left = leftBy sc now t p (columnAt p) y;
-          column = k .shows p here .column;
+          column = k .shows p here .column ∙ same-rule p y;
           entry = k .shows p here .entry;
         }
 
@@ -193,7 +198,7 @@ module _ (sc : Scene) (now : ℕ) (ts : List Totals) (s t : List Stream) (r : Ri
     solved =
         unique-columns sc now t p rises fit (columnAt p)
         (all-map (SettledStream (bridge sc now ts t)) (λ y. columnAt p y ≡ ruled sc now t p (columnAt p) y)
-        (λ y k. k .shows p here .column) t (settled .streams))
+        (λ y k. k .shows p here .column ∙ same-rule p y) t (settled .streams))
 
     total-solved : (c : Class) → totalAt (bridge sc now ts t) p c ≡ totalOn sc now s p c
     total-solved c =
@@ -270,8 +275,8 @@ pub one-bridge : (now : ℕ) (b c : Bridge) → Rising (ids (b .streams)) → Al
 unfolding settle
 one-bridge now b c r small advanced =
     let st = b .settings in
-    let sc : Scene = record { settings = st; own = decideOwns st now (b .own) } in
     let s = remain st now (b .streams) in
+    let sc : Scene = record { settings = st; own = decideOwns st now (b .own); inbound = inboundsOf s } in
     let remaining : Rising (ids s) = remain-rising st now (b .streams) r in
     let few : All Small (ids s) = remain-all st now Small (b .streams) small in
     let settled : Settled (bridge sc now (c .totals) (c .streams)) =
@@ -280,8 +285,8 @@ one-bridge now b c r small advanced =
       advanced .settings,
       advanced .clock,
       advanced .own,
-      totals-solved sc now (c .totals) s (c .streams) remaining few (advanced .streams) settled,
-      streams-solved sc now (c .totals) s (c .streams) remaining few (advanced .streams) settled,
+      totals-solved sc now (c .totals) s (c .streams) remaining few (advanced .streams) refl settled,
+      streams-solved sc now (c .totals) s (c .streams) remaining few (advanced .streams) refl settled,
     )
 
 -- The rules of settling have exactly one solution, and advance leaves it.

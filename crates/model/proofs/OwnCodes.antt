@@ -1,13 +1,13 @@
 -- Own failures: a step that gives an own code decides a column exactly where it applies and none before it does.
 use mathlib.Core.Path.{_≡_, refl, sym, ap, _∙_}
-use mathlib.Core.List.{List, [], _∷_}
+use mathlib.Core.List.{List, [], _∷_, _++_}
 use mathlib.Core.Bool.{Bool, true, false, cond, not, _&&_, true≢false, false≢true}
 use Prim.Native.Nat.{ℕ, _≤_}
 use native.Mathlib.Omega.{arith}
 use lib.Dec.{eqb, ltb}
 use borrow.Author.Tests.{eqb-true, eq-eqb}
 use Rattle.model.specs.State.{Settings, Health, sound, broken, Column, advertise, failed, Cell, Stream, isPort}
-use Rattle.model.specs.Settling.{Source, sourceOf, healthOf, Scene, Outcome, columnNone, asRegistered, ownFailure, Step, first, clear, isBroken, brokenColumn, outcomeColumn, stepsFrom, steps, claim, leftFor, byBandwidth, columnOf}
+use Rattle.model.specs.Settling.{Source, sourceOf, healthOf, Scene, Outcome, columnNone, asRegistered, ownFailure, Step, first, clear, isBroken, brokenColumn, outcomeColumn, Inbound, stepsFrom, lastSteps, steps, claim, leftFor, byBandwidth, columnOf}
 use Rattle.model.specs.Table.{columnCode}
 
 -- whether an outcome is the own failure of code n
@@ -84,9 +84,9 @@ module _ (says : Outcome → Column) (n : ℕ) (c : Column) where
 
 -- Of a stream on a port. A code above 1: 0 is none, and 1 is that of bandwidth.
 
--- the steps by the cell here and the Talker's place, if there is one
-abbrev pub stepsOf : Scene → ℕ → Cell → Source → List Step
-stepsOf sc p here o = record { test = not (isPort (sc .settings) p); outcome = columnNone } ∷ stepsFrom sc p here o
+-- the steps by the cell here, what comes in, and the Talker's place, if there is one
+abbrev pub stepsOf : Scene → ℕ → Cell → Inbound → Source → List Step
+stepsOf sc p here i o = record { test = not (isPort (sc .settings) p); outcome = columnNone } ∷ (stepsFrom sc p here o ++ lastSteps sc p i)
 
 sound-code : (st : Settings) (o : Source) (n : ℕ) → 2 ≤ n → isBroken (healthOf o) ≡ false
     → (w : Outcome) → columnCode (outcomeColumn st o w) ≡ n → gives n w ≡ true

@@ -13,7 +13,7 @@ use Rattle.octets.specs.Be.{beAt}
 use Rattle.octets.specs.Fields.{fields, packed, Fit, width, flat}
 use Rattle.octets.specs.Parts.{part}
 use Rattle.octets.proofs.Fields.{length-packed-any, length-flat, fields-packed, fields-of-packed, packed-fields, fields-fit, beAt-fits}
-use Rattle.model.specs.Layout.{domainVlanPlace, headSize, headWidths, inPort, portPlace, portSize, portsPlace, portsUnit, portWidths, priorityAUnit, priorityBUnit, settingsSize, wordPlace}
+use Rattle.model.specs.Layout.{domainVlanPlace, fanInPlace, headSize, headWidths, inPort, portPlace, portSize, portsPlace, portsUnit, portWidths, priorityAUnit, priorityBUnit, settingsSize, wordPlace}
 use Rattle.model.specs.Lists.{All, allTrue, bit, Octets}
 use Rattle.model.specs.State.{Port, Settings, classB, bothLimits, inForce}
 use Rattle.model.specs.Table.{portNumbers, portFrom, portOctets, toPort, headWord, headNumbers, settingsOctets, portsField, toSettings, portRule, everyPart, settingsRules, settingsFormed}
@@ -157,7 +157,7 @@ settings-length st =
 module _ (st : Settings) (v : FitSettings st) where
   head-fit : Fit headWidths (headNumbers st)
   unfolding Fit headNumbers headWord
-  head-fit = v .bridgeId also omega arith also v .vlan also tt
+  head-fit = v .bridgeId also omega arith also v .vlan also v .fanIn also tt
 
   module _ (rest : List ℕ) where
     head-read : fields headWidths 0 (settingsOctets st ++ rest) ≡ headNumbers st
@@ -191,6 +191,10 @@ module _ (st : Settings) (v : FitSettings st) where
     unfolding fields headNumbers
     vlan-read = ap (λ (vs : List ℕ). getD vs 2 0) head-read
 
+    pub fan-in-read : beAt 1 (settingsOctets st ++ rest) fanInPlace ≡ st .fanIn
+    unfolding fields headNumbers
+    fan-in-read = ap (λ (vs : List ℕ). getD vs 3 0) head-read
+
     pub behind-head : drop portsPlace (settingsOctets st ++ rest) ≡ flat portOctets (st .ports) ++ rest
     behind-head = rw (head-split st rest) (drop-at (head st) (flat portOctets (st .ports) ++ rest) portsPlace (head-length st))
 
@@ -200,7 +204,7 @@ module _ (st : Settings) (v : FitSettings st) where
         let ps =
         parts-flat portSize portOctets toPort (st .ports) rest (ports-sized (st .ports))
         (all-map (λ q. Fit portWidths (portNumbers q)) (λ q. toPort (portOctets q) ≡ q) port-back (st .ports) (v .ports)) in
-        rw (ports-read, behind-head, id-read, priority-a-read, priority-b-read, leave-read, vlan-read, ps)
+        rw (ports-read, behind-head, id-read, priority-a-read, priority-b-read, leave-read, vlan-read, fan-in-read, ps)
 
 pub settings-fit : (st : Settings) → ValidSettings st → FitSettings st
 settings-fit st v = record {
@@ -209,6 +213,7 @@ settings-fit st v = record {
   priorityB = v .priorityB;
   leaveTime = v .leaveTime;
   vlan = omega (arith, v .vlan);
+  fanIn = omega (arith, v .fanIn);
   eight-ports = v .eight-ports;
   ports = all-map ValidPort (λ q. Fit portWidths (portNumbers q)) port-fit (st .ports) (v .ports);
 }
@@ -224,9 +229,9 @@ module _ (st : Settings) (v : ValidSettings st) (rest : List ℕ) where
       (all-map (λ q. Fit portWidths (portNumbers q)) (λ q. portRule (portOctets q) ≡ true) port-formed (st .ports) (w .ports)) in
       let d = ne-eqb (st .priorityA) (st .priorityB) (v .different) in
       true-all (settingsRules (settingsOctets st ++ rest))
-      (rw (ports-read st w rest, behind-head st w rest, priority-a-read st w rest, priority-b-read st w rest, leave-read st w rest, vlan-read st w rest, d)
+      (rw (ports-read st w rest, behind-head st w rest, priority-a-read st w rest, priority-b-read st w rest, leave-read st w rest, vlan-read st w rest, fan-in-read st w rest, d)
       (le-leb 1 n (v .some-port) also le-leb n 8 (v .eight-ports) also refl also le-leb 1 (st .leaveTime) (v .leaves) also ps
-      also le-leb 1 (st .vlan) (v .some-vlan) also le-leb (st .vlan) 4094 (v .vlan) also tt))
+      also le-leb 1 (st .vlan) (v .some-vlan) also le-leb (st .vlan) 4094 (v .vlan) also le-leb (st .fanIn) 8 (v .fanIn) also tt))
 
 -- Octets that keep the rules are those of the settings that they are read as.
 
@@ -275,6 +280,10 @@ module _ (s : List ℕ) (r : allTrue (settingsRules s) ≡ true) where
   unfolding settingsRules
   vlan-few = leb-true (beAt 2 s domainVlanPlace) 4094 (rules .1 .1 .1 .1 .1 .1 .0)
 
+  fan-in-few : beAt 1 s fanInPlace ≤ 8
+  unfolding settingsRules
+  fan-in-few = leb-true (beAt 1 s fanInPlace) 8 (rules .1 .1 .1 .1 .1 .1 .1 .0)
+
 pub settings-ports : (s : List ℕ) → length (toSettings s .ports) ≡ portsField s
 unfolding toSettings
 settings-ports s = length-parts portSize toPort (portsField s) (drop portsPlace s)
@@ -304,6 +313,7 @@ module _ (s : List ℕ) (o : Octets s) (h : portPlace (portsField s) ≤ length 
         leaveTime = omega arith;
         some-vlan = some-vlan s r;
         vlan = vlan-few s r;
+        fanIn = fan-in-few s r;
         some-port = omega (arith, settings-ports s, some-ports s r);
         eight-ports = omega (arith, settings-ports s, eight-ports s r);
         ports = every-read portSize portRule toPort ValidPort port-valid (portsField s) (drop portsPlace s) ports-room (octets-drop portsPlace s o) (port-rules s r);
@@ -313,7 +323,7 @@ module _ (s : List ℕ) (o : Octets s) (h : portPlace (portsField s) ≤ length 
 pub settings-room : (s : List ℕ) → length s ≡ settingsSize → allTrue (settingsRules s) ≡ true → portPlace (portsField s) ≤ length s
 settings-room s l r = omega (arith, eight-ports s r)
 
--- Settings as they are handed to start: "Length 13 + 22 x ports".
+-- Settings as they are handed to start: "Length 14 + 22 x ports".
 
 module _ (s : List ℕ) (f : settingsFormed s ≡ true) where
   pub formed-length : length s ≡ portPlace (portsField s)

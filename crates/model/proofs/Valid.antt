@@ -29,6 +29,7 @@ pub record ValidSettings (st : Settings) : Type 0 where
   pub leaveTime : st .leaveTime < priorityBUnit
   pub some-vlan : 1 ≤ st .vlan
   pub vlan : st .vlan ≤ 4094
+  pub fanIn : st .fanIn ≤ 8
   pub some-port : 1 ≤ length (st .ports)
   pub eight-ports : length (st .ports) ≤ 8
   pub ports : All ValidPort (st .ports)

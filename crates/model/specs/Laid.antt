@@ -43,6 +43,7 @@ pub record FitSettings (st : Settings) : Type 0 where
   pub priorityB : st .priorityB < 8
   pub leaveTime : st .leaveTime < priorityBUnit
   pub vlan : st .vlan < 2 ^ 16
+  pub fanIn : st .fanIn < 256
   pub eight-ports : length (st .ports) ≤ 8
   pub ports : All (λ q. Fit portWidths (portNumbers q)) (st .ports)
 

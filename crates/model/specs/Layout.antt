@@ -15,9 +15,10 @@ before (suc i) (w ∷ ws) = w + before i ws
 
 -- Widths of fields, in octets.
 
--- settings: Bridge ID; one word of ports 4 bits, class priorities 3 and 3, leave time 14; the VLAN of the Domain values declared
+-- settings: Bridge ID; one word of ports 4 bits, class priorities 3 and 3, leave time 14; the VLAN of the Domain values declared;
+-- msrpMaxFanInPorts
 abbrev pub headWidths : List ℕ
-headWidths = 8 ∷ 3 ∷ 2 ∷ []
+headWidths = 8 ∷ 3 ∷ 2 ∷ 1 ∷ []
 
 -- a port's settings: flags (supports A, supports B, sends twice, five zeros), overhead, largest frame, limits, latencies
 abbrev pub portWidths : List ℕ
@@ -138,12 +139,15 @@ recordsSize = 64 * recordSize
 
 -- Places in the table.
 
--- the word of ports, class priorities and leave time; the Domain values' VLAN; the settings of the ports
+-- the word of ports, class priorities and leave time; the Domain values' VLAN; msrpMaxFanInPorts; the settings of the ports
 abbrev pub wordPlace : ℕ
 wordPlace = before 1 headWidths
 
 abbrev pub domainVlanPlace : ℕ
 domainVlanPlace = before 2 headWidths
+
+abbrev pub fanInPlace : ℕ
+fanInPlace = before 3 headWidths
 
 abbrev pub portsPlace : ℕ
 portsPlace = headSize

@@ -1,7 +1,7 @@
 -- Lists, as the definitions of the bridge use them.
 use mathlib.Core.List.{List, [], _∷_}
 use mathlib.Core.Bool.{Bool, true, false, cond, _&&_}
-use Prim.Native.Nat.{ℕ, zero, suc, _<_}
+use Prim.Native.Nat.{ℕ, zero, suc, _+_, _<_}
 use lib.ListN.{take, drop}
 use lib.Dec.{eqb}
 
@@ -51,6 +51,11 @@ Octets s = All Octet s
 unfoldable pub bit : Bool → ℕ
 bit true = 1
 bit false = 0
+
+-- how many numbers below n pass a test
+unfoldable pub countTo : (ℕ → Bool) → ℕ → ℕ
+countTo f zero = 0
+countTo f (suc n) = countTo f n + bit (f n)
 
 unfoldable pub isOne : ℕ → Bool
 isOne k = eqb k 1

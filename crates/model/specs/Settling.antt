@@ -1,10 +1,10 @@
 -- Settling: what advance decides (01, "Settling"; 35.2.4).
-use mathlib.Core.List.{List, [], _∷_, map}
+use mathlib.Core.List.{List, [], _∷_, _++_, map}
 use mathlib.Core.Bool.{Bool, true, false, cond, not, _&&_, _||_}
 use Prim.Native.Nat.{ℕ, suc, _+_, _/_}
 use lib.ListN.{take, drop}
 use lib.Dec.{ltb, leb, eqb}
-use Rattle.model.specs.Lists.{keep, tabulate}
+use Rattle.model.specs.Lists.{keep, tabulate, countTo}
 use Rattle.model.specs.State.{Port, Settings, Leaving, stays, since, Fixed, Health, sound, broken, Registration, Talker, noTalker, talker, Ready, askingFailed, ready, readyFailed, Listener, noListener, listener, Cell, Domain, noDomain, domain, Own, Column, none, advertise, failed, Entry, noEntry, filters, forwards, Declared, nothing, tells, Result, Stream, Totals, Bridge, noFixed, portAt, isPort, cellAt, resultAt, ownAt, Class, noClass, classA, classB, classOf, isNoClass, sameClass, supports, inForce, classLatency, classPriority}
 use Rattle.model.specs.Registrations.{Answer}
 use Rattle.model.specs.WrittenFrames.{readyNumber}
@@ -155,14 +155,58 @@ boundary o noClass = false
 boundary o classA = o .boundaryA
 boundary o classB = o .boundaryB
 
--- What the columns of all streams are decided by, beside the streams: the settings, and what the ports hold by themselves.
+-- What the other streams' columns ask of a stream: its StreamID, and its Talker port with what is registered there.
+pub record Inbound : Type 0 where
+  pub id : ℕ
+  pub source : Source
+
+unfoldable pub inboundOf : Stream → Inbound
+inboundOf x = record { id = x .id; source = sourceOf x }
+
+unfoldable pub inboundsOf : List Stream → List Inbound
+inboundsOf s = map inboundOf s
+
+-- Inbound ports (02, x; msrpMaxFanInPorts): "such a port is one that is t for some stream"
+unfoldable pub isInbound : List Inbound → ℕ → Bool
+isInbound [] p = false
+isInbound (i ∷ l) p = isSource (i .source) p || isInbound l p
+
+-- "the number of ports with an inbound Talker among those numbered below it"
+unfoldable pub inboundBelow : List Inbound → ℕ → ℕ
+inboundBelow l p = countTo (isInbound l) p
+
+-- "A port may bring streams in if .. is less than the limit"; "0 means no limit"
+unfoldable pub mayBring : ℕ → List Inbound → ℕ → Bool
+mayBring limit l p = eqb limit 0 || ltb (inboundBelow l p) limit
+
+-- the stream comes in on another port
+unfoldable pub isKeptOut : ℕ → List Inbound → Source → Bool
+isKeptOut limit l nowhere = false
+isKeptOut limit l (from o) = not (mayBring limit l (o .port))
+
+-- Shared addresses (02, x): "a stream whose destination and VLAN at its t equal those of a lower StreamID at that one's t"
+unfoldable pub sameAddress : Fixed → Fixed → Bool
+sameAddress f g = eqb (f .destination) (g .destination) && eqb (f .vlan) (g .vlan)
+
+unfoldable pub sameAddressAt : Source → Source → Bool
+sameAddressAt nowhere t = false
+sameAddressAt (from o) nowhere = false
+sameAddressAt (from o) (from q) = sameAddress (o .registration .fixed) (q .registration .fixed)
+
+unfoldable pub shares : List Inbound → Inbound → Bool
+shares [] i = false
+shares (j ∷ l) i = (ltb (j .id) (i .id) && sameAddressAt (j .source) (i .source)) || shares l i
+
+-- What the columns of all streams are decided by, beside the streams: the settings, what the ports hold by themselves, and what
+-- comes in.
 pub record Scene : Type 0 where
   pub settings : Settings
   pub own : List Own
+  pub inbound : List Inbound
 
 -- of a bridge as it stands
 abbrev pub sceneOf : Bridge → Scene
-sceneOf b = record { settings = b .settings; own = b .own }
+sceneOf b = record { settings = b .settings; own = b .own; inbound = inboundsOf (b .streams) }
 
 -- The column: "first that applies".
 
@@ -198,7 +242,7 @@ outcomeColumn st s columnNone = none
 outcomeColumn st s asRegistered = brokenColumn (healthOf s)
 outcomeColumn st s (ownFailure code) = failed (st .bridgeId) code
 
--- steps a to g, j and k on the port at place p; 02, v: "While the present one is larger, an Advertise is declared Failed with code 7"
+-- steps a to f, j and k on the port at place p; 02, v: "While the present one is larger, an Advertise is declared Failed with code 7"
 unfoldable pub stepsFrom : Scene → ℕ → Cell → Source → List Step
 stepsFrom sc p here nowhere = record { test = true; outcome = columnNone } ∷ []
 stepsFrom sc p here (from o) =
@@ -213,12 +257,21 @@ stepsFrom sc p here (from o) =
     ∷ record { test = isTalking here; outcome = ownFailure 4 }
     ∷ record { test = isNoClass c; outcome = ownFailure 13 }
     ∷ record { test = boundary (ownAt (sc .own) p) c; outcome = ownFailure 8 }
-    ∷ record { test = ltb (portAt st p .largest) (r .fixed .size); outcome = ownFailure 14 }
+    ∷ []
+
+-- behind them "Test 5, then 15", and g
+unfoldable pub lastSteps : Scene → ℕ → Inbound → List Step
+lastSteps sc p i =
+    record { test = shares (sc .inbound) i; outcome = ownFailure 5 }
+    ∷ record { test = isKeptOut (sc .settings .fanIn) (sc .inbound) (i .source); outcome = ownFailure 15 }
+    ∷ record { test = ltb (portAt (sc .settings) p .largest) (fixedOf (i .source) .size); outcome = ownFailure 14 }
     ∷ []
 
 -- a place that is no port of this bridge has column none
 unfoldable pub steps : Scene → ℕ → Stream → List Step
-steps sc p x = record { test = not (isPort (sc .settings) p); outcome = columnNone } ∷ stepsFrom sc p (cellAt x p) (sourceOf x)
+steps sc p x =
+    record { test = not (isPort (sc .settings) p); outcome = columnNone }
+    ∷ (stepsFrom sc p (cellAt x p) (sourceOf x) ++ lastSteps sc p (inboundOf x))
 
 -- "Age is counted from the whole second, clock / 100 rounded down, of the advance that first made an entry"; "An entry made
 -- by this advance counts from this advance in the order above"
@@ -349,7 +402,7 @@ unfoldable pub settle : ℕ → Bridge → Bridge
 settle now b =
     let st = b .settings in
     let s = remain st now (b .streams) in
-    let sc : Scene = record { settings = st; own = decideOwns st now (b .own) } in
+    let sc : Scene = record { settings = st; own = decideOwns st now (b .own); inbound = inboundsOf s } in
     record {
       settings = st;
       clock = now;

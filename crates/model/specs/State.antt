@@ -25,6 +25,7 @@ pub record Settings : Type 0 where
   pub priorityB : ℕ
   pub leaveTime : ℕ
   pub vlan : ℕ
+  pub fanIn : ℕ
   pub ports : List Port
 
 -- Registrations (01, "Registering"; 35.2.2.8).

@@ -9,14 +9,15 @@ use lib.Dec.{ltb, leb, eqb}
 use Rattle.octets.specs.Be.{beAt}
 use Rattle.octets.specs.Parts.{part, zeros}
 use Rattle.octets.specs.Fields.{fields, packed, flat}
-use Rattle.model.specs.Layout.{ageField, boundaryBPlace, boundaryPlace, boundaryWidths, bridgeField, cellFields, cellSize, cellWidths, cellsPlace, cellsSize, changedField, clockPlace, clockWidths, codeField, columnField, countPlace, declaredField, domainVlanPlace, entryField, failureCodeField, failureField, firstLatencyField, fixedField, headWidths, heldField, latencyField, latencyOutField, listenerField, listenerLeavesField, listenerPlace, listenerSinceField, nameWidths, ownSize, ownsPlace, ownsSize, portPlace, portSize, portWidths, portsPlace, portsUnit, priorityAUnit, priorityBUnit, priorityField, recordSize, recordsPlace, resultSize, resultWidths, resultsPlace, resultsSize, settingsSize, settledPriorityPlace, slotLeavesField, slotSinceField, slotSize, slotVlanField, slotWidths, slots, slotsSize, tableLength, talkerField, talkerLeavesField, talkerSinceField, totalBPlace, totalSize, totalsPlace, totalsSize, totalsWidths, wordPlace}
+use Rattle.model.specs.Layout.{ageField, boundaryBPlace, boundaryPlace, boundaryWidths, bridgeField, cellFields, cellSize, cellWidths, cellsPlace, cellsSize, changedField, clockPlace, clockWidths, codeField, columnField, countPlace, declaredField, domainVlanPlace, entryField, failureCodeField, failureField, firstLatencyField, fixedField, headWidths, heldField, latencyField, latencyOutField, listenerField, listenerLeavesField, listenerPlace, listenerSinceField, nameWidths, ownSize, ownsPlace, ownsSize, portPlace, portSize, portWidths, portsPlace, portsUnit, priorityAUnit, priorityBUnit, priorityField, recordSize, recordsPlace, resultSize, resultWidths, resultsPlace, resultsSize, settingsSize, settledPriorityPlace, slotLeavesField, slotSinceField, slotSize, slotVlanField, slotWidths, slots, slotsSize, tableLength, talkerField, talkerLeavesField, talkerSinceField, totalBPlace, totalSize, totalsPlace, totalsSize, totalsWidths, wordPlace, fanInPlace}
 use Rattle.model.specs.Lists.{allTrue, implies, parts, bit, isOne}
 use Rattle.model.specs.State.{Port, Settings, Leaving, stays, since, Fixed, Health, sound, broken, Registration, Talker, noTalker, talker, Domain, noDomain, domain, Own, Ready, askingFailed, ready, readyFailed, Listener, noListener, listener, Cell, Column, none, advertise, failed, Entry, noEntry, filters, forwards, Declared, nothing, tells, Result, Stream, Totals, Bridge, classB, inForce}
 use Rattle.model.specs.Settling.{isTalking, isHearing}
 use Rattle.model.specs.Frames.{priorityOf, rankOf}
 use Rattle.model.specs.WrittenFrames.{fixedNumbers, readyNumber}
 
--- Settings: Bridge ID; one field of ports 4 bits, class priorities 3 and 3, leave time 14; the Domain values' VLAN; then each port.
+-- Settings: Bridge ID; one field of ports 4 bits, class priorities 3 and 3, leave time 14; the Domain values' VLAN;
+-- msrpMaxFanInPorts; then each port.
 
 unfoldable pub portNumbers : Port → List ℕ
 portNumbers q =
@@ -46,7 +47,7 @@ unfoldable pub headWord : Settings → ℕ
 headWord st = ((length (st .ports) * 8 + st .priorityA) * 8 + st .priorityB) * priorityBUnit + st .leaveTime
 
 unfoldable pub headNumbers : Settings → List ℕ
-headNumbers st = st .bridgeId ∷ headWord st ∷ st .vlan ∷ []
+headNumbers st = st .bridgeId ∷ headWord st ∷ st .vlan ∷ st .fanIn ∷ []
 
 -- as they are handed to start
 unfoldable pub settingsOctets : Settings → List ℕ
@@ -62,6 +63,7 @@ toSettings s = record {
   priorityB = beAt 3 s wordPlace / priorityBUnit % 8;
   leaveTime = beAt 3 s wordPlace % priorityBUnit;
   vlan = beAt 2 s domainVlanPlace;
+  fanIn = beAt 1 s fanInPlace;
   ports = parts portSize toPort (portsField s) (drop portsPlace s);
 }
 
@@ -83,10 +85,11 @@ settingsRules s =
     ∷ everyPart portSize portRule (portsField s) (drop portsPlace s)  -- 5
     ∷ leb 1 (beAt 2 s domainVlanPlace)  -- 30
     ∷ leb (beAt 2 s domainVlanPlace) 4094  -- 30
+    ∷ leb (beAt 1 s fanInPlace) 8  -- 36
     ∷ []
 
--- 11: settings "Length 13 + 22 x ports", and as laid out; 02: "11 where the VLAN setting is 0 or 4,095, or one of the upper four
--- bits is set"
+-- 11: settings "Length 14 + 22 x ports", and as laid out; 02: "11 where the VLAN setting is 0 or 4,095, or one of the upper four
+-- bits is set"; "11 for a limit above 8"
 unfoldable pub settingsFormed : List ℕ → Bool
 settingsFormed s = eqb (length s) (portPlace (portsField s)) && allTrue (settingsRules s)
 

@@ -7,7 +7,7 @@ use native.Mathlib.Omega.{arith}
 use lib.ListN.{length}
 use Rattle.model.specs.Lists.{tabulate}
 use Rattle.model.specs.State.{nothing, Result, Stream, Bridge, unsettled, cellAt, resultAt}
-use Rattle.model.specs.Settling.{Scene, sourceOf, isSource, registered, columnOf, passed, mergeAll, merged, decideAt, decide, decideOwns, remain, totalsOn, settle}
+use Rattle.model.specs.Settling.{Scene, inboundsOf, sourceOf, isSource, registered, columnOf, passed, mergeAll, merged, decideAt, decide, decideOwns, remain, totalsOn, settle}
 use Rattle.model.specs.Registrations.{holding, owning}
 use Rattle.model.proofs.ColumnRule.{at-place, tabulate-same}
 use Rattle.columns.specs.Stages.{shownAs, earlyAll, admissions, mergedShown, declaring, mergedAt, merging}
@@ -80,7 +80,7 @@ unfolding settle holding owning earlyAll
 stages-settle now b h =
     let st = b .settings in
     let s = remain st now (b .streams) in
-    let sc : Scene = record { settings = st; own = decideOwns st now (b .own) } in
+    let sc : Scene = record { settings = st; own = decideOwns st now (b .own); inbound = inboundsOf s } in
     ap merging-all (admissions-decide sc now s now h)
     ∙ ap (λ (l : List Stream). record { settings = st; clock = now; totals = tabulate 8 0 (totalsOn sc now s); own = sc .own; streams = l })
     (decided-all sc now s s)

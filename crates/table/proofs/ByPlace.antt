@@ -1,10 +1,10 @@
 -- The parts of a laid-out table by the place k of a stream and the place p of a port. Of each: what is read there, what the table
 -- is once it is replaced, and that the table stays laid out; and the same as a call sees it and leaves it.
-use Prim.Native.Nat.{ℕ, _+_, _-_, _<_, _≤_}
+use Prim.Native.Nat.{ℕ, zero, suc, _+_, _-_, _<_, _≤_}
 use native.Mathlib.Omega.{arith}
 use mathlib.Core.Path.{_≡_, refl, sym, ap, _∙_}
-use mathlib.Core.List.{List, [], _++_}
-use lib.ListN.{length, set, take, drop, length-set}
+use mathlib.Core.List.{List, [], _∷_, _++_}
+use lib.ListN.{length, getD, set, take, drop, length-set}
 use lib.Seq.{getD-set-same, set-getD, set-set}
 use Rattle.octets.specs.Parts.{part, patch}
 use Rattle.octets.specs.Fields.{Fit}
@@ -15,7 +15,7 @@ use Rattle.octets.proofs.Patches.{lent-patch, patch-within}
 use Rattle.model.specs.Layout.{cellIn, cellPlace, cellSize, fixedSize, fixedWidths, portPlace, portSize, recordPlace, recordSize, resultIn, resultPlace, resultSize, settledOf, settledPlace, totalPlace, totalSize}
 use Rattle.model.specs.State.{Fixed, Cell, Result, Stream, Totals, Bridge, portAt, cellAt, resultAt, noTotals, fresh}
 use Rattle.model.specs.Registrations.{at, change, holding}
-use Rattle.model.specs.Settling.{sceneOf}
+use Rattle.model.specs.Settling.{sceneOf, Inbound, inboundOf, inboundsOf, sourceOf}
 use Rattle.model.specs.WrittenFrames.{fixedNumbers}
 use Rattle.model.specs.Table.{portOctets, toPort, fixedFrom, cellOctets, toCell, resultOctets, toResult, streamOctets, totalsOctets, toTotals, encode, decode}
 use Rattle.model.specs.Laid.{FitCell, FitResult, FitStream, FitTotals, FitBridge, Laid}
@@ -33,6 +33,18 @@ use Rattle.table.proofs.Header.{table-length, laid-few, port-fits, port
 use Rattle.table.proofs.Records.{record-part, record-patch}
 use Rattle.table.proofs.StreamParts.{fixed-length, settled-part, settled-patch, cell-part, cell-patch, cell-fits, result-part, result-patch, result-fits}
 use Rattle.table.proofs.Fitting.{set-fits}
+
+-- Streams with one StreamID and the same cells come in alike, and so does what a stream is replaced by.
+
+pub inbound-same : (x y : Stream) → x .id ≡ y .id → x .cells ≡ y .cells → inboundOf x ≡ inboundOf y
+unfolding inboundOf sourceOf
+inbound-same x y i c = rw (i, c)
+
+inbound-set : (s : List Stream) (k : ℕ) (x : Stream) → inboundOf x ≡ inboundOf (getD s k (fresh 0)) → inboundsOf (set s k x) ≡ inboundsOf s
+unfolding inboundsOf
+inbound-set [] k x e = refl
+inbound-set (y ∷ s) zero x e = rw e
+inbound-set (y ∷ s) (suc k) x e = ap (λ (l : List Inbound). inboundOf y ∷ l) (inbound-set s k x e)
 
 -- Octets that encode a bridge whose numbers fit are laid out, and read as that bridge.
 
@@ -93,9 +105,12 @@ module _ {t : List ℕ} {k : ℕ} (s : Stands t k) where
       unfolding holding
       stream-replaced-settings = ap (λ (b : Bridge). b .settings) stream-replaced-read
 
-      pub stream-replaced-scene : sceneOf (decode u) ≡ sceneOf (decode t)
+      pub stream-replaced-scene : x .cells ≡ streamAt k (decode t) .cells → sceneOf (decode u) ≡ sceneOf (decode t)
       unfolding holding
-      stream-replaced-scene = ap sceneOf stream-replaced-read
+      stream-replaced-scene c =
+          ap sceneOf stream-replaced-read
+          ∙ ap (λ (l : List Inbound). record { settings = decode t .settings; own = decode t .own; inbound = l })
+          (inbound-set (decode t .streams) k x (inbound-same x (streamAt k (decode t)) i c))
 
       pub stream-replaced-again : (y : Stream) (v : List ℕ) → v ≡ encode (withStream k y (decode u)) → v ≡ encode (withStream k y (decode t))
       unfolding holding

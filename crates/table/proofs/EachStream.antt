@@ -9,14 +9,14 @@ use lib.ListN.{length, getD, set}
 use Rattle.model.specs.Lists.{All}
 use Rattle.model.specs.State.{Cell, Stream, Bridge, fresh}
 use Rattle.model.specs.Registrations.{at, change, holding, ids}
-use Rattle.model.specs.Settling.{sceneOf}
+use Rattle.model.specs.Settling.{sceneOf, Inbound, inboundOf, inboundsOf}
 use Rattle.model.specs.Table.{encode, decode}
 use Rattle.model.specs.Laid.{FitCell, FitStream, FitBridge, Laid}
 use Rattle.model.proofs.Fits.{laid-is, laid-fits}
 use Rattle.table.specs.Updates.{streamAt, withStream}
 use Rattle.table.specs.Places.{Stands}
 use Rattle.table.proofs.Fitting.{holding-fits}
-use Rattle.table.proofs.ByPlace.{encoded-laid, encoded-read, stream-same, stream-replaced-stands, stream-replaced-at, stream-replaced-again}
+use Rattle.table.proofs.ByPlace.{inbound-same, encoded-laid, encoded-read, stream-same, stream-replaced-stands, stream-replaced-at, stream-replaced-again}
 
 -- The first k of a list changed.
 
@@ -45,6 +45,13 @@ module _ {A : Type 0} (g : A → A) where
   firsts-at zero (x ∷ l) = refl
   firsts-at (suc k) [] = refl
   firsts-at (suc k) (x ∷ l) = ap (λ (r : List A). g x ∷ r) (firsts-at k l)
+
+  pub firsts-before : (k : ℕ) (l : List A) (d : A) (j : ℕ) → j < k → j < length l → getD (firsts k l) j d ≡ g (getD l j d)
+  unfolding firsts
+  firsts-before zero l d j h n = absurd (omega arith)
+  firsts-before (suc k) [] d j h n = absurd (omega arith)
+  firsts-before (suc k) (x ∷ l) d zero h n = refl
+  firsts-before (suc k) (x ∷ l) d (suc j) h n = firsts-before k l d j (omega arith) (omega arith)
 
   pub firsts-all : (l : List A) → firsts (length l) l ≡ map g l
   unfolding firsts
@@ -90,6 +97,12 @@ module _ (g : Stream → Stream) where
     firsts-ids (suc k) [] = refl
     firsts-ids (suc k) (x ∷ s) = rw (same x, firsts-ids k s)
 
+    firsts-inbound : ((x : Stream) → g x .cells ≡ x .cells) → (k : ℕ) (s : List Stream) → inboundsOf (firsts g k s) ≡ inboundsOf s
+    unfolding firsts inboundsOf
+    firsts-inbound c zero s = refl
+    firsts-inbound c (suc k) [] = refl
+    firsts-inbound c (suc k) (x ∷ s) = rw (inbound-same (g x) x (same x) (c x)) (ap (λ (l : List Inbound). inboundOf x ∷ l) (firsts-inbound c k s))
+
     module _ (t₀ : List ℕ) (l : Laid t₀) (k : ℕ) (t : List ℕ) (e : t ≡ encode (partly t₀ k)) where
       partly-fits : FitBridge (partly t₀ k)
       unfolding partly
@@ -111,8 +124,17 @@ module _ (g : Stream → Stream) where
       pub partly-settings : decode t .settings ≡ decode t₀ .settings
       partly-settings = ap (λ (b : Bridge). b .settings) partly-read ∙ unfold partly holding in refl
 
-      pub partly-scene : sceneOf (decode t) ≡ sceneOf (decode t₀)
-      partly-scene = ap sceneOf partly-read ∙ unfold partly holding in refl
+      -- where the cells stay
+      pub partly-scene : ((x : Stream) → g x .cells ≡ x .cells) → sceneOf (decode t) ≡ sceneOf (decode t₀)
+      partly-scene c =
+          ap sceneOf partly-read
+          ∙ unfold partly holding in
+          ap (λ (i : List Inbound). record { settings = decode t₀ .settings; own = decode t₀ .own; inbound = i }) (firsts-inbound c k (decode t₀ .streams))
+
+      -- a stream that is done
+      pub partly-before : (j : ℕ) → j < k → k ≤ length (decode t₀ .streams) → streamAt j (decode t) ≡ g (streamAt j (decode t₀))
+      partly-before j h n =
+          ap (streamAt j) partly-read ∙ unfold partly holding in firsts-before g k (decode t₀ .streams) (fresh 0) j h (omega arith)
 
       pub partly-stands : k < length (decode t₀ .streams) → Stands t k
       partly-stands h = record { laid = partly-laid; held = omega (arith, partly-many) }

@@ -58,13 +58,15 @@ pub const RESULTS: usize = CELLS + 8 * CELL;
 
 pub const RECORD: usize = RESULTS + 8 * RESULT;
 
-// A table: behind the Bridge ID the field of the number of ports, class priorities and leave time, the VLAN of the Domain values, the
-// ports' settings, the clock, the number of streams, the totals, what the ports hold and the records.
+// A table: behind the Bridge ID the field of the number of ports, class priorities and leave time, the VLAN of the Domain values,
+// msrpMaxFanInPorts, the ports' settings, the clock, the number of streams, the totals, what the ports hold and the records.
 pub const HEAD: usize = 8;
 
 pub const VLAN: usize = HEAD + 3;
 
-pub const PORTS: usize = VLAN + 2;
+pub const FAN_IN: usize = VLAN + 2;
+
+pub const PORTS: usize = FAN_IN + 1;
 
 pub const CLOCK: usize = PORTS + 8 * PORT;
 
@@ -146,6 +148,14 @@ pub fn domain_vlan(table: &[u8]) -> u64
     ensures { λ r. ⌜ r ≡ decode (now (table .entry)) .settings .vlan ⌝ }
 {
     octets::get(table, VLAN, 2)
+}
+
+// msrpMaxFanInPorts: how many ports may bring streams in, or 0 for any number.
+pub fn fan_in(table: &[u8]) -> u64
+    requires { ⌜ Laid (now table) ⌝ }
+    ensures { λ r. ⌜ r ≡ decode (now (table .entry)) .settings .fanIn ⌝ }
+{
+    octets::get(table, FAN_IN, 1)
 }
 
 // The settings of the port at place p.

@@ -5,8 +5,8 @@
 /// Sizes in octets, ports and streams, as srp.h has them.
 pub const PORTS: usize = 8;
 pub const STREAMS: usize = 64;
-pub const TABLE: usize = 34922;
-pub const SETTINGS_HEAD: usize = 13;
+pub const TABLE: usize = 34923;
+pub const SETTINGS_HEAD: usize = 14;
 pub const SETTINGS_PORT: usize = 22;
 pub const PDU: usize = 1500;
 

@@ -7,6 +7,7 @@ const PORTS: Field = Field::plain("a number of ports", 4);
 const PRIORITY: Field = Field::plain("a priority", 3);
 const LEAVE_TIME: Field = Field::measured("a leave time", 14, Measure::Hundredths);
 const VLAN: Field = Field::plain("a VLAN", 12);
+const FAN_IN: Field = Field::plain("a limit of inbound ports", 8);
 const OVERHEAD: Field = Field::plain("an overhead", 8);
 const LARGEST: Field = Field::plain("a largest frame", 16);
 const LIMIT: Field = Field::measured("a limit", 40, Measure::BitsPerSecond);
@@ -26,6 +27,7 @@ pub fn bridge(words: &mut Words) -> Result<Settings, String> {
         priority: PerClass { a: 3, b: 2 },
         leave_time: 60,
         vlan: 2,
+        fan_in_limit: 0,
         ports: Vec::new(),
     };
     while let Some(word) = words.next() {
@@ -33,6 +35,7 @@ pub fn bridge(words: &mut Words) -> Result<Settings, String> {
             "priorities" => settings.priority = per_class(words, PRIORITY)?,
             "leave" => settings.leave_time = words.number(LEAVE_TIME)?,
             "vlan" => settings.vlan = words.number(VLAN)?,
+            "fanin" => settings.fan_in_limit = words.number(FAN_IN)?,
             _ => return Err(unknown(word)),
         }
     }

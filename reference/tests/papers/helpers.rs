@@ -34,6 +34,7 @@ pub fn settings(ports: usize) -> Settings {
         priority: PerClass { a: 3, b: 2 },
         leave_time: 60,
         vlan: 2,
+        fan_in_limit: 0,
         ports: vec![port(); ports],
     }
 }

@@ -6,6 +6,7 @@ mod examples;
 mod generated_inputs;
 mod growing_latency;
 mod helpers;
+mod inbound_ports;
 mod marked_examples;
 mod newer_versions;
 mod order_among_ports;

@@ -240,9 +240,26 @@ fn number_11_the_vlan_setting() {
     for vlan in [1, 2, 0x0800, 4_094] {
         assert_eq!(running().start(&with_vlan(vlan)), 0);
     }
-    // Settings of 11 + 22 x ports octets, without a VLAN.
+}
+
+#[test]
+fn number_11_the_limit_of_inbound_ports() {
+    for limit in 9..=255 {
+        let mut octets = settings::write(&settings(2));
+        octets[13] = limit;
+        start_refuses(&octets);
+    }
+}
+
+#[test]
+fn number_11_settings_of_earlier_lengths() {
     for ports in 1..=8 {
+        // Without the limit of inbound ports.
         let mut octets = settings::write(&settings(ports));
+        octets.remove(13);
+        assert_eq!(octets.len(), 13 + 22 * ports);
+        start_refuses(&octets);
+        // Nor with a VLAN.
         octets.drain(11..13);
         assert_eq!(octets.len(), 11 + 22 * ports);
         start_refuses(&octets);

@@ -116,6 +116,7 @@ fn settings_fields_stand_where_the_paper_says() {
     settings.priority = PerClass { a: 5, b: 6 };
     settings.leave_time = 0x2abc;
     settings.vlan = 0x0def;
+    settings.fan_in_limit = 5;
     settings.ports[0].supports = PerClass { a: false, b: true };
     settings.ports[0].sends_twice = true;
     settings.ports[0].overhead = 0x99;
@@ -123,7 +124,7 @@ fn settings_fields_stand_where_the_paper_says() {
     settings.ports[0].limit = PerClass { a: 0x01_0203_0405, b: 0xf1_f2f3_f4f5 };
     settings.ports[0].latency = PerClass { a: 0x1122_3344, b: 0x5566_7788 };
     let bits = "0000000100000010000000110000010000000101000001100000011100001000 \
-                0001 101 110 10101010111100 0000 110111101111 \
+                0001 101 110 10101010111100 0000 110111101111 00000101 \
                 0 1 1 00000 10011001 0001001000110100 \
                 0000000100000010000000110000010000000101 \
                 1111000111110010111100111111010011110101 \
@@ -146,7 +147,7 @@ fn settings_of_1_to_8_ports_are_accepted_with_any_overhead_limit_and_latency() {
             port.latency = PerClass { a: u32::MAX, b: 0 };
         }
         wide.leave_time = 16_383;
-        assert_eq!(settings::write(&wide).len(), 13 + 22 * ports);
+        assert_eq!(settings::write(&wide).len(), 14 + 22 * ports);
         assert_eq!(settings::read(&settings::write(&wide)), Some(wide.clone()));
         assert_eq!(started(&wide).report(ports as u32, 0).number, 0);
     }

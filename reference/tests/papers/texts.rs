@@ -17,6 +17,7 @@ fn a_number_above_its_field_is_an_error() {
         ("bridge 7 priorities 3 ", 7, "a priority"),
         ("bridge 7 priorities ", 7, "a priority"),
         ("bridge 7 vlan ", 4_095, "a VLAN"),
+        ("bridge 7 fanin ", 255, "a limit of inbound ports"),
         ("ports ", 15, "a number of ports"),
         ("ports 1 overhead ", 255, "an overhead"),
         ("ports 1 largest ", 65_535, "a largest frame"),
@@ -232,10 +233,10 @@ fn a_sheet_has_at_most_the_octets_that_are_read() {
         let text = format!("bridge 7\nports 1\n{}raw {end}\n", line.repeat(lines));
         read(&text, Program::Sheet).expect("records")
     };
-    let just = sheet(1_871, &"00".repeat(16));
+    let just = sheet(1_871, &"00".repeat(15));
     assert_eq!((just.octets.len(), just.too_long_for_a_sheet()), (65_536, None));
     let said = "line 1874: here the records pass 65,536 octets, and srpsheet reads no more (01, \"The printed sheet\"): use ./calls";
-    assert_eq!(sheet(1_871, &"00".repeat(17)).too_long_for_a_sheet(), Some(said.to_string()));
+    assert_eq!(sheet(1_871, &"00".repeat(16)).too_long_for_a_sheet(), Some(said.to_string()));
     assert_eq!(sheet(1_900, "").too_long_for_a_sheet(), Some(said.to_string()));
 }
 

@@ -185,15 +185,15 @@ fn rule_4_the_leave_time() {
 #[test]
 fn rule_5_the_zero_bits() {
     for bit in 0..5 {
-        breaks(&three_streams(250), 5, 13, 0xc0 | 1 << bit);
-        breaks(&three_streams(250), 5, 35, 0xc0 | 1 << bit);
+        breaks(&three_streams(250), 5, 14, 0xc0 | 1 << bit);
+        breaks(&three_streams(250), 5, 36, 0xc0 | 1 << bit);
     }
-    keeps(&three_streams(250), 13, 0xe0);
+    keeps(&three_streams(250), 14, 0xe0);
 }
 
 #[test]
 fn rule_6_settings_of_no_port() {
-    for place in [57, 58, 188] {
+    for place in [58, 59, 189] {
         breaks(&three_streams(250), 6, place, 1);
     }
 }
@@ -519,7 +519,7 @@ fn the_octets_of_the_domain() {
     for (port, flags) in [[1, 0], [1, 1], [1, 1]].into_iter().enumerate() {
         expected[130 * port + 128..130 * port + 130].copy_from_slice(&flags);
     }
-    assert_eq!(octets[282..1_322], expected);
+    assert_eq!(octets[283..1_323], expected);
 }
 
 #[test]
@@ -593,6 +593,17 @@ fn rule_35_the_domain_of_no_port() {
     let table = three_streams(250);
     for place in [edge(3), edge(3) + 7, edge(3) + 128, edge(8), RECORDS - 1] {
         breaks(&table, 35, place, 1);
+    }
+}
+
+#[test]
+fn rule_36_the_limit_of_inbound_ports() {
+    let table = three_streams(250);
+    for limit in [9, 16, 255] {
+        breaks(&table, 36, 13, limit);
+    }
+    for limit in [1, 8] {
+        keeps(&table, 13, limit);
     }
 }
 

@@ -15,7 +15,7 @@ fn the_worked_example_prints_its_four_lines() {
 #[test]
 fn the_worked_examples_octets_are_those_of_the_paper() {
     let hex = "\
-        0000000000000000 26803c 0002 \
+        0000000000000000 26803c 0002 00 \
         c02a05f2 0004786 8c0 0000000000 00000000 00000000 \
         c02a05f2 0004786 8c0 0000000000 00000000 00000000 \
         11 0010 0004 0400 0900 0205 0200 027e 0000 0000 \

@@ -7,25 +7,25 @@ use borrow.Author.Needs.{needs}
 use Rattle.octets.proofs.Loops.{Turned}
 use Rattle.model.specs.Table.{encode, decode}
 use Rattle.columns.specs.Places.{changedAt, earlyTo}
-use Rattle.columns.proofs.EarlyTables.{ports-start, ports-talker, ports-turn}
+use Rattle.columns.proofs.EarlyTables.{ports-start, ports-failure, ports-turn}
 use Rattle.columns.proofs.early_ports.Statement.{statement}
 use Rattle.columns.proofs.early_ports.Tie as tie
 
 abbrev Inv-loop : tie.InvT-loop
-Inv-loop table₀ k t time p₀ table p = Turned p 8 table₀ table (table ≡ encode (changedAt k (earlyTo p time) (decode table₀)))
+Inv-loop table₀ k t common time p₀ table p = Turned p 8 table₀ table (table ≡ encode (changedAt k (earlyTo p time) (decode table₀)))
 
 abbrev μ-loop : tie.MeasureT-loop
-μ-loop table₀ k t time p₀ table p = 8 - p
+μ-loop table₀ k t common time p₀ table p = 8 - p
 
 loop-holds : tie.Need-loop-holds Inv-loop μ-loop
-loop-holds c = record { within = omega arith; size = refl; holds = ports-start (c .before .pre) _ (omega arith) }
+loop-holds c = record { within = omega arith; size = refl; holds = ports-start (c .before .pre .talker) _ (omega arith) }
 
 early-at-requires : tie.Need-early-at-requires Inv-loop μ-loop
 early-at-requires c κs =
     let l = c .before .before .loop in
     let s = c .before .before .before .before in
     let soon : s .args .time < 4294967296 = omega arith in
-    (ports-talker (s .pre) (s .args .time) soon (l .p) (l .inv .within) _ (l .inv .holds), omega arith)
+    (ports-failure (s .pre .talker) (s .args .time) soon (l .p) (l .inv .within) _ (l .inv .holds) (s .pre), omega arith)
 
 loop-again : tie.Need-loop-again Inv-loop μ-loop
 loop-again c =
@@ -35,7 +35,7 @@ loop-again c =
     record {
       within = omega arith;
       size = omega arith;
-      holds = ports-turn (s .pre) (s .args .time) soon (l .p) (l .inv .within) _ (l .inv .holds) (omega arith) _ (c .before .before .early-at .ensures);
+      holds = ports-turn (s .pre .talker) (s .args .time) soon (l .p) (l .inv .within) _ (l .inv .holds) (omega arith) _ (c .before .before .early-at .ensures);
     }
 
 returns : tie.Need-returns Inv-loop μ-loop

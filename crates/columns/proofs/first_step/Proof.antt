@@ -11,7 +11,7 @@ use Rattle.model.specs.Settling.{Scene, sceneOf}
 use Rattle.model.specs.Table.{decode}
 use Rattle.streams.specs.Answers.{classShown}
 use Rattle.columns.specs.Answers.{columnShown}
-use Rattle.columns.proofs.Steps.{talking, not-talking, class, decided, from-a, from-b, from-c, from-d, from-e, from-f, from-g, from-j, from-k, no-source, steps-asked}
+use Rattle.columns.proofs.Steps.{talking, not-talking, class, decided, from-a, from-b, from-c, from-d, from-e, from-f, from-j, from-k, no-source, steps-asked}
 use Rattle.columns.proofs.first_step.Statement.{statement}
 use Rattle.columns.proofs.first_step.Tie as tie
 
@@ -51,11 +51,6 @@ reaches-f c = reaches-e (c .before .before) ∙ rw (not-talking _ (c .if7 .left)
 
 reaches-j : (c : tie.Else8) → Reaches (c .before .before .before .before .before .before .before .before .before .before .before .before .before .before) from-j
 reaches-j c = reaches-f (c .before .before) ∙ rw (← class-read (c .before .before .before .before .before .before .before .before .before .before .before), ← (c .before .no-class .ensures), c .if8 .left)
-
-reaches-g : (c : tie.Else9) → Reaches (c .before .before .before .before .before .before .before .before .before .before .before .before .before .before .before .before) from-g
-reaches-g c =
-    reaches-j (c .before .before)
-    ∙ rw (← class-read (c .before .before .before .before .before .before .before .before .before .before .before .before .before), ← (c .before .at-edge .ensures), c .if9 .left)
 
 returns : tie.Need-returns
 unfolding columnShown
@@ -97,18 +92,14 @@ returns-9 c =
     ∙ rw (← class-read (c .before .before .before .before .before .before .before .before .before .before .before .before .before .before), ← (c .before .before .at-edge .ensures), c .before .if9 .taken))
 
 returns-10 : tie.Need-returns-10
-returns-10 c =
-    c .own6 .ensures
-    ∙ sym (reaches-g (c .before .before .before .before) ∙ rw (lt-ltb _ _ (rw (c .before .before .before .get5 .ensures .0, c .before .before .get6 .ensures .0) at (c .before .if10 .taken))))
-
-returns-11 : tie.Need-returns-11
 unfolding columnShown
-returns-11 c = sym (reaches-g (c .before .before .before) ∙ rw (le-ltb _ _ (rw (c .before .before .get5 .ensures .0, c .before .get6 .ensures .0) at (c .if10 .left))))
+returns-10 c =
+    sym (reaches-j (c .before .before)
+    ∙ rw (← class-read (c .before .before .before .before .before .before .before .before .before .before .before .before .before), ← (c .before .at-edge .ensures), c .if9 .left))
 
 pub first-step-spec : {M : Type 1} → statement M
 first-step-spec =
     tie.close
     (tie.spec (λ c. search needs) (λ c. search needs) returns returns-2 (λ c κs. search needs) (λ c κs. search needs)
     (λ c κs. search needs) returns-3 (λ c κs. search needs) (λ c. search needs) returns-4 (λ c κs. search needs) returns-5
-    (λ c κs. search needs) (λ c κs. search needs) (λ c κs. search needs) returns-6 (λ c. search needs) (λ c κs. search needs) returns-7 (λ c κs. search needs) (λ c κs. search needs) returns-8 (λ c κs. search needs) (λ c κs. search needs) returns-9 (λ c κs. search needs) (λ c κs. search needs) (λ c κs. search needs)
-    returns-10 returns-11)
+    (λ c κs. search needs) (λ c κs. search needs) (λ c κs. search needs) returns-6 (λ c. search needs) (λ c κs. search needs) returns-7 (λ c κs. search needs) (λ c κs. search needs) returns-8 (λ c κs. search needs) (λ c κs. search needs) returns-9 returns-10)

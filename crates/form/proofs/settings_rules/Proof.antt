@@ -19,21 +19,22 @@ returns c = too-many-ports _ _ (c .before .get .ensures .0) (c .if1 .taken)
 ports-formed-requires : tie.Need-ports-formed-requires
 unfolding portsField
 ports-formed-requires c κs =
-    let s = c .before .before .before .before .before .args .settings .now in
-    let h : portPlace (beAt 3 s wordPlace / portsUnit) ≤ length s = c .before .before .before .before .before .pre .1 (omega arith) in
+    let s = c .before .before .before .before .before .before .args .settings .now in
+    let h : portPlace (beAt 3 s wordPlace / portsUnit) ≤ length s = c .before .before .before .before .before .before .pre .1 (omega arith) in
     rw (lent-rest portsPlace s) (omega (arith, length-drop portsPlace s))
 
 returns-2 : tie.Need-returns-2
 returns-2 c =
     rw (
-      c .ports-formed .ensures ∙ ap (everyPart portSize portRule _) (lent-rest portsPlace (c .before .before .before .before .before .before .args .settings .now)),
-      c .before .before .get2 .ensures .0,
+      c .ports-formed .ensures ∙ ap (everyPart portSize portRule _) (lent-rest portsPlace (c .before .before .before .before .before .before .before .args .settings .now)),
+      c .before .before .before .get2 .ensures .0,
+      c .before .before .get3 .ensures .0,
     )
-    (all-together _ _ ∙ settings-tests _ _ (c .before .before .before .before .get .ensures .0) (c .before .before .before .if1 .left))
+    (all-together _ _ ∙ settings-tests _ _ (c .before .before .before .before .before .get .ensures .0) (c .before .before .before .before .if1 .left))
 
 pub settings-rules-spec : {M : Type 1} → statement M
 settings-rules-spec =
     tie.close
-    (tie.spec (λ c κs. search needs) returns (λ c κs. search needs) (λ c. search needs) (λ c. search needs) (λ c. search needs)
+    (tie.spec (λ c κs. search needs) returns (λ c κs. search needs) (λ c κs. search needs) (λ c. search needs) (λ c. search needs) (λ c. search needs)
     ports-formed-requires
     returns-2)

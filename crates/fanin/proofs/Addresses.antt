@@ -1,0 +1,217 @@
+-- Shared addresses: destination and VLAN as one number, and the search among the streams before one, which are those with a lower
+-- StreamID.
+use mathlib.Core.Path.{_≡_, refl, sym, ap, _∙_}
+use mathlib.Core.List.{List, [], _∷_}
+use mathlib.Core.Bool.{Bool, true, false, not, _&&_, _||_, and-false}
+use Prim.Native.Nat.{ℕ, zero, suc, _+_, _-_, _*_, _^_, _≤_, _<_}
+use native.Mathlib.Omega.{arith}
+use native.Mathlib.Numerals.{add-one}
+use lib.ListN.{length, getD}
+use lib.Dec.{ltb, eqb}
+use borrow.Author.Tests.{eq-eqb, ne-eqb, eqb-true, eqb-false, lt-ltb, le-ltb}
+use Rattle.octets.specs.Be.{beAt}
+use Rattle.octets.specs.Fields.{fields}
+use Rattle.octets.proofs.Fields.{fields-of-packed}
+use Rattle.model.specs.Layout.{fixedWidths}
+use Rattle.model.specs.Lists.{All}
+use Rattle.model.specs.State.{Fixed, Stream, fresh}
+use Rattle.model.specs.Registrations.{ids}
+use Rattle.model.specs.WrittenFrames.{fixedNumbers}
+use Rattle.model.specs.Settling.{Scene, sceneOf, Origin, Source, nowhere, from, sourceOf, fixedOf, Inbound, inboundOf, inboundsOf, sameAddress, sameAddressAt, shares, isKeptOut, mayBring}
+use Rattle.model.specs.Table.{decode}
+use Rattle.model.specs.Laid.{Ascending}
+use Rattle.model.proofs.Fits.{settled-fits, fit-fixed, laid-fits}
+use Rattle.table.specs.Updates.{streamAt}
+use Rattle.table.specs.Places.{Stands}
+use Rattle.table.specs.Reads.{fixedOctets}
+use Rattle.table.proofs.ByPlace.{stream-fits}
+use Rattle.streams.specs.Answers.{sourcePort}
+use Rattle.streams.specs.declared.SourceRead.the-variants.{Nowhere, Port}
+use Rattle.fanin.specs.Failures.{addressOf, hasAddress, anyFrom, commonFailure}
+use Rattle.fanin.specs.Places.{SettledTo}
+
+-- The octets of an address.
+
+joined-read : (s : List ℕ) → beAt 8 s 0 ≡ beAt 6 s 0 * 2 ^ 16 + beAt 2 s 6
+unfolding beAt
+joined-read s = omega arith
+
+module _ {t : List ℕ} {k n : ℕ} (w : SettledTo t n) (h : k < n) where
+  pub settled-stands : Stands t k
+  settled-stands = record { laid = w .laid; held = omega (arith, w .within) }
+
+  abbrev x : Stream
+  x = streamAt k (decode t)
+
+  pub address-read : (s : List ℕ) → s ≡ fixedOctets (x .settled) → beAt 8 s 0 ≡ addressOf (fixedOf (sourceOf x))
+  unfolding addressOf fixedOctets fixedNumbers fields
+  address-read s e =
+      let f = fields-of-packed fixedWidths (fixedNumbers (x .settled)) (settled-fits x (stream-fits settled-stands)) in
+      let d : beAt 6 (fixedOctets (x .settled)) 0 ≡ x .settled .destination = ap (λ (vs : List ℕ). getD vs 0 0) f in
+      let v : beAt 2 (fixedOctets (x .settled)) 6 ≡ x .settled .vlan = ap (λ (vs : List ℕ). getD vs 1 0) f in
+      rw (e, joined-read (fixedOctets (x .settled)), d, v, w .values k h)
+
+  -- the VLAN has 16 bits
+  pub vlan-fits : fixedOf (sourceOf x) .vlan < 65536
+  vlan-fits =
+      rw (← w .values k h) (fit-fixed (x .settled) (settled-fits x (stream-fits settled-stands)) (stream-fits settled-stands .rank) .vlan)
+
+-- Whether a source has an address, by the tests of the code.
+module _ (a : ℕ) where
+  pub another-address : (s : Source) → (addressOf (fixedOf s) ≡ a → ⊥) → false ≡ hasAddress a s
+  unfolding hasAddress fixedOf
+  another-address nowhere n = refl
+  another-address (from o) n = sym (ne-eqb (addressOf (o .registration .fixed)) a n)
+
+  pub its-address : (s : Source) (t : ℕ) → sourcePort s ≡ Port t → addressOf (fixedOf s) ≡ a → true ≡ hasAddress a s
+  unfolding hasAddress fixedOf sourcePort
+  its-address nowhere t e q = let z : _≡_ {A = ℕ} 0 1 = cc in absurd (omega arith)
+  its-address (from o) t e q = sym (eq-eqb (addressOf (o .registration .fixed)) a q)
+
+  pub no-address : (s : Source) → sourcePort s ≡ Nowhere → false ≡ hasAddress a s
+  unfolding hasAddress sourcePort
+  no-address nowhere e = refl
+  no-address (from o) e = let z : _≡_ {A = ℕ} 0 1 = cc in absurd (omega arith)
+
+-- The search.
+module _ (f : ℕ → Bool) where
+  pub found-here : (k n m : ℕ) → m ≡ suc n → f k ≡ true → anyFrom f k m ≡ true
+  unfolding anyFrom
+  found-here k n m e h = rw (e, h)
+
+  pub not-here : (k n m : ℕ) → m ≡ suc n → f k ≡ false → anyFrom f k m ≡ anyFrom f (k + 1) n
+  unfolding anyFrom
+  not-here k n m e h = rw (e, h, add-one k)
+
+-- addresses as numbers
+address-same : (f g : Fixed) → f .vlan < 65536 → g .vlan < 65536 → sameAddress f g ≡ eqb (addressOf f) (addressOf g)
+unfolding sameAddress addressOf
+address-same f g v w = go (eqb (f .destination) (g .destination)) (eqb (f .vlan) (g .vlan)) refl refl
+  where
+    go : (a b : Bool) → eqb (f .destination) (g .destination) ≡ a → eqb (f .vlan) (g .vlan) ≡ b
+        → (a && b) ≡ eqb (f .destination * 2 ^ 16 + f .vlan) (g .destination * 2 ^ 16 + g .vlan)
+    go true true d e =
+        let p = eqb-true (f .destination) (g .destination) d in
+        let q = eqb-true (f .vlan) (g .vlan) e in
+        sym (eq-eqb (f .destination * 2 ^ 16 + f .vlan) (g .destination * 2 ^ 16 + g .vlan) (rw (p, q)))
+    go true false d e =
+        let q = eqb-false (f .vlan) (g .vlan) e in
+        let p = eqb-true (f .destination) (g .destination) d in
+        sym (ne-eqb (f .destination * 2 ^ 16 + f .vlan) (g .destination * 2 ^ 16 + g .vlan) (λ n. q (omega (arith, n, p))))
+    go false b d e =
+        let p = eqb-false (f .destination) (g .destination) d in
+        sym (ne-eqb (f .destination * 2 ^ 16 + f .vlan) (g .destination * 2 ^ 16 + g .vlan) (λ n. p (omega (arith, n, v, w))))
+
+address-at : (s : Source) (o : Origin) → fixedOf s .vlan < 65536 → o .registration .fixed .vlan < 65536
+    → sameAddressAt s (from o) ≡ hasAddress (addressOf (o .registration .fixed)) s
+unfolding sameAddressAt hasAddress fixedOf
+address-at nowhere o v w = refl
+address-at (from q) o v w = address-same (q .registration .fixed) (o .registration .fixed) v w
+
+-- streams with a higher StreamID, or the stream's own, are none that it shares with
+none-higher : (s : List Stream) (i : Inbound) → All (λ j. i .id < j) (ids s) → shares (inboundsOf s) i ≡ false
+unfolding ids inboundsOf inboundOf shares
+none-higher [] i a = refl
+none-higher (y ∷ s) i a = rw (le-ltb (y .id) (i .id) (omega (arith, a .0)), none-higher s i (a .1))
+
+-- those before it have a lower one
+shares-before : (s : List Stream) (k : ℕ) (x : Stream) (f : ℕ → Bool) (m : ℕ) → Ascending (ids s) → k < length s → getD s k (fresh 0) ≡ x
+    → ((j : ℕ) → j < k → f (m + j) ≡ sameAddressAt (sourceOf (getD s j (fresh 0))) (sourceOf x)) → shares (inboundsOf s) (inboundOf x) ≡ anyFrom f m k
+unfolding ids inboundsOf inboundOf shares anyFrom
+shares-before [] k x f m a h e g = absurd (omega arith)
+shares-before (y ∷ s) zero x f m a h e g =
+    rw (← e, le-ltb (y .id) (y .id) (omega arith)) (none-higher s (inboundOf y) (a .0))
+shares-before (y ∷ s) (suc k) x f m a h e g =
+    let z : m + 0 ≡ m = omega arith in
+    let here : f m ≡ sameAddressAt (sourceOf y) (sourceOf x) = rw z at (g 0 (omega arith)) in
+    let low : y .id < x .id = rw e at (all-at-id (λ j. y .id < j) s (a .0) k (omega arith)) in
+    rw (lt-ltb (y .id) (x .id) low, here)
+    (ap (λ (b : Bool). sameAddressAt (sourceOf y) (sourceOf x) || b)
+    (shares-before s k x f (suc m) (a .1) (omega arith) e
+    (λ j l. let n : suc m + j ≡ m + suc j = omega arith in rw n (g (suc j) (omega arith)))))
+  where
+    all-at-id : (P : ℕ → Type 0) (s : List Stream) → All P (ids s) → (k : ℕ) → k < length s → P (getD s k (fresh 0) .id)
+    all-at-id P [] a k h = absurd (omega arith)
+    all-at-id P (y ∷ s) a zero h = a .0
+    all-at-id P (y ∷ s) a (suc k) h = all-at-id P s (a .1) k (omega arith)
+
+module _ {t : List ℕ} (k : ℕ) (w : SettledTo t (k + 1)) (o : Origin) (e : sourceOf (streamAt k (decode t)) ≡ from o) where
+  pub shares-found : shares (inboundsOf (decode t .streams)) (inboundOf (streamAt k (decode t)))
+      ≡ anyFrom (λ j. hasAddress (addressOf (fixedOf (sourceOf (streamAt k (decode t))))) (sourceOf (streamAt j (decode t)))) 0 k
+  unfolding fixedOf
+  shares-found =
+      let x = streamAt k (decode t) in
+      let v : o .registration .fixed .vlan < 65536 = rw e at (vlan-fits {k = k} w (omega arith)) in
+      shares-before (decode t .streams) k x _ 0 (laid-fits t (w .laid) .ascending) (omega (arith, w .within)) refl
+      (λ j h. let n : 0 + j ≡ j = omega arith in
+      rw (n, e) (sym (address-at (sourceOf (streamAt j (decode t))) o (vlan-fits {k = j} w (omega arith)) v)))
+
+-- The own failure of stream k on every port, by the tests of the code.
+
+pub settled-fewer : {t : List ℕ} {k : ℕ} (w : SettledTo t k) (n : ℕ) → n ≤ k → SettledTo t n
+settled-fewer w n h = record { laid = w .laid; within = omega (arith, w .within); values = λ j l. w .values j (omega arith) }
+
+-- a Talker port that is found is that of an origin
+record At (s : Source) (p : ℕ) : Type 0 where
+  origin : Origin
+  is : s ≡ from origin
+  port : p ≡ origin .port
+
+found-at : (s : Source) (p : ℕ) → sourcePort s ≡ Port p → At s p
+unfolding sourcePort
+found-at nowhere p e = let z : _≡_ {A = ℕ} 0 1 = cc in absurd (omega arith)
+found-at (from o) p e = record { origin = o; is = refl; port = cc }
+
+-- a stream without a Talker shares nothing
+shares-none : (l : List Inbound) (n : ℕ) → shares l record { id = n; source = nowhere } ≡ false
+unfolding shares
+shares-none [] n = refl
+shares-none (j ∷ l) n = rw (none (j .source), and-false (ltb (j .id) n)) (shares-none l n)
+  where
+    none : (s : Source) → sameAddressAt s nowhere ≡ false
+    none nowhere = unfold sameAddressAt in refl
+    none (from o) = unfold sameAddressAt in refl
+
+module _ (t : List ℕ) (k : ℕ) (w : SettledTo t (k + 1)) where
+  abbrev sc : Scene
+  sc = sceneOf (decode t)
+
+  abbrev stream : Stream
+  stream = streamAt k (decode t)
+
+  nowhere-is : (s : Source) → sourcePort s ≡ Nowhere → s ≡ nowhere
+  unfolding sourcePort
+  nowhere-is nowhere e = refl
+  nowhere-is (from o) e = let z : _≡_ {A = ℕ} 0 1 = cc in absurd (omega arith)
+
+  pub no-failure : sourcePort (sourceOf stream) ≡ Nowhere → 0 ≡ commonFailure sc (inboundOf stream)
+  unfolding commonFailure inboundOf
+  no-failure e = sym (rw (nowhere-is (sourceOf stream) e, shares-none (sc .inbound) (stream .id)) (unfold isKeptOut in refl))
+
+  module _ (p : ℕ) (e : sourcePort (sourceOf stream) ≡ Port p) (a : ℕ) (f : a ≡ addressOf (fixedOf (sourceOf stream))) (taken : Bool)
+      (g : taken ≡ anyFrom (λ j. hasAddress a (sourceOf (streamAt j (decode t)))) 0 k) where
+    shares-is : shares (sc .inbound) (inboundOf stream) ≡ taken
+    shares-is =
+        let o = found-at (sourceOf stream) p e in
+        shares-found k w (o .origin) (o .is) ∙ sym (rw f at g)
+
+    pub shared-failure : taken ≡ true → 5 ≡ commonFailure sc (inboundOf stream)
+    unfolding commonFailure
+    shared-failure h = sym (rw (shares-is, h))
+
+    module _ (free : taken ≡ false) (may : Bool) (m : may ≡ mayBring (decode t .settings .fanIn) (inboundsOf (decode t .streams)) p) where
+      kept-out-is : isKeptOut (sc .settings .fanIn) (sc .inbound) (sourceOf stream) ≡ not may
+      unfolding isKeptOut
+      kept-out-is =
+          let o = found-at (sourceOf stream) p e in
+          ap (λ (s : Source). isKeptOut (sc .settings .fanIn) (sc .inbound) s) (o .is)
+          ∙ ap (λ (q : ℕ). not (mayBring (sc .settings .fanIn) (sc .inbound) q)) (sym (o .port))
+          ∙ ap not (sym m)
+
+      pub brings-in : may ≡ true → 0 ≡ commonFailure sc (inboundOf stream)
+      unfolding commonFailure inboundOf
+      brings-in h = sym (rw (shares-is, free, kept-out-is, h))
+
+      pub kept-out : may ≡ false → 15 ≡ commonFailure sc (inboundOf stream)
+      unfolding commonFailure inboundOf
+      kept-out h = sym (rw (shares-is, free, kept-out-is, h))

@@ -1,0 +1,23 @@
+-- What the search for a shared address finds, and the own failure that a stream has on every port alike.
+use mathlib.Core.Bool.{Bool, false, cond, _||_}
+use Prim.Native.Nat.{ℕ, zero, suc, _+_, _*_, _^_}
+use lib.Dec.{eqb}
+use Rattle.model.specs.State.{Fixed}
+use Rattle.model.specs.Settling.{Scene, Source, nowhere, from, Inbound, shares, isKeptOut}
+
+-- destination and VLAN as they stand beside each other
+unfoldable pub addressOf : Fixed → ℕ
+addressOf f = f .destination * 2 ^ 16 + f .vlan
+
+unfoldable pub hasAddress : ℕ → Source → Bool
+hasAddress a nowhere = false
+hasAddress a (from o) = eqb (addressOf (o .registration .fixed)) a
+
+-- one of the n places from k on passes a test
+unfoldable pub anyFrom : (ℕ → Bool) → ℕ → ℕ → Bool
+anyFrom f k zero = false
+anyFrom f k (suc n) = f k || anyFrom f (suc k) n
+
+-- "Test 5, then 15": its code, or 0
+unfoldable pub commonFailure : Scene → Inbound → ℕ
+commonFailure sc i = cond (shares (sc .inbound) i) 5 (cond (isKeptOut (sc .settings .fanIn) (sc .inbound) (i .source)) 15 0)
