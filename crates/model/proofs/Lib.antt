@@ -30,6 +30,7 @@ pub mod OwnCodes
 pub mod Boundaries
 pub mod Growth
 pub mod FanIn
+pub mod Untouched
 pub mod Opened
 pub mod Examples
 pub mod FormKept
