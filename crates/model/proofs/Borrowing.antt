@@ -13,7 +13,7 @@ use Rattle.model.proofs.ColumnRule.{claims-append}
 
 module _ (sc : Scene) (now p : ℕ) where
   -- a stream of another class claims nothing of a class
-  unclaimed : (c : Class) (x : Stream) (s : List Stream) → sameClass (streamClass (sc .settings) x) c ≡ false → claims sc now p c (x ∷ s) ≡ claims sc now p c s
+  pub unclaimed : (c : Class) (x : Stream) (s : List Stream) → sameClass (streamClass (sc .settings) x) c ≡ false → claims sc now p c (x ∷ s) ≡ claims sc now p c s
   unfolding claims
   unclaimed c x s e = rw (e, and-false (clear (steps sc p x)))
 
