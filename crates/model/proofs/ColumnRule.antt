@@ -2,7 +2,7 @@
 -- with what is left computed from the columns of the more important streams; entries, latencies and Listeners follow from the
 -- columns; each class total is the sum of what is reserved and at most its limit; and less important streams, or such as
 -- reserve nothing, change none of it (01, "Settling").
-use mathlib.Core.Path.{_≡_, refl, sym, _∙_, ap, subst}
+use mathlib.Core.Path.{_≡_, refl, sym, _∙_, ap}
 use mathlib.Core.List.{List, [], _∷_, _++_, map}
 use mathlib.Core.Bool.{Bool, true, false, cond, not, _&&_, false≢true}
 use Prim.Native.Nat.{ℕ, zero, suc, _+_, _-_, _^_, _≤_, _<_}

@@ -9,10 +9,10 @@ use Prim.Native.Nat.{ℕ, zero, suc, _+_, _^_, _<_}
 use native.Mathlib.Omega.{arith}
 use lib.Dec.{ltb, eqb}
 use borrow.Author.Tests.{eq-eqb, le-ltb}
-use Rattle.model.specs.Lists.{All, keep, bit, countTo}
+use Rattle.model.specs.Lists.{All, keep, countTo}
 use Rattle.model.specs.State.{Settings, Own, Cell, Stream, Bridge, Class, classA, classB, sameClass, inForce, portAt, cellAt, resultAt}
 use Rattle.model.specs.Bandwidth.{Claim, key, above, total}
-use Rattle.model.specs.Settling.{Scene, Inbound, inboundOf, inboundsOf, isInbound, inboundBelow, mayBring, isKeptOut, sameAddressAt, shares, Source, nowhere, from, sourceOf, isSource, fixedOf, streamClass, clear, stepsFrom, lastSteps, steps, ageOf, claim, claims, limitOn, totalOn, decideAt, decideOwns}
+use Rattle.model.specs.Settling.{Scene, Inbound, inboundOf, inboundsOf, isInbound, inboundBelow, mayBring, isKeptOut, sameAddressAt, shares, Source, nowhere, from, sourceOf, isSource, fixedOf, streamClass, clear, stepsFrom, lastSteps, steps, ageOf, claim, claims, limitOn, totalOn, decideAt}
 use Rattle.model.specs.Table.{columnCode}
 use Rattle.model.proofs.Lists.{and-false}
 use Rattle.model.proofs.Admission.{by-rank}

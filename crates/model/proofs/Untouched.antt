@@ -2,13 +2,12 @@
 -- what is named here of a stream and a port, its column, code and entry on that port are equal in both, however the less important
 -- streams differ.
 use mathlib.Core.Path.{_≡_, refl, sym, _∙_, ap}
-use mathlib.Core.List.{List, [], _∷_, _++_}
-use mathlib.Core.Bool.{Bool}
+use mathlib.Core.List.{List}
 use Prim.Native.Nat.{ℕ, _<_}
 use lib.ListN.{length, getD}
-use Rattle.model.specs.State.{Settings, Own, Column, Entry, Stream, Bridge, fresh, unsettled, streamAt, resultAt, Class, noClass, classA, classB, classOf, inForce, portAt, cellAt, ownAt}
-use Rattle.model.specs.Bandwidth.{Claim, key, above, remains}
-use Rattle.model.specs.Settling.{Scene, Inbound, inboundOf, inboundsOf, shares, isKeptOut, decideOwns, remain, Source, nowhere, from, sourceOf, fixedOf, streamClass, boundary, Step, outcomeColumn, stepsFrom, lastSteps, steps, first, claim, claims, reservedA, limitOn, leftFor, byBandwidth, columnOf, decideAt, decide, totalOn, settle}
+use Rattle.model.specs.State.{Settings, Own, Stream, Bridge, fresh, unsettled, streamAt, resultAt, Class, noClass, classA, classB, classOf, inForce, portAt, cellAt, ownAt}
+use Rattle.model.specs.Bandwidth.{key, above, remains}
+use Rattle.model.specs.Settling.{Scene, Inbound, inboundOf, inboundsOf, shares, isKeptOut, decideOwns, remain, Source, nowhere, from, sourceOf, fixedOf, streamClass, boundary, stepsFrom, lastSteps, steps, claim, claims, reservedA, limitOn, leftFor, columnOf, decideAt, decide, totalOn, settle}
 use Rattle.model.specs.Table.{columnCode}
 use Rattle.model.proofs.Lists.{getD-map, at-place}
 use Rattle.model.proofs.ColumnRule.{reserved-a}
