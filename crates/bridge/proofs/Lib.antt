@@ -7,6 +7,7 @@ pub mod Demand1
 pub mod Demand2
 pub mod Demand3
 pub mod AfterAdvance
+pub mod Untouched
 pub mod Passing
 pub mod Worked
 pub mod Demands

@@ -1,10 +1,10 @@
 -- Class B may borrow (02, i): where no stream is of class A, B has the sum of the limits; and streams of B change nothing of class A.
 use mathlib.Core.Path.{_≡_, refl, sym, _∙_, ap}
 use mathlib.Core.List.{List, [], _∷_, _++_}
-use mathlib.Core.Bool.{Bool, true, false, _&&_}
-use Prim.Native.Nat.{ℕ, _-_}
+use mathlib.Core.Bool.{false}
+use Prim.Native.Nat.{ℕ}
 use native.Mathlib.Nat.{sub-zero}
-use Rattle.model.specs.Lists.{All, keep}
+use Rattle.model.specs.Lists.{All}
 use Rattle.model.specs.State.{Stream, Class, classA, classB, sameClass, bothLimits, inForce, portAt}
 use Rattle.model.specs.Bandwidth.{Claim, sort, reserved, total}
 use Rattle.model.specs.Settling.{Scene, streamClass, clear, steps, claim, claims, reservedA, limitOn, leftFor, columnOf, totalOn}
@@ -13,7 +13,7 @@ use Rattle.model.proofs.ColumnRule.{claims-append}
 
 module _ (sc : Scene) (now p : ℕ) where
   -- a stream of another class claims nothing of a class
-  unclaimed : (c : Class) (x : Stream) (s : List Stream) → sameClass (streamClass (sc .settings) x) c ≡ false → claims sc now p c (x ∷ s) ≡ claims sc now p c s
+  pub unclaimed : (c : Class) (x : Stream) (s : List Stream) → sameClass (streamClass (sc .settings) x) c ≡ false → claims sc now p c (x ∷ s) ≡ claims sc now p c s
   unfolding claims
   unclaimed c x s e = rw (e, and-false (clear (steps sc p x)))
 

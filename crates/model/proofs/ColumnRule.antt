@@ -2,7 +2,7 @@
 -- with what is left computed from the columns of the more important streams; entries, latencies and Listeners follow from the
 -- columns; each class total is the sum of what is reserved and at most its limit; and less important streams, or such as
 -- reserve nothing, change none of it (01, "Settling").
-use mathlib.Core.Path.{_≡_, refl, sym, _∙_, ap, subst}
+use mathlib.Core.Path.{_≡_, refl, sym, _∙_, ap}
 use mathlib.Core.List.{List, [], _∷_, _++_, map}
 use mathlib.Core.Bool.{Bool, true, false, cond, not, _&&_, false≢true}
 use Prim.Native.Nat.{ℕ, zero, suc, _+_, _-_, _^_, _≤_, _<_}
@@ -621,31 +621,6 @@ module _ (now : ℕ) (b : Bridge) where
       streams = carries there now remaining;
       decided = settled;
     }
-
--- What an unimportant stream can't touch: two bridges at one advance that agree on a stream's registrations and age on p, on
--- the more important claims of its class there, and on the limit, give it the same column and entry on p, however the less
--- important streams differ.
-module _ (sc : Scene) (now p : ℕ) (s s′ : List Stream) (x x′ : Stream)
-    (sameId : x .id ≡ x′ .id) (sameCells : x .cells ≡ x′ .cells)
-    (sameAge : ageOf now (resultAt x p) ≡ ageOf now (resultAt x′ p))
-    (sameAbove : above (key (claim (sc .settings) now p x)) (claims sc now p (streamClass (sc .settings) x) s)
-    ≡ above (key (claim (sc .settings) now p x)) (claims sc now p (streamClass (sc .settings) x) s′))
-    (sameLimit : limitOn sc now s p (streamClass (sc .settings) x) ≡ limitOn sc now s′ p (streamClass (sc .settings) x)) where
-  same-column : columnOf sc now s p x ≡ columnOf sc now s′ p x′
-  unfolding columnOf leftFor remains
-  same-column =
-      rw (
-        sameAbove,
-        sameLimit,
-        same-steps sc now p x x′ sameCells sameId,
-        same-source sc now p x x′ sameCells,
-        same-claim sc now p x x′ sameCells sameId sameAge,
-        same-stream-class sc now p x x′ sameCells,
-      )
-
-  pub untouchable : (decideAt sc now s x p .column ≡ decideAt sc now s′ x′ p .column) × (decideAt sc now s x p .entry ≡ decideAt sc now s′ x′ p .entry)
-  unfolding decideAt cellAt
-  untouchable = (same-column, rw (same-column, sameCells))
 
 -- A stream that reserves nothing on p, because it is refused or has no ready Listener there, changes no column and no class
 -- total on p: all is as if it were not held.

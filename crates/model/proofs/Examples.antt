@@ -4,7 +4,7 @@
 -- are passed over.
 use mathlib.Core.Path.{_≡_, refl}
 use mathlib.Core.List.{List, [], _∷_, _++_, map}
-use mathlib.Core.Bool.{true, false, cond}
+use mathlib.Core.Bool.{Bool, true, false, cond, _&&_}
 use Prim.Native.Nat.{ℕ, suc, _+_, _-_}
 use lib.ListN.{length, getD, take, replicate}
 use lib.Dec.{eqb}
@@ -29,6 +29,7 @@ use Rattle.model.specs.WrittenFrames
 use Rattle.model.specs.Table
 use Rattle.model.specs.Calls
 use Rattle.model.proofs.Opened.{opened}
+use Rattle.model.proofs.Untouched.{remaining, sceneAt}
 
 -- what the definitions compute, and what 01 prints
 pub record Example : Type 0 where
@@ -604,6 +605,93 @@ fanIns =
 pub fan-in-examples : All Holds fanIns
 unfolding shown fanIns inbound across
 fan-in-examples = (refl, (refl, (refl, (refl, (refl, (refl, (refl, tt)))))))
+
+-- What an unimportant stream can't touch (02, xii): each premise of `Alike` is needed. Of two bridges, and of the streams at places k and
+-- k′ of those that an advance to 200 leaves: 1 for each premise that holds, in their order, and 0 for one that does not; then the
+-- column and code of either on the port at place p.
+
+equal : List ℕ → List ℕ → Bool
+equal [] [] = true
+equal [] (n ∷ m) = false
+equal (n ∷ l) [] = false
+equal (n ∷ l) (i ∷ m) = eqb n i && equal l m
+
+claimNumbers : Bandwidth.Claim → List ℕ
+claimNumbers c = c .id ∷ c .rank ∷ c .age ∷ c .demand ∷ Lists.bit (c .ready) ∷ []
+
+-- the facts, each as numbers
+premises : ℕ → Bridge → Stream → List (List ℕ)
+premises p b x =
+    let s = remaining 200 b in
+    let sc = sceneAt 200 b in
+    let c = Settling.streamClass (b .settings) x in
+    (Table.headNumbers (b .settings) ++ Fields.flat Table.portNumbers (b .settings .ports))
+    ∷ Fields.flat Table.cellNumbers (x .cells)
+    ∷ Fields.flat claimNumbers (Bandwidth.above (Bandwidth.key (Settling.claim (b .settings) 200 p x)) (Settling.claims sc 200 p c s))
+    ∷ cond (State.sameClass c State.classB) (Settling.totalOn sc 200 s p State.classA ∷ []) []
+    ∷ (Lists.bit (Settling.shares (sc .inbound) (Settling.inboundOf x)) ∷ [])
+    ∷ (Lists.bit (Settling.boundary (State.ownAt (sc .own) p) c) ∷ [])
+    ∷ (Lists.bit (Settling.isKeptOut (b .settings .fanIn) (sc .inbound) (Settling.sourceOf x)) ∷ [])
+    ∷ []
+
+agreements : List (List ℕ) → List (List ℕ) → List ℕ
+agreements [] m = []
+agreements (f ∷ l) [] = []
+agreements (f ∷ l) (g ∷ m) = Lists.bit (equal f g) ∷ agreements l m
+
+compared : ℕ → Bridge → ℕ → Bridge → ℕ → List ℕ
+compared p b k b′ k′ =
+    let x = getD (remaining 200 b) k (State.fresh 0) in
+    let x′ = getD (remaining 200 b′) k′ (State.fresh 0) in
+    let c = Settling.columnOf (sceneAt 200 b) 200 (remaining 200 b) p x in
+    let c′ = Settling.columnOf (sceneAt 200 b′) 200 (remaining 200 b′) p x′ in
+    agreements (premises p b x) (premises p b′ x′)
+    ++ (Table.columnNumber c ∷ Table.columnCode c ∷ Table.columnNumber c′ ∷ Table.columnCode c′ ∷ [])
+
+-- streams of class A, Ready on port 2: those with these Unique IDs, on a bridge with this limit
+readyOnes : List ℕ → List Handed
+readyOnes [] = []
+readyOnes (u ∷ us) = pdu 1 (talks u 224 rank1) ∷ pdu 2 (hears u 128) ∷ readyOnes us
+
+held : ℕ → List ℕ → Bridge
+held limit us = bridge limit (readyOnes us)
+
+-- streams 1 and 2, of which stream 1 has this destination
+addressed : ℕ → Bridge
+addressed destination =
+    bridge 75000000 (pdu 1 (message advertises (Be.be 2 1 ++ (talkerTo 1 destination 224 rank1 ++ (108 ∷ [])))) ∷ pdu 1 (talks 2 224 rank1) ∷ [])
+
+-- stream 2 with its Talker on port 2, where one port may bring streams in; then what is handed over
+second : List Handed → Bridge
+second l = bridgeWith 1 75000000 (pdu 2 (talks 2 224 rank1) ∷ l)
+
+pub needs : List Example
+needs =
+    -- the settings: a lower limit
+    record { computed = compared 1 (held 17088000 (1 ∷ [])) 0 (held 17087999 (1 ∷ [])) 0; printed = 0 ∷ 1 ∷ 1 ∷ 1 ∷ 1 ∷ 1 ∷ 1 ∷ 1 ∷ 0 ∷ 2 ∷ 1 ∷ [] }
+    -- its own registrations: a join of another MaxFrameSize
+    ∷ record {
+      computed = compared 1 (held 75000000 (1 ∷ [])) 0 (from (held 75000000 (1 ∷ [])) (pdu 1 (talks 1 225 rank1) ∷ [])) 0;
+      printed = 1 ∷ 0 ∷ 1 ∷ 1 ∷ 1 ∷ 1 ∷ 1 ∷ 1 ∷ 0 ∷ 2 ∷ 16 ∷ [];
+    }
+    -- a more important stream of its class
+    ∷ record { computed = compared 1 (held 17088000 (2 ∷ [])) 0 (held 17088000 (1 ∷ 2 ∷ [])) 1; printed = 1 ∷ 1 ∷ 0 ∷ 1 ∷ 1 ∷ 1 ∷ 1 ∷ 1 ∷ 0 ∷ 2 ∷ 1 ∷ [] }
+    -- class A's total, for a stream of class B
+    ∷ record { computed = compared 1 (intercom []) 0 (intercom show) 4; printed = 1 ∷ 1 ∷ 1 ∷ 0 ∷ 1 ∷ 1 ∷ 1 ∷ 1 ∷ 0 ∷ 2 ∷ 1 ∷ [] }
+    -- the address of a lower StreamID
+    ∷ record { computed = compared 1 (addressed 0xFE00) 1 (addressed 0xFE01) 1; printed = 1 ∷ 1 ∷ 1 ∷ 1 ∷ 0 ∷ 1 ∷ 1 ∷ 1 ∷ 0 ∷ 2 ∷ 5 ∷ [] }
+    -- the domain's edge
+    ∷ record {
+      computed = compared 1 (held 75000000 (1 ∷ [])) 0 (from (State.started (settings 75000000)) (pdu 1 (talks 1 224 rank1) ∷ pdu 2 (hears 1 128) ∷ [])) 0;
+      printed = 1 ∷ 1 ∷ 1 ∷ 1 ∷ 1 ∷ 0 ∷ 1 ∷ 1 ∷ 0 ∷ 2 ∷ 8 ∷ [];
+    }
+    -- an inbound port below its own
+    ∷ record { computed = compared 0 (second []) 0 (second (pdu 1 (talks 1 224 rank1) ∷ [])) 1; printed = 1 ∷ 1 ∷ 1 ∷ 1 ∷ 1 ∷ 1 ∷ 0 ∷ 1 ∷ 0 ∷ 2 ∷ 15 ∷ [] }
+    ∷ []
+
+pub need-examples : All Holds needs
+unfolding shown needs Table.headNumbers Table.headWord Table.portNumbers Table.cellNumbers equal claimNumbers premises agreements compared readyOnes held addressed second inB intercom show
+need-examples = (refl, (refl, (refl, (refl, (refl, (refl, (refl, tt)))))))
 
 -- PDUs with two faults, at neighbouring checks, and each with the first fault mended: the first that the walk meets gives the
 -- number.

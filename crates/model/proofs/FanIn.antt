@@ -1,20 +1,19 @@
 -- Inbound ports and shared addresses (02, x): an own failure has code 5, or 15, exactly where no earlier step applies and its fact
 -- holds; which ports are inbound depends on registrations alone; at most the limit many ports bring in streams that some port
 -- advertises; of streams with one address at most one is advertised on a port.
-use mathlib.Core.Path.{_≡_, refl, sym, ap, _∙_}
-use mathlib.Core.List.{List, [], _∷_, _++_, append-assoc}
+use mathlib.Core.Path.{_≡_, refl, sym, _∙_}
+use mathlib.Core.List.{List, [], _∷_, _++_}
 use mathlib.Core.Bool.{Bool, true, false, not, _&&_, true≢false, false≢true, or-true}
 use Prim.Native.Nat.{ℕ, zero, suc, _+_, _≤_, _<_}
 use native.Mathlib.Omega.{arith}
 use lib.ListN.{length, getD, drop}
 use lib.Dec.{eqb, ltb, leb}
 use borrow.Author.Tests.{eq-eqb, ne-eqb, eqb-true, eqb-false, lt-ltb, ltb-true, ltb-false}
-use Rattle.model.specs.Lists.{All, bit, countTo}
-use Rattle.model.specs.State.{Cell, Column, failed, Stream, fresh, isPort, cellAt}
-use Rattle.model.specs.Settling.{Source, nowhere, from, sourceOf, isSource, healthOf, isBroken, Inbound, inboundOf, inboundsOf, isInbound, inboundBelow, mayBring, isKeptOut, sameAddress, sameAddressAt, shares, Scene, isAdvertise, Outcome, columnNone, ownFailure, Step, clear, outcomeColumn, stepsFrom, lastSteps, steps, claim, leftFor, byBandwidth, columnOf}
+use Rattle.model.specs.Lists.{bit, countTo}
+use Rattle.model.specs.State.{Cell, failed, Stream, fresh, isPort, cellAt}
+use Rattle.model.specs.Settling.{Source, nowhere, from, sourceOf, isSource, healthOf, isBroken, Inbound, inboundOf, inboundsOf, isInbound, inboundBelow, mayBring, isKeptOut, sameAddress, sameAddressAt, shares, Scene, isAdvertise, columnNone, Step, clear, stepsFrom, lastSteps, steps, claim, leftFor, columnOf}
 use Rattle.model.specs.Table.{columnCode}
-use Rattle.model.proofs.Lists.{all-append, and-left, and-right}
-use Rattle.model.proofs.Parts.{_also_}
+use Rattle.model.proofs.Lists.{and-left, and-right}
 use Rattle.model.proofs.ColumnRule.{Pairwise, advertised}
 use Rattle.model.proofs.OwnCodes.{gives, earlier, asked, never, once, stepsOf, own-decided, own-only}
 

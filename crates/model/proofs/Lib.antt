@@ -30,6 +30,8 @@ pub mod OwnCodes
 pub mod Boundaries
 pub mod Growth
 pub mod FanIn
+pub mod Untouched
+pub mod Newcomer
 pub mod Opened
 pub mod Examples
 pub mod FormKept

@@ -1,6 +1,6 @@
 -- Laws of lists, tests and `All`.
 use mathlib.Core.Path.{_≡_, refl, ap, _∙_}
-use mathlib.Core.List.{List, [], _∷_, _++_}
+use mathlib.Core.List.{List, [], _∷_, _++_, map}
 use mathlib.Core.Bool.{Bool, true, false, _&&_, false≢true}
 use Prim.Native.Nat.{ℕ, zero, suc, _+_, _<_}
 use native.Mathlib.Omega.{arith}
@@ -181,3 +181,9 @@ module _ {X : Type 0} where
   pub on-other : (p : ℕ) (a : ℕ × X) (f : List (ℕ × X)) → (a .0 ≡ p → ⊥) → on p (a ∷ f) ≡ on p f
   unfolding on
   on-other p a f e = rw (ne-eqb (a .0) p e)
+
+-- what stands at a place of a mapped list
+pub getD-map : {A B : Type 0} (f : A → B) (l : List A) (k : ℕ) (d : A) (e : B) → k < length l → getD (map f l) k e ≡ f (getD l k d)
+getD-map f [] k d e h = absurd (omega arith)
+getD-map f (x ∷ l) zero d e h = refl
+getD-map f (x ∷ l) (suc k) d e h = getD-map f l k d e (omega arith)

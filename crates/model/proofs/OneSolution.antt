@@ -7,17 +7,17 @@ use Prim.Native.Nat.{ℕ, _-_, _<_}
 use native.Mathlib.Omega.{arith}
 use lib.ListN.{getD, length}
 use lib.Seq.{ext-getD}
-use lib.Dec.{leb, ltb, eqb}
+use lib.Dec.{leb, eqb}
 use borrow.Author.Tests.{eq-eqb, ne-eqb}
 use Rattle.model.specs.Lists.{All, keep, tabulate}
-use Rattle.model.specs.State.{Settings, Column, none, Declared, nothing, Result, Stream, Totals, Bridge, Class, classA, classB, sameClass, inForce, portAt, cellAt, resultAt, unsettled, noTotals}
+use Rattle.model.specs.State.{Column, none, Declared, nothing, Result, Stream, Totals, Bridge, Class, classA, classB, sameClass, inForce, portAt, cellAt, resultAt, unsettled, noTotals}
 use Rattle.model.specs.Registrations.{ids}
 use Rattle.model.specs.Bandwidth.{Claim, key, above, remains, admitted}
 use Rattle.model.specs.Settling.{Scene, decideOwns, remain, sourceOf, isSource, streamClass, registered, first, clear, outcomeColumn, steps, claim, claims, reservedA, limitOn, leftFor, byBandwidth, columnOf, latencyOut, passed, mergeAll, merged, decideAt, decide, totalOn, totalsOn, settle, isAdvertise, sceneOf, Inbound, inboundsOf}
 use Rattle.model.proofs.Lists.{all-map, all-both}
 use Rattle.model.proofs.Valid.{Rising}
 use Rattle.model.proofs.Admission.{Obeys, Rule, unique, subtracted, total-is-sum, all-above, taken-same}
-use Rattle.model.proofs.ColumnRule.{spent, spentIn, limitBy, leftBy, ruled, Small, claims-distinct, advertised, same-class, Agrees, spent-above, spent-all, columnAt, totalAt, SettledStream, Settled, Carried, Pairwise, Advanced, Shown, carried-column, carried-total, spent-same, total-ruled, advanced, at-place, tabulate-same, remain-all, remain-rising, carried-inbound}
+use Rattle.model.proofs.ColumnRule.{spentIn, limitBy, leftBy, ruled, Small, claims-distinct, advertised, same-class, Agrees, spent-above, spent-all, columnAt, totalAt, SettledStream, Settled, Carried, Pairwise, Advanced, Shown, carried-column, carried-total, spent-same, total-ruled, advanced, at-place, tabulate-same, remain-all, remain-rising, carried-inbound}
 
 -- what holds of the claim of every stream that reaches step h holds of every claim
 module _ (sc : Scene) (now p : ℕ) (c : Class) where
