@@ -1,0 +1,4 @@
+pub mod Cutting
+pub mod Best
+pub mod Named
+pub mod Plan
