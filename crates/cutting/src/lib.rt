@@ -5,7 +5,7 @@ ghost use lib.ListN.{length, getD, take};
 ghost use Rattle.cutting.specs.Cutting.{octetsFor};
 ghost use Rattle.cutting.specs.Best.{price, least, run};
 ghost use Rattle.cutting.specs.Named.{idsOf, Named};
-ghost use Rattle.cutting.specs.Plan.{none, entries, Weighed, Counted, Costed};
+ghost use Rattle.cutting.specs.Plan.{none, entries, Weighed, Counted, Costed, Packed};
 
 // What the best cutting of a tail weighs, and how many declarations its first vector has.
 pub struct Entry {
@@ -131,9 +131,7 @@ pub fn fit(table: &[u8], places: &[u8], room: u64, costs: &mut [u16]) -> usize
 // The run to write in at most `room` octets, and the plan of its least cutting.
 pub fn pack(table: &[u8], places: &[u8], room: u64, weighs: &mut [u16], firsts: &mut [u8]) -> usize
     requires { ⌜ Named (now table) (now places) × (length (now weighs) ≡ 65) × (length (now firsts) ≡ 65) ⌝ }
-    ensures { λ r. ⌜ (r ≡ run room (idsOf (now (table .entry)) (now (places .entry))))
-        × Weighed (take r (idsOf (now (table .entry)) (now (places .entry)))) 0 (now (weighs .exit))
-        × Counted (take r (idsOf (now (table .entry)) (now (places .entry)))) 0 (now (firsts .exit)) ⌝ }
+    ensures { λ r. ⌜ Packed room (idsOf (now (table .entry)) (now (places .entry))) r (now (weighs .exit)) (now (firsts .exit)) ⌝ }
 {
     let n = fit(table, places, room, weighs);
     plan(table, &places[..n], weighs, firsts);

@@ -1,129 +1,103 @@
-use Prim.Native.Nat.{ℕ, suc, _+_, _-_, _*_, _≤_, _<_}
-use mathlib.Core.Path.{_≡_, refl, sym, ap, _∙_}
+-- `cutting::least_to` gives the least octets of one more. The invariant: to go on back from here gives them. Assumes nothing.
+use Prim.Native.Nat.{ℕ, suc, _+_, _-_, _≤_, _<_}
+use mathlib.Core.Path.{_≡_, sym, ap₂, _∙_}
 use native.Mathlib.Omega.{arith}
 use borrow.Author.Needs.{needs}
-use lib.ListN.{length, getD, take, drop}
+use lib.ListN.{length, getD, take}
+use Rattle.cutting.specs.Cutting.{octetsFor}
+use Rattle.cutting.specs.Best.{least}
+use Rattle.cutting.specs.Named.{idsOf}
+use Rattle.cutting.specs.Plan.{back}
+use Rattle.cutting.proofs.Named.{ids-length}
+use Rattle.cutting.proofs.Prefix.{back-least}
+use Rattle.cutting.proofs.Loops.{back-stops, back-takes, back-keeps, back-ends, rising-at}
 use Rattle.cutting.proofs.least_to.Statement.{statement}
 use Rattle.cutting.proofs.least_to.Tie as tie
-use Rattle.cutting.proofs.least_to.Reads as reads
-use Rattle.cutting.proofs.least_to.Lts as lts
-use Rattle.cutting.proofs.id_of.Reads as id-of-reads
-use Rattle.cutting.proofs.octets_for.Reads as octets-for-reads
 
 abbrev Inv-loop : tie.InvT-loop
-Inv-loop table places k costs y m₀ j₀ m j = ?
+Inv-loop table places k costs y m₀ j₀ m j =
+    (j ≤ k) × (m < 200000)
+    × (back (λ i. getD (idsOf table places) i 0) (λ i. least (take i (idsOf table places))) y j m ≡ least (take (k + 1) (idsOf table places)))
 
 abbrev μ-loop : tie.MeasureT-loop
-μ-loop table places k costs y m₀ j₀ m j = ?
+μ-loop table places k costs y m₀ j₀ m j = j
 
--- src/lib.rt:92:9
-id-of-requires : tie.Need-id-of-requires Inv-loop μ-loop
-id-of-requires c κs = search needs
-
--- src/lib.rt:93:23
-mul-m : tie.Need-mul-m Inv-loop μ-loop
-mul-m c = search needs
-
--- src/lib.rt:93:23
-shared-slice-read-m : tie.Need-shared-slice-read-m Inv-loop μ-loop
-shared-slice-read-m c = search needs
-
--- src/lib.rt:93:23
 cast-m : tie.Need-cast-m Inv-loop μ-loop
-cast-m c = search needs
+cast-m c = omega (arith, c .shared-slice-known4 .given (c .before .before .before .before .before .args .k))
 
--- src/lib.rt:93:22
 add-m : tie.Need-add-m Inv-loop μ-loop
-add-m c = search needs
+add-m c = omega (arith, c .shared-slice-known4 .given (c .before .before .before .before .before .args .k))
 
--- src/lib.rt:95:5
 loop-holds : tie.Need-loop-holds Inv-loop μ-loop
-loop-holds c = ?
+loop-holds c =
+    let a = c .before .before .before .before .before .args in
+    let p = c .before .before .before .before .before .pre in
+    let long = ids-length (a .table .now) (a .places .now) in (
+      omega arith,
+      omega (arith, c .shared-slice-known4 .given (a .k)),
+      rw (c .before .id-of .ensures, p .3 (a .k) (omega arith)) (back-least (idsOf (a .table .now) (a .places .now)) (a .k) (omega (arith, long, p .0 .few)) (omega (arith, long))),
+    )
 
--- src/lib.rt:96:9
-sub-j : tie.Need-sub-j Inv-loop μ-loop
-sub-j c = search needs
-
--- src/lib.rt:97:13
-id-of-requires-2 : tie.Need-id-of-requires-2 Inv-loop μ-loop
-id-of-requires-2 c κs = search needs
-
--- src/lib.rt:99:13
 returns : tie.Need-returns Inv-loop μ-loop
-returns c = ?
+returns c =
+    let l = c .before .before .before .loop in
+    let s : l .j ≡ suc (l .j - 1) = omega arith in
+    sym (back-stops _ _ _ (l .j) (l .j - 1) (l .m) _ s (c .before .id-of2 .ensures) (c .if1 .taken)) ∙ l .inv .2
 
--- src/lib.rt:101:18
-mul-c : tie.Need-mul-c Inv-loop μ-loop
-mul-c c = search needs
-
--- src/lib.rt:101:18
-shared-slice-read-c : tie.Need-shared-slice-read-c Inv-loop μ-loop
-shared-slice-read-c c = search needs
-
--- src/lib.rt:101:18
 cast-c : tie.Need-cast-c Inv-loop μ-loop
-cast-c c = search needs
+cast-c c = omega (arith, c .shared-slice-known5 .given (c .before .before .before .before .loop .j - 1))
 
--- src/lib.rt:101:48
-sub-octets-for : tie.Need-sub-octets-for Inv-loop μ-loop
-sub-octets-for c = search needs
+-- what is met stands before the last
+before : (c : tie.After-shared-slice-known5 Inv-loop μ-loop) → c .before .before .id-of2 .result ≤ c .before .before .before .before .before .before .id-of .result
+before c =
+    let a = c .before .before .before .before .before .before .before .before .before .before .args in
+    let l = c .before .before .before .before .loop in
+    omega (arith, c .before .before .id-of2 .ensures, c .before .before .before .before .before .before .id-of .ensures,
+    rising-at (idsOf (a .table .now) (a .places .now)) (l .j - 1) (a .k) (c .before .before .before .before .before .before .before .before .before .before .pre .0 .rising) (omega arith)
+    (omega (arith, ids-length (a .table .now) (a .places .now))))
 
--- src/lib.rt:101:48
-add-octets-for : tie.Need-add-octets-for Inv-loop μ-loop
-add-octets-for c = search needs
-
--- src/lib.rt:101:37
-octets-for-requires : tie.Need-octets-for-requires Inv-loop μ-loop
-octets-for-requires c κs = search needs
-
--- src/lib.rt:101:17
 add-c : tie.Need-add-c Inv-loop μ-loop
-add-c c = search needs
+add-c c = omega (arith, c .before .shared-slice-known5 .given (c .before .before .before .before .before .loop .j - 1))
 
--- src/lib.rt:95:5
-loop-less : tie.Need-loop-less Inv-loop μ-loop
-loop-less c = search needs
+-- what is tried, as the octets of what is before it and of its vector
+tried : (c : tie.After-octets-for Inv-loop μ-loop)
+    → let a = c .before .before .before .before .before .before .before .before .before .before .before .args in
+    let j : ℕ = c .before .before .before .before .before .loop .j - 1 in
+    let x : ℕ = c .before .before .before .id-of2 .result in
+    let y : ℕ = c .before .before .before .before .before .before .before .id-of .result in
+    getD (a .costs .now) j 0 + c .octets-for .result ≡ least (take j (idsOf (a .table .now) (a .places .now))) + octetsFor (y - x + 1)
+tried c =
+    ap₂ (λ (u v : ℕ). u + v)
+    (c .before .before .before .before .before .before .before .before .before .before .before .pre .3 (c .before .before .before .before .before .loop .j - 1) (omega arith))
+    (c .octets-for .ensures .0)
 
--- src/lib.rt:95:5
 loop-again : tie.Need-loop-again Inv-loop μ-loop
-loop-again c = ?
+loop-again c =
+    let l = c .before .before .before .before .before .before .loop in
+    let s : l .j ≡ suc (l .j - 1) = omega arith in (
+      omega arith,
+      omega (arith, c .before .before .shared-slice-known5 .given (l .j - 1)),
+      sym (back-takes _ _ _ (l .j) (l .j - 1) (l .m) _ s (c .before .before .before .before .id-of2 .ensures) (c .before .before .before .if1 .left) _ (tried (c .before)) (c .if2 .taken)) ∙ l .inv .2,
+    )
 
--- src/lib.rt:95:5
-loop-less-2 : tie.Need-loop-less-2 Inv-loop μ-loop
-loop-less-2 c = search needs
-
--- src/lib.rt:95:5
 loop-again-2 : tie.Need-loop-again-2 Inv-loop μ-loop
-loop-again-2 c = ?
+loop-again-2 c =
+    let l = c .before .before .before .before .before .before .loop in
+    let s : l .j ≡ suc (l .j - 1) = omega arith in (
+      omega arith,
+      omega arith,
+      sym (back-keeps _ _ _ (l .j) (l .j - 1) (l .m) _ s (c .before .before .before .before .id-of2 .ensures) (c .before .before .before .if1 .left) _ (tried (c .before)) (c .if2 .left)) ∙ l .inv .2,
+    )
 
--- src/lib.rt:88:1
 returns-2 : tie.Need-returns-2 Inv-loop μ-loop
-returns-2 c = ?
+returns-2 c =
+    let l = c .before .loop in
+    sym (back-ends _ _ _ (l .j) (l .m) (omega arith)) ∙ l .inv .2
 
 pub least-to-spec : {M : Type 1} → statement M
 least-to-spec =
     tie.close
-    (tie.spec
-    Inv-loop
-    μ-loop
-    id-of-requires
-    mul-m
-    shared-slice-read-m
-    cast-m
-    add-m
-    loop-holds
-    sub-j
-    id-of-requires-2
-    returns
-    mul-c
-    shared-slice-read-c
-    cast-c
-    sub-octets-for
-    add-octets-for
-    octets-for-requires
-    add-c
-    loop-less
-    loop-again
-    loop-less-2
-    loop-again-2
-    returns-2)
+    (tie.spec Inv-loop μ-loop (λ c κs. search needs) (λ c. search needs) (λ c. search needs) cast-m add-m
+    loop-holds (λ c. search needs) (λ c κs. search needs) returns (λ c. search needs) (λ c. search needs) cast-c
+    (λ c. before c) (λ c. omega (arith, before c)) (λ c κs. omega (arith, before c)) add-c (λ c. search needs) loop-again (λ c. search needs)
+    loop-again-2 returns-2)
