@@ -1,26 +1,31 @@
 -- Writing: a PDU takes whole declarations, is at most 1,500 octets long and as full as that allows, and the PDUs from place 0
 -- on pass every declaration of the port once.
 use mathlib.Core.Path.{_≡_, refl, sym, _∙_, ap}
-use mathlib.Core.List.{List, [], _∷_, _++_, flatten, append-nil}
+use mathlib.Core.List.{List, [], _∷_, _++_, map, flatten, append-nil}
 use mathlib.Core.Bool.{Bool, true, false, cond}
 use Prim.Native.Nat.{ℕ, zero, suc, _+_, _*_, _-_, _≤_, _<_}
 use native.Mathlib.Nat.{suc-mul, add-zero}
+use native.Mathlib.Numerals.{add-one}
 use native.Mathlib.Omega.{arith}
 use lib.ListN.{length, take, drop, length-append, length-drop, take-append-drop, drop-of-length-le}
-use lib.Seq.{length-take-le, drop-length, drop-drop}
-use lib.Dec.{ltb, eqb}
-use borrow.Author.Tests.{ltb-true, ltb-false, lt-ltb, le-ltb, eq-eqb, ne-eqb, eqb-true, eqb-false}
+use lib.Seq.{length-take-le, drop-length, drop-drop, take-append-seam, drop-append-seam}
+use lib.Dec.{ltb, leb, eqb}
+use borrow.Author.Tests.{ltb-true, ltb-false, lt-ltb, le-ltb, leb-true, leb-false, le-leb, eq-eqb, ne-eqb, eqb-true, eqb-false}
 use Rattle.octets.specs.Be.{be}
 use Rattle.octets.specs.Fields.{packed, flat}
 use Rattle.octets.proofs.Be.{length-be}
 use Rattle.model.specs.FrameLayout.{longestPdu}
-use Rattle.model.specs.Lists.{All, keep}
+use Rattle.model.specs.Lists.{All, keep, longest}
 use Rattle.model.specs.State.{Port, Settings, Health, sound, broken, Column, none, advertise, failed, Declared, nothing, tells, Result, Stream, Bridge, portAt, resultAt, classA, classB, supports}
 use Rattle.model.specs.Registrations.{Kind, advertises, faileds, listeners}
 use Rattle.model.specs.Frames.{Attribute, registers, domain, TypeOctet, notAllowed, unknown, known, typeOctet, typeNumber, firstWidths, firstLength}
-use Rattle.model.specs.Declarations.{Declaration, talkerDeclaration, listenerDeclaration, domainDeclaration, healthKind, attributeOf, advertised, failing, listening, declarationsOf, ofKind, domainOf, domainValues, declarations, vectorSize, sameAttribute, Open, noMessage, message, opening, fitting, takes, Written, write}
-use Rattle.model.specs.WrittenFrames.{fixedNumbers, failureNumbers, firstNumbers, fourOctets, declarationVector, vectorOctets, messageOf, messageOctets, having, pduOctets}
-use Rattle.model.proofs.Lists.{all-map, all-each, all-append, all-take, all-keep}
+use Rattle.model.specs.Cutting.{joined, values, octetsFor, octets}
+use Rattle.model.specs.Best.{best, least}
+use Rattle.model.specs.Declarations.{Declaration, talkerDeclaration, listenerDeclaration, domainDeclaration, healthKind, attributeOf, advertised, failing, listening, declarationsOf, ofKind, domainOf, domainValues, declarations, declaredId, declaredIds, sameAttribute, having, vectorSize, vectorsSize, messageSize, messagesSize, fitting, takes, Written, write}
+use Rattle.model.specs.WrittenFrames.{fixedNumbers, failureNumbers, firstNumbers, fourOctets, declarationVector, packedVector, cutAs, listenerParts, vectorsOf, vectorOctets, messageOf, messageOctets, pduOctets}
+use Rattle.model.proofs.Lists.{all-map, all-each, all-append, all-take, all-keep, length-tabulate, longest-ends, longest-goes, longest-within, longest-passes, longest-full}
+use Rattle.model.proofs.LeastCutting.{best-cuts}
+use Rattle.model.proofs.LongestRun.{least-most}
 
 -- Lengths.
 
@@ -181,98 +186,6 @@ declarations-in-order st p s = before advertises faileds _ (omega arith) (before
 
 -- The octets of declarations.
 
--- counted one by one, as `fitting` does
-unfoldable pub size : Open → List Declaration → ℕ
-size o [] = 0
-size o (d ∷ l) = opening o (attributeOf d) + vectorSize (attributeOf d) + size (message (attributeOf d)) l
-
-pub fitting-within : (used : ℕ) (o : Open) (l : List Declaration) → fitting used o l ≤ length l
-unfolding fitting
-fitting-within used o [] = omega arith
-fitting-within used o (d ∷ l) =
-    go (ltb longestPdu (used + opening o (attributeOf d) + vectorSize (attributeOf d)))
-    (fitting-within (used + opening o (attributeOf d) + vectorSize (attributeOf d)) (message (attributeOf d)) l)
-  where
-    go : (t : Bool) {n : ℕ} → n ≤ length l → cond t 0 (suc n) ≤ suc (length l)
-    go true h = omega arith
-    go false h = omega arith
-
--- with so many octets used, those that fit do not run past 1,500, and one more would
-fitting-fits : (used : ℕ) (o : Open) (l : List Declaration) → used ≤ longestPdu → used + size o (take (fitting used o l) l) ≤ longestPdu
-unfolding fitting size
-fitting-fits used o [] h = omega arith
-fitting-fits used o (d ∷ l) h = go (ltb longestPdu more) refl (fitting-fits more (message (attributeOf d)) l)
-  where
-    more : ℕ
-    more = used + opening o (attributeOf d) + vectorSize (attributeOf d)
-
-    n : ℕ
-    n = fitting more (message (attributeOf d)) l
-
-    go : (t : Bool) → ltb longestPdu more ≡ t → (more ≤ longestPdu → more + size (message (attributeOf d)) (take n l) ≤ longestPdu)
-        → used + size o (take (cond t 0 (suc n)) (d ∷ l)) ≤ longestPdu
-    go true e ih = omega arith
-    go false e ih = omega (arith, ih (ltb-false longestPdu more e))
-
-fitting-full : (used : ℕ) (o : Open) (l : List Declaration) → fitting used o l < length l → longestPdu < used + size o (take (suc (fitting used o l)) l)
-unfolding fitting size
-fitting-full used o [] h = absurd (omega arith)
-fitting-full used o (d ∷ l) h = go (ltb longestPdu more) refl (fitting-full more (message (attributeOf d)) l) h
-  where
-    more : ℕ
-    more = used + opening o (attributeOf d) + vectorSize (attributeOf d)
-
-    n : ℕ
-    n = fitting more (message (attributeOf d)) l
-
-    go : (t : Bool) → ltb longestPdu more ≡ t → (n < length l → longestPdu < more + size (message (attributeOf d)) (take (suc n) l))
-        → cond t 0 (suc n) < suc (length l) → longestPdu < used + size o (take (suc (cond t 0 (suc n))) (d ∷ l))
-    go true e ih h = omega (arith, ltb-true longestPdu more e)
-    go false e ih h = omega (arith, ih (omega arith))
-
--- counted type by type: a Message of n declarations of type k
-unfoldable pub messageSize : Attribute → ℕ → ℕ
-messageSize k zero = 0
-messageSize k (suc n) = 6 + suc n * vectorSize k
-
--- Messages of so many declarations of each type
-unfoldable pub messagesSize : (Attribute → ℕ) → ℕ
-messagesSize c = of (registers advertises) + of (registers faileds) + of (registers listeners) + of domain
-  where
-    of : Attribute → ℕ
-    of k = messageSize k (c k)
-
--- of declarations, how many are of a type
-unfoldable pub count : List Declaration → Attribute → ℕ
-count l k = length (having k l)
-
--- one of type j more
-unfoldable pub oneMore : Attribute → (Attribute → ℕ) → Attribute → ℕ
-oneMore j c k = cond (sameAttribute j k) (suc (c k)) (c k)
-
-count-cons : (d : Declaration) (l : List Declaration) (k : Attribute) → count (d ∷ l) k ≡ oneMore (attributeOf d) (count l) k
-unfolding having oneMore count
-count-cons d l k = go (sameAttribute (attributeOf d) k)
-  where
-    go : (t : Bool) → length (keep t d (having k l)) ≡ cond t (suc (length (having k l))) (length (having k l))
-    go true = refl
-    go false = refl
-
--- a declaration opens a Message where there is none of its type, and else lengthens one
-messages-open : (j : Attribute) (c : Attribute → ℕ) → c j ≡ 0 → messagesSize (oneMore j c) ≡ messagesSize c + 6 + vectorSize j
-unfolding messagesSize oneMore messageSize sameAttribute typeNumber vectorSize
-messages-open (registers advertises) c h = rw h (omega arith)
-messages-open (registers faileds) c h = rw h (omega arith)
-messages-open (registers listeners) c h = rw h (omega arith)
-messages-open domain c h = rw h (omega arith)
-
-messages-same : (j : Attribute) (c : Attribute → ℕ) (n : ℕ) → c j ≡ suc n → messagesSize (oneMore j c) ≡ messagesSize c + vectorSize j
-unfolding messagesSize oneMore messageSize sameAttribute typeNumber vectorSize
-messages-same (registers advertises) c n h = rw h (omega arith)
-messages-same (registers faileds) c n h = rw h (omega arith)
-messages-same (registers listeners) c n h = rw h (omega arith)
-messages-same domain c n h = rw h (omega arith)
-
 pub having-attribute : (k : Attribute) (l : List Declaration) → All (OfAttribute k) (having k l)
 unfolding having
 having-attribute k [] = tt
@@ -288,87 +201,135 @@ unfolding having
 having-none k [] a = refl
 having-none k (d ∷ l) a = rw (other-attribute (attributeOf d) k (λ e. omega arith)) (having-none k l (a .1))
 
-length-vectors : (k : Attribute) (l : List Declaration) → All (OfAttribute k) l → length (flat (λ e. vectorOctets (declarationVector e)) l) ≡ length l * vectorSize k
-unfolding flat
-length-vectors k [] a = omega arith
-length-vectors k (d ∷ l) a =
-    let e = suc-mul (length l) (vectorSize k) in
-    simp (length-append, length-vector d, a .0, length-vectors k l (a .1)) (omega arith)
+having-append : (k : Attribute) (l m : List Declaration) → having k (l ++ m) ≡ having k l ++ having k m
+unfolding having
+having-append k [] m = refl
+having-append k (d ∷ l) m = rw (having-append k l m) (go (sameAttribute (attributeOf d) k))
+  where
+    go : (t : Bool) → keep t d (having k l ++ having k m) ≡ keep t d (having k l) ++ having k m
+    go true = refl
+    go false = refl
 
-pub length-message : (k : Attribute) (l : List Declaration) → All (OfAttribute k) l → length (messageOctets k l) ≡ messageSize k (length l)
+having-own : (k : Attribute) (l : List Declaration) → All (OfAttribute k) l → having k l ≡ l
+unfolding having
+having-own k [] a = refl
+having-own k (d ∷ l) a = rw (a .0, same-attribute k) (ap (λ (r : List Declaration). d ∷ r) (having-own k l (a .1)))
+
+having-other : (j k : Attribute) (l : List Declaration) → sameAttribute k j ≡ false → All (OfAttribute k) l → having j l ≡ []
+unfolding having
+having-other j k [] e a = refl
+having-other j k (d ∷ l) e a = rw (a .0, e) (having-other j k l e (a .1))
+
+-- the vectors of declarations, one each
+length-singles : (k : Attribute) (l : List Declaration) → All (OfAttribute k) l → length (flat vectorOctets (map declarationVector l)) ≡ length l * vectorSize k
+unfolding flat
+length-singles k [] a = omega arith
+length-singles k (d ∷ l) a =
+    let e = suc-mul (length l) (vectorSize k) in
+    simp (length-append, length-vector d, a .0, length-singles k l (a .1)) (omega arith)
+
+-- of Listeners packed
+pub length-packed : (g : List Declaration) → length (vectorOctets (packedVector g)) ≡ octetsFor (values (declaredIds g))
+unfolding vectorOctets packedVector packed be octetsFor
+length-packed g = simp (length-append, length-be, length-tabulate) (omega arith)
+
+pub ids-take : (n : ℕ) (l : List Declaration) → declaredIds (take n l) ≡ take n (declaredIds l)
+unfolding declaredIds
+ids-take zero l = refl
+ids-take (suc n) [] = refl
+ids-take (suc n) (d ∷ l) = ap (λ (r : List ℕ). declaredId d ∷ r) (ids-take n l)
+
+pub ids-drop : (n : ℕ) (l : List Declaration) → declaredIds (drop n l) ≡ drop n (declaredIds l)
+unfolding declaredIds
+ids-drop zero l = refl
+ids-drop (suc n) [] = refl
+ids-drop (suc n) (d ∷ l) = ids-drop n l
+
+-- declarations cut as their StreamIDs are: the StreamIDs of the first part, and of the rest
+pub cut-first : (g : List ℕ) (c : List (List ℕ)) (l : List Declaration) → joined (g ∷ c) ≡ declaredIds l
+    → (declaredIds (take (length g) l) ≡ g) × (joined c ≡ declaredIds (drop (length g) l))
+cut-first g c l e = (
+  ids-take (length g) l ∙ ap (take (length g)) (sym e) ∙ take-append-seam g (joined c),
+  sym (drop-append-seam g (joined c)) ∙ ap (drop (length g)) e ∙ sym (ids-drop (length g) l),
+)
+
+length-cut-as : (c : List (List ℕ)) (l : List Declaration) → joined c ≡ declaredIds l → length (flat vectorOctets (map packedVector (cutAs c l))) ≡ octets c
+unfolding flat cutAs
+length-cut-as [] l e = refl
+length-cut-as (g ∷ c) l e =
+    let s = cut-first g c l e in
+    simp (length-append, length-packed (take (length g) l), s .0, length-cut-as c (drop (length g) l) (s .1))
+
+length-vectors : (k : Attribute) (l : List Declaration) → All (OfAttribute k) l → length (flat vectorOctets (vectorsOf k l)) ≡ vectorsSize k l
+unfolding vectorsOf vectorsSize listenerParts least
+length-vectors (registers advertises) l a = length-singles (registers advertises) l a
+length-vectors (registers faileds) l a = length-singles (registers faileds) l a
+length-vectors (registers listeners) l a = length-cut-as (best (declaredIds l)) l (best-cuts (declaredIds l) .0)
+length-vectors domain l a = length-singles domain l a
+
+pub length-message : (k : Attribute) (l : List Declaration) → All (OfAttribute k) l → length (messageOctets k l) ≡ messageSize k l
 unfolding messageOctets messageOf messageSize
 length-message k [] a = refl
 length-message k (d ∷ l) a = simp (length-append, length-be, length-vectors k (d ∷ l) a) (omega arith)
 
-length-pdu : (l : List Declaration) → length (pduOctets l) ≡ 3 + messagesSize (count l)
-unfolding pduOctets messagesSize count
+pub length-pdu : (l : List Declaration) → length (pduOctets l) ≡ 3 + messagesSize l
+unfolding pduOctets messagesSize
 length-pdu l = simp (length-append, of (registers advertises), of (registers faileds), of (registers listeners), of domain) (omega arith)
   where
-    of : (k : Attribute) → length (messageOctets k (having k l)) ≡ messageSize k (length (having k l))
+    of : (k : Attribute) → length (messageOctets k (having k l)) ≡ messageSize k (having k l)
     of k = length-message k (having k l) (having-attribute k l)
-
-count-messages : (d : Declaration) (l : List Declaration) → messagesSize (count (d ∷ l)) ≡ messagesSize (oneMore (attributeOf d) (count l))
-unfolding messagesSize
-count-messages d l =
-    rw (count-cons d l (registers advertises), count-cons d l (registers faileds), count-cons d l (registers listeners), count-cons d l domain)
-
-count-none : (k : Attribute) (l : List Declaration) → All (λ d. typeNumber k < typeNumber (attributeOf d)) l → count l k ≡ 0
-unfolding count
-count-none k l a = rw (having-none k l a)
-
-count-head : (d : Declaration) (l : List Declaration) → count (d ∷ l) (attributeOf d) ≡ suc (count l (attributeOf d))
-unfolding oneMore
-count-head d l = count-cons d l (attributeOf d) ∙ rw (same-attribute (attributeOf d))
-
--- in the order of types the two counts agree
-size-in-order : (l : List Declaration) → InOrder l → size noMessage l ≡ messagesSize (count l)
-unfolding size opening
-size-in-order [] o = unfold messagesSize messageSize count having in refl
-size-in-order (d ∷ []) o =
-    omega (arith, count-messages d [], messages-open (attributeOf d) (count []) (count-none (attributeOf d) [] tt), size-in-order [] tt)
-size-in-order (d ∷ e ∷ l) o = go (sameAttribute (attributeOf d) (attributeOf e)) refl (size-in-order (e ∷ l) (o .1))
-  where
-    go : (t : Bool) → sameAttribute (attributeOf d) (attributeOf e) ≡ t
-        → 6 + vectorSize (attributeOf e) + size (message (attributeOf e)) l ≡ messagesSize (count (e ∷ l))
-        → 6 + vectorSize (attributeOf d) + (cond t 0 6 + vectorSize (attributeOf e) + size (message (attributeOf e)) l) ≡ messagesSize (count (d ∷ e ∷ l))
-    go true q ih =
-        let s : count (e ∷ l) (attributeOf d) ≡ suc (count l (attributeOf d)) = rw (attributes-same (attributeOf d) (attributeOf e) q) (count-head e l) in
-        omega (arith, count-messages d (e ∷ l), messages-same (attributeOf d) (count (e ∷ l)) (count l (attributeOf d)) s)
-    go false q ih =
-        let apart : typeNumber (attributeOf d) ≡ typeNumber (attributeOf e) → ⊥ = attributes-other (attributeOf d) (attributeOf e) q in
-        let less : typeNumber (attributeOf d) < typeNumber (attributeOf e) = omega (arith, o .0 .0) in
-        let later : All (λ x. typeNumber (attributeOf d) < typeNumber (attributeOf x)) l = all-map (NotBefore (attributeOf e)) (λ x. typeNumber (attributeOf d) < typeNumber (attributeOf x)) (λ x h. omega arith) l (o .1 .0) in
-        omega (arith, count-messages d (e ∷ l), messages-open (attributeOf d) (count (e ∷ l)) (count-none (attributeOf d) (e ∷ l) (less, later)))
 
 -- "one PDU takes as many as fit in 1,500 octets whole".
 
-pub takes-fits : (l : List Declaration) → InOrder l → length (pduOctets (take (takes l) l)) ≤ longestPdu
-unfolding takes
-takes-fits l o =
-    let run : List Declaration = take (fitting 3 noMessage l) l in
-    omega (arith, length-pdu run, size-in-order run (order-take (fitting 3 noMessage l) l o), fitting-fits 3 noMessage l (omega arith))
+-- with so many octets used, n of the declarations fit
+abbrev pub fitsWith : ℕ → List Declaration → ℕ → Bool
+fitsWith used l n = leb (used + messagesSize (take n l)) longestPdu
 
-pub takes-full : (l : List Declaration) → InOrder l → takes l < length l → longestPdu < length (pduOctets (take (suc (takes l)) l))
-unfolding takes
-takes-full l o h =
-    let run : List Declaration = take (suc (fitting 3 noMessage l)) l in
-    omega (arith, length-pdu run, size-in-order run (order-take (suc (fitting 3 noMessage l)) l o), fitting-full 3 noMessage l h)
+no-messages : messagesSize [] ≡ 0
+unfolding messagesSize messageSize having
+no-messages = refl
+
+pub takes-fits : (l : List Declaration) → length (pduOctets (take (takes l) l)) ≤ longestPdu
+unfolding takes fitting
+takes-fits l =
+    let n : ℕ = longest (fitsWith 3 l) 0 (length l) in
+    let e : fitsWith 3 l n ≡ true = longest-passes (fitsWith 3 l) 0 (length l) (rw no-messages refl) in
+    omega (arith, length-pdu (take n l), leb-true (3 + messagesSize (take n l)) longestPdu e)
+
+pub takes-full : (l : List Declaration) → takes l < length l → longestPdu < length (pduOctets (take (suc (takes l)) l))
+unfolding takes fitting
+takes-full l h =
+    let n : ℕ = longest (fitsWith 3 l) 0 (length l) in
+    let e : fitsWith 3 l (suc n) ≡ false = rw (add-one n) at (longest-full (fitsWith 3 l) 0 (length l) (omega arith)) in
+    omega (arith, length-pdu (take (suc n) l), leb-false (3 + messagesSize (take (suc n) l)) longestPdu e)
 
 pub takes-within : (l : List Declaration) → takes l ≤ length l
-unfolding takes
-takes-within l = fitting-within 3 noMessage l
+unfolding takes fitting
+takes-within l = omega (arith, longest-within (fitsWith 3 l) 0 (length l) .1)
 
 -- there is room for one
-pub takes-one : (l : List Declaration) → 1 ≤ length l → 1 ≤ takes l
-unfolding takes fitting opening vectorSize
-takes-one [] h = absurd (omega arith)
-takes-one (d ∷ l) h = go (attributeOf d)
+one-message : (d : Declaration) → messagesSize (d ∷ []) ≤ 43
+unfolding messagesSize messageSize having sameAttribute typeNumber vectorsSize vectorSize declaredIds
+one-message d = go (attributeOf d)
   where
-    go : (k : Attribute) → 1 ≤ cond (ltb longestPdu (9 + vectorSize k)) 0 (suc (fitting (9 + vectorSize k) (message k) l))
+    one : least (declaredId d ∷ []) ≤ 12
+    one = omega (arith, least-most (declaredId d ∷ []) (omega arith))
+
+    size : Attribute → Attribute → ℕ
+    size k j = messageSize j (keep (sameAttribute k j) d [])
+
+    go : (k : Attribute) → size k (registers advertises) + size k (registers faileds) + size k (registers listeners) + size k domain ≤ 43
     go (registers advertises) = omega arith
     go (registers faileds) = omega arith
-    go (registers listeners) = omega arith
+    go (registers listeners) = omega (arith, one)
     go domain = omega arith
+
+pub takes-one : (l : List Declaration) → 1 ≤ length l → 1 ≤ takes l
+unfolding takes fitting
+takes-one [] h = absurd (omega arith)
+takes-one (d ∷ l) h =
+    let e : fitsWith 3 (d ∷ l) 1 ≡ true = le-leb (3 + messagesSize (d ∷ [])) longestPdu (omega (arith, one-message d)) in
+    rw (longest-goes (fitsWith 3 (d ∷ l)) 0 (length l) e) (omega (arith, longest-within (fitsWith 3 (d ∷ l)) 1 (length l) .0))
 
 -- no declaration is left
 pub no-declarations : pduOctets [] ≡ 0 ∷ 0 ∷ 0 ∷ []
@@ -429,7 +390,7 @@ module _ (b : Bridge) (p place : ℕ) where
     where
       go : (t : Bool) → ltb (length (declared b p)) place ≡ t → length (pduOctets (write b p place .run)) ≤ longestPdu
       go true e = rw (write-above (ltb-true (length (declared b p)) place e)) (omega (arith, ap length no-declarations))
-      go false e = rw (write-from (ltb-false (length (declared b p)) place e)) (takes-fits (drop place (declared b p)) rest-in-order)
+      go false e = rw (write-from (ltb-false (length (declared b p)) place e)) (takes-fits (drop place (declared b p)))
 
   -- where declarations are left, one more would not have fitted
   pub run-full : place ≤ length (declared b p) → write b p place .next < length (declared b p)
@@ -437,12 +398,12 @@ module _ (b : Bridge) (p place : ℕ) where
   run-full h k =
       let rest : List Declaration = drop place (declared b p) in
       let left : takes rest < length rest = simp length-drop (omega (arith, ap (λ (w : Written). w .next) (write-from h))) in
-      rw (write-from h, length-take-le (takes rest) rest (takes-within rest)) (takes-full rest rest-in-order left)
+      rw (write-from h, length-take-le (takes rest) rest (takes-within rest)) (takes-full rest left)
 
 -- "At place = count it is 00 00 00"
 pub write-at-count : (b : Bridge) (p : ℕ) → write b p (length (declared b p)) ≡ record { number = 0; run = []; next = length (declared b p) }
 write-at-count b p =
-    write-from b p (length (declared b p)) (omega arith) ∙ rw (drop-length (declared b p)) (unfold takes fitting in (rw add-zero))
+    write-from b p (length (declared b p)) (omega arith) ∙ rw (drop-length (declared b p)) (unfold takes fitting in (rw (longest-ends, add-zero)))
 
 -- PDU after PDU.
 
