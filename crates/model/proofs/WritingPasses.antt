@@ -4,13 +4,13 @@ use mathlib.Core.Path.{_≡_, refl, sym, _∙_, ap}
 use mathlib.Core.List.{List, [], _∷_, _++_, map, flatten, append-nil}
 use mathlib.Core.Bool.{Bool, true, false, cond}
 use Prim.Native.Nat.{ℕ, zero, suc, _+_, _*_, _-_, _≤_, _<_}
-use native.Mathlib.Nat.{suc-mul, add-zero}
+use native.Mathlib.Nat.{suc-mul, add-zero, mul-le-mul-right}
 use native.Mathlib.Numerals.{add-one}
 use native.Mathlib.Omega.{arith}
-use lib.ListN.{length, take, drop, length-append, length-drop, take-append-drop, drop-of-length-le}
-use lib.Seq.{length-take-le, drop-length, drop-drop, take-append-seam, drop-append-seam}
+use lib.ListN.{length, length-map, take, drop, length-append, length-drop, take-append-drop, drop-of-length-le}
+use lib.Seq.{length-take-le, take-take, take-append-le, take-append-add, drop-length, drop-drop, take-append-seam, drop-append-seam}
 use lib.Dec.{ltb, leb, eqb}
-use borrow.Author.Tests.{ltb-true, ltb-false, lt-ltb, le-ltb, leb-true, leb-false, le-leb, eq-eqb, ne-eqb, eqb-true, eqb-false}
+use borrow.Author.Tests.{ltb-true, ltb-false, lt-ltb, le-ltb, leb-true, leb-false, le-leb, lt-leb, eq-eqb, ne-eqb, eqb-true, eqb-false}
 use Rattle.octets.specs.Be.{be}
 use Rattle.octets.specs.Fields.{packed, flat}
 use Rattle.octets.proofs.Be.{length-be}
@@ -20,12 +20,13 @@ use Rattle.model.specs.State.{Port, Settings, Health, sound, broken, Col
 use Rattle.model.specs.Registrations.{Kind, advertises, faileds, listeners}
 use Rattle.model.specs.Frames.{Attribute, registers, domain, TypeOctet, notAllowed, unknown, known, typeOctet, typeNumber, firstWidths, firstLength}
 use Rattle.model.specs.Cutting.{joined, values, octetsFor, octets}
-use Rattle.model.specs.Best.{best, least}
+use Rattle.model.specs.Best.{best, least, run}
 use Rattle.model.specs.Declarations.{Declaration, talkerDeclaration, listenerDeclaration, domainDeclaration, healthKind, attributeOf, advertised, failing, listening, declarationsOf, ofKind, domainOf, domainValues, declarations, declaredId, declaredIds, sameAttribute, having, vectorSize, vectorsSize, messageSize, messagesSize, fitting, takes, Written, write}
 use Rattle.model.specs.WrittenFrames.{fixedNumbers, failureNumbers, firstNumbers, fourOctets, declarationVector, packedVector, cutAs, listenerParts, vectorsOf, vectorOctets, messageOf, messageOctets, pduOctets}
-use Rattle.model.proofs.Lists.{all-map, all-each, all-append, all-take, all-keep, length-tabulate, longest-ends, longest-goes, longest-within, longest-passes, longest-full}
+use Rattle.model.proofs.Lists.{Longest, longest-longest, all-map, all-each, all-append, all-take, all-keep, length-tabulate, longest-ends, longest-stops, longest-goes, longest-split, longest-same, longest-from, longest-within, longest-passes, longest-full}
 use Rattle.model.proofs.LeastCutting.{best-cuts}
-use Rattle.model.proofs.LongestRun.{least-most}
+use Rattle.model.proofs.LongestRun.{least-take, least-most}
+use Rattle.model.proofs.Ascents.{Rising, rising-take}
 
 -- Lengths.
 
@@ -245,6 +246,10 @@ ids-drop zero l = refl
 ids-drop (suc n) [] = refl
 ids-drop (suc n) (d ∷ l) = ids-drop n l
 
+pub length-ids : (l : List Declaration) → length (declaredIds l) ≡ length l
+unfolding declaredIds
+length-ids l = length-map l declaredId
+
 -- declarations cut as their StreamIDs are: the StreamIDs of the first part, and of the rest
 pub cut-first : (g : List ℕ) (c : List (List ℕ)) (l : List Declaration) → joined (g ∷ c) ≡ declaredIds l
     → (declaredIds (take (length g) l) ≡ g) × (joined c ≡ declaredIds (drop (length g) l))
@@ -330,6 +335,204 @@ takes-one [] h = absurd (omega arith)
 takes-one (d ∷ l) h =
     let e : fitsWith 3 (d ∷ l) 1 ≡ true = le-leb (3 + messagesSize (d ∷ [])) longestPdu (omega (arith, one-message d)) in
     rw (longest-goes (fitsWith 3 (d ∷ l)) 0 (length l) e) (omega (arith, longest-within (fitsWith 3 (d ∷ l)) 1 (length l) .0))
+
+-- Type by type: of declarations of one type and of later types, those of the first are taken first.
+
+abbrev pub After : Attribute → Declaration → Type 0
+After k d = typeNumber k < typeNumber (attributeOf d)
+
+module _ (k : Attribute) (l m : List Declaration) (own : All (OfAttribute k) l) (after : All (After k) m) where
+  having-first : (j : Attribute) → having j (l ++ m) ≡ cond (sameAttribute k j) l (having j m)
+  having-first j = having-append j l m ∙ go (sameAttribute k j) refl
+    where
+      go : (t : Bool) → sameAttribute k j ≡ t → having j l ++ having j m ≡ cond t l (having j m)
+      go true e =
+          let none : having j m ≡ [] = rw (← attributes-same k j e) (having-none k m after) in
+          rw (none, append-nil, ← attributes-same k j e) (having-own k l own)
+      go false e = rw (having-other j k l e own)
+
+  first-none : having k m ≡ []
+  first-none = having-none k m after
+
+  pub messages-first : messagesSize (l ++ m) ≡ messageSize k l + messagesSize m
+  unfolding messagesSize
+  messages-first =
+      rw (having-first (registers advertises), having-first (registers faileds), having-first (registers listeners), having-first domain)
+      (go k first-none)
+    where
+      size : Attribute → Attribute → ℕ
+      size i j = messageSize j (cond (sameAttribute i j) l (having j m))
+
+      of : Attribute → ℕ
+      of j = messageSize j (having j m)
+
+      none : (i : Attribute) → having i m ≡ [] → of i ≡ 0
+      none i e = rw e (unfold messageSize in refl)
+
+      go : (i : Attribute) → having i m ≡ []
+          → size i (registers advertises) + size i (registers faileds) + size i (registers listeners) + size i domain
+          ≡ messageSize i l + (of (registers advertises) + of (registers faileds) + of (registers listeners) + of domain)
+      go (registers advertises) e = unfold sameAttribute typeNumber in (omega (arith, none (registers advertises) e))
+      go (registers faileds) e = unfold sameAttribute typeNumber in (omega (arith, none (registers faileds) e))
+      go (registers listeners) e = unfold sameAttribute typeNumber in (omega (arith, none (registers listeners) e))
+      go domain e = unfold sameAttribute typeNumber in (omega (arith, none domain e))
+
+-- of one type
+pub messages-one : (k : Attribute) (l : List Declaration) → All (OfAttribute k) l → messagesSize l ≡ messageSize k l
+messages-one k l own =
+    ap messagesSize (sym (append-nil l)) ∙ messages-first k l [] own tt ∙ omega (arith, no-messages)
+
+-- what fits of the later ones counts where all of the first do
+pub fitting-types : (used : ℕ) (k : Attribute) (l m : List Declaration) → All (OfAttribute k) l → All (After k) m
+    → fitting used (l ++ m) ≡ cond (ltb (fitting used l) (length l)) (fitting used l) (length l + fitting (used + messageSize k l) m)
+unfolding fitting
+fitting-types used k l m own after =
+    rw (length-append l m, longest-split (fitsWith used (l ++ m)) 0 (length l) (length m), near, far) (unary (length l))
+  where
+    near : longest (fitsWith used (l ++ m)) 0 (length l) ≡ longest (fitsWith used l) 0 (length l)
+    near =
+        longest-same (fitsWith used (l ++ m)) (fitsWith used l) 0 (length l)
+        (λ i a b. ap (λ (r : List Declaration). leb (used + messagesSize r) longestPdu) (take-append-le i l m (omega arith)))
+
+    rest : (i : ℕ) → used + messagesSize (take (length l + i) (l ++ m)) ≡ used + messageSize k l + messagesSize (take i m)
+    rest i = rw (take-append-add l m i) (omega (arith, messages-first k l (take i m) own (all-take (After k) i m after)))
+
+    far : longest (fitsWith used (l ++ m)) (0 + length l) (length m) ≡ length l + longest (fitsWith (used + messageSize k l) m) 0 (length m)
+    far =
+        let e : 0 + length l ≡ length l + 0 = omega arith in
+        rw (e, longest-from (fitsWith used (l ++ m)) (length l) 0 (length m))
+        (ap (λ (n : ℕ). length l + n)
+        (longest-same (λ i. fitsWith used (l ++ m) (length l + i)) (fitsWith (used + messageSize k l) m) 0 (length m)
+        (λ i a b. ap (λ (n : ℕ). leb n longestPdu) (rest i))))
+
+    unary : (n : ℕ) → cond (ltb (longest (fitsWith used l) 0 (length l)) (0 + n)) (longest (fitsWith used l) 0 (length l))
+        (length l + longest (fitsWith (used + messageSize k l) m) 0 (length m))
+        ≡ cond (ltb (longest (fitsWith used l) 0 (length l)) n) (longest (fitsWith used l) 0 (length l))
+        (length l + longest (fitsWith (used + messageSize k l) m) 0 (length m))
+    unary n = let e : 0 + n ≡ n = omega arith in rw e
+
+-- the Message of some
+message-some : (k : Attribute) (l : List Declaration) → 1 ≤ length l → messageSize k l ≡ 6 + vectorsSize k l
+unfolding messageSize
+message-some k [] h = absurd (omega arith)
+message-some k (d ∷ l) h = refl
+
+module _ (used : ℕ) (k : Attribute) (l : List Declaration) (own : All (OfAttribute k) l) where
+  pub fitting-one : fitting used l ≡ longest (λ n. leb (used + 6 + vectorsSize k (take n l)) longestPdu) 0 (length l)
+  unfolding fitting
+  fitting-one =
+      longest-same (fitsWith used l) (λ n. leb (used + 6 + vectorsSize k (take n l)) longestPdu) 0 (length l)
+      (λ i a b. ap (λ (n : ℕ). leb n longestPdu) (size i a (omega arith)))
+    where
+      size : (i : ℕ) → 0 < i → i ≤ length l → used + messagesSize (take i l) ≡ used + 6 + vectorsSize k (take i l)
+      size i a b =
+          omega (
+            arith,
+            messages-one k (take i l) (all-take (OfAttribute k) i l own),
+            message-some k (take i l) (omega (arith, length-take-le i l b)),
+          )
+
+  -- there is no room for a Message
+  pub fitting-over : longestPdu < used + 6 → fitting used l ≡ 0
+  fitting-over h = fitting-one ∙ go (length l)
+    where
+      go : (n : ℕ) → longest (λ n. leb (used + 6 + vectorsSize k (take n l)) longestPdu) 0 n ≡ 0
+      go zero = longest-ends _ 0
+      go (suc n) = longest-stops _ 0 n (lt-leb (used + 6 + vectorsSize k (take (0 + 1) l)) longestPdu (omega arith))
+
+-- one per vector
+pub fitting-single : (used : ℕ) (k : Attribute) (l : List Declaration) → All (OfAttribute k) l → (k ≡ registers listeners → ⊥)
+    → fitting used l ≡ longest (λ n. leb (used + 6 + n * vectorSize k) longestPdu) 0 (length l)
+fitting-single used k l own h =
+    fitting-one used k l own
+    ∙ longest-same (λ n. leb (used + 6 + vectorsSize k (take n l)) longestPdu) (λ n. leb (used + 6 + n * vectorSize k) longestPdu) 0 (length l)
+    (λ i a b. ap (λ (n : ℕ). leb (used + 6 + n) longestPdu) (singles k h (take i l) ∙ ap (λ (n : ℕ). n * vectorSize k) (length-take-le i l (omega arith))))
+  where
+    singles : (k : Attribute) → (k ≡ registers listeners → ⊥) → (r : List Declaration) → vectorsSize k r ≡ length r * vectorSize k
+    singles (registers advertises) h r = unfold vectorsSize in refl
+    singles (registers faileds) h r = unfold vectorsSize in refl
+    singles (registers listeners) h r = absurd (h refl)
+    singles domain h r = unfold vectorsSize in refl
+
+-- Listeners packed
+pub fitting-listeners : (used : ℕ) (l : List Declaration) → All (OfAttribute (registers listeners)) l → used + 6 ≤ longestPdu
+    → fitting used l ≡ run (longestPdu - (used + 6)) (declaredIds l)
+unfolding run vectorsSize
+fitting-listeners used l own h =
+    fitting-one used (registers listeners) l own
+    ∙ rw (length-ids l)
+    (longest-same (λ n. leb (used + 6 + least (declaredIds (take n l))) longestPdu) (λ n. leb (least (take n (declaredIds l))) (longestPdu - (used + 6))) 0 (length l)
+    (λ i a b. rw (ids-take i l) (same (least (take i (declaredIds l))))))
+  where
+    same : (n : ℕ) → leb (used + 6 + n) longestPdu ≡ leb n (longestPdu - (used + 6))
+    same n = go (leb n (longestPdu - (used + 6))) refl
+      where
+        go : (t : Bool) → leb n (longestPdu - (used + 6)) ≡ t → leb (used + 6 + n) longestPdu ≡ t
+        go true e = le-leb (used + 6 + n) longestPdu (omega (arith, leb-true n (longestPdu - (used + 6)) e))
+        go false e = lt-leb (used + 6 + n) longestPdu (omega (arith, leb-false n (longestPdu - (used + 6)) e))
+
+-- The run is the longest that fits, with all of its Messages counted: fewer declarations never take more octets.
+
+abbrev pub pduFits : List Declaration → ℕ → Bool
+pduFits l n = leb (length (pduOctets (take n l))) longestPdu
+
+-- at most 64 Listeners, by ascending StreamID
+pub record FewListeners (l : List Declaration) : Type 0 where
+  pub few : length (having (registers listeners) l) ≤ 64
+  pub ascending : Rising (declaredIds (having (registers listeners) l))
+
+vectors-rise : (k : Attribute) (l m : List Declaration)
+    → (k ≡ registers listeners → (length (l ++ m) ≤ 64) × Rising (declaredIds (l ++ m))) → vectorsSize k l ≤ vectorsSize k (l ++ m)
+unfolding vectorsSize
+vectors-rise (registers advertises) l m h = rw (length-append l m) (mul-le-mul-right _ (omega arith))
+vectors-rise (registers faileds) l m h = rw (length-append l m) (mul-le-mul-right _ (omega arith))
+vectors-rise (registers listeners) l m h =
+    let n : length (declaredIds (l ++ m)) ≤ 64 = rw (length-ids (l ++ m)) (h refl .0) in
+    let e : take (length l) (declaredIds (l ++ m)) ≡ declaredIds l = sym (ids-take (length l) (l ++ m)) ∙ ap declaredIds (take-append-seam l m) in
+    rw e at (least-take (declaredIds (l ++ m)) n (h refl .1) (length l))
+vectors-rise domain l m h = rw (length-append l m) (mul-le-mul-right _ (omega arith))
+
+message-rises : (k : Attribute) (l m : List Declaration)
+    → (k ≡ registers listeners → (length (l ++ m) ≤ 64) × Rising (declaredIds (l ++ m))) → messageSize k l ≤ messageSize k (l ++ m)
+unfolding messageSize
+message-rises k [] m h = omega arith
+message-rises k (d ∷ l) m h = omega (arith, vectors-rise k (d ∷ l) m h)
+
+messages-rise : (l m : List Declaration) → FewListeners (l ++ m) → messagesSize l ≤ messagesSize (l ++ m)
+unfolding messagesSize
+messages-rise l m f = omega (arith, of (registers advertises), of (registers faileds), of (registers listeners), of domain)
+  where
+    of : (k : Attribute) → messageSize k (having k l) ≤ messageSize k (having k (l ++ m))
+    of k =
+        rw (having-append k l m)
+        (message-rises k (having k l) (having k m) (λ e. rw (e, ← having-append (registers listeners) l m) (f .few, f .ascending)))
+
+few-left : (l m : List Declaration) → FewListeners (l ++ m) → FewListeners l
+few-left l m f =
+    let k : Attribute = registers listeners in
+    let e : having k (l ++ m) ≡ having k l ++ having k m = having-append k l m in
+    let s : take (length (having k l)) (declaredIds (having k (l ++ m))) ≡ declaredIds (having k l) = rw (e, ← ids-take (length (having k l)) (having k l ++ having k m)) (ap declaredIds (take-append-seam (having k l) (having k m))) in
+    record {
+      few = omega (arith, f .few, ap length e, length-append (having k l) (having k m));
+      ascending = rw s at (rising-take (length (having k l)) (declaredIds (having k (l ++ m))) (f .ascending));
+    }
+
+messages-take : (l : List Declaration) → FewListeners l → (j k : ℕ) → j ≤ k → messagesSize (take j l) ≤ messagesSize (take k l)
+messages-take l f j k h =
+    let g : FewListeners (take k l) = few-left (take k l) (drop k l) (rw (take-append-drop k l) f) in
+    let e : take j l ++ drop j (take k l) ≡ take k l = rw (← take-take j k l h) (take-append-drop j (take k l)) in
+    rw e at (messages-rise (take j l) (drop j (take k l)) (rw e g))
+
+pub takes-longest : (l : List Declaration) → FewListeners l → Longest (pduFits l) (length l) (takes l)
+unfolding takes fitting
+takes-longest l f =
+    rw (longest-same (fitsWith 3 l) (pduFits l) 0 (length l) (λ i a b. ap (λ (n : ℕ). leb n longestPdu) (sym (length-pdu (take i l)))))
+    (longest-longest (pduFits l) fewer (length l) (rw (length-pdu [], no-messages) refl))
+  where
+    fewer : (j k : ℕ) → j ≤ k → pduFits l k ≡ true → pduFits l j ≡ true
+    fewer j k h e =
+        le-leb (length (pduOctets (take j l))) longestPdu
+        (omega (arith, leb-true (length (pduOctets (take k l))) longestPdu e, length-pdu (take j l), length-pdu (take k l), messages-take l f j k h))
 
 -- no declaration is left
 pub no-declarations : pduOctets [] ≡ 0 ∷ 0 ∷ 0 ∷ []
