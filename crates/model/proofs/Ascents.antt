@@ -6,6 +6,7 @@ use native.Mathlib.Omega.{arith}
 use lib.ListN.{length, take, drop, take-append-drop}
 use Rattle.model.specs.Cutting.{lastOf}
 use Rattle.model.specs.Laid.{Ascending}
+use Rattle.model.proofs.Lists.{all-take}
 
 -- each is above the one before it
 abbrev pub Rises : ℕ → List ℕ → Type 0
@@ -20,6 +21,16 @@ pub ascending-rising : (l : List ℕ) → Ascending l → Rising l
 ascending-rising [] a = tt
 ascending-rising (x ∷ []) a = tt
 ascending-rising (x ∷ y ∷ l) a = (a .0 .0, ascending-rising (y ∷ l) (a .1))
+
+pub ascending-take : (n : ℕ) (l : List ℕ) → Ascending l → Ascending (take n l)
+ascending-take zero l a = tt
+ascending-take (suc n) [] a = tt
+ascending-take (suc n) (x ∷ l) a = (all-take (λ y. x < y) n l (a .0), ascending-take n l (a .1))
+
+pub ascending-drop : (n : ℕ) (l : List ℕ) → Ascending l → Ascending (drop n l)
+ascending-drop zero l a = a
+ascending-drop (suc n) [] a = tt
+ascending-drop (suc n) (x ∷ l) a = ascending-drop n l (a .1)
 
 -- parts of a list that rises
 pub rises-left : (x : ℕ) (g r : List ℕ) → Rises x (g ++ r) → Rises x g

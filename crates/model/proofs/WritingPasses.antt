@@ -17,16 +17,17 @@ use Rattle.octets.proofs.Be.{length-be}
 use Rattle.model.specs.FrameLayout.{longestPdu}
 use Rattle.model.specs.Lists.{All, keep, longest}
 use Rattle.model.specs.State.{Port, Settings, Health, sound, broken, Column, none, advertise, failed, Declared, nothing, tells, Result, Stream, Bridge, portAt, resultAt, classA, classB, supports}
-use Rattle.model.specs.Registrations.{Kind, advertises, faileds, listeners}
+use Rattle.model.specs.Registrations.{Kind, advertises, faileds, listeners, ids}
 use Rattle.model.specs.Frames.{Attribute, registers, domain, TypeOctet, notAllowed, unknown, known, typeOctet, typeNumber, firstWidths, firstLength}
 use Rattle.model.specs.Cutting.{joined, values, octetsFor, octets}
 use Rattle.model.specs.Best.{best, least, run}
 use Rattle.model.specs.Declarations.{Declaration, talkerDeclaration, listenerDeclaration, domainDeclaration, healthKind, attributeOf, advertised, failing, listening, declarationsOf, ofKind, domainOf, domainValues, declarations, declaredId, declaredIds, sameAttribute, having, vectorSize, vectorsSize, messageSize, messagesSize, fitting, takes, Written, write}
 use Rattle.model.specs.WrittenFrames.{fixedNumbers, failureNumbers, firstNumbers, fourOctets, declarationVector, packedVector, cutAs, listenerParts, vectorsOf, vectorOctets, messageOf, messageOctets, pduOctets}
+use Rattle.model.specs.Laid.{Ascending}
 use Rattle.model.proofs.Lists.{Longest, longest-longest, all-map, all-each, all-append, all-take, all-keep, length-tabulate, longest-ends, longest-stops, longest-goes, longest-split, longest-same, longest-from, longest-within, longest-passes, longest-full}
 use Rattle.model.proofs.LeastCutting.{best-cuts}
 use Rattle.model.proofs.LongestRun.{least-take, least-most}
-use Rattle.model.proofs.Ascents.{Rising, rising-take}
+use Rattle.model.proofs.Ascents.{Rising, ascending-rising, ascending-take, ascending-drop}
 
 -- Lengths.
 
@@ -479,7 +480,7 @@ pduFits l n = leb (length (pduOctets (take n l))) longestPdu
 -- at most 64 Listeners, by ascending StreamID
 pub record FewListeners (l : List Declaration) : Type 0 where
   pub few : length (having (registers listeners) l) ≤ 64
-  pub ascending : Rising (declaredIds (having (registers listeners) l))
+  pub ascending : Ascending (declaredIds (having (registers listeners) l))
 
 vectors-rise : (k : Attribute) (l m : List Declaration)
     → (k ≡ registers listeners → (length (l ++ m) ≤ 64) × Rising (declaredIds (l ++ m))) → vectorsSize k l ≤ vectorsSize k (l ++ m)
@@ -505,21 +506,36 @@ messages-rise l m f = omega (arith, of (registers advertises), of (registers fai
     of : (k : Attribute) → messageSize k (having k l) ≤ messageSize k (having k (l ++ m))
     of k =
         rw (having-append k l m)
-        (message-rises k (having k l) (having k m) (λ e. rw (e, ← having-append (registers listeners) l m) (f .few, f .ascending)))
+        (message-rises k (having k l) (having k m) (λ e. rw (e, ← having-append (registers listeners) l m) (f .few, ascending-rising (declaredIds (having (registers listeners) (l ++ m))) (f .ascending))))
 
-few-left : (l m : List Declaration) → FewListeners (l ++ m) → FewListeners l
-few-left l m f =
+-- of some of the declarations too
+few-take : (n : ℕ) (l : List Declaration) → FewListeners l → FewListeners (take n l)
+few-take n l f =
     let k : Attribute = registers listeners in
-    let e : having k (l ++ m) ≡ having k l ++ having k m = having-append k l m in
-    let s : take (length (having k l)) (declaredIds (having k (l ++ m))) ≡ declaredIds (having k l) = rw (e, ← ids-take (length (having k l)) (having k l ++ having k m)) (ap declaredIds (take-append-seam (having k l) (having k m))) in
+    let e : having k l ≡ having k (take n l) ++ having k (drop n l) = ap (having k) (sym (take-append-drop n l)) ∙ having-append k (take n l) (drop n l) in
+    let m : ℕ = length (having k (take n l)) in
+    let s : take m (declaredIds (having k l)) ≡ declaredIds (having k (take n l)) =
+    sym (ids-take m (having k l)) ∙ ap declaredIds (ap (take m) e ∙ take-append-seam (having k (take n l)) (having k (drop n l))) in
     record {
-      few = omega (arith, f .few, ap length e, length-append (having k l) (having k m));
-      ascending = rw s at (rising-take (length (having k l)) (declaredIds (having k (l ++ m))) (f .ascending));
+      few = omega (arith, f .few, ap length e, length-append (having k (take n l)) (having k (drop n l)));
+      ascending = rw s at (ascending-take m (declaredIds (having k l)) (f .ascending));
+    }
+
+few-drop : (n : ℕ) (l : List Declaration) → FewListeners l → FewListeners (drop n l)
+few-drop n l f =
+    let k : Attribute = registers listeners in
+    let e : having k l ≡ having k (take n l) ++ having k (drop n l) = ap (having k) (sym (take-append-drop n l)) ∙ having-append k (take n l) (drop n l) in
+    let m : ℕ = length (having k (take n l)) in
+    let s : drop m (declaredIds (having k l)) ≡ declaredIds (having k (drop n l)) =
+    sym (ids-drop m (having k l)) ∙ ap declaredIds (ap (drop m) e ∙ drop-append-seam (having k (take n l)) (having k (drop n l))) in
+    record {
+      few = omega (arith, f .few, ap length e, length-append (having k (take n l)) (having k (drop n l)));
+      ascending = rw s at (ascending-drop m (declaredIds (having k l)) (f .ascending));
     }
 
 messages-take : (l : List Declaration) → FewListeners l → (j k : ℕ) → j ≤ k → messagesSize (take j l) ≤ messagesSize (take k l)
 messages-take l f j k h =
-    let g : FewListeners (take k l) = few-left (take k l) (drop k l) (rw (take-append-drop k l) f) in
+    let g : FewListeners (take k l) = few-take k l f in
     let e : take j l ++ drop j (take k l) ≡ take k l = rw (← take-take j k l h) (take-append-drop j (take k l)) in
     rw e at (messages-rise (take j l) (drop j (take k l)) (rw e g))
 
@@ -544,6 +560,61 @@ no-declarations = refl
 -- the declarations of port p, numbered from 1
 unfoldable pub declared : Bridge → ℕ → List Declaration
 declared b p = declarations (b .settings) (p - 1) (b .streams)
+
+-- its Listeners are at most 64, by ascending StreamID
+above-listeners : (i p : ℕ) (s : List Stream) → All (λ j. i < j) (ids s) → All (λ j. i < j) (declaredIds (ofKind listeners p s))
+unfolding ids ofKind declarationsOf listening declaredIds declaredId
+above-listeners i p [] a = tt
+above-listeners i p (x ∷ s) a = go (resultAt x p .declares) (above-listeners i p s (a .1))
+  where
+    go : (d : Declared) → All (λ j. i < j) (declaredIds (ofKind listeners p s)) → All (λ j. i < j) (declaredIds (listening x d ++ ofKind listeners p s))
+    go nothing h = h
+    go (tells r) h = (a .0, h)
+
+pub listeners-ascend : (p : ℕ) (s : List Stream) → Ascending (ids s) → Ascending (declaredIds (ofKind listeners p s))
+unfolding ids ofKind declarationsOf listening declaredIds declaredId
+listeners-ascend p [] a = tt
+listeners-ascend p (x ∷ s) a = go (resultAt x p .declares) (above-listeners (x .id) p s (a .0)) (listeners-ascend p s (a .1))
+  where
+    go : (d : Declared) → All (λ j. x .id < j) (declaredIds (ofKind listeners p s)) → Ascending (declaredIds (ofKind listeners p s))
+        → Ascending (declaredIds (listening x d ++ ofKind listeners p s))
+    go nothing h r = r
+    go (tells q) h r = (h, r)
+
+pub listeners-few : (p : ℕ) (s : List Stream) → length (ofKind listeners p s) ≤ length s
+unfolding ofKind declarationsOf listening
+listeners-few p [] = omega arith
+listeners-few p (x ∷ s) = go (resultAt x p .declares) (listeners-few p s)
+  where
+    go : (d : Declared) → length (ofKind listeners p s) ≤ length s → length (listening x d ++ ofKind listeners p s) ≤ suc (length s)
+    go nothing h = omega arith
+    go (tells r) h = omega arith
+
+listeners-of : (st : Settings) (p : ℕ) (s : List Stream) → having (registers listeners) (declarations st p s) ≡ ofKind listeners p s
+unfolding declarations
+listeners-of st p s =
+    let k : Attribute = registers listeners in
+    rw (
+      having-append k (ofKind advertises p s) (ofKind faileds p s ++ (ofKind listeners p s ++ domainValues st (portAt st p))),
+      having-append k (ofKind faileds p s) (ofKind listeners p s ++ domainValues st (portAt st p)),
+      having-append k (ofKind listeners p s) (domainValues st (portAt st p)),
+      having-other k (registers advertises) (ofKind advertises p s) (unfold sameAttribute typeNumber in refl) (ofKind-attribute advertises p s),
+      having-other k (registers faileds) (ofKind faileds p s) (unfold sameAttribute typeNumber in refl) (ofKind-attribute faileds p s),
+      having-other k domain (domainValues st (portAt st p)) (unfold sameAttribute typeNumber in refl) (domains-attribute st (portAt st p)),
+      having-own k (ofKind listeners p s) (ofKind-attribute listeners p s),
+      append-nil (ofKind listeners p s),
+    )
+
+-- at most 64 streams, by ascending StreamID
+abbrev pub FewStreams : Bridge → Type 0
+FewStreams b = (length (b .streams) ≤ 64) × Ascending (ids (b .streams))
+
+pub declared-few : (b : Bridge) → FewStreams b → (p : ℕ) → FewListeners (declared b p)
+unfolding declared
+declared-few b h p = record {
+  few = rw (listeners-of (b .settings) (p - 1) (b .streams)) (omega (arith, h .0, listeners-few (p - 1) (b .streams)));
+  ascending = rw (listeners-of (b .settings) (p - 1) (b .streams)) (listeners-ascend (p - 1) (b .streams) (h .1));
+}
 
 module _ (b : Bridge) (p place : ℕ) where
   -- 13 "place is above the number of declarations"
@@ -602,6 +673,23 @@ module _ (b : Bridge) (p place : ℕ) where
       let rest : List Declaration = drop place (declared b p) in
       let left : takes rest < length rest = simp length-drop (omega (arith, ap (λ (w : Written). w .next) (write-from h))) in
       rw (write-from h, length-take-le (takes rest) rest (takes-within rest)) (takes-full rest left)
+
+  -- it is the longest run that fits
+  pub run-longest : FewStreams b → place ≤ length (declared b p)
+      → Longest (pduFits (drop place (declared b p))) (length (drop place (declared b p))) (length (write b p place .run))
+  run-longest f h =
+      let rest : List Declaration = drop place (declared b p) in
+      rw (write-from h, length-take-le (takes rest) rest (takes-within rest)) (takes-longest rest (few-drop place (declared b p) (declared-few b f p)))
+
+  -- and its Listeners are few
+  pub run-few : FewStreams b → FewListeners (write b p place .run)
+  run-few f = go (ltb (length (declared b p)) place) refl
+    where
+      go : (t : Bool) → ltb (length (declared b p)) place ≡ t → FewListeners (write b p place .run)
+      go true e = rw (write-above (ltb-true (length (declared b p)) place e)) (unfold having in record { few = omega arith; ascending = unfold declaredIds in tt })
+      go false e =
+          let rest : List Declaration = drop place (declared b p) in
+          rw (write-from (ltb-false (length (declared b p)) place e)) (few-take (takes rest) rest (few-drop place (declared b p) (declared-few b f p)))
 
 -- "At place = count it is 00 00 00"
 pub write-at-count : (b : Bridge) (p : ℕ) → write b p (length (declared b p)) ≡ record { number = 0; run = []; next = length (declared b p) }
