@@ -20,6 +20,12 @@ pub mod OneSolution
 pub mod Borrowing
 pub mod ReceiveKeepsForm
 pub mod AdvanceKeepsForm
+pub mod Ascents
+pub mod CuttingWeights
+pub mod LeastCutting
+pub mod OneCutting
+pub mod LongestRun
+pub mod Gaps
 pub mod ReadBack
 pub mod Versions
 pub mod CutOut
