@@ -1,9 +1,4 @@
-pub mod Weights
-pub mod Least
-pub mod Unique
-pub mod Run
-pub mod Gaps
+pub mod Named
 pub mod Table
 pub mod Prefix
 pub mod Loops
-pub mod Named

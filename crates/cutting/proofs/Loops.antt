@@ -7,15 +7,19 @@ use native.Mathlib.Omega.{arith}
 use native.Mathlib.Numerals.{add-one}
 use lib.ListN.{length, getD, set, take, drop, length-append, length-drop}
 use lib.Seq.{drop-length, drop-drop, getD-set-same, getD-set-other}
-use lib.Dec.{eqb}
+use lib.Dec.{leb, eqb}
 use borrow.Author.Tests.{lt-ltb, le-ltb, le-leb, lt-leb, eq-eqb, ne-eqb, eqb-true, eqb-false}
-use Rattle.cutting.specs.Cutting.{mac, Rises, Rising, Vectors, joined, values, octetsFor}
-use Rattle.cutting.specs.Best.{price, weight, bests, best, least, runFrom, run}
+use Rattle.model.specs.Lists.{All, longest}
+use Rattle.model.specs.Frames.{threeLength, fourLength}
+use Rattle.model.specs.Cutting.{mac, Part, joined, values, octetsFor}
+use Rattle.model.specs.Best.{price, weight, bests, best, least}
 use Rattle.cutting.specs.Plan.{none, entry, lower, farther, entries, less, back}
 use Rattle.cutting.specs.declared.Entry.{Entry}
-use Rattle.cutting.proofs.Least.{best-cuts, best-under}
-use Rattle.cutting.proofs.Table.{entry-at, entry-weighs, best-next}
-use Rattle.cutting.proofs.Run.{singles, singles-cut, least-most, length-cut}
+use Rattle.model.proofs.Lists.{longest-ends, longest-stops, longest-goes}
+use Rattle.model.proofs.LeastCutting.{best-cuts, best-under}
+use Rattle.model.proofs.OneCutting.{best-next}
+use Rattle.cutting.proofs.Table.{entry-at, entry-weighs}
+use Rattle.model.proofs.LongestRun.{singles, singles-cut, least-most, length-cut}
 
 -- the entry from place i on that a search starts with
 pub first-try : (l : List ℕ) (i : ℕ) → i < length l
@@ -43,7 +47,7 @@ seek l i k e = farther (getD l i 0) k (drop (i + k) l) (drop (i + k + 1) (entrie
 
 pub seek-starts : (l : List ℕ) (i w : ℕ) → i < length l → w ≡ getD (entries l) (i + 1) none .weighs
     → seek l i 1 (record { weighs = 781 + w; first = 1 }) ≡ getD (entries l) i none
-unfolding seek price octetsFor
+unfolding seek price octetsFor threeLength fourLength
 seek-starts l i w h e = rw (e, add-one i, add-one (suc i)) (sym (first-try l i h))
 
 pub seek-ends : (l : List ℕ) (i k : ℕ) (e : Entry) → i + k ≡ length l → seek l i k e ≡ e
@@ -78,26 +82,9 @@ module _ (l : List ℕ) (i k x y : ℕ) (h : i + k < length l) (ex : x ≡ getD 
     unfolding seek lower
     seek-takes n = tried ∙ rw (a, add-one (suc (i + k)), ← ex, le-ltb _ _ n)
 
--- in a rising list what stands later is no less
-rises-all : (x : ℕ) (l : List ℕ) (j : ℕ) → Rises x l → j < length l → x ≤ getD l j 0
-rises-all x [] j p h = absurd (omega arith)
-rises-all x (y ∷ l) zero p h = omega arith
-rises-all x (y ∷ l) (suc j) p h = omega (arith, rises-all y l j (p .1) (omega arith))
-
-rising-tail : (x : ℕ) (l : List ℕ) → Rises x l → Rising l
-rising-tail x [] p = tt
-rising-tail x (y ∷ l) p = p .1
-
-pub rising-at : (l : List ℕ) (i j : ℕ) → Rising l → i ≤ j → j < length l → getD l i 0 ≤ getD l j 0
-rising-at [] i j p e h = absurd (omega arith)
-rising-at (x ∷ l) zero zero p e h = omega arith
-rising-at (x ∷ l) zero (suc j) p e h = rises-all x l j p (omega arith)
-rising-at (x ∷ l) (suc i) zero p e h = absurd (omega arith)
-rising-at (x ∷ l) (suc i) (suc j) p e h = rising-at l i j (rising-tail x l p) (omega arith) (omega arith)
-
 -- an entry's numbers are small
 singles-weigh : (l : List ℕ) → weight (singles l) ≡ 781 * length l
-unfolding singles values price octetsFor
+unfolding singles values price octetsFor threeLength fourLength
 singles-weigh [] = refl
 singles-weigh (x ∷ l) = omega (arith, singles-weigh l)
 
@@ -141,7 +128,7 @@ next l i f h e = go (best (drop i l)) refl (best-cuts (drop i l) .0) (best-cuts 
     n : length (drop i l) ≡ length l - i
     n = length-drop i l
 
-    go : (c : List (List ℕ)) → best (drop i l) ≡ c → joined (best (drop i l)) ≡ drop i l → Vectors (best (drop i l)) → f ≡ entry (best (drop i l)) .first → Next l i f
+    go : (c : List (List ℕ)) → best (drop i l) ≡ c → joined (best (drop i l)) ≡ drop i l → All Part (best (drop i l)) → f ≡ entry (best (drop i l)) .first → Next l i f
     go [] b j v s = absurd (omega (arith, n, ap length (sym (ap joined b) ∙ j)))
     go ([] ∷ d) b j v s = absurd ((rw b at v) .0)
     go ((x ∷ g) ∷ d) b j v s =
@@ -174,19 +161,19 @@ pub back-ends : (key cost : ℕ → ℕ) (y j m : ℕ) → j ≡ 0 → back key 
 unfolding back
 back-ends key cost y j m e = rw e
 
--- the loop that finds the longest run
+-- the loop that finds the longest run: k declarations fit, and n more are there
+abbrev pub runFrom : ℕ → List ℕ → ℕ → ℕ → ℕ
+runFrom room l k n = longest (λ i. leb (least (take i l)) room) k n
+
 module _ (room : ℕ) (l : List ℕ) (k n p c : ℕ) (e : c ≡ least (take (k + 1) l)) (s : n ≡ suc p) where
   pub run-stops : room < c → runFrom room l k n ≡ k
-  unfolding runFrom
-  run-stops h = rw (s, ← e, lt-leb _ _ h)
+  run-stops h = rw s (longest-stops _ k p (rw (← e) (lt-leb _ _ h)))
 
   pub run-goes : c ≤ room → runFrom room l k n ≡ runFrom room l (k + 1) p
-  unfolding runFrom
-  run-goes h = rw (s, ← e, le-leb _ _ h)
+  run-goes h = rw s (longest-goes _ k p (rw (← e) (le-leb _ _ h)))
 
 pub run-ends : (room : ℕ) (l : List ℕ) (k n : ℕ) → n ≡ 0 → runFrom room l k n ≡ k
-unfolding runFrom
-run-ends room l k n e = rw e
+run-ends room l k n e = rw e (longest-ends _ k)
 
 pub least-small : (l : List ℕ) (k : ℕ) → length l ≤ 64 → least (take k l) ≤ 768
 least-small l k few = let h : length (take k l) ≤ 64 = omega (arith, length-cut k l) in omega (arith, least-most (take k l) h)

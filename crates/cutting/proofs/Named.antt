@@ -7,9 +7,10 @@ use lib.ListN.{length, getD, take}
 use Rattle.model.specs.State.{streamAt}
 use Rattle.model.specs.Table.{decode}
 use Rattle.model.proofs.Lists.{getD-map, all-take, all-at}
+use Rattle.model.proofs.Ascents.{ascending-take}
 use Rattle.table.specs.Places.{Stands}
 use Rattle.cutting.specs.Named.{idsOf, Named}
-use Rattle.cutting.proofs.Run.{length-cut, rising-take}
+use Rattle.model.proofs.LongestRun.{length-cut}
 
 module _ (t : List ℕ) where
   pub ids-length : (l : List ℕ) → length (idsOf t l) ≡ length l
@@ -37,5 +38,5 @@ module _ (t : List ℕ) where
     laid = w .laid;
     few = omega (arith, length-cut n l, w .few);
     held = all-take (λ k. k < length (decode t .streams)) n l (w .held);
-    rising = rw (ids-take n l) (rising-take n (idsOf t l) (w .rising));
+    ascending = rw (ids-take n l) (ascending-take n (idsOf t l) (w .ascending));
   }

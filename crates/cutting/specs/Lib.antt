@@ -1,4 +1,2 @@
-pub mod Cutting
-pub mod Best
 pub mod Named
 pub mod Plan

@@ -5,8 +5,7 @@ use lib.ListN.{length}
 use Rattle.model.specs.Lists.{All}
 use Rattle.model.specs.State.{streamAt}
 use Rattle.model.specs.Table.{decode}
-use Rattle.model.specs.Laid.{Laid}
-use Rattle.cutting.specs.Cutting.{Rising}
+use Rattle.model.specs.Laid.{Ascending, Laid}
 
 unfoldable pub idsOf : List ℕ → List ℕ → List ℕ
 idsOf t places = map (λ k. streamAt k (decode t) .id) places
@@ -16,4 +15,4 @@ pub record Named (t places : List ℕ) : Type 0 where
   pub laid : Laid t
   pub few : length places ≤ 64
   pub held : All (λ k. k < length (decode t .streams)) places
-  pub rising : Rising (idsOf t places)
+  pub ascending : Ascending (idsOf t places)

@@ -2,8 +2,8 @@
 ghost use mathlib.Core.Path.{_≡_};
 ghost use Prim.Native.Nat.{_+_, _≤_, _<_};
 ghost use lib.ListN.{length, getD, take};
-ghost use Rattle.cutting.specs.Cutting.{octetsFor};
-ghost use Rattle.cutting.specs.Best.{price, least, run};
+ghost use Rattle.model.specs.Cutting.{octetsFor};
+ghost use Rattle.model.specs.Best.{price, least, run};
 ghost use Rattle.cutting.specs.Named.{idsOf, Named};
 ghost use Rattle.cutting.specs.Plan.{none, entries, Weighed, Counted, Costed, Packed};
 

@@ -13,7 +13,7 @@ use Rattle.model.specs.State.{Port, Settings, Stream, Bridge, portAt, resultAt,
 use Rattle.model.specs.Registrations.{Kind, advertises, faileds, listeners}
 use Rattle.model.specs.Frames as frames
 use Rattle.model.specs.Frames.{registers, domain}
-use Rattle.model.specs.Declarations.{Declaration, declarationsOf, ofKind, domainOf, domainValues, vectorSize, takes}
+use Rattle.model.specs.Declarations.{Declaration, declarationsOf, ofKind, domainOf, domainValues, vectorSize, fitting, takes}
 use Rattle.model.specs.WrittenFrames.{declarationVector, vectorOctets, messageOctets, pduOctets}
 use Rattle.model.specs.Table.{decode}
 use Rattle.model.specs.Laid.{Laid}
@@ -85,13 +85,20 @@ pub record RunIn (t : List ℕ) (p : ℕ) (r : Run) : Type 0 where
 abbrev pub runOf : List ℕ → ℕ → Run → List Declaration
 runOf t p r = take (r .count) (drop (r .skip) (found (r .attribute) p t))
 
+-- "Talkers and Domains stay one per vector" (02)
+abbrev pub Single : frames.Attribute → Type 0
+Single (registers advertises) = Unit {0}
+Single (registers faileds) = Unit {0}
+Single (registers listeners) = ⊥
+Single domain = Unit {0}
+
 -- how many vectors of a size fit into 1,500 octets, of so many, with so many octets used
 unfoldable pub fits : ℕ → ℕ → ℕ → ℕ
 fits used size left = cond (ltb longestPdu used) 0 (cond (ltb ((longestPdu - used) / size) left) ((longestPdu - used) / size) left)
 
--- what the pass of a type takes of that type's declarations; an open Message and the EndMarks are 8 octets
+-- what the pass of a type takes of that type's declarations; the EndMark is two octets
 unfoldable pub taken : frames.Attribute → List Declaration → Progress → List Declaration
-taken k l s = cond (s .full) [] (take (fits (s .at + 8) (vectorSize k) (length l - s .skip)) (drop (s .skip) l))
+taken k l s = cond (s .full) [] (take (fitting (s .at + 2) (drop (s .skip) l)) (drop (s .skip) l))
 
 -- and how far the PDU then is; the first declaration that does not fit ends it
 unfoldable pub passed : frames.Attribute → List Declaration → Progress → Progress

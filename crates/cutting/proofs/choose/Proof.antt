@@ -8,7 +8,8 @@ use lib.ListN.{length, getD}
 use Rattle.cutting.specs.Named.{idsOf}
 use Rattle.cutting.specs.Plan.{none, entries}
 use Rattle.cutting.proofs.Named.{ids-length}
-use Rattle.cutting.proofs.Loops.{seek, seek-starts, seek-ends, seek-stops, seek-keeps, seek-takes, rising-at}
+use Rattle.table.proofs.Finding.{ascending-less}
+use Rattle.cutting.proofs.Loops.{seek, seek-starts, seek-ends, seek-stops, seek-keeps, seek-takes}
 use Rattle.cutting.proofs.choose.Statement.{statement}
 use Rattle.cutting.proofs.choose.Tie as tie
 
@@ -59,7 +60,7 @@ behind c =
     let a = c .before .before .before .before .before .before .before .before .before .args in
     let l = c .before .before .before .loop in
     omega (arith, c .before .before .before .before .before .id-of .ensures, c .before .id-of2 .ensures,
-    rising-at (idsOf (a .table .now) (a .places .now)) (a .at) (a .at + l .k) (c .before .before .before .before .before .before .before .before .before .pre .0 .rising) (omega arith) (met (c .before .before)))
+    ascending-less (idsOf (a .table .now) (a .places .now)) (c .before .before .before .before .before .before .before .before .before .pre .0 .ascending) (a .at) (a .at + l .k) (omega arith) (met (c .before .before)))
 
 cast-p : tie.Need-cast-p Inv-loop μ-loop
 cast-p c = omega (arith, c .shared-slice-known5 .given (c .before .before .before .before .before .before .before .before .before .before .before .args .at + c .before .before .before .before .before .loop .k + 1))

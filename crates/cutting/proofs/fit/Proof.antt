@@ -6,12 +6,13 @@ use borrow.Author.Needs.{needs}
 use lib.ListN.{length, take}
 use lib.ListN.{length-set}
 use native.Mathlib.Nat.{sub-zero}
-use Rattle.cutting.specs.Best.{least, runFrom, run}
+use Rattle.model.specs.Best.{least, run}
 use Rattle.cutting.specs.Named.{idsOf}
 use Rattle.cutting.specs.Plan.{Costed}
 use Rattle.cutting.proofs.Named.{ids-length}
-use Rattle.cutting.proofs.Loops.{run-stops, run-goes, run-ends, least-small, filled-up, least-none}
-use Rattle.cutting.proofs.Gaps.{run-whole}
+use Rattle.cutting.proofs.Loops.{runFrom, run-stops, run-goes, run-ends, least-small, filled-up, least-none}
+use Rattle.model.proofs.Ascents.{ascending-rising}
+use Rattle.model.proofs.Gaps.{run-whole}
 use Rattle.cutting.proofs.fit.Statement.{statement}
 use Rattle.cutting.proofs.fit.Tie as tie
 
@@ -27,7 +28,7 @@ returns c =
     let a = c .before .before .before .before .args in
     let p = c .before .before .before .before .pre in
     let long = ids-length (a .table .now) (a .places .now) in
-    let whole = run-whole (a .room) (idsOf (a .table .now) (a .places .now)) (omega (arith, long, p .0 .few)) (p .0 .rising) (omega (arith, long)) in
+    let whole = run-whole (a .room) (idsOf (a .table .now) (a .places .now)) (omega (arith, long, p .0 .few)) (ascending-rising (idsOf (a .table .now) (a .places .now)) (p .0 .ascending)) (omega (arith, long)) in
     (omega (arith, whole, long), omega arith)
 
 loop-holds : tie.Need-loop-holds Inv-loop μ-loop

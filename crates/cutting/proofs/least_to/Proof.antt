@@ -4,13 +4,14 @@ use mathlib.Core.Path.{_≡_, sym, ap₂, _∙_}
 use native.Mathlib.Omega.{arith}
 use borrow.Author.Needs.{needs}
 use lib.ListN.{length, getD, take}
-use Rattle.cutting.specs.Cutting.{octetsFor}
-use Rattle.cutting.specs.Best.{least}
+use Rattle.model.specs.Cutting.{octetsFor}
+use Rattle.model.specs.Best.{least}
 use Rattle.cutting.specs.Named.{idsOf}
 use Rattle.cutting.specs.Plan.{back}
 use Rattle.cutting.proofs.Named.{ids-length}
 use Rattle.cutting.proofs.Prefix.{back-least}
-use Rattle.cutting.proofs.Loops.{back-stops, back-takes, back-keeps, back-ends, rising-at}
+use Rattle.table.proofs.Finding.{ascending-less}
+use Rattle.cutting.proofs.Loops.{back-stops, back-takes, back-keeps, back-ends}
 use Rattle.cutting.proofs.least_to.Statement.{statement}
 use Rattle.cutting.proofs.least_to.Tie as tie
 
@@ -53,7 +54,7 @@ before c =
     let a = c .before .before .before .before .before .before .before .before .before .before .args in
     let l = c .before .before .before .before .loop in
     omega (arith, c .before .before .id-of2 .ensures, c .before .before .before .before .before .before .id-of .ensures,
-    rising-at (idsOf (a .table .now) (a .places .now)) (l .j - 1) (a .k) (c .before .before .before .before .before .before .before .before .before .before .pre .0 .rising) (omega arith)
+    ascending-less (idsOf (a .table .now) (a .places .now)) (c .before .before .before .before .before .before .before .before .before .before .pre .0 .ascending) (l .j - 1) (a .k) (omega arith)
     (omega (arith, ids-length (a .table .now) (a .places .now))))
 
 add-c : tie.Need-add-c Inv-loop μ-loop
