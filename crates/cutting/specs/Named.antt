@@ -5,6 +5,7 @@ use lib.ListN.{length}
 use Rattle.model.specs.Lists.{All}
 use Rattle.model.specs.State.{streamAt}
 use Rattle.model.specs.Table.{decode}
+use Rattle.model.specs.Cutting.{Part}
 use Rattle.model.specs.Laid.{Ascending, Laid}
 
 unfoldable pub idsOf : List ℕ → List ℕ → List ℕ
@@ -16,3 +17,8 @@ pub record Named (t places : List ℕ) : Type 0 where
   pub few : length places ≤ 64
   pub held : All (λ k. k < length (decode t .streams)) places
   pub ascending : Ascending (idsOf t places)
+
+-- they are a part of a cutting
+pub record PartIn (t places : List ℕ) : Type 0 where
+  pub named : Named t places
+  pub part : Part (idsOf t places)

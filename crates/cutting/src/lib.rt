@@ -2,9 +2,9 @@
 ghost use mathlib.Core.Path.{_≡_};
 ghost use Prim.Native.Nat.{_+_, _≤_, _<_};
 ghost use lib.ListN.{length, getD, take};
-ghost use Rattle.model.specs.Cutting.{octetsFor};
+ghost use Rattle.model.specs.Cutting.{values, octetsFor};
 ghost use Rattle.model.specs.Best.{price, least, run};
-ghost use Rattle.cutting.specs.Named.{idsOf, Named};
+ghost use Rattle.cutting.specs.Named.{idsOf, Named, PartIn};
 ghost use Rattle.cutting.specs.Plan.{none, entries, Weighed, Counted, Costed, Packed};
 
 // What the best cutting of a tail weighs, and how many declarations its first vector has.
@@ -35,6 +35,23 @@ pub fn id_of(table: &[u8], places: &[u8], i: usize) -> u64
     ensures { λ r. ⌜ r ≡ getD (idsOf (now (table .entry)) (now (places .entry))) i 0 ⌝ }
 {
     table::id_at(table, places[i] as usize)
+}
+
+// The values of the vector of a part: from its first StreamID to its last.
+pub fn values_of(table: &[u8], places: &[u8]) -> u64
+    requires { ⌜ PartIn (now table) (now places) ⌝ }
+    ensures { λ r. ⌜ (r ≡ values (idsOf (now (table .entry)) (now (places .entry)))) × (r ≤ 65536) ⌝ }
+{
+    let first = id_of(table, places, 0);
+    id_of(table, places, places.len() - 1) - first + 1
+}
+
+// The octets of that vector.
+pub fn size_of(table: &[u8], places: &[u8]) -> usize
+    requires { ⌜ PartIn (now table) (now places) ⌝ }
+    ensures { λ r. ⌜ (r ≡ octetsFor (values (idsOf (now (table .entry)) (now (places .entry))))) × (r < 40000) ⌝ }
+{
+    octets_for(values_of(table, places)) as usize
 }
 
 // The entry of the tail from `at` on, given what each later tail weighs.

@@ -120,16 +120,18 @@ single-size (registers faileds) s l = refl
 single-size (registers listeners) s l = absurd s
 single-size domain s l = refl
 
-module _ (k : Attribute) (one : Single k) (l : List Declaration) (own : All (OfAttribute k) l) (used n size left : ℕ) (z : size ≡ vectorSize k)
-    (d : left ≡ length l) (f : n ≡ fits (used + 6) size left) where
-  pub single-number : n ≡ fitting used l
+-- n of those of a type, in a PDU of so many octets without its EndMark
+module _ (k : Attribute) (one : Single k) (l : List Declaration) (own : All (OfAttribute k) l) (at n size left : ℕ) (z : size ≡ vectorSize k)
+    (d : length l ≡ left) (f : n ≡ fits (at + 8) size left) where
+  pub single-number : n ≡ fitting (at + 2) l
   single-number =
-      f ∙ rw (z, d) (sym (fitting-single used k l own (not-listeners k one) ∙ longest-fits (vectorSize k) (vector-some k) (length l) (used + 6)))
+      let e : at + 8 ≡ at + 2 + 6 = omega arith in
+      (rw (z, ← d, e) at f) ∙ sym (fitting-single (at + 2) k l own (not-listeners k one) ∙ longest-fits (vectorSize k) (vector-some k) (length l) (at + 2 + 6))
 
   -- the octets of their Message
   pub single-length : (n ≡ 0 → ⊥) → length (messageOctets k (take n l)) ≡ 6 + n * size
   single-length h =
-      let within : n ≤ length l = rw (d, f) (fits-within (used + 6) size left) in
+      let within : n ≤ length l = omega (arith, f, fits-within (at + 8) size left) in
       let long : length (take n l) ≡ n = length-take-le n l within in
       length-message k (take n l) (all-take (OfAttribute k) n l own)
       ∙ message-some k (take n l) (omega arith)

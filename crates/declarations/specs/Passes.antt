@@ -64,6 +64,13 @@ vectors l = flat (λ d. vectorOctets (declarationVector d)) l
 abbrev pub found : Attribute → ℕ → List ℕ → List Declaration
 found a p t = allOf (type a) p (decode t)
 
+-- "Talkers and Domains stay one per vector" (02)
+abbrev pub Single : frames.Attribute → Type 0
+Single (registers advertises) = Unit {0}
+Single (registers faileds) = Unit {0}
+Single (registers listeners) = ⊥
+Single domain = Unit {0}
+
 -- a declarer of a type stands at place k
 pub record Declarer (t : List ℕ) (k p : ℕ) (j : frames.Attribute) : Type 0 where
   pub laid : Laid t
@@ -75,22 +82,17 @@ pub record VectorIn (t : List ℕ) (k p : ℕ) (j : frames.Attribute) (out : Lis
   pub places : Declarer t k p j
   pub one : some (declaredBy j p (decode t) k) ≡ true
   pub room : length out ≡ vectorSize j
+  pub single : Single j
 
 -- a run is not empty, and there are so many declarations
 pub record RunIn (t : List ℕ) (p : ℕ) (r : Run) : Type 0 where
   pub port : PortIn t p
   pub any : 0 < r .count
+  pub single : Single (type (r .attribute))
   pub enough : r .skip + r .count ≤ length (found (r .attribute) p t)
 
 abbrev pub runOf : List ℕ → ℕ → Run → List Declaration
 runOf t p r = take (r .count) (drop (r .skip) (found (r .attribute) p t))
-
--- "Talkers and Domains stay one per vector" (02)
-abbrev pub Single : frames.Attribute → Type 0
-Single (registers advertises) = Unit {0}
-Single (registers faileds) = Unit {0}
-Single (registers listeners) = ⊥
-Single domain = Unit {0}
 
 -- how many vectors of a size fit into 1,500 octets, of so many, with so many octets used
 unfoldable pub fits : ℕ → ℕ → ℕ → ℕ

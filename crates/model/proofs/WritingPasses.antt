@@ -203,7 +203,7 @@ unfolding having
 having-none k [] a = refl
 having-none k (d ∷ l) a = rw (other-attribute (attributeOf d) k (λ e. omega arith)) (having-none k l (a .1))
 
-having-append : (k : Attribute) (l m : List Declaration) → having k (l ++ m) ≡ having k l ++ having k m
+pub having-append : (k : Attribute) (l m : List Declaration) → having k (l ++ m) ≡ having k l ++ having k m
 unfolding having
 having-append k [] m = refl
 having-append k (d ∷ l) m = rw (having-append k l m) (go (sameAttribute (attributeOf d) k))
@@ -413,7 +413,7 @@ fitting-types used k l m own after =
     unary n = let e : 0 + n ≡ n = omega arith in rw e
 
 -- the Message of some
-message-some : (k : Attribute) (l : List Declaration) → 1 ≤ length l → messageSize k l ≡ 6 + vectorsSize k l
+pub message-some : (k : Attribute) (l : List Declaration) → 1 ≤ length l → messageSize k l ≡ 6 + vectorsSize k l
 unfolding messageSize
 message-some k [] h = absurd (omega arith)
 message-some k (d ∷ l) h = refl
