@@ -26,10 +26,11 @@ pub mod LeastCutting
 pub mod OneCutting
 pub mod LongestRun
 pub mod Gaps
+pub mod WritingPasses
+pub mod PackedVectors
 pub mod ReadBack
 pub mod Versions
 pub mod CutOut
-pub mod WritingPasses
 pub mod Refusals
 pub mod Edge
 pub mod OwnCodes
