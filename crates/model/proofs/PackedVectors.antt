@@ -234,7 +234,7 @@ unfolding healthKind typeNumber
 no-talker sound e = let n : typeNumber (registers advertises) ≡ typeNumber (registers listeners) = ap typeNumber e in absurd (omega arith)
 no-talker (broken b c) e = let n : typeNumber (registers faileds) ≡ typeNumber (registers listeners) = ap typeNumber e in absurd (omega arith)
 
-no-domain : domain ≡ registers listeners → ⊥
+pub no-domain : domain ≡ registers listeners → ⊥
 unfolding typeNumber
 no-domain e = let n : typeNumber domain ≡ typeNumber (registers listeners) = ap typeNumber e in absurd (omega arith)
 
