@@ -41,5 +41,6 @@ pub mod Untouched
 pub mod Newcomer
 pub mod Opened
 pub mod Examples
+pub mod CuttingExamples
 pub mod FormKept
 pub mod Demand3

@@ -20,7 +20,7 @@ use Rattle.model.specs.Cutting.{mac, Shares, Part, joined, lastOf, value
 use Rattle.model.specs.Best.{best}
 use Rattle.model.specs.Declarations.{Declaration, talkerDeclaration, listenerDeclaration, domainDeclaration, healthKind, attributeOf, joinOf, declaredId, declaredIds}
 use Rattle.model.specs.Laid.{Ascending}
-use Rattle.model.specs.WrittenFrames.{readyNumber, listenerNumber, said, eventNumber, threeOctet, fourOctet, packedVector, cutAs, listenerParts, vectorOctets}
+use Rattle.model.specs.WrittenFrames.{readyNumber, listenerNumber, said, eventNumber, threeOctet, fourOctet, firstNumbers, fourOctets, declarationVector, packedVector, cutAs, listenerParts}
 use Rattle.model.proofs.Lists.{all-map, all-take, all-drop, getD-tabulate, length-tabulate}
 use Rattle.model.proofs.Ascents.{ascending-rising, ascending-take, ascending-drop, rises-last}
 use Rattle.model.proofs.LeastCutting.{best-cuts}
@@ -355,3 +355,37 @@ pub parts-join : (l : List Declaration) → All Packs (listenerParts l) → All 
     → frameActs (map packedVector (listenerParts l)) ≡ map joinOf l
 unfolding listenerParts
 parts-join l p w = cut-joins (best (declaredIds l)) l (best-cuts (declaredIds l) .0) p w
+
+-- A Listener alone in its vector is written as before: one value, JoinMt, and its declaration type.
+said-alone : (d : Declaration) (i : ℕ) → 0 < i → said (d ∷ []) (declaredId d + i) ≡ 0
+unfolding said
+said-alone d i h = said-later d [] (declaredId d + i) (omega arith)
+
+one-value : (id : ℕ) → values (id ∷ []) ≡ 1
+unfolding values
+one-value id = omega arith
+
+join-event : (r : Ready) → eventNumber (readyNumber r) ≡ 3
+unfolding eventNumber readyNumber
+join-event askingFailed = refl
+join-event ready = refl
+join-event readyFailed = refl
+
+pub packed-alone : (id : ℕ) (r : Ready) → packedVector (listenerDeclaration id r ∷ []) ≡ declarationVector (listenerDeclaration id r)
+unfolding packedVector declarationVector declaredIds declaredId attributeOf firstWidths firstNumbers fourOctets threeLength fourLength tabulate threeOctet fourOctet listenerNumber
+packed-alone id r =
+    let d : Declaration = listenerDeclaration id r in
+    let o : id + 0 ≡ id = omega arith in
+    let none : eventNumber 0 ≡ 0 = unfold eventNumber in refl in
+    let four : ((readyNumber r * 4 + 0) * 4 + 0) * 4 + 0 ≡ readyNumber r * 64 = omega arith in
+    rw (
+      one-value id,
+      o,
+      said-first d [],
+      said-alone d 1 (omega arith),
+      said-alone d 2 (omega arith),
+      said-alone d 3 (omega arith),
+      join-event r,
+      none,
+      four,
+    )
