@@ -28,6 +28,7 @@ pub mod LongestRun
 pub mod Gaps
 pub mod WritingPasses
 pub mod PackedVectors
+pub mod PackedEvents
 pub mod ReadBack
 pub mod Versions
 pub mod CutOut

@@ -628,12 +628,9 @@ having-valid k (d ∷ l) a = all-keep ValidDeclaration (sameAttribute (attribute
 pub frame-joins : (l : List Declaration) → InOrder l → FewListeners l → All ValidDeclaration l → frameActs (pduVectors l) ≡ map joinOf l
 unfolding pduVectors
 frame-joins l o f a =
-    simp (acts-append, of (registers advertises), of (registers faileds), of (registers listeners), of domain, none, append-nil, ← map-append)
+    simp (acts-append, of (registers advertises), of (registers faileds), of (registers listeners), of domain, append-nil, ← map-append)
     (ap (map joinOf) (having-each l o))
   where
-    none : frameActs [] ≡ []
-    none = unfold frameActs in refl
-
     of : (k : Attribute) → frameActs (vectorsOf k (having k l)) ≡ map joinOf (having k l)
     of k = type-joins k (having k l) (having-attribute k l) (few-of l f k) (having-valid k l a)
 
