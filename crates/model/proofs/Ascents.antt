@@ -4,6 +4,7 @@ use mathlib.Core.List.{List, [], _∷_, _++_}
 use Prim.Native.Nat.{ℕ, zero, suc, _≤_, _<_}
 use native.Mathlib.Omega.{arith}
 use lib.ListN.{length, take, drop, take-append-drop}
+use Rattle.model.specs.Lists.{All}
 use Rattle.model.specs.Cutting.{lastOf}
 use Rattle.model.specs.Laid.{Ascending}
 use Rattle.model.proofs.Lists.{all-take}
@@ -31,6 +32,15 @@ pub ascending-drop : (n : ℕ) (l : List ℕ) → Ascending l → Ascending (dro
 ascending-drop zero l a = a
 ascending-drop (suc n) [] a = tt
 ascending-drop (suc n) (x ∷ l) a = ascending-drop n l (a .1)
+
+-- all before one are below it
+pub ascending-below : (l : List ℕ) (x : ℕ) (r : List ℕ) → Ascending (l ++ (x ∷ r)) → All (λ y. y < x) l
+ascending-below [] x r a = tt
+ascending-below (y ∷ l) x r a = (all-behind l (a .0), ascending-below l x r (a .1))
+  where
+    all-behind : (l : List ℕ) → All (λ z. y < z) (l ++ (x ∷ r)) → y < x
+    all-behind [] b = b .0
+    all-behind (z ∷ l) b = all-behind l (b .1)
 
 -- parts of a list that rises
 pub rises-left : (x : ℕ) (g r : List ℕ) → Rises x (g ++ r) → Rises x g

@@ -26,10 +26,12 @@ pub mod LeastCutting
 pub mod OneCutting
 pub mod LongestRun
 pub mod Gaps
+pub mod WritingPasses
+pub mod PackedVectors
+pub mod PackedEvents
 pub mod ReadBack
 pub mod Versions
 pub mod CutOut
-pub mod WritingPasses
 pub mod Refusals
 pub mod Edge
 pub mod OwnCodes
@@ -40,5 +42,6 @@ pub mod Untouched
 pub mod Newcomer
 pub mod Opened
 pub mod Examples
+pub mod CuttingExamples
 pub mod FormKept
 pub mod Demand3

@@ -132,8 +132,7 @@ unfolding least
 least-most l few = omega (arith, least-length l few .1 (singles l) (singles-cut l) .0, singles-cost l)
 
 abbrev pub Small : List (List ℕ) → Type 0
-Small [] = Unit {0}
-Small (g ∷ c) = (values g < 2048) × Small c
+Small c = All (λ g. values g < 2048) c
 
 small : (c : List (List ℕ)) → octets c ≤ 768 → Small c
 unfolding octetsFor threeLength fourLength

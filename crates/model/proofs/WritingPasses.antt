@@ -233,7 +233,7 @@ length-singles k (d ∷ l) a =
 -- of Listeners packed
 pub length-packed : (g : List Declaration) → length (vectorOctets (packedVector g)) ≡ octetsFor (values (declaredIds g))
 unfolding vectorOctets packedVector packed be octetsFor
-length-packed g = simp (length-append, length-be, length-tabulate) (omega arith)
+length-packed g = simp (length-append, length-tabulate) (omega arith)
 
 pub ids-take : (n : ℕ) (l : List Declaration) → declaredIds (take n l) ≡ take n (declaredIds l)
 unfolding declaredIds
