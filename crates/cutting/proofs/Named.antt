@@ -1,13 +1,15 @@
--- Of streams named by their places: how many StreamIDs they have, the one at a place, and the first few of them.
+-- Of streams named by their places: how many StreamIDs they have, the one at a place, the first few of them, and a part's ends.
 use mathlib.Core.Path.{_≡_, refl, ap}
 use mathlib.Core.List.{List, [], _∷_, map}
-use Prim.Native.Nat.{ℕ, zero, suc, _≤_, _<_}
+use Prim.Native.Nat.{ℕ, zero, suc, _+_, _-_, _/_, _≤_, _<_}
 use native.Mathlib.Omega.{arith}
 use lib.ListN.{length, getD, take}
 use Rattle.model.specs.State.{streamAt}
+use Rattle.model.specs.Cutting.{mac, Shares, Part, lastOf, values}
+use Rattle.model.specs.Laid.{Ascending}
 use Rattle.model.specs.Table.{decode}
 use Rattle.model.proofs.Lists.{getD-map, all-take, all-at}
-use Rattle.model.proofs.Ascents.{ascending-take}
+use Rattle.model.proofs.Ascents.{ascending-rising, ascending-take, rises-last}
 use Rattle.table.specs.Places.{Stands}
 use Rattle.cutting.specs.Named.{idsOf, Named}
 use Rattle.model.proofs.LongestRun.{length-cut}
@@ -40,3 +42,33 @@ module _ (t : List ℕ) where
     held = all-take (λ k. k < length (decode t .streams)) n l (w .held);
     ascending = rw (ids-take n l) (ascending-take n (idsOf t l) (w .ascending));
   }
+
+-- The first and the last StreamID of a part.
+
+last-at : (x : ℕ) (g : List ℕ) → lastOf x g ≡ getD (x ∷ g) (length g) 0
+last-at x [] = refl
+last-at x (y ∷ g) = last-at y g
+
+shares-last : (x z : ℕ) (g : List ℕ) → Shares x g → z / 65536 ≡ x / 65536 → lastOf z g / 65536 ≡ x / 65536
+shares-last x z [] s e = e
+shares-last x z (y ∷ g) s e = shares-last x y g (s .1) (unfold mac in (s .0))
+
+pub record Ends (l : List ℕ) : Type 0 where
+  pub some : 0 < length l
+  pub order : getD l 0 0 ≤ getD l (length l - 1) 0
+  pub near : getD l (length l - 1) 0 - getD l 0 0 ≤ 65535
+  pub is : values l ≡ getD l (length l - 1) 0 - getD l 0 0 + 1
+
+pub part-ends : (l : List ℕ) → Part l → Ascending l → Ends l
+unfolding values
+part-ends [] p a = absurd p
+part-ends (x ∷ g) p a =
+    let e : suc (length g) - 1 ≡ length g = omega arith in
+    let order = rises-last x g (ascending-rising (x ∷ g) a) in
+    let last = last-at x g in
+    record {
+      some = omega arith;
+      order = rw (e, ← last) order;
+      near = rw (e, ← last) (omega (arith, order, shares-last x x g p refl));
+      is = rw (e, ← last);
+    }
