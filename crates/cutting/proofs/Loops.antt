@@ -18,7 +18,7 @@ use Rattle.cutting.specs.declared.Entry.{Entry}
 use Rattle.model.proofs.Lists.{longest-ends, longest-stops, longest-goes}
 use Rattle.model.proofs.LeastCutting.{best-cuts, best-under}
 use Rattle.model.proofs.OneCutting.{best-next}
-use Rattle.cutting.proofs.Table.{entry-at, entry-weighs}
+use Rattle.cutting.proofs.Table.{entry-at, entry-weighs, entry-octets}
 use Rattle.model.proofs.LongestRun.{singles, singles-cut, least-most, length-cut}
 
 -- the entry from place i on that a search starts with
@@ -191,3 +191,8 @@ filled-up g w j v h e f i p = go (eqb i j) refl
 pub least-none : (l : List ℕ) → 0 ≡ least (take 0 l)
 unfolding least best bests
 least-none l = refl
+
+-- the octets of the planned cutting
+pub planned-octets : (l w : List ℕ) → length l ≤ 64 → ((k : ℕ) → 0 ≤ k → k ≤ length l → getD w k 0 ≡ getD (entries l) k none .weighs) → getD w 0 0 / 65 ≡ least l
+planned-octets l w few h =
+    ap (λ (n : ℕ). n / 65) (h 0 (omega arith) (omega arith) ∙ ap (λ (r : Entry). r .weighs) (entry-at l 0 (omega arith))) ∙ entry-octets l few

@@ -3,13 +3,13 @@ use mathlib.Core.Path.{_≡_, refl, ap}
 use mathlib.Core.List.{List, [], _∷_, map}
 use Prim.Native.Nat.{ℕ, zero, suc, _+_, _-_, _/_, _≤_, _<_}
 use native.Mathlib.Omega.{arith}
-use lib.ListN.{length, getD, take}
+use lib.ListN.{length, getD, take, drop, length-drop}
 use Rattle.model.specs.State.{streamAt}
 use Rattle.model.specs.Cutting.{mac, Shares, Part, lastOf, values}
 use Rattle.model.specs.Laid.{Ascending}
 use Rattle.model.specs.Table.{decode}
-use Rattle.model.proofs.Lists.{getD-map, all-take, all-at}
-use Rattle.model.proofs.Ascents.{ascending-rising, ascending-take, rises-last}
+use Rattle.model.proofs.Lists.{all-take, all-drop, all-at}
+use Rattle.model.proofs.Ascents.{ascending-rising, ascending-take, ascending-drop, rises-last}
 use Rattle.table.specs.Places.{Stands}
 use Rattle.cutting.specs.Named.{idsOf, Named}
 use Rattle.model.proofs.LongestRun.{length-cut}
@@ -32,6 +32,12 @@ module _ (t : List ℕ) where
   ids-take (suc n) [] = refl
   ids-take (suc n) (k ∷ l) = ap (λ (r : List ℕ). streamAt k (decode t) .id ∷ r) (ids-take n l)
 
+  pub ids-drop : (n : ℕ) (l : List ℕ) → idsOf t (drop n l) ≡ drop n (idsOf t l)
+  unfolding idsOf
+  ids-drop zero l = refl
+  ids-drop (suc n) [] = refl
+  ids-drop (suc n) (k ∷ l) = ids-drop n l
+
   pub named-at : (l : List ℕ) (i : ℕ) → Named t l → i < length l → Stands t (getD l i 0)
   named-at l i w h = record { laid = w .laid; held = all-at (λ k. k < length (decode t .streams)) l (w .held) i 0 h }
 
@@ -42,6 +48,15 @@ module _ (t : List ℕ) where
     held = all-take (λ k. k < length (decode t .streams)) n l (w .held);
     ascending = rw (ids-take n l) (ascending-take n (idsOf t l) (w .ascending));
   }
+
+-- those from a place on
+pub named-drop : (t : List ℕ) (n : ℕ) (l : List ℕ) → Named t l → Named t (drop n l)
+named-drop t n l w = record {
+  laid = w .laid;
+  few = omega (arith, length-drop n l, w .few);
+  held = all-drop (λ k. k < length (decode t .streams)) n l (w .held);
+  ascending = rw (ids-drop t n l) (ascending-drop n (idsOf t l) (w .ascending));
+}
 
 -- The first and the last StreamID of a part.
 

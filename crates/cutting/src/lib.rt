@@ -86,7 +86,7 @@ fn choose(table: &[u8], places: &[u8], at: usize, weighs: &[u16]) -> Entry
 }
 
 // The entries of all tails of at most 64 rising StreamIDs.
-pub fn plan(table: &[u8], places: &[u8], weighs: &mut [u16], firsts: &mut [u8])
+fn plan(table: &[u8], places: &[u8], weighs: &mut [u16], firsts: &mut [u8])
     requires { ⌜ Named (now table) (now places) × (length (now weighs) ≡ 65) × (length (now firsts) ≡ 65) ⌝ }
     ensures { λ _. ⌜ Weighed (idsOf (now (table .entry)) (now (places .entry))) 0 (now (weighs .exit)) × Counted (idsOf (now (table .entry)) (now (places .entry))) 0 (now (firsts .exit)) ⌝ }
 {
@@ -124,7 +124,7 @@ fn least_to(table: &[u8], places: &[u8], k: usize, costs: &[u16]) -> u64
 }
 
 // How many declarations, from the first on, fit in `room` octets. Twelve octets for each are always enough.
-pub fn fit(table: &[u8], places: &[u8], room: u64, costs: &mut [u16]) -> usize
+fn fit(table: &[u8], places: &[u8], room: u64, costs: &mut [u16]) -> usize
     requires { ⌜ Named (now table) (now places) × (length (now costs) ≡ 65) ⌝ }
     ensures { λ r. ⌜ (r ≡ run room (idsOf (now (table .entry)) (now (places .entry)))) × (r ≤ length (now (places .entry))) ⌝ }
 {

@@ -92,7 +92,8 @@ longest-fits size some (suc left) used = go (leb (used + size) longestPdu) refl 
     behind : (i : ℕ) → test (1 + i) ≡ leb (used + size + i * size) longestPdu
     behind i =
         let s : 1 + i ≡ suc i = omega arith in
-        ap (λ (n : ℕ). leb n longestPdu) (rw s (omega (arith, suc-mul i size)))
+        let m : used + suc i * size ≡ used + size + i * size = omega (arith, suc-mul i size) in
+        rw s (ap (λ (n : ℕ). leb n longestPdu) m)
 
     go : (t : Bool) → leb (used + size) longestPdu ≡ t
         → longest (λ n. leb (used + size + n * size) longestPdu) 0 left ≡ fits (used + size) size left → longest test 0 (suc left) ≡ fits used size (suc left)

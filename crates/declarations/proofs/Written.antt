@@ -11,7 +11,6 @@ use Rattle.octets.specs.Parts.{part, patch}
 use Rattle.octets.specs.Fields.{flat}
 use Rattle.octets.specs.Be.{be}
 use Rattle.octets.proofs.Parts.{length-part, length-patch}
-use Rattle.octets.proofs.Frame.{part-same}
 use Rattle.octets.proofs.Patches.{lent-patch}
 use Rattle.octets.proofs.Be.{length-be, be-zero}
 use Rattle.model.specs.Lists.{All, keep}
@@ -89,10 +88,13 @@ pub lent-vectors : (k : Attribute) (run : List Declaration) (n : ℕ) (y out : L
     → y ≡ flat vectorOctets (vectorsOf k run)
     → let now = take 4 out ++ (y ++ drop (4 + n - 4) (drop 4 out)) in
     messageOf k (part 4 (length now - 6) now ++ (0 ∷ 0 ∷ [])) ≡ messageOctets k run
+unfolding part
 lent-vectors k run n y out l m some e =
     let h : 4 + n ≤ length out = omega arith in
-    let i : length (patch 4 n y out) - 6 ≡ n = omega (arith, length-patch 4 n y out l h) in
-    rw (lent-patch 4 n y out, i, part-same 4 n y out l h) (message-around k run y some e)
+    let rest = drop (4 + n - 4) (drop 4 out) in
+    let front : length (take 4 out) ≡ 4 = length-take-le 4 out (omega arith) in
+    let i : length (take 4 out ++ (y ++ rest)) - 6 ≡ n = omega (arith, ap length (lent-patch 4 n y out), length-patch 4 n y out l h) in
+    rw (i, drop-at (take 4 out) (y ++ rest) 4 front, take-at y rest n l) (message-around k run y some e)
 
 -- one vector each
 pub singles-vectors : (k : Attribute) → Single k → (run : List Declaration) → vectors run ≡ flat vectorOctets (vectorsOf k run)

@@ -101,6 +101,6 @@ pub record CutIn (t : List ℕ) (p : ℕ) (places firsts : List ℕ) (room : ℕ
 
 -- the Listeners left, before those that fit are taken
 pub record PackedIn (t : List ℕ) (p : ℕ) (places : List ℕ) (s : Progress) (b : List ℕ) : Type 0 where
-  pub open : OpenIn t p Listener (length places) s b
+  pub opened : OpenIn t p Listener (length places) s b
   pub room : s .at + 8 ≤ longestPdu
   pub placed : Placed t p (s .skip) places
