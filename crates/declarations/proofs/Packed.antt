@@ -1,6 +1,6 @@
 -- Streams that declare a Listener, by their places: what they declare, how their places are gathered and how they are cut.
 use mathlib.Core.Path.{_≡_, refl, sym, _∙_, ap}
-use mathlib.Core.Bool.{Bool, true, false}
+use mathlib.Core.Bool.{Bool, true, false, false≢true}
 use mathlib.Core.List.{List, [], _∷_, _++_, map, append-nil, append-assoc}
 use Prim.Native.Nat.{ℕ, zero, suc, _+_, _-_, _≤_, _<_}
 use native.Mathlib.Nat.{sub-zero}
@@ -58,7 +58,7 @@ module _ (t : List ℕ) (p : ℕ) where
   number-is k e = go (resultAt (streamAt k (decode t)) p .declares) e
     where
       go : (d : Declared) → some (listening (streamAt k (decode t)) d) ≡ true → (declaredNumber d ≡ readyNumber (readyOf d)) × (1 ≤ declaredNumber d) × (declaredNumber d ≤ 3)
-      go nothing q = absurd cc
+      go nothing q = absurd (false≢true q)
       go (tells r) q = (refl, ready-number r .0, ready-number r .1)
 
   pub listeners-ids : (l : List ℕ) → declaredIds (listenersAt p t l) ≡ idsOf t l
@@ -143,7 +143,10 @@ module _ (t : List ℕ) (p : ℕ) (whole : List Declaration) where
             let some-more : 0 < length places - n = omega arith in
             let first = listenersAt p t (take n places) in
             let rest = take (length places - (n + 1)) (left (k + 1)) in
-            let one = one-taken (registers listeners) p (decode t) k one-left q (length places - n) some-more ∙ rw (listener-one t p k q, m) in
+            let one : take (length places - n) (left k) ≡ listenerAt p (decode t) k ∷ rest =
+            one-taken (registers listeners) p (decode t) k one-left q (length places - n) some-more
+            ∙ ap (λ (h : List Declaration). h ++ take (length places - n - 1) (left (k + 1))) (listener-one t p k q)
+            ∙ ap (λ (i : ℕ). listenerAt p (decode t) k ∷ take i (left (k + 1))) m in
             record {
               within = omega arith;
               enough = omega (arith, w .enough, long, one-counted (registers listeners) p (decode t) k one-left q);

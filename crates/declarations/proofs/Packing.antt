@@ -3,22 +3,30 @@ use mathlib.Core.Path.{_≡_, refl, sym, _∙_, ap}
 use mathlib.Core.Bool.{true, false}
 use mathlib.Core.List.{List, [], _∷_, _++_, append-nil, append-assoc}
 use Prim.Native.Nat.{ℕ, zero, suc, _+_, _-_, _*_, _/_, _%_, _≤_, _<_}
+use native.Mathlib.Numerals.{add-one}
 use native.Mathlib.Omega.{arith}
 use lib.ListN.{length, getD, set, take, drop, length-append, take-append-drop, replicate-append-replicate, List·getD-append}
-use lib.Seq.{set-append-left, take-set-le, drop-set-add, take-at, drop-at, getD-append-add}
+use lib.Seq.{split-at, take-suc, set-append-left, take-set-le, drop-set-add, take-at, drop-at, getD-append-add}
 use Rattle.octets.specs.Be.{be}
 use Rattle.octets.specs.Parts.{zeros}
 use Rattle.octets.specs.Fields.{packed}
 use Rattle.model.specs.Lists.{All, bit, tabulate}
 use Rattle.model.specs.Frames.{threeLength, fourLength}
-use Rattle.model.specs.Cutting.{values}
+use Rattle.model.specs.Cutting.{Part, values}
 use Rattle.model.specs.Declarations.{Declaration, declaredId, declaredIds}
 use Rattle.model.specs.WrittenFrames.{listenerNumber, said, eventNumber, threeOctet, fourOctet, packedVector, vectorOctets}
 use Rattle.model.proofs.Lists.{getD-tabulate, length-tabulate}
+use Rattle.model.specs.Table.{decode}
+use Rattle.model.proofs.Ascents.{ascending-below}
+use Rattle.model.proofs.WritingPasses.{ids-take as ids-cut}
 use Rattle.model.proofs.PackedVectors.{said-small}
 use Rattle.model.proofs.PackedEvents.{Adds, said-more, event-more, three-adds, four-adds, three-more, four-more, three-none, four-none}
+use Rattle.table.proofs.Finding.{ascending-most}
+use Rattle.cutting.specs.Named.{idsOf}
+use Rattle.cutting.proofs.Named.{ids-length, ids-at, part-ends}
 use Rattle.declarations.specs.Vectors.{headed}
-use Rattle.declarations.specs.Packed.{threeUnit, fourUnit, packedEvents, eventsBy, eventsOf}
+use Rattle.declarations.specs.Packed.{listenerAt, listenersAt, Telling, threeUnit, fourUnit, packedEvents, eventsBy, eventsOf}
+use Rattle.declarations.proofs.Packed.{listeners-ids, listeners-take, listeners-more}
 
 -- a store behind other octets
 set-behind : (a b : List ℕ) (n i v : ℕ) → length a ≡ n → set (a ++ b) (n + i) v ≡ a ++ set b i v
@@ -86,7 +94,8 @@ module _ (n : ℕ) (e f : ℕ → ℕ) (o v : ℕ) (a : Adds e f o (suc v)) (wit
     pub four-there : getD (set (packedEvents n e) (o / 3) x) (threeLength n + o / 4) 0 + suc v * fourUnit (o % 4) ≡ fourOctet f (o / 4)
     four-there =
         let u = four-unit (o % 4) in
-        let at : getD (threes f ++ fours e) (threeLength n + o / 4) 0 ≡ getD (fours e) (o / 4) 0 = rw (← (three-long f)) (getD-append-add (threes f) (fours e) (o / 4) 0) in
+        let at : getD (threes f ++ fours e) (threeLength n + o / 4) 0 ≡ getD (fours e) (o / 4) 0 = 
+        ap (λ (i : ℕ). getD (threes f ++ fours e) (i + o / 4) 0) (sym (three-long f)) ∙ getD-append-add (threes f) (fours e) (o / 4) 0 in
         let z : 0 + o / 4 ≡ o / 4 = omega arith in
         rw (three-set, at, getD-tabulate (fourOctet e) (fourLength true n) 0 (o / 4) 0 four-inside, z)
         (sym (four-adds e f o (suc v) a (fourUnit (o % 4)) (u .0) (u .1) (u .2) (u .3)))
@@ -118,4 +127,113 @@ events-none g all e =
 pub vector-is : (g : List Declaration) (n first : ℕ) → n ≡ values (declaredIds g) → first ≡ getD (declaredIds g) 0 0
     → headed n first ++ eventsOf g ≡ vectorOctets (packedVector g)
 unfolding vectorOctets packedVector packed bit headed eventsOf eventsBy packedEvents
-vector-is g n first e f = rw (e, f) (simp (append-assoc, append-nil))
+vector-is g n first e f =
+    let v : ℕ = values (declaredIds g) in
+    let x : ℕ = getD (declaredIds g) 0 0 in
+    let z : v ≡ bit false * 8192 + v = omega arith in
+    rw (e, f)
+    (append-assoc (be 2 v) (be 8 x) (eventsOf g)
+    ∙ ap (λ (m : ℕ). be 2 m ++ (be 8 x ++ eventsOf g)) z
+    ∙ ap (λ (y : List ℕ). be 2 (bit false * 8192 + v) ++ (y ++ eventsOf g)) (sym (append-nil (be 8 x))))
+
+-- A Listener's turn, at offset o from the first StreamID of its part.
+module _ (t : List ℕ) (p : ℕ) (places : List ℕ) (w : Telling t p places) (shares : Part (idsOf t places)) (i : ℕ) (h : i < length places) where
+  abbrev whole : List Declaration
+  whole = listenersAt p t places
+
+  abbrev this : Declaration
+  this = listenerAt p (decode t) (getD places i 0)
+
+  abbrev first : ℕ
+  first = getD (declaredIds whole) 0 0
+
+  abbrev id : ℕ
+  id = getD (idsOf t places) i 0
+
+  inside : i < length (idsOf t places)
+  inside = omega (arith, ids-length t places)
+
+  one-more : take (i + 1) whole ≡ take i whole ++ (this ∷ [])
+  one-more =
+      sym (listeners-take t p (i + 1) places)
+      ∙ ap (listenersAt p t) (rw (add-one i) (take-suc places i 0 h))
+      ∙ listeners-more t p (take i places) (getD places i 0)
+      ∙ ap (λ (l : List Declaration). l ++ (this ∷ [])) (listeners-take t p i places)
+
+  this-id : declaredId this ≡ id
+  this-id = unfold listenerAt declaredId in (ids-at t places i h)
+
+  below : All (λ j. j < declaredId this) (declaredIds (take i whole))
+  below =
+      let split = split-at (idsOf t places) i 0 inside in
+      rw (this-id, ids-cut i whole, listeners-ids t p places) (ascending-below (take i (idsOf t places)) id (drop (suc i) (idsOf t places)) (rw split at (w .named .ascending)))
+
+  pub first-below : getD (idsOf t places) 0 0 ≤ id
+  first-below = ascending-most (idsOf t places) (w .named .ascending) 0 i (omega arith) inside
+
+  -- its number and what it adds
+  module _ (o number threes : ℕ) (at : getD (idsOf t places) 0 0 + o ≡ id) (is-number : number ≡ listenerNumber this) (some : 1 ≤ number)
+      (eT : threes ≡ threeLength (values (idsOf t places))) (out : List ℕ) (was : out ≡ eventsBy whole (take i whole)) where
+    abbrev n : ℕ
+    n = values (declaredIds whole)
+
+    abbrev e : ℕ → ℕ
+    e j = said (take i whole) (first + j)
+
+    abbrev f : ℕ → ℕ
+    f j = said (take (i + 1) whole) (first + j)
+
+    adds : Adds e f o (suc (number - 1))
+    adds =
+        let v : listenerNumber this ≡ suc (number - 1) = omega arith in
+        let there : first + o ≡ declaredId this = rw (listeners-ids t p places, this-id) at in
+        rw (one-more, ← v) (said-more (take i whole) this first o below there)
+
+    within : o < n
+    within =
+        let ends = part-ends (idsOf t places) shares (w .named .ascending) in
+        rw (listeners-ids t p places)
+        (omega (arith, ends .is, at, ascending-most (idsOf t places) (w .named .ascending) i (length (idsOf t places) - 1) (omega (arith, inside)) (omega (arith, inside))))
+
+    small : (j : ℕ) → f j < 4
+    small j = said-small (take (i + 1) whole) (first + j)
+
+    length-of : threes ≡ threeLength n
+    length-of = rw (listeners-ids t p places) eT
+
+    held : out ≡ packedEvents n e
+    held = was ∙ unfold eventsBy in refl
+
+    abbrev x : ℕ
+    x = getD out (o / 3) 0 + 3 * threeUnit (o % 3)
+
+    x-is : x ≡ threeOctet (λ j. eventNumber (f j)) (o / 3)
+    x-is = rw held (three-there n e f o (number - 1) adds within small)
+
+    abbrev y : ℕ
+    y = getD (set out (o / 3) x) (threes + o / 4) 0 + number * fourUnit (o % 4)
+
+    y-is : y ≡ fourOctet f (o / 4)
+    y-is =
+        let v : suc (number - 1) ≡ number = omega arith in
+        rw (v, ← length-of, ← held) at (four-there n e f o (number - 1) adds within small x x-is)
+
+    pub record Turn : Type 0 where
+      pub three-in : o / 3 < length out
+      pub four-in : threes + o / 4 < length out
+      pub three-fits : x < 256
+      pub four-fits : y < 256
+      pub is : set (set out (o / 3) x) (threes + o / 4) y ≡ eventsBy whole (take (i + 1) whole)
+
+    pub turn : Turn
+    turn =
+        let long = ap length held ∙ events-length n e in
+        record {
+          three-in = omega (arith, long, three-inside n e f o (number - 1) adds within small);
+          four-in = omega (arith, long, length-of, four-inside n e f o (number - 1) adds within small);
+          three-fits = omega (arith, x-is, three-small n e f o (number - 1) adds within small);
+          four-fits = omega (arith, y-is, four-small n e f o (number - 1) adds within small x x-is);
+          is =
+              rw (held, length-of) (events-more n e f o (number - 1) adds within small _ (rw held at x-is) _ (rw (held, length-of) at y-is))
+              ∙ unfold eventsBy in refl;
+        }

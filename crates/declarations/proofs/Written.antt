@@ -97,19 +97,17 @@ lent-vectors k run n y out l m some e =
     rw (i, drop-at (take 4 out) (y ++ rest) 4 front, take-at y rest n l) (message-around k run y some e)
 
 -- one vector each
+vectors-each : (l : List Declaration) → flat (λ d. vectorOctets (declarationVector d)) l ≡ flat vectorOctets (map declarationVector l)
+unfolding flat
+vectors-each [] = refl
+vectors-each (d ∷ l) = ap (λ (v : List ℕ). vectorOctets (declarationVector d) ++ v) (vectors-each l)
+
 pub singles-vectors : (k : Attribute) → Single k → (run : List Declaration) → vectors run ≡ flat vectorOctets (vectorsOf k run)
 unfolding vectors vectorsOf
-singles-vectors k one run = go k one
-  where
-    each : (l : List Declaration) → flat (λ d. vectorOctets (declarationVector d)) l ≡ flat vectorOctets (map declarationVector l)
-    each [] = unfold flat in refl
-    each (d ∷ l) = unfold flat in (ap (λ (v : List ℕ). vectorOctets (declarationVector d) ++ v) (each l))
-
-    go : (j : Attribute) → Single j → flat (λ d. vectorOctets (declarationVector d)) run ≡ flat vectorOctets (vectorsOf j run)
-    go (registers advertises) s = each run
-    go (registers faileds) s = each run
-    go (registers listeners) s = absurd s
-    go domain s = each run
+singles-vectors (registers advertises) s run = vectors-each run
+singles-vectors (registers faileds) s run = vectors-each run
+singles-vectors (registers listeners) s run = absurd s
+singles-vectors domain s run = vectors-each run
 
 -- The Messages of a PDU, type by type.
 
