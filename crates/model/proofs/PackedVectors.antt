@@ -13,12 +13,12 @@ use Rattle.octets.specs.Fields.{fields, packed, Fit}
 use Rattle.octets.proofs.Fields.{fields-of-packed}
 use Rattle.model.specs.FrameLayout.{listenerWidths}
 use Rattle.model.specs.Lists.{All, tabulate}
-use Rattle.model.specs.State.{Health, sound, broken, Ready, askingFailed, ready, readyFailed}
+use Rattle.model.specs.State.{Bridge, Health, sound, broken, Ready, askingFailed, ready, readyFailed}
 use Rattle.model.specs.Registrations.{advertises, faileds, listeners, Act, listen}
 use Rattle.model.specs.Frames.{Attribute, registers, domain, typeNumber, firstWidths, threeLength, hasFour, fourLength, Vector, overpacked, runsPast, overflows, Event, new, joinMt, event, threePacked, fourPacked, eventOf, fourOf, asking, join, idValue, hearing, listenerAct, valueActs, valuesActs, leaveAllActs, vectorActs, frameActs}
 use Rattle.model.specs.Cutting.{mac, Shares, Part, joined, lastOf, values, Least}
 use Rattle.model.specs.Best.{best}
-use Rattle.model.specs.Declarations.{Declaration, talkerDeclaration, listenerDeclaration, domainDeclaration, healthKind, attributeOf, joinOf, declaredId, declaredIds}
+use Rattle.model.specs.Declarations.{Declaration, talkerDeclaration, listenerDeclaration, domainDeclaration, healthKind, attributeOf, joinOf, declaredId, declaredIds, having, write}
 use Rattle.model.specs.Laid.{Ascending}
 use Rattle.model.specs.WrittenFrames.{readyNumber, listenerNumber, said, eventNumber, threeOctet, fourOctet, firstNumbers, fourOctets, declarationVector, packedVector, cutAs, listenerParts}
 use Rattle.model.proofs.Lists.{all-map, all-take, all-drop, getD-tabulate, length-tabulate}
@@ -26,7 +26,7 @@ use Rattle.model.proofs.Ascents.{ascending-rising, ascending-take, asce
 use Rattle.model.proofs.LeastCutting.{best-cuts}
 use Rattle.model.proofs.OneCutting.{best-least, best-only}
 use Rattle.model.proofs.LongestRun.{Small, best-small}
-use Rattle.model.proofs.WritingPasses.{OfAttribute, ids-take, ids-drop, length-ids, cut-first}
+use Rattle.model.proofs.WritingPasses.{OfAttribute, ids-take, ids-drop, length-ids, cut-first, FewListeners, FewStreams, run-few}
 
 -- The parts written.
 
@@ -53,6 +53,17 @@ module _ (l : List Declaration) (few : length l ≤ 64) (ascending : Ascending (
 
   pub parts-only : (c : List (List ℕ)) → Least values (declaredIds l) c → c ≡ map declaredIds (listenerParts l)
   parts-only c p = best-only (declaredIds l) ids-few ascending c p ∙ sym (parts-best l)
+
+-- so it is with the Listeners of a PDU that a bridge writes
+module _ (b : Bridge) (few : FewStreams b) (p place : ℕ) where
+  abbrev pub heard : List Declaration
+  heard = having (registers listeners) (write b p place .run)
+
+  pub write-least : Least values (declaredIds heard) (map declaredIds (listenerParts heard))
+  write-least = let f = run-few b p place few in parts-least heard (f .few) (f .ascending)
+
+  pub write-only : (c : List (List ℕ)) → Least values (declaredIds heard) c → c ≡ map declaredIds (listenerParts heard)
+  write-only = let f = run-few b p place few in parts-only heard (f .few) (f .ascending)
 
 -- what a part is: Listeners of one MAC, ascending, whose vector has few values
 pub record Packs (g : List Declaration) : Type 0 where

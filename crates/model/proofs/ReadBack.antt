@@ -701,12 +701,15 @@ run-within b h p place = go (ltb (length (declared b p)) place) refl
         rw (write-from b p place (ltb-false (length (declared b p)) place e))
         (all-take ValidDeclaration (takes rest) rest (all-drop ValidDeclaration place (declared b p) (declarations-within b h p)))
 
+pub valid-few : (b : Bridge) → Valid b → FewStreams b
+valid-few b h = (h .at-most-64, rising-ascends (ids (b .streams)) (h .ascending))
+
 -- a neighbour, whatever its settings, that gets a written PDU on one of its ports reads exactly the declarations written, as
 -- joins
 pub neighbour-reads : (b : Bridge) → Valid b → (p place : ℕ) (st : Settings) (q : ℕ) → wrongPort st q ≡ false
     → reading st q (pduOctets (write b p place .run)) ≡ acts (map joinOf (write b p place .run))
 unfolding reading walked
 neighbour-reads b h p place st q right =
-    let f : FewStreams b = (h .at-most-64, rising-ascends (ids (b .streams)) (h .ascending)) in
+    let f : FewStreams b = valid-few b h in
     rw (right, read-back b f p place)
     (ap acts (frame-joins (write b p place .run) (run-in-order b p place) (run-few b p place f) (run-within b h p place)))

@@ -675,9 +675,9 @@ module _ (b : Bridge) (p place : ℕ) where
       rw (write-from h, length-take-le (takes rest) rest (takes-within rest)) (takes-full rest left)
 
   -- it is the longest run that fits
-  pub run-longest : FewStreams b → place ≤ length (declared b p)
+  pub write-longest : FewStreams b → place ≤ length (declared b p)
       → Longest (pduFits (drop place (declared b p))) (length (drop place (declared b p))) (length (write b p place .run))
-  run-longest f h =
+  write-longest f h =
       let rest : List Declaration = drop place (declared b p) in
       rw (write-from h, length-take-le (takes rest) rest (takes-within rest)) (takes-longest rest (few-drop place (declared b p) (declared-few b f p)))
 
