@@ -297,6 +297,19 @@ hears-part d (e ∷ g) o a =
     first : hears f x 1 ≡ joinOf d ∷ []
     first = unfold hears in (rw (said-first d (e ∷ g), hearing-one d (o .0)))
 
+-- "JoinMt" at each declaration, 0 at an Ignore; and what is said of the StreamID
+module _ (g : List Declaration) (i : ℕ) (h : i < values (declaredIds g)) where
+  pub event-packed : eventOf (packedVector g) i ≡ event (eventNumber (said g (getD (declaredIds g) 0 0 + i)))
+  unfolding eventOf packedVector
+  event-packed =
+      let e : ℕ → ℕ = λ j. eventNumber (said g (getD (declaredIds g) 0 0 + j)) in
+      ap event (three-at e (λ j. omega (arith, event-small (said g (getD (declaredIds g) 0 0 + j)))) (values (declaredIds g)) i h)
+
+  pub four-packed : fourOf (packedVector g) i ≡ said g (getD (declaredIds g) 0 0 + i)
+  unfolding fourOf packedVector
+  four-packed =
+      four-at (λ j. said g (getD (declaredIds g) 0 0 + j)) (λ j. said-small g (getD (declaredIds g) 0 0 + j)) (values (declaredIds g)) i h
+
 -- an event and a declaration type together: what is said is heard
 asked : (x i s : ℕ) → listenerAct (x ∷ []) i (asking (event (eventNumber s))) s ≡ hearing (x + i) s
 unfolding listenerAct asking event eventNumber idValue hearing
@@ -319,15 +332,8 @@ module _ (d : Declaration) (g : List Declaration) (within : declaredId d < 2 ^ 6
   first-read = fields-of-packed listenerWidths (x ∷ []) (unfold Fit in (within, tt))
 
   value-heard : (i : ℕ) → i < n → valueActs v i ≡ hearing (x + i) (said (d ∷ g) (x + i))
-  unfolding v x n valueActs packedVector eventOf fourOf firstWidths hasFour declaredIds
-  value-heard i h =
-      let k : ℕ → ℕ = λ j. said (d ∷ g) (x + j) in
-      rw (
-        first-read,
-        three-at (λ j. eventNumber (k j)) (λ j. omega (arith, event-small (k j))) n i h,
-        four-at k (λ j. said-small (d ∷ g) (x + j)) n i h,
-      )
-      (asked x i (k i))
+  unfolding v x n valueActs packedVector firstWidths declaredIds
+  value-heard i h = rw (first-read, event-packed (d ∷ g) i h, four-packed (d ∷ g) i h) (asked x i (said (d ∷ g) (x + i)))
 
   values-heard : (i k : ℕ) → i + k ≤ n → valuesActs v i k ≡ hears (said (d ∷ g)) (x + i) k
   unfolding valuesActs hears
