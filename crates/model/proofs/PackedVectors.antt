@@ -147,7 +147,7 @@ number-small (listenerDeclaration id ready) = omega arith
 number-small (listenerDeclaration id readyFailed) = omega arith
 number-small (domainDeclaration id q v) = omega arith
 
-said-small : (g : List Declaration) (i : ℕ) → said g i < 4
+pub said-small : (g : List Declaration) (i : ℕ) → said g i < 4
 unfolding said
 said-small [] i = omega arith
 said-small (d ∷ g) i = go (eqb (declaredId d) i) (said-small g i)
