@@ -1,12 +1,12 @@
 -- The vector of several Listeners: its events come back value by value, and it asks for the joins of its Listeners, Ignores passed
 -- over. The parts that are written are those of the least cutting.
-use mathlib.Core.Path.{_≡_, refl, sym, _∙_, ap, ap₂, subst}
-use mathlib.Core.List.{List, [], _∷_, _++_, map, append-nil, append-assoc, map-append}
+use mathlib.Core.Path.{_≡_, refl, sym, _∙_, ap, ap₂}
+use mathlib.Core.List.{List, [], _∷_, _++_, map, append-assoc, map-append}
 use mathlib.Core.Bool.{Bool, true, false, cond, not, _&&_}
 use Prim.Native.Nat.{ℕ, zero, suc, _+_, _*_, _-_, _/_, _%_, _^_, _≤_, _<_}
 use native.Mathlib.Omega.{arith}
-use lib.ListN.{length, getD, take, drop, take-append-drop, length-append}
-use lib.Dec.{ltb, eqb}
+use lib.ListN.{length, getD, take, drop, take-append-drop}
+use lib.Dec.{eqb}
 use borrow.Author.Tests.{le-ltb, eq-eqb, ne-eqb}
 use Rattle.octets.specs.Be.{beAt, be}
 use Rattle.octets.specs.Fields.{fields, packed, Fit}
@@ -14,19 +14,19 @@ use Rattle.octets.proofs.Fields.{fields-of-packed}
 use Rattle.model.specs.FrameLayout.{listenerWidths}
 use Rattle.model.specs.Lists.{All, tabulate}
 use Rattle.model.specs.State.{Bridge, Health, sound, broken, Ready, askingFailed, ready, readyFailed}
-use Rattle.model.specs.Registrations.{advertises, faileds, listeners, Act, listen}
-use Rattle.model.specs.Frames.{Attribute, registers, domain, typeNumber, firstWidths, threeLength, hasFour, fourLength, Vector, overpacked, runsPast, overflows, Event, new, joinMt, event, threePacked, fourPacked, eventOf, fourOf, asking, join, idValue, hearing, listenerAct, valueActs, valuesActs, leaveAllActs, vectorActs, frameActs}
+use Rattle.model.specs.Registrations.{advertises, faileds, listeners, Act}
+use Rattle.model.specs.Frames.{registers, domain, typeNumber, firstWidths, threeLength, fourLength, Vector, overpacked, runsPast, overflows, event, threePacked, fourPacked, eventOf, fourOf, asking, idValue, hearing, listenerAct, valueActs, valuesActs, leaveAllActs, vectorActs, frameActs}
 use Rattle.model.specs.Cutting.{mac, Shares, Part, joined, lastOf, values, Least}
 use Rattle.model.specs.Best.{best}
 use Rattle.model.specs.Declarations.{Declaration, talkerDeclaration, listenerDeclaration, domainDeclaration, healthKind, attributeOf, joinOf, declaredId, declaredIds, having, write}
-use Rattle.model.specs.Laid.{Ascending}
 use Rattle.model.specs.WrittenFrames.{readyNumber, listenerNumber, said, eventNumber, threeOctet, fourOctet, firstNumbers, fourOctets, declarationVector, packedVector, cutAs, listenerParts}
-use Rattle.model.proofs.Lists.{all-map, all-take, all-drop, getD-tabulate, length-tabulate}
+use Rattle.model.specs.Laid.{Ascending}
+use Rattle.model.proofs.Lists.{all-map, all-take, all-drop, getD-tabulate}
 use Rattle.model.proofs.Ascents.{ascending-rising, ascending-take, ascending-drop, rises-last}
 use Rattle.model.proofs.LeastCutting.{best-cuts}
 use Rattle.model.proofs.OneCutting.{best-least, best-only}
 use Rattle.model.proofs.LongestRun.{Small, best-small}
-use Rattle.model.proofs.WritingPasses.{OfAttribute, ids-take, ids-drop, length-ids, cut-first, FewListeners, FewStreams, run-few}
+use Rattle.model.proofs.WritingPasses.{OfAttribute, ids-take, ids-drop, length-ids, cut-first, FewStreams, run-few}
 
 -- The parts written.
 
