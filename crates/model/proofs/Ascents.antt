@@ -1,9 +1,9 @@
 -- Ascending lists, neighbour by neighbour.
-use mathlib.Core.Path.{_≡_, sym, subst}
+use mathlib.Core.Path.{sym, subst}
 use mathlib.Core.List.{List, [], _∷_, _++_}
 use Prim.Native.Nat.{ℕ, zero, suc, _≤_, _<_}
 use native.Mathlib.Omega.{arith}
-use lib.ListN.{length, take, drop, take-append-drop}
+use lib.ListN.{take, drop, take-append-drop}
 use Rattle.model.specs.Lists.{All}
 use Rattle.model.specs.Cutting.{lastOf}
 use Rattle.model.specs.Laid.{Ascending}

@@ -1,20 +1,20 @@
 -- Which gaps a best cutting bridges: up to 16 Ignores always, more than 22 never. Only between them is there anything to weigh.
 use mathlib.Core.Path.{_≡_, refl, sym, _∙_, ap, subst}
 use mathlib.Core.List.{List, [], _∷_, _++_, append-assoc}
+use mathlib.Core.Bool.{Bool, true, false}
 use Prim.Native.Nat.{ℕ, _+_, _-_, _*_, _≤_, _<_}
 use native.Mathlib.Omega.{arith}
 use lib.ListN.{length, take}
-use mathlib.Core.Bool.{Bool, true, false}
 use lib.Dec.{leb}
 use lib.Seq.{take-length}
 use borrow.Author.Tests.{leb-true, leb-false, le-leb}
 use Rattle.model.specs.Frames.{threeLength, fourLength}
-use Rattle.model.specs.Cutting.{mac, Shares, joined, Cutting, lastOf, values, octetsFor, octets}
-use Rattle.model.proofs.Ascents.{Rises, Rising, rises-left, rises-last, rises-mid}
+use Rattle.model.specs.Cutting.{mac, Shares, joined, Cutting, lastOf, values, octetsFor}
 use Rattle.model.specs.Best.{price, weight, best, least, run}
+use Rattle.model.proofs.Lists.{Longest}
+use Rattle.model.proofs.Ascents.{Rises, Rising, rises-left, rises-last, rises-mid}
 use Rattle.model.proofs.LeastCutting.{best-cuts, best-under}
 use Rattle.model.proofs.LongestRun.{fitsIn, run-longest, least-most}
-use Rattle.model.proofs.Lists.{Longest}
 
 last-append : (x : ℕ) (g : List ℕ) (y : ℕ) (h : List ℕ) → lastOf x (g ++ (y ∷ h)) ≡ lastOf y h
 last-append x [] y h = refl

@@ -2,18 +2,18 @@
 use mathlib.Core.Path.{_≡_, refl, sym, _∙_, ap, subst}
 use mathlib.Core.Bool.{Bool, true}
 use mathlib.Core.List.{List, [], _∷_, _++_}
-use lib.Dec.{leb}
-use borrow.Author.Tests.{leb-true, le-leb}
 use Prim.Native.Nat.{ℕ, zero, suc, _+_, _-_, _*_, _≤_, _<_}
 use native.Mathlib.Omega.{arith}
-use lib.ListN.{length, take, drop, take-append-drop}
+use lib.Dec.{leb}
+use lib.ListN.{length, take}
 use lib.Seq.{take-take, take-nil}
+use borrow.Author.Tests.{leb-true, le-leb}
 use Rattle.model.specs.Lists.{All}
-use Rattle.model.proofs.Lists.{Longest, longest-longest}
 use Rattle.model.specs.Frames.{threeLength, fourLength}
 use Rattle.model.specs.Cutting.{Shares, Part, joined, Cutting, lastOf, values, octetsFor, octets}
-use Rattle.model.proofs.Ascents.{Rises, Rising, rising-left, rising-right, rising-take, rises-last}
 use Rattle.model.specs.Best.{bests, best, least, run}
+use Rattle.model.proofs.Lists.{Longest, longest-longest}
+use Rattle.model.proofs.Ascents.{Rises, Rising, rising-left, rising-right, rising-take, rises-last}
 use Rattle.model.proofs.LeastCutting.{best-cuts}
 use Rattle.model.proofs.OneCutting.{least-length}
 

@@ -1,45 +1,54 @@
 -- The least cutting by octets, vectors and values: `best` is it, and nothing else is.
 use mathlib.Core.Path.{_≡_, refl, sym, _∙_, ap, ap₂, subst}
 use mathlib.Core.List.{List, [], _∷_, _++_, head-eq-of-cons-eq, tail-eq-of-cons-eq}
-use Prim.Native.Nat.{ℕ, _+_, _-_, _≤_, _<_}
+use Prim.Native.Nat.{ℕ, suc, _+_, _-_, _≤_, _<_}
 use native.Mathlib.Omega.{arith}
 use lib.ListN.{length, take, drop}
 use lib.Seq.{take-at, drop-at}
 use Rattle.model.specs.Lists.{All}
 use Rattle.model.specs.Cutting.{Part, joined, Cutting, lastOf, values, octets, Wider, NotAfter, Least}
-use Rattle.model.proofs.Ascents.{Rises, Rising, ascending-rising, rises-left, rising-right, rises-last}
 use Rattle.model.specs.Best.{weight, best}
 use Rattle.model.specs.Laid.{Ascending}
+use Rattle.model.proofs.Ascents.{Rises, Rising, ascending-rising, rises-left, rising-right, rises-last}
 use Rattle.model.proofs.CuttingWeights.{Under, under-order}
 use Rattle.model.proofs.LeastCutting.{best-cuts, best-under}
 
--- Two beginnings of one rising list: by declarations and by values the same one is the larger, or they are one.
-data Meets (a b : ℕ) (g h r s : List ℕ) : Type 0 where
-  less : length g < length h → a < b → Meets a b g h r s
-  same : g ≡ h → r ≡ s → Meets a b g h r s
-  more : length h < length g → b < a → Meets a b g h r s
+-- Two beginnings of one list: the first is the smaller by two sizes, or the larger by both, or they are one.
+data Meets (a b : ℕ) (m n : ℕ) (g h r s : List ℕ) : Type 0 where
+  less : a < b → m < n → Meets a b m n g h r s
+  same : g ≡ h → r ≡ s → Meets a b m n g h r s
+  more : b < a → n < m → Meets a b m n g h r s
+
+-- two sizes of a vector that agree so on all beginnings of a rising list
+abbrev Agree : (List ℕ → ℕ) → (List ℕ → ℕ) → Type 0
+Agree size other =
+    (g h r s : List ℕ) → Part g → Part h → Rising (g ++ r) → g ++ r ≡ h ++ s → Meets (size g) (size h) (other g) (other h) g h r s
 
 behind : (x y : ℕ) (g r : List ℕ) → Rises x (y ∷ (g ++ r)) → x < lastOf y g
 behind x y g r p = omega (arith, rises-last y g (rises-left y g r (p .1)))
 
-meet : (x : ℕ) (g h r s : List ℕ) → Rises x (g ++ r) → g ++ r ≡ h ++ s → Meets (lastOf x g) (lastOf x h) g h r s
+meet : (x : ℕ) (g h r s : List ℕ) → Rises x (g ++ r) → g ++ r ≡ h ++ s → Meets (length g) (length h) (lastOf x g) (lastOf x h) g h r s
 meet x [] [] r s p e = same refl e
 meet x [] (z ∷ h) r s p e = less (omega arith) (behind x z h s (subst (Rises x) e p))
 meet x (y ∷ g) [] r s p e = more (omega arith) (behind x y g r p)
 meet x (y ∷ g) (z ∷ h) r s p e =
-    subst (λ (z : ℕ). Meets (lastOf y g) (lastOf z h) (y ∷ g) (z ∷ h) r s) (head-eq-of-cons-eq e) (up (meet y g h r s (p .1) (tail-eq-of-cons-eq e)))
+    subst (λ (z : ℕ). Meets (suc (length g)) (suc (length h)) (lastOf y g) (lastOf z h) (y ∷ g) (z ∷ h) r s) (head-eq-of-cons-eq e)
+    (up (meet y g h r s (p .1) (tail-eq-of-cons-eq e)))
   where
-    up : Meets (lastOf y g) (lastOf y h) g h r s → Meets (lastOf y g) (lastOf y h) (y ∷ g) (y ∷ h) r s
+    up : Meets (length g) (length h) (lastOf y g) (lastOf y h) g h r s
+        → Meets (suc (length g)) (suc (length h)) (lastOf y g) (lastOf y h) (y ∷ g) (y ∷ h) r s
     up (less m n) = less (omega arith) n
     up (same m n) = same (ap (λ (l : List ℕ). y ∷ l) m) n
     up (more m n) = more (omega arith) n
 
-meet-vectors : (g h r s : List ℕ) → Part g → Part h → Rising (g ++ r) → g ++ r ≡ h ++ s → Meets (values g) (values h) g h r s
+-- declarations and values do
+agree : Agree length values
 unfolding values
-meet-vectors [] h r s v w p e = absurd v
-meet-vectors (x ∷ g) [] r s v w p e = absurd w
-meet-vectors (x ∷ g) (y ∷ h) r s v w p e =
-    subst (λ (y : ℕ). Meets (lastOf x g - x + 1) (lastOf y h - y + 1) (x ∷ g) (y ∷ h) r s) (head-eq-of-cons-eq e) (up (meet x g h r s p (tail-eq-of-cons-eq e)))
+agree [] h r s v w p e = absurd v
+agree (x ∷ g) [] r s v w p e = absurd w
+agree (x ∷ g) (y ∷ h) r s v w p e =
+    subst (λ (y : ℕ). Meets (suc (length g)) (suc (length h)) (lastOf x g - x + 1) (lastOf y h - y + 1) (x ∷ g) (y ∷ h) r s) (head-eq-of-cons-eq e)
+    (up (meet x g h r s p (tail-eq-of-cons-eq e)))
   where
     low : x ≤ lastOf x g
     low = rises-last x g (rises-left x g r p)
@@ -47,53 +56,45 @@ meet-vectors (x ∷ g) (y ∷ h) r s v w p e =
     high : x ≤ lastOf x h
     high = rises-last x h (rises-left x h s (subst (Rises x) (tail-eq-of-cons-eq e) p))
 
-    up : Meets (lastOf x g) (lastOf x h) g h r s → Meets (lastOf x g - x + 1) (lastOf x h - x + 1) (x ∷ g) (x ∷ h) r s
+    up : Meets (length g) (length h) (lastOf x g) (lastOf x h) g h r s
+        → Meets (suc (length g)) (suc (length h)) (lastOf x g - x + 1) (lastOf x h - x + 1) (x ∷ g) (x ∷ h) r s
     up (less m n) = less (omega arith) (omega (arith, low, high))
     up (same m n) = same (ap (λ (l : List ℕ). x ∷ l) m) n
     up (more m n) = more (omega arith) (omega (arith, low, high))
 
--- so to count values or declarations gives one order of the cuttings of a rising list
-by-values : (c d : List (List ℕ)) → All Part c → All Part d → Rising (joined c) → joined c ≡ joined d → Wider length c d → Wider values c d
-by-values c [] v w p e q = wide c
+agree-back : Agree values length
+agree-back g h r s v w p e = turned (agree g h r s v w p e)
   where
-    wide : (c : List (List ℕ)) → Wider values c []
-    wide [] = tt
-    wide (g ∷ c) = tt
-by-values [] (h ∷ d) v w p e q = absurd q
-by-values (g ∷ c) (h ∷ d) v w p e q =
-    go (meet-vectors g h (joined c) (joined d) (v .0) (w .0) p e) (λ f. by-values c d (v .1) (w .1) (rising-right g (joined c) p) f)
-  where
-    go : Meets (values g) (values h) g h (joined c) (joined d) → (joined c ≡ joined d → Wider length c d → Wider values c d)
-        → (values h ≤ values g) × (values g ≡ values h → Wider values c d)
-    go (less m n) ih = absurd (omega arith)
-    go (same m n) ih = (omega (arith, ap values m), λ f. ih n (q .1 (ap length m)))
-    go (more m n) ih = (omega arith, λ f. absurd (omega arith))
+    turned : Meets (length g) (length h) (values g) (values h) g h r s → Meets (values g) (values h) (length g) (length h) g h r s
+    turned (less m n) = less n m
+    turned (same m n) = same m n
+    turned (more m n) = more n m
 
-by-length : (c d : List (List ℕ)) → All Part c → All Part d → Rising (joined c) → joined c ≡ joined d → Wider values c d → Wider length c d
-by-length c [] v w p e q = wide c
+-- so either gives one order of the cuttings of a rising list
+by-other : (size other : List ℕ → ℕ) → Agree size other → (c d : List (List ℕ)) → All Part c → All Part d → Rising (joined c) → joined c ≡ joined d
+    → Wider size c d → Wider other c d
+by-other size other a [] [] v w p e q = tt
+by-other size other a (g ∷ c) [] v w p e q = tt
+by-other size other a [] (h ∷ d) v w p e q = absurd q
+by-other size other a (g ∷ c) (h ∷ d) v w p e q =
+    go (a g h (joined c) (joined d) (v .0) (w .0) p e) (λ f. by-other size other a c d (v .1) (w .1) (rising-right g (joined c) p) f)
   where
-    wide : (c : List (List ℕ)) → Wider length c []
-    wide [] = tt
-    wide (g ∷ c) = tt
-by-length [] (h ∷ d) v w p e q = absurd q
-by-length (g ∷ c) (h ∷ d) v w p e q =
-    go (meet-vectors g h (joined c) (joined d) (v .0) (w .0) p e) (λ f. by-length c d (v .1) (w .1) (rising-right g (joined c) p) f)
-  where
-    go : Meets (values g) (values h) g h (joined c) (joined d) → (joined c ≡ joined d → Wider values c d → Wider length c d)
-        → (length h ≤ length g) × (length g ≡ length h → Wider length c d)
+    go : Meets (size g) (size h) (other g) (other h) g h (joined c) (joined d) → (joined c ≡ joined d → Wider size c d → Wider other c d)
+        → (other h ≤ other g) × (other g ≡ other h → Wider other c d)
     go (less m n) ih = absurd (omega (arith, q .0))
-    go (same m n) ih = (omega (arith, ap length m), λ f. ih n (q .1 (ap values m)))
+    go (same m n) ih = (omega (arith, ap other m), λ f. ih n (q .1 (ap size m)))
     go (more m n) ih = (omega arith, λ f. absurd (omega arith))
 
 module _ (l : List ℕ) (c d : List (List ℕ)) (p : Cutting l c) (q : Cutting l d) (r : Rising l) where
-  one : Rising (joined c)
-  one = subst Rising (sym (p .0)) r
+  by : (size other : List ℕ → ℕ) → Agree size other → NotAfter size c d → NotAfter other c d
+  by size other a n =
+      (n .0, λ e. (n .1 e .0, λ f. by-other size other a c d (p .1) (q .1) (subst Rising (sym (p .0)) r) (p .0 ∙ sym (q .0)) (n .1 e .1 f)))
 
   pub order-values : NotAfter length c d → NotAfter values c d
-  order-values n = (n .0, λ e. (n .1 e .0, λ f. by-values c d (p .1) (q .1) one (p .0 ∙ sym (q .0)) (n .1 e .1 f)))
+  order-values = by length values agree
 
   pub order-length : NotAfter values c d → NotAfter length c d
-  order-length n = (n .0, λ e. (n .1 e .0, λ f. by-length c d (p .1) (q .1) one (p .0 ∙ sym (q .0)) (n .1 e .1 f)))
+  order-length = by values length agree-back
 
 -- the order has no two equals among the cuttings of a list
 pub split : (g h r s : List ℕ) → length g ≡ length h → g ++ r ≡ h ++ s → (g ≡ h) × (r ≡ s)

@@ -1,32 +1,32 @@
 -- The vector of several Listeners: its events come back value by value, and it asks for the joins of its Listeners, Ignores passed
 -- over. The parts that are written are those of the least cutting.
-use mathlib.Core.Path.{_≡_, refl, sym, _∙_, ap, ap₂, subst}
-use mathlib.Core.List.{List, [], _∷_, _++_, map, append-nil, append-assoc, map-append}
+use mathlib.Core.Path.{_≡_, refl, sym, _∙_, ap, ap₂}
+use mathlib.Core.List.{List, [], _∷_, _++_, map, append-assoc, map-append}
 use mathlib.Core.Bool.{Bool, true, false, cond, not, _&&_}
 use Prim.Native.Nat.{ℕ, zero, suc, _+_, _*_, _-_, _/_, _%_, _^_, _≤_, _<_}
 use native.Mathlib.Omega.{arith}
-use lib.ListN.{length, getD, take, drop, take-append-drop, length-append}
-use lib.Dec.{ltb, eqb}
+use lib.ListN.{length, getD, take, drop, take-append-drop}
+use lib.Dec.{eqb}
 use borrow.Author.Tests.{le-ltb, eq-eqb, ne-eqb}
 use Rattle.octets.specs.Be.{beAt, be}
 use Rattle.octets.specs.Fields.{fields, packed, Fit}
 use Rattle.octets.proofs.Fields.{fields-of-packed}
 use Rattle.model.specs.FrameLayout.{listenerWidths}
 use Rattle.model.specs.Lists.{All, tabulate}
-use Rattle.model.specs.State.{Health, sound, broken, Ready, askingFailed, ready, readyFailed}
-use Rattle.model.specs.Registrations.{advertises, faileds, listeners, Act, listen}
-use Rattle.model.specs.Frames.{Attribute, registers, domain, typeNumber, firstWidths, threeLength, hasFour, fourLength, Vector, overpacked, runsPast, overflows, Event, new, joinMt, event, threePacked, fourPacked, eventOf, fourOf, asking, join, idValue, hearing, listenerAct, valueActs, valuesActs, leaveAllActs, vectorActs, frameActs}
+use Rattle.model.specs.State.{Bridge, Health, sound, broken, Ready, askingFailed, ready, readyFailed}
+use Rattle.model.specs.Registrations.{advertises, faileds, listeners, Act}
+use Rattle.model.specs.Frames.{registers, domain, typeNumber, firstWidths, threeLength, fourLength, Vector, overpacked, runsPast, overflows, event, threePacked, fourPacked, eventOf, fourOf, asking, idValue, hearing, listenerAct, valueActs, valuesActs, leaveAllActs, vectorActs, frameActs}
 use Rattle.model.specs.Cutting.{mac, Shares, Part, joined, lastOf, values, Least}
 use Rattle.model.specs.Best.{best}
-use Rattle.model.specs.Declarations.{Declaration, talkerDeclaration, listenerDeclaration, domainDeclaration, healthKind, attributeOf, joinOf, declaredId, declaredIds}
-use Rattle.model.specs.Laid.{Ascending}
+use Rattle.model.specs.Declarations.{Declaration, talkerDeclaration, listenerDeclaration, domainDeclaration, healthKind, attributeOf, joinOf, declaredId, declaredIds, having, write}
 use Rattle.model.specs.WrittenFrames.{readyNumber, listenerNumber, said, eventNumber, threeOctet, fourOctet, firstNumbers, fourOctets, declarationVector, packedVector, cutAs, listenerParts}
-use Rattle.model.proofs.Lists.{all-map, all-take, all-drop, getD-tabulate, length-tabulate}
+use Rattle.model.specs.Laid.{Ascending}
+use Rattle.model.proofs.Lists.{all-map, all-take, all-drop, getD-tabulate}
 use Rattle.model.proofs.Ascents.{ascending-rising, ascending-take, ascending-drop, rises-last}
 use Rattle.model.proofs.LeastCutting.{best-cuts}
 use Rattle.model.proofs.OneCutting.{best-least, best-only}
 use Rattle.model.proofs.LongestRun.{Small, best-small}
-use Rattle.model.proofs.WritingPasses.{OfAttribute, ids-take, ids-drop, length-ids, cut-first}
+use Rattle.model.proofs.WritingPasses.{OfAttribute, ids-take, ids-drop, length-ids, cut-first, FewStreams, run-few}
 
 -- The parts written.
 
@@ -53,6 +53,17 @@ module _ (l : List Declaration) (few : length l ≤ 64) (ascending : Ascending (
 
   pub parts-only : (c : List (List ℕ)) → Least values (declaredIds l) c → c ≡ map declaredIds (listenerParts l)
   parts-only c p = best-only (declaredIds l) ids-few ascending c p ∙ sym (parts-best l)
+
+-- so it is with the Listeners of a PDU that a bridge writes
+module _ (b : Bridge) (few : FewStreams b) (p place : ℕ) where
+  abbrev pub heard : List Declaration
+  heard = having (registers listeners) (write b p place .run)
+
+  pub write-least : Least values (declaredIds heard) (map declaredIds (listenerParts heard))
+  write-least = let f = run-few b p place few in parts-least heard (f .few) (f .ascending)
+
+  pub write-only : (c : List (List ℕ)) → Least values (declaredIds heard) c → c ≡ map declaredIds (listenerParts heard)
+  write-only = let f = run-few b p place few in parts-only heard (f .few) (f .ascending)
 
 -- what a part is: Listeners of one MAC, ascending, whose vector has few values
 pub record Packs (g : List Declaration) : Type 0 where
@@ -286,6 +297,19 @@ hears-part d (e ∷ g) o a =
     first : hears f x 1 ≡ joinOf d ∷ []
     first = unfold hears in (rw (said-first d (e ∷ g), hearing-one d (o .0)))
 
+-- "JoinMt" at each declaration, 0 at an Ignore; and what is said of the StreamID
+module _ (g : List Declaration) (i : ℕ) (h : i < values (declaredIds g)) where
+  pub event-packed : eventOf (packedVector g) i ≡ event (eventNumber (said g (getD (declaredIds g) 0 0 + i)))
+  unfolding eventOf packedVector
+  event-packed =
+      let e : ℕ → ℕ = λ j. eventNumber (said g (getD (declaredIds g) 0 0 + j)) in
+      ap event (three-at e (λ j. omega (arith, event-small (said g (getD (declaredIds g) 0 0 + j)))) (values (declaredIds g)) i h)
+
+  pub four-packed : fourOf (packedVector g) i ≡ said g (getD (declaredIds g) 0 0 + i)
+  unfolding fourOf packedVector
+  four-packed =
+      four-at (λ j. said g (getD (declaredIds g) 0 0 + j)) (λ j. said-small g (getD (declaredIds g) 0 0 + j)) (values (declaredIds g)) i h
+
 -- an event and a declaration type together: what is said is heard
 asked : (x i s : ℕ) → listenerAct (x ∷ []) i (asking (event (eventNumber s))) s ≡ hearing (x + i) s
 unfolding listenerAct asking event eventNumber idValue hearing
@@ -308,15 +332,8 @@ module _ (d : Declaration) (g : List Declaration) (within : declaredId d < 2 ^ 6
   first-read = fields-of-packed listenerWidths (x ∷ []) (unfold Fit in (within, tt))
 
   value-heard : (i : ℕ) → i < n → valueActs v i ≡ hearing (x + i) (said (d ∷ g) (x + i))
-  unfolding v x n valueActs packedVector eventOf fourOf firstWidths hasFour declaredIds
-  value-heard i h =
-      let k : ℕ → ℕ = λ j. said (d ∷ g) (x + j) in
-      rw (
-        first-read,
-        three-at (λ j. eventNumber (k j)) (λ j. omega (arith, event-small (k j))) n i h,
-        four-at k (λ j. said-small (d ∷ g) (x + j)) n i h,
-      )
-      (asked x i (k i))
+  unfolding v x n valueActs packedVector firstWidths declaredIds
+  value-heard i h = rw (first-read, event-packed (d ∷ g) i h, four-packed (d ∷ g) i h) (asked x i (said (d ∷ g) (x + i)))
 
   values-heard : (i k : ℕ) → i + k ≤ n → valuesActs v i k ≡ hears (said (d ∷ g)) (x + i) k
   unfolding valuesActs hears

@@ -19,14 +19,14 @@ use Rattle.model.specs.Lists.{All, keep, bit}
 use Rattle.model.specs.State.{Port, Settings, Fixed, Health, sound, broken, Ready, askingFailed, ready, readyFailed, Column, none, advertise, failed, Entry, noEntry, filters, forwards, Declared, nothing, tells, Result, Stream, Bridge, portAt, resultAt, classPriority, classId, unsettled}
 use Rattle.model.specs.Registrations.{Kind, advertises, faileds, listeners, ids, talk, listen, ofDomain, joinDomain, acts}
 use Rattle.model.specs.Frames.{Attribute, registers, domain, known, typeOctet, typeNumber, firstWidths, firstLength, threeLength, hasFour, fourLength, Vector, vectorAt, vectorEnd, overpacked, runsPast, overflows, strangeLeave, vectorIn, checkedIn, typedIn, listLength, listAt, messageEnd, endMark, headerIn, messageIn, listOf, found, also, both, vectorsFrom, vectors, messagesFrom, messages, walk, joinMt, event, threePacked, fourPacked, eventOf, fourOf, asking, join, priorityOf, rankOf, fixedValue, healthValue, idValue, hearing, talkerAct, listenerAct, hasSlot, slotOf, slotAct, domainAct, valueActs, valuesActs, leaveAllActs, vectorActs, frameActs, walked, wrongPort, reading}
-use Rattle.model.specs.Declarations.{Declaration, talkerDeclaration, listenerDeclaration, domainDeclaration, healthKind, attributeOf, joinOf, advertised, failing, listening, declarationsOf, ofKind, domainOf, domainValues, declarations, declaredId, declaredIds, sameAttribute, having, takes, write}
-use Rattle.model.specs.WrittenFrames.{priorityOctet, fixedNumbers, failureNumbers, firstNumbers, readyNumber, fourOctets, declarationVector, packedVector, cutAs, listenerParts, vectorsOf, vectorOctets, messageOf, messageOctets, pduOctets}
-use Rattle.model.proofs.Lists.{all-map, all-append, all-take, all-drop, all-keep, all-getD, length-tabulate, and-left, and-right, and-false}
 use Rattle.model.specs.Cutting.{Part, values}
 use Rattle.model.specs.Best.{bests, best}
+use Rattle.model.specs.Declarations.{Declaration, talkerDeclaration, listenerDeclaration, domainDeclaration, healthKind, attributeOf, joinOf, advertised, failing, listening, declarationsOf, ofKind, domainOf, domainValues, declarations, declaredId, declaredIds, sameAttribute, having, takes, write}
+use Rattle.model.specs.WrittenFrames.{priorityOctet, fixedNumbers, failureNumbers, firstNumbers, readyNumber, fourOctets, declarationVector, packedVector, cutAs, listenerParts, vectorsOf, vectorOctets, messageOf, messageOctets, pduOctets}
 use Rattle.model.specs.Laid.{Ascending}
-use Rattle.model.proofs.Fits.{rising-ascends}
+use Rattle.model.proofs.Lists.{all-map, all-append, all-take, all-drop, all-keep, all-getD, length-tabulate, and-left, and-right, and-false}
 use Rattle.model.proofs.Valid.{Valid, ValidSettings, ValidFixed, ValidHealth, ValidVarying, ValidColumn, ValidResult, ValidStream}
+use Rattle.model.proofs.Fits.{rising-ascends}
 use Rattle.model.proofs.AdvanceKeepsForm.{unsettled-valid}
 use Rattle.model.proofs.WritingPasses.{length-first, known-type, inTurn, NotBefore, OfAttribute, InOrder, all-of-kind, all-domains, having-attribute, having-none, declared, write-above, write-from, run-in-order, run-fits, FewListeners, FewStreams, run-few}
 use Rattle.model.proofs.PackedVectors.{Packs, parts-pack, packed-events, packed-within, parts-join, no-domain}
@@ -701,12 +701,15 @@ run-within b h p place = go (ltb (length (declared b p)) place) refl
         rw (write-from b p place (ltb-false (length (declared b p)) place e))
         (all-take ValidDeclaration (takes rest) rest (all-drop ValidDeclaration place (declared b p) (declarations-within b h p)))
 
+pub valid-few : (b : Bridge) → Valid b → FewStreams b
+valid-few b h = (h .at-most-64, rising-ascends (ids (b .streams)) (h .ascending))
+
 -- a neighbour, whatever its settings, that gets a written PDU on one of its ports reads exactly the declarations written, as
 -- joins
 pub neighbour-reads : (b : Bridge) → Valid b → (p place : ℕ) (st : Settings) (q : ℕ) → wrongPort st q ≡ false
     → reading st q (pduOctets (write b p place .run)) ≡ acts (map joinOf (write b p place .run))
 unfolding reading walked
 neighbour-reads b h p place st q right =
-    let f : FewStreams b = (h .at-most-64, rising-ascends (ids (b .streams)) (h .ascending)) in
+    let f : FewStreams b = valid-few b h in
     rw (right, read-back b f p place)
     (ap acts (frame-joins (write b p place .run) (run-in-order b p place) (run-few b p place f) (run-within b h p place)))

@@ -25,9 +25,9 @@ use Rattle.model.specs.Declarations.{Declaration, talkerDeclaration, lis
 use Rattle.model.specs.WrittenFrames.{fixedNumbers, failureNumbers, firstNumbers, fourOctets, declarationVector, packedVector, cutAs, listenerParts, vectorsOf, vectorOctets, messageOf, messageOctets, pduOctets}
 use Rattle.model.specs.Laid.{Ascending}
 use Rattle.model.proofs.Lists.{Longest, longest-longest, all-map, all-each, all-append, all-take, all-keep, length-tabulate, longest-ends, longest-stops, longest-goes, longest-split, longest-same, longest-from, longest-within, longest-passes, longest-full}
+use Rattle.model.proofs.Ascents.{Rising, ascending-rising, ascending-take, ascending-drop}
 use Rattle.model.proofs.LeastCutting.{best-cuts}
 use Rattle.model.proofs.LongestRun.{least-take, least-most}
-use Rattle.model.proofs.Ascents.{Rising, ascending-rising, ascending-take, ascending-drop}
 
 -- Lengths.
 
@@ -509,33 +509,39 @@ messages-rise l m f = omega (arith, of (registers advertises), of (registers fai
         (message-rises k (having k l) (having k m) (λ e. rw (e, ← having-append (registers listeners) l m) (f .few, ascending-rising (declaredIds (having (registers listeners) (l ++ m))) (f .ascending))))
 
 -- of some of the declarations too
-few-take : (n : ℕ) (l : List Declaration) → FewListeners l → FewListeners (take n l)
-few-take n l f =
-    let k : Attribute = registers listeners in
-    let e : having k l ≡ having k (take n l) ++ having k (drop n l) = ap (having k) (sym (take-append-drop n l)) ∙ having-append k (take n l) (drop n l) in
-    let m : ℕ = length (having k (take n l)) in
-    let s : take m (declaredIds (having k l)) ≡ declaredIds (having k (take n l)) =
-    sym (ids-take m (having k l)) ∙ ap declaredIds (ap (take m) e ∙ take-append-seam (having k (take n l)) (having k (drop n l))) in
-    record {
-      few = omega (arith, f .few, ap length e, length-append (having k (take n l)) (having k (drop n l)));
-      ascending = rw s at (ascending-take m (declaredIds (having k l)) (f .ascending));
-    }
+few-parts : (n : ℕ) (l : List Declaration) → FewListeners l → FewListeners (take n l) × FewListeners (drop n l)
+few-parts n l f = (
+  record { few = omega (arith, f .few, long); ascending = rw front at (ascending-take m (declaredIds (having k l)) (f .ascending)) },
+  record { few = omega (arith, f .few, long); ascending = rw rest at (ascending-drop m (declaredIds (having k l)) (f .ascending)) },
+)
+  where
+    k : Attribute
+    k = registers listeners
 
-few-drop : (n : ℕ) (l : List Declaration) → FewListeners l → FewListeners (drop n l)
-few-drop n l f =
-    let k : Attribute = registers listeners in
-    let e : having k l ≡ having k (take n l) ++ having k (drop n l) = ap (having k) (sym (take-append-drop n l)) ∙ having-append k (take n l) (drop n l) in
-    let m : ℕ = length (having k (take n l)) in
-    let s : drop m (declaredIds (having k l)) ≡ declaredIds (having k (drop n l)) =
-    sym (ids-drop m (having k l)) ∙ ap declaredIds (ap (drop m) e ∙ drop-append-seam (having k (take n l)) (having k (drop n l))) in
-    record {
-      few = omega (arith, f .few, ap length e, length-append (having k (take n l)) (having k (drop n l)));
-      ascending = rw s at (ascending-drop m (declaredIds (having k l)) (f .ascending));
-    }
+    a : List Declaration
+    a = having k (take n l)
+
+    b : List Declaration
+    b = having k (drop n l)
+
+    m : ℕ
+    m = length a
+
+    e : having k l ≡ a ++ b
+    e = ap (having k) (sym (take-append-drop n l)) ∙ having-append k (take n l) (drop n l)
+
+    long : length (having k l) ≡ length a + length b
+    long = ap length e ∙ length-append a b
+
+    front : take m (declaredIds (having k l)) ≡ declaredIds a
+    front = sym (ids-take m (having k l)) ∙ ap declaredIds (ap (take m) e ∙ take-append-seam a b)
+
+    rest : drop m (declaredIds (having k l)) ≡ declaredIds b
+    rest = sym (ids-drop m (having k l)) ∙ ap declaredIds (ap (drop m) e ∙ drop-append-seam a b)
 
 messages-take : (l : List Declaration) → FewListeners l → (j k : ℕ) → j ≤ k → messagesSize (take j l) ≤ messagesSize (take k l)
 messages-take l f j k h =
-    let g : FewListeners (take k l) = few-take k l f in
+    let g : FewListeners (take k l) = few-parts k l f .0 in
     let e : take j l ++ drop j (take k l) ≡ take k l = rw (← take-take j k l h) (take-append-drop j (take k l)) in
     rw e at (messages-rise (take j l) (drop j (take k l)) (rw e g))
 
@@ -675,11 +681,11 @@ module _ (b : Bridge) (p place : ℕ) where
       rw (write-from h, length-take-le (takes rest) rest (takes-within rest)) (takes-full rest left)
 
   -- it is the longest run that fits
-  pub run-longest : FewStreams b → place ≤ length (declared b p)
+  pub write-longest : FewStreams b → place ≤ length (declared b p)
       → Longest (pduFits (drop place (declared b p))) (length (drop place (declared b p))) (length (write b p place .run))
-  run-longest f h =
+  write-longest f h =
       let rest : List Declaration = drop place (declared b p) in
-      rw (write-from h, length-take-le (takes rest) rest (takes-within rest)) (takes-longest rest (few-drop place (declared b p) (declared-few b f p)))
+      rw (write-from h, length-take-le (takes rest) rest (takes-within rest)) (takes-longest rest (few-parts place (declared b p) (declared-few b f p) .1))
 
   -- and its Listeners are few
   pub run-few : FewStreams b → FewListeners (write b p place .run)
@@ -689,7 +695,7 @@ module _ (b : Bridge) (p place : ℕ) where
       go true e = rw (write-above (ltb-true (length (declared b p)) place e)) (unfold having in record { few = omega arith; ascending = unfold declaredIds in tt })
       go false e =
           let rest : List Declaration = drop place (declared b p) in
-          rw (write-from (ltb-false (length (declared b p)) place e)) (few-take (takes rest) rest (few-drop place (declared b p) (declared-few b f p)))
+          rw (write-from (ltb-false (length (declared b p)) place e)) (few-parts (takes rest) rest (few-parts place (declared b p) (declared-few b f p) .1) .0)
 
 -- "At place = count it is 00 00 00"
 pub write-at-count : (b : Bridge) (p : ℕ) → write b p (length (declared b p)) ≡ record { number = 0; run = []; next = length (declared b p) }
