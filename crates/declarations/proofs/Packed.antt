@@ -270,22 +270,25 @@ module _ (t : List ℕ) (p : ℕ) (places : List ℕ) where
           rw (x .vector, listeners-take t p f (drop i places), listeners-drop t p i places)
           (unfold cutAs flat in (rw (part-long, drop-drop f i run)))
 
-      module _ (y : List ℕ) (z : length y ≡ size) where
-        pub parts-long : length (take at out ++ (y ++ drop (at + size - at) (drop at out))) ≡ length out
-        parts-long = ap length (lent-patch at size y out) ∙ length-patch at size y out z part-fits
+      module _ (s : ℕ) (es : s ≡ size) (y : List ℕ) (z : length y ≡ s) where
+        fits : at + s ≤ length out
+        fits = omega (arith, part-fits)
+
+        pub parts-long : length (take at out ++ (y ++ drop (at + s - at) (drop at out))) ≡ length out
+        parts-long = ap length (lent-patch at s y out) ∙ length-patch at s y out z fits
 
         pub parts-more : y ≡ vectorOctets (packedVector (listenersAt p t part))
-            → PartsLeft (take at out ++ (y ++ drop (at + size - at) (drop at out))) (i + f) (at + size)
+            → PartsLeft (take at out ++ (y ++ drop (at + s - at) (drop at out))) (i + f) (at + s)
         parts-more v =
             let front = take at out in
-            let rest = drop (at + size - at) (drop at out) in
-            let long : length (front ++ y) ≡ at + size = length-append front y ∙ omega (arith, length-take-le at out (omega (arith, part-fits))) in
+            let rest = drop (at + s - at) (drop at out) in
+            let long : length (front ++ y) ≡ at + s = length-append front y ∙ omega (arith, length-take-le at out (omega (arith, fits))) in
             record {
               within = part-inside;
               room = omega (arith, parts-long, w .room, least-next);
               is =
                   ap (λ (u : List ℕ). u ++ behind (i + f))
-                  (ap (take (at + size)) (sym (append-assoc front y rest)) ∙ take-at (front ++ y) rest (at + size) long)
+                  (ap (take (at + s)) (sym (append-assoc front y rest)) ∙ take-at (front ++ y) rest (at + s) long)
                   ∙ append-assoc front y (behind (i + f))
                   ∙ ap (λ (u : List ℕ). front ++ (u ++ behind (i + f))) v
                   ∙ ap (λ (u : List ℕ). front ++ u) (sym behind-next)

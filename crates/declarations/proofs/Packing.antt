@@ -1,21 +1,21 @@
 -- The octets of a part's vector: its events, one Listener after another, and the whole.
-use mathlib.Core.Path.{_≡_, refl, sym, _∙_, ap}
+use mathlib.Core.Path.{_≡_, refl, sym, _∙_, ap, subst}
 use mathlib.Core.Bool.{true, false}
 use mathlib.Core.List.{List, [], _∷_, _++_, append-nil, append-assoc}
 use Prim.Native.Nat.{ℕ, zero, suc, _+_, _-_, _*_, _/_, _%_, _≤_, _<_}
 use native.Mathlib.Numerals.{add-one}
 use native.Mathlib.Omega.{arith}
 use lib.ListN.{length, getD, set, take, drop, length-append, take-append-drop, replicate-append-replicate, List·getD-append}
-use lib.Seq.{split-at, take-suc, set-append-left, take-set-le, drop-set-add, take-at, drop-at, getD-append-add}
+use lib.Seq.{split-at, take-suc, drop-length, set-append-left, take-set-le, drop-set-add, take-at, drop-at, getD-append-add}
 use Rattle.octets.specs.Be.{be}
-use Rattle.octets.specs.Parts.{zeros}
+use Rattle.octets.specs.Parts.{patch, zeros}
 use Rattle.octets.specs.Fields.{packed}
 use Rattle.model.specs.Lists.{All, bit, tabulate}
 use Rattle.model.specs.Frames.{threeLength, fourLength}
-use Rattle.model.specs.Cutting.{Part, values}
+use Rattle.model.specs.Cutting.{Part, values, octetsFor}
 use Rattle.model.specs.Declarations.{Declaration, declaredId, declaredIds}
 use Rattle.model.specs.WrittenFrames.{listenerNumber, said, eventNumber, threeOctet, fourOctet, packedVector, vectorOctets}
-use Rattle.model.proofs.Lists.{getD-tabulate, length-tabulate}
+use Rattle.model.proofs.Lists.{all-at, getD-tabulate, length-tabulate}
 use Rattle.model.specs.Table.{decode}
 use Rattle.model.proofs.Ascents.{ascending-below}
 use Rattle.model.proofs.WritingPasses.{ids-take as ids-cut}
@@ -25,8 +25,8 @@ use Rattle.table.proofs.Finding.{ascending-most}
 use Rattle.cutting.specs.Named.{idsOf}
 use Rattle.cutting.proofs.Named.{ids-length, ids-at, part-ends}
 use Rattle.declarations.specs.Vectors.{headed}
-use Rattle.declarations.specs.Packed.{listenerAt, listenersAt, Telling, threeUnit, fourUnit, packedEvents, eventsBy, eventsOf}
-use Rattle.declarations.proofs.Packed.{listeners-ids, listeners-take, listeners-more}
+use Rattle.declarations.specs.Packed.{listenerAt, listenersAt, Tells, Telling, threeUnit, fourUnit, packedEvents, eventsBy, eventsOf}
+use Rattle.declarations.proofs.Packed.{number-is, listeners-ids, listeners-take, listeners-more}
 
 -- a store behind other octets
 set-behind : (a b : List ℕ) (n i v : ℕ) → length a ≡ n → set (a ++ b) (n + i) v ≡ a ++ set b i v
@@ -136,7 +136,22 @@ vector-is g n first e f =
     ∙ ap (λ (m : ℕ). be 2 m ++ (be 8 x ++ eventsOf g)) z
     ∙ ap (λ (y : List ℕ). be 2 (bit false * 8192 + v) ++ (y ++ eventsOf g)) (sym (append-nil (be 8 x))))
 
--- A Listener's turn, at offset o from the first StreamID of its part.
+-- all octets cleared
+pub cleared : (s : List ℕ) → patch 0 (length s) (zeros (length s)) s ≡ zeros (length s)
+unfolding patch
+cleared s = rw (drop-length s) (append-nil (zeros (length s)))
+
+-- A Listener's turn, at offset o from the first StreamID of its part: x and y are the two octets that get its event and its type.
+pub record Turn (t : List ℕ) (p : ℕ) (places out : List ℕ) (i o threes : ℕ) : Type 0 where
+  pub three-in : o / 3 < length out
+  pub four-in : threes + o / 4 < length out
+  pub three-fits : getD out (o / 3) 0 + 3 * threeUnit (o % 3) < 256
+  pub four-fits : (x : ℕ) → x ≡ getD out (o / 3) 0 + 3 * threeUnit (o % 3)
+      → getD (set out (o / 3) x) (threes + o / 4) 0 + listenerNumber (listenerAt p (decode t) (getD places i 0)) * fourUnit (o % 4) < 256
+  pub is : (x y : ℕ) → x ≡ getD out (o / 3) 0 + 3 * threeUnit (o % 3)
+      → y ≡ getD (set out (o / 3) x) (threes + o / 4) 0 + listenerNumber (listenerAt p (decode t) (getD places i 0)) * fourUnit (o % 4)
+      → set (set out (o / 3) x) (threes + o / 4) y ≡ eventsBy (listenersAt p t places) (take (i + 1) (listenersAt p t places))
+
 module _ (t : List ℕ) (p : ℕ) (places : List ℕ) (w : Telling t p places) (shares : Part (idsOf t places)) (i : ℕ) (h : i < length places) where
   abbrev whole : List Declaration
   whole = listenersAt p t places
@@ -171,9 +186,16 @@ module _ (t : List ℕ) (p : ℕ) (places : List ℕ) (w : Telling t p places) (
   pub first-below : getD (idsOf t places) 0 0 ≤ id
   first-below = ascending-most (idsOf t places) (w .named .ascending) 0 i (omega arith) inside
 
-  -- its number and what it adds
-  module _ (o number threes : ℕ) (at : getD (idsOf t places) 0 0 + o ≡ id) (is-number : number ≡ listenerNumber this) (some : 1 ≤ number)
-      (eT : threes ≡ threeLength (values (idsOf t places))) (out : List ℕ) (was : out ≡ eventsBy whole (take i whole)) where
+  abbrev number : ℕ
+  number = listenerNumber this
+
+  some : 1 ≤ number
+  some =
+      let told = number-is t p (getD places i 0) (all-at (Tells t p) places (w .each) i 0 h) in
+      omega (arith, told .0, told .1)
+
+  module _ (o threes : ℕ) (at : getD (idsOf t places) 0 0 + o ≡ id) (eT : threes ≡ threeLength (values (idsOf t places))) (out : List ℕ)
+      (was : out ≡ eventsBy whole (take i whole)) where
     abbrev n : ℕ
     n = values (declaredIds whole)
 
@@ -185,9 +207,10 @@ module _ (t : List ℕ) (p : ℕ) (places : List ℕ) (w : Telling t p places) (
 
     adds : Adds e f o (suc (number - 1))
     adds =
-        let v : listenerNumber this ≡ suc (number - 1) = omega arith in
+        let v : number ≡ suc (number - 1) = omega (arith, some) in
         let there : first + o ≡ declaredId this = rw (listeners-ids t p places, this-id) at in
-        rw (one-more, ← v) (said-more (take i whole) this first o below there)
+        subst (λ (l : List Declaration). Adds e (λ j. said l (first + j)) o (suc (number - 1))) (sym one-more)
+        (subst (λ (m : ℕ). Adds e (λ j. said (take i whole ++ (this ∷ [])) (first + j)) o m) v (said-more (take i whole) this first o below there))
 
     within : o < n
     within =
@@ -204,36 +227,30 @@ module _ (t : List ℕ) (p : ℕ) (places : List ℕ) (w : Telling t p places) (
     held : out ≡ packedEvents n e
     held = was ∙ unfold eventsBy in refl
 
-    abbrev x : ℕ
-    x = getD out (o / 3) 0 + 3 * threeUnit (o % 3)
+    x-is : (x : ℕ) → x ≡ getD out (o / 3) 0 + 3 * threeUnit (o % 3) → x ≡ threeOctet (λ j. eventNumber (f j)) (o / 3)
+    x-is x ex = ex ∙ rw held (three-there n e f o (number - 1) adds within small)
 
-    x-is : x ≡ threeOctet (λ j. eventNumber (f j)) (o / 3)
-    x-is = rw held (three-there n e f o (number - 1) adds within small)
+    four-is : (x : ℕ) → x ≡ getD out (o / 3) 0 + 3 * threeUnit (o % 3)
+        → getD (set out (o / 3) x) (threes + o / 4) 0 + number * fourUnit (o % 4) ≡ fourOctet f (o / 4)
+    four-is x ex =
+        let v : suc (number - 1) ≡ number = omega (arith, some) in
+        let there = rw v at (four-there n e f o (number - 1) adds within small x (x-is x ex)) in
+        rw (held, length-of) there
 
-    abbrev y : ℕ
-    y = getD (set out (o / 3) x) (threes + o / 4) 0 + number * fourUnit (o % 4)
-
-    y-is : y ≡ fourOctet f (o / 4)
-    y-is =
-        let v : suc (number - 1) ≡ number = omega arith in
-        rw (v, ← length-of, ← held) at (four-there n e f o (number - 1) adds within small x x-is)
-
-    pub record Turn : Type 0 where
-      pub three-in : o / 3 < length out
-      pub four-in : threes + o / 4 < length out
-      pub three-fits : x < 256
-      pub four-fits : y < 256
-      pub is : set (set out (o / 3) x) (threes + o / 4) y ≡ eventsBy whole (take (i + 1) whole)
-
-    pub turn : Turn
+    pub turn : Turn t p places out i o threes
     turn =
         let long = ap length held ∙ events-length n e in
         record {
           three-in = omega (arith, long, three-inside n e f o (number - 1) adds within small);
           four-in = omega (arith, long, length-of, four-inside n e f o (number - 1) adds within small);
-          three-fits = omega (arith, x-is, three-small n e f o (number - 1) adds within small);
-          four-fits = omega (arith, y-is, four-small n e f o (number - 1) adds within small x x-is);
-          is =
-              rw (held, length-of) (events-more n e f o (number - 1) adds within small _ (rw held at x-is) _ (rw (held, length-of) at y-is))
+          three-fits = omega (arith, x-is (getD out (o / 3) 0 + 3 * threeUnit (o % 3)) refl, three-small n e f o (number - 1) adds within small);
+          four-fits = λ x ex. omega (arith, four-is x ex, four-small n e f o (number - 1) adds within small x (x-is x ex));
+          is = λ x y ex ey.
+              rw (held, length-of) (events-more n e f o (number - 1) adds within small x (x-is x ex) y (ey ∙ four-is x ex))
               ∙ unfold eventsBy in refl;
         }
+
+-- the octets of a part's events are those of its vector behind header and FirstValue
+pub events-room : (g : List Declaration) → 10 + length (eventsOf g) ≡ octetsFor (values (declaredIds g))
+unfolding eventsOf eventsBy octetsFor
+events-room g = omega (arith, events-length (values (declaredIds g)) (λ i. said g (getD (declaredIds g) 0 0 + i)))

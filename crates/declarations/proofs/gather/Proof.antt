@@ -1,17 +1,17 @@
-use Prim.Native.Nat.{ℕ, suc, _+_, _-_, _*_, _≤_, _<_}
-use mathlib.Core.Path.{_≡_, refl, sym, ap, _∙_}
+-- `declarations::gather` meets its contract. Assumes nothing.
+use Prim.Native.Nat.{ℕ, _+_, _-_, _≤_, _<_}
+use mathlib.Core.Path.{_≡_, refl, sym, _∙_}
 use native.Mathlib.Omega.{arith}
 use borrow.Author.Needs.{needs}
-use lib.ListN.{length, getD, take, drop}
+use borrow.Author.Tests.{not-true, not-false}
+use lib.ListN.{length, take, drop, length-set}
 use Rattle.model.specs.Table.{decode}
+use Rattle.table.proofs.Header.{laid-few}
 use Rattle.declarations.specs.declared.Attribute.the-variants.{Listener}
-use Rattle.declarations.specs.Passes.{found}
+use Rattle.declarations.specs.Passes.{type, declarers, found}
 use Rattle.declarations.proofs.Packed.{Gathering, stream-left, gathers-none, gathers-over, gathers-one, gathered, gathered-held, gathered-each, gathering-none, placed-by}
 use Rattle.declarations.proofs.gather.Statement.{statement}
 use Rattle.declarations.proofs.gather.Tie as tie
-use Rattle.declarations.proofs.gather.Reads as reads
-use Rattle.declarations.proofs.gather.Lts as lts
-use Rattle.declarations.proofs.declares.Reads as declares-reads
 
 abbrev Inv-loop : tie.InvT-loop
 Inv-loop table p skip places₀ before₀ n₀ k₀ places before n k =
@@ -20,84 +20,56 @@ Inv-loop table p skip places₀ before₀ n₀ k₀ places before n k =
 abbrev μ-loop : tie.MeasureT-loop
 μ-loop table p skip places₀ before₀ n₀ k₀ places before n k = length (decode table .streams) - k
 
--- src/lib.rt:402:5
 loop-holds : tie.Need-loop-holds Inv-loop μ-loop
-loop-holds c = ?
+loop-holds c =
+    let a = c .before .before .args in
+    (refl, gathering-none (a .table .now) (a .p) (a .skip) (a .places .now) (c .before .before .pre .enough))
 
--- src/lib.rt:404:9
-add-k : tie.Need-add-k Inv-loop μ-loop
-add-k c = search needs
+-- a stream is left
+held : (c : tie.In-loop Inv-loop μ-loop) → c .before .loop .k < length (decode (c .before .before .before .before .args .table .now) .streams)
+held c = stream-left _ _ _ (c .before .loop .inv .1) (c .loop-test .taken)
 
--- src/lib.rt:405:13
+few : (c : tie.In-loop Inv-loop μ-loop) → c .before .loop .k < 64
+few c = omega (arith, held c, laid-few (c .before .before .before .before .args .table .now) (c .before .before .before .before .pre .port .laid))
+
 declares-requires : tie.Need-declares-requires Inv-loop μ-loop
-declares-requires c κs = search needs
+unfolding type declarers
+declares-requires c κs = let pre = c .before .before .before .before .pre in record { laid = pre .port .laid; held = held c; port = pre .port .port }
 
--- src/lib.rt:402:5
-loop-less : tie.Need-loop-less Inv-loop μ-loop
-loop-less c = search needs
-
--- src/lib.rt:402:5
 loop-again : tie.Need-loop-again Inv-loop μ-loop
-loop-again c = ?
+unfolding type
+loop-again c =
+    let l = c .before .before .before .loop in
+    let q = sym (c .before .declares .ensures) ∙ not-true _ (c .if1 .taken) in
+    (l .inv .0, gathers-none _ _ _ (l .inv .1) (c .before .before .loop-test .taken) q)
 
--- src/lib.rt:409:13
-sub-before : tie.Need-sub-before Inv-loop μ-loop
-sub-before c = search needs
-
--- src/lib.rt:402:5
-loop-less-2 : tie.Need-loop-less-2 Inv-loop μ-loop
-loop-less-2 c = search needs
-
--- src/lib.rt:402:5
 loop-again-2 : tie.Need-loop-again-2 Inv-loop μ-loop
-loop-again-2 c = ?
+unfolding type
+loop-again-2 c =
+    let l = c .before .before .before .before .loop in
+    let q = sym (c .before .before .declares .ensures) ∙ not-false _ (c .before .if1 .left) in
+    (l .inv .0, gathers-over _ _ _ (l .inv .1) (c .before .before .before .loop-test .taken) q (c .if2 .taken))
 
--- src/lib.rt:412:21
-cast-places : tie.Need-cast-places Inv-loop μ-loop
-cast-places c = search needs
-
--- src/lib.rt:412:9
-slice-write-places : tie.Need-slice-write-places Inv-loop μ-loop
-slice-write-places c = search needs
-
--- src/lib.rt:413:9
-add-n : tie.Need-add-n Inv-loop μ-loop
-add-n c = search needs
-
--- src/lib.rt:402:5
-loop-less-3 : tie.Need-loop-less-3 Inv-loop μ-loop
-loop-less-3 c = search needs
-
--- src/lib.rt:402:5
 loop-again-3 : tie.Need-loop-again-3 Inv-loop μ-loop
-loop-again-3 c = ?
+unfolding type
+loop-again-3 c =
+    let l = c .before .before .before .before .loop in
+    let q = sym (c .before .before .declares .ensures) ∙ not-false _ (c .before .if1 .left) in
+    let none : l .before ≡ 0 = omega arith in
+    (simp length-set (l .inv .0), gathers-one _ _ _ (l .inv .1) (c .before .before .before .loop-test .taken) q none)
 
--- src/lib.rt:395:1
-same-length : tie.Need-same-length Inv-loop μ-loop
-same-length c = search needs
-
--- src/lib.rt:395:1
 returns : tie.Need-returns Inv-loop μ-loop
-returns c = ?
+returns c =
+    let l = c .before .loop in
+    let a = c .before .before .before .before .args in
+    let pre = c .before .before .before .before .pre in
+    let done : length (l .places) ≤ l .n = omega arith in
+    placed-by (a .table .now) (a .p) (a .skip) (l .places) (pre .port .laid) (pre .port .port) (omega (arith, l .inv .0, pre .few)) (gathered-held _ _ _ (l .inv .1) done)
+    (gathered-each _ _ _ (l .inv .1) done) (rw (l .inv .0) (gathered _ _ _ (l .inv .1) done))
 
 pub gather-spec : {M : Type 1} → statement M
 gather-spec =
     tie.close
-    (tie.spec
-    Inv-loop
-    μ-loop
-    loop-holds
-    add-k
-    declares-requires
-    loop-less
-    loop-again
-    sub-before
-    loop-less-2
-    loop-again-2
-    cast-places
-    slice-write-places
-    add-n
-    loop-less-3
-    loop-again-3
-    same-length
-    returns)
+    (tie.spec Inv-loop μ-loop loop-holds (λ c. omega (arith, few c)) declares-requires (λ c. omega (arith, held (c .before .before))) loop-again
+    (λ c. search needs) (λ c. omega (arith, held (c .before .before .before))) loop-again-2 (λ c. omega (arith, few (c .before .before .before))) (λ c. search needs) (λ c. search needs)
+    (λ c. omega (arith, held (c .before .before .before))) loop-again-3 (λ c. search needs) returns)

@@ -1,19 +1,22 @@
-use Prim.Native.Nat.{ℕ, suc, _+_, _-_, _*_, _≤_, _<_}
+-- `declarations::write_values` meets its contract. Assumes nothing.
+use Prim.Native.Nat.{ℕ, _+_, _-_, _*_, _/_, _%_, _≤_, _<_}
 use mathlib.Core.Path.{_≡_, refl, sym, ap, _∙_}
+use mathlib.Core.List.{List}
 use native.Mathlib.Omega.{arith}
 use borrow.Author.Needs.{needs}
-use lib.ListN.{length, getD, take, drop}
-use Rattle.declarations.specs.Packed.{listenersAt, eventsBy}
+use lib.ListN.{length, getD, set, take, length-set}
+use lib.Seq.{take-all}
+use Rattle.model.specs.Frames.{threeLength}
+use Rattle.model.specs.Cutting.{values}
+use Rattle.cutting.specs.Named.{idsOf}
+use Rattle.cutting.proofs.Named.{ids-length, part-ends}
+use Rattle.model.specs.WrittenFrames.{listenerNumber}
+use Rattle.model.specs.Table.{decode}
+use Rattle.declarations.specs.Packed.{listenerAt, listenersAt, threeUnit, fourUnit, eventsBy, eventsOf}
+use Rattle.declarations.proofs.Packed.{listeners-ids, listeners-length}
+use Rattle.declarations.proofs.Packing.{Turn, turn, first-below, events-none, cleared}
 use Rattle.declarations.proofs.write_values.Statement.{statement}
 use Rattle.declarations.proofs.write_values.Tie as tie
-use Rattle.declarations.proofs.write_values.Reads as reads
-use Rattle.declarations.proofs.write_values.Lts as lts
-use Rattle.cutting.proofs.id_of.Reads as id-of-reads
-use Rattle.cutting.proofs.values_of.Reads as values-of-reads
-use Rattle.declarations.proofs.join_mt_at.Reads as join-mt-at-reads
-use Rattle.declarations.proofs.listener_number.Reads as listener-number-reads
-use Rattle.declarations.proofs.type_at.Reads as type-at-reads
-use Rattle.octets.proofs.clear.Reads as clear-reads
 
 abbrev Inv-loop : tie.InvT-loop
 Inv-loop table p places out₀ first threes all i₀ out i =
@@ -22,119 +25,102 @@ Inv-loop table p places out₀ first threes all i₀ out i =
 abbrev μ-loop : tie.MeasureT-loop
 μ-loop table p places out₀ first threes all i₀ out i = length places - i
 
--- src/lib.rt:461:9
 id-of-requires : tie.Need-id-of-requires Inv-loop μ-loop
-id-of-requires c κs = search needs
+id-of-requires c κs =
+    let a = c .before .before .before .args in
+    let pre = c .before .before .before .pre in
+    (pre .telling .named, omega (arith, ids-length (a .table .now) (a .places .now), part-ends (idsOf (a .table .now) (a .places .now)) (pre .part) (pre .telling .named .ascending) .some))
 
--- src/lib.rt:462:20
-values-of-requires : tie.Need-values-of-requires Inv-loop μ-loop
-values-of-requires c κs = search needs
-
--- src/lib.rt:462:20
-add-threes : tie.Need-add-threes Inv-loop μ-loop
-add-threes c = search needs
-
--- src/lib.rt:464:5
-clear-requires : tie.Need-clear-requires Inv-loop μ-loop
-clear-requires c κs = search needs
-
--- src/lib.rt:466:5
 loop-holds : tie.Need-loop-holds Inv-loop μ-loop
-loop-holds c = ?
+loop-holds c =
+    let a = c .before .before .before .before .before .before .before .before .before .args in
+    let g = listenersAt (a .p) (a .table .now) (a .places .now) in
+    let room : length (a .out .now) ≡ _ = rw (← (listeners-ids (a .table .now) (a .p) (a .places .now))) at (c .before .before .before .before .before .before .before .before .before .pre .room) in (
+      omega arith,
+      omega arith,
+      c .before .before .clear .ensures ∙ cleared (a .out .now) ∙ events-none g (length (a .out .now)) room,
+    )
 
--- src/lib.rt:467:19
-id-of-requires-2 : tie.Need-id-of-requires-2 Inv-loop μ-loop
-id-of-requires-2 c κs = search needs
+-- the turn of a Listener
+turns : (c : tie.After-id-of2 Inv-loop μ-loop)
+    → let a = c .before .before .before .before .before .before .before .before .before .before .before .before .args in
+    let l = c .before .before .loop in
+    Turn (a .table .now) (a .p) (a .places .now) (l .out) (l .i) (c .id-of2 .result - c .before .before .before .before .before .before .before .before .id-of .result) ((c .before .before .before .before .before .before .before .values-of .result + 2) / 3)
+turns c =
+    let a = c .before .before .before .before .before .before .before .before .before .before .before .before .args in
+    let l = c .before .before .loop in
+    let pre = c .before .before .before .before .before .before .before .before .before .before .before .before .pre in
+    let t = a .table .now in
+    let places = a .places .now in
+    let after = first-below t (a .p) places (pre .telling) (pre .part) (l .i) (c .before .loop-test .taken) in
+    let at : getD (idsOf t places) 0 0 + (c .id-of2 .result - c .before .before .before .before .before .before .before .before .id-of .result) ≡ getD (idsOf t places) (l .i) 0 = omega (arith, after, c .id-of2 .ensures, c .before .before .before .before .before .before .before .before .id-of .ensures) in
+    let eT : (c .before .before .before .before .before .before .before .values-of .result + 2) / 3 ≡ threeLength (values (idsOf t places)) = unfold threeLength in (ap (λ (n : ℕ). (n + 2) / 3) (c .before .before .before .before .before .before .before .values-of .ensures .0)) in
+    turn t (a .p) places (pre .telling) (pre .part) (l .i) (c .before .loop-test .taken) _ _ at eT (l .out) (l .inv .2)
 
--- src/lib.rt:467:19
 sub-at : tie.Need-sub-at Inv-loop μ-loop
-sub-at c = search needs
+sub-at c =
+    let a = c .before .before .before .before .before .before .before .before .before .before .before .before .args in
+    let pre = c .before .before .before .before .before .before .before .before .before .before .before .before .pre in
+    omega (arith, c .id-of2 .ensures, c .before .before .before .before .before .before .before .before .id-of .ensures, first-below (a .table .now) (a .p) (a .places .now) (pre .telling) (pre .part) (c .before .before .loop .i) (c .before .loop-test .taken))
 
--- src/lib.rt:469:22
-slice-read-out : tie.Need-slice-read-out Inv-loop μ-loop
-slice-read-out c = search needs
-
--- src/lib.rt:469:35
-join-mt-at-requires : tie.Need-join-mt-at-requires Inv-loop μ-loop
-join-mt-at-requires c κs = search needs
-
--- src/lib.rt:469:22
 add-out : tie.Need-add-out Inv-loop μ-loop
-add-out c = search needs
+add-out c = omega (arith, turns (c .before .before) .three-fits, c .join-mt-at .ensures)
 
--- src/lib.rt:469:9
-slice-write-out : tie.Need-slice-write-out Inv-loop μ-loop
-slice-write-out c = search needs
+-- the octet with the event, and that with the type
+x-is : (c : tie.After-join-mt-at Inv-loop μ-loop)
+    → let o : ℕ = c .before .before .id-of2 .result - c .before .before .before .before .before .before .before .before .before .before .id-of .result in
+    getD (c .before .before .before .before .loop .out) (o / 3) 0 + c .join-mt-at .result ≡ getD (c .before .before .before .before .loop .out) (o / 3) 0 + 3 * threeUnit (o % 3)
+x-is c =
+    let o : ℕ = c .before .before .id-of2 .result - c .before .before .before .before .before .before .before .before .before .before .id-of .result in
+    ap (λ (m : ℕ). getD (c .before .before .before .before .loop .out) (o / 3) 0 + m) (c .join-mt-at .ensures)
 
--- src/lib.rt:470:20
-add-four : tie.Need-add-four Inv-loop μ-loop
-add-four c = search needs
-
--- src/lib.rt:471:13
-listener-number-requires : tie.Need-listener-number-requires Inv-loop μ-loop
-listener-number-requires c κs = search needs
-
--- src/lib.rt:472:21
 slice-read-out-2 : tie.Need-slice-read-out-2 Inv-loop μ-loop
-slice-read-out-2 c = search needs
+slice-read-out-2 c =
+    let o : ℕ = c .before .before .before .before .id-of2 .result - c .before .before .before .before .before .before .before .before .before .before .before .before .id-of .result in
+    let out = c .before .before .before .before .before .before .loop .out in
+    omega (arith, turns (c .before .before .before .before) .four-in, length-set out (o / 3) (getD out (o / 3) 0 + c .before .before .join-mt-at .result))
 
--- src/lib.rt:472:33
-type-at-requires : tie.Need-type-at-requires Inv-loop μ-loop
-type-at-requires c κs = search needs
+number-is : (c : tie.After-type-at Inv-loop μ-loop)
+    → let a = c .before .before .before .before .before .before .before .before .before .before .before .before .before .before .before .before .before .args in
+    let o : ℕ = c .before .before .before .before .before .id-of2 .result - c .before .before .before .before .before .before .before .before .before .before .before .before .before .id-of .result in
+    c .type-at .result ≡ listenerNumber (listenerAt (a .p) (decode (a .table .now)) (getD (a .places .now) (c .before .before .before .before .before .before .before .loop .i) 0)) * fourUnit (o % 4)
+number-is c =
+    let o : ℕ = c .before .before .before .before .before .id-of2 .result - c .before .before .before .before .before .before .before .before .before .before .before .before .before .id-of .result in
+    c .type-at .ensures ∙ ap (λ (m : ℕ). m * fourUnit (o % 4)) (c .before .before .listener-number .ensures .0)
 
--- src/lib.rt:472:21
 add-out-2 : tie.Need-add-out-2 Inv-loop μ-loop
-add-out-2 c = search needs
+add-out-2 c = omega (arith, turns (c .before .before .before .before .before) .four-fits _ (x-is (c .before .before .before)), number-is c)
 
--- src/lib.rt:472:9
 slice-write-out-2 : tie.Need-slice-write-out-2 Inv-loop μ-loop
-slice-write-out-2 c = search needs
+slice-write-out-2 c =
+    let o : ℕ = c .before .before .before .before .before .id-of2 .result - c .before .before .before .before .before .before .before .before .before .before .before .before .before .id-of .result in
+    let out = c .before .before .before .before .before .before .before .loop .out in
+    omega (arith, turns (c .before .before .before .before .before) .four-in, length-set out (o / 3) (getD out (o / 3) 0 + c .before .before .before .join-mt-at .result))
 
--- src/lib.rt:473:9
-add-i : tie.Need-add-i Inv-loop μ-loop
-add-i c = search needs
-
--- src/lib.rt:466:5
-loop-less : tie.Need-loop-less Inv-loop μ-loop
-loop-less c = search needs
-
--- src/lib.rt:466:5
 loop-again : tie.Need-loop-again Inv-loop μ-loop
-loop-again c = ?
+loop-again c =
+    let l = c .before .before .before .before .before .before .before .loop in
+    let o : ℕ = c .before .before .before .before .before .id-of2 .result - c .before .before .before .before .before .before .before .before .before .before .before .before .before .id-of .result in
+    let threes : ℕ = (c .before .before .before .before .before .before .before .before .before .before .before .before .values-of .result + 2) / 3 in
+    let set-x = set (l .out) (o / 3) (getD (l .out) (o / 3) 0 + c .before .before .before .join-mt-at .result) in (
+      omega arith,
+      simp length-set (l .inv .1),
+      turns (c .before .before .before .before .before) .is _ _ (x-is (c .before .before .before)) (ap (λ (m : ℕ). getD set-x (threes + o / 4) 0 + m) (number-is c)),
+    )
 
--- src/lib.rt:457:1
-same-length : tie.Need-same-length Inv-loop μ-loop
-same-length c = search needs
-
--- src/lib.rt:457:1
 returns : tie.Need-returns Inv-loop μ-loop
-returns c = ?
+returns c =
+    let a = c .before .before .before .before .before .before .before .before .before .before .before .args in
+    let l = c .before .loop in
+    let g = listenersAt (a .p) (a .table .now) (a .places .now) in
+    let all = take-all (l .i) g (omega (arith, listeners-length (a .table .now) (a .p) (a .places .now))) in
+    l .inv .2 ∙ ap (eventsBy g) all ∙ unfold eventsOf in refl
 
 pub write-values-spec : {M : Type 1} → statement M
 write-values-spec =
     tie.close
-    (tie.spec
-    Inv-loop
-    μ-loop
-    id-of-requires
-    values-of-requires
-    add-threes
-    clear-requires
-    loop-holds
-    id-of-requires-2
-    sub-at
-    slice-read-out
-    join-mt-at-requires
-    add-out
-    slice-write-out
-    add-four
-    listener-number-requires
-    slice-read-out-2
-    type-at-requires
-    add-out-2
-    slice-write-out-2
-    add-i
-    loop-less
-    loop-again
-    same-length
-    returns)
+    (tie.spec Inv-loop μ-loop id-of-requires (λ c κs. record { named = c .before .before .before .before .pre .telling .named; part = c .before .before .before .before .pre .part }) (λ c. search needs) (λ c κs. search needs)
+    loop-holds (λ c κs. (c .before .before .before .before .before .before .before .before .before .before .before .pre .telling .named, omega arith)) sub-at (λ c. omega (arith, turns (c .before) .three-in)) (λ c κs. search needs) add-out
+    (λ c. omega (arith, turns (c .before .before) .three-in)) (λ c. omega (arith, turns (c .before .before) .four-in, c .before .before .before .before .before .before .before .before .before .values-of .ensures .1)) (λ c κs. (c .before .before .before .before .before .before .before .before .before .before .before .before .before .before .pre .telling, omega arith))
+    slice-read-out-2 (λ c κs. (c .before .listener-number .ensures .2, omega arith)) add-out-2 slice-write-out-2 (λ c. search needs) (λ c. search needs) loop-again
+    (λ c. search needs) returns)

@@ -64,5 +64,5 @@ returns-4 c =
 pub write-vector-spec : {M : Type 1} → statement M
 write-vector-spec =
     tie.close
-    (tie.spec (λ c. search needs) write-talker-requires (λ c. search needs) (λ c. search needs) write-talker-requires-2 (λ c. search needs)
-    write-domain-requires (λ c. search needs) returns (λ c. search needs) returns-2 (λ c. search needs) returns-3 (λ c. search needs) returns-4)
+    (tie.spec (λ c. search needs) write-talker-requires (λ c. search needs) (λ c. search needs) write-talker-requires-2 (λ c. search needs) (λ c. search needs)
+    write-domain-requires (λ c. search needs) returns (λ c. search needs) returns-2 returns-3 (λ c. search needs) returns-4)
