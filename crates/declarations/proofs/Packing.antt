@@ -227,6 +227,10 @@ module _ (t : List ℕ) (p : ℕ) (places : List ℕ) (w : Telling t p places) (
     held : out ≡ packedEvents n e
     held = was ∙ unfold eventsBy in refl
 
+    then : packedEvents n f ≡ eventsBy whole (take (i + 1) whole)
+    unfolding eventsBy
+    then = refl
+
     x-is : (x : ℕ) → x ≡ getD out (o / 3) 0 + 3 * threeUnit (o % 3) → x ≡ threeOctet (λ j. eventNumber (f j)) (o / 3)
     x-is x ex = ex ∙ rw held (three-there n e f o (number - 1) adds within small)
 
@@ -246,8 +250,7 @@ module _ (t : List ℕ) (p : ℕ) (places : List ℕ) (w : Telling t p places) (
           three-fits = omega (arith, x-is (getD out (o / 3) 0 + 3 * threeUnit (o % 3)) refl, three-small n e f o (number - 1) adds within small);
           four-fits = λ x ex. omega (arith, four-is x ex, four-small n e f o (number - 1) adds within small x (x-is x ex));
           is = λ x y ex ey.
-              rw (held, length-of) (events-more n e f o (number - 1) adds within small x (x-is x ex) y (ey ∙ four-is x ex))
-              ∙ unfold eventsBy in refl;
+              rw (held, length-of) (events-more n e f o (number - 1) adds within small x (x-is x ex) y (ey ∙ four-is x ex)) ∙ then;
         }
 
 -- the octets of a part's events are those of its vector behind header and FirstValue

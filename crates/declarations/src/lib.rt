@@ -543,9 +543,16 @@ fn take_packed(table: &[u8], p: usize, places: &[u8], from: Progress, buffer: &m
     }
 }
 
-// The same of those left after the ones to pass over.
-fn take_listeners(table: &[u8], p: usize, left: usize, from: Progress, buffer: &mut [u8]) -> Progress
-    requires { ⌜ OpenIn (now table) p Listener left from (now buffer) ⌝ }
+// The same of those left after the ones to pass over, with room for 64 places.
+fn take_listeners(
+    table: &[u8],
+    p: usize,
+    left: usize,
+    from: Progress,
+    places: &mut [u8],
+    buffer: &mut [u8],
+) -> Progress
+    requires { ⌜ OpenIn (now table) p Listener left from (now buffer) × (length (now places) ≡ 64) ⌝ }
     ensures { λ r. ⌜ PassLeaves (registers listeners) (found Listener p (now (table .entry))) from (now (buffer .entry)) r (now (buffer .exit)) ⌝ }
 {
     let at = from.at;
@@ -557,7 +564,6 @@ fn take_listeners(table: &[u8], p: usize, left: usize, from: Progress, buffer: &
             full: true,
         };
     }
-    let mut places = [0u8; 64];
     gather(table, p, from.skip, &mut places[..left]);
     take_packed(table, p, &places[..left], from, buffer)
 }
@@ -582,7 +588,8 @@ fn pass(table: &[u8], p: usize, attribute: Attribute, from: Progress, buffer: &m
                 return take_run(table, p, attribute, left, from, buffer);
             }
             Attribute::Listener => {
-                return take_listeners(table, p, left, from, buffer);
+                let mut places = [0u8; 64];
+                return take_listeners(table, p, left, from, &mut places, buffer);
             }
             Attribute::Domain => {
                 return take_run(table, p, attribute, left, from, buffer);

@@ -52,7 +52,7 @@ size-of-requires c κs =
     let a = c .before .before .before .before .before .before .before .before .args in
     let i : ℕ = c .before .before .before .loop .i in
     record {
-      named = named-take (a .table .now) _ _ (named-drop (a .table .now) i (a .places .now) (c .before .before .before .before .before .before .before .before .pre .telling .named));
+      named = named-take (a .table .now) (i + getD (a .firsts .now) i 0 - i) (drop i (a .places .now)) (named-drop (a .table .now) i (a .places .now) (c .before .before .before .before .before .before .before .before .pre .telling .named));
       part = shares (c .before);
     }
 
@@ -76,11 +76,12 @@ write-part-requires c κs =
     let l = c .before .before .before .before .before .before .loop in
     let w = c .before .before .before .before .before .before .before .before .before .before .before .pre .telling in
     let size : ℕ = c .before .before .size-of .result in
+    let f : ℕ = l .i + getD (a .firsts .now) (l .i) 0 - l .i in
     record {
       telling = record {
         port = w .port;
-        named = named-take (a .table .now) _ _ (named-drop (a .table .now) (l .i) (a .places .now) (w .named));
-        each = all-take (Tells (a .table .now) (a .p)) _ _ (all-drop (Tells (a .table .now) (a .p)) (l .i) (a .places .now) (w .each));
+        named = named-take (a .table .now) f (drop (l .i) (a .places .now)) (named-drop (a .table .now) (l .i) (a .places .now) (w .named));
+        each = all-take (Tells (a .table .now) (a .p)) f (drop (l .i) (a .places .now)) (all-drop (Tells (a .table .now) (a .p)) (l .i) (a .places .now) (w .each));
       };
       part = shares (c .before .before .before .before);
       room = ap length (lent-part (l .at) size (l .out)) ∙ length-part (l .at) size (l .out) (fits (c .before .before)) ∙ c .before .before .size-of .ensures .0;
