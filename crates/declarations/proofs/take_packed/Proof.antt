@@ -81,4 +81,4 @@ take-packed-spec =
     (tie.spec (λ c. search needs) (λ c. search needs) (λ c. search needs) (λ c. search needs) (λ c κs. search needs) returns (λ c. search needs)
     (λ c. omega (arith, room c)) (λ c. omega (arith, room c)) slice-aggregate-write-listeners (λ c. search needs) (λ c. omega (arith, room (c .before .before)))
     (λ c. search needs) (λ c. search needs) (λ c. omega (arith, room (c .before .before), c .before .before .before .before .before .before .before .before .before .before .before .pre .opened .pass .buffer)) write-listeners-requires
-    (λ c. omega (arith, within (c .before .before .before .before .before .before), c .before .before .before .before .before .before .before .before .before .before .before .before .before .before .before .pre .opened .few, c .before .before .before .before .before .before .before .before .before .before .before .before .before .before .before .pre .opened .pass .next)) (λ c. omega (arith, room (c .before .before .before .before .before .before))) (λ c. search needs) returns-2)
+    (λ c. omega (arith, room (c .before .before .before .before .before .before))) (λ c. omega (arith, within (c .before .before .before .before .before .before), c .before .before .before .before .before .before .before .before .before .before .before .before .before .before .before .pre .opened .few, c .before .before .before .before .before .before .before .before .before .before .before .before .before .before .before .pre .opened .pass .next)) (λ c. search needs) returns-2)
