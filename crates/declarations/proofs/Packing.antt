@@ -94,7 +94,7 @@ module _ (n : ℕ) (e f : ℕ → ℕ) (o v : ℕ) (a : Adds e f o (suc v)) (wit
     pub four-there : getD (set (packedEvents n e) (o / 3) x) (threeLength n + o / 4) 0 + suc v * fourUnit (o % 4) ≡ fourOctet f (o / 4)
     four-there =
         let u = four-unit (o % 4) in
-        let at : getD (threes f ++ fours e) (threeLength n + o / 4) 0 ≡ getD (fours e) (o / 4) 0 = 
+        let at : getD (threes f ++ fours e) (threeLength n + o / 4) 0 ≡ getD (fours e) (o / 4) 0 =
         ap (λ (i : ℕ). getD (threes f ++ fours e) (i + o / 4) 0) (sym (three-long f)) ∙ getD-append-add (threes f) (fours e) (o / 4) 0 in
         let z : 0 + o / 4 ≡ o / 4 = omega arith in
         rw (three-set, at, getD-tabulate (fourOctet e) (fourLength true n) 0 (o / 4) 0 four-inside, z)

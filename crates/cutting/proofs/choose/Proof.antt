@@ -59,8 +59,12 @@ behind : (c : tie.Else1 Inv-loop μ-loop) → c .before .before .before .before 
 behind c =
     let a = c .before .before .before .before .before .before .before .before .before .args in
     let l = c .before .before .before .loop in
-    omega (arith, c .before .before .before .before .before .id-of .ensures, c .before .id-of2 .ensures,
-    ascending-less (idsOf (a .table .now) (a .places .now)) (c .before .before .before .before .before .before .before .before .before .pre .0 .ascending) (a .at) (a .at + l .k) (omega arith) (met (c .before .before)))
+    omega (
+      arith,
+      c .before .before .before .before .before .id-of .ensures,
+      c .before .id-of2 .ensures,
+      ascending-less (idsOf (a .table .now) (a .places .now)) (c .before .before .before .before .before .before .before .before .before .pre .0 .ascending) (a .at) (a .at + l .k) (omega arith) (met (c .before .before)),
+    )
 
 cast-p : tie.Need-cast-p Inv-loop μ-loop
 cast-p c = omega (arith, c .shared-slice-known5 .given (c .before .before .before .before .before .before .before .before .before .before .before .args .at + c .before .before .before .before .before .loop .k + 1))

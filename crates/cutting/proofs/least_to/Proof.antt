@@ -53,9 +53,13 @@ before : (c : tie.After-shared-slice-known5 Inv-loop μ-loop) → c .before .bef
 before c =
     let a = c .before .before .before .before .before .before .before .before .before .before .args in
     let l = c .before .before .before .before .loop in
-    omega (arith, c .before .before .id-of2 .ensures, c .before .before .before .before .before .before .id-of .ensures,
-    ascending-less (idsOf (a .table .now) (a .places .now)) (c .before .before .before .before .before .before .before .before .before .before .pre .0 .ascending) (l .j - 1) (a .k) (omega arith)
-    (omega (arith, ids-length (a .table .now) (a .places .now))))
+    omega (
+      arith,
+      c .before .before .id-of2 .ensures,
+      c .before .before .before .before .before .before .id-of .ensures,
+      ascending-less (idsOf (a .table .now) (a .places .now)) (c .before .before .before .before .before .before .before .before .before .before .pre .0 .ascending) (l .j - 1) (a .k) (omega arith)
+          (omega (arith, ids-length (a .table .now) (a .places .now))),
+    )
 
 add-c : tie.Need-add-c Inv-loop μ-loop
 add-c c = omega (arith, c .before .shared-slice-known5 .given (c .before .before .before .before .before .loop .j - 1))
