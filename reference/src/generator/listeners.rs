@@ -13,7 +13,7 @@ pub const TIGHT: [&[u64]; 6] =
 /// The steps from one StreamID to the next, so many.
 fn steps(random: &mut Random, count: u64) -> Vec<u64> {
     let style = random.below(6);
-    let same = random.between(18, 26);
+    let same = random.one_of(&[18, 19, 20, 20, 21, 22, 23, 24]);
     let step = |random: &mut Random| match style {
         0 => 1,
         1 => same,
@@ -33,7 +33,7 @@ fn unique_ids(random: &mut Random, most: u64) -> Vec<u64> {
         ids.truncate(most as usize);
     } else {
         let any = random.below(most);
-        let count = random.one_of(&[most - 1, most / 2, any]);
+        let count = random.one_of(&[most - 1, most - 1, any]);
         for step in steps(random, count) {
             ids.push(ids[ids.len() - 1] + step);
         }
