@@ -1580,7 +1580,7 @@ pub fn calls(seed: u64) -> Script {
             history.some_call(&plan);
         }
     }
-    if history.random.percent(20) {
+    if history.random.percent(30) {
         history.packed_listeners();
     }
     // A few scripts have no start of their own: alone they get 12 for all, in a batch they go on

@@ -12,14 +12,14 @@ pub const TIGHT: [&[u64]; 6] =
 
 /// The steps from one StreamID to the next, so many.
 fn steps(random: &mut Random, count: u64) -> Vec<u64> {
-    let style = random.below(6);
-    let same = random.one_of(&[18, 19, 20, 20, 21, 22, 23, 24]);
+    let style = random.below(7);
+    let same = random.one_of(&[17, 17, 18, 18, 19, 20, 21, 22, 23, 24]);
     let step = |random: &mut Random| match style {
         0 => 1,
-        1 => same,
-        2 => random.between(19, 25),
-        3 => random.one_of(&[1, 20, 21, 22, 23]),
-        4 => random.one_of(&[1, 1, 2, 3, 19, 20, 23, 24]),
+        1..=2 => same,
+        3 => random.between(19, 25),
+        4 => random.one_of(&[1, 20, 21, 22, 23]),
+        5 => random.one_of(&[1, 1, 2, 3, 19, 20, 23, 24]),
         _ => random.between(1, 30),
     };
     (0..count).map(|_| step(random)).collect()
