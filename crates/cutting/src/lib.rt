@@ -7,6 +7,19 @@ ghost use Rattle.model.specs.Best.{price, least, run};
 ghost use Rattle.cutting.specs.Named.{idsOf, Named, PartIn};
 ghost use Rattle.cutting.specs.Plan.{none, entries, Weighed, Counted, Costed, Packed};
 
+// The octets of a vector before its events, header and StreamID, and of a vector of one value.
+const HEAD: u64 = 10;
+
+const ALONE: u64 = HEAD + 2;
+
+// What weighs an octet, beside 1 for each vector: as there are at most 64 vectors, fewer octets always weigh less.
+const OCTET: u64 = 65;
+
+const ALONE_WEIGHS: u64 = ALONE * OCTET + 1;
+
+// The StreamIDs of one MAC.
+const OF_A_MAC: u64 = 65536;
+
 // What the best cutting of a tail weighs, and how many declarations its first vector has.
 pub struct Entry {
     pub weighs: u64,
@@ -18,15 +31,15 @@ fn octets_for(n: u64) -> u64
     requires { ⌜ n ≤ 65536 ⌝ }
     ensures { λ r. ⌜ (r ≡ octetsFor n) × (r < 40000) ⌝ }
 {
-    10 + (n + 2) / 3 + (n + 3) / 4
+    HEAD + (n + 2) / 3 + (n + 3) / 4
 }
 
-// The weight of a vector of n values: 65 for each octet, 1 for the vector.
+// The weight of a vector of n values.
 fn price_of(n: u64) -> u64
     requires { ⌜ n ≤ 65536 ⌝ }
     ensures { λ r. ⌜ (r ≡ price n) × (r < 4194304) ⌝ }
 {
-    octets_for(n) * 65 + 1
+    octets_for(n) * OCTET + 1
 }
 
 // The StreamID of the stream that is named at place i.
@@ -61,12 +74,12 @@ fn choose(table: &[u8], places: &[u8], at: usize, weighs: &[u16]) -> Entry
 {
     let n = places.len();
     let x = id_of(table, places, at);
-    let mut w: u64 = 781 + (weighs[at + 1] as u64);
+    let mut w: u64 = ALONE_WEIGHS + (weighs[at + 1] as u64);
     let mut f: usize = 1;
     let mut k: usize = 1;
     while at + k < n {
         let y = id_of(table, places, at + k);
-        if y / 65536 != x / 65536 {
+        if y / OF_A_MAC != x / OF_A_MAC {
             return Entry {
                 weighs: w,
                 first: f,
@@ -107,12 +120,12 @@ fn least_to(table: &[u8], places: &[u8], k: usize, costs: &[u16]) -> u64
     ensures { λ r. ⌜ r ≡ least (take (k + 1) (idsOf (now (table .entry)) (now (places .entry)))) ⌝ }
 {
     let y = id_of(table, places, k);
-    let mut m: u64 = (costs[k] as u64) + 12;
+    let mut m: u64 = (costs[k] as u64) + ALONE;
     let mut j = k;
     while 0 < j {
         j -= 1;
         let x = id_of(table, places, j);
-        if x / 65536 != y / 65536 {
+        if x / OF_A_MAC != y / OF_A_MAC {
             return m;
         }
         let c = (costs[j] as u64) + octets_for(y - x + 1);
@@ -123,13 +136,13 @@ fn least_to(table: &[u8], places: &[u8], k: usize, costs: &[u16]) -> u64
     m
 }
 
-// How many declarations, from the first on, fit in `room` octets. Twelve octets for each are always enough.
+// How many declarations, from the first on, fit in `room` octets. A vector for each is always enough.
 fn fit(table: &[u8], places: &[u8], room: u64, costs: &mut [u16]) -> usize
     requires { ⌜ Named (now table) (now places) × (length (now costs) ≡ 65) ⌝ }
     ensures { λ r. ⌜ (r ≡ run room (idsOf (now (table .entry)) (now (places .entry)))) × (r ≤ length (now (places .entry))) ⌝ }
 {
     let n = places.len();
-    if (n as u64) * 12 <= room {
+    if (n as u64) * ALONE <= room {
         return n;
     }
     costs[0] = 0;

@@ -79,6 +79,9 @@ const LISTENER_VECTOR: usize = FIRST + LISTENER_LENGTH + 2 * EVENTS;
 
 const DOMAIN_VECTOR: usize = FIRST + DOMAIN_LENGTH + EVENTS;
 
+// What an octet weighs in a plan of Listeners, beside 1 for each vector.
+const OCTET_WEIGHS: u16 = 65;
+
 // The event JoinMt as the first of three packed events.
 const JOIN_MT: u64 = 108;
 
@@ -511,9 +514,6 @@ fn write_listeners(table: &[u8], p: usize, places: &[u8], firsts: &[u8], out: &m
     close_message(Attribute::Listener, out);
 }
 
-// What is left of a plan's weights: the octets of the vectors.
-const WEIGHT: u16 = 65;
-
 // The Message of those that fit, of the Listeners of streams by their places.
 fn take_packed(table: &[u8], p: usize, places: &[u8], from: Progress, buffer: &mut [u8]) -> Progress
     requires { ⌜ PackedIn (now table) p (now places) from (now buffer) ⌝ }
@@ -533,7 +533,7 @@ fn take_packed(table: &[u8], p: usize, places: &[u8], from: Progress, buffer: &m
             full: true,
         };
     }
-    let long = AROUND + (weighs[0] / WEIGHT) as usize;
+    let long = AROUND + (weighs[0] / OCTET_WEIGHS) as usize;
     write_listeners(table, p, &places[..n], &firsts, &mut buffer[at..at + long]);
     Progress {
         at: at + long,
