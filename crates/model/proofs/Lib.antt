@@ -20,10 +20,18 @@ pub mod OneSolution
 pub mod Borrowing
 pub mod ReceiveKeepsForm
 pub mod AdvanceKeepsForm
+pub mod Ascents
+pub mod CuttingWeights
+pub mod LeastCutting
+pub mod OneCutting
+pub mod LongestRun
+pub mod Gaps
+pub mod WritingPasses
+pub mod PackedVectors
+pub mod PackedEvents
 pub mod ReadBack
 pub mod Versions
 pub mod CutOut
-pub mod WritingPasses
 pub mod Refusals
 pub mod Edge
 pub mod OwnCodes
@@ -34,5 +42,6 @@ pub mod Untouched
 pub mod Newcomer
 pub mod Opened
 pub mod Examples
+pub mod CuttingExamples
 pub mod FormKept
 pub mod Demand3

@@ -10,6 +10,7 @@ mod inbound_ports;
 mod marked_examples;
 mod newer_versions;
 mod order_among_ports;
+mod packing;
 mod reading;
 mod refusals;
 mod registering;
