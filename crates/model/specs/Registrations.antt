@@ -16,6 +16,17 @@ pub data DomainAct : Type 0 where
   leaveDomain : (slot : ℕ) → DomainAct
   joinDomain : (slot vlan : ℕ) → DomainAct
 
+-- what one event of a MAC address asks for (02, vi: "the same Registrar rules")
+pub data AddressAct : Type 0 where
+  leaveAllAddresses : AddressAct
+  leaveAddress : (mac : ℕ) → AddressAct
+  joinAddress : (mac : ℕ) → AddressAct
+
+-- an MMRP frame is refused with a number, or read as a list of acts, whatever is held
+pub data AddressReading : Type 0 where
+  refusedFrame : ℕ → AddressReading
+  addressActs : List AddressAct → AddressReading
+
 -- what one event of a frame asks for
 pub data Act : Type 0 where
   leaveAll : Kind → Act
