@@ -139,12 +139,11 @@ pub record AfterList (w : ListWalk) (rest : ℕ → AddressReading) (es : List A
   pub split : es ≡ own ++ others
 
 pub after-list : (w : ListWalk) (rest : ℕ → AddressReading) (es : List AddressAct) → afterList w rest ≡ addressActs es → AfterList w rest es
-unfolding afterList
+unfolding afterList thenFrame
 after-list (listFault n) rest es e = absurd (no-refusal n es e)
 after-list (listActs own end) rest es e = go (rest end) refl e
   where
     go : (r : AddressReading) → rest end ≡ r → thenFrame own r ≡ addressActs es → AfterList (listActs own end) rest es
-    unfolding thenFrame
     go (refusedFrame n) i h = absurd (no-refusal n es h)
     go (addressActs others) i h = record { own = own; end = end; others = others; list = refl; left = i; split = cc }
 
@@ -251,12 +250,11 @@ addresses-fit zero version t s at = tt
 addresses-fit (suc f) version t s at = from-fits version t s at _ refl (addresses f version t s) (addresses-fit f version t s)
 
 after-fits : (w : ListWalk) (rest : ℕ → AddressReading) → FitsList w → ((e : ℕ) → FitsAddresses (rest e)) → FitsAddresses (afterList w rest)
-unfolding afterList
+unfolding afterList thenFrame
 after-fits (listFault n) rest a g = tt
 after-fits (listActs es end) rest a g = go (rest end) (g end)
   where
     go : (r : AddressReading) → FitsAddresses r → FitsAddresses (thenFrame es r)
-    unfolding thenFrame
     go (refusedFrame n) b = tt
     go (addressActs ds) b = all-append FitsAddress es ds a b
 
