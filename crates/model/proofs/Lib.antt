@@ -29,6 +29,7 @@ pub mod WritingPasses
 pub mod Refusals
 pub mod FoundAddresses
 pub mod AddressesKept
+pub mod AddressRefusals
 pub mod Edge
 pub mod OwnCodes
 pub mod Boundaries
