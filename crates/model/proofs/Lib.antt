@@ -34,6 +34,7 @@ pub mod Edge
 pub mod OwnCodes
 pub mod Boundaries
 pub mod Growth
+pub mod Pruning
 pub mod FanIn
 pub mod Untouched
 pub mod Newcomer
