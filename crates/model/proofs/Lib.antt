@@ -42,3 +42,4 @@ pub mod Opened
 pub mod Examples
 pub mod FormKept
 pub mod Demand3
+pub mod AddressRoom

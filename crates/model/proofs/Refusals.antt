@@ -439,6 +439,15 @@ module _ (b : Bridge) (p : ℕ) (pdu : List ℕ) where
           (cond-either (λ (m : ℕ). (m ≤ 8) × (m ≡ 1 → ⊥)) (ltb 64 (countWith vs)) 8 0
           (omega arith, λ i. omega arith) (omega arith, λ i. omega arith))
 
+  -- on any port
+  pub receive-few : receive b p pdu .number ≤ 8
+  unfolding receive reading received frameNumber
+  receive-few = go (wrongPort (b .settings) p)
+    where
+      go : (a : Bool) → received b p (cond a (refused 1) (walked (walk pdu))) .number ≤ 8
+      go true = omega arith
+      go false = frame-numbers .0
+
 module _ (t : List ℕ) (p : ℕ) (pdu : List ℕ) where
   receive-number : receiveOn t p pdu .number ≡ fronted t p (frameNumber (decode t) p pdu)
   unfolding receiveOn receive reading fronted frameNumber received
