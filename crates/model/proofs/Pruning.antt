@@ -168,7 +168,7 @@ module _ (st : Settings) (off : st .pruning ≡ false) (o o′ : List Own) (i : 
         rw (
           same-column x p,
           tabulate-same (λ q. passed (columnOf one now s q x) (registered (cellAt x q))) (λ q. passed (columnOf other now s q x) (registered (cellAt x q))) 8 0
-          (λ q a b. rw (same-column x q)),
+              (λ q a b. rw (same-column x q)),
         )
 
     same-stream : (x : Stream) → decide one now s x ≡ decide other now s x
@@ -232,5 +232,5 @@ module _ (b : Bridge) (p : ℕ) (pdu : List ℕ) where
       rw (e, f) (
         map-congr-left {l = s} (λ x m. same-stream st off o o′ (inboundsOf s) g now s x),
         tabulate-same (totalsOn (one st off o o′ (inboundsOf s) g now) now s) (totalsOn (other st off o o′ (inboundsOf s) g now) now s) 8 0
-        (λ q a b. same-totals st off o o′ (inboundsOf s) g now s q),
+            (λ q a b. same-totals st off o o′ (inboundsOf s) g now s q),
       )
