@@ -26,6 +26,7 @@ pub mod Versions
 pub mod CutOut
 pub mod WritingPasses
 pub mod Refusals
+pub mod FoundAddresses
 pub mod Edge
 pub mod OwnCodes
 pub mod Boundaries

@@ -274,13 +274,13 @@ both-faults (found vs) (fault n) h k = k
 both-faults (found vs) (found ws) h k = tt
 
 -- what stands at a place has no other number
-abbrev ListFaults : InList → Type 0
+abbrev pub ListFaults : InList → Type 0
 ListFaults (badVector n) = (3 ≤ n) × (n ≤ 7)
 ListFaults listEnd = Unit {0}
 ListFaults (vectorHead h) = Unit {0}
 ListFaults (passedOver h) = Unit {0}
 
-vector-faults : (version first : ℕ) (four : Bool) (l : List ℕ) (at : ℕ) → ListFaults (vectorIn version first four l at)
+pub vector-faults : (version first : ℕ) (four : Bool) (l : List ℕ) (at : ℕ) → ListFaults (vectorIn version first four l at)
 unfolding vectorIn strangeVector
 vector-faults version first four l at =
     let h = beAt 2 l at in

@@ -4,6 +4,7 @@ pub mod Lists
 pub mod State
 pub mod Registrations
 pub mod Frames
+pub mod AddressFrames
 pub mod Bandwidth
 pub mod Settling
 pub mod Declarations
