@@ -44,6 +44,14 @@ overruns-any (suc zero) a b first n = refl
 overruns-any (suc (suc zero)) a b first n = refl
 overruns-any (suc (suc (suc kind))) a b first n = refl
 
+-- any other type has the octets that it is named with
+pub other-octets : (kind octets : ℕ) → (kind ≡ 1 → ⊥) → (kind ≡ 2 → ⊥) → firstOctets (listNamed kind octets) ≡ octets
+unfolding listNamed firstOctets
+other-octets zero octets p q = refl
+other-octets (suc zero) octets p q = absurd (p refl)
+other-octets (suc (suc zero)) octets p q = absurd (q refl)
+other-octets (suc (suc (suc kind))) octets p q = refl
+
 -- A Message's type and AttributeLength.
 
 module _ (version kind octets : ℕ) (p : 2 < kind) where
@@ -54,10 +62,6 @@ module _ (version kind octets : ℕ) (p : 2 < kind) where
   pub strange-list : (version ≡ 0 → ⊥) → headerNumber (addressHeader version kind octets) ≡ 0
   unfolding headerNumber addressHeader
   strange-list e = rw (above kind p, ne-eqb _ _ e)
-
-  pub strange-octets : firstOctets (listNamed kind octets) ≡ octets
-  unfolding firstOctets listNamed
-  strange-octets = rw (above kind p)
 
 -- where they are in order, the list is the one that they name
 pub header-listed : (version kind octets : ℕ) → headerNumber (addressHeader version kind octets) ≡ 0
@@ -188,3 +192,10 @@ none-out (unknowns octets) first n e = refl
 pub some-out : (octets : ℕ) (first : List ℕ) (n x : ℕ) → (n ≡ 0 → ⊥) → x ≡ beAt octets first 0 → runsOut octets first n ≡ ltb (256 ^ octets - 1) (x + (n - 1))
 unfolding runsOut
 some-out octets first n x p e = rw (ne-eqb _ _ p, ← e)
+
+pub other-out : (kind octets : ℕ) (first : List ℕ) (n : ℕ) → (kind ≡ 1 → ⊥) → (kind ≡ 2 → ⊥) → overruns (listNamed kind octets) first n ≡ false
+unfolding listNamed overruns
+other-out zero octets first n p q = refl
+other-out (suc zero) octets first n p q = absurd (p refl)
+other-out (suc (suc zero)) octets first n p q = absurd (q refl)
+other-out (suc (suc (suc kind))) octets first n p q = refl
