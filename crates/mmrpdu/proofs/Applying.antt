@@ -1,23 +1,22 @@
 -- What a walk that applies an accepted MMRP PDU reads is what the definitions apply: the parts of each vector at its places, the
 -- address and the event of each value, and the acts that are left after each step. Assumes nothing.
 use mathlib.Core.Path.{_≡_, refl, sym, ap, subst, _∙_}
-use mathlib.Core.List.{List, [], _∷_, _++_}
+use mathlib.Core.List.{List, [], _++_}
 use mathlib.Core.Bool.{false}
 use Prim.Native.Nat.{ℕ, zero, suc, _+_, _-_, _/_, _%_, _^_, _≤_, _<_}
 use native.Mathlib.Omega.{arith}
 use lib.ListN.{length, getD}
 use lib.Dec.{ltb, eqb}
-use borrow.Author.Tests.{ltb-false, eqb-false, lt-ltb, le-ltb}
+use borrow.Author.Tests.{ltb-false, eqb-false, lt-ltb}
 use Rattle.octets.specs.Be.{beAt}
-use Rattle.octets.specs.Parts.{part}
 use Rattle.octets.proofs.Parts.{lent-length, length-part}
-use Rattle.model.specs.FrameLayout.{longestPdu, macLength}
+use Rattle.model.specs.FrameLayout.{longestPdu}
 use Rattle.model.specs.Registrations.{AddressAct, AddressReading, refusedFrame, addressActs}
 use Rattle.model.specs.Frames.{threeLength, vectorEnd, vectorHead, event, threePacked}
-use Rattle.model.specs.AddressFrames.{AddressList, macs, firstOctets, runsOut, overruns, addressVectorIn, AddressVector, addressVectorAt, addressOf, addressValues, allAddresses, addressVectorActs, listActs, thenList, addresses, afterList, addressMessages, addressWalk}
+use Rattle.model.specs.AddressFrames.{AddressList, macs, firstOctets, overruns, addressVectorIn, AddressVector, addressVectorAt, addressOf, addressValues, allAddresses, addressVectorActs, listActs, addresses, addressMessages, addressWalk}
 use Rattle.model.proofs.FoundVectors.{passed}
 use Rattle.model.proofs.FoundAddresses.{address-faults, no-refusal, no-list-fault, then-list, after-list, passed-addresses, each-within}
-use Rattle.msrpdu.specs.Reader.{headOf, vectorMeant, firstPart, valueIn, eventMeant, eventIn}
+use Rattle.msrpdu.specs.Reader.{headOf, eventMeant, eventIn}
 use Rattle.msrpdu.specs.declared.VectorHead.{VectorHead}
 use Rattle.msrpdu.specs.declared.VectorRead.the-variants as vector
 use Rattle.msrpdu.specs.declared.ValueRead.the-variants.{Value}
