@@ -19,6 +19,7 @@ pub mod ColumnRule
 pub mod OneSolution
 pub mod Borrowing
 pub mod ReceiveKeepsForm
+pub mod Addresses
 pub mod AdvanceKeepsForm
 pub mod ReadBack
 pub mod Versions

@@ -385,6 +385,7 @@ module _ (clock leaveTime : ℕ) (leaves : 1 ≤ leaveTime) where
   own-valid a h o v = record {
     slotted = domains-slotted clock a (o .domains) ∙ v .slotted;
     domains = domains-valid a h (o .domains) (v .domains);
+    addresses = v .addresses;
   }
 
 -- what eight ports hold, and nothing behind the bridge's
