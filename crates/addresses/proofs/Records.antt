@@ -13,13 +13,14 @@ use Rattle.octets.proofs.Fields.{length-packed-any, get-field, get-octet}
 use Rattle.octets.proofs.Patches.{lent-patch, patch-between}
 use Rattle.model.specs.Layout.{addressIn, addressSize, addressWidths, addresses, addressesPlace, boundaryWidths, heldPlace, heldWidths, inAddress, macPlace}
 use Rattle.model.specs.Lists.{All, bit}
-use Rattle.model.specs.State.{Address, Own}
+use Rattle.model.specs.State.{Presence, vacant, present, Address, Own}
 use Rattle.model.specs.Registrations.{at, changeAddresses, macs}
 use Rattle.model.specs.Table.{presenceNumbers, addressNumbers, addressOctets, toAddress, domainOctets, ownOctets, addressesHeld, toOwn}
 use Rattle.model.specs.Laid.{FitAddresses, FitOwn, LaidAddress, LaidOwn}
-use Rattle.model.proofs.Lists.{all-at, all-each, length-at}
+use Rattle.model.proofs.Lists.{all-at, length-at}
 use Rattle.model.proofs.Parts.{Sized, length-parts}
-use Rattle.model.proofs.Owns.{slots-length, address-length, address-fit-back}
+use Rattle.model.proofs.Addresses.{address-length, address-back, addresses-sized}
+use Rattle.model.proofs.Owns.{slots-length}
 use Rattle.table.specs.Reads.{Reads}
 use Rattle.table.proofs.Lens.{part-one, patch-one}
 use Rattle.table.proofs.StreamParts.{at-set}
@@ -85,9 +86,6 @@ module _ (o : Own) (f : FitOwn o) where
       ∙ patch-between (ds ++ fs) (be 1 n ++ []) r (be 1 m) heldPlace 1 place (held-length n)
       ∙ simp (append-assoc, append-nil)
 
-  pub sized : (l : List Address) → All (Sized addressSize addressOctets) l
-  sized = all-each (Sized addressSize addressOctets) address-length
-
   module _ (k : ℕ) (h : k < length (o .addresses)) where
     abbrev pub there : Address
     there = getD (o .addresses) k (vacantAt 0)
@@ -96,13 +94,13 @@ module _ (o : Own) (f : FitOwn o) where
     address-part =
         ap (part (addressIn k) addressSize) (own-same o ∙ own-split o (λ l. l))
         ∙ part-one addressSize addressOctets addressesPlace (front o (length (o .addresses))) (unused (length (o .addresses))) (front-length (length (o .addresses)))
-        (o .addresses) (sized (o .addresses)) k (addressIn k) h refl (vacantAt 0)
+        (o .addresses) (addresses-sized (o .addresses)) k (addressIn k) h refl (vacantAt 0)
 
     pub address-patch : (u : Address → Address) → patch (addressIn k) addressSize (addressOctets (u there)) (ownOctets o) ≡ ownOctets (changeAddresses (at k u) o)
     address-patch u =
         let n = length (o .addresses) in
         ap (patch (addressIn k) addressSize (addressOctets (u there))) (own-same o ∙ own-split o (λ l. l))
-        ∙ patch-one addressSize addressOctets addressesPlace (front o n) (unused n) (front-length n) (o .addresses) (sized (o .addresses)) k (addressIn k) h refl (u there)
+        ∙ patch-one addressSize addressOctets addressesPlace (front o n) (unused n) (front-length n) (o .addresses) (addresses-sized (o .addresses)) k (addressIn k) h refl (u there)
         ∙ sym (own-split o (at k u) ∙ rw (length-at k u (o .addresses), ← at-set k u (o .addresses) (vacantAt 0) h))
 
     pub address-fits : FitAddress there
@@ -124,7 +122,7 @@ module _ (o : Own) (f : FitOwn o) (s : List ℕ) (e : s ≡ ownOctets o) (k : �
       record {
         size = ap length q ∙ address-length a;
         laid = record { thing = a; fits = address-fits o f k h; is = q };
-        is = ap toAddress q ∙ address-fit-back a (address-fits o f k h);
+        is = ap toAddress q ∙ address-back a (address-fits o f k h);
       }
 
   pub left-address : (u : Address → Address) (y : List ℕ) → y ≡ addressOctets (u (toAddress (take (addressIn k + addressSize - addressIn k) (drop (addressIn k) s))))
@@ -137,7 +135,7 @@ module _ (o : Own) (f : FitOwn o) (s : List ℕ) (e : s ≡ ownOctets o) (k : �
 
   -- its address, and the octet that says whether it is registered
   pub mac-read : beAt 6 s (addressIn k + macPlace) ≡ getD (macs (o .addresses)) k 0
-  unfolding macs vacantAt addressOctets width
+  unfolding macs vacantAt addressOctets addressNumbers presenceNumbers width
   mac-read =
       let a = there o f k h in
       sym (beAt-part 6 (addressIn k) addressSize macPlace s (omega arith))
@@ -147,7 +145,11 @@ module _ (o : Own) (f : FitOwn o) (s : List ℕ) (e : s ≡ ownOctets o) (k : �
       ∙ sym (List·getD-map (λ (x : Address). x .mac) (o .addresses) k (vacantAt 0))
     where
       mac-number : (a : Address) → getD (addressNumbers a) (inAddress .mac) 0 ≡ a .mac
-      mac-number a = {! !}
+      mac-number a = go (a .presence)
+        where
+          go : (p : Presence) → getD (presenceNumbers p ++ (a .mac ∷ [])) (inAddress .mac) 0 ≡ a .mac
+          go vacant = refl
+          go (present l) = refl
 
   pub registered-read : getD s (addressIn k) 0 ≡ getD (addressNumbers (there o f k h)) (inAddress .registered) 0
   unfolding addressOctets width

@@ -1,12 +1,11 @@
 -- Room for the addresses that a frame joins, before it is applied: a vacant one for each that is not held.
 use mathlib.Core.List.{List, [], _∷_, _++_}
 use mathlib.Core.Bool.{Bool, true, false, cond}
-use Prim.Native.Nat.{ℕ, suc}
+use Prim.Native.Nat.{ℕ, suc, _+_}
 use lib.ListN.{take, drop}
-use lib.Dec.{ltb, eqb}
+use lib.Dec.{ltb, leb, eqb}
 use Rattle.model.specs.Lists.{keep}
-use Rattle.model.specs.State.{Settings, Leaving, Presence, vacant, present, Address}
-use Rattle.model.specs.Settling.{expired}
+use Rattle.model.specs.State.{Leaving, stays, since, Presence, vacant, present, Address}
 
 unfoldable pub vacantAt : ℕ → Address
 vacantAt m = record { mac = m; presence = vacant }
@@ -32,9 +31,10 @@ presentOnly [] = []
 presentOnly (a ∷ l) = keep (isHeld (a .presence)) a (presentOnly l)
 
 -- one that has been leaving for the leave time is vacant
-unfoldable pub lapsePresence : Settings → ℕ → Presence → Presence
-lapsePresence st now vacant = vacant
-lapsePresence st now (present l) = cond (expired st now l) vacant (present l)
+unfoldable pub lapsePresence : ℕ → ℕ → Presence → Presence
+lapsePresence leave now vacant = vacant
+lapsePresence leave now (present stays) = present stays
+lapsePresence leave now (present (since t)) = cond (leb (t + leave) now) vacant (present (since t))
 
-unfoldable pub lapseAddress : Settings → ℕ → Address → Address
-lapseAddress st now a = record { mac = a .mac; presence = lapsePresence st now (a .presence) }
+unfoldable pub lapseAddress : ℕ → ℕ → Address → Address
+lapseAddress leave now a = record { mac = a .mac; presence = lapsePresence leave now (a .presence) }

@@ -4,14 +4,14 @@ ghost use mathlib.Core.Path.{_≡_};
 ghost use mathlib.Core.List.{map};
 ghost use Prim.Native.Nat.{_<_, _≤_};
 ghost use lib.ListN.{length};
-ghost use Rattle.model.specs.Layout.{addresses, addressSize};
+ghost use Rattle.model.specs.Layout.{addresses, addressSize, ownSize};
 ghost use Rattle.model.specs.State.{Settings};
 ghost use Rattle.model.specs.Registrations.{changeAddresses, macs, quitAddress, withLeft};
 ghost use Rattle.model.specs.Settling.{holdsAddress, remainAddresses};
 ghost use Rattle.model.specs.Table.{addressOctets, toAddress, ownOctets, toOwn};
-ghost use Rattle.model.specs.Laid.{LaidAddress};
+ghost use Rattle.model.specs.Laid.{LaidAddress, LaidOwn};
 ghost use Rattle.table.specs.Find.{foundAt};
-ghost use Rattle.addresses.specs.Held.{OwnGiven, AddressIn, RoomAt};
+ghost use Rattle.addresses.specs.Held.{AddressIn, RoomAt};
 ghost use Rattle.addresses.specs.Room.{presentOnly, lapseAddress, putIn, takenOut};
 use table::address::LEAVES;
 use table::address::MAC;
@@ -26,7 +26,7 @@ const PRESENCE: usize = MAC;
 
 // The number of addresses held.
 fn count(own: &[u8]) -> usize
-    requires { ⌜ OwnGiven (now own) ⌝ }
+    requires { ⌜ LaidOwn (now own) × (length (now own) ≡ ownSize) ⌝ }
     ensures { λ r. ⌜ (r ≡ length (toOwn (now (own .entry)) .addresses)) × (r ≤ addresses) ⌝ }
 {
     own[ADDRESSES_HELD] as usize
@@ -34,7 +34,7 @@ fn count(own: &[u8]) -> usize
 
 // The place of an address, or where it would stand.
 fn find(own: &[u8], mac: u64) -> Found
-    requires { ⌜ OwnGiven (now own) ⌝ }
+    requires { ⌜ LaidOwn (now own) × (length (now own) ≡ ownSize) ⌝ }
     ensures { λ r. ⌜ r ≡ foundAt mac 0 (macs (toOwn (now (own .entry)) .addresses)) ⌝ }
 {
     let held = count(own);
@@ -54,7 +54,7 @@ fn find(own: &[u8], mac: u64) -> Found
 
 // Whether the port holds an address, leaving ones included.
 pub fn holds(own: &[u8], mac: u64) -> bool
-    requires { ⌜ OwnGiven (now own) ⌝ }
+    requires { ⌜ LaidOwn (now own) × (length (now own) ≡ ownSize) ⌝ }
     ensures { λ r. ⌜ r ≡ holdsAddress mac (toOwn (now (own .entry)) .addresses) ⌝ }
 {
     let Found::At(_) = find(own, mac) else {
@@ -99,7 +99,7 @@ fn quit(address: &mut [u8], clock: u32)
 
 // LeaveAll: each address begins to leave.
 fn leave_all(own: &mut [u8], clock: u32)
-    requires { ⌜ OwnGiven (now own) ⌝ }
+    requires { ⌜ LaidOwn (now own) × (length (now own) ≡ ownSize) ⌝ }
     ensures { λ _. ⌜ now (own .exit) ≡ ownOctets (changeAddresses (map (quitAddress clock)) (toOwn (now (own .entry)))) ⌝ }
 {
     let held = count(own);
@@ -113,7 +113,7 @@ fn leave_all(own: &mut [u8], clock: u32)
 
 // Lv of an address, where it is held.
 fn leave(own: &mut [u8], mac: u64, clock: u32)
-    requires { ⌜ OwnGiven (now own) ⌝ }
+    requires { ⌜ LaidOwn (now own) × (length (now own) ≡ ownSize) ⌝ }
     ensures { λ _. ⌜ now (own .exit) ≡ ownOctets (changeAddresses (withLeft clock mac) (toOwn (now (own .entry)))) ⌝ }
 {
     let Found::At(k) = find(own, mac) else {
@@ -125,8 +125,8 @@ fn leave(own: &mut [u8], mac: u64, clock: u32)
 
 // Each address that has been leaving for at least the leave time made vacant.
 fn lapse_all(own: &mut [u8], leave: u32, time: u32)
-    requires { ⌜ OwnGiven (now own) ⌝ }
-    ensures { λ _. ⌜ ((st : Settings) → st .leaveTime ≡ leave → now (own .exit) ≡ ownOctets (changeAddresses (map (lapseAddress st time)) (toOwn (now (own .entry))))) ⌝ }
+    requires { ⌜ LaidOwn (now own) × (length (now own) ≡ ownSize) ⌝ }
+    ensures { λ _. ⌜ now (own .exit) ≡ ownOctets (changeAddresses (map (lapseAddress leave time)) (toOwn (now (own .entry)))) ⌝ }
 {
     let held = count(own);
     let mut k: usize = 0;
@@ -139,7 +139,7 @@ fn lapse_all(own: &mut [u8], leave: u32, time: u32)
 
 // The vacant ones taken out, the last first.
 fn drop_vacant(own: &mut [u8])
-    requires { ⌜ OwnGiven (now own) ⌝ }
+    requires { ⌜ LaidOwn (now own) × (length (now own) ≡ ownSize) ⌝ }
     ensures { λ _. ⌜ now (own .exit) ≡ ownOctets (changeAddresses presentOnly (toOwn (now (own .entry)))) ⌝ }
 {
     let mut k = count(own);
@@ -152,8 +152,8 @@ fn drop_vacant(own: &mut [u8])
 }
 
 // Removes the addresses that have been leaving for at least the leave time.
-pub fn expire(own: &mut [u8], time: u32, leave: u32)
-    requires { ⌜ OwnGiven (now own) ⌝ }
+pub fn expire(own: &mut [u8], leave: u32, time: u32)
+    requires { ⌜ LaidOwn (now own) × (length (now own) ≡ ownSize) ⌝ }
     ensures { λ _. ⌜ ((st : Settings) → st .leaveTime ≡ leave → now (own .exit) ≡ ownOctets (changeAddresses (remainAddresses st time) (toOwn (now (own .entry))))) ⌝ }
 {
     lapse_all(own, leave, time);
