@@ -4,10 +4,10 @@
 use mathlib.Core.Path.{_≡_, refl, sym, _∙_, ap, subst}
 use mathlib.Core.List.{List, [], _∷_, _++_}
 use mathlib.Core.Bool.{Bool, true, false, cond}
-use Prim.Native.Nat.{ℕ, zero, suc, _-_, _≤_, _<_}
+use Prim.Native.Nat.{ℕ, _-_, _≤_, _<_}
 use native.Mathlib.Omega.{arith}
 use native.Mathlib.Decide.{ℕ-discrete}
-use lib.ListN.{length, getD}
+use lib.ListN.{length}
 use lib.Dec.{leb}
 use borrow.Author.Tests.{le-leb}
 use Rattle.model.specs.Layout.{addresses}
@@ -18,7 +18,7 @@ use Rattle.model.specs.Frames.{reading, wrongPort}
 use Rattle.model.specs.AddressFrames.{addressWalk, addressReading}
 use Rattle.model.specs.Table.{decode, formed}
 use Rattle.model.specs.Calls.{receive, receiveMmrp, Frame, msrp, mmrp, receiveFrame, answersOn, afterOn, addressesBy, askedAddresses}
-use Rattle.model.proofs.Lists.{at-each, at-other, on-same, on-other}
+use Rattle.model.proofs.Lists.{at-here, at-each, at-other, on-same, on-other}
 use Rattle.model.proofs.Valid.{Valid}
 use Rattle.model.proofs.ReceiveKeepsForm.{right-port}
 use Rattle.model.proofs.FrameOrder.{afterFrames, frameAnswers, frame-unchanged, after-settings, frame-settings, places-apart, first-fits, together-append}
@@ -62,13 +62,6 @@ msrp-addresses b p pdu q = go (reading (b .settings) p pdu)
         either : (t : Bool) → ownAt (cond {A = Answer} t record { number = 0; bridge = c } record { number = 8; bridge = b } .bridge .own) q .addresses ≡ ownAt (b .own) q .addresses
         either true = unfold holding owning in (acts-addresses (b .clock) (p - 1) es (b .own) q)
         either false = refl
-
--- what stands at a place that is changed
-at-here : {A : Type 0} (p : ℕ) (u : A → A) (l : List A) (d : A) → p < length l → getD (at p u l) p d ≡ u (getD l p d)
-unfolding at
-at-here p u [] d h = absurd (omega arith)
-at-here zero u (x ∷ l) d h = refl
-at-here (suc p) u (x ∷ l) d h = at-here p u l d (omega arith)
 
 -- A frame of port p that finds room there gives no 14, and joins what it asks for.
 
