@@ -4,3 +4,4 @@ pub mod Values
 pub mod Searching
 pub mod Keeps
 pub mod Loops
+pub mod MadeRoom
