@@ -22,7 +22,7 @@ use Rattle.model.proofs.Refusals.{cond-either, ListFaults, vector-fault
 
 -- The numbers: 2 to 7.
 
-abbrev Within : AddressReading → Type 0
+abbrev pub Within : AddressReading → Type 0
 Within (refusedFrame n) = (3 ≤ n) × (n ≤ 7)
 Within (addressActs es) = Unit {0}
 
@@ -92,7 +92,7 @@ messages-from-within version s at (badHeader n) rest h g = h
 messages-from-within version s at noMessage rest h g = tt
 messages-from-within version s at (listOf t) rest h g = after-within _ rest (addresses-within (suc (length s)) version t s (at + 2)) g
 
-messages-within : (f version : ℕ) (s : List ℕ) (at : ℕ) → Within (addressMessages f version s at)
+pub messages-within : (f version : ℕ) (s : List ℕ) (at : ℕ) → Within (addressMessages f version s at)
 unfolding addressMessages
 messages-within zero version s at = (omega arith, omega arith)
 messages-within (suc f) version s at =

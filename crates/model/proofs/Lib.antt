@@ -12,6 +12,7 @@ pub mod Fits
 pub mod Arrivals
 pub mod Commute
 pub mod FoundVectors
+pub mod ReceivedAddresses
 pub mod FrameOrder
 pub mod Admission
 pub mod Importance
@@ -27,6 +28,8 @@ pub mod CutOut
 pub mod WritingPasses
 pub mod Refusals
 pub mod FoundAddresses
+pub mod AddressesKept
+pub mod AddressRefusals
 pub mod Edge
 pub mod OwnCodes
 pub mod Boundaries
