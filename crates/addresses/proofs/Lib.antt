@@ -4,4 +4,3 @@ pub mod Values
 pub mod Searching
 pub mod Keeps
 pub mod Loops
-pub mod MadeRoom
