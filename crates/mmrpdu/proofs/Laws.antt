@@ -6,21 +6,20 @@ use Prim.Native.Nat.{ℕ, zero, suc, _+_, _-_, _%_, _≤_, _<_, _^_}
 use native.Mathlib.Omega.{arith}
 use lib.ListN.{length, getD}
 use lib.Dec.{ltb, eqb}
-use borrow.Author.Tests.{lt-ltb, le-ltb, le-leb, eq-eqb, ne-eqb, ltb-false}
+use borrow.Author.Tests.{lt-ltb, le-ltb, le-leb, eq-eqb, ne-eqb}
 use Rattle.octets.specs.Be.{beAt}
 use Rattle.octets.specs.Parts.{part}
 use Rattle.octets.proofs.Parts.{length-part}
 use Rattle.model.specs.FrameLayout.{macLength, serviceLength}
 use Rattle.model.specs.Frames.{vectorEnd, InList, badVector, listEnd, vectorHead, passedOver, vectorIn, endMark}
 use Rattle.model.specs.AddressFrames.{AddressList, services, macs, unknowns, firstOctets, InAddressPdu, badHeader, noMessage, listOf, addressHeader, addressMessageIn, runsOut, overruns, addressesChecked, addressVectorIn}
-use Rattle.model.proofs.FoundVectors.{passed, fitting, passing-over}
-use Rattle.model.proofs.FoundAddresses.{passed-addresses, over-addresses}
+use Rattle.model.proofs.FoundVectors.{fitting}
 use Rattle.msrpdu.specs.Reader.{headOf, vectorMeant, vectorRead, firstPart}
 use Rattle.msrpdu.specs.declared.VectorHead.{VectorHead}
 use Rattle.msrpdu.specs.declared.VectorRead.{VectorRead}
 use Rattle.msrpdu.specs.declared.VectorRead.the-variants as vector
 use Rattle.msrpdu.proofs.Laws.{mark-short, mark-other}
-use Rattle.msrpdu.proofs.Reading.{Headed, read-head, read-end, read-over, first-here}
+use Rattle.msrpdu.proofs.Reading.{Headed, read-head, first-here}
 use Rattle.mmrpdu.specs.Reader.{listNamed, headerNumber, messageMeant, messageRead, typedRead}
 use Rattle.mmrpdu.specs.declared.MessageRead.the-variants as message
 
@@ -44,6 +43,14 @@ overruns-any (suc zero) a b first n = refl
 overruns-any (suc (suc zero)) a b first n = refl
 overruns-any (suc (suc (suc kind))) a b first n = refl
 
+-- any other type has the octets that it is named with
+pub other-octets : (kind octets : ℕ) → (kind ≡ 1 → ⊥) → (kind ≡ 2 → ⊥) → firstOctets (listNamed kind octets) ≡ octets
+unfolding listNamed firstOctets
+other-octets zero octets p q = refl
+other-octets (suc zero) octets p q = absurd (p refl)
+other-octets (suc (suc zero)) octets p q = absurd (q refl)
+other-octets (suc (suc (suc kind))) octets p q = refl
+
 -- A Message's type and AttributeLength.
 
 module _ (version kind octets : ℕ) (p : 2 < kind) where
@@ -55,9 +62,11 @@ module _ (version kind octets : ℕ) (p : 2 < kind) where
   unfolding headerNumber addressHeader
   strange-list e = rw (above kind p, ne-eqb _ _ e)
 
-  pub strange-octets : firstOctets (listNamed kind octets) ≡ octets
-  unfolding firstOctets listNamed
-  strange-octets = rw (above kind p)
+-- a known type, with its AttributeLength or another
+known : (t : AddressList) (b : Bool) → headerNumber (cond b (listOf t) (badHeader 5)) ≡ 0 → cond b (listOf t) (badHeader 5) ≡ listOf t
+unfolding headerNumber
+known t true h = refl
+known t false h = absurd (omega arith)
 
 -- where they are in order, the list is the one that they name
 pub header-listed : (version kind octets : ℕ) → headerNumber (addressHeader version kind octets) ≡ 0
@@ -65,15 +74,7 @@ pub header-listed : (version kind octets : ℕ) → headerNumber (addressHeader 
 unfolding headerNumber addressHeader listNamed
 header-listed version zero octets e = absurd (omega arith)
 header-listed version (suc zero) octets e = known services (eqb octets serviceLength) e
-  where
-    known : (t : AddressList) (b : Bool) → headerNumber (cond b (listOf t) (badHeader 5)) ≡ 0 → cond b (listOf t) (badHeader 5) ≡ listOf t
-    known t true h = refl
-    known t false h = absurd (omega arith)
 header-listed version (suc (suc zero)) octets e = known macs (eqb octets macLength) e
-  where
-    known : (t : AddressList) (b : Bool) → headerNumber (cond b (listOf t) (badHeader 5)) ≡ 0 → cond b (listOf t) (badHeader 5) ≡ listOf t
-    known t true h = refl
-    known t false h = absurd (omega arith)
 header-listed version (suc (suc (suc kind))) octets e = newer (eqb version 0) e
   where
     newer : (b : Bool) → headerNumber (cond b (badHeader 4) (listOf (unknowns octets))) ≡ 0 → cond b (badHeader 4) (listOf (unknowns octets)) ≡ listOf (unknowns octets)
@@ -188,3 +189,10 @@ none-out (unknowns octets) first n e = refl
 pub some-out : (octets : ℕ) (first : List ℕ) (n x : ℕ) → (n ≡ 0 → ⊥) → x ≡ beAt octets first 0 → runsOut octets first n ≡ ltb (256 ^ octets - 1) (x + (n - 1))
 unfolding runsOut
 some-out octets first n x p e = rw (ne-eqb _ _ p, ← e)
+
+pub other-out : (kind octets : ℕ) (first : List ℕ) (n : ℕ) → (kind ≡ 1 → ⊥) → (kind ≡ 2 → ⊥) → overruns (listNamed kind octets) first n ≡ false
+unfolding listNamed overruns
+other-out zero octets first n p q = refl
+other-out (suc zero) octets first n p q = absurd (p refl)
+other-out (suc (suc zero)) octets first n p q = absurd (q refl)
+other-out (suc (suc (suc kind))) octets first n p q = refl

@@ -1,9 +1,9 @@
 -- The reader's steps are those of the walk: what `addresses` and `addressMessages` give from a place on, by what is read there.
 -- Assumes nothing.
-use mathlib.Core.Path.{_≡_, refl, sym, ap, subst, _∙_}
+use mathlib.Core.Path.{_≡_, refl, sym, ap, _∙_}
 use mathlib.Core.List.{List, [], _++_}
-use mathlib.Core.Bool.{Bool, true, false, cond}
-use Prim.Native.Nat.{ℕ, zero, suc, _+_, _-_, _≤_, _<_}
+use mathlib.Core.Bool.{Bool, true, false}
+use Prim.Native.Nat.{ℕ, suc, _+_, _-_, _≤_, _<_}
 use native.Mathlib.Omega.{arith}
 use lib.ListN.{length, getD}
 use lib.Dec.{ltb, eqb}
@@ -11,7 +11,7 @@ use borrow.Author.Tests.{lt-ltb, le-ltb, eq-eqb, ne-eqb, ltb-false}
 use Rattle.octets.specs.Be.{beAt}
 use Rattle.model.specs.FrameLayout.{longestPdu}
 use Rattle.model.specs.Registrations.{AddressAct, AddressReading, refusedFrame, addressActs}
-use Rattle.model.specs.Frames.{vectorEnd, InList, badVector, listEnd, vectorHead, passedOver, vectorIn, endMark}
+use Rattle.model.specs.Frames.{vectorEnd, badVector, listEnd, vectorIn, endMark}
 use Rattle.model.specs.AddressFrames.{AddressList, firstOctets, InAddressPdu, badHeader, noMessage, listOf, addressHeader, addressMessageIn, addressesChecked, addressVectorIn, addressVectorAt, addressVectorActs, ListWalk, listFault, listActs, thenList, addressesFrom, addresses, thenFrame, afterList, addressMessagesFrom, addressMessages, addressWalk}
 use Rattle.model.proofs.FoundVectors.{passed, passing-over}
 use Rattle.model.proofs.FoundAddresses.{passed-addresses, over-addresses}

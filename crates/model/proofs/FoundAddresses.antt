@@ -1,30 +1,28 @@
 -- What holds of every MMRP frame that is read: the numbers that it may be refused with, and that each address asked for is one of
 -- 48 bits; and what the walk gives, by its parts.
-use mathlib.Core.Path.{_≡_, refl, sym, ap, subst, _∙_}
-use mathlib.Core.List.{List, [], _∷_, _++_}
-use mathlib.Core.Bool.{Bool, true, false, cond, not, _&&_}
+use mathlib.Core.Path.{_≡_, refl, ap, subst, _∙_}
+use mathlib.Core.List.{List, _++_}
+use mathlib.Core.Bool.{Bool, true, false, not}
 use Prim.Native.Nat.{ℕ, zero, suc, _+_, _-_, _%_, _^_, _≤_, _<_}
 use native.Mathlib.Omega.{arith}
 use lib.ListN.{length, getD}
 use lib.Dec.{ltb, eqb}
-use borrow.Author.Tests.{ltb-false, eqb-false, ne-eqb}
+use borrow.Author.Tests.{ltb-false, ne-eqb}
 use Rattle.octets.specs.Be.{beAt}
 use Rattle.octets.specs.Parts.{part}
-use Rattle.octets.proofs.Parts.{length-part}
 use Rattle.model.specs.FrameLayout.{longestPdu, macLength, serviceLength}
-use Rattle.model.specs.Lists.{All, Octets}
+use Rattle.model.specs.Lists.{All}
 use Rattle.model.specs.State.{Settings}
 use Rattle.model.specs.Registrations.{AddressAct, leaveAllAddresses, leaveAddress, joinAddress, AddressReading, refusedFrame, addressActs}
-use Rattle.model.specs.Frames.{threeLength, vectorEnd, InList, badVector, listEnd, vectorHead, passedOver, vectorIn, endMark, overpacked, Asking, nothingAsked, join, withdraw, wrongPort}
+use Rattle.model.specs.Frames.{InList, badVector, listEnd, vectorHead, passedOver, vectorIn, endMark, Asking, nothingAsked, join, withdraw, wrongPort}
 use Rattle.model.specs.AddressFrames.{AddressList, services, macs, unknowns, firstOctets, InAddressPdu, badHeader, noMessage, listOf, addressHeader, addressMessageIn, runsOut, overruns, addressesChecked, addressVectorIn, AddressVector, addressVectorAt, addressOf, addressAct, addressAsking, addressValues, allAddresses, addressVectorActs, ListWalk, listFault, listActs, thenList, addressesFrom, addresses, thenFrame, afterList, addressMessagesFrom, addressMessages, addressWalk, addressReading}
 use Rattle.model.proofs.Lists.{all-append}
-use Rattle.model.proofs.Parts.{octets-part}
-use Rattle.model.proofs.FoundVectors.{beAt-below-width, passed, bad-vector, no-end, bad-over, end-over, Fitting, fitting}
+use Rattle.model.proofs.FoundVectors.{passed, bad-vector, no-end, bad-over, Fitting, fitting}
 use Rattle.model.proofs.Refusals.{cond-either, ListFaults, vector-faults}
 
 -- The numbers: 2 to 7.
 
-abbrev Within : AddressReading → Type 0
+abbrev pub Within : AddressReading → Type 0
 Within (refusedFrame n) = (3 ≤ n) × (n ≤ 7)
 Within (addressActs es) = Unit {0}
 
@@ -94,7 +92,7 @@ messages-from-within version s at (badHeader n) rest h g = h
 messages-from-within version s at noMessage rest h g = tt
 messages-from-within version s at (listOf t) rest h g = after-within _ rest (addresses-within (suc (length s)) version t s (at + 2)) g
 
-messages-within : (f version : ℕ) (s : List ℕ) (at : ℕ) → Within (addressMessages f version s at)
+pub messages-within : (f version : ℕ) (s : List ℕ) (at : ℕ) → Within (addressMessages f version s at)
 unfolding addressMessages
 messages-within zero version s at = (omega arith, omega arith)
 messages-within (suc f) version s at =

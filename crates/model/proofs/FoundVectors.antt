@@ -24,7 +24,7 @@ use Rattle.octets.proofs.Fields.{beAt-fits}
 use Rattle.model.proofs.Valid.{ValidFixed, ValidHealth, ValidVarying}
 
 -- the number in the octets at a place
-pub beAt-below-width : (n : ℕ) (s : List ℕ) (at : ℕ) → Octets s → beAt n s at < 256 ^ n
+beAt-below-width : (n : ℕ) (s : List ℕ) (at : ℕ) → Octets s → beAt n s at < 256 ^ n
 beAt-below-width n s at o = beAt-fits n s at (octets-at s o)
 
 -- A test over all vectors of a walk.
@@ -190,7 +190,7 @@ pub record PassedOver (version first : ℕ) (four : Bool) (l : List ℕ) (at h :
   pub fits : vectorEnd first four at h ≤ length l
   pub strange : (strangeLeave h || overpacked (part (at + 2 + first) (threeLength (h % 8192)) l)) ≡ true
 
-pub end-over : (h : ℕ) → listEnd ≡ passedOver h → ⊥
+end-over : (h : ℕ) → listEnd ≡ passedOver h → ⊥
 end-over h e = let z : _≡_ {A = ℕ} 0 1 = cc in omega arith
 
 pub bad-over : (n h : ℕ) → badVector n ≡ passedOver h → ⊥

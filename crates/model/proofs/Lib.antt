@@ -12,6 +12,7 @@ pub mod Fits
 pub mod Arrivals
 pub mod Commute
 pub mod FoundVectors
+pub mod ReceivedAddresses
 pub mod FrameOrder
 pub mod Admission
 pub mod Importance
@@ -27,10 +28,13 @@ pub mod CutOut
 pub mod WritingPasses
 pub mod Refusals
 pub mod FoundAddresses
+pub mod AddressesKept
+pub mod AddressRefusals
 pub mod Edge
 pub mod OwnCodes
 pub mod Boundaries
 pub mod Growth
+pub mod Pruning
 pub mod FanIn
 pub mod Untouched
 pub mod Newcomer
@@ -38,3 +42,4 @@ pub mod Opened
 pub mod Examples
 pub mod FormKept
 pub mod Demand3
+pub mod AddressRoom

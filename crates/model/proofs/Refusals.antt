@@ -44,7 +44,7 @@ module _ {A B : Type 0} (f : A → B) where
 -- Refusals alter nothing.
 
 -- start, receive and advance leave the table
-Unaltered : List ℕ → Call → Type 0
+unfoldable pub Unaltered : List ℕ → Call → Type 0
 Unaltered t c = (c .number ≡ 0 → ⊥) → c .table ≡ t
 
 pub start-refused : (t s : List ℕ) → (startOn t s .number ≡ 0 → ⊥) → startOn t s .table ≡ t
@@ -53,7 +53,7 @@ start-refused t s =
     cond-either (Unaltered t) (not (eqb (length t) tableLength)) _ _ (λ n. refl)
     (cond-either (Unaltered t) (not (settingsFormed s)) _ _ (λ n. refl) (λ n. absurd (n refl)))
 
-on-table-refused : (t : List ℕ) (f : Bridge → Answer) → Unaltered t (onTable t f)
+pub on-table-refused : (t : List ℕ) (f : Bridge → Answer) → Unaltered t (onTable t f)
 unfolding onTable leaves Unaltered
 on-table-refused t f =
     cond-either (Unaltered t) (formed t) _ _
@@ -123,16 +123,16 @@ is-equal a b = (eqb-true a b, eq-eqb a b)
 is-other : (a b : ℕ) → (eqb a b ≡ false) ↔ (a ≡ b → ⊥)
 is-other a b = (eqb-false a b, ne-eqb a b)
 
-is-below : (a b : ℕ) → (ltb a b ≡ true) ↔ (a < b)
+pub is-below : (a b : ℕ) → (ltb a b ≡ true) ↔ (a < b)
 is-below a b = (ltb-true a b, lt-ltb a b)
 
-is-at-least : (a b : ℕ) → (ltb a b ≡ false) ↔ (b ≤ a)
+pub is-at-least : (a b : ℕ) → (ltb a b ≡ false) ↔ (b ≤ a)
 is-at-least a b = (ltb-false a b, le-ltb a b)
 
 -- a test with its number m, before all else that may be answered: m is given exactly when the test holds, if nothing after it
 -- gives m; another number is given exactly when the test does not hold and what comes after it gives that number
 module _ (b : Bool) (m r : ℕ) where
-  given : (P : Type 0) → (r ≡ m → ⊥) → (b ≡ true) ↔ P → (cond b m r ≡ m) ↔ P
+  pub given : (P : Type 0) → (r ≡ m → ⊥) → (b ≡ true) ↔ P → (cond b m r ≡ m) ↔ P
   given P n i = Iff·trans (go b) i
     where
       go : (a : Bool) → (cond a m r ≡ m) ↔ (a ≡ true)
@@ -146,11 +146,11 @@ module _ (b : Bool) (m r : ℕ) where
       go true = (λ e. absurd (h e), λ a. absurd (true≢false (a .0)))
       go false = (λ e. (refl, e), λ a. a .1)
 
-  not-given : (n : ℕ) → (m ≡ n → ⊥) → (r ≡ n → ⊥) → cond b m r ≡ n → ⊥
+  pub not-given : (n : ℕ) → (m ≡ n → ⊥) → (r ≡ n → ⊥) → cond b m r ≡ n → ⊥
   not-given n h k = cond-either (λ (x : ℕ). x ≡ n → ⊥) b m r h k
 
 -- where a test is the last, 0 is given exactly when it does not hold
-last : (b : Bool) (m : ℕ) {P : Type 0} → (m ≡ 0 → ⊥) → (b ≡ false) ↔ P → (cond b m 0 ≡ 0) ↔ P
+pub last : (b : Bool) (m : ℕ) {P : Type 0} → (m ≡ 0 → ⊥) → (b ≡ false) ↔ P → (cond b m 0 ≡ 0) ↔ P
 last true m n i = (λ e. absurd (n e), λ a. absurd (true≢false (i .1 a)))
 last false m n i = (λ e. i .0 refl, λ a. refl)
 
@@ -213,26 +213,26 @@ wrong-port st p = go (eqb p 0) (ltb (length (st .ports)) p) (is-equal p 0) (is-b
 abbrev pub OnPort : List ℕ → ℕ → Type 0
 OnPort t p = (formed t ≡ true) × (wrongPort (decode t .settings) p ≡ false)
 
-fronted : List ℕ → ℕ → ℕ → ℕ
+unfoldable pub fronted : List ℕ → ℕ → ℕ → ℕ
 fronted t p r = cond (not (formed t)) 12 (cond (wrongPort (decode t .settings) p) 1 r)
 
 module _ (t : List ℕ) (p r : ℕ) where
-  fronted-12 : (r ≡ 12 → ⊥) → (fronted t p r ≡ 12) ↔ (formed t ≡ false)
+  pub fronted-12 : (r ≡ 12 → ⊥) → (fronted t p r ≡ 12) ↔ (formed t ≡ false)
   unfolding fronted
   fronted-12 n = given _ 12 _ _ (not-given (wrongPort (decode t .settings) p) 1 r 12 (λ e. omega arith) n) (is-not (formed t))
 
-  fronted-1 : (r ≡ 1 → ⊥) → (fronted t p r ≡ 1) ↔ ((formed t ≡ true) × (wrongPort (decode t .settings) p ≡ true))
+  pub fronted-1 : (r ≡ 1 → ⊥) → (fronted t p r ≡ 1) ↔ ((formed t ≡ true) × (wrongPort (decode t .settings) p ≡ true))
   unfolding fronted
   fronted-1 n = given-after _ 12 _ 1 _ _ (λ e. omega arith) (is-so (formed t)) (given _ 1 r _ n Iff·rfl)
 
-  fronted-past : (n : ℕ) (P : Type 0) → (12 ≡ n → ⊥) → (1 ≡ n → ⊥) → (r ≡ n) ↔ P → (fronted t p r ≡ n) ↔ (OnPort t p × P)
+  pub fronted-past : (n : ℕ) (P : Type 0) → (12 ≡ n → ⊥) → (1 ≡ n → ⊥) → (r ≡ n) ↔ P → (fronted t p r ≡ n) ↔ (OnPort t p × P)
   unfolding fronted
   fronted-past n P h k i =
       Iff·trans (given-after _ 12 _ n _ _ h (is-so (formed t)) (given-after _ 1 r n _ P k Iff·rfl i))
       (λ a. ((a .0, a .1 .0), a .1 .1), λ a. (a .0 .0, (a .0 .1, a .1)))
 
 -- every number that may be given
-fronted-all : (P : ℕ → Type 0) (t : List ℕ) (p r : ℕ) → P 12 → P 1 → P r → P (fronted t p r)
+pub fronted-all : (P : ℕ → Type 0) (t : List ℕ) (p r : ℕ) → P 12 → P 1 → P r → P (fronted t p r)
 unfolding fronted
 fronted-all P t p r h k l = cond-either P (not (formed t)) 12 _ h (cond-either P (wrongPort (decode t .settings) p) 1 r k l)
 
@@ -244,7 +244,7 @@ own-number n = go (eqb n 0) refl
     go true e = sym (eqb-true n 0 e)
     go false e = refl
 
-on-table-number : (t : List ℕ) (f : Bridge → Answer) → onTable t f .number ≡ cond (not (formed t)) 12 (f (decode t) .number)
+pub on-table-number : (t : List ℕ) (f : Bridge → Answer) → onTable t f .number ≡ cond (not (formed t)) 12 (f (decode t) .number)
 unfolding onTable leaves
 on-table-number t f = go (formed t) (f (decode t))
   where
@@ -378,11 +378,11 @@ walk-2 s = go (eqb (length s) 0) refl (ltb longestPdu (length s)) refl
       ⊎-elim (λ h. absurd (eqb-false _ _ e h)) (λ h. absurd (omega (arith, ltb-false longestPdu (length s) f))),
     )
 
--- 8 is tested as "at most 64"
-room-number : (m : ℕ) → cond (leb m 64) 0 8 ≡ cond {A = ℕ} (ltb 64 m) 8 0
-room-number m = go (leb m 64) refl
+-- 8 and 14 are tested as "at most 64"
+pub room-number : (n m : ℕ) → cond (leb m 64) 0 n ≡ cond {A = ℕ} (ltb 64 m) n 0
+room-number n m = go (leb m 64) refl
   where
-    go : (a : Bool) → leb m 64 ≡ a → cond a 0 8 ≡ cond {A = ℕ} (ltb 64 m) 8 0
+    go : (a : Bool) → leb m 64 ≡ a → cond a 0 n ≡ cond {A = ℕ} (ltb 64 m) n 0
     go true e = rw (le-ltb 64 m (leb-true m 64 e))
     go false e = rw (lt-ltb 64 m (leb-false m 64 e))
 
@@ -405,7 +405,7 @@ module _ (b : Bridge) (p : ℕ) (pdu : List ℕ) where
       let s = applyAll (b .clock) (p - 1) (frameActs vs) (b .streams) in
       ap (λ (w : Walk). received b p (walked w) .number) e
       ∙ cond-of (λ (a : Answer). a .number) (leb (length s) 64) _ _
-      ∙ room-number (length s)
+      ∙ room-number 8 (length s)
       ∙ ap (λ (n : ℕ). cond (ltb 64 n) 8 0) (held-ids s ∙ ap length (acts-ids (b .clock) (p - 1) (frameActs vs) (b .streams)))
 
   -- a number of the walk is given exactly when the walk meets it
@@ -438,6 +438,15 @@ module _ (b : Bridge) (p : ℕ) (pdu : List ℕ) where
           rw (frame-read vs e)
           (cond-either (λ (m : ℕ). (m ≤ 8) × (m ≡ 1 → ⊥)) (ltb 64 (countWith vs)) 8 0
           (omega arith, λ i. omega arith) (omega arith, λ i. omega arith))
+
+  -- on any port
+  pub receive-few : receive b p pdu .number ≤ 8
+  unfolding receive reading received frameNumber
+  receive-few = go (wrongPort (b .settings) p)
+    where
+      go : (a : Bool) → received b p (cond a (refused 1) (walked (walk pdu))) .number ≤ 8
+      go true = omega arith
+      go false = frame-numbers .0
 
 module _ (t : List ℕ) (p : ℕ) (pdu : List ℕ) where
   receive-number : receiveOn t p pdu .number ≡ fronted t p (frameNumber (decode t) p pdu)

@@ -5,7 +5,7 @@ use Rattle.form.proofs.address_formed.Statement.{statement}
 use Rattle.form.proofs.address_formed.Tie as tie
 
 returns : tie.Need-returns
-returns c = address-rules _ _ _ _ (c .before .get .ensures .0) _ (c .leaving-formed .ensures)
+returns c = address-rules _ _ _ _ (c .before .before .before .get .ensures .0) _ (c .leaving-formed .ensures)
 
 pub address-formed-spec : {M : Type 1} → statement M
 address-formed-spec =
