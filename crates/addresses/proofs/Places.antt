@@ -88,12 +88,12 @@ module _ (o : Own) (f : FitOwn o) where
     unfolding putIn
     more = length-append (take k l) (vacantAt mac ∷ drop k l) ∙ omega (arith, length-take-le k l h, length-drop k l)
 
-    pub put-in : (m : ℕ) → m ≡ n
+    pub put-in : (s : List ℕ) → s ≡ ownOctets o → (m : ℕ) → m ≡ n
         → patch heldPlace 1 (be 1 (m + 1)) (patch (addressIn k + macPlace) 6 (be 6 mac)
-        (patch (addressIn k) addressSize (zeros addressSize) (patch (addressIn k + addressSize) ((m - k) * addressSize) (part (addressIn k) ((m - k) * addressSize) (ownOctets o)) (ownOctets o))))
+        (patch (addressIn k) addressSize (zeros addressSize) (patch (addressIn k + addressSize) ((m - k) * addressSize) (part (addressIn k) ((m - k) * addressSize) s) s)))
         ≡ ownOctets (changeAddresses (putIn k mac) o)
-    put-in m e =
-        rw (e, split)
+    put-in s q m e =
+        rw (e, q ∙ split)
         (rw (gap-made (before k) higher (zeros addressSize) rest (addressIn k) ((n - k) * addressSize) addressSize (before-length k h) higher-length (length-zeros addressSize), named)
         (recounted k (n + 1) (addressOctets (vacantAt mac) ++ (higher ++ rest))
         ∙ sym (own-split o (putIn k mac) ∙ rw more (unfold putIn higher rest flat in rw (flat-append addressOctets (take k l) (vacantAt mac ∷ drop k l)) (simp append-assoc)))))
@@ -128,12 +128,12 @@ module _ (o : Own) (f : FitOwn o) where
         ∙ ap (λ (z : List ℕ). front o (n - 1) ++ (z ++ unused (n - 1))) (sym both)
         ∙ sym (own-split o (takenOut k) ∙ ap (λ (m : ℕ). front o m ++ (flat addressOctets (takenOut k l) ++ unused m)) less)
 
-    pub taken-out : (m : ℕ) → m ≡ n → n ≤ addresses
+    pub taken-out : (s : List ℕ) → s ≡ ownOctets o → (m : ℕ) → m ≡ n → n ≤ addresses
         → patch heldPlace 1 (be 1 (m - 1)) (patch (addressesPlace + (m - 1) * addressSize) addressSize (zeros addressSize)
-        (patch (addressIn k) ((m - 1 - k) * addressSize) (part (addressIn k + addressSize) ((m - 1 - k) * addressSize) (ownOctets o)) (ownOctets o)))
+        (patch (addressIn k) ((m - 1 - k) * addressSize) (part (addressIn k + addressSize) ((m - 1 - k) * addressSize) s) s))
         ≡ ownOctets (changeAddresses (takenOut k) o)
-    taken-out m e few =
+    taken-out s q m e few =
         let place : addressesPlace + (n - 1) * addressSize ≡ addressIn k + (n - 1 - k) * addressSize = omega arith in
-        rw (e, apart, place)
+        rw (e, q ∙ apart, place)
         (rw (gap-closed (before k) (addressOctets (getD l k (vacantAt 0))) behind (unused n) (addressIn k) ((n - 1 - k) * addressSize) addressSize (before-length k (omega arith)) (address-length _) behind-length)
         (recounted k (n - 1) (behind ++ (zeros addressSize ++ unused n)) ∙ closed few))

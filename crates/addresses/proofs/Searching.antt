@@ -4,7 +4,9 @@ use mathlib.Core.Bool.{Bool, true, false}
 use mathlib.Core.List.{List, [], _∷_}
 use Prim.Native.Nat.{ℕ, suc, _+_, _≤_, _<_}
 use native.Mathlib.Omega.{arith}
-use lib.ListN.{length}
+use native.Mathlib.Numerals.{add-one}
+use lib.ListN.{length, getD, drop, drop-of-length-le}
+use lib.Seq.{drop-cons}
 use borrow.Author.Tests.{lt-ltb, le-ltb, eq-eqb, ne-eqb}
 use Rattle.model.specs.Lists.{All}
 use Rattle.model.specs.State.{Address}
@@ -65,6 +67,25 @@ module _ (m : ℕ) (a : Address) (l : List Address) where
     pub holds-past : holdsAddress m (a ∷ l) ≡ holdsAddress m l
     unfolding holdsAddress
     holds-past = rw (ne-eqb m (a .mac) d)
+
+-- A turn of the search, at the address x of place k.
+
+module _ (m k : ℕ) (ms : List ℕ) where
+  pub look-end : length ms ≤ k → foundAt m k (drop k ms) ≡ Gap k
+  look-end h = rw (drop-of-length-le ms {i = k} h) (unfold foundAt in refl)
+
+  module _ (x : ℕ) (h : k < length ms) (e : x ≡ getD ms k 0) where
+    opened : drop k ms ≡ x ∷ drop (suc k) ms
+    opened = drop-cons ms k 0 h ∙ ap (λ (y : ℕ). y ∷ drop (suc k) ms) (sym e)
+
+    pub look-before : m < x → foundAt m k (drop k ms) ≡ Gap k
+    look-before q = rw opened (found-before m k x (drop (suc k) ms) q)
+
+    pub look-here : m ≡ x → foundAt m k (drop k ms) ≡ At k
+    look-here q = rw opened (found-here m k x (drop (suc k) ms) q)
+
+    pub look-past : x < m → foundAt m k (drop k ms) ≡ foundAt m (k + 1) (drop (k + 1) ms)
+    look-past q = rw (add-one k, opened) (found-past m k x (drop (suc k) ms) q)
 
 -- Found, or missing.
 

@@ -96,6 +96,16 @@ lapsed-is leave now m p f =
 pub lapses : (leave now : ℕ) (s : List ℕ) → LaidAddress s → lapsed 0 macPlace addressLeavesPlace leave now s ≡ addressOctets (lapseAddress leave now (toAddress s))
 lapses leave now = laid (λ s a. lapsed 0 macPlace addressLeavesPlace leave now s ≡ addressOctets (lapseAddress leave now a)) (lapsed-is leave now)
 
+-- The address itself stays.
+
+pub quit-mac : (clock : ℕ) (a : Address) → quitAddress clock a .mac ≡ a .mac
+unfolding quitAddress
+quit-mac clock a = refl
+
+pub lapse-mac : (leave now : ℕ) (a : Address) → lapseAddress leave now a .mac ≡ a .mac
+unfolding lapseAddress
+lapse-mac leave now a = refl
+
 -- What is done fits its fields.
 
 abbrev FitPresence : Presence → Type 0
