@@ -1,18 +1,20 @@
 // The MAC addresses registered on a port (02, vi), among what the port holds by itself: found, put in and taken out, left, and
 // expired (docs/TABLE.md, "What a port holds").
 ghost use mathlib.Core.Path.{_≡_};
+ghost use mathlib.Core.Bool.{cond};
 ghost use mathlib.Core.List.{map};
 ghost use Prim.Native.Nat.{_<_, _≤_};
 ghost use lib.ListN.{length};
+ghost use lib.Dec.{leb};
 ghost use Rattle.model.specs.Layout.{addresses, addressSize, ownSize};
 ghost use Rattle.model.specs.State.{Settings};
-ghost use Rattle.model.specs.Registrations.{changeAddresses, macs, quitAddress, withLeft};
+ghost use Rattle.model.specs.Registrations.{changeAddresses, joined, macs, quitAddress, withJoined, withLeft};
 ghost use Rattle.model.specs.Settling.{holdsAddress, remainAddresses};
 ghost use Rattle.model.specs.Table.{addressOctets, toAddress, ownOctets, toOwn};
 ghost use Rattle.model.specs.Laid.{LaidAddress, LaidOwn};
 ghost use Rattle.table.specs.Find.{foundAt};
-ghost use Rattle.addresses.specs.Held.{AddressIn, RoomAt};
-ghost use Rattle.addresses.specs.Room.{presentOnly, lapseAddress, putIn, takenOut};
+ghost use Rattle.addresses.specs.Held.{AddressIn, HeldGiven, MacGiven, RoomAt};
+ghost use Rattle.addresses.specs.Room.{presentOnly, lapseAddress, putIn, takenOut, withRoom};
 use table::address::LEAVES;
 use table::address::MAC;
 use table::address::REGISTERED;
@@ -20,6 +22,7 @@ use table::ADDRESS;
 use table::ADDRESSES;
 use table::ADDRESSES_HELD;
 use table::Found;
+use table::MOST_ADDRESSES;
 
 // The octets of a record before its address: registered, leaving, since.
 const PRESENCE: usize = MAC;
@@ -87,6 +90,44 @@ fn remove(own: &mut [u8], k: usize)
     octets::put(own, ADDRESSES_HELD, 1, last as u64);
 }
 
+// Room for an address: a vacant record at its place, unless it has one. False where there are 64 others.
+pub fn enrol(own: &mut [u8], mac: u64) -> bool
+    requires { ⌜ MacGiven (now own) mac ⌝ }
+    ensures { λ r. ⌜ (r ≡ leb (length (withRoom mac (toOwn (now (own .entry)) .addresses))) addresses)
+        × (now (own .exit) ≡ cond r (ownOctets (changeAddresses (withRoom mac) (toOwn (now (own .entry))))) (now (own .entry))) ⌝ }
+{
+    let Found::Gap(k) = find(own, mac) else {
+        return true;
+    };
+    if count(own) == MOST_ADDRESSES {
+        return false;
+    }
+    insert(own, k, mac);
+    true
+}
+
+// A record of an address, registered and not leaving.
+fn register(address: &mut [u8], mac: u64)
+    requires { ⌜ length (now address) ≡ addressSize ⌝ }
+    ensures { λ _. ⌜ now (address .exit) ≡ addressOctets (joined mac) ⌝ }
+{
+    octets::clear(address, REGISTERED, ADDRESS);
+    octets::put(address, REGISTERED, 1, 1);
+    octets::put(address, MAC, 6, mac);
+}
+
+// A join of an address that has a record.
+pub fn join(own: &mut [u8], mac: u64)
+    requires { ⌜ HeldGiven (now own) mac ⌝ }
+    ensures { λ _. ⌜ now (own .exit) ≡ ownOctets (changeAddresses (withJoined mac) (toOwn (now (own .entry)))) ⌝ }
+{
+    let Found::At(k) = find(own, mac) else {
+        return;
+    };
+    let a = ADDRESSES + k * ADDRESS;
+    register(&mut own[a..a + ADDRESS], mac);
+}
+
 // Lv or LeaveAll: the address of a record begins to leave, if it is registered.
 fn quit(address: &mut [u8], clock: u32)
     requires { ⌜ LaidAddress (now address) × (length (now address) ≡ addressSize) ⌝ }
@@ -98,7 +139,7 @@ fn quit(address: &mut [u8], clock: u32)
 }
 
 // LeaveAll: each address begins to leave.
-fn leave_all(own: &mut [u8], clock: u32)
+pub fn leave_all(own: &mut [u8], clock: u32)
     requires { ⌜ LaidOwn (now own) × (length (now own) ≡ ownSize) ⌝ }
     ensures { λ _. ⌜ now (own .exit) ≡ ownOctets (changeAddresses (map (quitAddress clock)) (toOwn (now (own .entry)))) ⌝ }
 {
@@ -112,7 +153,7 @@ fn leave_all(own: &mut [u8], clock: u32)
 }
 
 // Lv of an address, where it is held.
-fn leave(own: &mut [u8], mac: u64, clock: u32)
+pub fn leave(own: &mut [u8], mac: u64, clock: u32)
     requires { ⌜ LaidOwn (now own) × (length (now own) ≡ ownSize) ⌝ }
     ensures { λ _. ⌜ now (own .exit) ≡ ownOctets (changeAddresses (withLeft clock mac) (toOwn (now (own .entry)))) ⌝ }
 {
@@ -138,7 +179,7 @@ fn lapse_all(own: &mut [u8], leave: u32, time: u32)
 }
 
 // The vacant ones taken out, the last first.
-fn drop_vacant(own: &mut [u8])
+pub fn drop_vacant(own: &mut [u8])
     requires { ⌜ LaidOwn (now own) × (length (now own) ≡ ownSize) ⌝ }
     ensures { λ _. ⌜ now (own .exit) ≡ ownOctets (changeAddresses presentOnly (toOwn (now (own .entry)))) ⌝ }
 {
