@@ -1,8 +1,7 @@
 -- What is done to the addresses of a port leaves octets that are laid out: at most 64, each within its fields, ascending.
-use mathlib.Core.Path.{_≡_, refl, sym, ap, _∙_, subst}
-use mathlib.Core.Bool.{Bool, true, false}
-use mathlib.Core.List.{List, [], _∷_, _++_, map}
-use Prim.Native.Nat.{ℕ, zero, suc, _+_, _^_, _≤_, _<_}
+use mathlib.Core.Path.{_≡_, refl, sym, ap, subst}
+use mathlib.Core.List.{List, [], _∷_}
+use Prim.Native.Nat.{ℕ, zero, suc, _^_, _≤_, _<_}
 use native.Mathlib.Omega.{arith}
 use lib.ListN.{length, take, drop, length-map}
 use Rattle.model.specs.Layout.{addresses}
@@ -13,7 +12,7 @@ use Rattle.model.specs.Laid.{Ascending, FitAddresses, FitOwn}
 use Rattle.model.proofs.Lists.{all-map, all-changed, all-take, all-drop, all-append}
 use Rattle.model.proofs.Commute.{Tri, less, same, more, tri}
 use Rattle.table.proofs.EachStream.{firsts, firsts-keep}
-use Rattle.addresses.specs.Room.{vacantAt, withRoom, putIn, takenOut}
+use Rattle.addresses.specs.Room.{vacantAt, withRoom, takenOut}
 use Rattle.addresses.proofs.Records.{FitAddress}
 use Rattle.addresses.proofs.Values.{vacant-fits, joined-fits}
 use Rattle.addresses.proofs.Searching.{room-before, room-here, room-past, join-before, join-here, join-past}

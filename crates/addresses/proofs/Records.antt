@@ -12,19 +12,19 @@ use Rattle.octets.proofs.Frame.{beAt-part, getD-part}
 use Rattle.octets.proofs.Fields.{length-packed-any, get-field, get-octet}
 use Rattle.octets.proofs.Patches.{lent-patch, patch-between}
 use Rattle.model.specs.Layout.{addressIn, addressSize, addressWidths, addresses, addressesPlace, boundaryWidths, heldPlace, heldWidths, inAddress, macPlace}
-use Rattle.model.specs.Lists.{All, bit}
+use Rattle.model.specs.Lists.{bit}
 use Rattle.model.specs.State.{Presence, vacant, present, Address, Own}
 use Rattle.model.specs.Registrations.{at, changeAddresses, macs}
 use Rattle.model.specs.Table.{presenceNumbers, addressNumbers, addressOctets, toAddress, domainOctets, ownOctets, addressesHeld, toOwn}
-use Rattle.model.specs.Laid.{FitAddresses, FitOwn, LaidAddress, LaidOwn}
+use Rattle.model.specs.Laid.{FitOwn, LaidAddress, LaidOwn}
 use Rattle.model.proofs.Lists.{all-at, length-at}
-use Rattle.model.proofs.Parts.{Sized, length-parts}
+use Rattle.model.proofs.Parts.{length-parts}
 use Rattle.model.proofs.Addresses.{address-length, address-back, addresses-sized}
 use Rattle.model.proofs.Owns.{slots-length}
 use Rattle.table.specs.Reads.{Reads}
 use Rattle.table.proofs.Lens.{part-one, patch-one}
 use Rattle.table.proofs.StreamParts.{at-set}
-use Rattle.table.proofs.OwnParts.{laid-own-is, laid-own-fits}
+use Rattle.table.proofs.OwnParts.{laid-own-fits}
 use Rattle.addresses.specs.Room.{vacantAt}
 
 abbrev pub FitAddress : Address → Type 0
