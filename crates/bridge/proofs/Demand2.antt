@@ -4,7 +4,7 @@
 -- a single answer or does nothing does not meet Demand1's `accepted` and these; one that makes up totals, lengths or places does
 -- not meet `advance-decides`, `write-tells` and `report-shows`. (That table, settings and PDU are octets, and a time is of 32
 -- bits, is what the calls' types say.)
-use mathlib.Core.Path.{_≡_, refl, sym, _∙_, ap}
+use mathlib.Core.Path.{_≡_, refl, sym, _∙_, ap, subst}
 use mathlib.Core.List.{List, _++_, map}
 use mathlib.Core.Bool.{false}
 use Prim.Native.Nat.{ℕ, suc, _+_, _-_, _^_, _≤_, _<_}
@@ -13,34 +13,38 @@ use lib.ListN.{length, getD, take, drop, take-append-drop}
 use lib.Seq.{length-take-le, length-front, take-append-seam, drop-append-seam, drop-drop}
 use borrow.Author.Tests.{le-leb, le-ltb}
 use Rattle.octets.specs.Parts.{zeros}
-use Rattle.model.specs.Layout.{tableLength}
+use Rattle.model.specs.Layout.{addresses, tableLength}
 use Rattle.model.specs.Lists.{Octets}
-use Rattle.model.specs.State.{Settings, Bridge, started, portAt, resultAt, noTotals}
-use Rattle.model.specs.Registrations.{Answer, acts, applyAll, holding, owning, together, ids, joins, received}
+use Rattle.model.specs.State.{Settings, Bridge, started, ownAt, portAt, resultAt, noTotals}
+use Rattle.model.specs.Registrations.{Answer, AddressAct, addressActs, acts, applyAll, doesAddresses, addressJoins, receivedAddresses, holding, owning, together, ids, joins, received}
 use Rattle.model.specs.FrameLayout.{longestPdu}
 use Rattle.model.specs.Frames.{Vector, found, walk, walked, frameActs, reading, wrongPort}
+use Rattle.model.specs.AddressFrames.{addressWalk, addressReading}
 use Rattle.model.specs.Settling.{settle}
 use Rattle.model.specs.State.{streamAt}
 use Rattle.model.specs.Declarations.{Declaration, joinOf, takes, write}
 use Rattle.model.specs.Reports.{Report, wordOf, codeOf, report}
 use Rattle.model.specs.WrittenFrames.{declarationVector, pduOctets}
 use Rattle.model.specs.Table.{encode, decode, toSettings}
-use Rattle.model.specs.Calls.{Call, WriteCall, receive, writtenTo, writeOn, reportOn}
+use Rattle.model.specs.Calls.{Call, WriteCall, receive, receiveMmrp, writtenTo, writeOn, reportOn}
 use Rattle.model.proofs.Valid.{Valid}
 use Rattle.model.proofs.Tables.{decode-encode, valid-decode, valid-started}
 use Rattle.model.proofs.FrameOrder.{acts-ids, held-ids}
-use Rattle.model.proofs.ReceiveKeepsForm.{receive-keeps}
+use Rattle.model.proofs.ReceiveKeepsForm.{receive-keeps, right-port}
+use Rattle.model.proofs.AddressesKept.{acts-held, mmrp-keeps}
 use Rattle.model.proofs.AdvanceKeepsForm.{settle-keeps}
 use Rattle.model.proofs.ColumnRule.{Advanced}
 use Rattle.model.proofs.OneSolution.{exactly-one}
 use Rattle.model.proofs.Demand3.{ids-small}
 use Rattle.model.proofs.WritingPasses.{declared, write-from, next-place, next-further, run-fits, run-full}
 use Rattle.model.proofs.ReadBack.{read-back, neighbour-reads}
+use Rattle.model.proofs.AddressRefusals.{heldOn, mmrp-0}
 use Rattle.model.proofs.Refusals.{OnPort, start-0, receive-0, advance-0, write-0, report-0}
-use Rattle.bridge.specs.Promises.{Starts, Receives, Advances, Writes, Reports}
+use Rattle.bridge.specs.Promises.{Starts, Receives, ReceivesMmrp, Advances, Writes, Reports}
 use Rattle.bridge.proofs.Started.{started-table}
 use Rattle.bridge.proofs.Starting.{start-accepted}
 use Rattle.bridge.proofs.OnTables.{acted, receive-taken, advance-settles}
+use Rattle.bridge.proofs.OnAddresses.{addressed, addressed-held, mmrp-taken}
 
 -- An accepted start leaves the settings, and zeros behind them: a bridge with these settings, no streams, clock 0.
 pub start-leaves : (t s : List ℕ) (n : ℕ) (u : List ℕ) → Octets s → Starts t s n u → n ≡ 0 →
@@ -85,6 +89,40 @@ receive-registers t p pdu n u o q call z =
       bridge = bridge;
       table = table;
       joined = ap (λ (c : Bridge). ids (c .streams)) bridge ∙ same;
+    }
+
+-- What an accepted receive_mmrp leaves: all events of the PDU's MAC vectors are applied in their order to the addresses of its port,
+-- and nothing else changes.
+pub record RegistersAddresses (t : List ℕ) (p : ℕ) (pdu u : List ℕ) : Type 0 where
+  pub acts : List AddressAct
+  pub read : addressWalk pdu ≡ addressActs acts
+  pub bridge : decode u ≡ addressed (decode t) p acts
+  pub table : u ≡ encode (addressed (decode t) p acts)
+  -- every address that it joins is held on the port afterwards, and no other is added
+  pub joined : heldOn (addressed (decode t) p acts) p ≡ together (heldOn (decode t) p) (addressJoins acts)
+
+addressed-valid : (b : Bridge) (p : ℕ) (pdu : List ℕ) → Valid b → wrongPort (b .settings) p ≡ false → (es : List AddressAct) → addressWalk pdu ≡ addressActs es →
+    length (doesAddresses (b .clock) es (ownAt (b .own) (p - 1) .addresses)) ≤ addresses → Valid (addressed b p es)
+addressed-valid b p pdu v w es e l = subst Valid (ap (λ (a : Answer). a .bridge) (unfold receiveMmrp addressReading receivedAddresses in (rw (w, e, le-leb _ _ l)))) (mmrp-keeps b p pdu v)
+
+pub mmrp-registers : (t : List ℕ) (p : ℕ) (pdu : List ℕ) (n : ℕ) (u : List ℕ) → Octets t → ReceivesMmrp t p pdu n u → n ≡ 0 →
+    RegistersAddresses t p pdu u
+mmrp-registers t p pdu n u o call z =
+    let h = mmrp-0 t p pdu .0 (sym (call .0) ∙ z) in
+    let b = decode t in
+    let es = h .1 .0 in
+    let v : Valid b = valid-decode t o (h .0 .0) in
+    let l = doesAddresses (b .clock) es (ownAt (b .own) (p - 1) .addresses) in
+    let room : length l ≤ addresses = rw (acts-held (b .clock) es (ownAt (b .own) (p - 1) .addresses)) (h .1 .2) in
+    let taken = mmrp-taken t p pdu (h .0 .0) (h .0 .1) es (h .1 .1) room in
+    let table : u ≡ encode (addressed b p es) = call .1 ∙ ap (λ (c : Call). c .table) taken in
+    let place : p - 1 < length (b .own) = omega (arith, right-port (b .settings) p (h .0 .1), v .eight-own, v .settings .eight-ports) in
+    record {
+      acts = es;
+      read = h .1 .1;
+      bridge = ap decode table ∙ decode-encode (addressed b p es) (addressed-valid b p pdu v (h .0 .1) es (h .1 .1) room);
+      table = table;
+      joined = addressed-held b p es place;
     }
 
 -- What an accepted advance leaves: the one bridge that the rules of settling give.

@@ -1,6 +1,7 @@
 pub mod Started
 pub mod Starting
 pub mod OnTables
+pub mod OnAddresses
 pub mod Receiving
 pub mod Reading
 pub mod Demand1

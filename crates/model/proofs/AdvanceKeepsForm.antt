@@ -114,7 +114,7 @@ module _ (st : Settings) (clock now : ℕ) (later : clock ≤ now) where
 
 -- Addresses: those that remain are fewer, and rise.
 module _ (st : Settings) (now : ℕ) where
-  fewer-addresses : (l : List Address) → length (remainAddresses st now l) ≤ length l
+  pub fewer-addresses : (l : List Address) → length (remainAddresses st now l) ≤ length l
   unfolding remainAddresses
   fewer-addresses [] = omega arith
   fewer-addresses (a ∷ l) = go (isPresent st now (a .presence)) (fewer-addresses l)
@@ -123,7 +123,7 @@ module _ (st : Settings) (now : ℕ) where
       go true ih = omega arith
       go false ih = omega arith
 
-  macs-remain : (P : ℕ → Type 0) (l : List Address) → All P (macs l) → All P (macs (remainAddresses st now l))
+  pub macs-remain : (P : ℕ → Type 0) (l : List Address) → All P (macs l) → All P (macs (remainAddresses st now l))
   unfolding macs remainAddresses
   macs-remain P [] h = tt
   macs-remain P (a ∷ l) h = go (isPresent st now (a .presence)) (macs-remain P l (h .1))

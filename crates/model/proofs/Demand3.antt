@@ -103,27 +103,27 @@ unfolding receiveFrameOn receiveFrame
 frame-call b p (msrp pdu) v = receive-call b p pdu v
 frame-call b p (mmrp pdu) v = mmrp-call b p pdu v
 
-frame-keeps : (b : Bridge) (p : ℕ) (x : Frame) → Octets (pduOf x) → Valid b → Valid (receiveFrame b p x .bridge)
+pub frame-keeps : (b : Bridge) (p : ℕ) (x : Frame) → Octets (pduOf x) → Valid b → Valid (receiveFrame b p x .bridge)
 unfolding receiveFrame
 frame-keeps b p (msrp pdu) o v = receive-keeps b p pdu o v
 frame-keeps b p (mmrp pdu) o v = mmrp-keeps b p pdu v
 
-abbrev FramesInOctets : List (ℕ × Frame) → Type 0
+abbrev pub FramesInOctets : List (ℕ × Frame) → Type 0
 FramesInOctets f = All (λ a. Octets (pduOf (a .1))) f
 
-valid-after : (f : List (ℕ × Frame)) (b : Bridge) → FramesInOctets f → Valid b → Valid (afterFrames f b)
+pub valid-after : (f : List (ℕ × Frame)) (b : Bridge) → FramesInOctets f → Valid b → Valid (afterFrames f b)
 unfolding afterFrames
 valid-after [] b o v = v
 valid-after (a ∷ f) b o v = valid-after f (receiveFrame b (a .0) (a .1) .bridge) (o .1) (frame-keeps b (a .0) (a .1) (o .0) v)
 
-after-table : (f : List (ℕ × Frame)) (b : Bridge) → FramesInOctets f → Valid b → afterOn f (encode b) ≡ encode (afterFrames f b)
+pub after-table : (f : List (ℕ × Frame)) (b : Bridge) → FramesInOctets f → Valid b → afterOn f (encode b) ≡ encode (afterFrames f b)
 unfolding afterOn afterFrames
 after-table [] b o v = refl
 after-table (a ∷ f) b o v =
     rw (frame-call b (a .0) (a .1) v)
     (after-table f (receiveFrame b (a .0) (a .1) .bridge) (o .1) (frame-keeps b (a .0) (a .1) (o .0) v))
 
-answers-table : (f : List (ℕ × Frame)) (b : Bridge) → FramesInOctets f → Valid b → answersOn f (encode b) ≡ frameAnswers f b
+pub answers-table : (f : List (ℕ × Frame)) (b : Bridge) → FramesInOctets f → Valid b → answersOn f (encode b) ≡ frameAnswers f b
 unfolding answersOn frameAnswers
 answers-table [] b o v = refl
 answers-table (a ∷ f) b o v =

@@ -223,7 +223,7 @@ frame-unchanged b p (msrp pdu) h = refused-changes-nothing b p pdu h
 frame-unchanged b p (mmrp pdu) h = mmrp-unchanged b p pdu h
 
 -- frames change neither settings nor clock
-frame-settings : (b : Bridge) (p : ℕ) (x : Frame) → receiveFrame b p x .bridge .settings ≡ b .settings
+pub frame-settings : (b : Bridge) (p : ℕ) (x : Frame) → receiveFrame b p x .bridge .settings ≡ b .settings
 unfolding receiveFrame owning
 frame-settings b p (msrp pdu) = receive-settings b p pdu
 frame-settings b p (mmrp pdu) = mmrp-same b p pdu (λ c. c .settings) (λ o. refl)
@@ -250,7 +250,7 @@ ported : (st : Settings) (p : ℕ) → wrongPort st p ≡ false → p ≡ 0 → 
 unfolding wrongPort
 ported st p e = eqb-false p 0 (or-left (eqb p 0) (ltb (length (st .ports)) p) e)
 
-places-apart : (st : Settings) (p q : ℕ) → wrongPort st p ≡ false → wrongPort st q ≡ false → (p ≡ q → ⊥) → p - 1 ≡ q - 1 → ⊥
+pub places-apart : (st : Settings) (p q : ℕ) → wrongPort st p ≡ false → wrongPort st q ≡ false → (p ≡ q → ⊥) → p - 1 ≡ q - 1 → ⊥
 places-apart st p q d e n h = n (let a = ported st p d in let b = ported st q e in omega arith)
 
 -- steps at two places commute, where a frame on no port of the bridge does nothing
@@ -378,7 +378,7 @@ module _ (st : Settings) (now : ℕ) where
           unfold rulings in
           (rw (on-other p (a .0, ruling (a .0) (a .1) o) (rulings f (ownStep (a .0) (a .1) o)) e, on-other p a f e, h) (alone-past p (a .0) (a .1) (λ d. e (sym d)) (on p f) o))
 
-together-append : (held xs ys : List ℕ) → together held (xs ++ ys) ≡ together (together held xs) ys
+pub together-append : (held xs ys : List ℕ) → together held (xs ++ ys) ≡ together (together held xs) ys
 unfolding together
 together-append held [] ys = refl
 together-append held (i ∷ xs) ys = together-append (add i held) xs ys

@@ -34,6 +34,7 @@ pub mod Edge
 pub mod OwnCodes
 pub mod Boundaries
 pub mod Growth
+pub mod Pruning
 pub mod FanIn
 pub mod Untouched
 pub mod Newcomer
@@ -41,3 +42,4 @@ pub mod Opened
 pub mod Examples
 pub mod FormKept
 pub mod Demand3
+pub mod AddressRoom

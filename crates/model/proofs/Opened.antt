@@ -6,6 +6,7 @@ use Rattle.model.specs.Lists
 use Rattle.model.specs.State
 use Rattle.model.specs.Registrations
 use Rattle.model.specs.Frames
+use Rattle.model.specs.AddressFrames
 use Rattle.model.specs.Bandwidth
 use Rattle.model.specs.Settling
 use Rattle.model.specs.Reports
@@ -23,7 +24,7 @@ unfolding Be.beAt Be.be Fields.fields Fields.flat Parts.part Reports.refusedRepo
 octetsOpened = tt
 
 receivingOpened : Unit {0}
-unfolding Frames.typeOctet Frames.typeNumber Frames.firstWidths Frames.firstLength Frames.threeLength Frames.hasFour Frames.fourLength Frames.vectorAt Frames.vectorEnd Frames.overpacked Frames.runsPast Frames.overflows Frames.strangeLeave Frames.strangeVector Frames.vectorIn Frames.checkedIn Frames.typedIn Frames.listLength Frames.listAt Frames.messageEnd Frames.endMark Frames.headerIn Frames.messageIn Frames.also Frames.both Frames.vectorsFrom Frames.vectors Frames.messagesFrom Frames.messages Frames.walk Frames.event Frames.threePacked Frames.fourPacked Frames.eventOf Frames.fourOf Frames.asking Frames.priorityOf Frames.rankOf Frames.fixedValue Frames.healthValue Frames.idValue Frames.hearing Frames.talkerAct Frames.listenerAct Frames.hasSlot Frames.slotOf Frames.slotAct Frames.domainAct Frames.valueActs Frames.valuesActs Frames.leaveAllActs Frames.vectorActs Frames.frameActs Frames.walked Frames.wrongPort Frames.reading Registrations.begin Registrations.talksAs Registrations.hearsAs Registrations.withLeaving Registrations.quitTalker Registrations.quitListener Registrations.quit Registrations.sameFixed Registrations.firstJoin Registrations.sameJoin Registrations.otherJoin Registrations.joinTalker Registrations.does Registrations.at Registrations.change Registrations.begun Registrations.touch Registrations.reach Registrations.apply Registrations.applyAll Registrations.quitDomain Registrations.doesDomain Registrations.changeDomains Registrations.applyOwn Registrations.applyOwns Registrations.holding Registrations.owning Registrations.received Registrations.joins Registrations.asks Registrations.quitPresence Registrations.quitAddress Registrations.joined Registrations.withJoined Registrations.withLeft Registrations.doesAddress Registrations.doesAddresses Registrations.changeAddresses Registrations.receivedAddresses Calls.receive
+unfolding Frames.typeOctet Frames.typeNumber Frames.firstWidths Frames.firstLength Frames.threeLength Frames.hasFour Frames.fourLength Frames.vectorAt Frames.vectorEnd Frames.overpacked Frames.runsPast Frames.overflows Frames.strangeLeave Frames.strangeVector Frames.vectorIn Frames.checkedIn Frames.typedIn Frames.listLength Frames.listAt Frames.messageEnd Frames.endMark Frames.headerIn Frames.messageIn Frames.also Frames.both Frames.vectorsFrom Frames.vectors Frames.messagesFrom Frames.messages Frames.walk Frames.event Frames.threePacked Frames.fourPacked Frames.eventOf Frames.fourOf Frames.asking Frames.priorityOf Frames.rankOf Frames.fixedValue Frames.healthValue Frames.idValue Frames.hearing Frames.talkerAct Frames.listenerAct Frames.hasSlot Frames.slotOf Frames.slotAct Frames.domainAct Frames.valueActs Frames.valuesActs Frames.leaveAllActs Frames.vectorActs Frames.frameActs Frames.walked Frames.wrongPort Frames.reading Registrations.begin Registrations.talksAs Registrations.hearsAs Registrations.withLeaving Registrations.quitTalker Registrations.quitListener Registrations.quit Registrations.sameFixed Registrations.firstJoin Registrations.sameJoin Registrations.otherJoin Registrations.joinTalker Registrations.does Registrations.at Registrations.change Registrations.begun Registrations.touch Registrations.reach Registrations.apply Registrations.applyAll Registrations.quitDomain Registrations.doesDomain Registrations.changeDomains Registrations.applyOwn Registrations.applyOwns Registrations.holding Registrations.owning Registrations.received Registrations.joins Registrations.asks Registrations.quitPresence Registrations.quitAddress Registrations.joined Registrations.withJoined Registrations.withLeft Registrations.doesAddress Registrations.doesAddresses Registrations.changeAddresses Registrations.receivedAddresses AddressFrames.firstOctets AddressFrames.addressHeader AddressFrames.addressMessageIn AddressFrames.runsOut AddressFrames.overruns AddressFrames.addressesChecked AddressFrames.addressVectorIn AddressFrames.addressVectorAt AddressFrames.addressOf AddressFrames.addressAct AddressFrames.addressAsking AddressFrames.addressValues AddressFrames.allAddresses AddressFrames.addressVectorActs AddressFrames.thenList AddressFrames.addressesFrom AddressFrames.addresses AddressFrames.thenFrame AddressFrames.afterList AddressFrames.addressMessagesFrom AddressFrames.addressMessages AddressFrames.addressWalk AddressFrames.addressReading Calls.receiveMmrp Calls.receive
 receivingOpened = tt
 
 settlingOpened : Unit {0}
