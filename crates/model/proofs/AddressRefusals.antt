@@ -17,7 +17,7 @@ use Rattle.model.specs.Frames.{wrongPort}
 use Rattle.model.specs.AddressFrames.{addressMessages, addressWalk, addressReading}
 use Rattle.model.specs.Table.{decode, formed}
 use Rattle.model.specs.Calls.{receiveMmrp, receiveMmrpOn}
-use Rattle.model.proofs.Refusals.{cond-either, cond-of, Unaltered, on-table-refused, is-below, is-at-least, given, not-given, last, OnPort, fronted, fronted-12, fronted-1, fronted-past, fronted-all, on-table-number, room-number}
+use Rattle.model.proofs.Refusals.{Unaltered, on-table-refused, is-below, is-at-least, given, last, OnPort, fronted, fronted-12, fronted-1, fronted-past, fronted-all, on-table-number, room-number, Numbered, numbered-fault, numbered-found, numbered-some}
 use Rattle.model.proofs.FoundAddresses.{Within, messages-within, address-faults}
 use Rattle.model.proofs.ReceivedAddresses.{hasRoom, addressNumber, received-is}
 use Rattle.model.proofs.AddressesKept.{acts-held}
@@ -75,36 +75,16 @@ module _ (b : Bridge) (p : ℕ) (pdu : List ℕ) where
   unfolding addressNumber
   frame-met n e = frame-is (refusedFrame n) e
 
-  -- a number of the walk is given exactly when the walk meets it
-  frame-fault : (n : ℕ) → 2 ≤ n → n ≤ 7 → (frameNumber ≡ n) ↔ (addressWalk pdu ≡ refusedFrame n)
-  frame-fault n h k = (go (addressWalk pdu) refl, frame-met n)
+  frame-numbered : Numbered frameNumber 14 (List AddressAct) (λ n. addressWalk pdu ≡ refusedFrame n) (λ es. addressWalk pdu ≡ addressActs es) countWith
+  frame-numbered = record { either = go (addressWalk pdu) refl; within = address-faults pdu; met = frame-met; read = frame-read }
     where
-      go : (w : AddressReading) → addressWalk pdu ≡ w → frameNumber ≡ n → addressWalk pdu ≡ refusedFrame n
-      go (refusedFrame m) e f = e ∙ ap refusedFrame (sym (frame-met m e) ∙ f)
-      go (addressActs es) e f =
-          absurd (not-given (ltb 64 (countWith es)) 14 0 n (λ i. omega arith) (λ i. omega arith) (sym (frame-read es e) ∙ f))
-
-  -- 0 and 14 exactly when it meets none, by the room that there is
-  frame-found : (n : ℕ) (P : ℕ → Type 0) → (n < 2) ⊎ (7 < n) → ((m : ℕ) → (cond (ltb 64 m) 14 0 ≡ n) ↔ P m) →
-      (frameNumber ≡ n) ↔ ((es : List AddressAct) × (addressWalk pdu ≡ addressActs es) × P (countWith es))
-  frame-found n P h i = (go (addressWalk pdu) refl, λ a. frame-read (a .0) (a .1) ∙ i _ .1 (a .2))
-    where
-      go : (w : AddressReading) → addressWalk pdu ≡ w → frameNumber ≡ n → (es : List AddressAct) × (addressWalk pdu ≡ addressActs es) × P (countWith es)
-      go (refusedFrame m) e f =
-          let k : (2 ≤ m) × (m ≤ 7) = address-faults pdu m e in
-          let l : m ≡ n = sym (frame-met m e) ∙ f in
-          absurd (⊎-elim (λ a. omega arith) (λ a. omega arith) h)
-      go (addressActs es) e f = (es, e, i _ .0 (sym (frame-read es e) ∙ f))
+      go : (w : AddressReading) → addressWalk pdu ≡ w
+          → ((n : ℕ) × (addressWalk pdu ≡ refusedFrame n)) ⊎ ((es : List AddressAct) × (addressWalk pdu ≡ addressActs es))
+      go (refusedFrame n) e = inl (n, e)
+      go (addressActs es) e = inr (es, e)
 
   frame-numbers : ((frameNumber ≤ 7) ⊎ (frameNumber ≡ 14)) × (frameNumber ≡ 1 → ⊥)
-  frame-numbers = go (addressWalk pdu) refl
-    where
-      go : (w : AddressReading) → addressWalk pdu ≡ w → ((frameNumber ≤ 7) ⊎ (frameNumber ≡ 14)) × (frameNumber ≡ 1 → ⊥)
-      go (refusedFrame m) e = rw (frame-met m e) (let k = address-faults pdu m e in (inl (omega arith), λ i. omega arith))
-      go (addressActs es) e =
-          rw (frame-read es e)
-          (cond-either (λ (m : ℕ). ((m ≤ 7) ⊎ (m ≡ 14)) × (m ≡ 1 → ⊥)) (ltb 64 (countWith es)) 14 0
-          (inr refl, λ i. omega arith) (inl (omega arith), λ i. omega arith))
+  frame-numbers = numbered-some frame-numbered (omega arith)
 
 module _ (t : List ℕ) (p : ℕ) (pdu : List ℕ) where
   mmrp-number : receiveMmrpOn t p pdu .number ≡ fronted t p (frameNumber (decode t) p pdu)
@@ -129,7 +109,7 @@ module _ (t : List ℕ) (p : ℕ) (pdu : List ℕ) where
   pub mmrp-fault : (n : ℕ) → 2 ≤ n → n ≤ 7 → (receiveMmrpOn t p pdu .number ≡ n) ↔ (OnPort t p × (addressWalk pdu ≡ refusedFrame n))
   mmrp-fault n h k =
       rw mmrp-number
-      (fronted-past t p _ n _ (λ e. omega arith) (λ e. omega arith) (frame-fault (decode t) p pdu n h k))
+      (fronted-past t p _ n _ (λ e. omega arith) (λ e. omega arith) (numbered-fault (frame-numbered (decode t) p pdu) (omega arith) n h k))
 
   pub mmrp-2 : (receiveMmrpOn t p pdu .number ≡ 2) ↔ (OnPort t p × ((length pdu ≡ 0) ⊎ (longestPdu < length pdu)))
   mmrp-2 = Iff·trans (mmrp-fault 2 (omega arith) (omega arith)) (Iff·and Iff·rfl (address-2 pdu))
@@ -141,7 +121,7 @@ module _ (t : List ℕ) (p : ℕ) (pdu : List ℕ) where
   mmrp-14 =
       rw mmrp-number
       (fronted-past t p _ 14 _ (λ e. omega arith) (λ e. omega arith)
-      (frame-found (decode t) p pdu 14 (λ m. 64 < m) (inr (omega arith)) (λ m. given _ 14 0 _ (λ e. omega arith) (is-below 64 m))))
+      (numbered-found (frame-numbered (decode t) p pdu) (omega arith) 14 (λ m. 64 < m) (inr (omega arith)) (λ m. given _ 14 0 _ (λ e. omega arith) (is-below 64 m))))
 
   pub mmrp-0 : (receiveMmrpOn t p pdu .number ≡ 0) ↔
       (OnPort t p × ((es : List AddressAct) × (addressWalk pdu ≡ addressActs es) × (length (together (heldOn (decode t) p) (addressJoins es)) ≤ 64)))
@@ -149,7 +129,7 @@ module _ (t : List ℕ) (p : ℕ) (pdu : List ℕ) where
   mmrp-0 =
       rw mmrp-number
       (fronted-past t p _ 0 _ (λ e. omega arith) (λ e. omega arith)
-      (frame-found (decode t) p pdu 0 (λ m. m ≤ 64) (inl (omega arith)) (λ m. last _ 14 (λ e. omega arith) (is-at-least 64 m))))
+      (numbered-found (frame-numbered (decode t) p pdu) (omega arith) 0 (λ m. m ≤ 64) (inl (omega arith)) (λ m. last _ 14 (λ e. omega arith) (is-at-least 64 m))))
 
   pub mmrp-numbers : (receiveMmrpOn t p pdu .number ≤ 7) ⊎ ((receiveMmrpOn t p pdu .number ≡ 12) ⊎ (receiveMmrpOn t p pdu .number ≡ 14))
   mmrp-numbers =

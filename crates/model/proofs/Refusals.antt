@@ -386,6 +386,47 @@ room-number n m = go (leb m 64) refl
     go true e = rw (le-ltb 64 m (leb-true m 64 e))
     go false e = rw (lt-ltb 64 m (leb-false m 64 e))
 
+-- The number of a frame on a port of the bridge, of either protocol: that of the fault which its walk meets, or, where it is read,
+-- m if what is held with what it asks for is more than 64.
+pub record Numbered (number m : ℕ) (Acts : Type 0) (Meets : ℕ → Type 0) (Reads : Acts → Type 0) (count : Acts → ℕ) : Type 0 where
+  pub either : ((n : ℕ) × Meets n) ⊎ ((a : Acts) × Reads a)
+  pub within : (n : ℕ) → Meets n → (2 ≤ n) × (n ≤ 7)
+  pub met : (n : ℕ) → Meets n → number ≡ n
+  pub read : (a : Acts) → Reads a → number ≡ cond (ltb 64 (count a)) m 0
+
+module _ {number m : ℕ} {Acts : Type 0} {Meets : ℕ → Type 0} {Reads : Acts → Type 0} {count : Acts → ℕ}
+    (w : Numbered number m Acts Meets Reads count) (last-tested : 7 < m) where
+  -- a number of the walk is given exactly when the walk meets it
+  pub numbered-fault : (n : ℕ) → 2 ≤ n → n ≤ 7 → (number ≡ n) ↔ Meets n
+  numbered-fault n h k = (go (w .either), w .met n)
+    where
+      go : ((n : ℕ) × Meets n) ⊎ ((a : Acts) × Reads a) → number ≡ n → Meets n
+      go (inl a) f = subst Meets (sym (w .met (a .0) (a .1)) ∙ f) (a .1)
+      go (inr a) f =
+          absurd (not-given (ltb 64 (count (a .0))) m 0 n (λ i. omega arith) (λ i. omega arith) (sym (w .read (a .0) (a .1)) ∙ f))
+
+  -- 0 and m exactly when it meets none, by the room that there is
+  pub numbered-found : (n : ℕ) (P : ℕ → Type 0) → (n < 2) ⊎ (7 < n) → ((c : ℕ) → (cond (ltb 64 c) m 0 ≡ n) ↔ P c) →
+      (number ≡ n) ↔ ((a : Acts) × Reads a × P (count a))
+  numbered-found n P h i = (go (w .either), λ a. w .read (a .0) (a .1) ∙ i _ .1 (a .2))
+    where
+      go : ((n : ℕ) × Meets n) ⊎ ((a : Acts) × Reads a) → number ≡ n → (a : Acts) × Reads a × P (count a)
+      go (inl a) f =
+          let k : (2 ≤ a .0) × (a .0 ≤ 7) = w .within (a .0) (a .1) in
+          let l : a .0 ≡ n = sym (w .met (a .0) (a .1)) ∙ f in
+          absurd (⊎-elim (λ q. omega arith) (λ q. omega arith) h)
+      go (inr a) f = (a .0, a .1, i _ .0 (sym (w .read (a .0) (a .1)) ∙ f))
+
+  pub numbered-some : ((number ≤ 7) ⊎ (number ≡ m)) × (number ≡ 1 → ⊥)
+  numbered-some = go (w .either)
+    where
+      go : ((n : ℕ) × Meets n) ⊎ ((a : Acts) × Reads a) → ((number ≤ 7) ⊎ (number ≡ m)) × (number ≡ 1 → ⊥)
+      go (inl a) = rw (w .met (a .0) (a .1)) (let k = w .within (a .0) (a .1) in (inl (omega arith), λ i. omega arith))
+      go (inr a) =
+          rw (w .read (a .0) (a .1))
+          (cond-either (λ (c : ℕ). ((c ≤ 7) ⊎ (c ≡ m)) × (c ≡ 1 → ⊥)) (ltb 64 (count (a .0))) m 0
+          (inr refl, λ i. omega arith) (inl (omega arith), λ i. omega arith))
+
 -- a frame on a port of the bridge
 module _ (b : Bridge) (p : ℕ) (pdu : List ℕ) where
   frameNumber : ℕ
@@ -408,36 +449,17 @@ module _ (b : Bridge) (p : ℕ) (pdu : List ℕ) where
       ∙ room-number 8 (length s)
       ∙ ap (λ (n : ℕ). cond (ltb 64 n) 8 0) (held-ids s ∙ ap length (acts-ids (b .clock) (p - 1) (frameActs vs) (b .streams)))
 
-  -- a number of the walk is given exactly when the walk meets it
-  frame-fault : (n : ℕ) → 2 ≤ n → n ≤ 7 → (frameNumber ≡ n) ↔ (walk pdu ≡ fault n)
-  frame-fault n h k = (go (walk pdu) refl, frame-met n)
+  frame-numbered : Numbered frameNumber 8 (List Vector) (λ n. walk pdu ≡ fault n) (λ vs. walk pdu ≡ found vs) countWith
+  frame-numbered = record { either = go (walk pdu) refl; within = walk-faults pdu; met = frame-met; read = frame-read }
     where
-      go : (w : Walk) → walk pdu ≡ w → frameNumber ≡ n → walk pdu ≡ fault n
-      go (fault m) e f = e ∙ ap fault (sym (frame-met m e) ∙ f)
-      go (found vs) e f =
-          absurd (not-given (ltb 64 (countWith vs)) 8 0 n (λ i. omega arith) (λ i. omega arith) (sym (frame-read vs e) ∙ f))
-
-  -- 0 and 8 exactly when it meets none, by the room that there is
-  frame-found : (n : ℕ) (P : ℕ → Type 0) → (n < 2) ⊎ (7 < n) → ((m : ℕ) → (cond (ltb 64 m) 8 0 ≡ n) ↔ P m) →
-      (frameNumber ≡ n) ↔ ((vs : List Vector) × (walk pdu ≡ found vs) × P (countWith vs))
-  frame-found n P h i = (go (walk pdu) refl, λ a. frame-read (a .0) (a .1) ∙ i _ .1 (a .2))
-    where
-      go : (w : Walk) → walk pdu ≡ w → frameNumber ≡ n → (vs : List Vector) × (walk pdu ≡ found vs) × P (countWith vs)
-      go (fault m) e f =
-          let k : (2 ≤ m) × (m ≤ 7) = walk-faults pdu m e in
-          let l : m ≡ n = sym (frame-met m e) ∙ f in
-          absurd (⊎-elim (λ a. omega arith) (λ a. omega arith) h)
-      go (found vs) e f = (vs, e, i _ .0 (sym (frame-read vs e) ∙ f))
+      go : (w : Walk) → walk pdu ≡ w → ((n : ℕ) × (walk pdu ≡ fault n)) ⊎ ((vs : List Vector) × (walk pdu ≡ found vs))
+      go (fault n) e = inl (n, e)
+      go (found vs) e = inr (vs, e)
 
   frame-numbers : (frameNumber ≤ 8) × (frameNumber ≡ 1 → ⊥)
-  frame-numbers = go (walk pdu) refl
-    where
-      go : (w : Walk) → walk pdu ≡ w → (frameNumber ≤ 8) × (frameNumber ≡ 1 → ⊥)
-      go (fault m) e = rw (frame-met m e) (let k = walk-faults pdu m e in (omega arith, λ i. omega arith))
-      go (found vs) e =
-          rw (frame-read vs e)
-          (cond-either (λ (m : ℕ). (m ≤ 8) × (m ≡ 1 → ⊥)) (ltb 64 (countWith vs)) 8 0
-          (omega arith, λ i. omega arith) (omega arith, λ i. omega arith))
+  frame-numbers =
+      let n = numbered-some frame-numbered (omega arith) in
+      (⊎-elim (λ h. omega arith) (λ h. omega arith) (n .0), n .1)
 
   -- on any port
   pub receive-few : receive b p pdu .number ≤ 8
@@ -471,7 +493,7 @@ module _ (t : List ℕ) (p : ℕ) (pdu : List ℕ) where
   pub receive-fault : (n : ℕ) → 2 ≤ n → n ≤ 7 → (receiveOn t p pdu .number ≡ n) ↔ (OnPort t p × (walk pdu ≡ fault n))
   receive-fault n h k =
       rw receive-number
-      (fronted-past t p _ n _ (λ e. omega arith) (λ e. omega arith) (frame-fault (decode t) p pdu n h k))
+      (fronted-past t p _ n _ (λ e. omega arith) (λ e. omega arith) (numbered-fault (frame-numbered (decode t) p pdu) (omega arith) n h k))
 
   pub receive-2 : (receiveOn t p pdu .number ≡ 2) ↔ (OnPort t p × ((length pdu ≡ 0) ⊎ (longestPdu < length pdu)))
   receive-2 = Iff·trans (receive-fault 2 (omega arith) (omega arith)) (Iff·and Iff·rfl (walk-2 pdu))
@@ -483,7 +505,7 @@ module _ (t : List ℕ) (p : ℕ) (pdu : List ℕ) where
   receive-8 =
       rw receive-number
       (fronted-past t p _ 8 _ (λ e. omega arith) (λ e. omega arith)
-      (frame-found (decode t) p pdu 8 (λ m. 64 < m) (inr (omega arith)) (λ m. given _ 8 0 _ (λ e. omega arith) (is-below 64 m))))
+      (numbered-found (frame-numbered (decode t) p pdu) (omega arith) 8 (λ m. 64 < m) (inr (omega arith)) (λ m. given _ 8 0 _ (λ e. omega arith) (is-below 64 m))))
 
   pub receive-0 : (receiveOn t p pdu .number ≡ 0) ↔
       (OnPort t p × ((vs : List Vector) × (walk pdu ≡ found vs) × (length (together (ids (decode t .streams)) (joins (frameActs vs))) ≤ 64)))
@@ -491,7 +513,7 @@ module _ (t : List ℕ) (p : ℕ) (pdu : List ℕ) where
   receive-0 =
       rw receive-number
       (fronted-past t p _ 0 _ (λ e. omega arith) (λ e. omega arith)
-      (frame-found (decode t) p pdu 0 (λ m. m ≤ 64) (inl (omega arith)) (λ m. last _ 8 (λ e. omega arith) (is-at-least 64 m))))
+      (numbered-found (frame-numbered (decode t) p pdu) (omega arith) 0 (λ m. m ≤ 64) (inl (omega arith)) (λ m. last _ 8 (λ e. omega arith) (is-at-least 64 m))))
 
   pub receive-numbers : (receiveOn t p pdu .number ≤ 8) ⊎ (receiveOn t p pdu .number ≡ 12)
   receive-numbers =
