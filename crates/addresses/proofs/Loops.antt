@@ -95,11 +95,11 @@ present-append (a ∷ l) r = go (isHeld (a .presence)) (present-append l r)
     go false e = e
 
 module _ (l : List Address) where
-  pub dropping-all : (k : ℕ) → k ≡ length l → dropping k l ≡ presentOnly l
+  dropping-all : (k : ℕ) → k ≡ length l → dropping k l ≡ presentOnly l
   unfolding dropping
   dropping-all k e = rw (e, take-length l, drop-length l) (append-nil (presentOnly l))
 
-  pub dropping-none : dropping 0 l ≡ l
+  dropping-none : dropping 0 l ≡ l
   unfolding dropping presentOnly
   dropping-none = refl
 
@@ -115,14 +115,14 @@ module _ (l : List Address) where
     unfolding presentOnly
     one-vacant a e = rw e
 
-    pub dropping-present : isHeld (getD l k (vacantAt 0) .presence) ≡ true → dropping (suc k) l ≡ dropping k l
+    dropping-present : isHeld (getD l k (vacantAt 0) .presence) ≡ true → dropping (suc k) l ≡ dropping k l
     unfolding dropping
     dropping-present e =
         rw (next, present-append (take k l) (getD l k (vacantAt 0) ∷ []), one-present (getD l k (vacantAt 0)) e)
         (append-assoc (presentOnly (take k l)) (getD l k (vacantAt 0) ∷ []) (drop (suc k) l)
         ∙ ap (λ (x : List Address). presentOnly (take k l) ++ x) (sym (drop-cons l k (vacantAt 0) h)))
 
-    pub dropping-vacant : isHeld (getD l k (vacantAt 0) .presence) ≡ false → dropping (suc k) l ≡ dropping k (takenOut k l)
+    dropping-vacant : isHeld (getD l k (vacantAt 0) .presence) ≡ false → dropping (suc k) l ≡ dropping k (takenOut k l)
     unfolding dropping takenOut
     dropping-vacant e =
         let n : length (take k l) ≡ k = length-take-le k l (omega arith) in
@@ -135,7 +135,7 @@ module _ (l : List Address) where
           drop-at (take k l) (drop (suc k) l) k n,
         )
 
-    pub out-fewer : suc (length (takenOut k l)) ≡ length l
+    out-fewer : suc (length (takenOut k l)) ≡ length l
     unfolding takenOut
     out-fewer = omega (arith, length-append (take k l) (drop (suc k) l), length-take-le k l (omega arith), length-drop (suc k) l)
 

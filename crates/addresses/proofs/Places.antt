@@ -37,7 +37,7 @@ vacant-octets m = rw (be-zero 1, be-zero 4, append-nil (be 6 m))
 flat-length : (l : List Address) → length (flat addressOctets l) ≡ length l * addressSize
 flat-length l = length-flat-sized addressSize addressOctets l (addresses-sized l)
 
-pub length-put : (m k : ℕ) (l : List Address) → k ≤ length l → length (putIn k m l) ≡ length l + 1
+length-put : (m k : ℕ) (l : List Address) → k ≤ length l → length (putIn k m l) ≡ length l + 1
 unfolding putIn
 length-put m k l h = length-append (take k l) (vacantAt m ∷ drop k l) ∙ omega (arith, length-take-le k l h, length-drop k l)
 

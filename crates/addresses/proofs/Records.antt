@@ -101,20 +101,20 @@ module _ (o : Own) (f : FitOwn o) where
     abbrev pub there : Address
     there = getD (o .addresses) k (vacantAt 0)
 
-    pub address-part : part (addressIn k) addressSize (ownOctets o) ≡ addressOctets there
+    address-part : part (addressIn k) addressSize (ownOctets o) ≡ addressOctets there
     address-part =
         ap (part (addressIn k) addressSize) (own-same o ∙ own-split o (λ l. l))
         ∙ part-one addressSize addressOctets addressesPlace (front o (length (o .addresses))) (unused (length (o .addresses))) (front-length (length (o .addresses)))
         (o .addresses) (addresses-sized (o .addresses)) k (addressIn k) h refl (vacantAt 0)
 
-    pub address-patch : (u : Address → Address) → patch (addressIn k) addressSize (addressOctets (u there)) (ownOctets o) ≡ ownOctets (changeAddresses (at k u) o)
+    address-patch : (u : Address → Address) → patch (addressIn k) addressSize (addressOctets (u there)) (ownOctets o) ≡ ownOctets (changeAddresses (at k u) o)
     address-patch u =
         let n = length (o .addresses) in
         ap (patch (addressIn k) addressSize (addressOctets (u there))) (own-same o ∙ own-split o (λ l. l))
         ∙ patch-one addressSize addressOctets addressesPlace (front o n) (unused n) (front-length n) (o .addresses) (addresses-sized (o .addresses)) k (addressIn k) h refl (u there)
         ∙ sym (own-split o (at k u) ∙ rw (length-at k u (o .addresses), ← at-set k u (o .addresses) (vacantAt 0) h))
 
-    pub address-fits : FitAddress there
+    address-fits : FitAddress there
     address-fits = all-at FitAddress (o .addresses) (f .addresses .each) k (vacantAt 0) h
 
 -- One lent to a call.

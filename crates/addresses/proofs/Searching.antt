@@ -46,7 +46,7 @@ module _ (m : ℕ) (a : Address) (l : List Address) where
     unfolding withLeft
     left-here now = rw (eq-eqb m (a .mac) h)
 
-    pub holds-here : holdsAddress m (a ∷ l) ≡ true
+    holds-here : holdsAddress m (a ∷ l) ≡ true
     unfolding holdsAddress
     holds-here = rw (eq-eqb m (a .mac) h)
 
@@ -64,7 +64,7 @@ module _ (m : ℕ) (a : Address) (l : List Address) where
     unfolding withLeft
     left-past now = rw (ne-eqb m (a .mac) d)
 
-    pub holds-past : holdsAddress m (a ∷ l) ≡ holdsAddress m l
+    holds-past : holdsAddress m (a ∷ l) ≡ holdsAddress m l
     unfolding holdsAddress
     holds-past = rw (ne-eqb m (a .mac) d)
 

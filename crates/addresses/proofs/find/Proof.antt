@@ -8,12 +8,12 @@ use lib.ListN.{length, getD, drop}
 use Rattle.model.specs.Layout.{addresses}
 use Rattle.model.specs.Registrations.{macs}
 use Rattle.model.specs.Table.{toOwn}
+use Rattle.model.proofs.AddressesKept.{held-macs}
 use Rattle.table.specs.declared.Found.the-variants.{Gap}
 use Rattle.table.specs.Find.{foundAt}
 use Rattle.table.proofs.OwnParts.{laid-own-is, laid-own-fits}
 use Rattle.addresses.proofs.Records.{mac-read}
 use Rattle.addresses.proofs.Searching.{look-before, look-here, look-past, look-end}
-use Rattle.addresses.proofs.Keeps.{length-macs}
 use Rattle.addresses.proofs.find.Statement.{statement}
 use Rattle.addresses.proofs.find.Tie as tie
 
@@ -46,7 +46,7 @@ returns c =
     let first = c .before .before .before .before .before .before in
     let l = c .before .before .before .loop in
     let ms = macs (toOwn (first .args .own .now) .addresses) in
-    let h : l .k < length ms = omega (arith, l .inv .count, length-macs (toOwn (first .args .own .now) .addresses)) in
+    let h : l .k < length ms = omega (arith, l .inv .count, held-macs (toOwn (first .args .own .now) .addresses)) in
     sym (look-before (first .args .mac) (l .k) ms (c .before .get .result) h (read (c .before)) (c .if1 .taken)) ∙ l .inv .leads
 
 returns-2 : tie.Need-returns-2 Inv-loop μ-loop
@@ -54,7 +54,7 @@ returns-2 c =
     let first = c .before .before .before .before .before .before .before in
     let l = c .before .before .before .before .loop in
     let ms = macs (toOwn (first .args .own .now) .addresses) in
-    let h : l .k < length ms = omega (arith, l .inv .count, length-macs (toOwn (first .args .own .now) .addresses)) in
+    let h : l .k < length ms = omega (arith, l .inv .count, held-macs (toOwn (first .args .own .now) .addresses)) in
     sym (look-here (first .args .mac) (l .k) ms (c .before .before .get .result) h (read (c .before .before)) (c .if2 .taken)) ∙ l .inv .leads
 
 loop-again : tie.Need-loop-again Inv-loop μ-loop
@@ -62,7 +62,7 @@ loop-again c =
     let first = c .before .before .before .before .before .before .before in
     let l = c .before .before .before .before .loop in
     let ms = macs (toOwn (first .args .own .now) .addresses) in
-    let h : l .k < length ms = omega (arith, l .inv .count, length-macs (toOwn (first .args .own .now) .addresses)) in
+    let h : l .k < length ms = omega (arith, l .inv .count, held-macs (toOwn (first .args .own .now) .addresses)) in
     record {
       within = omega arith;
       few = l .inv .few;
@@ -76,7 +76,7 @@ returns-3 c =
     let l = c .before .loop in
     let ms = macs (toOwn (first .args .own .now) .addresses) in
     let e : l .k ≡ c .before .before .count .result = omega (arith, l .inv .within) in
-    let h : length ms ≤ l .k = omega (arith, l .inv .count, length-macs (toOwn (first .args .own .now) .addresses)) in
+    let h : length ms ≤ l .k = omega (arith, l .inv .count, held-macs (toOwn (first .args .own .now) .addresses)) in
     ap Gap (sym e) ∙ sym (look-end (first .args .mac) (l .k) ms h) ∙ l .inv .leads
 
 pub find-spec : {M : Type 1} → statement M
