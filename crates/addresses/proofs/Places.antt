@@ -1,10 +1,13 @@
 -- A record put in or taken out: the octets that the code moves, clears and writes are those of the addresses then held.
 use mathlib.Core.Path.{_≡_, refl, sym, ap, _∙_}
 use mathlib.Core.List.{List, [], _∷_, _++_, append-assoc, append-nil}
+use mathlib.Core.Bool.{true, false}
 use Prim.Native.Nat.{ℕ, suc, _+_, _-_, _*_, _≤_, _<_}
 use native.Mathlib.Omega.{arith}
 use lib.ListN.{length, getD, take, drop, length-append, length-drop, take-append-drop}
 use lib.Seq.{split-at, length-take-le}
+use lib.Dec.{leb}
+use borrow.Author.Tests.{le-leb, lt-leb}
 use Rattle.octets.specs.Be.{be}
 use Rattle.octets.specs.Parts.{part, patch, zeros}
 use Rattle.octets.specs.Fields.{flat, packed}
@@ -13,14 +16,18 @@ use Rattle.octets.proofs.Fields.{flat-append}
 use Rattle.octets.proofs.Patches.{patch-between}
 use Rattle.model.specs.Layout.{addressIn, addressSize, addressWidths, addresses, addressesPlace, heldPlace, macPlace}
 use Rattle.model.specs.State.{Address, Own}
-use Rattle.model.specs.Registrations.{changeAddresses}
-use Rattle.model.specs.Table.{presenceNumbers, addressNumbers, addressOctets, ownOctets}
-use Rattle.model.specs.Laid.{FitOwn}
+use Rattle.model.specs.Registrations.{changeAddresses, macs}
+use Rattle.model.specs.Table.{presenceNumbers, addressNumbers, addressOctets, ownOctets, toOwn}
+use Rattle.model.specs.Laid.{FitOwn, LaidOwn}
 use Rattle.model.proofs.Parts.{length-zeros, zeros-add, length-flat-sized}
 use Rattle.model.proofs.Addresses.{address-length, addresses-sized}
+use Rattle.table.specs.declared.Found.the-variants.{At, Gap}
+use Rattle.table.specs.Find.{foundAt}
 use Rattle.table.proofs.Moving.{gap-made, gap-closed}
-use Rattle.addresses.specs.Room.{vacantAt, putIn, takenOut}
-use Rattle.addresses.proofs.Records.{front, unused, own-split, own-same, front-length, held-put}
+use Rattle.table.proofs.OwnParts.{laid-own-is, laid-own-fits}
+use Rattle.addresses.specs.Room.{vacantAt, putIn, takenOut, withRoom}
+use Rattle.addresses.proofs.Records.{front, unused, own-split, own-same, changed-same, front-length, held-put}
+use Rattle.addresses.proofs.Searching.{held-at, missing-at}
 
 -- a vacant one is zeros and its address
 vacant-octets : (m : ℕ) → addressOctets (vacantAt m) ≡ zeros macPlace ++ be 6 m
@@ -29,6 +36,10 @@ vacant-octets m = rw (be-zero 1, be-zero 4, append-nil (be 6 m))
 
 flat-length : (l : List Address) → length (flat addressOctets l) ≡ length l * addressSize
 flat-length l = length-flat-sized addressSize addressOctets l (addresses-sized l)
+
+pub length-put : (m k : ℕ) (l : List Address) → k ≤ length l → length (putIn k m l) ≡ length l + 1
+unfolding putIn
+length-put m k l h = length-append (take k l) (vacantAt m ∷ drop k l) ∙ omega (arith, length-take-le k l h, length-drop k l)
 
 module _ (o : Own) (f : FitOwn o) where
   abbrev l : List Address
@@ -84,10 +95,6 @@ module _ (o : Own) (f : FitOwn o) where
         ∙ patch-between (before k ++ zeros macPlace) (zeros 6) r (be 6 mac) (addressIn k + macPlace) 6 place (length-zeros 6)
         ∙ rw (vacant-octets mac) (simp append-assoc)
 
-    more : length (putIn k mac l) ≡ n + 1
-    unfolding putIn
-    more = length-append (take k l) (vacantAt mac ∷ drop k l) ∙ omega (arith, length-take-le k l h, length-drop k l)
-
     pub put-in : (s : List ℕ) → s ≡ ownOctets o → (m : ℕ) → m ≡ n
         → patch heldPlace 1 (be 1 (m + 1)) (patch (addressIn k + macPlace) 6 (be 6 mac)
         (patch (addressIn k) addressSize (zeros addressSize) (patch (addressIn k + addressSize) ((m - k) * addressSize) (part (addressIn k) ((m - k) * addressSize) s) s)))
@@ -96,7 +103,7 @@ module _ (o : Own) (f : FitOwn o) where
         rw (e, q ∙ split)
         (rw (gap-made (before k) higher (zeros addressSize) rest (addressIn k) ((n - k) * addressSize) addressSize (before-length k h) higher-length (length-zeros addressSize), named)
         (recounted k (n + 1) (addressOctets (vacantAt mac) ++ (higher ++ rest))
-        ∙ sym (own-split o (putIn k mac) ∙ rw more (unfold putIn higher rest flat in rw (flat-append addressOctets (take k l) (vacantAt mac ∷ drop k l)) (simp append-assoc)))))
+        ∙ sym (own-split o (putIn k mac) ∙ rw (length-put mac k l h) (unfold putIn higher rest flat in rw (flat-append addressOctets (take k l) (vacantAt mac ∷ drop k l)) (simp append-assoc)))))
 
   module _ (k : ℕ) (h : k < n) where
     behind : List ℕ
@@ -137,3 +144,30 @@ module _ (o : Own) (f : FitOwn o) where
         rw (e, q ∙ apart, place)
         (rw (gap-closed (before k) (addressOctets (getD l k (vacantAt 0))) behind (unused n) (addressIn k) ((n - 1 - k) * addressSize) addressSize (before-length k (omega arith)) (address-length _) behind-length)
         (recounted k (n - 1) (behind ++ (zeros addressSize ++ unused n)) ∙ closed few))
+
+-- Room for an address: it has a record, gets one, or there are 64 others.
+
+module _ (s : List ℕ) (d : LaidOwn s) (m k : ℕ) where
+  abbrev those : List Address
+  those = toOwn s .addresses
+
+  pub enrolled-there : foundAt m 0 (macs those) ≡ At k → (true ≡ leb (length (withRoom m those)) addresses) × (s ≡ ownOctets (changeAddresses (withRoom m) (toOwn s)))
+  enrolled-there e =
+      let r = held-at m k those e .room in (
+        sym (le-leb (length (withRoom m those)) addresses (rw r (laid-own-fits s d .addresses .at-most-64))),
+        laid-own-is s d ∙ own-same (toOwn s) ∙ changed-same (toOwn s) (λ l. l) (withRoom m) (sym r),
+      )
+
+  module _ (e : foundAt m 0 (macs those) ≡ Gap k) where
+    one-more : length (withRoom m those) ≡ length those + 1
+    one-more = let r = missing-at m k those e in ap length (r .room) ∙ length-put m k those (r .within)
+
+    pub enrolled-full : length those ≡ addresses → false ≡ leb (length (withRoom m those)) addresses
+    enrolled-full h = sym (lt-leb (length (withRoom m those)) addresses (omega (arith, one-more)))
+
+    pub enrolled-made : (u : List ℕ) → length those < addresses → u ≡ ownOctets (changeAddresses (putIn k m) (toOwn s))
+        → (true ≡ leb (length (withRoom m those)) addresses) × (u ≡ ownOctets (changeAddresses (withRoom m) (toOwn s)))
+    enrolled-made u h q = (
+      sym (le-leb (length (withRoom m those)) addresses (omega (arith, one-more))),
+      q ∙ changed-same (toOwn s) (putIn k m) (withRoom m) (sym (missing-at m k those e .room)),
+    )

@@ -58,6 +58,17 @@ pub own-same : (o : Own) → ownOctets o ≡ ownOctets (changeAddresses (λ l. l
 unfolding changeAddresses
 own-same o = refl
 
+-- what is done to the addresses, by another name
+pub changed-same : (o : Own) (u v : List Address → List Address) → u (o .addresses) ≡ v (o .addresses) → ownOctets (changeAddresses u o) ≡ ownOctets (changeAddresses v o)
+unfolding changeAddresses
+changed-same o u v e = rw e
+
+-- one thing done after another
+pub changed-twice : (o : Own) (u v w : List Address → List Address) → v (u (o .addresses)) ≡ w (o .addresses)
+    → ownOctets (changeAddresses v (changeAddresses u o)) ≡ ownOctets (changeAddresses w o)
+unfolding changeAddresses
+changed-twice o u v w e = rw e
+
 module _ (o : Own) (f : FitOwn o) where
   flags-length : length (packed boundaryWidths (bit (o .boundaryA) ∷ bit (o .boundaryB) ∷ [])) ≡ 2
   unfolding width

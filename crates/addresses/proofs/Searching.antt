@@ -1,6 +1,6 @@
 -- What is done about an address, by the place where it was found or is missing.
 use mathlib.Core.Path.{_≡_, refl, sym, ap, _∙_}
-use mathlib.Core.Bool.{Bool, true, false}
+use mathlib.Core.Bool.{Bool, true, false, true≢false}
 use mathlib.Core.List.{List, [], _∷_}
 use Prim.Native.Nat.{ℕ, suc, _+_, _≤_, _<_}
 use native.Mathlib.Omega.{arith}
@@ -185,3 +185,16 @@ missing-at m k l f = go (search-for m 0 l)
         let p : k ≡ 0 + j = cc in
         let q : j ≡ k = omega arith in
         rw (← q) r
+
+-- one that has a record is found
+pub held-somewhere : (m : ℕ) (l : List Address) → Ascending (macs l) → holdsAddress m l ≡ true → (k : ℕ) → foundAt m 0 (macs l) ≡ Gap k → ⊥
+held-somewhere m l a h k f = true≢false (sym h ∙ missing-at m k l f .lacks a .holds)
+
+pub room-holds : (m : ℕ) (l : List Address) → holdsAddress m (withRoom m l) ≡ true
+room-holds m [] = unfold withRoom in (holds-here m (vacantAt m) [] (unfold vacantAt in refl))
+room-holds m (a ∷ l) = go (tri m (a .mac)) (room-holds m l)
+  where
+    go : Tri m (a .mac) → holdsAddress m (withRoom m l) ≡ true → holdsAddress m (withRoom m (a ∷ l)) ≡ true
+    go (less h) r = rw (room-before m a l h) (holds-here m (vacantAt m) (a ∷ l) (unfold vacantAt in refl))
+    go (same h) r = rw (room-here m a l h) (holds-here m a l h)
+    go (more h) r = rw (room-past m a l h) (holds-past m a (withRoom m l) (λ e. omega arith) ∙ r)

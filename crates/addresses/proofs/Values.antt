@@ -6,11 +6,12 @@ use Prim.Native.Nat.{ℕ, _+_, _^_, _<_}
 use native.Mathlib.Omega.{arith}
 use lib.ListN.{length, getD, set}
 use lib.Dec.{eqb, leb}
+use Rattle.octets.specs.Be.{be}
 use Rattle.octets.specs.Parts.{part, patch, zeros}
 use Rattle.octets.specs.Pick.{pick}
 use Rattle.octets.specs.Fields.{Fit, packed, width}
-use Rattle.octets.proofs.Fields.{get-octet}
-use Rattle.model.specs.Layout.{addressLeavesPlace, addressWidths, inAddress, macPlace}
+use Rattle.octets.proofs.Fields.{get-octet, put-field, packed-zeros}
+use Rattle.model.specs.Layout.{addressLeavesPlace, addressSize, addressWidths, inAddress, macPlace}
 use Rattle.model.specs.State.{Leaving, stays, since, Presence, vacant, present, Address}
 use Rattle.model.specs.Registrations.{begin, quitPresence, quitAddress, joined}
 use Rattle.model.specs.Table.{leavingNumber, sinceNumber, presenceNumbers, addressNumbers, addressOctets, toAddress}
@@ -18,6 +19,7 @@ use Rattle.model.specs.Laid.{LaidAddress}
 use Rattle.model.proofs.Parts.{_also_}
 use Rattle.model.proofs.Cells.{leaving-few}
 use Rattle.model.proofs.Addresses.{address-back}
+use Rattle.table.proofs.Lens.{patch-whole}
 use Rattle.cells.specs.Steps.{begun, lapsed}
 use Rattle.cells.proofs.Leaving.{begun-numbers, lapsed-numbers}
 use Rattle.addresses.specs.Room.{vacantAt, isHeld, lapsePresence, lapseAddress}
@@ -70,6 +72,21 @@ module _ (clock : ℕ) where
 
   pub quits-none : (s : List ℕ) → LaidAddress s → getD s 0 0 ≡ 0 → s ≡ addressOctets (quitAddress clock (toAddress s))
   quits-none = laid (λ s a. getD s 0 0 ≡ 0 → s ≡ addressOctets (quitAddress clock a)) (vacant-stays clock)
+
+-- A join.
+
+address-zeros : addressOctets (vacantAt 0) ≡ zeros addressSize
+unfolding addressOctets addressNumbers presenceNumbers vacantAt width
+address-zeros = packed-zeros addressWidths
+
+pub joins : (m : ℕ) (s : List ℕ) → length s ≡ addressSize
+    → patch macPlace 6 (be 6 m) (patch 0 1 (be 1 1) (patch 0 addressSize (zeros addressSize) s)) ≡ addressOctets (joined m)
+unfolding addressOctets width
+joins m s e =
+    let none = addressNumbers (vacantAt 0) in
+    ap (λ (t : List ℕ). patch macPlace 6 (be 6 m) (patch 0 1 (be 1 1) t)) (patch-whole addressSize (zeros addressSize) s e ∙ sym address-zeros)
+    ∙ unfold addressNumbers presenceNumbers vacantAt joined leavingNumber sinceNumber in (ap (patch macPlace 6 (be 6 m)) (put-field addressWidths none (inAddress .registered) 1 refl)
+    ∙ put-field addressWidths (set none (inAddress .registered) 1) (inAddress .mac) m refl)
 
 -- Expiry.
 

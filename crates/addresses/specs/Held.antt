@@ -1,7 +1,7 @@
 -- What a record is found by among the octets that a port holds by itself: its place k among the addresses held.
 use mathlib.Core.Path.{_≡_}
 use mathlib.Core.List.{List}
-use Prim.Native.Nat.{ℕ, _≤_, _<_, _^_}
+use Prim.Native.Nat.{ℕ, _≤_, _<_}
 use mathlib.Core.Bool.{true}
 use lib.ListN.{length}
 use Rattle.model.specs.Layout.{addresses, ownSize}
@@ -21,13 +21,7 @@ pub record RoomAt (s : List ℕ) (k : ℕ) : Type 0 where
   pub few : length (toOwn s .addresses) < addresses
   pub within : k ≤ length (toOwn s .addresses)
 
--- An address of 48 bits.
-pub record MacGiven (s : List ℕ) (mac : ℕ) : Type 0 where
-  pub laid : LaidOwn s
-  pub size : length s ≡ ownSize
-  pub small : mac < 2 ^ 48
-
--- One that has a record.
+-- an address that has a record
 pub record HeldGiven (s : List ℕ) (mac : ℕ) : Type 0 where
   pub laid : LaidOwn s
   pub size : length s ≡ ownSize

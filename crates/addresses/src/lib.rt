@@ -13,7 +13,7 @@ ghost use Rattle.model.specs.Settling.{holdsAddress, remainAddresses};
 ghost use Rattle.model.specs.Table.{addressOctets, toAddress, ownOctets, toOwn};
 ghost use Rattle.model.specs.Laid.{LaidAddress, LaidOwn};
 ghost use Rattle.table.specs.Find.{foundAt};
-ghost use Rattle.addresses.specs.Held.{AddressIn, HeldGiven, MacGiven, RoomAt};
+ghost use Rattle.addresses.specs.Held.{AddressIn, HeldGiven, RoomAt};
 ghost use Rattle.addresses.specs.Room.{presentOnly, lapseAddress, putIn, takenOut, withRoom};
 use table::address::LEAVES;
 use table::address::MAC;
@@ -92,7 +92,7 @@ fn remove(own: &mut [u8], k: usize)
 
 // Room for an address: a vacant record at its place, unless it has one. False where there are 64 others.
 pub fn enrol(own: &mut [u8], mac: u64) -> bool
-    requires { ⌜ MacGiven (now own) mac ⌝ }
+    requires { ⌜ LaidOwn (now own) × (length (now own) ≡ ownSize) ⌝ }
     ensures { λ r. ⌜ (r ≡ leb (length (withRoom mac (toOwn (now (own .entry)) .addresses))) addresses)
         × (now (own .exit) ≡ cond r (ownOctets (changeAddresses (withRoom mac) (toOwn (now (own .entry))))) (now (own .entry))) ⌝ }
 {

@@ -1,5 +1,5 @@
 -- What the code finds and leaves among the octets of what a port holds.
-use mathlib.Core.Path.{_≡_, refl, sym, ap, _∙_, subst}
+use mathlib.Core.Path.{_≡_, refl, sym, ap, _∙_}
 use mathlib.Core.List.{List, [], _∷_, _++_, map}
 use mathlib.Core.Bool.{Bool, true, false}
 use Prim.Native.Nat.{ℕ, _+_, _-_, _≤_, _<_}
@@ -22,26 +22,16 @@ use Rattle.model.specs.State.{Settings, Domain, noDomain, domain, Own}
 use Rattle.model.specs.Registrations.{at, changeDomains}
 use Rattle.model.specs.Settling.{expireDomain, isDomain, anyDomain, otherPriority}
 use Rattle.model.specs.Table.{domainNumbers, domainOctets, toDomain, ownOctets, toOwn}
-use Rattle.model.specs.Laid.{FitOwn, LaidOwn}
+use Rattle.model.specs.Laid.{FitOwn}
 use Rattle.model.proofs.Addresses.{addressesWhole}
-use Rattle.model.proofs.Owns.{numberHeld, own-fit-back, slots-length}
+use Rattle.model.proofs.Owns.{numberHeld, slots-length}
 use Rattle.table.specs.Reads.{ReadsDomain}
+pub use Rattle.table.proofs.OwnParts.{laid-own-is, laid-own-fits}
 use Rattle.table.proofs.OwnParts.{reads-domain, slot-part, slot-patch, slot-fits}
 use Rattle.table.proofs.EachStream.{firsts, firsts-length, firsts-at, firsts-all, firsts-keep}
 use Rattle.domains.specs.Classes.{ClassIn, classFrom, flagged}
 use Rattle.domains.proofs.Keeps.{FitDomain, expire-domain-fits}
 use Rattle.domains.proofs.Values.{held-octet}
-
--- Octets that are laid out as what a port holds.
-module _ (s : List ℕ) (l : LaidOwn s) where
-  back : toOwn s ≡ l .thing
-  back = ap toOwn (l .is) ∙ own-fit-back (l .thing) (l .fits)
-
-  pub laid-own-is : s ≡ ownOctets (toOwn s)
-  laid-own-is = l .is ∙ ap ownOctets (sym back)
-
-  pub laid-own-fits : FitOwn (toOwn s)
-  laid-own-fits = subst FitOwn (sym back) (l .fits)
 
 -- One Domain value lent to a call.
 module _ (o : Own) (f : FitOwn o) (s : List ℕ) (e : s ≡ ownOctets o) (i : ℕ) (h : i < slots) where

@@ -1,7 +1,7 @@
 -- What a port holds by itself: read, replaced, lent; its Domain value in a slot, and its flags.
 use Prim.Native.Nat.{ℕ, _+_, _-_, _<_, _≤_}
 use native.Mathlib.Omega.{arith}
-use mathlib.Core.Path.{_≡_, refl, sym, ap, _∙_}
+use mathlib.Core.Path.{_≡_, refl, sym, ap, _∙_, subst}
 use mathlib.Core.List.{List, [], _∷_, _++_, append-nil}
 use lib.ListN.{length, getD, set, take, drop, length-set}
 use Rattle.octets.specs.Parts.{part, patch}
@@ -14,7 +14,7 @@ use Rattle.model.specs.Lists.{All}
 use Rattle.model.specs.State.{Domain, noDomain, Own, noOwn, Bridge, ownAt}
 use Rattle.model.specs.Registrations.{at, changeDomains, owning}
 use Rattle.model.specs.Table.{domainNumbers, domainOctets, toDomain, ownOctets, toOwn, encode, decode}
-use Rattle.model.specs.Laid.{FitOwn, FitBridge, Laid}
+use Rattle.model.specs.Laid.{FitOwn, FitBridge, Laid, LaidOwn}
 use Rattle.model.proofs.Lists.{all-at, all-set, all-changed, length-at}
 use Rattle.model.proofs.Owns.{domain-length, domains-sized, flags, numberHeld, fit-back, own-length, own-fit-back}
 use Rattle.model.proofs.Addresses.{addressesWhole}
@@ -27,6 +27,17 @@ use Rattle.table.proofs.Header.{table-length, own-part, own-patch}
 use Rattle.table.proofs.StreamParts.{at-set}
 use Rattle.table.proofs.Fitting.{owning-fits}
 use Rattle.table.proofs.ByPlace.{encoded-laid}
+
+-- Octets that are laid out as what a port holds.
+module _ (s : List ℕ) (l : LaidOwn s) where
+  back : toOwn s ≡ l .thing
+  back = ap toOwn (l .is) ∙ own-fit-back (l .thing) (l .fits)
+
+  pub laid-own-is : s ≡ ownOctets (toOwn s)
+  laid-own-is = l .is ∙ ap ownOctets (sym back)
+
+  pub laid-own-fits : FitOwn (toOwn s)
+  laid-own-fits = subst FitOwn (sym back) (l .fits)
 
 pub reads-own : (o : Own) → FitOwn o → (s : List ℕ) → s ≡ ownOctets o → ReadsOwn s o
 reads-own o f s e = record {

@@ -367,7 +367,7 @@ pub fn find(table: &[u8], id: u64) -> Found
 }
 
 // The n octets from place at on, moved up by d.
-fn move_up(s: &mut [u8], at: usize, d: usize, n: usize)
+pub fn move_up(s: &mut [u8], at: usize, d: usize, n: usize)
     requires { ⌜ at + d + n ≤ length (now s) ⌝ }
     ensures { λ _. ⌜ now (s .exit) ≡ patch (at + d) n (part at n (now (s .entry))) (now (s .entry)) ⌝ }
 {

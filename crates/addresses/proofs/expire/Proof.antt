@@ -1,30 +1,38 @@
-use Prim.Native.Nat.{ℕ, suc, _+_, _-_, _*_, _≤_, _<_}
-use mathlib.Core.Path.{_≡_, refl, sym, ap, _∙_}
-use native.Mathlib.Omega.{arith}
-use lib.ListN.{length, getD, take, drop}
+-- `addresses::expire` meets its contract. Assumes nothing.
+use mathlib.Core.Path.{_≡_, sym, ap, _∙_}
+use mathlib.Core.List.{map}
 use borrow.Author.Needs.{needs}
+use Rattle.model.specs.State.{Own}
+use Rattle.model.specs.Registrations.{changeAddresses}
+use Rattle.model.specs.Settling.{remainAddresses}
+use Rattle.model.specs.Table.{ownOctets, toOwn}
+use Rattle.table.specs.Reads.{ReadsOwn}
+use Rattle.table.proofs.OwnParts.{reads-own}
+use Rattle.addresses.specs.Room.{presentOnly, lapseAddress}
+use Rattle.addresses.proofs.Records.{changed-twice}
+use Rattle.addresses.proofs.Values.{lapse-mac, lapse-fits}
+use Rattle.addresses.proofs.Loops.{mapped-fits, remains}
 use Rattle.addresses.proofs.expire.Statement.{statement}
 use Rattle.addresses.proofs.expire.Tie as tie
-use Rattle.addresses.proofs.expire.Reads as reads
-use Rattle.addresses.proofs.expire.Lts as lts
-use Rattle.addresses.proofs.drop_vacant.Reads as drop-vacant-reads
-use Rattle.addresses.proofs.lapse_all.Reads as lapse-all-reads
 
--- src/lib.rt:159:5
-lapse-all-requires : tie.Need-lapse-all-requires
-lapse-all-requires c κs = search needs
+-- the octets with the lapsed ones vacant
+lapsed-read : (c : tie.After-lapse-all)
+    → ReadsOwn (c .lapse-all .last .0) (changeAddresses (map (lapseAddress (c .before .before .before .args .leave) (c .before .before .before .args .time))) (toOwn (c .before .before .before .args .own .now)))
+lapsed-read c =
+    let first = c .before .before .before in
+    let a = first .args in
+    reads-own _ (mapped-fits (lapseAddress (a .leave) (a .time)) (lapse-mac (a .leave) (a .time)) (lapse-fits (a .leave) (a .time)) (a .own .now) (first .pre .0)) _ (c .lapse-all .ensures)
 
--- src/lib.rt:160:5
 drop-vacant-requires : tie.Need-drop-vacant-requires
-drop-vacant-requires c κs = search needs
+drop-vacant-requires c κs = let r = lapsed-read (c .before .before .before) in (r .laid, r .size)
 
--- src/lib.rt:155:1
-same-length : tie.Need-same-length
-same-length c = search needs
-
--- src/lib.rt:155:1
 returns : tie.Need-returns
-returns c = ?
+returns c st e =
+    let a = c .before .before .before .before .before .before .before .before .before .args in
+    let r = lapsed-read (c .before .before .before .before .before .before) in
+    c .before .before .drop-vacant .ensures
+    ∙ ap (λ (o : Own). ownOctets (changeAddresses presentOnly o)) (r .is)
+    ∙ changed-twice (toOwn (a .own .now)) (map (lapseAddress (a .leave) (a .time))) presentOnly (remainAddresses st (a .time)) (remains st (a .leave) (a .time) e (toOwn (a .own .now) .addresses))
 
 pub expire-spec : {M : Type 1} → statement M
-expire-spec = tie.close (tie.spec lapse-all-requires drop-vacant-requires same-length returns)
+expire-spec = tie.close (tie.spec (λ c κs. search needs) drop-vacant-requires (λ c. search needs) returns)

@@ -1,32 +1,25 @@
-use Prim.Native.Nat.{ℕ, suc, _+_, _-_, _*_, _≤_, _<_}
-use mathlib.Core.Path.{_≡_, refl, sym, ap, _∙_}
-use native.Mathlib.Omega.{arith}
-use lib.ListN.{length, getD, take, drop}
+-- `addresses::holds` meets its contract. Assumes nothing.
+use mathlib.Core.Path.{sym, _∙_}
 use borrow.Author.Needs.{needs}
+use Rattle.model.specs.Table.{toOwn}
+use Rattle.table.proofs.OwnParts.{laid-own-fits}
+use Rattle.addresses.proofs.Searching.{held-at, missing-at}
 use Rattle.addresses.proofs.holds.Statement.{statement}
 use Rattle.addresses.proofs.holds.Tie as tie
-use Rattle.addresses.proofs.holds.Reads as reads
-use Rattle.addresses.proofs.holds.Lts as lts
-use Rattle.addresses.proofs.find.Reads as find-reads
 
--- src/lib.rt:60:24
-find-requires : tie.Need-find-requires
-find-requires c κs = search needs
-
-enum-told : tie.Need-enum-told
-enum-told c = search needs
-
--- src/lib.rt:61:9
-enum-told-2 : tie.Need-enum-told-2
-enum-told-2 c = search needs
-
--- src/lib.rt:61:9
 returns : tie.Need-returns
-returns c = ?
+returns c =
+    let first = c .before .before .before .before in
+    let s = first .args .own .now in
+    let e = sym (c .before .before .find .ensures) ∙ c .enum-told2 .given .1 in
+    sym (missing-at (first .args .mac) _ (toOwn s .addresses) e .lacks (laid-own-fits s (first .pre .0) .addresses .ascending) .holds)
 
--- src/lib.rt:56:1
 returns-2 : tie.Need-returns-2
-returns-2 c = ?
+returns-2 c =
+    let first = c .before .before .before .before in
+    let s = first .args .own .now in
+    let e = sym (c .before .before .find .ensures) ∙ c .enum-told .given .1 in
+    sym (held-at (first .args .mac) _ (toOwn s .addresses) e .holds)
 
 pub holds-spec : {M : Type 1} → statement M
-holds-spec = tie.close (tie.spec find-requires enum-told enum-told-2 returns returns-2)
+holds-spec = tie.close (tie.spec (λ c κs. search needs) (λ c. search needs) (λ c. search needs) returns returns-2)

@@ -1,86 +1,57 @@
-use Prim.Native.Nat.{ℕ, suc, _+_, _-_, _*_, _≤_, _<_}
-use mathlib.Core.Path.{_≡_, refl, sym, ap, _∙_}
+-- `addresses::leave` meets its contract. Assumes nothing.
+use Prim.Native.Nat.{_<_, _≤_}
+use mathlib.Core.Path.{sym, ap, _∙_}
+use mathlib.Core.List.{List}
 use native.Mathlib.Omega.{arith}
-use lib.ListN.{length, getD, take, drop}
 use borrow.Author.Needs.{needs}
+use lib.ListN.{length}
+use Rattle.model.specs.Layout.{addresses}
+use Rattle.model.specs.State.{Address, Own}
+use Rattle.model.specs.Registrations.{at, changeAddresses, quitAddress, withLeft}
+use Rattle.model.specs.Table.{ownOctets, toOwn}
+use Rattle.table.proofs.OwnParts.{laid-own-is, laid-own-fits}
+use Rattle.addresses.proofs.Records.{lent-address, left-address, own-same, changed-same}
+use Rattle.addresses.proofs.Searching.{HeldAt, held-at, missing-at}
 use Rattle.addresses.proofs.leave.Statement.{statement}
 use Rattle.addresses.proofs.leave.Tie as tie
-use Rattle.addresses.proofs.leave.Reads as reads
-use Rattle.addresses.proofs.leave.Lts as lts
-use Rattle.addresses.proofs.find.Reads as find-reads
-use Rattle.addresses.proofs.quit.Reads as quit-reads
 
--- src/lib.rt:119:24
-find-requires : tie.Need-find-requires
-find-requires c κs = search needs
-
--- src/lib.rt:119:19
-enum-known-k : tie.Need-enum-known-k
-enum-known-k c = search needs
-
--- src/lib.rt:120:9
-enum-told : tie.Need-enum-told
-enum-told c = search needs
-
--- src/lib.rt:120:9
-same-length : tie.Need-same-length
-same-length c = search needs
-
--- src/lib.rt:120:9
 returns : tie.Need-returns
-returns c = ?
+returns c =
+    let first = c .before .before .before .before .before in
+    let s = first .args .own .now in
+    let f = laid-own-fits s (first .pre .0) in
+    let e = sym (c .before .before .find .ensures) ∙ c .enum-told .given .1 in
+    laid-own-is s (first .pre .0)
+    ∙ own-same (toOwn s)
+    ∙ changed-same (toOwn s) (λ l. l) (withLeft (first .args .clock) (first .args .mac))
+    (sym (missing-at (first .args .mac) _ (toOwn s .addresses) e .lacks (f .addresses .ascending) .leaves (first .args .clock)))
 
--- src/lib.rt:122:25
-mul-a : tie.Need-mul-a
-mul-a c = search needs
+-- the address is found at its place
+there : (c : tie.After-known-told) → HeldAt (c .before .before .before .before .before .before .args .mac) (c .before .k .given .0 .0) (toOwn (c .before .before .before .before .before .before .args .own .now) .addresses)
+there c = held-at _ _ _ (sym (c .before .before .before .find .ensures) ∙ c .before .k .given .1)
 
--- src/lib.rt:122:13
-add-a : tie.Need-add-a
-add-a c = search needs
+few : (c : tie.After-known-told) → c .before .k .given .0 .0 < addresses
+few c =
+    let first = c .before .before .before .before .before .before in
+    omega (arith, there c .within, laid-own-fits (first .args .own .now) (first .pre .0) .addresses .at-most-64)
 
--- src/lib.rt:123:22
-add-quit : tie.Need-add-quit
-add-quit c = search needs
-
--- src/lib.rt:123:10
-sub-quit : tie.Need-sub-quit
-sub-quit c = search needs
-
--- src/lib.rt:123:10
-part-quit-start : tie.Need-part-quit-start
-part-quit-start c = search needs
-
--- src/lib.rt:123:10
-part-quit-end : tie.Need-part-quit-end
-part-quit-end c = search needs
-
--- src/lib.rt:123:5
 quit-requires : tie.Need-quit-requires
-quit-requires c κs = search needs
+quit-requires c κs =
+    let first = c .before .before .before .before .before .before .before in
+    let s = first .args .own .now in
+    let r = lent-address (toOwn s) (laid-own-fits s (first .pre .0)) s (laid-own-is s (first .pre .0)) _ (there (c .before) .within) in
+    (r .laid, r .size)
 
--- src/lib.rt:115:1
-same-length-2 : tie.Need-same-length-2
-same-length-2 c = search needs
-
--- src/lib.rt:115:1
 returns-2 : tie.Need-returns-2
-returns-2 c = ?
+returns-2 c =
+    let first = c .before .before .before .before .before .before .before .before .before .before in
+    let s = first .args .own .now in
+    let h = there (c .before .before .before .before) in
+    left-address (toOwn s) (laid-own-fits s (first .pre .0)) s (laid-own-is s (first .pre .0)) _ (h .within) (quitAddress (first .args .clock)) _ (c .before .before .quit .ensures)
+    ∙ changed-same (toOwn s) _ (withLeft (first .args .clock) (first .args .mac)) (sym (h .leaves (first .args .clock)))
 
 pub leave-spec : {M : Type 1} → statement M
 leave-spec =
     tie.close
-    (tie.spec
-    find-requires
-    enum-known-k
-    enum-told
-    same-length
-    returns
-    mul-a
-    add-a
-    add-quit
-    sub-quit
-    part-quit-start
-    part-quit-end
-    quit-requires
-    same-length-2
-    returns-2)
+    (tie.spec (λ c κs. search needs) (λ c. search needs) (λ c. search needs) (λ c. search needs) returns (λ c. omega (arith, few c)) (λ c. omega (arith, few c)) (λ c. omega (arith, few c))
+    (λ c. search needs) (λ c. search needs) (λ c. omega (arith, few c)) quit-requires (λ c. search needs) returns-2)
