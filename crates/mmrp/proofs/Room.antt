@@ -92,7 +92,7 @@ effects-drop now (a ∷ es) l = effects-drop now es (effect false now a l) ∙ e
 
 -- Acts where room was made do what they do without it.
 
-joined-again : (m : ℕ) (l : List Address) → withJoined m (withRoom m l) ≡ withJoined m l
+pub joined-again : (m : ℕ) (l : List Address) → withJoined m (withRoom m l) ≡ withJoined m l
 joined-again m [] = unfold withRoom in (join-here m (vacantAt m) [] (unfold vacantAt in refl)) ∙ (unfold withJoined in refl)
 joined-again m (a ∷ l) = go (tri m (a .mac)) (joined-again m l)
   where

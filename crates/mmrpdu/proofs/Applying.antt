@@ -18,6 +18,7 @@ use Rattle.model.proofs.FoundVectors.{passed}
 use Rattle.model.proofs.FoundAddresses.{address-faults, no-refusal, no-list-fault, then-list, after-list, passed-addresses, each-within}
 use Rattle.msrpdu.specs.Reader.{headOf, eventMeant, eventIn}
 use Rattle.msrpdu.specs.declared.VectorHead.{VectorHead}
+use Rattle.msrpdu.specs.declared.VectorRead.{VectorRead}
 use Rattle.msrpdu.specs.declared.VectorRead.the-variants as vector
 use Rattle.msrpdu.specs.declared.ValueRead.the-variants.{Value}
 use Rattle.msrpdu.proofs.Laws.{value-read}
@@ -25,7 +26,7 @@ use Rattle.msrpdu.proofs.Reading.{Headed, read-head, first-here}
 use Rattle.mmrpdu.specs.Reader.{listNamed, headVector, typedRead, messageRead, numberOf, addressIn}
 use Rattle.mmrpdu.specs.declared.MessageHead.{MessageHead}
 use Rattle.mmrpdu.specs.declared.MessageRead.the-variants as message
-use Rattle.mmrpdu.proofs.Walking.{addresses-refused, addresses-end, addresses-next, addresses-over, messages-refused, messages-end, messages-list}
+use Rattle.mmrpdu.proofs.Walking.{within, over-within, end-within, addresses-refused, addresses-end, addresses-next, addresses-over, messages-refused, messages-end, messages-list}
 
 -- A vector that is read is the one that its head names.
 
@@ -114,6 +115,28 @@ module _ (f version : ℕ) (t : AddressList) (s : List ℕ) (at : ℕ) (es : Lis
 
   pub found-accepted : (n : ℕ) → typedRead version t s at ≡ vector.Refused n → ⊥
   found-accepted n r = no-list-fault n es end (sym (addresses-refused f version t s at n r) ∙ e)
+
+-- the place behind a list is behind its EndMark, and within the PDU
+pub list-ends : (f version : ℕ) (t : AddressList) (s : List ℕ) (at : ℕ) (es : List AddressAct) (end : ℕ) → addresses f version t s at ≡ listActs es end
+    → (at + 2 ≤ end) × (end ≤ length s)
+list-ends zero version t s at es end e = absurd (no-list-fault 3 es end (unfold addresses in e))
+list-ends (suc f) version t s at es end e = go (typedRead version t s at) refl
+  where
+    go : (r : VectorRead) → typedRead version t s at ≡ r → (at + 2 ≤ end) × (end ≤ length s)
+    go (vector.Refused n) i = absurd (found-accepted f version t s at es end e n i)
+    go vector.EndMark i =
+        let a = found-end f version t s at es end e i in
+        let w = end-within version t s at i in
+        (omega (arith, a .1), omega (arith, a .1))
+    go (vector.Vector w) i =
+        let n = found-next f version t s at es end e w i in
+        let p = within version t s at w i in
+        let h = list-ends f version t s (w .next) (n .rest) end (n .left) in
+        (omega arith, h .1)
+    go (vector.PassedOver next) i =
+        let p = over-within version t s at next i in
+        let h = list-ends f version t s next es end (found-over f version t s at es end e next i) in
+        (omega arith, h .1)
 
 -- a Message's acts are the first of those left, and the others come after its list
 pub record NextList (f version : ℕ) (s : List ℕ) (m : MessageHead) (es : List AddressAct) : Type 0 where
