@@ -4,7 +4,7 @@
 -- a single answer or does nothing does not meet Demand1's `accepted` and these; one that makes up totals, lengths or places does
 -- not meet `advance-decides`, `write-tells` and `report-shows`. (That table, settings and PDU are octets, and a time is of 32
 -- bits, is what the calls' types say.)
-use mathlib.Core.Path.{_≡_, refl, sym, _∙_, ap, subst}
+use mathlib.Core.Path.{_≡_, refl, sym, _∙_, ap}
 use mathlib.Core.List.{List, _++_, map}
 use mathlib.Core.Bool.{false}
 use Prim.Native.Nat.{ℕ, suc, _+_, _-_, _^_, _≤_, _<_}
@@ -101,9 +101,11 @@ pub record RegistersAddresses (t : List ℕ) (p : ℕ) (pdu u : List ℕ) : Type
   -- every address that it joins is held on the port afterwards, and no other is added
   pub joined : heldOn (addressed (decode t) p acts) p ≡ together (heldOn (decode t) p) (addressJoins acts)
 
-addressed-valid : (b : Bridge) (p : ℕ) (pdu : List ℕ) → Valid b → wrongPort (b .settings) p ≡ false → (es : List AddressAct) → addressWalk pdu ≡ addressActs es →
-    length (doesAddresses (b .clock) es (ownAt (b .own) (p - 1) .addresses)) ≤ addresses → Valid (addressed b p es)
-addressed-valid b p pdu v w es e l = subst Valid (ap (λ (a : Answer). a .bridge) (unfold receiveMmrp addressReading receivedAddresses in (rw (w, e, le-leb _ _ l)))) (mmrp-keeps b p pdu v)
+registered-all : (b : Bridge) (p : ℕ) (pdu : List ℕ) (es : List AddressAct) → wrongPort (b .settings) p ≡ false → addressWalk pdu ≡ addressActs es →
+    length (doesAddresses (b .clock) es (ownAt (b .own) (p - 1) .addresses)) ≤ addresses →
+    receiveMmrp b p pdu ≡ record { number = 0; bridge = addressed b p es }
+unfolding receiveMmrp addressReading receivedAddresses
+registered-all b p pdu es w e l = rw (w, e, le-leb _ _ l)
 
 pub mmrp-registers : (t : List ℕ) (p : ℕ) (pdu : List ℕ) (n : ℕ) (u : List ℕ) → Octets t → ReceivesMmrp t p pdu n u → n ≡ 0 →
     RegistersAddresses t p pdu u
@@ -115,12 +117,14 @@ mmrp-registers t p pdu n u o call z =
     let l = doesAddresses (b .clock) es (ownAt (b .own) (p - 1) .addresses) in
     let room : length l ≤ addresses = rw (acts-held (b .clock) es (ownAt (b .own) (p - 1) .addresses)) (h .1 .2) in
     let taken = mmrp-taken t p pdu (h .0 .0) (h .0 .1) es (h .1 .1) room in
+    let all = ap (λ (a : Answer). a .bridge) (registered-all b p pdu es (h .0 .1) (h .1 .1) room) in
+    let kept : Valid (addressed b p es) = rw all at (mmrp-keeps b p pdu v) in
     let table : u ≡ encode (addressed b p es) = call .1 ∙ ap (λ (c : Call). c .table) taken in
     let place : p - 1 < length (b .own) = omega (arith, right-port (b .settings) p (h .0 .1), v .eight-own, v .settings .eight-ports) in
     record {
       acts = es;
       read = h .1 .1;
-      bridge = ap decode table ∙ decode-encode (addressed b p es) (addressed-valid b p pdu v (h .0 .1) es (h .1 .1) room);
+      bridge = ap decode table ∙ decode-encode (addressed b p es) kept;
       table = table;
       joined = addressed-held b p es place;
     }

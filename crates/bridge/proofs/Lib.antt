@@ -9,6 +9,7 @@ pub mod Demand2
 pub mod Demand3
 pub mod AfterAdvance
 pub mod Untouched
+pub mod Pruning
 pub mod Passing
 pub mod Worked
 pub mod Demands

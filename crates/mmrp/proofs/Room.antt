@@ -6,7 +6,7 @@ use mathlib.Core.List.{List, [], _∷_, _++_, map}
 use mathlib.Core.Bool.{Bool, true, false}
 use native.Mathlib.Omega.{arith}
 use lib.ListN.{length}
-use Rattle.model.specs.Lists.{All, keep}
+use Rattle.model.specs.Lists.{All}
 use Rattle.model.specs.State.{Presence, vacant, present, Address}
 use Rattle.model.specs.Registrations.{AddressAct, leaveAllAddresses, leaveAddress, joinAddress, quitPresence, quitAddress, joined, withJoined, withLeft, doesAddress, doesAddresses, together, macs, addressJoins}
 use Rattle.model.specs.Laid.{Ascending}
@@ -67,7 +67,7 @@ same-length now es l = rw (held-macs (effects false now es l), held-macs (doesAd
 -- Room is made without a registration.
 
 vacant-drops : (m : ℕ) (l : List Address) → presentOnly (vacantAt m ∷ l) ≡ presentOnly l
-unfolding presentOnly isHeld vacantAt keep
+unfolding presentOnly isHeld vacantAt
 vacant-drops m l = refl
 
 room-drops : (m : ℕ) (l : List Address) → presentOnly (withRoom m l) ≡ presentOnly l
@@ -117,6 +117,10 @@ join-nil : (m : ℕ) → withJoined m [] ≡ joined m ∷ []
 unfolding withJoined
 join-nil m = refl
 
+left-nil : (now m : ℕ) → withLeft now m [] ≡ []
+unfolding withLeft
+left-nil now m = refl
+
 quit-vacant : (now m : ℕ) → quitAddress now (vacantAt m) ≡ vacantAt m
 unfolding quitAddress vacantAt quitPresence
 quit-vacant now m = refl
@@ -138,7 +142,7 @@ room-quits now m (a ∷ l) = go (tri m (a .mac)) (room-quits now m l)
 -- of Lv: an address below all that are held is not among them
 lacked : (now m : ℕ) (l : List Address) → All (λ j. m < j) (macs l) → withLeft now m l ≡ l
 unfolding macs
-lacked now m [] h = unfold withLeft in refl
+lacked now m [] h = left-nil now m
 lacked now m (a ∷ l) h = left-past m a l (λ e. omega (arith, h .0)) now ∙ ap (λ (x : List Address). a ∷ x) (lacked now m l (h .1))
 
 -- what Lv leaves first has the address that was first
@@ -165,11 +169,19 @@ module _ (now m n : ℕ) where
 
   room-leaves : (l : List Address) → Ascending (macs l) → withLeft now n (withRoom m l) ≡ withRoom m (withLeft now n l)
   unfolding macs
-  room-leaves [] h = rw (room-nil m) (left-vacant [] (λ e. unfold withLeft in refl)) ∙ (unfold withLeft withRoom in refl)
+  room-leaves [] h =
+      rw (room-nil m, left-nil now n, room-nil m)
+      (left-vacant [] (λ e. left-nil now n) ∙ ap (λ (x : List Address). vacantAt m ∷ x) (left-nil now n))
   room-leaves (a ∷ l) h = go (tri m (a .mac)) (tri n (a .mac)) (room-leaves l (h .1))
     where
       first : (b : Address) × (r : List Address) × (withLeft now n (a ∷ l) ≡ b ∷ r) × (b .mac ≡ a .mac)
       first = left-first now n a l
+
+      past : a .mac < m → (n ≡ a .mac → ⊥) → withLeft now n (withRoom m l) ≡ withRoom m (withLeft now n l)
+          → withLeft now n (withRoom m (a ∷ l)) ≡ withRoom m (withLeft now n (a ∷ l))
+      past q d ih =
+          rw (room-past m a l q, left-past n a l d now, left-past n a (withRoom m l) d now)
+          (ap (λ (x : List Address). a ∷ x) ih ∙ sym (room-past m a (withLeft now n l) q))
 
       go : Tri m (a .mac) → Tri n (a .mac) → withLeft now n (withRoom m l) ≡ withRoom m (withLeft now n l)
           → withLeft now n (withRoom m (a ∷ l)) ≡ withRoom m (withLeft now n (a ∷ l))
@@ -184,12 +196,6 @@ module _ (now m n : ℕ) where
           (sym (room-past m (quitAddress now a) l (unfold quitAddress in q)))
       go (more q) (less t) ih = past q (λ e. omega arith) ih
       go (more q) (more t) ih = past q (λ e. omega arith) ih
-
-      past : a .mac < m → (n ≡ a .mac → ⊥) → withLeft now n (withRoom m l) ≡ withRoom m (withLeft now n l)
-          → withLeft now n (withRoom m (a ∷ l)) ≡ withRoom m (withLeft now n (a ∷ l))
-      past q d ih =
-          rw (room-past m a l q, left-past n a l d now, left-past n a (withRoom m l) d now)
-          (ap (λ (x : List Address). a ∷ x) ih ∙ sym (room-past m a (withLeft now n l) q))
 
 -- of a join
 module _ (m n : ℕ) where

@@ -5,7 +5,7 @@ use mathlib.Core.List.{List, [], _∷_, _++_, map}
 use mathlib.Core.Bool.{Bool, true, false, cond, true≢false}
 use native.Mathlib.Omega.{arith}
 use lib.ListN.{length}
-use lib.Dec.{leb}
+use lib.Dec.{leb, eqb}
 use borrow.Author.Tests.{leb-true, leb-false}
 use Rattle.model.specs.Layout.{addresses, ownSize}
 use Rattle.model.specs.Lists.{All}
@@ -160,7 +160,7 @@ module _ (now : ℕ) (s : List ℕ) (laid : LaidOwn s) where
     quit-one : (n : ℕ) (l : List Address) → All FitAddress l → All FitAddress (withLeft now n l)
     unfolding withLeft
     quit-one n [] h = tt
-    quit-one n (a ∷ l) h = go _ (quit-one n l (h .1))
+    quit-one n (a ∷ l) h = go (eqb n (a .mac)) (quit-one n l (h .1))
       where
         go : (t : Bool) → All FitAddress (withLeft now n l) → All FitAddress (cond t (quitAddress now a ∷ l) (a ∷ withLeft now n l))
         go true r = (quit-fits now small a (h .0), h .1)
@@ -215,11 +215,15 @@ module _ (now : ℕ) (s : List ℕ) (laid : LaidOwn s) where
       join-room true z = absurd (true≢false z)
       join-room false z = record { octets = roomed; fits = room-fit }
 
+      there : toOwn t .addresses ≡ withRoom n (held s)
+      unfolding held
+      there = ap held roomed ∙ having-held s laid (withRoom n (held s)) room-fit
+
       pub join-held : HeldGiven t n
       join-held = record {
         laid = subst LaidOwn (sym roomed) (having-laid s laid (withRoom n (held s)) room-fit);
         size = laid-size t (subst LaidOwn (sym roomed) (having-laid s laid (withRoom n (held s)) room-fit));
-        holds = rw (roomed, unfold held in (having-held s laid (withRoom n (held s)) room-fit)) (room-holds n (held s));
+        holds = rw there (room-holds n (held s));
       }
 
       pub join-done : (b : Bool) → b ≡ true → (u : List ℕ) → u ≡ ownOctets (changeAddresses (withJoined n) (toOwn t)) → Walked b now (joinAddress n ∷ []) s true u

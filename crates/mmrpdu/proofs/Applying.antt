@@ -120,22 +120,24 @@ module _ (f version : ℕ) (t : AddressList) (s : List ℕ) (at : ℕ) (es : Lis
 pub list-ends : (f version : ℕ) (t : AddressList) (s : List ℕ) (at : ℕ) (es : List AddressAct) (end : ℕ) → addresses f version t s at ≡ listActs es end
     → (at + 2 ≤ end) × (end ≤ length s)
 list-ends zero version t s at es end e = absurd (no-list-fault 3 es end (unfold addresses in e))
-list-ends (suc f) version t s at es end e = go (typedRead version t s at) refl
+list-ends (suc f) version t s at es end e = go (typedRead version t s at) refl (λ at es h. list-ends f version t s at es end h)
   where
-    go : (r : VectorRead) → typedRead version t s at ≡ r → (at + 2 ≤ end) × (end ≤ length s)
-    go (vector.Refused n) i = absurd (found-accepted f version t s at es end e n i)
-    go vector.EndMark i =
+    go : (r : VectorRead) → typedRead version t s at ≡ r
+        → ((next : ℕ) (rest : List AddressAct) → addresses f version t s next ≡ listActs rest end → (next + 2 ≤ end) × (end ≤ length s))
+        → (at + 2 ≤ end) × (end ≤ length s)
+    go (vector.Refused n) i ih = absurd (found-accepted f version t s at es end e n i)
+    go vector.EndMark i ih =
         let a = found-end f version t s at es end e i in
         let w = end-within version t s at i in
         (omega (arith, a .1), omega (arith, a .1))
-    go (vector.Vector w) i =
+    go (vector.Vector w) i ih =
         let n = found-next f version t s at es end e w i in
         let p = within version t s at w i in
-        let h = list-ends f version t s (w .next) (n .rest) end (n .left) in
+        let h = ih (w .next) (n .rest) (n .left) in
         (omega arith, h .1)
-    go (vector.PassedOver next) i =
+    go (vector.PassedOver next) i ih =
         let p = over-within version t s at next i in
-        let h = list-ends f version t s next es end (found-over f version t s at es end e next i) in
+        let h = ih next es (found-over f version t s at es end e next i) in
         (omega arith, h .1)
 
 -- a Message's acts are the first of those left, and the others come after its list
