@@ -33,6 +33,7 @@ pub fn settings(ports: usize) -> Settings {
         bridge_id: 0x8000_0000_0000_0007,
         priority: PerClass { a: 3, b: 2 },
         leave_time: 60,
+        pruning: false,
         vlan: 2,
         fan_in_limit: 0,
         ports: vec![port(); ports],
