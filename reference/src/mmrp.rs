@@ -5,7 +5,7 @@
 
 use std::collections::BTreeSet;
 
-use crate::numbers::{self, Number};
+use crate::numbers;
 use crate::pdu::{self, number_of, Event, Fault, PassedOver, END_MARK, LONGEST_PDU};
 use crate::registrations::is_join;
 
@@ -224,9 +224,4 @@ fn read_vector(
 pub fn values_fit(first_value: &[u8], number_of_values: usize) -> bool {
     number_of_values == 0
         || number_of(first_value) + number_of_values as u64 - 1 < 1 << (8 * first_value.len())
-}
-
-/// The number that a PDU is refused with by its reader alone; 0 where it is read.
-pub fn number(pdu: &[u8]) -> Number {
-    read(pdu).map_or_else(|fault| fault.number, |_| numbers::ACCEPTED)
 }

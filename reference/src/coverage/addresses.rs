@@ -228,16 +228,15 @@ impl Coverage {
         let leaving = address.map_or(false, |leaving| leaving.is_some());
         self.count_if("not pruned by a leaving address", pruning && passed && leaving);
         self.count_if("without the destination, pruning off", !pruning && address.is_none());
-        let was = before.settled.streams.get(&stream_id).map(|settled| &settled.ports[port - 1]);
+        let settled = before.settled.streams.get(&stream_id);
+        let was = settled.map(|settled| &settled.ports[port - 1]);
         let had_column = was.map_or(false, |was| was.column != Column::None);
-        let is = &after.settled.streams[&stream_id].ports[port - 1];
-        let aged = after.clock / 100;
-        let anew = was.map_or(false, |was| was.entry_since.is_none());
-        let begins = pruning && passed && !had_column && anew && is.entry_since == Some(aged);
-        self.count_if("no longer pruned, with its age anew", begins);
-        let kept = was.and_then(|was| was.entry_since).filter(|second| *second < aged);
-        let goes_on = pruning && passed && !had_column && kept.is_some();
-        self.count_if("no longer pruned, with its age kept", goes_on);
+        // The Talker was settled already, and only an address can have moved its column.
+        let was_here = settled.map_or(false, |was| was.parameters == talker.parameters);
+        let no_longer = pruning && passed && was_here && !had_column;
+        let since = was.and_then(|was| was.entry_since);
+        self.count_if("no longer pruned, with its age anew", no_longer && since.is_none());
+        self.count_if("no longer pruned, with its age kept", no_longer && since.is_some());
         if step != Step::N {
             return;
         }
