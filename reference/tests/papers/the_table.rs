@@ -126,6 +126,8 @@ fn breaks(table: &Table, rule: u8, place: usize, octet: u8) {
     let before = table.clone();
     assert_eq!(table.receive(1, &[0]), 12);
     assert_eq!(table.receive(99, &[]), 12);
+    assert_eq!(table.receive_mmrp(1, &[0]), 12);
+    assert_eq!(table.receive_mmrp(99, &[]), 12);
     assert_eq!(table.advance(u32::MAX), 12);
     assert_eq!(table.write(1, 0, &mut [0; 1500]).number, 12);
     assert_eq!(table.report(1, 0).number, 12);
@@ -513,13 +515,15 @@ fn the_octets_of_the_domain() {
     let octets = table.lent();
     let mut expected = vec![0; 8 * edge::LENGTH];
     expected[2 * 8..3 * 8].copy_from_slice(&[1, 1, 1, 2, 3, 4, 0, 2]);
-    expected[130 + 15 * 8..130 + 16 * 8].copy_from_slice(&[1, 0, 0, 0, 0, 0, 0xff, 0xfe]);
+    let second = edge::LENGTH;
+    expected[second + 15 * 8..second + 16 * 8].copy_from_slice(&[1, 0, 0, 0, 0, 0, 0xff, 0xfe]);
     // The flags of classes A and B: port 1 has no class A, port 2 another one and no class B, port 3
     // doesn't support class A and has no class B.
     for (port, flags) in [[1, 0], [1, 1], [1, 1]].into_iter().enumerate() {
-        expected[130 * port + 128..130 * port + 130].copy_from_slice(&flags);
+        let at = edge::LENGTH * port + 128;
+        expected[at..at + 2].copy_from_slice(&flags);
     }
-    assert_eq!(octets[283..1_323], expected);
+    assert_eq!(octets[283..7_475], expected);
 }
 
 #[test]
@@ -527,9 +531,12 @@ fn rule_30_the_vlan_setting() {
     let table = three_streams(250);
     assert_eq!(table.lent()[11..13], [0, 2]);
     breaks(&table, 30, 12, 0);
-    for bit in 4..8 {
+    for bit in 4..7 {
         breaks(&table, 30, 11, 1 << bit);
+        breaks(&table, 30, 11, 0x80 | 1 << bit);
     }
+    // The top bit is pruning.
+    keeps(&table, 11, 0x80);
     let mut last = table.clone();
     last.store(11, 0x0f);
     breaks(&last, 30, 12, 0xff);
@@ -591,7 +598,7 @@ fn rule_34_boundary_flags() {
 #[test]
 fn rule_35_the_domain_of_no_port() {
     let table = three_streams(250);
-    for place in [edge(3), edge(3) + 7, edge(3) + 128, edge(8), RECORDS - 1] {
+    for place in [edge(3), edge(3) + 7, edge(3) + 128, edge(3) + 130, edge(8), RECORDS - 1] {
         breaks(&table, 35, place, 1);
     }
 }
@@ -629,7 +636,7 @@ impl TakenOver {
 
 impl Watcher for TakenOver {
     fn called(&mut self, call: &Call, number: Number, table: &Table) {
-        let changes = matches!(call, Call::Start(_) | Call::Receive(..) | Call::Advance(_));
+        let changes = !matches!(call, Call::Write { .. } | Call::Report { .. });
         if number != 0 || !changes {
             return;
         }
