@@ -752,7 +752,10 @@ impl Coverage {
         self.count_if("frame ended by EndMark", pdu.end_mark);
         self.count_if("frame ended without EndMark", !pdu.end_mark);
         for message in &pdu.messages {
-            self.count_if("unknown type at higher version skipped", *message == Message::Skipped);
+            self.count_if(
+                "unknown type at higher version skipped",
+                *message == Message::Skipped(()),
+            );
         }
         for vector in pdu.vectors() {
             self.vector(vector);

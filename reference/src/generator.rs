@@ -540,12 +540,22 @@ fn frame(random: &mut Random, plan: &Plan, port: u32) -> FrameDraft {
         }
         _ => {}
     }
+    of_some_version(random, messages, unknown_message)
+}
+
+/// A frame of these Messages, at times of a higher version, with a Message of an unknown type and
+/// strange vectors; with an EndMark or without one, or with octets behind it.
+fn of_some_version(
+    random: &mut Random,
+    messages: Vec<MessageDraft>,
+    unknown: fn(&mut Random) -> MessageDraft,
+) -> FrameDraft {
     let mut frame = FrameDraft::new(messages);
     if random.percent(14) {
         frame.version = random.one_of(&[1, 1, 2, 255]);
         if random.percent(40) {
             let place = random.below(frame.messages.len() as u64 + 1) as usize;
-            frame.messages.insert(place, unknown_message(random));
+            frame.messages.insert(place, unknown(random));
         }
         make_some_strange(random, &mut frame);
     }

@@ -6,7 +6,7 @@
 use std::collections::BTreeSet;
 
 use crate::numbers;
-use crate::pdu::{self, number_of, Event, Fault, PassedOver, END_MARK, LONGEST_PDU};
+use crate::pdu::{self, number_of, Event, Fault, Taken};
 use crate::registrations::is_join;
 
 /// A MAC address, 48 bits.
@@ -48,13 +48,6 @@ pub struct Vector {
     pub values: Vec<(Event, u64)>,
 }
 
-/// A vector of a known type.
-#[derive(Clone, Debug, PartialEq, Eq)]
-pub enum VectorRead {
-    Read(Vector),
-    PassedOver(PassedOver<MmrpType>),
-}
-
 /// A vector of an unknown type, of which only the length is looked at.
 #[derive(Clone, Copy, Debug, PartialEq, Eq)]
 pub struct Walked {
@@ -63,39 +56,17 @@ pub struct Walked {
     pub attribute_length: usize,
 }
 
-/// A Message.
-#[derive(Clone, Debug, PartialEq, Eq)]
-pub enum Message {
-    Known(Vec<VectorRead>),
-    /// A type above 2 with a higher version: its vectors are walked and dropped.
-    Unknown(Vec<Walked>),
-}
+/// A vector of a known type.
+pub type VectorRead = pdu::VectorRead<Vector, MmrpType>;
+
+/// A Message: of a known type, or of one above 2 with a higher version, whose vectors are walked over
+/// and dropped.
+pub type Message = pdu::Message<Vector, MmrpType, Vec<Walked>>;
 
 /// A PDU, its checks passed.
-#[derive(Clone, Debug, PartialEq, Eq)]
-pub struct Pdu {
-    pub messages: Vec<Message>,
-    /// Whether an EndMark was met; otherwise the PDU ended right after a Message or its version.
-    pub end_mark: bool,
-}
+pub type Pdu = pdu::Pdu<Vector, MmrpType, Vec<Walked>>;
 
 impl Pdu {
-    /// All vectors that were read, in the order they stand in.
-    pub fn vectors(&self) -> impl Iterator<Item = &Vector> {
-        self.lists().flatten().filter_map(|vector| match vector {
-            VectorRead::Read(vector) => Some(vector),
-            VectorRead::PassedOver(_) => None,
-        })
-    }
-
-    /// The vectors of each list of a known type.
-    pub fn lists(&self) -> impl Iterator<Item = &[VectorRead]> {
-        self.messages.iter().filter_map(|message| match message {
-            Message::Known(vectors) => Some(vectors.as_slice()),
-            Message::Unknown(_) => None,
-        })
-    }
-
     /// The addresses of the PDU with their events.
     pub fn addresses(&self) -> impl Iterator<Item = (Event, Address)> + '_ {
         let is_mac = |vector: &&Vector| vector.attribute_type == MmrpType::Mac;
@@ -109,83 +80,39 @@ impl Pdu {
     }
 }
 
-type MmrpFault = Fault<MmrpType>;
-
-/// Reads a PDU: its length (2), then the walk from the front.
-pub fn read(pdu: &[u8]) -> Result<Pdu, MmrpFault> {
-    if pdu.is_empty() || pdu.len() > LONGEST_PDU {
-        return Err(numbers::PDU_LENGTH.into());
-    }
-    let version = pdu[0];
-    let mut messages = Vec::new();
-    let mut rest = &pdu[1..];
-    loop {
-        if rest.is_empty() {
-            return Ok(Pdu { messages, end_mark: false });
-        }
-        if rest.starts_with(&END_MARK) {
-            return Ok(Pdu { messages, end_mark: true });
-        }
-        let (message, length) = read_message(version, rest)?;
-        messages.push(message);
-        rest = &rest[length..];
-    }
+/// Reads an MMRP frame.
+pub fn read(pdu: &[u8]) -> Result<Pdu, Fault<MmrpType>> {
+    pdu::walk(pdu, read_message)
 }
 
-/// Reads the Message that octets begin with, and gives its length. Checks: two header octets (3),
-/// type (4), length (5, known types), then the vectors of the list.
-fn read_message(version: u8, octets: &[u8]) -> Result<(Message, usize), MmrpFault> {
+/// Reads the Message that octets begin with. Checks: two header octets (3), type (4), length (5,
+/// known types), then the vectors of the list, which ends at its EndMark.
+fn read_message(version: u8, octets: &[u8]) -> Taken<Message, MmrpType> {
     if octets.len() < 2 {
         return Err(numbers::RUNS_PAST.into());
     }
-    let attribute_length = usize::from(octets[1]);
+    let (attribute_length, list) = (usize::from(octets[1]), &octets[2..]);
     let attribute_type = match octets[0] {
         1 => MmrpType::ServiceRequirement,
         2 => MmrpType::Mac,
         3..=255 if version > 0 => {
-            let (vectors, length) =
-                read_list(&octets[2..], |rest, _| walk_vector(attribute_length, rest))?;
-            return Ok((Message::Unknown(vectors), 2 + length));
+            let (walked, length) =
+                pdu::vectors_to_end_mark(list, |rest, _| walk_vector(attribute_length, rest))?;
+            return Ok((Message::Skipped(walked), 2 + length));
         }
         _ => return Err(numbers::ATTRIBUTE_TYPE.into()),
     };
     if attribute_length != attribute_type.first_value_length() {
         return Err(numbers::ATTRIBUTE_LENGTH.into());
     }
-    let (vectors, length) = read_list(&octets[2..], |rest, before: &[VectorRead]| {
-        let is_passed_over = |vector: &VectorRead| matches!(vector, VectorRead::PassedOver(_));
-        let behind_passed_over = before.iter().any(is_passed_over);
-        read_vector(attribute_type, version, rest)
-            .map_err(|fault| Fault { behind_passed_over, ..fault })
-    })?;
+    let (vectors, length) =
+        pdu::known_vectors(list, |rest| read_vector(attribute_type, version, rest))?;
     Ok((Message::Known(vectors), 2 + length))
-}
-
-/// Reads an AttributeList by a reader of vectors, which knows those before, and gives its length with
-/// its EndMark. The PDU's end is no EndMark of a list (3).
-fn read_list<V>(
-    octets: &[u8],
-    read_vector: impl Fn(&[u8], &[V]) -> Result<(V, usize), MmrpFault>,
-) -> Result<(Vec<V>, usize), MmrpFault> {
-    let mut vectors = Vec::new();
-    let mut at = 0;
-    loop {
-        let rest = &octets[at..];
-        if rest.len() < 2 {
-            return Err(numbers::RUNS_PAST.into());
-        }
-        if rest.starts_with(&END_MARK) {
-            return Ok((vectors, at + 2));
-        }
-        let (vector, length) = read_vector(rest, &vectors)?;
-        vectors.push(vector);
-        at += length;
-    }
 }
 
 /// Walks over a vector of an unknown type: 2 + AttributeLength + a third of its values, rounded up.
 /// Whether it fits (3) is the only check.
-fn walk_vector(attribute_length: usize, octets: &[u8]) -> Result<(Walked, usize), MmrpFault> {
+fn walk_vector(attribute_length: usize, octets: &[u8]) -> Taken<Walked, MmrpType> {
     let (leave_all_event, number_of_values) = pdu::vector_header(octets);
     let length = 2 + attribute_length + pdu::three_packed_octets(number_of_values);
     if octets.len() < length {
@@ -201,7 +128,7 @@ fn read_vector(
     attribute_type: MmrpType,
     version: u8,
     octets: &[u8],
-) -> Result<(VectorRead, usize), MmrpFault> {
+) -> Taken<VectorRead, MmrpType> {
     let first_value_length = attribute_type.first_value_length();
     let parts = pdu::vector_parts(version, first_value_length, false, octets)?;
     if parts.strange {

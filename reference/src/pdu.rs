@@ -213,32 +213,32 @@ pub struct PassedOver<T = AttributeType> {
     pub three_packed: Vec<u8>,
 }
 
-/// A vector of a list.
+/// A vector of a list, of MSRP or of MMRP.
 #[derive(Clone, Debug, PartialEq, Eq)]
-pub enum VectorRead {
-    Read(Vector),
-    PassedOver(PassedOver),
+pub enum VectorRead<V = Vector, T = AttributeType> {
+    Read(V),
+    PassedOver(PassedOver<T>),
 }
 
 /// A Message.
 #[derive(Clone, Debug, PartialEq, Eq)]
-pub enum Message {
-    Known(Vec<VectorRead>),
-    /// A type above 4 with a higher version: skipped unread.
-    Skipped,
+pub enum Message<V = Vector, T = AttributeType, U = ()> {
+    Known(Vec<VectorRead<V, T>>),
+    /// A type that only a higher version knows: skipped, with what was seen of it.
+    Skipped(U),
 }
 
 /// A PDU, its checks passed.
 #[derive(Clone, Debug, PartialEq, Eq)]
-pub struct Pdu {
-    pub messages: Vec<Message>,
+pub struct Pdu<V = Vector, T = AttributeType, U = ()> {
+    pub messages: Vec<Message<V, T, U>>,
     /// Whether an EndMark was met; otherwise the PDU ended right after a Message or its version.
     pub end_mark: bool,
 }
 
-impl Pdu {
+impl<V, T, U> Pdu<V, T, U> {
     /// All vectors that were read, in the order they stand in.
-    pub fn vectors(&self) -> impl Iterator<Item = &Vector> {
+    pub fn vectors(&self) -> impl Iterator<Item = &V> {
         self.lists().flatten().filter_map(|vector| match vector {
             VectorRead::Read(vector) => Some(vector),
             VectorRead::PassedOver(_) => None,
@@ -246,10 +246,10 @@ impl Pdu {
     }
 
     /// The vectors of each list of a known type.
-    pub fn lists(&self) -> impl Iterator<Item = &[VectorRead]> {
+    pub fn lists(&self) -> impl Iterator<Item = &[VectorRead<V, T>]> {
         self.messages.iter().filter_map(|message| match message {
             Message::Known(vectors) => Some(vectors.as_slice()),
-            Message::Skipped => None,
+            Message::Skipped(_) => None,
         })
     }
 }
@@ -277,12 +277,18 @@ pub fn number_of(octets: &[u8]) -> u64 {
     octets.iter().fold(0, |number, octet| number << 8 | u64::from(*octet))
 }
 
-/// Reads a PDU: its length (2), then the walk from the front.
-pub fn read(pdu: &[u8]) -> Result<Pdu, Fault> {
+/// What is read of the octets that something begins with, and its length.
+pub type Taken<R, T = AttributeType> = Result<(R, usize), Fault<T>>;
+
+/// Reads a PDU by a reader of Messages, which knows the version: its length (2), then the walk from
+/// the front.
+pub fn walk<V, T, U>(
+    pdu: &[u8],
+    read_message: impl Fn(u8, &[u8]) -> Taken<Message<V, T, U>, T>,
+) -> Result<Pdu<V, T, U>, Fault<T>> {
     if pdu.is_empty() || pdu.len() > LONGEST_PDU {
         return Err(numbers::PDU_LENGTH.into());
     }
-    let version = pdu[0];
     let mut messages = Vec::new();
     let mut rest = &pdu[1..];
     loop {
@@ -292,36 +298,45 @@ pub fn read(pdu: &[u8]) -> Result<Pdu, Fault> {
         if rest.starts_with(&END_MARK) {
             return Ok(Pdu { messages, end_mark: true });
         }
-        // A Message's checks: four header octets (3), type (4), length (5, known types), list
-        // within PDU (3).
-        if rest.len() < 4 {
-            return Err(numbers::RUNS_PAST.into());
-        }
-        let attribute_length = usize::from(rest[1]);
-        let list_length = usize::from(rest[2]) << 8 | usize::from(rest[3]);
-        let known_type = match rest[0] {
-            1 => Some(AttributeType::TalkerAdvertise),
-            2 => Some(AttributeType::TalkerFailed),
-            3 => Some(AttributeType::Listener),
-            4 => Some(AttributeType::Domain),
-            5..=255 if version > 0 => None,
-            _ => return Err(numbers::ATTRIBUTE_TYPE.into()),
-        };
-        if let Some(attribute_type) = known_type {
-            if attribute_length != attribute_type.first_value_length() {
-                return Err(numbers::ATTRIBUTE_LENGTH.into());
-            }
-        }
-        if rest.len() - 4 < list_length {
-            return Err(numbers::RUNS_PAST.into());
-        }
-        let (list, after) = rest[4..].split_at(list_length);
-        messages.push(match known_type {
-            Some(attribute_type) => Message::Known(read_list(attribute_type, version, list)?),
-            None => Message::Skipped,
-        });
-        rest = after;
+        let (message, length) = read_message(pdu[0], rest)?;
+        messages.push(message);
+        rest = &rest[length..];
     }
+}
+
+/// Reads an MSRPDU.
+pub fn read(pdu: &[u8]) -> Result<Pdu, Fault> {
+    walk(pdu, read_message)
+}
+
+/// Reads the Message that octets begin with. Checks: four header octets (3), type (4), length (5,
+/// known types), list within PDU (3).
+fn read_message(version: u8, octets: &[u8]) -> Taken<Message> {
+    if octets.len() < 4 {
+        return Err(numbers::RUNS_PAST.into());
+    }
+    let attribute_length = usize::from(octets[1]);
+    let list_length = usize::from(octets[2]) << 8 | usize::from(octets[3]);
+    let known_type = match octets[0] {
+        1 => Some(AttributeType::TalkerAdvertise),
+        2 => Some(AttributeType::TalkerFailed),
+        3 => Some(AttributeType::Listener),
+        4 => Some(AttributeType::Domain),
+        5..=255 if version > 0 => None,
+        _ => return Err(numbers::ATTRIBUTE_TYPE.into()),
+    };
+    if let Some(attribute_type) = known_type {
+        if attribute_length != attribute_type.first_value_length() {
+            return Err(numbers::ATTRIBUTE_LENGTH.into());
+        }
+    }
+    let length = 4 + list_length;
+    let list = octets.get(4..length).ok_or_else(|| Fault::from(numbers::RUNS_PAST))?;
+    let message = match known_type {
+        Some(attribute_type) => Message::Known(read_list(attribute_type, version, list)?),
+        None => Message::Skipped(()),
+    };
+    Ok((message, length))
 }
 
 /// Reads an AttributeList on its own, from its first vector to its EndMark, which must be its
@@ -331,21 +346,46 @@ fn read_list(
     version: u8,
     list: &[u8],
 ) -> Result<Vec<VectorRead>, Fault> {
+    let (vectors, length) = known_vectors(list, |rest| read_vector(attribute_type, version, rest))?;
+    if length == list.len() {
+        Ok(vectors)
+    } else {
+        Err(numbers::RUNS_PAST.into())
+    }
+}
+
+/// Reads the vectors of a known type by their reader, up to the EndMark.
+pub fn known_vectors<V, T>(
+    octets: &[u8],
+    read_vector: impl Fn(&[u8]) -> Taken<VectorRead<V, T>, T>,
+) -> Taken<Vec<VectorRead<V, T>>, T> {
+    vectors_to_end_mark(octets, |rest, before: &[VectorRead<V, T>]| {
+        let is_passed_over =
+            |vector: &VectorRead<V, T>| matches!(vector, VectorRead::PassedOver(_));
+        let behind_passed_over = before.iter().any(is_passed_over);
+        read_vector(rest).map_err(|fault| Fault { behind_passed_over, ..fault })
+    })
+}
+
+/// Reads vectors, by a reader that is told those before, up to the EndMark, which counts in the
+/// length. The end of the octets is no EndMark (3).
+pub fn vectors_to_end_mark<R, T>(
+    octets: &[u8],
+    read_vector: impl Fn(&[u8], &[R]) -> Taken<R, T>,
+) -> Taken<Vec<R>, T> {
     let mut vectors = Vec::new();
-    let mut rest = list;
+    let mut at = 0;
     loop {
+        let rest = &octets[at..];
         if rest.len() < 2 {
             return Err(numbers::RUNS_PAST.into());
         }
         if rest.starts_with(&END_MARK) {
-            return if rest.len() == 2 { Ok(vectors) } else { Err(numbers::RUNS_PAST.into()) };
+            return Ok((vectors, at + 2));
         }
-        let is_passed_over = |vector: &VectorRead| matches!(vector, VectorRead::PassedOver(_));
-        let behind_passed_over = vectors.iter().any(is_passed_over);
-        let (vector, length) = read_vector(attribute_type, version, rest)
-            .map_err(|fault| Fault { behind_passed_over, ..fault })?;
+        let (vector, length) = read_vector(rest, &vectors)?;
         vectors.push(vector);
-        rest = &rest[length..];
+        at += length;
     }
 }
 
@@ -437,11 +477,7 @@ pub fn vector_parts<T>(
 /// Reads the vector that octets begin with, its header being there, and gives its length. Checks:
 /// those of its parts, then values (7). A vector with strange events is passed over instead, its
 /// values unchecked.
-fn read_vector(
-    attribute_type: AttributeType,
-    version: u8,
-    octets: &[u8],
-) -> Result<(VectorRead, usize), Fault> {
+fn read_vector(attribute_type: AttributeType, version: u8, octets: &[u8]) -> Taken<VectorRead> {
     let first_value_length = attribute_type.first_value_length();
     let has_four_packed = attribute_type == AttributeType::Listener;
     let parts = vector_parts(version, first_value_length, has_four_packed, octets)?;

@@ -73,7 +73,7 @@ impl Coverage {
         for message in &pdu.messages {
             match message {
                 Message::Known(vectors) => self.count_if("MMRP empty list", vectors.is_empty()),
-                Message::Unknown(vectors) => {
+                Message::Skipped(vectors) => {
                     self.count("MMRP unknown type walked over");
                     self.count_if("MMRP unknown type of several vectors", vectors.len() > 1);
                     for vector in vectors {

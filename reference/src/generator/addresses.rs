@@ -1,6 +1,6 @@
 //! What neighbours ask for by MMRP frames.
 
-use super::{damaged, make_some_strange, octets_up_to, Group, History, Plan, JOINS, LV};
+use super::{damaged, of_some_version, Group, History, Plan, JOINS, LV};
 use crate::frame::{FrameDraft, MessageDraft, VectorDraft};
 use crate::mmrp::{Address, MmrpType, ADDRESS_BITS};
 use crate::random::Random;
@@ -103,21 +103,7 @@ fn frame(random: &mut Random, plan: &Plan) -> FrameDraft {
         let attribute_type = if services { MmrpType::ServiceRequirement } else { MmrpType::Mac };
         messages.push(MessageDraft::of_mmrp(attribute_type, vectors));
     }
-    let mut frame = FrameDraft::new(messages);
-    if random.percent(18) {
-        frame.version = random.one_of(&[1, 1, 2, 255]);
-        if random.percent(50) {
-            let place = random.below(frame.messages.len() as u64 + 1) as usize;
-            frame.messages.insert(place, unknown_message(random));
-        }
-        make_some_strange(random, &mut frame);
-    }
-    match random.below(20) {
-        0..=2 => frame.end_mark = false,
-        3 => frame.after = octets_up_to(random, 40),
-        _ => {}
-    }
-    frame
+    of_some_version(random, messages, unknown_message)
 }
 
 /// A frame of one Message with vectors of addresses.

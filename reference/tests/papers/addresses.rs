@@ -108,7 +108,7 @@ fn unknown_types_are_walked_and_dropped() {
     assert_eq!(number(&frame.octets()), 4);
     let frame = FrameDraft { version: 1, ..frame }.octets();
     let pdu = mmrp::read(&frame).expect("it is read");
-    assert!(matches!(&pdu.messages[0], Message::Unknown(walked) if walked.len() == 2));
+    assert!(matches!(&pdu.messages[0], Message::Skipped(walked) if walked.len() == 2));
     let mut table = started(&settings(2));
     accept_mmrp(&mut table, 1, &frame);
     assert_eq!(addresses(&table, 1), [(ADDRESS, None)]);
