@@ -30,6 +30,8 @@ pub fn some_octet(random: &mut Random, table: &[u8]) -> (usize, u8) {
     let rule = match full_port(table) {
         _ if full && random.percent(20) => 8,
         Some(_) if random.percent(20) => 37,
+        // Few tables can break this one alone.
+        _ if random.percent(4) => 26,
         _ => random.between(2, 41) as u8,
     };
     let aim = match random.below(20) {

@@ -3,6 +3,7 @@
 use super::{damaged, of_some_version, Group, History, Plan, JOINS, LV};
 use crate::frame::{FrameDraft, MessageDraft, VectorDraft};
 use crate::mmrp::{Address, MmrpType, ADDRESS_BITS};
+use crate::pdu::Talker;
 use crate::random::Random;
 use crate::registrations::MOST_ADDRESSES;
 
@@ -191,6 +192,7 @@ impl History {
                 let length = self.random.one_of(&[1_501, 4_096, 4_097]);
                 self.receive_mmrp(port, &vec![0; length]);
             }
+            36 => self.share_where_one_asks(plan),
             _ => self.ask_anew(plan),
         }
     }
@@ -276,6 +278,26 @@ impl History {
         if self.random.percent(80) {
             self.advance(begun.saturating_add(leave_time));
         }
+    }
+
+    /// Two streams with one destination, of which the lower comes in on the only port that asks for it:
+    /// so it is declared nowhere, and the other one shares its address all the same.
+    fn share_where_one_asks(&mut self, plan: &Plan) {
+        let asking = self.port(plan);
+        let other = asking % plan.ports() + 1;
+        let mut talker = Talker::of_the_worked_example(0x0200_0000_00e0_0000);
+        talker.parameters.destination = 0x91e0_f000_7700 + self.random.below(4);
+        talker.parameters.priority = plan.settings.priority.a;
+        for port in [asking, other] {
+            talker.stream_id += 1;
+            let group = Group { first: talker, members: 1, talker_port: port };
+            let frame = self.talkers_frame(&group, 0);
+            self.receive(port, &frame);
+            if port == asking {
+                self.receive_mmrp(port, &of_vectors(vec![vector_of_group(&group, JOINS[0])]));
+            }
+        }
+        self.advance(self.clock());
     }
 
     /// A neighbour asks for what it wants anew: what it doesn't name again leaves.
