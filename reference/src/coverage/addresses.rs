@@ -7,7 +7,7 @@ use crate::fan_in::FanIn;
 use crate::mmrp::{self, Address, Message, MmrpType, Pdu, Vector, VectorRead, ADDRESS_BITS};
 use crate::numbers::{self, Number};
 use crate::pdu::{Event, Fault};
-use crate::registrations::{is_join, Addresses, MOST_ADDRESSES};
+use crate::registrations::{is_join, Addresses, TalkerRegistration, MOST_ADDRESSES};
 use crate::settling::{Column, Step};
 
 /// The greatest address.
@@ -237,9 +237,20 @@ impl Coverage {
         let since = was.and_then(|was| was.entry_since);
         self.count_if("no longer pruned, with its age anew", no_longer && since.is_none());
         self.count_if("no longer pruned, with its age kept", no_longer && since.is_some());
-        if step != Step::N {
-            return;
+        if step == Step::N {
+            self.count_if("pruned where there was a column", had_column);
+            self.one_pruned(after, stream_id, port, talker);
         }
+    }
+
+    /// A column that was pruned.
+    fn one_pruned(
+        &mut self,
+        after: &Bridge,
+        stream_id: u64,
+        port: usize,
+        talker: &TalkerRegistration,
+    ) {
         self.count_if("pruned: Advertise", talker.failure.is_none());
         self.count_if("pruned: Failed", talker.failure.is_some());
         self.count_if("pruned: changed", talker.changed);
@@ -247,7 +258,6 @@ impl Coverage {
         self.count_if("pruned with a Listener", on_port.listener.is_some());
         self.count_if("pruned without a Listener", on_port.listener.is_none());
         self.count_if("pruned on a port with a second Talker", on_port.talker.is_some());
-        self.count_if("pruned where there was a column", had_column);
         let fan_in = FanIn::of(&after.registrations);
         let shared = fan_in.is_shared(stream_id, &talker.parameters);
         self.count_if("pruned before 5", shared);
