@@ -10,7 +10,7 @@ use lib.ListN.{length, drop, length-drop}
 use lib.Seq.{drop-cons, drop-length, take-all, getD-set-same, set-set}
 use borrow.Author.Tests.{lt-ltb, le-ltb}
 use Rattle.octets.specs.Fields.{Fit}
-use Rattle.model.specs.Layout.{addressWidths, slots}
+use Rattle.model.specs.Layout.{addressWidths, ownSize, slots}
 use Rattle.model.specs.Lists.{All, keep}
 use Rattle.model.specs.State.{Settings, Domain, noDomain, Address, Own, noOwn, Bridge, noPort, portAt, isPort, ownAt, Class, classA, classB, supports}
 use Rattle.model.specs.Registrations.{changeAddresses, changeDomains, macs, owning}
@@ -19,7 +19,7 @@ use Rattle.model.specs.Table.{addressNumbers, toOwn, ownOctets, encode, decode}
 use Rattle.model.specs.Laid.{Ascending, FitAddresses, FitOwn, LaidOwn}
 use Rattle.model.proofs.Lists.{all-getD, all-replicate, all-tabulate}
 use Rattle.model.proofs.AdvanceKeepsForm.{length-tabulate, fewer-addresses, macs-remain}
-use Rattle.model.proofs.Owns.{own-fit-back}
+use Rattle.model.proofs.Owns.{own-length, own-fit-back}
 use Rattle.model.proofs.Fits.{laid-fits}
 use Rattle.table.specs.Places.{PortIn}
 use Rattle.table.specs.Updates.{withOwn}
@@ -111,11 +111,18 @@ module _ (st : Settings) (now : ℕ) where
       record { slotted = d .slotted; domains = d .domains; addresses = remaining-fits (o .addresses) (f .addresses) }
 
 -- What both removals leave, the second by what the first left.
-pub both-expired : (st : Settings) (now : ℕ) (s : List ℕ) → LaidOwn s → (t : List ℕ) → t ≡ ownOctets (changeDomains (map (expireDomain st now)) (toOwn s))
-    → (u : List ℕ) → u ≡ ownOctets (changeAddresses (remainAddresses st now) (toOwn t)) → u ≡ ownOctets (expiredOwn st now (toOwn s))
-both-expired st now s l t e u q =
-    let d = expired-own-fits st now (toOwn s) (laid-own-fits s l) in
-    q ∙ ap (λ (o : Own). ownOctets (changeAddresses (remainAddresses st now) o)) (ap toOwn e ∙ own-fit-back (changeDomains (map (expireDomain st now)) (toOwn s)) d)
+module _ (st : Settings) (now : ℕ) (s : List ℕ) (l : LaidOwn s) (t : List ℕ) (e : t ≡ ownOctets (changeDomains (map (expireDomain st now)) (toOwn s))) where
+  abbrev first : Own
+  first = changeDomains (map (expireDomain st now)) (toOwn s)
+
+  first-fits : FitOwn first
+  first-fits = expired-own-fits st now (toOwn s) (laid-own-fits s l)
+
+  pub first-laid : LaidOwn t × (length t ≡ ownSize)
+  first-laid = (record { thing = first; fits = first-fits; is = e }, ap length e ∙ own-length first (first-fits .slotted) (first-fits .addresses .at-most-64))
+
+  pub both-expired : (u : List ℕ) → u ≡ ownOctets (changeAddresses (remainAddresses st now) (toOwn t)) → u ≡ ownOctets (expiredOwn st now (toOwn s))
+  both-expired u q = q ∙ ap (λ (o : Own). ownOctets (changeAddresses (remainAddresses st now) o)) (ap toOwn e ∙ own-fit-back first first-fits)
 
 -- One port: the removals, then the flags.
 
