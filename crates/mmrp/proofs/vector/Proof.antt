@@ -1,6 +1,14 @@
 -- `mmrp::vector` meets its contract. Assumes nothing.
+use Prim.Native.Nat.{_-_}
+use mathlib.Core.List.{List}
+use mathlib.Core.Bool.{true}
 use borrow.Author.Needs.{needs}
-use Rattle.model.specs.AddressFrames.{macs}
+use lib.ListN.{take, drop}
+use Rattle.model.specs.Registrations.{AddressAct}
+use Rattle.model.specs.AddressFrames.{macs, addressValues, allAddresses}
+use Rattle.msrpdu.specs.Reader.{firstPart}
+use Rattle.msrpdu.specs.declared.VectorRead.the-variants.{Vector}
+use Rattle.mmrp.specs.Walked.{vectorOf}
 use Rattle.mmrpdu.proofs.Walking.{Within, within}
 use Rattle.mmrp.proofs.Walks.{walked-laid, walked-on}
 use Rattle.mmrp.proofs.Reading.{enough-events, has-addresses, vector-acts}
@@ -28,17 +36,25 @@ values-requires c κs =
     let a = c .before .before .before .before .before .before .before .before .before in
     let p = a .pre in
     record {
-      laid = walked-laid (a .args .walk .applying) (a .args .walk .clock) (a .args .own .now) (p .laid) _ _ _ (c .before .before .before .before .begin-all .ensures);
+      laid = walked-laid (a .args .walk .applying) (a .args .walk .clock) (a .args .own .now) (p .laid) (allAddresses (a .args .head .leaves)) true _ (c .before .before .before .before .begin-all .ensures);
       events = enough-events (p .version) (a .args .pdu .now) (p .at) (a .args .head) (p .read);
       values = rw (c .before .before .before .before .before .before .first-value .ensures) (has-addresses (p .version) (a .args .pdu .now) (p .at) (a .args .head) (p .read));
     }
 
+-- the acts of its values
+values : (a : tie.Start) → List AddressAct
+values a =
+    let w = a .args .head in
+    let s = a .args .pdu .now in
+    addressValues (vectorOf (firstPart s (Vector w)) (take (w .four - w .three) (drop (w .three) s))) 0 (w .values)
+
 returns : tie.Need-returns
+unfolding values
 returns c =
     let a = c .before .before .before .before .before .before .before .before .before .before .before .before in
     rw (vector-acts (a .args .pdu .now) (a .args .head))
-    (walked-on (a .args .walk .applying) (a .args .walk .clock) (a .args .own .now) (a .pre .laid) _ _ _ (c .before .before .before .before .before .before .before .begin-all .ensures) _ _
-    (rw (c .before .before .before .before .before .before .before .before .before .first-value .ensures) at (c .before .before .values .ensures)))
+    (walked-on (a .args .walk .applying) (a .args .walk .clock) (a .args .own .now) (a .pre .laid) (allAddresses (a .args .head .leaves)) (values a) _
+    (c .before .before .before .before .before .before .before .begin-all .ensures) (c .before .before .values .result) _ (rw (c .before .before .before .before .before .before .before .before .before .first-value .ensures) at (c .before .before .values .ensures)))
 
 pub vector-spec : {M : Type 1} → statement M
 vector-spec =
