@@ -1,19 +1,19 @@
 -- What is done to the addresses of a port leaves octets that are laid out: at most 64, each within its fields, ascending.
-use mathlib.Core.Path.{_≡_, refl, sym, ap, _∙_, subst}
-use mathlib.Core.Bool.{Bool, true, false}
-use mathlib.Core.List.{List, [], _∷_, _++_, map}
-use Prim.Native.Nat.{ℕ, zero, suc, _+_, _^_, _≤_, _<_}
+use mathlib.Core.Path.{_≡_, refl, sym, ap, subst}
+use mathlib.Core.List.{List, [], _∷_}
+use Prim.Native.Nat.{ℕ, zero, suc, _^_, _≤_, _<_}
 use native.Mathlib.Omega.{arith}
-use lib.ListN.{length, take, drop, length-map}
+use lib.ListN.{length, take, drop}
 use Rattle.model.specs.Layout.{addresses}
 use Rattle.model.specs.Lists.{All}
 use Rattle.model.specs.State.{Address, Own}
-use Rattle.model.specs.Registrations.{at, changeAddresses, joined, macs, withJoined}
+use Rattle.model.specs.Registrations.{changeAddresses, joined, macs, withJoined}
 use Rattle.model.specs.Laid.{Ascending, FitAddresses, FitOwn}
-use Rattle.model.proofs.Lists.{all-map, all-changed, all-take, all-drop, all-append}
+use Rattle.model.proofs.Lists.{all-map, all-take, all-drop, all-append}
+use Rattle.model.proofs.AddressesKept.{held-macs}
 use Rattle.model.proofs.Commute.{Tri, less, same, more, tri}
 use Rattle.table.proofs.EachStream.{firsts, firsts-keep}
-use Rattle.addresses.specs.Room.{vacantAt, withRoom, putIn, takenOut}
+use Rattle.addresses.specs.Room.{vacantAt, withRoom, takenOut}
 use Rattle.addresses.proofs.Records.{FitAddress}
 use Rattle.addresses.proofs.Values.{vacant-fits, joined-fits}
 use Rattle.addresses.proofs.Searching.{room-before, room-here, room-past, join-before, join-here, join-past}
@@ -22,37 +22,23 @@ pub change-fits : (o : Own) → FitOwn o → (u : List Address → List Address)
 unfolding changeAddresses
 change-fits o f u g = record { slotted = f .slotted; domains = f .domains; addresses = g }
 
-pub length-macs : (l : List Address) → length (macs l) ≡ length l
-unfolding macs
-length-macs l = length-map l (λ (a : Address). a .mac)
-
 -- the same addresses, with another presence
 pub same-fits : (l r : List Address) → FitAddresses l → macs r ≡ macs l → All FitAddress r → FitAddresses r
 same-fits l r f e a = record {
-  at-most-64 = omega (arith, f .at-most-64, length-macs r, length-macs l, ap length e);
+  at-most-64 = omega (arith, f .at-most-64, held-macs r, held-macs l, ap length e);
   each = a;
   ascending = subst Ascending (sym e) (f .ascending);
 }
 
 module _ (g : Address → Address) (keeps : (a : Address) → g a .mac ≡ a .mac) where
-  macs-at : (k : ℕ) (l : List Address) → macs (at k g l) ≡ macs l
-  unfolding macs at
-  macs-at k [] = refl
-  macs-at zero (a ∷ l) = ap (λ (m : ℕ). m ∷ macs l) (keeps a)
-  macs-at (suc k) (a ∷ l) = ap (λ (x : List ℕ). a .mac ∷ x) (macs-at k l)
-
-  pub macs-firsts : (k : ℕ) (l : List Address) → macs (firsts g k l) ≡ macs l
+  macs-firsts : (k : ℕ) (l : List Address) → macs (firsts g k l) ≡ macs l
   unfolding macs firsts
   macs-firsts zero l = refl
   macs-firsts (suc k) [] = refl
   macs-firsts (suc k) (a ∷ l) = rw (keeps a) (ap (λ (x : List ℕ). a .mac ∷ x) (macs-firsts k l))
 
-  module _ (fits : (a : Address) → FitAddress a → FitAddress (g a)) (l : List Address) (f : FitAddresses l) where
-    pub firsts-fits : (k : ℕ) → FitAddresses (firsts g k l)
-    firsts-fits k = same-fits l (firsts g k l) f (macs-firsts k l) (firsts-keep g FitAddress fits k l (f .each))
-
-    pub at-fits : (k : ℕ) → FitAddresses (at k g l)
-    at-fits k = same-fits l (at k g l) f (macs-at k l) (all-changed FitAddress k g l fits (f .each))
+  pub firsts-fits : ((a : Address) → FitAddress a → FitAddress (g a)) → (l : List Address) → FitAddresses l → (k : ℕ) → FitAddresses (firsts g k l)
+  firsts-fits fits l f k = same-fits l (firsts g k l) f (macs-firsts k l) (firsts-keep g FitAddress fits k l (f .each))
 
 -- One taken out.
 

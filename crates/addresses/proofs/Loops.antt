@@ -1,25 +1,37 @@
 -- A loop that changes one address after another, and one that takes the vacant ones out.
-use mathlib.Core.Path.{_≡_, refl, sym, ap, _∙_, subst}
+use mathlib.Core.Path.{_≡_, refl, sym, ap, _∙_}
 use mathlib.Core.Bool.{Bool, true, false, cond, not, true≢false}
 use mathlib.Core.List.{List, [], _∷_, _++_, map, append-nil, append-assoc}
-use Prim.Native.Nat.{ℕ, zero, suc, _+_, _-_, _≤_, _<_}
+use Prim.Native.Nat.{ℕ, suc, _+_, _-_, _^_, _≤_, _<_}
 use native.Mathlib.Omega.{arith}
 use native.Mathlib.Numerals.{add-one}
 use lib.ListN.{length, getD, take, drop, length-append, length-drop}
 use lib.Seq.{take-suc, drop-cons, take-length, drop-length, length-take-le, take-at, drop-at}
 use lib.Dec.{leb}
-use Rattle.model.specs.Layout.{addressIn, addressSize, addresses, ownSize}
+use Rattle.model.specs.Layout.{addressIn, addressSize, addresses, inAddress, ownSize}
 use Rattle.model.specs.Lists.{keep}
-use Rattle.model.specs.State.{Settings, Leaving, stays, since, Presence, vacant, present, Address, Own}
-use Rattle.model.specs.Registrations.{at, changeAddresses}
+use Rattle.model.specs.State.{Settings, stays, since, Presence, vacant, present, Address, Own}
+use Rattle.model.specs.Registrations.{at, changeAddresses, quitAddress}
 use Rattle.model.specs.Settling.{expired, isPresent, remainAddresses}
-use Rattle.model.specs.Table.{addressOctets, toAddress, ownOctets, toOwn}
-use Rattle.model.specs.Laid.{FitAddresses, FitOwn, LaidOwn}
+use Rattle.model.specs.Table.{addressNumbers, addressOctets, toAddress, ownOctets, toOwn}
+use Rattle.model.specs.Laid.{FitOwn, LaidOwn}
 use Rattle.table.proofs.EachStream.{firsts, firsts-length, firsts-at, firsts-all}
 use Rattle.table.proofs.OwnParts.{laid-own-is, laid-own-fits, reads-own}
 use Rattle.addresses.specs.Room.{vacantAt, takenOut, isHeld, presentOnly, lapsePresence, lapseAddress}
-use Rattle.addresses.proofs.Records.{FitAddress, ReadsAddress, there, lent-address, left-address}
+use Rattle.addresses.proofs.Records.{FitAddress, ReadsAddress, there, lent-address, left-address, registered-read}
+use Rattle.addresses.proofs.Values.{quit-mac, quit-fits, lapse-mac, lapse-fits, vacant-number, present-number}
 use Rattle.addresses.proofs.Keeps.{change-fits, firsts-fits, out-fits}
+
+-- a change of no more than the presence, within its fields
+pub record Changing (g : Address → Address) : Type 0 where
+  pub mac : (a : Address) → g a .mac ≡ a .mac
+  pub fits : (a : Address) → FitAddress a → FitAddress (g a)
+
+pub quitting : (clock : ℕ) → clock < 2 ^ 32 → Changing (quitAddress clock)
+quitting clock small = record { mac = quit-mac clock; fits = quit-fits clock small }
+
+pub lapsing : (leave now : ℕ) → Changing (lapseAddress leave now)
+lapsing leave now = record { mac = lapse-mac leave now; fits = lapse-fits leave now }
 
 -- the first k of so many are changed
 pub record Turned (g : Address → Address) (s₀ s : List ℕ) (held k : ℕ) : Type 0 where
@@ -29,14 +41,13 @@ pub record Turned (g : Address → Address) (s₀ s : List ℕ) (held k : ℕ) :
   pub size : length s ≡ ownSize
   pub is : s ≡ ownOctets (changeAddresses (firsts g k) (toOwn s₀))
 
-module _ (g : Address → Address) (keeps : (a : Address) → g a .mac ≡ a .mac) (fits : (a : Address) → FitAddress a → FitAddress (g a))
-    (s₀ : List ℕ) (l : LaidOwn s₀) where
+module _ (g : Address → Address) (c : Changing g) (s₀ : List ℕ) (l : LaidOwn s₀) where
   pub turned-none : (held : ℕ) → length s₀ ≡ ownSize → held ≡ length (toOwn s₀ .addresses) → held ≤ addresses → Turned g s₀ s₀ held 0
   unfolding changeAddresses firsts
   turned-none held z e h = record { within = omega arith; few = h; count = e; size = z; is = laid-own-is s₀ l }
 
   pub turned-fits : (k : ℕ) → FitOwn (changeAddresses (firsts g k) (toOwn s₀))
-  turned-fits k = let f = laid-own-fits s₀ l in change-fits (toOwn s₀) f (firsts g k) (firsts-fits g keeps fits (toOwn s₀ .addresses) (f .addresses) k)
+  turned-fits k = let f = laid-own-fits s₀ l in change-fits (toOwn s₀) f (firsts g k) (firsts-fits g (c .mac) (c .fits) (toOwn s₀ .addresses) (f .addresses) k)
 
   module _ (s : List ℕ) (held k : ℕ) (t : Turned g s₀ s held k) (h : k < held) where
     pub so-many : k < length (changeAddresses (firsts g k) (toOwn s₀) .addresses)
@@ -84,11 +95,11 @@ present-append (a ∷ l) r = go (isHeld (a .presence)) (present-append l r)
     go false e = e
 
 module _ (l : List Address) where
-  pub dropping-all : (k : ℕ) → k ≡ length l → dropping k l ≡ presentOnly l
+  dropping-all : (k : ℕ) → k ≡ length l → dropping k l ≡ presentOnly l
   unfolding dropping
   dropping-all k e = rw (e, take-length l, drop-length l) (append-nil (presentOnly l))
 
-  pub dropping-none : dropping 0 l ≡ l
+  dropping-none : dropping 0 l ≡ l
   unfolding dropping presentOnly
   dropping-none = refl
 
@@ -104,14 +115,14 @@ module _ (l : List Address) where
     unfolding presentOnly
     one-vacant a e = rw e
 
-    pub dropping-present : isHeld (getD l k (vacantAt 0) .presence) ≡ true → dropping (suc k) l ≡ dropping k l
+    dropping-present : isHeld (getD l k (vacantAt 0) .presence) ≡ true → dropping (suc k) l ≡ dropping k l
     unfolding dropping
     dropping-present e =
         rw (next, present-append (take k l) (getD l k (vacantAt 0) ∷ []), one-present (getD l k (vacantAt 0)) e)
         (append-assoc (presentOnly (take k l)) (getD l k (vacantAt 0) ∷ []) (drop (suc k) l)
         ∙ ap (λ (x : List Address). presentOnly (take k l) ++ x) (sym (drop-cons l k (vacantAt 0) h)))
 
-    pub dropping-vacant : isHeld (getD l k (vacantAt 0) .presence) ≡ false → dropping (suc k) l ≡ dropping k (takenOut k l)
+    dropping-vacant : isHeld (getD l k (vacantAt 0) .presence) ≡ false → dropping (suc k) l ≡ dropping k (takenOut k l)
     unfolding dropping takenOut
     dropping-vacant e =
         let n : length (take k l) ≡ k = length-take-le k l (omega arith) in
@@ -124,7 +135,7 @@ module _ (l : List Address) where
           drop-at (take k l) (drop (suc k) l) k n,
         )
 
-    pub out-fewer : suc (length (takenOut k l)) ≡ length l
+    out-fewer : suc (length (takenOut k l)) ≡ length l
     unfolding takenOut
     out-fewer = omega (arith, length-append (take k l) (drop (suc k) l), length-take-le k l (omega arith), length-drop (suc k) l)
 
@@ -154,29 +165,45 @@ module _ (s₀ : List ℕ) where
     pub dropping-end : Dropping s₀ s 0 → s ≡ ownOctets (changeAddresses presentOnly (toOwn s₀))
     dropping-end d = laid-own-is s (d .laid) ∙ ap ownOctets (unfold changeAddresses in rw (dropping-none (toOwn s .addresses)) at (d .leads))
 
-    module _ (k : ℕ) (d : Dropping s₀ s (suc k)) where
-      pub dropping-keep : isHeld (getD (toOwn s .addresses) k (vacantAt 0) .presence) ≡ true → Dropping s₀ s k
-      dropping-keep e = record {
+    -- a turn at the place k, by the octet that says whether its address is registered
+    module _ (i k : ℕ) (e : i ≡ suc k) (d : Dropping s₀ s i) where
+      abbrev l : List Address
+      l = toOwn s .addresses
+
+      h : k < length (toOwn s .addresses)
+      h = omega (arith, d .within)
+
+      f : FitOwn (toOwn s)
+      f = laid-own-fits s (d .laid)
+
+      seen : getD s (addressIn k) 0 ≡ getD (addressNumbers (there (toOwn s) f k h)) (inAddress .registered) 0
+      seen = registered-read (toOwn s) f s (laid-own-is s (d .laid)) k h
+
+      leads : changeAddresses (dropping (suc k)) (toOwn s) ≡ changeAddresses presentOnly (toOwn s₀)
+      leads = rw e at (d .leads)
+
+      pub dropping-keep : (getD s (addressIn k) 0 ≡ 0 → ⊥) → Dropping s₀ s k
+      dropping-keep n = record {
         within = omega (arith, d .within);
         laid = d .laid;
         size = d .size;
         few = d .few;
-        leads = unfold changeAddresses in (rw (dropping-present (toOwn s .addresses) k (omega (arith, d .within)) e) at (d .leads));
+        leads = unfold changeAddresses in (rw (dropping-present l k h (present-number (there (toOwn s) f k h) (λ z. n (seen ∙ z)))) at leads);
       }
 
-      pub dropping-out : isHeld (getD (toOwn s .addresses) k (vacantAt 0) .presence) ≡ false → (t : List ℕ) → t ≡ ownOctets (changeAddresses (takenOut k) (toOwn s)) → Dropping s₀ t k
-      dropping-out e t q =
-          let h : k < length (toOwn s .addresses) = omega (arith, d .within) in
-          let fewer = out-fewer (toOwn s .addresses) k h in
-          let f = laid-own-fits s (d .laid) in
-          let r =
-          reads-own (changeAddresses (takenOut k) (toOwn s)) (change-fits (toOwn s) f (takenOut k) (out-fits k (toOwn s .addresses) (f .addresses) (omega (arith, fewer)))) t q in
+      pub dropping-out : getD s (addressIn k) 0 ≡ 0 → (t : List ℕ) → t ≡ ownOctets (changeAddresses (takenOut k) (toOwn s)) → Dropping s₀ t k
+      dropping-out z t q =
+          let fewer = out-fewer l k h in
+          let r = reads-own (changeAddresses (takenOut k) (toOwn s)) (change-fits (toOwn s) f (takenOut k) (out-fits k l (f .addresses) (omega (arith, fewer)))) t q in
           record {
             within = rw (r .is) (unfold changeAddresses in omega (arith, fewer, d .within));
             laid = r .laid;
             size = r .size;
             few = rw (r .is) (unfold changeAddresses in omega (arith, fewer, d .few));
-            leads = ap (changeAddresses (dropping k)) (r .is) ∙ twice (toOwn s) k (dropping-vacant (toOwn s .addresses) k h e) ∙ d .leads;
+            leads =
+                ap (changeAddresses (dropping k)) (r .is)
+                ∙ twice (toOwn s) k (dropping-vacant l k h (vacant-number (there (toOwn s) f k h) (sym seen ∙ z)))
+                ∙ leads;
           }
 
 -- What expiry takes out.

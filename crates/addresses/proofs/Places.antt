@@ -1,6 +1,6 @@
 -- A record put in or taken out: the octets that the code moves, clears and writes are those of the addresses then held.
-use mathlib.Core.Path.{_≡_, refl, sym, ap, _∙_}
-use mathlib.Core.List.{List, [], _∷_, _++_, append-assoc, append-nil}
+use mathlib.Core.Path.{_≡_, sym, ap, _∙_}
+use mathlib.Core.List.{List, _∷_, _++_, append-assoc, append-nil}
 use mathlib.Core.Bool.{true, false}
 use Prim.Native.Nat.{ℕ, suc, _+_, _-_, _*_, _≤_, _<_}
 use native.Mathlib.Omega.{arith}
@@ -14,7 +14,7 @@ use Rattle.octets.specs.Fields.{flat, packed}
 use Rattle.octets.proofs.Be.{be-zero}
 use Rattle.octets.proofs.Fields.{flat-append}
 use Rattle.octets.proofs.Patches.{patch-between}
-use Rattle.model.specs.Layout.{addressIn, addressSize, addressWidths, addresses, addressesPlace, heldPlace, macPlace}
+use Rattle.model.specs.Layout.{addressIn, addressSize, addresses, addressesPlace, heldPlace, macPlace}
 use Rattle.model.specs.State.{Address, Own}
 use Rattle.model.specs.Registrations.{changeAddresses, macs}
 use Rattle.model.specs.Table.{presenceNumbers, addressNumbers, addressOctets, ownOctets, toOwn}
@@ -37,7 +37,7 @@ vacant-octets m = rw (be-zero 1, be-zero 4, append-nil (be 6 m))
 flat-length : (l : List Address) → length (flat addressOctets l) ≡ length l * addressSize
 flat-length l = length-flat-sized addressSize addressOctets l (addresses-sized l)
 
-pub length-put : (m k : ℕ) (l : List Address) → k ≤ length l → length (putIn k m l) ≡ length l + 1
+length-put : (m k : ℕ) (l : List Address) → k ≤ length l → length (putIn k m l) ≡ length l + 1
 unfolding putIn
 length-put m k l h = length-append (take k l) (vacantAt m ∷ drop k l) ∙ omega (arith, length-take-le k l h, length-drop k l)
 

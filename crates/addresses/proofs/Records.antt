@@ -12,19 +12,19 @@ use Rattle.octets.proofs.Frame.{beAt-part, getD-part}
 use Rattle.octets.proofs.Fields.{length-packed-any, get-field, get-octet}
 use Rattle.octets.proofs.Patches.{lent-patch, patch-between}
 use Rattle.model.specs.Layout.{addressIn, addressSize, addressWidths, addresses, addressesPlace, boundaryWidths, heldPlace, heldWidths, inAddress, macPlace}
-use Rattle.model.specs.Lists.{All, bit}
+use Rattle.model.specs.Lists.{bit}
 use Rattle.model.specs.State.{Presence, vacant, present, Address, Own}
 use Rattle.model.specs.Registrations.{at, changeAddresses, macs}
 use Rattle.model.specs.Table.{presenceNumbers, addressNumbers, addressOctets, toAddress, domainOctets, ownOctets, addressesHeld, toOwn}
-use Rattle.model.specs.Laid.{FitAddresses, FitOwn, LaidAddress, LaidOwn}
+use Rattle.model.specs.Laid.{FitOwn, LaidAddress, LaidOwn}
 use Rattle.model.proofs.Lists.{all-at, length-at}
-use Rattle.model.proofs.Parts.{Sized, length-parts}
+use Rattle.model.proofs.Parts.{length-parts}
 use Rattle.model.proofs.Addresses.{address-length, address-back, addresses-sized}
 use Rattle.model.proofs.Owns.{slots-length}
 use Rattle.table.specs.Reads.{Reads}
 use Rattle.table.proofs.Lens.{part-one, patch-one}
 use Rattle.table.proofs.StreamParts.{at-set}
-use Rattle.table.proofs.OwnParts.{laid-own-is, laid-own-fits}
+use Rattle.table.proofs.OwnParts.{laid-own-fits}
 use Rattle.addresses.specs.Room.{vacantAt}
 
 abbrev pub FitAddress : Address → Type 0
@@ -101,20 +101,20 @@ module _ (o : Own) (f : FitOwn o) where
     abbrev pub there : Address
     there = getD (o .addresses) k (vacantAt 0)
 
-    pub address-part : part (addressIn k) addressSize (ownOctets o) ≡ addressOctets there
+    address-part : part (addressIn k) addressSize (ownOctets o) ≡ addressOctets there
     address-part =
         ap (part (addressIn k) addressSize) (own-same o ∙ own-split o (λ l. l))
         ∙ part-one addressSize addressOctets addressesPlace (front o (length (o .addresses))) (unused (length (o .addresses))) (front-length (length (o .addresses)))
         (o .addresses) (addresses-sized (o .addresses)) k (addressIn k) h refl (vacantAt 0)
 
-    pub address-patch : (u : Address → Address) → patch (addressIn k) addressSize (addressOctets (u there)) (ownOctets o) ≡ ownOctets (changeAddresses (at k u) o)
+    address-patch : (u : Address → Address) → patch (addressIn k) addressSize (addressOctets (u there)) (ownOctets o) ≡ ownOctets (changeAddresses (at k u) o)
     address-patch u =
         let n = length (o .addresses) in
         ap (patch (addressIn k) addressSize (addressOctets (u there))) (own-same o ∙ own-split o (λ l. l))
         ∙ patch-one addressSize addressOctets addressesPlace (front o n) (unused n) (front-length n) (o .addresses) (addresses-sized (o .addresses)) k (addressIn k) h refl (u there)
         ∙ sym (own-split o (at k u) ∙ rw (length-at k u (o .addresses), ← at-set k u (o .addresses) (vacantAt 0) h))
 
-    pub address-fits : FitAddress there
+    address-fits : FitAddress there
     address-fits = all-at FitAddress (o .addresses) (f .addresses .each) k (vacantAt 0) h
 
 -- One lent to a call.

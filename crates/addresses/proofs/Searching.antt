@@ -1,6 +1,6 @@
 -- What is done about an address, by the place where it was found or is missing.
 use mathlib.Core.Path.{_≡_, refl, sym, ap, _∙_}
-use mathlib.Core.Bool.{Bool, true, false, true≢false}
+use mathlib.Core.Bool.{true, false, true≢false}
 use mathlib.Core.List.{List, [], _∷_}
 use Prim.Native.Nat.{ℕ, suc, _+_, _≤_, _<_}
 use native.Mathlib.Omega.{arith}
@@ -46,7 +46,7 @@ module _ (m : ℕ) (a : Address) (l : List Address) where
     unfolding withLeft
     left-here now = rw (eq-eqb m (a .mac) h)
 
-    pub holds-here : holdsAddress m (a ∷ l) ≡ true
+    holds-here : holdsAddress m (a ∷ l) ≡ true
     unfolding holdsAddress
     holds-here = rw (eq-eqb m (a .mac) h)
 
@@ -64,7 +64,7 @@ module _ (m : ℕ) (a : Address) (l : List Address) where
     unfolding withLeft
     left-past now = rw (ne-eqb m (a .mac) d)
 
-    pub holds-past : holdsAddress m (a ∷ l) ≡ holdsAddress m l
+    holds-past : holdsAddress m (a ∷ l) ≡ holdsAddress m l
     unfolding holdsAddress
     holds-past = rw (ne-eqb m (a .mac) d)
 

@@ -145,7 +145,7 @@ module _ (m : ℕ) where
   fits vacant h q = omega arith also omega arith also omega arith also h also tt
   fits (present l) h q = omega arith also leaving-few l also q also h also tt
 
-pub address-small : (a : Address) → FitAddress a → a .mac < 2 ^ 48
+address-small : (a : Address) → FitAddress a → a .mac < 2 ^ 48
 address-small a f = mac-fits (a .mac) (a .presence) f
 
 pub vacant-fits : (m : ℕ) → m < 2 ^ 48 → FitAddress (vacantAt m)

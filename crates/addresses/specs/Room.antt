@@ -5,7 +5,7 @@ use Prim.Native.Nat.{ℕ, suc, _+_}
 use lib.ListN.{take, drop}
 use lib.Dec.{ltb, leb, eqb}
 use Rattle.model.specs.Lists.{keep}
-use Rattle.model.specs.State.{Leaving, stays, since, Presence, vacant, present, Address}
+use Rattle.model.specs.State.{stays, since, Presence, vacant, present, Address}
 
 unfoldable pub vacantAt : ℕ → Address
 vacantAt m = record { mac = m; presence = vacant }

@@ -15,14 +15,14 @@ ghost use Rattle.model.specs.Laid.{LaidAddress, LaidOwn};
 ghost use Rattle.table.specs.Find.{foundAt};
 ghost use Rattle.addresses.specs.Held.{AddressIn, HeldGiven, RoomAt};
 ghost use Rattle.addresses.specs.Room.{presentOnly, lapseAddress, putIn, takenOut, withRoom};
-use table::address::LEAVES;
-use table::address::MAC;
-use table::address::REGISTERED;
 use table::ADDRESS;
 use table::ADDRESSES;
 use table::ADDRESSES_HELD;
 use table::Found;
 use table::MOST_ADDRESSES;
+use table::address::LEAVES;
+use table::address::MAC;
+use table::address::REGISTERED;
 
 // The octets of a record before its address: registered, leaving, since.
 const PRESENCE: usize = MAC;
@@ -173,7 +173,14 @@ fn lapse_all(own: &mut [u8], leave: u32, time: u32)
     let mut k: usize = 0;
     while k < held {
         let a = ADDRESSES + k * ADDRESS;
-        cells::lapse(&mut own[a..a + ADDRESS], REGISTERED, PRESENCE, LEAVES, leave, time);
+        cells::lapse(
+            &mut own[a..a + ADDRESS],
+            REGISTERED,
+            PRESENCE,
+            LEAVES,
+            leave,
+            time,
+        );
         k += 1;
     }
 }

@@ -1,5 +1,5 @@
 -- `addresses::expire` meets its contract. Assumes nothing.
-use mathlib.Core.Path.{_≡_, sym, ap, _∙_}
+use mathlib.Core.Path.{ap, _∙_}
 use mathlib.Core.List.{map}
 use borrow.Author.Needs.{needs}
 use Rattle.model.specs.State.{Own}
@@ -10,8 +10,7 @@ use Rattle.table.specs.Reads.{ReadsOwn}
 use Rattle.table.proofs.OwnParts.{reads-own}
 use Rattle.addresses.specs.Room.{presentOnly, lapseAddress}
 use Rattle.addresses.proofs.Records.{changed-twice}
-use Rattle.addresses.proofs.Values.{lapse-mac, lapse-fits}
-use Rattle.addresses.proofs.Loops.{mapped-fits, remains}
+use Rattle.addresses.proofs.Loops.{lapsing, mapped-fits, remains}
 use Rattle.addresses.proofs.expire.Statement.{statement}
 use Rattle.addresses.proofs.expire.Tie as tie
 
@@ -21,7 +20,7 @@ lapsed-read : (c : tie.After-lapse-all)
 lapsed-read c =
     let first = c .before .before .before in
     let a = first .args in
-    reads-own _ (mapped-fits (lapseAddress (a .leave) (a .time)) (lapse-mac (a .leave) (a .time)) (lapse-fits (a .leave) (a .time)) (a .own .now) (first .pre .0)) _ (c .lapse-all .ensures)
+    reads-own _ (mapped-fits (lapseAddress (a .leave) (a .time)) (lapsing (a .leave) (a .time)) (a .own .now) (first .pre .0)) _ (c .lapse-all .ensures)
 
 drop-vacant-requires : tie.Need-drop-vacant-requires
 drop-vacant-requires c κs = let r = lapsed-read (c .before .before .before) in (r .laid, r .size)

@@ -1,12 +1,9 @@
 -- `addresses::join` meets its contract. Assumes nothing.
-use Prim.Native.Nat.{_<_, _≤_}
-use mathlib.Core.Path.{refl, sym, ap, _∙_}
-use mathlib.Core.List.{List}
+use Prim.Native.Nat.{_<_}
+use mathlib.Core.Path.{sym, _∙_}
 use native.Mathlib.Omega.{arith}
 use borrow.Author.Needs.{needs}
-use lib.ListN.{length}
 use Rattle.model.specs.Layout.{addresses}
-use Rattle.model.specs.State.{Address, Own}
 use Rattle.model.specs.Registrations.{joined, withJoined}
 use Rattle.model.specs.Table.{toOwn}
 use Rattle.table.proofs.OwnParts.{laid-own-is, laid-own-fits}

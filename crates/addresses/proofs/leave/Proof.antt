@@ -1,14 +1,11 @@
 -- `addresses::leave` meets its contract. Assumes nothing.
-use Prim.Native.Nat.{_<_, _≤_}
-use mathlib.Core.Path.{sym, ap, _∙_}
-use mathlib.Core.List.{List}
+use Prim.Native.Nat.{_<_}
+use mathlib.Core.Path.{sym, _∙_}
 use native.Mathlib.Omega.{arith}
 use borrow.Author.Needs.{needs}
-use lib.ListN.{length}
 use Rattle.model.specs.Layout.{addresses}
-use Rattle.model.specs.State.{Address, Own}
-use Rattle.model.specs.Registrations.{at, changeAddresses, quitAddress, withLeft}
-use Rattle.model.specs.Table.{ownOctets, toOwn}
+use Rattle.model.specs.Registrations.{quitAddress, withLeft}
+use Rattle.model.specs.Table.{toOwn}
 use Rattle.table.proofs.OwnParts.{laid-own-is, laid-own-fits}
 use Rattle.addresses.proofs.Records.{lent-address, left-address, own-same, changed-same}
 use Rattle.addresses.proofs.Searching.{HeldAt, held-at, missing-at}
