@@ -1,7 +1,7 @@
 -- What the walk reads is what is left to do: of a list from a place on, of a frame, and of the two walks over a frame. Assumes
 -- nothing.
 use Prim.Native.Nat.{ℕ, zero, suc, _+_, _*_, _-_, _/_, _%_, _≤_, _<_}
-use mathlib.Core.Path.{_≡_, refl, sym, ap, subst, _∙_}
+use mathlib.Core.Path.{_≡_, refl, sym, ap, _∙_}
 use mathlib.Core.List.{List, [], _∷_, _++_}
 use mathlib.Core.Bool.{Bool, true, false}
 use native.Mathlib.Omega.{arith}
@@ -10,8 +10,8 @@ use lib.ListN.{length, getD, take, drop}
 use borrow.Author.Tests.{le-leb, lt-leb, lt-ltb}
 use Rattle.octets.specs.Parts.{part}
 use Rattle.model.specs.Layout.{addresses}
-use Rattle.model.specs.State.{Address, Own}
-use Rattle.model.specs.Registrations.{AddressAct, leaveAddress, joinAddress, AddressReading, addressActs, doesAddresses, changeAddresses}
+use Rattle.model.specs.State.{Address}
+use Rattle.model.specs.Registrations.{AddressAct, leaveAddress, joinAddress, addressActs, doesAddresses, changeAddresses}
 use Rattle.model.specs.Table.{ownOctets, toOwn}
 use Rattle.model.specs.Laid.{LaidOwn}
 use Rattle.model.specs.Frames.{Asking, nothingAsked, join, withdraw, threeLength, event, threePacked, asking}
@@ -32,7 +32,7 @@ use Rattle.mmrpdu.proofs.Applying.{Sound, sound, address-read, other-acts, macs
 use Rattle.addresses.specs.Room.{presentOnly}
 use Rattle.mmrp.specs.declared.Asked.{Asked}
 use Rattle.mmrp.specs.declared.Asked.the-variants.{Nothing, Join, Leave}
-use Rattle.mmrp.specs.Run.{room, effect, effects, held, having, Went, Stopped, Walked}
+use Rattle.mmrp.specs.Run.{room, effects, held, having, Walked}
 use Rattle.mmrp.specs.Walked.{askedOf, vectorOf, actsOf, listRead, listActsOf, listEndOf, taken, Receives}
 use Rattle.mmrp.specs.Asks.{HasAddress}
 use Rattle.mmrp.proofs.Room.{effects-applied, same-length, applied-after-room}

@@ -88,8 +88,7 @@ loop-again c =
     let d = c .before .before .before .before .before .before .before in
     let a = d .before .before .before .before .before .before .before .before .args in
     let l = d .before .before .before .before .loop in
-    let x = rw (c .before .end .given .1) at (c .before .before .before .before .before .list .ensures) in
-    (
+    let x = rw (c .before .end .given .1) at (c .before .before .before .before .before .list .ensures) in (
       search needs,
       frame-list (a .pdu .now) (a .walk .applying) (a .walk .clock) (a .own .now) (l .at) (l .own) (l .inv .1) _ (read d) _ _ (x .0) (x .1),
     )

@@ -71,8 +71,7 @@ loop-less c = omega (arith, within _ _ _ _ _ (read (c .before .before .before .b
 loop-again : tie.Need-loop-again Inv-loop μ-loop
 loop-again c =
     let a = c .before .before .before .before .before .before .before .before .before .before .before .before .before .before .args in
-    let l = c .before .before .before .before .before .before .before .before .before .before .before .loop in
-    (
+    let l = c .before .before .before .before .before .before .before .before .before .before .before .loop in (
       search needs,
       list-macs (a .pdu .now) (a .version) (a .head) (a .walk .applying) (a .walk .clock) (a .own .now) (l .at) (l .own) (l .inv .1) _ (read (c .before .before .before .before .before .before .before)) (c .before .before .before .before .before .if1 .taken) _
           (rw (not-false (c .before .before .before .vector .result) (c .if2 .left)) at (c .before .before .before .vector .ensures)),
@@ -84,8 +83,7 @@ loop-less-2 c = omega (arith, within _ _ _ _ _ (read (c .before .before)), c .be
 loop-again-2 : tie.Need-loop-again-2 Inv-loop μ-loop
 loop-again-2 c =
     let a = c .before .before .before .before .before .before .before .before .before .args in
-    let l = c .before .before .before .before .before .before .loop in
-    (
+    let l = c .before .before .before .before .before .before .loop in (
       l .inv .0,
       list-dropped (a .pdu .now) (a .version) (a .head) (a .walk .applying) (a .walk .clock) (a .own .now) (l .at) (l .own) (l .inv .1) _ (read (c .before .before)) (c .if1 .left),
     )
@@ -102,8 +100,7 @@ loop-less-3 c = omega (arith, over-within _ _ _ _ _ (passes c), c .before .befor
 loop-again-3 : tie.Need-loop-again-3 Inv-loop μ-loop
 loop-again-3 c =
     let a = c .before .before .before .before .before .before .before .args in
-    let l = c .before .before .before .before .loop in
-    (
+    let l = c .before .before .before .before .loop in (
       l .inv .0,
       list-over (a .pdu .now) (a .version) (a .head) (a .walk .applying) (a .walk .clock) (a .own .now) (l .at) (l .own) (l .inv .1) _ (passes c),
     )

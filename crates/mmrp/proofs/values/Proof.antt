@@ -1,5 +1,5 @@
 -- `mmrp::values` meets its contract. The invariant: the acts of the values from n on are left. Assumes nothing.
-use Prim.Native.Nat.{ℕ, _-_, _≤_}
+use Prim.Native.Nat.{_-_, _≤_}
 use mathlib.Core.Path.{_≡_, refl}
 use native.Mathlib.Omega.{arith}
 use native.Mathlib.Nat.{sub-zero}
@@ -45,8 +45,7 @@ loop-again : tie.Need-loop-again Inv-loop μ-loop
 unfolding vectorOf
 loop-again c =
     let a = c .before .before .before .before .before .before .before .before .before .before .args in
-    let l = c .before .before .before .before .before .before .loop in
-    (
+    let l = c .before .before .before .before .before .before .loop in (
       omega arith,
       search needs,
       going-on (a .walk .applying) (a .walk .clock) _ (a .own .now) _ (l .own) (l .inv .2) _ _ _
