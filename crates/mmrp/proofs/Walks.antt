@@ -11,7 +11,6 @@ use Rattle.model.specs.Layout.{addresses, ownSize}
 use Rattle.model.specs.Lists.{All}
 use Rattle.model.specs.State.{Address, Own}
 use Rattle.model.specs.Registrations.{AddressAct, leaveAllAddresses, leaveAddress, joinAddress, quitAddress, withJoined, withLeft, doesAddress, doesAddresses, changeAddresses, macs, addressJoins, together}
-use Rattle.model.specs.Settling.{holdsAddress}
 use Rattle.model.specs.Table.{ownOctets, toOwn}
 use Rattle.model.specs.Laid.{FitAddresses, FitOwn, LaidOwn}
 use Rattle.model.proofs.Owns.{own-fit-back, own-length}
@@ -24,7 +23,7 @@ use Rattle.addresses.proofs.Records.{FitAddress}
 use Rattle.addresses.proofs.Values.{quit-fits}
 use Rattle.addresses.proofs.Searching.{room-holds}
 use Rattle.addresses.proofs.Keeps.{change-fits, same-fits, joined-macs, room-fits, join-fits}
-use Rattle.mmrp.specs.Run.{room, effect, effects, held, having, Went, Stopped, Walked}
+use Rattle.mmrp.specs.Run.{room, effect, effects, held, having, Went, Walked}
 use Rattle.mmrp.proofs.Room.{effects-append, effects-grow, effects-drop, joined-again}
 
 -- The octets with other addresses.
@@ -141,6 +140,15 @@ module _ (m : Bool) (now : ℕ) (es : List AddressAct) (s : List ℕ) where
       going-stopped w = g .leads false v (rw e (walked-stopped m now u (g .laid) gs hs v w))
 
 -- One act.
+
+-- Lv and LeaveAll ask for no room
+pub room-leave : (n : ℕ) (l : List Address) → room (leaveAddress n) l ≡ l
+unfolding room
+room-leave n l = refl
+
+pub room-leave-all : (l : List Address) → room leaveAllAddresses l ≡ l
+unfolding room
+room-leave-all l = refl
 
 module _ (now : ℕ) (s : List ℕ) (laid : LaidOwn s) where
   -- one that needs no room
