@@ -32,12 +32,13 @@ extern "C" {
  * of SRP_TABLE octets with 12, it is another.
  */
 
-/* Ports of a bridge, and streams that it holds, at most. */
+/* Ports of a bridge, streams that it holds, and addresses that each port holds, at most. */
 #define SRP_PORTS 8
 #define SRP_STREAMS 64
+#define SRP_ADDRESSES 64
 
 /* A table, for every number of ports. */
-#define SRP_TABLE 34923
+#define SRP_TABLE 41075
 
 /* Settings: what stands before the first port's, each port's, and all of so many ports. */
 #define SRP_SETTINGS_HEAD 14
@@ -53,7 +54,7 @@ enum srp_number {
     SRP_REFUSED_PORT = 1,             /* the port is 0 or above the bridge's ports */
     SRP_REFUSED_PDU_LENGTH = 2,       /* the PDU has 0 octets or more than SRP_PDU */
     SRP_REFUSED_PAST_END = 3,         /* a field runs past the PDU or its list, or a list's EndMark isn't its last two octets */
-    SRP_REFUSED_ATTRIBUTE_TYPE = 4,   /* AttributeType 0; or above 4 with ProtocolVersion 0 */
+    SRP_REFUSED_ATTRIBUTE_TYPE = 4,   /* AttributeType 0; or with ProtocolVersion 0 above 4, of MMRP above 2 */
     SRP_REFUSED_ATTRIBUTE_LENGTH = 5, /* AttributeLength is not that of the type */
     SRP_REFUSED_EVENT = 6,            /* LeaveAllEvent above 1, or a ThreePackedEvents octet above 215, with ProtocolVersion 0 */
     SRP_REFUSED_VALUE = 7,            /* a value runs past its field */
@@ -62,7 +63,8 @@ enum srp_number {
     SRP_REFUSED_BUFFER = 10,          /* the buffer is shorter than SRP_PDU */
     SRP_REFUSED_SETTINGS = 11,        /* the settings are not as docs/TABLE.md lays them out, their length included */
     SRP_REFUSED_TABLE = 12,           /* the table's length is not SRP_TABLE, or its octets break a form rule */
-    SRP_REFUSED_PLACE = 13            /* the place is above the number of declarations (write) or of streams held (report) */
+    SRP_REFUSED_PLACE = 13,           /* the place is above the number of declarations (write) or of streams held (report) */
+    SRP_REFUSED_ADDRESSES = 14        /* addresses that the port holds and different new ones joined by this PDU are more than SRP_ADDRESSES */
 };
 
 /*
@@ -124,6 +126,13 @@ uint8_t srp_start(uint8_t *table, size_t table_length, const uint8_t *settings, 
  * from the front), 8. The PDU begins with ProtocolVersion, behind the EtherType.
  */
 uint8_t srp_receive(uint8_t *table, size_t table_length, uint32_t port, const uint8_t *pdu, size_t pdu_length);
+
+/*
+ * Takes an MMRP PDU that arrived on a port: all of its events are applied to the MAC addresses that the port holds, or it is refused
+ * with 12, 1, 2 to 7 (the first from the front), 14. With talkerPruning in the settings a Talker goes only to ports that hold its
+ * destination.
+ */
+uint8_t srp_receive_mmrp(uint8_t *table, size_t table_length, uint32_t port, const uint8_t *pdu, size_t pdu_length);
 
 /*
  * Sets the clock, in hundredths of a second, removes what has left, and decides what every port admits. Refused with 12, 9.

@@ -124,6 +124,9 @@ static void take(unsigned kind) {
     } else if (kind / 16 == 1) {
         length = counted();
         printf("receive %u\n", (unsigned)srp_receive(room, lent, port, octets, length));
+    } else if (kind / 16 == 7) {
+        length = counted();
+        printf("mmrp %u\n", (unsigned)srp_receive_mmrp(room, lent, port, octets, length));
     } else if (kind == 0x20) {
         printf("advance %u\n", (unsigned)srp_advance(room, lent, number(4)));
     } else if (kind / 16 == 3) {

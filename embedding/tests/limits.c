@@ -62,6 +62,7 @@ static void refused_table(uint8_t *at, size_t length) {
     long_ = next = 1;
     expect("start, table", srp_start(at, length, settings, SRP_SETTINGS(SRP_PORTS)), SRP_REFUSED_TABLE);
     expect("receive, table", srp_receive(at, length, 1, pdu, SRP_PDU), SRP_REFUSED_TABLE);
+    expect("receive_mmrp, table", srp_receive_mmrp(at, length, 1, pdu, SRP_PDU), SRP_REFUSED_TABLE);
     expect("advance, table", srp_advance(at, length, 0), SRP_REFUSED_TABLE);
     expect("write, table", srp_write(at, length, 1, 0, buffer, SRP_PDU, &long_, &next), SRP_REFUSED_TABLE);
     expect("length after 12", (unsigned)long_, 0);
@@ -75,6 +76,9 @@ static void lengths_of_pdus(void) {
     expect("receive, no PDU", srp_receive(table, SRP_TABLE, 1, NULL, 0), SRP_REFUSED_PDU_LENGTH);
     expect("receive, longest PDU", srp_receive(table, SRP_TABLE, 1, pdu, SRP_PDU), SRP_ACCEPTED);
     expect("receive, longer PDU", srp_receive(table, SRP_TABLE, 1, pdu, SRP_PDU + 1), SRP_REFUSED_PDU_LENGTH);
+    expect("receive_mmrp, no PDU", srp_receive_mmrp(table, SRP_TABLE, 1, NULL, 0), SRP_REFUSED_PDU_LENGTH);
+    expect("receive_mmrp, longest PDU", srp_receive_mmrp(table, SRP_TABLE, 1, pdu, SRP_PDU), SRP_ACCEPTED);
+    expect("receive_mmrp, port above", srp_receive_mmrp(table, SRP_TABLE, SRP_PORTS + 1, pdu, SRP_PDU), SRP_REFUSED_PORT);
     expect("receive, port 0", srp_receive(table, SRP_TABLE, 0, pdu, SRP_PDU), SRP_REFUSED_PORT);
     expect("receive, last port", srp_receive(table, SRP_TABLE, SRP_PORTS, pdu, SRP_PDU), SRP_ACCEPTED);
     expect("receive, port above", srp_receive(table, SRP_TABLE, SRP_PORTS + 1, pdu, SRP_PDU), SRP_REFUSED_PORT);
@@ -117,6 +121,26 @@ static unsigned join(uint8_t values, uint8_t first) {
     return srp_receive(table, SRP_TABLE, 1, pdu, at);
 }
 
+/* Receives on port 1 an MMRP vector of addresses that join: so many values, from a last octet on. */
+static unsigned join_addresses(uint8_t values, uint8_t first) {
+    static const uint8_t message[] = {0, 2, 6, 0, 0, 0x91, 0xE0, 0xF0, 0, 0, 0};
+    size_t at = sizeof message, three = (values + 2u) / 3;
+
+    memset(pdu, 0, sizeof pdu);
+    memcpy(pdu, message, sizeof message);
+    pdu[4] = values;
+    pdu[10] = first;
+    memset(pdu + at, 3 * 36 + 3 * 6 + 3, three);
+    return srp_receive_mmrp(table, SRP_TABLE, 1, pdu, at + three + 2);
+}
+
+static void addresses(void) {
+    expect("receive_mmrp, all addresses", join_addresses(SRP_ADDRESSES, 0), SRP_ACCEPTED);
+    memcpy(before, table, sizeof table);
+    expect("receive_mmrp, an address more", join_addresses(1, SRP_ADDRESSES), SRP_REFUSED_ADDRESSES);
+    expect_kept("table after 14");
+}
+
 static void streams(void) {
     struct srp_reported told;
 
@@ -139,6 +163,7 @@ int main(void) {
     refused_table(table, SRP_TABLE + 1);
     lengths_of_pdus();
     buffers_and_places();
+    addresses();
     streams();
     expect("advance", srp_advance(table, SRP_TABLE, 100), SRP_ACCEPTED);
     expect("advance to an earlier time", srp_advance(table, SRP_TABLE, 99), SRP_REFUSED_TIME);

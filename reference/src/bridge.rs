@@ -1,11 +1,12 @@
-//! The bridge and its five calls (01, "What the bridge does" and "Numbers given back").
+//! The bridge and its calls (01, "What the bridge does" and "Numbers given back"; 02, (vi)).
 //!
 //! [`Bridge`] makes them on what a table holds, [`Table`] on the octets that a caller lends.
 
 use crate::declarations::{self, Declaration};
+use crate::mmrp;
 use crate::numbers::{self, Number};
 use crate::pdu::{self, ListenerType, StreamId, LONGEST_PDU};
-use crate::registrations::{Registrations, MOST_STREAMS};
+use crate::registrations::{Registrations, MOST_ADDRESSES, MOST_STREAMS};
 use crate::settings::{self, PerClass, Settings};
 use crate::settling::{self, Column, Entry, Settled};
 use crate::table::{self, TABLE_LENGTH};
@@ -100,6 +101,18 @@ impl Bridge {
             return Err(numbers::STREAMS);
         }
         self.registrations.apply(port, &pdu, self.clock);
+        Ok(())
+    }
+
+    /// receive_mmrp: 1, 2, the walk from the front, 14. Registers the addresses that the frame asks
+    /// for on that port.
+    fn receive_mmrp(&mut self, port: u32, pdu: &[u8]) -> Result<(), Number> {
+        let port = self.port(port)?;
+        let pdu = mmrp::read(pdu).map_err(|fault| fault.number)?;
+        if self.registrations.addresses_with(port, &pdu) > MOST_ADDRESSES {
+            return Err(numbers::ADDRESSES);
+        }
+        self.registrations.apply_mmrp(port, &pdu, self.clock);
         Ok(())
     }
 
@@ -242,6 +255,11 @@ impl Table {
     /// receive: 12, then as [`Bridge`] does.
     pub fn receive(&mut self, port: u32, pdu: &[u8]) -> Number {
         self.change(|bridge| bridge.receive(port, pdu))
+    }
+
+    /// receive_mmrp: 12, then as [`Bridge`] does.
+    pub fn receive_mmrp(&mut self, port: u32, pdu: &[u8]) -> Number {
+        self.change(|bridge| bridge.receive_mmrp(port, pdu))
     }
 
     /// advance: 12, then as [`Bridge`] does.

@@ -1,4 +1,4 @@
-//! The program srpcalls, a console for the five calls.
+//! The program srpcalls, a console for the calls.
 
 use std::fmt::Write;
 
@@ -8,7 +8,7 @@ use crate::words;
 
 /// A buffer length above this counts as this.
 pub const LONGEST_BUFFER: usize = 2_048;
-/// What start and receive are handed is cut to so many octets.
+/// What start, receive and receive_mmrp are handed is cut to so many octets.
 pub const LONGEST_HANDED: usize = 4_096;
 /// What a buffer is filled with before a write.
 pub const FILLING: u8 = 0xa5;
@@ -38,6 +38,7 @@ pub fn run_watched(input: &[u8], watcher: &mut dyn Watcher) -> String {
 enum Record<'a> {
     Start(&'a [u8]),
     Receive(u32, &'a [u8]),
+    ReceiveMmrp(u32, &'a [u8]),
     Advance(u32),
     Write { port: u32, place: u32, buffer_length: usize },
     Report { port: u32, place: u32 },
@@ -68,6 +69,7 @@ fn take_record<'a>(input: &mut Input<'a>) -> Option<Record<'a>> {
         0x51 => Some(Record::Lend(usize::from(input.u16()?))),
         0x60 => Some(Record::Sum),
         0x61 => Some(Record::Octets),
+        0x70..=0x7f => Some(Record::ReceiveMmrp(port, handed(input.counted_octets()?))),
         _ => None,
     }
 }
@@ -88,6 +90,11 @@ fn make(table: &mut Table, record: &Record, watcher: &mut dyn Watcher) -> String
             let number = table.receive(port, pdu);
             watcher.called(&Call::Receive(port, pdu), number, table);
             format!("receive {number}\n")
+        }
+        Record::ReceiveMmrp(port, pdu) => {
+            let number = table.receive_mmrp(port, pdu);
+            watcher.called(&Call::ReceiveMmrp(port, pdu), number, table);
+            format!("mmrp {number}\n")
         }
         Record::Advance(time) => {
             let number = table.advance(time);

@@ -1,6 +1,7 @@
 //! What the generated inputs reach: how often each thing worth comparing occurs when the reference
 //! runs on them.
 
+mod addresses;
 mod borrowing;
 mod domains;
 mod fan_in;
@@ -428,6 +429,104 @@ const ROWS: &[&str] = &[
     "form rule 34 broken alone",
     "form rule 35 broken alone",
     "form rule 36 broken alone",
+    "mmrp 0",
+    "mmrp 1",
+    "mmrp 2",
+    "mmrp 3",
+    "mmrp 4",
+    "mmrp 5",
+    "mmrp 6",
+    "mmrp 7",
+    "mmrp 12",
+    "mmrp 14",
+    "pruning on",
+    "pruning off",
+    "settings refused with pruning on",
+    "MMRP PDU of 0 octets",
+    "MMRP PDU of more than 1500 octets",
+    "MMRP service requirement New",
+    "MMRP service requirement JoinIn",
+    "MMRP service requirement In",
+    "MMRP service requirement JoinMt",
+    "MMRP service requirement Mt",
+    "MMRP service requirement Lv",
+    "MMRP mac New",
+    "MMRP mac JoinIn",
+    "MMRP mac In",
+    "MMRP mac JoinMt",
+    "MMRP mac Mt",
+    "MMRP mac Lv",
+    "MMRP LeaveAll service requirement",
+    "MMRP LeaveAll mac",
+    "MMRP LeaveAll with 0 values",
+    "MMRP vector of several values",
+    "MMRP PDU of several Messages",
+    "MMRP PDU without Messages",
+    "MMRP empty list",
+    "MMRP frame ended by EndMark",
+    "MMRP frame ended without EndMark",
+    "MMRP number 4 at version 0",
+    "MMRP type 0 at a higher version",
+    "MMRP unknown type walked over",
+    "MMRP unknown type of several vectors",
+    "MMRP unknown type with AttributeLength 0",
+    "MMRP unknown type with LeaveAllEvent above 1",
+    "MMRP number 6 at version 0",
+    "MMRP passed over: service requirement",
+    "MMRP passed over: mac",
+    "MMRP passed over for its LeaveAllEvent",
+    "MMRP passed over for an event octet",
+    "MMRP passed over with LeaveAllEvent 1",
+    "MMRP passed over with a value past its field",
+    "MMRP passed over, with a vector read behind it",
+    "MMRP passed over, with addresses past the room",
+    "MMRP LeaveAllEvent above 1 that doesn't fit, refused with 3",
+    "MMRP fault behind a vector passed over",
+    "MMRP last service requirement at 255",
+    "MMRP service requirement past 255",
+    "MMRP last address at its bound",
+    "MMRP address past its bound",
+    "address zero registered",
+    "address FF-FF-FF-FF-FF-FF registered",
+    "single address registered",
+    "exactly 64 addresses held by a join",
+    "repeated addresses that count once",
+    "Lv, In and Mt past the room",
+    "Lv of an address that isn't held",
+    "number 14 with 64 addresses held",
+    "number 14 with fewer held",
+    "number 14 with leaving addresses held",
+    "number 14 with addresses joined and left at once",
+    "number 14 with a LeaveAll in the PDU",
+    "LeaveAll of type 1 that leaves addresses",
+    "address leaving begun by Lv",
+    "address leaving begun by LeaveAll",
+    "address leaving begun again, the first time stays",
+    "address leaving ended by a join",
+    "address removed exactly at the leave time",
+    "address removed later",
+    "address kept though leaving",
+    "column step n",
+    "pruned: Advertise",
+    "pruned: Failed",
+    "pruned: changed",
+    "pruned with a Listener",
+    "pruned without a Listener",
+    "pruned on a port with a second Talker",
+    "pruned where there was a column",
+    "pruned before 5",
+    "pruned before 15",
+    "not pruned by a leaving address",
+    "no longer pruned, with its age anew",
+    "no longer pruned, with its age kept",
+    "without the destination, pruning off",
+    "inbound port with pruned streams alone",
+    "code 5 by a stream that is declared nowhere",
+    "form rule 37 broken alone",
+    "form rule 38 broken alone",
+    "form rule 39 broken alone",
+    "form rule 40 broken alone",
+    "form rule 41 broken alone",
     "octet stored that breaks the form",
     "octet stored that keeps the form",
     "sum of the table's octets",
@@ -581,6 +680,7 @@ impl Coverage {
             self.count(&format!("limit of inbound ports {limit}"));
             let above = usize::from(limit) > settings.ports.len();
             self.count_if("limit of inbound ports above the number of ports", above);
+            self.count(if settings.pruning { "pruning on" } else { "pruning off" });
         }
         if number != numbers::SETTINGS {
             return;
@@ -594,7 +694,9 @@ impl Coverage {
                 let priority_a = octets[8] >> 1 & 7;
                 let priority_b = (octets[8] & 1) << 2 | octets[9] >> 6;
                 let zeros = (0..ports).any(|port| octets[settings::length(port)] & 0x1f != 0);
-                let vlan = pdu::number_of(&octets[11..13]);
+                let pruning = octets[11] & 0x80 != 0;
+                let vlan = pdu::number_of(&octets[11..13]) & 0x7fff;
+                self.count_if("settings refused with pruning on", pruning);
                 self.count_if("settings refused: equal priorities", priority_a == priority_b);
                 self.count_if("settings refused: leave time 0", leave_time == 0);
                 self.count_if("settings refused: zero bits set", zeros);
@@ -687,7 +789,10 @@ impl Coverage {
         self.count_if("frame ended by EndMark", pdu.end_mark);
         self.count_if("frame ended without EndMark", !pdu.end_mark);
         for message in &pdu.messages {
-            self.count_if("unknown type at higher version skipped", *message == Message::Skipped);
+            self.count_if(
+                "unknown type at higher version skipped",
+                *message == Message::Skipped(()),
+            );
         }
         for vector in pdu.vectors() {
             self.vector(vector);
@@ -821,6 +926,8 @@ impl Coverage {
         self.boundaries(before, after);
         self.latencies_settled(before, after);
         self.inbound(after);
+        self.addresses_left(time, before);
+        self.pruned_and_counted(after);
     }
 
     fn settled(&mut self, before: &Bridge, bridge: &Bridge) {
@@ -828,6 +935,7 @@ impl Coverage {
             let (row, own_code) = match decision.step {
                 Step::A => ("column step a", None),
                 Step::B => ("column step b", None),
+                Step::N => ("column step n", None),
                 Step::C => ("column step c", None),
                 Step::D => ("column step d", Some(16)),
                 Step::K => ("column step k", Some(7)),
@@ -869,6 +977,7 @@ impl Coverage {
             self.borrowed((before, bridge), stream_id, port, &decision);
             self.grown(bridge, stream_id, port, decision.step);
             self.in_common((before, bridge), stream_id, port, decision.step);
+            self.pruned((before, bridge), stream_id, port, decision.step);
             if let Some(compared) = decision.compared {
                 let (demand, left) = (compared.demand.0, compared.left.0);
                 self.count_if("demand exactly what is left", demand == left && demand > 0);
@@ -1008,6 +1117,7 @@ impl Watcher for Coverage {
         let name = match call {
             Call::Start(_) => "start",
             Call::Receive(..) => "receive",
+            Call::ReceiveMmrp(..) => "mmrp",
             Call::Advance(_) => "advance",
             Call::Write { .. } => "write",
             Call::Report { .. } => "report",
@@ -1028,6 +1138,9 @@ impl Watcher for Coverage {
             match call {
                 Call::Start(_) => {}
                 Call::Receive(port, octets) => self.received(*port, octets, number, bridge),
+                Call::ReceiveMmrp(port, octets) => {
+                    self.received_mmrp(*port, octets, number, bridge);
+                }
                 Call::Advance(time) => {
                     if let (numbers::ACCEPTED, Some(before)) = (number, self.before.clone()) {
                         self.advanced(*time, &before, bridge);
@@ -1039,7 +1152,8 @@ impl Watcher for Coverage {
                 Call::Report { place, .. } => self.reported(bridge, *place, number),
             }
         }
-        let changed = matches!(call, Call::Receive(..) | Call::Advance(_));
+        let changed =
+            { matches!(call, Call::Receive(..) | Call::ReceiveMmrp(..) | Call::Advance(_)) };
         if changed && number == numbers::ACCEPTED {
             self.before = bridge.cloned();
         }

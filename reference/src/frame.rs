@@ -1,6 +1,7 @@
 //! PDUs laid out part by part, well formed or not, for generated inputs and tests. Where a part
 //! that follows from others (a length, a number of values) is given, it stands in their place.
 
+use crate::mmrp::MmrpType;
 use crate::pdu::AttributeType;
 
 /// A vector: its FirstValue, the numbers of its events and, for Listener, of its
@@ -27,6 +28,8 @@ pub struct VectorDraft {
 pub struct MessageDraft {
     pub attribute_type: u8,
     pub attribute_length: u8,
+    /// Whether the list's length stands before it. MMRP has none.
+    pub has_list_length: bool,
     /// Added to the list length.
     pub list_length_off: i32,
     pub vectors: Vec<VectorDraft>,
@@ -71,9 +74,26 @@ impl VectorDraft {
 impl MessageDraft {
     /// A well-formed Message of a known type.
     pub fn new(attribute_type: AttributeType, vectors: Vec<VectorDraft>) -> MessageDraft {
+        let length = attribute_type.first_value_length();
+        MessageDraft::well_formed(attribute_type.octet(), length, true, vectors)
+    }
+
+    /// A well-formed Message of MMRP.
+    pub fn of_mmrp(attribute_type: MmrpType, vectors: Vec<VectorDraft>) -> MessageDraft {
+        let length = attribute_type.first_value_length();
+        MessageDraft::well_formed(attribute_type.octet(), length, false, vectors)
+    }
+
+    fn well_formed(
+        attribute_type: u8,
+        first_value_length: usize,
+        has_list_length: bool,
+        vectors: Vec<VectorDraft>,
+    ) -> MessageDraft {
         MessageDraft {
-            attribute_type: attribute_type.octet(),
-            attribute_length: attribute_type.first_value_length() as u8,
+            attribute_type,
+            attribute_length: first_value_length as u8,
+            has_list_length,
             list_length_off: 0,
             vectors,
             list_end_mark: true,
@@ -92,7 +112,9 @@ impl MessageDraft {
         list.extend(&self.after_list_end_mark);
         let list_length = (list.len() as i32 + self.list_length_off) as u16;
         let mut octets = vec![self.attribute_type, self.attribute_length];
-        octets.extend(list_length.to_be_bytes());
+        if self.has_list_length {
+            octets.extend(list_length.to_be_bytes());
+        }
         octets.extend(list);
         octets
     }

@@ -2,11 +2,13 @@
 //!
 //! Most of an input is a well-formed history: few streams, so that ports meet in them; Talkers
 //! and Listeners on different ports; limits around sums of demands; neighbours that are mostly in
-//! the bridge's own domain, so that streams are admitted towards them. Damaged frames, wrong ports,
+//! the bridge's own domain, so that streams are admitted towards them; in half of the scripts of
+//! calls neighbours that ask for destinations by MMRP frames. Damaged frames, wrong ports,
 //! wrong settings and cut records are mixed in, in scripts of calls also octets stored in the
 //! table. The generator makes each call on a table of its own while it writes, so that it knows
 //! the clock, the streams held, the next places and the octet that stood where one is stored.
 
+mod addresses;
 mod domains;
 mod listeners;
 
@@ -101,7 +103,9 @@ fn plan(random: &mut Random, size: Size) -> Plan {
         8..=10 => random.between(1, port_count as u64) as u8,
         _ => random.below(u64::from(GREATEST_FAN_IN) + 1) as u8,
     };
-    let mut settings = Settings { bridge_id, priority, leave_time, vlan, fan_in_limit, ports };
+    let pruning = false;
+    let mut settings =
+        Settings { bridge_id, priority, leave_time, pruning, vlan, fan_in_limit, ports };
     let rivals = random.percent(30);
     let mut groups = groups(random, &settings, size, rivals);
     if rivals {
@@ -539,12 +543,22 @@ fn frame(random: &mut Random, plan: &Plan, port: u32) -> FrameDraft {
         }
         _ => {}
     }
+    of_some_version(random, messages, unknown_message)
+}
+
+/// A frame of these Messages, at times of a higher version, with a Message of an unknown type and
+/// strange vectors; with an EndMark or without one, or with octets behind it.
+fn of_some_version(
+    random: &mut Random,
+    messages: Vec<MessageDraft>,
+    unknown: fn(&mut Random) -> MessageDraft,
+) -> FrameDraft {
     let mut frame = FrameDraft::new(messages);
     if random.percent(14) {
         frame.version = random.one_of(&[1, 1, 2, 255]);
         if random.percent(40) {
             let place = random.below(frame.messages.len() as u64 + 1) as usize;
-            frame.messages.insert(place, unknown_message(random));
+            frame.messages.insert(place, unknown(random));
         }
         make_some_strange(random, &mut frame);
     }
@@ -591,6 +605,7 @@ fn unknown_message(random: &mut Random) -> MessageDraft {
     MessageDraft {
         attribute_type: random.one_of(&[5, 6, 100, 255]),
         attribute_length: random.octet(),
+        has_list_length: true,
         list_length_off: 0,
         vectors: Vec::new(),
         list_end_mark: random.percent(50),
@@ -598,14 +613,19 @@ fn unknown_message(random: &mut Random) -> MessageDraft {
     }
 }
 
-/// A frame damaged in one or more of many ways. Some of the damage does no harm.
-fn damaged(random: &mut Random, mut frame: FrameDraft) -> Vec<u8> {
+/// A frame damaged in one or more of many ways, at times with a Message of an unknown type. Some of
+/// the damage does no harm.
+fn damaged(
+    random: &mut Random,
+    mut frame: FrameDraft,
+    unknown: fn(&mut Random) -> MessageDraft,
+) -> Vec<u8> {
     if random.percent(20) {
         frame.version = random.one_of(&[1, 255]);
         make_some_strange(random, &mut frame);
     }
     for _ in 0..random.one_of(&[0, 1, 1, 1, 1, 1, 2, 2]) {
-        damage(random, &mut frame);
+        damage(random, &mut frame, unknown);
     }
     let mut octets = frame.octets();
     match random.below(20) {
@@ -633,7 +653,7 @@ fn damaged(random: &mut Random, mut frame: FrameDraft) -> Vec<u8> {
 }
 
 /// One damage to the parts of a frame.
-fn damage(random: &mut Random, frame: &mut FrameDraft) {
+fn damage(random: &mut Random, frame: &mut FrameDraft, unknown: fn(&mut Random) -> MessageDraft) {
     match random.below(10) {
         0 => {
             frame.end_mark = false;
@@ -642,7 +662,7 @@ fn damage(random: &mut Random, frame: &mut FrameDraft) {
         }
         1 => {
             let place = random.below(frame.messages.len() as u64 + 1) as usize;
-            let message = unknown_message(random);
+            let message = unknown(random);
             frame.messages.insert(place, message);
             return;
         }
@@ -699,6 +719,11 @@ fn near_the_fields_end(random: &mut Random, attribute_type: u8, vector: &mut Vec
     let past = random.below(2);
     let first = |greatest: u64| greatest.saturating_sub(last).saturating_add(past).min(greatest);
     match (attribute_type, vector.first_value.len()) {
+        (1, 1) => vector.first_value[0] = first(0xff) as u8,
+        (2, 6) => {
+            let address = first((1 << 48) - 1);
+            vector.first_value.copy_from_slice(&address.to_be_bytes()[2..]);
+        }
         (4, 4) => vector.first_value[random.below(2) as usize] = first(0xff) as u8,
         (1 | 2, 25 | 34) if random.percent(50) => {
             let destination = first((1 << 48) - 1);
@@ -768,9 +793,9 @@ fn wrong_fan_in_limit(random: &mut Random, settings: &mut Vec<u8>) {
 /// A VLAN of 0 or 4,095, one with a bit above it set, or neither VLAN nor what follows it.
 fn wrong_vlan(random: &mut Random, settings: &mut Vec<u8>) {
     match random.below(5) {
-        0 => settings[11] |= 1 << random.between(4, 7),
+        0 => settings[11] |= 1 << random.between(4, 6),
         1..=2 => {
-            let vlan = random.one_of(&[0, GREATEST_VLAN + 1]);
+            let vlan = random.one_of(&[0, GREATEST_VLAN + 1]) | u16::from(settings[11] & 0x80) << 8;
             settings[11..13].copy_from_slice(&vlan.to_be_bytes());
         }
         _ => drop(settings.drain(11..settings::HEAD_LENGTH)),
@@ -784,13 +809,15 @@ struct History {
     random: Random,
     /// Decides where a script looks at the table's octets; a sheet never does.
     looks: Option<Random>,
+    /// Decides what neighbours ask for by MMRP frames, in the scripts that have some.
+    asks: Option<Random>,
     table: Table,
     octets: Vec<u8>,
 }
 
 impl History {
     fn new(random: Random) -> History {
-        History { random, looks: None, table: Table::zeros(), octets: Vec::new() }
+        History { random, looks: None, asks: None, table: Table::zeros(), octets: Vec::new() }
     }
 
     /// In so many of a hundred cases the sum of the table's octets; rarely the octets.
@@ -1146,7 +1173,7 @@ impl History {
             1 => self.some_advance(plan),
             2 => {
                 let frame = frame(&mut self.random, plan, port);
-                let octets = damaged(&mut self.random, frame);
+                let octets = damaged(&mut self.random, frame, unknown_message);
                 self.receive(port, &octets);
             }
             3 => {
@@ -1222,7 +1249,8 @@ fn put_stop(history: &mut History, plan: &Plan, unknown: &[u8]) {
 pub fn sheet(seed: u64) -> Vec<u8> {
     let mut random = Random::new(seed.wrapping_mul(2));
     let size = size(&mut random);
-    let plan = plan(&mut random, size);
+    let mut plan = plan(&mut random, size);
+    plan.settings.pruning = Random::new(seed ^ 0x88f6).percent(4);
     let mut history = History::new(random);
     if history.random.percent(5) {
         history.octets = wrong_settings(&mut history.random, &plan.settings);
@@ -1242,7 +1270,8 @@ pub fn sheet(seed: u64) -> Vec<u8> {
     }
     history.closing();
     if history.random.percent(8) {
-        let unknown = [0x00, 0x01, 0x0f, 0x21, 0x2f, 0x30, 0x41, 0x50, 0x51, 0x60, 0x80, 0xff];
+        let unknown =
+            [0x00, 0x01, 0x0f, 0x21, 0x2f, 0x30, 0x41, 0x50, 0x51, 0x60, 0x71, 0x80, 0xff];
         put_stop(&mut history, &plan, &unknown);
     }
     history.octets
@@ -1283,6 +1312,7 @@ fn roomy_settings(random: &mut Random) -> Settings {
         bridge_id: random.bits(),
         priority: PerClass { a: 3, b: 2 },
         leave_time: 60,
+        pruning: false,
         vlan: 2,
         fan_in_limit: 0,
         ports: vec![port.clone(), port],
@@ -1499,8 +1529,9 @@ impl History {
         }
     }
 
-    /// Any of the five calls.
+    /// Any of the calls.
     fn some_call(&mut self, plan: &Plan) {
+        self.mmrp_step(plan, 20);
         match self.random.below(10) {
             0..=4 => self.step(plan),
             5..=8 => self.some_look(plan),
@@ -1568,6 +1599,12 @@ impl History {
     }
 }
 
+/// The random numbers of MMRP frames, which half of the scripts have.
+fn asks(seed: u64) -> Option<Random> {
+    let mut random = Random::new(seed ^ 0x88f6);
+    random.percent(50).then_some(random)
+}
+
 /// A script of calls.
 pub fn calls(seed: u64) -> Script {
     let mut random = Random::new(seed.wrapping_mul(2).wrapping_add(1));
@@ -1575,6 +1612,8 @@ pub fn calls(seed: u64) -> Script {
     let mut plan = plan(&mut random, size);
     let mut history = History::new(random);
     history.looks = Some(Random::new(!seed));
+    history.asks = asks(seed);
+    history.choose_pruning(&mut plan);
     if history.random.percent(12) {
         for _ in 0..history.random.between(1, 5) {
             history.some_call(&plan);
@@ -1590,6 +1629,7 @@ pub fn calls(seed: u64) -> Script {
         if turn > 0 && history.random.percent(60) {
             size = self::size(&mut history.random);
             plan = self::plan(&mut history.random, size);
+            history.choose_pruning(&mut plan);
         }
         if history.random.percent(6) {
             let settings = wrong_settings(&mut history.random, &plan.settings);
@@ -1602,9 +1642,11 @@ pub fn calls(seed: u64) -> Script {
         if history.random.percent(10) {
             history.sweep(&plan);
         }
+        history.hear_addresses(&plan);
         history.beginning(&plan);
         for _ in 0..history.steps(size) {
             history.script_step(&plan);
+            history.mmrp_step(&plan, 40);
         }
         if history.random.percent(25) {
             history.sweep(&plan);
@@ -1616,7 +1658,7 @@ pub fn calls(seed: u64) -> Script {
     }
     let stops = history.random.percent(7);
     if stops {
-        let unknown = [0x01, 0x0f, 0x21, 0x2f, 0x52, 0x5f, 0x62, 0x70, 0x80, 0xff];
+        let unknown = [0x01, 0x0f, 0x21, 0x2f, 0x52, 0x5f, 0x62, 0x6f, 0x90, 0xff];
         put_stop(&mut history, &plan, &unknown);
     }
     Script { octets: history.octets, stops }

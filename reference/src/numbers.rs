@@ -11,7 +11,7 @@ pub const PORT: Number = 1;
 pub const PDU_LENGTH: Number = 2;
 /// 3: a field runs past the PDU or its list, or a list's EndMark isn't its last two octets.
 pub const RUNS_PAST: Number = 3;
-/// 4: AttributeType 0; or above 4 with ProtocolVersion 0.
+/// 4: AttributeType 0; or above 4, in an MMRP frame above 2, with ProtocolVersion 0.
 pub const ATTRIBUTE_TYPE: Number = 4;
 /// 5: AttributeLength not that of the type.
 pub const ATTRIBUTE_LENGTH: Number = 5;
@@ -31,6 +31,8 @@ pub const SETTINGS: Number = 11;
 pub const TABLE: Number = 12;
 /// 13: place is above the number of declarations (write) or streams held (report).
 pub const PLACE: Number = 13;
+/// 14: addresses held on the port plus different new ones joined by this MMRP frame exceed 64.
+pub const ADDRESSES: Number = 14;
 
 /// A refusal's number in words.
 pub fn in_words(number: Number) -> &'static str {
@@ -40,7 +42,9 @@ pub fn in_words(number: Number) -> &'static str {
         RUNS_PAST => {
             "a field runs past the PDU or its list, or a list's EndMark isn't its last two octets"
         }
-        ATTRIBUTE_TYPE => "AttributeType 0, or above 4 with ProtocolVersion 0",
+        ATTRIBUTE_TYPE => {
+            "AttributeType 0; or above 4, in an MMRP frame above 2, with ProtocolVersion 0"
+        }
         ATTRIBUTE_LENGTH => "AttributeLength is not that of the type",
         EVENT => "LeaveAllEvent above 1, or a ThreePackedEvents octet above 215",
         VALUE => "a value runs past its field",
@@ -51,6 +55,9 @@ pub fn in_words(number: Number) -> &'static str {
         TABLE => "the table has the wrong length or breaks a form rule",
         PLACE => {
             "the place is above the number of declarations (write) or of streams held (report)"
+        }
+        ADDRESSES => {
+            "addresses held on the port plus different new ones joined by this MMRP frame exceed 64"
         }
         _ => "a number that no call gives",
     }

@@ -213,10 +213,10 @@ pub struct Vector {
 }
 
 /// A vector with events that only a higher version knows: passed over whole, by the length that its
-/// layout gives.
+/// layout gives. Its type is one of MSRP's, or of MMRP's.
 #[derive(Clone, Debug, PartialEq, Eq)]
-pub struct PassedOver {
-    pub attribute_type: AttributeType,
+pub struct PassedOver<T = AttributeType> {
+    pub attribute_type: T,
     /// Above 1, unless it is passed over for an event octet.
     pub leave_all_event: usize,
     pub number_of_values: usize,
@@ -224,32 +224,32 @@ pub struct PassedOver {
     pub three_packed: Vec<u8>,
 }
 
-/// A vector of a list.
+/// A vector of a list, of MSRP or of MMRP.
 #[derive(Clone, Debug, PartialEq, Eq)]
-pub enum VectorRead {
-    Read(Vector),
-    PassedOver(PassedOver),
+pub enum VectorRead<V = Vector, T = AttributeType> {
+    Read(V),
+    PassedOver(PassedOver<T>),
 }
 
 /// A Message.
 #[derive(Clone, Debug, PartialEq, Eq)]
-pub enum Message {
-    Known(Vec<VectorRead>),
-    /// A type above 4 with a higher version: skipped unread.
-    Skipped,
+pub enum Message<V = Vector, T = AttributeType, U = ()> {
+    Known(Vec<VectorRead<V, T>>),
+    /// A type that only a higher version knows: skipped, with what was seen of it.
+    Skipped(U),
 }
 
 /// A PDU, its checks passed.
 #[derive(Clone, Debug, PartialEq, Eq)]
-pub struct Pdu {
-    pub messages: Vec<Message>,
+pub struct Pdu<V = Vector, T = AttributeType, U = ()> {
+    pub messages: Vec<Message<V, T, U>>,
     /// Whether an EndMark was met; otherwise the PDU ended right after a Message or its version.
     pub end_mark: bool,
 }
 
-impl Pdu {
+impl<V, T, U> Pdu<V, T, U> {
     /// All vectors that were read, in the order they stand in.
-    pub fn vectors(&self) -> impl Iterator<Item = &Vector> {
+    pub fn vectors(&self) -> impl Iterator<Item = &V> {
         self.lists().flatten().filter_map(|vector| match vector {
             VectorRead::Read(vector) => Some(vector),
             VectorRead::PassedOver(_) => None,
@@ -257,28 +257,28 @@ impl Pdu {
     }
 
     /// The vectors of each list of a known type.
-    pub fn lists(&self) -> impl Iterator<Item = &[VectorRead]> {
+    pub fn lists(&self) -> impl Iterator<Item = &[VectorRead<V, T>]> {
         self.messages.iter().filter_map(|message| match message {
             Message::Known(vectors) => Some(vectors.as_slice()),
-            Message::Skipped => None,
+            Message::Skipped(_) => None,
         })
     }
 }
 
 /// The first fault met, which ends the whole walk.
 #[derive(Clone, Debug, PartialEq, Eq)]
-pub struct Fault {
+pub struct Fault<T = AttributeType> {
     pub number: Number,
     /// For number 7 the vector: its type, FirstValue and NumberOfValues.
-    pub vector: Option<(AttributeType, Vec<u8>, usize)>,
+    pub vector: Option<(T, Vec<u8>, usize)>,
     /// For a vector that doesn't fit, its LeaveAllEvent.
     pub unfit: Option<usize>,
     /// Whether a vector of the same list was passed over before it.
     pub behind_passed_over: bool,
 }
 
-impl From<Number> for Fault {
-    fn from(number: Number) -> Fault {
+impl<T> From<Number> for Fault<T> {
+    fn from(number: Number) -> Fault<T> {
         Fault { number, vector: None, unfit: None, behind_passed_over: false }
     }
 }
@@ -288,12 +288,18 @@ pub fn number_of(octets: &[u8]) -> u64 {
     octets.iter().fold(0, |number, octet| number << 8 | u64::from(*octet))
 }
 
-/// Reads a PDU: its length (2), then the walk from the front.
-pub fn read(pdu: &[u8]) -> Result<Pdu, Fault> {
+/// What is read of the octets that something begins with, and its length.
+pub type Taken<R, T = AttributeType> = Result<(R, usize), Fault<T>>;
+
+/// Reads a PDU by a reader of Messages, which knows the version: its length (2), then the walk from
+/// the front.
+pub fn walk<V, T, U>(
+    pdu: &[u8],
+    read_message: impl Fn(u8, &[u8]) -> Taken<Message<V, T, U>, T>,
+) -> Result<Pdu<V, T, U>, Fault<T>> {
     if pdu.is_empty() || pdu.len() > LONGEST_PDU {
         return Err(numbers::PDU_LENGTH.into());
     }
-    let version = pdu[0];
     let mut messages = Vec::new();
     let mut rest = &pdu[1..];
     loop {
@@ -303,36 +309,45 @@ pub fn read(pdu: &[u8]) -> Result<Pdu, Fault> {
         if rest.starts_with(&END_MARK) {
             return Ok(Pdu { messages, end_mark: true });
         }
-        // A Message's checks: four header octets (3), type (4), length (5, known types), list
-        // within PDU (3).
-        if rest.len() < 4 {
-            return Err(numbers::RUNS_PAST.into());
-        }
-        let attribute_length = usize::from(rest[1]);
-        let list_length = usize::from(rest[2]) << 8 | usize::from(rest[3]);
-        let known_type = match rest[0] {
-            1 => Some(AttributeType::TalkerAdvertise),
-            2 => Some(AttributeType::TalkerFailed),
-            3 => Some(AttributeType::Listener),
-            4 => Some(AttributeType::Domain),
-            5..=255 if version > 0 => None,
-            _ => return Err(numbers::ATTRIBUTE_TYPE.into()),
-        };
-        if let Some(attribute_type) = known_type {
-            if attribute_length != attribute_type.first_value_length() {
-                return Err(numbers::ATTRIBUTE_LENGTH.into());
-            }
-        }
-        if rest.len() - 4 < list_length {
-            return Err(numbers::RUNS_PAST.into());
-        }
-        let (list, after) = rest[4..].split_at(list_length);
-        messages.push(match known_type {
-            Some(attribute_type) => Message::Known(read_list(attribute_type, version, list)?),
-            None => Message::Skipped,
-        });
-        rest = after;
+        let (message, length) = read_message(pdu[0], rest)?;
+        messages.push(message);
+        rest = &rest[length..];
     }
+}
+
+/// Reads an MSRPDU.
+pub fn read(pdu: &[u8]) -> Result<Pdu, Fault> {
+    walk(pdu, read_message)
+}
+
+/// Reads the Message that octets begin with. Checks: four header octets (3), type (4), length (5,
+/// known types), list within PDU (3).
+fn read_message(version: u8, octets: &[u8]) -> Taken<Message> {
+    if octets.len() < 4 {
+        return Err(numbers::RUNS_PAST.into());
+    }
+    let attribute_length = usize::from(octets[1]);
+    let list_length = usize::from(octets[2]) << 8 | usize::from(octets[3]);
+    let known_type = match octets[0] {
+        1 => Some(AttributeType::TalkerAdvertise),
+        2 => Some(AttributeType::TalkerFailed),
+        3 => Some(AttributeType::Listener),
+        4 => Some(AttributeType::Domain),
+        5..=255 if version > 0 => None,
+        _ => return Err(numbers::ATTRIBUTE_TYPE.into()),
+    };
+    if let Some(attribute_type) = known_type {
+        if attribute_length != attribute_type.first_value_length() {
+            return Err(numbers::ATTRIBUTE_LENGTH.into());
+        }
+    }
+    let length = 4 + list_length;
+    let list = octets.get(4..length).ok_or_else(|| Fault::from(numbers::RUNS_PAST))?;
+    let message = match known_type {
+        Some(attribute_type) => Message::Known(read_list(attribute_type, version, list)?),
+        None => Message::Skipped(()),
+    };
+    Ok((message, length))
 }
 
 /// Reads an AttributeList on its own, from its first vector to its EndMark, which must be its
@@ -342,94 +357,164 @@ fn read_list(
     version: u8,
     list: &[u8],
 ) -> Result<Vec<VectorRead>, Fault> {
+    let (vectors, length) = known_vectors(list, |rest| read_vector(attribute_type, version, rest))?;
+    if length == list.len() {
+        Ok(vectors)
+    } else {
+        Err(numbers::RUNS_PAST.into())
+    }
+}
+
+/// Reads the vectors of a known type by their reader, up to the EndMark.
+pub fn known_vectors<V, T>(
+    octets: &[u8],
+    read_vector: impl Fn(&[u8]) -> Taken<VectorRead<V, T>, T>,
+) -> Taken<Vec<VectorRead<V, T>>, T> {
+    vectors_to_end_mark(octets, |rest, before: &[VectorRead<V, T>]| {
+        let is_passed_over =
+            |vector: &VectorRead<V, T>| matches!(vector, VectorRead::PassedOver(_));
+        let behind_passed_over = before.iter().any(is_passed_over);
+        read_vector(rest).map_err(|fault| Fault { behind_passed_over, ..fault })
+    })
+}
+
+/// Reads vectors, by a reader that is told those before, up to the EndMark, which counts in the
+/// length. The end of the octets is no EndMark (3).
+pub fn vectors_to_end_mark<R, T>(
+    octets: &[u8],
+    read_vector: impl Fn(&[u8], &[R]) -> Taken<R, T>,
+) -> Taken<Vec<R>, T> {
     let mut vectors = Vec::new();
-    let mut rest = list;
+    let mut at = 0;
     loop {
+        let rest = &octets[at..];
         if rest.len() < 2 {
             return Err(numbers::RUNS_PAST.into());
         }
         if rest.starts_with(&END_MARK) {
-            return if rest.len() == 2 { Ok(vectors) } else { Err(numbers::RUNS_PAST.into()) };
+            return Ok((vectors, at + 2));
         }
-        let is_passed_over = |vector: &VectorRead| matches!(vector, VectorRead::PassedOver(_));
-        let behind_passed_over = vectors.iter().any(is_passed_over);
-        let (vector, length) = read_vector(attribute_type, version, rest)
-            .map_err(|fault| Fault { behind_passed_over, ..fault })?;
+        let (vector, length) = read_vector(rest, &vectors)?;
         vectors.push(vector);
-        rest = &rest[length..];
+        at += length;
     }
 }
 
-/// Reads the vector that octets begin with, its header being there, and gives its length. Checks:
-/// LeaveAllEvent (6), fits (3), event octets (6), values (7). With a higher version there is no 6:
-/// a vector that fits is passed over instead, its values unchecked.
-fn read_vector(
-    attribute_type: AttributeType,
-    version: u8,
-    octets: &[u8],
-) -> Result<(VectorRead, usize), Fault> {
+/// The parts of a vector, its events checked and its values not.
+pub struct VectorParts<'a> {
+    pub leave_all_event: usize,
+    pub number_of_values: usize,
+    pub first_value: &'a [u8],
+    pub three_packed: &'a [u8],
+    pub four_packed: &'a [u8],
+    /// Whether some event is one that only a higher version knows.
+    pub strange: bool,
+    /// The octets of the whole vector.
+    pub length: usize,
+}
+
+impl VectorParts<'_> {
+    /// What is kept of such a vector where it is passed over.
+    pub fn passed_over<T>(&self, attribute_type: T) -> PassedOver<T> {
+        PassedOver {
+            attribute_type,
+            leave_all_event: self.leave_all_event,
+            number_of_values: self.number_of_values,
+            first_value: self.first_value.to_vec(),
+            three_packed: self.three_packed.to_vec(),
+        }
+    }
+
+    /// The fault of a vector with a value that runs past its field.
+    pub fn value_past<T>(&self, attribute_type: T) -> Fault<T> {
+        let vector = Some((attribute_type, self.first_value.to_vec(), self.number_of_values));
+        Fault { vector, ..Fault::from(numbers::VALUE) }
+    }
+
+    /// The event of each value.
+    pub fn events(&self) -> impl Iterator<Item = Event> + '_ {
+        let events = self.three_packed.iter().flat_map(|octet| three_events(*octet));
+        events.take(self.number_of_values)
+    }
+}
+
+/// LeaveAllEvent and NumberOfValues, of a vector whose header is there.
+pub fn vector_header(octets: &[u8]) -> (usize, usize) {
     let header = usize::from(octets[0]) << 8 | usize::from(octets[1]);
-    let leave_all_event = header >> 13;
-    let number_of_values = header & 0x1fff;
+    (header >> 13, header & 0x1fff)
+}
+
+/// The ThreePackedEvents octets of so many values.
+pub fn three_packed_octets(number_of_values: usize) -> usize {
+    (number_of_values + 2) / 3
+}
+
+/// Takes apart the vector that octets begin with, its header being there. Checks: LeaveAllEvent (6),
+/// fits (3), event octets (6). With a higher version there is no 6.
+pub fn vector_parts<T>(
+    version: u8,
+    first_value_length: usize,
+    has_four_packed: bool,
+    octets: &[u8],
+) -> Result<VectorParts<'_>, Fault<T>> {
+    let (leave_all_event, number_of_values) = vector_header(octets);
     if leave_all_event > 1 && version == 0 {
         return Err(numbers::EVENT.into());
     }
-    let three_packed_octets = (number_of_values + 2) / 3;
-    let four_packed_octets = match attribute_type {
-        AttributeType::Listener => (number_of_values + 3) / 4,
-        _ => 0,
-    };
-    let first_value_length = attribute_type.first_value_length();
+    let three_packed_octets = three_packed_octets(number_of_values);
+    let four_packed_octets = if has_four_packed { (number_of_values + 3) / 4 } else { 0 };
     let length = 2 + first_value_length + three_packed_octets + four_packed_octets;
     if octets.len() < length {
         return Err(Fault { unfit: Some(leave_all_event), ..Fault::from(numbers::RUNS_PAST) });
     }
     let (first_value, packed) = octets[2..length].split_at(first_value_length);
     let (three_packed, four_packed) = packed.split_at(three_packed_octets);
-    let strange = three_packed.iter().any(|octet| *octet > GREATEST_THREE_PACKED);
-    if strange && version == 0 {
+    let strange_octet = three_packed.iter().any(|octet| *octet > GREATEST_THREE_PACKED);
+    if strange_octet && version == 0 {
         return Err(numbers::EVENT.into());
     }
-    if strange || leave_all_event > 1 {
-        let passed_over = PassedOver {
-            attribute_type,
-            leave_all_event,
-            number_of_values,
-            first_value: first_value.to_vec(),
-            three_packed: three_packed.to_vec(),
-        };
-        return Ok((VectorRead::PassedOver(passed_over), length));
+    let strange = strange_octet || leave_all_event > 1;
+    Ok(VectorParts {
+        leave_all_event,
+        number_of_values,
+        first_value,
+        three_packed,
+        four_packed,
+        strange,
+        length,
+    })
+}
+
+/// Reads the vector that octets begin with, its header being there, and gives its length. Checks:
+/// those of its parts, then values (7). A vector with strange events is passed over instead, its
+/// values unchecked.
+fn read_vector(attribute_type: AttributeType, version: u8, octets: &[u8]) -> Taken<VectorRead> {
+    let first_value_length = attribute_type.first_value_length();
+    let has_four_packed = attribute_type == AttributeType::Listener;
+    let parts = vector_parts(version, first_value_length, has_four_packed, octets)?;
+    if parts.strange {
+        return Ok((VectorRead::PassedOver(parts.passed_over(attribute_type)), parts.length));
     }
-    if !values_fit(attribute_type, first_value, number_of_values) {
-        let vector = Some((attribute_type, first_value.to_vec(), number_of_values));
-        return Err(Fault { vector, ..Fault::from(numbers::VALUE) });
+    if !values_fit(attribute_type, parts.first_value, parts.number_of_values) {
+        return Err(parts.value_past(attribute_type));
     }
     let vector = Vector {
         attribute_type,
-        leave_all: leave_all_event == 1,
-        first_value: first_value.to_vec(),
-        values: values(attribute_type, first_value, number_of_values, (three_packed, four_packed)),
+        leave_all: parts.leave_all_event == 1,
+        first_value: parts.first_value.to_vec(),
+        values: values(attribute_type, &parts),
     };
-    Ok((VectorRead::Read(vector), length))
+    Ok((VectorRead::Read(vector), parts.length))
 }
 
 /// The values of a vector with their events, of ThreePackedEvents and FourPackedEvents.
-fn values(
-    attribute_type: AttributeType,
-    first_value: &[u8],
-    number_of_values: usize,
-    (three_packed, four_packed): (&[u8], &[u8]),
-) -> Vec<(Event, Value)> {
-    let events = three_packed.iter().flat_map(|octet| three_events(*octet));
-    let mut listener_types = four_packed.iter().flat_map(|octet| four_listener_types(*octet));
-    events
-        .take(number_of_values)
-        .enumerate()
-        .map(|(n, event)| {
-            let listener_type = listener_types.next().flatten();
-            (event, value(attribute_type, first_value, n as u64, listener_type))
-        })
-        .collect()
+fn values(attribute_type: AttributeType, parts: &VectorParts) -> Vec<(Event, Value)> {
+    let mut listener_types = parts.four_packed.iter().flat_map(|octet| four_listener_types(*octet));
+    let values = parts.events().enumerate().map(|(n, event)| {
+        let listener_type = listener_types.next().flatten();
+        (event, value(attribute_type, parts.first_value, n as u64, listener_type))
+    });
+    values.collect()
 }
 
 /// Whether all values stay within their fields: Unique ID 16 bits, destination 48 bits, Domain's

@@ -56,6 +56,7 @@ impl<'a> Input<'a> {
 pub enum Call<'a> {
     Start(&'a [u8]),
     Receive(u32, &'a [u8]),
+    ReceiveMmrp(u32, &'a [u8]),
     Advance(u32),
     Write { port: u32, place: u32, answer: WriteAnswer },
     Report { port: u32, place: u32, answer: ReportAnswer },

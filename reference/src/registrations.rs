@@ -1,13 +1,16 @@
-//! Registrations per port (01, "Registering"; 02, (ii) and (v)).
+//! Registrations per port (01, "Registering"; 02, (ii), (v) and (vi)).
 
 use std::collections::{BTreeMap, BTreeSet};
 
 use crate::domain::{self, DomainRegistration, Domains, SLOTS};
+use crate::mmrp::{self, Address, MmrpType};
 use crate::pdu::{AttributeType, Domain, Event, Failure, ListenerType, Parameters, Pdu};
 use crate::pdu::{StreamId, Talker, Value, Vector};
 
 /// The most streams that a bridge holds.
 pub const MOST_STREAMS: usize = 64;
+/// The most addresses that a port holds.
+pub const MOST_ADDRESSES: usize = 64;
 
 /// A Talker registration: Advertise without a failure, Failed with one.
 #[derive(Clone, Debug, PartialEq, Eq)]
@@ -52,13 +55,18 @@ pub struct OnPort {
     pub listener: Option<ListenerRegistration>,
 }
 
-/// The registrations of all streams held, and of the domain. Each stream has one [`OnPort`] for
+/// The addresses that a port has registered, each with the clock at which leaving began.
+pub type Addresses = BTreeMap<Address, Option<u32>>;
+
+/// The registrations of all streams held, of the domain and of addresses. Each stream has one [`OnPort`] for
 /// each port of the bridge, port 1 first, and at least one of them holds a registration.
 #[derive(Clone, Debug, PartialEq, Eq)]
 pub struct Registrations {
     pub streams: BTreeMap<StreamId, Vec<OnPort>>,
     /// Those of each port, port 1 first.
     pub domains: Vec<Domains>,
+    /// Those of each port, port 1 first.
+    pub addresses: Vec<Addresses>,
 }
 
 /// Whether an event registers.
@@ -95,7 +103,11 @@ fn start_leaving(leaving: &mut Option<u32>, clock: u32) {
 
 impl Registrations {
     pub fn none(port_count: usize) -> Registrations {
-        Registrations { streams: BTreeMap::new(), domains: vec![[None; SLOTS]; port_count] }
+        Registrations {
+            streams: BTreeMap::new(),
+            domains: vec![[None; SLOTS]; port_count],
+            addresses: vec![Addresses::new(); port_count],
+        }
     }
 
     /// Streams held plus different new ones joined by this PDU.
@@ -105,6 +117,37 @@ impl Registrations {
             .filter(|stream_id| !self.streams.contains_key(stream_id))
             .count();
         self.streams.len() + new
+    }
+
+    /// Addresses held on a port plus different new ones joined by this MMRP frame.
+    pub fn addresses_with(&self, port: usize, pdu: &mmrp::Pdu) -> usize {
+        let held = &self.addresses[port - 1];
+        let joined = pdu.addresses_joined();
+        held.len() + joined.iter().filter(|address| !held.contains_key(address)).count()
+    }
+
+    /// Applies an MMRP frame that came in on a port, vector by vector. A Service Requirement does
+    /// nothing, nor does its LeaveAll.
+    pub fn apply_mmrp(&mut self, port: usize, pdu: &mmrp::Pdu, clock: u32) {
+        let held = &mut self.addresses[port - 1];
+        for vector in pdu.vectors().filter(|vector| vector.attribute_type == MmrpType::Mac) {
+            if vector.leave_all {
+                held.values_mut().for_each(|leaving| start_leaving(leaving, clock));
+            }
+            for (event, address) in &vector.values {
+                match event {
+                    Event::New | Event::JoinIn | Event::JoinMt => {
+                        held.insert(*address, None);
+                    }
+                    Event::Lv => {
+                        if let Some(leaving) = held.get_mut(address) {
+                            start_leaving(leaving, clock);
+                        }
+                    }
+                    Event::In | Event::Mt => {}
+                }
+            }
+        }
     }
 
     /// Applies a PDU that came in on a port, vector by vector.
@@ -258,6 +301,9 @@ impl Registrations {
             if domain.as_ref().map_or(false, |domain| left(domain.leaving)) {
                 *domain = None;
             }
+        }
+        for addresses in &mut self.addresses {
+            addresses.retain(|_, leaving| !left(*leaving));
         }
         self.streams.retain(|_, ports| {
             ports.iter().any(|on_port| on_port.talker.is_some() || on_port.listener.is_some())

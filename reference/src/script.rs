@@ -135,7 +135,7 @@ impl Reader {
     /// Keeps what warnings are made of.
     fn watch(&mut self, line: usize, first: &str) {
         match first {
-            "on" => self.script.unsettled = Some(line),
+            "on" | "mmrp" => self.script.unsettled = Some(line),
             "time" | "start" | "raw" => self.script.unsettled = None,
             _ => {}
         }
@@ -156,6 +156,10 @@ impl Reader {
             ("start", Program::Calls) => {
                 let (_, settings) = self.settings.as_ref().ok_or("no bridge line before start")?;
                 counted(0x00, &settings::write(settings))
+            }
+            ("mmrp", Program::Calls) => {
+                let port: u8 = words.number(PORT)?;
+                counted(0x70 | port, &messages::mmrp_pdu(words)?)
             }
             ("write", Program::Calls) => write(words),
             ("report", Program::Calls) => report(words),

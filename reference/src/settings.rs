@@ -1,4 +1,4 @@
-//! Settings (01, "Numbers given back", the paragraph on settings; 02, (ii) and (x)).
+//! Settings (01, "Numbers given back", the paragraph on settings; 02, (ii), (x) and (vi)).
 
 use crate::fan_in::GREATEST_LIMIT;
 
@@ -68,6 +68,8 @@ pub struct Settings {
     pub priority: PerClass<u8>,
     /// Hundredths of a second, 1 or more.
     pub leave_time: u32,
+    /// talkerPruning: a Talker isn't declared on a port that didn't ask for its destination.
+    pub pruning: bool,
     /// That of the Domain declarations, 1 to 4,094.
     pub vlan: u16,
     /// msrpMaxFanInPorts, at most 8; 0 means no limit.
@@ -120,7 +122,7 @@ impl Fields<'_> {
 
 /// Reads settings; nothing where they are not as laid out (number 11): another length than
 /// 14 + 22 x ports, ports 0 or above 8, equal priorities, leave time 0, a VLAN of 0 or 4,095, a limit
-/// of inbound ports above 8, or a zero bit set, of the four before the VLAN or of a port's five.
+/// of inbound ports above 8, or a zero bit set, of the three before the VLAN or of a port's five.
 pub fn read(octets: &[u8]) -> Option<Settings> {
     let port_count = ports_field(octets)?;
     if port_count == 0 || port_count > MOST_PORTS || octets.len() != length(port_count) {
@@ -134,7 +136,8 @@ pub fn read(octets: &[u8]) -> Option<Settings> {
     if priority.a == priority.b || leave_time == 0 {
         return None;
     }
-    let zero = fields.take(4);
+    let pruning = fields.take_flag();
+    let zero = fields.take(3);
     let vlan = fields.take(12) as u16;
     if zero != 0 || vlan == 0 || vlan > GREATEST_VLAN {
         return None;
@@ -160,7 +163,7 @@ pub fn read(octets: &[u8]) -> Option<Settings> {
             latency: PerClass { a: fields.take(32) as u32, b: fields.take(32) as u32 },
         });
     }
-    Some(Settings { bridge_id, priority, leave_time, vlan, fan_in_limit, ports })
+    Some(Settings { bridge_id, priority, leave_time, pruning, vlan, fan_in_limit, ports })
 }
 
 /// Puts fields into octets, most significant bit first.
@@ -192,7 +195,8 @@ pub fn write(settings: &Settings) -> Vec<u8> {
     out.put(3, u64::from(settings.priority.a));
     out.put(3, u64::from(settings.priority.b));
     out.put(14, u64::from(settings.leave_time));
-    out.put(4, 0);
+    out.put(1, u64::from(settings.pruning));
+    out.put(3, 0);
     out.put(12, u64::from(settings.vlan));
     out.put(8, u64::from(settings.fan_in_limit));
     for port in &settings.ports {

@@ -1,4 +1,4 @@
-//! Settling: attribute propagation and reserved bandwidth (01, "Settling"; 02, (ii), (i), (v), (x);
+//! Settling: attribute propagation and reserved bandwidth (01, "Settling"; 02, (ii), (i), (v), (x), (vi);
 //! 802.1Qat clauses 35.2.4.1 to 35.2.4.4, Tables 35-12 and 35-14; 802.1Q clause 34.3.1).
 
 use std::collections::BTreeMap;
@@ -44,6 +44,7 @@ pub fn rate(class: Class, demand: OctetsPerInterval) -> BitsPerSecond {
 pub enum Step {
     A,
     B,
+    N,
     C,
     D,
     K,
@@ -199,6 +200,12 @@ fn column_before_bandwidth(
     let class = settings.class_of(talker.parameters.priority);
     if class.map_or(false, |class| !port_settings.supports.of(class)) {
         return Some((Step::B, Column::None));
+    }
+    // n. pruning is on, and p doesn't hold the destination registered at t: none
+    let holds_destination =
+        facts.registrations.addresses[port - 1].contains_key(&talker.parameters.destination);
+    if settings.pruning && !holds_destination {
+        return Some((Step::N, Column::None));
     }
     // c. registered Failed: Failed, its Bridge ID and code
     if let Some(failure) = talker.failure {

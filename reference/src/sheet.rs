@@ -132,6 +132,7 @@ pub fn worked_example() -> Vec<u8> {
         bridge_id: 0,
         priority: settings::PerClass { a: 3, b: 2 },
         leave_time: 60,
+        pruning: false,
         vlan: 2,
         fan_in_limit: 0,
         ports: vec![port.clone(), port],

@@ -5,9 +5,9 @@ use std::ops::Range;
 
 use crate::domain::SLOTS;
 use crate::random::Random;
-use crate::registrations::MOST_STREAMS;
+use crate::registrations::{MOST_ADDRESSES, MOST_STREAMS};
 use crate::settings::{self, MOST_PORTS};
-use crate::table::{self, cell, domain, edge, record, result, TABLE_LENGTH};
+use crate::table::{self, address, cell, domain, edge, record, result, TABLE_LENGTH};
 
 /// What an octet is stored for.
 #[derive(Clone, Copy, Debug, PartialEq, Eq)]
@@ -27,7 +27,13 @@ const MOST_DRAWS: usize = 16;
 /// one that keeps them all, or any.
 pub fn some_octet(random: &mut Random, table: &[u8]) -> (usize, u8) {
     let full = table::used(table) == MOST_STREAMS;
-    let rule = if full && random.percent(20) { 8 } else { random.between(2, 36) as u8 };
+    let rule = match full_port(table) {
+        _ if full && random.percent(20) => 8,
+        Some(_) if random.percent(20) => 37,
+        // Few tables can break this one alone.
+        _ if random.percent(4) => 26,
+        _ => random.between(2, 41) as u8,
+    };
     let aim = match random.below(20) {
         0..=12 => Aim::Breaks(rule),
         13..=18 => Aim::Keeps,
@@ -66,6 +72,13 @@ fn draw(random: &mut Random, table: &[u8], aim: Aim) -> (usize, u8) {
     (place, random.one_of(&[0, 1, 2, 3, 4, above, below, held ^ 1 << (any % 8), any]))
 }
 
+/// The first port, from 0, that has all its address records in use.
+fn full_port(table: &[u8]) -> Option<usize> {
+    table::addresses_used_at(table)
+        .take(table::ports(table))
+        .position(|used| used == MOST_ADDRESSES)
+}
+
 fn one(place: usize) -> Range<usize> {
     place..place + 1
 }
@@ -87,6 +100,7 @@ fn field_of_rule(random: &mut Random, table: &[u8], rule: u8) -> Range<usize> {
         30 => 11..13,
         36 => one(table::FAN_IN_LIMIT),
         31..=35 => field_of_edge(random, table, rule, port),
+        37..=41 => field_of_addresses(random, table, rule, port),
         10 if past_used < TABLE_LENGTH && random.percent(30) => one(past_used),
         10 if past_used < TABLE_LENGTH => past_used..TABLE_LENGTH,
         _ => field_of_record(random, table, rule, port),
@@ -110,6 +124,32 @@ fn field_of_edge(random: &mut Random, table: &[u8], rule: u8, port: usize) -> Ra
         33 => record..record + domain::LENGTH,
         34 => start + edge::FLAGS.start..start + edge::FLAGS.end,
         _ => past..table::RECORDS,
+    }
+}
+
+/// A field that a form rule on the addresses of a port looks at: their number, a part of a used
+/// record, or what is behind the last one.
+fn field_of_addresses(random: &mut Random, table: &[u8], rule: u8, port: usize) -> Range<usize> {
+    let used: Vec<usize> = table::addresses_used_at(table).collect();
+    let is_wanted = |port: &usize| used[*port] > usize::from(rule == 40);
+    let wanted: Vec<usize> = (0..table::ports(table)).filter(is_wanted).collect();
+    let port = match (rule, full_port(table)) {
+        (37, Some(full)) => full,
+        (38..=40, _) if !wanted.is_empty() => random.one_of(&wanted),
+        _ => port,
+    };
+    let start = table::EDGES + edge::LENGTH * port;
+    let records = start + edge::ADDRESSES.start;
+    let last = used[port].max(1) as u64 - 1;
+    let record = records + address::LENGTH * random.below(last + 1) as usize;
+    let past = records + address::LENGTH * used[port];
+    match rule {
+        37 => one(start + edge::COUNT),
+        38 => one(record + address::REGISTERED),
+        39 => record + address::LEAVING..record + address::SINCE.end,
+        40 => record + address::ADDRESS.start..record + address::ADDRESS.end,
+        _ if used[port] < MOST_ADDRESSES => past..start + edge::LENGTH,
+        _ => one(start + edge::COUNT),
     }
 }
 
@@ -162,8 +202,8 @@ fn field_of_result(random: &mut Random, rule: u8) -> Range<usize> {
     }
 }
 
-/// A field whose octets differ among tables that keep the form: settings, clock, totals, domain, or
-/// one of a used record.
+/// A field whose octets differ among tables that keep the form: settings, clock, totals, domain,
+/// addresses, or one of a used record.
 fn field_in_use(random: &mut Random, table: &[u8]) -> Range<usize> {
     let ports = table::ports(table).max(1);
     match random.below(10) {
@@ -171,9 +211,12 @@ fn field_in_use(random: &mut Random, table: &[u8]) -> Range<usize> {
         2 => table::CLOCK,
         3 => table::TOTALS..table::TOTALS + table::TOTALS_LENGTH * ports,
         4 => {
-            let rule = random.one_of(&[31, 32, 33, 34]);
+            let rule = random.one_of(&[31, 32, 33, 34, 39, 40]);
             let port = random.below(ports as u64) as usize;
-            field_of_edge(random, table, rule, port)
+            match rule {
+                39..=40 => field_of_addresses(random, table, rule, port),
+                _ => field_of_edge(random, table, rule, port),
+            }
         }
         _ => {
             let rule = random.one_of(&[9, 11, 12, 14, 15, 16, 17, 18, 18, 20, 21, 22, 23, 24]);

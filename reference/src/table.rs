@@ -7,8 +7,9 @@ use std::ops::Range;
 use crate::bridge::Bridge;
 use crate::domain::{DomainRegistration, Domains, SLOTS};
 use crate::fan_in::GREATEST_LIMIT;
+use crate::mmrp::Address;
 use crate::pdu::{number_of, Failure, ListenerType, Parameters, StreamId, PARAMETERS_LENGTH};
-use crate::registrations::MOST_STREAMS;
+use crate::registrations::{Addresses, MOST_ADDRESSES, MOST_STREAMS};
 use crate::registrations::{ListenerRegistration, OnPort, Registrations, TalkerRegistration};
 use crate::settings::{self, PerClass, MOST_PORTS};
 use crate::settling::{Column, Entry, Settled, SettledOnPort, SettledStream};
@@ -25,22 +26,36 @@ pub const COUNT: usize = 194;
 pub const TOTALS: usize = 195;
 /// Octets of one port's totals: class A 5, and class B 6, since it may borrow class A's limit.
 pub const TOTALS_LENGTH: usize = 11;
-/// What eight ports have of the domain: their Domain records and boundary flags.
+/// What eight ports hold by themselves: Domain records, boundary flags and addresses.
 pub const EDGES: usize = 283;
 /// The stream records, those in use first.
-pub const RECORDS: usize = 1_323;
+pub const RECORDS: usize = 7_475;
 pub const RECORD_LENGTH: usize = 525;
 /// The length of the table; one length for every port count.
 pub const TABLE_LENGTH: usize = RECORDS + MOST_STREAMS * RECORD_LENGTH;
 
-/// Places in what a port has of the domain.
+/// Places in what a port holds by itself.
 pub mod edge {
     use super::Range;
-    pub const LENGTH: usize = 130;
+    pub const LENGTH: usize = 899;
     /// 16 Domain records.
     pub const DOMAINS: Range<usize> = 0..128;
     /// The boundary flags of class A and of class B.
     pub const FLAGS: Range<usize> = 128..130;
+    /// How many addresses are held.
+    pub const COUNT: usize = 130;
+    /// 64 address records, those in use first.
+    pub const ADDRESSES: Range<usize> = 131..899;
+}
+
+/// Places in an address record.
+pub mod address {
+    use super::Range;
+    pub const LENGTH: usize = 12;
+    pub const REGISTERED: usize = 0;
+    pub const LEAVING: usize = 1;
+    pub const SINCE: Range<usize> = 2..6;
+    pub const ADDRESS: Range<usize> = 6..12;
 }
 
 /// Places in a Domain record.
@@ -97,11 +112,12 @@ pub mod result {
     pub const LISTENER: usize = 19;
 }
 
-const _: () = assert!(TABLE_LENGTH == 34_923);
+const _: () = assert!(TABLE_LENGTH == 41_075);
 const _: () = assert!(CLOCK.start == settings::HEAD_LENGTH + MOST_PORTS * settings::PORT_LENGTH);
 const _: () = assert!(EDGES == TOTALS + MOST_PORTS * TOTALS_LENGTH);
 const _: () = assert!(RECORDS == EDGES + MOST_PORTS * edge::LENGTH);
 const _: () = assert!(edge::DOMAINS.end == SLOTS * domain::LENGTH);
+const _: () = assert!(edge::LENGTH == edge::ADDRESSES.start + MOST_ADDRESSES * address::LENGTH);
 const _: () = assert!(record::PARAMETERS.end - record::PARAMETERS.start == PARAMETERS_LENGTH);
 
 /// The kinds of a Talker and of a column.
@@ -151,18 +167,31 @@ fn limits(table: &[u8], place: usize) -> PerClass<u64> {
     PerClass { a: number_of(&octets[..5]), b: number_of(&octets[5..]) }
 }
 
-/// The VLAN setting with the four bits before it.
+/// The VLAN setting with the three bits before it. The one above them is pruning.
 fn vlan(table: &[u8]) -> u16 {
-    number_of(&table[11..13]) as u16
+    number_of(&table[11..13]) as u16 & 0x7fff
 }
 
-/// What each of the eight places has of the domain.
+/// What each of the eight places holds by itself.
 fn edges(table: &[u8]) -> impl Iterator<Item = &[u8]> {
     table[EDGES..RECORDS].chunks_exact(edge::LENGTH)
 }
 
 fn domain_records(edge: &[u8]) -> impl Iterator<Item = &[u8]> {
     edge[edge::DOMAINS].chunks_exact(domain::LENGTH)
+}
+
+/// Of each of the eight places how many of the 64 address records are in use.
+pub fn addresses_used_at(table: &[u8]) -> impl Iterator<Item = usize> + '_ {
+    edges(table).map(addresses_used)
+}
+
+fn addresses_used(edge: &[u8]) -> usize {
+    usize::from(edge[edge::COUNT]).min(MOST_ADDRESSES)
+}
+
+fn used_addresses(edge: &[u8]) -> impl Iterator<Item = &[u8]> {
+    edge[edge::ADDRESSES].chunks_exact(address::LENGTH).take(addresses_used(edge))
 }
 
 fn used_records(table: &[u8]) -> impl Iterator<Item = &[u8]> {
@@ -183,7 +212,7 @@ fn results(record: &[u8]) -> impl Iterator<Item = &[u8]> {
 type Rule = fn(&[u8]) -> bool;
 
 /// The form rules, in the order and by the numbers of docs/TABLE.md.
-const RULES: [(u8, Rule); 36] = [
+const RULES: [(u8, Rule); 41] = [
     (1, |table| table.len() == TABLE_LENGTH),
     (2, |table| (1..=MOST_PORTS as u8).contains(&(table[8] >> 4))),
     (3, |table| priorities(table).a != priorities(table).b),
@@ -219,9 +248,14 @@ const RULES: [(u8, Rule); 36] = [
     (31, |table| every_domain(table, |domain| domain[domain::REGISTERED] <= 1)),
     (32, domains_left_lately),
     (33, |table| every_domain(table, |domain| domain[domain::REGISTERED] != 0 || is_zero(domain))),
-    (34, |table| edges(table).take(ports(table)).all(has_flags)),
+    (34, |table| every_edge(table, has_flags)),
     (35, |table| edges(table).skip(ports(table)).all(is_zero)),
     (36, |table| table[FAN_IN_LIMIT] <= GREATEST_LIMIT),
+    (37, |table| every_edge(table, |edge| usize::from(edge[edge::COUNT]) <= MOST_ADDRESSES)),
+    (38, |table| every_address(table, |address| address[address::REGISTERED] == 1)),
+    (39, addresses_left_lately),
+    (40, |table| every_edge(table, addresses_rise)),
+    (41, |table| every_edge(table, is_zero_past_addresses)),
 ];
 
 /// Whether a table keeps all form rules.
@@ -254,9 +288,19 @@ fn every_result(table: &[u8], holds: impl Fn(&[u8]) -> bool) -> bool {
     used_records(table).all(|record| results(record).take(ports(table)).all(&holds))
 }
 
+/// Whether something holds of what each port holds by itself.
+fn every_edge(table: &[u8], holds: impl Fn(&[u8]) -> bool) -> bool {
+    edges(table).take(ports(table)).all(holds)
+}
+
 /// Whether something holds of each Domain record of a port.
 fn every_domain(table: &[u8], holds: impl Fn(&[u8]) -> bool) -> bool {
-    edges(table).take(ports(table)).all(|edge| domain_records(edge).all(&holds))
+    every_edge(table, |edge| domain_records(edge).all(&holds))
+}
+
+/// Whether something holds of each used address record of a port.
+fn every_address(table: &[u8], holds: impl Fn(&[u8]) -> bool) -> bool {
+    every_edge(table, |edge| used_addresses(edge).all(&holds))
 }
 
 fn totals_are_within_limits(table: &[u8]) -> bool {
@@ -303,6 +347,22 @@ fn leaving_began_lately(table: &[u8]) -> bool {
 
 fn domains_left_lately(table: &[u8]) -> bool {
     every_domain(table, |domain| is_lately(table, domain[domain::LEAVING], &domain[domain::SINCE]))
+}
+
+fn addresses_left_lately(table: &[u8]) -> bool {
+    every_address(table, |address| {
+        is_lately(table, address[address::LEAVING], &address[address::SINCE])
+    })
+}
+
+fn addresses_rise(edge: &[u8]) -> bool {
+    let addresses: Vec<Address> =
+        used_addresses(edge).map(|record| number_of(&record[address::ADDRESS])).collect();
+    addresses.windows(2).all(|pair| pair[0] < pair[1])
+}
+
+fn is_zero_past_addresses(edge: &[u8]) -> bool {
+    is_zero(&edge[edge::ADDRESSES][address::LENGTH * addresses_used(edge)..])
 }
 
 fn has_flags(edge: &[u8]) -> bool {
@@ -411,8 +471,10 @@ pub fn encode(bridge: &Bridge) -> Vec<u8> {
         out.extend(&total.b.to_be_bytes()[2..]);
     }
     out.resize(EDGES, 0);
-    for (domains, flags) in bridge.registrations.domains.iter().zip(&bridge.settled.boundaries) {
+    let Registrations { domains, addresses, .. } = &bridge.registrations;
+    for ((domains, flags), addresses) in zip(zip(domains, &bridge.settled.boundaries), addresses) {
         put_edge(&mut out, domains, *flags);
+        put_addresses(&mut out, addresses);
     }
     out.resize(RECORDS, 0);
     for (stream_id, on_ports) in &bridge.registrations.streams {
@@ -434,6 +496,17 @@ fn put_edge(out: &mut Vec<u8>, domains: &Domains, flags: PerClass<bool>) {
         out.resize(start + domain::LENGTH, 0);
     }
     out.extend([u8::from(flags.a), u8::from(flags.b)]);
+}
+
+fn put_addresses(out: &mut Vec<u8>, addresses: &Addresses) {
+    let start = out.len();
+    out.push(addresses.len() as u8);
+    for (address, leaving) in addresses {
+        out.push(1);
+        put_leaving(out, *leaving);
+        out.extend(&address.to_be_bytes()[2..]);
+    }
+    out.resize(start + edge::LENGTH - edge::COUNT, 0);
 }
 
 fn put_record(
@@ -529,6 +602,7 @@ pub fn decode(table: &[u8]) -> Option<Bridge> {
     let mut settled = Settled::empty(ports);
     settled.totals = (0..ports).map(|place| totals(table, place)).collect();
     registrations.domains = edges(table).take(ports).map(domains).collect();
+    registrations.addresses = edges(table).take(ports).map(addresses).collect();
     settled.boundaries = edges(table).take(ports).map(flags).collect();
     for record in used_records(table) {
         let stream_id = number_of(&record[record::STREAM_ID]);
@@ -556,6 +630,14 @@ fn domains(edge: &[u8]) -> Domains {
         });
     }
     domains
+}
+
+fn addresses(edge: &[u8]) -> Addresses {
+    let held = |record: &[u8]| {
+        let leaving = leaving(record[address::LEAVING], &record[address::SINCE]);
+        (number_of(&record[address::ADDRESS]), leaving)
+    };
+    used_addresses(edge).map(held).collect()
 }
 
 fn flags(edge: &[u8]) -> PerClass<bool> {

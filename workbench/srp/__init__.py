@@ -3,9 +3,9 @@ from srp.answers import Answer, Octets, Report, Sum, Written
 from srp.bridge import Bridge
 from srp.faults import Fault, Missing
 from srp.inputs import Input, Ran, load, run
-from srp.layout import Cell, Domain, Edge, Parameters, Port, Result, Settings, Stream, Table, Totals
-from srp.views import DomainValue, Load, Share, loads
+from srp.layout import Address, Cell, Domain, Edge, Parameters, Port, Result, Settings, Stream, Table, Totals
+from srp.views import AskedFor, DomainValue, Load, Share, loads
 
-__all__ = ["Answer", "Bridge", "Cell", "Domain", "DomainValue", "Edge", "Fault", "Input", "Load", "Missing", "Octets", "Parameters",
-           "Port", "Ran", "Report", "Result", "Settings", "Share", "Stream", "Sum", "Table", "Totals", "Written", "load", "loads",
-           "run"]
+__all__ = ["Address", "Answer", "AskedFor", "Bridge", "Cell", "Domain", "DomainValue", "Edge", "Fault", "Input", "Load", "Missing",
+           "Octets", "Parameters", "Port", "Ran", "Report", "Result", "Settings", "Share", "Stream", "Sum", "Table", "Totals",
+           "Written", "load", "loads", "run"]

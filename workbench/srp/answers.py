@@ -61,7 +61,7 @@ def read_line(line):
     """The answer that a line of srpcalls is."""
     name, *words = line.split()
     try:
-        if name in ("start", "receive", "advance"):
+        if name in ("start", "receive", "mmrp", "advance"):
             return Answer(name, int(words[0]))
         if name == "write":
             number, long, following = (int(word) for word in words[:3])

@@ -1,4 +1,4 @@
-"""A bridge as an object: the five calls over one process of srpcalls, which answers each record at once."""
+"""A bridge as an object: the calls over one process of srpcalls, which answers each record at once."""
 import subprocess
 
 from srp import answers, layout, programs, records, texts
@@ -52,6 +52,10 @@ class Bridge:
     def receive(self, port, pdu):
         """Hands over a PDU that arrived on a port."""
         return self.call(records.receive(port, pdu))
+
+    def receive_mmrp(self, port, pdu):
+        """Hands over an MMRP frame that arrived on a port."""
+        return self.call(records.receive_mmrp(port, pdu))
 
     def advance(self, time):
         """Sets the clock, in hundredths of a second, and decides."""

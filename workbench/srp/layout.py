@@ -76,6 +76,7 @@ def read_field(layout, room, at, before):
 PORTS = 8
 STREAMS = 64
 PRIORITIES = 8
+ADDRESSES = 64
 
 
 @dataclass(frozen=True)
@@ -101,7 +102,8 @@ class Settings:
     priority_a: int = bits(3)
     priority_b: int = bits(3)
     leave_time: int = bits(14)
-    zero: int = bits(4)
+    pruning: int = bits(1)
+    zero: int = bits(3)
     vlan: int = bits(12)
     fan_in_limit: int = octets(1)
 
@@ -164,13 +166,24 @@ class Domain:
 
 
 @dataclass(frozen=True)
+class Address:
+    """An address record: what a port's neighbour has asked for by an MMRP frame."""
+    registered: int = octets(1)
+    leaving: int = octets(1)
+    since: int = octets(4)
+    address: int = octets(6)
+
+
+@dataclass(frozen=True)
 class Edge:
-    """What a port has of the reservation domain: the Domain records of class ID 5, which is class B, and of class ID 6, each by
-    priority; and the boundary flags that the last advance decided."""
+    """What a port holds by itself: the Domain records of class ID 5, which is class B, and of class ID 6, each by priority; the
+    boundary flags that the last advance decided; and the addresses that were asked for, of which so many are held."""
     domains_b: tuple[Domain, ...] = several(Domain, PRIORITIES)
     domains_a: tuple[Domain, ...] = several(Domain, PRIORITIES)
     boundary_a: int = octets(1)
     boundary_b: int = octets(1)
+    addresses_held: int = octets(1)
+    addresses: tuple[Address, ...] = several(Address, ADDRESSES, used="addresses_held")
 
 
 @dataclass(frozen=True)

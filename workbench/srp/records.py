@@ -3,10 +3,10 @@ from dataclasses import dataclass
 
 from srp.faults import Fault
 
-START, RECEIVE, ADVANCE, WRITE, REPORT, STORE, SUM = 0x0, 0x1, 0x2, 0x3, 0x4, 0x5, 0x6
+START, RECEIVE, ADVANCE, WRITE, REPORT, STORE, SUM, RECEIVE_MMRP = 0x0, 0x1, 0x2, 0x3, 0x4, 0x5, 0x6, 0x7
 
 # Octets behind the first one; None is a 16-bit length and so many octets. The second digit of those in PORTED is a port.
-PORTED = {RECEIVE: None, WRITE: 4, REPORT: 2}
+PORTED = {RECEIVE: None, WRITE: 4, REPORT: 2, RECEIVE_MMRP: None}
 PLAIN = {0x00: None, 0x20: 4, 0x50: 3, 0x51: 2, 0x60: 0, 0x61: 0}
 TABLE_SUM, TABLE_OCTETS = b"\x60", b"\x61"
 
@@ -25,8 +25,13 @@ class Record:
         return self.octets[0] & 0xF
 
     @property
+    def is_frame(self):
+        """Whether it is a frame that arrives on a port."""
+        return self.kind in (RECEIVE, RECEIVE_MMRP)
+
+    @property
     def body(self):
-        """The settings or PDU of a start or receive."""
+        """The settings or PDU of a start, receive or receive_mmrp."""
         return self.octets[3:]
 
     @property
@@ -90,6 +95,10 @@ def start(settings):
 
 def receive(port, pdu):
     return counted(ported(RECEIVE, port), pdu)
+
+
+def receive_mmrp(port, pdu):
+    return counted(ported(RECEIVE_MMRP, port), pdu)
 
 
 def advance(time):

@@ -56,7 +56,7 @@ def interleaved(group, calls, chance):
 def order(calls, seed, number):
     """The places of an input's records, in the order of that number. It depends on nothing else, so shards share the work."""
     chance, places = random.Random(f"{seed} {number}"), []
-    for is_frame, group in groupby(range(len(calls)), key=lambda place: calls[place].kind == records.RECEIVE):
+    for is_frame, group in groupby(range(len(calls)), key=lambda place: calls[place].is_frame):
         places += interleaved(list(group), calls, chance) if is_frame else group
     return places
 
@@ -88,7 +88,7 @@ def in_words(printed, octets):
     results = [result for stream in table.streams for result in stream.results]
     reserved = [f"port {line.port} {name} {total}" for line in port_lines(table)
                 for name, total in (("A", line.total_a), ("B", line.total_b)) if total]
-    numbers = Counter(line.split()[1] for line in printed if line.split()[0] in ("start", "receive", "advance"))
+    numbers = Counter(line.split()[1] for line in printed if line.split()[0] in ("start", "receive", "mmrp", "advance"))
     refused = ", ".join(f"{count} with {number}" for number, count in sorted(numbers.items()) if number != "0")
     return (f"table {zlib.adler32(octets):08x}, reserved {', '.join(reserved) or 'nothing'}; {sum(map(holds, results))} forward,"
             f" {sum(result.column == FAILED for result in results)} failed; refused {refused or 'none'}")

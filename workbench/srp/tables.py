@@ -1,7 +1,7 @@
-"""The table in words: who is registered where, leaving since when, changed, of what age, where the domain ends, and what is
-settled."""
+"""The table in words: who is registered where, leaving since when, changed, of what age, where the domain ends, which addresses
+were asked for, and what is settled."""
 from srp.needs import need
-from srp.views import class_of, demand, loads, ports
+from srp.views import addresses_of, class_of, demand, loads, ports
 from srp.words import COLUMNS, ENTRIES, LISTENERS, address, cause, edge, rate, seconds, stream_id, word
 
 TALKERS = ("none", "Advertise", "Failed")
@@ -115,6 +115,21 @@ def show_domain(table, console):
     console.print()
 
 
+def address_lines(table):
+    """A line for each address that a port's neighbour has asked for."""
+    for port in ports(table):
+        for asked in addresses_of(table.edges[port - 1]):
+            since = "" if asked.leaving_since is None else f", {leaving(asked.leaving_since, table)}"
+            yield f"port {port}: {address(asked.address)}{since}"
+
+
+def show_addresses(table, console):
+    """Prints the addresses that were asked for, and whether Talkers are pruned by them."""
+    console.print(f"addresses asked for, pruning {'on' if table.settings.pruning else 'off'}")
+    console.print("\n".join(f"  {line}" for line in address_lines(table)) or "  none")
+    console.print()
+
+
 def head(table):
     """The bridge as a whole."""
     settings = table.settings
@@ -139,5 +154,6 @@ def show(ran, console):
     console.print(head(ran.table))
     console.print(port_grid(ran.table))
     show_domain(ran.table, console)
+    show_addresses(ran.table, console)
     for stream in ran.table.streams:
         show_stream(stream, ran.table, console)

@@ -2,7 +2,7 @@
 from itertools import groupby
 
 from srp.layout import Port, Settings, length, read, settings_length
-from srp.records import ADVANCE, RECEIVE
+from srp.records import ADVANCE, RECEIVE, RECEIVE_MMRP
 from srp.words import CLASS_IDS, stream_id
 
 CLASSES = {(1, 1): "AB", (1, 0): "A", (0, 1): "B", (0, 0): "none"}
@@ -10,7 +10,8 @@ CLASSES = {(1, 1): "AB", (1, 0): "A", (0, 1): "B", (0, 0): "none"}
 
 def bridge_line(settings):
     return (f"bridge {stream_id(settings.bridge_id)} priorities {settings.priority_a} {settings.priority_b}"
-            f" leave {settings.leave_time} vlan {settings.vlan} fanin {settings.fan_in_limit}")
+            f" leave {settings.leave_time} vlan {settings.vlan} fanin {settings.fan_in_limit}"
+            + (" pruning" if settings.pruning else ""))
 
 
 def ports_line(count, port):
@@ -48,6 +49,8 @@ def record_line(record):
     """The line of a record."""
     if record.kind == RECEIVE:
         return frame_line(record.port, record.body)
+    if record.kind == RECEIVE_MMRP:
+        return f"mmrp {record.port} octets {record.body.hex()}"
     if record.kind == ADVANCE:
         return f"time {record.time}"
     return f"raw {record.octets.hex()}"

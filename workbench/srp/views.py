@@ -47,6 +47,13 @@ class DomainValue:
 
 
 @dataclass(frozen=True)
+class AskedFor:
+    """An address that a port's neighbour has asked for; leaving since a time of the clock, or none."""
+    address: int
+    leaving_since: int | None
+
+
+@dataclass(frozen=True)
 class Share:
     """What a stream asks for on a port, and what its importance is counted by."""
     stream: str
@@ -92,6 +99,11 @@ def domains_of(edge, name):
     """A class's Domain values that are registered, by priority."""
     return [DomainValue(priority, record.vlan, record.since if record.leaving else None)
             for priority, record in enumerate(of_class(edge, "domains_", name)) if record.registered]
+
+
+def addresses_of(edge):
+    """The addresses that were asked for on a port, in their order."""
+    return [AskedFor(record.address, record.since if record.leaving else None) for record in edge.addresses]
 
 
 def edge_line(table, port):

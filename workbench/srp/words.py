@@ -44,6 +44,7 @@ REFUSALS = {
     11: "the settings are not as docs/TABLE.md lays them out",
     12: "the table has the wrong length or breaks a form rule",
     13: "no such place",
+    14: "no room for another address",
 }
 
 

@@ -70,6 +70,21 @@ def test_the_edge_of_the_domain():
         assert load.domains == [srp.DomainValue(5, 70, None)] and not load.at_edge
 
 
+def test_addresses_and_pruning():
+    import srp
+
+    with srp.Bridge("bridge 8000000000000007 pruning\nports 2") as bridge:
+        bridge.hear_domain()
+        bridge.feed(f"{TALKER}\n{LISTENER}\ntime 100")
+        assert (bridge.report(2).column, bridge.report(2).entry) == ("none", "filter")
+        assert bridge.receive_mmrp(2, bytes.fromhex("00 02 06 0001 91e0f0000001 6c 0000 0000")) == srp.Answer("mmrp", 0)
+        assert bridge.feed("mmrp 1 mac 000000000000 values 65")[0].why == "no room for another address"
+        bridge.advance(200)
+        assert (bridge.report(2).column, bridge.report(2).entry) == ("advertise", "forward")
+        table = bridge.table()
+        assert table.settings.pruning == 1 and table.edges[1].addresses == (srp.Address(1, 0, 0, 0x91E0F0000001),)
+
+
 def test_refusals_are_answers():
     import srp
 

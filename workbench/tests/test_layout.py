@@ -15,7 +15,8 @@ def rows(title):
     return [(line.split("|")[1].strip(), line.split("|")[2].strip()) for line in section.splitlines() if re.match(r"\| \d", line)]
 
 
-@pytest.mark.parametrize("title, part", [("Domain record", layout.Domain), ("Cell", layout.Cell), ("Result", layout.Result),
+@pytest.mark.parametrize("title, part", [("Domain record", layout.Domain), ("Address record", layout.Address),
+                                         ("Cell", layout.Cell), ("Result", layout.Result),
                                          ("Stream record", layout.Stream)])
 def test_places_and_lengths(title, part):
     begins = [int(begin) for begin, _ in rows(title)]
@@ -45,9 +46,10 @@ def test_settings():
 
 
 def test_an_edge():
-    assert layout.length(layout.Edge) == 2 * layout.PRIORITIES * layout.length(layout.Domain) + 2
+    records = 2 * layout.PRIORITIES * layout.length(layout.Domain) + layout.ADDRESSES * layout.length(layout.Address)
+    assert layout.length(layout.Edge) == records + 3 == 899
     places = [layout.place(layout.Edge, field) for field in layout.Edge.__dataclass_fields__]
-    assert places == [0, 64, 128, 129]
+    assert places == [0, 64, 128, 129, 130, 131]
 
 
 def test_a_number_across_octets():

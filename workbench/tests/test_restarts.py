@@ -47,6 +47,21 @@ def test_every_interleaving_is_as_likely():
     assert {order: 900 < found.count(order) < 1100 for order in set(found)} == {(0, 1, 2): True, (0, 2, 1): True, (2, 0, 1): True}
 
 
+def test_mmrp_frames_are_served_among_the_others(srp, tmp_path):
+    from srp import inputs, restarts
+
+    text = ("bridge 8000000000000007 pruning\nports 2\nstart\non 1 talker 1\nmmrp 2 mac 91e0f0000001\non 2 domain 5 2 2 values 2\n"
+            "time 1\n")
+    given = inputs.of_text("asked.txt", text.encode())
+    orders = {tuple(restarts.order(given.records, 0, number)) for number in range(60)}
+    assert orders == {(0, 1, 2, 3, 4), (0, 2, 1, 3, 4), (0, 2, 3, 1, 4)}
+    assert "mmrp 2 octets 000206000191e0f00000016c00000000" in restarts.as_text(given, 0, 1)
+    path = tmp_path / "asked.txt"
+    path.write_text(text)
+    [line] = srp("restarts", 60, path).splitlines()
+    assert "refused none" in line
+
+
 def test_an_order_as_a_text_gives_the_same_sheet(srp, tmp_path):
     text = tmp_path / "order.txt"
     text.write_text(srp("restarts", 1000, CHOIR, "--order", 17))

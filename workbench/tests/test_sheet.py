@@ -118,6 +118,17 @@ def test_table_without_a_domain(srp, tmp_path):
     assert "nothing is registered, and no port is at an edge" in srp("table", text)
 
 
+def test_table_of_addresses(srp, tmp_path):
+    text = tmp_path / "asked.txt"
+    text.write_text("bridge 8000000000000007 pruning\nports 2\nstart\nmmrp 2 mac 91e0f0000000 values 2\nmmrp 1 mac 000000000000\n"
+                    "time 100\nmmrp 2 mac 91e0f0000001 leave\n")
+    printed = srp("table", text)
+    asked = [line.strip() for line in printed.split("\naddresses asked for, pruning on\n")[1].split("\n\n")[0].splitlines()]
+    assert asked == ["port 1: 00:00:00:00:00:00", "port 2: 91:e0:f0:00:00:00",
+                     "port 2: 91:e0:f0:00:00:01, leaving since 1.00 s, gone from 1.60 s on"]
+    assert "addresses asked for, pruning off\n  none\n" in srp("table", CHOIR)
+
+
 def test_page_at_the_edge(srp):
     assert "at the edge" not in srp("sheet", "--html", CHOIR)
     text = " ".join(Page(srp("sheet", "--html", "examples/other-priority/not-yet-expired.txt")).words)

@@ -1,7 +1,7 @@
 -- Demand 1, of the code: every call on every input ends with an answer. That each call ends is what the proved contracts say: none
 -- asks anything of its arguments. Here stands what its answer is, for each call one record and one theorem whose premise is that
 -- call's contract (specs/Promises), so it holds of the code whatever the code is: the numbers that may be given, each exactly when
--- 01's table says; a refusal leaves every octet of table and buffer, and gives zero or none for every other part of the answer;
+-- 01's table or 02 says; a refusal leaves every octet of table and buffer, and gives zero or none for every other part of the answer;
 -- an accepted call leaves a table that keeps the form rules. write and report are lent the table to read only, so their contracts
 -- give none back. (That table, settings and PDU are octets, and a time is of 32 bits, is what the calls' types say.)
 use mathlib.Core.Path.{_≡_}
@@ -12,16 +12,19 @@ use Prim.Native.Nat.{ℕ, _-_, _^_, _≤_, _<_}
 use lib.ListN.{length}
 use Rattle.model.specs.Layout.{tableLength}
 use Rattle.model.specs.Lists.{Octets}
-use Rattle.model.specs.Registrations.{together, ids, joins}
+use Rattle.model.specs.Registrations.{AddressAct, refusedFrame, addressActs, together, ids, joins, addressJoins}
 use Rattle.model.specs.FrameLayout.{longestPdu}
 use Rattle.model.specs.Frames.{Vector, fault, found, walk, frameActs, wrongPort}
+use Rattle.model.specs.AddressFrames.{addressWalk}
 use Rattle.model.specs.Declarations.{declarations}
 use Rattle.model.specs.Reports.{Report, refusedReport}
 use Rattle.model.specs.Table.{decode, clockField, formed, settingsFormed}
-use Rattle.model.proofs.FormKept.{Kept, start-formed, receive-formed, advance-formed}
+use Rattle.model.proofs.FormKept.{Kept, start-formed, receive-formed, mmrp-formed, advance-formed}
 use Rattle.model.proofs.Refusals.{OneOf, OnPort}
 use Rattle.model.proofs.Refusals
-use Rattle.bridge.specs.Promises.{Starts, Receives, Advances, Writes, Reports}
+use Rattle.model.proofs.AddressRefusals.{heldOn}
+use Rattle.model.proofs.AddressRefusals
+use Rattle.bridge.specs.Promises.{Starts, Receives, ReceivesMmrp, Advances, Writes, Reports}
 
 -- Start with the settings s on the table t gives the number n and leaves the table u.
 pub record StartAnswers (t s : List ℕ) (n : ℕ) (u : List ℕ) : Type 0 where
@@ -69,6 +72,34 @@ receive-answers t p pdu n u o q call = record {
   accepted = rw (call .0) (Refusals.receive-0 t p pdu);
   unaltered = rw (call .0, call .1) (Refusals.receive-refused t p pdu);
   form = rw (call .0, call .1) (λ e. receive-formed t (o, Refusals.receive-0 t p pdu .0 e .0 .0) p pdu q);
+}
+
+-- Receive of an MMRP PDU on port p, on the table t, gives the number n and leaves the table u.
+pub record MmrpAnswers (t : List ℕ) (p : ℕ) (pdu : List ℕ) (n : ℕ) (u : List ℕ) : Type 0 where
+  pub numbers : (n ≤ 7) ⊎ ((n ≡ 12) ⊎ (n ≡ 14))
+  pub table : (n ≡ 12) ↔ (formed t ≡ false)
+  pub port : (n ≡ 1) ↔ ((formed t ≡ true) × (wrongPort (decode t .settings) p ≡ true))
+  pub size : (n ≡ 2) ↔ (OnPort t p × ((length pdu ≡ 0) ⊎ (longestPdu < length pdu)))
+  -- each of 2 to 7: it is the first fault that the walk meets
+  pub faults : (m : ℕ) → 2 ≤ m → m ≤ 7 → (n ≡ m) ↔ (OnPort t p × (addressWalk pdu ≡ refusedFrame m))
+  pub room : (n ≡ 14) ↔
+      (OnPort t p × ((es : List AddressAct) × (addressWalk pdu ≡ addressActs es) × (64 < length (together (heldOn (decode t) p) (addressJoins es)))))
+  pub accepted : (n ≡ 0) ↔
+      (OnPort t p × ((es : List AddressAct) × (addressWalk pdu ≡ addressActs es) × (length (together (heldOn (decode t) p) (addressJoins es)) ≤ 64)))
+  pub unaltered : (n ≡ 0 → ⊥) → u ≡ t
+  pub form : n ≡ 0 → Kept u
+
+pub mmrp-answers : (t : List ℕ) (p : ℕ) (pdu : List ℕ) (n : ℕ) (u : List ℕ) → Octets t → ReceivesMmrp t p pdu n u → MmrpAnswers t p pdu n u
+mmrp-answers t p pdu n u o call = record {
+  numbers = rw (call .0) (AddressRefusals.mmrp-numbers t p pdu);
+  table = rw (call .0) (AddressRefusals.mmrp-12 t p pdu);
+  port = rw (call .0) (AddressRefusals.mmrp-1 t p pdu);
+  size = rw (call .0) (AddressRefusals.mmrp-2 t p pdu);
+  faults = rw (call .0) (AddressRefusals.mmrp-fault t p pdu);
+  room = rw (call .0) (AddressRefusals.mmrp-14 t p pdu);
+  accepted = rw (call .0) (AddressRefusals.mmrp-0 t p pdu);
+  unaltered = rw (call .0, call .1) (AddressRefusals.mmrp-refused t p pdu);
+  form = rw (call .0, call .1) (λ e. mmrp-formed t (o, AddressRefusals.mmrp-0 t p pdu .0 e .0 .0) p pdu);
 }
 
 -- Advance to a time, on the table t, gives the number n and leaves the table u.
@@ -138,9 +169,11 @@ report-answers t p place r call = record {
 pub data Left : List ℕ → Type 0 where
   begun : (t s : List ℕ) (n : ℕ) (u : List ℕ) → Octets s → Starts t s n u → n ≡ 0 → Left u
   received : (t : List ℕ) (p : ℕ) (pdu : List ℕ) (n : ℕ) (u : List ℕ) → Left t → Octets pdu → Receives t p pdu n u → Left u
+  registered : (t : List ℕ) (p : ℕ) (pdu : List ℕ) (n : ℕ) (u : List ℕ) → Left t → ReceivesMmrp t p pdu n u → Left u
   advanced : (t : List ℕ) (time n : ℕ) (u : List ℕ) → Left t → time < 2 ^ 32 → Advances t time n u → Left u
 
 pub left-formed : (u : List ℕ) → Left u → Kept u
 left-formed _ (begun t s n u o call z) = start-answers t s n u o call .form z
 left-formed _ (received t p pdu n u l o call) = rw (call .1) (receive-formed t (left-formed t l) p pdu o)
+left-formed _ (registered t p pdu n u l call) = rw (call .1) (mmrp-formed t (left-formed t l) p pdu)
 left-formed _ (advanced t time n u l small call) = rw (call .1) (advance-formed t (left-formed t l) time small)

@@ -13,12 +13,13 @@ use lib.ListN.{length, getD, take, drop, take-append-drop}
 use lib.Seq.{length-take-le, length-front, take-append-seam, drop-append-seam, drop-drop}
 use borrow.Author.Tests.{le-leb, le-ltb}
 use Rattle.octets.specs.Parts.{zeros}
-use Rattle.model.specs.Layout.{tableLength}
+use Rattle.model.specs.Layout.{addresses, tableLength}
 use Rattle.model.specs.Lists.{Octets}
-use Rattle.model.specs.State.{Settings, Bridge, started, portAt, resultAt, noTotals}
-use Rattle.model.specs.Registrations.{Answer, listeners, acts, applyAll, holding, owning, together, ids, joins, received}
+use Rattle.model.specs.State.{Settings, Bridge, started, ownAt, portAt, resultAt, noTotals}
+use Rattle.model.specs.Registrations.{Answer, listeners, AddressAct, addressActs, acts, applyAll, doesAddresses, addressJoins, receivedAddresses, holding, owning, together, ids, joins, received}
 use Rattle.model.specs.FrameLayout.{longestPdu}
 use Rattle.model.specs.Frames.{registers, Vector, found, walk, walked, frameActs, reading, wrongPort}
+use Rattle.model.specs.AddressFrames.{addressWalk, addressReading}
 use Rattle.model.specs.Settling.{settle}
 use Rattle.model.specs.State.{streamAt}
 use Rattle.model.specs.Cutting.{values, Least}
@@ -26,11 +27,12 @@ use Rattle.model.specs.Declarations.{Declaration, joinOf, declaredIds, having, 
 use Rattle.model.specs.Reports.{Report, wordOf, codeOf, report}
 use Rattle.model.specs.WrittenFrames.{listenerParts, pduOctets}
 use Rattle.model.specs.Table.{encode, decode, toSettings}
-use Rattle.model.specs.Calls.{Call, WriteCall, receive, writtenTo, writeOn, reportOn}
+use Rattle.model.specs.Calls.{Call, WriteCall, receive, receiveMmrp, writtenTo, writeOn, reportOn}
 use Rattle.model.proofs.Valid.{Valid}
 use Rattle.model.proofs.Tables.{decode-encode, valid-decode, valid-started}
 use Rattle.model.proofs.FrameOrder.{acts-ids, held-ids}
-use Rattle.model.proofs.ReceiveKeepsForm.{receive-keeps}
+use Rattle.model.proofs.ReceiveKeepsForm.{receive-keeps, right-port}
+use Rattle.model.proofs.AddressesKept.{acts-held, mmrp-keeps}
 use Rattle.model.proofs.AdvanceKeepsForm.{settle-keeps}
 use Rattle.model.proofs.ColumnRule.{Advanced}
 use Rattle.model.proofs.OneSolution.{exactly-one}
@@ -39,11 +41,13 @@ use Rattle.model.proofs.Lists.{Longest}
 use Rattle.model.proofs.WritingPasses.{pduFits, FewStreams, declared, write-from, next-place, next-further, run-fits, run-full, write-longest}
 use Rattle.model.proofs.PackedVectors.{write-least, write-only}
 use Rattle.model.proofs.ReadBack.{pduVectors, valid-few, read-back, neighbour-reads}
+use Rattle.model.proofs.AddressRefusals.{heldOn, mmrp-0}
 use Rattle.model.proofs.Refusals.{OnPort, start-0, receive-0, advance-0, write-0, report-0}
-use Rattle.bridge.specs.Promises.{Starts, Receives, Advances, Writes, Reports}
+use Rattle.bridge.specs.Promises.{Starts, Receives, ReceivesMmrp, Advances, Writes, Reports}
 use Rattle.bridge.proofs.Started.{started-table}
 use Rattle.bridge.proofs.Starting.{start-accepted}
 use Rattle.bridge.proofs.OnTables.{acted, receive-taken, advance-settles}
+use Rattle.bridge.proofs.OnAddresses.{addressed, addressed-held, mmrp-taken}
 
 -- An accepted start leaves the settings, and zeros behind them: a bridge with these settings, no streams, clock 0.
 pub start-leaves : (t s : List ℕ) (n : ℕ) (u : List ℕ) → Octets s → Starts t s n u → n ≡ 0 →
@@ -88,6 +92,44 @@ receive-registers t p pdu n u o q call z =
       bridge = bridge;
       table = table;
       joined = ap (λ (c : Bridge). ids (c .streams)) bridge ∙ same;
+    }
+
+-- What an accepted receive_mmrp leaves: all events of the PDU's MAC vectors are applied in their order to the addresses of its port,
+-- and nothing else changes.
+pub record RegistersAddresses (t : List ℕ) (p : ℕ) (pdu u : List ℕ) : Type 0 where
+  pub acts : List AddressAct
+  pub read : addressWalk pdu ≡ addressActs acts
+  pub bridge : decode u ≡ addressed (decode t) p acts
+  pub table : u ≡ encode (addressed (decode t) p acts)
+  -- every address that it joins is held on the port afterwards, and no other is added
+  pub joined : heldOn (addressed (decode t) p acts) p ≡ together (heldOn (decode t) p) (addressJoins acts)
+
+registered-all : (b : Bridge) (p : ℕ) (pdu : List ℕ) (es : List AddressAct) → wrongPort (b .settings) p ≡ false → addressWalk pdu ≡ addressActs es →
+    length (doesAddresses (b .clock) es (ownAt (b .own) (p - 1) .addresses)) ≤ addresses →
+    receiveMmrp b p pdu ≡ record { number = 0; bridge = addressed b p es }
+unfolding receiveMmrp addressReading receivedAddresses
+registered-all b p pdu es w e l = rw (w, e, le-leb _ _ l)
+
+pub mmrp-registers : (t : List ℕ) (p : ℕ) (pdu : List ℕ) (n : ℕ) (u : List ℕ) → Octets t → ReceivesMmrp t p pdu n u → n ≡ 0 →
+    RegistersAddresses t p pdu u
+mmrp-registers t p pdu n u o call z =
+    let h = mmrp-0 t p pdu .0 (sym (call .0) ∙ z) in
+    let b = decode t in
+    let es = h .1 .0 in
+    let v : Valid b = valid-decode t o (h .0 .0) in
+    let l = doesAddresses (b .clock) es (ownAt (b .own) (p - 1) .addresses) in
+    let room : length l ≤ addresses = rw (acts-held (b .clock) es (ownAt (b .own) (p - 1) .addresses)) (h .1 .2) in
+    let taken = mmrp-taken t p pdu (h .0 .0) (h .0 .1) es (h .1 .1) room in
+    let all = ap (λ (a : Answer). a .bridge) (registered-all b p pdu es (h .0 .1) (h .1 .1) room) in
+    let kept : Valid (addressed b p es) = rw all at (mmrp-keeps b p pdu v) in
+    let table : u ≡ encode (addressed b p es) = call .1 ∙ ap (λ (c : Call). c .table) taken in
+    let place : p - 1 < length (b .own) = omega (arith, right-port (b .settings) p (h .0 .1), v .eight-own, v .settings .eight-ports) in
+    record {
+      acts = es;
+      read = h .1 .1;
+      bridge = ap decode table ∙ decode-encode (addressed b p es) kept;
+      table = table;
+      joined = addressed-held b p es place;
     }
 
 -- What an accepted advance leaves: the one bridge that the rules of settling give.

@@ -1,12 +1,13 @@
--- The three demands, of the code: theorems whose premises are the contracts of the five calls (specs/Promises), brought together.
+-- The three demands, of the code: theorems whose premises are the contracts of the six calls (specs/Promises), brought together.
 --
--- 1. Every call on every input ends with an answer. For each call its numbers, each exactly when 01's table says; a refusal alters
+-- 1. Every call on every input ends with an answer. For each call its numbers, each exactly when 01's table or 02 says; a refusal alters
 --    nothing; no table left by start and the calls after it breaks a form rule.
 -- 2. Registrations, decisions, reports and written PDUs are what the rules give; and the worked example by calls.
 -- 3. The order among ports never matters.
-pub use Rattle.bridge.proofs.Demand1.{StartAnswers, start-answers, ReceiveAnswers, receive-answers, AdvanceAnswers, advance-answers, WriteAnswers, write-answers, ReportAnswers, report-answers, Left, left-formed}
-pub use Rattle.bridge.proofs.Demand2.{start-leaves, Registers, receive-registers, Decides, advance-decides, Tells, write-tells, Shows, report-shows}
+pub use Rattle.bridge.proofs.Demand1.{StartAnswers, start-answers, ReceiveAnswers, receive-answers, MmrpAnswers, mmrp-answers, AdvanceAnswers, advance-answers, WriteAnswers, write-answers, ReportAnswers, report-answers, Left, left-formed}
+pub use Rattle.bridge.proofs.Demand2.{start-leaves, Registers, receive-registers, RegistersAddresses, mmrp-registers, Decides, advance-decides, Tells, write-tells, Shows, report-shows}
 pub use Rattle.bridge.proofs.AfterAdvance.{ShowsSettled, report-settled}
 pub use Rattle.bridge.proofs.Passing.{Written, Passes, write-passes}
 pub use Rattle.bridge.proofs.Worked.{all-accepted, reports-printed, listener-written, talker-written, wrong-port-refused, early-time-refused}
-pub use Rattle.bridge.proofs.Demand3.{Handed, receive-order-code, SameByCode, demand3-code}
+pub use Rattle.bridge.proofs.Pruning.{pruned-code, pruning-off-code}
+pub use Rattle.bridge.proofs.Demand3.{Takes, Handed, receive-order-code, SameByCode, demand3-code, room-code}

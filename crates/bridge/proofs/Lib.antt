@@ -1,6 +1,8 @@
 pub mod Started
 pub mod Starting
 pub mod OnTables
+pub mod OnAddresses
+pub mod Registering
 pub mod Receiving
 pub mod Reading
 pub mod Demand1
@@ -8,6 +10,7 @@ pub mod Demand2
 pub mod Demand3
 pub mod AfterAdvance
 pub mod Untouched
+pub mod Pruning
 pub mod Passing
 pub mod Worked
 pub mod Demands

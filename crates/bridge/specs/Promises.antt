@@ -4,7 +4,7 @@ use mathlib.Core.Path.{_≡_}
 use mathlib.Core.List.{List}
 use Prim.Native.Nat.{ℕ}
 use Rattle.model.specs.Reports.{Report}
-use Rattle.model.specs.Calls.{startOn, receiveOn, advanceOn, writeOn, reportOn}
+use Rattle.model.specs.Calls.{startOn, receiveOn, receiveMmrpOn, advanceOn, writeOn, reportOn}
 
 -- a table and settings: the number, and the table afterwards
 abbrev pub Starts : List ℕ → List ℕ → ℕ → List ℕ → Type 0
@@ -13,6 +13,10 @@ Starts table settings number after = (number ≡ startOn table settings .number)
 -- a table, a port and a PDU: the number, and the table afterwards
 abbrev pub Receives : List ℕ → ℕ → List ℕ → ℕ → List ℕ → Type 0
 Receives table port pdu number after = (number ≡ receiveOn table port pdu .number) × (after ≡ receiveOn table port pdu .table)
+
+-- the same of an MMRP PDU
+abbrev pub ReceivesMmrp : List ℕ → ℕ → List ℕ → ℕ → List ℕ → Type 0
+ReceivesMmrp table port pdu number after = (number ≡ receiveMmrpOn table port pdu .number) × (after ≡ receiveMmrpOn table port pdu .table)
 
 -- a table and a time: the number, and the table afterwards
 abbrev pub Advances : List ℕ → ℕ → ℕ → List ℕ → Type 0

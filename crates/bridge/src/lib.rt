@@ -1,8 +1,8 @@
-// The bridge: five calls on a table that the caller lends (docs/TABLE.md). None asks anything of its arguments. For every input
+// The bridge: six calls on a table that the caller lends (docs/TABLE.md). None asks anything of its arguments. For every input
 // each promises the one number, the one content of the table and of the buffer: those of crate model's `Calls`, by the relations
 // of specs/Promises.
 ghost use Rattle.reports.specs.Shown.{shown};
-ghost use Rattle.bridge.specs.Promises.{Starts, Receives, Advances, Writes, RefusedWith, Reports};
+ghost use Rattle.bridge.specs.Promises.{Starts, Receives, ReceivesMmrp, Advances, Writes, RefusedWith, Reports};
 use model::pdu;
 use model::refusal;
 
@@ -56,6 +56,35 @@ pub fn receive(table: &mut [u8], port: u32, pdu: &[u8]) -> u8
                 return refusal::ACCEPTED;
             }
             return refusal::STREAMS;
+        }
+        return number;
+    }
+    refusal::TABLE
+}
+
+// Takes an MMRP PDU that arrived on a port, numbered from 1: refused by number, or all of its events applied to the addresses that
+// the port holds.
+pub fn receive_mmrp(table: &mut [u8], port: u32, pdu: &[u8]) -> u8
+    ensures { λ r. ⌜ ReceivesMmrp (now (table .entry)) port (now (pdu .entry)) r (now (table .exit)) ⌝ }
+{
+    let formed = form::is_formed(table);
+    if formed {
+        let ports = table::ports(table);
+        if port == 0 {
+            return refusal::PORT;
+        }
+        if ports < port as usize {
+            return refusal::PORT;
+        }
+        let number = mmrpdu::check(pdu);
+        if number == refusal::ACCEPTED {
+            let clock = table::clock(table);
+            let a = table::own_in(table, port as usize - 1);
+            let fits = mmrp::receive_frame(&mut table[a..a + table::OWN], clock, pdu);
+            if fits {
+                return refusal::ACCEPTED;
+            }
+            return refusal::ADDRESSES;
         }
         return number;
     }

@@ -8,11 +8,11 @@ use lib.Dec.{eqb, ltb}
 use borrow.Author.Tests.{eq-eqb, ne-eqb, lt-ltb, le-ltb}
 use Rattle.octets.specs.Be.{beAt}
 use Rattle.octets.specs.Fields.{fields}
-use Rattle.model.specs.Layout.{bridgePlace, changedPlace, codePlace, firstLatencyPlace, inPort, latencyPlace, priorityPlace}
+use Rattle.model.specs.Layout.{bridgePlace, changedPlace, codePlace, firstLatencyPlace, fixedPlace, inPort, latencyPlace, priorityPlace}
 use Rattle.model.specs.Lists.{isOne}
 use Rattle.model.specs.State.{Settings, Health, sound, broken, Column, none, advertise, failed, Stream, Class, portAt, isPort, cellAt, ownAt, classOf, isNoClass, supports}
 use Rattle.model.specs.Frames.{priorityOf}
-use Rattle.model.specs.Settling.{Scene, boundary, Source, sourceOf, fixedOf, isTalking, healthOf, isBroken, brokenColumn, inboundOf, shares, isKeptOut, Outcome, columnNone, asRegistered, ownFailure, Step, first, outcomeColumn, stepsFrom, lastSteps, steps}
+use Rattle.model.specs.Settling.{Scene, boundary, Source, sourceOf, fixedOf, isTalking, healthOf, isBroken, brokenColumn, isPruned, inboundOf, shares, isKeptOut, Outcome, columnNone, asRegistered, ownFailure, Step, first, outcomeColumn, stepsFrom, lastSteps, steps}
 use Rattle.model.specs.Table.{toPort, toCell, registrationFrom, fixedFrom, toHealth, portFrom}
 use Rattle.model.proofs.SettingsOctets.{octet-field}
 use Rattle.streams.specs.Answers.{sourceIn}
@@ -21,7 +21,7 @@ use Rattle.fanin.specs.Failures.{commonFailure}
 use Rattle.columns.specs.declared.ColumnRead.{ColumnRead}
 use Rattle.columns.specs.declared.ColumnRead.the-variants.{None, Advertise, Failed}
 use Rattle.columns.specs.Answers.{columnShown, sizePlace}
-use Rattle.columns.specs.Stages.{firstStep, lastStep, orElse, earlyColumn}
+use Rattle.columns.specs.Stages.{prunedBy, firstStep, lastStep, orElse, earlyColumn}
 
 -- Whether a cell has a Talker, by its first octet.
 
@@ -71,8 +71,11 @@ module _ (sc : Scene) (port here said : List ℕ) (p t : ℕ) where
   abbrev pub from-c : Column
   from-c = cond (not (eqb (getD said 0 0) 1)) (failed (beAt 8 said bridgePlace) (getD said codePlace 0)) from-d
 
+  abbrev pub from-n : Column
+  from-n = cond (prunedBy sc p (beAt 6 said fixedPlace)) none from-c
+
   abbrev pub from-b : Column
-  from-b = cond (not (supports (toPort port) class)) none from-c
+  from-b = cond (not (supports (toPort port) class)) none from-n
 
   abbrev pub from-a : Column
   from-a = cond (eqb p t) none from-b
@@ -86,7 +89,7 @@ module _ (sc : Scene) (port here said : List ℕ) (p t : ℕ) where
   no-source e = rw (no-talker said e)
 
   pub steps-asked : toPort port ≡ portAt (sc .settings) p → (getD said 0 0 ≡ 0 → ⊥) → decided ≡ from-a
-  unfolding firstStep sourceIn registrationFrom healthOf stepsFrom first outcomeColumn isOne fields fixedFrom priorityOf toPort portFrom
+  unfolding firstStep prunedBy isPruned sourceIn registrationFrom healthOf stepsFrom first outcomeColumn isOne fields fixedFrom priorityOf toPort portFrom
   steps-asked there k = rw (a-talker said k, ← there, octet-field said 0, octet-field said changedPlace, octet-field said codePlace, failed-asked)
 
 -- The last steps, from the failure on every port and what is read of the port and of the Talker's cell.

@@ -7,10 +7,10 @@ use Prim.Native.Nat.{ℕ, zero, suc}
 use lib.ListN.{getD, set}
 use lib.Dec.{eqb, ltb}
 use Rattle.model.specs.Lists.{keep, tabulate}
-use Rattle.model.specs.State.{Settings, Cell, Column, advertise, failed, filters, Declared, nothing, Result, Stream, Totals, Bridge, noTotals, portAt, cellAt, resultAt, Class, noClass, classA, classB, classOf, sameClass, inForce, Port, none}
+use Rattle.model.specs.State.{Settings, Cell, Column, advertise, failed, filters, Declared, nothing, Result, Stream, Totals, Bridge, noTotals, portAt, cellAt, resultAt, ownAt, Class, noClass, classA, classB, classOf, sameClass, inForce, Port, none}
 use Rattle.model.specs.Registrations.{holding}
 use Rattle.model.specs.Bandwidth.{Claim, demand, rateOf, admitted, total}
-use Rattle.model.specs.Settling.{Scene, sceneOf, Source, sourceOf, fixedOf, isSource, registered, isReady, isAdvertise, first, outcomeColumn, stepsFrom, steps, ageOf, latencyOut, entryOf, ageKept, latencyKept, passed, mergeAll}
+use Rattle.model.specs.Settling.{Scene, sceneOf, holdsAddress, Source, sourceOf, fixedOf, isSource, registered, isReady, isAdvertise, first, outcomeColumn, stepsFrom, steps, ageOf, latencyOut, entryOf, ageKept, latencyKept, passed, mergeAll}
 use Rattle.table.specs.Updates.{resulting}
 
 -- (1)
@@ -31,7 +31,11 @@ shownBy column latency heard now old =
 unfoldable pub shownAs : Settings → ℕ → Stream → ℕ → Column → Result
 shownAs st now x p column = shownBy column (latencyOut st p x) (registered (cellAt x p)) now (resultAt x p)
 
--- steps a to f, j and k, and Advertise where none of them applies: on a port, from its cell and the stream's source
+-- n, by the destination: Talkers are pruned, and the port at place p doesn't hold it
+unfoldable pub prunedBy : Scene → ℕ → ℕ → Bool
+prunedBy sc p destination = sc .settings .pruning && not (holdsAddress destination (ownAt (sc .own) p .addresses))
+
+-- steps a to f, j, k and n, and Advertise where none of them applies: on a port, from its cell and the stream's source
 unfoldable pub firstStep : Scene → ℕ → Cell → Source → Column
 firstStep sc p here s = first (outcomeColumn (sc .settings) s) (stepsFrom sc p here s) advertise
 

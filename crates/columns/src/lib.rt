@@ -6,7 +6,7 @@ ghost use lib.ListN.{length};
 ghost use Rattle.octets.specs.Fields.{packed};
 ghost use Rattle.octets.specs.Parts.{patch};
 ghost use Rattle.octets.specs.Be.{beAt};
-ghost use Rattle.model.specs.Layout.{cellSize, entryPlace, portSize, resultSize};
+ghost use Rattle.model.specs.Layout.{cellSize, entryPlace, fixedPlace, portSize, resultSize};
 ghost use Rattle.model.specs.State as state;
 ghost use Rattle.model.specs.State.{isNoClass, classLatency, cellAt, ownAt, failed};
 ghost use Rattle.model.specs.Settling.{sceneOf, isInbound, boundary, fixedOf, ageOf, latencyOut, entryOf, ageKept};
@@ -17,7 +17,7 @@ ghost use Rattle.table.specs.Places.{Stands, PortIn, StandsOn};
 ghost use Rattle.streams.specs.Answers.{classShown, sourceIn};
 ghost use Rattle.fanin.specs.Sets.{setTo};
 ghost use Rattle.fanin.specs.Places.{SettledTo};
-ghost use Rattle.columns.specs.Stages.{shownBy, firstStep, lastStep, earlyColumn, early, earlyAll};
+ghost use Rattle.columns.specs.Stages.{shownBy, prunedBy, firstStep, lastStep, earlyColumn, early, earlyAll};
 ghost use Rattle.columns.specs.Answers.{columnShown, sizePlace, columnWidths, columnNumbers, entryWidths, entrySize};
 ghost use Rattle.columns.specs.Places.{Asked, TalkerAt, FailureAt, changedAt, earlyOne, earlyTo};
 use streams::ClassRead;
@@ -76,7 +76,19 @@ fn at_edge(table: &[u8], p: usize, class: ClassRead) -> bool
     }
 }
 
-// Steps a to f, j and k on the port at place p, whose cell is here, for the Talker's cell said at place t: the first that applies,
+// Whether the port at place p gets no Talker of a cell: Talkers are pruned, and it doesn't hold the destination.
+fn is_pruned(table: &[u8], said: &[u8], p: usize) -> bool
+    requires { ⌜ PortIn (now table) p × (length (now said) ≡ cellSize) ⌝ }
+    ensures { λ r. ⌜ r ≡ prunedBy (sceneOf (decode (now (table .entry)))) p (beAt 6 (now (said .entry)) fixedPlace) ⌝ }
+{
+    if table::pruning(table) {
+        let destination = octets::get(said, cell::DESTINATION, 6);
+        return !addresses::holds(table::own_at(table, p), destination);
+    }
+    false
+}
+
+// Steps a to f, j, k and n on the port at place p, whose cell is here, for the Talker's cell said at place t: the first that applies,
 // Advertise where none does.
 fn first_step(table: &[u8], port: &[u8], here: &[u8], said: &[u8], p: usize, t: usize) -> ColumnRead
     requires { ⌜ Asked (now table) (now port) (now here) (now said) p ⌝ }
@@ -93,6 +105,9 @@ fn first_step(table: &[u8], port: &[u8], here: &[u8], said: &[u8], p: usize, t: 
     }
     let class = streams::class_of(table, octets::get(said, cell::PRIORITY, 1) / 32);
     if !supports(port, class) {
+        return ColumnRead::None;
+    }
+    if is_pruned(table, said, p) {
         return ColumnRead::None;
     }
     if kind != 1 {

@@ -1,12 +1,12 @@
 -- What the code finds and leaves among the octets of what a port holds.
-use mathlib.Core.Path.{_≡_, refl, sym, ap, _∙_, subst}
+use mathlib.Core.Path.{_≡_, refl, sym, ap, _∙_}
 use mathlib.Core.List.{List, [], _∷_, _++_, map}
 use mathlib.Core.Bool.{Bool, true, false}
-use Prim.Native.Nat.{ℕ, _+_, _-_, _<_}
+use Prim.Native.Nat.{ℕ, _+_, _-_, _≤_, _<_}
 use native.Mathlib.Nat.{add-zero}
 use native.Mathlib.Numerals.{add-one}
 use native.Mathlib.Omega.{arith}
-use lib.ListN.{length, getD, take, drop, length-drop, drop-of-length-le}
+use lib.ListN.{length, getD, set, take, drop, length-drop, drop-of-length-le}
 use lib.Seq.{drop-cons, getD-take, getD-drop, length-take-le}
 use borrow.Author.Tests.{eq-eqb, ne-eqb}
 use Rattle.octets.specs.Be.{be}
@@ -14,33 +14,24 @@ use Rattle.octets.specs.Parts.{part, patch}
 use Rattle.octets.specs.Fields.{flat, packed, width}
 use Rattle.octets.proofs.Parts.{lent-part}
 use Rattle.octets.proofs.Frame.{getD-part}
-use Rattle.octets.proofs.Patches.{lent-patch}
-use Rattle.octets.proofs.Fields.{patch-behind, put-field}
+use Rattle.octets.proofs.Patches.{lent-patch, patch-front}
+use Rattle.octets.proofs.Fields.{length-packed-any, patch-behind, put-field}
 use Rattle.model.specs.Layout.{boundaryBPlace, boundaryPlace, boundaryWidths, heldField, slotIn, slotSize, slots, slotsSize}
 use Rattle.model.specs.Lists.{bit}
 use Rattle.model.specs.State.{Settings, Domain, noDomain, domain, Own}
 use Rattle.model.specs.Registrations.{at, changeDomains}
 use Rattle.model.specs.Settling.{expireDomain, isDomain, anyDomain, otherPriority}
 use Rattle.model.specs.Table.{domainNumbers, domainOctets, toDomain, ownOctets, toOwn}
-use Rattle.model.specs.Laid.{FitOwn, LaidOwn}
-use Rattle.model.proofs.Owns.{flags, own-fit-back, slots-length}
+use Rattle.model.specs.Laid.{FitOwn}
+use Rattle.model.proofs.Addresses.{addressesWhole}
+use Rattle.model.proofs.Owns.{numberHeld, slots-length}
 use Rattle.table.specs.Reads.{ReadsDomain}
+pub use Rattle.table.proofs.OwnParts.{laid-own-is, laid-own-fits}
 use Rattle.table.proofs.OwnParts.{reads-domain, slot-part, slot-patch, slot-fits}
 use Rattle.table.proofs.EachStream.{firsts, firsts-length, firsts-at, firsts-all, firsts-keep}
 use Rattle.domains.specs.Classes.{ClassIn, classFrom, flagged}
 use Rattle.domains.proofs.Keeps.{FitDomain, expire-domain-fits}
 use Rattle.domains.proofs.Values.{held-octet}
-
--- Octets that are laid out as what a port holds.
-module _ (s : List ℕ) (l : LaidOwn s) where
-  back : toOwn s ≡ l .thing
-  back = ap toOwn (l .is) ∙ own-fit-back (l .thing) (l .fits)
-
-  pub laid-own-is : s ≡ ownOctets (toOwn s)
-  laid-own-is = l .is ∙ ap ownOctets (sym back)
-
-  pub laid-own-fits : FitOwn (toOwn s)
-  laid-own-fits = subst FitOwn (sym back) (l .fits)
 
 -- One Domain value lent to a call.
 module _ (o : Own) (f : FitOwn o) (s : List ℕ) (e : s ≡ ownOctets o) (i : ℕ) (h : i < slots) where
@@ -64,7 +55,7 @@ module _ (o : Own) (f : FitOwn o) (s : List ℕ) (e : s ≡ ownOctets o) (i : �
 
 -- some settings of a leave time
 abbrev pub leaving : ℕ → Settings
-leaving leave = record { bridgeId = 0; priorityA = 0; priorityB = 0; leaveTime = leave; vlan = 0; fanIn = 0; ports = [] }
+leaving leave = record { bridgeId = 0; priorityA = 0; priorityB = 0; leaveTime = leave; pruning = false; vlan = 0; fanIn = 0; ports = [] }
 
 module _ (st : Settings) (time : ℕ) where
   -- the first i expired
@@ -77,6 +68,7 @@ module _ (st : Settings) (time : ℕ) where
     lapsed-fits i = record {
       slotted = firsts-length (expireDomain st time) i (o .domains) ∙ f .slotted;
       domains = firsts-keep (expireDomain st time) FitDomain (expire-domain-fits st time) i (o .domains) (f .domains);
+      addresses = f .addresses;
     }
 
     pub lapsed-none : lapsedTo 0 o ≡ o
@@ -170,13 +162,25 @@ module _ (s : List ℕ) (from : ℕ) (k : ClassIn s from) where
 
 -- The flags.
 
-pub flags-put : (o : Own) → length (o .domains) ≡ slots → (a b : Bool)
-    → patch boundaryBPlace 1 (be 1 (bit b)) (patch boundaryPlace 1 (be 1 (bit a)) (ownOctets o)) ≡ ownOctets (flagged a b o)
-unfolding ownOctets width
-flags-put o n a b =
-    let ds = flat domainOctets (o .domains) in
-    let vs = bit (o .boundaryA) ∷ bit (o .boundaryB) ∷ [] in
-    let ws = bit a ∷ bit (o .boundaryB) ∷ [] in
-    ap (patch boundaryBPlace 1 (be 1 (bit b))) (patch-behind ds (flags o) (be 1 (bit a)) slotsSize 0 1 (slots-length o n) ∙ ap (λ (r : List ℕ). ds ++ r) (put-field boundaryWidths vs 0 (bit a) refl))
-    ∙ patch-behind ds (packed boundaryWidths ws) (be 1 (bit b)) slotsSize 1 1 (slots-length o n)
-    ∙ ap (λ (r : List ℕ). ds ++ r) (put-field boundaryWidths ws 1 (bit b) refl)
+module _ (o : Own) (n : length (o .domains) ≡ slots) where
+  -- what a port holds, with these numbers for its flags
+  abbrev holding : List ℕ → List ℕ
+  holding vs = flat domainOctets (o .domains) ++ (packed boundaryWidths vs ++ (numberHeld o ++ addressesWhole (o .addresses)))
+
+  -- one of the two put
+  one-put : (vs : List ℕ) → length vs ≡ 2 → (i v : ℕ) → i < 2 → width (take i boundaryWidths) ≡ i → getD boundaryWidths i 0 ≡ 1
+      → patch (slotsSize + i) 1 (be 1 v) (holding vs) ≡ holding (set vs i v)
+  unfolding width
+  one-put vs two i v h at one =
+      let ds = flat domainOctets (o .domains) in
+      let behind = numberHeld o ++ addressesWhole (o .addresses) in
+      let room : i + 1 ≤ length (packed boundaryWidths vs) = omega (arith, length-packed-any boundaryWidths vs two) in
+      patch-behind ds (packed boundaryWidths vs ++ behind) (be 1 v) slotsSize i 1 (slots-length o n)
+      ∙ ap (λ (r : List ℕ). ds ++ r) (patch-front (packed boundaryWidths vs) behind (be 1 v) i 1 room)
+      ∙ ap (λ (r : List ℕ). ds ++ (r ++ behind)) (rw (at, one) at (put-field boundaryWidths vs i v two))
+
+  pub flags-put : (a b : Bool) → patch boundaryBPlace 1 (be 1 (bit b)) (patch boundaryPlace 1 (be 1 (bit a)) (ownOctets o)) ≡ ownOctets (flagged a b o)
+  unfolding ownOctets width
+  flags-put a b =
+      ap (patch boundaryBPlace 1 (be 1 (bit b))) (one-put (bit (o .boundaryA) ∷ bit (o .boundaryB) ∷ []) refl 0 (bit a) (omega arith) refl refl)
+      ∙ one-put (bit a ∷ bit (o .boundaryB) ∷ []) refl 1 (bit b) (omega arith) refl refl

@@ -20,4 +20,4 @@ classFrom from ds = take 8 (drop from ds)
 
 -- the flags of class A and class B as they are decided
 abbrev pub flagged : Bool → Bool → Own → Own
-flagged a b o = record { domains = o .domains; boundaryA = a; boundaryB = b }
+flagged a b o = record { domains = o .domains; boundaryA = a; boundaryB = b; addresses = o .addresses }

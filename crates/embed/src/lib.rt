@@ -1,9 +1,9 @@
-// The five calls for programs in C and Rust (include/srp.h, docs/EMBEDDING.md): crate bridge's, under names of their own. A slice
+// The six calls for programs in C and Rust (include/srp.h, docs/EMBEDDING.md): crate bridge's, under names of their own. A slice
 // passes as a pointer and a length; what a call answers beside its number goes to where the caller points. None asks anything of
 // its arguments, and each promises what the call below it promises.
 ghost use mathlib.Core.Path.{_≡_};
 ghost use Rattle.reports.specs.Shown.{columnWord, declared, entered};
-ghost use Rattle.bridge.specs.Promises.{Starts, Receives, Advances, Writes};
+ghost use Rattle.bridge.specs.Promises.{Starts, Receives, ReceivesMmrp, Advances, Writes};
 ghost use Rattle.model.specs.Table.{declaredNumber, entryNumber};
 ghost use Rattle.embed.specs.Boundary.{wordNumber, Told};
 use reports::ColumnShown;
@@ -25,6 +25,13 @@ pub extern "C" fn srp_receive(table: &mut [u8], port: u32, pdu: &[u8]) -> u8
     ensures { λ r. ⌜ Receives (now (table .entry)) port (now (pdu .entry)) r (now (table .exit)) ⌝ }
 {
     bridge::receive(table, port, pdu)
+}
+
+#[no_mangle]
+pub extern "C" fn srp_receive_mmrp(table: &mut [u8], port: u32, pdu: &[u8]) -> u8
+    ensures { λ r. ⌜ ReceivesMmrp (now (table .entry)) port (now (pdu .entry)) r (now (table .exit)) ⌝ }
+{
+    bridge::receive_mmrp(table, port, pdu)
 }
 
 #[no_mangle]

@@ -7,7 +7,7 @@ use lib.ListN.{drop}
 use lib.Dec.{leb, eqb}
 use borrow.Author.Tests.{le-leb, lt-leb}
 use Rattle.octets.specs.Be.{beAt}
-use Rattle.model.specs.Layout.{domainVlanPlace, fanInPlace, portSize, portsPlace, portsUnit, priorityAUnit, priorityBUnit, wordPlace}
+use Rattle.model.specs.Layout.{domainVlanPlace, fanInPlace, portSize, portsPlace, portsUnit, priorityAUnit, priorityBUnit, pruningUnit, wordPlace}
 use Rattle.model.specs.Lists.{allTrue}
 use Rattle.model.specs.Table.{everyPart, portsField, portRule, settingsRules}
 
@@ -21,8 +21,8 @@ module _ (s : List ℕ) (w : ℕ) (e : w ≡ beAt 3 s wordPlace) where
       ∷ not (eqb (w / priorityAUnit % 8) (w / priorityBUnit % 8))
       ∷ leb 1 (w % priorityBUnit)
       ∷ everyPart portSize portRule (w / portsUnit) (drop portsPlace s)
-      ∷ leb 1 (beAt 2 s domainVlanPlace)
-      ∷ leb (beAt 2 s domainVlanPlace) 4094
+      ∷ leb 1 (beAt 2 s domainVlanPlace % pruningUnit)
+      ∷ leb (beAt 2 s domainVlanPlace % pruningUnit) 4094
       ∷ leb (beAt 1 s fanInPlace) 8
       ∷ [])
       ≡ allTrue (settingsRules s)

@@ -9,13 +9,16 @@ ghost use Prim.Native.Nat.{_+_, _*_, _%_, _≤_};
 ghost use lib.ListN.{length, getD, take, drop};
 ghost use lib.Dec.{leb, eqb};
 ghost use Rattle.octets.specs.Fields.{fields};
-ghost use Rattle.model.specs.Layout.{cellSize, cellWidths, cellsSize, nameWidths, ownSize, portPlace, portSize, portsPlace, recordSize, resultSize, resultsSize, settledPriorityPlace, slotSize, slots, slotsSize, tableLength, totalSize};
+ghost use Rattle.model.specs.Layout.{addressSize, cellSize, cellWidths, cellsSize, nameWidths, ownSize, portPlace, portSize, portsPlace, recordSize, resultSize, resultsSize, settledPriorityPlace, slotSize, slots, slotsSize, tableLength, totalSize};
 ghost use Rattle.model.specs.Lists.{allTrue, implies, parts, bit};
 ghost use Rattle.model.specs.Table.{allZero, everyPart};
 ghost use Rattle.model.specs.Table.{portsField, toPort, portRule, settingsRules, settingsFormed};
-ghost use Rattle.model.specs.Table.{leavingRule, cellRules, cellFormed, toCell, resultFormed, toResult, holds, talkers, declarers, domainFormed, ownFormed, storedFormed, everyPort, streamFormed};
-ghost use Rattle.model.specs.Table.{toTotals, atMost, totalsWithin, idOf, rising, settingsPart, tableRules, formed};
+ghost use Rattle.model.specs.Table.{leavingRule, cellRules, cellFormed, toCell, resultFormed, toResult, holds, talkers, declarers, domainFormed, addressFormed, ownRules, ownFormed, storedFormed, everyPort, streamFormed};
+ghost use Rattle.model.specs.Table.{toTotals, atMost, totalsWithin, idOf, macOf, rising, settingsPart, tableRules, formed};
 ghost use Rattle.form.specs.Asks.{TotalsGiven, ResultsGiven, CellsFound};
+use table::ADDRESS;
+use table::ADDRESSES;
+use table::ADDRESSES_HELD;
 use table::BOUNDARY;
 use table::BOUNDARY_B;
 use table::CELL;
@@ -25,6 +28,7 @@ use table::COUNT;
 use table::FAN_IN;
 use table::HEAD;
 use table::LENGTH;
+use table::MOST_ADDRESSES;
 use table::OWN;
 use table::OWNS;
 use table::PORT;
@@ -32,6 +36,7 @@ use table::PORTS;
 use table::PORTS_UNIT;
 use table::PRIORITY_A_UNIT;
 use table::PRIORITY_B_UNIT;
+use table::PRUNING_UNIT;
 use table::RECORD;
 use table::RECORDS;
 use table::RESULT;
@@ -44,6 +49,7 @@ use table::TOTAL;
 use table::TOTAL_B;
 use table::TOTALS;
 use table::VLAN;
+use table::address;
 use table::cell;
 use table::port;
 use table::result;
@@ -314,7 +320,7 @@ fn settings_rules(settings: &[u8]) -> bool
     if 8 < ports {
         return false;
     }
-    let vlan = octets::get(settings, VLAN, 2);
+    let vlan = octets::get(settings, VLAN, 2) % PRUNING_UNIT;
     let fan_in = octets::get(settings, FAN_IN, 1);
     (1 <= ports)
         & (head / PRIORITY_A_UNIT % 8 != head / PRIORITY_B_UNIT % 8)
@@ -427,12 +433,70 @@ fn slots_formed(values: &[u8], clock: u64, leave: u64) -> bool
     ok
 }
 
-// The rules of what a port holds by itself: its Domain values, and its flags.
+// The rules of an address record: it is registered.
+fn address_formed(address: &[u8], clock: u64, leave: u64) -> bool
+    requires { ⌜ length (now address) ≡ addressSize ⌝ }
+    ensures { λ r. ⌜ r ≡ addressFormed clock leave (now (address .entry)) ⌝ }
+{
+    let since = octets::get(address, address::SINCE, 4);
+    (address[address::REGISTERED] == 1)
+        & leaving_formed(address[address::LEAVES], since, clock, leave)
+}
+
+// The first count address records keep their rules.
+fn addresses_formed(records: &[u8], count: usize, clock: u64, leave: u64) -> bool
+    requires { ⌜ count * addressSize ≤ length (now records) ⌝ }
+    ensures { λ r. ⌜ r ≡ everyPart addressSize (addressFormed clock leave) count (now (records .entry)) ⌝ }
+{
+    let mut ok = true;
+    let mut i: usize = 0;
+    while i < count {
+        let a = i * ADDRESS;
+        ok = ok & address_formed(&records[a..a + ADDRESS], clock, leave);
+        i += 1;
+    }
+    ok
+}
+
+// The addresses of the first count records rise.
+fn addresses_rise(records: &[u8], count: usize) -> bool
+    requires { ⌜ count * addressSize ≤ length (now records) ⌝ }
+    ensures { λ r. ⌜ r ≡ rising (parts addressSize macOf count (now (records .entry))) ⌝ }
+{
+    let mut ok = true;
+    let mut i: usize = 0;
+    while i + 1 < count {
+        let a = i * ADDRESS + address::MAC;
+        ok = ok & (octets::get(records, a, 6) < octets::get(records, a + ADDRESS, 6));
+        i += 1;
+    }
+    ok
+}
+
+// The rules of the addresses that a port holds; what follows them is zero.
+fn held_formed(own: &[u8], clock: u64, leave: u64) -> bool
+    requires { ⌜ length (now own) ≡ ownSize ⌝ }
+    ensures { λ r. ⌜ r ≡ allTrue (drop 3 (ownRules clock leave (now (own .entry)))) ⌝ }
+{
+    let count = own[ADDRESSES_HELD] as usize;
+    if MOST_ADDRESSES < count {
+        return false;
+    }
+    let records = &own[ADDRESSES..OWN];
+    addresses_formed(records, count, clock, leave)
+        & addresses_rise(records, count)
+        & zero_from(records, count * ADDRESS)
+}
+
+// The rules of what a port holds by itself: its Domain values, its flags and its addresses.
 fn own_formed(own: &[u8], clock: u64, leave: u64) -> bool
     requires { ⌜ length (now own) ≡ ownSize ⌝ }
     ensures { λ r. ⌜ r ≡ ownFormed clock leave (now (own .entry)) ⌝ }
 {
-    slots_formed(&own[0..BOUNDARY], clock, leave) & (own[BOUNDARY] <= 1) & (own[BOUNDARY_B] <= 1)
+    slots_formed(&own[0..BOUNDARY], clock, leave)
+        & (own[BOUNDARY] <= 1)
+        & (own[BOUNDARY_B] <= 1)
+        & held_formed(own, clock, leave)
 }
 
 // What each port holds keeps its rules.

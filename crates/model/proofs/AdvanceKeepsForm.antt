@@ -3,14 +3,15 @@ use mathlib.Core.Path.{_≡_, refl, sym, _∙_, ap}
 use mathlib.Core.List.{List, [], _∷_, map}
 use mathlib.Core.Bool.{Bool, true, false, cond, not, _&&_, false≢true}
 use Prim.Native.Nat.{ℕ, zero, suc, _+_, _/_, _^_, _≤_, _<_}
+use native.Mathlib.Nat.{le-trans}
 use native.Mathlib.Omega.{arith}
 use lib.ListN.{length, getD, drop, length-map}
 use lib.Dec.{ltb, leb, eqb}
-use borrow.Author.Tests.{ltb-false, leb-false, le-ltb, le-leb, eq-eqb, ne-eqb, ltb-true, lt-ltb, eqb-true, eqb-false}
+use borrow.Author.Tests.{ltb-false, leb-false, le-ltb, le-leb, eq-eqb, ne-eqb, ltb-true, lt-ltb, eqb-true, eqb-false, not-true}
 use Rattle.model.specs.Lists.{All, keep, tabulate, implies, bit}
-use Rattle.model.specs.State.{Port, Settings, Leaving, stays, since, Health, sound, broken, Talker, noTalker, talker, Listener, noListener, listener, Cell, Domain, noDomain, domain, Own, Column, none, advertise, failed, Entry, noEntry, filters, forwards, Declared, nothing, tells, Result, Stream, Totals, Bridge, empty, unsettled, noFixed, noOwn, noPort, ownAt, portAt, isPort, cellAt, resultAt, Class, classA, classB, inForce, noClass, sameClass, supports}
-use Rattle.model.specs.Registrations.{Answer, ids}
-use Rattle.model.specs.Settling.{Scene, sceneOf, flagOf, decideOwn, decideOwns, expired, expireDomain, expireTalker, expireListener, expireCell, expire, held, remain, Source, nowhere, from, source, sourceOf, isSource, fixedOf, healthOf, registered, isReady, Outcome, columnNone, asRegistered, ownFailure, Step, first, brokenColumn, outcomeColumn, stepsFrom, steps, ageOf, claims, reservedA, limitOn, byBandwidth, columnOf, capped, latencyOut, entryOf, ageKept, latencyKept, decideAt, decide, totalOn, totalsOn, settle, advance, isTalking, isHearing, Origin, streamClass, clear, Inbound, inboundOf, inboundsOf, lastSteps}
+use Rattle.model.specs.State.{Port, Settings, Leaving, stays, since, Health, sound, broken, Talker, noTalker, talker, Listener, noListener, listener, Cell, Domain, noDomain, domain, Presence, vacant, present, Address, Own, Column, none, advertise, failed, Entry, noEntry, filters, forwards, Declared, nothing, tells, Result, Stream, Totals, Bridge, empty, unsettled, noFixed, noOwn, noPort, ownAt, portAt, isPort, cellAt, resultAt, Class, classA, classB, inForce, noClass, sameClass, supports}
+use Rattle.model.specs.Registrations.{Answer, ids, macs}
+use Rattle.model.specs.Settling.{Scene, sceneOf, flagOf, decideOwn, decideOwns, expired, expireDomain, isPresent, remainAddresses, expireTalker, expireListener, expireCell, expire, held, remain, Source, nowhere, from, source, sourceOf, isSource, fixedOf, healthOf, registered, isReady, Outcome, columnNone, asRegistered, ownFailure, Step, first, brokenColumn, outcomeColumn, stepsFrom, steps, ageOf, claims, reservedA, limitOn, byBandwidth, columnOf, capped, latencyOut, entryOf, ageKept, latencyKept, decideAt, decide, totalOn, totalsOn, settle, advance, isTalking, isHearing, Origin, streamClass, clear, Inbound, inboundOf, inboundsOf, lastSteps}
 use Rattle.model.specs.Bandwidth.{sort, total, reserved}
 use Rattle.model.specs.Table.{totalsWithin, talkers, hasColumn, declares, declarers, forListener, storedRules, storedFormed, atMost}
 use Rattle.model.proofs.Lists.{all-append, all-getD, all-tabulate, at-place, and-false, implies-true, true-all}
@@ -18,7 +19,7 @@ use Rattle.model.proofs.Parts.{_also_}
 use Rattle.model.proofs.Stored.{talker-counts, other-counts, one-declares}
 use Rattle.model.proofs.Admission.{within}
 use Rattle.model.proofs.Owns.{no-own-valid}
-use Rattle.model.proofs.Valid.{ValidLeaving, ValidFixed, ValidHealth, ValidRegistration, ValidTalker, ValidListener, ValidCell, ValidDomain, ValidOwn, ValidColumn, ValidAge, ValidResult, ValidStream, Rising, Valid, again-valid}
+use Rattle.model.proofs.Valid.{ValidLeaving, ValidFixed, ValidHealth, ValidRegistration, ValidTalker, ValidListener, ValidCell, ValidDomain, ValidPresence, ValidAddress, ValidOwn, ValidColumn, ValidAge, ValidResult, ValidStream, Rising, Valid, again-valid}
 
 -- Lists.
 
@@ -92,9 +93,53 @@ module _ (st : Settings) (clock now : ℕ) (later : clock ≤ now) where
       go true e = tt
       go false e = (v .0, leaving-remains l e (v .1))
 
+  presence-remains : (h : Presence) → isPresent st now h ≡ true → ValidPresence clock (st .leaveTime) h → ValidPresence now (st .leaveTime) h
+  unfolding isPresent
+  presence-remains vacant e v = v
+  presence-remains (present l) e v = leaving-remains l (not-true (expired st now l) e) v
+
+  addresses-remain : (l : List Address) → All (ValidAddress clock (st .leaveTime)) l → All (ValidAddress now (st .leaveTime)) (remainAddresses st now l)
+  unfolding remainAddresses
+  addresses-remain [] a = tt
+  addresses-remain (x ∷ l) a = go (isPresent st now (x .presence)) refl (addresses-remain l (a .1))
+    where
+      go : (t : Bool) → isPresent st now (x .presence) ≡ t → All (ValidAddress now (st .leaveTime)) (remainAddresses st now l) →
+          All (ValidAddress now (st .leaveTime)) (keep t x (remainAddresses st now l))
+      go true e ih = (record { mac = a .0 .mac; presence = presence-remains (x .presence) e (a .0 .presence) }, ih)
+      go false e ih = ih
+
   empty-remains : (c : Cell) → c ≡ empty → expireCell st now c ≡ empty
   unfolding expireCell expireTalker expireListener empty
   empty-remains c e = rw e
+
+-- Addresses: those that remain are fewer, and rise.
+module _ (st : Settings) (now : ℕ) where
+  pub fewer-addresses : (l : List Address) → length (remainAddresses st now l) ≤ length l
+  unfolding remainAddresses
+  fewer-addresses [] = omega arith
+  fewer-addresses (a ∷ l) = go (isPresent st now (a .presence)) (fewer-addresses l)
+    where
+      go : (t : Bool) → length (remainAddresses st now l) ≤ length l → length (keep t a (remainAddresses st now l)) ≤ suc (length l)
+      go true ih = omega arith
+      go false ih = omega arith
+
+  pub macs-remain : (P : ℕ → Type 0) (l : List Address) → All P (macs l) → All P (macs (remainAddresses st now l))
+  unfolding macs remainAddresses
+  macs-remain P [] h = tt
+  macs-remain P (a ∷ l) h = go (isPresent st now (a .presence)) (macs-remain P l (h .1))
+    where
+      go : (t : Bool) → All P (macs (remainAddresses st now l)) → All P (macs (keep t a (remainAddresses st now l)))
+      go true ih = (h .0, ih)
+      go false ih = ih
+
+  pub macs-rise : (l : List Address) → Rising (macs l) → Rising (macs (remainAddresses st now l))
+  unfolding macs remainAddresses Rising
+  macs-rise [] r = tt
+  macs-rise (a ∷ l) r = go (isPresent st now (a .presence)) (macs-rise l (r .1))
+    where
+      go : (t : Bool) → Rising (macs (remainAddresses st now l)) → Rising (macs (keep t a (remainAddresses st now l)))
+      go true ih = (macs-remain (λ j. a .mac < j) l (r .0), ih)
+      go false ih = ih
 
 -- What a port holds by itself.
 module _ (st : Settings) (clock now : ℕ) (later : clock ≤ now) (o : List Own) (v : All (ValidOwn clock (st .leaveTime)) o) where
@@ -107,11 +152,16 @@ module _ (st : Settings) (clock now : ℕ) (later : clock ≤ now) (o : List Own
         domains =
             all-mapped (ValidDomain clock (st .leaveTime)) (ValidDomain now (st .leaveTime)) (expireDomain st now)
             (domain-remains st clock now later) (ownAt o p .domains) (w .domains);
+        addresses = record {
+          at-most-64 = le-trans (fewer-addresses st now (ownAt o p .addresses)) (w .addresses .at-most-64);
+          each = addresses-remain st clock now later (ownAt o p .addresses) (w .addresses .each);
+          ascending = macs-rise st now (ownAt o p .addresses) (w .addresses .ascending);
+        };
       }
 
   -- a place that is no port holds nothing
   none-there : All (λ h. h ≡ noOwn) (drop (length (st .ports)) o) → (p : ℕ) → length (st .ports) ≤ p → decideOwn st now o p ≡ noOwn
-  unfolding decideOwn noOwn expireDomain flagOf isPort
+  unfolding decideOwn noOwn expireDomain flagOf isPort remainAddresses
   none-there n p h =
       let e : ownAt o p ≡ noOwn = getD-past (λ h. h ≡ noOwn) (length (st .ports)) o p noOwn h refl n in
       rw (e, le-ltb p (length (st .ports)) h)

@@ -8,9 +8,9 @@ use native.Mathlib.Omega.{arith}
 use native.Mathlib.Decide.{ℕ-discrete, decLt}
 use lib.ListN.{replicate}
 use borrow.Author.Tests.{lt-ltb, le-ltb, eq-eqb, ne-eqb}
-use Rattle.model.specs.State.{Cell, Own, Stream, fresh, empty, blank}
+use Rattle.model.specs.State.{Cell, Own, Stream, fresh, empty, noOwn, ownAt, blank}
 use Rattle.model.specs.Registrations.{Act, leaveAll, leave, talk, listen, ofDomain, Kind, at, change, begun, touch, apply, applyAll, quit, quitTalker, quitListener, does, reach, changeDomains, doesDomain, applyOwn, applyOwns}
-use Rattle.model.proofs.Lists.{at-commute}
+use Rattle.model.proofs.Lists.{at-commute, at-other}
 
 abbrev pub Change : Type 0
 Change = List Cell → List Cell
@@ -224,20 +224,52 @@ module _ (now p q : ℕ) (n : p ≡ q → ⊥) where
   unfolding applyAll
   frames-commute es fs s = many-commute (apply now) (applyAll now) (λ p s. refl) (λ p a es s. refl) p q acts-commute es fs s
 
-  -- and of what the ports hold by themselves, which only Domain acts change
-  own-acts-commute : (a b : Act) (o : List Own) → applyOwn now p a (applyOwn now q b o) ≡ applyOwn now q b (applyOwn now p a o)
-  unfolding applyOwn
-  own-acts-commute (leaveAll k) b o = refl
-  own-acts-commute (leave k i) b o = refl
-  own-acts-commute (talk i f v) b o = refl
-  own-acts-commute (listen i r) b o = refl
-  own-acts-commute (ofDomain d) (leaveAll k) o = refl
-  own-acts-commute (ofDomain d) (leave k i) o = refl
-  own-acts-commute (ofDomain d) (talk i f v) o = refl
-  own-acts-commute (ofDomain d) (listen i r) o = refl
-  own-acts-commute (ofDomain d) (ofDomain e) o =
-      at-commute p q (changeDomains (doesDomain now d)) (changeDomains (doesDomain now e)) n o
+-- What is done to what the ports hold by themselves is one change at a place.
+pub record ChangesAt (p : ℕ) (f : List Own → List Own) : Type 0 where
+  pub change : Own → Own
+  pub is : (o : List Own) → f o ≡ at p change o
 
-  pub own-frames-commute : (es fs : List Act) (o : List Own) → applyOwns now p es (applyOwns now q fs o) ≡ applyOwns now q fs (applyOwns now p es o)
-  unfolding applyOwns
-  own-frames-commute es fs o = many-commute (applyOwn now) (applyOwns now) (λ p o. refl) (λ p a es o. refl) p q own-acts-commute es fs o
+at-same : (p : ℕ) (o : List Own) → o ≡ at p (λ x. x) o
+unfolding at
+at-same p [] = refl
+at-same zero (x ∷ o) = refl
+at-same (suc p) (x ∷ o) = ap (λ (l : List Own). x ∷ l) (at-same p o)
+
+at-twice : (p : ℕ) (u v : Own → Own) (o : List Own) → at p v (at p u o) ≡ at p (λ x. v (u x)) o
+unfolding at
+at-twice p u v [] = refl
+at-twice zero u v (x ∷ o) = refl
+at-twice (suc p) u v (x ∷ o) = ap (λ (l : List Own). x ∷ l) (at-twice p u v o)
+
+pub no-change : (p : ℕ) → ChangesAt p (λ o. o)
+no-change p = record { change = λ x. x; is = at-same p }
+
+-- acts of a frame: only those about Domain values change anything
+act-change : (now p : ℕ) (a : Act) → ChangesAt p (applyOwn now p a)
+unfolding applyOwn
+act-change now p (leaveAll k) = no-change p
+act-change now p (leave k i) = no-change p
+act-change now p (talk i f v) = no-change p
+act-change now p (listen i r) = no-change p
+act-change now p (ofDomain d) = record { change = changeDomains (doesDomain now d); is = λ o. refl }
+
+pub acts-change : (now p : ℕ) (es : List Act) → ChangesAt p (applyOwns now p es)
+unfolding applyOwns
+acts-change now p [] = no-change p
+acts-change now p (a ∷ es) =
+    let first = act-change now p a in
+    let rest = acts-change now p es in
+    record {
+      change = λ x. rest .change (first .change x);
+      is = λ o. rest .is (applyOwn now p a o) ∙ ap (at p (rest .change)) (first .is o) ∙ at-twice p (first .change) (rest .change) o;
+    }
+
+-- changes at two places commute, and leave each what it finds
+module _ {f g : List Own → List Own} (p q : ℕ) (c : ChangesAt p f) (d : ChangesAt q g) (n : p ≡ q → ⊥) where
+  pub changes-apart : (o : List Own) → f (g o) ≡ g (f o)
+  changes-apart o =
+      c .is (g o) ∙ ap (at p (c .change)) (d .is o) ∙ at-commute p q (c .change) (d .change) n o
+      ∙ sym (d .is (f o) ∙ ap (at q (d .change)) (c .is o))
+
+pub changes-other : {f : List Own → List Own} (p : ℕ) (c : ChangesAt p f) (q : ℕ) → (p ≡ q → ⊥) → (o : List Own) → ownAt (f o) q ≡ ownAt o q
+changes-other p c q n o = rw (c .is o) (at-other p (c .change) o q noOwn n)

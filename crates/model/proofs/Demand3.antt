@@ -1,6 +1,6 @@
--- Demand 3: the order among ports never matters. Frames handed over in two orders that both keep each port's own order get the
--- same answers and leave the same table; settled at one time, both tables hold what the rules give: A's total stays within
--- limit A, and both totals together within the sum of limits.
+-- Demand 3: the order among ports never matters. Frames of MSRP and MMRP handed over in two orders that both keep each port's own
+-- order get the same answers and leave the same table; settled at one time, both tables hold what the rules give: A's total stays
+-- within limit A, and both totals together within the sum of limits.
 use mathlib.Core.Path.{_≡_, refl, sym, _∙_, ap, subst}
 use mathlib.Core.List.{List, [], _∷_}
 use mathlib.Core.Bool.{Bool, true, false, cond}
@@ -14,17 +14,19 @@ use Rattle.model.specs.State.{Stream, Bridge}
 use Rattle.model.specs.Registrations.{Answer, together, ids}
 use Rattle.model.specs.Settling.{settle, advance}
 use Rattle.model.specs.Table.{encode, decode, formed, clockField}
-use Rattle.model.specs.Calls.{Call, leaves, onTable, receive, receiveOn, advanceOn, answersOn, afterOn, asked}
+use Rattle.model.specs.Calls.{Call, leaves, onTable, receive, receiveOn, receiveMmrp, receiveMmrpOn, advanceOn, Frame, msrp, mmrp, pduOf, receiveFrame, receiveFrameOn, answersOn, afterOn, asked}
 use Rattle.model.proofs.Lists.{on-same, on-other}
 use Rattle.model.proofs.Valid.{ValidStream, Valid}
 use Rattle.model.proofs.ColumnRule.{Small, Advanced, advanced}
 use Rattle.model.proofs.Tables.{decode-encode, formed-encode, valid-decode, encode-decode}
 use Rattle.model.proofs.ReceiveKeepsForm.{receive-keeps}
 use Rattle.model.proofs.AdvanceKeepsForm.{settle-keeps}
+use Rattle.model.proofs.ReceivedAddresses.{mmrp-unchanged}
+use Rattle.model.proofs.AddressesKept.{mmrp-keeps}
 use Rattle.model.proofs.FrameOrder.{afterFrames, frameAnswers, refused-changes-nothing, after-settings, after-clock, after-ids, order}
 
 -- Frames f and g handed over to a table t, and both settled at a time.
-pub record Same (f g : List (ℕ × List ℕ)) (t : List ℕ) (now : ℕ) : Type 0 where
+pub record Same (f g : List (ℕ × Frame)) (t : List ℕ) (now : ℕ) : Type 0 where
   -- on each port the answers agree frame by frame
   pub answers : (p : ℕ) → on p (answersOn f t) ≡ on p (answersOn g t)
   -- the tables are equal, before settling and after
@@ -85,33 +87,49 @@ call b f v h = rw (formed-encode b v, decode-encode b v) (go (eqb (f b .number) 
     go true e = rw (eqb-true (f b .number) 0 e)
     go false e = rw (h (eqb-false (f b .number) 0 e))
 
+pub mmrp-call : (b : Bridge) (p : ℕ) (pdu : List ℕ) → Valid b →
+    receiveMmrpOn (encode b) p pdu ≡ record { number = receiveMmrp b p pdu .number; table = encode (receiveMmrp b p pdu .bridge) }
+unfolding receiveMmrpOn
+mmrp-call b p pdu v = call b (λ c. receiveMmrp c p pdu) v (mmrp-unchanged b p pdu)
+
 pub receive-call : (b : Bridge) (p : ℕ) (pdu : List ℕ) → Valid b →
     receiveOn (encode b) p pdu ≡ record { number = receive b p pdu .number; table = encode (receive b p pdu .bridge) }
 unfolding receiveOn
 receive-call b p pdu v = call b (λ c. receive c p pdu) v (refused-changes-nothing b p pdu)
 
-abbrev FramesInOctets : List (ℕ × List ℕ) → Type 0
-FramesInOctets f = All (λ a. Octets (a .1)) f
+frame-call : (b : Bridge) (p : ℕ) (x : Frame) → Valid b →
+    receiveFrameOn (encode b) p x ≡ record { number = receiveFrame b p x .number; table = encode (receiveFrame b p x .bridge) }
+unfolding receiveFrameOn receiveFrame
+frame-call b p (msrp pdu) v = receive-call b p pdu v
+frame-call b p (mmrp pdu) v = mmrp-call b p pdu v
 
-valid-after : (f : List (ℕ × List ℕ)) (b : Bridge) → FramesInOctets f → Valid b → Valid (afterFrames f b)
+pub frame-keeps : (b : Bridge) (p : ℕ) (x : Frame) → Octets (pduOf x) → Valid b → Valid (receiveFrame b p x .bridge)
+unfolding receiveFrame
+frame-keeps b p (msrp pdu) o v = receive-keeps b p pdu o v
+frame-keeps b p (mmrp pdu) o v = mmrp-keeps b p pdu v
+
+abbrev pub FramesInOctets : List (ℕ × Frame) → Type 0
+FramesInOctets f = All (λ a. Octets (pduOf (a .1))) f
+
+pub valid-after : (f : List (ℕ × Frame)) (b : Bridge) → FramesInOctets f → Valid b → Valid (afterFrames f b)
 unfolding afterFrames
 valid-after [] b o v = v
-valid-after (a ∷ f) b o v = valid-after f (receive b (a .0) (a .1) .bridge) (o .1) (receive-keeps b (a .0) (a .1) (o .0) v)
+valid-after (a ∷ f) b o v = valid-after f (receiveFrame b (a .0) (a .1) .bridge) (o .1) (frame-keeps b (a .0) (a .1) (o .0) v)
 
-after-table : (f : List (ℕ × List ℕ)) (b : Bridge) → FramesInOctets f → Valid b → afterOn f (encode b) ≡ encode (afterFrames f b)
+pub after-table : (f : List (ℕ × Frame)) (b : Bridge) → FramesInOctets f → Valid b → afterOn f (encode b) ≡ encode (afterFrames f b)
 unfolding afterOn afterFrames
 after-table [] b o v = refl
 after-table (a ∷ f) b o v =
-    rw (receive-call b (a .0) (a .1) v)
-    (after-table f (receive b (a .0) (a .1) .bridge) (o .1) (receive-keeps b (a .0) (a .1) (o .0) v))
+    rw (frame-call b (a .0) (a .1) v)
+    (after-table f (receiveFrame b (a .0) (a .1) .bridge) (o .1) (frame-keeps b (a .0) (a .1) (o .0) v))
 
-answers-table : (f : List (ℕ × List ℕ)) (b : Bridge) → FramesInOctets f → Valid b → answersOn f (encode b) ≡ frameAnswers f b
+pub answers-table : (f : List (ℕ × Frame)) (b : Bridge) → FramesInOctets f → Valid b → answersOn f (encode b) ≡ frameAnswers f b
 unfolding answersOn frameAnswers
 answers-table [] b o v = refl
 answers-table (a ∷ f) b o v =
-    rw (receive-call b (a .0) (a .1) v)
-    (ap (λ (l : List (ℕ × ℕ)). (a .0, receive b (a .0) (a .1) .number) ∷ l)
-    (answers-table f (receive b (a .0) (a .1) .bridge) (o .1) (receive-keeps b (a .0) (a .1) (o .0) v)))
+    rw (frame-call b (a .0) (a .1) v)
+    (ap (λ (l : List (ℕ × ℕ)). (a .0, receiveFrame b (a .0) (a .1) .number) ∷ l)
+    (answers-table f (receiveFrame b (a .0) (a .1) .bridge) (o .1) (frame-keeps b (a .0) (a .1) (o .0) v)))
 
 pub advance-call : (b : Bridge) (now : ℕ) → Valid b → b .clock ≤ now → advanceOn (encode b) now ≡ record { number = 0; table = encode (settle now b) }
 unfolding advanceOn
@@ -121,11 +139,11 @@ advance-call b now v h =
     ∙ ap (λ (a : Answer). record { number = a .number; table = encode (a .bridge) }) e
 
 -- Both orders, on the table of a valid bridge.
-module _ (f g : List (ℕ × List ℕ)) (o : FramesInOctets f) (same : (p : ℕ) → on p f ≡ on p g) where
+module _ (f g : List (ℕ × Frame)) (o : FramesInOctets f) (same : (p : ℕ) → on p f ≡ on p g) where
   order-encoded : (b : Bridge) → Valid b → length (together (ids (b .streams)) (asked (b .settings) f)) ≤ 64 →
       (afterOn f (encode b) ≡ afterOn g (encode b)) × ((p : ℕ) → on p (answersOn f (encode b)) ≡ on p (answersOn g (encode b)))
   order-encoded b v room =
-      let o′ = alike-all Octets f g same o in
+      let o′ = alike-all (λ x. Octets (pduOf x)) f g same o in
       let r = order f g b same room in (
         after-table f b o v ∙ ap encode (r .0) ∙ sym (after-table g b o′ v),
         λ p. rw (answers-table f b o v, answers-table g b o′ v) (r .1 p),
@@ -154,7 +172,7 @@ module _ (f g : List (ℕ × List ℕ)) (o : FramesInOctets f) (same : (p : ℕ)
       }
 
 -- The receiving alone: the same answers, frame by frame, and equal tables.
-pub receive-order : (f g : List (ℕ × List ℕ)) (t : List ℕ) → Octets t → formed t ≡ true → All (λ a. Octets (a .1)) f →
+pub receive-order : (f g : List (ℕ × Frame)) (t : List ℕ) → Octets t → formed t ≡ true → All (λ a. Octets (pduOf (a .1))) f →
     ((p : ℕ) → on p f ≡ on p g) →
     length (together (ids (decode t .streams)) (asked (decode t .settings) f)) ≤ 64 →
     (afterOn f t ≡ afterOn g t) × ((p : ℕ) → on p (answersOn f t) ≡ on p (answersOn g t))
@@ -165,8 +183,8 @@ receive-order f g t octets form o same room =
 -- Demand 3. The frames f are handed over to a well-formed table, and so is g, the same frames in another order: what arrived at
 -- a port is one list in both. The time is not before the table's clock, and the different streams held or asked for by a frame
 -- that is read are at most 64. Whether the bridge was settled does not matter. (A list of octets, and a time of 32 bits, is
--- what the calls take.)
-pub demand3 : (f g : List (ℕ × List ℕ)) (t : List ℕ) (now : ℕ) → Octets t → formed t ≡ true → All (λ a. Octets (a .1)) f →
+-- what the calls take.) Of addresses nothing is asked: where a port has no room, its own order decides, and that is one in both.
+pub demand3 : (f g : List (ℕ × Frame)) (t : List ℕ) (now : ℕ) → Octets t → formed t ≡ true → All (λ a. Octets (pduOf (a .1))) f →
     now < 2 ^ 32 → clockField t ≤ now →
     ((p : ℕ) → on p f ≡ on p g) →
     length (together (ids (decode t .streams)) (asked (decode t .settings) f)) ≤ 64 →

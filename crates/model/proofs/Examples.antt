@@ -1,11 +1,11 @@
 -- 01's marked examples P1 to P13 and its worked example, computed by the definitions and compared with what 01 prints; then
 -- examples of what 01 says of registering and of ages, of the near misses that it shuts out, of the domain's edge, of class B's
--- limit in force, of latency that grows, of inbound ports and shared addresses, of the order of a PDU's checks, and of vectors that
--- are passed over.
+-- limit in force, of latency that grows, of inbound ports and shared addresses, of talker pruning, of the order of a PDU's checks,
+-- and of vectors that are passed over.
 use mathlib.Core.Path.{_≡_, refl}
 use mathlib.Core.List.{List, [], _∷_, _++_, map}
 use mathlib.Core.Bool.{Bool, true, false, cond, _&&_}
-use Prim.Native.Nat.{ℕ, suc, _+_, _-_}
+use Prim.Native.Nat.{ℕ, zero, suc, _+_, _-_}
 use lib.ListN.{length, getD, take, replicate}
 use lib.Dec.{eqb}
 use Rattle.octets.specs.Be
@@ -55,23 +55,28 @@ port limit = record {
   latencyB = 0;
 }
 
-settingsWith : ℕ → ℕ → Settings
-settingsWith fanIn limit = record {
+settingsOf : Bool → (ports fanIn limit : ℕ) → Settings
+settingsOf pruning ports fanIn limit = record {
   bridgeId = 7;
   priorityA = 3;
   priorityB = 2;
   leaveTime = 60;
+  pruning = pruning;
   vlan = 2;
   fanIn = fanIn;
-  ports = port limit ∷ port limit ∷ [];
+  ports = replicate ports (port limit);
 }
+
+settingsWith : ℕ → ℕ → Settings
+settingsWith fanIn limit = settingsOf false 2 fanIn limit
 
 settings : ℕ → Settings
 settings limit = settingsWith 0 limit
 
--- what is handed over: a PDU on a port, or a time
+-- what is handed over: a PDU on a port, an MMRP PDU on one, or a time
 data Handed : Type 0 where
   pdu : ℕ → List ℕ → Handed
+  mmrp : ℕ → List ℕ → Handed
   time : ℕ → Handed
 
 -- each must be accepted: a refusal would leave a bridge with nothing in it
@@ -81,6 +86,7 @@ accepted a = cond (eqb (a .number) 0) (a .bridge) (State.started (a .bridge .set
 from : Bridge → List Handed → Bridge
 from b [] = b
 from b (pdu p s ∷ l) = from (accepted (Calls.receive b p s)) l
+from b (mmrp p s ∷ l) = from (accepted (Calls.receiveMmrp b p s)) l
 from b (time now ∷ l) = from (accepted (Settling.advance b now)) l
 
 -- PDUs of one Message.
@@ -297,7 +303,7 @@ examples =
 
 -- to unfold this is to unfold the examples' own definitions
 shown : Unit {0}
-unfolding opened port settingsWith settings accepted from messageOf message domainsOf matching bridgeWith bridge streamId talkerTo talkerOf delayedFirst talkerFirst failure rank1 rank0 advertisesOf failedOf listenerVector listenersOf talks hears columns reserves count talker listener read eventNumber events wordNumber reported size224 one four withFifth settledTalker lvPdu leaver workedTalker workedListener worked
+unfolding opened port settingsOf settingsWith settings accepted from messageOf message domainsOf matching bridgeWith bridge streamId talkerTo talkerOf delayedFirst talkerFirst failure rank1 rank0 advertisesOf failedOf listenerVector listenersOf talks hears columns reserves count talker listener read eventNumber events wordNumber reported size224 one four withFifth settledTalker lvPdu leaver workedTalker workedListener worked
 shown = tt
 
 pub marked-examples : All Holds examples
@@ -482,6 +488,7 @@ withoutA limit =
       priorityA = 3;
       priorityB = 2;
       leaveTime = 60;
+      pruning = false;
       vlan = 2;
       fanIn = 0;
       ports =
@@ -606,6 +613,92 @@ pub fan-in-examples : All Holds fanIns
 unfolding shown fanIns inbound across
 fan-in-examples = (refl, (refl, (refl, (refl, (refl, (refl, (refl, tt)))))))
 
+-- Talker pruning (02, vi).
+
+-- an MMRP PDU of n addresses, from the one with these last two octets on, with their events
+asksFor : ℕ → ℕ → List ℕ → List ℕ
+asksFor octets n three = 0x00 ∷ 0x02 ∷ 0x06 ∷ (Be.be 2 n ++ (0x91 ∷ 0xE0 ∷ 0xF0 ∷ 0x00 ∷ (Be.be 2 octets ++ (three ++ (0x00 ∷ 0x00 ∷ [])))))
+
+-- these ports, by their places, ask for the destination of stream 1
+asking : List ℕ → List Handed
+asking [] = []
+asking (p ∷ l) = mmrp (p + 1) (asksFor 0xFE00 1 (108 ∷ [])) ∷ asking l
+
+-- matching Domain joins on so many ports
+matchingOn : ℕ → List Handed
+matchingOn zero = []
+matchingOn (suc n) = pdu (suc n) matching ∷ matchingOn n
+
+-- a bridge with so many ports, where pruning is on or not, these ask for stream 1, and then what is handed over
+hallOf : Bool → ℕ → List ℕ → List Handed → Bridge
+hallOf pruning ports l more = from (State.started (settingsOf pruning ports 0 75000000)) (matchingOn ports ++ (asking l ++ more))
+
+hall : ℕ → List ℕ → Bridge
+hall ports l = hallOf true ports l (pdu 1 (talks 1 224 rank1) ∷ [])
+
+-- the column of stream 1 on each port, and its code
+everywhere : Bridge → List ℕ
+everywhere b =
+    Fields.flat (λ (p : ℕ). let c = State.resultAt (State.streamAt 0 b) p .column in Table.columnNumber c ∷ Table.columnCode c ∷ [])
+    (Lists.tabulate (length (b .settings .ports)) 0 (λ p. p))
+
+-- 64 addresses, JoinMt each
+sixtyFour : List ℕ
+sixtyFour = asksFor 0 64 (replicate 21 129 ++ (108 ∷ []))
+
+-- a port that holds 64, and the number that an MMRP PDU gets there
+full : List Handed → Bridge
+full l = from (State.started (settings 0)) (mmrp 1 sixtyFour ∷ l)
+
+answer : Bridge → ℕ → List ℕ → ℕ
+answer b p s = Calls.receiveMmrp b p s .number
+
+pub prunings : List Example
+prunings =
+    -- a hall of six ports where two asked for the address: Talkers go there only; with pruning off, to all but the Talker's own
+    record { computed = everywhere (from (hall 6 (2 ∷ 4 ∷ [])) (time 100 ∷ [])); printed = 0 ∷ 0 ∷ 0 ∷ 0 ∷ 1 ∷ 0 ∷ 0 ∷ 0 ∷ 1 ∷ 0 ∷ 0 ∷ 0 ∷ [] }
+    ∷ record {
+      computed = everywhere (hallOf false 6 (2 ∷ 4 ∷ []) (pdu 1 (talks 1 224 rank1) ∷ time 100 ∷ []));
+      printed = 0 ∷ 0 ∷ 1 ∷ 0 ∷ 1 ∷ 0 ∷ 1 ∷ 0 ∷ 1 ∷ 0 ∷ 1 ∷ 0 ∷ [];
+    }
+    -- an address that is leaving is held until it is removed; LeaveAll makes it leave, and that of Service Requirement does not
+    ∷ record {
+      computed =
+          everywhere (from (hall 2 (1 ∷ [])) (time 100 ∷ mmrp 2 (asksFor 0xFE00 1 (180 ∷ [])) ∷ time 159 ∷ []))
+          ++ everywhere (from (hall 2 (1 ∷ [])) (time 100 ∷ mmrp 2 (asksFor 0xFE00 1 (180 ∷ [])) ∷ time 160 ∷ []));
+      printed = 0 ∷ 0 ∷ 1 ∷ 0 ∷ 0 ∷ 0 ∷ 0 ∷ 0 ∷ [];
+    }
+    ∷ record {
+      computed =
+          everywhere (from (hall 2 (1 ∷ [])) (time 100 ∷ mmrp 2 (asksFor 0 0x2000 []) ∷ time 160 ∷ []))
+          ++ everywhere (from (hall 2 (1 ∷ [])) (time 100 ∷ mmrp 2 (0x00 ∷ 0x01 ∷ 0x01 ∷ 0x20 ∷ 0x00 ∷ 0x00 ∷ 0x00 ∷ 0x00 ∷ []) ∷ time 160 ∷ []));
+      printed = 0 ∷ 0 ∷ 0 ∷ 0 ∷ 0 ∷ 0 ∷ 1 ∷ 0 ∷ [];
+    }
+    -- pruned comes before Failed: a Failed stream is declared only where its address is held
+    ∷ record {
+      computed = everywhere (hallOf true 3 (2 ∷ []) (pdu 1 (failedOf 1 224 rank1 1 (108 ∷ [])) ∷ time 100 ∷ []));
+      printed = 0 ∷ 0 ∷ 0 ∷ 0 ∷ 2 ∷ 2 ∷ [];
+    }
+    -- the 65th address of a port; those of another port, and those that are held, take no room
+    ∷ record {
+      computed =
+          answer (full []) 1 (asksFor 64 1 (108 ∷ [])) ∷ answer (full []) 2 (asksFor 64 1 (108 ∷ [])) ∷ answer (full []) 1 (asksFor 63 1 (108 ∷ []))
+          ∷ answer (full []) 1 (asksFor 63 2 (126 ∷ [])) ∷ answer (full []) 1 (asksFor 64 1 (180 ∷ [])) ∷ [];
+      printed = 14 ∷ 0 ∷ 0 ∷ 14 ∷ 0 ∷ [];
+    }
+    -- leaving ones take room until they are removed
+    ∷ record {
+      computed =
+          answer (full (mmrp 1 (asksFor 0 1 (180 ∷ [])) ∷ time 59 ∷ [])) 1 (asksFor 64 1 (108 ∷ []))
+          ∷ answer (full (mmrp 1 (asksFor 0 1 (180 ∷ [])) ∷ time 60 ∷ [])) 1 (asksFor 64 1 (108 ∷ [])) ∷ [];
+      printed = 14 ∷ 0 ∷ [];
+    }
+    ∷ []
+
+pub pruning-examples : All Holds prunings
+unfolding shown prunings asksFor asking matchingOn hallOf hall everywhere sixtyFour full answer
+pruning-examples = (refl, (refl, (refl, (refl, (refl, (refl, (refl, tt)))))))
+
 -- What an unimportant stream can't touch (02, xii): each premise of `Alike` is needed. Of two bridges, and of the streams at places k and
 -- k′ of those that an advance to 200 leaves: 1 for each premise that holds, in their order, and 0 for one that does not; then the
 -- column and code of either on the port at place p.
@@ -632,6 +725,8 @@ premises p b x =
     ∷ (Lists.bit (Settling.shares (sc .inbound) (Settling.inboundOf x)) ∷ [])
     ∷ (Lists.bit (Settling.boundary (State.ownAt (sc .own) p) c) ∷ [])
     ∷ (Lists.bit (Settling.isKeptOut (b .settings .fanIn) (sc .inbound) (Settling.sourceOf x)) ∷ [])
+    ∷ cond (b .settings .pruning)
+    (Lists.bit (Settling.holdsAddress (Settling.fixedOf (Settling.sourceOf x) .destination) (State.ownAt (sc .own) p .addresses)) ∷ []) []
     ∷ []
 
 agreements : List (List ℕ) → List (List ℕ) → List ℕ
@@ -668,30 +763,35 @@ second l = bridgeWith 1 75000000 (pdu 2 (talks 2 224 rank1) ∷ l)
 pub needs : List Example
 needs =
     -- the settings: a lower limit
-    record { computed = compared 1 (held 17088000 (1 ∷ [])) 0 (held 17087999 (1 ∷ [])) 0; printed = 0 ∷ 1 ∷ 1 ∷ 1 ∷ 1 ∷ 1 ∷ 1 ∷ 1 ∷ 0 ∷ 2 ∷ 1 ∷ [] }
+    record { computed = compared 1 (held 17088000 (1 ∷ [])) 0 (held 17087999 (1 ∷ [])) 0; printed = 0 ∷ 1 ∷ 1 ∷ 1 ∷ 1 ∷ 1 ∷ 1 ∷ 1 ∷ 1 ∷ 0 ∷ 2 ∷ 1 ∷ [] }
     -- its own registrations: a join of another MaxFrameSize
     ∷ record {
       computed = compared 1 (held 75000000 (1 ∷ [])) 0 (from (held 75000000 (1 ∷ [])) (pdu 1 (talks 1 225 rank1) ∷ [])) 0;
-      printed = 1 ∷ 0 ∷ 1 ∷ 1 ∷ 1 ∷ 1 ∷ 1 ∷ 1 ∷ 0 ∷ 2 ∷ 16 ∷ [];
+      printed = 1 ∷ 0 ∷ 1 ∷ 1 ∷ 1 ∷ 1 ∷ 1 ∷ 1 ∷ 1 ∷ 0 ∷ 2 ∷ 16 ∷ [];
     }
     -- a more important stream of its class
-    ∷ record { computed = compared 1 (held 17088000 (2 ∷ [])) 0 (held 17088000 (1 ∷ 2 ∷ [])) 1; printed = 1 ∷ 1 ∷ 0 ∷ 1 ∷ 1 ∷ 1 ∷ 1 ∷ 1 ∷ 0 ∷ 2 ∷ 1 ∷ [] }
+    ∷ record { computed = compared 1 (held 17088000 (2 ∷ [])) 0 (held 17088000 (1 ∷ 2 ∷ [])) 1; printed = 1 ∷ 1 ∷ 0 ∷ 1 ∷ 1 ∷ 1 ∷ 1 ∷ 1 ∷ 1 ∷ 0 ∷ 2 ∷ 1 ∷ [] }
     -- class A's total, for a stream of class B
-    ∷ record { computed = compared 1 (intercom []) 0 (intercom show) 4; printed = 1 ∷ 1 ∷ 1 ∷ 0 ∷ 1 ∷ 1 ∷ 1 ∷ 1 ∷ 0 ∷ 2 ∷ 1 ∷ [] }
+    ∷ record { computed = compared 1 (intercom []) 0 (intercom show) 4; printed = 1 ∷ 1 ∷ 1 ∷ 0 ∷ 1 ∷ 1 ∷ 1 ∷ 1 ∷ 1 ∷ 0 ∷ 2 ∷ 1 ∷ [] }
     -- the address of a lower StreamID
-    ∷ record { computed = compared 1 (addressed 0xFE00) 1 (addressed 0xFE01) 1; printed = 1 ∷ 1 ∷ 1 ∷ 1 ∷ 0 ∷ 1 ∷ 1 ∷ 1 ∷ 0 ∷ 2 ∷ 5 ∷ [] }
+    ∷ record { computed = compared 1 (addressed 0xFE00) 1 (addressed 0xFE01) 1; printed = 1 ∷ 1 ∷ 1 ∷ 1 ∷ 0 ∷ 1 ∷ 1 ∷ 1 ∷ 1 ∷ 0 ∷ 2 ∷ 5 ∷ [] }
     -- the domain's edge
     ∷ record {
       computed = compared 1 (held 75000000 (1 ∷ [])) 0 (from (State.started (settings 75000000)) (pdu 1 (talks 1 224 rank1) ∷ pdu 2 (hears 1 128) ∷ [])) 0;
-      printed = 1 ∷ 1 ∷ 1 ∷ 1 ∷ 1 ∷ 0 ∷ 1 ∷ 1 ∷ 0 ∷ 2 ∷ 8 ∷ [];
+      printed = 1 ∷ 1 ∷ 1 ∷ 1 ∷ 1 ∷ 0 ∷ 1 ∷ 1 ∷ 1 ∷ 0 ∷ 2 ∷ 8 ∷ [];
     }
     -- an inbound port below its own
-    ∷ record { computed = compared 0 (second []) 0 (second (pdu 1 (talks 1 224 rank1) ∷ [])) 1; printed = 1 ∷ 1 ∷ 1 ∷ 1 ∷ 1 ∷ 1 ∷ 0 ∷ 1 ∷ 0 ∷ 2 ∷ 15 ∷ [] }
+    ∷ record { computed = compared 0 (second []) 0 (second (pdu 1 (talks 1 224 rank1) ∷ [])) 1; printed = 1 ∷ 1 ∷ 1 ∷ 1 ∷ 1 ∷ 1 ∷ 0 ∷ 1 ∷ 1 ∷ 0 ∷ 2 ∷ 15 ∷ [] }
+    -- the stream's destination, where pruning is on
+    ∷ record {
+      computed = compared 1 (hall 2 (1 ∷ [])) 0 (hall 2 []) 0;
+      printed = 1 ∷ 1 ∷ 1 ∷ 1 ∷ 1 ∷ 1 ∷ 1 ∷ 0 ∷ 1 ∷ 0 ∷ 0 ∷ 0 ∷ [];
+    }
     ∷ []
 
 pub need-examples : All Holds needs
-unfolding shown needs Table.headNumbers Table.headWord Table.portNumbers Table.cellNumbers equal claimNumbers premises agreements compared readyOnes held addressed second inB intercom show
-need-examples = (refl, (refl, (refl, (refl, (refl, (refl, (refl, tt)))))))
+unfolding shown needs Table.headNumbers Table.headWord Table.portNumbers Table.cellNumbers equal claimNumbers premises agreements compared readyOnes held addressed second inB intercom show asksFor asking matchingOn hallOf hall
+need-examples = (refl, (refl, (refl, (refl, (refl, (refl, (refl, (refl, tt))))))))
 
 -- PDUs with two faults, at neighbouring checks, and each with the first fault mended: the first that the walk meets gives the
 -- number.

@@ -15,10 +15,10 @@ use Rattle.model.specs.State.{Leaving, stays, since, Fixed, Health, soun
 use Rattle.model.specs.Registrations.{ids}
 use Rattle.model.specs.WrittenFrames.{priorityOctet, fixedNumbers}
 use Rattle.model.specs.Table.{sinceNumber, bridgeNumber, codeNumber, talkerNumbers, listenerNumbers, cellNumbers, cellOctets, toCell, resultNumbers, resultOctets, toResult, fixedFrom, streamOctets, toStream, countField, recordsPart, idOf, encode, decode, formed}
-use Rattle.model.specs.Laid.{FitRank, FitCell, FitOwn, FitResult, FitStream, FitBridge, Ascending, LaidOut, LaidCell, LaidResult, Laid}
+use Rattle.model.specs.Laid.{FitRank, FitCell, FitOwn, FitResult, FitStream, FitBridge, LaidOut, LaidCell, LaidResult, Laid}
 use Rattle.model.proofs.Lists.{all-map}
-use Rattle.model.proofs.Valid.{ValidLeaving, ValidFixed, ValidHealth, ValidTalker, ValidListener, ValidCell, ValidOwn, ValidResult, ValidStream, Rising, Valid}
-use Rattle.model.proofs.Parts.{_also_, parts-flat, many-read}
+use Rattle.model.proofs.Valid.{ValidLeaving, ValidFixed, ValidHealth, ValidTalker, ValidListener, ValidCell, ValidOwn, ValidResult, ValidStream, Valid}
+use Rattle.model.proofs.Parts.{_also_, parts-flat, many-read, rising-ascends}
 use Rattle.model.proofs.Cells.{fixed-fit, fixed-back, cell-fit, cell-back, cells-sized}
 use Rattle.model.proofs.Results.{result-fit, numbers-back, results-sized}
 use Rattle.model.proofs.Owns.{valid-own-fits}
@@ -195,16 +195,6 @@ module _ (ports clock leave : ℕ) (small : clock < 2 ^ 32) where
     eight-results = v .eight-results;
     results = all-map (ValidResult clock) FitResult valid-result-fits (x .results) (v .results);
   }
-
-pub rising-ascends : (l : List ℕ) → Rising l → Ascending l
-unfolding Rising
-rising-ascends [] r = tt
-rising-ascends (i ∷ l) r = (r .0, rising-ascends l (r .1))
-
-pub ascending-rises : (l : List ℕ) → Ascending l → Rising l
-unfolding Rising
-ascending-rises [] a = tt
-ascending-rises (i ∷ l) a = (a .0, ascending-rises l (a .1))
 
 pub valid-fits : (b : Bridge) → Valid b → FitBridge b
 valid-fits b v =

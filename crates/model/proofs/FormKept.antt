@@ -12,11 +12,12 @@ use Rattle.model.specs.State.{Bridge, started}
 use Rattle.model.specs.Registrations.{Answer}
 use Rattle.model.specs.Settling.{advance}
 use Rattle.model.specs.Table.{encode, decode, formed, toSettings}
-use Rattle.model.specs.Calls.{Call, startOn, leaves, onTable, receive, receiveOn, advanceOn}
+use Rattle.model.specs.Calls.{Call, startOn, leaves, onTable, receive, receiveOn, receiveMmrp, receiveMmrpOn, advanceOn}
 use Rattle.model.proofs.Valid.{Valid}
 use Rattle.model.proofs.Refusals.{start-0, cond-either}
 use Rattle.model.proofs.Tables.{formed-encode, valid-decode, valid-started, octets-encode}
 use Rattle.model.proofs.ReceiveKeepsForm.{receive-keeps}
+use Rattle.model.proofs.AddressesKept.{mmrp-keeps}
 use Rattle.model.proofs.AdvanceKeepsForm.{advance-keeps}
 
 -- an octet table that keeps the form rules
@@ -36,6 +37,10 @@ module _ (t : List ℕ) (k : Kept t) where
   pub receive-formed : (p : ℕ) (pdu : List ℕ) → Octets pdu → Kept (receiveOn t p pdu .table)
   unfolding receiveOn
   receive-formed p pdu o = on-table-kept (λ b. receive b p pdu) (receive-keeps (decode t) p pdu o (valid-decode t (k .0) (k .1)))
+
+  pub mmrp-formed : (p : ℕ) (pdu : List ℕ) → Kept (receiveMmrpOn t p pdu .table)
+  unfolding receiveMmrpOn
+  mmrp-formed p pdu = on-table-kept (λ b. receiveMmrp b p pdu) (mmrp-keeps (decode t) p pdu (valid-decode t (k .0) (k .1)))
 
   pub advance-formed : (now : ℕ) → now < 2 ^ 32 → Kept (advanceOn t now .table)
   unfolding advanceOn

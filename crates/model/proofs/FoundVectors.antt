@@ -122,10 +122,10 @@ pub or-right : (a b : Bool) → (a || b) ≡ false → b ≡ false
 or-right true b e = absurd (true≢false e)
 or-right false b e = e
 
-bad-vector : (n h : ℕ) → badVector n ≡ vectorHead h → ⊥
+pub bad-vector : (n h : ℕ) → badVector n ≡ vectorHead h → ⊥
 bad-vector n h e = let z : _≡_ {A = ℕ} 0 1 = cc in omega arith
 
-no-end : (h : ℕ) → listEnd ≡ vectorHead h → ⊥
+pub no-end : (h : ℕ) → listEnd ≡ vectorHead h → ⊥
 no-end h e = let z : _≡_ {A = ℕ} 0 1 = cc in omega arith
 
 -- a vector of any MRP application, read or passed over: what stands there is neither a fault nor the EndMark
@@ -193,7 +193,7 @@ pub record PassedOver (version first : ℕ) (four : Bool) (l : List ℕ) (at h :
 end-over : (h : ℕ) → listEnd ≡ passedOver h → ⊥
 end-over h e = let z : _≡_ {A = ℕ} 0 1 = cc in omega arith
 
-bad-over : (n h : ℕ) → badVector n ≡ passedOver h → ⊥
+pub bad-over : (n h : ℕ) → badVector n ≡ passedOver h → ⊥
 bad-over n h e = let z : _≡_ {A = ℕ} 0 1 = cc in omega arith
 
 pub passing-over : (version first : ℕ) (four : Bool) (l : List ℕ) (at h : ℕ) → vectorIn version first four l at ≡ passedOver h

@@ -1,6 +1,6 @@
--- Frames of several ports: two orders that keep each port's own order give every frame the same answer and leave the same
--- bridge, where there is room for all streams asked for. An accepted frame joins every stream that it asks for, and a refused
--- one changes nothing.
+-- Frames of several ports, of MSRP and MMRP: two orders that keep each port's own order give every frame the same answer and leave
+-- the same bridge, where there is room for all streams asked for. (Whether there is room for addresses is up to their own port.) An
+-- accepted frame joins every stream that it asks for, and a refused one changes nothing.
 use mathlib.Core.Path.{_≡_, refl, sym, _∙_, ap, ap₂}
 use mathlib.Core.List.{List, [], _∷_, _++_, map, List·Memᴰ, List·Memᴰ·head, List·Memᴰ·tail, List·Memᴰ·cases-cons}
 use mathlib.Core.Logic.{_⊎_, inl, inr}
@@ -13,26 +13,28 @@ use lib.ListN.{length, length-map}
 use lib.Dec.{ltb, leb, eqb}
 use borrow.Author.Tests.{le-leb, lt-leb, ltb-true, ltb-false, eqb-true, eqb-false}
 use Rattle.model.specs.Lists.{All, on}
-use Rattle.model.specs.State.{Settings, Own, Stream, Bridge, fresh}
-use Rattle.model.specs.Registrations.{Act, leaveAll, leave, talk, listen, ofDomain, Reading, refused, acts, Answer, begun, touch, change, apply, applyAll, reach, applyOwns, holding, owning, received, add, together, ids, joins, asks}
+use Rattle.model.specs.State.{Settings, Own, Stream, Bridge, fresh, ownAt}
+use Rattle.model.specs.Registrations.{Act, leaveAll, leave, talk, listen, ofDomain, Reading, refused, acts, AddressReading, refusedFrame, addressActs, Answer, begun, touch, change, apply, applyAll, reach, applyOwns, holding, owning, received, add, together, ids, joins, asks}
 use Rattle.model.specs.Frames.{reading, wrongPort}
-use Rattle.model.specs.Calls.{receive, asked}
+use Rattle.model.specs.AddressFrames.{addressReading}
+use Rattle.model.specs.Calls.{receive, receiveMmrp, Frame, msrp, mmrp, receiveFrame, askedBy, asked}
 use Rattle.model.proofs.Lists.{all-map, on-same, on-other}
 use Rattle.model.proofs.Valid.{Rising}
 use Rattle.model.proofs.FoundVectors.{or-left}
 use Rattle.model.proofs.ReceiveKeepsForm.{receive-settings, receive-clock, receive-accepted-or-unchanged}
 use Rattle.model.proofs.Arrivals.{run, same-run}
-use Rattle.model.proofs.Commute.{Change, frames-commute, own-frames-commute}
+use Rattle.model.proofs.Commute.{Change, frames-commute, ChangesAt, no-change, acts-change, changes-apart, changes-other}
+use Rattle.model.proofs.ReceivedAddresses.{withRoom, addressEffect, addressNumber, received-is, mmrp-unchanged, mmrp-same}
 
 -- Frames handed over one after another, each with its port: the bridge they leave, and the answers with their ports.
 
-unfoldable pub afterFrames : List (ℕ × List ℕ) → Bridge → Bridge
+unfoldable pub afterFrames : List (ℕ × Frame) → Bridge → Bridge
 afterFrames [] b = b
-afterFrames (a ∷ f) b = afterFrames f (receive b (a .0) (a .1) .bridge)
+afterFrames (a ∷ f) b = afterFrames f (receiveFrame b (a .0) (a .1) .bridge)
 
-unfoldable pub frameAnswers : List (ℕ × List ℕ) → Bridge → List (ℕ × ℕ)
+unfoldable pub frameAnswers : List (ℕ × Frame) → Bridge → List (ℕ × ℕ)
 frameAnswers [] b = []
-frameAnswers (a ∷ f) b = (a .0, receive b (a .0) (a .1) .number) ∷ frameAnswers f (receive b (a .0) (a .1) .bridge)
+frameAnswers (a ∷ f) b = (a .0, receiveFrame b (a .0) (a .1) .number) ∷ frameAnswers f (receiveFrame b (a .0) (a .1) .bridge)
 
 -- The streams held after acts.
 
@@ -214,54 +216,169 @@ module _ (b : Bridge) (p : ℕ) where
         All (λ i. List·Memᴰ i (ids (receive b p pdu .bridge .streams))) (asks (reading (b .settings) p pdu))
     accepted-joins e = rw (accepted-ids e) (has-asked (asks (reading (b .settings) p pdu)) (ids (b .streams)))
 
+-- a frame of either protocol
+pub frame-unchanged : (b : Bridge) (p : ℕ) (x : Frame) → (receiveFrame b p x .number ≡ 0 → ⊥) → receiveFrame b p x .bridge ≡ b
+unfolding receiveFrame
+frame-unchanged b p (msrp pdu) h = refused-changes-nothing b p pdu h
+frame-unchanged b p (mmrp pdu) h = mmrp-unchanged b p pdu h
+
 -- frames change neither settings nor clock
-pub after-settings : (f : List (ℕ × List ℕ)) (b : Bridge) → afterFrames f b .settings ≡ b .settings
+pub frame-settings : (b : Bridge) (p : ℕ) (x : Frame) → receiveFrame b p x .bridge .settings ≡ b .settings
+unfolding receiveFrame owning
+frame-settings b p (msrp pdu) = receive-settings b p pdu
+frame-settings b p (mmrp pdu) = mmrp-same b p pdu (λ c. c .settings) (λ o. refl)
+
+frame-clock : (b : Bridge) (p : ℕ) (x : Frame) → receiveFrame b p x .bridge .clock ≡ b .clock
+unfolding receiveFrame owning
+frame-clock b p (msrp pdu) = receive-clock b p pdu
+frame-clock b p (mmrp pdu) = mmrp-same b p pdu (λ c. c .clock) (λ o. refl)
+
+pub after-settings : (f : List (ℕ × Frame)) (b : Bridge) → afterFrames f b .settings ≡ b .settings
 unfolding afterFrames
 after-settings [] b = refl
-after-settings (a ∷ f) b = after-settings f (receive b (a .0) (a .1) .bridge) ∙ receive-settings b (a .0) (a .1)
+after-settings (a ∷ f) b = after-settings f (receiveFrame b (a .0) (a .1) .bridge) ∙ frame-settings b (a .0) (a .1)
 
-pub after-clock : (f : List (ℕ × List ℕ)) (b : Bridge) → afterFrames f b .clock ≡ b .clock
+pub after-clock : (f : List (ℕ × Frame)) (b : Bridge) → afterFrames f b .clock ≡ b .clock
 unfolding afterFrames
 after-clock [] b = refl
-after-clock (a ∷ f) b = after-clock f (receive b (a .0) (a .1) .bridge) ∙ receive-clock b (a .0) (a .1)
+after-clock (a ∷ f) b = after-clock f (receiveFrame b (a .0) (a .1) .bridge) ∙ frame-clock b (a .0) (a .1)
 
 -- Two orders of frames.
 
--- what a frame does with room for all, by what acts do at a place
-module _ {S : Type 0} (st : Settings) (many : ℕ → List Act → S → S) where
-  step : ℕ → List ℕ → S → S
-  step p pdu s = effect many (p - 1) (reading st p pdu) s
+-- different ports of the bridge have different places
+ported : (st : Settings) (p : ℕ) → wrongPort st p ≡ false → p ≡ 0 → ⊥
+unfolding wrongPort
+ported st p e = eqb-false p 0 (or-left (eqb p 0) (ltb (length (st .ports)) p) e)
 
-  -- where the acts of two places commute
-  module _ (commute : (p q : ℕ) → (p ≡ q → ⊥) → (es fs : List Act) (s : S) → many p es (many q fs s) ≡ many q fs (many p es s)) where
-    effects-commute : (p q : ℕ) (x y : Reading) (s : S) → (p ≡ q → ⊥) → effect many p x (effect many q y s) ≡ effect many q y (effect many p x s)
-    unfolding effect
-    effects-commute p q (refused m) y s n = refl
-    effects-commute p q (acts es) (refused m) s n = refl
-    effects-commute p q (acts es) (acts fs) s n = commute p q n es fs s
+pub places-apart : (st : Settings) (p q : ℕ) → wrongPort st p ≡ false → wrongPort st q ≡ false → (p ≡ q → ⊥) → p - 1 ≡ q - 1 → ⊥
+places-apart st p q d e n h = n (let a = ported st p d in let b = ported st q e in omega arith)
 
-    -- different ports of the bridge have different places, and a frame on no port of it is refused
-    step-commute : (p q : ℕ) (x y : List ℕ) (s : S) → (p ≡ q → ⊥) → step p x (step q y s) ≡ step q y (step p x s)
-    unfolding step
-    step-commute p q x y s n = go (wrongPort st p) (wrongPort st q) refl refl
-      where
-        ported : (p : ℕ) → wrongPort st p ≡ false → p ≡ 0 → ⊥
-        ported p e = unfold wrongPort in (eqb-false p 0 (or-left (eqb p 0) (ltb (length (st .ports)) p) e))
+-- steps at two places commute, where a frame on no port of the bridge does nothing
+module _ {S : Type 0} (st : Settings) (step : ℕ → Frame → S → S)
+    (none : (p : ℕ) (x : Frame) (s : S) → wrongPort st p ≡ true → step p x s ≡ s)
+    (apart : (p q : ℕ) (x y : Frame) (s : S) → (p - 1 ≡ q - 1 → ⊥) → step p x (step q y s) ≡ step q y (step p x s)) where
+  step-commute : (p q : ℕ) (x y : Frame) (s : S) → (p ≡ q → ⊥) → step p x (step q y s) ≡ step q y (step p x s)
+  step-commute p q x y s n = go (wrongPort st p) (wrongPort st q) refl refl
+    where
+      go : (t u : Bool) → wrongPort st p ≡ t → wrongPort st q ≡ u → step p x (step q y s) ≡ step q y (step p x s)
+      go true u d e = rw (none p x (step q y s) d, none p x s d)
+      go false true d e = rw (none q y s e, none q y (step p x s) e)
+      go false false d e = apart p q x y s (places-apart st p q d e n)
 
-        nothing-done : (p : ℕ) (pdu : List ℕ) (s : S) → wrongPort st p ≡ true → step p pdu s ≡ s
-        nothing-done p pdu s e = unfold reading effect in (rw e)
+module _ (st : Settings) (now : ℕ) where
+  -- the streams after a frame that finds room for its streams, what the ports hold by themselves, and its number
+  streamStep : ℕ → Frame → List Stream → List Stream
+  streamStep p (msrp pdu) s = effect (applyAll now) (p - 1) (reading st p pdu) s
+  streamStep p (mmrp pdu) s = s
 
-        go : (t u : Bool) → wrongPort st p ≡ t → wrongPort st q ≡ u → step p x (step q y s) ≡ step q y (step p x s)
-        go true u d e = rw (nothing-done p x (step q y s) d, nothing-done p x s d)
-        go false true d e = rw (nothing-done q y s e, nothing-done q y (step p x s) e)
-        go false false d e =
-            effects-commute (p - 1) (q - 1) (reading st p x) (reading st q y) s
-            (λ h. n (let a = ported p d in let b = ported q e in omega arith))
+  ownStep : ℕ → Frame → List Own → List Own
+  ownStep p (msrp pdu) o = effect (applyOwns now) (p - 1) (reading st p pdu) o
+  ownStep p (mmrp pdu) o = addressEffect now (p - 1) (addressReading st p pdu) o
 
-    same-order : (f g : List (ℕ × List ℕ)) (s : S) → ((p : ℕ) → on p f ≡ on p g) → run step f s ≡ run step g s
-    same-order f g s same = same-run step step-commute f g s same
+  ruling : ℕ → Frame → List Own → ℕ
+  ruling p (msrp pdu) o = number (reading st p pdu)
+  ruling p (mmrp pdu) o = addressNumber now (p - 1) (addressReading st p pdu) o
 
-together-append : (held xs ys : List ℕ) → together held (xs ++ ys) ≡ together (together held xs) ys
+  -- on no port of the bridge it is refused with 1
+  streams-none : (p : ℕ) (x : Frame) (s : List Stream) → wrongPort st p ≡ true → streamStep p x s ≡ s
+  unfolding streamStep
+  streams-none p (msrp pdu) s e = unfold reading effect in (rw e)
+  streams-none p (mmrp pdu) s e = refl
+
+  own-none : (p : ℕ) (x : Frame) (o : List Own) → wrongPort st p ≡ true → ownStep p x o ≡ o
+  unfolding ownStep
+  own-none p (msrp pdu) o e = unfold reading effect in (rw e)
+  own-none p (mmrp pdu) o e = unfold addressReading addressEffect in (rw e)
+
+  ruling-none : (p : ℕ) (x : Frame) (o : List Own) → wrongPort st p ≡ true → ruling p x o ≡ 1
+  unfolding ruling
+  ruling-none p (msrp pdu) o e = unfold reading number in (rw e)
+  ruling-none p (mmrp pdu) o e = unfold addressReading addressNumber in (rw e)
+
+  -- at two places
+  effects-apart : (p q : ℕ) (x y : Reading) (s : List Stream) → (p ≡ q → ⊥)
+      → effect (applyAll now) p x (effect (applyAll now) q y s) ≡ effect (applyAll now) q y (effect (applyAll now) p x s)
+  unfolding effect
+  effects-apart p q (refused m) y s n = refl
+  effects-apart p q (acts es) (refused m) s n = refl
+  effects-apart p q (acts es) (acts fs) s n = frames-commute now p q n es fs s
+
+  streams-apart : (p q : ℕ) (x y : Frame) (s : List Stream) → (p - 1 ≡ q - 1 → ⊥) → streamStep p x (streamStep q y s) ≡ streamStep q y (streamStep p x s)
+  unfolding streamStep
+  streams-apart p q (msrp x) (msrp y) s n = effects-apart (p - 1) (q - 1) (reading st p x) (reading st q y) s n
+  streams-apart p q (msrp x) (mmrp y) s n = refl
+  streams-apart p q (mmrp x) (msrp y) s n = refl
+  streams-apart p q (mmrp x) (mmrp y) s n = refl
+
+  -- of what the ports hold, a frame makes one change at its place
+  own-change : (p : ℕ) (x : Frame) → ChangesAt (p - 1) (ownStep p x)
+  unfolding ownStep
+  own-change p (msrp pdu) = go (reading st p pdu)
+    where
+      go : (r : Reading) → ChangesAt (p - 1) (effect (applyOwns now) (p - 1) r)
+      go (refused n) = unfold effect in (no-change (p - 1))
+      go (acts es) = unfold effect in (acts-change now (p - 1) es)
+  own-change p (mmrp pdu) = go (addressReading st p pdu)
+    where
+      go : (r : AddressReading) → ChangesAt (p - 1) (addressEffect now (p - 1) r)
+      go (refusedFrame n) = unfold addressEffect in (no-change (p - 1))
+      go (addressActs es) = unfold addressEffect in (record { change = withRoom now es; is = λ o. refl })
+
+  own-apart : (p q : ℕ) (x y : Frame) (o : List Own) → (p - 1 ≡ q - 1 → ⊥) → ownStep p x (ownStep q y o) ≡ ownStep q y (ownStep p x o)
+  own-apart p q x y o n = changes-apart (p - 1) (q - 1) (own-change p x) (own-change q y) n o
+
+  -- so the answer to a frame is what it is without one on another port before it
+  ruling-past : (p q : ℕ) (x y : Frame) (o : List Own) → (p ≡ q → ⊥) → ruling p x (ownStep q y o) ≡ ruling p x o
+  ruling-past p q x y o n = go (wrongPort st p) (wrongPort st q) refl refl
+    where
+      same : (x : Frame) → ownAt (ownStep q y o) (p - 1) ≡ ownAt o (p - 1) → ruling p x (ownStep q y o) ≡ ruling p x o
+      same (msrp pdu) e = unfold ruling in refl
+      same (mmrp pdu) e = unfold ruling in (number-of (addressReading st p pdu))
+        where
+          number-of : (r : AddressReading) → addressNumber now (p - 1) r (ownStep q y o) ≡ addressNumber now (p - 1) r o
+          number-of (refusedFrame m) = unfold addressNumber in refl
+          number-of (addressActs es) = unfold addressNumber in (rw e)
+
+      go : (t u : Bool) → wrongPort st p ≡ t → wrongPort st q ≡ u → ruling p x (ownStep q y o) ≡ ruling p x o
+      go true u d e = rw (ruling-none p x (ownStep q y o) d, ruling-none p x o d)
+      go false true d e = rw (own-none q y o e)
+      go false false d e = same x (changes-other (q - 1) (own-change q y) (p - 1) (λ h. places-apart st p q d e n (sym h)) o)
+
+  streams-order : (f g : List (ℕ × Frame)) (s : List Stream) → ((p : ℕ) → on p f ≡ on p g) → run streamStep f s ≡ run streamStep g s
+  streams-order f g s same = same-run streamStep (step-commute st streamStep streams-none streams-apart) f g s same
+
+  own-order : (f g : List (ℕ × Frame)) (o : List Own) → ((p : ℕ) → on p f ≡ on p g) → run ownStep f o ≡ run ownStep g o
+  own-order f g o same = same-run ownStep (step-commute st ownStep own-none own-apart) f g o same
+
+  -- The answers to frames that find room for their streams, with their ports; and those to the frames of one port alone.
+  rulings : List (ℕ × Frame) → List Own → List (ℕ × ℕ)
+  rulings [] o = []
+  rulings (a ∷ f) o = (a .0, ruling (a .0) (a .1) o) ∷ rulings f (ownStep (a .0) (a .1) o)
+
+  alone : ℕ → List Frame → List Own → List ℕ
+  alone p [] o = []
+  alone p (x ∷ f) o = ruling p x o ∷ alone p f (ownStep p x o)
+
+  alone-past : (p q : ℕ) (y : Frame) → (p ≡ q → ⊥) → (f : List Frame) (o : List Own) → alone p f (ownStep q y o) ≡ alone p f o
+  unfolding alone
+  alone-past p q y n [] o = refl
+  alone-past p q y n (x ∷ f) o =
+      rw (ruling-past p q x y o n, step-commute st ownStep own-none own-apart p q x y o n, alone-past p q y n f (ownStep p x o))
+
+  on-rulings : (p : ℕ) (f : List (ℕ × Frame)) (o : List Own) → on p (rulings f o) ≡ alone p (on p f) o
+  on-rulings p [] o = unfold on rulings alone in refl
+  on-rulings p (a ∷ f) o = go (ℕ-discrete (a .0) p) (on-rulings p f (ownStep (a .0) (a .1) o))
+    where
+      go : Dec (a .0 ≡ p) → on p (rulings f (ownStep (a .0) (a .1) o)) ≡ alone p (on p f) (ownStep (a .0) (a .1) o)
+          → on p (rulings (a ∷ f) o) ≡ alone p (on p (a ∷ f)) o
+      go (yes e) h =
+          unfold rulings alone in
+          (rw (on-same p (a .0, ruling (a .0) (a .1) o) (rulings f (ownStep (a .0) (a .1) o)) e, on-same p a f e, h, e))
+      go (no e) h =
+          unfold rulings in
+          (rw (on-other p (a .0, ruling (a .0) (a .1) o) (rulings f (ownStep (a .0) (a .1) o)) e, on-other p a f e, h) (alone-past p (a .0) (a .1) (λ d. e (sym d)) (on p f) o))
+
+pub together-append : (held xs ys : List ℕ) → together held (xs ++ ys) ≡ together (together held xs) ys
 unfolding together
 together-append held [] ys = refl
 together-append held (i ∷ xs) ys = together-append (add i held) xs ys
@@ -281,82 +398,84 @@ unfolding together
 together-grows [] l = omega arith
 together-grows (i ∷ xs) l = omega (arith, add-grows i l, together-grows xs (add i l))
 
-run-ids : (st : Settings) (now : ℕ) (f : List (ℕ × List ℕ)) (s : List Stream) → ids (run (step st (applyAll now)) f s) ≡ together (ids s) (asked st f)
-unfolding run asked step together
+-- streams held, and more asked for by one frame and then by others
+pub first-fits : (held xs ys : List ℕ) (n : ℕ) → length (together held (xs ++ ys)) ≤ n → length (together held xs) ≤ n
+first-fits held xs ys n h = le-trans (together-grows ys (together held xs)) (rw (← together-append held xs ys) h)
+
+step-ids : (st : Settings) (now p : ℕ) (x : Frame) (s : List Stream) → ids (streamStep st now p x s) ≡ together (ids s) (askedBy st p x)
+unfolding streamStep askedBy
+step-ids st now p (msrp pdu) s = effect-ids now (p - 1) (reading st p pdu) s
+step-ids st now p (mmrp pdu) s = unfold together in refl
+
+run-ids : (st : Settings) (now : ℕ) (f : List (ℕ × Frame)) (s : List Stream) → ids (run (streamStep st now) f s) ≡ together (ids s) (asked st f)
+unfolding run asked together
 run-ids st now [] s = refl
 run-ids st now (a ∷ f) s =
-    run-ids st now f (step st (applyAll now) (a .0) (a .1) s)
-    ∙ ap (λ (l : List ℕ). together l (asked st f)) (effect-ids now (a .0 - 1) (reading st (a .0) (a .1)) s)
-    ∙ sym (together-append (ids s) (asks (reading st (a .0) (a .1))) (asked st f))
+    run-ids st now f (streamStep st now (a .0) (a .1) s)
+    ∙ ap (λ (l : List ℕ). together l (asked st f)) (step-ids st now (a .0) (a .1) s)
+    ∙ sym (together-append (ids s) (askedBy st (a .0) (a .1)) (asked st f))
 
 -- there is room for all streams that frames ask for: the different ones, held or asked for, are at most 64
-unfoldable pub Room : List (ℕ × List ℕ) → Bridge → Type 0
+unfoldable pub Room : List (ℕ × Frame) → Bridge → Type 0
 Room f b = length (together (ids (b .streams)) (asked (b .settings) f)) ≤ 64
 
-module _ (a : ℕ × List ℕ) (f : List (ℕ × List ℕ)) (b : Bridge) (h : Room (a ∷ f) b) where
-  first-room : receive b (a .0) (a .1) ≡ record { number = number (reading (b .settings) (a .0) (a .1)); bridge = next b (a .0) (reading (b .settings) (a .0) (a .1)) }
-  unfolding Room asked receive
-  first-room =
-      let r = reading (b .settings) (a .0) (a .1) in
-      let more = asked (b .settings) f in
-      room b (a .0) r (le-trans (together-grows more (together (ids (b .streams)) (asks r))) (rw (← together-append (ids (b .streams)) (asks r) more) h))
+-- the bridge after a frame that finds room for its streams
+after : Bridge → ℕ → Frame → Bridge
+after b p x = owning (holding b (streamStep (b .settings) (b .clock) p x (b .streams))) (ownStep (b .settings) (b .clock) p x (b .own))
 
-  rest-room : Room f (next b (a .0) (reading (b .settings) (a .0) (a .1)))
-  unfolding Room asked next holding owning
-  rest-room = rw (effect-ids, ← together-append (ids (b .streams)) (asks (reading (b .settings) (a .0) (a .1))) (asked (b .settings) f)) h
+one-frame : (b : Bridge) (p : ℕ) (x : Frame) → length (together (ids (b .streams)) (askedBy (b .settings) p x)) ≤ 64 →
+    receiveFrame b p x ≡ record { number = ruling (b .settings) (b .clock) p x (b .own); bridge = after b p x }
+unfolding receiveFrame after streamStep ownStep ruling askedBy next holding owning
+one-frame b p (msrp pdu) h = unfold receive in (room b p (reading (b .settings) p pdu) h)
+one-frame b p (mmrp pdu) h = unfold receiveMmrp in (received-is b p (addressReading (b .settings) p pdu))
+
+module _ (a : ℕ × Frame) (f : List (ℕ × Frame)) (b : Bridge) (h : Room (a ∷ f) b) where
+  first-room : receiveFrame b (a .0) (a .1) ≡ record { number = ruling (b .settings) (b .clock) (a .0) (a .1) (b .own); bridge = after b (a .0) (a .1) }
+  unfolding Room asked
+  first-room = one-frame b (a .0) (a .1) (first-fits (ids (b .streams)) (askedBy (b .settings) (a .0) (a .1)) (asked (b .settings) f) 64 h)
+
+  rest-room : Room f (after b (a .0) (a .1))
+  unfolding Room asked after holding owning
+  rest-room =
+      rw (step-ids (b .settings) (b .clock) (a .0) (a .1) (b .streams), ← together-append (ids (b .streams)) (askedBy (b .settings) (a .0) (a .1)) (asked (b .settings) f)) h
 
 -- the streams, and what the ports hold by themselves, after frames that find room
-module _ (f : List (ℕ × List ℕ)) (b : Bridge) where
+module _ (f : List (ℕ × Frame)) (b : Bridge) where
   streamsAfter : List Stream
-  streamsAfter = run (step (b .settings) (applyAll (b .clock))) f (b .streams)
+  streamsAfter = run (streamStep (b .settings) (b .clock)) f (b .streams)
 
   ownAfter : List Own
-  ownAfter = run (step (b .settings) (applyOwns (b .clock))) f (b .own)
+  ownAfter = run (ownStep (b .settings) (b .clock)) f (b .own)
 
-after-run : (f : List (ℕ × List ℕ)) (b : Bridge) → Room f b → afterFrames f b ≡ owning (holding b (streamsAfter f b)) (ownAfter f b)
-unfolding afterFrames streamsAfter ownAfter run step next holding owning
+after-run : (f : List (ℕ × Frame)) (b : Bridge) → Room f b → afterFrames f b ≡ owning (holding b (streamsAfter f b)) (ownAfter f b)
+unfolding afterFrames streamsAfter ownAfter run after holding owning
 after-run [] b h = refl
-after-run (a ∷ f) b h = rw (first-room a f b h) (after-run f (next b (a .0) (reading (b .settings) (a .0) (a .1))) (rest-room a f b h))
+after-run (a ∷ f) b h = rw (first-room a f b h) (after-run f (after b (a .0) (a .1)) (rest-room a f b h))
 
 -- the streams held after them
-pub after-ids : (f : List (ℕ × List ℕ)) (b : Bridge) → length (together (ids (b .streams)) (asked (b .settings) f)) ≤ 64 →
+pub after-ids : (f : List (ℕ × Frame)) (b : Bridge) → length (together (ids (b .streams)) (asked (b .settings) f)) ≤ 64 →
     ids (afterFrames f b .streams) ≡ together (ids (b .streams)) (asked (b .settings) f)
 unfolding Room holding owning streamsAfter
 after-ids f b h = rw (after-run f b h) (run-ids (b .settings) (b .clock) f (b .streams))
 
--- the answer to a frame depends on it and its port alone
-ruling : Settings → ℕ × List ℕ → ℕ × ℕ
-ruling st a = (a .0, number (reading st (a .0) (a .1)))
-
-all-answers : (f : List (ℕ × List ℕ)) (b : Bridge) → Room f b → frameAnswers f b ≡ map (ruling (b .settings)) f
-unfolding frameAnswers ruling next holding owning
+all-answers : (f : List (ℕ × Frame)) (b : Bridge) → Room f b → frameAnswers f b ≡ rulings (b .settings) (b .clock) f (b .own)
+unfolding frameAnswers rulings after holding owning
 all-answers [] b h = refl
 all-answers (a ∷ f) b h =
     rw (first-room a f b h)
-    (ap (λ (l : List (ℕ × ℕ)). ruling (b .settings) a ∷ l) (all-answers f (next b (a .0) (reading (b .settings) (a .0) (a .1))) (rest-room a f b h)))
+    (ap (λ (l : List (ℕ × ℕ)). (a .0, ruling (b .settings) (b .clock) (a .0) (a .1) (b .own)) ∷ l) (all-answers f (after b (a .0) (a .1)) (rest-room a f b h)))
 
-on-ruling : (st : Settings) (p : ℕ) (f : List (ℕ × List ℕ)) → on p (map (ruling st) f) ≡ map (λ (x : List ℕ). number (reading st p x)) (on p f)
-on-ruling st p [] = unfold on in refl
-on-ruling st p (a ∷ f) = go (ℕ-discrete (a .0) p) (on-ruling st p f)
-  where
-    go : Dec (a .0 ≡ p) → on p (map (ruling st) f) ≡ map (λ (x : List ℕ). number (reading st p x)) (on p f) →
-        on p (ruling st a ∷ map (ruling st) f) ≡ map (λ (x : List ℕ). number (reading st p x)) (on p (a ∷ f))
-    go (yes e) h =
-        unfold ruling in
-        (rw (on-same p (ruling st a) (map (ruling st) f) e, on-same p a f e, e) (ap (λ (l : List ℕ). number (reading st p (a .1)) ∷ l) h))
-    go (no e) h = unfold ruling in (rw (on-other p (ruling st a) (map (ruling st) f) e, on-other p a f e) h)
-
--- With room for all, the order among the ports does not matter: neither to the bridge nor to the answer to any frame.
-pub order : (f g : List (ℕ × List ℕ)) (b : Bridge) → ((p : ℕ) → on p f ≡ on p g) →
+-- With room for all streams, the order among the ports does not matter: neither to the bridge nor to the answer to any frame.
+pub order : (f g : List (ℕ × Frame)) (b : Bridge) → ((p : ℕ) → on p f ≡ on p g) →
     length (together (ids (b .streams)) (asked (b .settings) f)) ≤ 64 →
     (afterFrames f b ≡ afterFrames g b) × ((p : ℕ) → on p (frameAnswers f b) ≡ on p (frameAnswers g b))
 unfolding Room streamsAfter ownAfter
 order f g b same fits =
     let st = b .settings in
     let now = b .clock in
-    let streams : streamsAfter f b ≡ streamsAfter g b = same-order st (applyAll now) (frames-commute now) f g (b .streams) same in
-    let own : ownAfter f b ≡ ownAfter g b = same-order st (applyOwns now) (own-frames-commute now) f g (b .own) same in
+    let streams : streamsAfter f b ≡ streamsAfter g b = streams-order st now f g (b .streams) same in
+    let own : ownAfter f b ≡ ownAfter g b = own-order st now f g (b .own) same in
     let fits′ : Room g b = rw (← run-ids st now g (b .streams), ← streams, run-ids) fits in (
       after-run f b fits ∙ ap₂ (λ (s : List Stream) (o : List Own). owning (holding b s) o) streams own ∙ sym (after-run g b fits′),
-      λ p. rw (all-answers f b fits, all-answers g b fits′, on-ruling st p f, on-ruling st p g, same p),
+      λ p. rw (all-answers f b fits, all-answers g b fits′, on-rulings st now p f (b .own), on-rulings st now p g (b .own), same p),
     )

@@ -12,6 +12,7 @@ pub mod Fits
 pub mod Arrivals
 pub mod Commute
 pub mod FoundVectors
+pub mod ReceivedAddresses
 pub mod FrameOrder
 pub mod Admission
 pub mod Importance
@@ -19,6 +20,7 @@ pub mod ColumnRule
 pub mod OneSolution
 pub mod Borrowing
 pub mod ReceiveKeepsForm
+pub mod Addresses
 pub mod AdvanceKeepsForm
 pub mod Ascents
 pub mod CuttingWeights
@@ -33,10 +35,14 @@ pub mod ReadBack
 pub mod Versions
 pub mod CutOut
 pub mod Refusals
+pub mod FoundAddresses
+pub mod AddressesKept
+pub mod AddressRefusals
 pub mod Edge
 pub mod OwnCodes
 pub mod Boundaries
 pub mod Growth
+pub mod Pruning
 pub mod FanIn
 pub mod Untouched
 pub mod Newcomer
@@ -45,3 +51,4 @@ pub mod Examples
 pub mod CuttingExamples
 pub mod FormKept
 pub mod Demand3
+pub mod AddressRoom

@@ -108,6 +108,13 @@ module _ {A : Type 0} where
   drop-changed (suc n) zero u (x ∷ l) h = refl
   drop-changed (suc n) (suc p) u (x ∷ l) h = drop-changed n p u l (omega arith)
 
+  -- what stands there then
+  pub at-here : (p : ℕ) (u : A → A) (l : List A) (d : A) → p < length l → getD (at p u l) p d ≡ u (getD l p d)
+  unfolding at
+  at-here p u [] d h = absurd (omega arith)
+  at-here zero u (x ∷ l) d h = refl
+  at-here (suc p) u (x ∷ l) d h = at-here p u l d (omega arith)
+
   -- what stands at another place is as before
   pub at-other : (p : ℕ) (u : A → A) (l : List A) (q : ℕ) (d : A) → (p ≡ q → ⊥) → getD (at p u l) q d ≡ getD l q d
   unfolding at

@@ -148,6 +148,7 @@ module _ (now : ℕ) (b b′ : Bridge) (l r : List Stream) (z : Stream) (n : Joi
     address = rw (n .before, n .after) (sym (shares-past l r z (inboundOf x) (unfold inboundOf in address)));
     edge = rw (n .settings, n .own);
     inbound = rw (n .before, n .after, n .settings) (sym (kept-past l r z (b′ .settings .fanIn) (n .inbound) (sourceOf x)));
+    wanted = rw (n .settings, n .own) (λ e. refl);
   }
 
   pub newcomer :

@@ -1,28 +1,30 @@
--- What a port holds by itself, as octets and back: its Domain values and its flags.
+-- What a port holds by itself, as octets and back: its Domain values, its flags and its addresses.
 use mathlib.Core.Path.{_≡_, refl, sym, _∙_, ap}
-use mathlib.Core.List.{List, [], _∷_, _++_, append-nil}
+use mathlib.Core.List.{List, [], _∷_, _++_, append-assoc}
 use mathlib.Core.Bool.{Bool, true, false, cond}
-use Prim.Native.Nat.{ℕ, zero, suc, _+_, _^_, _≤_, _<_}
+use Prim.Native.Nat.{ℕ, zero, suc, _+_, _*_, _-_, _^_, _≤_, _<_}
 use native.Mathlib.Omega.{arith}
 use lib.ListN.{length, getD, drop, replicate, take-append-drop, length-append, length-drop, drop-of-length-le}
-use lib.Seq.{take-all}
+use lib.Seq.{drop-at, drop-drop}
 use lib.Dec.{eqb, leb}
 use borrow.Author.Tests.{eq-eqb, ne-eqb, le-leb, leb-true}
 use Rattle.octets.specs.Fields.{fields, packed, Fit, width, flat}
 use Rattle.octets.specs.Parts.{part, zeros}
 use Rattle.octets.proofs.Parts.{length-part}
 use Rattle.octets.proofs.Fields.{length-packed-any, fields-of-packed, fields-packed-behind, packed-fields, fields-fit, fit-at, fit-zeros, packed-zeros}
-use Rattle.model.specs.Layout.{boundaryBPlace, boundaryPlace, boundaryWidths, heldField, ownSize, slotLeavesField, slotSinceField, slotSize, slotVlanField, slotWidths, slots, slotsSize}
-use Rattle.model.specs.Lists.{All, allTrue, bit, Octets}
+use Rattle.model.specs.Layout.{addresses, addressesPlace, addressesSize, addressSize, boundaryBPlace, boundaryPlace, boundaryWidths, heldField, heldPlace, heldWidths, ownSize, slotLeavesField, slotSinceField, slotSize, slotVlanField, slotWidths, slots, slotsSize}
+use Rattle.model.specs.Lists.{All, allTrue, bit, parts, Octets}
 use Rattle.model.specs.State.{Domain, noDomain, domain, Own, noOwn}
-use Rattle.model.specs.Table.{leavingNumber, sinceNumber, toLeaving, leavingRule, allZero, everyPart, domainNumbers, domainFrom, domainOctets, toDomain, domainRules, domainFormed, ownOctets, slotsPart, toOwn, ownRules, ownFormed}
+use Rattle.model.specs.Registrations.{macs}
+use Rattle.model.specs.Table.{leavingNumber, sinceNumber, toLeaving, leavingRule, allZero, everyPart, domainNumbers, domainFrom, domainOctets, toDomain, domainRules, domainFormed, addressFormed, toAddress, ownOctets, slotsPart, addressesHeld, addressesPart, toOwn, rising, macOf, ownRules, ownFormed}
 use Rattle.model.specs.Laid.{FitOwn}
 use Rattle.model.proofs.Lists.{all-each, all-map, all-replicate, implied, all-true, true-all}
-use Rattle.model.proofs.Valid.{ValidLeaving, ValidDomain, ValidOwn}
-use Rattle.model.proofs.Parts.{_also_, Sized, octets-at, octets-append, octets-packed, octets-flat, octets-part, zero-at, packed-whole, length-parts, length-flat-sized, flat-zeros, zeros-add, many-read, part-between}
+use Rattle.model.proofs.Valid.{ValidLeaving, ValidDomain, ValidOwn, Rising}
+use Rattle.model.proofs.Parts.{_also_, Sized, octets-at, octets-append, octets-packed, octets-flat, octets-part, octets-drop, zero-at, zero-zeros, packed-whole, length-parts, length-flat-sized, flat-zeros, zeros-add, many-read, part-between}
 use Rattle.model.proofs.Cells.{bit-back, bit-forth, bit-few, leaving-back, leaving-few, since-within, leaving-formed, left}
 use Rattle.model.proofs.Coded.{Coded, many-keep, many-forth, many-valid}
 use Rattle.model.proofs.SettingsOctets.{octet-field}
+use Rattle.model.proofs.Addresses.{addressesWhole, whole-addresses-length, addresses-rest, addresses-back, addresses-octets, valid-addresses-fit, addresses-formed, addresses-rise, addresses-forth, addresses-valid}
 
 -- A Domain value.
 
@@ -139,33 +141,49 @@ domains-coded clock leave small = record {
 abbrev pub flags : Own → List ℕ
 flags o = packed boundaryWidths (bit (o .boundaryA) ∷ bit (o .boundaryB) ∷ [])
 
+abbrev pub numberHeld : Own → List ℕ
+numberHeld o = packed heldWidths (length (o .addresses) ∷ [])
+
 flags-length : (o : Own) → length (flags o) ≡ 2
 unfolding width
 flags-length o = length-packed-any boundaryWidths (bit (o .boundaryA) ∷ bit (o .boundaryB) ∷ []) refl
+
+held-length : (o : Own) → length (numberHeld o) ≡ 1
+unfolding width
+held-length o = length-packed-any heldWidths (length (o .addresses) ∷ []) refl
 
 flags-fit : (o : Own) → Fit boundaryWidths (bit (o .boundaryA) ∷ bit (o .boundaryB) ∷ [])
 unfolding Fit
 flags-fit o = omega (arith, bit-few (o .boundaryA)) also omega (arith, bit-few (o .boundaryB)) also tt
 
+-- octets are their four parts
+four-parts : (s : List ℕ) → s ≡ slotsPart s ++ (part boundaryPlace 2 s ++ (part heldPlace 1 s ++ addressesPart s))
+unfolding slotsPart part addressesPart
+four-parts s =
+    rw (
+      ← drop-drop 1 heldPlace s,
+      take-append-drop 1 (drop heldPlace s),
+      ← drop-drop 2 boundaryPlace s,
+      take-append-drop 2 (drop boundaryPlace s),
+    )
+    (sym (take-append-drop slotsSize s))
+
 module _ (o : Own) (slotted : length (o .domains) ≡ slots) where
   pub slots-length : length (flat domainOctets (o .domains)) ≡ slotsSize
   slots-length = omega (arith, length-flat-sized slotSize domainOctets (o .domains) (domains-sized (o .domains)), slotted)
 
-  pub own-length : length (ownOctets o) ≡ ownSize
-  unfolding ownOctets
-  own-length = length-append (flat domainOctets (o .domains)) (flags o) ∙ omega (arith, slots-length, flags-length o)
-
   pub slots-of : slotsPart (ownOctets o) ≡ flat domainOctets (o .domains)
   unfolding slotsPart ownOctets
-  slots-of = part-between [] (flat domainOctets (o .domains)) (flags o) 0 slotsSize refl slots-length
+  slots-of =
+      part-between [] (flat domainOctets (o .domains)) (flags o ++ (numberHeld o ++ addressesWhole (o .addresses))) 0 slotsSize refl slots-length
 
   flags-read : fields boundaryWidths boundaryPlace (ownOctets o) ≡ bit (o .boundaryA) ∷ bit (o .boundaryB) ∷ []
   unfolding ownOctets
   flags-read =
       let ds = flat domainOctets (o .domains) in
-      ap (λ (s : List ℕ). fields boundaryWidths boundaryPlace (ds ++ s)) (sym (append-nil (flags o)))
-      ∙ ap (λ (k : ℕ). fields boundaryWidths k (ds ++ (flags o ++ []))) (sym slots-length)
-      ∙ fields-packed-behind boundaryWidths (bit (o .boundaryA) ∷ bit (o .boundaryB) ∷ []) ds [] (flags-fit o)
+      let rest = numberHeld o ++ addressesWhole (o .addresses) in
+      ap (λ (k : ℕ). fields boundaryWidths k (ds ++ (flags o ++ rest))) (sym slots-length)
+      ∙ fields-packed-behind boundaryWidths (bit (o .boundaryA) ∷ bit (o .boundaryB) ∷ []) ds rest (flags-fit o)
 
   pub flag-a : getD (ownOctets o) boundaryPlace 0 ≡ bit (o .boundaryA)
   unfolding fields
@@ -175,6 +193,47 @@ module _ (o : Own) (slotted : length (o .domains) ≡ slots) where
   unfolding fields
   flag-b = sym (octet-field (ownOctets o) boundaryBPlace) ∙ ap (λ (vs : List ℕ). getD vs 1 0) flags-read
 
+  -- up to the number of addresses, and behind it
+  before-held : ownOctets o ≡ (flat domainOctets (o .domains) ++ flags o) ++ (numberHeld o ++ addressesWhole (o .addresses))
+  unfolding ownOctets
+  before-held = sym (append-assoc (flat domainOctets (o .domains)) (flags o) (numberHeld o ++ addressesWhole (o .addresses)))
+
+  before-held-length : length (flat domainOctets (o .domains) ++ flags o) ≡ heldPlace
+  before-held-length = omega (arith, length-append (flat domainOctets (o .domains)) (flags o), slots-length, flags-length o)
+
+  pub addresses-of : addressesPart (ownOctets o) ≡ addressesWhole (o .addresses)
+  unfolding addressesPart
+  addresses-of =
+      let p = flat domainOctets (o .domains) ++ flags o in
+      ap (drop addressesPlace) (before-held ∙ sym (append-assoc p (numberHeld o) (addressesWhole (o .addresses))))
+      ∙ drop-at (p ++ numberHeld o) (addressesWhole (o .addresses)) addressesPlace (omega (arith, length-append p (numberHeld o), before-held-length, held-length o))
+
+  module _ (few : length (o .addresses) ≤ addresses) where
+    pub own-length : length (ownOctets o) ≡ ownSize
+    own-length =
+        let p = flat domainOctets (o .domains) ++ flags o in
+        let w = addressesWhole (o .addresses) in
+        ap length before-held
+        ∙ omega (
+          arith,
+          length-append p (numberHeld o ++ w),
+          length-append (numberHeld o) w,
+          before-held-length,
+          held-length o,
+          whole-addresses-length (o .addresses) few,
+        )
+
+    pub held-read : addressesHeld (ownOctets o) ≡ length (o .addresses)
+    unfolding addressesHeld fields Fit
+    held-read =
+        let p = flat domainOctets (o .domains) ++ flags o in
+        let w = addressesWhole (o .addresses) in
+        sym (octet-field (ownOctets o) heldPlace)
+        ∙ ap (λ (vs : List ℕ). getD vs 0 0)
+        (ap (fields heldWidths heldPlace) before-held
+        ∙ ap (λ (k : ℕ). fields heldWidths k (p ++ (numberHeld o ++ w))) (sym before-held-length)
+        ∙ fields-packed-behind heldWidths (length (o .addresses) ∷ []) p w (omega arith also tt))
+
 -- what fits its fields is read back
 pub own-fit-back : (o : Own) → FitOwn o → toOwn (ownOctets o) ≡ o
 unfolding toOwn
@@ -182,17 +241,32 @@ own-fit-back o f =
     let back =
     many-read slotSize domainOctets slots toDomain (o .domains) (f .slotted) (domains-sized (o .domains))
     (all-map (λ d. Fit slotWidths (domainNumbers d)) (λ d. toDomain (domainOctets d) ≡ d) fit-back (o .domains) (f .domains)) in
-    rw (slots-of o (f .slotted), flag-a o (f .slotted), flag-b o (f .slotted), bit-back (o .boundaryA), bit-back (o .boundaryB), back)
+    rw (
+      slots-of o (f .slotted),
+      flag-a o (f .slotted),
+      flag-b o (f .slotted),
+      bit-back (o .boundaryA),
+      bit-back (o .boundaryB),
+      back,
+      held-read o (f .slotted) (f .addresses .at-most-64),
+      addresses-of o (f .slotted),
+      addresses-back (o .addresses) (f .addresses .each),
+    )
 
 pub valid-own-fits : (clock leave : ℕ) → clock < 2 ^ 32 → (o : Own) → ValidOwn clock leave o → FitOwn o
 valid-own-fits clock leave small o v = record {
   slotted = v .slotted;
   domains = all-map (ValidDomain clock leave) (λ d. Fit slotWidths (domainNumbers d)) (domain-fit clock leave small) (o .domains) (v .domains);
+  addresses = valid-addresses-fit clock leave small (o .addresses) (v .addresses);
 }
 
 pub own-octets : (o : Own) → Octets (ownOctets o)
 unfolding ownOctets
-own-octets o = octets-append (flat domainOctets (o .domains)) (flags o) (octets-flat domainOctets domain-octets (o .domains)) (octets-packed boundaryWidths _)
+own-octets o =
+    let w = addressesWhole (o .addresses) in
+    octets-append (flat domainOctets (o .domains)) (flags o ++ (numberHeld o ++ w)) (octets-flat domainOctets domain-octets (o .domains))
+    (octets-append (flags o) (numberHeld o ++ w) (octets-packed boundaryWidths _)
+    (octets-append (numberHeld o) w (octets-packed heldWidths _) (addresses-octets (o .addresses))))
 
 module _ (clock leave : ℕ) (small : clock < 2 ^ 32) where
   module _ (o : Own) (v : ValidOwn clock leave o) where
@@ -202,11 +276,18 @@ module _ (clock leave : ℕ) (small : clock < 2 ^ 32) where
     own-formed : ownFormed clock leave (ownOctets o) ≡ true
     unfolding ownFormed ownRules
     own-formed =
+        let few = v .addresses .at-most-64 in
+        let l = o .addresses in
         true-all (ownRules clock leave (ownOctets o))
         (rw (slots-of o (v .slotted)) (many-keep (domains-coded clock leave small) slots slots (omega arith) (o .domains) (v .slotted) (v .domains))
         also rw (flag-a o (v .slotted)) (le-leb (bit (o .boundaryA)) 1 (bit-few (o .boundaryA)))
         also rw (flag-b o (v .slotted)) (le-leb (bit (o .boundaryB)) 1 (bit-few (o .boundaryB)))
-        also tt)
+        also rw (held-read o (v .slotted) few, addresses-of o (v .slotted))
+        (le-leb (length l) addresses few
+        also addresses-formed clock leave small l (v .addresses)
+        also addresses-rise clock leave small l (v .addresses)
+        also rw (addresses-rest l few) (zero-zeros ((addresses - length l) * addressSize))
+        also tt))
 
   module _ (s : List ℕ) (l : length s ≡ ownSize) (q : Octets s) (h : ownFormed clock leave s ≡ true) where
     own-rules : All (λ b. b ≡ true) (ownRules clock leave s)
@@ -225,6 +306,22 @@ module _ (clock leave : ℕ) (small : clock < 2 ^ 32) where
     unfolding ownRules
     one-b = leb-true (getD s boundaryBPlace 0) 1 (own-rules .1 .1 .0)
 
+    pub few-held : addressesHeld s ≤ addresses
+    unfolding ownRules
+    few-held = leb-true (addressesHeld s) addresses (own-rules .1 .1 .1 .0)
+
+    pub addresses-kept : everyPart addressSize (addressFormed clock leave) (addressesHeld s) (addressesPart s) ≡ true
+    unfolding ownRules
+    addresses-kept = own-rules .1 .1 .1 .1 .0
+
+    pub macs-rise : rising (parts addressSize macOf (addressesHeld s) (addressesPart s)) ≡ true
+    unfolding ownRules
+    macs-rise = own-rules .1 .1 .1 .1 .1 .0
+
+    pub addresses-zero : allZero (drop (addressesHeld s * addressSize) (addressesPart s)) ≡ true
+    unfolding ownRules
+    addresses-zero = own-rules .1 .1 .1 .1 .1 .1 .0
+
     slots-room : length (slotsPart s) ≡ slotsSize
     unfolding slotsPart
     slots-room = length-part 0 slotsSize s (omega arith)
@@ -233,42 +330,71 @@ module _ (clock leave : ℕ) (small : clock < 2 ^ 32) where
     unfolding slotsPart
     slots-octets = octets-part 0 slotsSize s q
 
+    addresses-room : length (addressesPart s) ≡ addressesSize
+    unfolding addressesPart
+    addresses-room = length-drop addressesPlace s ∙ omega arith
+
+    addresses-there : Octets (addressesPart s)
+    unfolding addressesPart
+    addresses-there = octets-drop addressesPlace s q
+
     none-behind : allZero (drop slotsSize (slotsPart s)) ≡ true
     unfolding allZero
     none-behind = rw (drop-of-length-le (slotsPart s) {i = slotsSize} (omega (arith, slots-room))) refl
 
-    flags-forth : flags (toOwn s) ≡ drop slotsSize s
-    unfolding toOwn fields width part
+    flags-forth : flags (toOwn s) ≡ part boundaryPlace 2 s
+    unfolding toOwn fields width
     flags-forth =
         rw (bit-forth (getD s boundaryPlace 0) one-a, bit-forth (getD s boundaryBPlace 0) one-b, ← octet-field s boundaryPlace, ← octet-field s boundaryBPlace)
-        (packed-fields boundaryWidths boundaryPlace s (omega arith) (octets-at s q) ∙ take-all 2 (drop slotsSize s) (omega (arith, length-drop slotsSize s)))
+        (packed-fields boundaryWidths boundaryPlace s (omega arith) (octets-at s q))
+
+    held-forth : numberHeld (toOwn s) ≡ part heldPlace 1 s
+    unfolding toOwn fields width addressesHeld
+    held-forth =
+        rw (length-parts addressSize toAddress (getD s heldPlace 0) (addressesPart s), ← octet-field s heldPlace)
+        (packed-fields heldWidths heldPlace s (omega arith) (octets-at s q))
+
+    addresses-written : addressesWhole (toOwn s .addresses) ≡ addressesPart s
+    unfolding toOwn
+    addresses-written = addresses-forth clock leave small (addressesHeld s) (addressesPart s) few-held addresses-room addresses-there addresses-kept addresses-zero
+
+    slots-written : flat domainOctets (toOwn s .domains) ≡ slotsPart s
+    unfolding toOwn
+    slots-written = many-forth (domains-coded clock leave small) slots slots (omega arith) (slotsPart s) slots-room slots-octets slots-kept none-behind
 
     own-forth : ownOctets (toOwn s) ≡ s
-    unfolding ownOctets toOwn slotsPart part
-    own-forth =
-        rw (flags-forth, many-forth (domains-coded clock leave small) slots slots (omega arith) (slotsPart s) slots-room slots-octets slots-kept none-behind)
-        (take-append-drop slotsSize s)
+    unfolding ownOctets
+    own-forth = rw (flags-forth, held-forth, addresses-written, slots-written) (sym (four-parts s))
 
     own-valid : ValidOwn clock leave (toOwn s)
     unfolding toOwn
     own-valid = record {
       slotted = length-parts slotSize toDomain slots (slotsPart s);
       domains = many-valid (domains-coded clock leave small) slots slots (omega arith) (slotsPart s) slots-room slots-octets slots-kept none-behind;
+      addresses = addresses-valid clock leave small (addressesHeld s) (addressesPart s) few-held addresses-room addresses-there addresses-kept addresses-zero macs-rise;
     }
 
 pub own-zeros : ownOctets noOwn ≡ zeros ownSize
-unfolding ownOctets noOwn bit width
+unfolding ownOctets noOwn bit width flat
 own-zeros =
-    rw (flat-zeros slotSize domainOctets noDomain domain-zeros (replicate slots noDomain) (all-replicate (λ d. d ≡ noDomain) slots noDomain refl), packed-zeros boundaryWidths)
-    (sym (zeros-add slotsSize 2))
+    rw (
+      flat-zeros slotSize domainOctets noDomain domain-zeros (replicate slots noDomain) (all-replicate (λ d. d ≡ noDomain) slots noDomain refl),
+      packed-zeros boundaryWidths,
+      packed-zeros heldWidths,
+    )
+    (rw (← zeros-add 1 addressesSize, ← zeros-add 2 (1 + addressesSize)) (sym (zeros-add slotsSize (3 + addressesSize))))
 
 pub no-own-valid : (clock leave : ℕ) → ValidOwn clock leave noOwn
-unfolding noOwn
-no-own-valid clock leave = record { slotted = refl; domains = all-replicate (ValidDomain clock leave) slots noDomain tt }
+unfolding noOwn macs Rising
+no-own-valid clock leave = record {
+  slotted = refl;
+  domains = all-replicate (ValidDomain clock leave) slots noDomain tt;
+  addresses = record { at-most-64 = omega arith; each = tt; ascending = tt };
+}
 
 pub owns-coded : (clock leave : ℕ) → clock < 2 ^ 32 → Coded ownSize ownOctets toOwn (ownFormed clock leave) (ValidOwn clock leave) noOwn
 owns-coded clock leave small = record {
-  size = λ o v. own-length o (v .slotted);
+  size = λ o v. own-length o (v .slotted) (v .addresses .at-most-64);
   back = own-back clock leave small;
   keeps = own-formed clock leave small;
   forth = own-forth clock leave small;

@@ -15,6 +15,7 @@ use Rattle.octets.specs.Fields.{fields, packed, width, flat}
 use Rattle.octets.proofs.Fields.{packed-octets, packed-fields}
 use Rattle.model.specs.Lists.{All, tabulate, parts, Octet, Octets}
 use Rattle.model.specs.Table.{everyPart, allZero, rising}
+use Rattle.model.specs.Laid.{Ascending}
 use Rattle.model.proofs.Lists.{all-map, all-append, all-take, all-drop, all-replicate, and-left, and-right, and-both}
 use Rattle.model.proofs.Valid.{Rising}
 
@@ -351,3 +352,15 @@ unfolding rising Rising
 rises-rising [] r = refl
 rises-rising (i ∷ []) r = refl
 rises-rising (i ∷ j ∷ l) r = and-both (ltb i j) (rising (j ∷ l)) (lt-ltb i j (r .0 .0)) (rises-rising (j ∷ l) (r .1))
+
+-- said with the definition that contracts cite, and back
+
+pub rising-ascends : (l : List ℕ) → Rising l → Ascending l
+unfolding Rising
+rising-ascends [] r = tt
+rising-ascends (i ∷ l) r = (r .0, rising-ascends l (r .1))
+
+pub ascending-rises : (l : List ℕ) → Ascending l → Rising l
+unfolding Rising
+ascending-rises [] a = tt
+ascending-rises (i ∷ l) a = (a .0, ascending-rises l (a .1))

@@ -24,7 +24,7 @@ use Rattle.model.proofs.AdvanceKeepsForm.{all-mapped, unsettled-valid}
 -- One cell: an act keeps it valid, as it does at the clock, and at any earlier time that is less than the leave time before it.
 
 module _ (clock leaveTime now : ℕ) (past : now ≤ clock) (recent : clock < now + leaveTime) where
-  begun-leaving : (l : Leaving) → ValidLeaving clock leaveTime l → ValidLeaving clock leaveTime (begin now l)
+  pub begun-leaving : (l : Leaving) → ValidLeaving clock leaveTime l → ValidLeaving clock leaveTime (begin now l)
   unfolding begin
   begun-leaving stays v = (past, recent)
   begun-leaving (since t) v = v
@@ -385,6 +385,7 @@ module _ (clock leaveTime : ℕ) (leaves : 1 ≤ leaveTime) where
   own-valid a h o v = record {
     slotted = domains-slotted clock a (o .domains) ∙ v .slotted;
     domains = domains-valid a h (o .domains) (v .domains);
+    addresses = v .addresses;
   }
 
 -- what eight ports hold, and nothing behind the bridge's

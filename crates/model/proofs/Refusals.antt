@@ -44,7 +44,7 @@ module _ {A B : Type 0} (f : A → B) where
 -- Refusals alter nothing.
 
 -- start, receive and advance leave the table
-Unaltered : List ℕ → Call → Type 0
+unfoldable pub Unaltered : List ℕ → Call → Type 0
 Unaltered t c = (c .number ≡ 0 → ⊥) → c .table ≡ t
 
 pub start-refused : (t s : List ℕ) → (startOn t s .number ≡ 0 → ⊥) → startOn t s .table ≡ t
@@ -53,7 +53,7 @@ start-refused t s =
     cond-either (Unaltered t) (not (eqb (length t) tableLength)) _ _ (λ n. refl)
     (cond-either (Unaltered t) (not (settingsFormed s)) _ _ (λ n. refl) (λ n. absurd (n refl)))
 
-on-table-refused : (t : List ℕ) (f : Bridge → Answer) → Unaltered t (onTable t f)
+pub on-table-refused : (t : List ℕ) (f : Bridge → Answer) → Unaltered t (onTable t f)
 unfolding onTable leaves Unaltered
 on-table-refused t f =
     cond-either (Unaltered t) (formed t) _ _
@@ -123,16 +123,16 @@ is-equal a b = (eqb-true a b, eq-eqb a b)
 is-other : (a b : ℕ) → (eqb a b ≡ false) ↔ (a ≡ b → ⊥)
 is-other a b = (eqb-false a b, ne-eqb a b)
 
-is-below : (a b : ℕ) → (ltb a b ≡ true) ↔ (a < b)
+pub is-below : (a b : ℕ) → (ltb a b ≡ true) ↔ (a < b)
 is-below a b = (ltb-true a b, lt-ltb a b)
 
-is-at-least : (a b : ℕ) → (ltb a b ≡ false) ↔ (b ≤ a)
+pub is-at-least : (a b : ℕ) → (ltb a b ≡ false) ↔ (b ≤ a)
 is-at-least a b = (ltb-false a b, le-ltb a b)
 
 -- a test with its number m, before all else that may be answered: m is given exactly when the test holds, if nothing after it
 -- gives m; another number is given exactly when the test does not hold and what comes after it gives that number
 module _ (b : Bool) (m r : ℕ) where
-  given : (P : Type 0) → (r ≡ m → ⊥) → (b ≡ true) ↔ P → (cond b m r ≡ m) ↔ P
+  pub given : (P : Type 0) → (r ≡ m → ⊥) → (b ≡ true) ↔ P → (cond b m r ≡ m) ↔ P
   given P n i = Iff·trans (go b) i
     where
       go : (a : Bool) → (cond a m r ≡ m) ↔ (a ≡ true)
@@ -146,11 +146,11 @@ module _ (b : Bool) (m r : ℕ) where
       go true = (λ e. absurd (h e), λ a. absurd (true≢false (a .0)))
       go false = (λ e. (refl, e), λ a. a .1)
 
-  not-given : (n : ℕ) → (m ≡ n → ⊥) → (r ≡ n → ⊥) → cond b m r ≡ n → ⊥
+  pub not-given : (n : ℕ) → (m ≡ n → ⊥) → (r ≡ n → ⊥) → cond b m r ≡ n → ⊥
   not-given n h k = cond-either (λ (x : ℕ). x ≡ n → ⊥) b m r h k
 
 -- where a test is the last, 0 is given exactly when it does not hold
-last : (b : Bool) (m : ℕ) {P : Type 0} → (m ≡ 0 → ⊥) → (b ≡ false) ↔ P → (cond b m 0 ≡ 0) ↔ P
+pub last : (b : Bool) (m : ℕ) {P : Type 0} → (m ≡ 0 → ⊥) → (b ≡ false) ↔ P → (cond b m 0 ≡ 0) ↔ P
 last true m n i = (λ e. absurd (n e), λ a. absurd (true≢false (i .1 a)))
 last false m n i = (λ e. i .0 refl, λ a. refl)
 
@@ -213,26 +213,26 @@ wrong-port st p = go (eqb p 0) (ltb (length (st .ports)) p) (is-equal p 0) (is-b
 abbrev pub OnPort : List ℕ → ℕ → Type 0
 OnPort t p = (formed t ≡ true) × (wrongPort (decode t .settings) p ≡ false)
 
-fronted : List ℕ → ℕ → ℕ → ℕ
+unfoldable pub fronted : List ℕ → ℕ → ℕ → ℕ
 fronted t p r = cond (not (formed t)) 12 (cond (wrongPort (decode t .settings) p) 1 r)
 
 module _ (t : List ℕ) (p r : ℕ) where
-  fronted-12 : (r ≡ 12 → ⊥) → (fronted t p r ≡ 12) ↔ (formed t ≡ false)
+  pub fronted-12 : (r ≡ 12 → ⊥) → (fronted t p r ≡ 12) ↔ (formed t ≡ false)
   unfolding fronted
   fronted-12 n = given _ 12 _ _ (not-given (wrongPort (decode t .settings) p) 1 r 12 (λ e. omega arith) n) (is-not (formed t))
 
-  fronted-1 : (r ≡ 1 → ⊥) → (fronted t p r ≡ 1) ↔ ((formed t ≡ true) × (wrongPort (decode t .settings) p ≡ true))
+  pub fronted-1 : (r ≡ 1 → ⊥) → (fronted t p r ≡ 1) ↔ ((formed t ≡ true) × (wrongPort (decode t .settings) p ≡ true))
   unfolding fronted
   fronted-1 n = given-after _ 12 _ 1 _ _ (λ e. omega arith) (is-so (formed t)) (given _ 1 r _ n Iff·rfl)
 
-  fronted-past : (n : ℕ) (P : Type 0) → (12 ≡ n → ⊥) → (1 ≡ n → ⊥) → (r ≡ n) ↔ P → (fronted t p r ≡ n) ↔ (OnPort t p × P)
+  pub fronted-past : (n : ℕ) (P : Type 0) → (12 ≡ n → ⊥) → (1 ≡ n → ⊥) → (r ≡ n) ↔ P → (fronted t p r ≡ n) ↔ (OnPort t p × P)
   unfolding fronted
   fronted-past n P h k i =
       Iff·trans (given-after _ 12 _ n _ _ h (is-so (formed t)) (given-after _ 1 r n _ P k Iff·rfl i))
       (λ a. ((a .0, a .1 .0), a .1 .1), λ a. (a .0 .0, (a .0 .1, a .1)))
 
 -- every number that may be given
-fronted-all : (P : ℕ → Type 0) (t : List ℕ) (p r : ℕ) → P 12 → P 1 → P r → P (fronted t p r)
+pub fronted-all : (P : ℕ → Type 0) (t : List ℕ) (p r : ℕ) → P 12 → P 1 → P r → P (fronted t p r)
 unfolding fronted
 fronted-all P t p r h k l = cond-either P (not (formed t)) 12 _ h (cond-either P (wrongPort (decode t .settings) p) 1 r k l)
 
@@ -244,7 +244,7 @@ own-number n = go (eqb n 0) refl
     go true e = sym (eqb-true n 0 e)
     go false e = refl
 
-on-table-number : (t : List ℕ) (f : Bridge → Answer) → onTable t f .number ≡ cond (not (formed t)) 12 (f (decode t) .number)
+pub on-table-number : (t : List ℕ) (f : Bridge → Answer) → onTable t f .number ≡ cond (not (formed t)) 12 (f (decode t) .number)
 unfolding onTable leaves
 on-table-number t f = go (formed t) (f (decode t))
   where
@@ -274,13 +274,13 @@ both-faults (found vs) (fault n) h k = k
 both-faults (found vs) (found ws) h k = tt
 
 -- what stands at a place has no other number
-abbrev ListFaults : InList → Type 0
+abbrev pub ListFaults : InList → Type 0
 ListFaults (badVector n) = (3 ≤ n) × (n ≤ 7)
 ListFaults listEnd = Unit {0}
 ListFaults (vectorHead h) = Unit {0}
 ListFaults (passedOver h) = Unit {0}
 
-vector-faults : (version first : ℕ) (four : Bool) (l : List ℕ) (at : ℕ) → ListFaults (vectorIn version first four l at)
+pub vector-faults : (version first : ℕ) (four : Bool) (l : List ℕ) (at : ℕ) → ListFaults (vectorIn version first four l at)
 unfolding vectorIn strangeVector
 vector-faults version first four l at =
     let h = beAt 2 l at in
@@ -378,13 +378,54 @@ walk-2 s = go (eqb (length s) 0) refl (ltb longestPdu (length s)) refl
       ⊎-elim (λ h. absurd (eqb-false _ _ e h)) (λ h. absurd (omega (arith, ltb-false longestPdu (length s) f))),
     )
 
--- 8 is tested as "at most 64"
-room-number : (m : ℕ) → cond (leb m 64) 0 8 ≡ cond {A = ℕ} (ltb 64 m) 8 0
-room-number m = go (leb m 64) refl
+-- 8 and 14 are tested as "at most 64"
+pub room-number : (n m : ℕ) → cond (leb m 64) 0 n ≡ cond {A = ℕ} (ltb 64 m) n 0
+room-number n m = go (leb m 64) refl
   where
-    go : (a : Bool) → leb m 64 ≡ a → cond a 0 8 ≡ cond {A = ℕ} (ltb 64 m) 8 0
+    go : (a : Bool) → leb m 64 ≡ a → cond a 0 n ≡ cond {A = ℕ} (ltb 64 m) n 0
     go true e = rw (le-ltb 64 m (leb-true m 64 e))
     go false e = rw (lt-ltb 64 m (leb-false m 64 e))
+
+-- The number of a frame on a port of the bridge, of either protocol: that of the fault which its walk meets, or, where it is read,
+-- m if what is held with what it asks for is more than 64.
+pub record Numbered (number m : ℕ) (Acts : Type 0) (Meets : ℕ → Type 0) (Reads : Acts → Type 0) (count : Acts → ℕ) : Type 0 where
+  pub either : ((n : ℕ) × Meets n) ⊎ ((a : Acts) × Reads a)
+  pub within : (n : ℕ) → Meets n → (2 ≤ n) × (n ≤ 7)
+  pub met : (n : ℕ) → Meets n → number ≡ n
+  pub read : (a : Acts) → Reads a → number ≡ cond (ltb 64 (count a)) m 0
+
+module _ {number m : ℕ} {Acts : Type 0} {Meets : ℕ → Type 0} {Reads : Acts → Type 0} {count : Acts → ℕ}
+    (w : Numbered number m Acts Meets Reads count) (last-tested : 7 < m) where
+  -- a number of the walk is given exactly when the walk meets it
+  pub numbered-fault : (n : ℕ) → 2 ≤ n → n ≤ 7 → (number ≡ n) ↔ Meets n
+  numbered-fault n h k = (go (w .either), w .met n)
+    where
+      go : ((n : ℕ) × Meets n) ⊎ ((a : Acts) × Reads a) → number ≡ n → Meets n
+      go (inl a) f = subst Meets (sym (w .met (a .0) (a .1)) ∙ f) (a .1)
+      go (inr a) f =
+          absurd (not-given (ltb 64 (count (a .0))) m 0 n (λ i. omega arith) (λ i. omega arith) (sym (w .read (a .0) (a .1)) ∙ f))
+
+  -- 0 and m exactly when it meets none, by the room that there is
+  pub numbered-found : (n : ℕ) (P : ℕ → Type 0) → (n < 2) ⊎ (7 < n) → ((c : ℕ) → (cond (ltb 64 c) m 0 ≡ n) ↔ P c) →
+      (number ≡ n) ↔ ((a : Acts) × Reads a × P (count a))
+  numbered-found n P h i = (go (w .either), λ a. w .read (a .0) (a .1) ∙ i _ .1 (a .2))
+    where
+      go : ((n : ℕ) × Meets n) ⊎ ((a : Acts) × Reads a) → number ≡ n → (a : Acts) × Reads a × P (count a)
+      go (inl a) f =
+          let k : (2 ≤ a .0) × (a .0 ≤ 7) = w .within (a .0) (a .1) in
+          let l : a .0 ≡ n = sym (w .met (a .0) (a .1)) ∙ f in
+          absurd (⊎-elim (λ q. omega arith) (λ q. omega arith) h)
+      go (inr a) f = (a .0, a .1, i _ .0 (sym (w .read (a .0) (a .1)) ∙ f))
+
+  pub numbered-some : ((number ≤ 7) ⊎ (number ≡ m)) × (number ≡ 1 → ⊥)
+  numbered-some = go (w .either)
+    where
+      go : ((n : ℕ) × Meets n) ⊎ ((a : Acts) × Reads a) → ((number ≤ 7) ⊎ (number ≡ m)) × (number ≡ 1 → ⊥)
+      go (inl a) = rw (w .met (a .0) (a .1)) (let k = w .within (a .0) (a .1) in (inl (omega arith), λ i. omega arith))
+      go (inr a) =
+          rw (w .read (a .0) (a .1))
+          (cond-either (λ (c : ℕ). ((c ≤ 7) ⊎ (c ≡ m)) × (c ≡ 1 → ⊥)) (ltb 64 (count (a .0))) m 0
+          (inr refl, λ i. omega arith) (inl (omega arith), λ i. omega arith))
 
 -- a frame on a port of the bridge
 module _ (b : Bridge) (p : ℕ) (pdu : List ℕ) where
@@ -405,39 +446,29 @@ module _ (b : Bridge) (p : ℕ) (pdu : List ℕ) where
       let s = applyAll (b .clock) (p - 1) (frameActs vs) (b .streams) in
       ap (λ (w : Walk). received b p (walked w) .number) e
       ∙ cond-of (λ (a : Answer). a .number) (leb (length s) 64) _ _
-      ∙ room-number (length s)
+      ∙ room-number 8 (length s)
       ∙ ap (λ (n : ℕ). cond (ltb 64 n) 8 0) (held-ids s ∙ ap length (acts-ids (b .clock) (p - 1) (frameActs vs) (b .streams)))
 
-  -- a number of the walk is given exactly when the walk meets it
-  frame-fault : (n : ℕ) → 2 ≤ n → n ≤ 7 → (frameNumber ≡ n) ↔ (walk pdu ≡ fault n)
-  frame-fault n h k = (go (walk pdu) refl, frame-met n)
+  frame-numbered : Numbered frameNumber 8 (List Vector) (λ n. walk pdu ≡ fault n) (λ vs. walk pdu ≡ found vs) countWith
+  frame-numbered = record { either = go (walk pdu) refl; within = walk-faults pdu; met = frame-met; read = frame-read }
     where
-      go : (w : Walk) → walk pdu ≡ w → frameNumber ≡ n → walk pdu ≡ fault n
-      go (fault m) e f = e ∙ ap fault (sym (frame-met m e) ∙ f)
-      go (found vs) e f =
-          absurd (not-given (ltb 64 (countWith vs)) 8 0 n (λ i. omega arith) (λ i. omega arith) (sym (frame-read vs e) ∙ f))
-
-  -- 0 and 8 exactly when it meets none, by the room that there is
-  frame-found : (n : ℕ) (P : ℕ → Type 0) → (n < 2) ⊎ (7 < n) → ((m : ℕ) → (cond (ltb 64 m) 8 0 ≡ n) ↔ P m) →
-      (frameNumber ≡ n) ↔ ((vs : List Vector) × (walk pdu ≡ found vs) × P (countWith vs))
-  frame-found n P h i = (go (walk pdu) refl, λ a. frame-read (a .0) (a .1) ∙ i _ .1 (a .2))
-    where
-      go : (w : Walk) → walk pdu ≡ w → frameNumber ≡ n → (vs : List Vector) × (walk pdu ≡ found vs) × P (countWith vs)
-      go (fault m) e f =
-          let k : (2 ≤ m) × (m ≤ 7) = walk-faults pdu m e in
-          let l : m ≡ n = sym (frame-met m e) ∙ f in
-          absurd (⊎-elim (λ a. omega arith) (λ a. omega arith) h)
-      go (found vs) e f = (vs, e, i _ .0 (sym (frame-read vs e) ∙ f))
+      go : (w : Walk) → walk pdu ≡ w → ((n : ℕ) × (walk pdu ≡ fault n)) ⊎ ((vs : List Vector) × (walk pdu ≡ found vs))
+      go (fault n) e = inl (n, e)
+      go (found vs) e = inr (vs, e)
 
   frame-numbers : (frameNumber ≤ 8) × (frameNumber ≡ 1 → ⊥)
-  frame-numbers = go (walk pdu) refl
+  frame-numbers =
+      let n = numbered-some frame-numbered (omega arith) in
+      (⊎-elim (λ h. omega arith) (λ h. omega arith) (n .0), n .1)
+
+  -- on any port
+  pub receive-few : receive b p pdu .number ≤ 8
+  unfolding receive reading received frameNumber
+  receive-few = go (wrongPort (b .settings) p)
     where
-      go : (w : Walk) → walk pdu ≡ w → (frameNumber ≤ 8) × (frameNumber ≡ 1 → ⊥)
-      go (fault m) e = rw (frame-met m e) (let k = walk-faults pdu m e in (omega arith, λ i. omega arith))
-      go (found vs) e =
-          rw (frame-read vs e)
-          (cond-either (λ (m : ℕ). (m ≤ 8) × (m ≡ 1 → ⊥)) (ltb 64 (countWith vs)) 8 0
-          (omega arith, λ i. omega arith) (omega arith, λ i. omega arith))
+      go : (a : Bool) → received b p (cond a (refused 1) (walked (walk pdu))) .number ≤ 8
+      go true = omega arith
+      go false = frame-numbers .0
 
 module _ (t : List ℕ) (p : ℕ) (pdu : List ℕ) where
   receive-number : receiveOn t p pdu .number ≡ fronted t p (frameNumber (decode t) p pdu)
@@ -462,7 +493,7 @@ module _ (t : List ℕ) (p : ℕ) (pdu : List ℕ) where
   pub receive-fault : (n : ℕ) → 2 ≤ n → n ≤ 7 → (receiveOn t p pdu .number ≡ n) ↔ (OnPort t p × (walk pdu ≡ fault n))
   receive-fault n h k =
       rw receive-number
-      (fronted-past t p _ n _ (λ e. omega arith) (λ e. omega arith) (frame-fault (decode t) p pdu n h k))
+      (fronted-past t p _ n _ (λ e. omega arith) (λ e. omega arith) (numbered-fault (frame-numbered (decode t) p pdu) (omega arith) n h k))
 
   pub receive-2 : (receiveOn t p pdu .number ≡ 2) ↔ (OnPort t p × ((length pdu ≡ 0) ⊎ (longestPdu < length pdu)))
   receive-2 = Iff·trans (receive-fault 2 (omega arith) (omega arith)) (Iff·and Iff·rfl (walk-2 pdu))
@@ -474,7 +505,7 @@ module _ (t : List ℕ) (p : ℕ) (pdu : List ℕ) where
   receive-8 =
       rw receive-number
       (fronted-past t p _ 8 _ (λ e. omega arith) (λ e. omega arith)
-      (frame-found (decode t) p pdu 8 (λ m. 64 < m) (inr (omega arith)) (λ m. given _ 8 0 _ (λ e. omega arith) (is-below 64 m))))
+      (numbered-found (frame-numbered (decode t) p pdu) (omega arith) 8 (λ m. 64 < m) (inr (omega arith)) (λ m. given _ 8 0 _ (λ e. omega arith) (is-below 64 m))))
 
   pub receive-0 : (receiveOn t p pdu .number ≡ 0) ↔
       (OnPort t p × ((vs : List Vector) × (walk pdu ≡ found vs) × (length (together (ids (decode t .streams)) (joins (frameActs vs))) ≤ 64)))
@@ -482,7 +513,7 @@ module _ (t : List ℕ) (p : ℕ) (pdu : List ℕ) where
   receive-0 =
       rw receive-number
       (fronted-past t p _ 0 _ (λ e. omega arith) (λ e. omega arith)
-      (frame-found (decode t) p pdu 0 (λ m. m ≤ 64) (inl (omega arith)) (λ m. last _ 8 (λ e. omega arith) (is-at-least 64 m))))
+      (numbered-found (frame-numbered (decode t) p pdu) (omega arith) 0 (λ m. m ≤ 64) (inl (omega arith)) (λ m. last _ 8 (λ e. omega arith) (is-at-least 64 m))))
 
   pub receive-numbers : (receiveOn t p pdu .number ≤ 8) ⊎ (receiveOn t p pdu .number ≡ 12)
   receive-numbers =

@@ -13,10 +13,10 @@ use Rattle.octets.specs.Be.{beAt}
 use Rattle.octets.specs.Fields.{fields, packed, Fit, width, flat}
 use Rattle.octets.specs.Parts.{part}
 use Rattle.octets.proofs.Fields.{length-packed-any, length-flat, fields-packed, fields-of-packed, packed-fields, fields-fit, beAt-fits}
-use Rattle.model.specs.Layout.{domainVlanPlace, fanInPlace, headSize, headWidths, inPort, portPlace, portSize, portsPlace, portsUnit, portWidths, priorityAUnit, priorityBUnit, settingsSize, wordPlace}
+use Rattle.model.specs.Layout.{domainVlanPlace, fanInPlace, headSize, headWidths, inPort, portPlace, portSize, portsPlace, portsUnit, portWidths, priorityAUnit, priorityBUnit, pruningUnit, settingsSize, wordPlace}
 use Rattle.model.specs.Lists.{All, allTrue, bit, Octets}
 use Rattle.model.specs.State.{Port, Settings, classB, bothLimits, inForce}
-use Rattle.model.specs.Table.{portNumbers, portFrom, portOctets, toPort, headWord, headNumbers, settingsOctets, portsField, toSettings, portRule, everyPart, settingsRules, settingsFormed}
+use Rattle.model.specs.Table.{portNumbers, portFrom, portOctets, toPort, headWord, vlanWord, headNumbers, settingsOctets, portsField, toSettings, portRule, everyPart, settingsRules, settingsFormed}
 use Rattle.model.specs.Laid.{FitSettings}
 use Rattle.model.proofs.Cells.{bit-back, bit-forth, bit-few}
 use Rattle.model.proofs.Parts.{_also_, packed-whole, parts-flat, length-parts, octets-at, octets-drop, octets-append, octets-packed, octets-flat, every-read, every-flat, every-forth}
@@ -156,8 +156,8 @@ settings-length st =
 -- numbers within their fields are read as they were written, whatever follows
 module _ (st : Settings) (v : FitSettings st) where
   head-fit : Fit headWidths (headNumbers st)
-  unfolding Fit headNumbers headWord
-  head-fit = v .bridgeId also omega arith also v .vlan also v .fanIn also tt
+  unfolding Fit headNumbers headWord vlanWord
+  head-fit = v .bridgeId also omega arith also omega (arith, v .vlan, bit-few (st .pruning)) also v .fanIn also tt
 
   module _ (rest : List ℕ) where
     head-read : fields headWidths 0 (settingsOctets st ++ rest) ≡ headNumbers st
@@ -187,9 +187,17 @@ module _ (st : Settings) (v : FitSettings st) where
     unfolding headWord
     leave-read = rw word-read (omega arith)
 
-    pub vlan-read : beAt 2 (settingsOctets st ++ rest) domainVlanPlace ≡ st .vlan
+    pub vlan-word-read : beAt 2 (settingsOctets st ++ rest) domainVlanPlace ≡ vlanWord st
     unfolding fields headNumbers
-    vlan-read = ap (λ (vs : List ℕ). getD vs 2 0) head-read
+    vlan-word-read = ap (λ (vs : List ℕ). getD vs 2 0) head-read
+
+    pub vlan-read : beAt 2 (settingsOctets st ++ rest) domainVlanPlace % pruningUnit ≡ st .vlan
+    unfolding vlanWord
+    vlan-read = rw vlan-word-read (omega (arith, v .vlan))
+
+    pub pruning-read : beAt 2 (settingsOctets st ++ rest) domainVlanPlace / pruningUnit ≡ bit (st .pruning)
+    unfolding vlanWord
+    pruning-read = rw vlan-word-read (omega (arith, v .vlan))
 
     pub fan-in-read : beAt 1 (settingsOctets st ++ rest) fanInPlace ≡ st .fanIn
     unfolding fields headNumbers
@@ -204,7 +212,7 @@ module _ (st : Settings) (v : FitSettings st) where
         let ps =
         parts-flat portSize portOctets toPort (st .ports) rest (ports-sized (st .ports))
         (all-map (λ q. Fit portWidths (portNumbers q)) (λ q. toPort (portOctets q) ≡ q) port-back (st .ports) (v .ports)) in
-        rw (ports-read, behind-head, id-read, priority-a-read, priority-b-read, leave-read, vlan-read, fan-in-read, ps)
+        rw (ports-read, behind-head, id-read, priority-a-read, priority-b-read, leave-read, vlan-read, pruning-read, bit-back (st .pruning), fan-in-read, ps)
 
 pub settings-fit : (st : Settings) → ValidSettings st → FitSettings st
 settings-fit st v = record {
@@ -243,9 +251,16 @@ head-word : (s : List ℕ) → headWord (toSettings s) ≡ beAt 3 s wordPlace
 unfolding headWord toSettings portsField
 head-word s = rw (length-parts portSize toPort (beAt 3 s wordPlace / portsUnit) (drop portsPlace s)) (word-back (beAt 3 s wordPlace))
 
+-- and the VLAN's field of its two
+vlan-word : (s : List ℕ) → Octets s → vlanWord (toSettings s) ≡ beAt 2 s domainVlanPlace
+unfolding vlanWord toSettings
+vlan-word s o =
+    let h : beAt 2 s domainVlanPlace < 256 ^ 2 = beAt-fits 2 s domainVlanPlace (octets-at s o) in
+    rw (bit-forth (beAt 2 s domainVlanPlace / pruningUnit) (omega arith)) (omega arith)
+
 head-forth : (s : List ℕ) → headSize ≤ length s → Octets s → head (toSettings s) ≡ take headSize s
 unfolding headNumbers toSettings fields width part
-head-forth s h o = rw (head-word s) (packed-fields headWidths 0 s h (octets-at s o))
+head-forth s h o = rw (head-word s, vlan-word s o) (packed-fields headWidths 0 s h (octets-at s o))
 
 -- the rules as facts
 module _ (s : List ℕ) (r : allTrue (settingsRules s) ≡ true) where
@@ -272,13 +287,13 @@ module _ (s : List ℕ) (r : allTrue (settingsRules s) ≡ true) where
   unfolding settingsRules
   port-rules = rules .1 .1 .1 .1 .0
 
-  some-vlan : 1 ≤ beAt 2 s domainVlanPlace
+  some-vlan : 1 ≤ beAt 2 s domainVlanPlace % pruningUnit
   unfolding settingsRules
-  some-vlan = leb-true 1 (beAt 2 s domainVlanPlace) (rules .1 .1 .1 .1 .1 .0)
+  some-vlan = leb-true 1 (beAt 2 s domainVlanPlace % pruningUnit) (rules .1 .1 .1 .1 .1 .0)
 
-  vlan-few : beAt 2 s domainVlanPlace ≤ 4094
+  vlan-few : beAt 2 s domainVlanPlace % pruningUnit ≤ 4094
   unfolding settingsRules
-  vlan-few = leb-true (beAt 2 s domainVlanPlace) 4094 (rules .1 .1 .1 .1 .1 .1 .0)
+  vlan-few = leb-true (beAt 2 s domainVlanPlace % pruningUnit) 4094 (rules .1 .1 .1 .1 .1 .1 .0)
 
   fan-in-few : beAt 1 s fanInPlace ≤ 8
   unfolding settingsRules

@@ -423,7 +423,7 @@ valid-whole b v = record {
   eight-ports = v .settings .eight-ports;
   eight-totals = v .eight-totals;
   eight-own = v .eight-own;
-  own = all-map (ValidOwn (b .clock) (b .settings .leaveTime)) (Sized ownSize ownOctets) (λ o w. own-length o (w .slotted)) (b .own) (v .own);
+  own = all-map (ValidOwn (b .clock) (b .settings .leaveTime)) (Sized ownSize ownOctets) (λ o w. own-length o (w .slotted) (w .addresses .at-most-64)) (b .own) (v .own);
   at-most-64 = v .at-most-64;
   streams =
       all-map (ValidStream (length (b .settings .ports)) (b .clock) (b .settings .leaveTime)) (Sized recordSize streamOctets)
@@ -435,7 +435,7 @@ fit-whole b f = record {
   eight-ports = f .settings .eight-ports;
   eight-totals = f .eight-totals;
   eight-own = f .eight-own;
-  own = all-map FitOwn (Sized ownSize ownOctets) (λ o w. own-length o (w .slotted)) (b .own) (f .own);
+  own = all-map FitOwn (Sized ownSize ownOctets) (λ o w. own-length o (w .slotted) (w .addresses .at-most-64)) (b .own) (f .own);
   at-most-64 = f .at-most-64;
   streams = all-map FitStream (Sized recordSize streamOctets) (λ x w. stream-length x (w .eight-cells) (w .eight-results)) (b .streams) (f .streams);
 }

@@ -3,11 +3,12 @@
 -- streams differ.
 use mathlib.Core.Path.{_≡_, refl, sym, _∙_, ap}
 use mathlib.Core.List.{List}
+use mathlib.Core.Bool.{Bool, true, false, not, _&&_}
 use Prim.Native.Nat.{ℕ, _<_}
 use lib.ListN.{length, getD}
-use Rattle.model.specs.State.{Settings, Own, Stream, Bridge, fresh, unsettled, streamAt, resultAt, Class, noClass, classA, classB, classOf, inForce, portAt, cellAt, ownAt}
+use Rattle.model.specs.State.{Settings, Fixed, Own, Stream, Bridge, fresh, unsettled, streamAt, resultAt, Class, noClass, classA, classB, classOf, inForce, portAt, cellAt, ownAt}
 use Rattle.model.specs.Bandwidth.{key, above, remains}
-use Rattle.model.specs.Settling.{Scene, Inbound, inboundOf, inboundsOf, shares, isKeptOut, decideOwns, remain, Source, nowhere, from, sourceOf, fixedOf, streamClass, boundary, stepsFrom, lastSteps, steps, claim, claims, reservedA, limitOn, leftFor, columnOf, decideAt, decide, totalOn, settle}
+use Rattle.model.specs.Settling.{Scene, Inbound, inboundOf, inboundsOf, shares, isKeptOut, decideOwns, remain, Source, nowhere, from, sourceOf, fixedOf, streamClass, boundary, holdsAddress, isPruned, stepsFrom, lastSteps, steps, claim, claims, reservedA, limitOn, leftFor, columnOf, decideAt, decide, totalOn, settle}
 use Rattle.model.specs.Table.{columnCode}
 use Rattle.model.proofs.Lists.{getD-map, at-place}
 use Rattle.model.proofs.ColumnRule.{reserved-a}
@@ -36,6 +37,10 @@ pub record Alike (now : ℕ) (b b′ : Bridge) (p : ℕ) (x x′ : Stream) : Typ
   pub address : shares (inboundsOf (remaining now b)) (inboundOf x) ≡ shares (inboundsOf (remaining now b′)) (inboundOf x′)
   pub edge : boundary (ownAt (sceneAt now b .own) p) (streamClass (b .settings) x) ≡ boundary (ownAt (sceneAt now b′ .own) p) (streamClass (b′ .settings) x′)
   pub inbound : isKeptOut (b .settings .fanIn) (inboundsOf (remaining now b)) (sourceOf x) ≡ isKeptOut (b′ .settings .fanIn) (inboundsOf (remaining now b′)) (sourceOf x′)
+  -- "and for pruning": where it is on, whether the port holds the stream's destination
+  pub wanted : b .settings .pruning ≡ true →
+      holdsAddress (fixedOf (sourceOf x) .destination) (ownAt (sceneAt now b .own) p .addresses)
+      ≡ holdsAddress (fixedOf (sourceOf x′) .destination) (ownAt (sceneAt now b′ .own) p .addresses)
 
 -- The same of scenes with one setting.
 
@@ -48,7 +53,9 @@ module _ (st : Settings) (o o′ : List Own) (i i′ : List Inbound) (now p : �
     (borrowed : streamClass st x ≡ classB → totalOn (scene st o i) now s p classA ≡ totalOn (scene st o′ i′) now s′ p classA)
     (address : shares i (inboundOf x) ≡ shares i′ (inboundOf x′))
     (edge : boundary (ownAt o p) (streamClass st x) ≡ boundary (ownAt o′ p) (streamClass st x′))
-    (inbound : isKeptOut (st .fanIn) i (sourceOf x) ≡ isKeptOut (st .fanIn) i′ (sourceOf x′)) where
+    (inbound : isKeptOut (st .fanIn) i (sourceOf x) ≡ isKeptOut (st .fanIn) i′ (sourceOf x′))
+    (wanted : st .pruning ≡ true → holdsAddress (fixedOf (sourceOf x) .destination) (ownAt o p .addresses)
+    ≡ holdsAddress (fixedOf (sourceOf x′) .destination) (ownAt o′ p .addresses)) where
   same-source : sourceOf x ≡ sourceOf x′
   unfolding sourceOf
   same-source = rw cells
@@ -69,14 +76,25 @@ module _ (st : Settings) (o o′ : List Own) (i i′ : List Inbound) (now p : �
           ap (λ (n : ℕ). inForce (portAt st p) n classB)
           (reserved-a (scene st o i) now s p ∙ borrowed e ∙ sym (reserved-a (scene st o′ i′) now s′ p))
 
+  same-pruning : (f : Fixed) → (st .pruning ≡ true → holdsAddress (f .destination) (ownAt o p .addresses) ≡ holdsAddress (f .destination) (ownAt o′ p .addresses))
+      → isPruned st (ownAt o p) f ≡ isPruned st (ownAt o′ p) f
+  unfolding isPruned
+  same-pruning f h = go (st .pruning) h
+    where
+      go : (t : Bool) → (t ≡ true → holdsAddress (f .destination) (ownAt o p .addresses) ≡ holdsAddress (f .destination) (ownAt o′ p .addresses))
+          → (t && not (holdsAddress (f .destination) (ownAt o p .addresses))) ≡ (t && not (holdsAddress (f .destination) (ownAt o′ p .addresses)))
+      go true k = ap not (k refl)
+      go false k = refl
+
   same-first : stepsFrom (scene st o i) p (cellAt x p) (sourceOf x) ≡ stepsFrom (scene st o′ i′) p (cellAt x′ p) (sourceOf x′)
   unfolding streamClass
-  same-first = unfold cellAt in (rw (same-source, cells) (go (sourceOf x′) (rw same-source at edge)))
+  same-first = unfold cellAt in (rw (same-source, cells) (go (sourceOf x′) (rw same-source at edge) (same-pruning (fixedOf (sourceOf x′)) (rw same-source at wanted))))
     where
       go : (t : Source) → boundary (ownAt o p) (classOf st (fixedOf t .priority)) ≡ boundary (ownAt o′ p) (classOf st (fixedOf t .priority))
+          → isPruned st (ownAt o p) (fixedOf t) ≡ isPruned st (ownAt o′ p) (fixedOf t)
           → stepsFrom (scene st o i) p (cellAt x′ p) t ≡ stepsFrom (scene st o′ i′) p (cellAt x′ p) t
-      go nowhere e = unfold stepsFrom in refl
-      go (from q) e = unfold stepsFrom fixedOf in (rw e)
+      go nowhere e k = unfold stepsFrom in refl
+      go (from q) e k = unfold stepsFrom fixedOf in (rw (e, k))
 
   same-last : lastSteps (scene st o i) p (inboundOf x) ≡ lastSteps (scene st o′ i′) p (inboundOf x′)
   unfolding lastSteps inboundOf
@@ -98,7 +116,7 @@ untouched now b b′ p x x′ a = (column, ap columnCode column, unfold cellAt i
     column =
         rw (a .settings)
         (same-column (b′ .settings) _ _ _ _ now p _ _ x x′ (a .registrations) (rw (a .settings) at (a .important)) (rw (a .settings) at (a .borrowed))
-        (rw (a .settings) at (a .address)) (rw (a .settings) at (a .edge)) (rw (a .settings) at (a .inbound)))
+        (rw (a .settings) at (a .address)) (rw (a .settings) at (a .edge)) (rw (a .settings) at (a .inbound)) (rw (a .settings) at (a .wanted)))
 
 -- What a settled bridge holds of the stream at place k is what is decided of the one that remained there.
 pub settled-result : (now : ℕ) (b : Bridge) (k p : ℕ) → k < length (remaining now b) → p < 8 →

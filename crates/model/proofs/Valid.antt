@@ -4,11 +4,11 @@ use mathlib.Core.List.{List, [], _∷_}
 use mathlib.Core.Bool.{Bool, true}
 use Prim.Native.Nat.{ℕ, _+_, _/_, _^_, _≤_, _<_}
 use lib.ListN.{length, drop}
-use Rattle.model.specs.Layout.{priorityBUnit, slots}
+use Rattle.model.specs.Layout.{addresses, priorityBUnit, slots}
 use Rattle.model.specs.Lists.{All}
-use Rattle.model.specs.State.{Port, Settings, Leaving, stays, since, Fixed, Health, sound, broken, Varying, Registration, Talker, noTalker, talker, Listener, noListener, listener, Cell, Domain, noDomain, domain, Own, Column, none, advertise, failed, Entry, noEntry, filters, forwards, Result, Stream, Bridge, empty, unsettled, noOwn, noFixed, cellAt, resultAt}
+use Rattle.model.specs.State.{Port, Settings, Leaving, stays, since, Fixed, Health, sound, broken, Varying, Registration, Talker, noTalker, talker, Listener, noListener, listener, Cell, Domain, noDomain, domain, Presence, vacant, present, Address, Own, Column, none, advertise, failed, Entry, noEntry, filters, forwards, Result, Stream, Bridge, empty, unsettled, noOwn, noFixed, cellAt, resultAt}
 use lib.Dec.{leb}
-use Rattle.model.specs.Registrations.{ids}
+use Rattle.model.specs.Registrations.{ids, macs}
 use Rattle.model.specs.Settling.{held}
 use Rattle.model.specs.Table.{talkers, declarers, storedFormed, totalsWithin}
 
@@ -82,9 +82,29 @@ abbrev pub ValidDomain : ℕ → ℕ → Domain → Type 0
 ValidDomain clock leave noDomain = Unit {0}
 ValidDomain clock leave (domain v l) = (v < 65536) × ValidLeaving clock leave l
 
+-- a vacant address is in no table between calls
+abbrev pub ValidPresence : ℕ → ℕ → Presence → Type 0
+ValidPresence clock leave vacant = ⊥
+ValidPresence clock leave (present l) = ValidLeaving clock leave l
+
+pub record ValidAddress (clock leave : ℕ) (a : Address) : Type 0 where
+  pub mac : a .mac < 256 ^ 6
+  pub presence : ValidPresence clock leave (a .presence)
+
+-- StreamIDs rise, and addresses
+unfoldable pub Rising : List ℕ → Type 0
+Rising [] = Unit {0}
+Rising (i ∷ l) = All (λ j. i < j) l × Rising l
+
+pub record ValidAddresses (clock leave : ℕ) (l : List Address) : Type 0 where
+  pub at-most-64 : length l ≤ addresses
+  pub each : All (ValidAddress clock leave) l
+  pub ascending : Rising (macs l)
+
 pub record ValidOwn (clock leave : ℕ) (o : Own) : Type 0 where
   pub slotted : length (o .domains) ≡ slots
   pub domains : All (ValidDomain clock leave) (o .domains)
+  pub addresses : ValidAddresses clock leave (o .addresses)
 
 -- which entry, and which latency, goes with a column
 abbrev pub ValidColumn : Column → ℕ → Entry → Type 0
@@ -122,11 +142,6 @@ pub record ValidStream (ports clock leave : ℕ) (x : Stream) : Type 0 where
   pub idle : talkers ports (x .cells) ≡ 0 → x .settled ≡ noFixed
   pub stored : (p : ℕ) → p < ports → storedFormed (talkers ports (x .cells)) (cellAt x p) (resultAt x p) ≡ true
   pub one-declares : declarers ports (x .results) ≤ 1
-
--- StreamIDs rise
-unfoldable pub Rising : List ℕ → Type 0
-Rising [] = Unit {0}
-Rising (i ∷ l) = All (λ j. i < j) l × Rising l
 
 pub record Valid (b : Bridge) : Type 0 where
   pub settings : ValidSettings (b .settings)

@@ -1,6 +1,6 @@
--- The five calls on octets: for every input the number, the other parts of the answer, the table and the buffer afterwards, in
+-- The six calls on octets: for every input the number, the other parts of the answer, the table and the buffer afterwards, in
 -- 01's order of numbers ("12 first (for start a wrong table length only, then 11); then 1; receive 2, then the walk from the
--- front, then 8; write 10, then 13; report 13").
+-- front, then 8; write 10, then 13; report 13"), and 02's (vi: 14 "tested last").
 use mathlib.Core.List.{List, [], _∷_, _++_}
 use mathlib.Core.Bool.{cond, not}
 use Prim.Native.Nat.{ℕ}
@@ -9,8 +9,9 @@ use lib.Dec.{ltb, eqb}
 use Rattle.model.specs.Layout.{tableLength}
 use Rattle.model.specs.FrameLayout.{longestPdu}
 use Rattle.model.specs.State.{Bridge, Settings, started}
-use Rattle.model.specs.Registrations.{Answer, received, asks}
+use Rattle.model.specs.Registrations.{Answer, received, receivedAddresses, asks, asksAddresses}
 use Rattle.model.specs.Frames.{reading, wrongPort}
+use Rattle.model.specs.AddressFrames.{addressReading}
 use Rattle.model.specs.Settling.{advance}
 use Rattle.model.specs.Declarations.{Written, write}
 use Rattle.model.specs.Reports.{Report, refusedReport, report}
@@ -19,7 +20,9 @@ use Rattle.model.specs.Table.{encode, decode, formed, settingsFormed, to
 
 -- A received frame, in the order of the definitions: `receiveOn` (this file) tests the form and reads the table; `reading` (Frames)
 -- tests the port and walks the PDU, vector by vector, into acts; `received` (Registrations) applies them to the streams, counts
--- what is held then (8), and gives the bridge; `leaves` writes it back.
+-- what is held then (8), and gives the bridge; `leaves` writes it back. An MMRP frame goes the same way: `receiveMmrpOn`;
+-- `addressReading` (AddressFrames) reads acts on addresses; `receivedAddresses` (Registrations) applies them to those of its port,
+-- counts them (14), and gives the bridge.
 
 -- what start, receive and advance answer and leave
 pub record Call : Type 0 where
@@ -46,6 +49,13 @@ receive b p pdu = received b p (reading (b .settings) p pdu)
 
 unfoldable pub receiveOn : List ℕ → ℕ → List ℕ → Call
 receiveOn t p pdu = onTable t (λ b. receive b p pdu)
+
+-- an MMRP frame (02, vi): the other EtherType, so a call of its own
+unfoldable pub receiveMmrp : Bridge → ℕ → List ℕ → Answer
+receiveMmrp b p pdu = receivedAddresses b p (addressReading (b .settings) p pdu)
+
+unfoldable pub receiveMmrpOn : List ℕ → ℕ → List ℕ → Call
+receiveMmrpOn t p pdu = onTable t (λ b. receiveMmrp b p pdu)
 
 unfoldable pub advanceOn : List ℕ → ℕ → Call
 advanceOn t now = onTable t (λ b. advance b now)
@@ -82,17 +92,46 @@ reportOn t p place =
     (cond (wrongPort (b .settings) p) (refusedReport 1)
     (report b p place))
 
--- Frames handed over one after another, each with its port: the answers with their ports, and the table they leave.
+-- Frames of both protocols: "MMRP frames belong to demand 3's frames".
 
-unfoldable pub answersOn : List (ℕ × List ℕ) → List ℕ → List (ℕ × ℕ)
+pub data Frame : Type 0 where
+  msrp mmrp : (pdu : List ℕ) → Frame
+
+abbrev pub pduOf : Frame → List ℕ
+pduOf (msrp pdu) = pdu
+pduOf (mmrp pdu) = pdu
+
+unfoldable pub receiveFrame : Bridge → ℕ → Frame → Answer
+receiveFrame b p (msrp pdu) = receive b p pdu
+receiveFrame b p (mmrp pdu) = receiveMmrp b p pdu
+
+unfoldable pub receiveFrameOn : List ℕ → ℕ → Frame → Call
+receiveFrameOn t p (msrp pdu) = receiveOn t p pdu
+receiveFrameOn t p (mmrp pdu) = receiveMmrpOn t p pdu
+
+-- handed over one after another, each with its port: the answers with their ports, and the table they leave
+unfoldable pub answersOn : List (ℕ × Frame) → List ℕ → List (ℕ × ℕ)
 answersOn [] t = []
-answersOn (a ∷ f) t = (a .0, receiveOn t (a .0) (a .1) .number) ∷ answersOn f (receiveOn t (a .0) (a .1) .table)
+answersOn (a ∷ f) t = (a .0, receiveFrameOn t (a .0) (a .1) .number) ∷ answersOn f (receiveFrameOn t (a .0) (a .1) .table)
 
-unfoldable pub afterOn : List (ℕ × List ℕ) → List ℕ → List ℕ
+unfoldable pub afterOn : List (ℕ × Frame) → List ℕ → List ℕ
 afterOn [] t = t
-afterOn (a ∷ f) t = afterOn f (receiveOn t (a .0) (a .1) .table)
+afterOn (a ∷ f) t = afterOn f (receiveFrameOn t (a .0) (a .1) .table)
 
 -- the StreamIDs that well-formed frames ask to join
-unfoldable pub asked : Settings → List (ℕ × List ℕ) → List ℕ
+unfoldable pub askedBy : Settings → ℕ → Frame → List ℕ
+askedBy st p (msrp pdu) = asks (reading st p pdu)
+askedBy st p (mmrp pdu) = []
+
+unfoldable pub asked : Settings → List (ℕ × Frame) → List ℕ
 asked st [] = []
-asked st (a ∷ f) = asks (reading st (a .0) (a .1)) ++ asked st f
+asked st (a ∷ f) = askedBy st (a .0) (a .1) ++ asked st f
+
+-- the addresses that well-formed frames on port p ask to join
+unfoldable pub addressesBy : Settings → ℕ → Frame → List ℕ
+addressesBy st p (msrp pdu) = []
+addressesBy st p (mmrp pdu) = asksAddresses (addressReading st p pdu)
+
+unfoldable pub askedAddresses : Settings → ℕ → List Frame → List ℕ
+askedAddresses st p [] = []
+askedAddresses st p (x ∷ f) = addressesBy st p x ++ askedAddresses st p f

@@ -1,5 +1,5 @@
 -- The layout of an MSRPDU (01, "The PDU"; Tables 35-1, 35-2): the widths of FirstValues' fields, and every length and place
--- computed from them.
+-- computed from them; and the lengths of MMRP.
 use Prim.Native.Nat.{ℕ}
 use mathlib.Core.List.{List, [], _∷_}
 use Rattle.model.specs.Layout.{sum, before}
@@ -35,6 +35,13 @@ listenerLength = sum listenerWidths
 
 abbrev pub domainLength : ℕ
 domainLength = sum domainWidths
+
+-- MMRP: "Service Requirement is type 1 of length 1, read and dropped; MAC is type 2 of length 6" (02, vi)
+abbrev pub serviceLength : ℕ
+serviceLength = 1
+
+abbrev pub macLength : ℕ
+macLength = 6
 
 -- Places in a FirstValue: the Unique ID behind the MAC of a StreamID, then a Talker's fields.
 

@@ -5,12 +5,12 @@ use mathlib.Core.List.{List, [], _∷_}
 use Prim.Native.Nat.{ℕ, _≤_, _<_, _^_}
 use lib.ListN.{length}
 use Rattle.octets.specs.Fields.{Fit}
-use Rattle.model.specs.Layout.{cellWidths, nameWidths, portWidths, priorityBUnit, resultWidths, slotWidths, slots}
+use Rattle.model.specs.Layout.{addressWidths, addresses, cellWidths, nameWidths, portWidths, priorityBUnit, pruningUnit, resultWidths, slotWidths, slots}
 use Rattle.model.specs.Lists.{All}
-use Rattle.model.specs.State.{Settings, Talker, noTalker, talker, Cell, Own, Result, Stream, Totals, Bridge}
-use Rattle.model.specs.Registrations.{ids}
+use Rattle.model.specs.State.{Settings, Talker, noTalker, talker, Cell, Address, Own, Result, Stream, Totals, Bridge}
+use Rattle.model.specs.Registrations.{ids, macs}
 use Rattle.model.specs.WrittenFrames.{fixedNumbers}
-use Rattle.model.specs.Table.{cellNumbers, cellOctets, domainNumbers, domainOctets, ownOctets, resultNumbers, resultOctets, portNumbers, encode}
+use Rattle.model.specs.Table.{addressNumbers, addressOctets, cellNumbers, cellOctets, domainNumbers, domainOctets, ownOctets, resultNumbers, resultOctets, portNumbers, encode}
 
 -- a rank is one bit: it shares its octet with the priority, so that the octet's width alone does not say it
 abbrev pub FitRank : Talker → Type 0
@@ -32,28 +32,35 @@ pub record FitStream (x : Stream) : Type 0 where
   pub eight-results : length (x .results) ≡ 8
   pub results : All FitResult (x .results)
 
+-- StreamIDs rise, and addresses
+abbrev pub Ascending : List ℕ → Type 0
+Ascending [] = Unit {0}
+Ascending (i ∷ l) = All (λ j. i < j) l × Ascending l
+
+-- the addresses of a port
+pub record FitAddresses (l : List Address) : Type 0 where
+  pub at-most-64 : length l ≤ addresses
+  pub each : All (λ a. Fit addressWidths (addressNumbers a)) l
+  pub ascending : Ascending (macs l)
+
 -- what a port holds by itself
 pub record FitOwn (o : Own) : Type 0 where
   pub slotted : length (o .domains) ≡ slots
   pub domains : All (λ d. Fit slotWidths (domainNumbers d)) (o .domains)
+  pub addresses : FitAddresses (o .addresses)
 
 pub record FitSettings (st : Settings) : Type 0 where
   pub bridgeId : st .bridgeId < 2 ^ 64
   pub priorityA : st .priorityA < 8
   pub priorityB : st .priorityB < 8
   pub leaveTime : st .leaveTime < priorityBUnit
-  pub vlan : st .vlan < 2 ^ 16
+  pub vlan : st .vlan < pruningUnit
   pub fanIn : st .fanIn < 256
   pub eight-ports : length (st .ports) ≤ 8
   pub ports : All (λ q. Fit portWidths (portNumbers q)) (st .ports)
 
 abbrev pub FitTotals : Totals → Type 0
 FitTotals t = (t .totalA < 256 ^ 5) × (t .totalB < 256 ^ 6)
-
--- StreamIDs rise
-abbrev pub Ascending : List ℕ → Type 0
-Ascending [] = Unit {0}
-Ascending (i ∷ l) = All (λ j. i < j) l × Ascending l
 
 pub record FitBridge (b : Bridge) : Type 0 where
   pub settings : FitSettings (b .settings)
@@ -79,9 +86,12 @@ LaidCell = LaidOut cellOctets FitCell
 abbrev pub LaidResult : List ℕ → Type 0
 LaidResult = LaidOut resultOctets FitResult
 
--- of a Domain value, of what a port holds
+-- of a Domain value, of an address, of what a port holds
 abbrev pub LaidDomain : List ℕ → Type 0
 LaidDomain = LaidOut domainOctets (λ d. Fit slotWidths (domainNumbers d))
+
+abbrev pub LaidAddress : List ℕ → Type 0
+LaidAddress = LaidOut addressOctets (λ a. Fit addressWidths (addressNumbers a))
 
 abbrev pub LaidOwn : List ℕ → Type 0
 LaidOwn = LaidOut ownOctets FitOwn

@@ -15,8 +15,8 @@ before (suc i) (w ∷ ws) = w + before i ws
 
 -- Widths of fields, in octets.
 
--- settings: Bridge ID; one word of ports 4 bits, class priorities 3 and 3, leave time 14; the VLAN of the Domain values declared;
--- msrpMaxFanInPorts
+-- settings: Bridge ID; one word of ports 4 bits, class priorities 3 and 3, leave time 14; talkerPruning 1 bit, with the VLAN of the
+-- Domain values declared; msrpMaxFanInPorts
 abbrev pub headWidths : List ℕ
 headWidths = 8 ∷ 3 ∷ 2 ∷ 1 ∷ []
 
@@ -39,6 +39,13 @@ slotWidths = 1 ∷ 1 ∷ 4 ∷ 2 ∷ []
 -- whether a port is at the edge of class A's domain, and of class B's
 abbrev pub boundaryWidths : List ℕ
 boundaryWidths = 1 ∷ 1 ∷ []
+
+-- how many addresses a port holds; and one of them: registered, leaving, since, address
+abbrev pub heldWidths : List ℕ
+heldWidths = 1 ∷ []
+
+abbrev pub addressWidths : List ℕ
+addressWidths = 1 ∷ 1 ∷ 4 ∷ 6 ∷ []
 
 -- a Talker's fixed values: destination, VLAN, MaxFrameSize, MaxIntervalFrames, priority and rank
 abbrev pub fixedWidths : List ℕ
@@ -100,9 +107,19 @@ slots = 16
 abbrev pub slotsSize : ℕ
 slotsSize = slots * slotSize
 
+abbrev pub addressSize : ℕ
+addressSize = sum addressWidths
+
+-- "Up to 64 addresses per port"
+abbrev pub addresses : ℕ
+addresses = 64
+
+abbrev pub addressesSize : ℕ
+addressesSize = addresses * addressSize
+
 -- what a port holds by itself
 abbrev pub ownSize : ℕ
-ownSize = slotsSize + sum boundaryWidths
+ownSize = slotsSize + sum boundaryWidths + sum heldWidths + addressesSize
 
 abbrev pub ownsSize : ℕ
 ownsSize = 8 * ownSize
@@ -139,7 +156,8 @@ recordsSize = 64 * recordSize
 
 -- Places in the table.
 
--- the word of ports, class priorities and leave time; the Domain values' VLAN; msrpMaxFanInPorts; the settings of the ports
+-- the word of ports, class priorities and leave time; talkerPruning and the Domain values' VLAN; msrpMaxFanInPorts; the settings of
+-- the ports
 abbrev pub wordPlace : ℕ
 wordPlace = before 1 headWidths
 
@@ -183,7 +201,8 @@ ownPlace p = ownsPlace + p * ownSize
 abbrev pub recordPlace : ℕ → ℕ
 recordPlace k = recordsPlace + k * recordSize
 
--- Places in what a port holds by itself: the Domain value in slot i, and the flags behind all.
+-- Places in what a port holds by itself: the Domain value in slot i, the flags behind all; then how many addresses are held, and
+-- address i.
 
 abbrev pub slotIn : ℕ → ℕ
 slotIn i = i * slotSize
@@ -193,6 +212,15 @@ boundaryPlace = slotsSize
 
 abbrev pub boundaryBPlace : ℕ
 boundaryBPlace = boundaryPlace + before 1 boundaryWidths
+
+abbrev pub heldPlace : ℕ
+heldPlace = boundaryPlace + sum boundaryWidths
+
+abbrev pub addressesPlace : ℕ
+addressesPlace = heldPlace + sum heldWidths
+
+abbrev pub addressIn : ℕ → ℕ
+addressIn i = addressesPlace + i * addressSize
 
 -- the Domain value in slot i of the port at place p
 abbrev pub slotPlace : ℕ → ℕ → ℕ
@@ -401,6 +429,21 @@ slotLeavesPlace = before slotLeavesField slotWidths
 
 abbrev pub slotVlanPlace : ℕ
 slotVlanPlace = before slotVlanField slotWidths
+
+-- Fields of an address record by their index among its numbers, and their places.
+
+abbrev pub inAddress : record { registered : ℕ; leaves : ℕ; since : ℕ; mac : ℕ }
+inAddress = record { registered = 0; leaves = 1; since = 2; mac = 3 }
+
+abbrev pub addressLeavesPlace : ℕ
+addressLeavesPlace = before (inAddress .leaves) addressWidths
+
+abbrev pub macPlace : ℕ
+macPlace = before (inAddress .mac) addressWidths
+
+-- The unit of talkerPruning in its field, above the VLAN.
+abbrev pub pruningUnit : ℕ
+pruningUnit = 2 ^ 15
 
 -- Units of the settings' word, from its lowest field up (14 bits, 3, 3): its number divided by one gives the fields above, its
 -- remainder those below.

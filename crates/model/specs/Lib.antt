@@ -6,6 +6,7 @@ pub mod Registrations
 pub mod Frames
 pub mod Cutting
 pub mod Best
+pub mod AddressFrames
 pub mod Bandwidth
 pub mod Settling
 pub mod Declarations

@@ -4,7 +4,8 @@ use mathlib.Core.Bool.{Bool, true, false, cond, _&&_}
 use Prim.Native.Nat.{ℕ, zero, suc, _-_}
 use lib.ListN.{length}
 use lib.Dec.{ltb, leb, eqb}
-use Rattle.model.specs.State.{Leaving, stays, since, Fixed, Health, sound, broken, Varying, Registration, Talker, noTalker, talker, Ready, Listener, noListener, listener, Cell, Domain, noDomain, domain, Own, Stream, Bridge, fresh}
+use Rattle.model.specs.Layout.{addresses}
+use Rattle.model.specs.State.{Leaving, stays, since, Presence, vacant, present, Address, Fixed, Health, sound, broken, Varying, Registration, Talker, noTalker, talker, Ready, Listener, noListener, listener, Cell, Domain, noDomain, domain, Own, Stream, Bridge, fresh, ownAt}
 
 -- the AttributeTypes that register a stream
 pub data Kind : Type 0 where
@@ -15,6 +16,17 @@ pub data DomainAct : Type 0 where
   leaveAllDomains : DomainAct
   leaveDomain : (slot : ℕ) → DomainAct
   joinDomain : (slot vlan : ℕ) → DomainAct
+
+-- what one event of a MAC address asks for (02, vi: "the same Registrar rules")
+pub data AddressAct : Type 0 where
+  leaveAllAddresses : AddressAct
+  leaveAddress : (mac : ℕ) → AddressAct
+  joinAddress : (mac : ℕ) → AddressAct
+
+-- an MMRP frame is refused with a number, or read as a list of acts, whatever is held
+pub data AddressReading : Type 0 where
+  refusedFrame : ℕ → AddressReading
+  addressActs : List AddressAct → AddressReading
 
 -- what one event of a frame asks for
 pub data Act : Type 0 where
@@ -136,9 +148,9 @@ doesDomain now leaveAllDomains ds = map (quitDomain now) ds
 doesDomain now (leaveDomain i) ds = at i (quitDomain now) ds
 doesDomain now (joinDomain i v) ds = at i (λ d. domain v stays) ds
 
--- only Domain values change: the flags stay
+-- only Domain values change: flags and addresses stay
 unfoldable pub changeDomains : (List Domain → List Domain) → Own → Own
-changeDomains u o = record { domains = u (o .domains); boundaryA = o .boundaryA; boundaryB = o .boundaryB }
+changeDomains u o = record { domains = u (o .domains); boundaryA = o .boundaryA; boundaryB = o .boundaryB; addresses = o .addresses }
 
 -- an act on the port at place p, of what the ports hold by themselves; then the acts of a frame, in their order
 unfoldable pub applyOwn : ℕ → ℕ → Act → List Own → List Own
@@ -177,6 +189,51 @@ received b p (acts es) =
     let o = applyOwns (b .clock) (p - 1) es (b .own) in
     cond (leb (length s) 64) record { number = 0; bridge = owning (holding b s) o } record { number = 8; bridge = b }
 
+-- Addresses: "Up to 64 addresses per port are held with the same Registrar rules".
+
+unfoldable pub quitPresence : ℕ → Presence → Presence
+quitPresence now vacant = vacant
+quitPresence now (present l) = present (begin now l)
+
+unfoldable pub quitAddress : ℕ → Address → Address
+quitAddress now a = record { mac = a .mac; presence = quitPresence now (a .presence) }
+
+-- an address that was joined last
+unfoldable pub joined : ℕ → Address
+joined m = record { mac = m; presence = present stays }
+
+-- joined at its place, and leaving where it is held
+unfoldable pub withJoined : ℕ → List Address → List Address
+withJoined m [] = joined m ∷ []
+withJoined m (a ∷ l) = cond (ltb m (a .mac)) (joined m ∷ a ∷ l) (cond (eqb m (a .mac)) (joined m ∷ l) (a ∷ withJoined m l))
+
+unfoldable pub withLeft : ℕ → ℕ → List Address → List Address
+withLeft now m [] = []
+withLeft now m (a ∷ l) = cond (eqb m (a .mac)) (quitAddress now a ∷ l) (a ∷ withLeft now m l)
+
+unfoldable pub doesAddress : ℕ → AddressAct → List Address → List Address
+doesAddress now leaveAllAddresses l = map (quitAddress now) l
+doesAddress now (leaveAddress m) l = withLeft now m l
+doesAddress now (joinAddress m) l = withJoined m l
+
+-- the acts of a frame, in their order
+unfoldable pub doesAddresses : ℕ → List AddressAct → List Address → List Address
+doesAddresses now [] l = l
+doesAddresses now (a ∷ es) l = doesAddresses now es (doesAddress now a l)
+
+-- only addresses change: Domain values and flags stay
+unfoldable pub changeAddresses : (List Address → List Address) → Own → Own
+changeAddresses u o = record { domains = o .domains; boundaryA = o .boundaryA; boundaryB = o .boundaryB; addresses = u (o .addresses) }
+
+-- an MMRP frame on port p, numbered from 1; 14, "tested last, where a port would need a 65th address"
+unfoldable pub receivedAddresses : Bridge → ℕ → AddressReading → Answer
+receivedAddresses b p (refusedFrame n) = record { number = n; bridge = b }
+receivedAddresses b p (addressActs es) =
+    let u : List Address → List Address = doesAddresses (b .clock) es in
+    cond (leb (length (u (ownAt (b .own) (p - 1) .addresses))) addresses)
+    record { number = 0; bridge = owning b (at (p - 1) (changeAddresses u) (b .own)) }
+    record { number = 14; bridge = b }
+
 -- The different StreamIDs of an ascending list and of others.
 
 unfoldable pub add : ℕ → List ℕ → List ℕ
@@ -202,3 +259,17 @@ joins (ofDomain a ∷ es) = joins es
 unfoldable pub asks : Reading → List ℕ
 asks (refused n) = []
 asks (acts es) = joins es
+
+-- the addresses of a list, and those that an MMRP frame asks to join
+unfoldable pub macs : List Address → List ℕ
+macs l = map (λ (a : Address). a .mac) l
+
+unfoldable pub addressJoins : List AddressAct → List ℕ
+addressJoins [] = []
+addressJoins (leaveAllAddresses ∷ es) = addressJoins es
+addressJoins (leaveAddress m ∷ es) = addressJoins es
+addressJoins (joinAddress m ∷ es) = m ∷ addressJoins es
+
+unfoldable pub asksAddresses : AddressReading → List ℕ
+asksAddresses (refusedFrame n) = []
+asksAddresses (addressActs es) = addressJoins es

@@ -5,7 +5,7 @@ use Prim.Native.Nat.{ℕ, suc, _+_, _/_}
 use lib.ListN.{take, drop}
 use lib.Dec.{ltb, leb, eqb}
 use Rattle.model.specs.Lists.{keep, tabulate, countTo}
-use Rattle.model.specs.State.{Port, Settings, Leaving, stays, since, Fixed, Health, sound, broken, Registration, Talker, noTalker, talker, Ready, askingFailed, ready, readyFailed, Listener, noListener, listener, Cell, Domain, noDomain, domain, Own, Column, none, advertise, failed, Entry, noEntry, filters, forwards, Declared, nothing, tells, Result, Stream, Totals, Bridge, noFixed, portAt, isPort, cellAt, resultAt, ownAt, Class, noClass, classA, classB, classOf, isNoClass, sameClass, supports, inForce, classLatency, classPriority}
+use Rattle.model.specs.State.{Port, Settings, Leaving, stays, since, Fixed, Health, sound, broken, Registration, Talker, noTalker, talker, Ready, askingFailed, ready, readyFailed, Listener, noListener, listener, Cell, Domain, noDomain, domain, Presence, vacant, present, Address, Own, Column, none, advertise, failed, Entry, noEntry, filters, forwards, Declared, nothing, tells, Result, Stream, Totals, Bridge, noFixed, portAt, isPort, cellAt, resultAt, ownAt, Class, noClass, classA, classB, classOf, isNoClass, sameClass, supports, inForce, classLatency, classPriority}
 use Rattle.model.specs.Registrations.{Answer}
 use Rattle.model.specs.WrittenFrames.{readyNumber}
 use Rattle.model.specs.Bandwidth.{Claim, demand, rateOf, remains, total}
@@ -141,10 +141,25 @@ isEdge st p c ds =
 unfoldable pub flagOf : Settings → ℕ → Class → List Domain → Bool
 flagOf st p c ds = isPort st p && isEdge st p c ds
 
+-- Addresses: removed as every registration is.
+
+unfoldable pub isPresent : Settings → ℕ → Presence → Bool
+isPresent st now vacant = false
+isPresent st now (present l) = not (expired st now l)
+
+unfoldable pub remainAddresses : Settings → ℕ → List Address → List Address
+remainAddresses st now [] = []
+remainAddresses st now (a ∷ l) = keep (isPresent st now (a .presence)) a (remainAddresses st now l)
+
+-- an address that a port holds, "leaving ones included"
+unfoldable pub holdsAddress : ℕ → List Address → Bool
+holdsAddress m [] = false
+holdsAddress m (a ∷ l) = eqb m (a .mac) || holdsAddress m l
+
 unfoldable pub decideOwn : Settings → ℕ → List Own → ℕ → Own
 decideOwn st now o p =
     let ds = map (expireDomain st now) (ownAt o p .domains) in
-    record { domains = ds; boundaryA = flagOf st p classA ds; boundaryB = flagOf st p classB ds }
+    record { domains = ds; boundaryA = flagOf st p classA ds; boundaryB = flagOf st p classB ds; addresses = remainAddresses st now (ownAt o p .addresses) }
 
 unfoldable pub decideOwns : Settings → ℕ → List Own → List Own
 decideOwns st now o = tabulate 8 0 (decideOwn st now o)
@@ -242,7 +257,12 @@ outcomeColumn st s columnNone = none
 outcomeColumn st s asRegistered = brokenColumn (healthOf s)
 outcomeColumn st s (ownFailure code) = failed (st .bridgeId) code
 
--- steps a to f, j and k on the port at place p; 02, v: "While the present one is larger, an Advertise is declared Failed with code 7"
+-- talkerPruning (35.2.4.3.1; 02, vi): "With pruning on, a port without the stream's destination gets column none"
+unfoldable pub isPruned : Settings → Own → Fixed → Bool
+isPruned st o f = st .pruning && not (holdsAddress (f .destination) (o .addresses))
+
+-- steps a to f, j, k and n on the port at place p; 02, v: "While the present one is larger, an Advertise is declared Failed with
+-- code 7"
 unfoldable pub stepsFrom : Scene → ℕ → Cell → Source → List Step
 stepsFrom sc p here nowhere = record { test = true; outcome = columnNone } ∷ []
 stepsFrom sc p here (from o) =
@@ -251,6 +271,7 @@ stepsFrom sc p here (from o) =
     let c = classOf st (r .fixed .priority) in
     record { test = eqb p (o .port); outcome = columnNone }
     ∷ record { test = not (supports (portAt st p) c); outcome = columnNone }
+    ∷ record { test = isPruned st (ownAt (sc .own) p) (r .fixed); outcome = columnNone }
     ∷ record { test = isBroken (r .varying .health); outcome = asRegistered }
     ∷ record { test = r .changed; outcome = ownFailure 16 }
     ∷ record { test = ltb (r .firstLatency) (r .varying .latency); outcome = ownFailure 7 }

@@ -24,6 +24,7 @@ pub record Settings : Type 0 where
   pub priorityA : ℕ
   pub priorityB : ℕ
   pub leaveTime : ℕ
+  pub pruning : Bool
   pub vlan : ℕ
   pub fanIn : ℕ
   pub ports : List Port
@@ -84,12 +85,23 @@ pub data Domain : Type 0 where
   noDomain : Domain
   domain : (vlan : ℕ) → Leaving → Domain
 
--- what a port holds by itself: its Domain values, those of class ID 5 by priority 0 to 7, then those of class ID 6; and, as the
--- last advance decided, whether it is a boundary port of class A and of class B (35.2.1.4 h)
+-- MAC addresses (02, vi; MMRP): registered on a port. One is vacant while a frame that joins it has only been given room.
+
+pub data Presence : Type 0 where
+  vacant : Presence
+  present : Leaving → Presence
+
+pub record Address : Type 0 where
+  pub mac : ℕ
+  pub presence : Presence
+
+-- what a port holds by itself: its Domain values, those of class ID 5 by priority 0 to 7, then those of class ID 6; as the last
+-- advance decided, whether it is a boundary port of class A and of class B (35.2.1.4 h); and its addresses, ascending
 pub record Own : Type 0 where
   pub domains : List Domain
   pub boundaryA : Bool
   pub boundaryB : Bool
+  pub addresses : List Address
 
 -- Results (01, "Settling"): what the last advance decided for one stream on one port.
 
@@ -147,7 +159,7 @@ unfoldable pub noTotals : Totals
 noTotals = record { totalA = 0; totalB = 0 }
 
 unfoldable pub noOwn : Own
-noOwn = record { domains = replicate slots noDomain; boundaryA = false; boundaryB = false }
+noOwn = record { domains = replicate slots noDomain; boundaryA = false; boundaryB = false; addresses = [] }
 
 unfoldable pub blank : List Cell
 blank = replicate 8 empty
@@ -155,7 +167,7 @@ blank = replicate 8 empty
 unfoldable pub fresh : ℕ → Stream
 fresh i = record { id = i; settled = noFixed; cells = blank; results = replicate 8 unsettled }
 
--- start: no streams, clock 0, nothing reserved, no Domain value, no boundary
+-- start: no streams, clock 0, nothing reserved, no Domain value, no boundary, no address
 unfoldable pub started : Settings → Bridge
 started st = record { settings = st; clock = 0; totals = replicate 8 noTotals; own = replicate 8 noOwn; streams = [] }
 

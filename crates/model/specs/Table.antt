@@ -9,15 +9,15 @@ use lib.Dec.{ltb, leb, eqb}
 use Rattle.octets.specs.Be.{beAt}
 use Rattle.octets.specs.Parts.{part, zeros}
 use Rattle.octets.specs.Fields.{fields, packed, flat}
-use Rattle.model.specs.Layout.{ageField, boundaryBPlace, boundaryPlace, boundaryWidths, bridgeField, cellFields, cellSize, cellWidths, cellsPlace, cellsSize, changedField, clockPlace, clockWidths, codeField, columnField, countPlace, declaredField, domainVlanPlace, entryField, failureCodeField, failureField, firstLatencyField, fixedField, headWidths, heldField, latencyField, latencyOutField, listenerField, listenerLeavesField, listenerPlace, listenerSinceField, nameWidths, ownSize, ownsPlace, ownsSize, portPlace, portSize, portWidths, portsPlace, portsUnit, priorityAUnit, priorityBUnit, priorityField, recordSize, recordsPlace, resultSize, resultWidths, resultsPlace, resultsSize, settingsSize, settledPriorityPlace, slotLeavesField, slotSinceField, slotSize, slotVlanField, slotWidths, slots, slotsSize, tableLength, talkerField, talkerLeavesField, talkerSinceField, totalBPlace, totalSize, totalsPlace, totalsSize, totalsWidths, wordPlace, fanInPlace}
+use Rattle.model.specs.Layout.{addressSize, addressWidths, addresses, addressesPlace, ageField, boundaryBPlace, boundaryPlace, boundaryWidths, bridgeField, cellFields, cellSize, cellWidths, cellsPlace, cellsSize, changedField, clockPlace, clockWidths, codeField, columnField, countPlace, declaredField, domainVlanPlace, entryField, failureCodeField, failureField, firstLatencyField, fixedField, headWidths, heldField, heldPlace, heldWidths, inAddress, latencyField, latencyOutField, listenerField, listenerLeavesField, listenerPlace, listenerSinceField, macPlace, nameWidths, ownSize, ownsPlace, ownsSize, portPlace, portSize, portWidths, portsPlace, portsUnit, priorityAUnit, priorityBUnit, priorityField, pruningUnit, recordSize, recordsPlace, resultSize, resultWidths, resultsPlace, resultsSize, settingsSize, settledPriorityPlace, slotLeavesField, slotSinceField, slotSize, slotVlanField, slotWidths, slots, slotsSize, tableLength, talkerField, talkerLeavesField, talkerSinceField, totalBPlace, totalSize, totalsPlace, totalsSize, totalsWidths, wordPlace, fanInPlace}
 use Rattle.model.specs.Lists.{allTrue, implies, parts, bit, isOne}
-use Rattle.model.specs.State.{Port, Settings, Leaving, stays, since, Fixed, Health, sound, broken, Registration, Talker, noTalker, talker, Domain, noDomain, domain, Own, Ready, askingFailed, ready, readyFailed, Listener, noListener, listener, Cell, Column, none, advertise, failed, Entry, noEntry, filters, forwards, Declared, nothing, tells, Result, Stream, Totals, Bridge, classB, inForce}
+use Rattle.model.specs.State.{Port, Settings, Leaving, stays, since, Fixed, Health, sound, broken, Registration, Talker, noTalker, talker, Domain, noDomain, domain, Presence, vacant, present, Address, Own, Ready, askingFailed, ready, readyFailed, Listener, noListener, listener, Cell, Column, none, advertise, failed, Entry, noEntry, filters, forwards, Declared, nothing, tells, Result, Stream, Totals, Bridge, classB, inForce}
 use Rattle.model.specs.Settling.{isTalking, isHearing}
 use Rattle.model.specs.Frames.{priorityOf, rankOf}
 use Rattle.model.specs.WrittenFrames.{fixedNumbers, readyNumber}
 
--- Settings: Bridge ID; one field of ports 4 bits, class priorities 3 and 3, leave time 14; the Domain values' VLAN;
--- msrpMaxFanInPorts; then each port.
+-- Settings: Bridge ID; one field of ports 4 bits, class priorities 3 and 3, leave time 14; one of talkerPruning and the Domain
+-- values' VLAN; msrpMaxFanInPorts; then each port.
 
 unfoldable pub portNumbers : Port → List ℕ
 portNumbers q =
@@ -46,8 +46,12 @@ toPort s = portFrom (fields portWidths 0 s)
 unfoldable pub headWord : Settings → ℕ
 headWord st = ((length (st .ports) * 8 + st .priorityA) * 8 + st .priorityB) * priorityBUnit + st .leaveTime
 
+-- talkerPruning is "the top bit of the VLAN setting's two octets"
+unfoldable pub vlanWord : Settings → ℕ
+vlanWord st = bit (st .pruning) * pruningUnit + st .vlan
+
 unfoldable pub headNumbers : Settings → List ℕ
-headNumbers st = st .bridgeId ∷ headWord st ∷ st .vlan ∷ st .fanIn ∷ []
+headNumbers st = st .bridgeId ∷ headWord st ∷ vlanWord st ∷ st .fanIn ∷ []
 
 -- as they are handed to start
 unfoldable pub settingsOctets : Settings → List ℕ
@@ -62,7 +66,8 @@ toSettings s = record {
   priorityA = beAt 3 s wordPlace / priorityAUnit % 8;
   priorityB = beAt 3 s wordPlace / priorityBUnit % 8;
   leaveTime = beAt 3 s wordPlace % priorityBUnit;
-  vlan = beAt 2 s domainVlanPlace;
+  pruning = isOne (beAt 2 s domainVlanPlace / pruningUnit);
+  vlan = beAt 2 s domainVlanPlace % pruningUnit;
   fanIn = beAt 1 s fanInPlace;
   ports = parts portSize toPort (portsField s) (drop portsPlace s);
 }
@@ -83,13 +88,13 @@ settingsRules s =
     ∷ not (eqb (beAt 3 s wordPlace / priorityAUnit % 8) (beAt 3 s wordPlace / priorityBUnit % 8))  -- 3
     ∷ leb 1 (beAt 3 s wordPlace % priorityBUnit)  -- 4
     ∷ everyPart portSize portRule (portsField s) (drop portsPlace s)  -- 5
-    ∷ leb 1 (beAt 2 s domainVlanPlace)  -- 30
-    ∷ leb (beAt 2 s domainVlanPlace) 4094  -- 30
+    ∷ leb 1 (beAt 2 s domainVlanPlace % pruningUnit)  -- 30
+    ∷ leb (beAt 2 s domainVlanPlace % pruningUnit) 4094  -- 30
     ∷ leb (beAt 1 s fanInPlace) 8  -- 36
     ∷ []
 
 -- 11: settings "Length 14 + 22 x ports", and as laid out; 02: "11 where the VLAN setting is 0 or 4,095, or one of the upper four
--- bits is set"; "11 for a limit above 8"
+-- bits is set", but for talkerPruning, "the top bit .., which 11 then allows"; "11 for a limit above 8"
 unfoldable pub settingsFormed : List ℕ → Bool
 settingsFormed s = eqb (length s) (portPlace (portsField s)) && allTrue (settingsRules s)
 
@@ -375,7 +380,8 @@ streamRules ports clock leave s =
 unfoldable pub streamFormed : ℕ → ℕ → ℕ → List ℕ → Bool
 streamFormed ports clock leave s = allTrue (streamRules ports clock leave s)
 
--- What a port holds by itself, of 130 octets: 16 Domain values of 8, then its two flags.
+-- What a port holds by itself, of 899 octets: 16 Domain values of 8, then its two flags, the number of its addresses, and room for
+-- 64 of 12.
 
 unfoldable pub domainNumbers : Domain → List ℕ
 domainNumbers noDomain = replicate 4 0
@@ -404,24 +410,81 @@ domainRules clock leave vs =
 unfoldable pub domainFormed : ℕ → ℕ → List ℕ → Bool
 domainFormed clock leave s = allTrue (domainRules clock leave (fields slotWidths 0 s))
 
+unfoldable pub presenceNumbers : Presence → List ℕ
+presenceNumbers vacant = 0 ∷ 0 ∷ 0 ∷ []
+presenceNumbers (present l) = 1 ∷ leavingNumber l ∷ sinceNumber l ∷ []
+
+unfoldable pub addressNumbers : Address → List ℕ
+addressNumbers a = presenceNumbers (a .presence) ++ (a .mac ∷ [])
+
+unfoldable pub addressFrom : List ℕ → Address
+addressFrom vs = record {
+  mac = getD vs (inAddress .mac) 0;
+  presence =
+      cond (eqb (getD vs (inAddress .registered) 0) 0) vacant
+      (present (toLeaving (getD vs (inAddress .leaves) 0) (getD vs (inAddress .since) 0)));
+}
+
+unfoldable pub addressOctets : Address → List ℕ
+addressOctets a = packed addressWidths (addressNumbers a)
+
+unfoldable pub toAddress : List ℕ → Address
+toAddress s = addressFrom (fields addressWidths 0 s)
+
+-- the rules of an address record's numbers
+unfoldable pub addressRules : ℕ → ℕ → List ℕ → List Bool
+addressRules clock leave vs =
+    let at : ℕ → ℕ = λ i. getD vs i 0 in
+    eqb (at (inAddress .registered)) 1  -- 38
+    ∷ leavingRule clock leave (at (inAddress .leaves)) (at (inAddress .since))  -- 39
+    ∷ []
+
+unfoldable pub addressFormed : ℕ → ℕ → List ℕ → Bool
+addressFormed clock leave s = allTrue (addressRules clock leave (fields addressWidths 0 s))
+
 unfoldable pub ownOctets : Own → List ℕ
-ownOctets o = flat domainOctets (o .domains) ++ packed boundaryWidths (bit (o .boundaryA) ∷ bit (o .boundaryB) ∷ [])
+ownOctets o =
+    flat domainOctets (o .domains)
+    ++ (packed boundaryWidths (bit (o .boundaryA) ∷ bit (o .boundaryB) ∷ [])
+    ++ (packed heldWidths (length (o .addresses) ∷ [])
+    ++ (flat addressOctets (o .addresses) ++ zeros ((addresses - length (o .addresses)) * addressSize))))
 
 unfoldable pub slotsPart : List ℕ → List ℕ
 slotsPart s = part 0 slotsSize s
+
+unfoldable pub addressesHeld : List ℕ → ℕ
+addressesHeld s = getD s heldPlace 0
+
+unfoldable pub addressesPart : List ℕ → List ℕ
+addressesPart s = drop addressesPlace s
 
 unfoldable pub toOwn : List ℕ → Own
 toOwn s = record {
   domains = parts slotSize toDomain slots (slotsPart s);
   boundaryA = isOne (getD s boundaryPlace 0);
   boundaryB = isOne (getD s boundaryBPlace 0);
+  addresses = parts addressSize toAddress (addressesHeld s) (addressesPart s);
 }
+
+-- numbers that rise: StreamIDs, addresses
+unfoldable pub rising : List ℕ → Bool
+rising [] = true
+rising (i ∷ []) = true
+rising (i ∷ j ∷ l) = ltb i j && rising (j ∷ l)
+
+unfoldable pub macOf : List ℕ → ℕ
+macOf s = beAt 6 s macPlace
 
 unfoldable pub ownRules : ℕ → ℕ → List ℕ → List Bool
 ownRules clock leave s =
+    let n = addressesHeld s in
     everyPart slotSize (domainFormed clock leave) slots (slotsPart s)  -- 31 to 33
     ∷ leb (getD s boundaryPlace 0) 1  -- 34
     ∷ leb (getD s boundaryBPlace 0) 1  -- 34
+    ∷ leb n addresses  -- 37
+    ∷ everyPart addressSize (addressFormed clock leave) n (addressesPart s)  -- 38, 39
+    ∷ rising (parts addressSize macOf n (addressesPart s))  -- 40
+    ∷ allZero (drop (n * addressSize) (addressesPart s))  -- 41
     ∷ []
 
 unfoldable pub ownFormed : ℕ → ℕ → List ℕ → Bool
@@ -472,12 +535,6 @@ decode t = record {
   streams = parts recordSize toStream (countField t) (recordsPart t);
 }
 
--- StreamIDs rise
-unfoldable pub rising : List ℕ → Bool
-rising [] = true
-rising (i ∷ []) = true
-rising (i ∷ j ∷ l) = ltb i j && rising (j ∷ l)
-
 unfoldable pub idOf : List ℕ → ℕ
 idOf s = beAt 8 s 0
 
@@ -501,7 +558,7 @@ tableRules t =
     allTrue (settingsRules s)  -- 2 to 5
     ∷ allZero (drop (portPlace (portsField s)) s)  -- 6
     ∷ totalsWithin (leb 1 n) (parts totalSize toTotals 8 (totalsPart t)) (toSettings s .ports)  -- 7, 29
-    ∷ everyPart ownSize (ownFormed (clockField t) (toSettings s .leaveTime)) (portsField s) (ownsPart t)  -- 31 to 34
+    ∷ everyPart ownSize (ownFormed (clockField t) (toSettings s .leaveTime)) (portsField s) (ownsPart t)  -- 31 to 34, 37 to 41
     ∷ allZero (drop (portsField s * ownSize) (ownsPart t))  -- 35
     ∷ leb n 64  -- 8
     ∷ everyPart recordSize (streamFormed (portsField s) (clockField t) (toSettings s .leaveTime)) n (recordsPart t)  -- 11 to 28

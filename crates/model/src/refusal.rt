@@ -28,3 +28,5 @@ pub const SETTINGS: u8 = 11;
 pub const TABLE: u8 = 12;
 // place is above the number of declarations or streams held
 pub const PLACE: u8 = 13;
+// a port would need a 65th address
+pub const ADDRESSES: u8 = 14;

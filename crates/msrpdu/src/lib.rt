@@ -165,7 +165,7 @@ fn strange_vector(version: u8, head: VectorHead) -> VectorRead
 
 // The vector at a place of an AttributeList of any MRP application, by the octets of FirstValue and whether FourPackedEvents
 // follow: its checks, in 01's order, but for that of its values.
-fn vector(list: &[u8], at: usize, version: u8, first: usize, four: bool) -> VectorRead
+pub fn vector(list: &[u8], at: usize, version: u8, first: usize, four: bool) -> VectorRead
     ensures { λ r. ⌜ r ≡ vectorRead version first four (now (list .entry)) at ⌝ }
 {
     let n = list.len();

@@ -1,9 +1,13 @@
 // Runs the reader over the stored PDUs of standard input, one to a line: a name, a colon, and the octets in hexadecimal, each
-// after a space. Prints each name with the number that the reader gives, 0 where it accepts.
+// after a space. Prints each name with the number that the reader gives, 0 where it accepts. PDUs of MMRP have names that start
+// with its four letters, small ones.
 use libc::STDIN_FILENO;
 use libc::STDOUT_FILENO;
 ghost use Prim.Native.Nat.{_≤_};
 ghost use lib.ListN.{length};
+
+// The four letters, as a number.
+const MMRP: u64 = 1835889264;
 
 // The place of an octet in a text, from a place on; the text's length where there is none.
 fn find(text: &[u8], from: usize, octet: u8) -> usize
@@ -50,6 +54,17 @@ fn octets_of(text: &[u8], out: &mut [u8]) -> usize
     n
 }
 
+// The number that the reader gives: that of MMRP, or that of MSRP.
+fn number_of(name: &[u8], pdu: &[u8]) -> u8 {
+    if name.len() < 4 {
+        return msrpdu::check(pdu);
+    }
+    if octets::get(name, 0, 4) == MMRP {
+        return mmrpdu::check(pdu);
+    }
+    msrpdu::check(pdu)
+}
+
 // A stored PDU's name, and the number that the reader gives. A line without a colon is a remark.
 fn show(line: &[u8]) {
     let colon = find(line, 0, b':');
@@ -59,7 +74,7 @@ fn show(line: &[u8]) {
     let octets = colon + 1;
     let mut pdu = [0u8; 1600];
     let n = octets_of(&line[octets..], &mut pdu);
-    let number = msrpdu::check(&pdu[0..n]);
+    let number = number_of(&line[0..colon], &pdu[0..n]);
     io::write_all(STDOUT_FILENO, &line[0..colon]);
     io::write_all(STDOUT_FILENO, b": ");
     io::print_decimal(STDOUT_FILENO, number as u64);

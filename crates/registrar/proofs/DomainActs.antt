@@ -27,6 +27,7 @@ module _ (clock : ℕ) (small : clock < 2 ^ 32) where
   own-fits a f o w = record {
     slotted = domains-slotted clock a (o .domains) ∙ w .slotted;
     domains = domains-fit a f (o .domains) (w .domains);
+    addresses = w .addresses;
   }
 
   -- what eight ports hold, after an act of a walk

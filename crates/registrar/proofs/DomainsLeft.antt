@@ -73,6 +73,7 @@ module _ (p now : ℕ) where
       left-fits o w = record {
         slotted = firsts-length (quitDomain now) i (o .domains) ∙ w .slotted;
         domains = firsts-keep (quitDomain now) FitDomain (quit-domain-fits now small) i (o .domains) (w .domains);
+        addresses = w .addresses;
       }
 
       slots-fit : FitBridge (slotsLeft t₀ i)

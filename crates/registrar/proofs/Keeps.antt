@@ -11,7 +11,7 @@ use Rattle.model.specs.Registrations.{Act, leaveAll, leave, talk, listen, ofDom
 use Rattle.model.specs.Laid.{FitCell, FitStream, FitBridge}
 use Rattle.model.proofs.FoundVectors.{Fits}
 use Rattle.model.proofs.FrameOrder.{rising-together}
-use Rattle.model.proofs.Fits.{rising-ascends, ascending-rises}
+use Rattle.model.proofs.Parts.{rising-ascends, ascending-rises}
 use Rattle.table.proofs.Fitting.{changed-fits, fresh-fits, holding-fits, owning-fits}
 use Rattle.registrar.specs.Run.{registeredOf, keeping, room, effect, ownEffect, after}
 use Rattle.registrar.proofs.Room.{effect-ids}

@@ -5,8 +5,8 @@ use mathlib.Core.Bool.{Bool, not, _||_}
 use Prim.Native.Nat.{ℕ}
 use lib.ListN.{replicate}
 use Rattle.model.specs.State.{Settings, Domain, Own, Bridge, noTotals, Class, classA, classB, classPriority}
-use Rattle.model.specs.Registrations.{changeDomains, holding, owning}
-use Rattle.model.specs.Settling.{remain, expireDomain, anyDomain, otherPriority, domainsOf, flagOf, decideOwns}
+use Rattle.model.specs.Registrations.{changeAddresses, changeDomains, holding, owning}
+use Rattle.model.specs.Settling.{remain, remainAddresses, expireDomain, anyDomain, otherPriority, domainsOf, flagOf, decideOwns}
 use Rattle.table.specs.Updates.{clocked, totalled}
 use Rattle.domains.specs.Classes.{flagged}
 
@@ -15,7 +15,7 @@ abbrev pub unmatchedOf : Settings → Class → List Domain → Bool
 unmatchedOf st c ds = not (anyDomain (domainsOf c ds)) || otherPriority (classPriority st c) 0 (domainsOf c ds)
 
 abbrev pub expiredOwn : Settings → ℕ → Own → Own
-expiredOwn st now = changeDomains (map (expireDomain st now))
+expiredOwn st now o = changeAddresses (remainAddresses st now) (changeDomains (map (expireDomain st now)) o)
 
 abbrev pub flaggedOwn : Settings → ℕ → Own → Own
 flaggedOwn st p o = flagged (flagOf st p classA (o .domains)) (flagOf st p classB (o .domains)) o

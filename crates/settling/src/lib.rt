@@ -5,12 +5,12 @@ ghost use mathlib.Core.Path.{_≡_};
 ghost use mathlib.Core.List.{map};
 ghost use Prim.Native.Nat.{_<_};
 ghost use lib.ListN.{length};
-ghost use Rattle.model.specs.Layout.{resultSize};
-ghost use Rattle.model.specs.State.{Column, Declared, streamAt, ownAt};
+ghost use Rattle.model.specs.Layout.{ownSize, resultSize};
+ghost use Rattle.model.specs.State.{Settings, Column, Declared, streamAt, ownAt};
 ghost use Rattle.model.specs.Registrations.{holding, owning};
 ghost use Rattle.model.specs.Settling as model;
-ghost use Rattle.model.specs.Table.{columnNumber, declaredNumber, toResult, resultOctets, encode, decode};
-ghost use Rattle.model.specs.Laid.{LaidResult, Laid};
+ghost use Rattle.model.specs.Table.{columnNumber, declaredNumber, toResult, resultOctets, toOwn, ownOctets, encode, decode};
+ghost use Rattle.model.specs.Laid.{LaidResult, LaidOwn, Laid};
 ghost use Rattle.table.specs.Places.{Stands, PortIn};
 ghost use Rattle.table.specs.Updates.{withStream, withOwn};
 ghost use Rattle.streams.specs.Answers.{classShown};
@@ -91,14 +91,23 @@ fn flag(table: &[u8], p: usize, class: ClassRead) -> bool
     any_supports(table, class)
 }
 
-// Removes from the port at place p each Domain value that has been leaving for at least the leave time.
+// Removes from what a port holds each Domain value and each address that has been leaving for at least the leave time.
+fn expire_held(own: &mut [u8], leave: u32, time: u32)
+    requires { ⌜ LaidOwn (now own) × (length (now own) ≡ ownSize) ⌝ }
+    ensures { λ _. ⌜ ((st : Settings) → st .leaveTime ≡ leave → now (own .exit) ≡ ownOctets (expiredOwn st time (toOwn (now (own .entry))))) ⌝ }
+{
+    domains::expire_all(own, leave, time);
+    addresses::expire(own, leave, time);
+}
+
+// The same at place p.
 fn expire_own(table: &mut [u8], p: usize, leave: u32, time: u32)
     requires { ⌜ PortIn (now table) p × (leave ≡ decode (now table) .settings .leaveTime) ⌝ }
     ensures { λ _. ⌜ now (table .exit) ≡ encode (withOwn p (expiredOwn (decode (now (table .entry)) .settings) time (ownAt (decode (now (table .entry)) .own) p))
         (decode (now (table .entry)))) ⌝ }
 {
     let a = table::own_in(table, p);
-    domains::expire_all(&mut table[a..a + table::OWN], leave, time);
+    expire_held(&mut table[a..a + table::OWN], leave, time);
 }
 
 // The flags of the port at place p, by the Domain values that it holds.

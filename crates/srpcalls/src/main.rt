@@ -1,4 +1,4 @@
-// A console for the five calls. Reads call records from standard input to its end, and prints one line for each call. Numbers in
+// A console for the six calls. Reads call records from standard input to its end, and prints one line for each call. Numbers in
 // records are most significant octet first. The table is zeros at the beginning, so calls before a start are answered with 12.
 use libc::STDIN_FILENO;
 ghost use Prim.Native.Nat.{_≤_};
@@ -82,12 +82,17 @@ fn start(table: &mut [u8], octets: &mut [u8], line: &mut [u8]) -> Step
     print_number(line, b"start", number)
 }
 
-fn receive(table: &mut [u8], port: u32, octets: &mut [u8], line: &mut [u8]) -> Step
+// A PDU that arrived on a port, of MMRP or else of MSRP.
+fn receive(table: &mut [u8], port: u32, mmrp: bool, octets: &mut [u8], line: &mut [u8]) -> Step
     requires { ⌜ 65535 ≤ length (now octets) ⌝ }
 {
     let Counted::Octets(n) = read_counted(octets) else {
         return Step::Stop;
     };
+    if mmrp {
+        let number = bridge::receive_mmrp(table, port, &octets[0..n]);
+        return print_number(line, b"mmrp", number);
+    }
     let number = bridge::receive(table, port, &octets[0..n]);
     print_number(line, b"receive", number)
 }
@@ -247,7 +252,7 @@ fn take_record(room: &mut [u8], lent: usize, octets: &mut [u8], line: &mut [u8])
         let port = (kind % 16) as u32;
         return match kind {
             0x00 => start(&mut room[0..lent], octets, line),
-            0x10..=0x1F => receive(&mut room[0..lent], port, octets, line),
+            0x10..=0x1F => receive(&mut room[0..lent], port, false, octets, line),
             0x20 => advance(&mut room[0..lent], line),
             0x30..=0x3F => write(&room[0..lent], port, line),
             0x40..=0x4F => report(&room[0..lent], port, line),
@@ -255,6 +260,7 @@ fn take_record(room: &mut [u8], lent: usize, octets: &mut [u8], line: &mut [u8])
             0x51 => lend(),
             0x60 => print_sum(line, &room[0..lent]),
             0x61 => print_octets(line, &room[0..lent]),
+            0x70..=0x7F => receive(&mut room[0..lent], port, true, octets, line),
             _ => Step::Stop,
         };
     }

@@ -17,9 +17,8 @@ use Rattle.model.specs.WrittenFrames.{priorityOctet, fixedNumbers}
 use Rattle.model.specs.Table.{cellNumbers, talkerNumbers, listenerNumbers, resultNumbers, columnNumber, columnBridge, columnCode, entryNumber, declaredNumber}
 use Rattle.model.specs.Laid.{FitCell, FitResult, FitStream, FitTotals, FitOwn, FitBridge, Ascending}
 use Rattle.model.proofs.Lists.{all-replicate, all-append, all-take, all-drop, all-set, length-at, all-changed}
-use Rattle.model.proofs.Parts.{_also_}
+use Rattle.model.proofs.Parts.{_also_, rising-ascends, ascending-rises}
 use Rattle.model.proofs.FrameOrder.{joined, rising-together}
-use Rattle.model.proofs.Fits.{rising-ascends, ascending-rises}
 use Rattle.table.specs.declared.Found.the-variants.{Gap}
 use Rattle.table.specs.Find.{foundAt}
 use Rattle.table.specs.Held.{heldOnly}

@@ -10,7 +10,7 @@ use Rattle.octets.specs.Parts.{part, patch, zeros}
 use Rattle.octets.specs.Fields.{packed, Fit, width, flat}
 use Rattle.octets.proofs.Be.{length-be}
 use Rattle.octets.proofs.Fields.{flat-append, packed-zeros, fit-zeros}
-use Rattle.model.specs.Layout.{clockPlace, countPlace, domainVlanPlace, fanInPlace, ownPlace, ownSize, ownsPlace, portPlace, portSize, portWidths, portsPlace, portsUnit, priorityAUnit, priorityBUnit, recordsPlace, tableLength, totalPlace, totalSize, totalsPlace, totalsSize, wordPlace}
+use Rattle.model.specs.Layout.{clockPlace, countPlace, domainVlanPlace, fanInPlace, ownPlace, ownSize, ownsPlace, portPlace, portSize, portWidths, portsPlace, portsUnit, priorityAUnit, priorityBUnit, pruningUnit, recordsPlace, tableLength, totalPlace, totalSize, totalsPlace, totalsSize, wordPlace}
 use Rattle.model.specs.Lists.{All, bit}
 use Rattle.model.specs.State.{Port, Settings, Own, Stream, Totals, Bridge, noPort, portAt, noTotals, noOwn, ownAt}
 use Rattle.model.specs.Registrations.{holding, owning}
@@ -18,7 +18,7 @@ use Rattle.model.specs.Table.{portNumbers, portOctets, settingsOctets, portsFie
 use Rattle.model.specs.Laid.{FitSettings, FitBridge, Laid}
 use Rattle.model.proofs.Lists.{all-each, all-replicate}
 use Rattle.model.proofs.Parts.{Sized, flat-zeros}
-use Rattle.model.proofs.SettingsOctets.{head, head-length, port-length, id-read, ports-read, priority-a-read, priority-b-read, leave-read, vlan-read, fan-in-read}
+use Rattle.model.proofs.SettingsOctets.{head, head-length, port-length, id-read, ports-read, priority-a-read, priority-b-read, leave-read, vlan-read, pruning-read, fan-in-read}
 use Rattle.model.proofs.Tables.{settingsWhole, clockAndCount, totalsWhole, ownsWhole, recordsWhole, encode-parts, clock-length, settings-whole-length, totals-whole-length, owns-whole-length, whole-length, totals-sized, no-totals, clock-read, count-read, fit-whole}
 use Rattle.model.proofs.Fits.{laid-is, laid-fits}
 use Rattle.table.specs.Updates.{clocked, totalled}
@@ -83,9 +83,13 @@ module _ (b : Bridge) (w : FitBridge b) where
   unfolding encode
   leave-time-at = leave-read (b .settings) (w .settings) _
 
-  pub domain-vlan-at : beAt 2 (encode b) domainVlanPlace ≡ b .settings .vlan
+  pub domain-vlan-at : beAt 2 (encode b) domainVlanPlace % pruningUnit ≡ b .settings .vlan
   unfolding encode
   domain-vlan-at = vlan-read (b .settings) (w .settings) _
+
+  pub pruning-at : beAt 2 (encode b) domainVlanPlace / pruningUnit ≡ bit (b .settings .pruning)
+  unfolding encode
+  pruning-at = pruning-read (b .settings) (w .settings) _
 
   pub fan-in-at : beAt 1 (encode b) fanInPlace ≡ b .settings .fanIn
   unfolding encode
@@ -265,8 +269,11 @@ module _ (t : List ℕ) (l : Laid t) where
   pub laid-priority-b : beAt 3 t wordPlace / priorityBUnit % 8 ≡ decode t .settings .priorityB
   laid-priority-b = ap (λ (s : List ℕ). beAt 3 s wordPlace / priorityBUnit % 8) (laid-is t l) ∙ priority-b-at (decode t) (laid-fits t l)
 
-  pub laid-domain-vlan : beAt 2 t domainVlanPlace ≡ decode t .settings .vlan
-  laid-domain-vlan = ap (λ (s : List ℕ). beAt 2 s domainVlanPlace) (laid-is t l) ∙ domain-vlan-at (decode t) (laid-fits t l)
+  pub laid-domain-vlan : beAt 2 t domainVlanPlace % pruningUnit ≡ decode t .settings .vlan
+  laid-domain-vlan = ap (λ (s : List ℕ). beAt 2 s domainVlanPlace % pruningUnit) (laid-is t l) ∙ domain-vlan-at (decode t) (laid-fits t l)
+
+  pub laid-pruning : beAt 2 t domainVlanPlace / pruningUnit ≡ bit (decode t .settings .pruning)
+  laid-pruning = ap (λ (s : List ℕ). beAt 2 s domainVlanPlace / pruningUnit) (laid-is t l) ∙ pruning-at (decode t) (laid-fits t l)
 
   pub laid-fan-in : beAt 1 t fanInPlace ≡ decode t .settings .fanIn
   laid-fan-in = ap (λ (s : List ℕ). beAt 1 s fanInPlace) (laid-is t l) ∙ fan-in-at (decode t) (laid-fits t l)

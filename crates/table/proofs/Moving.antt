@@ -4,7 +4,7 @@ use native.Mathlib.Omega.{arith}
 use native.Mathlib.Numerals.{add-one}
 use mathlib.Core.Path.{_≡_, sym, ap, _∙_}
 use mathlib.Core.List.{List, [], _∷_, _++_, append-assoc}
-use lib.ListN.{length, getD, set, take, drop, length-append}
+use lib.ListN.{length, getD, set, take, drop, length-append, length-drop, take-append-drop}
 use lib.Seq.{drop-drop, drop-set-lt, take-suc-set, take-append-add, length-take-le, drop-at}
 use Rattle.octets.specs.Parts.{part, patch, zeros}
 use Rattle.octets.proofs.Parts.{part-cons, patch-is}
@@ -49,3 +49,23 @@ gap-made x y z r at n d p q o =
     ap (λ (m : List ℕ). patch at d (zeros d) (patch (at + d) n m s)) (part-between x y (z ++ r) at n p q)
     ∙ ap (patch at d (zeros d)) (patch-is (at + d) n y s ∙ rw (front, behind) (append-assoc x over (y ++ r)))
     ∙ patch-between x over (y ++ r) (zeros d) at d p few
+
+-- d octets taken out: the n behind them moved down, and zeros in the room so freed
+pub gap-closed : (x y z r : List ℕ) (at n d : ℕ) → length x ≡ at → length y ≡ d → length z ≡ n
+    → patch (at + n) d (zeros d) (patch at n (part (at + d) n (x ++ (y ++ (z ++ r)))) (x ++ (y ++ (z ++ r)))) ≡ x ++ (z ++ (zeros d ++ r))
+gap-closed x y z r at n d p q o =
+    let s = x ++ (y ++ (z ++ r)) in
+    let whole : length (y ++ z) ≡ d + n = length-append y z ∙ omega arith in
+    let first = take n (y ++ z) in
+    let last = drop n (y ++ z) in
+    let moved : part (at + d) n s ≡ z =
+    ap (part (at + d) n) (sym (append-assoc x y (z ++ r))) ∙ part-between (x ++ y) z r (at + d) n (length-append x y ∙ omega arith) o in
+    let cut : s ≡ x ++ (first ++ (last ++ r)) =
+    ap (λ (t : List ℕ). x ++ t) (sym (append-assoc y z r) ∙ ap (λ (t : List ℕ). t ++ r) (sym (take-append-drop n (y ++ z))) ∙ append-assoc first last r) in
+    let few : length first ≡ n = length-take-le n (y ++ z) (omega (arith, whole)) in
+    let rest : length last ≡ d = length-drop n (y ++ z) ∙ omega (arith, whole) in
+    let stored : patch at n (part (at + d) n s) s ≡ x ++ (z ++ (last ++ r)) =
+    ap (λ (t : List ℕ). patch at n t s) moved ∙ ap (patch at n z) cut ∙ patch-between x first (last ++ r) z at n p few in
+    ap (patch (at + n) d (zeros d)) (stored ∙ sym (append-assoc x z (last ++ r)))
+    ∙ patch-between (x ++ z) last r (zeros d) (at + n) d (length-append x z ∙ omega arith) rest
+    ∙ append-assoc x z (zeros d ++ r)

@@ -1,7 +1,7 @@
 -- What a port holds by itself: read, replaced, lent; its Domain value in a slot, and its flags.
 use Prim.Native.Nat.{ℕ, _+_, _-_, _<_, _≤_}
 use native.Mathlib.Omega.{arith}
-use mathlib.Core.Path.{_≡_, refl, sym, ap, _∙_}
+use mathlib.Core.Path.{_≡_, refl, sym, ap, _∙_, subst}
 use mathlib.Core.List.{List, [], _∷_, _++_, append-nil}
 use lib.ListN.{length, getD, set, take, drop, length-set}
 use Rattle.octets.specs.Parts.{part, patch}
@@ -14,9 +14,10 @@ use Rattle.model.specs.Lists.{All}
 use Rattle.model.specs.State.{Domain, noDomain, Own, noOwn, Bridge, ownAt}
 use Rattle.model.specs.Registrations.{at, changeDomains, owning}
 use Rattle.model.specs.Table.{domainNumbers, domainOctets, toDomain, ownOctets, toOwn, encode, decode}
-use Rattle.model.specs.Laid.{FitOwn, FitBridge, Laid}
+use Rattle.model.specs.Laid.{FitOwn, FitBridge, Laid, LaidOwn}
 use Rattle.model.proofs.Lists.{all-at, all-set, all-changed, length-at}
-use Rattle.model.proofs.Owns.{domain-length, domains-sized, flags, fit-back, own-length, own-fit-back}
+use Rattle.model.proofs.Owns.{domain-length, domains-sized, flags, numberHeld, fit-back, own-length, own-fit-back}
+use Rattle.model.proofs.Addresses.{addressesWhole}
 use Rattle.model.proofs.Fits.{laid-is, laid-fits}
 use Rattle.table.specs.Updates.{withOwn, withSlot}
 use Rattle.table.specs.Places.{PortIn, SlotIn}
@@ -27,9 +28,20 @@ use Rattle.table.proofs.StreamParts.{at-set}
 use Rattle.table.proofs.Fitting.{owning-fits}
 use Rattle.table.proofs.ByPlace.{encoded-laid}
 
+-- Octets that are laid out as what a port holds.
+module _ (s : List ℕ) (l : LaidOwn s) where
+  back : toOwn s ≡ l .thing
+  back = ap toOwn (l .is) ∙ own-fit-back (l .thing) (l .fits)
+
+  pub laid-own-is : s ≡ ownOctets (toOwn s)
+  laid-own-is = l .is ∙ ap ownOctets (sym back)
+
+  pub laid-own-fits : FitOwn (toOwn s)
+  laid-own-fits = subst FitOwn (sym back) (l .fits)
+
 pub reads-own : (o : Own) → FitOwn o → (s : List ℕ) → s ≡ ownOctets o → ReadsOwn s o
 reads-own o f s e = record {
-  size = ap length e ∙ own-length o (f .slotted);
+  size = ap length e ∙ own-length o (f .slotted) (f .addresses .at-most-64);
   laid = record { thing = o; fits = f; is = e };
   is = ap toOwn e ∙ own-fit-back o f;
 }
@@ -44,6 +56,10 @@ reads-domain d f s e = record {
 pub port-of-slot : {t : List ℕ} {p i : ℕ} → SlotIn t p i → PortIn t p
 port-of-slot s = record { laid = s .laid; port = s .port }
 
+-- what follows the Domain values: flags, number of addresses, addresses
+abbrev behindSlots : Own → List ℕ
+behindSlots o = flags o ++ (numberHeld o ++ addressesWhole (o .addresses))
+
 -- Among the octets that a port holds: the Domain value in slot i.
 module _ (o : Own) (f : FitOwn o) (i : ℕ) (h : i < slots) where
   a-slot : i < length (o .domains)
@@ -51,14 +67,14 @@ module _ (o : Own) (f : FitOwn o) (i : ℕ) (h : i < slots) where
 
   pub slot-part : part (slotIn i) slotSize (ownOctets o) ≡ domainOctets (getD (o .domains) i noDomain)
   unfolding ownOctets
-  slot-part = part-one slotSize domainOctets 0 [] (flags o) refl (o .domains) (domains-sized (o .domains)) i (slotIn i) a-slot (omega arith) noDomain
+  slot-part = part-one slotSize domainOctets 0 [] (behindSlots o) refl (o .domains) (domains-sized (o .domains)) i (slotIn i) a-slot (omega arith) noDomain
 
   pub slot-patch : (u : Domain → Domain) → patch (slotIn i) slotSize (domainOctets (u (getD (o .domains) i noDomain))) (ownOctets o) ≡ ownOctets (changeDomains (at i u) o)
   unfolding ownOctets changeDomains
   slot-patch u =
-      patch-one slotSize domainOctets 0 [] (flags o) refl (o .domains) (domains-sized (o .domains)) i (slotIn i) a-slot (omega arith)
+      patch-one slotSize domainOctets 0 [] (behindSlots o) refl (o .domains) (domains-sized (o .domains)) i (slotIn i) a-slot (omega arith)
       (u (getD (o .domains) i noDomain))
-      ∙ ap (λ (l : List Domain). flat domainOctets l ++ flags o) (at-set i u (o .domains) noDomain a-slot)
+      ∙ ap (λ (l : List Domain). flat domainOctets l ++ behindSlots o) (at-set i u (o .domains) noDomain a-slot)
 
   pub slot-fits : Fit slotWidths (domainNumbers (getD (o .domains) i noDomain))
   slot-fits = all-at (λ d. Fit slotWidths (domainNumbers d)) (o .domains) (f .domains) i noDomain a-slot
@@ -69,6 +85,7 @@ module _ (o : Own) (f : FitOwn o) (i : ℕ) (h : i < slots) where
   changed-own-fits u keeps = record {
     slotted = length-at i u (o .domains) ∙ f .slotted;
     domains = all-changed (λ d. Fit slotWidths (domainNumbers d)) i u (o .domains) keeps (f .domains);
+    addresses = f .addresses;
   }
 
 -- Among those of the table.

@@ -37,7 +37,7 @@ search-for i n (x ∷ s) = go (tri i (x .id)) (search-for i (suc n) s)
         (λ b u. touch-past b i u x s h ∙ ap (λ (z : List Stream). x ∷ z) (t b u))
 
 -- What was searched is found or missing, not both.
-not-both : {r : Found} {j k : ℕ} → r ≡ At j → r ≡ Gap k → ⊥
+pub not-both : {r : Found} {j k : ℕ} → r ≡ At j → r ≡ Gap k → ⊥
 not-both f g = let z : _≡_ {A = ℕ} 0 1 = cc in omega arith
 
 -- Found.

@@ -17,6 +17,7 @@ ghost use Rattle.table.specs.Updates.{clocked, totalled, inserted, strea
 ghost use Rattle.table.specs.Places.{Stands, PortIn, SlotIn, StandsOn, RoomAt, RecordTo};
 ghost use Rattle.table.specs.Reads.{ReadsCell, ReadsResult, ReadsFixed, ReadsPort, ReadsTotals, ReadsOwn};
 
+pub mod address;
 pub mod cell;
 pub mod port;
 pub mod result;
@@ -36,7 +37,8 @@ pub const CELL: usize = cell::LISTENER + cell::LISTENER_PART;
 
 pub const RESULT: usize = result::DECLARED + 1;
 
-// What a port holds by itself: two classes of eight Domain values, then whether it is at the edge of class A and of class B.
+// What a port holds by itself: two classes of eight Domain values, then whether it is at the edge of class A and of class B; then
+// how many addresses it holds, and room for 64 of them.
 pub const SLOT: usize = slot::VLAN + 2;
 
 pub const SLOTS: usize = 16;
@@ -45,7 +47,15 @@ pub const BOUNDARY: usize = SLOTS * SLOT;
 
 pub const BOUNDARY_B: usize = BOUNDARY + 1;
 
-pub const OWN: usize = BOUNDARY_B + 1;
+pub const ADDRESS: usize = address::MAC + 6;
+
+pub const ADDRESSES_HELD: usize = BOUNDARY_B + 1;
+
+pub const ADDRESSES: usize = ADDRESSES_HELD + 1;
+
+pub const MOST_ADDRESSES: usize = 64;
+
+pub const OWN: usize = ADDRESSES + MOST_ADDRESSES * ADDRESS;
 
 // A record: behind the StreamID the settled values, with priority and rank last of them; cells and results.
 pub const SETTLED: usize = 8;
@@ -58,8 +68,8 @@ pub const RESULTS: usize = CELLS + 8 * CELL;
 
 pub const RECORD: usize = RESULTS + 8 * RESULT;
 
-// A table: behind the Bridge ID the field of the number of ports, class priorities and leave time, the VLAN of the Domain values,
-// msrpMaxFanInPorts, the ports' settings, the clock, the number of streams, the totals, what the ports hold and the records.
+// A table: behind the Bridge ID the field of the number of ports, class priorities and leave time, talkerPruning with the VLAN of the
+// Domain values, msrpMaxFanInPorts, the ports' settings, the clock, the number of streams, the totals, what the ports hold and the records.
 pub const HEAD: usize = 8;
 
 pub const VLAN: usize = HEAD + 3;
@@ -86,6 +96,9 @@ pub const PRIORITY_B_UNIT: u64 = 16384;
 pub const PRIORITY_A_UNIT: u64 = 8 * PRIORITY_B_UNIT;
 
 pub const PORTS_UNIT: u64 = 8 * PRIORITY_A_UNIT;
+
+// The unit of talkerPruning, above the VLAN.
+pub const PRUNING_UNIT: u64 = 32768;
 
 // The number of streams held.
 pub fn count(table: &[u8]) -> usize
@@ -147,7 +160,15 @@ pub fn domain_vlan(table: &[u8]) -> u64
     requires { ⌜ Laid (now table) ⌝ }
     ensures { λ r. ⌜ r ≡ decode (now (table .entry)) .settings .vlan ⌝ }
 {
-    octets::get(table, VLAN, 2)
+    octets::get(table, VLAN, 2) % PRUNING_UNIT
+}
+
+// talkerPruning: whether Talkers go only where their destination is registered.
+pub fn pruning(table: &[u8]) -> bool
+    requires { ⌜ Laid (now table) ⌝ }
+    ensures { λ r. ⌜ r ≡ decode (now (table .entry)) .settings .pruning ⌝ }
+{
+    octets::get(table, VLAN, 2) / PRUNING_UNIT == 1
 }
 
 // msrpMaxFanInPorts: how many ports may bring streams in, or 0 for any number.
@@ -346,7 +367,7 @@ pub fn find(table: &[u8], id: u64) -> Found
 }
 
 // The n octets from place at on, moved up by d.
-fn move_up(s: &mut [u8], at: usize, d: usize, n: usize)
+pub fn move_up(s: &mut [u8], at: usize, d: usize, n: usize)
     requires { ⌜ at + d + n ≤ length (now s) ⌝ }
     ensures { λ _. ⌜ now (s .exit) ≡ patch (at + d) n (part at n (now (s .entry))) (now (s .entry)) ⌝ }
 {

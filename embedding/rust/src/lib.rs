@@ -1,11 +1,12 @@
-//! The stream-reservation bridge from Rust: a safe wrapper of the five calls of libembed.a. What each call does stands in
+//! The stream-reservation bridge from Rust: a safe wrapper of the six calls of libembed.a. What each call does stands in
 //! include/srp.h, whose names and sizes these are.
 #![no_std]
 
-/// Sizes in octets, ports and streams, as srp.h has them.
+/// Sizes in octets, ports, streams and addresses, as srp.h has them.
 pub const PORTS: usize = 8;
 pub const STREAMS: usize = 64;
-pub const TABLE: usize = 34923;
+pub const ADDRESSES: usize = 64;
+pub const TABLE: usize = 41075;
 pub const SETTINGS_HEAD: usize = 14;
 pub const SETTINGS_PORT: usize = 22;
 pub const PDU: usize = 1500;
@@ -40,6 +41,13 @@ mod boundary {
             settings_length: usize,
         ) -> u8;
         pub fn srp_receive(
+            table: *mut u8,
+            table_length: usize,
+            port: u32,
+            pdu: *const u8,
+            pdu_length: usize,
+        ) -> u8;
+        pub fn srp_receive_mmrp(
             table: *mut u8,
             table_length: usize,
             port: u32,
@@ -83,6 +91,7 @@ pub enum Refusal {
     Settings,
     Table,
     Place,
+    Addresses,
     /// A number that this wrapper doesn't know: the archive is a newer one.
     Other(u8),
 }
@@ -105,6 +114,7 @@ impl Refusal {
             11 => Refusal::Settings,
             12 => Refusal::Table,
             13 => Refusal::Place,
+            14 => Refusal::Addresses,
             other => Refusal::Other(other),
         })
     }
@@ -191,6 +201,19 @@ impl<'a> Bridge<'a> {
     pub fn receive(&mut self, port: u32, pdu: &[u8]) -> Result<(), Refusal> {
         Refusal::answer(unsafe {
             boundary::srp_receive(self.table.as_mut_ptr(), TABLE, port, pdu.as_ptr(), pdu.len())
+        })
+    }
+
+    /// Takes an MMRP PDU that arrived on a port, numbered from 1.
+    pub fn receive_mmrp(&mut self, port: u32, pdu: &[u8]) -> Result<(), Refusal> {
+        Refusal::answer(unsafe {
+            boundary::srp_receive_mmrp(
+                self.table.as_mut_ptr(),
+                TABLE,
+                port,
+                pdu.as_ptr(),
+                pdu.len(),
+            )
         })
     }
 

@@ -9,7 +9,7 @@ use crate::pdu::{self, AttributeType, Fault, PassedOver, Pdu, VectorRead};
 use crate::registrations::MOST_STREAMS;
 
 /// Whether a vector is passed over for its LeaveAllEvent, and for an event octet.
-fn causes(vector: &PassedOver) -> (bool, bool) {
+pub fn causes<T>(vector: &PassedOver<T>) -> (bool, bool) {
     let strange = |octet: &u8| *octet > pdu::GREATEST_THREE_PACKED;
     (vector.leave_all_event > 1, vector.three_packed.iter().any(strange))
 }

@@ -3,6 +3,7 @@
 use super::words::{unknown, Field, Measure, Words};
 use crate::declarations;
 use crate::frame::{FrameDraft, MessageDraft, VectorDraft};
+use crate::mmrp::MmrpType;
 use crate::pdu::{AttributeType, Failure, Talker};
 
 const VLAN: Field = Field::plain("a VLAN", 16);
@@ -14,23 +15,43 @@ const LATENCY: Field = Field::measured("a latency", 32, Measure::Nanoseconds);
 const CODE: Field = Field::plain("a code", 8);
 const CLASS_ID: Field = Field::plain("a class ID", 8);
 const DOMAIN_PRIORITY: Field = Field::plain("a priority", 8);
+const SERVICE: Field = Field::plain("a Service Requirement", 8);
 const VALUES: Field = Field::plain("a number of values", 13);
 
 /// The PDU of the rest of a line: its octets, or Messages with `and` between them.
 pub fn pdu(words: &mut Words) -> Result<Vec<u8>, String> {
+    of_messages(words, "talker, listener, domain, leaveall or octets", |first, words| match first {
+        "talker" => talker(words),
+        "listener" => listener(words),
+        "domain" => domain(words),
+        "leaveall" => leave_all(words),
+        other => Err(unknown(other)),
+    })
+}
+
+/// The same of MMRP.
+pub fn mmrp_pdu(words: &mut Words) -> Result<Vec<u8>, String> {
+    of_messages(words, "mac, service, leaveall or octets", |first, words| match first {
+        "mac" => mac(words),
+        "service" => service(words),
+        "leaveall" => leave_all_mmrp(words),
+        other => Err(unknown(other)),
+    })
+}
+
+fn of_messages(
+    words: &mut Words,
+    wanted: &str,
+    message: impl Fn(&str, &mut Words) -> Result<MessageDraft, String>,
+) -> Result<Vec<u8>, String> {
     if words.first() == Some("octets") {
         words.next();
         return words.octets();
     }
     let mut messages = Vec::new();
     loop {
-        messages.push(match words.word("talker, listener, domain, leaveall or octets")? {
-            "talker" => talker(words)?,
-            "listener" => listener(words)?,
-            "domain" => domain(words)?,
-            "leaveall" => leave_all(words)?,
-            other => return Err(unknown(other)),
-        });
+        let first = words.word(wanted)?;
+        messages.push(message(first, words)?);
         match words.next() {
             None => return Ok(FrameDraft::new(messages).octets()),
             Some("and") => {}
@@ -96,12 +117,40 @@ fn leave_all(words: &mut Words) -> Result<MessageDraft, String> {
         "domain" => AttributeType::Domain,
         other => return Err(unknown(other)),
     };
-    let vector = VectorDraft {
-        leave_all_event: 1,
-        first_value: vec![0; attribute_type.first_value_length()],
-        ..VectorDraft::default()
-    };
+    let vector = leave_all_vector(attribute_type.first_value_length());
     Ok(MessageDraft::new(attribute_type, vec![vector]))
+}
+
+/// A vector of LeaveAll without values.
+fn leave_all_vector(first_value_length: usize) -> VectorDraft {
+    VectorDraft {
+        leave_all_event: 1,
+        first_value: vec![0; first_value_length],
+        ..VectorDraft::default()
+    }
+}
+
+fn mac(words: &mut Words) -> Result<MessageDraft, String> {
+    let first_value = words.address()?.to_be_bytes()[2..].to_vec();
+    let values = Values::read(words)?;
+    Ok(MessageDraft::of_mmrp(MmrpType::Mac, vec![values.vector(first_value, None)]))
+}
+
+fn service(words: &mut Words) -> Result<MessageDraft, String> {
+    let first_value = vec![words.number(SERVICE)?];
+    let values = Values::read(words)?;
+    let vectors = vec![values.vector(first_value, None)];
+    Ok(MessageDraft::of_mmrp(MmrpType::ServiceRequirement, vectors))
+}
+
+fn leave_all_mmrp(words: &mut Words) -> Result<MessageDraft, String> {
+    let attribute_type = match words.word("mac or service")? {
+        "mac" => MmrpType::Mac,
+        "service" => MmrpType::ServiceRequirement,
+        other => return Err(unknown(other)),
+    };
+    let vector = leave_all_vector(attribute_type.first_value_length());
+    Ok(MessageDraft::of_mmrp(attribute_type, vec![vector]))
 }
 
 /// How many values a vector has, and the event of each.
@@ -145,12 +194,15 @@ impl Values {
         first_value: Vec<u8>,
         listener_type: Option<u8>,
     ) -> MessageDraft {
-        let vector = VectorDraft {
+        MessageDraft::new(attribute_type, vec![self.vector(first_value, listener_type)])
+    }
+
+    fn vector(&self, first_value: Vec<u8>, listener_type: Option<u8>) -> VectorDraft {
+        VectorDraft {
             first_value,
             events: vec![self.event; self.count],
             listener_types: listener_type.map_or(Vec::new(), |part| vec![part; self.count]),
             ..VectorDraft::default()
-        };
-        MessageDraft::new(attribute_type, vec![vector])
+        }
     }
 }

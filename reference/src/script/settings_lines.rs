@@ -26,6 +26,7 @@ pub fn bridge(words: &mut Words) -> Result<Settings, String> {
         bridge_id: words.hexadecimal("a Bridge ID", 64)?,
         priority: PerClass { a: 3, b: 2 },
         leave_time: 60,
+        pruning: false,
         vlan: 2,
         fan_in_limit: 0,
         ports: Vec::new(),
@@ -34,6 +35,7 @@ pub fn bridge(words: &mut Words) -> Result<Settings, String> {
         match word {
             "priorities" => settings.priority = per_class(words, PRIORITY)?,
             "leave" => settings.leave_time = words.number(LEAVE_TIME)?,
+            "pruning" => settings.pruning = true,
             "vlan" => settings.vlan = words.number(VLAN)?,
             "fanin" => settings.fan_in_limit = words.number(FAN_IN)?,
             _ => return Err(unknown(word)),

@@ -32,7 +32,8 @@ fn scripts_look_at_the_table_often_and_go_on_where_octets_are_stored() {
     let (mut changing, mut sums, mut refused) = (0, 0, 0);
     for seed in 0..300 {
         for line in calls::run(&generator::calls(seed).octets).lines() {
-            let changes = ["start", "receive", "advance"].iter().any(|name| line.starts_with(name));
+            let changes =
+                ["start", "receive", "mmrp", "advance"].iter().any(|name| line.starts_with(name));
             changing += usize::from(changes);
             sums += usize::from(line.starts_with("table "));
             refused += usize::from(changes && line.ends_with(" 12"));
@@ -40,6 +41,13 @@ fn scripts_look_at_the_table_often_and_go_on_where_octets_are_stored() {
     }
     assert!(sums > changing, "{sums} sums of {changing}");
     assert!(refused < changing / 5, "{refused} refused of {changing}");
+}
+
+#[test]
+fn half_of_the_scripts_have_mmrp_frames() {
+    let has_mmrp = |seed: &u64| calls::run(&generator::calls(*seed).octets).contains("mmrp ");
+    let count = (0..300).filter(has_mmrp).count();
+    assert!((120..180).contains(&count), "{count} of 300");
 }
 
 #[test]

@@ -3,6 +3,7 @@
 use reference::bridge::{ReportAnswer, Table};
 use reference::declarations;
 use reference::frame::{FrameDraft, MessageDraft, VectorDraft};
+use reference::mmrp::MmrpType;
 use reference::pdu::{AttributeType, Failure, ListenerType, StreamId, Talker};
 use reference::settings::{self, PerClass, PortSettings, Settings};
 use reference::words;
@@ -33,6 +34,7 @@ pub fn settings(ports: usize) -> Settings {
         bridge_id: 0x8000_0000_0000_0007,
         priority: PerClass { a: 3, b: 2 },
         leave_time: 60,
+        pruning: false,
         vlan: 2,
         fan_in_limit: 0,
         ports: vec![port(); ports],
@@ -125,6 +127,21 @@ pub fn domain_frame(class_id: u8, priority: u8, events: &[u8]) -> Vec<u8> {
     one_message(AttributeType::Domain, vec![domain_vector(class_id, priority, events)])
 }
 
+/// A vector of an address and its neighbours, with these events.
+pub fn mac_vector(address: u64, events: &[u8]) -> VectorDraft {
+    VectorDraft {
+        first_value: address.to_be_bytes()[2..].to_vec(),
+        events: events.to_vec(),
+        ..VectorDraft::default()
+    }
+}
+
+/// An MMRP frame of one such vector.
+pub fn mac_frame(address: u64, events: &[u8]) -> Vec<u8> {
+    let vectors = vec![mac_vector(address, events)];
+    FrameDraft::new(vec![MessageDraft::of_mmrp(MmrpType::Mac, vectors)]).octets()
+}
+
 /// A PDU of a LeaveAll without values.
 pub fn leave_all(attribute_type: AttributeType) -> Vec<u8> {
     let vector = VectorDraft {
@@ -143,6 +160,11 @@ pub fn one_message(attribute_type: AttributeType, vectors: Vec<VectorDraft>) -> 
 /// Hands a frame over, which is to be accepted.
 pub fn accept(table: &mut Table, port: u32, frame: &[u8]) {
     assert_eq!(table.receive(port, frame), 0, "{frame:02x?}");
+}
+
+/// Hands an MMRP frame over, which is to be accepted.
+pub fn accept_mmrp(table: &mut Table, port: u32, frame: &[u8]) {
+    assert_eq!(table.receive_mmrp(port, frame), 0, "{frame:02x?}");
 }
 
 /// Registers a Talker on a port.

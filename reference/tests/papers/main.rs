@@ -1,5 +1,6 @@
 //! Tests of the reference program against the papers.
 
+mod addresses;
 mod any_octets;
 mod borrowing;
 mod examples;
@@ -11,6 +12,7 @@ mod marked_examples;
 mod newer_versions;
 mod order_among_ports;
 mod packing;
+mod pruning;
 mod reading;
 mod refusals;
 mod registering;

@@ -5,6 +5,7 @@ use std::path::Path;
 
 use crate::helpers::*;
 use reference::frame::{FrameDraft, MessageDraft, VectorDraft};
+use reference::mmrp;
 use reference::pdu::{self, AttributeType, ATTRIBUTE_TYPES};
 
 /// A PDU of one Message at a version.
@@ -182,7 +183,11 @@ fn the_stored_pdus_of_the_reader() {
         if let Some((name, octets)) = line.split_once(':') {
             let octet = |octet: &str| u8::from_str_radix(octet, 16).expect("an octet");
             let octets: Vec<u8> = octets.split_whitespace().map(octet).collect();
-            let number = pdu::read(&octets).err().map_or(0, |fault| fault.number);
+            let number = if name.starts_with("mmrp") {
+                mmrp::read(&octets).err().map_or(0, |fault| fault.number)
+            } else {
+                pdu::read(&octets).err().map_or(0, |fault| fault.number)
+            };
             printed.push_str(&format!("{name}: {number}\n"));
         }
     }

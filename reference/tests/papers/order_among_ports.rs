@@ -9,16 +9,24 @@ use reference::registrations::{streams_joined, MOST_STREAMS};
 use reference::{calls, generator, numbers};
 use std::collections::BTreeSet;
 
-type Frames = Vec<(u32, Vec<u8>)>;
+/// A frame that comes in on a port, by one of two protocols.
+#[derive(Clone)]
+struct Frame {
+    port: u32,
+    is_mmrp: bool,
+    pdu: Vec<u8>,
+}
+
+type Frames = Vec<Frame>;
 
 /// Another order of the frames that keeps each port's own order.
 fn shuffled(random: &mut Random, frames: &Frames) -> Vec<usize> {
-    let mut ports: Vec<u32> = frames.iter().map(|(port, _)| *port).collect();
+    let mut ports: Vec<u32> = frames.iter().map(|frame| frame.port).collect();
     random.shuffle(&mut ports);
     let mut next = [0; 16];
     let mut order = Vec::new();
     for port in ports {
-        let of_port: Vec<usize> = (0..frames.len()).filter(|n| frames[*n].0 == port).collect();
+        let of_port: Vec<usize> = (0..frames.len()).filter(|n| frames[*n].port == port).collect();
         order.push(of_port[next[port as usize]]);
         next[port as usize] += 1;
     }
@@ -30,8 +38,11 @@ fn hand_over(table: &Table, frames: &Frames, order: &[usize], time: u32) -> (Vec
     let mut table = table.clone();
     let mut answers = vec![0; frames.len()];
     for n in order {
-        let (port, frame) = &frames[*n];
-        answers[*n] = table.receive(*port, frame);
+        let Frame { port, is_mmrp, pdu } = &frames[*n];
+        answers[*n] = match is_mmrp {
+            true => table.receive_mmrp(*port, pdu),
+            false => table.receive(*port, pdu),
+        };
     }
     assert_eq!(table.advance(time), 0);
     (answers, table)
@@ -41,8 +52,8 @@ fn hand_over(table: &Table, frames: &Frames, order: &[usize], time: u32) -> (Vec
 fn streams(table: &Table, frames: &Frames) -> BTreeSet<StreamId> {
     let bridge = table.bridge().unwrap();
     let mut streams: BTreeSet<StreamId> = bridge.registrations.streams.keys().copied().collect();
-    for (_, frame) in frames {
-        if let Ok(pdu) = pdu::read(frame) {
+    for frame in frames.iter().filter(|frame| !frame.is_mmrp) {
+        if let Ok(pdu) = pdu::read(&frame.pdu) {
             streams.extend(streams_joined(&pdu));
         }
     }
@@ -60,8 +71,9 @@ struct Runs {
 impl Watcher for Runs {
     fn called(&mut self, call: &Call, number: numbers::Number, table: &Table) {
         match call {
-            Call::Receive(port, frame) if number != numbers::TABLE => {
-                self.frames.push((*port, frame.to_vec()));
+            Call::Receive(port, pdu) | Call::ReceiveMmrp(port, pdu) if number != numbers::TABLE => {
+                let is_mmrp = matches!(call, Call::ReceiveMmrp(..));
+                self.frames.push(Frame { port: *port, is_mmrp, pdu: pdu.to_vec() });
             }
             Call::Start(_) | Call::Advance(_) if number == numbers::ACCEPTED => {
                 if let (Call::Advance(time), Some(settled)) = (call, self.settled.take()) {
@@ -83,7 +95,7 @@ impl Watcher for Runs {
 #[test]
 fn frames_in_any_order_that_keeps_each_ports_own_give_the_same_answers_and_table() {
     let mut random = Random::new(3);
-    let mut compared = 0;
+    let (mut compared, mut with_mmrp) = (0, 0);
     for seed in 10_000..10_300 {
         let mut runs = Runs::default();
         calls::run_watched(&generator::calls(seed).octets, &mut runs);
@@ -97,6 +109,7 @@ fn frames_in_any_order_that_keeps_each_ports_own_give_the_same_answers_and_table
                 let order = shuffled(&mut random, &frames);
                 assert_eq!(hand_over(&settled, &frames, &order, time), expected);
                 compared += 1;
+                with_mmrp += usize::from(frames.iter().any(|frame| frame.is_mmrp));
             }
             let bridge = expected.1.bridge().unwrap();
             for (port, total) in bridge.settings.ports.iter().zip(&bridge.settled.totals) {
@@ -106,7 +119,7 @@ fn frames_in_any_order_that_keeps_each_ports_own_give_the_same_answers_and_table
             }
         }
     }
-    assert!(compared > 1_000, "{compared}");
+    assert!(compared > 1_000 && with_mmrp > 300, "{compared}, {with_mmrp} with MMRP frames");
 }
 
 #[test]
@@ -117,7 +130,8 @@ fn above_64_streams_the_order_may_matter() {
     for port in [1, 2] {
         let first = STREAM + 100 * u64::from(port);
         let vector = listener_vector(first, &[JOIN_MT; 33], &[READY; 33]);
-        frames.push((port, one_message(pdu::AttributeType::Listener, vec![vector])));
+        let pdu = one_message(pdu::AttributeType::Listener, vec![vector]);
+        frames.push(Frame { port, is_mmrp: false, pdu });
     }
     advance(&mut table, 1);
     assert_eq!(streams(&table, &frames).len(), 66);

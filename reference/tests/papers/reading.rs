@@ -128,7 +128,7 @@ fn unknown_types_at_a_higher_version_are_skipped_by_their_list_length() {
             accept(&mut table, 1, &frame.octets());
             assert_eq!(held(&table), [STREAM]);
             let read = pdu::read(&frame.octets()).unwrap();
-            assert_eq!(read.messages[0], Message::Skipped);
+            assert_eq!(read.messages[0], Message::Skipped(()));
             frame.version = 0;
             assert_eq!(number(&frame.octets()), 4);
         }

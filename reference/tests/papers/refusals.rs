@@ -234,10 +234,10 @@ fn number_11_the_vlan_setting() {
         octets[11..13].copy_from_slice(&vlan.to_be_bytes());
         octets
     };
-    for vlan in [0, 4_095, 0x1002, 0x2002, 0x4002, 0x8002, 0xf002, 0x1000, 0xffff] {
+    for vlan in [0, 4_095, 0x1002, 0x2002, 0x4002, 0xc002, 0xf002, 0x1000, 0xffff, 0x8000, 0x8fff] {
         start_refuses(&with_vlan(vlan));
     }
-    for vlan in [1, 2, 0x0800, 4_094] {
+    for vlan in [1, 2, 0x0800, 4_094, 0x8001, 0x8ffe] {
         assert_eq!(running().start(&with_vlan(vlan)), 0);
     }
 }

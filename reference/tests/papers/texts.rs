@@ -38,6 +38,9 @@ fn a_number_above_its_field_is_an_error() {
         ("on 1 domain 6 ", 255, "a priority"),
         ("on 1 domain 6 3 ", 65_535, "a VLAN"),
         ("on 1 domain 6 3 2 values ", 8_191, "a number of values"),
+        ("mmrp ", 15, "a port"),
+        ("mmrp 1 service ", 255, "a Service Requirement"),
+        ("mmrp 1 mac 1 values ", 8_191, "a number of values"),
         ("on ", 15, "a port"),
         ("time ", 4_294_967_295, "a time"),
         ("write ", 15, "a port"),
@@ -55,6 +58,7 @@ fn a_number_above_its_field_is_an_error() {
             "on 1 domain " => " 3 2",
             "on 1 domain 6 " => " 2",
             "on " => " leaveall domain",
+            "mmrp " => " leaveall mac",
             "store " => " ff",
             _ => "",
         };
@@ -250,12 +254,38 @@ fn a_frame_that_no_time_follows_is_warned_of() {
     let frame = "on 1 leaveall domain\n";
     let sheet = format!("bridge 7\nports 1\n\n{frame}");
     let calls = format!("bridge 7\nports 1\nstart\n{frame}");
+    let mmrp = "bridge 7\nports 1\nstart\nmmrp 1 leaveall mac\n";
+    assert_eq!(warnings(mmrp, Program::Calls), [said]);
     assert_eq!(warnings(&sheet, Program::Sheet), [said]);
     assert_eq!(warnings(&calls, Program::Calls), [said]);
     assert_eq!(warnings(&format!("{calls}report 1\n"), Program::Calls), [said]);
     assert!(warnings(&format!("{sheet}time 1\n"), Program::Sheet).is_empty());
     assert!(warnings(&format!("{calls}start\n"), Program::Calls).is_empty());
     assert!(warnings("bridge 7\nports 1\n", Program::Sheet).is_empty());
+}
+
+#[test]
+fn an_mmrp_frame_is_a_line_of_calls_alone() {
+    let octets =
+        |line: &str| records(&format!("address hall 91:e0:f0:00:fe:00\n{line}\n"), Program::Calls);
+    let hall = [0x91, 0xe0, 0xf0, 0, 0xfe, 0];
+    let mac = [&[0x72, 0, 16, 0, 2, 6, 0, 1][..], &hall, &[108, 0, 0, 0, 0]].concat();
+    assert_eq!(octets("mmrp 2 mac hall"), Ok(mac.clone()));
+    assert_eq!(octets("mmrp 2 mac 91e0f000fe00 join values 1"), Ok(mac.clone()));
+    assert_eq!(octets(&format!("mmrp 2 octets {}", "000206000191e0f000fe006c00000000")), Ok(mac));
+    let service = [0, 1, 1, 0, 2, 255, 210, 0, 0];
+    let leave_all = [2, 6, 0x20, 0, 0, 0, 0, 0, 0, 0, 0, 0, 0, 0];
+    let both = [&[0x7f, 0, 23][..], &service, &leave_all].concat();
+    assert_eq!(octets("mmrp 15 service 255 values 2 leave and leaveall mac"), Ok(both));
+    assert_eq!(
+        octets("mmrp 1 leaveall service"),
+        Ok(vec![0x71, 0, 10, 0, 1, 1, 0x20, 0, 0, 0, 0, 0, 0])
+    );
+    assert_eq!(fault("mmrp 1 talker 1", Program::Calls), "line 2: talker is not known here");
+    assert_eq!(fault("mmrp 1 leaveall domain", Program::Calls), "line 2: domain is not known here");
+    assert_eq!(fault("mmrp 1 mac 1", Program::Sheet), "line 2: mmrp is not known here");
+    let ends = "line 2: the line ends where mac, service, leaveall or octets was expected";
+    assert_eq!(fault("mmrp 1", Program::Calls), ends);
 }
 
 #[test]
@@ -289,6 +319,9 @@ line 7: time 4: the time is below the held clock
 line 6: report 1 place 1: the place is above the number of declarations (write) or of streams held (report)
 ";
     assert_eq!(told(text, Program::Calls, printed), said);
+    let text = "bridge 7\nports 1\nstart\nmmrp 1 mac 1 values 65\ntime 1\n";
+    let said = "line 4: mmrp 1 mac 1 values 65: addresses held on the port plus different new ones joined by this MMRP frame exceed 64\n";
+    assert_eq!(told(text, Program::Calls, "start 0\nmmrp 14\nadvance 0\n"), said);
 }
 
 #[test]

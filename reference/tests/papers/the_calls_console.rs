@@ -136,7 +136,7 @@ fn storing_in_the_table_changes_what_calls_find() {
 fn the_sum_is_adler_32() {
     assert_eq!(calls::adler_32(b""), 1);
     assert_eq!(calls::adler_32(b"Wikipedia"), 0x11e6_0398);
-    assert_eq!(calls::adler_32(&[0; TABLE_LENGTH]), 0x886b_0001);
+    assert_eq!(calls::adler_32(&[0; TABLE_LENGTH]), 0xa073_0001);
     // Octets 255 up to the greatest length, with a remainder taken at each.
     let octets = [255; ROOM_LENGTH];
     let (mut sum, mut sum_of_sums) = (1_u64, 0_u64);
@@ -171,9 +171,9 @@ fn sum_and_octets_are_those_that_calls_are_lent() {
     let zeros = |octets: usize| "00".repeat(octets);
     let table = TABLE_LENGTH;
     let expected = [
-        "table 886b0001".to_string(),
+        "table a0730001".to_string(),
         format!("octets {}", zeros(table)),
-        "table 886b0001".to_string(),
+        "table a0730001".to_string(),
         format!("octets {}ab", zeros(table)),
         "table 000e000d".to_string(),
         "octets 000c".to_string(),
@@ -193,15 +193,17 @@ fn start_leaves_the_room_behind_the_table() {
 #[test]
 fn settings_and_pdus_longer_than_what_a_call_is_handed_are_read_whole() {
     for length in [4_096, 4_097, 65_535] {
-        let records =
-            [start(), counted(0x00, &vec![0; length]), counted(0x11, &vec![0; length]), start()];
+        let octets = vec![0; length];
+        let records = [start(), counted(0x00, &octets), counted(0x11, &octets), start()];
         assert_eq!(lines(&records), ["start 0", "start 11", "receive 2", "start 0"]);
+        assert_eq!(lines(&[start(), counted(0x71, &octets)]), ["start 0", "mmrp 2"]);
     }
 }
 
 #[test]
 fn another_octet_stops_the_run() {
-    let known = |octet: u8| matches!(octet, 0 | 0x10..=0x20 | 0x30..=0x51 | 0x60 | 0x61);
+    let known =
+        |octet: u8| matches!(octet, 0 | 0x10..=0x20 | 0x30..=0x51 | 0x60 | 0x61 | 0x70..=0x7f);
     for octet in (0..=255).filter(|octet| !known(*octet)) {
         assert_eq!(lines(&[start(), vec![octet], start()]), ["start 0", "stop"]);
     }
@@ -215,6 +217,7 @@ fn a_cut_record_stops_the_run() {
     for record in [
         start(),
         counted(0x11, &[0, 0, 0]),
+        counted(0x71, &[0, 0, 0]),
         vec![0x20, 0, 0, 0, 1],
         vec![0x31, 0, 0, 5, 220],
         vec![0x41, 0, 0],

@@ -7,7 +7,7 @@ use reference::pdu::AttributeType;
 use reference::random::Random;
 use reference::records::{Call, Watcher};
 use reference::settings::PerClass;
-use reference::table::{self, broken_rules, cell, domain, edge, record, result};
+use reference::table::{self, address, broken_rules, cell, domain, edge, record, result};
 use reference::table::{CLOCK, COUNT, EDGES, RECORDS, RECORD_LENGTH, TABLE_LENGTH, TOTALS};
 use reference::{calls, generator, settings};
 
@@ -126,6 +126,8 @@ fn breaks(table: &Table, rule: u8, place: usize, octet: u8) {
     let before = table.clone();
     assert_eq!(table.receive(1, &[0]), 12);
     assert_eq!(table.receive(99, &[]), 12);
+    assert_eq!(table.receive_mmrp(1, &[0]), 12);
+    assert_eq!(table.receive_mmrp(99, &[]), 12);
     assert_eq!(table.advance(u32::MAX), 12);
     assert_eq!(table.write(1, 0, &mut [0; 1500]).number, 12);
     assert_eq!(table.report(1, 0).number, 12);
@@ -513,13 +515,15 @@ fn the_octets_of_the_domain() {
     let octets = table.lent();
     let mut expected = vec![0; 8 * edge::LENGTH];
     expected[2 * 8..3 * 8].copy_from_slice(&[1, 1, 1, 2, 3, 4, 0, 2]);
-    expected[130 + 15 * 8..130 + 16 * 8].copy_from_slice(&[1, 0, 0, 0, 0, 0, 0xff, 0xfe]);
+    let second = edge::LENGTH;
+    expected[second + 15 * 8..second + 16 * 8].copy_from_slice(&[1, 0, 0, 0, 0, 0, 0xff, 0xfe]);
     // The flags of classes A and B: port 1 has no class A, port 2 another one and no class B, port 3
     // doesn't support class A and has no class B.
     for (port, flags) in [[1, 0], [1, 1], [1, 1]].into_iter().enumerate() {
-        expected[130 * port + 128..130 * port + 130].copy_from_slice(&flags);
+        let at = edge::LENGTH * port + 128;
+        expected[at..at + 2].copy_from_slice(&flags);
     }
-    assert_eq!(octets[283..1_323], expected);
+    assert_eq!(octets[283..7_475], expected);
 }
 
 #[test]
@@ -527,9 +531,12 @@ fn rule_30_the_vlan_setting() {
     let table = three_streams(250);
     assert_eq!(table.lent()[11..13], [0, 2]);
     breaks(&table, 30, 12, 0);
-    for bit in 4..8 {
+    for bit in 4..7 {
         breaks(&table, 30, 11, 1 << bit);
+        breaks(&table, 30, 11, 0x80 | 1 << bit);
     }
+    // The top bit is pruning.
+    keeps(&table, 11, 0x80);
     let mut last = table.clone();
     last.store(11, 0x0f);
     breaks(&last, 30, 12, 0xff);
@@ -591,7 +598,7 @@ fn rule_34_boundary_flags() {
 #[test]
 fn rule_35_the_domain_of_no_port() {
     let table = three_streams(250);
-    for place in [edge(3), edge(3) + 7, edge(3) + 128, edge(8), RECORDS - 1] {
+    for place in [edge(3), edge(3) + 7, edge(3) + 128, edge(3) + 130, edge(8), RECORDS - 1] {
         breaks(&table, 35, place, 1);
     }
 }
@@ -605,6 +612,78 @@ fn rule_36_the_limit_of_inbound_ports() {
     for limit in [1, 8] {
         keeps(&table, 13, limit);
     }
+}
+
+/// Two ports with these addresses on port 2, at that clock.
+fn with_addresses(clock: u32, first: u64, count: usize) -> Table {
+    let mut table = three_streams(clock);
+    accept_mmrp(&mut table, 2, &mac_frame(first, &vec![JOIN_MT; count]));
+    table
+}
+
+/// The record of an address of port 2.
+fn address_record(place: usize) -> usize {
+    edge(2) + edge::ADDRESSES.start + address::LENGTH * place
+}
+
+#[test]
+fn rule_37_the_number_of_addresses() {
+    let table = with_addresses(250, 0x91e0_f000_0000, 64);
+    for number in [65, 66, 128, 255] {
+        breaks(&table, 37, edge(2) + edge::COUNT, number);
+    }
+}
+
+#[test]
+fn rule_38_registered_addresses() {
+    let table = with_addresses(250, 0x91e0_f000_0000, 3);
+    for (place, octet) in [(0, 0), (1, 2), (2, 255)] {
+        breaks(&table, 38, address_record(place) + address::REGISTERED, octet);
+    }
+    // One more than are there: it isn't registered, and it is address zero.
+    let mut more = table;
+    more.store(edge(2) + edge::COUNT, 4);
+    assert_eq!(broken_rules(more.lent()), [38, 40]);
+}
+
+#[test]
+fn rule_39_a_leaving_address() {
+    let table = with_addresses(250, 0x91e0_f000_0000, 2);
+    let (flag, since) = (address::LEAVING, address::SINCE.end - 1);
+    let place = address_record(1);
+    breaks(&table, 39, place + flag, 2);
+    breaks(&table, 39, place + flag, 1); // from 0, long before
+    breaks(&table, 39, place + since, 250); // not leaving
+    let mut leaving = table.clone();
+    accept_mmrp(&mut leaving, 2, &mac_frame(0x91e0_f000_0001, &[LV]));
+    keeps(&leaving, place + since, 191); // 59 before the clock
+    breaks(&leaving, 39, place + since, 190);
+    breaks(&leaving, 39, place + since, 251);
+    breaks(&leaving, 39, place + flag, 0);
+    keeps(&with_addresses(59, 0, 2), place + flag, 1);
+    breaks(&with_addresses(60, 0, 2), 39, place + flag, 1);
+}
+
+#[test]
+fn rule_40_the_order_of_addresses() {
+    let table = with_addresses(250, 0x91e0_f000_0000, 3);
+    let last = address::ADDRESS.end - 1;
+    breaks(&table, 40, address_record(1) + last, 0); // equal to the one before
+    breaks(&table, 40, address_record(1) + last, 2); // equal to the one behind
+    breaks(&table, 40, address_record(0) + address::ADDRESS.start, 0x92);
+    keeps(&table, address_record(0) + address::ADDRESS.start, 0);
+    keeps(&table, address_record(2) + address::ADDRESS.start, 0xff);
+}
+
+#[test]
+fn rule_41_what_follows_the_addresses() {
+    let table = with_addresses(250, 0, 2);
+    for place in [address_record(2), address_record(2) + 11, address_record(63) + 11] {
+        breaks(&table, 41, place, 1);
+    }
+    breaks(&table, 41, edge(2) + edge::COUNT, 1);
+    breaks(&table, 41, edge(2) + edge::COUNT, 0);
+    breaks(&table, 41, edge(1) + edge::ADDRESSES.start, 1);
 }
 
 /// Checks that calls leave tables that keep the form, and that octets which do are taken over
@@ -629,7 +708,7 @@ impl TakenOver {
 
 impl Watcher for TakenOver {
     fn called(&mut self, call: &Call, number: Number, table: &Table) {
-        let changes = matches!(call, Call::Start(_) | Call::Receive(..) | Call::Advance(_));
+        let changes = !matches!(call, Call::Write { .. } | Call::Report { .. });
         if number != 0 || !changes {
             return;
         }

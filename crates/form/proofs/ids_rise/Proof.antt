@@ -1,11 +1,13 @@
 -- `form::ids_rise` meets its contract. Assumes nothing.
 use Prim.Native.Nat.{_-_}
-use Rattle.form.proofs.Rising.{IdsLeft, turns}
+use Rattle.model.specs.Layout.{recordSize}
+use Rattle.model.specs.Table.{idOf}
+use Rattle.form.proofs.Rising.{RiseLeft, turns}
 use Rattle.form.proofs.ids_rise.Statement.{statement}
 use Rattle.form.proofs.ids_rise.Tie as tie
 
 abbrev Inv-loop : tie.InvT-loop
-Inv-loop records count ok₀ k₀ = IdsLeft count records
+Inv-loop records count ok₀ k₀ = RiseLeft recordSize idOf count records
 
 abbrev μ-loop : tie.MeasureT-loop
 μ-loop records count ok₀ k₀ ok k = count - k

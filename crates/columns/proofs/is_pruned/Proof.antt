@@ -1,0 +1,25 @@
+-- `columns::is_pruned` meets its contract. Assumes nothing.
+use borrow.Author.Needs.{needs}
+use Rattle.columns.specs.Stages.{prunedBy}
+use Rattle.columns.proofs.is_pruned.Statement.{statement}
+use Rattle.columns.proofs.is_pruned.Tie as tie
+
+returns : tie.Need-returns
+unfolding prunedBy
+returns c =
+    rw (
+      c .holds .ensures,
+      c .before .own-at .ensures .is,
+      c .before .before .get .ensures .0,
+      ← (c .before .before .before .before .pruning .ensures),
+      c .before .before .before .if1 .taken,
+    )
+
+returns-2 : tie.Need-returns-2
+unfolding prunedBy
+returns-2 c = rw (← (c .before .pruning .ensures), c .if1 .left)
+
+pub is-pruned-spec : {M : Type 1} → statement M
+is-pruned-spec =
+    tie.close
+    (tie.spec (λ c κs. search needs) (λ c κs. search needs) (λ c κs. search needs) (λ c κs. search needs) returns returns-2)

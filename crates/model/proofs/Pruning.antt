@@ -1,0 +1,236 @@
+-- Talker pruning (02, vi): a stream is pruned on a port exactly where the setting is on, no earlier step applies and the port does not
+-- hold the stream's destination; and with the setting off, what is registered by MMRP changes no result.
+use mathlib.Core.Path.{_≡_, refl, sym, _∙_, ap}
+use mathlib.Core.List.{List, [], _∷_, _++_, map, List·Memᴰ, List·Memᴰ·head, List·Memᴰ·tail, List·Memᴰ·cases-cons, List·Memᴰ·not-nil, map-congr-left}
+use mathlib.Core.Logic.{_↔_, _⊎_, inl, inr}
+use mathlib.Core.Bool.{Bool, true, false, cond, not, _&&_, _||_, true≢false, false≢true}
+use Prim.Native.Nat.{ℕ, _-_, _<_}
+use native.Mathlib.Omega.{arith}
+use native.Mathlib.Decide.{decLt}
+use lib.ListN.{getD, drop}
+use lib.Dec.{eqb, ltb}
+use borrow.Author.Tests.{eqb-true, eqb-false, ne-eqb}
+use Rattle.model.specs.Lists.{All, keep, tabulate}
+use Rattle.model.specs.State.{Settings, Fixed, Health, sound, broken, Domain, Address, Own, Column, none, advertise, failed, Cell, Stream, Bridge, Class, noClass, classA, classB, noOwn, ownAt, cellAt, portAt, isPort, classOf, sameClass, supports}
+use Rattle.model.specs.Registrations.{AddressAct, doesAddresses, changeAddresses, AddressReading, refusedFrame, addressActs, Answer, receivedAddresses, owning, macs}
+use Rattle.model.specs.AddressFrames.{addressReading}
+use Rattle.model.specs.Settling.{Scene, Inbound, inboundOf, inboundsOf, decideOwn, decideOwns, flagOf, boundary, holdsAddress, isPruned, remain, Origin, Source, nowhere, from, sourceOf, healthOf, streamClass, registered, Outcome, columnNone, asRegistered, ownFailure, Step, first, clear, isBroken, brokenColumn, outcomeColumn, stepsFrom, lastSteps, steps, claim, claims, reservedA, limitOn, leftFor, byBandwidth, columnOf, passed, mergeAll, merged, decideAt, decide, totalOn, totalsOn, settle}
+use Rattle.model.specs.Table.{columnNumber}
+use Rattle.model.specs.Calls.{receiveMmrp}
+use Rattle.model.proofs.Lists.{at-place, at-each}
+use Rattle.model.proofs.Parts.{_also_}
+use Rattle.model.proofs.AdvanceKeepsForm.{getD-past}
+use Rattle.model.proofs.ColumnRule.{tabulate-same}
+use Rattle.model.proofs.OwnCodes.{stepsOf}
+use Rattle.model.proofs.ReceivedAddresses.{hasRoom, withRoom, addressEffect, received-is, mmrp-same}
+
+-- The address that pruning asks for: a port holds it exactly where it is one of the port's.
+
+holds-there : (m : ℕ) (l : List Address) → holdsAddress m l ≡ true → List·Memᴰ m (macs l)
+unfolding holdsAddress macs
+holds-there m [] e = absurd (false≢true e)
+holds-there m (a ∷ l) e = go (eqb m (a .mac)) refl e (holds-there m l)
+  where
+    go : (t : Bool) → eqb m (a .mac) ≡ t → (t || holdsAddress m l) ≡ true → (holdsAddress m l ≡ true → List·Memᴰ m (macs l)) → List·Memᴰ m (a .mac ∷ macs l)
+    go true d e ih = List·Memᴰ·head (eqb-true m (a .mac) d)
+    go false d e ih = List·Memᴰ·tail (ih e)
+
+there-holds : (m : ℕ) (l : List Address) → List·Memᴰ m (macs l) → holdsAddress m l ≡ true
+unfolding holdsAddress macs
+there-holds m [] h = absurd (List·Memᴰ·not-nil h)
+there-holds m (a ∷ l) h = go (List·Memᴰ·cases-cons h) (eqb m (a .mac)) refl (there-holds m l)
+  where
+    go : (m ≡ a .mac) ⊎ List·Memᴰ m (macs l) → (t : Bool) → eqb m (a .mac) ≡ t → (List·Memᴰ m (macs l) → holdsAddress m l ≡ true) → (t || holdsAddress m l) ≡ true
+    go c true d ih = refl
+    go (inl e) false d ih = absurd (eqb-false m (a .mac) d e)
+    go (inr k) false d ih = ih k
+
+pub holds-exactly : (m : ℕ) (l : List Address) → (holdsAddress m l ≡ true) ↔ List·Memᴰ m (macs l)
+holds-exactly m l = (holds-there m l, there-holds m l)
+
+-- Pruned exactly there.
+
+-- behind pruning, every outcome but "as registered" is a failure
+abbrev Fails : Step → Type 0
+Fails s = (code : ℕ) × (s .outcome ≡ ownFailure code)
+
+failed-some : (b c : ℕ) → failed b c ≡ none → ⊥
+failed-some b c e = let z : _≡_ {A = ℕ} 2 0 = (unfold columnNumber in ap columnNumber e) in omega arith
+
+advertise-some : advertise ≡ none → ⊥
+advertise-some e = let z : _≡_ {A = ℕ} 1 0 = (unfold columnNumber in ap columnNumber e) in omega arith
+
+bandwidth-some : (st : Settings) (d left : ℕ) → byBandwidth st d left ≡ none → ⊥
+unfolding byBandwidth
+bandwidth-some st d left = go (ltb left d)
+  where
+    go : (t : Bool) → cond t (failed (st .bridgeId) 1) advertise ≡ none → ⊥
+    go true e = failed-some (st .bridgeId) 1 e
+    go false e = advertise-some e
+
+failures-some : (st : Settings) (o : Source) (c : Column) → (c ≡ none → ⊥) → (l : List Step) → All Fails l → first (outcomeColumn st o) l c ≡ none → ⊥
+unfolding first outcomeColumn
+failures-some st o c h [] a e = h e
+failures-some st o c h (s ∷ l) a e = go (s .test) (failures-some st o c h l (a .1)) e
+  where
+    go : (t : Bool) → (first (outcomeColumn st o) l c ≡ none → ⊥) → cond t (outcomeColumn st o (s .outcome)) (first (outcomeColumn st o) l c) ≡ none → ⊥
+    go true ih e = failed-some (st .bridgeId) (a .0 .0) (ap (outcomeColumn st o) (sym (a .0 .1)) ∙ e)
+    go false ih e = ih e
+
+-- a stream that no step before pruning decides on the port at place p: its Talker port is another, and the port supports its class
+pub record Reaches (sc : Scene) (p : ℕ) (x : Stream) (o : Origin) : Type 0 where
+  pub port : isPort (sc .settings) p ≡ true
+  pub talks : sourceOf x ≡ from o
+  pub other : p ≡ o .port → ⊥
+  pub supported : supports (portAt (sc .settings) p) (classOf (sc .settings) (o .registration .fixed .priority)) ≡ true
+
+module _ (sc : Scene) (now : ℕ) (s : List Stream) (p : ℕ) (x : Stream) (o : Origin) (r : Reaches sc p x o) where
+  -- the steps behind those, pruning and "as registered"
+  abbrev failures : List Step
+  failures = drop 5 (stepsOf sc p (cellAt x p) (inboundOf x) (from o))
+
+  all-fail : All Fails failures
+  unfolding stepsFrom lastSteps
+  all-fail =
+      (16, refl) also (7, refl) also (4, refl) also (13, refl) also (8, refl) also (5, refl) also (15, refl) also (14, refl) also tt
+
+  -- the column that they give, and a Failed registration before them
+  behind : Health → Column
+  behind h =
+      cond (isBroken h) (brokenColumn h)
+      (first (outcomeColumn (sc .settings) (from o)) failures (byBandwidth (sc .settings) (claim (sc .settings) now p x .demand) (leftFor sc now s p x)))
+
+  behind-some : (h : Health) → behind h ≡ none → ⊥
+  unfolding behind isBroken brokenColumn
+  behind-some sound e =
+      failures-some (sc .settings) (from o) _ (bandwidth-some (sc .settings) (claim (sc .settings) now p x .demand) (leftFor sc now s p x)) failures all-fail e
+  behind-some (broken b c) e = failed-some b c e
+
+  column-is : columnOf sc now s p x
+      ≡ cond (isPruned (sc .settings) (ownAt (sc .own) p) (o .registration .fixed)) none (behind (o .registration .varying .health))
+  unfolding columnOf steps stepsFrom first outcomeColumn healthOf behind
+  column-is = rw (r .talks, r .port, ne-eqb p (o .port) (r .other), r .supported)
+
+  -- Column none is then given exactly where the setting is on and the address is not held.
+  pub pruned-exactly : (columnOf sc now s p x ≡ none)
+      ↔ ((sc .settings .pruning ≡ true) × (holdsAddress (o .registration .fixed .destination) (ownAt (sc .own) p .addresses) ≡ false))
+  unfolding isPruned
+  pruned-exactly = rw column-is (go (sc .settings .pruning) (holdsAddress (o .registration .fixed .destination) (ownAt (sc .own) p .addresses)))
+    where
+      go : (t h : Bool) → (cond (t && not h) none (behind (o .registration .varying .health)) ≡ none) ↔ ((t ≡ true) × (h ≡ false))
+      go true true = (λ e. absurd (behind-some (o .registration .varying .health) e), λ a. absurd (true≢false (a .1)))
+      go true false = (λ e. (refl, refl), λ a. refl)
+      go false h = (λ e. absurd (behind-some (o .registration .varying .health) e), λ a. absurd (false≢true (a .0)))
+
+-- With pruning off, what is decided does not read addresses.
+
+module _ (st : Settings) (off : st .pruning ≡ false) (o o′ : List Own) (i : List Inbound)
+    (edge : (p : ℕ) (c : Class) → boundary (ownAt o p) c ≡ boundary (ownAt o′ p) c) (now : ℕ) where
+  abbrev one : Scene
+  one = record { settings = st; own = o; inbound = i }
+
+  abbrev other : Scene
+  other = record { settings = st; own = o′; inbound = i }
+
+  unpruned : (w : Own) (f : Fixed) → isPruned st w f ≡ false
+  unfolding isPruned
+  unpruned w f = ap (λ (t : Bool). t && not (holdsAddress (f .destination) (w .addresses))) off
+
+  same-steps : (p : ℕ) (x : Stream) → steps one p x ≡ steps other p x
+  unfolding steps lastSteps
+  same-steps p x = go (sourceOf x)
+    where
+      go : (t : Source) → _≡_ {A = List Step}
+          (record { test = not (isPort st p); outcome = columnNone } ∷ (stepsFrom one p (cellAt x p) t ++ lastSteps one p (inboundOf x)))
+          (record { test = not (isPort st p); outcome = columnNone } ∷ (stepsFrom other p (cellAt x p) t ++ lastSteps other p (inboundOf x)))
+      go nowhere = unfold stepsFrom in refl
+      go (from q) =
+          let f = q .registration .fixed in
+          unfold stepsFrom in (rw (unpruned (ownAt o p) f, unpruned (ownAt o′ p) f, edge p (classOf st (f .priority))))
+
+  same-claims : (p : ℕ) (c : Class) (s : List Stream) → claims one now p c s ≡ claims other now p c s
+  unfolding claims
+  same-claims p c [] = refl
+  same-claims p c (x ∷ s) = rw (same-steps p x, same-claims p c s)
+
+  module _ (s : List Stream) where
+    same-limit : (p : ℕ) (c : Class) → limitOn one now s p c ≡ limitOn other now s p c
+    unfolding limitOn reservedA
+    same-limit p c = rw (same-claims p classA s)
+
+    same-column : (x : Stream) (p : ℕ) → columnOf one now s p x ≡ columnOf other now s p x
+    unfolding columnOf leftFor
+    same-column x p = rw (same-steps p x, same-claims p (streamClass st x) s, same-limit p (streamClass st x))
+
+    same-result : (x : Stream) (p : ℕ) → decideAt one now s x p ≡ decideAt other now s x p
+    unfolding decideAt merged
+    same-result x p =
+        rw (
+          same-column x p,
+          tabulate-same (λ q. passed (columnOf one now s q x) (registered (cellAt x q))) (λ q. passed (columnOf other now s q x) (registered (cellAt x q))) 8 0
+              (λ q a b. rw (same-column x q)),
+        )
+
+    same-stream : (x : Stream) → decide one now s x ≡ decide other now s x
+    unfolding decide
+    same-stream x = rw (tabulate-same (decideAt one now s x) (decideAt other now s x) 8 0 (λ q a b. same-result x q))
+
+    same-totals : (p : ℕ) → totalsOn one now s p ≡ totalsOn other now s p
+    unfolding totalsOn totalOn
+    same-totals p = rw (same-claims p classA s, same-claims p classB s, same-limit p classA, same-limit p classB)
+
+-- An MMRP frame changes no Domain value and no flag of any port.
+module _ (b : Bridge) (p : ℕ) (pdu : List ℕ) where
+  abbrev after : Bridge
+  after = receiveMmrp b p pdu .bridge
+
+  room-domains : (es : List AddressAct) (o : Own) → withRoom (b .clock) es o .domains ≡ o .domains
+  unfolding withRoom changeAddresses
+  room-domains es o = go (hasRoom (b .clock) es o)
+    where
+      go : (t : Bool) → cond t (changeAddresses (doesAddresses (b .clock) es) o) o .domains ≡ o .domains
+      go true = refl
+      go false = refl
+
+  same-domains : (q : ℕ) → ownAt (after .own) q .domains ≡ ownAt (b .own) q .domains
+  unfolding receiveMmrp owning
+  same-domains q =
+      ap (λ (a : Answer). ownAt (a .bridge .own) q .domains) (received-is b p (addressReading (b .settings) p pdu)) ∙ go (addressReading (b .settings) p pdu)
+    where
+      go : (r : AddressReading) → ownAt (addressEffect (b .clock) (p - 1) r (b .own)) q .domains ≡ ownAt (b .own) q .domains
+      go (refusedFrame n) = unfold addressEffect in refl
+      go (addressActs es) = unfold addressEffect in (at-each (λ (o : Own). o .domains) (p - 1) (withRoom (b .clock) es) (room-domains es) (b .own) q noOwn)
+
+  same-edges : (st : Settings) (now q : ℕ) (c : Class) → boundary (ownAt (decideOwns st now (after .own)) q) c ≡ boundary (ownAt (decideOwns st now (b .own)) q) c
+  unfolding decideOwns
+  same-edges st now q c = go (decLt q 8)
+    where
+      flags : (c : Class) → boundary (decideOwn st now (after .own) q) c ≡ boundary (decideOwn st now (b .own) q) c
+      flags noClass = unfold boundary in refl
+      flags classA = unfold boundary decideOwn in (rw (same-domains q))
+      flags classB = unfold boundary decideOwn in (rw (same-domains q))
+
+      past : (o : List Own) → (q < 8 → ⊥) → ownAt (tabulate 8 0 (decideOwn st now o)) q ≡ noOwn
+      past o h = unfold tabulate in (getD-past (λ w. w ≡ noOwn) 8 (tabulate 8 0 (decideOwn st now o)) q noOwn (omega arith) refl tt)
+
+      go : Dec (q < 8) → boundary (ownAt (tabulate 8 0 (decideOwn st now (after .own))) q) c ≡ boundary (ownAt (tabulate 8 0 (decideOwn st now (b .own))) q) c
+      go (yes h) = rw (at-place (decideOwn st now (after .own)) q noOwn h, at-place (decideOwn st now (b .own)) q noOwn h) (flags c)
+      go (no h) = rw (past (after .own) h, past (b .own) h)
+
+  -- With pruning off it changes no result: advanced to any time, the bridge has the same streams with the same results, and the same
+  -- totals, as without the frame.
+  pub pruning-off : b .settings .pruning ≡ false → (now : ℕ) → (settle now after .streams ≡ settle now b .streams) × (settle now after .totals ≡ settle now b .totals)
+  unfolding settle
+  pruning-off off now =
+      let st = b .settings in
+      let s = remain st now (b .streams) in
+      let o = decideOwns st now (after .own) in
+      let o′ = decideOwns st now (b .own) in
+      let e = mmrp-same b p pdu (λ c. c .settings) (λ o. unfold owning in refl) in
+      let f = mmrp-same b p pdu (λ c. c .streams) (λ o. unfold owning in refl) in
+      let g = same-edges st now in
+      rw (e, f) (
+        map-congr-left {l = s} (λ x m. same-stream st off o o′ (inboundsOf s) g now s x),
+        tabulate-same (totalsOn (one st off o o′ (inboundsOf s) g now) now s) (totalsOn (other st off o o′ (inboundsOf s) g now) now s) 8 0
+            (λ q a b. same-totals st off o o′ (inboundsOf s) g now s q),
+      )
