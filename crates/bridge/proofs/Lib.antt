@@ -2,6 +2,7 @@ pub mod Started
 pub mod Starting
 pub mod OnTables
 pub mod OnAddresses
+pub mod Registering
 pub mod Receiving
 pub mod Reading
 pub mod Demand1

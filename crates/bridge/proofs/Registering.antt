@@ -1,19 +1,19 @@
 -- What receive_mmrp hands to the walk over an MMRP frame, and what it then answers.
 use mathlib.Core.Path.{_≡_, refl, sym, _∙_, ap}
 use mathlib.Core.List.{List, [], _∷_, _++_}
-use mathlib.Core.Bool.{Bool, true, false}
+use mathlib.Core.Bool.{Bool, true, false, cond}
 use Prim.Native.Nat.{ℕ, _+_, _-_, _<_}
 use native.Mathlib.Omega.{arith}
 use lib.ListN.{length, take, drop, take-append-drop}
+use lib.Dec.{leb}
 use borrow.Author.Tests.{leb-true, leb-false}
-use Rattle.octets.proofs.Parts.{lent-length}
-use Rattle.model.specs.Layout.{ownPlace, ownSize}
-use Rattle.model.specs.Lists.{All, Octets, keep}
+use Rattle.model.specs.Layout.{addresses, ownPlace, ownSize}
+use Rattle.model.specs.Lists.{All, Octets}
 use Rattle.model.specs.State.{Presence, vacant, present, Address, Own, Bridge, noOwn, ownAt}
-use Rattle.model.specs.Registrations.{AddressAct, addressActs, doesAddresses, changeAddresses, owning}
+use Rattle.model.specs.Registrations.{AddressAct, AddressReading, doesAddresses, changeAddresses, owning}
 use Rattle.model.specs.Frames.{wrongPort}
 use Rattle.model.specs.AddressFrames.{addressWalk}
-use Rattle.model.specs.Table.{formed, encode, decode, toOwn}
+use Rattle.model.specs.Table.{formed, encode, decode, ownOctets, toOwn}
 use Rattle.model.specs.Calls.{receiveMmrpOn}
 use Rattle.model.proofs.Lists.{all-at}
 use Rattle.model.proofs.Valid.{ValidPresence, ValidAddress, ValidOwn, Valid}
@@ -60,6 +60,13 @@ module _ (t : List ℕ) (p : ℕ) (pdu : List ℕ) (o : Octets t) (h : formed t 
   lent-is : toOwn lent ≡ ownAt (decode t .own) (p - 1)
   lent-is = lent-own-at port-in a e .is
 
+  abbrev addressesHere : List Address
+  addressesHere = ownAt (decode t .own) (p - 1) .addresses
+
+  held-is : held lent ≡ addressesHere
+  unfolding held
+  held-is = ap (λ (x : Own). x .addresses) lent-is
+
   there : p - 1 < length (decode t .own)
   there = omega (arith, place, valid .eight-own)
 
@@ -67,11 +74,10 @@ module _ (t : List ℕ) (p : ℕ) (pdu : List ℕ) (o : Octets t) (h : formed t 
   own-valid = all-at (ValidOwn (decode t .clock) (decode t .settings .leaveTime)) (decode t .own) (valid .own) (p - 1) noOwn there
 
   pub given : ReceiveGiven lent pdu
-  unfolding held
   given = record {
     frame = record { laid = lent-own-at port-in a e .laid; acts = accepted pdu z .0; found = accepted pdu z .1 };
     present =
-        rw lent-is (all-present (decode t .clock) (decode t .settings .leaveTime) (ownAt (decode t .own) (p - 1) .addresses) (own-valid .addresses .each));
+        ap presentOnly held-is ∙ all-present (decode t .clock) (decode t .settings .leaveTime) addressesHere (own-valid .addresses .each) ∙ sym held-is;
   }
 
   module _ (clock : ℕ) (c : clock ≡ decode t .clock) (r : Bool) (y : List ℕ) (g : Receives clock pdu lent r y) where
@@ -79,23 +85,39 @@ module _ (t : List ℕ) (p : ℕ) (pdu : List ℕ) (o : Octets t) (h : formed t 
     abbrev left : List ℕ
     left = take a t ++ (y ++ drop (a + ownSize - a) (drop a t))
 
+    acts : List AddressAct
+    acts = accepted pdu z .0
+
+    answer-is : r ≡ leb (length (doesAddresses (decode t .clock) acts addressesHere)) addresses
+    unfolding actsOf acts
+    answer-is =
+        g .answer
+        ∙ ap (λ (k : ℕ). leb (length (doesAddresses k (actsOf (addressWalk pdu)) (held lent))) addresses) c
+        ∙ ap (λ (x : AddressReading). leb (length (doesAddresses (decode t .clock) (actsOf x) (held lent))) addresses) (accepted pdu z .1)
+        ∙ ap (λ (l : List Address). leb (length (doesAddresses (decode t .clock) acts l)) addresses) held-is
+
+    octets-are : r ≡ true → y ≡ ownOctets (changeAddresses (doesAddresses (decode t .clock) acts) (toOwn lent))
+    unfolding actsOf acts taken
+    octets-are q =
+        g .octets
+        ∙ ap (λ (b : Bool). cond b (taken clock pdu lent) lent) q
+        ∙ ap (λ (k : ℕ). ownOctets (changeAddresses (doesAddresses k (actsOf (addressWalk pdu))) (toOwn lent))) c
+        ∙ ap (λ (x : AddressReading). ownOctets (changeAddresses (doesAddresses (decode t .clock) (actsOf x)) (toOwn lent))) (accepted pdu z .1)
+
     pub mmrp-done : r ≡ true → receiveMmrpOn t p pdu ≡ record { number = 0; table = left }
-    unfolding actsOf held taken
+    unfolding acts
     mmrp-done q =
-        let v = accepted pdu z in
-        let es = v .0 in
-        let u : Own → Own = changeAddresses (doesAddresses (decode t .clock) es) in
-        let room = leb-true _ _ (rw (v .1, c, lent-is) at (sym (g .answer) ∙ q)) in
-        let f = left-own-at port-in a e u y (rw (q, v .1, c) at (g .octets)) in
-        let same : left ≡ encode (addressed (decode t) p es) =
-        f ∙ ap (λ (l : List Own). encode (owning (decode t) l)) (at-set (p - 1) u (decode t .own) noOwn there) in
-        mmrp-taken t p pdu h w es (v .1) room ∙ ap (λ (x : List ℕ). record { number = 0; table = x }) (sym same)
+        let u : Own → Own = changeAddresses (doesAddresses (decode t .clock) acts) in
+        let same : left ≡ encode (addressed (decode t) p acts) =
+        left-own-at port-in a e u y (octets-are q)
+        ∙ ap (λ (l : List Own). encode (owning (decode t) l)) (at-set (p - 1) u (decode t .own) noOwn there) in
+        mmrp-taken t p pdu h w acts (accepted pdu z .1) (leb-true _ addresses (sym answer-is ∙ q))
+        ∙ ap (λ (x : List ℕ). record { number = 0; table = x }) (sym same)
 
     pub mmrp-no-room : r ≡ false → receiveMmrpOn t p pdu ≡ record { number = 14; table = left }
-    unfolding actsOf held
+    unfolding acts
     mmrp-no-room q =
-        let v = accepted pdu z in
-        let many = leb-false _ _ (rw (v .1, c, lent-is) at (sym (g .answer) ∙ q)) in
-        let y-is : y ≡ lent = rw q at (g .octets) in
+        let y-is : y ≡ lent = g .octets ∙ ap (λ (b : Bool). cond b (taken clock pdu lent) lent) q in
         let same : left ≡ t = rw (y-is, take-append-drop (a + ownSize - a) (drop a t)) (take-append-drop a t) in
-        mmrp-full t p pdu h w (v .0) (v .1) many ∙ ap (λ (x : List ℕ). record { number = 14; table = x }) (sym same)
+        mmrp-full t p pdu h w acts (accepted pdu z .1) (leb-false _ addresses (sym answer-is ∙ q))
+        ∙ ap (λ (x : List ℕ). record { number = 14; table = x }) (sym same)

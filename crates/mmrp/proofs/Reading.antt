@@ -21,6 +21,7 @@ use Rattle.model.proofs.FoundAddresses.{no-refusal, no-list-fault}
 use Rattle.msrpdu.specs.Reader.{firstPart, eventMeant, eventIn}
 use Rattle.msrpdu.specs.declared.Event.{Event}
 use Rattle.msrpdu.specs.declared.Event.the-variants.{New, JoinIn, In, JoinMt, Mt, Lv, Missing}
+use Rattle.msrpdu.specs.declared.ValueRead.the-variants.{Value, Past}
 use Rattle.msrpdu.specs.declared.VectorHead.{VectorHead}
 use Rattle.msrpdu.specs.declared.VectorRead.the-variants as vector
 use Rattle.mmrpdu.specs.Reader.{listNamed, headVector, typedRead, messageRead}
@@ -62,6 +63,13 @@ asked-meant msrp.lv = refl
 pub asked-read : (three : List ℕ) (n : ℕ) (r : Event) → n / 3 < length three → r ≡ eventIn three n → askedBy r ≡ askedOf (frames.addressAsking three n)
 unfolding eventIn frames.addressAsking
 asked-read three n r h e = rw (e, lt-ltb (n / 3) (length three) h) (asked-meant (event (threePacked (getD three (n / 3) 0) (n % 3))))
+
+-- what the address reader gave
+pub not-past : (x : ℕ) → Value x ≡ Past → ⊥
+not-past x e = let z : _≡_ {A = ℕ} 0 1 = cc in omega arith
+
+pub value-is : (x y : ℕ) → Value x ≡ Value y → x ≡ y
+value-is x y e = cc
 
 -- the acts of a value, by what is asked for
 pub acts-nothing : (mac : ℕ) (a : Asking) → askedOf a ≡ Nothing → frames.addressAct mac a ≡ []

@@ -188,8 +188,8 @@ module _ (now m n : ℕ) where
       go (less q) t ih =
           let low : m ≡ n → withLeft now n (a ∷ l) ≡ a ∷ l =
           λ e. lacked now n (a ∷ l) (omega arith, all-map (λ j. a .mac < j) (λ j. n < j) (λ j p. omega arith) (macs l) (h .0)) in
-          rw (room-before m a l q) (left-vacant (a ∷ l) low)
-          ∙ rw (first .2) (sym (room-before m (first .0) (first .1) (omega (arith, first .3))))
+          rw (room-before m a l q, first .2)
+          (left-vacant (a ∷ l) low ∙ ap (λ (x : List Address). vacantAt m ∷ x) (first .2) ∙ sym (room-before m (first .0) (first .1) (omega (arith, first .3))))
       go (same q) t ih = rw (room-here m a l q) (rw (first .2) (sym (room-here m (first .0) (first .1) (q ∙ sym (first .3)))))
       go (more q) (same t) ih =
           rw (room-past m a l q, left-here n a l t now, left-here n a (withRoom m l) t now)

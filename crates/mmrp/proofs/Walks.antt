@@ -142,6 +142,15 @@ module _ (m : Bool) (now : ℕ) (es : List AddressAct) (s : List ℕ) where
 
 -- One act.
 
+-- Lv and LeaveAll ask for no room
+pub room-leave : (n : ℕ) (l : List Address) → room (leaveAddress n) l ≡ l
+unfolding room
+room-leave n l = refl
+
+pub room-leave-all : (l : List Address) → room leaveAllAddresses l ≡ l
+unfolding room
+room-leave-all l = refl
+
 module _ (now : ℕ) (s : List ℕ) (laid : LaidOwn s) where
   -- one that needs no room
   pub leaving-room : (b : Bool) (a : AddressAct) → b ≡ false → room a (held s) ≡ held s → Walked b now (a ∷ []) s true s

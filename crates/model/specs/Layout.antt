@@ -156,7 +156,8 @@ recordsSize = 64 * recordSize
 
 -- Places in the table.
 
--- the word of ports, class priorities and leave time; talkerPruning and the Domain values' VLAN; msrpMaxFanInPorts; the settings of the ports
+-- the word of ports, class priorities and leave time; talkerPruning and the Domain values' VLAN; msrpMaxFanInPorts; the settings of
+-- the ports
 abbrev pub wordPlace : ℕ
 wordPlace = before 1 headWidths
 
