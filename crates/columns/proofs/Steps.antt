@@ -34,12 +34,11 @@ unfolding isTalking
 talking s n = rw (a-talker s n)
 
 -- c: a Talker is Failed where its kind is not Advertise's
-failed-asked : (k b c : ℕ) (d : Column)
-    → cond (isBroken (toHealth k b c)) (brokenColumn (toHealth k b c)) d ≡ cond (not (eqb k 1)) (failed b c) d
-unfolding toHealth isBroken brokenColumn
-failed-asked k b c d = go (eqb k 1)
+failed-asked : (k b c : ℕ) → isBroken (toHealth k b c) ≡ not (eqb k 1)
+unfolding toHealth isBroken
+failed-asked k b c = go (eqb k 1)
   where
-    go : (e : Bool) → cond (isBroken (cond e sound (broken b c))) (brokenColumn (cond e sound (broken b c))) d ≡ cond (not e) (failed b c) d
+    go : (e : Bool) → isBroken (cond e sound (broken b c)) ≡ not e
     go true = refl
     go false = refl
 
@@ -47,142 +46,97 @@ failed-asked k b c d = go (eqb k 1)
 -- the Talker's cell said at place t.
 
 module _ (sc : Scene) (port here said : List ℕ) (p t : ℕ) where
-  abbrev own : ℕ → Column
-  own = failed (sc .settings .bridgeId)
-
   abbrev pub class : Class
   class = classOf (sc .settings) (beAt 1 said priorityPlace / 32)
 
-  abbrev pub from-j : Column
-  from-j = cond (boundary (ownAt (sc .own) p) class) (own 8) advertise
+  abbrev pub from-j : StepName
+  from-j = cond (boundary (ownAt (sc .own) p) class) stepJ stepI
 
-  abbrev pub from-f : Column
-  from-f = cond (isNoClass class) (own 13) from-j
+  abbrev pub from-f : StepName
+  from-f = cond (isNoClass class) stepF from-j
 
-  abbrev pub from-e : Column
-  from-e = cond (isTalking (toCell here)) (own 4) from-f
+  abbrev pub from-e : StepName
+  from-e = cond (isTalking (toCell here)) stepE from-f
 
-  abbrev pub from-k : Column
-  from-k = cond (ltb (beAt 4 said firstLatencyPlace) (beAt 4 said latencyPlace)) (own 7) from-e
+  abbrev pub from-k : StepName
+  from-k = cond (ltb (beAt 4 said firstLatencyPlace) (beAt 4 said latencyPlace)) stepK from-e
 
-  abbrev pub from-d : Column
-  from-d = cond (eqb (getD said changedPlace 0) 1) (own 16) from-k
+  abbrev pub from-d : StepName
+  from-d = cond (eqb (getD said changedPlace 0) 1) stepD from-k
 
-  abbrev pub from-c : Column
-  from-c = cond (not (eqb (getD said 0 0) 1)) (failed (beAt 8 said bridgePlace) (getD said codePlace 0)) from-d
+  abbrev pub from-c : StepName
+  from-c = cond (not (eqb (getD said 0 0) 1)) stepC from-d
 
-  abbrev pub from-b : Column
-  from-b = cond (not (supports (toPort port) class)) none from-c
+  abbrev pub from-b : StepName
+  from-b = cond (not (supports (toPort port) class)) stepB from-c
 
-  abbrev pub from-a : Column
-  from-a = cond (eqb p t) none from-b
+  abbrev pub from-a : StepName
+  from-a = cond (eqb p t) stepA from-b
 
-  abbrev pub decided : Column
-  decided = firstStep sc p (toCell here) (sourceIn t (toCell said))
+  abbrev pub decided : StepName
+  decided = firstName (stepsFrom sc p (toCell here) (sourceIn t (toCell said))) stepI
 
   -- a, no Talker port
-  pub no-source : getD said 0 0 ≡ 0 → none ≡ decided
-  unfolding firstStep sourceIn stepsFrom first outcomeColumn
+  pub no-source : getD said 0 0 ≡ 0 → stepA ≡ decided
+  unfolding sourceIn stepsFrom firstName
   no-source e = rw (no-talker said e)
 
   pub steps-asked : toPort port ≡ portAt (sc .settings) p → (getD said 0 0 ≡ 0 → ⊥) → decided ≡ from-a
-  unfolding firstStep sourceIn registrationFrom healthOf stepsFrom first outcomeColumn isOne fields fixedFrom priorityOf toPort portFrom
-  steps-asked there k = rw (a-talker said k, ← there, octet-field said 0, octet-field said changedPlace, octet-field said codePlace, failed-asked)
+  unfolding sourceIn registrationFrom stepsFrom firstName isOne fields fixedFrom priorityOf toPort portFrom
+  steps-asked there k = rw (a-talker said k, ← there, octet-field said 0, octet-field said changedPlace, failed-asked)
+
+-- the flag of a class, in a scene
+pub edge-is : (e : Edges) (o : Own) → EdgesOf e o → (c : Class) → edgeOf e c ≡ boundary o c
+unfolding edgeOf boundary
+edge-is e o w noClass = refl
+edge-is e o w classA = w .in-a
+edge-is e o w classB = w .in-b
 
 -- The last steps, from the failure on every port and what is read of the port and of the Talker's cell.
 
-module _ (st : Settings) (common : ℕ) (port said : List ℕ) where
-  abbrev last : Column
-  last = lastStep st common (toPort port) (beAt 2 said sizePlace)
+module _ (common : ℕ) (q : Port) (port said : List ℕ) (there : toPort port ≡ q) where
+  abbrev last : StepName
+  last = lastStep common q (beAt 2 said sizePlace)
 
-  pub common-fails : (common ≡ 0 → ⊥) → failed (st .bridgeId) common ≡ last
-  unfolding lastStep
-  common-fails n = rw (ne-eqb common 0 n)
-
-  module _ (none : common ≡ 0) (a b : ℕ) (e : a ≡ beAt 2 port inPort.largest) (f : b ≡ beAt 2 said sizePlace) where
-    pub too-large : a < b → failed (st .bridgeId) 14 ≡ last
+  module _ (none : (common ≡ 5 → ⊥) × (common ≡ 15 → ⊥)) (a b : ℕ) (e : a ≡ beAt 2 port inPort.largest) (f : b ≡ beAt 2 said sizePlace) where
+    pub too-large : a < b → stepG ≡ last
     unfolding lastStep toPort portFrom fields
-    too-large h = rw (eq-eqb common 0 none, ← e, ← f, lt-ltb a b h)
+    too-large h = rw (ne-eqb common 5 (none .0), ne-eqb common 15 (none .1), ← there, ← e, ← f, lt-ltb a b h)
 
-    pub no-step : b ≤ a → advertise ≡ last
+    pub no-step : b ≤ a → stepI ≡ last
     unfolding lastStep toPort portFrom fields
-    no-step h = rw (eq-eqb common 0 none, ← e, ← f, le-ltb a b h)
+    no-step h = rw (ne-eqb common 5 (none .0), ne-eqb common 15 (none .1), ← there, ← e, ← f, le-ltb a b h)
 
 -- A place that is no port has column none; a port has what its first steps give, and its last ones where none of them applies.
 
-first-append : (says : Outcome → Column) (l m : List Step) (c : Column) → first says (l ++ m) c ≡ first says l (first says m c)
-unfolding first
-first-append says [] m c = refl
-first-append says (s ∷ l) m c = ap (λ (d : Column). cond (s .test) (says (s .outcome)) d) (first-append says l m c)
+first-append : (l m : List Step) (n : StepName) → firstName (l ++ m) n ≡ firstName l (firstName m n)
+unfolding firstName
+first-append [] m n = refl
+first-append (s ∷ l) m n = ap (λ (d : StepName). cond (s .test) (s .name) d) (first-append l m n)
 
-module _ (st : Settings) (s : Source) where
-  stays : (o : Outcome) (d : Column) → orElse (outcomeColumn st s o) d ≡ outcomeColumn st s o
-  unfolding orElse outcomeColumn brokenColumn
-  stays columnNone d = refl
-  stays asRegistered d = go (healthOf s)
-    where
-      go : (h : Health) → orElse (brokenColumn h) d ≡ brokenColumn h
-      go sound = refl
-      go (broken b c) = refl
-  stays (ownFailure code) d = refl
-
-  first-then : (l : List Step) (d : Column) → first (outcomeColumn st s) l d ≡ orElse (first (outcomeColumn st s) l advertise) d
-  unfolding first
-  first-then [] d = unfold orElse in refl
-  first-then (t ∷ l) d = go (t .test) (first-then l d)
-    where
-      go : (b : Bool) → first (outcomeColumn st s) l d ≡ orElse (first (outcomeColumn st s) l advertise) d
-          → cond b (outcomeColumn st s (t .outcome)) (first (outcomeColumn st s) l d)
-          ≡ orElse (cond b (outcomeColumn st s (t .outcome)) (first (outcomeColumn st s) l advertise)) d
-      go true ih = sym (stays (t .outcome) d)
-      go false ih = ih
+-- a step named i is none of a list's own
+isI : StepName → Bool
+isI n = eqb (letter n) (letter stepI)
 
 module _ (sc : Scene) (p : ℕ) (x : Stream) where
-  pub no-port : length (sc .settings .ports) ≤ p → none ≡ earlyColumn sc p x
-  unfolding earlyColumn steps first outcomeColumn isPort
+  pub no-port : length (sc .settings .ports) ≤ p → stepA ≡ firstName (steps sc p x) stepI
+  unfolding steps firstName isPort
   no-port h = rw (le-ltb p (length (sc .settings .ports)) h)
 
-  abbrev says : Outcome → Column
-  says = outcomeColumn (sc .settings) (sourceOf x)
-
   last-steps : (common : ℕ) → common ≡ commonFailure sc (inboundOf x)
-      → first says (lastSteps sc p (inboundOf x)) advertise ≡ lastStep (sc .settings) common (portAt (sc .settings) p) (fixedOf (sourceOf x) .size)
-  unfolding first outcomeColumn lastSteps lastStep commonFailure inboundOf
+      → firstName (lastSteps sc p (inboundOf x)) stepI ≡ lastStep common (portAt (sc .settings) p) (fixedOf (sourceOf x) .size)
+  unfolding firstName lastSteps lastStep commonFailure inboundOf
   last-steps common e = rw e (go (shares (sc .inbound) (inboundOf x)) (isKeptOut (sc .settings .fanIn) (sc .inbound) (sourceOf x)))
     where
-      go : (a b : Bool) → let rest = cond (ltb (portAt (sc .settings) p .largest) (fixedOf (sourceOf x) .size)) (failed (sc .settings .bridgeId) 14) advertise in
-          cond a (failed (sc .settings .bridgeId) 5) (cond b (failed (sc .settings .bridgeId) 15) rest)
-          ≡ cond (eqb (cond a 5 (cond b 15 0)) 0) rest (failed (sc .settings .bridgeId) (cond a 5 (cond b 15 0)))
+      go : (a b : Bool) → let rest = cond (ltb (portAt (sc .settings) p .largest) (fixedOf (sourceOf x) .size)) stepG stepI in
+          cond a stepL (cond b stepM rest)
+          ≡ cond (eqb (cond a 5 (cond b 15 0)) 5) stepL (cond (eqb (cond a 5 (cond b 15 0)) 15) stepM rest)
       go true b = refl
       go false true = refl
       go false false = refl
 
-  port-steps : p < length (sc .settings .ports)
-      → earlyColumn sc p x ≡ first says (stepsFrom sc p (cellAt x p) (sourceOf x) ++ lastSteps sc p (inboundOf x)) advertise
-  unfolding earlyColumn steps first isPort
-  port-steps h = rw (lt-ltb p (length (sc .settings .ports)) h)
-
-  -- the column of a port, from what the two functions give
-  pub a-port : p < length (sc .settings .ports) → (common size : ℕ) → common ≡ commonFailure sc (inboundOf x) → size ≡ fixedOf (sourceOf x) .size
-      → earlyColumn sc p x ≡ orElse (firstStep sc p (cellAt x p) (sourceOf x)) (lastStep (sc .settings) common (portAt (sc .settings) p) size)
-  unfolding firstStep
-  a-port h common size e f =
-      port-steps h
-      ∙ first-append says (stepsFrom sc p (cellAt x p) (sourceOf x)) (lastSteps sc p (inboundOf x)) advertise
-      ∙ first-then (sc .settings) (sourceOf x) (stepsFrom sc p (cellAt x p) (sourceOf x)) (first says (lastSteps sc p (inboundOf x)) advertise)
-      ∙ ap (orElse (first says (stepsFrom sc p (cellAt x p) (sourceOf x)) advertise)) (last-steps common e ∙ rw f)
-
--- A column that is no Advertise, and one that is.
-
-pub goes-no-further : (r : ColumnRead) (f d : Column) → columnShown r ≡ f → (r ≡ Advertise → ⊥) → columnShown r ≡ orElse f d
-unfolding columnShown orElse
-goes-no-further r f d e n = rw (← e) (go r n)
-  where
-    go : (r : ColumnRead) → (r ≡ Advertise → ⊥) → columnShown r ≡ orElse (columnShown r) d
-    go None n = refl
-    go Advertise n = absurd (n refl)
-    go (Failed b c) n = refl
-
-pub goes-on : (f d : Column) → f ≡ advertise → orElse f d ≡ d
-unfolding orElse
-goes-on f d e = rw e
+  -- the step of a port, from what the two functions give
+  pub a-port : p < length (sc .settings .ports) → firstName (steps sc p x) stepI
+      ≡ firstName (stepsFrom sc p (cellAt x p) (sourceOf x)) (firstName (lastSteps sc p (inboundOf x)) stepI)
+  unfolding steps firstName isPort
+  a-port h = rw (lt-ltb p (length (sc .settings .ports)) h) (first-append (stepsFrom sc p (cellAt x p) (sourceOf x)) (lastSteps sc p (inboundOf x)) stepI)

@@ -31,6 +31,7 @@ pub mod Boundaries
 pub mod Growth
 pub mod FanIn
 pub mod Untouched
+pub mod Why
 pub mod Newcomer
 pub mod Opened
 pub mod Examples

@@ -26,6 +26,9 @@ letter stepK = 107
 letter stepL = 108
 letter stepM = 109
 
+unfoldable pub sameStep : StepName → StepName → Bool
+sameStep m n = eqb (letter m) (letter n)
+
 -- The code of its own failure; 0 where the step gives none, or the registered one.
 unfoldable pub code : StepName → ℕ
 code noStep = 0
@@ -94,13 +97,10 @@ pub record Reason : Type 0 where
 unfoldable pub plainly : StepName → Reason
 plainly n = record { step = n; streams = []; limit = 0; shortfall = 0 }
 
-unfoldable pub isLack : StepName → Bool
-isLack n = eqb (letter n) (letter stepH)
-
 unfoldable pub reasonOn : Scene → ℕ → List Stream → ℕ → Stream → Reason
 reasonOn sc now s p x =
     let n = stepOn sc now s p x in
-    cond (isLack n)
+    cond (sameStep n stepH)
     record {
       step = n;
       streams = listed sc now s p x;
