@@ -5,23 +5,28 @@ use mathlib.Core.Bool.{Bool, true, false, cond, not}
 use Prim.Native.Nat.{ℕ, _/_, _≤_, _<_}
 use lib.ListN.{length, getD}
 use lib.Dec.{eqb, ltb}
-use borrow.Author.Tests.{eq-eqb, ne-eqb, lt-ltb, le-ltb}
+use borrow.Author.Tests.{ne-eqb, lt-ltb, le-ltb}
 use Rattle.octets.specs.Be.{beAt}
 use Rattle.octets.specs.Fields.{fields}
-use Rattle.model.specs.Layout.{bridgePlace, changedPlace, codePlace, firstLatencyPlace, inPort, latencyPlace, priorityPlace}
+use Rattle.model.specs.Layout.{changedPlace, firstLatencyPlace, inPort, latencyPlace, priorityPlace}
 use Rattle.model.specs.Lists.{isOne}
-use Rattle.model.specs.State.{Settings, Health, sound, broken, Column, none, advertise, failed, Stream, Class, portAt, isPort, cellAt, ownAt, classOf, isNoClass, supports}
+use Rattle.model.specs.State.{Bridge, Port, sound, broken, Own, Stream, Class, noClass, classA, classB, portAt, isPort, cellAt, ownAt, classOf, isNoClass, supports}
 use Rattle.model.specs.Frames.{priorityOf}
-use Rattle.model.specs.Settling.{Scene, boundary, Source, sourceOf, fixedOf, isTalking, healthOf, isBroken, brokenColumn, inboundOf, shares, isKeptOut, Outcome, columnNone, asRegistered, ownFailure, Step, first, outcomeColumn, stepsFrom, lastSteps, steps}
+use Rattle.model.specs.Settling.{Scene, sceneOf, Inbound, boundary, sourceOf, fixedOf, isTalking, isBroken, inboundOf, shares, isKeptOut, StepName, stepA, stepB, stepC, stepD, stepE, stepF, stepG, stepI, stepJ, stepK, stepL, stepM, Step, stepsFrom, lastSteps, steps}
 use Rattle.model.specs.Table.{toPort, toCell, registrationFrom, fixedFrom, toHealth, portFrom}
+use Rattle.model.specs.Why.{letter, sameStep, firstName}
 use Rattle.model.proofs.SettingsOctets.{octet-field}
+use Rattle.model.proofs.Why.{name-stays, name-clear, first-clear}
 use Rattle.streams.specs.Answers.{sourceIn}
 use Rattle.streams.proofs.Sources.{no-talker, a-talker}
 use Rattle.fanin.specs.Failures.{commonFailure}
-use Rattle.columns.specs.declared.ColumnRead.{ColumnRead}
-use Rattle.columns.specs.declared.ColumnRead.the-variants.{None, Advertise, Failed}
-use Rattle.columns.specs.Answers.{columnShown, sizePlace}
-use Rattle.columns.specs.Stages.{firstStep, lastStep, orElse, earlyColumn}
+use Rattle.columns.specs.declared.Edges.{Edges}
+use Rattle.columns.specs.declared.Step as declared
+use Rattle.columns.specs.declared.Step.the-variants.{None, A, B, C, D, E, F, G, H, I, J, K, L, M}
+use Rattle.columns.specs.Answers.{sizePlace}
+use Rattle.columns.specs.Steps.{stepShown, edgeOf, EdgesOf}
+use Rattle.columns.specs.Places.{SceneOn}
+use Rattle.columns.specs.Stages.{lastStep}
 
 -- Whether a cell has a Talker, by its first octet.
 
@@ -42,10 +47,10 @@ failed-asked k b c = go (eqb k 1)
     go true = refl
     go false = refl
 
--- The steps, from each on, every test as the code asks it: of a scene, the port's octets, the cell here on the port at place p,
--- the Talker's cell said at place t.
+-- The steps, from each on, every test as the code asks it: of a scene, the cell here on the port at place p, the Talker's
+-- cell said at place t.
 
-module _ (sc : Scene) (port here said : List ℕ) (p t : ℕ) where
+module _ (sc : Scene) (here said : List ℕ) (p t : ℕ) where
   abbrev pub class : Class
   class = classOf (sc .settings) (beAt 1 said priorityPlace / 32)
 
@@ -68,7 +73,7 @@ module _ (sc : Scene) (port here said : List ℕ) (p t : ℕ) where
   from-c = cond (not (eqb (getD said 0 0) 1)) stepC from-d
 
   abbrev pub from-b : StepName
-  from-b = cond (not (supports (toPort port) class)) stepB from-c
+  from-b = cond (not (supports (portAt (sc .settings) p) class)) stepB from-c
 
   abbrev pub from-a : StepName
   from-a = cond (eqb p t) stepA from-b
@@ -81,9 +86,9 @@ module _ (sc : Scene) (port here said : List ℕ) (p t : ℕ) where
   unfolding sourceIn stepsFrom firstName
   no-source e = rw (no-talker said e)
 
-  pub steps-asked : toPort port ≡ portAt (sc .settings) p → (getD said 0 0 ≡ 0 → ⊥) → decided ≡ from-a
-  unfolding sourceIn registrationFrom stepsFrom firstName isOne fields fixedFrom priorityOf toPort portFrom
-  steps-asked there k = rw (a-talker said k, ← there, octet-field said 0, octet-field said changedPlace, failed-asked)
+  pub steps-asked : (getD said 0 0 ≡ 0 → ⊥) → decided ≡ from-a
+  unfolding sourceIn registrationFrom stepsFrom firstName isOne fields fixedFrom priorityOf
+  steps-asked k = rw (a-talker said k, octet-field said 0, octet-field said changedPlace, failed-asked)
 
 -- the flag of a class, in a scene
 pub edge-is : (e : Edges) (o : Own) → EdgesOf e o → (c : Class) → edgeOf e c ≡ boundary o c
@@ -114,10 +119,6 @@ unfolding firstName
 first-append [] m n = refl
 first-append (s ∷ l) m n = ap (λ (d : StepName). cond (s .test) (s .name) d) (first-append l m n)
 
--- a step named i is none of a list's own
-isI : StepName → Bool
-isI n = eqb (letter n) (letter stepI)
-
 module _ (sc : Scene) (p : ℕ) (x : Stream) where
   pub no-port : length (sc .settings .ports) ≤ p → stepA ≡ firstName (steps sc p x) stepI
   unfolding steps firstName isPort
@@ -140,3 +141,42 @@ module _ (sc : Scene) (p : ℕ) (x : Stream) where
       ≡ firstName (stepsFrom sc p (cellAt x p) (sourceOf x)) (firstName (lastSteps sc p (inboundOf x)) stepI)
   unfolding steps firstName isPort
   a-port h = rw (lt-ltb p (length (sc .settings .ports)) h) (first-append (stepsFrom sc p (cellAt x p) (sourceOf x)) (lastSteps sc p (inboundOf x)) stepI)
+
+-- What the first steps named, and what follows it.
+
+module _ (sc : Scene) (p : ℕ) (x : Stream) (h : p < length (sc .settings .ports)) (r : declared.Step)
+    (e : stepShown r ≡ firstName (stepsFrom sc p (cellAt x p) (sourceOf x)) stepI) where
+  pub goes-no-further : (r ≡ I → ⊥) → stepShown r ≡ firstName (steps sc p x) stepI
+  unfolding stepShown sameStep letter
+  goes-no-further n =
+      e ∙ sym (a-port sc p x h ∙ name-stays (firstName (lastSteps sc p (inboundOf x)) stepI) (stepsFrom sc p (cellAt x p) (sourceOf x)) (ap (λ (m : StepName). sameStep m stepI) (sym e) ∙ other r n))
+    where
+      other : (r : declared.Step) → (r ≡ I → ⊥) → sameStep (stepShown r) stepI ≡ false
+      other None n = refl
+      other A n = refl
+      other B n = refl
+      other C n = refl
+      other D n = refl
+      other E n = refl
+      other F n = refl
+      other G n = refl
+      other H n = refl
+      other I n = absurd (n refl)
+      other J n = refl
+      other K n = refl
+      other L n = refl
+      other M n = refl
+
+  pub goes-on : r ≡ I → (common size : ℕ) → common ≡ commonFailure sc (inboundOf x) → size ≡ fixedOf (sourceOf x) .size
+      → firstName (steps sc p x) stepI ≡ lastStep common (portAt (sc .settings) p) size
+  unfolding stepShown
+  goes-on f common size g q =
+      a-port sc p x h
+      ∙ name-clear (firstName (lastSteps sc p (inboundOf x)) stepI) (stepsFrom sc p (cellAt x p) (sourceOf x))
+      (first-clear sc p x ∙ ap (λ (m : StepName). sameStep m stepI) (sym e) ∙ rw f (unfold sameStep letter in refl))
+      ∙ last-steps sc p x common g ∙ rw q
+
+-- the own failure on every port is that in any scene of the bridge
+pub same-failure : {b : Bridge} {p : ℕ} {e : Edges} {sc : Scene} (i : Inbound) (common : ℕ) → SceneOn b p e sc → common ≡ commonFailure (sceneOf b) i → common ≡ commonFailure sc i
+unfolding commonFailure
+same-failure i common w f = rw (w .settings, w .inbound) f

@@ -2,24 +2,27 @@
 -- fixed values' octets.
 use mathlib.Core.Path.{_≡_, refl, sym, ap, _∙_}
 use mathlib.Core.List.{List}
+use mathlib.Core.Bool.{Bool, true, false}
 use Prim.Native.Nat.{ℕ, _+_, _/_, _≤_, _<_}
 use native.Mathlib.Omega.{arith}
 use lib.ListN.{length, getD}
-use borrow.Author.Tests.{lt-ltb, le-ltb}
+use lib.Dec.{eqb}
+use borrow.Author.Tests.{eq-eqb, ne-eqb, eqb-true, eqb-false, lt-ltb, le-ltb}
 use Rattle.octets.specs.Be.{beAt}
 use Rattle.octets.specs.Parts.{part}
 use Rattle.octets.specs.Fields.{fields, packed, width}
 use Rattle.octets.proofs.Fields.{fields-of-packed, length-fit, part-run}
-use Rattle.model.specs.Layout.{cellWidths, fixedField, fixedPlace, fixedSize, fixedWidths, latencyField, latencyPlace, priorityField, priorityPlace}
-use Rattle.model.specs.State.{Settings, Talker, noTalker, talker, Cell, Stream, noFixed, portAt, cellAt, classOf, classLatency}
+use Rattle.model.specs.Layout.{bridgePlace, cellWidths, codePlace, fixedField, fixedPlace, fixedSize, fixedWidths, latencyField, latencyPlace, priorityField, priorityPlace}
+use Rattle.model.specs.State.{Settings, none, failed, Talker, noTalker, talker, Cell, Stream, noFixed, portAt, cellAt, classOf, classLatency}
 use Rattle.model.specs.WrittenFrames.{priorityOctet, fixedNumbers}
-use Rattle.model.specs.Settling.{Source, sourceOf, fixedOf, latencyOf, streamClass, capped, latencyOut}
-use Rattle.model.specs.Table.{toPort, cellNumbers, cellOctets, talkerNumbers, toCell}
+use Rattle.model.specs.Settling.{Source, sourceOf, fixedOf, latencyOf, healthOf, brokenColumn, streamClass, capped, latencyOut}
+use Rattle.model.specs.Table.{toPort, cellNumbers, cellOctets, talkerNumbers, registrationFrom, toHealth, toCell}
 use Rattle.model.specs.Laid.{FitRank, LaidCell}
 use Rattle.model.proofs.Fits.{laid-cell-is, laid-cell-fits}
 use Rattle.table.specs.Reads.{fixedOctets, ReadsCell, ReadsPort}
 use Rattle.streams.specs.Answers.{talkerPort, sourceIn}
-use Rattle.streams.proofs.Sources.{source-at}
+use Rattle.model.proofs.SettingsOctets.{octet-field}
+use Rattle.streams.proofs.Sources.{no-talker, a-talker, source-at}
 use Rattle.columns.specs.Answers.{sizePlace}
 
 -- Of the numbers of any cell.
@@ -43,6 +46,24 @@ fixed-numbers : (t : ℕ) (k : Talker) (c : Cell) → c .talks ≡ k → part fi
 unfolding part fixedOf noFixed sourceIn cellNumbers talkerNumbers fixedNumbers priorityOctet
 fixed-numbers t noTalker c e = rw e
 fixed-numbers t (talker r) c e = rw e
+
+-- The failure that the octets of a cell say, by their kind.
+
+module _ (s : List ℕ) (t : ℕ) where
+  pub no-failure : getD s 0 0 < 2 → none ≡ brokenColumn (healthOf (sourceIn t (toCell s)))
+  unfolding sourceIn healthOf brokenColumn registrationFrom toHealth fields
+  no-failure h = go (eqb (getD s 0 0) 0) refl
+    where
+      go : (b : Bool) → eqb (getD s 0 0) 0 ≡ b → none ≡ brokenColumn (healthOf (sourceIn t (toCell s)))
+      go true e = rw (no-talker s (eqb-true (getD s 0 0) 0 e))
+      go false e =
+          let n = eqb-false (getD s 0 0) 0 e in
+          rw (a-talker s n, octet-field s 0, eq-eqb (getD s 0 0) 1 (omega (arith, n)))
+
+  pub a-failure : 2 ≤ getD s 0 0 → failed (beAt 8 s bridgePlace) (getD s codePlace 0) ≡ brokenColumn (healthOf (sourceIn t (toCell s)))
+  unfolding sourceIn healthOf brokenColumn registrationFrom toHealth fields
+  a-failure h =
+      rw (a-talker s (λ e. omega (arith, e)), octet-field s 0, octet-field s codePlace, ne-eqb (getD s 0 0) 1 (λ e. omega (arith, e)))
 
 -- Of octets that are laid out as a cell.
 

@@ -8,6 +8,7 @@ use lib.Dec.{ltb}
 use Rattle.model.specs.Lists.{All}
 use Rattle.model.specs.State.{Settings, Cell, Column, Stream, cellAt}
 use Rattle.model.specs.Settling.{Scene, Source, nowhere, from, sourceOf, Inbound, inboundOf, StepName, stepH, stepI, Step, first, clear, outcomeColumn, stepsFrom, lastSteps, steps, claim, leftFor, byBandwidth, columnOf}
+use Rattle.model.proofs.Lists.{all-append}
 use Rattle.model.specs.Why.{letter, sameStep, columnBy, firstName, lastName, stepOn}
 
 -- A step's name gives the column that its outcome gives.
@@ -55,14 +56,19 @@ module _ (sc : Scene) (p : ℕ) (x : Stream) where
 abbrev Before : Step → Type 0
 Before t = (sameStep (t .name) stepH ≡ false) × (sameStep (t .name) stepI ≡ false)
 
-before-each : (sc : Scene) (p : ℕ) (here : Cell) (i : Inbound) (o : Source) → All Before (stepsFrom sc p here o ++ lastSteps sc p i)
-unfolding stepsFrom lastSteps sameStep letter
-before-each sc p here i nowhere = ((refl, refl), ((refl, refl), ((refl, refl), ((refl, refl), tt))))
-before-each sc p here i (from o) = ((refl, refl), ((refl, refl), ((refl, refl), ((refl, refl), ((refl, refl), ((refl, refl), ((refl, refl), ((refl, refl), ((refl, refl), ((refl, refl), ((refl, refl), tt)))))))))))
+before-first : (sc : Scene) (p : ℕ) (here : Cell) (o : Source) → All Before (stepsFrom sc p here o)
+unfolding stepsFrom sameStep letter
+before-first sc p here nowhere = ((refl, refl), tt)
+before-first sc p here (from o) = ((refl, refl), ((refl, refl), ((refl, refl), ((refl, refl), ((refl, refl), ((refl, refl), ((refl, refl), ((refl, refl), tt))))))))
+
+before-last : (sc : Scene) (p : ℕ) (i : Inbound) → All Before (lastSteps sc p i)
+unfolding lastSteps sameStep letter
+before-last sc p i = ((refl, refl), ((refl, refl), ((refl, refl), tt)))
 
 before-all : (sc : Scene) (p : ℕ) (x : Stream) → All Before (steps sc p x)
 unfolding steps sameStep letter
-before-all sc p x = ((refl, refl), before-each sc p (cellAt x p) (inboundOf x) (sourceOf x))
+before-all sc p x =
+    ((refl, refl), all-append Before (stepsFrom sc p (cellAt x p) (sourceOf x)) (lastSteps sc p (inboundOf x)) (before-first sc p (cellAt x p) (sourceOf x)) (before-last sc p (inboundOf x)))
 
 -- some step of a list applies, or none does
 module _ (n : StepName) where
@@ -97,3 +103,6 @@ clear-named (t ∷ l) a = go (t .test) (clear-named l (a .1))
 -- i is given where no step before h applies
 pub steps-clear : (sc : Scene) (p : ℕ) (x : Stream) → clear (steps sc p x) ≡ sameStep (firstName (steps sc p x) stepI) stepI
 steps-clear sc p x = clear-named (steps sc p x) (before-all sc p x)
+
+pub first-clear : (sc : Scene) (p : ℕ) (x : Stream) → clear (stepsFrom sc p (cellAt x p) (sourceOf x)) ≡ sameStep (firstName (stepsFrom sc p (cellAt x p) (sourceOf x)) stepI) stepI
+first-clear sc p x = clear-named (stepsFrom sc p (cellAt x p) (sourceOf x)) (before-first sc p (cellAt x p) (sourceOf x))
