@@ -15,6 +15,8 @@ use Rattle.model.proofs.Valid.{ValidCell}
 use Rattle.model.proofs.AdvanceKeepsForm.{length-tabulate, ValidSource, source-valid, fixed-valid, health-valid, ValidFailure, steps-valid, capped-fits, latency-fits}
 use Rattle.table.specs.Reads.{FitFixed}
 use Rattle.table.proofs.Fitting.{unsettled-fits, map-fits}
+use Rattle.streams.proofs.Fixed.{source-fits}
+pub use Rattle.streams.proofs.Fixed.{settled-values}
 use Rattle.columns.specs.Stages.{shownAs, earlyColumn, earlyAt, early, earlyAll}
 
 -- Numbers of a result.
@@ -51,17 +53,6 @@ unfolding Fit resultNumbers
 age-of-result r w = w .1 .1 .1 .1 .1 .0
 
 -- Streams.
-
-module _ (x : Stream) (w : FitStream x) where
-  -- what is registered at the Talker port
-  source-fits : ValidSource latest longest (sourceOf x)
-  unfolding sourceOf
-  source-fits = source-valid latest longest 0 (x .cells) (all-map FitCell (ValidCell latest longest) fit-cell (x .cells) (w .cells))
-
-  pub settled-values : FitFixed (fixedOf (sourceOf x))
-  settled-values =
-      let v = fixed-valid latest longest (sourceOf x) source-fits in
-      record { numbers = fixed-fit (fixedOf (sourceOf x)) v; rank = v .rank }
 
 module _ (sc : Scene) (named : sc .settings .bridgeId < 2 ^ 64) (now : ℕ) (soon : now < 2 ^ 32) (x : Stream) (w : FitStream x) where
   early-column-fits : (p : ℕ) → ValidFailure (earlyColumn sc p x)

@@ -22,7 +22,9 @@ use Rattle.model.proofs.Fits.{laid-cell-is, laid-cell-fits}
 use Rattle.table.specs.Reads.{fixedOctets, ReadsCell, ReadsPort}
 use Rattle.streams.specs.Answers.{talkerPort, sourceIn}
 use Rattle.model.proofs.SettingsOctets.{octet-field}
-use Rattle.streams.proofs.Sources.{no-talker, a-talker, source-at}
+use Rattle.streams.proofs.Sources.{no-talker, a-talker}
+pub use Rattle.streams.proofs.Fixed.{fixed-part, source-read}
+use Rattle.streams.proofs.Fixed.{numbers-laid}
 use Rattle.columns.specs.Answers.{sizePlace}
 
 -- Of the numbers of any cell.
@@ -42,11 +44,6 @@ unfolding fixedOf noFixed sourceIn cellNumbers talkerNumbers fixedNumbers
 size-number t noTalker c e = rw e
 size-number t (talker r) c e = rw e
 
-fixed-numbers : (t : ℕ) (k : Talker) (c : Cell) → c .talks ≡ k → part fixedField (length fixedWidths) (cellNumbers c) ≡ fixedNumbers (fixedOf (sourceIn t c))
-unfolding part fixedOf noFixed sourceIn cellNumbers talkerNumbers fixedNumbers priorityOctet
-fixed-numbers t noTalker c e = rw e
-fixed-numbers t (talker r) c e = rw e
-
 -- The failure that the octets of a cell say, by their kind.
 
 module _ (s : List ℕ) (t : ℕ) where
@@ -65,48 +62,29 @@ module _ (s : List ℕ) (t : ℕ) where
   a-failure h =
       rw (a-talker s (λ e. omega (arith, e)), octet-field s 0, octet-field s codePlace, ne-eqb (getD s 0 0) 1 (λ e. omega (arith, e)))
 
--- Of octets that are laid out as a cell.
-
-module _ (s : List ℕ) (l : LaidCell s) where
-  numbers-laid : fields cellWidths 0 s ≡ cellNumbers (toCell s)
-  unfolding cellOctets
-  numbers-laid =
-      ap (fields cellWidths 0) (laid-cell-is s l) ∙ fields-of-packed cellWidths (cellNumbers (toCell s)) (laid-cell-fits s l .numbers)
-
-  pub fixed-part : (t : ℕ) → part fixedPlace fixedSize s ≡ fixedOctets (fixedOf (sourceIn t (toCell s)))
-  unfolding cellOctets fixedOctets width part
-  fixed-part t =
-      let c = toCell s in
-      ap (part fixedPlace fixedSize) (laid-cell-is s l)
-      ∙ part-run cellWidths (cellNumbers c) fixedField (length fixedWidths) (length-fit cellWidths (cellNumbers c) (laid-cell-fits s l .numbers)) (omega arith)
-      ∙ ap (packed fixedWidths) (fixed-numbers t (c .talks) c refl)
-
 -- The cell at place t of a stream whose Talker stands there, in the octets s.
 
 module _ (x : Stream) (t : ℕ) (e : t ≡ talkerPort (sourceOf x)) (s : List ℕ) (r : ReadsCell s (cellAt x t)) where
-  pub source-read : sourceIn t (toCell s) ≡ sourceOf x
-  source-read = ap (sourceIn t) (r .is) ∙ rw e (sym (source-at x))
-
   latency-read : beAt 4 s latencyPlace ≡ latencyOf (sourceOf x)
   unfolding fields
   latency-read =
       ap (λ (vs : List ℕ). getD vs latencyField 0) (numbers-laid s (r .laid))
       ∙ latency-number t (toCell s .talks) (toCell s) refl
-      ∙ ap latencyOf source-read
+      ∙ ap latencyOf (source-read x t e s r)
 
   pub size-read : beAt 2 s sizePlace ≡ fixedOf (sourceOf x) .size
   unfolding fields
   size-read =
       ap (λ (vs : List ℕ). getD vs (fixedField + 2) 0) (numbers-laid s (r .laid))
       ∙ size-number t (toCell s .talks) (toCell s) refl
-      ∙ ap (λ (o : Source). fixedOf o .size) source-read
+      ∙ ap (λ (o : Source). fixedOf o .size) (source-read x t e s r)
 
   priority-read : beAt 1 s priorityPlace / 32 ≡ fixedOf (sourceOf x) .priority
   unfolding fields
   priority-read =
       ap (λ (vs : List ℕ). getD vs priorityField 0 / 32) (numbers-laid s (r .laid))
       ∙ priority-number t (toCell s .talks) (toCell s) refl (laid-cell-fits s (r .laid) .rank)
-      ∙ ap (λ (o : Source). fixedOf o .priority) source-read
+      ∙ ap (λ (o : Source). fixedOf o .priority) (source-read x t e s r)
 
   -- latency out, from the latency in and the class latency that were read
   module _ (st : Settings) (p : ℕ) (port : List ℕ) (q : ReadsPort port (portAt st p)) (taken class : ℕ) (f : taken ≡ beAt 4 s latencyPlace)

@@ -1,6 +1,7 @@
 // Stage 1 of settling: the steps before h, and what a stream shows on a port before bandwidth is shared.
 ghost use mathlib.Core.Path.{_≡_};
 ghost use mathlib.Core.List.{[], _∷_};
+ghost use mathlib.Core.Bool.{true};
 ghost use Prim.Native.Nat.{ℕ, _<_, _^_};
 ghost use lib.ListN.{length};
 ghost use Rattle.octets.specs.Fields.{packed};
@@ -383,12 +384,12 @@ fn early_ports(table: &mut [u8], k: usize, t: usize, common: u8, time: u32)
 
 // The settled values of stream k, and what it shows on every port before bandwidth is shared; those before it are done.
 fn early_record(table: &mut [u8], k: usize, inbound: u8, time: u32)
-    requires { ⌜ Stands (now table) k × SettledTo (now table) k × (inbound ≡ setTo (isInbound (sceneOf (decode (now table)) .inbound)) 8) ⌝ }
+    requires { ⌜ Stands (now table) k × SettledTo (now table) k true × (inbound ≡ setTo (isInbound (sceneOf (decode (now table)) .inbound)) 8) ⌝ }
     ensures { λ _. ⌜ now (table .exit) ≡ encode (changedAt k (λ sc. early sc time) (decode (now (table .entry)))) ⌝ }
 {
     let t = streams::talker_port(table, k);
     copy_fixed(table, k, t);
-    let common = fanin::common_failure(table, k, inbound);
+    let common = fanin::common_failure(table, k, inbound, true);
     early_ports(table, k, t, common, time);
 }
 
