@@ -285,9 +285,9 @@ fn entry_of(column: ColumnRead, listener: u64) -> u64
 }
 
 // The second that an entry's age is counted from: that of the result before, or this one where there was no entry.
-fn age_of(result: &[u8], entry: u64, time: u32) -> u64
+pub fn age_of(result: &[u8], entry: u64, time: u32) -> u64
     requires { ⌜ length (now result) ≡ resultSize ⌝ }
-    ensures { λ r. ⌜ r ≡ ageKept (toEntry entry) (ageOf time (toResult (now (result .entry)))) ⌝ }
+    ensures { λ r. ⌜ (r ≡ ageKept (toEntry entry) (ageOf time (toResult (now (result .entry))))) × (r < 2 ^ 32) ⌝ }
 {
     if entry == 0 {
         return 0;
