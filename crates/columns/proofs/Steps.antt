@@ -2,7 +2,9 @@
 use mathlib.Core.Path.{_≡_, refl, sym, ap, _∙_}
 use mathlib.Core.List.{List, [], _∷_, _++_}
 use mathlib.Core.Bool.{Bool, true, false, cond, not}
+use mathlib.Core.Logic.{_⊎_, ⊎-elim}
 use Prim.Native.Nat.{ℕ, _/_, _≤_, _<_}
+use native.Mathlib.Omega.{arith}
 use lib.ListN.{length, getD}
 use lib.Dec.{eqb, ltb}
 use borrow.Author.Tests.{ne-eqb, lt-ltb, le-ltb}
@@ -142,30 +144,35 @@ module _ (sc : Scene) (p : ℕ) (x : Stream) where
   unfolding steps firstName isPort
   a-port h = rw (lt-ltb p (length (sc .settings .ports)) h) (first-append (stepsFrom sc p (cellAt x p) (sourceOf x)) (lastSteps sc p (inboundOf x)) stepI)
 
+-- Another step than i, and what the code finds of one.
+
+pub other-step : (r : declared.Step) → (r ≡ I → ⊥) → sameStep (stepShown r) stepI ≡ false
+unfolding stepShown sameStep letter
+other-step None n = refl
+other-step A n = refl
+other-step B n = refl
+other-step C n = refl
+other-step D n = refl
+other-step E n = refl
+other-step F n = refl
+other-step G n = refl
+other-step H n = refl
+other-step I n = absurd (n refl)
+other-step J n = refl
+other-step K n = refl
+other-step L n = refl
+other-step M n = refl
+
+pub none-but-i : _≡_ {A = ℕ} 9 0 ⊎ (_≡_ {A = ℕ} 9 1 ⊎ (_≡_ {A = ℕ} 9 2 ⊎ (_≡_ {A = ℕ} 9 3 ⊎ (_≡_ {A = ℕ} 9 4 ⊎ (_≡_ {A = ℕ} 9 5 ⊎ (_≡_ {A = ℕ} 9 6 ⊎ (_≡_ {A = ℕ} 9 7 ⊎ (_≡_ {A = ℕ} 9 8 ⊎ (_≡_ {A = ℕ} 9 10 ⊎ (_≡_ {A = ℕ} 9 11 ⊎ (_≡_ {A = ℕ} 9 12 ⊎ _≡_ {A = ℕ} 9 13))))))))))) → ⊥
+none-but-i = ⊎-elim (λ z. omega arith) (⊎-elim (λ z. omega arith) (⊎-elim (λ z. omega arith) (⊎-elim (λ z. omega arith) (⊎-elim (λ z. omega arith) (⊎-elim (λ z. omega arith) (⊎-elim (λ z. omega arith) (⊎-elim (λ z. omega arith) (⊎-elim (λ z. omega arith) (⊎-elim (λ z. omega arith) (⊎-elim (λ z. omega arith) (⊎-elim (λ z. omega arith) (λ z. omega arith))))))))))))
+
 -- What the first steps named, and what follows it.
 
 module _ (sc : Scene) (p : ℕ) (x : Stream) (h : p < length (sc .settings .ports)) (r : declared.Step)
     (e : stepShown r ≡ firstName (stepsFrom sc p (cellAt x p) (sourceOf x)) stepI) where
   pub goes-no-further : (r ≡ I → ⊥) → stepShown r ≡ firstName (steps sc p x) stepI
-  unfolding stepShown sameStep letter
   goes-no-further n =
-      e ∙ sym (a-port sc p x h ∙ name-stays (firstName (lastSteps sc p (inboundOf x)) stepI) (stepsFrom sc p (cellAt x p) (sourceOf x)) (ap (λ (m : StepName). sameStep m stepI) (sym e) ∙ other r n))
-    where
-      other : (r : declared.Step) → (r ≡ I → ⊥) → sameStep (stepShown r) stepI ≡ false
-      other None n = refl
-      other A n = refl
-      other B n = refl
-      other C n = refl
-      other D n = refl
-      other E n = refl
-      other F n = refl
-      other G n = refl
-      other H n = refl
-      other I n = absurd (n refl)
-      other J n = refl
-      other K n = refl
-      other L n = refl
-      other M n = refl
+      e ∙ sym (a-port sc p x h ∙ name-stays (firstName (lastSteps sc p (inboundOf x)) stepI) (stepsFrom sc p (cellAt x p) (sourceOf x)) (ap (λ (m : StepName). sameStep m stepI) (sym e) ∙ other-step r n))
 
   pub goes-on : r ≡ I → (common size : ℕ) → common ≡ commonFailure sc (inboundOf x) → size ≡ fixedOf (sourceOf x) .size
       → firstName (steps sc p x) stepI ≡ lastStep common (portAt (sc .settings) p) size

@@ -1,8 +1,6 @@
 -- `columns::early_step` meets its contract. Assumes nothing.
 use mathlib.Core.Path.{_≡_, sym, ap, _∙_}
-use mathlib.Core.Logic.{⊎-elim}
 use Prim.Native.Nat.{_<_}
-use native.Mathlib.Omega.{arith}
 use lib.ListN.{length}
 use borrow.Author.Needs.{needs}
 use Rattle.model.specs.State.{cellAt}
@@ -12,7 +10,7 @@ use Rattle.model.specs.Why.{firstName}
 use Rattle.table.specs.Updates.{streamAt}
 use Rattle.columns.specs.Steps.{stepShown}
 use Rattle.columns.specs.Places.{SceneOn}
-use Rattle.columns.proofs.Steps.{no-port, goes-no-further, goes-on, same-failure}
+use Rattle.columns.proofs.Steps.{no-port, none-but-i, goes-no-further, goes-on, same-failure}
 use Rattle.columns.proofs.Talkers.{source-read, size-read}
 use Rattle.columns.proofs.early_step.Statement.{statement}
 use Rattle.columns.proofs.early_step.Tie as tie
@@ -37,7 +35,7 @@ returns c = λ sc w. no-port sc _ _ (rw (w .settings, ← (c .before .ports .ens
 
 returns-2 : tie.Need-returns-2
 returns-2 c = λ sc w.
-    goes-no-further sc _ _ (port (c .before) sc w) _ (shown (c .before) sc w) (λ e. ⊎-elim (λ z. omega arith) (⊎-elim (λ z. omega arith) (⊎-elim (λ z. omega arith) (⊎-elim (λ z. omega arith) (⊎-elim (λ z. omega arith) (⊎-elim (λ z. omega arith) (⊎-elim (λ z. omega arith) (⊎-elim (λ z. omega arith) (⊎-elim (λ z. omega arith) (⊎-elim (λ z. omega arith) (⊎-elim (λ z. omega arith) (⊎-elim (λ z. omega arith) (λ z. omega arith)))))))))))) (rw e at (c .match .keys2)))
+    goes-no-further sc _ _ (port (c .before) sc w) _ (shown (c .before) sc w) (λ e. none-but-i (rw e at (c .match .keys2)))
 
 returns-3 : tie.Need-returns-3
 returns-3 c = λ sc w.
