@@ -27,7 +27,7 @@ age-fits noEntry a h = omega arith
 age-fits filters a h = h
 age-fits forwards a h = h
 
-began-fits : (now : ℕ) (r : Result) → now < 2 ^ 32 → r .age < 2 ^ 32 → ageOf now r < 2 ^ 32
+pub began-fits : (now : ℕ) (r : Result) → now < 2 ^ 32 → r .age < 2 ^ 32 → ageOf now r < 2 ^ 32
 unfolding ageOf
 began-fits now r h k = go (r .entry)
   where
@@ -48,7 +48,7 @@ column-numbers none w = (omega arith, omega arith, omega arith)
 column-numbers advertise w = (omega arith, omega arith, omega arith)
 column-numbers (failed b c) w = (omega arith, w .0, w .1)
 
-age-of-result : (r : Result) → FitResult r → r .age < 2 ^ 32
+pub age-of-result : (r : Result) → FitResult r → r .age < 2 ^ 32
 unfolding Fit resultNumbers
 age-of-result r w = w .1 .1 .1 .1 .1 .0
 
