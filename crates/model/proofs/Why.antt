@@ -106,3 +106,16 @@ steps-clear sc p x = clear-named (steps sc p x) (before-all sc p x)
 
 pub first-clear : (sc : Scene) (p : ℕ) (x : Stream) → clear (stepsFrom sc p (cellAt x p) (sourceOf x)) ≡ sameStep (firstName (stepsFrom sc p (cellAt x p) (sourceOf x)) stepI) stepI
 first-clear sc p x = clear-named (stepsFrom sc p (cellAt x p) (sourceOf x)) (before-first sc p (cellAt x p) (sourceOf x))
+
+-- none of them is named h
+not-h : (l : List Step) → All Before l → (n : StepName) → sameStep n stepH ≡ false → sameStep (firstName l n) stepH ≡ false
+unfolding firstName
+not-h [] a n h = h
+not-h (t ∷ l) a n h = go (t .test) (not-h l (a .1) n h)
+  where
+    go : (b : Bool) → sameStep (firstName l n) stepH ≡ false → sameStep (cond b (t .name) (firstName l n)) stepH ≡ false
+    go true ih = a .0 .0
+    go false ih = ih
+
+pub steps-not-h : (sc : Scene) (p : ℕ) (x : Stream) (n : StepName) → sameStep n stepH ≡ false → sameStep (firstName (steps sc p x) n) stepH ≡ false
+steps-not-h sc p x = not-h (steps sc p x) (before-all sc p x)
