@@ -200,10 +200,24 @@ pub fn receive_frame(own: &mut [u8], clock: u32, pdu: &[u8]) -> bool
     requires { ⌜ ReceiveGiven (now own) (now pdu) ⌝ }
     ensures { λ r. ⌜ Receives clock (now (pdu .entry)) (now (own .entry)) r (now (own .exit)) ⌝ }
 {
-    let fits = frame(own, Walk { applying: false, clock }, pdu);
+    let fits = frame(
+        own,
+        Walk {
+            applying: false,
+            clock,
+        },
+        pdu,
+    );
     if !fits {
         addresses::drop_vacant(own);
         return false;
     }
-    frame(own, Walk { applying: true, clock }, pdu)
+    frame(
+        own,
+        Walk {
+            applying: true,
+            clock,
+        },
+        pdu,
+    )
 }

@@ -37,6 +37,7 @@ pub mod Growth
 pub mod Pruning
 pub mod FanIn
 pub mod Untouched
+pub mod Why
 pub mod Newcomer
 pub mod Opened
 pub mod Examples

@@ -44,8 +44,7 @@ loop-again : tie.Need-loop-again Inv-loop μ-loop
 unfolding vectorOf
 loop-again c =
     let a = c .before .before .before .before .before .before .before .before .before .before .args in
-    let l = c .before .before .before .before .before .before .loop in
-    (
+    let l = c .before .before .before .before .before .before .loop in (
       omega arith,
       going-on (a .walk .applying) (a .walk .clock) _ (a .own .now) _ (l .own) (l .inv .1) _ _ _
           (values-next (vectorOf (a .first .now) (a .events .now)) (l .n) (a .count) (c .before .before .before .before .before .loop-test .taken))
