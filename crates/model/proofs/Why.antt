@@ -29,7 +29,7 @@ module _ (st : Settings) (s : Source) where
   each-named : (sc : Scene) (p : ℕ) (here : Cell) (i : Inbound) (o : Source) → All Gives (stepsFrom sc p here o ++ lastSteps sc p i)
   unfolding stepsFrom lastSteps outcomeColumn columnBy
   each-named sc p here i nowhere = (refl, (refl, (refl, (refl, tt))))
-  each-named sc p here i (from o) = (refl, (refl, (refl, (refl, (refl, (refl, (refl, (refl, (refl, (refl, (refl, tt)))))))))))
+  each-named sc p here i (from o) = (refl, (refl, (refl, (refl, (refl, (refl, (refl, (refl, (refl, (refl, (refl, (refl, tt))))))))))))
 
 module _ (sc : Scene) (p : ℕ) (x : Stream) where
   all-named : All (Gives (sc .settings) (sourceOf x)) (steps sc p x)
@@ -59,7 +59,7 @@ Before t = (sameStep (t .name) stepH ≡ false) × (sameStep (t .name) stepI ≡
 before-first : (sc : Scene) (p : ℕ) (here : Cell) (o : Source) → All Before (stepsFrom sc p here o)
 unfolding stepsFrom sameStep letter
 before-first sc p here nowhere = ((refl, refl), tt)
-before-first sc p here (from o) = ((refl, refl), ((refl, refl), ((refl, refl), ((refl, refl), ((refl, refl), ((refl, refl), ((refl, refl), ((refl, refl), tt))))))))
+before-first sc p here (from o) = ((refl, refl), ((refl, refl), ((refl, refl), ((refl, refl), ((refl, refl), ((refl, refl), ((refl, refl), ((refl, refl), ((refl, refl), tt)))))))))
 
 before-last : (sc : Scene) (p : ℕ) (i : Inbound) → All Before (lastSteps sc p i)
 unfolding lastSteps sameStep letter
