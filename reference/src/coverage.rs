@@ -7,6 +7,7 @@ mod domains;
 mod fan_in;
 mod latencies;
 mod newer;
+mod packing;
 
 use std::collections::BTreeMap;
 
@@ -344,6 +345,42 @@ const ROWS: &[&str] = &[
     "write that ends between two Domains",
     "write of exactly 1500 octets",
     "write of exactly 1500 octets with Domain",
+    "Listeners 1, 2, 25",
+    "Listeners 1, 22, 25",
+    "Listeners 1, 2, 22, 25",
+    "Listeners 1, 22",
+    "Listeners 1, 22, 45",
+    "Listeners 1, 24, 43, 45, 67",
+    "Listeners of several MACs",
+    "Listeners FFFF and 0000 of the next MAC",
+    "Listeners of one MAC in several vectors",
+    "many Listeners of one MAC in several vectors",
+    "vector of several Listeners",
+    "vector of 64 Listeners",
+    "vector of Listeners with more than 1000 values",
+    "vector of Listeners up to FFFF",
+    "vector of all kinds of Listeners",
+    "gap filled with Ignore",
+    "gap of 19 filled with Ignore",
+    "gap of 20 filled with Ignore",
+    "gap of 21 filled with Ignore",
+    "gap of 22 filled with Ignore",
+    "gap of 19 between two vectors",
+    "gap of 20 between two vectors",
+    "gap of 21 between two vectors",
+    "gap of 22 between two vectors",
+    "gap of 23 between two vectors",
+    "gap of 24 between two vectors",
+    "Ignore for a stream that is held",
+    "Ignore for a stream declared as Talker",
+    "cutting with fewer vectors than another of as many octets",
+    "cutting with more values in a vector before",
+    "Listener that takes no octet more",
+    "Listeners cut anew for the last one",
+    "write from a place between Listeners",
+    "write that ends between Listeners",
+    "write of exactly 1500 octets that ends between Listeners",
+    "one more Listener would make 1501 octets",
     "write with declarations left over",
     "write from a next place",
     "write at place = count",
@@ -1033,6 +1070,7 @@ impl Coverage {
         let continued = place > 0 && place < count && self.last_write == Some((port, place));
         self.count_if("write from a next place", continued);
         self.last_write = Some((port, next));
+        self.packed(bridge, port, place, answer);
         let taken = &declarations[place..next];
         let has = |attribute_type| {
             taken.iter().any(|declaration| declaration.attribute_type() == attribute_type)

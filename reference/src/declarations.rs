@@ -1,7 +1,8 @@
-//! Declarations of a port and writing them (01, "Writing"; 02, (ii); 802.1Q clause 10.8, 802.1Qat
-//! clause 35.2.2).
+//! Declarations of a port and writing them (01, "Writing"; 02, (ii), (xi); 802.1Q clause 10.8,
+//! 802.1Qat clause 35.2.2).
 
 use crate::domain;
+use crate::packing;
 use crate::pdu::{AttributeType, Domain, ListenerType, StreamId, Talker};
 use crate::pdu::{ATTRIBUTE_TYPES, END_MARK, LONGEST_PDU};
 use crate::settings::{Class, Settings};
@@ -26,33 +27,6 @@ impl Declaration {
             Declaration::Listener(..) => AttributeType::Listener,
             Declaration::Domain(_) => AttributeType::Domain,
         }
-    }
-
-    /// The vector of this one value: LeaveAllEvent 0 and NumberOfValues 1, FirstValue, one
-    /// ThreePackedEvents octet, and for Listener one FourPackedEvents octet.
-    fn vector(&self) -> Vec<u8> {
-        let mut octets = vec![0, 1];
-        match self {
-            Declaration::Talker(talker) => {
-                octets.extend(first_value(talker));
-                octets.push(JOIN_MT);
-            }
-            Declaration::Listener(stream_id, listener_type) => {
-                octets.extend(stream_id.to_be_bytes());
-                octets.push(JOIN_MT);
-                let part = match listener_type {
-                    ListenerType::AskingFailed => 1,
-                    ListenerType::Ready => 2,
-                    ListenerType::ReadyFailed => 3,
-                };
-                octets.push(part << 6);
-            }
-            Declaration::Domain(domain) => {
-                octets.extend(domain.octets());
-                octets.push(JOIN_MT);
-            }
-        }
-        octets
     }
 }
 
@@ -110,18 +84,36 @@ pub fn of_port(settings: &Settings, settled: &Settled, port: usize) -> Vec<Decla
     [advertise, failed, listener, domains(settings, port)].concat()
 }
 
+/// The vector of one value: LeaveAllEvent 0 and NumberOfValues 1, FirstValue, one ThreePackedEvents
+/// octet.
+fn alone(first_value: &[u8]) -> Vec<u8> {
+    [&[0, 1], first_value, &[JOIN_MT]].concat()
+}
+
+/// The vectors of declarations of one type: Listeners are packed, others stand alone.
+fn vectors(declarations: &[Declaration]) -> Vec<u8> {
+    let mut octets = Vec::new();
+    let mut listeners = Vec::new();
+    for declaration in declarations {
+        match declaration {
+            Declaration::Talker(talker) => octets.extend(alone(&first_value(talker))),
+            Declaration::Listener(stream_id, says) => listeners.push((*stream_id, *says)),
+            Declaration::Domain(domain) => octets.extend(alone(&domain.octets())),
+        }
+    }
+    octets.extend(packing::vectors(&listeners));
+    octets
+}
+
 /// The PDU of these declarations, which stand by type: ProtocolVersion 0, one Message per type
-/// that occurs, one value per vector, EndMark.
+/// that occurs, EndMark.
 pub fn pdu(declarations: &[Declaration]) -> Vec<u8> {
     let mut octets = vec![0];
     for attribute_type in ATTRIBUTE_TYPES {
-        let mut list = Vec::new();
-        for declaration in declarations {
-            if declaration.attribute_type() == attribute_type {
-                list.extend(declaration.vector());
-            }
-        }
-        if !list.is_empty() {
+        let of_type = |one: &&Declaration| one.attribute_type() == attribute_type;
+        let of_type: Vec<Declaration> = declarations.iter().filter(of_type).copied().collect();
+        if !of_type.is_empty() {
+            let mut list = vectors(&of_type);
             list.extend(END_MARK);
             octets.push(attribute_type.octet());
             octets.push(attribute_type.first_value_length() as u8);

@@ -10,6 +10,7 @@
 
 mod addresses;
 mod domains;
+mod listeners;
 
 use crate::bridge::{Table, ROOM_LENGTH};
 use crate::declarations;
@@ -26,6 +27,7 @@ use crate::stored;
 use crate::table::{FAN_IN_LIMIT, TABLE_LENGTH};
 use domains::strange_domain_vectors;
 use domains::{domain_pdu, domain_vector, own_domain_vectors, some_domain};
+use listeners::{joining_vectors, listeners_pdu};
 
 /// The numbers of the events in a ThreePackedEvents octet.
 const JOINS: [u8; 3] = [0, 1, 3];
@@ -1299,23 +1301,6 @@ fn pass_the_longest_input(history: &mut History, plan: &Plan) {
 
 // ---- scripts of calls ----
 
-/// How many Advertise, Failed and Listeners a port declares beside two Domains. Version and EndMark
-/// take 3 octets, each Message 6, and a value 28, 37, 12 or, for a Domain, 7. With the first three
-/// two Domains, one or none make 1,500 octets.
-const CROWDS: [(u64, u64, u64); 11] = [
-    (26, 11, 27),
-    (28, 10, 26),
-    (20, 25, 0),
-    (0, 33, 22),
-    (48, 3, 2),
-    (48, 3, 2),
-    (20, 25, 1),
-    (19, 26, 0),
-    (0, 33, 23),
-    (48, 3, 1),
-    (53, 0, 5),
-];
-
 /// Settings of two ports with room for all streams.
 fn roomy_settings(random: &mut Random) -> Settings {
     let port = PortSettings {
@@ -1436,52 +1421,79 @@ impl History {
         }
     }
 
-    /// A bridge whose port 2 has declarations for a PDU of 1,500 octets, a few more or a few less.
-    fn longest_pdu(&mut self) {
-        let (advertise, failed, listening) = self.random.one_of(&CROWDS);
+    /// A bridge whose port 2 declares Listeners with gaps between them, mostly behind so many Talkers
+    /// that a PDU ends at 1,500 octets or near it.
+    fn packed_listeners(&mut self) {
         let settings = roomy_settings(&mut self.random);
         self.start(&settings::write(&settings));
         for port in [1, 2] {
             let vectors = own_domain_vectors(&mut self.random, &settings);
             self.receive(port, &domain_pdu(vectors));
         }
-        let first: StreamId = 0x0200_0000_0001_0000 + self.random.below(1_000);
+        let most = match self.random.below(10) {
+            0..=6 => self.random.between(1, 40),
+            _ => MOST_STREAMS as u64,
+        };
+        let listeners = listeners::stream_ids(&mut self.random, most);
+        let (advertise, failed) = self.talkers_before(&listeners);
+        let talkers = self.talkers_beside(&listeners, (advertise + failed) as usize);
+        let (advertise, failed) = talkers.split_at(advertise as usize);
         let failure = Failure { bridge_id: self.random.bits(), code: self.random.octet() };
-        self.join_crowd(1, first, advertise, None);
-        self.join_crowd(1, first + advertise, failed, Some(failure));
-        self.join_crowd(2, first + advertise + failed, listening, None);
+        self.join_streams(1, advertise, None);
+        self.join_streams(1, failed, Some(failure));
+        self.join_streams(2, &listeners, None);
         self.advance(100);
         for port in [1, 2] {
             self.sweep_port(port);
         }
     }
 
-    /// So many Talkers on a port, and a Ready Listener of each on the other of two.
-    fn join_crowd(&mut self, port: u32, first: StreamId, count: u64, failure: Option<Failure>) {
-        if count == 0 {
+    /// How many Advertise and Failed stand before these Listeners. Often the PDU is full with the
+    /// first of them.
+    fn talkers_before(&mut self, listeners: &[StreamId]) -> (u64, u64) {
+        let room = (MOST_STREAMS - listeners.len()) as u64;
+        let some = self.random.between(1, listeners.len() as u64) as usize;
+        let fitting = self.random.one_of(&[some, listeners.len()]);
+        let full = listeners::talkers_before(&listeners[..fitting], room);
+        match full.is_empty() {
+            true => (self.random.below(room.min(3) + 1), 0),
+            false => self.random.one_of(&full),
+        }
+    }
+
+    /// So many other streams, ascending, at times in the gaps between the Listeners.
+    fn talkers_beside(&mut self, listeners: &[StreamId], count: usize) -> Vec<StreamId> {
+        let first: StreamId = 0x0200_0000_0001_0000 + self.random.below(1_000);
+        let in_gaps = match self.random.percent(30) {
+            true => listeners::in_gaps(listeners, count),
+            false => Vec::new(),
+        };
+        let apart = (count - in_gaps.len()) as u64;
+        (first..first + apart).chain(in_gaps).collect()
+    }
+
+    /// The Talkers of streams on a port, and Listeners of all on the other of two.
+    fn join_streams(&mut self, port: u32, ids: &[StreamId], failure: Option<Failure>) {
+        if ids.is_empty() {
             return;
         }
-        let mut talker = Talker::of_the_worked_example(first);
-        talker.parameters.max_frame_size = 100;
-        talker.accumulated_latency = accumulated_latency(&mut self.random);
-        talker.failure = failure;
+        let accumulated_latency = accumulated_latency(&mut self.random);
+        let first_value = |stream_id: StreamId| {
+            let mut talker = Talker::of_the_worked_example(stream_id);
+            // So that no two have the same, whatever their MAC.
+            talker.parameters.destination = 0x91 << 40 | stream_id & 0xff_ffff_ffff;
+            talker.parameters.max_frame_size = 100;
+            declarations::first_value(&Talker { accumulated_latency, failure, ..talker })
+        };
         let attribute_type = match failure {
             None => AttributeType::TalkerAdvertise,
             Some(_) => AttributeType::TalkerFailed,
         };
-        let events = vec![self.random.one_of(&JOINS); count as usize];
-        let listeners = VectorDraft {
-            first_value: first.to_be_bytes().to_vec(),
-            events: events.clone(),
-            listener_types: vec![READY; count as usize],
-            ..VectorDraft::default()
-        };
-        let first_value = declarations::first_value(&talker);
-        let talkers = VectorDraft { first_value, events, ..VectorDraft::default() };
-        let message = MessageDraft::new(attribute_type, vec![talkers]);
+        let vectors = joining_vectors(&mut self.random, ids, first_value, None);
+        let message = MessageDraft::new(attribute_type, vectors);
         self.receive(port, &FrameDraft::new(vec![message]).octets());
-        let message = MessageDraft::new(AttributeType::Listener, vec![listeners]);
-        self.receive(3 - port, &FrameDraft::new(vec![message]).octets());
+        let pdu = listeners_pdu(&mut self.random, ids);
+        self.receive(3 - port, &pdu);
     }
 
     /// A write or report with any arguments.
@@ -1607,8 +1619,8 @@ pub fn calls(seed: u64) -> Script {
             history.some_call(&plan);
         }
     }
-    if history.random.percent(6) {
-        history.longest_pdu();
+    if history.random.percent(30) {
+        history.packed_listeners();
     }
     // A few scripts have no start of their own: alone they get 12 for all, in a batch they go on
     // with the bridge that the scripts before have left.

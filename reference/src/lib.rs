@@ -1,7 +1,7 @@
 //! A stream-reservation bridge of IEEE 802.1Qat, written from the papers alone.
 //!
 //! "01" in the comments is the paper that lays down the bridge and its rules, "02" that of the
-//! requests for more, of which (ii), (i), (v), (x), (iv) and (vi) are in; clause numbers such as
+//! requests for more, of which (ii), (i), (v), (x), (iv), (vi) and (xi) are in; clause numbers such as
 //! 35.2.4.2 are those of IEEE 802.1Qat-2010. The program is meant to be compared with another implementation, so it is
 //! written for the reader and not for speed.
 //!
@@ -15,6 +15,7 @@
 //! * [`registrations`]: what each port has registered;
 //! * [`fan_in`]: the ports that bring streams in, and addresses that streams share;
 //! * [`settling`]: attribute propagation and reserved bandwidth;
+//! * [`packing`]: which vectors Listener declarations stand in;
 //! * [`declarations`]: writing MSRPDUs;
 //! * [`bridge`]: the calls;
 //! * [`table`]: the octets of the lent table;
@@ -38,6 +39,7 @@ pub mod frame;
 pub mod generator;
 pub mod mmrp;
 pub mod numbers;
+pub mod packing;
 pub mod pdu;
 pub mod random;
 pub mod records;

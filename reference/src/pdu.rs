@@ -79,6 +79,17 @@ pub enum ListenerType {
     ReadyFailed,
 }
 
+impl ListenerType {
+    /// Its part of a FourPackedEvents octet (35.2.2.7.2).
+    pub fn number(self) -> u8 {
+        match self {
+            ListenerType::AskingFailed => 1,
+            ListenerType::Ready => 2,
+            ListenerType::ReadyFailed => 3,
+        }
+    }
+}
+
 /// The four parts of a FourPackedEvents octet, first highest. `None` is Ignore.
 pub fn four_listener_types(octet: u8) -> [Option<ListenerType>; 4] {
     [octet >> 6, octet >> 4 & 3, octet >> 2 & 3, octet & 3].map(|part| match part {

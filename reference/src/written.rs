@@ -1,9 +1,10 @@
-//! PDUs that a port has written, taken apart again and held to 01, "Writing", and 02, (ii).
+//! PDUs that a port has written, taken apart again and held to 01, "Writing", and 02, (ii) and
+//! (xi).
 
 use std::fmt::Write;
 
 use crate::declarations::{self, Declaration};
-use crate::pdu::{self, Event, Talker, Value, Vector, LONGEST_PDU};
+use crate::pdu::{self, Event, Talker, Value, LONGEST_PDU};
 use crate::words;
 
 /// Takes PDUs in hex, one to a line, all that a port writes from place 0 on. Gives for each a
@@ -41,22 +42,27 @@ fn octets_of(hex: &str) -> Result<Vec<u8>, String> {
 /// The declarations of one PDU. It is exactly what is written for them.
 pub fn declarations_of(octets: &[u8]) -> Result<Vec<Declaration>, String> {
     let pdu = pdu::read(octets).map_err(|fault| format!("a PDU is refused: {}", fault.number))?;
-    let declarations: Option<Vec<Declaration>> = pdu.vectors().map(declaration).collect();
+    let values = pdu.vectors().flat_map(|vector| &vector.values);
+    let declarations: Option<Vec<Declaration>> =
+        values.filter(says_something).map(declaration).collect();
     match declarations {
         Some(declarations) if declarations::pdu(&declarations) == octets => Ok(declarations),
         _ => Err(format!("a PDU isn't laid out as it is written: {octets:02x?}")),
     }
 }
 
-/// The declaration of a vector with one value, JoinMt.
-fn declaration(vector: &Vector) -> Option<Declaration> {
-    match vector.values[..] {
-        [(Event::JoinMt, Value::Talker(talker))] => Some(Declaration::Talker(talker)),
-        [(Event::JoinMt, Value::Listener(stream_id, listener_type))] => {
-            Some(Declaration::Listener(stream_id, listener_type?))
-        }
-        [(Event::JoinMt, Value::Domain(domain))] => Some(Declaration::Domain(domain)),
-        _ => None,
+/// Whether a value isn't one that fills a gap between Listeners.
+fn says_something((_, value): &&(Event, Value)) -> bool {
+    !matches!(value, Value::Listener(_, None))
+}
+
+/// The declaration of a value, JoinMt.
+fn declaration((event, value): &(Event, Value)) -> Option<Declaration> {
+    match *value {
+        _ if *event != Event::JoinMt => None,
+        Value::Talker(talker) => Some(Declaration::Talker(talker)),
+        Value::Listener(stream_id, says) => Some(Declaration::Listener(stream_id, says?)),
+        Value::Domain(domain) => Some(Declaration::Domain(domain)),
     }
 }
 

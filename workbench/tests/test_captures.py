@@ -1,4 +1,5 @@
 """Captures: written, read back, and read from other tools, whole and broken."""
+import re
 import shutil
 import struct
 
@@ -96,6 +97,39 @@ def test_domain_values_are_written_and_read_by_tshark(srp, tmp_path):
     names = [f"mrp-msrp.sr_class_{name}" for name in ("id", "priority", "vid")]
     shown = run("tshark", "-r", capture, "-T", "fields", *(word for name in names for word in ("-e", name)))
     assert shown.stdout.splitlines() == ["5,6\t1,6\t4094,4094", "5\t1\t4094"]
+
+
+SAID_BY_TSHARK = {"asking": "Asking Failed", "ready": "Ready", "readyfailed": "Ready Failed"}
+
+
+def asked_for(text):
+    """What the Listener lines of a text ask for, in the words of tshark: by StreamID, of each value."""
+    lines = re.findall(r"^on 2 listener (\w+) (\w+)(?: values (\d+))?$", text, re.MULTILINE)
+    return [(int(first, 16) + n, SAID_BY_TSHARK[kind]) for first, kind, values in lines for n in range(int(values or 1))]
+
+
+def listeners_shown(capture, source):
+    """What tshark shows of the Listeners from an address: all that isn't Ignore, and how many vectors they stand in."""
+    shown, vectors = [], 0
+    for vector in run("tshark", "-r", capture, "-Y", f"eth.src == {source}", "-V").stdout.split("Vector Attribute\n"):
+        kinds = re.findall(r"Declaration Type: (.+) \(", vector)
+        events = re.findall(r"Attribute Event: (\w+)", vector)
+        if kinds:
+            first = int(re.search(r"Stream ID: 0x(\w+)", vector)[1], 16)
+            assert events == ["New" if kind == "Ignore" else "JoinMt" for kind in kinds]
+            shown += [(first + n, kind) for n, kind in enumerate(kinds) if kind != "Ignore"]
+            vectors += 1
+    return shown, vectors
+
+
+@needs_tshark
+@pytest.mark.parametrize("name, vectors", [("gaps", 13), ("mixture", 1), ("listeners-apart", 2), ("domain-apart", 2)])
+def test_packed_listeners_are_read_by_tshark_as_they_were_asked_for(srp, tmp_path, name, vectors):
+    text, capture = tmp_path / "packed.txt", tmp_path / "packed.pcap"
+    text.write_text((ROOT / f"tests/written/{name}.txt").read_text().replace("start\n", ""))
+    srp("capture", text, "-o", capture)
+    assert complaints(capture)[0] == ""
+    assert listeners_shown(capture, "02:00:00:00:00:01") == (asked_for(text.read_text()), vectors)
 
 
 def test_a_capture_without_domain_frames(srp, tmp_path):

@@ -16,15 +16,16 @@ use Rattle.octets.specs.Parts.{zeros}
 use Rattle.model.specs.Layout.{addresses, tableLength}
 use Rattle.model.specs.Lists.{Octets}
 use Rattle.model.specs.State.{Settings, Bridge, started, ownAt, portAt, resultAt, noTotals}
-use Rattle.model.specs.Registrations.{Answer, AddressAct, addressActs, acts, applyAll, doesAddresses, addressJoins, receivedAddresses, holding, owning, together, ids, joins, received}
+use Rattle.model.specs.Registrations.{Answer, listeners, AddressAct, addressActs, acts, applyAll, doesAddresses, addressJoins, receivedAddresses, holding, owning, together, ids, joins, received}
 use Rattle.model.specs.FrameLayout.{longestPdu}
-use Rattle.model.specs.Frames.{Vector, found, walk, walked, frameActs, reading, wrongPort}
+use Rattle.model.specs.Frames.{registers, Vector, found, walk, walked, frameActs, reading, wrongPort}
 use Rattle.model.specs.AddressFrames.{addressWalk, addressReading}
 use Rattle.model.specs.Settling.{settle}
 use Rattle.model.specs.State.{streamAt}
-use Rattle.model.specs.Declarations.{Declaration, joinOf, takes, write}
+use Rattle.model.specs.Cutting.{values, Least}
+use Rattle.model.specs.Declarations.{Declaration, joinOf, declaredIds, having, takes, write}
 use Rattle.model.specs.Reports.{Report, wordOf, codeOf, report}
-use Rattle.model.specs.WrittenFrames.{declarationVector, pduOctets}
+use Rattle.model.specs.WrittenFrames.{listenerParts, pduOctets}
 use Rattle.model.specs.Table.{encode, decode, toSettings}
 use Rattle.model.specs.Calls.{Call, WriteCall, receive, receiveMmrp, writtenTo, writeOn, reportOn}
 use Rattle.model.proofs.Valid.{Valid}
@@ -36,8 +37,10 @@ use Rattle.model.proofs.AdvanceKeepsForm.{settle-keeps}
 use Rattle.model.proofs.ColumnRule.{Advanced}
 use Rattle.model.proofs.OneSolution.{exactly-one}
 use Rattle.model.proofs.Demand3.{ids-small}
-use Rattle.model.proofs.WritingPasses.{declared, write-from, next-place, next-further, run-fits, run-full}
-use Rattle.model.proofs.ReadBack.{read-back, neighbour-reads}
+use Rattle.model.proofs.Lists.{Longest}
+use Rattle.model.proofs.WritingPasses.{pduFits, FewStreams, declared, write-from, next-place, next-further, run-fits, run-full, write-longest}
+use Rattle.model.proofs.PackedVectors.{write-least, write-only}
+use Rattle.model.proofs.ReadBack.{pduVectors, valid-few, read-back, neighbour-reads}
 use Rattle.model.proofs.AddressRefusals.{heldOn, mmrp-0}
 use Rattle.model.proofs.Refusals.{OnPort, start-0, receive-0, advance-0, write-0, report-0}
 use Rattle.bridge.specs.Promises.{Starts, Receives, ReceivesMmrp, Advances, Writes, Reports}
@@ -167,8 +170,15 @@ pub record Tells (t : List ℕ) (p place : ℕ) (buffer : List ℕ) (long next :
   -- it is at most 1,500 octets, and one declaration more would pass that
   pub fits : long ≤ longestPdu
   pub full : next < length (declared (decode t) p) → longestPdu < length (pduOctets (take (suc (length run)) (drop place (declared (decode t) p))))
+  -- so would any number more
+  pub longest : Longest (pduFits (drop place (declared (decode t) p))) (length (drop place (declared (decode t) p))) (length run)
+  -- its Listeners are cut into vectors as no other cutting comes before in octets, then vectors, then values of the first vector, the
+  -- second and so on; and no other cutting is the least
+  pub least : Least values (declaredIds (having (registers listeners) run)) (map declaredIds (listenerParts (having (registers listeners) run)))
+  pub only : (c : List (List ℕ)) → Least values (declaredIds (having (registers listeners) run)) c
+      → c ≡ map declaredIds (listenerParts (having (registers listeners) run))
   -- it reads back as exactly these declarations, as joins, on any port of any bridge
-  pub vectors : walk (take long u) ≡ found (map declarationVector run)
+  pub vectors : walk (take long u) ≡ found (pduVectors run)
   pub neighbour : (st : Settings) (q : ℕ) → wrongPort st q ≡ false → reading st q (take long u) ≡ acts (map joinOf run)
 
 written : (t : List ℕ) (p place : ℕ) (buffer : List ℕ) → OnPort t p → longestPdu ≤ length buffer → write (decode t) p place .number ≡ 0 →
@@ -200,6 +210,8 @@ write-tells t p place buffer n long next u o call z =
     let left : u ≡ s ++ drop (length s) buffer = call .buffer-is ∙ ap (λ (a : WriteCall). a .buffer) c in
     let fits : length s ≤ longestPdu = run-fits b p place in
     let pdu : take long u ≡ s = rw (long-is, left) (take-append-seam s (drop (length s) buffer)) in
+    let valid : Valid b = valid-decode t o (h .0 .0) in
+    let few : FewStreams b = valid-few b valid in
     record {
       run = w .run;
       follows = rw (next-is, from, ← drop-drop (takes rest) place l) (take-append-drop (takes rest) rest);
@@ -210,8 +222,11 @@ write-tells t p place buffer n long next u o call z =
       same-length = rw left (length-front buffer s (length s) (sym (length-take-le (length s) buffer (omega arith))));
       fits = rw long-is fits;
       full = rw next-is (run-full b p place (h .1 .1));
-      vectors = rw pdu (read-back b p place);
-      neighbour = λ st q k. rw pdu (neighbour-reads b (valid-decode t o (h .0 .0)) p place st q k);
+      longest = write-longest b p place few (h .1 .1);
+      least = write-least b few p place;
+      only = write-only b few p place;
+      vectors = rw pdu (read-back b few p place);
+      neighbour = λ st q k. rw pdu (neighbour-reads b valid p place st q k);
     }
 
 -- What an accepted report shows: what the table holds, each field as it was taken by the last advance.

@@ -1,26 +1,26 @@
 -- How many declarations of one type fit, and that the passes, one for each type, take the declarations that a PDU takes.
 use Prim.Native.Nat.{ℕ, zero, suc, _+_, _-_, _*_, _/_, _≤_, _<_}
-use native.Mathlib.Nat.{suc-mul, add-zero, zero-mul, div-eq-of-lt, div-eq-sub-div, div-mul-le-self, mul-le-mul-right}
+use native.Mathlib.Nat.{suc-mul, one-mul, add-zero, div-eq-of-lt, div-eq-sub-div, div-mul-le-self, mul-le-mul-right}
 use native.Mathlib.Omega.{arith}
 use mathlib.Core.Path.{_≡_, refl, sym, ap, _∙_}
 use mathlib.Core.Bool.{Bool, true, false, cond}
 use mathlib.Core.List.{List, [], _∷_, _++_, append-nil}
 use lib.ListN.{length, take, drop, length-drop}
 use lib.Seq.{take-all, take-nil, drop-nil, take-append-le, take-append-add, length-take-le}
-use lib.Dec.{ltb}
-use borrow.Author.Tests.{ltb-true, ltb-false, lt-ltb, le-ltb}
+use lib.Dec.{ltb, leb}
+use borrow.Author.Tests.{ltb-true, ltb-false, lt-ltb, le-ltb, leb-true, leb-false}
 use Rattle.octets.specs.Parts.{patch}
 use Rattle.octets.proofs.Parts.{patch-none}
 use Rattle.model.specs.FrameLayout.{longestPdu}
-use Rattle.model.specs.Lists.{All}
+use Rattle.model.specs.Lists.{All, longest}
 use Rattle.model.specs.Registrations.{advertises, faileds, listeners}
 use Rattle.model.specs.Frames.{Attribute, registers, domain, typeNumber}
-use Rattle.model.specs.Declarations.{Declaration, attributeOf, vectorSize, noMessage, message, opening, fitting}
+use Rattle.model.specs.Declarations.{Declaration, attributeOf, vectorSize, vectorsSize, messageSize, fitting}
 use Rattle.model.specs.WrittenFrames.{messageOctets}
-use Rattle.model.proofs.Lists.{all-map, all-append, all-take, all-drop}
-use Rattle.model.proofs.WritingPasses.{OfAttribute, same-attribute, other-attribute, messageSize, length-message}
+use Rattle.model.proofs.Lists.{all-map, all-append, all-take, all-drop, longest-ends, longest-stops, longest-goes, longest-within, longest-same, longest-from}
+use Rattle.model.proofs.WritingPasses.{OfAttribute, After, fitsWith, length-message, message-some, fitting-types, fitting-single}
 use Rattle.declarations.specs.declared.Progress.{Progress}
-use Rattle.declarations.specs.Passes.{fits, taken, passed, written}
+use Rattle.declarations.specs.Passes.{Single, fits, taken, passed, written}
 
 -- The number that fits.
 
@@ -77,20 +77,32 @@ module _ (used size : ℕ) where
         go true e = rw (lt-ltb (q + 1) (suc n) (omega (arith, ltb-true q n e))) (omega arith)
         go false e = rw (le-ltb (q + 1) (suc n) (omega (arith, ltb-false q n e))) refl
 
--- Declarations of one type, before those of later types.
+-- It is the longest run of declarations that stand one per vector.
 
-abbrev pub After : Attribute → Declaration → Type 0
-After k d = typeNumber k < typeNumber (attributeOf d)
+longest-fits : (size : ℕ) → 0 < size → (left used : ℕ) → longest (λ n. leb (used + n * size) longestPdu) 0 left ≡ fits used size left
+longest-fits size some zero used = longest-ends _ 0 ∙ sym (fits-none used size)
+longest-fits size some (suc left) used = go (leb (used + size) longestPdu) refl (longest-fits size some left (used + size))
+  where
+    test : ℕ → Bool
+    test n = leb (used + n * size) longestPdu
 
--- a declaration that opens its Message
-fitting-opens : (used : ℕ) (d : Declaration) (l : List Declaration) → fitting used noMessage (d ∷ l) ≡ fitting (used + 6) (message (attributeOf d)) (d ∷ l)
-unfolding fitting opening
-fitting-opens used d l = rw (same-attribute (attributeOf d), add-zero (used + 6))
+    one : test 1 ≡ leb (used + size) longestPdu
+    one = ap (λ (n : ℕ). leb (used + n) longestPdu) (one-mul size)
 
-fitting-after : (used : ℕ) (k : Attribute) (m : List Declaration) → All (After k) m → fitting used (message k) m ≡ fitting used noMessage m
-unfolding fitting opening
-fitting-after used k [] a = refl
-fitting-after used k (d ∷ m) a = rw (other-attribute k (attributeOf d) (λ e. omega (arith, a .0)))
+    behind : (i : ℕ) → test (1 + i) ≡ leb (used + size + i * size) longestPdu
+    behind i =
+        let s : 1 + i ≡ suc i = omega arith in
+        let m : used + suc i * size ≡ used + size + i * size = omega (arith, suc-mul i size) in
+        rw s (ap (λ (n : ℕ). leb n longestPdu) m)
+
+    go : (t : Bool) → leb (used + size) longestPdu ≡ t
+        → longest (λ n. leb (used + size + n * size) longestPdu) 0 left ≡ fits (used + size) size left → longest test 0 (suc left) ≡ fits used size (suc left)
+    go true e ih =
+        longest-goes test 0 left (one ∙ e)
+        ∙ longest-from test 1 0 left
+        ∙ ap (λ (n : ℕ). 1 + n) (longest-same (λ i. test (1 + i)) (λ n. leb (used + size + n * size) longestPdu) 0 left (λ i a b. behind i) ∙ ih)
+        ∙ omega (arith, fits-more used size some left (leb-true (used + size) longestPdu e))
+    go false e ih = longest-stops test 0 left (one ∙ e) ∙ sym (fits-over used size some left (leb-false (used + size) longestPdu e))
 
 vector-some : (k : Attribute) → 0 < vectorSize k
 unfolding vectorSize
@@ -99,93 +111,62 @@ vector-some (registers faileds) = omega arith
 vector-some (registers listeners) = omega arith
 vector-some domain = omega arith
 
-module _ (k : Attribute) (m : List Declaration) where
-  abbrev then : ℕ → ℕ → ℕ → ℕ
-  then used n left = n + cond (ltb n left) 0 (fitting (used + n * vectorSize k) (message k) m)
+not-listeners : (k : Attribute) → Single k → k ≡ registers listeners → ⊥
+not-listeners k s e = rw e at s
 
-  then-more : (used n left : ℕ) → suc (then (used + vectorSize k) n left) ≡ then used (suc n) (suc left)
-  then-more used n left =
-      let e : used + suc n * vectorSize k ≡ used + vectorSize k + n * vectorSize k = omega (arith, suc-mul n (vectorSize k)) in
-      rw e (go (ltb n left) refl)
-    where
-      f : ℕ
-      f = fitting (used + vectorSize k + n * vectorSize k) (message k) m
+single-size : (k : Attribute) → Single k → (l : List Declaration) → vectorsSize k l ≡ length l * vectorSize k
+unfolding vectorsSize
+single-size (registers advertises) s l = refl
+single-size (registers faileds) s l = refl
+single-size (registers listeners) s l = absurd s
+single-size domain s l = refl
 
-      go : (t : Bool) → ltb n left ≡ t → suc (n + cond t 0 f) ≡ suc n + cond (ltb (suc n) (suc left)) 0 f
-      go true e = rw (lt-ltb (suc n) (suc left) (omega (arith, ltb-true n left e))) (omega arith)
-      go false e = rw (le-ltb (suc n) (suc left) (omega (arith, ltb-false n left e))) (omega arith)
+-- n of those of a type, in a PDU of so many octets without its EndMark
+module _ (k : Attribute) (one : Single k) (l : List Declaration) (own : All (OfAttribute k) l) (at n size left : ℕ) (z : size ≡ vectorSize k)
+    (d : length l ≡ left) (f : n ≡ fits (at + 8) size left) where
+  pub single-number : n ≡ fitting (at + 2) l
+  single-number =
+      let e : at + 8 ≡ at + 2 + 6 = omega arith in
+      (rw (z, ← d, e) at f) ∙ sym (fitting-single (at + 2) k l own (not-listeners k one) ∙ longest-fits (vectorSize k) (vector-some k) (length l) (at + 2 + 6))
 
-  fitting-next : (used : ℕ) (d : Declaration) (l : List Declaration) → attributeOf d ≡ k
-      → fitting used (message k) (d ∷ l) ≡ cond (ltb longestPdu (used + vectorSize k)) 0 (suc (fitting (used + vectorSize k) (message k) l))
-  unfolding fitting opening
-  fitting-next used d l a = rw (a, same-attribute k, add-zero used)
-
-  fitting-all : (used : ℕ) (l : List Declaration) → All (OfAttribute k) l
-      → fitting used (message k) (l ++ m) ≡ then used (fits used (vectorSize k) (length l)) (length l)
-  fitting-all used [] a = rw (fits-none used (vectorSize k), zero-mul (vectorSize k), add-zero used) (omega arith)
-  fitting-all used (d ∷ l) a = fitting-next used d (l ++ m) (a .0) ∙ go (ltb longestPdu more) refl (fitting-all more l (a .1))
-    where
-      more : ℕ
-      more = used + vectorSize k
-
-      go : (t : Bool) → ltb longestPdu more ≡ t → fitting more (message k) (l ++ m) ≡ then more (fits more (vectorSize k) (length l)) (length l)
-          → cond t 0 (suc (fitting more (message k) (l ++ m))) ≡ then used (fits used (vectorSize k) (suc (length l))) (suc (length l))
-      go true e ih = rw (fits-over used (vectorSize k) (vector-some k) (length l) (ltb-true longestPdu more e), lt-ltb 0 (suc (length l)) (omega arith))
-      go false e ih =
-          rw (fits-more used (vectorSize k) (vector-some k) (length l) (ltb-false longestPdu more e), ih)
-          (then-more used (fits more (vectorSize k) (length l)) (length l))
+  -- the octets of their Message
+  pub single-length : (n ≡ 0 → ⊥) → length (messageOctets k (take n l)) ≡ 6 + n * size
+  single-length h =
+      let within : n ≤ length l = omega (arith, f, fits-within (at + 8) size left) in
+      let long : length (take n l) ≡ n = length-take-le n l within in
+      length-message k (take n l) (all-take (OfAttribute k) n l own)
+      ∙ message-some k (take n l) (omega arith)
+      ∙ ap (λ (m : ℕ). 6 + m) (single-size k one (take n l) ∙ rw (long, z))
 
 -- What a PDU with so many octets used takes of declarations, after passing over some of them.
 unfoldable pub runFrom : ℕ → ℕ → List Declaration → List Declaration
-runFrom used skip l = take (fitting used noMessage (drop skip l)) (drop skip l)
+runFrom used skip l = take (fitting used (drop skip l)) (drop skip l)
+
+pub fitting-within : (used : ℕ) (l : List Declaration) → fitting used l ≤ length l
+unfolding fitting
+fitting-within used l = omega (arith, longest-within (fitsWith used l) 0 (length l) .1)
 
 drop-append : {A : Type 0} (n : ℕ) (l m : List A) → drop n (l ++ m) ≡ drop n l ++ drop (n - length l) m
 drop-append n [] m = let e : n - 0 ≡ n = omega arith in rw (e, drop-nil n)
 drop-append zero (x ∷ l) m = let e : 0 - suc (length l) ≡ 0 = omega arith in rw e
 drop-append (suc n) (x ∷ l) m = let e : suc n - suc (length l) ≡ n - length l = omega arith in rw e (drop-append n l m)
 
-module _ (k : Attribute) (used : ℕ) (m : List Declaration) (after : All (After k) m) where
-  -- the octets of a Message of n
-  message-size : (l : List Declaration) → All (OfAttribute k) l → 0 < length l → length (messageOctets k l) ≡ 6 + length l * vectorSize k
-  unfolding messageSize
-  message-size [] a h = absurd (omega arith)
-  message-size (d ∷ l) a h = length-message k (d ∷ l) a
+run-all : (k : Attribute) (used : ℕ) (m : List Declaration) → All (After k) m → (l : List Declaration) → All (OfAttribute k) l
+    → let n = fitting used l in
+    runFrom used 0 (l ++ m) ≡ take n l ++ cond (ltb n (length l)) [] (runFrom (used + length (messageOctets k (take n l))) 0 m)
+unfolding runFrom
+run-all k used m after l own = ap (λ (i : ℕ). take i (l ++ m)) (fitting-types used k l m own after) ∙ go (ltb n (length l)) refl
+  where
+    n : ℕ
+    n = fitting used l
 
-  -- what is taken of declarations l of type k, of which n fit, and then of m
-  goes-on : (l : List Declaration) → All (OfAttribute k) l → 0 < length l → (n : ℕ) → n ≤ length l
-      → take (then k m (used + 6) n (length l)) (l ++ m)
-      ≡ take n l ++ cond (ltb n (length l)) [] (runFrom (used + length (messageOctets k (take n l))) 0 m)
-  unfolding runFrom
-  goes-on l a some n h = go (ltb n (length l)) refl
-    where
-      f : ℕ
-      f = fitting (used + 6 + n * vectorSize k) (message k) m
-
-      used′ : ℕ
-      used′ = used + length (messageOctets k (take n l))
-
-      go : (t : Bool) → ltb n (length l) ≡ t
-          → take (n + cond t 0 f) (l ++ m) ≡ take n l ++ cond t [] (take (fitting used′ noMessage m) m)
-      go true e = rw (add-zero n, append-nil (take n l), take-append-le n l m h)
-      go false e =
-          let same : n ≡ length l = omega (arith, ltb-false n (length l) e) in
-          let all : take n l ≡ l = take-all n l (omega arith) in
-          let size : used′ ≡ used + 6 + n * vectorSize k = rw (all, message-size l a some, same) (omega arith) in
-          rw (size, all, ← fitting-after (used + 6 + n * vectorSize k) k m after)
-          (ap (λ (i : ℕ). take (i + f) (l ++ m)) same ∙ take-append-add l m f)
-
-  run-all : (l : List Declaration) → All (OfAttribute k) l
-      → let n = fits (used + 6) (vectorSize k) (length l) in
-      runFrom used 0 (l ++ m) ≡ take n l ++ cond (ltb n (length l)) [] (runFrom (used + length (messageOctets k (take n l))) 0 m)
-  unfolding runFrom
-  run-all [] a =
-      let e : used + length (messageOctets k []) ≡ used = unfold messageOctets in (add-zero used) in
-      rw (fits-none (used + 6) (vectorSize k), e)
-  run-all (d ∷ l) a =
-      let n = fits (used + 6) (vectorSize k) (suc (length l)) in
-      let e : fitting (used + 6) (message (attributeOf d)) (d ∷ (l ++ m)) ≡ then k m (used + 6) n (suc (length l)) = rw (a .0) (fitting-all k m (used + 6) (d ∷ l) a) in
-      ap (λ (i : ℕ). take i (d ∷ (l ++ m))) (fitting-opens used d (l ++ m) ∙ e)
-      ∙ goes-on (d ∷ l) a (omega arith) n (fits-within (used + 6) (vectorSize k) (suc (length l)))
+    go : (t : Bool) → ltb n (length l) ≡ t
+        → take (cond t n (length l + fitting (used + messageSize k l) m)) (l ++ m)
+        ≡ take n l ++ cond t [] (take (fitting (used + length (messageOctets k (take n l))) m) m)
+    go true e = rw (append-nil (take n l)) (take-append-le n l m (fitting-within used l))
+    go false e =
+        let all : take n l ≡ l = take-all n l (ltb-false n (length l) e) in
+        rw (all, length-message k l own) (take-append-add l m (fitting (used + messageSize k l) m))
 
 -- The passes.
 
@@ -202,7 +183,7 @@ remaining s l = cond (s .full) [] (runFrom (s .at + 2) (s .skip) l)
 
 module _ (k : Attribute) (l m : List Declaration) (own : All (OfAttribute k) l) (after : All (After k) m) where
   run-skip : (used skip : ℕ)
-      → let n = fits (used + 6) (vectorSize k) (length (drop skip l)) in
+      → let n = fitting used (drop skip l) in
       runFrom used skip (l ++ m)
       ≡ take n (drop skip l) ++ cond (ltb n (length (drop skip l))) [] (runFrom (used + length (messageOctets k (take n (drop skip l)))) (skip - length l) m)
   unfolding runFrom
@@ -215,7 +196,7 @@ module _ (k : Attribute) (l m : List Declaration) (own : All (OfAttribute k) l) 
   pass-takes s = filled-or-not s (λ e. rw e) (λ e. rw e more)
     where
       n : ℕ
-      n = fits (s .at + 8) (vectorSize k) (length l - s .skip)
+      n = fitting (s .at + 2) (drop (s .skip) l)
 
       r : List Declaration
       r = drop (s .skip) l
@@ -223,18 +204,17 @@ module _ (k : Attribute) (l m : List Declaration) (own : All (OfAttribute k) l) 
       more : runFrom (s .at + 2) (s .skip) (l ++ m)
           ≡ take n r ++ cond (ltb (length (take n r)) (length l - s .skip)) [] (runFrom (s .at + length (messageOctets k (take n r)) + 2) (s .skip - length l) m)
       more =
-          let e : s .at + 2 + 6 ≡ s .at + 8 = omega arith in
           let d : length r ≡ length l - s .skip = length-drop (s .skip) l in
           let u : s .at + 2 + length (messageOctets k (take n r)) ≡ s .at + length (messageOctets k (take n r)) + 2 = omega arith in
-          let f : length (take n r) ≡ n = length-take-le n r (rw d (fits-within (s .at + 8) (vectorSize k) (length l - s .skip))) in
-          (rw (e, d, u) at (run-skip (s .at + 2) (s .skip))) ∙ rw f
+          let f : length (take n r) ≡ n = length-take-le n r (fitting-within (s .at + 2) r) in
+          (rw (d, u) at (run-skip (s .at + 2) (s .skip))) ∙ rw f
 
 -- what a pass took is of its type, and the octets and the place go on by it
 module _ (k : Attribute) (l : List Declaration) where
   pub taken-attribute : All (OfAttribute k) l → (s : Progress) → All (OfAttribute k) (taken k l s)
   unfolding taken
   taken-attribute own s =
-      let n = fits (s .at + 8) (vectorSize k) (length l - s .skip) in
+      let n = fitting (s .at + 2) (drop (s .skip) l) in
       filled-or-not s (λ e. rw e tt) (λ e. rw e (all-take (OfAttribute k) n (drop (s .skip) l) (all-drop (OfAttribute k) (s .skip) l own)))
 
   pub passed-at : (s : Progress) → passed k l s .at ≡ s .at + length (messageOctets k (taken k l s))
@@ -247,7 +227,7 @@ module _ (k : Attribute) (l : List Declaration) where
 
 none-remaining : (s : Progress) → remaining s [] ≡ []
 unfolding remaining runFrom
-none-remaining s = filled-or-not s (λ e. rw e) (λ e. rw (e, drop-nil (s .skip)) (take-nil (fitting (s .at + 2) noMessage [])))
+none-remaining s = filled-or-not s (λ e. rw e) (λ e. rw (e, drop-nil (s .skip)) (take-nil (fitting (s .at + 2) [])))
 
 -- Passes of types one after the other: of those of each, what they take, and how far the PDU then is.
 module _ (of : Attribute → List Declaration) (own : (k : Attribute) → All (OfAttribute k) (of k)) where
@@ -281,11 +261,6 @@ module _ (of : Attribute → List Declaration) (own : (k : Attribute) → All (O
       pass-takes k (of k) (each ks) (own k) (each-after k ks (o .0)) s
       ∙ ap (λ (m : List Declaration). taken k (of k) s ++ m) (passes-take ks (o .1) (passed k (of k) s))
 
-message-of-some : (k : Attribute) (n : ℕ) → (n ≡ 0 → ⊥) → messageSize k n ≡ 6 + n * vectorSize k
-unfolding messageSize
-message-of-some k zero h = absurd (h refl)
-message-of-some k (suc n) h = refl
-
 -- What a pass does to how far the PDU is, r, and to the buffer.
 module _ (k : Attribute) (l : List Declaration) (s : Progress) (b : List ℕ) where
   abbrev Does : Progress → List ℕ → Type 0
@@ -296,51 +271,53 @@ module _ (k : Attribute) (l : List Declaration) (s : Progress) (b : List ℕ) wh
   unfolding passed written taken messageOctets
   pass-full e = (rw e, rw e (sym (patch-none (s .at) b)))
 
-  -- else it takes so many as fit
-  module _ (own : All (OfAttribute k) l) (unfilled : s .full ≡ false) (n : ℕ) (e : n ≡ fits (s .at + 8) (vectorSize k) (length l - s .skip)) where
+  -- else it takes so many as fit, and their Message is so long
+  module _ (unfilled : s .full ≡ false) (n : ℕ) (e : n ≡ fitting (s .at + 2) (drop (s .skip) l)) where
+    abbrev said : List ℕ
+    said = messageOctets k (take n (drop (s .skip) l))
+
     taken-is : taken k l s ≡ take n (drop (s .skip) l)
     unfolding taken
     taken-is = rw (unfilled, ← e)
 
     taken-length : length (take n (drop (s .skip) l)) ≡ n
-    taken-length = length-take-le n (drop (s .skip) l) (rw (e, length-drop (s .skip) l) (fits-within (s .at + 8) (vectorSize k) (length l - s .skip)))
+    taken-length = length-take-le n (drop (s .skip) l) (rw e (fitting-within (s .at + 2) (drop (s .skip) l)))
 
-    message-length : length (messageOctets k (take n (drop (s .skip) l))) ≡ messageSize k n
-    message-length =
-        length-message k (take n (drop (s .skip) l)) (all-take (OfAttribute k) n (drop (s .skip) l) (all-drop (OfAttribute k) (s .skip) l own)) ∙ ap (messageSize k) taken-length
-
-    does : Does record { at = s .at + messageSize k n; skip = s .skip - length l; next = s .next + n; full = ltb n (length l - s .skip) }
-        (patch (s .at) (messageSize k n) (messageOctets k (take n (drop (s .skip) l))) b)
+    does : (long : ℕ) → length said ≡ long
+        → Does record { at = s .at + long; skip = s .skip - length l; next = s .next + n; full = ltb n (length l - s .skip) } (patch (s .at) long said b)
     unfolding passed written
-    does = (rw (taken-is, taken-length, message-length, unfilled), rw (taken-is, message-length))
+    does long q = (rw (taken-is, taken-length, q, unfilled), rw (taken-is, q))
 
-  module _ (own : All (OfAttribute k) l) (unfilled : s .full ≡ false) where
-    -- all are passed over
-    pub pass-over : (found : ℕ) → found ≡ length l → found ≤ s .skip → Does record { at = s .at; skip = s .skip - found; next = s .next; full = false } b
-    unfolding messageSize messageOctets
-    pass-over found d h =
-        let none : length l - s .skip ≡ 0 = omega arith in
-        let e : 0 ≡ fits (s .at + 8) (vectorSize k) (length l - s .skip) = rw none (sym (fits-none (s .at + 8) (vectorSize k))) in
-        rw (none, ← d, add-zero (s .at), add-zero (s .next), patch-none (s .at) b) at (does own unfilled 0 e)
+    module _ (none : n ≡ 0) where
+      no-octets : length said ≡ 0
+      no-octets = rw none (unfold messageOctets in refl)
 
-    module _ (n size left : ℕ) (z : size ≡ vectorSize k) (d : s .skip + left ≡ length l) (f : n ≡ fits (s .at + 8) size left) where
+      does-nothing : Does record { at = s .at; skip = s .skip - length l; next = s .next; full = ltb 0 (length l - s .skip) } b
+      does-nothing =
+          let w = does 0 no-octets in
+          let m : said ≡ [] = rw none (unfold messageOctets in refl) in
+          rw (m, none, add-zero (s .at), add-zero (s .next), patch-none (s .at) b) at w
+
+    module _ (left : ℕ) (d : s .skip + left ≡ length l) where
       over : s .skip - length l ≡ 0
       over = omega arith
 
       rest : length l - s .skip ≡ left
       rest = omega arith
 
-      number : n ≡ fits (s .at + 8) (vectorSize k) (length l - s .skip)
-      number = rw rest (rw z at f)
-
       -- there are some, and the first does not fit
       pub pass-closes : 0 < left → n ≡ 0 → Does record { at = s .at; skip = 0; next = s .next; full = true } b
-      unfolding messageSize messageOctets
-      pass-closes some q =
-          rw (over, rest, add-zero (s .at), add-zero (s .next), lt-ltb 0 left some, patch-none (s .at) b) at (does own unfilled 0 (sym q ∙ number))
+      pass-closes some q = rw (over, rest, lt-ltb 0 left some) at (does-nothing q)
 
       -- some are taken
-      pub pass-takes-some : (n ≡ 0 → ⊥)
-          → Does record { at = s .at + (6 + n * size); skip = 0; next = s .next + n; full = ltb n left }
-          (patch (s .at) (6 + n * size) (messageOctets k (take n (drop (s .skip) l))) b)
-      pass-takes-some q = rw (over, rest, message-of-some k n q, ← z) at (does own unfilled n number)
+      pub pass-takes-some : (long : ℕ) → length said ≡ long
+          → Does record { at = s .at + long; skip = 0; next = s .next + n; full = ltb n left } (patch (s .at) long said b)
+      pass-takes-some long q = rw (over, rest) at (does long q)
+
+  -- all are passed over
+  pub pass-over : s .full ≡ false → (found : ℕ) → found ≡ length l → found ≤ s .skip
+      → Does record { at = s .at; skip = s .skip - found; next = s .next; full = false } b
+  pass-over unfilled found d h =
+      let none : length l - s .skip ≡ 0 = omega arith in
+      let e : 0 ≡ fitting (s .at + 2) (drop (s .skip) l) = omega (arith, fitting-within (s .at + 2) (drop (s .skip) l), length-drop (s .skip) l) in
+      rw (none, ← d) at (does-nothing unfilled 0 e refl)

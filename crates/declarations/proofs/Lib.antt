@@ -3,3 +3,6 @@ pub mod Vectors
 pub mod Walk
 pub mod Fitting
 pub mod Written
+pub mod Packed
+pub mod Packing
+pub mod Listeners

@@ -9,23 +9,17 @@ use lib.ListN.{getD, take}
 use Rattle.octets.specs.Parts.{part}
 use Rattle.octets.specs.Fields.{packed, width, flat}
 use Rattle.octets.proofs.Fields.{packed-append, part-run}
-use Rattle.model.specs.Layout.{sum, before, declaredPlace, fixedWidths, latencyOutPlace, resultWidths, varyingWidths}
+use Rattle.model.specs.Layout.{sum, before, fixedWidths, latencyOutPlace, resultWidths, varyingWidths}
 use Rattle.model.specs.Lists.{keep, bit}
-use Rattle.model.specs.State.{Health, sound, broken, Column, none, advertise, failed, Declared, nothing, tells, Result, Stream, Port, Settings, resultAt, Class, supports, classId}
-use Rattle.model.specs.Registrations.{advertises, faileds, listeners}
+use Rattle.model.specs.State.{Health, sound, broken, Column, none, advertise, failed, Result, Stream, Port, Settings, resultAt, Class, supports, classId}
+use Rattle.model.specs.Registrations.{advertises, faileds}
 use Rattle.model.specs.Frames.{registers, firstWidths}
 use Rattle.model.specs.WrittenFrames.{fixedNumbers, failureNumbers, firstNumbers, fourOctets, declarationVector, vectorOctets}
-use Rattle.model.specs.Declarations.{talkerDeclaration, healthKind, attributeOf, advertised, failing, listening, declarationsOf, domainOf}
-use Rattle.model.specs.Table.{columnBridge, columnCode, declaredNumber, resultNumbers, resultOctets}
-use Rattle.model.proofs.Results.{declared-few}
+use Rattle.model.specs.Declarations.{talkerDeclaration, healthKind, attributeOf, advertised, failing, declarationsOf, domainOf}
+use Rattle.model.specs.Table.{columnBridge, columnCode, resultNumbers, resultOctets}
 use Rattle.table.specs.Reads.{fixedOctets, ReadsResult}
-use Rattle.table.proofs.ReadOctets.{declared-octet}
-use Rattle.declarations.specs.Vectors.{some, headed, talkerBegun, talkerVector, listenerVector, domainVector}
+use Rattle.declarations.specs.Vectors.{some, headed, talkerBegun, talkerVector, domainVector}
 use Rattle.declarations.specs.Passes.{declares, classAt, declaresClass, vectors}
-
--- 1, 2 or 3, or 0 where none is declared
-pub declared-small : {s : List ℕ} {r : Result} → ReadsResult s r → getD s declaredPlace 0 ≤ 3
-declared-small {r = r} w = rw (declared-octet w) (declared-few (r .declares))
 
 -- the fields of a result from latency on: the latency, or Bridge ID and code with it
 result-fields : (r : Result) (k : ℕ) → 1 + k ≤ 7
@@ -55,12 +49,6 @@ failing-octets x r none q = cc
 failing-octets x r advertise q = cc
 failing-octets x r (failed b c) q = append-nil _ ∙ talker-vector x (broken b c) (r .latency) varyingWidths refl
 
-listening-octets : (x : Stream) (d : Declared) → some (listening x d) ≡ true
-    → vectors (listening x d) ≡ (headed (x .id) ++ (108 ∷ [])) ++ (declaredNumber d * 64 ∷ [])
-unfolding some vectors flat listening vectorOctets declarationVector firstNumbers fourOctets attributeOf firstWidths packed bit declaredNumber headed
-listening-octets x nothing q = cc
-listening-octets x (tells r) q = simp (append-assoc, append-nil)
-
 -- What is written is the vector of what is declared.
 module _ (p : ℕ) (x : Stream) where
   pub advertise-vector : some (declares advertises p x) ≡ true → talkerVector (before 1 varyingWidths) p x ≡ vectors (declares advertises p x)
@@ -74,10 +62,6 @@ module _ (p : ℕ) (x : Stream) where
   failed-vector q =
       let r = resultAt x p in
       rw (result-fields r 3 (omega arith)) (sym (failing-octets x r (r .column) q))
-
-  pub listener-vector : some (declares listeners p x) ≡ true → listenerVector p x ≡ vectors (declares listeners p x)
-  unfolding declares declarationsOf listenerVector
-  listener-vector q = sym (listening-octets x (resultAt x p .declares) q)
 
 -- Class ID, priority and VLAN of a class.
 

@@ -21,7 +21,7 @@ use Rattle.declarations.specs.Vectors.{some}
 use Rattle.declarations.specs.Passes.{declarers, vectors}
 use Rattle.declarations.proofs.Declared.{here, from, none-left, none-here, one-counted, one-passed, one-taken}
 
-vectors-append : (l m : List Declaration) → vectors (l ++ m) ≡ vectors l ++ vectors m
+pub vectors-append : (l m : List Declaration) → vectors (l ++ m) ≡ vectors l ++ vectors m
 unfolding vectors
 vectors-append l m = flat-append (λ d. vectorOctets (declarationVector d)) l m
 

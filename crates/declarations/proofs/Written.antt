@@ -4,23 +4,25 @@ use Prim.Native.Nat.{ℕ, _+_, _-_, _%_, _≤_, _<_}
 use native.Mathlib.Omega.{arith}
 use mathlib.Core.Path.{_≡_, refl, sym, ap, _∙_}
 use mathlib.Core.Bool.{Bool, true, false, cond}
-use mathlib.Core.List.{List, [], _∷_, _++_, append-nil, append-assoc}
-use lib.ListN.{length, set, take, drop, length-append, drop-of-length-le}
+use mathlib.Core.List.{List, [], _∷_, _++_, map, append-nil, append-assoc}
+use lib.ListN.{length, set, take, drop, length-append, take-append-drop, drop-of-length-le}
 use lib.Seq.{take-at, drop-at, drop-drop, length-take-le}
-use Rattle.octets.specs.Parts.{patch}
+use Rattle.octets.specs.Parts.{part, patch}
+use Rattle.octets.specs.Fields.{flat}
 use Rattle.octets.specs.Be.{be}
+use Rattle.octets.proofs.Parts.{length-part, length-patch}
 use Rattle.octets.proofs.Patches.{lent-patch}
 use Rattle.octets.proofs.Be.{length-be, be-zero}
 use Rattle.model.specs.Lists.{All, keep}
 use Rattle.model.specs.State.{Bridge, portAt}
 use Rattle.model.specs.Registrations.{advertises, faileds, listeners}
 use Rattle.model.specs.Frames.{Attribute, registers, domain, typeNumber, firstLength}
-use Rattle.model.specs.Declarations.{Declaration, attributeOf, sameAttribute, domainValues, declarations, takes}
-use Rattle.model.specs.WrittenFrames.{messageOf, having, messageOctets, pduOctets}
-use Rattle.model.proofs.WritingPasses.{inTurn, OfAttribute, ofKind-attribute, domains-attribute, takes-within}
+use Rattle.model.specs.Declarations.{Declaration, attributeOf, sameAttribute, having, domainValues, declarations, takes}
+use Rattle.model.specs.WrittenFrames.{declarationVector, vectorsOf, vectorOctets, messageOf, messageOctets, pduOctets}
+use Rattle.model.proofs.WritingPasses.{inTurn, OfAttribute, ofKind-attribute, domains-attribute, having-append, takes-within}
 use Rattle.declarations.specs.declared.Progress.{Progress}
 use Rattle.declarations.specs.Vectors.{Holding}
-use Rattle.declarations.specs.Passes.{allOf, vectors, taken, passed, written, begun, PassLeaves, PduWritten}
+use Rattle.declarations.specs.Passes.{allOf, vectors, Single, taken, passed, written, begun, PassLeaves, PduWritten}
 use Rattle.declarations.proofs.Fitting.{runFrom, remaining, taken-attribute, passed-at, passed-next, each, takenAll, passes-take}
 
 -- Octets written behind others.
@@ -46,6 +48,17 @@ module _ {w b now : List ℕ} {at : ℕ} (h : Holding w at b now) where
   pub holding-lent : (n : ℕ) {y z : List ℕ} → z ≡ y → length y ≡ n → Holding (w ++ y) (at + n) b (take at now ++ (z ++ drop (at + n - at) (drop at now)))
   holding-lent n {y = y} e q = rw (e, lent-patch at n y now) (holding-more y n q)
 
+  -- octets that stay as they are
+  pub holding-kept : (n : ℕ) → at + n ≤ length b → Holding (w ++ part at n b) (at + n) b now
+  unfolding part
+  holding-kept n m = record {
+    long = length-append w (part at n b) ∙ omega (arith, h .long, length-part at n b m);
+    is =
+        h .is
+        ∙ ap (λ (z : List ℕ). w ++ z) (sym (take-append-drop n (drop at b)) ∙ ap (λ (z : List ℕ). take n (drop at b) ++ z) (drop-drop n at b))
+        ∙ sym (append-assoc w (take n (drop at b)) (drop (at + n) b));
+  }
+
   -- to the end
   pub holding-all : length b ≤ at → now ≡ w
   holding-all m = h .is ∙ rw (drop-of-length-le b {i = at} m) (append-nil w)
@@ -55,26 +68,48 @@ pub be-one : (x : ℕ) → x < 256 → be 1 x ≡ x ∷ []
 unfolding be
 be-one x h = let e : x % 256 ≡ x = omega arith in rw e
 
--- the parts of a Message
-pub message-is : (k : Attribute) (run : List Declaration) (h n : ℕ) → 0 < length run → be 2 h ≡ typeNumber k ∷ firstLength k ∷ []
-    → length (vectors run) ≡ n → ((be 2 h ++ be 2 (n + 2)) ++ vectors run) ++ be 2 0 ≡ messageOctets k run
-unfolding messageOctets messageOf vectors
-message-is k [] h n some e l = absurd (omega arith)
-message-is k (d ∷ run) h n some e l =
-    let v = vectors (d ∷ run) in
+-- the parts of a Message around vectors v
+pub message-is : (k : Attribute) (v : List ℕ) (h n : ℕ) → be 2 h ≡ typeNumber k ∷ firstLength k ∷ [] → length v ≡ n
+    → ((be 2 h ++ be 2 (n + 2)) ++ v) ++ be 2 0 ≡ messageOf k (v ++ (0 ∷ 0 ∷ []))
+unfolding messageOf
+message-is k v h n e l =
     let long : length (v ++ (0 ∷ 0 ∷ [])) ≡ n + 2 = length-append v (0 ∷ 0 ∷ []) ∙ omega arith in
     append-assoc (be 2 h ++ be 2 (n + 2)) v (be 2 0) ∙ append-assoc (be 2 h) (be 2 (n + 2)) (v ++ be 2 0) ∙ rw (e, be-zero 2, long)
 
--- The Messages of a PDU, type by type.
+-- and around those of a run
+pub message-around : (k : Attribute) (run : List Declaration) (v : List ℕ) → 0 < length run → v ≡ flat vectorOctets (vectorsOf k run)
+    → messageOf k (v ++ (0 ∷ 0 ∷ [])) ≡ messageOctets k run
+unfolding messageOctets
+message-around k [] v some e = absurd (omega arith)
+message-around k (d ∷ run) v some e = rw e
 
-having-append : (k : Attribute) (l m : List Declaration) → having k (l ++ m) ≡ having k l ++ having k m
-unfolding having
-having-append k [] m = refl
-having-append k (d ∷ l) m = go (sameAttribute (attributeOf d) k) (having-append k l m)
-  where
-    go : (t : Bool) → having k (l ++ m) ≡ having k l ++ having k m → keep t d (having k (l ++ m)) ≡ keep t d (having k l) ++ having k m
-    go true e = ap (λ (r : List Declaration). d ∷ r) e
-    go false e = e
+-- vectors written where they stand in the Message
+pub lent-vectors : (k : Attribute) (run : List Declaration) (n : ℕ) (y out : List ℕ) → length y ≡ n → 4 + n + 2 ≡ length out → 0 < length run
+    → y ≡ flat vectorOctets (vectorsOf k run)
+    → let now = take 4 out ++ (y ++ drop (4 + n - 4) (drop 4 out)) in
+    messageOf k (part 4 (length now - 6) now ++ (0 ∷ 0 ∷ [])) ≡ messageOctets k run
+unfolding part
+lent-vectors k run n y out l m some e =
+    let h : 4 + n ≤ length out = omega arith in
+    let rest = drop (4 + n - 4) (drop 4 out) in
+    let front : length (take 4 out) ≡ 4 = length-take-le 4 out (omega arith) in
+    let i : length (take 4 out ++ (y ++ rest)) - 6 ≡ n = omega (arith, ap length (lent-patch 4 n y out), length-patch 4 n y out l h) in
+    rw (i, drop-at (take 4 out) (y ++ rest) 4 front, take-at y rest n l) (message-around k run y some e)
+
+-- one vector each
+vectors-each : (l : List Declaration) → flat (λ d. vectorOctets (declarationVector d)) l ≡ flat vectorOctets (map declarationVector l)
+unfolding flat
+vectors-each [] = refl
+vectors-each (d ∷ l) = ap (λ (v : List ℕ). vectorOctets (declarationVector d) ++ v) (vectors-each l)
+
+pub singles-vectors : (k : Attribute) → Single k → (run : List Declaration) → vectors run ≡ flat vectorOctets (vectorsOf k run)
+unfolding vectors vectorsOf
+singles-vectors (registers advertises) s run = vectors-each run
+singles-vectors (registers faileds) s run = vectors-each run
+singles-vectors (registers listeners) s run = absurd s
+singles-vectors domain s run = vectors-each run
+
+-- The Messages of a PDU, type by type.
 
 -- of declarations of one type, all or none are of a type
 having-all : (j k : Attribute) (t : Bool) → sameAttribute j k ≡ t → (l : List Declaration) → All (OfAttribute j) l → having k l ≡ cond t l []

@@ -13,7 +13,7 @@ use Rattle.model.specs.State.{Port, Settings, Stream, Bridge, portAt, resultAt,
 use Rattle.model.specs.Registrations.{Kind, advertises, faileds, listeners}
 use Rattle.model.specs.Frames as frames
 use Rattle.model.specs.Frames.{registers, domain}
-use Rattle.model.specs.Declarations.{Declaration, declarationsOf, ofKind, domainOf, domainValues, vectorSize, takes}
+use Rattle.model.specs.Declarations.{Declaration, declarationsOf, ofKind, domainOf, domainValues, vectorSize, fitting, takes}
 use Rattle.model.specs.WrittenFrames.{declarationVector, vectorOctets, messageOctets, pduOctets}
 use Rattle.model.specs.Table.{decode}
 use Rattle.model.specs.Laid.{Laid}
@@ -64,6 +64,13 @@ vectors l = flat (λ d. vectorOctets (declarationVector d)) l
 abbrev pub found : Attribute → ℕ → List ℕ → List Declaration
 found a p t = allOf (type a) p (decode t)
 
+-- "Talkers and Domains stay one per vector" (02)
+abbrev pub Single : frames.Attribute → Type 0
+Single (registers advertises) = Unit {0}
+Single (registers faileds) = Unit {0}
+Single (registers listeners) = ⊥
+Single domain = Unit {0}
+
 -- a declarer of a type stands at place k
 pub record Declarer (t : List ℕ) (k p : ℕ) (j : frames.Attribute) : Type 0 where
   pub laid : Laid t
@@ -75,11 +82,13 @@ pub record VectorIn (t : List ℕ) (k p : ℕ) (j : frames.Attribute) (out : Lis
   pub places : Declarer t k p j
   pub one : some (declaredBy j p (decode t) k) ≡ true
   pub room : length out ≡ vectorSize j
+  pub single : Single j
 
 -- a run is not empty, and there are so many declarations
 pub record RunIn (t : List ℕ) (p : ℕ) (r : Run) : Type 0 where
   pub port : PortIn t p
   pub any : 0 < r .count
+  pub single : Single (type (r .attribute))
   pub enough : r .skip + r .count ≤ length (found (r .attribute) p t)
 
 abbrev pub runOf : List ℕ → ℕ → Run → List Declaration
@@ -89,9 +98,9 @@ runOf t p r = take (r .count) (drop (r .skip) (found (r .attribute) p t))
 unfoldable pub fits : ℕ → ℕ → ℕ → ℕ
 fits used size left = cond (ltb longestPdu used) 0 (cond (ltb ((longestPdu - used) / size) left) ((longestPdu - used) / size) left)
 
--- what the pass of a type takes of that type's declarations; an open Message and the EndMarks are 8 octets
+-- what the pass of a type takes of that type's declarations; the EndMark is two octets
 unfoldable pub taken : frames.Attribute → List Declaration → Progress → List Declaration
-taken k l s = cond (s .full) [] (take (fits (s .at + 8) (vectorSize k) (length l - s .skip)) (drop (s .skip) l))
+taken k l s = cond (s .full) [] (take (fitting (s .at + 2) (drop (s .skip) l)) (drop (s .skip) l))
 
 -- and how far the PDU then is; the first declaration that does not fit ends it
 unfoldable pub passed : frames.Attribute → List Declaration → Progress → Progress

@@ -9,7 +9,7 @@ use Rattle.octets.specs.Parts.{part}
 use Rattle.model.specs.Layout.{latencyOutPlace, resultSize}
 use Rattle.model.specs.FrameLayout.{firstLatency}
 use Rattle.model.specs.State.{Settings, Stream, resultAt, Class, classPriority, classId}
-use Rattle.model.specs.Table.{declaredNumber, resultOctets}
+use Rattle.model.specs.Table.{resultOctets}
 use Rattle.table.specs.Places.{StandsOn}
 use Rattle.table.specs.Reads.{fixedOctets}
 
@@ -22,21 +22,17 @@ pub record Holding (w : List ℕ) (at : ℕ) (before after : List ℕ) : Type 0 
   pub long : length w ≡ at
   pub is : after ≡ w ++ drop at before
 
--- header of one value and no LeaveAll, and StreamID
-unfoldable pub headed : ℕ → List ℕ
-headed id = be 2 1 ++ be 8 id
+-- header of so many values and no LeaveAll, and StreamID
+unfoldable pub headed : ℕ → ℕ → List ℕ
+headed n id = be 2 n ++ be 8 id
 
 -- and settled values
 unfoldable pub talkerBegun : Stream → List ℕ
-talkerBegun x = headed (x .id) ++ fixedOctets (x .settled)
+talkerBegun x = headed 1 (x .id) ++ fixedOctets (x .settled)
 
 -- so many octets of the result on port p, from latency on, and JoinMt
 unfoldable pub talkerVector : ℕ → ℕ → Stream → List ℕ
 talkerVector more p x = (talkerBegun x ++ part latencyOutPlace more (resultOctets (resultAt x p))) ++ (108 ∷ [])
-
--- JoinMt, and the declaration type as the first of four packed events
-unfoldable pub listenerVector : ℕ → Stream → List ℕ
-listenerVector p x = (headed (x .id) ++ (108 ∷ [])) ++ (declaredNumber (resultAt x p .declares) * 64 ∷ [])
 
 -- a class's ID, priority and the VLAN of the settings behind the header, and JoinMt
 unfoldable pub domainVector : Settings → Class → List ℕ

@@ -2,24 +2,28 @@
 // counted from 0.
 ghost use mathlib.Core.Path.{_≡_};
 ghost use mathlib.Core.Bool.{not};
-ghost use mathlib.Core.List.{[], _∷_};
-ghost use Prim.Native.Nat.{_+_, _*_, _≤_, _<_};
-ghost use lib.ListN.{length, drop};
+ghost use mathlib.Core.List.{[], _∷_, _++_};
+ghost use Prim.Native.Nat.{_+_, _-_, _*_, _≤_, _<_};
+ghost use lib.ListN.{length, getD, drop};
 ghost use lib.Dec.{eqb};
 ghost use Rattle.octets.specs.Be.{be};
-ghost use Rattle.model.specs.FrameLayout.{domainLength, firstDestination, firstLatency, listenerLength};
+ghost use Rattle.octets.specs.Parts.{part};
+ghost use Rattle.model.specs.FrameLayout.{domainLength, firstDestination, firstLatency};
 ghost use Rattle.model.specs.State as state;
 ghost use Rattle.model.specs.State.{portAt, resultAt, streamAt, classPriority};
-ghost use Rattle.model.specs.Frames.{typeNumber, firstLength};
+ghost use Rattle.model.specs.Registrations.{listeners};
+ghost use Rattle.model.specs.Frames.{typeNumber, firstLength, registers};
 ghost use Rattle.model.specs.Declarations as model;
 ghost use Rattle.model.specs.Declarations.{vectorSize};
-ghost use Rattle.model.specs.WrittenFrames.{messageOctets};
+ghost use Rattle.model.specs.WrittenFrames.{listenerNumber, packedVector, vectorOctets, messageOf, messageOctets};
 ghost use Rattle.model.specs.Laid.{Laid};
 ghost use Rattle.model.specs.Table.{columnNumber, declaredNumber, decode};
 ghost use Rattle.table.specs.Places.{Stands, StandsOn, PortIn};
-ghost use Rattle.declarations.specs.Vectors.{some, Holding, headed, talkerBegun, talkerVector, listenerVector, domainVector, TalkerIn};
+ghost use Rattle.declarations.specs.Vectors.{some, Holding, headed, talkerBegun, talkerVector, domainVector, TalkerIn};
+ghost use Rattle.declarations.specs.declared.Attribute.the-variants.{Listener};
 ghost use Rattle.declarations.specs.Passes as passes;
-ghost use Rattle.declarations.specs.Passes.{type, classAt, declaredBy, vectors, found, Declarer, VectorIn, RunIn, runOf, PassIn, OpenIn, PassLeaves, WriteIn, PduWritten};
+ghost use Rattle.declarations.specs.Passes.{type, classAt, declaredBy, vectors, found, Single, Declarer, VectorIn, RunIn, runOf, PassIn, OpenIn, PassLeaves, WriteIn, PduWritten};
+ghost use Rattle.declarations.specs.Packed.{listenerAt, listenersAt, Telling, PlacesIn, Placed, threeUnit, fourUnit, eventsOf, ValuesIn, VectorOfPart, packedVectors, CutIn, PackedIn};
 use model::pdu;
 
 // The octets of an EndMark; of a Message's AttributeType, AttributeLength and list length; of all that a Message has beside its
@@ -74,6 +78,9 @@ const FAILED_VECTOR: usize = FIRST + FAILED_LENGTH + EVENTS;
 const LISTENER_VECTOR: usize = FIRST + LISTENER_LENGTH + 2 * EVENTS;
 
 const DOMAIN_VECTOR: usize = FIRST + DOMAIN_LENGTH + EVENTS;
+
+// What an octet weighs in a plan of Listeners, beside 1 for each vector.
+const OCTET_WEIGHS: u16 = 65;
 
 // The event JoinMt as the first of three packed events.
 const JOIN_MT: u64 = 108;
@@ -197,12 +204,12 @@ pub fn count_declarations(table: &[u8], p: usize) -> usize
     advertise + failed + listener + domain
 }
 
-// The header of a vector, one value and no LeaveAll, and a StreamID.
-fn begin_vector(id: u64, out: &mut [u8])
+// The header of a vector, so many values and no LeaveAll, and a StreamID.
+fn begin_vector(values: u64, id: u64, out: &mut [u8])
     requires { ⌜ 2 + firstDestination ≤ length (now out) ⌝ }
-    ensures { λ _. ⌜ Holding (headed id) (2 + firstDestination) (now (out .entry)) (now (out .exit)) ⌝ }
+    ensures { λ _. ⌜ Holding (headed values id) (2 + firstDestination) (now (out .entry)) (now (out .exit)) ⌝ }
 {
-    octets::put(out, 0, FIRST, 1);
+    octets::put(out, 0, FIRST, values);
     octets::put(out, FIRST, 8, id);
 }
 
@@ -211,7 +218,7 @@ fn begin_talker(table: &[u8], k: usize, out: &mut [u8])
     requires { ⌜ Stands (now table) k × (2 + firstLatency ≤ length (now out)) ⌝ }
     ensures { λ _. ⌜ Holding (talkerBegun (streamAt k (decode (now (table .entry))))) (2 + firstLatency) (now (out .entry)) (now (out .exit)) ⌝ }
 {
-    begin_vector(table::id_at(table, k), out);
+    begin_vector(1, table::id_at(table, k), out);
     let settled = table::settled_at(table, k);
     octets::copy(settled, &mut out[SETTLED..SETTLED + table::FIXED]);
 }
@@ -226,18 +233,6 @@ fn write_talker(table: &[u8], k: usize, p: usize, more: usize, out: &mut [u8])
     let a = table::result::LATENCY;
     octets::copy(&result[a..a + more], &mut out[VARYING..VARYING + more]);
     octets::put(out, VARYING + more, EVENTS, JOIN_MT);
-}
-
-// The vector of a Listener: StreamID, and its declaration type as the first of four packed events.
-fn write_listener(table: &[u8], k: usize, p: usize, out: &mut [u8])
-    requires { ⌜ StandsOn (now table) k p × (length (now out) ≡ 2 + listenerLength + 1 + 1) ⌝ }
-    ensures { λ _. ⌜ now (out .exit) ≡ listenerVector p (streamAt k (decode (now (table .entry)))) ⌝ }
-{
-    begin_vector(table::id_at(table, k), out);
-    let result = table::result_at(table, k, p);
-    let declared = result[table::result::DECLARED];
-    octets::put(out, SETTLED, EVENTS, JOIN_MT);
-    octets::put(out, SETTLED + EVENTS, EVENTS, (declared as u64) * 64);
 }
 
 // The priority of class k.
@@ -268,7 +263,7 @@ fn write_domain(table: &[u8], k: usize, out: &mut [u8])
     octets::put(out, FIRST + DOMAIN_LENGTH, EVENTS, JOIN_MT);
 }
 
-// The vector of the declaration of a type that the declarer at place k has.
+// The vector of the declaration of a type that the declarer at place k has; Listeners are packed instead.
 fn write_vector(table: &[u8], k: usize, p: usize, attribute: Attribute, out: &mut [u8])
     requires { ⌜ VectorIn (now table) k p (type attribute) (now out) ⌝ }
     ensures { λ _. ⌜ now (out .exit) ≡ vectors (declaredBy (type attribute) p (decode (now (table .entry))) k) ⌝ }
@@ -276,7 +271,7 @@ fn write_vector(table: &[u8], k: usize, p: usize, attribute: Attribute, out: &mu
     match attribute {
         Attribute::Advertise => write_talker(table, k, p, LATENCY, out),
         Attribute::Failed => write_talker(table, k, p, LATENCY + FAILURE, out),
-        Attribute::Listener => write_listener(table, k, p, out),
+        Attribute::Listener => {}
         Attribute::Domain => write_domain(table, k, out),
     }
 }
@@ -315,17 +310,26 @@ fn write_vectors(table: &[u8], p: usize, run: Run, out: &mut [u8])
     }
 }
 
-// The Message of a run: header, vectors, and the list's EndMark.
+// The Message around vectors that stand in their place: header, and the list's EndMark.
+fn close_message(attribute: Attribute, out: &mut [u8])
+    requires { ⌜ 6 ≤ length (now out) ⌝ }
+    ensures { λ _. ⌜ now (out .exit) ≡ messageOf (type attribute) (part 4 (length (now (out .entry)) - 6) (now (out .entry)) ++ (0 ∷ 0 ∷ [])) ⌝ }
+{
+    let list = out.len() - AROUND;
+    octets::put(out, 0, 2, type_and_length(attribute));
+    octets::put(out, 2, 2, (list + END_MARK) as u64);
+    octets::put(out, HEADER + list, END_MARK, 0);
+}
+
+// The Message of a run.
 fn write_message(table: &[u8], p: usize, run: Run, out: &mut [u8])
     requires { ⌜ RunIn (now table) p run × (length (now out) ≡ 6 + run .count * vectorSize (type (run .attribute))) ⌝ }
     ensures { λ _. ⌜ now (out .exit) ≡ messageOctets (type (run .attribute)) (runOf (now (table .entry)) p run) ⌝ }
 {
     let attribute = run.attribute;
     let list = out.len() - AROUND;
-    octets::put(out, 0, 2, type_and_length(attribute));
-    octets::put(out, 2, 2, (list + END_MARK) as u64);
     write_vectors(table, p, run, &mut out[HEADER..HEADER + list]);
-    octets::put(out, HEADER + list, END_MARK, 0);
+    close_message(attribute, out);
 }
 
 // How many vectors of a size fit into a PDU, of those left, with so many octets used.
@@ -360,7 +364,7 @@ fn take_run(
     from: Progress,
     buffer: &mut [u8],
 ) -> Progress
-    requires { ⌜ OpenIn (now table) p attribute left from (now buffer) ⌝ }
+    requires { ⌜ OpenIn (now table) p attribute left from (now buffer) × Single (type attribute) ⌝ }
     ensures { λ r. ⌜ PassLeaves (type attribute) (found attribute p (now (table .entry))) from (now (buffer .entry)) r (now (buffer .exit)) ⌝ }
 {
     let at = from.at;
@@ -390,6 +394,180 @@ fn take_run(
     }
 }
 
+// The places of streams that declare a Listener on port p, after passing over some; as many as there is room for.
+fn gather(table: &[u8], p: usize, skip: usize, places: &mut [u8])
+    requires { ⌜ PlacesIn (now table) p skip (now places) ⌝ }
+    ensures { λ _. ⌜ Placed (now (table .entry)) p skip (now (places .exit)) ⌝ }
+{
+    let mut before = skip;
+    let mut n: usize = 0;
+    let mut k: usize = 0;
+    while n < places.len() {
+        let here = k;
+        k += 1;
+        if !declares(table, here, p, Attribute::Listener) {
+            continue;
+        }
+        if 0 < before {
+            before -= 1;
+            continue;
+        }
+        places[n] = here as u8;
+        n += 1;
+    }
+}
+
+// The declaration type of the Listener of the stream named at place i.
+fn listener_number(table: &[u8], p: usize, places: &[u8], i: usize) -> u8
+    requires { ⌜ Telling (now table) p (now places) × (i < length (now places)) ⌝ }
+    ensures { λ r. ⌜ (r ≡ listenerNumber (listenerAt p (decode (now (table .entry))) (getD (now (places .entry)) i 0))) × (1 ≤ r) × (r ≤ 3) ⌝ }
+{
+    let result = table::result_at(table, places[i] as usize, p);
+    result[table::result::DECLARED]
+}
+
+// The event JoinMt at position i of three packed events; a declaration type at position i of four packed ones.
+fn join_mt_at(i: usize) -> u8
+    requires { ⌜ i < 3 ⌝ }
+    ensures { λ r. ⌜ r ≡ 3 * threeUnit i ⌝ }
+{
+    if i == 0 {
+        return 108;
+    }
+    if i == 1 {
+        return 18;
+    }
+    3
+}
+
+fn type_at(number: u8, i: usize) -> u8
+    requires { ⌜ (number ≤ 3) × (i < 4) ⌝ }
+    ensures { λ r. ⌜ r ≡ number * fourUnit i ⌝ }
+{
+    if i == 0 {
+        return number * 64;
+    }
+    if i == 1 {
+        return number * 16;
+    }
+    if i == 2 {
+        return number * 4;
+    }
+    number
+}
+
+// The packed events of a part: JoinMt and declaration type of each Listener, at the position of its StreamID.
+fn write_values(table: &[u8], p: usize, places: &[u8], out: &mut [u8])
+    requires { ⌜ ValuesIn (now table) p (now places) (now out) ⌝ }
+    ensures { λ _. ⌜ now (out .exit) ≡ eventsOf (listenersAt p (now (table .entry)) (now (places .entry))) ⌝ }
+{
+    let first = cutting::id_of(table, places, 0);
+    let threes = ((cutting::values_of(table, places) + 2) / 3) as usize;
+    let all = out.len();
+    octets::clear(out, 0, all);
+    let mut i: usize = 0;
+    while i < places.len() {
+        let at = (cutting::id_of(table, places, i) - first) as usize;
+        let three = at / 3;
+        out[three] = out[three] + join_mt_at(at % 3);
+        let four = threes + at / 4;
+        let number = listener_number(table, p, places, i);
+        out[four] = out[four] + type_at(number, at % 4);
+        i += 1;
+    }
+}
+
+// The vector of a part.
+fn write_part(table: &[u8], p: usize, places: &[u8], out: &mut [u8])
+    requires { ⌜ VectorOfPart (now table) p (now places) (now out) ⌝ }
+    ensures { λ _. ⌜ now (out .exit) ≡ vectorOctets (packedVector (listenersAt p (now (table .entry)) (now (places .entry)))) ⌝ }
+{
+    let events = out.len() - SETTLED;
+    let values = cutting::values_of(table, places);
+    begin_vector(values, cutting::id_of(table, places, 0), out);
+    write_values(table, p, places, &mut out[SETTLED..SETTLED + events]);
+}
+
+// The vectors of Listeners, cut as planned.
+fn write_parts(table: &[u8], p: usize, places: &[u8], firsts: &[u8], out: &mut [u8])
+    requires { ⌜ CutIn (now table) p (now places) (now firsts) (length (now out)) ⌝ }
+    ensures { λ _. ⌜ now (out .exit) ≡ packedVectors (listenersAt p (now (table .entry)) (now (places .entry))) ⌝ }
+{
+    let mut i: usize = 0;
+    let mut at: usize = 0;
+    while i < places.len() {
+        let end = i + firsts[i] as usize;
+        let size = cutting::size_of(table, &places[i..end]);
+        write_part(table, p, &places[i..end], &mut out[at..at + size]);
+        at += size;
+        i = end;
+    }
+}
+
+// The Message of Listeners.
+fn write_listeners(table: &[u8], p: usize, places: &[u8], firsts: &[u8], out: &mut [u8])
+    requires { ⌜ CutIn (now table) p (now places) (now firsts) (length (now out) - 6) × (6 ≤ length (now out)) × (0 < length (now places)) ⌝ }
+    ensures { λ _. ⌜ now (out .exit) ≡ messageOctets (registers listeners) (listenersAt p (now (table .entry)) (now (places .entry))) ⌝ }
+{
+    let list = out.len() - AROUND;
+    write_parts(table, p, places, firsts, &mut out[HEADER..HEADER + list]);
+    close_message(Attribute::Listener, out);
+}
+
+// The Message of those that fit, of the Listeners of streams by their places.
+fn take_packed(table: &[u8], p: usize, places: &[u8], from: Progress, buffer: &mut [u8]) -> Progress
+    requires { ⌜ PackedIn (now table) p (now places) from (now buffer) ⌝ }
+    ensures { λ r. ⌜ PassLeaves (registers listeners) (found Listener p (now (table .entry))) from (now (buffer .entry)) r (now (buffer .exit)) ⌝ }
+{
+    let at = from.at;
+    let next = from.next;
+    let mut weighs = [0u16; 65];
+    let mut firsts = [0u8; 65];
+    let room = (pdu::LONGEST - (at + OPENED)) as u64;
+    let n = cutting::pack(table, places, room, &mut weighs, &mut firsts);
+    if n == 0 {
+        return Progress {
+            at,
+            skip: 0,
+            next,
+            full: true,
+        };
+    }
+    let long = AROUND + (weighs[0] / OCTET_WEIGHS) as usize;
+    write_listeners(table, p, &places[..n], &firsts, &mut buffer[at..at + long]);
+    Progress {
+        at: at + long,
+        skip: 0,
+        next: next + n,
+        full: n < places.len(),
+    }
+}
+
+// The same of those left after the ones to pass over, with room for 64 places.
+fn take_listeners(
+    table: &[u8],
+    p: usize,
+    left: usize,
+    from: Progress,
+    places: &mut [u8],
+    buffer: &mut [u8],
+) -> Progress
+    requires { ⌜ OpenIn (now table) p Listener left from (now buffer) × (length (now places) ≡ 64) ⌝ }
+    ensures { λ r. ⌜ PassLeaves (registers listeners) (found Listener p (now (table .entry))) from (now (buffer .entry)) r (now (buffer .exit)) ⌝ }
+{
+    let at = from.at;
+    if pdu::LONGEST < at + OPENED {
+        return Progress {
+            at,
+            skip: 0,
+            next: from.next,
+            full: true,
+        };
+    }
+    gather(table, p, from.skip, &mut places[..left]);
+    take_packed(table, p, &places[..left], from, buffer)
+}
+
 // The pass of a type.
 fn pass(table: &[u8], p: usize, attribute: Attribute, from: Progress, buffer: &mut [u8]) -> Progress
     requires { ⌜ PassIn (now table) p from (now buffer) ⌝ }
@@ -401,7 +579,22 @@ fn pass(table: &[u8], p: usize, attribute: Attribute, from: Progress, buffer: &m
     let found = count_of(table, p, attribute);
     let skip = from.skip;
     if skip < found {
-        return take_run(table, p, attribute, found - skip, from, buffer);
+        let left = found - skip;
+        match attribute {
+            Attribute::Advertise => {
+                return take_run(table, p, attribute, left, from, buffer);
+            }
+            Attribute::Failed => {
+                return take_run(table, p, attribute, left, from, buffer);
+            }
+            Attribute::Listener => {
+                let mut places = [0u8; 64];
+                return take_listeners(table, p, left, from, &mut places, buffer);
+            }
+            Attribute::Domain => {
+                return take_run(table, p, attribute, left, from, buffer);
+            }
+        }
     }
     Progress {
         at: from.at,

@@ -1,7 +1,7 @@
 -- What the walk reads is what is left to do: of a list from a place on, of a frame, and of the two walks over a frame. Assumes
 -- nothing.
 use Prim.Native.Nat.{ℕ, zero, suc, _+_, _*_, _-_, _/_, _%_, _≤_, _<_}
-use mathlib.Core.Path.{_≡_, refl, sym, ap, subst, _∙_}
+use mathlib.Core.Path.{_≡_, refl, sym, ap, _∙_}
 use mathlib.Core.List.{List, [], _∷_, _++_}
 use mathlib.Core.Bool.{Bool, true, false}
 use native.Mathlib.Omega.{arith}
@@ -10,8 +10,8 @@ use lib.ListN.{length, getD, take, drop}
 use borrow.Author.Tests.{le-leb, lt-leb, lt-ltb}
 use Rattle.octets.specs.Parts.{part}
 use Rattle.model.specs.Layout.{addresses}
-use Rattle.model.specs.State.{Address, Own}
-use Rattle.model.specs.Registrations.{AddressAct, leaveAddress, joinAddress, AddressReading, addressActs, doesAddresses, changeAddresses}
+use Rattle.model.specs.State.{Address}
+use Rattle.model.specs.Registrations.{AddressAct, leaveAddress, joinAddress, addressActs, doesAddresses, changeAddresses}
 use Rattle.model.specs.Table.{ownOctets, toOwn}
 use Rattle.model.specs.Laid.{LaidOwn}
 use Rattle.model.specs.Frames.{Asking, nothingAsked, join, withdraw, threeLength, event, threePacked, asking}
@@ -32,7 +32,7 @@ use Rattle.mmrpdu.proofs.Applying.{Sound, sound, address-read, other-acts, macs
 use Rattle.addresses.specs.Room.{presentOnly}
 use Rattle.mmrp.specs.declared.Asked.{Asked}
 use Rattle.mmrp.specs.declared.Asked.the-variants.{Nothing, Join, Leave}
-use Rattle.mmrp.specs.Run.{room, effect, effects, held, having, Went, Stopped, Walked}
+use Rattle.mmrp.specs.Run.{room, effects, held, having, Walked}
 use Rattle.mmrp.specs.Walked.{askedOf, vectorOf, actsOf, listRead, listActsOf, listEndOf, taken, Receives}
 use Rattle.mmrp.specs.Asks.{HasAddress}
 use Rattle.mmrp.proofs.Room.{effects-applied, same-length, applied-after-room}
@@ -186,7 +186,7 @@ module _ (pdu : List ℕ) (version : ℕ) (m : MessageHead) (applying : Bool) (n
       next : NextVector (g .turns) version type pdu w (g .left) (listEndOf whole)
       next = found-next (g .turns) version type pdu at (g .left) _ (g .finds) w r
 
-      pub list-vector : (v : List ℕ) → Walked applying now (frames.addressVectorActs type (headVector pdu w)) u true v → ListGoing (w .next) v
+      list-vector : (v : List ℕ) → Walked applying now (frames.addressVectorActs type (headVector pdu w)) u true v → ListGoing (w .next) v
       list-vector v x = record {
         within = within version type pdu at w r .pdu;
         turns = g .turns - 1;
@@ -195,10 +195,18 @@ module _ (pdu : List ℕ) (version : ℕ) (m : MessageHead) (applying : Bool) (n
         going = going-on applying now (listActsOf whole) s (g .left) u (g .going) _ (next .rest) v (next .split) x;
       }
 
-      pub list-full : (v : List ℕ) → Walked applying now (frames.addressVectorActs type (headVector pdu w)) u false v → Walked applying now (listActsOf whole) s false v
+      list-full : (v : List ℕ) → Walked applying now (frames.addressVectorActs type (headVector pdu w)) u false v → Walked applying now (listActsOf whole) s false v
       list-full v x = going-stopped applying now (listActsOf whole) s (g .left) u (g .going) _ (next .rest) v (next .split) x
 
-      -- it is not of MAC addresses
+      -- it is of MAC addresses
+      module _ (k : m .kind ≡ 2) (v : List ℕ) where
+        pub list-macs : Walked applying now (frames.addressVectorActs frames.macs (headVector pdu w)) u true v → ListGoing (w .next) v
+        list-macs x = list-vector v (rw (macs-named (m .kind) (m .octets) k) x)
+
+        pub list-macs-full : Walked applying now (frames.addressVectorActs frames.macs (headVector pdu w)) u false v → Walked applying now (listActsOf whole) s false v
+        list-macs-full x = list-full v (rw (macs-named (m .kind) (m .octets) k) x)
+
+      -- or of another type
       pub list-dropped : (m .kind ≡ 2 → ⊥) → ListGoing (w .next) u
       list-dropped p = list-vector u (rw (other-acts (m .kind) (m .octets) (headVector pdu w) p) (walked-none applying now u (g .going .laid)))
 
@@ -265,9 +273,12 @@ module _ (pdu : List ℕ) (applying : Bool) (now : ℕ) (s : List ℕ) where
       pub end-ahead : (e : ℕ) → e ≡ listEndOf (listRead pdu version m) → at < e
       end-ahead e q = omega (arith, ends, q, own-end, ahead-list version pdu at m r)
 
+      pub end-inside : (e : ℕ) → e ≡ listEndOf (listRead pdu version m) → e ≤ length pdu
+      end-inside e q = omega (arith, ends, q, own-end)
+
       pub frame-list : (e : ℕ) (v : List ℕ) → e ≡ listEndOf (listRead pdu version m) → Walked applying now (listActsOf (listRead pdu version m)) u true v → FrameGoing e v
       frame-list e v q x = record {
-        within = omega (arith, ends, q, own-end);
+        within = end-inside e q;
         turns = g .turns - 1;
         left = next-list .rest;
         finds = messages-turn (g .turns) version pdu e (next-list .rest) (rw (q, own-end) (next-list .left));

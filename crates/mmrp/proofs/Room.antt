@@ -7,7 +7,7 @@ use mathlib.Core.Bool.{Bool, true, false}
 use native.Mathlib.Omega.{arith}
 use lib.ListN.{length}
 use Rattle.model.specs.Lists.{All}
-use Rattle.model.specs.State.{Presence, vacant, present, Address}
+use Rattle.model.specs.State.{vacant, Address}
 use Rattle.model.specs.Registrations.{AddressAct, leaveAllAddresses, leaveAddress, joinAddress, quitPresence, quitAddress, joined, withJoined, withLeft, doesAddress, doesAddresses, together, macs, addressJoins}
 use Rattle.model.specs.Laid.{Ascending}
 use Rattle.model.proofs.Lists.{all-map}

@@ -11,7 +11,6 @@ use Rattle.model.specs.Layout.{addresses, ownSize}
 use Rattle.model.specs.Lists.{All}
 use Rattle.model.specs.State.{Address, Own}
 use Rattle.model.specs.Registrations.{AddressAct, leaveAllAddresses, leaveAddress, joinAddress, quitAddress, withJoined, withLeft, doesAddress, doesAddresses, changeAddresses, macs, addressJoins, together}
-use Rattle.model.specs.Settling.{holdsAddress}
 use Rattle.model.specs.Table.{ownOctets, toOwn}
 use Rattle.model.specs.Laid.{FitAddresses, FitOwn, LaidOwn}
 use Rattle.model.proofs.Owns.{own-fit-back, own-length}
@@ -24,7 +23,7 @@ use Rattle.addresses.proofs.Records.{FitAddress}
 use Rattle.addresses.proofs.Values.{quit-fits}
 use Rattle.addresses.proofs.Searching.{room-holds}
 use Rattle.addresses.proofs.Keeps.{change-fits, same-fits, joined-macs, room-fits, join-fits}
-use Rattle.mmrp.specs.Run.{room, effect, effects, held, having, Went, Stopped, Walked}
+use Rattle.mmrp.specs.Run.{room, effect, effects, held, having, Went, Walked}
 use Rattle.mmrp.proofs.Room.{effects-append, effects-grow, effects-drop, joined-again}
 
 -- The octets with other addresses.

@@ -22,10 +22,18 @@ pub mod Borrowing
 pub mod ReceiveKeepsForm
 pub mod Addresses
 pub mod AdvanceKeepsForm
+pub mod Ascents
+pub mod CuttingWeights
+pub mod LeastCutting
+pub mod OneCutting
+pub mod LongestRun
+pub mod Gaps
+pub mod WritingPasses
+pub mod PackedVectors
+pub mod PackedEvents
 pub mod ReadBack
 pub mod Versions
 pub mod CutOut
-pub mod WritingPasses
 pub mod Refusals
 pub mod FoundAddresses
 pub mod AddressesKept
@@ -41,6 +49,7 @@ pub mod Why
 pub mod Newcomer
 pub mod Opened
 pub mod Examples
+pub mod CuttingExamples
 pub mod FormKept
 pub mod Demand3
 pub mod AddressRoom

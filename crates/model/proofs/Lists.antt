@@ -1,12 +1,13 @@
 -- Laws of lists, tests and `All`.
-use mathlib.Core.Path.{_≡_, refl, ap, _∙_}
+use mathlib.Core.Path.{_≡_, refl, sym, ap, _∙_}
 use mathlib.Core.List.{List, [], _∷_, _++_, map}
-use mathlib.Core.Bool.{Bool, true, false, _&&_, false≢true}
-use Prim.Native.Nat.{ℕ, zero, suc, _+_, _<_}
+use mathlib.Core.Bool.{Bool, true, false, cond, _&&_, true≢false, false≢true}
+use Prim.Native.Nat.{ℕ, zero, suc, _+_, _≤_, _<_}
 use native.Mathlib.Omega.{arith}
 use lib.ListN.{length, getD, set, take, drop, replicate}
-use borrow.Author.Tests.{eq-eqb, ne-eqb}
-use Rattle.model.specs.Lists.{All, allTrue, implies, keep, tabulate, on}
+use lib.Dec.{ltb, leb}
+use borrow.Author.Tests.{lt-ltb, le-ltb, eq-eqb, ne-eqb, leb-true, leb-false}
+use Rattle.model.specs.Lists.{All, allTrue, implies, keep, tabulate, on, longest}
 use Rattle.model.specs.Registrations.{at}
 
 -- All.
@@ -70,11 +71,16 @@ module _ {A : Type 0} (P : A → Type 0) where
 
 -- What a list made from a function has at a place.
 module _ {A : Type 0} (f : ℕ → A) where
-  getD-tabulate : (n p q : ℕ) (d : A) → q < n → getD (tabulate n p f) q d ≡ f (p + q)
+  pub getD-tabulate : (n p q : ℕ) (d : A) → q < n → getD (tabulate n p f) q d ≡ f (p + q)
   unfolding tabulate
   getD-tabulate zero p q d h = absurd (omega arith)
   getD-tabulate (suc n) p zero d h = ap f (omega arith)
   getD-tabulate (suc n) p (suc q) d h = getD-tabulate n (suc p) q d (omega arith) ∙ ap f (omega arith)
+
+  pub length-tabulate : (n p : ℕ) → length (tabulate n p f) ≡ n
+  unfolding tabulate
+  length-tabulate zero p = refl
+  length-tabulate (suc n) p = ap suc (length-tabulate n (suc p))
 
   pub at-place : (q : ℕ) (d : A) → q < 8 → getD (tabulate 8 0 f) q d ≡ f q
   at-place q d h = getD-tabulate 8 0 q d h ∙ ap f (omega arith)
@@ -194,3 +200,108 @@ pub getD-map : {A B : Type 0} (f : A → B) (l : List A) (k : ℕ) (d : A) (e : 
 getD-map f [] k d e h = absurd (omega arith)
 getD-map f (x ∷ l) zero d e h = refl
 getD-map f (x ∷ l) (suc k) d e h = getD-map f l k d e (omega arith)
+
+-- One more is tried until the first that fails a test.
+
+module _ (fits : ℕ → Bool) where
+  pub longest-ends : (k : ℕ) → longest fits k 0 ≡ k
+  unfolding longest
+  longest-ends k = refl
+
+  pub longest-stops : (k n : ℕ) → fits (k + 1) ≡ false → longest fits k (suc n) ≡ k
+  unfolding longest
+  longest-stops k n e = rw e
+
+  pub longest-goes : (k n : ℕ) → fits (k + 1) ≡ true → longest fits k (suc n) ≡ longest fits (k + 1) n
+  unfolding longest
+  longest-goes k n e = rw e
+
+  pub longest-within : (k n : ℕ) → (k ≤ longest fits k n) × (longest fits k n ≤ k + n)
+  unfolding longest
+  longest-within k zero = (omega arith, omega arith)
+  longest-within k (suc n) = go (fits (k + 1)) (longest-within (k + 1) n)
+    where
+      go : (t : Bool) → (k + 1 ≤ longest fits (k + 1) n) × (longest fits (k + 1) n ≤ k + 1 + n)
+          → (k ≤ cond t (longest fits (k + 1) n) k) × (cond t (longest fits (k + 1) n) k ≤ k + suc n)
+      go true h = (omega arith, omega arith)
+      go false h = (omega arith, omega arith)
+
+  pub longest-passes : (k n : ℕ) → fits k ≡ true → fits (longest fits k n) ≡ true
+  unfolding longest
+  longest-passes k zero h = h
+  longest-passes k (suc n) h = go (fits (k + 1)) refl (longest-passes (k + 1) n)
+    where
+      go : (t : Bool) → fits (k + 1) ≡ t → (fits (k + 1) ≡ true → fits (longest fits (k + 1) n) ≡ true) → fits (cond t (longest fits (k + 1) n) k) ≡ true
+      go true e ih = ih e
+      go false e ih = h
+
+  -- where more are there, the next fails
+  pub longest-full : (k n : ℕ) → longest fits k n < k + n → fits (longest fits k n + 1) ≡ false
+  unfolding longest
+  longest-full k zero h = absurd (omega arith)
+  longest-full k (suc n) h = go (fits (k + 1)) refl (longest-full (k + 1) n) h
+    where
+      go : (t : Bool) → fits (k + 1) ≡ t → (longest fits (k + 1) n < k + 1 + n → fits (longest fits (k + 1) n + 1) ≡ false)
+          → cond t (longest fits (k + 1) n) k < k + suc n → fits (cond t (longest fits (k + 1) n) k + 1) ≡ false
+      go true e ih h = ih (omega arith)
+      go false e ih h = e
+
+-- the most that pass a test, of n
+pub record Longest (fits : ℕ → Bool) (n r : ℕ) : Type 0 where
+  pub within : r ≤ n
+  pub passes : fits r ≡ true
+  pub most : (k : ℕ) → k ≤ n → fits k ≡ true → k ≤ r
+
+-- where with a number every smaller one passes, they are found
+pub longest-longest : (fits : ℕ → Bool) → ((j k : ℕ) → j ≤ k → fits k ≡ true → fits j ≡ true) → (n : ℕ) → fits 0 ≡ true
+    → Longest fits n (longest fits 0 n)
+longest-longest fits fewer n none =
+    record { within = omega (arith, longest-within fits 0 n .1); passes = longest-passes fits 0 n none; most = λ k h e. go k h e (leb k r) refl }
+  where
+    r : ℕ
+    r = longest fits 0 n
+
+    go : (k : ℕ) → k ≤ n → fits k ≡ true → (t : Bool) → leb k r ≡ t → k ≤ r
+    go k h e true q = leb-true k r q
+    go k h e false q =
+        let less : r < k = leb-false k r q in
+        absurd (true≢false (sym (fewer (r + 1) k (omega arith) e) ∙ longest-full fits 0 n (omega (arith, longest-within fits 0 n .1))))
+
+-- a search in two stretches, the second only where all of the first pass
+pub longest-split : (fits : ℕ → Bool) (k n m : ℕ)
+    → longest fits k (n + m) ≡ cond (ltb (longest fits k n) (k + n)) (longest fits k n) (longest fits (k + n) m)
+unfolding longest
+longest-split fits k zero m =
+    let a : 0 + m ≡ m = omega arith in
+    let b : k + 0 ≡ k = omega arith in
+    rw (a, b, le-ltb k k (omega arith))
+longest-split fits k (suc n) m =
+    let a : suc n + m ≡ suc (n + m) = omega arith in
+    let b : k + suc n ≡ k + 1 + n = omega arith in
+    rw (a, b) (go (fits (k + 1)) (longest-split fits (k + 1) n m))
+  where
+    r : ℕ
+    r = longest fits (k + 1) n
+
+    go : (t : Bool) → longest fits (k + 1) (n + m) ≡ cond (ltb r (k + 1 + n)) r (longest fits (k + 1 + n) m)
+        → cond t (longest fits (k + 1) (n + m)) k ≡ cond (ltb (cond t r k) (k + 1 + n)) (cond t r k) (longest fits (k + 1 + n) m)
+    go true ih = ih
+    go false ih = rw (lt-ltb k (k + 1 + n) (omega arith))
+
+-- only the tests that are asked count
+pub longest-same : (f g : ℕ → Bool) (k n : ℕ) → ((i : ℕ) → k < i → i ≤ k + n → f i ≡ g i) → longest f k n ≡ longest g k n
+unfolding longest
+longest-same f g k zero h = refl
+longest-same f g k (suc n) h = rw (h (k + 1) (omega arith) (omega arith), longest-same f g (k + 1) n (λ i a b. h i (omega arith) (omega arith)))
+
+-- and a search from j on counts on from there
+pub longest-from : (fits : ℕ → Bool) (j k n : ℕ) → longest fits (j + k) n ≡ j + longest (λ i. fits (j + i)) k n
+unfolding longest
+longest-from fits j k zero = refl
+longest-from fits j k (suc n) =
+    let a : j + k + 1 ≡ j + (k + 1) = omega arith in
+    rw (a, longest-from fits j (k + 1) n) (go (fits (j + (k + 1))) (longest (λ i. fits (j + i)) (k + 1) n))
+  where
+    go : (t : Bool) (r : ℕ) → cond t (j + r) (j + k) ≡ j + cond t r k
+    go true r = refl
+    go false r = refl

@@ -6,6 +6,8 @@ use Rattle.model.specs.Lists
 use Rattle.model.specs.State
 use Rattle.model.specs.Registrations
 use Rattle.model.specs.Frames
+use Rattle.model.specs.Cutting
+use Rattle.model.specs.Best
 use Rattle.model.specs.AddressFrames
 use Rattle.model.specs.Bandwidth
 use Rattle.model.specs.Settling
@@ -16,11 +18,11 @@ use Rattle.model.specs.Table
 use Rattle.model.specs.Calls
 
 stateOpened : Unit {0}
-unfolding Lists.tabulate Lists.bit Lists.countTo State.empty State.unsettled State.noFixed State.noTotals State.noOwn State.blank State.fresh State.started State.noPort State.portAt State.isPort State.cellAt State.resultAt State.classOf State.isNoClass State.sameClass State.supports State.bothLimits State.inForce State.classLatency State.classPriority State.classId Settling.sameReady WrittenFrames.readyNumber Lists.allTrue Lists.parts Lists.isOne
+unfolding Lists.tabulate Lists.bit Lists.countTo State.empty State.unsettled State.noFixed State.noTotals State.noOwn State.blank State.fresh State.started State.noPort State.portAt State.isPort State.cellAt State.resultAt State.classOf State.isNoClass State.sameClass State.supports State.bothLimits State.inForce State.classLatency State.classPriority State.classId Settling.sameReady WrittenFrames.readyNumber Lists.allTrue Lists.parts Lists.isOne Lists.longest
 stateOpened = tt
 
 octetsOpened : Unit {0}
-unfolding Be.beAt Be.be Fields.fields Fields.flat Parts.part Reports.refusedReport Reports.wordOf Reports.codeOf Reports.report WrittenFrames.messageOf WrittenFrames.fixedNumbers WrittenFrames.priorityOctet Table.columnNumber Table.columnCode Table.entryNumber Table.declaredNumber Table.leavingNumber Table.sinceNumber Table.healthNumber Table.bridgeNumber Table.codeNumber Table.talkerNumbers Table.listenerNumbers Table.cellNumbers Table.portFrom Table.toPort Table.portsField Table.toSettings Table.vlanWord Table.portRule Table.everyPart Table.settingsRules Table.settingsFormed Fields.packed Declarations.healthKind Declarations.attributeOf Declarations.sameAttribute Declarations.domainOf Declarations.domainValues Declarations.advertised Declarations.failing Declarations.listening Declarations.declarationsOf Declarations.ofKind Declarations.declarations Declarations.vectorSize Declarations.opening Declarations.fitting Declarations.takes Declarations.write WrittenFrames.failureNumbers WrittenFrames.firstNumbers WrittenFrames.fourOctets WrittenFrames.declarationVector WrittenFrames.vectorOctets WrittenFrames.messageOctets WrittenFrames.having WrittenFrames.pduOctets
+unfolding Be.beAt Be.be Fields.fields Fields.flat Parts.part Reports.refusedReport Reports.wordOf Reports.codeOf Reports.report WrittenFrames.messageOf WrittenFrames.fixedNumbers WrittenFrames.priorityOctet Table.columnNumber Table.columnCode Table.entryNumber Table.declaredNumber Table.leavingNumber Table.sinceNumber Table.healthNumber Table.bridgeNumber Table.codeNumber Table.talkerNumbers Table.listenerNumbers Table.cellNumbers Table.portFrom Table.toPort Table.portsField Table.toSettings Table.vlanWord Table.portRule Table.everyPart Table.settingsRules Table.settingsFormed Fields.packed Declarations.healthKind Declarations.attributeOf Declarations.sameAttribute Declarations.domainOf Declarations.domainValues Declarations.advertised Declarations.failing Declarations.listening Declarations.declarationsOf Declarations.ofKind Declarations.declarations Cutting.mac Cutting.values Cutting.octetsFor Best.price Best.lighter Best.longer Best.bests Best.best Best.least Best.run Declarations.declaredId Declarations.declaredIds Declarations.having Declarations.vectorSize Declarations.vectorsSize Declarations.messageSize Declarations.messagesSize Declarations.fitting Declarations.takes Declarations.write WrittenFrames.failureNumbers WrittenFrames.firstNumbers WrittenFrames.fourOctets WrittenFrames.declarationVector WrittenFrames.vectorOctets WrittenFrames.messageOctets WrittenFrames.listenerNumber WrittenFrames.said WrittenFrames.eventNumber WrittenFrames.threeOctet WrittenFrames.fourOctet WrittenFrames.packedVector WrittenFrames.cutAs WrittenFrames.listenerParts WrittenFrames.vectorsOf WrittenFrames.pduOctets
 octetsOpened = tt
 
 receivingOpened : Unit {0}

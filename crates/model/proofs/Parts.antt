@@ -86,7 +86,7 @@ zero-behind a vs h j = sym (getD-drop a vs j 0) ∙ zero-at (drop a vs) h j
 pub zero-between : (a n : ℕ) (vs : List ℕ) → allZero (take n (drop a vs)) ≡ true → (j : ℕ) → j < n → getD vs (a + j) 0 ≡ 0
 zero-between a n vs h j l = sym (getD-take n (drop a vs) j 0 l ∙ getD-drop a vs j 0) ∙ zero-at (take n (drop a vs)) h j
 
-tabulate-zeros : (n p : ℕ) (f : ℕ → ℕ) → ((i : ℕ) → p ≤ i → i < p + n → f i ≡ 0) → tabulate n p f ≡ zeros n
+pub tabulate-zeros : (n p : ℕ) (f : ℕ → ℕ) → ((i : ℕ) → p ≤ i → i < p + n → f i ≡ 0) → tabulate n p f ≡ zeros n
 unfolding tabulate
 tabulate-zeros zero p f h = refl
 tabulate-zeros (suc n) p f h = rw (h p (omega arith) (omega arith), tabulate-zeros n (suc p) f (λ i a b. h i (omega arith) (omega arith)))

@@ -17,14 +17,19 @@ use Rattle.octets.proofs.Fields.{packed-octets, beAt-fits, fields-of-packed}
 use Rattle.model.specs.FrameLayout.{longestPdu}
 use Rattle.model.specs.Lists.{All, keep, bit}
 use Rattle.model.specs.State.{Port, Settings, Fixed, Health, sound, broken, Ready, askingFailed, ready, readyFailed, Column, none, advertise, failed, Entry, noEntry, filters, forwards, Declared, nothing, tells, Result, Stream, Bridge, portAt, resultAt, classPriority, classId, unsettled}
-use Rattle.model.specs.Registrations.{Kind, advertises, faileds, listeners, talk, listen, ofDomain, joinDomain, acts}
+use Rattle.model.specs.Registrations.{Kind, advertises, faileds, listeners, ids, talk, listen, ofDomain, joinDomain, acts}
 use Rattle.model.specs.Frames.{Attribute, registers, domain, known, typeOctet, typeNumber, firstWidths, firstLength, threeLength, hasFour, fourLength, Vector, vectorAt, vectorEnd, overpacked, runsPast, overflows, strangeLeave, vectorIn, checkedIn, typedIn, listLength, listAt, messageEnd, endMark, headerIn, messageIn, listOf, found, also, both, vectorsFrom, vectors, messagesFrom, messages, walk, joinMt, event, threePacked, fourPacked, eventOf, fourOf, asking, join, priorityOf, rankOf, fixedValue, healthValue, idValue, hearing, talkerAct, listenerAct, hasSlot, slotOf, slotAct, domainAct, valueActs, valuesActs, leaveAllActs, vectorActs, frameActs, walked, wrongPort, reading}
-use Rattle.model.specs.Declarations.{Declaration, talkerDeclaration, listenerDeclaration, domainDeclaration, healthKind, attributeOf, joinOf, advertised, failing, listening, declarationsOf, ofKind, domainOf, domainValues, declarations, vectorSize, sameAttribute, takes, write}
-use Rattle.model.specs.WrittenFrames.{priorityOctet, fixedNumbers, failureNumbers, firstNumbers, readyNumber, fourOctets, declarationVector, vectorOctets, messageOf, messageOctets, having, pduOctets}
-use Rattle.model.proofs.Lists.{all-map, all-append, all-take, all-drop, all-getD, and-left, and-right, and-false}
+use Rattle.model.specs.Cutting.{Part, values}
+use Rattle.model.specs.Best.{bests, best}
+use Rattle.model.specs.Declarations.{Declaration, talkerDeclaration, listenerDeclaration, domainDeclaration, healthKind, attributeOf, joinOf, advertised, failing, listening, declarationsOf, ofKind, domainOf, domainValues, declarations, declaredId, declaredIds, sameAttribute, having, takes, write}
+use Rattle.model.specs.WrittenFrames.{priorityOctet, fixedNumbers, failureNumbers, firstNumbers, readyNumber, fourOctets, declarationVector, packedVector, cutAs, listenerParts, vectorsOf, vectorOctets, messageOf, messageOctets, pduOctets}
+use Rattle.model.specs.Laid.{Ascending}
+use Rattle.model.proofs.Lists.{all-map, all-append, all-take, all-drop, all-keep, all-getD, length-tabulate, and-left, and-right, and-false}
 use Rattle.model.proofs.Valid.{Valid, ValidSettings, ValidFixed, ValidHealth, ValidVarying, ValidColumn, ValidResult, ValidStream}
+use Rattle.model.proofs.Fits.{rising-ascends}
 use Rattle.model.proofs.AdvanceKeepsForm.{unsettled-valid}
-use Rattle.model.proofs.WritingPasses.{length-first, length-vector, known-type, inTurn, NotBefore, OfAttribute, InOrder, all-of-kind, all-domains, having-attribute, having-none, declared, write-above, write-from, run-in-order, run-fits}
+use Rattle.model.proofs.WritingPasses.{length-first, known-type, inTurn, NotBefore, OfAttribute, InOrder, all-of-kind, all-domains, having-attribute, having-none, declared, write-above, write-from, run-in-order, run-fits, FewListeners, FewStreams, run-few}
+use Rattle.model.proofs.PackedVectors.{Packs, parts-pack, packed-events, packed-within, parts-join, no-domain}
 
 -- Octets behind a prefix.
 
@@ -40,12 +45,12 @@ part-behind : (x y z : List ℕ) (at n : ℕ) → at ≡ length x → n ≡ leng
 unfolding part
 part-behind x y z at n e q = rw (e, q, drop-append-seam x (y ++ z)) (take-append-seam y z)
 
--- A vector.
+-- a number of two octets
+pub two-octets : (n : ℕ) (y : List ℕ) → n < 65536 → beAt 2 (be 2 n ++ y) 0 ≡ n
+unfolding beAt be
+two-octets n y h = omega arith
 
--- the octets of a declaration's vector: header 1, FirstValue, JoinMt, and for a Listener its declaration type
-vector-octets : (d : Declaration) → vectorOctets (declarationVector d) ≡ 0 ∷ 1 ∷ (declarationVector d .first ++ (108 ∷ fourOctets d))
-unfolding vectorOctets declarationVector bit be
-vector-octets d = refl
+-- A vector.
 
 length-four : (d : Declaration) → length (fourOctets d) ≡ fourLength (hasFour (attributeOf d)) 1
 unfolding fourOctets attributeOf healthKind fourLength hasFour
@@ -104,71 +109,127 @@ vectors-more f version k l at h v is some leave header fits one three values =
       one,
     )
 
-module _ (d : Declaration) (pre rest : List ℕ) where
+-- A vector that is read as it was written: no LeaveAll, fields as long as its header says, no event octet above 215, no value past
+-- its field.
+pub record Readable (v : Vector) : Type 0 where
+  pub leave : v .leavesAll ≡ false
+  pub some : 1 ≤ v .values
+  pub few : v .values < 8192
+  pub first : length (v .first) ≡ firstLength (v .attribute)
+  pub three : length (v .three) ≡ threeLength (v .values)
+  pub four : length (v .four) ≡ fourLength (hasFour (v .attribute)) (v .values)
+  pub events : overpacked (v .three) ≡ false
+  pub within : overflows v ≡ false
+
+-- a declaration's own vector is
+pub single-readable : (d : Declaration) → Readable (declarationVector d)
+unfolding declarationVector threeLength overpacked
+single-readable d = record {
+  leave = refl;
+  some = omega arith;
+  few = omega arith;
+  first = length-first d;
+  three = refl;
+  four = length-four d;
+  events = refl;
+  within = no-overflow d;
+}
+
+values-some : (l : List ℕ) → Part l → 1 ≤ values l
+unfolding values
+values-some [] q = absurd q
+values-some (x ∷ l) q = omega arith
+
+-- and so is one of several Listeners
+pub packed-readable : (g : List Declaration) → Packs g → Readable (packedVector g)
+unfolding packedVector hasFour firstLength packed be
+packed-readable g p = record {
+  leave = refl;
+  some = values-some (declaredIds g) (p .part);
+  few = omega (arith, p .few);
+  first = refl;
+  three = length-tabulate _ (threeLength (values (declaredIds g))) 0;
+  four = length-tabulate _ (fourLength true (values (declaredIds g))) 0;
+  events = packed-events g;
+  within = packed-within g p;
+}
+
+module _ (v : Vector) (r : Readable v) (pre rest : List ℕ) where
   -- the list that has the vector at the place
   here : List ℕ
-  here = pre ++ (vectorOctets (declarationVector d) ++ rest)
+  here = pre ++ (vectorOctets v ++ rest)
+
+  vector-octets : vectorOctets v ≡ be 2 (v .values) ++ (v .first ++ (v .three ++ v .four))
+  unfolding vectorOctets bit
+  vector-octets = rw (r .leave) (ap (λ (n : ℕ). be 2 n ++ (v .first ++ (v .three ++ v .four))) (omega arith))
 
   -- a piece of the vector, behind so much of it
-  piece-here : (x y z : List ℕ) (at n : ℕ) → vectorOctets (declarationVector d) ++ rest ≡ x ++ (y ++ z)
+  piece-here : (x y z : List ℕ) (at n : ℕ) → vectorOctets v ++ rest ≡ x ++ (y ++ z)
       → at ≡ length pre + length x → n ≡ length y → part at n here ≡ y
   unfolding here
   piece-here x y z at n e a q = rw (e, ← append-assoc pre x (y ++ z)) (part-behind (pre ++ x) y z at n (simp length-append a) q)
 
-  first : List ℕ
-  first = declarationVector d .first
+  header : List ℕ
+  header = be 2 (v .values)
 
-  first-here : part (length pre + 2) (firstLength (attributeOf d)) here ≡ first
-  unfolding first
+  first-here : part (length pre + 2) (firstLength (v .attribute)) here ≡ v .first
+  unfolding header
   first-here =
-      piece-here (0 ∷ 1 ∷ []) first (108 ∷ (fourOctets d ++ rest)) (length pre + 2) (firstLength (attributeOf d))
-      (rw (vector-octets d) (simp append-assoc)) refl (sym (length-first d))
+      piece-here header (v .first) (v .three ++ (v .four ++ rest)) (length pre + 2) (firstLength (v .attribute))
+      (rw vector-octets (simp append-assoc)) (rw (length-be 2 (v .values))) (sym (r .first))
 
-  three-here : part (length pre + 2 + firstLength (attributeOf d)) 1 here ≡ 108 ∷ []
-  unfolding first
+  three-here : part (length pre + 2 + firstLength (v .attribute)) (threeLength (v .values)) here ≡ v .three
+  unfolding header
   three-here =
-      piece-here (0 ∷ 1 ∷ first) (108 ∷ []) (fourOctets d ++ rest) (length pre + 2 + firstLength (attributeOf d)) 1
-      (rw (vector-octets d) (simp append-assoc)) (rw (length-first d) (omega arith)) refl
+      piece-here (header ++ v .first) (v .three) (v .four ++ rest) (length pre + 2 + firstLength (v .attribute)) (threeLength (v .values))
+      (rw vector-octets (simp append-assoc)) (simp (length-append, length-be, r .first) (omega arith)) (sym (r .three))
 
-  four-here : part (length pre + 2 + firstLength (attributeOf d) + 1) (fourLength (hasFour (attributeOf d)) 1) here ≡ fourOctets d
-  unfolding first
+  four-here : part (length pre + 2 + firstLength (v .attribute) + threeLength (v .values)) (fourLength (hasFour (v .attribute)) (v .values)) here ≡ v .four
+  unfolding header
   four-here =
-      piece-here (0 ∷ 1 ∷ (first ++ (108 ∷ []))) (fourOctets d) rest (length pre + 2 + firstLength (attributeOf d) + 1)
-      (fourLength (hasFour (attributeOf d)) 1)
-      (rw (vector-octets d) (simp append-assoc)) (simp (length-append, length-first d) (omega arith)) (sym (length-four d))
+      piece-here (header ++ (v .first ++ v .three)) (v .four) rest (length pre + 2 + firstLength (v .attribute) + threeLength (v .values))
+      (fourLength (hasFour (v .attribute)) (v .values))
+      (rw vector-octets (simp append-assoc)) (simp (length-append, length-be, r .first, r .three) (omega arith)) (sym (r .four))
 
-  vector-here : vectorAt (attributeOf d) here (length pre) 1 ≡ declarationVector d
-  unfolding vectorAt threeLength
-  vector-here = rw (first-here, three-here, four-here) (unfold first declarationVector in refl)
+  -- the header says the values, and no LeaveAll
+  values-only : v .values % 8192 ≡ v .values
+  values-only = omega (arith, r .few)
 
-  end-here : vectorEnd (firstLength (attributeOf d)) (hasFour (attributeOf d)) (length pre) 1 ≡ length pre + vectorSize (attributeOf d)
-  unfolding vectorEnd threeLength firstLength fourLength hasFour vectorSize
-  end-here = go (attributeOf d)
-    where
-      go : (k : Attribute) → length pre + 2 + firstLength k + 1 + fourLength (hasFour k) 1 ≡ length pre + vectorSize k
-      go (registers advertises) = omega arith
-      go (registers faileds) = omega arith
-      go (registers listeners) = omega arith
-      go domain = omega arith
+  no-leave : v .values / 8192 ≡ 0
+  no-leave = omega (arith, r .few)
 
-  header-here : beAt 2 here (length pre) ≡ 1
+  vector-here : vectorAt (v .attribute) here (length pre) (v .values) ≡ v
+  unfolding vectorAt
+  vector-here = rw (values-only, no-leave, first-here, three-here, four-here, ← r .leave) refl
+
+  end-here : vectorEnd (firstLength (v .attribute)) (hasFour (v .attribute)) (length pre) (v .values) ≡ length pre + length (vectorOctets v)
+  unfolding vectorEnd
+  end-here = rw (values-only, vector-octets) (simp (length-append, length-be, r .first, r .three, r .four) (omega arith))
+
+  header-here : beAt 2 here (length pre) ≡ v .values
   unfolding here
-  header-here = beAt-here 2 pre (vectorOctets (declarationVector d) ++ rest) ∙ rw (vector-octets d) (unfold beAt in refl)
+  header-here =
+      beAt-here 2 pre (vectorOctets v ++ rest)
+      ∙ rw (vector-octets, append-assoc (be 2 (v .values)) (v .first ++ (v .three ++ v .four)) rest) (two-octets (v .values) _ (omega (arith, r .few)))
 
-  length-here : length here ≡ length pre + (vectorSize (attributeOf d) + length rest)
+  length-here : length here ≡ length pre + (length (vectorOctets v) + length rest)
   unfolding here
-  length-here = simp (length-append, length-vector d)
+  length-here = simp length-append
 
-  read-vector : (f : ℕ) → vectors (suc f) 0 (attributeOf d) here (length pre)
-      ≡ also (declarationVector d) (vectors f 0 (attributeOf d) here (length pre + vectorSize (attributeOf d)))
+  two-at-least : 2 ≤ length (vectorOctets v)
+  two-at-least = rw vector-octets (simp (length-append, length-be) (omega arith))
+
+  read-vector : (f : ℕ) → vectors (suc f) 0 (v .attribute) here (length pre)
+      ≡ also v (vectors f 0 (v .attribute) here (length pre + length (vectorOctets v)))
   read-vector f =
-      vectors-more f 0 (attributeOf d) here (length pre) 1 (declarationVector d) header-here (λ e. omega arith) (unfold strangeLeave in refl)
-      (omega (arith, length-here, length-vector d, ap length (vector-octets d)))
+      vectors-more f 0 (v .attribute) here (length pre) (v .values) v header-here (λ e. omega (arith, r .some))
+      (unfold strangeLeave in (rw no-leave refl))
+      (omega (arith, length-here, two-at-least))
       (omega (arith, length-here, end-here))
       vector-here
-      (unfold declarationVector overpacked in refl)
-      (no-overflow d)
-      ∙ ap (λ (e : ℕ). also (declarationVector d) (vectors f 0 (attributeOf d) here e)) end-here
+      (r .events)
+      (r .within)
+      ∙ ap (λ (e : ℕ). also v (vectors f 0 (v .attribute) here e)) end-here
 
 -- An AttributeList.
 
@@ -186,32 +247,53 @@ vectors-end k (suc f) pre h =
     rw (e, l, le-ltb (length pre + 2) (length pre + 2) (omega arith), l, eq-eqb (length pre + 2) (length pre + 2) refl)
 
 -- one vector more, in front
-vectors-cons : (d : Declaration) (rest : List ℕ) (vs : List Vector) → VectorsRead (attributeOf d) rest vs
-    → VectorsRead (attributeOf d) (vectorOctets (declarationVector d) ++ rest) (declarationVector d ∷ vs)
+vectors-cons : (v : Vector) → Readable v → (rest : List ℕ) (vs : List Vector) → VectorsRead (v .attribute) rest vs
+    → VectorsRead (v .attribute) (vectorOctets v ++ rest) (v ∷ vs)
 unfolding VectorsRead here also
-vectors-cons d rest vs r f pre h = go f (omega (arith, length-append v rest, ap length (vector-octets d)))
+vectors-cons v r rest vs q f pre h = go f (omega (arith, length-append (vectorOctets v) rest, two-at-least v r pre rest))
   where
-    v : List ℕ
-    v = vectorOctets (declarationVector d)
-
-    go : (f : ℕ) → suc (length rest) ≤ f → vectors f 0 (attributeOf d) (pre ++ (v ++ rest)) (length pre) ≡ found (declarationVector d ∷ vs)
+    go : (f : ℕ) → suc (length rest) ≤ f → vectors f 0 (v .attribute) (pre ++ (vectorOctets v ++ rest)) (length pre) ≡ found (v ∷ vs)
     go zero h = absurd (omega arith)
     go (suc f) h =
-        let e : length pre + vectorSize (attributeOf d) ≡ length (pre ++ v) = simp (length-append, length-vector d) in
-        read-vector d pre rest f ∙ rw (e, ← append-assoc pre v rest, r f (pre ++ v) (omega arith))
+        let e : length pre + length (vectorOctets v) ≡ length (pre ++ vectorOctets v) = simp length-append in
+        read-vector v r pre rest f ∙ rw (e, ← append-assoc pre (vectorOctets v) rest, q f (pre ++ vectorOctets v) (omega arith))
 
-listOctets : List Declaration → List ℕ
-listOctets l = flat (λ e. vectorOctets (declarationVector e)) l ++ (0 ∷ 0 ∷ [])
+-- vectors of one type that are read
+abbrev pub ReadableOf : Attribute → Vector → Type 0
+ReadableOf k v = (v .attribute ≡ k) × Readable v
 
-list-cons : (d : Declaration) (l : List Declaration) → listOctets (d ∷ l) ≡ vectorOctets (declarationVector d) ++ listOctets l
+listOctets : List Vector → List ℕ
+listOctets vs = flat vectorOctets vs ++ (0 ∷ 0 ∷ [])
+
+list-cons : (v : Vector) (vs : List Vector) → listOctets (v ∷ vs) ≡ vectorOctets v ++ listOctets vs
 unfolding listOctets flat
-list-cons d l = append-assoc (vectorOctets (declarationVector d)) (flat (λ e. vectorOctets (declarationVector e)) l) (0 ∷ 0 ∷ [])
+list-cons v vs = append-assoc (vectorOctets v) (flat vectorOctets vs) (0 ∷ 0 ∷ [])
 
-vectors-read : (k : Attribute) (l : List Declaration) → All (OfAttribute k) l → VectorsRead k (listOctets l) (map declarationVector l)
+vectors-read : (k : Attribute) (vs : List Vector) → All (ReadableOf k) vs → VectorsRead k (listOctets vs) vs
 vectors-read k [] a = unfold listOctets flat in (vectors-end k)
-vectors-read k (d ∷ l) a =
-    rw (list-cons d l, ← (a .0))
-    (vectors-cons d (listOctets l) (map declarationVector l) (rw (a .0) (vectors-read k l (a .1))))
+vectors-read k (v ∷ vs) a =
+    rw (list-cons v vs, ← (a .0 .0))
+    (vectors-cons v (a .0 .1) (listOctets vs) vs (rw (a .0 .0) (vectors-read k vs (a .1))))
+
+-- the vectors of a type's declarations are
+singles-readable : (k : Attribute) (l : List Declaration) → All (OfAttribute k) l → All (ReadableOf k) (map declarationVector l)
+singles-readable k [] a = tt
+singles-readable k (d ∷ l) a = ((unfold declarationVector in (a .0), single-readable d), singles-readable k l (a .1))
+
+packed-all : (gs : List (List Declaration)) → All Packs gs → All (ReadableOf (registers listeners)) (map packedVector gs)
+packed-all [] a = tt
+packed-all (g ∷ gs) a = ((unfold packedVector in refl, packed-readable g (a .0)), packed-all gs (a .1))
+
+-- at most 64 Listeners, ascending
+abbrev pub Fewer : Attribute → List Declaration → Type 0
+Fewer k l = k ≡ registers listeners → (length l ≤ 64) × Ascending (declaredIds l)
+
+type-readable : (k : Attribute) (l : List Declaration) → All (OfAttribute k) l → Fewer k l → All (ReadableOf k) (vectorsOf k l)
+unfolding vectorsOf
+type-readable (registers advertises) l a f = singles-readable (registers advertises) l a
+type-readable (registers faileds) l a f = singles-readable (registers faileds) l a
+type-readable (registers listeners) l a f = packed-all (listenerParts l) (parts-pack l (f refl .0) a (f refl .1))
+type-readable domain l a f = singles-readable domain l a
 
 -- Messages.
 
@@ -259,11 +341,6 @@ messages-more : (f : ℕ) (k : Attribute) (s : List ℕ) (at n : ℕ) (list : Li
 unfolding messages messagesFrom listLength listAt messageEnd
 messages-more f k s at n list vs fits marked type first long is read =
     rw (message-known 0 k s at n fits marked type first long, long, is, read)
-
--- a number of two octets
-pub two-octets : (n : ℕ) (y : List ℕ) → n < 65536 → beAt 2 (be 2 n ++ y) 0 ≡ n
-unfolding beAt be
-two-octets n y h = omega arith
 
 module _ (k : Attribute) (list pre rest : List ℕ) (short : length list < 65536) where
   -- the PDU that has the Message at the place
@@ -337,15 +414,23 @@ messages-cons k list rest vs ws short read r f pre h = go f (omega (arith, lengt
         let e : length pre + 4 + length list ≡ length (pre ++ m) = simp (length-append, length-messageOf k list) (omega arith) in
         read-message k list pre rest short f vs read ∙ rw (e, ← append-assoc pre m rest, r f (pre ++ m) (omega arith))
 
+no-vectors : (k : Attribute) → vectorsOf k [] ≡ []
+unfolding vectorsOf listenerParts declaredIds best bests cutAs
+no-vectors (registers advertises) = refl
+no-vectors (registers faileds) = refl
+no-vectors (registers listeners) = refl
+no-vectors domain = refl
+
 -- the Message of the declarations of a type, where there are any
-messages-read : (k : Attribute) (l : List Declaration) (rest : List ℕ) (ws : List Vector) → All (OfAttribute k) l
-    → length (messageOctets k l) < 65536 → MessagesRead rest ws → MessagesRead (messageOctets k l ++ rest) (map declarationVector l ++ ws)
+messages-read : (k : Attribute) (l : List Declaration) (rest : List ℕ) (ws : List Vector) → All (OfAttribute k) l → Fewer k l
+    → length (messageOctets k l) < 65536 → MessagesRead rest ws → MessagesRead (messageOctets k l ++ rest) (vectorsOf k l ++ ws)
 unfolding messageOctets MessagesRead listOctets VectorsRead
-messages-read k [] rest ws a short r = r
-messages-read k (d ∷ l) rest ws a short r =
-    let list : List ℕ = listOctets (d ∷ l) in
+messages-read k [] rest ws a few short r = rw (no-vectors k) r
+messages-read k (d ∷ l) rest ws a few short r =
+    let list : List ℕ = listOctets (vectorsOf k (d ∷ l)) in
     let m : length (messageOf k list) ≡ 4 + length list = length-messageOf k list in
-    messages-cons k list rest (map declarationVector (d ∷ l)) ws (omega arith) (vectors-read k (d ∷ l) a (suc (length list)) [] (omega arith)) r
+    messages-cons k list rest (vectorsOf k (d ∷ l)) ws (omega arith)
+    (vectors-read k (vectorsOf k (d ∷ l)) (type-readable k (d ∷ l) a few) (suc (length list)) [] (omega arith)) r
 
 -- A PDU.
 
@@ -374,34 +459,28 @@ having-each (d ∷ l) o = go (attributeOf d) (o .0) (having-each l (o .1))
         let n : having (registers listeners) l ≡ [] = gone (registers listeners) domain (omega arith) b in
         rw (a, f, n) (ap (λ (r : List Declaration). d ∷ r) (rw (a, f, n) at ih))
 
--- their vectors, type by type
-vectorsInTurn : (Attribute → List Declaration) → List Vector
-vectorsInTurn of = vs (registers advertises) ++ (vs (registers faileds) ++ (vs (registers listeners) ++ (vs domain ++ [])))
+-- the vectors of a PDU, type by type
+unfoldable pub pduVectors : List Declaration → List Vector
+pduVectors l = vs (registers advertises) ++ (vs (registers faileds) ++ (vs (registers listeners) ++ (vs domain ++ [])))
   where
     vs : Attribute → List Vector
-    vs k = map declarationVector (of k)
-
-map-each : (of : Attribute → List Declaration) → vectorsInTurn of ≡ map declarationVector (inTurn of)
-unfolding vectorsInTurn
-map-each of = simp (map-append, append-nil)
+    vs k = vectorsOf k (having k l)
 
 -- a PDU whose Messages are read, and that is not too long
 walk-messages : (s : List ℕ) (vs : List Vector) → 1 ≤ length s → length s ≤ longestPdu → messages (suc (length s)) (getD s 0 0) s 1 ≡ found vs → walk s ≡ found vs
 unfolding walk
 walk-messages s vs some few e = rw (ne-eqb (length s) 0 (λ q. omega arith), le-ltb longestPdu (length s) few) e
 
--- a PDU of declarations in the order of types, if not too long, is read as their vectors
-pub walk-written : (l : List Declaration) → InOrder l → length (pduOctets l) ≤ longestPdu → walk (pduOctets l) ≡ found (map declarationVector l)
-unfolding pduOctets MessagesRead vectorsInTurn
-walk-written l o h =
-    walk-messages (pduOctets l) (map declarationVector l) (omega arith) h
-    (read (suc (length (pduOctets l))) (0 ∷ []) (omega arith) ∙ ap found (map-each of ∙ ap (map declarationVector) (having-each l o)))
-  where
-    of : Attribute → List Declaration
-    of k = having k l
+few-of : (l : List Declaration) → FewListeners l → (k : Attribute) → Fewer k (having k l)
+few-of l f k e = rw e (f .few, f .ascending)
 
+-- a PDU, if not too long, is read as its vectors
+pub walk-written : (l : List Declaration) → FewListeners l → length (pduOctets l) ≤ longestPdu → walk (pduOctets l) ≡ found (pduVectors l)
+unfolding pduOctets MessagesRead pduVectors
+walk-written l f h = walk-messages (pduOctets l) (pduVectors l) (omega arith) h (read (suc (length (pduOctets l))) (0 ∷ []) (omega arith))
+  where
     octets : Attribute → List ℕ
-    octets k = messageOctets k (of k)
+    octets k = messageOctets k (having k l)
 
     size : Attribute → ℕ
     size k = length (octets k)
@@ -410,19 +489,19 @@ walk-written l o h =
     long = simp length-append (omega arith)
 
     one : (k : Attribute) (rest : List ℕ) (ws : List Vector) → size k < 65536 → MessagesRead rest ws
-        → MessagesRead (octets k ++ rest) (map declarationVector (of k) ++ ws)
-    one k rest ws short r = messages-read k (of k) rest ws (having-attribute k l) short r
+        → MessagesRead (octets k ++ rest) (vectorsOf k (having k l) ++ ws)
+    one k rest ws short r = messages-read k (having k l) rest ws (having-attribute k l) (few-of l f k) short r
 
     read : MessagesRead (octets (registers advertises) ++ (octets (registers faileds) ++ (octets (registers listeners) ++ (octets domain ++ (0 ∷ 0 ∷ [])))))
-        (vectorsInTurn of)
+        (pduVectors l)
     read =
         one (registers advertises) _ _ (omega (arith, long))
         (one (registers faileds) _ _ (omega (arith, long))
         (one (registers listeners) _ _ (omega (arith, long)) (one domain _ _ (omega (arith, long)) messages-end)))
 
 -- what write puts into a PDU is found there again
-pub read-back : (b : Bridge) (p place : ℕ) → walk (pduOctets (write b p place .run)) ≡ found (map declarationVector (write b p place .run))
-read-back b p place = walk-written (write b p place .run) (run-in-order b p place) (run-fits b p place)
+pub read-back : (b : Bridge) → FewStreams b → (p place : ℕ) → walk (pduOctets (write b p place .run)) ≡ found (pduVectors (write b p place .run))
+read-back b f p place = walk-written (write b p place .run) (run-few b p place f) (run-fits b p place)
 
 -- What the vectors ask for.
 
@@ -514,10 +593,46 @@ vector-joins (talkerDeclaration id f v) h = go (v .health) (h .2 .health)
 vector-joins (listenerDeclaration id r) h = rw (first-read (listenerDeclaration id r) h, append-nil) (listen-read id r)
 vector-joins (domainDeclaration id q v) h = rw (first-read (domainDeclaration id q v) h, append-nil) (domain-read id q v (h .0))
 
-pub frame-joins : (l : List Declaration) → All ValidDeclaration l → frameActs (map declarationVector l) ≡ map joinOf l
+-- those of a type for the joins of its declarations
+singles-join : (l : List Declaration) → All ValidDeclaration l → frameActs (map declarationVector l) ≡ map joinOf l
 unfolding frameActs
-frame-joins [] a = refl
-frame-joins (d ∷ l) a = rw (vector-joins d (a .0), frame-joins l (a .1))
+singles-join [] a = refl
+singles-join (d ∷ l) a = rw (vector-joins d (a .0), singles-join l (a .1))
+
+-- a Listener's StreamID is within its field
+ids-within : (l : List Declaration) → All (OfAttribute (registers listeners)) l → All ValidDeclaration l → All (λ d. declaredId d < 2 ^ 64) l
+unfolding declaredId
+ids-within [] o a = tt
+ids-within (talkerDeclaration id f v ∷ l) o a = (a .0 .0, ids-within l (o .1) (a .1))
+ids-within (listenerDeclaration id r ∷ l) o a = (a .0, ids-within l (o .1) (a .1))
+ids-within (domainDeclaration id q v ∷ l) o a = absurd (no-domain (unfold attributeOf in (o .0)))
+
+type-joins : (k : Attribute) (l : List Declaration) → All (OfAttribute k) l → Fewer k l → All ValidDeclaration l → frameActs (vectorsOf k l) ≡ map joinOf l
+unfolding vectorsOf
+type-joins (registers advertises) l o f a = singles-join l a
+type-joins (registers faileds) l o f a = singles-join l a
+type-joins (registers listeners) l o f a = parts-join l (parts-pack l (f refl .0) o (f refl .1)) (ids-within l o a)
+type-joins domain l o f a = singles-join l a
+
+acts-append : (vs ws : List Vector) → frameActs (vs ++ ws) ≡ frameActs vs ++ frameActs ws
+unfolding frameActs
+acts-append [] ws = refl
+acts-append (v ∷ vs) ws = rw (acts-append vs ws, append-assoc)
+
+having-valid : (k : Attribute) (l : List Declaration) → All ValidDeclaration l → All ValidDeclaration (having k l)
+unfolding having
+having-valid k [] a = tt
+having-valid k (d ∷ l) a = all-keep ValidDeclaration (sameAttribute (attributeOf d) k) d (having k l) (a .0) (having-valid k l (a .1))
+
+-- the vectors of a PDU ask for the joins of its declarations, in their order
+pub frame-joins : (l : List Declaration) → InOrder l → FewListeners l → All ValidDeclaration l → frameActs (pduVectors l) ≡ map joinOf l
+unfolding pduVectors
+frame-joins l o f a =
+    simp (acts-append, of (registers advertises), of (registers faileds), of (registers listeners), of domain, append-nil, ← map-append)
+    (ap (map joinOf) (having-each l o))
+  where
+    of : (k : Attribute) → frameActs (vectorsOf k (having k l)) ≡ map joinOf (having k l)
+    of k = type-joins k (having k l) (having-attribute k l) (few-of l f k) (having-valid k l a)
 
 -- Every declaration of a bridge that keeps the form rules has its values within their fields.
 
@@ -586,10 +701,15 @@ run-within b h p place = go (ltb (length (declared b p)) place) refl
         rw (write-from b p place (ltb-false (length (declared b p)) place e))
         (all-take ValidDeclaration (takes rest) rest (all-drop ValidDeclaration place (declared b p) (declarations-within b h p)))
 
+pub valid-few : (b : Bridge) → Valid b → FewStreams b
+valid-few b h = (h .at-most-64, rising-ascends (ids (b .streams)) (h .ascending))
+
 -- a neighbour, whatever its settings, that gets a written PDU on one of its ports reads exactly the declarations written, as
 -- joins
 pub neighbour-reads : (b : Bridge) → Valid b → (p place : ℕ) (st : Settings) (q : ℕ) → wrongPort st q ≡ false
     → reading st q (pduOctets (write b p place .run)) ≡ acts (map joinOf (write b p place .run))
 unfolding reading walked
 neighbour-reads b h p place st q right =
-    rw (right, read-back b p place) (ap acts (frame-joins (write b p place .run) (run-within b h p place)))
+    let f : FewStreams b = valid-few b h in
+    rw (right, read-back b f p place)
+    (ap acts (frame-joins (write b p place .run) (run-in-order b p place) (run-few b p place f) (run-within b h p place)))

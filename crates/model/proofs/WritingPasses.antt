@@ -1,26 +1,33 @@
 -- Writing: a PDU takes whole declarations, is at most 1,500 octets long and as full as that allows, and the PDUs from place 0
 -- on pass every declaration of the port once.
 use mathlib.Core.Path.{_≡_, refl, sym, _∙_, ap}
-use mathlib.Core.List.{List, [], _∷_, _++_, flatten, append-nil}
+use mathlib.Core.List.{List, [], _∷_, _++_, map, flatten, append-nil}
 use mathlib.Core.Bool.{Bool, true, false, cond}
 use Prim.Native.Nat.{ℕ, zero, suc, _+_, _*_, _-_, _≤_, _<_}
-use native.Mathlib.Nat.{suc-mul, add-zero}
+use native.Mathlib.Nat.{suc-mul, add-zero, mul-le-mul-right}
+use native.Mathlib.Numerals.{add-one}
 use native.Mathlib.Omega.{arith}
-use lib.ListN.{length, take, drop, length-append, length-drop, take-append-drop, drop-of-length-le}
-use lib.Seq.{length-take-le, drop-length, drop-drop}
-use lib.Dec.{ltb, eqb}
-use borrow.Author.Tests.{ltb-true, ltb-false, lt-ltb, le-ltb, eq-eqb, ne-eqb, eqb-true, eqb-false}
+use lib.ListN.{length, length-map, take, drop, length-append, length-drop, take-append-drop, drop-of-length-le}
+use lib.Seq.{length-take-le, take-take, take-append-le, take-append-add, drop-length, drop-drop, take-append-seam, drop-append-seam}
+use lib.Dec.{ltb, leb, eqb}
+use borrow.Author.Tests.{ltb-true, ltb-false, lt-ltb, le-ltb, leb-true, leb-false, le-leb, lt-leb, eq-eqb, ne-eqb, eqb-true, eqb-false}
 use Rattle.octets.specs.Be.{be}
 use Rattle.octets.specs.Fields.{packed, flat}
 use Rattle.octets.proofs.Be.{length-be}
 use Rattle.model.specs.FrameLayout.{longestPdu}
-use Rattle.model.specs.Lists.{All, keep}
+use Rattle.model.specs.Lists.{All, keep, longest}
 use Rattle.model.specs.State.{Port, Settings, Health, sound, broken, Column, none, advertise, failed, Declared, nothing, tells, Result, Stream, Bridge, portAt, resultAt, classA, classB, supports}
-use Rattle.model.specs.Registrations.{Kind, advertises, faileds, listeners}
+use Rattle.model.specs.Registrations.{Kind, advertises, faileds, listeners, ids}
 use Rattle.model.specs.Frames.{Attribute, registers, domain, TypeOctet, notAllowed, unknown, known, typeOctet, typeNumber, firstWidths, firstLength}
-use Rattle.model.specs.Declarations.{Declaration, talkerDeclaration, listenerDeclaration, domainDeclaration, healthKind, attributeOf, advertised, failing, listening, declarationsOf, ofKind, domainOf, domainValues, declarations, vectorSize, sameAttribute, Open, noMessage, message, opening, fitting, takes, Written, write}
-use Rattle.model.specs.WrittenFrames.{fixedNumbers, failureNumbers, firstNumbers, fourOctets, declarationVector, vectorOctets, messageOf, messageOctets, having, pduOctets}
-use Rattle.model.proofs.Lists.{all-map, all-each, all-append, all-take, all-keep}
+use Rattle.model.specs.Cutting.{joined, values, octetsFor, octets}
+use Rattle.model.specs.Best.{best, least, run}
+use Rattle.model.specs.Declarations.{Declaration, talkerDeclaration, listenerDeclaration, domainDeclaration, healthKind, attributeOf, advertised, failing, listening, declarationsOf, ofKind, domainOf, domainValues, declarations, declaredId, declaredIds, sameAttribute, having, vectorSize, vectorsSize, messageSize, messagesSize, fitting, takes, Written, write}
+use Rattle.model.specs.WrittenFrames.{fixedNumbers, failureNumbers, firstNumbers, fourOctets, declarationVector, packedVector, cutAs, listenerParts, vectorsOf, vectorOctets, messageOf, messageOctets, pduOctets}
+use Rattle.model.specs.Laid.{Ascending}
+use Rattle.model.proofs.Lists.{Longest, longest-longest, all-map, all-each, all-append, all-take, all-keep, length-tabulate, longest-ends, longest-stops, longest-goes, longest-split, longest-same, longest-from, longest-within, longest-passes, longest-full}
+use Rattle.model.proofs.Ascents.{Rising, ascending-rising, ascending-take, ascending-drop}
+use Rattle.model.proofs.LeastCutting.{best-cuts}
+use Rattle.model.proofs.LongestRun.{least-take, least-most}
 
 -- Lengths.
 
@@ -181,98 +188,6 @@ declarations-in-order st p s = before advertises faileds _ (omega arith) (before
 
 -- The octets of declarations.
 
--- counted one by one, as `fitting` does
-unfoldable pub size : Open → List Declaration → ℕ
-size o [] = 0
-size o (d ∷ l) = opening o (attributeOf d) + vectorSize (attributeOf d) + size (message (attributeOf d)) l
-
-pub fitting-within : (used : ℕ) (o : Open) (l : List Declaration) → fitting used o l ≤ length l
-unfolding fitting
-fitting-within used o [] = omega arith
-fitting-within used o (d ∷ l) =
-    go (ltb longestPdu (used + opening o (attributeOf d) + vectorSize (attributeOf d)))
-    (fitting-within (used + opening o (attributeOf d) + vectorSize (attributeOf d)) (message (attributeOf d)) l)
-  where
-    go : (t : Bool) {n : ℕ} → n ≤ length l → cond t 0 (suc n) ≤ suc (length l)
-    go true h = omega arith
-    go false h = omega arith
-
--- with so many octets used, those that fit do not run past 1,500, and one more would
-fitting-fits : (used : ℕ) (o : Open) (l : List Declaration) → used ≤ longestPdu → used + size o (take (fitting used o l) l) ≤ longestPdu
-unfolding fitting size
-fitting-fits used o [] h = omega arith
-fitting-fits used o (d ∷ l) h = go (ltb longestPdu more) refl (fitting-fits more (message (attributeOf d)) l)
-  where
-    more : ℕ
-    more = used + opening o (attributeOf d) + vectorSize (attributeOf d)
-
-    n : ℕ
-    n = fitting more (message (attributeOf d)) l
-
-    go : (t : Bool) → ltb longestPdu more ≡ t → (more ≤ longestPdu → more + size (message (attributeOf d)) (take n l) ≤ longestPdu)
-        → used + size o (take (cond t 0 (suc n)) (d ∷ l)) ≤ longestPdu
-    go true e ih = omega arith
-    go false e ih = omega (arith, ih (ltb-false longestPdu more e))
-
-fitting-full : (used : ℕ) (o : Open) (l : List Declaration) → fitting used o l < length l → longestPdu < used + size o (take (suc (fitting used o l)) l)
-unfolding fitting size
-fitting-full used o [] h = absurd (omega arith)
-fitting-full used o (d ∷ l) h = go (ltb longestPdu more) refl (fitting-full more (message (attributeOf d)) l) h
-  where
-    more : ℕ
-    more = used + opening o (attributeOf d) + vectorSize (attributeOf d)
-
-    n : ℕ
-    n = fitting more (message (attributeOf d)) l
-
-    go : (t : Bool) → ltb longestPdu more ≡ t → (n < length l → longestPdu < more + size (message (attributeOf d)) (take (suc n) l))
-        → cond t 0 (suc n) < suc (length l) → longestPdu < used + size o (take (suc (cond t 0 (suc n))) (d ∷ l))
-    go true e ih h = omega (arith, ltb-true longestPdu more e)
-    go false e ih h = omega (arith, ih (omega arith))
-
--- counted type by type: a Message of n declarations of type k
-unfoldable pub messageSize : Attribute → ℕ → ℕ
-messageSize k zero = 0
-messageSize k (suc n) = 6 + suc n * vectorSize k
-
--- Messages of so many declarations of each type
-unfoldable pub messagesSize : (Attribute → ℕ) → ℕ
-messagesSize c = of (registers advertises) + of (registers faileds) + of (registers listeners) + of domain
-  where
-    of : Attribute → ℕ
-    of k = messageSize k (c k)
-
--- of declarations, how many are of a type
-unfoldable pub count : List Declaration → Attribute → ℕ
-count l k = length (having k l)
-
--- one of type j more
-unfoldable pub oneMore : Attribute → (Attribute → ℕ) → Attribute → ℕ
-oneMore j c k = cond (sameAttribute j k) (suc (c k)) (c k)
-
-count-cons : (d : Declaration) (l : List Declaration) (k : Attribute) → count (d ∷ l) k ≡ oneMore (attributeOf d) (count l) k
-unfolding having oneMore count
-count-cons d l k = go (sameAttribute (attributeOf d) k)
-  where
-    go : (t : Bool) → length (keep t d (having k l)) ≡ cond t (suc (length (having k l))) (length (having k l))
-    go true = refl
-    go false = refl
-
--- a declaration opens a Message where there is none of its type, and else lengthens one
-messages-open : (j : Attribute) (c : Attribute → ℕ) → c j ≡ 0 → messagesSize (oneMore j c) ≡ messagesSize c + 6 + vectorSize j
-unfolding messagesSize oneMore messageSize sameAttribute typeNumber vectorSize
-messages-open (registers advertises) c h = rw h (omega arith)
-messages-open (registers faileds) c h = rw h (omega arith)
-messages-open (registers listeners) c h = rw h (omega arith)
-messages-open domain c h = rw h (omega arith)
-
-messages-same : (j : Attribute) (c : Attribute → ℕ) (n : ℕ) → c j ≡ suc n → messagesSize (oneMore j c) ≡ messagesSize c + vectorSize j
-unfolding messagesSize oneMore messageSize sameAttribute typeNumber vectorSize
-messages-same (registers advertises) c n h = rw h (omega arith)
-messages-same (registers faileds) c n h = rw h (omega arith)
-messages-same (registers listeners) c n h = rw h (omega arith)
-messages-same domain c n h = rw h (omega arith)
-
 pub having-attribute : (k : Attribute) (l : List Declaration) → All (OfAttribute k) (having k l)
 unfolding having
 having-attribute k [] = tt
@@ -288,87 +203,358 @@ unfolding having
 having-none k [] a = refl
 having-none k (d ∷ l) a = rw (other-attribute (attributeOf d) k (λ e. omega arith)) (having-none k l (a .1))
 
-length-vectors : (k : Attribute) (l : List Declaration) → All (OfAttribute k) l → length (flat (λ e. vectorOctets (declarationVector e)) l) ≡ length l * vectorSize k
-unfolding flat
-length-vectors k [] a = omega arith
-length-vectors k (d ∷ l) a =
-    let e = suc-mul (length l) (vectorSize k) in
-    simp (length-append, length-vector d, a .0, length-vectors k l (a .1)) (omega arith)
+pub having-append : (k : Attribute) (l m : List Declaration) → having k (l ++ m) ≡ having k l ++ having k m
+unfolding having
+having-append k [] m = refl
+having-append k (d ∷ l) m = rw (having-append k l m) (go (sameAttribute (attributeOf d) k))
+  where
+    go : (t : Bool) → keep t d (having k l ++ having k m) ≡ keep t d (having k l) ++ having k m
+    go true = refl
+    go false = refl
 
-pub length-message : (k : Attribute) (l : List Declaration) → All (OfAttribute k) l → length (messageOctets k l) ≡ messageSize k (length l)
+having-own : (k : Attribute) (l : List Declaration) → All (OfAttribute k) l → having k l ≡ l
+unfolding having
+having-own k [] a = refl
+having-own k (d ∷ l) a = rw (a .0, same-attribute k) (ap (λ (r : List Declaration). d ∷ r) (having-own k l (a .1)))
+
+having-other : (j k : Attribute) (l : List Declaration) → sameAttribute k j ≡ false → All (OfAttribute k) l → having j l ≡ []
+unfolding having
+having-other j k [] e a = refl
+having-other j k (d ∷ l) e a = rw (a .0, e) (having-other j k l e (a .1))
+
+-- the vectors of declarations, one each
+length-singles : (k : Attribute) (l : List Declaration) → All (OfAttribute k) l → length (flat vectorOctets (map declarationVector l)) ≡ length l * vectorSize k
+unfolding flat
+length-singles k [] a = omega arith
+length-singles k (d ∷ l) a =
+    let e = suc-mul (length l) (vectorSize k) in
+    simp (length-append, length-vector d, a .0, length-singles k l (a .1)) (omega arith)
+
+-- of Listeners packed
+pub length-packed : (g : List Declaration) → length (vectorOctets (packedVector g)) ≡ octetsFor (values (declaredIds g))
+unfolding vectorOctets packedVector packed be octetsFor
+length-packed g = simp (length-append, length-tabulate) (omega arith)
+
+pub ids-take : (n : ℕ) (l : List Declaration) → declaredIds (take n l) ≡ take n (declaredIds l)
+unfolding declaredIds
+ids-take zero l = refl
+ids-take (suc n) [] = refl
+ids-take (suc n) (d ∷ l) = ap (λ (r : List ℕ). declaredId d ∷ r) (ids-take n l)
+
+pub ids-drop : (n : ℕ) (l : List Declaration) → declaredIds (drop n l) ≡ drop n (declaredIds l)
+unfolding declaredIds
+ids-drop zero l = refl
+ids-drop (suc n) [] = refl
+ids-drop (suc n) (d ∷ l) = ids-drop n l
+
+pub length-ids : (l : List Declaration) → length (declaredIds l) ≡ length l
+unfolding declaredIds
+length-ids l = length-map l declaredId
+
+-- declarations cut as their StreamIDs are: the StreamIDs of the first part, and of the rest
+pub cut-first : (g : List ℕ) (c : List (List ℕ)) (l : List Declaration) → joined (g ∷ c) ≡ declaredIds l
+    → (declaredIds (take (length g) l) ≡ g) × (joined c ≡ declaredIds (drop (length g) l))
+cut-first g c l e = (
+  ids-take (length g) l ∙ ap (take (length g)) (sym e) ∙ take-append-seam g (joined c),
+  sym (drop-append-seam g (joined c)) ∙ ap (drop (length g)) e ∙ sym (ids-drop (length g) l),
+)
+
+length-cut-as : (c : List (List ℕ)) (l : List Declaration) → joined c ≡ declaredIds l → length (flat vectorOctets (map packedVector (cutAs c l))) ≡ octets c
+unfolding flat cutAs
+length-cut-as [] l e = refl
+length-cut-as (g ∷ c) l e =
+    let s = cut-first g c l e in
+    simp (length-append, length-packed (take (length g) l), s .0, length-cut-as c (drop (length g) l) (s .1))
+
+length-vectors : (k : Attribute) (l : List Declaration) → All (OfAttribute k) l → length (flat vectorOctets (vectorsOf k l)) ≡ vectorsSize k l
+unfolding vectorsOf vectorsSize listenerParts least
+length-vectors (registers advertises) l a = length-singles (registers advertises) l a
+length-vectors (registers faileds) l a = length-singles (registers faileds) l a
+length-vectors (registers listeners) l a = length-cut-as (best (declaredIds l)) l (best-cuts (declaredIds l) .0)
+length-vectors domain l a = length-singles domain l a
+
+pub length-message : (k : Attribute) (l : List Declaration) → All (OfAttribute k) l → length (messageOctets k l) ≡ messageSize k l
 unfolding messageOctets messageOf messageSize
 length-message k [] a = refl
 length-message k (d ∷ l) a = simp (length-append, length-be, length-vectors k (d ∷ l) a) (omega arith)
 
-length-pdu : (l : List Declaration) → length (pduOctets l) ≡ 3 + messagesSize (count l)
-unfolding pduOctets messagesSize count
+pub length-pdu : (l : List Declaration) → length (pduOctets l) ≡ 3 + messagesSize l
+unfolding pduOctets messagesSize
 length-pdu l = simp (length-append, of (registers advertises), of (registers faileds), of (registers listeners), of domain) (omega arith)
   where
-    of : (k : Attribute) → length (messageOctets k (having k l)) ≡ messageSize k (length (having k l))
+    of : (k : Attribute) → length (messageOctets k (having k l)) ≡ messageSize k (having k l)
     of k = length-message k (having k l) (having-attribute k l)
-
-count-messages : (d : Declaration) (l : List Declaration) → messagesSize (count (d ∷ l)) ≡ messagesSize (oneMore (attributeOf d) (count l))
-unfolding messagesSize
-count-messages d l =
-    rw (count-cons d l (registers advertises), count-cons d l (registers faileds), count-cons d l (registers listeners), count-cons d l domain)
-
-count-none : (k : Attribute) (l : List Declaration) → All (λ d. typeNumber k < typeNumber (attributeOf d)) l → count l k ≡ 0
-unfolding count
-count-none k l a = rw (having-none k l a)
-
-count-head : (d : Declaration) (l : List Declaration) → count (d ∷ l) (attributeOf d) ≡ suc (count l (attributeOf d))
-unfolding oneMore
-count-head d l = count-cons d l (attributeOf d) ∙ rw (same-attribute (attributeOf d))
-
--- in the order of types the two counts agree
-size-in-order : (l : List Declaration) → InOrder l → size noMessage l ≡ messagesSize (count l)
-unfolding size opening
-size-in-order [] o = unfold messagesSize messageSize count having in refl
-size-in-order (d ∷ []) o =
-    omega (arith, count-messages d [], messages-open (attributeOf d) (count []) (count-none (attributeOf d) [] tt), size-in-order [] tt)
-size-in-order (d ∷ e ∷ l) o = go (sameAttribute (attributeOf d) (attributeOf e)) refl (size-in-order (e ∷ l) (o .1))
-  where
-    go : (t : Bool) → sameAttribute (attributeOf d) (attributeOf e) ≡ t
-        → 6 + vectorSize (attributeOf e) + size (message (attributeOf e)) l ≡ messagesSize (count (e ∷ l))
-        → 6 + vectorSize (attributeOf d) + (cond t 0 6 + vectorSize (attributeOf e) + size (message (attributeOf e)) l) ≡ messagesSize (count (d ∷ e ∷ l))
-    go true q ih =
-        let s : count (e ∷ l) (attributeOf d) ≡ suc (count l (attributeOf d)) = rw (attributes-same (attributeOf d) (attributeOf e) q) (count-head e l) in
-        omega (arith, count-messages d (e ∷ l), messages-same (attributeOf d) (count (e ∷ l)) (count l (attributeOf d)) s)
-    go false q ih =
-        let apart : typeNumber (attributeOf d) ≡ typeNumber (attributeOf e) → ⊥ = attributes-other (attributeOf d) (attributeOf e) q in
-        let less : typeNumber (attributeOf d) < typeNumber (attributeOf e) = omega (arith, o .0 .0) in
-        let later : All (λ x. typeNumber (attributeOf d) < typeNumber (attributeOf x)) l = all-map (NotBefore (attributeOf e)) (λ x. typeNumber (attributeOf d) < typeNumber (attributeOf x)) (λ x h. omega arith) l (o .1 .0) in
-        omega (arith, count-messages d (e ∷ l), messages-open (attributeOf d) (count (e ∷ l)) (count-none (attributeOf d) (e ∷ l) (less, later)))
 
 -- "one PDU takes as many as fit in 1,500 octets whole".
 
-pub takes-fits : (l : List Declaration) → InOrder l → length (pduOctets (take (takes l) l)) ≤ longestPdu
-unfolding takes
-takes-fits l o =
-    let run : List Declaration = take (fitting 3 noMessage l) l in
-    omega (arith, length-pdu run, size-in-order run (order-take (fitting 3 noMessage l) l o), fitting-fits 3 noMessage l (omega arith))
+-- with so many octets used, n of the declarations fit
+abbrev pub fitsWith : ℕ → List Declaration → ℕ → Bool
+fitsWith used l n = leb (used + messagesSize (take n l)) longestPdu
 
-pub takes-full : (l : List Declaration) → InOrder l → takes l < length l → longestPdu < length (pduOctets (take (suc (takes l)) l))
-unfolding takes
-takes-full l o h =
-    let run : List Declaration = take (suc (fitting 3 noMessage l)) l in
-    omega (arith, length-pdu run, size-in-order run (order-take (suc (fitting 3 noMessage l)) l o), fitting-full 3 noMessage l h)
+no-messages : messagesSize [] ≡ 0
+unfolding messagesSize messageSize having
+no-messages = refl
+
+pub takes-fits : (l : List Declaration) → length (pduOctets (take (takes l) l)) ≤ longestPdu
+unfolding takes fitting
+takes-fits l =
+    let n : ℕ = longest (fitsWith 3 l) 0 (length l) in
+    let e : fitsWith 3 l n ≡ true = longest-passes (fitsWith 3 l) 0 (length l) (rw no-messages refl) in
+    omega (arith, length-pdu (take n l), leb-true (3 + messagesSize (take n l)) longestPdu e)
+
+pub takes-full : (l : List Declaration) → takes l < length l → longestPdu < length (pduOctets (take (suc (takes l)) l))
+unfolding takes fitting
+takes-full l h =
+    let n : ℕ = longest (fitsWith 3 l) 0 (length l) in
+    let e : fitsWith 3 l (suc n) ≡ false = rw (add-one n) at (longest-full (fitsWith 3 l) 0 (length l) (omega arith)) in
+    omega (arith, length-pdu (take (suc n) l), leb-false (3 + messagesSize (take (suc n) l)) longestPdu e)
 
 pub takes-within : (l : List Declaration) → takes l ≤ length l
-unfolding takes
-takes-within l = fitting-within 3 noMessage l
+unfolding takes fitting
+takes-within l = omega (arith, longest-within (fitsWith 3 l) 0 (length l) .1)
 
 -- there is room for one
-pub takes-one : (l : List Declaration) → 1 ≤ length l → 1 ≤ takes l
-unfolding takes fitting opening vectorSize
-takes-one [] h = absurd (omega arith)
-takes-one (d ∷ l) h = go (attributeOf d)
+one-message : (d : Declaration) → messagesSize (d ∷ []) ≤ 43
+unfolding messagesSize messageSize having sameAttribute typeNumber vectorsSize vectorSize declaredIds
+one-message d = go (attributeOf d)
   where
-    go : (k : Attribute) → 1 ≤ cond (ltb longestPdu (9 + vectorSize k)) 0 (suc (fitting (9 + vectorSize k) (message k) l))
+    one : least (declaredId d ∷ []) ≤ 12
+    one = omega (arith, least-most (declaredId d ∷ []) (omega arith))
+
+    size : Attribute → Attribute → ℕ
+    size k j = messageSize j (keep (sameAttribute k j) d [])
+
+    go : (k : Attribute) → size k (registers advertises) + size k (registers faileds) + size k (registers listeners) + size k domain ≤ 43
     go (registers advertises) = omega arith
     go (registers faileds) = omega arith
-    go (registers listeners) = omega arith
+    go (registers listeners) = omega (arith, one)
     go domain = omega arith
+
+pub takes-one : (l : List Declaration) → 1 ≤ length l → 1 ≤ takes l
+unfolding takes fitting
+takes-one [] h = absurd (omega arith)
+takes-one (d ∷ l) h =
+    let e : fitsWith 3 (d ∷ l) 1 ≡ true = le-leb (3 + messagesSize (d ∷ [])) longestPdu (omega (arith, one-message d)) in
+    rw (longest-goes (fitsWith 3 (d ∷ l)) 0 (length l) e) (omega (arith, longest-within (fitsWith 3 (d ∷ l)) 1 (length l) .0))
+
+-- Type by type: of declarations of one type and of later types, those of the first are taken first.
+
+abbrev pub After : Attribute → Declaration → Type 0
+After k d = typeNumber k < typeNumber (attributeOf d)
+
+module _ (k : Attribute) (l m : List Declaration) (own : All (OfAttribute k) l) (after : All (After k) m) where
+  having-first : (j : Attribute) → having j (l ++ m) ≡ cond (sameAttribute k j) l (having j m)
+  having-first j = having-append j l m ∙ go (sameAttribute k j) refl
+    where
+      go : (t : Bool) → sameAttribute k j ≡ t → having j l ++ having j m ≡ cond t l (having j m)
+      go true e =
+          let none : having j m ≡ [] = rw (← attributes-same k j e) (having-none k m after) in
+          rw (none, append-nil, ← attributes-same k j e) (having-own k l own)
+      go false e = rw (having-other j k l e own)
+
+  first-none : having k m ≡ []
+  first-none = having-none k m after
+
+  pub messages-first : messagesSize (l ++ m) ≡ messageSize k l + messagesSize m
+  unfolding messagesSize
+  messages-first =
+      rw (having-first (registers advertises), having-first (registers faileds), having-first (registers listeners), having-first domain)
+      (go k first-none)
+    where
+      size : Attribute → Attribute → ℕ
+      size i j = messageSize j (cond (sameAttribute i j) l (having j m))
+
+      of : Attribute → ℕ
+      of j = messageSize j (having j m)
+
+      none : (i : Attribute) → having i m ≡ [] → of i ≡ 0
+      none i e = rw e (unfold messageSize in refl)
+
+      go : (i : Attribute) → having i m ≡ []
+          → size i (registers advertises) + size i (registers faileds) + size i (registers listeners) + size i domain
+          ≡ messageSize i l + (of (registers advertises) + of (registers faileds) + of (registers listeners) + of domain)
+      go (registers advertises) e = unfold sameAttribute typeNumber in (omega (arith, none (registers advertises) e))
+      go (registers faileds) e = unfold sameAttribute typeNumber in (omega (arith, none (registers faileds) e))
+      go (registers listeners) e = unfold sameAttribute typeNumber in (omega (arith, none (registers listeners) e))
+      go domain e = unfold sameAttribute typeNumber in (omega (arith, none domain e))
+
+-- of one type
+pub messages-one : (k : Attribute) (l : List Declaration) → All (OfAttribute k) l → messagesSize l ≡ messageSize k l
+messages-one k l own =
+    ap messagesSize (sym (append-nil l)) ∙ messages-first k l [] own tt ∙ omega (arith, no-messages)
+
+-- what fits of the later ones counts where all of the first do
+pub fitting-types : (used : ℕ) (k : Attribute) (l m : List Declaration) → All (OfAttribute k) l → All (After k) m
+    → fitting used (l ++ m) ≡ cond (ltb (fitting used l) (length l)) (fitting used l) (length l + fitting (used + messageSize k l) m)
+unfolding fitting
+fitting-types used k l m own after =
+    rw (length-append l m, longest-split (fitsWith used (l ++ m)) 0 (length l) (length m), near, far) (unary (length l))
+  where
+    near : longest (fitsWith used (l ++ m)) 0 (length l) ≡ longest (fitsWith used l) 0 (length l)
+    near =
+        longest-same (fitsWith used (l ++ m)) (fitsWith used l) 0 (length l)
+        (λ i a b. ap (λ (r : List Declaration). leb (used + messagesSize r) longestPdu) (take-append-le i l m (omega arith)))
+
+    rest : (i : ℕ) → used + messagesSize (take (length l + i) (l ++ m)) ≡ used + messageSize k l + messagesSize (take i m)
+    rest i = rw (take-append-add l m i) (omega (arith, messages-first k l (take i m) own (all-take (After k) i m after)))
+
+    far : longest (fitsWith used (l ++ m)) (0 + length l) (length m) ≡ length l + longest (fitsWith (used + messageSize k l) m) 0 (length m)
+    far =
+        let e : 0 + length l ≡ length l + 0 = omega arith in
+        rw (e, longest-from (fitsWith used (l ++ m)) (length l) 0 (length m))
+        (ap (λ (n : ℕ). length l + n)
+        (longest-same (λ i. fitsWith used (l ++ m) (length l + i)) (fitsWith (used + messageSize k l) m) 0 (length m)
+        (λ i a b. ap (λ (n : ℕ). leb n longestPdu) (rest i))))
+
+    unary : (n : ℕ) → cond (ltb (longest (fitsWith used l) 0 (length l)) (0 + n)) (longest (fitsWith used l) 0 (length l))
+        (length l + longest (fitsWith (used + messageSize k l) m) 0 (length m))
+        ≡ cond (ltb (longest (fitsWith used l) 0 (length l)) n) (longest (fitsWith used l) 0 (length l))
+        (length l + longest (fitsWith (used + messageSize k l) m) 0 (length m))
+    unary n = let e : 0 + n ≡ n = omega arith in rw e
+
+-- the Message of some
+pub message-some : (k : Attribute) (l : List Declaration) → 1 ≤ length l → messageSize k l ≡ 6 + vectorsSize k l
+unfolding messageSize
+message-some k [] h = absurd (omega arith)
+message-some k (d ∷ l) h = refl
+
+module _ (used : ℕ) (k : Attribute) (l : List Declaration) (own : All (OfAttribute k) l) where
+  pub fitting-one : fitting used l ≡ longest (λ n. leb (used + 6 + vectorsSize k (take n l)) longestPdu) 0 (length l)
+  unfolding fitting
+  fitting-one =
+      longest-same (fitsWith used l) (λ n. leb (used + 6 + vectorsSize k (take n l)) longestPdu) 0 (length l)
+      (λ i a b. ap (λ (n : ℕ). leb n longestPdu) (size i a (omega arith)))
+    where
+      size : (i : ℕ) → 0 < i → i ≤ length l → used + messagesSize (take i l) ≡ used + 6 + vectorsSize k (take i l)
+      size i a b =
+          omega (
+            arith,
+            messages-one k (take i l) (all-take (OfAttribute k) i l own),
+            message-some k (take i l) (omega (arith, length-take-le i l b)),
+          )
+
+  -- there is no room for a Message
+  pub fitting-over : longestPdu < used + 6 → fitting used l ≡ 0
+  fitting-over h = fitting-one ∙ go (length l)
+    where
+      go : (n : ℕ) → longest (λ n. leb (used + 6 + vectorsSize k (take n l)) longestPdu) 0 n ≡ 0
+      go zero = longest-ends _ 0
+      go (suc n) = longest-stops _ 0 n (lt-leb (used + 6 + vectorsSize k (take (0 + 1) l)) longestPdu (omega arith))
+
+-- one per vector
+pub fitting-single : (used : ℕ) (k : Attribute) (l : List Declaration) → All (OfAttribute k) l → (k ≡ registers listeners → ⊥)
+    → fitting used l ≡ longest (λ n. leb (used + 6 + n * vectorSize k) longestPdu) 0 (length l)
+fitting-single used k l own h =
+    fitting-one used k l own
+    ∙ longest-same (λ n. leb (used + 6 + vectorsSize k (take n l)) longestPdu) (λ n. leb (used + 6 + n * vectorSize k) longestPdu) 0 (length l)
+    (λ i a b. ap (λ (n : ℕ). leb (used + 6 + n) longestPdu) (singles k h (take i l) ∙ ap (λ (n : ℕ). n * vectorSize k) (length-take-le i l (omega arith))))
+  where
+    singles : (k : Attribute) → (k ≡ registers listeners → ⊥) → (r : List Declaration) → vectorsSize k r ≡ length r * vectorSize k
+    singles (registers advertises) h r = unfold vectorsSize in refl
+    singles (registers faileds) h r = unfold vectorsSize in refl
+    singles (registers listeners) h r = absurd (h refl)
+    singles domain h r = unfold vectorsSize in refl
+
+-- Listeners packed
+pub fitting-listeners : (used : ℕ) (l : List Declaration) → All (OfAttribute (registers listeners)) l → used + 6 ≤ longestPdu
+    → fitting used l ≡ run (longestPdu - (used + 6)) (declaredIds l)
+unfolding run vectorsSize
+fitting-listeners used l own h =
+    fitting-one used (registers listeners) l own
+    ∙ rw (length-ids l)
+    (longest-same (λ n. leb (used + 6 + least (declaredIds (take n l))) longestPdu) (λ n. leb (least (take n (declaredIds l))) (longestPdu - (used + 6))) 0 (length l)
+    (λ i a b. rw (ids-take i l) (same (least (take i (declaredIds l))))))
+  where
+    same : (n : ℕ) → leb (used + 6 + n) longestPdu ≡ leb n (longestPdu - (used + 6))
+    same n = go (leb n (longestPdu - (used + 6))) refl
+      where
+        go : (t : Bool) → leb n (longestPdu - (used + 6)) ≡ t → leb (used + 6 + n) longestPdu ≡ t
+        go true e = le-leb (used + 6 + n) longestPdu (omega (arith, leb-true n (longestPdu - (used + 6)) e))
+        go false e = lt-leb (used + 6 + n) longestPdu (omega (arith, leb-false n (longestPdu - (used + 6)) e))
+
+-- The run is the longest that fits, with all of its Messages counted: fewer declarations never take more octets.
+
+abbrev pub pduFits : List Declaration → ℕ → Bool
+pduFits l n = leb (length (pduOctets (take n l))) longestPdu
+
+-- at most 64 Listeners, by ascending StreamID
+pub record FewListeners (l : List Declaration) : Type 0 where
+  pub few : length (having (registers listeners) l) ≤ 64
+  pub ascending : Ascending (declaredIds (having (registers listeners) l))
+
+vectors-rise : (k : Attribute) (l m : List Declaration)
+    → (k ≡ registers listeners → (length (l ++ m) ≤ 64) × Rising (declaredIds (l ++ m))) → vectorsSize k l ≤ vectorsSize k (l ++ m)
+unfolding vectorsSize
+vectors-rise (registers advertises) l m h = rw (length-append l m) (mul-le-mul-right _ (omega arith))
+vectors-rise (registers faileds) l m h = rw (length-append l m) (mul-le-mul-right _ (omega arith))
+vectors-rise (registers listeners) l m h =
+    let n : length (declaredIds (l ++ m)) ≤ 64 = rw (length-ids (l ++ m)) (h refl .0) in
+    let e : take (length l) (declaredIds (l ++ m)) ≡ declaredIds l = sym (ids-take (length l) (l ++ m)) ∙ ap declaredIds (take-append-seam l m) in
+    rw e at (least-take (declaredIds (l ++ m)) n (h refl .1) (length l))
+vectors-rise domain l m h = rw (length-append l m) (mul-le-mul-right _ (omega arith))
+
+message-rises : (k : Attribute) (l m : List Declaration)
+    → (k ≡ registers listeners → (length (l ++ m) ≤ 64) × Rising (declaredIds (l ++ m))) → messageSize k l ≤ messageSize k (l ++ m)
+unfolding messageSize
+message-rises k [] m h = omega arith
+message-rises k (d ∷ l) m h = omega (arith, vectors-rise k (d ∷ l) m h)
+
+messages-rise : (l m : List Declaration) → FewListeners (l ++ m) → messagesSize l ≤ messagesSize (l ++ m)
+unfolding messagesSize
+messages-rise l m f = omega (arith, of (registers advertises), of (registers faileds), of (registers listeners), of domain)
+  where
+    of : (k : Attribute) → messageSize k (having k l) ≤ messageSize k (having k (l ++ m))
+    of k =
+        rw (having-append k l m)
+        (message-rises k (having k l) (having k m) (λ e. rw (e, ← having-append (registers listeners) l m) (f .few, ascending-rising (declaredIds (having (registers listeners) (l ++ m))) (f .ascending))))
+
+-- of some of the declarations too
+few-parts : (n : ℕ) (l : List Declaration) → FewListeners l → FewListeners (take n l) × FewListeners (drop n l)
+few-parts n l f = (
+  record { few = omega (arith, f .few, long); ascending = rw front at (ascending-take m (declaredIds (having k l)) (f .ascending)) },
+  record { few = omega (arith, f .few, long); ascending = rw rest at (ascending-drop m (declaredIds (having k l)) (f .ascending)) },
+)
+  where
+    k : Attribute
+    k = registers listeners
+
+    a : List Declaration
+    a = having k (take n l)
+
+    b : List Declaration
+    b = having k (drop n l)
+
+    m : ℕ
+    m = length a
+
+    e : having k l ≡ a ++ b
+    e = ap (having k) (sym (take-append-drop n l)) ∙ having-append k (take n l) (drop n l)
+
+    long : length (having k l) ≡ length a + length b
+    long = ap length e ∙ length-append a b
+
+    front : take m (declaredIds (having k l)) ≡ declaredIds a
+    front = sym (ids-take m (having k l)) ∙ ap declaredIds (ap (take m) e ∙ take-append-seam a b)
+
+    rest : drop m (declaredIds (having k l)) ≡ declaredIds b
+    rest = sym (ids-drop m (having k l)) ∙ ap declaredIds (ap (drop m) e ∙ drop-append-seam a b)
+
+messages-take : (l : List Declaration) → FewListeners l → (j k : ℕ) → j ≤ k → messagesSize (take j l) ≤ messagesSize (take k l)
+messages-take l f j k h =
+    let g : FewListeners (take k l) = few-parts k l f .0 in
+    let e : take j l ++ drop j (take k l) ≡ take k l = rw (← take-take j k l h) (take-append-drop j (take k l)) in
+    rw e at (messages-rise (take j l) (drop j (take k l)) (rw e g))
+
+pub takes-longest : (l : List Declaration) → FewListeners l → Longest (pduFits l) (length l) (takes l)
+unfolding takes fitting
+takes-longest l f =
+    rw (longest-same (fitsWith 3 l) (pduFits l) 0 (length l) (λ i a b. ap (λ (n : ℕ). leb n longestPdu) (sym (length-pdu (take i l)))))
+    (longest-longest (pduFits l) fewer (length l) (rw (length-pdu [], no-messages) refl))
+  where
+    fewer : (j k : ℕ) → j ≤ k → pduFits l k ≡ true → pduFits l j ≡ true
+    fewer j k h e =
+        le-leb (length (pduOctets (take j l))) longestPdu
+        (omega (arith, leb-true (length (pduOctets (take k l))) longestPdu e, length-pdu (take j l), length-pdu (take k l), messages-take l f j k h))
 
 -- no declaration is left
 pub no-declarations : pduOctets [] ≡ 0 ∷ 0 ∷ 0 ∷ []
@@ -380,6 +566,61 @@ no-declarations = refl
 -- the declarations of port p, numbered from 1
 unfoldable pub declared : Bridge → ℕ → List Declaration
 declared b p = declarations (b .settings) (p - 1) (b .streams)
+
+-- its Listeners are at most 64, by ascending StreamID
+above-listeners : (i p : ℕ) (s : List Stream) → All (λ j. i < j) (ids s) → All (λ j. i < j) (declaredIds (ofKind listeners p s))
+unfolding ids ofKind declarationsOf listening declaredIds declaredId
+above-listeners i p [] a = tt
+above-listeners i p (x ∷ s) a = go (resultAt x p .declares) (above-listeners i p s (a .1))
+  where
+    go : (d : Declared) → All (λ j. i < j) (declaredIds (ofKind listeners p s)) → All (λ j. i < j) (declaredIds (listening x d ++ ofKind listeners p s))
+    go nothing h = h
+    go (tells r) h = (a .0, h)
+
+pub listeners-ascend : (p : ℕ) (s : List Stream) → Ascending (ids s) → Ascending (declaredIds (ofKind listeners p s))
+unfolding ids ofKind declarationsOf listening declaredIds declaredId
+listeners-ascend p [] a = tt
+listeners-ascend p (x ∷ s) a = go (resultAt x p .declares) (above-listeners (x .id) p s (a .0)) (listeners-ascend p s (a .1))
+  where
+    go : (d : Declared) → All (λ j. x .id < j) (declaredIds (ofKind listeners p s)) → Ascending (declaredIds (ofKind listeners p s))
+        → Ascending (declaredIds (listening x d ++ ofKind listeners p s))
+    go nothing h r = r
+    go (tells q) h r = (h, r)
+
+pub listeners-few : (p : ℕ) (s : List Stream) → length (ofKind listeners p s) ≤ length s
+unfolding ofKind declarationsOf listening
+listeners-few p [] = omega arith
+listeners-few p (x ∷ s) = go (resultAt x p .declares) (listeners-few p s)
+  where
+    go : (d : Declared) → length (ofKind listeners p s) ≤ length s → length (listening x d ++ ofKind listeners p s) ≤ suc (length s)
+    go nothing h = omega arith
+    go (tells r) h = omega arith
+
+listeners-of : (st : Settings) (p : ℕ) (s : List Stream) → having (registers listeners) (declarations st p s) ≡ ofKind listeners p s
+unfolding declarations
+listeners-of st p s =
+    let k : Attribute = registers listeners in
+    rw (
+      having-append k (ofKind advertises p s) (ofKind faileds p s ++ (ofKind listeners p s ++ domainValues st (portAt st p))),
+      having-append k (ofKind faileds p s) (ofKind listeners p s ++ domainValues st (portAt st p)),
+      having-append k (ofKind listeners p s) (domainValues st (portAt st p)),
+      having-other k (registers advertises) (ofKind advertises p s) (unfold sameAttribute typeNumber in refl) (ofKind-attribute advertises p s),
+      having-other k (registers faileds) (ofKind faileds p s) (unfold sameAttribute typeNumber in refl) (ofKind-attribute faileds p s),
+      having-other k domain (domainValues st (portAt st p)) (unfold sameAttribute typeNumber in refl) (domains-attribute st (portAt st p)),
+      having-own k (ofKind listeners p s) (ofKind-attribute listeners p s),
+      append-nil (ofKind listeners p s),
+    )
+
+-- at most 64 streams, by ascending StreamID
+abbrev pub FewStreams : Bridge → Type 0
+FewStreams b = (length (b .streams) ≤ 64) × Ascending (ids (b .streams))
+
+pub declared-few : (b : Bridge) → FewStreams b → (p : ℕ) → FewListeners (declared b p)
+unfolding declared
+declared-few b h p = record {
+  few = rw (listeners-of (b .settings) (p - 1) (b .streams)) (omega (arith, h .0, listeners-few (p - 1) (b .streams)));
+  ascending = rw (listeners-of (b .settings) (p - 1) (b .streams)) (listeners-ascend (p - 1) (b .streams) (h .1));
+}
 
 module _ (b : Bridge) (p place : ℕ) where
   -- 13 "place is above the number of declarations"
@@ -429,7 +670,7 @@ module _ (b : Bridge) (p place : ℕ) where
     where
       go : (t : Bool) → ltb (length (declared b p)) place ≡ t → length (pduOctets (write b p place .run)) ≤ longestPdu
       go true e = rw (write-above (ltb-true (length (declared b p)) place e)) (omega (arith, ap length no-declarations))
-      go false e = rw (write-from (ltb-false (length (declared b p)) place e)) (takes-fits (drop place (declared b p)) rest-in-order)
+      go false e = rw (write-from (ltb-false (length (declared b p)) place e)) (takes-fits (drop place (declared b p)))
 
   -- where declarations are left, one more would not have fitted
   pub run-full : place ≤ length (declared b p) → write b p place .next < length (declared b p)
@@ -437,12 +678,29 @@ module _ (b : Bridge) (p place : ℕ) where
   run-full h k =
       let rest : List Declaration = drop place (declared b p) in
       let left : takes rest < length rest = simp length-drop (omega (arith, ap (λ (w : Written). w .next) (write-from h))) in
-      rw (write-from h, length-take-le (takes rest) rest (takes-within rest)) (takes-full rest rest-in-order left)
+      rw (write-from h, length-take-le (takes rest) rest (takes-within rest)) (takes-full rest left)
+
+  -- it is the longest run that fits
+  pub write-longest : FewStreams b → place ≤ length (declared b p)
+      → Longest (pduFits (drop place (declared b p))) (length (drop place (declared b p))) (length (write b p place .run))
+  write-longest f h =
+      let rest : List Declaration = drop place (declared b p) in
+      rw (write-from h, length-take-le (takes rest) rest (takes-within rest)) (takes-longest rest (few-parts place (declared b p) (declared-few b f p) .1))
+
+  -- and its Listeners are few
+  pub run-few : FewStreams b → FewListeners (write b p place .run)
+  run-few f = go (ltb (length (declared b p)) place) refl
+    where
+      go : (t : Bool) → ltb (length (declared b p)) place ≡ t → FewListeners (write b p place .run)
+      go true e = rw (write-above (ltb-true (length (declared b p)) place e)) (unfold having in record { few = omega arith; ascending = unfold declaredIds in tt })
+      go false e =
+          let rest : List Declaration = drop place (declared b p) in
+          rw (write-from (ltb-false (length (declared b p)) place e)) (few-parts (takes rest) rest (few-parts place (declared b p) (declared-few b f p) .1) .0)
 
 -- "At place = count it is 00 00 00"
 pub write-at-count : (b : Bridge) (p : ℕ) → write b p (length (declared b p)) ≡ record { number = 0; run = []; next = length (declared b p) }
 write-at-count b p =
-    write-from b p (length (declared b p)) (omega arith) ∙ rw (drop-length (declared b p)) (unfold takes fitting in (rw add-zero))
+    write-from b p (length (declared b p)) (omega arith) ∙ rw (drop-length (declared b p)) (unfold takes fitting in (rw (longest-ends, add-zero)))
 
 -- PDU after PDU.
 

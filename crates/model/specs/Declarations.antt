@@ -1,14 +1,15 @@
 -- Declarations: what a port writes, and what one PDU takes of it (01, "Writing").
-use mathlib.Core.List.{List, [], _∷_, _++_}
+use mathlib.Core.List.{List, [], _∷_, _++_, map}
 use mathlib.Core.Bool.{Bool, cond}
-use Prim.Native.Nat.{ℕ, suc, _+_, _-_}
+use Prim.Native.Nat.{ℕ, _+_, _-_, _*_}
 use lib.ListN.{length, take, drop}
-use lib.Dec.{ltb, eqb}
+use lib.Dec.{ltb, leb, eqb}
 use Rattle.model.specs.FrameLayout.{advertiseLength, domainLength, failedLength, listenerLength, longestPdu}
-use Rattle.model.specs.Lists.{keep}
+use Rattle.model.specs.Lists.{keep, longest}
 use Rattle.model.specs.State.{Port, Settings, Fixed, Health, sound, broken, Varying, Ready, Column, none, advertise, failed, Declared, nothing, tells, Result, Stream, Bridge, portAt, resultAt, Class, classA, classB, supports, classPriority, classId}
 use Rattle.model.specs.Registrations.{Kind, advertises, faileds, listeners, Act, talk, listen, ofDomain, joinDomain}
 use Rattle.model.specs.Frames.{Attribute, registers, domain, typeNumber, slotOf}
+use Rattle.model.specs.Best.{least}
 
 -- a declaration is a join of the neighbour's table
 pub data Declaration : Type 0 where
@@ -66,7 +67,25 @@ unfoldable pub declarations : Settings → ℕ → List Stream → List Declarat
 declarations st p s =
     ofKind advertises p s ++ (ofKind faileds p s ++ (ofKind listeners p s ++ domainValues st (portAt st p)))
 
--- "From a place (0 based) one PDU takes as many as fit in 1,500 octets whole, one Message per type, one value per vector".
+-- the StreamID, and of a Domain value the class ID
+unfoldable pub declaredId : Declaration → ℕ
+declaredId (talkerDeclaration id f v) = id
+declaredId (listenerDeclaration id r) = id
+declaredId (domainDeclaration id q v) = id
+
+unfoldable pub declaredIds : List Declaration → List ℕ
+declaredIds l = map declaredId l
+
+unfoldable pub sameAttribute : Attribute → Attribute → Bool
+sameAttribute j k = eqb (typeNumber j) (typeNumber k)
+
+-- the declarations of one type
+unfoldable pub having : Attribute → List Declaration → List Declaration
+having k [] = []
+having k (d ∷ l) = keep (sameAttribute (attributeOf d) k) d (having k l)
+
+-- "From a place (0 based) one PDU takes as many as fit in 1,500 octets whole, one Message per type"; "Talkers and Domains stay one
+-- per vector" (02)
 
 -- the octets of a vector of one value: header, FirstValue, an octet of three-packed events, and for a Listener one of four-packed
 unfoldable pub vectorSize : Attribute → ℕ
@@ -75,28 +94,32 @@ vectorSize (registers faileds) = 2 + failedLength + 1
 vectorSize (registers listeners) = 2 + listenerLength + 1 + 1
 vectorSize domain = 2 + domainLength + 1
 
-unfoldable pub sameAttribute : Attribute → Attribute → Bool
-sameAttribute j k = eqb (typeNumber j) (typeNumber k)
+-- of all vectors of declarations of one type: "Listeners packed", so that "no other cutting takes fewer octets" (02)
+unfoldable pub vectorsSize : Attribute → List Declaration → ℕ
+vectorsSize (registers advertises) l = length l * vectorSize (registers advertises)
+vectorsSize (registers faileds) l = length l * vectorSize (registers faileds)
+vectorsSize (registers listeners) l = least (declaredIds l)
+vectorsSize domain l = length l * vectorSize domain
 
--- the Message that is open, if any; a declaration of another type opens its own, with 4 octets of header and 2 of EndMark
-pub data Open : Type 0 where
-  noMessage : Open
-  message : Attribute → Open
+-- of their Message, with 4 octets of header and 2 of EndMark; a type with no declaration has no Message
+unfoldable pub messageSize : Attribute → List Declaration → ℕ
+messageSize k [] = 0
+messageSize k (d ∷ l) = 6 + vectorsSize k (d ∷ l)
 
-unfoldable pub opening : Open → Attribute → ℕ
-opening noMessage k = 6
-opening (message j) k = cond (sameAttribute j k) 0 6
+-- of the Messages of declarations, one for each type
+unfoldable pub messagesSize : List Declaration → ℕ
+messagesSize l = of (registers advertises) + of (registers faileds) + of (registers listeners) + of domain
+  where
+    of : Attribute → ℕ
+    of k = messageSize k (having k l)
 
--- how many declarations fit, with so many octets used
-unfoldable pub fitting : ℕ → Open → List Declaration → ℕ
-fitting used o [] = 0
-fitting used o (d ∷ l) =
-    let more = used + opening o (attributeOf d) + vectorSize (attributeOf d) in
-    cond (ltb longestPdu more) 0 (suc (fitting more (message (attributeOf d)) l))
+-- "a PDU takes the longest run whose shortest cutting fits" (02): how many declarations, with so many octets used
+unfoldable pub fitting : ℕ → List Declaration → ℕ
+fitting used l = longest (λ n. leb (used + messagesSize (take n l)) longestPdu) 0 (length l)
 
 -- ProtocolVersion and EndMark are three octets
 unfoldable pub takes : List Declaration → ℕ
-takes l = fitting 3 noMessage l
+takes l = fitting 3 l
 
 -- what write answers: 13 "place is above the number of declarations"
 pub record Written : Type 0 where

@@ -4,6 +4,8 @@ pub mod Lists
 pub mod State
 pub mod Registrations
 pub mod Frames
+pub mod Cutting
+pub mod Best
 pub mod AddressFrames
 pub mod Bandwidth
 pub mod Settling

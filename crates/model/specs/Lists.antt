@@ -59,3 +59,8 @@ countTo f (suc n) = countTo f n + bit (f n)
 
 unfoldable pub isOne : ℕ → Bool
 isOne k = eqb k 1
+
+-- how many there are that pass a test, one more being tried until the first that does not: k pass, and n more are there
+unfoldable pub longest : (ℕ → Bool) → ℕ → ℕ → ℕ
+longest fits k zero = k
+longest fits k (suc n) = cond (fits (k + 1)) (longest fits (k + 1) n) k

@@ -1,15 +1,19 @@
 -- The octets of a written PDU (01, "Writing" and "The PDU").
-use mathlib.Core.List.{List, [], _∷_, _++_}
-use mathlib.Core.Bool.{false}
-use Prim.Native.Nat.{ℕ, _+_, _*_}
-use lib.ListN.{length}
+use mathlib.Core.List.{List, [], _∷_, _++_, map}
+use mathlib.Core.Bool.{true, false, cond}
+use Prim.Native.Nat.{ℕ, zero, suc, _+_, _*_}
+use lib.ListN.{length, getD, take, drop}
+use lib.Dec.{eqb}
 use Rattle.octets.specs.Be.{be}
 use Rattle.octets.specs.Fields.{packed, flat}
-use Rattle.model.specs.Lists.{keep, bit}
+use Rattle.model.specs.FrameLayout.{listenerWidths}
+use Rattle.model.specs.Lists.{tabulate, bit}
 use Rattle.model.specs.State.{Fixed, Health, sound, broken, Ready, askingFailed, ready, readyFailed}
 use Rattle.model.specs.Registrations.{advertises, faileds, listeners}
-use Rattle.model.specs.Frames.{Attribute, registers, domain, typeNumber, Vector, firstWidths, firstLength}
-use Rattle.model.specs.Declarations.{Declaration, talkerDeclaration, listenerDeclaration, domainDeclaration, attributeOf, sameAttribute}
+use Rattle.model.specs.Frames.{Attribute, registers, domain, typeNumber, firstWidths, firstLength, threeLength, fourLength, Vector}
+use Rattle.model.specs.Cutting.{values}
+use Rattle.model.specs.Best.{best}
+use Rattle.model.specs.Declarations.{Declaration, talkerDeclaration, listenerDeclaration, domainDeclaration, attributeOf, declaredId, declaredIds, having}
 
 -- the octet of priority (3 bits), rank (1 bit) and four reserved bits, written 0
 unfoldable pub priorityOctet : Fixed → ℕ
@@ -39,7 +43,7 @@ fourOctets (talkerDeclaration id f v) = []
 fourOctets (listenerDeclaration id r) = (readyNumber r * 64) ∷ []
 fourOctets (domainDeclaration id q v) = []
 
--- "one value per vector, event JoinMt": (3 x 6 + 0) x 6 + 0
+-- "one value per vector, event JoinMt": (3 x 6 + 0) x 6 + 0; a Listener too that is alone in its vector
 unfoldable pub declarationVector : Declaration → Vector
 declarationVector d = record {
   attribute = attributeOf d;
@@ -49,6 +53,59 @@ declarationVector d = record {
   three = 108 ∷ [];
   four = fourOctets d;
 }
+
+-- Listeners packed (02).
+
+-- what the Listeners in a vector say of a StreamID: their declaration type, "gaps filled with Ignore"
+unfoldable pub listenerNumber : Declaration → ℕ
+listenerNumber (talkerDeclaration id f v) = 0
+listenerNumber (listenerDeclaration id r) = readyNumber r
+listenerNumber (domainDeclaration id q v) = 0
+
+unfoldable pub said : List Declaration → ℕ → ℕ
+said [] id = 0
+said (d ∷ g) id = cond (eqb (declaredId d) id) (listenerNumber d) (said g id)
+
+-- the event of a value: JoinMt, and for Ignore 0, "set to zero on transmit and ignored on receive"
+unfoldable pub eventNumber : ℕ → ℕ
+eventNumber zero = 0
+eventNumber (suc n) = 3
+
+-- octet i of the events e 0, e 1 .. : "(e1 x 6 + e2) x 6 + e3"; "two bits each, first highest"
+unfoldable pub threeOctet : (ℕ → ℕ) → ℕ → ℕ
+threeOctet e i = (e (i * 3) * 6 + e (i * 3 + 1)) * 6 + e (i * 3 + 2)
+
+unfoldable pub fourOctet : (ℕ → ℕ) → ℕ → ℕ
+fourOctet e i = ((e (i * 4) * 4 + e (i * 4 + 1)) * 4 + e (i * 4 + 2)) * 4 + e (i * 4 + 3)
+
+-- the vector of a part: FirstValue is its first StreamID
+unfoldable pub packedVector : List Declaration → Vector
+packedVector g =
+    let first = getD (declaredIds g) 0 0 in
+    let n = values (declaredIds g) in
+    record {
+      attribute = registers listeners;
+      leavesAll = false;
+      values = n;
+      first = packed listenerWidths (first ∷ []);
+      three = tabulate (threeLength n) 0 (threeOctet (λ i. eventNumber (said g (first + i))));
+      four = tabulate (fourLength true n) 0 (fourOctet (λ i. said g (first + i)));
+    }
+
+-- declarations cut as their StreamIDs are
+unfoldable pub cutAs : List (List ℕ) → List Declaration → List (List Declaration)
+cutAs [] l = []
+cutAs (g ∷ c) l = take (length g) l ∷ cutAs c (drop (length g) l)
+
+unfoldable pub listenerParts : List Declaration → List (List Declaration)
+listenerParts l = cutAs (best (declaredIds l)) l
+
+-- the vectors of declarations of one type
+unfoldable pub vectorsOf : Attribute → List Declaration → List Vector
+vectorsOf (registers advertises) l = map declarationVector l
+vectorsOf (registers faileds) l = map declarationVector l
+vectorsOf (registers listeners) l = map packedVector (listenerParts l)
+vectorsOf domain l = map declarationVector l
 
 unfoldable pub vectorOctets : Vector → List ℕ
 vectorOctets v = be 2 (bit (v .leavesAll) * 8192 + v .values) ++ (v .first ++ (v .three ++ v .four))
@@ -60,12 +117,7 @@ messageOf k list = typeNumber k ∷ firstLength k ∷ (be 2 (length list) ++ lis
 -- a type with no declaration has no Message
 unfoldable pub messageOctets : Attribute → List Declaration → List ℕ
 messageOctets k [] = []
-messageOctets k (d ∷ l) = messageOf k (flat (λ e. vectorOctets (declarationVector e)) (d ∷ l) ++ (0 ∷ 0 ∷ []))
-
--- the declarations of one type
-unfoldable pub having : Attribute → List Declaration → List Declaration
-having k [] = []
-having k (d ∷ l) = keep (sameAttribute (attributeOf d) k) d (having k l)
+messageOctets k (d ∷ l) = messageOf k (flat vectorOctets (vectorsOf k (d ∷ l)) ++ (0 ∷ 0 ∷ []))
 
 -- ProtocolVersion 0, "one Message per type", "and the EndMark after the last Message"
 unfoldable pub pduOctets : List Declaration → List ℕ

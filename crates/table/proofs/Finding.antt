@@ -29,7 +29,7 @@ ascending-less (x ∷ l) a zero (suc j) h k = all-at (λ y. x < y) l (a .0) j 0 
 ascending-less (x ∷ l) a (suc i) zero h k = absurd (omega arith)
 ascending-less (x ∷ l) a (suc i) (suc j) h k = ascending-less l (a .1) i j (omega arith) (omega arith)
 
-ascending-most : (l : List ℕ) → Ascending l → (i j : ℕ) → i ≤ j → j < length l → getD l i 0 ≤ getD l j 0
+pub ascending-most : (l : List ℕ) → Ascending l → (i j : ℕ) → i ≤ j → j < length l → getD l i 0 ≤ getD l j 0
 ascending-most l a i j h k =
     ⊎-elim (λ (e : i ≡ j). rw e (omega arith)) (λ (p : i < j). let q = ascending-less l a i j p k in omega arith) (eq-or-lt-of-le h)
 

@@ -11,6 +11,7 @@ mod inbound_ports;
 mod marked_examples;
 mod newer_versions;
 mod order_among_ports;
+mod packing;
 mod pruning;
 mod reading;
 mod refusals;

@@ -1,4 +1,4 @@
-//! Writing (01, "Writing"; 02, (ii)), and reading back what is written.
+//! Writing (01, "Writing"; 02, (ii), (xi)), and reading back what is written.
 
 use crate::helpers::*;
 use reference::bridge::{Table, WriteAnswer};
@@ -11,7 +11,7 @@ use reference::settings::PerClass;
 use reference::written::{declarations_of, taken_apart};
 use reference::{calls, numbers};
 
-/// The declarations that a PDU carries, each as its one value with event JoinMt.
+/// The declarations that a PDU carries, each with event JoinMt.
 fn read_back(octets: &[u8]) -> Vec<Declaration> {
     declarations_of(octets).expect("what is written can be read")
 }
@@ -124,8 +124,8 @@ fn a_pdu_may_have_exactly_1500_octets() {
     let table = crowd(20, 26, 0);
     let (octets, next) = written(&table, 2, 0);
     assert_eq!((octets.len(), next), (1500, 45));
-    // 3 + (6 + 26 x 28) + (6 + 11 x 37) + (6 + 27 x 12) + (6 + 2 x 7)
-    let (octets, next) = written(&crowd(26, 11, 27), 2, 0);
+    // 3 + (6 + 5 x 28) + (6 + 35 x 37) + (6 + 10 + 8 + 6) + (6 + 2 x 7)
+    let (octets, next) = written(&crowd(5, 35, 24), 2, 0);
     assert_eq!((octets.len(), next), (1500, 66));
 }
 
@@ -136,13 +136,13 @@ fn a_pdu_may_end_before_the_domain_message_or_within_it() {
     assert_eq!(written(&table, 2, 0).1, 53);
     let (octets, next) = written(&table, 2, 53);
     assert_eq!((octets.len(), next), (3 + 20, 55));
-    // 3 + (6 + 28 x 28) + (6 + 10 x 37) + (6 + 26 x 12) + (6 + 7)
-    let table = crowd(28, 10, 26);
+    // 3 + (6 + 12 x 28) + (6 + 30 x 37) + (6 + 10 + 6 + 4) + (6 + 7)
+    let table = crowd(12, 30, 16);
     let (octets, next) = written(&table, 2, 0);
-    assert_eq!((octets.len(), next), (1500, 65));
-    let (octets, next) = written(&table, 2, 65);
-    assert_eq!((octets.len(), next), (3 + 13, 66));
-    assert_eq!(read_back(&octets), declared(&table, 2)[65..]);
+    assert_eq!((octets.len(), next), (1500, 59));
+    let (octets, next) = written(&table, 2, 59);
+    assert_eq!((octets.len(), next), (3 + 13, 60));
+    assert_eq!(read_back(&octets), declared(&table, 2)[59..]);
 }
 
 #[test]
@@ -162,10 +162,10 @@ fn a_new_message_needs_room_for_its_own_header_and_end_mark() {
     let table = crowd(53, 0, 2);
     let (octets, next) = written(&table, 2, 0);
     assert_eq!((octets.len(), next), (1493, 53));
-    // 52 leave 35: one Message with two Listeners takes 30.
+    // 52 leave 35: one Message with three Listeners takes 18, and a Domain's of 13 goes behind it.
     let table = crowd(52, 0, 3);
     let (octets, next) = written(&table, 2, 0);
-    assert_eq!((octets.len(), next), (1495, 54));
+    assert_eq!((octets.len(), next), (1496, 56));
 }
 
 #[test]
@@ -331,7 +331,7 @@ fn pdus_are_taken_apart_into_the_words_of_a_text() {
         printed.lines().partition(|line| line.starts_with("pdu"));
     let expected = [
         "pdu 1493 advertise 53 failed 0 listener 0 domain 0",
-        "pdu 217 advertise 0 failed 2 listener 9 domain 2",
+        "pdu 125 advertise 0 failed 2 listener 9 domain 2",
     ];
     assert_eq!(lengths, expected);
     let declared: Vec<Declaration> = pdus.iter().flat_map(|pdu| read_back(pdu)).collect();

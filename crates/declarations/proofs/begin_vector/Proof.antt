@@ -9,7 +9,7 @@ returns : tie.Need-returns
 unfolding headed
 returns c =
     let a = c .before .before .before .before .before .before .before .before .before .args in
-    holding-put (holding-put (holding-none (a .out .now)) 2 1 (c .before .before .before .before .before .before .put .ensures)) 8 (a .id) (c .before .before .put2 .ensures)
+    holding-put (holding-put (holding-none (a .out .now)) 2 (a .values) (c .before .before .before .before .before .before .put .ensures)) 8 (a .id) (c .before .before .put2 .ensures)
 
 pub begin-vector-spec : {M : Type 1} → statement M
 begin-vector-spec = tie.close (tie.spec (λ c κs. search needs) (λ c κs. search needs) (λ c. search needs) returns)

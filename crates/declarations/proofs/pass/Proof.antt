@@ -1,12 +1,22 @@
 -- `declarations::pass` meets its contract. Assumes nothing.
+use Prim.Native.Nat.{ℕ, _+_, _-_, _≤_, _<_}
+use mathlib.Core.Path.{_≡_, refl}
+use mathlib.Core.List.{List}
+use mathlib.Core.Bool.{false}
 use native.Mathlib.Omega.{arith}
 use borrow.Author.Needs.{needs}
-use Rattle.model.specs.Table.{decode}
-use Rattle.declarations.specs.Passes.{type, found}
-use Rattle.declarations.proofs.Written.{of-type}
+use lib.ListN.{length}
+use Rattle.declarations.specs.declared.Attribute.{Attribute}
+use Rattle.declarations.specs.declared.Progress.{Progress}
+use Rattle.declarations.specs.Passes.{type, found, PassIn, OpenIn}
 use Rattle.declarations.proofs.Fitting.{pass-full, pass-over}
 use Rattle.declarations.proofs.pass.Statement.{statement}
 use Rattle.declarations.proofs.pass.Tie as tie
+
+-- some are left
+opened : {t : List ℕ} {p : ℕ} {attribute : Attribute} {s : Progress} {b : List ℕ} {n : ℕ} → PassIn t p s b → s .full ≡ false
+    → (n ≡ length (found attribute p t)) × (n ≤ 64) → s .skip < n → OpenIn t p attribute (n - s .skip) s b
+opened w unfilled counted some = record { pass = w; unfilled = unfilled; any = omega arith; few = omega (arith, counted .1); left-is = omega (arith, counted .0) }
 
 returns : tie.Need-returns
 returns c =
@@ -16,25 +26,36 @@ returns c =
     record { progress = made .0; buffer = made .1; room = start .pre .room; next = omega arith }
 
 take-run-requires : tie.Need-take-run-requires
-take-run-requires c κs = record {
-  pass = c .before .before .before .before .before .before .pre;
-  unfilled = c .before .before .before .if1 .left;
-  any = omega arith;
-  few = omega arith;
-  left-is = omega (arith, c .before .before .count-of .ensures .0);
-}
+unfolding type
+take-run-requires c κs = (opened (c .before .before .before .before .before .before .before .before .pre) (c .before .before .before .before .before .if1 .left) (c .before .before .before .before .count-of .ensures) (c .before .before .before .if2 .taken), rw (c .before .enum-told .given .1) tt)
 
-returns-3 : tie.Need-returns-3
-returns-3 c =
+take-run-requires-2 : tie.Need-take-run-requires-2
+unfolding type
+take-run-requires-2 c κs = (opened (c .before .before .before .before .before .before .before .before .pre) (c .before .before .before .before .before .if1 .left) (c .before .before .before .before .count-of .ensures) (c .before .before .before .if2 .taken), rw (c .before .enum-told2 .given .1) tt)
+
+take-listeners-requires : tie.Need-take-listeners-requires
+take-listeners-requires c κs =
+    (rw (c .before .before .enum-told3 .given .1) at (opened (c .before .before .before .before .before .before .before .before .before .pre) (c .before .before .before .before .before .before .if1 .left) (c .before .before .before .before .before .count-of .ensures) (c .before .before .before .before .if2 .taken)), refl)
+
+take-run-requires-3 : tie.Need-take-run-requires-3
+unfolding type
+take-run-requires-3 c κs = (opened (c .before .before .before .before .before .before .before .before .pre) (c .before .before .before .before .before .if1 .left) (c .before .before .before .before .count-of .ensures) (c .before .before .before .if2 .taken), rw (c .before .enum-told4 .given .1) tt)
+
+returns-4 : tie.Need-returns-4
+unfolding type
+returns-4 c = rw (c .before .before .before .before .before .before .enum-told3 .given .1) (c .before .before .before .take-listeners .ensures)
+
+returns-6 : tie.Need-returns-6
+returns-6 c =
     let start = c .before .before .before .before .before in
     let a = start .args in
-    let k = type (a .attribute) in
     let made =
-    pass-over k (found (a .attribute) (a .p) (a .table .now)) (a .from) (a .buffer .now) (of-type k (a .p) (decode (a .table .now))) (c .before .before .if1 .left)
-    _ (c .before .count-of .ensures .0) (c .if2 .left) in
+    pass-over (type (a .attribute)) (found (a .attribute) (a .p) (a .table .now)) (a .from) (a .buffer .now) (c .before .before .if1 .left) _ (c .before .count-of .ensures .0) (c .if2 .left) in
     record { progress = made .0; buffer = made .1; room = start .pre .room; next = omega arith }
 
 pub pass-spec : {M : Type 1} → statement M
 pass-spec =
     tie.close
-    (tie.spec returns (λ c κs. search needs) (λ c. search needs) take-run-requires (λ c. search needs) (λ c. c .before .before .take-run .ensures) returns-3)
+    (tie.spec returns (λ c κs. search needs) (λ c. search needs) (λ c. search needs) take-run-requires (λ c. search needs) (λ c. c .before .before .take-run .ensures)
+    (λ c. search needs) take-run-requires-2 (λ c. search needs) (λ c. c .before .before .take-run2 .ensures) (λ c. search needs) (λ c. search needs) take-listeners-requires (λ c. search needs) returns-4
+    (λ c. search needs) take-run-requires-3 (λ c. search needs) (λ c. c .before .before .take-run3 .ensures) returns-6)

@@ -7,35 +7,30 @@ use lib.ListN.{length, drop, length-drop}
 use lib.Seq.{length-take-le}
 use Rattle.octets.proofs.Parts.{lent-part, length-part}
 use Rattle.declarations.specs.Passes.{type, found, runOf}
-use Rattle.declarations.proofs.Written.{holding-none, holding-put, holding-lent, holding-all, message-is}
+use Rattle.declarations.proofs.Written.{lent-vectors, singles-vectors}
 use Rattle.declarations.proofs.write_message.Statement.{statement}
 use Rattle.declarations.proofs.write_message.Tie as tie
 
 returns : tie.Need-returns
 returns c =
-    let start = c .before .before .before .before .before .before .before .before .before .before .before .before .before .before .before .before .before .before .before in
+    let start = c .before .before .before .before .before .before .before .before .before .before in
     let a = start .args in
+    let k = type (a .run .attribute) in
     let out = a .out .now in
     let n : ℕ = length out - 6 in
     let rest = drop (a .run .skip) (found (a .run .attribute) (a .p) (a .table .now)) in
     let run = runOf (a .table .now) (a .p) (a .run) in
-    let header = c .before .before .before .before .before .before .before .before .before .before .before .before .before .before .before .type-and-length in
     let y = c .before .before .before .before .before .before .write-vectors .last .1 .1 .1 .0 in
-    let b = c .before .before .before .before .before .before .before .before .before .before .put2 .last .0 in
-    let inside : 4 + n ≤ length b = omega arith in
-    let lent = ap length (lent-part 4 n b) ∙ length-part 4 n b inside in
+    let inside : 4 + n ≤ length out = omega arith in
+    let lent = ap length (lent-part 4 n out) ∙ length-part 4 n out inside in
     let y-long : length y ≡ n = omega (arith, lent) in
-    let long = sym (ap length (c .before .before .before .before .before .before .write-vectors .ensures)) ∙ y-long in
     let enough : a .run .count ≤ length rest = simp length-drop (omega (arith, start .pre .0 .enough)) in
     let some : 0 < length run = omega (arith, length-take-le (a .run .count) rest enough, start .pre .0 .any) in
-    let typed = holding-put (holding-none out) 2 (header .result) (c .before .before .before .before .before .before .before .before .before .before .before .before .before .before .put .ensures) in
-    let counted = holding-put typed 2 (n + 2) (c .before .before .before .before .before .before .before .before .before .before .put2 .ensures) in
-    let listed = holding-lent counted n (c .before .before .before .before .before .before .write-vectors .ensures) long in
-    holding-all (holding-put listed 2 0 (c .before .before .put3 .ensures)) (omega arith)
-    ∙ message-is (type (a .run .attribute)) run (header .result) n some (header .ensures) long
+    c .before .before .close-message .ensures
+    ∙ lent-vectors k run n y out y-long (omega arith) some (c .before .before .before .before .before .before .write-vectors .ensures ∙ singles-vectors k (start .pre .0 .single) run)
 
 pub write-message-spec : {M : Type 1} → statement M
 write-message-spec =
     tie.close
-    (tie.spec (λ c. search needs) (λ c κs. search needs) (λ c κs. search needs) (λ c. search needs) (λ c κs. search needs) (λ c. search needs) (λ c. search needs)
-    (λ c. search needs) (λ c. search needs) (λ c κs. search needs) (λ c. search needs) (λ c κs. search needs) (λ c. search needs) returns)
+    (tie.spec (λ c. search needs) (λ c. search needs) (λ c. search needs) (λ c. search needs) (λ c. search needs) (λ c κs. search needs) (λ c κs. search needs)
+    (λ c. search needs) returns)

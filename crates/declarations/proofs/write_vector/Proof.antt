@@ -9,7 +9,7 @@ use Rattle.model.specs.Registrations.{Kind}
 use Rattle.model.specs.Frames.{registers}
 use Rattle.table.specs.Places.{StandsOn}
 use Rattle.declarations.specs.Passes.{type, declarers, declaredBy, Declarer}
-use Rattle.declarations.proofs.Vectors.{advertise-vector, failed-vector, listener-vector, domain-vector}
+use Rattle.declarations.proofs.Vectors.{advertise-vector, failed-vector, domain-vector}
 use Rattle.declarations.proofs.write_vector.Statement.{statement}
 use Rattle.declarations.proofs.write_vector.Tie as tie
 
@@ -32,13 +32,6 @@ write-talker-requires-2 c κs =
     let told = c .before .enum-told2 .given .1 in
     record { places = stream (rw told at (pre .places)); within = omega arith; room = rw told at (pre .room) }
 
-write-listener-requires : tie.Need-write-listener-requires
-unfolding type vectorSize
-write-listener-requires c κs =
-    let pre = c .before .before .before .before .before .pre in
-    let told = c .before .enum-told3 .given .1 in
-    (stream (rw told at (pre .places)), rw told at (pre .room))
-
 write-domain-requires : tie.Need-write-domain-requires
 unfolding type vectorSize declarers
 write-domain-requires c κs =
@@ -59,10 +52,8 @@ returns-2 c =
     rw told (c .before .before .write-talker2 .ensures ∙ failed-vector _ _ (rw told at (c .before .before .before .before .before .before .before .before .pre .one)))
 
 returns-3 : tie.Need-returns-3
-unfolding type declaredBy
-returns-3 c =
-    let told = c .before .before .before .before .enum-told3 .given .1 in
-    rw told (c .before .before .write-listener .ensures ∙ listener-vector _ _ (rw told at (c .before .before .before .before .before .before .before .before .pre .one)))
+unfolding type
+returns-3 c = absurd (rw (c .enum-told3 .given .1) at (c .before .before .before .before .pre .single))
 
 returns-4 : tie.Need-returns-4
 unfolding type declaredBy
@@ -73,5 +64,5 @@ returns-4 c =
 pub write-vector-spec : {M : Type 1} → statement M
 write-vector-spec =
     tie.close
-    (tie.spec (λ c. search needs) write-talker-requires (λ c. search needs) (λ c. search needs) write-talker-requires-2 (λ c. search needs) write-listener-requires
-    (λ c. search needs) write-domain-requires (λ c. search needs) returns (λ c. search needs) returns-2 (λ c. search needs) returns-3 (λ c. search needs) returns-4)
+    (tie.spec (λ c. search needs) write-talker-requires (λ c. search needs) (λ c. search needs) write-talker-requires-2 (λ c. search needs) (λ c. search needs)
+    write-domain-requires (λ c. search needs) returns (λ c. search needs) returns-2 returns-3 (λ c. search needs) returns-4)

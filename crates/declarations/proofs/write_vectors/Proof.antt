@@ -71,6 +71,7 @@ write-vector-requires c κs =
     record {
       places = places (c .before .before .before .before);
       one = sym (c .before .before .before .declares .ensures) ∙ not-false _ (c .before .before .if1 .left);
+      single = c .before .before .before .before .before .before .before .before .before .pre .0 .single;
       room = ap length (lent-part (l .at) (size .result) (l .out)) ∙ length-part (l .at) (size .result) (l .out) (room (c .before .before .before .before)) ∙ size .ensures .0;
     }
 

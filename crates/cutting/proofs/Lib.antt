@@ -1,0 +1,4 @@
+pub mod Named
+pub mod Table
+pub mod Prefix
+pub mod Loops

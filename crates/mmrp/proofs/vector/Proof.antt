@@ -1,0 +1,62 @@
+-- `mmrp::vector` meets its contract. Assumes nothing.
+use Prim.Native.Nat.{_-_}
+use mathlib.Core.List.{List}
+use mathlib.Core.Bool.{true}
+use borrow.Author.Needs.{needs}
+use lib.ListN.{take, drop}
+use Rattle.model.specs.Registrations.{AddressAct}
+use Rattle.model.specs.AddressFrames.{macs, addressValues, allAddresses}
+use Rattle.msrpdu.specs.Reader.{firstPart}
+use Rattle.msrpdu.specs.declared.VectorRead.the-variants.{Vector}
+use Rattle.mmrp.specs.Walked.{vectorOf}
+use Rattle.mmrpdu.proofs.Walking.{Within, within}
+use Rattle.mmrp.proofs.Walks.{walked-laid, walked-on}
+use Rattle.mmrp.proofs.Reading.{enough-events, has-addresses, vector-acts}
+use Rattle.mmrp.proofs.vector.Statement.{statement}
+use Rattle.mmrp.proofs.vector.Tie as tie
+
+begin-all-requires : tie.Need-begin-all-requires
+begin-all-requires c κs = c .before .before .before .before .pre .laid
+
+-- the places of the vector are within the PDU
+places : (a : tie.Start) → Within (a .pre .version) macs (a .args .pdu .now) (a .pre .at) (a .args .head)
+places a = within (a .pre .version) macs (a .args .pdu .now) (a .pre .at) (a .args .head) (a .pre .read)
+
+sub-values : tie.Need-sub-values
+sub-values c = let h = places (c .before .before .before .before .before .before .before .before) in search needs
+
+part-values-start : tie.Need-part-values-start
+part-values-start c = let h = places (c .before .before .before .before .before .before .before .before) in search needs
+
+part-values-end : tie.Need-part-values-end
+part-values-end c = let h = places (c .before .before .before .before .before .before .before .before) in search needs
+
+values-requires : tie.Need-values-requires
+values-requires c κs =
+    let a = c .before .before .before .before .before .before .before .before .before in
+    let p = a .pre in
+    record {
+      laid = walked-laid (a .args .walk .applying) (a .args .walk .clock) (a .args .own .now) (p .laid) (allAddresses (a .args .head .leaves)) true _ (c .before .before .before .before .begin-all .ensures);
+      events = enough-events (p .version) (a .args .pdu .now) (p .at) (a .args .head) (p .read);
+      values = rw (c .before .before .before .before .before .before .first-value .ensures) (has-addresses (p .version) (a .args .pdu .now) (p .at) (a .args .head) (p .read));
+    }
+
+-- the acts of its values
+values : (a : tie.Start) → List AddressAct
+values a =
+    let w = a .args .head in
+    let s = a .args .pdu .now in
+    addressValues (vectorOf (firstPart s (Vector w)) (take (w .four - w .three) (drop (w .three) s))) 0 (w .values)
+
+returns : tie.Need-returns
+unfolding values
+returns c =
+    let a = c .before .before .before .before .before .before .before .before .before .before .before .before in
+    rw (vector-acts (a .args .pdu .now) (a .args .head))
+    (walked-on (a .args .walk .applying) (a .args .walk .clock) (a .args .own .now) (a .pre .laid) (allAddresses (a .args .head .leaves)) (values a) _
+    (c .before .before .before .before .before .before .before .begin-all .ensures) (c .before .before .values .result) _ (rw (c .before .before .before .before .before .before .before .before .before .first-value .ensures) at (c .before .before .values .ensures)))
+
+pub vector-spec : {M : Type 1} → statement M
+vector-spec =
+    tie.close
+    (tie.spec (λ c κs. search needs) begin-all-requires sub-values part-values-start part-values-end values-requires (λ c. search needs) returns)
