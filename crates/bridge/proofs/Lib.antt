@@ -3,6 +3,7 @@ pub mod Starting
 pub mod OnTables
 pub mod Receiving
 pub mod Reading
+pub mod Asking
 pub mod Demand1
 pub mod Demand2
 pub mod Demand3

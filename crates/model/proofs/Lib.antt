@@ -32,6 +32,7 @@ pub mod Growth
 pub mod FanIn
 pub mod Untouched
 pub mod Why
+pub mod HeldClock
 pub mod Newcomer
 pub mod Opened
 pub mod Examples
