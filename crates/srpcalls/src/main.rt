@@ -1,4 +1,4 @@
-// A console for the five calls. Reads call records from standard input to its end, and prints one line for each call. Numbers in
+// A console for the six calls. Reads call records from standard input to its end, and prints one line for each call. Numbers in
 // records are most significant octet first. The table is zeros at the beginning, so calls before a start are answered with 12.
 use libc::STDIN_FILENO;
 ghost use Prim.Native.Nat.{_≤_};
@@ -17,7 +17,7 @@ const LINE: usize = 8 + 2 * ROOM;
 // Settings and PDUs are handed to a call up to this length.
 const LONGEST: usize = 4096;
 
-// The longest buffer of a write, and what it is filled with.
+// The longest buffer of a write or a why, and what it is filled with.
 const BUFFER: usize = 2048;
 
 const FILLING: u8 = 0xA5;
@@ -187,6 +187,44 @@ fn report(table: &[u8], port: u32, line: &mut [u8]) -> Step {
     Step::Stop
 }
 
+// The letter of the deciding step, or none.
+fn put_step(line: &mut [u8], at: usize, letter: u8) -> usize {
+    if letter == 0 {
+        return console::put(line, at, b" none");
+    }
+    let a = console::put(line, at, b" ");
+    let word = [letter; 1];
+    console::put(line, a, &word)
+}
+
+// The line of a why. The list is within the buffer by what why promises; least shows it with no proof about tables.
+fn print_explained(line: &mut [u8], answer: why::Why, buffer: &[u8]) -> Step {
+    let long = console::least(console::least(answer.count, 63) * 16, buffer.len());
+    let a = console::put(line, 0, b"why");
+    let b = console::put_number(line, a, answer.number as u64);
+    let c = put_step(line, b, why::letter(answer.step));
+    let d = console::put_number(line, c, answer.count as u64);
+    let e = console::put_number(line, d, answer.limit);
+    let f = console::put_number(line, e, answer.shortfall);
+    let g = put_kept(line, f, is_kept(buffer, long));
+    let h = put_some(line, g, &buffer[0..long]);
+    print(line, h)
+}
+
+fn explain(table: &[u8], port: u32, line: &mut [u8]) -> Step {
+    let mut field = [0u8; 10];
+    if read(&mut field) {
+        let id = octets::get(&field, 0, 8);
+        let asked = octets::get(&field, 8, 2) as usize;
+        let n = console::least(asked, BUFFER);
+        let mut filled = [FILLING; BUFFER];
+        let buffer = &mut filled[0..n];
+        let answer = bridge::why(table, id, port, buffer);
+        return print_explained(line, answer, buffer);
+    }
+    Step::Stop
+}
+
 // Stores an octet in the table's room; past it nothing happens.
 fn store(room: &mut [u8]) -> Step {
     let mut field = [0u8; 3];
@@ -251,6 +289,7 @@ fn take_record(room: &mut [u8], lent: usize, octets: &mut [u8], line: &mut [u8])
             0x20 => advance(&mut room[0..lent], line),
             0x30..=0x3F => write(&room[0..lent], port, line),
             0x40..=0x4F => report(&room[0..lent], port, line),
+            0x80..=0x8F => explain(&room[0..lent], port, line),
             0x50 => store(room),
             0x51 => lend(),
             0x60 => print_sum(line, &room[0..lent]),
