@@ -122,8 +122,9 @@ pub extern "C" fn srp_why(
     ensures { λ r. ⌜ Explained (now (table .entry)) id port (now (buffer .entry)) r (now (explained .exit)) (now (buffer .exit)) ⌝ }
 {
     let answer = bridge::why(table, id, port, buffer);
+    let step = answer.step;
     *explained = [
-        why::letter(answer.step) as u64,
+        why::letter(step) as u64,
         answer.count as u64,
         answer.limit,
         answer.shortfall,

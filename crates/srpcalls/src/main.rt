@@ -200,9 +200,10 @@ fn put_step(line: &mut [u8], at: usize, letter: u8) -> usize {
 // The line of a why. The list is within the buffer by what why promises; least shows it with no proof about tables.
 fn print_explained(line: &mut [u8], answer: why::Why, buffer: &[u8]) -> Step {
     let long = console::least(console::least(answer.count, 63) * 16, buffer.len());
+    let step = answer.step;
     let a = console::put(line, 0, b"why");
     let b = console::put_number(line, a, answer.number as u64);
-    let c = put_step(line, b, why::letter(answer.step));
+    let c = put_step(line, b, why::letter(step));
     let d = console::put_number(line, c, answer.count as u64);
     let e = console::put_number(line, d, answer.limit);
     let f = console::put_number(line, e, answer.shortfall);
