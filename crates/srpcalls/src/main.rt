@@ -132,16 +132,21 @@ fn put_some(line: &mut [u8], at: usize, octets: &[u8]) -> usize {
     console::put_octets(line, a, octets)
 }
 
-// The line of a write. The length is within the buffer by what write promises; least shows it with no proof about tables.
+// Whether a buffer is kept behind so many octets, and these. They are within the buffer by what the calls promise; least shows it with
+// no proof about tables.
+fn put_buffer(line: &mut [u8], at: usize, length: usize, buffer: &[u8]) -> usize {
+    let long = console::least(length, buffer.len());
+    let a = put_kept(line, at, is_kept(buffer, long));
+    put_some(line, a, &buffer[0..long])
+}
+
 fn print_written(line: &mut [u8], wrote: bridge::Wrote, buffer: &[u8]) -> Step {
-    let long = console::least(wrote.length, buffer.len());
     let a = console::put(line, 0, b"write");
     let b = console::put_number(line, a, wrote.number as u64);
     let c = console::put_number(line, b, wrote.length as u64);
     let d = console::put_number(line, c, wrote.next as u64);
-    let e = put_kept(line, d, is_kept(buffer, long));
-    let f = put_some(line, e, &buffer[0..long]);
-    print(line, f)
+    let e = put_buffer(line, d, wrote.length, buffer);
+    print(line, e)
 }
 
 fn write(table: &[u8], port: u32, line: &mut [u8]) -> Step {
@@ -197,9 +202,9 @@ fn put_step(line: &mut [u8], at: usize, letter: u8) -> usize {
     console::put(line, a, &word)
 }
 
-// The line of a why. The list is within the buffer by what why promises; least shows it with no proof about tables.
+// The line of a why; no more than 63 streams are listed.
 fn print_explained(line: &mut [u8], answer: why::Why, buffer: &[u8]) -> Step {
-    let long = console::least(console::least(answer.count, 63) * 16, buffer.len());
+    let listed = console::least(answer.count, 63) * 16;
     let step = answer.step;
     let a = console::put(line, 0, b"why");
     let b = console::put_number(line, a, answer.number as u64);
@@ -207,9 +212,8 @@ fn print_explained(line: &mut [u8], answer: why::Why, buffer: &[u8]) -> Step {
     let d = console::put_number(line, c, answer.count as u64);
     let e = console::put_number(line, d, answer.limit);
     let f = console::put_number(line, e, answer.shortfall);
-    let g = put_kept(line, f, is_kept(buffer, long));
-    let h = put_some(line, g, &buffer[0..long]);
-    print(line, h)
+    let g = put_buffer(line, f, listed, buffer);
+    print(line, g)
 }
 
 fn explain(table: &[u8], port: u32, line: &mut [u8]) -> Step {
