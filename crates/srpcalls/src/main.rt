@@ -202,6 +202,13 @@ fn put_step(line: &mut [u8], at: usize, letter: u8) -> usize {
     console::put(line, a, &word)
 }
 
+// How many streams are listed, the limit in force and the shortfall.
+fn put_shortfall(line: &mut [u8], at: usize, answer: why::Why) -> usize {
+    let a = console::put_number(line, at, answer.count as u64);
+    let b = console::put_number(line, a, answer.limit);
+    console::put_number(line, b, answer.shortfall)
+}
+
 // The line of a why; no more than 63 streams are listed.
 fn print_explained(line: &mut [u8], answer: why::Why, buffer: &[u8]) -> Step {
     let listed = console::least(answer.count, 63) * 16;
@@ -209,11 +216,9 @@ fn print_explained(line: &mut [u8], answer: why::Why, buffer: &[u8]) -> Step {
     let a = console::put(line, 0, b"why");
     let b = console::put_number(line, a, answer.number as u64);
     let c = put_step(line, b, why::letter(step));
-    let d = console::put_number(line, c, answer.count as u64);
-    let e = console::put_number(line, d, answer.limit);
-    let f = console::put_number(line, e, answer.shortfall);
-    let g = put_buffer(line, f, listed, buffer);
-    print(line, g)
+    let d = put_shortfall(line, c, answer);
+    let e = put_buffer(line, d, listed, buffer);
+    print(line, e)
 }
 
 fn explain(table: &[u8], port: u32, line: &mut [u8]) -> Step {

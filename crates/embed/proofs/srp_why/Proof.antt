@@ -19,4 +19,4 @@ returns c =
     }
 
 pub srp-why-spec : {M : Type 1} → statement M
-srp-why-spec = tie.close (tie.spec (λ c κs. search needs) (λ c κs. search needs) (λ c. search needs) returns)
+srp-why-spec = tie.close (tie.spec (λ c κs. search needs) (λ c κs. search needs) (λ c. search needs) (λ c. search needs) returns)
