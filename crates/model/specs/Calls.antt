@@ -1,4 +1,4 @@
--- The six calls on octets: for every input the number, the other parts of the answer, the table and the buffer afterwards, in
+-- The seven calls on octets: for every input the number, the other parts of the answer, the table and the buffer afterwards, in
 -- 01's order of numbers ("12 first (for start a wrong table length only, then 11); then 1; receive 2, then the walk from the
 -- front, then 8; write 10, then 13; report 13"), and 02's (vi: 14 "tested last"; ix, for why: "12 and 1 as before; then 15 where the
 -- stream isn't held; then 10 where the buffer is below 63 x 16 octets").
