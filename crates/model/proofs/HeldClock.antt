@@ -9,13 +9,13 @@ use lib.ListN.{length, getD}
 use lib.Dec.{ltb, leb}
 use borrow.Author.Tests.{lt-leb, ltb-true}
 use Rattle.model.specs.Lists.{All, keep, tabulate}
-use Rattle.model.specs.State.{Settings, Leaving, stays, since, Talker, noTalker, talker, Listener, noListener, listener, Cell, Domain, noDomain, domain, Own, noOwn, Stream, Bridge, fresh, unsettled, streamAt, resultAt, ownAt}
+use Rattle.model.specs.State.{Settings, Leaving, stays, since, Talker, noTalker, talker, Listener, noListener, listener, Cell, Domain, noDomain, domain, Presence, vacant, present, Address, Own, noOwn, Stream, Bridge, fresh, unsettled, streamAt, resultAt, ownAt}
 use Rattle.model.specs.Bandwidth.{Claim, key, above, sort, share, reserved, remains}
-use Rattle.model.specs.Settling.{expired, expireTalker, expireListener, expireCell, expire, remain, held, expireDomain, Scene, sourceOf, streamClass, StepName, stepH, stepI, Step, clear, steps, claim, claims, limitOn, leftFor, columnOf, decideAt, decide, settle}
+use Rattle.model.specs.Settling.{expired, expireTalker, expireListener, expireCell, expire, remain, held, expireDomain, isPresent, remainAddresses, Scene, sourceOf, streamClass, StepName, stepH, stepI, Step, clear, steps, claim, claims, limitOn, leftFor, columnOf, decideAt, decide, settle}
 use Rattle.model.specs.Why.{letter, sameStep, columnBy, firstName, lastName, stepOn, reserving, listed, Reason, plainly, reasonOn, sceneNow, reason}
 use Rattle.model.specs.Registrations.{ids}
 use Rattle.model.proofs.Lists.{all-append, all-map, all-getD, at-place, getD-map}
-use Rattle.model.proofs.Valid.{Rising, ValidLeaving, ValidTalker, ValidListener, ValidCell, ValidDomain, ValidOwn, ValidStream, Valid}
+use Rattle.model.proofs.Valid.{Rising, ValidLeaving, ValidTalker, ValidListener, ValidCell, ValidDomain, ValidPresence, ValidAddress, ValidOwn, ValidStream, Valid}
 use Rattle.model.proofs.Owns.{no-own-valid}
 use Rattle.model.proofs.Admission.{Falls, above-sort, all-above, falls-sort, within}
 use Rattle.model.proofs.ColumnRule.{Small, claims-distinct}
@@ -52,6 +52,16 @@ module _ (st : Settings) (clock : ℕ) where
   domain-stays noDomain v = refl
   domain-stays (domain w l) v = rw (not-expired l (v .1))
 
+  is-present : (k : Presence) → ValidPresence clock (st .leaveTime) k → isPresent st clock k ≡ true
+  unfolding isPresent
+  is-present vacant v = absurd v
+  is-present (present l) v = rw (not-expired l v)
+
+  addresses-stay : (l : List Address) → All (ValidAddress clock (st .leaveTime)) l → remainAddresses st clock l ≡ l
+  unfolding remainAddresses
+  addresses-stay [] a = refl
+  addresses-stay (x ∷ l) a = rw (is-present (x .presence) (a .0 .presence), addresses-stay l (a .1))
+
   stream-stays : (ports : ℕ) (x : Stream) → ValidStream ports clock (st .leaveTime) x → expire st clock x ≡ x
   unfolding expire
   stream-stays ports x v =
@@ -62,12 +72,20 @@ module _ (st : Settings) (clock : ℕ) where
   streams-stay ports [] a = refl
   streams-stay ports (x ∷ s) a = rw (stream-stays ports x (a .0), a .0 .is-held, streams-stay ports s (a .1))
 
-pub own-stays : (b : Bridge) → Valid b → (p : ℕ) → map (expireDomain (b .settings) (b .clock)) (ownAt (b .own) p .domains) ≡ ownAt (b .own) p .domains
-own-stays b v p =
-    let leave = b .settings .leaveTime in
-    let w = all-getD (ValidOwn (b .clock) leave) (b .own) (v .own) noOwn (no-own-valid (b .clock) leave) p in
-    map-same (expireDomain (b .settings) (b .clock)) (ownAt (b .own) p .domains)
-    (all-map (ValidDomain (b .clock) leave) (λ d. expireDomain (b .settings) (b .clock) d ≡ d) (domain-stays (b .settings) (b .clock)) (ownAt (b .own) p .domains) (w .domains))
+-- nor what the port at place p holds by itself
+module _ (b : Bridge) (v : Valid b) (p : ℕ) where
+  own-valid : ValidOwn (b .clock) (b .settings .leaveTime) (ownAt (b .own) p)
+  own-valid =
+      let leave = b .settings .leaveTime in
+      all-getD (ValidOwn (b .clock) leave) (b .own) (v .own) noOwn (no-own-valid (b .clock) leave) p
+
+  pub own-domains-stay : map (expireDomain (b .settings) (b .clock)) (ownAt (b .own) p .domains) ≡ ownAt (b .own) p .domains
+  own-domains-stay =
+      map-same (expireDomain (b .settings) (b .clock)) (ownAt (b .own) p .domains)
+      (all-map (ValidDomain (b .clock) (b .settings .leaveTime)) (λ d. expireDomain (b .settings) (b .clock) d ≡ d) (domain-stays (b .settings) (b .clock)) (ownAt (b .own) p .domains) (own-valid .domains))
+
+  pub own-addresses-stay : remainAddresses (b .settings) (b .clock) (ownAt (b .own) p .addresses) ≡ ownAt (b .own) p .addresses
+  own-addresses-stay = addresses-stay (b .settings) (b .clock) (ownAt (b .own) p .addresses) (own-valid .addresses .each)
 
 -- The step that is told is the deciding one.
 pub step-told : (b : Bridge) (p : ℕ) (x : Stream) → reason b p x .step ≡ stepOn (sceneNow b) (b .clock) (b .streams) p x

@@ -13,7 +13,7 @@ use Rattle.model.specs.Why.{heldAs, seek, listSize}
 use Rattle.model.proofs.Parts.{octets-of}
 use Rattle.model.proofs.Tables.{valid-decode}
 use Rattle.model.proofs.Fits.{formed-laid, laid-fits}
-use Rattle.model.proofs.HeldClock.{own-stays}
+use Rattle.model.proofs.HeldClock.{own-domains-stay, own-addresses-stay}
 use Rattle.table.specs.Updates.{streamAt}
 use Rattle.bridge.proofs.OnTables.{port-zero, port-above, port-right}
 use Rattle.bridge.proofs.Asking.{HeldAt, found-held, not-found, why-unformed, why-wrong-port, why-not-held, why-short, why-done}
@@ -75,7 +75,7 @@ explain-requires c κs =
         held = omega (arith, found (c .before .before) .within);
         port = omega (arith, c .before .before .before .before .before .before .before .before .ports .ensures .1, c .before .before .before .before .before .before .if3 .left, c .before .before .before .before .before .before .before .if2 .left);
       },
-      own-stays _ (valid-decode _ (octets t) (well-formed t)),
+      record { domains = own-domains-stay _ (valid-decode _ (octets t) (well-formed t)); addresses = own-addresses-stay _ (valid-decode _ (octets t) (well-formed t)) },
       omega (arith, c .before .if4 .left),
     )
 
