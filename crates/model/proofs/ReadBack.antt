@@ -26,7 +26,7 @@ use Rattle.model.specs.WrittenFrames.{priorityOctet, fixedNumbers, failu
 use Rattle.model.specs.Laid.{Ascending}
 use Rattle.model.proofs.Lists.{all-map, all-append, all-take, all-drop, all-keep, all-getD, length-tabulate, and-left, and-right, and-false}
 use Rattle.model.proofs.Valid.{Valid, ValidSettings, ValidFixed, ValidHealth, ValidVarying, ValidColumn, ValidResult, ValidStream}
-use Rattle.model.proofs.Fits.{rising-ascends}
+use Rattle.model.proofs.Parts.{rising-ascends}
 use Rattle.model.proofs.AdvanceKeepsForm.{unsettled-valid}
 use Rattle.model.proofs.WritingPasses.{length-first, known-type, inTurn, NotBefore, OfAttribute, InOrder, all-of-kind, all-domains, having-attribute, having-none, declared, write-above, write-from, run-in-order, run-fits, FewListeners, FewStreams, run-few}
 use Rattle.model.proofs.PackedVectors.{Packs, parts-pack, packed-events, packed-within, parts-join, no-domain}
