@@ -9,6 +9,7 @@
 
 mod domains;
 mod listeners;
+mod why;
 
 use crate::bridge::{Table, ROOM_LENGTH};
 use crate::declarations;
@@ -1383,6 +1384,9 @@ impl History {
         for place in 0..=self.streams_held() as u16 + past {
             self.report(port, place);
         }
+        if self.random.percent(12) {
+            self.why_of_all(port);
+        }
     }
 
     fn sweep(&mut self, plan: &Plan) {
@@ -1466,8 +1470,12 @@ impl History {
         self.receive(3 - port, &pdu);
     }
 
-    /// A write or report with any arguments.
+    /// A write, report or why with any arguments.
     fn some_look(&mut self, plan: &Plan) {
+        if self.random.percent(35) {
+            self.some_why(plan);
+            return;
+        }
         let port = if self.random.percent(88) { self.port(plan) } else { self.wrong_port(plan) };
         if self.random.percent(50) {
             let count = match self.table.bridge() {
@@ -1499,7 +1507,7 @@ impl History {
         }
     }
 
-    /// Any of the five calls.
+    /// Any of the six calls.
     fn some_call(&mut self, plan: &Plan) {
         match self.random.below(10) {
             0..=4 => self.step(plan),
@@ -1583,6 +1591,9 @@ pub fn calls(seed: u64) -> Script {
     if history.random.percent(30) {
         history.packed_listeners();
     }
+    if history.random.percent(10) {
+        history.too_little_room();
+    }
     // A few scripts have no start of their own: alone they get 12 for all, in a batch they go on
     // with the bridge that the scripts before have left.
     let starts = history.random.weighted(&[3, 85, 9, 3]);
@@ -1616,7 +1627,7 @@ pub fn calls(seed: u64) -> Script {
     }
     let stops = history.random.percent(7);
     if stops {
-        let unknown = [0x01, 0x0f, 0x21, 0x2f, 0x52, 0x5f, 0x62, 0x70, 0x80, 0xff];
+        let unknown = [0x01, 0x0f, 0x21, 0x2f, 0x52, 0x5f, 0x62, 0x70, 0x90, 0xff];
         put_stop(&mut history, &plan, &unknown);
     }
     Script { octets: history.octets, stops }

@@ -104,7 +104,9 @@ fn refusal(line: &str, program: Program) -> Option<Number> {
     let (first, rest) = line.split_once(' ')?;
     let is_call = match program {
         Program::Sheet => first == "refused",
-        Program::Calls => ["start", "receive", "advance", "write", "report"].contains(&first),
+        Program::Calls => {
+            ["start", "receive", "advance", "write", "report", "why"].contains(&first)
+        }
     };
     let number = rest.split(' ').next().filter(|_| is_call)?.parse().ok()?;
     Some(number).filter(|number| *number != numbers::ACCEPTED)
