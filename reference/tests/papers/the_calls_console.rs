@@ -90,12 +90,11 @@ fn why_prints_step_count_limit_shortfall_and_the_list() {
     let expected = [
         "why 12 none 0 0 0 kept",
         "why 0 i 0 0 0 kept",
-        "why 0 h 1 17088001 17087999 kept 02000000000100010000000001 04be00",
+        "why 0 h 1 17088001 17087999 kept 0200000000010001000000000104be00",
         "why 1 none 0 0 0 kept",
         "why 15 none 0 0 0 kept",
         "why 10 none 0 0 0 kept",
-    ]
-    .map(|line| line.replace("01 04be00", "0104be00"));
+    ];
     let printed: Vec<String> =
         lines(&records).into_iter().filter(|line| line.starts_with("why")).collect();
     assert_eq!(printed, expected);

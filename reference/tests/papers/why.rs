@@ -204,7 +204,6 @@ fn refused_with_12_then_1_then_15_then_10() {
     let number = |table: &Table, port, stream_id, length| {
         let mut buffer = vec![FILLING; length];
         let answer = table.why(port, stream_id, &mut buffer);
-        assert_eq!(answer, WhyAnswer { number: answer.number, ..answer });
         assert!(answer.number == 0 || buffer.iter().all(|octet| *octet == FILLING));
         let nothing = WhyAnswer { number: answer.number, ..WhyAnswer::default() };
         assert!(answer.number == 0 || answer == nothing);
