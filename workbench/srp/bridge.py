@@ -1,4 +1,4 @@
-"""A bridge as an object: the five calls over one process of srpcalls, which answers each record at once."""
+"""A bridge as an object: the six calls over one process of srpcalls, which answers each record at once."""
 import subprocess
 
 from srp import answers, layout, programs, records, texts
@@ -64,6 +64,11 @@ class Bridge:
     def report(self, port, place=0):
         """What a port has reserved, and the stream at a place among those held."""
         return self.call(records.report(port, place))
+
+    def why(self, port, stream, buffer=1008):
+        """Why a stream, by its StreamID in hex or as a number, has its column on a port."""
+        stream = int(stream.replace(":", ""), 16) if isinstance(stream, str) else stream
+        return self.call(records.why(port, stream, buffer))
 
     def feed(self, text):
         """Makes the calls of a text's lines, and gives their answers."""

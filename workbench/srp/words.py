@@ -44,6 +44,24 @@ REFUSALS = {
     11: "the settings are not as docs/TABLE.md lays them out",
     12: "the table has the wrong length or breaks a form rule",
     13: "no such place",
+    15: "no such stream",
+}
+
+# What decides a stream's column on a port: the steps that why names, in the order in which they are tested.
+REASONS = {
+    "a": "there is no Talker, or it is on this port",
+    "b": "the port doesn't support the class",
+    "c": "the Talker was failed by a bridge before this one",
+    "d": CAUSES[16],
+    "k": CAUSES[7],
+    "e": CAUSES[4],
+    "f": CAUSES[13],
+    "j": CAUSES[8],
+    "l": CAUSES[5],
+    "m": CAUSES[15],
+    "g": CAUSES[14],
+    "h": CAUSES[1],
+    "i": "admitted",
 }
 
 
@@ -55,6 +73,11 @@ def word(words, number):
 def cause(code):
     """A failure code in words; nothing for 0."""
     return CAUSES.get(code, "not in Table 35-6") if code else ""
+
+
+def reason(step):
+    """A step in words; nothing where none decides."""
+    return REASONS.get(step, "")
 
 
 def edge(name):
