@@ -239,7 +239,8 @@ fn settings_and_pdus_longer_than_what_a_call_is_handed_are_read_whole() {
 
 #[test]
 fn another_octet_stops_the_run() {
-    let known = |octet: u8| matches!(octet, 0 | 0x10..=0x20 | 0x30..=0x51 | 0x60 | 0x61);
+    let known =
+        |octet: u8| matches!(octet, 0 | 0x10..=0x20 | 0x30..=0x51 | 0x60 | 0x61 | 0x80..=0x8f);
     for octet in (0..=255).filter(|octet| !known(*octet)) {
         assert_eq!(lines(&[start(), vec![octet], start()]), ["start 0", "stop"]);
     }
@@ -258,6 +259,7 @@ fn a_cut_record_stops_the_run() {
         vec![0x41, 0, 0],
         vec![0x50, 0xff, 0xff, 0],
         lend(0),
+        why(1, STREAM, 1_008),
     ] {
         for length in 1..record.len() {
             assert_eq!(lines(&[start(), record[..length].to_vec()]), ["start 0", "stop"]);
