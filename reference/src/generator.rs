@@ -1591,7 +1591,7 @@ pub fn calls(seed: u64) -> Script {
     if history.random.percent(30) {
         history.packed_listeners();
     }
-    if history.random.percent(10) {
+    if history.random.percent(16) {
         history.too_little_room();
     }
     // A few scripts have no start of their own: alone they get 12 for all, in a batch they go on

@@ -2,7 +2,6 @@
 
 use super::{registered_at, Coverage};
 use crate::bridge::{Bridge, WhyAnswer};
-use crate::domain;
 use crate::numbers;
 use crate::pdu::StreamId;
 use crate::settings::Class;
@@ -10,9 +9,13 @@ use crate::settling::{self, Column, Entry, Facts, Settling, Step};
 use crate::why::{self, Why, LONGEST_LIST};
 use crate::words;
 
-/// What an advance to the held clock would come to.
-fn supposed(bridge: &Bridge) -> Settling {
-    settling::settling(&bridge.settings, &bridge.registrations, bridge.clock, &bridge.settled)
+/// An accepted question and its answer, with what an advance to the held clock would come to.
+struct Asked<'a> {
+    bridge: &'a Bridge,
+    port: usize,
+    stream_id: StreamId,
+    supposed: Settling,
+    why: Why,
 }
 
 impl Coverage {
@@ -33,31 +36,34 @@ impl Coverage {
         }
         self.count_if("why with a buffer of 1008 octets", buffer_length == LONGEST_LIST);
         self.count_if("why with a buffer of 1007 octets", buffer_length + 1 == LONGEST_LIST);
-        let held = (&bridge.settings, &bridge.registrations);
-        let why = why::why(held, (bridge.clock, &bridge.settled), stream_id, port);
-        self.count_if("why 10 of a stream whose list is empty", short && why.list.is_empty());
+        let Bridge { settings, registrations, clock, settled } = bridge;
+        let supposed = settling::settling(settings, registrations, *clock, settled);
+        let step = supposed.decisions.columns[&(stream_id, port)].step;
+        self.count_if("why 10 of a stream whose list is empty", short && step != Step::H);
         if short {
             return;
         }
+        let why = why::why((settings, registrations), (*clock, settled), stream_id, port);
         self.count(&format!("why {}", words::step(why.step)));
         let talker = registered_at(bridge, stream_id);
         self.count_if("why of a stream with a Listener alone", talker.is_none());
         let code = talker.and_then(|talker| talker.failure).map(|failure| failure.code);
         self.count_if("why c with code 1", why.step == Step::C && code == Some(1));
-        self.unsettled(bridge, (port, stream_id), &why);
-        if why.step == Step::H {
-            self.refused_for_bandwidth(bridge, (port, stream_id), &why);
-            self.listed(bridge, (port, stream_id), &why);
+        let asked = Asked { bridge, port, stream_id, supposed, why };
+        self.unsettled(&asked);
+        if asked.why.step == Step::H {
+            self.refused_for_bandwidth(&asked);
+            self.listed(&asked);
         }
     }
 
     /// An answer that isn't what the last advance took down.
-    fn unsettled(&mut self, bridge: &Bridge, (port, stream_id): (usize, StreamId), why: &Why) {
-        let boundaries = domain::boundaries(&bridge.settings, &bridge.registrations.domains);
-        let column = supposed(bridge).decisions.columns[&(stream_id, port)].column;
-        let settled = bridge.settled.streams.get(&stream_id);
+    fn unsettled(&mut self, asked: &Asked) {
+        let Asked { bridge, port, stream_id, supposed, why } = asked;
+        let column = supposed.decisions.columns[&(*stream_id, *port)].column;
+        let settled = bridge.settled.streams.get(stream_id);
         let was = settled.map_or(Column::None, |settled| settled.ports[port - 1].column);
-        let flags = boundaries[port - 1] != bridge.settled.boundaries[port - 1];
+        let flags = supposed.boundaries[port - 1] != bridge.settled.boundaries[port - 1];
         let other_list = why.list.iter().any(|listed| {
             let settled = bridge.settled.streams.get(&listed.stream_id);
             settled.map_or(true, |settled| settled.ports[port - 1].entry != Entry::Forward)
@@ -74,16 +80,12 @@ impl Coverage {
     }
 
     /// The limit in force and the shortfall.
-    fn refused_for_bandwidth(
-        &mut self,
-        bridge: &Bridge,
-        (port, stream_id): (usize, StreamId),
-        why: &Why,
-    ) {
+    fn refused_for_bandwidth(&mut self, asked: &Asked) {
+        let Asked { bridge, port, stream_id, supposed, why } = asked;
         let port_settings = &bridge.settings.ports[port - 1];
-        let decisions = supposed(bridge).decisions;
-        let demand = decisions.columns[&(stream_id, port)].compared.expect("step h").demand.0;
-        let priority = registered_at(bridge, stream_id).expect("step h").parameters.priority;
+        let decisions = &supposed.decisions;
+        let demand = decisions.columns[&(*stream_id, *port)].compared.expect("step h").demand.0;
+        let priority = registered_at(bridge, *stream_id).expect("step h").parameters.priority;
         let class = bridge.settings.class_of(priority);
         self.count_if("why h of class A", class == Some(Class::A));
         if class == Some(Class::B) {
@@ -102,16 +104,16 @@ impl Coverage {
     }
 
     /// The streams listed, and those that aren't.
-    fn listed(&mut self, bridge: &Bridge, (port, stream_id): (usize, StreamId), why: &Why) {
+    fn listed(&mut self, asked: &Asked) {
+        let Asked { bridge, port, stream_id, supposed, why } = asked;
         self.count(match why.list.len() {
             0 => "why h with no stream listed",
             1 => "why h with 1 stream listed",
             63 => "why h with 63 streams listed",
             _ => "why h with 2 to 62 streams listed",
         });
-        let supposed = supposed(bridge);
         let facts = Facts::new(&bridge.settings, &bridge.registrations, &supposed.boundaries);
-        let importance = |one| settling::importance(&facts, &supposed.since, one, port);
+        let importance = |one| settling::importance(&facts, &supposed.since, one, *port);
         for two in why.list.windows(2) {
             let ((rank, since, id), (next_rank, next_since, next_id)) =
                 (importance(two[0].stream_id), importance(two[1].stream_id));
@@ -122,16 +124,16 @@ impl Coverage {
         }
         let asks_0 = why.list.iter().any(|listed| listed.demand.0 == 0);
         self.count_if("why h with a stream listed that asks for 0", asks_0);
-        let class = settling::class_reached(&facts, stream_id);
+        let class = settling::class_reached(&facts, *stream_id);
         for other in bridge.registrations.streams.keys() {
-            let decision = supposed.decisions.columns[&(*other, port)];
+            let decision = supposed.decisions.columns[&(*other, *port)];
             if decision.step != Step::I || settling::class_reached(&facts, *other) != class {
                 continue;
             }
             let listener = &bridge.registrations.streams[other][port - 1];
             let entry = settling::entry(decision.column, settling::listener_type(listener));
             let (more, reserves) =
-                (importance(*other) < importance(stream_id), entry == Entry::Forward);
+                (importance(*other) < importance(*stream_id), entry == Entry::Forward);
             self.count_if("why h with a more important stream that reserves nothing", {
                 more && !reserves
             });

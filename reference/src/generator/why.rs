@@ -1,12 +1,18 @@
 //! Asking why.
 
-use super::{domain_pdu, listeners_frame, Group};
+use super::{domain_pdu, listeners_frame, Group, JOINS};
 use super::{own_domain_vectors, roomy_settings, History, Plan, GREATEST_LIMIT, READY};
-use crate::pdu::{StreamId, Talker};
+use crate::pdu::{Parameters, StreamId, Talker};
 use crate::registrations::MOST_STREAMS;
-use crate::settings::{self, PerClass};
+use crate::settings::{self, Class, PerClass, PortSettings, CLASSES};
 use crate::settling;
 use crate::why::LONGEST_LIST;
+
+/// What a Talker's stream takes on a port.
+fn demand(port: &PortSettings, class: Class, talker: &Talker) -> u64 {
+    let Parameters { max_frame_size, max_interval_frames, .. } = talker.parameters;
+    settling::rate(class, settling::demand(port, max_frame_size, max_interval_frames)).0
+}
 
 impl History {
     fn why(&mut self, port: u32, stream_id: StreamId, buffer_length: u16) {
@@ -63,63 +69,78 @@ impl History {
     /// A bridge whose port 2 has room for so many of up to 64 streams, all but the last at times, and
     /// why those that are past it get code 1. Some join one after another, so that ages differ.
     pub fn too_little_room(&mut self) {
-        let count = self.random.one_of(&[64, 64, 64, 1, 2, 3, 10]);
+        let count = self.random.one_of(&[64, 64, 64, 1, 2, 3, 10, 10]);
         let fitting = match self.random.below(4) {
             0 => 0,
             1..=2 => count - 1,
             _ => self.random.below(count),
         };
         let mut settings = roomy_settings(&mut self.random);
-        let class = self.random.one_of(&settings::CLASSES);
-        let mut first = Talker::of_the_worked_example(0x0200_0000_0001_0000);
+        let class = self.random.one_of(&CLASSES);
+        let mut first = Talker::of_the_worked_example(0x0200_0000_0001_0001);
         first.parameters.priority = settings.priority.of(class);
-        let size = first.parameters.max_frame_size;
-        let demand = settling::rate(class, settling::demand(&settings.ports[1], size, 1)).0;
-        let left = self.random.one_of(&[0, demand - 1, demand / 2]);
-        let limit = demand * fitting + left;
+        let of_class_a = demand(&settings.ports[1], Class::A, &first);
+        let one = demand(&settings.ports[1], class, &first);
+        let limit = one * fitting + self.random.one_of(&[0, one - 1, one / 2]);
+        // A stream of class A takes a part of what class B may borrow.
+        let beside = class == Class::B && count < MOST_STREAMS as u64 && self.random.percent(60);
         let lent = self.random.one_of(&[0, limit, limit / 3]);
-        settings.ports[1].supports.a = lent > 0 || self.random.percent(70);
+        let supports_a = class == Class::A || beside || lent > 0 || self.random.percent(70);
+        settings.ports[1].supports.a = supports_a;
         settings.ports[1].limit = match class {
-            settings::Class::A => PerClass { a: limit, b: GREATEST_LIMIT },
-            settings::Class::B => PerClass { a: lent, b: limit - lent },
+            Class::A => PerClass { a: limit, b: GREATEST_LIMIT },
+            Class::B if beside => PerClass { a: lent + of_class_a, b: limit - lent },
+            Class::B => PerClass { a: lent, b: limit - lent },
         };
-        if class == settings::Class::A {
-            settings.ports[1].supports.a = true;
-        }
         self.start(&settings::write(&settings));
         for port in [1, 2] {
             let vectors = own_domain_vectors(&mut self.random, &settings);
             self.receive(port, &domain_pdu(vectors));
         }
+        if beside {
+            let mut talker = Talker::of_the_worked_example(first.stream_id + 0x1000);
+            talker.parameters.priority = settings.priority.a;
+            self.join_group(talker, 1);
+        }
         self.join_in_turns(first, count);
         self.why_of_all(2);
-        if count < MOST_STREAMS as u64 {
-            self.why(2, first.stream_id + count, LONGEST_LIST as u16);
-        }
+        self.why(2, first.stream_id + count, LONGEST_LIST as u16);
     }
 
     /// So many streams with Talkers on port 1 and Ready Listeners on port 2; at times a part of them
-    /// a second later than the others, though their StreamIDs are lower, or of another rank.
+    /// a second later than the others, though their StreamIDs are lower, or of another rank. Where
+    /// there is room, one before them asks for nothing.
     fn join_in_turns(&mut self, first: Talker, count: u64) {
-        let later = self.random.one_of(&[0, 0, 1, count / 2, count]);
+        if count < MOST_STREAMS as u64 && self.random.percent(40) {
+            let mut idle = first;
+            idle.stream_id -= 1;
+            idle.parameters.destination -= 1;
+            idle.parameters.max_interval_frames = 0;
+            self.join_group(idle, 1);
+        }
+        let later = self.random.one_of(&[0, 1, count / 2, count / 2, count]);
         let ranks = self.random.one_of(&[(1, 1), (1, 1), (0, 1), (1, 0)]);
         let parts = [(later, count - later, ranks.0), (0, later, ranks.1)];
         for (time, (skip, members, rank)) in (1..).zip(parts) {
-            if members == 0 {
-                continue;
-            }
-            let mut talker = first;
-            talker.stream_id += skip;
-            talker.parameters.destination += skip;
-            talker.parameters.rank = rank;
-            let group = Group { first: talker, members, talker_port: 1 };
-            let frame = self.talkers_frame(&group, 0);
-            self.receive(1, &frame);
-            let joins = vec![self.random.one_of(&super::JOINS); members as usize];
-            self.receive(2, &listeners_frame(&group, &joins, READY));
-            if self.random.percent(80) {
-                self.advance(100 * time);
+            if members > 0 {
+                let mut talker = first;
+                talker.stream_id += skip;
+                talker.parameters.destination += skip;
+                talker.parameters.rank = rank;
+                self.join_group(talker, members);
+                if self.random.percent(80) {
+                    self.advance(100 * time);
+                }
             }
         }
+    }
+
+    /// A Talker and its neighbours on port 1, and Ready Listeners of all on port 2.
+    fn join_group(&mut self, first: Talker, members: u64) {
+        let group = Group { first, members, talker_port: 1 };
+        let frame = self.talkers_frame(&group, 0);
+        self.receive(1, &frame);
+        let joins = vec![self.random.one_of(&JOINS); members as usize];
+        self.receive(2, &listeners_frame(&group, &joins, READY));
     }
 }
