@@ -1,5 +1,5 @@
 /*
- * The stream-reservation bridge for programs in C, C++ and Rust: the five calls of libembed.a. docs/EMBEDDING.md tells how to build
+ * The stream-reservation bridge for programs in C, C++ and Rust: the seven calls of libembed.a. docs/EMBEDDING.md tells how to build
  * and link it, README.md what each call does, docs/TABLE.md the octets of settings and table.
  *
  * What every call does:
