@@ -1,5 +1,5 @@
 /*
- * The stream-reservation bridge for programs in C, C++ and Rust: the five calls of libembed.a. docs/EMBEDDING.md tells how to build
+ * The stream-reservation bridge for programs in C, C++ and Rust: the seven calls of libembed.a. docs/EMBEDDING.md tells how to build
  * and link it, README.md what each call does, docs/TABLE.md the octets of settings and table.
  *
  * What every call does:
@@ -159,7 +159,7 @@ uint8_t srp_report(const uint8_t *table, size_t table_length, uint32_t port, uin
 
 /* What why tells beside its number. */
 struct srp_explained {
-    uint64_t step;      /* the letter of the deciding step in ASCII, 'a' to 'm'; 0 where the call is refused */
+    uint64_t step;      /* the letter of the deciding step in ASCII, 'a' to 'n'; 0 where the call is refused */
     uint64_t count;     /* for step 'h', which gives code 1: how many streams are listed; 0 for all others, as the next two are */
     uint64_t limit;     /* the limit in force, in bits per second */
     uint64_t shortfall; /* what the demand is above what is left of it, at least 1 */
