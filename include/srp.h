@@ -1,5 +1,5 @@
 /*
- * The stream-reservation bridge for programs in C, C++ and Rust: the five calls of libembed.a. docs/EMBEDDING.md tells how to build
+ * The stream-reservation bridge for programs in C, C++ and Rust: the seven calls of libembed.a. docs/EMBEDDING.md tells how to build
  * and link it, README.md what each call does, docs/TABLE.md the octets of settings and table.
  *
  * What every call does:
@@ -48,6 +48,9 @@ extern "C" {
 /* The longest PDU, which is the shortest buffer of a write. */
 #define SRP_PDU 1500
 
+/* The shortest buffer of a why: all other streams may be listed. */
+#define SRP_LIST 1008
+
 /* The numbers that calls answer. Where several apply, it is the first in the order that stands with each call. */
 enum srp_number {
     SRP_ACCEPTED = 0,
@@ -60,11 +63,12 @@ enum srp_number {
     SRP_REFUSED_VALUE = 7,            /* a value runs past its field */
     SRP_REFUSED_STREAMS = 8,          /* streams held and different new ones joined by this PDU are more than SRP_STREAMS */
     SRP_REFUSED_TIME = 9,             /* the time is below the held clock */
-    SRP_REFUSED_BUFFER = 10,          /* the buffer is shorter than SRP_PDU */
+    SRP_REFUSED_BUFFER = 10,          /* the buffer is shorter than SRP_PDU (write), or than SRP_LIST (why) */
     SRP_REFUSED_SETTINGS = 11,        /* the settings are not as docs/TABLE.md lays them out, their length included */
     SRP_REFUSED_TABLE = 12,           /* the table's length is not SRP_TABLE, or its octets break a form rule */
     SRP_REFUSED_PLACE = 13,           /* the place is above the number of declarations (write) or of streams held (report) */
-    SRP_REFUSED_ADDRESSES = 14        /* addresses that the port holds and different new ones joined by this PDU are more than SRP_ADDRESSES */
+    SRP_REFUSED_ADDRESSES = 14,       /* addresses that the port holds and different new ones joined by this PDU are more than SRP_ADDRESSES */
+    SRP_REFUSED_STREAM = 15           /* the stream isn't held */
 };
 
 /*
@@ -152,6 +156,23 @@ uint8_t srp_write(const uint8_t *table, size_t table_length, uint32_t port, uint
  * last advance left it on that port. Refused with 12, 1, 13.
  */
 uint8_t srp_report(const uint8_t *table, size_t table_length, uint32_t port, uint32_t place, struct srp_reported *reported);
+
+/* What why tells beside its number. */
+struct srp_explained {
+    uint64_t step;      /* the letter of the deciding step in ASCII, 'a' to 'n'; 0 where the call is refused */
+    uint64_t count;     /* for step 'h', which gives code 1: how many streams are listed; 0 for all others, as the next two are */
+    uint64_t limit;     /* the limit in force, in bits per second */
+    uint64_t shortfall; /* what the demand is above what is left of it, at least 1 */
+};
+
+/*
+ * Tells which step would decide the column of a stream on a port in an advance to the held clock, from what is registered now. For
+ * step 'h' the buffer has the more important streams that reserve there, most important first: 8 octets of StreamID and 8 of demand in
+ * bits per second each, most significant octet first. Octets past the list stay. It takes a buffer of SRP_LIST octets. Refused with 12,
+ * 1, 15, 10.
+ */
+uint8_t srp_why(const uint8_t *table, size_t table_length, uint64_t id, uint32_t port, uint8_t *buffer, size_t buffer_length,
+                struct srp_explained *explained);
 
 #ifdef __cplusplus
 }

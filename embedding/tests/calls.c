@@ -13,6 +13,7 @@
 #define LONGEST 4096
 #define BUFFER 2048
 #define FILLING 0xA5
+#define LISTED 16
 
 static const char *const columns[] = {"none", "advertise", "failed"};
 static const char *const listeners[] = {"none", "asking", "ready", "readyfailed"};
@@ -21,6 +22,7 @@ static const char *const entries[] = {"none", "filter", "forward"};
 static uint8_t room[ROOM];
 static size_t lent = SRP_TABLE;
 static uint8_t octets[65535];
+static uint8_t buffer[BUFFER];
 
 /* A record that the input cuts, or no record, ends the run. */
 static void stop(void) {
@@ -60,19 +62,46 @@ static void print_octets(const uint8_t *from, size_t length) {
     putchar('\n');
 }
 
-static void write_from(uint32_t port) {
-    static uint8_t buffer[BUFFER];
-    uint32_t place = number(2);
-    size_t asked = number(2), length = 1, next = 1, at;
-    unsigned given;
+/* Fills the buffer, and reads the length that a call is lent of it. */
+static size_t filled_buffer(void) {
+    size_t length = number(2);
 
-    if (asked > BUFFER) asked = BUFFER;
     memset(buffer, FILLING, sizeof buffer);
-    given = srp_write(room, lent, port, place, buffer, asked, &length, &next);
+    return length < BUFFER ? length : BUFFER;
+}
+
+/* Whether the buffer is as it was filled past a length; then its octets before. */
+static void print_buffer(size_t length) {
+    size_t at;
+
     for (at = length; at < BUFFER && buffer[at] == FILLING; at++) {
     }
-    printf("write %u %zu %zu %s", given, length, next, at == BUFFER ? "kept" : "spoiled");
+    printf(" %s", at == BUFFER ? "kept" : "spoiled");
     print_octets(buffer, length);
+}
+
+static void write_from(uint32_t port) {
+    uint32_t place = number(2);
+    size_t asked = filled_buffer(), length = 1, next = 1;
+    unsigned given = srp_write(room, lent, port, place, buffer, asked, &length, &next);
+
+    printf("write %u %zu %zu", given, length, next);
+    print_buffer(length);
+}
+
+static void why_of(uint32_t port) {
+    uint64_t high = number(4), id = high << 32 | number(4);
+    size_t asked = filled_buffer();
+    struct srp_explained told;
+    unsigned given;
+
+    memset(&told, 0xFF, sizeof told);
+    given = srp_why(room, lent, id, port, buffer, asked, &told);
+    printf("why %u ", given);
+    if (told.step == 0) printf("none");
+    else putchar((int)told.step);
+    printf(" %" PRIu64 " %" PRIu64 " %" PRIu64, told.count, told.limit, told.shortfall);
+    print_buffer(told.count * LISTED);
 }
 
 static void report_at(uint32_t port) {
@@ -133,6 +162,8 @@ static void take(unsigned kind) {
         write_from(port);
     } else if (kind / 16 == 4) {
         report_at(port);
+    } else if (kind / 16 == 8) {
+        why_of(port);
     } else if (kind == 0x50) {
         store();
     } else if (kind == 0x51) {

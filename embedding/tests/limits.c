@@ -55,10 +55,12 @@ static void lengths_of_settings(void) {
 /* All calls on a table of a wrong length are refused with 12, whatever else they are handed. */
 static void refused_table(uint8_t *at, size_t length) {
     struct srp_reported told, none;
+    struct srp_explained why;
     size_t long_, next;
 
     memset(&told, 0xFF, sizeof told);
     memset(&none, 0, sizeof none);
+    memset(&why, 0xFF, sizeof why);
     long_ = next = 1;
     expect("start, table", srp_start(at, length, settings, SRP_SETTINGS(SRP_PORTS)), SRP_REFUSED_TABLE);
     expect("receive, table", srp_receive(at, length, 1, pdu, SRP_PDU), SRP_REFUSED_TABLE);
@@ -69,6 +71,8 @@ static void refused_table(uint8_t *at, size_t length) {
     expect("next after 12", (unsigned)next, 0);
     expect("report, table", srp_report(at, length, 1, 0, &told), SRP_REFUSED_TABLE);
     expect("reported after 12", (unsigned)memcmp(&told, &none, sizeof told), 0);
+    expect("why, table", srp_why(at, length, 0, 1, buffer, SRP_LIST, &why), SRP_REFUSED_TABLE);
+    expect("explained after 12", (unsigned)memcmp(&why, &none, sizeof why), 0);
     expect_kept("table after 12");
 }
 
@@ -154,6 +158,26 @@ static void streams(void) {
     expect("count after 13", (unsigned)told.count, 0);
 }
 
+/* Of the Listeners that have joined, which have no Talker. */
+static void whys(void) {
+    static const uint64_t first = UINT64_C(0x0200000000010000);
+    static const struct srp_explained none;
+    struct srp_explained why;
+
+    memset(buffer, 0xA5, sizeof buffer);
+    expect("why", srp_why(table, SRP_TABLE, first, 1, buffer, SRP_LIST, &why), SRP_ACCEPTED);
+    expect("step without a Talker", (unsigned)why.step, 'a');
+    expect("streams listed", (unsigned)why.count, 0);
+    expect("why, no buffer", srp_why(table, SRP_TABLE, first, 1, NULL, 0, &why), SRP_REFUSED_BUFFER);
+    expect("why, short buffer", srp_why(table, SRP_TABLE, first, 1, buffer, SRP_LIST - 1, &why), SRP_REFUSED_BUFFER);
+    expect("explained after 10", (unsigned)memcmp(&why, &none, sizeof why), 0);
+    expect("why, another stream", srp_why(table, SRP_TABLE, first + SRP_STREAMS, 1, NULL, 0, &why), SRP_REFUSED_STREAM);
+    expect("why, port 0", srp_why(table, SRP_TABLE, first + SRP_STREAMS, 0, NULL, 0, &why), SRP_REFUSED_PORT);
+    expect("why, port above", srp_why(table, SRP_TABLE, first, SRP_PORTS + 1, buffer, SRP_LIST, &why), SRP_REFUSED_PORT);
+    expect("buffer after why", buffer[0], 0xA5);
+    expect_kept("table after why");
+}
+
 int main(void) {
     lengths_of_settings();
     expect("start", srp_start(table, SRP_TABLE, settings, SRP_SETTINGS(SRP_PORTS)), SRP_ACCEPTED);
@@ -165,9 +189,11 @@ int main(void) {
     buffers_and_places();
     addresses();
     streams();
+    whys();
     expect("advance", srp_advance(table, SRP_TABLE, 100), SRP_ACCEPTED);
     expect("advance to an earlier time", srp_advance(table, SRP_TABLE, 99), SRP_REFUSED_TIME);
     expect("a report's length", (unsigned)sizeof(struct srp_reported), 10 * 8);
+    expect("an explanation's length", (unsigned)sizeof(struct srp_explained), 4 * 8);
     printf("limits: %u answers as srp.h tells\n", shown);
     return 0;
 }

@@ -1,4 +1,4 @@
-//! The bridge and its calls (01, "What the bridge does" and "Numbers given back"; 02, (vi)).
+//! The bridge and its calls (01, "What the bridge does" and "Numbers given back"; 02, (vi) and (ix)).
 //!
 //! [`Bridge`] makes them on what a table holds, [`Table`] on the octets that a caller lends.
 
@@ -8,8 +8,9 @@ use crate::numbers::{self, Number};
 use crate::pdu::{self, ListenerType, StreamId, LONGEST_PDU};
 use crate::registrations::{Registrations, MOST_ADDRESSES, MOST_STREAMS};
 use crate::settings::{self, PerClass, Settings};
-use crate::settling::{self, Column, Entry, Settled};
+use crate::settling::{self, Column, Entry, Settled, Step};
 use crate::table::{self, TABLE_LENGTH};
+use crate::why::{self, LONGEST_LIST};
 
 /// What write gives back besides octets in the buffer.
 #[derive(Clone, Copy, Debug, Default, PartialEq, Eq)]
@@ -55,6 +56,19 @@ impl ReportAnswer {
             Column::None | Column::Advertise => 0,
         }
     }
+}
+
+/// What why gives back besides the list in the buffer.
+#[derive(Clone, Copy, Debug, Default, PartialEq, Eq)]
+pub struct WhyAnswer {
+    pub number: Number,
+    /// None where the call is refused.
+    pub step: Option<Step>,
+    /// Streams listed.
+    pub count: usize,
+    /// The limit in force and the shortfall, in bits per second.
+    pub limit: u64,
+    pub shortfall: u64,
 }
 
 /// A bridge between two calls.
@@ -171,6 +185,28 @@ impl Bridge {
         }
         Ok(answer)
     }
+
+    /// why: 1, 15, 10. Lists the streams that leave too little for this one.
+    fn why(&self, port: u32, stream_id: StreamId, buffer: &mut [u8]) -> Result<WhyAnswer, Number> {
+        let port = self.port(port)?;
+        if !self.registrations.streams.contains_key(&stream_id) {
+            return Err(numbers::STREAM);
+        }
+        if buffer.len() < LONGEST_LIST {
+            return Err(numbers::BUFFER);
+        }
+        let held = (&self.settings, &self.registrations);
+        let why = why::why(held, (self.clock, &self.settled), stream_id, port);
+        let octets = why.octets();
+        buffer[..octets.len()].copy_from_slice(&octets);
+        Ok(WhyAnswer {
+            number: numbers::ACCEPTED,
+            step: Some(why.step),
+            count: why.list.len(),
+            limit: why.limit.0,
+            shortfall: why.shortfall.0,
+        })
+    }
 }
 
 /// The room for a table, and how much of it calls are lent. Its octets are the whole state: an
@@ -282,6 +318,15 @@ impl Table {
         match bridge.and_then(|bridge| bridge.report(port, place)) {
             Ok(answer) => answer,
             Err(number) => ReportAnswer::refused(number),
+        }
+    }
+
+    /// why: 12, then as [`Bridge`] does.
+    pub fn why(&self, port: u32, stream_id: StreamId, buffer: &mut [u8]) -> WhyAnswer {
+        let bridge = self.bridge().ok_or(numbers::TABLE);
+        match bridge.and_then(|bridge| bridge.why(port, stream_id, buffer)) {
+            Ok(answer) => answer,
+            Err(number) => WhyAnswer { number, ..WhyAnswer::default() },
         }
     }
 }

@@ -2,15 +2,17 @@
 
 use std::fmt::Write;
 
-use crate::bridge::{ReportAnswer, Table};
+use crate::bridge::{ReportAnswer, Table, WhyAnswer};
+use crate::pdu::StreamId;
 use crate::records::{Call, Input, Unwatched, Watcher};
+use crate::why::LISTED_LENGTH;
 use crate::words;
 
 /// A buffer length above this counts as this.
 pub const LONGEST_BUFFER: usize = 2_048;
 /// What start, receive and receive_mmrp are handed is cut to so many octets.
 pub const LONGEST_HANDED: usize = 4_096;
-/// What a buffer is filled with before a write.
+/// What a buffer is filled with before a write or why.
 pub const FILLING: u8 = 0xa5;
 
 /// The whole output for an input.
@@ -42,6 +44,7 @@ enum Record<'a> {
     Advance(u32),
     Write { port: u32, place: u32, buffer_length: usize },
     Report { port: u32, place: u32 },
+    Why { port: u32, stream_id: StreamId, buffer_length: usize },
     Store { place: usize, octet: u8 },
     Lend(usize),
     Sum,
@@ -58,8 +61,7 @@ fn take_record<'a>(input: &mut Input<'a>) -> Option<Record<'a>> {
         0x20 => Some(Record::Advance(input.u32()?)),
         0x30..=0x3f => {
             let place = u32::from(input.u16()?);
-            let buffer_length = usize::from(input.u16()?).min(LONGEST_BUFFER);
-            Some(Record::Write { port, place, buffer_length })
+            Some(Record::Write { port, place, buffer_length: buffer_length(input)? })
         }
         0x40..=0x4f => Some(Record::Report { port, place: u32::from(input.u16()?) }),
         0x50 => {
@@ -70,8 +72,16 @@ fn take_record<'a>(input: &mut Input<'a>) -> Option<Record<'a>> {
         0x60 => Some(Record::Sum),
         0x61 => Some(Record::Octets),
         0x70..=0x7f => Some(Record::ReceiveMmrp(port, handed(input.counted_octets()?))),
+        0x80..=0x8f => {
+            let stream_id = input.u64()?;
+            Some(Record::Why { port, stream_id, buffer_length: buffer_length(input)? })
+        }
         _ => None,
     }
+}
+
+fn buffer_length(input: &mut Input) -> Option<usize> {
+    Some(usize::from(input.u16()?).min(LONGEST_BUFFER))
 }
 
 fn handed(octets: &[u8]) -> &[u8] {
@@ -105,15 +115,23 @@ fn make(table: &mut Table, record: &Record, watcher: &mut dyn Watcher) -> String
             let mut buffer = vec![FILLING; buffer_length];
             let answer = table.write(port, place, &mut buffer);
             watcher.called(&Call::Write { port, place, answer }, answer.number, table);
-            let (written, past) = buffer.split_at(answer.length);
-            let kept = if past.iter().all(|octet| *octet == FILLING) { "kept" } else { "spoiled" };
             let (number, length, next) = (answer.number, answer.length, answer.next_place);
-            with_octets(&format!("write {number} {length} {next} {kept}"), written)
+            with_buffer(&format!("write {number} {length} {next}"), &buffer, length)
         }
         Record::Report { port, place } => {
             let answer = table.report(port, place);
             watcher.called(&Call::Report { port, place, answer }, answer.number, table);
             report_line(&answer)
+        }
+        Record::Why { port, stream_id, buffer_length } => {
+            let mut buffer = vec![FILLING; buffer_length];
+            let answer = table.why(port, stream_id, &mut buffer);
+            let call = Call::Why { port, stream_id, buffer_length, answer };
+            watcher.called(&call, answer.number, table);
+            let step = answer.step.map_or("none", words::step);
+            let WhyAnswer { number, count, limit, shortfall, .. } = answer;
+            let words = format!("why {number} {step} {count} {limit} {shortfall}");
+            with_buffer(&words, &buffer, count * LISTED_LENGTH)
         }
         Record::Store { place, octet } => {
             table.store(place, octet);
@@ -143,6 +161,13 @@ pub fn adler_32(octets: &[u8]) -> u32 {
         sum_of_sums %= 65_521;
     }
     sum_of_sums << 16 | sum
+}
+
+/// A line that ends with whether the octets of a buffer past a length were kept, and those before.
+fn with_buffer(words: &str, buffer: &[u8], length: usize) -> String {
+    let (written, past) = buffer.split_at(length);
+    let kept = if past.iter().all(|octet| *octet == FILLING) { "kept" } else { "spoiled" };
+    with_octets(&format!("{words} {kept}"), written)
 }
 
 /// A line that ends with octets, two lower-case hex digits each; without any, after its words.

@@ -8,6 +8,7 @@ mod fan_in;
 mod latencies;
 mod newer;
 mod packing;
+mod why;
 
 use std::collections::BTreeMap;
 
@@ -57,6 +58,11 @@ const ROWS: &[&str] = &[
     "report 1",
     "report 12",
     "report 13",
+    "why 0",
+    "why 1",
+    "why 10",
+    "why 12",
+    "why 15",
     "settings refused: length",
     "settings refused: length 11 + 22 x ports",
     "settings refused: length 13 + 22 x ports",
@@ -388,6 +394,49 @@ const ROWS: &[&str] = &[
     "report at place = count",
     "report at place = count + 1",
     "report of a stream joined since",
+    "why a",
+    "why b",
+    "why n",
+    "why c",
+    "why d",
+    "why k",
+    "why e",
+    "why f",
+    "why j",
+    "why l",
+    "why m",
+    "why g",
+    "why h",
+    "why i",
+    "why of a stream with a Listener alone",
+    "why c with code 1",
+    "why h with no stream listed",
+    "why h with 1 stream listed",
+    "why h with 2 to 62 streams listed",
+    "why h with 63 streams listed",
+    "why h with streams listed by age before StreamID",
+    "why h with streams listed by rank before age",
+    "why h with a stream listed that asks for 0",
+    "why h with a more important stream that reserves nothing",
+    "why h with a less important stream that reserves",
+    "why h of class A",
+    "why h of class B",
+    "why h of class B that borrows",
+    "why h of class B where class A has reserved",
+    "why h of class B where limit A counts 0",
+    "why h with a limit of 2^40 or above",
+    "why h with a shortfall of 1",
+    "why h with a shortfall below the demand",
+    "why h with a shortfall of the whole demand",
+    "why in an unsettled table",
+    "why with another column than the settled one",
+    "why with another boundary flag than the settled one",
+    "why of a stream joined since",
+    "why h with a list that isn't the settled one",
+    "why with a buffer of 1008 octets",
+    "why with a buffer of 1007 octets",
+    "why 10 of a stream whose list is empty",
+    "why 15 with a buffer too short",
     "sheets refused in their settings",
     "sheets that stop in their records",
     "sheets longer than 65536 octets",
@@ -932,23 +981,19 @@ impl Coverage {
 
     fn settled(&mut self, before: &Bridge, bridge: &Bridge) {
         for ((stream_id, port), decision) in decisions(bridge) {
-            let (row, own_code) = match decision.step {
-                Step::A => ("column step a", None),
-                Step::B => ("column step b", None),
-                Step::N => ("column step n", None),
-                Step::C => ("column step c", None),
-                Step::D => ("column step d", Some(16)),
-                Step::K => ("column step k", Some(7)),
-                Step::E => ("column step e", Some(4)),
-                Step::F => ("column step f", Some(13)),
-                Step::J => ("column step j", Some(8)),
-                Step::L => ("column step l", Some(5)),
-                Step::M => ("column step m", Some(15)),
-                Step::G => ("column step g", Some(14)),
-                Step::H => ("column step h", Some(1)),
-                Step::I => ("column step i", None),
+            let own_code = match decision.step {
+                Step::A | Step::B | Step::N | Step::C | Step::I => None,
+                Step::D => Some(16),
+                Step::K => Some(7),
+                Step::E => Some(4),
+                Step::F => Some(13),
+                Step::J => Some(8),
+                Step::L => Some(5),
+                Step::M => Some(15),
+                Step::G => Some(14),
+                Step::H => Some(1),
             };
-            self.count(row);
+            self.count(&format!("column step {}", words::step(decision.step)));
             if let Some(code) = own_code {
                 self.count(&format!("own failure {code}"));
             }
@@ -1121,6 +1166,7 @@ impl Watcher for Coverage {
             Call::Advance(_) => "advance",
             Call::Write { .. } => "write",
             Call::Report { .. } => "report",
+            Call::Why { .. } => "why",
         };
         self.count(&format!("{name} {number}"));
         if number == numbers::TABLE {
@@ -1150,6 +1196,9 @@ impl Watcher for Coverage {
                     self.wrote(bridge, *port, *place, *answer);
                 }
                 Call::Report { place, .. } => self.reported(bridge, *place, number),
+                Call::Why { port, stream_id, buffer_length, answer } => {
+                    self.asked(bridge, (*port as usize, *stream_id), *buffer_length, *answer);
+                }
             }
         }
         let changed =

@@ -11,6 +11,7 @@
 mod addresses;
 mod domains;
 mod listeners;
+mod why;
 
 use crate::bridge::{Table, ROOM_LENGTH};
 use crate::declarations;
@@ -1413,6 +1414,9 @@ impl History {
         for place in 0..=self.streams_held() as u16 + past {
             self.report(port, place);
         }
+        if self.random.percent(12) {
+            self.why_of_all(port);
+        }
     }
 
     fn sweep(&mut self, plan: &Plan) {
@@ -1496,8 +1500,12 @@ impl History {
         self.receive(3 - port, &pdu);
     }
 
-    /// A write or report with any arguments.
+    /// A write, report or why with any arguments.
     fn some_look(&mut self, plan: &Plan) {
+        if self.random.percent(35) {
+            self.some_why(plan);
+            return;
+        }
         let port = if self.random.percent(88) { self.port(plan) } else { self.wrong_port(plan) };
         if self.random.percent(50) {
             let count = match self.table.bridge() {
@@ -1621,6 +1629,9 @@ pub fn calls(seed: u64) -> Script {
     }
     if history.random.percent(30) {
         history.packed_listeners();
+    }
+    if history.random.percent(16) {
+        history.too_little_room();
     }
     // A few scripts have no start of their own: alone they get 12 for all, in a batch they go on
     // with the bridge that the scripts before have left.

@@ -1,7 +1,7 @@
 //! A stream-reservation bridge of IEEE 802.1Qat, written from the papers alone.
 //!
 //! "01" in the comments is the paper that lays down the bridge and its rules, "02" that of the
-//! requests for more, of which (ii), (i), (v), (x), (iv), (vi) and (xi) are in; clause numbers such as
+//! requests for more, of which (ii), (i), (v), (x), (iv), (vi), (xi) and (ix) are in; clause numbers such as
 //! 35.2.4.2 are those of IEEE 802.1Qat-2010. The program is meant to be compared with another implementation, so it is
 //! written for the reader and not for speed.
 //!
@@ -17,6 +17,7 @@
 //! * [`settling`]: attribute propagation and reserved bandwidth;
 //! * [`packing`]: which vectors Listener declarations stand in;
 //! * [`declarations`]: writing MSRPDUs;
+//! * [`why`]: why a stream has its column on a port;
 //! * [`bridge`]: the calls;
 //! * [`table`]: the octets of the lent table;
 //! * [`words`]: the words that programs print;
@@ -51,5 +52,6 @@ pub mod settling;
 pub mod sheet;
 pub mod stored;
 pub mod table;
+pub mod why;
 pub mod words;
 pub mod written;

@@ -23,7 +23,7 @@ pub const VALUE: Number = 7;
 pub const STREAMS: Number = 8;
 /// 9: time is below the held clock.
 pub const TIME: Number = 9;
-/// 10: output buffer shorter than 1,500.
+/// 10: output buffer shorter than 1,500 (write), or than 63 x 16 octets (why).
 pub const BUFFER: Number = 10;
 /// 11: settings not as laid out.
 pub const SETTINGS: Number = 11;
@@ -33,6 +33,8 @@ pub const TABLE: Number = 12;
 pub const PLACE: Number = 13;
 /// 14: addresses held on the port plus different new ones joined by this MMRP frame exceed 64.
 pub const ADDRESSES: Number = 14;
+/// 15: the stream isn't held (why).
+pub const STREAM: Number = 15;
 
 /// A refusal's number in words.
 pub fn in_words(number: Number) -> &'static str {
@@ -50,7 +52,7 @@ pub fn in_words(number: Number) -> &'static str {
         VALUE => "a value runs past its field",
         STREAMS => "streams held plus different new ones joined by this PDU exceed 64",
         TIME => "the time is below the held clock",
-        BUFFER => "the output buffer is shorter than 1,500 octets",
+        BUFFER => "the output buffer is shorter than 1,500 octets (write) or 1,008 (why)",
         SETTINGS => "the settings are not as docs/TABLE.md lays them out",
         TABLE => "the table has the wrong length or breaks a form rule",
         PLACE => {
@@ -59,6 +61,7 @@ pub fn in_words(number: Number) -> &'static str {
         ADDRESSES => {
             "addresses held on the port plus different new ones joined by this MMRP frame exceed 64"
         }
+        STREAM => "the stream is not held",
         _ => "a number that no call gives",
     }
 }

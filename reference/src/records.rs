@@ -1,7 +1,8 @@
 //! Taking records from an input, and watching the calls they make.
 
-use crate::bridge::{ReportAnswer, Table, WriteAnswer};
+use crate::bridge::{ReportAnswer, Table, WhyAnswer, WriteAnswer};
 use crate::numbers::Number;
+use crate::pdu::{number_of, StreamId};
 
 /// An input that is taken from the front. Numbers are most significant octet first. What would
 /// run past the end isn't given; the record it belongs to is cut.
@@ -44,6 +45,10 @@ impl<'a> Input<'a> {
             .map(|octets| u32::from_be_bytes([octets[0], octets[1], octets[2], octets[3]]))
     }
 
+    pub fn u64(&mut self) -> Option<u64> {
+        self.octets(8).map(number_of)
+    }
+
     /// A 16-bit length and so many octets.
     pub fn counted_octets(&mut self) -> Option<&'a [u8]> {
         let length = self.u16()?;
@@ -60,6 +65,7 @@ pub enum Call<'a> {
     Advance(u32),
     Write { port: u32, place: u32, answer: WriteAnswer },
     Report { port: u32, place: u32, answer: ReportAnswer },
+    Why { port: u32, stream_id: StreamId, buffer_length: usize, answer: WhyAnswer },
 }
 
 /// Is told of each call, with the number given back and the table left.

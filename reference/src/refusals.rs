@@ -105,7 +105,7 @@ fn refusal(line: &str, program: Program) -> Option<Number> {
     let is_call = match program {
         Program::Sheet => first == "refused",
         Program::Calls => {
-            ["start", "receive", "mmrp", "advance", "write", "report"].contains(&first)
+            ["start", "receive", "mmrp", "advance", "write", "report", "why"].contains(&first)
         }
     };
     let number = rest.split(' ').next().filter(|_| is_call)?.parse().ok()?;

@@ -11,6 +11,7 @@ mod words;
 
 use crate::settings::{self, Settings};
 use crate::sheet::LONGEST_INPUT;
+use crate::why::LONGEST_LIST;
 use words::{unknown, Field, Measure, Names, Words};
 
 const PORT: Field = Field::plain("a port", 4);
@@ -163,6 +164,7 @@ impl Reader {
             }
             ("write", Program::Calls) => write(words),
             ("report", Program::Calls) => report(words),
+            ("why", Program::Calls) => why(words),
             ("store", Program::Calls) => {
                 let mut rest = words.number::<u16>(PLACE)?.to_be_bytes().to_vec();
                 rest.push(words.hexadecimal("an octet", 8)? as u8);
@@ -236,4 +238,18 @@ fn report(words: &mut Words) -> Result<Vec<u8>, String> {
         }
     }
     Ok(fixed(0x40 | port, &place.to_be_bytes()))
+}
+
+fn why(words: &mut Words) -> Result<Vec<u8>, String> {
+    let port: u8 = words.number(PORT)?;
+    let mut rest = words.stream()?.to_be_bytes().to_vec();
+    let mut buffer = LONGEST_LIST as u16;
+    while let Some(word) = words.next() {
+        match word {
+            "buffer" => buffer = words.number(LENGTH)?,
+            _ => return Err(unknown(word)),
+        }
+    }
+    rest.extend(buffer.to_be_bytes());
+    Ok(fixed(0x80 | port, &rest))
 }

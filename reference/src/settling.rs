@@ -279,7 +279,7 @@ fn is_ready(listener: Option<ListenerType>) -> bool {
     }
 }
 
-fn listener_type(on_port: &OnPort) -> Option<ListenerType> {
+pub fn listener_type(on_port: &OnPort) -> Option<ListenerType> {
     on_port.listener.as_ref().map(|listener| listener.listener_type)
 }
 
@@ -295,7 +295,24 @@ pub struct Decisions {
 
 /// Rank, the second of the entry and StreamID. The less is the more important: rank 0 before 1, then
 /// older, then lower StreamID (35.2.4.1).
-type Importance = (u8, u32, StreamId);
+pub type Importance = (u8, u32, StreamId);
+
+/// The importance of a stream that reaches step h on a port.
+pub fn importance(
+    facts: &Facts,
+    entries_since: &ByStreamAndPort<u32>,
+    stream_id: StreamId,
+    port: usize,
+) -> Importance {
+    let Parameters { rank, .. } = reaching_talker(&facts.registrations.streams[&stream_id]);
+    (rank, entries_since[&(stream_id, port)], stream_id)
+}
+
+/// The class of a stream that has passed step f.
+pub fn class_reached(facts: &Facts, stream_id: StreamId) -> Class {
+    let Parameters { priority, .. } = reaching_talker(&facts.registrations.streams[&stream_id]);
+    facts.settings.class_of(priority).expect("step f has passed")
+}
 
 /// The columns of all streams on all ports, and the reserved sums of each port.
 pub fn decide(facts: &Facts, entries_since: &ByStreamAndPort<u32>) -> Decisions {
@@ -325,17 +342,16 @@ fn decide_before_bandwidth(
     decisions: &mut Decisions,
 ) -> BTreeMap<Class, Vec<Importance>> {
     let mut reaching: BTreeMap<Class, Vec<Importance>> = BTreeMap::new();
-    for (stream_id, ports) in &facts.registrations.streams {
+    for stream_id in facts.registrations.streams.keys() {
         match column_before_bandwidth(facts, *stream_id, port) {
             Some((step, column)) => {
                 let decision = Decision { step, column, compared: None };
                 decisions.columns.insert((*stream_id, port), decision);
             }
             None => {
-                let Parameters { priority, rank, .. } = reaching_talker(ports);
-                let class = facts.settings.class_of(priority).expect("step f has passed");
-                let since = entries_since[&(*stream_id, port)];
-                reaching.entry(class).or_default().push((rank, since, *stream_id));
+                let class = class_reached(facts, *stream_id);
+                let importance = importance(facts, entries_since, *stream_id, port);
+                reaching.entry(class).or_default().push(importance);
             }
         }
     }
@@ -364,8 +380,8 @@ fn admit(
 ) -> Decision {
     let ports = &facts.registrations.streams[&stream_id];
     let port_settings = &facts.settings.ports[port - 1];
-    let Parameters { max_frame_size, max_interval_frames, priority, .. } = reaching_talker(ports);
-    let class = facts.settings.class_of(priority).expect("step f has passed");
+    let Parameters { max_frame_size, max_interval_frames, .. } = reaching_talker(ports);
+    let class = class_reached(facts, stream_id);
     let demand = rate(class, demand(port_settings, max_frame_size, max_interval_frames));
     let left = BitsPerSecond(limit.0 - *reserved);
     let compared = Some(Compared { demand, left });
@@ -388,7 +404,7 @@ fn reaching_talker(ports: &[OnPort]) -> Parameters {
 }
 
 /// The entry of Table 35-12.
-fn entry(column: Column, listener: Option<ListenerType>) -> Entry {
+pub fn entry(column: Column, listener: Option<ListenerType>) -> Entry {
     match column {
         Column::None if listener.is_none() => Entry::None,
         Column::Advertise if is_ready(listener) => Entry::Forward,
@@ -426,17 +442,39 @@ fn latency_out(settings: &Settings, port: usize, talker: &TalkerRegistration) ->
     sum.min(u64::from(u32::MAX)) as u32
 }
 
+/// What an advance comes to.
+pub struct Settling {
+    /// The boundary flags of each port, port 1 first.
+    pub boundaries: Vec<PerClass<bool>>,
+    /// The second from which each entry counts.
+    pub since: ByStreamAndPort<u32>,
+    pub decisions: Decisions,
+}
+
 /// Decides everything anew, for the registrations that are left at this clock.
+pub fn settling(
+    settings: &Settings,
+    registrations: &Registrations,
+    clock: u32,
+    before: &Settled,
+) -> Settling {
+    let boundaries = domain::boundaries(settings, &registrations.domains);
+    let facts = Facts::new(settings, registrations, &boundaries);
+    let since = entries_since(&facts, clock, before);
+    let decisions = decide(&facts, &since);
+    Settling { boundaries, since, decisions }
+}
+
+/// The settled state that an advance leaves.
 pub fn settle(
     settings: &Settings,
     registrations: &Registrations,
     clock: u32,
     before: &Settled,
 ) -> Settled {
-    let boundaries = domain::boundaries(settings, &registrations.domains);
-    let facts = Facts::new(settings, registrations, &boundaries);
-    let since = entries_since(&facts, clock, before);
-    let Decisions { columns, totals } = decide(&facts, &since);
+    let Settling { boundaries, since, decisions } =
+        settling(settings, registrations, clock, before);
+    let Decisions { columns, totals } = decisions;
     let mut streams = BTreeMap::new();
     for (stream_id, ports) in &registrations.streams {
         let on_each = |port| {

@@ -1,7 +1,7 @@
 //! The words that programs print (01, "The printed sheet").
 
 use crate::pdu::ListenerType;
-use crate::settling::{Column, Entry};
+use crate::settling::{Column, Entry, Step};
 
 pub fn column(column: Column) -> &'static str {
     match column {
@@ -17,6 +17,26 @@ pub fn listener(listener: Option<ListenerType>) -> &'static str {
         Some(ListenerType::AskingFailed) => "asking",
         Some(ListenerType::Ready) => "ready",
         Some(ListenerType::ReadyFailed) => "readyfailed",
+    }
+}
+
+/// The letter of a step.
+pub fn step(step: Step) -> &'static str {
+    match step {
+        Step::A => "a",
+        Step::B => "b",
+        Step::N => "n",
+        Step::C => "c",
+        Step::D => "d",
+        Step::K => "k",
+        Step::E => "e",
+        Step::F => "f",
+        Step::J => "j",
+        Step::L => "l",
+        Step::M => "m",
+        Step::G => "g",
+        Step::H => "h",
+        Step::I => "i",
     }
 }
 

@@ -1,11 +1,11 @@
 """A workbench over the proved stream-reservation bridge. docs/WORKBENCH.md is its page."""
-from srp.answers import Answer, Octets, Report, Sum, Written
+from srp.answers import Answer, Listed, Octets, Reason, Report, Sum, Written
 from srp.bridge import Bridge
 from srp.faults import Fault, Missing
 from srp.inputs import Input, Ran, load, run
 from srp.layout import Address, Cell, Domain, Edge, Parameters, Port, Result, Settings, Stream, Table, Totals
 from srp.views import AskedFor, DomainValue, Load, Share, loads
 
-__all__ = ["Address", "Answer", "AskedFor", "Bridge", "Cell", "Domain", "DomainValue", "Edge", "Fault", "Input", "Load", "Missing",
-           "Octets", "Parameters", "Port", "Ran", "Report", "Result", "Settings", "Share", "Stream", "Sum", "Table", "Totals",
-           "Written", "load", "loads", "run"]
+__all__ = ["Address", "Answer", "AskedFor", "Bridge", "Cell", "Domain", "DomainValue", "Edge", "Fault", "Input", "Listed", "Load",
+           "Missing", "Octets", "Parameters", "Port", "Ran", "Reason", "Report", "Result", "Settings", "Share", "Stream", "Sum",
+           "Table", "Totals", "Written", "load", "loads", "run"]

@@ -2,7 +2,7 @@
 from dataclasses import dataclass
 
 from srp.faults import Fault
-from srp.words import refusal
+from srp.words import reason, refusal, stream_id
 
 
 @dataclass(frozen=True)
@@ -46,6 +46,30 @@ class Report(Answer):
 
 
 @dataclass(frozen=True)
+class Listed:
+    """A more important stream that reserves, and its demand in bits per second."""
+    stream: str
+    demand: int
+
+
+@dataclass(frozen=True)
+class Reason(Answer):
+    """What why gives: the letter of the step that decides; for step h the more important streams that reserve, the limit in force
+    and how much is missing, in bits per second."""
+    step: str
+    count: int
+    limit: int
+    shortfall: int
+    kept: bool
+    listed: tuple[Listed, ...]
+
+    @property
+    def words(self):
+        """The step in words; nothing where the call is refused."""
+        return reason(self.step)
+
+
+@dataclass(frozen=True)
 class Sum:
     """The Adler-32 of the table's octets, in hex."""
     sum: str
@@ -55,6 +79,12 @@ class Sum:
 class Octets:
     """The table's octets."""
     octets: bytes
+
+
+def listed(digits):
+    """The streams of a list in hex: 8 octets StreamID, 8 demand."""
+    numbers = [int(digits[at:at + 16], 16) for at in range(0, len(digits), 16)]
+    return tuple(Listed(stream_id(stream), demand) for stream, demand in zip(numbers[::2], numbers[1::2]))
 
 
 def read_line(line):
@@ -68,6 +98,9 @@ def read_line(line):
             return Written(name, number, long, following, words[3] == "kept", bytes.fromhex("".join(words[4:])))
         if name == "report":
             return Report(name, *(int(word) for word in words[:6]), words[6], words[7], int(words[8]), *words[9:])
+        if name == "why":
+            count, limit, shortfall = (int(word) for word in words[2:5])
+            return Reason(name, int(words[0]), words[1], count, limit, shortfall, words[5] == "kept", listed("".join(words[6:])))
         if name == "table":
             return Sum(words[0])
         if name == "octets":

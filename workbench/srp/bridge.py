@@ -69,6 +69,11 @@ class Bridge:
         """What a port has reserved, and the stream at a place among those held."""
         return self.call(records.report(port, place))
 
+    def why(self, port, stream, buffer=1008):
+        """Why a stream, by its StreamID in hex or as a number, has its column on a port."""
+        stream = int(stream.replace(":", ""), 16) if isinstance(stream, str) else stream
+        return self.call(records.why(port, stream, buffer))
+
     def feed(self, text):
         """Makes the calls of a text's lines, and gives their answers."""
         # quiet: these lines are a part of what is called, and an advance may come by itself

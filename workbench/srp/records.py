@@ -3,10 +3,10 @@ from dataclasses import dataclass
 
 from srp.faults import Fault
 
-START, RECEIVE, ADVANCE, WRITE, REPORT, STORE, SUM, RECEIVE_MMRP = 0x0, 0x1, 0x2, 0x3, 0x4, 0x5, 0x6, 0x7
+START, RECEIVE, ADVANCE, WRITE, REPORT, STORE, SUM, RECEIVE_MMRP, WHY = 0x0, 0x1, 0x2, 0x3, 0x4, 0x5, 0x6, 0x7, 0x8
 
 # Octets behind the first one; None is a 16-bit length and so many octets. The second digit of those in PORTED is a port.
-PORTED = {RECEIVE: None, WRITE: 4, REPORT: 2, RECEIVE_MMRP: None}
+PORTED = {RECEIVE: None, WRITE: 4, REPORT: 2, RECEIVE_MMRP: None, WHY: 10}
 PLAIN = {0x00: None, 0x20: 4, 0x50: 3, 0x51: 2, 0x60: 0, 0x61: 0}
 TABLE_SUM, TABLE_OCTETS = b"\x60", b"\x61"
 
@@ -111,3 +111,7 @@ def write(port, place=0, buffer=1500):
 
 def report(port, place=0):
     return numbered(ported(REPORT, port), (place, 2))
+
+
+def why(port, stream, buffer=1008):
+    return numbered(ported(WHY, port), (stream, 8), (buffer, 2))

@@ -45,6 +45,25 @@ REFUSALS = {
     12: "the table has the wrong length or breaks a form rule",
     13: "no such place",
     14: "no room for another address",
+    15: "no such stream",
+}
+
+# What decides a stream's column on a port: the steps that why names, in the order in which they are tested.
+REASONS = {
+    "a": "there is no Talker, or it is on this port",
+    "b": "the port doesn't support the class",
+    "n": "pruning is on, and the port doesn't hold the stream's destination",
+    "c": "the Talker was failed by a bridge before this one",
+    "d": CAUSES[16],
+    "k": CAUSES[7],
+    "e": CAUSES[4],
+    "f": CAUSES[13],
+    "j": CAUSES[8],
+    "l": CAUSES[5],
+    "m": CAUSES[15],
+    "g": CAUSES[14],
+    "h": CAUSES[1],
+    "i": "admitted",
 }
 
 
@@ -56,6 +75,11 @@ def word(words, number):
 def cause(code):
     """A failure code in words; nothing for 0."""
     return CAUSES.get(code, "not in Table 35-6") if code else ""
+
+
+def reason(step):
+    """A step in words; nothing where none decides."""
+    return REASONS.get(step, "")
 
 
 def edge(name):

@@ -34,6 +34,34 @@ def test_calls_one_by_one():
         assert re.fullmatch("[0-9a-f]{8}", bridge.sum())
 
 
+def test_why():
+    import srp
+
+    with srp.Bridge("bridge 8000000000000007\nports 2 limits 20M 0") as bridge:
+        bridge.hear_domain()
+        bridge.feed("on 1 talker 0200000000010001 values 2\non 2 listener 0200000000010001 ready values 2")
+        first, second = (bridge.why(2, f"020000000001000{n}") for n in (1, 2))
+        assert (first.step, first.words, first.listed) == ("i", "admitted", ())
+        assert (second.step, second.words) == ("h", "insufficient bandwidth")
+        assert second.listed == (srp.Listed("0200000000010001", 17088000),)
+        assert (second.count, second.limit, second.shortfall, second.kept) == (1, 20000000, 14176000, True)
+        # as an advance then decides
+        bridge.advance(100)
+        assert [one.code for one in bridge.reports(2)] == [0, 1]
+        assert bridge.why(2, 0x0200000000010002) == second
+        refused = [bridge.why(2, "02:00:00:00:00:01:00:03"), bridge.why(2, "0200000000010001", buffer=1007)]
+        assert [(one.number, one.why, one.step, one.words) for one in refused] == [
+            (15, "no such stream", "none", ""), (10, "the output buffer is too short", "none", "")]
+
+
+def test_lines_of_why():
+    from srp.answers import Listed, Reason, read_line
+
+    assert read_line("why 15 none 0 0 0 kept\n") == Reason("why", 15, "none", 0, 0, 0, True, ())
+    assert read_line("why 0 h 1 5 2 kept 0200000000010001000000000104be00\n") == Reason(
+        "why", 0, "h", 1, 5, 2, True, (Listed("0200000000010001", 17088000),))
+
+
 def test_declarations_are_read_by_another_bridge():
     import srp
 

@@ -22,7 +22,7 @@ use Rattle.admission.specs.Numbers.{Numbered}
 use Rattle.admission.proofs.ByImportance.{orders-placed, by-importance}
 use Rattle.admission.proofs.FitKept.{admitted-fits}
 
-ids-small : (s : List Stream) → All FitStream s → All (λ i. i < 2 ^ 64) (ids s)
+pub ids-small : (s : List Stream) → All FitStream s → All (λ i. i < 2 ^ 64) (ids s)
 unfolding ids
 ids-small [] a = tt
 ids-small (x ∷ s) a = (id-fits x (a .0), ids-small s (a .1))

@@ -17,7 +17,7 @@ use Rattle.model.specs.Layout.{agePlace, before, entryPlace, failureCodePlace, 
 use Rattle.model.specs.Lists.{keep}
 use Rattle.model.specs.State.{Settings, Class, classOf, sameClass, Fixed, Result, Stream, Totals, portAt, resultAt, fresh}
 use Rattle.model.specs.Frames.{priorityOf, rankOf}
-use Rattle.model.specs.Bandwidth.{PerInterval, demand, rateOf, rateOfA, rateOfB}
+use Rattle.model.specs.Bandwidth.{PerInterval, demand, rateOf}
 use Rattle.model.specs.Settling.{registered, isReady, isAdvertise}
 use Rattle.model.specs.Table.{toPort, fixedFrom, toCell, toColumn, columnNumber, columnBridge, columnCode, entryNumber, resultNumbers, resultFrom, resultOctets, toResult, totalsOctets}
 use Rattle.model.specs.Laid.{LaidResult}
@@ -91,13 +91,9 @@ module _ (st : Settings) (p : ℕ) (x : Stream) (port fixed : List ℕ) (q : toP
   per-interval : record { octets = d } ≡ demand (portAt st p) (x .settled)
   per-interval = ap (λ (n : ℕ). record { octets = n }) (rw (q, f) at e)
 
-  pub rate-a : rateOfA record { octets = d } .bits ≡ demandIn st p (classFor false) x
-  unfolding demandIn rateOf classFor
-  rate-a = ap (λ (n : PerInterval). rateOfA n .bits) per-interval
-
-  pub rate-b : rateOfB record { octets = d } .bits ≡ demandIn st p (classFor true) x
-  unfolding demandIn rateOf classFor
-  rate-b = ap (λ (n : PerInterval). rateOfB n .bits) per-interval
+  pub rate-of : (b : Bool) → rateOf (classFor b) record { octets = d } .bits ≡ demandIn st p (classFor b) x
+  unfolding demandIn
+  rate-of b = ap (λ (n : PerInterval). rateOf (classFor b) n .bits) per-interval
 
 -- The numbers of those that wait.
 

@@ -7,6 +7,7 @@ ghost use lib.ListN.{length, take};
 ghost use Rattle.model.specs.Layout.{resultSize, totalSize};
 ghost use Rattle.model.specs.Lists.{keep};
 ghost use Rattle.model.specs.State.{Settings, Totals, resultAt, sameClass};
+ghost use Rattle.model.specs.Bandwidth.{rateOf};
 ghost use Rattle.model.specs.Table.{toResult, resultOctets, totalsOctets, decode, encode};
 ghost use Rattle.model.specs.Laid.{LaidResult, Laid};
 ghost use Rattle.table.specs.Updates.{streamAt, totalsAt, withResult, withTotals};
@@ -17,6 +18,7 @@ ghost use Rattle.sorting.specs.Sort.{sorted};
 ghost use Rattle.admission.specs.Sharing.{classFor, orderOf, isHeard, demandIn, ordersOn, usedOn, turnsOn};
 ghost use Rattle.admission.specs.Numbers.{Noting, Numbered, Turned, TookTurns};
 use streams::ClassRead;
+use streams::PerInterval;
 use streams::PerSecond;
 use table::cell;
 use table::port;
@@ -26,7 +28,7 @@ use table::result;
 const PRIORITY: usize = cell::PRIORITY - cell::DESTINATION;
 
 // Whether a class is B, or else A.
-fn same_class(class: ClassRead, b: bool) -> bool
+pub fn same_class(class: ClassRead, b: bool) -> bool
     ensures { λ r. ⌜ r ≡ sameClass (classShown class) (classFor b) ⌝ }
 {
     match class {
@@ -115,13 +117,11 @@ fn limit_in_force(table: &[u8], p: usize, b: bool) -> u64
     octets::get(port, port::LIMIT_A, 5)
 }
 
-// The demand of stream k on the port at place p.
-fn demand_in(table: &[u8], k: usize, p: usize, b: bool) -> PerSecond
-    requires { ⌜ StandsOn (now table) k p ⌝ }
-    ensures { λ r. ⌜ (r .0 ≡ demandIn (decode (now (table .entry)) .settings) p (classFor b) (streamAt k (decode (now (table .entry)))))
-        × (r .0 < 2 ^ 50) ⌝ }
+// A demand as a rate of class B, or else of class A.
+pub fn rate_in(d: PerInterval, b: bool) -> PerSecond
+    requires { ⌜ d .0 < 2 ^ 34 ⌝ }
+    ensures { λ r. ⌜ (r .0 ≡ rateOf (classFor b) (record { octets = d .0 }) .bits) × (r .0 < 2 ^ 50) ⌝ }
 {
-    let d = streams::demand(table::port_at(table, p), table::settled_at(table, k));
     if b {
         streams::rate_of_b(d)
     } else {
@@ -129,8 +129,20 @@ fn demand_in(table: &[u8], k: usize, p: usize, b: bool) -> PerSecond
     }
 }
 
+// The demand of stream k on the port at place p.
+fn demand_in(table: &[u8], k: usize, p: usize, b: bool) -> PerSecond
+    requires { ⌜ StandsOn (now table) k p ⌝ }
+    ensures { λ r. ⌜ (r .0 ≡ demandIn (decode (now (table .entry)) .settings) p (classFor b) (streamAt k (decode (now (table .entry)))))
+        × (r .0 < 2 ^ 50) ⌝ }
+{
+    rate_in(
+        streams::demand(table::port_at(table, p), table::settled_at(table, k)),
+        b,
+    )
+}
+
 // Whether a Listener of stream k on the port at place p is Ready or Ready Failed.
-fn is_heard(table: &[u8], k: usize, p: usize) -> bool
+pub fn is_heard(table: &[u8], k: usize, p: usize) -> bool
     requires { ⌜ StandsOn (now table) k p ⌝ }
     ensures { λ r. ⌜ r ≡ isHeard p (streamAt k (decode (now (table .entry)))) ⌝ }
 {

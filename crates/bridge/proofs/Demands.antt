@@ -1,4 +1,4 @@
--- The three demands, of the code: theorems whose premises are the contracts of the six calls (specs/Promises), brought together.
+-- The three demands, of the code: theorems whose premises are the contracts of the seven calls (specs/Promises), brought together.
 --
 -- 1. Every call on every input ends with an answer. For each call its numbers, each exactly when 01's table or 02 says; a refusal alters
 --    nothing; no table left by start and the calls after it breaks a form rule.

@@ -5,6 +5,7 @@ pub mod OnAddresses
 pub mod Registering
 pub mod Receiving
 pub mod Reading
+pub mod Asking
 pub mod Demand1
 pub mod Demand2
 pub mod Demand3

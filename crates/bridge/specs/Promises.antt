@@ -4,7 +4,7 @@ use mathlib.Core.Path.{_≡_}
 use mathlib.Core.List.{List}
 use Prim.Native.Nat.{ℕ}
 use Rattle.model.specs.Reports.{Report}
-use Rattle.model.specs.Calls.{startOn, receiveOn, receiveMmrpOn, advanceOn, writeOn, reportOn}
+use Rattle.model.specs.Calls.{WhyCall, startOn, receiveOn, receiveMmrpOn, advanceOn, writeOn, reportOn, whyOn}
 
 -- a table and settings: the number, and the table afterwards
 abbrev pub Starts : List ℕ → List ℕ → ℕ → List ℕ → Type 0
@@ -38,3 +38,7 @@ pub record RefusedWith (n number long next : ℕ) : Type 0 where
 -- a table, a port and a place: the report
 abbrev pub Reports : List ℕ → ℕ → ℕ → Report → Type 0
 Reports table port place answer = answer ≡ reportOn table port place
+
+-- a table, a StreamID, a port and a buffer: the answer, with the buffer afterwards
+abbrev pub Explains : List ℕ → ℕ → ℕ → List ℕ → WhyCall → Type 0
+Explains table id port buffer answer = answer ≡ whyOn table id port buffer

@@ -1,10 +1,12 @@
-// The bridge: six calls on a table that the caller lends (docs/TABLE.md). None asks anything of its arguments. For every input
+// The bridge: seven calls on a table that the caller lends (docs/TABLE.md). None asks anything of its arguments. For every input
 // each promises the one number, the one content of the table and of the buffer: those of crate model's `Calls`, by the relations
 // of specs/Promises.
 ghost use Rattle.reports.specs.Shown.{shown};
-ghost use Rattle.bridge.specs.Promises.{Starts, Receives, ReceivesMmrp, Advances, Writes, RefusedWith, Reports};
+ghost use Rattle.bridge.specs.Promises.{Starts, Receives, ReceivesMmrp, Advances, Writes, RefusedWith, Reports, Explains};
+ghost use Rattle.why.specs.Shown.{whyShown};
 use model::pdu;
 use model::refusal;
+use table::Found;
 
 // Octets of a table.
 pub const TABLE: usize = table::LENGTH;
@@ -15,6 +17,9 @@ pub const PORTS_FIELD: usize = table::HEAD;
 pub const SETTINGS: usize = table::PORTS;
 
 pub const PORT_SETTINGS: usize = table::PORT;
+
+// Octets that all that why may list takes.
+pub const LIST: usize = 63 * 16;
 
 // The number of a call that is not refused.
 pub const ACCEPTED: u8 = refusal::ACCEPTED;
@@ -176,4 +181,29 @@ pub fn report(table: &[u8], port: u32, place: u32) -> reports::Reported
         return reports::report_at(table, port as usize - 1, place as usize);
     }
     reports::refused_report(refusal::TABLE)
+}
+
+// Tells why a stream has the column that an advance to the held clock would give it on a port; what more important streams reserve
+// stands in the buffer where step h decides. Octets of the buffer past the list stay.
+pub fn why(table: &[u8], id: u64, port: u32, buffer: &mut [u8]) -> why::Why
+    ensures { λ r. ⌜ Explains (now (table .entry)) id port (now (buffer .entry)) (whyShown r (now (buffer .exit))) ⌝ }
+{
+    let formed = form::is_formed(table);
+    if formed {
+        let ports = table::ports(table);
+        if port == 0 {
+            return why::refused_why(refusal::PORT);
+        }
+        if ports < port as usize {
+            return why::refused_why(refusal::PORT);
+        }
+        let Found::At(k) = table::find(table, id) else {
+            return why::refused_why(refusal::STREAM);
+        };
+        if buffer.len() < LIST {
+            return why::refused_why(refusal::BUFFER);
+        }
+        return why::explain(table, k, port as usize - 1, buffer);
+    }
+    why::refused_why(refusal::TABLE)
 }

@@ -15,6 +15,8 @@ use Rattle.model.proofs.Valid.{ValidCell}
 use Rattle.model.proofs.AdvanceKeepsForm.{length-tabulate, ValidSource, source-valid, fixed-valid, health-valid, ValidFailure, steps-valid, capped-fits, latency-fits}
 use Rattle.table.specs.Reads.{FitFixed}
 use Rattle.table.proofs.Fitting.{unsettled-fits, map-fits}
+use Rattle.streams.proofs.Fixed.{source-fits}
+pub use Rattle.streams.proofs.Fixed.{settled-values}
 use Rattle.columns.specs.Stages.{shownAs, earlyColumn, earlyAt, early, earlyAll}
 
 -- Numbers of a result.
@@ -25,7 +27,7 @@ age-fits noEntry a h = omega arith
 age-fits filters a h = h
 age-fits forwards a h = h
 
-began-fits : (now : ℕ) (r : Result) → now < 2 ^ 32 → r .age < 2 ^ 32 → ageOf now r < 2 ^ 32
+pub began-fits : (now : ℕ) (r : Result) → now < 2 ^ 32 → r .age < 2 ^ 32 → ageOf now r < 2 ^ 32
 unfolding ageOf
 began-fits now r h k = go (r .entry)
   where
@@ -46,22 +48,11 @@ column-numbers none w = (omega arith, omega arith, omega arith)
 column-numbers advertise w = (omega arith, omega arith, omega arith)
 column-numbers (failed b c) w = (omega arith, w .0, w .1)
 
-age-of-result : (r : Result) → FitResult r → r .age < 2 ^ 32
+pub age-of-result : (r : Result) → FitResult r → r .age < 2 ^ 32
 unfolding Fit resultNumbers
 age-of-result r w = w .1 .1 .1 .1 .1 .0
 
 -- Streams.
-
-module _ (x : Stream) (w : FitStream x) where
-  -- what is registered at the Talker port
-  source-fits : ValidSource latest longest (sourceOf x)
-  unfolding sourceOf
-  source-fits = source-valid latest longest 0 (x .cells) (all-map FitCell (ValidCell latest longest) fit-cell (x .cells) (w .cells))
-
-  pub settled-values : FitFixed (fixedOf (sourceOf x))
-  settled-values =
-      let v = fixed-valid latest longest (sourceOf x) source-fits in
-      record { numbers = fixed-fit (fixedOf (sourceOf x)) v; rank = v .rank }
 
 module _ (sc : Scene) (named : sc .settings .bridgeId < 2 ^ 64) (now : ℕ) (soon : now < 2 ^ 32) (x : Stream) (w : FitStream x) where
   early-column-fits : (p : ℕ) → ValidFailure (earlyColumn sc p x)

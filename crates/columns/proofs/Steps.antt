@@ -2,26 +2,33 @@
 use mathlib.Core.Path.{_≡_, refl, sym, ap, _∙_}
 use mathlib.Core.List.{List, [], _∷_, _++_}
 use mathlib.Core.Bool.{Bool, true, false, cond, not}
+use mathlib.Core.Logic.{_⊎_, ⊎-elim}
 use Prim.Native.Nat.{ℕ, _/_, _≤_, _<_}
+use native.Mathlib.Omega.{arith}
 use lib.ListN.{length, getD}
 use lib.Dec.{eqb, ltb}
-use borrow.Author.Tests.{eq-eqb, ne-eqb, lt-ltb, le-ltb}
+use borrow.Author.Tests.{ne-eqb, lt-ltb, le-ltb}
 use Rattle.octets.specs.Be.{beAt}
 use Rattle.octets.specs.Fields.{fields}
-use Rattle.model.specs.Layout.{bridgePlace, changedPlace, codePlace, firstLatencyPlace, fixedPlace, inPort, latencyPlace, priorityPlace}
+use Rattle.model.specs.Layout.{changedPlace, firstLatencyPlace, fixedPlace, inPort, latencyPlace, priorityPlace}
 use Rattle.model.specs.Lists.{isOne}
-use Rattle.model.specs.State.{Settings, Health, sound, broken, Column, none, advertise, failed, Stream, Class, portAt, isPort, cellAt, ownAt, classOf, isNoClass, supports}
+use Rattle.model.specs.State.{Bridge, Port, sound, broken, Own, Stream, Class, noClass, classA, classB, portAt, isPort, cellAt, ownAt, classOf, isNoClass, supports}
 use Rattle.model.specs.Frames.{priorityOf}
-use Rattle.model.specs.Settling.{Scene, boundary, Source, sourceOf, fixedOf, isTalking, healthOf, isBroken, brokenColumn, isPruned, inboundOf, shares, isKeptOut, Outcome, columnNone, asRegistered, ownFailure, Step, first, outcomeColumn, stepsFrom, lastSteps, steps}
+use Rattle.model.specs.Settling.{Scene, sceneOf, Inbound, boundary, sourceOf, fixedOf, isTalking, isBroken, isPruned, inboundOf, shares, isKeptOut, StepName, stepA, stepB, stepC, stepD, stepE, stepF, stepG, stepI, stepJ, stepK, stepL, stepM, stepN, Step, stepsFrom, lastSteps, steps}
 use Rattle.model.specs.Table.{toPort, toCell, registrationFrom, fixedFrom, toHealth, portFrom}
+use Rattle.model.specs.Why.{letter, sameStep, firstName}
 use Rattle.model.proofs.SettingsOctets.{octet-field}
+use Rattle.model.proofs.Why.{name-stays, name-clear, first-clear}
 use Rattle.streams.specs.Answers.{sourceIn}
 use Rattle.streams.proofs.Sources.{no-talker, a-talker}
 use Rattle.fanin.specs.Failures.{commonFailure}
-use Rattle.columns.specs.declared.ColumnRead.{ColumnRead}
-use Rattle.columns.specs.declared.ColumnRead.the-variants.{None, Advertise, Failed}
-use Rattle.columns.specs.Answers.{columnShown, sizePlace}
-use Rattle.columns.specs.Stages.{prunedBy, firstStep, lastStep, orElse, earlyColumn}
+use Rattle.columns.specs.declared.Edges.{Edges}
+use Rattle.columns.specs.declared.Step as declared
+use Rattle.columns.specs.declared.Step.the-variants.{None, A, B, C, D, E, F, G, H, I, J, K, L, M, N}
+use Rattle.columns.specs.Answers.{sizePlace}
+use Rattle.columns.specs.Steps.{stepShown, edgeOf, EdgesOf}
+use Rattle.columns.specs.Places.{SceneOn}
+use Rattle.columns.specs.Stages.{prunedBy, lastStep}
 
 -- Whether a cell has a Talker, by its first octet.
 
@@ -34,158 +41,153 @@ unfolding isTalking
 talking s n = rw (a-talker s n)
 
 -- c: a Talker is Failed where its kind is not Advertise's
-failed-asked : (k b c : ℕ) (d : Column)
-    → cond (isBroken (toHealth k b c)) (brokenColumn (toHealth k b c)) d ≡ cond (not (eqb k 1)) (failed b c) d
-unfolding toHealth isBroken brokenColumn
-failed-asked k b c d = go (eqb k 1)
+failed-asked : (k b c : ℕ) → isBroken (toHealth k b c) ≡ not (eqb k 1)
+unfolding toHealth isBroken
+failed-asked k b c = go (eqb k 1)
   where
-    go : (e : Bool) → cond (isBroken (cond e sound (broken b c))) (brokenColumn (cond e sound (broken b c))) d ≡ cond (not e) (failed b c) d
+    go : (e : Bool) → isBroken (cond e sound (broken b c)) ≡ not e
     go true = refl
     go false = refl
 
--- The steps, from each on, every test as the code asks it: of a scene, the port's octets, the cell here on the port at place p,
--- the Talker's cell said at place t.
+-- The steps, from each on, every test as the code asks it: of a scene, the cell here on the port at place p, the Talker's
+-- cell said at place t.
 
-module _ (sc : Scene) (port here said : List ℕ) (p t : ℕ) where
-  abbrev own : ℕ → Column
-  own = failed (sc .settings .bridgeId)
-
+module _ (sc : Scene) (here said : List ℕ) (p t : ℕ) where
   abbrev pub class : Class
   class = classOf (sc .settings) (beAt 1 said priorityPlace / 32)
 
-  abbrev pub from-j : Column
-  from-j = cond (boundary (ownAt (sc .own) p) class) (own 8) advertise
+  abbrev pub from-j : StepName
+  from-j = cond (boundary (ownAt (sc .own) p) class) stepJ stepI
 
-  abbrev pub from-f : Column
-  from-f = cond (isNoClass class) (own 13) from-j
+  abbrev pub from-f : StepName
+  from-f = cond (isNoClass class) stepF from-j
 
-  abbrev pub from-e : Column
-  from-e = cond (isTalking (toCell here)) (own 4) from-f
+  abbrev pub from-e : StepName
+  from-e = cond (isTalking (toCell here)) stepE from-f
 
-  abbrev pub from-k : Column
-  from-k = cond (ltb (beAt 4 said firstLatencyPlace) (beAt 4 said latencyPlace)) (own 7) from-e
+  abbrev pub from-k : StepName
+  from-k = cond (ltb (beAt 4 said firstLatencyPlace) (beAt 4 said latencyPlace)) stepK from-e
 
-  abbrev pub from-d : Column
-  from-d = cond (eqb (getD said changedPlace 0) 1) (own 16) from-k
+  abbrev pub from-d : StepName
+  from-d = cond (eqb (getD said changedPlace 0) 1) stepD from-k
 
-  abbrev pub from-c : Column
-  from-c = cond (not (eqb (getD said 0 0) 1)) (failed (beAt 8 said bridgePlace) (getD said codePlace 0)) from-d
+  abbrev pub from-c : StepName
+  from-c = cond (not (eqb (getD said 0 0) 1)) stepC from-d
 
-  abbrev pub from-n : Column
-  from-n = cond (prunedBy sc p (beAt 6 said fixedPlace)) none from-c
+  abbrev pub from-n : StepName
+  from-n = cond (prunedBy (sc .settings) (ownAt (sc .own) p .addresses) (beAt 6 said fixedPlace)) stepN from-c
 
-  abbrev pub from-b : Column
-  from-b = cond (not (supports (toPort port) class)) none from-n
+  abbrev pub from-b : StepName
+  from-b = cond (not (supports (portAt (sc .settings) p) class)) stepB from-n
 
-  abbrev pub from-a : Column
-  from-a = cond (eqb p t) none from-b
+  abbrev pub from-a : StepName
+  from-a = cond (eqb p t) stepA from-b
 
-  abbrev pub decided : Column
-  decided = firstStep sc p (toCell here) (sourceIn t (toCell said))
+  abbrev pub decided : StepName
+  decided = firstName (stepsFrom sc p (toCell here) (sourceIn t (toCell said))) stepI
 
   -- a, no Talker port
-  pub no-source : getD said 0 0 ≡ 0 → none ≡ decided
-  unfolding firstStep sourceIn stepsFrom first outcomeColumn
+  pub no-source : getD said 0 0 ≡ 0 → stepA ≡ decided
+  unfolding sourceIn stepsFrom firstName
   no-source e = rw (no-talker said e)
 
-  pub steps-asked : toPort port ≡ portAt (sc .settings) p → (getD said 0 0 ≡ 0 → ⊥) → decided ≡ from-a
-  unfolding firstStep prunedBy isPruned sourceIn registrationFrom healthOf stepsFrom first outcomeColumn isOne fields fixedFrom priorityOf toPort portFrom
-  steps-asked there k = rw (a-talker said k, ← there, octet-field said 0, octet-field said changedPlace, octet-field said codePlace, failed-asked)
+  pub steps-asked : (getD said 0 0 ≡ 0 → ⊥) → decided ≡ from-a
+  unfolding sourceIn registrationFrom stepsFrom firstName isPruned prunedBy isOne fields fixedFrom priorityOf
+  steps-asked k = rw (a-talker said k, octet-field said 0, octet-field said changedPlace, failed-asked)
+
+-- the flag of a class, in a scene
+pub edge-is : (e : Edges) (o : Own) → EdgesOf e o → (c : Class) → edgeOf e c ≡ boundary o c
+unfolding edgeOf boundary
+edge-is e o w noClass = refl
+edge-is e o w classA = w .in-a
+edge-is e o w classB = w .in-b
 
 -- The last steps, from the failure on every port and what is read of the port and of the Talker's cell.
 
-module _ (st : Settings) (common : ℕ) (port said : List ℕ) where
-  abbrev last : Column
-  last = lastStep st common (toPort port) (beAt 2 said sizePlace)
+module _ (common : ℕ) (q : Port) (port said : List ℕ) (there : toPort port ≡ q) where
+  abbrev last : StepName
+  last = lastStep common q (beAt 2 said sizePlace)
 
-  pub common-fails : (common ≡ 0 → ⊥) → failed (st .bridgeId) common ≡ last
-  unfolding lastStep
-  common-fails n = rw (ne-eqb common 0 n)
-
-  module _ (none : common ≡ 0) (a b : ℕ) (e : a ≡ beAt 2 port inPort.largest) (f : b ≡ beAt 2 said sizePlace) where
-    pub too-large : a < b → failed (st .bridgeId) 14 ≡ last
+  module _ (none : (common ≡ 5 → ⊥) × (common ≡ 15 → ⊥)) (a b : ℕ) (e : a ≡ beAt 2 port inPort.largest) (f : b ≡ beAt 2 said sizePlace) where
+    pub too-large : a < b → stepG ≡ last
     unfolding lastStep toPort portFrom fields
-    too-large h = rw (eq-eqb common 0 none, ← e, ← f, lt-ltb a b h)
+    too-large h = rw (ne-eqb common 5 (none .0), ne-eqb common 15 (none .1), ← there, ← e, ← f, lt-ltb a b h)
 
-    pub no-step : b ≤ a → advertise ≡ last
+    pub no-step : b ≤ a → stepI ≡ last
     unfolding lastStep toPort portFrom fields
-    no-step h = rw (eq-eqb common 0 none, ← e, ← f, le-ltb a b h)
+    no-step h = rw (ne-eqb common 5 (none .0), ne-eqb common 15 (none .1), ← there, ← e, ← f, le-ltb a b h)
 
 -- A place that is no port has column none; a port has what its first steps give, and its last ones where none of them applies.
 
-first-append : (says : Outcome → Column) (l m : List Step) (c : Column) → first says (l ++ m) c ≡ first says l (first says m c)
-unfolding first
-first-append says [] m c = refl
-first-append says (s ∷ l) m c = ap (λ (d : Column). cond (s .test) (says (s .outcome)) d) (first-append says l m c)
-
-module _ (st : Settings) (s : Source) where
-  stays : (o : Outcome) (d : Column) → orElse (outcomeColumn st s o) d ≡ outcomeColumn st s o
-  unfolding orElse outcomeColumn brokenColumn
-  stays columnNone d = refl
-  stays asRegistered d = go (healthOf s)
-    where
-      go : (h : Health) → orElse (brokenColumn h) d ≡ brokenColumn h
-      go sound = refl
-      go (broken b c) = refl
-  stays (ownFailure code) d = refl
-
-  first-then : (l : List Step) (d : Column) → first (outcomeColumn st s) l d ≡ orElse (first (outcomeColumn st s) l advertise) d
-  unfolding first
-  first-then [] d = unfold orElse in refl
-  first-then (t ∷ l) d = go (t .test) (first-then l d)
-    where
-      go : (b : Bool) → first (outcomeColumn st s) l d ≡ orElse (first (outcomeColumn st s) l advertise) d
-          → cond b (outcomeColumn st s (t .outcome)) (first (outcomeColumn st s) l d)
-          ≡ orElse (cond b (outcomeColumn st s (t .outcome)) (first (outcomeColumn st s) l advertise)) d
-      go true ih = sym (stays (t .outcome) d)
-      go false ih = ih
+first-append : (l m : List Step) (n : StepName) → firstName (l ++ m) n ≡ firstName l (firstName m n)
+unfolding firstName
+first-append [] m n = refl
+first-append (s ∷ l) m n = ap (λ (d : StepName). cond (s .test) (s .name) d) (first-append l m n)
 
 module _ (sc : Scene) (p : ℕ) (x : Stream) where
-  pub no-port : length (sc .settings .ports) ≤ p → none ≡ earlyColumn sc p x
-  unfolding earlyColumn steps first outcomeColumn isPort
+  pub no-port : length (sc .settings .ports) ≤ p → stepA ≡ firstName (steps sc p x) stepI
+  unfolding steps firstName isPort
   no-port h = rw (le-ltb p (length (sc .settings .ports)) h)
 
-  abbrev says : Outcome → Column
-  says = outcomeColumn (sc .settings) (sourceOf x)
-
   last-steps : (common : ℕ) → common ≡ commonFailure sc (inboundOf x)
-      → first says (lastSteps sc p (inboundOf x)) advertise ≡ lastStep (sc .settings) common (portAt (sc .settings) p) (fixedOf (sourceOf x) .size)
-  unfolding first outcomeColumn lastSteps lastStep commonFailure inboundOf
+      → firstName (lastSteps sc p (inboundOf x)) stepI ≡ lastStep common (portAt (sc .settings) p) (fixedOf (sourceOf x) .size)
+  unfolding firstName lastSteps lastStep commonFailure inboundOf
   last-steps common e = rw e (go (shares (sc .inbound) (inboundOf x)) (isKeptOut (sc .settings .fanIn) (sc .inbound) (sourceOf x)))
     where
-      go : (a b : Bool) → let rest = cond (ltb (portAt (sc .settings) p .largest) (fixedOf (sourceOf x) .size)) (failed (sc .settings .bridgeId) 14) advertise in
-          cond a (failed (sc .settings .bridgeId) 5) (cond b (failed (sc .settings .bridgeId) 15) rest)
-          ≡ cond (eqb (cond a 5 (cond b 15 0)) 0) rest (failed (sc .settings .bridgeId) (cond a 5 (cond b 15 0)))
+      go : (a b : Bool) → let rest = cond (ltb (portAt (sc .settings) p .largest) (fixedOf (sourceOf x) .size)) stepG stepI in
+          cond a stepL (cond b stepM rest)
+          ≡ cond (eqb (cond a 5 (cond b 15 0)) 5) stepL (cond (eqb (cond a 5 (cond b 15 0)) 15) stepM rest)
       go true b = refl
       go false true = refl
       go false false = refl
 
-  port-steps : p < length (sc .settings .ports)
-      → earlyColumn sc p x ≡ first says (stepsFrom sc p (cellAt x p) (sourceOf x) ++ lastSteps sc p (inboundOf x)) advertise
-  unfolding earlyColumn steps first isPort
-  port-steps h = rw (lt-ltb p (length (sc .settings .ports)) h)
+  -- the step of a port, from what the two functions give
+  pub a-port : p < length (sc .settings .ports) → firstName (steps sc p x) stepI
+      ≡ firstName (stepsFrom sc p (cellAt x p) (sourceOf x)) (firstName (lastSteps sc p (inboundOf x)) stepI)
+  unfolding steps firstName isPort
+  a-port h = rw (lt-ltb p (length (sc .settings .ports)) h) (first-append (stepsFrom sc p (cellAt x p) (sourceOf x)) (lastSteps sc p (inboundOf x)) stepI)
 
-  -- the column of a port, from what the two functions give
-  pub a-port : p < length (sc .settings .ports) → (common size : ℕ) → common ≡ commonFailure sc (inboundOf x) → size ≡ fixedOf (sourceOf x) .size
-      → earlyColumn sc p x ≡ orElse (firstStep sc p (cellAt x p) (sourceOf x)) (lastStep (sc .settings) common (portAt (sc .settings) p) size)
-  unfolding firstStep
-  a-port h common size e f =
-      port-steps h
-      ∙ first-append says (stepsFrom sc p (cellAt x p) (sourceOf x)) (lastSteps sc p (inboundOf x)) advertise
-      ∙ first-then (sc .settings) (sourceOf x) (stepsFrom sc p (cellAt x p) (sourceOf x)) (first says (lastSteps sc p (inboundOf x)) advertise)
-      ∙ ap (orElse (first says (stepsFrom sc p (cellAt x p) (sourceOf x)) advertise)) (last-steps common e ∙ rw f)
+-- Another step than i, and what the code finds of one.
 
--- A column that is no Advertise, and one that is.
+pub other-step : (r : declared.Step) → (r ≡ I → ⊥) → sameStep (stepShown r) stepI ≡ false
+unfolding stepShown sameStep letter
+other-step None n = refl
+other-step A n = refl
+other-step B n = refl
+other-step C n = refl
+other-step D n = refl
+other-step E n = refl
+other-step F n = refl
+other-step G n = refl
+other-step H n = refl
+other-step I n = absurd (n refl)
+other-step J n = refl
+other-step K n = refl
+other-step L n = refl
+other-step M n = refl
+other-step N n = refl
 
-pub goes-no-further : (r : ColumnRead) (f d : Column) → columnShown r ≡ f → (r ≡ Advertise → ⊥) → columnShown r ≡ orElse f d
-unfolding columnShown orElse
-goes-no-further r f d e n = rw (← e) (go r n)
-  where
-    go : (r : ColumnRead) → (r ≡ Advertise → ⊥) → columnShown r ≡ orElse (columnShown r) d
-    go None n = refl
-    go Advertise n = absurd (n refl)
-    go (Failed b c) n = refl
+pub none-but-i : _≡_ {A = ℕ} 9 0 ⊎ (_≡_ {A = ℕ} 9 1 ⊎ (_≡_ {A = ℕ} 9 2 ⊎ (_≡_ {A = ℕ} 9 3 ⊎ (_≡_ {A = ℕ} 9 4 ⊎ (_≡_ {A = ℕ} 9 5 ⊎ (_≡_ {A = ℕ} 9 6 ⊎ (_≡_ {A = ℕ} 9 7 ⊎ (_≡_ {A = ℕ} 9 8 ⊎ (_≡_ {A = ℕ} 9 10 ⊎ (_≡_ {A = ℕ} 9 11 ⊎ (_≡_ {A = ℕ} 9 12 ⊎ (_≡_ {A = ℕ} 9 13 ⊎ _≡_ {A = ℕ} 9 14)))))))))))) → ⊥
+none-but-i = ⊎-elim (λ z. omega arith) (⊎-elim (λ z. omega arith) (⊎-elim (λ z. omega arith) (⊎-elim (λ z. omega arith) (⊎-elim (λ z. omega arith) (⊎-elim (λ z. omega arith) (⊎-elim (λ z. omega arith) (⊎-elim (λ z. omega arith) (⊎-elim (λ z. omega arith) (⊎-elim (λ z. omega arith) (⊎-elim (λ z. omega arith) (⊎-elim (λ z. omega arith) (⊎-elim (λ z. omega arith) (λ z. omega arith)))))))))))))
 
-pub goes-on : (f d : Column) → f ≡ advertise → orElse f d ≡ d
-unfolding orElse
-goes-on f d e = rw e
+-- What the first steps named, and what follows it.
+
+module _ (sc : Scene) (p : ℕ) (x : Stream) (h : p < length (sc .settings .ports)) (r : declared.Step)
+    (e : stepShown r ≡ firstName (stepsFrom sc p (cellAt x p) (sourceOf x)) stepI) where
+  pub goes-no-further : (r ≡ I → ⊥) → stepShown r ≡ firstName (steps sc p x) stepI
+  goes-no-further n =
+      e ∙ sym (a-port sc p x h ∙ name-stays (firstName (lastSteps sc p (inboundOf x)) stepI) (stepsFrom sc p (cellAt x p) (sourceOf x)) (ap (λ (m : StepName). sameStep m stepI) (sym e) ∙ other-step r n))
+
+  pub goes-on : r ≡ I → (common size : ℕ) → common ≡ commonFailure sc (inboundOf x) → size ≡ fixedOf (sourceOf x) .size
+      → firstName (steps sc p x) stepI ≡ lastStep common (portAt (sc .settings) p) size
+  unfolding stepShown
+  goes-on f common size g q =
+      a-port sc p x h
+      ∙ name-clear (firstName (lastSteps sc p (inboundOf x)) stepI) (stepsFrom sc p (cellAt x p) (sourceOf x))
+      (first-clear sc p x ∙ ap (λ (m : StepName). sameStep m stepI) (sym e) ∙ rw f (unfold sameStep letter in refl))
+      ∙ last-steps sc p x common g ∙ rw q
+
+-- the own failure on every port is that in any scene of the bridge
+pub same-failure : {b : Bridge} {p : ℕ} {e : Edges} {sc : Scene} (i : Inbound) (common : ℕ) → SceneOn b p e sc → common ≡ commonFailure (sceneOf b) i → common ≡ commonFailure sc i
+unfolding commonFailure
+same-failure i common w f = rw (w .settings, w .inbound) f

@@ -2,24 +2,29 @@
 -- fixed values' octets.
 use mathlib.Core.Path.{_≡_, refl, sym, ap, _∙_}
 use mathlib.Core.List.{List}
+use mathlib.Core.Bool.{Bool, true, false}
 use Prim.Native.Nat.{ℕ, _+_, _/_, _≤_, _<_}
 use native.Mathlib.Omega.{arith}
 use lib.ListN.{length, getD}
-use borrow.Author.Tests.{lt-ltb, le-ltb}
+use lib.Dec.{eqb}
+use borrow.Author.Tests.{eq-eqb, ne-eqb, eqb-true, eqb-false, lt-ltb, le-ltb}
 use Rattle.octets.specs.Be.{beAt}
 use Rattle.octets.specs.Parts.{part}
 use Rattle.octets.specs.Fields.{fields, packed, width}
 use Rattle.octets.proofs.Fields.{fields-of-packed, length-fit, part-run}
-use Rattle.model.specs.Layout.{cellWidths, fixedField, fixedPlace, fixedSize, fixedWidths, latencyField, latencyPlace, priorityField, priorityPlace}
-use Rattle.model.specs.State.{Settings, Talker, noTalker, talker, Cell, Stream, noFixed, portAt, cellAt, classOf, classLatency}
+use Rattle.model.specs.Layout.{bridgePlace, cellWidths, codePlace, fixedField, fixedPlace, fixedSize, fixedWidths, latencyField, latencyPlace, priorityField, priorityPlace}
+use Rattle.model.specs.State.{Settings, none, failed, Talker, noTalker, talker, Cell, Stream, noFixed, portAt, cellAt, classOf, classLatency}
 use Rattle.model.specs.WrittenFrames.{priorityOctet, fixedNumbers}
-use Rattle.model.specs.Settling.{Source, sourceOf, fixedOf, latencyOf, streamClass, capped, latencyOut}
-use Rattle.model.specs.Table.{toPort, cellNumbers, cellOctets, talkerNumbers, toCell}
+use Rattle.model.specs.Settling.{Source, sourceOf, fixedOf, latencyOf, healthOf, brokenColumn, streamClass, capped, latencyOut}
+use Rattle.model.specs.Table.{toPort, cellNumbers, cellOctets, talkerNumbers, registrationFrom, toHealth, toCell}
 use Rattle.model.specs.Laid.{FitRank, LaidCell}
 use Rattle.model.proofs.Fits.{laid-cell-is, laid-cell-fits}
 use Rattle.table.specs.Reads.{fixedOctets, ReadsCell, ReadsPort}
 use Rattle.streams.specs.Answers.{talkerPort, sourceIn}
-use Rattle.streams.proofs.Sources.{source-at}
+use Rattle.model.proofs.SettingsOctets.{octet-field}
+use Rattle.streams.proofs.Sources.{no-talker, a-talker}
+pub use Rattle.streams.proofs.Fixed.{fixed-part, source-read}
+use Rattle.streams.proofs.Fixed.{numbers-laid}
 use Rattle.columns.specs.Answers.{sizePlace}
 
 -- Of the numbers of any cell.
@@ -39,53 +44,47 @@ unfolding fixedOf noFixed sourceIn cellNumbers talkerNumbers fixedNumbers
 size-number t noTalker c e = rw e
 size-number t (talker r) c e = rw e
 
-fixed-numbers : (t : ℕ) (k : Talker) (c : Cell) → c .talks ≡ k → part fixedField (length fixedWidths) (cellNumbers c) ≡ fixedNumbers (fixedOf (sourceIn t c))
-unfolding part fixedOf noFixed sourceIn cellNumbers talkerNumbers fixedNumbers priorityOctet
-fixed-numbers t noTalker c e = rw e
-fixed-numbers t (talker r) c e = rw e
+-- The failure that the octets of a cell say, by their kind.
 
--- Of octets that are laid out as a cell.
+module _ (s : List ℕ) (t : ℕ) where
+  pub no-failure : getD s 0 0 < 2 → none ≡ brokenColumn (healthOf (sourceIn t (toCell s)))
+  unfolding sourceIn healthOf brokenColumn registrationFrom toHealth fields
+  no-failure h = go (eqb (getD s 0 0) 0) refl
+    where
+      go : (b : Bool) → eqb (getD s 0 0) 0 ≡ b → none ≡ brokenColumn (healthOf (sourceIn t (toCell s)))
+      go true e = rw (no-talker s (eqb-true (getD s 0 0) 0 e))
+      go false e =
+          let n = eqb-false (getD s 0 0) 0 e in
+          rw (a-talker s n, octet-field s 0, eq-eqb (getD s 0 0) 1 (omega (arith, n)))
 
-module _ (s : List ℕ) (l : LaidCell s) where
-  numbers-laid : fields cellWidths 0 s ≡ cellNumbers (toCell s)
-  unfolding cellOctets
-  numbers-laid =
-      ap (fields cellWidths 0) (laid-cell-is s l) ∙ fields-of-packed cellWidths (cellNumbers (toCell s)) (laid-cell-fits s l .numbers)
-
-  pub fixed-part : (t : ℕ) → part fixedPlace fixedSize s ≡ fixedOctets (fixedOf (sourceIn t (toCell s)))
-  unfolding cellOctets fixedOctets width part
-  fixed-part t =
-      let c = toCell s in
-      ap (part fixedPlace fixedSize) (laid-cell-is s l)
-      ∙ part-run cellWidths (cellNumbers c) fixedField (length fixedWidths) (length-fit cellWidths (cellNumbers c) (laid-cell-fits s l .numbers)) (omega arith)
-      ∙ ap (packed fixedWidths) (fixed-numbers t (c .talks) c refl)
+  pub a-failure : 2 ≤ getD s 0 0 → failed (beAt 8 s bridgePlace) (getD s codePlace 0) ≡ brokenColumn (healthOf (sourceIn t (toCell s)))
+  unfolding sourceIn healthOf brokenColumn registrationFrom toHealth fields
+  a-failure h =
+      rw (a-talker s (λ e. omega (arith, e)), octet-field s 0, octet-field s codePlace, ne-eqb (getD s 0 0) 1 (λ e. omega (arith, e)))
 
 -- The cell at place t of a stream whose Talker stands there, in the octets s.
 
 module _ (x : Stream) (t : ℕ) (e : t ≡ talkerPort (sourceOf x)) (s : List ℕ) (r : ReadsCell s (cellAt x t)) where
-  pub source-read : sourceIn t (toCell s) ≡ sourceOf x
-  source-read = ap (sourceIn t) (r .is) ∙ rw e (sym (source-at x))
-
   latency-read : beAt 4 s latencyPlace ≡ latencyOf (sourceOf x)
   unfolding fields
   latency-read =
       ap (λ (vs : List ℕ). getD vs latencyField 0) (numbers-laid s (r .laid))
       ∙ latency-number t (toCell s .talks) (toCell s) refl
-      ∙ ap latencyOf source-read
+      ∙ ap latencyOf (source-read x t e s r)
 
   pub size-read : beAt 2 s sizePlace ≡ fixedOf (sourceOf x) .size
   unfolding fields
   size-read =
       ap (λ (vs : List ℕ). getD vs (fixedField + 2) 0) (numbers-laid s (r .laid))
       ∙ size-number t (toCell s .talks) (toCell s) refl
-      ∙ ap (λ (o : Source). fixedOf o .size) source-read
+      ∙ ap (λ (o : Source). fixedOf o .size) (source-read x t e s r)
 
   priority-read : beAt 1 s priorityPlace / 32 ≡ fixedOf (sourceOf x) .priority
   unfolding fields
   priority-read =
       ap (λ (vs : List ℕ). getD vs priorityField 0 / 32) (numbers-laid s (r .laid))
       ∙ priority-number t (toCell s .talks) (toCell s) refl (laid-cell-fits s (r .laid) .rank)
-      ∙ ap (λ (o : Source). fixedOf o .priority) source-read
+      ∙ ap (λ (o : Source). fixedOf o .priority) (source-read x t e s r)
 
   -- latency out, from the latency in and the class latency that were read
   module _ (st : Settings) (p : ℕ) (port : List ℕ) (q : ReadsPort port (portAt st p)) (taken class : ℕ) (f : taken ≡ beAt 4 s latencyPlace)

@@ -7,10 +7,10 @@ use Prim.Native.Nat.{ℕ, zero, suc}
 use lib.ListN.{getD, set}
 use lib.Dec.{eqb, ltb}
 use Rattle.model.specs.Lists.{keep, tabulate}
-use Rattle.model.specs.State.{Settings, Cell, Column, advertise, failed, filters, Declared, nothing, Result, Stream, Totals, Bridge, noTotals, portAt, cellAt, resultAt, ownAt, Class, noClass, classA, classB, classOf, sameClass, inForce, Port, none}
+use Rattle.model.specs.State.{Settings, Address, Column, advertise, failed, filters, Declared, nothing, Result, Stream, Totals, Bridge, noTotals, portAt, cellAt, resultAt, Class, noClass, classA, classB, classOf, sameClass, inForce, Port}
 use Rattle.model.specs.Registrations.{holding}
 use Rattle.model.specs.Bandwidth.{Claim, demand, rateOf, admitted, total}
-use Rattle.model.specs.Settling.{Scene, sceneOf, holdsAddress, Source, sourceOf, fixedOf, isSource, registered, isReady, isAdvertise, first, outcomeColumn, stepsFrom, steps, ageOf, latencyOut, entryOf, ageKept, latencyKept, passed, mergeAll}
+use Rattle.model.specs.Settling.{Scene, sceneOf, holdsAddress, sourceOf, fixedOf, isSource, registered, isReady, isAdvertise, first, outcomeColumn, StepName, stepG, stepI, stepL, stepM, steps, ageOf, latencyOut, entryOf, ageKept, latencyKept, passed, mergeAll}
 use Rattle.table.specs.Updates.{resulting}
 
 -- (1)
@@ -31,26 +31,15 @@ shownBy column latency heard now old =
 unfoldable pub shownAs : Settings → ℕ → Stream → ℕ → Column → Result
 shownAs st now x p column = shownBy column (latencyOut st p x) (registered (cellAt x p)) now (resultAt x p)
 
--- n, by the destination: Talkers are pruned, and the port at place p doesn't hold it
-unfoldable pub prunedBy : Scene → ℕ → ℕ → Bool
-prunedBy sc p destination = sc .settings .pruning && not (holdsAddress destination (ownAt (sc .own) p .addresses))
+-- n: Talkers are pruned, and the destination is none of a port's addresses
+unfoldable pub prunedBy : Settings → List Address → ℕ → Bool
+prunedBy st l destination = st .pruning && not (holdsAddress destination l)
 
--- steps a to f, j, k and n, and Advertise where none of them applies: on a port, from its cell and the stream's source
-unfoldable pub firstStep : Scene → ℕ → Cell → Source → Column
-firstStep sc p here s = first (outcomeColumn (sc .settings) s) (stepsFrom sc p here s) advertise
+-- steps 5, 15 and g, from the own failure that the stream has on every port, a port and MaxFrameSize; i where none applies
+unfoldable pub lastStep : ℕ → Port → ℕ → StepName
+lastStep common q size = cond (eqb common 5) stepL (cond (eqb common 15) stepM (cond (ltb (q .largest) size) stepG stepI))
 
--- the steps behind them, from the own failure that the stream has on every port, a port and MaxFrameSize
-unfoldable pub lastStep : Settings → ℕ → Port → ℕ → Column
-lastStep st common q size =
-    cond (eqb common 0) (cond (ltb (q .largest) size) (failed (st .bridgeId) 14) advertise) (failed (st .bridgeId) common)
-
--- a column, or what follows where no step has applied
-unfoldable pub orElse : Column → Column → Column
-orElse none d = none
-orElse advertise d = d
-orElse (failed b c) d = failed b c
-
--- and at any place
+-- the column of the steps before h, and Advertise where none of them applies
 unfoldable pub earlyColumn : Scene → ℕ → Stream → Column
 earlyColumn sc p x = first (outcomeColumn (sc .settings) (sourceOf x)) (steps sc p x) advertise
 

@@ -1,15 +1,17 @@
 // Stage 1 of settling: the steps before h, and what a stream shows on a port before bandwidth is shared.
 ghost use mathlib.Core.Path.{_≡_};
 ghost use mathlib.Core.List.{[], _∷_};
-ghost use Prim.Native.Nat.{_<_, _^_};
+ghost use mathlib.Core.Bool.{true};
+ghost use Prim.Native.Nat.{ℕ, _<_, _^_};
 ghost use lib.ListN.{length};
 ghost use Rattle.octets.specs.Fields.{packed};
 ghost use Rattle.octets.specs.Parts.{patch};
 ghost use Rattle.octets.specs.Be.{beAt};
 ghost use Rattle.model.specs.Layout.{cellSize, entryPlace, fixedPlace, portSize, resultSize};
 ghost use Rattle.model.specs.State as state;
-ghost use Rattle.model.specs.State.{isNoClass, classLatency, cellAt, ownAt, failed};
-ghost use Rattle.model.specs.Settling.{sceneOf, isInbound, boundary, fixedOf, ageOf, latencyOut, entryOf, ageKept};
+ghost use Rattle.model.specs.State.{isNoClass, classLatency, portAt, cellAt, ownAt, failed};
+ghost use Rattle.model.specs.Settling.{Scene, sceneOf, isInbound, fixedOf, healthOf, brokenColumn, stepI, stepsFrom, steps, ageOf, latencyOut, entryOf, ageKept};
+ghost use Rattle.model.specs.Why.{firstName, columnBy};
 ghost use Rattle.model.specs.Table.{toPort, toCell, toResult, toEntry, toDeclared, entryNumber, resultOctets, encode, decode};
 ghost use Rattle.model.specs.Laid.{Laid};
 ghost use Rattle.table.specs.Updates.{streamAt, withSettled};
@@ -17,9 +19,10 @@ ghost use Rattle.table.specs.Places.{Stands, PortIn, StandsOn};
 ghost use Rattle.streams.specs.Answers.{classShown, sourceIn};
 ghost use Rattle.fanin.specs.Sets.{setTo};
 ghost use Rattle.fanin.specs.Places.{SettledTo};
-ghost use Rattle.columns.specs.Stages.{shownBy, prunedBy, firstStep, lastStep, earlyColumn, early, earlyAll};
+ghost use Rattle.columns.specs.Stages.{shownBy, prunedBy, lastStep, earlyColumn, early, earlyAll};
 ghost use Rattle.columns.specs.Answers.{columnShown, sizePlace, columnWidths, columnNumbers, entryWidths, entrySize};
-ghost use Rattle.columns.specs.Places.{Asked, TalkerAt, FailureAt, changedAt, earlyOne, earlyTo};
+ghost use Rattle.columns.specs.Steps.{stepShown, edgeOf, EdgesOf};
+ghost use Rattle.columns.specs.Places.{Asked, SceneOn, TalkerAt, FailureAt, changedAt, earlyOne, earlyTo};
 use streams::ClassRead;
 use table::cell;
 use table::port;
@@ -63,23 +66,59 @@ pub fn supports(port: &[u8], class: ClassRead) -> bool
     }
 }
 
-// Whether the port at place p is at the edge of a class's domain.
-fn at_edge(table: &[u8], p: usize, class: ClassRead) -> bool
-    requires { ⌜ PortIn (now table) p ⌝ }
-    ensures { λ r. ⌜ r ≡ boundary (ownAt (decode (now (table .entry)) .own) p) (classShown class) ⌝ }
+// The steps of settling by their letters (01, "Settling"; 02, ix), and none.
+pub enum Step {
+    None,
+    A,
+    B,
+    C,
+    D,
+    E,
+    F,
+    G,
+    H,
+    I,
+    J,
+    K,
+    L,
+    M,
+    N,
+}
+
+// Whether a port is at the edge of the domain of class A, and of class B.
+pub struct Edges {
+    pub a: bool,
+    pub b: bool,
+}
+
+// Whether a port with these flags is at the edge of a class's domain.
+fn at_edge(edges: Edges, class: ClassRead) -> bool
+    ensures { λ r. ⌜ r ≡ edgeOf edges (classShown class) ⌝ }
 {
-    let own = table::own_at(table, p);
     match class {
         ClassRead::NoClass => false,
-        ClassRead::A => own[table::BOUNDARY] == 1,
-        ClassRead::B => own[table::BOUNDARY_B] == 1,
+        ClassRead::A => edges.a,
+        ClassRead::B => edges.b,
+    }
+}
+
+// The flags that the port at place p has stored.
+fn stored_edges(table: &[u8], p: usize) -> Edges
+    requires { ⌜ PortIn (now table) p ⌝ }
+    ensures { λ r. ⌜ EdgesOf r (ownAt (decode (now (table .entry)) .own) p) ⌝ }
+{
+    let own = table::own_at(table, p);
+    Edges {
+        a: own[table::BOUNDARY] == 1,
+        b: own[table::BOUNDARY_B] == 1,
     }
 }
 
 // Whether the port at place p gets no Talker of a cell: Talkers are pruned, and it doesn't hold the destination.
 fn is_pruned(table: &[u8], said: &[u8], p: usize) -> bool
     requires { ⌜ PortIn (now table) p × (length (now said) ≡ cellSize) ⌝ }
-    ensures { λ r. ⌜ r ≡ prunedBy (sceneOf (decode (now (table .entry)))) p (beAt 6 (now (said .entry)) fixedPlace) ⌝ }
+    ensures { λ r. ⌜ r ≡ prunedBy (decode (now (table .entry)) .settings) (ownAt (decode (now (table .entry)) .own) p .addresses)
+        (beAt 6 (now (said .entry)) fixedPlace) ⌝ }
 {
     if table::pruning(table) {
         let destination = octets::get(said, cell::DESTINATION, 6);
@@ -89,60 +128,119 @@ fn is_pruned(table: &[u8], said: &[u8], p: usize) -> bool
 }
 
 // Steps a to f, j, k and n on the port at place p, whose cell is here, for the Talker's cell said at place t: the first that applies,
-// Advertise where none does.
-fn first_step(table: &[u8], port: &[u8], here: &[u8], said: &[u8], p: usize, t: usize) -> ColumnRead
-    requires { ⌜ Asked (now table) (now port) (now here) (now said) p ⌝ }
-    ensures { λ r. ⌜ columnShown r ≡ firstStep (sceneOf (decode (now (table .entry)))) p (toCell (now (here .entry)))
-        (sourceIn t (toCell (now (said .entry)))) ⌝ }
+// i where none does.
+fn first_step(table: &[u8], here: &[u8], said: &[u8], p: usize, t: usize, edges: Edges) -> Step
+    requires { ⌜ Asked (now table) (now here) (now said) p ⌝ }
+    ensures { λ r. ⌜ ((sc : Scene) → SceneOn (decode (now (table .entry))) p edges sc
+        → stepShown r ≡ firstName (stepsFrom sc p (toCell (now (here .entry))) (sourceIn t (toCell (now (said .entry))))) stepI) ⌝ }
 {
     let kind = said[cell::TALKER];
     let mark = said[cell::CHANGED];
     if kind == 0 {
-        return ColumnRead::None;
+        return Step::A;
     }
     if p == t {
-        return ColumnRead::None;
+        return Step::A;
     }
     let class = streams::class_of(table, octets::get(said, cell::PRIORITY, 1) / 32);
-    if !supports(port, class) {
-        return ColumnRead::None;
+    if !supports(table::port_at(table, p), class) {
+        return Step::B;
     }
     if is_pruned(table, said, p) {
-        return ColumnRead::None;
+        return Step::N;
     }
     if kind != 1 {
-        return ColumnRead::Failed(octets::get(said, cell::BRIDGE_ID, 8), said[cell::CODE]);
+        return Step::C;
     }
     if mark == 1 {
-        return own(table, 16);
+        return Step::D;
     }
     if octets::get(said, cell::LATENCY_AT_FIRST, 4) < octets::get(said, cell::LATENCY, 4) {
-        return own(table, 7);
+        return Step::K;
     }
     if here[cell::TALKER] != 0 {
-        return own(table, 4);
+        return Step::E;
     }
     if no_class(class) {
-        return own(table, 13);
+        return Step::F;
     }
-    if at_edge(table, p, class) {
-        return own(table, 8);
+    if at_edge(edges, class) {
+        return Step::J;
     }
-    ColumnRead::Advertise
+    Step::I
 }
 
 // The steps behind them, for the Talker's cell said: the own failure that the stream has on every port, then g.
-fn last_step(table: &[u8], port: &[u8], said: &[u8], common: u8) -> ColumnRead
-    requires { ⌜ Laid (now table) × (length (now port) ≡ portSize) × (length (now said) ≡ cellSize) ⌝ }
-    ensures { λ r. ⌜ columnShown r ≡ lastStep (decode (now (table .entry)) .settings) common (toPort (now (port .entry))) (beAt 2 (now (said .entry)) sizePlace) ⌝ }
+fn last_step(table: &[u8], said: &[u8], p: usize, common: u8) -> Step
+    requires { ⌜ PortIn (now table) p × (length (now said) ≡ cellSize) ⌝ }
+    ensures { λ r. ⌜ stepShown r ≡ lastStep common (portAt (decode (now (table .entry)) .settings) p) (beAt 2 (now (said .entry)) sizePlace) ⌝ }
 {
-    if common != 0 {
-        return own(table, common);
+    if common == 5 {
+        return Step::L;
     }
+    if common == 15 {
+        return Step::M;
+    }
+    let port = table::port_at(table, p);
     if octets::get(port, port::LARGEST, 2) < octets::get(said, cell::FRAME_SIZE, 2) {
-        return own(table, 14);
+        return Step::G;
     }
-    ColumnRead::Advertise
+    Step::I
+}
+
+// The first step before h that applies to stream k on the port at place p with these flags, where t is its Talker's place and
+// common the own failure that it has on every port; i where none does.
+pub fn early_step(table: &[u8], k: usize, p: usize, t: usize, common: u8, edges: Edges) -> Step
+    requires { ⌜ FailureAt (now table) k t common × (p < 8) ⌝ }
+    ensures { λ r. ⌜ ((sc : Scene) → SceneOn (decode (now (table .entry))) p edges sc
+        → stepShown r ≡ firstName (steps sc p (streamAt k (decode (now (table .entry))))) stepI) ⌝ }
+{
+    if table::ports(table) <= p {
+        return Step::A;
+    }
+    let here = table::cell_at(table, k, p);
+    let talker = table::cell_at(table, k, t);
+    let step = first_step(table, here, talker, p, t, edges);
+    let Step::I = step else {
+        return step;
+    };
+    last_step(table, talker, p, common)
+}
+
+// The failure that the Talker's cell said has registered; none without one.
+fn failure_in(said: &[u8]) -> ColumnRead
+    requires { ⌜ length (now said) ≡ cellSize ⌝ }
+    ensures { λ r. ⌜ ((t : ℕ) → columnShown r ≡ brokenColumn (healthOf (sourceIn t (toCell (now (said .entry)))))) ⌝ }
+{
+    if said[cell::TALKER] < 2 {
+        return ColumnRead::None;
+    }
+    ColumnRead::Failed(octets::get(said, cell::BRIDGE_ID, 8), said[cell::CODE])
+}
+
+// The column that a step gives, for the Talker's cell said.
+fn column_of(table: &[u8], said: &[u8], step: Step) -> ColumnRead
+    requires { ⌜ Laid (now table) × (length (now said) ≡ cellSize) ⌝ }
+    ensures { λ r. ⌜ ((t : ℕ) → columnShown r
+        ≡ columnBy (decode (now (table .entry)) .settings) (sourceIn t (toCell (now (said .entry)))) (stepShown step)) ⌝ }
+{
+    match step {
+        Step::None => ColumnRead::None,
+        Step::A => ColumnRead::None,
+        Step::B => ColumnRead::None,
+        Step::C => failure_in(said),
+        Step::D => own(table, 16),
+        Step::E => own(table, 4),
+        Step::F => own(table, 13),
+        Step::G => own(table, 14),
+        Step::H => own(table, 1),
+        Step::I => ColumnRead::Advertise,
+        Step::J => own(table, 8),
+        Step::K => own(table, 7),
+        Step::L => own(table, 5),
+        Step::M => own(table, 15),
+        Step::N => ColumnRead::None,
+    }
 }
 
 // The column of stream k on the port at place p before bandwidth is shared, where t is its Talker's place and common the own
@@ -151,17 +249,9 @@ fn early_column(table: &[u8], k: usize, p: usize, t: usize, common: u8) -> Colum
     requires { ⌜ FailureAt (now table) k t common × (p < 8) ⌝ }
     ensures { λ r. ⌜ columnShown r ≡ earlyColumn (sceneOf (decode (now (table .entry)))) p (streamAt k (decode (now (table .entry)))) ⌝ }
 {
-    if table::ports(table) <= p {
-        return ColumnRead::None;
-    }
-    let port = table::port_at(table, p);
-    let here = table::cell_at(table, k, p);
-    let talker = table::cell_at(table, k, t);
-    let column = first_step(table, port, here, talker, p, t);
-    let ColumnRead::Advertise = column else {
-        return column;
-    };
-    last_step(table, port, talker, common)
+    let edges = stored_edges(table, p);
+    let step = early_step(table, k, p, t, common, edges);
+    column_of(table, table::cell_at(table, k, t), step)
 }
 
 // A port's latency of a class, in nanoseconds; 0 without a class.
@@ -213,9 +303,9 @@ fn entry_of(column: ColumnRead, listener: u64) -> u64
 }
 
 // The second that an entry's age is counted from: that of the result before, or this one where there was no entry.
-fn age_of(result: &[u8], entry: u64, time: u32) -> u64
+pub fn age_of(result: &[u8], entry: u64, time: u32) -> u64
     requires { ⌜ length (now result) ≡ resultSize ⌝ }
-    ensures { λ r. ⌜ r ≡ ageKept (toEntry entry) (ageOf time (toResult (now (result .entry)))) ⌝ }
+    ensures { λ r. ⌜ (r ≡ ageKept (toEntry entry) (ageOf time (toResult (now (result .entry))))) × (r < 2 ^ 32) ⌝ }
 {
     if entry == 0 {
         return 0;
@@ -312,12 +402,12 @@ fn early_ports(table: &mut [u8], k: usize, t: usize, common: u8, time: u32)
 
 // The settled values of stream k, and what it shows on every port before bandwidth is shared; those before it are done.
 fn early_record(table: &mut [u8], k: usize, inbound: u8, time: u32)
-    requires { ⌜ Stands (now table) k × SettledTo (now table) k × (inbound ≡ setTo (isInbound (sceneOf (decode (now table)) .inbound)) 8) ⌝ }
+    requires { ⌜ Stands (now table) k × SettledTo (now table) k true × (inbound ≡ setTo (isInbound (sceneOf (decode (now table)) .inbound)) 8) ⌝ }
     ensures { λ _. ⌜ now (table .exit) ≡ encode (changedAt k (λ sc. early sc time) (decode (now (table .entry)))) ⌝ }
 {
     let t = streams::talker_port(table, k);
     copy_fixed(table, k, t);
-    let common = fanin::common_failure(table, k, inbound);
+    let common = fanin::common_failure(table, k, inbound, true);
     early_ports(table, k, t, common, time);
 }
 

@@ -5,7 +5,9 @@ use mathlib.Core.List.{List, [], _∷_}
 use Prim.Native.Nat.{ℕ}
 use Rattle.model.specs.Reports.{ColumnWord, noneWord, advertiseWord, failedWord, Report}
 use Rattle.model.specs.Table.{declaredNumber, entryNumber}
-use Rattle.bridge.specs.Promises.{Reports}
+use Rattle.model.specs.Why.{letter}
+use Rattle.model.specs.Calls.{WhyCall}
+use Rattle.bridge.specs.Promises.{Reports, Explains}
 
 -- a column's number in the table, by its word
 unfoldable pub wordNumber : ColumnWord → ℕ
@@ -24,3 +26,14 @@ pub record Told (table : List ℕ) (port place number : ℕ) (parts : List ℕ) 
   pub reports : Reports table port place answer
   pub number-is : number ≡ answer .number
   pub parts-are : parts ≡ partsOf answer
+
+unfoldable pub whyParts : WhyCall → List ℕ
+whyParts r = letter (r .step) ∷ r .count ∷ r .limit ∷ r .shortfall ∷ []
+
+-- a table, a StreamID, a port and a buffer: a number, the parts behind the pointer and the buffer afterwards are those of why
+pub record Explained (table : List ℕ) (id port : ℕ) (buffer : List ℕ) (number : ℕ) (parts after : List ℕ) : Type 0 where
+  pub answer : WhyCall
+  pub explains : Explains table id port buffer answer
+  pub number-is : number ≡ answer .number
+  pub parts-are : parts ≡ whyParts answer
+  pub buffer-is : after ≡ answer .buffer

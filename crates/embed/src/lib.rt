@@ -1,17 +1,20 @@
-// The six calls for programs in C and Rust (include/srp.h, docs/EMBEDDING.md): crate bridge's, under names of their own. A slice
+// The seven calls for programs in C and Rust (include/srp.h, docs/EMBEDDING.md): crate bridge's, under names of their own. A slice
 // passes as a pointer and a length; what a call answers beside its number goes to where the caller points. None asks anything of
 // its arguments, and each promises what the call below it promises.
 ghost use mathlib.Core.Path.{_≡_};
 ghost use Rattle.reports.specs.Shown.{columnWord, declared, entered};
 ghost use Rattle.bridge.specs.Promises.{Starts, Receives, ReceivesMmrp, Advances, Writes};
 ghost use Rattle.model.specs.Table.{declaredNumber, entryNumber};
-ghost use Rattle.embed.specs.Boundary.{wordNumber, Told};
+ghost use Rattle.embed.specs.Boundary.{wordNumber, Told, Explained};
 use reports::ColumnShown;
 use reports::EntryShown;
 use reports::ListenerShown;
 
 // The parts of a report beside its number.
 pub const PARTS: usize = 10;
+
+// The parts of a why beside its number.
+pub const WHY_PARTS: usize = 4;
 
 #[no_mangle]
 pub extern "C" fn srp_start(table: &mut [u8], settings: &[u8]) -> u8
@@ -110,6 +113,28 @@ pub extern "C" fn srp_report(table: &[u8], port: u32, place: u32, reported: &mut
         answer.code as u64,
         listener_number(listener),
         entry_number(entry),
+    ];
+    answer.number
+}
+
+// The parts stand in the order of srp.h's struct srp_explained.
+#[no_mangle]
+pub extern "C" fn srp_why(
+    table: &[u8],
+    id: u64,
+    port: u32,
+    buffer: &mut [u8],
+    explained: &mut [u64; WHY_PARTS],
+) -> u8
+    ensures { λ r. ⌜ Explained (now (table .entry)) id port (now (buffer .entry)) r (now (explained .exit)) (now (buffer .exit)) ⌝ }
+{
+    let answer = bridge::why(table, id, port, buffer);
+    let step = answer.step;
+    *explained = [
+        why::letter(step) as u64,
+        answer.count as u64,
+        answer.limit,
+        answer.shortfall,
     ];
     answer.number
 }

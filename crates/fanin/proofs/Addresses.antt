@@ -20,13 +20,14 @@ use Rattle.model.specs.WrittenFrames.{fixedNumbers}
 use Rattle.model.specs.Settling.{Scene, sceneOf, Origin, Source, nowhere, from, sourceOf, fixedOf, Inbound, inboundOf, inboundsOf, sameAddress, sameAddressAt, shares, isKeptOut, mayBring}
 use Rattle.model.specs.Table.{decode}
 use Rattle.model.specs.Laid.{Ascending}
-use Rattle.model.proofs.Fits.{settled-fits, fit-fixed, laid-fits}
+use Rattle.model.proofs.Fits.{fit-fixed, laid-fits}
 use Rattle.table.specs.Updates.{streamAt}
 use Rattle.table.specs.Places.{Stands}
 use Rattle.table.specs.Reads.{fixedOctets}
 use Rattle.table.proofs.ByPlace.{stream-fits}
 use Rattle.streams.specs.Answers.{sourcePort}
 use Rattle.streams.specs.declared.SourceRead.the-variants.{Nowhere, Port}
+use Rattle.streams.proofs.Fixed.{settled-values}
 use Rattle.fanin.specs.Failures.{addressOf, hasAddress, anyFrom, commonFailure}
 use Rattle.fanin.specs.Places.{SettledTo}
 
@@ -36,25 +37,27 @@ joined-read : (s : List ℕ) → beAt 8 s 0 ≡ beAt 6 s 0 * 2 ^ 16 + beAt 2 s 6
 unfolding beAt
 joined-read s = omega arith
 
-module _ {t : List ℕ} {k n : ℕ} (w : SettledTo t n) (h : k < n) where
+module _ {t : List ℕ} {k n : ℕ} {settled : Bool} (w : SettledTo t n settled) (h : k < n) where
   pub settled-stands : Stands t k
   settled-stands = record { laid = w .laid; held = omega (arith, w .within) }
 
   abbrev x : Stream
   x = streamAt k (decode t)
 
-  pub address-read : (s : List ℕ) → s ≡ fixedOctets (x .settled) → beAt 8 s 0 ≡ addressOf (fixedOf (sourceOf x))
+  pub address-read : (s : List ℕ) (f : Fixed) → s ≡ fixedOctets f → f ≡ fixedOf (sourceOf x) → beAt 8 s 0 ≡ addressOf (fixedOf (sourceOf x))
   unfolding addressOf fixedOctets fixedNumbers fields
-  address-read s e =
-      let f = fields-of-packed fixedWidths (fixedNumbers (x .settled)) (settled-fits x (stream-fits settled-stands)) in
-      let d : beAt 6 (fixedOctets (x .settled)) 0 ≡ x .settled .destination = ap (λ (vs : List ℕ). getD vs 0 0) f in
-      let v : beAt 2 (fixedOctets (x .settled)) 6 ≡ x .settled .vlan = ap (λ (vs : List ℕ). getD vs 1 0) f in
-      rw (e, joined-read (fixedOctets (x .settled)), d, v, w .values k h)
+  address-read s f e q =
+      let o = fixedOf (sourceOf x) in
+      let r = fields-of-packed fixedWidths (fixedNumbers o) (settled-values x (stream-fits settled-stands) .numbers) in
+      let d : beAt 6 (fixedOctets o) 0 ≡ o .destination = ap (λ (vs : List ℕ). getD vs 0 0) r in
+      let v : beAt 2 (fixedOctets o) 6 ≡ o .vlan = ap (λ (vs : List ℕ). getD vs 1 0) r in
+      rw (e, q, joined-read (fixedOctets o), d, v)
 
   -- the VLAN has 16 bits
   pub vlan-fits : fixedOf (sourceOf x) .vlan < 65536
   vlan-fits =
-      rw (← w .values k h) (fit-fixed (x .settled) (settled-fits x (stream-fits settled-stands)) (stream-fits settled-stands .rank) .vlan)
+      let o = settled-values x (stream-fits settled-stands) in
+      fit-fixed (fixedOf (sourceOf x)) (o .numbers) (o .rank) .vlan
 
 -- Whether a source has an address, by the tests of the code.
 module _ (a : ℕ) where
@@ -135,7 +138,7 @@ shares-before (y ∷ s) (suc k) x f m a h e g =
     all-at-id P (y ∷ s) a zero h = a .0
     all-at-id P (y ∷ s) a (suc k) h = all-at-id P s (a .1) k (omega arith)
 
-module _ {t : List ℕ} (k : ℕ) (w : SettledTo t (k + 1)) (o : Origin) (e : sourceOf (streamAt k (decode t)) ≡ from o) where
+module _ {t : List ℕ} (k : ℕ) {settled : Bool} (w : SettledTo t (k + 1) settled) (o : Origin) (e : sourceOf (streamAt k (decode t)) ≡ from o) where
   pub shares-found : shares (inboundsOf (decode t .streams)) (inboundOf (streamAt k (decode t)))
       ≡ anyFrom (λ j. hasAddress (addressOf (fixedOf (sourceOf (streamAt k (decode t))))) (sourceOf (streamAt j (decode t)))) 0 k
   unfolding fixedOf
@@ -148,8 +151,8 @@ module _ {t : List ℕ} (k : ℕ) (w : SettledTo t (k + 1)) (o : Origin) (e : so
 
 -- The own failure of stream k on every port, by the tests of the code.
 
-pub settled-fewer : {t : List ℕ} {k : ℕ} (w : SettledTo t k) (n : ℕ) → n ≤ k → SettledTo t n
-settled-fewer w n h = record { laid = w .laid; within = omega (arith, w .within); values = λ j l. w .values j (omega arith) }
+pub settled-fewer : {t : List ℕ} {k : ℕ} {settled : Bool} (w : SettledTo t k settled) (n : ℕ) → n ≤ k → SettledTo t n settled
+settled-fewer w n h = record { laid = w .laid; within = omega (arith, w .within); values = λ e j l. w .values e j (omega arith) }
 
 -- a Talker port that is found is that of an origin
 record At (s : Source) (p : ℕ) : Type 0 where
@@ -172,7 +175,7 @@ shares-none (j ∷ l) n = rw (none (j .source), and-false (ltb (j .id) n)) (shar
     none nowhere = unfold sameAddressAt in refl
     none (from o) = unfold sameAddressAt in refl
 
-module _ (t : List ℕ) (k : ℕ) (w : SettledTo t (k + 1)) where
+module _ (t : List ℕ) (k : ℕ) {settled : Bool} (w : SettledTo t (k + 1) settled) where
   abbrev sc : Scene
   sc = sceneOf (decode t)
 

@@ -1,6 +1,7 @@
--- A table whose first k streams have their Talkers' fixed values as their settled ones.
+-- The first k streams of a table: where they are asked for their settled values, these are their Talkers' fixed values.
 use mathlib.Core.Path.{_≡_}
 use mathlib.Core.List.{List}
+use mathlib.Core.Bool.{Bool, true}
 use Prim.Native.Nat.{ℕ, _≤_, _<_}
 use lib.ListN.{length}
 use Rattle.model.specs.State.{streamAt}
@@ -8,7 +9,7 @@ use Rattle.model.specs.Settling.{sourceOf, fixedOf}
 use Rattle.model.specs.Table.{decode}
 use Rattle.model.specs.Laid.{Laid}
 
-pub record SettledTo (t : List ℕ) (k : ℕ) : Type 0 where
+pub record SettledTo (t : List ℕ) (k : ℕ) (settled : Bool) : Type 0 where
   pub laid : Laid t
   pub within : k ≤ length (decode t .streams)
-  pub values : (j : ℕ) → j < k → streamAt j (decode t) .settled ≡ fixedOf (sourceOf (streamAt j (decode t)))
+  pub values : settled ≡ true → (j : ℕ) → j < k → streamAt j (decode t) .settled ≡ fixedOf (sourceOf (streamAt j (decode t)))

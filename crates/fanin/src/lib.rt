@@ -49,20 +49,23 @@ fn may_bring(table: &[u8], inbound: u8, t: usize) -> bool
     (u8::count_ones(below) as u64) < limit
 }
 
-// The destination and VLAN of stream k, as one number.
-fn address(table: &[u8], k: usize) -> u64
-    requires { ⌜ SettledTo (now table) (k + 1) ⌝ }
+// The destination and VLAN of stream k, as one number; read from its settled values where they are its Talker's.
+fn address(table: &[u8], k: usize, settled: bool) -> u64
+    requires { ⌜ SettledTo (now table) (k + 1) settled ⌝ }
     ensures { λ r. ⌜ r ≡ addressOf (fixedOf (sourceOf (streamAt k (decode (now (table .entry)))))) ⌝ }
 {
-    octets::get(table::settled_at(table, k), 0, 8)
+    if settled {
+        return octets::get(table::settled_at(table, k), 0, 8);
+    }
+    octets::get(streams::registered(table, k), 0, 8)
 }
 
 // Whether stream k has a Talker with this address.
-fn has_address(table: &[u8], k: usize, wanted: u64) -> bool
-    requires { ⌜ SettledTo (now table) (k + 1) ⌝ }
+fn has_address(table: &[u8], k: usize, wanted: u64, settled: bool) -> bool
+    requires { ⌜ SettledTo (now table) (k + 1) settled ⌝ }
     ensures { λ r. ⌜ r ≡ hasAddress wanted (sourceOf (streamAt k (decode (now (table .entry))))) ⌝ }
 {
-    if address(table, k) != wanted {
+    if address(table, k, settled) != wanted {
         return false;
     }
     match streams::source(table, k) {
@@ -72,13 +75,13 @@ fn has_address(table: &[u8], k: usize, wanted: u64) -> bool
 }
 
 // Whether a stream before stream k has a Talker with this address.
-fn is_taken(table: &[u8], k: usize, wanted: u64) -> bool
-    requires { ⌜ SettledTo (now table) k ⌝ }
+fn is_taken(table: &[u8], k: usize, wanted: u64, settled: bool) -> bool
+    requires { ⌜ SettledTo (now table) k settled ⌝ }
     ensures { λ r. ⌜ r ≡ anyFrom (λ j. hasAddress wanted (sourceOf (streamAt j (decode (now (table .entry)))))) 0 k ⌝ }
 {
     let mut j: usize = 0;
     while j < k {
-        if has_address(table, j, wanted) {
+        if has_address(table, j, wanted, settled) {
             return true;
         }
         j += 1;
@@ -86,15 +89,16 @@ fn is_taken(table: &[u8], k: usize, wanted: u64) -> bool
     false
 }
 
-// The own failure of stream k on every port: 5 for a shared address, 15 for a port that may not bring streams in, or 0.
-pub fn common_failure(table: &[u8], k: usize, inbound: u8) -> u8
-    requires { ⌜ SettledTo (now table) (k + 1) × (inbound ≡ setTo (isInbound (inboundsOf (decode (now table) .streams))) 8) ⌝ }
+// The own failure of stream k on every port: 5 for a shared address, 15 for a port that may not bring streams in, or 0. The settled
+// values of the streams up to it are read where they are their Talkers', else what is registered.
+pub fn common_failure(table: &[u8], k: usize, inbound: u8, settled: bool) -> u8
+    requires { ⌜ SettledTo (now table) (k + 1) settled × (inbound ≡ setTo (isInbound (inboundsOf (decode (now table) .streams))) 8) ⌝ }
     ensures { λ r. ⌜ r ≡ commonFailure (sceneOf (decode (now (table .entry)))) (inboundOf (streamAt k (decode (now (table .entry))))) ⌝ }
 {
     let SourceRead::Port(t) = streams::source(table, k) else {
         return 0;
     };
-    if is_taken(table, k, address(table, k)) {
+    if is_taken(table, k, address(table, k, settled), settled) {
         return 5;
     }
     if may_bring(table, inbound, t) {

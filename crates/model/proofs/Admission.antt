@@ -456,10 +456,14 @@ falling c (d ∷ m) f (List·Memᴰ·tail h) =
     let k : key c < key d = all-mem (λ x. key x < key d) h (f .0) in
     rw (above-out (suc (key c)) d m k, above-out (key c) d m (omega arith)) (falling c m (f .1) h)
 
--- after all the more important ones, a claim takes its share of what they left
+-- after all the more important ones, a claim is the next
+pub next-sorted : (cs : List Claim) (c : Claim) → Distinct cs → List·Memᴰ c cs → sort (above (suc (key c)) cs) ≡ c ∷ sort (above (key c) cs)
+next-sorted cs c n m =
+    rw (← above-sort (suc (key c)) cs, ← above-sort (key c) cs, falling c (sort cs) (falls-sort cs n) (mem-sort c cs m))
+
+-- it takes its share of what they left
 pub one-more : (limit : ℕ) (cs : List Claim) (c : Claim) → Distinct cs → List·Memᴰ c cs →
     reserved limit (sort (above (suc (key c)) cs))
     ≡ reserved limit (sort (above (key c) cs)) + share limit (reserved limit (sort (above (key c) cs))) c
 unfolding reserved
-one-more limit cs c n m =
-    rw (← above-sort (suc (key c)) cs, ← above-sort (key c) cs, falling c (sort cs) (falls-sort cs n) (mem-sort c cs m))
+one-more limit cs c n m = rw (next-sorted cs c n m)

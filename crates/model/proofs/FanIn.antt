@@ -11,7 +11,7 @@ use lib.Dec.{eqb, ltb, leb}
 use borrow.Author.Tests.{eq-eqb, ne-eqb, eqb-true, eqb-false, lt-ltb, ltb-true, ltb-false}
 use Rattle.model.specs.Lists.{bit, countTo}
 use Rattle.model.specs.State.{Cell, failed, Stream, fresh, isPort, cellAt}
-use Rattle.model.specs.Settling.{Source, nowhere, from, sourceOf, isSource, healthOf, isBroken, Inbound, inboundOf, inboundsOf, isInbound, inboundBelow, mayBring, isKeptOut, sameAddress, sameAddressAt, shares, Scene, isAdvertise, columnNone, Step, clear, stepsFrom, lastSteps, steps, claim, leftFor, columnOf}
+use Rattle.model.specs.Settling.{Source, nowhere, from, sourceOf, isSource, healthOf, isBroken, Inbound, inboundOf, inboundsOf, isInbound, inboundBelow, mayBring, isKeptOut, sameAddress, sameAddressAt, shares, Scene, isAdvertise, columnNone, stepA, Step, clear, stepsFrom, lastSteps, steps, claim, leftFor, columnOf}
 use Rattle.model.specs.Table.{columnCode}
 use Rattle.model.proofs.Lists.{and-left, and-right}
 use Rattle.model.proofs.ColumnRule.{Pairwise, advertised}
@@ -79,7 +79,7 @@ module _ (sc : Scene) (now : ℕ) (s : List Stream) (p : ℕ) (x : Stream) where
   steps-behind : clear (steps sc p x) ≡ true → clear (lastSteps sc p (inboundOf x)) ≡ true
   unfolding steps
   steps-behind =
-      clear-behind (record { test = not (isPort (sc .settings) p); outcome = columnNone } ∷ stepsFrom sc p (cellAt x p) (sourceOf x)) (lastSteps sc p (inboundOf x))
+      clear-behind (record { name = stepA; test = not (isPort (sc .settings) p); outcome = columnNone } ∷ stepsFrom sc p (cellAt x p) (sourceOf x)) (lastSteps sc p (inboundOf x))
 
   none-behind : clear (lastSteps sc p (inboundOf x)) ≡ true → (sharing ≡ false) × (keptOut ≡ false)
   unfolding clear lastSteps inboundOf

@@ -45,6 +45,8 @@ pub mod Growth
 pub mod Pruning
 pub mod FanIn
 pub mod Untouched
+pub mod Why
+pub mod HeldClock
 pub mod Newcomer
 pub mod Opened
 pub mod Examples

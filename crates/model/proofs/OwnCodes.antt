@@ -7,7 +7,7 @@ use native.Mathlib.Omega.{arith}
 use lib.Dec.{eqb, ltb}
 use borrow.Author.Tests.{eqb-true, eq-eqb}
 use Rattle.model.specs.State.{Settings, Health, sound, broken, Column, advertise, failed, Cell, Stream, isPort}
-use Rattle.model.specs.Settling.{Source, sourceOf, healthOf, Scene, Outcome, columnNone, asRegistered, ownFailure, Step, first, clear, isBroken, brokenColumn, outcomeColumn, Inbound, stepsFrom, lastSteps, steps, claim, leftFor, byBandwidth, columnOf}
+use Rattle.model.specs.Settling.{Source, sourceOf, healthOf, Scene, Outcome, columnNone, asRegistered, ownFailure, stepA, Step, first, clear, isBroken, brokenColumn, outcomeColumn, Inbound, stepsFrom, lastSteps, steps, claim, leftFor, byBandwidth, columnOf}
 use Rattle.model.specs.Table.{columnCode}
 
 -- whether an outcome is the own failure of code n
@@ -47,7 +47,7 @@ module _ (says : Outcome → Column) (n : ℕ) (c : Column) where
   decides [] free a = absurd (false≢true a)
   decides (s ∷ l) free a = go (gives n (s .outcome)) (s .test) refl free a (decides l)
     where
-      go : (g t : Bool) → gives n (s .outcome) ≡ g → clear (cond g [] (record { test = t; outcome = s .outcome } ∷ earlier n l)) ≡ true
+      go : (g t : Bool) → gives n (s .outcome) ≡ g → clear (cond g [] (record { name = s .name; test = t; outcome = s .outcome } ∷ earlier n l)) ≡ true
           → cond g t (asked n l) ≡ true → (clear (earlier n l) ≡ true → asked n l ≡ true → first says l c ≡ says (ownFailure n))
           → cond t (says (s .outcome)) (first says l c) ≡ says (ownFailure n)
       go true true e f a ih = ap says (gives-is (s .outcome) e)
@@ -76,7 +76,7 @@ module _ (says : Outcome → Column) (n : ℕ) (c : Column) where
         go : (g t : Bool) → gives n (s .outcome) ≡ g → cond g (never n l) (once n l) ≡ true
             → columnCode (cond t (says (s .outcome)) (first says l c)) ≡ n
             → (once n l ≡ true → columnCode (first says l c) ≡ n → (clear (earlier n l) ≡ true) × (asked n l ≡ true))
-            → (clear (cond g [] (record { test = t; outcome = s .outcome } ∷ earlier n l)) ≡ true) × (cond g t (asked n l) ≡ true)
+            → (clear (cond g [] (record { name = s .name; test = t; outcome = s .outcome } ∷ earlier n l)) ≡ true) × (cond g t (asked n l) ≡ true)
         go true true f h e ih = (refl, refl)
         go true false f h e ih = absurd (silent l h e)
         go false true f h e ih = absurd (true≢false (sym (coded (s .outcome) e) ∙ f))
@@ -86,7 +86,7 @@ module _ (says : Outcome → Column) (n : ℕ) (c : Column) where
 
 -- the steps by the cell here, what comes in, and the Talker's place, if there is one
 abbrev pub stepsOf : Scene → ℕ → Cell → Inbound → Source → List Step
-stepsOf sc p here i o = record { test = not (isPort (sc .settings) p); outcome = columnNone } ∷ (stepsFrom sc p here o ++ lastSteps sc p i)
+stepsOf sc p here i o = record { name = stepA; test = not (isPort (sc .settings) p); outcome = columnNone } ∷ (stepsFrom sc p here o ++ lastSteps sc p i)
 
 sound-code : (st : Settings) (o : Source) (n : ℕ) → 2 ≤ n → isBroken (healthOf o) ≡ false
     → (w : Outcome) → columnCode (outcomeColumn st o w) ≡ n → gives n w ≡ true

@@ -14,7 +14,7 @@ use Rattle.model.specs.Lists.{All, keep, tabulate}
 use Rattle.model.specs.State.{Settings, Fixed, Health, sound, broken, Domain, Address, Own, Column, none, advertise, failed, Cell, Stream, Bridge, Class, noClass, classA, classB, noOwn, ownAt, cellAt, portAt, isPort, classOf, sameClass, supports}
 use Rattle.model.specs.Registrations.{AddressAct, doesAddresses, changeAddresses, AddressReading, refusedFrame, addressActs, Answer, receivedAddresses, owning, macs}
 use Rattle.model.specs.AddressFrames.{addressReading}
-use Rattle.model.specs.Settling.{Scene, Inbound, inboundOf, inboundsOf, decideOwn, decideOwns, flagOf, boundary, holdsAddress, isPruned, remain, Origin, Source, nowhere, from, sourceOf, healthOf, streamClass, registered, Outcome, columnNone, asRegistered, ownFailure, Step, first, clear, isBroken, brokenColumn, outcomeColumn, stepsFrom, lastSteps, steps, claim, claims, reservedA, limitOn, leftFor, byBandwidth, columnOf, passed, mergeAll, merged, decideAt, decide, totalOn, totalsOn, settle}
+use Rattle.model.specs.Settling.{Scene, Inbound, inboundOf, inboundsOf, decideOwn, decideOwns, flagOf, boundary, holdsAddress, isPruned, remain, Origin, Source, nowhere, from, sourceOf, healthOf, streamClass, registered, Outcome, columnNone, stepA, asRegistered, ownFailure, Step, first, clear, isBroken, brokenColumn, outcomeColumn, stepsFrom, lastSteps, steps, claim, claims, reservedA, limitOn, leftFor, byBandwidth, columnOf, passed, mergeAll, merged, decideAt, decide, totalOn, totalsOn, settle}
 use Rattle.model.specs.Table.{columnNumber}
 use Rattle.model.specs.Calls.{receiveMmrp}
 use Rattle.model.proofs.Lists.{at-place, at-each}
@@ -141,8 +141,8 @@ module _ (st : Settings) (off : st .pruning ≡ false) (o o′ : List Own) (i : 
   same-steps p x = go (sourceOf x)
     where
       go : (t : Source) → _≡_ {A = List Step}
-          (record { test = not (isPort st p); outcome = columnNone } ∷ (stepsFrom one p (cellAt x p) t ++ lastSteps one p (inboundOf x)))
-          (record { test = not (isPort st p); outcome = columnNone } ∷ (stepsFrom other p (cellAt x p) t ++ lastSteps other p (inboundOf x)))
+          (record { name = stepA; test = not (isPort st p); outcome = columnNone } ∷ (stepsFrom one p (cellAt x p) t ++ lastSteps one p (inboundOf x)))
+          (record { name = stepA; test = not (isPort st p); outcome = columnNone } ∷ (stepsFrom other p (cellAt x p) t ++ lastSteps other p (inboundOf x)))
       go nowhere = unfold stepsFrom in refl
       go (from q) =
           let f = q .registration .fixed in

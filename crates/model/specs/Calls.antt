@@ -1,9 +1,10 @@
--- The six calls on octets: for every input the number, the other parts of the answer, the table and the buffer afterwards, in
+-- The seven calls on octets: for every input the number, the other parts of the answer, the table and the buffer afterwards, in
 -- 01's order of numbers ("12 first (for start a wrong table length only, then 11); then 1; receive 2, then the walk from the
--- front, then 8; write 10, then 13; report 13"), and 02's (vi: 14 "tested last").
+-- front, then 8; write 10, then 13; report 13"), and 02's (vi: 14 "tested last"; ix, for why: "12 and 1 as before; then 15 where the
+-- stream isn't held; then 10 where the buffer is below 63 x 16 octets").
 use mathlib.Core.List.{List, [], _∷_, _++_}
 use mathlib.Core.Bool.{cond, not}
-use Prim.Native.Nat.{ℕ}
+use Prim.Native.Nat.{ℕ, _-_}
 use lib.ListN.{length, drop}
 use lib.Dec.{ltb, eqb}
 use Rattle.model.specs.Layout.{tableLength}
@@ -12,9 +13,10 @@ use Rattle.model.specs.State.{Bridge, Settings, started}
 use Rattle.model.specs.Registrations.{Answer, received, receivedAddresses, asks, asksAddresses}
 use Rattle.model.specs.Frames.{reading, wrongPort}
 use Rattle.model.specs.AddressFrames.{addressReading}
-use Rattle.model.specs.Settling.{advance}
+use Rattle.model.specs.Settling.{StepName, noStep, advance}
 use Rattle.model.specs.Declarations.{Written, write}
 use Rattle.model.specs.Reports.{Report, refusedReport, report}
+use Rattle.model.specs.Why.{Reason, reason, Sought, notHeld, heldAs, seek, listedOctets, listSize}
 use Rattle.model.specs.WrittenFrames.{pduOctets}
 use Rattle.model.specs.Table.{encode, decode, formed, settingsFormed, toSettings}
 
@@ -91,6 +93,41 @@ reportOn t p place =
     cond (not (formed t)) (refusedReport 12)
     (cond (wrongPort (b .settings) p) (refusedReport 1)
     (report b p place))
+
+-- what why answers and leaves in the buffer: "octets past the list stay"
+pub record WhyCall : Type 0 where
+  pub number : ℕ
+  pub step : StepName
+  pub count : ℕ
+  pub limit : ℕ
+  pub shortfall : ℕ
+  pub buffer : List ℕ
+
+unfoldable pub refusedWhy : ℕ → List ℕ → WhyCall
+refusedWhy n buffer = record { number = n; step = noStep; count = 0; limit = 0; shortfall = 0; buffer = buffer }
+
+unfoldable pub explained : List ℕ → Reason → WhyCall
+explained buffer r =
+    let list = listedOctets (r .streams) in
+    record {
+      number = 0;
+      step = r .step;
+      count = length (r .streams);
+      limit = r .limit;
+      shortfall = r .shortfall;
+      buffer = list ++ drop (length list) buffer;
+    }
+
+unfoldable pub whyHeld : Bridge → ℕ → List ℕ → Sought → WhyCall
+whyHeld b p buffer notHeld = refusedWhy 15 buffer
+whyHeld b p buffer (heldAs x) = cond (ltb (length buffer) listSize) (refusedWhy 10 buffer) (explained buffer (reason b (p - 1) x))
+
+unfoldable pub whyOn : List ℕ → ℕ → ℕ → List ℕ → WhyCall
+whyOn t id p buffer =
+    let b = decode t in
+    cond (not (formed t)) (refusedWhy 12 buffer)
+    (cond (wrongPort (b .settings) p) (refusedWhy 1 buffer)
+    (whyHeld b p buffer (seek id (b .streams))))
 
 -- Frames of both protocols: "MMRP frames belong to demand 3's frames".
 

@@ -11,6 +11,7 @@ pub mod Bandwidth
 pub mod Settling
 pub mod Declarations
 pub mod Reports
+pub mod Why
 pub mod WrittenFrames
 pub mod Table
 pub mod Calls

@@ -230,7 +230,12 @@ pub data Outcome : Type 0 where
   columnNone asRegistered : Outcome
   ownFailure : (code : ℕ) → Outcome
 
+-- 01's letters of the steps, later ones by landing (02, ix); and none, for what no step decides
+pub data StepName : Type 0 where
+  noStep stepA stepB stepC stepD stepE stepF stepG stepH stepI stepJ stepK stepL stepM stepN : StepName
+
 pub record Step : Type 0 where
+  pub name : StepName
   pub test : Bool
   pub outcome : Outcome
 
@@ -264,34 +269,34 @@ isPruned st o f = st .pruning && not (holdsAddress (f .destination) (o .addresse
 -- steps a to f, j, k and n on the port at place p; 02, v: "While the present one is larger, an Advertise is declared Failed with
 -- code 7"
 unfoldable pub stepsFrom : Scene → ℕ → Cell → Source → List Step
-stepsFrom sc p here nowhere = record { test = true; outcome = columnNone } ∷ []
+stepsFrom sc p here nowhere = record { name = stepA; test = true; outcome = columnNone } ∷ []
 stepsFrom sc p here (from o) =
     let st = sc .settings in
     let r = o .registration in
     let c = classOf st (r .fixed .priority) in
-    record { test = eqb p (o .port); outcome = columnNone }
-    ∷ record { test = not (supports (portAt st p) c); outcome = columnNone }
-    ∷ record { test = isPruned st (ownAt (sc .own) p) (r .fixed); outcome = columnNone }
-    ∷ record { test = isBroken (r .varying .health); outcome = asRegistered }
-    ∷ record { test = r .changed; outcome = ownFailure 16 }
-    ∷ record { test = ltb (r .firstLatency) (r .varying .latency); outcome = ownFailure 7 }
-    ∷ record { test = isTalking here; outcome = ownFailure 4 }
-    ∷ record { test = isNoClass c; outcome = ownFailure 13 }
-    ∷ record { test = boundary (ownAt (sc .own) p) c; outcome = ownFailure 8 }
+    record { name = stepA; test = eqb p (o .port); outcome = columnNone }
+    ∷ record { name = stepB; test = not (supports (portAt st p) c); outcome = columnNone }
+    ∷ record { name = stepN; test = isPruned st (ownAt (sc .own) p) (r .fixed); outcome = columnNone }
+    ∷ record { name = stepC; test = isBroken (r .varying .health); outcome = asRegistered }
+    ∷ record { name = stepD; test = r .changed; outcome = ownFailure 16 }
+    ∷ record { name = stepK; test = ltb (r .firstLatency) (r .varying .latency); outcome = ownFailure 7 }
+    ∷ record { name = stepE; test = isTalking here; outcome = ownFailure 4 }
+    ∷ record { name = stepF; test = isNoClass c; outcome = ownFailure 13 }
+    ∷ record { name = stepJ; test = boundary (ownAt (sc .own) p) c; outcome = ownFailure 8 }
     ∷ []
 
 -- behind them "Test 5, then 15", and g
 unfoldable pub lastSteps : Scene → ℕ → Inbound → List Step
 lastSteps sc p i =
-    record { test = shares (sc .inbound) i; outcome = ownFailure 5 }
-    ∷ record { test = isKeptOut (sc .settings .fanIn) (sc .inbound) (i .source); outcome = ownFailure 15 }
-    ∷ record { test = ltb (portAt (sc .settings) p .largest) (fixedOf (i .source) .size); outcome = ownFailure 14 }
+    record { name = stepL; test = shares (sc .inbound) i; outcome = ownFailure 5 }
+    ∷ record { name = stepM; test = isKeptOut (sc .settings .fanIn) (sc .inbound) (i .source); outcome = ownFailure 15 }
+    ∷ record { name = stepG; test = ltb (portAt (sc .settings) p .largest) (fixedOf (i .source) .size); outcome = ownFailure 14 }
     ∷ []
 
 -- a place that is no port of this bridge has column none
 unfoldable pub steps : Scene → ℕ → Stream → List Step
 steps sc p x =
-    record { test = not (isPort (sc .settings) p); outcome = columnNone }
+    record { name = stepA; test = not (isPort (sc .settings) p); outcome = columnNone }
     ∷ (stepsFrom sc p (cellAt x p) (sourceOf x) ++ lastSteps sc p (inboundOf x))
 
 -- "Age is counted from the whole second, clock / 100 rounded down, of the advance that first made an entry"; "An entry made

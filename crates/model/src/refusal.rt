@@ -20,7 +20,7 @@ pub const VALUE: u8 = 7;
 pub const STREAMS: u8 = 8;
 // time is below the held clock
 pub const TIME: u8 = 9;
-// output buffer shorter than 1,500
+// output buffer shorter than 1,500; for why, than 1,008
 pub const BUFFER: u8 = 10;
 // settings not as laid out
 pub const SETTINGS: u8 = 11;
@@ -30,3 +30,5 @@ pub const TABLE: u8 = 12;
 pub const PLACE: u8 = 13;
 // a port would need a 65th address
 pub const ADDRESSES: u8 = 14;
+// the stream isn't held
+pub const STREAM: u8 = 15;

@@ -78,7 +78,7 @@ fn unmatched(table: &[u8], p: usize, class: ClassRead) -> bool
 }
 
 // Whether the port at place p is at the edge of a class's domain; a place that is no port is not.
-fn flag(table: &[u8], p: usize, class: ClassRead) -> bool
+pub fn flag(table: &[u8], p: usize, class: ClassRead) -> bool
     requires { ⌜ PortIn (now table) p ⌝ }
     ensures { λ r. ⌜ r ≡ model.flagOf (decode (now (table .entry)) .settings) p (classShown class) (ownAt (decode (now (table .entry)) .own) p .domains) ⌝ }
 {

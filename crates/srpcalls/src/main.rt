@@ -1,4 +1,4 @@
-// A console for the six calls. Reads call records from standard input to its end, and prints one line for each call. Numbers in
+// A console for the seven calls. Reads call records from standard input to its end, and prints one line for each call. Numbers in
 // records are most significant octet first. The table is zeros at the beginning, so calls before a start are answered with 12.
 use libc::STDIN_FILENO;
 ghost use Prim.Native.Nat.{_≤_};
@@ -17,7 +17,7 @@ const LINE: usize = 8 + 2 * ROOM;
 // Settings and PDUs are handed to a call up to this length.
 const LONGEST: usize = 4096;
 
-// The longest buffer of a write, and what it is filled with.
+// The longest buffer of a write or a why, and what it is filled with.
 const BUFFER: usize = 2048;
 
 const FILLING: u8 = 0xA5;
@@ -137,16 +137,21 @@ fn put_some(line: &mut [u8], at: usize, octets: &[u8]) -> usize {
     console::put_octets(line, a, octets)
 }
 
-// The line of a write. The length is within the buffer by what write promises; least shows it with no proof about tables.
+// Whether a buffer is kept behind so many octets, and these. They are within the buffer by what the calls promise; least shows it with
+// no proof about tables.
+fn put_buffer(line: &mut [u8], at: usize, length: usize, buffer: &[u8]) -> usize {
+    let long = console::least(length, buffer.len());
+    let a = put_kept(line, at, is_kept(buffer, long));
+    put_some(line, a, &buffer[0..long])
+}
+
 fn print_written(line: &mut [u8], wrote: bridge::Wrote, buffer: &[u8]) -> Step {
-    let long = console::least(wrote.length, buffer.len());
     let a = console::put(line, 0, b"write");
     let b = console::put_number(line, a, wrote.number as u64);
     let c = console::put_number(line, b, wrote.length as u64);
     let d = console::put_number(line, c, wrote.next as u64);
-    let e = put_kept(line, d, is_kept(buffer, long));
-    let f = put_some(line, e, &buffer[0..long]);
-    print(line, f)
+    let e = put_buffer(line, d, wrote.length, buffer);
+    print(line, e)
 }
 
 fn write(table: &[u8], port: u32, line: &mut [u8]) -> Step {
@@ -188,6 +193,49 @@ fn report(table: &[u8], port: u32, line: &mut [u8]) -> Step {
         let place = octets::get(&field, 0, 2) as u32;
         let answer = bridge::report(table, port, place);
         return print_reported(line, answer);
+    }
+    Step::Stop
+}
+
+// The letter of the deciding step, or none.
+fn put_step(line: &mut [u8], at: usize, letter: u8) -> usize {
+    if letter == 0 {
+        return console::put(line, at, b" none");
+    }
+    let a = console::put(line, at, b" ");
+    let word = [letter; 1];
+    console::put(line, a, &word)
+}
+
+// How many streams are listed, the limit in force and the shortfall.
+fn put_shortfall(line: &mut [u8], at: usize, answer: why::Why) -> usize {
+    let a = console::put_number(line, at, answer.count as u64);
+    let b = console::put_number(line, a, answer.limit);
+    console::put_number(line, b, answer.shortfall)
+}
+
+// The line of a why; no more than 63 streams are listed.
+fn print_explained(line: &mut [u8], answer: why::Why, buffer: &[u8]) -> Step {
+    let listed = console::least(answer.count, 63) * 16;
+    let step = answer.step;
+    let a = console::put(line, 0, b"why");
+    let b = console::put_number(line, a, answer.number as u64);
+    let c = put_step(line, b, why::letter(step));
+    let d = put_shortfall(line, c, answer);
+    let e = put_buffer(line, d, listed, buffer);
+    print(line, e)
+}
+
+fn explain(table: &[u8], port: u32, line: &mut [u8]) -> Step {
+    let mut field = [0u8; 10];
+    if read(&mut field) {
+        let id = octets::get(&field, 0, 8);
+        let asked = octets::get(&field, 8, 2) as usize;
+        let n = console::least(asked, BUFFER);
+        let mut filled = [FILLING; BUFFER];
+        let buffer = &mut filled[0..n];
+        let answer = bridge::why(table, id, port, buffer);
+        return print_explained(line, answer, buffer);
     }
     Step::Stop
 }
@@ -256,6 +304,7 @@ fn take_record(room: &mut [u8], lent: usize, octets: &mut [u8], line: &mut [u8])
             0x20 => advance(&mut room[0..lent], line),
             0x30..=0x3F => write(&room[0..lent], port, line),
             0x40..=0x4F => report(&room[0..lent], port, line),
+            0x80..=0x8F => explain(&room[0..lent], port, line),
             0x50 => store(room),
             0x51 => lend(),
             0x60 => print_sum(line, &room[0..lent]),

@@ -5,12 +5,12 @@ ghost use lib.ListN.{length};
 ghost use Rattle.model.specs.Layout.{fixedSize, portSize};
 ghost use Rattle.model.specs.State.{classOf};
 ghost use Rattle.model.specs.Bandwidth as bandwidth;
-ghost use Rattle.model.specs.Settling.{sourceOf};
+ghost use Rattle.model.specs.Settling.{sourceOf, fixedOf};
 ghost use Rattle.model.specs.Table.{toPort, decode};
 ghost use Rattle.model.specs.Laid.{Laid};
 ghost use Rattle.table.specs.Updates.{streamAt};
 ghost use Rattle.table.specs.Places.{Stands};
-ghost use Rattle.table.specs.Reads.{toFixed};
+ghost use Rattle.table.specs.Reads.{toFixed, ReadsFixed};
 ghost use Rattle.streams.specs.Answers.{classShown, sourcePort, talkerPort};
 use table::cell;
 use table::port;
@@ -115,4 +115,13 @@ pub fn talker_port(table: &[u8], k: usize) -> usize
         SourceRead::Port(t) => t,
         SourceRead::Nowhere => 0,
     }
+}
+
+// The fixed values that stream k has registered at its Talker port, zeros without one.
+pub fn registered(table: &[u8], k: usize) -> &[u8]
+    requires { ⌜ Stands (now table) k ⌝ }
+    ensures { λ r. ⌜ ReadsFixed (now r) (fixedOf (sourceOf (streamAt k (decode (now (table .entry)))))) ⌝ }
+{
+    let said = table::cell_at(table, k, talker_port(table, k));
+    &said[cell::DESTINATION..cell::DESTINATION + table::FIXED]
 }

@@ -1,4 +1,4 @@
-//! The stream-reservation bridge from Rust: a safe wrapper of the six calls of libembed.a. What each call does stands in
+//! The stream-reservation bridge from Rust: a safe wrapper of the seven calls of libembed.a. What each call does stands in
 //! include/srp.h, whose names and sizes these are.
 #![no_std]
 
@@ -10,6 +10,10 @@ pub const TABLE: usize = 41075;
 pub const SETTINGS_HEAD: usize = 14;
 pub const SETTINGS_PORT: usize = 22;
 pub const PDU: usize = 1500;
+pub const LIST: usize = 1008;
+
+/// A stream in the list of a why, of which there are all but one at most.
+const LISTED: usize = LIST / (STREAMS - 1);
 
 /// The length of the settings of so many ports.
 pub const fn settings(ports: usize) -> usize {
@@ -31,6 +35,15 @@ mod boundary {
         pub code: u64,
         pub listener: u64,
         pub entry: u64,
+    }
+
+    #[repr(C)]
+    #[derive(Default)]
+    pub struct Explained {
+        pub step: u64,
+        pub count: u64,
+        pub limit: u64,
+        pub shortfall: u64,
     }
 
     extern "C" {
@@ -72,6 +85,15 @@ mod boundary {
             place: u32,
             reported: *mut Reported,
         ) -> u8;
+        pub fn srp_why(
+            table: *const u8,
+            table_length: usize,
+            id: u64,
+            port: u32,
+            buffer: *mut u8,
+            buffer_length: usize,
+            explained: *mut Explained,
+        ) -> u8;
     }
 }
 
@@ -92,6 +114,7 @@ pub enum Refusal {
     Table,
     Place,
     Addresses,
+    Stream,
     /// A number that this wrapper doesn't know: the archive is a newer one.
     Other(u8),
 }
@@ -115,6 +138,7 @@ impl Refusal {
             12 => Refusal::Table,
             13 => Refusal::Place,
             14 => Refusal::Addresses,
+            15 => Refusal::Stream,
             other => Refusal::Other(other),
         })
     }
@@ -175,6 +199,38 @@ pub struct Report {
     pub a: Class,
     pub b: Class,
     pub stream: Option<Stream>,
+}
+
+/// What decides a stream's column on a port: the letter of the step, as docs/SRPCALLS.md has them. For step h, which gives code 1, so
+/// many streams are listed in the buffer, and limit and shortfall are in bits per second; for all others they are 0.
+#[derive(Clone, Copy, Debug, PartialEq, Eq)]
+pub struct Explained {
+    pub step: char,
+    pub count: usize,
+    pub limit: u64,
+    pub shortfall: u64,
+}
+
+/// A more important stream that reserves on a port, and its demand in bits per second.
+#[derive(Clone, Copy, Debug, PartialEq, Eq)]
+pub struct Listed {
+    pub id: u64,
+    pub demand: u64,
+}
+
+impl Explained {
+    /// The streams that a why has listed in its buffer, most important first.
+    pub fn listed<'b>(&self, buffer: &'b [u8]) -> impl Iterator<Item = Listed> + 'b {
+        buffer.chunks_exact(LISTED).take(self.count).map(|octets| {
+            let (id, demand) = octets.split_at(LISTED / 2);
+            Listed { id: number(id), demand: number(demand) }
+        })
+    }
+}
+
+/// A number in octets, most significant first.
+fn number(octets: &[u8]) -> u64 {
+    octets.iter().fold(0, |number, octet| number << 8 | u64::from(*octet))
 }
 
 /// A bridge, in a table that is lent to it. The table is its whole state: a copy of it is another bridge.
@@ -250,6 +306,29 @@ impl<'a> Bridge<'a> {
             a: Class { total: told.total_a, limit: told.limit_a },
             b: Class { total: told.total_b, limit: told.limit_b },
             stream: (u64::from(place) < told.count).then(|| stream(&told)),
+        })
+    }
+
+    /// Tells which step would decide a stream's column on a port in an advance to the held clock, and lists in the buffer, of at least
+    /// `LIST` octets, who leaves too little.
+    pub fn why(&self, id: u64, port: u32, buffer: &mut [u8]) -> Result<Explained, Refusal> {
+        let mut told = boundary::Explained::default();
+        let number = unsafe {
+            boundary::srp_why(
+                self.table.as_ptr(),
+                TABLE,
+                id,
+                port,
+                buffer.as_mut_ptr(),
+                buffer.len(),
+                &mut told,
+            )
+        };
+        Refusal::answer(number).map(|()| Explained {
+            step: char::from(told.step as u8),
+            count: told.count as usize,
+            limit: told.limit,
+            shortfall: told.shortfall,
         })
     }
 }

@@ -23,5 +23,6 @@ mod the_calls_console;
 mod the_domain;
 mod the_sheet;
 mod the_table;
+mod why;
 mod worked_example;
 mod writing;

@@ -186,6 +186,17 @@ fn names_stand_for_streams_and_addresses() {
 }
 
 #[test]
+fn why_names_a_port_and_a_stream() {
+    let text = "stream flute 0200000000010001\nwhy 3 flute\nwhy 2 02:00:00:00:00:01:00:02 buffer 7";
+    let expected =
+        [vec![0x83, 2, 0, 0, 0, 0, 1, 0, 1, 0x03, 0xf0], vec![0x82, 2, 0, 0, 0, 0, 1, 0, 2, 0, 7]];
+    assert_eq!(records(text, Program::Calls), Ok(expected.concat()));
+    assert_eq!(fault("why 1 flute", Program::Sheet), "line 2: why is not known here");
+    assert!(fault("why 1", Program::Calls).contains("where a StreamID"));
+    assert_eq!(fault("why 1 2 from 0", Program::Calls), "line 2: from is not known here");
+}
+
+#[test]
 fn a_name_that_is_none_is_an_error() {
     let no_name = "is no name: a name begins with a letter, has letters, digits, '-', '_' and '.' alone, and is no hexadecimal number";
     for (line, said) in [

@@ -1,4 +1,4 @@
-//! The console for the five calls, srpcalls.
+//! The console for the six calls, srpcalls.
 
 use crate::helpers::*;
 use reference::bridge::ROOM_LENGTH;
@@ -60,6 +60,44 @@ fn refused_calls_print_zeros_and_none() {
         "report 13 0 0 0 0 0 0000000000000000 none 0 none none",
     ];
     assert_eq!(lines(&records), expected);
+}
+
+/// A record of why, of the worked example's stream.
+fn why(port: u8, stream_id: u64, buffer_length: u16) -> Vec<u8> {
+    let mut record = vec![0x80 | port];
+    record.extend(stream_id.to_be_bytes());
+    record.extend(buffer_length.to_be_bytes());
+    record
+}
+
+#[test]
+fn why_prints_step_count_limit_shortfall_and_the_list() {
+    let mut settings = settings(2);
+    settings.ports[1].limit.a = 17_088_001;
+    let mut records = vec![why(1, STREAM, 1_008), counted(0x00, &settings::write(&settings))];
+    for port in [1, 2] {
+        records.push(counted(0x10 | port, &own_domain(&settings)));
+    }
+    for stream_id in [STREAM, STREAM + 1] {
+        records.push(counted(0x11, &talker_frame(&talker(stream_id), &[JOIN_MT])));
+        records.push(counted(0x12, &listener_frame(stream_id, JOIN_MT, READY)));
+    }
+    records.push(why(2, STREAM, 1_008));
+    records.push(why(2, STREAM + 1, 65_535));
+    records.push(why(3, STREAM, 1_008));
+    records.push(why(2, STREAM + 2, 0));
+    records.push(why(2, STREAM, 1_007));
+    let expected = [
+        "why 12 none 0 0 0 kept",
+        "why 0 i 0 0 0 kept",
+        "why 0 h 1 17088001 17087999 kept 0200000000010001000000000104be00",
+        "why 1 none 0 0 0 kept",
+        "why 15 none 0 0 0 kept",
+        "why 10 none 0 0 0 kept",
+    ];
+    let printed: Vec<String> =
+        lines(&records).into_iter().filter(|line| line.starts_with("why")).collect();
+    assert_eq!(printed, expected);
 }
 
 #[test]
@@ -203,7 +241,7 @@ fn settings_and_pdus_longer_than_what_a_call_is_handed_are_read_whole() {
 #[test]
 fn another_octet_stops_the_run() {
     let known =
-        |octet: u8| matches!(octet, 0 | 0x10..=0x20 | 0x30..=0x51 | 0x60 | 0x61 | 0x70..=0x7f);
+        |octet: u8| matches!(octet, 0 | 0x10..=0x20 | 0x30..=0x51 | 0x60 | 0x61 | 0x70..=0x8f);
     for octet in (0..=255).filter(|octet| !known(*octet)) {
         assert_eq!(lines(&[start(), vec![octet], start()]), ["start 0", "stop"]);
     }
@@ -223,6 +261,7 @@ fn a_cut_record_stops_the_run() {
         vec![0x41, 0, 0],
         vec![0x50, 0xff, 0xff, 0],
         lend(0),
+        why(1, STREAM, 1_008),
     ] {
         for length in 1..record.len() {
             assert_eq!(lines(&[start(), record[..length].to_vec()]), ["start 0", "stop"]);

@@ -6,54 +6,72 @@ use native.Mathlib.Omega.{arith}
 use lib.ListN.{getD}
 use borrow.Author.Needs.{needs}
 use borrow.Author.Tests.{eq-eqb, ne-eqb, lt-ltb, le-ltb}
-use Rattle.model.specs.State.{Column}
-use Rattle.model.specs.Settling.{Scene, sceneOf}
+use Rattle.model.specs.State.{portAt, ownAt, supports}
+use Rattle.model.specs.Settling.{Scene, StepName, boundary}
 use Rattle.model.specs.Table.{decode}
 use Rattle.streams.specs.Answers.{classShown}
-use Rattle.columns.specs.Answers.{columnShown}
-use Rattle.columns.proofs.Steps.{talking, not-talking, class, decided, from-a, from-b, from-c, from-d, from-e, from-f, from-j, from-k, from-n, no-source, steps-asked}
+use Rattle.octets.specs.Be.{beAt}
+use Rattle.model.specs.Layout.{fixedPlace}
+use Rattle.columns.specs.Stages.{prunedBy}
+use Rattle.columns.specs.Steps.{stepShown}
+use Rattle.columns.specs.Places.{SceneOn}
+use Rattle.columns.proofs.Steps.{talking, not-talking, class, decided, from-a, from-b, from-c, from-d, from-e, from-f, from-j, from-k, from-n, no-source, steps-asked, edge-is}
 use Rattle.columns.proofs.first_step.Statement.{statement}
 use Rattle.columns.proofs.first_step.Tie as tie
 
--- past the first test the Talker's cell has a Talker; there the column is what the steps from one of them on give
-abbrev Reaches : tie.Else1 → (Scene → List ℕ → List ℕ → List ℕ → ℕ → ℕ → Column) → Type 0
-Reaches c steps =
-    let a = c .before .before .before .before .before .before .before .args in
-    decided (sceneOf (decode (a .table .now))) (a .port .now) (a .here .now) (a .said .now) (a .p) (a .t)
-    ≡ steps (sceneOf (decode (a .table .now))) (a .port .now) (a .here .now) (a .said .now) (a .p) (a .t)
+-- past the first test the Talker's cell has a Talker; there the step is what the steps from one of them on give
+abbrev Reaches : tie.Else1 → Scene → (Scene → List ℕ → List ℕ → ℕ → ℕ → StepName) → Type 0
+Reaches c sc steps =
+    let a = c .before .before .before .before .before .before .args in
+    decided sc (a .here .now) (a .said .now) (a .p) (a .t) ≡ steps sc (a .here .now) (a .said .now) (a .p) (a .t)
+
+abbrev On : tie.Else1 → Scene → Type 0
+On c sc = let a = c .before .before .before .before .before .before .args in SceneOn (decode (a .table .now)) (a .p) (a .edges) sc
 
 -- the class, as the calls of `supports` and `no_class` were asked with it
-class-read : (c : tie.After-class-of) → let a = c .before .before .before .before .before .before .before .before .before .before .args in classShown (c .class-of .result) ≡ class (sceneOf (decode (a .table .now))) (a .port .now) (a .here .now) (a .said .now) (a .p) (a .t)
-class-read c = rw (← (c .before .get .ensures .0)) (c .class-of .ensures)
+class-read : (c : tie.After-class-of) (sc : Scene) → On (c .before .before .before) sc → let a = c .before .before .before .before .before .before .before .before .before .args in classShown (c .class-of .result) ≡ class sc (a .here .now) (a .said .now) (a .p) (a .t)
+class-read c sc w = rw (w .settings, ← (c .before .get .ensures .0)) (c .class-of .ensures)
 
-reaches-a : (c : tie.Else1) → Reaches c from-a
-reaches-a c = steps-asked _ _ _ _ _ _ (c .before .before .before .before .before .before .before .pre .settings .is) (c .if1 .left)
+supports-read : (c : tie.After-supports) (sc : Scene) → On (c .before .before .before .before .before) sc
+    → let a = c .before .before .before .before .before .before .before .before .before .before .before .args in c .supports .result ≡ supports (portAt (sc .settings) (a .p)) (class sc (a .here .now) (a .said .now) (a .p) (a .t))
+supports-read c sc w = c .supports .ensures ∙ rw (c .before .port-at .ensures .is, class-read (c .before .before) sc w, w .settings)
 
-reaches-b : (c : tie.Else2) → Reaches (c .before) from-b
-reaches-b c = reaches-a (c .before) ∙ rw (ne-eqb _ _ (c .if2 .left))
+edge-read : (c : tie.After-at-edge) (sc : Scene) → On (c .before .before .before .before .before .before .before .before .before .before .before .before .before .before .before .before .before .before) sc
+    → let a = c .before .before .before .before .before .before .before .before .before .before .before .before .before .before .before .before .before .before .before .before .before .before .before .before .args in c .at-edge .result ≡ boundary (ownAt (sc .own) (a .p)) (class sc (a .here .now) (a .said .now) (a .p) (a .t))
+edge-read c sc w = c .at-edge .ensures ∙ edge-is _ _ (w .edges) _ ∙ rw (class-read (c .before .before .before .before .before .before .before .before .before .before .before .before .before .before .before) sc w)
 
-reaches-n : (c : tie.Else3) → Reaches (c .before .before .before .before .before) from-n
-reaches-n c = reaches-b (c .before .before .before .before) ∙ rw (← class-read (c .before .before), ← (c .before .supports .ensures), c .if3 .left)
+reaches-a : (c : tie.Else1) (sc : Scene) → Reaches c sc from-a
+reaches-a c sc = steps-asked sc _ _ _ _ (c .if1 .left)
 
-reaches-c : (c : tie.Else4) → Reaches (c .before .before .before .before .before .before .before) from-c
-reaches-c c = reaches-n (c .before .before) ∙ rw (← (c .before .is-pruned .ensures), c .if4 .left)
+reaches-b : (c : tie.Else2) (sc : Scene) → Reaches (c .before) sc from-b
+reaches-b c sc = reaches-a (c .before) sc ∙ rw (ne-eqb _ _ (c .if2 .left))
 
-reaches-d : (c : tie.Else5) → Reaches (c .before .before .before .before .before .before .before .before) from-d
-reaches-d c =
+reaches-n : (c : tie.Else3) (sc : Scene) → On (c .before .before .before .before .before .before) sc → Reaches (c .before .before .before .before .before .before) sc from-n
+reaches-n c sc w = reaches-b (c .before .before .before .before .before) sc ∙ rw (← supports-read (c .before) sc w, c .if3 .left)
+
+pruned-read : (c : tie.After-is-pruned) (sc : Scene) → On (c .before .before .before .before .before .before .before) sc
+    → let a = c .before .before .before .before .before .before .before .before .before .before .before .before .before .args in c .is-pruned .result ≡ prunedBy (sc .settings) (ownAt (sc .own) (a .p) .addresses) (beAt 6 (a .said .now) fixedPlace)
+pruned-read c sc w = c .is-pruned .ensures ∙ rw (w .settings, w .addresses)
+
+reaches-c : (c : tie.Else4) (sc : Scene) → On (c .before .before .before .before .before .before .before .before) sc → Reaches (c .before .before .before .before .before .before .before .before) sc from-c
+reaches-c c sc w = reaches-n (c .before .before) sc w ∙ rw (← pruned-read (c .before) sc w, c .if4 .left)
+
+reaches-d : (c : tie.Else5) (sc : Scene) → On (c .before .before .before .before .before .before .before .before .before) sc → Reaches (c .before .before .before .before .before .before .before .before .before) sc from-d
+reaches-d c sc w =
     let e : getD (c .before .before .before .before .before .before .before .before .before .before .before .before .before .before .before .args .said .now) 0 0 ≡ 1 = omega (arith, c .if5 .left) in
-    reaches-c (c .before) ∙ rw (eq-eqb _ _ e)
+    reaches-c (c .before) sc w ∙ rw (eq-eqb _ _ e)
 
-reaches-k : (c : tie.Else6) → Reaches (c .before .before .before .before .before .before .before .before .before) from-k
-reaches-k c = reaches-d (c .before) ∙ rw (ne-eqb _ _ (c .if6 .left))
+reaches-k : (c : tie.Else6) (sc : Scene) → On (c .before .before .before .before .before .before .before .before .before .before) sc → Reaches (c .before .before .before .before .before .before .before .before .before .before) sc from-k
+reaches-k c sc w = reaches-d (c .before) sc w ∙ rw (ne-eqb _ _ (c .if6 .left))
 
-reaches-e : (c : tie.Else7) → Reaches (c .before .before .before .before .before .before .before .before .before .before .before .before) from-e
-reaches-e c = reaches-k (c .before .before .before) ∙ rw (le-ltb _ _ (rw (c .before .before .get3 .ensures .0, c .before .get4 .ensures .0) at (c .if7 .left)))
+reaches-e : (c : tie.Else7) (sc : Scene) → On (c .before .before .before .before .before .before .before .before .before .before .before .before .before) sc → Reaches (c .before .before .before .before .before .before .before .before .before .before .before .before .before) sc from-e
+reaches-e c sc w = reaches-k (c .before .before .before) sc w ∙ rw (le-ltb _ _ (rw (c .before .before .get2 .ensures .0, c .before .get3 .ensures .0) at (c .if7 .left)))
 
-reaches-f : (c : tie.Else8) → Reaches (c .before .before .before .before .before .before .before .before .before .before .before .before .before .before) from-f
-reaches-f c = reaches-e (c .before .before) ∙ rw (not-talking _ (c .if8 .left))
+reaches-f : (c : tie.Else8) (sc : Scene) → On (c .before .before .before .before .before .before .before .before .before .before .before .before .before .before .before) sc → Reaches (c .before .before .before .before .before .before .before .before .before .before .before .before .before .before .before) sc from-f
+reaches-f c sc w = reaches-e (c .before .before) sc w ∙ rw (not-talking _ (c .if8 .left))
 
-reaches-j : (c : tie.Else9) → Reaches (c .before .before .before .before .before .before .before .before .before .before .before .before .before .before .before .before) from-j
-reaches-j c = reaches-f (c .before .before) ∙ rw (← class-read (c .before .before .before .before .before .before .before .before .before .before .before .before .before), ← (c .before .no-class .ensures), c .if9 .left)
+reaches-j : (c : tie.Else9) (sc : Scene) → On (c .before .before .before .before .before .before .before .before .before .before .before .before .before .before .before .before .before) sc → Reaches (c .before .before .before .before .before .before .before .before .before .before .before .before .before .before .before .before .before) sc from-j
+reaches-j c sc w = reaches-f (c .before .before) sc w ∙ rw (← class-read (c .before .before .before .before .before .before .before .before .before .before .before .before .before .before) sc w, ← (c .before .no-class .ensures), c .if9 .left)
 
 pruned-requires : tie.Need-is-pruned-requires
 pruned-requires c κs =
@@ -61,57 +79,52 @@ pruned-requires c κs =
     (record { laid = asked .laid; port = asked .place }, asked .talker-size)
 
 returns : tie.Need-returns
-unfolding columnShown
-returns c = no-source _ (c .before .before .before .before .before .before .before .args .port .now) _ _ _ _ (c .if1 .taken)
+unfolding stepShown
+returns c = λ sc w. no-source sc _ _ _ _ (c .if1 .taken)
 
 returns-2 : tie.Need-returns-2
-unfolding columnShown
-returns-2 c = sym (reaches-a (c .before) ∙ rw (eq-eqb _ _ (c .if2 .taken)))
+unfolding stepShown
+returns-2 c = λ sc w. sym (reaches-a (c .before) sc ∙ rw (eq-eqb _ _ (c .if2 .taken)))
 
 returns-3 : tie.Need-returns-3
-unfolding columnShown
-returns-3 c = sym (reaches-b (c .before .before .before .before) ∙ rw (← class-read (c .before .before), ← (c .before .supports .ensures), c .if3 .taken))
+unfolding stepShown
+returns-3 c = λ sc w. sym (reaches-b (c .before .before .before .before .before) sc ∙ rw (← supports-read (c .before) sc w, c .if3 .taken))
 
 returns-4 : tie.Need-returns-4
-unfolding columnShown
-returns-4 c = sym (reaches-n (c .before .before) ∙ rw (← (c .before .is-pruned .ensures), c .if4 .taken))
+unfolding stepShown
+returns-4 c = λ sc w. sym (reaches-n (c .before .before) sc w ∙ rw (← pruned-read (c .before) sc w, c .if4 .taken))
 
 returns-5 : tie.Need-returns-5
-unfolding columnShown
-returns-5 c = sym (reaches-c (c .before .before .before) ∙ rw (c .before .get2 .ensures .0, ne-eqb _ _ (c .before .before .if5 .taken)))
+unfolding stepShown
+returns-5 c = λ sc w. sym (reaches-c (c .before) sc w ∙ rw (ne-eqb _ _ (c .if5 .taken)))
 
 returns-6 : tie.Need-returns-6
-returns-6 c = c .own .ensures ∙ sym (reaches-d (c .before .before) ∙ rw (eq-eqb _ _ (c .before .if6 .taken)))
+unfolding stepShown
+returns-6 c = λ sc w. sym (reaches-d (c .before) sc w ∙ rw (eq-eqb _ _ (c .if6 .taken)))
 
 returns-7 : tie.Need-returns-7
-returns-7 c =
-    c .own2 .ensures
-    ∙ sym (reaches-k (c .before .before .before .before) ∙ rw (lt-ltb _ _ (rw (c .before .before .before .get3 .ensures .0, c .before .before .get4 .ensures .0) at (c .before .if7 .taken))))
+unfolding stepShown
+returns-7 c = λ sc w. sym (reaches-k (c .before .before .before) sc w ∙ rw (lt-ltb _ _ (rw (c .before .before .get2 .ensures .0, c .before .get3 .ensures .0) at (c .if7 .taken))))
 
 returns-8 : tie.Need-returns-8
-returns-8 c = c .own3 .ensures ∙ sym (reaches-e (c .before .before .before) ∙ rw (talking _ (c .before .if8 .taken)))
+unfolding stepShown
+returns-8 c = λ sc w. sym (reaches-e (c .before .before) sc w ∙ rw (talking _ (c .if8 .taken)))
 
 returns-9 : tie.Need-returns-9
-returns-9 c =
-    c .own4 .ensures
-    ∙ sym (reaches-f (c .before .before .before)
-    ∙ rw (← class-read (c .before .before .before .before .before .before .before .before .before .before .before .before .before .before), ← (c .before .before .no-class .ensures), c .before .if9 .taken))
+unfolding stepShown
+returns-9 c = λ sc w. sym (reaches-f (c .before .before) sc w ∙ rw (← class-read (c .before .before .before .before .before .before .before .before .before .before .before .before .before .before) sc w, ← (c .before .no-class .ensures), c .if9 .taken))
 
 returns-10 : tie.Need-returns-10
-returns-10 c =
-    c .own5 .ensures
-    ∙ sym (reaches-j (c .before .before .before)
-    ∙ rw (← class-read (c .before .before .before .before .before .before .before .before .before .before .before .before .before .before .before .before), ← (c .before .before .at-edge .ensures), c .before .if10 .taken))
+unfolding stepShown
+returns-10 c = λ sc w. sym (reaches-j (c .before .before) sc w ∙ rw (← edge-read (c .before) sc w, c .if10 .taken))
 
 returns-11 : tie.Need-returns-11
-unfolding columnShown
-returns-11 c =
-    sym (reaches-j (c .before .before)
-    ∙ rw (← class-read (c .before .before .before .before .before .before .before .before .before .before .before .before .before .before .before), ← (c .before .at-edge .ensures), c .if10 .left))
+unfolding stepShown
+returns-11 c = λ sc w. sym (reaches-j (c .before .before) sc w ∙ rw (← edge-read (c .before) sc w, c .if10 .left))
 
 pub first-step-spec : {M : Type 1} → statement M
 first-step-spec =
     tie.close
     (tie.spec (λ c. search needs) (λ c. search needs) returns returns-2 (λ c κs. search needs) (λ c κs. search needs)
-    (λ c κs. search needs) returns-3 pruned-requires returns-4 (λ c κs. search needs) (λ c. search needs) returns-5 (λ c κs. search needs) returns-6
-    (λ c κs. search needs) (λ c κs. search needs) (λ c κs. search needs) returns-7 (λ c. search needs) (λ c κs. search needs) returns-8 (λ c κs. search needs) (λ c κs. search needs) returns-9 (λ c κs. search needs) (λ c κs. search needs) returns-10 returns-11)
+    (λ c κs. search needs) (λ c κs. search needs) returns-3 pruned-requires returns-4 returns-5 returns-6 (λ c κs. search needs) (λ c κs. search needs) returns-7
+    (λ c. search needs) returns-8 (λ c κs. search needs) returns-9 (λ c κs. search needs) returns-10 returns-11)

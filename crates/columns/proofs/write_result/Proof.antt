@@ -11,7 +11,7 @@ returns c =
     let a = c .before .before .before .before .before .before .before .before .before .before .before .before .args in
     rw (c .before .before .write-entry .ensures, c .before .before .before .before .before .before .write-column .ensures)
     (result-put (columnShown (a .column)) (a .latency) (toDeclared (a .listener)) (a .time) _ _ (a .result .now) (c .before .before .before .before .before .before .before .before .before .before .before .before .pre) (c .before .before .before .before .before .before .before .before .before .before .entry-of .ensures)
-    (c .before .before .before .before .before .before .before .before .age-of .ensures))
+    (c .before .before .before .before .before .before .before .before .age-of .ensures .0))
 
 pub write-result-spec : {M : Type 1} → statement M
 write-result-spec =

@@ -17,10 +17,10 @@ abbrev hasIt : List ℕ → ℕ → ℕ → Bool
 hasIt table wanted j = hasAddress wanted (sourceOf (streamAt j (decode table)))
 
 abbrev Inv-loop : tie.InvT-loop
-Inv-loop table k wanted j₀ j = (j ≤ k) × (anyFrom (hasIt table wanted) j (k - j) ≡ anyFrom (hasIt table wanted) 0 k)
+Inv-loop table k wanted settled j₀ j = (j ≤ k) × (anyFrom (hasIt table wanted) j (k - j) ≡ anyFrom (hasIt table wanted) 0 k)
 
 abbrev μ-loop : tie.MeasureT-loop
-μ-loop table k wanted j₀ j = k - j
+μ-loop table k wanted settled j₀ j = k - j
 
 loop-holds : tie.Need-loop-holds Inv-loop μ-loop
 loop-holds c =

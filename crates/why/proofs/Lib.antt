@@ -1,0 +1,3 @@
+pub mod Readings
+pub mod Walking
+pub mod Deciding
