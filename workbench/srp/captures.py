@@ -176,12 +176,14 @@ def calls_with_clock(bridge, given):
 
 def received(given):
     """The frames of an input, each with its time, as records."""
+    given.check_end()
     with Bridge() as bridge:
         return [(clock, record) for record, _, clock in calls_with_clock(bridge, given) if record.is_frame]
 
 
 def written(given):
     """What each port writes after each accepted advance, with its time, as records. A bridge writes no MMRP frames."""
+    given.check_end()
     frames = []
     with Bridge() as bridge:
         for record, answer, clock in calls_with_clock(bridge, given):

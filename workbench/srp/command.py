@@ -88,6 +88,8 @@ def table_command(file, **options):
 def diff_command(first, second, **options):
     """Shows what differs between two inputs. Status 1 where something does."""
     left, right = run_files([first, second], **options)
+    for ran in (left, right):
+        ran.input.check_end()
     found = difference.between(left.table, right.table)
     if not found:
         click.echo("no difference")

@@ -148,6 +148,8 @@ def show_stream(stream, table, console):
 
 def show(ran, console):
     """Prints the table of an input."""
+    if ran.input.rest:
+        console.print(f"{ran.input.name}: the reading stopped early: a record is cut or unknown")
     if not ran.has_table:
         console.print(f"{ran.input.name}: no bridge was started")
         return

@@ -3,7 +3,7 @@ import json
 import re
 
 import pytest
-from conftest import ROOT, run
+from conftest import CHOIR, ROOT, run
 from made import DOMAIN, LISTENER, MIXER, STAGE, TALKER, complaints, fault_of, frame, made_by_text2pcap, needs_tshark, pcap
 
 ASKED_FOR = "examples/asked-for/hall.txt"
@@ -224,3 +224,24 @@ def test_restarts_of_a_capture(srp, tmp_path, hall):
     order.write_text(srp("restarts", 60, capture, *words, "--order", 3))
     assert sorted(frames_of(records_of(order))) == sorted(frames_of(records_of(hall)))
     assert frames_of(records_of(order)) != frames_of(records_of(hall)) and order.read_text().count("mmrp") == 3
+
+
+def test_records_that_a_sheet_does_not_know(srp, tmp_path):
+    """An MMRP record among those of a sheet stops the reading, which is said or is an error."""
+    from srp import inputs, records
+
+    settings = inputs.load(str(ROOT / CHOIR)).settings
+    path = tmp_path / "records"
+    path.write_bytes(settings + records.receive_mmrp(1, bytes.fromhex(MAC)).octets + records.advance(100).octets)
+    assert srp("sheet", path).splitlines()[0] == "stop"
+    assert "the reading stopped early" in srp("table", path) and "the reading stopped early" not in srp("table", CHOIR)
+    for words in (("capture", path, "--received", "-o", tmp_path / "out.pcap"), ("capture", path, "-o", tmp_path / "out.pcap"),
+                  ("diff", CHOIR, path)):
+        assert "the reading stops early" in srp(*words, status=2)
+
+
+def test_a_text_without_a_start(srp, tmp_path):
+    text = tmp_path / "sheet.txt"
+    text.write_text(BOTH.replace("start\n", ""))
+    for words in (("sheet", text), ("table", text), ("capture", text, "--received", "-o", tmp_path / "out.pcap")):
+        assert "line 4: mmrp is not known here, in a text of a sheet" in srp(*words, status=2)
