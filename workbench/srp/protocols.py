@@ -9,8 +9,8 @@ LONGEST_PDU = 1500
 
 
 def behind_end_mark(pdu, at, behind):
-    """The place behind an EndMark that stands at a place, or behind the parts that begin there; none where the PDU ends first. Behind
-    gives the place behind a part."""
+    """The place behind an EndMark that stands at a place, or behind the parts that begin there; none where the PDU ends first.
+    Behind gives the place behind a part."""
     while at is not None and at + 2 <= len(pdu) and pdu[at:at + 2] != END_MARK:
         at = behind(pdu, at)
     return at + 2 if at is not None and at + 2 <= len(pdu) else None
@@ -43,8 +43,8 @@ class Protocol:
     behind_message: Callable
 
     def end_of_pdu(self, pdu):
-        """The place behind the EndMark of a PDU; none where it has none. What follows is looked at by no bridge: padding, or a check
-        sequence."""
+        """The place behind the EndMark of a PDU; none where it has none. What follows is looked at by no bridge: padding, or a
+        check sequence."""
         return behind_end_mark(pdu, 1, self.behind_message)
 
     def without_padding(self, pdu):

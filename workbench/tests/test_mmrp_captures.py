@@ -96,7 +96,7 @@ EVENTS = {"new": "0", "joinin": "1", "in": "2", "join": "3", "mt": "4", "leave":
 
 
 def read_by_tshark(capture):
-    """What tshark reads in the MMRP frames of a capture: destination, AttributeType, LeaveAllEvent, FirstValue and events of each."""
+    """What tshark reads in the MMRP frames of a capture: destination, AttributeType, LeaveAllEvent, events and FirstValue."""
     names = ["eth.dst", *(f"mrp-mmrp.{name}" for name in ("attribute_type", "leave_all_event", "three_packed_event"))]
     fields = run("tshark", "-r", capture, "-Y", "mrp-mmrp", "-T", "fields", *(word for name in names for word in ("-e", name)))
     # FirstValue has no value in tshark's fields but the octets that it stands in
@@ -170,8 +170,8 @@ def test_supposed_neighbours_are_heard_behind_the_start(srp, tmp_path):
     assert "port 2 A 17088000/75000000" in srp("sheet", capture, *words)
 
 
-# Without an EndMark of the PDU or of a list; with a length that is not the type's; of a higher version, with vectors of a type that is
-# not known, of AttributeLength 0 and of 32; and too long.
+# Without an EndMark of the PDU or of a list; with a length that is not the type's; of a higher version, with vectors of a type that
+# is not known, of AttributeLength 0 and of 32; and too long.
 ODD = ("", "00", "0000", "000206", "00020600", MAC[:-4], MAC[:-8], "0002080000" + "0000", "010300e004ffff00000000",
        "01032000070000" + "ff" * 33 + "0000" + MAC[2:], "000000" + "00" * 1498)
 
