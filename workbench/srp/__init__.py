@@ -4,8 +4,8 @@ from srp.bridge import Bridge
 from srp.faults import Fault, Missing
 from srp.inputs import Input, Ran, load, run
 from srp.layout import Address, Cell, Domain, Edge, Parameters, Port, Result, Settings, Stream, Table, Totals
-from srp.views import AskedFor, DomainValue, Load, Share, loads
+from srp.views import AskedFor, DomainValue, Load, Share, addresses, loads
 
 __all__ = ["Address", "Answer", "AskedFor", "Bridge", "Cell", "Domain", "DomainValue", "Edge", "Fault", "Input", "Listed", "Load",
            "Missing", "Octets", "Parameters", "Port", "Ran", "Reason", "Report", "Result", "Settings", "Share", "Stream", "Sum",
-           "Table", "Totals", "Written", "load", "loads", "run"]
+           "Table", "Totals", "Written", "addresses", "load", "loads", "run"]

@@ -1,17 +1,13 @@
-"""MSRP frames of a capture as a text, and the way back."""
+"""Frames of a capture, of MSRP and of MMRP, as a text, and the way back."""
 import re
 from dataclasses import dataclass, field
 
-from srp import layout, packets, programs, texts
+from srp import layout, packets, programs, protocols, records, texts
 from srp.bridge import Bridge
 from srp.faults import Fault
 from srp.needs import need
-from srp.records import ADVANCE, RECEIVE, START
 
-MSRP = 0x22EA
-GROUP = bytes.fromhex("0180c200000e")
 SHORTEST_FRAME = 60
-LONGEST_PDU = 1500
 LAST_CLOCK = (1 << 32) - 1
 ADDRESS = re.compile(r"[0-9a-f]{2}(:[0-9a-f]{2}){5}")
 
@@ -32,11 +28,16 @@ class Reading:
 
 @dataclass(frozen=True)
 class Frame:
-    """An MSRP frame of a capture; port is none where its source is no port."""
+    """A frame of a capture that a bridge takes; port is none where its source is no port."""
     packet: packets.Packet
     source: str
     port: int | None
+    protocol: protocols.Protocol
     pdu: bytes
+
+    @property
+    def record(self):
+        return records.frame(self.protocol.kind, self.port, self.pdu)
 
 
 def ports_of(words):
@@ -49,20 +50,6 @@ def ports_of(words):
         address = source.lower().replace("-", ":")
         ports[address if ADDRESS.fullmatch(address) else source] = int(port)
     return ports or OWN_PORTS
-
-
-def end_of_pdu(pdu):
-    """The place behind the EndMark of a PDU, found by its list lengths; none where it has none. What follows is looked at by no
-    bridge: padding, or a check sequence."""
-    at = 1
-    while at + 2 <= len(pdu) and pdu[at:at + 2] != b"\0\0":
-        at += 4 + int.from_bytes(pdu[at + 2:at + 4], "big")
-    return at + 2 if at + 2 <= len(pdu) else None
-
-
-def without_padding(pdu):
-    """A PDU without what follows its EndMark. One that is too long stays as it is, since it is refused for that."""
-    return pdu[:end_of_pdu(pdu)] if len(pdu) <= LONGEST_PDU else pdu
 
 
 def ethernet(packet):
@@ -81,13 +68,14 @@ def ethernet(packet):
 
 
 def frame_of(packet, ports):
-    """The MSRP frame in a packet, if it is one."""
-    source, kind, pdu = ethernet(packet)
-    if packet.length > len(packet.octets) and kind in (MSRP, 0):
+    """The frame in a packet, if it is one of MSRP or MMRP."""
+    source, kind, payload = ethernet(packet)
+    protocol = protocols.BY_ETHERTYPE.get(kind)
+    if packet.length > len(packet.octets) and (protocol or not kind):
         raise Fault(f"packet {packet.number} is cut: {len(packet.octets)} of its {packet.length} octets were captured")
-    if kind != MSRP:
+    if not protocol:
         return None
-    return Frame(packet, source, ports.get(source, ports.get(packet.interface)), without_padding(pdu))
+    return Frame(packet, source, ports.get(source, ports.get(packet.interface)), protocol, protocol.without_padding(payload))
 
 
 def check_sources(frames):
@@ -101,12 +89,13 @@ def check_sources(frames):
 
 
 def frames_of(octets, ports):
-    """The MSRP frames of a capture."""
+    """The frames of MSRP and MMRP in a capture, in its order."""
     all_packets = packets.packets(octets)
     frames = [frame for packet in all_packets if (frame := frame_of(packet, ports))]
     if not frames:
+        taken = " or ".join(f"{one.name} (EtherType {kind:04x})" for kind, one in protocols.BY_ETHERTYPE.items())
         first = f"; packet 1 has EtherType {ethernet(all_packets[0])[1]:04x}" if all_packets else ""
-        raise Fault(f"none of {len(all_packets)} packets is MSRP (EtherType {MSRP:04x}){first}")
+        raise Fault(f"none of {len(all_packets)} packets is {taken}{first}")
     check_sources(frames)
     return frames
 
@@ -132,12 +121,19 @@ def supposed_domain(lines):
     return ["# supposed, and not in the capture: each port's neighbour is in the bridge's domain", *texts.domain_lines(settings)]
 
 
+def opening(frames, reading):
+    """The lines before the first frame. With an MMRP frame the text is one of calls, which has a start: a sheet has no record for
+    it."""
+    settings = texts.settings_lines(reading.settings) if reading.settings else default_settings(frames, reading.ports)
+    start = ["start"] if any(frame.protocol is protocols.MMRP for frame in frames) else []
+    return [*settings, *start, *(supposed_domain(settings) if reading.domain else [])]
+
+
 def text(name, octets, reading):
     """A capture as a text. The clock is advanced to each frame's time before the frame, and once more after the last one."""
     try:
         frames = frames_of(octets, reading.ports)
-        lines = texts.settings_lines(reading.settings) if reading.settings else default_settings(frames, reading.ports)
-        lines += supposed_domain(lines) if reading.domain else []
+        lines = opening(frames, reading)
         clock = 0
         for frame in frames:
             time = clock_of(frame, frames[0])
@@ -146,22 +142,19 @@ def text(name, octets, reading):
                 clock = time
             if reading.named:
                 lines.append(f"# packet {frame.packet.number}, from {frame.source} on interface {frame.packet.interface}")
-            lines.append(texts.frame_line(frame.port, frame.pdu))
+            lines.append(texts.record_line(frame.record))
     except Fault as fault:
         raise Fault(f"{name}: {fault}") from None
     lines.append(f"time {clock if reading.until is None else reading.until}")
     return "\n".join(lines) + "\n"
 
 
-def padded(pdu, frame):
-    """A frame as long as Ethernet's shortest. Padding stands only behind an EndMark, where it changes no answer."""
-    return frame if end_of_pdu(pdu) is None else frame.ljust(SHORTEST_FRAME, b"\0")
-
-
-def as_frame(port, pdu, sources):
-    """The Ethernet frame of a PDU."""
-    header = need("dpkt.ethernet").Ethernet(dst=GROUP, src=sources[port], type=MSRP).pack_hdr()
-    return padded(pdu, header + pdu)
+def as_frame(record, sources):
+    """The Ethernet frame of a record. It is padded to Ethernet's shortest only behind an EndMark, where that changes no answer."""
+    protocol, pdu = protocols.BY_KIND[record.kind], record.body
+    ethernet_header = need("dpkt.ethernet").Ethernet(dst=protocol.group, src=sources[record.port], type=protocol.ethertype)
+    frame = ethernet_header.pack_hdr() + pdu
+    return frame if protocol.end_of_pdu(pdu) is None else frame.ljust(SHORTEST_FRAME, b"\0")
 
 
 def sources_of(ports):
@@ -176,26 +169,27 @@ def calls_with_clock(bridge, given):
     clock = 0
     for record in given.records:
         answer = bridge.call(record)
-        if record.kind in (START, ADVANCE) and answer.accepted:
-            clock = record.time if record.kind == ADVANCE else 0
+        if record.kind in (records.START, records.ADVANCE) and answer.accepted:
+            clock = record.time if record.kind == records.ADVANCE else 0
         yield record, answer, clock
 
 
 def received(given):
-    """The frames of an input, each with its time and port."""
+    """The frames of an input, each with its time, as records."""
+    given.check_end()
     with Bridge() as bridge:
-        return [(clock, record.port, record.body) for record, _, clock in calls_with_clock(bridge, given)
-                if record.kind == RECEIVE]
+        return [(clock, record) for record, _, clock in calls_with_clock(bridge, given) if record.is_frame]
 
 
 def written(given):
-    """What each port writes after each accepted advance, with its time and port."""
+    """What each port writes after each accepted advance, with its time, as records. A bridge writes no MMRP frames."""
+    given.check_end()
     frames = []
     with Bridge() as bridge:
         for record, answer, clock in calls_with_clock(bridge, given):
-            if record.kind == ADVANCE and answer.accepted:
+            if record.kind == records.ADVANCE and answer.accepted:
                 ports = range(1, bridge.table().settings.ports + 1)
-                frames += [(clock, port, pdu) for port in ports for pdu in bridge.declarations(port)]
+                frames += [(clock, records.receive(port, pdu)) for port in ports for pdu in bridge.declarations(port)]
     if not frames:
         raise Fault(f"{given.name}: no advance is accepted, and what ports write is taken after one")
     return frames
@@ -204,7 +198,7 @@ def written(given):
 def write(path, frames, ports):
     """Writes a capture: pcapng where the name ends so, otherwise pcap."""
     sources = sources_of(ports)
-    octets = [(time, port, as_frame(port, pdu, sources)) for time, port, pdu in frames]
+    octets = [(time, record.port, as_frame(record, sources)) for time, record in frames]
     make = packets.write_pcapng if path.endswith(".pcapng") else packets.write_pcap
     try:
         with open(path, "wb") as file:

@@ -88,6 +88,8 @@ def table_command(file, **options):
 def diff_command(first, second, **options):
     """Shows what differs between two inputs. Status 1 where something does."""
     left, right = run_files([first, second], **options)
+    for ran in (left, right):
+        ran.input.check_end()
     found = difference.between(left.table, right.table)
     if not found:
         click.echo("no difference")
@@ -158,7 +160,7 @@ def restarts_command(words, merge, order, seed, shard, **options):
 @click.option("--named", is_flag=True, help="Names the packet of each frame in a comment.")
 @capture_options
 def capture_command(file, out, received, named, calls, **options):
-    """Turns a capture's MSRP frames into a text; or, from any input, writes a capture of what each port writes after each
+    """Turns a capture's MSRP and MMRP frames into a text; or, from any input, writes a capture of what each port writes after each
     advance."""
     octets, reading = inputs.octets_of(file), reading_of(**options, named=named)
     if out and out.endswith((".pcap", ".pcapng")):

@@ -27,6 +27,11 @@ class Input:
                 return record.body
         raise Fault(f"{self.name} has no settings")
 
+    def check_end(self):
+        """Whether it is read to its end, for what would not show that it isn't."""
+        if self.rest:
+            raise Fault(f"{self.name}: the reading stops early, at a record that is cut or unknown")
+
 
 @dataclass(frozen=True)
 class Ran:
@@ -70,9 +75,12 @@ def of_text(name, text):
         return of_sheet(name, programs.records_of_text(text, "sheet"))
     except Fault as of_a_sheet:
         try:
-            return of_calls(name, programs.records_of_text(text, "calls"))
+            given = of_calls(name, programs.records_of_text(text, "calls"))
         except Fault as other:
             raise Fault(f"{name}: {max(of_a_sheet, other, key=line_of_fault)}") from None
+        if all(record.kind != records.START for record in given.records):
+            raise Fault(f"{name}: {of_a_sheet}, in a text of a sheet; one of calls has a start behind its settings") from None
+        return given
 
 
 def line_of_fault(fault):

@@ -4,7 +4,7 @@ from pathlib import Path
 
 from srp import sheet
 from srp.needs import need
-from srp.views import Share, loads, ports, stream_line
+from srp.views import Share, addresses, loads, ports, stream_line
 from srp.words import address, cause, edge, rate, refusal, seconds, stream_id
 
 # A part of a bar that is narrower, in percent, has no room for a name.
@@ -71,6 +71,12 @@ def edge_note(load):
     return f"{edge(load.name)}; registered of it: {declared or 'nothing'}"
 
 
+def asked_note(all_asked):
+    """What is said of a port where Talkers are pruned: the addresses that were asked for there."""
+    shown = (address(asked.address) + ("" if asked.leaving_since is None else " (leaving)") for asked in all_asked)
+    return f"asked for: {', '.join(shown) or 'nothing'}"
+
+
 def place_of(stream, port):
     """What is said of a stream on a port."""
     line, cell = stream_line(stream, port), stream.cells[port - 1]
@@ -108,6 +114,8 @@ def view(ran):
         "leave": seconds(table.settings.leave_time),
         "held": table.held,
         "ports": by_port,
+        "pruning": bool(table.settings.pruning),
+        "asked": addresses(table),
         "numbers": list(ports(table)),
         "streams": [stream_row(stream, table) for stream in table.streams],
         "refused": [f"{number}: {refusal(number)}" for number in sheet.refused_numbers(ran)],
@@ -120,6 +128,6 @@ def page(all_ran):
     """The page of some inputs."""
     jinja2 = need("jinja2")
     maker = jinja2.Environment(autoescape=True, trim_blocks=True, lstrip_blocks=True, undefined=jinja2.StrictUndefined)
-    maker.filters.update(rate=rate, parts=parts, reserved=reserved, edge_note=edge_note)
+    maker.filters.update(rate=rate, parts=parts, reserved=reserved, edge_note=edge_note, asked_note=asked_note)
     template = maker.from_string(Path(__file__).with_name("page.html").read_text(encoding="utf-8"))
     return template.render(inputs=[view(ran) for ran in all_ran])

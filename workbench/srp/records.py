@@ -93,12 +93,17 @@ def start(settings):
     return counted(START, settings)
 
 
+def frame(kind, port, pdu):
+    """A frame that arrives on a port, of the kind RECEIVE or RECEIVE_MMRP."""
+    return counted(ported(kind, port), pdu)
+
+
 def receive(port, pdu):
-    return counted(ported(RECEIVE, port), pdu)
+    return frame(RECEIVE, port, pdu)
 
 
 def receive_mmrp(port, pdu):
-    return counted(ported(RECEIVE_MMRP, port), pdu)
+    return frame(RECEIVE_MMRP, port, pdu)
 
 
 def advance(time):

@@ -1,7 +1,7 @@
 """The table in words: who is registered where, leaving since when, changed, of what age, where the domain ends, which addresses
 were asked for, and what is settled."""
 from srp.needs import need
-from srp.views import addresses_of, class_of, demand, loads, ports
+from srp.views import addresses, class_of, demand, loads, ports
 from srp.words import COLUMNS, ENTRIES, LISTENERS, address, cause, edge, rate, seconds, stream_id, word
 
 TALKERS = ("none", "Advertise", "Failed")
@@ -117,8 +117,8 @@ def show_domain(table, console):
 
 def address_lines(table):
     """A line for each address that a port's neighbour has asked for."""
-    for port in ports(table):
-        for asked in addresses_of(table.edges[port - 1]):
+    for port, all_asked in addresses(table).items():
+        for asked in all_asked:
             since = "" if asked.leaving_since is None else f", {leaving(asked.leaving_since, table)}"
             yield f"port {port}: {address(asked.address)}{since}"
 
@@ -148,6 +148,8 @@ def show_stream(stream, table, console):
 
 def show(ran, console):
     """Prints the table of an input."""
+    if ran.input.rest:
+        console.print(f"{ran.input.name}: the reading stopped early: a record is cut or unknown")
     if not ran.has_table:
         console.print(f"{ran.input.name}: no bridge was started")
         return

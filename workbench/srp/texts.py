@@ -7,6 +7,9 @@ from srp.words import CLASS_IDS, stream_id
 
 CLASSES = {(1, 1): "AB", (1, 0): "A", (0, 1): "B", (0, 0): "none"}
 
+# The first word of a frame's line.
+FRAMES = {RECEIVE: "on", RECEIVE_MMRP: "mmrp"}
+
 
 def bridge_line(settings):
     return (f"bridge {stream_id(settings.bridge_id)} priorities {settings.priority_a} {settings.priority_b}"
@@ -41,16 +44,10 @@ def domain_lines(settings):
     return [domain_line(port, settings) for port in range(1, settings.ports + 1)]
 
 
-def frame_line(port, pdu):
-    return f"on {port} octets {pdu.hex()}"
-
-
 def record_line(record):
     """The line of a record."""
-    if record.kind == RECEIVE:
-        return frame_line(record.port, record.body)
-    if record.kind == RECEIVE_MMRP:
-        return f"mmrp {record.port} octets {record.body.hex()}"
+    if record.is_frame:
+        return f"{FRAMES[record.kind]} {record.port} octets {record.body.hex()}"
     if record.kind == ADVANCE:
         return f"time {record.time}"
     return f"raw {record.octets.hex()}"

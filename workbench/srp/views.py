@@ -101,9 +101,10 @@ def domains_of(edge, name):
             for priority, record in enumerate(of_class(edge, "domains_", name)) if record.registered]
 
 
-def addresses_of(edge):
-    """The addresses that were asked for on a port, in their order."""
-    return [AskedFor(record.address, record.since if record.leaving else None) for record in edge.addresses]
+def addresses(table):
+    """The addresses that were asked for on each port, by its number, in their order."""
+    return {port: [AskedFor(record.address, record.since if record.leaving else None)
+                   for record in table.edges[port - 1].addresses] for port in ports(table)}
 
 
 def edge_line(table, port):

@@ -23,7 +23,7 @@ def main():
             record = records.advance(clock)
         made.append(record)
         is_printed.append(True)
-        if record.kind == records.RECEIVE:
+        if record.is_frame:
             clock += STRETCHED
             made.append(records.advance(clock))
             is_printed.append(False)

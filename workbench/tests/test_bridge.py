@@ -105,12 +105,17 @@ def test_addresses_and_pruning():
         bridge.hear_domain()
         bridge.feed(f"{TALKER}\n{LISTENER}\ntime 100")
         assert (bridge.report(2).column, bridge.report(2).entry) == ("none", "filter")
+        pruned = bridge.why(2, "0200000000010001")
+        assert (pruned.step, pruned.words) == ("n", "pruning is on, and the port doesn't hold the stream's destination")
         assert bridge.receive_mmrp(2, bytes.fromhex("00 02 06 0001 91e0f0000001 6c 0000 0000")) == srp.Answer("mmrp", 0)
         assert bridge.feed("mmrp 1 mac 000000000000 values 65")[0].why == "no room for another address"
         bridge.advance(200)
         assert (bridge.report(2).column, bridge.report(2).entry) == ("advertise", "forward")
+        assert bridge.why(2, "0200000000010001").step == "i"
         table = bridge.table()
         assert table.settings.pruning == 1 and table.edges[1].addresses == (srp.Address(1, 0, 0, 0x91E0F0000001),)
+        bridge.feed("mmrp 2 mac 91e0f0000001 leave and mac 000000000000")
+        assert srp.addresses(bridge.table()) == {1: [], 2: [srp.AskedFor(0, None), srp.AskedFor(0x91E0F0000001, 200)]}
 
 
 def test_refusals_are_answers():

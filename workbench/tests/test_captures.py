@@ -1,43 +1,12 @@
 """Captures: written, read back, and read from other tools, whole and broken."""
 import re
-import shutil
-import struct
 
 import pytest
 from conftest import CHOIR, ROOT, run
+from made import (DOMAIN, GROUPS, LISTENER, MIXER, STAGE, TALKER, complaints, fault_of, frame, made_by_text2pcap, needs_tshark,
+                  pcap)
 
-needs_tshark = pytest.mark.skipif(not shutil.which("tshark"), reason="tshark is not installed")
-
-MIXER, STAGE = "00:1b:21:00:00:04", "00:1b:21:00:00:01"
-GROUP = "0180c200000e"
-TALKER = "000119001e0001020000000001000191e0f0000001000200e0000170000000006c00000000"
-LISTENER = "000308000e000102000000000100016c8000000000"
-DOMAIN = "0004040009000205020002" + "7e" + "00000000"
 HEAD = "bridge 8000000000000001\nports 2\n"
-
-
-def frame(source, pdu, tag="", kind="22ea", padding=46):
-    """The octets of a frame in hex."""
-    return GROUP + source.replace(":", "") + tag + kind + pdu.ljust(2 * padding, "0")
-
-
-def made_by_text2pcap(path, frames, *options):
-    """A capture that text2pcap makes of frames, each with its time in seconds."""
-    dump = path.with_suffix(".dump")
-    dump.write_text("".join(f"{time:.6f}\n0000 {' '.join(octets[k:k + 2] for k in range(0, len(octets), 2))}\n\n"
-                            for time, octets in frames))
-    done = run("text2pcap", "-q", "-t", "%s.%f", *options, dump, path)
-    assert done.returncode == 0, done.stderr
-    return path
-
-
-def complaints(path):
-    """What tshark holds against a capture, and the protocol of each packet."""
-    faults = run("tshark", "-r", path, "-Y", "_ws.malformed or _ws.expert.severity >= 0x400000")
-    protocols = run("tshark", "-r", path, "-T", "fields", "-e", "_ws.col.Protocol")
-    assert faults.returncode == protocols.returncode == 0, faults.stderr + protocols.stderr
-    assert "cut short" not in faults.stderr
-    return faults.stdout, protocols.stdout.split()
 
 
 @needs_tshark
@@ -84,7 +53,7 @@ def test_the_empty_pdu_is_written_padded(srp, tmp_path):
     assert complaints(capture) == ("", ["MRP-MSRP"] * 2)
     octets = capture.read_bytes()
     assert len(octets) == 24 + 2 * (16 + 60)
-    assert octets[24 + 16:24 + 16 + 60].hex() == GROUP + "020000000001" + "22ea" + "00" * 46
+    assert octets[24 + 16:24 + 16 + 60].hex() == GROUPS["22ea"] + "020000000001" + "22ea" + "00" * 46
     assert srp("capture", capture) == f"{HEAD}time 100\non 1 octets 000000\non 2 octets 000000\ntime 100\n"
 
 
@@ -189,21 +158,6 @@ def test_ports_by_interface(srp, tmp_path):
     assert printed == f"{HEAD}on 1 octets {TALKER}\ntime 100\non 2 octets {LISTENER}\ntime 100\n"
 
 
-def pcap(*packets, link=1, order="<"):
-    """A pcap file of packets: octets in hex, and how many of them were captured."""
-    octets = struct.pack(order + "IHHiIII", 0xA1B2C3D4, 2, 4, 0, 0, 65535, link)
-    for time, (full, kept) in enumerate(packets):
-        full = bytes.fromhex(full)
-        octets += struct.pack(order + "IIII", 1700000000 + time, 0, len(full[:kept]), len(full)) + full[:kept]
-    return octets
-
-
-def fault_of(srp, tmp_path, octets, *words):
-    capture = tmp_path / "broken"
-    capture.write_bytes(octets)
-    return srp("capture", capture, "--port", f"{STAGE}=1", *words, status=2)
-
-
 GOOD = (frame(STAGE, TALKER), None)
 
 
@@ -214,7 +168,8 @@ GOOD = (frame(STAGE, TALKER), None)
     (pcap(GOOD, (frame(STAGE, TALKER), 40)), "packet 2 is cut: 40 of its 60 octets were captured"),
     (pcap(GOOD, (frame(STAGE, TALKER), 13)), "packet 2 is cut: 13 of its 60 octets were captured"),
     (pcap(GOOD, (frame(STAGE, TALKER, tag="8100e002"), 16)), "packet 2 is cut: 16 of its 64 octets were captured"),
-    (pcap((frame(STAGE, "45" * 46, kind="0800"), None)), "none of 1 packets is MSRP (EtherType 22ea); packet 1 has EtherType 0800"),
+    (pcap((frame(STAGE, "45" * 46, kind="0800"), None)),
+     "none of 1 packets is MSRP (EtherType 22ea) or MMRP (EtherType 88f6); packet 1 has EtherType 0800"),
     (pcap(GOOD, link=113), "packet 1 is no Ethernet frame: its link type is 113"),
     (pcap(GOOD, (frame(MIXER, TALKER), None)), f"packet 2 is from {MIXER} on interface 0, which is no port; give --port {MIXER}=N"),
     (pcap((frame(MIXER, TALKER), None), (frame(STAGE[:-1] + "9", TALKER), None)),

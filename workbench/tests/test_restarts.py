@@ -62,6 +62,16 @@ def test_mmrp_frames_are_served_among_the_others(srp, tmp_path):
     assert "refused none" in line
 
 
+def test_the_order_of_mmrp_frames_is_seen_to_matter(srp):
+    """Only the MMRP frame can be served elsewhere: behind both Talkers, first come, first served has them of one age on port 2."""
+    text = ("bridge 8000000000000007 pruning\nports 2 limits 20M 0\nstart\non 1 talker 2\non 1 talker 1\n"
+            "mmrp 2 mac 91e0f0000001 values 2\ntime 100\non 2 listener 1 ready values 2 and domain 5 2 2 values 2\ntime 200\n")
+    [line] = srp("restarts", 60, "-", given=text).splitlines()
+    assert "reserved port 2 A 17088000; 1 forward, 1 failed; refused none" in line
+    lines = srp("restarts", 60, "-", given=text, status=1, environment=WRONG).splitlines()
+    assert len(lines) == 2 and sum(int(line.split()[0]) for line in lines) == 60
+
+
 def test_an_order_as_a_text_gives_the_same_sheet(srp, tmp_path):
     text = tmp_path / "order.txt"
     text.write_text(srp("restarts", 1000, CHOIR, "--order", 17))

@@ -137,6 +137,18 @@ def test_page_at_the_edge(srp):
     assert "code 8: egress port is not AVB capable" in text
 
 
+def test_page_with_pruning(srp, tmp_path):
+    text = tmp_path / "asked.txt"
+    text.write_text("bridge 8000000000000007 pruning\nports 3\nstart\nmmrp 2 mac 91e0f0000000 values 2\nmmrp 3 mac 91e0f0000001\n"
+                    "time 100\nmmrp 3 leaveall mac\n")
+    words = " ".join(Page(srp("sheet", "--html", text)).words)
+    assert "Talkers are pruned" in words and words.count("asked for: ") == 3
+    for said in ("Port 1 asked for: nothing Class A", "Port 2 asked for: 91:e0:f0:00:00:00, 91:e0:f0:00:00:01 Class A",
+                 "Port 3 asked for: 91:e0:f0:00:00:01 (leaving) Class A"):
+        assert said in words
+    assert "pruned" not in srp("sheet", "--html", CHOIR) and "asked for: " not in srp("sheet", "--html", CHOIR)
+
+
 def test_diff(srp, tmp_path):
     other = tmp_path / "other.txt"
     other.write_text((ROOT / CHOIR).read_text().replace("ports 4", "ports 3\nports 1 limits 60000000 0"))
