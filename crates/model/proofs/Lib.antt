@@ -46,6 +46,7 @@ pub mod Pruning
 pub mod FanIn
 pub mod Untouched
 pub mod Why
+pub mod Listed
 pub mod HeldClock
 pub mod Newcomer
 pub mod Opened
