@@ -38,6 +38,7 @@ pub mod Refusals
 pub mod FoundAddresses
 pub mod AddressesKept
 pub mod AddressRefusals
+pub mod WhyRefusals
 pub mod Edge
 pub mod OwnCodes
 pub mod Boundaries
