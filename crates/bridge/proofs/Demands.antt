@@ -12,5 +12,5 @@ pub use Rattle.bridge.proofs.AfterAdvance.{ShowsSettled, report-settled
 pub use Rattle.bridge.proofs.Passing.{Written, Passes, write-passes}
 pub use Rattle.bridge.proofs.Worked.{all-accepted, reports-printed, listener-written, talker-written, wrong-port-refused, early-time-refused}
 pub use Rattle.bridge.proofs.Pruning.{pruned-code, pruning-off-code}
-pub use Rattle.bridge.proofs.Reasons.{Applies, Gives, Lists, Reasoned, why-reasons}
+pub use Rattle.bridge.proofs.Reasons.{Applies, Gives, SubtractedFor, Lists, Reasoned, why-reasons}
 pub use Rattle.bridge.proofs.Demand3.{Takes, Handed, receive-order-code, SameByCode, demand3-code, room-code}

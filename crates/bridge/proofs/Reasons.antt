@@ -7,22 +7,22 @@ use mathlib.Core.Bool.{true}
 use Prim.Native.Nat.{ℕ, _+_, _*_, _-_, _≤_, _<_}
 use native.Mathlib.Omega.{arith}
 use lib.ListN.{length, take, drop}
-use lib.Seq.{take-at, drop-at}
+use lib.Seq.{length-take-le, length-front, take-at, drop-at}
 use Rattle.model.specs.Lists.{Octets}
 use Rattle.model.specs.State.{forwards, Stream, fresh, streamAt, resultAt, sameClass}
 use Rattle.model.specs.Bandwidth.{Claim, moreImportant}
-use Rattle.model.specs.Settling.{sourceOf, streamClass, StepName, stepH, stepI, Step, clear, steps, claim, limitOn, leftFor, settle}
-use Rattle.model.specs.Why.{columnBy, stepOn, listed, plainly, sceneNow, reason, listedOctets}
+use Rattle.model.specs.Settling.{sourceOf, streamClass, StepName, stepH, claim, limitOn, settle}
+use Rattle.model.specs.Why.{columnBy, stepOn, listed, plainly, sceneNow, reason, listedOctets, listSize}
 use Rattle.model.specs.Table.{decode, formed}
 use Rattle.model.specs.Calls.{WhyCall, explained}
-use Rattle.model.proofs.Lists.{all-in, all-at}
+use Rattle.model.proofs.Lists.{all-in, all-at, mem-at}
 use Rattle.model.proofs.Valid.{Valid}
 use Rattle.model.proofs.Tables.{valid-decode}
 use Rattle.model.proofs.ReceiveKeepsForm.{right-port}
 use Rattle.model.proofs.Demand3.{ids-small}
-use Rattle.model.proofs.Why.{Deciding, step-decides, told-h, told-other, step-told}
-use Rattle.model.proofs.Listed.{Subtracted, ages-young, listed-held, listed-exactly, Rises, listed-rises, summed, shortfall-is}
-use Rattle.model.proofs.HeldClock.{advance-gives, advance-forwards}
+use Rattle.model.proofs.Why.{Decided, step-decides, told-h, told-other, step-told}
+use Rattle.model.proofs.Listed.{Subtracted, ages-young, listed-held, listed-exactly, Rises, listed-rises, listed-few, summed, shortfall-is}
+use Rattle.model.proofs.HeldClock.{id-stays, advance-gives, advance-forwards}
 use Rattle.model.proofs.Refusals.{advance-0}
 use Rattle.model.proofs.WhyRefusals.{SoughtAt, seek-held, why-0, why-tells}
 use Rattle.why.proofs.Walking.{length-listed}
@@ -33,30 +33,28 @@ module _ (t : List ℕ) (p k : ℕ) where
   abbrev pub streamNow : Stream
   streamNow = streamAt k (decode t)
 
-  -- the steps before h, the demand, and what is left for it, from what is registered now
-  abbrev pub stepsNow : List Step
-  stepsNow = steps (sceneNow (decode t)) p streamNow
-
+  -- the stream as it stands at step h, from what is registered now, and the limit there
   abbrev pub claimNow : Claim
   claimNow = claim (decode t .settings) (decode t .clock) p streamNow
-
-  abbrev pub leftNow : ℕ
-  leftNow = leftFor (sceneNow (decode t)) (decode t .clock) (decode t .streams) p streamNow
 
   abbrev pub limitNow : ℕ
   limitNow = limitOn (sceneNow (decode t)) (decode t .clock) (decode t .streams) p (streamClass (decode t .settings) streamNow)
 
-  -- "the named step applies and no earlier one does": h where no step before it applies and the demand is above what is left, i where
-  -- none applies and it is not; any other is the first of the steps that applies
-  pub record Applies (n : StepName) : Type 0 where
-    pub refused : (n ≡ stepH) ↔ ((clear stepsNow ≡ true) × (leftNow < claimNow .demand))
-    pub admitted : (n ≡ stepI) ↔ ((clear stepsNow ≡ true) × (claimNow .demand ≤ leftNow))
-    pub before : (n ≡ stepH → ⊥) → (n ≡ stepI → ⊥) → Deciding stepsNow n
+  -- "the named step applies and no earlier one does"
+  abbrev pub Applies : StepName → Type 0
+  Applies n = Decided (sceneNow (decode t)) (decode t .clock) (decode t .streams) p streamNow n
 
-  -- "that would decide in an advance to the held clock": such an advance is accepted, and gives just this step's column
+  -- "that would decide in an advance to the held clock": such an advance is accepted, leaves the stream at its place, and gives it just
+  -- this step's column
   abbrev pub Gives : StepName → Type 0
   Gives n = (number : ℕ) (u : List ℕ) → Advances t (decode t .clock) number u →
-      (number ≡ 0) × (resultAt (streamAt k (decode u)) p .column ≡ columnBy (decode t .settings) (sourceOf streamNow) n)
+      (number ≡ 0)
+      × (streamAt k (decode u) .id ≡ streamNow .id)
+      × (resultAt (streamAt k (decode u)) p .column ≡ columnBy (decode t .settings) (sourceOf streamNow) n)
+
+  -- its demand was subtracted for the stream at another place
+  abbrev pub SubtractedFor : ℕ → Type 0
+  SubtractedFor asked = Subtracted (sceneNow (decode t)) (decode t .clock) (decode t .streams) p (streamAt asked (decode t)) streamNow
 
 -- For step h: the list in the buffer, the limit and the shortfall.
 pub record Lists (t : List ℕ) (p k : ℕ) (buffer : List ℕ) (r : WhyCall) : Type 0 where
@@ -65,11 +63,14 @@ pub record Lists (t : List ℕ) (p k : ℕ) (buffer : List ℕ) (r : WhyCall) : 
   pub count : r .count ≡ length streams
   pub octets : take (r .count * 16) (r .buffer) ≡ listedOctets streams
   pub behind : drop (r .count * 16) (r .buffer) ≡ drop (r .count * 16) buffer
+  pub same-length : length (r .buffer) ≡ length buffer
+  -- "63 x 16 octets" take them all
+  pub few : r .count ≤ 63
   -- "the listed demands are exactly those that were subtracted": the claim of a stream is listed exactly where it is more important, of
   -- the class, Advertise and with a Listener Ready or Ready Failed; and no other is listed
   pub exactly : (j : ℕ) → j < length (decode t .streams) →
-      List·Memᴰ (claimNow t p j) streams ↔ Subtracted (sceneNow (decode t)) (decode t .clock) (decode t .streams) p (streamAt k (decode t)) (streamAt j (decode t))
-  pub no-other : (d : Claim) → List·Memᴰ d streams → (y : Stream) × List·Memᴰ y (decode t .streams) × (d ≡ claim (decode t .settings) (decode t .clock) p y)
+      List·Memᴰ (claimNow t p j) streams ↔ SubtractedFor t p j k
+  pub no-other : (d : Claim) → List·Memᴰ d streams → (j : ℕ) × (j < length (decode t .streams)) × (d ≡ claimNow t p j)
   -- these are the more important streams of the class that an advance to the held clock leaves forwarding there
   pub forwarding : (number : ℕ) (u : List ℕ) → Advances t (decode t .clock) number u → (j : ℕ) → j < length (decode t .streams) →
       List·Memᴰ (claimNow t p j) streams
@@ -112,17 +113,12 @@ module _ (t : List ℕ) (octets : Octets t) (form : formed t ≡ true) where
     abbrev step : StepName
     step = stepOn (sceneNow (decode t)) (decode t .clock) (decode t .streams) p (streamNow t p k)
 
-    applies : Applies t p k step
-    unfolding sceneNow
-    applies =
-        let w = step-decides (sceneNow (decode t)) (decode t .clock) (decode t .streams) p (streamNow t p k) in
-        record { refused = w .refused; admitted = w .admitted; before = w .before }
-
     gives : Gives t p k step
     unfolding reason
     gives n u call = (
       accepted n u call,
-      rw (leaves n u call, ← step-told (sceneNow (decode t)) (decode t .clock) (decode t .streams) p (streamNow t p k)) (advance-gives (decode t) valid k p held here),
+      rw (leaves n u call) (id-stays (decode t) valid k held),
+      rw (leaves n u call, ← step-told (sceneNow (decode t)) (decode t .clock) (decode t .streams) p (streamNow t p k)) (advance-gives (decode t) valid k held p here),
     )
 
     mem : (j : ℕ) → j < length (decode t .streams) → List·Memᴰ (streamAt j (decode t)) (decode t .streams)
@@ -131,40 +127,39 @@ module _ (t : List ℕ) (octets : Octets t) (form : formed t ≡ true) where
     abbrev those : List Claim
     those = listed (sceneNow (decode t)) (decode t .clock) (decode t .streams) p (streamNow t p k)
 
-    abbrev Listed : ℕ → Type 0
-    Listed j = Subtracted (sceneNow (decode t)) (decode t .clock) (decode t .streams) p (streamNow t p k) (streamAt j (decode t))
-
-    exactly : (j : ℕ) → j < length (decode t .streams) → List·Memᴰ (claimNow t p j) those ↔ Listed j
+    exactly : (j : ℕ) → j < length (decode t .streams) → List·Memᴰ (claimNow t p j) those ↔ SubtractedFor t p j k
     unfolding sceneNow
     exactly j h =
         listed-exactly (sceneNow (decode t)) (decode t .clock) (decode t .streams) p (streamNow t p k) (mem k held) (valid .ascending)
         (ids-small _ _ _ (decode t .streams) (valid .streams)) (ages-young (decode t) valid p) (streamAt j (decode t)) (mem j h)
 
-    no-other : (d : Claim) → List·Memᴰ d those → (y : Stream) × List·Memᴰ y (decode t .streams) × (d ≡ claim (decode t .settings) (decode t .clock) p y)
+    no-other : (d : Claim) → List·Memᴰ d those → (j : ℕ) × (j < length (decode t .streams)) × (d ≡ claimNow t p j)
     unfolding sceneNow
     no-other d m =
         let w =
         listed-held (sceneNow (decode t)) (decode t .clock) (decode t .streams) p (streamNow t p k) (mem k held) (valid .ascending)
         (ids-small _ _ _ (decode t .streams) (valid .streams)) (ages-young (decode t) valid p) d m in
-        (w .0, w .1, w .2)
+        let j = mem-at (w .0) (fresh 0) (decode t .streams) (w .1) in
+        (j .0, j .1, rw (j .2) (w .2))
 
     forwarding : (n : ℕ) (u : List ℕ) → Advances t (decode t .clock) n u → (j : ℕ) → j < length (decode t .streams) →
-        Listed j
+        SubtractedFor t p j k
         ↔ ((moreImportant (claimNow t p j) (claimNow t p k) ≡ true)
         × (sameClass (streamClass (decode t .settings) (streamAt j (decode t))) (streamClass (decode t .settings) (streamAt k (decode t))) ≡ true)
         × (resultAt (streamAt j (decode u)) p .entry ≡ forwards))
     unfolding sceneNow
     forwarding n u call j h = (
-      λ w. (w .important, w .class, rw (leaves n u call) (advance-forwards (decode t) valid j p h here .1 (w .column, w .listener))),
+      λ w. (w .important, w .class, rw (leaves n u call) (advance-forwards (decode t) valid j h p here .1 (w .column, w .listener))),
       λ a.
-          let f = advance-forwards (decode t) valid j p h here .0 (rw (leaves n u call) at (a .2)) in
+          let f = advance-forwards (decode t) valid j h p here .0 (rw (leaves n u call) at (a .2)) in
           record { important = a .0; class = a .1; column = f .0; listener = f .1 },
     )
 
-    lists : (buffer : List ℕ) → step ≡ stepH → Lists t p k buffer (explained buffer (reason (decode t) p (streamNow t p k)))
+    lists : (buffer : List ℕ) → listSize ≤ length buffer → step ≡ stepH → Lists t p k buffer (explained buffer (reason (decode t) p (streamNow t p k)))
     unfolding reason explained sceneNow
-    lists buffer e =
+    lists buffer room e =
         let size : length (listedOctets those) ≡ length those * 16 = length-listed those in
+        let few : length those ≤ 63 = omega (arith, listed-few (sceneNow (decode t)) (decode t .clock) (decode t .streams) p (streamNow t p k) (mem k held), valid .at-most-64) in
         let short = shortfall-is (sceneNow (decode t)) (decode t .clock) (decode t .streams) p (streamNow t p k) e in
         let told = told-h (sceneNow (decode t)) (decode t .clock) (decode t .streams) p (streamNow t p k) e in
         rw told
@@ -173,6 +168,10 @@ module _ (t : List ℕ) (octets : Octets t) (form : formed t ≡ true) where
           count = refl;
           octets = take-at (listedOctets those) (drop (length (listedOctets those)) buffer) (length those * 16) size;
           behind = drop-at (listedOctets those) (drop (length (listedOctets those)) buffer) (length those * 16) size ∙ ap (λ (n : ℕ). drop n buffer) size;
+          same-length =
+              length-front buffer (listedOctets those) (length (listedOctets those))
+              (sym (length-take-le (length (listedOctets those)) buffer (omega (arith, size, few, room))));
+          few = few;
           exactly = exactly;
           no-other = no-other;
           forwarding = λ n u call j h. Iff·trans (exactly j h) (forwarding n u call j h);
@@ -198,8 +197,8 @@ why-reasons t id p buffer r octets call z =
       place = k;
       held = w .within;
       named = rw (w .there) (w .named);
-      applies = rw same (applies t octets form (p - 1) k here (w .within));
+      applies = rw same (step-decides (sceneNow (decode t)) (decode t .clock) (decode t .streams) (p - 1) (streamNow t (p - 1) k));
       gives = rw same (gives t octets form (p - 1) k here (w .within));
-      lists = λ e. rw told (lists t octets form (p - 1) k here (w .within) buffer (sym same ∙ e));
+      lists = λ e. rw told (lists t octets form (p - 1) k here (w .within) buffer (h .1 .2) (sym same ∙ e));
       nothing-more = λ n. rw (told, told-other (sceneNow (decode t)) (decode t .clock) (decode t .streams) (p - 1) (streamNow t (p - 1) k) (λ q. n (same ∙ q))) (refl, refl, refl, refl);
     }

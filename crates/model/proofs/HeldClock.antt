@@ -108,28 +108,34 @@ forwards-exactly c d = (there c d, λ a. rw (a .0, a .1))
     there advertise d e = (refl, heard (isReady d) e)
     there (failed b n) d e = absurd (filters-only e)
 
--- An advance to the held clock gives just its column.
-module _ (b : Bridge) (v : Valid b) (k p : ℕ) (h : k < length (b .streams)) (e : p < 8) where
+-- An advance to the held clock leaves each stream at its place, and gives just its column.
+module _ (b : Bridge) (v : Valid b) (k : ℕ) (h : k < length (b .streams)) where
   settled-streams : settle (b .clock) b .streams ≡ map (decide (sceneNow b) (b .clock) (b .streams)) (b .streams)
   unfolding settle sceneNow
   settled-streams = rw (streams-stay (b .settings) (b .clock) _ (b .streams) (v .streams))
 
-  -- what it decides of a stream on a port, from what is registered now
-  pub result-then : resultAt (streamAt k (settle (b .clock) b)) p ≡ decideAt (sceneNow b) (b .clock) (b .streams) (streamAt k b) p
-  unfolding resultAt decide
-  result-then =
-      rw (
-        settled-streams,
-        getD-map (decide (sceneNow b) (b .clock) (b .streams)) (b .streams) k (fresh 0) (fresh 0) h,
-        at-place (decideAt (sceneNow b) (b .clock) (b .streams) (streamAt k b)) p unsettled e,
-      )
+  stream-then : streamAt k (settle (b .clock) b) ≡ decide (sceneNow b) (b .clock) (b .streams) (streamAt k b)
+  stream-then = rw settled-streams (getD-map (decide (sceneNow b) (b .clock) (b .streams)) (b .streams) k (fresh 0) (fresh 0) h)
 
-  pub advance-gives : resultAt (streamAt k (settle (b .clock) b)) p .column ≡ columnBy (b .settings) (sourceOf (streamAt k b)) (reason b p (streamAt k b) .step)
-  unfolding sceneNow reason decideAt
-  advance-gives = ap (λ (y : Result). y .column) result-then ∙ column-named (sceneNow b) p (streamAt k b) (b .clock) (b .streams) ∙ ap (columnBy (b .settings) (sourceOf (streamAt k b))) (sym (step-told (sceneNow b) (b .clock) (b .streams) p (streamAt k b)))
+  pub id-stays : streamAt k (settle (b .clock) b) .id ≡ streamAt k b .id
+  unfolding decide
+  id-stays = ap (λ (y : Stream). y .id) stream-then
 
-  -- and it forwards exactly where the stream reserves
-  pub advance-forwards : (resultAt (streamAt k (settle (b .clock) b)) p .entry ≡ forwards)
-      ↔ ((columnOf (sceneNow b) (b .clock) (b .streams) p (streamAt k b) ≡ advertise) × (isReady (registered (cellAt (streamAt k b) p)) ≡ true))
-  unfolding decideAt
-  advance-forwards = rw result-then (forwards-exactly (columnOf (sceneNow b) (b .clock) (b .streams) p (streamAt k b)) (registered (cellAt (streamAt k b) p)))
+  module _ (p : ℕ) (e : p < 8) where
+    -- what it decides of a stream on a port, from what is registered now
+    result-then : resultAt (streamAt k (settle (b .clock) b)) p ≡ decideAt (sceneNow b) (b .clock) (b .streams) (streamAt k b) p
+    unfolding resultAt decide
+    result-then = rw stream-then (at-place (decideAt (sceneNow b) (b .clock) (b .streams) (streamAt k b)) p unsettled e)
+
+    pub advance-gives : resultAt (streamAt k (settle (b .clock) b)) p .column ≡ columnBy (b .settings) (sourceOf (streamAt k b)) (reason b p (streamAt k b) .step)
+    unfolding sceneNow reason decideAt
+    advance-gives =
+        ap (λ (y : Result). y .column) result-then
+        ∙ column-named (sceneNow b) p (streamAt k b) (b .clock) (b .streams)
+        ∙ ap (columnBy (b .settings) (sourceOf (streamAt k b))) (sym (step-told (sceneNow b) (b .clock) (b .streams) p (streamAt k b)))
+
+    -- and it forwards exactly where the stream reserves
+    pub advance-forwards : (resultAt (streamAt k (settle (b .clock) b)) p .entry ≡ forwards)
+        ↔ ((columnOf (sceneNow b) (b .clock) (b .streams) p (streamAt k b) ≡ advertise) × (isReady (registered (cellAt (streamAt k b) p)) ≡ true))
+    unfolding decideAt
+    advance-forwards = rw result-then (forwards-exactly (columnOf (sceneNow b) (b .clock) (b .streams) p (streamAt k b)) (registered (cellAt (streamAt k b) p)))

@@ -4,21 +4,21 @@ use mathlib.Core.Path.{_≡_, refl, sym, ap, _∙_}
 use mathlib.Core.Logic.{_↔_, Iff·rfl, Iff·trans, Iff·and, _⊎_, inl, inr}
 use mathlib.Core.List.{List, [], _∷_, _++_, List·Memᴰ, List·Memᴰ·head, List·Memᴰ·tail, List·Memᴰ·not-nil, List·Memᴰ·cases-cons, List·Memᴰ·append-cases, Memᴰ·append-left, Memᴰ·append-right, Memᴰ·map}
 use mathlib.Core.Bool.{Bool, true, false, cond, _&&_, false≢true}
-use Prim.Native.Nat.{ℕ, _+_, _-_, _^_, _≤_, _<_}
+use Prim.Native.Nat.{ℕ, suc, _+_, _-_, _^_, _≤_, _<_}
 use native.Mathlib.Omega.{arith}
-use lib.ListN.{length}
+use lib.ListN.{length, length-append}
 use lib.Dec.{ltb, leb}
 use borrow.Author.Tests.{lt-ltb, ltb-true}
 use Rattle.model.specs.Lists.{All, keep}
 use Rattle.model.specs.State.{Column, none, advertise, failed, Stream, Bridge, unsettled, Class, sameClass, cellAt, resultAt}
 use Rattle.model.specs.Registrations.{ids}
-use Rattle.model.specs.Bandwidth.{Claim, moreImportant, key, above, sort, share, reserved, remains, admitted}
+use Rattle.model.specs.Bandwidth.{Claim, moreImportant, key, above, insert, sort, share, reserved, remains, admitted}
 use Rattle.model.specs.Settling.{Scene, ageOf, streamClass, registered, isReady, isAdvertise, stepH, clear, steps, claim, claims, limitOn, leftFor, columnOf}
 use Rattle.model.specs.Why.{stepOn, reserving, listed, reasonOn}
 use Rattle.model.proofs.Lists.{all-append, all-keep, all-map, all-getD, all-in, mem-keep, and-left, and-right, and-both}
 use Rattle.model.proofs.Valid.{Rising, ValidResult, ValidStream, Valid}
 use Rattle.model.proofs.AdvanceKeepsForm.{age-valid, unsettled-valid}
-use Rattle.model.proofs.Admission.{Distinct, Falls, Cut, cut, above-sort, all-sort, all-above, all-mem, mem-sort, falls-sort, within}
+use Rattle.model.proofs.Admission.{Distinct, Falls, Two, lo, hi, two, Cut, cut, above-in, above-out, above-sort, all-sort, all-above, all-mem, mem-sort, falls-sort, within}
 use Rattle.model.proofs.ColumnRule.{Small, claims-distinct, column-agrees}
 use Rattle.model.proofs.Importance.{importance}
 use Rattle.model.proofs.Why.{step-decides, told-h}
@@ -307,3 +307,91 @@ listed-rises sc now s p x r a =
     let cs = claims sc now p c s in
     let k = key (claim (sc .settings) now p x) in
     reserving-rises _ (sort (above k cs)) (rw (above-sort k cs) at (falls-above k (sort cs) (falls-sort cs (claims-distinct sc now p c s r a))))
+
+-- How many there are.
+
+length-insert : (c : Claim) (cs : List Claim) → length (insert c cs) ≡ suc (length cs)
+unfolding insert
+length-insert c [] = refl
+length-insert c (d ∷ cs) = go (ltb (key d) (key c)) (length-insert c cs)
+  where
+    go : (b : Bool) → length (insert c cs) ≡ suc (length cs) → length (cond b (c ∷ d ∷ cs) (d ∷ insert c cs)) ≡ suc (suc (length cs))
+    go true e = refl
+    go false e = ap suc e
+
+pub length-sort : (cs : List Claim) → length (sort cs) ≡ length cs
+unfolding sort
+length-sort [] = refl
+length-sort (c ∷ cs) = length-insert c (sort cs) ∙ ap suc (length-sort cs)
+
+pub length-reserving : (limit : ℕ) (cs : List Claim) → length (reserving limit cs) ≤ length cs
+unfolding reserving
+length-reserving limit [] = omega arith
+length-reserving limit (c ∷ cs) =
+    let e = length-append (reserving limit cs) (keep (leb (c .demand) (limit - reserved limit cs) && c .ready) c []) in
+    omega (arith, e, length-reserving limit cs, one (leb (c .demand) (limit - reserved limit cs) && c .ready))
+  where
+    one : (b : Bool) → length (keep b c []) ≤ 1
+    one true = omega arith
+    one false = omega arith
+
+above-few : (n : ℕ) (cs : List Claim) → length (above n cs) ≤ length cs
+unfolding above
+above-few n [] = omega arith
+above-few n (d ∷ cs) = go (ltb (key d) n) (above-few n cs)
+  where
+    go : (b : Bool) → length (above n cs) ≤ length cs → length (keep b d (above n cs)) ≤ suc (length cs)
+    go true h = omega arith
+    go false h = omega arith
+
+pub above-fewer : (n : ℕ) (c : Claim) (cs : List Claim) → List·Memᴰ c cs → n ≤ key c → length (above n cs) < length cs
+above-fewer n c (d ∷ cs) (List·Memᴰ·head e) h =
+    let q : n ≤ key d = rw e at h in
+    rw (above-out n d cs q) (omega (arith, above-few n cs))
+above-fewer n c (d ∷ cs) (List·Memᴰ·tail m) h = go (two (key d) n) (above-fewer n c cs m h)
+  where
+    go : Two (key d) n → length (above n cs) < length cs → length (above n (d ∷ cs)) < suc (length cs)
+    go (lo g) ih = rw (above-in n d cs g) (omega arith)
+    go (hi g) ih = rw (above-out n d cs g) (omega arith)
+
+pub claims-few : (sc : Scene) (now p : ℕ) (c : Class) (s : List Stream) → length (claims sc now p c s) ≤ length s
+unfolding claims
+claims-few sc now p c [] = omega arith
+claims-few sc now p c (x ∷ s) = go (clear (steps sc p x) && sameClass (streamClass (sc .settings) x) c) (claims-few sc now p c s)
+  where
+    go : (b : Bool) → length (claims sc now p c s) ≤ length s → length (keep b (claim (sc .settings) now p x) (claims sc now p c s)) ≤ suc (length s)
+    go true h = omega arith
+    go false h = omega arith
+
+claims-fewer : (sc : Scene) (now p : ℕ) (c : Class) (x : Stream) (s : List Stream) → List·Memᴰ x s → reaches sc now p c x ≡ false → length (claims sc now p c s) < length s
+unfolding claims
+claims-fewer sc now p c x (y ∷ s) (List·Memᴰ·head e) h =
+    let q : reaches sc now p c y ≡ false = rw e at h in
+    rw q (omega (arith, claims-few sc now p c s))
+claims-fewer sc now p c x (y ∷ s) (List·Memᴰ·tail m) h = go (reaches sc now p c y) (claims-fewer sc now p c x s m h)
+  where
+    go : (b : Bool) → length (claims sc now p c s) < length s → length (keep b (claim (sc .settings) now p y) (claims sc now p c s)) < suc (length s)
+    go true ih = omega arith
+    go false ih = omega arith
+
+-- the stream itself is not among them, so that "63 x 16 octets" take them all
+pub listed-few : (sc : Scene) (now : ℕ) (s : List Stream) (p : ℕ) (x : Stream) → List·Memᴰ x s → length (listed sc now s p x) < length s
+unfolding listed
+listed-few sc now s p x m =
+    let c = streamClass (sc .settings) x in
+    let k = key (claim (sc .settings) now p x) in
+    omega (arith, length-reserving (limitOn sc now s p c) (sort (above k (claims sc now p c s))), length-sort (above k (claims sc now p c s)), go (reaches sc now p c x) refl)
+  where
+    go : (b : Bool) → reaches sc now p (streamClass (sc .settings) x) x ≡ b
+        → length (above (key (claim (sc .settings) now p x)) (claims sc now p (streamClass (sc .settings) x) s)) < length s
+    go true e =
+        let c = streamClass (sc .settings) x in
+        let cs = claims sc now p c s in
+        omega (
+          arith,
+          above-fewer (key (claim (sc .settings) now p x)) (claim (sc .settings) now p x) cs (mem-claims sc now p c (claim (sc .settings) now p x) s .1 (x, m, e, refl)) (omega arith),
+          claims-few sc now p c s,
+        )
+    go false e =
+        let c = streamClass (sc .settings) x in
+        omega (arith, above-few (key (claim (sc .settings) now p x)) (claims sc now p c s), claims-fewer sc now p c x s m e)

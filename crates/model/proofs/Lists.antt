@@ -1,7 +1,7 @@
 -- Laws of lists, tests and `All`.
 use mathlib.Core.Path.{_≡_, refl, sym, ap, _∙_}
 use mathlib.Core.Logic.{_↔_, _⊎_, inl, inr}
-use mathlib.Core.List.{List, [], _∷_, _++_, map, List·Memᴰ, List·Memᴰ·head, List·Memᴰ·tail, List·Memᴰ·cases-cons}
+use mathlib.Core.List.{List, [], _∷_, _++_, map, List·Memᴰ, List·Memᴰ·head, List·Memᴰ·tail, List·Memᴰ·not-nil, List·Memᴰ·cases-cons}
 use mathlib.Core.Bool.{Bool, true, false, cond, _&&_, true≢false, false≢true}
 use Prim.Native.Nat.{ℕ, zero, suc, _+_, _≤_, _<_}
 use native.Mathlib.Omega.{arith}
@@ -93,6 +93,16 @@ module _ {A : Type 0} where
       back : ((false ≡ true) × (y ≡ x)) ⊎ List·Memᴰ y l → List·Memᴰ y l
       back (inl a) = absurd (false≢true (a .0))
       back (inr m) = m
+
+-- and has a place there
+module _ {A : Type 0} (x d : A) where
+  pub mem-at : (l : List A) → List·Memᴰ x l → (k : ℕ) × (k < length l) × (getD l k d ≡ x)
+  mem-at [] m = absurd (List·Memᴰ·not-nil m)
+  mem-at (y ∷ l) m = go (List·Memᴰ·cases-cons m) (mem-at l)
+    where
+      go : (x ≡ y) ⊎ List·Memᴰ x l → (List·Memᴰ x l → (k : ℕ) × (k < length l) × (getD l k d ≡ x)) → (k : ℕ) × (k < suc (length l)) × (getD (y ∷ l) k d ≡ x)
+      go (inl e) ih = (0, omega arith, sym e)
+      go (inr n) ih = let w = ih n in (suc (w .0), omega (arith, w .1), w .2)
 
 -- What a list made from a function has at a place.
 module _ {A : Type 0} (f : ℕ → A) where

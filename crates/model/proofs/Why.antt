@@ -133,7 +133,7 @@ pub record Deciding (l : List Step) (n : StepName) : Type 0 where
   pub applies : step .test ≡ true
   pub named : step .name ≡ n
 
-pub deciding : (l : List Step) (n : StepName) → clear l ≡ false → Deciding l (firstName l n)
+deciding : (l : List Step) (n : StepName) → clear l ≡ false → Deciding l (firstName l n)
 unfolding clear firstName
 deciding [] n h = absurd (true≢false h)
 deciding (t ∷ l) n h = go (t .test) refl h (deciding l n)
@@ -172,21 +172,22 @@ module _ (sc : Scene) (now : ℕ) (s : List Stream) (p : ℕ) (x : Stream) where
           let same = name-stays (lastName demanded left) (steps sc p x) other in
           earlier c (rw same (steps-not-h sc p x stepI (unfold sameStep letter in refl))) (rw same other)
 
-  -- h and i decide where no step before them applies, by the demand and what is left; any other applies itself
-  pub record Decided : Type 0 where
-    pub refused : (decides ≡ stepH) ↔ ((clear (steps sc p x) ≡ true) × (left < demanded))
-    pub admitted : (decides ≡ stepI) ↔ ((clear (steps sc p x) ≡ true) × (demanded ≤ left))
-    pub before : (decides ≡ stepH → ⊥) → (decides ≡ stepI → ⊥) → Deciding (steps sc p x) decides
+  -- A step decides: h where no step before it applies and the demand is above what is left, i where none applies and it is not; any
+  -- other is the first that applies.
+  pub record Decided (n : StepName) : Type 0 where
+    pub refused : (n ≡ stepH) ↔ ((clear (steps sc p x) ≡ true) × (left < demanded))
+    pub admitted : (n ≡ stepI) ↔ ((clear (steps sc p x) ≡ true) × (demanded ≤ left))
+    pub before : (n ≡ stepH → ⊥) → (n ≡ stepI → ⊥) → Deciding (steps sc p x) n
 
   apart : stepH ≡ stepI → ⊥
   unfolding letter
   apart e = let n : letter stepH ≡ letter stepI = ap letter e in absurd (omega arith)
 
-  pub step-decides : Decided
+  pub step-decides : Decided decides
   unfolding stepOn sameStep letter
   step-decides = go way
     where
-      go : Way → Decided
+      go : Way → Decided decides
       go (lacking c h e) = record {
         refused = (λ q. (c, h), λ a. e);
         admitted = (λ q. absurd (apart (sym e ∙ q)), λ a. absurd (omega (arith, a .1)));
