@@ -14,7 +14,7 @@
  * - A pointer and its length name octets that are there: a length that is too great makes the call read, and for a table or buffer
  *   write, what is not the caller's. A length that is too small is refused by number, as any other wrong length.
  * - A pointer may be NULL where its length is 0, and never elsewhere: a table is then refused with 12, settings with 11, a PDU with
- *   2 and a buffer with 10. The pointers without a length (length, next, reported) are never NULL.
+ *   2 and a buffer with 10. The pointers without a length (length, next, reported, explained) are never NULL.
  * - What the pointers of one call name does not overlap, and nobody else changes it while the call runs.
  */
 #ifndef SRP_H

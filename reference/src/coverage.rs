@@ -377,6 +377,7 @@ const ROWS: &[&str] = &[
     "gap of 22 between two vectors",
     "gap of 23 between two vectors",
     "gap of 24 between two vectors",
+    "gap of 25 between two vectors",
     "Ignore for a stream that is held",
     "Ignore for a stream declared as Talker",
     "cutting with fewer vectors than another of as many octets",
@@ -548,6 +549,8 @@ const ROWS: &[&str] = &[
     "number 14 with addresses joined and left at once",
     "number 14 with a LeaveAll in the PDU",
     "LeaveAll of type 1 that leaves addresses",
+    "LeaveAll of MSRP's type 1 or 2 beside addresses",
+    "LeaveAll of MMRP beside Talkers that aren't leaving",
     "address leaving begun by Lv",
     "address leaving begun by LeaveAll",
     "address leaving begun again, the first time stays",
@@ -785,6 +788,7 @@ impl Coverage {
                     self.domains(&before, after, port as usize, &pdu);
                     self.latencies(&before, after, port as usize, &pdu);
                     self.passed_over(octets[0], &pdu, &before);
+                    self.leaves_addresses(&before, port as usize, &pdu);
                 }
                 let held = after.registrations.streams.len();
                 if held > held_before {

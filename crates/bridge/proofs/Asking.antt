@@ -1,23 +1,21 @@
--- What why answers, by the tests of the code: the refusals in their order, the stream by its StreamID, and that nothing expires.
+-- What why answers, by the tests of the code: the stream by its StreamID, and a refusal by its number.
 use mathlib.Core.Path.{_≡_, refl, sym, ap, _∙_}
 use mathlib.Core.List.{List, [], _∷_}
 use mathlib.Core.Bool.{Bool, true, false, cond}
-use Prim.Native.Nat.{ℕ, zero, suc, _+_, _-_, _≤_, _<_}
+use Prim.Native.Nat.{ℕ, suc, _-_, _≤_, _<_}
 use native.Mathlib.Omega.{arith}
 use lib.ListN.{length, getD}
 use lib.Dec.{ltb, eqb}
-use borrow.Author.Tests.{lt-ltb, le-ltb, ltb-true, eq-eqb, ne-eqb, eqb-true, eqb-false}
+use borrow.Author.Tests.{ltb-true, eq-eqb, ne-eqb, eqb-true, eqb-false}
 use Rattle.model.specs.Lists.{All}
-use Rattle.model.specs.State.{Stream, fresh, streamAt}
+use Rattle.model.specs.State.{Stream, fresh}
 use Rattle.model.specs.Registrations.{ids}
-use Rattle.model.specs.Frames.{wrongPort}
-use Rattle.model.specs.Table.{formed, decode}
 use Rattle.model.specs.Laid.{Ascending}
-use Rattle.model.specs.Why.{reason, Sought, notHeld, heldAs, seek, listSize}
-use Rattle.model.specs.Calls.{WhyCall, refusedWhy, explained, whyHeld, whyOn}
+use Rattle.model.specs.Why.{notHeld, heldAs, seek}
+use Rattle.model.specs.Calls.{refusedWhy, whyOn}
 use Rattle.model.proofs.Lists.{all-map}
+use Rattle.model.proofs.WhyRefusals.{why-refused}
 use Rattle.table.specs.Find.{foundAt}
-use Rattle.table.specs.declared.Found.{Found}
 use Rattle.table.specs.declared.Found.the-variants.{At, Gap}
 
 -- The stream by its StreamID, among ascending ones.
@@ -69,26 +67,6 @@ not-found id (x ∷ s) r j k e = go (ltb id (x .id)) (eqb id (x .id)) refl refl 
     go false true l f e ih = absurd (not-both k j (sym e))
     go false false l f e ih = rw (ne-eqb (x .id) id (λ q. eqb-false id (x .id) f (sym q))) (ih e)
 
-module _ (t : List ℕ) (id p : ℕ) (buffer : List ℕ) where
-  pub why-unformed : formed t ≡ false → refusedWhy 12 buffer ≡ whyOn t id p buffer
-  unfolding whyOn
-  why-unformed h = sym (rw h)
-
-  module _ (h : formed t ≡ true) where
-    pub why-wrong-port : wrongPort (decode t .settings) p ≡ true → refusedWhy 1 buffer ≡ whyOn t id p buffer
-    unfolding whyOn
-    why-wrong-port w = sym (rw (h, w))
-
-    module _ (w : wrongPort (decode t .settings) p ≡ false) where
-      pub why-not-held : seek id (decode t .streams) ≡ notHeld → refusedWhy 15 buffer ≡ whyOn t id p buffer
-      unfolding whyOn whyHeld
-      why-not-held e = sym (rw (h, w, e))
-
-      module _ (x : Stream) (e : seek id (decode t .streams) ≡ heldAs x) where
-        pub why-short : length buffer < listSize → refusedWhy 10 buffer ≡ whyOn t id p buffer
-        unfolding whyOn whyHeld
-        why-short l = sym (rw (h, w, e, lt-ltb (length buffer) listSize l))
-
-        pub why-done : listSize ≤ length buffer → explained buffer (reason (decode t) (p - 1) x) ≡ whyOn t id p buffer
-        unfolding whyOn whyHeld
-        why-done l = sym (rw (h, w, e, le-ltb (length buffer) listSize l))
+-- A refusal, by its number.
+pub refuses : (t : List ℕ) (id p : ℕ) (buffer : List ℕ) (n : ℕ) → (n ≡ 0 → ⊥) → whyOn t id p buffer .number ≡ n → refusedWhy n buffer ≡ whyOn t id p buffer
+refuses t id p buffer n z e = sym (why-refused t id p buffer (λ q. z (sym e ∙ q)) ∙ ap (λ (m : ℕ). refusedWhy m buffer) e)

@@ -2,9 +2,9 @@
 -- asks anything of its arguments. Here stands what its answer is, for each call one record and one theorem whose premise is that
 -- call's contract (specs/Promises), so it holds of the code whatever the code is: the numbers that may be given, each exactly when
 -- 01's table or 02 says; a refusal leaves every octet of table and buffer, and gives zero or none for every other part of the answer;
--- an accepted call leaves a table that keeps the form rules. write and report are lent the table to read only, so their contracts
--- give none back. (That table, settings and PDU are octets, and a time is of 32 bits, is what the calls' types say.)
-use mathlib.Core.Path.{_≡_, sym, _∙_}
+-- an accepted call leaves a table that keeps the form rules. write, report and why are lent the table to read only, so their
+-- contracts give none back. (That table, settings and PDU are octets, and a time is of 32 bits, is what the calls' types say.)
+use mathlib.Core.Path.{_≡_}
 use mathlib.Core.Logic.{_↔_, _⊎_}
 use mathlib.Core.List.{List, [], _∷_}
 use mathlib.Core.Bool.{true, false}
@@ -19,16 +19,16 @@ use Rattle.model.specs.AddressFrames.{addressWalk}
 use Rattle.model.specs.Declarations.{declarations}
 use Rattle.model.specs.Reports.{Report, refusedReport}
 use Rattle.model.specs.State.{Stream}
-use Rattle.model.specs.Why.{notHeld, heldAs, seek, reason, listSize}
-use Rattle.model.specs.Calls.{WhyCall, refusedWhy, explained}
+use Rattle.model.specs.Why.{notHeld, heldAs, seek, listSize}
+use Rattle.model.specs.Calls.{WhyCall, refusedWhy}
 use Rattle.model.specs.Table.{decode, clockField, formed, settingsFormed}
 use Rattle.model.proofs.FormKept.{Kept, start-formed, receive-formed, mmrp-formed, advance-formed}
 use Rattle.model.proofs.Refusals.{OneOf, OnPort}
 use Rattle.model.proofs.Refusals
 use Rattle.model.proofs.AddressRefusals.{heldOn}
 use Rattle.model.proofs.AddressRefusals
+use Rattle.model.proofs.WhyRefusals
 use Rattle.bridge.specs.Promises.{Starts, Receives, ReceivesMmrp, Advances, Writes, Reports, Explains}
-use Rattle.bridge.proofs.Asking.{why-unformed, why-wrong-port, why-not-held, why-short, why-done}
 
 -- Start with the settings s on the table t gives the number n and leaves the table u.
 pub record StartAnswers (t s : List ℕ) (n : ℕ) (u : List ℕ) : Type 0 where
@@ -169,21 +169,26 @@ report-answers t p place r call = record {
 }
 
 -- Why of a StreamID on port p, with a buffer, gives the answer r: that of the code, with the buffer that it leaves, by `whyShown` (crate
--- why). A refusal leaves every octet of the buffer, with zero or none for all else.
+-- why).
 pub record WhyAnswers (t : List ℕ) (id p : ℕ) (buffer : List ℕ) (r : WhyCall) : Type 0 where
-  pub table : formed t ≡ false → r ≡ refusedWhy 12 buffer
-  pub port : formed t ≡ true → wrongPort (decode t .settings) p ≡ true → r ≡ refusedWhy 1 buffer
-  pub not-held : OnPort t p → seek id (decode t .streams) ≡ notHeld → r ≡ refusedWhy 15 buffer
-  pub short : OnPort t p → (x : Stream) → seek id (decode t .streams) ≡ heldAs x → length buffer < listSize → r ≡ refusedWhy 10 buffer
-  pub accepted : OnPort t p → (x : Stream) → seek id (decode t .streams) ≡ heldAs x → listSize ≤ length buffer → r ≡ explained buffer (reason (decode t) (p - 1) x)
+  pub numbers : OneOf (0 ∷ 1 ∷ 10 ∷ 12 ∷ 15 ∷ []) (r .number)
+  pub table : (r .number ≡ 12) ↔ (formed t ≡ false)
+  pub port : (r .number ≡ 1) ↔ ((formed t ≡ true) × (wrongPort (decode t .settings) p ≡ true))
+  pub not-held : (r .number ≡ 15) ↔ (OnPort t p × (seek id (decode t .streams) ≡ notHeld))
+  pub short : (r .number ≡ 10) ↔ (OnPort t p × ((x : Stream) × (seek id (decode t .streams) ≡ heldAs x) × (length buffer < listSize)))
+  pub accepted : (r .number ≡ 0) ↔ (OnPort t p × ((x : Stream) × (seek id (decode t .streams) ≡ heldAs x) × (listSize ≤ length buffer)))
+  -- zero or none for all else, and the buffer as it was
+  pub nothing-else : (r .number ≡ 0 → ⊥) → r ≡ refusedWhy (r .number) buffer
 
 pub why-answers : (t : List ℕ) (id p : ℕ) (buffer : List ℕ) (r : WhyCall) → Explains t id p buffer r → WhyAnswers t id p buffer r
 why-answers t id p buffer r call = record {
-  table = λ h. call ∙ sym (why-unformed t id p buffer h);
-  port = λ h w. call ∙ sym (why-wrong-port t id p buffer h w);
-  not-held = λ o e. call ∙ sym (why-not-held t id p buffer (o .0) (o .1) e);
-  short = λ o x e l. call ∙ sym (why-short t id p buffer (o .0) (o .1) x e l);
-  accepted = λ o x e l. call ∙ sym (why-done t id p buffer (o .0) (o .1) x e l);
+  numbers = rw call (WhyRefusals.why-numbers t id p buffer);
+  table = rw call (WhyRefusals.why-12 t id p buffer);
+  port = rw call (WhyRefusals.why-1 t id p buffer);
+  not-held = rw call (WhyRefusals.why-15 t id p buffer);
+  short = rw call (WhyRefusals.why-10 t id p buffer);
+  accepted = rw call (WhyRefusals.why-0 t id p buffer);
+  nothing-else = rw call (WhyRefusals.why-refused t id p buffer);
 }
 
 -- "no table left by start and accepted calls breaks one": the tables that an accepted start and calls after it leave, refused ones

@@ -4,10 +4,13 @@
 --    nothing; no table left by start and the calls after it breaks a form rule.
 -- 2. Registrations, decisions, reports and written PDUs are what the rules give; and the worked example by calls.
 -- 3. The order among ports never matters.
-pub use Rattle.bridge.proofs.Demand1.{StartAnswers, start-answers, ReceiveAnswers, receive-answers, MmrpAnswers, mmrp-answers, AdvanceAnswers, advance-answers, WriteAnswers, write-answers, ReportAnswers, report-answers, Left, left-formed}
+--
+-- Beside them what 02 asks of talker pruning, and of why a stream was refused.
+pub use Rattle.bridge.proofs.Demand1.{StartAnswers, start-answers, ReceiveAnswers, receive-answers, MmrpAnswers, mmrp-answers, AdvanceAnswers, advance-answers, WriteAnswers, write-answers, ReportAnswers, report-answers, WhyAnswers, why-answers, Left, left-formed}
 pub use Rattle.bridge.proofs.Demand2.{start-leaves, Registers, receive-registers, RegistersAddresses, mmrp-registers, Decides, advance-decides, Tells, write-tells, Shows, report-shows}
 pub use Rattle.bridge.proofs.AfterAdvance.{ShowsSettled, report-settled}
 pub use Rattle.bridge.proofs.Passing.{Written, Passes, write-passes}
 pub use Rattle.bridge.proofs.Worked.{all-accepted, reports-printed, listener-written, talker-written, wrong-port-refused, early-time-refused}
 pub use Rattle.bridge.proofs.Pruning.{pruned-code, pruning-off-code}
+pub use Rattle.bridge.proofs.Reasons.{Applies, Gives, SubtractedFor, Lists, Reasoned, why-reasons}
 pub use Rattle.bridge.proofs.Demand3.{Takes, Handed, receive-order-code, SameByCode, demand3-code, room-code}

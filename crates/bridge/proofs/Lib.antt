@@ -12,6 +12,7 @@ pub mod Demand3
 pub mod AfterAdvance
 pub mod Untouched
 pub mod Pruning
+pub mod Reasons
 pub mod Passing
 pub mod Worked
 pub mod Demands

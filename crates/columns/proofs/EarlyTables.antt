@@ -120,7 +120,7 @@ module _ {table : List ℕ} {k t : ℕ} (i : TalkerAt table k t) where
     pub settled-inbound : (set : ℕ) → set ≡ setTo (isInbound (sceneOf (decode table) .inbound)) 8 → set ≡ setTo (isInbound (sceneOf (decode u) .inbound)) 8
     settled-inbound = inbound-kept (stands (i .stands)) (settledAs f x₀) settled-fits refl refl u settled-there
 
-    settled-at : (j : ℕ) → j < k + 1 → SettledTo table k true → streamAt j (decode u) .settled ≡ fixedOf (sourceOf (streamAt j (decode u)))
+    settled-at : (j : ℕ) → j < k + 1 → SettledTo table k → streamAt j (decode u) .settled ≡ fixedOf (sourceOf (streamAt j (decode u)))
     unfolding holding sourceOf
     settled-at j h w = go (ltb j k) refl
       where
@@ -132,15 +132,15 @@ module _ {table : List ℕ} {k t : ℕ} (i : TalkerAt table k t) where
             let n = ltb-true j k e in
             let same : streamAt j (decode u) ≡ streamAt j (decode table) =
             ap (streamAt j) read ∙ getD-set-other (decode table .streams) k j (settledAs f x₀) (fresh 0) (λ q. omega (arith, q, n)) in
-            rw same (w .values refl j n)
+            rw same (w .values j n)
         go false e =
             let q : j ≡ k = omega (arith, ltb-false j k e) in
             rw (q, stream-replaced-at (stands (i .stands)) (settledAs f x₀) settled-fits refl u settled-there) refl
 
-    pub settled-next : SettledTo table k true → SettledTo u (k + 1) true
+    pub settled-next : SettledTo table k → SettledTo u (k + 1)
     settled-next w =
         let s = stream-replaced-stands (stands (i .stands)) (settledAs f x₀) settled-fits refl u settled-there in
-        record { laid = s .laid; within = omega (arith, s .held); values = λ e j h. settled-at j h w }
+        record { laid = s .laid; within = omega (arith, s .held); values = λ j h. settled-at j h w }
 
     -- and after them the places
     pub settled-ports : (now : ℕ) (y : List ℕ) → y ≡ encode (changedAt k (earlyTo 8 now) (decode u)) → y ≡ encode (changedAt k (λ sc. early sc now) (decode table))
@@ -198,12 +198,12 @@ module _ (table : List ℕ) (l : Laid table) (now : ℕ) (soon : now < 2 ^ 32) w
     same-scene : sceneOf (decode s) ≡ sceneOf (decode table)
     same-scene = partly-scene stage stage-fits stage-id table l k s e stage-cells
 
-    pub next-settled : k ≤ length (decode table .streams) → SettledTo s k true
+    pub next-settled : k ≤ length (decode table .streams) → SettledTo s k
     unfolding early sourceOf
     next-settled h = record {
       laid = partly-laid stage stage-fits stage-id table l k s e;
       within = omega (arith, partly-many stage stage-fits stage-id table l k s e);
-      values = λ q j g. rw (partly-before stage stage-fits stage-id table l k s e j g h) refl;
+      values = λ j g. rw (partly-before stage stage-fits stage-id table l k s e j g h) refl;
     }
 
     pub next-inbound : (set : ℕ) → set ≡ setTo (isInbound (sceneOf (decode table) .inbound)) 8 → set ≡ setTo (isInbound (sceneOf (decode s) .inbound)) 8

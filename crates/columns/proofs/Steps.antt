@@ -10,9 +10,9 @@ use lib.Dec.{eqb, ltb}
 use borrow.Author.Tests.{ne-eqb, lt-ltb, le-ltb}
 use Rattle.octets.specs.Be.{beAt}
 use Rattle.octets.specs.Fields.{fields}
-use Rattle.model.specs.Layout.{changedPlace, firstLatencyPlace, fixedPlace, inPort, latencyPlace, priorityPlace}
+use Rattle.model.specs.Layout.{changedPlace, firstLatencyPlace, inPort, latencyPlace, priorityPlace}
 use Rattle.model.specs.Lists.{isOne}
-use Rattle.model.specs.State.{Bridge, Port, sound, broken, Own, Stream, Class, noClass, classA, classB, portAt, isPort, cellAt, ownAt, classOf, isNoClass, supports}
+use Rattle.model.specs.State.{Bridge, Port, Fixed, sound, broken, Own, Stream, Class, noClass, classA, classB, portAt, isPort, cellAt, ownAt, classOf, isNoClass, supports}
 use Rattle.model.specs.Frames.{priorityOf}
 use Rattle.model.specs.Settling.{Scene, sceneOf, Inbound, boundary, sourceOf, fixedOf, isTalking, isBroken, isPruned, inboundOf, shares, isKeptOut, StepName, stepA, stepB, stepC, stepD, stepE, stepF, stepG, stepI, stepJ, stepK, stepL, stepM, stepN, Step, stepsFrom, lastSteps, steps}
 use Rattle.model.specs.Table.{toPort, toCell, registrationFrom, fixedFrom, toHealth, portFrom}
@@ -23,12 +23,13 @@ use Rattle.streams.specs.Answers.{sourceIn}
 use Rattle.streams.proofs.Sources.{no-talker, a-talker}
 use Rattle.fanin.specs.Failures.{commonFailure}
 use Rattle.columns.specs.declared.Edges.{Edges}
+use Rattle.columns.specs.declared.OwnRead.{OwnRead}
 use Rattle.columns.specs.declared.Step as declared
 use Rattle.columns.specs.declared.Step.the-variants.{None, A, B, C, D, E, F, G, H, I, J, K, L, M, N}
 use Rattle.columns.specs.Answers.{sizePlace}
 use Rattle.columns.specs.Steps.{stepShown, edgeOf, EdgesOf}
 use Rattle.columns.specs.Places.{SceneOn}
-use Rattle.columns.specs.Stages.{prunedBy, lastStep}
+use Rattle.columns.specs.Stages.{lastStep}
 
 -- Whether a cell has a Talker, by its first octet.
 
@@ -75,7 +76,7 @@ module _ (sc : Scene) (here said : List ℕ) (p t : ℕ) where
   from-c = cond (not (eqb (getD said 0 0) 1)) stepC from-d
 
   abbrev pub from-n : StepName
-  from-n = cond (prunedBy (sc .settings) (ownAt (sc .own) p .addresses) (beAt 6 said fixedPlace)) stepN from-c
+  from-n = cond (isPruned (sc .settings) (ownAt (sc .own) p) (fixedOf (sourceIn t (toCell said)))) stepN from-c
 
   abbrev pub from-b : StepName
   from-b = cond (not (supports (portAt (sc .settings) p) class)) stepB from-n
@@ -92,7 +93,7 @@ module _ (sc : Scene) (here said : List ℕ) (p t : ℕ) where
   no-source e = rw (no-talker said e)
 
   pub steps-asked : (getD said 0 0 ≡ 0 → ⊥) → decided ≡ from-a
-  unfolding sourceIn registrationFrom stepsFrom firstName isPruned prunedBy isOne fields fixedFrom priorityOf
+  unfolding sourceIn fixedOf registrationFrom stepsFrom firstName isOne fields fixedFrom priorityOf
   steps-asked k = rw (a-talker said k, octet-field said 0, octet-field said changedPlace, failed-asked)
 
 -- the flag of a class, in a scene
@@ -188,6 +189,6 @@ module _ (sc : Scene) (p : ℕ) (x : Stream) (h : p < length (sc .settings .port
       ∙ last-steps sc p x common g ∙ rw q
 
 -- the own failure on every port is that in any scene of the bridge
-pub same-failure : {b : Bridge} {p : ℕ} {e : Edges} {sc : Scene} (i : Inbound) (common : ℕ) → SceneOn b p e sc → common ≡ commonFailure (sceneOf b) i → common ≡ commonFailure sc i
+pub same-failure : {b : Bridge} {p : ℕ} {f : Fixed} {o : OwnRead} {sc : Scene} (i : Inbound) (common : ℕ) → SceneOn b p f o sc → common ≡ commonFailure (sceneOf b) i → common ≡ commonFailure sc i
 unfolding commonFailure
-same-failure i common w f = rw (w .settings, w .inbound) f
+same-failure i common w e = rw (w .settings, w .inbound) e

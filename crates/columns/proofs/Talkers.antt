@@ -1,8 +1,8 @@
--- What the cell at a stream's Talker port says in fields that are zero without a Talker: latency, MaxFrameSize, priority, and the
--- fixed values' octets.
+-- What the cell at a stream's Talker port says in fields that are zero without a Talker: latency, destination, MaxFrameSize,
+-- priority, and the fixed values' octets.
 use mathlib.Core.Path.{_≡_, refl, sym, ap, _∙_}
 use mathlib.Core.List.{List}
-use mathlib.Core.Bool.{Bool, true, false}
+use mathlib.Core.Bool.{Bool, true, false, false≢true, true≢false}
 use Prim.Native.Nat.{ℕ, _+_, _/_, _≤_, _<_}
 use native.Mathlib.Omega.{arith}
 use lib.ListN.{length, getD}
@@ -13,10 +13,10 @@ use Rattle.octets.specs.Parts.{part}
 use Rattle.octets.specs.Fields.{fields, packed, width}
 use Rattle.octets.proofs.Fields.{fields-of-packed, length-fit, part-run}
 use Rattle.model.specs.Layout.{bridgePlace, cellWidths, codePlace, fixedField, fixedPlace, fixedSize, fixedWidths, latencyField, latencyPlace, priorityField, priorityPlace}
-use Rattle.model.specs.State.{Settings, none, failed, Talker, noTalker, talker, Cell, Stream, noFixed, portAt, cellAt, classOf, classLatency}
+use Rattle.model.specs.State.{Settings, Port, none, failed, Class, noClass, classA, classB, isNoClass, Talker, noTalker, talker, Cell, Stream, noFixed, portAt, cellAt, classOf, classLatency}
 use Rattle.model.specs.WrittenFrames.{priorityOctet, fixedNumbers}
 use Rattle.model.specs.Settling.{Source, sourceOf, fixedOf, latencyOf, healthOf, brokenColumn, streamClass, capped, latencyOut}
-use Rattle.model.specs.Table.{toPort, cellNumbers, cellOctets, talkerNumbers, registrationFrom, toHealth, toCell}
+use Rattle.model.specs.Table.{toPort, portFrom, cellNumbers, cellOctets, talkerNumbers, registrationFrom, toHealth, toCell}
 use Rattle.model.specs.Laid.{FitRank, LaidCell}
 use Rattle.model.proofs.Fits.{laid-cell-is, laid-cell-fits}
 use Rattle.table.specs.Reads.{fixedOctets, ReadsCell, ReadsPort}
@@ -25,7 +25,7 @@ use Rattle.model.proofs.SettingsOctets.{octet-field}
 use Rattle.streams.proofs.Sources.{no-talker, a-talker}
 pub use Rattle.streams.proofs.Fixed.{fixed-part, source-read}
 use Rattle.streams.proofs.Fixed.{numbers-laid}
-use Rattle.columns.specs.Answers.{sizePlace}
+use Rattle.columns.specs.Answers.{latencyPlaceOf, sizePlace}
 
 -- Of the numbers of any cell.
 
@@ -43,6 +43,11 @@ size-number : (t : ℕ) (k : Talker) (c : Cell) → c .talks ≡ k → getD (cel
 unfolding fixedOf noFixed sourceIn cellNumbers talkerNumbers fixedNumbers
 size-number t noTalker c e = rw e
 size-number t (talker r) c e = rw e
+
+destination-number : (t : ℕ) (k : Talker) (c : Cell) → c .talks ≡ k → getD (cellNumbers c) fixedField 0 ≡ fixedOf (sourceIn t c) .destination
+unfolding fixedOf noFixed sourceIn cellNumbers talkerNumbers fixedNumbers
+destination-number t noTalker c e = rw e
+destination-number t (talker r) c e = rw e
 
 -- The failure that the octets of a cell say, by their kind.
 
@@ -62,6 +67,20 @@ module _ (s : List ℕ) (t : ℕ) where
   a-failure h =
       rw (a-talker s (λ e. omega (arith, e)), octet-field s 0, octet-field s codePlace, ne-eqb (getD s 0 0) 1 (λ e. omega (arith, e)))
 
+-- The latency of a class in a port's octets.
+
+pub class-latency-read : (port : List ℕ) (c : Class) (at : ℕ) → at ≡ latencyPlaceOf c → isNoClass c ≡ false → beAt 4 port at ≡ classLatency (toPort port) c
+unfolding latencyPlaceOf isNoClass classLatency toPort portFrom fields
+class-latency-read port noClass at e h = absurd (true≢false h)
+class-latency-read port classA at e h = rw e
+class-latency-read port classB at e h = rw e
+
+pub no-class-latency : (q : Port) (c : Class) → isNoClass c ≡ true → 0 ≡ classLatency q c
+unfolding isNoClass classLatency
+no-class-latency q noClass h = refl
+no-class-latency q classA h = absurd (false≢true h)
+no-class-latency q classB h = absurd (false≢true h)
+
 -- The cell at place t of a stream whose Talker stands there, in the octets s.
 
 module _ (x : Stream) (t : ℕ) (e : t ≡ talkerPort (sourceOf x)) (s : List ℕ) (r : ReadsCell s (cellAt x t)) where
@@ -78,6 +97,13 @@ module _ (x : Stream) (t : ℕ) (e : t ≡ talkerPort (sourceOf x)) (s : List �
       ap (λ (vs : List ℕ). getD vs (fixedField + 2) 0) (numbers-laid s (r .laid))
       ∙ size-number t (toCell s .talks) (toCell s) refl
       ∙ ap (λ (o : Source). fixedOf o .size) (source-read x t e s r)
+
+  pub destination-read : beAt 6 s fixedPlace ≡ fixedOf (sourceOf x) .destination
+  unfolding fields
+  destination-read =
+      ap (λ (vs : List ℕ). getD vs fixedField 0) (numbers-laid s (r .laid))
+      ∙ destination-number t (toCell s .talks) (toCell s) refl
+      ∙ ap (λ (o : Source). fixedOf o .destination) (source-read x t e s r)
 
   priority-read : beAt 1 s priorityPlace / 32 ≡ fixedOf (sourceOf x) .priority
   unfolding fields

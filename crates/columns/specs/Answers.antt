@@ -2,8 +2,8 @@
 use mathlib.Core.List.{List, [], _∷_}
 use Prim.Native.Nat.{ℕ, _+_, _-_}
 use lib.ListN.{take, drop}
-use Rattle.model.specs.Layout.{before, entryPlace, fixedPlace, fixedWidths, resultSize, resultWidths}
-use Rattle.model.specs.State.{Column, none, advertise, failed}
+use Rattle.model.specs.Layout.{before, entryPlace, fixedPlace, fixedWidths, inPort, resultSize, resultWidths}
+use Rattle.model.specs.State.{Column, none, advertise, failed, Class, noClass, classA, classB}
 use Rattle.model.specs.Settling.{latencyKept}
 use Rattle.model.specs.Table.{columnNumber, columnBridge, columnCode}
 use Rattle.columns.specs.declared.ColumnRead.{ColumnRead}
@@ -30,3 +30,9 @@ entrySize = resultSize - entryPlace
 -- MaxFrameSize in a cell
 abbrev pub sizePlace : ℕ
 sizePlace = fixedPlace + before 2 fixedWidths
+
+-- the latency of a class in a port's settings; without a class that of A
+unfoldable pub latencyPlaceOf : Class → ℕ
+latencyPlaceOf noClass = inPort.latencyA
+latencyPlaceOf classA = inPort.latencyA
+latencyPlaceOf classB = inPort.latencyB

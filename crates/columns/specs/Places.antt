@@ -6,15 +6,15 @@ use Prim.Native.Nat.{ℕ, _<_}
 use lib.ListN.{length, set, drop}
 use Rattle.model.specs.Layout.{cellSize}
 use Rattle.model.specs.Lists.{tabulate}
-use Rattle.model.specs.State.{Stream, Bridge, ownAt}
-use Rattle.model.specs.Settling.{Scene, sceneOf, sourceOf, inboundOf, inboundsOf}
+use Rattle.model.specs.State.{Fixed, Stream, Bridge, ownAt}
+use Rattle.model.specs.Settling.{Scene, sceneOf, sourceOf, isPruned, inboundOf, inboundsOf}
 use Rattle.model.specs.Table.{decode}
 use Rattle.model.specs.Laid.{Laid}
 use Rattle.table.specs.Updates.{resulting, streamAt, withStream}
 use Rattle.table.specs.Places.{StandsOn}
 use Rattle.streams.specs.Answers.{talkerPort}
 use Rattle.fanin.specs.Failures.{commonFailure}
-use Rattle.columns.specs.declared.Edges.{Edges}
+use Rattle.columns.specs.declared.OwnRead.{OwnRead}
 use Rattle.columns.specs.Steps.{EdgesOf}
 use Rattle.columns.specs.Stages.{earlyAt}
 
@@ -25,12 +25,12 @@ pub record Asked (table here talker : List ℕ) (p : ℕ) : Type 0 where
   pub here-size : length here ≡ cellSize
   pub talker-size : length talker ≡ cellSize
 
--- a scene of the bridge b in which the port at place p has these flags, and the bridge's addresses
-pub record SceneOn (b : Bridge) (p : ℕ) (e : Edges) (sc : Scene) : Type 0 where
+-- a scene of the bridge b in which the own part of the port at place p says this of a Talker with the fixed values f
+pub record SceneOn (b : Bridge) (p : ℕ) (f : Fixed) (o : OwnRead) (sc : Scene) : Type 0 where
   pub settings : sc .settings ≡ b .settings
   pub inbound : sc .inbound ≡ inboundsOf (b .streams)
-  pub edges : EdgesOf e (ownAt (sc .own) p)
-  pub addresses : ownAt (sc .own) p .addresses ≡ ownAt (b .own) p .addresses
+  pub edges : EdgesOf (o .edges) (ownAt (sc .own) p)
+  pub pruned : o .pruned ≡ isPruned (sc .settings) (ownAt (sc .own) p) f
 
 -- stream k of a table, and the place t of its Talker, which is 0 where it has none
 pub record TalkerAt (s : List ℕ) (k t : ℕ) : Type 0 where

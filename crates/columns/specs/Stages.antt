@@ -7,10 +7,10 @@ use Prim.Native.Nat.{ℕ, zero, suc}
 use lib.ListN.{getD, set}
 use lib.Dec.{eqb, ltb}
 use Rattle.model.specs.Lists.{keep, tabulate}
-use Rattle.model.specs.State.{Settings, Address, Column, advertise, failed, filters, Declared, nothing, Result, Stream, Totals, Bridge, noTotals, portAt, cellAt, resultAt, Class, noClass, classA, classB, classOf, sameClass, inForce, Port}
+use Rattle.model.specs.State.{Settings, Column, advertise, failed, filters, Declared, nothing, Result, Stream, Totals, Bridge, noTotals, portAt, cellAt, resultAt, Class, noClass, classA, classB, classOf, sameClass, inForce, Port}
 use Rattle.model.specs.Registrations.{holding}
 use Rattle.model.specs.Bandwidth.{Claim, demand, rateOf, admitted, total}
-use Rattle.model.specs.Settling.{Scene, sceneOf, holdsAddress, sourceOf, fixedOf, isSource, registered, isReady, isAdvertise, first, outcomeColumn, StepName, stepG, stepI, stepL, stepM, steps, ageOf, latencyOut, entryOf, ageKept, latencyKept, passed, mergeAll}
+use Rattle.model.specs.Settling.{Scene, sceneOf, sourceOf, fixedOf, isSource, registered, isReady, isAdvertise, first, outcomeColumn, StepName, stepG, stepI, stepL, stepM, steps, ageOf, latencyOut, entryOf, ageKept, latencyKept, passed, mergeAll}
 use Rattle.table.specs.Updates.{resulting}
 
 -- (1)
@@ -30,10 +30,6 @@ shownBy column latency heard now old =
 -- of a stream, where its column is known
 unfoldable pub shownAs : Settings → ℕ → Stream → ℕ → Column → Result
 shownAs st now x p column = shownBy column (latencyOut st p x) (registered (cellAt x p)) now (resultAt x p)
-
--- n: Talkers are pruned, and the destination is none of a port's addresses
-unfoldable pub prunedBy : Settings → List Address → ℕ → Bool
-prunedBy st l destination = st .pruning && not (holdsAddress destination l)
 
 -- steps 5, 15 and g, from the own failure that the stream has on every port, a port and MaxFrameSize; i where none applies
 unfoldable pub lastStep : ℕ → Port → ℕ → StepName

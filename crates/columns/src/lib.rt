@@ -1,8 +1,7 @@
 // Stage 1 of settling: the steps before h, and what a stream shows on a port before bandwidth is shared.
 ghost use mathlib.Core.Path.{_≡_};
 ghost use mathlib.Core.List.{[], _∷_};
-ghost use mathlib.Core.Bool.{true};
-ghost use Prim.Native.Nat.{ℕ, _<_, _^_};
+ghost use Prim.Native.Nat.{ℕ, _+_, _≤_, _<_, _^_};
 ghost use lib.ListN.{length};
 ghost use Rattle.octets.specs.Fields.{packed};
 ghost use Rattle.octets.specs.Parts.{patch};
@@ -10,7 +9,7 @@ ghost use Rattle.octets.specs.Be.{beAt};
 ghost use Rattle.model.specs.Layout.{cellSize, entryPlace, fixedPlace, portSize, resultSize};
 ghost use Rattle.model.specs.State as state;
 ghost use Rattle.model.specs.State.{isNoClass, classLatency, portAt, cellAt, ownAt, failed};
-ghost use Rattle.model.specs.Settling.{Scene, sceneOf, isInbound, fixedOf, healthOf, brokenColumn, stepI, stepsFrom, steps, ageOf, latencyOut, entryOf, ageKept};
+ghost use Rattle.model.specs.Settling.{Scene, sceneOf, isInbound, isPruned, sourceOf, fixedOf, healthOf, brokenColumn, stepI, stepsFrom, steps, ageOf, latencyOut, entryOf, ageKept};
 ghost use Rattle.model.specs.Why.{firstName, columnBy};
 ghost use Rattle.model.specs.Table.{toPort, toCell, toResult, toEntry, toDeclared, entryNumber, resultOctets, encode, decode};
 ghost use Rattle.model.specs.Laid.{Laid};
@@ -19,8 +18,8 @@ ghost use Rattle.table.specs.Places.{Stands, PortIn, StandsOn};
 ghost use Rattle.streams.specs.Answers.{classShown, sourceIn};
 ghost use Rattle.fanin.specs.Sets.{setTo};
 ghost use Rattle.fanin.specs.Places.{SettledTo};
-ghost use Rattle.columns.specs.Stages.{shownBy, prunedBy, lastStep, earlyColumn, early, earlyAll};
-ghost use Rattle.columns.specs.Answers.{columnShown, sizePlace, columnWidths, columnNumbers, entryWidths, entrySize};
+ghost use Rattle.columns.specs.Stages.{shownBy, lastStep, earlyColumn, early, earlyAll};
+ghost use Rattle.columns.specs.Answers.{columnShown, latencyPlaceOf, sizePlace, columnWidths, columnNumbers, entryWidths, entrySize};
 ghost use Rattle.columns.specs.Steps.{stepShown, edgeOf, EdgesOf};
 ghost use Rattle.columns.specs.Places.{Asked, SceneOn, TalkerAt, FailureAt, changedAt, earlyOne, earlyTo};
 use streams::ClassRead;
@@ -91,6 +90,12 @@ pub struct Edges {
     pub b: bool,
 }
 
+// What a port's own part says of a stream: the port's flags, and whether the stream's Talker is pruned there.
+pub struct OwnRead {
+    pub edges: Edges,
+    pub pruned: bool,
+}
+
 // Whether a port with these flags is at the edge of a class's domain.
 fn at_edge(edges: Edges, class: ClassRead) -> bool
     ensures { λ r. ⌜ r ≡ edgeOf edges (classShown class) ⌝ }
@@ -114,13 +119,14 @@ fn stored_edges(table: &[u8], p: usize) -> Edges
     }
 }
 
-// Whether the port at place p gets no Talker of a cell: Talkers are pruned, and it doesn't hold the destination.
-fn is_pruned(table: &[u8], said: &[u8], p: usize) -> bool
-    requires { ⌜ PortIn (now table) p × (length (now said) ≡ cellSize) ⌝ }
-    ensures { λ r. ⌜ r ≡ prunedBy (decode (now (table .entry)) .settings) (ownAt (decode (now (table .entry)) .own) p .addresses)
-        (beAt 6 (now (said .entry)) fixedPlace) ⌝ }
+// Whether the port at place p gets no Talker of stream k: Talkers are pruned, and it doesn't hold the destination at place t.
+pub fn is_pruned(table: &[u8], k: usize, p: usize, t: usize) -> bool
+    requires { ⌜ TalkerAt (now table) k t × (p < 8) ⌝ }
+    ensures { λ r. ⌜ r ≡ isPruned (decode (now (table .entry)) .settings) (ownAt (decode (now (table .entry)) .own) p)
+        (fixedOf (sourceOf (streamAt k (decode (now (table .entry)))))) ⌝ }
 {
     if table::pruning(table) {
+        let said = table::cell_at(table, k, t);
         let destination = octets::get(said, cell::DESTINATION, 6);
         return !addresses::holds(table::own_at(table, p), destination);
     }
@@ -129,9 +135,9 @@ fn is_pruned(table: &[u8], said: &[u8], p: usize) -> bool
 
 // Steps a to f, j, k and n on the port at place p, whose cell is here, for the Talker's cell said at place t: the first that applies,
 // i where none does.
-fn first_step(table: &[u8], here: &[u8], said: &[u8], p: usize, t: usize, edges: Edges) -> Step
+fn first_step(table: &[u8], here: &[u8], said: &[u8], p: usize, t: usize, own: OwnRead) -> Step
     requires { ⌜ Asked (now table) (now here) (now said) p ⌝ }
-    ensures { λ r. ⌜ ((sc : Scene) → SceneOn (decode (now (table .entry))) p edges sc
+    ensures { λ r. ⌜ ((sc : Scene) → SceneOn (decode (now (table .entry))) p (fixedOf (sourceIn t (toCell (now (said .entry))))) own sc
         → stepShown r ≡ firstName (stepsFrom sc p (toCell (now (here .entry))) (sourceIn t (toCell (now (said .entry))))) stepI) ⌝ }
 {
     let kind = said[cell::TALKER];
@@ -146,7 +152,7 @@ fn first_step(table: &[u8], here: &[u8], said: &[u8], p: usize, t: usize, edges:
     if !supports(table::port_at(table, p), class) {
         return Step::B;
     }
-    if is_pruned(table, said, p) {
+    if own.pruned {
         return Step::N;
     }
     if kind != 1 {
@@ -164,6 +170,7 @@ fn first_step(table: &[u8], here: &[u8], said: &[u8], p: usize, t: usize, edges:
     if no_class(class) {
         return Step::F;
     }
+    let edges = own.edges;
     if at_edge(edges, class) {
         return Step::J;
     }
@@ -188,11 +195,11 @@ fn last_step(table: &[u8], said: &[u8], p: usize, common: u8) -> Step
     Step::I
 }
 
-// The first step before h that applies to stream k on the port at place p with these flags, where t is its Talker's place and
-// common the own failure that it has on every port; i where none does.
-pub fn early_step(table: &[u8], k: usize, p: usize, t: usize, common: u8, edges: Edges) -> Step
+// The first step before h that applies to stream k on the port at place p, where t is its Talker's place, common the own failure that
+// it has on every port, and own what the port's own part says; i where none does.
+pub fn early_step(table: &[u8], k: usize, p: usize, t: usize, common: u8, own: OwnRead) -> Step
     requires { ⌜ FailureAt (now table) k t common × (p < 8) ⌝ }
-    ensures { λ r. ⌜ ((sc : Scene) → SceneOn (decode (now (table .entry))) p edges sc
+    ensures { λ r. ⌜ ((sc : Scene) → SceneOn (decode (now (table .entry))) p (fixedOf (sourceOf (streamAt k (decode (now (table .entry)))))) own sc
         → stepShown r ≡ firstName (steps sc p (streamAt k (decode (now (table .entry))))) stepI) ⌝ }
 {
     if table::ports(table) <= p {
@@ -200,7 +207,7 @@ pub fn early_step(table: &[u8], k: usize, p: usize, t: usize, common: u8, edges:
     }
     let here = table::cell_at(table, k, p);
     let talker = table::cell_at(table, k, t);
-    let step = first_step(table, here, talker, p, t, edges);
+    let step = first_step(table, here, talker, p, t, own);
     let Step::I = step else {
         return step;
     };
@@ -249,21 +256,35 @@ fn early_column(table: &[u8], k: usize, p: usize, t: usize, common: u8) -> Colum
     requires { ⌜ FailureAt (now table) k t common × (p < 8) ⌝ }
     ensures { λ r. ⌜ columnShown r ≡ earlyColumn (sceneOf (decode (now (table .entry)))) p (streamAt k (decode (now (table .entry)))) ⌝ }
 {
-    let edges = stored_edges(table, p);
-    let step = early_step(table, k, p, t, common, edges);
+    let own = OwnRead {
+        edges: stored_edges(table, p),
+        pruned: is_pruned(table, k, p, t),
+    };
+    let step = early_step(table, k, p, t, common, own);
     column_of(table, table::cell_at(table, k, t), step)
 }
 
-// A port's latency of a class, in nanoseconds; 0 without a class.
+// Where a port's latency of a class stands; without a class that of A, which is not asked for.
+fn latency_place(class: ClassRead) -> usize
+    ensures { λ r. ⌜ (r ≡ latencyPlaceOf (classShown class)) × (r + 4 ≤ portSize) ⌝ }
+{
+    match class {
+        ClassRead::NoClass => port::LATENCY_A,
+        ClassRead::A => port::LATENCY_A,
+        ClassRead::B => port::LATENCY_B,
+    }
+}
+
+// A port's latency of a class, in nanoseconds; 0 without a class. One reading for both classes: the compiler takes it in one load.
 fn class_latency(port: &[u8], class: ClassRead) -> u64
     requires { ⌜ length (now port) ≡ portSize ⌝ }
     ensures { λ r. ⌜ (r ≡ classLatency (toPort (now (port .entry))) (classShown class)) × (r < 2 ^ 32) ⌝ }
 {
-    match class {
-        ClassRead::NoClass => 0,
-        ClassRead::A => octets::get(port, port::LATENCY_A, 4),
-        ClassRead::B => octets::get(port, port::LATENCY_B, 4),
+    let latency = octets::get(port, latency_place(class), 4);
+    if no_class(class) {
+        return 0;
     }
+    latency
 }
 
 // Latency of stream k out of the port at place p, at most 2^32 - 1, where t is its Talker's place.
@@ -402,12 +423,13 @@ fn early_ports(table: &mut [u8], k: usize, t: usize, common: u8, time: u32)
 
 // The settled values of stream k, and what it shows on every port before bandwidth is shared; those before it are done.
 fn early_record(table: &mut [u8], k: usize, inbound: u8, time: u32)
-    requires { ⌜ Stands (now table) k × SettledTo (now table) k true × (inbound ≡ setTo (isInbound (sceneOf (decode (now table)) .inbound)) 8) ⌝ }
+    requires { ⌜ Stands (now table) k × SettledTo (now table) k × (inbound ≡ setTo (isInbound (sceneOf (decode (now table)) .inbound)) 8) ⌝ }
     ensures { λ _. ⌜ now (table .exit) ≡ encode (changedAt k (λ sc. early sc time) (decode (now (table .entry)))) ⌝ }
 {
     let t = streams::talker_port(table, k);
     copy_fixed(table, k, t);
-    let common = fanin::common_failure(table, k, inbound, true);
+    let taken = fanin::taken_settled(table, k);
+    let common = fanin::common_failure(table, k, inbound, taken);
     early_ports(table, k, t, common, time);
 }
 

@@ -14,7 +14,7 @@ use Rattle.octets.specs.Fields.{fields}
 use Rattle.octets.proofs.Fields.{fields-of-packed}
 use Rattle.model.specs.Layout.{fixedWidths}
 use Rattle.model.specs.Lists.{All}
-use Rattle.model.specs.State.{Fixed, Stream, fresh}
+use Rattle.model.specs.State.{Fixed, Stream, Bridge, fresh}
 use Rattle.model.specs.Registrations.{ids}
 use Rattle.model.specs.WrittenFrames.{fixedNumbers}
 use Rattle.model.specs.Settling.{Scene, sceneOf, Origin, Source, nowhere, from, sourceOf, fixedOf, Inbound, inboundOf, inboundsOf, sameAddress, sameAddressAt, shares, isKeptOut, mayBring}
@@ -28,7 +28,7 @@ use Rattle.table.proofs.ByPlace.{stream-fits}
 use Rattle.streams.specs.Answers.{sourcePort}
 use Rattle.streams.specs.declared.SourceRead.the-variants.{Nowhere, Port}
 use Rattle.streams.proofs.Fixed.{settled-values}
-use Rattle.fanin.specs.Failures.{addressOf, hasAddress, anyFrom, commonFailure}
+use Rattle.fanin.specs.Failures.{addressOf, hasAddress, anyFrom, sharesWith, isTaken, commonFailure}
 use Rattle.fanin.specs.Places.{SettledTo}
 
 -- The octets of an address.
@@ -37,10 +37,7 @@ joined-read : (s : List ℕ) → beAt 8 s 0 ≡ beAt 6 s 0 * 2 ^ 16 + beAt 2 s 6
 unfolding beAt
 joined-read s = omega arith
 
-module _ {t : List ℕ} {k n : ℕ} {settled : Bool} (w : SettledTo t n settled) (h : k < n) where
-  pub settled-stands : Stands t k
-  settled-stands = record { laid = w .laid; held = omega (arith, w .within) }
-
+module _ {t : List ℕ} {k : ℕ} (w : Stands t k) where
   abbrev x : Stream
   x = streamAt k (decode t)
 
@@ -48,7 +45,7 @@ module _ {t : List ℕ} {k n : ℕ} {settled : Bool} (w : SettledTo t n settled)
   unfolding addressOf fixedOctets fixedNumbers fields
   address-read s f e q =
       let o = fixedOf (sourceOf x) in
-      let r = fields-of-packed fixedWidths (fixedNumbers o) (settled-values x (stream-fits settled-stands) .numbers) in
+      let r = fields-of-packed fixedWidths (fixedNumbers o) (settled-values x (stream-fits w) .numbers) in
       let d : beAt 6 (fixedOctets o) 0 ≡ o .destination = ap (λ (vs : List ℕ). getD vs 0 0) r in
       let v : beAt 2 (fixedOctets o) 6 ≡ o .vlan = ap (λ (vs : List ℕ). getD vs 1 0) r in
       rw (e, q, joined-read (fixedOctets o), d, v)
@@ -56,7 +53,7 @@ module _ {t : List ℕ} {k n : ℕ} {settled : Bool} (w : SettledTo t n settled)
   -- the VLAN has 16 bits
   pub vlan-fits : fixedOf (sourceOf x) .vlan < 65536
   vlan-fits =
-      let o = settled-values x (stream-fits settled-stands) in
+      let o = settled-values x (stream-fits w) in
       fit-fixed (fixedOf (sourceOf x)) (o .numbers) (o .rank) .vlan
 
 -- Whether a source has an address, by the tests of the code.
@@ -76,15 +73,39 @@ module _ (a : ℕ) where
   no-address nowhere e = refl
   no-address (from o) e = let z : _≡_ {A = ℕ} 0 1 = cc in absurd (omega arith)
 
--- The search.
-module _ (f : ℕ → Bool) where
-  pub found-here : (k n m : ℕ) → m ≡ suc n → f k ≡ true → anyFrom f k m ≡ true
-  unfolding anyFrom
-  found-here k n m e h = rw (e, h)
+pub asked-with : (b : Bridge) (k j wanted : ℕ) (r : Bool) → wanted ≡ addressOf (fixedOf (sourceOf (streamAt k b))) → r ≡ hasAddress wanted (sourceOf (streamAt j b))
+    → r ≡ sharesWith b k j
+asked-with b k j wanted r e h = rw e at h
 
-  pub not-here : (k n m : ℕ) → m ≡ suc n → f k ≡ false → anyFrom f k m ≡ anyFrom f (k + 1) n
-  unfolding anyFrom
-  not-here k n m e h = rw (e, h, add-one k)
+-- The search, which has come to place j: what is left of it gives the answer.
+
+abbrev pub Searched : (ℕ → Bool) → ℕ → ℕ → Type 0
+Searched f j k = (j ≤ k) × (anyFrom f j (k - j) ≡ anyFrom f 0 k)
+
+module _ (f : ℕ → Bool) (k : ℕ) where
+  pub search-begins : Searched f 0 k
+  search-begins =
+      let e : k - 0 ≡ k = omega arith in
+      (omega arith, rw e)
+
+  module _ (j : ℕ) (s : Searched f j k) where
+    pub search-ends : k ≤ j → false ≡ anyFrom f 0 k
+    unfolding anyFrom
+    search-ends h =
+        let e : k - j ≡ 0 = omega arith in
+        rw e at (s .1)
+
+    module _ (h : j < k) where
+      left : k - j ≡ suc (k - (j + 1))
+      left = omega arith
+
+      pub search-finds : f j ≡ true → true ≡ anyFrom f 0 k
+      unfolding anyFrom
+      search-finds e = rw (left, e) at (s .1)
+
+      pub search-goes-on : f j ≡ false → Searched f (j + 1) k
+      unfolding anyFrom
+      search-goes-on e = (omega arith, rw (left, e, ← add-one j) at (s .1))
 
 -- addresses as numbers
 address-same : (f g : Fixed) → f .vlan < 65536 → g .vlan < 65536 → sameAddress f g ≡ eqb (addressOf f) (addressOf g)
@@ -138,21 +159,25 @@ shares-before (y ∷ s) (suc k) x f m a h e g =
     all-at-id P (y ∷ s) a zero h = a .0
     all-at-id P (y ∷ s) a (suc k) h = all-at-id P s (a .1) k (omega arith)
 
-module _ {t : List ℕ} (k : ℕ) {settled : Bool} (w : SettledTo t (k + 1) settled) (o : Origin) (e : sourceOf (streamAt k (decode t)) ≡ from o) where
-  pub shares-found : shares (inboundsOf (decode t .streams)) (inboundOf (streamAt k (decode t)))
-      ≡ anyFrom (λ j. hasAddress (addressOf (fixedOf (sourceOf (streamAt k (decode t))))) (sourceOf (streamAt j (decode t)))) 0 k
+pub stands-before : {t : List ℕ} {k : ℕ} → Stands t k → (j : ℕ) → j < k → Stands t j
+stands-before w j h = record { laid = w .laid; held = omega (arith, w .held) }
+
+module _ {t : List ℕ} (k : ℕ) (w : Stands t k) (o : Origin) (e : sourceOf (streamAt k (decode t)) ≡ from o) where
+  shares-found : shares (inboundsOf (decode t .streams)) (inboundOf (streamAt k (decode t))) ≡ isTaken (decode t) k
   unfolding fixedOf
   shares-found =
       let x = streamAt k (decode t) in
-      let v : o .registration .fixed .vlan < 65536 = rw e at (vlan-fits {k = k} w (omega arith)) in
-      shares-before (decode t .streams) k x _ 0 (laid-fits t (w .laid) .ascending) (omega (arith, w .within)) refl
+      let v : o .registration .fixed .vlan < 65536 = rw e at (vlan-fits w) in
+      shares-before (decode t .streams) k x _ 0 (laid-fits t (w .laid) .ascending) (w .held) refl
       (λ j h. let n : 0 + j ≡ j = omega arith in
-      rw (n, e) (sym (address-at (sourceOf (streamAt j (decode t))) o (vlan-fits {k = j} w (omega arith)) v)))
+      rw (n, e) (sym (address-at (sourceOf (streamAt j (decode t))) o (vlan-fits (stands-before w j h)) v)))
+
+-- where the settled values of the streams are their Talkers'
+module _ {t : List ℕ} {n : ℕ} (w : SettledTo t n) (j : ℕ) (h : j < n) where
+  pub settled-stands : Stands t j
+  settled-stands = record { laid = w .laid; held = omega (arith, w .within) }
 
 -- The own failure of stream k on every port, by the tests of the code.
-
-pub settled-fewer : {t : List ℕ} {k : ℕ} {settled : Bool} (w : SettledTo t k settled) (n : ℕ) → n ≤ k → SettledTo t n settled
-settled-fewer w n h = record { laid = w .laid; within = omega (arith, w .within); values = λ e j l. w .values e j (omega arith) }
 
 -- a Talker port that is found is that of an origin
 record At (s : Source) (p : ℕ) : Type 0 where
@@ -175,7 +200,7 @@ shares-none (j ∷ l) n = rw (none (j .source), and-false (ltb (j .id) n)) (shar
     none nowhere = unfold sameAddressAt in refl
     none (from o) = unfold sameAddressAt in refl
 
-module _ (t : List ℕ) (k : ℕ) {settled : Bool} (w : SettledTo t (k + 1) settled) where
+module _ (t : List ℕ) (k : ℕ) (w : Stands t k) where
   abbrev sc : Scene
   sc = sceneOf (decode t)
 
@@ -191,12 +216,11 @@ module _ (t : List ℕ) (k : ℕ) {settled : Bool} (w : SettledTo t (k + 1) sett
   unfolding commonFailure inboundOf
   no-failure e = sym (rw (nowhere-is (sourceOf stream) e, shares-none (sc .inbound) (stream .id)) (unfold isKeptOut in refl))
 
-  module _ (p : ℕ) (e : sourcePort (sourceOf stream) ≡ Port p) (a : ℕ) (f : a ≡ addressOf (fixedOf (sourceOf stream))) (taken : Bool)
-      (g : taken ≡ anyFrom (λ j. hasAddress a (sourceOf (streamAt j (decode t)))) 0 k) where
+  module _ (p : ℕ) (e : sourcePort (sourceOf stream) ≡ Port p) (taken : Bool) (g : taken ≡ isTaken (decode t) k) where
     shares-is : shares (sc .inbound) (inboundOf stream) ≡ taken
     shares-is =
         let o = found-at (sourceOf stream) p e in
-        shares-found k w (o .origin) (o .is) ∙ sym (rw f at g)
+        shares-found k w (o .origin) (o .is) ∙ sym g
 
     pub shared-failure : taken ≡ true → 5 ≡ commonFailure sc (inboundOf stream)
     unfolding commonFailure

@@ -2,8 +2,8 @@
 use mathlib.Core.Bool.{Bool, false, cond, _||_}
 use Prim.Native.Nat.{ℕ, zero, suc, _+_, _*_, _^_}
 use lib.Dec.{eqb}
-use Rattle.model.specs.State.{Fixed}
-use Rattle.model.specs.Settling.{Scene, Source, nowhere, from, Inbound, shares, isKeptOut}
+use Rattle.model.specs.State.{Fixed, Bridge, streamAt}
+use Rattle.model.specs.Settling.{Scene, Source, nowhere, from, sourceOf, fixedOf, Inbound, shares, isKeptOut}
 
 -- destination and VLAN as they stand beside each other
 unfoldable pub addressOf : Fixed → ℕ
@@ -17,6 +17,14 @@ hasAddress a (from o) = eqb (addressOf (o .registration .fixed)) a
 unfoldable pub anyFrom : (ℕ → Bool) → ℕ → ℕ → Bool
 anyFrom f k zero = false
 anyFrom f k (suc n) = f k || anyFrom f (suc k) n
+
+-- the stream at place j has a Talker with the address of the one at place k
+abbrev pub sharesWith : Bridge → ℕ → ℕ → Bool
+sharesWith b k j = hasAddress (addressOf (fixedOf (sourceOf (streamAt k b)))) (sourceOf (streamAt j b))
+
+-- one before it has
+abbrev pub isTaken : Bridge → ℕ → Bool
+isTaken b k = anyFrom (sharesWith b k) 0 k
 
 -- "Test 5, then 15": its code, or 0
 unfoldable pub commonFailure : Scene → Inbound → ℕ

@@ -1,7 +1,6 @@
--- The first k streams of a table: where they are asked for their settled values, these are their Talkers' fixed values.
+-- The first k streams of a table have as settled values their Talkers' fixed values.
 use mathlib.Core.Path.{_≡_}
 use mathlib.Core.List.{List}
-use mathlib.Core.Bool.{Bool, true}
 use Prim.Native.Nat.{ℕ, _≤_, _<_}
 use lib.ListN.{length}
 use Rattle.model.specs.State.{streamAt}
@@ -9,7 +8,7 @@ use Rattle.model.specs.Settling.{sourceOf, fixedOf}
 use Rattle.model.specs.Table.{decode}
 use Rattle.model.specs.Laid.{Laid}
 
-pub record SettledTo (t : List ℕ) (k : ℕ) (settled : Bool) : Type 0 where
+pub record SettledTo (t : List ℕ) (k : ℕ) : Type 0 where
   pub laid : Laid t
   pub within : k ≤ length (decode t .streams)
-  pub values : settled ≡ true → (j : ℕ) → j < k → streamAt j (decode t) .settled ≡ fixedOf (sourceOf (streamAt j (decode t)))
+  pub values : (j : ℕ) → j < k → streamAt j (decode t) .settled ≡ fixedOf (sourceOf (streamAt j (decode t)))

@@ -5,8 +5,9 @@ ghost use Rattle.model.specs.Settling.{sceneOf, inboundOf, inboundsOf, sourceOf
 ghost use Rattle.model.specs.Table.{decode};
 ghost use Rattle.model.specs.Laid.{Laid};
 ghost use Rattle.table.specs.Updates.{streamAt};
+ghost use Rattle.table.specs.Places.{Stands};
 ghost use Rattle.fanin.specs.Sets.{setTo, includes, Placed};
-ghost use Rattle.fanin.specs.Failures.{addressOf, hasAddress, anyFrom, commonFailure};
+ghost use Rattle.fanin.specs.Failures.{addressOf, hasAddress, isTaken, commonFailure};
 ghost use Rattle.fanin.specs.Places.{SettledTo};
 use streams::SourceRead;
 
@@ -49,23 +50,12 @@ fn may_bring(table: &[u8], inbound: u8, t: usize) -> bool
     (u8::count_ones(below) as u64) < limit
 }
 
-// The destination and VLAN of stream k, as one number; read from its settled values where they are its Talker's.
-fn address(table: &[u8], k: usize, settled: bool) -> u64
-    requires { ⌜ SettledTo (now table) (k + 1) settled ⌝ }
-    ensures { λ r. ⌜ r ≡ addressOf (fixedOf (sourceOf (streamAt k (decode (now (table .entry)))))) ⌝ }
-{
-    if settled {
-        return octets::get(table::settled_at(table, k), 0, 8);
-    }
-    octets::get(streams::registered(table, k), 0, 8)
-}
-
-// Whether stream k has a Talker with this address.
-fn has_address(table: &[u8], k: usize, wanted: u64, settled: bool) -> bool
-    requires { ⌜ SettledTo (now table) (k + 1) settled ⌝ }
+// Whether stream k, whose fixed values have this address, has a Talker with the address wanted.
+fn has_address(table: &[u8], k: usize, address: u64, wanted: u64) -> bool
+    requires { ⌜ Stands (now table) k × (address ≡ addressOf (fixedOf (sourceOf (streamAt k (decode (now table)))))) ⌝ }
     ensures { λ r. ⌜ r ≡ hasAddress wanted (sourceOf (streamAt k (decode (now (table .entry))))) ⌝ }
 {
-    if address(table, k, settled) != wanted {
+    if address != wanted {
         return false;
     }
     match streams::source(table, k) {
@@ -74,14 +64,16 @@ fn has_address(table: &[u8], k: usize, wanted: u64, settled: bool) -> bool
     }
 }
 
-// Whether a stream before stream k has a Talker with this address.
-fn is_taken(table: &[u8], k: usize, wanted: u64, settled: bool) -> bool
-    requires { ⌜ SettledTo (now table) k settled ⌝ }
-    ensures { λ r. ⌜ r ≡ anyFrom (λ j. hasAddress wanted (sourceOf (streamAt j (decode (now (table .entry)))))) 0 k ⌝ }
+// Whether a stream before stream k has a Talker with its address, read from the settled values, where they are the Talkers'.
+pub fn taken_settled(table: &[u8], k: usize) -> bool
+    requires { ⌜ SettledTo (now table) (k + 1) ⌝ }
+    ensures { λ r. ⌜ r ≡ isTaken (decode (now (table .entry))) k ⌝ }
 {
+    let wanted = octets::get(table::settled_at(table, k), 0, 8);
     let mut j: usize = 0;
     while j < k {
-        if has_address(table, j, wanted, settled) {
+        let address = octets::get(table::settled_at(table, j), 0, 8);
+        if has_address(table, j, address, wanted) {
             return true;
         }
         j += 1;
@@ -89,16 +81,32 @@ fn is_taken(table: &[u8], k: usize, wanted: u64, settled: bool) -> bool
     false
 }
 
-// The own failure of stream k on every port: 5 for a shared address, 15 for a port that may not bring streams in, or 0. The settled
-// values of the streams up to it are read where they are their Talkers', else what is registered.
-pub fn common_failure(table: &[u8], k: usize, inbound: u8, settled: bool) -> u8
-    requires { ⌜ SettledTo (now table) (k + 1) settled × (inbound ≡ setTo (isInbound (inboundsOf (decode (now table) .streams))) 8) ⌝ }
+// The same, read from what is registered.
+pub fn taken_registered(table: &[u8], k: usize) -> bool
+    requires { ⌜ Stands (now table) k ⌝ }
+    ensures { λ r. ⌜ r ≡ isTaken (decode (now (table .entry))) k ⌝ }
+{
+    let wanted = octets::get(streams::registered(table, k), 0, 8);
+    let mut j: usize = 0;
+    while j < k {
+        let address = octets::get(streams::registered(table, j), 0, 8);
+        if has_address(table, j, address, wanted) {
+            return true;
+        }
+        j += 1;
+    }
+    false
+}
+
+// The own failure of stream k on every port: 5 for an address that is taken, 15 for a port that may not bring streams in, or 0.
+pub fn common_failure(table: &[u8], k: usize, inbound: u8, taken: bool) -> u8
+    requires { ⌜ Stands (now table) k × (inbound ≡ setTo (isInbound (inboundsOf (decode (now table) .streams))) 8) × (taken ≡ isTaken (decode (now table)) k) ⌝ }
     ensures { λ r. ⌜ r ≡ commonFailure (sceneOf (decode (now (table .entry)))) (inboundOf (streamAt k (decode (now (table .entry))))) ⌝ }
 {
     let SourceRead::Port(t) = streams::source(table, k) else {
         return 0;
     };
-    if is_taken(table, k, address(table, k, settled), settled) {
+    if taken {
         return 5;
     }
     if may_bring(table, inbound, t) {

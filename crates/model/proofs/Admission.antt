@@ -126,7 +126,7 @@ module _ (P : Claim → Type 0) where
       go true ih = (p, a)
       go false ih = (a .0, ih)
 
-  all-sort : (l : List Claim) → All P l → All P (sort l)
+  pub all-sort : (l : List Claim) → All P l → All P (sort l)
   unfolding sort
   all-sort [] a = a
   all-sort (c ∷ l) a = all-insert c (sort l) (a .0) (all-sort l (a .1))
@@ -182,7 +182,7 @@ falls-sort [] n = tt
 falls-sort (c ∷ l) n = falls-insert c (sort l) (all-sort (Other c) l (n .0)) (falls-sort l (n .1))
 
 -- in a falling list each tail is what stands above its head
-Cut : List Claim → List Claim → Type 0
+unfoldable pub Cut : List Claim → List Claim → Type 0
 Cut m [] = Unit {0}
 Cut m (c ∷ more) = (above (key c) m ≡ more) × Cut m more
 
@@ -234,7 +234,7 @@ module _ (limit : ℕ) (ok : Claim → Bool) (m : List Claim) where
   reserved-is-taken (c ∷ l) a h = rw (a .0, h .0, reserved-is-taken l (a .1) (h .1))
 
 module _ (limit : ℕ) (cs : List Claim) (distinct : Distinct cs) where
-  cut : (k : ℕ) → Cut (sort cs) (above k (sort cs))
+  pub cut : (k : ℕ) → Cut (sort cs) (above k (sort cs))
   cut k = cut-above k (sort cs) (sort cs) (falls-sort cs distinct) (cut-self (sort cs) (falls-sort cs distinct))
 
   moved : (ok : Claim → Bool) (k : ℕ) → taken ok (above k cs) ≡ taken ok (above k (sort cs))
@@ -437,7 +437,7 @@ mem-insert c d (e ∷ l) m = go (ltb (key e) (key d)) m (mem-insert c d l)
     go false (inr (List·Memᴰ·head q)) ih = List·Memᴰ·head q
     go false (inr (List·Memᴰ·tail q)) ih = List·Memᴰ·tail (ih (inr q))
 
-mem-sort : (c : Claim) (l : List Claim) → List·Memᴰ c l → List·Memᴰ c (sort l)
+pub mem-sort : (c : Claim) (l : List Claim) → List·Memᴰ c l → List·Memᴰ c (sort l)
 unfolding sort
 mem-sort c (d ∷ l) (List·Memᴰ·head e) = mem-insert c d (sort l) (inl e)
 mem-sort c (d ∷ l) (List·Memᴰ·tail m) = mem-insert c d (sort l) (inr (mem-sort c l m))

@@ -417,7 +417,7 @@ latency-fits advertise n h = h
 latency-fits (failed b c) n h = h
 
 -- an age is kept from an earlier advance or counts from this one
-age-valid : (clock now : ℕ) (r : Result) → clock ≤ now → ValidResult clock r → ageOf now r ≤ now / 100
+pub age-valid : (clock now : ℕ) (r : Result) → clock ≤ now → ValidResult clock r → ageOf now r ≤ now / 100
 unfolding ageOf
 age-valid clock now r later v = go (r .entry) (v .age)
   where

@@ -258,7 +258,7 @@ unfolding reservedA totalOn limitOn inForce
 reserved-a sc now s p = refl
 
 module _ (sc : Scene) (now : ℕ) (s : List Stream) (p : ℕ) where
-  column-agrees : (c : Class) (x : Stream) → Agrees sc now p c (columnOf sc now s p) (admitted (limitOn sc now s p c) (claims sc now p c s)) x
+  pub column-agrees : (c : Class) (x : Stream) → Agrees sc now p c (columnOf sc now s p) (admitted (limitOn sc now s p c) (claims sc now p c s)) x
   unfolding admitted leftFor columnOf
   column-agrees c x =
       rw (advertised sc p x (claim (sc .settings) now p x .demand) (leftFor sc now s p x)) (go (sameClass (streamClass (sc .settings) x) c) refl)

@@ -1,7 +1,7 @@
 -- 01's marked examples P1 to P13 and its worked example, computed by the definitions and compared with what 01 prints; then
 -- examples of what 01 says of registering and of ages, of the near misses that it shuts out, of the domain's edge, of class B's
--- limit in force, of latency that grows, of inbound ports and shared addresses, of talker pruning, of the order of a PDU's checks,
--- and of vectors that are passed over.
+-- limit in force, of latency that grows, of inbound ports and shared addresses, of talker pruning, of what an unimportant stream can't
+-- touch, of why a stream was refused, of the order of a PDU's checks, and of vectors that are passed over.
 use mathlib.Core.Path.{_≡_, refl}
 use mathlib.Core.List.{List, [], _∷_, _++_, map}
 use mathlib.Core.Bool.{Bool, true, false, cond, _&&_}
@@ -27,6 +27,7 @@ use Rattle.model.specs.Declarations
 use Rattle.model.specs.Reports
 use Rattle.model.specs.WrittenFrames
 use Rattle.model.specs.Table
+use Rattle.model.specs.Why
 use Rattle.model.specs.Calls
 use Rattle.model.proofs.Opened.{opened}
 use Rattle.model.proofs.Untouched.{remaining, sceneAt}
@@ -792,6 +793,67 @@ needs =
 pub need-examples : All Holds needs
 unfolding shown needs Table.headNumbers Table.headWord Table.portNumbers Table.cellNumbers equal claimNumbers premises agreements compared readyOnes held addressed second inB intercom show asksFor asking matchingOn hallOf hall
 need-examples = (refl, (refl, (refl, (refl, (refl, (refl, (refl, (refl, tt))))))))
+
+-- Why a stream was refused (02, ix): of the stream at place k on port 2 the letter of the step, how many streams are listed, the limit
+-- in force and the shortfall, then each StreamID listed with its demand; from what is registered, whether an advance followed or not.
+
+told : ℕ → Bridge → List ℕ
+told k b =
+    let r = Why.reason b 1 (State.streamAt k b) in
+    Why.letter (r .step) ∷ length (r .streams) ∷ r .limit ∷ r .shortfall
+    ∷ Fields.flat (λ (c : Bandwidth.Claim). c .id ∷ c .demand ∷ []) (r .streams)
+
+-- a fifth beside the four, of this rank, that no advance has decided
+asFifth : ℕ → Bridge
+asFifth octet = from four (pdu 1 (talks 5 224 octet) ∷ pdu 2 (hears 5 128) ∷ [])
+
+-- a stream on a bridge whose neighbours have declared no Domain value, and what is handed over then
+unheard : List Handed → Bridge
+unheard l = from (State.started (settings 75000000)) (pdu 1 (talks 1 224 rank1) ∷ l)
+
+pub reasons : List Example
+reasons =
+    -- h: of 75,000,000 bit/s four reserve 68,352,000, and 10,440,000 are missing for the fifth
+    record {
+      computed = told 4 (asFifth rank1);
+      printed =
+          104 ∷ 4 ∷ 75000000 ∷ 10440000 ∷ 0x0200000000010001 ∷ 17088000 ∷ 0x0200000000010002 ∷ 17088000 ∷ 0x0200000000010003 ∷ 17088000
+          ∷ 0x0200000000010004 ∷ 17088000 ∷ [];
+    }
+    -- the most important first: one of rank 0 stands before those of rank 1, and is admitted itself (i)
+    ∷ record {
+      computed = told 3 (asFifth rank0) ++ told 4 (asFifth rank0);
+      printed =
+          104 ∷ 4 ∷ 75000000 ∷ 10440000 ∷ 0x0200000000010005 ∷ 17088000 ∷ 0x0200000000010001 ∷ 17088000 ∷ 0x0200000000010002 ∷ 17088000
+          ∷ 0x0200000000010003 ∷ 17088000 ∷ 105 ∷ 0 ∷ 0 ∷ 0 ∷ [];
+    }
+    -- a stream whose Listener is not ready reserves nothing, and is not listed
+    ∷ record {
+      computed =
+          told 2
+          (bridge 30000000
+          (pdu 1 (advertisesOf 1 224 rank1 3 (129 ∷ [])) ∷ pdu 2 (listenersOf 1 3 (129 ∷ []) (0x68 ∷ [])) ∷ []));
+      printed = 104 ∷ 1 ∷ 30000000 ∷ 4176000 ∷ 0x0200000000010002 ∷ 17088000 ∷ [];
+    }
+    -- class B's limit in force is what class A leaves, and A's streams are not listed
+    ∷ record { computed = told 4 (intercom show); printed = 104 ∷ 0 ∷ 6648000 ∷ 1896000 ∷ [] }
+    -- j by the Domain values that are registered: before the first advance, and after one that found none, once a neighbour is heard (i)
+    ∷ record {
+      computed = told 0 (unheard []) ++ told 0 (unheard (time 100 ∷ pdu 2 matching ∷ []));
+      printed = 106 ∷ 0 ∷ 0 ∷ 0 ∷ 105 ∷ 0 ∷ 0 ∷ 0 ∷ [];
+    }
+    -- d by what is registered: a changed join since the advance that admitted the stream; c for a registered Failed, and a on t
+    ∷ record {
+      computed =
+          told 0 (settledTalker (pdu 1 (talks 1 225 rank1) ∷ []))
+          ++ (told 0 (bridge 75000000 (pdu 1 (failedOf 1 224 rank1 1 (108 ∷ [])) ∷ [])) ++ told 0 (bridge 75000000 (pdu 2 (talks 1 224 rank1) ∷ [])));
+      printed = 100 ∷ 0 ∷ 0 ∷ 0 ∷ 99 ∷ 0 ∷ 0 ∷ 0 ∷ 97 ∷ 0 ∷ 0 ∷ 0 ∷ [];
+    }
+    ∷ []
+
+pub why-examples : All Holds reasons
+unfolding shown reasons told asFifth unheard inB intercom show
+why-examples = (refl, (refl, (refl, (refl, (refl, (refl, tt))))))
 
 -- PDUs with two faults, at neighbouring checks, and each with the first fault mended: the first that the walk meets gives the
 -- number.

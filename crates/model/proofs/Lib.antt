@@ -38,6 +38,7 @@ pub mod Refusals
 pub mod FoundAddresses
 pub mod AddressesKept
 pub mod AddressRefusals
+pub mod WhyRefusals
 pub mod Edge
 pub mod OwnCodes
 pub mod Boundaries
@@ -46,6 +47,7 @@ pub mod Pruning
 pub mod FanIn
 pub mod Untouched
 pub mod Why
+pub mod Listed
 pub mod HeldClock
 pub mod Newcomer
 pub mod Opened

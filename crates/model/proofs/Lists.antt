@@ -1,6 +1,7 @@
 -- Laws of lists, tests and `All`.
 use mathlib.Core.Path.{_≡_, refl, sym, ap, _∙_}
-use mathlib.Core.List.{List, [], _∷_, _++_, map}
+use mathlib.Core.Logic.{_↔_, _⊎_, inl, inr}
+use mathlib.Core.List.{List, [], _∷_, _++_, map, List·Memᴰ, List·Memᴰ·head, List·Memᴰ·tail, List·Memᴰ·not-nil, List·Memᴰ·cases-cons}
 use mathlib.Core.Bool.{Bool, true, false, cond, _&&_, true≢false, false≢true}
 use Prim.Native.Nat.{ℕ, zero, suc, _+_, _≤_, _<_}
 use native.Mathlib.Omega.{arith}
@@ -68,6 +69,40 @@ module _ {A : Type 0} (P : A → Type 0) where
   unfolding tabulate
   all-tabulate zero p f h = tt
   all-tabulate (suc n) p f h = (h p, all-tabulate n (suc p) f h)
+
+-- Membership.
+
+module _ {A : Type 0} where
+  -- every element of a list is in it
+  pub all-in : (l : List A) → All (λ x. List·Memᴰ x l) l
+  all-in [] = tt
+  all-in (x ∷ l) = (List·Memᴰ·head refl, all-map (λ y. List·Memᴰ y l) (λ y. List·Memᴰ y (x ∷ l)) (λ y m. List·Memᴰ·tail m) l (all-in l))
+
+  pub mem-keep : (t : Bool) (y x : A) (l : List A) → List·Memᴰ y (keep t x l) ↔ (((t ≡ true) × (y ≡ x)) ⊎ List·Memᴰ y l)
+  mem-keep true y x l = (λ m. there (List·Memᴰ·cases-cons m), back)
+    where
+      there : (y ≡ x) ⊎ List·Memᴰ y l → ((true ≡ true) × (y ≡ x)) ⊎ List·Memᴰ y l
+      there (inl e) = inl (refl, e)
+      there (inr m) = inr m
+
+      back : ((true ≡ true) × (y ≡ x)) ⊎ List·Memᴰ y l → List·Memᴰ y (x ∷ l)
+      back (inl a) = List·Memᴰ·head (a .1)
+      back (inr m) = List·Memᴰ·tail m
+  mem-keep false y x l = (λ m. inr m, back)
+    where
+      back : ((false ≡ true) × (y ≡ x)) ⊎ List·Memᴰ y l → List·Memᴰ y l
+      back (inl a) = absurd (false≢true (a .0))
+      back (inr m) = m
+
+-- and has a place there
+module _ {A : Type 0} (x d : A) where
+  pub mem-at : (l : List A) → List·Memᴰ x l → (k : ℕ) × (k < length l) × (getD l k d ≡ x)
+  mem-at [] m = absurd (List·Memᴰ·not-nil m)
+  mem-at (y ∷ l) m = go (List·Memᴰ·cases-cons m) (mem-at l)
+    where
+      go : (x ≡ y) ⊎ List·Memᴰ x l → (List·Memᴰ x l → (k : ℕ) × (k < length l) × (getD l k d ≡ x)) → (k : ℕ) × (k < suc (length l)) × (getD (y ∷ l) k d ≡ x)
+      go (inl e) ih = (0, omega arith, sym e)
+      go (inr n) ih = let w = ih n in (suc (w .0), omega (arith, w .1), w .2)
 
 -- What a list made from a function has at a place.
 module _ {A : Type 0} (f : ℕ → A) where

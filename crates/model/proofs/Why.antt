@@ -1,15 +1,18 @@
--- Why a stream was refused (02, ix): the named step applies and no earlier one does; an advance to the held clock gives just its
--- column; the listed demands are exactly those that were subtracted, each once, the most important first.
+-- Why a stream was refused (02, ix): the named step applies and no earlier one does, and each step's name gives its column. That an
+-- advance to the held clock gives just that column is in HeldClock, and what is listed in Listed.
 use mathlib.Core.Path.{_≡_, refl, sym, _∙_, ap}
+use mathlib.Core.Logic.{_↔_}
 use mathlib.Core.List.{List, [], _∷_, _++_}
 use mathlib.Core.Bool.{Bool, true, false, cond, not, _&&_, false≢true, true≢false}
-use Prim.Native.Nat.{ℕ}
+use Prim.Native.Nat.{ℕ, _-_, _≤_, _<_}
+use native.Mathlib.Omega.{arith}
 use lib.Dec.{ltb}
+use borrow.Author.Tests.{ltb-true, ltb-false}
 use Rattle.model.specs.Lists.{All}
 use Rattle.model.specs.State.{Settings, Cell, Column, Stream, cellAt}
-use Rattle.model.specs.Settling.{Scene, Source, nowhere, from, sourceOf, Inbound, inboundOf, StepName, stepH, stepI, Step, first, clear, outcomeColumn, stepsFrom, lastSteps, steps, claim, leftFor, byBandwidth, columnOf}
+use Rattle.model.specs.Settling.{Scene, Source, nowhere, from, sourceOf, streamClass, Inbound, inboundOf, StepName, stepH, stepI, Step, first, clear, outcomeColumn, stepsFrom, lastSteps, steps, claim, limitOn, leftFor, byBandwidth, columnOf}
 use Rattle.model.proofs.Lists.{all-append}
-use Rattle.model.specs.Why.{letter, sameStep, columnBy, firstName, lastName, stepOn}
+use Rattle.model.specs.Why.{letter, sameStep, columnBy, firstName, lastName, stepOn, listed, plainly, reasonOn}
 
 -- A step's name gives the column that its outcome gives.
 module _ (st : Settings) (s : Source) where
@@ -119,3 +122,109 @@ not-h (t ∷ l) a n h = go (t .test) (not-h l (a .1) n h)
 
 pub steps-not-h : (sc : Scene) (p : ℕ) (x : Stream) (n : StepName) → sameStep n stepH ≡ false → sameStep (firstName (steps sc p x) n) stepH ≡ false
 steps-not-h sc p x = not-h (steps sc p x) (before-all sc p x)
+
+-- The named step applies, and no earlier one does.
+pub record Deciding (l : List Step) (n : StepName) : Type 0 where
+  pub earlier : List Step
+  pub step : Step
+  pub later : List Step
+  pub all : l ≡ earlier ++ (step ∷ later)
+  pub none : clear earlier ≡ true
+  pub applies : step .test ≡ true
+  pub named : step .name ≡ n
+
+deciding : (l : List Step) (n : StepName) → clear l ≡ false → Deciding l (firstName l n)
+unfolding clear firstName
+deciding [] n h = absurd (true≢false h)
+deciding (t ∷ l) n h = go (t .test) refl h (deciding l n)
+  where
+    go : (b : Bool) → t .test ≡ b → (not b && clear l) ≡ false → (clear l ≡ false → Deciding l (firstName l n)) → Deciding (t ∷ l) (cond b (t .name) (firstName l n))
+    go true e h ih = record { earlier = []; step = t; later = l; all = refl; none = refl; applies = e; named = refl }
+    go false e h ih =
+        let w = ih h in
+        record { earlier = t ∷ w .earlier; step = w .step; later = w .later; all = ap (λ (m : List Step). t ∷ m) (w .all); none = rw e (w .none); applies = w .applies; named = w .named }
+
+module _ (sc : Scene) (now : ℕ) (s : List Stream) (p : ℕ) (x : Stream) where
+  abbrev decides : StepName
+  decides = stepOn sc now s p x
+
+  abbrev demanded : ℕ
+  demanded = claim (sc .settings) now p x .demand
+
+  abbrev left : ℕ
+  left = leftFor sc now s p x
+
+  -- The three ways in which a step decides: h, i, or one before them.
+  data Way : Type 0 where
+    lacking : clear (steps sc p x) ≡ true → left < demanded → decides ≡ stepH → Way
+    fitting : clear (steps sc p x) ≡ true → demanded ≤ left → decides ≡ stepI → Way
+    earlier : clear (steps sc p x) ≡ false → sameStep decides stepH ≡ false → sameStep decides stepI ≡ false → Way
+
+  way : Way
+  unfolding stepOn lastName
+  way = go (clear (steps sc p x)) refl (ltb left demanded) refl
+    where
+      go : (a : Bool) → clear (steps sc p x) ≡ a → (b : Bool) → ltb left demanded ≡ b → Way
+      go true c true e = lacking c (ltb-true left demanded e) (name-clear _ (steps sc p x) c ∙ rw e)
+      go true c false e = fitting c (ltb-false left demanded e) (name-clear _ (steps sc p x) c ∙ rw e)
+      go false c b e =
+          let other : sameStep (firstName (steps sc p x) stepI) stepI ≡ false = sym (steps-clear sc p x) ∙ c in
+          let same = name-stays (lastName demanded left) (steps sc p x) other in
+          earlier c (rw same (steps-not-h sc p x stepI (unfold sameStep letter in refl))) (rw same other)
+
+  -- A step decides: h where no step before it applies and the demand is above what is left, i where none applies and it is not; any
+  -- other is the first that applies.
+  pub record Decided (n : StepName) : Type 0 where
+    pub refused : (n ≡ stepH) ↔ ((clear (steps sc p x) ≡ true) × (left < demanded))
+    pub admitted : (n ≡ stepI) ↔ ((clear (steps sc p x) ≡ true) × (demanded ≤ left))
+    pub before : (n ≡ stepH → ⊥) → (n ≡ stepI → ⊥) → Deciding (steps sc p x) n
+
+  apart : stepH ≡ stepI → ⊥
+  unfolding letter
+  apart e = let n : letter stepH ≡ letter stepI = ap letter e in absurd (omega arith)
+
+  pub step-decides : Decided decides
+  unfolding stepOn sameStep letter
+  step-decides = go way
+    where
+      go : Way → Decided decides
+      go (lacking c h e) = record {
+        refused = (λ q. (c, h), λ a. e);
+        admitted = (λ q. absurd (apart (sym e ∙ q)), λ a. absurd (omega (arith, a .1)));
+        before = λ n. absurd (n e);
+      }
+      go (fitting c h e) = record {
+        refused = (λ q. absurd (apart (sym q ∙ e)), λ a. absurd (omega (arith, a .1)));
+        admitted = (λ q. (c, h), λ a. e);
+        before = λ n m. absurd (m e);
+      }
+      go (earlier c h i) = record {
+        refused = (λ q. absurd (true≢false (rw q at h)), λ a. absurd (true≢false (sym (a .0) ∙ c)));
+        admitted = (λ q. absurd (true≢false (rw q at i)), λ a. absurd (true≢false (sym (a .0) ∙ c)));
+        before = λ n m. deciding (steps sc p x) (lastName demanded left) c;
+      }
+
+  -- What is told: for step h the list, the limit in force and the shortfall, and for any other nothing more.
+  pub told-h : decides ≡ stepH
+      → reasonOn sc now s p x ≡ record { step = stepH; streams = listed sc now s p x; limit = limitOn sc now s p (streamClass (sc .settings) x); shortfall = demanded - left }
+  unfolding reasonOn sameStep letter
+  told-h e = rw e
+
+  pub told-other : (decides ≡ stepH → ⊥) → reasonOn sc now s p x ≡ plainly decides
+  unfolding reasonOn sameStep letter
+  told-other n = go way
+    where
+      go : Way → reasonOn sc now s p x ≡ plainly decides
+      go (lacking c h e) = absurd (n e)
+      go (fitting c h e) = rw e
+      go (earlier c h i) = rw h
+
+  -- the step that is told is the deciding one
+  pub step-told : reasonOn sc now s p x .step ≡ decides
+  unfolding plainly
+  step-told = go way
+    where
+      go : Way → reasonOn sc now s p x .step ≡ decides
+      go (lacking c h e) = rw (told-h e) (sym e)
+      go (fitting c h e) = rw (told-other (λ q. apart (sym q ∙ e)))
+      go (earlier c h i) = rw (told-other (λ q. true≢false (unfold sameStep letter in (rw q at h))))

@@ -1,12 +1,12 @@
 //! What is counted of MMRP frames, addresses and pruning.
 
 use super::newer::causes;
-use super::{event_word, registered_at, talker_port, Coverage};
+use super::{event_word, is_talker, registered_at, talker_port, Coverage};
 use crate::bridge::Bridge;
 use crate::fan_in::FanIn;
 use crate::mmrp::{self, Address, Message, MmrpType, Pdu, Vector, VectorRead, ADDRESS_BITS};
 use crate::numbers::{self, Number};
-use crate::pdu::{Event, Fault};
+use crate::pdu::{self, Event, Fault};
 use crate::registrations::{is_join, Addresses, TalkerRegistration, MOST_ADDRESSES};
 use crate::settling::{Column, Step};
 
@@ -41,6 +41,7 @@ impl Coverage {
                 self.addresses_joined(&pdu, held);
                 let is = &after.registrations.addresses[port as usize - 1];
                 self.addresses((held, is), &pdu, before.clock);
+                self.leaves_talkers(&before, port as usize, &pdu);
             }
             Err(fault) => self.mmrp_refused(octets.first().copied().unwrap_or(0), &fault),
         }
@@ -197,6 +198,25 @@ impl Coverage {
         let unheld =
             |(event, address): (Event, Address)| event == Event::Lv && !is.contains_key(&address);
         self.count_if("Lv of an address that isn't held", pdu.addresses().any(unheld));
+    }
+
+    /// An accepted MSRP frame whose LeaveAll has the number of an MMRP type.
+    pub fn leaves_addresses(&mut self, before: &Bridge, port: usize, pdu: &pdu::Pdu) {
+        let by_talkers =
+            |vector: &pdu::Vector| vector.leave_all && is_talker(vector.attribute_type);
+        let stays = |leaving: &Option<u32>| leaving.is_none();
+        let beside = before.registrations.addresses[port - 1].values().any(stays);
+        let leaves = pdu.vectors().any(by_talkers);
+        self.count_if("LeaveAll of MSRP's type 1 or 2 beside addresses", leaves && beside);
+    }
+
+    /// An accepted MMRP frame whose LeaveAll has the number of an MSRP type.
+    fn leaves_talkers(&mut self, before: &Bridge, port: usize, pdu: &Pdu) {
+        let mut on_port = before.registrations.streams.values().map(|ports| &ports[port - 1]);
+        let stays = |talker: &TalkerRegistration| talker.leaving.is_none();
+        let beside = on_port.any(|on_port| on_port.talker.as_ref().map_or(false, stays));
+        let leaves = pdu.vectors().any(|vector| vector.leave_all);
+        self.count_if("LeaveAll of MMRP beside Talkers that aren't leaving", leaves && beside);
     }
 
     pub fn addresses_left(&mut self, time: u32, before: &Bridge) {

@@ -46,7 +46,7 @@ impl Coverage {
         for two in cutting.windows(2) {
             let (before, behind) = (run[two[1].start - 1], run[two[1].start]);
             let gap = behind - before - 1;
-            if mac(before) == mac(behind) && (19..=24).contains(&gap) {
+            if mac(before) == mac(behind) && (19..=25).contains(&gap) {
                 self.count(&format!("gap of {gap} between two vectors"));
             }
         }

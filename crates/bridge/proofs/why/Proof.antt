@@ -1,6 +1,6 @@
 -- `bridge::why` meets its contract. Assumes nothing.
 use Prim.Native.Nat.{_-_, _≤_, _<_}
-use mathlib.Core.Path.{_≡_, sym, ap, _∙_}
+use mathlib.Core.Path.{_≡_, sym, _∙_}
 use mathlib.Core.Bool.{true, false}
 use native.Mathlib.Omega.{arith}
 use lib.ListN.{length}
@@ -14,9 +14,10 @@ use Rattle.model.proofs.Parts.{octets-of}
 use Rattle.model.proofs.Tables.{valid-decode}
 use Rattle.model.proofs.Fits.{formed-laid, laid-fits}
 use Rattle.model.proofs.HeldClock.{own-domains-stay, own-addresses-stay}
+use Rattle.model.proofs.WhyRefusals.{why-12, why-1, why-15, why-10, why-tells}
 use Rattle.table.specs.Updates.{streamAt}
 use Rattle.bridge.proofs.OnTables.{port-zero, port-above, port-right}
-use Rattle.bridge.proofs.Asking.{HeldAt, found-held, not-found, why-unformed, why-wrong-port, why-not-held, why-short, why-done}
+use Rattle.bridge.proofs.Asking.{HeldAt, found-held, not-found, refuses}
 use Rattle.bridge.proofs.why.Statement.{statement}
 use Rattle.bridge.proofs.why.Tie as tie
 
@@ -36,11 +37,12 @@ ports-requires : tie.Need-ports-requires
 ports-requires c κs = laid c
 
 returns : tie.Need-returns
-returns c = c .refused-why .ensures _ ∙ why-wrong-port _ _ _ _ (well-formed (c .before .before .before)) (port-zero _ _ (c .before .if2 .taken))
+returns c = c .refused-why .ensures _ ∙ refuses _ _ _ _ 1 (λ e. omega arith) (why-1 _ _ _ _ .1 (well-formed (c .before .before .before), port-zero _ _ (c .before .if2 .taken)))
 
 returns-2 : tie.Need-returns-2
 returns-2 c =
-    c .refused-why2 .ensures _ ∙ why-wrong-port _ _ _ _ (well-formed (c .before .before .before .before)) (port-above _ _ (rw (c .before .before .before .ports .ensures .0) at (c .before .if3 .taken)))
+    c .refused-why2 .ensures _
+    ∙ refuses _ _ _ _ 1 (λ e. omega arith) (why-1 _ _ _ _ .1 (well-formed (c .before .before .before .before), port-above _ _ (rw (c .before .before .before .ports .ensures .0) at (c .before .if3 .taken))))
 
 find-requires : tie.Need-find-requires
 find-requires c κs = laid (c .before .before .before)
@@ -49,7 +51,8 @@ returns-3 : tie.Need-returns-3
 returns-3 c =
     let f = laid-fits _ (laid (c .before .before .before .before .before .before .before)) in
     c .refused-why3 .ensures _
-    ∙ why-not-held _ _ _ _ (well-formed (c .before .before .before .before .before .before .before)) (a-port (c .before .before .before .before)) (not-found _ _ (f .ascending) 0 _ (sym (c .before .before .before .find .ensures) ∙ c .before .enum-told .given .1))
+    ∙ refuses _ _ _ _ 15 (λ e. omega arith)
+    (why-15 _ _ _ _ .1 ((well-formed (c .before .before .before .before .before .before .before), a-port (c .before .before .before .before)), not-found _ _ (f .ascending) 0 _ (sym (c .before .before .before .find .ensures) ∙ c .before .enum-told .given .1)))
 
 -- the stream as it was found
 found : (c : tie.After-known-told) → let a = c .before .before .before .before .before .before .before .before .before .before .before .args in HeldAt (a .id) 0 (c .before .k .given .0 .0) (decode (a .table .now) .streams)
@@ -59,7 +62,9 @@ returns-4 : tie.Need-returns-4
 returns-4 c =
     let w = found (c .before .before) in
     let short : length (c .before .before .before .before .before .before .before .before .before .before .before .before .before .args .buffer .now) < listSize = omega (arith, c .before .if4 .taken) in
-    c .refused-why4 .ensures _ ∙ why-short _ _ _ _ (well-formed (c .before .before .before .before .before .before .before .before .before)) (a-port (c .before .before .before .before .before .before)) _ (w .is) short
+    c .refused-why4 .ensures _
+    ∙ refuses _ _ _ _ 10 (λ e. omega arith)
+    (why-10 _ _ _ _ .1 ((well-formed (c .before .before .before .before .before .before .before .before .before), a-port (c .before .before .before .before .before .before)), (_, w .is, short)))
 
 -- and by its place
 held : (c : tie.After-known-told) → let a = c .before .before .before .before .before .before .before .before .before .before .before .args in seek (a .id) (decode (a .table .now) .streams) ≡ heldAs (streamAt (c .before .k .given .0 .0) (decode (a .table .now)))
@@ -82,10 +87,11 @@ explain-requires c κs =
 returns-5 : tie.Need-returns-5
 returns-5 c =
     let long : listSize ≤ length (c .before .before .before .before .before .before .before .before .before .before .before .before .before .before .before .before .args .buffer .now) = omega (arith, c .before .before .before .before .if4 .left) in
-    c .before .before .explain .ensures ∙ why-done _ _ _ _ (well-formed (c .before .before .before .before .before .before .before .before .before .before .before .before)) (a-port (c .before .before .before .before .before .before .before .before .before)) _ (held (c .before .before .before .before .before)) long
+    c .before .before .explain .ensures
+    ∙ sym (why-tells _ _ _ _ (well-formed (c .before .before .before .before .before .before .before .before .before .before .before .before), a-port (c .before .before .before .before .before .before .before .before .before)) _ (held (c .before .before .before .before .before)) long)
 
 returns-6 : tie.Need-returns-6
-returns-6 c = c .refused-why5 .ensures _ ∙ why-unformed _ _ _ _ (sym (c .before .before .is-formed .ensures) ∙ c .before .if1 .left)
+returns-6 c = c .refused-why5 .ensures _ ∙ refuses _ _ _ _ 12 (λ e. omega arith) (why-12 _ _ _ _ .1 (sym (c .before .before .is-formed .ensures) ∙ c .before .if1 .left))
 
 pub why-spec : {M : Type 1} → statement M
 why-spec =

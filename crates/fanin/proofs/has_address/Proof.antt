@@ -7,13 +7,13 @@ use Rattle.fanin.proofs.has_address.Statement.{statement}
 use Rattle.fanin.proofs.has_address.Tie as tie
 
 returns : tie.Need-returns
-returns c = another-address _ _ (λ e. c .if1 .taken (c .before .address .ensures ∙ e))
+returns c = another-address _ _ (λ e. c .if1 .taken (c .before .before .pre .1 ∙ e))
 
 returns-2 : tie.Need-returns-2
 returns-2 c =
-    let a = c .before .before .before .before in
-    let q : a .address .result ≡ a .before .before .args .wanted = omega (arith, c .before .before .before .if1 .left) in
-    its-address _ _ _ (sym (c .before .before .source .ensures) ∙ c .enum-told .given .1) (sym (a .address .ensures) ∙ q)
+    let a = c .before .before .before .before .before in
+    let q : a .args .address ≡ a .args .wanted = omega (arith, c .before .before .before .if1 .left) in
+    its-address _ _ _ (sym (c .before .before .source .ensures) ∙ c .enum-told .given .1) (sym (a .pre .1) ∙ q)
 
 returns-3 : tie.Need-returns-3
 returns-3 c = no-address _ _ (sym (c .before .before .source .ensures) ∙ c .enum-told2 .given .1)
@@ -21,4 +21,4 @@ returns-3 c = no-address _ _ (sym (c .before .before .source .ensures) ∙ c .en
 pub has-address-spec : {M : Type 1} → statement M
 has-address-spec =
     tie.close
-    (tie.spec (λ c κs. search needs) returns (λ c κs. search needs) (λ c. search needs) (λ c. search needs) returns-2 returns-3)
+    (tie.spec returns (λ c κs. search needs) (λ c. search needs) (λ c. search needs) returns-2 returns-3)
