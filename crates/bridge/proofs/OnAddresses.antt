@@ -2,7 +2,7 @@
 use mathlib.Core.Path.{_≡_, refl, sym, _∙_, ap}
 use mathlib.Core.List.{List}
 use mathlib.Core.Bool.{true, false}
-use Prim.Native.Nat.{ℕ, zero, suc, _-_, _≤_, _<_}
+use Prim.Native.Nat.{ℕ, _-_, _≤_, _<_}
 use native.Mathlib.Omega.{arith}
 use lib.ListN.{length}
 use borrow.Author.Tests.{le-leb, lt-leb, ne-eqb}
@@ -17,7 +17,8 @@ use Rattle.model.proofs.Lists.{at-here}
 use Rattle.model.proofs.AddressesKept.{acts-macs}
 use Rattle.model.proofs.AddressRefusals.{heldOn}
 use Rattle.mmrpdu.specs.Reader.{numberOf}
-use Rattle.bridge.proofs.OnTables.{not-formed}
+use Rattle.bridge.specs.Promises.{portRefusal}
+use Rattle.bridge.proofs.OnTables.{port-refused}
 
 -- the bridge b once the acts of an MMRP frame on port p are done
 abbrev pub addressed : Bridge → ℕ → List AddressAct → Bridge
@@ -31,40 +32,31 @@ addressed-held b p es h =
     ap (λ (o : Own). macs (o .addresses)) (at-here (p - 1) (changeAddresses (doesAddresses (b .clock) es)) (b .own) noOwn h)
     ∙ (unfold changeAddresses in (acts-macs (b .clock) es (ownAt (b .own) (p - 1) .addresses)))
 
+-- the number that the checked walk gives, where it is not 0
+fault-of : (v : AddressReading) (n : ℕ) → n ≡ numberOf v → (n ≡ 0 → ⊥) → v ≡ refusedFrame n
+unfolding numberOf
+fault-of (refusedFrame k) n e z = ap refusedFrame (sym e)
+fault-of (addressActs es) n e z = absurd (z e)
+
 -- A frame that is refused before its addresses are counted.
 module _ (t : List ℕ) (p : ℕ) (pdu : List ℕ) where
-  pub mmrp-unformed : formed t ≡ false → receiveMmrpOn t p pdu ≡ record { number = 12; table = t }
-  unfolding receiveMmrpOn
-  mmrp-unformed h = not-formed t (λ b. receiveMmrp b p pdu) h
+  pub mmrp-refused : (n : ℕ) → n ≡ portRefusal t p → (n ≡ 0 → ⊥) → receiveMmrpOn t p pdu ≡ record { number = n; table = t }
+  unfolding receiveMmrpOn receiveMmrp addressReading receivedAddresses
+  mmrp-refused = port-refused t p (λ b. receiveMmrp b p pdu) (λ w. rw w)
 
-  module _ (h : formed t ≡ true) where
-    pub mmrp-wrong-port : wrongPort (decode t .settings) p ≡ true → receiveMmrpOn t p pdu ≡ record { number = 1; table = t }
+  module _ (h : formed t ≡ true) (w : wrongPort (decode t .settings) p ≡ false) where
+    pub mmrp-faulty : (n : ℕ) → n ≡ numberOf (addressWalk pdu) → (n ≡ 0 → ⊥) → receiveMmrpOn t p pdu ≡ record { number = n; table = t }
     unfolding receiveMmrpOn onTable leaves receiveMmrp addressReading receivedAddresses
-    mmrp-wrong-port w = rw (h, w)
+    mmrp-faulty n e z = rw (h, w, fault-of (addressWalk pdu) n e z, ne-eqb n 0 z)
 
-    module _ (w : wrongPort (decode t .settings) p ≡ false) where
-      mmrp-fault : (n : ℕ) → addressWalk pdu ≡ refusedFrame (suc n) → receiveMmrpOn t p pdu ≡ record { number = suc n; table = t }
+    -- its acts on the addresses held
+    module _ (es : List AddressAct) (e : addressWalk pdu ≡ addressActs es) where
+      pub mmrp-full : addresses < length (doesAddresses (decode t .clock) es (ownAt (decode t .own) (p - 1) .addresses)) →
+          receiveMmrpOn t p pdu ≡ record { number = 14; table = t }
       unfolding receiveMmrpOn onTable leaves receiveMmrp addressReading receivedAddresses
-      mmrp-fault n e = rw (h, w, e, ne-eqb (suc n) 0 (omega arith))
+      mmrp-full l = rw (h, w, e, lt-leb _ _ l)
 
-      -- the number that the checked walk gives, where it is not 0
-      pub mmrp-faulty : (n : ℕ) → n ≡ numberOf (addressWalk pdu) → (n ≡ 0 → ⊥) → receiveMmrpOn t p pdu ≡ record { number = n; table = t }
-      unfolding numberOf
-      mmrp-faulty n e z = go (addressWalk pdu) refl
-        where
-          go : (v : AddressReading) → addressWalk pdu ≡ v → receiveMmrpOn t p pdu ≡ record { number = n; table = t }
-          go (refusedFrame zero) q = absurd (z (e ∙ ap numberOf q))
-          go (refusedFrame (suc k)) q = rw (e ∙ ap numberOf q) (mmrp-fault k q)
-          go (addressActs es) q = absurd (z (e ∙ ap numberOf q))
-
-      -- its acts on the addresses held
-      module _ (es : List AddressAct) (e : addressWalk pdu ≡ addressActs es) where
-        pub mmrp-full : addresses < length (doesAddresses (decode t .clock) es (ownAt (decode t .own) (p - 1) .addresses)) →
-            receiveMmrpOn t p pdu ≡ record { number = 14; table = t }
-        unfolding receiveMmrpOn onTable leaves receiveMmrp addressReading receivedAddresses
-        mmrp-full l = rw (h, w, e, lt-leb _ _ l)
-
-        pub mmrp-taken : length (doesAddresses (decode t .clock) es (ownAt (decode t .own) (p - 1) .addresses)) ≤ addresses →
-            receiveMmrpOn t p pdu ≡ record { number = 0; table = encode (addressed (decode t) p es) }
-        unfolding receiveMmrpOn onTable leaves receiveMmrp addressReading receivedAddresses
-        mmrp-taken l = rw (h, w, e, le-leb _ _ l)
+      pub mmrp-taken : length (doesAddresses (decode t .clock) es (ownAt (decode t .own) (p - 1) .addresses)) ≤ addresses →
+          receiveMmrpOn t p pdu ≡ record { number = 0; table = encode (addressed (decode t) p es) }
+      unfolding receiveMmrpOn onTable leaves receiveMmrp addressReading receivedAddresses
+      mmrp-taken l = rw (h, w, e, le-leb _ _ l)

@@ -8,19 +8,15 @@ use lib.ListN.{length, take, drop, take-append-drop}
 use lib.Dec.{leb}
 use borrow.Author.Tests.{leb-true, leb-false}
 use Rattle.model.specs.Layout.{addresses, ownPlace, ownSize}
-use Rattle.model.specs.Lists.{All, Octets}
+use Rattle.model.specs.Lists.{All}
 use Rattle.model.specs.State.{Presence, vacant, present, Address, Own, Bridge, noOwn, ownAt}
 use Rattle.model.specs.Registrations.{AddressAct, AddressReading, doesAddresses, changeAddresses, owning}
-use Rattle.model.specs.Frames.{wrongPort}
 use Rattle.model.specs.AddressFrames.{addressWalk}
-use Rattle.model.specs.Table.{formed, encode, decode, ownOctets, toOwn}
+use Rattle.model.specs.Table.{encode, decode, ownOctets, toOwn}
 use Rattle.model.specs.Calls.{receiveMmrpOn}
 use Rattle.model.proofs.Lists.{all-at}
 use Rattle.model.proofs.Valid.{ValidPresence, ValidAddress, ValidOwn, Valid}
 use Rattle.model.proofs.Tables.{valid-decode}
-use Rattle.model.proofs.Fits.{formed-laid}
-use Rattle.model.proofs.ReceiveKeepsForm.{right-port}
-use Rattle.table.specs.Places.{PortIn}
 use Rattle.table.proofs.StreamParts.{at-set}
 use Rattle.table.proofs.OwnParts.{lent-own-at, left-own-at}
 use Rattle.mmrpdu.specs.Reader.{numberOf}
@@ -29,6 +25,7 @@ use Rattle.addresses.specs.Room.{isHeld, presentOnly}
 use Rattle.mmrp.specs.Run.{held}
 use Rattle.mmrp.specs.Walked.{actsOf, taken, Receives}
 use Rattle.mmrp.specs.Asks.{ReceiveGiven}
+use Rattle.bridge.proofs.OnTables.{Passed, port-in}
 use Rattle.bridge.proofs.OnAddresses.{addressed, mmrp-full, mmrp-taken}
 
 -- no valid address is vacant
@@ -42,23 +39,16 @@ unfolding presentOnly
 all-present clock leave [] v = refl
 all-present clock leave (a ∷ l) v = rw (valid-held clock leave (a .presence) (v .0 .presence)) (ap (λ (m : List Address). a ∷ m) (all-present clock leave l (v .1)))
 
-module _ (t : List ℕ) (p : ℕ) (pdu : List ℕ) (o : Octets t) (h : formed t ≡ true) (w : wrongPort (decode t .settings) p ≡ false)
-    (z : numberOf (addressWalk pdu) ≡ 0) (a : ℕ) (e : a ≡ ownPlace (p - 1)) where
+module _ (t : List ℕ) (p : ℕ) (pdu : List ℕ) (passed : Passed t p) (z : numberOf (addressWalk pdu) ≡ 0) (a : ℕ) (e : a ≡ ownPlace (p - 1)) where
   valid : Valid (decode t)
-  valid = valid-decode t o h
-
-  place : p - 1 < 8
-  place = omega (arith, right-port (decode t .settings) p w, valid .settings .eight-ports)
-
-  pub port-in : PortIn t (p - 1)
-  port-in = record { laid = formed-laid t o h; port = place }
+  valid = valid-decode t (passed .octets) (passed .formed)
 
   -- what the port holds, as it is lent
   abbrev lent : List ℕ
   lent = take (a + ownSize - a) (drop a t)
 
   lent-is : toOwn lent ≡ ownAt (decode t .own) (p - 1)
-  lent-is = lent-own-at port-in a e .is
+  lent-is = lent-own-at (port-in t p passed) a e .is
 
   abbrev addressesHere : List Address
   addressesHere = ownAt (decode t .own) (p - 1) .addresses
@@ -68,14 +58,14 @@ module _ (t : List ℕ) (p : ℕ) (pdu : List ℕ) (o : Octets t) (h : formed t 
   held-is = ap (λ (x : Own). x .addresses) lent-is
 
   there : p - 1 < length (decode t .own)
-  there = omega (arith, place, valid .eight-own)
+  there = omega (arith, port-in t p passed .port, valid .eight-own)
 
   own-valid : ValidOwn (decode t .clock) (decode t .settings .leaveTime) (ownAt (decode t .own) (p - 1))
   own-valid = all-at (ValidOwn (decode t .clock) (decode t .settings .leaveTime)) (decode t .own) (valid .own) (p - 1) noOwn there
 
   pub given : ReceiveGiven lent pdu
   given = record {
-    frame = record { laid = lent-own-at port-in a e .laid; acts = accepted pdu z .0; found = accepted pdu z .1 };
+    frame = record { laid = lent-own-at (port-in t p passed) a e .laid; acts = accepted pdu z .0; found = accepted pdu z .1 };
     present =
         ap presentOnly held-is ∙ all-present (decode t .clock) (decode t .settings .leaveTime) addressesHere (own-valid .addresses .each) ∙ sym held-is;
   }
@@ -109,9 +99,9 @@ module _ (t : List ℕ) (p : ℕ) (pdu : List ℕ) (o : Octets t) (h : formed t 
     mmrp-done q =
         let u : Own → Own = changeAddresses (doesAddresses (decode t .clock) acts) in
         let same : left ≡ encode (addressed (decode t) p acts) =
-        left-own-at port-in a e u y (octets-are q)
+        left-own-at (port-in t p passed) a e u y (octets-are q)
         ∙ ap (λ (l : List Own). encode (owning (decode t) l)) (at-set (p - 1) u (decode t .own) noOwn there) in
-        mmrp-taken t p pdu h w acts (accepted pdu z .1) (leb-true _ addresses (sym answer-is ∙ q))
+        mmrp-taken t p pdu (passed .formed) (passed .port) acts (accepted pdu z .1) (leb-true _ addresses (sym answer-is ∙ q))
         ∙ ap (λ (x : List ℕ). record { number = 0; table = x }) (sym same)
 
     pub mmrp-no-room : r ≡ false → receiveMmrpOn t p pdu ≡ record { number = 14; table = left }
@@ -119,5 +109,5 @@ module _ (t : List ℕ) (p : ℕ) (pdu : List ℕ) (o : Octets t) (h : formed t 
     mmrp-no-room q =
         let y-is : y ≡ lent = g .octets ∙ ap (λ (b : Bool). cond b (taken clock pdu lent) lent) q in
         let same : left ≡ t = rw (y-is, take-append-drop (a + ownSize - a) (drop a t)) (take-append-drop a t) in
-        mmrp-full t p pdu h w acts (accepted pdu z .1) (leb-false _ addresses (sym answer-is ∙ q))
+        mmrp-full t p pdu (passed .formed) (passed .port) acts (accepted pdu z .1) (leb-false _ addresses (sym answer-is ∙ q))
         ∙ ap (λ (x : List ℕ). record { number = 14; table = x }) (sym same)

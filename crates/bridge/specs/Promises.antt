@@ -2,13 +2,21 @@
 -- these, and so do the theorems about the code.
 use mathlib.Core.Path.{_≡_}
 use mathlib.Core.List.{List}
+use mathlib.Core.Bool.{cond}
 use Prim.Native.Nat.{ℕ}
+use Rattle.model.specs.Frames.{wrongPort}
+use Rattle.model.specs.Table.{formed, decode}
 use Rattle.model.specs.Reports.{Report}
 use Rattle.model.specs.Calls.{WhyCall, startOn, receiveOn, receiveMmrpOn, advanceOn, writeOn, reportOn, whyOn}
 
 -- a table and settings: the number, and the table afterwards
 abbrev pub Starts : List ℕ → List ℕ → ℕ → List ℕ → Type 0
 Starts table settings number after = (number ≡ startOn table settings .number) × (after ≡ startOn table settings .table)
+
+-- a table and a port, before all that a frame says: the number of a table that breaks a form rule, or of a port that the bridge has
+-- not, and 0 else
+unfoldable pub portRefusal : List ℕ → ℕ → ℕ
+portRefusal table port = cond (formed table) (cond (wrongPort (decode table .settings) port) 1 0) 12
 
 -- a table, a port and a PDU: the number, and the table afterwards
 abbrev pub Receives : List ℕ → ℕ → List ℕ → ℕ → List ℕ → Type 0

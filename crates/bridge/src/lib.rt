@@ -1,8 +1,9 @@
 // The bridge: seven calls on a table that the caller lends (docs/TABLE.md). None asks anything of its arguments. For every input
 // each promises the one number, the one content of the table and of the buffer: those of crate model's `Calls`, by the relations
 // of specs/Promises.
+ghost use mathlib.Core.Path.{_≡_};
 ghost use Rattle.reports.specs.Shown.{shown};
-ghost use Rattle.bridge.specs.Promises.{Starts, Receives, ReceivesMmrp, Advances, Writes, RefusedWith, Reports, Explains};
+ghost use Rattle.bridge.specs.Promises.{Starts, portRefusal, Receives, ReceivesMmrp, Advances, Writes, RefusedWith, Reports, Explains};
 ghost use Rattle.why.specs.Shown.{whyShown};
 use model::pdu;
 use model::refusal;
@@ -41,9 +42,9 @@ pub fn start(table: &mut [u8], settings: &[u8]) -> u8
     refusal::SETTINGS
 }
 
-// Takes a PDU that arrived on a port, numbered from 1: refused by number, or all of its events applied.
-pub fn receive(table: &mut [u8], port: u32, pdu: &[u8]) -> u8
-    ensures { λ r. ⌜ Receives (now (table .entry)) port (now (pdu .entry)) r (now (table .exit)) ⌝ }
+// The number of what comes before all that a frame says: of a table that breaks a form rule, or a port that the bridge has not.
+fn port_refusal(table: &[u8], port: u32) -> u8
+    ensures { λ r. ⌜ r ≡ portRefusal (now (table .entry)) port ⌝ }
 {
     let formed = form::is_formed(table);
     if formed {
@@ -54,17 +55,28 @@ pub fn receive(table: &mut [u8], port: u32, pdu: &[u8]) -> u8
         if ports < port as usize {
             return refusal::PORT;
         }
-        let number = msrpdu::check(pdu);
-        if number == refusal::ACCEPTED {
-            let fits = registrar::receive_frame(table, port as usize - 1, pdu);
-            if fits {
-                return refusal::ACCEPTED;
-            }
-            return refusal::STREAMS;
-        }
-        return number;
+        return refusal::ACCEPTED;
     }
     refusal::TABLE
+}
+
+// Takes a PDU that arrived on a port, numbered from 1: refused by number, or all of its events applied.
+pub fn receive(table: &mut [u8], port: u32, pdu: &[u8]) -> u8
+    ensures { λ r. ⌜ Receives (now (table .entry)) port (now (pdu .entry)) r (now (table .exit)) ⌝ }
+{
+    let refused = port_refusal(table, port);
+    if refused != refusal::ACCEPTED {
+        return refused;
+    }
+    let number = msrpdu::check(pdu);
+    if number != refusal::ACCEPTED {
+        return number;
+    }
+    let fits = registrar::receive_frame(table, port as usize - 1, pdu);
+    if fits {
+        return refusal::ACCEPTED;
+    }
+    refusal::STREAMS
 }
 
 // Takes an MMRP PDU that arrived on a port, numbered from 1: refused by number, or all of its events applied to the addresses that
@@ -72,28 +84,21 @@ pub fn receive(table: &mut [u8], port: u32, pdu: &[u8]) -> u8
 pub fn receive_mmrp(table: &mut [u8], port: u32, pdu: &[u8]) -> u8
     ensures { λ r. ⌜ ReceivesMmrp (now (table .entry)) port (now (pdu .entry)) r (now (table .exit)) ⌝ }
 {
-    let formed = form::is_formed(table);
-    if formed {
-        let ports = table::ports(table);
-        if port == 0 {
-            return refusal::PORT;
-        }
-        if ports < port as usize {
-            return refusal::PORT;
-        }
-        let number = mmrpdu::check(pdu);
-        if number == refusal::ACCEPTED {
-            let clock = table::clock(table);
-            let a = table::own_in(table, port as usize - 1);
-            let fits = mmrp::receive_frame(&mut table[a..a + table::OWN], clock, pdu);
-            if fits {
-                return refusal::ACCEPTED;
-            }
-            return refusal::ADDRESSES;
-        }
+    let refused = port_refusal(table, port);
+    if refused != refusal::ACCEPTED {
+        return refused;
+    }
+    let number = mmrpdu::check(pdu);
+    if number != refusal::ACCEPTED {
         return number;
     }
-    refusal::TABLE
+    let clock = table::clock(table);
+    let a = table::own_in(table, port as usize - 1);
+    let fits = mmrp::receive_frame(&mut table[a..a + table::OWN], clock, pdu);
+    if fits {
+        return refusal::ACCEPTED;
+    }
+    refusal::ADDRESSES
 }
 
 // Sets the clock, removes what has left, and decides every column, entry, Listener and total.

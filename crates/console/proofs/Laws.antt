@@ -1,6 +1,6 @@
 -- A text put into a line, and texts put one behind the other. Assumes nothing.
-use Prim.Native.Nat.{ℕ, zero, suc, _+_, _-_, _^_, _≤_, _<_, min}
-use native.Mathlib.Nat.{add-assoc, pow-le-pow-right}
+use Prim.Native.Nat.{ℕ, zero, suc, _+_, _-_, _/_, _%_, _^_, _≤_, _<_, min}
+use native.Mathlib.Nat.{add-assoc, pow-suc, pow-le-pow-right}
 use native.Mathlib.Numerals.{add-one}
 use native.Mathlib.Omega.{arith}
 use mathlib.Core.Path.{_≡_, refl, sym, ap, _∙_}
@@ -11,12 +11,13 @@ use lib.Seq.{length-take-le, take-suc}
 use lib.Dec.{ltb}
 use borrow.Author.Tests.{ltb-true, ltb-false}
 use Rattle.octets.specs.Parts.{patch}
+use Rattle.octets.specs.Pick.{pick}
 use Rattle.octets.specs.Fields.{flat}
 use Rattle.octets.proofs.Parts.{length-patch, patch-none}
 use Rattle.octets.proofs.Patches.{lent-patch, patch-next}
 use Rattle.octets.proofs.Fields.{flat-append}
 use Rattle.io.specs.Digits.{digits, Fewest}
-use Rattle.console.specs.Text.{startOf, fitting, putIn, Put}
+use Rattle.console.specs.Text.{startOf, fitting, putIn, Put, decimalIn}
 
 -- what copying the part of a text that fits into the part of the line behind its start leaves
 pub put-made : (line text y : List ℕ) (at from n : ℕ) → from ≡ min at (length line) → n ≡ min (length text) (length line - from) → y ≡ take (n - 0) text
@@ -85,18 +86,55 @@ put-append {b = b} {m = m} {x = x} {y = y} {at = at} {e = e} p q =
       within = q .within;
     }
 
--- the digits of one octet more
-pub octets-more : (s : List ℕ) (i : ℕ) → i < length s → flat (digits 16 2) (take i s) ++ digits 16 2 (getD s i 0) ≡ flat (digits 16 2) (take (i + 1) s)
+-- the text of one thing more
+pub flat-more : (text : ℕ → List ℕ) (s : List ℕ) (i : ℕ) → i < length s → flat text (take i s) ++ text (getD s i 0) ≡ flat text (take (i + 1) s)
 unfolding flat
-octets-more s i h = sym (rw (add-one i, take-suc s i 0 h) (flat-append (digits 16 2) (take i s) (getD s i 0 ∷ []) ∙ rw (append-nil (digits 16 2 (getD s i 0)))))
+flat-more text s i h = sym (rw (add-one i, take-suc s i 0 h) (flat-append text (take i s) (getD s i 0 ∷ []) ∙ rw (append-nil (text (getD s i 0)))))
 
 -- a number that so many digits hold has no more
-pub fixed-width : (base width n k : ℕ) → 0 < base → n < base ^ width → Fewest base width n k → k ≡ width
-fixed-width base width n k some h f = go (ltb width k) refl
+pub no-more : (base least width n k : ℕ) → 0 < base → least ≤ width → n < base ^ width → Fewest base least n k → k ≤ width
+no-more base least width n k some h g f = go (ltb width k) refl
   where
-    go : (b : Bool) → ltb width k ≡ b → k ≡ width
+    go : (b : Bool) → ltb width k ≡ b → k ≤ width
     go true e =
-        let more = ltb-true width k e in
-        let fits : width ≤ k - 1 = omega (arith, more) in
+        let more : least < k = omega (arith, ltb-true width k e) in
+        let fits : width ≤ k - 1 = omega (arith, ltb-true width k e) in
         absurd (omega (arith, f .2 more, pow-le-pow-right some fits))
-    go false e = omega (arith, ltb-false width k e, f .0)
+    go false e = ltb-false width k e
+
+-- and has just so many where no fewer are asked for
+pub fixed-width : (base width n k : ℕ) → 0 < base → n < base ^ width → Fewest base width n k → k ≡ width
+fixed-width base width n k some h f = omega (arith, no-more base width width n k some (omega arith) h f, f .0)
+
+less-one : (k : ℕ) → suc (suc k) - 1 ≡ suc k
+less-one k = omega arith
+
+-- a number of two digits or more does not begin with a zero
+not-below : (n k : ℕ) → Fewest 10 1 n (suc (suc k)) → 10 ^ suc k ≤ n
+not-below n k w = rw (less-one k) at (w .2 (omega arith))
+
+-- a number below 10 has one digit
+one-digit : (n k : ℕ) → n < 10 → Fewest 10 1 n (suc k) → k ≡ 0
+one-digit n zero p w = refl
+one-digit n (suc k) p w =
+    let some : 0 < 10 = omega arith in
+    let fits : 1 ≤ suc k = omega arith in
+    absurd (omega (arith, not-below n k w, pow-le-pow-right some fits))
+
+-- any other has those of its tenth, and one more
+tenth : (n k : ℕ) → 10 ≤ n → Fewest 10 1 n (suc k) → Fewest 10 1 (n / 10) k
+tenth n zero p w = absurd (omega (arith, w .1))
+tenth n (suc zero) p w = (omega arith, omega (arith, w .1), λ h. absurd (omega (arith, h)))
+tenth n (suc (suc k)) p w =
+    let low : 10 ^ suc k ≤ n / 10 = omega (arith, not-below n (suc k) w, pow-suc 10 (suc k)) in
+    (omega arith, omega (arith, w .1, pow-suc 10 (suc (suc k))), λ h. rw (less-one k) low)
+
+-- the fewest decimal digits of a number are the number in decimal
+pub decimal-is : (f n k : ℕ) → k ≤ f → Fewest 10 1 n k → digits 10 k n ≡ decimalIn f n
+decimal-is zero n k h w = absurd (omega (arith, w .0))
+decimal-is (suc f) n zero h w = absurd (omega (arith, w .0))
+decimal-is (suc f) n (suc k) h w = go (ltb n 10) refl (λ m. decimal-is f (n / 10) k (omega arith) m)
+  where
+    go : (b : Bool) → ltb n 10 ≡ b → (Fewest 10 1 (n / 10) k → digits 10 k (n / 10) ≡ decimalIn f (n / 10)) → digits 10 (suc k) n ≡ decimalIn (suc f) n
+    go true e next = unfold decimalIn pick in rw (one-digit n k (ltb-true n 10 e) w, e)
+    go false e next = unfold decimalIn pick in rw (e, next (tenth n k (ltb-false n 10 e) w))

@@ -1,10 +1,12 @@
 -- A text put into a line. Assumes nothing.
-use Prim.Native.Nat.{ℕ, _+_, _-_, _^_, _≤_, _<_, min}
+use Prim.Native.Nat.{ℕ, zero, suc, _+_, _-_, _/_, _%_, _^_, _≤_, _<_, min}
 use mathlib.Core.Path.{_≡_}
-use mathlib.Core.List.{List}
+use mathlib.Core.List.{List, [], _∷_, _++_}
 use lib.ListN.{length, take}
+use lib.Dec.{ltb}
 use Rattle.octets.specs.Parts.{patch}
-use Rattle.io.specs.Digits.{digits, Fewest}
+use Rattle.octets.specs.Pick.{pick}
+use Rattle.io.specs.Digits.{glyph}
 
 -- the lesser of two numbers
 pub record Least (a b r : ℕ) : Type 0 where
@@ -36,8 +38,15 @@ pub record Put (before : List ℕ) (at : ℕ) (text : List ℕ) (end : ℕ) (aft
   pub line-is : after ≡ putIn before at text
   pub within : end ≤ length after
 
--- what putting a text leaves in which the decimal digits of a number stand
-pub record PutDecimal (n : ℕ) (text : List ℕ → List ℕ) (before : List ℕ) (at end : ℕ) (after : List ℕ) : Type 0 where
-  pub count : ℕ
-  pub fewest : Fewest 10 1 n count
-  pub puts : Put before at (text (digits 10 count n)) end after
+-- a number in at most so many decimal digits, with no zero before them
+unfoldable pub decimalIn : ℕ → ℕ → List ℕ
+decimalIn zero n = []
+decimalIn (suc k) n = pick (ltb n 10) [] (decimalIn k (n / 10)) ++ (glyph (n % 10) ∷ [])
+
+-- a number below 10 ^ 20 in decimal
+abbrev pub decimal : ℕ → List ℕ
+decimal n = decimalIn 20 n
+
+-- a space, and a number in decimal behind it
+abbrev pub spaced : ℕ → List ℕ
+spaced n = 32 ∷ decimal n

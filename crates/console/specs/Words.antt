@@ -8,6 +8,7 @@ use Rattle.reports.specs.declared.ListenerShown.the-variants as listener
 use Rattle.reports.specs.declared.EntryShown.{EntryShown}
 use Rattle.reports.specs.declared.EntryShown.the-variants as entry
 use Rattle.reports.specs.declared.Reported.{Reported}
+use Rattle.console.specs.Text.{spaced}
 
 -- none, advertise, failed
 unfoldable pub columnText : ColumnShown → List ℕ
@@ -28,10 +29,10 @@ entryText entry.None = 110 ∷ 111 ∷ 110 ∷ 101 ∷ []
 entryText entry.Filter = 102 ∷ 105 ∷ 108 ∷ 116 ∷ 101 ∷ 114 ∷ []
 entryText entry.Forward = 102 ∷ 111 ∷ 114 ∷ 119 ∷ 97 ∷ 114 ∷ 100 ∷ []
 
--- column and code of a report, a space before each, with the code's digits
-unfoldable pub talkerText : Reported → List ℕ → List ℕ
-talkerText r code = (32 ∷ columnText (r .column)) ++ (32 ∷ code)
+-- column and code of a report, a space before each
+unfoldable pub talkerText : Reported → List ℕ
+talkerText r = (32 ∷ columnText (r .column)) ++ spaced (r .code)
 
 -- and Listener and entry
-unfoldable pub shownText : Reported → List ℕ → List ℕ
-shownText r code = (talkerText r code ++ (32 ∷ listenerText (r .listener))) ++ (32 ∷ entryText (r .entry))
+unfoldable pub shownText : Reported → List ℕ
+shownText r = (talkerText r ++ (32 ∷ listenerText (r .listener))) ++ (32 ∷ entryText (r .entry))

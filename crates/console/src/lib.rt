@@ -7,12 +7,11 @@ use reports::ListenerShown;
 use reports::Reported;
 ghost use mathlib.Core.Path.{_≡_};
 ghost use mathlib.Core.Bool.{false};
-ghost use mathlib.Core.List.{_∷_};
 ghost use Prim.Native.Nat.{_≤_};
 ghost use lib.ListN.{length, set};
 ghost use Rattle.octets.specs.Fields.{flat};
 ghost use Rattle.io.specs.Digits.{digits};
-ghost use Rattle.console.specs.Text.{HexGiven, Least, Put, PutDecimal};
+ghost use Rattle.console.specs.Text.{HexGiven, Least, Put, decimal, spaced};
 ghost use Rattle.console.specs.Words.{columnText, listenerText, entryText, talkerText, shownText};
 
 // The lesser of two numbers.
@@ -35,7 +34,7 @@ pub fn put(line: &mut [u8], at: usize, text: &[u8]) -> usize
 
 // A number in decimal.
 pub fn put_decimal(line: &mut [u8], at: usize, n: u64) -> usize
-    ensures { λ r. ⌜ PutDecimal n (λ t. t) (now (line .entry)) at r (now (line .exit)) ⌝ }
+    ensures { λ r. ⌜ Put (now (line .entry)) at (decimal n) r (now (line .exit)) ⌝ }
 {
     let mut text = [0u8; 20];
     let k = io::decimal(n, &mut text);
@@ -44,7 +43,7 @@ pub fn put_decimal(line: &mut [u8], at: usize, n: u64) -> usize
 
 // A space, and a number in decimal behind it.
 pub fn put_number(line: &mut [u8], at: usize, n: u64) -> usize
-    ensures { λ r. ⌜ PutDecimal n (λ t. 32 ∷ t) (now (line .entry)) at r (now (line .exit)) ⌝ }
+    ensures { λ r. ⌜ Put (now (line .entry)) at (spaced n) r (now (line .exit)) ⌝ }
 {
     let a = put(line, at, b" ");
     put_decimal(line, a, n)
@@ -123,7 +122,7 @@ fn put_entry(line: &mut [u8], at: usize, entry: EntryShown) -> usize
 
 // Column and code of a report, a space before each.
 fn put_talker(line: &mut [u8], at: usize, answer: Reported) -> usize
-    ensures { λ r. ⌜ PutDecimal (answer .code) (talkerText answer) (now (line .entry)) at r (now (line .exit)) ⌝ }
+    ensures { λ r. ⌜ Put (now (line .entry)) at (talkerText answer) r (now (line .exit)) ⌝ }
 {
     let column = answer.column;
     let a = put(line, at, b" ");
@@ -133,7 +132,7 @@ fn put_talker(line: &mut [u8], at: usize, answer: Reported) -> usize
 
 // What a report shows of a stream on a port: column, code, Listener and entry, a space before each.
 pub fn put_shown(line: &mut [u8], at: usize, answer: Reported) -> usize
-    ensures { λ r. ⌜ PutDecimal (answer .code) (shownText answer) (now (line .entry)) at r (now (line .exit)) ⌝ }
+    ensures { λ r. ⌜ Put (now (line .entry)) at (shownText answer) r (now (line .exit)) ⌝ }
 {
     let listener = answer.listener;
     let entry = answer.entry;

@@ -68,19 +68,20 @@ module _ (l : List ℕ) (i k x y : ℕ) (h : i + k < length l) (ex : x ≡ getD 
     b : v ≡ getD (entries l) (suc (i + k)) none .weighs
     b = rw (add-one (i + k)) at ev
 
-    tried : seek l i k (record { weighs = w; first = f })
-        ≡ farther x (k + 1) (drop (suc (i + k)) l) (drop (suc (suc (i + k))) (entries l))
-        (lower (record { weighs = w; first = f }) (record { weighs = q + v; first = k + 1 }))
+    pub seek-next : seek l i k (record { weighs = w; first = f }) ≡ seek l i (k + 1) (lower (record { weighs = w; first = f }) (record { weighs = q + v; first = k + 1 }))
     unfolding seek mac
-    tried = rw (add-one (i + k), next-try l (getD l i 0) k (i + k) (record { weighs = w; first = f }) h, ← ex, ← ey, eq-eqb _ _ m, ← eq, ← b)
+    seek-next =
+        rw (add-one (i + k), next-try l (getD l i 0) k (i + k) (record { weighs = w; first = f }) h, ← ex, ← ey, eq-eqb _ _ m, ← eq, ← b, a, add-one (suc (i + k)))
 
-    pub seek-keeps : w < q + v → seek l i k (record { weighs = w; first = f }) ≡ seek l i (k + 1) (record { weighs = w; first = f })
-    unfolding seek lower
-    seek-keeps n = tried ∙ rw (a, add-one (suc (i + k)), ← ex, lt-ltb _ _ n)
+-- which of two is taken
+module _ (w f q g : ℕ) where
+  pub lower-keeps : w < q → lower (record { weighs = w; first = f }) (record { weighs = q; first = g }) ≡ record { weighs = w; first = f }
+  unfolding lower
+  lower-keeps n = rw (lt-ltb _ _ n)
 
-    pub seek-takes : q + v ≤ w → seek l i k (record { weighs = w; first = f }) ≡ seek l i (k + 1) (record { weighs = q + v; first = k + 1 })
-    unfolding seek lower
-    seek-takes n = tried ∙ rw (a, add-one (suc (i + k)), ← ex, le-ltb _ _ n)
+  pub lower-takes : q ≤ w → lower (record { weighs = w; first = f }) (record { weighs = q; first = g }) ≡ record { weighs = q; first = g }
+  unfolding lower
+  lower-takes n = rw (le-ltb _ _ n)
 
 -- an entry's numbers are small
 singles-weigh : (l : List ℕ) → weight (singles l) ≡ 781 * length l

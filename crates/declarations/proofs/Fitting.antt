@@ -20,7 +20,7 @@ use Rattle.model.specs.WrittenFrames.{messageOctets}
 use Rattle.model.proofs.Lists.{all-map, all-append, all-take, all-drop, longest-ends, longest-stops, longest-goes, longest-within, longest-same, longest-from}
 use Rattle.model.proofs.WritingPasses.{OfAttribute, After, fitsWith, length-message, message-some, fitting-types, fitting-single}
 use Rattle.declarations.specs.declared.Progress.{Progress}
-use Rattle.declarations.specs.Passes.{Single, fits, taken, passed, written}
+use Rattle.declarations.specs.Passes.{Single, fits, taken, passed, written, closed}
 
 -- The number that fits.
 
@@ -306,7 +306,7 @@ module _ (k : Attribute) (l : List Declaration) (s : Progress) (b : List ℕ) wh
       rest = omega arith
 
       -- there are some, and the first does not fit
-      pub pass-closes : 0 < left → n ≡ 0 → Does record { at = s .at; skip = 0; next = s .next; full = true } b
+      pub pass-closes : 0 < left → n ≡ 0 → Does (closed s) b
       pass-closes some q = rw (over, rest, lt-ltb 0 left some) at (does-nothing q)
 
       -- some are taken

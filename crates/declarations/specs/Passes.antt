@@ -132,6 +132,10 @@ pub record OpenIn (t : List ℕ) (p : ℕ) (a : Attribute) (left : ℕ) (s : Pro
   pub few : left ≤ 64
   pub left-is : s .skip + left ≡ length (found a p t)
 
+-- how far a PDU is whose next declaration does not fit
+abbrev pub closed : Progress → Progress
+closed s = record { at = s .at; skip = 0; next = s .next; full = true }
+
 -- after it
 pub record PassLeaves (k : frames.Attribute) (l : List Declaration) (s : Progress) (before : List ℕ) (r : Progress) (after : List ℕ) : Type 0 where
   pub progress : r ≡ passed k l s

@@ -355,6 +355,18 @@ pub struct Progress {
     pub full: bool,
 }
 
+// How far a PDU is whose next declaration does not fit.
+fn closed(from: Progress) -> Progress
+    ensures { λ r. ⌜ r ≡ passes.closed from ⌝ }
+{
+    Progress {
+        at: from.at,
+        skip: 0,
+        next: from.next,
+        full: true,
+    }
+}
+
 // The Message of those that fit, of a type's declarations that are left after those to pass over.
 fn take_run(
     table: &[u8],
@@ -372,12 +384,7 @@ fn take_run(
     let size = vector_size(attribute);
     let n = fits(at + OPENED, size, left);
     if n == 0 {
-        return Progress {
-            at,
-            skip: 0,
-            next,
-            full: true,
-        };
+        return closed(from);
     }
     let long = AROUND + n * size;
     let run = Run {
@@ -526,12 +533,7 @@ fn take_packed(table: &[u8], p: usize, places: &[u8], from: Progress, buffer: &m
     let room = (pdu::LONGEST - (at + OPENED)) as u64;
     let n = cutting::pack(table, places, room, &mut weighs, &mut firsts);
     if n == 0 {
-        return Progress {
-            at,
-            skip: 0,
-            next,
-            full: true,
-        };
+        return closed(from);
     }
     let long = AROUND + (weighs[0] / OCTET_WEIGHS) as usize;
     write_listeners(table, p, &places[..n], &firsts, &mut buffer[at..at + long]);
@@ -555,14 +557,8 @@ fn take_listeners(
     requires { ⌜ OpenIn (now table) p Listener left from (now buffer) × (length (now places) ≡ 64) ⌝ }
     ensures { λ r. ⌜ PassLeaves (registers listeners) (found Listener p (now (table .entry))) from (now (buffer .entry)) r (now (buffer .exit)) ⌝ }
 {
-    let at = from.at;
-    if pdu::LONGEST < at + OPENED {
-        return Progress {
-            at,
-            skip: 0,
-            next: from.next,
-            full: true,
-        };
+    if pdu::LONGEST < from.at + OPENED {
+        return closed(from);
     }
     gather(table, p, from.skip, &mut places[..left]);
     take_packed(table, p, &places[..left], from, buffer)
@@ -581,17 +577,11 @@ fn pass(table: &[u8], p: usize, attribute: Attribute, from: Progress, buffer: &m
     if skip < found {
         let left = found - skip;
         match attribute {
-            Attribute::Advertise => {
-                return take_run(table, p, attribute, left, from, buffer);
-            }
-            Attribute::Failed => {
-                return take_run(table, p, attribute, left, from, buffer);
-            }
             Attribute::Listener => {
                 let mut places = [0u8; 64];
                 return take_listeners(table, p, left, from, &mut places, buffer);
             }
-            Attribute::Domain => {
+            Attribute::Advertise | Attribute::Failed | Attribute::Domain => {
                 return take_run(table, p, attribute, left, from, buffer);
             }
         }

@@ -11,9 +11,9 @@ use borrow.Author.Tests.{eqb-true, eq-eqb, ne-eqb, lt-leb}
 use Rattle.octets.specs.Be.{beAt}
 use Rattle.octets.specs.Fields.{fields}
 use Rattle.octets.proofs.Fields.{beAt-one}
-use Rattle.model.specs.Layout.{agePlace, columnPlace, declaredPlace, entryPlace, failurePlace, latencyOutPlace, listenerPlace, resultSize, talkerPlace}
+use Rattle.model.specs.Layout.{agePlace, columnPlace, declaredPlace, entryPlace, failurePlace, latencyOutPlace, listenerPlace, resultSize, resultWidths, talkerPlace}
 use Rattle.model.specs.Lists.{allTrue, implies, bit}
-use Rattle.model.specs.State.{none, advertise, failed, nothing, tells}
+use Rattle.model.specs.State.{Column, none, advertise, failed, nothing, tells}
 use Rattle.model.specs.Table.{allZero, toReady, toCell, toColumn, toEntry, toDeclared, resultFrom, toResult, resultFormed, hasColumn, declares, forListener, storedRules, storedFormed}
 use Rattle.model.proofs.Cells.{talking-read, hearing-read}
 use Rattle.form.proofs.Results.{no-column, advertised, failed-column}
@@ -78,58 +78,39 @@ module _ (clock n : ℕ) (c s : List ℕ) (h : length s ≡ resultSize) (second 
   abbrev Formed : Bool
   Formed = resultFormed clock s && storedFormed n (toCell c) (toResult s)
 
+  abbrev numbers : List ℕ
+  numbers = fields resultWidths 0 s
+
+  -- the rules by the octets that they read, at a column
+  stored-at : (x : Column) → toColumn column (getD numbers 2 0) (getD numbers 3 0) ≡ x → storedFormed n (toCell c) (toResult s)
+      ≡ (implies (hasColumn x) (ltb (bit talks) n) && (implies (not (eqb declared 0)) (not (hasColumn x) && talks) && implies (forListener x (toEntry entry)) hears))
+  unfolding storedFormed storedRules allTrue toResult resultFrom fields
+  stored-at x e =
+      rw (
+        talking-read c,
+        hearing-read c,
+        declares-read (beAt 1 s declaredPlace),
+        ← (beAt-one s columnPlace),
+        ← (beAt-one s entryPlace),
+        ← (beAt-one s declaredPlace),
+        e,
+        and-true,
+      )
+
   -- by a column's kind
   stored-none : column ≡ 0 → storedFormed n (toCell c) (toResult s) ≡ ((eqb declared 0 || talks) && (eqb entry 0 || hears))
-  unfolding storedFormed storedRules allTrue hasColumn toColumn toResult resultFrom fields
-  stored-none k =
-      rw (
-        talking-read c,
-        hearing-read c,
-        declares-read (beAt 1 s declaredPlace),
-        ← (beAt-one s columnPlace),
-        ← (beAt-one s entryPlace),
-        ← (beAt-one s declaredPlace),
-        k,
-        entry-some entry,
-        implies-not (eqb declared 0) talks,
-        implies-not (eqb entry 0) hears,
-        and-true,
-      )
+  unfolding hasColumn toColumn
+  stored-none k = stored-at none (rw k) ∙ rw (entry-some entry, implies-not (eqb declared 0) talks, implies-not (eqb entry 0) hears)
 
   stored-advertise : column ≡ 1 → storedFormed n (toCell c) (toResult s) ≡ (ltb (bit talks) n && (eqb declared 0 && (leb entry 1 || hears)))
-  unfolding storedFormed storedRules allTrue hasColumn toColumn toResult resultFrom fields
-  stored-advertise k =
-      rw (
-        talking-read c,
-        hearing-read c,
-        declares-read (beAt 1 s declaredPlace),
-        ← (beAt-one s columnPlace),
-        ← (beAt-one s entryPlace),
-        ← (beAt-one s declaredPlace),
-        k,
-        entry-forwards entry,
-        implies-false (eqb declared 0),
-        implies-not (leb entry 1) hears,
-        and-true,
-      )
+  unfolding hasColumn toColumn
+  stored-advertise k = stored-at advertise (rw k) ∙ rw (entry-forwards entry, implies-false (eqb declared 0), implies-not (leb entry 1) hears)
 
   stored-failed : (column ≡ 0 → ⊥) → (column ≡ 1 → ⊥) → entry ≡ 1 → storedFormed n (toCell c) (toResult s) ≡ (ltb (bit talks) n && eqb declared 0)
-  unfolding storedFormed storedRules allTrue hasColumn toColumn toResult resultFrom fields
+  unfolding hasColumn toColumn
   stored-failed k l e =
-      rw (
-        talking-read c,
-        hearing-read c,
-        declares-read (beAt 1 s declaredPlace),
-        ← (beAt-one s columnPlace),
-        ← (beAt-one s entryPlace),
-        ← (beAt-one s declaredPlace),
-        ne-eqb column 0 k,
-        ne-eqb column 1 l,
-        e,
-        entry-filters,
-        implies-false (eqb declared 0),
-        and-true,
-      )
+      stored-at (failed (getD numbers 2 0) (getD numbers 3 0)) (rw (ne-eqb column 0 k, ne-eqb column 1 l))
+      ∙ rw (e, entry-filters, implies-false (eqb declared 0), and-true)
 
   -- b is what the cell's Talker counts
   pub none-kept : (z : Bool) → column ≡ 0 → z ≡ allZero (take (entryPlace - latencyOutPlace) (drop latencyOutPlace s))

@@ -761,6 +761,23 @@ addressed destination =
 second : List Handed → Bridge
 second l = bridgeWith 1 75000000 (pdu 2 (talks 2 224 rank1) ∷ l)
 
+-- of two streams, Ready on port 2, the first with this MaxFrameSize and Listener
+before : ℕ → ℕ → ℕ → Bridge
+before limit size four =
+    bridge limit (pdu 1 (talks 1 size rank1) ∷ pdu 2 (hears 1 four) ∷ readyOnes (2 ∷ []))
+
+-- stream u with this MaxFrameSize and octet of priority and rank, Ready on port 2
+readyOf : ℕ → ℕ → ℕ → List Handed
+readyOf u size octet = pdu 1 (talks u size octet) ∷ pdu 2 (hears u 128) ∷ []
+
+-- streams 1 and 2 with demands of 8,192,000 and 12,288,000 bit/s, stream 3 with 4,096,000, and a limit of 12,288,000: stream 3 is
+-- admitted where stream 1 is the more important of the two before it
+byRank : ℕ → Bridge
+byRank octet = bridge 12288000 (readyOf 1 85 rank1 ++ (readyOf 2 149 octet ++ readyOf 3 21 rank1))
+
+byAge : List Handed → Bridge
+byAge l = bridge 12288000 (l ++ (time 100 ∷ readyOf 3 21 rank1))
+
 pub needs : List Example
 needs =
     -- the settings: a lower limit
@@ -772,6 +789,19 @@ needs =
     }
     -- a more important stream of its class
     ∷ record { computed = compared 1 (held 17088000 (2 ∷ [])) 0 (held 17088000 (1 ∷ 2 ∷ [])) 1; printed = 1 ∷ 1 ∷ 0 ∷ 1 ∷ 1 ∷ 1 ∷ 1 ∷ 1 ∷ 1 ∷ 0 ∷ 2 ∷ 1 ∷ [] }
+    -- of such a stream its steps before bandwidth: a changed join; its demand; its Listener; its rank, and its age, beside another's
+    ∷ record {
+      computed = compared 1 (before 17088000 224 128) 1 (from (before 17088000 224 128) (pdu 1 (talks 1 225 rank1) ∷ [])) 1;
+      printed = 1 ∷ 1 ∷ 0 ∷ 1 ∷ 1 ∷ 1 ∷ 1 ∷ 1 ∷ 2 ∷ 1 ∷ 1 ∷ 0 ∷ [];
+    }
+    ∷ record { computed = compared 1 (before 34176000 224 128) 1 (before 34176000 225 128) 1; printed = 1 ∷ 1 ∷ 0 ∷ 1 ∷ 1 ∷ 1 ∷ 1 ∷ 1 ∷ 1 ∷ 0 ∷ 2 ∷ 1 ∷ [] }
+    ∷ record { computed = compared 1 (before 17088000 224 128) 1 (before 17088000 224 64) 1; printed = 1 ∷ 1 ∷ 0 ∷ 1 ∷ 1 ∷ 1 ∷ 1 ∷ 1 ∷ 2 ∷ 1 ∷ 1 ∷ 0 ∷ [] }
+    ∷ record { computed = compared 1 (byRank rank1) 2 (byRank rank0) 2; printed = 1 ∷ 1 ∷ 0 ∷ 1 ∷ 1 ∷ 1 ∷ 1 ∷ 1 ∷ 1 ∷ 0 ∷ 2 ∷ 1 ∷ [] }
+    ∷ record {
+      computed =
+          compared 1 (byAge (readyOf 1 85 rank1 ++ (time 50 ∷ readyOf 2 149 rank1))) 2 (byAge (readyOf 2 149 rank1 ++ (time 50 ∷ readyOf 1 85 rank1))) 2;
+      printed = 1 ∷ 1 ∷ 0 ∷ 1 ∷ 1 ∷ 1 ∷ 1 ∷ 1 ∷ 1 ∷ 0 ∷ 2 ∷ 1 ∷ [];
+    }
     -- class A's total, for a stream of class B
     ∷ record { computed = compared 1 (intercom []) 0 (intercom show) 4; printed = 1 ∷ 1 ∷ 1 ∷ 0 ∷ 1 ∷ 1 ∷ 1 ∷ 1 ∷ 1 ∷ 0 ∷ 2 ∷ 1 ∷ [] }
     -- the address of a lower StreamID
@@ -791,8 +821,8 @@ needs =
     ∷ []
 
 pub need-examples : All Holds needs
-unfolding shown needs Table.headNumbers Table.headWord Table.portNumbers Table.cellNumbers equal claimNumbers premises agreements compared readyOnes held addressed second inB intercom show asksFor asking matchingOn hallOf hall
-need-examples = (refl, (refl, (refl, (refl, (refl, (refl, (refl, (refl, tt))))))))
+unfolding shown needs Table.headNumbers Table.headWord Table.portNumbers Table.cellNumbers equal claimNumbers premises agreements compared readyOnes held addressed second before readyOf byRank byAge inB intercom show asksFor asking matchingOn hallOf hall
+need-examples = (refl, (refl, (refl, (refl, (refl, (refl, (refl, (refl, (refl, (refl, (refl, (refl, (refl, tt)))))))))))))
 
 -- Why a stream was refused (02, ix): of the stream at place k on port 2 the letter of the step, how many streams are listed, the limit
 -- in force and the shortfall, then each StreamID listed with its demand; from what is registered, whether an advance followed or not.

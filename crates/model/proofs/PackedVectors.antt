@@ -42,8 +42,8 @@ pub parts-best : (l : List Declaration) → map declaredIds (listenerParts l) �
 unfolding listenerParts
 parts-best l = parts-cut (best (declaredIds l)) l (best-cuts (declaredIds l) .0)
 
--- .. "no other cutting takes fewer octets, on a tie the fewest vectors, then most values in the first vector, the second and so
--- on", and no other cutting is as good
+-- .. no other takes fewer octets, on a tie it has the fewest vectors, then most values in the first vector, the second and so on;
+-- and no other cutting is as good
 module _ (l : List Declaration) (few : length l ≤ 64) (ascending : Ascending (declaredIds l)) where
   ids-few : length (declaredIds l) ≤ 64
   ids-few = rw (length-ids l) few

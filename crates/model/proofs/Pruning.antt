@@ -9,12 +9,13 @@ use native.Mathlib.Omega.{arith}
 use native.Mathlib.Decide.{decLt}
 use lib.ListN.{getD, drop}
 use lib.Dec.{eqb, ltb}
-use borrow.Author.Tests.{eqb-true, eqb-false, ne-eqb}
+use borrow.Author.Tests.{eqb-true, eqb-false, eq-eqb, ne-eqb}
 use Rattle.model.specs.Lists.{All, keep, tabulate}
 use Rattle.model.specs.State.{Settings, Fixed, Health, sound, broken, Domain, Address, Own, Column, none, advertise, failed, Cell, Stream, Bridge, Class, noClass, classA, classB, noOwn, ownAt, cellAt, portAt, isPort, classOf, sameClass, supports}
 use Rattle.model.specs.Registrations.{AddressAct, doesAddresses, changeAddresses, AddressReading, refusedFrame, addressActs, Answer, receivedAddresses, owning, macs}
 use Rattle.model.specs.AddressFrames.{addressReading}
-use Rattle.model.specs.Settling.{Scene, Inbound, inboundOf, inboundsOf, decideOwn, decideOwns, flagOf, boundary, holdsAddress, isPruned, remain, Origin, Source, nowhere, from, sourceOf, healthOf, streamClass, registered, Outcome, columnNone, stepA, asRegistered, ownFailure, Step, first, clear, isBroken, brokenColumn, outcomeColumn, stepsFrom, lastSteps, steps, claim, claims, reservedA, limitOn, leftFor, byBandwidth, columnOf, passed, mergeAll, merged, decideAt, decide, totalOn, totalsOn, settle}
+use Rattle.model.specs.Settling.{Scene, Inbound, inboundOf, inboundsOf, decideOwn, decideOwns, flagOf, boundary, holdsAddress, isPruned, remain, Origin, Source, nowhere, from, sourceOf, healthOf, streamClass, registered, Outcome, columnNone, StepName, stepA, stepB, stepH, stepI, stepN, asRegistered, ownFailure, Step, first, clear, isBroken, brokenColumn, outcomeColumn, stepsFrom, lastSteps, steps, claim, claims, reservedA, limitOn, leftFor, byBandwidth, columnOf, passed, mergeAll, merged, decideAt, decide, totalOn, totalsOn, settle}
+use Rattle.model.specs.Why.{letter, sameStep, firstName, lastName, stepOn}
 use Rattle.model.specs.Table.{columnNumber}
 use Rattle.model.specs.Calls.{receiveMmrp}
 use Rattle.model.proofs.Lists.{at-place, at-each}
@@ -22,6 +23,7 @@ use Rattle.model.proofs.Parts.{_also_}
 use Rattle.model.proofs.AdvanceKeepsForm.{getD-past}
 use Rattle.model.proofs.ColumnRule.{tabulate-same}
 use Rattle.model.proofs.OwnCodes.{stepsOf}
+use Rattle.model.proofs.Why.{not-named}
 use Rattle.model.proofs.ReceivedAddresses.{hasRoom, withRoom, addressEffect, received-is, mmrp-same}
 
 -- The address that pruning asks for: a port holds it exactly where it is one of the port's.
@@ -121,6 +123,61 @@ module _ (sc : Scene) (now : ℕ) (s : List Stream) (p : ℕ) (x : Stream) (o : 
       go true true = (λ e. absurd (behind-some (o .registration .varying .health) e), λ a. absurd (true≢false (a .1)))
       go true false = (λ e. (refl, refl), λ a. refl)
       go false h = (λ e. absurd (behind-some (o .registration .varying .health) e), λ a. absurd (false≢true (a .0)))
+
+-- Step n is the one that decides exactly where no earlier step does, the setting is on and the address is not held.
+
+not-same : (m n : StepName) → sameStep m n ≡ false → m ≡ n → ⊥
+unfolding sameStep
+not-same m n h e = true≢false (sym (eq-eqb (letter n) (letter n) refl) ∙ (rw e at h))
+
+module _ (sc : Scene) (now : ℕ) (s : List Stream) (p : ℕ) (x : Stream) where
+  abbrev pub Pruned : Type 0
+  Pruned =
+      (o : Origin) × Reaches sc p x o × (sc .settings .pruning ≡ true)
+      × (holdsAddress (o .registration .fixed .destination) (ownAt (sc .own) p .addresses) ≡ false)
+
+  last : StepName
+  last = lastName (claim (sc .settings) now p x .demand) (leftFor sc now s p x)
+
+  -- no step behind it has its name
+  rest : Origin → StepName
+  rest o = firstName (drop 4 (stepsOf sc p (cellAt x p) (inboundOf x) (from o))) last
+
+  rest-other : (o : Origin) → rest o ≡ stepN → ⊥
+  unfolding rest last lastName stepsFrom lastSteps sameStep letter
+  rest-other o =
+      not-same (rest o) stepN
+      (not-named stepN (drop 4 (stepsOf sc p (cellAt x p) (inboundOf x) (from o)))
+      (refl also refl also refl also refl also refl also refl also refl also refl also refl also tt) last
+      (go (ltb (leftFor sc now s p x) (claim (sc .settings) now p x .demand))))
+    where
+      go : (t : Bool) → sameStep (cond t stepH stepI) stepN ≡ false
+      go true = refl
+      go false = refl
+
+  decides : (o : Origin) → isPort (sc .settings) p ≡ true → sourceOf x ≡ from o → (a b t h : Bool) → eqb p (o .port) ≡ a
+      → supports (portAt (sc .settings) p) (classOf (sc .settings) (o .registration .fixed .priority)) ≡ b → sc .settings .pruning ≡ t
+      → holdsAddress (o .registration .fixed .destination) (ownAt (sc .own) p .addresses) ≡ h
+      → cond a stepA (cond (not b) stepB (cond (t && not h) stepN (rest o))) ≡ stepN → Pruned
+  unfolding sameStep letter
+  decides o port q true b t h ea eb et eh e = absurd (not-same stepA stepN refl e)
+  decides o port q false false t h ea eb et eh e = absurd (not-same stepB stepN refl e)
+  decides o port q false true true false ea eb et eh e = (o, record { port = port; talks = q; other = eqb-false p (o .port) ea; supported = eb }, et, eh)
+  decides o port q false true true true ea eb et eh e = absurd (rest-other o e)
+  decides o port q false true false h ea eb et eh e = absurd (rest-other o e)
+
+  named-there : (a : Bool) → isPort (sc .settings) p ≡ a → (o : Source) → sourceOf x ≡ o → stepOn sc now s p x ≡ stepN → Pruned
+  unfolding stepOn steps stepsFrom firstName isPruned rest last sameStep letter
+  named-there false port o q e = absurd (not-same stepA stepN refl (rw port at e))
+  named-there true port nowhere q e = absurd (not-same stepA stepN refl (rw (port, q) at e))
+  named-there true port (from o) q e = decides o port q _ _ _ _ refl refl refl refl (rw (port, q) at e)
+
+  pub pruned-named : (stepOn sc now s p x ≡ stepN) ↔ Pruned
+  unfolding stepOn steps stepsFrom firstName isPruned
+  pruned-named = (
+    named-there (isPort (sc .settings) p) refl (sourceOf x) refl,
+    λ a. let r = a .1 in rw (r .talks, r .port, ne-eqb p (a .0 .port) (r .other), r .supported, a .2, a .3),
+  )
 
 -- With pruning off, what is decided does not read addresses.
 

@@ -10,9 +10,10 @@ use lib.Dec.{ltb}
 use borrow.Author.Tests.{ltb-true, ltb-false}
 use Rattle.model.specs.Lists.{All}
 use Rattle.model.specs.State.{Settings, Cell, Column, Stream, cellAt}
-use Rattle.model.specs.Settling.{Scene, Source, nowhere, from, sourceOf, streamClass, Inbound, inboundOf, StepName, stepH, stepI, Step, first, clear, outcomeColumn, stepsFrom, lastSteps, steps, claim, limitOn, leftFor, byBandwidth, columnOf}
-use Rattle.model.proofs.Lists.{all-append}
-use Rattle.model.specs.Why.{letter, sameStep, columnBy, firstName, lastName, stepOn, listed, plainly, reasonOn}
+use Rattle.model.specs.Settling.{Scene, Source, nowhere, from, sourceOf, streamClass, Inbound, inboundOf, StepName, noStep, stepA, stepB, stepC, stepD, stepE, stepF, stepG, stepH, stepI, stepJ, stepK, stepL, stepM, stepN, Step, first, clear, outcomeColumn, stepsFrom, lastSteps, steps, claim, limitOn, leftFor, byBandwidth, columnOf}
+use Rattle.model.specs.Table.{columnCode}
+use Rattle.model.proofs.Lists.{all-append, all-map}
+use Rattle.model.specs.Why.{letter, sameStep, code, columnBy, firstName, lastName, stepOn, listed, plainly, reasonOn}
 
 -- A step's name gives the column that its outcome gives.
 module _ (st : Settings) (s : Source) where
@@ -33,6 +34,25 @@ module _ (st : Settings) (s : Source) where
   unfolding stepsFrom lastSteps outcomeColumn columnBy
   each-named sc p here i nowhere = (refl, (refl, (refl, (refl, tt))))
   each-named sc p here i (from o) = (refl, (refl, (refl, (refl, (refl, (refl, (refl, (refl, (refl, (refl, (refl, (refl, tt))))))))))))
+
+-- and the code that it stands for is that of its column; of c it is the registered one
+pub code-named : (st : Settings) (s : Source) (n : StepName) → sameStep n stepC ≡ false → columnCode (columnBy st s n) ≡ code n
+unfolding columnBy columnCode code sameStep letter
+code-named st s noStep h = refl
+code-named st s stepA h = refl
+code-named st s stepB h = refl
+code-named st s stepC h = absurd (true≢false h)
+code-named st s stepD h = refl
+code-named st s stepE h = refl
+code-named st s stepF h = refl
+code-named st s stepG h = refl
+code-named st s stepH h = refl
+code-named st s stepI h = refl
+code-named st s stepJ h = refl
+code-named st s stepK h = refl
+code-named st s stepL h = refl
+code-named st s stepM h = refl
+code-named st s stepN h = refl
 
 module _ (sc : Scene) (p : ℕ) (x : Stream) where
   all-named : All (Gives (sc .settings) (sourceOf x)) (steps sc p x)
@@ -110,18 +130,19 @@ steps-clear sc p x = clear-named (steps sc p x) (before-all sc p x)
 pub first-clear : (sc : Scene) (p : ℕ) (x : Stream) → clear (stepsFrom sc p (cellAt x p) (sourceOf x)) ≡ sameStep (firstName (stepsFrom sc p (cellAt x p) (sourceOf x)) stepI) stepI
 first-clear sc p x = clear-named (stepsFrom sc p (cellAt x p) (sourceOf x)) (before-first sc p (cellAt x p) (sourceOf x))
 
--- none of them is named h
-not-h : (l : List Step) → All Before l → (n : StepName) → sameStep n stepH ≡ false → sameStep (firstName l n) stepH ≡ false
+-- steps none of which is named m, with n behind them
+pub not-named : (m : StepName) (l : List Step) → All (λ t. sameStep (t .name) m ≡ false) l → (n : StepName) → sameStep n m ≡ false → sameStep (firstName l n) m ≡ false
 unfolding firstName
-not-h [] a n h = h
-not-h (t ∷ l) a n h = go (t .test) (not-h l (a .1) n h)
+not-named m [] a n h = h
+not-named m (t ∷ l) a n h = go (t .test) (not-named m l (a .1) n h)
   where
-    go : (b : Bool) → sameStep (firstName l n) stepH ≡ false → sameStep (cond b (t .name) (firstName l n)) stepH ≡ false
-    go true ih = a .0 .0
+    go : (b : Bool) → sameStep (firstName l n) m ≡ false → sameStep (cond b (t .name) (firstName l n)) m ≡ false
+    go true ih = a .0
     go false ih = ih
 
+-- as those before h
 pub steps-not-h : (sc : Scene) (p : ℕ) (x : Stream) (n : StepName) → sameStep n stepH ≡ false → sameStep (firstName (steps sc p x) n) stepH ≡ false
-steps-not-h sc p x = not-h (steps sc p x) (before-all sc p x)
+steps-not-h sc p x = not-named stepH (steps sc p x) (all-map Before (λ t. sameStep (t .name) stepH ≡ false) (λ t b. b .0) (steps sc p x) (before-all sc p x))
 
 -- The named step applies, and no earlier one does.
 pub record Deciding (l : List Step) (n : StepName) : Type 0 where

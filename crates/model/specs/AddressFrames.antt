@@ -41,7 +41,8 @@ addressHeader version (suc zero) octets = cond (eqb octets serviceLength) (listO
 addressHeader version (suc (suc zero)) octets = cond (eqb octets macLength) (listOf macs) (badHeader 5)
 addressHeader version (suc (suc (suc t))) octets = cond (eqb version 0) (badHeader 4) (listOf (unknowns octets))
 
--- "the next Message, EndMark or the PDU's end"; "Two header octets (3), type (4), length (5, known types)": one octet is 3
+-- the next Message, EndMark or the PDU's end; a Message's two header octets (3), its type (4), the length of known types (5): one
+-- octet is 3
 unfoldable pub addressMessageIn : ℕ → List ℕ → ℕ → InAddressPdu
 addressMessageIn version s at =
     cond (eqb at (length s)) noMessage
@@ -51,7 +52,7 @@ addressMessageIn version s at =
 
 -- What stands at a place of a list.
 
--- "Past FF-FF-FF-FF-FF-FF, and for Service Requirement past 255: no wrap, all positions count, 0 values don't": the last of n
+-- past FF-FF-FF-FF-FF-FF, and for Service Requirement past 255: no wrap, all positions count, 0 values don't; the last of n
 -- values runs past FirstValue's octets
 unfoldable pub runsOut : ℕ → List ℕ → ℕ → Bool
 runsOut octets first n = not (eqb n 0) && ltb (256 ^ octets - 1) (beAt octets first 0 + (n - 1))
@@ -110,7 +111,7 @@ unfoldable pub addressValues : AddressVector → ℕ → ℕ → List AddressAct
 addressValues v n zero = []
 addressValues v n (suc k) = addressAct (addressOf (v .first) n) (addressAsking (v .three) n) ++ addressValues v (suc n) k
 
--- "Type 2's: all addresses of that port", first
+-- that of type 2: all addresses of that port, first
 unfoldable pub allAddresses : Bool → List AddressAct
 allAddresses true = leaveAllAddresses ∷ []
 allAddresses false = []

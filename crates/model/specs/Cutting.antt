@@ -1,4 +1,4 @@
--- Cuttings of a list of StreamIDs into vectors, what they take, and which comes first (02, "Listeners packed").
+-- Cuttings of a list of StreamIDs into vectors, what they take, and which comes first (02, xi).
 use mathlib.Core.Path.{_≡_}
 use mathlib.Core.List.{List, [], _∷_, _++_}
 use mathlib.Core.Bool.{true}
@@ -53,7 +53,7 @@ Wider size c [] = Unit {0}
 Wider size [] (h ∷ d) = ⊥
 Wider size (g ∷ c) (h ∷ d) = (size h ≤ size g) × (size g ≡ size h → Wider size c d)
 
--- "no other cutting takes fewer octets, on a tie the fewest vectors, then ..": the order of cuttings. `size` is `values`, or
+-- "no other cutting into vectors takes fewer octets; on a tie take the fewest vectors, and then ..": the order of cuttings. `size` is `values`, or
 -- `length` where only declarations are counted: on the cuttings of one list both give one order.
 abbrev pub NotAfter : (List ℕ → ℕ) → List (List ℕ) → List (List ℕ) → Type 0
 NotAfter size c d =

@@ -94,7 +94,7 @@ vectorSize (registers faileds) = 2 + failedLength + 1
 vectorSize (registers listeners) = 2 + listenerLength + 1 + 1
 vectorSize domain = 2 + domainLength + 1
 
--- of all vectors of declarations of one type: "Listeners packed", so that "no other cutting takes fewer octets" (02)
+-- of all vectors of declarations of one type; of Listeners "no other cutting into vectors takes fewer octets" (02)
 unfoldable pub vectorsSize : Attribute → List Declaration → ℕ
 vectorsSize (registers advertises) l = length l * vectorSize (registers advertises)
 vectorsSize (registers faileds) l = length l * vectorSize (registers faileds)

@@ -2,6 +2,7 @@
 // stream. Output that cannot be written ends the run.
 use libc::STDIN_FILENO;
 ghost use Prim.Native.Nat.{_≤_};
+ghost use mathlib.Core.Path.{_≡_};
 ghost use lib.ListN.{length};
 
 // The most streams that a bridge holds.
@@ -38,22 +39,25 @@ struct Done {
     size: usize,
 }
 
+fn cut() -> Done
+    ensures { λ r. ⌜ r .size ≡ 0 ⌝ }
+{
+    Done {
+        number: bridge::ACCEPTED,
+        size: 0,
+    }
+}
+
 // The record of a PDU: port in the first octet, 16-bit length, octets.
 fn receive(table: &mut [u8], rest: &[u8]) -> Done
     ensures { λ r. ⌜ r .size ≤ length (now (rest .entry)) ⌝ }
 {
     if rest.len() < 3 {
-        return Done {
-            number: bridge::ACCEPTED,
-            size: 0,
-        };
+        return cut();
     }
     let size = 3 + octets::get(rest, 1, 2) as usize;
     if rest.len() < size {
-        return Done {
-            number: bridge::ACCEPTED,
-            size: 0,
-        };
+        return cut();
     }
     let port = (rest[0] % 16) as u32;
     let number = bridge::receive(table, port, &rest[3..size]);
@@ -65,10 +69,7 @@ fn advance(table: &mut [u8], rest: &[u8]) -> Done
     ensures { λ r. ⌜ r .size ≤ length (now (rest .entry)) ⌝ }
 {
     if rest.len() < 5 {
-        return Done {
-            number: bridge::ACCEPTED,
-            size: 0,
-        };
+        return cut();
     }
     let time = octets::get(rest, 1, 4) as u32;
     let number = bridge::advance(table, time);
@@ -83,10 +84,7 @@ fn call(table: &mut [u8], rest: &[u8]) -> Done
     match rest[0] {
         0x10..=0x1f => receive(table, rest),
         0x20 => advance(table, rest),
-        _ => Done {
-            number: bridge::ACCEPTED,
-            size: 0,
-        },
+        _ => cut(),
     }
 }
 

@@ -5,9 +5,7 @@ use Rattle.console.proofs.put_number.Statement.{statement}
 use Rattle.console.proofs.put_number.Tie as tie
 
 returns : tie.Need-returns
-returns c =
-    let digits = c .before .before .put-decimal .ensures in
-    record { count = digits .count; fewest = digits .fewest; puts = put-append (c .before .before .before .before .before .before .put .ensures) (digits .puts) }
+returns c = put-append (c .before .before .before .before .before .before .put .ensures) (c .before .before .put-decimal .ensures)
 
 pub put-number-spec : {M : Type 1} → statement M
 put-number-spec = tie.close (tie.spec (λ c. search needs) (λ c κs. search needs) (λ c κs. search needs) (λ c. search needs) returns)

@@ -9,7 +9,7 @@ use Rattle.octets.specs.Fields.{flat}
 use Rattle.octets.proofs.Loops.{Turned}
 use Rattle.io.specs.Digits.{digits}
 use Rattle.console.specs.Text.{Put}
-use Rattle.console.proofs.Laws.{put-none, put-append, octets-more}
+use Rattle.console.proofs.Laws.{put-none, put-append, flat-more}
 use Rattle.console.proofs.put_octets.Statement.{statement}
 use Rattle.console.proofs.put_octets.Tie as tie
 
@@ -30,7 +30,7 @@ loop-again c =
     record {
       within = omega arith;
       size = omega arith;
-      holds = rw (← (octets-more (c .before .before .before .before .before .before .before .before .before .before .args .octets .now) (l .i) (c .before .before .before .before .before .loop-test .taken))) (put-append (l .inv .holds) (c .before .before .put-octet .ensures));
+      holds = rw (← (flat-more (digits 16 2) (c .before .before .before .before .before .before .before .before .before .before .args .octets .now) (l .i) (c .before .before .before .before .before .loop-test .taken))) (put-append (l .inv .holds) (c .before .before .put-octet .ensures));
     }
 
 returns : tie.Need-returns Inv-loop μ-loop

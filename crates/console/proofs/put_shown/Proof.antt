@@ -11,7 +11,7 @@ returns c =
     let talker = c .before .before .before .before .before .before .before .before .before .before .before .before .before .before .before .before .before .before .before .before .put-talker .ensures in
     let listener = put-append (c .before .before .before .before .before .before .before .before .before .before .before .before .before .before .before .put .ensures) (c .before .before .before .before .before .before .before .before .before .before .before .put-listener .ensures) in
     let entry = put-append (c .before .before .before .before .before .before .put2 .ensures) (c .before .before .put-entry .ensures) in
-    record { count = talker .count; fewest = talker .fewest; puts = put-append (put-append (talker .puts) listener) entry }
+    put-append (put-append talker listener) entry
 
 pub put-shown-spec : {M : Type 1} → statement M
 put-shown-spec =

@@ -7,9 +7,7 @@ use Rattle.console.proofs.put_talker.Tie as tie
 
 returns : tie.Need-returns
 unfolding talkerText
-returns c =
-    let code = c .before .before .put-number .ensures in
-    record { count = code .count; fewest = code .fewest; puts = put-append (put-append (c .before .before .before .before .before .before .before .before .before .before .before .put .ensures) (c .before .before .before .before .before .before .before .put-column .ensures)) (code .puts) }
+returns c = put-append (put-append (c .before .before .before .before .before .before .before .before .before .before .before .put .ensures) (c .before .before .before .before .before .before .before .put-column .ensures)) (c .before .before .put-number .ensures)
 
 pub put-talker-spec : {M : Type 1} → statement M
 put-talker-spec =

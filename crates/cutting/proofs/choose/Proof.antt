@@ -6,10 +6,10 @@ use native.Mathlib.Omega.{arith}
 use borrow.Author.Needs.{needs}
 use lib.ListN.{length, getD}
 use Rattle.cutting.specs.Named.{idsOf}
-use Rattle.cutting.specs.Plan.{none, entries}
+use Rattle.cutting.specs.Plan.{none, lower, entries}
 use Rattle.cutting.proofs.Named.{ids-length}
 use Rattle.table.proofs.Finding.{ascending-less}
-use Rattle.cutting.proofs.Loops.{seek, seek-starts, seek-ends, seek-stops, seek-keeps, seek-takes}
+use Rattle.cutting.proofs.Loops.{seek, seek-starts, seek-ends, seek-stops, seek-next, lower-takes, lower-keeps}
 use Rattle.cutting.proofs.choose.Statement.{statement}
 use Rattle.cutting.proofs.choose.Tie as tie
 
@@ -66,39 +66,29 @@ behind c =
       ascending-less (idsOf (a .table .now) (a .places .now)) (c .before .before .before .before .before .before .before .before .before .pre .0 .ascending) (a .at) (a .at + l .k) (omega arith) (met (c .before .before)),
     )
 
-cast-p : tie.Need-cast-p Inv-loop μ-loop
-cast-p c = omega (arith, c .shared-slice-known5 .given (c .before .before .before .before .before .before .before .before .before .before .before .args .at + c .before .before .before .before .before .loop .k + 1))
+-- what is tried is not large
+small : (c : tie.After-shared-slice-known5 Inv-loop μ-loop) → getD (c .before .before .before .before .before .before .before .before .before .before .before .args .weighs .now) (c .before .before .before .before .before .before .before .before .before .before .before .args .at + c .before .before .before .before .before .loop .k + 1) 0 < 65536
+small c = omega (arith, c .shared-slice-known5 .given (c .before .before .before .before .before .before .before .before .before .before .before .args .at + c .before .before .before .before .before .loop .k + 1))
 
-add-p-3 : tie.Need-add-p-3 Inv-loop μ-loop
-add-p-3 c = omega (arith, c .shared-slice-known5 .given (c .before .before .before .before .before .before .before .before .before .before .before .args .at + c .before .before .before .before .before .loop .k + 1))
+-- to go on from the lower of the two gives the entry
+tried : (c : tie.After-shared-slice-known5 Inv-loop μ-loop)
+    → let a = c .before .before .before .before .before .before .before .before .before .before .before .args in
+    let l = c .before .before .before .before .before .loop in
+    let p : ℕ = c .before .price-of .result + getD (a .weighs .now) (a .at + l .k + 1) 0 in
+    seek (idsOf (a .table .now) (a .places .now)) (a .at) (l .k + 1) (lower (record { weighs = l .w; first = l .f }) (record { weighs = p; first = l .k + 1 }))
+    ≡ getD (entries (idsOf (a .table .now) (a .places .now))) (a .at) none
+tried c =
+    let a = c .before .before .before .before .before .before .before .before .before .before .before .args in
+    let l = c .before .before .before .before .before .loop in
+    let h = met (c .before .before .before .before) in
+    sym (seek-next (idsOf (a .table .now) (a .places .now)) (a .at) (l .k) _ _ h (c .before .before .before .before .before .before .before .id-of .ensures) (c .before .before .before .id-of2 .ensures) (l .w) (l .f) _ _
+    (c .before .before .if1 .left) (c .before .before .before .before .before .before .before .before .before .before .before .pre .3 (a .at + l .k + 1) (omega arith) (omega (arith, h))) (c .before .price-of .ensures .0)) ∙ l .inv .3
 
 loop-again : tie.Need-loop-again Inv-loop μ-loop
-loop-again c =
-    let a = c .before .before .before .before .before .before .before .before .before .before .before .before .args in
-    let p = c .before .before .before .before .before .before .before .before .before .before .before .before .pre in
-    let l = c .before .before .before .before .before .before .loop in
-    let h = met (c .before .before .before .before .before) in (
-      omega arith,
-      omega arith,
-      omega (arith, c .before .shared-slice-known5 .given (a .at + l .k + 1)),
-      sym (seek-takes (idsOf (a .table .now) (a .places .now)) (a .at) (l .k) _ _ h (c .before .before .before .before .before .before .before .before .id-of .ensures)
-          (c .before .before .before .before .id-of2 .ensures) (l .w) (l .f) _ _ (c .before .before .before .if1 .left) (p .3 (a .at + l .k + 1) (omega arith) (omega (arith, h)))
-          (c .before .before .price-of .ensures .0) (c .if2 .taken)) ∙ l .inv .3,
-    )
+loop-again c = (omega arith, omega arith, omega (arith, small (c .before)), rw (lower-takes _ _ _ _ (c .if2 .taken)) at (tried (c .before)))
 
 loop-again-2 : tie.Need-loop-again-2 Inv-loop μ-loop
-loop-again-2 c =
-    let a = c .before .before .before .before .before .before .before .before .before .before .before .before .args in
-    let p = c .before .before .before .before .before .before .before .before .before .before .before .before .pre in
-    let l = c .before .before .before .before .before .before .loop in
-    let h = met (c .before .before .before .before .before) in (
-      omega arith,
-      omega arith,
-      omega arith,
-      sym (seek-keeps (idsOf (a .table .now) (a .places .now)) (a .at) (l .k) _ _ h (c .before .before .before .before .before .before .before .before .id-of .ensures)
-          (c .before .before .before .before .id-of2 .ensures) (l .w) (l .f) _ _ (c .before .before .before .if1 .left) (p .3 (a .at + l .k + 1) (omega arith) (omega (arith, h)))
-          (c .before .before .price-of .ensures .0) (c .if2 .left)) ∙ l .inv .3,
-    )
+loop-again-2 c = (omega arith, omega arith, omega arith, rw (lower-keeps _ _ _ _ (c .if2 .left)) at (tried (c .before)))
 
 returns-2 : tie.Need-returns-2 Inv-loop μ-loop
 returns-2 c =
@@ -112,4 +102,4 @@ choose-spec =
     (tie.spec Inv-loop μ-loop (λ c κs. search needs) (λ c. search needs) (λ c. search needs) (λ c. search needs)
     cast-w add-w-2 loop-holds (λ c. search needs) (λ c. search needs) (λ c κs. search needs) returns (λ c. omega (arith, behind c))
     (λ c. omega (arith, behind c)) (λ c κs. omega (arith, behind c)) (λ c. search needs) (λ c. search needs) (λ c. search needs) (λ c. search needs)
-    cast-p add-p-3 (λ c. search needs) (λ c. search needs) loop-again (λ c. search needs) loop-again-2 returns-2)
+    (λ c. omega (arith, small c)) (λ c. omega (arith, small c)) (λ c. search needs) (λ c. search needs) loop-again (λ c. search needs) loop-again-2 returns-2)

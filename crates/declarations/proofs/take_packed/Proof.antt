@@ -22,13 +22,13 @@ use Rattle.declarations.proofs.take_packed.Tie as tie
 
 returns : tie.Need-returns
 returns c =
-    let a = c .before .before .before .before .before .before .before .before .before .args in
-    let pre = c .before .before .before .before .before .before .before .before .before .pre in
-    let n = packed-number (a .table .now) (a .p) (a .places .now) (a .from) (a .buffer .now) pre _ (c .before .before .before .pack .ensures .number) in
+    let a = c .before .before .before .before .before .before .before .before .before .before .args in
+    let pre = c .before .before .before .before .before .before .before .before .before .before .pre in
+    let n = packed-number (a .table .now) (a .p) (a .places .now) (a .from) (a .buffer .now) pre _ (c .before .before .before .before .pack .ensures .number) in
     let made =
     pass-closes (registers listeners) (found Listener (a .p) (a .table .now)) (a .from) (a .buffer .now) (pre .opened .unfilled) _ n (length (a .places .now)) (pre .opened .left-is)
-    (pre .opened .any) (c .if1 .taken) in
-    record { progress = made .0; buffer = made .1; room = pre .opened .pass .room; next = omega arith }
+    (pre .opened .any) (c .before .if1 .taken) in
+    rw (c .closed .ensures) (record { progress = made .0; buffer = made .1; room = pre .opened .pass .room; next = omega arith })
 
 -- the Message has room
 room : (c : tie.Else1) → c .before .before .before .before .before .before .before .before .before .args .from .at + (6 + getD (c .before .before .before .pack .last .1 .1 .1 .0) 0 0 / 65) + 2 ≤ longestPdu
@@ -78,7 +78,7 @@ returns-2 c =
 pub take-packed-spec : {M : Type 1} → statement M
 take-packed-spec =
     tie.close
-    (tie.spec (λ c. search needs) (λ c. search needs) (λ c. search needs) (λ c. search needs) (λ c κs. search needs) returns (λ c. search needs)
+    (tie.spec (λ c. search needs) (λ c. search needs) (λ c. search needs) (λ c. search needs) (λ c κs. search needs) (λ c κs. search needs) returns (λ c. search needs)
     (λ c. omega (arith, room c)) (λ c. omega (arith, room c)) slice-aggregate-write-listeners (λ c. search needs) (λ c. omega (arith, room (c .before .before)))
     (λ c. search needs) (λ c. search needs) (λ c. omega (arith, room (c .before .before), c .before .before .before .before .before .before .before .before .before .before .before .pre .opened .pass .buffer)) write-listeners-requires
     (λ c. omega (arith, room (c .before .before .before .before .before .before))) (λ c. omega (arith, within (c .before .before .before .before .before .before), c .before .before .before .before .before .before .before .before .before .before .before .before .before .before .before .pre .opened .few, c .before .before .before .before .before .before .before .before .before .before .before .before .before .before .before .pre .opened .pass .next)) (λ c. search needs) returns-2)

@@ -36,14 +36,14 @@ number attribute p t one s left h n size z f =
 
 returns : tie.Need-returns
 returns c =
-    let start = c .before .before .before .before .before in
+    let start = c .before .before .before .before .before .before in
     let a = start .args in
     let pre = start .pre .0 in
     let k = type (a .attribute) in
     let l = found (a .attribute) (a .p) (a .table .now) in
-    let n = number (a .attribute) (a .p) (a .table .now) (start .pre .1) (a .from) (a .left) (pre .left-is) _ _ (c .before .before .vector-size .ensures .0) (c .before .fits2 .ensures) in
-    let made = pass-closes k l (a .from) (a .buffer .now) (pre .unfilled) _ (n .0) (a .left) (pre .left-is) (pre .any) (c .if1 .taken) in
-    record { progress = made .0; buffer = made .1; room = pre .pass .room; next = omega arith }
+    let n = number (a .attribute) (a .p) (a .table .now) (start .pre .1) (a .from) (a .left) (pre .left-is) _ _ (c .before .before .before .vector-size .ensures .0) (c .before .before .fits2 .ensures) in
+    let made = pass-closes k l (a .from) (a .buffer .now) (pre .unfilled) _ (n .0) (a .left) (pre .left-is) (pre .any) (c .before .if1 .taken) in
+    rw (c .closed .ensures) (record { progress = made .0; buffer = made .1; room = pre .pass .room; next = omega arith })
 
 -- where some fit, the Message does
 room : (c : tie.Else1) → c .before .before .before .before .before .args .from .at + 8 + c .before .fits2 .result * c .before .before .vector-size .result ≤ longestPdu
@@ -98,6 +98,6 @@ returns-2 c =
 pub take-run-spec : {M : Type 1} → statement M
 take-run-spec =
     tie.close
-    (tie.spec (λ c κs. search needs) (λ c. search needs) (λ c κs. search needs) returns (λ c. omega (arith, room c)) (λ c. omega (arith, room c))
+    (tie.spec (λ c κs. search needs) (λ c. search needs) (λ c κs. search needs) (λ c κs. search needs) returns (λ c. omega (arith, room c)) (λ c. omega (arith, room c))
     (λ c. omega (arith, room c)) (λ c. search needs) (λ c. search needs) (λ c. omega (arith, room c, c .before .before .before .before .before .pre .0 .pass .buffer)) write-message-requires
     (λ c. omega (arith, room (c .before .before .before .before))) (λ c. omega (arith, few (c .before .before .before .before), c .before .before .before .before .before .before .before .before .before .pre .0 .few, c .before .before .before .before .before .before .before .before .before .pre .0 .pass .next)) (λ c. search needs) returns-2)

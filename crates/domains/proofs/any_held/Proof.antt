@@ -20,18 +20,6 @@ abbrev μ-loop : tie.MeasureT-loop
 loop-holds : tie.Need-loop-holds Inv-loop μ-loop
 loop-holds c = (omega arith, refl)
 
-add-if1 : tie.Need-add-if1 Inv-loop μ-loop
-add-if1 c = omega (arith, c .before .before .pre .within)
-
-mul-if1 : tie.Need-mul-if1 Inv-loop μ-loop
-mul-if1 c = omega (arith, c .before .before .pre .within)
-
-add-if1-2 : tie.Need-add-if1-2 Inv-loop μ-loop
-add-if1-2 c = omega (arith, c .before .before .pre .within)
-
-shared-slice-read-if1 : tie.Need-shared-slice-read-if1 Inv-loop μ-loop
-shared-slice-read-if1 c = omega (arith, c .before .before .before .pre .within, c .before .before .before .pre .size)
-
 returns : tie.Need-returns Inv-loop μ-loop
 returns c =
     let first = c .before .before .before .before in
@@ -55,5 +43,6 @@ returns-2 c =
 pub any-held-spec : {M : Type 1} → statement M
 any-held-spec =
     tie.close
-    (tie.spec Inv-loop μ-loop loop-holds add-if1 mul-if1 add-if1-2 shared-slice-read-if1 returns (λ c. search needs) (λ c. search needs) loop-again
-    returns-2)
+    (tie.spec Inv-loop μ-loop loop-holds (λ c. omega (arith, c .before .before .pre .within)) (λ c. omega (arith, c .before .before .pre .within))
+    (λ c. omega (arith, c .before .before .pre .within)) (λ c. omega (arith, c .before .before .before .pre .within, c .before .before .before .pre .size))
+    returns (λ c. search needs) (λ c. search needs) loop-again returns-2)

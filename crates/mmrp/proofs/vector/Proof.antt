@@ -2,6 +2,7 @@
 use Prim.Native.Nat.{_-_}
 use mathlib.Core.List.{List}
 use mathlib.Core.Bool.{true}
+use native.Mathlib.Omega.{arith}
 use borrow.Author.Needs.{needs}
 use lib.ListN.{take, drop}
 use Rattle.model.specs.Registrations.{AddressAct}
@@ -15,21 +16,9 @@ use Rattle.mmrp.proofs.Reading.{enough-events, has-addresses, vector-ac
 use Rattle.mmrp.proofs.vector.Statement.{statement}
 use Rattle.mmrp.proofs.vector.Tie as tie
 
-begin-all-requires : tie.Need-begin-all-requires
-begin-all-requires c κs = c .before .before .before .before .pre .laid
-
 -- the places of the vector are within the PDU
 places : (a : tie.Start) → Within (a .pre .version) macs (a .args .pdu .now) (a .pre .at) (a .args .head)
 places a = within (a .pre .version) macs (a .args .pdu .now) (a .pre .at) (a .args .head) (a .pre .read)
-
-sub-values : tie.Need-sub-values
-sub-values c = let h = places (c .before .before .before .before .before .before .before .before) in search needs
-
-part-values-start : tie.Need-part-values-start
-part-values-start c = let h = places (c .before .before .before .before .before .before .before .before) in search needs
-
-part-values-end : tie.Need-part-values-end
-part-values-end c = let h = places (c .before .before .before .before .before .before .before .before) in search needs
 
 values-requires : tie.Need-values-requires
 values-requires c κs =
@@ -59,4 +48,8 @@ returns c =
 pub vector-spec : {M : Type 1} → statement M
 vector-spec =
     tie.close
-    (tie.spec (λ c κs. search needs) begin-all-requires sub-values part-values-start part-values-end values-requires (λ c. search needs) returns)
+    (tie.spec (λ c κs. search needs) (λ c κs. c .before .before .before .before .pre .laid)
+    (λ c. omega (arith, places (c .before .before .before .before .before .before .before .before)))
+    (λ c. omega (arith, places (c .before .before .before .before .before .before .before .before)))
+    (λ c. omega (arith, places (c .before .before .before .before .before .before .before .before))) values-requires
+    (λ c. search needs) returns)

@@ -1,4 +1,5 @@
 -- `registrar::vector` meets its contract. Assumes nothing.
+use native.Mathlib.Omega.{arith}
 use borrow.Author.Needs.{needs}
 use Rattle.model.specs.Frames.{typeOctet}
 use Rattle.msrpdu.proofs.Reading.{Within, within}
@@ -7,30 +8,9 @@ use Rattle.registrar.proofs.VectorActs.{vector-acts, enough-events, has
 use Rattle.registrar.proofs.vector.Statement.{statement}
 use Rattle.registrar.proofs.vector.Tie as tie
 
-begin-all-requires : tie.Need-begin-all-requires
-begin-all-requires c κs = c .before .before .before .before .pre .walk
-
 -- the places of the vector are within its list
 places : (a : tie.Start) → Within (a .args .list .now) (a .pre .at) (a .args .head)
 places a = within (a .args .walk .version) (typeOctet 0 (a .args .walk .kind)) (a .args .list .now) (a .pre .at) (a .args .head) (a .pre .read)
-
-sub-values : tie.Need-sub-values
-sub-values c = let h = places (c .before .before .before .before .before .before .before .before) in search needs
-
-part-values-start : tie.Need-part-values-start
-part-values-start c = let h = places (c .before .before .before .before .before .before .before .before) in search needs
-
-part-values-end : tie.Need-part-values-end
-part-values-end c = let h = places (c .before .before .before .before .before .before .before .before) in search needs
-
-sub-values-2 : tie.Need-sub-values-2
-sub-values-2 c = let h = places (c .before .before .before .before .before .before .before .before .before) in search needs
-
-part-values-start-2 : tie.Need-part-values-start-2
-part-values-start-2 c = let h = places (c .before .before .before .before .before .before .before .before .before) in search needs
-
-part-values-end-2 : tie.Need-part-values-end-2
-part-values-end-2 c = let h = places (c .before .before .before .before .before .before .before .before .before) in search needs
 
 values-requires : tie.Need-values-requires
 values-requires c κs =
@@ -55,5 +35,11 @@ returns c =
 pub vector-spec : {M : Type 1} → statement M
 vector-spec =
     tie.close
-    (tie.spec (λ c κs. search needs) begin-all-requires sub-values part-values-start part-values-end sub-values-2
-    part-values-start-2 part-values-end-2 values-requires (λ c. search needs) returns)
+    (tie.spec (λ c κs. search needs) (λ c κs. c .before .before .before .before .pre .walk)
+    (λ c. omega (arith, places (c .before .before .before .before .before .before .before .before)))
+    (λ c. omega (arith, places (c .before .before .before .before .before .before .before .before)))
+    (λ c. omega (arith, places (c .before .before .before .before .before .before .before .before)))
+    (λ c. omega (arith, places (c .before .before .before .before .before .before .before .before .before)))
+    (λ c. omega (arith, places (c .before .before .before .before .before .before .before .before .before)))
+    (λ c. omega (arith, places (c .before .before .before .before .before .before .before .before .before))) values-requires
+    (λ c. search needs) returns)

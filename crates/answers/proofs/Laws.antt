@@ -8,7 +8,7 @@ use lib.ListN.{length, getD, drop, drop-of-length-le}
 use lib.Seq.{drop-cons}
 use borrow.Author.Tests.{eq-eqb, ne-eqb}
 use Rattle.octets.specs.Pick.{pick}
-use Rattle.srpcalls.specs.Sums.{adlerFrom, all}
+use Rattle.answers.specs.Sums.{adlerFrom, all}
 
 module _ (a b i : ℕ) (s : List ℕ) where
   pub adler-more : i < length s → adlerFrom a b (drop i s) ≡ adlerFrom ((a + getD s i 0) % 65521) ((b + (a + getD s i 0) % 65521) % 65521) (drop (i + 1) s)

@@ -1,12 +1,12 @@
--- `srpcalls::is_kept` meets its contract. The invariant: what is left to look at decides. Assumes nothing.
+-- `answers::is_kept` meets its contract. The invariant: what is left to look at decides. Assumes nothing.
 use Prim.Native.Nat.{_-_}
 use mathlib.Core.Path.{_≡_, refl, sym, _∙_}
 use borrow.Author.Needs.{needs}
 use lib.ListN.{length, drop}
-use Rattle.srpcalls.specs.Sums.{all}
-use Rattle.srpcalls.proofs.Laws.{all-more, all-not, all-none}
-use Rattle.srpcalls.proofs.is_kept.Statement.{statement}
-use Rattle.srpcalls.proofs.is_kept.Tie as tie
+use Rattle.answers.specs.Sums.{all}
+use Rattle.answers.proofs.Laws.{all-more, all-not, all-none}
+use Rattle.answers.proofs.is_kept.Statement.{statement}
+use Rattle.answers.proofs.is_kept.Tie as tie
 
 abbrev Inv-loop : tie.InvT-loop
 Inv-loop buffer from at₀ at = all 165 (drop at buffer) ≡ all 165 (drop from buffer)

@@ -1,4 +1,4 @@
--- `srpcalls::adler` meets its contract. The invariant: the sum of the octets that are left, from these sums on, is the sum of all.
+-- `answers::adler` meets its contract. The invariant: the sum of the octets that are left, from these sums on, is the sum of all.
 -- Assumes nothing.
 use Prim.Native.Nat.{ℕ, _-_, _<_}
 use mathlib.Core.Path.{_≡_, refl, sym, _∙_}
@@ -6,10 +6,10 @@ use mathlib.Core.List.{List}
 use native.Mathlib.Omega.{arith}
 use borrow.Author.Needs.{needs}
 use lib.ListN.{length, drop}
-use Rattle.srpcalls.specs.Sums.{adlerFrom, adler32}
-use Rattle.srpcalls.proofs.Laws.{adler-more, adler-none}
-use Rattle.srpcalls.proofs.adler.Statement.{statement}
-use Rattle.srpcalls.proofs.adler.Tie as tie
+use Rattle.answers.specs.Sums.{adlerFrom, adler32}
+use Rattle.answers.proofs.Laws.{adler-more, adler-none}
+use Rattle.answers.proofs.adler.Statement.{statement}
+use Rattle.answers.proofs.adler.Tie as tie
 
 record Summing (octets : List ℕ) (a b i : ℕ) : Type 0 where
   low : a < 65521
