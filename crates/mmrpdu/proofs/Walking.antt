@@ -18,6 +18,7 @@ use Rattle.model.proofs.FoundAddresses.{passed-addresses, over-addresses}
 use Rattle.msrpdu.specs.Reader.{headOf}
 use Rattle.msrpdu.specs.declared.VectorHead.{VectorHead}
 use Rattle.msrpdu.specs.declared.VectorRead.the-variants as vector
+use Rattle.msrpdu.proofs.Left.{Left, left-on}
 use Rattle.msrpdu.proofs.Reading.{read-refused, read-end, read-head, read-over}
 use Rattle.mmrpdu.specs.Reader.{listNamed, headerNumber, messageMeant, messageRead, typedRead, numberOf}
 use Rattle.mmrpdu.specs.declared.MessageHead.{MessageHead}
@@ -160,22 +161,6 @@ module _ (f version : ℕ) (s : List ℕ) (at : ℕ) where
           → addressMessages (suc f) version s at ≡ afterList (addresses (suc (length s)) version (listNamed kind octets) s list) (addressMessages f version s)
       go kind octets list p q o = rw (r .is, p, q, o, ← (named version s at (r .type) (r .is)))
 
--- The whole PDU.
-
-module _ (s : List ℕ) where
-  pub walk-empty : length s ≡ 0 → addressWalk s ≡ refusedFrame 2
-  unfolding addressWalk
-  walk-empty p = rw (eq-eqb _ _ p)
-
-  module _ (o : length s ≡ 0 → ⊥) where
-    pub walk-long : longestPdu < length s → addressWalk s ≡ refusedFrame 2
-    unfolding addressWalk
-    walk-long p = rw (ne-eqb _ _ o, lt-ltb longestPdu _ p)
-
-    pub walk-in : length s ≤ longestPdu → addressWalk s ≡ addressMessages (suc (length s)) (getD s 0 0) s 1
-    unfolding addressWalk
-    walk-in p = rw (ne-eqb _ _ o, le-ltb longestPdu _ p)
-
 -- The number that a walk gives, by what is read; rest is what the Messages after the list give.
 
 frame-number : (es : List AddressAct) (r : AddressReading) → numberOf (thenFrame es r) ≡ numberOf r
@@ -199,47 +184,50 @@ module _ (f version : ℕ) (t : AddressList) (s : List ℕ) (at : ℕ) (rest : �
 
   -- behind a vector, and behind one that is passed over
   abbrev Goes : ℕ → Type 0
-  Goes next = (g : ℕ) → f ≡ suc g → numberOf (afterList (addresses (suc f) version t s at) rest) ≡ numberOf (afterList (addresses (suc g) version t s next) rest)
+  Goes next = numberOf (afterList (addresses (suc f) version t s at) rest) ≡ numberOf (afterList (addresses f version t s next) rest)
 
   pub number-next : (h : VectorHead) → typedRead version t s at ≡ vector.Vector h → Goes (h .next)
-  number-next h e g m =
-      rw (← m, addresses-next f version t s at h e)
+  number-next h e =
+      rw (addresses-next f version t s at h e)
       (then-number (addressVectorActs t (addressVectorAt t s at (beAt 2 s at))) (addresses f version t s (h .next)) rest)
 
   pub number-passed : (next : ℕ) → typedRead version t s at ≡ vector.PassedOver next → Goes next
-  number-passed next e g m = rw (← m, addresses-over f version t s at next e)
+  number-passed next e = rw (addresses-over f version t s at next e)
 
 -- The number is not yet given: that of what is left, from here, is the answer.
 
 -- from a Message on
-pub record PduLeft (s : List ℕ) (version at : ℕ) : Type 0 where
-  pub within : at ≤ length s
-  pub turns : ℕ
-  pub enough : length s ≤ at + turns
-  pub answer : numberOf (addressMessages (suc turns) version s at) ≡ numberOf (addressWalk s)
+abbrev pub PduLeft : List ℕ → ℕ → ℕ → Type 0
+PduLeft s version at = Left (λ (f a : ℕ). numberOf (addressMessages f version s a)) (length s) (numberOf (addressWalk s)) at
 
 -- from a vector on, in the list of the Message at a place
 pub record ListLeft (s : List ℕ) (version at kind octets reached : ℕ) : Type 0 where
   pub ahead : at < reached
-  pub within : reached ≤ length s
-  pub turns : ℕ
   pub later : ℕ
-  pub enough : length s ≤ reached + turns
   pub enough-later : length s ≤ reached + later
-  pub answer : numberOf (afterList (addresses (suc turns) version (listNamed kind octets) s reached) (addressMessages (suc later) version s)) ≡ numberOf (addressWalk s)
+  pub vectors-left : Left (λ (f a : ℕ). numberOf (afterList (addresses f version (listNamed kind octets) s a) (addressMessages (suc later) version s))) (length s) (numberOf (addressWalk s)) reached
 
 -- .. and from a later place of the list on, where the vectors from there on give the same number
-pub list-on : (s : List ℕ) (version at kind octets reached next : ℕ) → ListLeft s version at kind octets reached → reached < next → next ≤ length s
-    → ((f : ℕ) (rest : ℕ → AddressReading) → Goes f version (listNamed kind octets) s reached rest next)
-    → ListLeft s version at kind octets next
-list-on s version at kind octets reached next i up inside same =
-    let e : i .turns ≡ suc (i .turns - 1) = omega arith in
-    record {
-      ahead = omega (arith, i .ahead);
-      within = inside;
-      turns = i .turns - 1;
-      later = i .later;
-      enough = omega arith;
-      enough-later = omega arith;
-      answer = sym (same (i .turns) (addressMessages (suc (i .later)) version s) (i .turns - 1) e) ∙ i .answer;
-    }
+pub list-on : {s : List ℕ} {version at kind octets reached : ℕ} → ListLeft s version at kind octets reached → (next : ℕ) → reached < next → next ≤ length s
+    → ((f : ℕ) (rest : ℕ → AddressReading) → Goes f version (listNamed kind octets) s reached rest next) → ListLeft s version at kind octets next
+list-on i next up inside same = record {
+  ahead = omega (arith, i .ahead);
+  later = i .later;
+  enough-later = omega (arith, i .enough-later);
+  vectors-left = left-on (i .vectors-left) next up inside (λ f. same f _);
+}
+
+-- The whole PDU.
+module _ (s : List ℕ) where
+  pub walk-empty : length s ≡ 0 → 2 ≡ numberOf (addressWalk s)
+  unfolding addressWalk numberOf
+  walk-empty p = rw (eq-eqb _ _ p)
+
+  module _ (o : length s ≡ 0 → ⊥) where
+    pub walk-long : longestPdu < length s → 2 ≡ numberOf (addressWalk s)
+    unfolding addressWalk numberOf
+    walk-long p = rw (ne-eqb _ _ o, lt-ltb longestPdu _ p)
+
+    pub walk-in : length s ≤ longestPdu → PduLeft s (getD s 0 0) 1
+    unfolding addressWalk
+    walk-in p = record { within = omega arith; turns = length s; enough = omega arith; gives = rw (ne-eqb _ _ o, le-ltb longestPdu _ p) }

@@ -1,4 +1,5 @@
 pub mod Laws
+pub mod Left
 pub mod Reading
 pub mod Walking
 pub mod Applying

@@ -19,6 +19,7 @@ use Rattle.msrpdu.specs.declared.VectorHead.{VectorHead}
 use Rattle.msrpdu.specs.declared.VectorRead.the-variants as vector
 use Rattle.msrpdu.specs.declared.MessageHead.{MessageHead}
 use Rattle.msrpdu.specs.declared.MessageRead.the-variants as message
+use Rattle.msrpdu.proofs.Left.{Left, left-on}
 use Rattle.msrpdu.proofs.Reading.{read-refused, read-end, read-head, read-over}
 
 -- Vectors.
@@ -196,22 +197,6 @@ pub list-length : (s : List ℕ) (a e : ℕ) → a ≤ e → e ≤ length s → 
 unfolding part
 list-length s a e p q = length-part a (e - a) s (omega arith)
 
--- The whole PDU.
-
-module _ (s : List ℕ) where
-  pub walk-empty : length s ≡ 0 → walk s ≡ fault 2
-  unfolding walk
-  walk-empty p = rw (eq-eqb _ _ p)
-
-  module _ (o : length s ≡ 0 → ⊥) where
-    pub walk-long : longestPdu < length s → walk s ≡ fault 2
-    unfolding walk
-    walk-long p = rw (ne-eqb _ _ o, lt-ltb longestPdu _ p)
-
-    pub walk-in : length s ≤ longestPdu → walk s ≡ messages (suc (length s)) (getD s 0 0) s 1
-    unfolding walk
-    walk-in p = rw (ne-eqb _ _ o, le-ltb longestPdu _ p)
-
 -- The number that a walk gives, by what is read; w is what the Messages after the list give.
 
 also-number : (v : Vector) (x w : Walk) → numberOf (both (also v x) w) ≡ numberOf (both x w)
@@ -241,65 +226,57 @@ module _ (f version : ℕ) (l : List ℕ) (at : ℕ) (w : Walk) where
   abbrev Goes : TypeOctet → ℕ → Type 0
   Goes t next = numberOf (both (vectorsIn version t (suc f) l at) w) ≡ numberOf (both (vectorsIn version t f l next) w)
 
-  number-after : (t : TypeOctet) (h : VectorHead) → typedRead version t l at ≡ vector.Vector h → Goes t (h .next)
+  pub number-next : (t : TypeOctet) (h : VectorHead) → typedRead version t l at ≡ vector.Vector h → Goes t (h .next)
   unfolding typedRead vectorsIn
-  number-after notAllowed h e = let z : _≡_ {A = ℕ} 0 1 = cc in absurd (omega arith)
-  number-after unknown h e = let z : _≡_ {A = ℕ} 0 1 = cc in absurd (omega arith)
-  number-after (known k) h e =
+  number-next notAllowed h e = let z : _≡_ {A = ℕ} 0 1 = cc in absurd (omega arith)
+  number-next unknown h e = let z : _≡_ {A = ℕ} 0 1 = cc in absurd (omega arith)
+  number-next (known k) h e =
       rw (vectors-next f version k l at h e) (also-number (vectorAt k l at (beAt 2 l at)) (vectors f version k l (h .next)) w)
 
-  number-over : (t : TypeOctet) (next : ℕ) → typedRead version t l at ≡ vector.PassedOver next → Goes t next
+  pub number-passed : (t : TypeOctet) (next : ℕ) → typedRead version t l at ≡ vector.PassedOver next → Goes t next
   unfolding typedRead vectorsIn
-  number-over notAllowed next e = let z : _≡_ {A = ℕ} 0 1 = cc in absurd (omega arith)
-  number-over unknown next e = let z : _≡_ {A = ℕ} 0 1 = cc in absurd (omega arith)
-  number-over (known k) next e = rw (vectors-over f version k l at next e)
-
-  module _ (t : TypeOctet) (g : ℕ) (m : f ≡ suc g) where
-    pub number-next : (h : VectorHead) → typedRead version t l at ≡ vector.Vector h
-        → numberOf (both (vectorsIn version t (suc f) l at) w) ≡ numberOf (both (vectorsIn version t (suc g) l (h .next)) w)
-    number-next h e = rw (← m) (number-after t h e)
-
-    pub number-passed : (next : ℕ) → typedRead version t l at ≡ vector.PassedOver next
-        → numberOf (both (vectorsIn version t (suc f) l at) w) ≡ numberOf (both (vectorsIn version t (suc g) l next) w)
-    number-passed next e = rw (← m) (number-over t next e)
+  number-passed notAllowed next e = let z : _≡_ {A = ℕ} 0 1 = cc in absurd (omega arith)
+  number-passed unknown next e = let z : _≡_ {A = ℕ} 0 1 = cc in absurd (omega arith)
+  number-passed (known k) next e = rw (vectors-over f version k l at next e)
 
 -- The number is not yet given: that of what is left, from here, is the answer.
 
 -- from a Message on
-pub record PduLeft (s : List ℕ) (version at : ℕ) : Type 0 where
-  pub within : at ≤ length s
-  pub turns : ℕ
-  pub enough : length s ≤ at + turns
-  pub answer : numberOf (messages (suc turns) version s at) ≡ numberOf (walk s)
+abbrev pub PduLeft : List ℕ → ℕ → ℕ → Type 0
+PduLeft s version at = Left (λ (f a : ℕ). numberOf (messages f version s a)) (length s) (numberOf (walk s)) at
 
 -- from a vector on, in the list from start to end of the Message at a place
 pub record ListLeft (s : List ℕ) (version at kind start end reached : ℕ) : Type 0 where
   pub list : start ≤ end
   pub within : end ≤ length s
   pub ahead : at < end
-  pub inside : reached ≤ end - start
-  pub turns : ℕ
   pub later : ℕ
-  pub enough : end - start ≤ reached + turns
   pub enough-later : length s ≤ end + later
-  pub answer : numberOf (both (vectorsIn version (typeOctet 0 kind) (suc turns) (take (end - start) (drop start s)) reached) (messages (suc later) version s end)) ≡ numberOf (walk s)
+  pub vectors-left : Left (λ (f a : ℕ). numberOf (both (vectorsIn version (typeOctet 0 kind) f (take (end - start) (drop start s)) a) (messages (suc later) version s end))) (end - start) (numberOf (walk s)) reached
 
 -- .. and from a later place of the list on, where the vectors from there on give the same number
-pub list-on : (s : List ℕ) (version at kind start end reached next : ℕ) → ListLeft s version at kind start end reached → reached < next → next ≤ end - start
-    → let t = typeOctet 0 kind in
-    let l = take (end - start) (drop start s) in
-    ((f g : ℕ) (w : Walk) → f ≡ suc g → numberOf (both (vectorsIn version t (suc f) l reached) w) ≡ numberOf (both (vectorsIn version t (suc g) l next) w))
-    → ListLeft s version at kind start end next
-list-on s version at kind start end reached next i up inside same =
-    let e : i .turns ≡ suc (i .turns - 1) = omega arith in
-    record {
-      list = i .list;
-      within = i .within;
-      ahead = i .ahead;
-      inside = inside;
-      turns = i .turns - 1;
-      later = i .later;
-      enough = omega arith;
-      enough-later = i .enough-later;
-      answer = sym (same (i .turns) (i .turns - 1) _ e) ∙ i .answer;
-    }
+pub list-on : {s : List ℕ} {version at kind start end reached : ℕ} → ListLeft s version at kind start end reached → (next : ℕ) → reached < next → next ≤ end - start
+    → ((f : ℕ) (w : Walk) → Goes f version (take (end - start) (drop start s)) reached w (typeOctet 0 kind) next) → ListLeft s version at kind start end next
+list-on i next up inside same = record {
+  list = i .list;
+  within = i .within;
+  ahead = i .ahead;
+  later = i .later;
+  enough-later = i .enough-later;
+  vectors-left = left-on (i .vectors-left) next up inside (λ f. same f _);
+}
+
+-- The whole PDU.
+module _ (s : List ℕ) where
+  pub walk-empty : length s ≡ 0 → 2 ≡ numberOf (walk s)
+  unfolding walk numberOf
+  walk-empty p = rw (eq-eqb _ _ p)
+
+  module _ (o : length s ≡ 0 → ⊥) where
+    pub walk-long : longestPdu < length s → 2 ≡ numberOf (walk s)
+    unfolding walk numberOf
+    walk-long p = rw (ne-eqb _ _ o, lt-ltb longestPdu _ p)
+
+    pub walk-in : length s ≤ longestPdu → PduLeft s (getD s 0 0) 1
+    unfolding walk
+    walk-in p = record { within = omega arith; turns = length s; enough = omega arith; gives = rw (ne-eqb _ _ o, le-ltb longestPdu _ p) }

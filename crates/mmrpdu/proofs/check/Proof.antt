@@ -8,6 +8,7 @@ use Rattle.msrpdu.specs.declared.VectorRead.the-variants.{Vector, PassedOver, E
 use Rattle.mmrpdu.specs.Reader.{listNamed, messageRead, typedRead, numberOf}
 use Rattle.mmrpdu.specs.declared.MessageRead.the-variants.{List}
 use Rattle.mmrpdu.proofs.Walking.{within, over-within, end-within, ahead-list, messages-refused, messages-end, messages-list, walk-empty, walk-long, walk-in, number-refused, number-end, number-next, number-passed, PduLeft, ListLeft, list-on}
+use Rattle.msrpdu.proofs.Left.{left-given}
 use Rattle.mmrpdu.proofs.check.Statement.{statement}
 use Rattle.mmrpdu.proofs.check.Tie as tie
 
@@ -49,22 +50,6 @@ an-end : (c : tie.After-enum-told2 Inv-loop μ-loop Inv-messages μ-messages) �
     typedRead (getD pdu 0 0) (listNamed (m .kind) (m .octets)) pdu (c .before .before .before .loop .reached) ≡ EndMark
 an-end c = sym (c .before .before .typed-vector .ensures) ∙ c .enum-told2 .given .1
 
-returns : tie.Need-returns Inv-loop μ-loop Inv-messages μ-messages
-unfolding numberOf
-returns c = sym (ap numberOf (walk-empty _ (c .if1 .taken)))
-
-returns-2 : tie.Need-returns-2 Inv-loop μ-loop Inv-messages μ-messages
-unfolding numberOf
-returns-2 c = sym (ap numberOf (walk-long _ (c .before .if1 .left) (c .if2 .taken)))
-
-messages-holds : tie.Need-messages-holds Inv-loop μ-loop Inv-messages μ-messages
-messages-holds c = record {
-  within = omega arith;
-  turns = length (c .before .before .before .before .args .pdu .now);
-  enough = omega arith;
-  answer = sym (ap numberOf (walk-in _ (c .before .before .if1 .left) (c .before .if2 .left)));
-}
-
 loop-holds : tie.Need-loop-holds Inv-loop μ-loop Inv-messages μ-messages
 loop-holds c =
     let i = c .before .before .before .before .messages .inv in
@@ -72,37 +57,25 @@ loop-holds c =
     let e : i .turns ≡ suc (i .turns - 1) = omega arith in
     record {
       ahead = omega arith;
-      within = a .1;
-      turns = length (c .before .before .before .before .before .before .before .before .before .args .pdu .now);
       later = i .turns - 1;
-      enough = omega arith;
       enough-later = omega arith;
-      answer = rw (← e) (sym (ap numberOf (messages-list _ _ _ _ _ (a-list c))) ∙ i .answer);
+      vectors-left = record {
+        within = a .1;
+        turns = length (c .before .before .before .before .before .before .before .before .before .args .pdu .now);
+        enough = omega arith;
+        gives = rw (← e) (sym (ap numberOf (messages-list _ _ _ _ _ (a-list c))) ∙ i .gives);
+      };
     }
-
-loop-less : tie.Need-loop-less Inv-loop μ-loop Inv-messages μ-messages
-loop-less c = omega (arith, within _ _ _ _ _ (a-vector c), c .before .before .before .before .loop .inv .within)
 
 loop-again : tie.Need-loop-again Inv-loop μ-loop Inv-messages μ-messages
 loop-again c =
     let w = within _ _ _ _ _ (a-vector c) in
-    list-on _ _ _ _ _ _ _ (c .before .before .before .before .loop .inv) (omega arith) (w .pdu) (λ f rest g m. number-next f _ _ _ _ rest _ (a-vector c) g m)
-
-loop-less-2 : tie.Need-loop-less-2 Inv-loop μ-loop Inv-messages μ-messages
-loop-less-2 c = omega (arith, over-within _ _ _ _ _ (a-passed c), c .before .before .before .before .loop .inv .within)
+    list-on (c .before .before .before .before .loop .inv) _ (omega arith) (w .pdu) (λ f rest. number-next f _ _ _ _ rest _ (a-vector c))
 
 loop-again-2 : tie.Need-loop-again-2 Inv-loop μ-loop Inv-messages μ-messages
 loop-again-2 c =
     let w = over-within _ _ _ _ _ (a-passed c) in
-    list-on _ _ _ _ _ _ _ (c .before .before .before .before .loop .inv) (omega arith) (w .1) (λ f rest g m. number-passed f _ _ _ _ rest _ (a-passed c) g m)
-
-add-at : tie.Need-add-at Inv-loop μ-loop Inv-messages μ-messages
-add-at c = omega (arith, end-within _ _ _ _ (an-end c), c .before .before .before .before .before .before .before .before .before .before .if2 .left)
-
-messages-less : tie.Need-messages-less Inv-loop μ-loop Inv-messages μ-messages
-messages-less c =
-    let i = c .before .before .before .loop .inv in
-    omega (arith, end-within _ _ _ _ (an-end c), i .ahead)
+    list-on (c .before .before .before .before .loop .inv) _ (omega arith) (w .1) (λ f rest. number-passed f _ _ _ _ rest _ (a-passed c))
 
 messages-again : tie.Need-messages-again Inv-loop μ-loop Inv-messages μ-messages
 messages-again c =
@@ -111,31 +84,32 @@ messages-again c =
       within = end-within _ _ _ _ (an-end c);
       turns = i .later;
       enough = omega (arith, i .enough-later);
-      answer = sym (number-end _ _ _ _ _ _ (an-end c)) ∙ i .answer;
+      gives = left-given (i .vectors-left) _ (λ f. number-end f _ _ _ _ _ (an-end c));
     }
 
 returns-3 : tie.Need-returns-3 Inv-loop μ-loop Inv-messages μ-messages
 unfolding numberOf
-returns-3 c =
-    sym (ap numberOf
-    (messages-refused _ _ _ _ _ (sym (c .before .before .before .message .ensures) ∙ c .before .m .given .1))) ∙
-    c .before .before .before .before .messages .inv .answer
+returns-3 c = left-given (c .before .before .before .before .messages .inv) _ (λ f. ap numberOf (messages-refused f _ _ _ _ (sym (c .before .before .before .message .ensures) ∙ c .before .m .given .1)))
 
 returns-4 : tie.Need-returns-4 Inv-loop μ-loop Inv-messages μ-messages
 unfolding numberOf
-returns-4 c =
-    sym (ap numberOf (messages-end _ _ _ _ (sym (c .before .before .message .ensures) ∙ c .enum-told .given .1))) ∙
-    c .before .before .before .messages .inv .answer
+returns-4 c = left-given (c .before .before .before .messages .inv) _ (λ f. ap numberOf (messages-end f _ _ _ (sym (c .before .before .message .ensures) ∙ c .enum-told .given .1)))
 
 returns-5 : tie.Need-returns-5 Inv-loop μ-loop Inv-messages μ-messages
-returns-5 c =
-    sym (number-refused _ _ _ _ _ _ _ (sym (c .before .before .before .typed-vector .ensures) ∙ c .before .v .given .1)) ∙
-    c .before .before .before .before .loop .inv .answer
+returns-5 c = left-given (c .before .before .before .before .loop .inv .vectors-left) _ (λ f. number-refused f _ _ _ _ _ _ (sym (c .before .before .before .typed-vector .ensures) ∙ c .before .v .given .1))
 
 pub check-spec : {M : Type 1} → statement M
 check-spec =
     tie.close
-    (tie.spec Inv-loop μ-loop Inv-messages μ-messages returns returns-2 (λ c. search needs) messages-holds (λ c κs. search needs)
-    (λ c. search needs) (λ c. search needs) (λ c. search needs) loop-holds (λ c κs. search needs) (λ c. search needs) (λ c. search needs)
-    (λ c. search needs) loop-less loop-again (λ c. search needs) loop-less-2 loop-again-2 add-at messages-less messages-again returns-3
+    (tie.spec Inv-loop μ-loop Inv-messages μ-messages (λ c. walk-empty _ (c .if1 .taken))
+    (λ c. walk-long _ (c .before .if1 .left) (c .if2 .taken)) (λ c. search needs)
+    (λ c. walk-in _ (c .before .before .if1 .left) (c .before .if2 .left)) (λ c κs. search needs) (λ c. search needs)
+    (λ c. search needs) (λ c. search needs) loop-holds (λ c κs. search needs) (λ c. search needs) (λ c. search needs)
+    (λ c. search needs)
+    (λ c. omega (arith, within _ _ _ _ _ (a-vector c), c .before .before .before .before .loop .inv .vectors-left .within))
+    loop-again (λ c. search needs)
+    (λ c. omega (arith, over-within _ _ _ _ _ (a-passed c), c .before .before .before .before .loop .inv .vectors-left .within))
+    loop-again-2
+    (λ c. omega (arith, end-within _ _ _ _ (an-end c), c .before .before .before .before .before .before .before .before .before .before .if2 .left))
+    (λ c. omega (arith, end-within _ _ _ _ (an-end c), c .before .before .before .loop .inv .ahead)) messages-again returns-3
     returns-4 returns-5)

@@ -7,6 +7,7 @@ use lib.ListN.{length, getD, take, drop}
 use Rattle.model.specs.Frames.{typeOctet}
 use Rattle.msrpdu.specs.Reader.{messageRead, typedRead, numberOf}
 use Rattle.msrpdu.proofs.Walking.{PduLeft, ListLeft, messages-refused, messages-end, messages-skipped, messages-list, ahead-skipped, ahead-list, list-length, walk-empty, walk-long, walk-in, number-refused, number-end, number-next, number-passed, list-on}
+use Rattle.msrpdu.proofs.Left.{left-given, left-on}
 use Rattle.msrpdu.proofs.Reading.{within, over-within}
 use Rattle.msrpdu.specs.declared.MessageRead.the-variants.{Skipped, List}
 use Rattle.msrpdu.specs.declared.VectorRead.the-variants.{Vector, PassedOver}
@@ -68,36 +69,10 @@ passes c =
     let e = list-length (c .before .before .before .before .before .before .before .before .before .before .before .before .before .before .before .args .pdu .now) _ _ (i .list) (i .within) in
     (w .0, omega arith)
 
-returns : tie.Need-returns Inv-loop μ-loop Inv-messages μ-messages
-unfolding numberOf
-returns c = sym (ap numberOf (walk-empty _ (c .if1 .taken)))
-
-returns-2 : tie.Need-returns-2 Inv-loop μ-loop Inv-messages μ-messages
-unfolding numberOf
-returns-2 c = sym (ap numberOf (walk-long _ (c .before .if1 .left) (c .if2 .taken)))
-
-messages-holds : tie.Need-messages-holds Inv-loop μ-loop Inv-messages μ-messages
-messages-holds c = record {
-  within = omega arith;
-  turns = length (c .before .before .before .before .args .pdu .now);
-  enough = omega arith;
-  answer = sym (ap numberOf (walk-in _ (c .before .before .if1 .left) (c .before .if2 .left)));
-}
-
-messages-less : tie.Need-messages-less Inv-loop μ-loop Inv-messages μ-messages
-messages-less c = omega (arith, ahead-skipped _ _ _ _ (a-skip c))
-
 messages-again : tie.Need-messages-again Inv-loop μ-loop Inv-messages μ-messages
 messages-again c =
-    let i = c .before .before .before .before .messages .inv in
     let a = ahead-skipped _ _ _ _ (a-skip c) in
-    let e : i .turns ≡ suc (i .turns - 1) = omega arith in
-    record {
-      within = a .1;
-      turns = i .turns - 1;
-      enough = omega arith;
-      answer = rw (← e) (sym (ap numberOf (messages-skipped _ _ _ _ _ (a-skip c))) ∙ i .answer);
-    }
+    left-on (c .before .before .before .before .messages .inv) _ (omega arith) (a .1) (λ f. ap numberOf (messages-skipped f _ _ _ _ (a-skip c)))
 
 loop-holds : tie.Need-loop-holds Inv-loop μ-loop Inv-messages μ-messages
 loop-holds c =
@@ -109,32 +84,25 @@ loop-holds c =
       list = a .ends;
       within = a .within;
       ahead = omega arith;
-      inside = omega arith;
-      turns = m .next - m .list;
       later = i .turns - 1;
-      enough = omega arith;
       enough-later = omega arith;
-      answer = rw (← e) (sym (ap numberOf (messages-list _ _ _ _ _ (a-list c))) ∙ i .answer);
+      vectors-left = record {
+        within = omega arith;
+        turns = m .next - m .list;
+        enough = omega arith;
+        gives = rw (← e) (sym (ap numberOf (messages-list _ _ _ _ _ (a-list c))) ∙ i .gives);
+      };
     }
-
-loop-less : tie.Need-loop-less Inv-loop μ-loop Inv-messages μ-messages
-loop-less c = omega (arith, ends c)
 
 loop-again : tie.Need-loop-again Inv-loop μ-loop Inv-messages μ-messages
 loop-again c =
     let a = ends c in
-    list-on _ _ _ _ _ _ _ _ (c .before .before .before .before .before .loop .inv) (omega arith) (a .1) (λ f g w m. number-next f _ _ _ w _ g m _ (a-vector c))
-
-loop-less-2 : tie.Need-loop-less-2 Inv-loop μ-loop Inv-messages μ-messages
-loop-less-2 c = omega (arith, passes c)
+    list-on (c .before .before .before .before .before .loop .inv) _ (omega arith) (a .1) (λ f w. number-next f _ _ _ w _ _ (a-vector c))
 
 loop-again-2 : tie.Need-loop-again-2 Inv-loop μ-loop Inv-messages μ-messages
 loop-again-2 c =
     let a = passes c in
-    list-on _ _ _ _ _ _ _ _ (c .before .before .before .before .before .loop .inv) (omega arith) (a .1) (λ f g w m. number-passed f _ _ _ w _ g m _ (a-passed c))
-
-messages-less-2 : tie.Need-messages-less-2 Inv-loop μ-loop Inv-messages μ-messages
-messages-less-2 c = omega (arith, c .before .before .before .before .loop .inv .ahead)
+    list-on (c .before .before .before .before .before .loop .inv) _ (omega arith) (a .1) (λ f w. number-passed f _ _ _ w _ _ (a-passed c))
 
 messages-again-2 : tie.Need-messages-again-2 Inv-loop μ-loop Inv-messages μ-messages
 messages-again-2 c =
@@ -143,32 +111,28 @@ messages-again-2 c =
       within = i .within;
       turns = i .later;
       enough = i .enough-later;
-      answer = sym (number-end _ _ _ _ _ _ (sym (c .before .before .typed-vector .ensures) ∙ c .enum-told2 .given .1)) ∙ i .answer;
+      gives = left-given (i .vectors-left) _ (λ f. number-end f _ _ _ _ _ (sym (c .before .before .typed-vector .ensures) ∙ c .enum-told2 .given .1));
     }
 
 returns-3 : tie.Need-returns-3 Inv-loop μ-loop Inv-messages μ-messages
 unfolding numberOf
-returns-3 c =
-    sym (ap numberOf
-    (messages-refused _ _ _ _ _ (sym (c .before .before .before .message .ensures) ∙ c .before .m .given .1))) ∙
-    c .before .before .before .before .messages .inv .answer
+returns-3 c = left-given (c .before .before .before .before .messages .inv) _ (λ f. ap numberOf (messages-refused f _ _ _ _ (sym (c .before .before .before .message .ensures) ∙ c .before .m .given .1)))
 
 returns-4 : tie.Need-returns-4 Inv-loop μ-loop Inv-messages μ-messages
 unfolding numberOf
-returns-4 c =
-    sym (ap numberOf (messages-end _ _ _ _ (sym (c .before .before .message .ensures) ∙ c .enum-told .given .1))) ∙
-    c .before .before .before .messages .inv .answer
+returns-4 c = left-given (c .before .before .before .messages .inv) _ (λ f. ap numberOf (messages-end f _ _ _ (sym (c .before .before .message .ensures) ∙ c .enum-told .given .1)))
 
 returns-5 : tie.Need-returns-5 Inv-loop μ-loop Inv-messages μ-messages
-returns-5 c =
-    sym (number-refused _ _ _ _ _ _ _ (sym (c .before .before .before .typed-vector .ensures) ∙ c .before .v .given .1)) ∙
-    c .before .before .before .before .before .loop .inv .answer
+returns-5 c = left-given (c .before .before .before .before .before .loop .inv .vectors-left) _ (λ f. number-refused f _ _ _ _ _ _ (sym (c .before .before .before .typed-vector .ensures) ∙ c .before .v .given .1))
 
 pub check-spec : {M : Type 1} → statement M
 check-spec =
     tie.close
-    (tie.spec Inv-loop μ-loop Inv-messages μ-messages returns returns-2 (λ c. search needs) messages-holds
-    (λ c κs. search needs) (λ c. search needs) (λ c. search needs) (λ c. search needs) messages-less messages-again
+    (tie.spec Inv-loop μ-loop Inv-messages μ-messages (λ c. walk-empty _ (c .if1 .taken))
+    (λ c. walk-long _ (c .before .if1 .left) (c .if2 .taken)) (λ c. search needs)
+    (λ c. walk-in _ (c .before .before .if1 .left) (c .before .if2 .left)) (λ c κs. search needs) (λ c. search needs)
+    (λ c. search needs) (λ c. search needs) (λ c. omega (arith, ahead-skipped _ _ _ _ (a-skip c))) messages-again
     (λ c. search needs) loop-holds (λ c. search needs) (λ c. search needs) (λ c. search needs) (λ c κs. search needs)
-    (λ c. search needs) (λ c. search needs) (λ c. search needs) loop-less loop-again (λ c. search needs) loop-less-2
-    loop-again-2 messages-less-2 messages-again-2 returns-3 returns-4 returns-5)
+    (λ c. search needs) (λ c. search needs) (λ c. search needs) (λ c. omega (arith, ends c)) loop-again (λ c. search needs)
+    (λ c. omega (arith, passes c)) loop-again-2 (λ c. omega (arith, c .before .before .before .before .loop .inv .ahead))
+    messages-again-2 returns-3 returns-4 returns-5)
