@@ -66,16 +66,21 @@ behind c =
       ascending-less (idsOf (a .table .now) (a .places .now)) (c .before .before .before .before .before .before .before .before .before .pre .0 .ascending) (a .at) (a .at + l .k) (omega arith) (met (c .before .before)),
     )
 
--- what is tried is not large
-small : (c : tie.After-shared-slice-known5 Inv-loop μ-loop) → getD (c .before .before .before .before .before .before .before .before .before .before .before .args .weighs .now) (c .before .before .before .before .before .before .before .before .before .before .before .args .at + c .before .before .before .before .before .loop .k + 1) 0 < 65536
+-- what is tried: what the vector up to here weighs, with the rest behind it
+abbrev rest : (c : tie.After-shared-slice-known5 Inv-loop μ-loop) → ℕ
+rest c = let a = c .before .before .before .before .before .before .before .before .before .before .before .args in getD (a .weighs .now) (a .at + c .before .before .before .before .before .loop .k + 1) 0
+
+abbrev next : (c : tie.After-shared-slice-known5 Inv-loop μ-loop) → ℕ
+next c = c .before .price-of .result + rest c
+
+small : (c : tie.After-shared-slice-known5 Inv-loop μ-loop) → rest c < 65536
 small c = omega (arith, c .shared-slice-known5 .given (c .before .before .before .before .before .before .before .before .before .before .before .args .at + c .before .before .before .before .before .loop .k + 1))
 
 -- to go on from the lower of the two gives the entry
 tried : (c : tie.After-shared-slice-known5 Inv-loop μ-loop)
     → let a = c .before .before .before .before .before .before .before .before .before .before .before .args in
     let l = c .before .before .before .before .before .loop in
-    let p : ℕ = c .before .price-of .result + getD (a .weighs .now) (a .at + l .k + 1) 0 in
-    seek (idsOf (a .table .now) (a .places .now)) (a .at) (l .k + 1) (lower (record { weighs = l .w; first = l .f }) (record { weighs = p; first = l .k + 1 }))
+    seek (idsOf (a .table .now) (a .places .now)) (a .at) (l .k + 1) (lower (record { weighs = l .w; first = l .f }) (record { weighs = next c; first = l .k + 1 }))
     ≡ getD (entries (idsOf (a .table .now) (a .places .now))) (a .at) none
 tried c =
     let a = c .before .before .before .before .before .before .before .before .before .before .before .args in
@@ -85,10 +90,14 @@ tried c =
     (c .before .before .if1 .left) (c .before .before .before .before .before .before .before .before .before .before .before .pre .3 (a .at + l .k + 1) (omega arith) (omega (arith, h))) (c .before .price-of .ensures .0)) ∙ l .inv .3
 
 loop-again : tie.Need-loop-again Inv-loop μ-loop
-loop-again c = (omega arith, omega arith, omega (arith, small (c .before)), rw (lower-takes _ _ _ _ (c .if2 .taken)) at (tried (c .before)))
+loop-again c =
+    let low : next (c .before) ≤ c .before .before .before .before .before .before .loop .w = omega arith in
+    (omega arith, omega arith, omega (arith, small (c .before)), rw (lower-takes _ _ _ _ low) at (tried (c .before)))
 
 loop-again-2 : tie.Need-loop-again-2 Inv-loop μ-loop
-loop-again-2 c = (omega arith, omega arith, omega arith, rw (lower-keeps _ _ _ _ (c .if2 .left)) at (tried (c .before)))
+loop-again-2 c =
+    let high : c .before .before .before .before .before .before .loop .w < next (c .before) = omega arith in
+    (omega arith, omega arith, omega arith, rw (lower-keeps _ _ _ _ high) at (tried (c .before)))
 
 returns-2 : tie.Need-returns-2 Inv-loop μ-loop
 returns-2 c =
