@@ -4,10 +4,11 @@ import sys
 
 import click
 
-from srp import difference, page, sheet, tables
+from srp import difference, explain, layout, page, sheet, tables
 from srp.command_capture import capture_command
+from srp.command_history import history_command
 from srp.command_restarts import restarts_command
-from srp.options import FILE, capture_options, console, run_files
+from srp.options import FILE, capture_options, console, load_files, run_files, say_refusals
 
 
 @click.group(context_settings={"help_option_names": ["-h", "--help"]})
@@ -17,6 +18,7 @@ def commands():
 
 
 commands.add_command(capture_command)
+commands.add_command(history_command)
 commands.add_command(restarts_command)
 
 
@@ -77,3 +79,19 @@ def diff_command(first, second, decided, is_json, **options):
         rows = [(one.place.words(names), one.field, one.first, one.second) for one in found]
         console().print(tables.grid(("where", "what", first, second), rows))
     end(found)
+
+
+@commands.command("why")
+@click.argument("file", type=FILE)
+@click.argument("port", type=click.IntRange(1, layout.PORTS))
+@click.argument("stream")
+@click.option("--json", "is_json", is_flag=True, help="An object with all of it.")
+@capture_options
+def why_command(file, port, stream, is_json, **options):
+    """Tells why STREAM, a StreamID or a name of the text, has its column on PORT: the step that decides, what it means, and for
+    code 1 who goes before and how much is missing."""
+    [given] = load_files([file], **options)
+    given.check_end()
+    found = explain.ask(given, port, stream)
+    say_refusals(found.ran)
+    click.echo(json.dumps(explain.as_object(found), indent=1) if is_json else "\n".join(explain.lines_of(found)))

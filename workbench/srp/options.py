@@ -76,11 +76,16 @@ def run_inputs(all_given):
         with progress(f"calls of {given.name}", len(given.records)) as tell:
             all_ran.append(inputs.run(given, tell))
     for ran in all_ran:
-        for refusal in ran.refusals:
-            say(f"{ran.input.name}: {refusal.words}")
+        say_refusals(ran)
         if ran.stopped:
             say(f"{ran.input.name}: the reading stops early: {ran.reason}")
     return all_ran
+
+
+def say_refusals(ran):
+    """Says which calls were refused, each with where it comes from."""
+    for refusal in ran.refusals:
+        say(f"{ran.input.name}: {refusal.words}")
 
 
 def run_files(files, **options):

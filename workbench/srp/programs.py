@@ -73,18 +73,23 @@ def make_ready():
     run(calls_command(), b"")
 
 
-def calls(all_records, tell=None, command=None):
-    """The lines that srpcalls, or another command, prints for call records, one for each that is answered; tell is told how many
-    are made."""
-    command, lines = command or calls_command(), []
+def each_call(all_records, tell=None, command=None):
+    """The lines that srpcalls, or another command, prints for call records, as it prints them, one for each that is answered; tell
+    is told how many are made."""
+    command, printed = command or calls_command(), 0
     wanted = sum(record.is_answered for record in all_records)
     for line in printed_lines(command, b"".join(record.octets for record in all_records)):
-        lines.append(line.rstrip("\n"))
+        yield line.rstrip("\n")
+        printed += 1
         if tell:
             tell(1)
-    if len(lines) != wanted:
-        raise Fault(f"{' '.join(command)} printed {len(lines)} lines for {wanted} calls, where srpcalls prints one for each")
-    return lines
+    if printed != wanted:
+        raise Fault(f"{' '.join(command)} printed {printed} lines for {wanted} calls, where srpcalls prints one for each")
+
+
+def calls(all_records, tell=None, command=None):
+    """All of these lines."""
+    return list(each_call(all_records, tell, command))
 
 
 def records_of_text(text, kind, *options):
