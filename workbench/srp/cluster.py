@@ -64,7 +64,7 @@ def results_of(address, function, shared, parts):
         # handed to each worker once, and not with each part
         common = client.scatter(shared, broadcast=True, hash=False)
         waiting = {client.submit(function, common, part, stand_in(), pure=False): place for place, part in enumerate(parts)}
-        for future in distributed.as_completed(waiting):
+        for future in distributed.as_completed(waiting, loop=client.loop):
             yield waiting[future], result_of(future, address)
 
 

@@ -42,7 +42,11 @@ class Input:
 
     def origin(self, place):
         """Where a record comes from, or with the number of records where the reading stops."""
-        return self.origins[place] if place < len(self.origins) else f"record {place + 1}"
+        if place < len(self.origins):
+            return self.origins[place]
+        if self.is_sheet:
+            return f"record {place}" if place else "the settings"
+        return f"record {place + 1}"
 
     def check_end(self):
         """Whether it is read to its end, for what would not show that it isn't."""

@@ -47,6 +47,11 @@ def place(description, name):
     return sum(width_of_field(each.metadata) for each in fields(description)[:names.index(name)]) // 8
 
 
+def length_of(description, name):
+    """The octets of a field."""
+    return next(width_of_field(each.metadata) for each in fields(description) if each.name == name) // 8
+
+
 def number(room, at, size):
     """The number of so many bits from a bit on."""
     begin, end, shift, mask = covering(at, size)

@@ -3,7 +3,7 @@ import sys
 
 import click
 
-from srp import captures, inputs, layout, programs
+from srp import captures, files, inputs, packets, programs
 from srp.faults import Fault
 from srp.needs import need
 from srp.progress import progress
@@ -36,13 +36,14 @@ def capture_options(command):
 
 def settings_in(path):
     """The settings of an input, which must be good ones."""
-    given = inputs.load(path)
-    if given.kind == "capture":
+    octets = files.octets_of(path)
+    if packets.is_capture(octets):
         raise Fault(f"--settings {path}: a capture has no settings")
-    rule = programs.broken_rule(given.settings)
+    settings = inputs.of_octets(path, octets).settings
+    rule = programs.broken_rule(settings)
     if rule:
         raise Fault(f"--settings {path}: {rule}")
-    return given.settings
+    return settings
 
 
 def reading_of(ports, settings, until, domain, ignore):
@@ -58,10 +59,10 @@ def check_meaning(reading, calls, kinds):
         raise Fault("--calls tells how records are read, and no input is records")
 
 
-def load_files(files, calls, **options):
+def load_files(paths, calls, **options):
     """The input in each file, with what is said of it."""
     reading = reading_of(**options)
-    found = [inputs.load(file, reading, calls) for file in files]
+    found = [inputs.load(path, reading, calls) for path in paths]
     check_meaning(reading, calls, {given.kind for given in found})
     for given in found:
         for note in given.notes:
@@ -88,14 +89,8 @@ def say_refusals(ran):
         say(f"{ran.input.name}: {refusal.words}")
 
 
-def run_files(files, **options):
-    return run_inputs(load_files(files, **options))
-
-
-def check_ports(table, port):
-    """Whether a table has a port."""
-    if not 1 <= port <= table.settings.ports:
-        raise Fault(f"port {port}: the bridge has ports 1 to {min(table.settings.ports, layout.PORTS)}")
+def run_files(paths, **options):
+    return run_inputs(load_files(paths, **options))
 
 
 def console():

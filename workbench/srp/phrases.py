@@ -40,7 +40,9 @@ def number(octets, at, size):
 
 
 def talker_words(first):
-    """A Talker's FirstValue: what is as in the worked example is left out."""
+    """A Talker's FirstValue: what is as in the worked example is left out; none where a reserved bit is set."""
+    if first[20] & 0xF:
+        return None
     stream, destination = number(first, 0, 8), number(first, 8, 6)
     said = {"vlan": number(first, 14, 2), "size": number(first, 16, 2), "frames": number(first, 18, 2),
             "priority": first[20] >> 5, "rank": first[20] >> 4 & 1, "latency": number(first, 21, 4)}
@@ -98,7 +100,10 @@ def vector_words(key, vector):
         return ["leaveall", leave_all] if vector.values == 0 and not any(vector.first) else None
     if not vector.values or vector.event >= len(EVENTS):
         return None
-    words = first_words(vector.first) + ([KINDS[vector.kind]] if key == LISTENER else [])
+    words = first_words(vector.first)
+    if not words:
+        return None
+    words += [KINDS[vector.kind]] if key == LISTENER else []
     words += [f"values {vector.values}"] if vector.values > 1 else []
     return words + ([EVENTS[vector.event]] if EVENTS[vector.event] != "join" else [])
 

@@ -61,13 +61,19 @@ def path_of(stream, edges, times, x, y):
     return "M" + " L".join(upper + lower) + " Z"
 
 
+def span(found):
+    """The first time of a plot and its last, which is some way behind the last advance, so that this is seen too."""
+    first, last = found[0].time, found[-1].time
+    return first, last + max(1, (last - first) // 16)
+
+
 def plot_of(found, port, name, names, colours):
     """The plot of a class on a port; none where nothing is ever reserved."""
     changed = steps(found, port, name)
     order = sorted({stream for _, held in changed for stream in held})
     if not order:
         return None
-    first, last = found[0].time, max(found[-1].time, found[0].time + 1)
+    first, last = span(found)
     [line] = [line for line in found[-1].ports if line.port == port]
     limit = of_class(line, "limit_", name)
     most = max([limit, *(sum(held.values()) for _, held in changed)])
@@ -90,6 +96,7 @@ def plots(found):
     if not found:
         return []
     names = {line.stream: line.name for one in found for line in one.streams}
-    colours = {stream: f"hsl({place * ANGLE % 360} 55% {45 + place % 3 * 8}%)" for place, stream in enumerate(sorted(names))}
+    holding = sorted({line.stream for one in found for line in one.streams if line.entry == "forward"})
+    colours = {stream: f"hsl({place * ANGLE % 360} 55% {45 + place % 3 * 8}%)" for place, stream in enumerate(holding)}
     made = (plot_of(found, line.port, name, names, colours) for line in found[-1].ports for name in CLASSES)
     return [plot for plot in made if plot]

@@ -4,6 +4,7 @@ import shlex
 import subprocess
 import sys
 import threading
+from itertools import islice
 from pathlib import Path
 
 from srp.faults import Fault
@@ -78,13 +79,17 @@ def each_call(all_records, tell=None, command=None):
     is told how many are made."""
     command, printed = command or calls_command(), 0
     wanted = sum(record.is_answered for record in all_records)
-    for line in printed_lines(command, b"".join(record.octets for record in all_records)):
+    lines = printed_lines(command, b"".join(record.octets for record in all_records))
+    for line in islice(lines, wanted):
         yield line.rstrip("\n")
         printed += 1
         if tell:
             tell(1)
-    if printed != wanted:
-        raise Fault(f"{' '.join(command)} printed {printed} lines for {wanted} calls, where srpcalls prints one for each")
+    is_more = next(lines, None) is not None
+    lines.close()
+    if is_more or printed != wanted:
+        said = f"more than {wanted}" if is_more else printed
+        raise Fault(f"{' '.join(command)} printed {said} lines for {wanted} calls, where srpcalls prints one for each")
 
 
 def calls(all_records, tell=None, command=None):

@@ -1,4 +1,5 @@
 """The order among ports never matters: seen over many orders, and seen to be noticed where it does."""
+import json
 import random
 import shutil
 import sys
@@ -131,6 +132,19 @@ def test_domain_frames_are_frames_like_others(srp, tmp_path):
     order = tmp_path / "order.txt"
     order.write_text(srp("restarts", 60, text, "--order", 7))
     assert srp("diff", text, order) == "no difference\n" and srp("table", text) == srp("table", order)
+
+
+def test_past_64_streams_the_premise_does_not_hold(both):
+    """Two ports ask for 40 streams each. Who comes first finds room, and that the theorem says nothing of it is said."""
+    text = "bridge 8000000000000007\nports 2\non 1 listener 1000 ready values 40\non 2 listener 2000 ready values 40\ntime 100\n"
+    status, printed, said = both("restarts", 40, "-", given=text)
+    assert status == 1 and "refused 1 with 8" in printed and "the theorem's premise does not hold: more than 64 streams" in said
+    status, printed, _ = both("restarts", 40, "-", "--json", given=text)
+    found = json.loads(printed)
+    assert status == 1 and not found["premise_holds"] and [one["refused"] for one in found["results"]] == [{"8": 1}] * 2
+    assert sum(one["count"] for one in found["results"]) == found["orders"] == 40
+    status, printed, said = both("restarts", 10, CHOIR, "--json")
+    assert (status, said) == (0, "") and json.loads(printed)["premise_holds"]
 
 
 def test_inputs_that_cannot_be_restarted(srp):

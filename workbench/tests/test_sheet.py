@@ -25,6 +25,19 @@ def test_csv(srp):
     assert (refused["column"], refused["code"], refused["cause"]) == ("failed", "1", "insufficient bandwidth")
 
 
+def test_csv_is_read_by_pandas(srp, written):
+    """StreamIDs stay what they are, those of digits and an e among them too; numbers become whole ones."""
+    import pandas
+
+    text = written("digits.txt", "stream lead 0200000000010001\nbridge 8000000000000007\nports 2\non 1 talker 0200000000010001\n"
+                   "on 1 talker 02000000000100e1 to 91e0f0000002\ntime 100\n")
+    rows = pandas.read_csv(io.StringIO(srp("sheet", "--csv", text)))
+    streams = rows[rows.line == "stream"].convert_dtypes()
+    assert sorted(set(streams.stream)) == ["02:00:00:00:00:01:00:01", "02:00:00:00:00:01:00:e1"]
+    assert list(streams.code) == [0, 8, 0, 8] and set(streams.name.dropna()) == {"lead"}
+    assert list(streams[streams.code == 8].cause) == ["egress port is not AVB capable"] * 2
+
+
 def test_csv_of_refused_frames(srp):
     rows = list(csv.DictReader(io.StringIO(srp("sheet", "--csv", "examples/refused-frames/numbers.txt", status=1))))
     numbers = [f"refused {row['number']}" for row in rows if row["line"] == "refused"]
