@@ -108,7 +108,7 @@ def test_a_reading_that_stops(both, written):
     cut = written("cut", (ROOT / "crates/srpsheet/stdin").read_bytes() + b"\x20\0")
     reasons = {nine: "nine.txt: the reading stops early: the settings are refused: a bridge has 1 to 8 ports, and these settings say 9",
                foreign: "the settings are refused: a bridge has 1 to 8 ports, and these settings say 0",
-               cut: "record 4: no record begins so, or it is cut"}
+               cut: "record 6: no record begins so, or it is cut"}
     for path, reason in reasons.items():
         status, printed, said = both("sheet", path)
         assert status == 1 and "stop\n" in printed and reason in said
