@@ -102,7 +102,7 @@ def failed_before(one):
 
 def changed(one):
     return (f"on port {one.talker_port} the last Talker join had another destination, VLAN, TSpec, priority or rank than the"
-            " registered one; the Talker must leave first")
+            " registered one; a join as that, or the end of the Talker's registration, clears it")
 
 
 def latency_grown(one):

@@ -52,6 +52,9 @@ class Input:
         """Whether it is read to its end, for what would not show that it isn't."""
         if self.rest:
             raise Fault(f"{self.name}: the reading stops early, at a record that is cut or unknown: {self.origin(len(self.records))}")
+        rule = programs.broken_rule(self.settings) if self.is_sheet else ""
+        if rule:
+            raise Fault(f"{self.name}: the reading stops early, for the settings are refused: {rule}")
 
 
 @dataclass(frozen=True)

@@ -25,8 +25,9 @@ def order(calls, seed, number):
 
 def check(given):
     """Whether an input can be started again and again in one process."""
-    if given.rest or not given.records or given.records[0].kind != records.START:
-        raise Fault(f"{given.name}: restarts take an input that begins with settings and is read to its end")
+    given.check_end()
+    if not given.records or given.records[0].kind != records.START:
+        raise Fault(f"{given.name}: restarts take an input that begins with settings")
     if any(record.kind == records.STORE for record in given.records):
         raise Fault(f"{given.name}: an input that stores octets in the table, or lends less of it, cannot be restarted")
 

@@ -37,6 +37,20 @@ def test_what_ports_write_is_what_write_gives(srp, tmp_path):
     assert srp("capture", capture).splitlines()[2:] == [*expected, "time 500"]
 
 
+@pytest.mark.parametrize("text", sorted((ROOT / "tests/written").glob("*.txt")), ids=lambda path: path.stem)
+def test_the_last_pdu_of_a_port(text):
+    """A port's PDUs are those that asking on to the end gives, where they are several and where one is full or nearly so."""
+    import srp as package
+    from srp import frames
+
+    given = package.load(str(text))
+    found = [record.body for _, record in frames.written(given, lambda _: None)]
+    with package.Bridge() as bridge:
+        list(bridge.calls(given.records))
+        ports = range(1, bridge.table().settings.ports + 1)
+        assert found == [pdu for port in ports for pdu in bridge.declarations(port)]
+
+
 def test_the_frames_of_an_input_give_its_sheet(srp, tmp_path):
     capture = tmp_path / "received.pcapng"
     srp("capture", CHOIR, "--received", "-o", capture)

@@ -115,6 +115,9 @@ def test_a_reading_that_stops(both, written):
         assert both("table", path)[0] == 1
         status, printed, _ = both("sheet", "--json", path)
         assert status == 1 and reason.partition(": the reading stops early: ")[2] in printed
+        # what shows no stop takes no such input
+        for words in (("why", path, 1, "1"), ("history", path), ("restarts", 3, path), ("diff", path, path)):
+            assert "the reading stops early" in both(*words)[2] and both(*words)[0] == 2
     line = written("line.txt", "bridge 8000000000000007\nports 1\ntime 5\nraw 2f\n")
     assert "line 4: no record begins so, or it is cut" in both("sheet", line)[2]
 
