@@ -163,7 +163,8 @@ class Bridge:
 
 # Lines that feed doesn't take, and why.
 SETTINGS_LINE = "settings are handed to start"
-NOT_FED = {"bridge": SETTINGS_LINE, "ports": SETTINGS_LINE, "raw": "octets that may be no whole record would leave no answer to wait for"}
+NOT_FED = {"bridge": SETTINGS_LINE, "ports": SETTINGS_LINE,
+           "raw": "octets that may be no whole record would leave no answer to wait for"}
 
 
 def first_word(line):

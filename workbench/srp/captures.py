@@ -31,8 +31,8 @@ class Frame:
 
 @dataclass(frozen=True)
 class Captured:
-    """A capture as calls: the lines of its settings and of neighbours that are supposed, the calls behind these, each with the frame
-    that it hands over, and what is said of the reading."""
+    """A capture as calls: the lines of its settings and of neighbours that are supposed, the calls behind these, each with the
+    frame that it hands over, and what is said of the reading."""
     settings: list
     supposed: list
     steps: list

@@ -46,7 +46,8 @@ def check_workers(client, workers, address):
     try:
         said = client.run(make_ready, stand_in(), workers=one_of_each_machine(workers))
     except ImportError as fault:
-        raise Fault(f"--scheduler {address}: a worker cannot import srp ({fault}); start workers with PYTHONPATH=workbench") from None
+        raise Fault(f"--scheduler {address}: a worker cannot import srp ({fault});"
+                    " start workers with PYTHONPATH=workbench") from None
     for worker, words in said.items():
         if words:
             raise Fault(f"--scheduler {address}: worker {worker}: {words}")

@@ -8,7 +8,7 @@ from srp import difference, explain, layout, page, sheet, tables
 from srp.command_capture import capture_command
 from srp.command_history import history_command
 from srp.command_restarts import restarts_command
-from srp.options import FILE, capture_options, console, load_files, run_files, say_refusals
+from srp.options import FILE, capture_options, console, load_files, run_files, say_refused
 
 
 @click.group(context_settings={"help_option_names": ["-h", "--help"]})
@@ -93,5 +93,5 @@ def why_command(file, port, stream, is_json, **options):
     [given] = load_files([file], **options)
     given.check_end()
     found = explain.ask(given, port, stream)
-    say_refusals(found.ran)
+    say_refused(given, found.ran.refusals)
     click.echo(json.dumps(explain.as_object(found), indent=1) if is_json else "\n".join(explain.lines_of(found)))

@@ -5,7 +5,7 @@ import click
 
 from srp import captures, files, frames, inputs, packets, phrases, texts
 from srp.faults import Fault
-from srp.options import FILE, capture_options, check_meaning, reading_of, say
+from srp.options import FILE, capture_options, check_meaning, reading_of, say_notes, say_refused
 from srp.progress import progress
 from srp.reading import OWN_PORTS
 
@@ -21,20 +21,23 @@ def write_text(out, text):
 
 def write_capture(given, reading, out, is_received):
     """Writes the frames of an input, or what its ports write."""
-    for note in given.notes:
-        say(f"warning: {note}")
-    take = frames.received if is_received else frames.written
+    say_notes(given)
+    take, refused = frames.received if is_received else frames.written, []
     with progress(f"calls of {given.name}", len(given.records)) as tell:
-        found = take(given, tell)
+        found = take(given, tell, refused)
+    say_refused(given, refused)
     frames.write(out, found, reading.ports)
 
 
-def check_options(out, is_capture, **given):
-    """Whether the options that are given mean something for what is written."""
+# What is written where an option means something.
+MEANINGS = {"received": "capture", "named": "text", "words": "text"}
+
+
+def check_options(written, **given):
+    """Whether the options that are given mean something for what is written, a text or a capture."""
     for option, is_given in given.items():
-        if is_given and is_capture != (option == "received"):
-            raise Fault(f"--{option} means something where a {'capture' if option == 'received' else 'text'} is written, and {out or 'this'}"
-                        f" is a {'capture' if is_capture else 'text'}")
+        if is_given and MEANINGS[option] != written:
+            raise Fault(f"--{option} means something where a {MEANINGS[option]} is written, and this is a {written}")
 
 
 @click.command("capture")
@@ -48,7 +51,7 @@ def capture_command(file, out, received, named, words, calls, **options):
     """Turns a capture's MSRP and MMRP frames into a text; or, from any input, writes a capture of what each port writes after each
     advance."""
     is_capture = bool(out) and out.endswith((".pcap", ".pcapng"))
-    check_options(out, is_capture, received=received, named=named, words=words)
+    check_options("capture" if is_capture else "text", received=received, named=named, words=words)
     if out:
         files.check_apart(file, out)
     octets, reading = files.octets_of(file), reading_of(**options)
@@ -62,6 +65,5 @@ def capture_command(file, out, received, named, words, calls, **options):
     if not packets.is_capture(octets):
         raise Fault(f"{file} is no capture; to write one of what its ports write, give --out with a name in .pcap or .pcapng")
     captured = captures.read(file, octets, reading)
-    for note in captured.notes:
-        say(f"warning: {note}")
+    say_notes(captured)
     write_text(out, captures.text_of(captured, named, phrases.line_of if words else texts.record_line))

@@ -5,7 +5,7 @@ import click
 
 from srp import cluster, history, layout, pages, plots
 from srp.faults import Fault
-from srp.options import FILE, capture_options, load_files
+from srp.options import FILE, capture_options, load_files, say_refused
 from srp.progress import progress
 from srp.words import seconds
 
@@ -28,23 +28,31 @@ def split_ports(words):
 
 def moments_on_worker(_shared, part, command):
     """The moments of an input, on a worker of a cluster."""
-    given, choice = part
-    return list(history.moments(given, choice, command=command))
+    given, choice, refused = *part, []
+    return list(history.moments(given, choice, command=command, refused=refused)), refused
+
+
+def moments_here(given, choice):
+    """The moments of an input, as it is run, with its progress and what is refused."""
+    refused = []
+    with progress(f"calls of {given.name}", sum(1 for _ in history.with_tables(given))) as tell:
+        yield from history.moments(given, choice, tell, refused=refused)
+    say_refused(given, refused)
 
 
 def histories_here(all_given, choices):
     """The name and moments of each input, one after the other."""
     for given, choice in zip(all_given, choices):
-        with progress(f"calls of {given.name}", sum(1 for _ in history.with_tables(given))) as tell:
-            yield given.name, list(history.moments(given, choice, tell))
+        yield given.name, moments_here(given, choice)
 
 
 def histories_on(scheduler, all_given, choices):
     """The same, each input on some worker."""
     found = {}
     with progress("inputs", len(all_given)) as tell:
-        for place, one in cluster.results_of(scheduler, moments_on_worker, None, list(zip(all_given, choices))):
-            found[place] = one
+        for place, (moments, refused) in cluster.results_of(scheduler, moments_on_worker, None, list(zip(all_given, choices))):
+            found[place] = moments
+            say_refused(all_given[place], refused)
             tell(1)
     return [(given.name, found[place]) for place, given in enumerate(all_given)]
 
@@ -62,7 +70,7 @@ def show(histories, form, is_several):
     elif form == "json":
         click.echo(history.as_json(histories))
     elif form == "html":
-        views = [view(name, found) for name, found in histories]
+        views = [view(name, list(found)) for name, found in histories]
         click.echo(pages.made("history.html", {"seconds": seconds}, histories=views), nl=False)
     else:
         for name, found in histories:
@@ -78,8 +86,8 @@ def show(histories, form, is_several):
 @click.option("--scheduler", metavar="ADDRESS", help="Runs each FILE on some worker of this Dask scheduler.")
 @capture_options
 def history_command(files, form, streams, scheduler, ports, **options):
-    """Shows what each accepted advance left; without --csv, --json or --html what each changed. Here --port N shows that port alone,
-    beside what --port SOURCE=PORT tells of a capture."""
+    """Shows what each accepted advance left; without --csv, --json or --html what each changed. Here --port N shows that port
+    alone, beside what --port SOURCE=PORT tells of a capture."""
     sources, shown = split_ports(ports)
     all_given = load_files(files, ports=sources, **options)
     choices = [choice_of(shown, streams, given.names) for given in all_given]

@@ -4,9 +4,8 @@ import os
 
 import click
 
-from srp import cluster, files, orders, programs, restarts
+from srp import cluster, files, orders, programs, restarts, results
 from srp.kept import Kept
-from srp.names import NONE
 from srp.options import capture_options, load_files, say
 from srp.progress import progress
 
@@ -22,21 +21,21 @@ def shard_of(_context, _parameter, word):
     return shard, shards
 
 
-def print_results(sweep, results, names, is_json):
+def print_results(sweep, found, names, is_json):
     """A line for each result; status 1 where there are several."""
-    if not restarts.holds_premise(results):
-        say("the theorem's premise does not hold: more than 64 streams are held and asked for (number 8), and past that the order may"
-            " matter")
+    if not results.holds_premise(found):
+        say("the theorem's premise does not hold: more than 64 streams are held and asked for (number 8), and past that the order"
+            " may matter")
     if is_json:
-        click.echo(json.dumps(restarts.as_object(sweep, results, names), indent=1))
+        click.echo(json.dumps(results.as_object(sweep, found, names), indent=1))
     else:
-        click.echo("\n".join(restarts.lines_of(sweep, results, names)))
-    raise click.exceptions.Exit(len(results) > 1)
+        click.echo("\n".join(results.lines_of(sweep, found, names)))
+    raise click.exceptions.Exit(len(found) > 1)
 
 
 def merge(parts, is_json):
     lines = (line for part in parts for line in files.octets_of(part).decode(errors="replace").splitlines())
-    print_results(*restarts.merged(lines), NONE, is_json)
+    print_results(*restarts.merged(lines), is_json)
 
 
 def numbers_of(words):
@@ -60,8 +59,8 @@ def maker(scheduler, jobs):
 
     def on_cluster(calls, sweep, parts):
         numbers = [sweep.batches[part] for part in parts]
-        for place, results in cluster.results_of(scheduler, batch_on_worker, (calls, sweep.seed), numbers):
-            yield parts[place], results
+        for place, found in cluster.results_of(scheduler, batch_on_worker, (calls, sweep.seed), numbers):
+            yield parts[place], found
 
     return on_cluster
 
@@ -85,7 +84,8 @@ def results_of(given, sweep, resume, make):
 @click.option("--shard", callback=shard_of, default="1/1", metavar="I/N", help="Makes the I-th of N parts, as a line for --merge.")
 @click.option("--merge", "is_merge", is_flag=True, help="Adds up parts, from files or with - from standard input.")
 @click.option("--order", type=click.IntRange(0), metavar="K", help="Prints the K-th order as a text, and makes none.")
-@click.option("--resume", type=click.Path(dir_okay=False), metavar="FILE", help="Keeps what is done in FILE, and goes on from there.")
+@click.option("--resume", type=click.Path(dir_okay=False), metavar="FILE",
+              help="Keeps what is done in FILE, and goes on from there.")
 @click.option("--scheduler", metavar="ADDRESS", help="Makes the orders on the workers of this Dask scheduler.")
 @click.option("--json", "is_json", is_flag=True, help="An object with all results.")
 @capture_options
@@ -103,8 +103,8 @@ def restarts_command(words, is_merge, order, seed, shard, jobs, resume, schedule
         return
     orders.check(given)
     sweep = restarts.Sweep(restarts.digest(given), count, seed, *shard)
-    results = results_of(given, sweep, resume, maker(scheduler, jobs))
+    found = results_of(given, sweep, resume, maker(scheduler, jobs))
     if sweep.shards > 1:
-        click.echo(restarts.as_part(sweep, results))
+        click.echo(restarts.as_part(sweep, found, given.names))
     else:
-        print_results(sweep, results, given.names, is_json)
+        print_results(sweep, found, given.names, is_json)

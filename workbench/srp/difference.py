@@ -1,4 +1,5 @@
-"""What differs between two tables: every field of settings, clock, the ports' own parts, cells and results; or what is decided alone."""
+"""What differs between two tables: every field of settings, clock, the ports' own parts, cells and results; or what is decided
+alone."""
 from dataclasses import dataclass, fields
 
 from srp.names import NONE
@@ -96,7 +97,8 @@ def shown(name, value):
 
 
 def between(first, second, decided=False):
-    """The differences of two tables; with decided those of what the last advance decided alone. What one side lacks is zero there."""
+    """The differences of two tables; with decided those of what the last advance decided alone. What one side lacks is zero
+    there."""
     left, right = dict(all_fields(first)), dict(all_fields(second))
     found = []
     for place, name in left | right:

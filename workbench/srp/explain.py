@@ -106,8 +106,8 @@ def changed(one):
 
 
 def latency_grown(one):
-    return (f"the Talker's latency on port {one.talker_port} is {one.talker.latency} ns, and was {one.talker.first_latency} ns when it"
-            " joined; a longer path than at first is not taken")
+    return (f"the Talker's latency on port {one.talker_port} is {one.talker.latency} ns, and was {one.talker.first_latency} ns when"
+            " it joined; a longer path than at first is not taken")
 
 
 def own_talker(one):
@@ -123,31 +123,37 @@ def no_class(one):
 def at_edge(one):
     priority = of_class(one.table.settings, "priority_", one.name)
     heard = ", ".join(f"priority {value.priority}" for value in domains_of(one.table.edges[one.port - 1], one.name))
-    return (f"the neighbour is not in class {one.name}'s domain: priority {priority} must be declared and no other, and of the class"
-            f" is registered {heard or 'nothing'}")
+    return (f"the neighbour is not in class {one.name}'s domain: priority {priority} must be declared and no other, and of the"
+            f" class is registered {heard or 'nothing'}")
 
 
 def address_in_use(one):
     asked = one.talker.parameters
-    same = [stream for stream in one.table.streams if stream.stream_id < int(one.stream, 16) and any(
-        cell.talker and (cell.parameters.destination, cell.parameters.vlan) == (asked.destination, asked.vlan) for cell in stream.cells)]
+    lower = (stream for stream in one.table.streams if stream.stream_id < int(one.stream, 16))
+    same = [stream for stream in lower if any(is_to(cell, asked.destination, asked.vlan) for cell in stream.cells)]
     who = ", ".join(one.names.beside(stream_id(stream.stream_id)) for stream in same)
-    return f"{address(asked.destination)}, VLAN {asked.vlan}, is the destination of a lower StreamID too: {who or 'one that is held'}"
+    return f"{address(asked.destination)}, VLAN {asked.vlan}, is the destination of a lower StreamID too: {who}"
+
+
+def is_to(cell, destination, vlan):
+    """Whether a cell has a Talker to a destination and VLAN."""
+    return cell.talker and (cell.parameters.destination, cell.parameters.vlan) == (destination, vlan)
 
 
 def too_many_inbound(one):
-    return (f"the Talker is on port {one.talker_port}, and the limit of inbound ports is {one.table.settings.fan_in_limit}: so many ports"
-            " numbered below it bring streams in")
+    return (f"the Talker is on port {one.talker_port}, and the limit of inbound ports is {one.table.settings.fan_in_limit}: so many"
+            " ports numbered below it bring streams in")
 
 
 def too_large(one):
-    return f"its frames have up to {one.talker.parameters.max_frame_size} octets, and the port's largest frame is {one.settings.largest_frame}"
+    return (f"its frames have up to {one.talker.parameters.max_frame_size} octets, and the port's largest frame is"
+            f" {one.settings.largest_frame}")
 
 
 def no_room(one):
     left = one.demand - one.answer.shortfall
-    return (f"it asks for {rate(one.demand)} of class {one.name}; of the limit of {rate(one.answer.limit)} more important streams leave"
-            f" {rate(left)}, and {rate(one.answer.shortfall)} are missing")
+    return (f"it asks for {rate(one.demand)} of class {one.name}; of the limit of {rate(one.answer.limit)} more important streams"
+            f" leave {rate(left)}, and {rate(one.answer.shortfall)} are missing")
 
 
 def admitted(one):

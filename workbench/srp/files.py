@@ -72,8 +72,8 @@ def mode_of(path):
 
 @contextmanager
 def written(path):
-    """A file of octets to write. It stands beside its place until all is written, so that nothing is left of a run that ends before,
-    and the old one stays until then."""
+    """A file of octets to write. It stands beside its place until all is written, so that nothing is left of a run that ends
+    before, and the old one stays until then."""
     try:
         if not is_plain(path):
             with open(path, "wb") as file:

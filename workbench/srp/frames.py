@@ -6,6 +6,7 @@ from srp.bridge import Bridge
 from srp.faults import Fault
 from srp.needs import need
 from srp.reading import ADDRESS, OWN_PORTS
+from srp.refusals import Refusal
 
 SHORTEST_FRAME = 60
 LONGEST = 1 << 18
@@ -39,9 +40,9 @@ def clock_behind(record, answer, clock):
     return clock
 
 
-def received(given, tell):
+def received(given, tell, _refused=None):
     """The frames of an input, each with its time, as records. The clock depends on the other calls alone, where no octet is stored
-    in the table."""
+    in the table; so frames are not handed over, and none is refused."""
     given.check_end()
     is_stored = any(record.kind == records.STORE for record in given.records)
     made = [record for record in given.records if is_stored or record.kind in CLOCKED]
@@ -86,10 +87,18 @@ def declared(bridge, first):
     return pdus
 
 
-def written(given, tell):
-    """What each port writes after each accepted advance, with its time, as records. A bridge writes no MMRP frames."""
+def refusals_of(given, at, part, found):
+    """The refused calls of a part of an input that begins at a place."""
+    places = [at + place for place, record in enumerate(part) if record.is_answered]
+    return [Refusal(given.origin(place), given.records[place].is_frame, answer.number) for place, answer in zip(places, found)
+            if not getattr(answer, "accepted", True)]
+
+
+def written(given, tell, refused):
+    """What each port writes after each accepted advance, with its time, as records. A bridge writes no MMRP frames. Refused is a
+    list that gets the refused calls."""
     given.check_end()
-    frames, clock, ports = [], 0, 0
+    frames, clock, ports, at = [], 0, 0, 0
     with Bridge() as bridge:
         for part in up_to_advances(given):
             ports = max([ports, *(ports_of(record) for record in part if record.kind == records.START)])
@@ -97,6 +106,8 @@ def written(given, tell):
             found = list(bridge.calls([*part, *(records.write(port) for port in range(1, ports + 1))]))
             for record, answer in zip(called, found):
                 clock = clock_behind(record, answer, clock)
+            refused += refusals_of(given, at, part, found)
+            at += len(part)
             tell(len(part))
             if part[-1].kind == records.ADVANCE and found[len(called) - 1].accepted:
                 first = {port: answer for port, answer in enumerate(found[len(called):], 1) if answer.accepted}
@@ -118,10 +129,10 @@ def write_pcapng(file, frames):
     """The same, with an interface for each port."""
     pcapng = need("dpkt.pcapng")
     ports = sorted({port for _, port, _ in frames})
-    named = ([pcapng.PcapngOptionLE(code=pcapng.PCAPNG_OPT_IF_NAME, data=b"port%d" % port), pcapng.PcapngOptionLE()] for port in ports)
     file.write(bytes(pcapng.SectionHeaderBlockLE()))
-    for options in named:
-        file.write(bytes(pcapng.InterfaceDescriptionBlockLE(snaplen=LONGEST, opts=options)))
+    for port in ports:
+        name = pcapng.PcapngOptionLE(code=pcapng.PCAPNG_OPT_IF_NAME, data=b"port%d" % port)
+        file.write(bytes(pcapng.InterfaceDescriptionBlockLE(snaplen=LONGEST, opts=[name, pcapng.PcapngOptionLE()])))
     for time, port, octets in frames:
         padded = octets.ljust(-(-len(octets) // 4) * 4, b"\0")
         size, stamp = 32 + len(padded), time * 10**4

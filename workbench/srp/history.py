@@ -3,8 +3,9 @@ import json
 from dataclasses import asdict, dataclass
 
 from srp import answers, layout, programs, records, sheet
-from srp.views import StreamLine, class_of, demand, port_lines, ports, stream_line
-from srp.words import cause, rate, seconds
+from srp.refusals import Refusal
+from srp.views import StreamLine, class_of, demand, of_class, parts_of_line, port_lines, ports
+from srp.words import CLASSES, cause, rate, seconds
 
 COLUMNS = ("input", "advance", "time", "line", *sheet.PARTS, "class", "demand")
 
@@ -46,7 +47,7 @@ class Moment:
 def stream_at(table, stream, port, names):
     name = class_of(table, stream.settled)
     bandwidth = demand(stream.settled, table.port_settings[port - 1], name) if name else None
-    return StreamAt(**asdict(stream_line(stream, port, names)), class_name=name or "", demand=bandwidth)
+    return StreamAt(*parts_of_line(stream, port, names), name or "", bandwidth)
 
 
 def moment(number, time, table, names, choice):
@@ -58,19 +59,21 @@ def moment(number, time, table, names, choice):
 
 
 def with_tables(given):
-    """The records of an input, and behind each advance one that prints the table."""
-    for record in given.records:
-        yield record
+    """The records of an input with their places, and behind each advance one that prints the table."""
+    for place, record in enumerate(given.records):
+        yield place, record
         if record.kind == records.ADVANCE:
-            yield records.Record(records.TABLE_OCTETS)
+            yield place, records.Record(records.TABLE_OCTETS)
 
 
-def moments(given, choice=Choice(), tell=None, command=None):
-    """The moments of an input, as it is run."""
+def moments(given, choice=Choice(), tell=None, command=None, refused=None):
+    """The moments of an input, as it is run. Refused, where it is given, is a list that gets its refused calls."""
     made, number, accepted = list(with_tables(given)), 0, None
-    lines = programs.each_call(made, tell, command)
-    for record, line in zip((record for record in made if record.is_answered), lines):
+    lines = programs.each_call([record for _, record in made], tell, command)
+    for (place, record), line in zip(((place, record) for place, record in made if record.is_answered), lines):
         answer = answers.read_line(line)
+        if refused is not None and type(answer) is answers.Answer and not answer.accepted:
+            refused.append(Refusal(given.origin(place), record.is_frame, answer.number))
         if record.kind == records.ADVANCE:
             accepted = record.time if answer.accepted else None
         elif record.octets == records.TABLE_OCTETS and accepted is not None:
@@ -122,7 +125,7 @@ def changes(found):
     """The changes of each moment against the one before."""
     totals, states = {}, {}
     for one in found:
-        now = {(line.port, f"class {name}"): total for line in one.ports for name, total in (("A", line.total_a), ("B", line.total_b))}
+        now = {(line.port, f"class {name}"): of_class(line, "total_", name) for line in one.ports for name in CLASSES}
         for (port, name), total in now.items():
             if totals.get((port, name), 0) != total:
                 yield Change(one.time, port, name, "", rate(totals.get((port, name), 0)), rate(total))

@@ -51,7 +51,8 @@ class Input:
     def check_end(self):
         """Whether it is read to its end, for what would not show that it isn't."""
         if self.rest:
-            raise Fault(f"{self.name}: the reading stops early, at a record that is cut or unknown: {self.origin(len(self.records))}")
+            raise Fault(f"{self.name}: the reading stops early, at a record that is cut or unknown:"
+                        f" {self.origin(len(self.records))}")
         rule = programs.broken_rule(self.settings) if self.is_sheet else ""
         if rule:
             raise Fault(f"{self.name}: the reading stops early, for the settings are refused: {rule}")

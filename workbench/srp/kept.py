@@ -4,7 +4,8 @@ import os
 from dataclasses import asdict
 
 from srp.faults import Fault
-from srp.restarts import BATCH, Result
+from srp.restarts import BATCH
+from srp.results import Result
 
 
 class Kept:

@@ -65,8 +65,7 @@ def load_files(paths, calls, **options):
     found = [inputs.load(path, reading, calls) for path in paths]
     check_meaning(reading, calls, {given.kind for given in found})
     for given in found:
-        for note in given.notes:
-            say(f"warning: {note}")
+        say_notes(given)
     return found
 
 
@@ -77,16 +76,22 @@ def run_inputs(all_given):
         with progress(f"calls of {given.name}", len(given.records)) as tell:
             all_ran.append(inputs.run(given, tell))
     for ran in all_ran:
-        say_refusals(ran)
+        say_refused(ran.input, ran.refusals)
         if ran.stopped:
             say(f"{ran.input.name}: the reading stops early: {ran.reason}")
     return all_ran
 
 
-def say_refusals(ran):
-    """Says which calls were refused, each with where it comes from."""
-    for refusal in ran.refusals:
-        say(f"{ran.input.name}: {refusal.words}")
+def say_refused(given, refused):
+    """Says which calls of an input were refused, each with where it comes from."""
+    for refusal in refused:
+        say(f"{given.name}: {refusal.words}")
+
+
+def say_notes(given):
+    """Says what the reader of an input should know."""
+    for note in given.notes:
+        say(f"warning: {note}")
 
 
 def run_files(paths, **options):

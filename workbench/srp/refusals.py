@@ -24,4 +24,5 @@ def summed_up(refusals):
 
     for (number, is_call), group in groupby(sorted(refusals, key=key), key=key):
         origins = [one.origin for one in group]
-        yield f"{counted(len(origins), 'call' if is_call else 'frame')} refused with {number}, {refusal(number)}: {first_of(origins)}"
+        count = counted(len(origins), "call" if is_call else "frame")
+        yield f"{count} refused with {number}, {refusal(number)}: {first_of(origins)}"

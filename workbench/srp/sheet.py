@@ -25,7 +25,7 @@ def plain(ran):
 
 def stream_row(line):
     """A row of a stream on a port. The StreamID has colons, so that no program takes it for a number."""
-    return {"line": "stream", "cause": cause(line.code)} | asdict(line) | {"stream": with_colons(line.stream)}
+    return {"line": "stream", "cause": cause(line.code)} | vars(line) | {"stream": with_colons(line.stream)}
 
 
 def table_rows(table, names):

@@ -113,10 +113,15 @@ def edge_line(table, port):
     return EdgeLine(port, *("yes" if of_class(table.edges[port - 1], "boundary_", name) else "no" for name in CLASSES))
 
 
-def stream_line(stream, port, names=NONE):
+def parts_of_line(stream, port, names):
+    """The parts of what a sheet shows of a stream on a port."""
     result, identifier = stream.results[port - 1], stream_id(stream.stream_id)
-    return StreamLine(identifier, names.of(identifier), port, word(COLUMNS, result.column), result.code,
-                      word(LISTENERS, result.listener), word(ENTRIES, result.entry))
+    return (identifier, names.of(identifier), port, word(COLUMNS, result.column), result.code, word(LISTENERS, result.listener),
+            word(ENTRIES, result.entry))
+
+
+def stream_line(stream, port, names=NONE):
+    return StreamLine(*parts_of_line(stream, port, names))
 
 
 def stream_lines(table, names=NONE):

@@ -44,7 +44,7 @@ def test_the_last_pdu_of_a_port(text):
     from srp import frames
 
     given = package.load(str(text))
-    found = [record.body for _, record in frames.written(given, lambda _: None)]
+    found = [record.body for _, record in frames.written(given, lambda _: None, [])]
     with package.Bridge() as bridge:
         list(bridge.calls(given.records))
         ports = range(1, bridge.table().settings.ports + 1)

@@ -50,10 +50,11 @@ def test_what_changed(srp):
     assert both.startswith(f"==> {CHOIR} <==\n1.00 s ") and f"\n==> {HALL} <==\n1.00 s " in both
 
 
-def test_a_refused_advance_and_another_start(srp, written):
+def test_a_refused_advance_and_another_start(both, written):
     text = written("again.txt", "bridge 7\nports 1\nstart\ntime 5\ntime 4\nreport 1\ntable\nsum\nstart\ntime 3\n")
-    rows = rows_of(srp("history", "--csv", text))
-    assert [(row["advance"], row["time"]) for row in rows] == [("1", "5"), ("2", "3")]
+    status, printed, said = both("history", "--csv", text)
+    assert status == 0 and [(row["advance"], row["time"]) for row in rows_of(printed)] == [("1", "5"), ("2", "3")]
+    assert said == f"srp: {text}: line 5: refused with 9, the time is below the clock\n"
 
 
 def test_a_page_with_plots(srp):
@@ -77,8 +78,9 @@ def test_a_plot_is_stacked_in_steps():
     # 0004 stands upon the three below it until 5 s, when 0009 takes its place
     by_stream = {layer.stream[-4:]: layer.path for layer in plot.layers}
     change = 760 * 400 / 425
-    assert by_stream["0004"].startswith(f"M0.0,{top:.1f} L{change:.1f},{top:.1f} L{change:.1f},{top + share:.1f} L760.0,{top + share:.1f}")
-    assert by_stream["0009"].startswith(f"M0.0,{top:.1f} L{change:.1f},{top:.1f} L{change:.1f},{top:.1f} L760.0,{top:.1f}")
+    begins = f"M0.0,{top:.1f} L{change:.1f},{top:.1f} L{change:.1f},"
+    assert by_stream["0004"].startswith(f"{begins}{top + share:.1f} L760.0,{top + share:.1f}")
+    assert by_stream["0009"].startswith(f"{begins}{top:.1f} L760.0,{top:.1f}")
     assert (plot.first, plot.last, round(plot.limit)) == ("1.00 s", "5.25 s", 0)
 
 

@@ -97,8 +97,8 @@ def test_settings_that_are_none(srp, written, settings, said):
 ], ids=lambda part: part if isinstance(part, str) else "")
 def test_files_that_are_no_input(srp, written, name, content, said):
     path = written(name, content)
-    for command in (("sheet", path), ("table", path), ("diff", CHOIR, path), ("capture", path, "-o", "out.pcap"), ("history", path)):
-        words = srp(*command, status=2)
+    for command in ("sheet {}", "table {}", f"diff {CHOIR} {{}}", "capture {} -o out.pcap", "history {}"):
+        words = srp(*command.format(path).split(), status=2)
         assert said in words and words.count("\n") == 1
 
 
@@ -106,8 +106,8 @@ def test_a_reading_that_stops(both, written):
     """Refused settings, foreign octets and a cut record: stop is printed, the reason said, and the status is 1."""
     nine, foreign = written("nine.txt", NINE), written("foreign", bytes(range(256)))
     cut = written("cut", (ROOT / "crates/srpsheet/stdin").read_bytes() + b"\x20\0")
-    reasons = {nine: "nine.txt: the reading stops early: the settings are refused: a bridge has 1 to 8 ports, and these settings say 9",
-               foreign: "the settings are refused: a bridge has 1 to 8 ports, and these settings say 0",
+    refused = "the reading stops early: the settings are refused: a bridge has 1 to 8 ports, and these settings say"
+    reasons = {nine: f"nine.txt: {refused} 9", foreign: f"foreign: {refused} 0",
                cut: "record 6: no record begins so, or it is cut"}
     for path, reason in reasons.items():
         status, printed, said = both("sheet", path)

@@ -42,6 +42,8 @@ def test_in_restarts(srp, written):
     assert any(line.startswith("    0200000000010004 alto port 4: ") and ", and in the first line " in line for line in differing)
     order = written("order.txt", srp("restarts", 60, text, "--order", 3))
     assert order.read_text().startswith("stream alto 0200000000010004\n") and "0200000000010004 alto" in srp("table", order)
+    parts = "".join(srp("restarts", 60, text, "--shard", f"{shard}/2", environment=WRONG) for shard in (1, 2))
+    assert srp("restarts", "--merge", "-", given=parts, status=1).splitlines() == lines
     [result] = json.loads(srp("restarts", 5, text, "--json"))["results"]
     assert {one["name"] for one in result["decided"] if one["stream"] == "0200000000010004"} == {"alto"}
 

@@ -9,7 +9,8 @@ from test_sheet import Page
 FULL = "\n".join([
     "stream first 0200000000010000", "bridge 8000000000000007 pruning", "ports 8 limits 300M 40M", "start",
     *(f"on {port} domain 5 2 2 values 2" for port in range(1, 9)),
-    "on 1 talker first values 40", "on 2 talker 0200000000020000 to 91e0f0001000 priority 2 values 23", "on 3 talker 0200000000030000 priority 6",
+    "on 1 talker first values 40", "on 2 talker 0200000000020000 to 91e0f0001000 priority 2 values 23",
+    "on 3 talker 0200000000030000 priority 6",
     *(f"mmrp {port} mac 91e0f0000000 values {63 - port}" for port in range(3, 9)), "mmrp 2 mac 91e0f0001000 values 2",
     *(f"on {port} listener first ready values {30 + port}" for port in range(4, 9)),
     "on 8 listener 0200000000020000 ready values 20", "time 100", "on 8 listener first ready leave", ""])
@@ -54,7 +55,7 @@ def test_every_sign_stands_in_the_legend(srp, full):
 
 
 def test_no_room_lists_only_who_asked(srp, full):
-    """Towards port 4 forty Talkers go, of which seventeen find room; of the others those with a Listener there stand in its list."""
+    """Towards port 4 forty Talkers go, of which 17 find room; of the others those with a Listener there stand in its list."""
     from srp import inputs, views
 
     table = inputs.run(inputs.load(str(full))).table

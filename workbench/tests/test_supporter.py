@@ -22,7 +22,9 @@ def test_every_refusal_names_its_packet(both, srp, written):
               f" packet 4, on port 2 from {MIXER}")
     assert f"3 frames handed over, 2 refused\n  {summed}" in srp("table", capture, *PORTS).replace("\n    ", " ")
     assert summed in srp("sheet", "--html", capture, *PORTS)
-    assert "packet 2" in both("why", capture, 2, "0200000000010001", *PORTS)[2]
+    for command in (("why", capture, 2, "0200000000010001"), ("history", capture), ("diff", capture, capture),
+                    ("capture", capture, "-o", capture.with_name("out.pcap"))):
+        assert f"packet 2, on port 2 from {MIXER}: refused with 4" in both(*command, *PORTS)[2]
 
 
 def test_refusals_of_a_text_name_their_lines(srp, written):
@@ -70,7 +72,8 @@ def test_packets_that_go_back_in_time_are_named(both, written):
 
 def test_until_is_checked(srp, written):
     capture = written("hall.pcap", pcap(GOOD, READY))
-    assert "--until 99: packet 2 comes at 100, and the clock goes to 4294967295" in srp("sheet", capture, *PORTS, "--until", 99, status=2)
+    said = srp("sheet", capture, *PORTS, "--until", 99, status=2)
+    assert "--until 99: packet 2 comes at 100, and the clock goes to 4294967295" in said
     assert "4294967296 is not in the range" in srp("sheet", capture, *PORTS, "--until", 1 << 32, status=2)
     assert srp("capture", capture, *PORTS, "--until", 100).endswith("time 100\n")
 

@@ -22,8 +22,8 @@ STEPS = {
     "l": ("", "", TALKER + "on 1 talker 2 to 91e0f0000001\n", 2, "is the destination of a lower StreamID too: 0000000000000001"),
     "m": ("fanin 1", "", "on 1 talker 1\non 3 talker 2\n", 2, "the Talker is on port 3, and the limit of inbound ports is 1"),
     "g": ("", "largest 200", TALKER, 2, "its frames have up to 224 octets, and the port's largest frame is 200"),
-    "h": ("", "limits 10M 0", TALKER, 2, "it asks for 17.088 Mbit/s of class A; of the limit of 10 Mbit/s more important streams leave"
-          " 10 Mbit/s, and 7.088 Mbit/s are missing"),
+    "h": ("", "limits 10M 0", TALKER, 2, "it asks for 17.088 Mbit/s of class A; of the limit of 10 Mbit/s more important streams"
+          " leave 10 Mbit/s, and 7.088 Mbit/s are missing"),
     "i": ("", "", TALKER + LISTENER, 2, "it is declared on the port; a Listener there is ready"),
 }
 
@@ -49,8 +49,8 @@ def test_who_goes_before(srp):
         "stream 0200000000030000 guest on port 3",
         "the last advance decided: failed 1 (insufficient bandwidth), entry filter, Listener declared none",
         "step h decides by what is registered now: insufficient bandwidth",
-        "  it asks for 17.088 Mbit/s of class A; of the limit of 75 Mbit/s more important streams leave 6.648 Mbit/s, and 10.44 Mbit/s"
-        " are missing",
+        "  it asks for 17.088 Mbit/s of class A; of the limit of 75 Mbit/s more important streams leave 6.648 Mbit/s,"
+        " and 10.44 Mbit/s are missing",
         "  1. 0200000000020000 conductor: 17.088 Mbit/s, rank 0, since second 3",
         "  2. 0200000000010000 choir: 17.088 Mbit/s, rank 1, since second 1",
         "  3. 0200000000010001: 17.088 Mbit/s, rank 1, since second 1",
@@ -69,7 +69,8 @@ def test_as_json(srp):
     found = json.loads(srp("why", HALL, 3, "02:00:00:00:00:03:00:00", "--json"))
     assert (found["step"], found["limit"], found["missing"], found["demand"]) == ("h", 75000000, 10440000, 17088000)
     assert [share["name"] for share in found["before"]] == ["conductor", "choir", "", ""]
-    assert found["decided"] == {"column": "failed", "code": 1, "cause": "insufficient bandwidth", "listener": "none", "entry": "filter"}
+    assert found["decided"] == {"column": "failed", "code": 1, "cause": "insufficient bandwidth", "listener": "none",
+                                "entry": "filter"}
 
 
 def test_from_a_capture(srp, tmp_path):
