@@ -10,13 +10,13 @@ from pathlib import Path
 
 from srp.faults import Fault
 
-GZIP = bytes.fromhex("1f8b")
+GZIP = bytes.fromhex("1f8b08")
 
-# Files that are no input, by their first octets.
-PACKED = {b"BZh": "bzip2", b"\xfd7zXZ\0": "xz", b"\x28\xb5\x2f\xfd": "zstd", b"PK\3\4": "zip", b"7z\xbc\xaf": "7z"}
-FOREIGN = {b"snoop\0": "a capture of snoop", b"GMBU": "a capture of Network Monitor", b"RTSS": "a capture of Network Monitor",
-           b"\x7fELF": "a program", b"\x89PNG": "a picture", b"%PDF": "a PDF document", b"\xff\xd8\xff": "a picture",
-           b"\xff\xfe": "a text in UTF-16, and a text is in UTF-8", b"\xfe\xff": "a text in UTF-16, and a text is in UTF-8"}
+# Files that are no input, by their first octets. Records begin with any Bridge ID, so these are as long as they can be.
+PACKED = {b"BZh": "bzip2", b"\xfd7zXZ\0": "xz", b"\x28\xb5\x2f\xfd": "zstd", b"PK\3\4": "zip", b"7z\xbc\xaf\x27\x1c": "7z"}
+FOREIGN = {b"snoop\0\0\0": "a capture of snoop", b"GMBU": "a capture of Network Monitor", b"RTSS": "a capture of Network Monitor",
+           b"\x7fELF": "a program", b"\x89PNG\r\n\x1a\n": "a picture", b"%PDF-": "a PDF document"}
+WIDE = (b"\xff\xfe", b"\xfe\xff")
 
 
 def octets_of(path):
@@ -38,10 +38,20 @@ def unpacked_name(path):
     return path.removesuffix(".gz")
 
 
+def is_wide_text(octets):
+    """Whether octets are a text in UTF-16."""
+    try:
+        return octets.startswith(WIDE) and all(letter.isprintable() or letter.isspace() for letter in octets.decode("utf-16"))
+    except UnicodeDecodeError:
+        return False
+
+
 def check_octets(name, octets):
     """Whether octets may be an input; what else they are is said."""
     if not octets:
         raise Fault(f"{name} is empty")
+    if is_wide_text(octets):
+        raise Fault(f"{name} is a text in UTF-16, and a text is in UTF-8")
     for first, kind in PACKED.items():
         if octets.startswith(first):
             raise Fault(f"{name} is packed by {kind}; what is packed by gzip is read, all else is unpacked first")

@@ -102,6 +102,14 @@ def test_files_that_are_no_input(srp, written, name, content, said):
         assert said in words and words.count("\n") == 1
 
 
+def test_records_begin_with_any_bridge_id(srp, written):
+    """Two octets alone make no gzip and no UTF-16."""
+    records = (ROOT / "crates/srpsheet/stdin").read_bytes()
+    for first in ("1f8b", "fffe", "feff", "89504e47", "7f454c00"):
+        path = written("records", bytes.fromhex(first) + records[len(first) // 2:])
+        assert srp("sheet", path) == (ROOT / "examples/worked-example/sheet").read_text()
+
+
 def test_a_reading_that_stops(both, written):
     """Refused settings, foreign octets and a cut record: stop is printed, the reason said, and the status is 1."""
     nine, foreign = written("nine.txt", NINE), written("foreign", bytes(range(256)))
