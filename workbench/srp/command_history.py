@@ -26,12 +26,6 @@ def split_ports(words):
     return [word for word in words if not word.isdigit()], [port_number(word) for word in words if word.isdigit()]
 
 
-def moments_on_worker(_shared, part, command):
-    """The moments of an input, on a worker of a cluster."""
-    given, choice, refused = *part, []
-    return list(history.moments(given, choice, command=command, refused=refused)), refused
-
-
 def moments_here(given, choice):
     """The moments of an input, as it is run, with its progress and what is refused."""
     refused = []
@@ -50,7 +44,7 @@ def histories_on(scheduler, all_given, choices):
     """The same, each input on some worker."""
     found = {}
     with progress("inputs", len(all_given)) as tell:
-        for place, (moments, refused) in cluster.results_of(scheduler, moments_on_worker, None, list(zip(all_given, choices))):
+        for place, (moments, refused) in cluster.results_of(scheduler, history.on_worker, None, list(zip(all_given, choices))):
             found[place] = moments
             say_refused(all_given[place], refused)
             tell(1)

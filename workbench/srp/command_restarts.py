@@ -45,12 +45,6 @@ def numbers_of(words):
     return int(words[0]), words[1]
 
 
-def batch_on_worker(shared, numbers, command):
-    """A batch, on a worker of a cluster."""
-    calls, seed = shared
-    return restarts.batch(calls, seed, numbers, command)
-
-
 def maker(scheduler, jobs):
     """What makes batches: the cluster of a scheduler, or runs side by side here."""
     if not scheduler:
@@ -59,7 +53,7 @@ def maker(scheduler, jobs):
 
     def on_cluster(calls, sweep, parts):
         numbers = [sweep.batches[part] for part in parts]
-        for place, found in cluster.results_of(scheduler, batch_on_worker, (calls, sweep.seed), numbers):
+        for place, found in cluster.results_of(scheduler, restarts.on_worker, (calls, sweep.seed), numbers):
             yield parts[place], found
 
     return on_cluster

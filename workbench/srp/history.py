@@ -82,6 +82,12 @@ def moments(given, choice=Choice(), tell=None, command=None, refused=None):
             accepted = None
 
 
+def on_worker(_shared, part, command):
+    """The moments of an input, and its refused calls, on a worker of a cluster."""
+    given, choice, refused = *part, []
+    return list(moments(given, choice, command=command, refused=refused)), refused
+
+
 def rows(name, one):
     """The rows of a moment in CSV."""
     head = {"input": name, "advance": one.advance, "time": one.time}

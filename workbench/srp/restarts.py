@@ -63,6 +63,12 @@ def batch(calls, seed, numbers, command=None):
     return list(results.values())
 
 
+def on_worker(shared, numbers, command):
+    """A batch, on a worker of a cluster."""
+    calls, seed = shared
+    return batch(calls, seed, numbers, command)
+
+
 def side_by_side(calls, sweep, parts, jobs):
     """The results of some batches of a sweep, each with its place, by so many runs side by side."""
     with ThreadPoolExecutor(jobs) as pool:

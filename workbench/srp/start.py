@@ -41,6 +41,8 @@ def quit_quietly():
 
 
 def main():
+    if sys.stdout is None:
+        sys.exit(fail("standard output is closed"))
     try:
         status = run()
     except Fault as fault:

@@ -37,6 +37,8 @@ def test_a_full_disk_and_a_closed_pipe():
         assert (full.returncode, full.stderr) == (2, "srp: what is printed: No space left on device\n")
     closed = run("bash", "-c", f"./srp diff {CHOIR} examples/hall-quiet/hall.txt | true; echo ${{PIPESTATUS[0]}}")
     assert (closed.stdout, closed.stderr) == ("141\n", "")
+    none = run("bash", "-c", f"./srp sheet {CHOIR} >&-")
+    assert (none.returncode, none.stderr) == (2, "srp: standard output is closed\n")
 
 
 @pytest.mark.parametrize("stand_in, said", [
@@ -91,10 +93,18 @@ def test_what_was_kept_is_not_made_again(srp, tmp_path, monkeypatch):
     assert "no sweep that was begun" in srp("restarts", 120, CHOIR, "--resume", ROOT / CHOIR, status=2)
 
 
-def test_interrupted_without_a_file(tmp_path):
-    began = time.monotonic()
-    status, _, said = interrupted("restarts", 100000, CHOIR, until=lambda: time.monotonic() - began > 2)
-    assert status == 130 and "with --resume FILE they would be kept" in said and "Traceback" not in said
+def test_interrupted_without_a_file(both, monkeypatch):
+    from srp import inputs, restarts
+
+    def interrupt(*_):
+        raise KeyboardInterrupt
+
+    monkeypatch.setattr(restarts, "batch", interrupt)
+    status, printed, said = both("restarts", 100, CHOIR, "--jobs", 1)
+    assert (status, printed) == (130, "")
+    assert said == "srp: interrupted: 0 of 100 orders are done; with --resume FILE they would be kept\n"
+    monkeypatch.setattr(inputs, "run", interrupt)
+    assert both("sheet", CHOIR) == (130, "", "srp: interrupted\n")
 
 
 def test_progress_without_a_terminal(capsys, monkeypatch):
