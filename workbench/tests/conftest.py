@@ -1,6 +1,7 @@
 """What the tests share: the command, within this process and as a user runs it, the package's place, and examples."""
 import io
 import os
+import shlex
 import subprocess
 import sys
 from pathlib import Path
@@ -18,6 +19,17 @@ def run(*words, environment=None, given=None, **options):
     """Runs a command in the root, and gives what it printed and its status."""
     return subprocess.run(list(map(str, words)), cwd=ROOT, input=given, capture_output=True, text=True, check=False,
                           env=os.environ | (environment or {}), **options)
+
+
+@pytest.fixture(scope="session", autouse=True)
+def proved_once():
+    """The sources are summed once for all tests, and not before each of many hundred runs: within this process the program is run
+    by the command with which tests/program ends."""
+    from srp import programs
+
+    done = run("bash", "-x", "tests/program", "srpcalls", given="")
+    *_, last = (line for line in done.stderr.splitlines() if line.startswith("+ exec "))
+    programs.PROVED_CALLS[:] = shlex.split(last.removeprefix("+ exec "))
 
 
 @pytest.fixture

@@ -53,15 +53,20 @@ def test_a_program_that_is_no_bridge(both, stand_in, said):
 
 
 def interrupted(*words, until):
-    """Runs the command, interrupts it when a file has grown, and gives its status and what it said."""
-    process = subprocess.Popen(["./srp", *map(str, words)], cwd=ROOT, stdout=subprocess.PIPE, stderr=subprocess.PIPE, text=True)
-    for _ in range(600):
-        if until():
-            break
-        time.sleep(0.05)
-    process.send_signal(signal.SIGINT)
-    printed, said = process.communicate(timeout=60)
-    return process.returncode, printed, said
+    """Runs the command, interrupts it when something is so, and gives its status and what it said."""
+    # these tests may run where interrupts are ignored, and what they start would ignore them too
+    process = subprocess.Popen(["./srp", *map(str, words)], cwd=ROOT, stdout=subprocess.PIPE, stderr=subprocess.PIPE, text=True,
+                               preexec_fn=lambda: signal.signal(signal.SIGINT, signal.SIG_DFL))
+    try:
+        for _ in range(600):
+            if until():
+                break
+            time.sleep(0.05)
+        process.send_signal(signal.SIGINT)
+        printed, said = process.communicate(timeout=60)
+        return process.returncode, printed, said
+    finally:
+        process.kill()
 
 
 def test_an_interrupted_sweep_goes_on(srp, tmp_path):
