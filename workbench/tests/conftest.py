@@ -27,7 +27,7 @@ def proved_once():
     by the command with which tests/program ends."""
     from srp import programs
 
-    done = run("bash", "-x", "tests/program", "srpcalls", given="")
+    done = run("bash", "-x", "tests/program", "srpcalls", given="", environment={"PS4": "+ "})
     *_, last = (line for line in done.stderr.splitlines() if line.startswith("+ exec "))
     programs.PROVED_CALLS[:] = shlex.split(last.removeprefix("+ exec "))
 
