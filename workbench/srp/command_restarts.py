@@ -38,11 +38,31 @@ def merge(parts, is_json):
     print_results(*restarts.merged(lines), is_json)
 
 
+# The parameters that mean something where parts are added up, and where an order is printed.
+OF_MERGE = {"words", "is_merge", "is_json"}
+OF_ORDER = {"words", "order", "seed", "ports", "settings", "until", "domain", "ignore", "calls"}
+
+
+def check_meaning(option, meant):
+    """Whether every parameter that is given means something beside an option."""
+    context = click.get_current_context()
+    for parameter in context.command.params:
+        if context.get_parameter_source(parameter.name).name == "COMMANDLINE" and parameter.name not in meant:
+            raise click.UsageError(f"{parameter.opts[0]} means nothing beside {option}")
+
+
 def numbers_of(words):
     """The number of orders and the file."""
     if len(words) != 2 or not words[0].isdigit() or int(words[0]) < 1:
         raise click.UsageError("a number of orders, 1 or more, and a file are expected")
     return int(words[0]), words[1]
+
+
+def check_order(order, count):
+    """Whether an order is one of so many, and nothing else is asked for."""
+    check_meaning("--order", OF_ORDER)
+    if order >= count:
+        raise click.UsageError(f"--order {order}: of {count} orders the last is {count - 1}")
 
 
 def maker(scheduler, jobs):
@@ -87,10 +107,11 @@ def restarts_command(words, is_merge, order, seed, shard, jobs, resume, schedule
     """The same frames in N random orders that keep each port's own order: a line for each different result, and how often it
     came. Status 1 where there are several."""
     if is_merge:
+        check_meaning("--merge", OF_MERGE)
         merge(words, is_json)
     count, file = numbers_of(words)
-    if order is not None and order >= count:
-        raise click.UsageError(f"--order {order}: of {count} orders the last is {count - 1}")
+    if order is not None:
+        check_order(order, count)
     [given] = load_files([file], **options)
     if order is not None:
         click.echo(orders.as_text(given, seed, order), nl=False)

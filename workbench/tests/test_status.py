@@ -19,6 +19,10 @@ from conftest import CHOIR, ROOT, run
     (["restarts", "ten", CHOIR], "a number of orders, 1 or more, and a file are expected"),
     (["restarts", "10", CHOIR, "--order", "10"], "--order 10: of 10 orders the last is 9"),
     (["restarts", "10", CHOIR, "--shard", "3/2"], "shards are numbered from 1 to their number"),
+    (["restarts", "--merge", "part", "--seed", "0"], "--seed means nothing beside --merge"),
+    (["restarts", "--merge", "part", "--settings", CHOIR], "--settings means nothing beside --merge"),
+    (["restarts", "10", CHOIR, "--order", "3", "--json"], "--json means nothing beside --order"),
+    (["restarts", "10", CHOIR, "--order", "3", "--resume", "kept"], "--resume means nothing beside --order"),
 ])
 def test_a_usage_error_is_one_line(both, words, said):
     status, printed, told = both(*words)
