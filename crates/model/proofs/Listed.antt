@@ -26,7 +26,7 @@ use Rattle.model.proofs.Why.{step-decides, told-h}
 -- Which they are.
 
 -- the claims that are more important than a key, in any order
-mem-above : (k : ℕ) (c : Claim) (l : List Claim) → List·Memᴰ c (above k l) ↔ (List·Memᴰ c l × (key c < k))
+pub mem-above : (k : ℕ) (c : Claim) (l : List Claim) → List·Memᴰ c (above k l) ↔ (List·Memᴰ c l × (key c < k))
 unfolding above
 mem-above k c [] = (λ m. absurd (List·Memᴰ·not-nil m), λ a. a .0)
 mem-above k c (d ∷ l) = Iff·trans (mem-keep (ltb (key d) k) c d (above k l)) (go (mem-above k c l))
@@ -88,13 +88,13 @@ reserving-exactly limit cs n k c =
 
 -- the claims are those of the streams of the class that reach step h
 module _ (sc : Scene) (now p : ℕ) (c : Class) where
-  abbrev reaches : Stream → Bool
+  abbrev pub reaches : Stream → Bool
   reaches y = clear (steps sc p y) && sameClass (streamClass (sc .settings) y) c
 
-  abbrev Made : List Stream → Claim → Type 0
+  abbrev pub Made : List Stream → Claim → Type 0
   Made s d = (y : Stream) × List·Memᴰ y s × (reaches y ≡ true) × (d ≡ claim (sc .settings) now p y)
 
-  mem-claims : (d : Claim) (s : List Stream) → List·Memᴰ d (claims sc now p c s) ↔ Made s d
+  pub mem-claims : (d : Claim) (s : List Stream) → List·Memᴰ d (claims sc now p c s) ↔ Made s d
   unfolding claims
   mem-claims d [] = (λ m. absurd (List·Memᴰ·not-nil m), λ a. absurd (List·Memᴰ·not-nil (a .1)))
   mem-claims d (x ∷ s) = Iff·trans (mem-keep (reaches x) d (claim (sc .settings) now p x) (claims sc now p c s)) (go (mem-claims d s))
