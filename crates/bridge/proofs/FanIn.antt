@@ -6,9 +6,10 @@ use mathlib.Core.Bool.{Bool, true}
 use Prim.Native.Nat.{ℕ, _^_, _≤_, _<_}
 use lib.ListN.{length}
 use Rattle.model.specs.Lists.{Octets, countTo}
-use Rattle.model.specs.State.{Column, streamAt}
-use Rattle.model.specs.Settling.{sourceOf, isSource, inboundOf, inboundsOf, isKeptOut, sameAddressAt, shares, isAdvertise, sceneOf}
+use Rattle.model.specs.State.{streamAt}
+use Rattle.model.specs.Settling.{sourceOf, isSource, isAdvertise, sceneOf}
 use Rattle.model.specs.Table.{decode}
+use Rattle.model.proofs.Inbounds.{SameAddress, same-address-exactly, SharedAddress, shares-exactly, KeptOut, kept-out-exactly}
 use Rattle.model.proofs.FanIn.{five-decided, five-only, fifteen-decided, fifteen-only, BringsIn, few-bring-in, one-address}
 use Rattle.bridge.specs.Promises.{Advances}
 use Rattle.bridge.proofs.OwnCodes.{columnHeld, columnDecided, GivenWhere, left-column, given-where}
@@ -24,19 +25,25 @@ pub record BringsInHeld (u : List ℕ) (q : ℕ) : Type 0 where
 
 module _ (t : List ℕ) (time n : ℕ) (u : List ℕ) (octets : Octets t) (small : time < 2 ^ 32) (call : Advances t time n u) (accepted : n ≡ 0) where
   module _ (p : ℕ) (here : p < 8) (k : ℕ) (held : k < length (decode u .streams)) where
-    -- Code 5 is given exactly where no earlier step applies and a lower StreamID has the stream's address.
-    pub five-code : GivenWhere u p k 5 (shares (inboundsOf (decode u .streams)) (inboundOf (streamAt k (decode u))) ≡ true)
+    -- Code 5 is given exactly where no earlier step applies and a lower StreamID has the stream's destination and VLAN.
+    pub five-code : GivenWhere u p k 5 (SharedAddress (decode u .streams) (streamAt k (decode u)))
     five-code =
         let b = decode u in
-        given-where t time n u octets small call accepted p here k held 5 _ (five-decided (sceneOf b) (b .clock) (b .streams) p (streamAt k b))
-        (five-only (sceneOf b) (b .clock) (b .streams) p (streamAt k b))
+        let x = streamAt k b in
+        let fact = shares-exactly (b .streams) x in
+        given-where t time n u octets small call accepted p here k held 5 _
+        (λ free a. five-decided (sceneOf b) (b .clock) (b .streams) p x free (fact .1 a))
+        (λ whole e. let w = five-only (sceneOf b) (b .clock) (b .streams) p x whole e in (w .0, fact .0 (w .1)))
 
-    -- Code 15, where 5 is one of the earlier steps, exactly where the stream's Talker port may not bring streams in.
-    pub fifteen-code : GivenWhere u p k 15 (isKeptOut (decode u .settings .fanIn) (inboundsOf (decode u .streams)) (sourceOf (streamAt k (decode u))) ≡ true)
+    -- Code 15, where 5 is one of the earlier steps, is given exactly where the stream's Talker port may not bring streams in.
+    pub fifteen-code : GivenWhere u p k 15 (KeptOut (decode u .settings .fanIn) (decode u .streams) (streamAt k (decode u)))
     fifteen-code =
         let b = decode u in
-        given-where t time n u octets small call accepted p here k held 15 _ (fifteen-decided (sceneOf b) (b .clock) (b .streams) p (streamAt k b))
-        (fifteen-only (sceneOf b) (b .clock) (b .streams) p (streamAt k b))
+        let x = streamAt k b in
+        let fact = kept-out-exactly (b .settings .fanIn) (b .streams) x in
+        given-where t time n u octets small call accepted p here k held 15 _
+        (λ free a. fifteen-decided (sceneOf b) (b .clock) (b .streams) p x free (fact .1 a))
+        (λ whole e. let w = fifteen-only (sceneOf b) (b .clock) (b .streams) p x whole e in (w .0, fact .0 (w .1)))
 
     advertised : isAdvertise (columnHeld u p k) ≡ true → isAdvertise (columnDecided u p k) ≡ true
     advertised a = sym (ap isAdvertise (left-column t time n u octets small call accepted p here k held)) ∙ a
@@ -58,6 +65,7 @@ module _ (t : List ℕ) (time n : ℕ) (u : List ℕ) (octets : Octets t) (small
   -- Two streams with one destination and VLAN that a port advertises are one.
   pub one-address-code : (p : ℕ) → p < 8 → (j k : ℕ) → j < length (decode u .streams) → k < length (decode u .streams) →
       isAdvertise (columnHeld u p j) ≡ true → isAdvertise (columnHeld u p k) ≡ true →
-      sameAddressAt (sourceOf (streamAt j (decode u))) (sourceOf (streamAt k (decode u))) ≡ true → streamAt j (decode u) .id ≡ streamAt k (decode u) .id
-  one-address-code p here j k h l a b =
+      SameAddress (streamAt j (decode u)) (streamAt k (decode u)) → streamAt j (decode u) .id ≡ streamAt k (decode u) .id
+  one-address-code p here j k h l a b same =
       one-address (sceneOf (decode u)) (decode u .clock) (decode u .streams) refl p j k h l (advertised p here j h a) (advertised p here k l b)
+      (same-address-exactly (streamAt j (decode u)) (streamAt k (decode u)) .1 same)

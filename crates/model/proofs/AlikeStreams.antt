@@ -3,25 +3,23 @@
 -- Listeners", have the same claims above the stream's own, as `Alike` asks.
 use mathlib.Core.Path.{_≡_, refl, sym, _∙_, ap}
 use mathlib.Core.Logic.{_⊎_, inl, inr}
-use mathlib.Core.List.{List, [], _∷_, List·Memᴰ, List·Memᴰ·head, List·Memᴰ·tail, List·Memᴰ·not-nil, List·Memᴰ·cases-cons, Memᴰ·map}
+use mathlib.Core.List.{List, [], _∷_, List·Memᴰ, List·Memᴰ·head, List·Memᴰ·tail, List·Memᴰ·not-nil, List·Memᴰ·cases-cons}
 use mathlib.Core.Bool.{Bool, true, false, _&&_}
 use Prim.Native.Nat.{ℕ, _^_, _≤_, _<_}
 use native.Mathlib.Omega.{arith}
-use lib.ListN.{length}
 use lib.Dec.{ltb}
 use borrow.Author.Tests.{lt-ltb, ltb-true}
 use Rattle.model.specs.Lists.{All, keep}
-use Rattle.model.specs.State.{Stream, Bridge, Class, sameClass, resultAt, unsettled}
+use Rattle.model.specs.State.{Settings, Stream, Bridge, Class, sameClass, resultAt}
 use Rattle.model.specs.Registrations.{ids}
 use Rattle.model.specs.Bandwidth.{Claim, moreImportant, key, above}
-use Rattle.model.specs.Settling.{Scene, ageOf, expire, held, remain, streamClass, clear, steps, claim, claims}
-use Rattle.model.proofs.Lists.{all-getD, all-keep, and-left, and-right, and-both}
-use Rattle.model.proofs.Valid.{Rising, ValidResult, ValidStream, Valid}
-use Rattle.model.proofs.AdvanceKeepsForm.{age-valid, unsettled-valid, remain-all, remain-rising}
+use Rattle.model.specs.Settling.{Scene, expire, held, remain, streamClass, clear, steps, claim, claims}
+use Rattle.model.proofs.Lists.{all-keep, and-left, and-right, and-both}
+use Rattle.model.proofs.Valid.{Rising, Valid}
+use Rattle.model.proofs.AdvanceKeepsForm.{remain-all, remain-rising}
 use Rattle.model.proofs.Admission.{all-above, all-mem}
 use Rattle.model.proofs.ColumnRule.{Small, claims-all}
-use Rattle.model.proofs.Importance.{importance}
-use Rattle.model.proofs.Listed.{Young, mem-above, mem-claims}
+use Rattle.model.proofs.Listed.{Young, mem-above, mem-claims, more-important, later-young}
 use Rattle.model.proofs.Demand3.{ids-small}
 use Rattle.model.proofs.Untouched.{remaining, sceneAt}
 
@@ -110,14 +108,6 @@ pub record Orderly (now p : ℕ) (s : List Stream) : Type 0 where
   pub small : All Small (ids s)
   pub young : All (Young now p) s
 
--- the more important has the lower key
-lower : (sc : Scene) (now p : ℕ) (s : List Stream) → Orderly now p s → (x y : Stream) → List·Memᴰ x s → List·Memᴰ y s →
-    moreImportant (claim (sc .settings) now p y) (claim (sc .settings) now p x) ≡ ltb (key (claim (sc .settings) now p y)) (key (claim (sc .settings) now p x))
-unfolding ids claim
-lower sc now p s o x y m k =
-    importance (claim (sc .settings) now p y) (claim (sc .settings) now p x) (all-mem (Young now p) k (o .young)) (all-mem (Young now p) m (o .young))
-    (all-mem Small (Memᴰ·map (λ (z : Stream). z .id) k) (o .small)) (all-mem Small (Memᴰ·map (λ (z : Stream). z .id) m) (o .small))
-
 -- the claims above that of the stream x
 abbrev its-above : Scene → ℕ → ℕ → List Stream → Stream → List Claim
 its-above sc now p s x = above (key (claim (sc .settings) now p x)) (claims sc now p (streamClass (sc .settings) x) s)
@@ -129,7 +119,7 @@ module _ (now p : ℕ) (s s′ : List Stream) (o : Orderly now p s) (o′ : Orde
       let w = mem-claims sc now p (streamClass (sc .settings) x) d s .0 (a .0) in
       let y = w .0 in
       let less : key (claim (sc .settings) now p y) < key (claim (sc .settings) now p x) = rw (w .3) at (a .1) in
-      let before : Before sc now p x y = record { class = and-right (clear (steps sc p y)) _ (w .2); important = lower sc now p s o x y m (w .1) ∙ lt-ltb _ _ less } in
+      let before : Before sc now p x y = record { class = and-right (clear (steps sc p y)) _ (w .2); important = more-important sc now s p x m (o .rising) (o .small) (o .young) y (w .1) ∙ lt-ltb _ _ less } in
       let v = covers y (w .1) before in
       let y′ = v .0 in
       let same = v .3 in
@@ -138,29 +128,21 @@ module _ (now p : ℕ) (s s′ : List Stream) (o : Orderly now p s) (o′ : Orde
       and-both _ _ (sym (same .undecided) ∙ and-left (clear (steps sc p y)) _ (w .2)) (v .2 .class) in
       mem-above (key (claim (sc′ .settings) now p x′)) d (claims sc′ now p (streamClass (sc′ .settings) x′) s′) .1 (
         mem-claims sc′ now p (streamClass (sc′ .settings) x′) d s′ .1 (y′, v .1, reached, its),
-        rw its (ltb-true _ _ (sym (lower sc′ now p s′ o′ x′ y′ m′ (v .1)) ∙ v .2 .important)),
+        rw its (ltb-true _ _ (sym (more-important sc′ now s′ p x′ m′ (o′ .rising) (o′ .small) (o′ .young) y′ (v .1)) ∙ v .2 .important)),
       )
+
+remain-young : (st : Settings) (now p : ℕ) (s : List Stream) → All (Young now p) s → All (Young now p) (remain st now s)
+unfolding remain expire resultAt
+remain-young st now p [] a = tt
+remain-young st now p (x ∷ s) a = all-keep (Young now p) (held (expire st now x .cells)) (expire st now x) (remain st now s) (a .0) (remain-young st now p s (a .1))
 
 -- What an advance leaves of a valid bridge is such.
 module _ (now p : ℕ) (small : now < 2 ^ 32) (b : Bridge) (v : Valid b) (later : b .clock ≤ now) where
-  all-young : (s : List Stream) → All (ValidStream (length (b .settings .ports)) (b .clock) (b .settings .leaveTime)) s → All (Young now p) (remain (b .settings) now s)
-  unfolding remain expire resultAt
-  all-young [] a = tt
-  all-young (x ∷ s) a = all-keep (Young now p) (held (expire (b .settings) now x .cells)) (expire (b .settings) now x) (remain (b .settings) now s) young (all-young s (a .1))
-    where
-      young : Young now p x
-      young =
-          omega (
-            arith,
-            age-valid (b .clock) now (resultAt x p) later (all-getD (ValidResult (b .clock)) (x .results) (a .0 .results) unsettled (unsettled-valid (b .clock)) p),
-            small,
-          )
-
   orderly : Orderly now p (remaining now b)
   orderly = record {
     rising = remain-rising (b .settings) now (b .streams) (v .ascending);
     small = remain-all (b .settings) now Small (b .streams) (ids-small _ _ _ (b .streams) (v .streams));
-    young = all-young (b .streams) (v .streams);
+    young = remain-young (b .settings) now p (b .streams) (later-young b v now later small p);
   }
 
 -- `Alike`'s premise on the more important streams, from what the two bridges agree on stream by stream.

@@ -46,6 +46,7 @@ pub mod Growth
 pub mod FirstKept
 pub mod Pruning
 pub mod FanIn
+pub mod Inbounds
 pub mod Untouched
 pub mod Why
 pub mod Listed
