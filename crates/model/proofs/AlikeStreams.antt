@@ -24,7 +24,7 @@ use Rattle.model.proofs.Demand3.{ids-small}
 use Rattle.model.proofs.Untouched.{remaining, sceneAt}
 
 -- The stream y is one "of that class which are more important there" than x.
-pub record Before (sc : Scene) (now p : ℕ) (x y : Stream) : Type 0 where
+pub record Ahead (sc : Scene) (now p : ℕ) (x y : Stream) : Type 0 where
   pub class : sameClass (streamClass (sc .settings) y) (streamClass (sc .settings) x) ≡ true
   pub important : moreImportant (claim (sc .settings) now p y) (claim (sc .settings) now p x) ≡ true
 
@@ -38,10 +38,10 @@ pub record SameStanding (sc sc′ : Scene) (now p : ℕ) (y y′ : Stream) : Typ
   pub age : claim (sc .settings) now p y .age ≡ claim (sc′ .settings) now p y′ .age
   pub listener : claim (sc .settings) now p y .ready ≡ claim (sc′ .settings) now p y′ .ready
 
--- Each stream of s that is before x has one of s′ that is before x′ and stands as it does.
+-- Each stream of s that is ahead of x has one of s′ that is ahead of x′ and stands as it does.
 abbrev pub Covers : Scene → Scene → ℕ → ℕ → List Stream → List Stream → Stream → Stream → Type 0
 Covers sc sc′ now p s s′ x x′ =
-    (y : Stream) → List·Memᴰ y s → Before sc now p x y → (y′ : Stream) × List·Memᴰ y′ s′ × Before sc′ now p x′ y′ × SameStanding sc sc′ now p y y′
+    (y : Stream) → List·Memᴰ y s → Ahead sc now p x y → (y′ : Stream) × List·Memᴰ y′ s′ × Ahead sc′ now p x′ y′ × SameStanding sc sc′ now p y y′
 
 -- Claims that rise by StreamID are one list where they are the same claims.
 
@@ -65,13 +65,13 @@ same-claims [] [] r q h g = refl
 same-claims [] (d ∷ m) r q h g = absurd (List·Memᴰ·not-nil (g d (List·Memᴰ·head refl)))
 same-claims (c ∷ l) [] r q h g = absurd (List·Memᴰ·not-nil (h c (List·Memᴰ·head refl)))
 same-claims (c ∷ l) (d ∷ m) r q h g =
-    let e = first (List·Memᴰ·cases-cons (h c (List·Memᴰ·head refl))) (List·Memᴰ·cases-cons (g d (List·Memᴰ·head refl))) in
+    let e = heads (List·Memᴰ·cases-cons (h c (List·Memᴰ·head refl))) (List·Memᴰ·cases-cons (g d (List·Memᴰ·head refl))) in
     rest e (same-claims l m (r .1) (q .1))
   where
-    first : (c ≡ d) ⊎ List·Memᴰ c m → (d ≡ c) ⊎ List·Memᴰ d l → d ≡ c
-    first (inl e) n = sym e
-    first (inr k) (inl e) = e
-    first (inr k) (inr n) = absurd (omega (arith, all-mem (λ f. d .id < f .id) k (q .0), all-mem (λ f. c .id < f .id) n (r .0)))
+    heads : (c ≡ d) ⊎ List·Memᴰ c m → (d ≡ c) ⊎ List·Memᴰ d l → d ≡ c
+    heads (inl e) n = sym e
+    heads (inr k) (inl e) = e
+    heads (inr k) (inr n) = absurd (omega (arith, all-mem (λ f. d .id < f .id) k (q .0), all-mem (λ f. c .id < f .id) n (r .0)))
 
     rest : d ≡ c → (Within l m → Within m l → l ≡ m) → c ∷ l ≡ d ∷ m
     rest e ih = rw e (ap (λ (n : List Claim). c ∷ n) (ih (within-behind c l m r (rw e at h)) (within-behind c m l (rw e at q) (rw e at g))))
@@ -119,8 +119,8 @@ module _ (now p : ℕ) (s s′ : List Stream) (o : Orderly now p s) (o′ : Orde
       let w = mem-claims sc now p (streamClass (sc .settings) x) d s .0 (a .0) in
       let y = w .0 in
       let less : key (claim (sc .settings) now p y) < key (claim (sc .settings) now p x) = rw (w .3) at (a .1) in
-      let before : Before sc now p x y = record { class = and-right (clear (steps sc p y)) _ (w .2); important = more-important sc now s p x m (o .rising) (o .small) (o .young) y (w .1) ∙ lt-ltb _ _ less } in
-      let v = covers y (w .1) before in
+      let ahead : Ahead sc now p x y = record { class = and-right (clear (steps sc p y)) _ (w .2); important = more-important sc now s p x m (o .rising) (o .small) (o .young) y (w .1) ∙ lt-ltb _ _ less } in
+      let v = covers y (w .1) ahead in
       let y′ = v .0 in
       let same = v .3 in
       let its : d ≡ claim (sc′ .settings) now p y′ = w .3 ∙ same-claim sc sc′ now p y y′ same in

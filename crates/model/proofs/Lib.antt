@@ -47,6 +47,7 @@ pub mod FirstKept
 pub mod Pruning
 pub mod FanIn
 pub mod Inbounds
+pub mod StepOrder
 pub mod Untouched
 pub mod Why
 pub mod Listed
