@@ -1,9 +1,10 @@
 -- Each step of an Applicant's octet is the table's entry (Table 10-3): one computed statement over all states and events, and one over
 -- what is written.
-use mathlib.Core.Path.{_≡_, refl}
+use mathlib.Core.Path.{_≡_, refl, sym, _∙_, ap}
 use mathlib.Core.List.{List, [], _∷_, map}
 use mathlib.Core.Bool.{Bool, true, false, cond}
-use Prim.Native.Nat.{ℕ, zero, suc}
+use Prim.Native.Nat.{ℕ, zero, suc, _≤_}
+use native.Mathlib.Omega.{arith}
 use lib.ListN.{getD}
 use Rattle.model.specs.Lists.{All, allTrue}
 use Rattle.model.specs.Applicant.{ApplicantState, vo, vp, vn, an, aa, qa, la, lo, ApplicantEvent, begin, new, join, lv, rNew, rJoinIn, rIn, rJoinMt, rMt, rLv, rLA, redeclare, periodic, tx, txLA, txLAF, Message, silent, sN, sJ, s, sL, optional, to, by, afterNew, passiveLeavingAll, newLeavingAll, applicantRow, applicantColumn, applicantEntry, isWritten, messageNumber, Standing, veryAnxiousPassive, veryAnxiousNew, anxiousNew, anxiousActive, quietActive, leavingActive, named, standing, becomes, sent, speaks, spoken, stateOf, octetOf, step, asks, eventAt}
@@ -125,3 +126,27 @@ each-standing f e q = go q (all-true (f veryAnxiousPassive ∷ f veryAnxiousNew 
     go anxiousActive a = a .1 .1 .1 .0
     go quietActive a = a .1 .1 .1 .1 .0
     go leavingActive a = a .1 .1 .1 .1 .1 .0
+
+-- An octet above 6 is read as LA.
+leaving-octet : (n : ℕ) → 6 ≤ n → stateOf n ≡ la
+unfolding stateOf
+leaving-octet zero h = absurd (omega arith)
+leaving-octet (suc zero) h = absurd (omega arith)
+leaving-octet (suc (suc zero)) h = absurd (omega arith)
+leaving-octet (suc (suc (suc zero))) h = absurd (omega arith)
+leaving-octet (suc (suc (suc (suc zero)))) h = absurd (omega arith)
+leaving-octet (suc (suc (suc (suc (suc zero))))) h = absurd (omega arith)
+leaving-octet (suc (suc (suc (suc (suc (suc n)))))) h = refl
+
+module _ (n : ℕ) (h : 6 ≤ n) where
+  pub step-leaving : (r : Bool) (e : ApplicantEvent) → step r e n ≡ step r e 6
+  unfolding step
+  step-leaving r e = ap (λ (x : ApplicantState). octetOf (applicantEntry r e x .next)) (leaving-octet n h ∙ sym (leaving-octet 6 (omega arith)))
+
+  pub asks-leaving : (e : ApplicantEvent) → asks e n ≡ asks e 6
+  unfolding asks
+  asks-leaving e = ap (λ (x : ApplicantState). isWritten (applicantEntry false e x .sends)) (leaving-octet n h ∙ sym (leaving-octet 6 (omega arith)))
+
+  pub event-leaving : (r : Bool) (e : ApplicantEvent) → eventAt r e n ≡ eventAt r e 6
+  unfolding eventAt
+  event-leaving r e = ap (λ (x : ApplicantState). messageNumber r (applicantEntry r e x .sends)) (leaving-octet n h ∙ sym (leaving-octet 6 (omega arith)))
