@@ -1,14 +1,24 @@
 -- The order of the steps, computed (01, "Settling": a to i; 02: n "tested after step b", k "tested after 16 and before 4", j "tested after 13
 -- and before 14", l and m "after 13 (after 8 where present)"). What is proved of each step stands under any order; this is the one.
-use mathlib.Core.Path.{_≡_, refl}
+use mathlib.Core.Path.{_≡_}
 use mathlib.Core.List.{List, [], _∷_, map}
+use mathlib.Core.Bool.{true, cond}
 use Prim.Native.Nat.{ℕ}
+use lib.Dec.{ltb}
 use Rattle.model.specs.State.{Stream}
-use Rattle.model.specs.Settling.{Scene, Origin, from, sourceOf, StepName, stepA, stepB, stepC, stepD, stepE, stepF, stepG, stepJ, stepK, stepL, stepM, stepN, Step, stepsFrom, lastSteps, steps}
+use Rattle.model.specs.Settling.{Scene, Origin, from, sourceOf, StepName, stepA, stepB, stepC, stepD, stepE, stepF, stepG, stepH, stepI, stepJ, stepK, stepL, stepM, stepN, Step, clear, stepsFrom, lastSteps, steps, claim, leftFor}
+use Rattle.model.specs.Why.{lastName, stepOn}
+use Rattle.model.proofs.Why.{name-clear}
 
--- of a stream with a Talker; the first a is that of a place that is no port
+-- Of a stream with a Talker; the first a is that of a place that is no port
 pub steps-in-order : (sc : Scene) (p : ℕ) (x : Stream) (o : Origin) → sourceOf x ≡ from o →
     map (λ (s : Step). s .name) (steps sc p x)
     ≡ stepA ∷ stepA ∷ stepB ∷ stepN ∷ stepC ∷ stepD ∷ stepK ∷ stepE ∷ stepF ∷ stepJ ∷ stepL ∷ stepM ∷ stepG ∷ []
 unfolding steps stepsFrom lastSteps
 steps-in-order sc p x o e = rw e
+
+-- Where none of them applies, h decides if the demand is above what is left, and else i.
+pub then-h-i : (sc : Scene) (now : ℕ) (s : List Stream) (p : ℕ) (x : Stream) → clear (steps sc p x) ≡ true →
+    stepOn sc now s p x ≡ cond (ltb (leftFor sc now s p x) (claim (sc .settings) now p x .demand)) stepH stepI
+unfolding stepOn lastName
+then-h-i sc now s p x free = name-clear _ (steps sc p x) free
