@@ -13,10 +13,10 @@ use Rattle.octets.specs.Be.{beAt}
 use Rattle.octets.specs.Fields.{fields}
 use Rattle.model.specs.Layout.{changedPlace, firstLatencyPlace, inPort, latencyPlace, priorityPlace}
 use Rattle.model.specs.Lists.{isOne}
-use Rattle.model.specs.State.{Bridge, Port, sound, broken, Own, Stream, Class, noClass, classA, classB, noOwn, portAt, isPort, cellAt, ownAt, classOf, isNoClass, supports}
+use Rattle.model.specs.State.{Bridge, Port, talkerAdvertise, talkerFailed, Own, Stream, Class, noClass, classA, classB, noOwn, portAt, isPort, cellAt, ownAt, classOf, isNoClass, supports}
 use Rattle.model.specs.Frames.{priorityOf}
-use Rattle.model.specs.Settling.{Scene, sceneOf, Inbound, boundary, sourceOf, fixedOf, isTalking, isBroken, isPruned, inboundOf, inboundsOf, shares, isKeptOut, StepName, stepA, stepB, stepC, stepD, stepE, stepF, stepG, stepI, stepJ, stepK, stepL, stepM, stepN, Step, stepsFrom, lastSteps, steps}
-use Rattle.model.specs.Table.{toPort, toCell, registrationFrom, fixedFrom, toHealth, portFrom}
+use Rattle.model.specs.Settling.{Scene, sceneOf, Inbound, boundary, sourceOf, fixedOf, isTalking, isTalkerFailed, isPruned, inboundOf, inboundsOf, shares, isKeptOut, StepName, stepA, stepB, stepC, stepD, stepE, stepF, stepG, stepI, stepJ, stepK, stepL, stepM, stepN, Step, stepsFrom, lastSteps, steps}
+use Rattle.model.specs.Table.{toPort, toCell, registrationFrom, fixedFrom, toTalkerType, portFrom}
 use Rattle.model.specs.Why.{letter, sameStep, firstName}
 use Rattle.model.proofs.SettingsOctets.{octet-field}
 use Rattle.model.proofs.Why.{name-stays, name-clear, first-clear}
@@ -42,11 +42,11 @@ unfolding isTalking
 talking s n = rw (a-talker s n)
 
 -- c: a Talker is Failed where its kind is not Advertise's
-failed-asked : (k b c : ℕ) → isBroken (toHealth k b c) ≡ not (eqb k 1)
-unfolding toHealth isBroken
+failed-asked : (k b c : ℕ) → isTalkerFailed (toTalkerType k b c) ≡ not (eqb k 1)
+unfolding toTalkerType isTalkerFailed
 failed-asked k b c = go (eqb k 1)
   where
-    go : (e : Bool) → isBroken (cond e sound (broken b c)) ≡ not e
+    go : (e : Bool) → isTalkerFailed (cond e talkerAdvertise (talkerFailed b c)) ≡ not e
     go true = refl
     go false = refl
 
@@ -58,7 +58,7 @@ module _ (sc : Scene) (here said : List ℕ) (p t : ℕ) where
   class = classOf (sc .settings) (beAt 1 said priorityPlace / 32)
 
   abbrev pub from-j : StepName
-  from-j = cond (boundary (ownAt (sc .own) p) class) stepJ stepI
+  from-j = cond (boundary (ownAt (sc .owns) p) class) stepJ stepI
 
   abbrev pub from-f : StepName
   from-f = cond (isNoClass class) stepF from-j
@@ -76,7 +76,7 @@ module _ (sc : Scene) (here said : List ℕ) (p t : ℕ) where
   from-c = cond (not (eqb (getD said 0 0) 1)) stepC from-d
 
   abbrev pub from-n : StepName
-  from-n = cond (isPruned (sc .settings) (ownAt (sc .own) p) (fixedOf (sourceIn t (toCell said)))) stepN from-c
+  from-n = cond (isPruned (sc .settings) (ownAt (sc .owns) p) (fixedOf (sourceIn t (toCell said)))) stepN from-c
 
   abbrev pub from-b : StepName
   from-b = cond (not (supports (portAt (sc .settings) p) class)) stepB from-n
@@ -197,8 +197,8 @@ same-failure i common w e = rw (w .settings, w .inbound) e
 abbrev flagged : Edges → Own → Own
 flagged e o = record { domains = o .domains; boundaryA = e .a; boundaryB = e .b; addresses = o .addresses }
 
-pub some-scene : (b : Bridge) (p : ℕ) (e : Edges) → p < length (b .own)
-    → SceneOn b p e record { settings = b .settings; own = set (b .own) p (flagged e (ownAt (b .own) p)); inbound = inboundsOf (b .streams) }
+pub some-scene : (b : Bridge) (p : ℕ) (e : Edges) → p < length (b .owns)
+    → SceneOn b p e record { settings = b .settings; owns = set (b .owns) p (flagged e (ownAt (b .owns) p)); inbound = inboundsOf (b .streams) }
 some-scene b p e h =
-    let there = getD-set-same (b .own) p (flagged e (ownAt (b .own) p)) noOwn h in
+    let there = getD-set-same (b .owns) p (flagged e (ownAt (b .owns) p)) noOwn h in
     record { settings = refl; inbound = refl; edges = rw there record { in-a = refl; in-b = refl }; addresses = rw there }

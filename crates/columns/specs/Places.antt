@@ -35,8 +35,8 @@ pub record TalkerIn (said : List ℕ) : Type 0 where
 pub record SceneOn (b : Bridge) (p : ℕ) (e : Edges) (sc : Scene) : Type 0 where
   pub settings : sc .settings ≡ b .settings
   pub inbound : sc .inbound ≡ inboundsOf (b .streams)
-  pub edges : EdgesOf e (ownAt (sc .own) p)
-  pub addresses : ownAt (sc .own) p .addresses ≡ ownAt (b .own) p .addresses
+  pub edges : EdgesOf e (ownAt (sc .owns) p)
+  pub addresses : ownAt (sc .owns) p .addresses ≡ ownAt (b .owns) p .addresses
 
 -- stream k of a table, and the place t of its Talker, which is 0 where it has none
 pub record TalkerAt (s : List ℕ) (k t : ℕ) : Type 0 where

@@ -34,12 +34,12 @@ supports-read : (c : tie.After-supports) (sc : Scene) → On (c .before .before 
 supports-read c sc w = c .supports .ensures ∙ rw (c .before .port-at .ensures .is, class-read (c .before .before) sc w, w .settings)
 
 pruned-read : (c : tie.After-is-pruned) (sc : Scene) → On (c .before .before .before .before .before .before .before) sc
-    → let a = c .before .before .before .before .before .before .before .before .before .before .before .before .before .args in c .is-pruned .result ≡ isPruned (sc .settings) (ownAt (sc .own) (a .p)) (fixedOf (sourceIn (a .t) (toCell (a .said .now))))
+    → let a = c .before .before .before .before .before .before .before .before .before .before .before .before .before .args in c .is-pruned .result ≡ isPruned (sc .settings) (ownAt (sc .owns) (a .p)) (fixedOf (sourceIn (a .t) (toCell (a .said .now))))
 unfolding isPruned
 pruned-read c sc w = c .is-pruned .ensures (c .before .before .before .before .before .before .before .before .before .before .before .before .before .args .t) ∙ rw (w .settings, w .addresses)
 
 edge-read : (c : tie.After-at-edge) (sc : Scene) → On (c .before .before .before .before .before .before .before .before .before .before .before .before .before .before .before .before .before .before) sc
-    → let a = c .before .before .before .before .before .before .before .before .before .before .before .before .before .before .before .before .before .before .before .before .before .before .before .before .args in c .at-edge .result ≡ boundary (ownAt (sc .own) (a .p)) (class sc (a .here .now) (a .said .now) (a .p) (a .t))
+    → let a = c .before .before .before .before .before .before .before .before .before .before .before .before .before .before .before .before .before .before .before .before .before .before .before .before .args in c .at-edge .result ≡ boundary (ownAt (sc .owns) (a .p)) (class sc (a .here .now) (a .said .now) (a .p) (a .t))
 edge-read c sc w = c .at-edge .ensures ∙ edge-is _ _ (w .edges) _ ∙ rw (class-read (c .before .before .before .before .before .before .before .before .before .before .before .before .before .before .before) sc w)
 
 reaches-a : (c : tie.Else1) (sc : Scene) → Reaches c sc from-a
