@@ -2,7 +2,8 @@
 
 use std::fmt::Write;
 
-use crate::bridge::{ReportAnswer, Table, WhyAnswer};
+use crate::bridge::{ReportAnswer, WhyAnswer};
+use crate::lent::Table;
 use crate::pdu::StreamId;
 use crate::records::{Call, Input, Unwatched, Watcher};
 use crate::why::LISTED_LENGTH;

@@ -1,7 +1,5 @@
 //! Settings (01, "Numbers given back", the paragraph on settings; 02, (ii), (x) and (vi)).
 
-use crate::fan_in::GREATEST_LIMIT;
-
 /// The two stream reservation classes. Each has its own priority, limit, latency and interval.
 #[derive(Clone, Copy, Debug, PartialEq, Eq, PartialOrd, Ord)]
 pub enum Class {
@@ -85,6 +83,8 @@ pub const HEAD_LENGTH: usize = 14;
 pub const PORT_LENGTH: usize = 22;
 /// The greatest VLAN.
 pub const GREATEST_VLAN: u16 = 4_094;
+/// The greatest msrpMaxFanInPorts.
+pub const GREATEST_FAN_IN: u8 = 8;
 
 /// Length of settings with that ports field: 14 + 22 x ports.
 pub fn length(ports_field: usize) -> usize {
@@ -143,7 +143,7 @@ pub fn read(octets: &[u8]) -> Option<Settings> {
         return None;
     }
     let fan_in_limit = fields.take(8) as u8;
-    if fan_in_limit > GREATEST_LIMIT {
+    if fan_in_limit > GREATEST_FAN_IN {
         return None;
     }
     let mut ports = Vec::new();
