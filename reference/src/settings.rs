@@ -148,22 +148,24 @@ pub fn read(octets: &[u8]) -> Option<Settings> {
     }
     let mut ports = Vec::new();
     for _ in 0..port_count {
-        let supports = PerClass { a: fields.take_flag(), b: fields.take_flag() };
-        let sends_twice = fields.take_flag();
-        let zero = fields.take(5);
-        if zero != 0 {
-            return None;
-        }
-        ports.push(PortSettings {
-            supports,
-            sends_twice,
-            overhead: fields.take(8) as u8,
-            largest_frame: fields.take(16) as u16,
-            limit: PerClass { a: fields.take(40), b: fields.take(40) },
-            latency: PerClass { a: fields.take(32) as u32, b: fields.take(32) as u32 },
-        });
+        ports.push(read_port(&mut fields)?);
     }
     Some(Settings { bridge_id, priority, leave_time, pruning, vlan, fan_in_limit, ports })
+}
+
+/// Reads the settings of one port; nothing where one of its five zero bits is set.
+fn read_port(fields: &mut Fields) -> Option<PortSettings> {
+    let supports = PerClass { a: fields.take_flag(), b: fields.take_flag() };
+    let sends_twice = fields.take_flag();
+    let zero = fields.take(5);
+    (zero == 0).then(|| PortSettings {
+        supports,
+        sends_twice,
+        overhead: fields.take(8) as u8,
+        largest_frame: fields.take(16) as u16,
+        limit: PerClass { a: fields.take(40), b: fields.take(40) },
+        latency: PerClass { a: fields.take(32) as u32, b: fields.take(32) as u32 },
+    })
 }
 
 /// Puts fields into octets, most significant bit first.

@@ -78,10 +78,10 @@ fn tokens(text: &str) -> Vec<String> {
 fn path<'a>(before: &[String], tokens: &'a [String], found: &mut Vec<Module>) -> &'a [String] {
     match tokens {
         [name, mark, rest @ ..] if is_name(name) && mark == "::" => {
-            path(&[before, &[name.clone()]].concat(), rest, found)
+            path(&[before, std::slice::from_ref(name)].concat(), rest, found)
         }
         [name, rest @ ..] if is_name(name) => {
-            found.push([before, &[name.clone()]].concat());
+            found.push([before, std::slice::from_ref(name)].concat());
             rest
         }
         [open, inside @ ..] if open == "{" => {

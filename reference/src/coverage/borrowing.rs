@@ -40,11 +40,10 @@ pub fn borrowed(
     port: usize,
     decision: &Decision,
 ) {
-    let Compared { demand, left } = match decision.compared {
-        Some(compared) => compared,
+    let (demand, left) = match decision.compared {
+        Some(Compared { demand, left }) => (demand.0, left.0),
         None => return,
     };
-    let (demand, left) = (demand.0, left.0);
     let port_settings = &after.settings.ports[port - 1];
     let total_a = after.settled.totals[port - 1].a;
     let admitted = decision.step == Step::I;
@@ -57,22 +56,21 @@ pub fn borrowed(
     // Without borrowing there would be so much less.
     let borrows = demand > left.saturating_sub(idle(port_settings, total_a));
     counts.count_if("class B admitted by borrowing alone", admitted && borrows);
-    let exactly = admitted && borrows && demand == left;
-    counts.count_if("class B borrows exactly what is left", exactly);
+    counts.count_if("class B borrows exactly what is left", admitted && borrows && demand == left);
     let one_above = demand == left + 1 && total_a > 0;
     counts.count_if("class B one above what class A leaves", one_above);
-    let priority = after.settings.priority;
-    let higher = admitted && borrows && priority.b > priority.a;
-    counts.count_if("class B borrows with the higher priority", higher);
+    let higher = after.settings.priority.b > after.settings.priority.a;
+    counts.count_if("class B borrows with the higher priority", admitted && borrows && higher);
     let would_fit = !admitted && demand <= left + total_a;
     counts.count_if("class B refused for what class A reserves", would_fit);
     let rank = talker_of(after, stream_id).rank;
     let gives_way = would_fit && rank == 0 && only_rank_1_of_a(after, port);
     counts.count_if("class B of rank 0 gives way to class A of rank 1", gives_way);
-    let unsupported = !port_settings.supports.a && port_settings.limit.a > 0;
-    let without_a = unsupported && !admitted && demand <= left + port_settings.limit.a;
-    counts.count_if("class B refused where limit A counts 0", without_a);
-    counts.count_if("class B admitted where limit A counts 0", unsupported && admitted);
+    if !port_settings.supports.a && port_settings.limit.a > 0 {
+        let would_fit = !admitted && demand <= left + port_settings.limit.a;
+        counts.count_if("class B refused where limit A counts 0", would_fit);
+        counts.count_if("class B admitted where limit A counts 0", admitted);
+    }
     thrown_out(counts, (before, after), stream_id, port, (demand, left));
 }
 

@@ -76,6 +76,11 @@ pub fn inbound(counts: &mut Counts, bridge: &Bridge) {
             counts.count_if("further port past the limit", below > usize::from(limit));
         }
     }
+    addresses_in_common(counts, bridge);
+}
+
+/// Streams with one destination, and with one VLAN or several.
+fn addresses_in_common(counts: &mut Counts, bridge: &Bridge) {
     let addresses = bridge.registrations.streams.keys();
     let addresses: Vec<Parameters> = addresses
         .filter_map(|stream_id| Some(registered_at(bridge, *stream_id)?.parameters))

@@ -68,7 +68,11 @@ fn damage(random: &mut Random, frame: &mut FrameDraft, unknown: fn(&mut Random) 
         return;
     }
     let newer = frame.version > 0;
-    let message = &mut frame.messages[place];
+    damage_message(random, &mut frame.messages[place], newer);
+}
+
+/// One damage to the header of a Message, to the end of its list, or to one of its vectors.
+fn damage_message(random: &mut Random, message: &mut MessageDraft, newer: bool) {
     match random.below(20) {
         0..=1 => message.list_length_off = random.one_of(&[-2, -1, 1, 2, 3, 4, 300]),
         2 => message.attribute_type = random.one_of(&[5, 255, 1, 2, 3, 4]),
@@ -80,27 +84,34 @@ fn damage(random: &mut Random, frame: &mut FrameDraft, unknown: fn(&mut Random) 
         6 => message.after_list_end_mark = random.octets_up_to(4),
         7 => message.after_list_end_mark = vec![0, 0],
         _ if message.vectors.is_empty() => {}
-        damage => {
-            let vector_place = random.below(message.vectors.len() as u64) as usize;
-            let vector = &mut message.vectors[vector_place];
-            match damage {
-                8..=10 => {
-                    let any = random.between(216, 255) as u8;
-                    vector.first_event_octet = Some(random.one_of(&[215, 216, 216, 217, 255, any]));
-                }
-                11..=12 => vector.leave_all_event = random.one_of(&[2, 2, 3, 4, 7]),
-                13..=14 => {
-                    let values = vector.events.len() as u64;
-                    vector.number_of_values =
-                        Some(random.one_of(&[values + 1, values + 3, values + 4, 0x1fff]) as u16);
-                    if newer && random.percent(50) {
-                        vector.leave_all_event = random.between(2, 7) as u8;
-                    }
-                }
-                15..=18 => near_the_fields_end(random, message.attribute_type, vector),
-                _ => vector.events.push(random.below(6) as u8),
+        15..=18 => {
+            let place = random.below(message.vectors.len() as u64) as usize;
+            near_the_fields_end(random, message.attribute_type, &mut message.vectors[place]);
+        }
+        way => {
+            let place = random.below(message.vectors.len() as u64) as usize;
+            damage_vector(random, &mut message.vectors[place], way, newer);
+        }
+    }
+}
+
+/// A damage to the events of a vector or to the number of its values, in a way that was drawn.
+fn damage_vector(random: &mut Random, vector: &mut VectorDraft, way: u64, newer: bool) {
+    match way {
+        8..=10 => {
+            let any = random.between(216, 255) as u8;
+            vector.first_event_octet = Some(random.one_of(&[215, 216, 216, 217, 255, any]));
+        }
+        11..=12 => vector.leave_all_event = random.one_of(&[2, 2, 3, 4, 7]),
+        13..=14 => {
+            let values = vector.events.len() as u64;
+            vector.number_of_values =
+                Some(random.one_of(&[values + 1, values + 3, values + 4, 0x1fff]) as u16);
+            if newer && random.percent(50) {
+                vector.leave_all_event = random.between(2, 7) as u8;
             }
         }
+        _ => vector.events.push(random.below(6) as u8),
     }
 }
 

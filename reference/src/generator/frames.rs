@@ -10,6 +10,33 @@ use crate::pdu::{AttributeType, Failure, Parameters, Talker};
 use crate::random::Random;
 use crate::settings::Settings;
 
+/// Which of a group, from one on and how many: all, one, some, or one past its end.
+fn some_members(random: &mut Random, group: &Group) -> (u64, u64) {
+    match random.below(20) {
+        0..=9 => (0, group.members),
+        10..=14 => (random.below(group.members), 1),
+        15..=17 => {
+            let skip = random.below(group.members);
+            (skip, random.between(1, group.members - skip))
+        }
+        18 => (0, group.members + 1),
+        _ => (0, 0),
+    }
+}
+
+/// So many events, mostly joins.
+fn some_events(random: &mut Random, count: u64) -> Vec<u8> {
+    let style = random.below(20);
+    let one_join = random.one_of(&JOINS);
+    let event = |random: &mut Random| match style {
+        0..=8 => one_join,
+        9..=11 => random.one_of(&JOINS),
+        12..=14 => LV,
+        _ => random.below(6) as u8,
+    };
+    (0..count).map(|_| event(random)).collect()
+}
+
 /// A vector of neighbours of a group, of one of the known types.
 fn vector(
     random: &mut Random,
@@ -20,31 +47,12 @@ fn vector(
     if attribute_type == AttributeType::Domain {
         return domain_vector(random, settings);
     }
-    // Which of the group: all, one, some, or one past its end.
-    let (skip, mut count) = match random.below(20) {
-        0..=9 => (0, group.members),
-        10..=14 => (random.below(group.members), 1),
-        15..=17 => {
-            let skip = random.below(group.members);
-            (skip, random.between(1, group.members - skip))
-        }
-        18 => (0, group.members + 1),
-        _ => (0, 0),
-    };
+    let (skip, mut count) = some_members(random, group);
     let leave_all_event = u8::from(random.percent(7) || count == 0);
     if leave_all_event == 1 && random.percent(30) {
         count = 0;
     }
-    let style = random.below(20);
-    let one_join = random.one_of(&JOINS);
-    let events = (0..count)
-        .map(|_| match style {
-            0..=8 => one_join,
-            9..=11 => random.one_of(&JOINS),
-            12..=14 => LV,
-            _ => random.below(6) as u8,
-        })
-        .collect();
+    let events = some_events(random, count);
     let one_type = random.one_of(&[READY, READY, READY, READY_FAILED, ASKING]);
     let mixed_types = random.percent(25);
     let listener_types = match attribute_type {

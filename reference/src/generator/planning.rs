@@ -18,6 +18,28 @@ pub fn size(random: &mut Random) -> Size {
 }
 
 pub fn plan(random: &mut Random, size: Size) -> Plan {
+    let mut settings = settings(random, size);
+    let rivals = random.percent(30);
+    let members = members(random, size, rivals);
+    let mut groups = Vec::new();
+    for (place, members) in (0..).zip(members) {
+        groups.push(group(random, &settings, size, place, members));
+    }
+    if rivals {
+        make_rivals(random, &mut settings, &mut groups);
+    }
+    if random.percent(12) {
+        share_addresses(random, &mut groups);
+    }
+    choose_limits(random, &mut settings, &groups, rivals);
+    if random.percent(3) {
+        make_great(random, &mut settings, &mut groups);
+    }
+    Plan { settings, groups, size, rivals }
+}
+
+/// Settings without limits yet, and without pruning.
+fn settings(random: &mut Random, size: Size) -> Settings {
     let port_count = match size {
         Size::Small => random.one_of(&[1, 2, 2, 2, 2, 2, 3, 3, 3, 3, 4, 4, 5, 8]),
         Size::Middle => random.between(2, 8) as usize,
@@ -42,22 +64,7 @@ pub fn plan(random: &mut Random, size: Size) -> Plan {
         8..=10 => random.between(1, port_count as u64) as u8,
         _ => random.below(u64::from(GREATEST_FAN_IN) + 1) as u8,
     };
-    let pruning = false;
-    let mut settings =
-        Settings { bridge_id, priority, leave_time, pruning, vlan, fan_in_limit, ports };
-    let rivals = random.percent(30);
-    let mut groups = groups(random, &settings, size, rivals);
-    if rivals {
-        make_rivals(random, &mut settings, &mut groups);
-    }
-    if random.percent(12) {
-        share_addresses(random, &mut groups);
-    }
-    choose_limits(random, &mut settings, &groups, rivals);
-    if random.percent(3) {
-        make_great(random, &mut settings, &mut groups);
-    }
-    Plan { settings, groups, size, rivals }
+    Settings { bridge_id, priority, leave_time, pruning: false, vlan, fan_in_limit, ports }
 }
 
 fn port_settings(random: &mut Random) -> PortSettings {
@@ -88,7 +95,8 @@ fn port_settings(random: &mut Random) -> PortSettings {
     }
 }
 
-fn groups(random: &mut Random, settings: &Settings, size: Size, rivals: bool) -> Vec<Group> {
+/// The members of each group.
+fn members(random: &mut Random, size: Size, rivals: bool) -> Vec<u64> {
     let mut members = Vec::new();
     match size {
         Size::Small | Size::Middle | Size::Large => {
@@ -111,40 +119,40 @@ fn groups(random: &mut Random, settings: &Settings, size: Size, rivals: bool) ->
             }
         }
     }
-    let mut groups: Vec<Group> = Vec::new();
-    for (place, members) in members.into_iter().enumerate() {
-        let mac =
-            0x0200_0000_0001 + if size == Size::Full { place as u64 } else { random.below(3) };
-        let unique_id = match random.below(10) {
-            0..=3 => random.below(4),
-            4..=5 => 0x10000 - members, // the last one is FFFF
-            6 => 0x00ff,
-            7 => 0,
-            _ => random.below(0xff00),
-        };
-        let stream_id = match random.below(40) {
-            0 => 0,
-            1 => u64::MAX - (members - 1),
-            _ => mac << 16 | unique_id,
-        };
-        let destination = match random.below(16) {
-            0 => (1 << 48) - members, // the last one is at the field's bound
-            1 => 0,
-            _ => 0x91e0_f000_fe00 + 0x40 * place as u64,
-        };
-        let talker_port = match size {
-            Size::Full if random.percent(60) => 1,
-            _ => random.between(1, settings.ports.len() as u64) as u32,
-        };
-        let first = Talker {
-            stream_id,
-            parameters: Parameters { destination, ..parameters(random, settings) },
-            accumulated_latency: accumulated_latency(random),
-            failure: None,
-        };
-        groups.push(Group { first, members, talker_port });
-    }
-    groups
+    members
+}
+
+/// The group at a place, of so many members.
+fn group(random: &mut Random, settings: &Settings, size: Size, place: u64, members: u64) -> Group {
+    let mac = 0x0200_0000_0001 + if size == Size::Full { place } else { random.below(3) };
+    let unique_id = match random.below(10) {
+        0..=3 => random.below(4),
+        4..=5 => 0x10000 - members, // the last one is FFFF
+        6 => 0x00ff,
+        7 => 0,
+        _ => random.below(0xff00),
+    };
+    let stream_id = match random.below(40) {
+        0 => 0,
+        1 => u64::MAX - (members - 1),
+        _ => mac << 16 | unique_id,
+    };
+    let destination = match random.below(16) {
+        0 => (1 << 48) - members, // the last one is at the field's bound
+        1 => 0,
+        _ => 0x91e0_f000_fe00 + 0x40 * place,
+    };
+    let talker_port = match size {
+        Size::Full if random.percent(60) => 1,
+        _ => random.between(1, settings.ports.len() as u64) as u32,
+    };
+    let first = Talker {
+        stream_id,
+        parameters: Parameters { destination, ..parameters(random, settings) },
+        accumulated_latency: accumulated_latency(random),
+        failure: None,
+    };
+    Group { first, members, talker_port }
 }
 
 fn parameters(random: &mut Random, settings: &Settings) -> Parameters {

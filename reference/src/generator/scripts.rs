@@ -128,52 +128,21 @@ fn asks(seed: u64) -> Option<Random> {
 /// A script of calls.
 pub fn calls(seed: u64) -> Script {
     let mut random = Random::new(seed.wrapping_mul(2).wrapping_add(1));
-    let mut size = size(&mut random);
+    let size = size(&mut random);
     let mut plan = plan(&mut random, size);
     let mut history = History::new(random);
     history.looks = Some(Random::new(!seed));
     history.asks = asks(seed);
     addresses::choose_pruning(&mut history, &mut plan);
-    if history.random.percent(12) {
-        for _ in 0..history.random.between(1, 5) {
-            some_call(&mut history, &plan);
-        }
-    }
-    if history.random.percent(30) {
-        listeners::packed_listeners(&mut history);
-    }
-    if history.random.percent(16) {
-        why::too_little_room(&mut history);
-    }
+    before_the_start(&mut history, &plan);
     // A few scripts have no start of their own: alone they get 12 for all, in a batch they go on
     // with the bridge that the scripts before have left.
     let starts = history.random.weighted(&[3, 85, 9, 3]);
     for turn in 0..starts.max(1) {
         if turn > 0 && history.random.percent(60) {
-            size = self::size(&mut history.random);
-            plan = self::plan(&mut history.random, size);
-            addresses::choose_pruning(&mut history, &mut plan);
+            plan = another_plan(&mut history);
         }
-        if history.random.percent(6) {
-            let settings = wrong_settings(&mut history.random, &plan.settings);
-            history.start(&settings);
-        }
-        if starts > 0 {
-            let settings = settings::write(&plan.settings);
-            history.start(&settings);
-        }
-        if history.random.percent(10) {
-            looks::sweep(&mut history, &plan);
-        }
-        addresses::hear_addresses(&mut history, &plan);
-        steps::beginning(&mut history, &plan);
-        for _ in 0..steps::steps(&mut history, size) {
-            script_step(&mut history, &plan);
-            addresses::mmrp_step(&mut history, &plan, 40);
-        }
-        if history.random.percent(25) {
-            looks::sweep(&mut history, &plan);
-        }
+        one_bridge(&mut history, &plan, starts > 0);
     }
     steps::closing(&mut history);
     if history.random.percent(90) {
@@ -185,6 +154,52 @@ pub fn calls(seed: u64) -> Script {
         put_stop(&mut history, &plan, &unknown);
     }
     Script { octets: history.octets, stops }
+}
+
+fn another_plan(history: &mut History) -> Plan {
+    let size = size(&mut history.random);
+    let mut plan = plan(&mut history.random, size);
+    addresses::choose_pruning(history, &mut plan);
+    plan
+}
+
+/// What may come before the bridge of a script: calls on no bridge, and bridges made for one request.
+fn before_the_start(history: &mut History, plan: &Plan) {
+    if history.random.percent(12) {
+        for _ in 0..history.random.between(1, 5) {
+            some_call(history, plan);
+        }
+    }
+    if history.random.percent(30) {
+        listeners::packed_listeners(history);
+    }
+    if history.random.percent(16) {
+        why::too_little_room(history);
+    }
+}
+
+/// A bridge from its start on, or one that goes on without one.
+fn one_bridge(history: &mut History, plan: &Plan, starts: bool) {
+    if history.random.percent(6) {
+        let settings = wrong_settings(&mut history.random, &plan.settings);
+        history.start(&settings);
+    }
+    if starts {
+        let settings = settings::write(&plan.settings);
+        history.start(&settings);
+    }
+    if history.random.percent(10) {
+        looks::sweep(history, plan);
+    }
+    addresses::hear_addresses(history, plan);
+    steps::beginning(history, plan);
+    for _ in 0..steps::steps(history, plan.size) {
+        script_step(history, plan);
+        addresses::mmrp_step(history, plan, 40);
+    }
+    if history.random.percent(25) {
+        looks::sweep(history, plan);
+    }
 }
 
 /// So many seeds from the first on.

@@ -11,6 +11,7 @@ use super::{borrowing, domains, latencies, leaving};
 use crate::declarations;
 use crate::frame::{FrameDraft, MessageDraft, VectorDraft};
 use crate::pdu::{AttributeType, StreamId};
+use crate::random::Random;
 use crate::registrations::MOST_STREAMS;
 
 /// What mostly happens first: the neighbours say what domain they are in, and all groups join.
@@ -83,26 +84,7 @@ fn fill(history: &mut History, plan: &Plan) {
     let stream_id: StreamId = mac << 16 | history.random.below(0xff00);
     let port = history.port(plan);
     let events = vec![history.random.one_of(&JOINS); count];
-    let message = if history.random.percent(50) {
-        let vector = VectorDraft {
-            first_value: stream_id.to_be_bytes().to_vec(),
-            listener_types: vec![READY; count],
-            events,
-            ..VectorDraft::default()
-        };
-        MessageDraft::new(AttributeType::Listener, vec![vector])
-    } else {
-        let mut talker = history.random.one_of(&plan.groups).first;
-        talker.stream_id = stream_id;
-        talker.parameters.destination = 0x91e0_f000_0000;
-        let vector = VectorDraft {
-            first_value: declarations::first_value(&talker),
-            events,
-            ..VectorDraft::default()
-        };
-        MessageDraft::new(AttributeType::TalkerAdvertise, vec![vector])
-    };
-    let mut messages = vec![message];
+    let mut messages = vec![joining_message(&mut history.random, plan, stream_id, events)];
     if history.random.percent(30) {
         let vectors = strange_domain_vectors(&mut history.random, &plan.settings);
         messages.insert(0, MessageDraft::new(AttributeType::Domain, vectors));
@@ -116,6 +98,27 @@ fn fill(history: &mut History, plan: &Plan) {
     }
     // With no values the header would be an EndMark, and the list wouldn't end with it.
     history.receive(port, &frame.octets());
+}
+
+/// A Message of Listeners, or of Talkers, from a stream on.
+fn joining_message(
+    random: &mut Random,
+    plan: &Plan,
+    stream_id: StreamId,
+    events: Vec<u8>,
+) -> MessageDraft {
+    let mut vector = VectorDraft { events, ..VectorDraft::default() };
+    if random.percent(50) {
+        vector.first_value = stream_id.to_be_bytes().to_vec();
+        vector.listener_types = vec![READY; vector.events.len()];
+        MessageDraft::new(AttributeType::Listener, vec![vector])
+    } else {
+        let mut talker = random.one_of(&plan.groups).first;
+        talker.stream_id = stream_id;
+        talker.parameters.destination = 0x91e0_f000_0000;
+        vector.first_value = declarations::first_value(&talker);
+        MessageDraft::new(AttributeType::TalkerAdvertise, vec![vector])
+    }
 }
 
 /// One thing that happens to a bridge: mostly a frame or an advance.
