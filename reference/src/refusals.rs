@@ -5,7 +5,7 @@
 
 use std::io::{self, BufRead, Write};
 
-use crate::bridge::Table;
+use crate::lent::Table;
 use crate::numbers::{self, Number};
 use crate::records::{Call, Watcher};
 use crate::script::{self, Program};

@@ -1,7 +1,5 @@
 //! Settings (01, "Numbers given back", the paragraph on settings; 02, (ii), (x) and (vi)).
 
-use crate::fan_in::GREATEST_LIMIT;
-
 /// The two stream reservation classes. Each has its own priority, limit, latency and interval.
 #[derive(Clone, Copy, Debug, PartialEq, Eq, PartialOrd, Ord)]
 pub enum Class {
@@ -85,6 +83,8 @@ pub const HEAD_LENGTH: usize = 14;
 pub const PORT_LENGTH: usize = 22;
 /// The greatest VLAN.
 pub const GREATEST_VLAN: u16 = 4_094;
+/// The greatest msrpMaxFanInPorts.
+pub const GREATEST_FAN_IN: u8 = 8;
 
 /// Length of settings with that ports field: 14 + 22 x ports.
 pub fn length(ports_field: usize) -> usize {
@@ -170,31 +170,33 @@ pub fn checked(octets: &[u8]) -> Result<Settings, String> {
         return Err(format!("the bridge's vlan is 1 to {GREATEST_VLAN}, and this one is {vlan}"));
     }
     let fan_in_limit = fields.take(8) as u8;
-    if fan_in_limit > GREATEST_LIMIT {
+    if fan_in_limit > GREATEST_FAN_IN {
         return Err(format!(
-            "the limit of inbound ports is 0 to {GREATEST_LIMIT}, and this one is {fan_in_limit}"
+            "the limit of inbound ports is 0 to {GREATEST_FAN_IN}, and this one is {fan_in_limit}"
         ));
     }
     let mut ports = Vec::new();
     for port in 1..=port_count {
-        let supports = PerClass { a: fields.take_flag(), b: fields.take_flag() };
-        let sends_twice = fields.take_flag();
-        let zero = fields.take(5);
-        if zero != 0 {
-            return Err(format!(
-                "the last five bits of port {port}'s flags are zero, and one is set"
-            ));
-        }
-        ports.push(PortSettings {
-            supports,
-            sends_twice,
-            overhead: fields.take(8) as u8,
-            largest_frame: fields.take(16) as u16,
-            limit: PerClass { a: fields.take(40), b: fields.take(40) },
-            latency: PerClass { a: fields.take(32) as u32, b: fields.take(32) as u32 },
-        });
+        ports.push(read_port(&mut fields, port)?);
     }
     Ok(Settings { bridge_id, priority, leave_time, pruning, vlan, fan_in_limit, ports })
+}
+
+/// Reads the settings of one port; or the rule that they break.
+fn read_port(fields: &mut Fields, port: usize) -> Result<PortSettings, String> {
+    let supports = PerClass { a: fields.take_flag(), b: fields.take_flag() };
+    let sends_twice = fields.take_flag();
+    if fields.take(5) != 0 {
+        return Err(format!("the last five bits of port {port}'s flags are zero, and one is set"));
+    }
+    Ok(PortSettings {
+        supports,
+        sends_twice,
+        overhead: fields.take(8) as u8,
+        largest_frame: fields.take(16) as u16,
+        limit: PerClass { a: fields.take(40), b: fields.take(40) },
+        latency: PerClass { a: fields.take(32) as u32, b: fields.take(32) as u32 },
+    })
 }
 
 /// Puts fields into octets, most significant bit first.
