@@ -10,6 +10,6 @@ kit_folder() {
 
 # Prints the sum of the sources and the kit: REPOSITORY KIT
 sources_sum() {
-    (cd "$1" && find crates.txt crates -name must-fail -prune -o -type f -print0 | sort -z | xargs -0 sha256sum) |
+    (cd "$1" && find crates.txt crates -name 'must-fail*' -prune -o -type f -print0 | sort -z | xargs -0 sha256sum) |
         cat - "$2/KIT-ID" | sha256sum
 }
