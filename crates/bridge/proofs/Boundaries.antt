@@ -12,6 +12,7 @@ use Rattle.model.specs.State.{Domain, noDomain, Own, ownAt, streamAt, Class, is
 use Rattle.model.specs.Settling.{streamClass, isDomain, domainsOf, boundary, sceneOf, settle}
 use Rattle.model.specs.Table.{decode}
 use Rattle.model.proofs.Boundaries.{Outside, flag-exactly, no-flag, eight-decided, eight-only}
+use Rattle.model.proofs.StepOrder.{classed-before-eight}
 use Rattle.bridge.specs.Promises.{Advances}
 use Rattle.bridge.proofs.Demand2.{advance-decides}
 use Rattle.bridge.proofs.OwnCodes.{GivenWhere, left-valid, given-where}
@@ -45,13 +46,14 @@ module _ (t : List ℕ) (time n : ℕ) (u : List ℕ) (octets : Octets t) (small
         let e = advance-decides t time n u octets small call accepted .bridge in
         rw e (unfold settle in (no-flag time (decode t) p (unfold settle in (rw e at port)) here c some))
 
-  -- Of a stream of a class, code 8 is given exactly where no earlier step applies and one of h)'s conditions holds.
-  pub eight-code : (k : ℕ) → k < length (decode u .streams) → isNoClass (streamClass (decode u .settings) (streamAt k (decode u))) ≡ false →
-      GivenWhere u p k 8 (OutsideHeld u p (streamClass (decode u .settings) (streamAt k (decode u))))
-  eight-code k held some =
+  -- Code 8 is given exactly where no earlier step applies and one of h)'s conditions holds of the stream's class.
+  pub eight-code : (k : ℕ) → k < length (decode u .streams) → GivenWhere u p k 8 (OutsideHeld u p (streamClass (decode u .settings) (streamAt k (decode u))))
+  eight-code k held =
       let b = decode u in
       let x = streamAt k b in
-      let flag = flag-code (streamClass (b .settings) x) some in
+      let c = streamClass (b .settings) x in
       given-where t time n u octets small call accepted p here k held 8 _
-      (λ free o. eight-decided (sceneOf b) (b .clock) (b .streams) p x free (flag .1 o))
-      (λ whole e. let w = eight-only (sceneOf b) (b .clock) (b .streams) p x whole e in (w .0, flag .0 (w .1)))
+      (λ free o. eight-decided (sceneOf b) (b .clock) (b .streams) p x free (flag-code c (classed-before-eight (sceneOf b) p x free) .1 o))
+      (λ whole e.
+      let w = eight-only (sceneOf b) (b .clock) (b .streams) p x whole e in
+      (w .0, flag-code c (classed-before-eight (sceneOf b) p x (w .0)) .0 (w .1)))

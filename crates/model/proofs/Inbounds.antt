@@ -14,12 +14,12 @@ use Rattle.model.proofs.FanIn.{shares-with}
 
 -- "destination and VLAN at its t equal those of .. at that one's t"
 pub record SameAddress (x y : Stream) : Type 0 where
-  pub own : Origin
+  pub origin : Origin
   pub other : Origin
-  pub comes : sourceOf x ≡ from own
+  pub comes : sourceOf x ≡ from origin
   pub other-comes : sourceOf y ≡ from other
-  pub destination : own .registration .fixed .destination ≡ other .registration .fixed .destination
-  pub vlan : own .registration .fixed .vlan ≡ other .registration .fixed .vlan
+  pub destination : origin .registration .fixed .destination ≡ other .registration .fixed .destination
+  pub vlan : origin .registration .fixed .vlan ≡ other .registration .fixed .vlan
 
 pub same-address-exactly : (x y : Stream) → (sameAddressAt (sourceOf x) (sourceOf y) ≡ true) ↔ SameAddress x y
 unfolding sameAddressAt sameAddress
@@ -29,7 +29,7 @@ same-address-exactly x y = (go (sourceOf x) (sourceOf y) refl refl, back)
     go nowhere q e f h = absurd (false≢true h)
     go (from o) nowhere e f h = absurd (false≢true h)
     go (from o) (from q) e f h = record {
-      own = o;
+      origin = o;
       other = q;
       comes = e;
       other-comes = f;
@@ -81,10 +81,10 @@ shares-exactly s x = (there, back)
 -- "A port may bring streams in if the number of ports with an inbound Talker among those numbered below it is less than the limit"; "0
 -- means no limit": the stream's Talker port may not.
 pub record KeptOut (limit : ℕ) (s : List Stream) (x : Stream) : Type 0 where
-  pub own : Origin
-  pub comes : sourceOf x ≡ from own
+  pub origin : Origin
+  pub comes : sourceOf x ≡ from origin
   pub limited : limit ≡ 0 → ⊥
-  pub reached : limit ≤ countTo (isInbound (inboundsOf s)) (own .port)
+  pub reached : limit ≤ countTo (isInbound (inboundsOf s)) (origin .port)
 
 pub kept-out-exactly : (limit : ℕ) (s : List Stream) (x : Stream) → (isKeptOut limit (inboundsOf s) (sourceOf x) ≡ true) ↔ KeptOut limit s x
 unfolding isKeptOut mayBring inboundBelow
@@ -96,7 +96,7 @@ kept-out-exactly limit s x = (there (sourceOf x) refl, back)
     stopped : (o : Origin) → sourceOf x ≡ from o → (z l : Bool) → eqb limit 0 ≡ z → ltb (below o) limit ≡ l → not (z || l) ≡ true → KeptOut limit s x
     stopped o e true l a b h = absurd (false≢true h)
     stopped o e false true a b h = absurd (false≢true h)
-    stopped o e false false a b h = record { own = o; comes = e; limited = eqb-false limit 0 a; reached = ltb-false (below o) limit b }
+    stopped o e false false a b h = record { origin = o; comes = e; limited = eqb-false limit 0 a; reached = ltb-false (below o) limit b }
 
     there : (o : Source) → sourceOf x ≡ o → isKeptOut limit (inboundsOf s) o ≡ true → KeptOut limit s x
     there nowhere e h = absurd (false≢true h)
