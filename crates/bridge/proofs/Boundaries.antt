@@ -20,7 +20,7 @@ use Rattle.bridge.proofs.OwnCodes.{GivenWhere, left-valid, given-where}
 module _ (u : List ℕ) (p : ℕ) where
   -- what the port holds by itself
   abbrev pub ownHeld : Own
-  ownHeld = ownAt (decode u .own) p
+  ownHeld = ownAt (decode u .owns) p
 
   -- 35.2.1.4 h) holds of the port and a class, by the Domain values that the port holds
   abbrev pub OutsideHeld : Class → Type 0

@@ -7,7 +7,7 @@ use Prim.Native.Nat.{ℕ, _^_, _<_}
 use lib.ListN.{length}
 use Rattle.model.specs.Lists.{Octets}
 use Rattle.model.specs.State.{Column, failed, fresh, streamAt, resultAt}
-use Rattle.model.specs.Settling.{sourceOf, healthOf, sceneOf, clear, isBroken, steps, columnOf}
+use Rattle.model.specs.Settling.{sourceOf, talkerTypeOf, sceneOf, clear, isTalkerFailed, steps, columnOf}
 use Rattle.model.specs.Table.{decode, columnCode}
 use Rattle.model.proofs.Lists.{all-map, all-at}
 use Rattle.model.proofs.Valid.{Valid}
@@ -37,7 +37,7 @@ module _ (u : List ℕ) (p k : ℕ) where
 -- the code of a stream that is not registered as Failed says so.
 pub record GivenWhere (u : List ℕ) (p k code : ℕ) (fact : Type 0) : Type 0 where
   pub given : NoneBefore u p k code → fact → columnHeld u p k ≡ failed (decode u .settings .bridgeId) code
-  pub only : isBroken (healthOf (sourceOf (streamAt k (decode u)))) ≡ false → columnCode (columnHeld u p k) ≡ code → NoneBefore u p k code × fact
+  pub only : isTalkerFailed (talkerTypeOf (sourceOf (streamAt k (decode u)))) ≡ false → columnCode (columnHeld u p k) ≡ code → NoneBefore u p k code × fact
 
 module _ (t : List ℕ) (time n : ℕ) (u : List ℕ) (octets : Octets t) (small : time < 2 ^ 32) (call : Advances t time n u) (accepted : n ≡ 0) where
   pub left-valid : Valid (decode u)
@@ -56,7 +56,7 @@ module _ (t : List ℕ) (time n : ℕ) (u : List ℕ) (octets : Octets t) (small
 
     -- what holds of the decided column holds of the one held
     pub given-where : (code : ℕ) (fact : Type 0) → (NoneBefore u p k code → fact → columnDecided u p k ≡ failed (decode u .settings .bridgeId) code) →
-        (isBroken (healthOf (sourceOf (streamAt k (decode u)))) ≡ false → columnCode (columnDecided u p k) ≡ code → NoneBefore u p k code × fact) →
+        (isTalkerFailed (talkerTypeOf (sourceOf (streamAt k (decode u)))) ≡ false → columnCode (columnDecided u p k) ≡ code → NoneBefore u p k code × fact) →
         GivenWhere u p k code fact
     given-where code fact gives says = record {
       given = λ free holds. left-column ∙ gives free holds;

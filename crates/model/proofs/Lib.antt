@@ -1,4 +1,13 @@
 pub mod Lists
+pub mod ApplicantEntries
+pub mod PlaceLists
+pub mod Passing
+pub mod Quieting
+pub mod Deciding
+pub mod LostFrame
+pub mod Withdrawing
+pub mod RegistrarEntries
+pub mod LeaveAllEntries
 pub mod Valid
 pub mod Parts
 pub mod Stored
@@ -6,6 +15,8 @@ pub mod Cells
 pub mod Results
 pub mod SettingsOctets
 pub mod Coded
+pub mod ApplicantOctets
+pub mod SendsOctets
 pub mod Owns
 pub mod Tables
 pub mod Fits
