@@ -7,6 +7,7 @@ ghost use mathlib.Core.Path.{_≡_};
 ghost use lib.ListN.{drop};
 ghost use mathlib.Core.List.{_++_};
 ghost use Rattle.console.specs.Text.{Put};
+ghost use Rattle.reports.specs.Shown.{shown};
 ghost use Rattle.answers.specs.Sums.{adler32, all};
 ghost use Rattle.answers.specs.Lines.{numbersText, octetsText, keptText, bufferText, stepText, writtenText, reportedText, explainedText, sumText};
 
@@ -88,7 +89,7 @@ pub fn put_written(line: &mut [u8], wrote: Wrote, buffer: &[u8]) -> usize
 
 // The line of a report: the streams held, the port's class totals and limits, and the stream at the place.
 pub fn put_reported(line: &mut [u8], answer: Reported) -> usize
-    ensures { λ r. ⌜ Put (now (line .entry)) 0 (reportedText answer) r (now (line .exit)) ⌝ }
+    ensures { λ r. ⌜ Put (now (line .entry)) 0 (reportedText (shown answer)) r (now (line .exit)) ⌝ }
 {
     let numbers = [
         answer.number as u64,
