@@ -212,9 +212,9 @@ module _ {table₀ records text₀ table text : List ℕ} {at end from : ℕ} (c
         let one : sizeOf r ≡ 0 → ⊥ = λ e. n (d .size-is ∙ e) in
         let rest : drop (sizeOf r) (drop from records) ≡ drop (from + size) records = rw (← (d .size-is)) (drop-drop size from records) in
         let more : recordsFrom (c .fuel) (drop from records) ≡ r ∷ recordsFrom (c .fuel - 1) (drop (from + size) records) =
-            ap (λ (f : ℕ). recordsFrom f (drop from records)) some
-            ∙ records-more (c .fuel - 1) (drop from records) left r refl one
-            ∙ ap (λ (s : List ℕ). r ∷ recordsFrom (c .fuel - 1) s) rest in
+        ap (λ (f : ℕ). recordsFrom f (drop from records)) some
+        ∙ records-more (c .fuel - 1) (drop from records) left r refl one
+        ∙ ap (λ (s : List ℕ). r ∷ recordsFrom (c .fuel - 1) s) rest in
         record {
           fuel = c .fuel - 1;
           enough = omega (arith, c .enough, d .size-is);

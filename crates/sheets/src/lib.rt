@@ -6,18 +6,30 @@ ghost use Prim.Native.Nat.{_≤_};
 ghost use lib.ListN.{length};
 ghost use Rattle.console.specs.Text.{Put};
 ghost use Rattle.reports.specs.Shown.{shown};
+ghost use Rattle.model.specs.Layout.{tableLength};
 ghost use Rattle.model.specs.Table.{portsField};
 ghost use Rattle.model.specs.Calls.{reportOn};
 ghost use Rattle.sheets.specs.Lines.{classText, portLine, streamLine, refusedLine, stopLine};
 ghost use Rattle.sheets.specs.Records.{settingsLength, frameOf, timeOf, recordOf, answerText};
-ghost use Rattle.sheets.specs.Sheet.{portLines, streamOnPorts, streamLines};
+ghost use Rattle.sheets.specs.Sheet.{portLines, streamOnPorts, streamLines, textOctets};
 ghost use Rattle.sheets.specs.Promises.{Called, CalledAll, Printed};
 
-// Octets of an input that are read.
-pub const INPUT: usize = 65536;
+// Octets of a text: no sheet of an input of 65,536 octets is longer.
+pub const TEXT: usize = 16 * 65536;
 
-// Octets of a text: no sheet of such an input is longer.
-pub const TEXT: usize = 16 * INPUT;
+// Zeros, for a text and for a table. As of `io::large_buffer` the promise gives only the length, which lending the array as a slice
+// needs.
+pub fn blank_text() -> [u8; TEXT]
+    ensures { λ r. ⌜ textOctets ≡ length r ⌝ }
+{
+    [0; TEXT]
+}
+
+pub fn blank_table() -> [u8; bridge::TABLE]
+    ensures { λ r. ⌜ tableLength ≡ length r ⌝ }
+{
+    [0; bridge::TABLE]
+}
 
 // A class in the line of a port: its name, what is reserved and the limit.
 fn put_class(text: &mut [u8], at: usize, name: &[u8], total: u64, limit: u64) -> usize

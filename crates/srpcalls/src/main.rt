@@ -4,16 +4,15 @@ use libc::STDIN_FILENO;
 use libc::STDOUT_FILENO;
 ghost use Prim.Native.Nat.{_≤_};
 ghost use lib.ListN.{length};
+ghost use mathlib.Core.Path.{_≡_};
 ghost use Rattle.model.specs.Layout.{tableLength};
+ghost use Rattle.srpcalls.specs.Room.{roomOctets, spaceOctets};
 
 // The room for the table.
 const ROOM: usize = bridge::TABLE + 64;
 
 // Settings and PDUs are handed to a call up to this length.
 const LONGEST: usize = 4096;
-
-// The longest buffer of a write or a why.
-const BUFFER: usize = 2048;
 
 // The space for what is read and what is printed: words and numbers, and two digits for each octet of the room. No line is longer,
 // and no octets that are handed over.
@@ -27,6 +26,19 @@ enum Step {
     End,
 }
 
+// Zeros for both. The promises give only the length, which lending an array as a slice needs.
+fn blank_room() -> [u8; ROOM]
+    ensures { λ r. ⌜ roomOctets ≡ length r ⌝ }
+{
+    [0; ROOM]
+}
+
+fn blank_space() -> [u8; SPACE]
+    ensures { λ r. ⌜ spaceOctets ≡ length r ⌝ }
+{
+    [0; SPACE]
+}
+
 // Fills a field from the input; false where the input ends before. A read that fails counts as the end.
 fn read(field: &mut [u8]) -> bool {
     let n = io::read_full(STDIN_FILENO, field);
@@ -36,7 +48,7 @@ fn read(field: &mut [u8]) -> bool {
 // Ends the line and writes it. One that cannot be written ends the run.
 fn print(line: &mut [u8], at: usize) -> Step {
     let end = console::put(line, at, b"\n");
-    if io::write_all(STDOUT_FILENO, &line[..end]) {
+    if io::write_all(STDOUT_FILENO, &line[0..end]) {
         return Step::Next;
     }
     Step::End
@@ -97,8 +109,8 @@ fn write(table: &[u8], port: u32, space: &mut [u8]) -> Step {
     if read(&mut field) {
         let place = octets::get(&field, 0, 2) as u32;
         let asked = octets::get(&field, 2, 2) as usize;
-        let n = console::least(asked, BUFFER);
-        let mut filled = [answers::FILLING; BUFFER];
+        let n = console::least(asked, answers::BUFFER);
+        let mut filled = answers::filled();
         let buffer = &mut filled[0..n];
         let wrote = bridge::write(table, port, place, buffer);
         let at = answers::put_written(space, wrote, buffer);
@@ -122,8 +134,8 @@ fn explain(table: &[u8], port: u32, space: &mut [u8]) -> Step {
     if read(&mut field) {
         let id = octets::get(&field, 0, 8);
         let asked = octets::get(&field, 8, 2) as usize;
-        let n = console::least(asked, BUFFER);
-        let mut filled = [answers::FILLING; BUFFER];
+        let n = console::least(asked, answers::BUFFER);
+        let mut filled = answers::filled();
         let buffer = &mut filled[0..n];
         let answer = bridge::why(table, id, port, buffer);
         let at = answers::put_explained(space, answer, buffer);
@@ -231,7 +243,7 @@ fn run(room: &mut [u8], space: &mut [u8])
 }
 
 fn main() {
-    let mut room = [0u8; ROOM];
-    let mut space = [0u8; SPACE];
+    let mut room = blank_room();
+    let mut space = blank_space();
     run(&mut room, &mut space);
 }

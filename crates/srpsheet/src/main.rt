@@ -3,10 +3,10 @@ use libc::STDIN_FILENO;
 use libc::STDOUT_FILENO;
 
 fn main() {
-    let mut input = [0u8; sheets::INPUT];
-    let mut table = [0u8; bridge::TABLE];
-    let mut text = [0u8; sheets::TEXT];
+    let mut input = io::large_buffer();
+    let mut table = sheets::blank_table();
+    let mut text = sheets::blank_text();
     let n = io::read_full(STDIN_FILENO, &mut input);
     let end = sheets::put_sheet(&mut table, &input[..n], &mut text);
-    io::write_all(STDOUT_FILENO, &text[..end]);
+    io::write_all(STDOUT_FILENO, &text[0..end]);
 }
