@@ -6,14 +6,14 @@ use Prim.Native.Nat.{ℕ, zero, suc, _+_, _-_, _*_, _/_, _≤_, _<_}
 use native.Mathlib.Omega.{arith}
 use native.Mathlib.Numerals.{add-one}
 use lib.ListN.{length, getD, set, take, drop, length-append, length-drop}
-use lib.Seq.{drop-length, drop-drop, getD-set-same, getD-set-other}
+use lib.Seq.{drop-length, drop-drop, drop-set-lt, getD-set-same, getD-set-other}
 use lib.Dec.{leb, eqb}
 use borrow.Author.Tests.{lt-ltb, le-ltb, le-leb, lt-leb, eq-eqb, ne-eqb, eqb-true, eqb-false}
 use Rattle.model.specs.Lists.{All, longest}
 use Rattle.model.specs.Frames.{threeLength, fourLength}
-use Rattle.model.specs.Cutting.{mac, Part, joined, values, octetsFor}
+use Rattle.model.specs.Cutting.{mac, Part, concat, values, octetsFor}
 use Rattle.model.specs.Best.{price, weight, bests, best, least}
-use Rattle.cutting.specs.Plan.{none, entry, lower, farther, entries, less, back}
+use Rattle.cutting.specs.Plan.{none, entry, lower, farther, entries, less, back, Kept}
 use Rattle.cutting.specs.declared.Entry.{Entry}
 use Rattle.model.proofs.Lists.{longest-ends, longest-stops, longest-goes}
 use Rattle.model.proofs.LeastCutting.{best-cuts, best-under}
@@ -93,9 +93,9 @@ entry-small : (l : List ℕ) → (entry (best l) .weighs ≤ 781 * length l) × 
 entry-small l =
     (omega (arith, entry-weighs (best l), best-under l (singles l) (singles-cut l) .0, singles-weigh l), go (best l) (best-cuts l .0))
   where
-    go : (c : List (List ℕ)) → joined c ≡ l → entry c .first ≤ length l
+    go : (c : List (List ℕ)) → concat c ≡ l → entry c .first ≤ length l
     go [] e = unfold entry in omega arith
-    go (g ∷ c) e = unfold entry in omega (arith, ap length e, length-append g (joined c))
+    go (g ∷ c) e = unfold entry in omega (arith, ap length e, length-append g (concat c))
 
 pub entry-fits : (l : List ℕ) (i : ℕ) → length l ≤ 64 → i ≤ length l → (getD (entries l) i none .weighs < 65536) × (getD (entries l) i none .first < 256)
 entry-fits l i h m =
@@ -129,15 +129,15 @@ next l i f h e = go (best (drop i l)) refl (best-cuts (drop i l) .0) (best-cuts 
     n : length (drop i l) ≡ length l - i
     n = length-drop i l
 
-    go : (c : List (List ℕ)) → best (drop i l) ≡ c → joined (best (drop i l)) ≡ drop i l → All Part (best (drop i l)) → f ≡ entry (best (drop i l)) .first → Next l i f
-    go [] b j v s = absurd (omega (arith, n, ap length (sym (ap joined b) ∙ j)))
+    go : (c : List (List ℕ)) → best (drop i l) ≡ c → concat (best (drop i l)) ≡ drop i l → All Part (best (drop i l)) → f ≡ entry (best (drop i l)) .first → Next l i f
+    go [] b j v s = absurd (omega (arith, n, ap length (sym (ap concat b) ∙ j)))
     go ([] ∷ d) b j v s = absurd ((rw b at v) .0)
     go ((x ∷ g) ∷ d) b j v s =
         let k : f ≡ suc (length g) = s ∙ rw b (unfold entry in refl) in
         let w = best-next (drop i l) (x ∷ g) d b in
         record {
           some = omega arith;
-          inside = omega (arith, n, ap length (sym (ap joined b) ∙ j), length-append (x ∷ g) (joined d));
+          inside = omega (arith, n, ap length (sym (ap concat b) ∙ j), length-append (x ∷ g) (concat d));
           vector =
               b ∙ ap₂ (λ (a : List ℕ) (z : List (List ℕ)). a ∷ z) (w .0 ∙ ap (λ (z : ℕ). take z (drop i l)) (sym k))
               (w .1 ∙ ap best (ap (λ (z : ℕ). drop z (drop i l)) (sym k) ∙ drop-drop f i l));
@@ -197,3 +197,11 @@ least-none l = refl
 pub planned-octets : (l w : List ℕ) → length l ≤ 64 → ((k : ℕ) → 0 ≤ k → k ≤ length l → getD w k 0 ≡ getD (entries l) k none .weighs) → getD w 0 0 / 65 ≡ least l
 planned-octets l w few h =
     ap (λ (n : ℕ). n / 65) (h 0 (omega arith) (omega arith) ∙ ap (λ (r : Entry). r .weighs) (entry-at l 0 (omega arith))) ∙ entry-octets l few
+
+-- What a loop leaves behind place n: a store at most there, and one at the next place.
+pub kept-set : (n i v : ℕ) (before after : List ℕ) → i ≤ n → Kept n before after → Kept n before (set after i v)
+kept-set n i v before after h k = drop-set-lt (n + 1) after i v (omega arith) ∙ k
+
+pub kept-more : (n v : ℕ) (before after : List ℕ) → Kept n before after → Kept (n + 1) before (set after (n + 1) v)
+kept-more n v before after k =
+    kept-set (n + 1) (n + 1) v before after (omega arith) (sym (drop-drop 1 (n + 1) after) ∙ ap (drop 1) k ∙ drop-drop 1 (n + 1) before)

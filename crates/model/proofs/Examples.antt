@@ -18,7 +18,7 @@ use Rattle.model.specs.State.{Port, Settings, Fixed, ready, askingFailed
 use Rattle.model.specs.State
 use Rattle.model.specs.Registrations.{Kind, advertises, faileds, listeners, Reading, refused, acts, Answer}
 use Rattle.model.specs.Registrations
-use Rattle.model.specs.Frames.{Attribute, registers, domain, Event, new, joinIn, isIn, joinMt, mt, lv}
+use Rattle.model.specs.Frames.{Attribute, registers, domainType, Event, new, joinIn, isIn, joinMt, mt, lv}
 use Rattle.model.specs.Frames
 use Rattle.model.specs.Bandwidth
 use Rattle.model.specs.Settling
@@ -100,7 +100,7 @@ message k vectors = messageOf (registers k) vectors
 
 -- n Domain values from a class ID and a priority on, of VLAN 2, with their events; "matching Domain joins": {5, 2} and {6, 3}
 domainsOf : ℕ → ℕ → ℕ → List ℕ → List ℕ
-domainsOf classId priority n three = messageOf domain (Be.be 2 n ++ (classId ∷ priority ∷ 0 ∷ 2 ∷ three))
+domainsOf classId priority n three = messageOf domainType (Be.be 2 n ++ (classId ∷ priority ∷ 0 ∷ 2 ∷ three))
 
 matching : List ℕ
 matching = domainsOf 5 2 2 (126 ∷ [])
@@ -112,16 +112,19 @@ bridgeWith fanIn limit l = from (State.started (settingsWith fanIn limit)) (pdu 
 bridge : ℕ → List Handed → Bridge
 bridge limit l = bridgeWith 0 limit l
 
--- FirstValues like those of the worked example: a StreamID by its Unique ID; the last two octets of the destination, and VLAN 2;
--- MaxFrameSize, one frame per interval, and the octet of priority and rank
+-- FirstValues like those of the worked example: a StreamID by its Unique ID; the last two octets of the destination, and the VLAN, which
+-- is 2 unless an example has another; MaxFrameSize, one frame per interval, and the octet of priority and rank
 streamId : ℕ → List ℕ
 streamId unique = 0x02 ∷ 0 ∷ 0 ∷ 0 ∷ 0 ∷ 0x01 ∷ Be.be 2 unique
 
-talkerOf : (destination latency unique size octet : ℕ) → List ℕ
-talkerOf destination latency unique size octet =
+talkerIn : (vlan destination latency unique size octet : ℕ) → List ℕ
+talkerIn vlan destination latency unique size octet =
     streamId unique
     ++ (0x91 ∷ 0xE0 ∷ 0xF0 ∷ 0
-    ∷ (Be.be 2 destination ++ (0 ∷ 0x02 ∷ (Be.be 2 size ++ (0 ∷ 0x01 ∷ octet ∷ Be.be 4 latency)))))
+    ∷ (Be.be 2 destination ++ (Be.be 2 vlan ++ (Be.be 2 size ++ (0 ∷ 0x01 ∷ octet ∷ Be.be 4 latency)))))
+
+talkerOf : (destination latency unique size octet : ℕ) → List ℕ
+talkerOf = talkerIn 2
 
 talkerTo : ℕ → ℕ → ℕ → ℕ → List ℕ
 talkerTo unique destination size octet = talkerOf destination 0 unique size octet
@@ -304,7 +307,7 @@ examples =
 
 -- to unfold this is to unfold the examples' own definitions
 shown : Unit {0}
-unfolding opened port settingsOf settingsWith settings accepted from messageOf message domainsOf matching bridgeWith bridge streamId talkerTo talkerOf delayedFirst talkerFirst failure rank1 rank0 advertisesOf failedOf listenerVector listenersOf talks hears columns reserves count talker listener read eventNumber events wordNumber reported size224 one four withFifth settledTalker lvPdu leaver workedTalker workedListener worked
+unfolding opened port settingsOf settingsWith settings accepted from messageOf message domainsOf matching bridgeWith bridge streamId talkerTo talkerIn talkerOf delayedFirst talkerFirst failure rank1 rank0 advertisesOf failedOf listenerVector listenersOf talks hears columns reserves count talker listener read eventNumber events wordNumber reported size224 one four withFifth settledTalker lvPdu leaver workedTalker workedListener worked
 shown = tt
 
 pub marked-examples : All Holds examples
@@ -403,7 +406,7 @@ further =
     -- would be 1 and 0
     ∷ record { computed = ages sameSecond; printed = 1 ∷ 1 ∷ [] }
     ∷ record { computed = columns sameSecond; printed = 1 ∷ 0 ∷ 2 ∷ 1 ∷ [] }
-    -- a stream that does not fit is passed over, and the next is tried
+    -- a stream that does not fit takes nothing, and the next is tried
     ∷ record { computed = columns oneTooLarge ++ reserves oneTooLarge; printed = 1 ∷ 0 ∷ 2 ∷ 1 ∷ 1 ∷ 0 ∷ 19904000 ∷ 20000000 ∷ [] }
     -- a stream without a Ready Listener, or with Asking Failed, has no share
     ∷ record { computed = columns (lessReady 0) ++ reserves (lessReady 0); printed = 1 ∷ 0 ∷ 1 ∷ 0 ∷ 17088000 ∷ 17088000 ∷ [] }
@@ -439,7 +442,7 @@ slotsHeld i (State.noDomain ∷ ds) = slotsHeld (suc i) ds
 slotsHeld i (State.domain v l ∷ ds) = i ∷ slotsHeld (suc i) ds
 
 edge : ℕ → Bridge → List ℕ
-edge p b = let o = State.ownAt (b .own) p in slotsHeld 0 (o .domains) ++ (Lists.bit (o .boundaryA) ∷ Lists.bit (o .boundaryB) ∷ [])
+edge p b = let o = State.ownAt (b .owns) p in slotsHeld 0 (o .domains) ++ (Lists.bit (o .boundaryA) ∷ Lists.bit (o .boundaryB) ∷ [])
 
 pub edges : List Example
 edges =
@@ -585,6 +588,11 @@ inbound fanIn size destination l =
     bridgeWith fanIn 75000000
     (pdu 1 (talks 1 224 rank1) ∷ pdu 2 (message advertises (Be.be 2 1 ++ (talkerTo 2 destination size rank1 ++ (108 ∷ [])))) ∷ time 100 ∷ l)
 
+-- the same without a limit, the second with the destination of the first, in this VLAN and with this octet of priority and rank
+sharing : ℕ → ℕ → List Handed
+sharing vlan octet =
+    pdu 1 (talks 1 224 rank1) ∷ pdu 2 (message advertises (Be.be 2 1 ++ (talkerIn vlan 0xFE00 0 2 224 octet ++ (108 ∷ [])))) ∷ time 100 ∷ []
+
 -- the column of the first on port 2, and of the second on port 1
 across : Bridge → List ℕ
 across b =
@@ -608,11 +616,17 @@ fanIns =
     ∷ record { computed = across (inbound 0 224 0xFE00 []); printed = 1 ∷ 0 ∷ 2 ∷ 5 ∷ [] }
     ∷ record { computed = across (inbound 1 224 0xFE00 []); printed = 1 ∷ 0 ∷ 2 ∷ 5 ∷ [] }
     ∷ record { computed = across (inbound 1 1523 0 []); printed = 1 ∷ 0 ∷ 2 ∷ 15 ∷ [] }
+    -- in another VLAN the same destination is another address
+    ∷ record { computed = across (bridge 75000000 (sharing 2 rank1)); printed = 1 ∷ 0 ∷ 2 ∷ 5 ∷ [] }
+    ∷ record { computed = across (bridge 75000000 (sharing 3 rank1)); printed = 1 ∷ 0 ∷ 1 ∷ 0 ∷ [] }
+    -- where no Domain value is heard: 8 comes before 5, and 13 before both
+    ∷ record { computed = across (from (State.started (settings 75000000)) (sharing 2 rank1)); printed = 2 ∷ 8 ∷ 2 ∷ 8 ∷ [] }
+    ∷ record { computed = across (from (State.started (settings 75000000)) (sharing 2 0x10)); printed = 2 ∷ 8 ∷ 2 ∷ 13 ∷ [] }
     ∷ []
 
 pub fan-in-examples : All Holds fanIns
-unfolding shown fanIns inbound across
-fan-in-examples = (refl, (refl, (refl, (refl, (refl, (refl, (refl, tt)))))))
+unfolding shown fanIns inbound sharing across
+fan-in-examples = (refl, (refl, (refl, (refl, (refl, (refl, (refl, (refl, (refl, (refl, (refl, tt)))))))))))
 
 -- Talker pruning (02, vi).
 
@@ -724,10 +738,10 @@ premises p b x =
     ∷ Fields.flat claimNumbers (Bandwidth.above (Bandwidth.key (Settling.claim (b .settings) 200 p x)) (Settling.claims sc 200 p c s))
     ∷ cond (State.sameClass c State.classB) (Settling.totalOn sc 200 s p State.classA ∷ []) []
     ∷ (Lists.bit (Settling.shares (sc .inbound) (Settling.inboundOf x)) ∷ [])
-    ∷ (Lists.bit (Settling.boundary (State.ownAt (sc .own) p) c) ∷ [])
+    ∷ (Lists.bit (Settling.boundary (State.ownAt (sc .owns) p) c) ∷ [])
     ∷ (Lists.bit (Settling.isKeptOut (b .settings .fanIn) (sc .inbound) (Settling.sourceOf x)) ∷ [])
     ∷ cond (b .settings .pruning)
-    (Lists.bit (Settling.holdsAddress (Settling.fixedOf (Settling.sourceOf x) .destination) (State.ownAt (sc .own) p .addresses)) ∷ []) []
+    (Lists.bit (Settling.holdsAddress (Settling.fixedOf (Settling.sourceOf x) .destination) (State.ownAt (sc .owns) p .addresses)) ∷ []) []
     ∷ []
 
 agreements : List (List ℕ) → List (List ℕ) → List ℕ

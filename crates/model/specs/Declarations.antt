@@ -6,9 +6,9 @@ use lib.ListN.{length, take, drop}
 use lib.Dec.{ltb, leb, eqb}
 use Rattle.model.specs.FrameLayout.{advertiseLength, domainLength, failedLength, listenerLength, longestPdu}
 use Rattle.model.specs.Lists.{keep, longest}
-use Rattle.model.specs.State.{Port, Settings, Fixed, Health, sound, broken, Varying, Ready, Column, none, advertise, failed, Declared, nothing, tells, Result, Stream, Bridge, portAt, resultAt, Class, classA, classB, supports, classPriority, classId}
+use Rattle.model.specs.State.{Port, Settings, Fixed, TalkerType, talkerAdvertise, talkerFailed, Varying, Ready, Column, none, advertise, failed, Declared, nothing, tells, Result, Stream, Bridge, portAt, resultAt, Class, classA, classB, supports, classPriority, classId}
 use Rattle.model.specs.Registrations.{Kind, advertises, faileds, listeners, Act, talk, listen, ofDomain, joinDomain}
-use Rattle.model.specs.Frames.{Attribute, registers, domain, typeNumber, slotOf}
+use Rattle.model.specs.Frames.{Attribute, registers, domainType, typeNumber, slotOf}
 use Rattle.model.specs.Best.{least}
 
 -- a declaration is a join of the neighbour's table
@@ -17,14 +17,14 @@ pub data Declaration : Type 0 where
   listenerDeclaration : (id : ℕ) → Ready → Declaration
   domainDeclaration : (id priority vlan : ℕ) → Declaration
 
-unfoldable pub healthKind : Health → Kind
-healthKind sound = advertises
-healthKind (broken b c) = faileds
+unfoldable pub talkerKind : TalkerType → Kind
+talkerKind talkerAdvertise = advertises
+talkerKind (talkerFailed b c) = faileds
 
 unfoldable pub attributeOf : Declaration → Attribute
-attributeOf (talkerDeclaration id f v) = registers (healthKind (v .health))
+attributeOf (talkerDeclaration id f v) = registers (talkerKind (v .type))
 attributeOf (listenerDeclaration id r) = registers listeners
-attributeOf (domainDeclaration id q v) = domain
+attributeOf (domainDeclaration id q v) = domainType
 
 -- what a neighbour reads
 unfoldable pub joinOf : Declaration → Act
@@ -36,13 +36,13 @@ joinOf (domainDeclaration id q v) = ofDomain (joinDomain (slotOf id q) v)
 -- Domain value per class it supports, written after the Listeners, by ascending class ID, from start on"
 unfoldable pub advertised : Stream → Result → Column → List Declaration
 advertised x r none = []
-advertised x r advertise = talkerDeclaration (x .id) (x .settled) record { health = sound; latency = r .latency } ∷ []
+advertised x r advertise = talkerDeclaration (x .id) (x .settled) record { type = talkerAdvertise; latency = r .latency } ∷ []
 advertised x r (failed b c) = []
 
 unfoldable pub failing : Stream → Result → Column → List Declaration
 failing x r none = []
 failing x r advertise = []
-failing x r (failed b c) = talkerDeclaration (x .id) (x .settled) record { health = broken b c; latency = r .latency } ∷ []
+failing x r (failed b c) = talkerDeclaration (x .id) (x .settled) record { type = talkerFailed b c; latency = r .latency } ∷ []
 
 unfoldable pub listening : Stream → Declared → List Declaration
 listening x nothing = []
@@ -92,14 +92,14 @@ unfoldable pub vectorSize : Attribute → ℕ
 vectorSize (registers advertises) = 2 + advertiseLength + 1
 vectorSize (registers faileds) = 2 + failedLength + 1
 vectorSize (registers listeners) = 2 + listenerLength + 1 + 1
-vectorSize domain = 2 + domainLength + 1
+vectorSize domainType = 2 + domainLength + 1
 
 -- of all vectors of declarations of one type; of Listeners "no other cutting into vectors takes fewer octets" (02)
 unfoldable pub vectorsSize : Attribute → List Declaration → ℕ
 vectorsSize (registers advertises) l = length l * vectorSize (registers advertises)
 vectorsSize (registers faileds) l = length l * vectorSize (registers faileds)
 vectorsSize (registers listeners) l = least (declaredIds l)
-vectorsSize domain l = length l * vectorSize domain
+vectorsSize domainType l = length l * vectorSize domainType
 
 -- of their Message, with 4 octets of header and 2 of EndMark; a type with no declaration has no Message
 unfoldable pub messageSize : Attribute → List Declaration → ℕ
@@ -108,7 +108,7 @@ messageSize k (d ∷ l) = 6 + vectorsSize k (d ∷ l)
 
 -- of the Messages of declarations, one for each type
 unfoldable pub messagesSize : List Declaration → ℕ
-messagesSize l = of (registers advertises) + of (registers faileds) + of (registers listeners) + of domain
+messagesSize l = of (registers advertises) + of (registers faileds) + of (registers listeners) + of domainType
   where
     of : Attribute → ℕ
     of k = messageSize k (having k l)

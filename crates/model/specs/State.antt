@@ -5,8 +5,10 @@ use Prim.Native.Nat.{ℕ, _+_, _-_}
 use lib.ListN.{getD, replicate, length}
 use lib.Dec.{ltb, eqb}
 use Rattle.model.specs.Layout.{slots}
+use Rattle.model.specs.Machines.{Applicant}
+use Rattle.model.specs.LeaveAll.{LeaveAll}
 
--- Settings (01, "Numbers given back": "Settings, fields most significant bit first").
+-- Settings (01, "Numbers given back": "Settings, fields most significant bit first"; 02, ii, vi and x).
 
 pub record Port : Type 0 where
   pub supportsA : Bool
@@ -24,8 +26,11 @@ pub record Settings : Type 0 where
   pub priorityA : ℕ
   pub priorityB : ℕ
   pub leaveTime : ℕ
+  -- "Add talkerPruning (35.2.4.3.1), the top bit of the VLAN setting's two octets" (02, vi)
   pub pruning : Bool
+  -- of the Domain values that each port declares: "with a VLAN from a new setting of two octets after the leave time" (02, ii)
   pub vlan : ℕ
+  -- "Add msrpMaxFanInPorts (0 means no limit; 1 to 8) as one octet of its own before the first port's settings" (02, x)
   pub fanIn : ℕ
   pub ports : List Port
 
@@ -45,13 +50,13 @@ pub record Fixed : Type 0 where
   pub priority : ℕ
   pub rank : ℕ
 
--- what they may: Advertise, or Failed with a Bridge ID and a code; and the accumulated latency
-pub data Health : Type 0 where
-  sound : Health
-  broken : (bridge code : ℕ) → Health
+-- what they may: the type, Talker Advertise, or Talker Failed with a Bridge ID and a code; and the accumulated latency
+pub data TalkerType : Type 0 where
+  talkerAdvertise : TalkerType
+  talkerFailed : (bridge code : ℕ) → TalkerType
 
 pub record Varying : Type 0 where
-  pub health : Health
+  pub type : TalkerType
   pub latency : ℕ
 
 -- what a port has registered of a Talker; 02, v: "Keep with each Talker registration the latency of its first join"
@@ -124,6 +129,28 @@ pub record Result : Type 0 where
   pub age : ℕ
   pub declares : Declared
 
+-- What is sent (02, xiv): a machine for each declaration in a port's list, with the octets last declared.
+
+-- a Talker's values behind its StreamID, in the order of a FirstValue; and for Failed the Bridge ID and code behind them
+pub record Offer : Type 0 where
+  pub fixed : Fixed
+  pub latency : ℕ
+
+pub record Failure : Type 0 where
+  pub bridge : ℕ
+  pub code : ℕ
+
+-- what a port sends of one stream: "Advertise and Failed of one StreamID are two declarations"
+pub record Sends : Type 0 where
+  pub advertising : Applicant Offer
+  pub failing : Applicant (Offer × Failure)
+  pub listening : Applicant Ready
+
+-- what it sends by itself: an Applicant for each Domain value, by the slots of `Own`, and its LeaveAll machine
+pub record Sender : Type 0 where
+  pub domains : List (Applicant (Unit {0}))
+  pub leaveAll : LeaveAll
+
 -- a held stream: its registrations and results on the eight ports that a table has room for, and the fixed values of its
 -- Talker as the last advance took them
 pub record Stream : Type 0 where
@@ -141,7 +168,7 @@ pub record Bridge : Type 0 where
   pub settings : Settings
   pub clock : ℕ
   pub totals : List Totals
-  pub own : List Own
+  pub owns : List Own
   pub streams : List Stream
 
 -- What is there before anything is registered or decided.
@@ -169,7 +196,7 @@ fresh i = record { id = i; settled = noFixed; cells = blank; results = replicate
 
 -- start: no streams, clock 0, nothing reserved, no Domain value, no boundary, no address
 unfoldable pub started : Settings → Bridge
-started st = record { settings = st; clock = 0; totals = replicate 8 noTotals; own = replicate 8 noOwn; streams = [] }
+started st = record { settings = st; clock = 0; totals = replicate 8 noTotals; owns = replicate 8 noOwn; streams = [] }
 
 -- Places. Ports are numbered from 1 by callers, and from 0 in lists.
 

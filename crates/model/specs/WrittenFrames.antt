@@ -8,9 +8,9 @@ use Rattle.octets.specs.Be.{be}
 use Rattle.octets.specs.Fields.{packed, flat}
 use Rattle.model.specs.FrameLayout.{listenerWidths}
 use Rattle.model.specs.Lists.{tabulate, bit}
-use Rattle.model.specs.State.{Fixed, Health, sound, broken, Ready, askingFailed, ready, readyFailed}
+use Rattle.model.specs.State.{Fixed, TalkerType, talkerAdvertise, talkerFailed, Ready, askingFailed, ready, readyFailed}
 use Rattle.model.specs.Registrations.{advertises, faileds, listeners}
-use Rattle.model.specs.Frames.{Attribute, registers, domain, typeNumber, firstWidths, firstLength, threeLength, fourLength, Vector}
+use Rattle.model.specs.Frames.{Attribute, registers, domainType, typeNumber, firstWidths, firstLength, threeLength, fourLength, Vector}
 use Rattle.model.specs.Cutting.{values}
 use Rattle.model.specs.Best.{best}
 use Rattle.model.specs.Declarations.{Declaration, talkerDeclaration, listenerDeclaration, domainDeclaration, attributeOf, declaredId, declaredIds, having}
@@ -22,13 +22,13 @@ priorityOctet f = f .priority * 32 + f .rank * 16
 unfoldable pub fixedNumbers : Fixed → List ℕ
 fixedNumbers f = f .destination ∷ f .vlan ∷ f .size ∷ f .frames ∷ priorityOctet f ∷ []
 
-unfoldable pub failureNumbers : Health → List ℕ
-failureNumbers sound = []
-failureNumbers (broken b c) = b ∷ c ∷ []
+unfoldable pub failureNumbers : TalkerType → List ℕ
+failureNumbers talkerAdvertise = []
+failureNumbers (talkerFailed b c) = b ∷ c ∷ []
 
 -- FirstValue's numbers, in fields of `firstWidths`
 unfoldable pub firstNumbers : Declaration → List ℕ
-firstNumbers (talkerDeclaration id f v) = id ∷ (fixedNumbers f ++ (v .latency ∷ failureNumbers (v .health)))
+firstNumbers (talkerDeclaration id f v) = id ∷ (fixedNumbers f ++ (v .latency ∷ failureNumbers (v .type)))
 firstNumbers (listenerDeclaration id r) = id ∷ []
 firstNumbers (domainDeclaration id q v) = id ∷ q ∷ v ∷ []
 
@@ -105,7 +105,7 @@ unfoldable pub vectorsOf : Attribute → List Declaration → List Vector
 vectorsOf (registers advertises) l = map declarationVector l
 vectorsOf (registers faileds) l = map declarationVector l
 vectorsOf (registers listeners) l = map packedVector (listenerParts l)
-vectorsOf domain l = map declarationVector l
+vectorsOf domainType l = map declarationVector l
 
 unfoldable pub vectorOctets : Vector → List ℕ
 vectorOctets v = be 2 (bit (v .leavesAll) * 8192 + v .values) ++ (v .first ++ (v .three ++ v .four))
@@ -123,4 +123,4 @@ messageOctets k (d ∷ l) = messageOf k (flat vectorOctets (vectorsOf k (d ∷ l
 unfoldable pub pduOctets : List Declaration → List ℕ
 pduOctets l =
     let of : Attribute → List ℕ = λ k. messageOctets k (having k l) in
-    0 ∷ (of (registers advertises) ++ (of (registers faileds) ++ (of (registers listeners) ++ (of domain ++ (0 ∷ 0 ∷ [])))))
+    0 ∷ (of (registers advertises) ++ (of (registers faileds) ++ (of (registers listeners) ++ (of domainType ++ (0 ∷ 0 ∷ [])))))
