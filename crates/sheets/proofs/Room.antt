@@ -1,6 +1,6 @@
 -- No sheet of 65,536 octets is longer than the text that srpsheet has for it, so that all of it is put. Assumes nothing.
 use Prim.Native.Nat.{ℕ, zero, suc, _+_, _*_, _/_, _%_, _≤_, _<_}
-use mathlib.Core.Path.{_≡_, refl, sym, ap, _∙_}
+use mathlib.Core.Path.{_≡_, refl}
 use mathlib.Core.Bool.{Bool, true, false}
 use mathlib.Core.List.{List, [], _∷_, _++_}
 use native.Mathlib.Nat.{suc-mul}
@@ -15,7 +15,7 @@ use Rattle.model.specs.State.{Entry, noEntry, filters, forwards, askingFailed, 
 use Rattle.model.specs.Reports.{ColumnWord, noneWord, advertiseWord, failedWord, Report}
 use Rattle.model.specs.Table.{portsField}
 use Rattle.model.specs.Calls.{reportOn}
-use Rattle.console.specs.Text.{decimalIn, Put}
+use Rattle.console.specs.Text.{decimalIn}
 use Rattle.console.specs.Words.{columnText, listenerText, entryText, talkerText, shownText}
 use Rattle.console.proofs.Laws.{put-whole}
 use Rattle.sheets.specs.Lines.{classText, portLine, streamLine, refusedLine, stopLine}

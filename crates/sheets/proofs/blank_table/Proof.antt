@@ -1,6 +1,6 @@
 -- `sheets::blank_table` meets its contract. Assumes nothing.
 use Prim.Native.Nat.{ℕ}
-use mathlib.Core.Path.{_≡_, sym}
+use mathlib.Core.Path.{sym}
 use lib.ListN.{length-replicate}
 use Rattle.model.specs.Layout.{tableLength}
 use Rattle.sheets.proofs.blank_table.Statement.{statement}

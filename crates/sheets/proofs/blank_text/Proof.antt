@@ -1,6 +1,6 @@
 -- `sheets::blank_text` meets its contract. Assumes nothing.
 use Prim.Native.Nat.{ℕ}
-use mathlib.Core.Path.{_≡_, sym}
+use mathlib.Core.Path.{sym}
 use lib.ListN.{length-replicate}
 use Rattle.sheets.specs.Sheet.{textOctets}
 use Rattle.sheets.proofs.blank_text.Statement.{statement}

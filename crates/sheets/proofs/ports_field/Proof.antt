@@ -1,9 +1,7 @@
 -- `sheets::ports_field` meets its contract. Assumes nothing.
-use mathlib.Core.Path.{_≡_, sym, _∙_}
+use mathlib.Core.Path.{sym}
 use native.Mathlib.Omega.{arith}
 use borrow.Author.Needs.{needs}
-use lib.ListN.{getD}
-use Rattle.model.specs.Table.{portsField}
 use Rattle.sheets.proofs.Reading.{ports-none, ports-is}
 use Rattle.sheets.proofs.ports_field.Statement.{statement}
 use Rattle.sheets.proofs.ports_field.Tie as tie

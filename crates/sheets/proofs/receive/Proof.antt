@@ -1,5 +1,4 @@
 -- `sheets::receive` meets its contract. Assumes nothing.
-use mathlib.Core.Path.{_≡_}
 use native.Mathlib.Omega.{arith}
 use borrow.Author.Needs.{needs}
 use Rattle.sheets.proofs.Reading.{stopped-called, frame-cut, frame-called}

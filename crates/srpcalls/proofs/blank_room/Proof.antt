@@ -1,6 +1,6 @@
 -- `srpcalls::blank_room` meets its contract. Assumes nothing.
 use Prim.Native.Nat.{ℕ}
-use mathlib.Core.Path.{_≡_, sym}
+use mathlib.Core.Path.{sym}
 use lib.ListN.{length-replicate}
 use Rattle.srpcalls.specs.Room.{roomOctets}
 use Rattle.srpcalls.proofs.blank_room.Statement.{statement}

@@ -1,6 +1,6 @@
 -- `srpcalls::blank_space` meets its contract. Assumes nothing.
 use Prim.Native.Nat.{ℕ}
-use mathlib.Core.Path.{_≡_, sym}
+use mathlib.Core.Path.{sym}
 use lib.ListN.{length-replicate}
 use Rattle.srpcalls.specs.Room.{spaceOctets}
 use Rattle.srpcalls.proofs.blank_space.Statement.{statement}
