@@ -1,6 +1,6 @@
 -- The edge of the domain, of the code: the flags that an accepted advance leaves, and code 8. The premise is the contract of advance
 -- (specs/Promises). All is said of the table u that it left.
-use mathlib.Core.Path.{_≡_, sym, _∙_}
+use mathlib.Core.Path.{_≡_}
 use mathlib.Core.Logic.{_↔_}
 use mathlib.Core.List.{List}
 use mathlib.Core.Bool.{true, false}
@@ -8,7 +8,7 @@ use Prim.Native.Nat.{ℕ, _^_, _<_}
 use native.Mathlib.Omega.{arith}
 use lib.ListN.{length, getD}
 use Rattle.model.specs.Lists.{Octets}
-use Rattle.model.specs.State.{Domain, noDomain, Own, ownAt, streamAt, Class, isNoClass, supports, portAt, classPriority}
+use Rattle.model.specs.State.{noDomain, Own, ownAt, streamAt, Class, isNoClass, supports, portAt, classPriority}
 use Rattle.model.specs.Settling.{streamClass, isDomain, domainsOf, boundary, sceneOf, settle}
 use Rattle.model.specs.Table.{decode}
 use Rattle.model.proofs.Boundaries.{Outside, flag-exactly, no-flag, eight-decided, eight-only}

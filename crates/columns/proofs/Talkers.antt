@@ -5,21 +5,19 @@ use mathlib.Core.List.{List}
 use mathlib.Core.Bool.{Bool, true, false, false≢true, true≢false}
 use Prim.Native.Nat.{ℕ, _+_, _/_, _≤_, _<_}
 use native.Mathlib.Omega.{arith}
-use lib.ListN.{length, getD}
+use lib.ListN.{getD}
 use lib.Dec.{eqb}
 use borrow.Author.Tests.{eq-eqb, ne-eqb, eqb-true, eqb-false, lt-ltb, le-ltb}
 use Rattle.octets.specs.Be.{beAt}
-use Rattle.octets.specs.Parts.{part}
-use Rattle.octets.specs.Fields.{fields, packed, width}
-use Rattle.octets.proofs.Fields.{fields-of-packed, length-fit, part-run}
-use Rattle.model.specs.Layout.{bridgePlace, cellWidths, codePlace, fixedField, fixedPlace, fixedSize, fixedWidths, latencyField, latencyPlace, priorityField, priorityPlace}
+use Rattle.octets.specs.Fields.{fields}
+use Rattle.model.specs.Layout.{bridgePlace, codePlace, fixedField, fixedPlace, latencyField, latencyPlace, priorityField, priorityPlace}
 use Rattle.model.specs.State.{Settings, Port, none, failed, Class, noClass, classA, classB, isNoClass, Talker, noTalker, talker, Cell, Stream, noFixed, portAt, cellAt, classOf, classLatency}
 use Rattle.model.specs.WrittenFrames.{priorityOctet, fixedNumbers}
 use Rattle.model.specs.Settling.{Source, sourceOf, fixedOf, latencyOf, talkerTypeOf, failedColumn, streamClass, capped, latencyOut}
-use Rattle.model.specs.Table.{toPort, portFrom, cellNumbers, cellOctets, talkerNumbers, registrationFrom, fixedFrom, toTalkerType, toCell}
-use Rattle.model.specs.Laid.{FitRank, LaidCell}
-use Rattle.model.proofs.Fits.{laid-cell-is, laid-cell-fits}
-use Rattle.table.specs.Reads.{fixedOctets, ReadsCell, ReadsPort}
+use Rattle.model.specs.Table.{toPort, portFrom, cellNumbers, talkerNumbers, registrationFrom, fixedFrom, toTalkerType, toCell}
+use Rattle.model.specs.Laid.{FitRank}
+use Rattle.model.proofs.Fits.{laid-cell-fits}
+use Rattle.table.specs.Reads.{ReadsCell, ReadsPort}
 use Rattle.streams.specs.Answers.{talkerPort, sourceIn}
 use Rattle.model.proofs.SettingsOctets.{octet-field}
 use Rattle.streams.proofs.Sources.{no-talker, a-talker}

@@ -1,5 +1,5 @@
 -- `columns::column_of` meets its contract. Assumes nothing.
-use mathlib.Core.Path.{_≡_, _∙_}
+use mathlib.Core.Path.{_∙_}
 use borrow.Author.Needs.{needs}
 use Rattle.model.specs.Why.{columnBy}
 use Rattle.columns.specs.Answers.{columnShown}

@@ -1,11 +1,10 @@
 -- `columns::early_column` meets its contract. Assumes nothing.
-use mathlib.Core.Path.{_≡_, refl, sym, _∙_}
+use mathlib.Core.Path.{refl, sym, _∙_}
 use borrow.Author.Needs.{needs}
-use Rattle.model.specs.Settling.{sceneOf, sourceOf, fixedOf}
+use Rattle.model.specs.Settling.{sceneOf}
 use Rattle.model.specs.Table.{decode}
 use Rattle.model.specs.Why.{columnBy}
 use Rattle.model.proofs.Why.{steps-named}
-use Rattle.table.specs.Updates.{streamAt}
 use Rattle.columns.specs.Stages.{earlyColumn}
 use Rattle.columns.specs.Places.{SceneOn}
 use Rattle.columns.proofs.Talkers.{source-read}
