@@ -1,4 +1,5 @@
 pub mod Lists
+pub mod StepNames
 pub mod Valid
 pub mod Parts
 pub mod Stored

@@ -1,7 +1,7 @@
 -- `columns::early_column` meets its contract. Assumes nothing.
 use mathlib.Core.Path.{_≡_, refl, sym, _∙_}
 use borrow.Author.Needs.{needs}
-use Rattle.model.specs.Settling.{sceneOf, sourceOf, fixedOf}
+use Rattle.model.specs.Settling.{sceneOf, sourceOf, fixedOf, outcomeColumn}
 use Rattle.model.specs.Table.{decode}
 use Rattle.model.specs.Why.{columnBy}
 use Rattle.model.proofs.Why.{steps-named}
@@ -18,7 +18,7 @@ scene : (c : tie.After-is-pruned) → let a = c .before .before .before .args in
 scene c = record { settings = refl; inbound = refl; edges = c .before .stored-edges .ensures; pruned = c .is-pruned .ensures }
 
 returns : tie.Need-returns
-unfolding earlyColumn columnBy
+unfolding earlyColumn columnBy outcomeColumn
 returns c =
     let a = c .before .before .before .before .before .before .args in
     let sc = sceneOf (decode (a .table .now)) in
