@@ -1,6 +1,7 @@
 /*
  * The stream-reservation bridge for programs in C, C++ and Rust: the seven calls of libembed.a. docs/EMBEDDING.md tells how to build
- * and link it, README.md what each call does, docs/TABLE.md the octets of settings and table.
+ * and link it, README.md what each call does, docs/TABLE.md the octets of settings and table. Behind the calls stand inline functions
+ * that lay out settings and read from the table what hardware is told.
  *
  * What every call does:
  *
@@ -173,6 +174,170 @@ struct srp_explained {
  */
 uint8_t srp_why(const uint8_t *table, size_t table_length, uint64_t id, uint32_t port, uint8_t *buffer, size_t buffer_length,
                 struct srp_explained *explained);
+
+/*
+ * Settings as numbers. srp_put_settings lays them out in octets for srp_start, which checks them: what it refuses with 11 is what
+ * docs/TABLE.md says of settings.
+ */
+struct srp_port_settings {
+    uint8_t supports_a;     /* 1 where the port supports class A, else 0 */
+    uint8_t supports_b;     /* the same of class B */
+    uint8_t sends_twice;    /* 1 where it sends each frame twice */
+    uint8_t overhead;       /* octets that each frame has beside what MaxFrameSize counts */
+    uint16_t largest_frame; /* octets */
+    uint64_t limit_a;       /* bits per second, below 2^40 */
+    uint64_t limit_b;
+    uint32_t latency_a;     /* nanoseconds */
+    uint32_t latency_b;
+};
+
+struct srp_settings {
+    uint64_t bridge_id;
+    uint8_t ports;        /* 1 to SRP_PORTS */
+    uint8_t priority_a;   /* 0 to 7, and different */
+    uint8_t priority_b;
+    uint16_t leave_time;  /* hundredths of a second, 1 to 16,383 */
+    uint8_t pruning;      /* 1 where a Talker goes only to ports that hold its destination */
+    uint16_t vlan;        /* of the Domain declarations, 1 to 4,094 */
+    uint8_t fan_in_limit; /* msrpMaxFanInPorts, 0 to 8; 0 means no limit */
+    struct srp_port_settings port[SRP_PORTS];
+};
+
+/* Puts a number into so many octets, most significant first. Gives the place behind it. */
+static inline uint8_t *srp_put_number(uint8_t *at, uint64_t number, unsigned octets) {
+    unsigned place;
+
+    for (place = octets; place > 0; place--) {
+        at[place - 1] = (uint8_t)(number & 0xFF);
+        number >>= 8;
+    }
+    return at + octets;
+}
+
+/* The number in so many octets. */
+static inline uint64_t srp_number_at(const uint8_t *at, unsigned octets) {
+    uint64_t number = 0;
+    unsigned place;
+
+    for (place = 0; place < octets; place++) number = number << 8 | at[place];
+    return number;
+}
+
+/* Whether the numbers of a port's settings fit their fields. */
+static inline int srp_port_fits(const struct srp_port_settings *port) {
+    return port->supports_a <= 1 && port->supports_b <= 1 && port->sends_twice <= 1 && port->limit_a >> 40 == 0 && port->limit_b >> 40 == 0;
+}
+
+static inline uint8_t *srp_put_port(uint8_t *at, const struct srp_port_settings *port) {
+    at = srp_put_number(at, (uint64_t)port->supports_a << 7 | (uint64_t)port->supports_b << 6 | (uint64_t)port->sends_twice << 5, 1);
+    at = srp_put_number(at, port->overhead, 1);
+    at = srp_put_number(at, port->largest_frame, 2);
+    at = srp_put_number(at, port->limit_a, 5);
+    at = srp_put_number(at, port->limit_b, 5);
+    at = srp_put_number(at, port->latency_a, 4);
+    return srp_put_number(at, port->latency_b, 4);
+}
+
+/* Whether the numbers of settings fit their fields. */
+static inline int srp_settings_fit(const struct srp_settings *settings) {
+    unsigned port;
+
+    if (settings->ports > SRP_PORTS || settings->priority_a > 7 || settings->priority_b > 7 || settings->leave_time > 16383 ||
+        settings->pruning > 1 || settings->vlan > 4095)
+        return 0;
+    for (port = 0; port < settings->ports; port++)
+        if (!srp_port_fits(&settings->port[port])) return 0;
+    return 1;
+}
+
+/*
+ * Lays settings out in a room of SRP_SETTINGS(SRP_PORTS) octets. Gives their length, for srp_start; 0, which start refuses with 11,
+ * where a number is above its field.
+ */
+static inline size_t srp_put_settings(uint8_t *room, const struct srp_settings *settings) {
+    uint8_t *at = room;
+    unsigned port;
+
+    if (!srp_settings_fit(settings)) return 0;
+    at = srp_put_number(at, settings->bridge_id, 8);
+    at = srp_put_number(at, (uint64_t)settings->ports << 20 | (uint64_t)settings->priority_a << 17 |
+                                (uint64_t)settings->priority_b << 14 | settings->leave_time, 3);
+    at = srp_put_number(at, (uint64_t)settings->pruning << 15 | settings->vlan, 2);
+    at = srp_put_number(at, settings->fan_in_limit, 1);
+    for (port = 0; port < settings->ports; port++) at = srp_put_port(at, &settings->port[port]);
+    return (size_t)(at - room);
+}
+
+/*
+ * What hardware is told, read from the table at its place. These functions test nothing and cost a few instructions each, where a
+ * report tests the whole table. The table is one that calls have left. Ports count from 1 and places from 0, below srp_held; past
+ * SRP_PORTS or SRP_STREAMS they give 0. All of it is what the last advance decided.
+ *
+ * The places are those of docs/TABLE.md: first those in the table, then those in a stream's record and in its result of a port.
+ */
+#define SRP_AT_CLOCK 190
+#define SRP_AT_HELD 194
+#define SRP_AT_TOTALS 195
+#define SRP_AT_TOTALS_NEXT 11
+#define SRP_AT_TOTALS_B 5
+#define SRP_AT_STREAMS 7475
+#define SRP_AT_STREAMS_NEXT 525
+#define SRP_AT_STREAM_ID 0
+#define SRP_AT_DESTINATION 8
+#define SRP_AT_VLAN 14
+#define SRP_AT_PRIORITY 20
+#define SRP_AT_RESULTS 365
+#define SRP_AT_RESULTS_NEXT 20
+#define SRP_AT_COLUMN 0
+#define SRP_AT_ENTRY 14
+
+/* The clock, in hundredths of a second. */
+static inline uint32_t srp_clock(const uint8_t *table) { return (uint32_t)srp_number_at(table + SRP_AT_CLOCK, 4); }
+
+/* The streams held. */
+static inline uint32_t srp_held(const uint8_t *table) { return table[SRP_AT_HELD]; }
+
+/* Bits per second that a class has reserved on a port. */
+static inline uint64_t srp_total_a(const uint8_t *table, uint32_t port) {
+    return port - 1 < SRP_PORTS ? srp_number_at(table + SRP_AT_TOTALS + SRP_AT_TOTALS_NEXT * (port - 1), 5) : 0;
+}
+
+static inline uint64_t srp_total_b(const uint8_t *table, uint32_t port) {
+    return port - 1 < SRP_PORTS ? srp_number_at(table + SRP_AT_TOTALS + SRP_AT_TOTALS_NEXT * (port - 1) + SRP_AT_TOTALS_B, 6) : 0;
+}
+
+/* A number of so many octets in the record of the stream at a place. */
+static inline uint64_t srp_of_stream(const uint8_t *table, uint32_t place, uint32_t at, unsigned octets) {
+    return place < SRP_STREAMS ? srp_number_at(table + SRP_AT_STREAMS + SRP_AT_STREAMS_NEXT * place + at, octets) : 0;
+}
+
+static inline uint64_t srp_stream_id(const uint8_t *table, uint32_t place) { return srp_of_stream(table, place, SRP_AT_STREAM_ID, 8); }
+
+/* Destination, VLAN and priority of a stream's frames; 0 where the last advance found no Talker. */
+static inline uint64_t srp_destination(const uint8_t *table, uint32_t place) {
+    return srp_of_stream(table, place, SRP_AT_DESTINATION, 6);
+}
+
+static inline uint32_t srp_vlan(const uint8_t *table, uint32_t place) { return (uint32_t)srp_of_stream(table, place, SRP_AT_VLAN, 2); }
+
+static inline uint32_t srp_priority(const uint8_t *table, uint32_t place) {
+    return (uint32_t)srp_of_stream(table, place, SRP_AT_PRIORITY, 1) >> 5;
+}
+
+/* An octet of a stream's result on a port. */
+static inline uint32_t srp_of_result(const uint8_t *table, uint32_t port, uint32_t place, uint32_t at) {
+    return port - 1 < SRP_PORTS ? (uint32_t)srp_of_stream(table, place, SRP_AT_RESULTS + SRP_AT_RESULTS_NEXT * (port - 1) + at, 1) : 0;
+}
+
+/* enum srp_column: the Talker declared on a port. */
+static inline uint32_t srp_column_at(const uint8_t *table, uint32_t port, uint32_t place) {
+    return srp_of_result(table, port, place, SRP_AT_COLUMN);
+}
+
+/* enum srp_entry: what a port does with the stream's frames. */
+static inline uint32_t srp_entry_at(const uint8_t *table, uint32_t port, uint32_t place) {
+    return srp_of_result(table, port, place, SRP_AT_ENTRY);
+}
 
 #ifdef __cplusplus
 }

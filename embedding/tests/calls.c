@@ -1,10 +1,11 @@
 /*
- * srpcalls through the boundary: reads the records of docs/SRPCALLS.md from standard input, makes each call by srp.h, and prints the
- * lines that srpcalls prints.
+ * srpcalls through the boundary: calls [FILE..] reads the records of docs/SRPCALLS.md, makes each call by srp.h, and prints the lines
+ * that srpcalls prints. Without FILE the records are on standard input; else each file is a script of its own, with its name in a line
+ * before its lines.
  */
 #include <inttypes.h>
+#include <setjmp.h>
 #include <stdio.h>
-#include <stdlib.h>
 #include <string.h>
 
 #include "srp.h"
@@ -14,24 +15,28 @@
 #define BUFFER 2048
 #define FILLING 0xA5
 #define LISTED 16
+#define PIECE 256
+#define MODULUS 65521
 
 static const char *const columns[] = {"none", "advertise", "failed"};
 static const char *const listeners[] = {"none", "asking", "ready", "readyfailed"};
 static const char *const entries[] = {"none", "filter", "forward"};
 
 static uint8_t room[ROOM];
-static size_t lent = SRP_TABLE;
+static size_t lent;
 static uint8_t octets[65535];
 static uint8_t buffer[BUFFER];
+static FILE *input;
+static jmp_buf stopped;
 
-/* A record that the input cuts, or no record, ends the run. */
+/* A record that the input cuts, or no record, ends the script. */
 static void stop(void) {
     puts("stop");
-    exit(0);
+    longjmp(stopped, 1);
 }
 
 static void fill(uint8_t *field, size_t length) {
-    if (fread(field, 1, length, stdin) != length) stop();
+    if (fread(field, 1, length, input) != length) stop();
 }
 
 /* A number of so many octets, most significant first. */
@@ -130,15 +135,28 @@ static void lend(void) {
     lent = length < ROOM ? length : ROOM;
 }
 
-/* Adler-32 (RFC 1950). */
-static void print_sum(void) {
-    uint32_t a = 1, b = 0;
+/* Adds a piece of the table to both sums of Adler-32 (RFC 1950). Most are zeros, which add to the second alone. */
+static void add_piece(size_t at, size_t length, uint32_t *a, uint32_t *b) {
+    static const uint8_t zeros[PIECE];
     size_t i;
 
-    for (i = 0; i < lent; i++) {
-        a = (a + room[i]) % 65521;
-        b = (b + a) % 65521;
+    if (memcmp(room + at, zeros, length) == 0) {
+        *b += (uint32_t)length * *a;
+    } else {
+        for (i = at; i < at + length; i++) {
+            *a += room[i];
+            *b += *a;
+        }
     }
+    *a %= MODULUS;
+    *b %= MODULUS;
+}
+
+static void print_sum(void) {
+    uint32_t a = 1, b = 0;
+    size_t at;
+
+    for (at = 0; at < lent; at += PIECE) add_piece(at, lent - at < PIECE ? lent - at : PIECE, &a, &b);
     printf("table %08" PRIx32 "\n", b << 16 | a);
 }
 
@@ -178,9 +196,31 @@ static void take(unsigned kind) {
     }
 }
 
-int main(void) {
+/* Makes the calls of a script, in a table of zeros. */
+static void run_script(FILE *script) {
     int kind;
 
-    while ((kind = getchar()) != EOF) take((unsigned)kind);
+    input = script;
+    memset(room, 0, sizeof room);
+    lent = SRP_TABLE;
+    if (setjmp(stopped) != 0) return;
+    while ((kind = getc(input)) != EOF) take((unsigned)kind);
+}
+
+int main(int words, char **names) {
+    FILE *script;
+    int i;
+
+    if (words < 2) run_script(stdin);
+    for (i = 1; i < words; i++) {
+        script = fopen(names[i], "rb");
+        if (script == NULL) {
+            perror(names[i]);
+            return 2;
+        }
+        printf("script %s\n", names[i]);
+        run_script(script);
+        fclose(script);
+    }
     return 0;
 }

@@ -1,15 +1,15 @@
-//! The bridge and its calls (01, "What the bridge does" and "Numbers given back"; 02, (vi) and (ix)).
-//!
-//! [`Bridge`] makes them on what a table holds, [`Table`] on the octets that a caller lends.
+//! The bridge and its calls (01, "What the bridge does" and "Numbers given back"; 02, (vi) and (ix)), on
+//! what a table holds. [`crate::lent`] makes them on the octets that a caller lends.
 
 use crate::declarations::{self, Declaration};
 use crate::mmrp;
+use crate::mrp::LONGEST_PDU;
 use crate::numbers::{self, Number};
-use crate::pdu::{self, ListenerType, StreamId, LONGEST_PDU};
+use crate::pdu::{self, ListenerType, StreamId};
 use crate::registrations::{Registrations, MOST_ADDRESSES, MOST_STREAMS};
-use crate::settings::{self, PerClass, Settings};
-use crate::settling::{self, Column, Entry, Settled, Step};
-use crate::table::{self, TABLE_LENGTH};
+use crate::settings::{PerClass, Settings};
+use crate::settled::{Column, Entry, Settled};
+use crate::settling::{self, Step};
 use crate::why::{self, LONGEST_LIST};
 
 /// What write gives back besides octets in the buffer.
@@ -36,7 +36,7 @@ pub struct ReportAnswer {
 
 impl ReportAnswer {
     /// A refusal gives its number, zero for every other part of the answer.
-    fn refused(number: Number) -> ReportAnswer {
+    pub fn refused(number: Number) -> ReportAnswer {
         ReportAnswer {
             number,
             count: 0,
@@ -82,7 +82,8 @@ pub struct Bridge {
 }
 
 impl Bridge {
-    fn started(settings: Settings) -> Bridge {
+    /// A bridge that holds nothing, at clock 0.
+    pub fn started(settings: Settings) -> Bridge {
         let port_count = settings.ports.len();
         Bridge {
             settings,
@@ -108,7 +109,7 @@ impl Bridge {
     }
 
     /// receive: 1, 2, the walk from the front, 8. Registers what the PDU asks for.
-    fn receive(&mut self, port: u32, pdu: &[u8]) -> Result<(), Number> {
+    pub fn receive(&mut self, port: u32, pdu: &[u8]) -> Result<(), Number> {
         let port = self.port(port)?;
         let pdu = pdu::read(pdu).map_err(|fault| fault.number)?;
         if self.registrations.streams_with(&pdu) > MOST_STREAMS {
@@ -120,7 +121,7 @@ impl Bridge {
 
     /// receive_mmrp: 1, 2, the walk from the front, 14. Registers the addresses that the frame asks
     /// for on that port.
-    fn receive_mmrp(&mut self, port: u32, pdu: &[u8]) -> Result<(), Number> {
+    pub fn receive_mmrp(&mut self, port: u32, pdu: &[u8]) -> Result<(), Number> {
         let port = self.port(port)?;
         let pdu = mmrp::read(pdu).map_err(|fault| fault.number)?;
         if self.registrations.addresses_with(port, &pdu) > MOST_ADDRESSES {
@@ -131,7 +132,7 @@ impl Bridge {
     }
 
     /// advance: 9. Sets the clock, removes what has left, drops unheld streams, decides.
-    fn advance(&mut self, time: u32) -> Result<(), Number> {
+    pub fn advance(&mut self, time: u32) -> Result<(), Number> {
         if time < self.clock {
             return Err(numbers::TIME);
         }
@@ -143,7 +144,7 @@ impl Bridge {
     }
 
     /// write: 1, 10, 13. Writes declarations of the port from that place on.
-    fn write(&self, port: u32, place: u32, buffer: &mut [u8]) -> Result<WriteAnswer, Number> {
+    pub fn write(&self, port: u32, place: u32, buffer: &mut [u8]) -> Result<WriteAnswer, Number> {
         let port = self.port(port)?;
         if buffer.len() < LONGEST_PDU {
             return Err(numbers::BUFFER);
@@ -159,7 +160,7 @@ impl Bridge {
     }
 
     /// report: 1, 13.
-    fn report(&self, port: u32, place: u32) -> Result<ReportAnswer, Number> {
+    pub fn report(&self, port: u32, place: u32) -> Result<ReportAnswer, Number> {
         let port = self.port(port)?;
         let place = place as usize;
         let count = self.registrations.streams.len();
@@ -187,7 +188,12 @@ impl Bridge {
     }
 
     /// why: 1, 15, 10. Lists the streams that leave too little for this one.
-    fn why(&self, port: u32, stream_id: StreamId, buffer: &mut [u8]) -> Result<WhyAnswer, Number> {
+    pub fn why(
+        &self,
+        port: u32,
+        stream_id: StreamId,
+        buffer: &mut [u8],
+    ) -> Result<WhyAnswer, Number> {
         let port = self.port(port)?;
         if !self.registrations.streams.contains_key(&stream_id) {
             return Err(numbers::STREAM);
@@ -206,127 +212,5 @@ impl Bridge {
             limit: why.limit.0,
             shortfall: why.shortfall.0,
         })
-    }
-}
-
-/// The room for a table, and how much of it calls are lent. Its octets are the whole state: an
-/// accepted call lays the bridge out, and the next one is made on the bridge taken from them.
-#[derive(Clone, Debug, PartialEq, Eq)]
-pub struct Table {
-    room: Vec<u8>,
-    /// At most the room.
-    lent_length: usize,
-    /// The bridge that the octets lent hold, taken from them whenever they change.
-    bridge: Option<Bridge>,
-}
-
-/// The room is 64 octets longer than the table.
-pub const ROOM_LENGTH: usize = TABLE_LENGTH + 64;
-
-impl Table {
-    /// A room of zeros, of which the table's length is lent.
-    pub fn zeros() -> Table {
-        Table { room: vec![0; ROOM_LENGTH], lent_length: TABLE_LENGTH, bridge: None }
-    }
-
-    /// From now on calls are lent the first so many octets of the room, at most the room.
-    pub fn lend(&mut self, length: usize) {
-        self.lent_length = length.min(ROOM_LENGTH);
-        self.bridge = table::decode(self.lent());
-    }
-
-    /// Stores an octet at a place of the room; past it nothing happens.
-    pub fn store(&mut self, place: usize, octet: u8) {
-        if let Some(stored) = self.room.get_mut(place) {
-            *stored = octet;
-            self.bridge = table::decode(self.lent());
-        }
-    }
-
-    /// The octets that calls are lent.
-    pub fn lent(&self) -> &[u8] {
-        &self.room[..self.lent_length]
-    }
-
-    /// The bridge held; none where the octets lent break a form rule (12).
-    pub fn bridge(&self) -> Option<&Bridge> {
-        self.bridge.as_ref()
-    }
-
-    fn lay_out(&mut self, bridge: &Bridge) {
-        self.room[..TABLE_LENGTH].copy_from_slice(&table::encode(bridge));
-        self.bridge = table::decode(self.lent());
-    }
-
-    /// A call that changes the bridge held; refused, it changes no octet.
-    fn change(&mut self, call: impl FnOnce(&mut Bridge) -> Result<(), Number>) -> Number {
-        let mut bridge = match self.bridge.clone() {
-            Some(bridge) => bridge,
-            None => return numbers::TABLE,
-        };
-        match call(&mut bridge) {
-            Ok(()) => {
-                self.lay_out(&bridge);
-                numbers::ACCEPTED
-            }
-            Err(number) => number,
-        }
-    }
-
-    /// start: a wrong table length (12), then the settings (11). Empties all and sets the clock
-    /// to 0, whatever octets the table had.
-    pub fn start(&mut self, settings: &[u8]) -> Number {
-        if self.lent_length != TABLE_LENGTH {
-            return numbers::TABLE;
-        }
-        match settings::read(settings) {
-            Some(settings) => {
-                self.lay_out(&Bridge::started(settings));
-                numbers::ACCEPTED
-            }
-            None => numbers::SETTINGS,
-        }
-    }
-
-    /// receive: 12, then as [`Bridge`] does.
-    pub fn receive(&mut self, port: u32, pdu: &[u8]) -> Number {
-        self.change(|bridge| bridge.receive(port, pdu))
-    }
-
-    /// receive_mmrp: 12, then as [`Bridge`] does.
-    pub fn receive_mmrp(&mut self, port: u32, pdu: &[u8]) -> Number {
-        self.change(|bridge| bridge.receive_mmrp(port, pdu))
-    }
-
-    /// advance: 12, then as [`Bridge`] does.
-    pub fn advance(&mut self, time: u32) -> Number {
-        self.change(|bridge| bridge.advance(time))
-    }
-
-    /// write: 12, then as [`Bridge`] does.
-    pub fn write(&self, port: u32, place: u32, buffer: &mut [u8]) -> WriteAnswer {
-        let bridge = self.bridge().ok_or(numbers::TABLE);
-        match bridge.and_then(|bridge| bridge.write(port, place, buffer)) {
-            Ok(answer) => answer,
-            Err(number) => WriteAnswer { number, ..WriteAnswer::default() },
-        }
-    }
-
-    /// report: 12, then as [`Bridge`] does.
-    pub fn report(&self, port: u32, place: u32) -> ReportAnswer {
-        let bridge = self.bridge().ok_or(numbers::TABLE);
-        match bridge.and_then(|bridge| bridge.report(port, place)) {
-            Ok(answer) => answer,
-            Err(number) => ReportAnswer::refused(number),
-        }
-    }
-
-    /// why: 12, then as [`Bridge`] does.
-    pub fn why(&self, port: u32, stream_id: StreamId, buffer: &mut [u8]) -> WhyAnswer {
-        let bridge = self.bridge().ok_or(numbers::TABLE);
-        match bridge.and_then(|bridge| bridge.why(port, stream_id, buffer)) {
-            Ok(answer) => answer,
-            Err(number) => WhyAnswer { number, ..WhyAnswer::default() },
-        }
     }
 }

@@ -2,7 +2,8 @@
 
 use std::fmt::Write;
 
-use crate::bridge::{ReportAnswer, Table, WhyAnswer};
+use crate::bridge::{ReportAnswer, WhyAnswer, WriteAnswer};
+use crate::lent::Table;
 use crate::pdu::StreamId;
 use crate::records::{Call, Input, Unwatched, Watcher};
 use crate::why::LISTED_LENGTH;
@@ -115,8 +116,7 @@ fn make(table: &mut Table, record: &Record, watcher: &mut dyn Watcher) -> String
             let mut buffer = vec![FILLING; buffer_length];
             let answer = table.write(port, place, &mut buffer);
             watcher.called(&Call::Write { port, place, answer }, answer.number, table);
-            let (number, length, next) = (answer.number, answer.length, answer.next_place);
-            with_buffer(&format!("write {number} {length} {next}"), &buffer, length)
+            write_line(answer, &buffer)
         }
         Record::Report { port, place } => {
             let answer = table.report(port, place);
@@ -128,10 +128,7 @@ fn make(table: &mut Table, record: &Record, watcher: &mut dyn Watcher) -> String
             let answer = table.why(port, stream_id, &mut buffer);
             let call = Call::Why { port, stream_id, buffer_length, answer };
             watcher.called(&call, answer.number, table);
-            let step = answer.step.map_or("none", words::step);
-            let WhyAnswer { number, count, limit, shortfall, .. } = answer;
-            let words = format!("why {number} {step} {count} {limit} {shortfall}");
-            with_buffer(&words, &buffer, count * LISTED_LENGTH)
+            why_line(answer, &buffer)
         }
         Record::Store { place, octet } => {
             table.store(place, octet);
@@ -145,6 +142,18 @@ fn make(table: &mut Table, record: &Record, watcher: &mut dyn Watcher) -> String
         Record::Sum => format!("table {:08x}\n", adler_32(table.lent())),
         Record::Octets => with_octets("octets", table.lent()),
     }
+}
+
+fn write_line(answer: WriteAnswer, buffer: &[u8]) -> String {
+    let WriteAnswer { number, length, next_place } = answer;
+    with_buffer(&format!("write {number} {length} {next_place}"), buffer, length)
+}
+
+fn why_line(answer: WhyAnswer, buffer: &[u8]) -> String {
+    let step = answer.step.map_or("none", words::step);
+    let WhyAnswer { number, count, limit, shortfall, .. } = answer;
+    let words = format!("why {number} {step} {count} {limit} {shortfall}");
+    with_buffer(&words, buffer, count * LISTED_LENGTH)
 }
 
 /// Adler-32 (RFC 1950): the sum of the octets and one, and the sum of these sums, both modulo

@@ -2,11 +2,11 @@
 //! 802.1Qat clause 35.2.2).
 
 use crate::domain;
+use crate::mrp::{END_MARK, LONGEST_PDU};
 use crate::packing;
-use crate::pdu::{AttributeType, Domain, ListenerType, StreamId, Talker};
-use crate::pdu::{ATTRIBUTE_TYPES, END_MARK, LONGEST_PDU};
+use crate::pdu::{AttributeType, Domain, ListenerType, StreamId, Talker, ATTRIBUTE_TYPES};
 use crate::settings::{Class, Settings};
-use crate::settling::{Column, Settled};
+use crate::settled::{Column, Settled};
 
 /// A declaration of a port.
 #[derive(Clone, Copy, Debug, PartialEq, Eq)]

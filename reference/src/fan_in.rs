@@ -3,11 +3,7 @@
 use std::collections::{BTreeMap, BTreeSet};
 
 use crate::pdu::{Parameters, StreamId};
-use crate::registrations::Registrations;
-use crate::settling::talker_port;
-
-/// The greatest msrpMaxFanInPorts.
-pub const GREATEST_LIMIT: u8 = 8;
+use crate::registrations::{talker_port, Registrations};
 
 /// What the Talkers of all streams have in common, each at its own Talker port t.
 #[derive(Clone, Debug, PartialEq, Eq)]

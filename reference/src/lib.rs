@@ -5,21 +5,25 @@
 //! 35.2.4.2 are those of IEEE 802.1Qat-2010. The program is meant to be compared with another implementation, so it is
 //! written for the reader and not for speed.
 //!
-//! The order of the modules follows a frame through the bridge:
+//! The order of the modules follows a frame through the bridge, and none uses one that uses it (`tests/files.rs`):
 //!
 //! * [`numbers`]: the numbers that calls give back;
+//! * [`octets`]: numbers in octets;
 //! * [`settings`]: what a bridge is started with;
+//! * [`mrp`]: reading MRPDUs, what both protocols have in common;
 //! * [`pdu`]: reading MSRPDUs;
 //! * [`mmrp`]: reading MMRP frames;
 //! * [`domain`]: the SRP domain, and where it ends;
 //! * [`registrations`]: what each port has registered;
 //! * [`fan_in`]: the ports that bring streams in, and addresses that streams share;
+//! * [`settled`]: what an advance takes down;
 //! * [`settling`]: attribute propagation and reserved bandwidth;
 //! * [`packing`]: which vectors Listener declarations stand in;
 //! * [`declarations`]: writing MSRPDUs;
 //! * [`why`]: why a stream has its column on a port;
-//! * [`bridge`]: the calls;
+//! * [`bridge`]: the calls, on what a table holds;
 //! * [`table`]: the octets of the lent table;
+//! * [`lent`]: the calls, on the octets of a lent table;
 //! * [`words`]: the words that programs print;
 //! * [`records`]: taking records from an input, and watching the calls they make;
 //! * [`sheet`], [`calls`]: the two programs;
@@ -38,8 +42,11 @@ pub mod fan_in;
 pub mod files;
 pub mod frame;
 pub mod generator;
+pub mod lent;
 pub mod mmrp;
+pub mod mrp;
 pub mod numbers;
+pub mod octets;
 pub mod packing;
 pub mod pdu;
 pub mod random;
@@ -48,6 +55,7 @@ pub mod refusals;
 pub mod registrations;
 pub mod script;
 pub mod settings;
+pub mod settled;
 pub mod settling;
 pub mod sheet;
 pub mod stored;

@@ -6,6 +6,9 @@
 //! * `records sheet`, `records calls`: the records of a text on standard input, as docs/TEXT.md
 //!   tells, with its warnings said; with `quiet` they aren't, and with `long` a sheet may be longer
 //!   than srpsheet reads;
+//! * `index sheet`, `index calls`: the names of a text on standard input, and the line that each
+//!   record was made of, as `Script::index` tells;
+//! * `rule`: the rule that settings on standard input break, where they are refused;
 //! * `refusals sheet TEXT`, `refusals calls TEXT`: copies what the program printed of a text from
 //!   standard input, and tells on standard error the line of each refused call;
 //! * `written`: the declarations of PDUs in hex on standard input, as `written` tells;
@@ -21,13 +24,15 @@ use std::process::ExitCode;
 use reference::coverage::Coverage;
 use reference::refusals::Refusals;
 use reference::script::{self, Program};
-use reference::{calls, files, generator, sheet, written};
+use reference::{calls, files, generator, settings, sheet, written};
 
 const USAGE: &str = "\
 usage: reference
        reference sheet
        reference calls
        reference records sheet|calls [quiet] [long]
+       reference index sheet|calls
+       reference rule
        reference refusals sheet|calls TEXT
        reference written
        reference make sheet SEED
@@ -44,6 +49,8 @@ enum Task {
     Sheet,
     Calls,
     Records(Program, Options),
+    Index(Program),
+    Rule,
     Refusals(Program, PathBuf),
     Written,
     MakeSheet(u64),
@@ -88,6 +95,8 @@ fn task(arguments: &[&str]) -> Option<Task> {
         ["sheet"] => Some(Task::Sheet),
         ["calls"] => Some(Task::Calls),
         ["records", kind, rest @ ..] => Some(Task::Records(program(kind)?, options(rest)?)),
+        ["index", kind] => Some(Task::Index(program(kind)?)),
+        ["rule"] => Some(Task::Rule),
         ["refusals", kind, text] => Some(Task::Refusals(program(kind)?, text.into())),
         ["written"] => Some(Task::Written),
         ["make", "sheet", seed] => Some(Task::MakeSheet(number(seed)?)),
@@ -125,6 +134,11 @@ fn records(octets: &[u8], program: Program, options: &Options) -> Result<Vec<u8>
     Ok(script.octets)
 }
 
+/// What else is shown of a text.
+fn index(octets: &[u8], program: Program) -> Result<String, String> {
+    Ok(script::read(&script::text(octets)?, program)?.index())
+}
+
 /// Says what is wrong with an input.
 fn said(fault: &str) -> ExitCode {
     eprintln!("{fault}");
@@ -154,6 +168,13 @@ fn run(task: Task) -> std::io::Result<ExitCode> {
             Ok(octets) => octets,
             Err(fault) => return Ok(said(&fault)),
         },
+        Task::Index(program) => match index(&standard_input()?, program) {
+            Ok(lines) => lines.into_bytes(),
+            Err(fault) => return Ok(said(&fault)),
+        },
+        Task::Rule => settings::checked(&standard_input()?)
+            .map_or_else(|rule| format!("{rule}\n"), |_| String::new())
+            .into_bytes(),
         Task::Refusals(program, text) => return refusals(program, &text),
         Task::Written => match written::taken_apart(&String::from_utf8_lossy(&standard_input()?)) {
             Ok(lines) => lines.into_bytes(),

@@ -1,13 +1,13 @@
 //! Reading MMRP frames (02, (vi); 802.1Q clauses 10.8 and 10.12).
 //!
-//! A Message has no list length: its list ends at its EndMark. Vectors are those of [`crate::pdu`],
+//! A Message has no list length: its list ends at its EndMark. Vectors are those of [`crate::mrp`],
 //! without FourPackedEvents.
 
 use std::collections::BTreeSet;
 
+use crate::mrp::{self, Event, Fault, Taken};
 use crate::numbers;
-use crate::pdu::{self, number_of, Event, Fault, Taken};
-use crate::registrations::is_join;
+use crate::octets::number_of;
 
 /// A MAC address, 48 bits.
 pub type Address = u64;
@@ -57,14 +57,14 @@ pub struct Walked {
 }
 
 /// A vector of a known type.
-pub type VectorRead = pdu::VectorRead<Vector, MmrpType>;
+pub type VectorRead = mrp::VectorRead<Vector, MmrpType>;
 
 /// A Message: of a known type, or of one above 2 with a higher version, whose vectors are walked over
 /// and dropped.
-pub type Message = pdu::Message<Vector, MmrpType, Vec<Walked>>;
+pub type Message = mrp::Message<Vector, MmrpType, Vec<Walked>>;
 
 /// A PDU, its checks passed.
-pub type Pdu = pdu::Pdu<Vector, MmrpType, Vec<Walked>>;
+pub type Pdu = mrp::Pdu<Vector, MmrpType, Vec<Walked>>;
 
 impl Pdu {
     /// The addresses of the PDU with their events.
@@ -75,14 +75,14 @@ impl Pdu {
 
     /// The different addresses that it joins.
     pub fn addresses_joined(&self) -> BTreeSet<Address> {
-        let joins = self.addresses().filter(|(event, _)| is_join(*event));
+        let joins = self.addresses().filter(|(event, _)| event.is_join());
         joins.map(|(_, address)| address).collect()
     }
 }
 
 /// Reads an MMRP frame.
 pub fn read(pdu: &[u8]) -> Result<Pdu, Fault<MmrpType>> {
-    pdu::walk(pdu, read_message)
+    mrp::walk(pdu, read_message)
 }
 
 /// Reads the Message that octets begin with. Checks: two header octets (3), type (4), length (5,
@@ -97,7 +97,7 @@ fn read_message(version: u8, octets: &[u8]) -> Taken<Message, MmrpType> {
         2 => MmrpType::Mac,
         3..=255 if version > 0 => {
             let (walked, length) =
-                pdu::vectors_to_end_mark(list, |rest, _| walk_vector(attribute_length, rest))?;
+                mrp::vectors_to_end_mark(list, |rest, _| walk_vector(attribute_length, rest))?;
             return Ok((Message::Skipped(walked), 2 + length));
         }
         _ => return Err(numbers::ATTRIBUTE_TYPE.into()),
@@ -106,15 +106,15 @@ fn read_message(version: u8, octets: &[u8]) -> Taken<Message, MmrpType> {
         return Err(numbers::ATTRIBUTE_LENGTH.into());
     }
     let (vectors, length) =
-        pdu::known_vectors(list, |rest| read_vector(attribute_type, version, rest))?;
+        mrp::known_vectors(list, |rest| read_vector(attribute_type, version, rest))?;
     Ok((Message::Known(vectors), 2 + length))
 }
 
 /// Walks over a vector of an unknown type: 2 + AttributeLength + a third of its values, rounded up.
 /// Whether it fits (3) is the only check.
 fn walk_vector(attribute_length: usize, octets: &[u8]) -> Taken<Walked, MmrpType> {
-    let (leave_all_event, number_of_values) = pdu::vector_header(octets);
-    let length = 2 + attribute_length + pdu::three_packed_octets(number_of_values);
+    let (leave_all_event, number_of_values) = mrp::vector_header(octets);
+    let length = 2 + attribute_length + mrp::three_packed_octets(number_of_values);
     if octets.len() < length {
         return Err(numbers::RUNS_PAST.into());
     }
@@ -130,7 +130,7 @@ fn read_vector(
     octets: &[u8],
 ) -> Taken<VectorRead, MmrpType> {
     let first_value_length = attribute_type.first_value_length();
-    let parts = pdu::vector_parts(version, first_value_length, false, octets)?;
+    let parts = mrp::vector_parts(version, first_value_length, false, octets)?;
     if parts.strange {
         return Ok((VectorRead::PassedOver(parts.passed_over(attribute_type)), parts.length));
     }

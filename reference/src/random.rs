@@ -60,6 +60,12 @@ impl Random {
         (0..length).map(|_| self.octet()).collect()
     }
 
+    /// At least one octet and at most so many.
+    pub fn octets_up_to(&mut self, most: u64) -> Vec<u8> {
+        let length = self.between(1, most) as usize;
+        self.octets(length)
+    }
+
     /// Puts things into a random order.
     pub fn shuffle<T>(&mut self, things: &mut [T]) {
         for place in (1..things.len()).rev() {

@@ -1,8 +1,10 @@
 //! Taking records from an input, and watching the calls they make.
 
-use crate::bridge::{ReportAnswer, Table, WhyAnswer, WriteAnswer};
+use crate::bridge::{ReportAnswer, WhyAnswer, WriteAnswer};
+use crate::lent::Table;
 use crate::numbers::Number;
-use crate::pdu::{number_of, StreamId};
+use crate::octets::number_of;
+use crate::pdu::StreamId;
 
 /// An input that is taken from the front. Numbers are most significant octet first. What would
 /// run past the end isn't given; the record it belongs to is cut.

@@ -5,20 +5,20 @@
 
 use std::io::{self, BufRead, Write};
 
-use crate::bridge::Table;
+use crate::lent::Table;
 use crate::numbers::{self, Number};
 use crate::records::{Call, Watcher};
 use crate::script::{self, Program};
-use crate::{calls, sheet};
+use crate::{calls, settings, sheet};
 
 /// The most letters that are shown of a line.
 const SHOWN: usize = 100;
 
-/// Where each refused call's record begins, and its number.
+/// Where each refused call's record begins, its number, and that in words.
 #[derive(Default)]
 struct Refused {
     begin: usize,
-    calls: Vec<(usize, Number)>,
+    calls: Vec<(usize, Number, String)>,
 }
 
 impl Watcher for Refused {
@@ -26,10 +26,20 @@ impl Watcher for Refused {
         self.begin = place;
     }
 
-    fn called(&mut self, _: &Call, number: Number, _: &Table) {
+    fn called(&mut self, call: &Call, number: Number, _: &Table) {
         if number != numbers::ACCEPTED {
-            self.calls.push((self.begin, number));
+            self.calls.push((self.begin, number, in_words(call, number)));
         }
+    }
+}
+
+/// A refusal in words; that of settings is the rule that they break.
+fn in_words(call: &Call, number: Number) -> String {
+    match call {
+        Call::Start(octets) if number == numbers::SETTINGS => {
+            settings::checked(octets).err().unwrap_or_default()
+        }
+        _ => numbers::in_words(number).to_string(),
     }
 }
 
@@ -54,12 +64,12 @@ impl Refusals {
             Some(line) => shown(line, lines[line - 1].trim()),
             None => "the text makes no record".to_string(),
         };
-        let told = |(begin, number): &(usize, Number)| {
-            (*number, format!("{}: {}", line_at(*begin), numbers::in_words(*number)))
+        let told = |(begin, number, words): &(usize, Number, String)| {
+            (*number, format!("{}: {words}", line_at(*begin)))
         };
         let told: Vec<(Number, String)> = refused.calls.iter().map(told).collect();
         let stop = match (program, refused.calls.first()) {
-            (Program::Sheet, Some((_, numbers::SETTINGS))) => told[0].1.clone(),
+            (Program::Sheet, Some((_, numbers::SETTINGS, _))) => told[0].1.clone(),
             _ => format!("{}: no record begins so, or it is cut", line_at(refused.begin)),
         };
         Ok(Refusals { program, told: told.into_iter(), stop })

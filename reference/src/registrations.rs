@@ -4,7 +4,8 @@ use std::collections::{BTreeMap, BTreeSet};
 
 use crate::domain::{self, DomainRegistration, Domains, SLOTS};
 use crate::mmrp::{self, Address, MmrpType};
-use crate::pdu::{AttributeType, Domain, Event, Failure, ListenerType, Parameters, Pdu};
+use crate::mrp::Event;
+use crate::pdu::{AttributeType, Domain, Failure, ListenerType, Parameters, Pdu};
 use crate::pdu::{StreamId, Talker, Value, Vector};
 
 /// The most streams that a bridge holds.
@@ -55,6 +56,18 @@ pub struct OnPort {
     pub listener: Option<ListenerRegistration>,
 }
 
+impl OnPort {
+    pub fn listener_type(&self) -> Option<ListenerType> {
+        self.listener.as_ref().map(|listener| listener.listener_type)
+    }
+}
+
+/// The Talker port of a stream: the lowest port with a Talker registration. With it, what is
+/// registered there.
+pub fn talker_port(ports: &[OnPort]) -> Option<(usize, &TalkerRegistration)> {
+    (1..).zip(ports).find_map(|(port, on_port)| Some((port, on_port.talker.as_ref()?)))
+}
+
 /// The addresses that a port has registered, each with the clock at which leaving began.
 pub type Addresses = BTreeMap<Address, Option<u32>>;
 
@@ -69,23 +82,15 @@ pub struct Registrations {
     pub addresses: Vec<Addresses>,
 }
 
-/// Whether an event registers.
-pub fn is_join(event: Event) -> bool {
-    match event {
-        Event::New | Event::JoinIn | Event::JoinMt => true,
-        Event::In | Event::Mt | Event::Lv => false,
-    }
-}
-
 /// The different streams that a PDU joins: those with a join event, for Listener without Ignore.
 pub fn streams_joined(pdu: &Pdu) -> BTreeSet<StreamId> {
     let mut joined = BTreeSet::new();
     for (event, value) in pdu.vectors().flat_map(|vector| &vector.values) {
         match value {
-            Value::Talker(talker) if is_join(*event) => {
+            Value::Talker(talker) if event.is_join() => {
                 joined.insert(talker.stream_id);
             }
-            Value::Listener(stream_id, Some(_)) if is_join(*event) => {
+            Value::Listener(stream_id, Some(_)) if event.is_join() => {
                 joined.insert(*stream_id);
             }
             _ => {}

@@ -36,6 +36,8 @@ pub struct Script {
     unsettled: Option<usize>,
     /// The line of settings that no start follows.
     unstarted: Option<usize>,
+    /// The names of streams.
+    streams: Vec<(String, u64)>,
 }
 
 impl Script {
@@ -43,6 +45,14 @@ impl Script {
     pub fn line_at(&self, place: usize) -> Option<usize> {
         let later = self.begins.partition_point(|(begin, _)| *begin <= place);
         self.begins[..later].last().map(|(_, line)| *line)
+    }
+
+    /// What else a program over texts shows: a line `stream ID NAME` for each name of a stream, and
+    /// a line `octet PLACE LINE` for each line of the text that made octets, with where they begin.
+    pub fn index(&self) -> String {
+        let streams = self.streams.iter().map(|(name, id)| format!("stream {id:016x} {name}\n"));
+        let octets = self.begins.iter().map(|(place, line)| format!("octet {place} {line}\n"));
+        streams.chain(octets).collect()
     }
 
     /// What the writer of the text should know.
@@ -96,6 +106,7 @@ pub fn read(text: &str, program: Program) -> Result<Script, String> {
         done.map_err(|fault| format!("line {}: {fault}", place + 1))?;
     }
     reader.settings_of_a_sheet();
+    reader.script.streams = names.streams();
     Ok(reader.script)
 }
 
@@ -175,6 +186,13 @@ impl Reader {
             }
             ("sum", Program::Calls) => Ok(vec![0x60]),
             ("table", Program::Calls) => Ok(vec![0x61]),
+            (
+                "start" | "mmrp" | "write" | "report" | "why" | "store" | "lend" | "sum" | "table",
+                Program::Sheet,
+            ) => Err(format!(
+                "{first} stands in texts of calls alone, which have a start behind their settings: \
+                 use ./calls, or ./srp sheet for the sheet of one"
+            )),
             _ => Err(unknown(first)),
         }
     }
@@ -216,7 +234,7 @@ fn counted(first: u8, octets: &[u8]) -> Result<Vec<u8>, String> {
 fn write(words: &mut Words) -> Result<Vec<u8>, String> {
     let port: u8 = words.number(PORT)?;
     let (mut from, mut buffer) = (0_u16, 1_500_u16);
-    while let Some(word) = words.next() {
+    while let Some(word) = words.next_option()? {
         match word {
             "from" => from = words.number(PLACE)?,
             "buffer" => buffer = words.number(LENGTH)?,
@@ -231,7 +249,7 @@ fn write(words: &mut Words) -> Result<Vec<u8>, String> {
 fn report(words: &mut Words) -> Result<Vec<u8>, String> {
     let port: u8 = words.number(PORT)?;
     let mut place = 0_u16;
-    while let Some(word) = words.next() {
+    while let Some(word) = words.next_option()? {
         match word {
             "place" => place = words.number(PLACE)?,
             _ => return Err(unknown(word)),
@@ -244,7 +262,7 @@ fn why(words: &mut Words) -> Result<Vec<u8>, String> {
     let port: u8 = words.number(PORT)?;
     let mut rest = words.stream()?.to_be_bytes().to_vec();
     let mut buffer = LONGEST_LIST as u16;
-    while let Some(word) = words.next() {
+    while let Some(word) = words.next_option()? {
         match word {
             "buffer" => buffer = words.number(LENGTH)?,
             _ => return Err(unknown(word)),

@@ -1,7 +1,5 @@
 //! Settings (01, "Numbers given back", the paragraph on settings; 02, (ii), (x) and (vi)).
 
-use crate::fan_in::GREATEST_LIMIT;
-
 /// The two stream reservation classes. Each has its own priority, limit, latency and interval.
 #[derive(Clone, Copy, Debug, PartialEq, Eq, PartialOrd, Ord)]
 pub enum Class {
@@ -85,6 +83,8 @@ pub const HEAD_LENGTH: usize = 14;
 pub const PORT_LENGTH: usize = 22;
 /// The greatest VLAN.
 pub const GREATEST_VLAN: u16 = 4_094;
+/// The greatest msrpMaxFanInPorts.
+pub const GREATEST_FAN_IN: u8 = 8;
 
 /// Length of settings with that ports field: 14 + 22 x ports.
 pub fn length(ports_field: usize) -> usize {
@@ -120,50 +120,83 @@ impl Fields<'_> {
     }
 }
 
-/// Reads settings; nothing where they are not as laid out (number 11): another length than
-/// 14 + 22 x ports, ports 0 or above 8, equal priorities, leave time 0, a VLAN of 0 or 4,095, a limit
-/// of inbound ports above 8, or a zero bit set, of the three before the VLAN or of a port's five.
+/// Reads settings; nothing where they are not as laid out (number 11).
 pub fn read(octets: &[u8]) -> Option<Settings> {
-    let port_count = ports_field(octets)?;
-    if port_count == 0 || port_count > MOST_PORTS || octets.len() != length(port_count) {
-        return None;
+    checked(octets).ok()
+}
+
+/// The number of ports of settings that are as long as it says; or the rule that they break.
+fn checked_ports(octets: &[u8]) -> Result<usize, String> {
+    let have = octets.len();
+    let ports = ports_field(octets).ok_or_else(|| {
+        format!("the settings have {have} octets, and end before their ports field")
+    })?;
+    if ports == 0 || ports > MOST_PORTS {
+        return Err(format!(
+            "a bridge has 1 to {MOST_PORTS} ports, and these settings say {ports}"
+        ));
     }
+    let wanted = length(ports);
+    if have == wanted {
+        return Ok(ports);
+    }
+    Err(format!("settings of {ports} ports have {wanted} octets, and these have {have}"))
+}
+
+/// Reads settings; or the rule of docs/TABLE.md that they break (number 11).
+pub fn checked(octets: &[u8]) -> Result<Settings, String> {
+    let port_count = checked_ports(octets)?;
     let mut fields = Fields { octets, bits_taken: 0 };
     let bridge_id = fields.take(64);
     fields.take(4); // the ports field, read above
     let priority = PerClass { a: fields.take(3) as u8, b: fields.take(3) as u8 };
     let leave_time = fields.take(14) as u32;
-    if priority.a == priority.b || leave_time == 0 {
-        return None;
+    if priority.a == priority.b {
+        return Err(format!(
+            "the classes have different priorities, and both of these are {}",
+            priority.a
+        ));
+    }
+    if leave_time == 0 {
+        return Err("the leave time is 1 or more, and this one is 0".to_string());
     }
     let pruning = fields.take_flag();
     let zero = fields.take(3);
     let vlan = fields.take(12) as u16;
-    if zero != 0 || vlan == 0 || vlan > GREATEST_VLAN {
-        return None;
+    if zero != 0 {
+        return Err("the three bits above the VLAN are zero, and one of these is set".to_string());
+    }
+    if vlan == 0 || vlan > GREATEST_VLAN {
+        return Err(format!("the bridge's vlan is 1 to {GREATEST_VLAN}, and this one is {vlan}"));
     }
     let fan_in_limit = fields.take(8) as u8;
-    if fan_in_limit > GREATEST_LIMIT {
-        return None;
+    if fan_in_limit > GREATEST_FAN_IN {
+        return Err(format!(
+            "the limit of inbound ports is 0 to {GREATEST_FAN_IN}, and this one is {fan_in_limit}"
+        ));
     }
     let mut ports = Vec::new();
-    for _ in 0..port_count {
-        let supports = PerClass { a: fields.take_flag(), b: fields.take_flag() };
-        let sends_twice = fields.take_flag();
-        let zero = fields.take(5);
-        if zero != 0 {
-            return None;
-        }
-        ports.push(PortSettings {
-            supports,
-            sends_twice,
-            overhead: fields.take(8) as u8,
-            largest_frame: fields.take(16) as u16,
-            limit: PerClass { a: fields.take(40), b: fields.take(40) },
-            latency: PerClass { a: fields.take(32) as u32, b: fields.take(32) as u32 },
-        });
+    for port in 1..=port_count {
+        ports.push(read_port(&mut fields, port)?);
     }
-    Some(Settings { bridge_id, priority, leave_time, pruning, vlan, fan_in_limit, ports })
+    Ok(Settings { bridge_id, priority, leave_time, pruning, vlan, fan_in_limit, ports })
+}
+
+/// Reads the settings of one port; or the rule that they break.
+fn read_port(fields: &mut Fields, port: usize) -> Result<PortSettings, String> {
+    let supports = PerClass { a: fields.take_flag(), b: fields.take_flag() };
+    let sends_twice = fields.take_flag();
+    if fields.take(5) != 0 {
+        return Err(format!("the last five bits of port {port}'s flags are zero, and one is set"));
+    }
+    Ok(PortSettings {
+        supports,
+        sends_twice,
+        overhead: fields.take(8) as u8,
+        largest_frame: fields.take(16) as u16,
+        limit: PerClass { a: fields.take(40), b: fields.take(40) },
+        latency: PerClass { a: fields.take(32) as u32, b: fields.take(32) as u32 },
+    })
 }
 
 /// Puts fields into octets, most significant bit first.

@@ -6,8 +6,9 @@ use std::collections::BTreeMap;
 use crate::domain;
 use crate::fan_in::FanIn;
 use crate::pdu::{Failure, ListenerType, Parameters, StreamId};
-use crate::registrations::{OnPort, Registrations, TalkerRegistration};
+use crate::registrations::{talker_port, OnPort, Registrations, TalkerRegistration};
 use crate::settings::{Class, PerClass, PortSettings, Settings, CLASSES};
+use crate::settled::{Column, Entry, Settled, SettledOnPort, SettledStream};
 
 /// A demand in octets per class measurement interval.
 #[derive(Clone, Copy, Debug, PartialEq, Eq, PartialOrd, Ord)]
@@ -58,14 +59,6 @@ pub enum Step {
     I,
 }
 
-/// The Talker column of a stream on a port.
-#[derive(Clone, Copy, Debug, PartialEq, Eq)]
-pub enum Column {
-    None,
-    Advertise,
-    Failed(Failure),
-}
-
 /// A column, the step that gave it, and for steps h and i what was compared.
 #[derive(Clone, Copy, Debug, PartialEq, Eq)]
 pub struct Decision {
@@ -79,80 +72,6 @@ pub struct Decision {
 pub struct Compared {
     pub demand: BitsPerSecond,
     pub left: BitsPerSecond,
-}
-
-/// The entry of Table 35-12.
-#[derive(Clone, Copy, Debug, PartialEq, Eq, PartialOrd, Ord)]
-pub enum Entry {
-    None,
-    Filter,
-    Forward,
-}
-
-/// What an advance has taken down of one stream on one port.
-#[derive(Clone, Debug, PartialEq, Eq)]
-pub struct SettledOnPort {
-    pub column: Column,
-    /// 0 where the column is none.
-    pub latency_out: u32,
-    /// The Listener declared on the port, if any.
-    pub listener: Option<ListenerType>,
-    pub entry: Entry,
-    /// The whole second of the advance that first made the entry, while there is one.
-    pub entry_since: Option<u32>,
-}
-
-impl SettledOnPort {
-    /// What a stream joined since the last advance shows.
-    pub const NONE: SettledOnPort = SettledOnPort {
-        column: Column::None,
-        latency_out: 0,
-        listener: None,
-        entry: Entry::None,
-        entry_since: None,
-    };
-}
-
-/// What an advance has taken down of one stream.
-#[derive(Clone, Debug, PartialEq, Eq)]
-pub struct SettledStream {
-    /// Those of the Talker port; zeros where there was no Talker.
-    pub parameters: Parameters,
-    /// One part per port, port 1 first.
-    pub ports: Vec<SettledOnPort>,
-}
-
-impl SettledStream {
-    /// What a stream joined since the last advance shows.
-    pub fn none(port_count: usize) -> SettledStream {
-        SettledStream {
-            parameters: Parameters::default(),
-            ports: vec![SettledOnPort::NONE; port_count],
-        }
-    }
-}
-
-/// The settled state: what the last advance has taken down. Reports and written declarations
-/// show this.
-#[derive(Clone, Debug, PartialEq, Eq)]
-pub struct Settled {
-    /// The streams held; one joined since may be left out.
-    pub streams: BTreeMap<StreamId, SettledStream>,
-    /// The reserved sums of each port, port 1 first.
-    pub totals: Vec<PerClass<u64>>,
-    /// The boundary flags of each port, port 1 first.
-    pub boundaries: Vec<PerClass<bool>>,
-}
-
-impl Settled {
-    /// The state that start leaves.
-    pub fn empty(port_count: usize) -> Settled {
-        Settled {
-            streams: BTreeMap::new(),
-            totals: vec![PerClass::default(); port_count],
-            boundaries: vec![PerClass::default(); port_count],
-        }
-    }
 }
 
 /// What the columns are decided by.
@@ -173,12 +92,6 @@ impl<'a> Facts<'a> {
     ) -> Facts<'a> {
         Facts { settings, registrations, boundaries, fan_in: FanIn::of(registrations) }
     }
-}
-
-/// The Talker port of a stream: the lowest port with a Talker registration. With it, what is
-/// registered there.
-pub fn talker_port(ports: &[OnPort]) -> Option<(usize, &TalkerRegistration)> {
-    (1..).zip(ports).find_map(|(port, on_port)| Some((port, on_port.talker.as_ref()?)))
 }
 
 /// The steps up to g; nothing where the stream reaches step h.
@@ -277,10 +190,6 @@ fn is_ready(listener: Option<ListenerType>) -> bool {
         Some(ListenerType::Ready | ListenerType::ReadyFailed) => true,
         Some(ListenerType::AskingFailed) | None => false,
     }
-}
-
-pub fn listener_type(on_port: &OnPort) -> Option<ListenerType> {
-    on_port.listener.as_ref().map(|listener| listener.listener_type)
 }
 
 /// Something for each stream on each port, port 1 first.
@@ -391,7 +300,7 @@ fn admit(
         return Decision { step: Step::H, column: Column::Failed(failure), compared };
     }
     // i. Advertise. Only those with Listener Ready or Ready Failed reserve.
-    if is_ready(listener_type(&ports[port - 1])) {
+    if is_ready(ports[port - 1].listener_type()) {
         *reserved += demand.0;
     }
     Decision { step: Step::I, column: Column::Advertise, compared }
@@ -497,7 +406,7 @@ fn settle_stream(
     let mut merged = None;
     for (port, on_port) in (1..).zip(ports) {
         let (column, entry_since) = on_each(port);
-        let listener = listener_type(on_port);
+        let listener = on_port.listener_type();
         merged = merge(merged, passed_on(column, listener));
         let latency_out = match (column, talker) {
             (Column::Advertise | Column::Failed(_), Some((_, talker))) => {

@@ -2,7 +2,7 @@
 
 use std::fmt::Write;
 
-use crate::bridge::Table;
+use crate::lent::Table;
 use crate::numbers;
 use crate::records::{Call, Input, Unwatched, Watcher};
 use crate::settings;

@@ -7,7 +7,8 @@ use crate::domain::SLOTS;
 use crate::random::Random;
 use crate::registrations::{MOST_ADDRESSES, MOST_STREAMS};
 use crate::settings::{self, MOST_PORTS};
-use crate::table::{self, address, cell, domain, edge, record, result, TABLE_LENGTH};
+use crate::table::layout::{self, address, cell, domain, edge, record, result, TABLE_LENGTH};
+use crate::table::rules::{broken_rules, keeps_form};
 
 /// What an octet is stored for.
 #[derive(Clone, Copy, Debug, PartialEq, Eq)]
@@ -26,7 +27,7 @@ const MOST_DRAWS: usize = 16;
 /// A place of the table and an octet for it: mostly one that breaks a form rule and no other, else
 /// one that keeps them all, or any.
 pub fn some_octet(random: &mut Random, table: &[u8]) -> (usize, u8) {
-    let full = table::used(table) == MOST_STREAMS;
+    let full = layout::used(table) == MOST_STREAMS;
     let rule = match full_port(table) {
         _ if full && random.percent(20) => 8,
         Some(_) if random.percent(20) => 37,
@@ -54,8 +55,8 @@ pub fn some_octet(random: &mut Random, table: &[u8]) -> (usize, u8) {
 
 fn meets(stored: &[u8], aim: Aim) -> bool {
     match aim {
-        Aim::Breaks(rule) => table::broken_rules(stored) == [rule],
-        Aim::Keeps => table::keeps_form(stored),
+        Aim::Breaks(rule) => broken_rules(stored) == [rule],
+        Aim::Keeps => keeps_form(stored),
         Aim::Any(_) => true,
     }
 }
@@ -74,8 +75,8 @@ fn draw(random: &mut Random, table: &[u8], aim: Aim) -> (usize, u8) {
 
 /// The first port, from 0, that has all its address records in use.
 fn full_port(table: &[u8]) -> Option<usize> {
-    table::addresses_used_at(table)
-        .take(table::ports(table))
+    layout::addresses_used_at(table)
+        .take(layout::ports(table))
         .position(|used| used == MOST_ADDRESSES)
 }
 
@@ -85,20 +86,20 @@ fn one(place: usize) -> Range<usize> {
 
 /// A field that a form rule looks at.
 fn field_of_rule(random: &mut Random, table: &[u8], rule: u8) -> Range<usize> {
-    let ports = table::ports(table);
+    let ports = layout::ports(table);
     let port = random.below(ports.max(1) as u64) as usize;
-    let past_used = table::RECORDS + table::RECORD_LENGTH * table::used(table);
+    let past_used = layout::RECORDS + layout::RECORD_LENGTH * layout::used(table);
     match rule {
         2 => one(8),
         3 => 8..10,
         4 => 9..11,
         5 => one(settings::length(port)),
-        6 => settings::length(ports.min(MOST_PORTS - 1))..table::CLOCK.start,
-        7 => table::TOTALS..table::EDGES,
-        29 => table::TOTALS..table::TOTALS + table::TOTALS_LENGTH * ports.max(1),
-        8 => one(table::COUNT),
+        6 => settings::length(ports.min(MOST_PORTS - 1))..layout::CLOCK.start,
+        7 => layout::TOTALS..layout::EDGES,
+        29 => layout::TOTALS..layout::TOTALS + layout::TOTALS_LENGTH * ports.max(1),
+        8 => one(layout::COUNT),
         30 => 11..13,
-        36 => one(table::FAN_IN_LIMIT),
+        36 => one(layout::FAN_IN_LIMIT),
         31..=35 => field_of_edge(random, table, rule, port),
         37..=41 => field_of_addresses(random, table, rule, port),
         10 if past_used < TABLE_LENGTH && random.percent(30) => one(past_used),
@@ -110,8 +111,8 @@ fn field_of_rule(random: &mut Random, table: &[u8], rule: u8) -> Range<usize> {
 /// A field that a form rule on the domain looks at: of a Domain record, the flags, or those of
 /// places that are no port.
 fn field_of_edge(random: &mut Random, table: &[u8], rule: u8, port: usize) -> Range<usize> {
-    let start = table::EDGES + edge::LENGTH * port;
-    let past = table::EDGES + edge::LENGTH * table::ports(table).min(MOST_PORTS - 1);
+    let start = layout::EDGES + edge::LENGTH * port;
+    let past = layout::EDGES + edge::LENGTH * layout::ports(table).min(MOST_PORTS - 1);
     let records = (0..SLOTS).map(|slot| start + domain::LENGTH * slot);
     let is_registered = |record: &usize| table[record + domain::REGISTERED] != 0;
     let (held, free): (Vec<usize>, Vec<usize>) = records.partition(is_registered);
@@ -123,22 +124,22 @@ fn field_of_edge(random: &mut Random, table: &[u8], rule: u8, port: usize) -> Ra
         32 => record + domain::LEAVING..record + domain::SINCE.end,
         33 => record..record + domain::LENGTH,
         34 => start + edge::FLAGS.start..start + edge::FLAGS.end,
-        _ => past..table::RECORDS,
+        _ => past..layout::RECORDS,
     }
 }
 
 /// A field that a form rule on the addresses of a port looks at: their number, a part of a used
 /// record, or what is behind the last one.
 fn field_of_addresses(random: &mut Random, table: &[u8], rule: u8, port: usize) -> Range<usize> {
-    let used: Vec<usize> = table::addresses_used_at(table).collect();
+    let used: Vec<usize> = layout::addresses_used_at(table).collect();
     let is_wanted = |port: &usize| used[*port] > usize::from(rule == 40);
-    let wanted: Vec<usize> = (0..table::ports(table)).filter(is_wanted).collect();
+    let wanted: Vec<usize> = (0..layout::ports(table)).filter(is_wanted).collect();
     let port = match (rule, full_port(table)) {
         (37, Some(full)) => full,
         (38..=40, _) if !wanted.is_empty() => random.one_of(&wanted),
         _ => port,
     };
-    let start = table::EDGES + edge::LENGTH * port;
+    let start = layout::EDGES + edge::LENGTH * port;
     let records = start + edge::ADDRESSES.start;
     let last = used[port].max(1) as u64 - 1;
     let record = records + address::LENGTH * random.below(last + 1) as usize;
@@ -155,14 +156,14 @@ fn field_of_addresses(random: &mut Random, table: &[u8], rule: u8, port: usize) 
 
 /// A field of a used record that a form rule looks at; the count where no record is used.
 fn field_of_record(random: &mut Random, table: &[u8], rule: u8, port: usize) -> Range<usize> {
-    let used = table::used(table) as u64;
+    let used = layout::used(table) as u64;
     if used == 0 {
-        return one(table::COUNT);
+        return one(layout::COUNT);
     }
-    let start = table::RECORDS + table::RECORD_LENGTH * random.below(used) as usize;
+    let start = layout::RECORDS + layout::RECORD_LENGTH * random.below(used) as usize;
     let cells = start + record::CELLS.start;
     let results = start + record::RESULTS.start;
-    let past = table::ports(table).min(MOST_PORTS - 1);
+    let past = layout::ports(table).min(MOST_PORTS - 1);
     let (part, field) = match rule {
         9 => (start, record::STREAM_ID),
         11 if random.percent(60) => (start, one(record::PRIORITY)),
@@ -205,11 +206,11 @@ fn field_of_result(random: &mut Random, rule: u8) -> Range<usize> {
 /// A field whose octets differ among tables that keep the form: settings, clock, totals, domain,
 /// addresses, or one of a used record.
 fn field_in_use(random: &mut Random, table: &[u8]) -> Range<usize> {
-    let ports = table::ports(table).max(1);
+    let ports = layout::ports(table).max(1);
     match random.below(10) {
         0..=1 => 0..settings::length(ports),
-        2 => table::CLOCK,
-        3 => table::TOTALS..table::TOTALS + table::TOTALS_LENGTH * ports,
+        2 => layout::CLOCK,
+        3 => layout::TOTALS..layout::TOTALS + layout::TOTALS_LENGTH * ports,
         4 => {
             let rule = random.one_of(&[31, 32, 33, 34, 39, 40]);
             let port = random.below(ports as u64) as usize;

@@ -7,7 +7,8 @@
 use crate::pdu::StreamId;
 use crate::registrations::{Registrations, MOST_STREAMS};
 use crate::settings::Settings;
-use crate::settling::{self, BitsPerSecond, Entry, Facts, Settled, Settling, Step};
+use crate::settled::{Entry, Settled};
+use crate::settling::{self, BitsPerSecond, Facts, Settling, Step};
 
 /// Octets of a listed stream: StreamID 8, demand 8.
 pub const LISTED_LENGTH: usize = 16;
@@ -77,7 +78,7 @@ fn more_important(
     let mut found = Vec::new();
     for other in facts.registrations.streams.keys() {
         let decision = supposed.decisions.columns[&(*other, port)];
-        let listener = settling::listener_type(&facts.registrations.streams[other][port - 1]);
+        let listener = facts.registrations.streams[other][port - 1].listener_type();
         let demand = match decision.compared {
             Some(compared) if settling::entry(decision.column, listener) == Entry::Forward => {
                 compared.demand

@@ -1,7 +1,8 @@
 //! The words that programs print (01, "The printed sheet").
 
 use crate::pdu::ListenerType;
-use crate::settling::{Column, Entry, Step};
+use crate::settled::{Column, Entry};
+use crate::settling::Step;
 
 pub fn column(column: Column) -> &'static str {
     match column {

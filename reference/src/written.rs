@@ -4,7 +4,8 @@
 use std::fmt::Write;
 
 use crate::declarations::{self, Declaration};
-use crate::pdu::{self, Event, Talker, Value, LONGEST_PDU};
+use crate::mrp::{Event, LONGEST_PDU};
+use crate::pdu::{self, Talker, Value};
 use crate::words;
 
 /// Takes PDUs in hex, one to a line, all that a port writes from place 0 on. Gives for each a

@@ -2,10 +2,13 @@
 from srp.answers import Answer, Listed, Octets, Reason, Report, Sum, Written
 from srp.bridge import Bridge
 from srp.faults import Fault, Missing
+from srp.history import Moment, StreamAt, moments
 from srp.inputs import Input, Ran, load, run
 from srp.layout import Address, Cell, Domain, Edge, Parameters, Port, Result, Settings, Stream, Table, Totals
+from srp.names import Names
+from srp.refusals import Refusal
 from srp.views import AskedFor, DomainValue, Load, Share, addresses, loads
 
 __all__ = ["Address", "Answer", "AskedFor", "Bridge", "Cell", "Domain", "DomainValue", "Edge", "Fault", "Input", "Listed", "Load",
-           "Missing", "Octets", "Parameters", "Port", "Ran", "Reason", "Report", "Result", "Settings", "Share", "Stream", "Sum",
-           "Table", "Totals", "Written", "addresses", "load", "loads", "run"]
+           "Missing", "Moment", "Names", "Octets", "Parameters", "Port", "Ran", "Reason", "Refusal", "Report", "Result", "Settings",
+           "Share", "Stream", "StreamAt", "Sum", "Table", "Totals", "Written", "addresses", "load", "loads", "moments", "run"]

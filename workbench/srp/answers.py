@@ -89,7 +89,7 @@ def listed(digits):
 
 def read_line(line):
     """The answer that a line of srpcalls is."""
-    name, *words = line.split()
+    name, *words = line.split() or [""]
     try:
         if name in ("start", "receive", "mmrp", "advance"):
             return Answer(name, int(words[0]))

@@ -1,36 +1,20 @@
-"""Frames of a capture, of MSRP and of MMRP, as a text, and the way back."""
-import re
-from dataclasses import dataclass, field
+"""Frames of a capture, of MSRP and of MMRP, as the calls of a bridge, and these as a text."""
+from dataclasses import dataclass
 
-from srp import layout, packets, programs, protocols, records, texts
-from srp.bridge import Bridge
+from srp import layout, link, packets, programs, protocols, records, texts
 from srp.faults import Fault
-from srp.needs import need
+from srp.reading import OWN_PORTS
+from srp.words import first_of, rate, seconds
 
-SHORTEST_FRAME = 60
 LAST_CLOCK = (1 << 32) - 1
-ADDRESS = re.compile(r"[0-9a-f]{2}(:[0-9a-f]{2}){5}")
-
-# Where no ports are given, port p is the source address 02:00:00:00:00:0p: that of the captures written here.
-OWN_PORTS = {f"02:00:00:00:00:{port:02x}": port for port in range(16)}
 
 
-@dataclass(frozen=True)
-class Reading:
-    """How a capture is read: the port of each source address or interface, the settings, the time of the last advance, whether
-    neighbours in the domain are supposed, and whether each frame is named by its packet."""
-    ports: dict = field(default_factory=lambda: OWN_PORTS)
-    settings: bytes | None = None
-    until: int | None = None
-    domain: bool = False
-    named: bool = False
-
-
-@dataclass(frozen=True)
+@dataclass(frozen=True, slots=True)
 class Frame:
     """A frame of a capture that a bridge takes; port is none where its source is no port."""
     packet: packets.Packet
     source: str
+    interface: str
     port: int | None
     protocol: protocols.Protocol
     pdu: bytes
@@ -39,43 +23,40 @@ class Frame:
     def record(self):
         return records.frame(self.protocol.kind, self.port, self.pdu)
 
-
-def ports_of(words):
-    """The ports of words such as 00:1b:21:00:00:01=1 or eth0=2."""
-    ports = {}
-    for word in words:
-        source, mark, port = word.rpartition("=")
-        if not mark or not source or not port.isdigit() or not 1 <= int(port) <= layout.PORTS:
-            raise Fault(f"--port {word}: a source address or interface, = and a port of 1 to {layout.PORTS} are expected")
-        address = source.lower().replace("-", ":")
-        ports[address if ADDRESS.fullmatch(address) else source] = int(port)
-    return ports or OWN_PORTS
+    @property
+    def origin(self):
+        """What a refusal of it is told with."""
+        return f"packet {self.packet.number}, on port {self.port} from {self.source}"
 
 
-def ethernet(packet):
-    """The source, EtherType behind any VLAN tags, and payload of a packet; nothing where it is no such frame."""
-    if packet.link != packets.ETHERNET:
-        raise Fault(f"packet {packet.number} is no Ethernet frame: its link type is {packet.link}")
-    make = need("dpkt.ethernet").Ethernet
-    try:
-        frame = make(packet.octets)
-    # dpkt looks into what other protocols send too, and may stumble there over anything
-    except Exception:
-        return "", 0, b""
-    tags = getattr(frame, "vlan_tags", None)
-    source = ":".join(f"{octet:02x}" for octet in frame.src)
-    return source, tags[-1].type if tags else frame.type, frame.data
+@dataclass(frozen=True)
+class Captured:
+    """A capture as calls: the lines of its settings and of neighbours that are supposed, the calls behind these, each with the
+    frame that it hands over, and what is said of the reading."""
+    settings: list
+    supposed: list
+    steps: list
+    notes: list
+
+    @property
+    def has_mmrp(self):
+        """Whether it is one of calls, which has a start: a sheet has no record for an MMRP frame."""
+        return any(frame and frame.protocol is protocols.MMRP for _, frame in self.steps)
 
 
-def frame_of(packet, ports):
-    """The frame in a packet, if it is one of MSRP or MMRP."""
-    source, kind, payload = ethernet(packet)
+def frame_of(packet, reading):
+    """The frame in a packet, if it is one of MSRP or MMRP and not left out."""
+    source, interface, kind, payload = link.taken_apart(packet)
     protocol = protocols.BY_ETHERTYPE.get(kind)
-    if packet.length > len(packet.octets) and (protocol or not kind):
-        raise Fault(f"packet {packet.number} is cut: {len(packet.octets)} of its {packet.length} octets were captured")
-    if not protocol:
+    is_cut = packet.length > len(packet.octets)
+    if not protocol and (kind or not is_cut):
         return None
-    return Frame(packet, source, ports.get(source, ports.get(packet.interface)), protocol, protocol.without_padding(payload))
+    source = link.as_address(source)
+    if reading.leaves_out(source, interface):
+        return None
+    if is_cut:
+        raise Fault(f"packet {packet.number} is cut: {len(packet.octets)} of its {packet.length} octets were captured")
+    return Frame(packet, source, interface, reading.port_of(source, interface), protocol, protocol.without_padding(payload))
 
 
 def check_sources(frames):
@@ -84,17 +65,16 @@ def check_sources(frames):
     if foreign:
         first = min(foreign.values(), key=lambda frame: frame.packet.number)
         options = " ".join(f"--port {source}=N" for source in sorted(foreign))
-        raise Fault(f"packet {first.packet.number} is from {first.source} on interface {first.packet.interface}, which is no port;"
-                    f" give {options}")
+        raise Fault(f"packet {first.packet.number} is from {first.source} on interface {first.interface}, which is no port;"
+                    f" give {options}, or --ignore for the bridge's own")
 
 
-def frames_of(octets, ports):
-    """The frames of MSRP and MMRP in a capture, in its order."""
-    all_packets = packets.packets(octets)
-    frames = [frame for packet in all_packets if (frame := frame_of(packet, ports))]
+def frames_of(all_packets, reading):
+    """The frames of MSRP and MMRP among packets, in their order."""
+    frames = [frame for packet in all_packets if (frame := frame_of(packet, reading))]
     if not frames:
         taken = " or ".join(f"{one.name} (EtherType {kind:04x})" for kind, one in protocols.BY_ETHERTYPE.items())
-        first = f"; packet 1 has EtherType {ethernet(all_packets[0])[1]:04x}" if all_packets else ""
+        first = f"; packet 1 has EtherType {link.taken_apart(all_packets[0])[2]:04x}" if all_packets else ""
         raise Fault(f"none of {len(all_packets)} packets is {taken}{first}")
     check_sources(frames)
     return frames
@@ -109,99 +89,95 @@ def clock_of(frame, first):
     return clock
 
 
+def end_of(clock, last, reading):
+    """The time of the last advance."""
+    if reading.until is None:
+        return clock
+    if not clock <= reading.until <= LAST_CLOCK:
+        raise Fault(f"--until {reading.until}: packet {last.packet.number} comes at {clock}, and the clock goes to {LAST_CLOCK}")
+    return reading.until
+
+
+def steps_of(frames, reading):
+    """The calls of frames: an advance to each frame's time before it, and one more behind the last. The frames that go back in time
+    too, which are taken at the time of those before."""
+    steps, back, clock = [], [], 0
+    for frame in frames:
+        time = clock_of(frame, frames[0])
+        if time > clock:
+            steps.append((records.advance(time), None))
+        elif time < clock:
+            back.append(f"packet {frame.packet.number} by {seconds(clock - time)}")
+        clock = max(clock, time)
+        steps.append((frame.record, frame))
+    steps.append((records.advance(end_of(clock, frames[-1], reading)), None))
+    return steps, back
+
+
 def default_settings(frames, ports):
     """A bridge as in the worked example, with as many ports as are named."""
     highest = max(ports.values() if ports is not OWN_PORTS else (frame.port for frame in frames))
     return ["bridge 8000000000000001", f"ports {min(max(highest, 1), layout.PORTS)}"]
 
 
-def supposed_domain(lines):
-    """The lines by which each port of the settings in lines hears a neighbour in the domain."""
-    settings = layout.read(layout.Settings, programs.records_of_text("\n".join(lines).encode(), "sheet"))
-    return ["# supposed, and not in the capture: each port's neighbour is in the bridge's domain", *texts.domain_lines(settings)]
+def settings_of(lines):
+    """The settings in lines, as octets."""
+    return programs.records_of_text("\n".join(lines).encode(), "sheet")
 
 
-def opening(frames, reading):
-    """The lines before the first frame. With an MMRP frame the text is one of calls, which has a start: a sheet has no record for
-    it."""
-    settings = texts.settings_lines(reading.settings) if reading.settings else default_settings(frames, reading.ports)
-    start = ["start"] if any(frame.protocol is protocols.MMRP for frame in frames) else []
-    return [*settings, *start, *(supposed_domain(settings) if reading.domain else [])]
+def taken_for_settings(lines):
+    """What is said where a capture has no settings, and some are supposed."""
+    octets = settings_of(lines)
+    whole, port = layout.read(layout.Settings, octets), layout.read(layout.Port, octets[layout.length(layout.Settings):])
+    return (f"no --settings are given, and what is reserved and refused follows from those of the worked example:"
+            f" {whole.ports} ports, each with limits of {rate(port.limit_a)} (A) and {rate(port.limit_b)} (B), overhead"
+            f" {port.overhead}, largest frame {port.largest_frame}, latencies 0; priorities {whole.priority_a} and"
+            f" {whole.priority_b}, VLAN {whole.vlan}, leave time {seconds(whole.leave_time)}")
 
 
-def text(name, octets, reading):
-    """A capture as a text. The clock is advanced to each frame's time before the frame, and once more after the last one."""
+def check_ports(frames, reading):
+    """Whether the settings that are given have every port of the frames."""
+    ports = layout.read(layout.Settings, reading.settings).ports
+    for frame in frames:
+        if frame.port > ports:
+            raise Fault(f"packet {frame.packet.number} arrives on port {frame.port}, and the settings that are given have"
+                        f" {ports} port{'s' * (ports > 1)}")
+
+
+def read(name, octets, reading):
+    """A capture as calls."""
     try:
-        frames = frames_of(octets, reading.ports)
-        lines = opening(frames, reading)
-        clock = 0
-        for frame in frames:
-            time = clock_of(frame, frames[0])
-            if time > clock:
-                lines.append(f"time {time}")
-                clock = time
-            if reading.named:
-                lines.append(f"# packet {frame.packet.number}, from {frame.source} on interface {frame.packet.interface}")
-            lines.append(texts.record_line(frame.record))
+        all_packets, cut = packets.packets(octets)
+        frames = frames_of(all_packets, reading)
+        if reading.settings:
+            check_ports(frames, reading)
+        steps, back = steps_of(frames, reading)
     except Fault as fault:
         raise Fault(f"{name}: {fault}") from None
-    lines.append(f"time {clock if reading.until is None else reading.until}")
+    settings = texts.settings_lines(reading.settings) if reading.settings else default_settings(frames, reading.ports)
+    supposed = texts.domain_lines(layout.read(layout.Settings, settings_of(settings))) if reading.domain else []
+    notes = [f"packet {cut} is cut by the end of the file, and left out"] if cut else []
+    notes += [f"packets go back in time, and are taken at that of the packet before: {first_of(back)}"] if back else []
+    notes += [] if reading.settings else [taken_for_settings(settings)]
+    return Captured(settings, supposed, steps, [f"{name}: {note}" for note in notes])
+
+
+def calls_of(captured):
+    """The records of a capture's calls, and where each comes from."""
+    opening = programs.records_of_text("\n".join([*captured.settings, "start", *captured.supposed]).encode(), "calls", "quiet")
+    first, _ = records.split(opening, records.is_of_calls)
+    origins = ["the settings", *["a supposed neighbour"] * (len(first) - 1)]
+    behind = [frame.origin if frame else "an advance" for _, frame in captured.steps]
+    return first + [record for record, _ in captured.steps], origins + behind
+
+
+def text_of(captured, is_named=False, line_of=texts.record_line):
+    """A capture's calls as a text. With is_named each frame's packet is named in a comment; line_of makes the line of a record."""
+    lines = [*captured.settings, *["start"] * captured.has_mmrp]
+    if captured.supposed:
+        lines += ["# supposed, and not in the capture: each port's neighbour is in the bridge's domain", *captured.supposed]
+    for record, frame in captured.steps:
+        if frame and is_named:
+            lines.append(f"# packet {frame.packet.number}, from {frame.source} on interface {frame.interface}")
+        lines.append(line_of(record))
     return "\n".join(lines) + "\n"
-
-
-def as_frame(record, sources):
-    """The Ethernet frame of a record. It is padded to Ethernet's shortest only behind an EndMark, where that changes no answer."""
-    protocol, pdu = protocols.BY_KIND[record.kind], record.body
-    ethernet_header = need("dpkt.ethernet").Ethernet(dst=protocol.group, src=sources[record.port], type=protocol.ethertype)
-    frame = ethernet_header.pack_hdr() + pdu
-    return frame if protocol.end_of_pdu(pdu) is None else frame.ljust(SHORTEST_FRAME, b"\0")
-
-
-def sources_of(ports):
-    """The source address of each port's frames."""
-    given = {port: source for source, port in ports.items() if ADDRESS.fullmatch(source)}
-    own = {port: source for source, port in OWN_PORTS.items()}
-    return {port: bytes.fromhex(source.replace(":", "")) for port, source in (own | given).items()}
-
-
-def calls_with_clock(bridge, given):
-    """Makes the calls of an input: each record, with its answer and the clock then."""
-    clock = 0
-    for record in given.records:
-        answer = bridge.call(record)
-        if record.kind in (records.START, records.ADVANCE) and answer.accepted:
-            clock = record.time if record.kind == records.ADVANCE else 0
-        yield record, answer, clock
-
-
-def received(given):
-    """The frames of an input, each with its time, as records."""
-    given.check_end()
-    with Bridge() as bridge:
-        return [(clock, record) for record, _, clock in calls_with_clock(bridge, given) if record.is_frame]
-
-
-def written(given):
-    """What each port writes after each accepted advance, with its time, as records. A bridge writes no MMRP frames."""
-    given.check_end()
-    frames = []
-    with Bridge() as bridge:
-        for record, answer, clock in calls_with_clock(bridge, given):
-            if record.kind == records.ADVANCE and answer.accepted:
-                ports = range(1, bridge.table().settings.ports + 1)
-                frames += [(clock, records.receive(port, pdu)) for port in ports for pdu in bridge.declarations(port)]
-    if not frames:
-        raise Fault(f"{given.name}: no advance is accepted, and what ports write is taken after one")
-    return frames
-
-
-def write(path, frames, ports):
-    """Writes a capture: pcapng where the name ends so, otherwise pcap."""
-    sources = sources_of(ports)
-    octets = [(time, record.port, as_frame(record, sources)) for time, record in frames]
-    make = packets.write_pcapng if path.endswith(".pcapng") else packets.write_pcap
-    try:
-        with open(path, "wb") as file:
-            make(file, octets)
-    except OSError as fault:
-        raise Fault(f"{path}: {fault.strerror}") from None

@@ -1,6 +1,7 @@
 """The lent table, as docs/TABLE.md lays it out. The layout stands here and nowhere else in the workbench: each class lists its
 fields with their widths, from which places and lengths follow. Numbers are most significant octet first."""
 from dataclasses import dataclass, field, fields
+from functools import cache, lru_cache
 
 from srp.faults import Fault
 
@@ -25,6 +26,7 @@ def several(part, times, used=None):
     return field(metadata={"part": part, "times": times, "used": used})
 
 
+@cache
 def width(description):
     """The bits that a class describes."""
     return sum(width_of_field(each.metadata) for each in fields(description))
@@ -45,20 +47,56 @@ def place(description, name):
     return sum(width_of_field(each.metadata) for each in fields(description)[:names.index(name)]) // 8
 
 
+def length_of(description, name):
+    """The octets of a field."""
+    return next(width_of_field(each.metadata) for each in fields(description) if each.name == name) // 8
+
+
 def number(room, at, size):
     """The number of so many bits from a bit on."""
+    begin, end, shift, mask = covering(at, size)
+    return int.from_bytes(room[begin:end], "big") >> shift & mask
+
+
+def covering(at, size):
+    """The octets that have so many bits from a bit on, how far these stand from their end, and the greatest number of them."""
     end = at + size
-    covering = int.from_bytes(room[at // 8:(end + 7) // 8], "big")
-    return covering >> (-end % 8) & ((1 << size) - 1)
+    return at // 8, (end + 7) // 8, -end % 8, (1 << size) - 1
+
+
+@cache
+def plan(description):
+    """How an object of a class is read: for each field its name, its first bit and what the layout says of it."""
+    at, steps = 0, []
+    for each in fields(description):
+        steps.append((each.name, at, each.metadata))
+        at += width_of_field(each.metadata)
+    return steps
+
+
+@cache
+def numbers_of(description):
+    """The places of a class's numbers, where it has no parts; none where it has."""
+    steps = plan(description)
+    return None if any("part" in layout for _, _, layout in steps) else [covering(at, layout["bits"]) for _, at, layout in steps]
 
 
 def read(description, room):
     """The object of a class that stands in octets."""
-    values, at = {}, 0
-    for each in fields(description):
-        values[each.name] = read_field(each.metadata, room, at, values)
-        at += width_of_field(each.metadata)
+    values = {}
+    for name, at, layout in plan(description):
+        values[name] = read_field(layout, room, at, values)
     return description(**values)
+
+
+# Records are many, and mostly alike: a table has thousands that are zero. An object that cannot change is made once.
+@lru_cache(maxsize=1 << 14)
+def read_record(description, room):
+    """The same of a record: a class whose octets are few."""
+    places = numbers_of(description)
+    if places is None:
+        return read(description, room)
+    return description(*[int.from_bytes(room[begin:end], "big") >> shift & mask for begin, end, shift, mask in places])
 
 
 def read_field(layout, room, at, before):
@@ -67,10 +105,9 @@ def read_field(layout, room, at, before):
     part, first = layout["part"], at // 8
     size = length(part)
     if layout["times"] is None:
-        return read(part, room[first:first + size])
+        return read_record(part, room[first:first + size])
     times = min(before.get(layout["used"], layout["times"]), layout["times"])
-    places = (first + size * k for k in range(times))
-    return tuple(read(part, room[begin:begin + size]) for begin in places)
+    return tuple(read_record(part, room[begin:begin + size]) for begin in range(first, first + size * times, size))
 
 
 PORTS = 8

@@ -9,6 +9,8 @@ DEBIAN = {
     "dpkt": "python3-dpkt",
     "jinja2": "python3-jinja2",
     "matplotlib": "python3-matplotlib",
+    "distributed": "python3-distributed",
+    "pandas": "python3-pandas",
     "pytest": "python3-pytest",
 }
 

@@ -1,18 +1,15 @@
-"""Packets of capture files (pcap and pcapng), through dpkt's headers and blocks. Every fault names its packet, counted from 1 as
-Wireshark counts them."""
-import sys
+"""Packets of capture files, pcap and pcapng. Every fault names its packet, counted from 1 as Wireshark counts them."""
+import struct
 from dataclasses import dataclass, field
 
 from srp.faults import Fault
 from srp.needs import need
 
-ETHERNET = 1
-LONGEST = 1 << 18
 PCAPNG = bytes.fromhex("0a0d0d0a")
 PCAP = tuple(bytes.fromhex(magic) for magic in ("a1b2c3d4", "a1b23c4d", "a1b2cd34", "d4c3b2a1", "4d3cb2a1", "34cdb2a1"))
 
 
-@dataclass(frozen=True)
+@dataclass(frozen=True, slots=True)
 class Packet:
     """A packet: its time in hundredths of a second, its interface, what was captured of it, and how long it was."""
     number: int
@@ -39,39 +36,47 @@ class Section:
     interfaces: list = field(default_factory=list)
 
 
+class Cut(Exception):
+    """The end of the file cuts what follows the packets before it."""
+
+
 def is_capture(octets):
     return octets[:4] == PCAPNG or octets[:4] in PCAP
 
 
 def packets(octets):
-    """The packets of a capture."""
-    return list(of_pcapng(octets) if octets[:4] == PCAPNG else of_pcap(octets))
-
-
-def cut(number):
-    return Fault(f"packet {number} is cut by the end of the file")
+    """The packets of a capture that are there whole, and the number of the one that the end of the file cuts; none where it cuts
+    none."""
+    found = []
+    try:
+        for packet in of_pcapng(octets) if octets[:4] == PCAPNG else of_pcap(octets):
+            found.append(packet)
+    except Cut:
+        return found, len(found) + 1
+    return found, None
 
 
 def of_pcap(octets):
     pcap = need("dpkt.pcap")
     header = pcap.MAGIC_TO_PKT_HDR[int.from_bytes(octets[:4], "big")]
-    file_header = pcap.FileHdr if octets[:1] == b"\xa1" else pcap.LEFileHdr
+    is_big = octets[:1] == b"\xa1"
+    file_header = pcap.FileHdr if is_big else pcap.LEFileHdr
     size, at, number = header.__hdr_len__, file_header.__hdr_len__, 0
     if len(octets) < at:
         raise Fault("the capture is cut before packet 1")
     head = file_header(octets[:at])
-    fine = head.magic == pcap.TCPDUMP_MAGIC_NANO
+    fraction = 10**7 if head.magic == pcap.TCPDUMP_MAGIC_NANO else 10**4
+    fields = struct.Struct((">" if is_big else "<") + "IIII")
     while at < len(octets):
         number += 1
         if at + size > len(octets):
-            raise cut(number)
-        one = header(octets[at:at + size])
+            raise Cut
+        seconds, part, captured, long = fields.unpack_from(octets, at)
         at += size
-        if at + one.caplen > len(octets):
-            raise cut(number)
-        time = one.tv_sec * 100 + one.tv_usec // (10**7 if fine else 10**4)
-        yield Packet(number, time, "0", head.linktype, octets[at:at + one.caplen], one.len)
-        at += one.caplen
+        if at + captured > len(octets):
+            raise Cut
+        yield Packet(number, seconds * 100 + part // fraction, "0", head.linktype, octets[at:at + captured], long)
+        at += captured
 
 
 def of_pcapng(octets):
@@ -81,41 +86,47 @@ def of_pcapng(octets):
             section = Section("<" if octets[at + 8:at + 9] == b"\x4d" else ">")
         kind, block = block_at(octets, at, section, number + 1)
         at += len(block)
-        if kind == "InterfaceDescriptionBlock":
+        if kind == INTERFACE:
             section.interfaces.append(interface(block, section, number + 1))
-        elif kind is not None:
+        elif kind in BLOCKS:
             number += 1
             yield packet_of_block(kind, block, section, number)
 
 
-# The blocks that are looked into, by type; the others are passed over. A Simple Packet Block has no time and is refused.
-BLOCKS = {1: "InterfaceDescriptionBlock", 2: "PacketBlock", 3: "SimplePacketBlock", 6: "EnhancedPacketBlock"}
+# The blocks that are looked into, by type; the others are passed over. A packet's block has, behind type and length, these fields:
+# interface, the time's upper and lower half, octets captured, and the packet's length. A Simple Packet Block has no time and is
+# refused; the old Packet Block has an interface of 16 bits, and 16 that count losses.
+INTERFACE, OLD, SIMPLE, ENHANCED = 1, 2, 3, 6
+BLOCKS = {OLD: "HxxIIII", SIMPLE: "", ENHANCED: "IIIII"}
+BEHIND_FIELDS = 28
 
 
 def block_at(octets, at, section, number):
-    """The kind of the block at a place, none where it is passed over, and its octets."""
-    order = "little" if section.order == "<" else "big"
-    size = int.from_bytes(octets[at + 4:at + 8], order)
-    if at + 12 > len(octets) or at + size > len(octets):
-        raise cut(number)
+    """The type of the block at a place, and its octets."""
+    if at + 12 > len(octets):
+        raise Cut
+    kind, size = struct.unpack_from(section.order + "II", octets, at)
     if size < 12 or size % 4:
         raise Fault(f"packet {number} cannot be found: a block before it has length {size}")
-    return BLOCKS.get(int.from_bytes(octets[at:at + 4], order)), octets[at:at + size]
+    if at + size > len(octets):
+        raise Cut
+    block = octets[at:at + size]
+    if kind in BLOCKS and struct.unpack_from(section.order + "I", block, size - 4) != (size,):
+        raise malformed(number)
+    return kind, block
 
 
-def unpacked(kind, block, section, number):
-    """A block as an object of dpkt's class for it."""
-    dpkt, pcapng = need("dpkt"), need("dpkt.pcapng")
-    try:
-        return getattr(pcapng, kind + ("LE" if section.order == "<" else ""))(block)
-    except (dpkt.Error, UnicodeDecodeError):
-        raise Fault(f"packet {number} cannot be read: its block, or one before it, is malformed") from None
+def malformed(number):
+    return Fault(f"packet {number} cannot be read: its block, or one before it, is malformed")
 
 
 def interface(block, section, number):
     """The interface that a block describes; one without a name is called by its number, from 0."""
-    pcapng = need("dpkt.pcapng")
-    description = unpacked("InterfaceDescriptionBlock", block, section, number)
+    dpkt, pcapng = need("dpkt"), need("dpkt.pcapng")
+    try:
+        description = getattr(pcapng, "InterfaceDescriptionBlock" + ("LE" if section.order == "<" else ""))(block)
+    except (dpkt.Error, UnicodeDecodeError):
+        raise malformed(number) from None
     options = {option.code: option.data for option in description.opts}
     name = options.get(pcapng.PCAPNG_OPT_IF_NAME, b"").rstrip(b"\0").decode(errors="replace")
     resolution = (options.get(pcapng.PCAPNG_OPT_IF_TSRESOL) or b"\x06")[0]
@@ -126,31 +137,13 @@ def interface(block, section, number):
 
 
 def packet_of_block(kind, block, section, number):
-    if kind == "SimplePacketBlock":
+    if kind == SIMPLE:
         raise Fault(f"packet {number} has no time (Simple Packet Block)")
-    one = unpacked(kind, block, section, number)
-    if one.iface_id >= len(section.interfaces) or one.caplen > len(one.pkt_data):
-        raise Fault(f"packet {number} cannot be read: its block is malformed")
-    source = section.interfaces[one.iface_id]
-    time = (one.ts_high << 32 | one.ts_low) * 100 // source.units + source.offset * 100
-    return Packet(number, time, source.name, source.link, bytes(one.pkt_data), one.pkt_len)
-
-
-def write_pcap(file, frames):
-    """Writes frames, each with its time in hundredths and its port."""
-    writer = need("dpkt.pcap").Writer(file, snaplen=LONGEST)
-    for time, _, octets in frames:
-        writer.writepkt(octets, ts=time / 100)
-
-
-def write_pcapng(file, frames):
-    """The same, with an interface for each port."""
-    pcapng = need("dpkt.pcapng")
-    tail = "LE" if sys.byteorder == "little" else ""
-    option, description, block = (getattr(pcapng, name + tail) for name in
-                                  ("PcapngOption", "InterfaceDescriptionBlock", "EnhancedPacketBlock"))
-    ports = sorted({port for _, port, _ in frames})
-    named = ([option(code=pcapng.PCAPNG_OPT_IF_NAME, data=b"port%d" % port), option()] for port in ports)
-    writer = pcapng.Writer(file, idb=[description(snaplen=LONGEST, opts=options) for options in named] or None)
-    for time, port, octets in frames:
-        writer.writepkt(block(iface_id=ports.index(port), pkt_data=octets), ts=time / 100)
+    if len(block) < BEHIND_FIELDS + 4:
+        raise malformed(number)
+    index, high, low, captured, long = struct.unpack_from(section.order + BLOCKS[kind], block, 8)
+    if index >= len(section.interfaces) or BEHIND_FIELDS + captured + 4 > len(block):
+        raise malformed(number)
+    source = section.interfaces[index]
+    time = (high << 32 | low) * 100 // source.units + source.offset * 100
+    return Packet(number, time, source.name, source.link, block[BEHIND_FIELDS:BEHIND_FIELDS + captured], long)

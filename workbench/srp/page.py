@@ -1,14 +1,16 @@
 """The sheet as a page that stands by itself: a bar for each port and class, and the streams with their codes in words."""
 from dataclasses import dataclass
-from pathlib import Path
+from itertools import groupby
 
-from srp import sheet
-from srp.needs import need
-from srp.views import Share, addresses, loads, ports, stream_line
-from srp.words import address, cause, edge, rate, refusal, seconds, stream_id
+from srp import pages, sheet
+from srp.refusals import summed_up
+from srp.views import Share, addresses, class_of, loads, ports, stream_line
+from srp.words import address, cause, counted, edge, rate, seconds, stream_id
 
 # A part of a bar that is narrower, in percent, has no room for a name.
 NARROW = 12
+# Shares of a port that are shown; more are folded, and so are that many addresses in a row.
+UNFOLDED, RUN = 8, 3
 
 # What a port's place in the streams' list says, by column and entry.
 STATES = {
@@ -71,10 +73,24 @@ def edge_note(load):
     return f"{edge(load.name)}; registered of it: {declared or 'nothing'}"
 
 
+def runs(all_asked):
+    """Addresses in a row, all leaving or none."""
+    places = enumerate(all_asked)
+    return [[asked for _, asked in group]
+            for _, group in groupby(places, key=lambda place: (place[1].address - place[0], place[1].leaving_since is None))]
+
+
+def run_note(run):
+    """A run of addresses: each of a short one, the first and last of a longer one."""
+    leaving = "" if run[0].leaving_since is None else " (leaving)"
+    if len(run) < RUN:
+        return ", ".join(address(asked.address) + leaving for asked in run)
+    return f"{address(run[0].address)} to {address(run[-1].address)}, {len(run)} addresses{leaving}"
+
+
 def asked_note(all_asked):
     """What is said of a port where Talkers are pruned: the addresses that were asked for there."""
-    shown = (address(asked.address) + ("" if asked.leaving_since is None else " (leaving)") for asked in all_asked)
-    return f"asked for: {', '.join(shown) or 'nothing'}"
+    return f"asked for: {', '.join(map(run_note, runs(all_asked))) or 'nothing'}"
 
 
 def place_of(stream, port):
@@ -91,11 +107,13 @@ def place_of(stream, port):
     return Place(kind, word, lines)
 
 
-def stream_row(stream, table):
+def stream_row(stream, table, names):
     """A row of the streams' list."""
     asked = stream.settled
     return {
         "id": stream_id(stream.stream_id),
+        "name": names.of(stream_id(stream.stream_id)),
+        "class": class_of(table, asked) or "–",
         "rank": asked.rank,
         "asked": f"{asked.max_interval_frames} × {asked.max_frame_size} octets, priority {asked.priority}",
         "destination": f"{address(asked.destination)}, VLAN {asked.vlan}",
@@ -103,12 +121,16 @@ def stream_row(stream, table):
     }
 
 
-def view(ran):
-    """What the page shows of an input."""
-    table = ran.table
+def view(ran, key):
+    """What the page shows of an input; key is what its places are known by."""
+    table, names = ran.table, ran.input.names
     by_port = [[load for load in loads(table) if load.port == port] for port in ports(table)]
     return {
         "name": ran.input.name,
+        "key": key,
+        "names": names,
+        "unfolded": UNFOLDED,
+        "frames": counted(sum(record.is_frame for record in ran.input.records), "frame"),
         "bridge": stream_id(table.settings.bridge_id),
         "clock": seconds(table.clock),
         "leave": seconds(table.settings.leave_time),
@@ -117,17 +139,15 @@ def view(ran):
         "pruning": bool(table.settings.pruning),
         "asked": addresses(table),
         "numbers": list(ports(table)),
-        "streams": [stream_row(stream, table) for stream in table.streams],
-        "refused": [f"{number}: {refusal(number)}" for number in sheet.refused_numbers(ran)],
-        "stopped": ran.stopped,
+        "streams": [stream_row(stream, table, names) for stream in table.streams],
+        "notes": ran.input.notes,
+        "refused": list(summed_up(ran.refusals)),
+        "reason": ran.reason,
         "sheet": "\n".join(sheet.plain(ran)),
     }
 
 
 def page(all_ran):
     """The page of some inputs."""
-    jinja2 = need("jinja2")
-    maker = jinja2.Environment(autoescape=True, trim_blocks=True, lstrip_blocks=True, undefined=jinja2.StrictUndefined)
-    maker.filters.update(rate=rate, parts=parts, reserved=reserved, edge_note=edge_note, asked_note=asked_note)
-    template = maker.from_string(Path(__file__).with_name("page.html").read_text(encoding="utf-8"))
-    return template.render(inputs=[view(ran) for ran in all_ran])
+    filters = {"rate": rate, "parts": parts, "reserved": reserved, "edge_note": edge_note, "asked_note": asked_note}
+    return pages.made("page.html", filters, inputs=[view(ran, f"input{place}") for place, ran in enumerate(all_ran, 1)])

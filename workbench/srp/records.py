@@ -1,7 +1,7 @@
 """Records of srpcalls, as docs/SRPCALLS.md lays them out."""
 from dataclasses import dataclass
 
-from srp.faults import Fault
+from srp import arguments
 
 START, RECEIVE, ADVANCE, WRITE, REPORT, STORE, SUM, RECEIVE_MMRP, WHY = 0x0, 0x1, 0x2, 0x3, 0x4, 0x5, 0x6, 0x7, 0x8
 
@@ -11,7 +11,7 @@ PLAIN = {0x00: None, 0x20: 4, 0x50: 3, 0x51: 2, 0x60: 0, 0x61: 0}
 TABLE_SUM, TABLE_OCTETS = b"\x60", b"\x61"
 
 
-@dataclass(frozen=True)
+@dataclass(frozen=True, slots=True)
 class Record:
     """A record: all its octets."""
     octets: bytes
@@ -23,6 +23,11 @@ class Record:
     @property
     def port(self):
         return self.octets[0] & 0xF
+
+    @property
+    def is_answered(self):
+        """Whether srpcalls prints a line for it."""
+        return self.kind != STORE
 
     @property
     def is_frame(self):
@@ -69,33 +74,29 @@ def split(octets, is_known):
     return records, octets[at:]
 
 
-def counted(first, octets):
-    if len(octets) > 0xFFFF:
-        raise Fault(f"a record has at most 65535 octets, and not {len(octets)}")
+def counted(first, name, octets):
+    """A record of a 16-bit length and so many octets."""
+    octets = arguments.octets(name, octets)
     return Record(bytes([first]) + len(octets).to_bytes(2, "big") + octets)
 
 
-def numbered(first, *numbers):
-    """A record of numbers: each with its octets."""
-    try:
-        return Record(bytes([first]) + b"".join(value.to_bytes(size, "big") for value, size in numbers))
-    except OverflowError:
-        raise Fault(f"a number does not fit in its record: {', '.join(str(value) for value, _ in numbers)}") from None
+def numbered(first, *fields):
+    """A record of numbers: each with its name and its octets."""
+    return Record(bytes([first]) + b"".join(arguments.number(name, value, (1 << 8 * size) - 1).to_bytes(size, "big")
+                                            for name, value, size in fields))
 
 
 def ported(kind, port):
-    if not 0 <= port <= 0xF:
-        raise Fault(f"port {port} does not fit in a record; it has room for 0 to 15")
-    return kind << 4 | port
+    return kind << 4 | arguments.number("port", port, 0xF)
 
 
 def start(settings):
-    return counted(START, settings)
+    return counted(START, "settings", settings)
 
 
 def frame(kind, port, pdu):
     """A frame that arrives on a port, of the kind RECEIVE or RECEIVE_MMRP."""
-    return counted(ported(kind, port), pdu)
+    return counted(ported(kind, port), "pdu", pdu)
 
 
 def receive(port, pdu):
@@ -107,16 +108,16 @@ def receive_mmrp(port, pdu):
 
 
 def advance(time):
-    return numbered(0x20, (time, 4))
+    return numbered(0x20, ("time", time, 4))
 
 
 def write(port, place=0, buffer=1500):
-    return numbered(ported(WRITE, port), (place, 2), (buffer, 2))
+    return numbered(ported(WRITE, port), ("place", place, 2), ("buffer", buffer, 2))
 
 
 def report(port, place=0):
-    return numbered(ported(REPORT, port), (place, 2))
+    return numbered(ported(REPORT, port), ("place", place, 2))
 
 
 def why(port, stream, buffer=1008):
-    return numbered(ported(WHY, port), (stream, 8), (buffer, 2))
+    return numbered(ported(WHY, port), ("stream", stream, 8), ("buffer", buffer, 2))

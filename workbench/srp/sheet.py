@@ -3,21 +3,18 @@ import csv
 import json
 from dataclasses import asdict
 
+from srp.names import with_colons
 from srp.views import port_lines, stream_lines
 from srp.words import cause
 
-COLUMNS = ("input", "line", "number", "port", "total_a", "limit_a", "total_b", "limit_b", "stream", "column", "code", "cause",
-           "listener", "entry")
-
-
-def refused_numbers(ran):
-    """The numbers that a sheet shows. A sheet whose settings are refused shows none: it ends there."""
-    return [] if ran.input.is_sheet and not ran.has_table else [answer.number for answer in ran.refused]
+# Of a port and of a stream on a port, in files of rows.
+PARTS = ("port", "total_a", "limit_a", "total_b", "limit_b", "stream", "name", "column", "code", "cause", "listener", "entry")
+COLUMNS = ("input", "line", "number", "origin", *PARTS)
 
 
 def plain(ran):
     """The lines that srpsheet prints."""
-    yield from (f"refused {number}" for number in refused_numbers(ran))
+    yield from (f"refused {refusal.number}" for refusal in ran.refusals)
     if ran.stopped:
         yield "stop"
     yield from (f"port {line.port} A {line.total_a}/{line.limit_a} B {line.total_b}/{line.limit_b}"
@@ -26,18 +23,33 @@ def plain(ran):
                 for line in stream_lines(ran.table))
 
 
+def stream_row(line):
+    """A row of a stream on a port. The StreamID has colons, so that no program takes it for a number."""
+    return {"line": "stream", "cause": cause(line.code)} | vars(line) | {"stream": with_colons(line.stream)}
+
+
+def table_rows(table, names):
+    """The rows of a table: its ports, then its streams on each."""
+    yield from ({"line": "port"} | asdict(line) for line in port_lines(table))
+    yield from (stream_row(line) for line in stream_lines(table, names))
+
+
 def rows(ran):
     """The rows of a CSV file: one for each line of the sheet."""
-    yield from ({"line": "refused", "number": number} for number in refused_numbers(ran))
+    yield from ({"line": "refused", "number": refusal.number, "origin": refusal.origin} for refusal in ran.refusals)
     if ran.stopped:
-        yield {"line": "stop"}
-    yield from ({"line": "port"} | asdict(line) for line in port_lines(ran.table))
-    yield from ({"line": "stream", "cause": cause(line.code)} | asdict(line) for line in stream_lines(ran.table))
+        yield {"line": "stop", "origin": ran.reason}
+    yield from table_rows(ran.table, ran.input.names)
+
+
+def csv_writer(file, columns):
+    writer = csv.DictWriter(file, columns, lineterminator="\n")
+    writer.writeheader()
+    return writer
 
 
 def write_csv(all_ran, file):
-    writer = csv.DictWriter(file, COLUMNS, lineterminator="\n")
-    writer.writeheader()
+    writer = csv_writer(file, COLUMNS)
     for ran in all_ran:
         writer.writerows({"input": ran.input.name} | row for row in rows(ran))
 
@@ -46,10 +58,11 @@ def as_object(ran):
     """A sheet as JSON has it."""
     return {
         "input": ran.input.name,
-        "refused": refused_numbers(ran),
-        "stopped": ran.stopped,
+        "notes": ran.input.notes,
+        "refused": [asdict(refusal) for refusal in ran.refusals],
+        "stopped": ran.reason,
         "ports": [asdict(line) for line in port_lines(ran.table)],
-        "streams": [asdict(line) | {"cause": cause(line.code)} for line in stream_lines(ran.table)],
+        "streams": [asdict(line) | {"cause": cause(line.code)} for line in stream_lines(ran.table, ran.input.names)],
     }
 
 

@@ -1,8 +1,9 @@
 """The table in words: who is registered where, leaving since when, changed, of what age, where the domain ends, which addresses
 were asked for, and what is settled."""
 from srp.needs import need
+from srp.refusals import summed_up
 from srp.views import addresses, class_of, demand, loads, ports
-from srp.words import COLUMNS, ENTRIES, LISTENERS, address, cause, edge, rate, seconds, stream_id, word
+from srp.words import COLUMNS, ENTRIES, LISTENERS, address, cause, counted, edge, rate, seconds, stream_id, word
 
 TALKERS = ("none", "Advertise", "Failed")
 DECLARED = ("none", "Asking Failed", "Ready", "Ready Failed")
@@ -138,24 +139,34 @@ def head(table):
             f" fan-in limit {settings.fan_in_limit or 'none'}, {table.held} streams held")
 
 
-def show_stream(stream, table, console):
+def refused_lines(ran):
+    """How many frames were handed over, and which calls were refused."""
+    frames = sum(record.is_frame for record in ran.input.records)
+    refused = sum(one.is_frame for one in ran.refusals)
+    yield f"{counted(frames, 'frame')} handed over, {refused or 'none'} refused"
+    yield from (f"  {line}" for line in summed_up(ran.refusals))
+
+
+def show_stream(stream, table, console, names):
     """Prints who is registered, and what the last advance decided, if it had the stream."""
     is_settled = any(result.column or result.entry or result.listener for result in stream.results)
-    console.print(f"stream {stream_id(stream.stream_id)}, class {is_settled and class_of(table, stream.settled) or 'none'}")
+    console.print(f"stream {names.beside(stream_id(stream.stream_id))},"
+                  f" class {is_settled and class_of(table, stream.settled) or 'none'}")
     console.print("\n".join(f"  {line}" for line in registered(stream, table)))
     console.print(settled_grid(stream, table) if is_settled else "  no part in an advance yet\n")
 
 
 def show(ran, console):
     """Prints the table of an input."""
-    if ran.input.rest:
-        console.print(f"{ran.input.name}: the reading stopped early: a record is cut or unknown")
+    if ran.stopped:
+        console.print(f"{ran.input.name}: the reading stopped early: {ran.reason}")
     if not ran.has_table:
         console.print(f"{ran.input.name}: no bridge was started")
         return
+    console.print("\n".join(refused_lines(ran)))
     console.print(head(ran.table))
     console.print(port_grid(ran.table))
     show_domain(ran.table, console)
     show_addresses(ran.table, console)
     for stream in ran.table.streams:
-        show_stream(stream, ran.table, console)
+        show_stream(stream, ran.table, console, ran.input.names)

@@ -33,6 +33,11 @@ def settings_lines(octets):
     return [bridge_line(settings)] + [ports_line(count, port) for port, count in alike]
 
 
+def name_lines(names):
+    """The lines that give streams their names."""
+    return [f"stream {name} {stream}" for stream, name in names.by_stream.items()]
+
+
 def domain_line(port, settings):
     """The frame of a neighbour in the bridge's domain: both classes, with the bridge's priorities and VLAN."""
     values = ((CLASS_IDS["B"], settings.priority_b), (CLASS_IDS["A"], settings.priority_a))

@@ -1,6 +1,7 @@
 """What pages and tables show, taken out of the lent table."""
 from dataclasses import dataclass
 
+from srp.names import NONE
 from srp.words import CLASSES, COLUMNS, ENTRIES, LISTENERS, stream_id, word
 
 INTERVALS = {"A": 8000, "B": 4000}
@@ -23,6 +24,7 @@ class PortLine:
 class StreamLine:
     """What a sheet shows of a stream on a port."""
     stream: str
+    name: str
     port: int
     column: str
     code: int
@@ -111,14 +113,19 @@ def edge_line(table, port):
     return EdgeLine(port, *("yes" if of_class(table.edges[port - 1], "boundary_", name) else "no" for name in CLASSES))
 
 
-def stream_line(stream, port):
-    result = stream.results[port - 1]
-    return StreamLine(stream_id(stream.stream_id), port, word(COLUMNS, result.column), result.code,
-                      word(LISTENERS, result.listener), word(ENTRIES, result.entry))
+def parts_of_line(stream, port, names):
+    """The parts of what a sheet shows of a stream on a port."""
+    result, identifier = stream.results[port - 1], stream_id(stream.stream_id)
+    return (identifier, names.of(identifier), port, word(COLUMNS, result.column), result.code, word(LISTENERS, result.listener),
+            word(ENTRIES, result.entry))
 
 
-def stream_lines(table):
-    return [stream_line(stream, port) for stream in table.streams for port in ports(table)]
+def stream_line(stream, port, names=NONE):
+    return StreamLine(*parts_of_line(stream, port, names))
+
+
+def stream_lines(table, names=NONE):
+    return [stream_line(stream, port, names) for stream in table.streams for port in ports(table)]
 
 
 def class_of(table, parameters):
@@ -134,23 +141,25 @@ def demand(parameters, port, name):
 
 
 def shares(table, port, name, is_taken):
-    """The shares of a class's streams whose result on a port is taken, by importance: rank, age, StreamID (35.2.4.1)."""
+    """The shares of a class's streams that are taken by their result and cell on a port, by importance: rank, age, StreamID
+    (35.2.4.1)."""
     found = []
     for stream in table.streams:
         result, asked = stream.results[port - 1], stream.settled
-        if class_of(table, asked) == name and is_taken(result):
+        if class_of(table, asked) == name and is_taken(result, stream.cells[port - 1]):
             bandwidth = demand(asked, table.port_settings[port - 1], name)
             found.append(Share(stream_id(stream.stream_id), asked.rank, result.second, bandwidth))
     return sorted(found, key=lambda share: (share.rank, share.second, share.stream))
 
 
-def holds(result):
+def holds(result, _cell=None):
     """Whether the stream reserves there: only an Advertise that is asked for forwards."""
     return result.column == ADVERTISE and result.entry == FORWARD
 
 
-def finds_no_room(result):
-    return result.column == FAILED and result.code == INSUFFICIENT_BANDWIDTH
+def finds_no_room(result, cell):
+    """Whether somebody asks for the stream there, and there is no room for it."""
+    return result.column == FAILED and result.code == INSUFFICIENT_BANDWIDTH and cell.listener > 0
 
 
 def load_of(table, port, name):

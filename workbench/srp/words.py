@@ -92,6 +92,17 @@ def refusal(number):
     return REFUSALS.get(number, "unknown number")
 
 
+def counted(count, what):
+    """How many there are of something."""
+    return f"{count} {what}{'' if count == 1 else 's'}"
+
+
+def first_of(words, most=8):
+    """The first of some words, and how many more there are."""
+    more = f" and {len(words) - most} more" if len(words) > most else ""
+    return "; ".join(words[:most]) + more
+
+
 def stream_id(number):
     return f"{number:016x}"
 

@@ -139,6 +139,70 @@ def test_refusals_are_answers():
         srp.Bridge("bridge 8000000000000007 vlan 4095\nports 2")
 
 
+@pytest.mark.parametrize("call, said", [
+    (lambda bridge: bridge.advance(-1), "time is -1, where 0 to 4294967295 is expected"),
+    (lambda bridge: bridge.advance(1 << 32), "time is 4294967296, where 0 to 4294967295"),
+    (lambda bridge: bridge.advance("soon"), "time is 'soon', where a whole number is expected"),
+    (lambda bridge: bridge.receive(16, b""), "port is 16, where 0 to 15 is expected"),
+    (lambda bridge: bridge.receive(1.0, b""), "port is 1.0, where a whole number is expected"),
+    (lambda bridge: bridge.receive(1, "00"), "pdu is '00', where octets"),
+    (lambda bridge: bridge.receive_mmrp(1, None), "pdu is None, where octets"),
+    (lambda bridge: bridge.receive(1, bytes(65536)), "pdu has 65536 octets, where at most 65535"),
+    (lambda bridge: bridge.write(1, place=-1), "place is -1"),
+    (lambda bridge: bridge.write(1, buffer=70000), "buffer is 70000"),
+    (lambda bridge: bridge.report("x"), "port is 'x'"),
+    (lambda bridge: bridge.why(1, "nobody"), "stream nobody: a name, 16 hexadecimal digits or at most 8"),
+    (lambda bridge: bridge.why(1, 1 << 64), "stream is 18446744073709551616"),
+    (lambda bridge: bridge.why(1, None), "stream is None"),
+    (lambda bridge: bridge.start(7), "settings is 7, where octets"),
+    (lambda bridge: bridge.feed(b"time 1"), "text is b'time 1', where a text"),
+    (lambda bridge: bridge.hear_domain("one"), "port is 'one'"),
+    (lambda bridge: bridge.feed("time 1\nbridge 7\nports 2"), "line 2: bridge: settings are handed to start"),
+    (lambda bridge: bridge.feed("ports 2"), "line 1: ports: settings are handed to start"),
+    (lambda bridge: bridge.feed("raw 20"), "line 1: raw: octets that may be no whole record"),
+])
+def test_a_wrong_argument_is_a_fault_with_its_name(shared, call, said):
+    import srp
+
+    with pytest.raises(srp.Fault) as fault:
+        call(shared)
+    assert said in str(fault.value)
+    # and the bridge goes on
+    assert shared.report(1).accepted
+
+
+@pytest.fixture(scope="module")
+def shared():
+    """One bridge for the tests that change nothing of it."""
+    import srp
+
+    with srp.Bridge(SETTINGS) as bridge:
+        yield bridge
+
+
+def test_names_stay():
+    """Those of settings and of texts that were fed; a fault names the line of the text that has it."""
+    import srp
+
+    with srp.Bridge(f"stream soprano 0200000000010001\n{SETTINGS}") as bridge:
+        bridge.hear_domain()
+        bridge.feed("address hall 91e0f000fe00\nstream alto 0200000000010002\non 1 talker soprano")
+        bridge.feed("on 1 talker alto to hall\non 2 listener soprano ready\non 2 listener alto ready\ntime 100")
+        assert [bridge.why(2, name).step for name in ("soprano", "alto")] == ["i", "i"]
+        assert bridge.table().streams[1].settled.destination == 0x91E0F000FE00
+        with pytest.raises(srp.Fault, match="line 2: tenor where a StreamID"):
+            bridge.feed("time 200\non 1 talker tenor")
+        with pytest.raises(srp.Fault, match="line 1: alto names a stream already"):
+            bridge.feed("stream alto 3")
+
+
+def test_settings_that_are_refused_name_the_rule():
+    import srp
+
+    with pytest.raises(srp.Fault, match="refused with 11: a bridge has 1 to 8 ports, and these settings say 9"):
+        srp.Bridge("bridge 8000000000000007\nports 9")
+
+
 def test_an_input_as_an_object():
     import srp
 

@@ -19,9 +19,9 @@ PORTS = "--port", f"{STAGE}=1", "--port", f"{MIXER}=2"
 
 def records_of(path, *options):
     """The records of a text or a capture, in octets."""
-    from srp import captures, inputs
+    from srp import inputs, reading
 
-    given = inputs.load(str(path), captures.Reading(*options))
+    given = inputs.load(str(path), reading.Reading(*options))
     assert given.rest == b""
     return [record.octets for record in given.records]
 
@@ -142,7 +142,6 @@ ASKING = (frame(STAGE, MAC, kind="88f6"), None)
 
 
 @pytest.mark.parametrize("octets, said", [
-    (pcap(ASKING, ASKING)[:-1], "packet 2 is cut by the end of the file"),
     (pcap(ASKING, (frame(STAGE, MAC, kind="88f6"), 25)), "packet 2 is cut: 25 of its 60 octets were captured"),
     (pcap(ASKING, (frame(MIXER, MAC, kind="88f6"), None)),
      f"packet 2 is from {MIXER} on interface 0, which is no port; give --port {MIXER}=N"),
@@ -185,18 +184,20 @@ def test_frames_keep_their_meaning(srp, tmp_path):
     assert srp("capture", capture, *words) == text.read_text().replace(MAC + "ff", MAC)
     numbers = [line for line in srp("sheet", text).splitlines() if line.startswith("refused")]
     assert numbers == [f"refused {number}" for number in (2, 3, 3, 3, 3, 5, 2)]
-    for command in ("sheet", "table"):
-        assert srp(command, text) == srp(command, capture, *words)
+    assert srp("sheet", text) == srp("sheet", capture, *words)
+    # the table names who was refused: lines here, and packets there
+    own, captured = (srp("table", *of).split("\nbridge ")[1] for of in ((text,), (capture, *words)))
+    assert own == captured
 
 
 def as_captured(record):
     """A record as a capture gives it back; one that is no frame stays."""
-    from srp import captures, packets
+    from srp import captures, frames, link, packets, reading
 
     if not record.is_frame:
         return record
-    octets = captures.as_frame(record, captures.sources_of({}))
-    return captures.frame_of(packets.Packet(1, 0, "", packets.ETHERNET, octets, len(octets)), captures.OWN_PORTS).record
+    octets = frames.as_frame(record, frames.sources_of({}))
+    return captures.frame_of(packets.Packet(1, 0, "", link.ETHERNET, octets, len(octets)), reading.Reading()).record
 
 
 def test_generated_frames_keep_their_meaning():
@@ -208,7 +209,7 @@ def test_generated_frames_keep_their_meaning():
         octets = programs.run([str(ROOT / "tests/reference"), "make", "calls", str(seed)], b"")
         calls += records.split(octets, records.is_of_calls)[0]
     captured = [as_captured(record) for record in calls]
-    lines, again = (programs.calls(b"".join(record.octets for record in some)) for some in (calls, captured))
+    lines, again = (programs.calls(some) for some in (calls, captured))
     assert lines == again and calls != captured
     assert set(lines) > {f"mmrp {number}" for number in (0, 1, 2, 3, 4, 5, 6, 7, 14)}
 
@@ -233,8 +234,8 @@ def test_records_that_a_sheet_does_not_know(srp, tmp_path):
     settings = inputs.load(str(ROOT / CHOIR)).settings
     path = tmp_path / "records"
     path.write_bytes(settings + records.receive_mmrp(1, bytes.fromhex(MAC)).octets + records.advance(100).octets)
-    assert srp("sheet", path).splitlines()[0] == "stop"
-    assert "the reading stopped early" in srp("table", path) and "the reading stopped early" not in srp("table", CHOIR)
+    assert srp("sheet", path, status=1).splitlines()[0] == "stop"
+    assert "the reading stopped early" in srp("table", path, status=1) and "the reading stopped early" not in srp("table", CHOIR)
     for words in (("capture", path, "--received", "-o", tmp_path / "out.pcap"), ("capture", path, "-o", tmp_path / "out.pcap"),
                   ("diff", CHOIR, path)):
         assert "the reading stops early" in srp(*words, status=2)
@@ -244,4 +245,4 @@ def test_a_text_without_a_start(srp, tmp_path):
     text = tmp_path / "sheet.txt"
     text.write_text(BOTH.replace("start\n", ""))
     for words in (("sheet", text), ("table", text), ("capture", text, "--received", "-o", tmp_path / "out.pcap")):
-        assert "line 4: mmrp is not known here, in a text of a sheet" in srp(*words, status=2)
+        assert "line 4: mmrp stands in texts of calls alone, which have a start" in srp(*words, status=2)

@@ -1,4 +1,5 @@
 """The order among ports never matters: seen over many orders, and seen to be noticed where it does."""
+import json
 import random
 import shutil
 import sys
@@ -9,6 +10,11 @@ from conftest import CHOIR, ROOT, run
 WRONG = {"SRP_CALLS": f"{sys.executable} {ROOT}/workbench/tests/first_come.py"}
 
 
+def results_in(printed):
+    """The lines of results; below them stands what they decide in another way."""
+    return [line for line in printed.splitlines() if not line.startswith("    ")]
+
+
 def test_choir_prints_one_line(srp):
     [line] = srp("restarts", 1000, CHOIR).splitlines()
     assert line.startswith("1000 of 1000 orders, first order 0: table ")
@@ -16,16 +22,17 @@ def test_choir_prints_one_line(srp):
 
 
 def test_first_come_first_served_prints_several(srp):
-    lines = srp("restarts", 60, CHOIR, status=1, environment=WRONG).splitlines()
+    lines = results_in(srp("restarts", 60, CHOIR, status=1, environment=WRONG))
     assert len(lines) > 1
     assert sum(int(line.split()[0]) for line in lines) == 60
 
 
 def test_orders_keep_each_ports_own(srp):
-    from srp import inputs, records, restarts
+    from srp import inputs, records
+    from srp.orders import order
 
     given = inputs.load(str(ROOT / CHOIR))
-    orders = [restarts.order(given.records, 0, number) for number in range(200)]
+    orders = [order(given.records, 0, number) for number in range(200)]
     fixed = [place for place, record in enumerate(given.records) if record.kind != records.RECEIVE]
     for places in orders:
         served = sorted((given.records[place].port, at) for at, place in enumerate(places) if place not in fixed)
@@ -35,27 +42,28 @@ def test_orders_keep_each_ports_own(srp):
         assert [places[place] for place in fixed] == fixed
     # 2520 orders of the first eight frames, two of each port, and 2 of each of the pairs behind
     assert 190 < len(set(map(tuple, orders)))
-    first, again, other = ([restarts.order(given.records, seed, number) for number in range(9)] for seed in (0, 0, 1))
+    first, again, other = ([order(given.records, seed, number) for number in range(9)] for seed in (0, 0, 1))
     assert first == again != other
 
 
 def test_every_interleaving_is_as_likely():
-    from srp import records, restarts
+    from srp import orders, records
 
     calls = [records.receive(port, b"") for port in (1, 1, 2)]
-    found = [tuple(restarts.interleaved([0, 1, 2], calls, random.Random(seed))) for seed in range(3000)]
+    found = [tuple(orders.interleaved([0, 1, 2], calls, random.Random(seed))) for seed in range(3000)]
     assert {order: 900 < found.count(order) < 1100 for order in set(found)} == {(0, 1, 2): True, (0, 2, 1): True, (2, 0, 1): True}
 
 
 def test_mmrp_frames_are_served_among_the_others(srp, tmp_path):
-    from srp import inputs, restarts
+    from srp import inputs
+    from srp.orders import as_text, order
 
     text = ("bridge 8000000000000007 pruning\nports 2\nstart\non 1 talker 1\nmmrp 2 mac 91e0f0000001\non 2 domain 5 2 2 values 2\n"
             "time 1\n")
     given = inputs.of_text("asked.txt", text.encode())
-    orders = {tuple(restarts.order(given.records, 0, number)) for number in range(60)}
+    orders = {tuple(order(given.records, 0, number)) for number in range(60)}
     assert orders == {(0, 1, 2, 3, 4), (0, 2, 1, 3, 4), (0, 2, 3, 1, 4)}
-    assert "mmrp 2 octets 000206000191e0f00000016c00000000" in restarts.as_text(given, 0, 1)
+    assert "mmrp 2 octets 000206000191e0f00000016c00000000" in as_text(given, 0, 1)
     path = tmp_path / "asked.txt"
     path.write_text(text)
     [line] = srp("restarts", 60, path).splitlines()
@@ -68,7 +76,7 @@ def test_the_order_of_mmrp_frames_is_seen_to_matter(srp):
             "mmrp 2 mac 91e0f0000001 values 2\ntime 100\non 2 listener 1 ready values 2 and domain 5 2 2 values 2\ntime 200\n")
     [line] = srp("restarts", 60, "-", given=text).splitlines()
     assert "reserved port 2 A 17088000; 1 forward, 1 failed; refused none" in line
-    lines = srp("restarts", 60, "-", given=text, status=1, environment=WRONG).splitlines()
+    lines = results_in(srp("restarts", 60, "-", given=text, status=1, environment=WRONG))
     assert len(lines) == 2 and sum(int(line.split()[0]) for line in lines) == 60
 
 
@@ -124,6 +132,19 @@ def test_domain_frames_are_frames_like_others(srp, tmp_path):
     order = tmp_path / "order.txt"
     order.write_text(srp("restarts", 60, text, "--order", 7))
     assert srp("diff", text, order) == "no difference\n" and srp("table", text) == srp("table", order)
+
+
+def test_past_64_streams_the_premise_does_not_hold(both):
+    """Two ports ask for 40 streams each. Who comes first finds room, and that the theorem says nothing of it is said."""
+    text = "bridge 8000000000000007\nports 2\non 1 listener 1000 ready values 40\non 2 listener 2000 ready values 40\ntime 100\n"
+    status, printed, said = both("restarts", 40, "-", given=text)
+    assert status == 1 and "refused 1 with 8" in printed and "the theorem's premise does not hold: more than 64 streams" in said
+    status, printed, _ = both("restarts", 40, "-", "--json", given=text)
+    found = json.loads(printed)
+    assert status == 1 and not found["premise_holds"] and [one["refused"] for one in found["results"]] == [{"8": 1}] * 2
+    assert sum(one["count"] for one in found["results"]) == found["orders"] == 40
+    status, printed, said = both("restarts", 10, CHOIR, "--json")
+    assert (status, said) == (0, "") and json.loads(printed)["premise_holds"]
 
 
 def test_inputs_that_cannot_be_restarted(srp):

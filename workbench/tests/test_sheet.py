@@ -21,12 +21,25 @@ def test_csv(srp):
     assert {row["input"] for row in rows} == {CHOIR, OTHER}
     ports = [row for row in rows if row["input"] == CHOIR and row["line"] == "port"]
     assert [(row["port"], row["total_a"], row["limit_a"]) for row in ports][3] == ("4", "68352000", "75000000")
-    [refused] = [row for row in rows if (row["stream"], row["port"], row["input"]) == ("0200000000010004", "4", CHOIR)]
+    [refused] = [row for row in rows if (row["stream"], row["port"], row["input"]) == ("02:00:00:00:00:01:00:04", "4", CHOIR)]
     assert (refused["column"], refused["code"], refused["cause"]) == ("failed", "1", "insufficient bandwidth")
 
 
+def test_csv_is_read_by_pandas(srp, written):
+    """StreamIDs stay what they are, those of digits and an e among them too; numbers become whole ones."""
+    import pandas
+
+    text = written("digits.txt", "stream lead 0200000000010001\nbridge 8000000000000007\nports 2\non 1 talker 0200000000010001\n"
+                   "on 1 talker 02000000000100e1 to 91e0f0000002\ntime 100\n")
+    rows = pandas.read_csv(io.StringIO(srp("sheet", "--csv", text)))
+    streams = rows[rows.line == "stream"].convert_dtypes()
+    assert sorted(set(streams.stream)) == ["02:00:00:00:00:01:00:01", "02:00:00:00:00:01:00:e1"]
+    assert list(streams.code) == [0, 8, 0, 8] and set(streams.name.dropna()) == {"lead"}
+    assert list(streams[streams.code == 8].cause) == ["egress port is not AVB capable"] * 2
+
+
 def test_csv_of_refused_frames(srp):
-    rows = list(csv.DictReader(io.StringIO(srp("sheet", "--csv", "examples/refused-frames/numbers.txt"))))
+    rows = list(csv.DictReader(io.StringIO(srp("sheet", "--csv", "examples/refused-frames/numbers.txt", status=1))))
     numbers = [f"refused {row['number']}" for row in rows if row["line"] == "refused"]
     sheet = (ROOT / "examples/refused-frames/sheet").read_text().splitlines()
     assert numbers == [line for line in sheet if line.startswith("refused")] != []
@@ -41,21 +54,26 @@ def test_json(srp):
     assert sheet["refused"] == [] and not sheet["stopped"] and sheet["ports"][3]["total_a"] == 68352000
 
 
+# Elements that have nothing in them.
+EMPTY = ("meta", "rect", "br", "input", "path", "line")
+
+
 class Page(HTMLParser):
     """The words of a page, and what it would fetch."""
 
     def __init__(self, page):
         super().__init__()
-        self.words, self.fetched, self.open = [], [], []
+        self.words, self.fetched, self.places, self.open = [], [], [], []
         self.feed(page)
 
     def handle_starttag(self, tag, attributes):
         self.fetched += [value for name, value in attributes if name in ("src", "href", "xlink:href")]
-        if tag not in ("meta", "rect"):
+        self.places += [value for name, value in attributes if name == "id"]
+        if tag not in EMPTY:
             self.open.append(tag)
 
     def handle_endtag(self, tag):
-        if tag != "rect":
+        if tag not in EMPTY:
             assert self.open.pop() == tag
 
     def handle_data(self, data):
@@ -66,7 +84,8 @@ def test_page(srp):
     source = srp("sheet", "--html", CHOIR)
     page = Page(source)
     text = " ".join(page.words)
-    assert page.fetched == [] and page.open == [] and "url(" not in source and "http" not in source
+    assert all(word.startswith("#") for word in page.fetched) and page.open == []
+    assert "url(" not in source and "http" not in source
     assert "68.352 Mbit/s of 75 Mbit/s, 91 %" in text and "code 1: insufficient bandwidth" in text
     holders = re.findall(r"17\.088 Mbit/s (\w{16}) (no room)?", text)
     order = ["9", "1", "2", "3", "4", "5", "0"]
@@ -76,8 +95,8 @@ def test_page(srp):
 
 def test_page_of_several_inputs(srp):
     broken = "examples/refused-settings/cut.txt", "examples/refused-frames/numbers.txt"
-    text = " ".join(Page(srp("sheet", "--html", OTHER, *broken)).words)
-    assert "The reading stopped early: the settings are refused." in text and "Refused calls: " in text
+    text = " ".join(Page(srp("sheet", "--html", OTHER, *broken, status=1)).words)
+    assert "The reading stopped early: the settings are refused: the settings have 8 octets" in text and "Refused calls: " in text
 
 
 def test_shares_add_up_on_generated_sheets():
@@ -109,7 +128,7 @@ def test_table(srp, tmp_path):
                       "port 2: Domain of class A, priority 3, VLAN 8",
                       "port 2: Domain of class B, priority 2, VLAN 8, leaving since 2.50 s, gone from 3.10 s on",
                       "port 3: at the edge of class A's domain", "port 3: at the edge of class B's domain"]
-    assert "no bridge was started" in srp("table", "examples/refused-settings/cut.txt")
+    assert "no bridge was started" in srp("table", "examples/refused-settings/cut.txt", status=1)
 
 
 def test_table_without_a_domain(srp, tmp_path):

@@ -9,7 +9,7 @@ use lib.Dec.{leb}
 use Rattle.octets.specs.Fields.{Fit}
 use Rattle.octets.proofs.Fields.{fit-at}
 use Rattle.model.specs.Layout.{portWidths, resultIn}
-use Rattle.model.specs.State.{Settings, Class, noClass, classA, classB, Result, Stream, Totals, Bridge, noTotals, totalsAt, Port, portAt, resultAt, inForce}
+use Rattle.model.specs.State.{Settings, Class, noClass, classA, classB, Result, Stream, Totals, Bridge, noTotals, totalsAt, portAt, resultAt, inForce}
 use Rattle.model.specs.Registrations.{holding}
 use Rattle.model.specs.Bandwidth.{Claim, sort, admitted, total}
 use Rattle.model.specs.Table.{portNumbers, resultNumbers, columnNumber, columnBridge, columnCode, entryNumber}

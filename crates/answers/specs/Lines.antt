@@ -11,7 +11,7 @@ use Rattle.io.specs.Digits.{digits}
 use Rattle.model.specs.Why.{letter}
 use Rattle.columns.specs.Steps.{stepShown}
 use Rattle.why.specs.declared.Why.{Why}
-use Rattle.reports.specs.declared.Reported.{Reported}
+use Rattle.model.specs.Reports.{Report}
 use Rattle.bridge.specs.declared.Wrote.{Wrote}
 use Rattle.console.specs.Text.{spaced}
 use Rattle.console.specs.Words.{shownText}
@@ -38,9 +38,9 @@ unfoldable pub writtenText : Wrote → List ℕ → List ℕ
 writtenText w s = numbersText (119 ∷ 114 ∷ 105 ∷ 116 ∷ 101 ∷ []) (w .number ∷ w .length ∷ w .next ∷ []) ++ bufferText (w .length) s
 
 -- report N COUNT TOTALA LIMITA TOTALB LIMITB ID COLUMN CODE LISTENER ENTRY
-unfoldable pub reportedText : Reported → List ℕ
+unfoldable pub reportedText : Report → List ℕ
 reportedText r =
-    (numbersText (114 ∷ 101 ∷ 112 ∷ 111 ∷ 114 ∷ 116 ∷ []) (r .number ∷ r .count ∷ r .«total_a» ∷ r .«limit_a» ∷ r .«total_b» ∷ r .«limit_b» ∷ []) ++ (32 ∷ digits 16 16 (r .id)))
+    (numbersText (114 ∷ 101 ∷ 112 ∷ 111 ∷ 114 ∷ 116 ∷ []) (r .number ∷ r .count ∷ r .totalA ∷ r .limitA ∷ r .totalB ∷ r .limitB ∷ []) ++ (32 ∷ digits 16 16 (r .id)))
     ++ shownText r
 
 -- the letter of a step, or none where there is no letter, a space before it

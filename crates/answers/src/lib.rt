@@ -4,14 +4,25 @@ use bridge::Wrote;
 use reports::Reported;
 use why::Why;
 ghost use mathlib.Core.Path.{_≡_};
-ghost use lib.ListN.{drop};
+ghost use lib.ListN.{length, drop};
 ghost use mathlib.Core.List.{_++_};
 ghost use Rattle.console.specs.Text.{Put};
+ghost use Rattle.reports.specs.Shown.{shown};
 ghost use Rattle.answers.specs.Sums.{adler32, all};
 ghost use Rattle.answers.specs.Lines.{numbersText, octetsText, keptText, bufferText, stepText, writtenText, reportedText, explainedText, sumText};
 
 // What the buffer of a write or a why is filled with before the call.
 pub const FILLING: u8 = 0xA5;
+
+// The longest such buffer.
+pub const BUFFER: usize = 2048;
+
+// It, filled. The promise gives only the length, which lending the array as a slice needs.
+pub fn filled() -> [u8; BUFFER]
+    ensures { λ r. ⌜ 2048 ≡ length r ⌝ }
+{
+    [FILLING; BUFFER]
+}
 
 // A word and numbers in decimal behind it, a space before each.
 pub fn put_numbers(line: &mut [u8], at: usize, word: &[u8], numbers: &[u64]) -> usize
@@ -88,7 +99,7 @@ pub fn put_written(line: &mut [u8], wrote: Wrote, buffer: &[u8]) -> usize
 
 // The line of a report: the streams held, the port's class totals and limits, and the stream at the place.
 pub fn put_reported(line: &mut [u8], answer: Reported) -> usize
-    ensures { λ r. ⌜ Put (now (line .entry)) 0 (reportedText answer) r (now (line .exit)) ⌝ }
+    ensures { λ r. ⌜ Put (now (line .entry)) 0 (reportedText (shown answer)) r (now (line .exit)) ⌝ }
 {
     let numbers = [
         answer.number as u64,

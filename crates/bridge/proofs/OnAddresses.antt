@@ -1,9 +1,8 @@
 -- Receive_mmrp on a table, way by way: what it answers, and what it leaves of it.
-use mathlib.Core.Path.{_≡_, refl, sym, _∙_, ap}
+use mathlib.Core.Path.{_≡_, sym, _∙_, ap}
 use mathlib.Core.List.{List}
 use mathlib.Core.Bool.{true, false}
 use Prim.Native.Nat.{ℕ, _-_, _≤_, _<_}
-use native.Mathlib.Omega.{arith}
 use lib.ListN.{length}
 use borrow.Author.Tests.{le-leb, lt-leb, ne-eqb}
 use Rattle.model.specs.Layout.{mostAddresses}
@@ -12,7 +11,7 @@ use Rattle.model.specs.Registrations.{AddressAct, AddressReading, refusedFrame,
 use Rattle.model.specs.Frames.{wrongPort}
 use Rattle.model.specs.AddressFrames.{addressWalk, addressReading}
 use Rattle.model.specs.Table.{formed, encode, decode}
-use Rattle.model.specs.Calls.{Call, onTable, leaves, receiveMmrp, receiveMmrpOn}
+use Rattle.model.specs.Calls.{onTable, leaves, receiveMmrp, receiveMmrpOn}
 use Rattle.model.proofs.Lists.{at-here}
 use Rattle.model.proofs.AddressesKept.{acts-macs}
 use Rattle.model.proofs.AddressRefusals.{heldOn}

@@ -6,7 +6,7 @@ use mathlib.Core.Bool.{true, false}
 use Prim.Native.Nat.{ℕ, _^_, _<_}
 use lib.ListN.{length}
 use Rattle.model.specs.Lists.{Octets}
-use Rattle.model.specs.State.{none, Bridge, ownAt, streamAt, resultAt}
+use Rattle.model.specs.State.{none, ownAt, streamAt, resultAt}
 use Rattle.model.specs.Settling.{Origin, holdsAddress, decideAt, settle}
 use Rattle.model.specs.Table.{decode, formed}
 use Rattle.model.specs.Calls.{Call, receiveMmrp, receiveMmrpOn}

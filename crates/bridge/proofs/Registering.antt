@@ -9,7 +9,7 @@ use lib.Dec.{leb}
 use borrow.Author.Tests.{leb-true, leb-false}
 use Rattle.model.specs.Layout.{mostAddresses, ownPlace, ownSize}
 use Rattle.model.specs.Lists.{All}
-use Rattle.model.specs.State.{Presence, vacant, present, Address, Own, Bridge, noOwn, ownAt}
+use Rattle.model.specs.State.{Presence, vacant, present, Address, Own, noOwn, ownAt}
 use Rattle.model.specs.Registrations.{AddressAct, AddressReading, doesAddresses, changeAddresses, owning}
 use Rattle.model.specs.AddressFrames.{addressWalk}
 use Rattle.model.specs.Table.{encode, decode, ownOctets, toOwn}

@@ -5,7 +5,7 @@ use Prim.Native.Nat.{ℕ, _+_, _^_, _≤_, _<_}
 use lib.ListN.{length}
 use Rattle.octets.specs.Be.{beAt}
 use Rattle.model.specs.FrameLayout.{advertiseLength, failedLength, inFirstValue}
-use Rattle.model.specs.Layout.{cellSize, inCell, priorityBUnit}
+use Rattle.model.specs.Layout.{cellSize, priorityBUnit}
 use Rattle.model.specs.Frames.{registers, firstLength}
 use Rattle.model.specs.Laid.{LaidCell}
 use Rattle.cells.specs.Acts.{kindAt}

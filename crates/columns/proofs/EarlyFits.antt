@@ -4,16 +4,13 @@ use native.Mathlib.Omega.{arith}
 use mathlib.Core.Path.{refl}
 use Rattle.octets.specs.Fields.{Fit}
 use Rattle.model.specs.State.{Result, Stream, Bridge, Column, none, advertise, failed, Entry, noEntry, filters, forwards, cellAt, resultAt, unsettled}
-use Rattle.model.specs.Settling.{Scene, sceneOf, sourceOf, fixedOf, ageOf, latencyOut, entryOf, ageKept, registered}
+use Rattle.model.specs.Settling.{Scene, sceneOf, sourceOf, ageOf, latencyOut, entryOf, ageKept, registered}
 use Rattle.model.specs.Table.{resultNumbers, columnNumber, columnBridge, columnCode, entryNumber, declaredNumber}
-use Rattle.model.specs.Laid.{FitCell, FitResult, FitStream, FitBridge}
-use Rattle.model.proofs.Lists.{all-map, all-getD, all-tabulate}
+use Rattle.model.specs.Laid.{FitResult, FitStream, FitBridge}
+use Rattle.model.proofs.Lists.{all-getD, all-tabulate}
 use Rattle.model.proofs.Parts.{_also_}
-use Rattle.model.proofs.Cells.{fixed-fit}
-use Rattle.model.proofs.Fits.{latest, longest, fit-cell, id-fits}
-use Rattle.model.proofs.Valid.{ValidCell}
-use Rattle.model.proofs.AdvanceKeepsForm.{length-tabulate, ValidSource, source-valid, fixed-valid, type-valid, ValidFailure, steps-valid, capped-fits, latency-fits}
-use Rattle.table.specs.Reads.{FitFixed}
+use Rattle.model.proofs.Fits.{latest, longest, id-fits}
+use Rattle.model.proofs.AdvanceKeepsForm.{length-tabulate, type-valid, ValidFailure, steps-valid, capped-fits, latency-fits}
 use Rattle.table.proofs.Fitting.{unsettled-fits, map-fits}
 use Rattle.streams.proofs.Fixed.{source-fits}
 pub use Rattle.streams.proofs.Fixed.{settled-values}

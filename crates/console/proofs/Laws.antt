@@ -1,5 +1,5 @@
 -- A text put into a line, and texts put one behind the other. Assumes nothing.
-use Prim.Native.Nat.{ℕ, zero, suc, _+_, _-_, _/_, _%_, _^_, _≤_, _<_, min}
+use Prim.Native.Nat.{ℕ, zero, suc, _+_, _-_, _/_, _^_, _≤_, _<_, min}
 use native.Mathlib.Nat.{add-assoc, pow-suc, pow-le-pow-right}
 use native.Mathlib.Numerals.{add-one}
 use native.Mathlib.Omega.{arith}
@@ -7,7 +7,7 @@ use mathlib.Core.Path.{_≡_, refl, sym, ap, _∙_}
 use mathlib.Core.Bool.{Bool, true, false}
 use mathlib.Core.List.{List, [], _∷_, _++_, append-nil}
 use lib.ListN.{length, getD, take, drop, length-append}
-use lib.Seq.{length-take-le, take-suc}
+use lib.Seq.{length-take-le, take-suc, take-at, take-all}
 use lib.Dec.{ltb}
 use borrow.Author.Tests.{ltb-true, ltb-false}
 use Rattle.octets.specs.Parts.{patch}
@@ -85,6 +85,16 @@ put-append {b = b} {m = m} {x = x} {y = y} {at = at} {e = e} p q =
           (patch-next s n k (take n x) (take k y) b long room);
       within = q .within;
     }
+
+-- a text that fits is put whole
+pub put-whole : {line text after : List ℕ} {end : ℕ} → Put line 0 text end after → length text ≤ length line → take end after ≡ text
+unfolding startOf fitting putIn patch
+put-whole {line = line} {text = text} p h =
+    let start : min 0 (length line) ≡ 0 = omega arith in
+    let all : min (length text) (length line - 0) ≡ length text = omega arith in
+    let end = rw (start, all) at (p .end-is) in
+    let after = rw (start, all, take-all (length text) text (omega arith)) at (p .line-is) in
+    rw (end, after) (take-at text (drop (length text) line) (0 + length text) (omega arith))
 
 -- the text of one thing more
 pub flat-more : (text : ℕ → List ℕ) (s : List ℕ) (i : ℕ) → i < length s → flat text (take i s) ++ text (getD s i 0) ≡ flat text (take (i + 1) s)

@@ -1,16 +1,12 @@
-// Lines of text, built in octets that the caller lends and written by one call each. None of the public ones asks
-// anything of its arguments: an `at` past the end of the line counts as the end, and what does not fit is left out.
-use libc::STDOUT_FILENO;
+// Texts, put into octets that the caller lends. None of the public ones asks anything of its arguments: an `at` past the end of the
+// line counts as the end, and what does not fit is left out.
 use reports::ColumnShown;
 use reports::EntryShown;
 use reports::ListenerShown;
 use reports::Reported;
-ghost use mathlib.Core.Path.{_≡_};
-ghost use mathlib.Core.Bool.{false};
-ghost use Prim.Native.Nat.{_≤_};
-ghost use lib.ListN.{length, set};
 ghost use Rattle.octets.specs.Fields.{flat};
 ghost use Rattle.io.specs.Digits.{digits};
+ghost use Rattle.reports.specs.Shown.{columnWord, declared, entered, shown};
 ghost use Rattle.console.specs.Text.{HexGiven, Least, Put, decimal, spaced};
 ghost use Rattle.console.specs.Words.{columnText, listenerText, entryText, talkerText, shownText};
 
@@ -88,7 +84,7 @@ pub fn put_octets(line: &mut [u8], at: usize, octets: &[u8]) -> usize
 
 // The word of a column.
 fn put_column(line: &mut [u8], at: usize, column: ColumnShown) -> usize
-    ensures { λ r. ⌜ Put (now (line .entry)) at (columnText column) r (now (line .exit)) ⌝ }
+    ensures { λ r. ⌜ Put (now (line .entry)) at (columnText (columnWord column)) r (now (line .exit)) ⌝ }
 {
     match column {
         ColumnShown::None => put(line, at, b"none"),
@@ -99,7 +95,7 @@ fn put_column(line: &mut [u8], at: usize, column: ColumnShown) -> usize
 
 // The word of the Listener declared on a port.
 fn put_listener(line: &mut [u8], at: usize, listener: ListenerShown) -> usize
-    ensures { λ r. ⌜ Put (now (line .entry)) at (listenerText listener) r (now (line .exit)) ⌝ }
+    ensures { λ r. ⌜ Put (now (line .entry)) at (listenerText (declared listener)) r (now (line .exit)) ⌝ }
 {
     match listener {
         ListenerShown::None => put(line, at, b"none"),
@@ -111,7 +107,7 @@ fn put_listener(line: &mut [u8], at: usize, listener: ListenerShown) -> usize
 
 // The word of an entry.
 fn put_entry(line: &mut [u8], at: usize, entry: EntryShown) -> usize
-    ensures { λ r. ⌜ Put (now (line .entry)) at (entryText entry) r (now (line .exit)) ⌝ }
+    ensures { λ r. ⌜ Put (now (line .entry)) at (entryText (entered entry)) r (now (line .exit)) ⌝ }
 {
     match entry {
         EntryShown::None => put(line, at, b"none"),
@@ -122,7 +118,7 @@ fn put_entry(line: &mut [u8], at: usize, entry: EntryShown) -> usize
 
 // Column and code of a report, a space before each.
 fn put_talker(line: &mut [u8], at: usize, answer: Reported) -> usize
-    ensures { λ r. ⌜ Put (now (line .entry)) at (talkerText answer) r (now (line .exit)) ⌝ }
+    ensures { λ r. ⌜ Put (now (line .entry)) at (talkerText (shown answer)) r (now (line .exit)) ⌝ }
 {
     let column = answer.column;
     let a = put(line, at, b" ");
@@ -132,7 +128,7 @@ fn put_talker(line: &mut [u8], at: usize, answer: Reported) -> usize
 
 // What a report shows of a stream on a port: column, code, Listener and entry, a space before each.
 pub fn put_shown(line: &mut [u8], at: usize, answer: Reported) -> usize
-    ensures { λ r. ⌜ Put (now (line .entry)) at (shownText answer) r (now (line .exit)) ⌝ }
+    ensures { λ r. ⌜ Put (now (line .entry)) at (shownText (shown answer)) r (now (line .exit)) ⌝ }
 {
     let listener = answer.listener;
     let entry = answer.entry;
@@ -141,16 +137,4 @@ pub fn put_shown(line: &mut [u8], at: usize, answer: Reported) -> usize
     let c = put_listener(line, b, listener);
     let d = put(line, c, b" ");
     put_entry(line, d, entry)
-}
-
-// Ends a line and writes it to standard output: false where it has no room for its end, or could not be written.
-pub fn write_line(line: &mut [u8], at: usize) -> bool
-    ensures { λ r. ⌜ (now (line .exit) ≡ set (now (line .entry)) at 10) × (length (now (line .entry)) ≤ at → r ≡ false) ⌝ }
-{
-    if at < line.len() {
-        line[at] = b'\n';
-        let end = at + 1;
-        return io::write_all(STDOUT_FILENO, &line[0..end]);
-    }
-    false
 }

@@ -15,7 +15,7 @@ use Rattle.model.specs.FrameLayout.{longestPdu}
 use Rattle.model.specs.Lists.{All, longest}
 use Rattle.model.specs.Registrations.{advertises, faileds, listeners}
 use Rattle.model.specs.Frames.{Attribute, registers, domainType, typeNumber}
-use Rattle.model.specs.Declarations.{Declaration, attributeOf, vectorSize, vectorsSize, messageSize, fitting}
+use Rattle.model.specs.Declarations.{Declaration, vectorSize, vectorsSize, messageSize, fitting}
 use Rattle.model.specs.WrittenFrames.{messageOctets}
 use Rattle.model.proofs.Lists.{all-map, all-append, all-take, all-drop, longest-ends, longest-stops, longest-goes, longest-within, longest-same, longest-from}
 use Rattle.model.proofs.WritingPasses.{OfAttribute, After, fitsWith, length-message, message-some, fitting-types, fitting-single}

@@ -3,11 +3,10 @@ use mathlib.Core.Path.{_≡_, refl, sym, _∙_, ap}
 use mathlib.Core.Bool.{Bool, true, false, false≢true}
 use mathlib.Core.List.{List, [], _∷_, _++_, map, append-nil, append-assoc}
 use Prim.Native.Nat.{ℕ, zero, suc, _+_, _-_, _≤_, _<_}
-use native.Mathlib.Nat.{sub-zero}
 use native.Mathlib.Numerals.{add-one}
 use native.Mathlib.Omega.{arith}
-use lib.ListN.{length, getD, set, take, drop, length-set, length-append, length-drop, drop-of-length-le}
-use lib.Seq.{take-all, take-at, take-suc, take-suc-set, drop-length, drop-drop, length-take-le}
+use lib.ListN.{length, set, take, drop, length-set, length-append, length-drop, drop-of-length-le}
+use lib.Seq.{take-all, take-at, take-suc-set, drop-drop, length-take-le}
 use lib.Dec.{ltb}
 use borrow.Author.Tests.{ltb-true, ltb-false}
 use Rattle.octets.specs.Fields.{flat}
@@ -17,13 +16,13 @@ use Rattle.model.specs.Lists.{All}
 use Rattle.model.specs.State.{Declared, nothing, tells, resultAt, streamAt, readyNumber}
 use Rattle.model.specs.Registrations.{ids, listeners}
 use Rattle.model.specs.Frames.{registers}
-use Rattle.model.specs.Cutting.{Part, values, octetsFor, octets}
+use Rattle.model.specs.Cutting.{Part, values, octetsFor}
 use Rattle.model.specs.Best.{bests, best, least}
 use Rattle.model.specs.Declarations.{Declaration, listenerDeclaration, declaredId, declaredIds, listening, declarationsOf}
 use Rattle.model.specs.WrittenFrames.{listenerNumber, packedVector, cutAs, listenerParts, vectorsOf, vectorOctets}
 use Rattle.model.specs.Table.{declaredNumber, decode}
 use Rattle.model.specs.Laid.{Ascending, Laid}
-use Rattle.model.proofs.Lists.{all-append, all-take, all-drop}
+use Rattle.model.proofs.Lists.{all-append, all-take}
 use Rattle.model.proofs.Fits.{laid-fits}
 use Rattle.model.proofs.Ascents.{ascending-take, ascending-drop}
 use Rattle.model.proofs.Cells.{ready-number}

@@ -1,11 +1,11 @@
 -- The octets of a declaration's vector are those that its stream and its result there hold: StreamID and settled values, and of the
 -- result latency, Bridge ID and code.
-use Prim.Native.Nat.{ℕ, zero, suc, _+_, _*_, _≤_, _<_}
+use Prim.Native.Nat.{ℕ, zero, suc, _+_, _≤_, _<_}
 use native.Mathlib.Omega.{arith}
 use mathlib.Core.Path.{_≡_, refl, sym, _∙_}
 use mathlib.Core.Bool.{Bool, true, false}
 use mathlib.Core.List.{List, [], _∷_, _++_, append-nil, append-assoc}
-use lib.ListN.{getD, take}
+use lib.ListN.{take}
 use Rattle.octets.specs.Parts.{part}
 use Rattle.octets.specs.Fields.{packed, width, flat}
 use Rattle.octets.proofs.Fields.{packed-append, part-run}
@@ -17,7 +17,7 @@ use Rattle.model.specs.Frames.{registers, firstWidths}
 use Rattle.model.specs.WrittenFrames.{fixedNumbers, failureNumbers, firstNumbers, fourOctets, declarationVector, vectorOctets}
 use Rattle.model.specs.Declarations.{talkerDeclaration, talkerKind, attributeOf, advertised, failing, declarationsOf, domainOf}
 use Rattle.model.specs.Table.{columnBridge, columnCode, resultNumbers, resultOctets}
-use Rattle.table.specs.Reads.{fixedOctets, ReadsResult}
+use Rattle.table.specs.Reads.{fixedOctets}
 use Rattle.declarations.specs.Vectors.{some, headed, talkerBegun, talkerVector, domainVector}
 use Rattle.declarations.specs.Passes.{declares, classAt, declaresClass, vectors}
 

@@ -13,11 +13,11 @@ use Rattle.octets.specs.Be.{be}
 use Rattle.octets.proofs.Parts.{length-part, length-patch}
 use Rattle.octets.proofs.Patches.{lent-patch}
 use Rattle.octets.proofs.Be.{length-be, be-zero}
-use Rattle.model.specs.Lists.{All, keep}
+use Rattle.model.specs.Lists.{All}
 use Rattle.model.specs.State.{Bridge, portAt}
 use Rattle.model.specs.Registrations.{advertises, faileds, listeners}
 use Rattle.model.specs.Frames.{Attribute, registers, domainType, typeNumber, firstLength}
-use Rattle.model.specs.Declarations.{Declaration, attributeOf, sameAttribute, having, domainValues, declarations, takes}
+use Rattle.model.specs.Declarations.{Declaration, sameAttribute, having, domainValues, declarations, takes}
 use Rattle.model.specs.WrittenFrames.{declarationVector, vectorsOf, vectorOctets, messageOf, messageOctets, pduOctets}
 use Rattle.model.proofs.WritingPasses.{inTurn, OfAttribute, ofKind-attribute, domains-attribute, having-append, takes-within}
 use Rattle.declarations.specs.declared.Progress.{Progress}

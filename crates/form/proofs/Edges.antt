@@ -1,5 +1,5 @@
 -- The rules of a Domain value, of an address, and of what a port holds, by the octets that the code tests.
-use mathlib.Core.Path.{_≡_, sym, _∙_}
+use mathlib.Core.Path.{_≡_, _∙_}
 use mathlib.Core.List.{List, [], _∷_}
 use mathlib.Core.Bool.{Bool, false, not, _&&_, _||_, and-assoc, and-true}
 use Prim.Native.Nat.{ℕ, _-_, _*_, _≤_, _<_}

@@ -2,7 +2,7 @@
 use mathlib.Core.Path.{_≡_, refl}
 use mathlib.Core.List.{List}
 use mathlib.Core.Bool.{Bool, true, not, _&&_}
-use Prim.Native.Nat.{ℕ, zero, suc, _+_, _-_, _*_, _≤_, _<_}
+use Prim.Native.Nat.{ℕ, _+_, _-_, _*_, _≤_, _<_}
 use native.Mathlib.Nat.{zero-add, sub-zero}
 use native.Mathlib.Omega.{arith}
 use borrow.Author.Needs.{needs}
@@ -11,7 +11,7 @@ use lib.Seq.{getD-take, getD-drop}
 use lib.Dec.{eqb}
 use Rattle.model.specs.Layout.{cellSize, inCell}
 use Rattle.model.specs.Lists.{parts, bit}
-use Rattle.model.specs.Table.{everyPart, cellFormed, toCell, holds, talkers}
+use Rattle.model.specs.Table.{cellFormed, toCell, talkers}
 use Rattle.model.proofs.Cells.{talking-read}
 use Rattle.form.specs.Asks.{CellsFound}
 use Rattle.form.proofs.Counted.{Counted, counted-more, counted-all}

@@ -14,7 +14,7 @@ use Rattle.octets.specs.Fields.{fields}
 use Rattle.octets.proofs.Frame.{beAt-part}
 use Rattle.model.specs.Layout.{cellSize, inRecord, cellsSize, inTable, nameWidths, ownSize, ownsSize, portPlace, portSize, portsUnit, priorityBUnit, recordSize, recordsSize, resultSize, resultsSize, settingsSize, tableLength, totalSize, totalsSize, inHead}
 use Rattle.model.specs.Lists.{allTrue, implies, parts}
-use Rattle.model.specs.Table.{portsField, toPort, toSettings, settingsRules, allZero, everyPart, cellFormed, toCell, resultFormed, toResult, cellsPart, resultsPart, toStream, holds, talkers, declarers, storedFormed, everyPort, streamRules, streamFormed, toTotals, ownFormed, ownsPart}
+use Rattle.model.specs.Table.{portsField, toPort, toSettings, settingsRules, allZero, everyPart, toCell, resultFormed, toResult, cellsPart, resultsPart, toStream, declarers, storedFormed, everyPort, streamRules, streamFormed, toTotals, ownFormed, ownsPart}
 use Rattle.model.specs.Table.{settingsPart, clockField, countField, totalsPart, recordsPart, rising, idOf, totalsWithin, tableRules}
 use Rattle.model.proofs.Lists.{all-true}
 use Rattle.model.proofs.SettingsOctets.{eight-ports}

@@ -32,7 +32,7 @@ use Rattle.mmrpdu.proofs.Applying.{Sound, sound, address-read, other-acts, macs
 use Rattle.addresses.specs.Room.{presentOnly}
 use Rattle.mmrp.specs.declared.Asked.{Asked}
 use Rattle.mmrp.specs.declared.Asked.the-variants.{Nothing, Join, Leave}
-use Rattle.mmrp.specs.Run.{room, effects, held, having, Walked}
+use Rattle.mmrp.specs.Run.{effects, held, having, Walked}
 use Rattle.mmrp.specs.Walked.{askedOf, vectorOf, actsOf, listRead, listActsOf, listEndOf, taken, Receives}
 use Rattle.mmrp.specs.Asks.{HasAddress}
 use Rattle.mmrp.proofs.Room.{effects-applied, same-length, applied-after-room}

@@ -1,13 +1,13 @@
 -- The two walks over an MMRP frame: the first makes room for all addresses joined or stops, the second then does what the acts ask
 -- for. Where the first stops, dropping the vacant records restores what was held. Assumes nothing.
-use Prim.Native.Nat.{ℕ, _+_, _≤_, _<_}
+use Prim.Native.Nat.{ℕ, _≤_, _<_}
 use mathlib.Core.Path.{_≡_, refl, sym, ap, _∙_}
 use mathlib.Core.List.{List, [], _∷_, _++_, map}
 use mathlib.Core.Bool.{Bool, true, false}
 use native.Mathlib.Omega.{arith}
 use lib.ListN.{length}
 use Rattle.model.specs.Lists.{All}
-use Rattle.model.specs.State.{vacant, Address}
+use Rattle.model.specs.State.{Address}
 use Rattle.model.specs.Registrations.{AddressAct, leaveAllAddresses, leaveAddress, joinAddress, quitPresence, quitAddress, joinedAddress, withJoined, withLeft, doesAddress, doesAddresses, together, macs, addressJoins}
 use Rattle.model.specs.Laid.{Ascending}
 use Rattle.model.proofs.Lists.{all-map}

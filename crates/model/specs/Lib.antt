@@ -1,7 +1,12 @@
 pub mod Layout
 pub mod FrameLayout
 pub mod Lists
+pub mod Applicant
+pub mod LeaveAll
+pub mod Places
+pub mod Machines
 pub mod State
+pub mod Registrar
 pub mod Registrations
 pub mod Frames
 pub mod Cutting
@@ -14,5 +19,6 @@ pub mod Reports
 pub mod Why
 pub mod WrittenFrames
 pub mod Table
+pub mod Sending
 pub mod Calls
 pub mod Laid

@@ -5,6 +5,8 @@ use Prim.Native.Nat.{ℕ, _+_, _-_}
 use lib.ListN.{getD, replicate, length}
 use lib.Dec.{ltb, eqb}
 use Rattle.model.specs.Layout.{slots}
+use Rattle.model.specs.Machines.{Applicant}
+use Rattle.model.specs.LeaveAll.{LeaveAll}
 
 -- Settings (01, "Numbers given back": "Settings, fields most significant bit first"; 02, ii, vi and x).
 
@@ -132,6 +134,28 @@ pub record Result : Type 0 where
   pub entry : Entry
   pub age : ℕ
   pub declares : Declared
+
+-- What is sent (02, xiv): a machine for each declaration in a port's list, with the octets last declared.
+
+-- a Talker's values behind its StreamID, in the order of a FirstValue; and for Failed the Bridge ID and code behind them
+pub record Offer : Type 0 where
+  pub fixed : Fixed
+  pub latency : ℕ
+
+pub record Failure : Type 0 where
+  pub bridge : ℕ
+  pub code : ℕ
+
+-- what a port sends of one stream: "Advertise and Failed of one StreamID are two declarations"
+pub record Sends : Type 0 where
+  pub advertising : Applicant Offer
+  pub failing : Applicant (Offer × Failure)
+  pub listening : Applicant Ready
+
+-- what it sends by itself: an Applicant for each Domain value, by the slots of `Own`, and its LeaveAll machine
+pub record Sender : Type 0 where
+  pub domains : List (Applicant (Unit {0}))
+  pub leaveAll : LeaveAll
 
 -- a held stream: its registrations and results on the eight ports that a table has room for, and the fixed values of its
 -- Talker as the last advance took them

@@ -11,7 +11,7 @@ use Rattle.octets.specs.Be.{beAt}
 use Rattle.octets.specs.Parts.{part}
 use Rattle.octets.proofs.Parts.{lent-length}
 use Rattle.model.specs.FrameLayout.{longestPdu}
-use Rattle.model.specs.Frames.{Attribute, TypeOctet, notAllowed, unknown, known, typeOctet, firstLength, threeLength, hasFour, fourLength, Vector, vectorAt, vectorEnd, vectorHead, typedIn, Walk, fault, found, also, both, messages, walk, vectorActs, frameActs}
+use Rattle.model.specs.Frames.{Attribute, TypeOctet, notAllowed, unknown, known, typeOctet, firstLength, threeLength, hasFour, fourLength, Vector, vectorAt, vectorEnd, vectorHead, typedIn, Walk, fault, found, messages, walk, vectorActs, frameActs}
 use Rattle.model.proofs.Refusals.{walk-faults}
 use Rattle.model.proofs.FoundVectors.{no-fault, also-found, both-found, passed, passed-all, Sound, sound-at}
 use Rattle.msrpdu.specs.Reader.{headOf, headVector, typedRead, messageRead, numberOf}

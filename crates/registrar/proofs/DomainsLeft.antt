@@ -1,11 +1,9 @@
 -- LeaveAll of the Domain values of a port, done on one slot after another.
 use Prim.Native.Nat.{ℕ, zero, suc, _+_, _^_, _<_}
-use mathlib.Core.Path.{_≡_, refl, sym, _∙_, ap, ap₂}
-use mathlib.Core.List.{List, [], _∷_, map}
+use mathlib.Core.Path.{_≡_, refl, sym, _∙_, ap}
+use mathlib.Core.List.{List, [], _∷_}
 use mathlib.Core.Bool.{true}
-use native.Mathlib.Omega.{arith}
 use native.Mathlib.Numerals.{add-one}
-use lib.ListN.{length}
 use Rattle.model.specs.Layout.{slots}
 use Rattle.model.specs.Lists.{All}
 use Rattle.model.specs.State.{Own, Bridge}

@@ -6,7 +6,7 @@ use mathlib.Core.Bool.{Bool, true, false}
 use native.Mathlib.Omega.{arith}
 use lib.ListN.{length, getD, List·getD-map}
 use Rattle.model.specs.State.{Cell, Stream, Bridge, fresh}
-use Rattle.model.specs.Registrations.{Act, leaveAll, leave, talk, listen, ofDomain, does, at, change, touch, reach, apply, holding, owning, ids}
+use Rattle.model.specs.Registrations.{Act, leaveAll, leave, talk, listen, ofDomain, does, at, touch, reach, apply, holding, owning, ids}
 use Rattle.model.specs.Table.{encode, decode}
 use Rattle.model.specs.Laid.{FitBridge, Laid}
 use Rattle.model.proofs.FoundVectors.{Fits}

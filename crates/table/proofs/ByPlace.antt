@@ -17,7 +17,7 @@ use Rattle.model.specs.State.{Fixed, Cell, Result, Stream, Totals, Bridge, port
 use Rattle.model.specs.Registrations.{at, change, holding}
 use Rattle.model.specs.Settling.{sceneOf, Inbound, inboundOf, inboundsOf, sourceOf}
 use Rattle.model.specs.WrittenFrames.{fixedNumbers}
-use Rattle.model.specs.Table.{portOctets, toPort, fixedFrom, cellOctets, toCell, resultOctets, toResult, streamOctets, totalsOctets, toTotals, encode, decode}
+use Rattle.model.specs.Table.{portOctets, fixedFrom, cellOctets, toCell, resultOctets, toResult, streamOctets, totalsOctets, encode, decode}
 use Rattle.model.specs.Laid.{FitCell, FitResult, FitStream, FitTotals, FitBridge, Laid}
 use Rattle.model.proofs.Lists.{all-at}
 use Rattle.model.proofs.Parts.{_also_}

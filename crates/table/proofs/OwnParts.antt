@@ -2,7 +2,7 @@
 use Prim.Native.Nat.{ℕ, _+_, _-_, _<_, _≤_}
 use native.Mathlib.Omega.{arith}
 use mathlib.Core.Path.{_≡_, refl, sym, ap, _∙_, subst}
-use mathlib.Core.List.{List, [], _∷_, _++_, append-nil}
+use mathlib.Core.List.{List, [], _++_}
 use lib.ListN.{length, getD, set, take, drop, length-set}
 use Rattle.octets.specs.Parts.{part, patch}
 use Rattle.octets.specs.Fields.{Fit, flat}
@@ -10,8 +10,7 @@ use Rattle.octets.proofs.Parts.{lent-part}
 use Rattle.octets.proofs.Frame.{part-part}
 use Rattle.octets.proofs.Patches.{lent-patch, patch-within}
 use Rattle.model.specs.Layout.{ownPlace, ownSize, slotIn, slotPlace, slotSize, slotWidths, slots}
-use Rattle.model.specs.Lists.{All}
-use Rattle.model.specs.State.{Domain, noDomain, Own, noOwn, Bridge, ownAt}
+use Rattle.model.specs.State.{Domain, noDomain, Own, noOwn, ownAt}
 use Rattle.model.specs.Registrations.{at, changeDomains, owning}
 use Rattle.model.specs.Table.{domainNumbers, domainOctets, toDomain, ownOctets, toOwn, encode, decode}
 use Rattle.model.specs.Laid.{FitOwn, FitBridge, Laid, LaidOwn}

@@ -10,7 +10,7 @@ use Rattle.model.specs.Lists.{All}
 use Rattle.model.specs.State.{Stream, Bridge, fresh}
 use Rattle.model.specs.Registrations.{holding}
 use Rattle.model.specs.Table.{streamOctets, encode}
-use Rattle.model.specs.Laid.{FitStream, FitBridge, Laid}
+use Rattle.model.specs.Laid.{FitStream, FitBridge}
 use Rattle.model.proofs.Lists.{all-map}
 use Rattle.model.proofs.Parts.{Sized}
 use Rattle.model.proofs.Fits.{stream-size}

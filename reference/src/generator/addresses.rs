@@ -1,6 +1,11 @@
 //! What neighbours ask for by MMRP frames.
 
-use super::{damaged, of_some_version, Group, History, Plan, JOINS, LV};
+use super::damage::damaged;
+use super::events::{some_events, JOINS, LV};
+use super::frames::talkers_frame;
+use super::history::History;
+use super::newer::of_some_version;
+use super::plan::{Group, Plan};
 use crate::frame::{FrameDraft, MessageDraft, VectorDraft};
 use crate::mmrp::{Address, MmrpType, ADDRESS_BITS};
 use crate::pdu::Talker;
@@ -34,25 +39,12 @@ fn some_addresses(random: &mut Random, plan: &Plan) -> (Address, u64) {
     }
 }
 
-/// The events of so many values: mostly joins.
-fn some_events(random: &mut Random, count: u64) -> Vec<u8> {
-    let style = random.below(20);
-    let one_join = random.one_of(&JOINS);
-    let event = |random: &mut Random| match style {
-        0..=9 => one_join,
-        10..=11 => random.one_of(&JOINS),
-        12..=14 => LV,
-        _ => random.below(6) as u8,
-    };
-    (0..count).map(|_| event(random)).collect()
-}
-
 /// A vector of values in a row. Without any it has a LeaveAll, since it would be an EndMark else.
 fn vector(random: &mut Random, first_value: Vec<u8>, count: u64) -> VectorDraft {
     VectorDraft {
         leave_all_event: u8::from(count == 0 || random.percent(8)),
         first_value,
-        events: some_events(random, count),
+        events: some_events(random, count, 10),
         spare_event: if random.percent(10) { random.below(6) as u8 } else { 0 },
         ..VectorDraft::default()
     }
@@ -121,200 +113,181 @@ fn vector_of_group(group: &Group, event: u8) -> VectorDraft {
     }
 }
 
-impl History {
-    /// Does something with the random numbers of MMRP frames, so that these move nothing else of a
-    /// script; nothing in an input without them.
-    fn asking(&mut self, act: impl FnOnce(&mut History)) {
-        if let Some(random) = self.asks.take() {
-            let others = std::mem::replace(&mut self.random, random);
-            act(self);
-            self.asks = Some(std::mem::replace(&mut self.random, others));
-        }
-    }
+/// Decides whether a bridge prunes: mostly, where neighbours ask for addresses.
+pub fn choose_pruning(history: &mut History, plan: &mut Plan) {
+    history.asking(|history| plan.settings.pruning = history.random.percent(65));
+}
 
-    fn receive_mmrp(&mut self, port: u32, pdu: &[u8]) {
-        self.put_counted(0x70 | port as u8, pdu);
-        self.table.receive_mmrp(port, pdu);
-        self.look(85);
-    }
-
-    /// Decides whether a bridge prunes: mostly, where neighbours ask for addresses.
-    pub fn choose_pruning(&mut self, plan: &mut Plan) {
-        self.asking(|history| plan.settings.pruning = history.random.percent(65));
-    }
-
-    /// The neighbours of most ports ask for the destinations of most groups.
-    pub fn hear_addresses(&mut self, plan: &Plan) {
-        self.asking(|history| {
-            for port in 1..=plan.ports() {
-                let mut vectors = Vec::new();
-                for group in &plan.groups {
-                    if history.random.percent(70) {
-                        vectors.push(vector_of_group(group, history.random.one_of(&JOINS)));
-                    }
-                }
-                if !vectors.is_empty() {
-                    history.receive_mmrp(port, &of_vectors(vectors));
+/// The neighbours of most ports ask for the destinations of most groups.
+pub fn hear_addresses(history: &mut History, plan: &Plan) {
+    history.asking(|history| {
+        for port in 1..=plan.ports() {
+            let mut vectors = Vec::new();
+            for group in &plan.groups {
+                if history.random.percent(70) {
+                    vectors.push(vector_of_group(group, history.random.one_of(&JOINS)));
                 }
             }
-        });
-    }
+            if !vectors.is_empty() {
+                history.receive_mmrp(port, &of_vectors(vectors));
+            }
+        }
+    });
+}
 
-    /// In so many of a hundred cases something that neighbours ask for.
-    pub fn mmrp_step(&mut self, plan: &Plan, percent: u64) {
-        self.asking(|history| {
-            if history.random.percent(percent) {
-                history.some_mmrp(plan);
-            }
-        });
-    }
+/// In so many of a hundred cases something that neighbours ask for.
+pub fn mmrp_step(history: &mut History, plan: &Plan, percent: u64) {
+    history.asking(|history| {
+        if history.random.percent(percent) {
+            some_mmrp(history, plan);
+        }
+    });
+}
 
-    fn some_mmrp(&mut self, plan: &Plan) {
-        let port = self.port(plan);
-        match self.random.below(40) {
-            0..=17 => {
-                let octets = frame(&mut self.random, plan).octets();
-                self.receive_mmrp(port, &octets);
-            }
-            18..=26 => {
-                let frame = frame(&mut self.random, plan);
-                let octets = damaged(&mut self.random, frame, unknown_message);
-                self.receive_mmrp(port, &octets);
-            }
-            27 => {
-                let port = self.wrong_port(plan);
-                let octets = frame(&mut self.random, plan).octets();
-                self.receive_mmrp(port, &octets);
-            }
-            28..=31 => self.leave_addresses_and_wait(plan),
-            32..=34 => self.fill_addresses(plan, port),
-            35 if self.random.percent(10) => {
-                let length = self.random.one_of(&[1_501, 4_096, 4_097]);
-                self.receive_mmrp(port, &vec![0; length]);
-            }
-            36 => self.share_where_one_asks(plan),
-            _ => self.ask_anew(plan),
+fn some_mmrp(history: &mut History, plan: &Plan) {
+    let port = history.port(plan);
+    match history.random.below(40) {
+        0..=17 => {
+            let octets = frame(&mut history.random, plan).octets();
+            history.receive_mmrp(port, &octets);
+        }
+        18..=26 => {
+            let frame = frame(&mut history.random, plan);
+            let octets = damaged(&mut history.random, frame, unknown_message);
+            history.receive_mmrp(port, &octets);
+        }
+        27 => {
+            let port = history.wrong_port(plan);
+            let octets = frame(&mut history.random, plan).octets();
+            history.receive_mmrp(port, &octets);
+        }
+        28..=31 => leave_addresses_and_wait(history, plan),
+        32..=34 => fill_addresses(history, plan, port),
+        35 if history.random.percent(10) => {
+            let length = history.random.one_of(&[1_501, 4_096, 4_097]);
+            history.receive_mmrp(port, &vec![0; length]);
+        }
+        36 => share_where_one_asks(history, plan),
+        _ => ask_anew(history, plan),
+    }
+}
+
+/// Addresses held on a port.
+fn addresses_held(history: &History, port: u32) -> usize {
+    let bridge = history.table.bridge();
+    let addresses = bridge
+        .and_then(|bridge| bridge.registrations.addresses.get((port as usize).wrapping_sub(1)));
+    addresses.map_or(0, |addresses| addresses.len())
+}
+
+/// Joins new addresses up to 64 on a port, one less or one more; at times with some again, or with
+/// a part that leaves at once.
+fn fill_addresses(history: &mut History, plan: &Plan, port: u32) {
+    let free = MOST_ADDRESSES - addresses_held(history, port);
+    let count = history.random.one_of(&[free, free, free, free + 1, free + 1, 1]).max(1);
+    let first = 0x0100_5e00_0000 + history.random.below(1 << 20);
+    let mut events = vec![history.random.one_of(&JOINS); count];
+    let mut vectors = Vec::new();
+    if history.random.percent(15) {
+        events.extend([2, 4, LV]); // these need no room
+    }
+    let joined = VectorDraft { first_value: first_value(first), events, ..VectorDraft::default() };
+    if history.random.percent(30) {
+        vectors.push(joined.clone());
+    }
+    if history.random.percent(20) {
+        let mut left = joined.clone();
+        left.events = vec![LV; count];
+        vectors.extend([joined.clone(), left]);
+    }
+    vectors.push(joined);
+    if history.random.percent(25) {
+        vectors.push(vector_of_group(&plan.groups[0], JOINS[1]));
+    }
+    history.receive_mmrp(port, &of_vectors(vectors));
+    if history.random.percent(30) {
+        let one_more = vector(&mut history.random, first_value(first + 1_000), 1);
+        history.receive_mmrp(port, &of_vectors(vec![one_more]));
+    }
+}
+
+/// A neighbour leaves what it has asked for, by Lv or by LeaveAll.
+fn leave_addresses(history: &mut History, port: u32, group: &Group) {
+    let vector = vector_of_group(group, LV);
+    let pdu = match history.random.below(6) {
+        0..=1 => {
+            let all = VectorDraft { leave_all_event: 1, events: Vec::new(), ..vector };
+            of_vectors(vec![all])
+        }
+        2 => {
+            // That of the other type does nothing.
+            let all = VectorDraft { leave_all_event: 1, ..VectorDraft::default() };
+            let all = VectorDraft { first_value: vec![0], ..all };
+            let message = MessageDraft::of_mmrp(MmrpType::ServiceRequirement, vec![all]);
+            FrameDraft::new(vec![message]).octets()
+        }
+        _ => of_vectors(vec![vector]),
+    };
+    history.receive_mmrp(port, &pdu);
+}
+
+/// Addresses leave; before the leave time is over they leave again, join or do nothing; then time
+/// goes to the end of the leave time, counted from the first leaving.
+fn leave_addresses_and_wait(history: &mut History, plan: &Plan) {
+    let port = history.port(plan);
+    let group = history.random.one_of(&plan.groups);
+    let begun = history.clock();
+    let leave_time = plan.settings.leave_time;
+    leave_addresses(history, port, &group);
+    let part = history.random.below(u64::from(leave_time)) as u32;
+    history.advance(begun.saturating_add(part));
+    match history.random.below(6) {
+        0..=1 => leave_addresses(history, port, &group),
+        2..=3 => history.receive_mmrp(port, &of_vectors(vec![vector_of_group(&group, JOINS[2])])),
+        _ => {}
+    }
+    if history.random.percent(40) {
+        history.advance(begun.saturating_add(leave_time - 1));
+    }
+    if history.random.percent(80) {
+        history.advance(begun.saturating_add(leave_time));
+    }
+}
+
+/// Two streams with one destination, of which the lower comes in on the only port that asks for it:
+/// so it is declared nowhere, and the other one shares its address all the same.
+fn share_where_one_asks(history: &mut History, plan: &Plan) {
+    let asking = history.port(plan);
+    let other = asking % plan.ports() + 1;
+    let mut talker = Talker::of_the_worked_example(0x0200_0000_00e0_0000);
+    talker.parameters.destination = 0x91e0_f000_7700 + history.random.below(4);
+    talker.parameters.priority = plan.settings.priority.a;
+    for port in [asking, other] {
+        talker.stream_id += 1;
+        let group = Group { first: talker, members: 1, talker_port: port };
+        let frame = talkers_frame(&mut history.random, &group, 0);
+        history.receive(port, &frame);
+        if port == asking {
+            history.receive_mmrp(port, &of_vectors(vec![vector_of_group(&group, JOINS[0])]));
         }
     }
+    history.advance(history.clock());
+}
 
-    /// Addresses held on a port.
-    fn addresses_held(&self, port: u32) -> usize {
-        let bridge = self.table.bridge();
-        let addresses = bridge
-            .and_then(|bridge| bridge.registrations.addresses.get((port as usize).wrapping_sub(1)));
-        addresses.map_or(0, |addresses| addresses.len())
-    }
-
-    /// Joins new addresses up to 64 on a port, one less or one more; at times with some again, or with
-    /// a part that leaves at once.
-    fn fill_addresses(&mut self, plan: &Plan, port: u32) {
-        let free = MOST_ADDRESSES - self.addresses_held(port);
-        let count = self.random.one_of(&[free, free, free, free + 1, free + 1, 1]).max(1);
-        let first = 0x0100_5e00_0000 + self.random.below(1 << 20);
-        let mut events = vec![self.random.one_of(&JOINS); count];
-        let mut vectors = Vec::new();
-        if self.random.percent(15) {
-            events.extend([2, 4, LV]); // these need no room
-        }
-        let joined =
-            VectorDraft { first_value: first_value(first), events, ..VectorDraft::default() };
-        if self.random.percent(30) {
-            vectors.push(joined.clone());
-        }
-        if self.random.percent(20) {
-            let mut left = joined.clone();
-            left.events = vec![LV; count];
-            vectors.extend([joined.clone(), left]);
-        }
-        vectors.push(joined);
-        if self.random.percent(25) {
-            vectors.push(vector_of_group(&plan.groups[0], JOINS[1]));
-        }
-        self.receive_mmrp(port, &of_vectors(vectors));
-        if self.random.percent(30) {
-            let one_more = vector(&mut self.random, first_value(first + 1_000), 1);
-            self.receive_mmrp(port, &of_vectors(vec![one_more]));
+/// A neighbour asks for what it wants anew: what it doesn't name again leaves.
+fn ask_anew(history: &mut History, plan: &Plan) {
+    let port = history.port(plan);
+    let mut vectors: Vec<VectorDraft> = Vec::new();
+    for group in &plan.groups {
+        if history.random.percent(75) {
+            vectors.push(vector_of_group(group, history.random.one_of(&JOINS)));
         }
     }
-
-    /// A neighbour leaves what it has asked for, by Lv or by LeaveAll.
-    fn leave_addresses(&mut self, port: u32, group: &Group) {
-        let vector = vector_of_group(group, LV);
-        let pdu = match self.random.below(6) {
-            0..=1 => {
-                let all = VectorDraft { leave_all_event: 1, events: Vec::new(), ..vector };
-                of_vectors(vec![all])
-            }
-            2 => {
-                // That of the other type does nothing.
-                let all = VectorDraft { leave_all_event: 1, ..VectorDraft::default() };
-                let all = VectorDraft { first_value: vec![0], ..all };
-                let message = MessageDraft::of_mmrp(MmrpType::ServiceRequirement, vec![all]);
-                FrameDraft::new(vec![message]).octets()
-            }
-            _ => of_vectors(vec![vector]),
-        };
-        self.receive_mmrp(port, &pdu);
+    if let Some(first) = vectors.first_mut() {
+        first.leave_all_event = history.random.below(2) as u8;
     }
-
-    /// Addresses leave; before the leave time is over they leave again, join or do nothing; then time
-    /// goes to the end of the leave time, counted from the first leaving.
-    fn leave_addresses_and_wait(&mut self, plan: &Plan) {
-        let port = self.port(plan);
-        let group = self.random.one_of(&plan.groups);
-        let begun = self.clock();
-        let leave_time = plan.settings.leave_time;
-        self.leave_addresses(port, &group);
-        let part = self.random.below(u64::from(leave_time)) as u32;
-        self.advance(begun.saturating_add(part));
-        match self.random.below(6) {
-            0..=1 => self.leave_addresses(port, &group),
-            2..=3 => self.receive_mmrp(port, &of_vectors(vec![vector_of_group(&group, JOINS[2])])),
-            _ => {}
-        }
-        if self.random.percent(40) {
-            self.advance(begun.saturating_add(leave_time - 1));
-        }
-        if self.random.percent(80) {
-            self.advance(begun.saturating_add(leave_time));
-        }
-    }
-
-    /// Two streams with one destination, of which the lower comes in on the only port that asks for it:
-    /// so it is declared nowhere, and the other one shares its address all the same.
-    fn share_where_one_asks(&mut self, plan: &Plan) {
-        let asking = self.port(plan);
-        let other = asking % plan.ports() + 1;
-        let mut talker = Talker::of_the_worked_example(0x0200_0000_00e0_0000);
-        talker.parameters.destination = 0x91e0_f000_7700 + self.random.below(4);
-        talker.parameters.priority = plan.settings.priority.a;
-        for port in [asking, other] {
-            talker.stream_id += 1;
-            let group = Group { first: talker, members: 1, talker_port: port };
-            let frame = self.talkers_frame(&group, 0);
-            self.receive(port, &frame);
-            if port == asking {
-                self.receive_mmrp(port, &of_vectors(vec![vector_of_group(&group, JOINS[0])]));
-            }
-        }
-        self.advance(self.clock());
-    }
-
-    /// A neighbour asks for what it wants anew: what it doesn't name again leaves.
-    fn ask_anew(&mut self, plan: &Plan) {
-        let port = self.port(plan);
-        let mut vectors: Vec<VectorDraft> = Vec::new();
-        for group in &plan.groups {
-            if self.random.percent(75) {
-                vectors.push(vector_of_group(group, self.random.one_of(&JOINS)));
-            }
-        }
-        if let Some(first) = vectors.first_mut() {
-            first.leave_all_event = self.random.below(2) as u8;
-        }
-        self.receive_mmrp(port, &of_vectors(vectors));
-        if self.random.percent(50) {
-            self.some_advance(plan);
-        }
+    history.receive_mmrp(port, &of_vectors(vectors));
+    if history.random.percent(50) {
+        history.some_advance(plan);
     }
 }

@@ -1,11 +1,13 @@
-//! What neighbours say of the domain.
+//! What neighbours say of the domain, and wrong VLANs.
 
-use super::{JOINS, LV};
+use super::events::{JOINS, LV};
+use super::history::History;
+use super::plan::Plan;
 use crate::domain;
 use crate::frame::{FrameDraft, MessageDraft, VectorDraft};
 use crate::pdu::{AttributeType, Domain};
 use crate::random::Random;
-use crate::settings::{Class, Settings, CLASSES};
+use crate::settings::{self, Class, Settings, CLASSES, GREATEST_VLAN};
 
 /// What a neighbour declares of a class that has the bridge's own priority there. The VLAN is
 /// compared with nothing.
@@ -106,4 +108,61 @@ pub fn strange_domain_vectors(random: &mut Random, settings: &Settings) -> Vec<V
         vectors.push(domain_join(random, domain));
     }
     vectors
+}
+
+/// What the neighbour of a port says of the domain, mostly that it is in the bridge's own; with
+/// LeaveAll where it says so again. Nothing from one that knows no domain.
+fn domain_frame(history: &mut History, plan: &Plan, leave_all_event: u8) -> Option<Vec<u8>> {
+    let (random, settings) = (&mut history.random, &plan.settings);
+    let mut vectors = match random.percent(86) {
+        true => own_domain_vectors(random, settings),
+        false => strange_domain_vectors(random, settings),
+    };
+    vectors.first_mut()?.leave_all_event = leave_all_event;
+    Some(domain_pdu(vectors))
+}
+
+/// The neighbours of all ports say what domain they are in.
+pub fn hear_domains(history: &mut History, plan: &Plan) {
+    let mut ports: Vec<u32> = (1..=plan.ports()).collect();
+    history.random.shuffle(&mut ports);
+    for port in ports {
+        if let Some(frame) = domain_frame(history, plan, 0) {
+            history.receive(port, &frame);
+        }
+    }
+}
+
+/// A neighbour says again what domain it is in, at times after another one. What it doesn't say
+/// again expires at the end of the leave time.
+pub fn hear_domain_again(history: &mut History, plan: &Plan) {
+    let port = history.port(plan);
+    if history.random.percent(40) {
+        let vectors = strange_domain_vectors(&mut history.random, &plan.settings);
+        history.receive(port, &domain_pdu(vectors));
+        history.some_advance(plan);
+    }
+    let begun = history.clock();
+    if let Some(frame) = domain_frame(history, plan, 1) {
+        history.receive(port, &frame);
+    }
+    let leave_time = plan.settings.leave_time;
+    if history.random.percent(40) {
+        history.advance(begun.saturating_add(leave_time - 1));
+    }
+    if history.random.percent(60) {
+        history.advance(begun.saturating_add(leave_time));
+    }
+}
+
+/// A VLAN of 0 or 4,095, one with a bit above it set, or neither VLAN nor what follows it.
+pub fn wrong_vlan(random: &mut Random, settings: &mut Vec<u8>) {
+    match random.below(5) {
+        0 => settings[11] |= 1 << random.between(4, 6),
+        1..=2 => {
+            let vlan = random.one_of(&[0, GREATEST_VLAN + 1]) | u16::from(settings[11] & 0x80) << 8;
+            settings[11..13].copy_from_slice(&vlan.to_be_bytes());
+        }
+        _ => drop(settings.drain(11..settings::HEAD_LENGTH)),
+    }
 }

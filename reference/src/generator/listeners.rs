@@ -1,13 +1,21 @@
 //! Streams whose Listeners a port declares, with gaps that are only just worth filling or not.
 
-use super::{JOINS, READY};
+use super::domains::{domain_pdu, own_domain_vectors};
+use super::events::{JOINS, READY};
+use super::history::History;
+use super::looks;
+use super::plan::{accumulated_latency, roomy_settings};
+use crate::declarations;
 use crate::frame::{FrameDraft, MessageDraft, VectorDraft};
+use crate::mrp::LONGEST_PDU;
 use crate::packing;
-use crate::pdu::{AttributeType, ListenerType, StreamId, LONGEST_PDU};
+use crate::pdu::{AttributeType, Failure, ListenerType, StreamId, Talker};
 use crate::random::Random;
+use crate::registrations::MOST_STREAMS;
+use crate::settings;
 
 /// Unique IDs where a rule for gaps alone cuts wrongly.
-pub const TIGHT: [&[u64]; 6] =
+const TIGHT: [&[u64]; 6] =
     [&[1, 2, 25], &[1, 22, 25], &[1, 2, 22, 25], &[1, 22], &[1, 22, 45], &[1, 24, 43, 45, 67]];
 
 /// The steps from one StreamID to the next, so many.
@@ -49,7 +57,7 @@ fn unique_ids(random: &mut Random, most: u64) -> Vec<u64> {
 
 /// Ascending StreamIDs, at least one and at most so many; of one MAC, or of some that follow each
 /// other.
-pub fn stream_ids(random: &mut Random, most: u64) -> Vec<StreamId> {
+fn stream_ids(random: &mut Random, most: u64) -> Vec<StreamId> {
     let mut mac = 0x0200_0000_0100 + random.below(4);
     let mut ids: Vec<StreamId> = Vec::new();
     loop {
@@ -63,7 +71,7 @@ pub fn stream_ids(random: &mut Random, most: u64) -> Vec<StreamId> {
 }
 
 /// The StreamIDs in the gaps between these, at most so many.
-pub fn in_gaps(ids: &[StreamId], most: usize) -> Vec<StreamId> {
+fn in_gaps(ids: &[StreamId], most: usize) -> Vec<StreamId> {
     let gaps = ids.windows(2).filter(|two| two[0] >> 16 == two[1] >> 16);
     gaps.flat_map(|two| two[0] + 1..two[1]).take(most).collect()
 }
@@ -78,7 +86,7 @@ fn message_length(vectors: u64) -> u64 {
 
 /// How many Advertise and Failed, at most so many together, can stand before these Listeners so that
 /// a PDU ends at 1,500 octets, one before or one past it: behind two Domains, one or none.
-pub fn talkers_before(listeners: &[StreamId], most: u64) -> Vec<(u64, u64)> {
+fn talkers_before(listeners: &[StreamId], most: u64) -> Vec<(u64, u64)> {
     let ready = |stream_id: &StreamId| (*stream_id, ListenerType::Ready);
     let vectors = packing::vectors(&listeners.iter().map(ready).collect::<Vec<_>>());
     let mut found = Vec::new();
@@ -97,7 +105,7 @@ pub fn talkers_before(listeners: &[StreamId], most: u64) -> Vec<(u64, u64)> {
 
 /// A vector for each MAC that joins streams and passes over those in the gaps. The FirstValue is
 /// that of the first stream, and what it says of each is by place; Talkers say nothing.
-pub fn joining_vectors(
+fn joining_vectors(
     random: &mut Random,
     ids: &[StreamId],
     first_value: impl Fn(StreamId) -> Vec<u8>,
@@ -126,11 +134,86 @@ pub fn joining_vectors(
 }
 
 /// A PDU with a vector for each MAC that joins Listeners, mostly of all kinds.
-pub fn listeners_pdu(random: &mut Random, ids: &[StreamId]) -> Vec<u8> {
+fn listeners_pdu(random: &mut Random, ids: &[StreamId]) -> Vec<u8> {
     let mixed = random.percent(60);
     let says: Vec<u8> =
         ids.iter().map(|_| if mixed { random.between(1, 3) as u8 } else { READY }).collect();
     let first_value = |stream_id: StreamId| stream_id.to_be_bytes().to_vec();
     let vectors = joining_vectors(random, ids, first_value, Some(&says));
     FrameDraft::new(vec![MessageDraft::new(AttributeType::Listener, vectors)]).octets()
+}
+
+/// A bridge whose port 2 declares Listeners with gaps between them, mostly behind so many Talkers
+/// that a PDU ends at 1,500 octets or near it.
+pub fn packed_listeners(history: &mut History) {
+    let settings = roomy_settings(&mut history.random);
+    history.start(&settings::write(&settings));
+    for port in [1, 2] {
+        let vectors = own_domain_vectors(&mut history.random, &settings);
+        history.receive(port, &domain_pdu(vectors));
+    }
+    let most = match history.random.below(10) {
+        0..=6 => history.random.between(1, 40),
+        _ => MOST_STREAMS as u64,
+    };
+    let listeners = stream_ids(&mut history.random, most);
+    let (advertise, failed) = some_talkers_before(history, &listeners);
+    let talkers = talkers_beside(history, &listeners, (advertise + failed) as usize);
+    let (advertise, failed) = talkers.split_at(advertise as usize);
+    let failure = Failure { bridge_id: history.random.bits(), code: history.random.octet() };
+    join_streams(history, 1, advertise, None);
+    join_streams(history, 1, failed, Some(failure));
+    join_streams(history, 2, &listeners, None);
+    history.advance(100);
+    for port in [1, 2] {
+        looks::sweep_port(history, port);
+    }
+}
+
+/// How many Advertise and Failed stand before these Listeners. Often the PDU is full with the
+/// first of them.
+fn some_talkers_before(history: &mut History, listeners: &[StreamId]) -> (u64, u64) {
+    let room = (MOST_STREAMS - listeners.len()) as u64;
+    let some = history.random.between(1, listeners.len() as u64) as usize;
+    let fitting = history.random.one_of(&[some, listeners.len()]);
+    let full = talkers_before(&listeners[..fitting], room);
+    match full.is_empty() {
+        true => (history.random.below(room.min(3) + 1), 0),
+        false => history.random.one_of(&full),
+    }
+}
+
+/// So many other streams, ascending, at times in the gaps between the Listeners.
+fn talkers_beside(history: &mut History, listeners: &[StreamId], count: usize) -> Vec<StreamId> {
+    let first: StreamId = 0x0200_0000_0001_0000 + history.random.below(1_000);
+    let in_gaps = match history.random.percent(30) {
+        true => in_gaps(listeners, count),
+        false => Vec::new(),
+    };
+    let apart = (count - in_gaps.len()) as u64;
+    (first..first + apart).chain(in_gaps).collect()
+}
+
+/// The Talkers of streams on a port, and Listeners of all on the other of two.
+fn join_streams(history: &mut History, port: u32, ids: &[StreamId], failure: Option<Failure>) {
+    if ids.is_empty() {
+        return;
+    }
+    let accumulated_latency = accumulated_latency(&mut history.random);
+    let first_value = |stream_id: StreamId| {
+        let mut talker = Talker::of_the_worked_example(stream_id);
+        // So that no two have the same, whatever their MAC.
+        talker.parameters.destination = 0x91 << 40 | stream_id & 0xff_ffff_ffff;
+        talker.parameters.max_frame_size = 100;
+        declarations::first_value(&Talker { accumulated_latency, failure, ..talker })
+    };
+    let attribute_type = match failure {
+        None => AttributeType::TalkerAdvertise,
+        Some(_) => AttributeType::TalkerFailed,
+    };
+    let vectors = joining_vectors(&mut history.random, ids, first_value, None);
+    let message = MessageDraft::new(attribute_type, vectors);
+    history.receive(port, &FrameDraft::new(vec![message]).octets());
+    let pdu = listeners_pdu(&mut history.random, ids);
+    history.receive(3 - port, &pdu);
 }

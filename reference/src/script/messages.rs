@@ -63,7 +63,7 @@ fn of_messages(
 fn talker(words: &mut Words) -> Result<MessageDraft, String> {
     let mut talker = Talker::of_the_worked_example(words.stream()?);
     let mut values = Values::default();
-    while let Some(word) = words.next_before_and() {
+    while let Some(word) = words.next_option()? {
         let parameters = &mut talker.parameters;
         match word {
             "to" => parameters.destination = words.address()?,
@@ -153,39 +153,43 @@ fn leave_all_mmrp(words: &mut Words) -> Result<MessageDraft, String> {
     Ok(MessageDraft::of_mmrp(attribute_type, vec![vector]))
 }
 
-/// How many values a vector has, and the event of each.
-struct Values {
-    count: usize,
-    event: u8,
-}
+/// The standard's JoinMt, where a line has no event.
+const JOIN: u8 = 3;
 
-impl Default for Values {
-    fn default() -> Values {
-        Values { count: 1, event: 3 }
-    }
+/// How many values a vector has, and the event of each, where the line says it.
+#[derive(Default)]
+struct Values {
+    count: Option<usize>,
+    event: Option<u8>,
 }
 
 impl Values {
     fn read(words: &mut Words) -> Result<Values, String> {
         let mut values = Values::default();
-        while let Some(word) = words.next_before_and() {
+        while let Some(word) = words.next_option()? {
             values.word(word, words)?;
         }
         Ok(values)
     }
 
     fn word(&mut self, word: &str, words: &mut Words) -> Result<(), String> {
-        match word {
-            "values" => self.count = words.number(VALUES)?,
-            "new" => self.event = 0,
-            "joinin" => self.event = 1,
-            "in" => self.event = 2,
-            "join" => self.event = 3,
-            "mt" => self.event = 4,
-            "leave" => self.event = 5,
-            _ => return Err(unknown(word)),
+        if word == "values" {
+            self.count = Some(words.number(VALUES)?);
+            return Ok(());
         }
-        Ok(())
+        let event = match word {
+            "new" => 0,
+            "joinin" => 1,
+            "in" => 2,
+            "join" => JOIN,
+            "mt" => 4,
+            "leave" => 5,
+            _ => return Err(unknown(word)),
+        };
+        match self.event.replace(event) {
+            None => Ok(()),
+            Some(_) => Err(format!("{word} is a second event of one Message")),
+        }
     }
 
     fn message(
@@ -198,10 +202,11 @@ impl Values {
     }
 
     fn vector(&self, first_value: Vec<u8>, listener_type: Option<u8>) -> VectorDraft {
+        let count = self.count.unwrap_or(1);
         VectorDraft {
             first_value,
-            events: vec![self.event; self.count],
-            listener_types: listener_type.map_or(Vec::new(), |part| vec![part; self.count]),
+            events: vec![self.event.unwrap_or(JOIN); count],
+            listener_types: listener_type.map_or(Vec::new(), |part| vec![part; count]),
             ..VectorDraft::default()
         }
     }

@@ -31,7 +31,7 @@ pub fn bridge(words: &mut Words) -> Result<Settings, String> {
         fan_in_limit: 0,
         ports: Vec::new(),
     };
-    while let Some(word) = words.next() {
+    while let Some(word) = words.next_option()? {
         match word {
             "priorities" => settings.priority = per_class(words, PRIORITY)?,
             "leave" => settings.leave_time = words.number(LEAVE_TIME)?,
@@ -48,7 +48,7 @@ pub fn bridge(words: &mut Words) -> Result<Settings, String> {
 pub fn ports(words: &mut Words, settings: &mut Settings) -> Result<(), String> {
     let count: usize = words.number(PORTS)?;
     let mut port = PortSettings::of_the_worked_example();
-    while let Some(word) = words.next() {
+    while let Some(word) = words.next_option()? {
         match word {
             "classes" => port.supports = classes(words)?,
             "overhead" => port.overhead = words.number(OVERHEAD)?,

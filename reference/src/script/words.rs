@@ -105,6 +105,11 @@ pub struct Names {
 }
 
 impl Names {
+    /// The names of streams with their StreamIDs, by name.
+    pub fn streams(&self) -> Vec<(String, u64)> {
+        self.streams.iter().map(|(name, id)| (name.clone(), *id)).collect()
+    }
+
     /// Takes a line `stream NAME ID` or `address NAME MAC`.
     pub fn line(&mut self, words: &[&str]) -> Result<(), String> {
         let no_names = Names::default();
@@ -138,11 +143,13 @@ fn is_name(word: &str) -> bool {
 pub struct Words<'a> {
     rest: &'a [&'a str],
     names: &'a Names,
+    /// The options of this line, or of this Message of it, that were taken.
+    taken: Vec<&'a str>,
 }
 
 impl<'a> Words<'a> {
     pub fn new(rest: &'a [&'a str], names: &'a Names) -> Words<'a> {
-        Words { rest, names }
+        Words { rest, names, taken: Vec::new() }
     }
 
     pub fn first(&self) -> Option<&'a str> {
@@ -155,11 +162,20 @@ impl<'a> Words<'a> {
         Some(first)
     }
 
-    /// The next word, unless it is `and`.
-    pub fn next_before_and(&mut self) -> Option<&'a str> {
-        match self.first() {
-            Some("and") => None,
-            _ => self.next(),
+    /// The next of the options that stand in any order, up to the line's end or an `and`. Each
+    /// stands once.
+    pub fn next_option(&mut self) -> Result<Option<&'a str>, String> {
+        if matches!(self.first(), None | Some("and")) {
+            self.taken.clear();
+            return Ok(None);
+        }
+        let option = self.next();
+        match option {
+            Some(word) if self.taken.contains(&word) => Err(format!("{word} stands here twice")),
+            _ => {
+                self.taken.extend(option);
+                Ok(option)
+            }
         }
     }
 
@@ -184,7 +200,8 @@ impl<'a> Words<'a> {
         })
     }
 
-    /// A hexadecimal number of at most so many bits; or all its octets, with colons between them.
+    /// A hexadecimal number of so many bits: all its digits, or at most half of them, or all its
+    /// octets with colons between them. One that has nearly all its digits lacks some.
     pub fn hexadecimal(&mut self, wanted: &str, bits: u32) -> Result<u64, String> {
         let word = self.word(wanted)?;
         let octets: Vec<&str> = word.split(':').collect();
@@ -193,6 +210,14 @@ impl<'a> Words<'a> {
         let digits = if in_octets { octets.concat() } else { word.to_string() };
         if digits.is_empty() || !digits.bytes().all(|digit| digit.is_ascii_hexdigit()) {
             return Err(format!("{word} where {wanted} was expected"));
+        }
+        let all = bits as usize / 4;
+        if digits.len() > all / 2 && digits.len() < all {
+            let short = digits.len();
+            return Err(format!(
+                "{word} has {short} digits, where {wanted} has {all} or at most {}",
+                all / 2
+            ));
         }
         let number = u64::from_str_radix(&digits, 16).ok();
         number.filter(|number| bits == 64 || number >> bits == 0).ok_or_else(|| {

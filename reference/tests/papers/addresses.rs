@@ -4,12 +4,12 @@ use std::fs;
 use std::path::Path;
 
 use crate::helpers::*;
-use reference::bridge::Table;
 use reference::frame::{FrameDraft, MessageDraft, VectorDraft};
+use reference::lent::Table;
 use reference::mmrp::{self, Message, MmrpType};
 use reference::numbers::Number;
 use reference::pdu::AttributeType;
-use reference::table::{address, edge, EDGES};
+use reference::table::layout::{address, edge, EDGES};
 
 const ADDRESS: u64 = 0x91e0_f000_fe00;
 

@@ -2,7 +2,7 @@
 //! bit/s in class A and 8,544,000 in class B.
 
 use crate::helpers::*;
-use reference::bridge::Table;
+use reference::lent::Table;
 use reference::pdu::{StreamId, Talker};
 use reference::settings::{Class, PerClass, Settings};
 use reference::settling;
@@ -212,6 +212,6 @@ fn the_sum_of_limits_is_not_capped() {
     assert_eq!(line(&table, 2, B_STREAM + 2), ADMITTED);
     assert_eq!(line(&table, 2, B_STREAM + 3), REFUSED);
     // Its octets are six.
-    let place = reference::table::TOTALS + 11 + 5;
+    let place = reference::table::layout::TOTALS + 11 + 5;
     assert_eq!(table.lent()[place..place + 6], expected.to_be_bytes()[2..]);
 }

@@ -87,7 +87,7 @@ fn a_line_that_cannot_be_read_is_named() {
         ("on 1 octets 0", "line 2: octets are pairs of hexadecimal digits"),
         ("on 1 listener 1 ready early", "line 2: early is not known here"),
         ("ports 2", "line 2: ports stand after bridge, before the first call"),
-        ("report 1", "line 2: report is not known here"),
+        ("report 1", "line 2: report stands in texts of calls alone, which have a start behind their settings: use ./calls, or ./srp sheet for the sheet of one"),
     ] {
         let text = format!("# a comment\n{line}\n");
         assert_eq!(records(&text, Program::Sheet), Err(fault.to_string()));

@@ -1,11 +1,11 @@
 //! A stream whose latency grows (02, (v)).
 
 use crate::helpers::*;
-use reference::bridge::Table;
+use reference::lent::Table;
 use reference::pdu::{AttributeType, Failure, Talker};
 use reference::registrations::TalkerRegistration;
 use reference::settings::PerClass;
-use reference::settling::Column;
+use reference::settled::Column;
 
 const HEARD: &str = "advertise 0 none forward";
 const GROWN: &str = "failed 7 none filter";

@@ -1,8 +1,9 @@
 //! Bridges, frames and declarations that several tests use.
 
-use reference::bridge::{ReportAnswer, Table};
+use reference::bridge::ReportAnswer;
 use reference::declarations;
 use reference::frame::{FrameDraft, MessageDraft, VectorDraft};
+use reference::lent::Table;
 use reference::mmrp::MmrpType;
 use reference::pdu::{AttributeType, Failure, ListenerType, StreamId, Talker};
 use reference::settings::{self, PerClass, PortSettings, Settings};

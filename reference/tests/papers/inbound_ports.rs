@@ -1,11 +1,11 @@
 //! Inbound ports and shared addresses (02, (x)).
 
 use crate::helpers::*;
-use reference::bridge::Table;
 use reference::fan_in::FanIn;
+use reference::lent::Table;
 use reference::pdu::{AttributeType, Failure, StreamId, Talker};
 use reference::settings::{self, Settings};
-use reference::settling::Column;
+use reference::settled::Column;
 
 const ADVERTISED: &str = "advertise 0 none filter";
 const SHARED: &str = "failed 5 none filter";

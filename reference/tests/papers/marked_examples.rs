@@ -1,8 +1,9 @@
 //! P1 to P13 of 01, "Marked examples and near misses", with matching Domain joins first (02, (ii)).
 
 use crate::helpers::*;
-use reference::bridge::Table;
-use reference::pdu::{self, Event, ListenerType, Talker};
+use reference::lent::Table;
+use reference::mrp::{self, Event};
+use reference::pdu::{self, ListenerType, Talker};
 use reference::settings::{Class, PerClass};
 use reference::settling::{self, BitsPerSecond, OctetsPerInterval};
 
@@ -15,7 +16,7 @@ fn frame_with_event_octet(octet: u8) -> Vec<u8> {
 
 #[test]
 fn p1_event_octet_215_is_three_times_lv() {
-    assert_eq!(pdu::three_events(215), [Event::Lv; 3]);
+    assert_eq!(mrp::three_events(215), [Event::Lv; 3]);
     let read = pdu::read(&frame_with_event_octet(215)).unwrap();
     let events: Vec<Event> =
         read.vectors().flat_map(|vector| &vector.values).map(|(event, _)| *event).collect();

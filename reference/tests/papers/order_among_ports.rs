@@ -1,7 +1,7 @@
 //! Demand 3: the order among ports never matters.
 
 use crate::helpers::*;
-use reference::bridge::Table;
+use reference::lent::Table;
 use reference::pdu::{self, StreamId};
 use reference::random::Random;
 use reference::records::{Call, Watcher};

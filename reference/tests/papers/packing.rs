@@ -1,8 +1,8 @@
 //! Listeners packed into vectors (02, (xi)).
 
 use crate::helpers::*;
-use reference::bridge::Table;
 use reference::declarations::{self, Declaration};
+use reference::lent::Table;
 use reference::packing::{all_cuttings, best, best_from_the_end, best_of_all, weight, Cutting};
 use reference::pdu::{self, ListenerType, StreamId};
 use reference::random::Random;

@@ -1,7 +1,7 @@
 //! Talker pruning (02, (vi); 35.2.4.3.1).
 
 use crate::helpers::*;
-use reference::bridge::Table;
+use reference::lent::Table;
 use reference::settings::{self, Settings};
 
 const ADVERTISED: &str = "advertise 0 none filter";

@@ -1,9 +1,10 @@
 //! Reading the PDU (01, "The PDU").
 
 use crate::helpers::*;
-use reference::bridge::Table;
 use reference::frame::{FrameDraft, MessageDraft, VectorDraft};
-use reference::pdu::{self, AttributeType, Domain, Event, ListenerType, Message, Value};
+use reference::lent::Table;
+use reference::mrp::{self, Event};
+use reference::pdu::{self, AttributeType, Domain, ListenerType, Message, Value};
 
 fn number(frame: &[u8]) -> u8 {
     started(&settings(2)).receive(1, frame)
@@ -19,12 +20,12 @@ fn every_event_octet_is_three_events_in_base_six() {
         for e2 in 0..6 {
             for e3 in 0..6 {
                 let octet = (e1 * 6 + e2) * 6 + e3;
-                let events = [e1, e2, e3].map(|event| pdu::EVENTS[usize::from(event)]);
-                assert_eq!(pdu::three_events(octet), events);
+                let events = [e1, e2, e3].map(|event| mrp::EVENTS[usize::from(event)]);
+                assert_eq!(mrp::three_events(octet), events);
             }
         }
     }
-    assert_eq!(pdu::three_events(0x6c), [Event::JoinMt, Event::New, Event::New]);
+    assert_eq!(mrp::three_events(0x6c), [Event::JoinMt, Event::New, Event::New]);
 }
 
 #[test]

@@ -1,12 +1,13 @@
 //! Each number given back, and the order among them (01, "Numbers given back").
 
 use crate::helpers::*;
-use reference::bridge::{ReportAnswer, Table, WriteAnswer};
+use reference::bridge::{ReportAnswer, WriteAnswer};
 use reference::frame::{FrameDraft, MessageDraft};
+use reference::lent::Table;
 use reference::pdu::AttributeType;
 use reference::settings;
-use reference::settling::{Column, Entry};
-use reference::table::TABLE_LENGTH;
+use reference::settled::{Column, Entry};
+use reference::table::layout::TABLE_LENGTH;
 
 /// A bridge with a stream, settled.
 fn running() -> Table {

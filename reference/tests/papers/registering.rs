@@ -1,8 +1,8 @@
 //! Registering (01, "Registering"), and number 8's count.
 
 use crate::helpers::*;
-use reference::bridge::Table;
 use reference::frame::{FrameDraft, MessageDraft};
+use reference::lent::Table;
 use reference::pdu::{AttributeType, Failure, ListenerType};
 use reference::registrations::{OnPort, TalkerRegistration};
 

@@ -1,9 +1,10 @@
 //! Reports and start (01, "What the bridge does").
 
 use crate::helpers::*;
-use reference::bridge::{ReportAnswer, Table};
+use reference::bridge::ReportAnswer;
+use reference::lent::Table;
 use reference::settings::{self, PerClass, Settings};
-use reference::settling::{Column, Entry};
+use reference::settled::{Column, Entry};
 
 fn example() -> Table {
     let mut table = in_domain(&settings(2));

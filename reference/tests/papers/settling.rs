@@ -1,10 +1,11 @@
 //! Settling (01, "Settling").
 
 use crate::helpers::*;
-use reference::bridge::Table;
+use reference::lent::Table;
 use reference::pdu::{Failure, ListenerType, Talker};
 use reference::settings::{Class, PerClass, Settings};
-use reference::settling::{self, BitsPerSecond, Column, OctetsPerInterval, SettledStream};
+use reference::settled::{Column, SettledStream};
+use reference::settling::{self, BitsPerSecond, OctetsPerInterval};
 
 /// Port 1 has the Talker, port 2 a Ready Listener; settled.
 fn settled_with(settings: &Settings, talker: &Talker) -> Table {

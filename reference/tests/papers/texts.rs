@@ -2,7 +2,7 @@
 
 use reference::refusals::Refusals;
 use reference::script::{read, records, text, Program};
-use reference::sheet;
+use reference::{settings, sheet};
 
 /// What is said of a line, as the second one of a text.
 fn fault(line: &str, program: Program) -> String {
@@ -80,6 +80,8 @@ fn hexadecimal_numbers_have_their_fields_too() {
         ("on 1 listener 10200000000010001 ready", "10200000000010001 where a StreamID or the name of a stream was expected, of at most 16 digits"),
         ("on 1 talker 1 to 191e0f0000001", "191e0f0000001 where a MAC address or the name of one was expected, of at most 12 digits"),
         ("bridge +7", "+7 where a Bridge ID was expected"),
+        ("on 1 listener 02000000000001 ready", "02000000000001 has 14 digits, where a StreamID or the name of a stream has 16 or at most 8"),
+        ("on 1 talker 1 to 1e0f0000001", "1e0f0000001 has 11 digits, where a MAC address or the name of one has 12 or at most 6"),
         ("store 0 100", "100 where an octet was expected, of at most 2 digits"),
         ("on 1 octets +f", "+f is no octet"),
         ("on 1 listener 02:00:00:00:00:01:00 ready", "02:00:00:00:00:01:00 where a StreamID or the name of a stream was expected"),
@@ -191,7 +193,8 @@ fn why_names_a_port_and_a_stream() {
     let expected =
         [vec![0x83, 2, 0, 0, 0, 0, 1, 0, 1, 0x03, 0xf0], vec![0x82, 2, 0, 0, 0, 0, 1, 0, 2, 0, 7]];
     assert_eq!(records(text, Program::Calls), Ok(expected.concat()));
-    assert_eq!(fault("why 1 flute", Program::Sheet), "line 2: why is not known here");
+    assert!(fault("why 1 flute", Program::Sheet)
+        .starts_with("line 2: why stands in texts of calls alone"));
     assert!(fault("why 1", Program::Calls).contains("where a StreamID"));
     assert_eq!(fault("why 1 2 from 0", Program::Calls), "line 2: from is not known here");
 }
@@ -294,7 +297,9 @@ fn an_mmrp_frame_is_a_line_of_calls_alone() {
     );
     assert_eq!(fault("mmrp 1 talker 1", Program::Calls), "line 2: talker is not known here");
     assert_eq!(fault("mmrp 1 leaveall domain", Program::Calls), "line 2: domain is not known here");
-    assert_eq!(fault("mmrp 1 mac 1", Program::Sheet), "line 2: mmrp is not known here");
+    let calls_alone = "line 2: mmrp stands in texts of calls alone, which have a start behind their settings: use ./calls, or ./srp sheet for the sheet of one";
+    assert_eq!(fault("mmrp 1 mac 1", Program::Sheet), calls_alone);
+    assert_eq!(fault("start", Program::Sheet), calls_alone.replace("mmrp", "start"));
     let ends = "line 2: the line ends where mac, service, leaveall or octets was expected";
     assert_eq!(fault("mmrp 1", Program::Calls), ends);
 }
@@ -341,8 +346,75 @@ fn a_stop_is_told_with_its_line() {
     let said = "line 4: raw 20 00 00: no record begins so, or it is cut\n";
     let text = format!("{settings}time 5\nraw 20 00 00\n");
     assert_eq!(told(&text, Program::Sheet, "stop\nport 1 A 0/75000000 B 0/0\n"), said);
-    let said = "line 1: bridge 7: the settings are not as docs/TABLE.md lays them out\n";
+    let said = "line 1: bridge 7: a bridge has 1 to 8 ports, and these settings say 0\n";
     assert_eq!(told("bridge 7\n", Program::Sheet, "stop\n"), said);
+}
+
+#[test]
+fn refused_settings_are_told_with_their_rule() {
+    for (settings, rule) in [
+        ("bridge 7\nports 9", "a bridge has 1 to 8 ports, and these settings say 9"),
+        (
+            "bridge 7 priorities 3 3\nports 1",
+            "the classes have different priorities, and both of these are 3",
+        ),
+        ("bridge 7 leave 0\nports 1", "the leave time is 1 or more, and this one is 0"),
+        ("bridge 7 vlan 0\nports 1", "the bridge's vlan is 1 to 4094, and this one is 0"),
+        ("bridge 7 vlan 4095\nports 1", "the bridge's vlan is 1 to 4094, and this one is 4095"),
+        ("bridge 7 fanin 9\nports 1", "the limit of inbound ports is 0 to 8, and this one is 9"),
+    ] {
+        let first = settings.lines().next().expect("a line");
+        let said = format!("line 1: {first}: {rule}\n");
+        assert_eq!(told(settings, Program::Sheet, "stop\n"), said);
+        let calls = format!("{settings}\nstart\n");
+        assert_eq!(told(&calls, Program::Calls, "start 11\n"), format!("line 3: start: {rule}\n"));
+    }
+}
+
+/// What octets alone can say: too few or too many, and bits that are zero.
+#[test]
+fn the_rules_of_octets_that_no_line_writes() {
+    let good = records("bridge 7\nports 2\n", Program::Sheet).expect("records");
+    let broken = |place: usize, octet: u8| {
+        let mut octets = good.clone();
+        octets[place] = octet;
+        settings::checked(&octets).expect_err("a rule")
+    };
+    assert!(settings::checked(&good).is_ok());
+    let said = settings::checked(&good[..57]).expect_err("a rule");
+    assert_eq!(said, "settings of 2 ports have 58 octets, and these have 57");
+    let said = settings::checked(&good[..8]).expect_err("a rule");
+    assert_eq!(said, "the settings have 8 octets, and end before their ports field");
+    assert_eq!(broken(11, 0x10), "the three bits above the VLAN are zero, and one of these is set");
+    assert_eq!(broken(36, 0xc1), "the last five bits of port 2's flags are zero, and one is set");
+}
+
+#[test]
+fn an_option_stands_once() {
+    for (line, word) in [
+        ("bridge 7 leave 10 leave 20", "leave"),
+        ("ports 1 twice twice", "twice"),
+        ("on 1 talker 1 leave leave", "leave"),
+        ("on 1 talker 1 rank 0 vlan 2 rank 1", "rank"),
+        ("on 1 listener 1 ready values 2 values 3", "values"),
+        ("mmrp 1 mac 1 values 2 values 3", "values"),
+        ("write 1 from 0 from 1", "from"),
+        ("report 1 place 0 place 1", "place"),
+        ("why 1 1 buffer 7 buffer 8", "buffer"),
+    ] {
+        assert_eq!(fault(line, Program::Calls), format!("line 2: {word} stands here twice"));
+    }
+    let said = "line 2: leave is a second event of one Message";
+    assert_eq!(fault("on 1 talker 1 join leave", Program::Calls), said);
+    let both = "on 1 talker 1 leave and talker 2 leave";
+    assert!(records(&format!("bridge 7\nports 1\n{both}\n"), Program::Sheet).is_ok());
+}
+
+#[test]
+fn the_index_has_names_and_lines() {
+    let text = "stream tenor 2\nbridge 7\nports 1\n\nstream alto 02:00:00:00:00:01:00:01\non 1 leaveall domain\ntime 1\n";
+    let said = "stream 0200000000010001 alto\nstream 0000000000000002 tenor\noctet 0 2\noctet 36 6\noctet 54 7\n";
+    assert_eq!(read(text, Program::Sheet).expect("records").index(), said);
 }
 
 /// A raw line may hold a part of a record, or several.

@@ -1,8 +1,8 @@
 //! The console for the six calls, srpcalls.
 
 use crate::helpers::*;
-use reference::bridge::ROOM_LENGTH;
-use reference::table::TABLE_LENGTH;
+use reference::lent::ROOM_LENGTH;
+use reference::table::layout::TABLE_LENGTH;
 use reference::{calls, settings};
 
 fn counted(first: u8, octets: &[u8]) -> Vec<u8> {

@@ -1,14 +1,14 @@
 //! The edge of the reservation domain (02, (ii)).
 
 use crate::helpers::*;
-use reference::bridge::Table;
 use reference::declarations::Declaration;
 use reference::domain::{self, DomainRegistration};
 use reference::frame::{FrameDraft, MessageDraft};
+use reference::lent::Table;
 use reference::pdu::{AttributeType, Domain, Failure};
 use reference::settings::PerClass;
-use reference::settling::Column;
-use reference::table::{EDGES, RECORDS};
+use reference::settled::Column;
+use reference::table::layout::{EDGES, RECORDS};
 
 /// What a port holds of a class ID and priority.
 fn held_domain(

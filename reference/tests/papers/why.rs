@@ -2,11 +2,13 @@
 //! bit/s in class A and 8,544,000 in class B.
 
 use crate::helpers::*;
-use reference::bridge::{Table, WhyAnswer};
+use reference::bridge::WhyAnswer;
+use reference::lent::Table;
 use reference::pdu::StreamId;
 use reference::records::{Call, Watcher};
 use reference::settings::{PerClass, Settings};
-use reference::settling::{Column, Step};
+use reference::settled::Column;
+use reference::settling::Step;
 use reference::why::LONGEST_LIST;
 use reference::{calls, generator, numbers};
 
@@ -279,7 +281,7 @@ impl Watcher for AnswersHeldToAdvance {
         assert_eq!((report.column, own_code), expected);
         // What is listed forwards, and makes up what was left to this stream.
         for (listed, _) in &list {
-            let entry = reference::settling::Entry::Forward;
+            let entry = reference::settled::Entry::Forward;
             assert_eq!(self::report(&advanced, port, *listed).entry, entry);
         }
         let sum: u64 = list.iter().map(|(_, demand)| demand).sum();

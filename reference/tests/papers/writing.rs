@@ -1,9 +1,10 @@
 //! Writing (01, "Writing"; 02, (ii), (xi)), and reading back what is written.
 
 use crate::helpers::*;
-use reference::bridge::{Table, WriteAnswer};
+use reference::bridge::WriteAnswer;
 use reference::declarations::{self, Declaration};
 use reference::generator;
+use reference::lent::Table;
 use reference::pdu::{self, AttributeType, StreamId};
 use reference::records::{Call, Watcher};
 use reference::script::{records, Program};

@@ -1,9 +1,7 @@
 -- `answers::put_sum` meets its contract. Assumes nothing.
 use borrow.Author.Needs.{needs}
-use mathlib.Core.Path.{_≡_, _∙_}
 use mathlib.Core.List.{append-nil}
 use Rattle.octets.specs.Parts.{patch}
-use Rattle.octets.specs.Be.{be}
 use Rattle.answers.specs.Lines.{sumText}
 use Rattle.answers.proofs.put_sum.Statement.{statement}
 use Rattle.answers.proofs.put_sum.Tie as tie

@@ -1,6 +1,4 @@
 -- `columns::failure_in` meets its contract. Assumes nothing.
-use mathlib.Core.Path.{_≡_, sym, _∙_}
-use native.Mathlib.Omega.{arith}
 use borrow.Author.Needs.{needs}
 use Rattle.columns.specs.Answers.{columnShown}
 use Rattle.columns.proofs.Talkers.{no-failure, a-failure}

@@ -1,12 +1,13 @@
 -- `console::put_shown` meets its contract. Assumes nothing.
 use borrow.Author.Needs.{needs}
+use Rattle.reports.specs.Shown.{shown}
 use Rattle.console.specs.Words.{shownText}
 use Rattle.console.proofs.Laws.{put-append}
 use Rattle.console.proofs.put_shown.Statement.{statement}
 use Rattle.console.proofs.put_shown.Tie as tie
 
 returns : tie.Need-returns
-unfolding shownText
+unfolding shownText shown
 returns c =
     let talker = c .before .before .before .before .before .before .before .before .before .before .before .before .before .before .before .before .before .before .before .before .put-talker .ensures in
     let listener = put-append (c .before .before .before .before .before .before .before .before .before .before .before .before .before .before .before .put .ensures) (c .before .before .before .before .before .before .before .before .before .before .before .put-listener .ensures) in

@@ -1,7 +1,5 @@
 -- `cutting::size_of` meets its contract. Assumes nothing.
-use Prim.Native.Nat.{ℕ}
 use mathlib.Core.Path.{ap, _∙_}
-use native.Mathlib.Omega.{arith}
 use borrow.Author.Needs.{needs}
 use Rattle.model.specs.Cutting.{octetsFor}
 use Rattle.cutting.proofs.size_of.Statement.{statement}

@@ -1,6 +1,5 @@
 -- `declarations::join_mt_at` meets its contract. Assumes nothing.
-use Prim.Native.Nat.{_*_}
-use mathlib.Core.Path.{_≡_, refl}
+use mathlib.Core.Path.{_≡_}
 use native.Mathlib.Omega.{arith}
 use Rattle.declarations.specs.Packed.{threeUnit}
 use Rattle.declarations.proofs.join_mt_at.Statement.{statement}

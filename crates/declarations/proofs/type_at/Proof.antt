@@ -1,6 +1,5 @@
 -- `declarations::type_at` meets its contract. Assumes nothing.
-use Prim.Native.Nat.{_*_}
-use mathlib.Core.Path.{_≡_, refl}
+use mathlib.Core.Path.{_≡_}
 use native.Mathlib.Omega.{arith}
 use Rattle.declarations.specs.Packed.{fourUnit}
 use Rattle.declarations.proofs.type_at.Statement.{statement}

@@ -1,15 +1,14 @@
 -- `declarations::write_part` meets its contract. Assumes nothing.
-use Prim.Native.Nat.{ℕ, _+_, _-_, _≤_, _<_}
-use mathlib.Core.Path.{_≡_, refl, sym, ap, _∙_}
+use Prim.Native.Nat.{ℕ, _+_, _-_, _≤_}
+use mathlib.Core.Path.{_≡_, ap, _∙_}
 use mathlib.Core.List.{List}
 use mathlib.Core.Bool.{true}
 use native.Mathlib.Omega.{arith}
 use borrow.Author.Needs.{needs}
-use lib.ListN.{length, getD}
+use lib.ListN.{length}
 use Rattle.octets.proofs.Parts.{lent-part, length-part}
 use Rattle.model.specs.Frames.{threeLength, fourLength}
 use Rattle.model.specs.Cutting.{octetsFor, values}
-use Rattle.model.specs.Declarations.{declaredIds}
 use Rattle.cutting.specs.Named.{idsOf}
 use Rattle.cutting.proofs.Named.{ids-length, part-ends}
 use Rattle.declarations.specs.Packed.{listenersAt, eventsOf, VectorOfPart}

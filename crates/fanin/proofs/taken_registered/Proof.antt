@@ -1,7 +1,6 @@
 -- `fanin::taken_registered` meets its contract. The invariant: what is left to search, from here on, gives the answer. Assumes nothing.
 use Prim.Native.Nat.{_-_}
 use mathlib.Core.Path.{_≡_, refl, sym, _∙_}
-use native.Mathlib.Omega.{arith}
 use borrow.Author.Needs.{needs}
 use Rattle.model.specs.Table.{decode}
 use Rattle.table.specs.Places.{Stands}

@@ -1,5 +1,4 @@
 -- `form::bit` meets its contract. Assumes nothing.
-use mathlib.Core.Path.{refl}
 use native.Mathlib.Omega.{arith}
 use Rattle.model.specs.Lists.{bit}
 use Rattle.form.proofs.bit.Statement.{statement}

@@ -1,5 +1,4 @@
 -- `form::settled_formed` meets its contract. Assumes nothing.
-use mathlib.Core.Path.{_∙_, sym}
 use mathlib.Core.Bool.{and-true}
 use native.Mathlib.Omega.{arith}
 use borrow.Author.Needs.{needs}

@@ -1,7 +1,5 @@
 -- `msrpdu::strange_vector` meets its contract. Assumes nothing.
-use mathlib.Core.Path.{sym}
 use borrow.Author.Tests.{eq-eqb, ne-eqb}
-use borrow.Author.Needs.{needs}
 use Rattle.msrpdu.specs.Reader.{strangeRead}
 use Rattle.msrpdu.proofs.strange_vector.Statement.{statement}
 use Rattle.msrpdu.proofs.strange_vector.Tie as tie

@@ -9,11 +9,11 @@ use Rattle.srpcalls.proofs.run.Statement.{statement}
 use Rattle.srpcalls.proofs.run.Tie as tie
 
 abbrev Inv-loop : tie.InvT-loop
-Inv-loop room₀ octets₀ lent₀ turns₀ t7 t8 room octets lent turns =
-    (lent ≤ length room) × (length room ≡ length room₀) × (length octets ≡ length octets₀)
+Inv-loop room₀ space₀ lent₀ turns₀ t8 room space lent turns =
+    (lent ≤ length room) × (length room ≡ length room₀) × (length space ≡ length space₀)
 
 abbrev μ-loop : tie.MeasureT-loop
-μ-loop room₀ octets₀ lent₀ turns₀ t7 t8 room octets lent turns = turns
+μ-loop room₀ space₀ lent₀ turns₀ t8 room space lent turns = turns
 
 loop-holds : tie.Need-loop-holds Inv-loop μ-loop
 loop-holds c = (omega arith, omega arith, omega arith)
@@ -27,7 +27,4 @@ loop-again-2 c = (omega arith, omega arith, omega arith)
 pub run-spec : {M : Type 1} → statement M
 run-spec =
     tie.close
-    (tie.spec Inv-loop μ-loop loop-holds (λ c. search needs) (λ c κs. search needs) (λ c. search needs) (λ c. search needs)
-    loop-again (λ c. search needs) (λ c κs. search needs) (λ c. search needs) loop-again-2 (λ c. search needs) (λ c. search needs)
-    (λ c. search needs) (λ c κs. search needs) (λ c. search needs) (λ c. search needs) (λ c. search needs) (λ c. search needs)
-    (λ c. search needs) (λ c. search needs) (λ c. search needs) (λ c. search needs) (λ c. search needs) (λ c. search needs))
+    (tie.spec Inv-loop μ-loop loop-holds (λ c. search needs) (λ c κs. search needs) (λ c. search needs) (λ c. search needs) loop-again (λ c. search needs) (λ c κs. search needs) (λ c. search needs) loop-again-2 (λ c. search needs) (λ c. search needs) (λ c κs. search needs) (λ c κs. search needs) (λ c. search needs) (λ c. search needs) (λ c. tt) (λ c. search needs) (λ c. search needs) (λ c. search needs) (λ c. tt) (λ c. search needs) (λ c. search needs) (λ c. tt))

@@ -18,13 +18,6 @@ use Rattle.table.proofs.Header.{laid-length}
 use Rattle.table.proofs.Dropping.{Closing, closing-start, seen-held, closing-drop, closing-keep, closing-end}
 use Rattle.table.proofs.drop_unheld.Statement.{statement}
 use Rattle.table.proofs.drop_unheld.Tie as tie
-use Rattle.table.proofs.drop_unheld.Reads as reads
-use Rattle.table.proofs.drop_unheld.Lts as lts
-use Rattle.octets.proofs.clear.Reads as clear-reads
-use Rattle.octets.proofs.put.Reads as put-reads
-use Rattle.table.proofs.count.Reads as count-reads
-use Rattle.table.proofs.is_held.Reads as is-held-reads
-use Rattle.table.proofs.keep_record.Reads as keep-record-reads
 
 record Dropping (t₀ : List ℕ) (n : ℕ) (t : List ℕ) (j i : ℕ) : Type 0 where
   size : length t ≡ tableLength

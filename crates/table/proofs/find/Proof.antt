@@ -13,10 +13,6 @@ use Rattle.table.proofs.Header.{laid-length}
 use Rattle.table.proofs.Finding.{Between, between-all, between-low, between-high, between-found, between-none, record-id, length-ids}
 use Rattle.table.proofs.find.Statement.{statement}
 use Rattle.table.proofs.find.Tie as tie
-use Rattle.table.proofs.find.Reads as reads
-use Rattle.table.proofs.find.Lts as lts
-use Rattle.octets.proofs.get.Reads as get-reads
-use Rattle.table.proofs.count.Reads as count-reads
 
 record Halving (t : List ℕ) (id low high : ℕ) : Type 0 where
   size : length t ≡ tableLength

@@ -1,5 +1,5 @@
 -- `table::move_down` meets its contract. The invariant: what is left to move gives the answer. Assumes nothing.
-use Prim.Native.Nat.{ℕ, suc, _+_, _-_, _≤_, _<_}
+use Prim.Native.Nat.{ℕ, suc, _+_, _-_, _<_}
 use native.Mathlib.Nat.{add-zero, sub-zero}
 use mathlib.Core.Path.{_≡_, refl, sym, _∙_}
 use native.Mathlib.Omega.{arith}
@@ -10,8 +10,6 @@ use Rattle.octets.proofs.Loops.{Turned}
 use Rattle.table.proofs.Moving.{move-less}
 use Rattle.table.proofs.move_down.Statement.{statement}
 use Rattle.table.proofs.move_down.Tie as tie
-use Rattle.table.proofs.move_down.Reads as reads
-use Rattle.table.proofs.move_down.Lts as lts
 
 abbrev Inv-loop : tie.InvT-loop
 Inv-loop s₀ at d n i₀ s i =

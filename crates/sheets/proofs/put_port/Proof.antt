@@ -1,0 +1,18 @@
+-- `sheets::put_port` meets its contract. Assumes nothing.
+use borrow.Author.Needs.{needs}
+use Rattle.reports.specs.Shown.{shown}
+use Rattle.console.proofs.Laws.{put-append}
+use Rattle.sheets.specs.Lines.{portLine}
+use Rattle.sheets.proofs.put_port.Statement.{statement}
+use Rattle.sheets.proofs.put_port.Tie as tie
+
+returns : tie.Need-returns
+unfolding portLine shown
+returns c =
+    let classes = put-append (c .before .before .before .before .before .before .before .before .before .before .before .before .put-class .ensures) (put-append (c .before .before .before .before .before .before .before .put-class2 .ensures) (c .before .before .put2 .ensures)) in
+    put-append (c .before .before .before .before .before .before .before .before .before .before .before .before .before .before .before .before .before .before .before .before .before .put .ensures) (put-append (c .before .before .before .before .before .before .before .before .before .before .before .before .before .before .before .before .before .put-number .ensures) classes)
+
+pub put-port-spec : {M : Type 1} → statement M
+put-port-spec =
+    tie.close
+    (tie.spec (λ c. search needs) (λ c κs. search needs) (λ c κs. search needs) (λ c. search needs) (λ c κs. search needs) (λ c. search needs) (λ c κs. search needs) (λ c. search needs) (λ c κs. search needs) (λ c. search needs) returns)
