@@ -9,11 +9,11 @@ use native.Mathlib.Nat.{add-zero, zero-add}
 use lib.ListN.{getD, set, length, replicate, length-set}
 use lib.Seq.{ext-getD, getD-set-same, getD-set-other}
 use lib.Dec.{ltb, eqb}
-use borrow.Author.Tests.{lt-ltb, le-ltb, leb-true, leb-false, eqb-true, eqb-false}
+use borrow.Author.Tests.{lt-ltb, le-ltb, eqb-true, eqb-false}
 use Rattle.model.specs.Lists.{keep, tabulate}
 use Rattle.model.specs.State.{Settings, Column, advertise, failed, filters, forwards, Result, Stream, Totals, Bridge, noTotals, unsettled, inForce, portAt, isPort, cellAt, resultAt, Class, noClass, classA, classB, classOf, isNoClass, sameClass}
 use Rattle.model.specs.Bandwidth.{Claim, remains, admitted, sort, reserved, total}
-use Rattle.model.specs.Settling.{Scene, Source, nowhere, from, sourceOf, fixedOf, streamClass, registered, isReady, clear, inboundOf, steps, stepsFrom, lastSteps, ageOf, claim, claims, limitOn, leftFor, byBandwidth, columnOf, entryOf, ageKept, latencyKept, totalOn, totalsOn, isAdvertise}
+use Rattle.model.specs.Settling.{Scene, Source, nowhere, from, sourceOf, fixedOf, streamClass, registered, isReady, clear, inboundOf, steps, stepsFrom, lastSteps, ageOf, claim, claims, limitOn, leftFor, byBandwidth, columnOf, entryOf, ageKept, latencyKept, totalOn, totalsOn, isAdvertise, bandwidthSteps, first, outcomeColumn}
 use Rattle.model.proofs.Lists.{and-true, and-false}
 use Rattle.model.proofs.AdvanceKeepsForm.{length-tabulate}
 use Rattle.model.proofs.Admission.{Two, lo, hi, two}
@@ -58,7 +58,7 @@ showing st now col x = record {
 module _ (sc : Scene) (q : ℕ) (x : Stream) where
   -- they leave Advertise where none of them applies
   early-advertised : isAdvertise (earlyColumn sc q x) ≡ clear (steps sc q x)
-  unfolding earlyColumn byBandwidth
+  unfolding earlyColumn byBandwidth bandwidthSteps first outcomeColumn
   early-advertised = advertised sc q x 0 0 ∙ and-true (clear (steps sc q x))
 
   -- one of them applies to a priority that is no class, and at a place that is no port
@@ -202,18 +202,12 @@ module _ (sc : Scene) (now : ℕ) (s : List Stream) where
       by-claims = first-clear _ (steps sc p x) _ free ∙ rw e
 
       fits : admitted l cs (claim (sc .settings) now p x) ≡ true → columnOf sc now s p x ≡ advertise
-      unfolding admitted byBandwidth
-      fits a =
-          let d = claim (sc .settings) now p x .demand in
-          let r = remains l cs (claim (sc .settings) now p x) in
-          by-claims ∙ rw (le-ltb r d (leb-true d r a))
+      unfolding admitted byBandwidth bandwidthSteps first outcomeColumn
+      fits a = by-claims ∙ rw a
 
       lacks : admitted l cs (claim (sc .settings) now p x) ≡ false → columnOf sc now s p x ≡ failed (sc .settings .bridgeId) 1
-      unfolding admitted byBandwidth
-      lacks a =
-          let d = claim (sc .settings) now p x .demand in
-          let r = remains l cs (claim (sc .settings) now p x) in
-          by-claims ∙ rw (lt-ltb r d (leb-false d r a))
+      unfolding admitted byBandwidth bandwidthSteps first outcomeColumn
+      lacks a = by-claims ∙ rw a
 
     same-if : (x : Stream) → old p x ≡ new p x → showing (sc .settings) now old x ≡ showing (sc .settings) now new x
     same-if x e = showing-same old new x (λ q b. go q (eqb q p) refl)

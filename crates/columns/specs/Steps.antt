@@ -2,9 +2,12 @@
 use mathlib.Core.Path.{_≡_}
 use mathlib.Core.Bool.{Bool, false}
 use Rattle.model.specs.State.{Own, Class, noClass, classA, classB}
-use Rattle.model.specs.Settling.{StepName, noStep, stepA, stepB, stepC, stepD, stepE, stepF, stepG, stepH, stepI, stepJ, stepK, stepL, stepM, stepN}
+use Rattle.model.specs.Settling.{Outcome, columnNone, asRegistered, asAdvertise, ownFailure, About, StepName, noStep, stepA, stepB, stepC, stepD, stepE, stepF, stepG, stepH, stepI, stepJ, stepK, stepL, stepM, stepN}
 use Rattle.columns.specs.declared.Step.{Step}
 use Rattle.columns.specs.declared.Step.the-variants.{None, A, B, C, D, E, F, G, H, I, J, K, L, M, N}
+use Rattle.columns.specs.declared.Outcome as declared
+use Rattle.columns.specs.declared.Outcome.the-variants.{Nothing, Registered, Admitted, Failure}
+use Rattle.columns.specs.declared.About as told
 use Rattle.columns.specs.declared.Edges.{Edges}
 
 -- the step that the code names
@@ -24,6 +27,16 @@ stepShown K = stepK
 stepShown L = stepL
 stepShown M = stepM
 stepShown N = stepN
+
+-- what is told of a step
+unfoldable pub outcomeShown : declared.Outcome → Outcome
+outcomeShown Nothing = columnNone
+outcomeShown Registered = asRegistered
+outcomeShown Admitted = asAdvertise
+outcomeShown (Failure code) = ownFailure code
+
+unfoldable pub aboutShown : told.About → About
+aboutShown r = record { letter = r .0; outcome = outcomeShown (r .1) }
 
 -- the flag of a class
 unfoldable pub edgeOf : Edges → Class → Bool

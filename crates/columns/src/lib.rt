@@ -9,6 +9,7 @@ ghost use Rattle.octets.specs.Be.{beAt};
 ghost use Rattle.model.specs.Layout.{cellSize, inResult, inCell, portSize, resultSize};
 ghost use Rattle.model.specs.State as state;
 ghost use Rattle.model.specs.State.{isNoClass, classLatency, portAt, cellAt, ownAt, failed};
+ghost use Rattle.model.specs.Settling as model;
 ghost use Rattle.model.specs.Settling.{Scene, sceneOf, isInbound, isPruned, sourceOf, fixedOf, talkerTypeOf, failedColumn, stepI, stepsFrom, steps, ageOf, latencyOut, entryOf, ageKept};
 ghost use Rattle.model.specs.Why.{firstName, columnBy};
 ghost use Rattle.model.specs.Table.{toPort, toCell, toResult, toEntry, toDeclared, entryNumber, resultOctets, encode, decode};
@@ -20,7 +21,7 @@ ghost use Rattle.fanin.specs.Sets.{setTo};
 ghost use Rattle.fanin.specs.Places.{SettledTo};
 ghost use Rattle.columns.specs.Stages.{shownBy, lastStep, earlyColumn, early, earlyAll};
 ghost use Rattle.columns.specs.Answers.{columnShown, latencyPlaceOf, sizePlace, columnWidths, columnNumbers, entryWidths, entrySize};
-ghost use Rattle.columns.specs.Steps.{stepShown, edgeOf, EdgesOf};
+ghost use Rattle.columns.specs.Steps.{stepShown, aboutShown, edgeOf, EdgesOf};
 ghost use Rattle.columns.specs.Places.{Asked, TalkerIn, SceneOn, TalkerAt, FailureAt, changedAt, earlyOne, earlyTo};
 use streams::ClassRead;
 use table::cell;
@@ -35,7 +36,7 @@ pub enum ColumnRead {
 }
 
 // An own failure carries this Bridge ID.
-fn own(table: &[u8], code: u8) -> ColumnRead
+fn own_failure(table: &[u8], code: u8) -> ColumnRead
     requires { ⌜ Laid (now table) ⌝ }
     ensures { λ r. ⌜ columnShown r ≡ failed (decode (now (table .entry)) .settings .bridgeId) code ⌝ }
 {
@@ -82,6 +83,40 @@ pub enum Step {
     L,
     M,
     N,
+}
+
+// What a step gives: column none, the failure that is registered, Advertise, or an own failure of some code.
+pub enum Outcome {
+    Nothing,
+    Registered,
+    Admitted,
+    Failure(u8),
+}
+
+// The letter of a step in ASCII, 0 for none, and what it gives.
+pub struct About(pub u8, pub Outcome);
+
+// Each step's letter and outcome.
+pub fn describe(step: Step) -> About
+    ensures { λ r. ⌜ aboutShown r ≡ model.about (stepShown step) ⌝ }
+{
+    match step {
+        Step::None => About(0, Outcome::Nothing),
+        Step::A => About(b'a', Outcome::Nothing),
+        Step::B => About(b'b', Outcome::Nothing),
+        Step::C => About(b'c', Outcome::Registered),
+        Step::D => About(b'd', Outcome::Failure(16)),
+        Step::E => About(b'e', Outcome::Failure(4)),
+        Step::F => About(b'f', Outcome::Failure(13)),
+        Step::G => About(b'g', Outcome::Failure(14)),
+        Step::H => About(b'h', Outcome::Failure(1)),
+        Step::I => About(b'i', Outcome::Admitted),
+        Step::J => About(b'j', Outcome::Failure(8)),
+        Step::K => About(b'k', Outcome::Failure(7)),
+        Step::L => About(b'l', Outcome::Failure(5)),
+        Step::M => About(b'm', Outcome::Failure(15)),
+        Step::N => About(b'n', Outcome::Nothing),
+    }
 }
 
 // Whether a port is at the edge of the domain of class A, and of class B.
@@ -224,22 +259,13 @@ fn column_of(table: &[u8], said: &[u8], step: Step) -> ColumnRead
     ensures { λ r. ⌜ ((t : ℕ) → columnShown r
         ≡ columnBy (decode (now (table .entry)) .settings) (sourceIn t (toCell (now (said .entry)))) (stepShown step)) ⌝ }
 {
-    match step {
-        Step::None => ColumnRead::None,
-        Step::A => ColumnRead::None,
-        Step::B => ColumnRead::None,
-        Step::C => failure_in(said),
-        Step::D => own(table, 16),
-        Step::E => own(table, 4),
-        Step::F => own(table, 13),
-        Step::G => own(table, 14),
-        Step::H => own(table, 1),
-        Step::I => ColumnRead::Advertise,
-        Step::J => own(table, 8),
-        Step::K => own(table, 7),
-        Step::L => own(table, 5),
-        Step::M => own(table, 15),
-        Step::N => ColumnRead::None,
+    let told = describe(step);
+    let outcome = told.1;
+    match outcome {
+        Outcome::Nothing => ColumnRead::None,
+        Outcome::Registered => failure_in(said),
+        Outcome::Admitted => ColumnRead::Advertise,
+        Outcome::Failure(code) => own_failure(table, code),
     }
 }
 

@@ -9,10 +9,9 @@ use mathlib.Core.List.{List, [], _∷_, _++_}
 use lib.ListN.{length, getD, take, drop}
 use lib.Dec.{eqb}
 use Rattle.model.specs.Lists.{keep}
-use Rattle.model.specs.State.{Column, none, advertise, failed, askingFailed, ready, readyFailed, Declared, nothing, tells, Port, Settings, Result, Stream, Bridge, portAt, resultAt, streamAt, fresh, Class, classA, classB, supports}
+use Rattle.model.specs.State.{Column, none, advertise, failed, askingFailed, ready, readyFailed, Declared, nothing, tells, Port, Settings, Result, Stream, Bridge, portAt, resultAt, streamAt, fresh, Class, classA, classB, supports, readyNumber}
 use Rattle.model.specs.Registrations.{Kind, advertises, faileds, listeners}
 use Rattle.model.specs.Frames.{Attribute, registers, domainType}
-use Rattle.model.specs.WrittenFrames.{readyNumber}
 use Rattle.model.specs.Declarations.{Declaration, advertised, failing, listening, declarationsOf, ofKind, domainOf, domainValues}
 use Rattle.model.specs.Table.{columnNumber, declaredNumber}
 use Rattle.declarations.specs.Vectors.{some}

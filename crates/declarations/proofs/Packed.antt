@@ -13,13 +13,13 @@ use Rattle.octets.specs.Fields.{flat}
 use Rattle.octets.proofs.Parts.{length-patch}
 use Rattle.octets.proofs.Patches.{lent-patch}
 use Rattle.model.specs.Lists.{All}
-use Rattle.model.specs.State.{Declared, nothing, tells, resultAt, streamAt}
+use Rattle.model.specs.State.{Declared, nothing, tells, resultAt, streamAt, readyNumber}
 use Rattle.model.specs.Registrations.{ids, listeners}
 use Rattle.model.specs.Frames.{registers}
 use Rattle.model.specs.Cutting.{Part, values, octetsFor}
 use Rattle.model.specs.Best.{bests, best, least}
 use Rattle.model.specs.Declarations.{Declaration, listenerDeclaration, declaredId, declaredIds, listening, declarationsOf}
-use Rattle.model.specs.WrittenFrames.{readyNumber, listenerNumber, packedVector, cutAs, listenerParts, vectorsOf, vectorOctets}
+use Rattle.model.specs.WrittenFrames.{listenerNumber, packedVector, cutAs, listenerParts, vectorsOf, vectorOctets}
 use Rattle.model.specs.Table.{declaredNumber, decode}
 use Rattle.model.specs.Laid.{Ascending, Laid}
 use Rattle.model.proofs.Lists.{all-append, all-take}

@@ -11,7 +11,7 @@ use borrow.Author.Tests.{ltb-false, leb-false, le-ltb, le-leb, eq-eqb, ne-eqb, l
 use Rattle.model.specs.Lists.{All, keep, tabulate, implies, bit}
 use Rattle.model.specs.State.{Port, Settings, Leaving, stays, since, TalkerType, talkerAdvertise, talkerFailed, Talker, noTalker, talker, Listener, noListener, listener, Cell, Domain, noDomain, domain, Presence, vacant, present, Address, Own, Column, none, advertise, failed, Entry, noEntry, filters, forwards, Declared, nothing, tells, Result, Stream, Totals, Bridge, empty, unsettled, noFixed, noOwn, noPort, ownAt, portAt, isPort, cellAt, resultAt, Class, classA, classB, inForce, noClass, sameClass, supports}
 use Rattle.model.specs.Registrations.{Answer, ids, macs}
-use Rattle.model.specs.Settling.{Scene, sceneOf, flagOf, decideOwn, decideOwns, expired, expireDomain, outlasts, remainAddresses, expireTalker, expireListener, expireCell, expire, held, remain, Source, nowhere, from, source, sourceOf, isSource, fixedOf, talkerTypeOf, registered, isReady, Outcome, columnNone, asRegistered, ownFailure, Step, first, failedColumn, outcomeColumn, stepsFrom, steps, ageOf, claims, reservedA, limitOn, byBandwidth, columnOf, capped, latencyOut, entryOf, ageKept, latencyKept, decideAt, decide, totalOn, totalsOn, settle, advance, isTalking, isHearing, Origin, streamClass, clear, Inbound, inboundOf, inboundsOf, lastSteps}
+use Rattle.model.specs.Settling.{Scene, sceneOf, flagOf, decideOwn, decideOwns, expired, expireDomain, outlasts, remainAddresses, expireTalker, expireListener, expireCell, expire, held, remain, Source, nowhere, from, source, sourceOf, isSource, fixedOf, talkerTypeOf, registered, isReady, Outcome, columnNone, asRegistered, ownFailure, Step, first, failedColumn, outcomeColumn, stepsFrom, steps, ageOf, claims, reservedA, limitOn, byBandwidth, columnOf, capped, latencyOut, entryOf, ageKept, latencyKept, decideAt, decide, totalOn, totalsOn, settle, advance, isTalking, isHearing, Origin, streamClass, clear, Inbound, inboundOf, inboundsOf, lastSteps, asAdvertise, outcomeOf, bandwidthSteps}
 use Rattle.model.specs.Bandwidth.{sort, total, reserved}
 use Rattle.model.specs.Table.{totalsWithin, talkers, hasColumn, declares, declarers, forListener, storedRules, storedFormed, atMost}
 use Rattle.model.proofs.Lists.{all-append, all-getD, all-tabulate, at-place, and-false, implies-true, true-all}
@@ -318,14 +318,15 @@ ValidFailure (failed b c) = (b < 2 ^ 64) × (c < 256)
 abbrev ValidOutcome : Outcome → Type 0
 ValidOutcome columnNone = Unit {0}
 ValidOutcome asRegistered = Unit {0}
+ValidOutcome asAdvertise = Unit {0}
 ValidOutcome (ownFailure code) = code < 256
 
-codes-fit : (sc : Scene) (p : ℕ) (here : Cell) (s : Source) → All (λ t. ValidOutcome (t .outcome)) (stepsFrom sc p here s)
+codes-fit : (sc : Scene) (p : ℕ) (here : Cell) (s : Source) → All (λ t. ValidOutcome (outcomeOf t)) (stepsFrom sc p here s)
 unfolding stepsFrom
 codes-fit sc p here nowhere = omega arith
 codes-fit sc p here (from o) = omega arith
 
-last-codes-fit : (sc : Scene) (p : ℕ) (i : Inbound) → All (λ t. ValidOutcome (t .outcome)) (lastSteps sc p i)
+last-codes-fit : (sc : Scene) (p : ℕ) (i : Inbound) → All (λ t. ValidOutcome (outcomeOf t)) (lastSteps sc p i)
 unfolding lastSteps
 last-codes-fit sc p i = omega arith
 
@@ -340,9 +341,10 @@ module _ (sc : Scene) (named : sc .settings .bridgeId < 2 ^ 64) where
     unfolding outcomeColumn
     outcome-valid columnNone h = tt
     outcome-valid asRegistered h = failed-valid (talkerTypeOf s) v
+    outcome-valid asAdvertise h = tt
     outcome-valid (ownFailure code) h = (named, h)
 
-    first-valid : (l : List Step) (c : Column) → All (λ t. ValidOutcome (t .outcome)) l → ValidFailure c → ValidFailure (first (outcomeColumn (sc .settings) s) l c)
+    first-valid : (l : List Step) (c : Column) → All (λ t. ValidOutcome (outcomeOf t)) l → ValidFailure c → ValidFailure (first (outcomeColumn (sc .settings) s) l c)
     unfolding first
     first-valid [] c a w = w
     first-valid (t ∷ l) c a w = go (t .test) (first-valid l c (a .1) w)
@@ -350,8 +352,8 @@ module _ (sc : Scene) (named : sc .settings .bridgeId < 2 ^ 64) where
         rest : Column
         rest = first (outcomeColumn (sc .settings) s) l c
 
-        go : (b : Bool) → ValidFailure rest → ValidFailure (cond b (outcomeColumn (sc .settings) s (t .outcome)) rest)
-        go true ih = outcome-valid (t .outcome) (a .0)
+        go : (b : Bool) → ValidFailure rest → ValidFailure (cond b (outcomeColumn (sc .settings) s (outcomeOf t)) rest)
+        go true ih = outcome-valid (outcomeOf t) (a .0)
         go false ih = ih
 
   -- whichever step applies, and whatever follows them all
@@ -363,8 +365,8 @@ module _ (sc : Scene) (named : sc .settings .bridgeId < 2 ^ 64) where
       (tt, all-append _ (stepsFrom sc p (cellAt x p) (sourceOf x)) _ (codes-fit sc p (cellAt x p) (sourceOf x)) (last-codes-fit sc p (inboundOf x))) w
 
   bandwidth-valid : (d l : ℕ) → ValidFailure (byBandwidth (sc .settings) d l)
-  unfolding byBandwidth
-  bandwidth-valid d l = go (ltb l d)
+  unfolding byBandwidth bandwidthSteps first outcomeColumn
+  bandwidth-valid d l = go (not (leb d l))
     where
       go : (t : Bool) → ValidFailure (cond t (failed (sc .settings .bridgeId) 1) advertise)
       go true = omega arith

@@ -15,9 +15,9 @@ use Rattle.octets.specs.Fields.{fields, Fit, width, flat}
 use Rattle.octets.proofs.Fields.{length-packed-any, fields-of-packed, fields-fit, fit-at, fit-append, fit-zeros, packed-zeros}
 use Rattle.model.specs.Layout.{cellIndex, cellFields, cellSize, cellWidths, fixedWidths, inCell}
 use Rattle.model.specs.Lists.{All, allTrue, implies, tabulate, parts, Octets, bit, isOne}
-use Rattle.model.specs.State.{Leaving, stays, since, Fixed, TalkerType, talkerAdvertise, talkerFailed, Registration, Talker, noTalker, talker, Ready, askingFailed, ready, readyFailed, Listener, noListener, listener, Cell, empty}
+use Rattle.model.specs.State.{Leaving, stays, since, Fixed, TalkerType, talkerAdvertise, talkerFailed, Registration, Talker, noTalker, talker, Ready, askingFailed, ready, readyFailed, Listener, noListener, listener, Cell, empty, readyNumber}
 use Rattle.model.specs.Frames.{priorityOf, rankOf}
-use Rattle.model.specs.WrittenFrames.{priorityOctet, fixedNumbers, readyNumber}
+use Rattle.model.specs.WrittenFrames.{priorityOctet, fixedNumbers}
 use Rattle.model.specs.Settling.{isTalking, isHearing, held}
 use Rattle.model.specs.Table.{leavingNumber, sinceNumber, toLeaving, talkerTypeNumber, bridgeNumber, codeNumber, toTalkerType, talkerNumbers, listenerNumbers, cellNumbers, fixedFrom, toReady, registrationFrom, talkerFrom, listenerFrom, cellFrom, cellOctets, toCell, between, allZero, leavingRule, cellRules, cellFormed, holds}
 use Rattle.model.proofs.Lists.{all-each, and-left, and-right, and-both, implied, all-true, true-all}

@@ -11,12 +11,13 @@ use lib.ListN.{getD, length}
 use lib.Dec.{ltb, leb}
 use borrow.Author.Tests.{ltb-true, ltb-false, lt-leb, le-leb}
 use Rattle.model.specs.Lists.{All, keep, tabulate}
-use Rattle.model.specs.State.{Settings, TalkerType, talkerAdvertise, talkerFailed, Column, advertise, failed, Entry, noEntry, filters, forwards, Declared, nothing, Result, Stream, Bridge, Class, noClass, classA, classB, sameClass, supports, bothLimits, inForce, portAt, cellAt, resultAt, unsettled, Totals, noTotals}
+use Rattle.model.specs.State.{Settings, isPort, TalkerType, talkerAdvertise, talkerFailed, Column, advertise, failed, Entry, noEntry, filters, forwards, Declared, nothing, Result, Stream, Bridge, Class, noClass, classA, classB, sameClass, supports, bothLimits, inForce, portAt, cellAt, resultAt, unsettled, Totals, noTotals}
 use Rattle.model.specs.Registrations.{ids}
 use Rattle.model.specs.Table.{atMost}
 use Rattle.model.specs.Bandwidth.{Claim, key, above, sort, reserved, remains, admitted, total, taken}
-use Rattle.model.specs.Settling.{Scene, sceneOf, decideOwns, remain, Source, sourceOf, isSource, fixedOf, talkerTypeOf, streamClass, registered, isReady, isAdvertise, Outcome, columnNone, asRegistered, ownFailure, Step, first, clear, failedColumn, outcomeColumn, steps, ageOf, claim, claims, reservedA, limitOn, leftFor, byBandwidth, columnOf, latencyOut, entryOf, ageKept, latencyKept, passed, mergeAll, merged, decideAt, decide, totalOn, totalsOn, settle, Inbound, inboundOf, inboundsOf}
+use Rattle.model.specs.Settling.{Scene, sceneOf, decideOwns, remain, Source, sourceOf, isSource, fixedOf, talkerTypeOf, streamClass, registered, isReady, isAdvertise, Outcome, columnNone, asRegistered, ownFailure, Step, first, clear, failedColumn, outcomeColumn, steps, ageOf, claim, claims, reservedA, limitOn, leftFor, byBandwidth, columnOf, latencyOut, entryOf, ageKept, latencyKept, passed, mergeAll, merged, decideAt, decide, totalOn, totalsOn, settle, Inbound, inboundOf, inboundsOf, nowhere, from, asAdvertise, stepA, outcomeOf, about, bandwidthSteps, stepsFrom, lastSteps}
 use Rattle.model.proofs.Lists.{all-map, all-both, all-each, and-right, and-true, and-false}
+use Rattle.model.proofs.StepNames.{everyStep, every-all, notAdmitted}
 use Rattle.model.proofs.Valid.{Rising}
 use Rattle.model.proofs.Admission.{Distinct, key-id, within, subtracted, total-is-sum, idle-above, idle-total}
 pub use Rattle.model.proofs.Lists.{at-place}
@@ -133,7 +134,7 @@ unfolding first clear
 first-clear says [] c h = refl
 first-clear says (s ∷ l) c h = go (s .test) h (first-clear says l c)
   where
-    go : (b : Bool) → (not b && clear l) ≡ true → (clear l ≡ true → first says l c ≡ c) → cond b (says (s .outcome)) (first says l c) ≡ c
+    go : (b : Bool) → (not b && clear l) ≡ true → (clear l ≡ true → first says l c ≡ c) → cond b (says (outcomeOf s)) (first says l c) ≡ c
     go true h ih = absurd (false≢true h)
     go false h ih = ih h
 
@@ -144,44 +145,57 @@ first-decided says [] c d h = absurd (false≢true (sym h))
 first-decided says (s ∷ l) c d h = go (s .test) h (first-decided says l c d)
   where
     go : (b : Bool) → (not b && clear l) ≡ false → (clear l ≡ false → first says l c ≡ first says l d)
-        → cond b (says (s .outcome)) (first says l c) ≡ cond b (says (s .outcome)) (first says l d)
+        → cond b (says (outcomeOf s)) (first says l c) ≡ cond b (says (outcomeOf s)) (first says l d)
     go true h ih = refl
     go false h ih = ih h
 
--- no outcome is Advertise
-plain : (st : Settings) (s : Source) (o : Outcome) → isAdvertise (outcomeColumn st s o) ≡ false
-unfolding outcomeColumn isAdvertise
-plain st s columnNone = refl
-plain st s asRegistered = go (talkerTypeOf s)
+-- no step before h gives Advertise
+plain : (st : Settings) (s : Source) (o : Outcome) → notAdmitted o ≡ true → isAdvertise (outcomeColumn st s o) ≡ false
+unfolding outcomeColumn isAdvertise notAdmitted
+plain st s columnNone n = refl
+plain st s asAdvertise n = absurd (false≢true n)
+plain st s asRegistered n = go (talkerTypeOf s)
   where
     go : (h : TalkerType) → isAdvertise (failedColumn h) ≡ false
     go h = unfold isAdvertise failedColumn in elim h [ talkerAdvertise ↦ refl | talkerFailed b c ↦ refl ]
-plain st s (ownFailure code) = refl
+plain st s (ownFailure code) n = refl
 
-first-advertise : (says : Outcome → Column) → ((o : Outcome) → isAdvertise (says o) ≡ false) → (l : List Step) (c : Column) →
+before-bandwidth : (sc : Scene) (p : ℕ) (x : Stream) → everyStep (λ n. notAdmitted (about n .outcome)) (steps sc p x) ≡ true
+unfolding steps
+before-bandwidth sc p x = go (sourceOf x)
+  where
+    go : (o : Source)
+        → everyStep (λ n. notAdmitted (about n .outcome))
+        (record { name = stepA; test = not (isPort (sc .settings) p) } ∷ (stepsFrom sc p (cellAt x p) o ++ lastSteps sc p (inboundOf x)))
+        ≡ true
+    go o = unfold everyStep notAdmitted stepsFrom lastSteps in elim o [ nowhere ↦ refl | from q ↦ refl ]
+
+first-advertise : (says : Outcome → Column) → (l : List Step) → All (λ s. isAdvertise (says (outcomeOf s)) ≡ false) l → (c : Column) →
     isAdvertise (first says l c) ≡ (clear l && isAdvertise c)
 unfolding first clear
-first-advertise says a [] c = refl
-first-advertise says a (s ∷ l) c = go (s .test) (first-advertise says a l c)
+first-advertise says [] a c = refl
+first-advertise says (s ∷ l) a c = go (s .test) (first-advertise says l (a .1) c)
   where
     go : (t : Bool) → isAdvertise (first says l c) ≡ (clear l && isAdvertise c)
-        → isAdvertise (cond t (says (s .outcome)) (first says l c)) ≡ ((not t && clear l) && isAdvertise c)
-    go true h = a (s .outcome)
+        → isAdvertise (cond t (says (outcomeOf s)) (first says l c)) ≡ ((not t && clear l) && isAdvertise c)
+    go true h = a .0
     go false h = h
 
 by-bandwidth : (st : Settings) (d l : ℕ) → isAdvertise (byBandwidth st d l) ≡ leb d l
-unfolding byBandwidth
-by-bandwidth st d l = go (ltb l d) refl
+unfolding byBandwidth bandwidthSteps first outcomeColumn
+by-bandwidth st d l = go (leb d l)
   where
-    go : (t : Bool) → ltb l d ≡ t → isAdvertise (cond t (failed (st .bridgeId) 1) advertise) ≡ leb d l
-    go true e = unfold isAdvertise in (rw (lt-leb d l (ltb-true l d e)))
-    go false e = unfold isAdvertise in (rw (le-leb d l (ltb-false l d e)))
+    go : (t : Bool) → isAdvertise (cond (not t) (failed (st .bridgeId) 1) advertise) ≡ t
+    go true = unfold isAdvertise in refl
+    go false = unfold isAdvertise in refl
 
 -- a stream is Advertise where no step before bandwidth applies and its demand is not above what is left
 pub advertised : (sc : Scene) (p : ℕ) (x : Stream) (d left : ℕ) →
     isAdvertise (first (outcomeColumn (sc .settings) (sourceOf x)) (steps sc p x) (byBandwidth (sc .settings) d left)) ≡ (clear (steps sc p x) && leb d left)
 advertised sc p x d left =
-    first-advertise (outcomeColumn (sc .settings) (sourceOf x)) (plain (sc .settings) (sourceOf x)) (steps sc p x) (byBandwidth (sc .settings) d left)
+    first-advertise (outcomeColumn (sc .settings) (sourceOf x)) (steps sc p x)
+    (all-map _ _ (λ s. plain (sc .settings) (sourceOf x) (outcomeOf s)) (steps sc p x) (every-all _ (steps sc p x) (before-bandwidth sc p x)))
+    (byBandwidth (sc .settings) d left)
     ∙ ap (λ (t : Bool). clear (steps sc p x) && t) (by-bandwidth (sc .settings) d left)
 
 -- No two claims are equally important.
@@ -361,8 +375,8 @@ pub record Shown (sc : Scene) (p : ℕ) (y : Stream) : Type 0 where
 -- where such a stream reaches step h it has an entry and so keeps its age: its claim is the same before and after an advance
 module _ (sc : Scene) (now p : ℕ) (here : p < 8) where
   entry-made : (demand left : ℕ) (d : Declared) → hasEntry (entryOf (byBandwidth (sc .settings) demand left) d) ≡ true
-  unfolding byBandwidth hasEntry entryOf
-  entry-made demand left d = go (ltb left demand)
+  unfolding byBandwidth bandwidthSteps first outcomeColumn hasEntry entryOf
+  entry-made demand left d = go (not (leb demand left))
     where
       made : (r : Bool) → hasEntry (cond r forwards filters) ≡ true
       made true = refl

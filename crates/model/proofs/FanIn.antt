@@ -79,7 +79,7 @@ module _ (sc : Scene) (now : ℕ) (s : List Stream) (p : ℕ) (x : Stream) where
   steps-behind : clear (steps sc p x) ≡ true → clear (lastSteps sc p (inboundOf x)) ≡ true
   unfolding steps
   steps-behind =
-      clear-behind (record { name = stepA; test = not (isPort (sc .settings) p); outcome = columnNone } ∷ stepsFrom sc p (cellAt x p) (sourceOf x)) (lastSteps sc p (inboundOf x))
+      clear-behind (record { name = stepA; test = not (isPort (sc .settings) p) } ∷ stepsFrom sc p (cellAt x p) (sourceOf x)) (lastSteps sc p (inboundOf x))
 
   none-behind : clear (lastSteps sc p (inboundOf x)) ≡ true → (sharing ≡ false) × (keptOut ≡ false)
   unfolding clear lastSteps inboundOf

@@ -1,4 +1,5 @@
 pub mod Lists
+pub mod StepNames
 pub mod ApplicantEntries
 pub mod PlaceLists
 pub mod Passing

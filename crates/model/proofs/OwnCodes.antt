@@ -4,35 +4,36 @@ use mathlib.Core.List.{List, [], _∷_, _++_}
 use mathlib.Core.Bool.{Bool, true, false, cond, not, _&&_, true≢false, false≢true}
 use Prim.Native.Nat.{ℕ, _≤_}
 use native.Mathlib.Omega.{arith}
-use lib.Dec.{eqb, ltb}
+use lib.Dec.{eqb, leb}
 use borrow.Author.Tests.{eqb-true, eq-eqb}
 use Rattle.model.specs.State.{Settings, TalkerType, talkerAdvertise, talkerFailed, Column, advertise, failed, Cell, Stream, isPort}
-use Rattle.model.specs.Settling.{Source, sourceOf, talkerTypeOf, Scene, Outcome, columnNone, asRegistered, ownFailure, stepA, Step, first, clear, isTalkerFailed, failedColumn, outcomeColumn, Inbound, stepsFrom, lastSteps, steps, claim, leftFor, byBandwidth, columnOf}
+use Rattle.model.specs.Settling.{Source, sourceOf, talkerTypeOf, Scene, Outcome, columnNone, asRegistered, ownFailure, stepA, Step, first, clear, isTalkerFailed, failedColumn, outcomeColumn, Inbound, stepsFrom, lastSteps, steps, claim, leftFor, byBandwidth, columnOf, asAdvertise, outcomeOf, bandwidthSteps}
 use Rattle.model.specs.Table.{columnCode}
 
 -- whether an outcome is the own failure of code n
 unfoldable pub gives : ℕ → Outcome → Bool
 gives n columnNone = false
 gives n asRegistered = false
+gives n asAdvertise = false
 gives n (ownFailure code) = eqb code n
 
 -- the steps before the one that gives it, and what that one tests
 unfoldable pub earlier : ℕ → List Step → List Step
 earlier n [] = []
-earlier n (s ∷ l) = cond (gives n (s .outcome)) [] (s ∷ earlier n l)
+earlier n (s ∷ l) = cond (gives n (outcomeOf s)) [] (s ∷ earlier n l)
 
 unfoldable pub asked : ℕ → List Step → Bool
 asked n [] = false
-asked n (s ∷ l) = cond (gives n (s .outcome)) (s .test) (asked n l)
+asked n (s ∷ l) = cond (gives n (outcomeOf s)) (s .test) (asked n l)
 
 -- no step gives it; not more than one does
 unfoldable pub never : ℕ → List Step → Bool
 never n [] = true
-never n (s ∷ l) = not (gives n (s .outcome)) && never n l
+never n (s ∷ l) = not (gives n (outcomeOf s)) && never n l
 
 unfoldable pub once : ℕ → List Step → Bool
 once n [] = true
-once n (s ∷ l) = cond (gives n (s .outcome)) (never n l) (once n l)
+once n (s ∷ l) = cond (gives n (outcomeOf s)) (never n l) (once n l)
 
 -- Of any steps, with c behind them.
 module _ (says : Outcome → Column) (n : ℕ) (c : Column) where
@@ -40,17 +41,18 @@ module _ (says : Outcome → Column) (n : ℕ) (c : Column) where
   unfolding gives
   gives-is columnNone e = absurd (false≢true e)
   gives-is asRegistered e = absurd (false≢true e)
+  gives-is asAdvertise e = absurd (false≢true e)
   gives-is (ownFailure code) e = ap ownFailure (eqb-true code n e)
 
   decides : (l : List Step) → clear (earlier n l) ≡ true → asked n l ≡ true → first says l c ≡ says (ownFailure n)
   unfolding first clear earlier asked
   decides [] free a = absurd (false≢true a)
-  decides (s ∷ l) free a = go (gives n (s .outcome)) (s .test) refl free a (decides l)
+  decides (s ∷ l) free a = go (gives n (outcomeOf s)) (s .test) refl free a (decides l)
     where
-      go : (g t : Bool) → gives n (s .outcome) ≡ g → clear (cond g [] (record { name = s .name; test = t; outcome = s .outcome } ∷ earlier n l)) ≡ true
+      go : (g t : Bool) → gives n (outcomeOf s) ≡ g → clear (cond g [] (record { name = s .name; test = t } ∷ earlier n l)) ≡ true
           → cond g t (asked n l) ≡ true → (clear (earlier n l) ≡ true → asked n l ≡ true → first says l c ≡ says (ownFailure n))
-          → cond t (says (s .outcome)) (first says l c) ≡ says (ownFailure n)
-      go true true e f a ih = ap says (gives-is (s .outcome) e)
+          → cond t (says (outcomeOf s)) (first says l c) ≡ says (ownFailure n)
+      go true true e f a ih = ap says (gives-is (outcomeOf s) e)
       go true false e f a ih = absurd (false≢true a)
       go false true e f a ih = absurd (false≢true f)
       go false false e f a ih = ih f a
@@ -60,38 +62,39 @@ module _ (says : Outcome → Column) (n : ℕ) (c : Column) where
     silent : (l : List Step) → never n l ≡ true → columnCode (first says l c) ≡ n → ⊥
     unfolding first never
     silent [] h e = other e
-    silent (s ∷ l) h e = go (gives n (s .outcome)) (s .test) refl h e (silent l)
+    silent (s ∷ l) h e = go (gives n (outcomeOf s)) (s .test) refl h e (silent l)
       where
-        go : (g t : Bool) → gives n (s .outcome) ≡ g → (not g && never n l) ≡ true → columnCode (cond t (says (s .outcome)) (first says l c)) ≡ n
+        go : (g t : Bool) → gives n (outcomeOf s) ≡ g → (not g && never n l) ≡ true → columnCode (cond t (says (outcomeOf s)) (first says l c)) ≡ n
             → (never n l ≡ true → columnCode (first says l c) ≡ n → ⊥) → ⊥
         go true t f h e ih = false≢true h
-        go false true f h e ih = true≢false (sym (coded (s .outcome) e) ∙ f)
+        go false true f h e ih = true≢false (sym (coded (outcomeOf s) e) ∙ f)
         go false false f h e ih = ih h e
 
     only : (l : List Step) → once n l ≡ true → columnCode (first says l c) ≡ n → (clear (earlier n l) ≡ true) × (asked n l ≡ true)
     unfolding first clear earlier asked once
     only [] h e = absurd (other e)
-    only (s ∷ l) h e = go (gives n (s .outcome)) (s .test) refl h e (only l)
+    only (s ∷ l) h e = go (gives n (outcomeOf s)) (s .test) refl h e (only l)
       where
-        go : (g t : Bool) → gives n (s .outcome) ≡ g → cond g (never n l) (once n l) ≡ true
-            → columnCode (cond t (says (s .outcome)) (first says l c)) ≡ n
+        go : (g t : Bool) → gives n (outcomeOf s) ≡ g → cond g (never n l) (once n l) ≡ true
+            → columnCode (cond t (says (outcomeOf s)) (first says l c)) ≡ n
             → (once n l ≡ true → columnCode (first says l c) ≡ n → (clear (earlier n l) ≡ true) × (asked n l ≡ true))
-            → (clear (cond g [] (record { name = s .name; test = t; outcome = s .outcome } ∷ earlier n l)) ≡ true) × (cond g t (asked n l) ≡ true)
+            → (clear (cond g [] (record { name = s .name; test = t } ∷ earlier n l)) ≡ true) × (cond g t (asked n l) ≡ true)
         go true true f h e ih = (refl, refl)
         go true false f h e ih = absurd (silent l h e)
-        go false true f h e ih = absurd (true≢false (sym (coded (s .outcome) e) ∙ f))
+        go false true f h e ih = absurd (true≢false (sym (coded (outcomeOf s) e) ∙ f))
         go false false f h e ih = ih h e
 
 -- Of a stream on a port. A code above 1: 0 is none, and 1 is that of bandwidth.
 
 -- the steps by the cell here, what comes in, and the Talker's place, if there is one
 abbrev pub stepsOf : Scene → ℕ → Cell → Inbound → Source → List Step
-stepsOf sc p here i o = record { name = stepA; test = not (isPort (sc .settings) p); outcome = columnNone } ∷ (stepsFrom sc p here o ++ lastSteps sc p i)
+stepsOf sc p here i o = record { name = stepA; test = not (isPort (sc .settings) p) } ∷ (stepsFrom sc p here o ++ lastSteps sc p i)
 
 advertise-code : (st : Settings) (o : Source) (n : ℕ) → 2 ≤ n → isTalkerFailed (talkerTypeOf o) ≡ false
     → (w : Outcome) → columnCode (outcomeColumn st o w) ≡ n → gives n w ≡ true
 unfolding outcomeColumn columnCode gives
 advertise-code st o n h whole columnNone e = absurd (omega arith)
+advertise-code st o n h whole asAdvertise e = absurd (omega arith)
 advertise-code st o n h whole asRegistered e = absurd (go (talkerTypeOf o) whole e)
   where
     go : (b : TalkerType) → isTalkerFailed b ≡ false → columnCode (failedColumn b) ≡ n → ⊥
@@ -100,8 +103,8 @@ advertise-code st o n h whole asRegistered e = absurd (go (talkerTypeOf o) whole
 advertise-code st o n h whole (ownFailure code) e = eq-eqb code n e
 
 bandwidth-code : (st : Settings) (n d left : ℕ) → 2 ≤ n → columnCode (byBandwidth st d left) ≡ n → ⊥
-unfolding byBandwidth
-bandwidth-code st n d left h = go (ltb left d)
+unfolding byBandwidth bandwidthSteps first outcomeColumn
+bandwidth-code st n d left h = go (not (leb d left))
   where
     go : (t : Bool) → columnCode (cond t (failed (st .bridgeId) 1) advertise) ≡ n → ⊥
     go true e = unfold columnCode in omega arith

@@ -13,13 +13,13 @@ use Rattle.octets.specs.Fields.{fields, packed, Fit}
 use Rattle.octets.proofs.Fields.{fields-of-packed}
 use Rattle.model.specs.FrameLayout.{listenerWidths}
 use Rattle.model.specs.Lists.{All, tabulate}
-use Rattle.model.specs.State.{Bridge, TalkerType, talkerAdvertise, talkerFailed, Ready, askingFailed, ready, readyFailed}
+use Rattle.model.specs.State.{Bridge, TalkerType, talkerAdvertise, talkerFailed, Ready, askingFailed, ready, readyFailed, readyNumber}
 use Rattle.model.specs.Registrations.{advertises, faileds, listeners, Act}
 use Rattle.model.specs.Frames.{registers, domainType, typeNumber, firstWidths, threeLength, fourLength, Vector, overpacked, runsPast, overflows, event, threePacked, fourPacked, eventOf, fourOf, asking, idValue, hearing, listenerAct, valueActs, valuesActs, leaveAllActs, vectorActs, frameActs}
 use Rattle.model.specs.Cutting.{mac, Shares, Part, concat, lastOf, values, Least}
 use Rattle.model.specs.Best.{best}
 use Rattle.model.specs.Declarations.{Declaration, talkerDeclaration, listenerDeclaration, domainDeclaration, talkerKind, attributeOf, joinOf, declaredId, declaredIds, having, write}
-use Rattle.model.specs.WrittenFrames.{readyNumber, listenerNumber, said, eventNumber, threeOctet, fourOctet, firstNumbers, fourOctets, declarationVector, packedVector, cutAs, listenerParts}
+use Rattle.model.specs.WrittenFrames.{listenerNumber, said, eventNumber, threeOctet, fourOctet, firstNumbers, fourOctets, declarationVector, packedVector, cutAs, listenerParts}
 use Rattle.model.specs.Laid.{Ascending}
 use Rattle.model.proofs.Lists.{all-map, all-take, all-drop, getD-tabulate}
 use Rattle.model.proofs.Ascents.{ascending-rising, ascending-take, ascending-drop, rises-last}

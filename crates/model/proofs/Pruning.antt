@@ -8,13 +8,13 @@ use Prim.Native.Nat.{ℕ, _-_, _<_}
 use native.Mathlib.Omega.{arith}
 use native.Mathlib.Decide.{decLt}
 use lib.ListN.{getD, drop}
-use lib.Dec.{eqb, ltb}
+use lib.Dec.{eqb, leb}
 use borrow.Author.Tests.{eqb-true, eqb-false, eq-eqb, ne-eqb}
 use Rattle.model.specs.Lists.{All, keep, tabulate}
 use Rattle.model.specs.State.{Settings, Fixed, TalkerType, talkerAdvertise, talkerFailed, Domain, Address, Own, Column, none, advertise, failed, Cell, Stream, Bridge, Class, noClass, classA, classB, noOwn, ownAt, cellAt, portAt, isPort, classOf, sameClass, supports}
 use Rattle.model.specs.Registrations.{AddressAct, doesAddresses, changeAddresses, AddressReading, refusedFrame, addressActs, Answer, receivedAddresses, owning, macs}
 use Rattle.model.specs.AddressFrames.{addressReading}
-use Rattle.model.specs.Settling.{Scene, Inbound, inboundOf, inboundsOf, decideOwn, decideOwns, flagOf, boundary, holdsAddress, isPruned, remain, Origin, Source, nowhere, from, sourceOf, talkerTypeOf, streamClass, registered, Outcome, columnNone, StepName, stepA, stepB, stepH, stepI, stepN, asRegistered, ownFailure, Step, first, clear, isTalkerFailed, failedColumn, outcomeColumn, stepsFrom, lastSteps, steps, claim, claims, reservedA, limitOn, leftFor, byBandwidth, columnOf, passed, mergeAll, merged, decideAt, decide, totalOn, totalsOn, settle}
+use Rattle.model.specs.Settling.{Scene, Inbound, inboundOf, inboundsOf, decideOwn, decideOwns, flagOf, boundary, holdsAddress, isPruned, remain, Origin, Source, nowhere, from, sourceOf, talkerTypeOf, streamClass, registered, Outcome, columnNone, StepName, stepA, stepB, stepH, stepI, stepN, asRegistered, ownFailure, Step, first, clear, isTalkerFailed, failedColumn, outcomeColumn, stepsFrom, lastSteps, steps, claim, claims, reservedA, limitOn, leftFor, byBandwidth, columnOf, passed, mergeAll, merged, decideAt, decide, totalOn, totalsOn, settle, asAdvertise, outcomeOf, about, bandwidthSteps}
 use Rattle.model.specs.Why.{letter, sameStep, firstName, lastName, stepOn}
 use Rattle.model.specs.Table.{columnNumber}
 use Rattle.model.specs.Calls.{receiveMmrp}
@@ -23,6 +23,7 @@ use Rattle.model.proofs.Parts.{_also_}
 use Rattle.model.proofs.AdvanceKeepsForm.{getD-past}
 use Rattle.model.proofs.ColumnRule.{tabulate-same}
 use Rattle.model.proofs.OwnCodes.{stepsOf}
+use Rattle.model.proofs.StepNames.{everyStep, every-all, every-not, isOwn}
 use Rattle.model.proofs.Why.{not-named}
 use Rattle.model.proofs.ReceivedAddresses.{hasRoom, withRoom, addressEffect, received-is, mmrp-same}
 
@@ -52,10 +53,6 @@ holds-exactly m l = (holds-there m l, there-holds m l)
 
 -- Pruned exactly there.
 
--- behind pruning, every outcome but "as registered" is a failure
-abbrev Fails : Step → Type 0
-Fails s = (code : ℕ) × (s .outcome ≡ ownFailure code)
-
 failed-some : (b c : ℕ) → failed b c ≡ none → ⊥
 failed-some b c e = let z : _≡_ {A = ℕ} 2 0 = (unfold columnNumber in ap columnNumber e) in omega arith
 
@@ -63,20 +60,29 @@ advertise-some : advertise ≡ none → ⊥
 advertise-some e = let z : _≡_ {A = ℕ} 1 0 = (unfold columnNumber in ap columnNumber e) in omega arith
 
 bandwidth-some : (st : Settings) (d left : ℕ) → byBandwidth st d left ≡ none → ⊥
-unfolding byBandwidth
-bandwidth-some st d left = go (ltb left d)
+unfolding byBandwidth bandwidthSteps first outcomeColumn
+bandwidth-some st d left = go (not (leb d left))
   where
     go : (t : Bool) → cond t (failed (st .bridgeId) 1) advertise ≡ none → ⊥
     go true e = failed-some (st .bridgeId) 1 e
     go false e = advertise-some e
 
-failures-some : (st : Settings) (o : Source) (c : Column) → (c ≡ none → ⊥) → (l : List Step) → All Fails l → first (outcomeColumn st o) l c ≡ none → ⊥
-unfolding first outcomeColumn
+-- behind pruning, every outcome but "as registered" is a failure
+own-some : (st : Settings) (o : Source) (w : Outcome) → isOwn w ≡ true → outcomeColumn st o w ≡ none → ⊥
+unfolding outcomeColumn isOwn
+own-some st o columnNone h e = false≢true h
+own-some st o asRegistered h e = false≢true h
+own-some st o asAdvertise h e = false≢true h
+own-some st o (ownFailure code) h e = failed-some (st .bridgeId) code e
+
+failures-some : (st : Settings) (o : Source) (c : Column) → (c ≡ none → ⊥) → (l : List Step) → All (λ s. isOwn (outcomeOf s) ≡ true) l
+    → first (outcomeColumn st o) l c ≡ none → ⊥
+unfolding first
 failures-some st o c h [] a e = h e
 failures-some st o c h (s ∷ l) a e = go (s .test) (failures-some st o c h l (a .1)) e
   where
-    go : (t : Bool) → (first (outcomeColumn st o) l c ≡ none → ⊥) → cond t (outcomeColumn st o (s .outcome)) (first (outcomeColumn st o) l c) ≡ none → ⊥
-    go true ih e = failed-some (st .bridgeId) (a .0 .0) (ap (outcomeColumn st o) (sym (a .0 .1)) ∙ e)
+    go : (t : Bool) → (first (outcomeColumn st o) l c ≡ none → ⊥) → cond t (outcomeColumn st o (outcomeOf s)) (first (outcomeColumn st o) l c) ≡ none → ⊥
+    go true ih e = own-some st o (outcomeOf s) (a .0) e
     go false ih e = ih e
 
 -- a stream that no step before pruning decides on the port at place p: its Talker port is another, and the port supports its class
@@ -91,10 +97,9 @@ module _ (sc : Scene) (now : ℕ) (s : List Stream) (p : ℕ) (x : Stream) (o : 
   abbrev failures : List Step
   failures = drop 5 (stepsOf sc p (cellAt x p) (inboundOf x) (from o))
 
-  all-fail : All Fails failures
-  unfolding stepsFrom lastSteps
-  all-fail =
-      (16, refl) also (7, refl) also (4, refl) also (13, refl) also (8, refl) also (5, refl) also (15, refl) also (14, refl) also tt
+  all-fail : everyStep (λ n. isOwn (about n .outcome)) failures ≡ true
+  unfolding stepsFrom lastSteps everyStep isOwn
+  all-fail = refl
 
   -- the column that they give, and a Failed registration before them
   behind : TalkerType → Column
@@ -105,7 +110,7 @@ module _ (sc : Scene) (now : ℕ) (s : List Stream) (p : ℕ) (x : Stream) (o : 
   behind-some : (h : TalkerType) → behind h ≡ none → ⊥
   unfolding behind isTalkerFailed failedColumn
   behind-some talkerAdvertise e =
-      failures-some (sc .settings) (from o) _ (bandwidth-some (sc .settings) (claim (sc .settings) now p x .demand) (leftFor sc now s p x)) failures all-fail e
+      failures-some (sc .settings) (from o) _ (bandwidth-some (sc .settings) (claim (sc .settings) now p x .demand) (leftFor sc now s p x)) failures (every-all _ failures all-fail) e
   behind-some (talkerFailed b c) e = failed-some b c e
 
   column-is : columnOf sc now s p x
@@ -144,12 +149,12 @@ module _ (sc : Scene) (now : ℕ) (s : List Stream) (p : ℕ) (x : Stream) where
   rest o = firstName (drop 4 (stepsOf sc p (cellAt x p) (inboundOf x) (from o))) last
 
   rest-other : (o : Origin) → rest o ≡ stepN → ⊥
-  unfolding rest last lastName stepsFrom lastSteps sameStep letter
+  unfolding rest last lastName bandwidthSteps firstName stepsFrom lastSteps sameStep letter everyStep
   rest-other o =
       not-same (rest o) stepN
       (not-named stepN (drop 4 (stepsOf sc p (cellAt x p) (inboundOf x) (from o)))
-      (refl also refl also refl also refl also refl also refl also refl also refl also refl also tt) last
-      (go (ltb (leftFor sc now s p x) (claim (sc .settings) now p x .demand))))
+      (every-not (λ n. sameStep n stepN) (drop 4 (stepsOf sc p (cellAt x p) (inboundOf x) (from o))) refl) last
+      (go (not (leb (claim (sc .settings) now p x .demand) (leftFor sc now s p x)))))
     where
       go : (t : Bool) → sameStep (cond t stepH stepI) stepN ≡ false
       go true = refl
@@ -198,8 +203,8 @@ module _ (st : Settings) (off : st .pruning ≡ false) (o o′ : List Own) (i : 
   same-steps p x = go (sourceOf x)
     where
       go : (t : Source) → _≡_ {A = List Step}
-          (record { name = stepA; test = not (isPort st p); outcome = columnNone } ∷ (stepsFrom one p (cellAt x p) t ++ lastSteps one p (inboundOf x)))
-          (record { name = stepA; test = not (isPort st p); outcome = columnNone } ∷ (stepsFrom other p (cellAt x p) t ++ lastSteps other p (inboundOf x)))
+          (record { name = stepA; test = not (isPort st p) } ∷ (stepsFrom one p (cellAt x p) t ++ lastSteps one p (inboundOf x)))
+          (record { name = stepA; test = not (isPort st p) } ∷ (stepsFrom other p (cellAt x p) t ++ lastSteps other p (inboundOf x)))
       go nowhere = unfold stepsFrom in refl
       go (from q) =
           let f = q .registration .fixed in

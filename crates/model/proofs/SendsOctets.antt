@@ -10,8 +10,8 @@ use borrow.Author.Tests.{eq-eqb, eqb-true, le-leb, leb-true}
 use Rattle.octets.specs.Fields.{fields, packed, Fit, width}
 use Rattle.octets.proofs.Fields.{length-packed-any, fields-of-packed, fields-fit, fit-at}
 use Rattle.model.specs.Lists.{Octets}
-use Rattle.model.specs.State.{Fixed, Ready, Offer, Failure, Sends}
-use Rattle.model.specs.WrittenFrames.{fixedNumbers, priorityOctet, readyNumber}
+use Rattle.model.specs.State.{Fixed, Ready, Offer, Failure, Sends, readyNumber}
+use Rattle.model.specs.WrittenFrames.{fixedNumbers, priorityOctet}
 use Rattle.model.specs.Table.{fixedFrom, toReady}
 use Rattle.model.proofs.Valid.{ValidFixed}
 use Rattle.model.proofs.Parts.{_also_, octets-at, packed-whole}

@@ -4,10 +4,11 @@ use mathlib.Core.Path.{_≡_, refl, sym, _∙_}
 use mathlib.Core.List.{List, [], _∷_, map}
 use mathlib.Core.Bool.{Bool, true, false, cond, not, _&&_, false≢true}
 use Prim.Native.Nat.{ℕ}
-use lib.Dec.{ltb}
+use lib.Dec.{ltb, leb}
+use borrow.Author.Tests.{lt-ltb, le-ltb, leb-true, leb-false}
 use Rattle.model.specs.State.{Cell, Stream, isPort, cellAt, classOf, isNoClass}
-use Rattle.model.specs.Settling.{Scene, Origin, Source, nowhere, from, sourceOf, fixedOf, streamClass, Inbound, inboundOf, StepName, stepA, stepB, stepC, stepD, stepE, stepF, stepG, stepH, stepI, stepJ, stepK, stepL, stepM, stepN, Step, clear, stepsFrom, lastSteps, steps, claim, leftFor}
-use Rattle.model.specs.Why.{lastName, stepOn}
+use Rattle.model.specs.Settling.{Scene, Origin, Source, nowhere, from, sourceOf, fixedOf, streamClass, Inbound, inboundOf, StepName, stepA, stepB, stepC, stepD, stepE, stepF, stepG, stepH, stepI, stepJ, stepK, stepL, stepM, stepN, Step, clear, stepsFrom, lastSteps, steps, claim, leftFor, outcomeOf, bandwidthSteps}
+use Rattle.model.specs.Why.{firstName, lastName, stepOn}
 use Rattle.model.proofs.Why.{name-clear}
 use Rattle.model.proofs.OwnCodes.{gives, earlier, asked, stepsOf}
 
@@ -21,14 +22,24 @@ steps-in-order sc p x o e = rw e
 -- Where none of them applies, h decides if the demand is above what is left, and else i.
 pub then-h-i : (sc : Scene) (now : ℕ) (s : List Stream) (p : ℕ) (x : Stream) → clear (steps sc p x) ≡ true →
     stepOn sc now s p x ≡ cond (ltb (leftFor sc now s p x) (claim (sc .settings) now p x .demand)) stepH stepI
-unfolding stepOn lastName
-then-h-i sc now s p x free = name-clear _ (steps sc p x) free
+unfolding stepOn
+then-h-i sc now s p x free = name-clear _ (steps sc p x) free ∙ go (leb demanded left) refl
+  where
+    demanded : ℕ
+    demanded = claim (sc .settings) now p x .demand
+
+    left : ℕ
+    left = leftFor sc now s p x
+
+    go : (b : Bool) → leb demanded left ≡ b → lastName demanded left ≡ cond (ltb left demanded) stepH stepI
+    go true e = unfold lastName bandwidthSteps firstName in (rw (e, le-ltb left demanded (leb-true demanded left e)))
+    go false e = unfold lastName bandwidthSteps firstName in (rw (e, lt-ltb left demanded (leb-false demanded left e)))
 
 -- The step of a code does not apply where none of the steps does.
 not-asked : (n : ℕ) (l : List Step) → clear l ≡ true → asked n l ≡ false
 unfolding clear asked
 not-asked n [] h = refl
-not-asked n (s ∷ l) h = go (gives n (s .outcome)) (s .test) h (not-asked n l)
+not-asked n (s ∷ l) h = go (gives n (outcomeOf s)) (s .test) h (not-asked n l)
   where
     go : (g t : Bool) → (not t && clear l) ≡ true → (clear l ≡ true → asked n l ≡ false) → cond g t (asked n l) ≡ false
     go g true h ih = absurd (false≢true h)

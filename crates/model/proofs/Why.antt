@@ -6,87 +6,81 @@ use mathlib.Core.List.{List, [], _∷_, _++_}
 use mathlib.Core.Bool.{Bool, true, false, cond, not, _&&_, false≢true, true≢false}
 use Prim.Native.Nat.{ℕ, _-_, _≤_, _<_}
 use native.Mathlib.Omega.{arith}
-use lib.Dec.{ltb}
-use borrow.Author.Tests.{ltb-true, ltb-false}
+use lib.Dec.{leb}
+use borrow.Author.Tests.{leb-true, leb-false}
 use Rattle.model.specs.Lists.{All}
-use Rattle.model.specs.State.{Settings, Cell, Column, Stream, cellAt}
-use Rattle.model.specs.Settling.{Scene, Source, nowhere, from, sourceOf, streamClass, Inbound, inboundOf, StepName, noStep, stepA, stepB, stepC, stepD, stepE, stepF, stepG, stepH, stepI, stepJ, stepK, stepL, stepM, stepN, Step, first, clear, outcomeColumn, stepsFrom, lastSteps, steps, claim, limitOn, leftFor, byBandwidth, columnOf}
+use Rattle.model.specs.State.{Settings, Cell, Column, advertise, failed, Stream, cellAt}
+use Rattle.model.specs.Settling.{Scene, Source, nowhere, from, sourceOf, streamClass, Inbound, inboundOf, StepName, stepH, stepI, Step, first, clear, outcomeColumn, stepsFrom, lastSteps, steps, claim, limitOn, leftFor, byBandwidth, columnOf, Outcome, columnNone, asRegistered, asAdvertise, ownFailure, about, outcomeOf, bandwidthSteps}
 use Rattle.model.specs.Table.{columnCode}
 use Rattle.model.proofs.Lists.{all-append, all-map}
-use Rattle.model.specs.Why.{letter, sameStep, code, columnBy, firstName, lastName, stepOn, listed, plainly, reasonOn}
+use Rattle.model.proofs.StepNames.{everyStep, every-all, isRegistered}
+use Rattle.model.specs.Why.{letter, sameStep, code, columnBy, firstName, lastName, stepOn, listed, plainly, reasonOn, ownCode}
 
--- A step's name gives the column that its outcome gives.
+-- A step's name gives the column.
 module _ (st : Settings) (s : Source) where
-  abbrev Gives : Step → Type 0
-  Gives t = outcomeColumn st s (t .outcome) ≡ columnBy st s (t .name)
-
-  first-named : (l : List Step) → All Gives l → (n : StepName) (c : Column) → c ≡ columnBy st s n → first (outcomeColumn st s) l c ≡ columnBy st s (firstName l n)
+  first-named : (l : List Step) (n : StepName) (c : Column) → c ≡ columnBy st s n → first (outcomeColumn st s) l c ≡ columnBy st s (firstName l n)
   unfolding first firstName
-  first-named [] a n c e = e
-  first-named (t ∷ l) a n c e = go (t .test) (first-named l (a .1) n c e)
+  first-named [] n c e = e
+  first-named (t ∷ l) n c e = go (t .test) (first-named l n c e)
     where
       go : (b : Bool) → first (outcomeColumn st s) l c ≡ columnBy st s (firstName l n)
-          → cond b (outcomeColumn st s (t .outcome)) (first (outcomeColumn st s) l c) ≡ columnBy st s (cond b (t .name) (firstName l n))
-      go true ih = a .0
+          → cond b (outcomeColumn st s (outcomeOf t)) (first (outcomeColumn st s) l c) ≡ columnBy st s (cond b (t .name) (firstName l n))
+      go true ih = unfold columnBy in refl
       go false ih = ih
 
-  each-named : (sc : Scene) (p : ℕ) (here : Cell) (i : Inbound) (o : Source) → All Gives (stepsFrom sc p here o ++ lastSteps sc p i)
-  unfolding stepsFrom lastSteps outcomeColumn columnBy
-  each-named sc p here i nowhere = (refl, (refl, (refl, (refl, tt))))
-  each-named sc p here i (from o) = (refl, (refl, (refl, (refl, (refl, (refl, (refl, (refl, (refl, (refl, (refl, (refl, tt))))))))))))
-
--- and the code that it stands for is that of its column; of c it is the registered one
-pub code-named : (st : Settings) (s : Source) (n : StepName) → sameStep n stepC ≡ false → columnCode (columnBy st s n) ≡ code n
-unfolding columnBy columnCode code sameStep letter
-code-named st s noStep h = refl
-code-named st s stepA h = refl
-code-named st s stepB h = refl
-code-named st s stepC h = absurd (true≢false h)
-code-named st s stepD h = refl
-code-named st s stepE h = refl
-code-named st s stepF h = refl
-code-named st s stepG h = refl
-code-named st s stepH h = refl
-code-named st s stepI h = refl
-code-named st s stepJ h = refl
-code-named st s stepK h = refl
-code-named st s stepL h = refl
-code-named st s stepM h = refl
-code-named st s stepN h = refl
+-- and the code that it stands for is that of its column, but where that is the registered one
+pub code-named : (st : Settings) (s : Source) (n : StepName) → isRegistered (about n .outcome) ≡ false → columnCode (columnBy st s n) ≡ code n
+unfolding columnBy code
+code-named st s n = go (about n .outcome)
+  where
+    go : (o : Outcome) → isRegistered o ≡ false → columnCode (outcomeColumn st s o) ≡ ownCode o
+    go o = unfold isRegistered outcomeColumn columnCode ownCode in
+        elim o [ columnNone ↦ λ h. refl | asRegistered ↦ λ h. absurd (true≢false h) | asAdvertise ↦ λ h. refl | ownFailure c ↦ λ h. refl ]
 
 module _ (sc : Scene) (p : ℕ) (x : Stream) where
-  all-named : All (Gives (sc .settings) (sourceOf x)) (steps sc p x)
-  unfolding steps outcomeColumn columnBy
-  all-named = (refl, each-named (sc .settings) (sourceOf x) sc p (cellAt x p) (inboundOf x) (sourceOf x))
-
   -- whatever follows the steps
   pub steps-named : (n : StepName) (c : Column) → c ≡ columnBy (sc .settings) (sourceOf x) n
       → first (outcomeColumn (sc .settings) (sourceOf x)) (steps sc p x) c ≡ columnBy (sc .settings) (sourceOf x) (firstName (steps sc p x) n)
-  steps-named = first-named (sc .settings) (sourceOf x) (steps sc p x) all-named
+  steps-named = first-named (sc .settings) (sourceOf x) (steps sc p x)
+
+  -- h and i too, whatever the Talker
+  last-named : (d left : ℕ) → byBandwidth (sc .settings) d left ≡ columnBy (sc .settings) (sourceOf x) (lastName d left)
+  unfolding byBandwidth lastName bandwidthSteps first firstName columnBy outcomeColumn
+  last-named d left = go (leb d left)
+    where
+      go : (b : Bool) → cond (not b) (failed (sc .settings .bridgeId) 1) advertise
+          ≡ outcomeColumn (sc .settings) (sourceOf x) (about (cond (not b) stepH stepI) .outcome)
+      go true = refl
+      go false = refl
 
   pub column-named : (now : ℕ) (s : List Stream) → columnOf sc now s p x ≡ columnBy (sc .settings) (sourceOf x) (stepOn sc now s p x)
   unfolding columnOf stepOn
-  column-named now s = steps-named _ _ (go (ltb (leftFor sc now s p x) (claim (sc .settings) now p x .demand)) refl)
-    where
-      go : (b : Bool) → ltb (leftFor sc now s p x) (claim (sc .settings) now p x .demand) ≡ b
-          → byBandwidth (sc .settings) (claim (sc .settings) now p x .demand) (leftFor sc now s p x)
-          ≡ columnBy (sc .settings) (sourceOf x) (lastName (claim (sc .settings) now p x .demand) (leftFor sc now s p x))
-      go true e = unfold byBandwidth lastName columnBy in (rw e)
-      go false e = unfold byBandwidth lastName columnBy in (rw e)
+  column-named now s = steps-named _ _ (last-named _ _)
 
 -- The steps before h have other names than h and i, so that i stands for none of them.
 
 abbrev Before : Step → Type 0
 Before t = (sameStep (t .name) stepH ≡ false) × (sameStep (t .name) stepI ≡ false)
 
+others : StepName → Bool
+others n = not (sameStep n stepH) && not (sameStep n stepI)
+
+before-each : (l : List Step) → everyStep others l ≡ true → All Before l
+unfolding others
+before-each l h = all-map (λ t. others (t .name) ≡ true) Before (λ t. both (sameStep (t .name) stepH) (sameStep (t .name) stepI)) l (every-all others l h)
+  where
+    both : (a b : Bool) → (not a && not b) ≡ true → (a ≡ false) × (b ≡ false)
+    both true b e = absurd (false≢true e)
+    both false true e = absurd (false≢true e)
+    both false false e = (refl, refl)
+
 before-first : (sc : Scene) (p : ℕ) (here : Cell) (o : Source) → All Before (stepsFrom sc p here o)
-unfolding stepsFrom sameStep letter
-before-first sc p here nowhere = ((refl, refl), tt)
-before-first sc p here (from o) = ((refl, refl), ((refl, refl), ((refl, refl), ((refl, refl), ((refl, refl), ((refl, refl), ((refl, refl), ((refl, refl), ((refl, refl), tt)))))))))
+unfolding stepsFrom everyStep others sameStep letter
+before-first sc p here o = before-each (stepsFrom sc p here o) (elim o [ nowhere ↦ refl | from q ↦ refl ])
 
 before-last : (sc : Scene) (p : ℕ) (i : Inbound) → All Before (lastSteps sc p i)
-unfolding lastSteps sameStep letter
-before-last sc p i = ((refl, refl), ((refl, refl), ((refl, refl), tt)))
+unfolding lastSteps everyStep others sameStep letter
+before-last sc p i = before-each (lastSteps sc p i) refl
 
 before-all : (sc : Scene) (p : ℕ) (x : Stream) → All Before (steps sc p x)
 unfolding steps sameStep letter
@@ -182,12 +176,16 @@ module _ (sc : Scene) (now : ℕ) (s : List Stream) (p : ℕ) (x : Stream) where
     earlier : clear (steps sc p x) ≡ false → sameStep decides stepH ≡ false → sameStep decides stepI ≡ false → Way
 
   way : Way
-  unfolding stepOn lastName
-  way = go (clear (steps sc p x)) refl (ltb left demanded) refl
+  unfolding stepOn
+  way = go (clear (steps sc p x)) refl (leb demanded left) refl
     where
-      go : (a : Bool) → clear (steps sc p x) ≡ a → (b : Bool) → ltb left demanded ≡ b → Way
-      go true c true e = lacking c (ltb-true left demanded e) (name-clear _ (steps sc p x) c ∙ rw e)
-      go true c false e = fitting c (ltb-false left demanded e) (name-clear _ (steps sc p x) c ∙ rw e)
+      named : (b : Bool) → leb demanded left ≡ b → lastName demanded left ≡ cond b stepI stepH
+      named true e = unfold lastName bandwidthSteps firstName in (rw e)
+      named false e = unfold lastName bandwidthSteps firstName in (rw e)
+
+      go : (a : Bool) → clear (steps sc p x) ≡ a → (b : Bool) → leb demanded left ≡ b → Way
+      go true c false e = lacking c (leb-false demanded left e) (name-clear _ (steps sc p x) c ∙ named false e)
+      go true c true e = fitting c (leb-true demanded left e) (name-clear _ (steps sc p x) c ∙ named true e)
       go false c b e =
           let other : sameStep (firstName (steps sc p x) stepI) stepI ≡ false = sym (steps-clear sc p x) ∙ c in
           let same = name-stays (lastName demanded left) (steps sc p x) other in

@@ -10,8 +10,8 @@ use Rattle.octets.specs.Fields.{fields, packed}
 use Rattle.model.specs.Layout.{failureWidths, sum}
 use Rattle.model.specs.Applicant.{Standing, veryAnxiousPassive, veryAnxiousNew, anxiousNew, anxiousActive, quietActive, leavingActive, named, octetOf}
 use Rattle.model.specs.Machines.{Listed, Applicant, noApplicant, applicant}
-use Rattle.model.specs.State.{Ready, Offer, Failure, Sends}
-use Rattle.model.specs.WrittenFrames.{fixedNumbers, readyNumber}
+use Rattle.model.specs.State.{Ready, Offer, Failure, Sends, readyNumber}
+use Rattle.model.specs.WrittenFrames.{fixedNumbers}
 use Rattle.model.specs.Table.{allZero, fixedFrom, toReady}
 
 -- Widths and sizes.

@@ -5,10 +5,9 @@ use Prim.Native.Nat.{ℕ, suc, _+_, _/_}
 use lib.ListN.{take, drop}
 use lib.Dec.{ltb, leb, eqb}
 use Rattle.model.specs.Lists.{keep, tabulate, countTo}
-use Rattle.model.specs.State.{Port, Settings, Leaving, stays, since, Fixed, TalkerType, talkerAdvertise, talkerFailed, Registration, Talker, noTalker, talker, Ready, askingFailed, ready, readyFailed, Listener, noListener, listener, Cell, Domain, noDomain, domain, Presence, vacant, present, Address, Own, Column, none, advertise, failed, Entry, noEntry, filters, forwards, Declared, nothing, tells, Result, Stream, Totals, Bridge, noFixed, portAt, isPort, cellAt, resultAt, ownAt, Class, noClass, classA, classB, classOf, isNoClass, sameClass, supports, inForce, classLatency, classPriority}
+use Rattle.model.specs.State.{Port, Settings, Leaving, stays, since, Fixed, TalkerType, talkerAdvertise, talkerFailed, Registration, Talker, noTalker, talker, Ready, askingFailed, ready, readyFailed, Listener, noListener, listener, Cell, Domain, noDomain, domain, Presence, vacant, present, Address, Own, Column, none, advertise, failed, Entry, noEntry, filters, forwards, Declared, nothing, tells, Result, Stream, Totals, Bridge, noFixed, portAt, isPort, cellAt, resultAt, ownAt, Class, noClass, classA, classB, classOf, isNoClass, sameClass, supports, inForce, classLatency, classPriority, readyNumber}
 use Rattle.model.specs.Registrations.{Answer}
-use Rattle.model.specs.WrittenFrames.{readyNumber}
-use Rattle.model.specs.Bandwidth.{Claim, demand, rateOf, remains, total}
+use Rattle.model.specs.Bandwidth.{Claim, demand, rateOf, fits, remains, total}
 
 -- Removal: "removes every registration leaving for at least the leave time, drops unheld streams".
 
@@ -226,23 +225,48 @@ sceneOf b = record { settings = b .settings; owns = b .owns; inbound = inboundsO
 
 -- The column: "first that applies".
 
--- what a step gives: column none, the failure registered at t, or an own failure of some code
+-- what a step gives: column none, the failure registered at t, Advertise, or an own failure of some code
 pub data Outcome : Type 0 where
-  columnNone asRegistered : Outcome
+  columnNone asRegistered asAdvertise : Outcome
   ownFailure : (code : ℕ) → Outcome
 
 -- 01's letters of the steps, later ones by landing (02, ix); and none, for what no step decides
 pub data StepName : Type 0 where
   noStep stepA stepB stepC stepD stepE stepF stepG stepH stepI stepJ stepK stepL stepM stepN : StepName
 
+-- each step's letter, by its octet in ASCII, and what it gives
+pub record About : Type 0 where
+  pub letter : ℕ
+  pub outcome : Outcome
+
+abbrev pub about : StepName → About
+about noStep = record { letter = 0; outcome = columnNone }
+about stepA = record { letter = 97; outcome = columnNone }
+about stepB = record { letter = 98; outcome = columnNone }
+about stepC = record { letter = 99; outcome = asRegistered }
+about stepD = record { letter = 100; outcome = ownFailure 16 }
+about stepE = record { letter = 101; outcome = ownFailure 4 }
+about stepF = record { letter = 102; outcome = ownFailure 13 }
+about stepG = record { letter = 103; outcome = ownFailure 14 }
+about stepH = record { letter = 104; outcome = ownFailure 1 }
+about stepI = record { letter = 105; outcome = asAdvertise }
+about stepJ = record { letter = 106; outcome = ownFailure 8 }
+about stepK = record { letter = 107; outcome = ownFailure 7 }
+about stepL = record { letter = 108; outcome = ownFailure 5 }
+about stepM = record { letter = 109; outcome = ownFailure 15 }
+about stepN = record { letter = 110; outcome = columnNone }
+
+-- a step of a list: whether it applies
 pub record Step : Type 0 where
   pub name : StepName
   pub test : Bool
-  pub outcome : Outcome
+
+abbrev pub outcomeOf : Step → Outcome
+outcomeOf s = about (s .name) .outcome
 
 unfoldable pub first : (Outcome → Column) → List Step → Column → Column
 first says [] c = c
-first says (s ∷ l) c = cond (s .test) (says (s .outcome)) (first says l c)
+first says (s ∷ l) c = cond (s .test) (says (outcomeOf s)) (first says l c)
 
 -- none of the steps applies
 unfoldable pub clear : List Step → Bool
@@ -261,6 +285,7 @@ failedColumn (talkerFailed b c) = failed b c
 unfoldable pub outcomeColumn : Settings → Source → Outcome → Column
 outcomeColumn st s columnNone = none
 outcomeColumn st s asRegistered = failedColumn (talkerTypeOf s)
+outcomeColumn st s asAdvertise = advertise
 outcomeColumn st s (ownFailure code) = failed (st .bridgeId) code
 
 -- talkerPruning (35.2.4.3.1; 02, vi): "With pruning on, a port without the stream's destination gets column none"
@@ -270,34 +295,34 @@ isPruned st o f = st .pruning && not (holdsAddress (f .destination) (o .addresse
 -- steps a to f, j, k and n on the port at place p; 02, v: "While the present one is larger, an Advertise is declared Failed with
 -- code 7"
 unfoldable pub stepsFrom : Scene → ℕ → Cell → Source → List Step
-stepsFrom sc p here nowhere = record { name = stepA; test = true; outcome = columnNone } ∷ []
+stepsFrom sc p here nowhere = record { name = stepA; test = true } ∷ []
 stepsFrom sc p here (from o) =
     let st = sc .settings in
     let r = o .registration in
     let c = classOf st (r .fixed .priority) in
-    record { name = stepA; test = eqb p (o .port); outcome = columnNone }
-    ∷ record { name = stepB; test = not (supports (portAt st p) c); outcome = columnNone }
-    ∷ record { name = stepN; test = isPruned st (ownAt (sc .owns) p) (r .fixed); outcome = columnNone }
-    ∷ record { name = stepC; test = isTalkerFailed (r .varying .type); outcome = asRegistered }
-    ∷ record { name = stepD; test = r .changed; outcome = ownFailure 16 }
-    ∷ record { name = stepK; test = ltb (r .firstLatency) (r .varying .latency); outcome = ownFailure 7 }
-    ∷ record { name = stepE; test = isTalking here; outcome = ownFailure 4 }
-    ∷ record { name = stepF; test = isNoClass c; outcome = ownFailure 13 }
-    ∷ record { name = stepJ; test = boundary (ownAt (sc .owns) p) c; outcome = ownFailure 8 }
+    record { name = stepA; test = eqb p (o .port) }
+    ∷ record { name = stepB; test = not (supports (portAt st p) c) }
+    ∷ record { name = stepN; test = isPruned st (ownAt (sc .owns) p) (r .fixed) }
+    ∷ record { name = stepC; test = isTalkerFailed (r .varying .type) }
+    ∷ record { name = stepD; test = r .changed }
+    ∷ record { name = stepK; test = ltb (r .firstLatency) (r .varying .latency) }
+    ∷ record { name = stepE; test = isTalking here }
+    ∷ record { name = stepF; test = isNoClass c }
+    ∷ record { name = stepJ; test = boundary (ownAt (sc .owns) p) c }
     ∷ []
 
 -- behind them "Test 5, then 15", and g
 unfoldable pub lastSteps : Scene → ℕ → Inbound → List Step
 lastSteps sc p i =
-    record { name = stepL; test = shares (sc .inbound) i; outcome = ownFailure 5 }
-    ∷ record { name = stepM; test = isKeptOut (sc .settings .fanIn) (sc .inbound) (i .source); outcome = ownFailure 15 }
-    ∷ record { name = stepG; test = ltb (portAt (sc .settings) p .largest) (fixedOf (i .source) .size); outcome = ownFailure 14 }
+    record { name = stepL; test = shares (sc .inbound) i }
+    ∷ record { name = stepM; test = isKeptOut (sc .settings .fanIn) (sc .inbound) (i .source) }
+    ∷ record { name = stepG; test = ltb (portAt (sc .settings) p .largest) (fixedOf (i .source) .size) }
     ∷ []
 
 -- a place that is no port of this bridge has column none
 unfoldable pub steps : Scene → ℕ → Stream → List Step
 steps sc p x =
-    record { name = stepA; test = not (isPort (sc .settings) p); outcome = columnNone }
+    record { name = stepA; test = not (isPort (sc .settings) p) }
     ∷ (stepsFrom sc p (cellAt x p) (sourceOf x) ++ lastSteps sc p (inboundOf x))
 
 -- "Age is counted from the whole second, clock / 100 rounded down, of the advance that first made an entry"; "An entry made
@@ -336,9 +361,12 @@ leftFor sc now s p x =
     let c = streamClass (sc .settings) x in
     remains (limitOn sc now s p c) (claims sc now p c s) (claim (sc .settings) now p x)
 
--- steps h and i
+-- behind the steps h, "demand above what is left", and i
+unfoldable pub bandwidthSteps : ℕ → ℕ → List Step
+bandwidthSteps demand left = record { name = stepH; test = not (fits demand left) } ∷ record { name = stepI; test = true } ∷ []
+
 unfoldable pub byBandwidth : Settings → ℕ → ℕ → Column
-byBandwidth st demand left = cond (ltb left demand) (failed (st .bridgeId) 1) advertise
+byBandwidth st demand left = first (outcomeColumn st nowhere) (bandwidthSteps demand left) none
 
 unfoldable pub columnOf : Scene → ℕ → List Stream → ℕ → Stream → Column
 columnOf sc now s p x =

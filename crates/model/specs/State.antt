@@ -75,6 +75,12 @@ pub data Talker : Type 0 where
 pub data Ready : Type 0 where
   askingFailed ready readyFailed : Ready
 
+-- "Asking Failed 1, Ready 2, Ready Failed 3"
+unfoldable pub readyNumber : Ready → ℕ
+readyNumber askingFailed = 1
+readyNumber ready = 2
+readyNumber readyFailed = 3
+
 pub data Listener : Type 0 where
   noListener : Listener
   listener : Ready → Leaving → Listener

@@ -12,10 +12,10 @@ use Rattle.octets.specs.Parts.{part, zeros}
 use Rattle.octets.specs.Fields.{fields, packed, flat}
 use Rattle.model.specs.Layout.{widthOf, addressSize, addressWidths, mostAddresses, inOwn, resultIndex, boundaryWidths, cellIndex, cellFields, cellSize, cellWidths, inRecord, cellsSize, inTable, clockWidths, inHead, headWidths, slotIndex, addressCountWidths, addressIndex, inCell, inAddress, nameWidths, ownSize, ownsSize, portPlace, portSize, portWidths, portsUnit, priorityAUnit, priorityBUnit, pruningUnit, recordSize, resultSize, resultWidths, resultsSize, settingsSize, slotSize, slotWidths, slots, slotsSize, tableLength, inTotals, totalSize, totalsSize, totalsWidths}
 use Rattle.model.specs.Lists.{allTrue, implies, parts, bit, isOne}
-use Rattle.model.specs.State.{Port, Settings, Leaving, stays, since, Fixed, TalkerType, talkerAdvertise, talkerFailed, Registration, Talker, noTalker, talker, Domain, noDomain, domain, Presence, vacant, present, Address, Own, Ready, askingFailed, ready, readyFailed, Listener, noListener, listener, Cell, Column, none, advertise, failed, Entry, noEntry, filters, forwards, Declared, nothing, tells, Result, Stream, Totals, Bridge, classB, inForce}
+use Rattle.model.specs.State.{Port, Settings, Leaving, stays, since, Fixed, TalkerType, talkerAdvertise, talkerFailed, Registration, Talker, noTalker, talker, Domain, noDomain, domain, Presence, vacant, present, Address, Own, Ready, askingFailed, ready, readyFailed, Listener, noListener, listener, Cell, Column, none, advertise, failed, Entry, noEntry, filters, forwards, Declared, nothing, tells, Result, Stream, Totals, Bridge, classB, inForce, readyNumber}
 use Rattle.model.specs.Settling.{isTalking, isHearing}
 use Rattle.model.specs.Frames.{priorityOf, rankOf}
-use Rattle.model.specs.WrittenFrames.{fixedNumbers, readyNumber}
+use Rattle.model.specs.WrittenFrames.{fixedNumbers}
 
 -- Settings: Bridge ID; one field of ports 4 bits, class priorities 3 and 3, leave time 14; one of talkerPruning and the Domain
 -- values' VLAN; msrpMaxFanInPorts; then each port.

@@ -2,78 +2,42 @@
 use mathlib.Core.List.{List, [], _∷_, _++_}
 use mathlib.Core.Bool.{Bool, cond, _&&_}
 use Prim.Native.Nat.{ℕ, _*_, _-_}
-use lib.Dec.{ltb, leb, eqb}
+use lib.Dec.{eqb}
 use Rattle.octets.specs.Be.{be}
 use Rattle.model.specs.Lists.{keep}
-use Rattle.model.specs.State.{Settings, Stream, Bridge, Column, none, advertise, failed}
-use Rattle.model.specs.Bandwidth.{Claim, key, above, sort, reserved}
-use Rattle.model.specs.Settling.{Scene, decideOwns, inboundsOf, Source, sourceOf, talkerTypeOf, failedColumn, streamClass, StepName, noStep, stepA, stepB, stepC, stepD, stepE, stepF, stepG, stepH, stepI, stepJ, stepK, stepL, stepM, stepN, Step, steps, claim, claims, limitOn, leftFor}
+use Rattle.model.specs.State.{Settings, Stream, Bridge, Column}
+use Rattle.model.specs.Bandwidth.{Claim, key, above, sort, fits, reserved}
+use Rattle.model.specs.Settling.{Scene, decideOwns, inboundsOf, Source, sourceOf, Outcome, columnNone, asRegistered, asAdvertise, ownFailure, outcomeColumn, streamClass, StepName, noStep, stepH, about, Step, steps, bandwidthSteps, claim, claims, limitOn, leftFor}
 
--- A step's letter, by its octet in ASCII; 0 for none.
+-- A step's letter; 0 for none.
 unfoldable pub letter : StepName → ℕ
-letter noStep = 0
-letter stepA = 97
-letter stepB = 98
-letter stepC = 99
-letter stepD = 100
-letter stepE = 101
-letter stepF = 102
-letter stepG = 103
-letter stepH = 104
-letter stepI = 105
-letter stepJ = 106
-letter stepK = 107
-letter stepL = 108
-letter stepM = 109
-letter stepN = 110
+letter n = about n .letter
 
 unfoldable pub sameStep : StepName → StepName → Bool
 sameStep m n = eqb (letter m) (letter n)
 
 -- The code of its own failure; 0 where the step gives none, or the registered one.
-unfoldable pub code : StepName → ℕ
-code noStep = 0
-code stepA = 0
-code stepB = 0
-code stepC = 0
-code stepD = 16
-code stepE = 4
-code stepF = 13
-code stepG = 14
-code stepH = 1
-code stepI = 0
-code stepJ = 8
-code stepK = 7
-code stepL = 5
-code stepM = 15
-code stepN = 0
+unfoldable pub ownCode : Outcome → ℕ
+ownCode columnNone = 0
+ownCode asRegistered = 0
+ownCode asAdvertise = 0
+ownCode (ownFailure code) = code
 
--- The column that it gives; "Own failures carry this Bridge ID".
+unfoldable pub code : StepName → ℕ
+code n = ownCode (about n .outcome)
+
+-- The column that it gives.
 unfoldable pub columnBy : Settings → Source → StepName → Column
-columnBy st s noStep = none
-columnBy st s stepA = none
-columnBy st s stepB = none
-columnBy st s stepC = failedColumn (talkerTypeOf s)
-columnBy st s stepD = failed (st .bridgeId) 16
-columnBy st s stepE = failed (st .bridgeId) 4
-columnBy st s stepF = failed (st .bridgeId) 13
-columnBy st s stepG = failed (st .bridgeId) 14
-columnBy st s stepH = failed (st .bridgeId) 1
-columnBy st s stepI = advertise
-columnBy st s stepJ = failed (st .bridgeId) 8
-columnBy st s stepK = failed (st .bridgeId) 7
-columnBy st s stepL = failed (st .bridgeId) 5
-columnBy st s stepM = failed (st .bridgeId) 15
-columnBy st s stepN = none
+columnBy st s n = outcomeColumn st s (about n .outcome)
 
 -- The name of the first step that applies, or what follows where none does.
 unfoldable pub firstName : List Step → StepName → StepName
 firstName [] n = n
 firstName (s ∷ l) n = cond (s .test) (s .name) (firstName l n)
 
--- h where the demand is above what is left, else i
+-- h or i
 unfoldable pub lastName : ℕ → ℕ → StepName
-lastName demand left = cond (ltb left demand) stepH stepI
+lastName demand left = firstName (bandwidthSteps demand left) noStep
 
 -- The deciding step of the stream x on the port at place p.
 unfoldable pub stepOn : Scene → ℕ → List Stream → ℕ → Stream → StepName
@@ -82,7 +46,7 @@ stepOn sc now s p x = firstName (steps sc p x) (lastName (claim (sc .settings) n
 -- Of claims, the least important first, those that reserve, the most important first: ready, and fitting in what the more important leave.
 unfoldable pub reserving : ℕ → List Claim → List Claim
 reserving limit [] = []
-reserving limit (c ∷ more) = reserving limit more ++ keep (leb (c .demand) (limit - reserved limit more) && c .ready) c []
+reserving limit (c ∷ more) = reserving limit more ++ keep (fits (c .demand) (limit - reserved limit more) && c .ready) c []
 
 -- "it lists the more important reserving streams with their demands"; "in order of importance"
 unfoldable pub listed : Scene → ℕ → List Stream → ℕ → Stream → List Claim

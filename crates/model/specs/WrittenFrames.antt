@@ -8,7 +8,7 @@ use Rattle.octets.specs.Be.{be}
 use Rattle.octets.specs.Fields.{packed, flat}
 use Rattle.model.specs.FrameLayout.{listenerWidths}
 use Rattle.model.specs.Lists.{tabulate, bit}
-use Rattle.model.specs.State.{Fixed, TalkerType, talkerAdvertise, talkerFailed, Ready, askingFailed, ready, readyFailed}
+use Rattle.model.specs.State.{Fixed, TalkerType, talkerAdvertise, talkerFailed, Ready, readyNumber}
 use Rattle.model.specs.Registrations.{advertises, faileds, listeners}
 use Rattle.model.specs.Frames.{Attribute, registers, domainType, typeNumber, firstWidths, firstLength, threeLength, fourLength, Vector}
 use Rattle.model.specs.Cutting.{values}
@@ -31,11 +31,6 @@ unfoldable pub firstNumbers : Declaration → List ℕ
 firstNumbers (talkerDeclaration id f v) = id ∷ (fixedNumbers f ++ (v .latency ∷ failureNumbers (v .type)))
 firstNumbers (listenerDeclaration id r) = id ∷ []
 firstNumbers (domainDeclaration id q v) = id ∷ q ∷ v ∷ []
-
-unfoldable pub readyNumber : Ready → ℕ
-readyNumber askingFailed = 1
-readyNumber ready = 2
-readyNumber readyFailed = 3
 
 -- one four-packed event, first highest, the spare positions 0
 unfoldable pub fourOctets : Declaration → List ℕ

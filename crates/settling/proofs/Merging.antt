@@ -14,8 +14,7 @@ use Rattle.octets.specs.Fields.{Fit, width}
 use Rattle.octets.proofs.Fields.{put-field}
 use Rattle.model.specs.Layout.{inResult, resultPlace, resultSize, resultWidths}
 use Rattle.model.specs.Lists.{tabulate}
-use Rattle.model.specs.State.{askingFailed, ready, readyFailed, Column, none, advertise, failed, Declared, nothing, tells, Result, Stream, unsettled, cellAt, resultAt, streamAt}
-use Rattle.model.specs.WrittenFrames.{readyNumber}
+use Rattle.model.specs.State.{askingFailed, ready, readyFailed, Column, none, advertise, failed, Declared, nothing, tells, Result, Stream, unsettled, cellAt, resultAt, streamAt, readyNumber}
 use Rattle.model.specs.Settling.{Source, nowhere, from, sourceOf, isSource, registered, passed, sameReady, merge, mergeAll}
 use Rattle.model.specs.Table.{columnNumber, declaredNumber, resultNumbers, resultOctets, toResult, encode, decode}
 use Rattle.model.specs.Laid.{FitResult, FitStream, LaidResult}

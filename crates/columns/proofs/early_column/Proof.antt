@@ -1,7 +1,7 @@
 -- `columns::early_column` meets its contract. Assumes nothing.
 use mathlib.Core.Path.{refl, sym, _∙_}
 use borrow.Author.Needs.{needs}
-use Rattle.model.specs.Settling.{sceneOf}
+use Rattle.model.specs.Settling.{sceneOf, outcomeColumn}
 use Rattle.model.specs.Table.{decode}
 use Rattle.model.specs.Why.{columnBy}
 use Rattle.model.proofs.Why.{steps-named}
@@ -17,7 +17,7 @@ scene : (c : tie.After-stored-edges) → let a = c .before .before .args in let 
 scene c = record { settings = refl; inbound = refl; edges = c .stored-edges .ensures; addresses = refl }
 
 returns : tie.Need-returns
-unfolding earlyColumn columnBy
+unfolding earlyColumn columnBy outcomeColumn
 returns c =
     let a = c .before .before .before .before .before .args in
     let sc = sceneOf (decode (a .table .now)) in

@@ -1,6 +1,6 @@
 -- `embed::listener_number` meets its contract. Assumes nothing.
 use borrow.Author.Needs.{needs}
-use Rattle.model.specs.WrittenFrames.{readyNumber}
+use Rattle.model.specs.State.{readyNumber}
 use Rattle.model.specs.Table.{declaredNumber}
 use Rattle.reports.specs.Shown.{declared}
 use Rattle.embed.proofs.listener_number.Statement.{statement}
