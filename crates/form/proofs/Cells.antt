@@ -13,8 +13,8 @@ use Rattle.octets.specs.Parts.{part}
 use Rattle.octets.specs.Fields.{fields, width}
 use Rattle.octets.proofs.Fields.{beAt-one}
 use Rattle.model.specs.Layout.{bridgePlace, cellSize, cellWidths, changedField, changedPlace, failureSize, failureWidths, listenerField, listenerLeavesPlace, listenerPlace, listenerSincePlace, priorityField, priorityPlace, talkerField, talkerLeavesPlace, talkerPlace, talkerSincePlace}
-use Rattle.model.specs.Lists.{allTrue, implies}
-use Rattle.model.specs.Table.{between, allZero, leavingRule, cellRules}
+use Rattle.model.specs.Lists.{allTrue, implies, allZero}
+use Rattle.model.specs.Table.{between, leavingRule, cellRules}
 use Rattle.model.proofs.Parts.{zero-between}
 use Rattle.form.proofs.Zeros.{zero-fields}
 

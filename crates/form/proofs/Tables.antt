@@ -13,8 +13,8 @@ use Rattle.octets.specs.Parts.{part}
 use Rattle.octets.specs.Fields.{fields}
 use Rattle.octets.proofs.Frame.{beAt-part}
 use Rattle.model.specs.Layout.{cellSize, cellsPlace, cellsSize, clockPlace, countPlace, nameWidths, ownSize, ownsPlace, ownsSize, portPlace, portSize, portsPlace, portsUnit, priorityBUnit, recordSize, recordsPlace, recordsSize, resultSize, resultsPlace, resultsSize, settingsSize, settledPriorityPlace, tableLength, totalSize, totalsPlace, totalsSize, wordPlace}
-use Rattle.model.specs.Lists.{allTrue, implies, parts}
-use Rattle.model.specs.Table.{portsField, toPort, toSettings, settingsRules, allZero, everyPart, cellFormed, toCell, resultFormed, toResult, cellsPart, resultsPart, toStream, holds, talkers, declarers, storedFormed, everyPort, streamRules, streamFormed, toTotals, ownFormed, ownsPart}
+use Rattle.model.specs.Lists.{allTrue, implies, parts, allZero}
+use Rattle.model.specs.Table.{portsField, toPort, toSettings, settingsRules, everyPart, cellFormed, toCell, resultFormed, toResult, cellsPart, resultsPart, toStream, holds, talkers, declarers, storedFormed, everyPort, streamRules, streamFormed, toTotals, ownFormed, ownsPart}
 use Rattle.model.specs.Table.{settingsPart, clockField, countField, totalsPart, recordsPart, rising, idOf, totalsWithin, tableRules}
 use Rattle.model.proofs.Lists.{all-true}
 use Rattle.model.proofs.SettingsOctets.{eight-ports}

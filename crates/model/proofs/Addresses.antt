@@ -13,10 +13,10 @@ use Rattle.octets.specs.Fields.{fields, packed, Fit, width, flat}
 use Rattle.octets.specs.Parts.{zeros}
 use Rattle.octets.proofs.Fields.{length-packed-any, fields-of-packed, fields-fit, fit-at}
 use Rattle.model.specs.Layout.{addresses, addressesSize, addressSize, addressWidths, inAddress}
-use Rattle.model.specs.Lists.{All, allTrue, parts, Octets}
+use Rattle.model.specs.Lists.{All, allTrue, parts, Octets, allZero}
 use Rattle.model.specs.State.{Presence, vacant, present, Address}
 use Rattle.model.specs.Registrations.{macs}
-use Rattle.model.specs.Table.{leavingNumber, sinceNumber, toLeaving, leavingRule, allZero, everyPart, presenceNumbers, addressNumbers, addressFrom, addressOctets, toAddress, addressRules, addressFormed, rising, macOf}
+use Rattle.model.specs.Table.{leavingNumber, sinceNumber, toLeaving, leavingRule, everyPart, presenceNumbers, addressNumbers, addressFrom, addressOctets, toAddress, addressRules, addressFormed, rising, macOf}
 use Rattle.model.specs.Laid.{FitAddresses}
 use Rattle.model.proofs.Lists.{all-each, all-map, all-true, true-all}
 use Rattle.model.proofs.Valid.{ValidPresence, ValidAddress, ValidAddresses}

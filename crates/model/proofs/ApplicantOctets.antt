@@ -10,8 +10,7 @@ use lib.Seq.{length-take-le, take-at, drop-at}
 use lib.Dec.{eqb, leb}
 use borrow.Author.Tests.{eq-eqb, ne-eqb, le-leb, leb-true}
 use Rattle.octets.specs.Parts.{zeros}
-use Rattle.model.specs.Lists.{Octets}
-use Rattle.model.specs.Table.{allZero}
+use Rattle.model.specs.Lists.{Octets, allZero}
 use Rattle.model.proofs.Parts.{length-zeros, zeros-add, zero-zeros, zeros-zero, octets-take, octets-drop}
 use Rattle.model.proofs.Coded.{Coded}
 use Rattle.model.proofs.Lists.{and-left, and-right, and-both}

@@ -14,12 +14,12 @@ use Rattle.octets.specs.Parts.{zeros}
 use Rattle.octets.specs.Fields.{fields, Fit, width, flat}
 use Rattle.octets.proofs.Fields.{length-packed-any, fields-of-packed, fields-fit, fit-at, fit-append, fit-zeros, packed-zeros}
 use Rattle.model.specs.Layout.{bridgeField, cellFields, cellSize, cellWidths, changedField, codeField, firstLatencyField, fixedField, fixedWidths, latencyField, listenerField, listenerLeavesField, listenerPlace, listenerSinceField, priorityField, talkerField, talkerLeavesField, talkerSinceField}
-use Rattle.model.specs.Lists.{All, allTrue, implies, tabulate, parts, Octets, bit, isOne}
+use Rattle.model.specs.Lists.{All, allTrue, implies, tabulate, parts, Octets, bit, isOne, allZero}
 use Rattle.model.specs.State.{Leaving, stays, since, Fixed, Health, sound, broken, Registration, Talker, noTalker, talker, Ready, askingFailed, ready, readyFailed, Listener, noListener, listener, Cell, empty}
 use Rattle.model.specs.Frames.{priorityOf, rankOf}
-use Rattle.model.specs.WrittenFrames.{priorityOctet, fixedNumbers, readyNumber}
+use Rattle.model.specs.WrittenFrames.{priorityOctet, fixedNumbers, readyNumber, fixedFrom, toReady}
 use Rattle.model.specs.Settling.{isTalking, isHearing, held}
-use Rattle.model.specs.Table.{leavingNumber, sinceNumber, toLeaving, healthNumber, bridgeNumber, codeNumber, toHealth, talkerNumbers, listenerNumbers, cellNumbers, fixedFrom, toReady, registrationFrom, talkerFrom, listenerFrom, cellFrom, cellOctets, toCell, between, allZero, leavingRule, cellRules, cellFormed, holds}
+use Rattle.model.specs.Table.{leavingNumber, sinceNumber, toLeaving, healthNumber, bridgeNumber, codeNumber, toHealth, talkerNumbers, listenerNumbers, cellNumbers, registrationFrom, talkerFrom, listenerFrom, cellFrom, cellOctets, toCell, between, leavingRule, cellRules, cellFormed, holds}
 use Rattle.model.proofs.Lists.{all-each, and-left, and-right, and-both, implied, all-true, true-all}
 use Rattle.model.proofs.Valid.{ValidLeaving, ValidFixed, ValidHealth, ValidTalker, ValidListener, ValidCell}
 use Rattle.model.proofs.Parts.{octets-at, octets-packed, _also_, zero-run, two-zero, packed-whole, parts-take, parts-flat, Sized}

@@ -9,8 +9,8 @@ use lib.ListN.{length, drop}
 use lib.Seq.{take-all}
 use Rattle.octets.specs.Fields.{flat}
 use Rattle.octets.specs.Parts.{zeros}
-use Rattle.model.specs.Lists.{All, parts, Octets}
-use Rattle.model.specs.Table.{everyPart, allZero}
+use Rattle.model.specs.Lists.{All, parts, Octets, allZero}
+use Rattle.model.specs.Table.{everyPart}
 use Rattle.model.proofs.Lists.{all-map}
 use Rattle.model.proofs.Parts.{Sized, many-read, every-read, every-forth, every-fewer, every-padded, parts-padded, zero-padded, every-flat}
 

@@ -7,9 +7,9 @@ use Prim.Native.Nat.{ℕ, zero, suc, _+_, _-_}
 use lib.ListN.{length, getD}
 use borrow.Author.Tests.{le-leb}
 use Rattle.model.specs.Lists.{All}
-use Rattle.model.specs.State.{Domain, Own, Stream, Bridge, noOwn, ownAt, Class, noClass, classA, classB}
+use Rattle.model.specs.State.{Domain, Own, Stream, Bridge, noOwn, ownAt, Class, noClass, classA, classB, slotOf}
 use Rattle.model.specs.Registrations.{Act, leaveAll, leave, talk, listen, ofDomain, apply, applyAll, reach, changeDomains, doesDomain, applyOwn, applyOwns, acts, Answer, holding, owning, received}
-use Rattle.model.specs.Frames.{domain, Vector, Asking, nothingAsked, join, withdraw, hasSlot, slotOf, slotAct, domainAct, valueActs, valuesActs, leaveAllActs, vectorActs, frameActs, found, walk, walked, wrongPort, reading}
+use Rattle.model.specs.Frames.{domain, Vector, Asking, nothingAsked, join, withdraw, hasSlot, slotAct, domainAct, valueActs, valuesActs, leaveAllActs, vectorActs, frameActs, found, walk, walked, wrongPort, reading}
 use Rattle.model.specs.Settling.{boundary}
 use Rattle.model.specs.Calls.{receive}
 use Rattle.model.proofs.Lists.{all-append, at-other, at-each}

@@ -13,8 +13,8 @@ use Rattle.model.specs.Layout.{bridgeField, cellSize, cellWidths, codeFi
 use Rattle.model.specs.Lists.{All, parts, Octets}
 use Rattle.model.specs.State.{Leaving, stays, since, Fixed, Health, sound, broken, Talker, noTalker, talker, Listener, noListener, listener, Cell, Result, Stream, Bridge}
 use Rattle.model.specs.Registrations.{ids}
-use Rattle.model.specs.WrittenFrames.{priorityOctet, fixedNumbers}
-use Rattle.model.specs.Table.{sinceNumber, bridgeNumber, codeNumber, talkerNumbers, listenerNumbers, cellNumbers, cellOctets, toCell, resultNumbers, resultOctets, toResult, fixedFrom, streamOctets, toStream, countField, recordsPart, idOf, encode, decode, formed}
+use Rattle.model.specs.WrittenFrames.{priorityOctet, fixedNumbers, fixedFrom}
+use Rattle.model.specs.Table.{sinceNumber, bridgeNumber, codeNumber, talkerNumbers, listenerNumbers, cellNumbers, cellOctets, toCell, resultNumbers, resultOctets, toResult, streamOctets, toStream, countField, recordsPart, idOf, encode, decode, formed}
 use Rattle.model.specs.Laid.{FitRank, FitCell, FitOwn, FitResult, FitStream, FitBridge, LaidOut, LaidCell, LaidResult, Laid}
 use Rattle.model.proofs.Lists.{all-map}
 use Rattle.model.proofs.Valid.{ValidLeaving, ValidFixed, ValidHealth, ValidTalker, ValidListener, ValidCell, ValidOwn, ValidResult, ValidStream, Valid}

@@ -13,10 +13,10 @@ use Rattle.octets.specs.Parts.{part, zeros}
 use Rattle.octets.proofs.Parts.{length-part}
 use Rattle.octets.proofs.Fields.{length-packed-any, fields-of-packed, fields-packed-behind, packed-fields, fields-fit, fit-at, fit-zeros, packed-zeros}
 use Rattle.model.specs.Layout.{addresses, addressesPlace, addressesSize, addressSize, boundaryBPlace, boundaryPlace, boundaryWidths, heldField, heldPlace, heldWidths, ownSize, slotLeavesField, slotSinceField, slotSize, slotVlanField, slotWidths, slots, slotsSize}
-use Rattle.model.specs.Lists.{All, allTrue, bit, parts, Octets}
+use Rattle.model.specs.Lists.{All, allTrue, bit, parts, Octets, allZero}
 use Rattle.model.specs.State.{Domain, noDomain, domain, Own, noOwn}
 use Rattle.model.specs.Registrations.{macs}
-use Rattle.model.specs.Table.{leavingNumber, sinceNumber, toLeaving, leavingRule, allZero, everyPart, domainNumbers, domainFrom, domainOctets, toDomain, domainRules, domainFormed, addressFormed, toAddress, ownOctets, slotsPart, addressesHeld, addressesPart, toOwn, rising, macOf, ownRules, ownFormed}
+use Rattle.model.specs.Table.{leavingNumber, sinceNumber, toLeaving, leavingRule, everyPart, domainNumbers, domainFrom, domainOctets, toDomain, domainRules, domainFormed, addressFormed, toAddress, ownOctets, slotsPart, addressesHeld, addressesPart, toOwn, rising, macOf, ownRules, ownFormed}
 use Rattle.model.specs.Laid.{FitOwn}
 use Rattle.model.proofs.Lists.{all-each, all-map, all-replicate, implied, all-true, true-all}
 use Rattle.model.proofs.Valid.{ValidLeaving, ValidDomain, ValidOwn, Rising}

@@ -10,16 +10,15 @@ use borrow.Author.Tests.{eq-eqb, eqb-true, le-leb, leb-true}
 use Rattle.octets.specs.Fields.{fields, packed, Fit, width}
 use Rattle.octets.proofs.Fields.{length-packed-any, fields-of-packed, fields-fit, fit-at}
 use Rattle.model.specs.Lists.{Octets}
-use Rattle.model.specs.State.{Fixed, Ready, Offer, Failure, Sends}
-use Rattle.model.specs.WrittenFrames.{fixedNumbers, priorityOctet, readyNumber}
-use Rattle.model.specs.Table.{fixedFrom, toReady}
+use Rattle.model.specs.State.{Fixed, Ready, Offer, Failure, Sends, noSends}
+use Rattle.model.specs.WrittenFrames.{fixedNumbers, priorityOctet, readyNumber, fixedFrom, toReady}
 use Rattle.model.proofs.Valid.{ValidFixed}
 use Rattle.model.proofs.Parts.{_also_, octets-at, packed-whole}
 use Rattle.model.proofs.Cells.{priority-spare, fixed-back, fixed-forth, fixed-fit, fixed-valid, ready-back, ready-forth, ready-number}
-use Rattle.model.specs.Layout.{failureWidths}
+use Rattle.model.specs.Layout.{failureWidths, offerWidths, sendsSize}
 use Rattle.model.proofs.Coded.{Coded}
 use Rattle.model.specs.Machines.{Applicant, noApplicant}
-use Rattle.model.specs.Sending.{applicantOctets, toApplicant, applicantFormed, bothOctets, toBoth, bothFormed, offerWidths, offerSize, failedSize, readySize, advertisingSize, failingSize, sendsSize, offerNumbers, offerFrom, offerOctets, toOffer, failureOctets, toFailure, anything, offerFormed, readyOctets, readyIn, readyFormed, failedFormed, sendsOctets, toSends, sendsFormed, noSends}
+use Rattle.model.specs.Sending.{applicantOctets, toApplicant, applicantFormed, bothOctets, toBoth, bothFormed, offerNumbers, offerFrom, offerOctets, toOffer, failureOctets, toFailure, anything, offerFormed, readyOctets, readyIn, readyFormed, failedFormed, sendsOctets, toSends, sendsFormed}
 use Rattle.model.proofs.Lists.{and-left, and-right, and-both}
 use Rattle.model.proofs.ApplicantOctets.{Values, GoodApplicant, applicant-coded, both-values, both-coded, renamed-coded}
 

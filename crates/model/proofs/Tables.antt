@@ -13,11 +13,11 @@ use Rattle.octets.specs.Parts.{part, zeros}
 use Rattle.octets.proofs.Parts.{length-part}
 use Rattle.octets.proofs.Fields.{length-packed-any, fields-packed, fields-packed-behind, fields-of-packed, packed-fields, fields-fit, fit-at, beAt-fits, packed-zeros}
 use Rattle.model.specs.Layout.{cellSize, cellsPlace, cellsSize, clockPlace, clockSize, clockWidths, countPlace, nameSize, nameWidths, ownSize, ownsPlace, ownsSize, portPlace, portSize, recordSize, recordsPlace, recordsSize, resultSize, resultsPlace, resultsSize, settingsSize, settledPriorityPlace, tableLength, totalSize, totalsPlace, totalsSize, totalsWidths}
-use Rattle.model.specs.Lists.{All, allTrue, parts, Octets, implies}
+use Rattle.model.specs.Lists.{All, allTrue, parts, Octets, implies, allZero}
 use Rattle.model.specs.State.{Port, Totals, Own, Stream, Bridge, empty, unsettled, noTotals, noOwn, started, noFixed, cellAt, resultAt, classB, inForce}
 use Rattle.model.specs.Registrations.{ids}
-use Rattle.model.specs.WrittenFrames.{fixedNumbers, priorityOctet}
-use Rattle.model.specs.Table.{settingsOctets, portsField, toSettings, settingsRules, settingsFormed, everyPart, allZero, cellOctets, toCell, cellFormed, resultOctets, toResult, resultFormed, cellsPart, resultsPart, fixedFrom, holds, streamOctets, toStream, streamRules, streamFormed, totalsOctets, toTotals, ownOctets, toOwn, ownFormed, encode, settingsPart, clockField, countField, totalsPart, ownsPart, recordsPart, decode, rising, idOf, totalsWithin, tableRules, formed, talkers, declarers, storedFormed, everyPort, atMost}
+use Rattle.model.specs.WrittenFrames.{fixedNumbers, priorityOctet, fixedFrom}
+use Rattle.model.specs.Table.{settingsOctets, portsField, toSettings, settingsRules, settingsFormed, everyPart, cellOctets, toCell, cellFormed, resultOctets, toResult, resultFormed, cellsPart, resultsPart, holds, streamOctets, toStream, streamRules, streamFormed, totalsOctets, toTotals, ownOctets, toOwn, ownFormed, encode, settingsPart, clockField, countField, totalsPart, ownsPart, recordsPart, decode, rising, idOf, totalsWithin, tableRules, formed, talkers, declarers, storedFormed, everyPort, atMost}
 use Rattle.model.specs.Laid.{FitSettings, FitOwn, FitStream, FitTotals, FitBridge}
 use Rattle.model.proofs.Lists.{and-left, and-right, and-both, all-map, all-each, all-drop, all-replicate, all-true, true-all, implied, implies-true}
 use Rattle.model.proofs.Valid.{ValidCell, ValidResult, ValidPort, ValidFixed, ValidOwn, ValidStream, Rising, Valid}

@@ -77,6 +77,22 @@ cellWidths = 1 ∷ 1 ∷ 1 ∷ 4 ∷ 6 ∷ 2 ∷ 2 ∷ 2 ∷ 1 ∷ 4 ∷ 8 ∷ 1
 abbrev pub resultWidths : List ℕ
 resultWidths = 1 ∷ 4 ∷ 8 ∷ 1 ∷ 1 ∷ 4 ∷ 1 ∷ []
 
+-- what a port sends of a stream (02, xiv): an Applicant is one octet of its state, then the values last declared. Of an Advertise they are
+-- destination, VLAN, MaxFrameSize, MaxIntervalFrames, priority and rank, latency out, in the order of a FirstValue; of a Failed these, Bridge
+-- ID and code; of a Listener its declaration type
+abbrev pub applicantWidths : List ℕ
+applicantWidths = 1 ∷ []
+
+abbrev pub offerWidths : List ℕ
+offerWidths = 6 ∷ 2 ∷ 2 ∷ 2 ∷ 1 ∷ 4 ∷ []
+
+abbrev pub readyWidths : List ℕ
+readyWidths = 1 ∷ []
+
+-- a port's LeaveAll machine: active, the clock at which its timer was started
+abbrev pub leaveAllWidths : List ℕ
+leaveAllWidths = 1 ∷ 4 ∷ []
+
 -- Sizes.
 
 abbrev pub headSize : ℕ
@@ -148,8 +164,44 @@ resultSize = sum resultWidths
 abbrev pub resultsSize : ℕ
 resultsSize = 8 * resultSize
 
+-- the values of an Advertise, of a Failed, of a Listener; and with the octet of the Applicant's state
+abbrev pub applicantSize : ℕ
+applicantSize = sum applicantWidths
+
+abbrev pub offerSize : ℕ
+offerSize = sum offerWidths
+
+abbrev pub failedSize : ℕ
+failedSize = offerSize + failureSize
+
+abbrev pub readySize : ℕ
+readySize = sum readyWidths
+
+abbrev pub advertisingSize : ℕ
+advertisingSize = applicantSize + offerSize
+
+abbrev pub failingSize : ℕ
+failingSize = applicantSize + failedSize
+
+abbrev pub listeningSize : ℕ
+listeningSize = applicantSize + readySize
+
+-- what a port sends of a stream
+abbrev pub sendsSize : ℕ
+sendsSize = advertisingSize + (failingSize + listeningSize)
+
+abbrev pub allSendsSize : ℕ
+allSendsSize = 8 * sendsSize
+
+-- what a port sends by itself: an Applicant for each Domain value, and its LeaveAll machine
+abbrev pub senderSize : ℕ
+senderSize = slots * applicantSize + sum leaveAllWidths
+
+abbrev pub sendersSize : ℕ
+sendersSize = 8 * senderSize
+
 abbrev pub recordSize : ℕ
-recordSize = nameSize + cellsSize + resultsSize
+recordSize = nameSize + cellsSize + resultsSize + allSendsSize
 
 abbrev pub recordsSize : ℕ
 recordsSize = 64 * recordSize
@@ -182,13 +234,16 @@ totalsPlace = clockPlace + clockSize
 abbrev pub ownsPlace : ℕ
 ownsPlace = totalsPlace + totalsSize
 
+abbrev pub sendersPlace : ℕ
+sendersPlace = ownsPlace + ownsSize
+
 abbrev pub recordsPlace : ℕ
-recordsPlace = ownsPlace + ownsSize
+recordsPlace = sendersPlace + sendersSize
 
 abbrev pub tableLength : ℕ
 tableLength = recordsPlace + recordsSize
 
--- the settings, the totals and what is held of the port at place p, the record of stream k
+-- the settings, the totals, what is held and what is sent by the port at place p, the record of stream k
 abbrev pub portPlace : ℕ → ℕ
 portPlace p = portsPlace + p * portSize
 
@@ -197,6 +252,9 @@ totalPlace p = totalsPlace + p * totalSize
 
 abbrev pub ownPlace : ℕ → ℕ
 ownPlace p = ownsPlace + p * ownSize
+
+abbrev pub senderPlace : ℕ → ℕ
+senderPlace p = sendersPlace + p * senderSize
 
 abbrev pub recordPlace : ℕ → ℕ
 recordPlace k = recordsPlace + k * recordSize
@@ -226,7 +284,18 @@ addressIn i = addressesPlace + i * addressSize
 abbrev pub slotPlace : ℕ → ℕ → ℕ
 slotPlace p i = ownPlace p + slotIn i
 
--- Places in a record: the settled values, the cells and the results.
+-- Places in what a port sends by itself: the Applicant of slot i, the LeaveAll machine and its timer.
+
+abbrev pub applicantIn : ℕ → ℕ
+applicantIn i = i * applicantSize
+
+abbrev pub leaveAllPlace : ℕ
+leaveAllPlace = slots * applicantSize
+
+abbrev pub timerPlace : ℕ
+timerPlace = leaveAllPlace + before 1 leaveAllWidths
+
+-- Places in a record: the settled values, the cells, the results and what is sent.
 
 abbrev pub settledPlace : ℕ
 settledPlace = before 1 nameWidths
@@ -240,13 +309,30 @@ cellsPlace = nameSize
 abbrev pub resultsPlace : ℕ
 resultsPlace = cellsPlace + cellsSize
 
+abbrev pub allSendsPlace : ℕ
+allSendsPlace = resultsPlace + resultsSize
+
 abbrev pub cellIn : ℕ → ℕ
 cellIn p = cellsPlace + p * cellSize
 
 abbrev pub resultIn : ℕ → ℕ
 resultIn p = resultsPlace + p * resultSize
 
--- Places in the table of stream k's settled values, and of its cell and its result on the port at place p.
+abbrev pub sendsIn : ℕ → ℕ
+sendsIn p = allSendsPlace + p * sendsSize
+
+-- Places in what is sent of a stream on a port: the Applicants of its Advertise, its Failed and its Listener.
+
+abbrev pub advertisingPlace : ℕ
+advertisingPlace = 0
+
+abbrev pub failingPlace : ℕ
+failingPlace = advertisingPlace + advertisingSize
+
+abbrev pub listeningPlace : ℕ
+listeningPlace = failingPlace + failingSize
+
+-- Places in the table of stream k's settled values, and of its cell, its result and what is sent of it on the port at place p.
 
 abbrev pub settledOf : ℕ → ℕ
 settledOf k = recordPlace k + settledPlace
@@ -256,6 +342,9 @@ cellPlace k p = recordPlace k + cellIn p
 
 abbrev pub resultPlace : ℕ → ℕ → ℕ
 resultPlace k p = recordPlace k + resultIn p
+
+abbrev pub sendsPlace : ℕ → ℕ → ℕ
+sendsPlace k p = recordPlace k + sendsIn p
 
 -- Places in a port's settings, and in its totals.
 

@@ -12,9 +12,9 @@ use Rattle.octets.specs.Fields.{fields}
 use Rattle.octets.proofs.Fields.{beAt-fits}
 use Rattle.model.specs.Layout.{slots}
 use Rattle.model.specs.FrameLayout.{domainLength}
-use Rattle.model.specs.State.{stays, domain}
+use Rattle.model.specs.State.{stays, domain, slotOf}
 use Rattle.model.specs.Registrations.{Act, ofDomain, leaveDomain, joinDomain, quitDomain, doesDomain}
-use Rattle.model.specs.Frames.{firstWidths, firstLength, hasSlot, slotOf, slotAct, domainAct, valueActs, eventOf, asking, threePacked}
+use Rattle.model.specs.Frames.{firstWidths, firstLength, hasSlot, slotAct, domainAct, valueActs, eventOf, asking, threePacked}
 use Rattle.model.specs.Table.{encode, decode}
 use Rattle.model.specs.Laid.{Laid}
 use Rattle.model.proofs.FoundVectors.{slot-within}

@@ -16,8 +16,8 @@ use Rattle.model.specs.Layout.{cellIn, cellPlace, cellSize, fixedSize, fixedWid
 use Rattle.model.specs.State.{Fixed, Cell, Result, Stream, Totals, Bridge, portAt, cellAt, resultAt, noTotals, fresh}
 use Rattle.model.specs.Registrations.{at, change, holding}
 use Rattle.model.specs.Settling.{sceneOf, Inbound, inboundOf, inboundsOf, sourceOf}
-use Rattle.model.specs.WrittenFrames.{fixedNumbers}
-use Rattle.model.specs.Table.{portOctets, toPort, fixedFrom, cellOctets, toCell, resultOctets, toResult, streamOctets, totalsOctets, toTotals, encode, decode}
+use Rattle.model.specs.WrittenFrames.{fixedNumbers, fixedFrom}
+use Rattle.model.specs.Table.{portOctets, toPort, cellOctets, toCell, resultOctets, toResult, streamOctets, totalsOctets, toTotals, encode, decode}
 use Rattle.model.specs.Laid.{FitCell, FitResult, FitStream, FitTotals, FitBridge, Laid}
 use Rattle.model.proofs.Lists.{all-at}
 use Rattle.model.proofs.Parts.{_also_}
