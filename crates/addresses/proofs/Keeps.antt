@@ -4,10 +4,10 @@ use mathlib.Core.List.{List, [], _∷_}
 use Prim.Native.Nat.{ℕ, zero, suc, _^_, _≤_, _<_}
 use native.Mathlib.Omega.{arith}
 use lib.ListN.{length, take, drop}
-use Rattle.model.specs.Layout.{addresses}
+use Rattle.model.specs.Layout.{mostAddresses}
 use Rattle.model.specs.Lists.{All}
 use Rattle.model.specs.State.{Address, Own}
-use Rattle.model.specs.Registrations.{changeAddresses, joined, macs, withJoined}
+use Rattle.model.specs.Registrations.{changeAddresses, joinedAddress, macs, withJoined}
 use Rattle.model.specs.Laid.{Ascending, FitAddresses, FitOwn}
 use Rattle.model.proofs.Lists.{all-map, all-take, all-drop, all-append}
 use Rattle.model.proofs.AddressesKept.{held-macs}
@@ -106,15 +106,15 @@ fit-joined m small (a ∷ l) h = go (tri m (a .mac)) (fit-joined m small l (h .1
 -- both make room for it
 pub joined-macs : (m : ℕ) (l : List Address) → macs (withJoined m l) ≡ macs (withRoom m l)
 unfolding macs
-joined-macs m [] = unfold withJoined withRoom joined vacantAt in refl
+joined-macs m [] = unfold withJoined withRoom joinedAddress vacantAt in refl
 joined-macs m (a ∷ l) = go (tri m (a .mac)) (joined-macs m l)
   where
     go : Tri m (a .mac) → macs (withJoined m l) ≡ macs (withRoom m l) → macs (withJoined m (a ∷ l)) ≡ macs (withRoom m (a ∷ l))
-    go (less q) r = rw (join-before m a l q, room-before m a l q) (unfold joined vacantAt in refl)
-    go (same q) r = rw (join-here m a l q, room-here m a l q) (unfold joined in ap (λ (x : ℕ). x ∷ macs l) q)
+    go (less q) r = rw (join-before m a l q, room-before m a l q) (unfold joinedAddress vacantAt in refl)
+    go (same q) r = rw (join-here m a l q, room-here m a l q) (unfold joinedAddress in ap (λ (x : ℕ). x ∷ macs l) q)
     go (more q) r = rw (join-past m a l q, room-past m a l q) (ap (λ (x : List ℕ). a .mac ∷ x) r)
 
-module _ (m : ℕ) (small : m < 2 ^ 48) (l : List Address) (f : FitAddresses l) (few : length (withRoom m l) ≤ addresses) where
+module _ (m : ℕ) (small : m < 2 ^ 48) (l : List Address) (f : FitAddresses l) (few : length (withRoom m l) ≤ mostAddresses) where
   pub room-fits : FitAddresses (withRoom m l)
   room-fits = record { at-most-64 = few; each = fit-room m small l (f .each); ascending = ascends-room m l (f .ascending) }
 

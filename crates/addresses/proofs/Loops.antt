@@ -8,11 +8,11 @@ use native.Mathlib.Numerals.{add-one}
 use lib.ListN.{length, getD, take, drop, length-append, length-drop}
 use lib.Seq.{take-suc, drop-cons, take-length, drop-length, length-take-le, take-at, drop-at}
 use lib.Dec.{leb}
-use Rattle.model.specs.Layout.{addressIn, addressSize, addresses, inAddress, ownSize}
+use Rattle.model.specs.Layout.{addressIn, addressSize, mostAddresses, inAddress, ownSize}
 use Rattle.model.specs.Lists.{keep}
 use Rattle.model.specs.State.{Settings, stays, since, Presence, vacant, present, Address, Own}
 use Rattle.model.specs.Registrations.{at, changeAddresses, quitAddress}
-use Rattle.model.specs.Settling.{expired, isPresent, remainAddresses}
+use Rattle.model.specs.Settling.{expired, outlasts, remainAddresses}
 use Rattle.model.specs.Table.{addressNumbers, addressOctets, toAddress, ownOctets, toOwn}
 use Rattle.model.specs.Laid.{FitOwn, LaidOwn}
 use Rattle.table.proofs.EachStream.{firsts, firsts-length, firsts-at, firsts-all}
@@ -36,13 +36,13 @@ lapsing leave now = record { mac = lapse-mac leave now; fits = lapse-fits leave 
 -- the first k of so many are changed
 pub record Turned (g : Address → Address) (s₀ s : List ℕ) (held k : ℕ) : Type 0 where
   pub within : k ≤ held
-  pub few : held ≤ addresses
+  pub few : held ≤ mostAddresses
   pub count : held ≡ length (toOwn s₀ .addresses)
   pub size : length s ≡ ownSize
   pub is : s ≡ ownOctets (changeAddresses (firsts g k) (toOwn s₀))
 
 module _ (g : Address → Address) (c : Changing g) (s₀ : List ℕ) (l : LaidOwn s₀) where
-  pub turned-none : (held : ℕ) → length s₀ ≡ ownSize → held ≡ length (toOwn s₀ .addresses) → held ≤ addresses → Turned g s₀ s₀ held 0
+  pub turned-none : (held : ℕ) → length s₀ ≡ ownSize → held ≡ length (toOwn s₀ .addresses) → held ≤ mostAddresses → Turned g s₀ s₀ held 0
   unfolding changeAddresses firsts
   turned-none held z e h = record { within = omega arith; few = h; count = e; size = z; is = laid-own-is s₀ l }
 
@@ -148,7 +148,7 @@ pub record Dropping (s₀ s : List ℕ) (k : ℕ) : Type 0 where
   pub within : k ≤ length (toOwn s .addresses)
   pub laid : LaidOwn s
   pub size : length s ≡ ownSize
-  pub few : length (toOwn s .addresses) ≤ addresses
+  pub few : length (toOwn s .addresses) ≤ mostAddresses
   pub leads : changeAddresses (dropping k) (toOwn s) ≡ changeAddresses presentOnly (toOwn s₀)
 
 module _ (s₀ : List ℕ) where
@@ -209,8 +209,8 @@ module _ (s₀ : List ℕ) where
 -- What expiry takes out.
 
 module _ (st : Settings) (leave now : ℕ) (e : st .leaveTime ≡ leave) where
-  lapsed-held : (p : Presence) → isHeld (lapsePresence leave now p) ≡ isPresent st now p
-  unfolding isHeld lapsePresence isPresent expired
+  lapsed-held : (p : Presence) → isHeld (lapsePresence leave now p) ≡ outlasts st now p
+  unfolding isHeld lapsePresence outlasts expired
   lapsed-held vacant = refl
   lapsed-held (present stays) = refl
   lapsed-held (present (since t)) = rw e (go (leb (t + leave) now))
@@ -236,7 +236,7 @@ module _ (st : Settings) (leave now : ℕ) (e : st .leaveTime ≡ leave) where
   remains (a ∷ l) = go (isHeld (lapsePresence leave now (a .presence))) refl (remains l)
     where
       go : (b : Bool) → isHeld (lapsePresence leave now (a .presence)) ≡ b → presentOnly (map (lapseAddress leave now) l) ≡ remainAddresses st now l
-          → keep (isHeld (lapsePresence leave now (a .presence))) (lapseAddress leave now a) (presentOnly (map (lapseAddress leave now) l)) ≡ keep (isPresent st now (a .presence)) a (remainAddresses st now l)
+          → keep (isHeld (lapsePresence leave now (a .presence))) (lapseAddress leave now a) (presentOnly (map (lapseAddress leave now) l)) ≡ keep (outlasts st now (a .presence)) a (remainAddresses st now l)
       go true h r =
           rw (h, sym (lapsed-held (a .presence)) ∙ h, r)
           (ap (λ (p : Presence). record { mac = a .mac; presence = p } ∷ remainAddresses st now l) (lapsed-same (a .presence) h))

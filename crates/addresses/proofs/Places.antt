@@ -14,7 +14,7 @@ use Rattle.octets.specs.Fields.{flat, packed}
 use Rattle.octets.proofs.Be.{be-zero}
 use Rattle.octets.proofs.Fields.{flat-append}
 use Rattle.octets.proofs.Patches.{patch-between}
-use Rattle.model.specs.Layout.{addressIn, addressSize, addresses, addressesPlace, heldPlace, macPlace}
+use Rattle.model.specs.Layout.{addressIn, addressSize, mostAddresses, addressesPlace, addressCountPlace, macPlace}
 use Rattle.model.specs.State.{Address, Own}
 use Rattle.model.specs.Registrations.{changeAddresses, macs}
 use Rattle.model.specs.Table.{presenceNumbers, addressNumbers, addressOctets, ownOctets, toOwn}
@@ -59,13 +59,13 @@ module _ (o : Own) (f : FitOwn o) where
       omega (arith, length-append (front o n) (flat addressOctets (take k l)), flat-length (take k l), front-length o f n)
 
   -- it, with another number of records
-  recounted : (k m : ℕ) (r : List ℕ) → patch heldPlace 1 (be 1 m) (before k ++ r) ≡ front o m ++ (flat addressOctets (take k l) ++ r)
+  recounted : (k m : ℕ) (r : List ℕ) → patch addressCountPlace 1 (be 1 m) (before k ++ r) ≡ front o m ++ (flat addressOctets (take k l) ++ r)
   unfolding before
   recounted k m r =
-      ap (patch heldPlace 1 (be 1 m)) (append-assoc (front o n) (flat addressOctets (take k l)) r)
+      ap (patch addressCountPlace 1 (be 1 m)) (append-assoc (front o n) (flat addressOctets (take k l)) r)
       ∙ held-put o f n m (flat addressOctets (take k l) ++ r)
 
-  module _ (k mac : ℕ) (h : k ≤ n) (few : n < addresses) where
+  module _ (k mac : ℕ) (h : k ≤ n) (few : n < mostAddresses) where
     higher : List ℕ
     higher = flat addressOctets (drop k l)
 
@@ -79,11 +79,11 @@ module _ (o : Own) (f : FitOwn o) where
     split : ownOctets o ≡ before k ++ (higher ++ (zeros addressSize ++ rest))
     unfolding before higher rest
     split =
-        let e : (addresses - n) * addressSize ≡ addressSize + (addresses - (n + 1)) * addressSize = omega arith in
+        let e : (mostAddresses - n) * addressSize ≡ addressSize + (mostAddresses - (n + 1)) * addressSize = omega arith in
         own-same o
         ∙ own-split o (λ l. l)
         ∙ ap (λ (s : List Address). front o n ++ (flat addressOctets s ++ unused n)) (sym (take-append-drop k l))
-        ∙ rw (flat-append addressOctets (take k l) (drop k l), e, zeros-add addressSize ((addresses - (n + 1)) * addressSize)) (simp append-assoc)
+        ∙ rw (flat-append addressOctets (take k l) (drop k l), e, zeros-add addressSize ((mostAddresses - (n + 1)) * addressSize)) (simp append-assoc)
 
     named : patch (addressIn k + macPlace) 6 (be 6 mac) (before k ++ (zeros addressSize ++ (higher ++ rest))) ≡ before k ++ (addressOctets (vacantAt mac) ++ (higher ++ rest))
     named =
@@ -96,7 +96,7 @@ module _ (o : Own) (f : FitOwn o) where
         ∙ rw (vacant-octets mac) (simp append-assoc)
 
     pub put-in : (s : List ℕ) → s ≡ ownOctets o → (m : ℕ) → m ≡ n
-        → patch heldPlace 1 (be 1 (m + 1)) (patch (addressIn k + macPlace) 6 (be 6 mac)
+        → patch addressCountPlace 1 (be 1 (m + 1)) (patch (addressIn k + macPlace) 6 (be 6 mac)
         (patch (addressIn k) addressSize (zeros addressSize) (patch (addressIn k + addressSize) ((m - k) * addressSize) (part (addressIn k) ((m - k) * addressSize) s) s)))
         ≡ ownOctets (changeAddresses (putIn k mac) o)
     put-in s q m e =
@@ -125,18 +125,18 @@ module _ (o : Own) (f : FitOwn o) where
     unfolding takenOut
     less = length-append (take k l) (drop (suc k) l) ∙ omega (arith, length-take-le k l (omega arith), length-drop (suc k) l)
 
-    closed : n ≤ addresses → front o (n - 1) ++ (flat addressOctets (take k l) ++ (behind ++ (zeros addressSize ++ unused n))) ≡ ownOctets (changeAddresses (takenOut k) o)
+    closed : n ≤ mostAddresses → front o (n - 1) ++ (flat addressOctets (take k l) ++ (behind ++ (zeros addressSize ++ unused n))) ≡ ownOctets (changeAddresses (takenOut k) o)
     closed few =
-        let one-more : addressSize + (addresses - n) * addressSize ≡ (addresses - (n - 1)) * addressSize = omega arith in
-        let zs : zeros addressSize ++ unused n ≡ unused (n - 1) = sym (zeros-add addressSize ((addresses - n) * addressSize)) ∙ ap zeros one-more in
+        let one-more : addressSize + (mostAddresses - n) * addressSize ≡ (mostAddresses - (n - 1)) * addressSize = omega arith in
+        let zs : zeros addressSize ++ unused n ≡ unused (n - 1) = sym (zeros-add addressSize ((mostAddresses - n) * addressSize)) ∙ ap zeros one-more in
         let both : flat addressOctets (takenOut k l) ≡ flat addressOctets (take k l) ++ behind = unfold takenOut behind in (flat-append addressOctets (take k l) (drop (suc k) l)) in
         ap (λ (z : List ℕ). front o (n - 1) ++ (flat addressOctets (take k l) ++ (behind ++ z))) zs
         ∙ ap (λ (z : List ℕ). front o (n - 1) ++ z) (sym (append-assoc (flat addressOctets (take k l)) behind (unused (n - 1))))
         ∙ ap (λ (z : List ℕ). front o (n - 1) ++ (z ++ unused (n - 1))) (sym both)
         ∙ sym (own-split o (takenOut k) ∙ ap (λ (m : ℕ). front o m ++ (flat addressOctets (takenOut k l) ++ unused m)) less)
 
-    pub taken-out : (s : List ℕ) → s ≡ ownOctets o → (m : ℕ) → m ≡ n → n ≤ addresses
-        → patch heldPlace 1 (be 1 (m - 1)) (patch (addressesPlace + (m - 1) * addressSize) addressSize (zeros addressSize)
+    pub taken-out : (s : List ℕ) → s ≡ ownOctets o → (m : ℕ) → m ≡ n → n ≤ mostAddresses
+        → patch addressCountPlace 1 (be 1 (m - 1)) (patch (addressesPlace + (m - 1) * addressSize) addressSize (zeros addressSize)
         (patch (addressIn k) ((m - 1 - k) * addressSize) (part (addressIn k + addressSize) ((m - 1 - k) * addressSize) s) s))
         ≡ ownOctets (changeAddresses (takenOut k) o)
     taken-out s q m e few =
@@ -151,10 +151,10 @@ module _ (s : List ℕ) (d : LaidOwn s) (m k : ℕ) where
   abbrev those : List Address
   those = toOwn s .addresses
 
-  pub enrolled-there : foundAt m 0 (macs those) ≡ At k → (true ≡ leb (length (withRoom m those)) addresses) × (s ≡ ownOctets (changeAddresses (withRoom m) (toOwn s)))
+  pub enrolled-there : foundAt m 0 (macs those) ≡ At k → (true ≡ leb (length (withRoom m those)) mostAddresses) × (s ≡ ownOctets (changeAddresses (withRoom m) (toOwn s)))
   enrolled-there e =
       let r = held-at m k those e .room in (
-        sym (le-leb (length (withRoom m those)) addresses (rw r (laid-own-fits s d .addresses .at-most-64))),
+        sym (le-leb (length (withRoom m those)) mostAddresses (rw r (laid-own-fits s d .addresses .at-most-64))),
         laid-own-is s d ∙ own-same (toOwn s) ∙ changed-same (toOwn s) (λ l. l) (withRoom m) (sym r),
       )
 
@@ -162,12 +162,12 @@ module _ (s : List ℕ) (d : LaidOwn s) (m k : ℕ) where
     one-more : length (withRoom m those) ≡ length those + 1
     one-more = let r = missing-at m k those e in ap length (r .room) ∙ length-put m k those (r .within)
 
-    pub enrolled-full : length those ≡ addresses → false ≡ leb (length (withRoom m those)) addresses
-    enrolled-full h = sym (lt-leb (length (withRoom m those)) addresses (omega (arith, one-more)))
+    pub enrolled-full : length those ≡ mostAddresses → false ≡ leb (length (withRoom m those)) mostAddresses
+    enrolled-full h = sym (lt-leb (length (withRoom m those)) mostAddresses (omega (arith, one-more)))
 
-    pub enrolled-made : (u : List ℕ) → length those < addresses → u ≡ ownOctets (changeAddresses (putIn k m) (toOwn s))
-        → (true ≡ leb (length (withRoom m those)) addresses) × (u ≡ ownOctets (changeAddresses (withRoom m) (toOwn s)))
+    pub enrolled-made : (u : List ℕ) → length those < mostAddresses → u ≡ ownOctets (changeAddresses (putIn k m) (toOwn s))
+        → (true ≡ leb (length (withRoom m those)) mostAddresses) × (u ≡ ownOctets (changeAddresses (withRoom m) (toOwn s)))
     enrolled-made u h q = (
-      sym (le-leb (length (withRoom m those)) addresses (omega (arith, one-more))),
+      sym (le-leb (length (withRoom m those)) mostAddresses (omega (arith, one-more))),
       q ∙ changed-same (toOwn s) (putIn k m) (withRoom m) (sym (missing-at m k those e .room)),
     )

@@ -11,7 +11,7 @@ use Rattle.octets.proofs.Parts.{lent-part}
 use Rattle.octets.proofs.Frame.{beAt-part, getD-part}
 use Rattle.octets.proofs.Fields.{length-packed-any, get-field, get-octet}
 use Rattle.octets.proofs.Patches.{lent-patch, patch-between}
-use Rattle.model.specs.Layout.{addressIn, addressSize, addressWidths, addresses, addressesPlace, boundaryWidths, heldPlace, heldWidths, inAddress, macPlace}
+use Rattle.model.specs.Layout.{addressIn, addressSize, addressWidths, mostAddresses, addressesPlace, boundaryWidths, addressCountPlace, addressCountWidths, inAddress, macPlace}
 use Rattle.model.specs.Lists.{bit}
 use Rattle.model.specs.State.{Presence, vacant, present, Address, Own}
 use Rattle.model.specs.Registrations.{at, changeAddresses, macs}
@@ -33,21 +33,21 @@ FitAddress a = Fit addressWidths (addressNumbers a)
 -- The number of addresses.
 
 module _ (s : List ℕ) where
-  pub held-octet : getD s heldPlace 0 ≡ length (toOwn s .addresses)
+  pub held-octet : getD s addressCountPlace 0 ≡ length (toOwn s .addresses)
   unfolding toOwn addressesHeld
-  held-octet = sym (length-parts addressSize toAddress (getD s heldPlace 0) _)
+  held-octet = sym (length-parts addressSize toAddress (getD s addressCountPlace 0) _)
 
-  pub held-few : LaidOwn s → getD s heldPlace 0 ≤ addresses
+  pub held-few : LaidOwn s → getD s addressCountPlace 0 ≤ mostAddresses
   held-few l = omega (arith, held-octet, laid-own-fits s l .addresses .at-most-64)
 
 -- what stands before the records, of so many, and behind them
 pub front : Own → ℕ → List ℕ
 front o n =
     flat domainOctets (o .domains)
-    ++ (packed boundaryWidths (bit (o .boundaryA) ∷ bit (o .boundaryB) ∷ []) ++ packed heldWidths (n ∷ []))
+    ++ (packed boundaryWidths (bit (o .boundaryA) ∷ bit (o .boundaryB) ∷ []) ++ packed addressCountWidths (n ∷ []))
 
 abbrev pub unused : ℕ → List ℕ
-unused n = zeros ((addresses - n) * addressSize)
+unused n = zeros ((mostAddresses - n) * addressSize)
 
 pub own-split : (o : Own) (u : List Address → List Address)
     → ownOctets (changeAddresses u o) ≡ front o (length (u (o .addresses))) ++ (flat addressOctets (u (o .addresses)) ++ unused (length (u (o .addresses))))
@@ -74,27 +74,27 @@ module _ (o : Own) (f : FitOwn o) where
   unfolding width
   flags-length = length-packed-any boundaryWidths _ refl
 
-  held-length : (n : ℕ) → length (packed heldWidths (n ∷ [])) ≡ 1
+  held-length : (n : ℕ) → length (packed addressCountWidths (n ∷ [])) ≡ 1
   unfolding width
-  held-length n = length-packed-any heldWidths (n ∷ []) refl
+  held-length n = length-packed-any addressCountWidths (n ∷ []) refl
 
   pub front-length : (n : ℕ) → length (front o n) ≡ addressesPlace
   unfolding front
   front-length n =
       let ds = flat domainOctets (o .domains) in
       let fs = packed boundaryWidths (bit (o .boundaryA) ∷ bit (o .boundaryB) ∷ []) in
-      let ns = packed heldWidths (n ∷ []) in
+      let ns = packed addressCountWidths (n ∷ []) in
       omega (arith, length-append ds (fs ++ ns), length-append fs ns, slots-length o (f .slotted), flags-length, held-length n)
 
   -- another number stored
-  pub held-put : (n m : ℕ) (r : List ℕ) → patch heldPlace 1 (be 1 m) (front o n ++ r) ≡ front o m ++ r
+  pub held-put : (n m : ℕ) (r : List ℕ) → patch addressCountPlace 1 (be 1 m) (front o n ++ r) ≡ front o m ++ r
   unfolding front packed
   held-put n m r =
       let ds = flat domainOctets (o .domains) in
       let fs = packed boundaryWidths (bit (o .boundaryA) ∷ bit (o .boundaryB) ∷ []) in
-      let place : length (ds ++ fs) ≡ heldPlace = omega (arith, length-append ds fs, slots-length o (f .slotted), flags-length) in
-      ap (patch heldPlace 1 (be 1 m)) (simp append-assoc)
-      ∙ patch-between (ds ++ fs) (be 1 n ++ []) r (be 1 m) heldPlace 1 place (held-length n)
+      let place : length (ds ++ fs) ≡ addressCountPlace = omega (arith, length-append ds fs, slots-length o (f .slotted), flags-length) in
+      ap (patch addressCountPlace 1 (be 1 m)) (simp append-assoc)
+      ∙ patch-between (ds ++ fs) (be 1 n ++ []) r (be 1 m) addressCountPlace 1 place (held-length n)
       ∙ simp (append-assoc, append-nil)
 
   module _ (k : ℕ) (h : k < length (o .addresses)) where

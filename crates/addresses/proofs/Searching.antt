@@ -10,7 +10,7 @@ use lib.Seq.{drop-cons}
 use borrow.Author.Tests.{lt-ltb, le-ltb, eq-eqb, ne-eqb}
 use Rattle.model.specs.Lists.{All}
 use Rattle.model.specs.State.{Address}
-use Rattle.model.specs.Registrations.{at, joined, macs, quitAddress, withJoined, withLeft}
+use Rattle.model.specs.Registrations.{at, joinedAddress, macs, quitAddress, withJoined, withLeft}
 use Rattle.model.specs.Settling.{holdsAddress}
 use Rattle.model.specs.Laid.{Ascending}
 use Rattle.model.proofs.Lists.{all-map}
@@ -29,7 +29,7 @@ module _ (m : ℕ) (a : Address) (l : List Address) where
     unfolding withRoom
     room-before = rw (lt-ltb m (a .mac) h)
 
-    pub join-before : withJoined m (a ∷ l) ≡ joined m ∷ a ∷ l
+    pub join-before : withJoined m (a ∷ l) ≡ joinedAddress m ∷ a ∷ l
     unfolding withJoined
     join-before = rw (lt-ltb m (a .mac) h)
 
@@ -38,7 +38,7 @@ module _ (m : ℕ) (a : Address) (l : List Address) where
     unfolding withRoom
     room-here = let n : a .mac ≤ m = omega arith in rw (le-ltb m (a .mac) n, eq-eqb m (a .mac) h)
 
-    pub join-here : withJoined m (a ∷ l) ≡ joined m ∷ l
+    pub join-here : withJoined m (a ∷ l) ≡ joinedAddress m ∷ l
     unfolding withJoined
     join-here = let n : a .mac ≤ m = omega arith in rw (le-ltb m (a .mac) n, eq-eqb m (a .mac) h)
 
@@ -92,7 +92,7 @@ module _ (m k : ℕ) (ms : List ℕ) where
 pub record HeldAt (m k : ℕ) (l : List Address) : Type 0 where
   pub within : k < length l
   pub room : withRoom m l ≡ l
-  pub joins : withJoined m l ≡ at k (λ a. joined m) l
+  pub joins : withJoined m l ≡ at k (λ a. joinedAddress m) l
   pub leaves : (now : ℕ) → withLeft now m l ≡ at k (quitAddress now) l
   pub holds : holdsAddress m l ≡ true
 
@@ -103,7 +103,7 @@ pub record Lacks (m : ℕ) (l : List Address) : Type 0 where
 pub record MissingAt (m k : ℕ) (l : List Address) : Type 0 where
   pub within : k ≤ length l
   pub room : withRoom m l ≡ putIn k m l
-  pub joins : withJoined m l ≡ at k (λ a. joined m) (putIn k m l)
+  pub joins : withJoined m l ≡ at k (λ a. joinedAddress m) (putIn k m l)
   pub lacks : Ascending (macs l) → Lacks m l
 
 -- where all are higher

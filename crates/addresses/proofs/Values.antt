@@ -13,7 +13,7 @@ use Rattle.octets.specs.Fields.{Fit, packed, width}
 use Rattle.octets.proofs.Fields.{get-octet, put-field, packed-zeros}
 use Rattle.model.specs.Layout.{addressLeavesPlace, addressSize, addressWidths, inAddress, macPlace}
 use Rattle.model.specs.State.{Leaving, stays, since, Presence, vacant, present, Address}
-use Rattle.model.specs.Registrations.{begin, quitPresence, quitAddress, joined}
+use Rattle.model.specs.Registrations.{begin, quitPresence, quitAddress, joinedAddress}
 use Rattle.model.specs.Table.{leavingNumber, sinceNumber, presenceNumbers, addressNumbers, addressOctets, toAddress}
 use Rattle.model.specs.Laid.{LaidAddress}
 use Rattle.model.proofs.Parts.{_also_}
@@ -80,12 +80,12 @@ unfolding addressOctets addressNumbers presenceNumbers vacantAt width
 address-zeros = packed-zeros addressWidths
 
 pub joins : (m : ℕ) (s : List ℕ) → length s ≡ addressSize
-    → patch macPlace 6 (be 6 m) (patch 0 1 (be 1 1) (patch 0 addressSize (zeros addressSize) s)) ≡ addressOctets (joined m)
+    → patch macPlace 6 (be 6 m) (patch 0 1 (be 1 1) (patch 0 addressSize (zeros addressSize) s)) ≡ addressOctets (joinedAddress m)
 unfolding addressOctets width
 joins m s e =
     let none = addressNumbers (vacantAt 0) in
     ap (λ (t : List ℕ). patch macPlace 6 (be 6 m) (patch 0 1 (be 1 1) t)) (patch-whole addressSize (zeros addressSize) s e ∙ sym address-zeros)
-    ∙ unfold addressNumbers presenceNumbers vacantAt joined leavingNumber sinceNumber in (ap (patch macPlace 6 (be 6 m)) (put-field addressWidths none (inAddress .registered) 1 refl)
+    ∙ unfold addressNumbers presenceNumbers vacantAt joinedAddress leavingNumber sinceNumber in (ap (patch macPlace 6 (be 6 m)) (put-field addressWidths none (inAddress .registered) 1 refl)
     ∙ put-field addressWidths (set none (inAddress .registered) 1) (inAddress .mac) m refl)
 
 -- Expiry.
@@ -152,8 +152,8 @@ pub vacant-fits : (m : ℕ) → m < 2 ^ 48 → FitAddress (vacantAt m)
 unfolding vacantAt
 vacant-fits m h = fits m vacant h tt
 
-pub joined-fits : (m : ℕ) → m < 2 ^ 48 → FitAddress (joined m)
-unfolding joined sinceNumber
+pub joined-fits : (m : ℕ) → m < 2 ^ 48 → FitAddress (joinedAddress m)
+unfolding joinedAddress sinceNumber
 joined-fits m h = fits m (present stays) h (omega arith)
 
 pub quit-fits : (clock : ℕ) → clock < 2 ^ 32 → (a : Address) → FitAddress a → FitAddress (quitAddress clock a)

@@ -4,7 +4,7 @@ use mathlib.Core.List.{List}
 use Prim.Native.Nat.{ℕ, _≤_, _<_}
 use mathlib.Core.Bool.{true}
 use lib.ListN.{length}
-use Rattle.model.specs.Layout.{addresses, ownSize}
+use Rattle.model.specs.Layout.{mostAddresses, ownSize}
 use Rattle.model.specs.Settling.{holdsAddress}
 use Rattle.model.specs.Table.{toOwn}
 use Rattle.model.specs.Laid.{LaidOwn}
@@ -18,7 +18,7 @@ pub record AddressIn (s : List ℕ) (k : ℕ) : Type 0 where
 pub record RoomAt (s : List ℕ) (k : ℕ) : Type 0 where
   pub laid : LaidOwn s
   pub size : length s ≡ ownSize
-  pub few : length (toOwn s .addresses) < addresses
+  pub few : length (toOwn s .addresses) < mostAddresses
   pub within : k ≤ length (toOwn s .addresses)
 
 -- an address that has a record

@@ -6,9 +6,9 @@ ghost use mathlib.Core.List.{map};
 ghost use Prim.Native.Nat.{_<_, _≤_};
 ghost use lib.ListN.{length};
 ghost use lib.Dec.{leb};
-ghost use Rattle.model.specs.Layout.{addresses, addressSize, ownSize};
+ghost use Rattle.model.specs.Layout.{mostAddresses, addressSize, ownSize};
 ghost use Rattle.model.specs.State.{Settings};
-ghost use Rattle.model.specs.Registrations.{changeAddresses, joined, macs, quitAddress, withJoined, withLeft};
+ghost use Rattle.model.specs.Registrations.{changeAddresses, joinedAddress, macs, quitAddress, withJoined, withLeft};
 ghost use Rattle.model.specs.Settling.{holdsAddress, remainAddresses};
 ghost use Rattle.model.specs.Table.{addressOctets, toAddress, ownOctets, toOwn};
 ghost use Rattle.model.specs.Laid.{LaidAddress, LaidOwn};
@@ -30,7 +30,7 @@ const PRESENCE: usize = MAC;
 // The number of addresses held.
 fn count(own: &[u8]) -> usize
     requires { ⌜ LaidOwn (now own) × (length (now own) ≡ ownSize) ⌝ }
-    ensures { λ r. ⌜ (r ≡ length (toOwn (now (own .entry)) .addresses)) × (r ≤ addresses) ⌝ }
+    ensures { λ r. ⌜ (r ≡ length (toOwn (now (own .entry)) .addresses)) × (r ≤ mostAddresses) ⌝ }
 {
     own[ADDRESSES_HELD] as usize
 }
@@ -93,7 +93,7 @@ fn remove(own: &mut [u8], k: usize)
 // Room for an address: a vacant record at its place, unless it has one. False where there are 64 others.
 pub fn enrol(own: &mut [u8], mac: u64) -> bool
     requires { ⌜ LaidOwn (now own) × (length (now own) ≡ ownSize) ⌝ }
-    ensures { λ r. ⌜ (r ≡ leb (length (withRoom mac (toOwn (now (own .entry)) .addresses))) addresses)
+    ensures { λ r. ⌜ (r ≡ leb (length (withRoom mac (toOwn (now (own .entry)) .addresses))) mostAddresses)
         × (now (own .exit) ≡ cond r (ownOctets (changeAddresses (withRoom mac) (toOwn (now (own .entry))))) (now (own .entry))) ⌝ }
 {
     let Found::Gap(k) = find(own, mac) else {
@@ -109,7 +109,7 @@ pub fn enrol(own: &mut [u8], mac: u64) -> bool
 // A record of an address, registered and not leaving.
 fn register(address: &mut [u8], mac: u64)
     requires { ⌜ length (now address) ≡ addressSize ⌝ }
-    ensures { λ _. ⌜ now (address .exit) ≡ addressOctets (joined mac) ⌝ }
+    ensures { λ _. ⌜ now (address .exit) ≡ addressOctets (joinedAddress mac) ⌝ }
 {
     octets::clear(address, REGISTERED, ADDRESS);
     octets::put(address, REGISTERED, 1, 1);

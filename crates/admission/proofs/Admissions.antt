@@ -102,7 +102,7 @@ module _ (sc : Scene) (now : ℕ) (s : List Stream) where
       settings = sc .settings;
       clock = clock;
       totals = tabulate 8 0 totalsBy;
-      own = sc .own;
+      owns = sc .owns;
       streams = map (showing (sc .settings) now columnBy) s;
     }
 
@@ -352,7 +352,7 @@ module _ (sc : Scene) (now : ℕ) (s : List Stream) (clock : ℕ) where
   none-done q classA = le-ltb (2 * q) 0 (omega arith)
   none-done q classB = le-ltb (2 * q + 1) 0 (omega arith)
 
-  at-first : record { settings = sc .settings; clock = clock; totals = replicate 8 noTotals; own = sc .own; streams = map (early sc now) s } ≡ shared sc now s (doneBefore 0) clock
+  at-first : record { settings = sc .settings; clock = clock; totals = replicate 8 noTotals; owns = sc .owns; streams = map (early sc now) s } ≡ shared sc now s (doneBefore 0) clock
   unfolding shared
   at-first =
       rw (
@@ -420,7 +420,7 @@ module _ (sc : Scene) (now : ℕ) (s : List Stream) (clock : ℕ) where
             )
 
     at-last : shared sc now s (doneBefore (2 * n)) clock
-        ≡ record { settings = sc .settings; clock = clock; totals = tabulate 8 0 (totalsOn sc now s); own = sc .own; streams = map (showing (sc .settings) now (columnOf sc now s)) s }
+        ≡ record { settings = sc .settings; clock = clock; totals = tabulate 8 0 (totalsOn sc now s); owns = sc .owns; streams = map (showing (sc .settings) now (columnOf sc now s)) s }
     unfolding shared
     at-last =
         rw (
@@ -431,12 +431,12 @@ module _ (sc : Scene) (now : ℕ) (s : List Stream) (clock : ℕ) where
 
     -- After the steps before h the admissions of all ports leave what advance decides, but for the Listeners declared.
     pub admissions-decide :
-        admissions (length (sc .settings .ports)) 0 record { settings = sc .settings; clock = clock; totals = replicate 8 noTotals; own = sc .own; streams = map (early sc now) s }
+        admissions (length (sc .settings .ports)) 0 record { settings = sc .settings; clock = clock; totals = replicate 8 noTotals; owns = sc .owns; streams = map (early sc now) s }
         ≡ record {
           settings = sc .settings;
           clock = clock;
           totals = tabulate 8 0 (totalsOn sc now s);
-          own = sc .own;
+          owns = sc .owns;
           streams = map (showing (sc .settings) now (columnOf sc now s)) s;
         }
     unfolding n

@@ -1,5 +1,5 @@
 // Stage 2 of settling: on one port, in one class, the streams that stand at step h are taken by importance. One that does not
-// fit in what is left fails with code 1 and is passed over; one that fits reserves its demand where its Listener is ready.
+// fit in what is left fails with code 1 and takes nothing; one that fits reserves its demand where its Listener is ready.
 ghost use mathlib.Core.Path.{_≡_};
 ghost use mathlib.Core.List.{[], _++_};
 ghost use Prim.Native.Nat.{_+_, _≤_, _<_, _^_};

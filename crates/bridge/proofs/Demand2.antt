@@ -13,7 +13,7 @@ use lib.ListN.{length, getD, take, drop, take-append-drop}
 use lib.Seq.{length-take-le, length-front, take-append-seam, drop-append-seam, drop-drop}
 use borrow.Author.Tests.{le-leb, le-ltb}
 use Rattle.octets.specs.Parts.{zeros}
-use Rattle.model.specs.Layout.{addresses, tableLength}
+use Rattle.model.specs.Layout.{mostAddresses, tableLength}
 use Rattle.model.specs.Lists.{Octets}
 use Rattle.model.specs.State.{Settings, Bridge, started, ownAt, portAt, resultAt, noTotals}
 use Rattle.model.specs.Registrations.{Answer, listeners, AddressAct, addressActs, acts, applyAll, doesAddresses, addressJoins, receivedAddresses, holding, owning, together, ids, joins, received}
@@ -105,7 +105,7 @@ pub record RegistersAddresses (t : List ℕ) (p : ℕ) (pdu u : List ℕ) : Type
   pub joined : heldOn (addressed (decode t) p acts) p ≡ together (heldOn (decode t) p) (addressJoins acts)
 
 registered-all : (b : Bridge) (p : ℕ) (pdu : List ℕ) (es : List AddressAct) → wrongPort (b .settings) p ≡ false → addressWalk pdu ≡ addressActs es →
-    length (doesAddresses (b .clock) es (ownAt (b .own) (p - 1) .addresses)) ≤ addresses →
+    length (doesAddresses (b .clock) es (ownAt (b .owns) (p - 1) .addresses)) ≤ mostAddresses →
     receiveMmrp b p pdu ≡ record { number = 0; bridge = addressed b p es }
 unfolding receiveMmrp addressReading receivedAddresses
 registered-all b p pdu es w e l = rw (w, e, le-leb _ _ l)
@@ -117,13 +117,13 @@ mmrp-registers t p pdu n u o call z =
     let b = decode t in
     let es = h .1 .0 in
     let v : Valid b = valid-decode t o (h .0 .0) in
-    let l = doesAddresses (b .clock) es (ownAt (b .own) (p - 1) .addresses) in
-    let room : length l ≤ addresses = rw (acts-held (b .clock) es (ownAt (b .own) (p - 1) .addresses)) (h .1 .2) in
+    let l = doesAddresses (b .clock) es (ownAt (b .owns) (p - 1) .addresses) in
+    let room : length l ≤ mostAddresses = rw (acts-held (b .clock) es (ownAt (b .owns) (p - 1) .addresses)) (h .1 .2) in
     let taken = mmrp-taken t p pdu (h .0 .0) (h .0 .1) es (h .1 .1) room in
     let all = ap (λ (a : Answer). a .bridge) (registered-all b p pdu es (h .0 .1) (h .1 .1) room) in
     let kept : Valid (addressed b p es) = rw all at (mmrp-keeps b p pdu v) in
     let table : u ≡ encode (addressed b p es) = call .1 ∙ ap (λ (c : Call). c .table) taken in
-    let place : p - 1 < length (b .own) = omega (arith, right-port (b .settings) p (h .0 .1), v .eight-own, v .settings .eight-ports) in
+    let place : p - 1 < length (b .owns) = omega (arith, right-port (b .settings) p (h .0 .1), v .eight-owns, v .settings .eight-ports) in
     record {
       acts = es;
       read = h .1 .1;

@@ -6,7 +6,7 @@ use Prim.Native.Nat.{ℕ, _-_, _≤_, _<_}
 use native.Mathlib.Omega.{arith}
 use lib.ListN.{length}
 use borrow.Author.Tests.{le-leb, lt-leb, ne-eqb}
-use Rattle.model.specs.Layout.{addresses}
+use Rattle.model.specs.Layout.{mostAddresses}
 use Rattle.model.specs.State.{Bridge, Own, noOwn, ownAt}
 use Rattle.model.specs.Registrations.{AddressAct, AddressReading, refusedFrame, addressActs, at, doesAddresses, changeAddresses, owning, receivedAddresses, together, macs, addressJoins}
 use Rattle.model.specs.Frames.{wrongPort}
@@ -22,15 +22,15 @@ use Rattle.bridge.proofs.OnTables.{port-refused}
 
 -- the bridge b once the acts of an MMRP frame on port p are done
 abbrev pub addressed : Bridge → ℕ → List AddressAct → Bridge
-addressed b p es = owning b (at (p - 1) (changeAddresses (doesAddresses (b .clock) es)) (b .own))
+addressed b p es = owning b (at (p - 1) (changeAddresses (doesAddresses (b .clock) es)) (b .owns))
 
 -- what its port holds then
-pub addressed-held : (b : Bridge) (p : ℕ) (es : List AddressAct) → p - 1 < length (b .own)
+pub addressed-held : (b : Bridge) (p : ℕ) (es : List AddressAct) → p - 1 < length (b .owns)
     → heldOn (addressed b p es) p ≡ together (heldOn b p) (addressJoins es)
 unfolding owning
 addressed-held b p es h =
-    ap (λ (o : Own). macs (o .addresses)) (at-here (p - 1) (changeAddresses (doesAddresses (b .clock) es)) (b .own) noOwn h)
-    ∙ (unfold changeAddresses in (acts-macs (b .clock) es (ownAt (b .own) (p - 1) .addresses)))
+    ap (λ (o : Own). macs (o .addresses)) (at-here (p - 1) (changeAddresses (doesAddresses (b .clock) es)) (b .owns) noOwn h)
+    ∙ (unfold changeAddresses in (acts-macs (b .clock) es (ownAt (b .owns) (p - 1) .addresses)))
 
 -- the number that the checked walk gives, where it is not 0
 fault-of : (v : AddressReading) (n : ℕ) → n ≡ numberOf v → (n ≡ 0 → ⊥) → v ≡ refusedFrame n
@@ -51,12 +51,12 @@ module _ (t : List ℕ) (p : ℕ) (pdu : List ℕ) where
 
     -- its acts on the addresses held
     module _ (es : List AddressAct) (e : addressWalk pdu ≡ addressActs es) where
-      pub mmrp-full : addresses < length (doesAddresses (decode t .clock) es (ownAt (decode t .own) (p - 1) .addresses)) →
+      pub mmrp-full : mostAddresses < length (doesAddresses (decode t .clock) es (ownAt (decode t .owns) (p - 1) .addresses)) →
           receiveMmrpOn t p pdu ≡ record { number = 14; table = t }
       unfolding receiveMmrpOn onTable leaves receiveMmrp addressReading receivedAddresses
       mmrp-full l = rw (h, w, e, lt-leb _ _ l)
 
-      pub mmrp-taken : length (doesAddresses (decode t .clock) es (ownAt (decode t .own) (p - 1) .addresses)) ≤ addresses →
+      pub mmrp-taken : length (doesAddresses (decode t .clock) es (ownAt (decode t .owns) (p - 1) .addresses)) ≤ mostAddresses →
           receiveMmrpOn t p pdu ≡ record { number = 0; table = encode (addressed (decode t) p es) }
       unfolding receiveMmrpOn onTable leaves receiveMmrp addressReading receivedAddresses
       mmrp-taken l = rw (h, w, e, le-leb _ _ l)

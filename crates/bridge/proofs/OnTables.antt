@@ -24,7 +24,7 @@ use Rattle.bridge.specs.Promises.{portRefusal}
 
 -- the bridge b once the acts of a frame on port p are done
 abbrev pub acted : Bridge → ℕ → List Act → Bridge
-acted b p es = owning (holding b (applyAll (b .clock) (p - 1) es (b .streams))) (applyOwns (b .clock) (p - 1) es (b .own))
+acted b p es = owning (holding b (applyAll (b .clock) (p - 1) es (b .streams))) (applyOwns (b .clock) (p - 1) es (b .owns))
 
 -- a call's answer and the table it leaves, as a contract has them
 pub answers : (number : ℕ) (table : List ℕ) (c : Call) → c ≡ record { number = number; table = table } →

@@ -26,7 +26,7 @@ use Rattle.bridge.proofs.Untouched.{stream}
 pub pruned-code : (t : List ℕ) (time n : ℕ) (u : List ℕ) → Octets t → time < 2 ^ 32 → Advances t time n u → n ≡ 0 →
     (p k : ℕ) → p < 8 → k < length (remaining time (decode t)) → (o : Origin) → Reaches (sceneAt time (decode t)) p (stream t time k) o →
     (resultAt (streamAt k (decode u)) p .column ≡ none)
-    ↔ ((decode t .settings .pruning ≡ true) × (holdsAddress (o .registration .fixed .destination) (ownAt (decode u .own) p .addresses) ≡ false))
+    ↔ ((decode t .settings .pruning ≡ true) × (holdsAddress (o .registration .fixed .destination) (ownAt (decode u .owns) p .addresses) ≡ false))
 pruned-code t time n u octets small call z p k port h o r =
     rw (advance-decides t time n u octets small call z .bridge, settled-result time (decode t) k p h port)
     (unfold settle decideAt in (pruned-exactly (sceneAt time (decode t)) time (remaining time (decode t)) p (stream t time k) o r))

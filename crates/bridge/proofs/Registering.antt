@@ -7,7 +7,7 @@ use native.Mathlib.Omega.{arith}
 use lib.ListN.{length, take, drop, take-append-drop}
 use lib.Dec.{leb}
 use borrow.Author.Tests.{leb-true, leb-false}
-use Rattle.model.specs.Layout.{addresses, ownPlace, ownSize}
+use Rattle.model.specs.Layout.{mostAddresses, ownPlace, ownSize}
 use Rattle.model.specs.Lists.{All}
 use Rattle.model.specs.State.{Presence, vacant, present, Address, Own, Bridge, noOwn, ownAt}
 use Rattle.model.specs.Registrations.{AddressAct, AddressReading, doesAddresses, changeAddresses, owning}
@@ -47,21 +47,21 @@ module _ (t : List ℕ) (p : ℕ) (pdu : List ℕ) (passed : Passed t p) (z : nu
   abbrev lent : List ℕ
   lent = take (a + ownSize - a) (drop a t)
 
-  lent-is : toOwn lent ≡ ownAt (decode t .own) (p - 1)
+  lent-is : toOwn lent ≡ ownAt (decode t .owns) (p - 1)
   lent-is = lent-own-at (port-in t p passed) a e .is
 
   abbrev addressesHere : List Address
-  addressesHere = ownAt (decode t .own) (p - 1) .addresses
+  addressesHere = ownAt (decode t .owns) (p - 1) .addresses
 
   held-is : held lent ≡ addressesHere
   unfolding held
   held-is = ap (λ (x : Own). x .addresses) lent-is
 
-  there : p - 1 < length (decode t .own)
-  there = omega (arith, port-in t p passed .port, valid .eight-own)
+  there : p - 1 < length (decode t .owns)
+  there = omega (arith, port-in t p passed .port, valid .eight-owns)
 
-  own-valid : ValidOwn (decode t .clock) (decode t .settings .leaveTime) (ownAt (decode t .own) (p - 1))
-  own-valid = all-at (ValidOwn (decode t .clock) (decode t .settings .leaveTime)) (decode t .own) (valid .own) (p - 1) noOwn there
+  own-valid : ValidOwn (decode t .clock) (decode t .settings .leaveTime) (ownAt (decode t .owns) (p - 1))
+  own-valid = all-at (ValidOwn (decode t .clock) (decode t .settings .leaveTime)) (decode t .owns) (valid .owns) (p - 1) noOwn there
 
   pub given : ReceiveGiven lent pdu
   given = record {
@@ -78,13 +78,13 @@ module _ (t : List ℕ) (p : ℕ) (pdu : List ℕ) (passed : Passed t p) (z : nu
     acts : List AddressAct
     acts = accepted pdu z .0
 
-    answer-is : r ≡ leb (length (doesAddresses (decode t .clock) acts addressesHere)) addresses
+    answer-is : r ≡ leb (length (doesAddresses (decode t .clock) acts addressesHere)) mostAddresses
     unfolding actsOf acts
     answer-is =
         g .answer
-        ∙ ap (λ (k : ℕ). leb (length (doesAddresses k (actsOf (addressWalk pdu)) (held lent))) addresses) c
-        ∙ ap (λ (x : AddressReading). leb (length (doesAddresses (decode t .clock) (actsOf x) (held lent))) addresses) (accepted pdu z .1)
-        ∙ ap (λ (l : List Address). leb (length (doesAddresses (decode t .clock) acts l)) addresses) held-is
+        ∙ ap (λ (k : ℕ). leb (length (doesAddresses k (actsOf (addressWalk pdu)) (held lent))) mostAddresses) c
+        ∙ ap (λ (x : AddressReading). leb (length (doesAddresses (decode t .clock) (actsOf x) (held lent))) mostAddresses) (accepted pdu z .1)
+        ∙ ap (λ (l : List Address). leb (length (doesAddresses (decode t .clock) acts l)) mostAddresses) held-is
 
     octets-are : r ≡ true → y ≡ ownOctets (changeAddresses (doesAddresses (decode t .clock) acts) (toOwn lent))
     unfolding actsOf acts taken
@@ -100,8 +100,8 @@ module _ (t : List ℕ) (p : ℕ) (pdu : List ℕ) (passed : Passed t p) (z : nu
         let u : Own → Own = changeAddresses (doesAddresses (decode t .clock) acts) in
         let same : left ≡ encode (addressed (decode t) p acts) =
         left-own-at (port-in t p passed) a e u y (octets-are q)
-        ∙ ap (λ (l : List Own). encode (owning (decode t) l)) (at-set (p - 1) u (decode t .own) noOwn there) in
-        mmrp-taken t p pdu (passed .formed) (passed .port) acts (accepted pdu z .1) (leb-true _ addresses (sym answer-is ∙ q))
+        ∙ ap (λ (l : List Own). encode (owning (decode t) l)) (at-set (p - 1) u (decode t .owns) noOwn there) in
+        mmrp-taken t p pdu (passed .formed) (passed .port) acts (accepted pdu z .1) (leb-true _ mostAddresses (sym answer-is ∙ q))
         ∙ ap (λ (x : List ℕ). record { number = 0; table = x }) (sym same)
 
     pub mmrp-no-room : r ≡ false → receiveMmrpOn t p pdu ≡ record { number = 14; table = left }
@@ -109,5 +109,5 @@ module _ (t : List ℕ) (p : ℕ) (pdu : List ℕ) (passed : Passed t p) (z : nu
     mmrp-no-room q =
         let y-is : y ≡ lent = g .octets ∙ ap (λ (b : Bool). cond b (taken clock pdu lent) lent) q in
         let same : left ≡ t = rw (y-is, take-append-drop (a + ownSize - a) (drop a t)) (take-append-drop a t) in
-        mmrp-full t p pdu (passed .formed) (passed .port) acts (accepted pdu z .1) (leb-false _ addresses (sym answer-is ∙ q))
+        mmrp-full t p pdu (passed .formed) (passed .port) acts (accepted pdu z .1) (leb-false _ mostAddresses (sym answer-is ∙ q))
         ∙ ap (λ (x : List ℕ). record { number = 14; table = x }) (sym same)

@@ -13,13 +13,13 @@ use Rattle.octets.specs.Pick.{pick}
 use Rattle.octets.specs.Fields.{fields, packed, Fit, width}
 use Rattle.octets.proofs.Parts.{length-patch}
 use Rattle.octets.proofs.Fields.{fit-at, be-beAt, packed-fields, beAt-fits, beAt-one, beAt-add, get-field, get-octet, put-field, put-run, clear-run}
-use Rattle.model.specs.FrameLayout.{advertiseLength, failedLength, firstBridge, firstCode, firstDestination, firstLatency, firstPriority, firstVlan, talkerWidths}
+use Rattle.model.specs.FrameLayout.{advertiseLength, failedLength, inFirstValue, talkerWidths}
 use Rattle.model.specs.Layout.{bridgeField, cellFields, cellWidths, changedField, changedPlace, codeField, firstLatencyField, fixedField, fixedPlace, latencyField, latencyPlace, leavingSize, listenerField, listenerLeavesField, priorityField, priorityPlace, talkerLeavesField, vlanField, vlanPlace}
-use Rattle.model.specs.State.{stays, Fixed, Health, sound, broken, Varying, Registration, Talker, noTalker, talker, Listener, noListener, listener, noFixed}
+use Rattle.model.specs.State.{stays, Fixed, TalkerType, talkerAdvertise, talkerFailed, Varying, Registration, Talker, noTalker, talker, Listener, noListener, listener, noFixed}
 use Rattle.model.specs.Registrations.{sameFixed, firstJoin, sameJoin, otherJoin, joinTalker, does, listen}
-use Rattle.model.specs.Frames.{registers, firstWidths, firstLength, priorityOf, rankOf, fixedValue, healthValue}
+use Rattle.model.specs.Frames.{registers, firstWidths, firstLength, priorityOf, rankOf, fixedValue, talkerTypeValue}
 use Rattle.model.specs.WrittenFrames.{priorityOctet, fixedNumbers, toReady}
-use Rattle.model.specs.Table.{leavingNumber, sinceNumber, healthNumber, bridgeNumber, codeNumber, talkerNumbers, listenerNumbers, cellNumbers, cellOctets, toCell}
+use Rattle.model.specs.Table.{leavingNumber, sinceNumber, talkerTypeNumber, bridgeNumber, codeNumber, talkerNumbers, listenerNumbers, cellNumbers, cellOctets, toCell}
 use Rattle.model.specs.Laid.{FitCell, LaidCell}
 use Rattle.model.specs.Lists.{bit}
 use Rattle.model.proofs.Cells.{ready-forth}
@@ -39,15 +39,15 @@ module _ (vs : List ℕ) (size : length vs ≡ cellFields) where
   unfolding marked width part
   marked-numbers = rw (put-field cellWidths vs changedField 1 size) (clear-run cellWidths (set vs changedField 1) talkerLeavesField 2 (simp length-set size) (omega arith))
 
-  failing-numbers : (first : List ℕ) → failing 2 first (packed cellWidths vs) ≡ packed cellWidths (set (set vs bridgeField (beAt 8 first firstBridge)) codeField (getD first firstCode 0))
+  failing-numbers : (first : List ℕ) → failing 2 first (packed cellWidths vs) ≡ packed cellWidths (set (set vs bridgeField (beAt 8 first inFirstValue.bridge)) codeField (getD first inFirstValue.code 0))
   unfolding failing width pick
   failing-numbers first =
-      rw (put-field cellWidths vs bridgeField (beAt 8 first firstBridge) size)
-      (put-field cellWidths (set vs bridgeField (beAt 8 first firstBridge)) codeField (getD first firstCode 0) (simp length-set size))
+      rw (put-field cellWidths vs bridgeField (beAt 8 first inFirstValue.bridge) size)
+      (put-field cellWidths (set vs bridgeField (beAt 8 first inFirstValue.bridge)) codeField (getD first inFirstValue.code 0) (simp length-set size))
 
-  sound-numbers : (first : List ℕ) → failing 1 first (packed cellWidths vs) ≡ packed cellWidths (patch bridgeField 2 (zeros 2) vs)
+  advertise-numbers : (first : List ℕ) → failing 1 first (packed cellWidths vs) ≡ packed cellWidths (patch bridgeField 2 (zeros 2) vs)
   unfolding failing width part pick
-  sound-numbers first = clear-run cellWidths vs bridgeField 2 size (omega arith)
+  advertise-numbers first = clear-run cellWidths vs bridgeField 2 size (omega arith)
 
   -- before a failure is written
   varied-numbers : (kind latency : ℕ) → patch latencyPlace 4 (be 4 latency) (patch changedPlace (1 + leavingSize) (zeros (1 + leavingSize)) (patch 0 1 (be 1 kind) (packed cellWidths vs)))
@@ -68,24 +68,24 @@ module _ (vs : List ℕ) (size : length vs ≡ cellFields) where
   fixed-numbers : (first : List ℕ) (n : ℕ) → advertiseLength ≤ length first → ((i : ℕ) → getD first i 0 < 256)
       → fixed first n (packed cellWidths vs)
       ≡ packed cellWidths
-      (set (set (patch vlanField 3 (fields (2 ∷ 2 ∷ 2 ∷ []) firstVlan first) (set vs fixedField (beAt 6 first firstDestination + n))) priorityField (getD first firstPriority 0 / 16 * 16)) firstLatencyField (beAt 4 first firstLatency))
+      (set (set (patch vlanField 3 (fields (2 ∷ 2 ∷ 2 ∷ []) inFirstValue.vlan first) (set vs fixedField (beAt 6 first inFirstValue.destination + n))) priorityField (getD first inFirstValue.priority 0 / 16 * 16)) firstLatencyField (beAt 4 first inFirstValue.latency))
   unfolding fixed width part
   fixed-numbers first n l o =
       let ws : List ℕ = 2 ∷ 2 ∷ 2 ∷ [] in
-      let there : List ℕ = set vs fixedField (beAt 6 first firstDestination + n) in
+      let there : List ℕ = set vs fixedField (beAt 6 first inFirstValue.destination + n) in
       let one : length there ≡ cellFields = simp length-set size in
-      let spec : length (fields ws firstVlan first) ≡ 3 = unfold fields in refl in
-      let two : length (patch vlanField 3 (fields ws firstVlan first) there) ≡ cellFields = length-patch vlanField 3 (fields ws firstVlan first) there spec (omega arith) ∙ one in
-      let octets : be 6 (beAt 6 first firstVlan) ≡ packed ws (fields ws firstVlan first) =
-      be-beAt 6 first firstVlan (omega arith) o ∙ sym (packed-fields ws firstVlan first (omega arith) o) in
-      let three : List ℕ = set (patch vlanField 3 (fields ws firstVlan first) there) priorityField (getD first firstPriority 0 / 16 * 16) in
+      let spec : length (fields ws inFirstValue.vlan first) ≡ 3 = unfold fields in refl in
+      let two : length (patch vlanField 3 (fields ws inFirstValue.vlan first) there) ≡ cellFields = length-patch vlanField 3 (fields ws inFirstValue.vlan first) there spec (omega arith) ∙ one in
+      let octets : be 6 (beAt 6 first inFirstValue.vlan) ≡ packed ws (fields ws inFirstValue.vlan first) =
+      be-beAt 6 first inFirstValue.vlan (omega arith) o ∙ sym (packed-fields ws inFirstValue.vlan first (omega arith) o) in
+      let three : List ℕ = set (patch vlanField 3 (fields ws inFirstValue.vlan first) there) priorityField (getD first inFirstValue.priority 0 / 16 * 16) in
       rw (
-        put-field cellWidths vs fixedField (beAt 6 first firstDestination + n) size,
+        put-field cellWidths vs fixedField (beAt 6 first inFirstValue.destination + n) size,
         octets,
-        put-run cellWidths there vlanField 3 one (omega arith) (fields ws firstVlan first) spec,
-        put-field cellWidths (patch vlanField 3 (fields ws firstVlan first) there) priorityField (getD first firstPriority 0 / 16 * 16) two,
+        put-run cellWidths there vlanField 3 one (omega arith) (fields ws inFirstValue.vlan first) spec,
+        put-field cellWidths (patch vlanField 3 (fields ws inFirstValue.vlan first) there) priorityField (getD first inFirstValue.priority 0 / 16 * 16) two,
       )
-      (put-field cellWidths three firstLatencyField (beAt 4 first firstLatency) (simp length-set two))
+      (put-field cellWidths three firstLatencyField (beAt 4 first inFirstValue.latency) (simp length-set two))
 
 -- The numbers of a cell; what is held, whose numbers behind the kind are zero without a Talker.
 
@@ -97,7 +97,7 @@ cell-size (talker k) noListener = refl
 cell-size (talker k) (listener r l) = refl
 
 held : Talker → Registration
-held noTalker = firstJoin noFixed record { health = sound; latency = 0 }
+held noTalker = firstJoin noFixed record { type = talkerAdvertise; latency = 0 }
 held (talker r) = r
 
 -- A Listener's join.
@@ -130,44 +130,44 @@ module _ (t : Talker) (h : Listener) (kind latency : ℕ) where
   begins : List ℕ
   begins = set (patch changedField 3 (zeros 3) (set (cellNumbers (both t h)) 0 kind)) latencyField latency
 
-sound-again : (t : Talker) (h : Listener) (latency : ℕ)
-    → patch bridgeField 2 (zeros 2) (begins t h 1 latency) ≡ cellNumbers (both (talker (sameJoin record { health = sound; latency = latency } (held t))) h)
-unfolding begins firstJoin sameJoin held cellNumbers talkerNumbers fixedNumbers priorityOctet noFixed leavingNumber sinceNumber healthNumber bridgeNumber codeNumber bit patch
-sound-again noTalker h latency = refl
-sound-again (talker r) h latency = refl
+advertise-again : (t : Talker) (h : Listener) (latency : ℕ)
+    → patch bridgeField 2 (zeros 2) (begins t h 1 latency) ≡ cellNumbers (both (talker (sameJoin record { type = talkerAdvertise; latency = latency } (held t))) h)
+unfolding begins firstJoin sameJoin held cellNumbers talkerNumbers fixedNumbers priorityOctet noFixed leavingNumber sinceNumber talkerTypeNumber bridgeNumber codeNumber bit patch
+advertise-again noTalker h latency = refl
+advertise-again (talker r) h latency = refl
 
-broken-again : (t : Talker) (h : Listener) (latency bridge code : ℕ)
+failed-again : (t : Talker) (h : Listener) (latency bridge code : ℕ)
     → set (set (begins t h 2 latency) bridgeField bridge) codeField code
-    ≡ cellNumbers (both (talker (sameJoin record { health = broken bridge code; latency = latency } (held t))) h)
-unfolding begins firstJoin sameJoin held cellNumbers talkerNumbers fixedNumbers priorityOctet noFixed leavingNumber sinceNumber healthNumber bridgeNumber codeNumber bit patch
-broken-again noTalker h latency bridge code = refl
-broken-again (talker r) h latency bridge code = refl
+    ≡ cellNumbers (both (talker (sameJoin record { type = talkerFailed bridge code; latency = latency } (held t))) h)
+unfolding begins firstJoin sameJoin held cellNumbers talkerNumbers fixedNumbers priorityOctet noFixed leavingNumber sinceNumber talkerTypeNumber bridgeNumber codeNumber bit patch
+failed-again noTalker h latency bridge code = refl
+failed-again (talker r) h latency bridge code = refl
 
 -- FirstValue's numbers, and what varies in them
 firstNumbers : ℕ → List ℕ → List ℕ
 firstNumbers k first = fields (firstWidths (registers (kindAt k))) 0 first
 
 varying : ℕ → List ℕ → Varying
-varying k first = record { health = healthValue (kindAt k) (firstNumbers k first); latency = getD (firstNumbers k first) 6 0 }
+varying k first = record { type = talkerTypeValue (kindAt k) (firstNumbers k first); latency = getD (firstNumbers k first) 6 0 }
 
 varies : (k : ℕ) → 1 ≤ k → k ≤ 2 → (first : List ℕ) (t : Talker) (h : Listener)
     → varied k first (cellOctets (both t h)) ≡ cellOctets (both (talker (sameJoin (varying k first) (held t))) h)
-unfolding cellOctets varied varying firstNumbers kindAt firstWidths fields healthValue begins
+unfolding cellOctets varied varying firstNumbers kindAt firstWidths fields talkerTypeValue begins
 varies zero low high first t h = absurd (omega arith)
 varies (suc zero) low high first t h =
     let vs = cellNumbers (both t h) in
     let z = cell-size t h in
-    let n = beAt 4 first firstLatency in
+    let n = beAt 4 first inFirstValue.latency in
     ap (failing 1 first) (varied-numbers vs z 1 n)
-    ∙ sound-numbers (begins t h 1 n) (varied-size vs z 1 n) first
-    ∙ ap (packed cellWidths) (sound-again t h n)
+    ∙ advertise-numbers (begins t h 1 n) (varied-size vs z 1 n) first
+    ∙ ap (packed cellWidths) (advertise-again t h n)
 varies (suc (suc zero)) low high first t h =
     let vs = cellNumbers (both t h) in
     let z = cell-size t h in
-    let n = beAt 4 first firstLatency in
+    let n = beAt 4 first inFirstValue.latency in
     ap (failing 2 first) (varied-numbers vs z 2 n)
     ∙ failing-numbers (begins t h 2 n) (varied-size vs z 2 n) first
-    ∙ ap (packed cellWidths) (broken-again t h n (beAt 8 first firstBridge) (getD first firstCode 0) ∙ rw (beAt-one first firstCode))
+    ∙ ap (packed cellWidths) (failed-again t h n (beAt 8 first inFirstValue.bridge) (getD first inFirstValue.code 0) ∙ rw (beAt-one first inFirstValue.code))
 varies (suc (suc (suc k))) low high first t h = absurd (omega arith)
 
 -- Where nothing is held, what is fixed is taken too.
@@ -177,11 +177,11 @@ module _ (first : List ℕ) (long : advertiseLength ≤ length first) (octets : 
   talkerNumbersOf : List ℕ → List ℕ
   talkerNumbersOf more = fields (talkerWidths more) 0 first
 
-  takes : (more : List ℕ) (v : Varying) (h : Listener) → beAt 4 first firstLatency ≡ v .latency
+  takes : (more : List ℕ) (v : Varying) (h : Listener) → beAt 4 first inFirstValue.latency ≡ v .latency
       → fixed first n (cellOctets (both (talker (sameJoin v (held noTalker))) h)) ≡ cellOctets (both (talker (firstJoin (fixedValue (talkerNumbersOf more) n) v)) h)
   unfolding firstJoin sameJoin held cellOctets cellNumbers talkerNumbers fixedNumbers fixedValue talkerNumbersOf fields priorityOctet priorityOf rankOf patch
   takes more v h e =
-      let o : getD first firstPriority 0 / 16 * 16 ≡ beAt 1 first firstPriority / 32 * 32 + beAt 1 first firstPriority / 16 % 2 * 16 = omega (arith, beAt-one first firstPriority) in
+      let o : getD first inFirstValue.priority 0 / 16 * 16 ≡ beAt 1 first inFirstValue.priority / 32 * 32 + beAt 1 first inFirstValue.priority / 16 % 2 * 16 = omega (arith, beAt-one first inFirstValue.priority) in
       fixed-numbers (cellNumbers (both (talker (sameJoin v (held noTalker))) h)) (cell-size (talker (sameJoin v (held noTalker))) h) first n long octets ∙ rw (o, e)
 
 -- Whether what is fixed is the same: as three numbers of octets, and field by field.
@@ -293,26 +293,26 @@ module _ (first : List ℕ) (octets : (i : ℕ) → getD first i 0 < 256) (n : �
 
       forth : same first n s ≡ true → sameFixed new g ≡ true
       forth e =
-          let (a, b, c) = three-all (eqb (beAt 6 s fixedPlace) (beAt 6 first firstDestination + n)) (eqb (beAt 6 s vlanPlace) (beAt 6 first firstVlan)) (eqb (getD s priorityPlace 0 / 16) (getD first firstPriority 0 / 16)) e in
-          let d = eqb-true (beAt 6 s fixedPlace) (beAt 6 first firstDestination + n) a in
-          let v = eqb-true (beAt 6 s vlanPlace) (beAt 6 first firstVlan) b in
-          let p = eqb-true (getD s priorityPlace 0 / 16) (getD first firstPriority 0 / 16) c in
-          let pairs = three-pairs first firstVlan in
-          let x = small firstVlan in
-          let y = small (firstVlan + 2) in
-          let z = small (firstVlan + 4) in
-          let o = beAt-one first firstPriority in
+          let (a, b, c) = three-all (eqb (beAt 6 s fixedPlace) (beAt 6 first inFirstValue.destination + n)) (eqb (beAt 6 s vlanPlace) (beAt 6 first inFirstValue.vlan)) (eqb (getD s priorityPlace 0 / 16) (getD first inFirstValue.priority 0 / 16)) e in
+          let d = eqb-true (beAt 6 s fixedPlace) (beAt 6 first inFirstValue.destination + n) a in
+          let v = eqb-true (beAt 6 s vlanPlace) (beAt 6 first inFirstValue.vlan) b in
+          let p = eqb-true (getD s priorityPlace 0 / 16) (getD first inFirstValue.priority 0 / 16) c in
+          let pairs = three-pairs first inFirstValue.vlan in
+          let x = small inFirstValue.vlan in
+          let y = small (inFirstValue.vlan + 2) in
+          let z = small (inFirstValue.vlan + 4) in
+          let o = beAt-one first inFirstValue.priority in
           each-same new g (omega arith) (omega arith) (omega arith) (omega arith) (omega arith) (omega arith)
 
       back : sameFixed new g ≡ true → same first n s ≡ true
       back e =
           let (d, v, z, m, p, r) = same-each new g e in
-          let a : beAt 6 s fixedPlace ≡ beAt 6 first firstDestination + n = omega arith in
-          let b : beAt 6 s vlanPlace ≡ beAt 6 first firstVlan = omega (arith, three-pairs first firstVlan) in
-          let c : getD s priorityPlace 0 / 16 ≡ getD first firstPriority 0 / 16 = omega (arith, beAt-one first firstPriority) in
-          all-three (eqb (beAt 6 s fixedPlace) (beAt 6 first firstDestination + n)) (eqb (beAt 6 s vlanPlace) (beAt 6 first firstVlan)) (eqb (getD s priorityPlace 0 / 16) (getD first firstPriority 0 / 16))
-          (eq-eqb (beAt 6 s fixedPlace) (beAt 6 first firstDestination + n) a) (eq-eqb (beAt 6 s vlanPlace) (beAt 6 first firstVlan) b)
-          (eq-eqb (getD s priorityPlace 0 / 16) (getD first firstPriority 0 / 16) c)
+          let a : beAt 6 s fixedPlace ≡ beAt 6 first inFirstValue.destination + n = omega arith in
+          let b : beAt 6 s vlanPlace ≡ beAt 6 first inFirstValue.vlan = omega (arith, three-pairs first inFirstValue.vlan) in
+          let c : getD s priorityPlace 0 / 16 ≡ getD first inFirstValue.priority 0 / 16 = omega (arith, beAt-one first inFirstValue.priority) in
+          all-three (eqb (beAt 6 s fixedPlace) (beAt 6 first inFirstValue.destination + n)) (eqb (beAt 6 s vlanPlace) (beAt 6 first inFirstValue.vlan)) (eqb (getD s priorityPlace 0 / 16) (getD first inFirstValue.priority 0 / 16))
+          (eq-eqb (beAt 6 s fixedPlace) (beAt 6 first inFirstValue.destination + n) a) (eq-eqb (beAt 6 s vlanPlace) (beAt 6 first inFirstValue.vlan) b)
+          (eq-eqb (getD s priorityPlace 0 / 16) (getD first inFirstValue.priority 0 / 16) c)
 
 -- A Talker's join, of an AttributeType.
 
@@ -337,10 +337,10 @@ unfolding firstLength kindAt
 first-failed k e = rw e
 
 -- a held Talker's kind is not 0
-some-kind : (h : Health) → eqb (healthNumber h) 0 ≡ false
-unfolding healthNumber
-some-kind sound = refl
-some-kind (broken b c) = refl
+some-kind : (h : TalkerType) → eqb (talkerTypeNumber h) 0 ≡ false
+unfolding talkerTypeNumber
+some-kind talkerAdvertise = refl
+some-kind (talkerFailed b c) = refl
 
 module _ (k : ℕ) (low : 1 ≤ k) (high : k ≤ 2) (first : List ℕ) (long : advertiseLength ≤ length first) (octets : (i : ℕ) → getD first i 0 < 256) (n : ℕ) where
   more : List ℕ
@@ -349,12 +349,12 @@ module _ (k : ℕ) (low : 1 ≤ k) (high : k ≤ 2) (first : List ℕ) (long : a
   joining : Fixed
   joining = fixedValue (firstNumbers k first) n
 
-  takes-fixed : (v : Varying) (h : Listener) → beAt 4 first firstLatency ≡ v .latency
+  takes-fixed : (v : Varying) (h : Listener) → beAt 4 first inFirstValue.latency ≡ v .latency
       → fixed first n (cellOctets (both (talker (sameJoin v (held noTalker))) h)) ≡ cellOctets (both (talker (firstJoin joining v)) h)
   unfolding joining firstNumbers talkerNumbersOf more
   takes-fixed v h e = rw (first-widths k low high) (takes first long octets n more v h e)
 
-  latency-read : beAt 4 first firstLatency ≡ varying k first .latency
+  latency-read : beAt 4 first inFirstValue.latency ≡ varying k first .latency
   unfolding varying firstNumbers fields
   latency-read = rw (first-widths k low high)
 
@@ -369,7 +369,7 @@ module _ (k : ℕ) (low : 1 ≤ k) (high : k ≤ 2) (first : List ℕ) (long : a
       rw (talker-kind (both noTalker h) fit, varies k low high first noTalker h)
       (takes-fixed (varying k first) h latency-read)
   joins-to (talker r) h fit =
-      rw (talker-kind (both (talker r) h) fit, some-kind (r .varying .health), is-same (talker r) h fit, varies k low high first (talker r) h, marks r h)
+      rw (talker-kind (both (talker r) h) fit, some-kind (r .varying .type), is-same (talker r) h fit, varies k low high first (talker r) h, marks r h)
       (go (sameFixed joining (r .fixed)))
     where
       go : (t : Bool) → pick t (cellOctets (both (talker (sameJoin (varying k first) r)) h)) (cellOctets (both (talker (otherJoin r)) h))

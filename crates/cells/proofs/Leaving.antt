@@ -13,11 +13,11 @@ use Rattle.octets.specs.Pick.{pick}
 use Rattle.octets.specs.Fields.{packed, Fit, width}
 use Rattle.octets.proofs.Fields.{length-fit, get-field, get-octet, put-field, clear-run}
 use Rattle.model.specs.Layout.{cellWidths, listenerField, listenerLeavesField, listenerLeavesPlace, listenerPlace, listenerSinceField, listenerSize, talkerLeavesField, talkerLeavesPlace, talkerSinceField}
-use Rattle.model.specs.State.{Settings, Leaving, stays, since, Health, sound, broken, Registration, Talker, noTalker, talker, Ready, Listener, noListener, listener, Cell}
+use Rattle.model.specs.State.{Settings, Leaving, stays, since, TalkerType, talkerAdvertise, talkerFailed, Registration, Talker, noTalker, talker, Ready, Listener, noListener, listener, Cell}
 use Rattle.model.specs.Registrations.{Kind, listeners, begin, talksAs, hearsAs, withLeaving, quitTalker, quitListener, quit}
 use Rattle.model.specs.WrittenFrames.{fixedNumbers}
 use Rattle.model.specs.Settling.{expired, expireTalker, expireListener, expireCell}
-use Rattle.model.specs.Table.{leavingNumber, sinceNumber, healthNumber, talkerNumbers, listenerNumbers, cellNumbers, cellOctets, toCell}
+use Rattle.model.specs.Table.{leavingNumber, sinceNumber, talkerTypeNumber, talkerNumbers, listenerNumbers, cellNumbers, cellOctets, toCell}
 use Rattle.model.specs.Laid.{FitCell, LaidCell}
 use Rattle.model.proofs.Cells.{ready-number}
 use Rattle.model.proofs.Fits.{laid-cell-is, laid-cell-fits}
@@ -144,13 +144,13 @@ abbrev pub both : Talker → Listener → Cell
 both t h = record { talks = t; hears = h }
 
 -- a held Talker's kind is that octet of its AttributeType
-as-kind : (k : ℕ) → 1 ≤ k → k ≤ 2 → (h : Health) → (k ≡ healthNumber h → talksAs (kindAt k) h ≡ true) × ((k ≡ healthNumber h → ⊥) → talksAs (kindAt k) h ≡ false)
-unfolding kindAt talksAs healthNumber
+as-kind : (k : ℕ) → 1 ≤ k → k ≤ 2 → (h : TalkerType) → (k ≡ talkerTypeNumber h → talksAs (kindAt k) h ≡ true) × ((k ≡ talkerTypeNumber h → ⊥) → talksAs (kindAt k) h ≡ false)
+unfolding kindAt talksAs talkerTypeNumber
 as-kind zero p q h = absurd (omega arith)
-as-kind (suc zero) p q sound = (λ e. refl, λ n. absurd (n refl))
-as-kind (suc zero) p q (broken b d) = (λ e. absurd (omega arith), λ n. refl)
-as-kind (suc (suc zero)) p q sound = (λ e. absurd (omega arith), λ n. refl)
-as-kind (suc (suc zero)) p q (broken b d) = (λ e. refl, λ n. absurd (n refl))
+as-kind (suc zero) p q talkerAdvertise = (λ e. refl, λ n. absurd (n refl))
+as-kind (suc zero) p q (talkerFailed b d) = (λ e. absurd (omega arith), λ n. refl)
+as-kind (suc (suc zero)) p q talkerAdvertise = (λ e. absurd (omega arith), λ n. refl)
+as-kind (suc (suc zero)) p q (talkerFailed b d) = (λ e. refl, λ n. absurd (n refl))
 as-kind (suc (suc (suc k))) p q h = absurd (omega arith)
 
 no-hearing : (k : ℕ) → 1 ≤ k → k ≤ 2 → hearsAs (kindAt k) ≡ false
@@ -180,7 +180,7 @@ module _ (clock : ℕ) where
     unfolding cellOctets cellNumbers quit quitTalker withLeaving talkerNumbers
     talks-begins noTalker h fit p = absurd (omega (arith, talker-kind (both noTalker h) fit))
     talks-begins (talker r) h fit p =
-        rw (listener-stays clock (kindAt k) (no-hearing k low high) h, as-kind k low high (r .varying .health) .0 (sym p ∙ talker-kind (both (talker r) h) fit))
+        rw (listener-stays clock (kindAt k) (no-hearing k low high) h, as-kind k low high (r .varying .type) .0 (sym p ∙ talker-kind (both (talker r) h) fit))
         (talker-begun clock (both (talker r) h) fit ∙ ap (packed cellWidths) (talker-numbers clock r (r .leaving) h))
 
     talks-other : (t : Talker) (h : Listener) → FitCell (both t h) → (getD (cellOctets (both t h)) 0 0 ≡ k → ⊥)
@@ -188,7 +188,7 @@ module _ (clock : ℕ) where
     unfolding cellOctets cellNumbers quit quitTalker withLeaving talkerNumbers
     talks-other noTalker h fit p = rw (listener-stays clock (kindAt k) (no-hearing k low high) h)
     talks-other (talker r) h fit p =
-        rw (listener-stays clock (kindAt k) (no-hearing k low high) h, as-kind k low high (r .varying .health) .1 (λ e. p (talker-kind (both (talker r) h) fit ∙ sym e)))
+        rw (listener-stays clock (kindAt k) (no-hearing k low high) h, as-kind k low high (r .varying .type) .1 (λ e. p (talker-kind (both (talker r) h) fit ∙ sym e)))
 
 -- of octets that are laid out as a cell, at the octets that the code looks at
 module _ (s : List ℕ) (l : LaidCell s) (clock : ℕ) where

@@ -4,7 +4,7 @@ use mathlib.Core.List.{List}
 use Prim.Native.Nat.{ℕ, _+_, _^_, _≤_, _<_}
 use lib.ListN.{length}
 use Rattle.octets.specs.Be.{beAt}
-use Rattle.model.specs.FrameLayout.{advertiseLength, failedLength, firstDestination}
+use Rattle.model.specs.FrameLayout.{advertiseLength, failedLength, inFirstValue}
 use Rattle.model.specs.Layout.{cellSize, listenerLeavesPlace, priorityBUnit}
 use Rattle.model.specs.Frames.{registers, firstLength}
 use Rattle.model.specs.Laid.{LaidCell}
@@ -24,13 +24,13 @@ pub record TalkerGiven (s : List ℕ) (kind : ℕ) (first : List ℕ) (n : ℕ) 
   pub low : 1 ≤ kind
   pub high : kind ≤ 2
   pub octets : length first ≡ firstLength (registers (kindAt kind))
-  pub destination : beAt 6 first firstDestination + n < 256 ^ 6
+  pub destination : beAt 6 first inFirstValue.destination + n < 256 ^ 6
 
 -- octets as many as a cell's, and the fixed values of value n
 pub record FixedGiven (s first : List ℕ) (n : ℕ) : Type 0 where
   pub size : length s ≡ cellSize
   pub octets : advertiseLength ≤ length first
-  pub destination : beAt 6 first firstDestination + n < 256 ^ 6
+  pub destination : beAt 6 first inFirstValue.destination + n < 256 ^ 6
 
 -- octets as many as a cell's, and the values that may vary, with a failure where the type has one
 pub record VaryingGiven (s : List ℕ) (kind : ℕ) (first : List ℕ) : Type 0 where

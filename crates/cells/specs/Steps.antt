@@ -7,7 +7,7 @@ use lib.Dec.{eqb, leb}
 use Rattle.octets.specs.Be.{beAt, be}
 use Rattle.octets.specs.Parts.{patch, zeros}
 use Rattle.octets.specs.Pick.{pick}
-use Rattle.model.specs.FrameLayout.{firstBridge, firstCode, firstDestination, firstLatency, firstPriority, firstVlan}
+use Rattle.model.specs.FrameLayout.{inFirstValue}
 use Rattle.model.specs.Layout.{bridgePlace, changedPlace, codePlace, failureSize, firstLatencyPlace, fixedPlace, latencyPlace, leavingSize, listenerLeavesPlace, listenerPlace, priorityPlace, talkerLeavesPlace, vlanPlace}
 
 -- leaving begun at the clock, unless it was: the mark at a place, and the time behind it
@@ -31,26 +31,26 @@ marked s = patch talkerLeavesPlace leavingSize (zeros leavingSize) (patch change
 -- the failure of a FirstValue, or none
 unfoldable pub failing : ℕ → List ℕ → List ℕ → List ℕ
 failing kind first s =
-    pick (eqb kind 2) (patch codePlace 1 (be 1 (getD first firstCode 0)) (patch bridgePlace 8 (be 8 (beAt 8 first firstBridge)) s))
+    pick (eqb kind 2) (patch codePlace 1 (be 1 (getD first inFirstValue.code 0)) (patch bridgePlace 8 (be 8 (beAt 8 first inFirstValue.bridge)) s))
     (patch bridgePlace failureSize (zeros failureSize) s)
 
 -- a Talker that stays, without the changed mark; type, latency and failure of a FirstValue
 unfoldable pub varied : ℕ → List ℕ → List ℕ → List ℕ
 varied kind first s =
-    failing kind first (patch latencyPlace 4 (be 4 (beAt 4 first firstLatency)) (patch changedPlace (1 + leavingSize) (zeros (1 + leavingSize)) (patch 0 1 (be 1 kind) s)))
+    failing kind first (patch latencyPlace 4 (be 4 (beAt 4 first inFirstValue.latency)) (patch changedPlace (1 + leavingSize) (zeros (1 + leavingSize)) (patch 0 1 (be 1 kind) s)))
 
 -- destination, VLAN, TSpec, priority and rank of value n of a FirstValue, and its latency as the first
 unfoldable pub fixed : List ℕ → ℕ → List ℕ → List ℕ
 fixed first n s =
-    patch firstLatencyPlace 4 (be 4 (beAt 4 first firstLatency))
-    (patch priorityPlace 1 (be 1 (getD first firstPriority 0 / 16 * 16))
-    (patch vlanPlace 6 (be 6 (beAt 6 first firstVlan)) (patch fixedPlace 6 (be 6 (beAt 6 first firstDestination + n)) s)))
+    patch firstLatencyPlace 4 (be 4 (beAt 4 first inFirstValue.latency))
+    (patch priorityPlace 1 (be 1 (getD first inFirstValue.priority 0 / 16 * 16))
+    (patch vlanPlace 6 (be 6 (beAt 6 first inFirstValue.vlan)) (patch fixedPlace 6 (be 6 (beAt 6 first inFirstValue.destination + n)) s)))
 
 -- whether these are the cell's
 unfoldable pub same : List ℕ → ℕ → List ℕ → Bool
 same first n s =
-    pick (eqb (beAt 6 s fixedPlace) (beAt 6 first firstDestination + n))
-    (pick (eqb (beAt 6 s vlanPlace) (beAt 6 first firstVlan)) (eqb (getD s priorityPlace 0 / 16) (getD first firstPriority 0 / 16)) false)
+    pick (eqb (beAt 6 s fixedPlace) (beAt 6 first inFirstValue.destination + n))
+    (pick (eqb (beAt 6 s vlanPlace) (beAt 6 first inFirstValue.vlan)) (eqb (getD s priorityPlace 0 / 16) (getD first inFirstValue.priority 0 / 16)) false)
     false
 
 -- a Talker's join

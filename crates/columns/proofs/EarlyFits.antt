@@ -12,7 +12,7 @@ use Rattle.model.proofs.Parts.{_also_}
 use Rattle.model.proofs.Cells.{fixed-fit}
 use Rattle.model.proofs.Fits.{latest, longest, fit-cell, id-fits}
 use Rattle.model.proofs.Valid.{ValidCell}
-use Rattle.model.proofs.AdvanceKeepsForm.{length-tabulate, ValidSource, source-valid, fixed-valid, health-valid, ValidFailure, steps-valid, capped-fits, latency-fits}
+use Rattle.model.proofs.AdvanceKeepsForm.{length-tabulate, ValidSource, source-valid, fixed-valid, type-valid, ValidFailure, steps-valid, capped-fits, latency-fits}
 use Rattle.table.specs.Reads.{FitFixed}
 use Rattle.table.proofs.Fitting.{unsettled-fits, map-fits}
 use Rattle.streams.proofs.Fixed.{source-fits}
@@ -57,7 +57,7 @@ age-of-result r w = w .1 .1 .1 .1 .1 .0
 module _ (sc : Scene) (named : sc .settings .bridgeId < 2 ^ 64) (now : ℕ) (soon : now < 2 ^ 32) (x : Stream) (w : FitStream x) where
   early-column-fits : (p : ℕ) → ValidFailure (earlyColumn sc p x)
   unfolding earlyColumn
-  early-column-fits p = steps-valid sc named p x advertise (health-valid latest longest (sourceOf x) (source-fits x w)) tt
+  early-column-fits p = steps-valid sc named p x advertise (type-valid latest longest (sourceOf x) (source-fits x w)) tt
 
   pub early-result-fits : (p : ℕ) → FitResult (earlyAt sc now x p)
   unfolding Fit resultNumbers earlyAt shownAs latencyOut declaredNumber resultAt

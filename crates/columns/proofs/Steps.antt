@@ -12,10 +12,10 @@ use Rattle.octets.specs.Be.{beAt}
 use Rattle.octets.specs.Fields.{fields}
 use Rattle.model.specs.Layout.{changedPlace, firstLatencyPlace, inPort, latencyPlace, priorityPlace}
 use Rattle.model.specs.Lists.{isOne}
-use Rattle.model.specs.State.{Bridge, Port, Fixed, sound, broken, Own, Stream, Class, noClass, classA, classB, portAt, isPort, cellAt, ownAt, classOf, isNoClass, supports}
+use Rattle.model.specs.State.{Bridge, Port, Fixed, talkerAdvertise, talkerFailed, Own, Stream, Class, noClass, classA, classB, portAt, isPort, cellAt, ownAt, classOf, isNoClass, supports}
 use Rattle.model.specs.Frames.{priorityOf}
-use Rattle.model.specs.Settling.{Scene, sceneOf, Inbound, boundary, sourceOf, fixedOf, isTalking, isBroken, isPruned, inboundOf, shares, isKeptOut, StepName, stepA, stepB, stepC, stepD, stepE, stepF, stepG, stepI, stepJ, stepK, stepL, stepM, stepN, Step, stepsFrom, lastSteps, steps}
-use Rattle.model.specs.Table.{toPort, toCell, registrationFrom, toHealth, portFrom}
+use Rattle.model.specs.Settling.{Scene, sceneOf, Inbound, boundary, sourceOf, fixedOf, isTalking, isTalkerFailed, isPruned, inboundOf, shares, isKeptOut, StepName, stepA, stepB, stepC, stepD, stepE, stepF, stepG, stepI, stepJ, stepK, stepL, stepM, stepN, Step, stepsFrom, lastSteps, steps}
+use Rattle.model.specs.Table.{toPort, toCell, registrationFrom, toTalkerType, portFrom}
 use Rattle.model.specs.Why.{letter, sameStep, firstName}
 use Rattle.model.proofs.SettingsOctets.{octet-field}
 use Rattle.model.proofs.Why.{name-stays, name-clear, first-clear}
@@ -43,11 +43,11 @@ unfolding isTalking
 talking s n = rw (a-talker s n)
 
 -- c: a Talker is Failed where its kind is not Advertise's
-failed-asked : (k b c : ℕ) → isBroken (toHealth k b c) ≡ not (eqb k 1)
-unfolding toHealth isBroken
+failed-asked : (k b c : ℕ) → isTalkerFailed (toTalkerType k b c) ≡ not (eqb k 1)
+unfolding toTalkerType isTalkerFailed
 failed-asked k b c = go (eqb k 1)
   where
-    go : (e : Bool) → isBroken (cond e sound (broken b c)) ≡ not e
+    go : (e : Bool) → isTalkerFailed (cond e talkerAdvertise (talkerFailed b c)) ≡ not e
     go true = refl
     go false = refl
 
@@ -59,7 +59,7 @@ module _ (sc : Scene) (here said : List ℕ) (p t : ℕ) where
   class = classOf (sc .settings) (beAt 1 said priorityPlace / 32)
 
   abbrev pub from-j : StepName
-  from-j = cond (boundary (ownAt (sc .own) p) class) stepJ stepI
+  from-j = cond (boundary (ownAt (sc .owns) p) class) stepJ stepI
 
   abbrev pub from-f : StepName
   from-f = cond (isNoClass class) stepF from-j
@@ -77,7 +77,7 @@ module _ (sc : Scene) (here said : List ℕ) (p t : ℕ) where
   from-c = cond (not (eqb (getD said 0 0) 1)) stepC from-d
 
   abbrev pub from-n : StepName
-  from-n = cond (isPruned (sc .settings) (ownAt (sc .own) p) (fixedOf (sourceIn t (toCell said)))) stepN from-c
+  from-n = cond (isPruned (sc .settings) (ownAt (sc .owns) p) (fixedOf (sourceIn t (toCell said)))) stepN from-c
 
   abbrev pub from-b : StepName
   from-b = cond (not (supports (portAt (sc .settings) p) class)) stepB from-n

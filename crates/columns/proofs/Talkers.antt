@@ -15,8 +15,8 @@ use Rattle.octets.proofs.Fields.{fields-of-packed, length-fit, part-run}
 use Rattle.model.specs.Layout.{bridgePlace, cellWidths, codePlace, fixedField, fixedPlace, fixedSize, fixedWidths, latencyField, latencyPlace, priorityField, priorityPlace}
 use Rattle.model.specs.State.{Settings, Port, none, failed, Class, noClass, classA, classB, isNoClass, Talker, noTalker, talker, Cell, Stream, noFixed, portAt, cellAt, classOf, classLatency}
 use Rattle.model.specs.WrittenFrames.{priorityOctet, fixedNumbers}
-use Rattle.model.specs.Settling.{Source, sourceOf, fixedOf, latencyOf, healthOf, brokenColumn, streamClass, capped, latencyOut}
-use Rattle.model.specs.Table.{toPort, portFrom, cellNumbers, cellOctets, talkerNumbers, registrationFrom, toHealth, toCell}
+use Rattle.model.specs.Settling.{Source, sourceOf, fixedOf, latencyOf, talkerTypeOf, failedColumn, streamClass, capped, latencyOut}
+use Rattle.model.specs.Table.{toPort, portFrom, cellNumbers, cellOctets, talkerNumbers, registrationFrom, toTalkerType, toCell}
 use Rattle.model.specs.Laid.{FitRank, LaidCell}
 use Rattle.model.proofs.Fits.{laid-cell-is, laid-cell-fits}
 use Rattle.table.specs.Reads.{fixedOctets, ReadsCell, ReadsPort}
@@ -52,18 +52,18 @@ destination-number t (talker r) c e = rw e
 -- The failure that the octets of a cell say, by their kind.
 
 module _ (s : List ℕ) (t : ℕ) where
-  pub no-failure : getD s 0 0 < 2 → none ≡ brokenColumn (healthOf (sourceIn t (toCell s)))
-  unfolding sourceIn healthOf brokenColumn registrationFrom toHealth fields
+  pub no-failure : getD s 0 0 < 2 → none ≡ failedColumn (talkerTypeOf (sourceIn t (toCell s)))
+  unfolding sourceIn talkerTypeOf failedColumn registrationFrom toTalkerType fields
   no-failure h = go (eqb (getD s 0 0) 0) refl
     where
-      go : (b : Bool) → eqb (getD s 0 0) 0 ≡ b → none ≡ brokenColumn (healthOf (sourceIn t (toCell s)))
+      go : (b : Bool) → eqb (getD s 0 0) 0 ≡ b → none ≡ failedColumn (talkerTypeOf (sourceIn t (toCell s)))
       go true e = rw (no-talker s (eqb-true (getD s 0 0) 0 e))
       go false e =
           let n = eqb-false (getD s 0 0) 0 e in
           rw (a-talker s n, octet-field s 0, eq-eqb (getD s 0 0) 1 (omega (arith, n)))
 
-  pub a-failure : 2 ≤ getD s 0 0 → failed (beAt 8 s bridgePlace) (getD s codePlace 0) ≡ brokenColumn (healthOf (sourceIn t (toCell s)))
-  unfolding sourceIn healthOf brokenColumn registrationFrom toHealth fields
+  pub a-failure : 2 ≤ getD s 0 0 → failed (beAt 8 s bridgePlace) (getD s codePlace 0) ≡ failedColumn (talkerTypeOf (sourceIn t (toCell s)))
+  unfolding sourceIn talkerTypeOf failedColumn registrationFrom toTalkerType fields
   a-failure h =
       rw (a-talker s (λ e. omega (arith, e)), octet-field s 0, octet-field s codePlace, ne-eqb (getD s 0 0) 1 (λ e. omega (arith, e)))
 

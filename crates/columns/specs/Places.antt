@@ -29,8 +29,8 @@ pub record Asked (table here talker : List ℕ) (p : ℕ) : Type 0 where
 pub record SceneOn (b : Bridge) (p : ℕ) (f : Fixed) (o : OwnRead) (sc : Scene) : Type 0 where
   pub settings : sc .settings ≡ b .settings
   pub inbound : sc .inbound ≡ inboundsOf (b .streams)
-  pub edges : EdgesOf (o .edges) (ownAt (sc .own) p)
-  pub pruned : o .pruned ≡ isPruned (sc .settings) (ownAt (sc .own) p) f
+  pub edges : EdgesOf (o .edges) (ownAt (sc .owns) p)
+  pub pruned : o .pruned ≡ isPruned (sc .settings) (ownAt (sc .owns) p) f
 
 -- stream k of a table, and the place t of its Talker, which is 0 where it has none
 pub record TalkerAt (s : List ℕ) (k t : ℕ) : Type 0 where

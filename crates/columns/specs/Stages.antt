@@ -113,7 +113,7 @@ admission p c b =
       settings = st;
       clock = b .clock;
       totals = set (b .totals) p (withTotal c (total l cs) (getD (b .totals) p noTotals));
-      own = b .own;
+      owns = b .owns;
       streams = map (admit st p c l cs) (b .streams);
     }
 

@@ -9,7 +9,7 @@ ghost use Rattle.octets.specs.Be.{beAt};
 ghost use Rattle.model.specs.Layout.{cellSize, entryPlace, fixedPlace, portSize, resultSize};
 ghost use Rattle.model.specs.State as state;
 ghost use Rattle.model.specs.State.{isNoClass, classLatency, portAt, cellAt, ownAt, failed};
-ghost use Rattle.model.specs.Settling.{Scene, sceneOf, isInbound, isPruned, sourceOf, fixedOf, healthOf, brokenColumn, stepI, stepsFrom, steps, ageOf, latencyOut, entryOf, ageKept};
+ghost use Rattle.model.specs.Settling.{Scene, sceneOf, isInbound, isPruned, sourceOf, fixedOf, talkerTypeOf, failedColumn, stepI, stepsFrom, steps, ageOf, latencyOut, entryOf, ageKept};
 ghost use Rattle.model.specs.Why.{firstName, columnBy};
 ghost use Rattle.model.specs.Table.{toPort, toCell, toResult, toEntry, toDeclared, entryNumber, resultOctets, encode, decode};
 ghost use Rattle.model.specs.Laid.{Laid};
@@ -110,7 +110,7 @@ fn at_edge(edges: Edges, class: ClassRead) -> bool
 // The flags that the port at place p has stored.
 fn stored_edges(table: &[u8], p: usize) -> Edges
     requires { ⌜ PortIn (now table) p ⌝ }
-    ensures { λ r. ⌜ EdgesOf r (ownAt (decode (now (table .entry)) .own) p) ⌝ }
+    ensures { λ r. ⌜ EdgesOf r (ownAt (decode (now (table .entry)) .owns) p) ⌝ }
 {
     let own = table::own_at(table, p);
     Edges {
@@ -122,7 +122,7 @@ fn stored_edges(table: &[u8], p: usize) -> Edges
 // Whether the port at place p gets no Talker of stream k: Talkers are pruned, and it doesn't hold the destination at place t.
 pub fn is_pruned(table: &[u8], k: usize, p: usize, t: usize) -> bool
     requires { ⌜ TalkerAt (now table) k t × (p < 8) ⌝ }
-    ensures { λ r. ⌜ r ≡ isPruned (decode (now (table .entry)) .settings) (ownAt (decode (now (table .entry)) .own) p)
+    ensures { λ r. ⌜ r ≡ isPruned (decode (now (table .entry)) .settings) (ownAt (decode (now (table .entry)) .owns) p)
         (fixedOf (sourceOf (streamAt k (decode (now (table .entry)))))) ⌝ }
 {
     if table::pruning(table) {
@@ -217,7 +217,7 @@ pub fn early_step(table: &[u8], k: usize, p: usize, t: usize, common: u8, own: O
 // The failure that the Talker's cell said has registered; none without one.
 fn failure_in(said: &[u8]) -> ColumnRead
     requires { ⌜ length (now said) ≡ cellSize ⌝ }
-    ensures { λ r. ⌜ ((t : ℕ) → columnShown r ≡ brokenColumn (healthOf (sourceIn t (toCell (now (said .entry)))))) ⌝ }
+    ensures { λ r. ⌜ ((t : ℕ) → columnShown r ≡ failedColumn (talkerTypeOf (sourceIn t (toCell (now (said .entry)))))) ⌝ }
 {
     if said[cell::TALKER] < 2 {
         return ColumnRead::None;

@@ -11,7 +11,7 @@ use lib.Dec.{leb, eqb}
 use borrow.Author.Tests.{lt-ltb, le-ltb, le-leb, lt-leb, eq-eqb, ne-eqb, eqb-true, eqb-false}
 use Rattle.model.specs.Lists.{All, longest}
 use Rattle.model.specs.Frames.{threeLength, fourLength}
-use Rattle.model.specs.Cutting.{mac, Part, joined, values, octetsFor}
+use Rattle.model.specs.Cutting.{mac, Part, concat, values, octetsFor}
 use Rattle.model.specs.Best.{price, weight, bests, best, least}
 use Rattle.cutting.specs.Plan.{none, entry, lower, farther, entries, less, back}
 use Rattle.cutting.specs.declared.Entry.{Entry}
@@ -93,9 +93,9 @@ entry-small : (l : List ℕ) → (entry (best l) .weighs ≤ 781 * length l) × 
 entry-small l =
     (omega (arith, entry-weighs (best l), best-under l (singles l) (singles-cut l) .0, singles-weigh l), go (best l) (best-cuts l .0))
   where
-    go : (c : List (List ℕ)) → joined c ≡ l → entry c .first ≤ length l
+    go : (c : List (List ℕ)) → concat c ≡ l → entry c .first ≤ length l
     go [] e = unfold entry in omega arith
-    go (g ∷ c) e = unfold entry in omega (arith, ap length e, length-append g (joined c))
+    go (g ∷ c) e = unfold entry in omega (arith, ap length e, length-append g (concat c))
 
 pub entry-fits : (l : List ℕ) (i : ℕ) → length l ≤ 64 → i ≤ length l → (getD (entries l) i none .weighs < 65536) × (getD (entries l) i none .first < 256)
 entry-fits l i h m =
@@ -129,15 +129,15 @@ next l i f h e = go (best (drop i l)) refl (best-cuts (drop i l) .0) (best-cuts 
     n : length (drop i l) ≡ length l - i
     n = length-drop i l
 
-    go : (c : List (List ℕ)) → best (drop i l) ≡ c → joined (best (drop i l)) ≡ drop i l → All Part (best (drop i l)) → f ≡ entry (best (drop i l)) .first → Next l i f
-    go [] b j v s = absurd (omega (arith, n, ap length (sym (ap joined b) ∙ j)))
+    go : (c : List (List ℕ)) → best (drop i l) ≡ c → concat (best (drop i l)) ≡ drop i l → All Part (best (drop i l)) → f ≡ entry (best (drop i l)) .first → Next l i f
+    go [] b j v s = absurd (omega (arith, n, ap length (sym (ap concat b) ∙ j)))
     go ([] ∷ d) b j v s = absurd ((rw b at v) .0)
     go ((x ∷ g) ∷ d) b j v s =
         let k : f ≡ suc (length g) = s ∙ rw b (unfold entry in refl) in
         let w = best-next (drop i l) (x ∷ g) d b in
         record {
           some = omega arith;
-          inside = omega (arith, n, ap length (sym (ap joined b) ∙ j), length-append (x ∷ g) (joined d));
+          inside = omega (arith, n, ap length (sym (ap concat b) ∙ j), length-append (x ∷ g) (concat d));
           vector =
               b ∙ ap₂ (λ (a : List ℕ) (z : List (List ℕ)). a ∷ z) (w .0 ∙ ap (λ (z : ℕ). take z (drop i l)) (sym k))
               (w .1 ∙ ap best (ap (λ (z : ℕ). drop z (drop i l)) (sym k) ∙ drop-drop f i l));

@@ -1,4 +1,4 @@
--- What a stream or a class declares of a type on a port is one declaration or none; how a walk over them passes over
+-- What a stream or a class declares of a type on a port is one declaration or none; how a walk over them skips some
 -- declarations, counts them and takes them.
 use Prim.Native.Nat.{ℕ, zero, suc, _+_, _-_, _≤_, _<_}
 use native.Mathlib.Numerals.{add-one}
@@ -11,7 +11,7 @@ use lib.Dec.{eqb}
 use Rattle.model.specs.Lists.{keep}
 use Rattle.model.specs.State.{Column, none, advertise, failed, askingFailed, ready, readyFailed, Declared, nothing, tells, Port, Settings, Result, Stream, Bridge, portAt, resultAt, streamAt, fresh, Class, classA, classB, supports}
 use Rattle.model.specs.Registrations.{Kind, advertises, faileds, listeners}
-use Rattle.model.specs.Frames.{Attribute, registers, domain}
+use Rattle.model.specs.Frames.{Attribute, registers, domainType}
 use Rattle.model.specs.WrittenFrames.{readyNumber}
 use Rattle.model.specs.Declarations.{Declaration, advertised, failing, listening, declarationsOf, ofKind, domainOf, domainValues}
 use Rattle.model.specs.Table.{columnNumber, declaredNumber}
@@ -41,7 +41,7 @@ one-of-stream listeners p x = go (resultAt x p .declares)
 at-most-one : (j : Attribute) (p : ℕ) (b : Bridge) (k : ℕ) → length (declaredBy j p b k) ≤ 1
 unfolding declaredBy declaresClass
 at-most-one (registers j) p b k = one-of-stream j p (streamAt k b)
-at-most-one domain p b k = go (supports (portAt (b .settings) p) (classAt k))
+at-most-one domainType p b k = go (supports (portAt (b .settings) p) (classAt k))
   where
     go : (t : Bool) → length (keep t (domainOf (b .settings) (classAt k)) []) ≤ 1
     go true = omega arith
@@ -81,7 +81,7 @@ some-class st q c = go (supports q c)
     go true = refl
     go false = refl
 
--- One or none in front of others: passed over, or taken.
+-- One or none in front of others: skipped, or taken.
 
 module _ {A : Type 0} where
   none-there : (l : List A) → some l ≡ false → l ≡ []
@@ -152,7 +152,7 @@ module _ (j : Attribute) (p : ℕ) (b : Bridge) where
     where
       go : (i : Attribute) → gather (declaredBy i p b) (declarers i b) 0 ≡ allOf i p b
       go (registers k) = streams-gathered k p (b .streams)
-      go domain = classes-gathered (b .settings) (portAt (b .settings) p)
+      go domainType = classes-gathered (b .settings) (portAt (b .settings) p)
 
   pub none-left : (k : ℕ) → declarers j b ≤ k → from k ≡ []
   none-left k h = let e : declarers j b - k ≡ 0 = omega arith in rw e (unfold gather in refl)

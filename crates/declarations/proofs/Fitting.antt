@@ -14,7 +14,7 @@ use Rattle.octets.proofs.Parts.{patch-none}
 use Rattle.model.specs.FrameLayout.{longestPdu}
 use Rattle.model.specs.Lists.{All, longest}
 use Rattle.model.specs.Registrations.{advertises, faileds, listeners}
-use Rattle.model.specs.Frames.{Attribute, registers, domain, typeNumber}
+use Rattle.model.specs.Frames.{Attribute, registers, domainType, typeNumber}
 use Rattle.model.specs.Declarations.{Declaration, attributeOf, vectorSize, vectorsSize, messageSize, fitting}
 use Rattle.model.specs.WrittenFrames.{messageOctets}
 use Rattle.model.proofs.Lists.{all-map, all-append, all-take, all-drop, longest-ends, longest-stops, longest-goes, longest-within, longest-same, longest-from}
@@ -109,7 +109,7 @@ unfolding vectorSize
 vector-some (registers advertises) = omega arith
 vector-some (registers faileds) = omega arith
 vector-some (registers listeners) = omega arith
-vector-some domain = omega arith
+vector-some domainType = omega arith
 
 not-listeners : (k : Attribute) → Single k → k ≡ registers listeners → ⊥
 not-listeners k s e = rw e at s
@@ -119,7 +119,7 @@ unfolding vectorsSize
 single-size (registers advertises) s l = refl
 single-size (registers faileds) s l = refl
 single-size (registers listeners) s l = absurd s
-single-size domain s l = refl
+single-size domainType s l = refl
 
 -- n of those of a type, in a PDU of so many octets without its EndMark
 module _ (k : Attribute) (one : Single k) (l : List Declaration) (own : All (OfAttribute k) l) (at n size left : ℕ) (z : size ≡ vectorSize k)
@@ -138,7 +138,7 @@ module _ (k : Attribute) (one : Single k) (l : List Declaration) (own : All (OfA
       ∙ message-some k (take n l) (omega arith)
       ∙ ap (λ (m : ℕ). 6 + m) (single-size k one (take n l) ∙ rw (long, z))
 
--- What a PDU with so many octets used takes of declarations, after passing over some of them.
+-- What a PDU with so many octets used takes of declarations, after skipping some of them.
 unfoldable pub runFrom : ℕ → ℕ → List Declaration → List Declaration
 runFrom used skip l = take (fitting used (drop skip l)) (drop skip l)
 
@@ -314,7 +314,7 @@ module _ (k : Attribute) (l : List Declaration) (s : Progress) (b : List ℕ) wh
           → Does record { at = s .at + long; skip = 0; next = s .next + n; full = ltb n left } (patch (s .at) long said b)
       pass-takes-some long q = rw (over, rest) at (does long q)
 
-  -- all are passed over
+  -- all are skipped
   pub pass-over : s .full ≡ false → (found : ℕ) → found ≡ length l → found ≤ s .skip
       → Does record { at = s .at; skip = s .skip - found; next = s .next; full = false } b
   pass-over unfilled found d h =

@@ -11,11 +11,11 @@ use Rattle.octets.specs.Fields.{packed, width, flat}
 use Rattle.octets.proofs.Fields.{packed-append, part-run}
 use Rattle.model.specs.Layout.{sum, before, fixedWidths, latencyOutPlace, resultWidths, varyingWidths}
 use Rattle.model.specs.Lists.{keep, bit}
-use Rattle.model.specs.State.{Health, sound, broken, Column, none, advertise, failed, Result, Stream, Port, Settings, resultAt, Class, supports, classId}
+use Rattle.model.specs.State.{TalkerType, talkerAdvertise, talkerFailed, Column, none, advertise, failed, Result, Stream, Port, Settings, resultAt, Class, supports, classId}
 use Rattle.model.specs.Registrations.{advertises, faileds}
 use Rattle.model.specs.Frames.{registers, firstWidths}
 use Rattle.model.specs.WrittenFrames.{fixedNumbers, failureNumbers, firstNumbers, fourOctets, declarationVector, vectorOctets}
-use Rattle.model.specs.Declarations.{talkerDeclaration, healthKind, attributeOf, advertised, failing, declarationsOf, domainOf}
+use Rattle.model.specs.Declarations.{talkerDeclaration, talkerKind, attributeOf, advertised, failing, declarationsOf, domainOf}
 use Rattle.model.specs.Table.{columnBridge, columnCode, resultNumbers, resultOctets}
 use Rattle.table.specs.Reads.{fixedOctets, ReadsResult}
 use Rattle.declarations.specs.Vectors.{some, headed, talkerBegun, talkerVector, domainVector}
@@ -28,8 +28,8 @@ unfolding width resultOctets resultNumbers
 result-fields r k few = part-run resultWidths (resultNumbers r) 1 k refl few
 
 -- The vector of a Talker, with the fields that follow StreamID and settled values.
-talker-vector : (x : Stream) (h : Health) (latency : ℕ) (ws : List ℕ) → firstWidths (registers (healthKind h)) ≡ 8 ∷ (fixedWidths ++ ws)
-    → vectorOctets (declarationVector (talkerDeclaration (x .id) (x .settled) record { health = h; latency = latency }))
+talker-vector : (x : Stream) (h : TalkerType) (latency : ℕ) (ws : List ℕ) → firstWidths (registers (talkerKind h)) ≡ 8 ∷ (fixedWidths ++ ws)
+    → vectorOctets (declarationVector (talkerDeclaration (x .id) (x .settled) record { type = h; latency = latency }))
     ≡ (talkerBegun x ++ packed ws (latency ∷ failureNumbers h)) ++ (108 ∷ [])
 unfolding vectorOctets declarationVector fourOctets firstNumbers attributeOf bit packed headed talkerBegun fixedOctets
 talker-vector x h latency ws e =
@@ -37,17 +37,17 @@ talker-vector x h latency ws e =
 
 advertised-octets : (x : Stream) (r : Result) (c : Column) → some (advertised x r c) ≡ true
     → vectors (advertised x r c) ≡ (talkerBegun x ++ packed (take 1 varyingWidths) (r .latency ∷ [])) ++ (108 ∷ [])
-unfolding some vectors flat advertised firstWidths healthKind failureNumbers
+unfolding some vectors flat advertised firstWidths talkerKind failureNumbers
 advertised-octets x r none q = cc
-advertised-octets x r advertise q = append-nil _ ∙ talker-vector x sound (r .latency) (take 1 varyingWidths) refl
+advertised-octets x r advertise q = append-nil _ ∙ talker-vector x talkerAdvertise (r .latency) (take 1 varyingWidths) refl
 advertised-octets x r (failed b c) q = cc
 
 failing-octets : (x : Stream) (r : Result) (c : Column) → some (failing x r c) ≡ true
     → vectors (failing x r c) ≡ (talkerBegun x ++ packed varyingWidths (r .latency ∷ columnBridge c ∷ columnCode c ∷ [])) ++ (108 ∷ [])
-unfolding some vectors flat failing firstWidths healthKind failureNumbers columnBridge columnCode
+unfolding some vectors flat failing firstWidths talkerKind failureNumbers columnBridge columnCode
 failing-octets x r none q = cc
 failing-octets x r advertise q = cc
-failing-octets x r (failed b c) q = append-nil _ ∙ talker-vector x (broken b c) (r .latency) varyingWidths refl
+failing-octets x r (failed b c) q = append-nil _ ∙ talker-vector x (talkerFailed b c) (r .latency) varyingWidths refl
 
 -- What is written is the vector of what is declared.
 module _ (p : ℕ) (x : Stream) where

@@ -16,7 +16,7 @@ use Rattle.octets.proofs.Be.{length-be, be-zero}
 use Rattle.model.specs.Lists.{All, keep}
 use Rattle.model.specs.State.{Bridge, portAt}
 use Rattle.model.specs.Registrations.{advertises, faileds, listeners}
-use Rattle.model.specs.Frames.{Attribute, registers, domain, typeNumber, firstLength}
+use Rattle.model.specs.Frames.{Attribute, registers, domainType, typeNumber, firstLength}
 use Rattle.model.specs.Declarations.{Declaration, attributeOf, sameAttribute, having, domainValues, declarations, takes}
 use Rattle.model.specs.WrittenFrames.{declarationVector, vectorsOf, vectorOctets, messageOf, messageOctets, pduOctets}
 use Rattle.model.proofs.WritingPasses.{inTurn, OfAttribute, ofKind-attribute, domains-attribute, having-append, takes-within}
@@ -107,7 +107,7 @@ unfolding vectors vectorsOf
 singles-vectors (registers advertises) s run = vectors-each run
 singles-vectors (registers faileds) s run = vectors-each run
 singles-vectors (registers listeners) s run = absurd s
-singles-vectors domain s run = vectors-each run
+singles-vectors domainType s run = vectors-each run
 
 -- The Messages of a PDU, type by type.
 
@@ -133,7 +133,7 @@ module _ (of : Attribute → List Declaration) (own : (k : Attribute) → All (O
         having-of (registers advertises) k,
         having-of (registers faileds) k,
         having-of (registers listeners) k,
-        having-of domain k,
+        having-of domainType k,
       )
       (go k)
     where
@@ -141,14 +141,14 @@ module _ (of : Attribute → List Declaration) (own : (k : Attribute) → All (O
       go (registers advertises) = append-nil (of (registers advertises))
       go (registers faileds) = append-nil (of (registers faileds))
       go (registers listeners) = append-nil (of (registers listeners))
-      go domain = refl
+      go domainType = refl
 
   pdu-of-each : pduOctets (inTurn of)
       ≡ 0 ∷ (messageOctets (registers advertises) (of (registers advertises))
       ++ (messageOctets (registers faileds) (of (registers faileds))
-      ++ (messageOctets (registers listeners) (of (registers listeners)) ++ (messageOctets domain (of domain) ++ (0 ∷ 0 ∷ [])))))
+      ++ (messageOctets (registers listeners) (of (registers listeners)) ++ (messageOctets domainType (of domainType) ++ (0 ∷ 0 ∷ [])))))
   unfolding pduOctets
-  pdu-of-each = rw (only (registers advertises), only (registers faileds), only (registers listeners), only domain)
+  pdu-of-each = rw (only (registers advertises), only (registers faileds), only (registers listeners), only domainType)
 
 -- the version octet
 holding-version : (b : List ℕ) → 1 ≤ length b → Holding (0 ∷ []) 1 b (set b 0 0)
@@ -170,7 +170,7 @@ behind-version a f l d e = simp append-assoc
 pub of-type : (k : Attribute) (p : ℕ) (b : Bridge) → All (OfAttribute k) (allOf k p b)
 unfolding allOf
 of-type (registers k) p b = ofKind-attribute k p (b .streams)
-of-type domain p b = domains-attribute (b .settings) (portAt (b .settings) p)
+of-type domainType p b = domains-attribute (b .settings) (portAt (b .settings) p)
 
 -- From a place on, of the declarations of port p: how far the PDU is before each pass and at the end.
 module _ (p place : ℕ) (b : Bridge) where
@@ -190,14 +190,14 @@ module _ (p place : ℕ) (b : Bridge) where
   fourth = passed (registers listeners) (of (registers listeners)) third
 
   abbrev last : Progress
-  last = passed domain (of domain) fourth
+  last = passed domainType (of domainType) fourth
 
   -- before the pass of a type, and what that pass takes
   abbrev start : Attribute → Progress
   start (registers advertises) = begun place
   start (registers faileds) = second
   start (registers listeners) = third
-  start domain = fourth
+  start domainType = fourth
 
   abbrev took : Attribute → List Declaration
   took k = taken k (of k) (start k)
@@ -212,7 +212,7 @@ module _ (p place : ℕ) (b : Bridge) where
   run = take (takes rest) rest
 
   abbrev types : List Attribute
-  types = registers advertises ∷ registers faileds ∷ registers listeners ∷ domain ∷ []
+  types = registers advertises ∷ registers faileds ∷ registers listeners ∷ domainType ∷ []
 
   declared-each : each of own types ≡ declarations (b .settings) p (b .streams)
   unfolding each allOf declarations
@@ -223,7 +223,7 @@ module _ (p place : ℕ) (b : Bridge) where
   run-passes =
       ap (remaining (begun place)) (sym declared-each)
       ∙ passes-take of own types ((omega arith, (omega arith, (omega arith, tt))), ((omega arith, (omega arith, tt)), ((omega arith, tt), (tt, tt)))) (begun place)
-      ∙ rw (append-nil (took domain))
+      ∙ rw (append-nil (took domainType))
 
   pub next-place : last .next ≡ place + takes rest
   next-place =
@@ -231,14 +231,14 @@ module _ (p place : ℕ) (b : Bridge) where
       let a = took (registers advertises) in
       let f = took (registers faileds) in
       let l = took (registers listeners) in
-      let d = took domain in
+      let d = took domainType in
       omega (
         arith,
         e,
         passed-next (registers advertises) (of (registers advertises)) (begun place),
         passed-next (registers faileds) (of (registers faileds)) second,
         passed-next (registers listeners) (of (registers listeners)) third,
-        passed-next domain (of domain) fourth,
+        passed-next domainType (of domainType) fourth,
         length-append a (f ++ (l ++ d)),
         length-append f (l ++ d),
         length-append l d,
@@ -246,17 +246,17 @@ module _ (p place : ℕ) (b : Bridge) where
         length-take-le (takes rest) rest (takes-within rest),
       )
 
-  octets-pdu : pduOctets run ≡ (((((0 ∷ []) ++ said (registers advertises)) ++ said (registers faileds)) ++ said (registers listeners)) ++ said domain) ++ be 2 0
+  octets-pdu : pduOctets run ≡ (((((0 ∷ []) ++ said (registers advertises)) ++ said (registers faileds)) ++ said (registers listeners)) ++ said domainType) ++ be 2 0
   octets-pdu =
       ap pduOctets run-passes
       ∙ pdu-of-each took (λ k. taken-attribute k (of k) (own k) (start k))
-      ∙ sym (behind-version (said (registers advertises)) (said (registers faileds)) (said (registers listeners)) (said domain) (be 2 0) ∙ (rw (be-zero 2)))
+      ∙ sym (behind-version (said (registers advertises)) (said (registers faileds)) (said (registers listeners)) (said domainType) (be 2 0) ∙ (rw (be-zero 2)))
 
   -- the buffer after the passes and the EndMark
   pub pdu-written : (c : List ℕ) → 1 ≤ length c
       → Holding (pduOctets run) (last .at + 2) c
       (patch (last .at) 2 (be 2 0)
-      (written domain (of domain) fourth
+      (written domainType (of domainType) fourth
       (written (registers listeners) (of (registers listeners)) third
       (written (registers faileds) (of (registers faileds)) second (written (registers advertises) (of (registers advertises)) (begun place) (set c 0 0))))))
   pdu-written c long =
@@ -264,7 +264,7 @@ module _ (p place : ℕ) (b : Bridge) where
       let h₁ = holding-pass (registers advertises) (of (registers advertises)) (begun place) _ c _ h₀ in
       let h₂ = holding-pass (registers faileds) (of (registers faileds)) second _ c _ h₁ in
       let h₃ = holding-pass (registers listeners) (of (registers listeners)) third _ c _ h₂ in
-      let h₄ = holding-pass domain (of domain) fourth _ c _ h₃ in
+      let h₄ = holding-pass domainType (of domainType) fourth _ c _ h₃ in
       rw octets-pdu (holding-more h₄ (be 2 0) 2 (length-be 2 0))
 
   -- as the calls of the passes give it
@@ -272,13 +272,13 @@ module _ (p place : ℕ) (b : Bridge) where
       → PassLeaves (registers advertises) (of (registers advertises)) (begun place) (set c 0 0) r₁ c₁
       → PassLeaves (registers faileds) (of (registers faileds)) r₁ c₁ r₂ c₂
       → PassLeaves (registers listeners) (of (registers listeners)) r₂ c₂ r₃ c₃
-      → PassLeaves domain (of domain) r₃ c₃ r₄ c₄ → c₅ ≡ patch (r₄ .at) 2 (be 2 0) c₄
+      → PassLeaves domainType (of domainType) r₃ c₃ r₄ c₄ → c₅ ≡ patch (r₄ .at) 2 (be 2 0) c₄
       → PduWritten rest place c (record { length = r₄ .at + 2; next = r₄ .next }) c₅
   pdu-answer {c = c} {r₄ = r₄} long a f l d e =
       let h = pdu-written c long in
       let third-is = f .progress ∙ ap (passed (registers faileds) (of (registers faileds))) (a .progress) in
       let fourth-is = l .progress ∙ ap (passed (registers listeners) (of (registers listeners))) third-is in
-      let last-is : r₄ ≡ last = d .progress ∙ ap (passed domain (of domain)) fourth-is in
+      let last-is : r₄ ≡ last = d .progress ∙ ap (passed domainType (of domainType)) fourth-is in
       record {
         size = ap (λ (r : Progress). r .at + 2) last-is ∙ sym (h .long);
         next = ap (λ (r : Progress). r .next) last-is ∙ next-place;

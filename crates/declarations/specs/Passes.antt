@@ -12,7 +12,7 @@ use Rattle.model.specs.Lists.{keep}
 use Rattle.model.specs.State.{Port, Settings, Stream, Bridge, portAt, resultAt, streamAt, Class, classA, classB, supports}
 use Rattle.model.specs.Registrations.{Kind, advertises, faileds, listeners}
 use Rattle.model.specs.Frames as frames
-use Rattle.model.specs.Frames.{registers, domain}
+use Rattle.model.specs.Frames.{registers, domainType}
 use Rattle.model.specs.Declarations.{Declaration, declarationsOf, ofKind, domainOf, domainValues, vectorSize, fitting, takes}
 use Rattle.model.specs.WrittenFrames.{declarationVector, vectorOctets, messageOctets, pduOctets}
 use Rattle.model.specs.Table.{decode}
@@ -29,7 +29,7 @@ unfoldable pub type : Attribute → frames.Attribute
 type Advertise = registers advertises
 type Failed = registers faileds
 type Listener = registers listeners
-type Domain = domain
+type Domain = domainType
 
 -- what a stream declares of a type on port p: one declaration or none
 unfoldable pub declares : Kind → ℕ → Stream → List Declaration
@@ -46,16 +46,16 @@ declaresClass st q c = keep (supports q c) (domainOf st c) []
 -- what may declare something of a type, by its place: each stream, or each class
 unfoldable pub declarers : frames.Attribute → Bridge → ℕ
 declarers (registers k) b = length (b .streams)
-declarers domain b = 2
+declarers domainType b = 2
 
 unfoldable pub declaredBy : frames.Attribute → ℕ → Bridge → ℕ → List Declaration
 declaredBy (registers j) p b k = declares j p (streamAt k b)
-declaredBy domain p b k = declaresClass (b .settings) (portAt (b .settings) p) (classAt k)
+declaredBy domainType p b k = declaresClass (b .settings) (portAt (b .settings) p) (classAt k)
 
 -- and what all of them do
 unfoldable pub allOf : frames.Attribute → ℕ → Bridge → List Declaration
 allOf (registers k) p b = ofKind k p (b .streams)
-allOf domain p b = domainValues (b .settings) (portAt (b .settings) p)
+allOf domainType p b = domainValues (b .settings) (portAt (b .settings) p)
 
 unfoldable pub vectors : List Declaration → List ℕ
 vectors l = flat (λ d. vectorOctets (declarationVector d)) l
@@ -69,7 +69,7 @@ abbrev pub Single : frames.Attribute → Type 0
 Single (registers advertises) = Unit {0}
 Single (registers faileds) = Unit {0}
 Single (registers listeners) = ⊥
-Single domain = Unit {0}
+Single domainType = Unit {0}
 
 -- a declarer of a type stands at place k
 pub record Declarer (t : List ℕ) (k p : ℕ) (j : frames.Attribute) : Type 0 where

@@ -7,7 +7,7 @@ use lib.ListN.{length, drop}
 use Rattle.octets.specs.Be.{be}
 use Rattle.octets.specs.Parts.{part}
 use Rattle.model.specs.Layout.{latencyOutPlace, resultSize}
-use Rattle.model.specs.FrameLayout.{firstLatency}
+use Rattle.model.specs.FrameLayout.{inFirstValue}
 use Rattle.model.specs.State.{Settings, Stream, resultAt, Class, classPriority, classId}
 use Rattle.model.specs.Table.{resultOctets}
 use Rattle.table.specs.Places.{StandsOn}
@@ -42,4 +42,4 @@ domainVector st c = (((be 2 1 ++ be 1 (classId c)) ++ be 1 (classPriority st c))
 pub record TalkerIn (t : List ℕ) (k p more : ℕ) (out : List ℕ) : Type 0 where
   pub places : StandsOn t k p
   pub within : latencyOutPlace + more ≤ resultSize
-  pub room : length out ≡ 2 + firstLatency + more + 1
+  pub room : length out ≡ 2 + inFirstValue.latency + more + 1

@@ -8,7 +8,7 @@ ghost use lib.ListN.{length, getD, drop};
 ghost use lib.Dec.{eqb};
 ghost use Rattle.octets.specs.Be.{be};
 ghost use Rattle.octets.specs.Parts.{part};
-ghost use Rattle.model.specs.FrameLayout.{domainLength, firstDestination, firstLatency};
+ghost use Rattle.model.specs.FrameLayout.{domainLength, inFirstValue};
 ghost use Rattle.model.specs.State as state;
 ghost use Rattle.model.specs.State.{portAt, resultAt, streamAt, classPriority};
 ghost use Rattle.model.specs.Registrations.{listeners};
@@ -206,8 +206,8 @@ pub fn count_declarations(table: &[u8], p: usize) -> usize
 
 // The header of a vector, so many values and no LeaveAll, and a StreamID.
 fn begin_vector(values: u64, id: u64, out: &mut [u8])
-    requires { ⌜ 2 + firstDestination ≤ length (now out) ⌝ }
-    ensures { λ _. ⌜ Holding (headed values id) (2 + firstDestination) (now (out .entry)) (now (out .exit)) ⌝ }
+    requires { ⌜ 2 + inFirstValue.destination ≤ length (now out) ⌝ }
+    ensures { λ _. ⌜ Holding (headed values id) (2 + inFirstValue.destination) (now (out .entry)) (now (out .exit)) ⌝ }
 {
     octets::put(out, 0, FIRST, values);
     octets::put(out, FIRST, 8, id);
@@ -215,8 +215,8 @@ fn begin_vector(values: u64, id: u64, out: &mut [u8])
 
 // The same with the stream's settled values behind its StreamID.
 fn begin_talker(table: &[u8], k: usize, out: &mut [u8])
-    requires { ⌜ Stands (now table) k × (2 + firstLatency ≤ length (now out)) ⌝ }
-    ensures { λ _. ⌜ Holding (talkerBegun (streamAt k (decode (now (table .entry))))) (2 + firstLatency) (now (out .entry)) (now (out .exit)) ⌝ }
+    requires { ⌜ Stands (now table) k × (2 + inFirstValue.latency ≤ length (now out)) ⌝ }
+    ensures { λ _. ⌜ Holding (talkerBegun (streamAt k (decode (now (table .entry))))) (2 + inFirstValue.latency) (now (out .entry)) (now (out .exit)) ⌝ }
 {
     begin_vector(1, table::id_at(table, k), out);
     let settled = table::settled_at(table, k);
@@ -276,7 +276,7 @@ fn write_vector(table: &[u8], k: usize, p: usize, attribute: Attribute, out: &mu
     }
 }
 
-// Declarations of a type that a Message takes: so many of them, after passing over some.
+// Declarations of a type that a Message takes: so many of them, after skipping some.
 pub struct Run {
     pub attribute: Attribute,
     pub skip: usize,
@@ -401,7 +401,7 @@ fn take_run(
     }
 }
 
-// The places of streams that declare a Listener on port p, after passing over some; as many as there is room for.
+// The places of streams that declare a Listener on port p, after skipping some; as many as there is room for.
 fn gather(table: &[u8], p: usize, skip: usize, places: &mut [u8])
     requires { ⌜ PlacesIn (now table) p skip (now places) ⌝ }
     ensures { λ _. ⌜ Placed (now (table .entry)) p skip (now (places .exit)) ⌝ }

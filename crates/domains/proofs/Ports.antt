@@ -16,7 +16,7 @@ use Rattle.octets.proofs.Parts.{lent-part}
 use Rattle.octets.proofs.Frame.{getD-part}
 use Rattle.octets.proofs.Patches.{lent-patch, patch-front}
 use Rattle.octets.proofs.Fields.{length-packed-any, patch-behind, put-field}
-use Rattle.model.specs.Layout.{boundaryBPlace, boundaryPlace, boundaryWidths, heldField, slotIn, slotSize, slots, slotsSize}
+use Rattle.model.specs.Layout.{boundaryBPlace, boundaryPlace, boundaryWidths, slotRegisteredField, slotIn, slotSize, slots, slotsSize}
 use Rattle.model.specs.Lists.{bit}
 use Rattle.model.specs.State.{Settings, Domain, noDomain, domain, Own}
 use Rattle.model.specs.Registrations.{at, changeDomains}
@@ -115,7 +115,7 @@ module _ (s : List ℕ) (from : ℕ) (k : ClassIn s from) where
         drop-cons those q noDomain (omega (arith, eight))
         ∙ (unfold classFrom in rw (add-one q, getD-take 8 (drop from ds) q noDomain h, getD-drop from ds q noDomain))
 
-    octet : getD s (slotIn (from + q)) 0 ≡ getD (domainNumbers here) heldField 0
+    octet : getD s (slotIn (from + q)) 0 ≡ getD (domainNumbers here) slotRegisteredField 0
     octet =
         let j = from + q in
         let low : j < slots = omega (arith, k .within) in
@@ -139,7 +139,7 @@ module _ (s : List ℕ) (from : ℕ) (k : ClassIn s from) where
           go : (d : Domain) → here ≡ d → isDomain d ≡ false
           go noDomain p = unfold isDomain in refl
           go (domain v l) p =
-              let one : getD (domainNumbers here) heldField 0 ≡ 1 = rw p (unfold domainNumbers in refl) in
+              let one : getD (domainNumbers here) slotRegisteredField 0 ≡ 1 = rw p (unfold domainNumbers in refl) in
               absurd (omega (arith, one, octet, rw e at z))
 
       pub any-here : (getD s a 0 ≡ 0 → ⊥) → anyDomain (drop q those) ≡ true

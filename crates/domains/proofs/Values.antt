@@ -11,7 +11,7 @@ use Rattle.octets.specs.Parts.{part, patch, zeros}
 use Rattle.octets.specs.Pick.{pick}
 use Rattle.octets.specs.Fields.{packed, width}
 use Rattle.octets.proofs.Fields.{get-octet, put-field}
-use Rattle.model.specs.Layout.{heldField, slotLeavesField, slotLeavesPlace, slotSinceField, slotSize, slotVlanField, slotVlanPlace, slotWidths}
+use Rattle.model.specs.Layout.{slotRegisteredField, slotLeavesField, slotLeavesPlace, slotSinceField, slotSize, slotVlanField, slotVlanPlace, slotWidths}
 use Rattle.model.specs.State.{Settings, Leaving, stays, since, Domain, noDomain, domain}
 use Rattle.model.specs.Registrations.{begin, quitDomain}
 use Rattle.model.specs.Settling.{expired, expireDomain}
@@ -30,9 +30,9 @@ laid P h s l =
     subst (λ (t : List ℕ). P t (toDomain s)) (sym (l .is)) (subst (P (domainOctets (l .thing))) (sym back) (h (l .thing) (l .fits)))
 
 -- the octet that says whether it is registered
-pub held-octet : (d : Domain) → FitDomain d → getD (domainOctets d) heldField 0 ≡ getD (domainNumbers d) heldField 0
+pub held-octet : (d : Domain) → FitDomain d → getD (domainOctets d) slotRegisteredField 0 ≡ getD (domainNumbers d) slotRegisteredField 0
 unfolding domainOctets width
-held-octet d f = get-octet slotWidths (domainNumbers d) f heldField refl
+held-octet d f = get-octet slotWidths (domainNumbers d) f slotRegisteredField refl
 
 -- Lv and LeaveAll.
 
@@ -49,21 +49,21 @@ begun-is clock v l f =
     go (since t) = unfold domainNumbers leavingNumber sinceNumber begin pick in refl
 
 module _ (clock : ℕ) where
-  held-begins : (d : Domain) → FitDomain d → 0 < getD (domainOctets d) heldField 0 → begun slotLeavesPlace clock (domainOctets d) ≡ domainOctets (quitDomain clock d)
+  held-begins : (d : Domain) → FitDomain d → 0 < getD (domainOctets d) slotRegisteredField 0 → begun slotLeavesPlace clock (domainOctets d) ≡ domainOctets (quitDomain clock d)
   unfolding domainNumbers quitDomain
   held-begins noDomain f h = absurd (omega (arith, held-octet noDomain f))
   held-begins (domain v l) f h = begun-is clock v l f
 
-  free-stays : (d : Domain) → FitDomain d → getD (domainOctets d) heldField 0 ≡ 0 → domainOctets d ≡ domainOctets (quitDomain clock d)
+  free-stays : (d : Domain) → FitDomain d → getD (domainOctets d) slotRegisteredField 0 ≡ 0 → domainOctets d ≡ domainOctets (quitDomain clock d)
   unfolding domainNumbers quitDomain
   free-stays noDomain f h = refl
   free-stays (domain v l) f h = absurd (omega (arith, held-octet (domain v l) f))
 
-  pub quits : (s : List ℕ) → LaidDomain s → 0 < getD s heldField 0 → begun slotLeavesPlace clock s ≡ domainOctets (quitDomain clock (toDomain s))
-  quits = laid (λ s d. 0 < getD s heldField 0 → begun slotLeavesPlace clock s ≡ domainOctets (quitDomain clock d)) held-begins
+  pub quits : (s : List ℕ) → LaidDomain s → 0 < getD s slotRegisteredField 0 → begun slotLeavesPlace clock s ≡ domainOctets (quitDomain clock (toDomain s))
+  quits = laid (λ s d. 0 < getD s slotRegisteredField 0 → begun slotLeavesPlace clock s ≡ domainOctets (quitDomain clock d)) held-begins
 
-  pub quits-none : (s : List ℕ) → LaidDomain s → getD s heldField 0 ≡ 0 → s ≡ domainOctets (quitDomain clock (toDomain s))
-  quits-none = laid (λ s d. getD s heldField 0 ≡ 0 → s ≡ domainOctets (quitDomain clock d)) free-stays
+  pub quits-none : (s : List ℕ) → LaidDomain s → getD s slotRegisteredField 0 ≡ 0 → s ≡ domainOctets (quitDomain clock (toDomain s))
+  quits-none = laid (λ s d. getD s slotRegisteredField 0 ≡ 0 → s ≡ domainOctets (quitDomain clock d)) free-stays
 
 -- Joins.
 
@@ -73,8 +73,8 @@ unfolding domainOctets width
 joins v s e =
     let none = domainNumbers noDomain in
     ap (λ (t : List ℕ). patch slotVlanPlace 2 (be 2 v) (patch 0 1 (be 1 1) t)) (patch-whole slotSize (zeros slotSize) s e ∙ sym domain-zeros)
-    ∙ unfold domainNumbers leavingNumber sinceNumber in (ap (patch slotVlanPlace 2 (be 2 v)) (put-field slotWidths none heldField 1 refl)
-    ∙ put-field slotWidths (set none heldField 1) slotVlanField v refl)
+    ∙ unfold domainNumbers leavingNumber sinceNumber in (ap (patch slotVlanPlace 2 (be 2 v)) (put-field slotWidths none slotRegisteredField 1 refl)
+    ∙ put-field slotWidths (set none slotRegisteredField 1) slotVlanField v refl)
 
 -- Expiry.
 

@@ -66,16 +66,16 @@ module _ (clock leave : ℕ) (s : List ℕ) (h : length s ≡ cellSize) where
       ∙ sym (zero-fields (between changedField listenerField cellWidths) changedPlace s (omega arith))
       ∙ sym (talker-gone clock leave (fields cellWidths 0 s) (sym (beAt-one s talkerPlace) ∙ k))
 
-  pub sound-talker : (z : Bool) → getD s talkerPlace 0 ≡ 1 → (t : Bool) → t ≡ allTrue (take 3 (drop 1 rules))
+  pub advertise-talker : (z : Bool) → getD s talkerPlace 0 ≡ 1 → (t : Bool) → t ≡ allTrue (take 3 (drop 1 rules))
       → z ≡ allZero (take failureSize (drop bridgePlace s)) → (t && z) ≡ allTrue (take 6 rules)
   unfolding cellRules fields allTrue width part
-  sound-talker z k t f e =
+  advertise-talker z k t f e =
       rw (f, e, ← (zero-fields failureWidths bridgePlace s (omega arith)), ← (beAt-one s talkerPlace), k) simp (and-assoc, and-true)
 
-  pub broken-talker : (getD s talkerPlace 0 ≡ 0 → ⊥) → (getD s talkerPlace 0 ≡ 1 → ⊥) → (t : Bool) → t ≡ allTrue (take 3 (drop 1 rules))
+  pub failed-talker : (getD s talkerPlace 0 ≡ 0 → ⊥) → (getD s talkerPlace 0 ≡ 1 → ⊥) → (t : Bool) → t ≡ allTrue (take 3 (drop 1 rules))
       → (leb (getD s talkerPlace 0) 2 && t) ≡ allTrue (take 6 rules)
   unfolding cellRules fields allTrue
-  broken-talker k l t f = rw (f, ← (beAt-one s talkerPlace), ne-eqb (getD s talkerPlace 0) 0 k, ne-eqb (getD s talkerPlace 0) 1 l) refl
+  failed-talker k l t f = rw (f, ← (beAt-one s talkerPlace), ne-eqb (getD s talkerPlace 0) 0 k, ne-eqb (getD s talkerPlace 0) 1 l) refl
 
   pub listener-there : (since : ℕ) → since ≡ beAt 4 s listenerSincePlace → getD s listenerLeavesPlace 0 ≡ 0
       → (leb (getD s listenerPlace 0) 3 && eqb since 0) ≡ allTrue (drop 6 rules)
@@ -101,4 +101,4 @@ module _ (clock leave : ℕ) (s : List ℕ) (h : length s ≡ cellSize) where
       (ap (λ (b : Bool). leb (getD s listenerPlace 0) 3 && b) (and-comm (not (eqb (getD s listenerPlace 0) 0)) _))
 
 -- what closes the needs of a cell's tests
-pub ruleset by-octets = (needs, registration-rules, no-talker, sound-talker, broken-talker, listener-there, listener-leaving)
+pub ruleset by-octets = (needs, registration-rules, no-talker, advertise-talker, failed-talker, listener-there, listener-leaving)

@@ -12,7 +12,7 @@ use Rattle.octets.specs.Be.{beAt}
 use Rattle.octets.specs.Parts.{part}
 use Rattle.octets.specs.Fields.{fields}
 use Rattle.octets.proofs.Fields.{beAt-one}
-use Rattle.model.specs.Layout.{addressLeavesPlace, addressSize, addressWidths, addresses, addressesPlace, addressesSize, before, boundaryBPlace, boundaryPlace, heldPlace, inAddress, ownSize, slotLeavesPlace, slotSinceField, slotSize, slotVlanPlace, slotWidths, slots}
+use Rattle.model.specs.Layout.{addressLeavesPlace, addressSize, addressWidths, mostAddresses, addressesPlace, addressesSize, before, boundaryBPlace, boundaryPlace, addressCountPlace, inAddress, ownSize, slotLeavesPlace, slotSinceField, slotSize, slotVlanPlace, slotWidths, slots}
 use Rattle.model.specs.Lists.{allTrue, parts, allZero}
 use Rattle.model.specs.Table.{everyPart, leavingRule, domainRules, domainFormed, addressRules, addressFormed, addressesHeld, addressesPart, slotsPart, rising, macOf, ownRules, ownFormed}
 use Rattle.form.proofs.Tests.{or-implies}
@@ -32,20 +32,20 @@ module _ (clock leave : ℕ) (s : List ℕ) where
   address-rules since f t e = rw (e, f, beAt-one s 0, beAt-one s addressLeavesPlace, and-true)
 
   -- the addresses held, which were lent
-  pub too-many-addresses : addresses < getD s heldPlace 0 → false ≡ allTrue (drop 3 (ownRules clock leave s))
+  pub too-many-addresses : mostAddresses < getD s addressCountPlace 0 → false ≡ allTrue (drop 3 (ownRules clock leave s))
   unfolding ownRules addressesHeld allTrue
-  too-many-addresses h = rw (lt-leb (getD s heldPlace 0) addresses h)
+  too-many-addresses h = rw (lt-leb (getD s addressCountPlace 0) mostAddresses h)
 
-  pub held-tests : length s ≡ ownSize → getD s heldPlace 0 ≤ addresses → (l : List ℕ) → l ≡ take addressesSize (drop addressesPlace s)
-      → allTrue (everyPart addressSize (addressFormed clock leave) (getD s heldPlace 0) l
-      ∷ rising (parts addressSize macOf (getD s heldPlace 0) l)
-      ∷ allZero (drop (getD s heldPlace 0 * addressSize) l)
+  pub held-tests : length s ≡ ownSize → getD s addressCountPlace 0 ≤ mostAddresses → (l : List ℕ) → l ≡ take addressesSize (drop addressesPlace s)
+      → allTrue (everyPart addressSize (addressFormed clock leave) (getD s addressCountPlace 0) l
+      ∷ rising (parts addressSize macOf (getD s addressCountPlace 0) l)
+      ∷ allZero (drop (getD s addressCountPlace 0 * addressSize) l)
       ∷ [])
       ≡ allTrue (drop 3 (ownRules clock leave s))
   unfolding ownRules addressesHeld addressesPart allTrue
   held-tests whole few l e =
       let all : l ≡ drop addressesPlace s = e ∙ take-all addressesSize (drop addressesPlace s) (omega (arith, length-drop addressesPlace s)) in
-      rw (le-leb (getD s heldPlace 0) addresses few, all)
+      rw (le-leb (getD s addressCountPlace 0) mostAddresses few, all)
 
   pub own-rules : (t u : Bool) → t ≡ everyPart slotSize (domainFormed clock leave) slots (take (boundaryPlace - 0) (drop 0 s))
       → u ≡ allTrue (drop 3 (ownRules clock leave s))
@@ -53,5 +53,5 @@ module _ (clock leave : ℕ) (s : List ℕ) where
   unfolding ownFormed ownRules slotsPart part allTrue
   own-rules t u e f = rw (e, f) simp and-assoc
 
-pub addresses-room : (s : List ℕ) (n : ℕ) → length s ≡ ownSize → n ≤ addresses → n * addressSize ≤ length (take addressesSize (drop addressesPlace s))
+pub addresses-room : (s : List ℕ) (n : ℕ) → length s ≡ ownSize → n ≤ mostAddresses → n * addressSize ≤ length (take addressesSize (drop addressesPlace s))
 addresses-room s n h few = omega (arith, length-take-le addressesSize (drop addressesPlace s) (omega (arith, length-drop addressesPlace s)))

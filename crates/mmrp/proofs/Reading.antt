@@ -9,7 +9,7 @@ use native.Mathlib.Numerals.{add-one}
 use lib.ListN.{length, getD, take, drop}
 use borrow.Author.Tests.{le-leb, lt-leb, lt-ltb}
 use Rattle.octets.specs.Parts.{part}
-use Rattle.model.specs.Layout.{addresses}
+use Rattle.model.specs.Layout.{mostAddresses}
 use Rattle.model.specs.State.{Address}
 use Rattle.model.specs.Registrations.{AddressAct, leaveAddress, joinAddress, addressActs, doesAddresses, changeAddresses}
 use Rattle.model.specs.Table.{ownOctets, toOwn}
@@ -102,9 +102,9 @@ module _ (v : frames.AddressVector) (n count : ℕ) where
 
 -- A vector of MAC addresses that was read.
 
-module _ (version : ℕ) (s : List ℕ) (at : ℕ) (w : VectorHead) (e : typedRead version frames.macs s at ≡ vector.Vector w) where
-  sounds : Sound frames.macs (headVector s w)
-  sounds = sound version frames.macs s at w e
+module _ (version : ℕ) (s : List ℕ) (at : ℕ) (w : VectorHead) (e : typedRead version frames.macList s at ≡ vector.Vector w) where
+  sounds : Sound frames.macList (headVector s w)
+  sounds = sound version frames.macList s at w e
 
   pub enough-events : w .values ≤ 3 * length (take (w .four - w .three) (drop (w .three) s))
   unfolding headVector part threeLength
@@ -122,7 +122,7 @@ same-values v n (suc k) =
     ap (λ (es : List AddressAct). frames.addressAct (frames.addressOf (v .first) n) (frames.addressAsking (v .three) n) ++ es) (same-values v (suc n) k)
 
 pub vector-acts : (s : List ℕ) (w : VectorHead) →
-    frames.addressVectorActs frames.macs (headVector s w)
+    frames.addressVectorActs frames.macList (headVector s w)
     ≡ frames.allAddresses (w .leaves)
     ++ frames.addressValues (vectorOf (firstPart s (vector.Vector w)) (take (w .four - w .three) (drop (w .three) s))) 0 (w .values)
 unfolding frames.addressVectorActs headVector part
@@ -135,9 +135,9 @@ unfolding listActsOf listEndOf
 list-found w es end e = rw e
 
 -- a turn was left for what was found
-turn : (f version : ℕ) (t : frames.AddressList) (s : List ℕ) (at : ℕ) (es : List AddressAct) (end : ℕ) → frames.addresses f version t s at ≡ frames.listActs es end
-    → frames.addresses (suc (f - 1)) version t s at ≡ frames.listActs es end
-turn zero version t s at es end e = absurd (no-list-fault 3 es end (unfold frames.addresses in e))
+turn : (f version : ℕ) (t : frames.AddressList) (s : List ℕ) (at : ℕ) (es : List AddressAct) (end : ℕ) → frames.addressVectors f version t s at ≡ frames.listActs es end
+    → frames.addressVectors (suc (f - 1)) version t s at ≡ frames.listActs es end
+turn zero version t s at es end e = absurd (no-list-fault 3 es end (unfold frames.addressVectors in e))
 turn (suc f) version t s at es end e = let z : suc f - 1 ≡ f = omega arith in rw z e
 
 module _ (pdu : List ℕ) (version : ℕ) (m : MessageHead) (applying : Bool) (now : ℕ) (s : List ℕ) where
@@ -151,7 +151,7 @@ module _ (pdu : List ℕ) (version : ℕ) (m : MessageHead) (applying : Bool) (n
     pub within : at ≤ length pdu
     pub turns : ℕ
     pub left : List AddressAct
-    pub finds : frames.addresses (suc turns) version type pdu at ≡ frames.listActs left (listEndOf whole)
+    pub finds : frames.addressVectors (suc turns) version type pdu at ≡ frames.listActs left (listEndOf whole)
     pub going : Going applying now (listActsOf whole) s left u
 
   pub list-start : (es : List AddressAct) (end : ℕ) → listRead pdu version m ≡ frames.listActs es end → m .list ≤ length pdu → LaidOwn s → ListGoing (m .list) s
@@ -200,10 +200,10 @@ module _ (pdu : List ℕ) (version : ℕ) (m : MessageHead) (applying : Bool) (n
 
       -- it is of MAC addresses
       module _ (k : m .kind ≡ 2) (v : List ℕ) where
-        pub list-macs : Walked applying now (frames.addressVectorActs frames.macs (headVector pdu w)) u true v → ListGoing (w .next) v
+        pub list-macs : Walked applying now (frames.addressVectorActs frames.macList (headVector pdu w)) u true v → ListGoing (w .next) v
         list-macs x = list-vector v (rw (macs-named (m .kind) (m .octets) k) x)
 
-        pub list-macs-full : Walked applying now (frames.addressVectorActs frames.macs (headVector pdu w)) u false v → Walked applying now (listActsOf whole) s false v
+        pub list-macs-full : Walked applying now (frames.addressVectorActs frames.macList (headVector pdu w)) u false v → Walked applying now (listActsOf whole) s false v
         list-macs-full x = list-full v (rw (macs-named (m .kind) (m .octets) k) x)
 
       -- or of another type
@@ -298,7 +298,7 @@ module _ (now : ℕ) (pdu s : List ℕ) (laid : LaidOwn s) where
   pub received-not : presentOnly (held s) ≡ held s → (t u : List ℕ) → Walked false now es s false t → u ≡ ownOctets (changeAddresses presentOnly (toOwn t))
       → Receives now pdu s false u
   received-not p t u w e = record {
-    answer = sym (lt-leb (length (doesAddresses now es (held s))) addresses (omega (arith, w .many, same-length now es (held s))));
+    answer = sym (lt-leb (length (doesAddresses now es (held s))) mostAddresses (omega (arith, w .many, same-length now es (held s))));
     octets = restored;
   }
     where
@@ -320,12 +320,12 @@ module _ (now : ℕ) (pdu s : List ℕ) (laid : LaidOwn s) where
           ∙ effects-applied now es (effects false now es l)
           ∙ applied-after-room now es l (held-fits s laid .ascending)
 
-      few : length (doesAddresses now es l) ≤ addresses
+      few : length (doesAddresses now es l) ≤ mostAddresses
       few = omega (arith, w .fits .at-most-64, same-length now es l)
 
       go : (r : Bool) → Walked true now es t r u → Receives now pdu s r u
       go true y = record {
-        answer = sym (le-leb (length (doesAddresses now es l)) addresses few);
+        answer = sym (le-leb (length (doesAddresses now es l)) mostAddresses few);
         octets = unfold taken in (y .octets ∙ went-having false now s laid es [] t w _ ∙ ap (having s) done ∙ (unfold having held changeAddresses in refl));
       }
       go false y = absurd (omega (arith, few, y .many, ap length done))

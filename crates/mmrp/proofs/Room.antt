@@ -8,7 +8,7 @@ use native.Mathlib.Omega.{arith}
 use lib.ListN.{length}
 use Rattle.model.specs.Lists.{All}
 use Rattle.model.specs.State.{vacant, Address}
-use Rattle.model.specs.Registrations.{AddressAct, leaveAllAddresses, leaveAddress, joinAddress, quitPresence, quitAddress, joined, withJoined, withLeft, doesAddress, doesAddresses, together, macs, addressJoins}
+use Rattle.model.specs.Registrations.{AddressAct, leaveAllAddresses, leaveAddress, joinAddress, quitPresence, quitAddress, joinedAddress, withJoined, withLeft, doesAddress, doesAddresses, together, macs, addressJoins}
 use Rattle.model.specs.Laid.{Ascending}
 use Rattle.model.proofs.Lists.{all-map}
 use Rattle.model.proofs.Parts.{ascending-rises, rising-ascends}
@@ -113,7 +113,7 @@ room-nil : (m : ℕ) → withRoom m [] ≡ vacantAt m ∷ []
 unfolding withRoom
 room-nil m = refl
 
-join-nil : (m : ℕ) → withJoined m [] ≡ joined m ∷ []
+join-nil : (m : ℕ) → withJoined m [] ≡ joinedAddress m ∷ []
 unfolding withJoined
 join-nil m = refl
 
@@ -208,23 +208,23 @@ module _ (m n : ℕ) where
   room-first h a l q = go (tri n (a .mac))
     where
       go : Tri n (a .mac) → withRoom m (withJoined n (a ∷ l)) ≡ vacantAt m ∷ withJoined n (a ∷ l)
-      go (less t) = rw (join-before n a l t) (room-before m (joined n) (a ∷ l) (unfold joined in h))
-      go (same t) = rw (join-here n a l t) (room-before m (joined n) l (unfold joined in h))
+      go (less t) = rw (join-before n a l t) (room-before m (joinedAddress n) (a ∷ l) (unfold joinedAddress in h))
+      go (same t) = rw (join-here n a l t) (room-before m (joinedAddress n) l (unfold joinedAddress in h))
       go (more t) = rw (join-past n a l t) (room-before m a (withJoined n l) q)
 
   -- room for an address below all that are held, and a join
   join-below : (l : List Address) → withRoom m l ≡ vacantAt m ∷ l → (m < n → withRoom m (withJoined n l) ≡ vacantAt m ∷ withJoined n l)
-      → (n ≤ m → withJoined n l ≡ joined n ∷ l) → withJoined n (vacantAt m ∷ l) ≡ withRoom m (withJoined n l)
+      → (n ≤ m → withJoined n l ≡ joinedAddress n ∷ l) → withJoined n (vacantAt m ∷ l) ≡ withRoom m (withJoined n l)
   join-below l first higher lower = go (tri m n)
     where
       go : Tri m n → withJoined n (vacantAt m ∷ l) ≡ withRoom m (withJoined n l)
       go (less q) = join-after q l ∙ sym (higher q)
       go (same q) =
           join-here n (vacantAt m) l (unfold vacantAt in (sym q))
-          ∙ rw (lower (omega arith)) (sym (room-here m (joined n) l (unfold joined in q)))
+          ∙ rw (lower (omega arith)) (sym (room-here m (joinedAddress n) l (unfold joinedAddress in q)))
       go (more q) =
           join-before n (vacantAt m) l (unfold vacantAt in q)
-          ∙ rw (lower (omega arith)) (sym (room-past m (joined n) l (unfold joined in q) ∙ ap (λ (x : List Address). joined n ∷ x) first))
+          ∙ rw (lower (omega arith)) (sym (room-past m (joinedAddress n) l (unfold joinedAddress in q) ∙ ap (λ (x : List Address). joinedAddress n ∷ x) first))
 
   -- where the address has a record
   join-here-too : (a : Address) (l : List Address) → m ≡ a .mac → withJoined n (a ∷ l) ≡ withRoom m (withJoined n (a ∷ l))
@@ -233,8 +233,8 @@ module _ (m n : ℕ) where
       go : Tri n (a .mac) → withJoined n (a ∷ l) ≡ withRoom m (withJoined n (a ∷ l))
       go (less t) =
           rw (join-before n a l t)
-          (sym (room-past m (joined n) (a ∷ l) (unfold joined in (omega arith)) ∙ ap (λ (x : List Address). joined n ∷ x) (room-here m a l q)))
-      go (same t) = rw (join-here n a l t) (sym (room-here m (joined n) l (unfold joined in (q ∙ sym t))))
+          (sym (room-past m (joinedAddress n) (a ∷ l) (unfold joinedAddress in (omega arith)) ∙ ap (λ (x : List Address). joinedAddress n ∷ x) (room-here m a l q)))
+      go (same t) = rw (join-here n a l t) (sym (room-here m (joinedAddress n) l (unfold joinedAddress in (q ∙ sym t))))
       go (more t) = rw (join-past n a l t) (sym (room-here m a (withJoined n l) q))
 
   -- and where it is above the first
@@ -245,14 +245,14 @@ module _ (m n : ℕ) where
       go : Tri n (a .mac) → withJoined n (a ∷ withRoom m l) ≡ withRoom m (withJoined n (a ∷ l))
       go (less t) =
           rw (join-before n a l t, join-before n a (withRoom m l) t)
-          (sym (room-past m (joined n) (a ∷ l) (unfold joined in (omega arith)) ∙ ap (λ (x : List Address). joined n ∷ x) (room-past m a l q)))
-      go (same t) = rw (join-here n a l t, join-here n a (withRoom m l) t) (sym (room-past m (joined n) l (unfold joined in (omega arith))))
+          (sym (room-past m (joinedAddress n) (a ∷ l) (unfold joinedAddress in (omega arith)) ∙ ap (λ (x : List Address). joinedAddress n ∷ x) (room-past m a l q)))
+      go (same t) = rw (join-here n a l t, join-here n a (withRoom m l) t) (sym (room-past m (joinedAddress n) l (unfold joinedAddress in (omega arith))))
       go (more t) =
           rw (join-past n a l t, join-past n a (withRoom m l) t)
           (ap (λ (x : List Address). a ∷ x) ih ∙ sym (room-past m a (withJoined n l) q))
 
   room-joins : (l : List Address) → withJoined n (withRoom m l) ≡ withRoom m (withJoined n l)
-  room-joins [] = rw (room-nil m) (join-below [] (room-nil m) (λ q. rw (join-nil n) (room-before m (joined n) [] (unfold joined in q))) (λ q. join-nil n))
+  room-joins [] = rw (room-nil m) (join-below [] (room-nil m) (λ q. rw (join-nil n) (room-before m (joinedAddress n) [] (unfold joinedAddress in q))) (λ q. join-nil n))
   room-joins (a ∷ l) = go (tri m (a .mac)) (room-joins l)
     where
       go : Tri m (a .mac) → withJoined n (withRoom m l) ≡ withRoom m (withJoined n l)

@@ -7,7 +7,7 @@ use native.Mathlib.Omega.{arith}
 use lib.ListN.{length}
 use lib.Dec.{leb, eqb}
 use borrow.Author.Tests.{leb-true, leb-false}
-use Rattle.model.specs.Layout.{addresses, ownSize}
+use Rattle.model.specs.Layout.{mostAddresses, ownSize}
 use Rattle.model.specs.Lists.{All}
 use Rattle.model.specs.State.{Address, Own}
 use Rattle.model.specs.Registrations.{AddressAct, leaveAllAddresses, leaveAddress, joinAddress, quitAddress, withJoined, withLeft, doesAddress, doesAddresses, changeAddresses, macs, addressJoins, together}
@@ -111,7 +111,7 @@ module _ (m : Bool) (now : ℕ) (s : List ℕ) (laid : LaidOwn s) where
         left = x .left;
         octets = x .octets ∙ went-having (x .left);
         fits = x .fits;
-        many = subst (λ (l : List Address). addresses < length l) both (x .many);
+        many = subst (λ (l : List Address). mostAddresses < length l) both (x .many);
         restored = λ e. x .restored e ∙ ap presentOnly went-held ∙ nothing es (held s) e;
       }
 
@@ -189,7 +189,7 @@ module _ (now : ℕ) (s : List ℕ) (laid : LaidOwn s) where
     }
 
   -- a join: room is made, r tells whether there is any, in the octets t
-  module _ (n : ℕ) (small : n < 2 ^ 48) (r : Bool) (t : List ℕ) (i : r ≡ leb (length (withRoom n (toOwn s .addresses))) addresses)
+  module _ (n : ℕ) (small : n < 2 ^ 48) (r : Bool) (t : List ℕ) (i : r ≡ leb (length (withRoom n (toOwn s .addresses))) mostAddresses)
       (e : t ≡ cond r (ownOctets (changeAddresses (withRoom n) (toOwn s))) s) where
     join-length : (b : Bool) → length (effect b now (joinAddress n) (held s)) ≡ length (withRoom n (held s))
     unfolding effect room doesAddress
@@ -202,14 +202,14 @@ module _ (now : ℕ) (s : List ℕ) (laid : LaidOwn s) where
       left = held s;
       octets = e ∙ rw q (having-same s laid);
       fits = held-fits s laid;
-      many = omega (arith, join-length b, leb-false (length (withRoom n (held s))) addresses (sym i ∙ q));
+      many = omega (arith, join-length b, leb-false (length (withRoom n (held s))) mostAddresses (sym i ∙ q));
       restored = λ z. refl;
     }
 
     module _ (q : r ≡ true) where
-      few : length (withRoom n (held s)) ≤ addresses
+      few : length (withRoom n (held s)) ≤ mostAddresses
       unfolding held
-      few = leb-true (length (withRoom n (held s))) addresses (sym i ∙ q)
+      few = leb-true (length (withRoom n (held s))) mostAddresses (sym i ∙ q)
 
       roomed : t ≡ having s (withRoom n (held s))
       unfolding having held changeAddresses

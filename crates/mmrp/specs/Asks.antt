@@ -5,7 +5,7 @@ use mathlib.Core.List.{List}
 use lib.ListN.{length}
 use Rattle.model.specs.Registrations.{AddressAct, addressActs}
 use Rattle.model.specs.Laid.{LaidOwn}
-use Rattle.model.specs.AddressFrames.{macs, addressOf, listActs, addressWalk}
+use Rattle.model.specs.AddressFrames.{macList, addressOf, listActs, addressWalk}
 use Rattle.msrpdu.specs.declared.VectorHead.{VectorHead}
 use Rattle.msrpdu.specs.declared.VectorRead.the-variants.{Vector}
 use Rattle.msrpdu.specs.declared.ValueRead.the-variants.{Value}
@@ -37,7 +37,7 @@ pub record VectorGiven (s pdu : List ℕ) (head : VectorHead) : Type 0 where
   pub laid : LaidOwn s
   pub version : ℕ
   pub at : ℕ
-  pub read : typedRead version macs pdu at ≡ Vector head
+  pub read : typedRead version macList pdu at ≡ Vector head
 
 -- a well-formed list, which starts within its PDU
 pub record ListGiven (s pdu : List ℕ) (version : ℕ) (head : MessageHead) : Type 0 where

@@ -6,7 +6,7 @@ use mathlib.Core.Path.{_≡_}
 use mathlib.Core.List.{List, [], _∷_}
 use mathlib.Core.Bool.{Bool, true, false}
 use lib.ListN.{length}
-use Rattle.model.specs.Layout.{addresses}
+use Rattle.model.specs.Layout.{mostAddresses}
 use Rattle.model.specs.State.{Address}
 use Rattle.model.specs.Registrations.{AddressAct, leaveAllAddresses, leaveAddress, joinAddress, doesAddress, changeAddresses}
 use Rattle.model.specs.Table.{ownOctets, toOwn}
@@ -44,7 +44,7 @@ pub record Stopped (m : Bool) (now : ℕ) (es : List AddressAct) (s u : List ℕ
   pub left : List Address
   pub octets : u ≡ having s left
   pub fits : FitAddresses left
-  pub many : addresses < length (effects m now es (held s))
+  pub many : mostAddresses < length (effects m now es (held s))
   pub restored : m ≡ false → presentOnly left ≡ presentOnly (held s)
 
 -- its answer tells which

@@ -5,7 +5,7 @@ use mathlib.Core.List.{List, []}
 use mathlib.Core.Bool.{Bool, false, cond}
 use lib.ListN.{length}
 use lib.Dec.{leb}
-use Rattle.model.specs.Layout.{addresses}
+use Rattle.model.specs.Layout.{mostAddresses}
 use Rattle.model.specs.Registrations.{AddressAct, AddressReading, refusedFrame, addressActs, doesAddresses, changeAddresses}
 use Rattle.model.specs.Table.{ownOctets, toOwn}
 use Rattle.model.specs.Frames.{Asking, nothingAsked, join, withdraw}
@@ -34,7 +34,7 @@ actsOf (addressActs es) = es
 
 -- the list of a Message
 unfoldable pub listRead : List ℕ → ℕ → MessageHead → frames.ListWalk
-listRead s version m = frames.addresses (suc (length s)) version (listNamed (m .kind) (m .octets)) s (m .list)
+listRead s version m = frames.addressVectors (suc (length s)) version (listNamed (m .kind) (m .octets)) s (m .list)
 
 unfoldable pub listActsOf : frames.ListWalk → List AddressAct
 listActsOf (frames.listFault n) = []
@@ -56,5 +56,5 @@ taken now pdu s = ownOctets (changeAddresses (doesAddresses now (actsOf (frames.
 
 -- from the octets s it leaves the octets u, and its answer r tells whether it is accepted
 pub record Receives (now : ℕ) (pdu s : List ℕ) (r : Bool) (u : List ℕ) : Type 0 where
-  pub answer : r ≡ leb (length (doesAddresses now (actsOf (frames.addressWalk pdu)) (held s))) addresses
+  pub answer : r ≡ leb (length (doesAddresses now (actsOf (frames.addressWalk pdu)) (held s))) mostAddresses
   pub octets : u ≡ cond r (taken now pdu s) s

@@ -6,7 +6,7 @@ ghost use Prim.Native.Nat.{_<_, _/_, _^_};
 ghost use lib.ListN.{length};
 ghost use Rattle.model.specs.Registrations.{joinAddress};
 ghost use Rattle.model.specs.Laid.{LaidOwn};
-ghost use Rattle.model.specs.AddressFrames.{macs, addressOf, addressAsking, addressAct, addressValues, allAddresses, addressVectorActs, addressWalk};
+ghost use Rattle.model.specs.AddressFrames.{macList, addressOf, addressAsking, addressAct, addressValues, allAddresses, addressVectorActs, addressWalk};
 ghost use Rattle.mmrpdu.specs.Reader.{headVector};
 ghost use Rattle.mmrp.specs.Run.{Walked};
 ghost use Rattle.mmrp.specs.Walked.{askedOf, vectorOf, listRead, Reaches, actsOf, Receives};
@@ -124,7 +124,7 @@ fn begin_all(own: &mut [u8], walk: Walk, leaves: bool)
 // The vector of MAC addresses that was read at a place of the PDU: "LeaveAll first".
 fn vector(own: &mut [u8], walk: Walk, pdu: &[u8], head: VectorHead) -> bool
     requires { ⌜ VectorGiven (now own) (now pdu) head ⌝ }
-    ensures { λ r. ⌜ Walked (walk .applying) (walk .clock) (addressVectorActs macs (headVector (now (pdu .entry)) head)) (now (own .entry)) r (now (own .exit)) ⌝ }
+    ensures { λ r. ⌜ Walked (walk .applying) (walk .clock) (addressVectorActs macList (headVector (now (pdu .entry)) head)) (now (own .entry)) r (now (own .exit)) ⌝ }
 {
     let first = msrpdu::first_value(pdu, VectorRead::Vector(head));
     let count = head.values;

@@ -13,7 +13,7 @@ use Rattle.octets.proofs.Parts.{lent-length, length-part}
 use Rattle.model.specs.FrameLayout.{longestPdu}
 use Rattle.model.specs.Registrations.{AddressAct, AddressReading, refusedFrame, addressActs}
 use Rattle.model.specs.Frames.{threeLength, vectorEnd, vectorHead, event, threePacked}
-use Rattle.model.specs.AddressFrames.{AddressList, macs, firstOctets, overruns, addressVectorIn, AddressVector, addressVectorAt, addressOf, addressValues, allAddresses, addressVectorActs, listActs, addresses, addressMessages, addressWalk}
+use Rattle.model.specs.AddressFrames.{AddressList, macList, firstOctets, overruns, addressVectorIn, AddressVector, addressVectorAt, addressOf, addressValues, allAddresses, addressVectorActs, listActs, addressVectors, addressMessages, addressWalk}
 use Rattle.model.proofs.FoundVectors.{passed}
 use Rattle.model.proofs.FoundAddresses.{address-faults, no-refusal, no-list-fault, then-list, after-list, passed-addresses, each-within}
 use Rattle.msrpdu.specs.Reader.{headOf, eventMeant, eventIn}
@@ -65,7 +65,7 @@ module _ (version : ℕ) (t : AddressList) (s : List ℕ) (at : ℕ) (w : Vector
 -- The address and the event of each of its values.
 
 module _ (v : AddressVector) (n : ℕ) (h : n < v .values) where
-  pub address-read : Sound macs v → (addressIn (v .first) n ≡ Value (addressOf (v .first) n)) × (addressOf (v .first) n < 2 ^ 48)
+  pub address-read : Sound macList v → (addressIn (v .first) n ≡ Value (addressOf (v .first) n)) × (addressOf (v .first) n < 2 ^ 48)
   unfolding addressIn addressOf firstOctets overruns
   address-read o =
       let b : beAt 6 (v .first) 0 + n < 2 ^ 48 = each-within (v .first) (v .values) n (o .within) h in
@@ -78,7 +78,7 @@ module _ (v : AddressVector) (n : ℕ) (h : n < v .values) where
 -- The acts of a vector, by its list's type: only MAC addresses have any.
 
 module _ (kind octets : ℕ) where
-  pub macs-named : kind ≡ 2 → listNamed kind octets ≡ macs
+  pub macs-named : kind ≡ 2 → listNamed kind octets ≡ macList
   unfolding listNamed
   macs-named e = rw e
 
@@ -99,15 +99,15 @@ other-acts (suc (suc (suc kind))) octets v p = refl
 pub record NextVector (f version : ℕ) (t : AddressList) (s : List ℕ) (w : VectorHead) (es : List AddressAct) (end : ℕ) : Type 0 where
   pub rest : List AddressAct
   pub split : es ≡ addressVectorActs t (headVector s w) ++ rest
-  pub left : addresses f version t s (w .next) ≡ listActs rest end
+  pub left : addressVectors f version t s (w .next) ≡ listActs rest end
 
-module _ (f version : ℕ) (t : AddressList) (s : List ℕ) (at : ℕ) (es : List AddressAct) (end : ℕ) (e : addresses (suc f) version t s at ≡ listActs es end) where
+module _ (f version : ℕ) (t : AddressList) (s : List ℕ) (at : ℕ) (es : List AddressAct) (end : ℕ) (e : addressVectors (suc f) version t s at ≡ listActs es end) where
   pub found-next : (w : VectorHead) → typedRead version t s at ≡ vector.Vector w → NextVector f version t s w es end
   found-next w r =
       let a = then-list _ _ es end (sym (addresses-next f version t s at w r) ∙ e) in
       record { rest = a .rest; split = a .split ∙ ap (λ (v : AddressVector). addressVectorActs t v ++ a .rest) (meant version t s at w r); left = a .left }
 
-  pub found-over : (next : ℕ) → typedRead version t s at ≡ vector.PassedOver next → addresses f version t s next ≡ listActs es end
+  pub found-over : (next : ℕ) → typedRead version t s at ≡ vector.PassedOver next → addressVectors f version t s next ≡ listActs es end
   found-over next r = sym (addresses-over f version t s at next r) ∙ e
 
   pub found-end : typedRead version t s at ≡ vector.EndMark → (es ≡ []) × (end ≡ at + 2)
@@ -117,13 +117,13 @@ module _ (f version : ℕ) (t : AddressList) (s : List ℕ) (at : ℕ) (es : Lis
   found-accepted n r = no-list-fault n es end (sym (addresses-refused f version t s at n r) ∙ e)
 
 -- the place behind a list is behind its EndMark, and within the PDU
-pub list-ends : (f version : ℕ) (t : AddressList) (s : List ℕ) (at : ℕ) (es : List AddressAct) (end : ℕ) → addresses f version t s at ≡ listActs es end
+pub list-ends : (f version : ℕ) (t : AddressList) (s : List ℕ) (at : ℕ) (es : List AddressAct) (end : ℕ) → addressVectors f version t s at ≡ listActs es end
     → (at + 2 ≤ end) × (end ≤ length s)
-list-ends zero version t s at es end e = absurd (no-list-fault 3 es end (unfold addresses in e))
+list-ends zero version t s at es end e = absurd (no-list-fault 3 es end (unfold addressVectors in e))
 list-ends (suc f) version t s at es end e = go (typedRead version t s at) refl (λ at es h. list-ends f version t s at es end h)
   where
     go : (r : VectorRead) → typedRead version t s at ≡ r
-        → ((next : ℕ) (rest : List AddressAct) → addresses f version t s next ≡ listActs rest end → (next + 2 ≤ end) × (end ≤ length s))
+        → ((next : ℕ) (rest : List AddressAct) → addressVectors f version t s next ≡ listActs rest end → (next + 2 ≤ end) × (end ≤ length s))
         → (at + 2 ≤ end) × (end ≤ length s)
     go (vector.Refused n) i ih = absurd (found-accepted f version t s at es end e n i)
     go vector.EndMark i ih =
@@ -146,7 +146,7 @@ pub record NextList (f version : ℕ) (s : List ℕ) (m : MessageHead) (es : Lis
   pub end : ℕ
   pub rest : List AddressAct
   pub split : es ≡ own ++ rest
-  pub list : addresses (suc (length s)) version (listNamed (m .kind) (m .octets)) s (m .list) ≡ listActs own end
+  pub list : addressVectors (suc (length s)) version (listNamed (m .kind) (m .octets)) s (m .list) ≡ listActs own end
   pub left : addressMessages f version s end ≡ addressActs rest
 
 module _ (f version : ℕ) (s : List ℕ) (at : ℕ) (es : List AddressAct) (e : addressMessages (suc f) version s at ≡ addressActs es) where

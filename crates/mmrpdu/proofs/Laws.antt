@@ -12,7 +12,7 @@ use Rattle.octets.specs.Parts.{part}
 use Rattle.octets.proofs.Parts.{length-part}
 use Rattle.model.specs.FrameLayout.{macLength, serviceLength}
 use Rattle.model.specs.Frames.{vectorEnd, InList, badVector, listEnd, vectorHead, passedOver, vectorIn, endMark}
-use Rattle.model.specs.AddressFrames.{AddressList, services, macs, unknowns, firstOctets, InAddressPdu, badHeader, noMessage, listOf, addressHeader, addressMessageIn, runsOut, overruns, addressesChecked, addressVectorIn}
+use Rattle.model.specs.AddressFrames.{AddressList, serviceList, macList, unknownList, firstOctets, InAddressPdu, badHeader, noMessage, addressListOf, addressHeader, addressMessageIn, runsOut, overruns, addressesChecked, addressVectorIn}
 use Rattle.model.proofs.FoundVectors.{fitting}
 use Rattle.msrpdu.specs.Reader.{headOf, vectorMeant, vectorRead, firstPart}
 use Rattle.msrpdu.specs.declared.VectorHead.{VectorHead}
@@ -63,21 +63,21 @@ module _ (version kind octets : ℕ) (p : 2 < kind) where
   strange-list e = rw (above kind p, ne-eqb _ _ e)
 
 -- a known type, with its AttributeLength or another
-known : (t : AddressList) (b : Bool) → headerNumber (cond b (listOf t) (badHeader 5)) ≡ 0 → cond b (listOf t) (badHeader 5) ≡ listOf t
+known : (t : AddressList) (b : Bool) → headerNumber (cond b (addressListOf t) (badHeader 5)) ≡ 0 → cond b (addressListOf t) (badHeader 5) ≡ addressListOf t
 unfolding headerNumber
 known t true h = refl
 known t false h = absurd (omega arith)
 
 -- where they are in order, the list is the one that they name
 pub header-listed : (version kind octets : ℕ) → headerNumber (addressHeader version kind octets) ≡ 0
-    → addressHeader version kind octets ≡ listOf (listNamed kind octets)
+    → addressHeader version kind octets ≡ addressListOf (listNamed kind octets)
 unfolding headerNumber addressHeader listNamed
 header-listed version zero octets e = absurd (omega arith)
-header-listed version (suc zero) octets e = known services (eqb octets serviceLength) e
-header-listed version (suc (suc zero)) octets e = known macs (eqb octets macLength) e
+header-listed version (suc zero) octets e = known serviceList (eqb octets serviceLength) e
+header-listed version (suc (suc zero)) octets e = known macList (eqb octets macLength) e
 header-listed version (suc (suc (suc kind))) octets e = newer (eqb version 0) e
   where
-    newer : (b : Bool) → headerNumber (cond b (badHeader 4) (listOf (unknowns octets))) ≡ 0 → cond b (badHeader 4) (listOf (unknowns octets)) ≡ listOf (unknowns octets)
+    newer : (b : Bool) → headerNumber (cond b (badHeader 4) (addressListOf (unknownList octets))) ≡ 0 → cond b (badHeader 4) (addressListOf (unknownList octets)) ≡ addressListOf (unknownList octets)
     newer true h = absurd (omega arith)
     newer false h = refl
 
@@ -87,7 +87,7 @@ pub header-meant : (s : List ℕ) (at : ℕ) (r : InAddressPdu) → (headerNumbe
 unfolding messageMeant headerNumber
 header-meant s at (badHeader n) p = refl
 header-meant s at noMessage p = absurd (p refl)
-header-meant s at (listOf t) p = absurd (p refl)
+header-meant s at (addressListOf t) p = absurd (p refl)
 
 module _ (version : ℕ) (s : List ℕ) (at : ℕ) where
   pub message-done : at ≡ length s → messageRead version s at ≡ message.End
@@ -181,9 +181,9 @@ module _ (version : ℕ) (t : AddressList) (s : List ℕ) (at : ℕ) where
 
 pub none-out : (t : AddressList) (first : List ℕ) (n : ℕ) → n ≡ 0 → overruns t first n ≡ false
 unfolding overruns runsOut
-none-out services first n e = rw (eq-eqb _ _ e)
-none-out macs first n e = rw (eq-eqb _ _ e)
-none-out (unknowns octets) first n e = refl
+none-out serviceList first n e = rw (eq-eqb _ _ e)
+none-out macList first n e = rw (eq-eqb _ _ e)
+none-out (unknownList octets) first n e = refl
 
 -- x is FirstValue
 pub some-out : (octets : ℕ) (first : List ℕ) (n x : ℕ) → (n ≡ 0 → ⊥) → x ≡ beAt octets first 0 → runsOut octets first n ≡ ltb (256 ^ octets - 1) (x + (n - 1))

@@ -1,4 +1,4 @@
--- The reader's steps are those of the walk: what `addresses` and `addressMessages` give from a place on, by what is read there.
+-- The reader's steps are those of the walk: what `addressVectors` and `addressMessages` give from a place on, by what is read there.
 -- Assumes nothing.
 use mathlib.Core.Path.{_≡_, refl, sym, ap, _∙_}
 use mathlib.Core.List.{List, [], _++_}
@@ -12,7 +12,7 @@ use Rattle.octets.specs.Be.{beAt}
 use Rattle.model.specs.FrameLayout.{longestPdu}
 use Rattle.model.specs.Registrations.{AddressAct, AddressReading, refusedFrame, addressActs}
 use Rattle.model.specs.Frames.{vectorEnd, badVector, listEnd, vectorIn, endMark}
-use Rattle.model.specs.AddressFrames.{AddressList, firstOctets, InAddressPdu, badHeader, noMessage, listOf, addressHeader, addressMessageIn, addressesChecked, addressVectorIn, addressVectorAt, addressVectorActs, ListWalk, listFault, listActs, thenList, addressesFrom, addresses, thenFrame, afterList, addressMessagesFrom, addressMessages, addressWalk}
+use Rattle.model.specs.AddressFrames.{AddressList, firstOctets, InAddressPdu, badHeader, noMessage, addressListOf, addressHeader, addressMessageIn, addressesChecked, addressVectorIn, addressVectorAt, addressVectorActs, ListWalk, listFault, listActs, thenList, addressesFrom, addressVectors, thenFrame, afterList, addressMessagesFrom, addressMessages, addressWalk}
 use Rattle.model.proofs.FoundVectors.{passed, passing-over}
 use Rattle.model.proofs.FoundAddresses.{passed-addresses, over-addresses}
 use Rattle.msrpdu.specs.Reader.{headOf}
@@ -28,24 +28,24 @@ use Rattle.mmrpdu.proofs.Laws.{header-listed}
 -- Vectors.
 
 module _ (f version : ℕ) (t : AddressList) (s : List ℕ) (at : ℕ) where
-  pub addresses-refused : (n : ℕ) → typedRead version t s at ≡ vector.Refused n → addresses (suc f) version t s at ≡ listFault n
-  unfolding typedRead addresses addressesFrom
+  pub addresses-refused : (n : ℕ) → typedRead version t s at ≡ vector.Refused n → addressVectors (suc f) version t s at ≡ listFault n
+  unfolding typedRead addressVectors addressesFrom
   addresses-refused n e = rw (read-refused (firstOctets t) false at (addressVectorIn version t s at) n e)
 
-  pub addresses-end : typedRead version t s at ≡ vector.EndMark → addresses (suc f) version t s at ≡ listActs [] (at + 2)
-  unfolding typedRead addresses addressesFrom
+  pub addresses-end : typedRead version t s at ≡ vector.EndMark → addressVectors (suc f) version t s at ≡ listActs [] (at + 2)
+  unfolding typedRead addressVectors addressesFrom
   addresses-end e = rw (read-end (firstOctets t) false at (addressVectorIn version t s at) e)
 
   pub addresses-next : (w : VectorHead) → typedRead version t s at ≡ vector.Vector w
-      → addresses (suc f) version t s at ≡ thenList (addressVectorActs t (addressVectorAt t s at (beAt 2 s at))) (addresses f version t s (w .next))
-  unfolding typedRead addresses addressesFrom headOf
+      → addressVectors (suc f) version t s at ≡ thenList (addressVectorActs t (addressVectorAt t s at (beAt 2 s at))) (addressVectors f version t s (w .next))
+  unfolding typedRead addressVectors addressesFrom headOf
   addresses-next w e =
       let h = read-head (firstOctets t) false at (addressVectorIn version t s at) w e in
       rw (h .is, passed-addresses version t s at (h .header) (h .is) .fitting .is)
-      (ap (λ (u : VectorHead). thenList (addressVectorActs t (addressVectorAt t s at (h .header))) (addresses f version t s (u .next))) (h .head))
+      (ap (λ (u : VectorHead). thenList (addressVectorActs t (addressVectorAt t s at (h .header))) (addressVectors f version t s (u .next))) (h .head))
 
-  pub addresses-over : (next : ℕ) → typedRead version t s at ≡ vector.PassedOver next → addresses (suc f) version t s at ≡ addresses f version t s next
-  unfolding typedRead addresses addressesFrom
+  pub addresses-over : (next : ℕ) → typedRead version t s at ≡ vector.PassedOver next → addressVectors (suc f) version t s at ≡ addressVectors f version t s next
+  unfolding typedRead addressVectors addressesFrom
   addresses-over next e =
       let h = read-over (firstOctets t) false at (addressVectorIn version t s at) next e in
       rw (h .is, h .ends)
@@ -89,18 +89,18 @@ module _ (s : List ℕ) (at : ℕ) where
   unfolding messageMeant
   message-refused (badHeader m) n e = let i : m ≡ n = cc in ap badHeader i
   message-refused noMessage n e = let z : _≡_ {A = ℕ} 0 1 = cc in absurd (omega arith)
-  message-refused (listOf t) n e = let z : _≡_ {A = ℕ} 0 1 = cc in absurd (omega arith)
+  message-refused (addressListOf t) n e = let z : _≡_ {A = ℕ} 0 1 = cc in absurd (omega arith)
 
   message-end : (r : InAddressPdu) → messageMeant s at r ≡ message.End → r ≡ noMessage
   unfolding messageMeant
   message-end (badHeader m) e = let z : _≡_ {A = ℕ} 0 1 = cc in absurd (omega arith)
   message-end noMessage e = refl
-  message-end (listOf t) e = let z : _≡_ {A = ℕ} 0 1 = cc in absurd (omega arith)
+  message-end (addressListOf t) e = let z : _≡_ {A = ℕ} 0 1 = cc in absurd (omega arith)
 
   -- a list, of a type
   record Listed (r : InAddressPdu) (m : MessageHead) : Type 0 where
     type : AddressList
-    is : r ≡ listOf type
+    is : r ≡ addressListOf type
     kind : m .kind ≡ getD s at 0
     octets : m .octets ≡ getD s (at + 1) 0
     list : m .list ≡ at + 2
@@ -109,17 +109,17 @@ module _ (s : List ℕ) (at : ℕ) where
   unfolding messageMeant
   message-listed (badHeader n) m e = let z : _≡_ {A = ℕ} 0 1 = cc in absurd (omega arith)
   message-listed noMessage m e = let z : _≡_ {A = ℕ} 0 1 = cc in absurd (omega arith)
-  message-listed (listOf t) m e = record { type = t; is = refl; kind = cc; octets = cc; list = cc }
+  message-listed (addressListOf t) m e = record { type = t; is = refl; kind = cc; octets = cc; list = cc }
 
-no-bad : (n : ℕ) (t : AddressList) → badHeader n ≡ listOf t → ⊥
+no-bad : (n : ℕ) (t : AddressList) → badHeader n ≡ addressListOf t → ⊥
 no-bad n t e = let z : _≡_ {A = ℕ} 0 1 = cc in omega arith
 
-no-none : (t : AddressList) → noMessage ≡ listOf t → ⊥
+no-none : (t : AddressList) → noMessage ≡ addressListOf t → ⊥
 no-none t e = let z : _≡_ {A = ℕ} 0 1 = cc in omega arith
 
 -- a Message has its header within the PDU, and its list is the one that its type and AttributeLength name
-module _ (version : ℕ) (s : List ℕ) (at : ℕ) (t : AddressList) (e : addressMessageIn version s at ≡ listOf t) where
-  tests : (at + 2 ≤ length s) × (addressHeader version (getD s at 0) (getD s (at + 1) 0) ≡ listOf t)
+module _ (version : ℕ) (s : List ℕ) (at : ℕ) (t : AddressList) (e : addressMessageIn version s at ≡ addressListOf t) where
+  tests : (at + 2 ≤ length s) × (addressHeader version (getD s at 0) (getD s (at + 1) 0) ≡ addressListOf t)
   unfolding addressMessageIn
   tests =
       let a = passed (eqb at (length s)) _ _ _ (no-none t) e in
@@ -129,7 +129,7 @@ module _ (version : ℕ) (s : List ℕ) (at : ℕ) (t : AddressList) (e : addres
 
   named : t ≡ listNamed (getD s at 0) (getD s (at + 1) 0)
   named =
-      let r : listOf t ≡ listOf (listNamed (getD s at 0) (getD s (at + 1) 0)) = sym (tests .1) ∙ header-listed version (getD s at 0) (getD s (at + 1) 0) (unfold headerNumber in (ap headerNumber (tests .1))) in
+      let r : addressListOf t ≡ addressListOf (listNamed (getD s at 0) (getD s (at + 1) 0)) = sym (tests .1) ∙ header-listed version (getD s at 0) (getD s (at + 1) 0) (unfold headerNumber in (ap headerNumber (tests .1))) in
       cc
 
 module _ (version : ℕ) (s : List ℕ) (at : ℕ) where
@@ -150,7 +150,7 @@ module _ (f version : ℕ) (s : List ℕ) (at : ℕ) where
   messages-end e = rw (message-end s at (addressMessageIn version s at) e)
 
   pub messages-list : (m : MessageHead) → messageRead version s at ≡ message.List m
-      → addressMessages (suc f) version s at ≡ afterList (addresses (suc (length s)) version (listNamed (m .kind) (m .octets)) s (m .list)) (addressMessages f version s)
+      → addressMessages (suc f) version s at ≡ afterList (addressVectors (suc (length s)) version (listNamed (m .kind) (m .octets)) s (m .list)) (addressMessages f version s)
   unfolding messageRead addressMessages addressMessagesFrom
   messages-list m e = go (m .kind) (m .octets) (m .list) (r .kind) (r .octets) (r .list)
     where
@@ -158,7 +158,7 @@ module _ (f version : ℕ) (s : List ℕ) (at : ℕ) where
       r = message-listed s at (addressMessageIn version s at) m e
 
       go : (kind octets list : ℕ) → kind ≡ getD s at 0 → octets ≡ getD s (at + 1) 0 → list ≡ at + 2
-          → addressMessages (suc f) version s at ≡ afterList (addresses (suc (length s)) version (listNamed kind octets) s list) (addressMessages f version s)
+          → addressMessages (suc f) version s at ≡ afterList (addressVectors (suc (length s)) version (listNamed kind octets) s list) (addressMessages f version s)
       go kind octets list p q o = rw (r .is, p, q, o, ← (named version s at (r .type) (r .is)))
 
 -- The number that a walk gives, by what is read; rest is what the Messages after the list give.
@@ -174,22 +174,22 @@ then-number es (listFault n) rest = refl
 then-number es (listActs ds end) rest = frame-number (es ++ ds) (rest end) ∙ sym (frame-number ds (rest end))
 
 module _ (f version : ℕ) (t : AddressList) (s : List ℕ) (at : ℕ) (rest : ℕ → AddressReading) where
-  pub number-refused : (n : ℕ) → typedRead version t s at ≡ vector.Refused n → numberOf (afterList (addresses (suc f) version t s at) rest) ≡ n
+  pub number-refused : (n : ℕ) → typedRead version t s at ≡ vector.Refused n → numberOf (afterList (addressVectors (suc f) version t s at) rest) ≡ n
   unfolding afterList numberOf
   number-refused n e = rw (addresses-refused f version t s at n e)
 
-  pub number-end : typedRead version t s at ≡ vector.EndMark → numberOf (afterList (addresses (suc f) version t s at) rest) ≡ numberOf (rest (at + 2))
+  pub number-end : typedRead version t s at ≡ vector.EndMark → numberOf (afterList (addressVectors (suc f) version t s at) rest) ≡ numberOf (rest (at + 2))
   unfolding afterList
   number-end e = rw (addresses-end f version t s at e) (frame-number [] (rest (at + 2)))
 
   -- behind a vector, and behind one that is passed over
   abbrev Goes : ℕ → Type 0
-  Goes next = numberOf (afterList (addresses (suc f) version t s at) rest) ≡ numberOf (afterList (addresses f version t s next) rest)
+  Goes next = numberOf (afterList (addressVectors (suc f) version t s at) rest) ≡ numberOf (afterList (addressVectors f version t s next) rest)
 
   pub number-next : (h : VectorHead) → typedRead version t s at ≡ vector.Vector h → Goes (h .next)
   number-next h e =
       rw (addresses-next f version t s at h e)
-      (then-number (addressVectorActs t (addressVectorAt t s at (beAt 2 s at))) (addresses f version t s (h .next)) rest)
+      (then-number (addressVectorActs t (addressVectorAt t s at (beAt 2 s at))) (addressVectors f version t s (h .next)) rest)
 
   pub number-passed : (next : ℕ) → typedRead version t s at ≡ vector.PassedOver next → Goes next
   number-passed next e = rw (addresses-over f version t s at next e)
@@ -205,7 +205,7 @@ pub record ListLeft (s : List ℕ) (version at kind octets reached : ℕ) : Type
   pub ahead : at < reached
   pub later : ℕ
   pub enough-later : length s ≤ reached + later
-  pub vectors-left : Left (λ (f a : ℕ). numberOf (afterList (addresses f version (listNamed kind octets) s a) (addressMessages (suc later) version s))) (length s) (numberOf (addressWalk s)) reached
+  pub vectors-left : Left (λ (f a : ℕ). numberOf (afterList (addressVectors f version (listNamed kind octets) s a) (addressMessages (suc later) version s))) (length s) (numberOf (addressWalk s)) reached
 
 -- .. and from a later place of the list on, where the vectors from there on give the same number
 pub list-on : {s : List ℕ} {version at kind octets reached : ℕ} → ListLeft s version at kind octets reached → (next : ℕ) → reached < next → next ≤ length s

@@ -6,7 +6,7 @@ use lib.ListN.{getD}
 use Rattle.octets.specs.Parts.{part}
 use Rattle.model.specs.FrameLayout.{macLength}
 use Rattle.model.specs.Registrations.{AddressReading, refusedFrame, addressActs}
-use Rattle.model.specs.AddressFrames.{AddressList, services, macs, unknowns, firstOctets, InAddressPdu, badHeader, noMessage, listOf, addressMessageIn, addressVectorIn, AddressVector}
+use Rattle.model.specs.AddressFrames.{AddressList, serviceList, macList, unknownList, firstOctets, InAddressPdu, badHeader, noMessage, addressListOf, addressMessageIn, addressVectorIn, AddressVector}
 use Rattle.msrpdu.specs.Reader.{vectorMeant, firstPart, valueIn}
 use Rattle.msrpdu.specs.declared.VectorHead.{VectorHead}
 use Rattle.msrpdu.specs.declared.VectorRead.{VectorRead}
@@ -17,22 +17,22 @@ use Rattle.mmrpdu.specs.declared.MessageRead.the-variants as message
 
 -- the list of a Message, by its type and AttributeLength
 unfoldable pub listNamed : ℕ → ℕ → AddressList
-listNamed zero octets = unknowns octets
-listNamed (suc zero) octets = services
-listNamed (suc (suc zero)) octets = macs
-listNamed (suc (suc (suc kind))) octets = unknowns octets
+listNamed zero octets = unknownList octets
+listNamed (suc zero) octets = serviceList
+listNamed (suc (suc zero)) octets = macList
+listNamed (suc (suc (suc kind))) octets = unknownList octets
 
 -- 0 where a Message's type and AttributeLength are in order
 unfoldable pub headerNumber : InAddressPdu → ℕ
 headerNumber (badHeader n) = n
 headerNumber noMessage = 0
-headerNumber (listOf t) = 0
+headerNumber (addressListOf t) = 0
 
 -- what stands at a place of a PDU: a Message has its type octet, its AttributeLength and the place of its list
 unfoldable pub messageMeant : List ℕ → ℕ → InAddressPdu → MessageRead
 messageMeant s at (badHeader n) = message.Refused n
 messageMeant s at noMessage = message.End
-messageMeant s at (listOf t) = message.List record { kind = getD s at 0; octets = getD s (at + 1) 0; list = at + 2 }
+messageMeant s at (addressListOf t) = message.List record { kind = getD s at 0; octets = getD s (at + 1) 0; list = at + 2 }
 
 unfoldable pub messageRead : ℕ → List ℕ → ℕ → MessageRead
 messageRead version s at = messageMeant s at (addressMessageIn version s at)

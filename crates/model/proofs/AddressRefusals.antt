@@ -9,7 +9,7 @@ use native.Mathlib.Omega.{arith}
 use lib.ListN.{length, getD}
 use lib.Dec.{ltb, eqb}
 use borrow.Author.Tests.{eqb-true, eqb-false, ltb-true, ltb-false}
-use Rattle.model.specs.Layout.{addresses}
+use Rattle.model.specs.Layout.{mostAddresses}
 use Rattle.model.specs.FrameLayout.{longestPdu}
 use Rattle.model.specs.State.{Address, Bridge, ownAt}
 use Rattle.model.specs.Registrations.{AddressAct, AddressReading, refusedFrame, addressActs, Answer, receivedAddresses, doesAddresses, together, macs, addressJoins}
@@ -48,14 +48,14 @@ address-2 s = go (eqb (length s) 0) refl (ltb longestPdu (length s)) refl
 
 -- the addresses that a port, numbered from 1, holds
 abbrev pub heldOn : Bridge → ℕ → List ℕ
-heldOn b p = macs (ownAt (b .own) (p - 1) .addresses)
+heldOn b p = macs (ownAt (b .owns) (p - 1) .addresses)
 
 -- a frame on a port of the bridge
 module _ (b : Bridge) (p : ℕ) (pdu : List ℕ) where
   frameNumber : ℕ
   frameNumber = receivedAddresses b p (addressWalk pdu) .number
 
-  frame-is : (r : AddressReading) → addressWalk pdu ≡ r → frameNumber ≡ addressNumber (b .clock) (p - 1) r (b .own)
+  frame-is : (r : AddressReading) → addressWalk pdu ≡ r → frameNumber ≡ addressNumber (b .clock) (p - 1) r (b .owns)
   unfolding frameNumber
   frame-is r e =
       ap (λ (w : AddressReading). receivedAddresses b p w .number) e ∙ ap (λ (a : Answer). a .number) (received-is b p r)
@@ -68,8 +68,8 @@ module _ (b : Bridge) (p : ℕ) (pdu : List ℕ) where
   unfolding countWith addressNumber hasRoom
   frame-read es e =
       frame-is (addressActs es) e
-      ∙ room-number 14 (length (doesAddresses (b .clock) es (ownAt (b .own) (p - 1) .addresses)))
-      ∙ ap (λ (n : ℕ). cond (ltb 64 n) 14 0) (acts-held (b .clock) es (ownAt (b .own) (p - 1) .addresses))
+      ∙ room-number 14 (length (doesAddresses (b .clock) es (ownAt (b .owns) (p - 1) .addresses)))
+      ∙ ap (λ (n : ℕ). cond (ltb 64 n) 14 0) (acts-held (b .clock) es (ownAt (b .owns) (p - 1) .addresses))
 
   frame-met : (n : ℕ) → addressWalk pdu ≡ refusedFrame n → frameNumber ≡ n
   unfolding addressNumber

@@ -10,7 +10,7 @@ use native.Mathlib.Decide.{ℕ-discrete}
 use lib.ListN.{length}
 use lib.Dec.{leb}
 use borrow.Author.Tests.{le-leb}
-use Rattle.model.specs.Layout.{addresses}
+use Rattle.model.specs.Layout.{mostAddresses}
 use Rattle.model.specs.Lists.{All, on, Octets}
 use Rattle.model.specs.State.{Settings, Own, Address, Stream, Bridge, noOwn, ownAt}
 use Rattle.model.specs.Registrations.{Act, AddressAct, leaveAll, leave, talk, listen, ofDomain, doesDomain, at, changeDomains, applyOwn, applyOwns, applyAll, Reading, refused, acts, AddressReading, refusedFrame, addressActs, Answer, doesAddresses, changeAddresses, holding, owning, received, receivedAddresses, together, macs, addressJoins, asksAddresses}
@@ -32,7 +32,7 @@ use Rattle.model.proofs.Demand3.{FramesInOctets, frame-keeps, valid-aft
 
 -- on each port of the bridge
 abbrev pub RoomForAddresses : List (ℕ × Frame) → Bridge → Type 0
-RoomForAddresses f b = (p : ℕ) → wrongPort (b .settings) p ≡ false → length (together (heldOn b p) (askedAddresses (b .settings) p (on p f))) ≤ addresses
+RoomForAddresses f b = (p : ℕ) → wrongPort (b .settings) p ≡ false → length (together (heldOn b p) (askedAddresses (b .settings) p (on p f))) ≤ mostAddresses
 
 -- What a frame leaves of the addresses of a port.
 
@@ -48,50 +48,50 @@ acts-addresses now p (ofDomain d ∷ es) o q =
     acts-addresses now p es (applyOwn now p (ofDomain d) o) q
     ∙ at-each (λ (w : Own). w .addresses) p (changeDomains (doesDomain now d)) (λ w. refl) o q noOwn
 
-msrp-addresses : (b : Bridge) (p : ℕ) (pdu : List ℕ) (q : ℕ) → ownAt (receive b p pdu .bridge .own) q .addresses ≡ ownAt (b .own) q .addresses
+msrp-addresses : (b : Bridge) (p : ℕ) (pdu : List ℕ) (q : ℕ) → ownAt (receive b p pdu .bridge .owns) q .addresses ≡ ownAt (b .owns) q .addresses
 unfolding receive
 msrp-addresses b p pdu q = go (reading (b .settings) p pdu)
   where
-    go : (x : Reading) → ownAt (received b p x .bridge .own) q .addresses ≡ ownAt (b .own) q .addresses
+    go : (x : Reading) → ownAt (received b p x .bridge .owns) q .addresses ≡ ownAt (b .owns) q .addresses
     go (refused n) = unfold received in refl
     go (acts es) = unfold received holding owning in (either (leb (length (applyAll (b .clock) (p - 1) es (b .streams))) 64))
       where
         c : Bridge
-        c = owning (holding b (applyAll (b .clock) (p - 1) es (b .streams))) (applyOwns (b .clock) (p - 1) es (b .own))
+        c = owning (holding b (applyAll (b .clock) (p - 1) es (b .streams))) (applyOwns (b .clock) (p - 1) es (b .owns))
 
-        either : (t : Bool) → ownAt (cond {A = Answer} t record { number = 0; bridge = c } record { number = 8; bridge = b } .bridge .own) q .addresses ≡ ownAt (b .own) q .addresses
-        either true = unfold holding owning in (acts-addresses (b .clock) (p - 1) es (b .own) q)
+        either : (t : Bool) → ownAt (cond {A = Answer} t record { number = 0; bridge = c } record { number = 8; bridge = b } .bridge .owns) q .addresses ≡ ownAt (b .owns) q .addresses
+        either true = unfold holding owning in (acts-addresses (b .clock) (p - 1) es (b .owns) q)
         either false = refl
 
 -- A frame of port p that finds room there gives no 14, and joins what it asks for.
 
 module _ (b : Bridge) (v : Valid b) (p : ℕ) (here : wrongPort (b .settings) p ≡ false) where
-  place : p - 1 < length (b .own)
-  place = omega (arith, right-port (b .settings) p here, v .eight-own, v .settings .eight-ports)
+  place : p - 1 < length (b .owns)
+  place = omega (arith, right-port (b .settings) p here, v .eight-owns, v .settings .eight-ports)
 
-  with-room : (es : List AddressAct) → length (together (heldOn b p) (addressJoins es)) ≤ addresses → hasRoom (b .clock) es (ownAt (b .own) (p - 1)) ≡ true
+  with-room : (es : List AddressAct) → length (together (heldOn b p) (addressJoins es)) ≤ mostAddresses → hasRoom (b .clock) es (ownAt (b .owns) (p - 1)) ≡ true
   unfolding hasRoom
-  with-room es h = le-leb (length (doesAddresses (b .clock) es (ownAt (b .own) (p - 1) .addresses))) addresses (rw (acts-held (b .clock) es (ownAt (b .own) (p - 1) .addresses)) h)
+  with-room es h = le-leb (length (doesAddresses (b .clock) es (ownAt (b .owns) (p - 1) .addresses))) mostAddresses (rw (acts-held (b .clock) es (ownAt (b .owns) (p - 1) .addresses)) h)
 
-  acts-number : (r : AddressReading) → length (together (heldOn b p) (asksAddresses r)) ≤ addresses → (asks-few : (n : ℕ) → r ≡ refusedFrame n → n ≤ 7)
-      → addressNumber (b .clock) (p - 1) r (b .own) ≤ 7
+  acts-number : (r : AddressReading) → length (together (heldOn b p) (asksAddresses r)) ≤ mostAddresses → (asks-few : (n : ℕ) → r ≡ refusedFrame n → n ≤ 7)
+      → addressNumber (b .clock) (p - 1) r (b .owns) ≤ 7
   unfolding addressNumber asksAddresses
   acts-number (refusedFrame n) h few = few n refl
   acts-number (addressActs es) h few = rw (with-room es h) (omega arith)
 
-  acts-held-there : (r : AddressReading) → length (together (heldOn b p) (asksAddresses r)) ≤ addresses
-      → macs (ownAt (addressEffect (b .clock) (p - 1) r (b .own)) (p - 1) .addresses) ≡ together (heldOn b p) (asksAddresses r)
+  acts-held-there : (r : AddressReading) → length (together (heldOn b p) (asksAddresses r)) ≤ mostAddresses
+      → macs (ownAt (addressEffect (b .clock) (p - 1) r (b .owns)) (p - 1) .addresses) ≡ together (heldOn b p) (asksAddresses r)
   unfolding addressEffect asksAddresses
   acts-held-there (refusedFrame n) h = unfold together in refl
   acts-held-there (addressActs es) h =
-      ap (λ (o : Own). macs (o .addresses)) (at-here (p - 1) (withRoom (b .clock) es) (b .own) noOwn place)
-      ∙ (unfold withRoom changeAddresses in (rw (with-room es h) (acts-macs (b .clock) es (ownAt (b .own) (p - 1) .addresses))))
+      ap (λ (o : Own). macs (o .addresses)) (at-here (p - 1) (withRoom (b .clock) es) (b .owns) noOwn place)
+      ∙ (unfold withRoom changeAddresses in (rw (with-room es h) (acts-macs (b .clock) es (ownAt (b .owns) (p - 1) .addresses))))
 
   few-faults : (pdu : List ℕ) (n : ℕ) → addressReading (b .settings) p pdu ≡ refusedFrame n → n ≤ 7
   unfolding addressReading
   few-faults pdu n e = address-faults pdu n (rw here at e) .1
 
-  frame-number : (x : Frame) → length (together (heldOn b p) (addressesBy (b .settings) p x)) ≤ addresses → receiveFrame b p x .number ≡ 14 → ⊥
+  frame-number : (x : Frame) → length (together (heldOn b p) (addressesBy (b .settings) p x)) ≤ mostAddresses → receiveFrame b p x .number ≡ 14 → ⊥
   unfolding receiveFrame addressesBy
   frame-number (msrp pdu) h e = omega (arith, receive-few b p pdu)
   frame-number (mmrp pdu) h e =
@@ -100,13 +100,13 @@ module _ (b : Bridge) (v : Valid b) (p : ℕ) (here : wrongPort (b .settings) p 
       (unfold receiveMmrp in (rw (received-is b p r) (acts-number r h (few-faults pdu)))) in
       omega arith
 
-  frame-held : (x : Frame) → length (together (heldOn b p) (addressesBy (b .settings) p x)) ≤ addresses
+  frame-held : (x : Frame) → length (together (heldOn b p) (addressesBy (b .settings) p x)) ≤ mostAddresses
       → heldOn (receiveFrame b p x .bridge) p ≡ together (heldOn b p) (addressesBy (b .settings) p x)
   unfolding receiveFrame receiveMmrp owning addressesBy
   frame-held (msrp pdu) h = ap macs (msrp-addresses b p pdu (p - 1)) ∙ (unfold together in refl)
   frame-held (mmrp pdu) h =
       let r = addressReading (b .settings) p pdu in
-      ap (λ (a : Answer). macs (ownAt (a .bridge .own) (p - 1) .addresses)) (received-is b p r) ∙ acts-held-there r h
+      ap (λ (a : Answer). macs (ownAt (a .bridge .owns) (p - 1) .addresses)) (received-is b p r) ∙ acts-held-there r h
 
 -- On another port nothing changes.
 other-held : (b : Bridge) (p q : ℕ) (x : Frame) → wrongPort (b .settings) p ≡ false → wrongPort (b .settings) q ≡ false → (p ≡ q → ⊥)
@@ -115,13 +115,13 @@ unfolding receiveFrame receiveMmrp owning
 other-held b p q (msrp pdu) d e n = ap macs (msrp-addresses b p pdu (q - 1))
 other-held b p q (mmrp pdu) d e n =
     let r = addressReading (b .settings) p pdu in
-    ap (λ (a : Answer). macs (ownAt (a .bridge .own) (q - 1) .addresses)) (received-is b p r) ∙ go r
+    ap (λ (a : Answer). macs (ownAt (a .bridge .owns) (q - 1) .addresses)) (received-is b p r) ∙ go r
   where
-    go : (r : AddressReading) → macs (ownAt (addressEffect (b .clock) (p - 1) r (b .own)) (q - 1) .addresses) ≡ heldOn b q
+    go : (r : AddressReading) → macs (ownAt (addressEffect (b .clock) (p - 1) r (b .owns)) (q - 1) .addresses) ≡ heldOn b q
     go (refusedFrame n) = unfold addressEffect in refl
     go (addressActs es) =
         unfold addressEffect in
-        (ap (λ (o : Own). macs (o .addresses)) (at-other (p - 1) (withRoom (b .clock) es) (b .own) (q - 1) noOwn (places-apart (b .settings) p q d e n)))
+        (ap (λ (o : Own). macs (o .addresses)) (at-other (p - 1) (withRoom (b .clock) es) (b .owns) (q - 1) noOwn (places-apart (b .settings) p q d e n)))
 
 -- A frame on no port of the bridge is refused with 1, and changes nothing.
 wrong-number : (b : Bridge) (p : ℕ) (x : Frame) → wrongPort (b .settings) p ≡ true → receiveFrame b p x .number ≡ 1
@@ -136,11 +136,11 @@ module _ (a : ℕ × Frame) (f : List (ℕ × Frame)) (b : Bridge) (v : Valid b)
   next = receiveFrame b (a .0) (a .1) .bridge
 
   first-asks : wrongPort (b .settings) (a .0) ≡ false
-      → length (together (heldOn b (a .0)) (addressesBy (b .settings) (a .0) (a .1) ++ askedAddresses (b .settings) (a .0) (on (a .0) f))) ≤ addresses
+      → length (together (heldOn b (a .0)) (addressesBy (b .settings) (a .0) (a .1) ++ askedAddresses (b .settings) (a .0) (on (a .0) f))) ≤ mostAddresses
   first-asks e = unfold askedAddresses in (rw (on-same (a .0) a f refl) at (h (a .0) e))
 
-  first-room : wrongPort (b .settings) (a .0) ≡ false → length (together (heldOn b (a .0)) (addressesBy (b .settings) (a .0) (a .1))) ≤ addresses
-  first-room e = first-fits (heldOn b (a .0)) (addressesBy (b .settings) (a .0) (a .1)) (askedAddresses (b .settings) (a .0) (on (a .0) f)) addresses (first-asks e)
+  first-room : wrongPort (b .settings) (a .0) ≡ false → length (together (heldOn b (a .0)) (addressesBy (b .settings) (a .0) (a .1))) ≤ mostAddresses
+  first-room e = first-fits (heldOn b (a .0)) (addressesBy (b .settings) (a .0) (a .1)) (askedAddresses (b .settings) (a .0) (on (a .0) f)) mostAddresses (first-asks e)
 
   not-14 : receiveFrame b (a .0) (a .1) .number ≡ 14 → ⊥
   not-14 = go (wrongPort (b .settings) (a .0)) refl

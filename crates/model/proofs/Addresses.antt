@@ -12,7 +12,7 @@ use Rattle.octets.specs.Be.{beAt}
 use Rattle.octets.specs.Fields.{fields, packed, Fit, width, flat}
 use Rattle.octets.specs.Parts.{zeros}
 use Rattle.octets.proofs.Fields.{length-packed-any, fields-of-packed, fields-fit, fit-at}
-use Rattle.model.specs.Layout.{addresses, addressesSize, addressSize, addressWidths, inAddress}
+use Rattle.model.specs.Layout.{mostAddresses, addressesSize, addressSize, addressWidths, inAddress}
 use Rattle.model.specs.Lists.{All, allTrue, parts, Octets, allZero}
 use Rattle.model.specs.State.{Presence, vacant, present, Address}
 use Rattle.model.specs.Registrations.{macs}
@@ -113,34 +113,34 @@ module _ (clock leave : ℕ) where
 -- All of a port.
 
 abbrev pub addressesWhole : List Address → List ℕ
-addressesWhole l = flat addressOctets l ++ zeros ((addresses - length l) * addressSize)
+addressesWhole l = flat addressOctets l ++ zeros ((mostAddresses - length l) * addressSize)
 
 -- the addresses of records, as they are read
 macs-read : (n : ℕ) (s : List ℕ) → parts addressSize macOf n s ≡ macs (parts addressSize toAddress n s)
 unfolding macOf macs toAddress addressFrom fields
 macs-read n s = parts-map addressSize toAddress (λ (a : Address). a .mac) n s
 
-module _ (l : List Address) (few : length l ≤ addresses) where
+module _ (l : List Address) (few : length l ≤ mostAddresses) where
   addresses-length : length (flat addressOctets l) ≡ length l * addressSize
   addresses-length = length-flat-sized addressSize addressOctets l (addresses-sized l)
 
   pub whole-addresses-length : length (addressesWhole l) ≡ addressesSize
   whole-addresses-length =
-      length-append (flat addressOctets l) (zeros ((addresses - length l) * addressSize))
-      ∙ omega (arith, addresses-length, length-zeros ((addresses - length l) * addressSize))
+      length-append (flat addressOctets l) (zeros ((mostAddresses - length l) * addressSize))
+      ∙ omega (arith, addresses-length, length-zeros ((mostAddresses - length l) * addressSize))
 
-  pub addresses-rest : drop (length l * addressSize) (addressesWhole l) ≡ zeros ((addresses - length l) * addressSize)
-  addresses-rest = drop-at (flat addressOctets l) (zeros ((addresses - length l) * addressSize)) (length l * addressSize) addresses-length
+  pub addresses-rest : drop (length l * addressSize) (addressesWhole l) ≡ zeros ((mostAddresses - length l) * addressSize)
+  addresses-rest = drop-at (flat addressOctets l) (zeros ((mostAddresses - length l) * addressSize)) (length l * addressSize) addresses-length
 
 pub addresses-back : (l : List Address) → All (λ a. Fit addressWidths (addressNumbers a)) l → parts addressSize toAddress (length l) (addressesWhole l) ≡ l
 addresses-back l f =
-    parts-flat addressSize addressOctets toAddress l (zeros ((addresses - length l) * addressSize)) (addresses-sized l)
+    parts-flat addressSize addressOctets toAddress l (zeros ((mostAddresses - length l) * addressSize)) (addresses-sized l)
     (all-map (λ a. Fit addressWidths (addressNumbers a)) (λ a. toAddress (addressOctets a) ≡ a) address-back l f)
 
 pub addresses-octets : (l : List Address) → Octets (addressesWhole l)
 addresses-octets l =
-    octets-append (flat addressOctets l) (zeros ((addresses - length l) * addressSize)) (octets-flat addressOctets address-octets l)
-    (octets-zeros ((addresses - length l) * addressSize))
+    octets-append (flat addressOctets l) (zeros ((mostAddresses - length l) * addressSize)) (octets-flat addressOctets address-octets l)
+    (octets-zeros ((mostAddresses - length l) * addressSize))
 
 module _ (clock leave : ℕ) (small : clock < 2 ^ 32) where
   pub valid-addresses-fit : (l : List Address) → ValidAddresses clock leave l → FitAddresses l
@@ -153,7 +153,7 @@ module _ (clock leave : ℕ) (small : clock < 2 ^ 32) where
   module _ (l : List Address) (v : ValidAddresses clock leave l) where
     pub addresses-formed : everyPart addressSize (addressFormed clock leave) (length l) (addressesWhole l) ≡ true
     addresses-formed =
-        every-flat addressSize addressOctets (addressFormed clock leave) l (zeros ((addresses - length l) * addressSize)) (addresses-sized l)
+        every-flat addressSize addressOctets (addressFormed clock leave) l (zeros ((mostAddresses - length l) * addressSize)) (addresses-sized l)
         (all-map (ValidAddress clock leave) (λ a. addressFormed clock leave (addressOctets a) ≡ true) (address-formed clock leave small) l (v .each))
 
     pub addresses-rise : rising (parts addressSize macOf (length l) (addressesWhole l)) ≡ true
@@ -162,7 +162,7 @@ module _ (clock leave : ℕ) (small : clock < 2 ^ 32) where
         ∙ rises-rising (macs l) (v .ascending)
 
   -- n of them in the octets of 64, that keep the rules
-  module _ (n : ℕ) (s : List ℕ) (few : n ≤ addresses) (l : length s ≡ addressesSize) (o : Octets s)
+  module _ (n : ℕ) (s : List ℕ) (few : n ≤ mostAddresses) (l : length s ≡ addressesSize) (o : Octets s)
       (r : everyPart addressSize (addressFormed clock leave) n s ≡ true) (z : allZero (drop (n * addressSize) s) ≡ true) where
     abbrev those : List Address
     those = parts addressSize toAddress n s
@@ -172,7 +172,7 @@ module _ (clock leave : ℕ) (small : clock < 2 ^ 32) where
         rw (
           length-parts addressSize toAddress n s,
           every-forth addressSize (addressFormed clock leave) toAddress addressOctets (address-forth clock leave) n s (omega arith) o r,
-          ← padding addressSize n addresses s few l z,
+          ← padding addressSize n mostAddresses s few l z,
         )
         (take-append-drop (n * addressSize) s)
 

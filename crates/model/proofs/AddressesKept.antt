@@ -8,10 +8,10 @@ use native.Mathlib.Omega.{arith}
 use lib.ListN.{length, length-map}
 use lib.Dec.{ltb, leb, eqb}
 use borrow.Author.Tests.{eqb-true, leb-true, le-leb}
-use Rattle.model.specs.Layout.{addresses}
+use Rattle.model.specs.Layout.{mostAddresses}
 use Rattle.model.specs.Lists.{All}
 use Rattle.model.specs.State.{Leaving, Presence, vacant, present, Address, Own, Bridge, ownAt}
-use Rattle.model.specs.Registrations.{AddressAct, leaveAllAddresses, leaveAddress, joinAddress, AddressReading, refusedFrame, addressActs, quitPresence, quitAddress, joined, withJoined, withLeft, doesAddress, doesAddresses, changeAddresses, owning, receivedAddresses, add, together, macs, addressJoins, asksAddresses}
+use Rattle.model.specs.Registrations.{AddressAct, leaveAllAddresses, leaveAddress, joinAddress, AddressReading, refusedFrame, addressActs, quitPresence, quitAddress, joinedAddress, withJoined, withLeft, doesAddress, doesAddresses, changeAddresses, owning, receivedAddresses, add, together, macs, addressJoins, asksAddresses}
 use Rattle.model.specs.Frames.{wrongPort}
 use Rattle.model.specs.AddressFrames.{addressReading}
 use Rattle.model.specs.Calls.{receiveMmrp}
@@ -26,12 +26,12 @@ use Rattle.model.proofs.ReceivedAddresses.{hasRoom, withRoom, addressEf
 -- Which addresses are held.
 
 macs-joined : (m : ℕ) (l : List Address) → macs (withJoined m l) ≡ add m (macs l)
-unfolding withJoined macs add joined
+unfolding withJoined macs add joinedAddress
 macs-joined m [] = refl
 macs-joined m (a ∷ l) = go (ltb m (a .mac)) (eqb m (a .mac)) refl (macs-joined m l)
   where
     go : (s t : Bool) → eqb m (a .mac) ≡ t → macs (withJoined m l) ≡ add m (macs l)
-        → macs (cond s (joined m ∷ a ∷ l) (cond t (joined m ∷ l) (a ∷ withJoined m l))) ≡ cond s (m ∷ a .mac ∷ macs l) (cond t (a .mac ∷ macs l) (a .mac ∷ add m (macs l)))
+        → macs (cond s (joinedAddress m ∷ a ∷ l) (cond t (joinedAddress m ∷ l) (a ∷ withJoined m l))) ≡ cond s (m ∷ a .mac ∷ macs l) (cond t (a .mac ∷ macs l) (a .mac ∷ add m (macs l)))
     go true t e ih = refl
     go false true e ih = ap (λ (n : ℕ). n ∷ macs l) (eqb-true m (a .mac) e)
     go false false e ih = ap (λ (r : List ℕ). a .mac ∷ r) ih
@@ -77,8 +77,8 @@ module _ (clock leave : ℕ) (leaves : 1 ≤ leave) where
   unfolding quitAddress
   address-quits a v = record { mac = v .mac; presence = presence-quits (a .presence) (v .presence) }
 
-  join-valid : (m : ℕ) → m < 256 ^ 6 → ValidAddress clock leave (joined m)
-  unfolding joined
+  join-valid : (m : ℕ) → m < 256 ^ 6 → ValidAddress clock leave (joinedAddress m)
+  unfolding joinedAddress
   join-valid m h = record { mac = h; presence = tt }
 
   joined-valid : (m : ℕ) → m < 256 ^ 6 → (l : List Address) → All (ValidAddress clock leave) l → All (ValidAddress clock leave) (withJoined m l)
@@ -87,7 +87,7 @@ module _ (clock leave : ℕ) (leaves : 1 ≤ leave) where
   joined-valid m h (a ∷ l) v = go (ltb m (a .mac)) (eqb m (a .mac)) (joined-valid m h l (v .1))
     where
       go : (s t : Bool) → All (ValidAddress clock leave) (withJoined m l)
-          → All (ValidAddress clock leave) (cond s (joined m ∷ a ∷ l) (cond t (joined m ∷ l) (a ∷ withJoined m l)))
+          → All (ValidAddress clock leave) (cond s (joinedAddress m ∷ a ∷ l) (cond t (joinedAddress m ∷ l) (a ∷ withJoined m l)))
       go true t ih = (join-valid m h, v)
       go false true ih = (join-valid m h, v .1)
       go false false ih = (v .0, ih)
@@ -114,15 +114,15 @@ module _ (clock leave : ℕ) (leaves : 1 ≤ leave) where
 
   own-valid : (es : List AddressAct) → All FitsAddress es → (o : Own) → ValidOwn clock leave o → ValidOwn clock leave (withRoom clock es o)
   unfolding withRoom hasRoom
-  own-valid es h o v = go (leb (length (doesAddresses clock es (o .addresses))) addresses) refl
+  own-valid es h o v = go (leb (length (doesAddresses clock es (o .addresses))) mostAddresses) refl
     where
-      go : (t : Bool) → leb (length (doesAddresses clock es (o .addresses))) addresses ≡ t
+      go : (t : Bool) → leb (length (doesAddresses clock es (o .addresses))) mostAddresses ≡ t
           → ValidOwn clock leave (cond t (changeAddresses (doesAddresses clock es) o) o)
       go true e = unfold changeAddresses in (record {
         slotted = v .slotted;
         domains = v .domains;
         addresses = record {
-          at-most-64 = leb-true (length (doesAddresses clock es (o .addresses))) addresses e;
+          at-most-64 = leb-true (length (doesAddresses clock es (o .addresses))) mostAddresses e;
           each = acts-valid es h (o .addresses) (v .addresses .each);
           ascending = rw (acts-macs clock es (o .addresses)) (rising-together (addressJoins es) (macs (o .addresses)) (v .addresses .ascending));
         };
@@ -132,7 +132,7 @@ module _ (clock leave : ℕ) (leaves : 1 ≤ leave) where
 -- The bridge keeps the form rules.
 
 effect-keeps : (b : Bridge) (p : ℕ) (x : AddressReading) → p - 1 < length (b .settings .ports) → FitsAddresses x → Valid b →
-    Valid (owning b (addressEffect (b .clock) (p - 1) x (b .own)))
+    Valid (owning b (addressEffect (b .clock) (p - 1) x (b .owns)))
 unfolding addressEffect owning
 effect-keeps b p (refusedFrame n) here fits v = v
 effect-keeps b p (addressActs es) here fits v =
@@ -142,11 +142,11 @@ effect-keeps b p (addressActs es) here fits v =
       clock = v .clock;
       eight-totals = v .eight-totals;
       totals = v .totals;
-      eight-own = length-at (p - 1) u (b .own) ∙ v .eight-own;
-      own =
-          all-changed (ValidOwn (b .clock) (b .settings .leaveTime)) (p - 1) u (b .own)
-          (own-valid (b .clock) (b .settings .leaveTime) (v .settings .leaves) es fits) (v .own);
-      no-other-own = rw (drop-changed (length (b .settings .ports)) (p - 1) u (b .own) here) (v .no-other-own);
+      eight-owns = length-at (p - 1) u (b .owns) ∙ v .eight-owns;
+      owns =
+          all-changed (ValidOwn (b .clock) (b .settings .leaveTime)) (p - 1) u (b .owns)
+          (own-valid (b .clock) (b .settings .leaveTime) (v .settings .leaves) es fits) (v .owns);
+      no-other-owns = rw (drop-changed (length (b .settings .ports)) (p - 1) u (b .owns) here) (v .no-other-owns);
       at-most-64 = v .at-most-64;
       streams = v .streams;
       ascending = v .ascending;

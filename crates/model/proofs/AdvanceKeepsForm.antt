@@ -9,9 +9,9 @@ use lib.ListN.{length, getD, drop, length-map}
 use lib.Dec.{ltb, leb, eqb}
 use borrow.Author.Tests.{ltb-false, leb-false, le-ltb, le-leb, eq-eqb, ne-eqb, ltb-true, lt-ltb, eqb-true, eqb-false, not-true}
 use Rattle.model.specs.Lists.{All, keep, tabulate, implies, bit}
-use Rattle.model.specs.State.{Port, Settings, Leaving, stays, since, Health, sound, broken, Talker, noTalker, talker, Listener, noListener, listener, Cell, Domain, noDomain, domain, Presence, vacant, present, Address, Own, Column, none, advertise, failed, Entry, noEntry, filters, forwards, Declared, nothing, tells, Result, Stream, Totals, Bridge, empty, unsettled, noFixed, noOwn, noPort, ownAt, portAt, isPort, cellAt, resultAt, Class, classA, classB, inForce, noClass, sameClass, supports}
+use Rattle.model.specs.State.{Port, Settings, Leaving, stays, since, TalkerType, talkerAdvertise, talkerFailed, Talker, noTalker, talker, Listener, noListener, listener, Cell, Domain, noDomain, domain, Presence, vacant, present, Address, Own, Column, none, advertise, failed, Entry, noEntry, filters, forwards, Declared, nothing, tells, Result, Stream, Totals, Bridge, empty, unsettled, noFixed, noOwn, noPort, ownAt, portAt, isPort, cellAt, resultAt, Class, classA, classB, inForce, noClass, sameClass, supports}
 use Rattle.model.specs.Registrations.{Answer, ids, macs}
-use Rattle.model.specs.Settling.{Scene, sceneOf, flagOf, decideOwn, decideOwns, expired, expireDomain, isPresent, remainAddresses, expireTalker, expireListener, expireCell, expire, held, remain, Source, nowhere, from, source, sourceOf, isSource, fixedOf, healthOf, registered, isReady, Outcome, columnNone, asRegistered, ownFailure, Step, first, brokenColumn, outcomeColumn, stepsFrom, steps, ageOf, claims, reservedA, limitOn, byBandwidth, columnOf, capped, latencyOut, entryOf, ageKept, latencyKept, decideAt, decide, totalOn, totalsOn, settle, advance, isTalking, isHearing, Origin, streamClass, clear, Inbound, inboundOf, inboundsOf, lastSteps}
+use Rattle.model.specs.Settling.{Scene, sceneOf, flagOf, decideOwn, decideOwns, expired, expireDomain, outlasts, remainAddresses, expireTalker, expireListener, expireCell, expire, held, remain, Source, nowhere, from, source, sourceOf, isSource, fixedOf, talkerTypeOf, registered, isReady, Outcome, columnNone, asRegistered, ownFailure, Step, first, failedColumn, outcomeColumn, stepsFrom, steps, ageOf, claims, reservedA, limitOn, byBandwidth, columnOf, capped, latencyOut, entryOf, ageKept, latencyKept, decideAt, decide, totalOn, totalsOn, settle, advance, isTalking, isHearing, Origin, streamClass, clear, Inbound, inboundOf, inboundsOf, lastSteps}
 use Rattle.model.specs.Bandwidth.{sort, total, reserved}
 use Rattle.model.specs.Table.{totalsWithin, talkers, hasColumn, declares, declarers, forListener, storedRules, storedFormed, atMost}
 use Rattle.model.proofs.Lists.{all-append, all-getD, all-tabulate, at-place, and-false, implies-true, true-all}
@@ -19,7 +19,7 @@ use Rattle.model.proofs.Parts.{_also_}
 use Rattle.model.proofs.Stored.{talker-counts, other-counts, one-declares}
 use Rattle.model.proofs.Admission.{within}
 use Rattle.model.proofs.Owns.{no-own-valid}
-use Rattle.model.proofs.Valid.{ValidLeaving, ValidFixed, ValidHealth, ValidRegistration, ValidTalker, ValidListener, ValidCell, ValidDomain, ValidPresence, ValidAddress, ValidOwn, ValidColumn, ValidAge, ValidResult, ValidStream, Rising, Valid, again-valid}
+use Rattle.model.proofs.Valid.{ValidLeaving, ValidFixed, ValidTalkerType, ValidRegistration, ValidTalker, ValidListener, ValidCell, ValidDomain, ValidPresence, ValidAddress, ValidOwn, ValidColumn, ValidAge, ValidResult, ValidStream, Rising, Valid, again-valid}
 
 -- Lists.
 
@@ -93,17 +93,17 @@ module _ (st : Settings) (clock now : ℕ) (later : clock ≤ now) where
       go true e = tt
       go false e = (v .0, leaving-remains l e (v .1))
 
-  presence-remains : (h : Presence) → isPresent st now h ≡ true → ValidPresence clock (st .leaveTime) h → ValidPresence now (st .leaveTime) h
-  unfolding isPresent
+  presence-remains : (h : Presence) → outlasts st now h ≡ true → ValidPresence clock (st .leaveTime) h → ValidPresence now (st .leaveTime) h
+  unfolding outlasts
   presence-remains vacant e v = v
   presence-remains (present l) e v = leaving-remains l (not-true (expired st now l) e) v
 
   addresses-remain : (l : List Address) → All (ValidAddress clock (st .leaveTime)) l → All (ValidAddress now (st .leaveTime)) (remainAddresses st now l)
   unfolding remainAddresses
   addresses-remain [] a = tt
-  addresses-remain (x ∷ l) a = go (isPresent st now (x .presence)) refl (addresses-remain l (a .1))
+  addresses-remain (x ∷ l) a = go (outlasts st now (x .presence)) refl (addresses-remain l (a .1))
     where
-      go : (t : Bool) → isPresent st now (x .presence) ≡ t → All (ValidAddress now (st .leaveTime)) (remainAddresses st now l) →
+      go : (t : Bool) → outlasts st now (x .presence) ≡ t → All (ValidAddress now (st .leaveTime)) (remainAddresses st now l) →
           All (ValidAddress now (st .leaveTime)) (keep t x (remainAddresses st now l))
       go true e ih = (record { mac = a .0 .mac; presence = presence-remains (x .presence) e (a .0 .presence) }, ih)
       go false e ih = ih
@@ -117,7 +117,7 @@ module _ (st : Settings) (now : ℕ) where
   pub fewer-addresses : (l : List Address) → length (remainAddresses st now l) ≤ length l
   unfolding remainAddresses
   fewer-addresses [] = omega arith
-  fewer-addresses (a ∷ l) = go (isPresent st now (a .presence)) (fewer-addresses l)
+  fewer-addresses (a ∷ l) = go (outlasts st now (a .presence)) (fewer-addresses l)
     where
       go : (t : Bool) → length (remainAddresses st now l) ≤ length l → length (keep t a (remainAddresses st now l)) ≤ suc (length l)
       go true ih = omega arith
@@ -126,7 +126,7 @@ module _ (st : Settings) (now : ℕ) where
   pub macs-remain : (P : ℕ → Type 0) (l : List Address) → All P (macs l) → All P (macs (remainAddresses st now l))
   unfolding macs remainAddresses
   macs-remain P [] h = tt
-  macs-remain P (a ∷ l) h = go (isPresent st now (a .presence)) (macs-remain P l (h .1))
+  macs-remain P (a ∷ l) h = go (outlasts st now (a .presence)) (macs-remain P l (h .1))
     where
       go : (t : Bool) → All P (macs (remainAddresses st now l)) → All P (macs (keep t a (remainAddresses st now l)))
       go true ih = (h .0, ih)
@@ -135,7 +135,7 @@ module _ (st : Settings) (now : ℕ) where
   pub macs-rise : (l : List Address) → Rising (macs l) → Rising (macs (remainAddresses st now l))
   unfolding macs remainAddresses Rising
   macs-rise [] r = tt
-  macs-rise (a ∷ l) r = go (isPresent st now (a .presence)) (macs-rise l (r .1))
+  macs-rise (a ∷ l) r = go (outlasts st now (a .presence)) (macs-rise l (r .1))
     where
       go : (t : Bool) → Rising (macs (remainAddresses st now l)) → Rising (macs (keep t a (remainAddresses st now l)))
       go true ih = (macs-remain (λ j. a .mac < j) l (r .0), ih)
@@ -254,10 +254,10 @@ module _ (clock leave : ℕ) where
   fixed-valid nowhere v = omega arith
   fixed-valid (from o) v = v .fixed
 
-  pub health-valid : (s : Source) → ValidSource clock leave s → ValidHealth (healthOf s)
-  unfolding healthOf
-  health-valid nowhere v = tt
-  health-valid (from o) v = v .varying .health
+  pub type-valid : (s : Source) → ValidSource clock leave s → ValidTalkerType (talkerTypeOf s)
+  unfolding talkerTypeOf
+  type-valid nowhere v = tt
+  type-valid (from o) v = v .varying .type
 
 -- no port below the first place looked at
 source-after : (p q : ℕ) (cs : List Cell) → q < p → isSource (source p cs) q ≡ false
@@ -329,17 +329,17 @@ last-codes-fit : (sc : Scene) (p : ℕ) (i : Inbound) → All (λ t. ValidOutcom
 unfolding lastSteps
 last-codes-fit sc p i = omega arith
 
-broken-valid : (h : Health) → ValidHealth h → ValidFailure (brokenColumn h)
-unfolding brokenColumn
-broken-valid sound v = tt
-broken-valid (broken b c) v = v
+failed-valid : (h : TalkerType) → ValidTalkerType h → ValidFailure (failedColumn h)
+unfolding failedColumn
+failed-valid talkerAdvertise v = tt
+failed-valid (talkerFailed b c) v = v
 
 module _ (sc : Scene) (named : sc .settings .bridgeId < 2 ^ 64) where
-  module _ (s : Source) (v : ValidHealth (healthOf s)) where
+  module _ (s : Source) (v : ValidTalkerType (talkerTypeOf s)) where
     outcome-valid : (o : Outcome) → ValidOutcome o → ValidFailure (outcomeColumn (sc .settings) s o)
     unfolding outcomeColumn
     outcome-valid columnNone h = tt
-    outcome-valid asRegistered h = broken-valid (healthOf s) v
+    outcome-valid asRegistered h = failed-valid (talkerTypeOf s) v
     outcome-valid (ownFailure code) h = (named, h)
 
     first-valid : (l : List Step) (c : Column) → All (λ t. ValidOutcome (t .outcome)) l → ValidFailure c → ValidFailure (first (outcomeColumn (sc .settings) s) l c)
@@ -355,7 +355,7 @@ module _ (sc : Scene) (named : sc .settings .bridgeId < 2 ^ 64) where
         go false ih = ih
 
   -- whichever step applies, and whatever follows them all
-  pub steps-valid : (p : ℕ) (x : Stream) (c : Column) → ValidHealth (healthOf (sourceOf x)) → ValidFailure c
+  pub steps-valid : (p : ℕ) (x : Stream) (c : Column) → ValidTalkerType (talkerTypeOf (sourceOf x)) → ValidFailure c
       → ValidFailure (first (outcomeColumn (sc .settings) (sourceOf x)) (steps sc p x) c)
   unfolding steps
   steps-valid p x c v w =
@@ -370,7 +370,7 @@ module _ (sc : Scene) (named : sc .settings .bridgeId < 2 ^ 64) where
       go true = omega arith
       go false = tt
 
-  column-valid : (now : ℕ) (s : List Stream) (p : ℕ) (x : Stream) → ValidHealth (healthOf (sourceOf x)) → ValidFailure (columnOf sc now s p x)
+  column-valid : (now : ℕ) (s : List Stream) (p : ℕ) (x : Stream) → ValidTalkerType (talkerTypeOf (sourceOf x)) → ValidFailure (columnOf sc now s p x)
   unfolding columnOf
   column-valid now s p x v = steps-valid p x _ v (bandwidth-valid _ _)
 
@@ -447,7 +447,7 @@ module _ (sc : Scene) (named : sc .settings .bridgeId < 2 ^ 64) (few : length (s
   result-valid : (p : ℕ) → ValidResult now (decideAt sc now s x p)
   unfolding decideAt latencyOut resultAt
   result-valid p = record {
-    column = entry-fits (columnOf sc now s p x) (registered (cellAt x p)) _ (column-valid sc named now s p x (health-valid now (sc .settings .leaveTime) (sourceOf x) source-fits));
+    column = entry-fits (columnOf sc now s p x) (registered (cellAt x p)) _ (column-valid sc named now s p x (type-valid now (sc .settings .leaveTime) (sourceOf x) source-fits));
     latency = latency-fits (columnOf sc now s p x) _ (capped-fits _);
     age =
         age-fits now (entryOf (columnOf sc now s p x) (registered (cellAt x p))) _
@@ -669,11 +669,11 @@ settle-keeps b now small later v = record {
   clock = small;
   eight-totals = length-tabulate 8 0 (totalsOn sc now s);
   totals = rw (length-map s (decide sc now s)) (settled-totals sc now s);
-  eight-own = length-tabulate 8 0 (decideOwn st now (b .own));
-  own = all-tabulate (ValidOwn now (st .leaveTime)) 8 0 (decideOwn st now (b .own)) (own-valid st (b .clock) now later (b .own) (v .own));
-  no-other-own =
-      all-drop-tabulate (λ o. o ≡ noOwn) ports 8 0 (decideOwn st now (b .own))
-      (λ p h. none-there st (b .clock) now later (b .own) (v .own) (v .no-other-own) p (omega arith));
+  eight-owns = length-tabulate 8 0 (decideOwn st now (b .owns));
+  owns = all-tabulate (ValidOwn now (st .leaveTime)) 8 0 (decideOwn st now (b .owns)) (own-valid st (b .clock) now later (b .owns) (v .owns));
+  no-other-owns =
+      all-drop-tabulate (λ o. o ≡ noOwn) ports 8 0 (decideOwn st now (b .owns))
+      (λ p h. none-there st (b .clock) now later (b .owns) (v .owns) (v .no-other-owns) p (omega arith));
   at-most-64 = rw (length-map s (decide sc now s)) (omega (arith, fewer-remain st now (b .streams), v .at-most-64));
   streams =
       all-mapped (Remaining ports (b .clock) now (st .leaveTime)) (ValidStream ports now (st .leaveTime)) (decide sc now s)
@@ -692,7 +692,7 @@ settle-keeps b now small later v = record {
     s = remain st now (b .streams)
 
     sc : Scene
-    sc = record { settings = st; own = decideOwns st now (b .own); inbound = inboundsOf s }
+    sc = record { settings = st; owns = decideOwns st now (b .owns); inbound = inboundsOf s }
 
 pub advance-keeps : (b : Bridge) (now : ℕ) → now < 2 ^ 32 → Valid b → Valid (advance b now .bridge)
 unfolding advance

@@ -10,7 +10,7 @@ use lib.ListN.{length, getD}
 use lib.Dec.{eqb}
 use borrow.Author.Tests.{eqb-false, ne-eqb, lt-ltb}
 use Rattle.model.specs.State.{Port, Settings, Cell, Domain, noDomain, domain, Own, noOwn, failed, Stream, Bridge, noPort, portAt, isPort, cellAt, ownAt, Class, noClass, classA, classB, classOf, isNoClass, supports, classPriority}
-use Rattle.model.specs.Settling.{Source, nowhere, from, sourceOf, fixedOf, healthOf, streamClass, isDomain, anyDomain, otherPriority, domainsOf, anySupports, isEdge, flagOf, decideOwn, decideOwns, boundary, Scene, clear, isBroken, Inbound, inboundOf, stepsFrom, lastSteps, steps, columnOf, settle}
+use Rattle.model.specs.Settling.{Source, nowhere, from, sourceOf, fixedOf, talkerTypeOf, streamClass, isDomain, anyDomain, otherPriority, domainsOf, anySupports, isEdge, flagOf, decideOwn, decideOwns, boundary, Scene, clear, isTalkerFailed, Inbound, inboundOf, stepsFrom, lastSteps, steps, columnOf, settle}
 use Rattle.model.specs.Table.{columnCode}
 use Rattle.model.proofs.OwnCodes.{gives, earlier, asked, never, once, stepsOf, own-decided, own-only}
 use Rattle.model.proofs.ColumnRule.{at-place}
@@ -148,11 +148,11 @@ module _ (st : Settings) (p : ℕ) (c : Class) (ds : List Domain) where
 
 module _ (now : ℕ) (b : Bridge) (p : ℕ) (port : p < length (b .settings .ports)) (eight : p < 8) where
   abbrev left : Own
-  left = ownAt (settle now b .own) p
+  left = ownAt (settle now b .owns) p
 
-  decided : left ≡ decideOwn (b .settings) now (b .own) p
+  decided : left ≡ decideOwn (b .settings) now (b .owns) p
   unfolding settle decideOwns
-  decided = at-place (decideOwn (b .settings) now (b .own)) p noOwn eight
+  decided = at-place (decideOwn (b .settings) now (b .owns)) p noOwn eight
 
   settled-flag : (c : Class) → isNoClass c ≡ false → boundary left c ≡ isEdge (b .settings) p c (left .domains)
   unfolding boundary isNoClass
@@ -178,7 +178,7 @@ module _ (now : ℕ) (b : Bridge) (p : ℕ) (port : p < length (b .settings .por
 
 module _ (sc : Scene) (p : ℕ) (here : Cell) (i : Inbound) where
   eight-asked : (o : Source) → clear (earlier 8 (stepsOf sc p here i o)) ≡ true
-      → asked 8 (stepsOf sc p here i o) ≡ boundary (ownAt (sc .own) p) (classOf (sc .settings) (fixedOf o .priority))
+      → asked 8 (stepsOf sc p here i o) ≡ boundary (ownAt (sc .owns) p) (classOf (sc .settings) (fixedOf o .priority))
   unfolding stepsFrom lastSteps clear earlier asked gives fixedOf
   eight-asked nowhere free = absurd (go (isPort (sc .settings) p) (clear (earlier 8 (lastSteps sc p i))) free)
     where
@@ -194,7 +194,7 @@ module _ (sc : Scene) (p : ℕ) (here : Cell) (i : Inbound) where
 
 module _ (sc : Scene) (now : ℕ) (s : List Stream) (p : ℕ) (x : Stream) where
   abbrev flag : Bool
-  flag = boundary (ownAt (sc .own) p) (streamClass (sc .settings) x)
+  flag = boundary (ownAt (sc .owns) p) (streamClass (sc .settings) x)
 
   -- where no step before j applies and the flag is set, the column is Failed with this Bridge ID and code 8
   pub eight-decided : clear (earlier 8 (steps sc p x)) ≡ true → flag ≡ true → columnOf sc now s p x ≡ failed (sc .settings .bridgeId) 8
@@ -202,7 +202,7 @@ module _ (sc : Scene) (now : ℕ) (s : List Stream) (p : ℕ) (x : Stream) where
   eight-decided free set = own-decided sc now s p x 8 free (eight-asked sc p (cellAt x p) (inboundOf x) (sourceOf x) free ∙ set)
 
   -- and code 8 of a stream that is not registered as Failed says so
-  pub eight-only : isBroken (healthOf (sourceOf x)) ≡ false → columnCode (columnOf sc now s p x) ≡ 8
+  pub eight-only : isTalkerFailed (talkerTypeOf (sourceOf x)) ≡ false → columnCode (columnOf sc now s p x) ≡ 8
       → (clear (earlier 8 (steps sc p x)) ≡ true) × (flag ≡ true)
   unfolding steps streamClass
   eight-only whole e =

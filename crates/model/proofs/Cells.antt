@@ -15,13 +15,13 @@ use Rattle.octets.specs.Fields.{fields, Fit, width, flat}
 use Rattle.octets.proofs.Fields.{length-packed-any, fields-of-packed, fields-fit, fit-at, fit-append, fit-zeros, packed-zeros}
 use Rattle.model.specs.Layout.{bridgeField, cellFields, cellSize, cellWidths, changedField, codeField, firstLatencyField, fixedField, fixedWidths, latencyField, listenerField, listenerLeavesField, listenerPlace, listenerSinceField, priorityField, talkerField, talkerLeavesField, talkerSinceField}
 use Rattle.model.specs.Lists.{All, allTrue, implies, tabulate, parts, Octets, bit, isOne, allZero}
-use Rattle.model.specs.State.{Leaving, stays, since, Fixed, Health, sound, broken, Registration, Talker, noTalker, talker, Ready, askingFailed, ready, readyFailed, Listener, noListener, listener, Cell, empty}
+use Rattle.model.specs.State.{Leaving, stays, since, Fixed, TalkerType, talkerAdvertise, talkerFailed, Registration, Talker, noTalker, talker, Ready, askingFailed, ready, readyFailed, Listener, noListener, listener, Cell, empty}
 use Rattle.model.specs.Frames.{priorityOf, rankOf}
 use Rattle.model.specs.WrittenFrames.{priorityOctet, fixedNumbers, readyNumber, fixedFrom, toReady}
 use Rattle.model.specs.Settling.{isTalking, isHearing, held}
-use Rattle.model.specs.Table.{leavingNumber, sinceNumber, toLeaving, healthNumber, bridgeNumber, codeNumber, toHealth, talkerNumbers, listenerNumbers, cellNumbers, registrationFrom, talkerFrom, listenerFrom, cellFrom, cellOctets, toCell, between, leavingRule, cellRules, cellFormed, holds}
+use Rattle.model.specs.Table.{leavingNumber, sinceNumber, toLeaving, talkerTypeNumber, bridgeNumber, codeNumber, toTalkerType, talkerNumbers, listenerNumbers, cellNumbers, registrationFrom, talkerFrom, listenerFrom, cellFrom, cellOctets, toCell, between, leavingRule, cellRules, cellFormed, holds}
 use Rattle.model.proofs.Lists.{all-each, and-left, and-right, and-both, implied, all-true, true-all}
-use Rattle.model.proofs.Valid.{ValidLeaving, ValidFixed, ValidHealth, ValidTalker, ValidListener, ValidCell}
+use Rattle.model.proofs.Valid.{ValidLeaving, ValidFixed, ValidTalkerType, ValidTalker, ValidListener, ValidCell}
 use Rattle.model.proofs.Parts.{octets-at, octets-packed, _also_, zero-run, two-zero, packed-whole, parts-take, parts-flat, Sized}
 
 -- Fixed values: five numbers, the last of them priority and rank.
@@ -117,24 +117,24 @@ left clock leave (suc (suc k)) t h =
 
 -- Health: Advertise, or Failed with a Bridge ID and a code.
 
-health-back : (h : Health) → toHealth (healthNumber h) (bridgeNumber h) (codeNumber h) ≡ h
-unfolding toHealth healthNumber bridgeNumber codeNumber
-health-back sound = refl
-health-back (broken b c) = refl
+type-back : (h : TalkerType) → toTalkerType (talkerTypeNumber h) (bridgeNumber h) (codeNumber h) ≡ h
+unfolding toTalkerType talkerTypeNumber bridgeNumber codeNumber
+type-back talkerAdvertise = refl
+type-back (talkerFailed b c) = refl
 
-health-forth : (k b c : ℕ) → 1 ≤ k → k ≤ 2 → (k ≡ 1 → (b ≡ 0) × (c ≡ 0))
-    → (healthNumber (toHealth k b c) ≡ k) × (bridgeNumber (toHealth k b c) ≡ b) × (codeNumber (toHealth k b c) ≡ c)
-unfolding healthNumber bridgeNumber codeNumber toHealth
-health-forth zero b c l h z = absurd (omega arith)
-health-forth (suc zero) b c l h z = (refl, sym (z refl .0), sym (z refl .1))
-health-forth (suc (suc zero)) b c l h z = (refl, refl, refl)
-health-forth (suc (suc (suc k))) b c l h z = absurd (omega arith)
+type-forth : (k b c : ℕ) → 1 ≤ k → k ≤ 2 → (k ≡ 1 → (b ≡ 0) × (c ≡ 0))
+    → (talkerTypeNumber (toTalkerType k b c) ≡ k) × (bridgeNumber (toTalkerType k b c) ≡ b) × (codeNumber (toTalkerType k b c) ≡ c)
+unfolding talkerTypeNumber bridgeNumber codeNumber toTalkerType
+type-forth zero b c l h z = absurd (omega arith)
+type-forth (suc zero) b c l h z = (refl, sym (z refl .0), sym (z refl .1))
+type-forth (suc (suc zero)) b c l h z = (refl, refl, refl)
+type-forth (suc (suc (suc k))) b c l h z = absurd (omega arith)
 
-health-valid : (k b c : ℕ) → b < 2 ^ 64 → c < 256 → ValidHealth (toHealth k b c)
-unfolding toHealth
-health-valid k b c p q = go (eqb k 1)
+type-valid : (k b c : ℕ) → b < 2 ^ 64 → c < 256 → ValidTalkerType (toTalkerType k b c)
+unfolding toTalkerType
+type-valid k b c p q = go (eqb k 1)
   where
-    go : (t : Bool) → ValidHealth (cond t sound (broken b c))
+    go : (t : Bool) → ValidTalkerType (cond t talkerAdvertise (talkerFailed b c))
     go true = tt
     go false = (p, q)
 
@@ -188,16 +188,16 @@ unfolding listenerNumbers
 listener-size noListener = refl
 listener-size (listener r l) = refl
 
-health-rules : (h : Health) → (leb (healthNumber h) 2 ≡ true) × (eqb (healthNumber h) 0 ≡ false)
-    × (implies (eqb (healthNumber h) 1) (allZero (bridgeNumber h ∷ codeNumber h ∷ [])) ≡ true)
-unfolding healthNumber bridgeNumber codeNumber allZero
-health-rules sound = (refl, refl, refl)
-health-rules (broken b c) = (refl, refl, refl)
+type-rules : (h : TalkerType) → (leb (talkerTypeNumber h) 2 ≡ true) × (eqb (talkerTypeNumber h) 0 ≡ false)
+    × (implies (eqb (talkerTypeNumber h) 1) (allZero (bridgeNumber h ∷ codeNumber h ∷ [])) ≡ true)
+unfolding talkerTypeNumber bridgeNumber codeNumber allZero
+type-rules talkerAdvertise = (refl, refl, refl)
+type-rules (talkerFailed b c) = (refl, refl, refl)
 
-pub health-fit : (h : Health) → ValidHealth h → (healthNumber h < 256) × (bridgeNumber h < 256 ^ 8) × (codeNumber h < 256)
-unfolding healthNumber bridgeNumber codeNumber
-health-fit sound v = (omega arith, omega arith, omega arith)
-health-fit (broken b c) v = (omega arith, v .0, v .1)
+pub type-fit : (h : TalkerType) → ValidTalkerType h → (talkerTypeNumber h < 256) × (bridgeNumber h < 256 ^ 8) × (codeNumber h < 256)
+unfolding talkerTypeNumber bridgeNumber codeNumber
+type-fit talkerAdvertise v = (omega arith, omega arith, omega arith)
+type-fit (talkerFailed b c) v = (omega arith, v .0, v .1)
 
 pub ready-rules : (r : Ready) → (leb (readyNumber r) 3 ≡ true) × (eqb (readyNumber r) 0 ≡ false)
 unfolding readyNumber
@@ -218,13 +218,13 @@ module _ (clock leave : ℕ) where
   talker-fit noTalker v h = fit-zeros (take listenerField cellWidths)
   talker-fit (talker r) v h =
       let w = r .varying in
-      let (k, b, c) = health-fit (w .health) (v .varying .health) in
+      let (k, b, c) = type-fit (w .type) (v .varying .type) in
       k
       also omega (arith, bit-few (r .changed))
       also leaving-few (r .leaving)
       also since-within clock leave (r .leaving) (v .leaving) h
       also fit-append fixedWidths (fixedNumbers (r .fixed)) (between latencyField listenerField cellWidths)
-      (w .latency ∷ bridgeNumber (w .health) ∷ codeNumber (w .health) ∷ r .firstLatency ∷ [])
+      (w .latency ∷ bridgeNumber (w .type) ∷ codeNumber (w .type) ∷ r .firstLatency ∷ [])
       (fixed-fit (r .fixed) (v .fixed)) (v .varying .latency also b also c also v .firstLatency also tt)
 
   listener-fit : (h : Listener) → ValidListener clock leave h → clock < 2 ^ 32 → Fit (drop listenerField cellWidths) (listenerNumbers h)
@@ -244,12 +244,12 @@ module _ (clock leave : ℕ) where
   talker-back (talker r) v after =
       let w = r .varying in
       rw (
-        health-rules (w .health) .1,
+        type-rules (w .type) .1,
         bit-back (r .changed),
         leaving-back (r .leaving),
-        health-back (w .health),
-        fixed-back (r .fixed) (v .fixed) (healthNumber (w .health) ∷ bit (r .changed) ∷ leavingNumber (r .leaving) ∷ sinceNumber (r .leaving) ∷ [])
-            (w .latency ∷ bridgeNumber (w .health) ∷ codeNumber (w .health) ∷ r .firstLatency ∷ after),
+        type-back (w .type),
+        fixed-back (r .fixed) (v .fixed) (talkerTypeNumber (w .type) ∷ bit (r .changed) ∷ leavingNumber (r .leaving) ∷ sinceNumber (r .leaving) ∷ [])
+            (w .latency ∷ bridgeNumber (w .type) ∷ codeNumber (w .type) ∷ r .firstLatency ∷ after),
       )
 
   hearing-rules : (h : Listener) → ValidListener clock leave h
@@ -267,7 +267,7 @@ module _ (clock leave : ℕ) where
       true-all (cellRules clock leave (talkerNumbers noTalker ++ listenerNumbers h))
       (refl also refl also refl also refl also refl also refl also hearing-rules h u)
   cell-rules (talker r) v h u =
-      let (few, there, whole) = health-rules (r .varying .health) in
+      let (few, there, whole) = type-rules (r .varying .type) in
       true-all (cellRules clock leave (talkerNumbers (talker r) ++ listenerNumbers h))
       (few
       also le-leb (bit (r .changed)) 1 (bit-few (r .changed))
@@ -286,7 +286,7 @@ record Kept (clock leave : ℕ) (vs : List ℕ) : Type 0 where
   spare : getD vs priorityField 0 % 16 ≡ 0
   gone : getD vs talkerField 0 ≡ 0
       → tabulate (listenerField - changedField) changedField (λ i. getD vs i 0) ≡ zeros (listenerField - changedField)
-  sound : getD vs talkerField 0 ≡ 1 → (getD vs bridgeField 0 ≡ 0) × (getD vs codeField 0 ≡ 0)
+  no-failure : getD vs talkerField 0 ≡ 1 → (getD vs bridgeField 0 ≡ 0) × (getD vs codeField 0 ≡ 0)
   hearing : getD vs listenerField 0 ≤ 3
   quits : leavingRule clock leave (getD vs listenerLeavesField 0) (getD vs listenerSinceField 0) ≡ true
   deaf : getD vs listenerField 0 ≡ 0 → (getD vs listenerLeavesField 0 ≡ 0) × (getD vs listenerSinceField 0 ≡ 0)
@@ -304,7 +304,7 @@ kept clock leave vs h =
       gone = λ e.
           zero-run changedField (listenerField - changedField) vs
           (implied (eqb (at talkerField) 0) (allZero (between changedField listenerField vs)) (r .1 .1 .1 .1 .0) (eq-eqb (at talkerField) 0 e));
-      sound = λ e. two-zero (at bridgeField) (at codeField) (implied (eqb (at talkerField) 1) _ (r .1 .1 .1 .1 .1 .0) (eq-eqb (at talkerField) 1 e));
+      no-failure = λ e. two-zero (at bridgeField) (at codeField) (implied (eqb (at talkerField) 1) _ (r .1 .1 .1 .1 .1 .0) (eq-eqb (at talkerField) 1 e));
       hearing = leb-true (at listenerField) 3 (r .1 .1 .1 .1 .1 .1 .0);
       quits = r .1 .1 .1 .1 .1 .1 .1 .0;
       deaf = λ e.
@@ -323,7 +323,7 @@ module _ (clock leave : ℕ) (vs : List ℕ) (k : Kept clock leave vs) where
       go : (n : ℕ) → at talkerField ≡ n → talkerNumbers (talkerFrom vs) ≡ tabulate listenerField talkerField at
       go zero e = rw (eq-eqb (at talkerField) 0 e, e) (ap (λ (l : List ℕ). 0 ∷ l) (sym (k .gone e)))
       go (suc n) e =
-          let (kind, bridge, code) = health-forth (at talkerField) (at bridgeField) (at codeField) (omega arith) (k .kind) (k .sound) in
+          let (kind, bridge, code) = type-forth (at talkerField) (at bridgeField) (at codeField) (omega arith) (k .kind) (k .no-failure) in
           let (whether, when) = left clock leave (at talkerLeavesField) (at talkerSinceField) (k .leaves) .forth in
           rw (ne-eqb (at talkerField) 0 (omega arith), kind, bridge, code, whether, when, bit-forth (at changedField) (k .mark), fixed-forth fixedField vs (k .spare))
 
@@ -352,7 +352,7 @@ module _ (clock leave : ℕ) (vs : List ℕ) (k : Kept clock leave vs) where
         go true = tt
         go false = record {
           fixed = fixed-valid fixedField vs (at fixedField) (at (fixedField + 1)) (at (fixedField + 2)) (at (fixedField + 3)) (at priorityField);
-          varying = record { health = health-valid (getD vs talkerField 0) (getD vs bridgeField 0) (getD vs codeField 0) (at bridgeField) (at codeField); latency = at latencyField };
+          varying = record { type = type-valid (getD vs talkerField 0) (getD vs bridgeField 0) (getD vs codeField 0) (at bridgeField) (at codeField); latency = at latencyField };
           firstLatency = at firstLatencyField;
           leaving = left clock leave (getD vs talkerLeavesField 0) (getD vs talkerSinceField 0) (k .leaves) .valid;
         }

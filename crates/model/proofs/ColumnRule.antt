@@ -11,11 +11,11 @@ use lib.ListN.{getD, length}
 use lib.Dec.{ltb, leb}
 use borrow.Author.Tests.{ltb-true, ltb-false, lt-leb, le-leb}
 use Rattle.model.specs.Lists.{All, keep, tabulate}
-use Rattle.model.specs.State.{Settings, Health, sound, broken, Column, advertise, failed, Entry, noEntry, filters, forwards, Declared, nothing, Result, Stream, Bridge, Class, noClass, classA, classB, sameClass, supports, bothLimits, inForce, portAt, cellAt, resultAt, unsettled, Totals, noTotals}
+use Rattle.model.specs.State.{Settings, TalkerType, talkerAdvertise, talkerFailed, Column, advertise, failed, Entry, noEntry, filters, forwards, Declared, nothing, Result, Stream, Bridge, Class, noClass, classA, classB, sameClass, supports, bothLimits, inForce, portAt, cellAt, resultAt, unsettled, Totals, noTotals}
 use Rattle.model.specs.Registrations.{ids}
 use Rattle.model.specs.Table.{atMost}
 use Rattle.model.specs.Bandwidth.{Claim, key, above, sort, reserved, remains, admitted, total, taken}
-use Rattle.model.specs.Settling.{Scene, sceneOf, decideOwns, remain, Source, sourceOf, isSource, fixedOf, healthOf, streamClass, registered, isReady, isAdvertise, Outcome, columnNone, asRegistered, ownFailure, Step, first, clear, brokenColumn, outcomeColumn, steps, ageOf, claim, claims, reservedA, limitOn, leftFor, byBandwidth, columnOf, latencyOut, entryOf, ageKept, latencyKept, passed, mergeAll, merged, decideAt, decide, totalOn, totalsOn, settle, Inbound, inboundOf, inboundsOf}
+use Rattle.model.specs.Settling.{Scene, sceneOf, decideOwns, remain, Source, sourceOf, isSource, fixedOf, talkerTypeOf, streamClass, registered, isReady, isAdvertise, Outcome, columnNone, asRegistered, ownFailure, Step, first, clear, failedColumn, outcomeColumn, steps, ageOf, claim, claims, reservedA, limitOn, leftFor, byBandwidth, columnOf, latencyOut, entryOf, ageKept, latencyKept, passed, mergeAll, merged, decideAt, decide, totalOn, totalsOn, settle, Inbound, inboundOf, inboundsOf}
 use Rattle.model.proofs.Lists.{all-map, all-both, all-each, and-right, and-true, and-false}
 use Rattle.model.proofs.Valid.{Rising}
 use Rattle.model.proofs.Admission.{Distinct, key-id, within, subtracted, total-is-sum, idle-above, idle-total}
@@ -121,7 +121,7 @@ Pairwise R (x ∷ l) (y ∷ m) = R x y × Pairwise R l m
 pub record Advanced (now : ℕ) (b c : Bridge) : Type 0 where
   pub settings : c .settings ≡ b .settings
   pub clock : c .clock ≡ now
-  pub own : c .own ≡ decideOwns (b .settings) now (b .own)
+  pub owns : c .owns ≡ decideOwns (b .settings) now (b .owns)
   pub streams : Pairwise (Carried now) (remain (b .settings) now (b .streams)) (c .streams)
   pub decided : Settled c
 
@@ -152,10 +152,10 @@ first-decided says (s ∷ l) c d h = go (s .test) h (first-decided says l c d)
 plain : (st : Settings) (s : Source) (o : Outcome) → isAdvertise (outcomeColumn st s o) ≡ false
 unfolding outcomeColumn isAdvertise
 plain st s columnNone = refl
-plain st s asRegistered = go (healthOf s)
+plain st s asRegistered = go (talkerTypeOf s)
   where
-    go : (h : Health) → isAdvertise (brokenColumn h) ≡ false
-    go h = unfold isAdvertise brokenColumn in elim h [ sound ↦ refl | broken b c ↦ refl ]
+    go : (h : TalkerType) → isAdvertise (failedColumn h) ≡ false
+    go h = unfold isAdvertise failedColumn in elim h [ talkerAdvertise ↦ refl | talkerFailed b c ↦ refl ]
 plain st s (ownFailure code) = refl
 
 first-advertise : (says : Outcome → Column) → ((o : Outcome) → isAdvertise (says o) ≡ false) → (l : List Step) (c : Column) →
@@ -552,7 +552,7 @@ module _ (now : ℕ) (b : Bridge) where
   remaining = remain (b .settings) now (b .streams)
 
   abbrev sceneWith : List Inbound → Scene
-  sceneWith l = record { settings = b .settings; own = decideOwns (b .settings) now (b .own); inbound = l }
+  sceneWith l = record { settings = b .settings; owns = decideOwns (b .settings) now (b .owns); inbound = l }
 
   abbrev there : Scene
   there = sceneWith (inboundsOf remaining)
@@ -617,7 +617,7 @@ module _ (now : ℕ) (b : Bridge) where
     advanced = record {
       settings = refl;
       clock = refl;
-      own = refl;
+      owns = refl;
       streams = carries there now remaining;
       decided = settled;
     }

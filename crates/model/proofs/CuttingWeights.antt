@@ -8,7 +8,7 @@ use lib.ListN.{length, length-append}
 use lib.Dec.{ltb}
 use borrow.Author.Tests.{ltb-true, ltb-false}
 use Rattle.model.specs.Lists.{All}
-use Rattle.model.specs.Cutting.{joined, Cutting, octets, Wider, NotAfter, Part}
+use Rattle.model.specs.Cutting.{concat, Cutting, octets, Wider, NotAfter, Part}
 use Rattle.model.specs.Best.{price, weight, lighter}
 
 -- c weighs less than d, or as much and is d or has the longer vector where they first differ
@@ -81,10 +81,10 @@ weight-is [] = refl
 weight-is (g ∷ c) = omega (arith, weight-is c)
 
 -- a cutting has no more vectors than the list has declarations
-pub vectors-few : (c : List (List ℕ)) → All Part c → length c ≤ length (joined c)
+pub vectors-few : (c : List (List ℕ)) → All Part c → length c ≤ length (concat c)
 vectors-few [] v = omega arith
 vectors-few ([] ∷ c) v = absurd (v .0)
-vectors-few ((x ∷ g) ∷ c) v = omega (arith, length-append g (joined c), vectors-few c (v .1))
+vectors-few ((x ∷ g) ∷ c) v = omega (arith, length-append g (concat c), vectors-few c (v .1))
 
 -- so for cuttings of at most 64 declarations the order by weight is the order of octets, vectors and lengths
 module _ (l : List ℕ) (few : length l ≤ 64) (c d : List (List ℕ)) (p : Cutting l c) (q : Cutting l d) where

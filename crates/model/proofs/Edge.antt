@@ -9,7 +9,7 @@ use borrow.Author.Tests.{le-leb}
 use Rattle.model.specs.Lists.{All}
 use Rattle.model.specs.State.{Domain, Own, Stream, Bridge, noOwn, ownAt, Class, noClass, classA, classB, slotOf}
 use Rattle.model.specs.Registrations.{Act, leaveAll, leave, talk, listen, ofDomain, apply, applyAll, reach, changeDomains, doesDomain, applyOwn, applyOwns, acts, Answer, holding, owning, received}
-use Rattle.model.specs.Frames.{domain, Vector, Asking, nothingAsked, join, withdraw, hasSlot, slotAct, domainAct, valueActs, valuesActs, leaveAllActs, vectorActs, frameActs, found, walk, walked, wrongPort, reading}
+use Rattle.model.specs.Frames.{domainType, Vector, Asking, nothingAsked, join, withdraw, hasSlot, slotAct, domainAct, valueActs, valuesActs, leaveAllActs, vectorActs, frameActs, found, walk, walked, wrongPort, reading}
 use Rattle.model.specs.Settling.{boundary}
 use Rattle.model.specs.Calls.{receive}
 use Rattle.model.proofs.Lists.{all-append, at-other, at-each}
@@ -77,8 +77,8 @@ pub record DomainOnly (b : Bridge) (p : ℕ) (a : Answer) : Type 0 where
   pub clock : a .bridge .clock ≡ b .clock
   pub totals : a .bridge .totals ≡ b .totals
   pub streams : a .bridge .streams ≡ b .streams
-  pub flags : (q : ℕ) (c : Class) → boundary (ownAt (a .bridge .own) q) c ≡ boundary (ownAt (b .own) q) c
-  pub others : (q : ℕ) → (p - 1 ≡ q → ⊥) → ownAt (a .bridge .own) q ≡ ownAt (b .own) q
+  pub flags : (q : ℕ) (c : Class) → boundary (ownAt (a .bridge .owns) q) c ≡ boundary (ownAt (b .owns) q) c
+  pub others : (q : ℕ) → (p - 1 ≡ q → ⊥) → ownAt (a .bridge .owns) q ≡ ownAt (b .owns) q
 
 pub domain-only : (b : Bridge) (p : ℕ) (es : List Act) → Valid b → All IsDomainAct es → DomainOnly b p (received b p (acts es))
 unfolding received holding owning
@@ -92,8 +92,8 @@ domain-only b p es v a =
       clock = refl;
       totals = refl;
       streams = refl;
-      flags = flags-stay now (p - 1) es (b .own);
-      others = others-stay now (p - 1) es (b .own);
+      flags = flags-stay now (p - 1) es (b .owns);
+      others = others-stay now (p - 1) es (b .owns);
     }
 
 -- A PDU of Domain vectors alone.
@@ -118,7 +118,7 @@ value-domain vs n a = go (hasSlot c q)
     go true = slot-domain (slotOf c q) (getD vs 2 0) a
     go false = tt
 
-module _ (v : Vector) (is : v .attribute ≡ domain) where
+module _ (v : Vector) (is : v .attribute ≡ domainType) where
   values-domain : (n k : ℕ) → All IsDomainAct (valuesActs v n k)
   unfolding valuesActs valueActs
   values-domain n zero = tt
@@ -136,13 +136,13 @@ module _ (v : Vector) (is : v .attribute ≡ domain) where
       all-append IsDomainAct (leaveAllActs (v .attribute) (v .leavesAll)) (valuesActs v 0 (v .values))
       (leaving-domain (v .leavesAll)) (values-domain 0 (v .values))
 
-pub frame-domain : (vs : List Vector) → All (λ v. v .attribute ≡ domain) vs → All IsDomainAct (frameActs vs)
+pub frame-domain : (vs : List Vector) → All (λ v. v .attribute ≡ domainType) vs → All IsDomainAct (frameActs vs)
 unfolding frameActs
 frame-domain [] a = tt
 frame-domain (v ∷ vs) a = all-append IsDomainAct (vectorActs v) (frameActs vs) (vector-domain v (a .0)) (frame-domain vs (a .1))
 
 -- handed over on a port of the bridge
 pub domain-frame : (b : Bridge) (p : ℕ) (pdu : List ℕ) (vs : List Vector) → Valid b → wrongPort (b .settings) p ≡ false →
-    walk pdu ≡ found vs → All (λ v. v .attribute ≡ domain) vs → DomainOnly b p (receive b p pdu)
+    walk pdu ≡ found vs → All (λ v. v .attribute ≡ domainType) vs → DomainOnly b p (receive b p pdu)
 unfolding receive reading walked
 domain-frame b p pdu vs v port read a = rw (port, read) (domain-only b p (frameActs vs) v (frame-domain vs a))

@@ -18,7 +18,7 @@ use Rattle.model.specs.State.{Port, Settings, Fixed, ready, askingFailed
 use Rattle.model.specs.State
 use Rattle.model.specs.Registrations.{Kind, advertises, faileds, listeners, Reading, refused, acts, Answer}
 use Rattle.model.specs.Registrations
-use Rattle.model.specs.Frames.{Attribute, registers, domain, Event, new, joinIn, isIn, joinMt, mt, lv}
+use Rattle.model.specs.Frames.{Attribute, registers, domainType, Event, new, joinIn, isIn, joinMt, mt, lv}
 use Rattle.model.specs.Frames
 use Rattle.model.specs.Bandwidth
 use Rattle.model.specs.Settling
@@ -100,7 +100,7 @@ message k vectors = messageOf (registers k) vectors
 
 -- n Domain values from a class ID and a priority on, of VLAN 2, with their events; "matching Domain joins": {5, 2} and {6, 3}
 domainsOf : ℕ → ℕ → ℕ → List ℕ → List ℕ
-domainsOf classId priority n three = messageOf domain (Be.be 2 n ++ (classId ∷ priority ∷ 0 ∷ 2 ∷ three))
+domainsOf classId priority n three = messageOf domainType (Be.be 2 n ++ (classId ∷ priority ∷ 0 ∷ 2 ∷ three))
 
 matching : List ℕ
 matching = domainsOf 5 2 2 (126 ∷ [])
@@ -403,7 +403,7 @@ further =
     -- would be 1 and 0
     ∷ record { computed = ages sameSecond; printed = 1 ∷ 1 ∷ [] }
     ∷ record { computed = columns sameSecond; printed = 1 ∷ 0 ∷ 2 ∷ 1 ∷ [] }
-    -- a stream that does not fit is passed over, and the next is tried
+    -- a stream that does not fit takes nothing, and the next is tried
     ∷ record { computed = columns oneTooLarge ++ reserves oneTooLarge; printed = 1 ∷ 0 ∷ 2 ∷ 1 ∷ 1 ∷ 0 ∷ 19904000 ∷ 20000000 ∷ [] }
     -- a stream without a Ready Listener, or with Asking Failed, has no share
     ∷ record { computed = columns (lessReady 0) ++ reserves (lessReady 0); printed = 1 ∷ 0 ∷ 1 ∷ 0 ∷ 17088000 ∷ 17088000 ∷ [] }
@@ -439,7 +439,7 @@ slotsHeld i (State.noDomain ∷ ds) = slotsHeld (suc i) ds
 slotsHeld i (State.domain v l ∷ ds) = i ∷ slotsHeld (suc i) ds
 
 edge : ℕ → Bridge → List ℕ
-edge p b = let o = State.ownAt (b .own) p in slotsHeld 0 (o .domains) ++ (Lists.bit (o .boundaryA) ∷ Lists.bit (o .boundaryB) ∷ [])
+edge p b = let o = State.ownAt (b .owns) p in slotsHeld 0 (o .domains) ++ (Lists.bit (o .boundaryA) ∷ Lists.bit (o .boundaryB) ∷ [])
 
 pub edges : List Example
 edges =
@@ -724,10 +724,10 @@ premises p b x =
     ∷ Fields.flat claimNumbers (Bandwidth.above (Bandwidth.key (Settling.claim (b .settings) 200 p x)) (Settling.claims sc 200 p c s))
     ∷ cond (State.sameClass c State.classB) (Settling.totalOn sc 200 s p State.classA ∷ []) []
     ∷ (Lists.bit (Settling.shares (sc .inbound) (Settling.inboundOf x)) ∷ [])
-    ∷ (Lists.bit (Settling.boundary (State.ownAt (sc .own) p) c) ∷ [])
+    ∷ (Lists.bit (Settling.boundary (State.ownAt (sc .owns) p) c) ∷ [])
     ∷ (Lists.bit (Settling.isKeptOut (b .settings .fanIn) (sc .inbound) (Settling.sourceOf x)) ∷ [])
     ∷ cond (b .settings .pruning)
-    (Lists.bit (Settling.holdsAddress (Settling.fixedOf (Settling.sourceOf x) .destination) (State.ownAt (sc .own) p .addresses)) ∷ []) []
+    (Lists.bit (Settling.holdsAddress (Settling.fixedOf (Settling.sourceOf x) .destination) (State.ownAt (sc .owns) p .addresses)) ∷ []) []
     ∷ []
 
 agreements : List (List ℕ) → List (List ℕ) → List ℕ

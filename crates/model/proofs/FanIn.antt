@@ -11,7 +11,7 @@ use lib.Dec.{eqb, ltb, leb}
 use borrow.Author.Tests.{eq-eqb, ne-eqb, eqb-true, eqb-false, lt-ltb, ltb-true, ltb-false}
 use Rattle.model.specs.Lists.{bit, countTo}
 use Rattle.model.specs.State.{Cell, failed, Stream, fresh, isPort, cellAt}
-use Rattle.model.specs.Settling.{Source, nowhere, from, sourceOf, isSource, healthOf, isBroken, Inbound, inboundOf, inboundsOf, isInbound, inboundBelow, mayBring, isKeptOut, sameAddress, sameAddressAt, shares, Scene, isAdvertise, columnNone, stepA, Step, clear, stepsFrom, lastSteps, steps, claim, leftFor, columnOf}
+use Rattle.model.specs.Settling.{Source, nowhere, from, sourceOf, isSource, talkerTypeOf, isTalkerFailed, Inbound, inboundOf, inboundsOf, isInbound, inboundBelow, mayBring, isKeptOut, sameAddress, sameAddressAt, shares, Scene, isAdvertise, columnNone, stepA, Step, clear, stepsFrom, lastSteps, steps, claim, leftFor, columnOf}
 use Rattle.model.specs.Table.{columnCode}
 use Rattle.model.proofs.Lists.{and-left, and-right}
 use Rattle.model.proofs.ColumnRule.{Pairwise, advertised}
@@ -57,7 +57,7 @@ module _ (sc : Scene) (now : ℕ) (s : List Stream) (p : ℕ) (x : Stream) where
   fifteen-decided free set = own-decided sc now s p x 15 free (fifteen-asked sc p (cellAt x p) (inboundOf x) (sourceOf x) ∙ set)
 
   -- and of a stream that is not registered as Failed they say so
-  module _ (whole : isBroken (healthOf (sourceOf x)) ≡ false) where
+  module _ (whole : isTalkerFailed (talkerTypeOf (sourceOf x)) ≡ false) where
     pub five-only : columnCode (columnOf sc now s p x) ≡ 5 → (clear (earlier 5 (steps sc p x)) ≡ true) × (sharing ≡ true)
     unfolding steps
     five-only e =

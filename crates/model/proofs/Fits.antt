@@ -11,13 +11,13 @@ use Rattle.octets.specs.Fields.{fields, Fit, flat}
 use Rattle.octets.proofs.Fields.{fields-of-packed, fit-at}
 use Rattle.model.specs.Layout.{bridgeField, cellSize, cellWidths, codeField, firstLatencyField, fixedField, fixedWidths, latencyField, listenerSinceField, nameWidths, priorityField, recordSize, resultSize, resultWidths, talkerSinceField, vlanField}
 use Rattle.model.specs.Lists.{All, parts, Octets}
-use Rattle.model.specs.State.{Leaving, stays, since, Fixed, Health, sound, broken, Talker, noTalker, talker, Listener, noListener, listener, Cell, Result, Stream, Bridge}
+use Rattle.model.specs.State.{Leaving, stays, since, Fixed, TalkerType, talkerAdvertise, talkerFailed, Talker, noTalker, talker, Listener, noListener, listener, Cell, Result, Stream, Bridge}
 use Rattle.model.specs.Registrations.{ids}
 use Rattle.model.specs.WrittenFrames.{priorityOctet, fixedNumbers, fixedFrom}
 use Rattle.model.specs.Table.{sinceNumber, bridgeNumber, codeNumber, talkerNumbers, listenerNumbers, cellNumbers, cellOctets, toCell, resultNumbers, resultOctets, toResult, streamOctets, toStream, countField, recordsPart, idOf, encode, decode, formed}
 use Rattle.model.specs.Laid.{FitRank, FitCell, FitOwn, FitResult, FitStream, FitBridge, LaidOut, LaidCell, LaidResult, Laid}
 use Rattle.model.proofs.Lists.{all-map}
-use Rattle.model.proofs.Valid.{ValidLeaving, ValidFixed, ValidHealth, ValidTalker, ValidListener, ValidCell, ValidOwn, ValidResult, ValidStream, Valid}
+use Rattle.model.proofs.Valid.{ValidLeaving, ValidFixed, ValidTalkerType, ValidTalker, ValidListener, ValidCell, ValidOwn, ValidResult, ValidStream, Valid}
 use Rattle.model.proofs.Parts.{_also_, parts-flat, many-read, rising-ascends}
 use Rattle.model.proofs.Cells.{fixed-fit, fixed-back, cell-fit, cell-back, cells-sized}
 use Rattle.model.proofs.Results.{result-fit, numbers-back, results-sized}
@@ -38,10 +38,10 @@ unfolding sinceNumber
 fit-leaving stays h = tt
 fit-leaving (since t) h = (omega arith, omega arith)
 
-pub fit-health : (h : Health) → bridgeNumber h < 256 ^ 8 → codeNumber h < 256 ^ 1 → ValidHealth h
+pub fit-type : (h : TalkerType) → bridgeNumber h < 256 ^ 8 → codeNumber h < 256 ^ 1 → ValidTalkerType h
 unfolding bridgeNumber codeNumber
-fit-health sound p q = tt
-fit-health (broken b c) p q = (p, q)
+fit-type talkerAdvertise p q = tt
+fit-type (talkerFailed b c) p q = (p, q)
 
 -- five numbers, the last of them priority and rank
 pub fit-fixed : (f : Fixed) → Fit fixedWidths (fixedNumbers f) → f .rank < 2 → ValidFixed f
@@ -61,7 +61,7 @@ unfolding talkerNumbers fixedNumbers Fit
 fit-talker noTalker after at rank = tt
 fit-talker (talker r) after at rank = record {
   fixed = fit-fixed (r .fixed) (at fixedField also at vlanField also at (vlanField + 1) also at (vlanField + 2) also at priorityField also tt) rank;
-  varying = record { health = fit-health (r .varying .health) (at bridgeField) (at codeField); latency = at latencyField };
+  varying = record { type = fit-type (r .varying .type) (at bridgeField) (at codeField); latency = at latencyField };
   firstLatency = at firstLatencyField;
   leaving = fit-leaving (r .leaving) (at talkerSinceField);
 }
@@ -138,7 +138,7 @@ module _ (b : Bridge) (w : FitBridge b) where
   unfolding decode
   bridge-read =
       let o = fit-whole b w in
-      rw (settings-decoded b o (w .settings), clock-read b o (w .clock), totals-decoded b o (w .totals), owns-decoded b o (w .own), streams-read)
+      rw (settings-decoded b o (w .settings), clock-read b o (w .clock), totals-decoded b o (w .totals), owns-decoded b o (w .owns), streams-read)
 
 -- Laid out: the octets are those of what is read from them, and that fits.
 
@@ -205,8 +205,8 @@ valid-fits b v =
       clock = v .clock;
       eight-totals = v .eight-totals;
       totals = totals-fit _ (b .totals) (b .settings .ports) (v .settings .ports) (v .totals);
-      eight-own = v .eight-own;
-      own = all-map (ValidOwn (b .clock) t) FitOwn (valid-own-fits (b .clock) t (v .clock)) (b .own) (v .own);
+      eight-owns = v .eight-owns;
+      owns = all-map (ValidOwn (b .clock) t) FitOwn (valid-own-fits (b .clock) t (v .clock)) (b .owns) (v .owns);
       at-most-64 = v .at-most-64;
       streams = all-map (ValidStream n (b .clock) t) FitStream (valid-stream-fits n (b .clock) t (v .clock)) (b .streams) (v .streams);
       ascending = rising-ascends (ids (b .streams)) (v .ascending);

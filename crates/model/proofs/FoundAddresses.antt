@@ -15,7 +15,7 @@ use Rattle.model.specs.Lists.{All}
 use Rattle.model.specs.State.{Settings}
 use Rattle.model.specs.Registrations.{AddressAct, leaveAllAddresses, leaveAddress, joinAddress, AddressReading, refusedFrame, addressActs}
 use Rattle.model.specs.Frames.{InList, badVector, listEnd, vectorHead, passedOver, vectorIn, endMark, Asking, nothingAsked, join, withdraw, wrongPort}
-use Rattle.model.specs.AddressFrames.{AddressList, services, macs, unknowns, firstOctets, InAddressPdu, badHeader, noMessage, listOf, addressHeader, addressMessageIn, runsOut, overruns, addressesChecked, addressVectorIn, AddressVector, addressVectorAt, addressOf, addressAct, addressAsking, addressValues, allAddresses, addressVectorActs, ListWalk, listFault, listActs, thenList, addressesFrom, addresses, thenFrame, afterList, addressMessagesFrom, addressMessages, addressWalk, addressReading}
+use Rattle.model.specs.AddressFrames.{AddressList, serviceList, macList, unknownList, firstOctets, InAddressPdu, badHeader, noMessage, addressListOf, addressHeader, addressMessageIn, runsOut, overruns, addressesChecked, addressVectorIn, AddressVector, addressVectorAt, addressOf, addressAct, addressAsking, addressValues, allAddresses, addressVectorActs, ListWalk, listFault, listActs, thenList, addressesFrom, addressVectors, thenFrame, afterList, addressMessagesFrom, addressMessages, addressWalk, addressReading}
 use Rattle.model.proofs.Lists.{all-append}
 use Rattle.model.proofs.FoundVectors.{passed, bad-vector, no-end, bad-over, Fitting, fitting}
 use Rattle.model.proofs.Refusals.{cond-either, ListFaults, vector-faults}
@@ -33,7 +33,7 @@ WithinList (listActs es end) = Unit {0}
 abbrev WithinPdu : InAddressPdu → Type 0
 WithinPdu (badHeader n) = (3 ≤ n) × (n ≤ 7)
 WithinPdu noMessage = Unit {0}
-WithinPdu (listOf t) = Unit {0}
+WithinPdu (addressListOf t) = Unit {0}
 
 then-within : (es : List AddressAct) (w : ListWalk) → WithinList w → WithinList (thenList es w)
 unfolding thenList
@@ -55,11 +55,11 @@ from-within t s at listEnd rest h g = tt
 from-within t s at (vectorHead h) rest _ g = then-within _ _ (g _)
 from-within t s at (passedOver h) rest _ g = g _
 
-addresses-within : (f version : ℕ) (t : AddressList) (s : List ℕ) (at : ℕ) → WithinList (addresses f version t s at)
-unfolding addresses addressVectorIn
+addresses-within : (f version : ℕ) (t : AddressList) (s : List ℕ) (at : ℕ) → WithinList (addressVectors f version t s at)
+unfolding addressVectors addressVectorIn
 addresses-within zero version t s at = (omega arith, omega arith)
 addresses-within (suc f) version t s at =
-    from-within t s at _ (addresses f version t s) (checked-within t s at _ (vector-faults version (firstOctets t) false s at)) (addresses-within f version t s)
+    from-within t s at _ (addressVectors f version t s) (checked-within t s at _ (vector-faults version (firstOctets t) false s at)) (addresses-within f version t s)
 
 header-within : (version kind octets : ℕ) → WithinPdu (addressHeader version kind octets)
 unfolding addressHeader
@@ -90,7 +90,7 @@ messages-from-within : (version : ℕ) (s : List ℕ) (at : ℕ) (r : InAddressP
 unfolding addressMessagesFrom
 messages-from-within version s at (badHeader n) rest h g = h
 messages-from-within version s at noMessage rest h g = tt
-messages-from-within version s at (listOf t) rest h g = after-within _ rest (addresses-within (suc (length s)) version t s (at + 2)) g
+messages-from-within version s at (addressListOf t) rest h g = after-within _ rest (addresses-within (suc (length s)) version t s (at + 2)) g
 
 pub messages-within : (f version : ℕ) (s : List ℕ) (at : ℕ) → Within (addressMessages f version s at)
 unfolding addressMessages
@@ -211,13 +211,13 @@ values-fit v n (suc k) e h =
 
 vector-fits : (t : AddressList) (v : AddressVector) → overruns t (v .first) (v .values) ≡ false → All FitsAddress (addressVectorActs t v)
 unfolding addressVectorActs overruns allAddresses
-vector-fits services v e = tt
-vector-fits macs v e = all-append FitsAddress (allAddresses (v .leavesAll)) (addressValues v 0 (v .values)) (go (v .leavesAll)) (values-fit v 0 (v .values) e (omega arith))
+vector-fits serviceList v e = tt
+vector-fits macList v e = all-append FitsAddress (allAddresses (v .leavesAll)) (addressValues v 0 (v .values)) (go (v .leavesAll)) (values-fit v 0 (v .values) e (omega arith))
   where
     go : (b : Bool) → All FitsAddress (allAddresses b)
     go true = (tt, tt)
     go false = tt
-vector-fits (unknowns first) v e = tt
+vector-fits (unknownList first) v e = tt
 
 abbrev FitsList : ListWalk → Type 0
 FitsList (listFault n) = Unit {0}
@@ -242,10 +242,10 @@ from-fits version t s at (vectorHead h) i rest g =
     then-fits (addressVectorActs t (addressVectorAt t s at h)) _ (vector-fits t (addressVectorAt t s at h) (passed-addresses version t s at h i .within)) (g _)
 from-fits version t s at (passedOver h) i rest g = g _
 
-addresses-fit : (f version : ℕ) (t : AddressList) (s : List ℕ) (at : ℕ) → FitsList (addresses f version t s at)
-unfolding addresses
+addresses-fit : (f version : ℕ) (t : AddressList) (s : List ℕ) (at : ℕ) → FitsList (addressVectors f version t s at)
+unfolding addressVectors
 addresses-fit zero version t s at = tt
-addresses-fit (suc f) version t s at = from-fits version t s at _ refl (addresses f version t s) (addresses-fit f version t s)
+addresses-fit (suc f) version t s at = from-fits version t s at _ refl (addressVectors f version t s) (addresses-fit f version t s)
 
 after-fits : (w : ListWalk) (rest : ℕ → AddressReading) → FitsList w → ((e : ℕ) → FitsAddresses (rest e)) → FitsAddresses (afterList w rest)
 unfolding afterList thenFrame
@@ -261,7 +261,7 @@ messages-from-fit : (version : ℕ) (s : List ℕ) (at : ℕ) (r : InAddressPdu)
 unfolding addressMessagesFrom
 messages-from-fit version s at (badHeader n) rest g = tt
 messages-from-fit version s at noMessage rest g = tt
-messages-from-fit version s at (listOf t) rest g = after-fits _ rest (addresses-fit (suc (length s)) version t s (at + 2)) g
+messages-from-fit version s at (addressListOf t) rest g = after-fits _ rest (addresses-fit (suc (length s)) version t s (at + 2)) g
 
 messages-fit : (f version : ℕ) (s : List ℕ) (at : ℕ) → FitsAddresses (addressMessages f version s at)
 unfolding addressMessages

@@ -17,11 +17,11 @@ use Rattle.model.specs.FrameLayout.{longestPdu}
 use Rattle.model.specs.Lists.{All, Octets}
 use Rattle.model.specs.State.{Settings, slotOf}
 use Rattle.model.specs.Registrations.{Kind, advertises, faileds, listeners, Act, leaveAll, leave, talk, listen, ofDomain, DomainAct, leaveAllDomains, leaveDomain, joinDomain, Reading, refused, acts}
-use Rattle.model.specs.Frames.{Attribute, registers, domain, firstWidths, firstLength, threeLength, hasFour, fourLength, Vector, vectorAt, vectorEnd, overpacked, runsPast, overflows, InList, badVector, listEnd, vectorHead, passedOver, strangeLeave, strangeVector, vectorIn, checkedIn, typedIn, InPdu, badMessage, pduEnd, listSkipped, listOf, listLength, listAt, messageEnd, Walk, fault, found, also, both, vectorsFrom, vectors, messagesFrom, messages, walk, Asking, nothingAsked, join, withdraw, priorityOf, rankOf, fixedValue, healthValue, idValue, hearing, talkerAct, listenerAct, hasSlot, slotAct, domainAct, valueActs, valuesActs, leaveAllActs, vectorActs, frameActs, walked, wrongPort, reading}
+use Rattle.model.specs.Frames.{Attribute, registers, domainType, firstWidths, firstLength, threeLength, hasFour, fourLength, Vector, vectorAt, vectorEnd, overpacked, runsPast, overflows, InList, badVector, listEnd, vectorHead, passedOver, strangeLeave, strangeVector, vectorIn, checkedIn, typedIn, InPdu, badMessage, pduEnd, listSkipped, listOf, listLength, listAt, messageEnd, Walk, fault, found, also, both, vectorsFrom, vectors, messagesFrom, messages, walk, Asking, nothingAsked, join, withdraw, priorityOf, rankOf, fixedValue, talkerTypeValue, idValue, hearing, talkerAct, listenerAct, hasSlot, slotAct, domainAct, valueActs, valuesActs, leaveAllActs, vectorActs, frameActs, walked, wrongPort, reading}
 use Rattle.model.proofs.Lists.{all-append, and-left, and-right}
 use Rattle.model.proofs.Parts.{octets-at, octets-part}
 use Rattle.octets.proofs.Fields.{beAt-fits}
-use Rattle.model.proofs.Valid.{ValidFixed, ValidHealth, ValidVarying}
+use Rattle.model.proofs.Valid.{ValidFixed, ValidTalkerType, ValidVarying}
 
 -- the number in the octets at a place
 beAt-below-width : (n : ℕ) (s : List ℕ) (at : ℕ) → Octets s → beAt n s at < 256 ^ n
@@ -357,10 +357,10 @@ module _ (s : List ℕ) (o : Octets s) (m n : ℕ) (h : n ≤ m) where
     latency-fits = omega (arith, beAt-below-width 4 s 21 o)
 
 talker-fits : (k : Kind) (vs : List ℕ) (n : ℕ) (a : Asking) → idValue vs n < 2 ^ 64 → ValidFixed (fixedValue vs n) →
-    ValidHealth (healthValue k vs) → getD vs 6 0 < 2 ^ 32 → All Fits (talkerAct k vs n a)
+    ValidTalkerType (talkerTypeValue k vs) → getD vs 6 0 < 2 ^ 32 → All Fits (talkerAct k vs n a)
 unfolding talkerAct
 talker-fits k vs n nothingAsked i f h l = tt
-talker-fits k vs n join i f h l = ((i, f, record { health = h; latency = l }), tt)
+talker-fits k vs n join i f h l = ((i, f, record { type = h; latency = l }), tt)
 talker-fits k vs n withdraw i f h l = (i, tt)
 
 hearing-fits : (i f : ℕ) → i < 2 ^ 64 → All Fits (hearing i f)
@@ -413,7 +413,7 @@ pub destination-within : (t : Bool) (d : ℕ) → (t || ltb 281474976710655 d) �
 destination-within t d e = omega (arith, ltb-false 281474976710655 d (or-right t _ e))
 
 value-fits : (v : Vector) (n : ℕ) → Octets (v .first) → overflows v ≡ false → n < v .values → All Fits (valueActs v n)
-unfolding valueActs idValue fields firstWidths healthValue runsPast talkerValues
+unfolding valueActs idValue fields firstWidths talkerTypeValue runsPast talkerValues
 value-fits v n o e h = go (v .attribute) (last-within v e (omega arith))
   where
     s : List ℕ
@@ -438,7 +438,7 @@ value-fits v n o e h = go (v .attribute) (last-within v e (omega arith))
         let c : beAt 1 s 33 < 256 = omega (arith, beAt-below-width 1 s 33 o) in
         talker-fits faileds _ n _ (id-fits s o m n l faileds r) (fixed-fits s o m n l (8 ∷ 1 ∷ []) d) (b, c) (latency-fits s o m n l (8 ∷ 1 ∷ []) d)
     go (registers listeners) r = listener-fits _ n _ _ (id-fits s o m n l listeners r)
-    go domain r = domain-fits _ n _ (omega (arith, beAt-below-width 2 s 2 o))
+    go domainType r = domain-fits _ n _ (omega (arith, beAt-below-width 2 s 2 o))
 
 values-fit : (v : Vector) (n k : ℕ) → Octets (v .first) → overflows v ≡ false → n + k ≤ v .values → All Fits (valuesActs v n k)
 unfolding valuesActs
@@ -455,8 +455,8 @@ vector-fits v o e =
     go : (k : Attribute) (t : Bool) → All Fits (leaveAllActs k t)
     go (registers k) true = (tt, tt)
     go (registers k) false = tt
-    go domain true = (tt, tt)
-    go domain false = tt
+    go domainType true = (tt, tt)
+    go domainType false = tt
 
 vectors-fit : (vs : List Vector) → All Sound vs → All InOctets vs → All Fits (frameActs vs)
 unfolding frameActs

@@ -163,7 +163,7 @@ module _ (b : Bridge) (p : ℕ) where
   next : Reading → Bridge
   next r =
       owning (holding b (effect (applyAll (b .clock)) (p - 1) r (b .streams)))
-      (effect (applyOwns (b .clock)) (p - 1) r (b .own))
+      (effect (applyOwns (b .clock)) (p - 1) r (b .owns))
 
   -- 8 is given exactly where the streams held and those joined are more than 64
   pub too-many : (es : List Act) → 64 < length (together (ids (b .streams)) (joins es)) → received b p (acts es) ≡ record { number = 8; bridge = b }
@@ -191,7 +191,7 @@ module _ (b : Bridge) (p : ℕ) where
 
       answer : Bool → Answer
       answer t =
-          cond t record { number = 0; bridge = owning (holding b s) (applyOwns (b .clock) (p - 1) es (b .own)) }
+          cond t record { number = 0; bridge = owning (holding b s) (applyOwns (b .clock) (p - 1) es (b .owns)) }
           record { number = 8; bridge = b }
 
       go : (t : Bool) → answer t .number ≡ 0 → answer t .bridge .streams ≡ s
@@ -421,16 +421,16 @@ Room f b = length (together (ids (b .streams)) (asked (b .settings) f)) ≤ 64
 
 -- the bridge after a frame that finds room for its streams
 after : Bridge → ℕ → Frame → Bridge
-after b p x = owning (holding b (streamStep (b .settings) (b .clock) p x (b .streams))) (ownStep (b .settings) (b .clock) p x (b .own))
+after b p x = owning (holding b (streamStep (b .settings) (b .clock) p x (b .streams))) (ownStep (b .settings) (b .clock) p x (b .owns))
 
 one-frame : (b : Bridge) (p : ℕ) (x : Frame) → length (together (ids (b .streams)) (askedBy (b .settings) p x)) ≤ 64 →
-    receiveFrame b p x ≡ record { number = ruling (b .settings) (b .clock) p x (b .own); bridge = after b p x }
+    receiveFrame b p x ≡ record { number = ruling (b .settings) (b .clock) p x (b .owns); bridge = after b p x }
 unfolding receiveFrame after streamStep ownStep ruling askedBy next holding owning
 one-frame b p (msrp pdu) h = unfold receive in (room b p (reading (b .settings) p pdu) h)
 one-frame b p (mmrp pdu) h = unfold receiveMmrp in (received-is b p (addressReading (b .settings) p pdu))
 
 module _ (a : ℕ × Frame) (f : List (ℕ × Frame)) (b : Bridge) (h : Room (a ∷ f) b) where
-  first-room : receiveFrame b (a .0) (a .1) ≡ record { number = ruling (b .settings) (b .clock) (a .0) (a .1) (b .own); bridge = after b (a .0) (a .1) }
+  first-room : receiveFrame b (a .0) (a .1) ≡ record { number = ruling (b .settings) (b .clock) (a .0) (a .1) (b .owns); bridge = after b (a .0) (a .1) }
   unfolding Room asked
   first-room = one-frame b (a .0) (a .1) (first-fits (ids (b .streams)) (askedBy (b .settings) (a .0) (a .1)) (asked (b .settings) f) 64 h)
 
@@ -445,7 +445,7 @@ module _ (f : List (ℕ × Frame)) (b : Bridge) where
   streamsAfter = run (streamStep (b .settings) (b .clock)) f (b .streams)
 
   ownAfter : List Own
-  ownAfter = run (ownStep (b .settings) (b .clock)) f (b .own)
+  ownAfter = run (ownStep (b .settings) (b .clock)) f (b .owns)
 
 after-run : (f : List (ℕ × Frame)) (b : Bridge) → Room f b → afterFrames f b ≡ owning (holding b (streamsAfter f b)) (ownAfter f b)
 unfolding afterFrames streamsAfter ownAfter run after holding owning
@@ -458,12 +458,12 @@ pub after-ids : (f : List (ℕ × Frame)) (b : Bridge) → length (together (ids
 unfolding Room holding owning streamsAfter
 after-ids f b h = rw (after-run f b h) (run-ids (b .settings) (b .clock) f (b .streams))
 
-all-answers : (f : List (ℕ × Frame)) (b : Bridge) → Room f b → frameAnswers f b ≡ rulings (b .settings) (b .clock) f (b .own)
+all-answers : (f : List (ℕ × Frame)) (b : Bridge) → Room f b → frameAnswers f b ≡ rulings (b .settings) (b .clock) f (b .owns)
 unfolding frameAnswers rulings after holding owning
 all-answers [] b h = refl
 all-answers (a ∷ f) b h =
     rw (first-room a f b h)
-    (ap (λ (l : List (ℕ × ℕ)). (a .0, ruling (b .settings) (b .clock) (a .0) (a .1) (b .own)) ∷ l) (all-answers f (after b (a .0) (a .1)) (rest-room a f b h)))
+    (ap (λ (l : List (ℕ × ℕ)). (a .0, ruling (b .settings) (b .clock) (a .0) (a .1) (b .owns)) ∷ l) (all-answers f (after b (a .0) (a .1)) (rest-room a f b h)))
 
 -- With room for all streams, the order among the ports does not matter: neither to the bridge nor to the answer to any frame.
 pub order : (f g : List (ℕ × Frame)) (b : Bridge) → ((p : ℕ) → on p f ≡ on p g) →
@@ -474,8 +474,8 @@ order f g b same fits =
     let st = b .settings in
     let now = b .clock in
     let streams : streamsAfter f b ≡ streamsAfter g b = streams-order st now f g (b .streams) same in
-    let own : ownAfter f b ≡ ownAfter g b = own-order st now f g (b .own) same in
+    let own : ownAfter f b ≡ ownAfter g b = own-order st now f g (b .owns) same in
     let fits′ : Room g b = rw (← run-ids st now g (b .streams), ← streams, run-ids) fits in (
       after-run f b fits ∙ ap₂ (λ (s : List Stream) (o : List Own). owning (holding b s) o) streams own ∙ sym (after-run g b fits′),
-      λ p. rw (all-answers f b fits, all-answers g b fits′, on-rulings st now p f (b .own), on-rulings st now p g (b .own), same p),
+      λ p. rw (all-answers f b fits, all-answers g b fits′, on-rulings st now p f (b .owns), on-rulings st now p g (b .owns), same p),
     )

@@ -9,7 +9,7 @@ use lib.Dec.{leb}
 use lib.Seq.{take-length}
 use borrow.Author.Tests.{leb-true, leb-false, le-leb}
 use Rattle.model.specs.Frames.{threeLength, fourLength}
-use Rattle.model.specs.Cutting.{mac, Shares, joined, Cutting, lastOf, values, octetsFor}
+use Rattle.model.specs.Cutting.{mac, Shares, concat, Cutting, lastOf, values, octetsFor}
 use Rattle.model.specs.Best.{price, weight, best, least, run}
 use Rattle.model.proofs.Lists.{Longest}
 use Rattle.model.proofs.Ascents.{Rises, Rising, rises-left, rises-last, rises-mid}
@@ -57,18 +57,18 @@ unfolding price values
 two-lighter x g y h d a b c n = rw (last-append x g y h) (omega (arith, far-costs x (lastOf x g) y (lastOf y h) a b c n))
 
 module _ (l : List ℕ) (rising : Rising l) (x : ℕ) (g : List ℕ) (y : ℕ) (h : List ℕ) (d : List (List ℕ)) where
-  module _ (e : x ∷ (g ++ (y ∷ (h ++ joined d))) ≡ l) where
-    rises : Rises x (g ++ (y ∷ (h ++ joined d)))
+  module _ (e : x ∷ (g ++ (y ∷ (h ++ concat d))) ≡ l) where
+    rises : Rises x (g ++ (y ∷ (h ++ concat d)))
     rises = subst Rising (sym e) rising
 
     low : x ≤ lastOf x g
-    low = rises-last x g (rises-left x g (y ∷ (h ++ joined d)) rises)
+    low = rises-last x g (rises-left x g (y ∷ (h ++ concat d)) rises)
 
     mid : lastOf x g < y
-    mid = rises-mid x g y (h ++ joined d) rises .0
+    mid = rises-mid x g y (h ++ concat d) rises .0
 
     high : y ≤ lastOf y h
-    high = rises-last y h (rises-left y h (joined d) (rises-mid x g y (h ++ joined d) rises .1))
+    high = rises-last y h (rises-left y h (concat d) (rises-mid x g y (h ++ concat d) rises .1))
 
   -- the best weighs no more than any other
   not-over : (b c : List (List ℕ)) → best l ≡ b → Cutting l c → weight b ≤ weight c
@@ -83,7 +83,7 @@ module _ (l : List ℕ) (rising : Rising l) (x : ℕ) (g : List ℕ) (y : ℕ) (
 
       one : Cutting l ((x ∷ (g ++ (y ∷ h))) ∷ d)
       one =
-          (ap (λ (z : List ℕ). x ∷ z) (append-assoc g (y ∷ h) (joined d)) ∙ p .0, (shares-join x g y h (p .1 .0) m (p .1 .1 .0), p .1 .1 .1))
+          (ap (λ (z : List ℕ). x ∷ z) (append-assoc g (y ∷ h) (concat d)) ∙ p .0, (shares-join x g y h (p .1 .0) m (p .1 .1 .0), p .1 .1 .1))
 
       go : (t : Bool) → leb y (lastOf x g + 17) ≡ t → lastOf x g + 17 < y
       go true b =
@@ -102,8 +102,8 @@ module _ (l : List ℕ) (rising : Rising l) (x : ℕ) (g : List ℕ) (y : ℕ) (
       p : Cutting l ((x ∷ (g ++ (y ∷ h))) ∷ d)
       p = subst (Cutting l) e (best-cuts l)
 
-      f : x ∷ (g ++ (y ∷ (h ++ joined d))) ≡ l
-      f = ap (λ (z : List ℕ). x ∷ z) (sym (append-assoc g (y ∷ h) (joined d))) ∙ p .0
+      f : x ∷ (g ++ (y ∷ (h ++ concat d))) ≡ l
+      f = ap (λ (z : List ℕ). x ∷ z) (sym (append-assoc g (y ∷ h) (concat d))) ∙ p .0
 
       two : Cutting l ((x ∷ g) ∷ (y ∷ h) ∷ d)
       two = let s = shares-split x g y h (p .1 .0) in (f, (s .0, (s .1, p .1 .1)))

@@ -12,7 +12,7 @@ use borrow.Author.Tests.{lt-ltb, ltb-true}
 use Rattle.model.specs.Lists.{All}
 use Rattle.model.specs.State.{Settings, Fixed, Varying, Talker, noTalker, talker, Cell, failed, Stream, Bridge, unsettled, cellAt, resultAt}
 use Rattle.model.specs.Registrations.{Kind, Act, leaveAll, leave, talk, listen, ofDomain, withLeaving, quitTalker, quit, sameFixed, firstJoin, sameJoin, otherJoin, joinTalker, does}
-use Rattle.model.specs.Settling.{expired, expireTalker, remain, Source, nowhere, from, sourceOf, latencyOf, firstLatencyOf, healthOf, decideOwns, Scene, clear, isBroken, stepsFrom, steps, columnOf, decideAt, decide, settle, Inbound, inboundOf, inboundsOf, lastSteps}
+use Rattle.model.specs.Settling.{expired, expireTalker, remain, Source, nowhere, from, sourceOf, latencyOf, firstLatencyOf, talkerTypeOf, decideOwns, Scene, clear, isTalkerFailed, stepsFrom, steps, columnOf, decideAt, decide, settle, Inbound, inboundOf, inboundsOf, lastSteps}
 use Rattle.model.specs.Table.{columnCode}
 use Rattle.model.proofs.OwnCodes.{gives, earlier, asked, never, once, stepsOf, own-decided, own-only}
 use Rattle.model.proofs.ColumnRule.{at-place, all-image}
@@ -83,7 +83,7 @@ module _ (sc : Scene) (now : ℕ) (s : List Stream) (p : ℕ) (x : Stream) where
   seven-decided free grown = own-decided sc now s p x 7 free (seven-asked sc p (cellAt x p) (inboundOf x) (sourceOf x) ∙ lt-ltb _ _ grown)
 
   -- and code 7 of a stream that is not registered as Failed says so
-  pub seven-only : isBroken (healthOf (sourceOf x)) ≡ false → columnCode (columnOf sc now s p x) ≡ 7
+  pub seven-only : isTalkerFailed (talkerTypeOf (sourceOf x)) ≡ false → columnCode (columnOf sc now s p x) ≡ 7
       → (clear (earlier 7 (steps sc p x)) ≡ true) × (firstLatencyOf (sourceOf x) < latencyOf (sourceOf x))
   unfolding steps
   seven-only whole e =
@@ -93,7 +93,7 @@ module _ (sc : Scene) (now : ℕ) (s : List Stream) (p : ℕ) (x : Stream) where
 -- The latency of an Advertise that is not above the first: on no port has the stream code 7.
 abbrev pub Fallen : Stream → Type 0
 Fallen x =
-    isBroken (healthOf (sourceOf x)) ≡ false → latencyOf (sourceOf x) ≤ firstLatencyOf (sourceOf x)
+    isTalkerFailed (talkerTypeOf (sourceOf x)) ≡ false → latencyOf (sourceOf x) ≤ firstLatencyOf (sourceOf x)
     → (p : ℕ) → p < 8 → columnCode (resultAt x p .column) ≡ 7 → ⊥
 
 -- So it is after every advance, whatever was declared before.
@@ -105,7 +105,7 @@ fallen-back now b = all-image Fallen (decide sc now s) fallen s
     s = remain (b .settings) now (b .streams)
 
     sc : Scene
-    sc = record { settings = b .settings; own = decideOwns (b .settings) now (b .own); inbound = inboundsOf s }
+    sc = record { settings = b .settings; owns = decideOwns (b .settings) now (b .owns); inbound = inboundsOf s }
 
     fallen : (x : Stream) → Fallen (decide sc now s x)
     fallen x whole low p h e = omega (arith, seven-only sc now s p x whole (rw (at-place (decideAt sc now s x) p unsettled h) at e) .1)

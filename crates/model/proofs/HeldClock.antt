@@ -10,7 +10,7 @@ use lib.ListN.{length}
 use borrow.Author.Tests.{lt-leb}
 use Rattle.model.specs.Lists.{All}
 use Rattle.model.specs.State.{Settings, Leaving, stays, since, Talker, noTalker, talker, Listener, noListener, listener, Cell, Domain, noDomain, domain, Presence, vacant, present, Address, noOwn, Column, none, advertise, failed, noEntry, filters, forwards, Declared, nothing, tells, Result, Stream, Bridge, fresh, unsettled, streamAt, cellAt, resultAt, ownAt}
-use Rattle.model.specs.Settling.{expired, expireTalker, expireListener, expireCell, expire, remain, expireDomain, isPresent, remainAddresses, sourceOf, columnOf, registered, isReady, entryOf, decideAt, decide, settle}
+use Rattle.model.specs.Settling.{expired, expireTalker, expireListener, expireCell, expire, remain, expireDomain, outlasts, remainAddresses, sourceOf, columnOf, registered, isReady, entryOf, decideAt, decide, settle}
 use Rattle.model.specs.Table.{entryNumber}
 use Rattle.model.specs.Why.{columnBy, sceneNow, reason}
 use Rattle.model.proofs.Lists.{all-map, all-getD, at-place, getD-map}
@@ -49,8 +49,8 @@ module _ (st : Settings) (clock : ℕ) where
   domain-stays noDomain v = refl
   domain-stays (domain w l) v = rw (not-expired l (v .1))
 
-  is-present : (k : Presence) → ValidPresence clock (st .leaveTime) k → isPresent st clock k ≡ true
-  unfolding isPresent
+  is-present : (k : Presence) → ValidPresence clock (st .leaveTime) k → outlasts st clock k ≡ true
+  unfolding outlasts
   is-present vacant v = absurd v
   is-present (present l) v = rw (not-expired l v)
 
@@ -71,18 +71,18 @@ module _ (st : Settings) (clock : ℕ) where
 
 -- nor what the port at place p holds by itself
 module _ (b : Bridge) (v : Valid b) (p : ℕ) where
-  own-valid : ValidOwn (b .clock) (b .settings .leaveTime) (ownAt (b .own) p)
+  own-valid : ValidOwn (b .clock) (b .settings .leaveTime) (ownAt (b .owns) p)
   own-valid =
       let leave = b .settings .leaveTime in
-      all-getD (ValidOwn (b .clock) leave) (b .own) (v .own) noOwn (no-own-valid (b .clock) leave) p
+      all-getD (ValidOwn (b .clock) leave) (b .owns) (v .owns) noOwn (no-own-valid (b .clock) leave) p
 
-  pub own-domains-stay : map (expireDomain (b .settings) (b .clock)) (ownAt (b .own) p .domains) ≡ ownAt (b .own) p .domains
+  pub own-domains-stay : map (expireDomain (b .settings) (b .clock)) (ownAt (b .owns) p .domains) ≡ ownAt (b .owns) p .domains
   own-domains-stay =
-      map-same (expireDomain (b .settings) (b .clock)) (ownAt (b .own) p .domains)
-      (all-map (ValidDomain (b .clock) (b .settings .leaveTime)) (λ d. expireDomain (b .settings) (b .clock) d ≡ d) (domain-stays (b .settings) (b .clock)) (ownAt (b .own) p .domains) (own-valid .domains))
+      map-same (expireDomain (b .settings) (b .clock)) (ownAt (b .owns) p .domains)
+      (all-map (ValidDomain (b .clock) (b .settings .leaveTime)) (λ d. expireDomain (b .settings) (b .clock) d ≡ d) (domain-stays (b .settings) (b .clock)) (ownAt (b .owns) p .domains) (own-valid .domains))
 
-  pub own-addresses-stay : remainAddresses (b .settings) (b .clock) (ownAt (b .own) p .addresses) ≡ ownAt (b .own) p .addresses
-  own-addresses-stay = addresses-stay (b .settings) (b .clock) (ownAt (b .own) p .addresses) (own-valid .addresses .each)
+  pub own-addresses-stay : remainAddresses (b .settings) (b .clock) (ownAt (b .owns) p .addresses) ≡ ownAt (b .owns) p .addresses
+  own-addresses-stay = addresses-stay (b .settings) (b .clock) (ownAt (b .owns) p .addresses) (own-valid .addresses .each)
 
 -- An entry forwards exactly where the column is Advertise and the Listener Ready or Ready Failed.
 

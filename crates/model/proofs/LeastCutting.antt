@@ -8,7 +8,7 @@ use lib.ListN.{length, length-append, drop}
 use lib.Dec.{eqb}
 use borrow.Author.Tests.{eqb-true, eq-eqb}
 use Rattle.model.specs.Lists.{All}
-use Rattle.model.specs.Cutting.{mac, Shares, joined, Cutting, Part}
+use Rattle.model.specs.Cutting.{mac, Shares, concat, Cutting, Part}
 use Rattle.model.specs.Best.{lighter, longer, bests, best}
 use Rattle.model.proofs.CuttingWeights.{Under, Begins, under-self, under-trans, under-cons, lighter-first, lighter-second, lighter-keeps}
 
@@ -103,25 +103,25 @@ longer-under x g (y ∷ r) c b =
 abbrev Low : List ℕ → Type 0
 Low l = (c : List (List ℕ)) → Cutting l c → Under (best l) c
 
-longer-covers : (x : ℕ) (g : List ℕ) (y : ℕ) (h : List ℕ) (d c : List (List ℕ)) → Begins (suc (length g)) c → Tails Low (h ++ joined d)
-    → Shares x (g ++ (y ∷ h)) → All Part d → Under (longer x g (y ∷ (h ++ joined d)) (bests (h ++ joined d)) c) ((x ∷ (g ++ (y ∷ h))) ∷ d)
+longer-covers : (x : ℕ) (g : List ℕ) (y : ℕ) (h : List ℕ) (d c : List (List ℕ)) → Begins (suc (length g)) c → Tails Low (h ++ concat d)
+    → Shares x (g ++ (y ∷ h)) → All Part d → Under (longer x g (y ∷ (h ++ concat d)) (bests (h ++ concat d)) c) ((x ∷ (g ++ (y ∷ h))) ∷ d)
 unfolding longer bests best
 longer-covers x g y [] d c b t s v =
     let w : length (g ++ (y ∷ [])) ≡ suc (length g) = simp length-append (omega arith) in
     let k : List ℕ = g ++ (y ∷ []) in
-    let a : List (List ℕ) = lighter c ((x ∷ k) ∷ best (joined d)) in
+    let a : List (List ℕ) = lighter c ((x ∷ k) ∷ best (concat d)) in
     let n : Begins (suc (length k)) a =
-    lighter-keeps (Begins (suc (length k))) c ((x ∷ k) ∷ best (joined d)) (begins-more (suc (length g)) (suc (length k)) c (omega arith) b) (omega arith) in
+    lighter-keeps (Begins (suc (length k))) c ((x ∷ k) ∷ best (concat d)) (begins-more (suc (length g)) (suc (length k)) c (omega arith) b) (omega arith) in
     rw (eq-eqb (mac y) (mac x) (shares-at x g y [] s))
-    (under-trans (longer x k (joined d) (drop 1 (bests (joined d))) a) a ((x ∷ k) ∷ d)
-    (longer-under x k (joined d) a n)
-    (under-trans a ((x ∷ k) ∷ best (joined d)) ((x ∷ k) ∷ d)
-    (lighter-second (suc (length g)) c b (x ∷ k) (best (joined d)) (omega arith))
-    (under-cons (x ∷ k) (best (joined d)) d (own Low (joined d) t d (refl, v)))))
+    (under-trans (longer x k (concat d) (drop 1 (bests (concat d))) a) a ((x ∷ k) ∷ d)
+    (longer-under x k (concat d) a n)
+    (under-trans a ((x ∷ k) ∷ best (concat d)) ((x ∷ k) ∷ d)
+    (lighter-second (suc (length g)) c b (x ∷ k) (best (concat d)) (omega arith))
+    (under-cons (x ∷ k) (best (concat d)) d (own Low (concat d) t d (refl, v)))))
 longer-covers x g y (z ∷ h) d c b t s v =
     let w : length (g ++ (y ∷ [])) ≡ suc (length g) = simp length-append (omega arith) in
     let k : List ℕ = g ++ (y ∷ []) in
-    let r : List ℕ = z ∷ (h ++ joined d) in
+    let r : List ℕ = z ∷ (h ++ concat d) in
     let a : List (List ℕ) = lighter c ((x ∷ k) ∷ best r) in
     let n : Begins (suc (length k)) a =
     lighter-keeps (Begins (suc (length k))) c ((x ∷ k) ∷ best r) (begins-more (suc (length g)) (suc (length k)) c (omega arith) b) (omega arith) in
@@ -137,12 +137,12 @@ low-more x l t ((x′ ∷ g) ∷ d) p =
     subst (λ (z : List ℕ). Under (best z) ((x′ ∷ g) ∷ d)) (p .0)
     (begin g (p .1 .0) (subst (Tails Low) (sym (tail-eq-of-cons-eq (p .0))) t))
   where
-    begin : (g : List ℕ) → Shares x′ g → Tails Low (g ++ joined d) → Under (best (x′ ∷ (g ++ joined d))) ((x′ ∷ g) ∷ d)
+    begin : (g : List ℕ) → Shares x′ g → Tails Low (g ++ concat d) → Under (best (x′ ∷ (g ++ concat d))) ((x′ ∷ g) ∷ d)
     begin [] s t =
-        under-trans (best (x′ ∷ joined d)) ((x′ ∷ []) ∷ best (joined d)) ((x′ ∷ []) ∷ d)
-        (longer-under x′ [] (joined d) ((x′ ∷ []) ∷ best (joined d)) (omega arith))
-        (under-cons (x′ ∷ []) (best (joined d)) d (own Low (joined d) t d (refl, p .1 .1)))
-    begin (y ∷ h) s t = longer-covers x′ [] y h d ((x′ ∷ []) ∷ best (y ∷ (h ++ joined d))) (omega arith) (t .1) s (p .1 .1)
+        under-trans (best (x′ ∷ concat d)) ((x′ ∷ []) ∷ best (concat d)) ((x′ ∷ []) ∷ d)
+        (longer-under x′ [] (concat d) ((x′ ∷ []) ∷ best (concat d)) (omega arith))
+        (under-cons (x′ ∷ []) (best (concat d)) d (own Low (concat d) t d (refl, p .1 .1)))
+    begin (y ∷ h) s t = longer-covers x′ [] y h d ((x′ ∷ []) ∷ best (y ∷ (h ++ concat d))) (omega arith) (t .1) s (p .1 .1)
 
 lows : (l : List ℕ) → Tails Low l
 unfolding bests best

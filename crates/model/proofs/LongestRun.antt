@@ -10,7 +10,7 @@ use lib.Seq.{take-take, take-nil}
 use borrow.Author.Tests.{leb-true, le-leb}
 use Rattle.model.specs.Lists.{All}
 use Rattle.model.specs.Frames.{threeLength, fourLength}
-use Rattle.model.specs.Cutting.{Shares, Part, joined, Cutting, lastOf, values, octetsFor, octets}
+use Rattle.model.specs.Cutting.{Shares, Part, concat, Cutting, lastOf, values, octetsFor, octets}
 use Rattle.model.specs.Best.{bests, best, least, run}
 use Rattle.model.proofs.Lists.{Longest, longest-longest}
 use Rattle.model.proofs.Ascents.{Rises, Rising, rising-left, rising-right, rising-take, rises-last}
@@ -26,7 +26,7 @@ trim : ℕ → List (List ℕ) → List (List ℕ)
 trim k [] = []
 trim k (g ∷ c) = put (take k g) (trim (k - length g) c)
 
-joined-put : (g : List ℕ) (c : List (List ℕ)) → joined (put g c) ≡ g ++ joined c
+joined-put : (g : List ℕ) (c : List (List ℕ)) → concat (put g c) ≡ g ++ concat c
 unfolding put
 joined-put [] c = refl
 joined-put (x ∷ g) c = refl
@@ -38,11 +38,11 @@ take-append (suc k) (x ∷ g) r =
     let e : suc k - suc (length g) ≡ k - length g = omega arith in
     rw e (ap (λ (z : List ℕ). x ∷ z) (take-append k g r))
 
-joined-trim : (k : ℕ) (c : List (List ℕ)) → joined (trim k c) ≡ take k (joined c)
+joined-trim : (k : ℕ) (c : List (List ℕ)) → concat (trim k c) ≡ take k (concat c)
 unfolding trim
 joined-trim k [] = sym (take-nil k)
 joined-trim k (g ∷ c) =
-    joined-put (take k g) (trim (k - length g) c) ∙ ap (λ (z : List ℕ). take k g ++ z) (joined-trim (k - length g) c) ∙ take-append k g (joined c)
+    joined-put (take k g) (trim (k - length g) c) ∙ ap (λ (z : List ℕ). take k g ++ z) (joined-trim (k - length g) c) ∙ take-append k g (concat c)
 
 shares-take : (k x : ℕ) (g : List ℕ) → Shares x g → Shares x (take k g)
 shares-take zero x g s = tt
@@ -72,11 +72,11 @@ octets-put zero g c p = omega arith
 octets-put (suc k) [] c p = omega arith
 octets-put (suc k) (x ∷ g) c p = omega (arith, last-take k x g p)
 
-octets-trim : (k : ℕ) (c : List (List ℕ)) → Rising (joined c) → octets (trim k c) ≤ octets c
+octets-trim : (k : ℕ) (c : List (List ℕ)) → Rising (concat c) → octets (trim k c) ≤ octets c
 unfolding trim
 octets-trim k [] p = omega arith
 octets-trim k (g ∷ c) p =
-    omega (arith, octets-put k g (trim (k - length g) c) (rising-left g (joined c) p), octets-trim (k - length g) c (rising-right g (joined c) p))
+    omega (arith, octets-put k g (trim (k - length g) c) (rising-left g (concat c) p), octets-trim (k - length g) c (rising-right g (concat c) p))
 
 pub length-cut : (k : ℕ) (l : List ℕ) → length (take k l) ≤ length l
 length-cut zero l = omega arith

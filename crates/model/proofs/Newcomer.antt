@@ -23,7 +23,7 @@ use Rattle.model.proofs.Untouched.{remaining, sceneAt, Alike, untouched
 -- The bridge b′ has a stream z of rank 1 more than b, beside the streams l before it and r behind it.
 pub record Joins (now : ℕ) (b b′ : Bridge) (l r : List Stream) (z : Stream) : Type 0 where
   pub settings : b .settings ≡ b′ .settings
-  pub own : b .own ≡ b′ .own
+  pub owns : b .owns ≡ b′ .owns
   pub before : remaining now b ≡ l ++ r
   pub after : remaining now b′ ≡ l ++ z ∷ r
   pub rank : fixedOf (sourceOf z) .rank ≡ 1
@@ -85,10 +85,10 @@ module _ (l r : List Stream) (z : Stream) where
   module _ (st : Settings) (o : List Own) (now p : ℕ)
       (h : (st .fanIn ≡ 0) ⊎ ((q : ℕ) → isSource (sourceOf z) q ≡ true → isInbound (inboundsOf (l ++ r)) q ≡ true)) where
     abbrev old : Scene
-    old = record { settings = st; own = o; inbound = inboundsOf (l ++ r) }
+    old = record { settings = st; owns = o; inbound = inboundsOf (l ++ r) }
 
     abbrev new : Scene
-    new = record { settings = st; own = o; inbound = inboundsOf (l ++ z ∷ r) }
+    new = record { settings = st; owns = o; inbound = inboundsOf (l ++ z ∷ r) }
 
     front-past : (here : Cell) (t : Source) → stepsFrom new p here t ≡ stepsFrom old p here t
     unfolding stepsFrom
@@ -143,12 +143,12 @@ module _ (now : ℕ) (b b′ : Bridge) (l r : List Stream) (z : Stream) (n : Joi
   newcomer-alike = record {
     settings = n .settings;
     registrations = refl;
-    important = rw (n .before, n .after, n .settings, n .own) (sym (above-past l r z (b′ .settings) _ now p (n .inbound) (n .address) _ less _));
-    borrowed = rw (n .before, n .after, n .settings, n .own) (λ e. sym (total-past l r z (b′ .settings) _ now p (n .inbound) (n .address) (class e)));
+    important = rw (n .before, n .after, n .settings, n .owns) (sym (above-past l r z (b′ .settings) _ now p (n .inbound) (n .address) _ less _));
+    borrowed = rw (n .before, n .after, n .settings, n .owns) (λ e. sym (total-past l r z (b′ .settings) _ now p (n .inbound) (n .address) (class e)));
     address = rw (n .before, n .after) (sym (shares-past l r z (inboundOf x) (unfold inboundOf in address)));
-    edge = rw (n .settings, n .own);
+    edge = rw (n .settings, n .owns);
     inbound = rw (n .before, n .after, n .settings) (sym (kept-past l r z (b′ .settings .fanIn) (n .inbound) (sourceOf x)));
-    wanted = rw (n .settings, n .own) (λ e. refl);
+    wanted = rw (n .settings, n .owns) (λ e. refl);
   }
 
   pub newcomer :

@@ -6,7 +6,7 @@ use native.Mathlib.Omega.{arith}
 use lib.ListN.{length, take, drop}
 use lib.Seq.{take-at, drop-at}
 use Rattle.model.specs.Lists.{All}
-use Rattle.model.specs.Cutting.{Part, joined, Cutting, lastOf, values, octets, Wider, NotAfter, Least}
+use Rattle.model.specs.Cutting.{Part, concat, Cutting, lastOf, values, octets, Wider, NotAfter, Least}
 use Rattle.model.specs.Best.{weight, best}
 use Rattle.model.specs.Laid.{Ascending}
 use Rattle.model.proofs.Ascents.{Rises, Rising, ascending-rising, rises-left, rising-right, rises-last}
@@ -71,15 +71,15 @@ agree-back g h r s v w p e = turned (agree g h r s v w p e)
     turned (more m n) = more n m
 
 -- so either gives one order of the cuttings of a rising list
-by-other : (size other : List ℕ → ℕ) → Agree size other → (c d : List (List ℕ)) → All Part c → All Part d → Rising (joined c) → joined c ≡ joined d
+by-other : (size other : List ℕ → ℕ) → Agree size other → (c d : List (List ℕ)) → All Part c → All Part d → Rising (concat c) → concat c ≡ concat d
     → Wider size c d → Wider other c d
 by-other size other a [] [] v w p e q = tt
 by-other size other a (g ∷ c) [] v w p e q = tt
 by-other size other a [] (h ∷ d) v w p e q = absurd q
 by-other size other a (g ∷ c) (h ∷ d) v w p e q =
-    go (a g h (joined c) (joined d) (v .0) (w .0) p e) (λ f. by-other size other a c d (v .1) (w .1) (rising-right g (joined c) p) f)
+    go (a g h (concat c) (concat d) (v .0) (w .0) p e) (λ f. by-other size other a c d (v .1) (w .1) (rising-right g (concat c) p) f)
   where
-    go : Meets (size g) (size h) (other g) (other h) g h (joined c) (joined d) → (joined c ≡ joined d → Wider size c d → Wider other c d)
+    go : Meets (size g) (size h) (other g) (other h) g h (concat c) (concat d) → (concat c ≡ concat d → Wider size c d → Wider other c d)
         → (other h ≤ other g) × (other g ≡ other h → Wider other c d)
     go (less m n) ih = absurd (omega (arith, q .0))
     go (same m n) ih = (omega (arith, ap other m), λ f. ih n (q .1 (ap size m)))
@@ -105,15 +105,15 @@ split (x ∷ g) (y ∷ h) r s e f =
     let i : (g ≡ h) × (r ≡ s) = split g h r s (omega arith) (tail-eq-of-cons-eq f) in
     (ap₂ (λ (a : ℕ) (b : List ℕ). a ∷ b) (head-eq-of-cons-eq f) (i .0), i .1)
 
-pub twice : (c d : List (List ℕ)) → joined c ≡ joined d → Wider length c d → Wider length d c → c ≡ d
+pub twice : (c d : List (List ℕ)) → concat c ≡ concat d → Wider length c d → Wider length d c → c ≡ d
 twice [] [] e p q = refl
 twice [] (h ∷ d) e p q = absurd p
 twice (g ∷ c) [] e p q = absurd q
 twice (g ∷ c) (h ∷ d) e p q =
-    let i : (g ≡ h) × (joined c ≡ joined d) = split g h (joined c) (joined d) (omega arith) e in
+    let i : (g ≡ h) × (concat c ≡ concat d) = split g h (concat c) (concat d) (omega arith) e in
     ap₂ (λ (a : List ℕ) (b : List (List ℕ)). a ∷ b) (i .0) (twice c d (i .1) (p .1 (omega arith)) (q .1 (omega arith)))
 
-pub order-antisym : (c d : List (List ℕ)) → joined c ≡ joined d → NotAfter length c d → NotAfter length d c → c ≡ d
+pub order-antisym : (c d : List (List ℕ)) → concat c ≡ concat d → NotAfter length c d → NotAfter length d c → c ≡ d
 order-antisym c d e p q =
     let o : octets c ≡ octets d = omega (arith, p .0, q .0) in
     let n : length c ≡ length d = omega (arith, p .1 o .0, q .1 (sym o) .0) in
@@ -151,10 +151,10 @@ best-next l g d e = (sym a, twice d (best r) (j ∙ sym (q .0)) (u .1 same) (v .
     p = subst (Cutting l) e (best-cuts l)
 
     a : take (length g) l ≡ g
-    a = subst (λ (z : List ℕ). take (length g) z ≡ g) (p .0) (take-at g (joined d) (length g) refl)
+    a = subst (λ (z : List ℕ). take (length g) z ≡ g) (p .0) (take-at g (concat d) (length g) refl)
 
-    j : joined d ≡ r
-    j = subst (λ (z : List ℕ). joined d ≡ drop (length g) z) (p .0) (sym (drop-at g (joined d) (length g) refl))
+    j : concat d ≡ r
+    j = subst (λ (z : List ℕ). concat d ≡ drop (length g) z) (p .0) (sym (drop-at g (concat d) (length g) refl))
 
     q : Cutting r (best r)
     q = best-cuts r

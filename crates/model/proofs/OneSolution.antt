@@ -166,7 +166,7 @@ carried-ids now (x ∷ s) (y ∷ t) w = rw (w .0 .id) (ap (λ (is : List ℕ). x
 -- What by the rules an advance leaves of the streams s are the columns, results and totals that it decides.
 
 abbrev bridge : Scene → ℕ → List Totals → List Stream → Bridge
-bridge sc now ts t = record { settings = sc .settings; clock = now; totals = ts; own = sc .own; streams = t }
+bridge sc now ts t = record { settings = sc .settings; clock = now; totals = ts; owns = sc .owns; streams = t }
 
 module _ (sc : Scene) (now : ℕ) (ts : List Totals) (s t : List Stream) (r : Rising (ids s)) (small : All Small (ids s))
     (carried : Pairwise (Carried now) s t) (inbound : sc .inbound ≡ inboundsOf s) (settled : Settled (bridge sc now ts t)) where
@@ -178,7 +178,7 @@ module _ (sc : Scene) (now : ℕ) (ts : List Totals) (s t : List Stream) (r : Ri
 
   same-rule : (p : ℕ) (y : Stream) → ruled (sceneOf (bridge sc now ts t)) now t p (columnAt p) y ≡ ruled sc now t p (columnAt p) y
   same-rule p y =
-      ap (λ (l : List Inbound). ruled record { settings = sc .settings; own = sc .own; inbound = l } now t p (columnAt p) y)
+      ap (λ (l : List Inbound). ruled record { settings = sc .settings; owns = sc .owns; inbound = l } now t p (columnAt p) y)
       (carried-inbound now s t carried ∙ sym inbound)
 
   module _ (p : ℕ) (here : p < 8) where
@@ -276,15 +276,15 @@ unfolding settle
 one-bridge now b c r small advanced =
     let st = b .settings in
     let s = remain st now (b .streams) in
-    let sc : Scene = record { settings = st; own = decideOwns st now (b .own); inbound = inboundsOf s } in
+    let sc : Scene = record { settings = st; owns = decideOwns st now (b .owns); inbound = inboundsOf s } in
     let remaining : Rising (ids s) = remain-rising st now (b .streams) r in
     let few : All Small (ids s) = remain-all st now Small (b .streams) small in
     let settled : Settled (bridge sc now (c .totals) (c .streams)) =
-    rw (advanced .settings, advanced .clock, advanced .own) at (advanced .decided) in
+    rw (advanced .settings, advanced .clock, advanced .owns) at (advanced .decided) in
     rw (
       advanced .settings,
       advanced .clock,
-      advanced .own,
+      advanced .owns,
       totals-solved sc now (c .totals) s (c .streams) remaining few (advanced .streams) refl settled,
       streams-solved sc now (c .totals) s (c .streams) remaining few (advanced .streams) refl settled,
     )

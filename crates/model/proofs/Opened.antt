@@ -29,15 +29,15 @@ unfolding Lists.tabulate Lists.bit Lists.countTo State.empty State.unsettled Sta
 stateOpened = tt
 
 octetsOpened : Unit {0}
-unfolding Be.beAt Be.be Fields.fields Fields.flat Parts.part Reports.refusedReport Reports.wordOf Reports.codeOf Reports.report WrittenFrames.messageOf WrittenFrames.fixedNumbers WrittenFrames.priorityOctet Table.columnNumber Table.columnCode Table.entryNumber Table.declaredNumber Table.leavingNumber Table.sinceNumber Table.healthNumber Table.bridgeNumber Table.codeNumber Table.talkerNumbers Table.listenerNumbers Table.cellNumbers Table.portFrom Table.toPort Table.portsField Table.toSettings Table.vlanWord Table.portRule Table.everyPart Table.settingsRules Table.settingsFormed Fields.packed Declarations.healthKind Declarations.attributeOf Declarations.sameAttribute Declarations.domainOf Declarations.domainValues Declarations.declarationsOf Declarations.ofKind Declarations.declarations Cutting.mac Cutting.values Cutting.octetsFor Best.price Best.lighter Best.longer Best.bests Best.best Best.least Best.run Declarations.declaredId Declarations.declaredIds Declarations.having Declarations.vectorSize Declarations.vectorsSize Declarations.messageSize Declarations.messagesSize Declarations.fitting Declarations.takes WrittenFrames.failureNumbers WrittenFrames.firstNumbers WrittenFrames.fourOctets WrittenFrames.declarationVector WrittenFrames.vectorOctets WrittenFrames.messageOctets WrittenFrames.listenerNumber WrittenFrames.said WrittenFrames.threeOctet WrittenFrames.fourOctet WrittenFrames.packedVector WrittenFrames.cutAs WrittenFrames.listenerParts WrittenFrames.vectorsOf WrittenFrames.pduOctets
+unfolding Be.beAt Be.be Fields.fields Fields.flat Parts.part Reports.refusedReport Reports.wordOf Reports.codeOf Reports.report WrittenFrames.messageOf WrittenFrames.fixedNumbers WrittenFrames.priorityOctet Table.columnNumber Table.columnCode Table.entryNumber Table.declaredNumber Table.leavingNumber Table.sinceNumber Table.talkerTypeNumber Table.bridgeNumber Table.codeNumber Table.talkerNumbers Table.listenerNumbers Table.cellNumbers Table.portFrom Table.toPort Table.portsField Table.toSettings Table.vlanWord Table.portRule Table.everyPart Table.settingsRules Table.settingsFormed Fields.packed Declarations.talkerKind Declarations.attributeOf Declarations.sameAttribute Declarations.domainOf Declarations.domainValues Declarations.declarationsOf Declarations.ofKind Declarations.declarations Cutting.mac Cutting.values Cutting.octetsFor Best.price Best.lighter Best.longer Best.bests Best.best Best.least Best.run Declarations.declaredId Declarations.declaredIds Declarations.having Declarations.vectorSize Declarations.vectorsSize Declarations.messageSize Declarations.messagesSize Declarations.fitting Declarations.takes WrittenFrames.failureNumbers WrittenFrames.firstNumbers WrittenFrames.fourOctets WrittenFrames.declarationVector WrittenFrames.vectorOctets WrittenFrames.messageOctets WrittenFrames.listenerNumber WrittenFrames.said WrittenFrames.threeOctet WrittenFrames.fourOctet WrittenFrames.packedVector WrittenFrames.cutAs WrittenFrames.listenerParts WrittenFrames.vectorsOf WrittenFrames.pduOctets
 octetsOpened = tt
 
 receivingOpened : Unit {0}
-unfolding Frames.typeOctet Frames.typeNumber Frames.firstWidths Frames.firstLength Frames.threeLength Frames.hasFour Frames.fourLength Frames.vectorAt Frames.vectorEnd Frames.overpacked Frames.runsPast Frames.overflows Frames.strangeLeave Frames.strangeVector Frames.vectorIn Frames.checkedIn Frames.typedIn Frames.listLength Frames.listAt Frames.messageEnd Frames.endMark Frames.headerIn Frames.messageIn Frames.also Frames.both Frames.vectorsFrom Frames.vectors Frames.messagesFrom Frames.messages Frames.walk Frames.event Frames.threePacked Frames.fourPacked Frames.eventOf Frames.fourOf Frames.asking Frames.priorityOf Frames.rankOf Frames.fixedValue Frames.healthValue Frames.idValue Frames.hearing Frames.talkerAct Frames.listenerAct Frames.hasSlot Frames.slotAct Frames.domainAct Frames.valueActs Frames.valuesActs Frames.leaveAllActs Frames.vectorActs Frames.frameActs Frames.walked Frames.wrongPort Frames.reading Registrations.begin Registrations.talksAs Registrations.hearsAs Registrations.withLeaving Registrations.quitTalker Registrations.quitListener Registrations.quit Registrations.sameFixed Registrations.firstJoin Registrations.sameJoin Registrations.otherJoin Registrations.joinTalker Registrations.does Registrations.at Registrations.change Registrations.begun Registrations.touch Registrations.reach Registrations.apply Registrations.applyAll Registrations.quitDomain Registrations.doesDomain Registrations.changeDomains Registrations.applyOwn Registrations.applyOwns Registrations.holding Registrations.owning Registrations.received Registrations.joins Registrations.asks Registrations.quitPresence Registrations.quitAddress Registrations.joined Registrations.withJoined Registrations.withLeft Registrations.doesAddress Registrations.doesAddresses Registrations.changeAddresses Registrations.receivedAddresses AddressFrames.firstOctets AddressFrames.addressHeader AddressFrames.addressMessageIn AddressFrames.runsOut AddressFrames.overruns AddressFrames.addressesChecked AddressFrames.addressVectorIn AddressFrames.addressVectorAt AddressFrames.addressOf AddressFrames.addressAct AddressFrames.addressAsking AddressFrames.addressValues AddressFrames.allAddresses AddressFrames.addressVectorActs AddressFrames.thenList AddressFrames.addressesFrom AddressFrames.addresses AddressFrames.thenFrame AddressFrames.afterList AddressFrames.addressMessagesFrom AddressFrames.addressMessages AddressFrames.addressWalk AddressFrames.addressReading Calls.receiveMmrp Calls.receive
+unfolding Frames.typeOctet Frames.typeNumber Frames.firstWidths Frames.firstLength Frames.threeLength Frames.hasFour Frames.fourLength Frames.vectorAt Frames.vectorEnd Frames.overpacked Frames.runsPast Frames.overflows Frames.strangeLeave Frames.strangeVector Frames.vectorIn Frames.checkedIn Frames.typedIn Frames.listLength Frames.listAt Frames.messageEnd Frames.endMark Frames.headerIn Frames.messageIn Frames.also Frames.both Frames.vectorsFrom Frames.vectors Frames.messagesFrom Frames.messages Frames.walk Frames.event Frames.threePacked Frames.fourPacked Frames.eventOf Frames.fourOf Frames.asking Frames.priorityOf Frames.rankOf Frames.fixedValue Frames.talkerTypeValue Frames.idValue Frames.hearing Frames.talkerAct Frames.listenerAct Frames.hasSlot Frames.slotAct Frames.domainAct Frames.valueActs Frames.valuesActs Frames.leaveAllActs Frames.vectorActs Frames.frameActs Frames.walked Frames.wrongPort Frames.reading Registrations.begin Registrations.talksAs Registrations.hearsAs Registrations.withLeaving Registrations.quitTalker Registrations.quitListener Registrations.quit Registrations.sameFixed Registrations.firstJoin Registrations.sameJoin Registrations.otherJoin Registrations.joinTalker Registrations.does Registrations.at Registrations.change Registrations.begun Registrations.touch Registrations.reach Registrations.apply Registrations.applyAll Registrations.quitDomain Registrations.doesDomain Registrations.changeDomains Registrations.applyOwn Registrations.applyOwns Registrations.holding Registrations.owning Registrations.received Registrations.joins Registrations.asks Registrations.quitPresence Registrations.quitAddress Registrations.joinedAddress Registrations.withJoined Registrations.withLeft Registrations.doesAddress Registrations.doesAddresses Registrations.changeAddresses Registrations.receivedAddresses AddressFrames.firstOctets AddressFrames.addressHeader AddressFrames.addressMessageIn AddressFrames.runsOut AddressFrames.overruns AddressFrames.addressesChecked AddressFrames.addressVectorIn AddressFrames.addressVectorAt AddressFrames.addressOf AddressFrames.addressAct AddressFrames.addressAsking AddressFrames.addressValues AddressFrames.allAddresses AddressFrames.addressVectorActs AddressFrames.thenList AddressFrames.addressesFrom AddressFrames.addressVectors AddressFrames.thenFrame AddressFrames.afterList AddressFrames.addressMessagesFrom AddressFrames.addressMessages AddressFrames.addressWalk AddressFrames.addressReading Calls.receiveMmrp Calls.receive
 receivingOpened = tt
 
 settlingOpened : Unit {0}
-unfolding Bandwidth.demand Bandwidth.rate Bandwidth.rateOfA Bandwidth.rateOfB Bandwidth.rateOf Bandwidth.key Bandwidth.above Bandwidth.insert Bandwidth.sort Bandwidth.share Bandwidth.reserved Bandwidth.remains Bandwidth.admitted Bandwidth.total Settling.expired Settling.expireTalker Settling.expireListener Settling.expireCell Settling.expire Settling.isTalking Settling.isHearing Settling.held Settling.remain Settling.source Settling.sourceOf Settling.isSource Settling.fixedOf Settling.latencyOf Settling.healthOf Settling.streamClass Settling.registered Settling.isReady Settling.expireDomain Settling.isPresent Settling.remainAddresses Settling.holdsAddress Settling.isDomain Settling.anyDomain Settling.otherPriority Settling.domainsOf Settling.anySupports Settling.isEdge Settling.flagOf Settling.decideOwn Settling.decideOwns Settling.boundary Settling.inboundOf Settling.inboundsOf Settling.isInbound Settling.inboundBelow Settling.mayBring Settling.isKeptOut Settling.sameAddress Settling.sameAddressAt Settling.shares Settling.first Settling.clear Settling.isBroken Settling.brokenColumn Settling.outcomeColumn Settling.isPruned Settling.stepsFrom Settling.lastSteps Settling.steps Settling.ageOf Settling.claim Settling.claims Settling.reservedA Settling.limitOn Settling.leftFor Settling.byBandwidth Settling.columnOf Settling.capped Settling.latencyOut Settling.entryOf Settling.ageKept Settling.latencyKept Settling.passed Settling.merge Settling.mergeAll Settling.merged Settling.decideAt Settling.decide Settling.totalOn Settling.totalsOn Settling.settle Settling.advance Why.letter Why.sameStep Why.firstName Why.lastName Why.stepOn Why.reserving Why.listed Why.plainly Why.reasonOn Why.sceneNow Why.reason
+unfolding Bandwidth.demand Bandwidth.rate Bandwidth.rateOfA Bandwidth.rateOfB Bandwidth.rateOf Bandwidth.key Bandwidth.above Bandwidth.insert Bandwidth.sort Bandwidth.share Bandwidth.reserved Bandwidth.remains Bandwidth.admitted Bandwidth.total Settling.expired Settling.expireTalker Settling.expireListener Settling.expireCell Settling.expire Settling.isTalking Settling.isHearing Settling.held Settling.remain Settling.source Settling.sourceOf Settling.isSource Settling.fixedOf Settling.latencyOf Settling.talkerTypeOf Settling.streamClass Settling.registered Settling.isReady Settling.expireDomain Settling.outlasts Settling.remainAddresses Settling.holdsAddress Settling.isDomain Settling.anyDomain Settling.otherPriority Settling.domainsOf Settling.anySupports Settling.isEdge Settling.flagOf Settling.decideOwn Settling.decideOwns Settling.boundary Settling.inboundOf Settling.inboundsOf Settling.isInbound Settling.inboundBelow Settling.mayBring Settling.isKeptOut Settling.sameAddress Settling.sameAddressAt Settling.shares Settling.first Settling.clear Settling.isTalkerFailed Settling.failedColumn Settling.outcomeColumn Settling.isPruned Settling.stepsFrom Settling.lastSteps Settling.steps Settling.ageOf Settling.claim Settling.claims Settling.reservedA Settling.limitOn Settling.leftFor Settling.byBandwidth Settling.columnOf Settling.capped Settling.latencyOut Settling.entryOf Settling.ageKept Settling.latencyKept Settling.passed Settling.merge Settling.mergeAll Settling.merged Settling.decideAt Settling.decide Settling.totalOn Settling.totalsOn Settling.settle Settling.advance Why.letter Why.sameStep Why.firstName Why.lastName Why.stepOn Why.reserving Why.listed Why.plainly Why.reasonOn Why.sceneNow Why.reason
 settlingOpened = tt
 
 sendingOpened : Unit {0}

@@ -6,8 +6,8 @@ use Prim.Native.Nat.{ℕ, _≤_}
 use native.Mathlib.Omega.{arith}
 use lib.Dec.{eqb, ltb}
 use borrow.Author.Tests.{eqb-true, eq-eqb}
-use Rattle.model.specs.State.{Settings, Health, sound, broken, Column, advertise, failed, Cell, Stream, isPort}
-use Rattle.model.specs.Settling.{Source, sourceOf, healthOf, Scene, Outcome, columnNone, asRegistered, ownFailure, stepA, Step, first, clear, isBroken, brokenColumn, outcomeColumn, Inbound, stepsFrom, lastSteps, steps, claim, leftFor, byBandwidth, columnOf}
+use Rattle.model.specs.State.{Settings, TalkerType, talkerAdvertise, talkerFailed, Column, advertise, failed, Cell, Stream, isPort}
+use Rattle.model.specs.Settling.{Source, sourceOf, talkerTypeOf, Scene, Outcome, columnNone, asRegistered, ownFailure, stepA, Step, first, clear, isTalkerFailed, failedColumn, outcomeColumn, Inbound, stepsFrom, lastSteps, steps, claim, leftFor, byBandwidth, columnOf}
 use Rattle.model.specs.Table.{columnCode}
 
 -- whether an outcome is the own failure of code n
@@ -88,16 +88,16 @@ module _ (says : Outcome → Column) (n : ℕ) (c : Column) where
 abbrev pub stepsOf : Scene → ℕ → Cell → Inbound → Source → List Step
 stepsOf sc p here i o = record { name = stepA; test = not (isPort (sc .settings) p); outcome = columnNone } ∷ (stepsFrom sc p here o ++ lastSteps sc p i)
 
-sound-code : (st : Settings) (o : Source) (n : ℕ) → 2 ≤ n → isBroken (healthOf o) ≡ false
+advertise-code : (st : Settings) (o : Source) (n : ℕ) → 2 ≤ n → isTalkerFailed (talkerTypeOf o) ≡ false
     → (w : Outcome) → columnCode (outcomeColumn st o w) ≡ n → gives n w ≡ true
 unfolding outcomeColumn columnCode gives
-sound-code st o n h whole columnNone e = absurd (omega arith)
-sound-code st o n h whole asRegistered e = absurd (go (healthOf o) whole e)
+advertise-code st o n h whole columnNone e = absurd (omega arith)
+advertise-code st o n h whole asRegistered e = absurd (go (talkerTypeOf o) whole e)
   where
-    go : (b : Health) → isBroken b ≡ false → columnCode (brokenColumn b) ≡ n → ⊥
-    go sound f e = unfold brokenColumn columnCode in omega arith
-    go (broken b code) f e = true≢false (unfold isBroken in f)
-sound-code st o n h whole (ownFailure code) e = eq-eqb code n e
+    go : (b : TalkerType) → isTalkerFailed b ≡ false → columnCode (failedColumn b) ≡ n → ⊥
+    go talkerAdvertise f e = unfold failedColumn columnCode in omega arith
+    go (talkerFailed b code) f e = true≢false (unfold isTalkerFailed in f)
+advertise-code st o n h whole (ownFailure code) e = eq-eqb code n e
 
 bandwidth-code : (st : Settings) (n d left : ℕ) → 2 ≤ n → columnCode (byBandwidth st d left) ≡ n → ⊥
 unfolding byBandwidth
@@ -113,9 +113,9 @@ module _ (sc : Scene) (now : ℕ) (s : List Stream) (p : ℕ) (x : Stream) (n : 
   own-decided = decides (outcomeColumn (sc .settings) (sourceOf x)) n _ (steps sc p x)
 
   -- and the code of a stream that is not registered as Failed says so
-  pub own-only : 2 ≤ n → once n (steps sc p x) ≡ true → isBroken (healthOf (sourceOf x)) ≡ false → columnCode (columnOf sc now s p x) ≡ n
+  pub own-only : 2 ≤ n → once n (steps sc p x) ≡ true → isTalkerFailed (talkerTypeOf (sourceOf x)) ≡ false → columnCode (columnOf sc now s p x) ≡ n
       → (clear (earlier n (steps sc p x)) ≡ true) × (asked n (steps sc p x) ≡ true)
   unfolding columnOf
   own-only h one whole =
-      only (outcomeColumn (sc .settings) (sourceOf x)) n _ (sound-code (sc .settings) (sourceOf x) n h whole)
+      only (outcomeColumn (sc .settings) (sourceOf x)) n _ (advertise-code (sc .settings) (sourceOf x) n h whole)
       (bandwidth-code (sc .settings) n (claim (sc .settings) now p x .demand) (leftFor sc now s p x) h) (steps sc p x) one

@@ -12,7 +12,7 @@ use Rattle.octets.specs.Fields.{fields, packed, Fit, width, flat}
 use Rattle.octets.specs.Parts.{part, zeros}
 use Rattle.octets.proofs.Parts.{length-part}
 use Rattle.octets.proofs.Fields.{length-packed-any, fields-of-packed, fields-packed-behind, packed-fields, fields-fit, fit-at, fit-zeros, packed-zeros}
-use Rattle.model.specs.Layout.{addresses, addressesPlace, addressesSize, addressSize, boundaryBPlace, boundaryPlace, boundaryWidths, heldField, heldPlace, heldWidths, ownSize, slotLeavesField, slotSinceField, slotSize, slotVlanField, slotWidths, slots, slotsSize}
+use Rattle.model.specs.Layout.{mostAddresses, addressesPlace, addressesSize, addressSize, boundaryBPlace, boundaryPlace, boundaryWidths, slotRegisteredField, addressCountPlace, addressCountWidths, ownSize, slotLeavesField, slotSinceField, slotSize, slotVlanField, slotWidths, slots, slotsSize}
 use Rattle.model.specs.Lists.{All, allTrue, bit, parts, Octets, allZero}
 use Rattle.model.specs.State.{Domain, noDomain, domain, Own, noOwn}
 use Rattle.model.specs.Registrations.{macs}
@@ -142,7 +142,7 @@ abbrev pub flags : Own → List ℕ
 flags o = packed boundaryWidths (bit (o .boundaryA) ∷ bit (o .boundaryB) ∷ [])
 
 abbrev pub numberHeld : Own → List ℕ
-numberHeld o = packed heldWidths (length (o .addresses) ∷ [])
+numberHeld o = packed addressCountWidths (length (o .addresses) ∷ [])
 
 flags-length : (o : Own) → length (flags o) ≡ 2
 unfolding width
@@ -150,19 +150,19 @@ flags-length o = length-packed-any boundaryWidths (bit (o .boundaryA) ∷ bit (o
 
 held-length : (o : Own) → length (numberHeld o) ≡ 1
 unfolding width
-held-length o = length-packed-any heldWidths (length (o .addresses) ∷ []) refl
+held-length o = length-packed-any addressCountWidths (length (o .addresses) ∷ []) refl
 
 flags-fit : (o : Own) → Fit boundaryWidths (bit (o .boundaryA) ∷ bit (o .boundaryB) ∷ [])
 unfolding Fit
 flags-fit o = omega (arith, bit-few (o .boundaryA)) also omega (arith, bit-few (o .boundaryB)) also tt
 
 -- octets are their four parts
-four-parts : (s : List ℕ) → s ≡ slotsPart s ++ (part boundaryPlace 2 s ++ (part heldPlace 1 s ++ addressesPart s))
+four-parts : (s : List ℕ) → s ≡ slotsPart s ++ (part boundaryPlace 2 s ++ (part addressCountPlace 1 s ++ addressesPart s))
 unfolding slotsPart part addressesPart
 four-parts s =
     rw (
-      ← drop-drop 1 heldPlace s,
-      take-append-drop 1 (drop heldPlace s),
+      ← drop-drop 1 addressCountPlace s,
+      take-append-drop 1 (drop addressCountPlace s),
       ← drop-drop 2 boundaryPlace s,
       take-append-drop 2 (drop boundaryPlace s),
     )
@@ -198,7 +198,7 @@ module _ (o : Own) (slotted : length (o .domains) ≡ slots) where
   unfolding ownOctets
   before-held = sym (append-assoc (flat domainOctets (o .domains)) (flags o) (numberHeld o ++ addressesWhole (o .addresses)))
 
-  before-held-length : length (flat domainOctets (o .domains) ++ flags o) ≡ heldPlace
+  before-held-length : length (flat domainOctets (o .domains) ++ flags o) ≡ addressCountPlace
   before-held-length = omega (arith, length-append (flat domainOctets (o .domains)) (flags o), slots-length, flags-length o)
 
   pub addresses-of : addressesPart (ownOctets o) ≡ addressesWhole (o .addresses)
@@ -208,7 +208,7 @@ module _ (o : Own) (slotted : length (o .domains) ≡ slots) where
       ap (drop addressesPlace) (before-held ∙ sym (append-assoc p (numberHeld o) (addressesWhole (o .addresses))))
       ∙ drop-at (p ++ numberHeld o) (addressesWhole (o .addresses)) addressesPlace (omega (arith, length-append p (numberHeld o), before-held-length, held-length o))
 
-  module _ (few : length (o .addresses) ≤ addresses) where
+  module _ (few : length (o .addresses) ≤ mostAddresses) where
     pub own-length : length (ownOctets o) ≡ ownSize
     own-length =
         let p = flat domainOctets (o .domains) ++ flags o in
@@ -228,11 +228,11 @@ module _ (o : Own) (slotted : length (o .domains) ≡ slots) where
     held-read =
         let p = flat domainOctets (o .domains) ++ flags o in
         let w = addressesWhole (o .addresses) in
-        sym (octet-field (ownOctets o) heldPlace)
+        sym (octet-field (ownOctets o) addressCountPlace)
         ∙ ap (λ (vs : List ℕ). getD vs 0 0)
-        (ap (fields heldWidths heldPlace) before-held
-        ∙ ap (λ (k : ℕ). fields heldWidths k (p ++ (numberHeld o ++ w))) (sym before-held-length)
-        ∙ fields-packed-behind heldWidths (length (o .addresses) ∷ []) p w (omega arith also tt))
+        (ap (fields addressCountWidths addressCountPlace) before-held
+        ∙ ap (λ (k : ℕ). fields addressCountWidths k (p ++ (numberHeld o ++ w))) (sym before-held-length)
+        ∙ fields-packed-behind addressCountWidths (length (o .addresses) ∷ []) p w (omega arith also tt))
 
 -- what fits its fields is read back
 pub own-fit-back : (o : Own) → FitOwn o → toOwn (ownOctets o) ≡ o
@@ -266,7 +266,7 @@ own-octets o =
     let w = addressesWhole (o .addresses) in
     octets-append (flat domainOctets (o .domains)) (flags o ++ (numberHeld o ++ w)) (octets-flat domainOctets domain-octets (o .domains))
     (octets-append (flags o) (numberHeld o ++ w) (octets-packed boundaryWidths _)
-    (octets-append (numberHeld o) w (octets-packed heldWidths _) (addresses-octets (o .addresses))))
+    (octets-append (numberHeld o) w (octets-packed addressCountWidths _) (addresses-octets (o .addresses))))
 
 module _ (clock leave : ℕ) (small : clock < 2 ^ 32) where
   module _ (o : Own) (v : ValidOwn clock leave o) where
@@ -283,10 +283,10 @@ module _ (clock leave : ℕ) (small : clock < 2 ^ 32) where
         also rw (flag-a o (v .slotted)) (le-leb (bit (o .boundaryA)) 1 (bit-few (o .boundaryA)))
         also rw (flag-b o (v .slotted)) (le-leb (bit (o .boundaryB)) 1 (bit-few (o .boundaryB)))
         also rw (held-read o (v .slotted) few, addresses-of o (v .slotted))
-        (le-leb (length l) addresses few
+        (le-leb (length l) mostAddresses few
         also addresses-formed clock leave small l (v .addresses)
         also addresses-rise clock leave small l (v .addresses)
-        also rw (addresses-rest l few) (zero-zeros ((addresses - length l) * addressSize))
+        also rw (addresses-rest l few) (zero-zeros ((mostAddresses - length l) * addressSize))
         also tt))
 
   module _ (s : List ℕ) (l : length s ≡ ownSize) (q : Octets s) (h : ownFormed clock leave s ≡ true) where
@@ -306,9 +306,9 @@ module _ (clock leave : ℕ) (small : clock < 2 ^ 32) where
     unfolding ownRules
     one-b = leb-true (getD s boundaryBPlace 0) 1 (own-rules .1 .1 .0)
 
-    pub few-held : addressesHeld s ≤ addresses
+    pub few-held : addressesHeld s ≤ mostAddresses
     unfolding ownRules
-    few-held = leb-true (addressesHeld s) addresses (own-rules .1 .1 .1 .0)
+    few-held = leb-true (addressesHeld s) mostAddresses (own-rules .1 .1 .1 .0)
 
     pub addresses-kept : everyPart addressSize (addressFormed clock leave) (addressesHeld s) (addressesPart s) ≡ true
     unfolding ownRules
@@ -348,11 +348,11 @@ module _ (clock leave : ℕ) (small : clock < 2 ^ 32) where
         rw (bit-forth (getD s boundaryPlace 0) one-a, bit-forth (getD s boundaryBPlace 0) one-b, ← octet-field s boundaryPlace, ← octet-field s boundaryBPlace)
         (packed-fields boundaryWidths boundaryPlace s (omega arith) (octets-at s q))
 
-    held-forth : numberHeld (toOwn s) ≡ part heldPlace 1 s
+    held-forth : numberHeld (toOwn s) ≡ part addressCountPlace 1 s
     unfolding toOwn fields width addressesHeld
     held-forth =
-        rw (length-parts addressSize toAddress (getD s heldPlace 0) (addressesPart s), ← octet-field s heldPlace)
-        (packed-fields heldWidths heldPlace s (omega arith) (octets-at s q))
+        rw (length-parts addressSize toAddress (getD s addressCountPlace 0) (addressesPart s), ← octet-field s addressCountPlace)
+        (packed-fields addressCountWidths addressCountPlace s (omega arith) (octets-at s q))
 
     addresses-written : addressesWhole (toOwn s .addresses) ≡ addressesPart s
     unfolding toOwn
@@ -380,7 +380,7 @@ own-zeros =
     rw (
       flat-zeros slotSize domainOctets noDomain domain-zeros (replicate slots noDomain) (all-replicate (λ d. d ≡ noDomain) slots noDomain refl),
       packed-zeros boundaryWidths,
-      packed-zeros heldWidths,
+      packed-zeros addressCountWidths,
     )
     (rw (← zeros-add 1 addressesSize, ← zeros-add 2 (1 + addressesSize)) (sym (zeros-add slotsSize (3 + addressesSize))))
 

@@ -13,12 +13,12 @@ use Rattle.octets.specs.Fields.{fields, packed, Fit}
 use Rattle.octets.proofs.Fields.{fields-of-packed}
 use Rattle.model.specs.FrameLayout.{listenerWidths}
 use Rattle.model.specs.Lists.{All, tabulate}
-use Rattle.model.specs.State.{Bridge, Health, sound, broken, Ready, askingFailed, ready, readyFailed}
+use Rattle.model.specs.State.{Bridge, TalkerType, talkerAdvertise, talkerFailed, Ready, askingFailed, ready, readyFailed}
 use Rattle.model.specs.Registrations.{advertises, faileds, listeners, Act}
-use Rattle.model.specs.Frames.{registers, domain, typeNumber, firstWidths, threeLength, fourLength, Vector, overpacked, runsPast, overflows, event, threePacked, fourPacked, eventOf, fourOf, asking, idValue, hearing, listenerAct, valueActs, valuesActs, leaveAllActs, vectorActs, frameActs}
-use Rattle.model.specs.Cutting.{mac, Shares, Part, joined, lastOf, values, Least}
+use Rattle.model.specs.Frames.{registers, domainType, typeNumber, firstWidths, threeLength, fourLength, Vector, overpacked, runsPast, overflows, event, threePacked, fourPacked, eventOf, fourOf, asking, idValue, hearing, listenerAct, valueActs, valuesActs, leaveAllActs, vectorActs, frameActs}
+use Rattle.model.specs.Cutting.{mac, Shares, Part, concat, lastOf, values, Least}
 use Rattle.model.specs.Best.{best}
-use Rattle.model.specs.Declarations.{Declaration, talkerDeclaration, listenerDeclaration, domainDeclaration, healthKind, attributeOf, joinOf, declaredId, declaredIds, having, write}
+use Rattle.model.specs.Declarations.{Declaration, talkerDeclaration, listenerDeclaration, domainDeclaration, talkerKind, attributeOf, joinOf, declaredId, declaredIds, having, write}
 use Rattle.model.specs.WrittenFrames.{readyNumber, listenerNumber, said, eventNumber, threeOctet, fourOctet, firstNumbers, fourOctets, declarationVector, packedVector, cutAs, listenerParts}
 use Rattle.model.specs.Laid.{Ascending}
 use Rattle.model.proofs.Lists.{all-map, all-take, all-drop, getD-tabulate}
@@ -31,7 +31,7 @@ use Rattle.model.proofs.WritingPasses.{OfAttribute, ids-take, ids-drop,
 -- The parts written.
 
 -- their StreamIDs are the best cutting, ..
-parts-cut : (c : List (List ℕ)) (l : List Declaration) → joined c ≡ declaredIds l → map declaredIds (cutAs c l) ≡ c
+parts-cut : (c : List (List ℕ)) (l : List Declaration) → concat c ≡ declaredIds l → map declaredIds (cutAs c l) ≡ c
 unfolding cutAs
 parts-cut [] l e = refl
 parts-cut (g ∷ c) l e =
@@ -72,7 +72,7 @@ pub record Packs (g : List Declaration) : Type 0 where
   pub ascending : Ascending (declaredIds g)
   pub few : values (declaredIds g) < 2048
 
-cut-packs : (c : List (List ℕ)) (l : List Declaration) → joined c ≡ declaredIds l → All Part c → Small c
+cut-packs : (c : List (List ℕ)) (l : List Declaration) → concat c ≡ declaredIds l → All Part c → Small c
     → All (OfAttribute (registers listeners)) l → Ascending (declaredIds l) → All Packs (cutAs c l)
 unfolding cutAs
 cut-packs [] l e p s o a = tt
@@ -240,18 +240,18 @@ said-later : (d : Declaration) (g : List Declaration) (i : ℕ) → declaredId d
 unfolding said
 said-later d g i h = rw (ne-eqb (declaredId d) i (λ e. omega arith))
 
-no-talker : (h : Health) → registers (healthKind h) ≡ registers listeners → ⊥
-unfolding healthKind typeNumber
-no-talker sound e = let n : typeNumber (registers advertises) ≡ typeNumber (registers listeners) = ap typeNumber e in absurd (omega arith)
-no-talker (broken b c) e = let n : typeNumber (registers faileds) ≡ typeNumber (registers listeners) = ap typeNumber e in absurd (omega arith)
+no-talker : (h : TalkerType) → registers (talkerKind h) ≡ registers listeners → ⊥
+unfolding talkerKind typeNumber
+no-talker talkerAdvertise e = let n : typeNumber (registers advertises) ≡ typeNumber (registers listeners) = ap typeNumber e in absurd (omega arith)
+no-talker (talkerFailed b c) e = let n : typeNumber (registers faileds) ≡ typeNumber (registers listeners) = ap typeNumber e in absurd (omega arith)
 
-pub no-domain : domain ≡ registers listeners → ⊥
+pub no-domain : domainType ≡ registers listeners → ⊥
 unfolding typeNumber
-no-domain e = let n : typeNumber domain ≡ typeNumber (registers listeners) = ap typeNumber e in absurd (omega arith)
+no-domain e = let n : typeNumber domainType ≡ typeNumber (registers listeners) = ap typeNumber e in absurd (omega arith)
 
 hearing-one : (d : Declaration) → attributeOf d ≡ registers listeners → hearing (declaredId d) (listenerNumber d) ≡ joinOf d ∷ []
 unfolding hearing listenerNumber readyNumber declaredId joinOf attributeOf
-hearing-one (talkerDeclaration id f v) e = absurd (no-talker (v .health) e)
+hearing-one (talkerDeclaration id f v) e = absurd (no-talker (v .type) e)
 hearing-one (listenerDeclaration id askingFailed) e = refl
 hearing-one (listenerDeclaration id ready) e = refl
 hearing-one (listenerDeclaration id readyFailed) e = refl
@@ -354,7 +354,7 @@ packed-joins (d ∷ g) p w =
     rw z at (values-heard d g (w .0) 0 (values (declaredIds (d ∷ g))) (omega arith)) ∙ hears-part d g (p .own) (p .ascending)
 
 -- and those of all parts for the joins of all
-cut-joins : (c : List (List ℕ)) (l : List Declaration) → joined c ≡ declaredIds l → All Packs (cutAs c l) → All (λ d. declaredId d < 2 ^ 64) l
+cut-joins : (c : List (List ℕ)) (l : List Declaration) → concat c ≡ declaredIds l → All Packs (cutAs c l) → All (λ d. declaredId d < 2 ^ 64) l
     → frameActs (map packedVector (cutAs c l)) ≡ map joinOf l
 unfolding cutAs frameActs
 cut-joins [] [] e p w = refl

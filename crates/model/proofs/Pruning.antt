@@ -11,10 +11,10 @@ use lib.ListN.{getD, drop}
 use lib.Dec.{eqb, ltb}
 use borrow.Author.Tests.{eqb-true, eqb-false, eq-eqb, ne-eqb}
 use Rattle.model.specs.Lists.{All, keep, tabulate}
-use Rattle.model.specs.State.{Settings, Fixed, Health, sound, broken, Domain, Address, Own, Column, none, advertise, failed, Cell, Stream, Bridge, Class, noClass, classA, classB, noOwn, ownAt, cellAt, portAt, isPort, classOf, sameClass, supports}
+use Rattle.model.specs.State.{Settings, Fixed, TalkerType, talkerAdvertise, talkerFailed, Domain, Address, Own, Column, none, advertise, failed, Cell, Stream, Bridge, Class, noClass, classA, classB, noOwn, ownAt, cellAt, portAt, isPort, classOf, sameClass, supports}
 use Rattle.model.specs.Registrations.{AddressAct, doesAddresses, changeAddresses, AddressReading, refusedFrame, addressActs, Answer, receivedAddresses, owning, macs}
 use Rattle.model.specs.AddressFrames.{addressReading}
-use Rattle.model.specs.Settling.{Scene, Inbound, inboundOf, inboundsOf, decideOwn, decideOwns, flagOf, boundary, holdsAddress, isPruned, remain, Origin, Source, nowhere, from, sourceOf, healthOf, streamClass, registered, Outcome, columnNone, StepName, stepA, stepB, stepH, stepI, stepN, asRegistered, ownFailure, Step, first, clear, isBroken, brokenColumn, outcomeColumn, stepsFrom, lastSteps, steps, claim, claims, reservedA, limitOn, leftFor, byBandwidth, columnOf, passed, mergeAll, merged, decideAt, decide, totalOn, totalsOn, settle}
+use Rattle.model.specs.Settling.{Scene, Inbound, inboundOf, inboundsOf, decideOwn, decideOwns, flagOf, boundary, holdsAddress, isPruned, remain, Origin, Source, nowhere, from, sourceOf, talkerTypeOf, streamClass, registered, Outcome, columnNone, StepName, stepA, stepB, stepH, stepI, stepN, asRegistered, ownFailure, Step, first, clear, isTalkerFailed, failedColumn, outcomeColumn, stepsFrom, lastSteps, steps, claim, claims, reservedA, limitOn, leftFor, byBandwidth, columnOf, passed, mergeAll, merged, decideAt, decide, totalOn, totalsOn, settle}
 use Rattle.model.specs.Why.{letter, sameStep, firstName, lastName, stepOn}
 use Rattle.model.specs.Table.{columnNumber}
 use Rattle.model.specs.Calls.{receiveMmrp}
@@ -97,32 +97,32 @@ module _ (sc : Scene) (now : ℕ) (s : List Stream) (p : ℕ) (x : Stream) (o : 
       (16, refl) also (7, refl) also (4, refl) also (13, refl) also (8, refl) also (5, refl) also (15, refl) also (14, refl) also tt
 
   -- the column that they give, and a Failed registration before them
-  behind : Health → Column
+  behind : TalkerType → Column
   behind h =
-      cond (isBroken h) (brokenColumn h)
+      cond (isTalkerFailed h) (failedColumn h)
       (first (outcomeColumn (sc .settings) (from o)) failures (byBandwidth (sc .settings) (claim (sc .settings) now p x .demand) (leftFor sc now s p x)))
 
-  behind-some : (h : Health) → behind h ≡ none → ⊥
-  unfolding behind isBroken brokenColumn
-  behind-some sound e =
+  behind-some : (h : TalkerType) → behind h ≡ none → ⊥
+  unfolding behind isTalkerFailed failedColumn
+  behind-some talkerAdvertise e =
       failures-some (sc .settings) (from o) _ (bandwidth-some (sc .settings) (claim (sc .settings) now p x .demand) (leftFor sc now s p x)) failures all-fail e
-  behind-some (broken b c) e = failed-some b c e
+  behind-some (talkerFailed b c) e = failed-some b c e
 
   column-is : columnOf sc now s p x
-      ≡ cond (isPruned (sc .settings) (ownAt (sc .own) p) (o .registration .fixed)) none (behind (o .registration .varying .health))
-  unfolding columnOf steps stepsFrom first outcomeColumn healthOf behind
+      ≡ cond (isPruned (sc .settings) (ownAt (sc .owns) p) (o .registration .fixed)) none (behind (o .registration .varying .type))
+  unfolding columnOf steps stepsFrom first outcomeColumn talkerTypeOf behind
   column-is = rw (r .talks, r .port, ne-eqb p (o .port) (r .other), r .supported)
 
   -- Column none is then given exactly where the setting is on and the address is not held.
   pub pruned-exactly : (columnOf sc now s p x ≡ none)
-      ↔ ((sc .settings .pruning ≡ true) × (holdsAddress (o .registration .fixed .destination) (ownAt (sc .own) p .addresses) ≡ false))
+      ↔ ((sc .settings .pruning ≡ true) × (holdsAddress (o .registration .fixed .destination) (ownAt (sc .owns) p .addresses) ≡ false))
   unfolding isPruned
-  pruned-exactly = rw column-is (go (sc .settings .pruning) (holdsAddress (o .registration .fixed .destination) (ownAt (sc .own) p .addresses)))
+  pruned-exactly = rw column-is (go (sc .settings .pruning) (holdsAddress (o .registration .fixed .destination) (ownAt (sc .owns) p .addresses)))
     where
-      go : (t h : Bool) → (cond (t && not h) none (behind (o .registration .varying .health)) ≡ none) ↔ ((t ≡ true) × (h ≡ false))
-      go true true = (λ e. absurd (behind-some (o .registration .varying .health) e), λ a. absurd (true≢false (a .1)))
+      go : (t h : Bool) → (cond (t && not h) none (behind (o .registration .varying .type)) ≡ none) ↔ ((t ≡ true) × (h ≡ false))
+      go true true = (λ e. absurd (behind-some (o .registration .varying .type) e), λ a. absurd (true≢false (a .1)))
       go true false = (λ e. (refl, refl), λ a. refl)
-      go false h = (λ e. absurd (behind-some (o .registration .varying .health) e), λ a. absurd (false≢true (a .0)))
+      go false h = (λ e. absurd (behind-some (o .registration .varying .type) e), λ a. absurd (false≢true (a .0)))
 
 -- Step n is the one that decides exactly where no earlier step does, the setting is on and the address is not held.
 
@@ -134,7 +134,7 @@ module _ (sc : Scene) (now : ℕ) (s : List Stream) (p : ℕ) (x : Stream) where
   abbrev pub Pruned : Type 0
   Pruned =
       (o : Origin) × Reaches sc p x o × (sc .settings .pruning ≡ true)
-      × (holdsAddress (o .registration .fixed .destination) (ownAt (sc .own) p .addresses) ≡ false)
+      × (holdsAddress (o .registration .fixed .destination) (ownAt (sc .owns) p .addresses) ≡ false)
 
   last : StepName
   last = lastName (claim (sc .settings) now p x .demand) (leftFor sc now s p x)
@@ -157,7 +157,7 @@ module _ (sc : Scene) (now : ℕ) (s : List Stream) (p : ℕ) (x : Stream) where
 
   decides : (o : Origin) → isPort (sc .settings) p ≡ true → sourceOf x ≡ from o → (a b t h : Bool) → eqb p (o .port) ≡ a
       → supports (portAt (sc .settings) p) (classOf (sc .settings) (o .registration .fixed .priority)) ≡ b → sc .settings .pruning ≡ t
-      → holdsAddress (o .registration .fixed .destination) (ownAt (sc .own) p .addresses) ≡ h
+      → holdsAddress (o .registration .fixed .destination) (ownAt (sc .owns) p .addresses) ≡ h
       → cond a stepA (cond (not b) stepB (cond (t && not h) stepN (rest o))) ≡ stepN → Pruned
   unfolding sameStep letter
   decides o port q true b t h ea eb et eh e = absurd (not-same stepA stepN refl e)
@@ -184,10 +184,10 @@ module _ (sc : Scene) (now : ℕ) (s : List Stream) (p : ℕ) (x : Stream) where
 module _ (st : Settings) (off : st .pruning ≡ false) (o o′ : List Own) (i : List Inbound)
     (edge : (p : ℕ) (c : Class) → boundary (ownAt o p) c ≡ boundary (ownAt o′ p) c) (now : ℕ) where
   abbrev one : Scene
-  one = record { settings = st; own = o; inbound = i }
+  one = record { settings = st; owns = o; inbound = i }
 
   abbrev other : Scene
-  other = record { settings = st; own = o′; inbound = i }
+  other = record { settings = st; owns = o′; inbound = i }
 
   unpruned : (w : Own) (f : Fixed) → isPruned st w f ≡ false
   unfolding isPruned
@@ -249,20 +249,20 @@ module _ (b : Bridge) (p : ℕ) (pdu : List ℕ) where
       go true = refl
       go false = refl
 
-  same-domains : (q : ℕ) → ownAt (after .own) q .domains ≡ ownAt (b .own) q .domains
+  same-domains : (q : ℕ) → ownAt (after .owns) q .domains ≡ ownAt (b .owns) q .domains
   unfolding receiveMmrp owning
   same-domains q =
-      ap (λ (a : Answer). ownAt (a .bridge .own) q .domains) (received-is b p (addressReading (b .settings) p pdu)) ∙ go (addressReading (b .settings) p pdu)
+      ap (λ (a : Answer). ownAt (a .bridge .owns) q .domains) (received-is b p (addressReading (b .settings) p pdu)) ∙ go (addressReading (b .settings) p pdu)
     where
-      go : (r : AddressReading) → ownAt (addressEffect (b .clock) (p - 1) r (b .own)) q .domains ≡ ownAt (b .own) q .domains
+      go : (r : AddressReading) → ownAt (addressEffect (b .clock) (p - 1) r (b .owns)) q .domains ≡ ownAt (b .owns) q .domains
       go (refusedFrame n) = unfold addressEffect in refl
-      go (addressActs es) = unfold addressEffect in (at-each (λ (o : Own). o .domains) (p - 1) (withRoom (b .clock) es) (room-domains es) (b .own) q noOwn)
+      go (addressActs es) = unfold addressEffect in (at-each (λ (o : Own). o .domains) (p - 1) (withRoom (b .clock) es) (room-domains es) (b .owns) q noOwn)
 
-  same-edges : (st : Settings) (now q : ℕ) (c : Class) → boundary (ownAt (decideOwns st now (after .own)) q) c ≡ boundary (ownAt (decideOwns st now (b .own)) q) c
+  same-edges : (st : Settings) (now q : ℕ) (c : Class) → boundary (ownAt (decideOwns st now (after .owns)) q) c ≡ boundary (ownAt (decideOwns st now (b .owns)) q) c
   unfolding decideOwns
   same-edges st now q c = go (decLt q 8)
     where
-      flags : (c : Class) → boundary (decideOwn st now (after .own) q) c ≡ boundary (decideOwn st now (b .own) q) c
+      flags : (c : Class) → boundary (decideOwn st now (after .owns) q) c ≡ boundary (decideOwn st now (b .owns) q) c
       flags noClass = unfold boundary in refl
       flags classA = unfold boundary decideOwn in (rw (same-domains q))
       flags classB = unfold boundary decideOwn in (rw (same-domains q))
@@ -270,9 +270,9 @@ module _ (b : Bridge) (p : ℕ) (pdu : List ℕ) where
       past : (o : List Own) → (q < 8 → ⊥) → ownAt (tabulate 8 0 (decideOwn st now o)) q ≡ noOwn
       past o h = unfold tabulate in (getD-past (λ w. w ≡ noOwn) 8 (tabulate 8 0 (decideOwn st now o)) q noOwn (omega arith) refl tt)
 
-      go : Dec (q < 8) → boundary (ownAt (tabulate 8 0 (decideOwn st now (after .own))) q) c ≡ boundary (ownAt (tabulate 8 0 (decideOwn st now (b .own))) q) c
-      go (yes h) = rw (at-place (decideOwn st now (after .own)) q noOwn h, at-place (decideOwn st now (b .own)) q noOwn h) (flags c)
-      go (no h) = rw (past (after .own) h, past (b .own) h)
+      go : Dec (q < 8) → boundary (ownAt (tabulate 8 0 (decideOwn st now (after .owns))) q) c ≡ boundary (ownAt (tabulate 8 0 (decideOwn st now (b .owns))) q) c
+      go (yes h) = rw (at-place (decideOwn st now (after .owns)) q noOwn h, at-place (decideOwn st now (b .owns)) q noOwn h) (flags c)
+      go (no h) = rw (past (after .owns) h, past (b .owns) h)
 
   -- With pruning off it changes no result: advanced to any time, the bridge has the same streams with the same results, and the same
   -- totals, as without the frame.
@@ -281,8 +281,8 @@ module _ (b : Bridge) (p : ℕ) (pdu : List ℕ) where
   pruning-off off now =
       let st = b .settings in
       let s = remain st now (b .streams) in
-      let o = decideOwns st now (after .own) in
-      let o′ = decideOwns st now (b .own) in
+      let o = decideOwns st now (after .owns) in
+      let o′ = decideOwns st now (b .owns) in
       let e = mmrp-same b p pdu (λ c. c .settings) (λ o. unfold owning in refl) in
       let f = mmrp-same b p pdu (λ c. c .streams) (λ o. unfold owning in refl) in
       let g = same-edges st now in

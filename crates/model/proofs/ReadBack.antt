@@ -16,16 +16,16 @@ use Rattle.octets.proofs.Be.{beAt-ext, length-be}
 use Rattle.octets.proofs.Fields.{packed-octets, beAt-fits, fields-of-packed}
 use Rattle.model.specs.FrameLayout.{longestPdu}
 use Rattle.model.specs.Lists.{All, keep, bit}
-use Rattle.model.specs.State.{Port, Settings, Fixed, Health, sound, broken, Ready, askingFailed, ready, readyFailed, Column, none, advertise, failed, Entry, noEntry, filters, forwards, Declared, nothing, tells, Result, Stream, Bridge, portAt, resultAt, classPriority, classId, unsettled, slotOf}
+use Rattle.model.specs.State.{Port, Settings, Fixed, TalkerType, talkerAdvertise, talkerFailed, Ready, askingFailed, ready, readyFailed, Column, none, advertise, failed, Entry, noEntry, filters, forwards, Declared, nothing, tells, Result, Stream, Bridge, portAt, resultAt, classPriority, classId, unsettled, slotOf}
 use Rattle.model.specs.Registrations.{Kind, advertises, faileds, listeners, ids, talk, listen, ofDomain, joinDomain, acts}
-use Rattle.model.specs.Frames.{Attribute, registers, domain, known, typeOctet, typeNumber, firstWidths, firstLength, threeLength, hasFour, fourLength, Vector, vectorAt, vectorEnd, overpacked, runsPast, overflows, strangeLeave, vectorIn, checkedIn, typedIn, listLength, listAt, messageEnd, endMark, headerIn, messageIn, listOf, found, also, both, vectorsFrom, vectors, messagesFrom, messages, walk, joinMt, event, threePacked, fourPacked, eventOf, fourOf, asking, join, priorityOf, rankOf, fixedValue, healthValue, idValue, hearing, talkerAct, listenerAct, hasSlot, slotAct, domainAct, valueActs, valuesActs, leaveAllActs, vectorActs, frameActs, walked, wrongPort, reading}
+use Rattle.model.specs.Frames.{Attribute, registers, domainType, known, typeOctet, typeNumber, firstWidths, firstLength, threeLength, hasFour, fourLength, Vector, vectorAt, vectorEnd, overpacked, runsPast, overflows, strangeLeave, vectorIn, checkedIn, typedIn, listLength, listAt, messageEnd, endMark, headerIn, messageIn, listOf, found, also, both, vectorsFrom, vectors, messagesFrom, messages, walk, joinMt, event, threePacked, fourPacked, eventOf, fourOf, asking, join, priorityOf, rankOf, fixedValue, talkerTypeValue, idValue, hearing, talkerAct, listenerAct, hasSlot, slotAct, domainAct, valueActs, valuesActs, leaveAllActs, vectorActs, frameActs, walked, wrongPort, reading}
 use Rattle.model.specs.Cutting.{Part, values}
 use Rattle.model.specs.Best.{bests, best}
-use Rattle.model.specs.Declarations.{Declaration, talkerDeclaration, listenerDeclaration, domainDeclaration, healthKind, attributeOf, joinOf, advertised, failing, listening, declarationsOf, ofKind, domainOf, domainValues, declarations, declaredId, declaredIds, sameAttribute, having, takes, write}
+use Rattle.model.specs.Declarations.{Declaration, talkerDeclaration, listenerDeclaration, domainDeclaration, talkerKind, attributeOf, joinOf, advertised, failing, listening, declarationsOf, ofKind, domainOf, domainValues, declarations, declaredId, declaredIds, sameAttribute, having, takes, write}
 use Rattle.model.specs.WrittenFrames.{priorityOctet, fixedNumbers, failureNumbers, firstNumbers, readyNumber, fourOctets, declarationVector, packedVector, cutAs, listenerParts, vectorsOf, vectorOctets, messageOf, messageOctets, pduOctets}
 use Rattle.model.specs.Laid.{Ascending}
 use Rattle.model.proofs.Lists.{all-map, all-append, all-take, all-drop, all-keep, all-getD, length-tabulate, and-left, and-right, and-false}
-use Rattle.model.proofs.Valid.{Valid, ValidSettings, ValidFixed, ValidHealth, ValidVarying, ValidColumn, ValidResult, ValidStream}
+use Rattle.model.proofs.Valid.{Valid, ValidSettings, ValidFixed, ValidTalkerType, ValidVarying, ValidColumn, ValidResult, ValidStream}
 use Rattle.model.proofs.Parts.{rising-ascends}
 use Rattle.model.proofs.AdvanceKeepsForm.{unsettled-valid}
 use Rattle.model.proofs.WritingPasses.{length-first, known-type, inTurn, NotBefore, OfAttribute, InOrder, all-of-kind, all-domains, having-attribute, having-none, declared, write-above, write-from, run-in-order, run-fits, FewListeners, FewStreams, run-few}
@@ -53,12 +53,12 @@ two-octets n y h = omega arith
 -- A vector.
 
 length-four : (d : Declaration) → length (fourOctets d) ≡ fourLength (hasFour (attributeOf d)) 1
-unfolding fourOctets attributeOf healthKind fourLength hasFour
-length-four (talkerDeclaration id f v) = go (v .health)
+unfolding fourOctets attributeOf talkerKind fourLength hasFour
+length-four (talkerDeclaration id f v) = go (v .type)
   where
-    go : (h : Health) → 0 ≡ fourLength (hasFour (registers (healthKind h))) 1
-    go sound = refl
-    go (broken b c) = refl
+    go : (h : TalkerType) → 0 ≡ fourLength (hasFour (registers (talkerKind h))) 1
+    go talkerAdvertise = refl
+    go (talkerFailed b c) = refl
 length-four (listenerDeclaration id r) = refl
 length-four (domainDeclaration id q v) = refl
 
@@ -80,7 +80,7 @@ no-run-past k s h = go k
     go (registers advertises) = rw (unique, destination)
     go (registers faileds) = rw (unique, destination)
     go (registers listeners) = unique
-    go domain = rw (octet 0, octet 1)
+    go domainType = rw (octet 0, octet 1)
 
 no-overflow : (d : Declaration) → overflows (declarationVector d) ≡ false
 unfolding overflows declarationVector
@@ -293,7 +293,7 @@ unfolding vectorsOf
 type-readable (registers advertises) l a f = singles-readable (registers advertises) l a
 type-readable (registers faileds) l a f = singles-readable (registers faileds) l a
 type-readable (registers listeners) l a f = packed-all (listenerParts l) (parts-pack l (f refl .0) a (f refl .1))
-type-readable domain l a f = singles-readable domain l a
+type-readable domainType l a f = singles-readable domainType l a
 
 -- Messages.
 
@@ -314,7 +314,7 @@ unfolding typeNumber
 some-type (registers advertises) = omega arith
 some-type (registers faileds) = omega arith
 some-type (registers listeners) = omega arith
-some-type domain = omega arith
+some-type domainType = omega arith
 
 -- a Message of a known type without fault is one whose list is read
 pub message-known : (version : ℕ) (k : Attribute) (s : List ℕ) (at n : ℕ)
@@ -419,7 +419,7 @@ unfolding vectorsOf listenerParts declaredIds best bests cutAs
 no-vectors (registers advertises) = refl
 no-vectors (registers faileds) = refl
 no-vectors (registers listeners) = refl
-no-vectors domain = refl
+no-vectors domainType = refl
 
 -- the Message of the declarations of a type, where there are any
 messages-read : (k : Attribute) (l : List Declaration) (rest : List ℕ) (ws : List Vector) → All (OfAttribute k) l → Fewer k l
@@ -453,15 +453,15 @@ having-each (d ∷ l) o = go (attributeOf d) (o .0) (having-each l (o .1))
         let a : having (registers advertises) l ≡ [] = gone (registers advertises) (registers listeners) (omega arith) b in
         let f : having (registers faileds) l ≡ [] = gone (registers faileds) (registers listeners) (omega arith) b in
         rw (a, f) (ap (λ (r : List Declaration). d ∷ r) (rw (a, f) at ih))
-    go domain b ih =
-        let a : having (registers advertises) l ≡ [] = gone (registers advertises) domain (omega arith) b in
-        let f : having (registers faileds) l ≡ [] = gone (registers faileds) domain (omega arith) b in
-        let n : having (registers listeners) l ≡ [] = gone (registers listeners) domain (omega arith) b in
+    go domainType b ih =
+        let a : having (registers advertises) l ≡ [] = gone (registers advertises) domainType (omega arith) b in
+        let f : having (registers faileds) l ≡ [] = gone (registers faileds) domainType (omega arith) b in
+        let n : having (registers listeners) l ≡ [] = gone (registers listeners) domainType (omega arith) b in
         rw (a, f, n) (ap (λ (r : List Declaration). d ∷ r) (rw (a, f, n) at ih))
 
 -- the vectors of a PDU, type by type
 unfoldable pub pduVectors : List Declaration → List Vector
-pduVectors l = vs (registers advertises) ++ (vs (registers faileds) ++ (vs (registers listeners) ++ (vs domain ++ [])))
+pduVectors l = vs (registers advertises) ++ (vs (registers faileds) ++ (vs (registers listeners) ++ (vs domainType ++ [])))
   where
     vs : Attribute → List Vector
     vs k = vectorsOf k (having k l)
@@ -485,19 +485,19 @@ walk-written l f h = walk-messages (pduOctets l) (pduVectors l) (omega arith) h 
     size : Attribute → ℕ
     size k = length (octets k)
 
-    long : length (pduOctets l) ≡ 3 + (size (registers advertises) + (size (registers faileds) + (size (registers listeners) + size domain)))
+    long : length (pduOctets l) ≡ 3 + (size (registers advertises) + (size (registers faileds) + (size (registers listeners) + size domainType)))
     long = simp length-append (omega arith)
 
     one : (k : Attribute) (rest : List ℕ) (ws : List Vector) → size k < 65536 → MessagesRead rest ws
         → MessagesRead (octets k ++ rest) (vectorsOf k (having k l) ++ ws)
     one k rest ws short r = messages-read k (having k l) rest ws (having-attribute k l) (few-of l f k) short r
 
-    read : MessagesRead (octets (registers advertises) ++ (octets (registers faileds) ++ (octets (registers listeners) ++ (octets domain ++ (0 ∷ 0 ∷ [])))))
+    read : MessagesRead (octets (registers advertises) ++ (octets (registers faileds) ++ (octets (registers listeners) ++ (octets domainType ++ (0 ∷ 0 ∷ [])))))
         (pduVectors l)
     read =
         one (registers advertises) _ _ (omega (arith, long))
         (one (registers faileds) _ _ (omega (arith, long))
-        (one (registers listeners) _ _ (omega (arith, long)) (one domain _ _ (omega (arith, long)) messages-end)))
+        (one (registers listeners) _ _ (omega (arith, long)) (one domainType _ _ (omega (arith, long)) messages-end)))
 
 -- what write puts into a PDU is found there again
 pub read-back : (b : Bridge) → FewStreams b → (p place : ℕ) → walk (pduOctets (write b p place .run)) ≡ found (pduVectors (write b p place .run))
@@ -526,8 +526,8 @@ slot-octets c q h =
     )
 
 first-fits : (d : Declaration) → ValidDeclaration d → Fit (firstWidths (attributeOf d)) (firstNumbers d)
-unfolding Fit firstWidths firstNumbers attributeOf healthKind fixedNumbers failureNumbers priorityOctet
-first-fits (talkerDeclaration id f v) h = go (v .health) (h .2 .health)
+unfolding Fit firstWidths firstNumbers attributeOf talkerKind fixedNumbers failureNumbers priorityOctet
+first-fits (talkerDeclaration id f v) h = go (v .type) (h .2 .type)
   where
     fixed : ValidFixed f
     fixed = h .1
@@ -539,9 +539,9 @@ first-fits (talkerDeclaration id f v) h = go (v .health) (h .2 .health)
     both-types : (ws vs : List ℕ) → Fit ws vs → Fit (8 ∷ 6 ∷ 2 ∷ 2 ∷ 2 ∷ 1 ∷ 4 ∷ ws) (id ∷ (fixedNumbers f ++ (v .latency ∷ vs)))
     both-types ws vs w = (h .0, (fixed .destination, (fixed .vlan, (fixed .size, (fixed .frames, (octet, (h .2 .latency, w)))))))
 
-    go : (a : Health) → ValidHealth a → Fit (firstWidths (registers (healthKind a))) (id ∷ (fixedNumbers f ++ (v .latency ∷ failureNumbers a)))
-    go sound w = both-types [] [] tt
-    go (broken b c) w = both-types (8 ∷ 1 ∷ []) (b ∷ c ∷ []) (w .0, (w .1, tt))
+    go : (a : TalkerType) → ValidTalkerType a → Fit (firstWidths (registers (talkerKind a))) (id ∷ (fixedNumbers f ++ (v .latency ∷ failureNumbers a)))
+    go talkerAdvertise w = both-types [] [] tt
+    go (talkerFailed b c) w = both-types (8 ∷ 1 ∷ []) (b ∷ c ∷ []) (w .0, (w .1, tt))
 first-fits (listenerDeclaration id r) h = (h, tt)
 first-fits (domainDeclaration id q v) h =
     let s = slot-octets id q (h .0) in
@@ -560,11 +560,11 @@ fixed-read id f vs h =
     let r : (f .priority * 32 + f .rank * 16) / 16 % 2 ≡ f .rank = omega (arith, h .rank) in
     rw (p, r, add-zero)
 
-talk-read : (id : ℕ) (f : Fixed) (latency : ℕ) (a : Health) → ValidFixed f
-    → talkerAct (healthKind a) (id ∷ (fixedNumbers f ++ (latency ∷ failureNumbers a))) 0 join ≡ talk id f record { health = a; latency = latency } ∷ []
-unfolding talkerAct healthKind healthValue failureNumbers idValue
-talk-read id f latency sound h = rw (fixed-read id f (latency ∷ []) h, add-zero id) (unfold fixedNumbers in refl)
-talk-read id f latency (broken b c) h = rw (fixed-read id f (latency ∷ b ∷ c ∷ []) h, add-zero id) (unfold fixedNumbers in refl)
+talk-read : (id : ℕ) (f : Fixed) (latency : ℕ) (a : TalkerType) → ValidFixed f
+    → talkerAct (talkerKind a) (id ∷ (fixedNumbers f ++ (latency ∷ failureNumbers a))) 0 join ≡ talk id f record { type = a; latency = latency } ∷ []
+unfolding talkerAct talkerKind talkerTypeValue failureNumbers idValue
+talk-read id f latency talkerAdvertise h = rw (fixed-read id f (latency ∷ []) h, add-zero id) (unfold fixedNumbers in refl)
+talk-read id f latency (talkerFailed b c) h = rw (fixed-read id f (latency ∷ b ∷ c ∷ []) h, add-zero id) (unfold fixedNumbers in refl)
 
 listen-read : (id : ℕ) (r : Ready) → listenerAct (id ∷ []) 0 join (fourPacked (readyNumber r * 64) 0) ≡ listen id r ∷ []
 unfolding listenerAct hearing fourPacked readyNumber idValue
@@ -578,18 +578,18 @@ domain-read id q v h = rw (add-zero id, add-zero q, h)
 
 -- a written vector asks for the join of its declaration
 vector-joins : (d : Declaration) → ValidDeclaration d → vectorActs (declarationVector d) ≡ joinOf d ∷ []
-unfolding vectorActs leaveAllActs valuesActs valueActs declarationVector attributeOf healthKind eventOf threePacked event asking joinOf fourOf fourOctets firstNumbers
-vector-joins (talkerDeclaration id f v) h = go (v .health) (h .2 .health)
+unfolding vectorActs leaveAllActs valuesActs valueActs declarationVector attributeOf talkerKind eventOf threePacked event asking joinOf fourOf fourOctets firstNumbers
+vector-joins (talkerDeclaration id f v) h = go (v .type) (h .2 .type)
   where
-    talks : Health → Declaration
-    talks a = talkerDeclaration id f record { health = a; latency = v .latency }
+    talks : TalkerType → Declaration
+    talks a = talkerDeclaration id f record { type = a; latency = v .latency }
 
-    valid : (a : Health) → ValidHealth a → ValidDeclaration (talks a)
-    valid a w = (h .0, h .1, record { health = w; latency = h .2 .latency })
+    valid : (a : TalkerType) → ValidTalkerType a → ValidDeclaration (talks a)
+    valid a w = (h .0, h .1, record { type = w; latency = h .2 .latency })
 
-    go : (a : Health) → ValidHealth a → vectorActs (declarationVector (talks a)) ≡ talk id f record { health = a; latency = v .latency } ∷ []
-    go sound w = rw (first-read (talks sound) (valid sound w), append-nil) (talk-read id f (v .latency) sound (h .1))
-    go (broken b c) w = rw (first-read (talks (broken b c)) (valid (broken b c) w), append-nil) (talk-read id f (v .latency) (broken b c) (h .1))
+    go : (a : TalkerType) → ValidTalkerType a → vectorActs (declarationVector (talks a)) ≡ talk id f record { type = a; latency = v .latency } ∷ []
+    go talkerAdvertise w = rw (first-read (talks talkerAdvertise) (valid talkerAdvertise w), append-nil) (talk-read id f (v .latency) talkerAdvertise (h .1))
+    go (talkerFailed b c) w = rw (first-read (talks (talkerFailed b c)) (valid (talkerFailed b c) w), append-nil) (talk-read id f (v .latency) (talkerFailed b c) (h .1))
 vector-joins (listenerDeclaration id r) h = rw (first-read (listenerDeclaration id r) h, append-nil) (listen-read id r)
 vector-joins (domainDeclaration id q v) h = rw (first-read (domainDeclaration id q v) h, append-nil) (domain-read id q v (h .0))
 
@@ -612,7 +612,7 @@ unfolding vectorsOf
 type-joins (registers advertises) l o f a = singles-join l a
 type-joins (registers faileds) l o f a = singles-join l a
 type-joins (registers listeners) l o f a = parts-join l (parts-pack l (f refl .0) o (f refl .1)) (ids-within l o a)
-type-joins domain l o f a = singles-join l a
+type-joins domainType l o f a = singles-join l a
 
 acts-append : (vs ws : List Vector) → frameActs (vs ++ ws) ≡ frameActs vs ++ frameActs ws
 unfolding frameActs
@@ -628,7 +628,7 @@ having-valid k (d ∷ l) a = all-keep ValidDeclaration (sameAttribute (attribute
 pub frame-joins : (l : List Declaration) → InOrder l → FewListeners l → All ValidDeclaration l → frameActs (pduVectors l) ≡ map joinOf l
 unfolding pduVectors
 frame-joins l o f a =
-    simp (acts-append, of (registers advertises), of (registers faileds), of (registers listeners), of domain, append-nil, ← map-append)
+    simp (acts-append, of (registers advertises), of (registers faileds), of (registers listeners), of domainType, append-nil, ← map-append)
     (ap (map joinOf) (having-each l o))
   where
     of : (k : Attribute) → frameActs (vectorsOf k (having k l)) ≡ map joinOf (having k l)
@@ -642,13 +642,13 @@ module _ (ports clock leave : ℕ) (x : Stream) (h : ValidStream ports clock lea
   failed-within none e w = tt
   failed-within advertise e w = tt
   failed-within (failed b c) noEntry w = absurd w
-  failed-within (failed b c) filters w = ((h .id, h .settled, record { health = w; latency = k .latency }), tt)
+  failed-within (failed b c) filters w = ((h .id, h .settled, record { type = w; latency = k .latency }), tt)
   failed-within (failed b c) forwards w = absurd w
 
   advertised-within : (c : Column) → All ValidDeclaration (advertised x r c)
   unfolding advertised
   advertised-within none = tt
-  advertised-within advertise = ((h .id, h .settled, record { health = tt; latency = k .latency }), tt)
+  advertised-within advertise = ((h .id, h .settled, record { type = tt; latency = k .latency }), tt)
   advertised-within (failed b c) = tt
 
   listening-within : (d : Declared) → All ValidDeclaration (listening x d)

@@ -37,7 +37,7 @@ module _ (clock leaveTime now : ℕ) (past : now ≤ clock) (recent : clock < no
   unfolding quitTalker withLeaving
   talker-quits k noTalker v = tt
   talker-quits k (talker r) v =
-      again-valid clock leaveTime r v clock leaveTime (r .changed) _ (left-or-not (talksAs k (r .varying .health)) (r .leaving) (v .leaving))
+      again-valid clock leaveTime r v clock leaveTime (r .changed) _ (left-or-not (talksAs k (r .varying .type)) (r .leaving) (v .leaving))
 
   listener-quits : (k : Kind) (t : Listener) → ValidListener clock leaveTime t → ValidListener clock leaveTime (quitListener now k t)
   unfolding quitListener
@@ -390,9 +390,9 @@ module _ (clock leaveTime : ℕ) (leaves : 1 ≤ leaveTime) where
 
 -- what eight ports hold, and nothing behind the bridge's
 pub record ValidOwns (ports clock leaveTime : ℕ) (o : List Own) : Type 0 where
-  pub eight-own : length o ≡ 8
-  pub own : All (ValidOwn clock leaveTime) o
-  pub no-other-own : All (λ x. x ≡ noOwn) (drop ports o)
+  pub eight-owns : length o ≡ 8
+  pub owns : All (ValidOwn clock leaveTime) o
+  pub no-other-owns : All (λ x. x ≡ noOwn) (drop ports o)
 
 module _ (ports clock leaveTime p : ℕ) (here : p < ports) (leaves : 1 ≤ leaveTime) where
   own-kept : (a : Act) → Fits a → (o : List Own) → ValidOwns ports clock leaveTime o → ValidOwns ports clock leaveTime (applyOwn clock p a o)
@@ -404,9 +404,9 @@ module _ (ports clock leaveTime p : ℕ) (here : p < ports) (leaves : 1 ≤ leav
   own-kept (ofDomain d) fits o v =
       let u = changeDomains (doesDomain clock d) in
       record {
-        eight-own = length-at p u o ∙ v .eight-own;
-        own = all-changed (ValidOwn clock leaveTime) p u o (own-valid clock leaveTime leaves d fits) (v .own);
-        no-other-own = rw (drop-changed ports p u o here) (v .no-other-own);
+        eight-owns = length-at p u o ∙ v .eight-owns;
+        owns = all-changed (ValidOwn clock leaveTime) p u o (own-valid clock leaveTime leaves d fits) (v .owns);
+        no-other-owns = rw (drop-changed ports p u o here) (v .no-other-owns);
       }
 
   owns-kept : (es : List Act) → All Fits es → (o : List Own) →
@@ -432,12 +432,12 @@ received-keeps b p (acts es) here fits v = go (leb (length s) 64) refl
         (v .settings .leaves) es fits (b .streams) (v .streams, v .ascending)
 
     o : List Own
-    o = applyOwns (b .clock) (p - 1) es (b .own)
+    o = applyOwns (b .clock) (p - 1) es (b .owns)
 
     kept-own : ValidOwns (length (b .settings .ports)) (b .clock) (b .settings .leaveTime) o
     kept-own =
         owns-kept (length (b .settings .ports)) (b .clock) (b .settings .leaveTime) (p - 1) here (v .settings .leaves) es fits
-        (b .own) record { eight-own = v .eight-own; own = v .own; no-other-own = v .no-other-own }
+        (b .owns) record { eight-owns = v .eight-owns; owns = v .owns; no-other-owns = v .no-other-owns }
 
     go : (t : Bool) → leb (length s) 64 ≡ t →
         Valid (cond {A = Answer} t record { number = 0; bridge = owning (holding b s) o } record { number = 8; bridge = b } .bridge)
@@ -449,9 +449,9 @@ received-keeps b p (acts es) here fits v = go (leb (length s) 64) refl
           totals-stay (leb 1 (length (b .streams))) (leb 1 (length s))
           (λ f. le-leb 1 (length s) (omega (arith, leb-true 1 (length (b .streams)) f, acts-grow (b .clock) (p - 1) es (b .streams))))
           (b .totals) (b .settings .ports) (v .totals);
-      eight-own = kept-own .eight-own;
-      own = kept-own .own;
-      no-other-own = kept-own .no-other-own;
+      eight-owns = kept-own .eight-owns;
+      owns = kept-own .owns;
+      no-other-owns = kept-own .no-other-owns;
       at-most-64 = leb-true (length s) 64 e;
       streams = kept .0;
       ascending = kept .1;
@@ -486,7 +486,7 @@ received-same f b p (acts es) h = go (leb (length s) 64)
     s = applyAll (b .clock) (p - 1) es (b .streams)
 
     o : List Own
-    o = applyOwns (b .clock) (p - 1) es (b .own)
+    o = applyOwns (b .clock) (p - 1) es (b .owns)
 
     go : (t : Bool) → f (cond {A = Answer} t record { number = 0; bridge = owning (holding b s) o } record { number = 8; bridge = b } .bridge) ≡ f b
     go true = h s o
@@ -509,7 +509,7 @@ received-accepted-or-unchanged b p (acts es) = go (leb (length s) 64)
     s = applyAll (b .clock) (p - 1) es (b .streams)
 
     o : List Own
-    o = applyOwns (b .clock) (p - 1) es (b .own)
+    o = applyOwns (b .clock) (p - 1) es (b .owns)
 
     answer : Bool → Answer
     answer t = cond t record { number = 0; bridge = owning (holding b s) o } record { number = 8; bridge = b }

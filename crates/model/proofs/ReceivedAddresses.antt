@@ -7,7 +7,7 @@ use mathlib.Core.Bool.{Bool, true, false, cond}
 use Prim.Native.Nat.{ℕ, zero, suc, _-_}
 use lib.ListN.{length, getD}
 use lib.Dec.{leb}
-use Rattle.model.specs.Layout.{addresses}
+use Rattle.model.specs.Layout.{mostAddresses}
 use Rattle.model.specs.State.{Own, Address, Bridge, noOwn, ownAt}
 use Rattle.model.specs.Registrations.{at, AddressAct, AddressReading, refusedFrame, addressActs, Answer, doesAddresses, changeAddresses, owning, receivedAddresses}
 use Rattle.model.specs.AddressFrames.{addressReading}
@@ -15,7 +15,7 @@ use Rattle.model.specs.Calls.{receiveMmrp}
 
 -- whether there is room on a port for what acts leave, and what they leave where there is
 unfoldable pub hasRoom : ℕ → List AddressAct → Own → Bool
-hasRoom now es o = leb (length (doesAddresses now es (o .addresses))) addresses
+hasRoom now es o = leb (length (doesAddresses now es (o .addresses))) mostAddresses
 
 unfoldable pub withRoom : ℕ → List AddressAct → Own → Own
 withRoom now es o = cond (hasRoom now es o) (changeAddresses (doesAddresses now es) o) o
@@ -50,17 +50,17 @@ at-test {A = A} test u d (suc p) (x ∷ l) = go (test (getD l p d)) (at-test tes
     go false e = ap (λ (m : List A). x ∷ m) e
 
 pub received-is : (b : Bridge) (p : ℕ) (x : AddressReading) →
-    receivedAddresses b p x ≡ record { number = addressNumber (b .clock) (p - 1) x (b .own); bridge = owning b (addressEffect (b .clock) (p - 1) x (b .own)) }
+    receivedAddresses b p x ≡ record { number = addressNumber (b .clock) (p - 1) x (b .owns); bridge = owning b (addressEffect (b .clock) (p - 1) x (b .owns)) }
 unfolding receivedAddresses addressNumber addressEffect owning
 received-is b p (refusedFrame n) = refl
 received-is b p (addressActs es) =
     unfold hasRoom withRoom in
-    (go (leb (length (doesAddresses (b .clock) es (ownAt (b .own) (p - 1) .addresses))) addresses)
-    (at-test (hasRoom (b .clock) es) (changeAddresses (doesAddresses (b .clock) es)) noOwn (p - 1) (b .own)))
+    (go (leb (length (doesAddresses (b .clock) es (ownAt (b .owns) (p - 1) .addresses))) mostAddresses)
+    (at-test (hasRoom (b .clock) es) (changeAddresses (doesAddresses (b .clock) es)) noOwn (p - 1) (b .owns)))
   where
-    go : (t : Bool) → cond t (at (p - 1) (changeAddresses (doesAddresses (b .clock) es)) (b .own)) (b .own) ≡ at (p - 1) (withRoom (b .clock) es) (b .own)
-        → cond {A = Answer} t record { number = 0; bridge = owning b (at (p - 1) (changeAddresses (doesAddresses (b .clock) es)) (b .own)) } record { number = 14; bridge = b }
-        ≡ record { number = cond t 0 14; bridge = owning b (at (p - 1) (withRoom (b .clock) es) (b .own)) }
+    go : (t : Bool) → cond t (at (p - 1) (changeAddresses (doesAddresses (b .clock) es)) (b .owns)) (b .owns) ≡ at (p - 1) (withRoom (b .clock) es) (b .owns)
+        → cond {A = Answer} t record { number = 0; bridge = owning b (at (p - 1) (changeAddresses (doesAddresses (b .clock) es)) (b .owns)) } record { number = 14; bridge = b }
+        ≡ record { number = cond t 0 14; bridge = owning b (at (p - 1) (withRoom (b .clock) es) (b .owns)) }
     go true e = ap (λ (o : List Own). record { number = 0; bridge = owning b o }) e
     go false e = ap (λ (o : List Own). record { number = 14; bridge = owning b o }) e
 
@@ -68,7 +68,7 @@ received-is b p (addressActs es) =
 pub received-unchanged : (b : Bridge) (p : ℕ) (x : AddressReading) → (receivedAddresses b p x .number ≡ 0) ⊎ (receivedAddresses b p x .bridge ≡ b)
 unfolding receivedAddresses
 received-unchanged b p (refusedFrame n) = inr refl
-received-unchanged b p (addressActs es) = go (leb (length (doesAddresses (b .clock) es (ownAt (b .own) (p - 1) .addresses))) addresses) _
+received-unchanged b p (addressActs es) = go (leb (length (doesAddresses (b .clock) es (ownAt (b .owns) (p - 1) .addresses))) mostAddresses) _
   where
     go : (t : Bool) (c : Bridge) → (cond {A = Answer} t record { number = 0; bridge = c } record { number = 14; bridge = b } .number ≡ 0)
         ⊎ (cond {A = Answer} t record { number = 0; bridge = c } record { number = 14; bridge = b } .bridge ≡ b)

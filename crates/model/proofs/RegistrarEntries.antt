@@ -52,7 +52,7 @@ nothing-leaves : (now : ℕ) → registrarNext now rLv unheld ≡ unheld
 unfolding registrars
 nothing-leaves now = refl
 
-pub talker-leaves : (now : ℕ) (k : Kind) (r : Registration) → talksAs k (r .varying .health) ≡ true
+pub talker-leaves : (now : ℕ) (k : Kind) (r : Registration) → talksAs k (r .varying .type) ≡ true
     → ofTalker (quitTalker now k (talker r)) ≡ registrarNext now rLv (ofTalker (talker r))
 unfolding ofTalker quitTalker withLeaving
 talker-leaves now k r h = rw (h, leaves now (r .leaving) .0)

@@ -387,7 +387,7 @@ abbrev pub totalsWhole : Bridge → List ℕ
 totalsWhole b = flat totalsOctets (b .totals)
 
 abbrev pub ownsWhole : Bridge → List ℕ
-ownsWhole b = flat ownOctets (b .own)
+ownsWhole b = flat ownOctets (b .owns)
 
 abbrev pub recordsWhole : Bridge → List ℕ
 recordsWhole b = flat streamOctets (b .streams) ++ zeros ((64 - length (b .streams)) * recordSize)
@@ -406,15 +406,15 @@ octets-encode b =
     (octets-append (settingsOctets (b .settings)) (zeros ps) (octets-settings (b .settings)) (octets-zeros ps))
     (octets-append (clockAndCount b) (totalsWhole b ++ (ownsWhole b ++ recordsWhole b)) (octets-packed clockWidths (b .clock ∷ length (b .streams) ∷ []))
     (octets-append (totalsWhole b) (ownsWhole b ++ recordsWhole b) (octets-flat totalsOctets totals-octets (b .totals))
-    (octets-append (ownsWhole b) (recordsWhole b) (octets-flat ownOctets own-octets (b .own))
+    (octets-append (ownsWhole b) (recordsWhole b) (octets-flat ownOctets own-octets (b .owns))
     (octets-append (flat streamOctets (b .streams)) (zeros rs) (octets-flat streamOctets octets-stream (b .streams)) (octets-zeros rs))))))
 
 -- what gives each part of the table its place
 pub record Whole (b : Bridge) : Type 0 where
   pub eight-ports : length (b .settings .ports) ≤ 8
   pub eight-totals : length (b .totals) ≡ 8
-  pub eight-own : length (b .own) ≡ 8
-  pub own : All (Sized ownSize ownOctets) (b .own)
+  pub eight-owns : length (b .owns) ≡ 8
+  pub owns : All (Sized ownSize ownOctets) (b .owns)
   pub at-most-64 : length (b .streams) ≤ 64
   pub streams : All (Sized recordSize streamOctets) (b .streams)
 
@@ -422,8 +422,8 @@ pub valid-whole : (b : Bridge) → Valid b → Whole b
 valid-whole b v = record {
   eight-ports = v .settings .eight-ports;
   eight-totals = v .eight-totals;
-  eight-own = v .eight-own;
-  own = all-map (ValidOwn (b .clock) (b .settings .leaveTime)) (Sized ownSize ownOctets) (λ o w. own-length o (w .slotted) (w .addresses .at-most-64)) (b .own) (v .own);
+  eight-owns = v .eight-owns;
+  owns = all-map (ValidOwn (b .clock) (b .settings .leaveTime)) (Sized ownSize ownOctets) (λ o w. own-length o (w .slotted) (w .addresses .at-most-64)) (b .owns) (v .owns);
   at-most-64 = v .at-most-64;
   streams =
       all-map (ValidStream (length (b .settings .ports)) (b .clock) (b .settings .leaveTime)) (Sized recordSize streamOctets)
@@ -434,8 +434,8 @@ pub fit-whole : (b : Bridge) → FitBridge b → Whole b
 fit-whole b f = record {
   eight-ports = f .settings .eight-ports;
   eight-totals = f .eight-totals;
-  eight-own = f .eight-own;
-  own = all-map FitOwn (Sized ownSize ownOctets) (λ o w. own-length o (w .slotted) (w .addresses .at-most-64)) (b .own) (f .own);
+  eight-owns = f .eight-owns;
+  owns = all-map FitOwn (Sized ownSize ownOctets) (λ o w. own-length o (w .slotted) (w .addresses .at-most-64)) (b .owns) (f .owns);
   at-most-64 = f .at-most-64;
   streams = all-map FitStream (Sized recordSize streamOctets) (λ x w. stream-length x (w .eight-cells) (w .eight-results)) (b .streams) (f .streams);
 }
@@ -455,7 +455,7 @@ module _ (b : Bridge) (w : Whole b) where
   totals-whole-length = omega (arith, length-flat-sized totalSize totalsOctets (b .totals) (totals-sized (b .totals)), w .eight-totals)
 
   pub owns-whole-length : length (ownsWhole b) ≡ ownsSize
-  owns-whole-length = omega (arith, length-flat-sized ownSize ownOctets (b .own) (w .own), w .eight-own)
+  owns-whole-length = omega (arith, length-flat-sized ownSize ownOctets (b .owns) (w .owns), w .eight-owns)
 
   pub records-whole-length : length (recordsWhole b) ≡ recordsSize
   records-whole-length =
@@ -498,7 +498,7 @@ module _ (b : Bridge) (w : Whole b) where
       ∙ totals-of (settingsWhole b) (clockAndCount b) (totalsWhole b) (ownsWhole b) (recordsWhole b) settings-whole-length (clock-length b)
       totals-whole-length owns-whole-length
 
-  pub owns-read : ownsPart (encode b) ≡ flat ownOctets (b .own)
+  pub owns-read : ownsPart (encode b) ≡ flat ownOctets (b .owns)
   owns-read =
       ap ownsPart (encode-parts b)
       ∙ owns-of (settingsWhole b) (clockAndCount b) (totalsWhole b) (ownsWhole b) (recordsWhole b) settings-whole-length (clock-length b)
@@ -536,10 +536,10 @@ module _ (b : Bridge) (w : Whole b) where
       ∙ many-read totalSize totalsOctets 8 toTotals (b .totals) (w .eight-totals) (totals-sized (b .totals))
       (all-map FitTotals (λ t. toTotals (totalsOctets t) ≡ t) totals-back (b .totals) f)
 
-  pub owns-decoded : All FitOwn (b .own) → parts ownSize toOwn 8 (ownsPart (encode b)) ≡ b .own
+  pub owns-decoded : All FitOwn (b .owns) → parts ownSize toOwn 8 (ownsPart (encode b)) ≡ b .owns
   owns-decoded f =
       ap (parts ownSize toOwn 8) owns-read
-      ∙ many-read ownSize ownOctets 8 toOwn (b .own) (w .eight-own) (w .own) (all-map FitOwn (λ o. toOwn (ownOctets o) ≡ o) own-fit-back (b .own) f)
+      ∙ many-read ownSize ownOctets 8 toOwn (b .owns) (w .eight-owns) (w .owns) (all-map FitOwn (λ o. toOwn (ownOctets o) ≡ o) own-fit-back (b .owns) f)
 
 -- A valid bridge is read back from its table, which keeps the form rules.
 
@@ -556,10 +556,10 @@ module _ (b : Bridge) (v : Valid b) where
   totals-same : parts totalSize toTotals 8 (totalsPart (encode b)) ≡ b .totals
   totals-same = totals-decoded b whole (totals-fit _ (b .totals) (b .settings .ports) (v .settings .ports) (v .totals))
 
-  own-same : parts ownSize toOwn 8 (ownsPart (encode b)) ≡ b .own
+  own-same : parts ownSize toOwn 8 (ownsPart (encode b)) ≡ b .owns
   own-same =
       owns-decoded b whole
-      (all-map (ValidOwn (b .clock) (b .settings .leaveTime)) FitOwn (valid-own-fits (b .clock) (b .settings .leaveTime) (v .clock)) (b .own) (v .own))
+      (all-map (ValidOwn (b .clock) (b .settings .leaveTime)) FitOwn (valid-own-fits (b .clock) (b .settings .leaveTime) (v .clock)) (b .owns) (v .owns))
 
   streams-same : parts recordSize toStream (countField (encode b)) (recordsPart (encode b)) ≡ b .streams
   streams-same =
@@ -606,15 +606,15 @@ module _ (b : Bridge) (v : Valid b) where
       (all-map (ValidStream n (b .clock) (b .settings .leaveTime)) (λ x. rule (streamOctets x) ≡ true)
       (stream-formed n (b .clock) (b .settings .leaveTime) (v .settings .eight-ports) (v .clock)) (b .streams) (v .streams))
 
-  owns-formed : everyPart ownSize (ownFormed (b .clock) (b .settings .leaveTime)) (length (b .settings .ports)) (flat ownOctets (b .own)) ≡ true
+  owns-formed : everyPart ownSize (ownFormed (b .clock) (b .settings .leaveTime)) (length (b .settings .ports)) (flat ownOctets (b .owns)) ≡ true
   owns-formed =
-      many-keep (owns-coded (b .clock) (b .settings .leaveTime) (v .clock)) (length (b .settings .ports)) 8 (v .settings .eight-ports) (b .own)
-      (v .eight-own) (v .own)
+      many-keep (owns-coded (b .clock) (b .settings .leaveTime) (v .clock)) (length (b .settings .ports)) 8 (v .settings .eight-ports) (b .owns)
+      (v .eight-owns) (v .owns)
 
-  owns-rest : allZero (drop (length (b .settings .ports) * ownSize) (flat ownOctets (b .own))) ≡ true
+  owns-rest : allZero (drop (length (b .settings .ports) * ownSize) (flat ownOctets (b .owns))) ≡ true
   owns-rest =
-      many-rest (owns-coded (b .clock) (b .settings .leaveTime) (v .clock)) (length (b .settings .ports)) 8 (v .settings .eight-ports) (b .own)
-      (v .eight-own) (v .own) (v .no-other-own)
+      many-rest (owns-coded (b .clock) (b .settings .leaveTime) (v .clock)) (length (b .settings .ports)) 8 (v .settings .eight-ports) (b .owns)
+      (v .eight-owns) (v .owns) (v .no-other-owns)
 
   pub formed-encode : formed (encode b) ≡ true
   unfolding formed tableRules
@@ -753,9 +753,9 @@ module _ (t : List ℕ) (o : Octets t) (f : formed t ≡ true) where
         clock = clock-fits;
         eight-totals = length-parts totalSize toTotals 8 (totalsPart t);
         totals = rw (length-parts recordSize toStream n rs) (totals-kept t f);
-        eight-own = length-parts ownSize toOwn 8 (ownsPart t);
-        own = many-valid coded p 8 h (ownsPart t) (owns-room t f) octets-owns-part (owns-kept t f) (owns-zero t f);
-        no-other-own = rw e (many-others coded p 8 h (ownsPart t) (owns-room t f) octets-owns-part (owns-kept t f) (owns-zero t f));
+        eight-owns = length-parts ownSize toOwn 8 (ownsPart t);
+        owns = many-valid coded p 8 h (ownsPart t) (owns-room t f) octets-owns-part (owns-kept t f) (owns-zero t f);
+        no-other-owns = rw e (many-others coded p 8 h (ownsPart t) (owns-room t f) octets-owns-part (owns-kept t f) (owns-zero t f));
         at-most-64 = omega (arith, length-parts recordSize toStream n rs, count-kept t f);
         streams = rw e read;
         ascending = rising-rises (ids (parts recordSize toStream n rs)) rise;
@@ -833,9 +833,9 @@ valid-started s o f = record {
   clock = omega arith;
   eight-totals = refl;
   totals = none-within _ 8 (toSettings s .ports);
-  eight-own = refl;
-  own = all-replicate (ValidOwn 0 (toSettings s .leaveTime)) 8 noOwn (owns-coded 0 (toSettings s .leaveTime) (omega arith) .good);
-  no-other-own = all-drop (λ o. o ≡ noOwn) (length (toSettings s .ports)) (replicate 8 noOwn) (all-replicate (λ o. o ≡ noOwn) 8 noOwn refl);
+  eight-owns = refl;
+  owns = all-replicate (ValidOwn 0 (toSettings s .leaveTime)) 8 noOwn (owns-coded 0 (toSettings s .leaveTime) (omega arith) .good);
+  no-other-owns = all-drop (λ o. o ≡ noOwn) (length (toSettings s .ports)) (replicate 8 noOwn) (all-replicate (λ o. o ≡ noOwn) 8 noOwn refl);
   at-most-64 = omega arith;
   streams = tt;
   ascending = tt;

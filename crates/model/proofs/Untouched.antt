@@ -18,7 +18,7 @@ abbrev pub remaining : ℕ → Bridge → List Stream
 remaining now b = remain (b .settings) now (b .streams)
 
 abbrev pub sceneAt : ℕ → Bridge → Scene
-sceneAt now b = record { settings = b .settings; own = decideOwns (b .settings) now (b .own); inbound = inboundsOf (remaining now b) }
+sceneAt now b = record { settings = b .settings; owns = decideOwns (b .settings) now (b .owns); inbound = inboundsOf (remaining now b) }
 
 -- What two bridges agree on: of the stream x of one and x′ of the other, on the port at place p.
 pub record Alike (now : ℕ) (b b′ : Bridge) (p : ℕ) (x x′ : Stream) : Type 0 where
@@ -35,17 +35,17 @@ pub record Alike (now : ℕ) (b b′ : Bridge) (p : ℕ) (x x′ : Stream) : Typ
   -- "For codes 5, 8 and 15 .. the facts that those tests read": whether a lower StreamID has its address, whether the port is at the
   -- edge of its class's domain, whether its Talker port may bring streams in
   pub address : shares (inboundsOf (remaining now b)) (inboundOf x) ≡ shares (inboundsOf (remaining now b′)) (inboundOf x′)
-  pub edge : boundary (ownAt (sceneAt now b .own) p) (streamClass (b .settings) x) ≡ boundary (ownAt (sceneAt now b′ .own) p) (streamClass (b′ .settings) x′)
+  pub edge : boundary (ownAt (sceneAt now b .owns) p) (streamClass (b .settings) x) ≡ boundary (ownAt (sceneAt now b′ .owns) p) (streamClass (b′ .settings) x′)
   pub inbound : isKeptOut (b .settings .fanIn) (inboundsOf (remaining now b)) (sourceOf x) ≡ isKeptOut (b′ .settings .fanIn) (inboundsOf (remaining now b′)) (sourceOf x′)
   -- "and for pruning": where it is on, whether the port holds the stream's destination
   pub wanted : b .settings .pruning ≡ true →
-      holdsAddress (fixedOf (sourceOf x) .destination) (ownAt (sceneAt now b .own) p .addresses)
-      ≡ holdsAddress (fixedOf (sourceOf x′) .destination) (ownAt (sceneAt now b′ .own) p .addresses)
+      holdsAddress (fixedOf (sourceOf x) .destination) (ownAt (sceneAt now b .owns) p .addresses)
+      ≡ holdsAddress (fixedOf (sourceOf x′) .destination) (ownAt (sceneAt now b′ .owns) p .addresses)
 
 -- The same of scenes with one setting.
 
 abbrev scene : Settings → List Own → List Inbound → Scene
-scene st o i = record { settings = st; own = o; inbound = i }
+scene st o i = record { settings = st; owns = o; inbound = i }
 
 module _ (st : Settings) (o o′ : List Own) (i i′ : List Inbound) (now p : ℕ) (s s′ : List Stream) (x x′ : Stream) (cells : x .cells ≡ x′ .cells)
     (important : above (key (claim st now p x)) (claims (scene st o i) now p (streamClass st x) s)

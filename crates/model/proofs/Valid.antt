@@ -4,9 +4,9 @@ use mathlib.Core.List.{List, [], _∷_}
 use mathlib.Core.Bool.{Bool, true}
 use Prim.Native.Nat.{ℕ, _+_, _/_, _^_, _≤_, _<_}
 use lib.ListN.{length, drop}
-use Rattle.model.specs.Layout.{addresses, priorityBUnit, slots}
+use Rattle.model.specs.Layout.{mostAddresses, priorityBUnit, slots}
 use Rattle.model.specs.Lists.{All}
-use Rattle.model.specs.State.{Port, Settings, Leaving, stays, since, Fixed, Health, sound, broken, Varying, Registration, Talker, noTalker, talker, Listener, noListener, listener, Cell, Domain, noDomain, domain, Presence, vacant, present, Address, Own, Column, none, advertise, failed, Entry, noEntry, filters, forwards, Result, Stream, Bridge, empty, unsettled, noOwn, noFixed, cellAt, resultAt}
+use Rattle.model.specs.State.{Port, Settings, Leaving, stays, since, Fixed, TalkerType, talkerAdvertise, talkerFailed, Varying, Registration, Talker, noTalker, talker, Listener, noListener, listener, Cell, Domain, noDomain, domain, Presence, vacant, present, Address, Own, Column, none, advertise, failed, Entry, noEntry, filters, forwards, Result, Stream, Bridge, empty, unsettled, noOwn, noFixed, cellAt, resultAt}
 use lib.Dec.{leb}
 use Rattle.model.specs.Registrations.{ids, macs}
 use Rattle.model.specs.Settling.{held}
@@ -47,12 +47,12 @@ pub record ValidFixed (f : Fixed) : Type 0 where
   pub priority : f .priority < 8
   pub rank : f .rank < 2
 
-abbrev pub ValidHealth : Health → Type 0
-ValidHealth sound = Unit {0}
-ValidHealth (broken b c) = (b < 2 ^ 64) × (c < 256)
+abbrev pub ValidTalkerType : TalkerType → Type 0
+ValidTalkerType talkerAdvertise = Unit {0}
+ValidTalkerType (talkerFailed b c) = (b < 2 ^ 64) × (c < 256)
 
 pub record ValidVarying (v : Varying) : Type 0 where
-  pub health : ValidHealth (v .health)
+  pub type : ValidTalkerType (v .type)
   pub latency : v .latency < 2 ^ 32
 
 pub record ValidRegistration (clock leave : ℕ) (r : Registration) : Type 0 where
@@ -97,7 +97,7 @@ Rising [] = Unit {0}
 Rising (i ∷ l) = All (λ j. i < j) l × Rising l
 
 pub record ValidAddresses (clock leave : ℕ) (l : List Address) : Type 0 where
-  pub at-most-64 : length l ≤ addresses
+  pub at-most-64 : length l ≤ mostAddresses
   pub each : All (ValidAddress clock leave) l
   pub ascending : Rising (macs l)
 
@@ -148,9 +148,9 @@ pub record Valid (b : Bridge) : Type 0 where
   pub clock : b .clock < 2 ^ 32
   pub eight-totals : length (b .totals) ≡ 8
   pub totals : totalsWithin (leb 1 (length (b .streams))) (b .totals) (b .settings .ports) ≡ true
-  pub eight-own : length (b .own) ≡ 8
-  pub own : All (ValidOwn (b .clock) (b .settings .leaveTime)) (b .own)
-  pub no-other-own : All (λ o. o ≡ noOwn) (drop (length (b .settings .ports)) (b .own))
+  pub eight-owns : length (b .owns) ≡ 8
+  pub owns : All (ValidOwn (b .clock) (b .settings .leaveTime)) (b .owns)
+  pub no-other-owns : All (λ o. o ≡ noOwn) (drop (length (b .settings .ports)) (b .owns))
   pub at-most-64 : length (b .streams) ≤ 64
   pub streams : All (ValidStream (length (b .settings .ports)) (b .clock) (b .settings .leaveTime)) (b .streams)
   pub ascending : Rising (ids (b .streams))

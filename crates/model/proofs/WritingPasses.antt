@@ -16,12 +16,12 @@ use Rattle.octets.specs.Fields.{packed, flat}
 use Rattle.octets.proofs.Be.{length-be}
 use Rattle.model.specs.FrameLayout.{longestPdu}
 use Rattle.model.specs.Lists.{All, keep, longest}
-use Rattle.model.specs.State.{Port, Settings, Health, sound, broken, Column, none, advertise, failed, Declared, nothing, tells, Result, Stream, Bridge, portAt, resultAt, classA, classB, supports}
+use Rattle.model.specs.State.{Port, Settings, TalkerType, talkerAdvertise, talkerFailed, Column, none, advertise, failed, Declared, nothing, tells, Result, Stream, Bridge, portAt, resultAt, classA, classB, supports}
 use Rattle.model.specs.Registrations.{Kind, advertises, faileds, listeners, ids}
-use Rattle.model.specs.Frames.{Attribute, registers, domain, TypeOctet, notAllowed, unknown, known, typeOctet, typeNumber, firstWidths, firstLength}
-use Rattle.model.specs.Cutting.{joined, values, octetsFor, octets}
+use Rattle.model.specs.Frames.{Attribute, registers, domainType, TypeOctet, notAllowed, unknown, known, typeOctet, typeNumber, firstWidths, firstLength}
+use Rattle.model.specs.Cutting.{concat, values, octetsFor, octets}
 use Rattle.model.specs.Best.{best, least, run}
-use Rattle.model.specs.Declarations.{Declaration, talkerDeclaration, listenerDeclaration, domainDeclaration, healthKind, attributeOf, advertised, failing, listening, declarationsOf, ofKind, domainOf, domainValues, declarations, declaredId, declaredIds, sameAttribute, having, vectorSize, vectorsSize, messageSize, messagesSize, fitting, takes, Written, write}
+use Rattle.model.specs.Declarations.{Declaration, talkerDeclaration, listenerDeclaration, domainDeclaration, talkerKind, attributeOf, advertised, failing, listening, declarationsOf, ofKind, domainOf, domainValues, declarations, declaredId, declaredIds, sameAttribute, having, vectorSize, vectorsSize, messageSize, messagesSize, fitting, takes, Written, write}
 use Rattle.model.specs.WrittenFrames.{fixedNumbers, failureNumbers, firstNumbers, fourOctets, declarationVector, packedVector, cutAs, listenerParts, vectorsOf, vectorOctets, messageOf, messageOctets, pduOctets}
 use Rattle.model.specs.Laid.{Ascending}
 use Rattle.model.proofs.Lists.{Longest, longest-longest, all-map, all-each, all-append, all-take, all-keep, length-tabulate, longest-ends, longest-stops, longest-goes, longest-split, longest-same, longest-from, longest-within, longest-passes, longest-full}
@@ -33,25 +33,25 @@ use Rattle.model.proofs.LongestRun.{least-take, least-most}
 
 -- FirstValue is as long as its type says
 pub length-first : (d : Declaration) → length (declarationVector d .first) ≡ firstLength (attributeOf d)
-unfolding declarationVector firstNumbers attributeOf healthKind firstWidths firstLength packed be fixedNumbers failureNumbers
-length-first (talkerDeclaration id f v) = go (v .health)
+unfolding declarationVector firstNumbers attributeOf talkerKind firstWidths firstLength packed be fixedNumbers failureNumbers
+length-first (talkerDeclaration id f v) = go (v .type)
   where
-    go : (h : Health)
-        → length (packed (firstWidths (registers (healthKind h))) (id ∷ (fixedNumbers f ++ (v .latency ∷ failureNumbers h)))) ≡ firstLength (registers (healthKind h))
-    go sound = refl
-    go (broken b c) = refl
+    go : (h : TalkerType)
+        → length (packed (firstWidths (registers (talkerKind h))) (id ∷ (fixedNumbers f ++ (v .latency ∷ failureNumbers h)))) ≡ firstLength (registers (talkerKind h))
+    go talkerAdvertise = refl
+    go (talkerFailed b c) = refl
 length-first (listenerDeclaration id r) = refl
 length-first (domainDeclaration id q v) = refl
 
 -- and a declaration's vector as its size says
 pub length-vector : (d : Declaration) → length (vectorOctets (declarationVector d)) ≡ vectorSize (attributeOf d)
-unfolding vectorOctets declarationVector firstNumbers fourOctets vectorSize attributeOf healthKind firstWidths packed be fixedNumbers failureNumbers
-length-vector (talkerDeclaration id f v) = go (v .health)
+unfolding vectorOctets declarationVector firstNumbers fourOctets vectorSize attributeOf talkerKind firstWidths packed be fixedNumbers failureNumbers
+length-vector (talkerDeclaration id f v) = go (v .type)
   where
-    go : (h : Health)
-        → length (vectorOctets (declarationVector (talkerDeclaration id f record { health = h; latency = v .latency }))) ≡ vectorSize (registers (healthKind h))
-    go sound = refl
-    go (broken b c) = refl
+    go : (h : TalkerType)
+        → length (vectorOctets (declarationVector (talkerDeclaration id f record { type = h; latency = v .latency }))) ≡ vectorSize (registers (talkerKind h))
+    go talkerAdvertise = refl
+    go (talkerFailed b c) = refl
 length-vector (listenerDeclaration id r) = refl
 length-vector (domainDeclaration id q v) = refl
 
@@ -63,7 +63,7 @@ unfolding typeOctet typeNumber
 known-type (registers advertises) = refl
 known-type (registers faileds) = refl
 known-type (registers listeners) = refl
-known-type domain = refl
+known-type domainType = refl
 
 same-number : (j k : Attribute) → typeNumber j ≡ typeNumber k → j ≡ k
 same-number j k e = ap type (sym (known-type j) ∙ ap (typeOctet 0) e ∙ known-type k)
@@ -93,7 +93,7 @@ other-attribute j k h = ne-eqb (typeNumber j) (typeNumber k) h
 
 -- what there is of each type, in turn
 abbrev pub inTurn : (Attribute → List Declaration) → List Declaration
-inTurn of = of (registers advertises) ++ (of (registers faileds) ++ (of (registers listeners) ++ of domain))
+inTurn of = of (registers advertises) ++ (of (registers faileds) ++ (of (registers listeners) ++ of domainType))
 
 -- a declaration that may stand after one of type k
 abbrev pub NotBefore : Attribute → Declaration → Type 0
@@ -134,7 +134,7 @@ all-of-kind P k p [] a = tt
 all-of-kind P k p (x ∷ s) a = all-append P (declarationsOf k x (resultAt x p)) (ofKind k p s) (a .0) (all-of-kind P k p s (a .1))
 
 stream-attribute : (k : Kind) (x : Stream) (r : Result) → All (OfAttribute (registers k)) (declarationsOf k x r)
-unfolding declarationsOf advertised failing listening attributeOf healthKind
+unfolding declarationsOf advertised failing listening attributeOf talkerKind
 stream-attribute advertises x r = go (r .column)
   where
     go : (c : Column) → All (OfAttribute (registers advertises)) (advertised x r c)
@@ -163,8 +163,8 @@ pub all-domains : (P : Declaration → Type 0) (st : Settings) (q : Port) → P 
 unfolding domainValues
 all-domains P st q b a = all-keep P (supports q classB) _ _ b (all-keep P (supports q classA) _ [] a tt)
 
-pub domains-attribute : (st : Settings) (q : Port) → All (OfAttribute domain) (domainValues st q)
-domains-attribute st q = unfold domainOf attributeOf in (all-domains (OfAttribute domain) st q refl refl)
+pub domains-attribute : (st : Settings) (q : Port) → All (OfAttribute domainType) (domainValues st q)
+domains-attribute st q = unfold domainOf attributeOf in (all-domains (OfAttribute domainType) st q refl refl)
 
 -- "Declarations of a port: Advertise, Failed, Listener", then Domain values
 pub declarations-in-order : (st : Settings) (p : ℕ) (s : List Stream) → InOrder (declarations st p s)
@@ -174,12 +174,12 @@ declarations-in-order st p s = before advertises faileds _ (omega arith) (before
     domains : List Declaration
     domains = domainValues st (portAt st p)
 
-    last : From domain (domains ++ [])
-    last = from-append domain domain domains [] (omega arith) (domains-attribute st (portAt st p)) (tt, tt)
+    last : From domainType (domains ++ [])
+    last = from-append domainType domainType domains [] (omega arith) (domains-attribute st (portAt st p)) (tt, tt)
 
     listed : From (registers listeners) (ofKind listeners p s ++ domains)
     listed =
-        from-append (registers listeners) domain (ofKind listeners p s) domains (omega arith) (ofKind-attribute listeners p s)
+        from-append (registers listeners) domainType (ofKind listeners p s) domains (omega arith) (ofKind-attribute listeners p s)
         (rw (append-nil domains) at last)
 
     before : (j k : Kind) (m : List Declaration) → typeNumber (registers j) ≤ typeNumber (registers k)
@@ -252,14 +252,14 @@ unfolding declaredIds
 length-ids l = length-map l declaredId
 
 -- declarations cut as their StreamIDs are: the StreamIDs of the first part, and of the rest
-pub cut-first : (g : List ℕ) (c : List (List ℕ)) (l : List Declaration) → joined (g ∷ c) ≡ declaredIds l
-    → (declaredIds (take (length g) l) ≡ g) × (joined c ≡ declaredIds (drop (length g) l))
+pub cut-first : (g : List ℕ) (c : List (List ℕ)) (l : List Declaration) → concat (g ∷ c) ≡ declaredIds l
+    → (declaredIds (take (length g) l) ≡ g) × (concat c ≡ declaredIds (drop (length g) l))
 cut-first g c l e = (
-  ids-take (length g) l ∙ ap (take (length g)) (sym e) ∙ take-append-seam g (joined c),
-  sym (drop-append-seam g (joined c)) ∙ ap (drop (length g)) e ∙ sym (ids-drop (length g) l),
+  ids-take (length g) l ∙ ap (take (length g)) (sym e) ∙ take-append-seam g (concat c),
+  sym (drop-append-seam g (concat c)) ∙ ap (drop (length g)) e ∙ sym (ids-drop (length g) l),
 )
 
-length-cut-as : (c : List (List ℕ)) (l : List Declaration) → joined c ≡ declaredIds l → length (flat vectorOctets (map packedVector (cutAs c l))) ≡ octets c
+length-cut-as : (c : List (List ℕ)) (l : List Declaration) → concat c ≡ declaredIds l → length (flat vectorOctets (map packedVector (cutAs c l))) ≡ octets c
 unfolding flat cutAs
 length-cut-as [] l e = refl
 length-cut-as (g ∷ c) l e =
@@ -271,7 +271,7 @@ unfolding vectorsOf vectorsSize listenerParts least
 length-vectors (registers advertises) l a = length-singles (registers advertises) l a
 length-vectors (registers faileds) l a = length-singles (registers faileds) l a
 length-vectors (registers listeners) l a = length-cut-as (best (declaredIds l)) l (best-cuts (declaredIds l) .0)
-length-vectors domain l a = length-singles domain l a
+length-vectors domainType l a = length-singles domainType l a
 
 pub length-message : (k : Attribute) (l : List Declaration) → All (OfAttribute k) l → length (messageOctets k l) ≡ messageSize k l
 unfolding messageOctets messageOf messageSize
@@ -280,7 +280,7 @@ length-message k (d ∷ l) a = simp (length-append, length-be, length-vectors k 
 
 pub length-pdu : (l : List Declaration) → length (pduOctets l) ≡ 3 + messagesSize l
 unfolding pduOctets messagesSize
-length-pdu l = simp (length-append, of (registers advertises), of (registers faileds), of (registers listeners), of domain) (omega arith)
+length-pdu l = simp (length-append, of (registers advertises), of (registers faileds), of (registers listeners), of domainType) (omega arith)
   where
     of : (k : Attribute) → length (messageOctets k (having k l)) ≡ messageSize k (having k l)
     of k = length-message k (having k l) (having-attribute k l)
@@ -324,11 +324,11 @@ one-message d = go (attributeOf d)
     size : Attribute → Attribute → ℕ
     size k j = messageSize j (keep (sameAttribute k j) d [])
 
-    go : (k : Attribute) → size k (registers advertises) + size k (registers faileds) + size k (registers listeners) + size k domain ≤ 43
+    go : (k : Attribute) → size k (registers advertises) + size k (registers faileds) + size k (registers listeners) + size k domainType ≤ 43
     go (registers advertises) = omega arith
     go (registers faileds) = omega arith
     go (registers listeners) = omega (arith, one)
-    go domain = omega arith
+    go domainType = omega arith
 
 pub takes-one : (l : List Declaration) → 1 ≤ length l → 1 ≤ takes l
 unfolding takes fitting
@@ -358,7 +358,7 @@ module _ (k : Attribute) (l m : List Declaration) (own : All (OfAttribute k) l) 
   pub messages-first : messagesSize (l ++ m) ≡ messageSize k l + messagesSize m
   unfolding messagesSize
   messages-first =
-      rw (having-first (registers advertises), having-first (registers faileds), having-first (registers listeners), having-first domain)
+      rw (having-first (registers advertises), having-first (registers faileds), having-first (registers listeners), having-first domainType)
       (go k first-none)
     where
       size : Attribute → Attribute → ℕ
@@ -371,12 +371,12 @@ module _ (k : Attribute) (l m : List Declaration) (own : All (OfAttribute k) l) 
       none i e = rw e (unfold messageSize in refl)
 
       go : (i : Attribute) → having i m ≡ []
-          → size i (registers advertises) + size i (registers faileds) + size i (registers listeners) + size i domain
-          ≡ messageSize i l + (of (registers advertises) + of (registers faileds) + of (registers listeners) + of domain)
+          → size i (registers advertises) + size i (registers faileds) + size i (registers listeners) + size i domainType
+          ≡ messageSize i l + (of (registers advertises) + of (registers faileds) + of (registers listeners) + of domainType)
       go (registers advertises) e = unfold sameAttribute typeNumber in (omega (arith, none (registers advertises) e))
       go (registers faileds) e = unfold sameAttribute typeNumber in (omega (arith, none (registers faileds) e))
       go (registers listeners) e = unfold sameAttribute typeNumber in (omega (arith, none (registers listeners) e))
-      go domain e = unfold sameAttribute typeNumber in (omega (arith, none domain e))
+      go domainType e = unfold sameAttribute typeNumber in (omega (arith, none domainType e))
 
 -- of one type
 pub messages-one : (k : Attribute) (l : List Declaration) → All (OfAttribute k) l → messagesSize l ≡ messageSize k l
@@ -453,7 +453,7 @@ fitting-single used k l own h =
     singles (registers advertises) h r = unfold vectorsSize in refl
     singles (registers faileds) h r = unfold vectorsSize in refl
     singles (registers listeners) h r = absurd (h refl)
-    singles domain h r = unfold vectorsSize in refl
+    singles domainType h r = unfold vectorsSize in refl
 
 -- Listeners packed
 pub fitting-listeners : (used : ℕ) (l : List Declaration) → All (OfAttribute (registers listeners)) l → used + 6 ≤ longestPdu
@@ -491,7 +491,7 @@ vectors-rise (registers listeners) l m h =
     let n : length (declaredIds (l ++ m)) ≤ 64 = rw (length-ids (l ++ m)) (h refl .0) in
     let e : take (length l) (declaredIds (l ++ m)) ≡ declaredIds l = sym (ids-take (length l) (l ++ m)) ∙ ap declaredIds (take-append-seam l m) in
     rw e at (least-take (declaredIds (l ++ m)) n (h refl .1) (length l))
-vectors-rise domain l m h = rw (length-append l m) (mul-le-mul-right _ (omega arith))
+vectors-rise domainType l m h = rw (length-append l m) (mul-le-mul-right _ (omega arith))
 
 message-rises : (k : Attribute) (l m : List Declaration)
     → (k ≡ registers listeners → (length (l ++ m) ≤ 64) × Rising (declaredIds (l ++ m))) → messageSize k l ≤ messageSize k (l ++ m)
@@ -501,7 +501,7 @@ message-rises k (d ∷ l) m h = omega (arith, vectors-rise k (d ∷ l) m h)
 
 messages-rise : (l m : List Declaration) → FewListeners (l ++ m) → messagesSize l ≤ messagesSize (l ++ m)
 unfolding messagesSize
-messages-rise l m f = omega (arith, of (registers advertises), of (registers faileds), of (registers listeners), of domain)
+messages-rise l m f = omega (arith, of (registers advertises), of (registers faileds), of (registers listeners), of domainType)
   where
     of : (k : Attribute) → messageSize k (having k l) ≤ messageSize k (having k (l ++ m))
     of k =
@@ -606,7 +606,7 @@ listeners-of st p s =
       having-append k (ofKind listeners p s) (domainValues st (portAt st p)),
       having-other k (registers advertises) (ofKind advertises p s) (unfold sameAttribute typeNumber in refl) (ofKind-attribute advertises p s),
       having-other k (registers faileds) (ofKind faileds p s) (unfold sameAttribute typeNumber in refl) (ofKind-attribute faileds p s),
-      having-other k domain (domainValues st (portAt st p)) (unfold sameAttribute typeNumber in refl) (domains-attribute st (portAt st p)),
+      having-other k domainType (domainValues st (portAt st p)) (unfold sameAttribute typeNumber in refl) (domains-attribute st (portAt st p)),
       having-own k (ofKind listeners p s) (ofKind-attribute listeners p s),
       append-nil (ofKind listeners p s),
     )

@@ -16,14 +16,14 @@ use Rattle.model.specs.Frames.{threeLength, vectorEnd, InList, badVector
 
 -- a list of Service Requirements, of MAC addresses, or of a type that only a higher version knows, with its AttributeLength
 pub data AddressList : Type 0 where
-  services macs : AddressList
-  unknowns : (first : ℕ) → AddressList
+  serviceList macList : AddressList
+  unknownList : (first : ℕ) → AddressList
 
 -- the octets of FirstValue
 unfoldable pub firstOctets : AddressList → ℕ
-firstOctets services = serviceLength
-firstOctets macs = macLength
-firstOctets (unknowns first) = first
+firstOctets serviceList = serviceLength
+firstOctets macList = macLength
+firstOctets (unknownList first) = first
 
 -- What stands at a place of a PDU.
 
@@ -31,15 +31,15 @@ firstOctets (unknowns first) = first
 pub data InAddressPdu : Type 0 where
   badHeader : ℕ → InAddressPdu
   noMessage : InAddressPdu
-  listOf : AddressList → InAddressPdu
+  addressListOf : AddressList → InAddressPdu
 
 -- by version, type and AttributeLength: type 0 is 4; "Types above 2 are refused with 4 at version 0; at a higher version their
 -- vectors are walked by the AttributeLength and dropped"; 5 where the length is not that of a known type
 unfoldable pub addressHeader : ℕ → ℕ → ℕ → InAddressPdu
 addressHeader version zero octets = badHeader 4
-addressHeader version (suc zero) octets = cond (eqb octets serviceLength) (listOf services) (badHeader 5)
-addressHeader version (suc (suc zero)) octets = cond (eqb octets macLength) (listOf macs) (badHeader 5)
-addressHeader version (suc (suc (suc t))) octets = cond (eqb version 0) (badHeader 4) (listOf (unknowns octets))
+addressHeader version (suc zero) octets = cond (eqb octets serviceLength) (addressListOf serviceList) (badHeader 5)
+addressHeader version (suc (suc zero)) octets = cond (eqb octets macLength) (addressListOf macList) (badHeader 5)
+addressHeader version (suc (suc (suc t))) octets = cond (eqb version 0) (badHeader 4) (addressListOf (unknownList octets))
 
 -- the next Message, EndMark or the PDU's end; a Message's two header octets (3), its type (4), the length of known types (5): one
 -- octet is 3
@@ -59,9 +59,9 @@ runsOut octets first n = not (eqb n 0) && ltb (256 ^ octets - 1) (beAt octets fi
 
 -- of an unknown type "3 [is] the only check"
 unfoldable pub overruns : AddressList → List ℕ → ℕ → Bool
-overruns services first n = runsOut serviceLength first n
-overruns macs first n = runsOut macLength first n
-overruns (unknowns octets) first n = false
+overruns serviceList first n = runsOut serviceLength first n
+overruns macList first n = runsOut macLength first n
+overruns (unknownList octets) first n = false
 
 -- the values of a vector are checked last, and those of one that is passed over not at all
 unfoldable pub addressesChecked : AddressList → List ℕ → ℕ → InList → InList
@@ -118,9 +118,9 @@ allAddresses false = []
 
 -- Service Requirements are "read and dropped", with their LeaveAll, and so are unknown types
 unfoldable pub addressVectorActs : AddressList → AddressVector → List AddressAct
-addressVectorActs services v = []
-addressVectorActs macs v = allAddresses (v .leavesAll) ++ addressValues v 0 (v .values)
-addressVectorActs (unknowns first) v = []
+addressVectorActs serviceList v = []
+addressVectorActs macList v = allAddresses (v .leavesAll) ++ addressValues v 0 (v .values)
+addressVectorActs (unknownList first) v = []
 
 -- The walk.
 
@@ -140,9 +140,9 @@ addressesFrom t s at (vectorHead h) rest = thenList (addressVectorActs t (addres
 addressesFrom t s at (passedOver h) rest = rest (vectorEnd (firstOctets t) false at h)
 
 -- (The first argument bounds the vectors left.)
-unfoldable pub addresses : ℕ → ℕ → AddressList → List ℕ → ℕ → ListWalk
-addresses zero version t s at = listFault 3
-addresses (suc f) version t s at = addressesFrom t s at (addressVectorIn version t s at) (addresses f version t s)
+unfoldable pub addressVectors : ℕ → ℕ → AddressList → List ℕ → ℕ → ListWalk
+addressVectors zero version t s at = listFault 3
+addressVectors (suc f) version t s at = addressesFrom t s at (addressVectorIn version t s at) (addressVectors f version t s)
 
 unfoldable pub thenFrame : List AddressAct → AddressReading → AddressReading
 thenFrame es (refusedFrame n) = refusedFrame n
@@ -157,7 +157,7 @@ afterList (listActs es end) rest = thenFrame es (rest end)
 unfoldable pub addressMessagesFrom : ℕ → List ℕ → ℕ → InAddressPdu → (ℕ → AddressReading) → AddressReading
 addressMessagesFrom version s at (badHeader n) rest = refusedFrame n
 addressMessagesFrom version s at noMessage rest = addressActs []
-addressMessagesFrom version s at (listOf t) rest = afterList (addresses (suc (length s)) version t s (at + 2)) rest
+addressMessagesFrom version s at (addressListOf t) rest = afterList (addressVectors (suc (length s)) version t s (at + 2)) rest
 
 unfoldable pub addressMessages : ℕ → ℕ → List ℕ → ℕ → AddressReading
 addressMessages zero version s at = refusedFrame 3

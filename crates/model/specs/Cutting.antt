@@ -22,12 +22,12 @@ Part [] = ⊥
 Part (x ∷ g) = Shares x g
 
 -- a cutting of a list: parts that, one behind the other, are the list
-abbrev pub joined : List (List ℕ) → List ℕ
-joined [] = []
-joined (g ∷ c) = g ++ joined c
+abbrev pub concat : List (List ℕ) → List ℕ
+concat [] = []
+concat (g ∷ c) = g ++ concat c
 
 abbrev pub Cutting : List ℕ → List (List ℕ) → Type 0
-Cutting l c = (joined c ≡ l) × All Part c
+Cutting l c = (concat c ≡ l) × All Part c
 
 -- "gaps filled with Ignore, none beginning or ending a vector": the values of a part's vector, from its first StreamID to its last
 abbrev pub lastOf : ℕ → List ℕ → ℕ

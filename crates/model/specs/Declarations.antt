@@ -8,9 +8,9 @@ use Rattle.model.specs.FrameLayout.{advertiseLength, domainLength, faile
 use Rattle.model.specs.Lists.{keep, longest}
 use Rattle.model.specs.Applicant.{opportunity, spoken}
 use Rattle.model.specs.Machines.{Heard, Listed, Applicant, noApplicant, applicant}
-use Rattle.model.specs.State.{Settings, Fixed, Health, sound, broken, Varying, Ready, noDomain, Offer, Failure, Sends, Stream, Bridge, cellAt, sendsAt, senderAt, ownAt, slotOf}
+use Rattle.model.specs.State.{Settings, Fixed, TalkerType, talkerAdvertise, talkerFailed, Varying, Ready, noDomain, Offer, Failure, Sends, Stream, Bridge, cellAt, sendsAt, senderAt, ownAt, slotOf}
 use Rattle.model.specs.Registrations.{Kind, advertises, faileds, listeners, Act, talk, listen, leave, hear, ofDomain, joinDomain, leaveDomain, hearDomain, registeredIn, domainStays}
-use Rattle.model.specs.Frames.{Attribute, registers, domain, typeNumber, firstLength, event, Asking, nothingAsked, join, withdraw, asking, heardOf}
+use Rattle.model.specs.Frames.{Attribute, registers, domainType, typeNumber, firstLength, event, Asking, nothingAsked, join, withdraw, asking, heardOf}
 use Rattle.model.specs.Best.{least}
 
 -- a declaration is a join of the neighbour's table
@@ -19,14 +19,14 @@ pub data Declaration : Type 0 where
   listenerDeclaration : (id : ℕ) → Ready → Declaration
   domainDeclaration : (id priority vlan : ℕ) → Declaration
 
-unfoldable pub healthKind : Health → Kind
-healthKind sound = advertises
-healthKind (broken b c) = faileds
+unfoldable pub talkerKind : TalkerType → Kind
+talkerKind talkerAdvertise = advertises
+talkerKind (talkerFailed b c) = faileds
 
 unfoldable pub attributeOf : Declaration → Attribute
-attributeOf (talkerDeclaration id f v) = registers (healthKind (v .health))
+attributeOf (talkerDeclaration id f v) = registers (talkerKind (v .type))
 attributeOf (listenerDeclaration id r) = registers listeners
-attributeOf (domainDeclaration id q v) = domain
+attributeOf (domainDeclaration id q v) = domainType
 
 -- what a neighbour reads of a join
 unfoldable pub joinOf : Declaration → Act
@@ -44,10 +44,10 @@ module _ {A : Type 0} where
   listedAs f (applicant x) = record { state = x .state; value = f (x .value) } ∷ []
 
 unfoldable pub advertiseOf : ℕ → Offer → Declaration
-advertiseOf id o = talkerDeclaration id (o .fixed) record { health = sound; latency = o .latency }
+advertiseOf id o = talkerDeclaration id (o .fixed) record { type = talkerAdvertise; latency = o .latency }
 
 unfoldable pub failedOf : ℕ → Offer × Failure → Declaration
-failedOf id o = talkerDeclaration id (o .0 .fixed) record { health = broken (o .1 .bridge) (o .1 .code); latency = o .0 .latency }
+failedOf id o = talkerDeclaration id (o .0 .fixed) record { type = talkerFailed (o .1 .bridge) (o .1 .code); latency = o .0 .latency }
 
 unfoldable pub declarationsOf : Kind → ℕ → Sends → List (Listed Declaration)
 declarationsOf advertises id s = listedAs (advertiseOf id) (s .advertising)
@@ -81,9 +81,9 @@ registeredOf k p id [] = false
 registeredOf k p id (x ∷ s) = cond (eqb (x .id) id) (registeredIn k (cellAt x p)) (registeredOf k p id s)
 
 unfoldable pub isRegistered : Bridge → ℕ → Declaration → Bool
-isRegistered b p (talkerDeclaration id f v) = registeredOf (healthKind (v .health)) p id (b .streams)
+isRegistered b p (talkerDeclaration id f v) = registeredOf (talkerKind (v .type)) p id (b .streams)
 isRegistered b p (listenerDeclaration id r) = registeredOf listeners p id (b .streams)
-isRegistered b p (domainDeclaration id q v) = domainStays (getD (ownAt (b .own) p .domains) (slotOf id q) noDomain)
+isRegistered b p (domainDeclaration id q v) = domainStays (getD (ownAt (b .owns) p .domains) (slotOf id q) noDomain)
 
 -- A declaration in a PDU, with the number of its event.
 pub record Said : Type 0 where
@@ -96,12 +96,12 @@ say all registered x = record { declaration = x .value; event = spoken (register
 
 -- what a neighbour reads of it: of Registrars what the event asks for, and what an Applicant hears
 unfoldable pub leaveOf : Declaration → Act
-leaveOf (talkerDeclaration id f v) = leave (healthKind (v .health)) id
+leaveOf (talkerDeclaration id f v) = leave (talkerKind (v .type)) id
 leaveOf (listenerDeclaration id r) = leave listeners id
 leaveOf (domainDeclaration id q v) = ofDomain (leaveDomain (slotOf id q))
 
 unfoldable pub hearOf : Declaration → Heard → Act
-hearOf (talkerDeclaration id f v) h = hear (healthKind (v .health)) id h
+hearOf (talkerDeclaration id f v) h = hear (talkerKind (v .type)) id h
 hearOf (listenerDeclaration id r) h = hear listeners id h
 hearOf (domainDeclaration id q v) h = ofDomain (hearDomain (slotOf id q) h)
 
@@ -138,14 +138,14 @@ unfoldable pub vectorSize : Attribute → ℕ
 vectorSize (registers advertises) = 2 + advertiseLength + 1
 vectorSize (registers faileds) = 2 + failedLength + 1
 vectorSize (registers listeners) = 2 + listenerLength + 1 + 1
-vectorSize domain = 2 + domainLength + 1
+vectorSize domainType = 2 + domainLength + 1
 
 -- of all vectors of declarations of one type; of Listeners "no other cutting into vectors takes fewer octets" (02)
 unfoldable pub vectorsSize : Attribute → List Said → ℕ
 vectorsSize (registers advertises) l = length l * vectorSize (registers advertises)
 vectorsSize (registers faileds) l = length l * vectorSize (registers faileds)
 vectorsSize (registers listeners) l = least (declaredIds l)
-vectorsSize domain l = length l * vectorSize domain
+vectorsSize domainType l = length l * vectorSize domainType
 
 -- of their Message, with 4 octets of header and 2 of EndMark. A type with no declaration has no Message; with LeaveAll one of a vector
 -- without values, a header and a FirstValue
@@ -158,7 +158,7 @@ messageSize all k (d ∷ l) = 6 + vectorsSize k (d ∷ l)
 
 -- of the Messages of declarations, one for each type
 unfoldable pub messagesSize : Bool → List Said → ℕ
-messagesSize all l = of (registers advertises) + of (registers faileds) + of (registers listeners) + of domain
+messagesSize all l = of (registers advertises) + of (registers faileds) + of (registers listeners) + of domainType
   where
     of : Attribute → ℕ
     of k = messageSize all k (having k l)

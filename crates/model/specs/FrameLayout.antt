@@ -44,27 +44,16 @@ abbrev pub macLength : ℕ
 macLength = 6
 
 -- Places in a FirstValue: the Unique ID behind the MAC of a StreamID, then a Talker's fields.
-
-abbrev pub firstUnique : ℕ
-firstUnique = 6
-
-abbrev pub firstDestination : ℕ
-firstDestination = before 1 advertiseWidths
-
-abbrev pub firstVlan : ℕ
-firstVlan = before 2 advertiseWidths
-
-abbrev pub firstPriority : ℕ
-firstPriority = before 5 advertiseWidths
-
-abbrev pub firstLatency : ℕ
-firstLatency = before 6 advertiseWidths
-
-abbrev pub firstBridge : ℕ
-firstBridge = before 7 failedWidths
-
-abbrev pub firstCode : ℕ
-firstCode = before 8 failedWidths
+abbrev pub inFirstValue : record { unique : ℕ; destination : ℕ; vlan : ℕ; priority : ℕ; latency : ℕ; bridge : ℕ; code : ℕ }
+inFirstValue = record {
+  unique = 6;
+  destination = before 1 advertiseWidths;
+  vlan = before 2 advertiseWidths;
+  priority = before 5 advertiseWidths;
+  latency = before 6 advertiseWidths;
+  bridge = before 7 failedWidths;
+  code = before 8 failedWidths;
+}
 
 -- the octets of the longest PDU
 abbrev pub longestPdu : ℕ

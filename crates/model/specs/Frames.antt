@@ -7,16 +7,16 @@ use lib.Dec.{ltb, leb, eqb}
 use Rattle.octets.specs.Be.{beAt}
 use Rattle.octets.specs.Fields.{fields}
 use Rattle.octets.specs.Parts.{part}
-use Rattle.model.specs.FrameLayout.{advertiseLength, advertiseWidths, domainLength, domainWidths, failedLength, failedWidths, firstDestination, firstUnique, listenerLength, listenerWidths, longestPdu}
+use Rattle.model.specs.FrameLayout.{advertiseLength, advertiseWidths, domainLength, domainWidths, failedLength, failedWidths, listenerLength, listenerWidths, longestPdu, inFirstValue}
 use Rattle.model.specs.Machines.{Heard, heardIn, heardEmpty, heardLeave}
-use Rattle.model.specs.State.{Fixed, Health, sound, broken, askingFailed, ready, readyFailed, Settings, slotOf}
+use Rattle.model.specs.State.{Fixed, TalkerType, talkerAdvertise, talkerFailed, askingFailed, ready, readyFailed, Settings, slotOf}
 use Rattle.model.specs.Registrations.{Kind, advertises, faileds, listeners, Act, leaveAll, leave, talk, listen, hearAll, hear, ofDomain, leaveAllDomains, leaveDomain, joinDomain, hearAllDomains, hearDomain, Reading, refused, acts}
 
 -- Attribute types (Tables 35-1, 35-2).
 
 pub data Attribute : Type 0 where
   registers : Kind → Attribute
-  domain : Attribute
+  domainType : Attribute
 
 -- what the AttributeType octet says: refused, a type known here, or one of a higher version
 pub data TypeOctet : Type 0 where
@@ -29,7 +29,7 @@ typeOctet version zero = notAllowed
 typeOctet version (suc zero) = known (registers advertises)
 typeOctet version (suc (suc zero)) = known (registers faileds)
 typeOctet version (suc (suc (suc zero))) = known (registers listeners)
-typeOctet version (suc (suc (suc (suc zero)))) = known domain
+typeOctet version (suc (suc (suc (suc zero)))) = known domainType
 typeOctet version (suc (suc (suc (suc (suc t))))) = cond (eqb version 0) notAllowed unknown
 
 -- the octet of a type
@@ -37,20 +37,20 @@ unfoldable pub typeNumber : Attribute → ℕ
 typeNumber (registers advertises) = 1
 typeNumber (registers faileds) = 2
 typeNumber (registers listeners) = 3
-typeNumber domain = 4
+typeNumber domainType = 4
 
 -- the widths of FirstValue's fields, and its octets
 unfoldable pub firstWidths : Attribute → List ℕ
 firstWidths (registers advertises) = advertiseWidths
 firstWidths (registers faileds) = failedWidths
 firstWidths (registers listeners) = listenerWidths
-firstWidths domain = domainWidths
+firstWidths domainType = domainWidths
 
 unfoldable pub firstLength : Attribute → ℕ
 firstLength (registers advertises) = advertiseLength
 firstLength (registers faileds) = failedLength
 firstLength (registers listeners) = listenerLength
-firstLength domain = domainLength
+firstLength domainType = domainLength
 
 -- "one ThreePackedEvents octet per three values or part, and for Listener one FourPackedEvents octet per four or part"
 unfoldable pub threeLength : ℕ → ℕ
@@ -60,7 +60,7 @@ unfoldable pub hasFour : Attribute → Bool
 hasFour (registers advertises) = false
 hasFour (registers faileds) = false
 hasFour (registers listeners) = true
-hasFour domain = false
+hasFour domainType = false
 
 unfoldable pub fourLength : Bool → ℕ → ℕ
 fourLength true n = (n + 3) / 4
@@ -104,10 +104,10 @@ overpacked (o ∷ l) = ltb 215 o || overpacked l
 -- "Value n adds n to Unique ID and destination; for Listener to Unique ID; for Domain to class ID and priority octets": n
 -- more than FirstValue runs past one of these fields
 unfoldable pub runsPast : Attribute → List ℕ → ℕ → Bool
-runsPast (registers listeners) s n = ltb 65535 (beAt 2 s firstUnique + n)
-runsPast (registers advertises) s n = ltb 65535 (beAt 2 s firstUnique + n) || ltb 281474976710655 (beAt 6 s firstDestination + n)
-runsPast (registers faileds) s n = ltb 65535 (beAt 2 s firstUnique + n) || ltb 281474976710655 (beAt 6 s firstDestination + n)
-runsPast domain s n = ltb 255 (getD s 0 0 + n) || ltb 255 (getD s 1 0 + n)
+runsPast (registers listeners) s n = ltb 65535 (beAt 2 s inFirstValue.unique + n)
+runsPast (registers advertises) s n = ltb 65535 (beAt 2 s inFirstValue.unique + n) || ltb 281474976710655 (beAt 6 s inFirstValue.destination + n)
+runsPast (registers faileds) s n = ltb 65535 (beAt 2 s inFirstValue.unique + n) || ltb 281474976710655 (beAt 6 s inFirstValue.destination + n)
+runsPast domainType s n = ltb 255 (getD s 0 0 + n) || ltb 255 (getD s 1 0 + n)
 
 -- a value of the vector runs past its field: the last one does
 unfoldable pub overflows : Vector → Bool
@@ -306,10 +306,10 @@ fixedValue vs n = record {
   rank = rankOf (getD vs 5 0);
 }
 
-unfoldable pub healthValue : Kind → List ℕ → Health
-healthValue advertises vs = sound
-healthValue faileds vs = broken (getD vs 7 0) (getD vs 8 0)
-healthValue listeners vs = sound
+unfoldable pub talkerTypeValue : Kind → List ℕ → TalkerType
+talkerTypeValue advertises vs = talkerAdvertise
+talkerTypeValue faileds vs = talkerFailed (getD vs 7 0) (getD vs 8 0)
+talkerTypeValue listeners vs = talkerAdvertise
 
 unfoldable pub idValue : List ℕ → ℕ → ℕ
 idValue vs n = getD vs 0 0 + n
@@ -324,7 +324,7 @@ hearing id (suc (suc (suc f))) = listen id readyFailed ∷ []
 -- the acts of one value: an attribute's event and, for a Listener, its four-packed event
 unfoldable pub talkerAct : Kind → List ℕ → ℕ → Asking → List Act
 talkerAct k vs n nothingAsked = []
-talkerAct k vs n join = talk (idValue vs n) (fixedValue vs n) record { health = healthValue k vs; latency = getD vs 6 0 } ∷ []
+talkerAct k vs n join = talk (idValue vs n) (fixedValue vs n) record { type = talkerTypeValue k vs; latency = getD vs 6 0 } ∷ []
 talkerAct k vs n withdraw = leave k (idValue vs n) ∷ []
 
 unfoldable pub listenerAct : List ℕ → ℕ → Asking → ℕ → List Act
@@ -376,7 +376,7 @@ valueActs v n = go (v .attribute)
     go (registers advertises) = talkerAct advertises vs n (asking (eventOf v n)) ++ talkerHeard advertises (idValue vs n) (eventOf v n)
     go (registers faileds) = talkerAct faileds vs n (asking (eventOf v n)) ++ talkerHeard faileds (idValue vs n) (eventOf v n)
     go (registers listeners) = listenerAct vs n (asking (eventOf v n)) (fourOf v n) ++ listenerHeard (idValue vs n) (eventOf v n) (fourOf v n)
-    go domain = domainAct vs n (eventOf v n)
+    go domainType = domainAct vs n (eventOf v n)
 
 -- the k values from value n on
 unfoldable pub valuesActs : Vector → ℕ → ℕ → List Act
@@ -387,8 +387,8 @@ valuesActs v n (suc k) = valueActs v n ++ valuesActs v (suc n) k
 unfoldable pub leaveAllActs : Attribute → Bool → List Act
 leaveAllActs (registers k) true = leaveAll k ∷ hearAll k ∷ []
 leaveAllActs (registers k) false = []
-leaveAllActs domain true = ofDomain leaveAllDomains ∷ ofDomain hearAllDomains ∷ []
-leaveAllActs domain false = []
+leaveAllActs domainType true = ofDomain leaveAllDomains ∷ ofDomain hearAllDomains ∷ []
+leaveAllActs domainType false = []
 
 unfoldable pub vectorActs : Vector → List Act
 vectorActs v = leaveAllActs (v .attribute) (v .leavesAll) ++ valuesActs v 0 (v .values)

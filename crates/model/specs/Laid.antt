@@ -5,7 +5,7 @@ use mathlib.Core.List.{List, [], _∷_}
 use Prim.Native.Nat.{ℕ, _≤_, _<_, _^_}
 use lib.ListN.{length}
 use Rattle.octets.specs.Fields.{Fit}
-use Rattle.model.specs.Layout.{addressWidths, addresses, cellWidths, failureWidths, nameWidths, offerWidths, portWidths, priorityBUnit, pruningUnit, resultWidths, slotWidths, slots}
+use Rattle.model.specs.Layout.{addressWidths, cellWidths, failureWidths, nameWidths, offerWidths, portWidths, priorityBUnit, pruningUnit, resultWidths, slotWidths, slots, mostAddresses}
 use Rattle.model.specs.Lists.{All}
 use Rattle.model.specs.Machines.{Applicant, noApplicant, applicant}
 use Rattle.model.specs.State.{Settings, Talker, noTalker, talker, Cell, Address, Own, Result, Offer, Failure, Sends, Sender, Stream, Totals, Bridge}
@@ -64,7 +64,7 @@ Ascending (i ∷ l) = All (λ j. i < j) l × Ascending l
 
 -- the addresses of a port
 pub record FitAddresses (l : List Address) : Type 0 where
-  pub at-most-64 : length l ≤ addresses
+  pub at-most-64 : length l ≤ mostAddresses
   pub each : All (λ a. Fit addressWidths (addressNumbers a)) l
   pub ascending : Ascending (macs l)
 
@@ -92,8 +92,8 @@ pub record FitBridge (b : Bridge) : Type 0 where
   pub clock : b .clock < 2 ^ 32
   pub eight-totals : length (b .totals) ≡ 8
   pub totals : All FitTotals (b .totals)
-  pub eight-own : length (b .own) ≡ 8
-  pub own : All FitOwn (b .own)
+  pub eight-owns : length (b .owns) ≡ 8
+  pub owns : All FitOwn (b .owns)
   pub eight-senders : length (b .senders) ≡ 8
   pub senders : All FitSender (b .senders)
   pub at-most-64 : length (b .streams) ≤ 64

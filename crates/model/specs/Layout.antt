@@ -41,8 +41,8 @@ abbrev pub boundaryWidths : List ℕ
 boundaryWidths = 1 ∷ 1 ∷ []
 
 -- how many addresses a port holds; and one of them: registered, leaving, since, address
-abbrev pub heldWidths : List ℕ
-heldWidths = 1 ∷ []
+abbrev pub addressCountWidths : List ℕ
+addressCountWidths = 1 ∷ []
 
 abbrev pub addressWidths : List ℕ
 addressWidths = 1 ∷ 1 ∷ 4 ∷ 6 ∷ []
@@ -127,15 +127,15 @@ abbrev pub addressSize : ℕ
 addressSize = sum addressWidths
 
 -- "Up to 64 addresses per port"
-abbrev pub addresses : ℕ
-addresses = 64
+abbrev pub mostAddresses : ℕ
+mostAddresses = 64
 
 abbrev pub addressesSize : ℕ
-addressesSize = addresses * addressSize
+addressesSize = mostAddresses * addressSize
 
 -- what a port holds by itself
 abbrev pub ownSize : ℕ
-ownSize = slotsSize + sum boundaryWidths + sum heldWidths + addressesSize
+ownSize = slotsSize + sum boundaryWidths + sum addressCountWidths + addressesSize
 
 abbrev pub ownsSize : ℕ
 ownsSize = 8 * ownSize
@@ -271,11 +271,11 @@ boundaryPlace = slotsSize
 abbrev pub boundaryBPlace : ℕ
 boundaryBPlace = boundaryPlace + before 1 boundaryWidths
 
-abbrev pub heldPlace : ℕ
-heldPlace = boundaryPlace + sum boundaryWidths
+abbrev pub addressCountPlace : ℕ
+addressCountPlace = boundaryPlace + sum boundaryWidths
 
 abbrev pub addressesPlace : ℕ
-addressesPlace = heldPlace + sum heldWidths
+addressesPlace = addressCountPlace + sum addressCountWidths
 
 abbrev pub addressIn : ℕ → ℕ
 addressIn i = addressesPlace + i * addressSize
@@ -501,8 +501,8 @@ declaredPlace = before declaredField resultWidths
 
 -- Fields of a Domain value by their index among its numbers, and their places.
 
-abbrev pub heldField : ℕ
-heldField = 0
+abbrev pub slotRegisteredField : ℕ
+slotRegisteredField = 0
 
 abbrev pub slotLeavesField : ℕ
 slotLeavesField = 1

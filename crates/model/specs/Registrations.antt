@@ -4,11 +4,11 @@ use mathlib.Core.Bool.{Bool, true, false, cond, _&&_}
 use Prim.Native.Nat.{ℕ, zero, suc, _-_}
 use lib.ListN.{length}
 use lib.Dec.{ltb, leb, eqb}
-use Rattle.model.specs.Layout.{addresses}
+use Rattle.model.specs.Layout.{mostAddresses}
 use Rattle.model.specs.Applicant.{Standing, becomes}
 use Rattle.model.specs.Machines.{Applicant, Heard, heardLeave, heardEvent, moved, heard}
 use Rattle.model.specs.LeaveAll.{rLA, leaveAllNext}
-use Rattle.model.specs.State.{Leaving, stays, since, Presence, vacant, present, Address, Fixed, Health, sound, broken, Varying, Registration, Talker, noTalker, talker, Ready, Listener, noListener, listener, Cell, Domain, noDomain, domain, Own, Sends, Sender, Stream, Bridge, fresh, ownAt}
+use Rattle.model.specs.State.{Leaving, stays, since, Presence, vacant, present, Address, Fixed, TalkerType, talkerAdvertise, talkerFailed, Varying, Registration, Talker, noTalker, talker, Ready, Listener, noListener, listener, Cell, Domain, noDomain, domain, Own, Sends, Sender, Stream, Bridge, fresh, ownAt}
 
 -- the AttributeTypes that register a stream
 pub data Kind : Type 0 where
@@ -50,11 +50,11 @@ begin now stays = since now
 begin now (since t) = since t
 
 -- a held Talker is of the AttributeType that it is held as
-unfoldable pub talksAs : Kind → Health → Bool
-talksAs advertises sound = true
-talksAs advertises (broken b c) = false
-talksAs faileds sound = false
-talksAs faileds (broken b c) = true
+unfoldable pub talksAs : Kind → TalkerType → Bool
+talksAs advertises talkerAdvertise = true
+talksAs advertises (talkerFailed b c) = false
+talksAs faileds talkerAdvertise = false
+talksAs faileds (talkerFailed b c) = true
 talksAs listeners h = false
 
 unfoldable pub hearsAs : Kind → Bool
@@ -68,7 +68,7 @@ withLeaving l r = record { fixed = r .fixed; varying = r .varying; firstLatency 
 -- "Lv starts leaving, at the held clock, what is held of that StreamID and type"
 unfoldable pub quitTalker : ℕ → Kind → Talker → Talker
 quitTalker now k noTalker = noTalker
-quitTalker now k (talker r) = talker (withLeaving (cond (talksAs k (r .varying .health)) (begin now (r .leaving)) (r .leaving)) r)
+quitTalker now k (talker r) = talker (withLeaving (cond (talksAs k (r .varying .type)) (begin now (r .leaving)) (r .leaving)) r)
 
 unfoldable pub quitListener : ℕ → Kind → Listener → Listener
 quitListener now k noListener = noListener
@@ -136,7 +136,7 @@ isStaying (since t) = false
 
 unfoldable pub talkerStays : Kind → Talker → Bool
 talkerStays k noTalker = false
-talkerStays k (talker r) = talksAs k (r .varying .health) && isStaying (r .leaving)
+talkerStays k (talker r) = talksAs k (r .varying .type) && isStaying (r .leaving)
 
 unfoldable pub listenerStays : Listener → Bool
 listenerStays noListener = false
@@ -258,20 +258,20 @@ pub record Answer : Type 0 where
   pub bridge : Bridge
 
 unfoldable pub holding : Bridge → List Stream → Bridge
-holding b s = record { settings = b .settings; clock = b .clock; totals = b .totals; own = b .own; senders = b .senders; streams = s }
+holding b s = record { settings = b .settings; clock = b .clock; totals = b .totals; owns = b .owns; senders = b .senders; streams = s }
 
 unfoldable pub owning : Bridge → List Own → Bridge
-owning b o = record { settings = b .settings; clock = b .clock; totals = b .totals; own = o; senders = b .senders; streams = b .streams }
+owning b o = record { settings = b .settings; clock = b .clock; totals = b .totals; owns = o; senders = b .senders; streams = b .streams }
 
 unfoldable pub sending : Bridge → List Sender → Bridge
-sending b l = record { settings = b .settings; clock = b .clock; totals = b .totals; own = b .own; senders = l; streams = b .streams }
+sending b l = record { settings = b .settings; clock = b .clock; totals = b .totals; owns = b .owns; senders = l; streams = b .streams }
 
 -- a frame on port p, numbered from 1; 8: "streams held plus different new ones joined by this PDU exceed 64"
 unfoldable pub received : Bridge → ℕ → Reading → Answer
 received b p (refused n) = record { number = n; bridge = b }
 received b p (acts es) =
     let s = applyAll (b .clock) (p - 1) es (b .streams) in
-    let o = applyOwns (b .clock) (p - 1) es (b .own) in
+    let o = applyOwns (b .clock) (p - 1) es (b .owns) in
     let l = applySenders (b .clock) (p - 1) es (b .senders) in
     cond (leb (length s) 64) record { number = 0; bridge = sending (owning (holding b s) o) l } record { number = 8; bridge = b }
 
@@ -285,13 +285,13 @@ unfoldable pub quitAddress : ℕ → Address → Address
 quitAddress now a = record { mac = a .mac; presence = quitPresence now (a .presence) }
 
 -- an address that was joined last
-unfoldable pub joined : ℕ → Address
-joined m = record { mac = m; presence = present stays }
+unfoldable pub joinedAddress : ℕ → Address
+joinedAddress m = record { mac = m; presence = present stays }
 
 -- joined at its place, and leaving where it is held
 unfoldable pub withJoined : ℕ → List Address → List Address
-withJoined m [] = joined m ∷ []
-withJoined m (a ∷ l) = cond (ltb m (a .mac)) (joined m ∷ a ∷ l) (cond (eqb m (a .mac)) (joined m ∷ l) (a ∷ withJoined m l))
+withJoined m [] = joinedAddress m ∷ []
+withJoined m (a ∷ l) = cond (ltb m (a .mac)) (joinedAddress m ∷ a ∷ l) (cond (eqb m (a .mac)) (joinedAddress m ∷ l) (a ∷ withJoined m l))
 
 unfoldable pub withLeft : ℕ → ℕ → List Address → List Address
 withLeft now m [] = []
@@ -316,8 +316,8 @@ unfoldable pub receivedAddresses : Bridge → ℕ → AddressReading → Answer
 receivedAddresses b p (refusedFrame n) = record { number = n; bridge = b }
 receivedAddresses b p (addressActs es) =
     let u : List Address → List Address = doesAddresses (b .clock) es in
-    cond (leb (length (u (ownAt (b .own) (p - 1) .addresses))) addresses)
-    record { number = 0; bridge = owning b (at (p - 1) (changeAddresses u) (b .own)) }
+    cond (leb (length (u (ownAt (b .owns) (p - 1) .addresses))) mostAddresses)
+    record { number = 0; bridge = owning b (at (p - 1) (changeAddresses u) (b .owns)) }
     record { number = 14; bridge = b }
 
 -- The different StreamIDs of an ascending list and of others.

@@ -5,7 +5,7 @@ use Prim.Native.Nat.{ℕ, suc, _+_, _/_}
 use lib.ListN.{take, drop}
 use lib.Dec.{ltb, leb, eqb}
 use Rattle.model.specs.Lists.{keep, tabulate, countTo}
-use Rattle.model.specs.State.{Port, Settings, Leaving, stays, since, Fixed, Health, sound, broken, Registration, Talker, noTalker, talker, Ready, askingFailed, ready, readyFailed, Listener, noListener, listener, Cell, Domain, noDomain, domain, Presence, vacant, present, Address, Own, Column, none, advertise, failed, Entry, noEntry, filters, forwards, Declared, nothing, tells, Offer, Failure, Sends, Sender, Result, Stream, Totals, Bridge, noFixed, portAt, isPort, cellAt, resultAt, sendsAt, senderAt, ownAt, Class, noClass, classA, classB, classOf, isNoClass, sameClass, supports, inForce, classLatency, classPriority}
+use Rattle.model.specs.State.{Port, Settings, Leaving, stays, since, Fixed, TalkerType, talkerAdvertise, talkerFailed, Registration, Talker, noTalker, talker, Ready, askingFailed, ready, readyFailed, Listener, noListener, listener, Cell, Domain, noDomain, domain, Presence, vacant, present, Address, Own, Column, none, advertise, failed, Entry, noEntry, filters, forwards, Declared, nothing, tells, Offer, Failure, Sends, Sender, Result, Stream, Totals, Bridge, noFixed, portAt, isPort, cellAt, resultAt, sendsAt, senderAt, ownAt, Class, noClass, classA, classB, classOf, isNoClass, sameClass, supports, inForce, classLatency, classPriority}
 use Rattle.model.specs.Machines.{Applicant, noApplicant, applicant, Decided, undeclared, declared, decided}
 use Rattle.model.specs.LeaveAll.{timedOut}
 use Rattle.model.specs.Registrations.{Answer, sameFixed}
@@ -101,9 +101,9 @@ unfoldable pub firstLatencyOf : Source → ℕ
 firstLatencyOf nowhere = 0
 firstLatencyOf (from o) = o .registration .firstLatency
 
-unfoldable pub healthOf : Source → Health
-healthOf nowhere = sound
-healthOf (from o) = o .registration .varying .health
+unfoldable pub talkerTypeOf : Source → TalkerType
+talkerTypeOf nowhere = talkerAdvertise
+talkerTypeOf (from o) = o .registration .varying .type
 
 unfoldable pub streamClass : Settings → Stream → Class
 streamClass st x = classOf st (fixedOf (sourceOf x) .priority)
@@ -139,8 +139,8 @@ anyDomain [] = false
 anyDomain (d ∷ ds) = isDomain d || anyDomain ds
 
 unfoldable pub otherPriority : ℕ → ℕ → List Domain → Bool
-otherPriority own q [] = false
-otherPriority own q (d ∷ ds) = (isDomain d && not (eqb q own)) || otherPriority own (suc q) ds
+otherPriority priority q [] = false
+otherPriority priority q (d ∷ ds) = (isDomain d && not (eqb q priority)) || otherPriority priority (suc q) ds
 
 -- a port's Domain values of a class: class ID 5 before 6
 unfoldable pub domainsOf : Class → List Domain → List Domain
@@ -156,8 +156,8 @@ anySupports c (q ∷ qs) = supports q c || anySupports c qs
 -- of another priority is; any other port where some port declares it
 unfoldable pub isEdge : Settings → ℕ → Class → List Domain → Bool
 isEdge st p c ds =
-    let own = domainsOf c ds in
-    cond (supports (portAt st p) c) (not (anyDomain own) || otherPriority (classPriority st c) 0 own) (anySupports c (st .ports))
+    let values = domainsOf c ds in
+    cond (supports (portAt st p) c) (not (anyDomain values) || otherPriority (classPriority st c) 0 values) (anySupports c (st .ports))
 
 -- a place that is no port has no flag
 unfoldable pub flagOf : Settings → ℕ → Class → List Domain → Bool
@@ -165,13 +165,14 @@ flagOf st p c ds = isPort st p && isEdge st p c ds
 
 -- Addresses: removed as every registration is.
 
-unfoldable pub isPresent : Settings → ℕ → Presence → Bool
-isPresent st now vacant = false
-isPresent st now (present l) = not (expired st now l)
+-- it is registered, and not for so long leaving that the removals end it
+unfoldable pub outlasts : Settings → ℕ → Presence → Bool
+outlasts st now vacant = false
+outlasts st now (present l) = not (expired st now l)
 
 unfoldable pub remainAddresses : Settings → ℕ → List Address → List Address
 remainAddresses st now [] = []
-remainAddresses st now (a ∷ l) = keep (isPresent st now (a .presence)) a (remainAddresses st now l)
+remainAddresses st now (a ∷ l) = keep (outlasts st now (a .presence)) a (remainAddresses st now l)
 
 -- an address that a port holds, "leaving ones included"
 unfoldable pub holdsAddress : ℕ → List Address → Bool
@@ -238,12 +239,12 @@ shares (j ∷ l) i = (ltb (j .id) (i .id) && sameAddressAt (j .source) (i .sourc
 -- comes in.
 pub record Scene : Type 0 where
   pub settings : Settings
-  pub own : List Own
+  pub owns : List Own
   pub inbound : List Inbound
 
 -- of a bridge as it stands
 abbrev pub sceneOf : Bridge → Scene
-sceneOf b = record { settings = b .settings; own = b .own; inbound = inboundsOf (b .streams) }
+sceneOf b = record { settings = b .settings; owns = b .owns; inbound = inboundsOf (b .streams) }
 
 -- The column: "first that applies".
 
@@ -270,18 +271,18 @@ unfoldable pub clear : List Step → Bool
 clear [] = true
 clear (s ∷ l) = not (s .test) && clear l
 
-unfoldable pub isBroken : Health → Bool
-isBroken sound = false
-isBroken (broken b c) = true
+unfoldable pub isTalkerFailed : TalkerType → Bool
+isTalkerFailed talkerAdvertise = false
+isTalkerFailed (talkerFailed b c) = true
 
-unfoldable pub brokenColumn : Health → Column
-brokenColumn sound = none
-brokenColumn (broken b c) = failed b c
+unfoldable pub failedColumn : TalkerType → Column
+failedColumn talkerAdvertise = none
+failedColumn (talkerFailed b c) = failed b c
 
 -- the column that an outcome is; "Own failures carry this Bridge ID"
 unfoldable pub outcomeColumn : Settings → Source → Outcome → Column
 outcomeColumn st s columnNone = none
-outcomeColumn st s asRegistered = brokenColumn (healthOf s)
+outcomeColumn st s asRegistered = failedColumn (talkerTypeOf s)
 outcomeColumn st s (ownFailure code) = failed (st .bridgeId) code
 
 -- talkerPruning (35.2.4.3.1; 02, vi): "With pruning on, a port without the stream's destination gets column none"
@@ -298,13 +299,13 @@ stepsFrom sc p here (from o) =
     let c = classOf st (r .fixed .priority) in
     record { name = stepA; test = eqb p (o .port); outcome = columnNone }
     ∷ record { name = stepB; test = not (supports (portAt st p) c); outcome = columnNone }
-    ∷ record { name = stepN; test = isPruned st (ownAt (sc .own) p) (r .fixed); outcome = columnNone }
-    ∷ record { name = stepC; test = isBroken (r .varying .health); outcome = asRegistered }
+    ∷ record { name = stepN; test = isPruned st (ownAt (sc .owns) p) (r .fixed); outcome = columnNone }
+    ∷ record { name = stepC; test = isTalkerFailed (r .varying .type); outcome = asRegistered }
     ∷ record { name = stepD; test = r .changed; outcome = ownFailure 16 }
     ∷ record { name = stepK; test = ltb (r .firstLatency) (r .varying .latency); outcome = ownFailure 7 }
     ∷ record { name = stepE; test = isTalking here; outcome = ownFailure 4 }
     ∷ record { name = stepF; test = isNoClass c; outcome = ownFailure 13 }
-    ∷ record { name = stepJ; test = boundary (ownAt (sc .own) p) c; outcome = ownFailure 8 }
+    ∷ record { name = stepJ; test = boundary (ownAt (sc .owns) p) c; outcome = ownFailure 8 }
     ∷ []
 
 -- behind them "Test 5, then 15", and g
@@ -496,12 +497,12 @@ unfoldable pub settle : ℕ → Bridge → Bridge
 settle now b =
     let st = b .settings in
     let s = remain st now (b .streams) in
-    let sc : Scene = record { settings = st; own = decideOwns st now (b .own); inbound = inboundsOf s } in
+    let sc : Scene = record { settings = st; owns = decideOwns st now (b .owns); inbound = inboundsOf s } in
     record {
       settings = st;
       clock = now;
       totals = tabulate 8 0 (totalsOn sc now s);
-      own = sc .own;
+      owns = sc .owns;
       senders = tabulate 8 0 (timeSender st now (b .senders));
       streams = dropUnheld (map declare (map (decide sc now s) s));
     }

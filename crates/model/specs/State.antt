@@ -9,7 +9,7 @@ use Rattle.model.specs.Lists.{tabulate}
 use Rattle.model.specs.Machines.{Applicant, noApplicant, born}
 use Rattle.model.specs.LeaveAll.{LeaveAll, begun}
 
--- Settings (01, "Numbers given back": "Settings, fields most significant bit first").
+-- Settings (01, "Numbers given back": "Settings, fields most significant bit first"; 02, ii, vi and x).
 
 pub record Port : Type 0 where
   pub supportsA : Bool
@@ -27,8 +27,11 @@ pub record Settings : Type 0 where
   pub priorityA : ℕ
   pub priorityB : ℕ
   pub leaveTime : ℕ
+  -- "Add talkerPruning (35.2.4.3.1), the top bit of the VLAN setting's two octets" (02, vi)
   pub pruning : Bool
+  -- of the Domain values that each port declares: "with a VLAN from a new setting of two octets after the leave time" (02, ii)
   pub vlan : ℕ
+  -- "Add msrpMaxFanInPorts (0 means no limit; 1 to 8) as one octet of its own before the first port's settings" (02, x)
   pub fanIn : ℕ
   pub ports : List Port
 
@@ -48,13 +51,13 @@ pub record Fixed : Type 0 where
   pub priority : ℕ
   pub rank : ℕ
 
--- what they may: Advertise, or Failed with a Bridge ID and a code; and the accumulated latency
-pub data Health : Type 0 where
-  sound : Health
-  broken : (bridge code : ℕ) → Health
+-- what they may: the type, Talker Advertise, or Talker Failed with a Bridge ID and a code; and the accumulated latency
+pub data TalkerType : Type 0 where
+  talkerAdvertise : TalkerType
+  talkerFailed : (bridge code : ℕ) → TalkerType
 
 pub record Varying : Type 0 where
-  pub health : Health
+  pub type : TalkerType
   pub latency : ℕ
 
 -- what a port has registered of a Talker; 02, v: "Keep with each Talker registration the latency of its first join"
@@ -167,7 +170,7 @@ pub record Bridge : Type 0 where
   pub settings : Settings
   pub clock : ℕ
   pub totals : List Totals
-  pub own : List Own
+  pub owns : List Own
   pub senders : List Sender
   pub streams : List Stream
 
@@ -321,7 +324,7 @@ started st = record {
   settings = st;
   clock = 0;
   totals = replicate 8 noTotals;
-  own = replicate 8 noOwn;
+  owns = replicate 8 noOwn;
   senders = tabulate 8 0 (startedSender st);
   streams = [];
 }

@@ -9,11 +9,11 @@ use lib.Dec.{ltb, leb, eqb}
 use Rattle.octets.specs.Be.{beAt}
 use Rattle.octets.specs.Parts.{part, zeros}
 use Rattle.octets.specs.Fields.{fields, packed, flat}
-use Rattle.model.specs.Layout.{addressSize, addressWidths, addresses, addressesPlace, advertisingPlace, ageField, allSendsPlace, allSendsSize, boundaryBPlace, boundaryPlace, boundaryWidths, bridgeField, cellFields, cellSize, cellWidths, cellsPlace, cellsSize, changedField, clockPlace, clockWidths, codeField, columnField, countPlace, declaredField, domainVlanPlace, entryField, failingPlace, failureCodeField, failureField, fanInPlace, firstLatencyField, fixedField, headWidths, heldField, heldPlace, heldWidths, inAddress, latencyField, latencyOutField, listenerField, listenerLeavesField, listenerPlace, listenerSinceField, listeningPlace, macPlace, nameWidths, ownSize, ownsPlace, ownsSize, portPlace, portSize, portWidths, portsPlace, portsUnit, priorityAUnit, priorityBUnit, priorityField, pruningUnit, recordSize, recordsPlace, resultSize, resultWidths, resultsPlace, resultsSize, senderSize, sendersPlace, sendersSize, sendsSize, settingsSize, settledPriorityPlace, slotLeavesField, slotSinceField, slotSize, slotVlanField, slotWidths, slots, slotsSize, tableLength, talkerField, talkerLeavesField, talkerSinceField, totalBPlace, totalSize, totalsPlace, totalsSize, totalsWidths, wordPlace}
+use Rattle.model.specs.Layout.{addressSize, addressWidths, addressesPlace, advertisingPlace, ageField, allSendsPlace, allSendsSize, boundaryBPlace, boundaryPlace, boundaryWidths, bridgeField, cellFields, cellSize, cellWidths, cellsPlace, cellsSize, changedField, clockPlace, clockWidths, codeField, columnField, countPlace, declaredField, domainVlanPlace, entryField, failingPlace, failureCodeField, failureField, fanInPlace, firstLatencyField, fixedField, headWidths, inAddress, latencyField, latencyOutField, listenerField, listenerLeavesField, listenerPlace, listenerSinceField, listeningPlace, macPlace, nameWidths, ownSize, ownsPlace, ownsSize, portPlace, portSize, portWidths, portsPlace, portsUnit, priorityAUnit, priorityBUnit, priorityField, pruningUnit, recordSize, recordsPlace, resultSize, resultWidths, resultsPlace, resultsSize, senderSize, sendersPlace, sendersSize, sendsSize, settingsSize, settledPriorityPlace, slotLeavesField, slotSinceField, slotSize, slotVlanField, slotWidths, slots, slotsSize, tableLength, talkerField, talkerLeavesField, talkerSinceField, totalBPlace, totalSize, totalsPlace, totalsSize, totalsWidths, wordPlace, addressCountPlace, addressCountWidths, mostAddresses, slotRegisteredField}
 use Rattle.model.specs.Lists.{allTrue, allZero, implies, parts, bit, isOne}
 use Rattle.model.specs.Applicant.{Standing, veryAnxiousPassive, veryAnxiousNew, anxiousNew, anxiousActive, quietActive, leavingActive}
 use Rattle.model.specs.Machines.{Applicant, noApplicant, applicant}
-use Rattle.model.specs.State.{Port, Settings, Leaving, stays, since, Fixed, Health, sound, broken, Registration, Talker, noTalker, talker, Domain, noDomain, domain, Presence, vacant, present, Address, Own, Ready, askingFailed, ready, readyFailed, Listener, noListener, listener, Cell, Column, none, advertise, failed, Entry, noEntry, filters, forwards, Declared, nothing, tells, Result, Sends, Stream, Totals, Bridge, classB, inForce, declaresSlot}
+use Rattle.model.specs.State.{Port, Settings, Leaving, stays, since, Fixed, TalkerType, talkerAdvertise, talkerFailed, Registration, Talker, noTalker, talker, Domain, noDomain, domain, Presence, vacant, present, Address, Own, Ready, askingFailed, ready, readyFailed, Listener, noListener, listener, Cell, Column, none, advertise, failed, Entry, noEntry, filters, forwards, Declared, nothing, tells, Result, Sends, Stream, Totals, Bridge, classB, inForce, declaresSlot}
 use Rattle.model.specs.Settling.{isTalking, isHearing, isAdvertise}
 use Rattle.model.specs.WrittenFrames.{fixedNumbers, fixedFrom, readyNumber, toReady}
 use Rattle.model.specs.Sending.{sendsOctets, toSends, sendsFormed, senderOctets, toSender, senderFormed}
@@ -113,27 +113,27 @@ sinceNumber (since t) = t
 unfoldable pub toLeaving : ℕ → ℕ → Leaving
 toLeaving k t = cond (eqb k 0) stays (since t)
 
-unfoldable pub healthNumber : Health → ℕ
-healthNumber sound = 1
-healthNumber (broken b c) = 2
+unfoldable pub talkerTypeNumber : TalkerType → ℕ
+talkerTypeNumber talkerAdvertise = 1
+talkerTypeNumber (talkerFailed b c) = 2
 
-unfoldable pub bridgeNumber : Health → ℕ
-bridgeNumber sound = 0
-bridgeNumber (broken b c) = b
+unfoldable pub bridgeNumber : TalkerType → ℕ
+bridgeNumber talkerAdvertise = 0
+bridgeNumber (talkerFailed b c) = b
 
-unfoldable pub codeNumber : Health → ℕ
-codeNumber sound = 0
-codeNumber (broken b c) = c
+unfoldable pub codeNumber : TalkerType → ℕ
+codeNumber talkerAdvertise = 0
+codeNumber (talkerFailed b c) = c
 
-unfoldable pub toHealth : ℕ → ℕ → ℕ → Health
-toHealth k b c = cond (eqb k 1) sound (broken b c)
+unfoldable pub toTalkerType : ℕ → ℕ → ℕ → TalkerType
+toTalkerType k b c = cond (eqb k 1) talkerAdvertise (talkerFailed b c)
 
 unfoldable pub talkerNumbers : Talker → List ℕ
 talkerNumbers noTalker = replicate listenerField 0
 talkerNumbers (talker r) =
     let v = r .varying in
-    healthNumber (v .health) ∷ bit (r .changed) ∷ leavingNumber (r .leaving) ∷ sinceNumber (r .leaving)
-    ∷ (fixedNumbers (r .fixed) ++ (v .latency ∷ bridgeNumber (v .health) ∷ codeNumber (v .health) ∷ r .firstLatency ∷ []))
+    talkerTypeNumber (v .type) ∷ bit (r .changed) ∷ leavingNumber (r .leaving) ∷ sinceNumber (r .leaving)
+    ∷ (fixedNumbers (r .fixed) ++ (v .latency ∷ bridgeNumber (v .type) ∷ codeNumber (v .type) ∷ r .firstLatency ∷ []))
 
 unfoldable pub listenerNumbers : Listener → List ℕ
 listenerNumbers noListener = replicate (cellFields - listenerField) 0
@@ -145,7 +145,7 @@ cellNumbers c = talkerNumbers (c .talks) ++ listenerNumbers (c .hears)
 unfoldable pub registrationFrom : List ℕ → Registration
 registrationFrom vs = record {
   fixed = fixedFrom fixedField vs;
-  varying = record { health = toHealth (getD vs talkerField 0) (getD vs bridgeField 0) (getD vs codeField 0); latency = getD vs latencyField 0 };
+  varying = record { type = toTalkerType (getD vs talkerField 0) (getD vs bridgeField 0) (getD vs codeField 0); latency = getD vs latencyField 0 };
   firstLatency = getD vs firstLatencyField 0;
   changed = isOne (getD vs changedField 0);
   leaving = toLeaving (getD vs talkerLeavesField 0) (getD vs talkerSinceField 0);
@@ -420,7 +420,7 @@ domainNumbers (domain v l) = 1 ∷ leavingNumber l ∷ sinceNumber l ∷ v ∷ [
 
 unfoldable pub domainFrom : List ℕ → Domain
 domainFrom vs =
-    cond (eqb (getD vs heldField 0) 0) noDomain
+    cond (eqb (getD vs slotRegisteredField 0) 0) noDomain
     (domain (getD vs slotVlanField 0) (toLeaving (getD vs slotLeavesField 0) (getD vs slotSinceField 0)))
 
 unfoldable pub domainOctets : Domain → List ℕ
@@ -433,9 +433,9 @@ toDomain s = domainFrom (fields slotWidths 0 s)
 unfoldable pub domainRules : ℕ → ℕ → List ℕ → List Bool
 domainRules clock leave vs =
     let at : ℕ → ℕ = λ i. getD vs i 0 in
-    leb (at heldField) 1  -- 31
+    leb (at slotRegisteredField) 1  -- 31
     ∷ leavingRule clock leave (at slotLeavesField) (at slotSinceField)  -- 32
-    ∷ implies (eqb (at heldField) 0) (allZero (at slotLeavesField ∷ at slotSinceField ∷ at slotVlanField ∷ []))  -- 33
+    ∷ implies (eqb (at slotRegisteredField) 0) (allZero (at slotLeavesField ∷ at slotSinceField ∷ at slotVlanField ∷ []))  -- 33
     ∷ []
 
 unfoldable pub domainFormed : ℕ → ℕ → List ℕ → Bool
@@ -477,14 +477,14 @@ unfoldable pub ownOctets : Own → List ℕ
 ownOctets o =
     flat domainOctets (o .domains)
     ++ (packed boundaryWidths (bit (o .boundaryA) ∷ bit (o .boundaryB) ∷ [])
-    ++ (packed heldWidths (length (o .addresses) ∷ [])
-    ++ (flat addressOctets (o .addresses) ++ zeros ((addresses - length (o .addresses)) * addressSize))))
+    ++ (packed addressCountWidths (length (o .addresses) ∷ [])
+    ++ (flat addressOctets (o .addresses) ++ zeros ((mostAddresses - length (o .addresses)) * addressSize))))
 
 unfoldable pub slotsPart : List ℕ → List ℕ
 slotsPart s = part 0 slotsSize s
 
 unfoldable pub addressesHeld : List ℕ → ℕ
-addressesHeld s = getD s heldPlace 0
+addressesHeld s = getD s addressCountPlace 0
 
 unfoldable pub addressesPart : List ℕ → List ℕ
 addressesPart s = drop addressesPlace s
@@ -512,7 +512,7 @@ ownRules clock leave s =
     everyPart slotSize (domainFormed clock leave) slots (slotsPart s)  -- 31 to 33
     ∷ leb (getD s boundaryPlace 0) 1  -- 34
     ∷ leb (getD s boundaryBPlace 0) 1  -- 34
-    ∷ leb n addresses  -- 37
+    ∷ leb n mostAddresses  -- 37
     ∷ everyPart addressSize (addressFormed clock leave) n (addressesPart s)  -- 38, 39
     ∷ rising (parts addressSize macOf n (addressesPart s))  -- 40
     ∷ allZero (drop (n * addressSize) (addressesPart s))  -- 41
@@ -535,7 +535,7 @@ encode b =
     ++ (zeros ((8 - length (b .settings .ports)) * portSize)
     ++ (packed clockWidths (b .clock ∷ length (b .streams) ∷ [])
     ++ (flat totalsOctets (b .totals)
-    ++ (flat ownOctets (b .own)
+    ++ (flat ownOctets (b .owns)
     ++ (flat senderOctets (b .senders)
     ++ (flat streamOctets (b .streams)
     ++ zeros ((64 - length (b .streams)) * recordSize)))))))
@@ -566,7 +566,7 @@ decode t = record {
   settings = toSettings (settingsPart t);
   clock = clockField t;
   totals = parts totalSize toTotals 8 (totalsPart t);
-  own = parts ownSize toOwn 8 (ownsPart t);
+  owns = parts ownSize toOwn 8 (ownsPart t);
   senders = parts senderSize toSender 8 (sendersPart t);
   streams = parts recordSize toStream (countField t) (recordsPart t);
 }

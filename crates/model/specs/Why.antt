@@ -7,7 +7,7 @@ use Rattle.octets.specs.Be.{be}
 use Rattle.model.specs.Lists.{keep}
 use Rattle.model.specs.State.{Settings, Stream, Bridge, Column, none, advertise, failed}
 use Rattle.model.specs.Bandwidth.{Claim, key, above, sort, reserved}
-use Rattle.model.specs.Settling.{Scene, decideOwns, inboundsOf, Source, sourceOf, healthOf, brokenColumn, streamClass, StepName, noStep, stepA, stepB, stepC, stepD, stepE, stepF, stepG, stepH, stepI, stepJ, stepK, stepL, stepM, stepN, Step, steps, claim, claims, limitOn, leftFor}
+use Rattle.model.specs.Settling.{Scene, decideOwns, inboundsOf, Source, sourceOf, talkerTypeOf, failedColumn, streamClass, StepName, noStep, stepA, stepB, stepC, stepD, stepE, stepF, stepG, stepH, stepI, stepJ, stepK, stepL, stepM, stepN, Step, steps, claim, claims, limitOn, leftFor}
 
 -- A step's letter, by its octet in ASCII; 0 for none.
 unfoldable pub letter : StepName → ℕ
@@ -53,7 +53,7 @@ unfoldable pub columnBy : Settings → Source → StepName → Column
 columnBy st s noStep = none
 columnBy st s stepA = none
 columnBy st s stepB = none
-columnBy st s stepC = brokenColumn (healthOf s)
+columnBy st s stepC = failedColumn (talkerTypeOf s)
 columnBy st s stepD = failed (st .bridgeId) 16
 columnBy st s stepE = failed (st .bridgeId) 4
 columnBy st s stepF = failed (st .bridgeId) 13
@@ -117,7 +117,7 @@ reasonOn sc now s p x =
 unfoldable pub sceneNow : Bridge → Scene
 sceneNow b = record {
   settings = b .settings;
-  own = decideOwns (b .settings) (b .clock) (b .own);
+  owns = decideOwns (b .settings) (b .clock) (b .owns);
   inbound = inboundsOf (b .streams);
 }
 

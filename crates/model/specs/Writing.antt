@@ -94,8 +94,8 @@ afterWrite b p place =
       settings = b .settings;
       clock = b .clock;
       totals = b .totals;
-      own = applyOwns (b .clock) p (ownLeaveAll all) (b .own);
-      senders = at p (movedSender f (b .clock) all (ownAt (b .own) p) n) (b .senders);
+      owns = applyOwns (b .clock) p (ownLeaveAll all) (b .owns);
+      senders = at p (movedSender f (b .clock) all (ownAt (b .owns) p) n) (b .senders);
       streams = dropUnheld (applyAll (b .clock) p (ownLeaveAll all) (movedStreams f p s));
     }
 

@@ -9,9 +9,9 @@ use Rattle.octets.specs.Fields.{packed, flat}
 use Rattle.octets.specs.Parts.{zeros}
 use Rattle.model.specs.FrameLayout.{listenerWidths}
 use Rattle.model.specs.Lists.{tabulate, bit}
-use Rattle.model.specs.State.{Fixed, Health, sound, broken, Ready, askingFailed, ready, readyFailed}
+use Rattle.model.specs.State.{Fixed, TalkerType, talkerAdvertise, talkerFailed, Ready, askingFailed, ready, readyFailed}
 use Rattle.model.specs.Registrations.{advertises, faileds, listeners}
-use Rattle.model.specs.Frames.{Attribute, registers, domain, priorityOf, rankOf, typeNumber, firstWidths, firstLength, threeLength, fourLength, Vector}
+use Rattle.model.specs.Frames.{Attribute, registers, domainType, priorityOf, rankOf, typeNumber, firstWidths, firstLength, threeLength, fourLength, Vector}
 use Rattle.model.specs.Cutting.{values}
 use Rattle.model.specs.Best.{best}
 use Rattle.model.specs.Declarations.{Declaration, talkerDeclaration, listenerDeclaration, domainDeclaration, attributeOf, Said, declaredId, declaredIds, having}
@@ -34,13 +34,13 @@ fixedFrom i vs = record {
   rank = rankOf (getD vs (i + 4) 0);
 }
 
-unfoldable pub failureNumbers : Health → List ℕ
-failureNumbers sound = []
-failureNumbers (broken b c) = b ∷ c ∷ []
+unfoldable pub failureNumbers : TalkerType → List ℕ
+failureNumbers talkerAdvertise = []
+failureNumbers (talkerFailed b c) = b ∷ c ∷ []
 
 -- FirstValue's numbers, in fields of `firstWidths`
 unfoldable pub firstNumbers : Declaration → List ℕ
-firstNumbers (talkerDeclaration id f v) = id ∷ (fixedNumbers f ++ (v .latency ∷ failureNumbers (v .health)))
+firstNumbers (talkerDeclaration id f v) = id ∷ (fixedNumbers f ++ (v .latency ∷ failureNumbers (v .type)))
 firstNumbers (listenerDeclaration id r) = id ∷ []
 firstNumbers (domainDeclaration id q v) = id ∷ q ∷ v ∷ []
 
@@ -120,7 +120,7 @@ unfoldable pub vectorsOf : Attribute → List Said → List Vector
 vectorsOf (registers advertises) l = map declarationVector l
 vectorsOf (registers faileds) l = map declarationVector l
 vectorsOf (registers listeners) l = map packedVector (listenerParts l)
-vectorsOf domain l = map declarationVector l
+vectorsOf domainType l = map declarationVector l
 
 unfoldable pub vectorOctets : Vector → List ℕ
 vectorOctets v = be 2 (bit (v .leavesAll) * 8192 + v .values) ++ (v .first ++ (v .three ++ v .four))
@@ -152,4 +152,4 @@ messageOctets k (v ∷ vs) = messageOf k (flat vectorOctets (v ∷ vs) ++ (0 ∷
 unfoldable pub pduOctets : Bool → List Said → List ℕ
 pduOctets all l =
     let of : Attribute → List ℕ = λ k. messageOctets k (vectorsSaid all k (having k l)) in
-    0 ∷ (of (registers advertises) ++ (of (registers faileds) ++ (of (registers listeners) ++ (of domain ++ (0 ∷ 0 ∷ [])))))
+    0 ∷ (of (registers advertises) ++ (of (registers faileds) ++ (of (registers listeners) ++ (of domainType ++ (0 ∷ 0 ∷ [])))))

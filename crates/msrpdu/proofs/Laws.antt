@@ -15,7 +15,7 @@ use Rattle.octets.proofs.Parts.{lent-part}
 use Rattle.model.proofs.Lists.{and-false}
 use Rattle.model.specs.FrameLayout.{domainLength}
 use Rattle.model.specs.Registrations.{advertises, faileds, listeners}
-use Rattle.model.specs.Frames.{Attribute, registers, domain, TypeOctet, notAllowed, unknown, known, typeOctet, firstLength, threeLength, hasFour, vectorEnd, badVector, passedOver, overpacked, runsPast, strangeLeave, strangeVector, vectorIn, listLength, endMark, messageEnd, headerIn, messageIn, threePacked, fourPacked, hasSlot}
+use Rattle.model.specs.Frames.{Attribute, registers, domainType, TypeOctet, notAllowed, unknown, known, typeOctet, firstLength, threeLength, hasFour, vectorEnd, badVector, passedOver, overpacked, runsPast, strangeLeave, strangeVector, vectorIn, listLength, endMark, messageEnd, headerIn, messageIn, threePacked, fourPacked, hasSlot}
 use Rattle.model.specs.Frames as frames
 use Rattle.msrpdu.specs.Reader.{typeRead, pastField, headOf, vectorMeant, vectorRead, strangeRead, firstPart, messageMeant, messageRead, eventMeant, eventIn, fourIn, valueIn, domainIn}
 use Rattle.msrpdu.specs.declared.TypeRead.the-variants.{Known, Skipped, Refused}
@@ -180,7 +180,7 @@ four-is zero k e = let z : _≡_ {A = ℕ} 0 1 = cc in absurd (omega arith)
 four-is (suc zero) k e = let i : registers advertises ≡ k = cc in rw (← i)
 four-is (suc (suc zero)) k e = let i : registers faileds ≡ k = cc in rw (← i)
 four-is (suc (suc (suc zero))) k e = let i : registers listeners ≡ k = cc in rw (← i)
-four-is (suc (suc (suc (suc zero)))) k e = let i : domain ≡ k = cc in rw (← i)
+four-is (suc (suc (suc (suc zero)))) k e = let i : domainType ≡ k = cc in rw (← i)
 four-is (suc (suc (suc (suc (suc n))))) k e = let z : _≡_ {A = ℕ} 0 1 = cc in absurd (omega arith)
 
 -- the places of a vector's head are in order

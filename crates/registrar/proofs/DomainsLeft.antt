@@ -59,13 +59,13 @@ module _ (p now : ℕ) where
 
   -- the bridge of t₀ with them so
   unfoldable pub slotsLeft : List ℕ → ℕ → Bridge
-  slotsLeft t₀ i = owning (decode t₀) (at p (leftTo i) (decode t₀ .own))
+  slotsLeft t₀ i = owning (decode t₀) (at p (leftTo i) (decode t₀ .owns))
 
   module _ (t₀ : List ℕ) (l : Laid t₀) where
     pub none-left : t₀ ≡ encode (slotsLeft t₀ 0)
     unfolding slotsLeft leftTo changeDomains firsts owning
     none-left =
-        laid-is t₀ l ∙ ap (λ (o : List Own). encode (owning (decode t₀) o)) (sym (at-none p (leftTo 0) (λ o. refl) (decode t₀ .own)))
+        laid-is t₀ l ∙ ap (λ (o : List Own). encode (owning (decode t₀) o)) (sym (at-none p (leftTo 0) (λ o. refl) (decode t₀ .owns)))
 
     module _ (small : now < 2 ^ 32) (i : ℕ) (t : List ℕ) (e : t ≡ encode (slotsLeft t₀ i)) where
       left-fits : (o : Own) → FitOwn o → FitOwn (leftTo i o)
@@ -80,8 +80,8 @@ module _ (p now : ℕ) where
       unfolding slotsLeft
       slots-fit =
           let w = laid-fits t₀ l in
-          owning-fits (decode t₀) w (at p (leftTo i) (decode t₀ .own)) (length-at p (leftTo i) (decode t₀ .own) ∙ w .eight-own)
-          (all-changed FitOwn p (leftTo i) (decode t₀ .own) left-fits (w .own))
+          owning-fits (decode t₀) w (at p (leftTo i) (decode t₀ .owns)) (length-at p (leftTo i) (decode t₀ .owns) ∙ w .eight-owns)
+          (all-changed FitOwn p (leftTo i) (decode t₀ .owns) left-fits (w .owns))
 
       pub slot-stands : p < 8 → i < slots → SlotIn t p i
       slot-stands q h = record { laid = encoded-laid (slotsLeft t₀ i) slots-fit t e; port = q; slot = h }
@@ -89,11 +89,11 @@ module _ (p now : ℕ) where
       pub one-left : (y : List ℕ) → y ≡ encode (withSlot p i (quitDomain now) (decode t)) → y ≡ encode (slotsLeft t₀ (i + 1))
       unfolding slotsLeft owning
       one-left y q =
-          let o = decode t₀ .own in
+          let o = decode t₀ .owns in
           q
           ∙ ap (λ (b : Bridge). encode (withSlot p i (quitDomain now) b)) (encoded-read (slotsLeft t₀ i) slots-fit t e)
           ∙ ap (λ (x : List Own). encode (owning (decode t₀) x)) (at-again p (changeDomains (at i (quitDomain now))) (leftTo i) o
-          ∙ at-alike FitOwn p (λ x. changeDomains (at i (quitDomain now)) (leftTo i x)) (leftTo (i + 1)) (λ x w. left-next i x) o (laid-fits t₀ l .own))
+          ∙ at-alike FitOwn p (λ x. changeDomains (at i (quitDomain now)) (leftTo i x)) (leftTo (i + 1)) (λ x w. left-next i x) o (laid-fits t₀ l .owns))
 
 pub slots-left : (p : ℕ) (t u : List ℕ) → Laid t → u ≡ encode (slotsLeft p (decode t .clock) t slots) →
     Walked true p (ofDomain leaveAllDomains ∷ []) t true u
@@ -101,4 +101,4 @@ unfolding slotsLeft
 slots-left p t u l e =
     let now = decode t .clock in
     domain-done p leaveAllDomains t l tt u
-    (e ∙ ap (λ (o : List Own). encode (owning (decode t) o)) (at-alike FitOwn p (leftTo p now slots) (changeDomains (doesDomain now leaveAllDomains)) (left-all p now) (decode t .own) (laid-fits t l .own)))
+    (e ∙ ap (λ (o : List Own). encode (owning (decode t) o)) (at-alike FitOwn p (leftTo p now slots) (changeDomains (doesDomain now leaveAllDomains)) (left-all p now) (decode t .owns) (laid-fits t l .owns)))

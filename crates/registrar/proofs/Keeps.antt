@@ -78,5 +78,5 @@ effect-fits m p a b w f d h =
     holding-fits b w s h (effect-streams-fit (b .clock) p (b .streams) (w .streams) m a f d)
     (rw (effect-ids m (b .clock) p a (b .streams))
     (rising-ascends _ (rising-together (joins (a ∷ [])) (ids (b .streams)) (ascending-rises _ (w .ascending))))) in
-    owning-fits (holding b s) streams (ownEffect m (b .clock) p a (b .own))
-    (own-effect-length m (b .clock) p a (b .own) ∙ w .eight-own) (own-effect-fits (b .clock) (w .clock) m p a f (b .own) (w .own))
+    owning-fits (holding b s) streams (ownEffect m (b .clock) p a (b .owns))
+    (own-effect-length m (b .clock) p a (b .owns) ∙ w .eight-owns) (own-effect-fits (b .clock) (w .clock) m p a f (b .owns) (w .owns))

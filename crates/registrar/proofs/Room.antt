@@ -181,19 +181,19 @@ applied-after-room now p (a ∷ es) s =
 
 -- what is registered, with other streams
 abbrev pub streaming : List Stream → Registered → Registered
-streaming s x = record { streams = s; own = x .own }
+streaming s x = record { streams = s; owns = x .owns }
 
 module _ (now p : ℕ) where
   -- all acts done
   unfoldable pub applied : List Act → Registered → Registered
-  applied es x = record { streams = applyAll now p es (x .streams); own = applyOwns now p es (x .own) }
+  applied es x = record { streams = applyAll now p es (x .streams); owns = applyOwns now p es (x .owns) }
 
   pub room-made : (es : List Act) (x : Registered) → length (applyAll now p es (x .streams)) ≤ 64 →
       run false now p es x ≡ ran (streaming (effects false now p es (x .streams)) x)
   unfolding afterAll
   room-made es x h =
       all-ran false now p es x (rw (same-length now p es (x .streams)) h)
-      ∙ ap (λ (o : List Own). ran record { streams = effects false now p es (x .streams); own = o }) (own-same now p es (x .own))
+      ∙ ap (λ (o : List Own). ran record { streams = effects false now p es (x .streams); owns = o }) (own-same now p es (x .owns))
 
   pub all-applied : (es : List Act) (x : Registered) → length (applyAll now p es (x .streams)) ≤ 64 →
       run true now p es (streaming (effects false now p es (x .streams)) x) ≡ ran (applied es x)
@@ -203,7 +203,7 @@ module _ (now p : ℕ) where
       let e : effects true now p es s ≡ applyAll now p es (x .streams) =
       effects-applied now p es s ∙ applied-after-room now p es (x .streams) in
       all-ran true now p es (streaming s x) (rw e h)
-      ∙ ap₂ (λ (s : List Stream) (o : List Own). ran record { streams = s; own = o }) e (own-applied now p es (x .own))
+      ∙ ap₂ (λ (s : List Stream) (o : List Own). ran record { streams = s; owns = o }) e (own-applied now p es (x .owns))
 
   -- the streams held before and no other have a registration where the first walk stopped
   pub record Lacking (es : List Act) (x : Registered) : Type 0 where

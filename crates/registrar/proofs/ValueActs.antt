@@ -12,10 +12,10 @@ use Rattle.octets.specs.Be.{beAt}
 use Rattle.octets.specs.Fields.{fields}
 use Rattle.octets.proofs.Fields.{beAt-fits}
 use Rattle.model.specs.Registrations.{Kind, advertises, faileds, listeners, Act, leaveAll, leave, talk, listen, ofDomain}
-use Rattle.model.specs.Frames.{registers, firstWidths, firstLength, runsPast, healthValue, idValue, valueActs, talkerAct, listenerAct, hearing, eventOf, fourOf, asking, threePacked, fourPacked, Asking, nothingAsked, join, withdraw}
+use Rattle.model.specs.Frames.{registers, firstWidths, firstLength, runsPast, talkerTypeValue, idValue, valueActs, talkerAct, listenerAct, hearing, eventOf, fourOf, asking, threePacked, fourPacked, Asking, nothingAsked, join, withdraw}
 use Rattle.model.specs.Lists.{Octets}
 use Rattle.model.proofs.Parts.{octets-at, octets-of}
-use Rattle.model.proofs.Valid.{ValidHealth}
+use Rattle.model.proofs.Valid.{ValidTalkerType}
 use Rattle.model.proofs.FoundVectors.{Fits, unique-within, id-fits, talkerValues, fixed-fits, latency-fits, destination-within}
 use Rattle.model.specs.Frames as frames
 use Rattle.msrpdu.specs.Reader.{eventMeant, eventIn, fourIn, streamIdIn}
@@ -180,17 +180,17 @@ destination-fits kind first n v h = destination-of kind first n (v .low) h (runs
 -- a join of it has its values within their fields
 module _ (first : List ℕ) (n four : ℕ) (o : Octets first) where
   fits-talker : (k : Kind) (more : List ℕ) → firstWidths (registers k) ≡ 8 ∷ 6 ∷ 2 ∷ 2 ∷ 2 ∷ 1 ∷ 4 ∷ more →
-      ValidHealth (healthValue k (fields (firstWidths (registers k)) 0 first)) → beAt 6 first 8 + n < 256 ^ 6 →
+      ValidTalkerType (talkerTypeValue k (fields (firstWidths (registers k)) 0 first)) → beAt 6 first 8 + n < 256 ^ 6 →
       runsPast (registers k) first n ≡ false → Fits (talkOf k first n)
   unfolding talkOf talkerValues
   fits-talker k more e h d r = (
     rw (id-is k first n) (id-fits first o n n (omega arith) k r),
     rw e (fixed-fits first o n n (omega arith) more d),
-    record { health = h; latency = rw e (latency-fits first o n n (omega arith) more d) },
+    record { type = h; latency = rw e (latency-fits first o n n (omega arith) more d) },
   )
 
   joins-within : (k : Kind) → runsPast (registers k) first n ≡ false → Fits (joinOf k first four n)
-  unfolding joinOf runsPast healthValue fields firstWidths
+  unfolding joinOf runsPast talkerTypeValue fields firstWidths
   joins-within advertises r =
       fits-talker advertises [] refl tt (destination-within (ltb 65535 (beAt 2 first 6 + n)) (beAt 6 first 8 + n) r) r
   joins-within faileds r =

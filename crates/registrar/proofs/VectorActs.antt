@@ -11,7 +11,7 @@ use borrow.Author.Tests.{ltb-false, le-ltb}
 use Rattle.octets.specs.Be.{beAt}
 use Rattle.octets.specs.Parts.{part}
 use Rattle.model.specs.Registrations.{Act, advertises, faileds, listeners, leaveAll, ofDomain, leaveAllDomains, holding}
-use Rattle.model.specs.Frames.{Attribute, registers, domain, known, typeOctet, threeLength, runsPast, Vector, vectorAt, eventOf, fourOf, valueActs, valuesActs, leaveAllActs, vectorActs}
+use Rattle.model.specs.Frames.{Attribute, registers, domainType, known, typeOctet, threeLength, runsPast, Vector, vectorAt, eventOf, fourOf, valueActs, valuesActs, leaveAllActs, vectorActs}
 use Rattle.model.specs.Laid.{Laid}
 use Rattle.model.proofs.FoundVectors.{Sound, last-within, or-left, or-right}
 use Rattle.model.proofs.Fits.{laid-is, laid-fits}
@@ -46,7 +46,7 @@ domain-leaves kind b e d = rw (e, d)
 pub none-leaves : (k : Attribute) (b : Bool) → b ≡ false → leaveAllActs k b ≡ []
 unfolding leaveAllActs
 none-leaves (registers k) b e = rw e
-none-leaves domain b e = rw e
+none-leaves domainType b e = rw e
 
 pub all-leaves : (kind : ℕ) (b : Bool) → 1 ≤ kind → kind ≤ 3 → b ≡ true → leaveAllActs (attributeAt kind) b ≡ leaveAll (kindAt kind) ∷ []
 unfolding leaveAllActs
@@ -55,8 +55,8 @@ all-leaves kind b p q e = rw (attribute-kind kind p q, e)
 -- it asks for no room
 pub leaves-room : (p : ℕ) (k : Attribute) (b : Bool) (t : List ℕ) → Laid t → Walked false p (leaveAllActs k b) t true t
 unfolding leaveAllActs
-leaves-room p domain false t l = walked-none false p t l
-leaves-room p domain true t l = domain-room p leaveAllDomains t l tt
+leaves-room p domainType false t l = walked-none false p t l
+leaves-room p domainType true t l = domain-room p leaveAllDomains t l tt
 leaves-room p (registers k) false t l = walked-none false p t l
 leaves-room p (registers k) true t l = unfold done effect room holding in (act-done false p (leaveAll k) t tt t l tt (laid-fits t l .at-most-64) (laid-is t l))
 
@@ -93,7 +93,7 @@ unfolding runsPast
 runs-less (registers advertises) s m n h e = less 65535 (beAt 2 s 6) 281474976710655 (beAt 6 s 8) m n h e
 runs-less (registers faileds) s m n h e = less 65535 (beAt 2 s 6) 281474976710655 (beAt 6 s 8) m n h e
 runs-less (registers listeners) s m n h e = le-ltb 65535 (beAt 2 s 6 + n) (omega (arith, ltb-false 65535 (beAt 2 s 6 + m) e))
-runs-less domain s m n h e = less 255 (getD s 0 0) 255 (getD s 1 0) m n h e
+runs-less domainType s m n h e = less 255 (getD s 0 0) 255 (getD s 1 0) m n h e
 
 module _ (version kind : ℕ) (l : List ℕ) (at : ℕ) (w : VectorHead) (low : 1 ≤ kind) (high : kind ≤ 4)
     (e : typedRead version (typeOctet 0 kind) l at ≡ vector.Vector w) where

@@ -147,7 +147,7 @@ module _ (m : Bool) (p : ℕ) (a : Act) (t : List ℕ) where
   pub act-done : OfStream a → (u : List ℕ) → Laid t → Fits a → length done ≤ 64 → u ≡ encode (holding (decode t) done) → Walked m p (a ∷ []) t true u
   unfolding done whole after keeping holding owning
   act-done s u l f h e =
-      let o = decode t .own in
+      let o = decode t .owns in
       whole-done u l f h (e ∙ ap (λ (x : List Own). encode (owning (holding (decode t) done) x)) (sym (own-stays m (decode t .clock) p a s o)))
 
   pub act-stopped : Laid t → 64 < length done → Walked m p (a ∷ []) t false t
@@ -158,7 +158,7 @@ module _ (m : Bool) (p : ℕ) (a : Act) (t : List ℕ) where
 -- A Domain act needs no room.
 
 module _ (p : ℕ) (d : DomainAct) (t : List ℕ) (l : Laid t) (f : FitsDomain d) where
-  pub domain-done : (u : List ℕ) → u ≡ encode (owning (decode t) (at p (changeDomains (doesDomain (decode t .clock) d)) (decode t .own))) →
+  pub domain-done : (u : List ℕ) → u ≡ encode (owning (decode t) (at p (changeDomains (doesDomain (decode t .clock) d)) (decode t .owns))) →
       Walked true p (ofDomain d ∷ []) t true u
   unfolding done whole after effect ownEffect apply reach applyOwn keeping holding owning
   domain-done u e = whole-done true p (ofDomain d) t u l f (laid-fits t l .at-most-64) e

@@ -8,7 +8,7 @@ use lib.Dec.{eqb}
 use Rattle.octets.specs.Be.{beAt}
 use Rattle.octets.specs.Fields.{fields}
 use Rattle.model.specs.Registrations.{Kind, advertises, faileds, listeners, Act, leave, listen, ofDomain, leaveDomain, joinDomain}
-use Rattle.model.specs.Frames.{Attribute, registers, domain, firstWidths, firstLength, runsPast, Vector, Walk, fault, found, frameActs, idValue}
+use Rattle.model.specs.Frames.{Attribute, registers, domainType, firstWidths, firstLength, runsPast, Vector, Walk, fault, found, frameActs, idValue}
 use Rattle.msrpdu.specs.declared.Event.{Event}
 use Rattle.msrpdu.specs.declared.Event.the-variants.{New, JoinIn, In, JoinMt, Mt, Lv, Missing}
 use Rattle.msrpdu.specs.Reader.{eventIn, fourIn}
@@ -33,11 +33,11 @@ actsOf (found vs) = frameActs vs
 
 -- the type of an AttributeType octet, 1 to 4
 unfoldable pub attributeAt : ℕ → Attribute
-attributeAt zero = domain
+attributeAt zero = domainType
 attributeAt (suc zero) = registers advertises
 attributeAt (suc (suc zero)) = registers faileds
 attributeAt (suc (suc (suc zero))) = registers listeners
-attributeAt (suc (suc (suc (suc k)))) = domain
+attributeAt (suc (suc (suc (suc k)))) = domainType
 
 unfoldable pub vectorOf : ℕ → Bool → ℕ → List ℕ → List ℕ → List ℕ → Vector
 vectorOf kind leaves values first three four = record {

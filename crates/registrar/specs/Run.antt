@@ -12,14 +12,14 @@ use Rattle.model.specs.Registrations.{Act, leaveAll, leave, talk, listen, ofDom
 -- what acts change
 pub record Registered : Type 0 where
   pub streams : List Stream
-  pub own : List Own
+  pub owns : List Own
 
 -- of a bridge, and a bridge with it
 abbrev pub registeredOf : Bridge → Registered
-registeredOf b = record { streams = b .streams; own = b .own }
+registeredOf b = record { streams = b .streams; owns = b .owns }
 
 unfoldable pub keeping : Bridge → Registered → Bridge
-keeping b x = owning (holding b (x .streams)) (x .own)
+keeping b x = owning (holding b (x .streams)) (x .owns)
 
 -- what a walk left, stopped or to its end
 pub data Ran : Type 0 where
@@ -53,10 +53,10 @@ ownEffects m now p [] o = o
 ownEffects m now p (a ∷ es) o = ownEffects m now p es (ownEffect m now p a o)
 
 unfoldable pub after : Bool → ℕ → ℕ → Act → Registered → Registered
-after m now p a x = record { streams = effect m now p a (x .streams); own = ownEffect m now p a (x .own) }
+after m now p a x = record { streams = effect m now p a (x .streams); owns = ownEffect m now p a (x .owns) }
 
 unfoldable pub afterAll : Bool → ℕ → ℕ → List Act → Registered → Registered
-afterAll m now p es x = record { streams = effects m now p es (x .streams); own = ownEffects m now p es (x .own) }
+afterAll m now p es x = record { streams = effects m now p es (x .streams); owns = ownEffects m now p es (x .owns) }
 
 -- it stops where there is no room
 unfoldable pub next : Bool → ℕ → ℕ → Act → Registered → Ran

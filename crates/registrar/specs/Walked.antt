@@ -29,7 +29,7 @@ Walked applying p es t r u = Leaves t (runOn applying p es t) r u
 unfoldable pub taken : ℕ → List ℕ → List ℕ → Registered
 taken p pdu t = record {
   streams = applyAll (decode t .clock) p (actsOf (walk pdu)) (decode t .streams);
-  own = applyOwns (decode t .clock) p (actsOf (walk pdu)) (decode t .own);
+  owns = applyOwns (decode t .clock) p (actsOf (walk pdu)) (decode t .owns);
 }
 
 -- from the table t it leaves the table u, and its answer r tells whether it is accepted

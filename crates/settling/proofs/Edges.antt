@@ -14,7 +14,7 @@ use Rattle.model.specs.Layout.{addressWidths, ownSize, slots}
 use Rattle.model.specs.Lists.{All, keep}
 use Rattle.model.specs.State.{Settings, Domain, noDomain, Address, Own, noOwn, Bridge, noPort, portAt, isPort, ownAt, Class, classA, classB, supports}
 use Rattle.model.specs.Registrations.{changeAddresses, changeDomains, macs, owning}
-use Rattle.model.specs.Settling.{expireDomain, isPresent, remainAddresses, domainsOf, anySupports, isEdge, flagOf, decideOwn, decideOwns}
+use Rattle.model.specs.Settling.{expireDomain, outlasts, remainAddresses, domainsOf, anySupports, isEdge, flagOf, decideOwn, decideOwns}
 use Rattle.model.specs.Table.{addressNumbers, toOwn, ownOctets, encode, decode}
 use Rattle.model.specs.Laid.{Ascending, FitAddresses, FitOwn, LaidOwn}
 use Rattle.model.proofs.Lists.{all-getD, all-replicate, all-tabulate}
@@ -82,7 +82,7 @@ module _ (st : Settings) (now : ℕ) where
   those-remain : (P : Address → Type 0) (l : List Address) → All P l → All P (remainAddresses st now l)
   unfolding remainAddresses
   those-remain P [] a = tt
-  those-remain P (x ∷ l) a = go (isPresent st now (x .presence)) (those-remain P l (a .1))
+  those-remain P (x ∷ l) a = go (outlasts st now (x .presence)) (those-remain P l (a .1))
     where
       go : (t : Bool) → All P (remainAddresses st now l) → All P (keep t x (remainAddresses st now l))
       go true ih = (a .0, ih)
@@ -91,7 +91,7 @@ module _ (st : Settings) (now : ℕ) where
   addresses-ascend : (l : List Address) → Ascending (macs l) → Ascending (macs (remainAddresses st now l))
   unfolding macs remainAddresses
   addresses-ascend [] r = tt
-  addresses-ascend (x ∷ l) r = go (isPresent st now (x .presence)) (addresses-ascend l (r .1))
+  addresses-ascend (x ∷ l) r = go (outlasts st now (x .presence)) (addresses-ascend l (r .1))
     where
       go : (t : Bool) → Ascending (macs (remainAddresses st now l)) → Ascending (macs (keep t x (remainAddresses st now l)))
       go true ih = (macs-remain st now (λ j. x .mac < j) l (r .0), ih)
@@ -138,12 +138,12 @@ same-decision st now o r p e = rw e
 flagged-fits : (st : Settings) (p : ℕ) (o : Own) → FitOwn o → FitOwn (flaggedOwn st p o)
 flagged-fits st p o f = record { slotted = f .slotted; domains = f .domains; addresses = f .addresses }
 
-module _ (st : Settings) (now : ℕ) (t : List ℕ) (p : ℕ) (s : PortIn t p) (t₁ : List ℕ) (e₁ : t₁ ≡ encode (withOwn p (expiredOwn st now (ownAt (decode t .own) p)) (decode t))) where
+module _ (st : Settings) (now : ℕ) (t : List ℕ) (p : ℕ) (s : PortIn t p) (t₁ : List ℕ) (e₁ : t₁ ≡ encode (withOwn p (expiredOwn st now (ownAt (decode t .owns) p)) (decode t))) where
   abbrev o : Own
-  o = expiredOwn st now (ownAt (decode t .own) p)
+  o = expiredOwn st now (ownAt (decode t .owns) p)
 
   fits : FitOwn o
-  fits = expired-fits st now (ownAt (decode t .own) p) (own-fits s)
+  fits = expired-fits st now (ownAt (decode t .owns) p) (own-fits s)
 
   pub expired-own-in : PortIn t₁ p
   expired-own-in = record { laid = own-replaced-laid s o fits t₁ e₁; port = s .port }
@@ -151,21 +151,21 @@ module _ (st : Settings) (now : ℕ) (t : List ℕ) (p : ℕ) (s : PortIn t p) (
   read : decode t₁ ≡ withOwn p o (decode t)
   read = encoded-read (withOwn p o (decode t)) (with-own-fits s o fits) t₁ e₁
 
-  here : ownAt (decode t₁ .own) p ≡ o
+  here : ownAt (decode t₁ .owns) p ≡ o
   here =
-      ap (λ (b : Bridge). ownAt (b .own) p) read
-      ∙ unfold owning in getD-set-same (decode t .own) p o noOwn (omega (arith, s .port, laid-fits t (s .laid) .eight-own))
+      ap (λ (b : Bridge). ownAt (b .owns) p) read
+      ∙ unfold owning in getD-set-same (decode t .owns) p o noOwn (omega (arith, s .port, laid-fits t (s .laid) .eight-owns))
 
-  pub decided-octets : decode t .settings ≡ st → (t₂ : List ℕ) → t₂ ≡ encode (withOwn p (flaggedOwn (decode t₁ .settings) p (ownAt (decode t₁ .own) p)) (decode t₁))
-      → t₂ ≡ encode (withOwn p (decideOwn st now (decode t .own) p) (decode t))
+  pub decided-octets : decode t .settings ≡ st → (t₂ : List ℕ) → t₂ ≡ encode (withOwn p (flaggedOwn (decode t₁ .settings) p (ownAt (decode t₁ .owns) p)) (decode t₁))
+      → t₂ ≡ encode (withOwn p (decideOwn st now (decode t .owns) p) (decode t))
   decided-octets k t₂ e₂ =
       let same : decode t₁ .settings ≡ st = ap (λ (b : Bridge). b .settings) read ∙ unfold owning in k in
       e₂
-      ∙ ap (λ (v : Settings). encode (withOwn p (flaggedOwn v p (ownAt (decode t₁ .own) p)) (decode t₁))) same
+      ∙ ap (λ (v : Settings). encode (withOwn p (flaggedOwn v p (ownAt (decode t₁ .owns) p)) (decode t₁))) same
       ∙ ap (λ (x : Own). encode (withOwn p (flaggedOwn st p x) (decode t₁))) here
       ∙ ap (λ (b : Bridge). encode (withOwn p (flaggedOwn st p o) b)) read
-      ∙ ap (λ (x : Own). encode (withOwn p x (withOwn p o (decode t)))) (decided-own st now (decode t .own) p)
-      ∙ unfold owning in ap (λ (l : List Own). encode (owning (decode t) l)) (set-set (decode t .own) p o (decideOwn st now (decode t .own) p))
+      ∙ ap (λ (x : Own). encode (withOwn p x (withOwn p o (decode t)))) (decided-own st now (decode t .owns) p)
+      ∙ unfold owning in ap (λ (l : List Own). encode (owning (decode t) l)) (set-set (decode t .owns) p o (decideOwn st now (decode t .owns) p))
 
 -- Every port.
 

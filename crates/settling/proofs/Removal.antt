@@ -81,8 +81,8 @@ module _ (time : ℕ) (small : time < 2 ^ 32) (b : Bridge) (w : FitBridge b) whe
 
   pub removed-fits : FitBridge (removed time b)
   removed-fits =
-      owning-fits cleared all-cleared-fits (decideOwns (b .settings) time (b .own)) (decisions-eight (b .settings) time (b .own))
-      (decisions-fit (b .settings) time (b .own) (w .own))
+      owning-fits cleared all-cleared-fits (decideOwns (b .settings) time (b .owns)) (decisions-eight (b .settings) time (b .owns))
+      (decisions-fit (b .settings) time (b .owns) (w .owns))
 
 -- the octets after each step
 module _ (t : List ℕ) (l : Laid t) (time : ℕ) (small : time < 2 ^ 32) (t₁ : List ℕ)
@@ -120,9 +120,9 @@ module _ (t : List ℕ) (l : Laid t) (time : ℕ) (small : time < 2 ^ 32) (t₁ 
         pub cleared-laid : Laid t₄
         cleared-laid = encoded-laid (cleared time small (decode t) w) (all-cleared-fits time small (decode t) w) t₄ cleared-is
 
-        pub removed-octets : (t₅ : List ℕ) → t₅ ≡ encode (owning (decode t₄) (decideOwns (decode t₄ .settings) time (decode t₄ .own))) → t₅ ≡ encode (removed time (decode t))
+        pub removed-octets : (t₅ : List ℕ) → t₅ ≡ encode (owning (decode t₄) (decideOwns (decode t₄ .settings) time (decode t₄ .owns))) → t₅ ≡ encode (removed time (decode t))
         removed-octets t₅ e₅ =
             e₅
-            ∙ ap (λ (c : Bridge). encode (owning c (decideOwns (c .settings) time (c .own))))
+            ∙ ap (λ (c : Bridge). encode (owning c (decideOwns (c .settings) time (c .owns))))
             (encoded-read (cleared time small (decode t) w) (all-cleared-fits time small (decode t) w) t₄ cleared-is)
             ∙ unfold holding in refl

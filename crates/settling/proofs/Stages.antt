@@ -80,7 +80,7 @@ unfolding settle holding owning earlyAll
 stages-settle now b h =
     let st = b .settings in
     let s = remain st now (b .streams) in
-    let sc : Scene = record { settings = st; own = decideOwns st now (b .own); inbound = inboundsOf s } in
+    let sc : Scene = record { settings = st; owns = decideOwns st now (b .owns); inbound = inboundsOf s } in
     ap merging-all (admissions-decide sc now s now h)
-    ∙ ap (λ (l : List Stream). record { settings = st; clock = now; totals = tabulate 8 0 (totalsOn sc now s); own = sc .own; streams = l })
+    ∙ ap (λ (l : List Stream). record { settings = st; clock = now; totals = tabulate 8 0 (totalsOn sc now s); owns = sc .owns; streams = l })
     (decided-all sc now s s)

@@ -23,4 +23,4 @@ flaggedOwn st p o = flagged (flagOf st p classA (o .domains)) (flagOf st p class
 abbrev pub removed : ℕ → Bridge → Bridge
 removed now b =
     let c = totalled (replicate 8 noTotals) (clocked now (holding b (remain (b .settings) now (b .streams)))) in
-    owning c (decideOwns (b .settings) now (b .own))
+    owning c (decideOwns (b .settings) now (b .owns))

@@ -67,7 +67,7 @@ fn any_supports(table: &[u8], class: ClassRead) -> bool
 // Whether the Domain values of a class on the port at place p are other than the bridge's; class ID 5 stands before 6.
 fn unmatched(table: &[u8], p: usize, class: ClassRead) -> bool
     requires { ⌜ PortIn (now table) p ⌝ }
-    ensures { λ r. ⌜ r ≡ unmatchedOf (decode (now (table .entry)) .settings) (classShown class) (ownAt (decode (now (table .entry)) .own) p .domains) ⌝ }
+    ensures { λ r. ⌜ r ≡ unmatchedOf (decode (now (table .entry)) .settings) (classShown class) (ownAt (decode (now (table .entry)) .owns) p .domains) ⌝ }
 {
     let own = table::own_at(table, p);
     match class {
@@ -80,7 +80,7 @@ fn unmatched(table: &[u8], p: usize, class: ClassRead) -> bool
 // Whether the port at place p is at the edge of a class's domain; a place that is no port is not.
 pub fn flag(table: &[u8], p: usize, class: ClassRead) -> bool
     requires { ⌜ PortIn (now table) p ⌝ }
-    ensures { λ r. ⌜ r ≡ model.flagOf (decode (now (table .entry)) .settings) p (classShown class) (ownAt (decode (now (table .entry)) .own) p .domains) ⌝ }
+    ensures { λ r. ⌜ r ≡ model.flagOf (decode (now (table .entry)) .settings) p (classShown class) (ownAt (decode (now (table .entry)) .owns) p .domains) ⌝ }
 {
     if table::ports(table) <= p {
         return false;
@@ -103,7 +103,7 @@ fn expire_held(own: &mut [u8], leave: u32, time: u32)
 // The same at place p.
 fn expire_own(table: &mut [u8], p: usize, leave: u32, time: u32)
     requires { ⌜ PortIn (now table) p × (leave ≡ decode (now table) .settings .leaveTime) ⌝ }
-    ensures { λ _. ⌜ now (table .exit) ≡ encode (withOwn p (expiredOwn (decode (now (table .entry)) .settings) time (ownAt (decode (now (table .entry)) .own) p))
+    ensures { λ _. ⌜ now (table .exit) ≡ encode (withOwn p (expiredOwn (decode (now (table .entry)) .settings) time (ownAt (decode (now (table .entry)) .owns) p))
         (decode (now (table .entry)))) ⌝ }
 {
     let a = table::own_in(table, p);
@@ -113,7 +113,7 @@ fn expire_own(table: &mut [u8], p: usize, leave: u32, time: u32)
 // The flags of the port at place p, by the Domain values that it holds.
 fn decide_flags(table: &mut [u8], p: usize)
     requires { ⌜ PortIn (now table) p ⌝ }
-    ensures { λ _. ⌜ now (table .exit) ≡ encode (withOwn p (flaggedOwn (decode (now (table .entry)) .settings) p (ownAt (decode (now (table .entry)) .own) p))
+    ensures { λ _. ⌜ now (table .exit) ≡ encode (withOwn p (flaggedOwn (decode (now (table .entry)) .settings) p (ownAt (decode (now (table .entry)) .owns) p))
         (decode (now (table .entry)))) ⌝ }
 {
     let edge_a = flag(table, p, ClassRead::A);
@@ -125,7 +125,7 @@ fn decide_flags(table: &mut [u8], p: usize)
 // What the port at place p holds by itself: first the removals, then its flags.
 fn decide_own(table: &mut [u8], p: usize, leave: u32, time: u32)
     requires { ⌜ PortIn (now table) p × (leave ≡ decode (now table) .settings .leaveTime) ⌝ }
-    ensures { λ _. ⌜ now (table .exit) ≡ encode (withOwn p (model.decideOwn (decode (now (table .entry)) .settings) time (decode (now (table .entry)) .own) p)
+    ensures { λ _. ⌜ now (table .exit) ≡ encode (withOwn p (model.decideOwn (decode (now (table .entry)) .settings) time (decode (now (table .entry)) .owns) p)
         (decode (now (table .entry)))) ⌝ }
 {
     expire_own(table, p, leave, time);
@@ -136,7 +136,7 @@ fn decide_own(table: &mut [u8], p: usize, leave: u32, time: u32)
 fn decide_owns(table: &mut [u8], time: u32)
     requires { ⌜ Laid (now table) ⌝ }
     ensures { λ _. ⌜ now (table .exit) ≡ encode (owning (decode (now (table .entry)))
-        (model.decideOwns (decode (now (table .entry)) .settings) time (decode (now (table .entry)) .own))) ⌝ }
+        (model.decideOwns (decode (now (table .entry)) .settings) time (decode (now (table .entry)) .owns))) ⌝ }
 {
     let leave = table::leave_time(table);
     let mut place: usize = 0;

@@ -109,7 +109,7 @@ module _ {t : List ℕ} {k : ℕ} (s : Stands t k) where
       unfolding holding
       stream-replaced-scene c =
           ap sceneOf stream-replaced-read
-          ∙ ap (λ (l : List Inbound). record { settings = decode t .settings; own = decode t .own; inbound = l })
+          ∙ ap (λ (l : List Inbound). record { settings = decode t .settings; owns = decode t .owns; inbound = l })
           (inbound-set (decode t .streams) k x (inbound-same x (streamAt k (decode t)) i c))
 
       pub stream-replaced-again : (y : Stream) (v : List ℕ) → v ≡ encode (withStream k y (decode u)) → v ≡ encode (withStream k y (decode t))

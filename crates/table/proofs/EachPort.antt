@@ -64,7 +64,7 @@ module _ {A : Type 0} (f : ℕ → A) (l : List A) where
 module _ (f : ℕ → Own) where
   -- the bridge of t₀ with what its first n places hold decided
   unfoldable pub ownsTo : List ℕ → ℕ → Bridge
-  ownsTo t₀ n = owning (decode t₀) (upTo f (decode t₀ .own) n)
+  ownsTo t₀ n = owning (decode t₀) (upTo f (decode t₀ .owns) n)
 
   module _ (t₀ : List ℕ) (l : Laid t₀) where
     pub no-own-yet : t₀ ≡ encode (ownsTo t₀ 0)
@@ -73,7 +73,7 @@ module _ (f : ℕ → Own) where
 
     pub all-own : (t : List ℕ) → t ≡ encode (ownsTo t₀ 8) → t ≡ encode (owning (decode t₀) (tabulate 8 0 f))
     unfolding ownsTo
-    all-own t e = e ∙ ap (λ (o : List Own). encode (owning (decode t₀) o)) (up-to-eight f (decode t₀ .own) (laid-fits t₀ l .eight-own))
+    all-own t e = e ∙ ap (λ (o : List Own). encode (owning (decode t₀) o)) (up-to-eight f (decode t₀ .owns) (laid-fits t₀ l .eight-owns))
 
     module _ (fits : (q : ℕ) → FitOwn (f q)) (n : ℕ) (h : n < 8) (t : List ℕ) (e : t ≡ encode (ownsTo t₀ n)) where
       w : FitBridge (decode t₀)
@@ -82,8 +82,8 @@ module _ (f : ℕ → Own) where
       owns-fit : FitBridge (ownsTo t₀ n)
       unfolding ownsTo
       owns-fit =
-          let o = decode t₀ .own in
-          owning-fits (decode t₀) w (upTo f o n) (up-to-length f o n (omega (arith, w .eight-own)) ∙ w .eight-own) (up-to-keep f o FitOwn fits (w .own) n)
+          let o = decode t₀ .owns in
+          owning-fits (decode t₀) w (upTo f o n) (up-to-length f o n (omega (arith, w .eight-owns)) ∙ w .eight-owns) (up-to-keep f o FitOwn fits (w .owns) n)
 
       pub own-next-in : PortIn t n
       own-next-in = record { laid = encoded-laid (ownsTo t₀ n) owns-fit t e; port = h }
@@ -95,11 +95,11 @@ module _ (f : ℕ → Own) where
       owns-settings = ap (λ (b : Bridge). b .settings) owns-read ∙ unfold ownsTo owning in refl
 
       -- the next place
-      pub own-next : ownAt (decode t .own) n ≡ ownAt (decode t₀ .own) n
-      own-next = ap (λ (b : Bridge). ownAt (b .own) n) owns-read ∙ unfold ownsTo owning in up-to-here f (decode t₀ .own) n noOwn
+      pub own-next : ownAt (decode t .owns) n ≡ ownAt (decode t₀ .owns) n
+      own-next = ap (λ (b : Bridge). ownAt (b .owns) n) owns-read ∙ unfold ownsTo owning in up-to-here f (decode t₀ .owns) n noOwn
 
       pub one-own-more : (y : List ℕ) → y ≡ encode (withOwn n (f n) (decode t)) → y ≡ encode (ownsTo t₀ (n + 1))
       one-own-more y q =
           q
           ∙ ap (λ (b : Bridge). encode (withOwn n (f n) b)) owns-read
-          ∙ unfold ownsTo owning in rw (add-one n) (ap (λ (o : List Own). encode (owning (decode t₀) o)) (up-to-next f (decode t₀ .own) n noOwn (omega (arith, w .eight-own))))
+          ∙ unfold ownsTo owning in rw (add-one n) (ap (λ (o : List Own). encode (owning (decode t₀) o)) (up-to-next f (decode t₀ .owns) n noOwn (omega (arith, w .eight-owns))))

@@ -129,7 +129,7 @@ module _ (g : Stream → Stream) where
       partly-scene c =
           ap sceneOf partly-read
           ∙ unfold partly holding in
-          ap (λ (i : List Inbound). record { settings = decode t₀ .settings; own = decode t₀ .own; inbound = i }) (firsts-inbound c k (decode t₀ .streams))
+          ap (λ (i : List Inbound). record { settings = decode t₀ .settings; owns = decode t₀ .owns; inbound = i }) (firsts-inbound c k (decode t₀ .streams))
 
       -- a stream that is done
       pub partly-before : (j : ℕ) → j < k → k ≤ length (decode t₀ .streams) → streamAt j (decode t) ≡ g (streamAt j (decode t₀))

@@ -192,7 +192,7 @@ totals-cleared b w =
 
 -- What the ports hold.
 
-owns-laid : (b : Bridge) → encode b ≡ (settingsWhole b ++ (clockAndCount b ++ totalsWhole b)) ++ (flat ownOctets (b .own) ++ recordsWhole b)
+owns-laid : (b : Bridge) → encode b ≡ (settingsWhole b ++ (clockAndCount b ++ totalsWhole b)) ++ (flat ownOctets (b .owns) ++ recordsWhole b)
 owns-laid b = encode-parts b ∙ simp append-assoc
 
 before-owns : (b : Bridge) (w : FitBridge b) → length (settingsWhole b ++ (clockAndCount b ++ totalsWhole b)) ≡ ownsPlace
@@ -205,21 +205,21 @@ module _ (b : Bridge) (w : FitBridge b) (p : ℕ) (h : p < 8) where
   before : List ℕ
   before = settingsWhole b ++ (clockAndCount b ++ totalsWhole b)
 
-  an-own : p < length (b .own)
-  an-own = omega (arith, w .eight-own)
+  an-own : p < length (b .owns)
+  an-own = omega (arith, w .eight-owns)
 
-  pub own-part : part (ownPlace p) ownSize (encode b) ≡ ownOctets (ownAt (b .own) p)
+  pub own-part : part (ownPlace p) ownSize (encode b) ≡ ownOctets (ownAt (b .owns) p)
   unfolding before
   own-part =
       ap (part (ownPlace p) ownSize) (owns-laid b)
-      ∙ part-one ownSize ownOctets ownsPlace before (recordsWhole b) (before-owns b w) (b .own) (fit-whole b w .own) p (ownPlace p) an-own refl noOwn
+      ∙ part-one ownSize ownOctets ownsPlace before (recordsWhole b) (before-owns b w) (b .owns) (fit-whole b w .owns) p (ownPlace p) an-own refl noOwn
 
-  pub own-patch : (o : Own) → patch (ownPlace p) ownSize (ownOctets o) (encode b) ≡ encode (owning b (set (b .own) p o))
+  pub own-patch : (o : Own) → patch (ownPlace p) ownSize (ownOctets o) (encode b) ≡ encode (owning b (set (b .owns) p o))
   unfolding before owning
   own-patch o =
       ap (patch (ownPlace p) ownSize (ownOctets o)) (owns-laid b)
-      ∙ patch-one ownSize ownOctets ownsPlace before (recordsWhole b) (before-owns b w) (b .own) (fit-whole b w .own) p (ownPlace p) an-own refl o
-      ∙ sym (owns-laid (owning b (set (b .own) p o)))
+      ∙ patch-one ownSize ownOctets ownsPlace before (recordsWhole b) (before-owns b w) (b .owns) (fit-whole b w .owns) p (ownPlace p) an-own refl o
+      ∙ sym (owns-laid (owning b (set (b .owns) p o)))
 
 -- The clock replaced, and the number of streams.
 

@@ -93,17 +93,17 @@ module _ {t : List ℕ} {p : ℕ} (s : PortIn t p) where
   b-fits : FitBridge (decode t)
   b-fits = laid-fits t (s .laid)
 
-  an-own : p < length (decode t .own)
-  an-own = omega (arith, b-fits .eight-own, s .port)
+  an-own : p < length (decode t .owns)
+  an-own = omega (arith, b-fits .eight-owns, s .port)
 
-  pub own-fits : FitOwn (ownAt (decode t .own) p)
-  own-fits = all-at FitOwn (decode t .own) (b-fits .own) p noOwn an-own
+  pub own-fits : FitOwn (ownAt (decode t .owns) p)
+  own-fits = all-at FitOwn (decode t .owns) (b-fits .owns) p noOwn an-own
 
-  own-octets-at : part (ownPlace p) ownSize t ≡ ownOctets (ownAt (decode t .own) p)
+  own-octets-at : part (ownPlace p) ownSize t ≡ ownOctets (ownAt (decode t .owns) p)
   own-octets-at = ap (part (ownPlace p) ownSize) (laid-is t (s .laid)) ∙ own-part (decode t) b-fits p (s .port)
 
-  pub own-there : ReadsOwn (part (ownPlace p) ownSize t) (ownAt (decode t .own) p)
-  own-there = reads-own (ownAt (decode t .own) p) own-fits (part (ownPlace p) ownSize t) own-octets-at
+  pub own-there : ReadsOwn (part (ownPlace p) ownSize t) (ownAt (decode t .owns) p)
+  own-there = reads-own (ownAt (decode t .owns) p) own-fits (part (ownPlace p) ownSize t) own-octets-at
 
   module _ (o : Own) where
     pub own-replaced : patch (ownPlace p) ownSize (ownOctets o) t ≡ encode (withOwn p o (decode t))
@@ -111,28 +111,28 @@ module _ {t : List ℕ} {p : ℕ} (s : PortIn t p) where
 
     pub with-own-fits : FitOwn o → FitBridge (withOwn p o (decode t))
     with-own-fits f =
-        owning-fits (decode t) b-fits (set (decode t .own) p o) (length-set (decode t .own) p o ∙ b-fits .eight-own)
-        (all-set FitOwn (decode t .own) p o (b-fits .own) f)
+        owning-fits (decode t) b-fits (set (decode t .owns) p o) (length-set (decode t .owns) p o ∙ b-fits .eight-owns)
+        (all-set FitOwn (decode t .owns) p o (b-fits .owns) f)
 
     pub own-replaced-laid : FitOwn o → (v : List ℕ) → v ≡ encode (withOwn p o (decode t)) → Laid v
     own-replaced-laid f = encoded-laid (withOwn p o (decode t)) (with-own-fits f)
 
   module _ (a : ℕ) (e : a ≡ ownPlace p) where
-    pub lent-own-at : ReadsOwn (take (a + ownSize - a) (drop a t)) (ownAt (decode t .own) p)
+    pub lent-own-at : ReadsOwn (take (a + ownSize - a) (drop a t)) (ownAt (decode t .owns) p)
     lent-own-at = rw (e, lent-part (ownPlace p) ownSize t) own-there
 
     -- by a call that ensures `now (o .exit) ≡ ownOctets (u (toOwn (now (o .entry))))`
     pub left-own-at : (u : Own → Own) (y : List ℕ) → y ≡ ownOctets (u (toOwn (take (a + ownSize - a) (drop a t))))
-        → take a t ++ (y ++ drop (a + ownSize - a) (drop a t)) ≡ encode (withOwn p (u (ownAt (decode t .own) p)) (decode t))
+        → take a t ++ (y ++ drop (a + ownSize - a) (drop a t)) ≡ encode (withOwn p (u (ownAt (decode t .owns) p)) (decode t))
     left-own-at u y q =
         lent-patch a ownSize y t
         ∙ ap (λ (z : List ℕ). patch a ownSize z t) (q ∙ ap (λ (o : Own). ownOctets (u o)) (lent-own-at .is))
-        ∙ rw e (own-replaced (u (ownAt (decode t .own) p)))
+        ∙ rw e (own-replaced (u (ownAt (decode t .owns) p)))
 
 -- A Domain value of the port.
 module _ {t : List ℕ} {p i : ℕ} (s : SlotIn t p i) where
   abbrev own : Own
-  own = ownAt (decode t .own) p
+  own = ownAt (decode t .owns) p
 
   own-fit : FitOwn own
   own-fit = own-fits (port-of-slot s)
@@ -151,7 +151,7 @@ module _ {t : List ℕ} {p i : ℕ} (s : SlotIn t p i) where
   module _ (u : Domain → Domain) where
     -- what is held by itself with the value changed
     with-slot-own : withSlot p i u (decode t) ≡ withOwn p (changeDomains (at i u) own) (decode t)
-    with-slot-own = ap (owning (decode t)) (sym (at-set p (changeDomains (at i u)) (decode t .own) noOwn (an-own (port-of-slot s))))
+    with-slot-own = ap (owning (decode t)) (sym (at-set p (changeDomains (at i u)) (decode t .owns) noOwn (an-own (port-of-slot s))))
 
     pub slot-replaced : patch (slotPlace p i) slotSize (domainOctets (u (getD (own .domains) i noDomain))) t ≡ encode (withSlot p i u (decode t))
     slot-replaced =

@@ -8,10 +8,10 @@ pub use Rattle.model.specs.State.{streamAt, totalsAt}
 use Rattle.model.specs.Registrations.{at, change, changeDomains, holding, owning}
 
 abbrev pub clocked : ℕ → Bridge → Bridge
-clocked now b = record { settings = b .settings; clock = now; totals = b .totals; own = b .own; streams = b .streams }
+clocked now b = record { settings = b .settings; clock = now; totals = b .totals; owns = b .owns; streams = b .streams }
 
 abbrev pub totalled : List Totals → Bridge → Bridge
-totalled ts b = record { settings = b .settings; clock = b .clock; totals = ts; own = b .own; streams = b .streams }
+totalled ts b = record { settings = b .settings; clock = b .clock; totals = ts; owns = b .owns; streams = b .streams }
 
 -- a stream without registrations at place k
 abbrev pub inserted : ℕ → ℕ → Bridge → Bridge
@@ -42,7 +42,7 @@ abbrev pub withTotals : ℕ → Totals → Bridge → Bridge
 withTotals p t b = totalled (set (b .totals) p t) b
 
 abbrev pub withOwn : ℕ → Own → Bridge → Bridge
-withOwn p o b = owning b (set (b .own) p o)
+withOwn p o b = owning b (set (b .owns) p o)
 
 abbrev pub withSlot : ℕ → ℕ → (Domain → Domain) → Bridge → Bridge
-withSlot p i u b = owning b (at p (changeDomains (at i u)) (b .own))
+withSlot p i u b = owning b (at p (changeDomains (at i u)) (b .owns))

@@ -241,7 +241,7 @@ pub fn own_in(table: &[u8], p: usize) -> usize
 
 pub fn own_at(table: &[u8], p: usize) -> &[u8]
     requires { ⌜ PortIn (now table) p ⌝ }
-    ensures { λ r. ⌜ ReadsOwn (now r) (ownAt (decode (now (table .entry)) .own) p) ⌝ }
+    ensures { λ r. ⌜ ReadsOwn (now r) (ownAt (decode (now (table .entry)) .owns) p) ⌝ }
 {
     let a = own_in(table, p);
     let e = a + OWN;

@@ -1,11 +1,11 @@
--- `addresses::find` meets its contract. The invariant: the search from the place k on finds what the whole one finds. Assumes nothing.
+-- `mostAddresses::find` meets its contract. The invariant: the search from the place k on finds what the whole one finds. Assumes nothing.
 use Prim.Native.Nat.{ℕ, _-_, _≤_, _<_}
 use mathlib.Core.Path.{_≡_, refl, sym, ap, _∙_}
 use native.Mathlib.Omega.{arith}
 use borrow.Author.Needs.{needs}
 use mathlib.Core.List.{List}
 use lib.ListN.{length, getD, drop}
-use Rattle.model.specs.Layout.{addresses}
+use Rattle.model.specs.Layout.{mostAddresses}
 use Rattle.model.specs.Registrations.{macs}
 use Rattle.model.specs.Table.{toOwn}
 use Rattle.model.proofs.AddressesKept.{held-macs}
@@ -19,7 +19,7 @@ use Rattle.addresses.proofs.find.Tie as tie
 
 record Looking (s : List ℕ) (mac held k : ℕ) : Type 0 where
   within : k ≤ held
-  few : held ≤ addresses
+  few : held ≤ mostAddresses
   count : held ≡ length (toOwn s .addresses)
   leads : foundAt mac k (drop k (macs (toOwn s .addresses))) ≡ foundAt mac 0 (macs (toOwn s .addresses))
 

@@ -1,10 +1,10 @@
--- `addresses::join` meets its contract. Assumes nothing.
+-- `mostAddresses::join` meets its contract. Assumes nothing.
 use Prim.Native.Nat.{_<_}
 use mathlib.Core.Path.{sym, _∙_}
 use native.Mathlib.Omega.{arith}
 use borrow.Author.Needs.{needs}
-use Rattle.model.specs.Layout.{addresses}
-use Rattle.model.specs.Registrations.{joined, withJoined}
+use Rattle.model.specs.Layout.{mostAddresses}
+use Rattle.model.specs.Registrations.{joinedAddress, withJoined}
 use Rattle.model.specs.Table.{toOwn}
 use Rattle.table.proofs.OwnParts.{laid-own-is, laid-own-fits}
 use Rattle.addresses.proofs.Records.{lent-address, left-address, changed-same}
@@ -23,7 +23,7 @@ returns c =
 there : (c : tie.After-known-told) → HeldAt (c .before .before .before .before .before .before .args .mac) (c .before .k .given .0 .0) (toOwn (c .before .before .before .before .before .before .args .own .now) .addresses)
 there c = held-at _ _ _ (sym (c .before .before .before .find .ensures) ∙ c .before .k .given .1)
 
-few : (c : tie.After-known-told) → c .before .k .given .0 .0 < addresses
+few : (c : tie.After-known-told) → c .before .k .given .0 .0 < mostAddresses
 few c =
     let first = c .before .before .before .before .before .before in
     omega (arith, there c .within, laid-own-fits (first .args .own .now) (first .pre .laid) .addresses .at-most-64)
@@ -40,7 +40,7 @@ returns-2 c =
     let s = first .args .own .now in
     let m = first .args .mac in
     let h = there (c .before .before .before .before) in
-    left-address (toOwn s) (laid-own-fits s (first .pre .laid)) s (laid-own-is s (first .pre .laid)) _ (h .within) (λ a. joined m) _ (c .before .before .register .ensures)
+    left-address (toOwn s) (laid-own-fits s (first .pre .laid)) s (laid-own-is s (first .pre .laid)) _ (h .within) (λ a. joinedAddress m) _ (c .before .before .register .ensures)
     ∙ changed-same (toOwn s) _ (withJoined m) (sym (h .joins))
 
 pub join-spec : {M : Type 1} → statement M

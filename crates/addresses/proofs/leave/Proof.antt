@@ -1,9 +1,9 @@
--- `addresses::leave` meets its contract. Assumes nothing.
+-- `mostAddresses::leave` meets its contract. Assumes nothing.
 use Prim.Native.Nat.{_<_}
 use mathlib.Core.Path.{sym, _∙_}
 use native.Mathlib.Omega.{arith}
 use borrow.Author.Needs.{needs}
-use Rattle.model.specs.Layout.{addresses}
+use Rattle.model.specs.Layout.{mostAddresses}
 use Rattle.model.specs.Registrations.{quitAddress, withLeft}
 use Rattle.model.specs.Table.{toOwn}
 use Rattle.table.proofs.OwnParts.{laid-own-is, laid-own-fits}
@@ -27,7 +27,7 @@ returns c =
 there : (c : tie.After-known-told) → HeldAt (c .before .before .before .before .before .before .args .mac) (c .before .k .given .0 .0) (toOwn (c .before .before .before .before .before .before .args .own .now) .addresses)
 there c = held-at _ _ _ (sym (c .before .before .before .find .ensures) ∙ c .before .k .given .1)
 
-few : (c : tie.After-known-told) → c .before .k .given .0 .0 < addresses
+few : (c : tie.After-known-told) → c .before .k .given .0 .0 < mostAddresses
 few c =
     let first = c .before .before .before .before .before .before in
     omega (arith, there c .within, laid-own-fits (first .args .own .now) (first .pre .0) .addresses .at-most-64)

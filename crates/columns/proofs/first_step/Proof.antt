@@ -34,7 +34,7 @@ supports-read : (c : tie.After-supports) (sc : Scene) → On (c .before .before 
 supports-read c sc w = c .supports .ensures ∙ rw (c .before .port-at .ensures .is, class-read (c .before .before) sc w, w .settings)
 
 edge-read : (c : tie.After-at-edge) (sc : Scene) → On (c .before .before .before .before .before .before .before .before .before .before .before .before .before .before .before .before .before .before) sc
-    → let a = c .before .before .before .before .before .before .before .before .before .before .before .before .before .before .before .before .before .before .before .before .before .before .before .before .args in c .at-edge .result ≡ boundary (ownAt (sc .own) (a .p)) (class sc (a .here .now) (a .said .now) (a .p) (a .t))
+    → let a = c .before .before .before .before .before .before .before .before .before .before .before .before .before .before .before .before .before .before .before .before .before .before .before .before .args in c .at-edge .result ≡ boundary (ownAt (sc .owns) (a .p)) (class sc (a .here .now) (a .said .now) (a .p) (a .t))
 edge-read c sc w = c .at-edge .ensures ∙ edge-is _ _ (w .edges) _ ∙ rw (class-read (c .before .before .before .before .before .before .before .before .before .before .before .before .before .before .before) sc w)
 
 reaches-a : (c : tie.Else1) (sc : Scene) → Reaches c sc from-a

@@ -7,7 +7,7 @@ use borrow.Author.Needs.{needs}
 use borrow.Author.Tests.{not-true, not-false}
 use lib.ListN.{length, take, drop}
 use Rattle.octets.proofs.Parts.{lent-part, length-part}
-use Rattle.model.specs.Frames.{Attribute, registers, domain}
+use Rattle.model.specs.Frames.{Attribute, registers, domainType}
 use Rattle.model.specs.Table.{decode}
 use Rattle.model.specs.Laid.{Laid}
 use Rattle.table.proofs.Header.{laid-few}
@@ -20,7 +20,7 @@ use Rattle.declarations.proofs.write_vectors.Tie as tie
 few-declarers : (j : Attribute) {t : List ℕ} → Laid t → declarers j (decode t) ≤ 64
 unfolding declarers
 few-declarers (registers k) {t} l = laid-few t l
-few-declarers domain l = omega arith
+few-declarers domainType l = omega arith
 
 abbrev Inv-loop : tie.InvT-loop
 Inv-loop table p out₀ attribute size before₀ left₀ at₀ k₀ out before left at k =

@@ -6,7 +6,7 @@ use native.Mathlib.Omega.{arith}
 use borrow.Author.Needs.{needs}
 use lib.ListN.{take, drop}
 use Rattle.model.specs.Registrations.{AddressAct}
-use Rattle.model.specs.AddressFrames.{macs, addressValues, allAddresses}
+use Rattle.model.specs.AddressFrames.{macList, addressValues, allAddresses}
 use Rattle.msrpdu.specs.Reader.{firstPart}
 use Rattle.msrpdu.specs.declared.VectorRead.the-variants.{Vector}
 use Rattle.mmrp.specs.Walked.{vectorOf}
@@ -17,8 +17,8 @@ use Rattle.mmrp.proofs.vector.Statement.{statement}
 use Rattle.mmrp.proofs.vector.Tie as tie
 
 -- the places of the vector are within the PDU
-places : (a : tie.Start) → Within (a .pre .version) macs (a .args .pdu .now) (a .pre .at) (a .args .head)
-places a = within (a .pre .version) macs (a .args .pdu .now) (a .pre .at) (a .args .head) (a .pre .read)
+places : (a : tie.Start) → Within (a .pre .version) macList (a .args .pdu .now) (a .pre .at) (a .args .head)
+places a = within (a .pre .version) macList (a .args .pdu .now) (a .pre .at) (a .args .head) (a .pre .read)
 
 values-requires : tie.Need-values-requires
 values-requires c κs =

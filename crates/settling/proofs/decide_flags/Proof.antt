@@ -23,7 +23,7 @@ returns c =
     let first = c .before .before .before .before .before .before .before .before .before .before .before in
     let b = decode (first .args .table .now) in
     let p = first .args .p in
-    let o = ownAt (b .own) p in
+    let o = ownAt (b .owns) p in
     let x = c .before .before .before .before .before .before .before .before .flag .result in
     let y = c .before .before .before .before .before .before .flag2 .result in
     left-own-at (first .pre) _ (c .before .before .before .before .own-in .ensures .0) (flagged x y) _ (c .before .before .set-flags .ensures)

@@ -18,7 +18,7 @@ use Rattle.settling.proofs.decide_owns.Tie as tie
 
 -- what is decided at each place, from what the table was
 abbrev decision : List ℕ → ℕ → ℕ → Own
-decision t time = decideOwn (decode t .settings) time (decode t .own)
+decision t time = decideOwn (decode t .settings) time (decode t .owns)
 
 abbrev Inv-loop : tie.InvT-loop
 Inv-loop table₀ time leave place₀ table place =
@@ -28,7 +28,7 @@ abbrev μ-loop : tie.MeasureT-loop
 μ-loop table₀ time leave place₀ table place = 8 - place
 
 fits : (t : List ℕ) → Laid t → (time q : ℕ) → FitOwn (decision t time q)
-fits t l time = decision-fits (decode t .settings) time (decode t .own) (laid-fits t l .own)
+fits t l time = decision-fits (decode t .settings) time (decode t .owns) (laid-fits t l .owns)
 
 loop-holds : tie.Need-loop-holds Inv-loop μ-loop
 loop-holds c = (omega arith, c .leave-time .ensures .0, refl, no-own-yet (decision _ (c .before .before .before .args .time)) _ (c .before .before .before .pre))
@@ -58,9 +58,9 @@ loop-again c =
       search needs,
       one-own-more (decision t₀ time) t₀ (first .pre) f (l .place) h (l .table) (l .inv .3) _
           (c .before .before .decide-own .ensures
-          ∙ ap (λ (st : Settings). encode (withOwn (l .place) (decideOwn st time (b .own) (l .place)) b)) (owns-settings (decision t₀ time) t₀ (first .pre) f (l .place) h (l .table) (l .inv .3))
+          ∙ ap (λ (st : Settings). encode (withOwn (l .place) (decideOwn st time (b .owns) (l .place)) b)) (owns-settings (decision t₀ time) t₀ (first .pre) f (l .place) h (l .table) (l .inv .3))
           ∙ ap (λ (o : Own). encode (withOwn (l .place) o b))
-          (same-decision (decode t₀ .settings) time (b .own) (decode t₀ .own) (l .place) (own-next (decision t₀ time) t₀ (first .pre) f (l .place) h (l .table) (l .inv .3)))),
+          (same-decision (decode t₀ .settings) time (b .owns) (decode t₀ .owns) (l .place) (own-next (decision t₀ time) t₀ (first .pre) f (l .place) h (l .table) (l .inv .3)))),
     )
 
 returns : tie.Need-returns Inv-loop μ-loop

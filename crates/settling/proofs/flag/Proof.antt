@@ -16,7 +16,7 @@ returns c =
     let first = c .before .before .before in
     let b = decode (first .args .table .now) in
     let p = first .args .p in
-    sym (no-flag (b .settings) p (classShown (first .args .class)) (ownAt (b .own) p .domains) (omega (arith, c .before .ports .ensures .0, c .if1 .taken)))
+    sym (no-flag (b .settings) p (classShown (first .args .class)) (ownAt (b .owns) p .domains) (omega (arith, c .before .ports .ensures .0, c .if1 .taken)))
 
 returns-2 : tie.Need-returns-2
 returns-2 c =
@@ -26,7 +26,7 @@ returns-2 c =
     let k = classShown (first .args .class) in
     let h : p < length (b .settings .ports) = omega (arith, c .before .before .before .before .before .ports .ensures .0, c .before .before .before .before .if1 .left) in
     let e = sym (ap (λ (q : Port). supports q k) (c .before .before .before .port-at .ensures .is)) ∙ sym (c .before .before .supports .ensures) ∙ c .before .if2 .taken in
-    c .unmatched .ensures ∙ sym (supported-flag (b .settings) p k (ownAt (b .own) p .domains) h e)
+    c .unmatched .ensures ∙ sym (supported-flag (b .settings) p k (ownAt (b .owns) p .domains) h e)
 
 returns-3 : tie.Need-returns-3
 returns-3 c =
@@ -36,7 +36,7 @@ returns-3 c =
     let k = classShown (first .args .class) in
     let h : p < length (b .settings .ports) = omega (arith, c .before .before .before .before .before .ports .ensures .0, c .before .before .before .before .if1 .left) in
     let e = sym (ap (λ (q : Port). supports q k) (c .before .before .before .port-at .ensures .is)) ∙ sym (c .before .before .supports .ensures) ∙ c .before .if2 .left in
-    c .any-supports .ensures ∙ sym (unsupported-flag (b .settings) p k (ownAt (b .own) p .domains) h e)
+    c .any-supports .ensures ∙ sym (unsupported-flag (b .settings) p k (ownAt (b .owns) p .domains) h e)
 
 pub flag-spec : {M : Type 1} → statement M
 flag-spec =

@@ -28,7 +28,7 @@ returns-2 : tie.Need-returns-2
 unfolding classShown classPriority
 returns-2 c =
     let first = c .before .before .before .before .before .before in
-    let ds = ownAt (decode (first .args .table .now) .own) (first .args .p) .domains in
+    let ds = ownAt (decode (first .args .table .now) .owns) (first .args .p) .domains in
     rw (c .before .before .enum-told2 .given .1, ← (a-from ds (own-fits (first .pre) .slotted)), ← (c .before .before .before .before .own-at .ensures .is), ← (c .before .priority-a .ensures))
     (c .unmatched .ensures)
 
@@ -36,7 +36,7 @@ returns-3 : tie.Need-returns-3
 unfolding classShown classPriority
 returns-3 c =
     let first = c .before .before .before .before .before .before in
-    let ds = ownAt (decode (first .args .table .now) .own) (first .args .p) .domains in
+    let ds = ownAt (decode (first .args .table .now) .owns) (first .args .p) .domains in
     rw (c .before .before .enum-told3 .given .1, ← (b-from ds), ← (c .before .before .before .before .own-at .ensures .is), ← (c .before .priority-b .ensures))
     (c .unmatched2 .ensures)
 
