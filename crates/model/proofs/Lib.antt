@@ -63,6 +63,7 @@ pub mod HeldClock
 pub mod Newcomer
 pub mod Opened
 pub mod Examples
+pub mod SendingExamples
 pub mod CuttingExamples
 pub mod FormKept
 pub mod Demand3

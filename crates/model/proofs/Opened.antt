@@ -41,7 +41,7 @@ unfolding Bandwidth.demand Bandwidth.rate Bandwidth.rateOfA Bandwidth.rateOfB Ba
 settlingOpened = tt
 
 sendingOpened : Unit {0}
-unfolding Applicant.to Applicant.by Applicant.afterNew Applicant.passiveLeavingAll Applicant.newLeavingAll Applicant.applicantRow Applicant.applicantColumn Applicant.applicantEntry Applicant.isWritten Applicant.messageNumber Applicant.opportunity Applicant.named Applicant.standing Applicant.becomes Applicant.sent Applicant.speaks Applicant.spoken Applicant.stateOf Applicant.octetOf Applicant.step Applicant.asks Applicant.eventAt LeaveAll.sendsLeaveAll LeaveAll.inapplicable LeaveAll.leaveAllRow LeaveAll.leaveAllColumn LeaveAll.leaveAllEntry LeaveAll.leaveAllNext LeaveAll.isActive LeaveAll.begun LeaveAll.hasRun LeaveAll.timedOut Places.itself Places.each Places.saying Places.reached Places.behind Places.leftBefore Places.writeFrom Places.runs Places.left Machines.otherContent Machines.heardEvent Machines.with Machines.applicantOf Machines.listedOf Machines.after Machines.born Machines.decided Machines.moved Machines.heard Machines.way Sending.standingNumber Sending.toStanding Sending.applicantOctets Sending.toApplicant Sending.applicantFormed Sending.bothOctets Sending.toBoth Sending.bothFormed Sending.offerNumbers Sending.offerFrom Sending.offerOctets Sending.toOffer Sending.failureOctets Sending.toFailure Sending.offerFormed Sending.readyOctets Sending.readyIn Sending.readyFormed Sending.failedFormed Sending.sendsOctets Sending.toSends Sending.sendsFormed Sending.domainApplicant Sending.toDomainApplicant Sending.activeNumber Sending.toActive Sending.leaveAllOctets Sending.toLeaveAll Sending.senderOctets Sending.toSender Sending.domainStanding Sending.slotsStanding Sending.leaveAllFormed Sending.senderFormed Writing.leavesAll Writing.portWay Writing.sayOn Writing.takesOn Writing.wroteOn Writing.endOn Writing.movedAt Writing.machines Writing.machinesOf Writing.movedKind Writing.movedStreams Writing.movedSlots Writing.movedSender Writing.ownLeaveAll Writing.afterWrite Writing.write State.noSends State.noSender State.sendsAt State.senderAt State.slotOf State.isOwnSlot State.declaresSlot State.startedSender Registrations.moveKind Registrations.hears Registrations.moves Registrations.isStaying Registrations.talkerStays Registrations.listenerStays Registrations.domainStays Registrations.registeredIn Registrations.hearsLeaveAll Registrations.movesSender Registrations.applySenders Registrations.sending Frames.heardOf Frames.talkerHeard Frames.listenerHeard Frames.slotHeard Settling.isApplicant Settling.isSending Settling.anySending Settling.isHeld Settling.dropUnheld Settling.advertisedBy Settling.failedBy Settling.listenedBy Settling.sameOffer Settling.sameFailed Settling.declareSends Settling.declare Settling.timeSender Declarations.listedAs Declarations.advertiseOf Declarations.failedOf Declarations.registeredOf Declarations.isRegistered Declarations.say Declarations.leaveOf Declarations.hearOf Declarations.askedOf Declarations.saidActs Declarations.emptySize WrittenFrames.fixedFrom WrittenFrames.toReady WrittenFrames.eventSaid WrittenFrames.withLeaveAll WrittenFrames.emptyVector WrittenFrames.leavingAll WrittenFrames.vectorsSaid Table.allSendsPart Table.sends Table.isStanding Table.stands Table.isFailed Table.alike Table.sentRules Table.sentFormed Table.sendersPart Table.sendersFormed Lists.allZero
+unfolding Applicant.to Applicant.by Applicant.afterNew Applicant.passiveLeavingAll Applicant.newLeavingAll Applicant.applicantRow Applicant.applicantColumn Applicant.applicantEntry Applicant.isWritten Applicant.messageNumber Applicant.opportunity Applicant.named Applicant.standing Applicant.becomes Applicant.sent Applicant.speaks Applicant.spoken Applicant.stateOf Applicant.octetOf Applicant.step Applicant.asks Applicant.eventAt LeaveAll.starting LeaveAll.sendsLeaveAll LeaveAll.inapplicable LeaveAll.leaveAllRow LeaveAll.leaveAllColumn LeaveAll.leaveAllEntry LeaveAll.leaveAllNext LeaveAll.isActive LeaveAll.begun LeaveAll.hasRun LeaveAll.timedOut Places.itself Places.each Places.saying Places.reached Places.behind Places.leftBefore Places.writeFrom Places.runs Places.left Machines.otherContent Machines.heardEvent Machines.with Machines.applicantOf Machines.listedOf Machines.after Machines.born Machines.decided Machines.moved Machines.heard Machines.way Sending.standingNumber Sending.toStanding Sending.applicantOctets Sending.toApplicant Sending.applicantFormed Sending.bothOctets Sending.toBoth Sending.bothFormed Sending.offerNumbers Sending.offerFrom Sending.offerOctets Sending.toOffer Sending.failureOctets Sending.toFailure Sending.offerFormed Sending.readyOctets Sending.readyIn Sending.readyFormed Sending.failedFormed Sending.sendsOctets Sending.toSends Sending.sendsFormed Sending.domainApplicant Sending.toDomainApplicant Sending.activeNumber Sending.toActive Sending.leaveAllOctets Sending.toLeaveAll Sending.senderOctets Sending.toSender Sending.domainStanding Sending.slotsStanding Sending.leaveAllFormed Sending.senderFormed Writing.leavesAll Writing.portWay Writing.sayOn Writing.takesOn Writing.wroteOn Writing.endOn Writing.movedAt Writing.machines Writing.machinesOf Writing.movedKind Writing.movedStreams Writing.movedSlots Writing.movedSender Writing.ownLeaveAll Writing.afterWrite Writing.write State.noSends State.noSender State.sendsAt State.senderAt State.slotOf State.isOwnSlot State.declaresSlot State.startedSender Registrations.moveKind Registrations.hears Registrations.moves Registrations.isStaying Registrations.talkerStays Registrations.listenerStays Registrations.domainStays Registrations.registeredIn Registrations.hearsLeaveAll Registrations.movesSender Registrations.applySenders Registrations.sending Frames.heardOf Frames.talkerHeard Frames.listenerHeard Frames.slotHeard Settling.isApplicant Settling.isSending Settling.anySending Settling.isHeld Settling.dropUnheld Settling.advertisedBy Settling.failedBy Settling.listenedBy Settling.sameOffer Settling.sameFailed Settling.declareSends Settling.declare Settling.timeSender Declarations.listedAs Declarations.advertiseOf Declarations.failedOf Declarations.registeredOf Declarations.isRegistered Declarations.say Declarations.leaveOf Declarations.hearOf Declarations.askedOf Declarations.saidActs Declarations.emptySize WrittenFrames.fixedFrom WrittenFrames.toReady WrittenFrames.eventSaid WrittenFrames.withLeaveAll WrittenFrames.emptyVector WrittenFrames.leavingAll WrittenFrames.vectorsSaid Table.allSendsPart Table.sends Table.isStanding Table.stands Table.isFailed Table.alike Table.sentRules Table.sentFormed Table.sendersPart Table.sendersFormed Lists.allZero
 sendingOpened = tt
 
 unfoldable pub opened : Unit {0}
