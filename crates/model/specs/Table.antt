@@ -574,7 +574,12 @@ decode t = record {
 unfoldable pub idOf : List ℕ → ℕ
 idOf s = beAt 8 s 0
 
--- what a class total may be: the limit in force, where some stream is held and the port supports the class
+-- some stream of the first n records has a registration
+unfoldable pub anyHolds : ℕ → ℕ → List ℕ → Bool
+anyHolds ports zero s = false
+anyHolds ports (suc n) s = holds ports (cellsPart (take recordSize s)) || anyHolds ports n (drop recordSize s)
+
+-- what a class total may be: the limit in force, where some stream has a registration and the port supports the class
 unfoldable pub atMost : Bool → Bool → ℕ → ℕ
 atMost some supports limit = cond (some && supports) limit 0
 
@@ -598,7 +603,7 @@ tableRules t =
     let n = countField t in
     allTrue (settingsRules s)  -- 2 to 5
     ∷ allZero (drop (portPlace (portsField s)) s)  -- 6
-    ∷ totalsWithin (leb 1 n) (parts totalSize toTotals 8 (totalsPart t)) (toSettings s .ports)  -- 7, 29
+    ∷ totalsWithin (anyHolds (portsField s) n (recordsPart t)) (parts totalSize toTotals 8 (totalsPart t)) (toSettings s .ports)  -- 7, 29
     ∷ everyPart ownSize (ownFormed (clockField t) (toSettings s .leaveTime)) (portsField s) (ownsPart t)  -- 31 to 34, 37 to 41
     ∷ allZero (drop (portsField s * ownSize) (ownsPart t))  -- 35
     ∷ sendersFormed (toSettings s) (clockField t) 0 (portsField s) (sendersPart t)  -- 48 to 50
