@@ -12,6 +12,10 @@ pub mod Demand3
 pub mod AfterAdvance
 pub mod Untouched
 pub mod Pruning
+pub mod OwnCodes
+pub mod Boundaries
+pub mod Growth
+pub mod FanIn
 pub mod Reasons
 pub mod Passing
 pub mod Worked

@@ -5,16 +5,17 @@ use mathlib.Core.Bool.{Bool, true, false, cond, not}
 use mathlib.Core.Logic.{_⊎_, ⊎-elim}
 use Prim.Native.Nat.{ℕ, _/_, _≤_, _<_}
 use native.Mathlib.Omega.{arith}
-use lib.ListN.{length, getD}
+use lib.ListN.{length, getD, set}
+use lib.Seq.{getD-set-same}
 use lib.Dec.{eqb, ltb}
 use borrow.Author.Tests.{ne-eqb, lt-ltb, le-ltb}
 use Rattle.octets.specs.Be.{beAt}
 use Rattle.octets.specs.Fields.{fields}
 use Rattle.model.specs.Layout.{changedPlace, firstLatencyPlace, inPort, latencyPlace, priorityPlace}
 use Rattle.model.specs.Lists.{isOne}
-use Rattle.model.specs.State.{Bridge, Port, Fixed, talkerAdvertise, talkerFailed, Own, Stream, Class, noClass, classA, classB, portAt, isPort, cellAt, ownAt, classOf, isNoClass, supports}
+use Rattle.model.specs.State.{Bridge, Port, talkerAdvertise, talkerFailed, Own, Stream, Class, noClass, classA, classB, noOwn, portAt, isPort, cellAt, ownAt, classOf, isNoClass, supports}
 use Rattle.model.specs.Frames.{priorityOf}
-use Rattle.model.specs.Settling.{Scene, sceneOf, Inbound, boundary, sourceOf, fixedOf, isTalking, isTalkerFailed, isPruned, inboundOf, shares, isKeptOut, StepName, stepA, stepB, stepC, stepD, stepE, stepF, stepG, stepI, stepJ, stepK, stepL, stepM, stepN, Step, stepsFrom, lastSteps, steps}
+use Rattle.model.specs.Settling.{Scene, sceneOf, Inbound, boundary, sourceOf, fixedOf, isTalking, isTalkerFailed, isPruned, inboundOf, inboundsOf, shares, isKeptOut, StepName, stepA, stepB, stepC, stepD, stepE, stepF, stepG, stepI, stepJ, stepK, stepL, stepM, stepN, Step, stepsFrom, lastSteps, steps}
 use Rattle.model.specs.Table.{toPort, toCell, registrationFrom, toTalkerType, portFrom}
 use Rattle.model.specs.Why.{letter, sameStep, firstName}
 use Rattle.model.proofs.SettingsOctets.{octet-field}
@@ -23,7 +24,6 @@ use Rattle.streams.specs.Answers.{sourceIn}
 use Rattle.streams.proofs.Sources.{no-talker, a-talker}
 use Rattle.fanin.specs.Failures.{commonFailure}
 use Rattle.columns.specs.declared.Edges.{Edges}
-use Rattle.columns.specs.declared.OwnRead.{OwnRead}
 use Rattle.columns.specs.declared.Step as declared
 use Rattle.columns.specs.declared.Step.the-variants.{None, A, B, C, D, E, F, G, H, I, J, K, L, M, N}
 use Rattle.columns.specs.Answers.{sizePlace}
@@ -190,6 +190,16 @@ module _ (sc : Scene) (p : ℕ) (x : Stream) (h : p < length (sc .settings .port
       ∙ last-steps sc p x common g ∙ rw q
 
 -- the own failure on every port is that in any scene of the bridge
-pub same-failure : {b : Bridge} {p : ℕ} {f : Fixed} {o : OwnRead} {sc : Scene} (i : Inbound) (common : ℕ) → SceneOn b p f o sc → common ≡ commonFailure (sceneOf b) i → common ≡ commonFailure sc i
+pub same-failure : {b : Bridge} {p : ℕ} {e : Edges} {sc : Scene} (i : Inbound) (common : ℕ) → SceneOn b p e sc → common ≡ commonFailure (sceneOf b) i → common ≡ commonFailure sc i
 unfolding commonFailure
 same-failure i common w e = rw (w .settings, w .inbound) e
+
+-- whatever the flags, there is a scene of the bridge with them, so that the step named is one for every input
+abbrev flagged : Edges → Own → Own
+flagged e o = record { domains = o .domains; boundaryA = e .a; boundaryB = e .b; addresses = o .addresses }
+
+pub some-scene : (b : Bridge) (p : ℕ) (e : Edges) → p < length (b .owns)
+    → SceneOn b p e record { settings = b .settings; owns = set (b .owns) p (flagged e (ownAt (b .owns) p)); inbound = inboundsOf (b .streams) }
+some-scene b p e h =
+    let there = getD-set-same (b .owns) p (flagged e (ownAt (b .owns) p)) noOwn h in
+    record { settings = refl; inbound = refl; edges = rw there record { in-a = refl; in-b = refl }; addresses = rw there }

@@ -1,5 +1,5 @@
--- What the cell at a stream's Talker port says in fields that are zero without a Talker: latency, destination, MaxFrameSize,
--- priority, and the fixed values' octets.
+-- What the cell at a stream's Talker port says in fields that are zero without a Talker: latency, MaxFrameSize, priority, and the
+-- fixed values' octets.
 use mathlib.Core.Path.{_≡_, refl, sym, ap, _∙_}
 use mathlib.Core.List.{List}
 use mathlib.Core.Bool.{Bool, true, false, false≢true, true≢false}
@@ -14,7 +14,7 @@ use Rattle.octets.specs.Fields.{fields, packed, width}
 use Rattle.octets.proofs.Fields.{fields-of-packed, length-fit, part-run}
 use Rattle.model.specs.Layout.{bridgePlace, cellWidths, codePlace, fixedField, fixedPlace, fixedSize, fixedWidths, latencyField, latencyPlace, priorityField, priorityPlace}
 use Rattle.model.specs.State.{Settings, Port, none, failed, Class, noClass, classA, classB, isNoClass, Talker, noTalker, talker, Cell, Stream, noFixed, portAt, cellAt, classOf, classLatency}
-use Rattle.model.specs.WrittenFrames.{priorityOctet, fixedNumbers}
+use Rattle.model.specs.WrittenFrames.{priorityOctet, fixedNumbers, fixedFrom}
 use Rattle.model.specs.Settling.{Source, sourceOf, fixedOf, latencyOf, talkerTypeOf, failedColumn, streamClass, capped, latencyOut}
 use Rattle.model.specs.Table.{toPort, portFrom, cellNumbers, cellOctets, talkerNumbers, registrationFrom, toTalkerType, toCell}
 use Rattle.model.specs.Laid.{FitRank, LaidCell}
@@ -44,11 +44,6 @@ unfolding fixedOf noFixed sourceIn cellNumbers talkerNumbers fixedNumbers
 size-number t noTalker c e = rw e
 size-number t (talker r) c e = rw e
 
-destination-number : (t : ℕ) (k : Talker) (c : Cell) → c .talks ≡ k → getD (cellNumbers c) fixedField 0 ≡ fixedOf (sourceIn t c) .destination
-unfolding fixedOf noFixed sourceIn cellNumbers talkerNumbers fixedNumbers
-destination-number t noTalker c e = rw e
-destination-number t (talker r) c e = rw e
-
 -- The failure that the octets of a cell say, by their kind.
 
 module _ (s : List ℕ) (t : ℕ) where
@@ -66,6 +61,11 @@ module _ (s : List ℕ) (t : ℕ) where
   unfolding sourceIn talkerTypeOf failedColumn registrationFrom toTalkerType fields
   a-failure h =
       rw (a-talker s (λ e. omega (arith, e)), octet-field s 0, octet-field s codePlace, ne-eqb (getD s 0 0) 1 (λ e. omega (arith, e)))
+
+-- The destination that they say.
+pub destination-said : (s : List ℕ) (t : ℕ) → (getD s 0 0 ≡ 0 → ⊥) → beAt 6 s fixedPlace ≡ fixedOf (sourceIn t (toCell s)) .destination
+unfolding sourceIn fixedOf registrationFrom fixedFrom fields
+destination-said s t n = rw (a-talker s n)
 
 -- The latency of a class in a port's octets.
 
@@ -97,13 +97,6 @@ module _ (x : Stream) (t : ℕ) (e : t ≡ talkerPort (sourceOf x)) (s : List �
       ap (λ (vs : List ℕ). getD vs (fixedField + 2) 0) (numbers-laid s (r .laid))
       ∙ size-number t (toCell s .talks) (toCell s) refl
       ∙ ap (λ (o : Source). fixedOf o .size) (source-read x t e s r)
-
-  pub destination-read : beAt 6 s fixedPlace ≡ fixedOf (sourceOf x) .destination
-  unfolding fields
-  destination-read =
-      ap (λ (vs : List ℕ). getD vs fixedField 0) (numbers-laid s (r .laid))
-      ∙ destination-number t (toCell s .talks) (toCell s) refl
-      ∙ ap (λ (o : Source). fixedOf o .destination) (source-read x t e s r)
 
   priority-read : beAt 1 s priorityPlace / 32 ≡ fixedOf (sourceOf x) .priority
   unfolding fields

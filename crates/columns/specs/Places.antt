@@ -3,18 +3,18 @@
 use mathlib.Core.Path.{_≡_}
 use mathlib.Core.List.{List, _++_}
 use Prim.Native.Nat.{ℕ, _<_}
-use lib.ListN.{length, set, drop}
+use lib.ListN.{length, getD, set, drop}
 use Rattle.model.specs.Layout.{cellSize}
 use Rattle.model.specs.Lists.{tabulate}
-use Rattle.model.specs.State.{Fixed, Stream, Bridge, ownAt}
-use Rattle.model.specs.Settling.{Scene, sceneOf, sourceOf, isPruned, inboundOf, inboundsOf}
+use Rattle.model.specs.State.{Stream, Bridge, ownAt}
+use Rattle.model.specs.Settling.{Scene, sceneOf, sourceOf, inboundOf, inboundsOf}
 use Rattle.model.specs.Table.{decode}
 use Rattle.model.specs.Laid.{Laid}
 use Rattle.table.specs.Updates.{resulting, streamAt, withStream}
 use Rattle.table.specs.Places.{StandsOn}
 use Rattle.streams.specs.Answers.{talkerPort}
 use Rattle.fanin.specs.Failures.{commonFailure}
-use Rattle.columns.specs.declared.OwnRead.{OwnRead}
+use Rattle.columns.specs.declared.Edges.{Edges}
 use Rattle.columns.specs.Steps.{EdgesOf}
 use Rattle.columns.specs.Stages.{earlyAt}
 
@@ -25,12 +25,18 @@ pub record Asked (table here talker : List ℕ) (p : ℕ) : Type 0 where
   pub here-size : length here ≡ cellSize
   pub talker-size : length talker ≡ cellSize
 
--- a scene of the bridge b in which the own part of the port at place p says this of a Talker with the fixed values f
-pub record SceneOn (b : Bridge) (p : ℕ) (f : Fixed) (o : OwnRead) (sc : Scene) : Type 0 where
+-- the cell of a port that has a Talker
+pub record TalkerIn (said : List ℕ) : Type 0 where
+  pub size : length said ≡ cellSize
+  pub talks : getD said 0 0 ≡ 0 → ⊥
+
+-- a scene of the bridge b in which the port at place p has these flags; there is one for any two flags, since of the scene's own parts
+-- nothing else is asked but that the port has the bridge's addresses
+pub record SceneOn (b : Bridge) (p : ℕ) (e : Edges) (sc : Scene) : Type 0 where
   pub settings : sc .settings ≡ b .settings
   pub inbound : sc .inbound ≡ inboundsOf (b .streams)
-  pub edges : EdgesOf (o .edges) (ownAt (sc .owns) p)
-  pub pruned : o .pruned ≡ isPruned (sc .settings) (ownAt (sc .owns) p) f
+  pub edges : EdgesOf e (ownAt (sc .owns) p)
+  pub addresses : ownAt (sc .owns) p .addresses ≡ ownAt (b .owns) p .addresses
 
 -- stream k of a table, and the place t of its Talker, which is 0 where it has none
 pub record TalkerAt (s : List ℕ) (k t : ℕ) : Type 0 where

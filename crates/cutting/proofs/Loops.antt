@@ -6,14 +6,14 @@ use Prim.Native.Nat.{ℕ, zero, suc, _+_, _-_, _*_, _/_, _≤_, _<_}
 use native.Mathlib.Omega.{arith}
 use native.Mathlib.Numerals.{add-one}
 use lib.ListN.{length, getD, set, take, drop, length-append, length-drop}
-use lib.Seq.{drop-length, drop-drop, getD-set-same, getD-set-other}
+use lib.Seq.{drop-length, drop-drop, drop-set-lt, getD-set-same, getD-set-other}
 use lib.Dec.{leb, eqb}
 use borrow.Author.Tests.{lt-ltb, le-ltb, le-leb, lt-leb, eq-eqb, ne-eqb, eqb-true, eqb-false}
 use Rattle.model.specs.Lists.{All, longest}
 use Rattle.model.specs.Frames.{threeLength, fourLength}
 use Rattle.model.specs.Cutting.{mac, Part, concat, values, octetsFor}
 use Rattle.model.specs.Best.{price, weight, bests, best, least}
-use Rattle.cutting.specs.Plan.{none, entry, lower, farther, entries, less, back}
+use Rattle.cutting.specs.Plan.{none, entry, lower, farther, entries, less, back, Kept}
 use Rattle.cutting.specs.declared.Entry.{Entry}
 use Rattle.model.proofs.Lists.{longest-ends, longest-stops, longest-goes}
 use Rattle.model.proofs.LeastCutting.{best-cuts, best-under}
@@ -197,3 +197,11 @@ least-none l = refl
 pub planned-octets : (l w : List ℕ) → length l ≤ 64 → ((k : ℕ) → 0 ≤ k → k ≤ length l → getD w k 0 ≡ getD (entries l) k none .weighs) → getD w 0 0 / 65 ≡ least l
 planned-octets l w few h =
     ap (λ (n : ℕ). n / 65) (h 0 (omega arith) (omega arith) ∙ ap (λ (r : Entry). r .weighs) (entry-at l 0 (omega arith))) ∙ entry-octets l few
+
+-- What a loop leaves behind place n: a store at most there, and one at the next place.
+pub kept-set : (n i v : ℕ) (before after : List ℕ) → i ≤ n → Kept n before after → Kept n before (set after i v)
+kept-set n i v before after h k = drop-set-lt (n + 1) after i v (omega arith) ∙ k
+
+pub kept-more : (n v : ℕ) (before after : List ℕ) → Kept n before after → Kept (n + 1) before (set after (n + 1) v)
+kept-more n v before after k =
+    kept-set (n + 1) (n + 1) v before after (omega arith) (sym (drop-drop 1 (n + 1) after) ∙ ap (drop 1) k ∙ drop-drop 1 (n + 1) before)

@@ -5,7 +5,7 @@ ghost use lib.ListN.{length, getD, take};
 ghost use Rattle.model.specs.Cutting.{values, octetsFor};
 ghost use Rattle.model.specs.Best.{price, least, run};
 ghost use Rattle.cutting.specs.Named.{idsOf, Named, PartIn};
-ghost use Rattle.cutting.specs.Plan.{none, entries, Weighed, Counted, Costed, Packed};
+ghost use Rattle.cutting.specs.Plan.{none, entries, Weighed, Counted, Costed, Kept, Packed};
 
 // The octets of a vector before its events, header and StreamID, and of a vector of one value.
 const HEAD: u64 = 10;
@@ -101,7 +101,8 @@ fn choose(table: &[u8], places: &[u8], at: usize, weighs: &[u16]) -> Entry
 // The entries of all tails of at most 64 rising StreamIDs.
 fn plan(table: &[u8], places: &[u8], weighs: &mut [u16], firsts: &mut [u8])
     requires { ⌜ Named (now table) (now places) × (length (now weighs) ≡ 65) × (length (now firsts) ≡ 65) ⌝ }
-    ensures { λ _. ⌜ Weighed (idsOf (now (table .entry)) (now (places .entry))) 0 (now (weighs .exit)) × Counted (idsOf (now (table .entry)) (now (places .entry))) 0 (now (firsts .exit)) ⌝ }
+    ensures { λ _. ⌜ Weighed (idsOf (now (table .entry)) (now (places .entry))) 0 (now (weighs .exit)) × Counted (idsOf (now (table .entry)) (now (places .entry))) 0 (now (firsts .exit))
+        × Kept (length (now (places .entry))) (now (weighs .entry)) (now (weighs .exit)) × Kept (length (now (places .entry))) (now (firsts .entry)) (now (firsts .exit)) ⌝ }
 {
     let mut i = places.len();
     weighs[i] = 0;
@@ -139,7 +140,7 @@ fn least_to(table: &[u8], places: &[u8], k: usize, costs: &[u16]) -> u64
 // How many declarations, from the first on, fit in `room` octets. A vector for each is always enough.
 fn fit(table: &[u8], places: &[u8], room: u64, costs: &mut [u16]) -> usize
     requires { ⌜ Named (now table) (now places) × (length (now costs) ≡ 65) ⌝ }
-    ensures { λ r. ⌜ (r ≡ run room (idsOf (now (table .entry)) (now (places .entry)))) × (r ≤ length (now (places .entry))) ⌝ }
+    ensures { λ r. ⌜ (r ≡ run room (idsOf (now (table .entry)) (now (places .entry)))) × (r ≤ length (now (places .entry))) × Kept r (now (costs .entry)) (now (costs .exit)) ⌝ }
 {
     let n = places.len();
     if (n as u64) * ALONE <= room {
@@ -158,10 +159,11 @@ fn fit(table: &[u8], places: &[u8], room: u64, costs: &mut [u16]) -> usize
     k
 }
 
-// The run to write in at most `room` octets, and the plan of its least cutting.
+// The run to write in at most `room` octets, and the plan of its least cutting; behind it both slices stay.
 pub fn pack(table: &[u8], places: &[u8], room: u64, weighs: &mut [u16], firsts: &mut [u8]) -> usize
     requires { ⌜ Named (now table) (now places) × (length (now weighs) ≡ 65) × (length (now firsts) ≡ 65) ⌝ }
-    ensures { λ r. ⌜ Packed room (idsOf (now (table .entry)) (now (places .entry))) r (now (weighs .exit)) (now (firsts .exit)) ⌝ }
+    ensures { λ r. ⌜ Packed room (idsOf (now (table .entry)) (now (places .entry))) r (now (weighs .exit)) (now (firsts .exit))
+        × Kept r (now (weighs .entry)) (now (weighs .exit)) × Kept r (now (firsts .entry)) (now (firsts .exit)) ⌝ }
 {
     let n = fit(table, places, room, weighs);
     plan(table, &places[..n], weighs, firsts);

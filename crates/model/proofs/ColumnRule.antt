@@ -191,7 +191,7 @@ abbrev pub Small : ℕ → Type 0
 Small i = i < 2 ^ 64
 
 module _ (sc : Scene) (now : ℕ) where
-  claims-all : (p : ℕ) (c : Class) (P : ℕ → Type 0) (s : List Stream) → All P (ids s) → All (λ d. P (d .id)) (claims sc now p c s)
+  pub claims-all : (p : ℕ) (c : Class) (P : ℕ → Type 0) (s : List Stream) → All P (ids s) → All (λ d. P (d .id)) (claims sc now p c s)
   unfolding ids claims claim
   claims-all p c P [] a = tt
   claims-all p c P (x ∷ s) a = go (clear (steps sc p x) && sameClass (streamClass (sc .settings) x) c) (claims-all p c P s (a .1))

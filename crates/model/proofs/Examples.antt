@@ -112,16 +112,19 @@ bridgeWith fanIn limit l = from (State.started (settingsWith fanIn limit)) (pdu 
 bridge : ℕ → List Handed → Bridge
 bridge limit l = bridgeWith 0 limit l
 
--- FirstValues like those of the worked example: a StreamID by its Unique ID; the last two octets of the destination, and VLAN 2;
--- MaxFrameSize, one frame per interval, and the octet of priority and rank
+-- FirstValues like those of the worked example: a StreamID by its Unique ID; the last two octets of the destination, and the VLAN, which
+-- is 2 unless an example has another; MaxFrameSize, one frame per interval, and the octet of priority and rank
 streamId : ℕ → List ℕ
 streamId unique = 0x02 ∷ 0 ∷ 0 ∷ 0 ∷ 0 ∷ 0x01 ∷ Be.be 2 unique
 
-talkerOf : (destination latency unique size octet : ℕ) → List ℕ
-talkerOf destination latency unique size octet =
+talkerIn : (vlan destination latency unique size octet : ℕ) → List ℕ
+talkerIn vlan destination latency unique size octet =
     streamId unique
     ++ (0x91 ∷ 0xE0 ∷ 0xF0 ∷ 0
-    ∷ (Be.be 2 destination ++ (0 ∷ 0x02 ∷ (Be.be 2 size ++ (0 ∷ 0x01 ∷ octet ∷ Be.be 4 latency)))))
+    ∷ (Be.be 2 destination ++ (Be.be 2 vlan ++ (Be.be 2 size ++ (0 ∷ 0x01 ∷ octet ∷ Be.be 4 latency)))))
+
+talkerOf : (destination latency unique size octet : ℕ) → List ℕ
+talkerOf = talkerIn 2
 
 talkerTo : ℕ → ℕ → ℕ → ℕ → List ℕ
 talkerTo unique destination size octet = talkerOf destination 0 unique size octet
@@ -309,7 +312,7 @@ examples =
 
 -- to unfold this is to unfold the examples' own definitions
 shown : Unit {0}
-unfolding opened port settingsOf settingsWith settings accepted from messageOf message domainsOf matching bridgeWith bridge streamId talkerTo talkerOf delayedFirst talkerFirst failure rank1 rank0 advertisesOf failedOf listenerVector listenersOf talks hears columns reserves count talker listener read eventNumber events wordNumber reported size224 one four withFifth settledTalker lvPdu leaver workedTalker workedListener worked
+unfolding opened port settingsOf settingsWith settings accepted from messageOf message domainsOf matching bridgeWith bridge streamId talkerTo talkerIn talkerOf delayedFirst talkerFirst failure rank1 rank0 advertisesOf failedOf listenerVector listenersOf talks hears columns reserves count talker listener read eventNumber events wordNumber reported size224 one four withFifth settledTalker lvPdu leaver workedTalker workedListener worked
 shown = tt
 
 pub marked-examples : All Holds examples
@@ -590,6 +593,11 @@ inbound fanIn size destination l =
     bridgeWith fanIn 75000000
     (pdu 1 (talks 1 224 rank1) ∷ pdu 2 (message advertises (Be.be 2 1 ++ (talkerTo 2 destination size rank1 ++ (108 ∷ [])))) ∷ time 100 ∷ l)
 
+-- the same without a limit, the second with the destination of the first, in this VLAN and with this octet of priority and rank
+sharing : ℕ → ℕ → List Handed
+sharing vlan octet =
+    pdu 1 (talks 1 224 rank1) ∷ pdu 2 (message advertises (Be.be 2 1 ++ (talkerIn vlan 0xFE00 0 2 224 octet ++ (108 ∷ [])))) ∷ time 100 ∷ []
+
 -- the column of the first on port 2, and of the second on port 1
 across : Bridge → List ℕ
 across b =
@@ -613,11 +621,17 @@ fanIns =
     ∷ record { computed = across (inbound 0 224 0xFE00 []); printed = 1 ∷ 0 ∷ 2 ∷ 5 ∷ [] }
     ∷ record { computed = across (inbound 1 224 0xFE00 []); printed = 1 ∷ 0 ∷ 2 ∷ 5 ∷ [] }
     ∷ record { computed = across (inbound 1 1523 0 []); printed = 1 ∷ 0 ∷ 2 ∷ 15 ∷ [] }
+    -- in another VLAN the same destination is another address
+    ∷ record { computed = across (bridge 75000000 (sharing 2 rank1)); printed = 1 ∷ 0 ∷ 2 ∷ 5 ∷ [] }
+    ∷ record { computed = across (bridge 75000000 (sharing 3 rank1)); printed = 1 ∷ 0 ∷ 1 ∷ 0 ∷ [] }
+    -- where no Domain value is heard: 8 comes before 5, and 13 before both
+    ∷ record { computed = across (from (State.started (settings 75000000)) (sharing 2 rank1)); printed = 2 ∷ 8 ∷ 2 ∷ 8 ∷ [] }
+    ∷ record { computed = across (from (State.started (settings 75000000)) (sharing 2 0x10)); printed = 2 ∷ 8 ∷ 2 ∷ 13 ∷ [] }
     ∷ []
 
 pub fan-in-examples : All Holds fanIns
-unfolding shown fanIns inbound across
-fan-in-examples = (refl, (refl, (refl, (refl, (refl, (refl, (refl, tt)))))))
+unfolding shown fanIns inbound sharing across
+fan-in-examples = (refl, (refl, (refl, (refl, (refl, (refl, (refl, (refl, (refl, (refl, (refl, tt)))))))))))
 
 -- Talker pruning (02, vi).
 

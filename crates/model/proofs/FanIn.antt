@@ -182,7 +182,7 @@ address-swapped (from o) (from q) =
     rw (eqb-swapped (f .destination) (g .destination), eqb-swapped (f .vlan) (g .vlan))
 
 -- a stream shares its address where a held one with a lower StreamID has it
-shares-with : (s : List Stream) (k : ℕ) (i : Inbound) → k < length s → getD s k (fresh 0) .id < i .id
+pub shares-with : (s : List Stream) (k : ℕ) (i : Inbound) → k < length s → getD s k (fresh 0) .id < i .id
     → sameAddressAt (sourceOf (getD s k (fresh 0))) (i .source) ≡ true → shares (inboundsOf s) i ≡ true
 unfolding inboundsOf inboundOf shares
 shares-with [] k i h low same = absurd (omega arith)

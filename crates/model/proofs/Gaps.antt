@@ -1,10 +1,11 @@
--- Which gaps a best cutting bridges: up to 16 Ignores always, more than 22 never. Only between them is there anything to weigh.
+-- Which gaps a best cutting bridges, between any two neighbouring declarations: up to 16 Ignores always, more than 22 never. Only between
+-- them is there anything to weigh.
 use mathlib.Core.Path.{_≡_, refl, sym, _∙_, ap, subst}
 use mathlib.Core.List.{List, [], _∷_, _++_, append-assoc}
 use mathlib.Core.Bool.{Bool, true, false}
 use Prim.Native.Nat.{ℕ, _+_, _-_, _*_, _≤_, _<_}
 use native.Mathlib.Omega.{arith}
-use lib.ListN.{length, take}
+use lib.ListN.{length, take, drop}
 use lib.Dec.{leb}
 use lib.Seq.{take-length}
 use borrow.Author.Tests.{leb-true, leb-false, le-leb}
@@ -12,8 +13,9 @@ use Rattle.model.specs.Frames.{threeLength, fourLength}
 use Rattle.model.specs.Cutting.{mac, Shares, concat, Cutting, lastOf, values, octetsFor}
 use Rattle.model.specs.Best.{price, weight, best, least, run}
 use Rattle.model.proofs.Lists.{Longest}
-use Rattle.model.proofs.Ascents.{Rises, Rising, rises-left, rises-last, rises-mid}
+use Rattle.model.proofs.Ascents.{Rises, Rising, rising-drop, rises-left, rises-last, rises-mid}
 use Rattle.model.proofs.LeastCutting.{best-cuts, best-under}
+use Rattle.model.proofs.OneCutting.{best-next}
 use Rattle.model.proofs.LongestRun.{fitsIn, run-longest, least-most}
 
 last-append : (x : ℕ) (g : List ℕ) (y : ℕ) (h : List ℕ) → lastOf x (g ++ (y ∷ h)) ≡ lastOf y h
@@ -74,9 +76,9 @@ module _ (l : List ℕ) (rising : Rising l) (x : ℕ) (g : List ℕ) (y : ℕ) (
   not-over : (b c : List (List ℕ)) → best l ≡ b → Cutting l c → weight b ≤ weight c
   not-over b c e p = subst (λ (z : List (List ℕ)). weight z ≤ weight c) e (best-under l c p .0)
 
-  -- between two neighbouring vectors of one MAC there are more than 16 Ignores
-  pub near : best l ≡ (x ∷ g) ∷ (y ∷ h) ∷ d → mac y ≡ mac x → lastOf x g + 17 < y
-  near e m = go (leb y (lastOf x g + 17)) refl
+  -- between the first two vectors, where they have one MAC, there are more than 16 Ignores
+  near-first : best l ≡ (x ∷ g) ∷ (y ∷ h) ∷ d → mac y ≡ mac x → lastOf x g + 17 < y
+  near-first e m = go (leb y (lastOf x g + 17)) refl
     where
       p : Cutting l ((x ∷ g) ∷ (y ∷ h) ∷ d)
       p = subst (Cutting l) e (best-cuts l)
@@ -95,9 +97,9 @@ module _ (l : List ℕ) (rising : Rising l) (x : ℕ) (g : List ℕ) (y : ℕ) (
           ))
       go false b = leb-false _ _ b
 
-  -- no vector has more than 22 Ignores in a row
-  pub far : best l ≡ (x ∷ (g ++ (y ∷ h))) ∷ d → y ≤ lastOf x g + 23
-  far e = go (leb y (lastOf x g + 23)) refl
+  -- the first vector has no more than 22 Ignores in a row
+  far-first : best l ≡ (x ∷ (g ++ (y ∷ h))) ∷ d → y ≤ lastOf x g + 23
+  far-first e = go (leb y (lastOf x g + 23)) refl
     where
       p : Cutting l ((x ∷ (g ++ (y ∷ h))) ∷ d)
       p = subst (Cutting l) e (best-cuts l)
@@ -114,6 +116,21 @@ module _ (l : List ℕ) (rising : Rising l) (x : ℕ) (g : List ℕ) (y : ℕ) (
           let n : lastOf x g + 24 ≤ y = omega (arith, leb-false y (lastOf x g + 23) b) in
           absurd
           (omega (arith, two-lighter x g y h d (low f) (mid f) (high f) n, not-over ((x ∷ (g ++ (y ∷ h))) ∷ d) ((x ∷ g) ∷ (y ∷ h) ∷ d) e two))
+
+-- Behind any vectors of the best cutting stands the best cutting of the rest: what is so of the first is so of every one.
+best-behind : (c d : List (List ℕ)) (l : List ℕ) → Rising l → best l ≡ c ++ d → (m : List ℕ) × Rising m × (best m ≡ d)
+best-behind [] d l rising e = (l, rising, e)
+best-behind (g ∷ c) d l rising e =
+    best-behind c d (drop (length g) l) (rising-drop (length g) l rising) (sym (best-next l g (c ++ d) e .1))
+
+module _ (l : List ℕ) (rising : Rising l) (c : List (List ℕ)) (x : ℕ) (g : List ℕ) (y : ℕ) (h : List ℕ) (d : List (List ℕ)) where
+  -- every cut between two declarations of one MAC has more than 16 StreamIDs between them
+  pub near : best l ≡ c ++ ((x ∷ g) ∷ (y ∷ h) ∷ d) → mac y ≡ mac x → lastOf x g + 17 < y
+  near e = let b = best-behind c ((x ∷ g) ∷ (y ∷ h) ∷ d) l rising e in near-first (b .0) (b .1) x g y h d (b .2)
+
+  -- no vector has more than 22 StreamIDs between two neighbouring declarations
+  pub far : best l ≡ c ++ ((x ∷ (g ++ (y ∷ h))) ∷ d) → y ≤ lastOf x g + 23
+  far e = let b = best-behind c ((x ∷ (g ++ (y ∷ h))) ∷ d) l rising e in far-first (b .0) (b .1) x g y h d (b .2)
 
 -- where twelve octets for each declaration fit, all fit: there is nothing to search
 pub run-whole : (room : ℕ) (l : List ℕ) → length l ≤ 64 → Rising l → 12 * length l ≤ room → run room l ≡ length l

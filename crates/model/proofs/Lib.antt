@@ -54,11 +54,15 @@ pub mod Edge
 pub mod OwnCodes
 pub mod Boundaries
 pub mod Growth
+pub mod FirstKept
 pub mod Pruning
 pub mod FanIn
+pub mod Inbounds
+pub mod StepOrder
 pub mod Untouched
 pub mod Why
 pub mod Listed
+pub mod AlikeStreams
 pub mod HeldClock
 pub mod Newcomer
 pub mod Opened

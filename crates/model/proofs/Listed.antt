@@ -26,7 +26,7 @@ use Rattle.model.proofs.Why.{step-decides, told-h}
 -- Which they are.
 
 -- the claims that are more important than a key, in any order
-mem-above : (k : ℕ) (c : Claim) (l : List Claim) → List·Memᴰ c (above k l) ↔ (List·Memᴰ c l × (key c < k))
+pub mem-above : (k : ℕ) (c : Claim) (l : List Claim) → List·Memᴰ c (above k l) ↔ (List·Memᴰ c l × (key c < k))
 unfolding above
 mem-above k c [] = (λ m. absurd (List·Memᴰ·not-nil m), λ a. a .0)
 mem-above k c (d ∷ l) = Iff·trans (mem-keep (ltb (key d) k) c d (above k l)) (go (mem-above k c l))
@@ -88,13 +88,13 @@ reserving-exactly limit cs n k c =
 
 -- the claims are those of the streams of the class that reach step h
 module _ (sc : Scene) (now p : ℕ) (c : Class) where
-  abbrev reaches : Stream → Bool
+  abbrev pub reaches : Stream → Bool
   reaches y = clear (steps sc p y) && sameClass (streamClass (sc .settings) y) c
 
-  abbrev Made : List Stream → Claim → Type 0
+  abbrev pub Made : List Stream → Claim → Type 0
   Made s d = (y : Stream) × List·Memᴰ y s × (reaches y ≡ true) × (d ≡ claim (sc .settings) now p y)
 
-  mem-claims : (d : Claim) (s : List Stream) → List·Memᴰ d (claims sc now p c s) ↔ Made s d
+  pub mem-claims : (d : Claim) (s : List Stream) → List·Memᴰ d (claims sc now p c s) ↔ Made s d
   unfolding claims
   mem-claims d [] = (λ m. absurd (List·Memᴰ·not-nil m), λ a. absurd (List·Memᴰ·not-nil (a .1)))
   mem-claims d (x ∷ s) = Iff·trans (mem-keep (reaches x) d (claim (sc .settings) now p x) (claims sc now p c s)) (go (mem-claims d s))
@@ -148,7 +148,7 @@ same-stream (z ∷ s) r x y m n e = go (List·Memᴰ·cases-cons m) (List·Mem�
 -- A stream x that is held, where StreamIDs have 64 bits and rise, and ages count from seconds of 32 bits.
 module _ (sc : Scene) (now : ℕ) (s : List Stream) (p : ℕ) (x : Stream) (held : List·Memᴰ x s)
     (r : Rising (ids s)) (a : All Small (ids s)) (young : All (Young now p) s) where
-  abbrev its : Stream → Claim
+  abbrev pub its : Stream → Claim
   its y = claim (sc .settings) now p y
 
   abbrev class-of : Class
@@ -161,7 +161,7 @@ module _ (sc : Scene) (now : ℕ) (s : List Stream) (p : ℕ) (x : Stream) (held
   all-claims = claims sc now p class-of s
 
   -- the more important has the lower key
-  more-important : (y : Stream) → List·Memᴰ y s → moreImportant (its y) (its x) ≡ ltb (key (its y)) (key (its x))
+  pub more-important : (y : Stream) → List·Memᴰ y s → moreImportant (its y) (its x) ≡ ltb (key (its y)) (key (its x))
   unfolding ids claim
   more-important y m =
       importance (its y) (its x) (all-mem (Young now p) m young) (all-mem (Young now p) held young)
@@ -210,15 +210,18 @@ module _ (sc : Scene) (now : ℕ) (s : List Stream) (p : ℕ) (x : Stream) (held
           let e : y ≡ w .0 = same-stream s r y (w .0) m (w .1) (unfold claim in (ap (λ (d : Claim). d .id) (w .2))) in
           rw e (w .3)
 
--- a valid bridge gives these ages
-pub ages-young : (b : Bridge) → Valid b → (p : ℕ) → All (Young (b .clock) p) (b .streams)
+-- a valid bridge gives these ages, at any time that is not before its clock
+pub later-young : (b : Bridge) → Valid b → (now : ℕ) → b .clock ≤ now → now < 2 ^ 32 → (p : ℕ) → All (Young now p) (b .streams)
 unfolding resultAt
-ages-young b v p = all-map (ValidStream (length (b .settings .ports)) (b .clock) (b .settings .leaveTime)) (Young (b .clock) p) young (b .streams) (v .streams)
+later-young b v now later small p = all-map (ValidStream (length (b .settings .ports)) (b .clock) (b .settings .leaveTime)) (Young now p) young (b .streams) (v .streams)
   where
-    young : (y : Stream) → ValidStream (length (b .settings .ports)) (b .clock) (b .settings .leaveTime) y → Young (b .clock) p y
+    young : (y : Stream) → ValidStream (length (b .settings .ports)) (b .clock) (b .settings .leaveTime) y → Young now p y
     young y w =
         let valid = all-getD (ValidResult (b .clock)) (y .results) (w .results) unsettled (unsettled-valid (b .clock)) p in
-        omega (arith, age-valid (b .clock) (b .clock) (resultAt y p) (omega arith) valid, v .clock)
+        omega (arith, age-valid (b .clock) now (resultAt y p) later valid, small)
+
+pub ages-young : (b : Bridge) → Valid b → (p : ℕ) → All (Young (b .clock) p) (b .streams)
+ages-young b v = later-young b v (b .clock) (omega arith) (v .clock)
 
 -- What they sum up to.
 

@@ -4,7 +4,7 @@ use Prim.Native.Nat.{_<_}
 use lib.ListN.{length}
 use borrow.Author.Needs.{needs}
 use Rattle.model.specs.State.{cellAt}
-use Rattle.model.specs.Settling.{Scene, sourceOf, fixedOf, stepI, stepsFrom}
+use Rattle.model.specs.Settling.{Scene, sourceOf, stepI, stepsFrom}
 use Rattle.model.specs.Table.{decode}
 use Rattle.model.specs.Why.{firstName}
 use Rattle.table.specs.Updates.{streamAt}
@@ -16,7 +16,7 @@ use Rattle.columns.proofs.early_step.Statement.{statement}
 use Rattle.columns.proofs.early_step.Tie as tie
 
 abbrev On : tie.After-first-step → Scene → Type 0
-On c sc = let a = c .before .before .before .before .before .before .args in SceneOn (decode (a .table .now)) (a .p) (fixedOf (sourceOf (streamAt (a .k) (decode (a .table .now))))) (a .own) sc
+On c sc = let a = c .before .before .before .before .before .before .args in SceneOn (decode (a .table .now)) (a .p) (a .edges) sc
 
 -- what the first steps named
 shown : (c : tie.After-first-step) (sc : Scene) → On c sc
@@ -24,7 +24,7 @@ shown : (c : tie.After-first-step) (sc : Scene) → On c sc
     stepShown (c .first-step .result) ≡ firstName (stepsFrom sc (a .p) (cellAt x (a .p)) (sourceOf x)) stepI
 shown c sc w =
     let e = source-read _ _ (c .before .before .before .before .before .before .pre .0 .talker .is) _ (c .before .cell-at2 .ensures) in
-    c .first-step .ensures sc (rw e w) ∙ rw (c .before .before .cell-at .ensures .is, e)
+    c .first-step .ensures sc w ∙ rw (c .before .before .cell-at .ensures .is, e)
 
 port : (c : tie.After-first-step) (sc : Scene) → On c sc → c .before .before .before .before .before .before .args .p < length (sc .settings .ports)
 port c sc w = rw (w .settings, ← (c .before .before .before .before .ports .ensures .0)) (c .before .before .before .if1 .left)

@@ -7,7 +7,7 @@ use lib.ListN.{getD}
 use borrow.Author.Needs.{needs}
 use borrow.Author.Tests.{eq-eqb, ne-eqb, lt-ltb, le-ltb}
 use Rattle.model.specs.State.{portAt, ownAt, supports}
-use Rattle.model.specs.Settling.{Scene, StepName, boundary, fixedOf}
+use Rattle.model.specs.Settling.{Scene, StepName, boundary, isPruned, fixedOf}
 use Rattle.model.specs.Table.{decode, toCell}
 use Rattle.streams.specs.Answers.{classShown, sourceIn}
 use Rattle.columns.specs.Steps.{stepShown}
@@ -23,7 +23,7 @@ Reaches c sc steps =
     decided sc (a .here .now) (a .said .now) (a .p) (a .t) ≡ steps sc (a .here .now) (a .said .now) (a .p) (a .t)
 
 abbrev On : tie.Else1 → Scene → Type 0
-On c sc = let a = c .before .before .before .before .before .before .args in SceneOn (decode (a .table .now)) (a .p) (fixedOf (sourceIn (a .t) (toCell (a .said .now)))) (a .own) sc
+On c sc = let a = c .before .before .before .before .before .before .args in SceneOn (decode (a .table .now)) (a .p) (a .edges) sc
 
 -- the class, as the calls of `supports` and `no_class` were asked with it
 class-read : (c : tie.After-class-of) (sc : Scene) → On (c .before .before .before) sc → let a = c .before .before .before .before .before .before .before .before .before .args in classShown (c .class-of .result) ≡ class sc (a .here .now) (a .said .now) (a .p) (a .t)
@@ -32,6 +32,11 @@ class-read c sc w = rw (w .settings, ← (c .before .get .ensures .0)) (c .class
 supports-read : (c : tie.After-supports) (sc : Scene) → On (c .before .before .before .before .before) sc
     → let a = c .before .before .before .before .before .before .before .before .before .before .before .args in c .supports .result ≡ supports (portAt (sc .settings) (a .p)) (class sc (a .here .now) (a .said .now) (a .p) (a .t))
 supports-read c sc w = c .supports .ensures ∙ rw (c .before .port-at .ensures .is, class-read (c .before .before) sc w, w .settings)
+
+pruned-read : (c : tie.After-is-pruned) (sc : Scene) → On (c .before .before .before .before .before .before .before) sc
+    → let a = c .before .before .before .before .before .before .before .before .before .before .before .before .before .args in c .is-pruned .result ≡ isPruned (sc .settings) (ownAt (sc .owns) (a .p)) (fixedOf (sourceIn (a .t) (toCell (a .said .now))))
+unfolding isPruned
+pruned-read c sc w = c .is-pruned .ensures (c .before .before .before .before .before .before .before .before .before .before .before .before .before .args .t) ∙ rw (w .settings, w .addresses)
 
 edge-read : (c : tie.After-at-edge) (sc : Scene) → On (c .before .before .before .before .before .before .before .before .before .before .before .before .before .before .before .before .before .before) sc
     → let a = c .before .before .before .before .before .before .before .before .before .before .before .before .before .before .before .before .before .before .before .before .before .before .before .before .args in c .at-edge .result ≡ boundary (ownAt (sc .owns) (a .p)) (class sc (a .here .now) (a .said .now) (a .p) (a .t))
@@ -46,25 +51,25 @@ reaches-b c sc = reaches-a (c .before) sc ∙ rw (ne-eqb _ _ (c .if2 .left))
 reaches-n : (c : tie.Else3) (sc : Scene) → On (c .before .before .before .before .before .before) sc → Reaches (c .before .before .before .before .before .before) sc from-n
 reaches-n c sc w = reaches-b (c .before .before .before .before .before) sc ∙ rw (← supports-read (c .before) sc w, c .if3 .left)
 
-reaches-c : (c : tie.Else4) (sc : Scene) → On (c .before .before .before .before .before .before .before) sc → Reaches (c .before .before .before .before .before .before .before) sc from-c
-reaches-c c sc w = reaches-n (c .before) sc w ∙ rw (← (w .pruned), c .if4 .left)
+reaches-c : (c : tie.Else4) (sc : Scene) → On (c .before .before .before .before .before .before .before .before) sc → Reaches (c .before .before .before .before .before .before .before .before) sc from-c
+reaches-c c sc w = reaches-n (c .before .before) sc w ∙ rw (← pruned-read (c .before) sc w, c .if4 .left)
 
-reaches-d : (c : tie.Else5) (sc : Scene) → On (c .before .before .before .before .before .before .before .before) sc → Reaches (c .before .before .before .before .before .before .before .before) sc from-d
+reaches-d : (c : tie.Else5) (sc : Scene) → On (c .before .before .before .before .before .before .before .before .before) sc → Reaches (c .before .before .before .before .before .before .before .before .before) sc from-d
 reaches-d c sc w =
-    let e : getD (c .before .before .before .before .before .before .before .before .before .before .before .before .before .before .args .said .now) 0 0 ≡ 1 = omega (arith, c .if5 .left) in
+    let e : getD (c .before .before .before .before .before .before .before .before .before .before .before .before .before .before .before .args .said .now) 0 0 ≡ 1 = omega (arith, c .if5 .left) in
     reaches-c (c .before) sc w ∙ rw (eq-eqb _ _ e)
 
-reaches-k : (c : tie.Else6) (sc : Scene) → On (c .before .before .before .before .before .before .before .before .before) sc → Reaches (c .before .before .before .before .before .before .before .before .before) sc from-k
+reaches-k : (c : tie.Else6) (sc : Scene) → On (c .before .before .before .before .before .before .before .before .before .before) sc → Reaches (c .before .before .before .before .before .before .before .before .before .before) sc from-k
 reaches-k c sc w = reaches-d (c .before) sc w ∙ rw (ne-eqb _ _ (c .if6 .left))
 
-reaches-e : (c : tie.Else7) (sc : Scene) → On (c .before .before .before .before .before .before .before .before .before .before .before .before) sc → Reaches (c .before .before .before .before .before .before .before .before .before .before .before .before) sc from-e
+reaches-e : (c : tie.Else7) (sc : Scene) → On (c .before .before .before .before .before .before .before .before .before .before .before .before .before) sc → Reaches (c .before .before .before .before .before .before .before .before .before .before .before .before .before) sc from-e
 reaches-e c sc w = reaches-k (c .before .before .before) sc w ∙ rw (le-ltb _ _ (rw (c .before .before .get2 .ensures .0, c .before .get3 .ensures .0) at (c .if7 .left)))
 
-reaches-f : (c : tie.Else8) (sc : Scene) → On (c .before .before .before .before .before .before .before .before .before .before .before .before .before .before) sc → Reaches (c .before .before .before .before .before .before .before .before .before .before .before .before .before .before) sc from-f
+reaches-f : (c : tie.Else8) (sc : Scene) → On (c .before .before .before .before .before .before .before .before .before .before .before .before .before .before .before) sc → Reaches (c .before .before .before .before .before .before .before .before .before .before .before .before .before .before .before) sc from-f
 reaches-f c sc w = reaches-e (c .before .before) sc w ∙ rw (not-talking _ (c .if8 .left))
 
-reaches-j : (c : tie.Else9) (sc : Scene) → On (c .before .before .before .before .before .before .before .before .before .before .before .before .before .before .before .before) sc → Reaches (c .before .before .before .before .before .before .before .before .before .before .before .before .before .before .before .before) sc from-j
-reaches-j c sc w = reaches-f (c .before .before) sc w ∙ rw (← class-read (c .before .before .before .before .before .before .before .before .before .before .before .before .before) sc w, ← (c .before .no-class .ensures), c .if9 .left)
+reaches-j : (c : tie.Else9) (sc : Scene) → On (c .before .before .before .before .before .before .before .before .before .before .before .before .before .before .before .before .before) sc → Reaches (c .before .before .before .before .before .before .before .before .before .before .before .before .before .before .before .before .before) sc from-j
+reaches-j c sc w = reaches-f (c .before .before) sc w ∙ rw (← class-read (c .before .before .before .before .before .before .before .before .before .before .before .before .before .before) sc w, ← (c .before .no-class .ensures), c .if9 .left)
 
 returns : tie.Need-returns
 unfolding stepShown
@@ -80,7 +85,7 @@ returns-3 c = λ sc w. sym (reaches-b (c .before .before .before .before .before
 
 returns-4 : tie.Need-returns-4
 unfolding stepShown
-returns-4 c = λ sc w. sym (reaches-n (c .before) sc w ∙ rw (← (w .pruned), c .if4 .taken))
+returns-4 c = λ sc w. sym (reaches-n (c .before .before) sc w ∙ rw (← pruned-read (c .before) sc w, c .if4 .taken))
 
 returns-5 : tie.Need-returns-5
 unfolding stepShown
@@ -100,17 +105,22 @@ returns-8 c = λ sc w. sym (reaches-e (c .before .before) sc w ∙ rw (talking _
 
 returns-9 : tie.Need-returns-9
 unfolding stepShown
-returns-9 c = λ sc w. sym (reaches-f (c .before .before) sc w ∙ rw (← class-read (c .before .before .before .before .before .before .before .before .before .before .before .before .before) sc w, ← (c .before .no-class .ensures), c .if9 .taken))
+returns-9 c = λ sc w. sym (reaches-f (c .before .before) sc w ∙ rw (← class-read (c .before .before .before .before .before .before .before .before .before .before .before .before .before .before) sc w, ← (c .before .no-class .ensures), c .if9 .taken))
 
 returns-10 : tie.Need-returns-10
 unfolding stepShown
-returns-10 c = λ sc w. sym (reaches-j (c .before .before .before) sc w ∙ rw (← edge-read (c .before) sc w, c .if10 .taken))
+returns-10 c = λ sc w. sym (reaches-j (c .before .before) sc w ∙ rw (← edge-read (c .before) sc w, c .if10 .taken))
 
 returns-11 : tie.Need-returns-11
 unfolding stepShown
-returns-11 c = λ sc w. sym (reaches-j (c .before .before .before) sc w ∙ rw (← edge-read (c .before) sc w, c .if10 .left))
+returns-11 c = λ sc w. sym (reaches-j (c .before .before) sc w ∙ rw (← edge-read (c .before) sc w, c .if10 .left))
+
+is-pruned-requires : tie.Need-is-pruned-requires
+is-pruned-requires c κs =
+    let w = c .before .before .before .before .before .before .before .before .before .before .before .before .pre in
+    (record { laid = w .laid; port = w .place }, record { size = w .talker-size; talks = c .before .before .before .before .before .before .if1 .left })
 
 pub first-step-spec : {M : Type 1} → statement M
 first-step-spec =
     tie.close
-    (tie.spec (λ c. search needs) (λ c. search needs) returns returns-2 (λ c κs. search needs) (λ c κs. search needs) (λ c κs. search needs) (λ c κs. search needs) returns-3 returns-4 returns-5 returns-6 (λ c κs. search needs) (λ c κs. search needs) returns-7 (λ c. search needs) returns-8 (λ c κs. search needs) returns-9 (λ c κs. search needs) returns-10 returns-11)
+    (tie.spec (λ c. search needs) (λ c. search needs) returns returns-2 (λ c κs. search needs) (λ c κs. search needs) (λ c κs. search needs) (λ c κs. search needs) returns-3 is-pruned-requires returns-4 returns-5 returns-6 (λ c κs. search needs) (λ c κs. search needs) returns-7 (λ c. search needs) returns-8 (λ c κs. search needs) returns-9 (λ c κs. search needs) returns-10 returns-11)

@@ -1,6 +1,6 @@
--- `cutting::fit` gives the longest run. The invariant: to go on from here gives it, and the costs up to here are known. Assumes nothing.
+-- `cutting::fit` gives the longest run. The invariant: to go on from here gives it, the costs up to here are known, and those behind stay. Assumes nothing.
 use Prim.Native.Nat.{suc, _+_, _-_, _≤_}
-use mathlib.Core.Path.{_≡_, sym, _∙_}
+use mathlib.Core.Path.{_≡_, refl, sym, _∙_}
 use native.Mathlib.Omega.{arith}
 use borrow.Author.Needs.{needs}
 use lib.ListN.{length, take}
@@ -8,9 +8,9 @@ use lib.ListN.{length-set}
 use native.Mathlib.Nat.{sub-zero}
 use Rattle.model.specs.Best.{least, run}
 use Rattle.cutting.specs.Named.{idsOf}
-use Rattle.cutting.specs.Plan.{Costed}
+use Rattle.cutting.specs.Plan.{Costed, Kept}
 use Rattle.cutting.proofs.Named.{ids-length}
-use Rattle.cutting.proofs.Loops.{runFrom, run-stops, run-goes, run-ends, least-small, filled-up, least-none}
+use Rattle.cutting.proofs.Loops.{runFrom, run-stops, run-goes, run-ends, least-small, filled-up, least-none, kept-set, kept-more}
 use Rattle.model.proofs.Ascents.{ascending-rising}
 use Rattle.model.proofs.Gaps.{run-whole}
 use Rattle.cutting.proofs.fit.Statement.{statement}
@@ -18,7 +18,7 @@ use Rattle.cutting.proofs.fit.Tie as tie
 
 abbrev Inv-loop : tie.InvT-loop
 Inv-loop table places room costs₀ n k₀ costs k =
-    (k ≤ length places) × (length costs ≡ 65) × Costed (idsOf table places) k costs × (runFrom room (idsOf table places) k (length (idsOf table places) - k) ≡ run room (idsOf table places))
+    (k ≤ length places) × (length costs ≡ 65) × Costed (idsOf table places) k costs × (runFrom room (idsOf table places) k (length (idsOf table places) - k) ≡ run room (idsOf table places)) × Kept k costs₀ costs
 
 abbrev μ-loop : tie.MeasureT-loop
 μ-loop table places room costs₀ n k₀ costs k = length places - k
@@ -29,7 +29,7 @@ returns c =
     let p = c .before .before .before .before .pre in
     let long = ids-length (a .table .now) (a .places .now) in
     let whole = run-whole (a .room) (idsOf (a .table .now) (a .places .now)) (omega (arith, long, p .0 .few)) (ascending-rising (idsOf (a .table .now) (a .places .now)) (p .0 .ascending)) (omega (arith, long)) in
-    (omega (arith, whole, long), omega arith)
+    (omega (arith, whole, long), omega arith, refl)
 
 loop-holds : tie.Need-loop-holds Inv-loop μ-loop
 unfolding run
@@ -39,6 +39,7 @@ loop-holds c =
       simp length-set (omega arith),
       filled-up (λ i. least (take i (idsOf (a .table .now) (a .places .now)))) (a .costs .now) 0 0 (omega arith) (least-none (idsOf (a .table .now) (a .places .now))) (λ i p. absurd (omega arith)),
       rw sub-zero,
+      refl,
     )
 
 least-to-requires : tie.Need-least-to-requires Inv-loop μ-loop
@@ -52,7 +53,7 @@ returns-2 c =
     let a = c .before .before .before .before .before .before .before .before .before .args in
     let l = c .before .before .before .before .loop in
     let s : length (idsOf (a .table .now) (a .places .now)) - l .k ≡ suc (length (idsOf (a .table .now) (a .places .now)) - (l .k + 1)) = omega (arith, ids-length (a .table .now) (a .places .now)) in
-    (sym (run-stops _ (idsOf (a .table .now) (a .places .now)) (l .k) _ _ _ (c .before .least-to .ensures) s (c .if2 .taken)) ∙ l .inv .3, omega arith)
+    (sym (run-stops _ (idsOf (a .table .now) (a .places .now)) (l .k) _ _ _ (c .before .least-to .ensures) s (c .if2 .taken)) ∙ l .inv .3, omega arith, l .inv .4 ∙ kept-set (l .k) 0 0 (a .costs .now) (a .costs .now) (omega arith) refl)
 
 cast-costs : tie.Need-cast-costs Inv-loop μ-loop
 cast-costs c =
@@ -69,13 +70,14 @@ loop-again c =
       simp length-set (omega arith),
       filled-up (λ i. least (take i (idsOf (a .table .now) (a .places .now)))) (l .costs) (l .k + 1) _ (omega arith) (c .before .least-to .ensures) (λ i p. l .inv .2 i (omega arith)),
       sym (run-goes _ (idsOf (a .table .now) (a .places .now)) (l .k) _ _ _ (c .before .least-to .ensures) s (c .if2 .left)) ∙ l .inv .3,
+      kept-more (l .k) _ _ (l .costs) (l .inv .4),
     )
 
 returns-3 : tie.Need-returns-3 Inv-loop μ-loop
 returns-3 c =
     let a = c .before .before .before .before .before .before .args in
     let l = c .before .loop in
-    (sym (run-ends _ (idsOf (a .table .now) (a .places .now)) (l .k) _ (omega (arith, ids-length (a .table .now) (a .places .now)))) ∙ l .inv .3, omega arith)
+    (sym (run-ends _ (idsOf (a .table .now) (a .places .now)) (l .k) _ (omega (arith, ids-length (a .table .now) (a .places .now)))) ∙ l .inv .3, omega arith, l .inv .4 ∙ kept-set (l .k) 0 0 (a .costs .now) (a .costs .now) (omega arith) refl)
 
 pub fit-spec : {M : Type 1} → statement M
 fit-spec =

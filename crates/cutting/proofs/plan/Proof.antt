@@ -1,21 +1,21 @@
--- `cutting::plan` fills the table from its end. The invariant: the places from i on have their entries. Assumes nothing.
+-- `cutting::plan` fills the table from its end. The invariant: the places from i on have their entries, and those behind the last stay. Assumes nothing.
 use Prim.Native.Nat.{ℕ, _+_, _-_, _≤_}
 use mathlib.Core.List.{List}
-use mathlib.Core.Path.{_≡_, refl, ap}
+use mathlib.Core.Path.{_≡_, refl, ap, _∙_}
 use native.Mathlib.Omega.{arith}
 use borrow.Author.Needs.{needs}
 use lib.ListN.{length, getD}
 use lib.ListN.{length-set}
 use Rattle.cutting.specs.Named.{idsOf}
-use Rattle.cutting.specs.Plan.{none, entries, Weighed, Counted}
+use Rattle.cutting.specs.Plan.{none, entries, Weighed, Counted, Kept}
 use Rattle.cutting.proofs.Named.{ids-length}
-use Rattle.cutting.proofs.Loops.{entry-end, entry-fits, filled}
+use Rattle.cutting.proofs.Loops.{entry-end, entry-fits, filled, kept-set}
 use Rattle.cutting.proofs.plan.Statement.{statement}
 use Rattle.cutting.proofs.plan.Tie as tie
 
 abbrev Inv-loop : tie.InvT-loop
 Inv-loop table places weighs₀ firsts₀ i₀ weighs firsts i =
-    (i ≤ length places) × (length weighs ≡ 65) × (length firsts ≡ 65) × Weighed (idsOf table places) i weighs × Counted (idsOf table places) i firsts
+    (i ≤ length places) × (length weighs ≡ 65) × (length firsts ≡ 65) × Weighed (idsOf table places) i weighs × Counted (idsOf table places) i firsts × Kept (length places) weighs₀ weighs × Kept (length places) firsts₀ firsts
 
 abbrev μ-loop : tie.MeasureT-loop
 μ-loop table places weighs₀ firsts₀ i₀ weighs firsts i = i
@@ -33,6 +33,8 @@ loop-holds c =
       simp length-set (omega arith),
       filled (λ k. getD (entries l) k none .weighs) (a .weighs .now) (length l) (n + 1) n 0 (omega (arith, few)) refl (rw end) (λ k p q. absurd (omega (arith, long))),
       filled (λ k. getD (entries l) k none .first) (a .firsts .now) (length l) (n + 1) n 0 (omega (arith, few)) refl (rw end) (λ k p q. absurd (omega (arith, long))),
+      refl,
+      refl,
     )
 
 choose-requires : tie.Need-choose-requires Inv-loop μ-loop
@@ -64,12 +66,20 @@ loop-again c =
       simp length-set (omega arith),
       filled (λ k. getD (entries (idsOf (a .table .now) (a .places .now))) k none .weighs) (l .weighs) n (l .i) (l .i - 1) _ (omega arith) s (ap (λ r. r .weighs) e) (l .inv .3),
       filled (λ k. getD (entries (idsOf (a .table .now) (a .places .now))) k none .first) (l .firsts) n (l .i) (l .i - 1) _ (omega arith) s (ap (λ r. r .first) e) (l .inv .4),
+      kept-set (length (a .places .now)) (l .i - 1) _ _ (l .weighs) (omega arith) (l .inv .5),
+      kept-set (length (a .places .now)) (l .i - 1) _ _ (l .firsts) (omega arith) (l .inv .6),
     )
 
 returns : tie.Need-returns Inv-loop μ-loop
 returns c =
+    let a = c .before .before .before .before .before .before .args in
     let l = c .before .loop in
-    (λ k p q. l .inv .3 k (omega arith) q, λ k p q. l .inv .4 k (omega arith) q)
+    let n : ℕ = length (a .places .now) in (
+      λ k p q. l .inv .3 k (omega arith) q,
+      λ k p q. l .inv .4 k (omega arith) q,
+      l .inv .5 ∙ kept-set n n 0 (a .weighs .now) (a .weighs .now) (omega arith) refl,
+      l .inv .6 ∙ kept-set n n 0 (a .firsts .now) (a .firsts .now) (omega arith) refl,
+    )
 
 pub plan-spec : {M : Type 1} → statement M
 plan-spec =

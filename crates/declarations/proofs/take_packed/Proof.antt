@@ -24,7 +24,7 @@ returns : tie.Need-returns
 returns c =
     let a = c .before .before .before .before .before .before .before .before .before .before .args in
     let pre = c .before .before .before .before .before .before .before .before .before .before .pre in
-    let n = packed-number (a .table .now) (a .p) (a .places .now) (a .from) (a .buffer .now) pre _ (c .before .before .before .before .pack .ensures .number) in
+    let n = packed-number (a .table .now) (a .p) (a .places .now) (a .from) (a .buffer .now) pre _ (c .before .before .before .before .pack .ensures .0 .number) in
     let made =
     pass-closes (registers listeners) (found Listener (a .p) (a .table .now)) (a .from) (a .buffer .now) (pre .opened .unfilled) _ n (length (a .places .now)) (pre .opened .left-is)
     (pre .opened .any) (c .before .if1 .taken) in
@@ -32,10 +32,10 @@ returns c =
 
 -- the Message has room
 room : (c : tie.Else1) → c .before .before .before .before .before .before .before .before .before .args .from .at + (6 + getD (c .before .before .before .pack .last .1 .1 .1 .0) 0 0 / 65) + 2 ≤ longestPdu
-room c = let a = c .before .before .before .before .before .before .before .before .before .args in planned-room (a .table .now) (a .p) (a .places .now) (a .from) (a .buffer .now) (c .before .before .before .before .before .before .before .before .before .pre) _ _ _ (c .before .before .before .pack .ensures)
+room c = let a = c .before .before .before .before .before .before .before .before .before .args in planned-room (a .table .now) (a .p) (a .places .now) (a .from) (a .buffer .now) (c .before .before .before .before .before .before .before .before .before .pre) _ _ _ (c .before .before .before .pack .ensures .0)
 
 within : (c : tie.Else1) → c .before .before .before .pack .result ≤ length (c .before .before .before .before .before .before .before .before .before .args .places .now)
-within c = let a = c .before .before .before .before .before .before .before .before .before .args in planned-within (a .table .now) (a .p) (a .places .now) (a .from) (a .buffer .now) (c .before .before .before .before .before .before .before .before .before .pre) _ _ _ (c .before .before .before .pack .ensures)
+within c = let a = c .before .before .before .before .before .before .before .before .before .args in planned-within (a .table .now) (a .p) (a .places .now) (a .from) (a .buffer .now) (c .before .before .before .before .before .before .before .before .before .pre) _ _ _ (c .before .before .before .pack .ensures .0)
 
 slice-aggregate-write-listeners : tie.Need-slice-aggregate-write-listeners
 slice-aggregate-write-listeners c = sym (length-take-le (c .before .before .before .before .pack .result) (c .before .before .before .before .before .before .before .before .before .before .args .places .now) (within (c .before)))
@@ -49,7 +49,7 @@ write-listeners-requires c κs =
     let long : ℕ = 6 + getD (c .before .before .before .before .before .before .pack .last .1 .1 .1 .0) 0 0 / 65 in
     let inside : a .from .at + long ≤ length b = omega (arith, room (c .before .before .before), pre .opened .pass .buffer) in
     let lent = ap length (lent-part (a .from .at) long b) ∙ length-part (a .from .at) long b inside in (
-      planned-cut (a .table .now) (a .p) (a .places .now) (a .from) b pre n _ _ (c .before .before .before .before .before .before .pack .ensures) _ (omega arith) (omega (arith, lent)),
+      planned-cut (a .table .now) (a .p) (a .places .now) (a .from) b pre n _ _ (c .before .before .before .before .before .before .pack .ensures .0) _ (omega arith) (omega (arith, lent)),
       omega (arith, lent),
       omega (arith, length-take-le n (a .places .now) (within (c .before .before .before))),
     )
@@ -62,12 +62,12 @@ returns-2 c =
     let n : ℕ = c .before .before .before .before .before .before .before .before .before .pack .result in
     let long : ℕ = 6 + getD (c .before .before .before .before .before .before .before .before .before .pack .last .1 .1 .1 .0) 0 0 / 65 in
     let some : 0 < n = omega arith in
-    let taken = packed-number (a .table .now) (a .p) (a .places .now) (a .from) b pre n (c .before .before .before .before .before .before .before .before .before .pack .ensures .number) in
-    let size = planned-message (a .table .now) (a .p) (a .places .now) (a .from) b pre n _ _ (c .before .before .before .before .before .before .before .before .before .pack .ensures) some in
+    let taken = packed-number (a .table .now) (a .p) (a .places .now) (a .from) b pre n (c .before .before .before .before .before .before .before .before .before .pack .ensures .0 .number) in
+    let size = planned-message (a .table .now) (a .p) (a .places .now) (a .from) b pre n _ _ (c .before .before .before .before .before .before .before .before .before .pack .ensures .0) some in
     let made =
     pass-takes-some (registers listeners) (found Listener (a .p) (a .table .now)) (a .from) b (pre .opened .unfilled) n taken (length (a .places .now)) (pre .opened .left-is) long size in
     let y = c .before .before .write-listeners .last .1 .1 .1 .1 .0 in
-    let said = c .before .before .write-listeners .ensures ∙ ap (messageOctets (registers listeners)) (planned-run (a .table .now) (a .p) (a .places .now) (a .from) b pre n _ _ (c .before .before .before .before .before .before .before .before .before .pack .ensures)) in
+    let said = c .before .before .write-listeners .ensures ∙ ap (messageOctets (registers listeners)) (planned-run (a .table .now) (a .p) (a .places .now) (a .from) b pre n _ _ (c .before .before .before .before .before .before .before .before .before .pack .ensures .0)) in
     record {
       progress = made .0;
       buffer = lent-patch (a .from .at) long y b ∙ ap (λ (z : List ℕ). patch (a .from .at) long z b) said ∙ made .1;
