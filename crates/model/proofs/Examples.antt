@@ -248,7 +248,7 @@ lvPdu = advertisesOf 1 224 rank1 1 (180 ∷ [])
 
 -- to unfold `handed` is to unfold what is handed over, for examples that stand elsewhere
 unfoldable pub handed : Unit {0}
-unfolding opened port settingsOf settingsWith settings accepted from messageOf message domainsOf matching bridgeWith bridge streamId talkerTo talkerOf delayedFirst talkerFirst failure rank1 rank0 advertisesOf failedOf listenerVector listenersOf talks hears one lvPdu
+unfolding opened port settingsOf settingsWith settings accepted from messageOf message domainsOf matching bridgeWith bridge streamId talkerTo talkerIn talkerOf delayedFirst talkerFirst failure rank1 rank0 advertisesOf failedOf listenerVector listenersOf talks hears one lvPdu
 handed = tt
 
 leaver : Bridge
