@@ -12,20 +12,24 @@ use Rattle.octets.proofs.Fields.{length-packed-any, fields-of-packed, fields-fi
 use Rattle.model.specs.Lists.{Octets}
 use Rattle.model.specs.State.{Fixed, Ready, Offer, Failure, Sends, noSends}
 use Rattle.model.specs.WrittenFrames.{fixedNumbers, priorityOctet, readyNumber, fixedFrom, toReady}
-use Rattle.model.proofs.Valid.{ValidFixed}
+use Rattle.model.proofs.Valid.{ValidFixed, GoodApplicant, ValidOffer, ValidFailure, ValidFailed, ValidSends}
 use Rattle.model.proofs.Parts.{_also_, octets-at, packed-whole}
 use Rattle.model.proofs.Cells.{priority-spare, fixed-back, fixed-forth, fixed-fit, fixed-valid, ready-back, ready-forth, ready-number}
 use Rattle.model.specs.Layout.{failureWidths, offerWidths, sendsSize}
 use Rattle.model.proofs.Coded.{Coded}
-use Rattle.model.specs.Machines.{Applicant, noApplicant}
+use Rattle.model.specs.Machines.{Applicant, noApplicant, applicant}
 use Rattle.model.specs.Sending.{applicantOctets, toApplicant, applicantFormed, bothOctets, toBoth, bothFormed, offerNumbers, offerFrom, offerOctets, toOffer, failureOctets, toFailure, anything, offerFormed, readyOctets, readyIn, readyFormed, failedFormed, sendsOctets, toSends, sendsFormed}
 use Rattle.model.proofs.Lists.{and-left, and-right, and-both}
-use Rattle.model.proofs.ApplicantOctets.{Values, GoodApplicant, applicant-coded, both-values, both-coded, renamed-coded}
+use Rattle.model.proofs.ApplicantOctets.{Values, applicant-coded, both-values, both-coded, renamed-coded}
 
 -- Ready.
 
 abbrev pub AnyReady : Ready → Type 0
 AnyReady r = Unit {0}
+
+good-ready : (x : Applicant Ready) → GoodApplicant AnyReady x
+good-ready noApplicant = tt
+good-ready (applicant x) = tt
 
 ready-size : (r : Ready) → length (readyOctets r) ≡ 1
 unfolding readyOctets
@@ -59,10 +63,6 @@ ready-values = record {
 }
 
 -- Offer.
-
-pub record ValidOffer (x : Offer) : Type 0 where
-  pub fixed : ValidFixed (x .fixed)
-  pub latency : x .latency < 256 ^ 4
 
 offer-fit : (x : Offer) → ValidOffer x → Fit offerWidths (offerNumbers x)
 unfolding offerNumbers Fit fixedNumbers priorityOctet
@@ -116,10 +116,6 @@ offer-values = record {
 
 -- Failure.
 
-pub record ValidFailure (x : Failure) : Type 0 where
-  pub bridge : x .bridge < 256 ^ 8
-  pub code : x .code < 256 ^ 1
-
 failure-fit : (x : Failure) → ValidFailure x → Fit failureWidths (x .bridge ∷ x .code ∷ [])
 unfolding Fit
 failure-fit x v = v .bridge also v .code also tt
@@ -147,11 +143,6 @@ pub failure-values : Values 9 failureOctets toFailure anything ValidFailure
 failure-values = record { size = λ x v. failure-length x; back = failure-back; keeps = λ x v. refl; forth = failure-forth; valid = failure-valid }
 
 -- What a port sends of a stream: read back as it was written, written back as it was read, zeros where nothing is (`sends-coded`).
-pub record ValidSends (x : Sends) : Type 0 where
-  pub advertising : GoodApplicant ValidOffer (x .advertising)
-  pub failing : GoodApplicant (λ y. ValidOffer (y .0) × ValidFailure (y .1)) (x .failing)
-  pub listening : GoodApplicant AnyReady (x .listening)
-
 pub sends-size : sendsSize ≡ 47
 sends-size = refl
 
@@ -170,5 +161,5 @@ unfolding sendsOctets toSends sendsFormed noSends failedFormed bothOctets toBoth
 sends-coded =
     renamed-coded
     (both-coded (applicant-coded offer-values) (both-coded (applicant-coded (both-values offer-values failure-values)) (applicant-coded ready-values)))
-    ValidSends three sends (λ x. refl) (λ y. refl) (λ x g. (g .advertising, (g .failing, g .listening)))
-    (λ y g. record { advertising = g .0; failing = g .1 .0; listening = g .1 .1 })
+    ValidSends three sends (λ x. refl) (λ y. refl) (λ x g. (g .advertising, (g .failing, good-ready (x .listening))))
+    (λ y g. record { advertising = g .0; failing = g .1 .0 })
