@@ -195,7 +195,7 @@ acted-apart now p q a b n x =
     ap₂ (λ (c : List Cell) (s : List Sends). record { id = x .id; settled = x .settled; cells = c; results = x .results; sends = s })
     (at-commute p q (does now a) (does now b) n (x .cells)) (at-commute p q (moves a) (moves b) n (x .sends))
 
-at-fixed : {A : Type 0} (u : A → A) (c : A) → u c ≡ c → (p n : ℕ) → at p u (replicate n c) ≡ replicate n c
+pub at-fixed : {A : Type 0} (u : A → A) (c : A) → u c ≡ c → (p n : ℕ) → at p u (replicate n c) ≡ replicate n c
 unfolding at
 at-fixed u c h p zero = refl
 at-fixed {A} u c h zero (suc n) = ap (λ (d : A). d ∷ replicate n c) h
