@@ -5,7 +5,7 @@ use mathlib.Core.List.{List, [], _∷_, _++_}
 use mathlib.Core.Bool.{Bool, true, false, cond, _&&_, _||_, false≢true}
 use Prim.Native.Nat.{ℕ, zero, suc, _+_, _*_, _^_, _≤_, _<_}
 use native.Mathlib.Omega.{arith}
-use lib.ListN.{length, getD, take, drop, replicate, length-drop}
+use lib.ListN.{length, getD, take, drop, replicate, length-drop, List·getD-eq-default}
 use lib.Seq.{take-at, drop-at, take-all, length-take-le}
 use lib.Dec.{eqb, leb, ltb}
 use borrow.Author.Tests.{le-leb, leb-true, lt-ltb, ltb-true, ne-eqb}
@@ -13,19 +13,20 @@ use Rattle.octets.specs.Fields.{fields, packed, Fit, width, flat}
 use Rattle.octets.specs.Parts.{zeros}
 use Rattle.octets.proofs.Fields.{length-packed-any, fields-of-packed, fields-fit, fit-at, packed-zeros}
 use Rattle.model.specs.Layout.{applicantSize, leaveAllPlace, leaveAllWidths, senderSize, slots}
-use Rattle.model.specs.Lists.{All, parts, Octets, allZero}
+use Rattle.model.specs.Lists.{All, parts, Octets, allZero, tabulate}
 use Rattle.model.specs.Applicant.{Standing, named, octetOf}
-use Rattle.model.specs.Machines.{Listed, Applicant, noApplicant, applicant}
+use Rattle.model.specs.Machines.{Listed, Applicant, noApplicant, applicant, born, applicantOf, with}
 use Rattle.model.specs.LeaveAll.{LeaveAllState, active, passive, LeaveAll, begun, leaveAllTime, leaveAllNext, leaveAllEntry, leaveAllRow, leaveAllColumn, starting}
-use Rattle.model.specs.State.{Settings, Sender, noSender, senderAt, declaresSlot}
+use Rattle.model.specs.State.{Settings, Sender, noSender, noPort, portAt, supports, isOwnSlot, declaresSlot, startedSender}
 use Rattle.model.specs.Sending.{standingNumber, toStanding, applicantOctets, toApplicant, applicantFormed, bothOctets, toBoth, bothFormed, anything, domainApplicant, toDomainApplicant, activeNumber, toActive, leaveAllOctets, toLeaveAll, senderOctets, toSender, domainStanding, slotsStanding, leaveAllFormed, senderFormed}
 use Rattle.model.specs.Table.{everyPart, sendersFormed}
 use Rattle.model.specs.Laid.{FitSender}
-use Rattle.model.proofs.Lists.{and-left, and-right, and-both, all-map, all-each, all-replicate}
+use Rattle.model.proofs.Lists.{and-left, and-right, and-both, all-map, all-each, all-replicate, length-tabulate}
+use Rattle.model.proofs.ApplicantEntries.{tables}
 use Rattle.model.proofs.Parts.{_also_, octets-at, packed-whole, octets-take, octets-drop, octets-append, octets-packed, octets-flat, zero-zeros, length-parts, length-flat-sized, Sized, flat-zeros}
 use Rattle.model.proofs.Valid.{GoodApplicant, applicantNumber, ValidSlots, ValidLeaveAll, ValidSender}
 use Rattle.model.proofs.Coded.{Coded, many-back, many-keep, many-forth, many-valid}
-use Rattle.model.proofs.ApplicantOctets.{Values, standing-few, applicant-coded, both-coded, renamed-coded}
+use Rattle.model.proofs.ApplicantOctets.{Values, applicant-octets, applicant-coded, both-coded, renamed-coded}
 
 -- An Applicant of a Domain value, which has no values besides its key.
 
@@ -143,14 +144,11 @@ sender-coded =
     (λ x. refl) (λ y. refl) (λ x g. (g .slotted, g .start)) (λ y g. record { slotted = g .0; start = g .1 })
 
 pub sender-octets : (x : Sender) → Octets (senderOctets x)
-unfolding senderOctets leaveAllOctets domainApplicant applicantOctets
+unfolding senderOctets leaveAllOctets domainApplicant
 sender-octets x =
-    octets-append (flat domainApplicant (x .domains)) (leaveAllOctets (x .leaveAll)) (octets-flat domainApplicant slot-octets (x .domains))
+    octets-append (flat domainApplicant (x .domains)) (leaveAllOctets (x .leaveAll))
+    (octets-flat domainApplicant (applicant-octets 0 (λ u. []) (λ u. tt)) (x .domains))
     (octets-packed leaveAllWidths (activeNumber (x .leaveAll .state) ∷ x .leaveAll .start ∷ []))
-  where
-    slot-octets : (a : Applicant (Unit {0})) → Octets (domainApplicant a)
-    slot-octets noApplicant = (omega arith, tt)
-    slot-octets (applicant y) = (omega (arith, standing-few (y .state) .1), tt)
 
 -- The rules of one port.
 
@@ -266,6 +264,29 @@ module _ (own : ℕ → Bool) (clock : ℕ) (s : List ℕ) (l : length s ≡ sen
           recent = ltb-true clock (start + leaveAllTime) (and-right (leb start clock) (ltb clock (start + leaveAllTime)) times);
         };
       }
+
+-- started: VP in each slot that the port declares, and its timer at the clock 0
+slots-started : (own : ℕ → Bool) (n i : ℕ) → ValidSlots own i (tabulate n i (λ j. cond (own j) (born tt) noApplicant))
+unfolding tabulate
+slots-started own zero i = tt
+slots-started own (suc n) i = (go (own i), slots-started own n (suc i))
+  where
+    go : (t : Bool) → domainStanding t (applicantNumber (cond t (born tt) noApplicant)) ≡ true
+    go true = unfold domainStanding applicantNumber standingNumber born applicantOf with tables in refl
+    go false = unfold domainStanding applicantNumber in refl
+
+pub started-valid : (st : Settings) (p : ℕ) → ValidSender (declaresSlot st p) 0 (startedSender st p)
+unfolding startedSender
+started-valid st p = record {
+  slotted = length-tabulate _ slots 0;
+  domains = slots-started (declaresSlot st p) slots 0;
+  leaveAll = unfold begun leaveAllNext leaveAllEntry leaveAllRow leaveAllColumn starting in record { past = omega arith; recent = omega arith };
+}
+
+-- a place that is no port sends nothing
+pub started-none : (st : Settings) (p : ℕ) → length (st .ports) ≤ p → startedSender st p ≡ noSender
+unfolding startedSender noSender declaresSlot portAt isOwnSlot supports noPort tabulate
+started-none st p h = rw (List·getD-eq-default (st .ports) noPort {n = p} h)
 
 -- The rules of all ports, from a place on.
 
