@@ -9,7 +9,7 @@ use native.Mathlib.Decide.{ℕ-discrete, decLt}
 use lib.ListN.{getD, replicate}
 use borrow.Author.Tests.{lt-ltb, le-ltb, eq-eqb, ne-eqb}
 use Rattle.model.specs.Machines.{Heard, moved}
-use Rattle.model.specs.State.{Cell, Own, Sends, Sender, Stream, fresh, empty, noSends, blank}
+use Rattle.model.specs.State.{Cell, Sends, Stream, fresh, empty, noSends, blank}
 use Rattle.model.specs.Registrations.{Act, leaveAll, leave, talk, listen, hearAll, hear, ofDomain, Kind, advertises, faileds, listeners, at, change, begun, touch, apply, applyAll, quit, quitTalker, quitListener, does, moveKind, hears, moves, reach, changeDomains, doesDomain, applyOwn, applyOwns, movesSender, applySenders}
 use Rattle.model.proofs.Lists.{at-commute, at-other}
 

@@ -11,7 +11,7 @@ use Rattle.octets.specs.Fields.{fields, Fit, flat}
 use Rattle.octets.proofs.Fields.{fields-of-packed, fit-at}
 use Rattle.model.specs.Layout.{bridgeField, cellSize, cellWidths, codeField, failureWidths, firstLatencyField, fixedField, fixedWidths, latencyField, listenerSinceField, nameWidths, offerWidths, priorityField, recordSize, resultSize, resultWidths, sendsSize, talkerSinceField, vlanField}
 use Rattle.model.specs.Lists.{All, parts, Octets}
-use Rattle.model.specs.State.{Leaving, stays, since, Fixed, TalkerType, talkerAdvertise, talkerFailed, Talker, noTalker, talker, Listener, noListener, listener, Cell, Result, Offer, Failure, Sends, Sender, Stream, Bridge}
+use Rattle.model.specs.State.{Leaving, stays, since, Fixed, TalkerType, talkerAdvertise, talkerFailed, Talker, noTalker, talker, Listener, noListener, listener, Cell, Result, Offer, Failure, Sends, Stream, Bridge}
 use Rattle.model.specs.Machines.{Applicant, noApplicant, applicant}
 use Rattle.model.specs.Sending.{offerNumbers, sendsOctets, toSends, senderOctets, toSender}
 use Rattle.model.specs.Registrations.{ids}

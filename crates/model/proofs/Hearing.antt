@@ -1,10 +1,10 @@
 -- What is heard leaves every machine in place, with its values, standing or leaving as before: so it breaks no form rule of what is sent.
-use mathlib.Core.Path.{_≡_, refl, _∙_, ap}
+use mathlib.Core.Path.{_≡_, refl, _∙_}
 use mathlib.Core.List.{List, [], _∷_, map}
 use mathlib.Core.Bool.{Bool, true, false, false≢true}
-use Prim.Native.Nat.{ℕ, zero, suc, _≤_, _<_}
+use Prim.Native.Nat.{ℕ, zero, suc}
 use native.Mathlib.Omega.{arith}
-use lib.ListN.{length, length-map}
+use lib.ListN.{length-map}
 use Rattle.model.specs.Applicant.{Standing, veryAnxiousPassive, veryAnxiousNew, anxiousNew, anxiousActive, quietActive, leavingActive, becomes, named, octetOf}
 use Rattle.model.specs.Machines.{Listed, Applicant, noApplicant, applicant, Heard, heardIn, heardEmpty, heardLeave, heardEvent, with, applicantOf, moved, heard}
 use Rattle.model.specs.LeaveAll.{LeaveAllState, active, passive, LeaveAll, rLA, leaveAllRow, leaveAllColumn, leaveAllEntry, starting, leaveAllNext}

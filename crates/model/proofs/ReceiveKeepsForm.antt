@@ -1,5 +1,5 @@
 -- Receive, accepted or refused, leaves a bridge that keeps the form rules, its settings, its clock and its totals.
-use mathlib.Core.Path.{_≡_, refl, _∙_, ap, ap₂}
+use mathlib.Core.Path.{_≡_, refl, _∙_, ap₂}
 use mathlib.Core.Logic.{_⊎_, inl, inr}
 use mathlib.Core.List.{List, [], _∷_, map}
 use mathlib.Core.Bool.{Bool, true, false, cond, _||_, false≢true, _&&_}
@@ -10,10 +10,10 @@ use lib.ListN.{length, drop, replicate, length-map, getD-replicate}
 use lib.Dec.{ltb, leb, eqb}
 use borrow.Author.Tests.{ltb-true, ltb-false, leb-true, le-leb, eqb-false}
 use Rattle.model.specs.Lists.{All, Octets, allTrue}
-use Rattle.model.specs.State.{Settings, Leaving, stays, since, Fixed, Varying, Talker, noTalker, talker, Listener, noListener, listener, Ready, Cell, Domain, noDomain, domain, Own, Result, Sends, Sender, Stream, Bridge, empty, unsettled, noFixed, noOwn, noSends, noSender, blank, fresh, Port, Totals, cellAt, resultAt, sendsAt, senderAt, declaresSlot, classB, inForce}
+use Rattle.model.specs.State.{Settings, Leaving, stays, since, Fixed, Varying, Talker, noTalker, talker, Listener, noListener, listener, Ready, Cell, Domain, noDomain, domain, Own, Sends, Sender, Stream, Bridge, empty, unsettled, noFixed, noOwn, noSends, noSender, blank, fresh, Port, Totals, cellAt, resultAt, sendsAt, senderAt, declaresSlot, classB, inForce}
 use Rattle.model.specs.Registrations.{Kind, Act, leaveAll, leave, talk, listen, hearAll, hear, ofDomain, DomainAct, leaveAllDomains, leaveDomain, joinDomain, hearAllDomains, hearDomain, begin, talksAs, hearsAs, withLeaving, quitTalker, quitListener, quit, sameFixed, firstJoin, sameJoin, otherJoin, joinTalker, does, moves, at, change, begun, touch, reach, apply, applyAll, quitDomain, doesDomain, changeDomains, applyOwn, applyOwns, movesSender, applySenders, Reading, refused, acts, Answer, holding, owning, sending, received, ids}
 use Rattle.model.specs.Frames.{wrongPort, reading}
-use Rattle.model.specs.Settling.{isTalking, isHearing, isAdvertise, held, isApplicant, isSending, anySending, isHeld}
+use Rattle.model.specs.Settling.{isTalking, isHearing, isAdvertise, held, isSending, anySending, isHeld}
 use Rattle.model.specs.Table.{stands, isFailed, declares, alike, sentRules, sentFormed, atMost, totalsWithin, anyHeld}
 use Rattle.model.specs.Calls.{receive}
 use Rattle.model.proofs.Lists.{all-map, all-drop, all-replicate, length-at, all-changed, drop-changed, at-here, at-other, at-each, and-left, and-right, and-both}

@@ -1,31 +1,31 @@
 -- What a port sends by itself, in octets: 16 Applicants of Domain values and a LeaveAll machine are coded in 21. What the form rules say of
 -- them depends on the port's place, so that it is proved beside the coding, port by port.
-use mathlib.Core.Path.{_≡_, refl, sym, _∙_, ap, ap₂}
-use mathlib.Core.List.{List, [], _∷_, _++_}
-use mathlib.Core.Bool.{Bool, true, false, cond, _&&_, _||_, false≢true}
+use mathlib.Core.Path.{_≡_, refl, sym, _∙_, ap}
+use mathlib.Core.List.{List, [], _∷_}
+use mathlib.Core.Bool.{Bool, true, false, cond, _&&_, false≢true}
 use Prim.Native.Nat.{ℕ, zero, suc, _+_, _*_, _^_, _≤_, _<_}
 use native.Mathlib.Omega.{arith}
 use lib.ListN.{length, getD, take, drop, replicate, length-drop, List·getD-eq-default}
-use lib.Seq.{take-at, drop-at, take-all, length-take-le}
-use lib.Dec.{eqb, leb, ltb}
+use lib.Seq.{take-at, drop-at, length-take-le}
+use lib.Dec.{leb, ltb}
 use borrow.Author.Tests.{le-leb, leb-true, lt-ltb, ltb-true, ne-eqb}
-use Rattle.octets.specs.Fields.{fields, packed, Fit, width, flat}
+use Rattle.octets.specs.Fields.{fields, Fit, width, flat}
 use Rattle.octets.specs.Parts.{zeros}
 use Rattle.octets.proofs.Fields.{length-packed-any, fields-of-packed, fields-fit, fit-at, packed-zeros}
 use Rattle.model.specs.Layout.{applicantSize, leaveAllPlace, leaveAllWidths, senderSize, slots}
 use Rattle.model.specs.Lists.{All, parts, Octets, allZero, tabulate}
-use Rattle.model.specs.Applicant.{Standing, named, octetOf}
-use Rattle.model.specs.Machines.{Listed, Applicant, noApplicant, applicant, born, applicantOf, with}
+use Rattle.model.specs.Applicant.{named, octetOf}
+use Rattle.model.specs.Machines.{Applicant, noApplicant, applicant, born, applicantOf, with}
 use Rattle.model.specs.LeaveAll.{LeaveAllState, active, passive, LeaveAll, begun, leaveAllTime, leaveAllNext, leaveAllEntry, leaveAllRow, leaveAllColumn, starting}
 use Rattle.model.specs.State.{Settings, Sender, noSender, noPort, portAt, supports, isOwnSlot, declaresSlot, startedSender}
 use Rattle.model.specs.Sending.{standingNumber, toStanding, applicantOctets, toApplicant, applicantFormed, bothOctets, toBoth, bothFormed, anything, domainApplicant, toDomainApplicant, activeNumber, toActive, leaveAllOctets, toLeaveAll, senderOctets, toSender, domainStanding, slotsStanding, leaveAllFormed, senderFormed}
 use Rattle.model.specs.Table.{everyPart, sendersFormed}
 use Rattle.model.specs.Laid.{FitSender}
-use Rattle.model.proofs.Lists.{and-left, and-right, and-both, all-map, all-each, all-replicate, length-tabulate}
+use Rattle.model.proofs.Lists.{and-left, and-right, and-both, all-each, all-replicate, length-tabulate}
 use Rattle.model.proofs.ApplicantEntries.{tables}
-use Rattle.model.proofs.Parts.{_also_, octets-at, packed-whole, octets-take, octets-drop, octets-append, octets-packed, octets-flat, zero-zeros, length-parts, length-flat-sized, Sized, flat-zeros}
-use Rattle.model.proofs.Valid.{GoodApplicant, applicantNumber, ValidSlots, ValidLeaveAll, ValidSender}
-use Rattle.model.proofs.Coded.{Coded, many-back, many-keep, many-forth, many-valid}
+use Rattle.model.proofs.Parts.{_also_, octets-at, packed-whole, octets-append, octets-packed, octets-flat, length-parts, length-flat-sized, Sized, flat-zeros}
+use Rattle.model.proofs.Valid.{GoodApplicant, applicantNumber, ValidSlots, ValidSender}
+use Rattle.model.proofs.Coded.{Coded, many-back, many-keep, many-forth}
 use Rattle.model.proofs.ApplicantOctets.{Values, applicant-octets, applicant-coded, both-coded, renamed-coded}
 
 -- An Applicant of a Domain value, which has no values besides its key.

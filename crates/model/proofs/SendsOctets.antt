@@ -13,7 +13,7 @@ use Rattle.octets.proofs.Fields.{length-packed-any, fields-of-packed, fields-fi
 use Rattle.model.specs.Lists.{All, parts, Octets}
 use Rattle.model.specs.State.{Fixed, Ready, Offer, Failure, Sends, noSends}
 use Rattle.model.specs.WrittenFrames.{fixedNumbers, priorityOctet, readyNumber, fixedFrom, toReady}
-use Rattle.model.proofs.Valid.{ValidFixed, GoodApplicant, ValidOffer, ValidFailure, ValidFailed, ValidSends}
+use Rattle.model.proofs.Valid.{GoodApplicant, ValidOffer, ValidFailure, ValidSends}
 use Rattle.model.proofs.Parts.{_also_, octets-at, octets-append, octets-packed, packed-whole}
 use Rattle.model.proofs.Cells.{priority-spare, fixed-back, fixed-forth, fixed-fit, fixed-valid, ready-back, ready-forth, ready-number}
 use Rattle.model.specs.Layout.{advertisingPlace, advertisingSize, failedSize, failingPlace, failingSize, failureWidths, listeningPlace, offerSize, offerWidths, readySize, sendsSize}

@@ -17,12 +17,12 @@ use Rattle.model.specs.Lists.{All, allTrue, parts, Octets, implies, allZ
 use Rattle.model.specs.State.{Port, Totals, Own, Sends, Sender, Stream, Bridge, empty, unsettled, noTotals, noOwn, noSends, noSender, startedSender, started, noFixed, cellAt, resultAt, sendsAt, senderAt, declaresSlot, classB, inForce}
 use Rattle.model.specs.Registrations.{ids}
 use Rattle.model.specs.Settling.{held, anySending, isHeld}
-use Rattle.model.specs.Sending.{sendsOctets, toSends, sendsFormed, senderOctets, toSender, senderFormed}
+use Rattle.model.specs.Sending.{sendsOctets, toSends, sendsFormed, senderOctets, toSender}
 use Rattle.model.specs.WrittenFrames.{fixedNumbers, priorityOctet, fixedFrom}
 use Rattle.model.specs.Table.{settingsOctets, portsField, toSettings, settingsRules, settingsFormed, everyPart, cellOctets, toCell, cellFormed, resultOctets, toResult, resultFormed, cellsPart, resultsPart, allSendsPart, holds, sends, streamOctets, toStream, streamRules, streamFormed, totalsOctets, toTotals, ownOctets, toOwn, ownFormed, encode, settingsPart, clockField, countField, totalsPart, ownsPart, sendersPart, recordsPart, decode, rising, idOf, totalsWithin, tableRules, formed, talkers, declarers, storedFormed, sentFormed, everyPort, atMost, anyHeld, anyHolds, sendersFormed}
 use Rattle.model.specs.Laid.{FitSettings, FitOwn, FitSender, FitStream, FitTotals, FitBridge}
 use Rattle.model.proofs.Lists.{and-left, and-right, and-both, all-map, all-each, all-drop, all-replicate, at-place, length-tabulate, all-true, true-all, implied, implies-true}
-use Rattle.model.proofs.Valid.{ValidCell, ValidResult, ValidPort, ValidFixed, ValidOwn, ValidSends, ValidSender, ValidStream, Rising, Valid}
+use Rattle.model.proofs.Valid.{ValidCell, ValidResult, ValidPort, ValidFixed, ValidOwn, ValidStream, Rising, Valid}
 use Rattle.model.proofs.Parts.{_also_, octets-at, packed-whole, octets-append, octets-take, octets-drop, octets-part, octets-zeros, octets-packed, octets-flat, length-zeros, zero-zeros, zeros-zero, part-between, length-parts, parts-map, Sized, length-flat-sized, parts-flat, many-read, every-read, every-forth, every-fewer, every-padded, parts-padded, zero-padded, every-flat, rising-rises, rises-rising, zero-behind}
 use Rattle.model.specs.Frames.{priorityOf, rankOf}
 use Rattle.model.proofs.Stored.{port-kept, ports-kept}
