@@ -266,14 +266,15 @@ module _ (own : ℕ → Bool) (clock : ℕ) (s : List ℕ) (l : length s ≡ sen
       }
 
 -- started: VP in each slot that the port declares, and its timer at the clock 0
+slot-started : (t : Bool) → domainStanding t (applicantNumber (cond {A = Applicant (Unit {0})} t (born tt) noApplicant)) ≡ true
+unfolding domainStanding applicantNumber standingNumber born applicantOf with tables
+slot-started true = refl
+slot-started false = refl
+
 slots-started : (own : ℕ → Bool) (n i : ℕ) → ValidSlots own i (tabulate n i (λ j. cond (own j) (born tt) noApplicant))
 unfolding tabulate
 slots-started own zero i = tt
-slots-started own (suc n) i = (go (own i), slots-started own n (suc i))
-  where
-    go : (t : Bool) → domainStanding t (applicantNumber (cond t (born tt) noApplicant)) ≡ true
-    go true = unfold domainStanding applicantNumber standingNumber born applicantOf with tables in refl
-    go false = unfold domainStanding applicantNumber in refl
+slots-started own (suc n) i = (slot-started (own i), slots-started own n (suc i))
 
 pub started-valid : (st : Settings) (p : ℕ) → ValidSender (declaresSlot st p) 0 (startedSender st p)
 unfolding startedSender

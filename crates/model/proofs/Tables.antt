@@ -496,20 +496,20 @@ module _ (ss h ts os ns rs : List ℕ) (a : length ss ≡ settingsSize) (b : len
       ∙ drop-at (front ++ ns) rs recordsPlace (omega (arith, length-append front ns, before-senders))
 
 -- a table is its parts
+drop-split : (a n : ℕ) (t : List ℕ) → drop a t ≡ part a n t ++ drop (a + n) t
+unfolding part
+drop-split a n t = sym (take-append-drop n (drop a t)) ∙ ap (λ (r : List ℕ). take n (drop a t) ++ r) (drop-drop n a t)
+
 six-parts : (t : List ℕ) → t ≡ settingsPart t ++ (part clockPlace clockSize t ++ (totalsPart t ++ (ownsPart t ++ (sendersPart t ++ recordsPart t))))
-unfolding settingsPart part totalsPart ownsPart sendersPart recordsPart
+unfolding settingsPart totalsPart ownsPart sendersPart recordsPart
 six-parts t =
-    rw (
-      ← drop-drop sendersSize sendersPlace t,
-      take-append-drop sendersSize (drop sendersPlace t),
-      ← drop-drop ownsSize ownsPlace t,
-      take-append-drop ownsSize (drop ownsPlace t),
-      ← drop-drop totalsSize totalsPlace t,
-      take-append-drop totalsSize (drop totalsPlace t),
-      ← drop-drop clockSize clockPlace t,
-      take-append-drop clockSize (drop clockPlace t),
-    )
-    (sym (take-append-drop settingsSize t))
+    drop-split 0 settingsSize t
+    ∙ ap (λ (r : List ℕ). settingsPart t ++ r)
+    (drop-split clockPlace clockSize t
+    ∙ ap (λ (r : List ℕ). part clockPlace clockSize t ++ r)
+    (drop-split totalsPlace totalsSize t
+    ∙ ap (λ (r : List ℕ). totalsPart t ++ r)
+    (drop-split ownsPlace ownsSize t ∙ ap (λ (r : List ℕ). ownsPart t ++ r) (drop-split sendersPlace sendersSize t))))
 
 -- The table of a bridge.
 
