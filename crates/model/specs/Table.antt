@@ -14,7 +14,7 @@ use Rattle.model.specs.Lists.{allTrue, allZero, implies, parts, bit, isO
 use Rattle.model.specs.Applicant.{Standing, veryAnxiousPassive, veryAnxiousNew, anxiousNew, anxiousActive, quietActive, leavingActive}
 use Rattle.model.specs.Machines.{Applicant, noApplicant, applicant}
 use Rattle.model.specs.State.{Port, Settings, Leaving, stays, since, Fixed, TalkerType, talkerAdvertise, talkerFailed, Registration, Talker, noTalker, talker, Domain, noDomain, domain, Presence, vacant, present, Address, Own, Ready, askingFailed, ready, readyFailed, Listener, noListener, listener, Cell, Column, none, advertise, failed, Entry, noEntry, filters, forwards, Declared, nothing, tells, Result, Sends, Stream, Totals, Bridge, classB, inForce, declaresSlot}
-use Rattle.model.specs.Settling.{isTalking, isHearing, isAdvertise}
+use Rattle.model.specs.Settling.{isTalking, isHearing, isAdvertise, held}
 use Rattle.model.specs.WrittenFrames.{fixedNumbers, fixedFrom, readyNumber, toReady}
 use Rattle.model.specs.Sending.{sendsOctets, toSends, sendsFormed, senderOctets, toSender, senderFormed}
 
@@ -574,7 +574,11 @@ decode t = record {
 unfoldable pub idOf : List ℕ → ℕ
 idOf s = beAt 8 s 0
 
--- some stream of the first n records has a registration
+-- some stream has a registration; and one of the first n records
+unfoldable pub anyHeld : List Stream → Bool
+anyHeld [] = false
+anyHeld (x ∷ s) = held (x .cells) || anyHeld s
+
 unfoldable pub anyHolds : ℕ → ℕ → List ℕ → Bool
 anyHolds ports zero s = false
 anyHolds ports (suc n) s = holds ports (cellsPart (take recordSize s)) || anyHolds ports n (drop recordSize s)
