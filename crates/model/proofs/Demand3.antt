@@ -17,7 +17,8 @@ use Rattle.model.specs.Table.{encode, decode, formed, clockField}
 use Rattle.model.specs.Calls.{Call, leaves, onTable, receive, receiveOn, receiveMmrp, receiveMmrpOn, advanceOn, Frame, msrp, mmrp, pduOf, receiveFrame, receiveFrameOn, answersOn, afterOn, asked}
 use Rattle.model.proofs.Lists.{on-same, on-other}
 use Rattle.model.proofs.Valid.{ValidStream, Valid}
-use Rattle.model.proofs.ColumnRule.{Small, Advanced, advanced}
+use Rattle.model.proofs.ColumnRule.{Small}
+use Rattle.model.proofs.Dropping.{Advanced, advanced}
 use Rattle.model.proofs.Tables.{decode-encode, formed-encode, valid-decode, encode-decode}
 use Rattle.model.proofs.ReceiveKeepsForm.{receive-keeps}
 use Rattle.model.proofs.AdvanceKeepsForm.{settle-keeps}

@@ -73,4 +73,6 @@ pub mod SendingExamples
 pub mod CuttingExamples
 pub mod FormKept
 pub mod Demand3
+pub mod Dropping
+pub mod SettledSends
 pub mod AddressRoom

@@ -492,9 +492,9 @@ totalOn sc now s p c = total (limitOn sc now s p c) (claims sc now p c s)
 unfoldable pub totalsOn : Scene → ℕ → List Stream → ℕ → Totals
 totalsOn sc now s p = record { totalA = totalOn sc now s p classA; totalB = totalOn sc now s p classB }
 
--- "Advance sets the clock, removes .., then decides"; then Lv! and Join!, unheld streams are dropped, and last leavealltimer!
-unfoldable pub settle : ℕ → Bridge → Bridge
-settle now b =
+-- "Advance sets the clock, removes every registration leaving for at least the leave time .., then decides"
+unfoldable pub deciding : ℕ → Bridge → Bridge
+deciding now b =
     let st = b .settings in
     let s = remain st now (b .streams) in
     let sc : Scene = record { settings = st; owns = decideOwns st now (b .owns); inbound = inboundsOf s } in
@@ -503,9 +503,23 @@ settle now b =
       clock = now;
       totals = tabulate 8 0 (totalsOn sc now s);
       owns = sc .owns;
-      senders = tabulate 8 0 (timeSender st now (b .senders));
-      streams = dropUnheld (map declare (map (decide sc now s) s));
+      senders = b .senders;
+      streams = map (decide sc now s) s;
     }
+
+-- then Lv! and Join!, unheld streams are dropped, and last leavealltimer! (02, xiv)
+unfoldable pub declaring : Bridge → Bridge
+declaring b = record {
+  settings = b .settings;
+  clock = b .clock;
+  totals = b .totals;
+  owns = b .owns;
+  senders = tabulate 8 0 (timeSender (b .settings) (b .clock) (b .senders));
+  streams = dropUnheld (map declare (b .streams));
+}
+
+unfoldable pub settle : ℕ → Bridge → Bridge
+settle now b = declaring (deciding now b)
 
 -- 9: "time is below the held clock"
 unfoldable pub advance : Bridge → ℕ → Answer
