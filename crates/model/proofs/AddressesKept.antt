@@ -147,6 +147,9 @@ effect-keeps b p (addressActs es) here fits v =
           all-changed (ValidOwn (b .clock) (b .settings .leaveTime)) (p - 1) u (b .owns)
           (own-valid (b .clock) (b .settings .leaveTime) (v .settings .leaves) es fits) (v .owns);
       no-other-owns = rw (drop-changed (length (b .settings .ports)) (p - 1) u (b .owns) here) (v .no-other-owns);
+      eight-senders = v .eight-senders;
+      senders = v .senders;
+      no-other-senders = v .no-other-senders;
       at-most-64 = v .at-most-64;
       streams = v .streams;
       ascending = v .ascending;

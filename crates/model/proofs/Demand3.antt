@@ -1,6 +1,6 @@
 -- Demand 3: the order among ports never matters. Frames of MSRP and MMRP handed over in two orders that both keep each port's own
--- order get the same answers and leave the same table; settled at one time, both tables hold what the rules give: A's total stays
--- within limit A, and both totals together within the sum of limits.
+-- order get the same answers and leave the same table, the machines of what is sent included; settled at one time, both tables hold
+-- what the rules give: A's total stays within limit A, and both totals together within the sum of limits.
 use mathlib.Core.Path.{_≡_, refl, sym, _∙_, ap, subst}
 use mathlib.Core.List.{List, [], _∷_}
 use mathlib.Core.Bool.{Bool, true, false, cond}

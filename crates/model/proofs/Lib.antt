@@ -9,6 +9,7 @@ pub mod Withdrawing
 pub mod RegistrarEntries
 pub mod LeaveAllEntries
 pub mod Valid
+pub mod Hearing
 pub mod Parts
 pub mod Stored
 pub mod Cells
@@ -17,6 +18,7 @@ pub mod SettingsOctets
 pub mod Coded
 pub mod ApplicantOctets
 pub mod SendsOctets
+pub mod SenderOctets
 pub mod Owns
 pub mod Tables
 pub mod Fits
