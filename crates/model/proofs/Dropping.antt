@@ -1,21 +1,21 @@
 -- What an advance leaves is what it decides, with Lv! and Join! given and unheld streams dropped (02, xiv): what is sent plays no part in
 -- what the rules of settling give, nor does a stream without a registration.
 use mathlib.Core.Path.{_≡_, refl, sym, _∙_, ap}
-use mathlib.Core.List.{List, [], _∷_, map, List·Memᴰ, List·Memᴰ·head, List·Memᴰ·tail, List·Memᴰ·cases-cons, List·Memᴰ·not-nil}
+use mathlib.Core.List.{List, [], _∷_, map, List·Memᴰ, List·Memᴰ·cases-cons, List·Memᴰ·not-nil}
 use mathlib.Core.Logic.{_⊎_, inl, inr}
-use mathlib.Core.Bool.{Bool, true, false, cond, not, _&&_, _||_}
+use mathlib.Core.Bool.{Bool, true, false, cond, _&&_, _||_}
 use Prim.Native.Nat.{ℕ, zero, suc, _+_, _-_, _≤_, _<_}
 use native.Mathlib.Omega.{arith}
-use lib.Dec.{ltb, leb}
-use Rattle.model.specs.Lists.{All, keep, countTo, bit}
+use lib.Dec.{ltb}
+use Rattle.model.specs.Lists.{All, keep, countTo}
 use Rattle.model.specs.State.{Settings, Cell, Own, Column, Stream, Bridge, Class, noClass, classA, classB, sameClass, bothLimits, inForce, portAt, cellAt, resultAt}
 use Rattle.model.specs.Registrations.{ids}
 use Rattle.model.specs.Bandwidth.{Claim, key}
-use Rattle.model.specs.Settling.{held, anySending, isHeld, dropUnheld, Source, nowhere, from, source, sourceOf, isSource, streamClass, registered, isReady, isAdvertise, Inbound, inboundOf, inboundsOf, isInbound, inboundBelow, mayBring, isKeptOut, sameAddressAt, shares, Scene, sceneOf, Step, first, clear, outcomeColumn, stepsFrom, lastSteps, steps, claim, byBandwidth, latencyOut, deciding, declare, declaring, settle}
+use Rattle.model.specs.Settling.{held, anySending, isHeld, dropUnheld, Source, nowhere, from, source, sourceOf, isSource, streamClass, isAdvertise, Inbound, inboundOf, inboundsOf, isInbound, inboundBelow, mayBring, isKeptOut, sameAddressAt, shares, Scene, sceneOf, Step, first, outcomeColumn, stepsFrom, lastSteps, steps, claim, byBandwidth, latencyOut, deciding, declare, declaring, settle}
 use Rattle.model.proofs.Lists.{mem-keep, and-false}
 use Rattle.model.proofs.Valid.{Rising}
 use Rattle.model.proofs.AdvanceKeepsForm.{or-false, unheld-nowhere, nowhere-stops, all-dropped, all-mapped}
-use Rattle.model.proofs.ColumnRule.{reserves, spent, spentIn, limitBy, leftBy, ruled, columnAt, totalAt, SettledAt, SettledStream, Settled, Decides, Small, advertised, settled, decides}
+use Rattle.model.proofs.ColumnRule.{reserves, spent, limitBy, leftBy, ruled, columnAt, totalAt, SettledAt, SettledStream, Settled, Decides, Small, advertised, settled, decides}
 
 pub unheld-source : (x : Stream) → isHeld x ≡ false → sourceOf x ≡ nowhere
 unfolding isHeld sourceOf
