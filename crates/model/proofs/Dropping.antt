@@ -1,7 +1,7 @@
 -- What an advance leaves is what it decides, with Lv! and Join! given and unheld streams dropped (02, xiv): what is sent plays no part in
 -- what the rules of settling give, nor does a stream without a registration.
 use mathlib.Core.Path.{_≡_, refl, sym, _∙_, ap}
-use mathlib.Core.List.{List, [], _∷_, map, List·Memᴰ, List·Memᴰ·cases-cons, List·Memᴰ·not-nil}
+use mathlib.Core.List.{List, [], _∷_, map, List·Memᴰ, List·Memᴰ·head, List·Memᴰ·tail, List·Memᴰ·cases-cons, List·Memᴰ·not-nil}
 use mathlib.Core.Logic.{_⊎_, inl, inr}
 use mathlib.Core.Bool.{Bool, true, false, cond, _&&_, _||_}
 use Prim.Native.Nat.{ℕ, zero, suc, _+_, _-_, _≤_, _<_}
@@ -209,6 +209,24 @@ module _ (b : Bridge) (k : Settled b) where
     limits = limits-left;
     together = together-left;
   }
+
+-- Every stream that was decided and is held is left, with its results.
+
+declared-there : (y : Stream) (t : List Stream) → List·Memᴰ y t → List·Memᴰ (declare y) (map declare t)
+declared-there y [] m = absurd (List·Memᴰ·not-nil m)
+declared-there y (x ∷ t) m = go (List·Memᴰ·cases-cons m) (declared-there y t)
+  where
+    go : (y ≡ x) ⊎ List·Memᴰ y t → (List·Memᴰ y t → List·Memᴰ (declare y) (map declare t)) → List·Memᴰ (declare y) (declare x ∷ map declare t)
+    go (inl e) ih = List·Memᴰ·head (ap declare e)
+    go (inr k) ih = List·Memᴰ·tail (ih k)
+
+pub settled-there : (now : ℕ) (b : Bridge) (y : Stream) → List·Memᴰ y (deciding now b .streams) → isHeld (declare y) ≡ true → List·Memᴰ (declare y) (settle now b .streams)
+unfolding settle declaring
+settled-there now b y m e = held-left (declare y) (map declare (deciding now b .streams)) (declared-there y (deciding now b .streams) m) e
+
+pub declared-result : (y : Stream) (p : ℕ) → resultAt (declare y) p ≡ resultAt y p
+unfolding declare resultAt
+declared-result y p = refl
 
 -- The bridge c is what an advance of b to the time now leaves.
 pub record Advanced (now : ℕ) (b c : Bridge) : Type 0 where
