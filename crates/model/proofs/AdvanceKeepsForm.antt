@@ -7,14 +7,14 @@ use native.Mathlib.Nat.{le-trans}
 use native.Mathlib.Omega.{arith}
 use lib.ListN.{length, getD, drop, length-map}
 use lib.Dec.{ltb, leb, eqb}
-use borrow.Author.Tests.{leb-true, ltb-false, leb-false, le-ltb, le-leb, eq-eqb, ne-eqb, ltb-true, lt-ltb, eqb-true, eqb-false, not-true}
+use borrow.Author.Tests.{ltb-false, leb-false, le-ltb, le-leb, eq-eqb, ne-eqb, ltb-true, lt-ltb, eqb-true, eqb-false, not-true}
 use Rattle.model.specs.Lists.{All, keep, tabulate, implies, bit}
-use Rattle.model.specs.State.{Port, Settings, Leaving, stays, since, TalkerType, talkerAdvertise, talkerFailed, Talker, noTalker, talker, Listener, noListener, listener, Cell, Domain, noDomain, domain, Presence, vacant, present, Address, Own, Column, none, advertise, failed, Entry, noEntry, filters, forwards, Declared, nothing, tells, Ready, Fixed, Offer, Failure, Sends, Sender, Result, Stream, Totals, Bridge, empty, unsettled, noFixed, noOwn, noSends, noSender, noPort, ownAt, portAt, isPort, cellAt, resultAt, sendsAt, senderAt, declaresSlot, Class, classA, classB, inForce, noClass, sameClass, supports}
+use Rattle.model.specs.State.{Port, Settings, Leaving, stays, since, TalkerType, talkerAdvertise, talkerFailed, Talker, noTalker, talker, Listener, noListener, listener, Cell, Domain, noDomain, domain, Presence, vacant, present, Address, Own, Column, none, advertise, failed, Entry, noEntry, filters, forwards, Declared, nothing, tells, Fixed, Sends, Sender, Result, Stream, Totals, Bridge, empty, unsettled, noFixed, noOwn, noSends, noSender, noPort, ownAt, portAt, isPort, cellAt, resultAt, sendsAt, senderAt, declaresSlot, Class, classA, classB, inForce, noClass, sameClass, supports}
 use Rattle.model.specs.Registrations.{Answer, ids, macs}
-use Rattle.model.specs.Settling.{isAdvertise, Scene, sceneOf, flagOf, decideOwn, decideOwns, expired, expireDomain, outlasts, remainAddresses, expireTalker, expireListener, expireCell, expire, held, anySending, isHeld, dropUnheld, advertisedBy, failedBy, listenedBy, sameOffer, sameFailed, sameReady, declareSends, declare, timeSender, deciding, declaring, remain, Source, nowhere, from, source, sourceOf, isSource, fixedOf, talkerTypeOf, registered, isReady, Outcome, columnNone, asRegistered, ownFailure, Step, first, failedColumn, outcomeColumn, stepsFrom, steps, ageOf, claims, reservedA, limitOn, byBandwidth, columnOf, capped, latencyOut, entryOf, ageKept, latencyKept, decideAt, decide, totalOn, totalsOn, settle, advance, isTalking, isHearing, Origin, streamClass, clear, Inbound, inboundOf, inboundsOf, lastSteps}
+use Rattle.model.specs.Settling.{isAdvertise, Scene, flagOf, decideOwn, decideOwns, expired, expireDomain, outlasts, remainAddresses, expireTalker, expireListener, expireCell, expire, held, anySending, isHeld, dropUnheld, advertisedBy, failedBy, listenedBy, sameOffer, sameFailed, sameReady, declareSends, declare, timeSender, deciding, declaring, remain, Source, nowhere, from, source, sourceOf, isSource, fixedOf, talkerTypeOf, registered, isReady, Outcome, columnNone, asRegistered, ownFailure, Step, first, failedColumn, outcomeColumn, stepsFrom, steps, ageOf, claims, reservedA, limitOn, byBandwidth, columnOf, capped, latencyOut, entryOf, ageKept, latencyKept, decideAt, decide, totalOn, totalsOn, settle, advance, isTalking, isHearing, Origin, streamClass, clear, Inbound, inboundOf, inboundsOf, lastSteps}
 use Rattle.model.specs.Bandwidth.{sort, total, reserved}
 use Rattle.model.specs.Applicant.{Standing, veryAnxiousPassive, veryAnxiousNew, anxiousNew, anxiousActive, quietActive, leavingActive, lv, join, becomes, standing, applicantEntry, vo}
-use Rattle.model.specs.Machines.{Listed, Applicant, noApplicant, applicant, Decided, undeclared, declared, otherContent, with, applicantOf, after, born, decided}
+use Rattle.model.specs.Machines.{Applicant, noApplicant, applicant, Decided, undeclared, declared, otherContent, with, applicantOf, after, born, decided}
 use Rattle.model.specs.LeaveAll.{LeaveAllState, active, passive, LeaveAll, leavealltimer, starting, leaveAllRow, leaveAllColumn, leaveAllEntry, leaveAllNext, leaveAllTime, hasRun, timedOut}
 use Rattle.model.specs.Table.{totalsWithin, talkers, hasColumn, declares, declarers, forListener, storedRules, storedFormed, atMost, anyHeld, isStanding, stands, isFailed, alike, sentRules, sentFormed}
 use Rattle.model.proofs.Lists.{all-append, all-getD, all-tabulate, at-place, and-false, implies-true, true-all}

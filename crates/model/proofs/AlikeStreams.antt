@@ -13,8 +13,8 @@ use Rattle.model.specs.Lists.{All, keep}
 use Rattle.model.specs.State.{Settings, Stream, Bridge, Class, sameClass, resultAt}
 use Rattle.model.specs.Registrations.{ids}
 use Rattle.model.specs.Bandwidth.{Claim, moreImportant, key, above}
-use Rattle.model.specs.Settling.{Scene, expire, held, remain, streamClass, clear, steps, claim, claims}
-use Rattle.model.proofs.Lists.{all-keep, and-left, and-right, and-both}
+use Rattle.model.specs.Settling.{Scene, expire, remain, streamClass, clear, steps, claim, claims}
+use Rattle.model.proofs.Lists.{and-left, and-right, and-both}
 use Rattle.model.proofs.Valid.{Rising, Valid}
 use Rattle.model.proofs.AdvanceKeepsForm.{remain-all, remain-rising}
 use Rattle.model.proofs.Admission.{all-above, all-mem}

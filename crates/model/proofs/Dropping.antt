@@ -3,19 +3,19 @@
 use mathlib.Core.Path.{_≡_, refl, sym, _∙_, ap}
 use mathlib.Core.List.{List, [], _∷_, map, List·Memᴰ, List·Memᴰ·head, List·Memᴰ·tail, List·Memᴰ·cases-cons, List·Memᴰ·not-nil}
 use mathlib.Core.Logic.{_⊎_, inl, inr}
-use mathlib.Core.Bool.{Bool, true, false, cond, not, _&&_, _||_}
+use mathlib.Core.Bool.{Bool, true, false, cond, _&&_, _||_}
 use Prim.Native.Nat.{ℕ, zero, suc, _+_, _-_, _≤_, _<_}
 use native.Mathlib.Omega.{arith}
-use lib.Dec.{ltb, leb}
-use Rattle.model.specs.Lists.{All, keep, countTo, bit}
+use lib.Dec.{ltb}
+use Rattle.model.specs.Lists.{All, keep, countTo}
 use Rattle.model.specs.State.{Settings, Cell, Own, Column, Stream, Bridge, Class, noClass, classA, classB, sameClass, bothLimits, inForce, portAt, cellAt, resultAt}
 use Rattle.model.specs.Registrations.{ids}
 use Rattle.model.specs.Bandwidth.{Claim, key}
-use Rattle.model.specs.Settling.{held, anySending, isHeld, dropUnheld, Source, nowhere, from, source, sourceOf, isSource, streamClass, registered, isReady, isAdvertise, Inbound, inboundOf, inboundsOf, isInbound, inboundBelow, mayBring, isKeptOut, sameAddressAt, shares, Scene, sceneOf, Step, first, clear, outcomeColumn, stepsFrom, lastSteps, steps, claim, byBandwidth, latencyOut, deciding, declare, declaring, settle}
+use Rattle.model.specs.Settling.{held, anySending, isHeld, dropUnheld, Source, nowhere, from, source, sourceOf, isSource, streamClass, isAdvertise, Inbound, inboundOf, inboundsOf, isInbound, inboundBelow, mayBring, isKeptOut, sameAddressAt, shares, Scene, sceneOf, Step, first, outcomeColumn, stepsFrom, lastSteps, steps, claim, byBandwidth, latencyOut, deciding, declare, declaring, settle}
 use Rattle.model.proofs.Lists.{mem-keep, and-false}
 use Rattle.model.proofs.Valid.{Rising}
 use Rattle.model.proofs.AdvanceKeepsForm.{or-false, unheld-nowhere, nowhere-stops, all-dropped, all-mapped}
-use Rattle.model.proofs.ColumnRule.{reserves, spent, spentIn, limitBy, leftBy, ruled, columnAt, totalAt, SettledAt, SettledStream, Settled, Decides, Small, advertised, settled, decides}
+use Rattle.model.proofs.ColumnRule.{reserves, spent, limitBy, leftBy, ruled, columnAt, totalAt, SettledAt, SettledStream, Settled, Decides, Small, advertised, settled, decides}
 
 pub unheld-source : (x : Stream) → isHeld x ≡ false → sourceOf x ≡ nowhere
 unfolding isHeld sourceOf
@@ -209,6 +209,24 @@ module _ (b : Bridge) (k : Settled b) where
     limits = limits-left;
     together = together-left;
   }
+
+-- Every stream that was decided and is held is left, with its results.
+
+declared-there : (y : Stream) (t : List Stream) → List·Memᴰ y t → List·Memᴰ (declare y) (map declare t)
+declared-there y [] m = absurd (List·Memᴰ·not-nil m)
+declared-there y (x ∷ t) m = go (List·Memᴰ·cases-cons m) (declared-there y t)
+  where
+    go : (y ≡ x) ⊎ List·Memᴰ y t → (List·Memᴰ y t → List·Memᴰ (declare y) (map declare t)) → List·Memᴰ (declare y) (declare x ∷ map declare t)
+    go (inl e) ih = List·Memᴰ·head (ap declare e)
+    go (inr k) ih = List·Memᴰ·tail (ih k)
+
+pub settled-there : (now : ℕ) (b : Bridge) (y : Stream) → List·Memᴰ y (deciding now b .streams) → isHeld (declare y) ≡ true → List·Memᴰ (declare y) (settle now b .streams)
+unfolding settle declaring
+settled-there now b y m e = held-left (declare y) (map declare (deciding now b .streams)) (declared-there y (deciding now b .streams) m) e
+
+pub declared-result : (y : Stream) (p : ℕ) → resultAt (declare y) p ≡ resultAt y p
+unfolding declare resultAt
+declared-result y p = refl
 
 -- The bridge c is what an advance of b to the time now leaves.
 pub record Advanced (now : ℕ) (b c : Bridge) : Type 0 where

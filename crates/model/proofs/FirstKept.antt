@@ -10,7 +10,7 @@ use lib.Dec.{ltb, eqb}
 use Rattle.model.specs.Lists.{keep}
 use Rattle.model.specs.State.{Settings, Talker, noTalker, talker, Cell, empty, Stream, Bridge, cellAt}
 use Rattle.model.specs.Registrations.{Act, leaveAll, leave, talk, listen, hearAll, hear, ofDomain, does, moves, at, change, begun, touch, reach, apply, applyAll}
-use Rattle.model.specs.Settling.{expired, expireTalker, expireCell, expire, isHeld, dropUnheld, remain, Scene, decideOwns, inboundsOf, decide, deciding, declare, declaring, settle}
+use Rattle.model.specs.Settling.{expired, expireTalker, expireCell, expire, isHeld, dropUnheld, remain, Scene, decideOwns, inboundsOf, decide, declare, deciding, declaring, settle}
 use Rattle.model.proofs.Growth.{First, first-stays}
 
 -- A stream with the StreamID of x is held among s, and each Talker registered of x has its first latency there.
@@ -147,7 +147,7 @@ unfolding declare cellAt
 declared-kept s = map-kept declare (λ y. refl) (λ y q n h. h) s
 
 pub advance-first-stays : (now : ℕ) (b : Bridge) → AllFirstKept (settle now b .streams) (b .streams)
-unfolding settle deciding declaring
+unfolding settle declaring deciding
 advance-first-stays now b =
     let s = remain (b .settings) now (b .streams) in
     let sc : Scene = record { settings = b .settings; owns = decideOwns (b .settings) now (b .owns); inbound = inboundsOf s } in

@@ -3,17 +3,16 @@
 use mathlib.Core.Path.{_≡_, refl, sym, ap, _∙_}
 use mathlib.Core.Logic.{_↔_}
 use mathlib.Core.List.{List, [], _∷_, map}
-use mathlib.Core.Bool.{Bool, true, false, cond, _&&_, _||_, not, false≢true, true≢false}
-use Prim.Native.Nat.{ℕ, zero, suc, _+_, _≤_, _<_}
+use mathlib.Core.Bool.{Bool, true, false, cond, _||_, not, false≢true, true≢false}
+use Prim.Native.Nat.{ℕ, zero, suc, _+_, _<_}
 use native.Mathlib.Omega.{arith}
 use lib.ListN.{length, getD, length-map}
 use lib.Dec.{ltb}
 use borrow.Author.Tests.{lt-leb, ltb-true, ltb-false}
-use Rattle.model.specs.Lists.{All, bit, implies, tabulate}
-use Rattle.model.specs.Applicant.{veryAnxiousPassive}
-use Rattle.model.specs.Machines.{Listed, Applicant, noApplicant, applicant, Decided, undeclared, declared, decided}
+use Rattle.model.specs.Lists.{All, bit, tabulate}
+use Rattle.model.specs.Machines.{Applicant, noApplicant, applicant, Decided, undeclared, declared, decided}
 use Rattle.model.specs.State.{Settings, Leaving, stays, since, Talker, noTalker, talker, Listener, noListener, listener, Cell, Domain, noDomain, domain, Presence, vacant, present, Address, noOwn, Column, none, advertise, failed, noEntry, filters, forwards, Declared, nothing, tells, Fixed, Result, Sends, Stream, Bridge, fresh, unsettled, noSends, streamAt, cellAt, resultAt, sendsAt, ownAt}
-use Rattle.model.specs.Settling.{expired, expireTalker, expireListener, expireCell, expire, remain, expireDomain, outlasts, remainAddresses, sourceOf, columnOf, registered, isReady, entryOf, Scene, isTalking, isHearing, held, isApplicant, isSending, anySending, isHeld, dropUnheld, fixedOf, isAdvertise, advertisedBy, failedBy, listenedBy, sameOffer, sameFailed, sameReady, declareSends, declare, decideAt, decide, deciding, declaring, settle}
+use Rattle.model.specs.Settling.{expired, expireTalker, expireListener, expireCell, expire, remain, expireDomain, outlasts, remainAddresses, sourceOf, columnOf, registered, isReady, entryOf, Scene, isTalking, isHearing, held, isApplicant, isSending, anySending, isHeld, fixedOf, isAdvertise, advertisedBy, failedBy, listenedBy, sameOffer, sameFailed, sameReady, declareSends, declare, decideAt, decide, deciding, declaring, settle}
 use Rattle.model.specs.Table.{entryNumber, talkers, hasColumn, declares, storedRules, storedFormed, isStanding, stands, isFailed, alike, sentRules, sentFormed}
 use Rattle.model.specs.Why.{columnBy, sceneNow, reason}
 use Rattle.model.proofs.Lists.{all-map, all-getD, at-place, getD-map, all-true, implied, and-right}

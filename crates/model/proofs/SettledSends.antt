@@ -1,15 +1,15 @@
 -- What the ports send after an advance (02, xiv): the machines that stand are just the settled declarations, with the settled octets; any
 -- other is an unsent Lv. A machine leaves the list in an advance only from VP. What is received keeps both: it makes no machine and ends
 -- none.
-use mathlib.Core.Path.{_≡_, refl}
+use mathlib.Core.Path.{_≡_, refl, ap}
 use mathlib.Core.List.{List, [], _∷_, map}
 use mathlib.Core.Bool.{Bool, true, false, cond}
 use Prim.Native.Nat.{ℕ, zero, suc, _-_, _<_}
 use lib.ListN.{length, getD, replicate}
 use lib.Dec.{leb, ltb, eqb}
-use Rattle.model.specs.Lists.{All, tabulate}
+use Rattle.model.specs.Lists.{All}
 use Rattle.model.specs.Applicant.{Standing, veryAnxiousPassive, veryAnxiousNew, anxiousNew, anxiousActive, quietActive, leavingActive, becomes}
-use Rattle.model.specs.Machines.{Listed, Applicant, noApplicant, applicant, Decided, undeclared, declared, Heard, heardIn, heardEmpty, heardLeave, heardEvent, with, applicantOf, decided, moved}
+use Rattle.model.specs.Machines.{Applicant, noApplicant, applicant, Decided, undeclared, declared, Heard, heardIn, heardEmpty, heardLeave, heardEvent, with, applicantOf, decided, moved}
 use Rattle.model.specs.State.{Cell, Fixed, Result, Sends, Stream, Bridge, noFixed, unsettled, noSends, fresh, resultAt, sendsAt}
 use Rattle.model.specs.Registrations.{Kind, advertises, faileds, listeners, Act, leaveAll, leave, talk, listen, hearAll, hear, ofDomain, does, moveKind, hears, moves, at, change, begun, touch, reach, apply, applyAll, Reading, refused, acts, Answer, holding, owning, sending, applyOwns, applySenders, received}
 use Rattle.model.specs.Settling.{isApplicant, advertisedBy, failedBy, listenedBy, sameOffer, sameFailed, sameReady, declareSends, declare, deciding, declaring, settle}
@@ -99,13 +99,19 @@ module _ {D : Type 0} where
       listed noApplicant k = absurd k
       listed (applicant y) k = refl
 
-      go : (q : Standing) → isApplicant (applicantOf (map (with (x .value)) (becomes false (heardEvent h) q))) ≡ true
-      go veryAnxiousPassive = listed _ (heard-stands h veryAnxiousPassive (x .value) (x .value) tt refl)
-      go veryAnxiousNew = listed _ (heard-stands h veryAnxiousNew (x .value) (x .value) tt refl)
-      go anxiousNew = listed _ (heard-stands h anxiousNew (x .value) (x .value) tt refl)
-      go anxiousActive = listed _ (heard-stands h anxiousActive (x .value) (x .value) tt refl)
-      go quietActive = listed _ (heard-stands h quietActive (x .value) (x .value) tt refl)
-      go leavingActive = rw (heard-leaving h (x .value)) refl
+      heard-then : Standing → Applicant D
+      heard-then q = applicantOf (map (with (x .value)) (becomes false (heardEvent h) q))
+
+      stays : (q : Standing) → Stands q → isApplicant (heard-then q) ≡ true
+      stays q k = listed (heard-then q) (heard-stands h q (x .value) (x .value) k refl)
+
+      go : (q : Standing) → isApplicant (heard-then q) ≡ true
+      go veryAnxiousPassive = stays veryAnxiousPassive tt
+      go veryAnxiousNew = stays veryAnxiousNew tt
+      go anxiousNew = stays anxiousNew tt
+      go anxiousActive = stays anxiousActive tt
+      go quietActive = stays quietActive tt
+      go leavingActive = ap isApplicant (heard-leaving h (x .value))
 
 -- What a port sends of a stream, by the settled values and its result.
 pub record SettledSends (f : Fixed) (r : Result) (s : Sends) : Type 0 where
