@@ -40,6 +40,8 @@ pub struct PortSending {
 #[derive(Clone, Debug, PartialEq, Eq)]
 pub struct Written {
     pub said: Vec<Said>,
+    /// The first that had something to write and found no room.
+    pub no_room: Option<Said>,
     pub pdu: Vec<u8>,
     pub next_place: usize,
     pub leave_all: bool,
@@ -152,6 +154,7 @@ impl PortSending {
         let mut said: Vec<Said> = wanting.iter().map(|(_, said)| *said).collect();
         let taken = declarations::longest_run(&said, leave_all);
         said.truncate(taken);
+        let no_room = wanting.get(taken).map(|(_, said)| *said);
         let stop = wanting.get(taken).map_or(listed.len(), |(at, _)| *at);
         let mut steps = Vec::new();
         for (at, (attribute, machine)) in self.machines.iter_mut().enumerate() {
@@ -165,7 +168,7 @@ impl PortSending {
         let is_left = |attribute: &&Attribute| self.machines.contains_key(attribute);
         let next_place = listed[..stop].iter().filter(is_left).count();
         let pdu = declarations::pdu(&said, leave_all);
-        Written { said, pdu, next_place, leave_all, steps }
+        Written { said, no_room, pdu, next_place, leave_all, steps }
     }
 
     /// The declarations from a place on whose entry has a message without brackets, each with its place.

@@ -62,6 +62,12 @@ pub fn of_pdu(octets: &[u8]) -> Result<TakenApart, String> {
     }
 }
 
+/// The declarations of one PDU.
+pub fn declarations_of(octets: &[u8]) -> Result<Vec<Declaration>, String> {
+    let said = of_pdu(octets)?.said;
+    Ok(said.iter().map(|said| said.declaration).collect())
+}
+
 /// What a value says; nothing where it fills a gap between Listeners.
 fn of_value((event, value): &(Event, Value)) -> Option<Said> {
     let declaration = match *value {
