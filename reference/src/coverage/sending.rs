@@ -247,13 +247,12 @@ fn left_all(counts: &mut Counts, before: &Bridge, (port, place): (usize, usize),
 /// What a list has of one stream beside each other.
 fn several_of_one_stream(counts: &mut Counts, list: &[Attribute]) {
     let has = |attribute_type, key| list.contains(&Attribute { attribute_type, key });
-    let mut advertised =
-        list.iter().filter(|one| one.attribute_type == AttributeType::TalkerAdvertise);
-    let both = |one: &Attribute| has(AttributeType::TalkerFailed, one.key);
-    let three = |one: &Attribute| both(one) && has(AttributeType::Listener, one.key);
-    let found: Vec<&Attribute> = advertised.by_ref().filter(|one| both(one)).collect();
-    counts.count_if("Advertise and Failed of a stream in one list", !found.is_empty());
-    let found_three = found.iter().any(|one| three(one));
-    counts.count_if("Advertise, Failed and Listener of a stream in one list", found_three);
+    let both = |key: &u64| {
+        has(AttributeType::TalkerAdvertise, *key) && has(AttributeType::TalkerFailed, *key)
+    };
+    let keys: Vec<u64> = list.iter().map(|one| one.key).filter(both).collect();
+    counts.count_if("Advertise and Failed of a stream in one list", !keys.is_empty());
+    let three = keys.iter().any(|key| has(AttributeType::Listener, *key));
+    counts.count_if("Advertise, Failed and Listener of a stream in one list", three);
     counts.count_if("list of 194 declarations", list.len() == 194);
 }
