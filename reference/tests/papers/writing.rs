@@ -273,7 +273,7 @@ fn written_declarations_show_the_last_settled_state() {
     join_talker(&mut table, 2, &talker(STREAM));
     join_listener(&mut table, 3, STREAM, READY);
     advance(&mut table, 1);
-    let before: Vec<_> = (1..=3).map(|port| all_pdus(&table, port)).collect();
+    let before: Vec<_> = (1..=3).map(|port| declared(&table, port)).collect();
     // Latency, type, Listener and a lower Talker port since then change nothing.
     let mut later = failed(STREAM, 5);
     later.accumulated_latency = 99;
@@ -281,10 +281,10 @@ fn written_declarations_show_the_last_settled_state() {
     join_talker(&mut table, 1, &talker(STREAM));
     join_talker(&mut table, 1, &talker(STREAM + 1));
     join_listener(&mut table, 3, STREAM, ASKING);
-    let after: Vec<_> = (1..=3).map(|port| all_pdus(&table, port)).collect();
+    let after: Vec<_> = (1..=3).map(|port| declared(&table, port)).collect();
     assert_eq!(before, after);
     advance(&mut table, 2);
-    let settled: Vec<_> = (1..=3).map(|port| all_pdus(&table, port)).collect();
+    let settled: Vec<_> = (1..=3).map(|port| declared(&table, port)).collect();
     assert_ne!(before, settled);
 }
 
