@@ -104,29 +104,55 @@ fn advance(table: &mut [u8], space: &mut [u8]) -> Step {
     Step::Stop
 }
 
+// Calls write with a buffer of so many octets.
+fn print_written(table: &[u8], port: u32, place: u32, n: usize, space: &mut [u8]) -> Step
+    requires { ⌜ n ≤ 2048 ⌝ }
+{
+    let mut filled = answers::filled();
+    let buffer = &mut filled[0..n];
+    let wrote = bridge::write(table, port, place, buffer);
+    let at = answers::put_written(space, wrote, buffer);
+    print(space, at)
+}
+
 fn write(table: &[u8], port: u32, space: &mut [u8]) -> Step {
     let mut field = [0u8; 4];
     if read(&mut field) {
         let place = octets::get(&field, 0, 2) as u32;
         let asked = octets::get(&field, 2, 2) as usize;
-        let n = console::least(asked, answers::BUFFER);
-        let mut filled = answers::filled();
-        let buffer = &mut filled[0..n];
-        let wrote = bridge::write(table, port, place, buffer);
-        let at = answers::put_written(space, wrote, buffer);
-        return print(space, at);
+        return print_written(
+            table,
+            port,
+            place,
+            console::least(asked, answers::BUFFER),
+            space,
+        );
     }
     Step::Stop
+}
+
+fn print_reported(table: &[u8], port: u32, place: u32, space: &mut [u8]) -> Step {
+    let at = answers::put_reported(space, bridge::report(table, port, place));
+    print(space, at)
 }
 
 fn report(table: &[u8], port: u32, space: &mut [u8]) -> Step {
     let mut field = [0u8; 2];
     if read(&mut field) {
-        let place = octets::get(&field, 0, 2) as u32;
-        let at = answers::put_reported(space, bridge::report(table, port, place));
-        return print(space, at);
+        return print_reported(table, port, octets::get(&field, 0, 2) as u32, space);
     }
     Step::Stop
+}
+
+// Calls why with a buffer of so many octets.
+fn print_explained(table: &[u8], id: u64, port: u32, n: usize, space: &mut [u8]) -> Step
+    requires { ⌜ n ≤ 2048 ⌝ }
+{
+    let mut filled = answers::filled();
+    let buffer = &mut filled[0..n];
+    let answer = bridge::why(table, id, port, buffer);
+    let at = answers::put_explained(space, answer, buffer);
+    print(space, at)
 }
 
 fn explain(table: &[u8], port: u32, space: &mut [u8]) -> Step {
@@ -134,12 +160,13 @@ fn explain(table: &[u8], port: u32, space: &mut [u8]) -> Step {
     if read(&mut field) {
         let id = octets::get(&field, 0, 8);
         let asked = octets::get(&field, 8, 2) as usize;
-        let n = console::least(asked, answers::BUFFER);
-        let mut filled = answers::filled();
-        let buffer = &mut filled[0..n];
-        let answer = bridge::why(table, id, port, buffer);
-        let at = answers::put_explained(space, answer, buffer);
-        return print(space, at);
+        return print_explained(
+            table,
+            id,
+            port,
+            console::least(asked, answers::BUFFER),
+            space,
+        );
     }
     Step::Stop
 }
