@@ -12,11 +12,11 @@ missing() {
     done
 }
 
-# Installs packages: PACKAGES
+# Installs packages, one test after the other, since apt-get gives up beside another: PACKAGES
 install() {
     export DEBIAN_FRONTEND=noninteractive
-    { timeout 90 apt-get "${quick[@]}" update && timeout 400 apt-get "${quick[@]}" install --no-install-recommends "$@"; } \
-        </dev/null >/dev/null 2>&1
+    { flock 9 && timeout 90 apt-get "${quick[@]}" update && timeout 400 apt-get "${quick[@]}" install --no-install-recommends "$@"; } \
+        </dev/null >/dev/null 2>&1 9<"${BASH_SOURCE[0]}"
 }
 
 # Installs those that are missing, where that may be done, and leaves in absent those that still are: PACKAGES

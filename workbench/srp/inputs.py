@@ -37,6 +37,8 @@ class Input:
 
     def with_settings(self, octets):
         """The same with other settings, in every start."""
+        if all(record.kind != records.START for record in self.records):
+            raise Fault(f"{self.name} has no start, whose settings others could stand in for")
         start = records.start(octets)
         return replace(self, records=[start if record.kind == records.START else record for record in self.records])
 

@@ -20,6 +20,8 @@ def test_settings_stand_in_for_those_of_any_input(srp, both, written):
     assert "port 3 A 51264000/60000000" in srp("sheet", "--settings", model, calls)
     records = written("records", (ROOT / "crates/srpsheet/stdin").read_bytes())
     assert "port 2 A 17088000/60000000 B 0/0" in srp("sheet", "--settings", model, records)
+    unstarted = written("unstarted", bytes.fromhex("2000000064"))
+    assert "has no start" in srp("sheet", "--calls", "--settings", model, unstarted, status=2)
     assert "limits of 60 Mbit/s" not in both("sheet", "--settings", model, written("capture", CAPTURE), *PORTS)[2]
 
 

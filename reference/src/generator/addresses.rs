@@ -1,7 +1,7 @@
 //! What neighbours ask for by MMRP frames.
 
 use super::damage::damaged;
-use super::events::{JOINS, LV};
+use super::events::{some_events, JOINS, LV};
 use super::frames::talkers_frame;
 use super::history::History;
 use super::newer::of_some_version;
@@ -39,25 +39,12 @@ fn some_addresses(random: &mut Random, plan: &Plan) -> (Address, u64) {
     }
 }
 
-/// The events of so many values: mostly joins.
-fn some_events(random: &mut Random, count: u64) -> Vec<u8> {
-    let style = random.below(20);
-    let one_join = random.one_of(&JOINS);
-    let event = |random: &mut Random| match style {
-        0..=9 => one_join,
-        10..=11 => random.one_of(&JOINS),
-        12..=14 => LV,
-        _ => random.below(6) as u8,
-    };
-    (0..count).map(|_| event(random)).collect()
-}
-
 /// A vector of values in a row. Without any it has a LeaveAll, since it would be an EndMark else.
 fn vector(random: &mut Random, first_value: Vec<u8>, count: u64) -> VectorDraft {
     VectorDraft {
         leave_all_event: u8::from(count == 0 || random.percent(8)),
         first_value,
-        events: some_events(random, count),
+        events: some_events(random, count, 10),
         spare_event: if random.percent(10) { random.below(6) as u8 } else { 0 },
         ..VectorDraft::default()
     }

@@ -1,7 +1,7 @@
 //! Frames that neighbours send, with what their streams mostly say.
 
 use super::domains::domain_vector;
-use super::events::{ASKING, JOINS, LV, READY, READY_FAILED};
+use super::events::{some_events, ASKING, JOINS, LV, READY, READY_FAILED};
 use super::newer::of_some_version;
 use super::plan::{accumulated_latency, Group, Plan};
 use crate::declarations;
@@ -24,19 +24,6 @@ fn some_members(random: &mut Random, group: &Group) -> (u64, u64) {
     }
 }
 
-/// So many events, mostly joins.
-fn some_events(random: &mut Random, count: u64) -> Vec<u8> {
-    let style = random.below(20);
-    let one_join = random.one_of(&JOINS);
-    let event = |random: &mut Random| match style {
-        0..=8 => one_join,
-        9..=11 => random.one_of(&JOINS),
-        12..=14 => LV,
-        _ => random.below(6) as u8,
-    };
-    (0..count).map(|_| event(random)).collect()
-}
-
 /// A vector of neighbours of a group, of one of the known types.
 fn vector(
     random: &mut Random,
@@ -52,7 +39,7 @@ fn vector(
     if leave_all_event == 1 && random.percent(30) {
         count = 0;
     }
-    let events = some_events(random, count);
+    let events = some_events(random, count, 9);
     let one_type = random.one_of(&[READY, READY, READY, READY_FAILED, ASKING]);
     let mixed_types = random.percent(25);
     let listener_types = match attribute_type {
