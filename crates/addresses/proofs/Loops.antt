@@ -8,7 +8,7 @@ use native.Mathlib.Numerals.{add-one}
 use lib.ListN.{length, getD, take, drop, length-append, length-drop}
 use lib.Seq.{take-suc, drop-cons, take-length, drop-length, length-take-le, take-at, drop-at}
 use lib.Dec.{leb}
-use Rattle.model.specs.Layout.{addressIn, addressSize, mostAddresses, inAddress, ownSize}
+use Rattle.model.specs.Layout.{addressIn, addressSize, mostAddresses, addressIndex, ownSize}
 use Rattle.model.specs.Lists.{keep}
 use Rattle.model.specs.State.{Settings, stays, since, Presence, vacant, present, Address, Own}
 use Rattle.model.specs.Registrations.{at, changeAddresses, quitAddress}
@@ -176,7 +176,7 @@ module _ (s₀ : List ℕ) where
       f : FitOwn (toOwn s)
       f = laid-own-fits s (d .laid)
 
-      seen : getD s (addressIn k) 0 ≡ getD (addressNumbers (there (toOwn s) f k h)) (inAddress .registered) 0
+      seen : getD s (addressIn k) 0 ≡ getD (addressNumbers (there (toOwn s) f k h)) (addressIndex .registered) 0
       seen = registered-read (toOwn s) f s (laid-own-is s (d .laid)) k h
 
       leads : changeAddresses (dropping (suc k)) (toOwn s) ≡ changeAddresses presentOnly (toOwn s₀)

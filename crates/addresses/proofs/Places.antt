@@ -14,7 +14,7 @@ use Rattle.octets.specs.Fields.{flat, packed}
 use Rattle.octets.proofs.Be.{be-zero}
 use Rattle.octets.proofs.Fields.{flat-append}
 use Rattle.octets.proofs.Patches.{patch-between}
-use Rattle.model.specs.Layout.{addressIn, addressSize, mostAddresses, addressesPlace, addressCountPlace, macPlace}
+use Rattle.model.specs.Layout.{addressIn, addressSize, mostAddresses, inOwn, inAddress}
 use Rattle.model.specs.State.{Address, Own}
 use Rattle.model.specs.Registrations.{changeAddresses, macs}
 use Rattle.model.specs.Table.{presenceNumbers, addressNumbers, addressOctets, ownOctets, toOwn}
@@ -30,7 +30,7 @@ use Rattle.addresses.proofs.Records.{front, unused, own-split, own-same
 use Rattle.addresses.proofs.Searching.{held-at, missing-at}
 
 -- a vacant one is zeros and its address
-vacant-octets : (m : ℕ) → addressOctets (vacantAt m) ≡ zeros macPlace ++ be 6 m
+vacant-octets : (m : ℕ) → addressOctets (vacantAt m) ≡ zeros inAddress.mac ++ be 6 m
 unfolding addressOctets addressNumbers presenceNumbers vacantAt packed
 vacant-octets m = rw (be-zero 1, be-zero 4, append-nil (be 6 m))
 
@@ -59,10 +59,10 @@ module _ (o : Own) (f : FitOwn o) where
       omega (arith, length-append (front o n) (flat addressOctets (take k l)), flat-length (take k l), front-length o f n)
 
   -- it, with another number of records
-  recounted : (k m : ℕ) (r : List ℕ) → patch addressCountPlace 1 (be 1 m) (before k ++ r) ≡ front o m ++ (flat addressOctets (take k l) ++ r)
+  recounted : (k m : ℕ) (r : List ℕ) → patch inOwn.count 1 (be 1 m) (before k ++ r) ≡ front o m ++ (flat addressOctets (take k l) ++ r)
   unfolding before
   recounted k m r =
-      ap (patch addressCountPlace 1 (be 1 m)) (append-assoc (front o n) (flat addressOctets (take k l)) r)
+      ap (patch inOwn.count 1 (be 1 m)) (append-assoc (front o n) (flat addressOctets (take k l)) r)
       ∙ held-put o f n m (flat addressOctets (take k l) ++ r)
 
   module _ (k mac : ℕ) (h : k ≤ n) (few : n < mostAddresses) where
@@ -85,18 +85,18 @@ module _ (o : Own) (f : FitOwn o) where
         ∙ ap (λ (s : List Address). front o n ++ (flat addressOctets s ++ unused n)) (sym (take-append-drop k l))
         ∙ rw (flat-append addressOctets (take k l) (drop k l), e, zeros-add addressSize ((mostAddresses - (n + 1)) * addressSize)) (simp append-assoc)
 
-    named : patch (addressIn k + macPlace) 6 (be 6 mac) (before k ++ (zeros addressSize ++ (higher ++ rest))) ≡ before k ++ (addressOctets (vacantAt mac) ++ (higher ++ rest))
+    named : patch (addressIn k + inAddress.mac) 6 (be 6 mac) (before k ++ (zeros addressSize ++ (higher ++ rest))) ≡ before k ++ (addressOctets (vacantAt mac) ++ (higher ++ rest))
     named =
         let r = higher ++ rest in
-        let place : length (before k ++ zeros macPlace) ≡ addressIn k + macPlace =
-        omega (arith, length-append (before k) (zeros macPlace), before-length k h, length-zeros macPlace) in
-        let halves : zeros addressSize ≡ zeros macPlace ++ zeros 6 = zeros-add macPlace 6 in
-        ap (patch (addressIn k + macPlace) 6 (be 6 mac)) (ap (λ (z : List ℕ). before k ++ (z ++ r)) halves ∙ simp append-assoc)
-        ∙ patch-between (before k ++ zeros macPlace) (zeros 6) r (be 6 mac) (addressIn k + macPlace) 6 place (length-zeros 6)
+        let place : length (before k ++ zeros inAddress.mac) ≡ addressIn k + inAddress.mac =
+        omega (arith, length-append (before k) (zeros inAddress.mac), before-length k h, length-zeros inAddress.mac) in
+        let halves : zeros addressSize ≡ zeros inAddress.mac ++ zeros 6 = zeros-add inAddress.mac 6 in
+        ap (patch (addressIn k + inAddress.mac) 6 (be 6 mac)) (ap (λ (z : List ℕ). before k ++ (z ++ r)) halves ∙ simp append-assoc)
+        ∙ patch-between (before k ++ zeros inAddress.mac) (zeros 6) r (be 6 mac) (addressIn k + inAddress.mac) 6 place (length-zeros 6)
         ∙ rw (vacant-octets mac) (simp append-assoc)
 
     pub put-in : (s : List ℕ) → s ≡ ownOctets o → (m : ℕ) → m ≡ n
-        → patch addressCountPlace 1 (be 1 (m + 1)) (patch (addressIn k + macPlace) 6 (be 6 mac)
+        → patch inOwn.count 1 (be 1 (m + 1)) (patch (addressIn k + inAddress.mac) 6 (be 6 mac)
         (patch (addressIn k) addressSize (zeros addressSize) (patch (addressIn k + addressSize) ((m - k) * addressSize) (part (addressIn k) ((m - k) * addressSize) s) s)))
         ≡ ownOctets (changeAddresses (putIn k mac) o)
     put-in s q m e =
@@ -136,11 +136,11 @@ module _ (o : Own) (f : FitOwn o) where
         ∙ sym (own-split o (takenOut k) ∙ ap (λ (m : ℕ). front o m ++ (flat addressOctets (takenOut k l) ++ unused m)) less)
 
     pub taken-out : (s : List ℕ) → s ≡ ownOctets o → (m : ℕ) → m ≡ n → n ≤ mostAddresses
-        → patch addressCountPlace 1 (be 1 (m - 1)) (patch (addressesPlace + (m - 1) * addressSize) addressSize (zeros addressSize)
+        → patch inOwn.count 1 (be 1 (m - 1)) (patch (inOwn.addresses + (m - 1) * addressSize) addressSize (zeros addressSize)
         (patch (addressIn k) ((m - 1 - k) * addressSize) (part (addressIn k + addressSize) ((m - 1 - k) * addressSize) s) s))
         ≡ ownOctets (changeAddresses (takenOut k) o)
     taken-out s q m e few =
-        let place : addressesPlace + (n - 1) * addressSize ≡ addressIn k + (n - 1 - k) * addressSize = omega arith in
+        let place : inOwn.addresses + (n - 1) * addressSize ≡ addressIn k + (n - 1 - k) * addressSize = omega arith in
         rw (e, q ∙ apart, place)
         (rw (gap-closed (before k) (addressOctets (getD l k (vacantAt 0))) behind (unused n) (addressIn k) ((n - 1 - k) * addressSize) addressSize (before-length k (omega arith)) (address-length _) behind-length)
         (recounted k (n - 1) (behind ++ (zeros addressSize ++ unused n)) ∙ closed few))

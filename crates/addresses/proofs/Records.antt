@@ -11,7 +11,7 @@ use Rattle.octets.proofs.Parts.{lent-part}
 use Rattle.octets.proofs.Frame.{beAt-part, getD-part}
 use Rattle.octets.proofs.Fields.{length-packed-any, get-field, get-octet}
 use Rattle.octets.proofs.Patches.{lent-patch, patch-between}
-use Rattle.model.specs.Layout.{addressIn, addressSize, addressWidths, mostAddresses, addressesPlace, boundaryWidths, addressCountPlace, addressCountWidths, inAddress, macPlace}
+use Rattle.model.specs.Layout.{addressIn, addressSize, addressWidths, mostAddresses, inOwn, boundaryWidths, addressCountWidths, addressIndex, inAddress}
 use Rattle.model.specs.Lists.{bit}
 use Rattle.model.specs.State.{Presence, vacant, present, Address, Own}
 use Rattle.model.specs.Registrations.{at, changeAddresses, macs}
@@ -33,11 +33,11 @@ FitAddress a = Fit addressWidths (addressNumbers a)
 -- The number of addresses.
 
 module _ (s : List ℕ) where
-  pub held-octet : getD s addressCountPlace 0 ≡ length (toOwn s .addresses)
+  pub held-octet : getD s inOwn.count 0 ≡ length (toOwn s .addresses)
   unfolding toOwn addressesHeld
-  held-octet = sym (length-parts addressSize toAddress (getD s addressCountPlace 0) _)
+  held-octet = sym (length-parts addressSize toAddress (getD s inOwn.count 0) _)
 
-  pub held-few : LaidOwn s → getD s addressCountPlace 0 ≤ mostAddresses
+  pub held-few : LaidOwn s → getD s inOwn.count 0 ≤ mostAddresses
   held-few l = omega (arith, held-octet, laid-own-fits s l .addresses .at-most-64)
 
 -- what stands before the records, of so many, and behind them
@@ -78,7 +78,7 @@ module _ (o : Own) (f : FitOwn o) where
   unfolding width
   held-length n = length-packed-any addressCountWidths (n ∷ []) refl
 
-  pub front-length : (n : ℕ) → length (front o n) ≡ addressesPlace
+  pub front-length : (n : ℕ) → length (front o n) ≡ inOwn.addresses
   unfolding front
   front-length n =
       let ds = flat domainOctets (o .domains) in
@@ -87,14 +87,14 @@ module _ (o : Own) (f : FitOwn o) where
       omega (arith, length-append ds (fs ++ ns), length-append fs ns, slots-length o (f .slotted), flags-length, held-length n)
 
   -- another number stored
-  pub held-put : (n m : ℕ) (r : List ℕ) → patch addressCountPlace 1 (be 1 m) (front o n ++ r) ≡ front o m ++ r
+  pub held-put : (n m : ℕ) (r : List ℕ) → patch inOwn.count 1 (be 1 m) (front o n ++ r) ≡ front o m ++ r
   unfolding front packed
   held-put n m r =
       let ds = flat domainOctets (o .domains) in
       let fs = packed boundaryWidths (bit (o .boundaryA) ∷ bit (o .boundaryB) ∷ []) in
-      let place : length (ds ++ fs) ≡ addressCountPlace = omega (arith, length-append ds fs, slots-length o (f .slotted), flags-length) in
-      ap (patch addressCountPlace 1 (be 1 m)) (simp append-assoc)
-      ∙ patch-between (ds ++ fs) (be 1 n ++ []) r (be 1 m) addressCountPlace 1 place (held-length n)
+      let place : length (ds ++ fs) ≡ inOwn.count = omega (arith, length-append ds fs, slots-length o (f .slotted), flags-length) in
+      ap (patch inOwn.count 1 (be 1 m)) (simp append-assoc)
+      ∙ patch-between (ds ++ fs) (be 1 n ++ []) r (be 1 m) inOwn.count 1 place (held-length n)
       ∙ simp (append-assoc, append-nil)
 
   module _ (k : ℕ) (h : k < length (o .addresses)) where
@@ -104,14 +104,14 @@ module _ (o : Own) (f : FitOwn o) where
     address-part : part (addressIn k) addressSize (ownOctets o) ≡ addressOctets there
     address-part =
         ap (part (addressIn k) addressSize) (own-same o ∙ own-split o (λ l. l))
-        ∙ part-one addressSize addressOctets addressesPlace (front o (length (o .addresses))) (unused (length (o .addresses))) (front-length (length (o .addresses)))
+        ∙ part-one addressSize addressOctets inOwn.addresses (front o (length (o .addresses))) (unused (length (o .addresses))) (front-length (length (o .addresses)))
         (o .addresses) (addresses-sized (o .addresses)) k (addressIn k) h refl (vacantAt 0)
 
     address-patch : (u : Address → Address) → patch (addressIn k) addressSize (addressOctets (u there)) (ownOctets o) ≡ ownOctets (changeAddresses (at k u) o)
     address-patch u =
         let n = length (o .addresses) in
         ap (patch (addressIn k) addressSize (addressOctets (u there))) (own-same o ∙ own-split o (λ l. l))
-        ∙ patch-one addressSize addressOctets addressesPlace (front o n) (unused n) (front-length n) (o .addresses) (addresses-sized (o .addresses)) k (addressIn k) h refl (u there)
+        ∙ patch-one addressSize addressOctets inOwn.addresses (front o n) (unused n) (front-length n) (o .addresses) (addresses-sized (o .addresses)) k (addressIn k) h refl (u there)
         ∙ sym (own-split o (at k u) ∙ rw (length-at k u (o .addresses), ← at-set k u (o .addresses) (vacantAt 0) h))
 
     address-fits : FitAddress there
@@ -145,28 +145,28 @@ module _ (o : Own) (f : FitOwn o) (s : List ℕ) (e : s ≡ ownOctets o) (k : �
       ∙ address-patch o f k h u
 
   -- its address, and the octet that says whether it is registered
-  pub mac-read : beAt 6 s (addressIn k + macPlace) ≡ getD (macs (o .addresses)) k 0
+  pub mac-read : beAt 6 s (addressIn k + inAddress.mac) ≡ getD (macs (o .addresses)) k 0
   unfolding macs vacantAt addressOctets addressNumbers presenceNumbers width
   mac-read =
       let a = there o f k h in
-      sym (beAt-part 6 (addressIn k) addressSize macPlace s (omega arith))
-      ∙ ap (λ (t : List ℕ). beAt 6 t macPlace) there-is
-      ∙ get-field addressWidths (addressNumbers a) (address-fits o f k h) (inAddress .mac)
+      sym (beAt-part 6 (addressIn k) addressSize inAddress.mac s (omega arith))
+      ∙ ap (λ (t : List ℕ). beAt 6 t inAddress.mac) there-is
+      ∙ get-field addressWidths (addressNumbers a) (address-fits o f k h) (addressIndex .mac)
       ∙ mac-number a
       ∙ sym (List·getD-map (λ (x : Address). x .mac) (o .addresses) k (vacantAt 0))
     where
-      mac-number : (a : Address) → getD (addressNumbers a) (inAddress .mac) 0 ≡ a .mac
+      mac-number : (a : Address) → getD (addressNumbers a) (addressIndex .mac) 0 ≡ a .mac
       mac-number a = go (a .presence)
         where
-          go : (p : Presence) → getD (presenceNumbers p ++ (a .mac ∷ [])) (inAddress .mac) 0 ≡ a .mac
+          go : (p : Presence) → getD (presenceNumbers p ++ (a .mac ∷ [])) (addressIndex .mac) 0 ≡ a .mac
           go vacant = refl
           go (present l) = refl
 
-  pub registered-read : getD s (addressIn k) 0 ≡ getD (addressNumbers (there o f k h)) (inAddress .registered) 0
+  pub registered-read : getD s (addressIn k) 0 ≡ getD (addressNumbers (there o f k h)) (addressIndex .registered) 0
   unfolding addressOctets width
   registered-read =
       let a = there o f k h in
       ap (λ (i : ℕ). getD s i 0) (omega arith)
       ∙ sym (getD-part (addressIn k) addressSize 0 s (omega arith))
       ∙ ap (λ (t : List ℕ). getD t 0 0) there-is
-      ∙ get-octet addressWidths (addressNumbers a) (address-fits o f k h) (inAddress .registered) refl
+      ∙ get-octet addressWidths (addressNumbers a) (address-fits o f k h) (addressIndex .registered) refl

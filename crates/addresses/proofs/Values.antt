@@ -11,7 +11,7 @@ use Rattle.octets.specs.Parts.{part, patch, zeros}
 use Rattle.octets.specs.Pick.{pick}
 use Rattle.octets.specs.Fields.{Fit, packed, width}
 use Rattle.octets.proofs.Fields.{get-octet, put-field, packed-zeros}
-use Rattle.model.specs.Layout.{addressLeavesPlace, addressSize, addressWidths, inAddress, macPlace}
+use Rattle.model.specs.Layout.{inAddress, addressSize, addressWidths, addressIndex}
 use Rattle.model.specs.State.{Leaving, stays, since, Presence, vacant, present, Address}
 use Rattle.model.specs.Registrations.{begin, quitPresence, quitAddress, joinedAddress}
 use Rattle.model.specs.Table.{leavingNumber, sinceNumber, presenceNumbers, addressNumbers, addressOctets, toAddress}
@@ -37,26 +37,26 @@ laid P h s l =
     subst (λ (t : List ℕ). P t (toAddress s)) (sym (l .is)) (subst (P (addressOctets a)) (sym back) (h (a .mac) (a .presence) (l .fits)))
 
 -- the octet that says whether it is registered
-registered-octet : (a : Address) → FitAddress a → getD (addressOctets a) 0 0 ≡ getD (addressNumbers a) (inAddress .registered) 0
+registered-octet : (a : Address) → FitAddress a → getD (addressOctets a) 0 0 ≡ getD (addressNumbers a) (addressIndex .registered) 0
 unfolding addressOctets width
-registered-octet a f = get-octet addressWidths (addressNumbers a) f (inAddress .registered) refl
+registered-octet a f = get-octet addressWidths (addressNumbers a) f (addressIndex .registered) refl
 
 -- Lv and LeaveAll.
 
 module _ (clock m : ℕ) where
-  begun-is : (l : Leaving) → FitAddress (with m (present l)) → begun addressLeavesPlace clock (addressOctets (with m (present l))) ≡ addressOctets (with m (present (begin clock l)))
+  begun-is : (l : Leaving) → FitAddress (with m (present l)) → begun inAddress.leaves clock (addressOctets (with m (present l))) ≡ addressOctets (with m (present (begin clock l)))
   unfolding addressOctets width
   begun-is l f =
-      begun-numbers addressWidths (addressNumbers (with m (present l))) f (inAddress .leaves) addressLeavesPlace refl refl refl refl clock
+      begun-numbers addressWidths (addressNumbers (with m (present l))) f (addressIndex .leaves) inAddress.leaves refl refl refl refl clock
       ∙ ap (packed addressWidths) (go l)
     where
       go : (l : Leaving)
           → let vs = addressNumbers (with m (present l)) in
-          pick (eqb (getD vs (inAddress .leaves) 0) 0) (set (set vs (inAddress .leaves) 1) (inAddress .since) clock) vs ≡ addressNumbers (with m (present (begin clock l)))
+          pick (eqb (getD vs (addressIndex .leaves) 0) 0) (set (set vs (addressIndex .leaves) 1) (addressIndex .since) clock) vs ≡ addressNumbers (with m (present (begin clock l)))
       go stays = unfold addressNumbers presenceNumbers leavingNumber sinceNumber begin pick in refl
       go (since t) = unfold addressNumbers presenceNumbers leavingNumber sinceNumber begin pick in refl
 
-  held-begins : (p : Presence) → FitAddress (with m p) → 0 < getD (addressOctets (with m p)) 0 0 → begun addressLeavesPlace clock (addressOctets (with m p)) ≡ addressOctets (quitAddress clock (with m p))
+  held-begins : (p : Presence) → FitAddress (with m p) → 0 < getD (addressOctets (with m p)) 0 0 → begun inAddress.leaves clock (addressOctets (with m p)) ≡ addressOctets (quitAddress clock (with m p))
   unfolding addressNumbers presenceNumbers quitAddress quitPresence
   held-begins vacant f h = absurd (omega (arith, registered-octet (with m vacant) f))
   held-begins (present l) f h = begun-is l f
@@ -67,8 +67,8 @@ module _ (clock m : ℕ) where
   vacant-stays (present l) f h = absurd (omega (arith, registered-octet (with m (present l)) f))
 
 module _ (clock : ℕ) where
-  pub quits : (s : List ℕ) → LaidAddress s → 0 < getD s 0 0 → begun addressLeavesPlace clock s ≡ addressOctets (quitAddress clock (toAddress s))
-  quits = laid (λ s a. 0 < getD s 0 0 → begun addressLeavesPlace clock s ≡ addressOctets (quitAddress clock a)) (held-begins clock)
+  pub quits : (s : List ℕ) → LaidAddress s → 0 < getD s 0 0 → begun inAddress.leaves clock s ≡ addressOctets (quitAddress clock (toAddress s))
+  quits = laid (λ s a. 0 < getD s 0 0 → begun inAddress.leaves clock s ≡ addressOctets (quitAddress clock a)) (held-begins clock)
 
   pub quits-none : (s : List ℕ) → LaidAddress s → getD s 0 0 ≡ 0 → s ≡ addressOctets (quitAddress clock (toAddress s))
   quits-none = laid (λ s a. getD s 0 0 ≡ 0 → s ≡ addressOctets (quitAddress clock a)) (vacant-stays clock)
@@ -80,21 +80,21 @@ unfolding addressOctets addressNumbers presenceNumbers vacantAt width
 address-zeros = packed-zeros addressWidths
 
 pub joins : (m : ℕ) (s : List ℕ) → length s ≡ addressSize
-    → patch macPlace 6 (be 6 m) (patch 0 1 (be 1 1) (patch 0 addressSize (zeros addressSize) s)) ≡ addressOctets (joinedAddress m)
+    → patch inAddress.mac 6 (be 6 m) (patch 0 1 (be 1 1) (patch 0 addressSize (zeros addressSize) s)) ≡ addressOctets (joinedAddress m)
 unfolding addressOctets width
 joins m s e =
     let none = addressNumbers (vacantAt 0) in
-    ap (λ (t : List ℕ). patch macPlace 6 (be 6 m) (patch 0 1 (be 1 1) t)) (patch-whole addressSize (zeros addressSize) s e ∙ sym address-zeros)
-    ∙ unfold addressNumbers presenceNumbers vacantAt joinedAddress leavingNumber sinceNumber in (ap (patch macPlace 6 (be 6 m)) (put-field addressWidths none (inAddress .registered) 1 refl)
-    ∙ put-field addressWidths (set none (inAddress .registered) 1) (inAddress .mac) m refl)
+    ap (λ (t : List ℕ). patch inAddress.mac 6 (be 6 m) (patch 0 1 (be 1 1) t)) (patch-whole addressSize (zeros addressSize) s e ∙ sym address-zeros)
+    ∙ unfold addressNumbers presenceNumbers vacantAt joinedAddress leavingNumber sinceNumber in (ap (patch inAddress.mac 6 (be 6 m)) (put-field addressWidths none (addressIndex .registered) 1 refl)
+    ∙ put-field addressWidths (set none (addressIndex .registered) 1) (addressIndex .mac) m refl)
 
 -- Expiry.
 
 lapsed-is : (leave now m : ℕ) (p : Presence) → FitAddress (with m p)
-    → lapsed 0 macPlace addressLeavesPlace leave now (addressOctets (with m p)) ≡ addressOctets (lapseAddress leave now (with m p))
+    → lapsed 0 inAddress.mac inAddress.leaves leave now (addressOctets (with m p)) ≡ addressOctets (lapseAddress leave now (with m p))
 unfolding addressOctets lapseAddress width part
 lapsed-is leave now m p f =
-    lapsed-numbers addressWidths (addressNumbers (with m p)) f (inAddress .leaves) addressLeavesPlace refl refl refl refl 0 (inAddress .mac) leave now (omega arith)
+    lapsed-numbers addressWidths (addressNumbers (with m p)) f (addressIndex .leaves) inAddress.leaves refl refl refl refl 0 (addressIndex .mac) leave now (omega arith)
     ∙ ap (packed addressWidths) (go p)
   where
     over : (t : ℕ) (b : Bool)
@@ -105,13 +105,13 @@ lapsed-is leave now m p f =
 
     go : (p : Presence)
         → let vs = addressNumbers (with m p) in
-        pick (eqb (getD vs (inAddress .leaves) 0) 0) vs (pick (leb (getD vs (inAddress .since) 0 + leave) now) (patch 0 3 (zeros 3) vs) vs) ≡ addressNumbers (with m (lapsePresence leave now p))
+        pick (eqb (getD vs (addressIndex .leaves) 0) 0) vs (pick (leb (getD vs (addressIndex .since) 0 + leave) now) (patch 0 3 (zeros 3) vs) vs) ≡ addressNumbers (with m (lapsePresence leave now p))
     go vacant = unfold addressNumbers presenceNumbers pick lapsePresence in refl
     go (present stays) = unfold addressNumbers presenceNumbers leavingNumber pick lapsePresence in refl
     go (present (since t)) = unfold addressNumbers presenceNumbers leavingNumber sinceNumber pick lapsePresence in over t (leb (t + leave) now)
 
-pub lapses : (leave now : ℕ) (s : List ℕ) → LaidAddress s → lapsed 0 macPlace addressLeavesPlace leave now s ≡ addressOctets (lapseAddress leave now (toAddress s))
-lapses leave now = laid (λ s a. lapsed 0 macPlace addressLeavesPlace leave now s ≡ addressOctets (lapseAddress leave now a)) (lapsed-is leave now)
+pub lapses : (leave now : ℕ) (s : List ℕ) → LaidAddress s → lapsed 0 inAddress.mac inAddress.leaves leave now s ≡ addressOctets (lapseAddress leave now (toAddress s))
+lapses leave now = laid (λ s a. lapsed 0 inAddress.mac inAddress.leaves leave now s ≡ addressOctets (lapseAddress leave now a)) (lapsed-is leave now)
 
 -- The address itself stays.
 
@@ -184,20 +184,20 @@ lapse-fits leave now a f = fits (a .mac) (lapsePresence leave now (a .presence))
 -- The octet that the code looks at to drop the vacant ones.
 
 module _ (a : Address) where
-  held-number : (p : Presence) → getD (presenceNumbers p ++ (a .mac ∷ [])) (inAddress .registered) 0 ≡ 0 → isHeld p ≡ false
+  held-number : (p : Presence) → getD (presenceNumbers p ++ (a .mac ∷ [])) (addressIndex .registered) 0 ≡ 0 → isHeld p ≡ false
   unfolding presenceNumbers isHeld
   held-number vacant h = refl
   held-number (present l) h = absurd (omega arith)
 
-  pub vacant-number : getD (addressNumbers a) (inAddress .registered) 0 ≡ 0 → isHeld (a .presence) ≡ false
+  pub vacant-number : getD (addressNumbers a) (addressIndex .registered) 0 ≡ 0 → isHeld (a .presence) ≡ false
   unfolding addressNumbers
   vacant-number = held-number (a .presence)
 
-  some-number : (p : Presence) → (getD (presenceNumbers p ++ (a .mac ∷ [])) (inAddress .registered) 0 ≡ 0 → ⊥) → isHeld p ≡ true
+  some-number : (p : Presence) → (getD (presenceNumbers p ++ (a .mac ∷ [])) (addressIndex .registered) 0 ≡ 0 → ⊥) → isHeld p ≡ true
   unfolding presenceNumbers isHeld
   some-number vacant h = absurd (h refl)
   some-number (present l) h = refl
 
-  pub present-number : (getD (addressNumbers a) (inAddress .registered) 0 ≡ 0 → ⊥) → isHeld (a .presence) ≡ true
+  pub present-number : (getD (addressNumbers a) (addressIndex .registered) 0 ≡ 0 → ⊥) → isHeld (a .presence) ≡ true
   unfolding addressNumbers
   present-number = some-number (a .presence)

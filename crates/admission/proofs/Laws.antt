@@ -13,7 +13,7 @@ use Rattle.octets.specs.Be.{beAt, be}
 use Rattle.octets.specs.Parts.{patch}
 use Rattle.octets.specs.Fields.{fields, width}
 use Rattle.octets.proofs.Fields.{put-field}
-use Rattle.model.specs.Layout.{agePlace, before, entryPlace, failureCodePlace, failurePlace, fixedWidths, listenerPlace, resultWidths, totalBPlace, totalsWidths}
+use Rattle.model.specs.Layout.{inResult, before, fixedWidths, inCell, resultWidths, inTotals, totalsWidths}
 use Rattle.model.specs.Lists.{keep}
 use Rattle.model.specs.State.{Settings, Class, classOf, sameClass, Fixed, Result, Stream, Totals, portAt, resultAt, fresh}
 use Rattle.model.specs.Frames.{priorityOf, rankOf}
@@ -73,17 +73,17 @@ module _ (p : ℕ) (x : Stream) (r : List ℕ) (shown : toResult r ≡ resultAt 
     unfolding waits settledClass toFixed fixedFrom fields priorityOf
     waits-in st c d g h = rw (advertise-read, eq-eqb (getD r 0 0) 1 h, g, e, ← settled)
 
-    pub order-read : (k age : ℕ) → age ≡ beAt 4 r agePlace → (octet / 16 % 2 * 4294967296 + age) * 64 + k ≡ orderOf p x k
+    pub order-read : (k age : ℕ) → age ≡ beAt 4 r inResult.age → (octet / 16 % 2 * 4294967296 + age) * 64 + k ≡ orderOf p x k
     order-read k age g = unfold orderOf order in (rw (← second, ← rank, e, g))
       where
         rank : beAt 1 f priorityIn / 16 % 2 ≡ x .settled .rank
         rank = unfold toFixed fixedFrom fields rankOf in (ap (λ (v : Fixed). v .rank) settled)
 
-        second : beAt 4 r agePlace ≡ resultAt x p .age
+        second : beAt 4 r inResult.age ≡ resultAt x p .age
         second = unfold toResult resultFrom fields in (ap (λ (v : Result). v .age) shown)
 
-pub heard-read : (s : List ℕ) → leb 2 (getD s listenerPlace 0) ≡ isReady (registered (toCell s))
-heard-read s = sym (ap isReady (registered-read s) ∙ ready-number (beAt 1 s listenerPlace) ∙ ap (leb 2) (octet-field s listenerPlace))
+pub heard-read : (s : List ℕ) → leb 2 (getD s inCell.listener 0) ≡ isReady (registered (toCell s))
+heard-read s = sym (ap isReady (registered-read s) ∙ ready-number (beAt 1 s inCell.listener) ∙ ap (leb 2) (octet-field s inCell.listener))
 
 -- its demand there, from that of an interval
 module _ (st : Settings) (p : ℕ) (x : Stream) (port fixed : List ℕ) (q : toPort port ≡ portAt st p) (f : toFixed fixed ≡ x .settled)
@@ -126,7 +126,7 @@ module _ (st : Settings) (p : ℕ) (c : Class) (k : ℕ) (s : List Stream) where
 -- Failing with code 1.
 
 lack-result : (st : Settings) (r : Result)
-    → patch entryPlace 1 (be 1 1) (patch failureCodePlace 1 (be 1 1) (patch failurePlace 8 (be 8 (st .bridgeId)) (patch 0 1 (be 1 2) (resultOctets r))))
+    → patch inResult.entry 1 (be 1 1) (patch inResult.code 1 (be 1 1) (patch inResult.bridge 8 (be 8 (st .bridgeId)) (patch 0 1 (be 1 2) (resultOctets r))))
     ≡ resultOctets (lacking st r)
 unfolding resultOctets resultNumbers width lacking columnNumber columnBridge columnCode entryNumber
 lack-result st r =
@@ -139,11 +139,11 @@ lack-result st r =
     )
 
 pub lack-octets : (st : Settings) (id : ℕ) (s : List ℕ) → LaidResult s → st .bridgeId ≡ id
-    → patch entryPlace 1 (be 1 1) (patch failureCodePlace 1 (be 1 1) (patch failurePlace 8 (be 8 id) (patch 0 1 (be 1 2) s)))
+    → patch inResult.entry 1 (be 1 1) (patch inResult.code 1 (be 1 1) (patch inResult.bridge 8 (be 8 id) (patch 0 1 (be 1 2) s)))
     ≡ resultOctets (lacking st (toResult s))
 lack-octets st id s l e =
     rw (← e) (ap
-    (λ (r : List ℕ). patch entryPlace 1 (be 1 1) (patch failureCodePlace 1 (be 1 1) (patch failurePlace 8 (be 8 (st .bridgeId)) (patch 0 1 (be 1 2) r))))
+    (λ (r : List ℕ). patch inResult.entry 1 (be 1 1) (patch inResult.code 1 (be 1 1) (patch inResult.bridge 8 (be 8 (st .bridgeId)) (patch 0 1 (be 1 2) r))))
     (laid-result-is s l)
     ∙ lack-result st (toResult s))
 
@@ -153,6 +153,6 @@ pub total-a : (t : Totals) (n : ℕ) → patch 0 5 (be 5 n) (totalsOctets t) ≡
 unfolding totalsOctets withTotal classFor width
 total-a t n = put-field totalsWidths (t .totalA ∷ t .totalB ∷ []) 0 n refl
 
-pub total-b : (t : Totals) (n : ℕ) → patch totalBPlace 6 (be 6 n) (totalsOctets t) ≡ totalsOctets (withTotal (classFor true) n t)
+pub total-b : (t : Totals) (n : ℕ) → patch inTotals.totalB 6 (be 6 n) (totalsOctets t) ≡ totalsOctets (withTotal (classFor true) n t)
 unfolding totalsOctets withTotal classFor width
 total-b t n = put-field totalsWidths (t .totalA ∷ t .totalB ∷ []) 1 n refl

@@ -14,7 +14,7 @@ use Rattle.octets.specs.Fields.{fields, packed, Fit, width}
 use Rattle.octets.proofs.Parts.{length-patch}
 use Rattle.octets.proofs.Fields.{fit-at, be-beAt, packed-fields, beAt-fits, beAt-one, beAt-add, get-field, get-octet, put-field, put-run, clear-run}
 use Rattle.model.specs.FrameLayout.{advertiseLength, failedLength, inFirstValue, talkerWidths}
-use Rattle.model.specs.Layout.{bridgeField, cellFields, cellWidths, changedField, changedPlace, codeField, firstLatencyField, fixedField, fixedPlace, latencyField, latencyPlace, leavingSize, listenerField, listenerLeavesField, priorityField, priorityPlace, talkerLeavesField, vlanField, vlanPlace}
+use Rattle.model.specs.Layout.{cellIndex, cellFields, cellWidths, inCell, leavingSize}
 use Rattle.model.specs.State.{stays, Fixed, TalkerType, talkerAdvertise, talkerFailed, Varying, Registration, Talker, noTalker, talker, Listener, noListener, listener, noFixed}
 use Rattle.model.specs.Registrations.{sameFixed, firstJoin, sameJoin, otherJoin, joinTalker, does, listen}
 use Rattle.model.specs.Frames.{registers, firstWidths, firstLength, priorityOf, rankOf, fixedValue, talkerTypeValue}
@@ -30,62 +30,62 @@ use Rattle.cells.proofs.Leaving.{laid, both, talker-kind}
 -- The steps on numbers in the fields of a cell.
 
 module _ (vs : List ℕ) (size : length vs ≡ cellFields) where
-  heard-numbers : (four : ℕ) → heard four (packed cellWidths vs) ≡ packed cellWidths (patch listenerLeavesField 2 (zeros 2) (set vs listenerField four))
+  heard-numbers : (four : ℕ) → heard four (packed cellWidths vs) ≡ packed cellWidths (patch cellIndex.listenerLeaves 2 (zeros 2) (set vs cellIndex.listener four))
   unfolding heard width part
   heard-numbers four =
-      rw (put-field cellWidths vs listenerField four size) (clear-run cellWidths (set vs listenerField four) listenerLeavesField 2 (simp length-set size) (omega arith))
+      rw (put-field cellWidths vs cellIndex.listener four size) (clear-run cellWidths (set vs cellIndex.listener four) cellIndex.listenerLeaves 2 (simp length-set size) (omega arith))
 
-  marked-numbers : marked (packed cellWidths vs) ≡ packed cellWidths (patch talkerLeavesField 2 (zeros 2) (set vs changedField 1))
+  marked-numbers : marked (packed cellWidths vs) ≡ packed cellWidths (patch cellIndex.talkerLeaves 2 (zeros 2) (set vs cellIndex.changed 1))
   unfolding marked width part
-  marked-numbers = rw (put-field cellWidths vs changedField 1 size) (clear-run cellWidths (set vs changedField 1) talkerLeavesField 2 (simp length-set size) (omega arith))
+  marked-numbers = rw (put-field cellWidths vs cellIndex.changed 1 size) (clear-run cellWidths (set vs cellIndex.changed 1) cellIndex.talkerLeaves 2 (simp length-set size) (omega arith))
 
-  failing-numbers : (first : List ℕ) → failing 2 first (packed cellWidths vs) ≡ packed cellWidths (set (set vs bridgeField (beAt 8 first inFirstValue.bridge)) codeField (getD first inFirstValue.code 0))
+  failing-numbers : (first : List ℕ) → failing 2 first (packed cellWidths vs) ≡ packed cellWidths (set (set vs cellIndex.bridge (beAt 8 first inFirstValue.bridge)) cellIndex.code (getD first inFirstValue.code 0))
   unfolding failing width pick
   failing-numbers first =
-      rw (put-field cellWidths vs bridgeField (beAt 8 first inFirstValue.bridge) size)
-      (put-field cellWidths (set vs bridgeField (beAt 8 first inFirstValue.bridge)) codeField (getD first inFirstValue.code 0) (simp length-set size))
+      rw (put-field cellWidths vs cellIndex.bridge (beAt 8 first inFirstValue.bridge) size)
+      (put-field cellWidths (set vs cellIndex.bridge (beAt 8 first inFirstValue.bridge)) cellIndex.code (getD first inFirstValue.code 0) (simp length-set size))
 
-  advertise-numbers : (first : List ℕ) → failing 1 first (packed cellWidths vs) ≡ packed cellWidths (patch bridgeField 2 (zeros 2) vs)
+  advertise-numbers : (first : List ℕ) → failing 1 first (packed cellWidths vs) ≡ packed cellWidths (patch cellIndex.bridge 2 (zeros 2) vs)
   unfolding failing width part pick
-  advertise-numbers first = clear-run cellWidths vs bridgeField 2 size (omega arith)
+  advertise-numbers first = clear-run cellWidths vs cellIndex.bridge 2 size (omega arith)
 
   -- before a failure is written
-  varied-numbers : (kind latency : ℕ) → patch latencyPlace 4 (be 4 latency) (patch changedPlace (1 + leavingSize) (zeros (1 + leavingSize)) (patch 0 1 (be 1 kind) (packed cellWidths vs)))
-      ≡ packed cellWidths (set (patch changedField 3 (zeros 3) (set vs 0 kind)) latencyField latency)
+  varied-numbers : (kind latency : ℕ) → patch inCell.latency 4 (be 4 latency) (patch inCell.changed (1 + leavingSize) (zeros (1 + leavingSize)) (patch 0 1 (be 1 kind) (packed cellWidths vs)))
+      ≡ packed cellWidths (set (patch cellIndex.changed 3 (zeros 3) (set vs 0 kind)) cellIndex.latency latency)
   unfolding width part
   varied-numbers kind latency =
       let one : length (set vs 0 kind) ≡ cellFields = simp length-set size in
-      let two : length (patch changedField 3 (zeros 3) (set vs 0 kind)) ≡ cellFields = length-patch changedField 3 (zeros 3) (set vs 0 kind) refl (omega arith) ∙ one in
-      rw (put-field cellWidths vs 0 kind size, clear-run cellWidths (set vs 0 kind) changedField 3 one (omega arith))
-      (put-field cellWidths (patch changedField 3 (zeros 3) (set vs 0 kind)) latencyField latency two)
+      let two : length (patch cellIndex.changed 3 (zeros 3) (set vs 0 kind)) ≡ cellFields = length-patch cellIndex.changed 3 (zeros 3) (set vs 0 kind) refl (omega arith) ∙ one in
+      rw (put-field cellWidths vs 0 kind size, clear-run cellWidths (set vs 0 kind) cellIndex.changed 3 one (omega arith))
+      (put-field cellWidths (patch cellIndex.changed 3 (zeros 3) (set vs 0 kind)) cellIndex.latency latency two)
 
-  varied-size : (kind latency : ℕ) → length (set (patch changedField 3 (zeros 3) (set vs 0 kind)) latencyField latency) ≡ cellFields
+  varied-size : (kind latency : ℕ) → length (set (patch cellIndex.changed 3 (zeros 3) (set vs 0 kind)) cellIndex.latency latency) ≡ cellFields
   varied-size kind latency =
       let one : length (set vs 0 kind) ≡ cellFields = simp length-set size in
-      simp length-set (length-patch changedField 3 (zeros 3) (set vs 0 kind) refl (omega arith) ∙ one)
+      simp length-set (length-patch cellIndex.changed 3 (zeros 3) (set vs 0 kind) refl (omega arith) ∙ one)
 
   -- VLAN, MaxFrameSize and MaxIntervalFrames as one number
   fixed-numbers : (first : List ℕ) (n : ℕ) → advertiseLength ≤ length first → ((i : ℕ) → getD first i 0 < 256)
       → fixed first n (packed cellWidths vs)
       ≡ packed cellWidths
-      (set (set (patch vlanField 3 (fields (2 ∷ 2 ∷ 2 ∷ []) inFirstValue.vlan first) (set vs fixedField (beAt 6 first inFirstValue.destination + n))) priorityField (getD first inFirstValue.priority 0 / 16 * 16)) firstLatencyField (beAt 4 first inFirstValue.latency))
+      (set (set (patch cellIndex.vlan 3 (fields (2 ∷ 2 ∷ 2 ∷ []) inFirstValue.vlan first) (set vs cellIndex.fixed (beAt 6 first inFirstValue.destination + n))) cellIndex.priority (getD first inFirstValue.priority 0 / 16 * 16)) cellIndex.firstLatency (beAt 4 first inFirstValue.latency))
   unfolding fixed width part
   fixed-numbers first n l o =
       let ws : List ℕ = 2 ∷ 2 ∷ 2 ∷ [] in
-      let there : List ℕ = set vs fixedField (beAt 6 first inFirstValue.destination + n) in
+      let there : List ℕ = set vs cellIndex.fixed (beAt 6 first inFirstValue.destination + n) in
       let one : length there ≡ cellFields = simp length-set size in
       let spec : length (fields ws inFirstValue.vlan first) ≡ 3 = unfold fields in refl in
-      let two : length (patch vlanField 3 (fields ws inFirstValue.vlan first) there) ≡ cellFields = length-patch vlanField 3 (fields ws inFirstValue.vlan first) there spec (omega arith) ∙ one in
+      let two : length (patch cellIndex.vlan 3 (fields ws inFirstValue.vlan first) there) ≡ cellFields = length-patch cellIndex.vlan 3 (fields ws inFirstValue.vlan first) there spec (omega arith) ∙ one in
       let octets : be 6 (beAt 6 first inFirstValue.vlan) ≡ packed ws (fields ws inFirstValue.vlan first) =
       be-beAt 6 first inFirstValue.vlan (omega arith) o ∙ sym (packed-fields ws inFirstValue.vlan first (omega arith) o) in
-      let three : List ℕ = set (patch vlanField 3 (fields ws inFirstValue.vlan first) there) priorityField (getD first inFirstValue.priority 0 / 16 * 16) in
+      let three : List ℕ = set (patch cellIndex.vlan 3 (fields ws inFirstValue.vlan first) there) cellIndex.priority (getD first inFirstValue.priority 0 / 16 * 16) in
       rw (
-        put-field cellWidths vs fixedField (beAt 6 first inFirstValue.destination + n) size,
+        put-field cellWidths vs cellIndex.fixed (beAt 6 first inFirstValue.destination + n) size,
         octets,
-        put-run cellWidths there vlanField 3 one (omega arith) (fields ws inFirstValue.vlan first) spec,
-        put-field cellWidths (patch vlanField 3 (fields ws inFirstValue.vlan first) there) priorityField (getD first inFirstValue.priority 0 / 16 * 16) two,
+        put-run cellWidths there cellIndex.vlan 3 one (omega arith) (fields ws inFirstValue.vlan first) spec,
+        put-field cellWidths (patch cellIndex.vlan 3 (fields ws inFirstValue.vlan first) there) cellIndex.priority (getD first inFirstValue.priority 0 / 16 * 16) two,
       )
-      (put-field cellWidths three firstLatencyField (beAt 4 first inFirstValue.latency) (simp length-set two))
+      (put-field cellWidths three cellIndex.firstLatency (beAt 4 first inFirstValue.latency) (simp length-set two))
 
 -- The numbers of a cell; what is held, whose numbers behind the kind are zero without a Talker.
 
@@ -103,7 +103,7 @@ held (talker r) = r
 -- A Listener's join.
 
 listener-joined : (four : ℕ) → 1 ≤ four → four ≤ 3 → (t : Talker) (h : Listener)
-    → patch listenerLeavesField 2 (zeros 2) (set (cellNumbers (both t h)) listenerField four) ≡ cellNumbers (both t (listener (toReady four) stays))
+    → patch cellIndex.listenerLeaves 2 (zeros 2) (set (cellNumbers (both t h)) cellIndex.listener four) ≡ cellNumbers (both t (listener (toReady four) stays))
 unfolding cellNumbers talkerNumbers listenerNumbers fixedNumbers leavingNumber sinceNumber patch
 listener-joined four low high noTalker noListener = rw (ready-forth four low high)
 listener-joined four low high noTalker (listener r l) = rw (ready-forth four low high)
@@ -128,16 +128,16 @@ marks r h = marked-numbers (cellNumbers (both (talker r) h)) (cell-size (talker 
 -- the numbers before a failure is written
 module _ (t : Talker) (h : Listener) (kind latency : ℕ) where
   begins : List ℕ
-  begins = set (patch changedField 3 (zeros 3) (set (cellNumbers (both t h)) 0 kind)) latencyField latency
+  begins = set (patch cellIndex.changed 3 (zeros 3) (set (cellNumbers (both t h)) 0 kind)) cellIndex.latency latency
 
 advertise-again : (t : Talker) (h : Listener) (latency : ℕ)
-    → patch bridgeField 2 (zeros 2) (begins t h 1 latency) ≡ cellNumbers (both (talker (sameJoin record { type = talkerAdvertise; latency = latency } (held t))) h)
+    → patch cellIndex.bridge 2 (zeros 2) (begins t h 1 latency) ≡ cellNumbers (both (talker (sameJoin record { type = talkerAdvertise; latency = latency } (held t))) h)
 unfolding begins firstJoin sameJoin held cellNumbers talkerNumbers fixedNumbers priorityOctet noFixed leavingNumber sinceNumber talkerTypeNumber bridgeNumber codeNumber bit patch
 advertise-again noTalker h latency = refl
 advertise-again (talker r) h latency = refl
 
 failed-again : (t : Talker) (h : Listener) (latency bridge code : ℕ)
-    → set (set (begins t h 2 latency) bridgeField bridge) codeField code
+    → set (set (begins t h 2 latency) cellIndex.bridge bridge) cellIndex.code code
     ≡ cellNumbers (both (talker (sameJoin record { type = talkerFailed bridge code; latency = latency } (held t))) h)
 unfolding begins firstJoin sameJoin held cellNumbers talkerNumbers fixedNumbers priorityOctet noFixed leavingNumber sinceNumber talkerTypeNumber bridgeNumber codeNumber bit patch
 failed-again noTalker h latency bridge code = refl
@@ -244,9 +244,9 @@ module _ (f g : Fixed) where
 
 -- fixed values, and the octets of a cell that has them
 record Has (s : List ℕ) (g : Fixed) : Type 0 where
-  destination : beAt 6 s fixedPlace ≡ g .destination
-  between : beAt 6 s vlanPlace ≡ (g .vlan * 65536 + g .size) * 65536 + g .frames
-  priority : getD s priorityPlace 0 ≡ g .priority * 32 + g .rank * 16
+  destination : beAt 6 s inCell.fixed ≡ g .destination
+  between : beAt 6 s inCell.vlan ≡ (g .vlan * 65536 + g .size) * 65536 + g .frames
+  priority : getD s inCell.priority 0 ≡ g .priority * 32 + g .rank * 16
   vlan : g .vlan < 65536
   size : g .size < 65536
   frames : g .frames < 65536
@@ -256,22 +256,22 @@ record Has (s : List ℕ) (g : Fixed) : Type 0 where
 three-pairs : (s : List ℕ) (at : ℕ) → beAt 6 s at ≡ (beAt 2 s at * 65536 + beAt 2 s (at + 2)) * 65536 + beAt 2 s (at + 2 + 2)
 three-pairs s at = omega (arith, beAt-add 2 4 s at, beAt-add 2 2 s (at + 2))
 
-numbers-have : (vs : List ℕ) → Fit cellWidths vs → (g : Fixed) → getD vs fixedField 0 ≡ g .destination → getD vs vlanField 0 ≡ g .vlan → getD vs (vlanField + 1) 0 ≡ g .size
-    → getD vs (vlanField + 2) 0 ≡ g .frames → getD vs priorityField 0 ≡ g .priority * 32 + g .rank * 16 → g .rank < 2 → Has (packed cellWidths vs) g
+numbers-have : (vs : List ℕ) → Fit cellWidths vs → (g : Fixed) → getD vs cellIndex.fixed 0 ≡ g .destination → getD vs cellIndex.vlan 0 ≡ g .vlan → getD vs (cellIndex.vlan + 1) 0 ≡ g .size
+    → getD vs (cellIndex.vlan + 2) 0 ≡ g .frames → getD vs cellIndex.priority 0 ≡ g .priority * 32 + g .rank * 16 → g .rank < 2 → Has (packed cellWidths vs) g
 unfolding width
 numbers-have vs fit g d v z n p r =
     let s = packed cellWidths vs in
     let get = get-field cellWidths vs fit in
-    let a : beAt 2 s vlanPlace ≡ getD vs vlanField 0 = get vlanField in
-    let b : beAt 2 s (vlanPlace + 2) ≡ getD vs (vlanField + 1) 0 = get (vlanField + 1) in
-    let c : beAt 2 s (vlanPlace + 4) ≡ getD vs (vlanField + 2) 0 = get (vlanField + 2) in
+    let a : beAt 2 s inCell.vlan ≡ getD vs cellIndex.vlan 0 = get cellIndex.vlan in
+    let b : beAt 2 s (inCell.vlan + 2) ≡ getD vs (cellIndex.vlan + 1) 0 = get (cellIndex.vlan + 1) in
+    let c : beAt 2 s (inCell.vlan + 4) ≡ getD vs (cellIndex.vlan + 2) 0 = get (cellIndex.vlan + 2) in
     record {
-      destination = get fixedField ∙ d;
-      between = omega (arith, three-pairs s vlanPlace);
-      priority = get-octet cellWidths vs fit priorityField refl ∙ p;
-      vlan = omega (arith, fit-at cellWidths vs fit vlanField);
-      size = omega (arith, fit-at cellWidths vs fit (vlanField + 1));
-      frames = omega (arith, fit-at cellWidths vs fit (vlanField + 2));
+      destination = get cellIndex.fixed ∙ d;
+      between = omega (arith, three-pairs s inCell.vlan);
+      priority = get-octet cellWidths vs fit cellIndex.priority refl ∙ p;
+      vlan = omega (arith, fit-at cellWidths vs fit cellIndex.vlan);
+      size = omega (arith, fit-at cellWidths vs fit (cellIndex.vlan + 1));
+      frames = omega (arith, fit-at cellWidths vs fit (cellIndex.vlan + 2));
       rank = r;
     }
 
@@ -293,10 +293,10 @@ module _ (first : List ℕ) (octets : (i : ℕ) → getD first i 0 < 256) (n : �
 
       forth : same first n s ≡ true → sameFixed new g ≡ true
       forth e =
-          let (a, b, c) = three-all (eqb (beAt 6 s fixedPlace) (beAt 6 first inFirstValue.destination + n)) (eqb (beAt 6 s vlanPlace) (beAt 6 first inFirstValue.vlan)) (eqb (getD s priorityPlace 0 / 16) (getD first inFirstValue.priority 0 / 16)) e in
-          let d = eqb-true (beAt 6 s fixedPlace) (beAt 6 first inFirstValue.destination + n) a in
-          let v = eqb-true (beAt 6 s vlanPlace) (beAt 6 first inFirstValue.vlan) b in
-          let p = eqb-true (getD s priorityPlace 0 / 16) (getD first inFirstValue.priority 0 / 16) c in
+          let (a, b, c) = three-all (eqb (beAt 6 s inCell.fixed) (beAt 6 first inFirstValue.destination + n)) (eqb (beAt 6 s inCell.vlan) (beAt 6 first inFirstValue.vlan)) (eqb (getD s inCell.priority 0 / 16) (getD first inFirstValue.priority 0 / 16)) e in
+          let d = eqb-true (beAt 6 s inCell.fixed) (beAt 6 first inFirstValue.destination + n) a in
+          let v = eqb-true (beAt 6 s inCell.vlan) (beAt 6 first inFirstValue.vlan) b in
+          let p = eqb-true (getD s inCell.priority 0 / 16) (getD first inFirstValue.priority 0 / 16) c in
           let pairs = three-pairs first inFirstValue.vlan in
           let x = small inFirstValue.vlan in
           let y = small (inFirstValue.vlan + 2) in
@@ -307,12 +307,12 @@ module _ (first : List ℕ) (octets : (i : ℕ) → getD first i 0 < 256) (n : �
       back : sameFixed new g ≡ true → same first n s ≡ true
       back e =
           let (d, v, z, m, p, r) = same-each new g e in
-          let a : beAt 6 s fixedPlace ≡ beAt 6 first inFirstValue.destination + n = omega arith in
-          let b : beAt 6 s vlanPlace ≡ beAt 6 first inFirstValue.vlan = omega (arith, three-pairs first inFirstValue.vlan) in
-          let c : getD s priorityPlace 0 / 16 ≡ getD first inFirstValue.priority 0 / 16 = omega (arith, beAt-one first inFirstValue.priority) in
-          all-three (eqb (beAt 6 s fixedPlace) (beAt 6 first inFirstValue.destination + n)) (eqb (beAt 6 s vlanPlace) (beAt 6 first inFirstValue.vlan)) (eqb (getD s priorityPlace 0 / 16) (getD first inFirstValue.priority 0 / 16))
-          (eq-eqb (beAt 6 s fixedPlace) (beAt 6 first inFirstValue.destination + n) a) (eq-eqb (beAt 6 s vlanPlace) (beAt 6 first inFirstValue.vlan) b)
-          (eq-eqb (getD s priorityPlace 0 / 16) (getD first inFirstValue.priority 0 / 16) c)
+          let a : beAt 6 s inCell.fixed ≡ beAt 6 first inFirstValue.destination + n = omega arith in
+          let b : beAt 6 s inCell.vlan ≡ beAt 6 first inFirstValue.vlan = omega (arith, three-pairs first inFirstValue.vlan) in
+          let c : getD s inCell.priority 0 / 16 ≡ getD first inFirstValue.priority 0 / 16 = omega (arith, beAt-one first inFirstValue.priority) in
+          all-three (eqb (beAt 6 s inCell.fixed) (beAt 6 first inFirstValue.destination + n)) (eqb (beAt 6 s inCell.vlan) (beAt 6 first inFirstValue.vlan)) (eqb (getD s inCell.priority 0 / 16) (getD first inFirstValue.priority 0 / 16))
+          (eq-eqb (beAt 6 s inCell.fixed) (beAt 6 first inFirstValue.destination + n) a) (eq-eqb (beAt 6 s inCell.vlan) (beAt 6 first inFirstValue.vlan) b)
+          (eq-eqb (getD s inCell.priority 0 / 16) (getD first inFirstValue.priority 0 / 16) c)
 
 -- A Talker's join, of an AttributeType.
 

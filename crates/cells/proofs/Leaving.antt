@@ -12,7 +12,7 @@ use Rattle.octets.specs.Parts.{part, patch, zeros}
 use Rattle.octets.specs.Pick.{pick}
 use Rattle.octets.specs.Fields.{packed, Fit, width}
 use Rattle.octets.proofs.Fields.{length-fit, get-field, get-octet, put-field, clear-run}
-use Rattle.model.specs.Layout.{cellWidths, listenerField, listenerLeavesField, listenerLeavesPlace, listenerPlace, listenerSinceField, listenerSize, talkerLeavesField, talkerLeavesPlace, talkerSinceField}
+use Rattle.model.specs.Layout.{cellWidths, cellIndex, inCell, listenerSize}
 use Rattle.model.specs.State.{Settings, Leaving, stays, since, TalkerType, talkerAdvertise, talkerFailed, Registration, Talker, noTalker, talker, Ready, Listener, noListener, listener, Cell}
 use Rattle.model.specs.Registrations.{Kind, listeners, begin, talksAs, hearsAs, withLeaving, quitTalker, quitListener, quit}
 use Rattle.model.specs.WrittenFrames.{fixedNumbers}
@@ -86,14 +86,14 @@ module _ (ws vs : List ℕ) (fit : Fit ws vs) (i at : ℕ) (place : width (take 
 -- the numbers after a leaving is begun: those of a Talker, and those of a Listener
 talker-numbers : (clock : ℕ) (r : Registration) (l : Leaving) (h : Listener)
     → let vs = talkerNumbers (talker (withLeaving l r)) ++ listenerNumbers h in
-    pick (eqb (getD vs talkerLeavesField 0) 0) (set (set vs talkerLeavesField 1) talkerSinceField clock) vs ≡ talkerNumbers (talker (withLeaving (begin clock l) r)) ++ listenerNumbers h
+    pick (eqb (getD vs cellIndex.talkerLeaves 0) 0) (set (set vs cellIndex.talkerLeaves 1) cellIndex.talkerSince clock) vs ≡ talkerNumbers (talker (withLeaving (begin clock l) r)) ++ listenerNumbers h
 unfolding withLeaving talkerNumbers leavingNumber sinceNumber begin pick
 talker-numbers clock r stays h = refl
 talker-numbers clock r (since t) h = refl
 
 listener-numbers : (clock : ℕ) (t : Talker) (r : Ready) (l : Leaving)
     → let vs = talkerNumbers t ++ listenerNumbers (listener r l) in
-    pick (eqb (getD vs listenerLeavesField 0) 0) (set (set vs listenerLeavesField 1) listenerSinceField clock) vs ≡ talkerNumbers t ++ listenerNumbers (listener r (begin clock l))
+    pick (eqb (getD vs cellIndex.listenerLeaves 0) 0) (set (set vs cellIndex.listenerLeaves 1) cellIndex.listenerSince clock) vs ≡ talkerNumbers t ++ listenerNumbers (listener r (begin clock l))
 unfolding talkerNumbers listenerNumbers leavingNumber sinceNumber begin pick fixedNumbers
 listener-numbers clock noTalker r stays = refl
 listener-numbers clock noTalker r (since t) = refl
@@ -101,13 +101,13 @@ listener-numbers clock (talker k) r stays = refl
 listener-numbers clock (talker k) r (since t) = refl
 
 module _ (clock : ℕ) (c : Cell) (fit : FitCell c) where
-  talker-begun : begun talkerLeavesPlace clock (cellOctets c) ≡ packed cellWidths (pick (eqb (getD (cellNumbers c) talkerLeavesField 0) 0) (set (set (cellNumbers c) talkerLeavesField 1) talkerSinceField clock) (cellNumbers c))
+  talker-begun : begun inCell.talkerLeaves clock (cellOctets c) ≡ packed cellWidths (pick (eqb (getD (cellNumbers c) cellIndex.talkerLeaves 0) 0) (set (set (cellNumbers c) cellIndex.talkerLeaves 1) cellIndex.talkerSince clock) (cellNumbers c))
   unfolding cellOctets width
-  talker-begun = begun-numbers cellWidths (cellNumbers c) (fit .numbers) talkerLeavesField talkerLeavesPlace refl refl refl refl clock
+  talker-begun = begun-numbers cellWidths (cellNumbers c) (fit .numbers) cellIndex.talkerLeaves inCell.talkerLeaves refl refl refl refl clock
 
-  listener-begun : begun listenerLeavesPlace clock (cellOctets c) ≡ packed cellWidths (pick (eqb (getD (cellNumbers c) listenerLeavesField 0) 0) (set (set (cellNumbers c) listenerLeavesField 1) listenerSinceField clock) (cellNumbers c))
+  listener-begun : begun inCell.listenerLeaves clock (cellOctets c) ≡ packed cellWidths (pick (eqb (getD (cellNumbers c) cellIndex.listenerLeaves 0) 0) (set (set (cellNumbers c) cellIndex.listenerLeaves 1) cellIndex.listenerSince clock) (cellNumbers c))
   unfolding cellOctets width
-  listener-begun = begun-numbers cellWidths (cellNumbers c) (fit .numbers) listenerLeavesField listenerLeavesPlace refl refl refl refl clock
+  listener-begun = begun-numbers cellWidths (cellNumbers c) (fit .numbers) cellIndex.listenerLeaves inCell.listenerLeaves refl refl refl refl clock
 
 -- what is held of one kind does not stop the other
 talker-stays : (clock : ℕ) (t : Talker) → quitTalker clock listeners t ≡ t
@@ -125,16 +125,16 @@ pub talker-kind : (c : Cell) → FitCell c → getD (cellOctets c) 0 0 ≡ getD 
 unfolding cellOctets width
 talker-kind c fit = get-octet cellWidths (cellNumbers c) (fit .numbers) 0 refl
 
-listener-kind : (c : Cell) → FitCell c → getD (cellOctets c) listenerPlace 0 ≡ getD (cellNumbers c) listenerField 0
+listener-kind : (c : Cell) → FitCell c → getD (cellOctets c) inCell.listener 0 ≡ getD (cellNumbers c) cellIndex.listener 0
 unfolding cellOctets width
-listener-kind c fit = get-octet cellWidths (cellNumbers c) (fit .numbers) listenerField refl
+listener-kind c fit = get-octet cellWidths (cellNumbers c) (fit .numbers) cellIndex.listener refl
 
-no-listener : (t : Talker) → getD (talkerNumbers t ++ listenerNumbers noListener) listenerField 0 ≡ 0
+no-listener : (t : Talker) → getD (talkerNumbers t ++ listenerNumbers noListener) cellIndex.listener 0 ≡ 0
 unfolding talkerNumbers listenerNumbers fixedNumbers
 no-listener noTalker = refl
 no-listener (talker r) = refl
 
-some-listener : (t : Talker) (r : Ready) (l : Leaving) → 1 ≤ getD (talkerNumbers t ++ listenerNumbers (listener r l)) listenerField 0
+some-listener : (t : Talker) (r : Ready) (l : Leaving) → 1 ≤ getD (talkerNumbers t ++ listenerNumbers (listener r l)) cellIndex.listener 0
 unfolding talkerNumbers listenerNumbers fixedNumbers
 some-listener noTalker r l = ready-number r .0
 some-listener (talker k) r l = ready-number r .0
@@ -161,14 +161,14 @@ no-hearing (suc (suc zero)) p q = refl
 no-hearing (suc (suc (suc k))) p q = absurd (omega arith)
 
 module _ (clock : ℕ) where
-  hears-begins : (t : Talker) (h : Listener) → FitCell (both t h) → 0 < getD (cellOctets (both t h)) listenerPlace 0
-      → begun listenerLeavesPlace clock (cellOctets (both t h)) ≡ cellOctets (quit clock listeners (both t h))
+  hears-begins : (t : Talker) (h : Listener) → FitCell (both t h) → 0 < getD (cellOctets (both t h)) inCell.listener 0
+      → begun inCell.listenerLeaves clock (cellOctets (both t h)) ≡ cellOctets (quit clock listeners (both t h))
   unfolding cellOctets cellNumbers quit quitListener hearsAs
   hears-begins t noListener fit p = absurd (omega (arith, listener-kind (both t noListener) fit, no-listener t))
   hears-begins t (listener r l) fit p =
       rw (talker-stays clock t) (listener-begun clock (both t (listener r l)) fit ∙ ap (packed cellWidths) (listener-numbers clock t r l))
 
-  hears-none : (t : Talker) (h : Listener) → FitCell (both t h) → getD (cellOctets (both t h)) listenerPlace 0 ≡ 0
+  hears-none : (t : Talker) (h : Listener) → FitCell (both t h) → getD (cellOctets (both t h)) inCell.listener 0 ≡ 0
       → cellOctets (both t h) ≡ cellOctets (quit clock listeners (both t h))
   unfolding cellNumbers quit quitListener hearsAs
   hears-none t noListener fit p = rw (talker-stays clock t)
@@ -176,7 +176,7 @@ module _ (clock : ℕ) where
 
   module _ (k : ℕ) (low : 1 ≤ k) (high : k ≤ 2) where
     talks-begins : (t : Talker) (h : Listener) → FitCell (both t h) → getD (cellOctets (both t h)) 0 0 ≡ k
-        → begun talkerLeavesPlace clock (cellOctets (both t h)) ≡ cellOctets (quit clock (kindAt k) (both t h))
+        → begun inCell.talkerLeaves clock (cellOctets (both t h)) ≡ cellOctets (quit clock (kindAt k) (both t h))
     unfolding cellOctets cellNumbers quit quitTalker withLeaving talkerNumbers
     talks-begins noTalker h fit p = absurd (omega (arith, talker-kind (both noTalker h) fit))
     talks-begins (talker r) h fit p =
@@ -192,18 +192,18 @@ module _ (clock : ℕ) where
 
 -- of octets that are laid out as a cell, at the octets that the code looks at
 module _ (s : List ℕ) (l : LaidCell s) (clock : ℕ) where
-  pub quits-listener : 0 < getD s listenerPlace 0 → begun listenerLeavesPlace clock s ≡ cellOctets (quit clock listeners (toCell s))
+  pub quits-listener : 0 < getD s inCell.listener 0 → begun inCell.listenerLeaves clock s ≡ cellOctets (quit clock listeners (toCell s))
   quits-listener =
-      laid (λ s c. 0 < getD s listenerPlace 0 → begun listenerLeavesPlace clock s ≡ cellOctets (quit clock listeners c)) (λ c. hears-begins clock (c .talks) (c .hears)) s l
+      laid (λ s c. 0 < getD s inCell.listener 0 → begun inCell.listenerLeaves clock s ≡ cellOctets (quit clock listeners c)) (λ c. hears-begins clock (c .talks) (c .hears)) s l
 
-  pub quits-no-listener : getD s listenerPlace 0 ≡ 0 → s ≡ cellOctets (quit clock listeners (toCell s))
+  pub quits-no-listener : getD s inCell.listener 0 ≡ 0 → s ≡ cellOctets (quit clock listeners (toCell s))
   quits-no-listener =
-      laid (λ s c. getD s listenerPlace 0 ≡ 0 → s ≡ cellOctets (quit clock listeners c)) (λ c. hears-none clock (c .talks) (c .hears)) s l
+      laid (λ s c. getD s inCell.listener 0 ≡ 0 → s ≡ cellOctets (quit clock listeners c)) (λ c. hears-none clock (c .talks) (c .hears)) s l
 
   module _ (k : ℕ) (low : 1 ≤ k) (high : k ≤ 2) where
-    pub quits-talker : getD s 0 0 ≡ k → begun talkerLeavesPlace clock s ≡ cellOctets (quit clock (kindAt k) (toCell s))
+    pub quits-talker : getD s 0 0 ≡ k → begun inCell.talkerLeaves clock s ≡ cellOctets (quit clock (kindAt k) (toCell s))
     quits-talker =
-        laid (λ s c. getD s 0 0 ≡ k → begun talkerLeavesPlace clock s ≡ cellOctets (quit clock (kindAt k) c)) (λ c. talks-begins clock k low high (c .talks) (c .hears)) s l
+        laid (λ s c. getD s 0 0 ≡ k → begun inCell.talkerLeaves clock s ≡ cellOctets (quit clock (kindAt k) c)) (λ c. talks-begins clock k low high (c .talks) (c .hears)) s l
 
     pub quits-no-talker : (getD s 0 0 ≡ k → ⊥) → s ≡ cellOctets (quit clock (kindAt k) (toCell s))
     quits-no-talker =
@@ -214,7 +214,7 @@ module _ (s : List ℕ) (l : LaidCell s) (clock : ℕ) where
 module _ (st : Settings) (now : ℕ) where
   talker-expired : (t : Talker) (h : Listener)
       → let vs = talkerNumbers t ++ listenerNumbers h in
-      pick (eqb (getD vs talkerLeavesField 0) 0) vs (pick (leb (getD vs talkerSinceField 0 + st .leaveTime) now) (patch 0 listenerField (zeros listenerField) vs) vs)
+      pick (eqb (getD vs cellIndex.talkerLeaves 0) 0) vs (pick (leb (getD vs cellIndex.talkerSince 0 + st .leaveTime) now) (patch 0 cellIndex.listener (zeros cellIndex.listener) vs) vs)
       ≡ talkerNumbers (expireTalker st now t) ++ listenerNumbers h
   unfolding talkerNumbers leavingNumber sinceNumber fixedNumbers expireTalker expired withLeaving pick patch
   talker-expired noTalker h = refl
@@ -223,19 +223,19 @@ module _ (st : Settings) (now : ℕ) where
       vs : Leaving → List ℕ
       vs l = talkerNumbers (talker (withLeaving l r)) ++ listenerNumbers h
 
-      over : (l : Leaving) (u : Bool) → pick u (patch 0 listenerField (zeros listenerField) (vs l)) (vs l) ≡ talkerNumbers (cond u noTalker (talker (withLeaving l r))) ++ listenerNumbers h
+      over : (l : Leaving) (u : Bool) → pick u (patch 0 cellIndex.listener (zeros cellIndex.listener) (vs l)) (vs l) ≡ talkerNumbers (cond u noTalker (talker (withLeaving l r))) ++ listenerNumbers h
       over l true = refl
       over l false = refl
 
       by-leaving : (l : Leaving)
-          → pick (eqb (getD (vs l) talkerLeavesField 0) 0) (vs l) (pick (leb (getD (vs l) talkerSinceField 0 + st .leaveTime) now) (patch 0 listenerField (zeros listenerField) (vs l)) (vs l))
+          → pick (eqb (getD (vs l) cellIndex.talkerLeaves 0) 0) (vs l) (pick (leb (getD (vs l) cellIndex.talkerSince 0 + st .leaveTime) now) (patch 0 cellIndex.listener (zeros cellIndex.listener) (vs l)) (vs l))
           ≡ talkerNumbers (expireTalker st now (talker (withLeaving l r))) ++ listenerNumbers h
       by-leaving stays = refl
       by-leaving (since t) = over (since t) (leb (t + st .leaveTime) now)
 
   listener-over : (t : Talker) (r : Ready) (x : ℕ) (u : Bool)
       → let vs = talkerNumbers t ++ listenerNumbers (listener r (since x)) in
-      pick u (patch listenerField 3 (zeros 3) vs) vs ≡ talkerNumbers t ++ listenerNumbers (cond u noListener (listener r (since x)))
+      pick u (patch cellIndex.listener 3 (zeros 3) vs) vs ≡ talkerNumbers t ++ listenerNumbers (cond u noListener (listener r (since x)))
   unfolding talkerNumbers listenerNumbers fixedNumbers pick patch
   listener-over noTalker r x true = refl
   listener-over (talker k) r x true = refl
@@ -243,7 +243,7 @@ module _ (st : Settings) (now : ℕ) where
 
   listener-expired : (t : Talker) (h : Listener)
       → let vs = talkerNumbers t ++ listenerNumbers h in
-      pick (eqb (getD vs listenerLeavesField 0) 0) vs (pick (leb (getD vs listenerSinceField 0 + st .leaveTime) now) (patch listenerField 3 (zeros 3) vs) vs)
+      pick (eqb (getD vs cellIndex.listenerLeaves 0) 0) vs (pick (leb (getD vs cellIndex.listenerSince 0 + st .leaveTime) now) (patch cellIndex.listener 3 (zeros 3) vs) vs)
       ≡ talkerNumbers t ++ listenerNumbers (expireListener st now h)
   unfolding talkerNumbers listenerNumbers leavingNumber sinceNumber fixedNumbers expireListener expired pick
   listener-expired noTalker noListener = refl
@@ -254,19 +254,19 @@ module _ (st : Settings) (now : ℕ) where
   listener-expired (talker k) (listener r (since x)) = listener-over (talker k) r x (leb (x + st .leaveTime) now)
 
   module _ (t : Talker) (h : Listener) (fit : FitCell (both t h)) where
-    expires-talker : lapsed 0 listenerPlace talkerLeavesPlace (st .leaveTime) now (cellOctets (both t h)) ≡ cellOctets (both (expireTalker st now t) h)
+    expires-talker : lapsed 0 inCell.listener inCell.talkerLeaves (st .leaveTime) now (cellOctets (both t h)) ≡ cellOctets (both (expireTalker st now t) h)
     unfolding cellOctets cellNumbers width part
     expires-talker =
-        lapsed-numbers cellWidths (cellNumbers (both t h)) (fit .numbers) talkerLeavesField talkerLeavesPlace refl refl refl refl 0 listenerField (st .leaveTime) now (omega arith)
+        lapsed-numbers cellWidths (cellNumbers (both t h)) (fit .numbers) cellIndex.talkerLeaves inCell.talkerLeaves refl refl refl refl 0 cellIndex.listener (st .leaveTime) now (omega arith)
         ∙ ap (packed cellWidths) (talker-expired t h)
 
-    expires-listener : lapsed listenerPlace listenerSize listenerLeavesPlace (st .leaveTime) now (cellOctets (both t h)) ≡ cellOctets (both t (expireListener st now h))
+    expires-listener : lapsed inCell.listener listenerSize inCell.listenerLeaves (st .leaveTime) now (cellOctets (both t h)) ≡ cellOctets (both t (expireListener st now h))
     unfolding cellOctets cellNumbers width part
     expires-listener =
-        lapsed-numbers cellWidths (cellNumbers (both t h)) (fit .numbers) listenerLeavesField listenerLeavesPlace refl refl refl refl listenerField 3 (st .leaveTime) now (omega arith)
+        lapsed-numbers cellWidths (cellNumbers (both t h)) (fit .numbers) cellIndex.listenerLeaves inCell.listenerLeaves refl refl refl refl cellIndex.listener 3 (st .leaveTime) now (omega arith)
         ∙ ap (packed cellWidths) (listener-expired t h)
 
-  expires : (c : Cell) → FitCell c → lapsed listenerPlace listenerSize listenerLeavesPlace (st .leaveTime) now (lapsed 0 listenerPlace talkerLeavesPlace (st .leaveTime) now (cellOctets c)) ≡ cellOctets (expireCell st now c)
+  expires : (c : Cell) → FitCell c → lapsed inCell.listener listenerSize inCell.listenerLeaves (st .leaveTime) now (lapsed 0 inCell.listener inCell.talkerLeaves (st .leaveTime) now (cellOctets c)) ≡ cellOctets (expireCell st now c)
   unfolding expireCell
   expires c fit =
       rw (expires-talker (c .talks) (c .hears) fit)
@@ -274,7 +274,7 @@ module _ (st : Settings) (now : ℕ) where
 
 -- first the Talker, then the Listener
 pub expires-both : (st : Settings) (leave now : ℕ) → st .leaveTime ≡ leave → (s y z : List ℕ) → LaidCell s
-    → y ≡ lapsed 0 listenerPlace talkerLeavesPlace leave now s → z ≡ lapsed listenerPlace listenerSize listenerLeavesPlace leave now y → z ≡ cellOctets (expireCell st now (toCell s))
+    → y ≡ lapsed 0 inCell.listener inCell.talkerLeaves leave now s → z ≡ lapsed inCell.listener listenerSize inCell.listenerLeaves leave now y → z ≡ cellOctets (expireCell st now (toCell s))
 expires-both st leave now e s y z l p q =
     rw (q, p, ← e)
-    (laid (λ s c. lapsed listenerPlace listenerSize listenerLeavesPlace (st .leaveTime) now (lapsed 0 listenerPlace talkerLeavesPlace (st .leaveTime) now s) ≡ cellOctets (expireCell st now c)) (expires st now) s l)
+    (laid (λ s c. lapsed inCell.listener listenerSize inCell.listenerLeaves (st .leaveTime) now (lapsed 0 inCell.listener inCell.talkerLeaves (st .leaveTime) now s) ≡ cellOctets (expireCell st now c)) (expires st now) s l)

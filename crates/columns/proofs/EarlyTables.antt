@@ -11,7 +11,7 @@ use borrow.Author.Tests.{ltb-true, ltb-false}
 use Rattle.octets.specs.Be.{beAt}
 use Rattle.octets.specs.Parts.{part, patch}
 use Rattle.octets.proofs.Frame.{part-part}
-use Rattle.model.specs.Layout.{cellPlace, cellSize, fixedPlace, fixedSize, listenerPlace, resultPlace, resultSize, settledOf}
+use Rattle.model.specs.Layout.{cellPlace, cellSize, inCell, fixedSize, resultPlace, resultSize, settledOf}
 use Rattle.model.specs.State.{Fixed, Cell, Result, Stream, Column, cellAt, resultAt, streamAt, fresh}
 use Rattle.model.specs.Settling.{Scene, sceneOf, Source, source, sourceOf, fixedOf, isInbound, latencyOut}
 use Rattle.model.specs.Table.{toDeclared, toResult, resultOctets, encode, decode}
@@ -42,7 +42,7 @@ module _ {table : List ℕ} {k p : ℕ} (s : StandsOn table k p) where
 
   pub result-written : (now latency listener a : ℕ) (column : Column) (here y : List ℕ) → a ≡ resultPlace k p
       → column ≡ earlyColumn (sceneOf (decode table)) p x → latency ≡ latencyOut (decode table .settings) p x
-      → ReadsCell here (cellAt x p) → listener ≡ beAt 1 here listenerPlace
+      → ReadsCell here (cellAt x p) → listener ≡ beAt 1 here inCell.listener
       → y ≡ resultOctets (shownBy column latency (toDeclared listener) now (toResult (take (a + resultSize - a) (drop a table))))
       → take a table ++ (y ++ drop (a + resultSize - a) (drop a table)) ≡ encode (changedAt k (earlyOne p now) (decode table))
   unfolding earlyOne
@@ -52,7 +52,7 @@ module _ {table : List ℕ} {k p : ℕ} (s : StandsOn table k p) where
       changed-result-at s a e (shownBy column latency (toDeclared listener) now) y q ∙ ap (λ (r : Result). encode (withResult k p r (decode table))) shown
 
 -- the fixed values that a stream has registered at place t, taken over as its settled values
-pub values-copied : {table : List ℕ} {k t : ℕ} (s : StandsOn table k t) → cellPlace k t + cellSize ≤ length table → (a : ℕ) → a ≡ cellPlace k t + fixedPlace
+pub values-copied : {table : List ℕ} {k t : ℕ} (s : StandsOn table k t) → cellPlace k t + cellSize ≤ length table → (a : ℕ) → a ≡ cellPlace k t + inCell.fixed
     → patch (settledOf k) fixedSize (part a fixedSize table) table
     ≡ encode (withSettled k (fixedOf (sourceIn t (cellAt (streamAt k (decode table)) t))) (decode table))
 values-copied {table} {k} {t} s room a e =
@@ -60,7 +60,7 @@ values-copied {table} {k} {t} s room a e =
     let r = cell-at s in
     let q : part a fixedSize table ≡ fixedOctets (fixedOf (sourceIn t c)) =
     ap (λ (i : ℕ). part i fixedSize table) e
-    ∙ sym (part-part (cellPlace k t) cellSize fixedPlace fixedSize table room (omega arith))
+    ∙ sym (part-part (cellPlace k t) cellSize inCell.fixed fixedSize table room (omega arith))
     ∙ fixed-part (part (cellPlace k t) cellSize table) (r .laid) t
     ∙ ap (λ (d : Cell). fixedOctets (fixedOf (sourceIn t d))) (r .is) in
     ap (λ (y : List ℕ). patch (settledOf k) fixedSize y table) q ∙ settled-replaced (stands s) (fixedOf (sourceIn t c))

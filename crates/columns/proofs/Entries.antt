@@ -9,7 +9,7 @@ use lib.Dec.{eqb, leb}
 use borrow.Author.Tests.{eq-eqb, ne-eqb, le-leb, lt-leb}
 use Rattle.octets.specs.Be.{beAt}
 use Rattle.octets.specs.Fields.{fields}
-use Rattle.model.specs.Layout.{agePlace, entryPlace, listenerLeavesPlace, listenerPlace, listenerSincePlace}
+use Rattle.model.specs.Layout.{inResult, inCell}
 use Rattle.model.specs.State.{Leaving, Talker, Ready, ready, readyFailed, noListener, listener, none, advertise, failed, noEntry, filters, forwards, nothing, tells}
 use Rattle.model.specs.Settling.{isReady, registered, entryOf, ageOf, ageKept}
 use Rattle.model.specs.Table.{toLeaving, toReady, toDeclared, toEntry, entryNumber, toCell, cellFrom, listenerFrom, toResult, resultFrom}
@@ -23,10 +23,10 @@ unfolding registered
 heard t true r l = refl
 heard t false r l = refl
 
-pub registered-read : (s : List ℕ) → registered (toCell s) ≡ toDeclared (beAt 1 s listenerPlace)
+pub registered-read : (s : List ℕ) → registered (toCell s) ≡ toDeclared (beAt 1 s inCell.listener)
 unfolding toCell cellFrom listenerFrom toDeclared fields
 registered-read s =
-    heard (toCell s .talks) (eqb (beAt 1 s listenerPlace) 0) (toReady (beAt 1 s listenerPlace)) (toLeaving (beAt 1 s listenerLeavesPlace) (beAt 4 s listenerSincePlace))
+    heard (toCell s .talks) (eqb (beAt 1 s inCell.listener) 0) (toReady (beAt 1 s inCell.listener)) (toLeaving (beAt 1 s inCell.listenerLeaves) (beAt 4 s inCell.listenerSince))
 
 -- Table 35-12.
 
@@ -77,14 +77,14 @@ kept e a n = rw (ne-eqb e 0 n) (go (eqb e 1))
     go false = refl
 
 module _ (s : List ℕ) (now e : ℕ) (n : e ≡ 0 → ⊥) where
-  pub age-begins : getD s entryPlace 0 ≡ 0 → now / 100 ≡ ageKept (toEntry e) (ageOf now (toResult s))
+  pub age-begins : getD s inResult.entry 0 ≡ 0 → now / 100 ≡ ageKept (toEntry e) (ageOf now (toResult s))
   unfolding ageOf toResult resultFrom toEntry fields
-  age-begins h = sym (kept e (ageOf now (toResult s)) n ∙ rw (octet-field s entryPlace, eq-eqb (getD s entryPlace 0) 0 h))
+  age-begins h = sym (kept e (ageOf now (toResult s)) n ∙ rw (octet-field s inResult.entry, eq-eqb (getD s inResult.entry 0) 0 h))
 
-  pub age-stays : (getD s entryPlace 0 ≡ 0 → ⊥) → beAt 4 s agePlace ≡ ageKept (toEntry e) (ageOf now (toResult s))
+  pub age-stays : (getD s inResult.entry 0 ≡ 0 → ⊥) → beAt 4 s inResult.age ≡ ageKept (toEntry e) (ageOf now (toResult s))
   unfolding ageOf toResult resultFrom toEntry fields
-  age-stays h = sym (kept e (ageOf now (toResult s)) n ∙ rw (octet-field s entryPlace, ne-eqb (getD s entryPlace 0) 0 h) (held (eqb (getD s entryPlace 0) 1)))
+  age-stays h = sym (kept e (ageOf now (toResult s)) n ∙ rw (octet-field s inResult.entry, ne-eqb (getD s inResult.entry 0) 0 h) (held (eqb (getD s inResult.entry 0) 1)))
     where
-      held : (t : Bool) → elim (cond t filters forwards) [ noEntry ↦ now / 100 | filters ↦ beAt 4 s agePlace | forwards ↦ beAt 4 s agePlace ] ≡ beAt 4 s agePlace
+      held : (t : Bool) → elim (cond t filters forwards) [ noEntry ↦ now / 100 | filters ↦ beAt 4 s inResult.age | forwards ↦ beAt 4 s inResult.age ] ≡ beAt 4 s inResult.age
       held true = refl
       held false = refl

@@ -12,7 +12,7 @@ use Rattle.octets.specs.Fields.{packed, width}
 use Rattle.octets.proofs.Be.{length-be}
 use Rattle.octets.proofs.Parts.{length-patch, patch-none, patch-is}
 use Rattle.octets.proofs.Fields.{length-packed-any, packed-append, patch-behind}
-use Rattle.model.specs.Layout.{entryPlace, resultSize}
+use Rattle.model.specs.Layout.{inResult, resultSize}
 use Rattle.model.specs.State.{Column, Declared}
 use Rattle.model.specs.Settling.{entryOf, ageOf, ageKept}
 use Rattle.model.specs.Table.{resultNumbers, resultOctets, entryNumber, declaredNumber, toEntry, toResult}
@@ -50,13 +50,13 @@ puts-packed (w ∷ ws) (v ∷ vs) e a s h =
 -- those of the column and those of the entry: the result as a whole
 pub result-put : (column : Column) (latency : ℕ) (heard : Declared) (now e a : ℕ) (s : List ℕ) → length s ≡ resultSize
     → e ≡ entryNumber (entryOf column heard) → a ≡ ageKept (toEntry e) (ageOf now (toResult s))
-    → patch entryPlace entrySize (packed entryWidths (e ∷ a ∷ 0 ∷ [])) (patch 0 entryPlace (packed columnWidths (columnNumbers column latency)) s)
+    → patch inResult.entry entrySize (packed entryWidths (e ∷ a ∷ 0 ∷ [])) (patch 0 inResult.entry (packed columnWidths (columnNumbers column latency)) s)
     ≡ resultOctets (shownBy column latency heard now (toResult s))
 unfolding resultOctets resultNumbers columnNumbers declaredNumber width
 result-put column latency heard now e a s l p q =
     let vs = columnNumbers column latency in
     let us : List ℕ = e ∷ a ∷ 0 ∷ [] in
-    patch-next 0 entryPlace entrySize (packed columnWidths vs) (packed entryWidths us) s (length-packed-any columnWidths vs refl) (omega arith)
+    patch-next 0 inResult.entry entrySize (packed columnWidths vs) (packed entryWidths us) s (length-packed-any columnWidths vs refl) (omega arith)
     ∙ patch-whole resultSize (packed columnWidths vs ++ packed entryWidths us) s l
     ∙ sym (packed-append columnWidths entryWidths vs us refl)
     ∙ rw (q, p, entry-back (entryOf column heard))

@@ -11,7 +11,7 @@ use lib.Dec.{eqb, ltb}
 use borrow.Author.Tests.{ne-eqb, lt-ltb, le-ltb}
 use Rattle.octets.specs.Be.{beAt}
 use Rattle.octets.specs.Fields.{fields}
-use Rattle.model.specs.Layout.{changedPlace, firstLatencyPlace, inPort, latencyPlace, priorityPlace}
+use Rattle.model.specs.Layout.{inCell, inPort}
 use Rattle.model.specs.Lists.{isOne}
 use Rattle.model.specs.State.{Bridge, Port, talkerAdvertise, talkerFailed, Own, Stream, Class, noClass, classA, classB, noOwn, portAt, isPort, cellAt, ownAt, classOf, isNoClass, supports}
 use Rattle.model.specs.Frames.{priorityOf}
@@ -55,7 +55,7 @@ failed-asked k b c = go (eqb k 1)
 
 module _ (sc : Scene) (here said : List ℕ) (p t : ℕ) where
   abbrev pub class : Class
-  class = classOf (sc .settings) (beAt 1 said priorityPlace / 32)
+  class = classOf (sc .settings) (beAt 1 said inCell.priority / 32)
 
   abbrev pub from-j : StepName
   from-j = cond (boundary (ownAt (sc .owns) p) class) stepJ stepI
@@ -67,10 +67,10 @@ module _ (sc : Scene) (here said : List ℕ) (p t : ℕ) where
   from-e = cond (isTalking (toCell here)) stepE from-f
 
   abbrev pub from-k : StepName
-  from-k = cond (ltb (beAt 4 said firstLatencyPlace) (beAt 4 said latencyPlace)) stepK from-e
+  from-k = cond (ltb (beAt 4 said inCell.firstLatency) (beAt 4 said inCell.latency)) stepK from-e
 
   abbrev pub from-d : StepName
-  from-d = cond (eqb (getD said changedPlace 0) 1) stepD from-k
+  from-d = cond (eqb (getD said inCell.changed 0) 1) stepD from-k
 
   abbrev pub from-c : StepName
   from-c = cond (not (eqb (getD said 0 0) 1)) stepC from-d
@@ -94,7 +94,7 @@ module _ (sc : Scene) (here said : List ℕ) (p t : ℕ) where
 
   pub steps-asked : (getD said 0 0 ≡ 0 → ⊥) → decided ≡ from-a
   unfolding sourceIn fixedOf registrationFrom stepsFrom firstName isOne fields fixedFrom priorityOf
-  steps-asked k = rw (a-talker said k, octet-field said 0, octet-field said changedPlace, failed-asked)
+  steps-asked k = rw (a-talker said k, octet-field said 0, octet-field said inCell.changed, failed-asked)
 
 -- the flag of a class, in a scene
 pub edge-is : (e : Edges) (o : Own) → EdgesOf e o → (c : Class) → edgeOf e c ≡ boundary o c

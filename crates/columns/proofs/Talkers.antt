@@ -10,7 +10,7 @@ use lib.Dec.{eqb}
 use borrow.Author.Tests.{eq-eqb, ne-eqb, eqb-true, eqb-false, lt-ltb, le-ltb}
 use Rattle.octets.specs.Be.{beAt}
 use Rattle.octets.specs.Fields.{fields}
-use Rattle.model.specs.Layout.{bridgePlace, codePlace, fixedField, fixedPlace, latencyField, latencyPlace, priorityField, priorityPlace}
+use Rattle.model.specs.Layout.{inCell, cellIndex}
 use Rattle.model.specs.State.{Settings, Port, none, failed, Class, noClass, classA, classB, isNoClass, Talker, noTalker, talker, Cell, Stream, noFixed, portAt, cellAt, classOf, classLatency}
 use Rattle.model.specs.WrittenFrames.{priorityOctet, fixedNumbers}
 use Rattle.model.specs.Settling.{Source, sourceOf, fixedOf, latencyOf, talkerTypeOf, failedColumn, streamClass, capped, latencyOut}
@@ -27,17 +27,17 @@ use Rattle.columns.specs.Answers.{latencyPlaceOf, sizePlace}
 
 -- Of the numbers of any cell.
 
-latency-number : (t : ℕ) (k : Talker) (c : Cell) → c .talks ≡ k → getD (cellNumbers c) latencyField 0 ≡ latencyOf (sourceIn t c)
+latency-number : (t : ℕ) (k : Talker) (c : Cell) → c .talks ≡ k → getD (cellNumbers c) cellIndex.latency 0 ≡ latencyOf (sourceIn t c)
 unfolding latencyOf sourceIn cellNumbers talkerNumbers fixedNumbers
 latency-number t noTalker c e = rw e
 latency-number t (talker r) c e = rw e
 
-priority-number : (t : ℕ) (k : Talker) (c : Cell) → c .talks ≡ k → FitRank k → getD (cellNumbers c) priorityField 0 / 32 ≡ fixedOf (sourceIn t c) .priority
+priority-number : (t : ℕ) (k : Talker) (c : Cell) → c .talks ≡ k → FitRank k → getD (cellNumbers c) cellIndex.priority 0 / 32 ≡ fixedOf (sourceIn t c) .priority
 unfolding fixedOf noFixed sourceIn cellNumbers talkerNumbers fixedNumbers priorityOctet
 priority-number t noTalker c e r = rw e
 priority-number t (talker k) c e r = rw e (omega arith)
 
-size-number : (t : ℕ) (k : Talker) (c : Cell) → c .talks ≡ k → getD (cellNumbers c) (fixedField + 2) 0 ≡ fixedOf (sourceIn t c) .size
+size-number : (t : ℕ) (k : Talker) (c : Cell) → c .talks ≡ k → getD (cellNumbers c) (cellIndex.fixed + 2) 0 ≡ fixedOf (sourceIn t c) .size
 unfolding fixedOf noFixed sourceIn cellNumbers talkerNumbers fixedNumbers
 size-number t noTalker c e = rw e
 size-number t (talker r) c e = rw e
@@ -55,13 +55,13 @@ module _ (s : List ℕ) (t : ℕ) where
           let n = eqb-false (getD s 0 0) 0 e in
           rw (a-talker s n, octet-field s 0, eq-eqb (getD s 0 0) 1 (omega (arith, n)))
 
-  pub a-failure : 2 ≤ getD s 0 0 → failed (beAt 8 s bridgePlace) (getD s codePlace 0) ≡ failedColumn (talkerTypeOf (sourceIn t (toCell s)))
+  pub a-failure : 2 ≤ getD s 0 0 → failed (beAt 8 s inCell.bridge) (getD s inCell.code 0) ≡ failedColumn (talkerTypeOf (sourceIn t (toCell s)))
   unfolding sourceIn talkerTypeOf failedColumn registrationFrom toTalkerType fields
   a-failure h =
-      rw (a-talker s (λ e. omega (arith, e)), octet-field s 0, octet-field s codePlace, ne-eqb (getD s 0 0) 1 (λ e. omega (arith, e)))
+      rw (a-talker s (λ e. omega (arith, e)), octet-field s 0, octet-field s inCell.code, ne-eqb (getD s 0 0) 1 (λ e. omega (arith, e)))
 
 -- The destination that they say.
-pub destination-said : (s : List ℕ) (t : ℕ) → (getD s 0 0 ≡ 0 → ⊥) → beAt 6 s fixedPlace ≡ fixedOf (sourceIn t (toCell s)) .destination
+pub destination-said : (s : List ℕ) (t : ℕ) → (getD s 0 0 ≡ 0 → ⊥) → beAt 6 s inCell.fixed ≡ fixedOf (sourceIn t (toCell s)) .destination
 unfolding sourceIn fixedOf registrationFrom fixedFrom fields
 destination-said s t n = rw (a-talker s n)
 
@@ -82,30 +82,30 @@ no-class-latency q classB h = absurd (false≢true h)
 -- The cell at place t of a stream whose Talker stands there, in the octets s.
 
 module _ (x : Stream) (t : ℕ) (e : t ≡ talkerPort (sourceOf x)) (s : List ℕ) (r : ReadsCell s (cellAt x t)) where
-  latency-read : beAt 4 s latencyPlace ≡ latencyOf (sourceOf x)
+  latency-read : beAt 4 s inCell.latency ≡ latencyOf (sourceOf x)
   unfolding fields
   latency-read =
-      ap (λ (vs : List ℕ). getD vs latencyField 0) (numbers-laid s (r .laid))
+      ap (λ (vs : List ℕ). getD vs cellIndex.latency 0) (numbers-laid s (r .laid))
       ∙ latency-number t (toCell s .talks) (toCell s) refl
       ∙ ap latencyOf (source-read x t e s r)
 
   pub size-read : beAt 2 s sizePlace ≡ fixedOf (sourceOf x) .size
   unfolding fields
   size-read =
-      ap (λ (vs : List ℕ). getD vs (fixedField + 2) 0) (numbers-laid s (r .laid))
+      ap (λ (vs : List ℕ). getD vs (cellIndex.fixed + 2) 0) (numbers-laid s (r .laid))
       ∙ size-number t (toCell s .talks) (toCell s) refl
       ∙ ap (λ (o : Source). fixedOf o .size) (source-read x t e s r)
 
-  priority-read : beAt 1 s priorityPlace / 32 ≡ fixedOf (sourceOf x) .priority
+  priority-read : beAt 1 s inCell.priority / 32 ≡ fixedOf (sourceOf x) .priority
   unfolding fields
   priority-read =
-      ap (λ (vs : List ℕ). getD vs priorityField 0 / 32) (numbers-laid s (r .laid))
+      ap (λ (vs : List ℕ). getD vs cellIndex.priority 0 / 32) (numbers-laid s (r .laid))
       ∙ priority-number t (toCell s .talks) (toCell s) refl (laid-cell-fits s (r .laid) .rank)
       ∙ ap (λ (o : Source). fixedOf o .priority) (source-read x t e s r)
 
   -- latency out, from the latency in and the class latency that were read
-  module _ (st : Settings) (p : ℕ) (port : List ℕ) (q : ReadsPort port (portAt st p)) (taken class : ℕ) (f : taken ≡ beAt 4 s latencyPlace)
-      (g : class ≡ classLatency (toPort port) (classOf st (beAt 1 s priorityPlace / 32))) where
+  module _ (st : Settings) (p : ℕ) (port : List ℕ) (q : ReadsPort port (portAt st p)) (taken class : ℕ) (f : taken ≡ beAt 4 s inCell.latency)
+      (g : class ≡ classLatency (toPort port) (classOf st (beAt 1 s inCell.priority / 32))) where
     latency-sum : latencyOut st p x ≡ capped (taken + class)
     unfolding latencyOut streamClass
     latency-sum = rw (f, g, q .is, latency-read, priority-read)

@@ -2,7 +2,7 @@
 use mathlib.Core.List.{List, [], _∷_}
 use Prim.Native.Nat.{ℕ, _+_, _-_}
 use lib.ListN.{take, drop}
-use Rattle.model.specs.Layout.{before, entryPlace, fixedPlace, fixedWidths, inPort, resultSize, resultWidths}
+use Rattle.model.specs.Layout.{before, inResult, inCell, fixedWidths, inPort, resultSize, resultWidths}
 use Rattle.model.specs.State.{Column, none, advertise, failed, Class, noClass, classA, classB}
 use Rattle.model.specs.Settling.{latencyKept}
 use Rattle.model.specs.Table.{columnNumber, columnBridge, columnCode}
@@ -25,11 +25,11 @@ abbrev pub entryWidths : List ℕ
 entryWidths = drop 4 resultWidths
 
 abbrev pub entrySize : ℕ
-entrySize = resultSize - entryPlace
+entrySize = resultSize - inResult.entry
 
 -- MaxFrameSize in a cell
 abbrev pub sizePlace : ℕ
-sizePlace = fixedPlace + before 2 fixedWidths
+sizePlace = inCell.fixed + before 2 fixedWidths
 
 -- the latency of a class in a port's settings; without a class that of A
 unfoldable pub latencyPlaceOf : Class → ℕ

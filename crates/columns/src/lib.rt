@@ -6,7 +6,7 @@ ghost use lib.ListN.{length};
 ghost use Rattle.octets.specs.Fields.{packed};
 ghost use Rattle.octets.specs.Parts.{patch};
 ghost use Rattle.octets.specs.Be.{beAt};
-ghost use Rattle.model.specs.Layout.{cellSize, entryPlace, fixedPlace, portSize, resultSize};
+ghost use Rattle.model.specs.Layout.{cellSize, inResult, inCell, portSize, resultSize};
 ghost use Rattle.model.specs.State as state;
 ghost use Rattle.model.specs.State.{isNoClass, classLatency, portAt, cellAt, ownAt, failed};
 ghost use Rattle.model.specs.Settling.{Scene, sceneOf, isInbound, isPruned, sourceOf, fixedOf, talkerTypeOf, failedColumn, stepI, stepsFrom, steps, ageOf, latencyOut, entryOf, ageKept};
@@ -330,7 +330,7 @@ pub fn age_of(result: &[u8], entry: u64, time: u32) -> u64
 // The fields of a result's column: its kind, latency out, Bridge ID and code.
 fn store_column(result: &mut [u8], kind: u64, latency: u64, bridge: u64, code: u64)
     requires { ⌜ length (now result) ≡ resultSize ⌝ }
-    ensures { λ _. ⌜ now (result .exit) ≡ patch 0 entryPlace (packed columnWidths (kind ∷ latency ∷ bridge ∷ code ∷ [])) (now (result .entry)) ⌝ }
+    ensures { λ _. ⌜ now (result .exit) ≡ patch 0 inResult.entry (packed columnWidths (kind ∷ latency ∷ bridge ∷ code ∷ [])) (now (result .entry)) ⌝ }
 {
     octets::put(result, result::COLUMN, 1, kind);
     octets::put(result, result::LATENCY, 4, latency);
@@ -340,7 +340,7 @@ fn store_column(result: &mut [u8], kind: u64, latency: u64, bridge: u64, code: u
 
 fn write_column(result: &mut [u8], column: ColumnRead, latency: u64)
     requires { ⌜ length (now result) ≡ resultSize ⌝ }
-    ensures { λ _. ⌜ now (result .exit) ≡ patch 0 entryPlace (packed columnWidths (columnNumbers (columnShown column) latency)) (now (result .entry)) ⌝ }
+    ensures { λ _. ⌜ now (result .exit) ≡ patch 0 inResult.entry (packed columnWidths (columnNumbers (columnShown column) latency)) (now (result .entry)) ⌝ }
 {
     match column {
         ColumnRead::None => store_column(result, 0, 0, 0, 0),
@@ -352,7 +352,7 @@ fn write_column(result: &mut [u8], column: ColumnRead, latency: u64)
 // The fields of a result's entry, which declares no Listener yet.
 fn write_entry(result: &mut [u8], entry: u64, age: u64)
     requires { ⌜ length (now result) ≡ resultSize ⌝ }
-    ensures { λ _. ⌜ now (result .exit) ≡ patch entryPlace entrySize (packed entryWidths (entry ∷ age ∷ 0 ∷ [])) (now (result .entry)) ⌝ }
+    ensures { λ _. ⌜ now (result .exit) ≡ patch inResult.entry entrySize (packed entryWidths (entry ∷ age ∷ 0 ∷ [])) (now (result .entry)) ⌝ }
 {
     octets::put(result, result::ENTRY, 1, entry);
     octets::put(result, result::AGE, 4, age);

@@ -9,7 +9,7 @@ use lib.ListN.{take}
 use Rattle.octets.specs.Parts.{part}
 use Rattle.octets.specs.Fields.{packed, width, flat}
 use Rattle.octets.proofs.Fields.{packed-append, part-run}
-use Rattle.model.specs.Layout.{sum, before, fixedWidths, latencyOutPlace, resultWidths, varyingWidths}
+use Rattle.model.specs.Layout.{sum, before, fixedWidths, inResult, resultWidths, varyingWidths}
 use Rattle.model.specs.Lists.{keep, bit}
 use Rattle.model.specs.State.{TalkerType, talkerAdvertise, talkerFailed, Column, none, advertise, failed, Result, Stream, Port, Settings, resultAt, Class, supports, classId}
 use Rattle.model.specs.Registrations.{advertises, faileds}
@@ -23,7 +23,7 @@ use Rattle.declarations.specs.Passes.{declares, classAt, declaresClass, 
 
 -- the fields of a result from latency on: the latency, or Bridge ID and code with it
 result-fields : (r : Result) (k : ℕ) → 1 + k ≤ 7
-    → part latencyOutPlace (width (part 1 k resultWidths)) (resultOctets r) ≡ packed (part 1 k resultWidths) (part 1 k (resultNumbers r))
+    → part inResult.latency (width (part 1 k resultWidths)) (resultOctets r) ≡ packed (part 1 k resultWidths) (part 1 k (resultNumbers r))
 unfolding width resultOctets resultNumbers
 result-fields r k few = part-run resultWidths (resultNumbers r) 1 k refl few
 

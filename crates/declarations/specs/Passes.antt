@@ -64,7 +64,7 @@ vectors l = flat (λ d. vectorOctets (declarationVector d)) l
 abbrev pub found : Attribute → ℕ → List ℕ → List Declaration
 found a p t = allOf (type a) p (decode t)
 
--- "Talkers and Domains stay one per vector" (02)
+-- the types of which a vector has "one value"; Listeners are packed (02, xi)
 abbrev pub Single : frames.Attribute → Type 0
 Single (registers advertises) = Unit {0}
 Single (registers faileds) = Unit {0}

@@ -6,7 +6,7 @@ use Prim.Native.Nat.{ℕ, _+_, _≤_}
 use lib.ListN.{length, drop}
 use Rattle.octets.specs.Be.{be}
 use Rattle.octets.specs.Parts.{part}
-use Rattle.model.specs.Layout.{latencyOutPlace, resultSize}
+use Rattle.model.specs.Layout.{inResult, resultSize}
 use Rattle.model.specs.FrameLayout.{inFirstValue}
 use Rattle.model.specs.State.{Settings, Stream, resultAt, Class, classPriority, classId}
 use Rattle.model.specs.Table.{resultOctets}
@@ -32,7 +32,7 @@ talkerBegun x = headed 1 (x .id) ++ fixedOctets (x .settled)
 
 -- so many octets of the result on port p, from latency on, and JoinMt
 unfoldable pub talkerVector : ℕ → ℕ → Stream → List ℕ
-talkerVector more p x = (talkerBegun x ++ part latencyOutPlace more (resultOctets (resultAt x p))) ++ (108 ∷ [])
+talkerVector more p x = (talkerBegun x ++ part inResult.latency more (resultOctets (resultAt x p))) ++ (108 ∷ [])
 
 -- a class's ID, priority and the VLAN of the settings behind the header, and JoinMt
 unfoldable pub domainVector : Settings → Class → List ℕ
@@ -41,5 +41,5 @@ domainVector st c = (((be 2 1 ++ be 1 (classId c)) ++ be 1 (classPriority st c))
 -- room for a Talker's vector
 pub record TalkerIn (t : List ℕ) (k p more : ℕ) (out : List ℕ) : Type 0 where
   pub places : StandsOn t k p
-  pub within : latencyOutPlace + more ≤ resultSize
+  pub within : inResult.latency + more ≤ resultSize
   pub room : length out ≡ 2 + inFirstValue.latency + more + 1

@@ -16,7 +16,7 @@ use Rattle.octets.proofs.Parts.{lent-part}
 use Rattle.octets.proofs.Frame.{getD-part}
 use Rattle.octets.proofs.Patches.{lent-patch, patch-front}
 use Rattle.octets.proofs.Fields.{length-packed-any, patch-behind, put-field}
-use Rattle.model.specs.Layout.{boundaryBPlace, boundaryPlace, boundaryWidths, slotRegisteredField, slotIn, slotSize, slots, slotsSize}
+use Rattle.model.specs.Layout.{inOwn, boundaryWidths, slotIndex, slotIn, slotSize, slots, slotsSize}
 use Rattle.model.specs.Lists.{bit}
 use Rattle.model.specs.State.{Settings, Domain, noDomain, domain, Own}
 use Rattle.model.specs.Registrations.{at, changeDomains}
@@ -115,7 +115,7 @@ module _ (s : List ℕ) (from : ℕ) (k : ClassIn s from) where
         drop-cons those q noDomain (omega (arith, eight))
         ∙ (unfold classFrom in rw (add-one q, getD-take 8 (drop from ds) q noDomain h, getD-drop from ds q noDomain))
 
-    octet : getD s (slotIn (from + q)) 0 ≡ getD (domainNumbers here) slotRegisteredField 0
+    octet : getD s (slotIn (from + q)) 0 ≡ getD (domainNumbers here) slotIndex.registered 0
     octet =
         let j = from + q in
         let low : j < slots = omega (arith, k .within) in
@@ -139,7 +139,7 @@ module _ (s : List ℕ) (from : ℕ) (k : ClassIn s from) where
           go : (d : Domain) → here ≡ d → isDomain d ≡ false
           go noDomain p = unfold isDomain in refl
           go (domain v l) p =
-              let one : getD (domainNumbers here) slotRegisteredField 0 ≡ 1 = rw p (unfold domainNumbers in refl) in
+              let one : getD (domainNumbers here) slotIndex.registered 0 ≡ 1 = rw p (unfold domainNumbers in refl) in
               absurd (omega (arith, one, octet, rw e at z))
 
       pub any-here : (getD s a 0 ≡ 0 → ⊥) → anyDomain (drop q those) ≡ true
@@ -179,8 +179,8 @@ module _ (o : Own) (n : length (o .domains) ≡ slots) where
       ∙ ap (λ (r : List ℕ). ds ++ r) (patch-front (packed boundaryWidths vs) behind (be 1 v) i 1 room)
       ∙ ap (λ (r : List ℕ). ds ++ (r ++ behind)) (rw (at, one) at (put-field boundaryWidths vs i v two))
 
-  pub flags-put : (a b : Bool) → patch boundaryBPlace 1 (be 1 (bit b)) (patch boundaryPlace 1 (be 1 (bit a)) (ownOctets o)) ≡ ownOctets (flagged a b o)
+  pub flags-put : (a b : Bool) → patch inOwn.boundaryB 1 (be 1 (bit b)) (patch inOwn.boundaryA 1 (be 1 (bit a)) (ownOctets o)) ≡ ownOctets (flagged a b o)
   unfolding ownOctets width
   flags-put a b =
-      ap (patch boundaryBPlace 1 (be 1 (bit b))) (one-put (bit (o .boundaryA) ∷ bit (o .boundaryB) ∷ []) refl 0 (bit a) (omega arith) refl refl)
+      ap (patch inOwn.boundaryB 1 (be 1 (bit b))) (one-put (bit (o .boundaryA) ∷ bit (o .boundaryB) ∷ []) refl 0 (bit a) (omega arith) refl refl)
       ∙ one-put (bit a ∷ bit (o .boundaryB) ∷ []) refl 1 (bit b) (omega arith) refl refl

@@ -11,7 +11,7 @@ use lib.Seq.{getD-take, getD-drop}
 use lib.Dec.{leb, eqb}
 use Rattle.octets.specs.Parts.{part}
 use Rattle.octets.proofs.Parts.{lent-part}
-use Rattle.model.specs.Layout.{cellSize, declaredPlace, resultSize}
+use Rattle.model.specs.Layout.{cellSize, inResult, resultSize}
 use Rattle.model.specs.Lists.{parts, bit}
 use Rattle.model.specs.Table.{everyPart, toCell, toResult, resultFormed, declarers, storedFormed, everyPort}
 use Rattle.form.proofs.Counted.{Counted, counted-more, counted-all}
@@ -50,7 +50,7 @@ module _ (k clock n : ℕ) (cells results : List ℕ) where
 
   module _ (ok : Bool) (m p : ℕ) where
     abbrev kind : ℕ
-    kind = getD results (p * resultSize + declaredPlace) 0
+    kind = getD results (p * resultSize + inResult.declared) 0
 
     turn : k ≤ 8 → p < k → left p ≡ bit (not (eqb kind 0)) + left (p + 1)
     unfolding declarers parts
@@ -60,8 +60,8 @@ module _ (k clock n : ℕ) (cells results : List ℕ) where
           one-left k p h,
           one-left 8 p (omega arith),
           declared-read (take resultSize (drop a results)),
-          getD-take resultSize (drop a results) declaredPlace 0 (omega arith),
-          getD-drop a results declaredPlace 0,
+          getD-take resultSize (drop a results) inResult.declared 0 (omega arith),
+          getD-drop a results inResult.declared 0,
           drop-part resultSize p results,
         )
 

@@ -9,7 +9,7 @@ use borrow.Author.Needs.{needs}
 use lib.ListN.{getD, take, drop}
 use lib.Seq.{getD-take, getD-drop}
 use lib.Dec.{eqb}
-use Rattle.model.specs.Layout.{cellSize, listenerPlace, talkerPlace}
+use Rattle.model.specs.Layout.{cellSize, inCell}
 use Rattle.model.specs.Lists.{parts, bit}
 use Rattle.model.specs.Table.{cellFormed, toCell, talkers}
 use Rattle.model.proofs.Cells.{talking-read}
@@ -33,7 +33,7 @@ module _ (k clock leave : ℕ) (s : List ℕ) where
 
   module _ (formed none : Bool) (n p : ℕ) where
     abbrev kind : ℕ
-    kind = getD s (p * cellSize + talkerPlace) 0
+    kind = getD s (p * cellSize + inCell.talker) 0
 
     turn : k ≤ 8 → p < k → left p ≡ bit (not (eqb kind 0)) + left (p + 1)
     unfolding talkers parts
@@ -51,7 +51,7 @@ module _ (k clock leave : ℕ) (s : List ℕ) where
     -- t is what the test says of the cell that was lent, and b what its Talker counts
     pub found-more : k ≤ 8 → p < k → (t : Bool) → t ≡ cellFormed clock leave (take (p * cellSize + cellSize - p * cellSize) (drop (p * cellSize) s))
         → (b : ℕ) → b ≡ bit (not (eqb kind 0)) → b ≤ 1 → Found formed none n p
-        → Found (formed && t) (none && (eqb kind 0 && eqb (getD s (p * cellSize + listenerPlace) 0) 0)) (n + b) (p + 1)
+        → Found (formed && t) (none && (eqb kind 0 && eqb (getD s (p * cellSize + inCell.listener) 0) 0)) (n + b) (p + 1)
     found-more few h t e b f one (ps, cs, ts) = (
       parts-more cellSize (cellFormed clock leave) k s formed p h t e ps,
       cells-more k s none p h cs,

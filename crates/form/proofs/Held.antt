@@ -9,7 +9,7 @@ use borrow.Author.Needs.{needs}
 use lib.ListN.{getD, drop}
 use lib.Seq.{getD-drop}
 use lib.Dec.{eqb}
-use Rattle.model.specs.Layout.{cellSize, listenerPlace, talkerPlace}
+use Rattle.model.specs.Layout.{cellSize, inCell}
 use Rattle.model.specs.Table.{holds}
 use Rattle.form.proofs.Left.{Left, left-more, left-none}
 use Rattle.form.proofs.EveryPart.{drop-part, one-left}
@@ -31,14 +31,14 @@ module _ (k : ℕ) (s : List ℕ) where
 
   module _ (none : Bool) (p : ℕ) where
     abbrev Nothing : Bool
-    Nothing = eqb (getD s (p * cellSize + talkerPlace) 0) 0 && eqb (getD s (p * cellSize + listenerPlace) 0) 0
+    Nothing = eqb (getD s (p * cellSize + inCell.talker) 0) 0 && eqb (getD s (p * cellSize + inCell.listener) 0) 0
 
     turn : p < k → rest p ≡ (Nothing && rest (p + 1))
     unfolding holds
     turn h =
         let a = p * cellSize in
-        rw (one-left k p h, getD-drop a s talkerPlace 0, getD-drop a s listenerPlace 0, ← (drop-part cellSize p s))
-        (neither (eqb (getD s (a + talkerPlace) 0) 0) (eqb (getD s (a + listenerPlace) 0) 0) (holds (k - (p + 1)) (drop cellSize (drop a s))))
+        rw (one-left k p h, getD-drop a s inCell.talker 0, getD-drop a s inCell.listener 0, ← (drop-part cellSize p s))
+        (neither (eqb (getD s (a + inCell.talker) 0) 0) (eqb (getD s (a + inCell.listener) 0) 0) (holds (k - (p + 1)) (drop cellSize (drop a s))))
 
     pub cells-more : p < k → CellsLeft none p → CellsLeft (none && Nothing) (p + 1)
     cells-more h = left-more rest k _ none p Nothing h (turn h)

@@ -11,7 +11,7 @@ use Rattle.octets.specs.Be.{beAt}
 use Rattle.octets.specs.Parts.{part}
 use Rattle.octets.specs.Fields.{fields, width}
 use Rattle.octets.proofs.Fields.{beAt-one}
-use Rattle.model.specs.Layout.{agePlace, columnPlace, declaredPlace, entryField, entryPlace, failureField, failurePlace, latencyOutField, latencyOutPlace, resultSize, resultWidths}
+use Rattle.model.specs.Layout.{inResult, resultIndex, resultSize, resultWidths}
 use Rattle.model.specs.Lists.{allTrue, implies}
 use Rattle.model.specs.Table.{between, allZero, resultRules, resultFormed}
 use Rattle.form.proofs.Tests.{or-implies}
@@ -33,53 +33,53 @@ entry-filters (suc zero) q y = refl
 entry-filters (suc (suc e)) q y =
     rw (lt-leb (suc (suc e)) 1 (omega arith), ne-eqb (suc (suc e)) 1 (λ x. omega arith), and-false, and-false) refl
 
-module _ (clock : ℕ) (s : List ℕ) (h : length s ≡ resultSize) (second : ℕ) (aged : second ≡ beAt 4 s agePlace) where
-  pub no-column : (z : Bool) → getD s columnPlace 0 ≡ 0 → z ≡ allZero (take (entryPlace - latencyOutPlace) (drop latencyOutPlace s))
-      → (z && leb (getD s entryPlace 0) 1 && (not (eqb (getD s entryPlace 0) 0) || eqb second 0) && (leb second (clock / 100) && leb (getD s declaredPlace 0) 3))
+module _ (clock : ℕ) (s : List ℕ) (h : length s ≡ resultSize) (second : ℕ) (aged : second ≡ beAt 4 s inResult.age) where
+  pub no-column : (z : Bool) → getD s inResult.column 0 ≡ 0 → z ≡ allZero (take (inResult.entry - inResult.latency) (drop inResult.latency s))
+      → (z && leb (getD s inResult.entry 0) 1 && (not (eqb (getD s inResult.entry 0) 0) || eqb second 0) && (leb second (clock / 100) && leb (getD s inResult.declared 0) 3))
       ≡ resultFormed clock s
   unfolding resultFormed resultRules fields allTrue width part
   no-column z k e =
       rw (
         e,
-        ← (zero-fields (between latencyOutField entryField resultWidths) latencyOutPlace s (omega arith)),
+        ← (zero-fields (between resultIndex.latency resultIndex.entry resultWidths) inResult.latency s (omega arith)),
         zero-first,
         aged,
         or-implies,
-        beAt-one s entryPlace,
-        beAt-one s declaredPlace,
-        ← (beAt-one s columnPlace),
+        beAt-one s inResult.entry,
+        beAt-one s inResult.declared,
+        ← (beAt-one s inResult.column),
         k,
       )
       simp (and-assoc, and-true, entry-alone)
 
-  pub advertised : (z : Bool) → getD s columnPlace 0 ≡ 1 → z ≡ allZero (take (entryPlace - failurePlace) (drop failurePlace s))
-      → (z && leb (getD s entryPlace 0) 2 && leb 1 (getD s entryPlace 0) && (leb second (clock / 100) && leb (getD s declaredPlace 0) 3))
+  pub advertised : (z : Bool) → getD s inResult.column 0 ≡ 1 → z ≡ allZero (take (inResult.entry - inResult.bridge) (drop inResult.bridge s))
+      → (z && leb (getD s inResult.entry 0) 2 && leb 1 (getD s inResult.entry 0) && (leb second (clock / 100) && leb (getD s inResult.declared 0) 3))
       ≡ resultFormed clock s
   unfolding resultFormed resultRules fields allTrue width part
   advertised z k e =
       rw (
         e,
-        ← (zero-fields (between failureField entryField resultWidths) failurePlace s (omega arith)),
+        ← (zero-fields (between resultIndex.bridge resultIndex.entry resultWidths) inResult.bridge s (omega arith)),
         aged,
-        beAt-one s entryPlace,
-        beAt-one s declaredPlace,
-        ← (beAt-one s columnPlace),
+        beAt-one s inResult.entry,
+        beAt-one s inResult.declared,
+        ← (beAt-one s inResult.column),
         k,
       )
       simp (and-assoc, and-true, entry-some)
 
-  pub failed-column : (getD s columnPlace 0 ≡ 0 → ⊥) → (getD s columnPlace 0 ≡ 1 → ⊥)
-      → (leb (getD s columnPlace 0) 2 && eqb (getD s entryPlace 0) 1 && (leb second (clock / 100) && leb (getD s declaredPlace 0) 3)) ≡ resultFormed clock s
+  pub failed-column : (getD s inResult.column 0 ≡ 0 → ⊥) → (getD s inResult.column 0 ≡ 1 → ⊥)
+      → (leb (getD s inResult.column 0) 2 && eqb (getD s inResult.entry 0) 1 && (leb second (clock / 100) && leb (getD s inResult.declared 0) 3)) ≡ resultFormed clock s
   unfolding resultFormed resultRules fields allTrue
   failed-column k l =
-      let m : 2 ≤ getD s columnPlace 0 = omega arith in
+      let m : 2 ≤ getD s inResult.column 0 = omega arith in
       rw (
         aged,
-        beAt-one s entryPlace,
-        beAt-one s declaredPlace,
-        ← (beAt-one s columnPlace),
-        ne-eqb (getD s columnPlace 0) 0 k,
-        ne-eqb (getD s columnPlace 0) 1 l,
-        lt-leb (getD s columnPlace 0) 1 m,
+        beAt-one s inResult.entry,
+        beAt-one s inResult.declared,
+        ← (beAt-one s inResult.column),
+        ne-eqb (getD s inResult.column 0) 0 k,
+        ne-eqb (getD s inResult.column 0) 1 l,
+        lt-leb (getD s inResult.column 0) 1 m,
       )
       simp (and-assoc, and-true, entry-filters)

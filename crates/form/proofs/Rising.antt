@@ -11,7 +11,7 @@ use lib.Dec.{ltb}
 use Rattle.octets.specs.Be.{beAt}
 use Rattle.octets.specs.Parts.{part}
 use Rattle.octets.proofs.Frame.{beAt-part}
-use Rattle.model.specs.Layout.{addressSize, macPlace, recordSize}
+use Rattle.model.specs.Layout.{addressSize, inAddress, recordSize}
 use Rattle.model.specs.Lists.{parts}
 use Rattle.model.specs.Table.{rising, idOf, macOf}
 use Rattle.form.proofs.Left.{Left, left-more, left-none}
@@ -65,15 +65,15 @@ ids-more k s ok p h x y ex ey =
     one-more recordSize idOf k s ok p h x y (rw (ex, id-at s (p * recordSize))) (rw (ey, g, id-at s ((p + 1) * recordSize)))
 
 -- addresses
-mac-at : (s : List ℕ) (a : ℕ) → macOf (take addressSize (drop a s)) ≡ beAt 6 s (a + macPlace)
+mac-at : (s : List ℕ) (a : ℕ) → macOf (take addressSize (drop a s)) ≡ beAt 6 s (a + inAddress.mac)
 unfolding macOf part
-mac-at s a = beAt-part 6 a addressSize macPlace s (omega arith)
+mac-at s a = beAt-part 6 a addressSize inAddress.mac s (omega arith)
 
 pub macs-more : (k : ℕ) (s : List ℕ) (ok : Bool) (p : ℕ) → p + 1 < k → (x y : ℕ)
-    → x ≡ beAt 6 s (p * addressSize + macPlace) → y ≡ beAt 6 s (p * addressSize + macPlace + addressSize)
+    → x ≡ beAt 6 s (p * addressSize + inAddress.mac) → y ≡ beAt 6 s (p * addressSize + inAddress.mac + addressSize)
     → RiseLeft addressSize macOf k s ok p → RiseLeft addressSize macOf k s (ok && ltb x y) (p + 1)
 macs-more k s ok p h x y ex ey =
-    let g : p * addressSize + macPlace + addressSize ≡ (p + 1) * addressSize + macPlace = omega arith in
+    let g : p * addressSize + inAddress.mac + addressSize ≡ (p + 1) * addressSize + inAddress.mac = omega arith in
     one-more addressSize macOf k s ok p h x y (rw (ex, mac-at s (p * addressSize))) (rw (ey, g, mac-at s ((p + 1) * addressSize)))
 
 -- what closes the needs of such a loop: its start, its turns and its end

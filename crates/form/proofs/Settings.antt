@@ -7,11 +7,11 @@ use lib.ListN.{drop}
 use lib.Dec.{leb, eqb}
 use borrow.Author.Tests.{le-leb, lt-leb}
 use Rattle.octets.specs.Be.{beAt}
-use Rattle.model.specs.Layout.{domainVlanPlace, fanInPlace, portSize, portsPlace, portsUnit, priorityAUnit, priorityBUnit, pruningUnit, wordPlace}
+use Rattle.model.specs.Layout.{inHead, portSize, inTable, portsUnit, priorityAUnit, priorityBUnit, pruningUnit}
 use Rattle.model.specs.Lists.{allTrue}
 use Rattle.model.specs.Table.{everyPart, portsField, portRule, settingsRules}
 
-module _ (s : List ℕ) (w : ℕ) (e : w ≡ beAt 3 s wordPlace) where
+module _ (s : List ℕ) (w : ℕ) (e : w ≡ beAt 3 s inHead.word) where
   pub too-many-ports : 8 < w / portsUnit → false ≡ allTrue (settingsRules s)
   unfolding settingsRules portsField allTrue
   too-many-ports h = rw (← e, lt-leb (w / portsUnit) 8 h) (sym (and-false (leb 1 (w / portsUnit))))
@@ -20,10 +20,10 @@ module _ (s : List ℕ) (w : ℕ) (e : w ≡ beAt 3 s wordPlace) where
       → allTrue (leb 1 (w / portsUnit)
       ∷ not (eqb (w / priorityAUnit % 8) (w / priorityBUnit % 8))
       ∷ leb 1 (w % priorityBUnit)
-      ∷ everyPart portSize portRule (w / portsUnit) (drop portsPlace s)
-      ∷ leb 1 (beAt 2 s domainVlanPlace % pruningUnit)
-      ∷ leb (beAt 2 s domainVlanPlace % pruningUnit) 4094
-      ∷ leb (beAt 1 s fanInPlace) 8
+      ∷ everyPart portSize portRule (w / portsUnit) (drop inTable.ports s)
+      ∷ leb 1 (beAt 2 s inHead.vlan % pruningUnit)
+      ∷ leb (beAt 2 s inHead.vlan % pruningUnit) 4094
+      ∷ leb (beAt 1 s inHead.fanIn) 8
       ∷ [])
       ≡ allTrue (settingsRules s)
   unfolding settingsRules portsField allTrue

@@ -11,7 +11,7 @@ use borrow.Author.Tests.{eqb-true, ne-eqb, lt-leb}
 use Rattle.octets.specs.Be.{beAt}
 use Rattle.octets.specs.Fields.{fields}
 use Rattle.octets.proofs.Fields.{beAt-one}
-use Rattle.model.specs.Layout.{agePlace, columnPlace, declaredPlace, entryPlace, failurePlace, latencyOutPlace, listenerPlace, resultSize, resultWidths, talkerPlace}
+use Rattle.model.specs.Layout.{inResult, inCell, resultSize, resultWidths}
 use Rattle.model.specs.Lists.{allTrue, implies, bit}
 use Rattle.model.specs.State.{Column, none, advertise, failed, nothing, tells}
 use Rattle.model.specs.Table.{allZero, toReady, toCell, toColumn, toEntry, toDeclared, resultFrom, toResult, resultFormed, hasColumn, declares, forListener, storedRules, storedFormed}
@@ -35,9 +35,9 @@ declares-read k = go (eqb k 0)
     go true = refl
     go false = refl
 
-pub declared-read : (s : List ℕ) → declares (toResult s .declares) ≡ not (eqb (getD s declaredPlace 0) 0)
+pub declared-read : (s : List ℕ) → declares (toResult s .declares) ≡ not (eqb (getD s inResult.declared 0) 0)
 unfolding toResult resultFrom fields
-declared-read s = declares-read (beAt 1 s declaredPlace) ∙ ap (λ (k : ℕ). not (eqb k 0)) (sym (beAt-one s declaredPlace))
+declared-read s = declares-read (beAt 1 s inResult.declared) ∙ ap (λ (k : ℕ). not (eqb k 0)) (sym (beAt-one s inResult.declared))
 
 entry-some : (e : ℕ) → forListener none (toEntry e) ≡ not (eqb e 0)
 unfolding forListener toEntry
@@ -56,21 +56,21 @@ entry-filters : (b c : ℕ) → forListener (failed b c) (toEntry 1) ≡ false
 unfolding forListener toEntry
 entry-filters b c = refl
 
-module _ (clock n : ℕ) (c s : List ℕ) (h : length s ≡ resultSize) (second : ℕ) (aged : second ≡ beAt 4 s agePlace) where
+module _ (clock n : ℕ) (c s : List ℕ) (h : length s ≡ resultSize) (second : ℕ) (aged : second ≡ beAt 4 s inResult.age) where
   abbrev column : ℕ
-  column = getD s columnPlace 0
+  column = getD s inResult.column 0
 
   abbrev entry : ℕ
-  entry = getD s entryPlace 0
+  entry = getD s inResult.entry 0
 
   abbrev declared : ℕ
-  declared = getD s declaredPlace 0
+  declared = getD s inResult.declared 0
 
   abbrev talks : Bool
-  talks = not (eqb (getD c talkerPlace 0) 0)
+  talks = not (eqb (getD c inCell.talker 0) 0)
 
   abbrev hears : Bool
-  hears = not (eqb (getD c listenerPlace 0) 0)
+  hears = not (eqb (getD c inCell.listener 0) 0)
 
   abbrev Rest : Bool
   Rest = leb second (clock / 100) && leb declared 3
@@ -89,10 +89,10 @@ module _ (clock n : ℕ) (c s : List ℕ) (h : length s ≡ resultSize) (second 
       rw (
         talking-read c,
         hearing-read c,
-        declares-read (beAt 1 s declaredPlace),
-        ← (beAt-one s columnPlace),
-        ← (beAt-one s entryPlace),
-        ← (beAt-one s declaredPlace),
+        declares-read (beAt 1 s inResult.declared),
+        ← (beAt-one s inResult.column),
+        ← (beAt-one s inResult.entry),
+        ← (beAt-one s inResult.declared),
         e,
         and-true,
       )
@@ -113,11 +113,11 @@ module _ (clock n : ℕ) (c s : List ℕ) (h : length s ≡ resultSize) (second 
       ∙ rw (e, entry-filters, implies-false (eqb declared 0), and-true)
 
   -- b is what the cell's Talker counts
-  pub none-kept : (z : Bool) → column ≡ 0 → z ≡ allZero (take (entryPlace - latencyOutPlace) (drop latencyOutPlace s))
+  pub none-kept : (z : Bool) → column ≡ 0 → z ≡ allZero (take (inResult.entry - inResult.latency) (drop inResult.latency s))
       → (z && leb entry 1 && (not (eqb entry 0) || eqb second 0) && Rest && (eqb declared 0 || talks) && (eqb entry 0 || hears)) ≡ Formed
   none-kept z k e = rw (no-column clock s h second aged z k e, stored-none k, and-assoc)
 
-  pub advertise-kept : (z : Bool) → column ≡ 1 → z ≡ allZero (take (entryPlace - failurePlace) (drop failurePlace s)) → (b : ℕ) → b ≡ bit talks
+  pub advertise-kept : (z : Bool) → column ≡ 1 → z ≡ allZero (take (inResult.entry - inResult.bridge) (drop inResult.bridge s)) → (b : ℕ) → b ≡ bit talks
       → (z && leb entry 2 && leb 1 entry && Rest && (ltb b n && eqb declared 0) && (leb entry 1 || hears)) ≡ Formed
   advertise-kept z k e b f = rw (advertised clock s h second aged z k e, stored-advertise k, f, and-assoc, and-assoc)
 

@@ -12,7 +12,7 @@ use Rattle.octets.specs.Be.{beAt}
 use Rattle.octets.specs.Parts.{part}
 use Rattle.octets.specs.Fields.{fields}
 use Rattle.octets.proofs.Frame.{beAt-part}
-use Rattle.model.specs.Layout.{cellSize, cellsPlace, cellsSize, clockPlace, countPlace, nameWidths, ownSize, ownsPlace, ownsSize, portPlace, portSize, portsPlace, portsUnit, priorityBUnit, recordSize, recordsPlace, recordsSize, resultSize, resultsPlace, resultsSize, settingsSize, settledPriorityPlace, tableLength, totalSize, totalsPlace, totalsSize, wordPlace}
+use Rattle.model.specs.Layout.{cellSize, inRecord, cellsSize, inTable, nameWidths, ownSize, ownsSize, portPlace, portSize, portsUnit, priorityBUnit, recordSize, recordsSize, resultSize, resultsSize, settingsSize, tableLength, totalSize, totalsSize, inHead}
 use Rattle.model.specs.Lists.{allTrue, implies, parts}
 use Rattle.model.specs.Table.{portsField, toPort, toSettings, settingsRules, allZero, everyPart, toCell, resultFormed, toResult, cellsPart, resultsPart, toStream, declarers, storedFormed, everyPort, streamRules, streamFormed, toTotals, ownFormed, ownsPart}
 use Rattle.model.specs.Table.{settingsPart, clockField, countField, totalsPart, recordsPart, rising, idOf, totalsWithin, tableRules}
@@ -22,9 +22,9 @@ use Rattle.form.specs.Asks.{CellsFound}
 use Rattle.form.proofs.EveryPart.{lent-rest}
 
 -- a stream record, of which the cells and results were lent and n ports have a Talker
-pub record-tests : (ports clock leave n : ℕ) (s cs rs : List ℕ) → cs ≡ take cellsSize (drop cellsPlace s) → rs ≡ take resultsSize (drop resultsPlace s)
+pub record-tests : (ports clock leave n : ℕ) (s cs rs : List ℕ) → cs ≡ take cellsSize (drop inRecord.cells s) → rs ≡ take resultsSize (drop inRecord.results s)
     → (settled formed none others results rest : Bool)
-    → settled ≡ (eqb (getD s settledPriorityPlace 0 % 16) 0 && implies (eqb n 0) (allZero (drop 1 (fields nameWidths 0 s))))
+    → settled ≡ (eqb (getD s inRecord.priority 0 % 16) 0 && implies (eqb n 0) (allZero (drop 1 (fields nameWidths 0 s))))
     → CellsFound cs ports clock leave formed none n
     → others ≡ allZero (drop (ports * cellSize) cs)
     → results ≡ (everyPart resultSize (resultFormed clock) ports rs
@@ -37,9 +37,9 @@ record-tests ports clock leave n s cs rs c r settled formed none others results 
     rw (a, f .rules, f .held, b, d, e, f .talkers, c, r) simp (and-assoc, and-true)
 
 -- settings that keep their rules have at most eight ports
-pub few-ports : (s : List ℕ) (w : ℕ) → w ≡ beAt 3 s wordPlace → allTrue (settingsRules s) ≡ true → w / portsUnit ≤ 8
+pub few-ports : (s : List ℕ) (w : ℕ) → w ≡ beAt 3 s inHead.word → allTrue (settingsRules s) ≡ true → w / portsUnit ≤ 8
 few-ports s w e r =
-    let h : beAt 3 s wordPlace / portsUnit ≤ 8 = unfold portsField in eight-ports s r in
+    let h : beAt 3 s inHead.word / portsUnit ≤ 8 = unfold portsField in eight-ports s r in
     rw e h
 
 module _ (t : List ℕ) where
@@ -49,51 +49,51 @@ module _ (t : List ℕ) where
   header-fails r = rw r
 
   -- q are the ports' octets, as they were lent
-  pub header-tests : (w : ℕ) → w ≡ beAt 3 (take settingsSize t) wordPlace → allTrue (settingsRules (take settingsSize t)) ≡ true
-      → (q : List ℕ) → q ≡ take (length (take settingsSize t) - portsPlace) (drop portsPlace (take settingsSize t))
+  pub header-tests : (w : ℕ) → w ≡ beAt 3 (take settingsSize t) inHead.word → allTrue (settingsRules (take settingsSize t)) ≡ true
+      → (q : List ℕ) → q ≡ take (length (take settingsSize t) - inTable.ports) (drop inTable.ports (take settingsSize t))
       → (allZero (drop (portPlace (w / portsUnit)) (take settingsSize t))
-      && totalsWithin (leb 1 (getD t countPlace 0)) (parts totalSize toTotals 8 (take totalsSize (drop totalsPlace t))) (parts portSize toPort (w / portsUnit) q))
+      && totalsWithin (leb 1 (getD t inTable.count 0)) (parts totalSize toTotals 8 (take totalsSize (drop inTable.totals t))) (parts portSize toPort (w / portsUnit) q))
       ≡ allTrue (take 3 (tableRules t))
   unfolding tableRules settingsPart portsField toSettings countField totalsPart part allTrue
-  header-tests w e r q f = rw (r, e, f ∙ lent-rest portsPlace (take settingsSize t), and-true)
+  header-tests w e r q f = rw (r, e, f ∙ lent-rest inTable.ports (take settingsSize t), and-true)
 
   pub header-ports : allTrue (take 3 (tableRules t)) ≡ true → portsField (settingsPart t) ≤ 8
   unfolding tableRules
   header-ports r = eight-ports (settingsPart t) (all-true (take 3 (tableRules t)) r .0)
 
   -- stream records
-  pub too-many-streams : 64 < getD t countPlace 0 → false ≡ allTrue (drop 2 (drop 3 (tableRules t)))
+  pub too-many-streams : 64 < getD t inTable.count 0 → false ≡ allTrue (drop 2 (drop 3 (tableRules t)))
   unfolding tableRules countField allTrue
-  too-many-streams h = rw (lt-leb (getD t countPlace 0) 64 h)
+  too-many-streams h = rw (lt-leb (getD t inTable.count 0) 64 h)
 
-  word : beAt 3 (settingsPart t) wordPlace ≡ beAt 3 t wordPlace
+  word : beAt 3 (settingsPart t) inHead.word ≡ beAt 3 t inHead.word
   unfolding settingsPart
-  word = beAt-part 3 0 settingsSize wordPlace t (omega arith)
+  word = beAt-part 3 0 settingsSize inHead.word t (omega arith)
 
-  pub table-ports : (w : ℕ) → w ≡ beAt 3 t wordPlace → portsField (settingsPart t) ≤ 8 → w / portsUnit ≤ 8
+  pub table-ports : (w : ℕ) → w ≡ beAt 3 t inHead.word → portsField (settingsPart t) ≤ 8 → w / portsUnit ≤ 8
   unfolding portsField
   table-ports w e h = rw (e, ← word) h
 
   -- what the ports hold
-  pub edges-tests : (w c : ℕ) → w ≡ beAt 3 t wordPlace → c ≡ beAt 4 t clockPlace → (s : List ℕ) → s ≡ take ownsSize (drop ownsPlace t)
+  pub edges-tests : (w c : ℕ) → w ≡ beAt 3 t inHead.word → c ≡ beAt 4 t inTable.clock → (s : List ℕ) → s ≡ take ownsSize (drop inTable.owns t)
       → allTrue (everyPart ownSize (ownFormed c (w % priorityBUnit)) (w / portsUnit) s ∷ allZero (drop (w / portsUnit * ownSize) s) ∷ [])
       ≡ allTrue (take 2 (drop 3 (tableRules t)))
   unfolding tableRules clockField ownsPart part portsField toSettings allTrue
   edges-tests w c e f s g = rw (word, e, f, g)
 
-  pub streams-tests : length t ≡ tableLength → getD t countPlace 0 ≤ 64 → (w c : ℕ) → w ≡ beAt 3 t wordPlace → c ≡ beAt 4 t clockPlace → (s : List ℕ) → s ≡ take recordsSize (drop recordsPlace t)
-      → allTrue (everyPart recordSize (streamFormed (w / portsUnit) c (w % priorityBUnit)) (getD t countPlace 0) s
-      ∷ rising (parts recordSize idOf (getD t countPlace 0) s)
-      ∷ allZero (drop (getD t countPlace 0 * recordSize) s)
+  pub streams-tests : length t ≡ tableLength → getD t inTable.count 0 ≤ 64 → (w c : ℕ) → w ≡ beAt 3 t inHead.word → c ≡ beAt 4 t inTable.clock → (s : List ℕ) → s ≡ take recordsSize (drop inTable.records t)
+      → allTrue (everyPart recordSize (streamFormed (w / portsUnit) c (w % priorityBUnit)) (getD t inTable.count 0) s
+      ∷ rising (parts recordSize idOf (getD t inTable.count 0) s)
+      ∷ allZero (drop (getD t inTable.count 0 * recordSize) s)
       ∷ [])
       ≡ allTrue (drop 2 (drop 3 (tableRules t)))
   unfolding tableRules countField clockField recordsPart portsField toSettings allTrue
   streams-tests whole few w c e f s g =
-      let all : s ≡ drop recordsPlace t = g ∙ take-all recordsSize (drop recordsPlace t) (omega (arith, length-drop recordsPlace t)) in
-      rw (le-leb (getD t countPlace 0) 64 few, word, e, f, all)
+      let all : s ≡ drop inTable.records t = g ∙ take-all recordsSize (drop inTable.records t) (omega (arith, length-drop inTable.records t)) in
+      rw (le-leb (getD t inTable.count 0) 64 few, word, e, f, all)
 
-pub owns-room : (t : List ℕ) (n : ℕ) → length t ≡ tableLength → n ≤ 8 → n * ownSize ≤ length (take ownsSize (drop ownsPlace t))
-owns-room t n h few = omega (arith, length-take-le ownsSize (drop ownsPlace t) (omega (arith, length-drop ownsPlace t)))
+pub owns-room : (t : List ℕ) (n : ℕ) → length t ≡ tableLength → n ≤ 8 → n * ownSize ≤ length (take ownsSize (drop inTable.owns t))
+owns-room t n h few = omega (arith, length-take-le ownsSize (drop inTable.owns t) (omega (arith, length-drop inTable.owns t)))
 
-pub records-room : (t : List ℕ) (n : ℕ) → length t ≡ tableLength → n ≤ 64 → n * recordSize ≤ length (take recordsSize (drop recordsPlace t))
-records-room t n h few = omega (arith, length-take-le recordsSize (drop recordsPlace t) (omega (arith, length-drop recordsPlace t)))
+pub records-room : (t : List ℕ) (n : ℕ) → length t ≡ tableLength → n ≤ 64 → n * recordSize ≤ length (take recordsSize (drop inTable.records t))
+records-room t n h few = omega (arith, length-take-le recordsSize (drop inTable.records t) (omega (arith, length-drop inTable.records t)))

@@ -13,7 +13,7 @@ use Rattle.octets.specs.Be.{beAt}
 use Rattle.octets.specs.Parts.{part}
 use Rattle.octets.specs.Fields.{fields, width}
 use Rattle.octets.proofs.Parts.{lent-part}
-use Rattle.model.specs.Layout.{portSize, totalBPlace, totalSize, totalsSize, totalsWidths}
+use Rattle.model.specs.Layout.{portSize, inTotals, totalSize, totalsSize, totalsWidths}
 use Rattle.model.specs.Lists.{parts}
 use Rattle.model.specs.Table.{allZero, toTotals, toPort, totalsWithin}
 use Rattle.form.proofs.Left.{Left, left-more}
@@ -28,7 +28,7 @@ both-zero x y = rw and-true
 none-reserved : (s : List ℕ) → length s ≡ totalSize → (eqb (toTotals s .totalA) 0 && eqb (toTotals s .totalB) 0) ≡ allZero s
 unfolding toTotals fields width part
 none-reserved s h =
-    both-zero (beAt 5 s 0) (beAt 6 s totalBPlace) ∙ zero-fields totalsWidths 0 s (omega arith) ∙ ap allZero (take-all totalSize s (omega arith))
+    both-zero (beAt 5 s 0) (beAt 6 s inTotals.totalB) ∙ zero-fields totalsWidths 0 s (omega arith) ∙ ap allZero (take-all totalSize s (omega arith))
 
 no-ports : (some : Bool) (k : ℕ) (s : List ℕ) → length s ≡ k * totalSize → totalsWithin some (parts totalSize toTotals k s) [] ≡ allZero s
 unfolding totalsWithin parts

@@ -9,7 +9,7 @@ ghost use Prim.Native.Nat.{_+_, _*_, _%_, _≤_};
 ghost use lib.ListN.{length, getD, take, drop};
 ghost use lib.Dec.{leb, eqb};
 ghost use Rattle.octets.specs.Fields.{fields};
-ghost use Rattle.model.specs.Layout.{addressSize, cellSize, cellWidths, cellsSize, nameWidths, ownSize, portPlace, portSize, portsPlace, recordSize, resultSize, resultsSize, settledPriorityPlace, slotSize, slots, slotsSize, tableLength, totalSize};
+ghost use Rattle.model.specs.Layout.{addressSize, cellSize, cellWidths, cellsSize, nameWidths, ownSize, portPlace, portSize, inTable, recordSize, resultSize, resultsSize, inRecord, slotSize, slots, slotsSize, tableLength, totalSize};
 ghost use Rattle.model.specs.Lists.{allTrue, implies, parts, bit};
 ghost use Rattle.model.specs.Table.{allZero, everyPart};
 ghost use Rattle.model.specs.Table.{portsField, toPort, portRule, settingsRules, settingsFormed};
@@ -230,7 +230,7 @@ fn results_formed(cells: &[u8], results: &[u8], ports: usize, clock: u64, talker
 // The settled values of a stream of which so many ports have a Talker: zero without one.
 fn settled_formed(rec: &[u8], talkers: usize) -> bool
     requires { ⌜ length (now rec) ≡ recordSize ⌝ }
-    ensures { λ r. ⌜ r ≡ (eqb (getD (now (rec .entry)) settledPriorityPlace 0 % 16) 0
+    ensures { λ r. ⌜ r ≡ (eqb (getD (now (rec .entry)) inRecord.priority 0 % 16) 0
         && implies (eqb talkers 0) (allZero (drop 1 (fields nameWidths 0 (now (rec .entry)))))) ⌝ }
 {
     let spare = rec[SETTLED_PRIORITY] % 16 == 0;
@@ -311,7 +311,7 @@ fn ports_formed(ports: &[u8], count: usize) -> bool
 
 // The rules of settings, where there are octets for as many ports as they say; that number is tested first.
 fn settings_rules(settings: &[u8]) -> bool
-    requires { ⌜ (portsPlace ≤ length (now settings))
+    requires { ⌜ (inTable.ports ≤ length (now settings))
         × (portsField (now settings) ≤ 8 → portPlace (portsField (now settings)) ≤ length (now settings)) ⌝ }
     ensures { λ r. ⌜ r ≡ allTrue (settingsRules (now (settings .entry))) ⌝ }
 {

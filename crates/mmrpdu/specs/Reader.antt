@@ -55,6 +55,6 @@ unfoldable pub numberOf : AddressReading → ℕ
 numberOf (refusedFrame n) = n
 numberOf (addressActs es) = 0
 
--- "Any 48 bits are an address": FirstValue, n more, where it stays within its octets
+-- the address of value n, which any 48 bits are: n more than FirstValue, where that stays within its octets
 unfoldable pub addressIn : List ℕ → ℕ → ValueRead
 addressIn first n = valueIn macLength macLength 0 first n

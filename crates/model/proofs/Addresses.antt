@@ -12,7 +12,7 @@ use Rattle.octets.specs.Be.{beAt}
 use Rattle.octets.specs.Fields.{fields, packed, Fit, width, flat}
 use Rattle.octets.specs.Parts.{zeros}
 use Rattle.octets.proofs.Fields.{length-packed-any, fields-of-packed, fields-fit, fit-at}
-use Rattle.model.specs.Layout.{mostAddresses, addressesSize, addressSize, addressWidths, inAddress}
+use Rattle.model.specs.Layout.{mostAddresses, addressesSize, addressSize, addressWidths, addressIndex}
 use Rattle.model.specs.Lists.{All, allTrue, parts, Octets}
 use Rattle.model.specs.State.{Presence, vacant, present, Address}
 use Rattle.model.specs.Registrations.{macs}
@@ -108,7 +108,7 @@ module _ (clock leave : ℕ) where
 
     address-valid : ValidAddress clock leave (toAddress s)
     unfolding toAddress addressFormed fields
-    address-valid = numbers-valid _ _ _ _ h (fit-at addressWidths (fields addressWidths 0 s) (fields-fit addressWidths 0 s (octets-at s o)) (inAddress .mac))
+    address-valid = numbers-valid _ _ _ _ h (fit-at addressWidths (fields addressWidths 0 s) (fields-fit addressWidths 0 s (octets-at s o)) (addressIndex .mac))
 
 -- All of a port.
 

@@ -13,7 +13,7 @@ use Rattle.octets.specs.Be.{beAt}
 use Rattle.octets.specs.Parts.{zeros}
 use Rattle.octets.specs.Fields.{fields, Fit, width, flat}
 use Rattle.octets.proofs.Fields.{length-packed-any, fields-of-packed, fields-fit, fit-at, fit-append, fit-zeros, packed-zeros}
-use Rattle.model.specs.Layout.{bridgeField, cellFields, cellSize, cellWidths, changedField, codeField, firstLatencyField, fixedField, fixedWidths, latencyField, listenerField, listenerLeavesField, listenerPlace, listenerSinceField, priorityField, talkerField, talkerLeavesField, talkerSinceField}
+use Rattle.model.specs.Layout.{cellIndex, cellFields, cellSize, cellWidths, fixedWidths, inCell}
 use Rattle.model.specs.Lists.{All, allTrue, implies, tabulate, parts, Octets, bit, isOne}
 use Rattle.model.specs.State.{Leaving, stays, since, Fixed, TalkerType, talkerAdvertise, talkerFailed, Registration, Talker, noTalker, talker, Ready, askingFailed, ready, readyFailed, Listener, noListener, listener, Cell, empty}
 use Rattle.model.specs.Frames.{priorityOf, rankOf}
@@ -178,12 +178,12 @@ ready-number readyFailed = (omega arith, omega arith)
 
 -- A valid cell: its numbers fit, come back, and keep the rules.
 
-talker-size : (t : Talker) → length (talkerNumbers t) ≡ listenerField
+talker-size : (t : Talker) → length (talkerNumbers t) ≡ cellIndex.listener
 unfolding talkerNumbers fixedNumbers
 talker-size noTalker = refl
 talker-size (talker r) = refl
 
-listener-size : (h : Listener) → length (listenerNumbers h) ≡ cellFields - listenerField
+listener-size : (h : Listener) → length (listenerNumbers h) ≡ cellFields - cellIndex.listener
 unfolding listenerNumbers
 listener-size noListener = refl
 listener-size (listener r l) = refl
@@ -213,9 +213,9 @@ listener-back (talker k) noListener = refl
 listener-back (talker k) (listener r l) = rw (ready-rules r .1, ready-back r, leaving-back l)
 
 module _ (clock leave : ℕ) where
-  talker-fit : (t : Talker) → ValidTalker clock leave t → clock < 2 ^ 32 → Fit (take listenerField cellWidths) (talkerNumbers t)
+  talker-fit : (t : Talker) → ValidTalker clock leave t → clock < 2 ^ 32 → Fit (take cellIndex.listener cellWidths) (talkerNumbers t)
   unfolding Fit talkerNumbers
-  talker-fit noTalker v h = fit-zeros (take listenerField cellWidths)
+  talker-fit noTalker v h = fit-zeros (take cellIndex.listener cellWidths)
   talker-fit (talker r) v h =
       let w = r .varying in
       let (k, b, c) = type-fit (w .type) (v .varying .type) in
@@ -223,19 +223,19 @@ module _ (clock leave : ℕ) where
       also omega (arith, bit-few (r .changed))
       also leaving-few (r .leaving)
       also since-within clock leave (r .leaving) (v .leaving) h
-      also fit-append fixedWidths (fixedNumbers (r .fixed)) (between latencyField listenerField cellWidths)
+      also fit-append fixedWidths (fixedNumbers (r .fixed)) (between cellIndex.latency cellIndex.listener cellWidths)
       (w .latency ∷ bridgeNumber (w .type) ∷ codeNumber (w .type) ∷ r .firstLatency ∷ [])
       (fixed-fit (r .fixed) (v .fixed)) (v .varying .latency also b also c also v .firstLatency also tt)
 
-  listener-fit : (h : Listener) → ValidListener clock leave h → clock < 2 ^ 32 → Fit (drop listenerField cellWidths) (listenerNumbers h)
+  listener-fit : (h : Listener) → ValidListener clock leave h → clock < 2 ^ 32 → Fit (drop cellIndex.listener cellWidths) (listenerNumbers h)
   unfolding Fit listenerNumbers
-  listener-fit noListener v h = fit-zeros (drop listenerField cellWidths)
+  listener-fit noListener v h = fit-zeros (drop cellIndex.listener cellWidths)
   listener-fit (listener r l) v h = omega (arith, ready-number r .1) also leaving-few l also since-within clock leave l v h also tt
 
   pub cell-fit : (c : Cell) → ValidCell clock leave c → clock < 2 ^ 32 → Fit cellWidths (cellNumbers c)
   unfolding cellNumbers
   cell-fit c v h =
-      fit-append (take listenerField cellWidths) (talkerNumbers (c .talks)) (drop listenerField cellWidths) (listenerNumbers (c .hears))
+      fit-append (take cellIndex.listener cellWidths) (talkerNumbers (c .talks)) (drop cellIndex.listener cellWidths) (listenerNumbers (c .hears))
       (talker-fit (c .talks) (v .talks) h) (listener-fit (c .hears) (v .hears) h)
 
   talker-back : (t : Talker) → ValidTalker clock leave t → (after : List ℕ) → talkerFrom (talkerNumbers t ++ after) ≡ t
@@ -280,16 +280,16 @@ module _ (clock leave : ℕ) where
 -- Numbers that keep the rules: what they say is valid, and is written with the same numbers.
 
 record Kept (clock leave : ℕ) (vs : List ℕ) : Type 0 where
-  kind : getD vs talkerField 0 ≤ 2
-  mark : getD vs changedField 0 ≤ 1
-  leaves : leavingRule clock leave (getD vs talkerLeavesField 0) (getD vs talkerSinceField 0) ≡ true
-  spare : getD vs priorityField 0 % 16 ≡ 0
-  gone : getD vs talkerField 0 ≡ 0
-      → tabulate (listenerField - changedField) changedField (λ i. getD vs i 0) ≡ zeros (listenerField - changedField)
-  no-failure : getD vs talkerField 0 ≡ 1 → (getD vs bridgeField 0 ≡ 0) × (getD vs codeField 0 ≡ 0)
-  hearing : getD vs listenerField 0 ≤ 3
-  quits : leavingRule clock leave (getD vs listenerLeavesField 0) (getD vs listenerSinceField 0) ≡ true
-  deaf : getD vs listenerField 0 ≡ 0 → (getD vs listenerLeavesField 0 ≡ 0) × (getD vs listenerSinceField 0 ≡ 0)
+  kind : getD vs cellIndex.talker 0 ≤ 2
+  mark : getD vs cellIndex.changed 0 ≤ 1
+  leaves : leavingRule clock leave (getD vs cellIndex.talkerLeaves 0) (getD vs cellIndex.talkerSince 0) ≡ true
+  spare : getD vs cellIndex.priority 0 % 16 ≡ 0
+  gone : getD vs cellIndex.talker 0 ≡ 0
+      → tabulate (cellIndex.listener - cellIndex.changed) cellIndex.changed (λ i. getD vs i 0) ≡ zeros (cellIndex.listener - cellIndex.changed)
+  no-failure : getD vs cellIndex.talker 0 ≡ 1 → (getD vs cellIndex.bridge 0 ≡ 0) × (getD vs cellIndex.code 0 ≡ 0)
+  hearing : getD vs cellIndex.listener 0 ≤ 3
+  quits : leavingRule clock leave (getD vs cellIndex.listenerLeaves 0) (getD vs cellIndex.listenerSince 0) ≡ true
+  deaf : getD vs cellIndex.listener 0 ≡ 0 → (getD vs cellIndex.listenerLeaves 0 ≡ 0) × (getD vs cellIndex.listenerSince 0 ≡ 0)
 
 kept : (clock leave : ℕ) (vs : List ℕ) → allTrue (cellRules clock leave vs) ≡ true → Kept clock leave vs
 unfolding cellRules
@@ -297,53 +297,53 @@ kept clock leave vs h =
     let at : ℕ → ℕ = λ i. getD vs i 0 in
     let r = all-true (cellRules clock leave vs) h in
     record {
-      kind = leb-true (at talkerField) 2 (r .0);
-      mark = leb-true (at changedField) 1 (r .1 .0);
+      kind = leb-true (at cellIndex.talker) 2 (r .0);
+      mark = leb-true (at cellIndex.changed) 1 (r .1 .0);
       leaves = r .1 .1 .0;
-      spare = eqb-true (at priorityField % 16) 0 (r .1 .1 .1 .0);
+      spare = eqb-true (at cellIndex.priority % 16) 0 (r .1 .1 .1 .0);
       gone = λ e.
-          zero-run changedField (listenerField - changedField) vs
-          (implied (eqb (at talkerField) 0) (allZero (between changedField listenerField vs)) (r .1 .1 .1 .1 .0) (eq-eqb (at talkerField) 0 e));
-      no-failure = λ e. two-zero (at bridgeField) (at codeField) (implied (eqb (at talkerField) 1) _ (r .1 .1 .1 .1 .1 .0) (eq-eqb (at talkerField) 1 e));
-      hearing = leb-true (at listenerField) 3 (r .1 .1 .1 .1 .1 .1 .0);
+          zero-run cellIndex.changed (cellIndex.listener - cellIndex.changed) vs
+          (implied (eqb (at cellIndex.talker) 0) (allZero (between cellIndex.changed cellIndex.listener vs)) (r .1 .1 .1 .1 .0) (eq-eqb (at cellIndex.talker) 0 e));
+      no-failure = λ e. two-zero (at cellIndex.bridge) (at cellIndex.code) (implied (eqb (at cellIndex.talker) 1) _ (r .1 .1 .1 .1 .1 .0) (eq-eqb (at cellIndex.talker) 1 e));
+      hearing = leb-true (at cellIndex.listener) 3 (r .1 .1 .1 .1 .1 .1 .0);
       quits = r .1 .1 .1 .1 .1 .1 .1 .0;
       deaf = λ e.
-          two-zero (at listenerLeavesField) (at listenerSinceField)
-          (implied (eqb (at listenerField) 0) _ (r .1 .1 .1 .1 .1 .1 .1 .1 .0) (eq-eqb (at listenerField) 0 e));
+          two-zero (at cellIndex.listenerLeaves) (at cellIndex.listenerSince)
+          (implied (eqb (at cellIndex.listener) 0) _ (r .1 .1 .1 .1 .1 .1 .1 .1 .0) (eq-eqb (at cellIndex.listener) 0 e));
     }
 
 module _ (clock leave : ℕ) (vs : List ℕ) (k : Kept clock leave vs) where
-  talker-forth : talkerNumbers (talkerFrom vs) ≡ tabulate listenerField talkerField (λ i. getD vs i 0)
+  talker-forth : talkerNumbers (talkerFrom vs) ≡ tabulate cellIndex.listener cellIndex.talker (λ i. getD vs i 0)
   unfolding talkerNumbers talkerFrom registrationFrom tabulate
-  talker-forth = go (getD vs talkerField 0) refl
+  talker-forth = go (getD vs cellIndex.talker 0) refl
     where
       at : ℕ → ℕ
       at i = getD vs i 0
 
-      go : (n : ℕ) → at talkerField ≡ n → talkerNumbers (talkerFrom vs) ≡ tabulate listenerField talkerField at
-      go zero e = rw (eq-eqb (at talkerField) 0 e, e) (ap (λ (l : List ℕ). 0 ∷ l) (sym (k .gone e)))
+      go : (n : ℕ) → at cellIndex.talker ≡ n → talkerNumbers (talkerFrom vs) ≡ tabulate cellIndex.listener cellIndex.talker at
+      go zero e = rw (eq-eqb (at cellIndex.talker) 0 e, e) (ap (λ (l : List ℕ). 0 ∷ l) (sym (k .gone e)))
       go (suc n) e =
-          let (kind, bridge, code) = type-forth (at talkerField) (at bridgeField) (at codeField) (omega arith) (k .kind) (k .no-failure) in
-          let (whether, when) = left clock leave (at talkerLeavesField) (at talkerSinceField) (k .leaves) .forth in
-          rw (ne-eqb (at talkerField) 0 (omega arith), kind, bridge, code, whether, when, bit-forth (at changedField) (k .mark), fixed-forth fixedField vs (k .spare))
+          let (kind, bridge, code) = type-forth (at cellIndex.talker) (at cellIndex.bridge) (at cellIndex.code) (omega arith) (k .kind) (k .no-failure) in
+          let (whether, when) = left clock leave (at cellIndex.talkerLeaves) (at cellIndex.talkerSince) (k .leaves) .forth in
+          rw (ne-eqb (at cellIndex.talker) 0 (omega arith), kind, bridge, code, whether, when, bit-forth (at cellIndex.changed) (k .mark), fixed-forth cellIndex.fixed vs (k .spare))
 
-  listener-forth : listenerNumbers (listenerFrom vs) ≡ tabulate 3 listenerField (λ i. getD vs i 0)
+  listener-forth : listenerNumbers (listenerFrom vs) ≡ tabulate 3 cellIndex.listener (λ i. getD vs i 0)
   unfolding listenerNumbers listenerFrom tabulate
-  listener-forth = go (getD vs listenerField 0) refl
+  listener-forth = go (getD vs cellIndex.listener 0) refl
     where
       at : ℕ → ℕ
       at i = getD vs i 0
 
-      go : (n : ℕ) → at listenerField ≡ n → listenerNumbers (listenerFrom vs) ≡ tabulate 3 listenerField at
-      go zero e = rw (eq-eqb (at listenerField) 0 e, e, k .deaf e .0, k .deaf e .1)
+      go : (n : ℕ) → at cellIndex.listener ≡ n → listenerNumbers (listenerFrom vs) ≡ tabulate 3 cellIndex.listener at
+      go zero e = rw (eq-eqb (at cellIndex.listener) 0 e, e, k .deaf e .0, k .deaf e .1)
       go (suc n) e =
-          let (whether, when) = left clock leave (at listenerLeavesField) (at listenerSinceField) (k .quits) .forth in
-          rw (ne-eqb (at listenerField) 0 (omega arith), whether, when, ready-forth (at listenerField) (omega arith) (k .hearing))
+          let (whether, when) = left clock leave (at cellIndex.listenerLeaves) (at cellIndex.listenerSince) (k .quits) .forth in
+          rw (ne-eqb (at cellIndex.listener) 0 (omega arith), whether, when, ready-forth (at cellIndex.listener) (omega arith) (k .hearing))
 
   module _ (fit : Fit cellWidths vs) where
     talker-valid : ValidTalker clock leave (talkerFrom vs)
     unfolding talkerFrom registrationFrom
-    talker-valid = go (eqb (getD vs talkerField 0) 0)
+    talker-valid = go (eqb (getD vs cellIndex.talker 0) 0)
       where
         at : (i : ℕ) → getD vs i 0 < 256 ^ getD cellWidths i 0
         at = fit-at cellWidths vs fit
@@ -351,19 +351,19 @@ module _ (clock leave : ℕ) (vs : List ℕ) (k : Kept clock leave vs) where
         go : (t : Bool) → ValidTalker clock leave (cond t noTalker (talker (registrationFrom vs)))
         go true = tt
         go false = record {
-          fixed = fixed-valid fixedField vs (at fixedField) (at (fixedField + 1)) (at (fixedField + 2)) (at (fixedField + 3)) (at priorityField);
-          varying = record { type = type-valid (getD vs talkerField 0) (getD vs bridgeField 0) (getD vs codeField 0) (at bridgeField) (at codeField); latency = at latencyField };
-          firstLatency = at firstLatencyField;
-          leaving = left clock leave (getD vs talkerLeavesField 0) (getD vs talkerSinceField 0) (k .leaves) .valid;
+          fixed = fixed-valid cellIndex.fixed vs (at cellIndex.fixed) (at (cellIndex.fixed + 1)) (at (cellIndex.fixed + 2)) (at (cellIndex.fixed + 3)) (at cellIndex.priority);
+          varying = record { type = type-valid (getD vs cellIndex.talker 0) (getD vs cellIndex.bridge 0) (getD vs cellIndex.code 0) (at cellIndex.bridge) (at cellIndex.code); latency = at cellIndex.latency };
+          firstLatency = at cellIndex.firstLatency;
+          leaving = left clock leave (getD vs cellIndex.talkerLeaves 0) (getD vs cellIndex.talkerSince 0) (k .leaves) .valid;
         }
 
   listener-valid : ValidListener clock leave (listenerFrom vs)
   unfolding listenerFrom
-  listener-valid = go (eqb (getD vs listenerField 0) 0)
+  listener-valid = go (eqb (getD vs cellIndex.listener 0) 0)
     where
-      go : (t : Bool) → ValidListener clock leave (cond t noListener (listener (toReady (getD vs listenerField 0)) (toLeaving (getD vs listenerLeavesField 0) (getD vs listenerSinceField 0))))
+      go : (t : Bool) → ValidListener clock leave (cond t noListener (listener (toReady (getD vs cellIndex.listener 0)) (toLeaving (getD vs cellIndex.listenerLeaves 0) (getD vs cellIndex.listenerSince 0))))
       go true = tt
-      go false = left clock leave (getD vs listenerLeavesField 0) (getD vs listenerSinceField 0) (k .quits) .valid
+      go false = left clock leave (getD vs cellIndex.listenerLeaves 0) (getD vs cellIndex.listenerSince 0) (k .quits) .valid
 
 -- The octets of a cell.
 
@@ -398,7 +398,7 @@ module _ (clock leave : ℕ) (small : clock < 2 ^ 32) (c : Cell) (v : ValidCell 
       (cell-rules clock leave (c .talks) (v .talks) (c .hears) (v .hears))
 
 -- the numbers in a cell's fields, one by one
-numbers : (s : List ℕ) → let at : ℕ → ℕ = λ i. getD (fields cellWidths 0 s) i 0 in tabulate listenerField talkerField at ++ tabulate 3 listenerField at ≡ fields cellWidths 0 s
+numbers : (s : List ℕ) → let at : ℕ → ℕ = λ i. getD (fields cellWidths 0 s) i 0 in tabulate cellIndex.listener cellIndex.talker at ++ tabulate 3 cellIndex.listener at ≡ fields cellWidths 0 s
 unfolding tabulate fields
 numbers s = refl
 
@@ -439,7 +439,7 @@ unfolding held isTalking isHearing empty
 held-empty [] a = refl
 held-empty (c ∷ l) a = rw (a .0) (held-empty l (a .1))
 
-kinds : (s : List ℕ) → (getD (fields cellWidths 0 s) talkerField 0 ≡ getD s 0 0) × (getD (fields cellWidths 0 s) listenerField 0 ≡ getD s listenerPlace 0)
+kinds : (s : List ℕ) → (getD (fields cellWidths 0 s) cellIndex.talker 0 ≡ getD s 0 0) × (getD (fields cellWidths 0 s) cellIndex.listener 0 ≡ getD s inCell.listener 0)
 unfolding fields beAt
 kinds s = (omega arith, omega arith)
 
@@ -458,13 +458,13 @@ pub talking-read : (s : List ℕ) → isTalking (toCell s) ≡ not (eqb (getD s 
 unfolding toCell cellFrom talkerFrom
 talking-read s =
     let vs = fields cellWidths 0 s in
-    talking-unless (eqb (getD vs talkerField 0) 0) (registrationFrom vs) (listenerFrom vs) ∙ ap (λ (k : ℕ). not (eqb k 0)) (kinds s .0)
+    talking-unless (eqb (getD vs cellIndex.talker 0) 0) (registrationFrom vs) (listenerFrom vs) ∙ ap (λ (k : ℕ). not (eqb k 0)) (kinds s .0)
 
-pub hearing-read : (s : List ℕ) → isHearing (toCell s) ≡ not (eqb (getD s listenerPlace 0) 0)
+pub hearing-read : (s : List ℕ) → isHearing (toCell s) ≡ not (eqb (getD s inCell.listener 0) 0)
 unfolding toCell cellFrom listenerFrom
 hearing-read s =
     let vs = fields cellWidths 0 s in
-    hearing-unless (eqb (getD vs listenerField 0) 0) (toReady (getD vs listenerField 0)) (toLeaving (getD vs listenerLeavesField 0) (getD vs listenerSinceField 0)) (talkerFrom vs)
+    hearing-unless (eqb (getD vs cellIndex.listener 0) 0) (toReady (getD vs cellIndex.listener 0)) (toLeaving (getD vs cellIndex.listenerLeaves 0) (getD vs cellIndex.listenerSince 0)) (talkerFrom vs)
     ∙ ap (λ (k : ℕ). not (eqb k 0)) (kinds s .1)
 
 -- the test on octets is the test on the cells read from them
@@ -476,7 +476,7 @@ holds-parts (suc k) s =
       talking-read (take cellSize s),
       hearing-read (take cellSize s),
       getD-take cellSize s 0 0 (omega arith),
-      getD-take cellSize s listenerPlace 0 (omega arith),
+      getD-take cellSize s inCell.listener 0 (omega arith),
       holds-parts k (drop cellSize s),
     )
 

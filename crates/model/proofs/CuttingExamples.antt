@@ -33,9 +33,9 @@ cuttings =
     ∷ record { computed = flattened (cut (1 ∷ 22 ∷ 25 ∷ [])); printed = 1 ∷ 2 ∷ 1 ∷ 4 ∷ 25 ∷ [] }
     -- [1-2] [22-25], where every gap of up to 19 filled takes 26 octets
     ∷ record { computed = flattened (cut (1 ∷ 2 ∷ 22 ∷ 25 ∷ [])); printed = 2 ∷ 2 ∷ 2 ∷ 4 ∷ 25 ∷ [] }
-    -- "on a tie the fewest vectors": [1-22]
+    -- "on a tie take the fewest vectors": [1-22]
     ∷ record { computed = flattened (cut (1 ∷ 22 ∷ [])); printed = 2 ∷ 22 ∷ 24 ∷ [] }
-    -- "then most values in the first vector": [1-22] [45]
+    -- "then the one with most values in the first vector": [1-22] [45]
     ∷ record { computed = flattened (cut (1 ∷ 22 ∷ 45 ∷ [])); printed = 2 ∷ 1 ∷ 22 ∷ 1 ∷ 36 ∷ [] }
     -- vectors count before values: [1] [24-67], not [1-24] [43-45] [67]
     ∷ record { computed = flattened (cut (1 ∷ 24 ∷ 43 ∷ 45 ∷ 67 ∷ [])); printed = 1 ∷ 4 ∷ 1 ∷ 44 ∷ 48 ∷ [] }

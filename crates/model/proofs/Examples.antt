@@ -11,7 +11,7 @@ use lib.Dec.{eqb}
 use Rattle.octets.specs.Be
 use Rattle.octets.specs.Fields
 use Rattle.octets.specs.Parts
-use Rattle.model.specs.Layout.{codeField}
+use Rattle.model.specs.Layout.{cellIndex}
 use Rattle.model.specs.Lists.{All}
 use Rattle.model.specs.Lists
 use Rattle.model.specs.State.{Port, Settings, Fixed, ready, askingFailed, tells, Stream, Bridge}
@@ -185,7 +185,7 @@ count b = length (b .streams) ∷ []
 -- the Talker of the first stream on the port at place p: kind, changed mark, leaving, since, destination, .., code; its
 -- Listener: kind, leaving, since
 talker : ℕ → Bridge → List ℕ
-talker p b = take (codeField + 1) (Table.talkerNumbers (State.cellAt (State.streamAt 0 b) p .talks))
+talker p b = take (cellIndex.code + 1) (Table.talkerNumbers (State.cellAt (State.streamAt 0 b) p .talks))
 
 listener : ℕ → Bridge → List ℕ
 listener p b = Table.listenerNumbers (State.cellAt (State.streamAt 0 b) p .hears)

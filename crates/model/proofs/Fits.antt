@@ -9,7 +9,7 @@ use lib.ListN.{length, getD}
 use Rattle.octets.specs.Parts.{zeros}
 use Rattle.octets.specs.Fields.{fields, Fit, flat}
 use Rattle.octets.proofs.Fields.{fields-of-packed, fit-at}
-use Rattle.model.specs.Layout.{bridgeField, cellSize, cellWidths, codeField, firstLatencyField, fixedField, fixedWidths, latencyField, listenerSinceField, nameWidths, priorityField, recordSize, resultSize, resultWidths, talkerSinceField, vlanField}
+use Rattle.model.specs.Layout.{cellIndex, cellSize, cellWidths, fixedWidths, nameWidths, recordSize, resultSize, resultWidths}
 use Rattle.model.specs.Lists.{All, parts, Octets}
 use Rattle.model.specs.State.{Leaving, stays, since, Fixed, TalkerType, talkerAdvertise, talkerFailed, Talker, noTalker, talker, Listener, noListener, listener, Cell, Result, Stream, Bridge}
 use Rattle.model.specs.Registrations.{ids}
@@ -60,18 +60,18 @@ fit-talker : (t : Talker) (after : List ℕ) → ((i : ℕ) → getD (talkerNumb
 unfolding talkerNumbers fixedNumbers Fit
 fit-talker noTalker after at rank = tt
 fit-talker (talker r) after at rank = record {
-  fixed = fit-fixed (r .fixed) (at fixedField also at vlanField also at (vlanField + 1) also at (vlanField + 2) also at priorityField also tt) rank;
-  varying = record { type = fit-type (r .varying .type) (at bridgeField) (at codeField); latency = at latencyField };
-  firstLatency = at firstLatencyField;
-  leaving = fit-leaving (r .leaving) (at talkerSinceField);
+  fixed = fit-fixed (r .fixed) (at cellIndex.fixed also at cellIndex.vlan also at (cellIndex.vlan + 1) also at (cellIndex.vlan + 2) also at cellIndex.priority also tt) rank;
+  varying = record { type = fit-type (r .varying .type) (at cellIndex.bridge) (at cellIndex.code); latency = at cellIndex.latency };
+  firstLatency = at cellIndex.firstLatency;
+  leaving = fit-leaving (r .leaving) (at cellIndex.talkerSince);
 }
 
 fit-listener : (t : Talker) (h : Listener) → ((i : ℕ) → getD (talkerNumbers t ++ listenerNumbers h) i 0 < 256 ^ getD cellWidths i 0)
     → ValidListener latest longest h
 unfolding talkerNumbers listenerNumbers fixedNumbers
 fit-listener t noListener at = tt
-fit-listener noTalker (listener r l) at = fit-leaving l (at listenerSinceField)
-fit-listener (talker k) (listener r l) at = fit-leaving l (at listenerSinceField)
+fit-listener noTalker (listener r l) at = fit-leaving l (at cellIndex.listenerSince)
+fit-listener (talker k) (listener r l) at = fit-leaving l (at cellIndex.listenerSince)
 
 pub fit-cell : (c : Cell) → FitCell c → ValidCell latest longest c
 unfolding cellNumbers

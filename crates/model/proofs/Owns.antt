@@ -12,7 +12,7 @@ use Rattle.octets.specs.Fields.{fields, packed, Fit, width, flat}
 use Rattle.octets.specs.Parts.{part, zeros}
 use Rattle.octets.proofs.Parts.{length-part}
 use Rattle.octets.proofs.Fields.{length-packed-any, fields-of-packed, fields-packed-behind, packed-fields, fields-fit, fit-at, fit-zeros, packed-zeros}
-use Rattle.model.specs.Layout.{mostAddresses, addressesPlace, addressesSize, addressSize, boundaryBPlace, boundaryPlace, boundaryWidths, slotRegisteredField, addressCountPlace, addressCountWidths, ownSize, slotLeavesField, slotSinceField, slotSize, slotVlanField, slotWidths, slots, slotsSize}
+use Rattle.model.specs.Layout.{mostAddresses, inOwn, addressesSize, addressSize, boundaryWidths, slotIndex, addressCountWidths, ownSize, slotSize, slotWidths, slots, slotsSize}
 use Rattle.model.specs.Lists.{All, allTrue, bit, parts, Octets}
 use Rattle.model.specs.State.{Domain, noDomain, domain, Own, noOwn}
 use Rattle.model.specs.Registrations.{macs}
@@ -119,7 +119,7 @@ module _ (clock leave : ℕ) where
 
     domain-valid : ValidDomain clock leave (toDomain s)
     unfolding toDomain domainFormed fields
-    domain-valid = numbers-valid _ _ _ _ h (fit-at slotWidths (fields slotWidths 0 s) (fields-fit slotWidths 0 s (octets-at s o)) slotVlanField)
+    domain-valid = numbers-valid _ _ _ _ h (fit-at slotWidths (fields slotWidths 0 s) (fields-fit slotWidths 0 s (octets-at s o)) slotIndex.vlan)
 
 pub domain-zeros : domainOctets noDomain ≡ zeros slotSize
 unfolding domainOctets domainNumbers width
@@ -157,14 +157,14 @@ unfolding Fit
 flags-fit o = omega (arith, bit-few (o .boundaryA)) also omega (arith, bit-few (o .boundaryB)) also tt
 
 -- octets are their four parts
-four-parts : (s : List ℕ) → s ≡ slotsPart s ++ (part boundaryPlace 2 s ++ (part addressCountPlace 1 s ++ addressesPart s))
+four-parts : (s : List ℕ) → s ≡ slotsPart s ++ (part inOwn.boundaryA 2 s ++ (part inOwn.count 1 s ++ addressesPart s))
 unfolding slotsPart part addressesPart
 four-parts s =
     rw (
-      ← drop-drop 1 addressCountPlace s,
-      take-append-drop 1 (drop addressCountPlace s),
-      ← drop-drop 2 boundaryPlace s,
-      take-append-drop 2 (drop boundaryPlace s),
+      ← drop-drop 1 inOwn.count s,
+      take-append-drop 1 (drop inOwn.count s),
+      ← drop-drop 2 inOwn.boundaryA s,
+      take-append-drop 2 (drop inOwn.boundaryA s),
     )
     (sym (take-append-drop slotsSize s))
 
@@ -177,7 +177,7 @@ module _ (o : Own) (slotted : length (o .domains) ≡ slots) where
   slots-of =
       part-between [] (flat domainOctets (o .domains)) (flags o ++ (numberHeld o ++ addressesWhole (o .addresses))) 0 slotsSize refl slots-length
 
-  flags-read : fields boundaryWidths boundaryPlace (ownOctets o) ≡ bit (o .boundaryA) ∷ bit (o .boundaryB) ∷ []
+  flags-read : fields boundaryWidths inOwn.boundaryA (ownOctets o) ≡ bit (o .boundaryA) ∷ bit (o .boundaryB) ∷ []
   unfolding ownOctets
   flags-read =
       let ds = flat domainOctets (o .domains) in
@@ -185,28 +185,28 @@ module _ (o : Own) (slotted : length (o .domains) ≡ slots) where
       ap (λ (k : ℕ). fields boundaryWidths k (ds ++ (flags o ++ rest))) (sym slots-length)
       ∙ fields-packed-behind boundaryWidths (bit (o .boundaryA) ∷ bit (o .boundaryB) ∷ []) ds rest (flags-fit o)
 
-  pub flag-a : getD (ownOctets o) boundaryPlace 0 ≡ bit (o .boundaryA)
+  pub flag-a : getD (ownOctets o) inOwn.boundaryA 0 ≡ bit (o .boundaryA)
   unfolding fields
-  flag-a = sym (octet-field (ownOctets o) boundaryPlace) ∙ ap (λ (vs : List ℕ). getD vs 0 0) flags-read
+  flag-a = sym (octet-field (ownOctets o) inOwn.boundaryA) ∙ ap (λ (vs : List ℕ). getD vs 0 0) flags-read
 
-  pub flag-b : getD (ownOctets o) boundaryBPlace 0 ≡ bit (o .boundaryB)
+  pub flag-b : getD (ownOctets o) inOwn.boundaryB 0 ≡ bit (o .boundaryB)
   unfolding fields
-  flag-b = sym (octet-field (ownOctets o) boundaryBPlace) ∙ ap (λ (vs : List ℕ). getD vs 1 0) flags-read
+  flag-b = sym (octet-field (ownOctets o) inOwn.boundaryB) ∙ ap (λ (vs : List ℕ). getD vs 1 0) flags-read
 
   -- up to the number of addresses, and behind it
   before-held : ownOctets o ≡ (flat domainOctets (o .domains) ++ flags o) ++ (numberHeld o ++ addressesWhole (o .addresses))
   unfolding ownOctets
   before-held = sym (append-assoc (flat domainOctets (o .domains)) (flags o) (numberHeld o ++ addressesWhole (o .addresses)))
 
-  before-held-length : length (flat domainOctets (o .domains) ++ flags o) ≡ addressCountPlace
+  before-held-length : length (flat domainOctets (o .domains) ++ flags o) ≡ inOwn.count
   before-held-length = omega (arith, length-append (flat domainOctets (o .domains)) (flags o), slots-length, flags-length o)
 
   pub addresses-of : addressesPart (ownOctets o) ≡ addressesWhole (o .addresses)
   unfolding addressesPart
   addresses-of =
       let p = flat domainOctets (o .domains) ++ flags o in
-      ap (drop addressesPlace) (before-held ∙ sym (append-assoc p (numberHeld o) (addressesWhole (o .addresses))))
-      ∙ drop-at (p ++ numberHeld o) (addressesWhole (o .addresses)) addressesPlace (omega (arith, length-append p (numberHeld o), before-held-length, held-length o))
+      ap (drop inOwn.addresses) (before-held ∙ sym (append-assoc p (numberHeld o) (addressesWhole (o .addresses))))
+      ∙ drop-at (p ++ numberHeld o) (addressesWhole (o .addresses)) inOwn.addresses (omega (arith, length-append p (numberHeld o), before-held-length, held-length o))
 
   module _ (few : length (o .addresses) ≤ mostAddresses) where
     pub own-length : length (ownOctets o) ≡ ownSize
@@ -228,9 +228,9 @@ module _ (o : Own) (slotted : length (o .domains) ≡ slots) where
     held-read =
         let p = flat domainOctets (o .domains) ++ flags o in
         let w = addressesWhole (o .addresses) in
-        sym (octet-field (ownOctets o) addressCountPlace)
+        sym (octet-field (ownOctets o) inOwn.count)
         ∙ ap (λ (vs : List ℕ). getD vs 0 0)
-        (ap (fields addressCountWidths addressCountPlace) before-held
+        (ap (fields addressCountWidths inOwn.count) before-held
         ∙ ap (λ (k : ℕ). fields addressCountWidths k (p ++ (numberHeld o ++ w))) (sym before-held-length)
         ∙ fields-packed-behind addressCountWidths (length (o .addresses) ∷ []) p w (omega arith also tt))
 
@@ -298,13 +298,13 @@ module _ (clock leave : ℕ) (small : clock < 2 ^ 32) where
     unfolding ownRules
     slots-kept = own-rules .0
 
-    one-a : getD s boundaryPlace 0 ≤ 1
+    one-a : getD s inOwn.boundaryA 0 ≤ 1
     unfolding ownRules
-    one-a = leb-true (getD s boundaryPlace 0) 1 (own-rules .1 .0)
+    one-a = leb-true (getD s inOwn.boundaryA 0) 1 (own-rules .1 .0)
 
-    one-b : getD s boundaryBPlace 0 ≤ 1
+    one-b : getD s inOwn.boundaryB 0 ≤ 1
     unfolding ownRules
-    one-b = leb-true (getD s boundaryBPlace 0) 1 (own-rules .1 .1 .0)
+    one-b = leb-true (getD s inOwn.boundaryB 0) 1 (own-rules .1 .1 .0)
 
     pub few-held : addressesHeld s ≤ mostAddresses
     unfolding ownRules
@@ -332,27 +332,27 @@ module _ (clock leave : ℕ) (small : clock < 2 ^ 32) where
 
     addresses-room : length (addressesPart s) ≡ addressesSize
     unfolding addressesPart
-    addresses-room = length-drop addressesPlace s ∙ omega arith
+    addresses-room = length-drop inOwn.addresses s ∙ omega arith
 
     addresses-there : Octets (addressesPart s)
     unfolding addressesPart
-    addresses-there = octets-drop addressesPlace s q
+    addresses-there = octets-drop inOwn.addresses s q
 
     none-behind : allZero (drop slotsSize (slotsPart s)) ≡ true
     unfolding allZero
     none-behind = rw (drop-of-length-le (slotsPart s) {i = slotsSize} (omega (arith, slots-room))) refl
 
-    flags-forth : flags (toOwn s) ≡ part boundaryPlace 2 s
+    flags-forth : flags (toOwn s) ≡ part inOwn.boundaryA 2 s
     unfolding toOwn fields width
     flags-forth =
-        rw (bit-forth (getD s boundaryPlace 0) one-a, bit-forth (getD s boundaryBPlace 0) one-b, ← octet-field s boundaryPlace, ← octet-field s boundaryBPlace)
-        (packed-fields boundaryWidths boundaryPlace s (omega arith) (octets-at s q))
+        rw (bit-forth (getD s inOwn.boundaryA 0) one-a, bit-forth (getD s inOwn.boundaryB 0) one-b, ← octet-field s inOwn.boundaryA, ← octet-field s inOwn.boundaryB)
+        (packed-fields boundaryWidths inOwn.boundaryA s (omega arith) (octets-at s q))
 
-    held-forth : numberHeld (toOwn s) ≡ part addressCountPlace 1 s
+    held-forth : numberHeld (toOwn s) ≡ part inOwn.count 1 s
     unfolding toOwn fields width addressesHeld
     held-forth =
-        rw (length-parts addressSize toAddress (getD s addressCountPlace 0) (addressesPart s), ← octet-field s addressCountPlace)
-        (packed-fields addressCountWidths addressCountPlace s (omega arith) (octets-at s q))
+        rw (length-parts addressSize toAddress (getD s inOwn.count 0) (addressesPart s), ← octet-field s inOwn.count)
+        (packed-fields addressCountWidths inOwn.count s (omega arith) (octets-at s q))
 
     addresses-written : addressesWhole (toOwn s .addresses) ≡ addressesPart s
     unfolding toOwn

@@ -11,7 +11,7 @@ use borrow.Author.Tests.{eqb-true, leb-true, eq-eqb, ne-eqb, le-leb}
 use Rattle.octets.specs.Parts.{zeros}
 use Rattle.octets.specs.Fields.{fields, Fit, width}
 use Rattle.octets.proofs.Fields.{length-packed-any, fields-of-packed, fields-fit, fit-at, packed-zeros}
-use Rattle.model.specs.Layout.{ageField, columnField, declaredField, entryField, failureCodeField, failureField, latencyOutField, resultSize, resultWidths}
+use Rattle.model.specs.Layout.{resultIndex, resultSize, resultWidths}
 use Rattle.model.specs.Lists.{All, allTrue, implies, tabulate, Octets}
 use Rattle.model.specs.State.{Column, none, advertise, failed, Entry, noEntry, filters, forwards, Declared, nothing, tells, Result, unsettled}
 use Rattle.model.specs.Table.{columnNumber, columnBridge, columnCode, entryNumber, declaredNumber, resultNumbers, toColumn, toEntry, toDeclared, resultFrom, resultOctets, toResult, allZero, resultRules, resultFormed}
@@ -177,15 +177,15 @@ numbers-rules clock r v =
 -- Numbers that keep the rules: what they say is valid, and is written with the same numbers.
 
 record Kept (clock : ℕ) (vs : List ℕ) : Type 0 where
-  kind : getD vs columnField 0 ≤ 2
-  still : getD vs columnField 0 ≡ 0 → getD vs latencyOutField 0 ≡ 0
-  whole : getD vs columnField 0 ≤ 1 → (getD vs failureField 0 ≡ 0) × (getD vs failureCodeField 0 ≡ 0)
-  entry : getD vs entryField 0 ≤ 2
-  some : (getD vs columnField 0 ≡ 0 → ⊥) → 1 ≤ getD vs entryField 0
-  few : (getD vs columnField 0 ≡ 1 → ⊥) → getD vs entryField 0 ≤ 1
-  ageless : getD vs entryField 0 ≡ 0 → getD vs ageField 0 ≡ 0
-  age : getD vs ageField 0 ≤ clock / 100
-  declared : getD vs declaredField 0 ≤ 3
+  kind : getD vs resultIndex.column 0 ≤ 2
+  still : getD vs resultIndex.column 0 ≡ 0 → getD vs resultIndex.latency 0 ≡ 0
+  whole : getD vs resultIndex.column 0 ≤ 1 → (getD vs resultIndex.bridge 0 ≡ 0) × (getD vs resultIndex.code 0 ≡ 0)
+  entry : getD vs resultIndex.entry 0 ≤ 2
+  some : (getD vs resultIndex.column 0 ≡ 0 → ⊥) → 1 ≤ getD vs resultIndex.entry 0
+  few : (getD vs resultIndex.column 0 ≡ 1 → ⊥) → getD vs resultIndex.entry 0 ≤ 1
+  ageless : getD vs resultIndex.entry 0 ≡ 0 → getD vs resultIndex.age 0 ≡ 0
+  age : getD vs resultIndex.age 0 ≤ clock / 100
+  declared : getD vs resultIndex.declared 0 ≤ 3
 
 kept : (clock : ℕ) (vs : List ℕ) → allTrue (resultRules clock vs) ≡ true → Kept clock vs
 unfolding resultRules
@@ -193,23 +193,23 @@ kept clock vs h =
     let at : ℕ → ℕ = λ i. getD vs i 0 in
     let r = all-true (resultRules clock vs) h in
     record {
-      kind = leb-true (at columnField) 2 (r .0);
-      still = λ e. eqb-true (at latencyOutField) 0 (implied (eqb (at columnField) 0) (eqb (at latencyOutField) 0) (r .1 .0) (eq-eqb (at columnField) 0 e));
-      whole = λ e. two-zero (at failureField) (at failureCodeField) (implied (leb (at columnField) 1) _ (r .1 .1 .0) (le-leb (at columnField) 1 e));
-      entry = leb-true (at entryField) 2 (r .1 .1 .1 .0);
-      some = λ e. leb-true 1 (at entryField) (implied (not (eqb (at columnField) 0)) (leb 1 (at entryField)) (r .1 .1 .1 .1 .0) (ap not (ne-eqb (at columnField) 0 e)));
-      few = λ e. leb-true (at entryField) 1 (implied (not (eqb (at columnField) 1)) (leb (at entryField) 1) (r .1 .1 .1 .1 .1 .0) (ap not (ne-eqb (at columnField) 1 e)));
-      ageless = λ e. eqb-true (at ageField) 0 (implied (eqb (at entryField) 0) (eqb (at ageField) 0) (r .1 .1 .1 .1 .1 .1 .0) (eq-eqb (at entryField) 0 e));
-      age = leb-true (at ageField) (clock / 100) (r .1 .1 .1 .1 .1 .1 .1 .0);
-      declared = leb-true (at declaredField) 3 (r .1 .1 .1 .1 .1 .1 .1 .1 .0);
+      kind = leb-true (at resultIndex.column) 2 (r .0);
+      still = λ e. eqb-true (at resultIndex.latency) 0 (implied (eqb (at resultIndex.column) 0) (eqb (at resultIndex.latency) 0) (r .1 .0) (eq-eqb (at resultIndex.column) 0 e));
+      whole = λ e. two-zero (at resultIndex.bridge) (at resultIndex.code) (implied (leb (at resultIndex.column) 1) _ (r .1 .1 .0) (le-leb (at resultIndex.column) 1 e));
+      entry = leb-true (at resultIndex.entry) 2 (r .1 .1 .1 .0);
+      some = λ e. leb-true 1 (at resultIndex.entry) (implied (not (eqb (at resultIndex.column) 0)) (leb 1 (at resultIndex.entry)) (r .1 .1 .1 .1 .0) (ap not (ne-eqb (at resultIndex.column) 0 e)));
+      few = λ e. leb-true (at resultIndex.entry) 1 (implied (not (eqb (at resultIndex.column) 1)) (leb (at resultIndex.entry) 1) (r .1 .1 .1 .1 .1 .0) (ap not (ne-eqb (at resultIndex.column) 1 e)));
+      ageless = λ e. eqb-true (at resultIndex.age) 0 (implied (eqb (at resultIndex.entry) 0) (eqb (at resultIndex.age) 0) (r .1 .1 .1 .1 .1 .1 .0) (eq-eqb (at resultIndex.entry) 0 e));
+      age = leb-true (at resultIndex.age) (clock / 100) (r .1 .1 .1 .1 .1 .1 .1 .0);
+      declared = leb-true (at resultIndex.declared) 3 (r .1 .1 .1 .1 .1 .1 .1 .1 .0);
     }
 
 module _ (clock : ℕ) (vs : List ℕ) (k : Kept clock vs) where
   numbers-forth : resultNumbers (resultFrom vs) ≡ tabulate 7 0 (λ i. getD vs i 0)
   unfolding resultNumbers resultFrom tabulate
   numbers-forth =
-      let (kind, bridge, code) = column-forth (getD vs columnField 0) (getD vs failureField 0) (getD vs failureCodeField 0) (k .kind) (k .whole) in
-      rw (kind, bridge, code, entry-forth (getD vs entryField 0) (k .entry), declared-forth (getD vs declaredField 0) (k .declared))
+      let (kind, bridge, code) = column-forth (getD vs resultIndex.column 0) (getD vs resultIndex.bridge 0) (getD vs resultIndex.code 0) (k .kind) (k .whole) in
+      rw (kind, bridge, code, entry-forth (getD vs resultIndex.entry 0) (k .entry), declared-forth (getD vs resultIndex.declared 0) (k .declared))
 
   numbers-valid : Fit resultWidths vs → ValidResult clock (resultFrom vs)
   unfolding resultFrom
@@ -217,10 +217,10 @@ module _ (clock : ℕ) (vs : List ℕ) (k : Kept clock vs) where
       let at : (i : ℕ) → getD vs i 0 < 256 ^ getD resultWidths i 0 = fit-at resultWidths vs fit in
       record {
         column =
-            column-valid (getD vs columnField 0) (getD vs latencyOutField 0) (getD vs failureField 0) (getD vs failureCodeField 0) (getD vs entryField 0) (k .kind) (k .entry) (k .still) (k .some) (k .few)
-            (at failureField) (at failureCodeField);
-        latency = at latencyOutField;
-        age = age-valid clock (getD vs entryField 0) (getD vs ageField 0) (k .ageless) (k .age);
+            column-valid (getD vs resultIndex.column 0) (getD vs resultIndex.latency 0) (getD vs resultIndex.bridge 0) (getD vs resultIndex.code 0) (getD vs resultIndex.entry 0) (k .kind) (k .entry) (k .still) (k .some) (k .few)
+            (at resultIndex.bridge) (at resultIndex.code);
+        latency = at resultIndex.latency;
+        age = age-valid clock (getD vs resultIndex.entry 0) (getD vs resultIndex.age 0) (k .ageless) (k .age);
       }
 
 -- The octets of a result.

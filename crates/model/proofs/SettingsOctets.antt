@@ -13,7 +13,7 @@ use Rattle.octets.specs.Be.{beAt}
 use Rattle.octets.specs.Fields.{fields, packed, Fit, width, flat}
 use Rattle.octets.specs.Parts.{part}
 use Rattle.octets.proofs.Fields.{length-packed-any, length-flat, fields-packed, fields-of-packed, packed-fields, fields-fit, beAt-fits}
-use Rattle.model.specs.Layout.{domainVlanPlace, fanInPlace, headSize, headWidths, inPort, portPlace, portSize, portsPlace, portsUnit, portWidths, priorityAUnit, priorityBUnit, pruningUnit, settingsSize, wordPlace}
+use Rattle.model.specs.Layout.{inHead, headSize, headWidths, inPort, portPlace, portSize, inTable, portsUnit, portWidths, priorityAUnit, priorityBUnit, pruningUnit, settingsSize}
 use Rattle.model.specs.Lists.{All, allTrue, bit, Octets}
 use Rattle.model.specs.State.{Port, Settings, classB, bothLimits, inForce}
 use Rattle.model.specs.Table.{portNumbers, portFrom, portOctets, toPort, headWord, vlanWord, headNumbers, settingsOctets, portsField, toSettings, portRule, everyPart, settingsRules, settingsFormed}
@@ -167,7 +167,7 @@ module _ (st : Settings) (v : FitSettings st) where
     unfolding fields headNumbers
     id-read = ap (λ (vs : List ℕ). getD vs 0 0) head-read
 
-    word-read : beAt 3 (settingsOctets st ++ rest) wordPlace ≡ headWord st
+    word-read : beAt 3 (settingsOctets st ++ rest) inHead.word ≡ headWord st
     unfolding fields headNumbers
     word-read = ap (λ (vs : List ℕ). getD vs 1 0) head-read
 
@@ -175,36 +175,36 @@ module _ (st : Settings) (v : FitSettings st) where
     unfolding portsField headWord
     ports-read = rw word-read (omega arith)
 
-    pub priority-a-read : beAt 3 (settingsOctets st ++ rest) wordPlace / priorityAUnit % 8 ≡ st .priorityA
+    pub priority-a-read : beAt 3 (settingsOctets st ++ rest) inHead.word / priorityAUnit % 8 ≡ st .priorityA
     unfolding headWord
     priority-a-read = rw word-read (omega arith)
 
-    pub priority-b-read : beAt 3 (settingsOctets st ++ rest) wordPlace / priorityBUnit % 8 ≡ st .priorityB
+    pub priority-b-read : beAt 3 (settingsOctets st ++ rest) inHead.word / priorityBUnit % 8 ≡ st .priorityB
     unfolding headWord
     priority-b-read = rw word-read (omega arith)
 
-    pub leave-read : beAt 3 (settingsOctets st ++ rest) wordPlace % priorityBUnit ≡ st .leaveTime
+    pub leave-read : beAt 3 (settingsOctets st ++ rest) inHead.word % priorityBUnit ≡ st .leaveTime
     unfolding headWord
     leave-read = rw word-read (omega arith)
 
-    pub vlan-word-read : beAt 2 (settingsOctets st ++ rest) domainVlanPlace ≡ vlanWord st
+    pub vlan-word-read : beAt 2 (settingsOctets st ++ rest) inHead.vlan ≡ vlanWord st
     unfolding fields headNumbers
     vlan-word-read = ap (λ (vs : List ℕ). getD vs 2 0) head-read
 
-    pub vlan-read : beAt 2 (settingsOctets st ++ rest) domainVlanPlace % pruningUnit ≡ st .vlan
+    pub vlan-read : beAt 2 (settingsOctets st ++ rest) inHead.vlan % pruningUnit ≡ st .vlan
     unfolding vlanWord
     vlan-read = rw vlan-word-read (omega (arith, v .vlan))
 
-    pub pruning-read : beAt 2 (settingsOctets st ++ rest) domainVlanPlace / pruningUnit ≡ bit (st .pruning)
+    pub pruning-read : beAt 2 (settingsOctets st ++ rest) inHead.vlan / pruningUnit ≡ bit (st .pruning)
     unfolding vlanWord
     pruning-read = rw vlan-word-read (omega (arith, v .vlan))
 
-    pub fan-in-read : beAt 1 (settingsOctets st ++ rest) fanInPlace ≡ st .fanIn
+    pub fan-in-read : beAt 1 (settingsOctets st ++ rest) inHead.fanIn ≡ st .fanIn
     unfolding fields headNumbers
     fan-in-read = ap (λ (vs : List ℕ). getD vs 3 0) head-read
 
-    pub behind-head : drop portsPlace (settingsOctets st ++ rest) ≡ flat portOctets (st .ports) ++ rest
-    behind-head = rw (head-split st rest) (drop-at (head st) (flat portOctets (st .ports) ++ rest) portsPlace (head-length st))
+    pub behind-head : drop inTable.ports (settingsOctets st ++ rest) ≡ flat portOctets (st .ports) ++ rest
+    behind-head = rw (head-split st rest) (drop-at (head st) (flat portOctets (st .ports) ++ rest) inTable.ports (head-length st))
 
     pub fit-back : toSettings (settingsOctets st ++ rest) ≡ st
     unfolding toSettings
@@ -247,16 +247,16 @@ module _ (st : Settings) (v : ValidSettings st) (rest : List ℕ) where
 word-back : (w : ℕ) → ((w / portsUnit * 8 + w / priorityAUnit % 8) * 8 + w / priorityBUnit % 8) * priorityBUnit + w % priorityBUnit ≡ w
 word-back w = omega arith
 
-head-word : (s : List ℕ) → headWord (toSettings s) ≡ beAt 3 s wordPlace
+head-word : (s : List ℕ) → headWord (toSettings s) ≡ beAt 3 s inHead.word
 unfolding headWord toSettings portsField
-head-word s = rw (length-parts portSize toPort (beAt 3 s wordPlace / portsUnit) (drop portsPlace s)) (word-back (beAt 3 s wordPlace))
+head-word s = rw (length-parts portSize toPort (beAt 3 s inHead.word / portsUnit) (drop inTable.ports s)) (word-back (beAt 3 s inHead.word))
 
 -- and the VLAN's field of its two
-vlan-word : (s : List ℕ) → Octets s → vlanWord (toSettings s) ≡ beAt 2 s domainVlanPlace
+vlan-word : (s : List ℕ) → Octets s → vlanWord (toSettings s) ≡ beAt 2 s inHead.vlan
 unfolding vlanWord toSettings
 vlan-word s o =
-    let h : beAt 2 s domainVlanPlace < 256 ^ 2 = beAt-fits 2 s domainVlanPlace (octets-at s o) in
-    rw (bit-forth (beAt 2 s domainVlanPlace / pruningUnit) (omega arith)) (omega arith)
+    let h : beAt 2 s inHead.vlan < 256 ^ 2 = beAt-fits 2 s inHead.vlan (octets-at s o) in
+    rw (bit-forth (beAt 2 s inHead.vlan / pruningUnit) (omega arith)) (omega arith)
 
 head-forth : (s : List ℕ) → headSize ≤ length s → Octets s → head (toSettings s) ≡ take headSize s
 unfolding headNumbers toSettings fields width part
@@ -275,50 +275,50 @@ module _ (s : List ℕ) (r : allTrue (settingsRules s) ≡ true) where
   unfolding settingsRules
   eight-ports = leb-true (portsField s) 8 (rules .1 .0)
 
-  different : beAt 3 s wordPlace / priorityAUnit % 8 ≡ beAt 3 s wordPlace / priorityBUnit % 8 → ⊥
+  different : beAt 3 s inHead.word / priorityAUnit % 8 ≡ beAt 3 s inHead.word / priorityBUnit % 8 → ⊥
   unfolding settingsRules
-  different = eqb-false (beAt 3 s wordPlace / priorityAUnit % 8) (beAt 3 s wordPlace / priorityBUnit % 8) (not-true (eqb (beAt 3 s wordPlace / priorityAUnit % 8) (beAt 3 s wordPlace / priorityBUnit % 8)) (rules .1 .1 .0))
+  different = eqb-false (beAt 3 s inHead.word / priorityAUnit % 8) (beAt 3 s inHead.word / priorityBUnit % 8) (not-true (eqb (beAt 3 s inHead.word / priorityAUnit % 8) (beAt 3 s inHead.word / priorityBUnit % 8)) (rules .1 .1 .0))
 
-  leaves : 1 ≤ beAt 3 s wordPlace % priorityBUnit
+  leaves : 1 ≤ beAt 3 s inHead.word % priorityBUnit
   unfolding settingsRules
-  leaves = leb-true 1 (beAt 3 s wordPlace % priorityBUnit) (rules .1 .1 .1 .0)
+  leaves = leb-true 1 (beAt 3 s inHead.word % priorityBUnit) (rules .1 .1 .1 .0)
 
-  port-rules : everyPart portSize portRule (portsField s) (drop portsPlace s) ≡ true
+  port-rules : everyPart portSize portRule (portsField s) (drop inTable.ports s) ≡ true
   unfolding settingsRules
   port-rules = rules .1 .1 .1 .1 .0
 
-  some-vlan : 1 ≤ beAt 2 s domainVlanPlace % pruningUnit
+  some-vlan : 1 ≤ beAt 2 s inHead.vlan % pruningUnit
   unfolding settingsRules
-  some-vlan = leb-true 1 (beAt 2 s domainVlanPlace % pruningUnit) (rules .1 .1 .1 .1 .1 .0)
+  some-vlan = leb-true 1 (beAt 2 s inHead.vlan % pruningUnit) (rules .1 .1 .1 .1 .1 .0)
 
-  vlan-few : beAt 2 s domainVlanPlace % pruningUnit ≤ 4094
+  vlan-few : beAt 2 s inHead.vlan % pruningUnit ≤ 4094
   unfolding settingsRules
-  vlan-few = leb-true (beAt 2 s domainVlanPlace % pruningUnit) 4094 (rules .1 .1 .1 .1 .1 .1 .0)
+  vlan-few = leb-true (beAt 2 s inHead.vlan % pruningUnit) 4094 (rules .1 .1 .1 .1 .1 .1 .0)
 
-  fan-in-few : beAt 1 s fanInPlace ≤ 8
+  fan-in-few : beAt 1 s inHead.fanIn ≤ 8
   unfolding settingsRules
-  fan-in-few = leb-true (beAt 1 s fanInPlace) 8 (rules .1 .1 .1 .1 .1 .1 .1 .0)
+  fan-in-few = leb-true (beAt 1 s inHead.fanIn) 8 (rules .1 .1 .1 .1 .1 .1 .1 .0)
 
 pub settings-ports : (s : List ℕ) → length (toSettings s .ports) ≡ portsField s
 unfolding toSettings
-settings-ports s = length-parts portSize toPort (portsField s) (drop portsPlace s)
+settings-ports s = length-parts portSize toPort (portsField s) (drop inTable.ports s)
 
 module _ (s : List ℕ) (o : Octets s) (h : portPlace (portsField s) ≤ length s) (r : allTrue (settingsRules s) ≡ true) where
-  ports-room : portsField s * portSize ≤ length (drop portsPlace s)
-  ports-room = omega (arith, length-drop portsPlace s)
+  ports-room : portsField s * portSize ≤ length (drop inTable.ports s)
+  ports-room = omega (arith, length-drop inTable.ports s)
 
   -- what follows the settings does not matter
   pub settings-taken : settingsOctets (toSettings s) ≡ take (portPlace (portsField s)) s
   unfolding settingsOctets toSettings
   settings-taken =
       let f =
-      every-forth portSize portRule toPort portOctets port-forth (portsField s) (drop portsPlace s) ports-room (octets-drop portsPlace s o) (port-rules s r) in
-      rw (f, head-forth s (omega arith) o) (sym (take-add portsPlace (portsField s * portSize) s))
+      every-forth portSize portRule toPort portOctets port-forth (portsField s) (drop inTable.ports s) ports-room (octets-drop inTable.ports s o) (port-rules s r) in
+      rw (f, head-forth s (omega arith) o) (sym (take-add inTable.ports (portsField s * portSize) s))
 
   pub settings-valid : ValidSettings (toSettings s)
   unfolding toSettings
   settings-valid =
-      let w = beAt 3 s wordPlace in
+      let w = beAt 3 s inHead.word in
       record {
         bridgeId = beAt-fits 8 s 0 (octets-at s o);
         priorityA = omega arith;
@@ -331,14 +331,14 @@ module _ (s : List ℕ) (o : Octets s) (h : portPlace (portsField s) ≤ length 
         fanIn = fan-in-few s r;
         some-port = omega (arith, settings-ports s, some-ports s r);
         eight-ports = omega (arith, settings-ports s, eight-ports s r);
-        ports = every-read portSize portRule toPort ValidPort port-valid (portsField s) (drop portsPlace s) ports-room (octets-drop portsPlace s o) (port-rules s r);
+        ports = every-read portSize portRule toPort ValidPort port-valid (portsField s) (drop inTable.ports s) ports-room (octets-drop inTable.ports s o) (port-rules s r);
       }
 
 -- the settings of a table have room for eight ports
 pub settings-room : (s : List ℕ) → length s ≡ settingsSize → allTrue (settingsRules s) ≡ true → portPlace (portsField s) ≤ length s
 settings-room s l r = omega (arith, eight-ports s r)
 
--- Settings as they are handed to start: "Length 14 + 22 x ports".
+-- Settings as they are handed to start: as long as their head and their ports.
 
 module _ (s : List ℕ) (f : settingsFormed s ≡ true) where
   pub formed-length : length s ≡ portPlace (portsField s)

@@ -12,7 +12,7 @@ use Rattle.octets.specs.Fields.{fields, packed, Fit, width, flat}
 use Rattle.octets.specs.Parts.{part, zeros}
 use Rattle.octets.proofs.Parts.{length-part}
 use Rattle.octets.proofs.Fields.{length-packed-any, fields-packed, fields-packed-behind, fields-of-packed, packed-fields, fields-fit, fit-at, beAt-fits, packed-zeros}
-use Rattle.model.specs.Layout.{cellSize, cellsPlace, cellsSize, clockPlace, clockSize, clockWidths, countPlace, nameSize, nameWidths, ownSize, ownsPlace, ownsSize, portPlace, portSize, recordSize, recordsPlace, recordsSize, resultSize, resultsPlace, resultsSize, settingsSize, settledPriorityPlace, tableLength, totalSize, totalsPlace, totalsSize, totalsWidths}
+use Rattle.model.specs.Layout.{cellSize, inRecord, cellsSize, inTable, clockSize, clockWidths, nameSize, nameWidths, ownSize, ownsSize, portPlace, portSize, recordSize, recordsSize, resultSize, resultsSize, settingsSize, tableLength, totalSize, totalsSize, totalsWidths}
 use Rattle.model.specs.Lists.{All, allTrue, parts, Octets, implies}
 use Rattle.model.specs.State.{Port, Totals, Own, Stream, Bridge, empty, unsettled, noTotals, noOwn, started, noFixed, cellAt, resultAt, classB, inForce}
 use Rattle.model.specs.Registrations.{ids}
@@ -62,15 +62,15 @@ module _ (x : Stream) (eight-cells : length (x .cells) ≡ 8) (eight-results : l
 
   pub cells-of : cellsPart (streamOctets x) ≡ flat cellOctets (x .cells)
   unfolding cellsPart streamOctets
-  cells-of = part-between (name x) (flat cellOctets (x .cells)) (flat resultOctets (x .results)) cellsPlace cellsSize (name-length x) length-cells
+  cells-of = part-between (name x) (flat cellOctets (x .cells)) (flat resultOctets (x .results)) inRecord.cells cellsSize (name-length x) length-cells
 
   pub results-of : resultsPart (streamOctets x) ≡ flat resultOctets (x .results)
   unfolding resultsPart streamOctets
   results-of =
       let cs = flat cellOctets (x .cells) in
       let rs = flat resultOctets (x .results) in
-      ap (part resultsPlace resultsSize) (sym (append-assoc (name x) cs rs) ∙ ap (λ (r : List ℕ). (name x ++ cs) ++ r) (sym (append-nil rs)))
-      ∙ part-between (name x ++ cs) rs [] resultsPlace resultsSize (omega (arith, length-append (name x) cs, name-length x, length-cells)) length-results
+      ap (part inRecord.results resultsSize) (sym (append-assoc (name x) cs rs) ∙ ap (λ (r : List ℕ). (name x ++ cs) ++ r) (sym (append-nil rs)))
+      ∙ part-between (name x ++ cs) rs [] inRecord.results resultsSize (omega (arith, length-append (name x) cs, name-length x, length-cells)) length-results
 
 module _ (x : Stream) (f : Fit nameWidths (x .id ∷ fixedNumbers (x .settled))) where
   pub name-read : fields nameWidths 0 (streamOctets x) ≡ x .id ∷ fixedNumbers (x .settled)
@@ -81,10 +81,10 @@ module _ (x : Stream) (f : Fit nameWidths (x .id ∷ fixedNumbers (x .settled)))
   unfolding idOf fields
   id-read = ap (λ (vs : List ℕ). getD vs 0 0) name-read
 
-  spare-read : getD (streamOctets x) settledPriorityPlace 0 % 16 ≡ 0
+  spare-read : getD (streamOctets x) inRecord.priority 0 % 16 ≡ 0
   unfolding fields fixedNumbers
   spare-read =
-      ap (λ (o : ℕ). o % 16) (sym (octet-field (streamOctets x) settledPriorityPlace) ∙ ap (λ (vs : List ℕ). getD vs 5 0) name-read) ∙ priority-spare (x .settled)
+      ap (λ (o : ℕ). o % 16) (sym (octet-field (streamOctets x) inRecord.priority) ∙ ap (λ (vs : List ℕ). getD vs 5 0) name-read) ∙ priority-spare (x .settled)
 
 pub octets-stream : (x : Stream) → Octets (streamOctets x)
 unfolding streamOctets
@@ -159,7 +159,7 @@ module _ (ports clock leave : ℕ) (few : ports ≤ 8) (small : clock < 2 ^ 32) 
         ap (holds ports) (sym (append-nil cs)) ∙ held-holds ports (x .cells) [] back h (v .no-other-cells) (v .is-held) in
         let n = talkers ports (x .cells) in
         true-all (streamRules ports clock leave (streamOctets x))
-        (eq-eqb (getD (streamOctets x) settledPriorityPlace 0 % 16) 0 (spare-read x name-fit)
+        (eq-eqb (getD (streamOctets x) inRecord.priority 0 % 16) 0 (spare-read x name-fit)
         also rw (stream-back, c, r)
         (implies-true (eqb n 0) (allZero (drop 1 (fields nameWidths 0 (streamOctets x)))) (λ e. rw (name-read x name-fit, v .idle (eqb-true n 0 e)) none-zero)
         also many-keep cells-coded ports 8 few (x .cells) (v .eight-cells) (v .cells)
@@ -178,7 +178,7 @@ module _ (ports clock leave : ℕ) (few : ports ≤ 8) (small : clock < 2 ^ 32) 
 
     spare-kept : getD (fields nameWidths 0 s) 5 0 % 16 ≡ 0
     unfolding streamRules fields
-    spare-kept = ap (λ (b : ℕ). b % 16) (octet-field s settledPriorityPlace) ∙ eqb-true (getD s settledPriorityPlace 0 % 16) 0 (stream-rules .0)
+    spare-kept = ap (λ (b : ℕ). b % 16) (octet-field s inRecord.priority) ∙ eqb-true (getD s inRecord.priority 0 % 16) 0 (stream-rules .0)
 
     idle-kept : implies (eqb (talkers ports (toStream s .cells)) 0) (allZero (drop 1 (fields nameWidths 0 s))) ≡ true
     unfolding streamRules
@@ -214,19 +214,19 @@ module _ (ports clock leave : ℕ) (few : ports ≤ 8) (small : clock < 2 ^ 32) 
 
     cells-room : length (cellsPart s) ≡ cellsSize
     unfolding cellsPart
-    cells-room = length-part cellsPlace cellsSize s (omega arith)
+    cells-room = length-part inRecord.cells cellsSize s (omega arith)
 
     results-room : length (resultsPart s) ≡ resultsSize
     unfolding resultsPart
-    results-room = length-part resultsPlace resultsSize s (omega arith)
+    results-room = length-part inRecord.results resultsSize s (omega arith)
 
     cells-octets : Octets (cellsPart s)
     unfolding cellsPart
-    cells-octets = octets-part cellsPlace cellsSize s o
+    cells-octets = octets-part inRecord.cells cellsSize s o
 
     results-octets : Octets (resultsPart s)
     unfolding resultsPart
-    results-octets = octets-part resultsPlace resultsSize s o
+    results-octets = octets-part inRecord.results resultsSize s o
 
     name-forth : name (toStream s) ≡ part 0 nameSize s
     unfolding toStream fields width
@@ -341,8 +341,8 @@ module _ (ss h ts os rs : List ℕ) (a : length ss ≡ settingsSize) (b : length
   totals-of : totalsPart laid ≡ ts
   unfolding totalsPart
   totals-of =
-      ap (part totalsPlace totalsSize) (sym (append-assoc ss h (ts ++ (os ++ rs))))
-      ∙ part-between (ss ++ h) ts (os ++ rs) totalsPlace totalsSize (omega (arith, length-append ss h)) c
+      ap (part inTable.totals totalsSize) (sym (append-assoc ss h (ts ++ (os ++ rs))))
+      ∙ part-between (ss ++ h) ts (os ++ rs) inTable.totals totalsSize (omega (arith, length-append ss h)) c
 
   -- what is behind the totals
   behind : laid ≡ ((ss ++ h) ++ ts) ++ (os ++ rs)
@@ -351,27 +351,27 @@ module _ (ss h ts os rs : List ℕ) (a : length ss ≡ settingsSize) (b : length
   owns-of : ownsPart laid ≡ os
   unfolding ownsPart
   owns-of =
-      ap (part ownsPlace ownsSize) behind
-      ∙ part-between ((ss ++ h) ++ ts) os rs ownsPlace ownsSize (omega (arith, length-append (ss ++ h) ts, length-append ss h)) d
+      ap (part inTable.owns ownsSize) behind
+      ∙ part-between ((ss ++ h) ++ ts) os rs inTable.owns ownsSize (omega (arith, length-append (ss ++ h) ts, length-append ss h)) d
 
   records-of : recordsPart laid ≡ rs
   unfolding recordsPart
   records-of =
-      ap (drop recordsPlace) (behind ∙ sym (append-assoc ((ss ++ h) ++ ts) os rs))
-      ∙ drop-at (((ss ++ h) ++ ts) ++ os) rs recordsPlace
+      ap (drop inTable.records) (behind ∙ sym (append-assoc ((ss ++ h) ++ ts) os rs))
+      ∙ drop-at (((ss ++ h) ++ ts) ++ os) rs inTable.records
       (omega (arith, length-append ((ss ++ h) ++ ts) os, length-append (ss ++ h) ts, length-append ss h))
 
 -- a table is its parts
-five-parts : (t : List ℕ) → t ≡ settingsPart t ++ (part clockPlace clockSize t ++ (totalsPart t ++ (ownsPart t ++ recordsPart t)))
+five-parts : (t : List ℕ) → t ≡ settingsPart t ++ (part inTable.clock clockSize t ++ (totalsPart t ++ (ownsPart t ++ recordsPart t)))
 unfolding settingsPart part totalsPart ownsPart recordsPart
 five-parts t =
     rw (
-      ← drop-drop ownsSize ownsPlace t,
-      take-append-drop ownsSize (drop ownsPlace t),
-      ← drop-drop totalsSize totalsPlace t,
-      take-append-drop totalsSize (drop totalsPlace t),
-      ← drop-drop clockSize clockPlace t,
-      take-append-drop clockSize (drop clockPlace t),
+      ← drop-drop ownsSize inTable.owns t,
+      take-append-drop ownsSize (drop inTable.owns t),
+      ← drop-drop totalsSize inTable.totals t,
+      take-append-drop totalsSize (drop inTable.totals t),
+      ← drop-drop clockSize inTable.clock t,
+      take-append-drop clockSize (drop inTable.clock t),
     )
     (sym (take-append-drop settingsSize t))
 
@@ -511,11 +511,11 @@ module _ (b : Bridge) (w : Whole b) where
       totals-whole-length owns-whole-length
 
   module _ (small : b .clock < 2 ^ 32) where
-    numbers-read : fields clockWidths clockPlace (encode b) ≡ b .clock ∷ length (b .streams) ∷ []
+    numbers-read : fields clockWidths inTable.clock (encode b) ≡ b .clock ∷ length (b .streams) ∷ []
     unfolding Fit
     numbers-read =
         let h : length (b .streams) ≤ 64 = w .at-most-64 in
-        ap (fields clockWidths clockPlace) (encode-parts b)
+        ap (fields clockWidths inTable.clock) (encode-parts b)
         ∙ ap (λ (k : ℕ). fields clockWidths k (settingsWhole b ++ (clockAndCount b ++ (totalsWhole b ++ (ownsWhole b ++ recordsWhole b))))) (sym settings-whole-length)
         ∙ fields-packed-behind clockWidths (b .clock ∷ length (b .streams) ∷ []) (settingsWhole b) (totalsWhole b ++ (ownsWhole b ++ recordsWhole b)) (small also omega arith also tt)
 
@@ -525,7 +525,7 @@ module _ (b : Bridge) (w : Whole b) where
 
     pub count-read : countField (encode b) ≡ length (b .streams)
     unfolding countField fields
-    count-read = sym (octet-field (encode b) countPlace) ∙ ap (λ (vs : List ℕ). getD vs 1 0) numbers-read
+    count-read = sym (octet-field (encode b) inTable.count) ∙ ap (λ (vs : List ℕ). getD vs 1 0) numbers-read
 
   pub settings-decoded : FitSettings (b .settings) → toSettings (settingsPart (encode b)) ≡ b .settings
   settings-decoded f = ap toSettings settings-read ∙ fit-back (b .settings) f (zeros ((8 - length (b .settings .ports)) * portSize))
@@ -696,15 +696,15 @@ module _ (t : List ℕ) (f : formed t ≡ true) where
 
   totals-room : length (totalsPart t) ≡ totalsSize
   unfolding totalsPart
-  totals-room = length-part totalsPlace totalsSize t (omega (arith, formed-table-length))
+  totals-room = length-part inTable.totals totalsSize t (omega (arith, formed-table-length))
 
   owns-room : length (ownsPart t) ≡ ownsSize
   unfolding ownsPart
-  owns-room = length-part ownsPlace ownsSize t (omega (arith, formed-table-length))
+  owns-room = length-part inTable.owns ownsSize t (omega (arith, formed-table-length))
 
   records-room : length (recordsPart t) ≡ recordsSize
   unfolding recordsPart
-  records-room = length-drop recordsPlace t ∙ omega (arith, formed-table-length)
+  records-room = length-drop inTable.records t ∙ omega (arith, formed-table-length)
 
 module _ (t : List ℕ) (o : Octets t) (f : formed t ≡ true) where
   octets-settings-part : Octets (settingsPart t)
@@ -713,15 +713,15 @@ module _ (t : List ℕ) (o : Octets t) (f : formed t ≡ true) where
 
   octets-totals-part : Octets (totalsPart t)
   unfolding totalsPart
-  octets-totals-part = octets-part totalsPlace totalsSize t o
+  octets-totals-part = octets-part inTable.totals totalsSize t o
 
   octets-owns-part : Octets (ownsPart t)
   unfolding ownsPart
-  octets-owns-part = octets-part ownsPlace ownsSize t o
+  octets-owns-part = octets-part inTable.owns ownsSize t o
 
   octets-records-part : Octets (recordsPart t)
   unfolding recordsPart
-  octets-records-part = octets-drop recordsPlace t o
+  octets-records-part = octets-drop inTable.records t o
 
   ports-fit : portPlace (portsField (settingsPart t)) ≤ length (settingsPart t)
   ports-fit = settings-room (settingsPart t) (settings-room-length t f) (settings-kept t f)
@@ -731,7 +731,7 @@ module _ (t : List ℕ) (o : Octets t) (f : formed t ≡ true) where
 
   pub clock-fits : clockField t < 2 ^ 32
   unfolding clockField
-  clock-fits = beAt-fits 4 t clockPlace (octets-at t o)
+  clock-fits = beAt-fits 4 t inTable.clock (octets-at t o)
 
   pub valid-decode : Valid (decode t)
   unfolding decode ids toStream idOf
@@ -771,11 +771,11 @@ module _ (t : List ℕ) (o : Octets t) (f : formed t ≡ true) where
       let z = zeros-zero (drop (portPlace (portsField s)) s) (settings-zero t f) ∙ ap zeros k in
       rw (← z, settings-taken s octets-settings-part ports-fit (settings-kept t f)) (take-append-drop (portPlace (portsField s)) s)
 
-  clock-written : clockAndCount (decode t) ≡ part clockPlace clockSize t
+  clock-written : clockAndCount (decode t) ≡ part inTable.clock clockSize t
   unfolding decode clockField countField fields width
   clock-written =
-      rw (length-parts recordSize toStream (getD t countPlace 0) (recordsPart t), ← octet-field t countPlace)
-      (packed-fields clockWidths clockPlace t (omega (arith, formed-table-length t f)) (octets-at t o))
+      rw (length-parts recordSize toStream (getD t inTable.count 0) (recordsPart t), ← octet-field t inTable.count)
+      (packed-fields clockWidths inTable.clock t (omega (arith, formed-table-length t f)) (octets-at t o))
 
   totals-written : totalsWhole (decode t) ≡ totalsPart t
   unfolding decode

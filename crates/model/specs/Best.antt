@@ -39,6 +39,6 @@ best l = getD (bests l) 0 []
 unfoldable pub least : List ℕ → ℕ
 least l = octets (best l)
 
--- "the longest run whose shortest cutting fits" in so many octets
+-- how many are in the longest run from a list's front "whose shortest cutting fits" in so many octets
 unfoldable pub run : ℕ → List ℕ → ℕ
 run room l = longest (λ n. leb (least (take n l)) room) 0 (length l)

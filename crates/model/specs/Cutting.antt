@@ -29,7 +29,8 @@ concat (g ∷ c) = g ++ concat c
 abbrev pub Cutting : List ℕ → List (List ℕ) → Type 0
 Cutting l c = (concat c ≡ l) × All Part c
 
--- "gaps filled with Ignore, none beginning or ending a vector": the values of a part's vector, from its first StreamID to its last
+-- "gaps filled with Ignore (35.2.2.7.2), none beginning or ending a vector": the values of a part's vector, from its first StreamID
+-- to its last
 abbrev pub lastOf : ℕ → List ℕ → ℕ
 lastOf x [] = x
 lastOf x (y ∷ g) = lastOf y g
@@ -46,15 +47,15 @@ abbrev pub octets : List (List ℕ) → ℕ
 octets [] = 0
 octets (g ∷ c) = octetsFor (values g) + octets c
 
--- "then most values in the first vector, the second and so on": at the first vector whose size differs, c has the larger. (A
--- vector that is missing has no values.)
+-- "and then the one with most values in the first vector, then in the second and so on": at the first vector whose size differs, c
+-- has the larger. (A vector that is missing has no values.)
 abbrev pub Wider : (List ℕ → ℕ) → List (List ℕ) → List (List ℕ) → Type 0
 Wider size c [] = Unit {0}
 Wider size [] (h ∷ d) = ⊥
 Wider size (g ∷ c) (h ∷ d) = (size h ≤ size g) × (size g ≡ size h → Wider size c d)
 
--- "no other cutting into vectors takes fewer octets; on a tie take the fewest vectors, and then ..": the order of cuttings. `size` is `values`, or
--- `length` where only declarations are counted: on the cuttings of one list both give one order.
+-- "no other cutting into vectors takes fewer octets; on a tie take the fewest vectors, and then ..": the order of cuttings. `size` is
+-- `values`, or `length` where only declarations are counted: on the cuttings of one list both give one order.
 abbrev pub NotAfter : (List ℕ → ℕ) → List (List ℕ) → List (List ℕ) → Type 0
 NotAfter size c d =
     (octets c ≤ octets d)

@@ -84,8 +84,8 @@ unfoldable pub having : Attribute → List Declaration → List Declaration
 having k [] = []
 having k (d ∷ l) = keep (sameAttribute (attributeOf d) k) d (having k l)
 
--- "From a place (0 based) one PDU takes as many as fit in 1,500 octets whole, one Message per type"; "Talkers and Domains stay one
--- per vector" (02)
+-- "From a place (0 based) one PDU takes as many as fit in 1,500 octets whole, one Message per type, one value per vector"; only of
+-- Listeners are there more values in one, since they are packed (02, xi)
 
 -- the octets of a vector of one value: header, FirstValue, an octet of three-packed events, and for a Listener one of four-packed
 unfoldable pub vectorSize : Attribute → ℕ
@@ -113,7 +113,7 @@ messagesSize l = of (registers advertises) + of (registers faileds) + of (regist
     of : Attribute → ℕ
     of k = messageSize k (having k l)
 
--- "a PDU takes the longest run whose shortest cutting fits" (02): how many declarations, with so many octets used
+-- "A PDU takes the longest run from its place whose shortest cutting fits" (02): how many declarations, with so many octets used
 unfoldable pub fitting : ℕ → List Declaration → ℕ
 fitting used l = longest (λ n. leb (used + messagesSize (take n l)) longestPdu) 0 (length l)
 

@@ -5,7 +5,7 @@ use mathlib.Core.List.{List, [], _∷_}
 use Prim.Native.Nat.{ℕ, _≤_, _<_, _^_}
 use lib.ListN.{length}
 use Rattle.octets.specs.Fields.{Fit}
-use Rattle.model.specs.Layout.{addressWidths, mostAddresses, cellWidths, nameWidths, portWidths, priorityBUnit, pruningUnit, resultWidths, slotWidths, slots}
+use Rattle.model.specs.Layout.{addressWidths, mostAddresses, cellWidths, nameWidths, portWidths, priorityBUnit, pruningUnit, resultWidths, slotWidths, slots, widthOf}
 use Rattle.model.specs.Lists.{All}
 use Rattle.model.specs.State.{Settings, Talker, noTalker, talker, Cell, Address, Own, Result, Stream, Totals, Bridge}
 use Rattle.model.specs.Registrations.{ids, macs}
@@ -60,7 +60,7 @@ pub record FitSettings (st : Settings) : Type 0 where
   pub ports : All (λ q. Fit portWidths (portNumbers q)) (st .ports)
 
 abbrev pub FitTotals : Totals → Type 0
-FitTotals t = (t .totalA < 256 ^ 5) × (t .totalB < 256 ^ 6)
+FitTotals t = (t .totalA < 256 ^ widthOf.totalA) × (t .totalB < 256 ^ widthOf.totalB)
 
 pub record FitBridge (b : Bridge) : Type 0 where
   pub settings : FitSettings (b .settings)

@@ -1,5 +1,5 @@
--- The layout of the lent table (docs/TABLE.md): the widths of its fields, and every size and place, computed from them. Numbers of
--- the layout stand here and in crate table's constants, and nowhere else.
+-- The layout of the lent table (docs/TABLE.md): the widths of its fields, and every size and place, computed from them. The code has
+-- them in crate table's constants.
 use Prim.Native.Nat.{ℕ, zero, suc, _+_, _-_, _*_, _^_}
 use mathlib.Core.List.{List, [], _∷_}
 
@@ -13,12 +13,15 @@ before zero ws = 0
 before (suc i) [] = 0
 before (suc i) (w ∷ ws) = w + before i ws
 
--- Widths of fields, in octets.
+-- Widths of fields, in octets; those by name that are asked for one by one.
+
+abbrev pub widthOf : record { bridgeId : ℕ; word : ℕ; vlan : ℕ; fanIn : ℕ; clock : ℕ; totalA : ℕ; totalB : ℕ; mac : ℕ; streamId : ℕ }
+widthOf = record { bridgeId = 8; word = 3; vlan = 2; fanIn = 1; clock = 4; totalA = 5; totalB = 6; mac = 6; streamId = 8 }
 
 -- settings: Bridge ID; one word of ports 4 bits, class priorities 3 and 3, leave time 14; talkerPruning 1 bit, with the VLAN of the
 -- Domain values declared; msrpMaxFanInPorts
 abbrev pub headWidths : List ℕ
-headWidths = 8 ∷ 3 ∷ 2 ∷ 1 ∷ []
+headWidths = widthOf.bridgeId ∷ widthOf.word ∷ widthOf.vlan ∷ widthOf.fanIn ∷ []
 
 -- a port's settings: flags (supports A, supports B, sends twice, five zeros), overhead, largest frame, limits, latencies
 abbrev pub portWidths : List ℕ
@@ -26,11 +29,11 @@ portWidths = 1 ∷ 1 ∷ 2 ∷ 5 ∷ 5 ∷ 4 ∷ 4 ∷ []
 
 -- clock, streams held
 abbrev pub clockWidths : List ℕ
-clockWidths = 4 ∷ 1 ∷ []
+clockWidths = widthOf.clock ∷ 1 ∷ []
 
 -- a port's totals of class A and class B; that of B may come up to both limits
 abbrev pub totalsWidths : List ℕ
-totalsWidths = 5 ∷ 6 ∷ []
+totalsWidths = widthOf.totalA ∷ widthOf.totalB ∷ []
 
 -- a Domain value of a port: registered, leaving, since, VLAN
 abbrev pub slotWidths : List ℕ
@@ -45,7 +48,7 @@ abbrev pub addressCountWidths : List ℕ
 addressCountWidths = 1 ∷ []
 
 abbrev pub addressWidths : List ℕ
-addressWidths = 1 ∷ 1 ∷ 4 ∷ 6 ∷ []
+addressWidths = 1 ∷ 1 ∷ 4 ∷ widthOf.mac ∷ []
 
 -- a Talker's fixed values: destination, VLAN, MaxFrameSize, MaxIntervalFrames, priority and rank
 abbrev pub fixedWidths : List ℕ
@@ -53,7 +56,7 @@ fixedWidths = 6 ∷ 2 ∷ 2 ∷ 2 ∷ 1 ∷ []
 
 -- a stream's StreamID and settled values
 abbrev pub nameWidths : List ℕ
-nameWidths = 8 ∷ fixedWidths
+nameWidths = widthOf.streamId ∷ fixedWidths
 
 -- leaving, since
 abbrev pub leavingWidths : List ℕ
@@ -154,102 +157,77 @@ recordSize = nameSize + cellsSize + resultsSize
 abbrev pub recordsSize : ℕ
 recordsSize = 64 * recordSize
 
--- Places in the table.
+-- Places in the settings, behind the Bridge ID: the word of ports, class priorities and leave time; talkerPruning and the Domain
+-- values' VLAN; msrpMaxFanInPorts.
 
--- the word of ports, class priorities and leave time; talkerPruning and the Domain values' VLAN; msrpMaxFanInPorts; the settings of
--- the ports
-abbrev pub wordPlace : ℕ
-wordPlace = before 1 headWidths
+abbrev pub inHead : record { word : ℕ; vlan : ℕ; fanIn : ℕ }
+inHead = record { word = before 1 headWidths; vlan = before 2 headWidths; fanIn = before 3 headWidths }
 
-abbrev pub domainVlanPlace : ℕ
-domainVlanPlace = before 2 headWidths
+-- Places in the table: the settings of the ports, the clock, the number of streams held, the totals, what the ports hold by
+-- themselves, the records.
 
-abbrev pub fanInPlace : ℕ
-fanInPlace = before 3 headWidths
-
-abbrev pub portsPlace : ℕ
-portsPlace = headSize
-
-abbrev pub clockPlace : ℕ
-clockPlace = settingsSize
-
-abbrev pub countPlace : ℕ
-countPlace = clockPlace + before 1 clockWidths
-
-abbrev pub totalsPlace : ℕ
-totalsPlace = clockPlace + clockSize
-
-abbrev pub ownsPlace : ℕ
-ownsPlace = totalsPlace + totalsSize
-
-abbrev pub recordsPlace : ℕ
-recordsPlace = ownsPlace + ownsSize
+abbrev pub inTable : record { ports : ℕ; clock : ℕ; count : ℕ; totals : ℕ; owns : ℕ; records : ℕ }
+inTable = record {
+  ports = headSize;
+  clock = settingsSize;
+  count = settingsSize + before 1 clockWidths;
+  totals = settingsSize + clockSize;
+  owns = settingsSize + clockSize + totalsSize;
+  records = settingsSize + clockSize + totalsSize + ownsSize;
+}
 
 abbrev pub tableLength : ℕ
-tableLength = recordsPlace + recordsSize
+tableLength = inTable.records + recordsSize
 
 -- the settings, the totals and what is held of the port at place p, the record of stream k
 abbrev pub portPlace : ℕ → ℕ
-portPlace p = portsPlace + p * portSize
+portPlace p = inTable.ports + p * portSize
 
 abbrev pub totalPlace : ℕ → ℕ
-totalPlace p = totalsPlace + p * totalSize
+totalPlace p = inTable.totals + p * totalSize
 
 abbrev pub ownPlace : ℕ → ℕ
-ownPlace p = ownsPlace + p * ownSize
+ownPlace p = inTable.owns + p * ownSize
 
 abbrev pub recordPlace : ℕ → ℕ
-recordPlace k = recordsPlace + k * recordSize
+recordPlace k = inTable.records + k * recordSize
 
--- Places in what a port holds by itself: the Domain value in slot i, the flags behind all; then how many addresses are held, and
--- address i.
+-- Places in what a port holds by itself: behind the Domain values the flags, then how many addresses are held, and the addresses.
 
+abbrev pub inOwn : record { boundaryA : ℕ; boundaryB : ℕ; count : ℕ; addresses : ℕ }
+inOwn = record {
+  boundaryA = slotsSize;
+  boundaryB = slotsSize + before 1 boundaryWidths;
+  count = slotsSize + sum boundaryWidths;
+  addresses = slotsSize + sum boundaryWidths + sum addressCountWidths;
+}
+
+-- the Domain value in slot i, and address i
 abbrev pub slotIn : ℕ → ℕ
 slotIn i = i * slotSize
 
-abbrev pub boundaryPlace : ℕ
-boundaryPlace = slotsSize
-
-abbrev pub boundaryBPlace : ℕ
-boundaryBPlace = boundaryPlace + before 1 boundaryWidths
-
-abbrev pub addressCountPlace : ℕ
-addressCountPlace = boundaryPlace + sum boundaryWidths
-
-abbrev pub addressesPlace : ℕ
-addressesPlace = addressCountPlace + sum addressCountWidths
-
 abbrev pub addressIn : ℕ → ℕ
-addressIn i = addressesPlace + i * addressSize
+addressIn i = inOwn.addresses + i * addressSize
 
 -- the Domain value in slot i of the port at place p
 abbrev pub slotPlace : ℕ → ℕ → ℕ
 slotPlace p i = ownPlace p + slotIn i
 
--- Places in a record: the settled values, the cells and the results.
+-- Places in a record: the settled values and their priority, the cells and the results.
 
-abbrev pub settledPlace : ℕ
-settledPlace = before 1 nameWidths
-
-abbrev pub settledPriorityPlace : ℕ
-settledPriorityPlace = before 5 nameWidths
-
-abbrev pub cellsPlace : ℕ
-cellsPlace = nameSize
-
-abbrev pub resultsPlace : ℕ
-resultsPlace = cellsPlace + cellsSize
+abbrev pub inRecord : record { settled : ℕ; priority : ℕ; cells : ℕ; results : ℕ }
+inRecord = record { settled = before 1 nameWidths; priority = before 5 nameWidths; cells = nameSize; results = nameSize + cellsSize }
 
 abbrev pub cellIn : ℕ → ℕ
-cellIn p = cellsPlace + p * cellSize
+cellIn p = inRecord.cells + p * cellSize
 
 abbrev pub resultIn : ℕ → ℕ
-resultIn p = resultsPlace + p * resultSize
+resultIn p = inRecord.results + p * resultSize
 
 -- Places in the table of stream k's settled values, and of its cell and its result on the port at place p.
 
 abbrev pub settledOf : ℕ → ℕ
-settledOf k = recordPlace k + settledPlace
+settledOf k = recordPlace k + inRecord.settled
 
 abbrev pub cellPlace : ℕ → ℕ → ℕ
 cellPlace k p = recordPlace k + cellIn p
@@ -269,177 +247,108 @@ inPort = record {
   latencyB = before 6 portWidths;
 }
 
-abbrev pub totalBPlace : ℕ
-totalBPlace = before 1 totalsWidths
+abbrev pub inTotals : record { totalB : ℕ }
+inTotals = record { totalB = before 1 totalsWidths }
 
--- Fields of a cell by their index among its numbers, and their places.
+-- Fields of a cell by their index among its numbers, and their places; the Talker's stand before the Listener's.
 
-abbrev pub talkerField : ℕ
-talkerField = 0
+pub record OfCell : Type 0 where
+  pub talker : ℕ
+  pub changed : ℕ
+  pub talkerLeaves : ℕ
+  pub talkerSince : ℕ
+  pub fixed : ℕ
+  pub vlan : ℕ
+  pub priority : ℕ
+  pub latency : ℕ
+  pub bridge : ℕ
+  pub code : ℕ
+  pub firstLatency : ℕ
+  pub listener : ℕ
+  pub listenerLeaves : ℕ
+  pub listenerSince : ℕ
 
-abbrev pub changedField : ℕ
-changedField = 1
+abbrev pub cellIndex : OfCell
+cellIndex = record {
+  talker = 0;
+  changed = 1;
+  talkerLeaves = 2;
+  talkerSince = 3;
+  fixed = 4;
+  vlan = 5;
+  priority = 8;
+  latency = 9;
+  bridge = 10;
+  code = 11;
+  firstLatency = 12;
+  listener = 13;
+  listenerLeaves = 14;
+  listenerSince = 15;
+}
 
-abbrev pub talkerLeavesField : ℕ
-talkerLeavesField = 2
+abbrev pub inCell : OfCell
+inCell = record {
+  talker = before cellIndex.talker cellWidths;
+  changed = before cellIndex.changed cellWidths;
+  talkerLeaves = before cellIndex.talkerLeaves cellWidths;
+  talkerSince = before cellIndex.talkerSince cellWidths;
+  fixed = before cellIndex.fixed cellWidths;
+  vlan = before cellIndex.vlan cellWidths;
+  priority = before cellIndex.priority cellWidths;
+  latency = before cellIndex.latency cellWidths;
+  bridge = before cellIndex.bridge cellWidths;
+  code = before cellIndex.code cellWidths;
+  firstLatency = before cellIndex.firstLatency cellWidths;
+  listener = before cellIndex.listener cellWidths;
+  listenerLeaves = before cellIndex.listenerLeaves cellWidths;
+  listenerSince = before cellIndex.listenerSince cellWidths;
+}
 
-abbrev pub talkerSinceField : ℕ
-talkerSinceField = 3
-
-abbrev pub fixedField : ℕ
-fixedField = 4
-
-abbrev pub vlanField : ℕ
-vlanField = 5
-
-abbrev pub priorityField : ℕ
-priorityField = 8
-
-abbrev pub latencyField : ℕ
-latencyField = 9
-
-abbrev pub bridgeField : ℕ
-bridgeField = 10
-
-abbrev pub codeField : ℕ
-codeField = 11
-
-abbrev pub firstLatencyField : ℕ
-firstLatencyField = 12
-
-abbrev pub listenerField : ℕ
-listenerField = 13
-
-abbrev pub listenerLeavesField : ℕ
-listenerLeavesField = 14
-
-abbrev pub listenerSinceField : ℕ
-listenerSinceField = 15
-
--- all of them; a Talker's are those before the Listener's
+-- all fields of a cell, and the octets of its Listener's
 abbrev pub cellFields : ℕ
 cellFields = 16
 
-abbrev pub talkerPlace : ℕ
-talkerPlace = before talkerField cellWidths
-
-abbrev pub changedPlace : ℕ
-changedPlace = before changedField cellWidths
-
-abbrev pub talkerLeavesPlace : ℕ
-talkerLeavesPlace = before talkerLeavesField cellWidths
-
-abbrev pub talkerSincePlace : ℕ
-talkerSincePlace = before talkerSinceField cellWidths
-
-abbrev pub fixedPlace : ℕ
-fixedPlace = before fixedField cellWidths
-
-abbrev pub vlanPlace : ℕ
-vlanPlace = before vlanField cellWidths
-
-abbrev pub priorityPlace : ℕ
-priorityPlace = before priorityField cellWidths
-
-abbrev pub latencyPlace : ℕ
-latencyPlace = before latencyField cellWidths
-
-abbrev pub bridgePlace : ℕ
-bridgePlace = before bridgeField cellWidths
-
-abbrev pub codePlace : ℕ
-codePlace = before codeField cellWidths
-
-abbrev pub firstLatencyPlace : ℕ
-firstLatencyPlace = before firstLatencyField cellWidths
-
--- the Talker stands before the Listener
-abbrev pub listenerPlace : ℕ
-listenerPlace = before listenerField cellWidths
-
 abbrev pub listenerSize : ℕ
-listenerSize = cellSize - listenerPlace
-
-abbrev pub listenerLeavesPlace : ℕ
-listenerLeavesPlace = before listenerLeavesField cellWidths
-
-abbrev pub listenerSincePlace : ℕ
-listenerSincePlace = before listenerSinceField cellWidths
+listenerSize = cellSize - inCell.listener
 
 -- Fields of a result by their index among its numbers, and their places.
 
-abbrev pub columnField : ℕ
-columnField = 0
+pub record OfResult : Type 0 where
+  pub column : ℕ
+  pub latency : ℕ
+  pub bridge : ℕ
+  pub code : ℕ
+  pub entry : ℕ
+  pub age : ℕ
+  pub declared : ℕ
 
-abbrev pub latencyOutField : ℕ
-latencyOutField = 1
+abbrev pub resultIndex : OfResult
+resultIndex = record { column = 0; latency = 1; bridge = 2; code = 3; entry = 4; age = 5; declared = 6 }
 
-abbrev pub failureField : ℕ
-failureField = 2
+abbrev pub inResult : OfResult
+inResult = record {
+  column = before resultIndex.column resultWidths;
+  latency = before resultIndex.latency resultWidths;
+  bridge = before resultIndex.bridge resultWidths;
+  code = before resultIndex.code resultWidths;
+  entry = before resultIndex.entry resultWidths;
+  age = before resultIndex.age resultWidths;
+  declared = before resultIndex.declared resultWidths;
+}
 
-abbrev pub failureCodeField : ℕ
-failureCodeField = 3
+-- Fields of a Domain value and of an address by their index among their numbers, and those places in them that are not the first.
 
-abbrev pub entryField : ℕ
-entryField = 4
+abbrev pub slotIndex : record { registered : ℕ; leaves : ℕ; since : ℕ; vlan : ℕ }
+slotIndex = record { registered = 0; leaves = 1; since = 2; vlan = 3 }
 
-abbrev pub ageField : ℕ
-ageField = 5
+abbrev pub inSlot : record { leaves : ℕ; vlan : ℕ }
+inSlot = record { leaves = before slotIndex.leaves slotWidths; vlan = before slotIndex.vlan slotWidths }
 
-abbrev pub declaredField : ℕ
-declaredField = 6
+abbrev pub addressIndex : record { registered : ℕ; leaves : ℕ; since : ℕ; mac : ℕ }
+addressIndex = record { registered = 0; leaves = 1; since = 2; mac = 3 }
 
-abbrev pub columnPlace : ℕ
-columnPlace = before columnField resultWidths
-
-abbrev pub latencyOutPlace : ℕ
-latencyOutPlace = before latencyOutField resultWidths
-
-abbrev pub failurePlace : ℕ
-failurePlace = before failureField resultWidths
-
-abbrev pub failureCodePlace : ℕ
-failureCodePlace = before failureCodeField resultWidths
-
-abbrev pub entryPlace : ℕ
-entryPlace = before entryField resultWidths
-
-abbrev pub agePlace : ℕ
-agePlace = before ageField resultWidths
-
-abbrev pub declaredPlace : ℕ
-declaredPlace = before declaredField resultWidths
-
--- Fields of a Domain value by their index among its numbers, and their places.
-
-abbrev pub slotRegisteredField : ℕ
-slotRegisteredField = 0
-
-abbrev pub slotLeavesField : ℕ
-slotLeavesField = 1
-
-abbrev pub slotSinceField : ℕ
-slotSinceField = 2
-
-abbrev pub slotVlanField : ℕ
-slotVlanField = 3
-
-abbrev pub slotLeavesPlace : ℕ
-slotLeavesPlace = before slotLeavesField slotWidths
-
-abbrev pub slotVlanPlace : ℕ
-slotVlanPlace = before slotVlanField slotWidths
-
--- Fields of an address record by their index among its numbers, and their places.
-
-abbrev pub inAddress : record { registered : ℕ; leaves : ℕ; since : ℕ; mac : ℕ }
-inAddress = record { registered = 0; leaves = 1; since = 2; mac = 3 }
-
-abbrev pub addressLeavesPlace : ℕ
-addressLeavesPlace = before (inAddress .leaves) addressWidths
-
-abbrev pub macPlace : ℕ
-macPlace = before (inAddress .mac) addressWidths
+abbrev pub inAddress : record { leaves : ℕ; mac : ℕ }
+inAddress = record { leaves = before addressIndex.leaves addressWidths; mac = before addressIndex.mac addressWidths }
 
 -- The unit of talkerPruning in its field, above the VLAN.
 abbrev pub pruningUnit : ℕ

@@ -152,7 +152,7 @@ unfoldable pub remainAddresses : Settings → ℕ → List Address → List Addr
 remainAddresses st now [] = []
 remainAddresses st now (a ∷ l) = keep (outlasts st now (a .presence)) a (remainAddresses st now l)
 
--- an address that a port holds, "leaving ones included"
+-- an address that a port holds; one that is leaving is held too
 unfoldable pub holdsAddress : ℕ → List Address → Bool
 holdsAddress m [] = false
 holdsAddress m (a ∷ l) = eqb m (a .mac) || holdsAddress m l

@@ -1,6 +1,7 @@
 -- The lent table and the settings, as octets and back, and the rules of their form (docs/TABLE.md; 01, "Numbers given back":
--- 11 and 12). A table is: settings, clock, streams held, totals of eight ports, 64 stream records. A stream record is: StreamID,
--- settled values, eight cells, eight results. What is not used is zero. The number behind a rule is its number in docs/TABLE.md.
+-- 11 and 12). A table is: settings, clock, streams held, totals of eight ports, what each of them holds by itself, 64 stream records.
+-- A stream record is: StreamID, settled values, eight cells, eight results. What is not used is zero. The number behind a rule is its
+-- number in docs/TABLE.md.
 use mathlib.Core.List.{List, [], _∷_, _++_}
 use mathlib.Core.Bool.{Bool, true, false, cond, not, _&&_, _||_}
 use Prim.Native.Nat.{ℕ, zero, suc, _+_, _*_, _-_, _/_, _%_}
@@ -9,7 +10,7 @@ use lib.Dec.{ltb, leb, eqb}
 use Rattle.octets.specs.Be.{beAt}
 use Rattle.octets.specs.Parts.{part, zeros}
 use Rattle.octets.specs.Fields.{fields, packed, flat}
-use Rattle.model.specs.Layout.{addressSize, addressWidths, mostAddresses, addressesPlace, ageField, boundaryBPlace, boundaryPlace, boundaryWidths, bridgeField, cellFields, cellSize, cellWidths, cellsPlace, cellsSize, changedField, clockPlace, clockWidths, codeField, columnField, countPlace, declaredField, domainVlanPlace, entryField, failureCodeField, failureField, firstLatencyField, fixedField, headWidths, slotRegisteredField, addressCountPlace, addressCountWidths, inAddress, latencyField, latencyOutField, listenerField, listenerLeavesField, listenerPlace, listenerSinceField, macPlace, nameWidths, ownSize, ownsPlace, ownsSize, portPlace, portSize, portWidths, portsPlace, portsUnit, priorityAUnit, priorityBUnit, priorityField, pruningUnit, recordSize, recordsPlace, resultSize, resultWidths, resultsPlace, resultsSize, settingsSize, settledPriorityPlace, slotLeavesField, slotSinceField, slotSize, slotVlanField, slotWidths, slots, slotsSize, tableLength, talkerField, talkerLeavesField, talkerSinceField, totalBPlace, totalSize, totalsPlace, totalsSize, totalsWidths, wordPlace, fanInPlace}
+use Rattle.model.specs.Layout.{widthOf, addressSize, addressWidths, mostAddresses, inOwn, resultIndex, boundaryWidths, cellIndex, cellFields, cellSize, cellWidths, inRecord, cellsSize, inTable, clockWidths, inHead, headWidths, slotIndex, addressCountWidths, addressIndex, inCell, inAddress, nameWidths, ownSize, ownsSize, portPlace, portSize, portWidths, portsUnit, priorityAUnit, priorityBUnit, pruningUnit, recordSize, resultSize, resultWidths, resultsSize, settingsSize, slotSize, slotWidths, slots, slotsSize, tableLength, inTotals, totalSize, totalsSize, totalsWidths}
 use Rattle.model.specs.Lists.{allTrue, implies, parts, bit, isOne}
 use Rattle.model.specs.State.{Port, Settings, Leaving, stays, since, Fixed, TalkerType, talkerAdvertise, talkerFailed, Registration, Talker, noTalker, talker, Domain, noDomain, domain, Presence, vacant, present, Address, Own, Ready, askingFailed, ready, readyFailed, Listener, noListener, listener, Cell, Column, none, advertise, failed, Entry, noEntry, filters, forwards, Declared, nothing, tells, Result, Stream, Totals, Bridge, classB, inForce}
 use Rattle.model.specs.Settling.{isTalking, isHearing}
@@ -57,19 +58,26 @@ headNumbers st = st .bridgeId ∷ headWord st ∷ vlanWord st ∷ st .fanIn ∷ 
 unfoldable pub settingsOctets : Settings → List ℕ
 settingsOctets st = packed headWidths (headNumbers st) ++ flat portOctets (st .ports)
 
+-- the field of ports, class priorities and leave time, and that of talkerPruning and VLAN
+abbrev pub wordField : List ℕ → ℕ
+wordField s = beAt widthOf.word s inHead.word
+
+abbrev pub vlanField : List ℕ → ℕ
+vlanField s = beAt widthOf.vlan s inHead.vlan
+
 unfoldable pub portsField : List ℕ → ℕ
-portsField s = beAt 3 s wordPlace / portsUnit
+portsField s = wordField s / portsUnit
 
 unfoldable pub toSettings : List ℕ → Settings
 toSettings s = record {
-  bridgeId = beAt 8 s 0;
-  priorityA = beAt 3 s wordPlace / priorityAUnit % 8;
-  priorityB = beAt 3 s wordPlace / priorityBUnit % 8;
-  leaveTime = beAt 3 s wordPlace % priorityBUnit;
-  pruning = isOne (beAt 2 s domainVlanPlace / pruningUnit);
-  vlan = beAt 2 s domainVlanPlace % pruningUnit;
-  fanIn = beAt 1 s fanInPlace;
-  ports = parts portSize toPort (portsField s) (drop portsPlace s);
+  bridgeId = beAt widthOf.bridgeId s 0;
+  priorityA = wordField s / priorityAUnit % 8;
+  priorityB = wordField s / priorityBUnit % 8;
+  leaveTime = wordField s % priorityBUnit;
+  pruning = isOne (vlanField s / pruningUnit);
+  vlan = vlanField s % pruningUnit;
+  fanIn = beAt widthOf.fanIn s inHead.fanIn;
+  ports = parts portSize toPort (portsField s) (drop inTable.ports s);
 }
 
 -- "zero 5": the five bits after a port's flags
@@ -85,16 +93,17 @@ unfoldable pub settingsRules : List ℕ → List Bool
 settingsRules s =
     leb 1 (portsField s)  -- 2
     ∷ leb (portsField s) 8  -- 2
-    ∷ not (eqb (beAt 3 s wordPlace / priorityAUnit % 8) (beAt 3 s wordPlace / priorityBUnit % 8))  -- 3
-    ∷ leb 1 (beAt 3 s wordPlace % priorityBUnit)  -- 4
-    ∷ everyPart portSize portRule (portsField s) (drop portsPlace s)  -- 5
-    ∷ leb 1 (beAt 2 s domainVlanPlace % pruningUnit)  -- 30
-    ∷ leb (beAt 2 s domainVlanPlace % pruningUnit) 4094  -- 30
-    ∷ leb (beAt 1 s fanInPlace) 8  -- 36
+    ∷ not (eqb (wordField s / priorityAUnit % 8) (wordField s / priorityBUnit % 8))  -- 3
+    ∷ leb 1 (wordField s % priorityBUnit)  -- 4
+    ∷ everyPart portSize portRule (portsField s) (drop inTable.ports s)  -- 5
+    ∷ leb 1 (vlanField s % pruningUnit)  -- 30
+    ∷ leb (vlanField s % pruningUnit) 4094  -- 30
+    ∷ leb (beAt widthOf.fanIn s inHead.fanIn) 8  -- 36
     ∷ []
 
--- 11: settings "Length 14 + 22 x ports", and as laid out; 02: "11 where the VLAN setting is 0 or 4,095, or one of the upper four
--- bits is set", but for talkerPruning, "the top bit .., which 11 then allows"; "11 for a limit above 8"
+-- 11: settings as long as their head and their ports (01: "Length 11 + 22 x ports"; 02's settings are three octets more), and as laid
+-- out; 02: "11 where the VLAN setting is 0 or 4,095, or one of the upper four bits is set", but for talkerPruning, "the top bit ..,
+-- which 11 then allows"; "11 for a limit above 8"
 unfoldable pub settingsFormed : List ℕ → Bool
 settingsFormed s = eqb (length s) (portPlace (portsField s)) && allTrue (settingsRules s)
 
@@ -127,14 +136,14 @@ unfoldable pub toTalkerType : ℕ → ℕ → ℕ → TalkerType
 toTalkerType k b c = cond (eqb k 1) talkerAdvertise (talkerFailed b c)
 
 unfoldable pub talkerNumbers : Talker → List ℕ
-talkerNumbers noTalker = replicate listenerField 0
+talkerNumbers noTalker = replicate cellIndex.listener 0
 talkerNumbers (talker r) =
     let v = r .varying in
     talkerTypeNumber (v .type) ∷ bit (r .changed) ∷ leavingNumber (r .leaving) ∷ sinceNumber (r .leaving)
     ∷ (fixedNumbers (r .fixed) ++ (v .latency ∷ bridgeNumber (v .type) ∷ codeNumber (v .type) ∷ r .firstLatency ∷ []))
 
 unfoldable pub listenerNumbers : Listener → List ℕ
-listenerNumbers noListener = replicate (cellFields - listenerField) 0
+listenerNumbers noListener = replicate (cellFields - cellIndex.listener) 0
 listenerNumbers (listener r l) = readyNumber r ∷ leavingNumber l ∷ sinceNumber l ∷ []
 
 unfoldable pub cellNumbers : Cell → List ℕ
@@ -156,20 +165,20 @@ toReady k = cond (eqb k 1) askingFailed (cond (eqb k 2) ready readyFailed)
 
 unfoldable pub registrationFrom : List ℕ → Registration
 registrationFrom vs = record {
-  fixed = fixedFrom fixedField vs;
-  varying = record { type = toTalkerType (getD vs talkerField 0) (getD vs bridgeField 0) (getD vs codeField 0); latency = getD vs latencyField 0 };
-  firstLatency = getD vs firstLatencyField 0;
-  changed = isOne (getD vs changedField 0);
-  leaving = toLeaving (getD vs talkerLeavesField 0) (getD vs talkerSinceField 0);
+  fixed = fixedFrom cellIndex.fixed vs;
+  varying = record { type = toTalkerType (getD vs cellIndex.talker 0) (getD vs cellIndex.bridge 0) (getD vs cellIndex.code 0); latency = getD vs cellIndex.latency 0 };
+  firstLatency = getD vs cellIndex.firstLatency 0;
+  changed = isOne (getD vs cellIndex.changed 0);
+  leaving = toLeaving (getD vs cellIndex.talkerLeaves 0) (getD vs cellIndex.talkerSince 0);
 }
 
 unfoldable pub talkerFrom : List ℕ → Talker
-talkerFrom vs = cond (eqb (getD vs talkerField 0) 0) noTalker (talker (registrationFrom vs))
+talkerFrom vs = cond (eqb (getD vs cellIndex.talker 0) 0) noTalker (talker (registrationFrom vs))
 
 unfoldable pub listenerFrom : List ℕ → Listener
 listenerFrom vs =
-    cond (eqb (getD vs listenerField 0) 0) noListener
-    (listener (toReady (getD vs listenerField 0)) (toLeaving (getD vs listenerLeavesField 0) (getD vs listenerSinceField 0)))
+    cond (eqb (getD vs cellIndex.listener 0) 0) noListener
+    (listener (toReady (getD vs cellIndex.listener 0)) (toLeaving (getD vs cellIndex.listenerLeaves 0) (getD vs cellIndex.listenerSince 0)))
 
 unfoldable pub cellFrom : List ℕ → Cell
 cellFrom vs = record { talks = talkerFrom vs; hears = listenerFrom vs }
@@ -198,15 +207,15 @@ leavingRule clock leave k t =
 unfoldable pub cellRules : ℕ → ℕ → List ℕ → List Bool
 cellRules clock leave vs =
     let at : ℕ → ℕ = λ i. getD vs i 0 in
-    leb (at talkerField) 2  -- 14
-    ∷ leb (at changedField) 1  -- 15
-    ∷ leavingRule clock leave (at talkerLeavesField) (at talkerSinceField)  -- 16
-    ∷ eqb (at priorityField % 16) 0  -- 17
-    ∷ implies (eqb (at talkerField) 0) (allZero (between changedField listenerField vs))  -- 18
-    ∷ implies (eqb (at talkerField) 1) (allZero (at bridgeField ∷ at codeField ∷ []))  -- 19
-    ∷ leb (at listenerField) 3  -- 14
-    ∷ leavingRule clock leave (at listenerLeavesField) (at listenerSinceField)  -- 16
-    ∷ implies (eqb (at listenerField) 0) (allZero (at listenerLeavesField ∷ at listenerSinceField ∷ []))  -- 18
+    leb (at cellIndex.talker) 2  -- 14
+    ∷ leb (at cellIndex.changed) 1  -- 15
+    ∷ leavingRule clock leave (at cellIndex.talkerLeaves) (at cellIndex.talkerSince)  -- 16
+    ∷ eqb (at cellIndex.priority % 16) 0  -- 17
+    ∷ implies (eqb (at cellIndex.talker) 0) (allZero (between cellIndex.changed cellIndex.listener vs))  -- 18
+    ∷ implies (eqb (at cellIndex.talker) 1) (allZero (at cellIndex.bridge ∷ at cellIndex.code ∷ []))  -- 19
+    ∷ leb (at cellIndex.listener) 3  -- 14
+    ∷ leavingRule clock leave (at cellIndex.listenerLeaves) (at cellIndex.listenerSince)  -- 16
+    ∷ implies (eqb (at cellIndex.listener) 0) (allZero (at cellIndex.listenerLeaves ∷ at cellIndex.listenerSince ∷ []))  -- 18
     ∷ []
 
 unfoldable pub cellFormed : ℕ → ℕ → List ℕ → Bool
@@ -272,15 +281,15 @@ toResult s = resultFrom (fields resultWidths 0 s)
 unfoldable pub resultRules : ℕ → List ℕ → List Bool
 resultRules clock vs =
     let at : ℕ → ℕ = λ i. getD vs i 0 in
-    leb (at columnField) 2  -- 20
-    ∷ implies (eqb (at columnField) 0) (eqb (at latencyOutField) 0)  -- 21
-    ∷ implies (leb (at columnField) 1) (allZero (at failureField ∷ at failureCodeField ∷ []))  -- 22
-    ∷ leb (at entryField) 2  -- 20
-    ∷ implies (not (eqb (at columnField) 0)) (leb 1 (at entryField))  -- 23
-    ∷ implies (not (eqb (at columnField) 1)) (leb (at entryField) 1)  -- 23
-    ∷ implies (eqb (at entryField) 0) (eqb (at ageField) 0)  -- 24
-    ∷ leb (at ageField) (clock / 100)  -- 24
-    ∷ leb (at declaredField) 3  -- 20
+    leb (at resultIndex.column) 2  -- 20
+    ∷ implies (eqb (at resultIndex.column) 0) (eqb (at resultIndex.latency) 0)  -- 21
+    ∷ implies (leb (at resultIndex.column) 1) (allZero (at resultIndex.bridge ∷ at resultIndex.code ∷ []))  -- 22
+    ∷ leb (at resultIndex.entry) 2  -- 20
+    ∷ implies (not (eqb (at resultIndex.column) 0)) (leb 1 (at resultIndex.entry))  -- 23
+    ∷ implies (not (eqb (at resultIndex.column) 1)) (leb (at resultIndex.entry) 1)  -- 23
+    ∷ implies (eqb (at resultIndex.entry) 0) (eqb (at resultIndex.age) 0)  -- 24
+    ∷ leb (at resultIndex.age) (clock / 100)  -- 24
+    ∷ leb (at resultIndex.declared) 3  -- 20
     ∷ []
 
 unfoldable pub resultFormed : ℕ → List ℕ → Bool
@@ -294,14 +303,14 @@ streamOctets x =
     ++ (flat cellOctets (x .cells) ++ flat resultOctets (x .results))
 
 unfoldable pub cellsPart : List ℕ → List ℕ
-cellsPart s = part cellsPlace cellsSize s
+cellsPart s = part inRecord.cells cellsSize s
 
 unfoldable pub resultsPart : List ℕ → List ℕ
-resultsPart s = part resultsPlace resultsSize s
+resultsPart s = part inRecord.results resultsSize s
 
 unfoldable pub toStream : List ℕ → Stream
 toStream s = record {
-  id = beAt 8 s 0;
+  id = beAt widthOf.streamId s 0;
   settled = fixedFrom 1 (fields nameWidths 0 s);
   cells = parts cellSize toCell 8 (cellsPart s);
   results = parts resultSize toResult 8 (resultsPart s);
@@ -310,7 +319,7 @@ toStream s = record {
 -- some port has a registration: a kind that is not 0, of a Talker or of a Listener
 unfoldable pub holds : ℕ → List ℕ → Bool
 holds zero s = false
-holds (suc k) s = not (eqb (getD s 0 0) 0) || not (eqb (getD s listenerPlace 0) 0) || holds k (drop cellSize s)
+holds (suc k) s = not (eqb (getD s 0 0) 0) || not (eqb (getD s inCell.listener 0) 0) || holds k (drop cellSize s)
 
 -- What the last advance stored, beside the registrations: only advance removes one, and then decides anew.
 
@@ -366,7 +375,7 @@ unfoldable pub streamRules : ℕ → ℕ → ℕ → List ℕ → List Bool
 streamRules ports clock leave s =
     let x = toStream s in
     let n = talkers ports (x .cells) in
-    eqb (getD s settledPriorityPlace 0 % 16) 0  -- 11
+    eqb (getD s inRecord.priority 0 % 16) 0  -- 11
     ∷ implies (eqb n 0) (allZero (drop 1 (fields nameWidths 0 s)))  -- 25
     ∷ everyPart cellSize (cellFormed clock leave) ports (cellsPart s)  -- 14 to 19
     ∷ holds ports (cellsPart s)  -- 12
@@ -389,8 +398,8 @@ domainNumbers (domain v l) = 1 ∷ leavingNumber l ∷ sinceNumber l ∷ v ∷ [
 
 unfoldable pub domainFrom : List ℕ → Domain
 domainFrom vs =
-    cond (eqb (getD vs slotRegisteredField 0) 0) noDomain
-    (domain (getD vs slotVlanField 0) (toLeaving (getD vs slotLeavesField 0) (getD vs slotSinceField 0)))
+    cond (eqb (getD vs slotIndex.registered 0) 0) noDomain
+    (domain (getD vs slotIndex.vlan 0) (toLeaving (getD vs slotIndex.leaves 0) (getD vs slotIndex.since 0)))
 
 unfoldable pub domainOctets : Domain → List ℕ
 domainOctets d = packed slotWidths (domainNumbers d)
@@ -402,9 +411,9 @@ toDomain s = domainFrom (fields slotWidths 0 s)
 unfoldable pub domainRules : ℕ → ℕ → List ℕ → List Bool
 domainRules clock leave vs =
     let at : ℕ → ℕ = λ i. getD vs i 0 in
-    leb (at slotRegisteredField) 1  -- 31
-    ∷ leavingRule clock leave (at slotLeavesField) (at slotSinceField)  -- 32
-    ∷ implies (eqb (at slotRegisteredField) 0) (allZero (at slotLeavesField ∷ at slotSinceField ∷ at slotVlanField ∷ []))  -- 33
+    leb (at slotIndex.registered) 1  -- 31
+    ∷ leavingRule clock leave (at slotIndex.leaves) (at slotIndex.since)  -- 32
+    ∷ implies (eqb (at slotIndex.registered) 0) (allZero (at slotIndex.leaves ∷ at slotIndex.since ∷ at slotIndex.vlan ∷ []))  -- 33
     ∷ []
 
 unfoldable pub domainFormed : ℕ → ℕ → List ℕ → Bool
@@ -419,10 +428,10 @@ addressNumbers a = presenceNumbers (a .presence) ++ (a .mac ∷ [])
 
 unfoldable pub addressFrom : List ℕ → Address
 addressFrom vs = record {
-  mac = getD vs (inAddress .mac) 0;
+  mac = getD vs (addressIndex .mac) 0;
   presence =
-      cond (eqb (getD vs (inAddress .registered) 0) 0) vacant
-      (present (toLeaving (getD vs (inAddress .leaves) 0) (getD vs (inAddress .since) 0)));
+      cond (eqb (getD vs (addressIndex .registered) 0) 0) vacant
+      (present (toLeaving (getD vs (addressIndex .leaves) 0) (getD vs (addressIndex .since) 0)));
 }
 
 unfoldable pub addressOctets : Address → List ℕ
@@ -435,8 +444,8 @@ toAddress s = addressFrom (fields addressWidths 0 s)
 unfoldable pub addressRules : ℕ → ℕ → List ℕ → List Bool
 addressRules clock leave vs =
     let at : ℕ → ℕ = λ i. getD vs i 0 in
-    eqb (at (inAddress .registered)) 1  -- 38
-    ∷ leavingRule clock leave (at (inAddress .leaves)) (at (inAddress .since))  -- 39
+    eqb (at (addressIndex .registered)) 1  -- 38
+    ∷ leavingRule clock leave (at (addressIndex .leaves)) (at (addressIndex .since))  -- 39
     ∷ []
 
 unfoldable pub addressFormed : ℕ → ℕ → List ℕ → Bool
@@ -453,16 +462,16 @@ unfoldable pub slotsPart : List ℕ → List ℕ
 slotsPart s = part 0 slotsSize s
 
 unfoldable pub addressesHeld : List ℕ → ℕ
-addressesHeld s = getD s addressCountPlace 0
+addressesHeld s = getD s inOwn.count 0
 
 unfoldable pub addressesPart : List ℕ → List ℕ
-addressesPart s = drop addressesPlace s
+addressesPart s = drop inOwn.addresses s
 
 unfoldable pub toOwn : List ℕ → Own
 toOwn s = record {
   domains = parts slotSize toDomain slots (slotsPart s);
-  boundaryA = isOne (getD s boundaryPlace 0);
-  boundaryB = isOne (getD s boundaryBPlace 0);
+  boundaryA = isOne (getD s inOwn.boundaryA 0);
+  boundaryB = isOne (getD s inOwn.boundaryB 0);
   addresses = parts addressSize toAddress (addressesHeld s) (addressesPart s);
 }
 
@@ -473,14 +482,14 @@ rising (i ∷ []) = true
 rising (i ∷ j ∷ l) = ltb i j && rising (j ∷ l)
 
 unfoldable pub macOf : List ℕ → ℕ
-macOf s = beAt 6 s macPlace
+macOf s = beAt widthOf.mac s inAddress.mac
 
 unfoldable pub ownRules : ℕ → ℕ → List ℕ → List Bool
 ownRules clock leave s =
     let n = addressesHeld s in
     everyPart slotSize (domainFormed clock leave) slots (slotsPart s)  -- 31 to 33
-    ∷ leb (getD s boundaryPlace 0) 1  -- 34
-    ∷ leb (getD s boundaryBPlace 0) 1  -- 34
+    ∷ leb (getD s inOwn.boundaryA 0) 1  -- 34
+    ∷ leb (getD s inOwn.boundaryB 0) 1  -- 34
     ∷ leb n mostAddresses  -- 37
     ∷ everyPart addressSize (addressFormed clock leave) n (addressesPart s)  -- 38, 39
     ∷ rising (parts addressSize macOf n (addressesPart s))  -- 40
@@ -496,7 +505,7 @@ unfoldable pub totalsOctets : Totals → List ℕ
 totalsOctets t = packed totalsWidths (t .totalA ∷ t .totalB ∷ [])
 
 unfoldable pub toTotals : List ℕ → Totals
-toTotals s = record { totalA = beAt 5 s 0; totalB = beAt 6 s totalBPlace }
+toTotals s = record { totalA = beAt widthOf.totalA s 0; totalB = beAt widthOf.totalB s inTotals.totalB }
 
 unfoldable pub encode : Bridge → List ℕ
 encode b =
@@ -512,19 +521,19 @@ unfoldable pub settingsPart : List ℕ → List ℕ
 settingsPart t = part 0 settingsSize t
 
 unfoldable pub clockField : List ℕ → ℕ
-clockField t = beAt 4 t clockPlace
+clockField t = beAt widthOf.clock t inTable.clock
 
 unfoldable pub countField : List ℕ → ℕ
-countField t = getD t countPlace 0
+countField t = getD t inTable.count 0
 
 unfoldable pub totalsPart : List ℕ → List ℕ
-totalsPart t = part totalsPlace totalsSize t
+totalsPart t = part inTable.totals totalsSize t
 
 unfoldable pub ownsPart : List ℕ → List ℕ
-ownsPart t = part ownsPlace ownsSize t
+ownsPart t = part inTable.owns ownsSize t
 
 unfoldable pub recordsPart : List ℕ → List ℕ
-recordsPart t = drop recordsPlace t
+recordsPart t = drop inTable.records t
 
 unfoldable pub decode : List ℕ → Bridge
 decode t = record {
@@ -536,7 +545,7 @@ decode t = record {
 }
 
 unfoldable pub idOf : List ℕ → ℕ
-idOf s = beAt 8 s 0
+idOf s = beAt widthOf.streamId s 0
 
 -- what a class total may be: the limit in force, where some stream is held and the port supports the class
 unfoldable pub atMost : Bool → Bool → ℕ → ℕ
@@ -555,7 +564,7 @@ unfoldable pub tableRules : List ℕ → List Bool
 tableRules t =
     let s = settingsPart t in
     let n = countField t in
-    allTrue (settingsRules s)  -- 2 to 5
+    allTrue (settingsRules s)  -- 2 to 5, 30, 36
     ∷ allZero (drop (portPlace (portsField s)) s)  -- 6
     ∷ totalsWithin (leb 1 n) (parts totalSize toTotals 8 (totalsPart t)) (toSettings s .ports)  -- 7, 29
     ∷ everyPart ownSize (ownFormed (clockField t) (toSettings s .leaveTime)) (portsField s) (ownsPart t)  -- 31 to 34, 37 to 41

@@ -7,7 +7,7 @@ use lib.ListN.{length, getD, getD-replicate, List·getD-eq-default}
 use borrow.Author.Tests.{le-ltb}
 use Rattle.octets.specs.Be.{beAt}
 use Rattle.octets.specs.Fields.{fields}
-use Rattle.model.specs.Layout.{declaredPlace, entryPlace, failureCodePlace, inPort, totalBPlace}
+use Rattle.model.specs.Layout.{inResult, inPort, inTotals}
 use Rattle.model.specs.State.{Port, Column, none, advertise, failed, Result, Totals, Bridge, resultAt, streamAt, unsettled, fresh}
 use Rattle.model.specs.Reports.{wordOf, codeOf, report}
 use Rattle.model.specs.Table.{portFrom, toPort, columnNumber, columnCode, toColumn, toEntry, toDeclared, toTotals}
@@ -39,13 +39,13 @@ module _ {s : List ℕ} {r : Result} (w : ReadsResult s r) where
   pub column-shown : wordOf (toColumn (getD s 0 0) 0 0) ≡ wordOf (r .column)
   column-shown = ap (λ (n : ℕ). wordOf (toColumn n 0 0)) (column-octet w) ∙ word-back (r .column)
 
-  pub code-shown : getD s failureCodePlace 0 ≡ codeOf (r .column)
+  pub code-shown : getD s inResult.code 0 ≡ codeOf (r .column)
   code-shown = code-octet w ∙ code-back (r .column)
 
-  pub entry-shown : toEntry (getD s entryPlace 0) ≡ r .entry
+  pub entry-shown : toEntry (getD s inResult.entry 0) ≡ r .entry
   entry-shown = ap toEntry (entry-octet w) ∙ entry-back (r .entry)
 
-  pub listener-shown : toDeclared (getD s declaredPlace 0) ≡ r .declares
+  pub listener-shown : toDeclared (getD s inResult.declared 0) ≡ r .declares
   listener-shown = ap toDeclared (declared-octet w) ∙ declared-back (r .declares)
 
 -- A port's totals and limits.
@@ -55,7 +55,7 @@ module _ {s : List ℕ} {t : Totals} (w : ReadsTotals s t) where
   unfolding toTotals
   total-a-shown = ap (λ (u : Totals). u .totalA) (w .is)
 
-  pub total-b-shown : beAt 6 s totalBPlace ≡ t .totalB
+  pub total-b-shown : beAt 6 s inTotals.totalB ≡ t .totalB
   unfolding toTotals
   total-b-shown = ap (λ (u : Totals). u .totalB) (w .is)
 

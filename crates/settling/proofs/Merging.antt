@@ -12,7 +12,7 @@ use Rattle.octets.specs.Be.{be}
 use Rattle.octets.specs.Parts.{patch}
 use Rattle.octets.specs.Fields.{Fit, width}
 use Rattle.octets.proofs.Fields.{put-field}
-use Rattle.model.specs.Layout.{declaredPlace, resultPlace, resultSize, resultWidths}
+use Rattle.model.specs.Layout.{inResult, resultPlace, resultSize, resultWidths}
 use Rattle.model.specs.Lists.{tabulate}
 use Rattle.model.specs.State.{askingFailed, ready, readyFailed, Column, none, advertise, failed, Declared, nothing, tells, Result, Stream, unsettled, cellAt, resultAt, streamAt}
 use Rattle.model.specs.WrittenFrames.{readyNumber}
@@ -132,11 +132,11 @@ merged-all x = refl
 
 -- The declared Listener's octet.
 
-pub declaring-octets : (s : List ℕ) → LaidResult s → (n : ℕ) (d : Declared) → n ≡ declaredNumber d → patch declaredPlace 1 (be 1 n) s ≡ resultOctets (declaring d (toResult s))
+pub declaring-octets : (s : List ℕ) → LaidResult s → (n : ℕ) (d : Declared) → n ≡ declaredNumber d → patch inResult.declared 1 (be 1 n) s ≡ resultOctets (declaring d (toResult s))
 unfolding resultOctets resultNumbers width
 declaring-octets s l n d e =
     let r = toResult s in
-    ap (patch declaredPlace 1 (be 1 n)) (laid-result-is s l)
+    ap (patch inResult.declared 1 (be 1 n)) (laid-result-is s l)
     ∙ put-field resultWidths (resultNumbers r) 6 n refl
     ∙ rw e (unfold declaring in refl)
 

@@ -7,7 +7,7 @@ use lib.ListN.{length}
 use Rattle.octets.specs.Parts.{part}
 use Rattle.octets.specs.Fields.{fields, packed, width}
 use Rattle.octets.proofs.Fields.{fields-of-packed, length-fit, part-run}
-use Rattle.model.specs.Layout.{cellWidths, fixedField, fixedPlace, fixedSize, fixedWidths}
+use Rattle.model.specs.Layout.{cellWidths, cellIndex, inCell, fixedSize, fixedWidths}
 use Rattle.model.specs.State.{Talker, noTalker, talker, Cell, Stream, noFixed, cellAt}
 use Rattle.model.specs.WrittenFrames.{priorityOctet, fixedNumbers}
 use Rattle.model.specs.Settling.{Source, sourceOf, fixedOf}
@@ -23,7 +23,7 @@ use Rattle.table.proofs.ByPlace.{reads-fixed}
 use Rattle.streams.specs.Answers.{talkerPort, sourceIn}
 use Rattle.streams.proofs.Sources.{source-at}
 
-fixed-numbers : (t : ℕ) (k : Talker) (c : Cell) → c .talks ≡ k → part fixedField (length fixedWidths) (cellNumbers c) ≡ fixedNumbers (fixedOf (sourceIn t c))
+fixed-numbers : (t : ℕ) (k : Talker) (c : Cell) → c .talks ≡ k → part cellIndex.fixed (length fixedWidths) (cellNumbers c) ≡ fixedNumbers (fixedOf (sourceIn t c))
 unfolding part fixedOf noFixed sourceIn cellNumbers talkerNumbers fixedNumbers priorityOctet
 fixed-numbers t noTalker c e = rw e
 fixed-numbers t (talker r) c e = rw e
@@ -36,12 +36,12 @@ module _ (s : List ℕ) (l : LaidCell s) where
   numbers-laid =
       ap (fields cellWidths 0) (laid-cell-is s l) ∙ fields-of-packed cellWidths (cellNumbers (toCell s)) (laid-cell-fits s l .numbers)
 
-  pub fixed-part : (t : ℕ) → part fixedPlace fixedSize s ≡ fixedOctets (fixedOf (sourceIn t (toCell s)))
+  pub fixed-part : (t : ℕ) → part inCell.fixed fixedSize s ≡ fixedOctets (fixedOf (sourceIn t (toCell s)))
   unfolding cellOctets fixedOctets width part
   fixed-part t =
       let c = toCell s in
-      ap (part fixedPlace fixedSize) (laid-cell-is s l)
-      ∙ part-run cellWidths (cellNumbers c) fixedField (length fixedWidths) (length-fit cellWidths (cellNumbers c) (laid-cell-fits s l .numbers)) (omega arith)
+      ap (part inCell.fixed fixedSize) (laid-cell-is s l)
+      ∙ part-run cellWidths (cellNumbers c) cellIndex.fixed (length fixedWidths) (length-fit cellWidths (cellNumbers c) (laid-cell-fits s l .numbers)) (omega arith)
       ∙ ap (packed fixedWidths) (fixed-numbers t (c .talks) c refl)
 
 -- Of a stream that fits its fields.
@@ -62,7 +62,7 @@ module _ (x : Stream) (t : ℕ) (e : t ≡ talkerPort (sourceOf x)) (s : List �
   pub source-read : sourceIn t (toCell s) ≡ sourceOf x
   source-read = ap (sourceIn t) (r .is) ∙ rw e (sym (source-at x))
 
-  pub fixed-read : FitStream x → ReadsFixed (part fixedPlace fixedSize s) (fixedOf (sourceOf x))
+  pub fixed-read : FitStream x → ReadsFixed (part inCell.fixed fixedSize s) (fixedOf (sourceOf x))
   fixed-read w =
-      reads-fixed (fixedOf (sourceOf x)) (settled-values x w) (part fixedPlace fixedSize s)
+      reads-fixed (fixedOf (sourceOf x)) (settled-values x w) (part inCell.fixed fixedSize s)
       (fixed-part s (r .laid) t ∙ ap (λ (o : Source). fixedOctets (fixedOf o)) source-read)

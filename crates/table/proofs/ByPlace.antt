@@ -12,7 +12,7 @@ use Rattle.octets.proofs.Parts.{lent-part}
 use Rattle.octets.proofs.Frame.{part-part}
 use Rattle.octets.proofs.Fields.{fields-of-packed}
 use Rattle.octets.proofs.Patches.{lent-patch, patch-within}
-use Rattle.model.specs.Layout.{cellIn, cellPlace, cellSize, fixedSize, fixedWidths, portPlace, portSize, recordPlace, recordSize, resultIn, resultPlace, resultSize, settledOf, settledPlace, totalPlace, totalSize}
+use Rattle.model.specs.Layout.{cellIn, cellPlace, cellSize, fixedSize, fixedWidths, portPlace, portSize, recordPlace, recordSize, resultIn, resultPlace, resultSize, settledOf, inRecord, totalPlace, totalSize}
 use Rattle.model.specs.State.{Fixed, Cell, Result, Stream, Totals, Bridge, portAt, cellAt, resultAt, noTotals, fresh}
 use Rattle.model.specs.Registrations.{at, change, holding}
 use Rattle.model.specs.Settling.{sceneOf, Inbound, inboundOf, inboundsOf, sourceOf}
@@ -163,12 +163,12 @@ module _ {t : List ℕ} {k : ℕ} (s : Stands t k) where
   pub settled-at : ReadsFixed (part (settledOf k) fixedSize t) (streamAt k (decode t) .settled)
   settled-at =
       reads-fixed (streamAt k (decode t) .settled) settled-fixed (part (settledOf k) fixedSize t)
-      (in-record s settledPlace fixedSize (omega arith) ∙ settled-part (streamAt k (decode t)))
+      (in-record s inRecord.settled fixedSize (omega arith) ∙ settled-part (streamAt k (decode t)))
 
   -- replaced, and still laid out
   module _ (f : Fixed) where
     pub settled-replaced : patch (settledOf k) fixedSize (fixedOctets f) t ≡ encode (withSettled k f (decode t))
-    settled-replaced = in-record-replaced s settledPlace fixedSize (omega arith) (fixedOctets f) (settledAs f (streamAt k (decode t))) (settled-patch (streamAt k (decode t)) f)
+    settled-replaced = in-record-replaced s inRecord.settled fixedSize (omega arith) (fixedOctets f) (settledAs f (streamAt k (decode t))) (settled-patch (streamAt k (decode t)) f)
 
     pub settled-as-fits : FitFixed f → FitStream (settledAs f (streamAt k (decode t)))
     unfolding Fit

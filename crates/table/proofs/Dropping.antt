@@ -13,7 +13,7 @@ use Rattle.octets.specs.Fields.{flat}
 use Rattle.octets.proofs.Parts.{lent-part}
 use Rattle.octets.proofs.Fields.{flat-append}
 use Rattle.octets.proofs.Patches.{patch-part}
-use Rattle.model.specs.Layout.{countPlace, recordPlace, recordSize}
+use Rattle.model.specs.Layout.{inTable, recordPlace, recordSize}
 use Rattle.model.specs.Lists.{keep}
 use Rattle.model.specs.State.{Stream, Bridge, fresh}
 use Rattle.model.specs.Registrations.{holding}
@@ -199,7 +199,7 @@ module _ (b : Bridge) (w : FitBridge b) (t : List ℕ) (i j : ℕ) (c : Closing 
 
   -- all records seen: what lies behind the held ones is cleared, and their number is stored
   pub closing-end : (n : ℕ) → n ≡ length (b .streams) → i ≡ n
-      → patch countPlace 1 (be 1 j) (patch (recordPlace j) ((n - j) * recordSize) (zeros ((n - j) * recordSize)) t) ≡ encode (holding b (heldOnly (b .streams)))
+      → patch inTable.count 1 (be 1 j) (patch (recordPlace j) ((n - j) * recordSize) (zeros ((n - j) * recordSize)) t) ≡ encode (holding b (heldOnly (b .streams)))
   unfolding front kept-streams flat holding
   closing-end n a all =
       let e : i ≡ length (b .streams) = all ∙ a in
@@ -216,7 +216,7 @@ module _ (b : Bridge) (w : FitBridge b) (t : List ℕ) (i j : ℕ) (c : Closing 
       ∙ patch-between front (c .between) (unused n) (zeros m) (recordPlace j) m (omega (arith, front-length)) (omega (arith, c .size))
       ∙ append-assoc (header b) (flat streamOctets kept-streams) (zeros m ++ unused n)
       ∙ rw (z, k) in
-      ap (λ (l : ℕ). patch countPlace 1 (be 1 l) (patch (recordPlace j) m (zeros m) t)) q
-      ∙ ap (patch countPlace 1 (be 1 (length s))) cleared
+      ap (λ (l : ℕ). patch inTable.count 1 (be 1 l) (patch (recordPlace j) m (zeros m) t)) q
+      ∙ ap (patch inTable.count 1 (be 1 (length s))) cleared
       ∙ count-patch b w s (flat streamOctets s ++ unused (length s))
       ∙ sym (header-records (holding b s))

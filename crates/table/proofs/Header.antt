@@ -10,7 +10,7 @@ use Rattle.octets.specs.Parts.{part, patch, zeros}
 use Rattle.octets.specs.Fields.{packed, Fit, width, flat}
 use Rattle.octets.proofs.Be.{length-be}
 use Rattle.octets.proofs.Fields.{flat-append, packed-zeros, fit-zeros}
-use Rattle.model.specs.Layout.{clockPlace, countPlace, domainVlanPlace, fanInPlace, ownPlace, ownSize, ownsPlace, portPlace, portSize, portWidths, portsPlace, portsUnit, priorityAUnit, priorityBUnit, pruningUnit, recordsPlace, tableLength, totalPlace, totalSize, totalsPlace, totalsSize, wordPlace}
+use Rattle.model.specs.Layout.{inTable, inHead, ownPlace, ownSize, portPlace, portSize, portWidths, portsUnit, priorityAUnit, priorityBUnit, pruningUnit, tableLength, totalPlace, totalSize, totalsSize}
 use Rattle.model.specs.Lists.{All, bit}
 use Rattle.model.specs.State.{Port, Settings, Own, Stream, Totals, Bridge, noPort, portAt, noTotals, noOwn, ownAt}
 use Rattle.model.specs.Registrations.{holding, owning}
@@ -36,7 +36,7 @@ module _ (b : Bridge) (w : FitBridge b) where
   pub table-length : length (encode b) ≡ tableLength
   table-length = whole-length b (fit-whole b w)
 
-  pub header-length : length (header b) ≡ recordsPlace
+  pub header-length : length (header b) ≡ inTable.records
   unfolding header
   header-length =
       let o = fit-whole b w in
@@ -53,11 +53,11 @@ module _ (b : Bridge) (w : FitBridge b) where
 
   -- Clock and number of streams.
 
-  pub clock-at : beAt 4 (encode b) clockPlace ≡ b .clock
+  pub clock-at : beAt 4 (encode b) inTable.clock ≡ b .clock
   unfolding clockField
   clock-at = clock-read b (fit-whole b w) (w .clock)
 
-  pub count-at : getD (encode b) countPlace 0 ≡ length (b .streams)
+  pub count-at : getD (encode b) inTable.count 0 ≡ length (b .streams)
   unfolding countField
   count-at = count-read b (fit-whole b w) (w .clock)
 
@@ -67,31 +67,31 @@ module _ (b : Bridge) (w : FitBridge b) where
   unfolding encode
   bridge-id-at = id-read (b .settings) (w .settings) _
 
-  pub ports-at : beAt 3 (encode b) wordPlace / portsUnit ≡ length (b .settings .ports)
+  pub ports-at : beAt 3 (encode b) inHead.word / portsUnit ≡ length (b .settings .ports)
   unfolding encode portsField
   ports-at = ports-read (b .settings) (w .settings) _
 
-  pub priority-a-at : beAt 3 (encode b) wordPlace / priorityAUnit % 8 ≡ b .settings .priorityA
+  pub priority-a-at : beAt 3 (encode b) inHead.word / priorityAUnit % 8 ≡ b .settings .priorityA
   unfolding encode
   priority-a-at = priority-a-read (b .settings) (w .settings) _
 
-  pub priority-b-at : beAt 3 (encode b) wordPlace / priorityBUnit % 8 ≡ b .settings .priorityB
+  pub priority-b-at : beAt 3 (encode b) inHead.word / priorityBUnit % 8 ≡ b .settings .priorityB
   unfolding encode
   priority-b-at = priority-b-read (b .settings) (w .settings) _
 
-  pub leave-time-at : beAt 3 (encode b) wordPlace % priorityBUnit ≡ b .settings .leaveTime
+  pub leave-time-at : beAt 3 (encode b) inHead.word % priorityBUnit ≡ b .settings .leaveTime
   unfolding encode
   leave-time-at = leave-read (b .settings) (w .settings) _
 
-  pub domain-vlan-at : beAt 2 (encode b) domainVlanPlace % pruningUnit ≡ b .settings .vlan
+  pub domain-vlan-at : beAt 2 (encode b) inHead.vlan % pruningUnit ≡ b .settings .vlan
   unfolding encode
   domain-vlan-at = vlan-read (b .settings) (w .settings) _
 
-  pub pruning-at : beAt 2 (encode b) domainVlanPlace / pruningUnit ≡ bit (b .settings .pruning)
+  pub pruning-at : beAt 2 (encode b) inHead.vlan / pruningUnit ≡ bit (b .settings .pruning)
   unfolding encode
   pruning-at = pruning-read (b .settings) (w .settings) _
 
-  pub fan-in-at : beAt 1 (encode b) fanInPlace ≡ b .settings .fanIn
+  pub fan-in-at : beAt 1 (encode b) inHead.fanIn ≡ b .settings .fanIn
   unfolding encode
   fan-in-at = fan-in-read (b .settings) (w .settings) _
 
@@ -152,7 +152,7 @@ module _ (b : Bridge) (w : FitBridge b) (p a : ℕ) (h : p < 8) (e : a ≡ portP
       let after = clockAndCount b ++ (totalsWhole b ++ (ownsWhole b ++ recordsWhole b)) in
       let few : p < length l = omega (arith, length-eight st (w .settings .eight-ports)) in
       ap (part a portSize) (ports-laid b)
-      ∙ part-one portSize portOctets portsPlace (head st) after (head-length st) l (ports-sized l) p a few e noPort
+      ∙ part-one portSize portOctets inTable.ports (head st) after (head-length st) l (ports-sized l) p a few e noPort
       ∙ ap portOctets (padded-at (st .ports) (8 - length (st .ports)) p noPort)
 
 -- Totals.
@@ -160,7 +160,7 @@ module _ (b : Bridge) (w : FitBridge b) (p a : ℕ) (h : p < 8) (e : a ≡ portP
 totals-laid : (b : Bridge) → encode b ≡ (settingsWhole b ++ clockAndCount b) ++ (flat totalsOctets (b .totals) ++ (ownsWhole b ++ recordsWhole b))
 totals-laid b = encode-parts b ∙ simp append-assoc
 
-before-totals : (b : Bridge) (w : FitBridge b) → length (settingsWhole b ++ clockAndCount b) ≡ totalsPlace
+before-totals : (b : Bridge) (w : FitBridge b) → length (settingsWhole b ++ clockAndCount b) ≡ inTable.totals
 before-totals b w = length-append (settingsWhole b) (clockAndCount b) ∙ omega (arith, settings-whole-length b (fit-whole b w), clock-length b)
 
 module _ (b : Bridge) (w : FitBridge b) (p a : ℕ) (h : p < 8) (e : a ≡ totalPlace p) where
@@ -170,23 +170,23 @@ module _ (b : Bridge) (w : FitBridge b) (p a : ℕ) (h : p < 8) (e : a ≡ total
   pub totals-part : part a totalSize (encode b) ≡ totalsOctets (getD (b .totals) p noTotals)
   totals-part =
       ap (part a totalSize) (totals-laid b)
-      ∙ part-one totalSize totalsOctets totalsPlace (settingsWhole b ++ clockAndCount b) (ownsWhole b ++ recordsWhole b) (before-totals b w) (b .totals) (totals-sized (b .totals)) p a a-total
+      ∙ part-one totalSize totalsOctets inTable.totals (settingsWhole b ++ clockAndCount b) (ownsWhole b ++ recordsWhole b) (before-totals b w) (b .totals) (totals-sized (b .totals)) p a a-total
       e noTotals
 
   pub totals-patch : (t : Totals) → patch a totalSize (totalsOctets t) (encode b) ≡ encode (totalled (set (b .totals) p t) b)
   totals-patch t =
       ap (patch a totalSize (totalsOctets t)) (totals-laid b)
-      ∙ patch-one totalSize totalsOctets totalsPlace (settingsWhole b ++ clockAndCount b) (ownsWhole b ++ recordsWhole b) (before-totals b w) (b .totals) (totals-sized (b .totals)) p a a-total
+      ∙ patch-one totalSize totalsOctets inTable.totals (settingsWhole b ++ clockAndCount b) (ownsWhole b ++ recordsWhole b) (before-totals b w) (b .totals) (totals-sized (b .totals)) p a a-total
       e t
       ∙ sym (totals-laid (totalled (set (b .totals) p t) b))
 
-pub totals-cleared : (b : Bridge) (w : FitBridge b) → patch totalsPlace totalsSize (zeros totalsSize) (encode b) ≡ encode (totalled (replicate 8 noTotals) b)
+pub totals-cleared : (b : Bridge) (w : FitBridge b) → patch inTable.totals totalsSize (zeros totalsSize) (encode b) ≡ encode (totalled (replicate 8 noTotals) b)
 totals-cleared b w =
     let before = settingsWhole b ++ clockAndCount b in
     let none : flat totalsOctets (replicate 8 noTotals) ≡ zeros totalsSize =
     flat-zeros totalSize totalsOctets noTotals no-totals (replicate 8 noTotals) (all-replicate (λ t. t ≡ noTotals) 8 noTotals refl) in
-    ap (patch totalsPlace totalsSize (zeros totalsSize)) (totals-laid b)
-    ∙ patch-between before (totalsWhole b) (ownsWhole b ++ recordsWhole b) (zeros totalsSize) totalsPlace totalsSize (before-totals b w) (totals-whole-length b (fit-whole b w))
+    ap (patch inTable.totals totalsSize (zeros totalsSize)) (totals-laid b)
+    ∙ patch-between before (totalsWhole b) (ownsWhole b ++ recordsWhole b) (zeros totalsSize) inTable.totals totalsSize (before-totals b w) (totals-whole-length b (fit-whole b w))
     ∙ ap (λ (z : List ℕ). before ++ (z ++ (ownsWhole b ++ recordsWhole b))) (sym none)
     ∙ sym (totals-laid (totalled (replicate 8 noTotals) b))
 
@@ -195,7 +195,7 @@ totals-cleared b w =
 owns-laid : (b : Bridge) → encode b ≡ (settingsWhole b ++ (clockAndCount b ++ totalsWhole b)) ++ (flat ownOctets (b .owns) ++ recordsWhole b)
 owns-laid b = encode-parts b ∙ simp append-assoc
 
-before-owns : (b : Bridge) (w : FitBridge b) → length (settingsWhole b ++ (clockAndCount b ++ totalsWhole b)) ≡ ownsPlace
+before-owns : (b : Bridge) (w : FitBridge b) → length (settingsWhole b ++ (clockAndCount b ++ totalsWhole b)) ≡ inTable.owns
 before-owns b w =
     let o = fit-whole b w in
     length-append (settingsWhole b) (clockAndCount b ++ totalsWhole b)
@@ -212,37 +212,37 @@ module _ (b : Bridge) (w : FitBridge b) (p : ℕ) (h : p < 8) where
   unfolding before
   own-part =
       ap (part (ownPlace p) ownSize) (owns-laid b)
-      ∙ part-one ownSize ownOctets ownsPlace before (recordsWhole b) (before-owns b w) (b .owns) (fit-whole b w .owns) p (ownPlace p) an-own refl noOwn
+      ∙ part-one ownSize ownOctets inTable.owns before (recordsWhole b) (before-owns b w) (b .owns) (fit-whole b w .owns) p (ownPlace p) an-own refl noOwn
 
   pub own-patch : (o : Own) → patch (ownPlace p) ownSize (ownOctets o) (encode b) ≡ encode (owning b (set (b .owns) p o))
   unfolding before owning
   own-patch o =
       ap (patch (ownPlace p) ownSize (ownOctets o)) (owns-laid b)
-      ∙ patch-one ownSize ownOctets ownsPlace before (recordsWhole b) (before-owns b w) (b .owns) (fit-whole b w .owns) p (ownPlace p) an-own refl o
+      ∙ patch-one ownSize ownOctets inTable.owns before (recordsWhole b) (before-owns b w) (b .owns) (fit-whole b w .owns) p (ownPlace p) an-own refl o
       ∙ sym (owns-laid (owning b (set (b .owns) p o)))
 
 -- The clock replaced, and the number of streams.
 
-pub clock-patch : (b : Bridge) (w : FitBridge b) (now : ℕ) → patch clockPlace 4 (be 4 now) (encode b) ≡ encode (clocked now b)
+pub clock-patch : (b : Bridge) (w : FitBridge b) (now : ℕ) → patch inTable.clock 4 (be 4 now) (encode b) ≡ encode (clocked now b)
 unfolding packed
 clock-patch b w now =
     let n = be 1 (length (b .streams)) ++ [] in
     let after = totalsWhole b ++ (ownsWhole b ++ recordsWhole b) in
-    ap (patch clockPlace 4 (be 4 now)) (encode-parts b ∙ ap (λ (s : List ℕ). settingsWhole b ++ s) (append-assoc (be 4 (b .clock)) n after))
-    ∙ patch-between (settingsWhole b) (be 4 (b .clock)) (n ++ after) (be 4 now) clockPlace 4 (settings-whole-length b (fit-whole b w)) (length-be 4 (b .clock))
+    ap (patch inTable.clock 4 (be 4 now)) (encode-parts b ∙ ap (λ (s : List ℕ). settingsWhole b ++ s) (append-assoc (be 4 (b .clock)) n after))
+    ∙ patch-between (settingsWhole b) (be 4 (b .clock)) (n ++ after) (be 4 now) inTable.clock 4 (settings-whole-length b (fit-whole b w)) (length-be 4 (b .clock))
     ∙ sym (encode-parts (clocked now b) ∙ ap (λ (s : List ℕ). settingsWhole b ++ s) (append-assoc (be 4 now) n after))
 
 pub count-patch : (b : Bridge) (w : FitBridge b) (s : List Stream) (after : List ℕ)
-    → patch countPlace 1 (be 1 (length s)) (header b ++ after) ≡ header (holding b s) ++ after
+    → patch inTable.count 1 (be 1 (length s)) (header b ++ after) ≡ header (holding b s) ++ after
 unfolding packed header holding
 count-patch b w s after =
     let before = settingsWhole b ++ be 4 (b .clock) in
     let n = be 1 (length (b .streams)) in
-    let l : length before ≡ countPlace = length-append (settingsWhole b) (be 4 (b .clock)) ∙ omega (arith, settings-whole-length b (fit-whole b w), length-be 4 (b .clock)) in
+    let l : length before ≡ inTable.count = length-append (settingsWhole b) (be 4 (b .clock)) ∙ omega (arith, settings-whole-length b (fit-whole b w), length-be 4 (b .clock)) in
     let split : (k : List ℕ) → (settingsWhole b ++ ((be 4 (b .clock) ++ (k ++ [])) ++ (totalsWhole b ++ ownsWhole b))) ++ after ≡ before ++ (k ++ ((totalsWhole b ++ ownsWhole b) ++ after)) =
     λ k. simp (append-assoc, append-nil) in
-    ap (patch countPlace 1 (be 1 (length s))) (split n)
-    ∙ patch-between before n ((totalsWhole b ++ ownsWhole b) ++ after) (be 1 (length s)) countPlace 1 l (length-be 1 (length (b .streams)))
+    ap (patch inTable.count 1 (be 1 (length s))) (split n)
+    ∙ patch-between before n ((totalsWhole b ++ ownsWhole b) ++ after) (be 1 (length s)) inTable.count 1 l (length-be 1 (length (b .streams)))
     ∙ sym (split (be 1 (length s)))
 
 -- What is read of octets that are laid out as a table.
@@ -251,11 +251,11 @@ module _ (t : List ℕ) (l : Laid t) where
   pub laid-length : length t ≡ tableLength
   laid-length = ap length (laid-is t l) ∙ table-length (decode t) (laid-fits t l)
 
-  pub laid-clock : beAt 4 t clockPlace ≡ decode t .clock
-  laid-clock = ap (λ (s : List ℕ). beAt 4 s clockPlace) (laid-is t l) ∙ clock-at (decode t) (laid-fits t l)
+  pub laid-clock : beAt 4 t inTable.clock ≡ decode t .clock
+  laid-clock = ap (λ (s : List ℕ). beAt 4 s inTable.clock) (laid-is t l) ∙ clock-at (decode t) (laid-fits t l)
 
-  pub laid-count : getD t countPlace 0 ≡ length (decode t .streams)
-  laid-count = ap (λ (s : List ℕ). getD s countPlace 0) (laid-is t l) ∙ count-at (decode t) (laid-fits t l)
+  pub laid-count : getD t inTable.count 0 ≡ length (decode t .streams)
+  laid-count = ap (λ (s : List ℕ). getD s inTable.count 0) (laid-is t l) ∙ count-at (decode t) (laid-fits t l)
 
   pub laid-few : length (decode t .streams) ≤ 64
   laid-few = laid-fits t l .at-most-64
@@ -263,26 +263,26 @@ module _ (t : List ℕ) (l : Laid t) where
   pub laid-bridge-id : beAt 8 t 0 ≡ decode t .settings .bridgeId
   laid-bridge-id = ap (λ (s : List ℕ). beAt 8 s 0) (laid-is t l) ∙ bridge-id-at (decode t) (laid-fits t l)
 
-  pub laid-priority-a : beAt 3 t wordPlace / priorityAUnit % 8 ≡ decode t .settings .priorityA
-  laid-priority-a = ap (λ (s : List ℕ). beAt 3 s wordPlace / priorityAUnit % 8) (laid-is t l) ∙ priority-a-at (decode t) (laid-fits t l)
+  pub laid-priority-a : beAt 3 t inHead.word / priorityAUnit % 8 ≡ decode t .settings .priorityA
+  laid-priority-a = ap (λ (s : List ℕ). beAt 3 s inHead.word / priorityAUnit % 8) (laid-is t l) ∙ priority-a-at (decode t) (laid-fits t l)
 
-  pub laid-priority-b : beAt 3 t wordPlace / priorityBUnit % 8 ≡ decode t .settings .priorityB
-  laid-priority-b = ap (λ (s : List ℕ). beAt 3 s wordPlace / priorityBUnit % 8) (laid-is t l) ∙ priority-b-at (decode t) (laid-fits t l)
+  pub laid-priority-b : beAt 3 t inHead.word / priorityBUnit % 8 ≡ decode t .settings .priorityB
+  laid-priority-b = ap (λ (s : List ℕ). beAt 3 s inHead.word / priorityBUnit % 8) (laid-is t l) ∙ priority-b-at (decode t) (laid-fits t l)
 
-  pub laid-domain-vlan : beAt 2 t domainVlanPlace % pruningUnit ≡ decode t .settings .vlan
-  laid-domain-vlan = ap (λ (s : List ℕ). beAt 2 s domainVlanPlace % pruningUnit) (laid-is t l) ∙ domain-vlan-at (decode t) (laid-fits t l)
+  pub laid-domain-vlan : beAt 2 t inHead.vlan % pruningUnit ≡ decode t .settings .vlan
+  laid-domain-vlan = ap (λ (s : List ℕ). beAt 2 s inHead.vlan % pruningUnit) (laid-is t l) ∙ domain-vlan-at (decode t) (laid-fits t l)
 
-  pub laid-pruning : beAt 2 t domainVlanPlace / pruningUnit ≡ bit (decode t .settings .pruning)
-  laid-pruning = ap (λ (s : List ℕ). beAt 2 s domainVlanPlace / pruningUnit) (laid-is t l) ∙ pruning-at (decode t) (laid-fits t l)
+  pub laid-pruning : beAt 2 t inHead.vlan / pruningUnit ≡ bit (decode t .settings .pruning)
+  laid-pruning = ap (λ (s : List ℕ). beAt 2 s inHead.vlan / pruningUnit) (laid-is t l) ∙ pruning-at (decode t) (laid-fits t l)
 
-  pub laid-fan-in : beAt 1 t fanInPlace ≡ decode t .settings .fanIn
-  laid-fan-in = ap (λ (s : List ℕ). beAt 1 s fanInPlace) (laid-is t l) ∙ fan-in-at (decode t) (laid-fits t l)
+  pub laid-fan-in : beAt 1 t inHead.fanIn ≡ decode t .settings .fanIn
+  laid-fan-in = ap (λ (s : List ℕ). beAt 1 s inHead.fanIn) (laid-is t l) ∙ fan-in-at (decode t) (laid-fits t l)
 
-  pub laid-ports : beAt 3 t wordPlace / portsUnit ≡ length (decode t .settings .ports)
-  laid-ports = ap (λ (s : List ℕ). beAt 3 s wordPlace / portsUnit) (laid-is t l) ∙ ports-at (decode t) (laid-fits t l)
+  pub laid-ports : beAt 3 t inHead.word / portsUnit ≡ length (decode t .settings .ports)
+  laid-ports = ap (λ (s : List ℕ). beAt 3 s inHead.word / portsUnit) (laid-is t l) ∙ ports-at (decode t) (laid-fits t l)
 
   pub laid-eight : length (decode t .settings .ports) ≤ 8
   laid-eight = laid-fits t l .settings .eight-ports
 
-  pub laid-leave-time : beAt 3 t wordPlace % priorityBUnit ≡ decode t .settings .leaveTime
-  laid-leave-time = ap (λ (s : List ℕ). beAt 3 s wordPlace % priorityBUnit) (laid-is t l) ∙ leave-time-at (decode t) (laid-fits t l)
+  pub laid-leave-time : beAt 3 t inHead.word % priorityBUnit ≡ decode t .settings .leaveTime
+  laid-leave-time = ap (λ (s : List ℕ). beAt 3 s inHead.word % priorityBUnit) (laid-is t l) ∙ leave-time-at (decode t) (laid-fits t l)

@@ -9,7 +9,7 @@ use lib.Seq.{getD-drop, drop-drop}
 use borrow.Author.Tests.{eq-eqb, ne-eqb}
 use Rattle.octets.specs.Parts.{part}
 use Rattle.octets.proofs.Frame.{getD-part}
-use Rattle.model.specs.Layout.{cellIn, cellSize, cellsPlace, cellsSize, listenerPlace}
+use Rattle.model.specs.Layout.{cellIn, cellSize, inRecord, cellsSize, inCell}
 use Rattle.model.specs.Settling.{held}
 use Rattle.model.specs.Table.{toStream, cellsPart, holds}
 use Rattle.model.proofs.Cells.{holds-parts}
@@ -21,13 +21,13 @@ module _ (k : ℕ) (s : List ℕ) where
   unfolding holds
   holds-talker h = rw (ne-eqb (getD s 0 0) 0 h)
 
-  holds-listener : getD s 0 0 ≡ 0 → (getD s listenerPlace 0 ≡ 0 → ⊥) → holds (suc k) s ≡ true
+  holds-listener : getD s 0 0 ≡ 0 → (getD s inCell.listener 0 ≡ 0 → ⊥) → holds (suc k) s ≡ true
   unfolding holds
-  holds-listener h g = rw (eq-eqb (getD s 0 0) 0 h, ne-eqb (getD s listenerPlace 0) 0 g)
+  holds-listener h g = rw (eq-eqb (getD s 0 0) 0 h, ne-eqb (getD s inCell.listener 0) 0 g)
 
-  holds-next : getD s 0 0 ≡ 0 → getD s listenerPlace 0 ≡ 0 → holds (suc k) s ≡ holds k (drop cellSize s)
+  holds-next : getD s 0 0 ≡ 0 → getD s inCell.listener 0 ≡ 0 → holds (suc k) s ≡ holds k (drop cellSize s)
   unfolding holds
-  holds-next h g = rw (eq-eqb (getD s 0 0) 0 h, eq-eqb (getD s listenerPlace 0) 0 g)
+  holds-next h g = rw (eq-eqb (getD s 0 0) 0 h, eq-eqb (getD s inCell.listener 0) 0 g)
 
 -- from cell p on
 unfoldable pub holdsFrom : ℕ → List ℕ → Bool
@@ -47,7 +47,7 @@ module _ (p : ℕ) (s : List ℕ) (h : p < 8) where
 
   octet : (i : ℕ) → i < cellSize → getD (drop (p * cellSize) (cellsPart s)) i 0 ≡ getD s (cellIn p + i) 0
   unfolding cellsPart
-  octet i l = getD-drop (p * cellSize) (part cellsPlace cellsSize s) i 0 ∙ getD-part cellsPlace cellsSize (p * cellSize + i) s (omega arith) ∙ ap (λ (k : ℕ). getD s k 0) (omega arith)
+  octet i l = getD-drop (p * cellSize) (part inRecord.cells cellsSize s) i 0 ∙ getD-part inRecord.cells cellsSize (p * cellSize + i) s (omega arith) ∙ ap (λ (k : ℕ). getD s k 0) (omega arith)
 
   talker-octet : getD (drop (p * cellSize) (cellsPart s)) 0 0 ≡ getD s (cellIn p) 0
   talker-octet = octet 0 (omega arith) ∙ ap (λ (k : ℕ). getD s k 0) (omega arith)
@@ -57,16 +57,16 @@ module _ (p : ℕ) (s : List ℕ) (h : p < 8) where
   holds-talking g = rw left (holds-talker (7 - p) (drop (p * cellSize) (cellsPart s)) (λ e. g (sym talker-octet ∙ e)))
 
   module _ (g : getD s (cellIn p) 0 ≡ 0) where
-    pub holds-hearing : (getD s (cellIn p + listenerPlace) 0 ≡ 0 → ⊥) → holdsFrom p s ≡ true
+    pub holds-hearing : (getD s (cellIn p + inCell.listener) 0 ≡ 0 → ⊥) → holdsFrom p s ≡ true
     unfolding holdsFrom
-    holds-hearing f = rw left (holds-listener (7 - p) (drop (p * cellSize) (cellsPart s)) (talker-octet ∙ g) (λ e. f (sym (octet listenerPlace (omega arith)) ∙ e)))
+    holds-hearing f = rw left (holds-listener (7 - p) (drop (p * cellSize) (cellsPart s)) (talker-octet ∙ g) (λ e. f (sym (octet inCell.listener (omega arith)) ∙ e)))
 
-    pub holds-more : getD s (cellIn p + listenerPlace) 0 ≡ 0 → holdsFrom p s ≡ holdsFrom (p + 1) s
+    pub holds-more : getD s (cellIn p + inCell.listener) 0 ≡ 0 → holdsFrom p s ≡ holdsFrom (p + 1) s
     unfolding holdsFrom
     holds-more f =
         let e : 7 - p ≡ 8 - (p + 1) = omega arith in
         let q : p * cellSize + cellSize ≡ (p + 1) * cellSize = omega arith in
         rw left
-        (holds-next (7 - p) (drop (p * cellSize) (cellsPart s)) (talker-octet ∙ g) (octet listenerPlace (omega arith) ∙ f)
+        (holds-next (7 - p) (drop (p * cellSize) (cellsPart s)) (talker-octet ∙ g) (octet inCell.listener (omega arith) ∙ f)
         ∙ ap (holds (7 - p)) (drop-drop cellSize (p * cellSize) (cellsPart s) ∙ ap (λ (k : ℕ). drop k (cellsPart s)) q)
         ∙ ap (λ (k : ℕ). holds k (drop ((p + 1) * cellSize) (cellsPart s))) e)

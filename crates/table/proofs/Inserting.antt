@@ -9,7 +9,7 @@ use Rattle.octets.specs.Be.{be}
 use Rattle.octets.specs.Parts.{patch, zeros}
 use Rattle.octets.specs.Fields.{width, flat}
 use Rattle.octets.proofs.Fields.{flat-append, packed-zeros}
-use Rattle.model.specs.Layout.{cellSize, cellsSize, countPlace, fixedSize, fixedWidths, recordPlace, recordSize, resultSize, resultsSize, settledPlace}
+use Rattle.model.specs.Layout.{cellSize, cellsSize, inTable, fixedSize, fixedWidths, recordPlace, recordSize, resultSize, resultsSize, inRecord}
 use Rattle.model.specs.State.{Stream, Bridge, empty, unsettled, noFixed, blank, fresh}
 use Rattle.model.specs.Registrations.{holding}
 use Rattle.model.specs.WrittenFrames.{priorityOctet, fixedNumbers}
@@ -41,7 +41,7 @@ blank-zeros = flat-zeros cellSize cellOctets empty cell-zeros (replicate 8 empty
 unsettled-zeros : flat resultOctets (replicate 8 unsettled) ≡ zeros resultsSize
 unsettled-zeros = flat-zeros resultSize resultOctets unsettled result-zeros (replicate 8 unsettled) (all-replicate (λ r. r ≡ unsettled) 8 unsettled refl)
 
-pub fresh-octets : (id : ℕ) → streamOctets (fresh id) ≡ be 8 id ++ zeros (recordSize - settledPlace)
+pub fresh-octets : (id : ℕ) → streamOctets (fresh id) ≡ be 8 id ++ zeros (recordSize - inRecord.settled)
 unfolding fresh
 fresh-octets id =
     settled-laid (fresh id)
@@ -114,19 +114,19 @@ module _ (b : Bridge) (w : FitBridge b) (k id : ℕ) (h : k ≤ length (b .strea
 
   named : patch at 8 (be 8 id) (before ++ (zeros recordSize ++ behind)) ≡ before ++ (streamOctets (fresh id) ++ behind)
   named =
-      let eight : zeros recordSize ++ behind ≡ zeros settledPlace ++ (zeros (recordSize - settledPlace) ++ behind) =
-      ap (λ (s : List ℕ). s ++ behind) (zeros-add settledPlace (recordSize - settledPlace)) ∙ append-assoc (zeros settledPlace) (zeros (recordSize - settledPlace)) behind in
+      let eight : zeros recordSize ++ behind ≡ zeros inRecord.settled ++ (zeros (recordSize - inRecord.settled) ++ behind) =
+      ap (λ (s : List ℕ). s ++ behind) (zeros-add inRecord.settled (recordSize - inRecord.settled)) ∙ append-assoc (zeros inRecord.settled) (zeros (recordSize - inRecord.settled)) behind in
       ap (λ (s : List ℕ). patch at 8 (be 8 id) (before ++ s)) eight
-      ∙ patch-between before (zeros settledPlace) (zeros (recordSize - settledPlace) ++ behind) (be 8 id) at 8 before-length (length-zeros settledPlace)
+      ∙ patch-between before (zeros inRecord.settled) (zeros (recordSize - inRecord.settled) ++ behind) (be 8 id) at 8 before-length (length-zeros inRecord.settled)
       ∙ ap (λ (s : List ℕ). before ++ s)
-      (sym (append-assoc (be 8 id) (zeros (recordSize - settledPlace)) behind) ∙ ap (λ (s : List ℕ). s ++ behind) (sym (fresh-octets id)))
+      (sym (append-assoc (be 8 id) (zeros (recordSize - inRecord.settled)) behind) ∙ ap (λ (s : List ℕ). s ++ behind) (sym (fresh-octets id)))
 
-  counted : patch countPlace 1 (be 1 (n + 1)) (before ++ (streamOctets (fresh id) ++ behind))
+  counted : patch inTable.count 1 (be 1 (n + 1)) (before ++ (streamOctets (fresh id) ++ behind))
       ≡ header (holding b more) ++ (flat streamOctets lower ++ (streamOctets (fresh id) ++ behind))
   counted =
       let after = flat streamOctets lower ++ (streamOctets (fresh id) ++ behind) in
       rw (← length-more)
-      (ap (patch countPlace 1 (be 1 (length more))) (in-front (streamOctets (fresh id) ++ behind)) ∙ count-patch b w more after)
+      (ap (patch inTable.count 1 (be 1 (length more))) (in-front (streamOctets (fresh id) ++ behind)) ∙ count-patch b w more after)
 
   -- the octets that the code leaves are those of the bridge with the stream put in
   pub record-put : recordPut n k id (encode b) ≡ encode (inserted k id b)

@@ -6,7 +6,7 @@ use mathlib.Core.List.{List, _++_}
 use lib.ListN.{getD, take}
 use Rattle.octets.specs.Fields.{width}
 use Rattle.octets.proofs.Fields.{get-octet}
-use Rattle.model.specs.Layout.{cellWidths, declaredPlace, entryPlace, failureCodePlace, listenerField, listenerPlace, resultWidths}
+use Rattle.model.specs.Layout.{cellWidths, inResult, cellIndex, inCell, resultWidths}
 use Rattle.model.specs.State.{Talker, noTalker, talker, Listener, noListener, listener, Cell, Result}
 use Rattle.model.specs.WrittenFrames.{fixedNumbers}
 use Rattle.model.specs.Settling.{registered}
@@ -30,20 +30,20 @@ module _ {s : List ℕ} {r : Result} (w : ReadsResult s r) where
   unfolding width resultNumbers
   column-octet = result-octet 0 refl
 
-  pub code-octet : getD s failureCodePlace 0 ≡ columnCode (r .column)
+  pub code-octet : getD s inResult.code 0 ≡ columnCode (r .column)
   unfolding width resultNumbers
   code-octet = result-octet 3 refl
 
-  pub entry-octet : getD s entryPlace 0 ≡ entryNumber (r .entry)
+  pub entry-octet : getD s inResult.entry 0 ≡ entryNumber (r .entry)
   unfolding width resultNumbers
   entry-octet = result-octet 4 refl
 
-  pub declared-octet : getD s declaredPlace 0 ≡ declaredNumber (r .declares)
+  pub declared-octet : getD s inResult.declared 0 ≡ declaredNumber (r .declares)
   unfolding width resultNumbers
   declared-octet = result-octet 6 refl
 
 listener-number : (t : Talker) (h : Listener)
-    → getD (talkerNumbers t ++ listenerNumbers h) listenerField 0 ≡ declaredNumber (registered record { talks = t; hears = h })
+    → getD (talkerNumbers t ++ listenerNumbers h) cellIndex.listener 0 ≡ declaredNumber (registered record { talks = t; hears = h })
 unfolding talkerNumbers listenerNumbers fixedNumbers declaredNumber registered
 listener-number noTalker noListener = refl
 listener-number noTalker (listener r l) = refl
@@ -51,11 +51,11 @@ listener-number (talker k) noListener = refl
 listener-number (talker k) (listener r l) = refl
 
 -- the Listener registered in a cell
-pub listener-octet : {s : List ℕ} {c : Cell} → ReadsCell s c → getD s listenerPlace 0 ≡ declaredNumber (registered c)
+pub listener-octet : {s : List ℕ} {c : Cell} → ReadsCell s c → getD s inCell.listener 0 ≡ declaredNumber (registered c)
 unfolding cellOctets cellNumbers width
 listener-octet {s = s} h =
     let c = toCell s in
-    ap (λ (t : List ℕ). getD t listenerPlace 0) (laid-cell-is s (h .laid))
-    ∙ get-octet cellWidths (cellNumbers c) (laid-cell-fits s (h .laid) .numbers) listenerField refl
+    ap (λ (t : List ℕ). getD t inCell.listener 0) (laid-cell-is s (h .laid))
+    ∙ get-octet cellWidths (cellNumbers c) (laid-cell-fits s (h .laid) .numbers) cellIndex.listener refl
     ∙ listener-number (c .talks) (c .hears)
     ∙ ap (λ (c : Cell). declaredNumber (registered c)) (h .is)

@@ -5,7 +5,7 @@ use mathlib.Core.List.{List, _++_}
 use lib.ListN.{length, getD, set, length-set}
 use Rattle.octets.specs.Parts.{part, patch, zeros}
 use Rattle.octets.specs.Fields.{flat}
-use Rattle.model.specs.Layout.{recordPlace, recordSize, recordsPlace}
+use Rattle.model.specs.Layout.{recordPlace, recordSize, inTable}
 use Rattle.model.specs.Lists.{All}
 use Rattle.model.specs.State.{Stream, Bridge, fresh}
 use Rattle.model.specs.Registrations.{holding}
@@ -38,10 +38,10 @@ module _ (b : Bridge) (w : FitBridge b) where
     pub record-part : part a recordSize (encode b) ≡ streamOctets (getD (b .streams) k (fresh 0))
     record-part =
         ap (part a recordSize) (header-records b)
-        ∙ part-one recordSize streamOctets recordsPlace (header b) (unused (length (b .streams))) (header-length b w) (b .streams) records-sized k a h e (fresh 0)
+        ∙ part-one recordSize streamOctets inTable.records (header b) (unused (length (b .streams))) (header-length b w) (b .streams) records-sized k a h e (fresh 0)
 
     pub record-patch : (x : Stream) → patch a recordSize (streamOctets x) (encode b) ≡ encode (holding b (set (b .streams) k x))
     record-patch x =
         ap (patch a recordSize (streamOctets x)) (header-records b)
-        ∙ patch-one recordSize streamOctets recordsPlace (header b) (unused (length (b .streams))) (header-length b w) (b .streams) records-sized k a h e x
+        ∙ patch-one recordSize streamOctets inTable.records (header b) (unused (length (b .streams))) (header-length b w) (b .streams) records-sized k a h e x
         ∙ same-count b (set (b .streams) k x) (length-set (b .streams) k x)

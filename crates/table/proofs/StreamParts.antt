@@ -9,7 +9,7 @@ use Rattle.octets.specs.Parts.{part, patch}
 use Rattle.octets.specs.Fields.{packed, width, flat}
 use Rattle.octets.proofs.Be.{length-be}
 use Rattle.octets.proofs.Fields.{length-packed-any}
-use Rattle.model.specs.Layout.{cellIn, cellSize, cellsPlace, fixedSize, fixedWidths, resultIn, resultSize, resultsPlace, settledPlace}
+use Rattle.model.specs.Layout.{cellIn, cellSize, inRecord, fixedSize, fixedWidths, resultIn, resultSize}
 use Rattle.model.specs.State.{Fixed, Cell, Result, Stream, cellAt, resultAt, empty, unsettled}
 use Rattle.model.specs.Registrations.{at, change}
 use Rattle.model.specs.WrittenFrames.{fixedNumbers}
@@ -37,16 +37,16 @@ pub settled-laid : (x : Stream) → streamOctets x ≡ be 8 (x .id) ++ (fixedOct
 unfolding streamOctets fixedOctets packed
 settled-laid x = append-assoc (be 8 (x .id)) (packed fixedWidths (fixedNumbers (x .settled))) (flat cellOctets (x .cells) ++ flat resultOctets (x .results))
 
-pub settled-part : (x : Stream) → part settledPlace fixedSize (streamOctets x) ≡ fixedOctets (x .settled)
+pub settled-part : (x : Stream) → part inRecord.settled fixedSize (streamOctets x) ≡ fixedOctets (x .settled)
 settled-part x =
-    ap (part settledPlace fixedSize) (settled-laid x)
-    ∙ part-between (be 8 (x .id)) (fixedOctets (x .settled)) (flat cellOctets (x .cells) ++ flat resultOctets (x .results)) settledPlace fixedSize (length-be 8 (x .id))
+    ap (part inRecord.settled fixedSize) (settled-laid x)
+    ∙ part-between (be 8 (x .id)) (fixedOctets (x .settled)) (flat cellOctets (x .cells) ++ flat resultOctets (x .results)) inRecord.settled fixedSize (length-be 8 (x .id))
     (fixed-length (x .settled))
 
-pub settled-patch : (x : Stream) (f : Fixed) → patch settledPlace fixedSize (fixedOctets f) (streamOctets x) ≡ streamOctets (settledAs f x)
+pub settled-patch : (x : Stream) (f : Fixed) → patch inRecord.settled fixedSize (fixedOctets f) (streamOctets x) ≡ streamOctets (settledAs f x)
 settled-patch x f =
-    ap (patch settledPlace fixedSize (fixedOctets f)) (settled-laid x)
-    ∙ patch-between (be 8 (x .id)) (fixedOctets (x .settled)) (flat cellOctets (x .cells) ++ flat resultOctets (x .results)) (fixedOctets f) settledPlace fixedSize
+    ap (patch inRecord.settled fixedSize (fixedOctets f)) (settled-laid x)
+    ∙ patch-between (be 8 (x .id)) (fixedOctets (x .settled)) (flat cellOctets (x .cells) ++ flat resultOctets (x .results)) (fixedOctets f) inRecord.settled fixedSize
     (length-be 8 (x .id)) (fixed-length (x .settled))
     ∙ sym (settled-laid (settledAs f x))
 
@@ -64,12 +64,12 @@ module _ (x : Stream) (w : FitStream x) (p a : ℕ) (h : p < 8) (e : a ≡ cellI
 
   pub cell-part : part a cellSize (streamOctets x) ≡ cellOctets (cellAt x p)
   unfolding streamOctets cellAt
-  cell-part = part-one cellSize cellOctets cellsPlace (name x) (flat resultOctets (x .results)) (name-length x) (x .cells) (cells-sized (x .cells)) p a a-cell e empty
+  cell-part = part-one cellSize cellOctets inRecord.cells (name x) (flat resultOctets (x .results)) (name-length x) (x .cells) (cells-sized (x .cells)) p a a-cell e empty
 
   pub cell-patch : (u : Cell → Cell) → patch a cellSize (cellOctets (u (cellAt x p))) (streamOctets x) ≡ streamOctets (change (at p u) x)
   unfolding streamOctets cellAt change
   cell-patch u =
-      patch-one cellSize cellOctets cellsPlace (name x) (flat resultOctets (x .results)) (name-length x) (x .cells) (cells-sized (x .cells)) p a a-cell e
+      patch-one cellSize cellOctets inRecord.cells (name x) (flat resultOctets (x .results)) (name-length x) (x .cells) (cells-sized (x .cells)) p a a-cell e
       (u (getD (x .cells) p empty))
       ∙ ap (λ (l : List Cell). name x ++ (flat cellOctets l ++ flat resultOctets (x .results))) (at-set p u (x .cells) empty a-cell)
 
@@ -87,7 +87,7 @@ unfolding streamOctets
 results-laid x = simp (append-assoc, append-nil)
 
 module _ (x : Stream) (w : FitStream x) where
-  ahead-length : length (ahead x) ≡ resultsPlace
+  ahead-length : length (ahead x) ≡ inRecord.results
   ahead-length = length-append (name x) (flat cellOctets (x .cells)) ∙ omega (arith, name-length x, length-cells x (w .eight-cells) (w .eight-results))
 
   module _ (p a : ℕ) (h : p < 8) (e : a ≡ resultIn p) where
@@ -98,12 +98,12 @@ module _ (x : Stream) (w : FitStream x) where
     unfolding resultAt
     result-part =
         ap (part a resultSize) (results-laid x)
-        ∙ part-one resultSize resultOctets resultsPlace (ahead x) [] ahead-length (x .results) (results-sized (x .results)) p a a-result e unsettled
+        ∙ part-one resultSize resultOctets inRecord.results (ahead x) [] ahead-length (x .results) (results-sized (x .results)) p a a-result e unsettled
 
     pub result-patch : (r : Result) → patch a resultSize (resultOctets r) (streamOctets x) ≡ streamOctets (resulting (λ l. set l p r) x)
     result-patch r =
         ap (patch a resultSize (resultOctets r)) (results-laid x)
-        ∙ patch-one resultSize resultOctets resultsPlace (ahead x) [] ahead-length (x .results) (results-sized (x .results)) p a a-result e r
+        ∙ patch-one resultSize resultOctets inRecord.results (ahead x) [] ahead-length (x .results) (results-sized (x .results)) p a a-result e r
         ∙ sym (results-laid (resulting (λ l. set l p r) x))
 
     pub result-fits : FitResult (resultAt x p)

@@ -4,7 +4,7 @@ use mathlib.Core.Path.{_≡_, _∙_}
 use borrow.Author.Needs.{needs}
 use Rattle.octets.specs.Be.{be}
 use Rattle.octets.specs.Parts.{part, patch, zeros}
-use Rattle.model.specs.Layout.{addressIn, addressSize, addressCountPlace, macPlace}
+use Rattle.model.specs.Layout.{addressIn, addressSize, inOwn, inAddress}
 use Rattle.model.specs.Table.{toOwn}
 use Rattle.table.proofs.OwnParts.{laid-own-is, laid-own-fits}
 use Rattle.addresses.proofs.Places.{put-in}
@@ -18,7 +18,7 @@ returns c =
     let p = first .pre in
     let n = c .before .before .before .before .before .before .before .before .before .before .before .before .before .before .before .before .count in
     let all : c .before .before .put2 .last .0
-    ≡ patch addressCountPlace 1 (be 1 (n .result + 1)) (patch (addressIn (a .k) + macPlace) 6 (be 6 (a .mac))
+    ≡ patch inOwn.count 1 (be 1 (n .result + 1)) (patch (addressIn (a .k) + inAddress.mac) 6 (be 6 (a .mac))
     (patch (addressIn (a .k)) addressSize (zeros addressSize) (patch (addressIn (a .k) + addressSize) ((n .result - a .k) * addressSize) (part (addressIn (a .k)) ((n .result - a .k) * addressSize) (a .own .now)) (a .own .now)))) = cc in
     all ∙ put-in (toOwn (a .own .now)) (laid-own-fits (a .own .now) (p .laid)) (a .k) (a .mac) (p .within) (p .few) (a .own .now) (laid-own-is (a .own .now) (p .laid)) _ (n .ensures .0)
 

@@ -4,7 +4,7 @@ use mathlib.Core.Path.{_≡_, _∙_}
 use borrow.Author.Needs.{needs}
 use Rattle.octets.specs.Be.{be}
 use Rattle.octets.specs.Parts.{part, patch, zeros}
-use Rattle.model.specs.Layout.{addressIn, addressSize, addressesPlace, addressCountPlace}
+use Rattle.model.specs.Layout.{addressIn, addressSize, inOwn}
 use Rattle.model.specs.Table.{toOwn}
 use Rattle.table.proofs.OwnParts.{laid-own-is, laid-own-fits}
 use Rattle.addresses.proofs.Places.{taken-out}
@@ -18,7 +18,7 @@ returns c =
     let p = first .pre in
     let n = c .before .before .before .before .before .before .before .before .before .before .before .before .count in
     let all : c .before .before .put .last .0
-    ≡ patch addressCountPlace 1 (be 1 (n .result - 1)) (patch (addressesPlace + (n .result - 1) * addressSize) addressSize (zeros addressSize)
+    ≡ patch inOwn.count 1 (be 1 (n .result - 1)) (patch (inOwn.addresses + (n .result - 1) * addressSize) addressSize (zeros addressSize)
     (patch (addressIn (a .k)) ((n .result - 1 - a .k) * addressSize) (part (addressIn (a .k) + addressSize) ((n .result - 1 - a .k) * addressSize) (a .own .now)) (a .own .now))) = cc in
     let f = laid-own-fits (a .own .now) (p .laid) in
     all ∙ taken-out (toOwn (a .own .now)) f (a .k) (p .held) (a .own .now) (laid-own-is (a .own .now) (p .laid)) _ (n .ensures .0) (f .addresses .at-most-64)

@@ -3,7 +3,7 @@ use Prim.Native.Nat.{_/_}
 use mathlib.Core.Path.{_≡_}
 use borrow.Author.Needs.{needs}
 use Rattle.octets.specs.Be.{beAt}
-use Rattle.model.specs.Layout.{priorityPlace}
+use Rattle.model.specs.Layout.{inCell}
 use Rattle.model.specs.State.{classOf, classLatency}
 use Rattle.model.specs.Table.{toPort, decode}
 use Rattle.columns.proofs.Talkers.{latency-capped, latency-whole}
@@ -13,7 +13,7 @@ use Rattle.columns.proofs.latency_out.Tie as tie
 -- the class latency that was read
 added : (c : tie.After-class-latency)
     → c .class-latency .result
-    ≡ classLatency (toPort (c .before .port-at .result .now)) (classOf (decode (c .before .before .before .before .before .before .before .args .table .now) .settings) (beAt 1 (c .before .before .before .before .before .cell-at .result .now) priorityPlace / 32))
+    ≡ classLatency (toPort (c .before .port-at .result .now)) (classOf (decode (c .before .before .before .before .before .before .before .args .table .now) .settings) (beAt 1 (c .before .before .before .before .before .cell-at .result .now) inCell.priority / 32))
 added c = rw (← (c .before .before .before .before .get .ensures .0), ← (c .before .before .before .class-of .ensures)) (c .class-latency .ensures .0)
 
 returns : tie.Need-returns

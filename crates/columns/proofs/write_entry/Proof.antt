@@ -4,7 +4,7 @@ use mathlib.Core.Path.{refl}
 use native.Mathlib.Omega.{arith}
 use borrow.Author.Needs.{needs}
 use Rattle.octets.specs.Fields.{width}
-use Rattle.model.specs.Layout.{entryPlace}
+use Rattle.model.specs.Layout.{inResult}
 use Rattle.columns.specs.Answers.{entryWidths}
 use Rattle.columns.proofs.ResultFields.{puts, puts-packed}
 use Rattle.columns.proofs.write_entry.Statement.{statement}
@@ -15,7 +15,7 @@ unfolding puts width
 returns c =
     let a = c .before .before .before .before .before .before .before .before .before .before .before .before .before .args in
     rw (c .before .before .put3 .ensures, c .before .before .before .before .before .before .put2 .ensures, c .before .before .before .before .before .before .before .before .before .before .put .ensures)
-    (puts-packed entryWidths (a .entry ∷ a .age ∷ 0 ∷ []) refl entryPlace (a .result .now) (omega arith))
+    (puts-packed entryWidths (a .entry ∷ a .age ∷ 0 ∷ []) refl inResult.entry (a .result .now) (omega arith))
 
 pub write-entry-spec : {M : Type 1} → statement M
 write-entry-spec =

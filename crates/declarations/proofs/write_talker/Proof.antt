@@ -7,7 +7,7 @@ use lib.ListN.{length}
 use Rattle.octets.specs.Be.{be}
 use Rattle.octets.specs.Parts.{part}
 use Rattle.octets.proofs.Parts.{lent-part, length-part}
-use Rattle.model.specs.Layout.{latencyOutPlace}
+use Rattle.model.specs.Layout.{inResult}
 use Rattle.model.specs.State.{resultAt, streamAt}
 use Rattle.model.specs.Table.{resultOctets, decode}
 use Rattle.model.proofs.Results.{result-length}
@@ -28,9 +28,9 @@ returns c =
     let a = start .args in
     let r = resultAt (streamAt (a .k) (decode (a .table .now))) (a .p) in
     let read = c .before .before .before .before .before .before .before .before .before .result-at .ensures in
-    let enough : latencyOutPlace + a .more ≤ length (resultOctets r) = omega (arith, result-length r, start .pre .within) in
-    let seen = c .before .before .before .before .before .before .copy .ensures ∙ lent-part latencyOutPlace (a .more) _ ∙ ap (part latencyOutPlace (a .more)) (result-is read) in
-    let copied = holding-lent (c .before .before .before .before .before .before .before .before .before .before .before .before .begin-talker .ensures) (a .more) seen (length-part latencyOutPlace (a .more) (resultOctets r) enough) in
+    let enough : inResult.latency + a .more ≤ length (resultOctets r) = omega (arith, result-length r, start .pre .within) in
+    let seen = c .before .before .before .before .before .before .copy .ensures ∙ lent-part inResult.latency (a .more) _ ∙ ap (part inResult.latency (a .more)) (result-is read) in
+    let copied = holding-lent (c .before .before .before .before .before .before .before .before .before .before .before .before .begin-talker .ensures) (a .more) seen (length-part inResult.latency (a .more) (resultOctets r) enough) in
     holding-all (holding-put copied 1 108 (c .before .before .put .ensures)) (omega (arith, start .pre .room))
 
 pub write-talker-spec : {M : Type 1} → statement M

@@ -3,7 +3,7 @@ use mathlib.Core.Path.{ap, _∙_}
 use borrow.Author.Needs.{needs}
 use Rattle.octets.specs.Be.{be}
 use Rattle.octets.specs.Parts.{patch}
-use Rattle.model.specs.Layout.{boundaryBPlace, boundaryPlace}
+use Rattle.model.specs.Layout.{inOwn}
 use Rattle.model.specs.Lists.{bit}
 use Rattle.model.specs.Table.{toOwn}
 use Rattle.domains.proofs.Ports.{laid-own-is, laid-own-fits, flags-put}
@@ -18,7 +18,7 @@ returns c =
     let a = first .args .a in
     let b = first .args .b in
     c .before .before .put2 .ensures
-    ∙ ap (patch boundaryBPlace 1 (be 1 (bit b))) (c .before .before .before .before .before .before .put .ensures ∙ ap (patch boundaryPlace 1 (be 1 (bit a))) (laid-own-is s (first .pre .0)))
+    ∙ ap (patch inOwn.boundaryB 1 (be 1 (bit b))) (c .before .before .before .before .before .before .put .ensures ∙ ap (patch inOwn.boundaryA 1 (be 1 (bit a))) (laid-own-is s (first .pre .0)))
     ∙ flags-put (toOwn s) (laid-own-fits s (first .pre .0) .slotted) a b
 
 pub set-flags-spec : {M : Type 1} → statement M

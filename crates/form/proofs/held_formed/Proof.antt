@@ -4,20 +4,20 @@ use Prim.Native.Nat.{_*_, _≤_}
 use native.Mathlib.Omega.{arith}
 use lib.ListN.{length, getD, take, drop}
 use borrow.Author.Needs.{needs}
-use Rattle.model.specs.Layout.{addressSize, addressesPlace, addressesSize, addressCountPlace}
+use Rattle.model.specs.Layout.{addressSize, inOwn, addressesSize}
 use Rattle.form.proofs.Tests.{all-together}
 use Rattle.form.proofs.Edges.{too-many-addresses, addresses-room, held-tests}
 use Rattle.form.proofs.held_formed.Statement.{statement}
 use Rattle.form.proofs.held_formed.Tie as tie
 
 cast-count : tie.Need-cast-count
-cast-count c = omega (arith, c .shared-slice-known2 .given addressCountPlace)
+cast-count c = omega (arith, c .shared-slice-known2 .given inOwn.count)
 
 returns : tie.Need-returns
 returns c = too-many-addresses _ _ _ (c .if1 .taken)
 
 -- the records in use are among what the port holds
-room : (c : tie.After-records) → let s = c .before .before .before .before .args .own .now in getD s addressCountPlace 0 * addressSize ≤ length (take addressesSize (drop addressesPlace s))
+room : (c : tie.After-records) → let s = c .before .before .before .before .args .own .now in getD s inOwn.count 0 * addressSize ≤ length (take addressesSize (drop inOwn.addresses s))
 room c = addresses-room (c .before .before .before .before .args .own .now) _ (c .before .before .before .before .pre) (c .before .if1 .left)
 
 addresses-formed-requires : tie.Need-addresses-formed-requires

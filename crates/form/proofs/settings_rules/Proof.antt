@@ -5,7 +5,7 @@ use native.Mathlib.Omega.{arith}
 use lib.ListN.{length, length-drop}
 use borrow.Author.Needs.{needs}
 use Rattle.octets.specs.Be.{beAt}
-use Rattle.model.specs.Layout.{portPlace, portSize, portsPlace, portsUnit, wordPlace}
+use Rattle.model.specs.Layout.{portPlace, portSize, inTable, portsUnit, inHead}
 use Rattle.model.specs.Table.{everyPart, portsField, portRule}
 use Rattle.form.proofs.Tests.{all-together}
 use Rattle.form.proofs.EveryPart.{lent-rest}
@@ -20,13 +20,13 @@ ports-formed-requires : tie.Need-ports-formed-requires
 unfolding portsField
 ports-formed-requires c κs =
     let s = c .before .before .before .before .before .before .args .settings .now in
-    let h : portPlace (beAt 3 s wordPlace / portsUnit) ≤ length s = c .before .before .before .before .before .before .pre .1 (omega arith) in
-    rw (lent-rest portsPlace s) (omega (arith, length-drop portsPlace s))
+    let h : portPlace (beAt 3 s inHead.word / portsUnit) ≤ length s = c .before .before .before .before .before .before .pre .1 (omega arith) in
+    rw (lent-rest inTable.ports s) (omega (arith, length-drop inTable.ports s))
 
 returns-2 : tie.Need-returns-2
 returns-2 c =
     rw (
-      c .ports-formed .ensures ∙ ap (everyPart portSize portRule _) (lent-rest portsPlace (c .before .before .before .before .before .before .before .args .settings .now)),
+      c .ports-formed .ensures ∙ ap (everyPart portSize portRule _) (lent-rest inTable.ports (c .before .before .before .before .before .before .before .args .settings .now)),
       c .before .before .before .get2 .ensures .0,
       c .before .before .get3 .ensures .0,
     )

@@ -8,16 +8,16 @@ use Rattle.form.proofs.Tests.{all-together}
 use Rattle.form.proofs.Tables.{too-many-streams, records-room, table-ports, streams-tests}
 use Rattle.form.proofs.streams_formed.Statement.{statement}
 use Rattle.form.proofs.streams_formed.Tie as tie
-use Rattle.model.specs.Layout.{countPlace, recordSize, recordsPlace, recordsSize}
+use Rattle.model.specs.Layout.{inTable, recordSize, recordsSize}
 
 cast-count : tie.Need-cast-count
-cast-count c = omega (arith, c .shared-slice-known2 .given countPlace)
+cast-count c = omega (arith, c .shared-slice-known2 .given inTable.count)
 
 returns : tie.Need-returns
 returns c = too-many-streams _ (c .if1 .taken)
 
 -- the records in use are in the table
-room : (c : tie.After-records) → getD (c .before .before .before .before .before .before .args .table .now) countPlace 0 * recordSize ≤ length (take recordsSize (drop recordsPlace (c .before .before .before .before .before .before .args .table .now)))
+room : (c : tie.After-records) → getD (c .before .before .before .before .before .before .args .table .now) inTable.count 0 * recordSize ≤ length (take recordsSize (drop inTable.records (c .before .before .before .before .before .before .args .table .now)))
 room c = records-room (c .before .before .before .before .before .before .args .table .now) _ (c .before .before .before .before .before .before .pre .0) (c .before .before .before .if1 .left)
 
 records-formed-requires : tie.Need-records-formed-requires

@@ -3,13 +3,13 @@ use native.Mathlib.Omega.{arith}
 use Rattle.table.proofs.Header.{laid-length, laid-count, laid-few}
 use Rattle.table.proofs.count.Statement.{statement}
 use Rattle.table.proofs.count.Tie as tie
-use Rattle.model.specs.Layout.{countPlace}
+use Rattle.model.specs.Layout.{inTable}
 
 shared-slice-read-result : tie.Need-shared-slice-read-result
 shared-slice-read-result c = omega (arith, laid-length _ (c .before .pre))
 
 cast-result : tie.Need-cast-result
-cast-result c = omega (arith, c .shared-slice-known .given countPlace)
+cast-result c = omega (arith, c .shared-slice-known .given inTable.count)
 
 returns : tie.Need-returns
 returns c = (laid-count _ (c .before .pre), omega (arith, laid-count _ (c .before .pre), laid-few _ (c .before .pre)))

@@ -8,7 +8,7 @@ use native.Mathlib.Omega.{arith}
 use lib.ListN.{length, getD}
 use Rattle.octets.specs.Be.{be}
 use Rattle.octets.specs.Parts.{patch}
-use Rattle.model.specs.Layout.{countPlace, tableLength}
+use Rattle.model.specs.Layout.{inTable, tableLength}
 use Rattle.model.specs.State.{fresh}
 use Rattle.model.specs.Settling.{held}
 use Rattle.model.specs.Table.{decode}
@@ -77,7 +77,7 @@ returns c =
     let f = laid-fits _ (c .before .before .before .before .before .before .before .before .before .before .before .before .before .pre) in
     let n = c .before .before .before .before .before .before .before .before .before .before .count .result in
     c .before .before .put .ensures
-    ∙ ap (patch countPlace 1 (be 1 (l .j))) (c .before .before .before .before .before .before .clear .ensures)
+    ∙ ap (patch inTable.count 1 (be 1 (l .j))) (c .before .before .before .before .before .before .clear .ensures)
     ∙ closing-end _ f (l .table) (l .i) (l .j) (l .inv .closing) n (l .inv .count) (omega arith)
 
 pub drop-unheld-spec : {M : Type 1} → statement M

@@ -4,7 +4,7 @@ use native.Mathlib.Omega.{arith}
 use borrow.Author.Needs.{needs}
 use Rattle.octets.specs.Be.{be}
 use Rattle.octets.specs.Parts.{patch}
-use Rattle.model.specs.Layout.{clockPlace}
+use Rattle.model.specs.Layout.{inTable}
 use Rattle.model.proofs.Fits.{laid-is, laid-fits}
 use Rattle.table.proofs.Header.{laid-length, clock-patch}
 use Rattle.table.proofs.set_clock.Statement.{statement}
@@ -17,7 +17,7 @@ returns : tie.Need-returns
 returns c =
     let first = c .before .before .before .before .before in
     c .before .before .put .ensures
-    ∙ ap (patch clockPlace 4 (be 4 (first .args .time))) (laid-is _ (first .pre))
+    ∙ ap (patch inTable.clock 4 (be 4 (first .args .time))) (laid-is _ (first .pre))
     ∙ clock-patch _ (laid-fits _ (first .pre)) (first .args .time)
 
 pub set-clock-spec : {M : Type 1} → statement M
