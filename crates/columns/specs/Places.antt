@@ -7,7 +7,7 @@ use lib.ListN.{length, getD, set, drop}
 use Rattle.model.specs.Layout.{cellSize}
 use Rattle.model.specs.Lists.{tabulate}
 use Rattle.model.specs.State.{Stream, Bridge, ownAt}
-use Rattle.model.specs.Settling.{Scene, sceneOf, sourceOf, inboundOf, inboundsOf}
+use Rattle.model.specs.Settling.{Scene, sceneOf, sourceOf, inboundsOf}
 use Rattle.model.specs.Table.{decode}
 use Rattle.model.specs.Laid.{Laid}
 use Rattle.table.specs.Updates.{resulting, streamAt, withStream}
@@ -46,7 +46,7 @@ pub record TalkerAt (s : List ℕ) (k t : ℕ) : Type 0 where
 -- with the own failure that it has on every port
 pub record FailureAt (s : List ℕ) (k t common : ℕ) : Type 0 where
   pub talker : TalkerAt s k t
-  pub is : common ≡ commonFailure (sceneOf (decode s)) (inboundOf (streamAt k (decode s)))
+  pub is : common ≡ commonFailure (sceneOf (decode s)) (streamAt k (decode s))
 
 -- stream k changed by what g makes of the scene and the stream
 abbrev pub changedAt : ℕ → (Scene → Stream → Stream) → Bridge → Bridge

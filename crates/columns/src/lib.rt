@@ -10,7 +10,7 @@ ghost use Rattle.model.specs.Layout.{cellSize, inResult, inCell, portSize, resu
 ghost use Rattle.model.specs.State as state;
 ghost use Rattle.model.specs.State.{isNoClass, classLatency, portAt, cellAt, ownAt, failed};
 ghost use Rattle.model.specs.Settling as model;
-ghost use Rattle.model.specs.Settling.{Scene, sceneOf, isInbound, isPruned, sourceOf, fixedOf, talkerTypeOf, failedColumn, stepI, stepsFrom, steps, ageOf, latencyOut, entryOf, ageKept};
+ghost use Rattle.model.specs.Settling.{Scene, sceneOf, isInbound, isPruned, sourceOf, fixedOf, talkerTypeOf, failedColumn, stepI, stepL, stepsFrom, steps, ageOf, latencyOut, entryOf, ageKept};
 ghost use Rattle.model.specs.Why.{firstName, columnBy};
 ghost use Rattle.model.specs.Table.{toPort, toCell, toResult, toEntry, toDeclared, entryNumber, resultOctets, encode, decode};
 ghost use Rattle.model.specs.Laid.{Laid};
@@ -21,7 +21,7 @@ ghost use Rattle.fanin.specs.Sets.{setTo};
 ghost use Rattle.fanin.specs.Places.{SettledTo};
 ghost use Rattle.columns.specs.Stages.{shownBy, lastStep, earlyColumn, early, earlyAll};
 ghost use Rattle.columns.specs.Answers.{columnShown, latencyPlaceOf, sizePlace, columnWidths, columnNumbers, entryWidths, entrySize};
-ghost use Rattle.columns.specs.Steps.{stepShown, aboutShown, edgeOf, EdgesOf};
+ghost use Rattle.columns.specs.Steps.{stepShown, stepsBefore, aboutShown, edgeOf, EdgesOf};
 ghost use Rattle.columns.specs.Places.{Asked, TalkerIn, SceneOn, TalkerAt, FailureAt, changedAt, earlyOne, earlyTo};
 use streams::ClassRead;
 use table::cell;
@@ -162,12 +162,12 @@ fn is_pruned(table: &[u8], said: &[u8], p: usize) -> bool
     false
 }
 
-// Steps a to f, j, k and n on the port at place p with these flags, whose cell is here, for the Talker's cell said at place t: the
-// first that applies, i where none does.
+// The steps before l on the port at place p with these flags, whose cell is here, for the Talker's cell said at place t: the first that
+// applies, i where none does.
 fn first_step(table: &[u8], here: &[u8], said: &[u8], p: usize, t: usize, edges: Edges) -> Step
     requires { ⌜ Asked (now table) (now here) (now said) p ⌝ }
-    ensures { λ r. ⌜ ((sc : Scene) → SceneOn (decode (now (table .entry))) p edges sc
-        → stepShown r ≡ firstName (stepsFrom sc p (toCell (now (here .entry))) (sourceIn t (toCell (now (said .entry))))) stepI) ⌝ }
+    ensures { λ r. ⌜ ((sc : Scene) (n : ℕ) → SceneOn (decode (now (table .entry))) p edges sc
+        → stepShown r ≡ firstName (stepsBefore stepL (stepsFrom sc p (toCell (now (here .entry))) n (sourceIn t (toCell (now (said .entry)))))) stepI) ⌝ }
 {
     let kind = said[cell::TALKER];
     let mark = said[cell::CHANGED];
@@ -205,7 +205,7 @@ fn first_step(table: &[u8], here: &[u8], said: &[u8], p: usize, t: usize, edges:
     Step::I
 }
 
-// The steps behind them, for the Talker's cell said: the own failure that the stream has on every port, then g.
+// The steps from l on, for the Talker's cell said: the own failure that the stream has on every port, then g.
 fn last_step(table: &[u8], said: &[u8], p: usize, common: u8) -> Step
     requires { ⌜ PortIn (now table) p × (length (now said) ≡ cellSize) ⌝ }
     ensures { λ r. ⌜ stepShown r ≡ lastStep common (portAt (decode (now (table .entry)) .settings) p) (beAt 2 (now (said .entry)) sizePlace) ⌝ }

@@ -3,14 +3,13 @@ use mathlib.Core.Path.{_≡_, sym, _∙_}
 use Prim.Native.Nat.{_<_}
 use lib.ListN.{length}
 use borrow.Author.Needs.{needs}
-use Rattle.model.specs.State.{cellAt}
-use Rattle.model.specs.Settling.{Scene, sourceOf, stepI, stepsFrom}
+use Rattle.model.specs.Settling.{Scene, stepI, stepL}
 use Rattle.model.specs.Table.{decode}
 use Rattle.model.specs.Why.{firstName}
 use Rattle.table.specs.Updates.{streamAt}
-use Rattle.columns.specs.Steps.{stepShown}
+use Rattle.columns.specs.Steps.{stepShown, stepsBefore}
 use Rattle.columns.specs.Places.{SceneOn}
-use Rattle.columns.proofs.Steps.{no-port, none-but-i, goes-no-further, goes-on, same-failure}
+use Rattle.columns.proofs.Steps.{no-port, all, none-but-i, goes-no-further, goes-on, same-failure}
 use Rattle.columns.proofs.Talkers.{source-read, size-read}
 use Rattle.columns.proofs.early_step.Statement.{statement}
 use Rattle.columns.proofs.early_step.Tie as tie
@@ -21,10 +20,11 @@ On c sc = let a = c .before .before .before .before .before .before .args in Sce
 -- what the first steps named
 shown : (c : tie.After-first-step) (sc : Scene) → On c sc
     → let a = c .before .before .before .before .before .before .args in let x = streamAt (a .k) (decode (a .table .now)) in
-    stepShown (c .first-step .result) ≡ firstName (stepsFrom sc (a .p) (cellAt x (a .p)) (sourceOf x)) stepI
+    stepShown (c .first-step .result) ≡ firstName (stepsBefore stepL (all sc (a .p) x)) stepI
 shown c sc w =
+    let a = c .before .before .before .before .before .before .args in
     let e = source-read _ _ (c .before .before .before .before .before .before .pre .0 .talker .is) _ (c .before .cell-at2 .ensures) in
-    c .first-step .ensures sc w ∙ rw (c .before .before .cell-at .ensures .is, e)
+    c .first-step .ensures sc (streamAt (a .k) (decode (a .table .now)) .id) w ∙ rw (c .before .before .cell-at .ensures .is, e)
 
 port : (c : tie.After-first-step) (sc : Scene) → On c sc → c .before .before .before .before .before .before .args .p < length (sc .settings .ports)
 port c sc w = rw (w .settings, ← (c .before .before .before .before .ports .ensures .0)) (c .before .before .before .if1 .left)
