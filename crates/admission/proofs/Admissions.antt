@@ -13,7 +13,7 @@ use borrow.Author.Tests.{lt-ltb, le-ltb, eqb-true, eqb-false}
 use Rattle.model.specs.Lists.{keep, tabulate}
 use Rattle.model.specs.State.{Settings, Column, advertise, failed, filters, forwards, Result, Stream, Totals, Bridge, noTotals, unsettled, inForce, portAt, isPort, cellAt, resultAt, Class, noClass, classA, classB, classOf, isNoClass, sameClass}
 use Rattle.model.specs.Bandwidth.{Claim, remains, admitted, sort, reserved, total}
-use Rattle.model.specs.Settling.{Scene, Source, nowhere, from, sourceOf, fixedOf, streamClass, registered, isReady, clear, inboundOf, steps, stepsFrom, lastSteps, ageOf, claim, claims, limitOn, leftFor, byBandwidth, columnOf, entryOf, ageKept, latencyKept, totalOn, totalsOn, isAdvertise, bandwidthSteps, first, outcomeColumn}
+use Rattle.model.specs.Settling.{Scene, Source, nowhere, from, sourceOf, fixedOf, streamClass, registered, isReady, clear, steps, stepsFrom, ageOf, claim, claims, limitOn, leftFor, byBandwidth, columnOf, entryOf, ageKept, latencyKept, totalOn, totalsOn, isAdvertise, bandwidthSteps, first, outcomeColumn}
 use Rattle.model.proofs.Lists.{and-true, and-false}
 use Rattle.model.proofs.AdvanceKeepsForm.{length-tabulate}
 use Rattle.model.proofs.Admission.{Two, lo, hi, two}
@@ -66,7 +66,7 @@ module _ (sc : Scene) (q : ℕ) (x : Stream) where
   unfolding steps stepsFrom streamClass fixedOf isNoClass clear
   no-class e = simp (go (sourceOf x) e, and-false)
     where
-      go : (t : Source) → classOf (sc .settings) (fixedOf t .priority) ≡ noClass → clear (stepsFrom sc q (cellAt x q) t ++ lastSteps sc q (inboundOf x)) ≡ false
+      go : (t : Source) → classOf (sc .settings) (fixedOf t .priority) ≡ noClass → clear (stepsFrom sc q (cellAt x q) (x .id) t) ≡ false
       go nowhere e = refl
       go (from o) e = simp (e, and-false)
 
