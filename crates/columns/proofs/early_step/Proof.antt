@@ -15,7 +15,7 @@ use Rattle.columns.proofs.early_step.Statement.{statement}
 use Rattle.columns.proofs.early_step.Tie as tie
 
 abbrev On : tie.After-first-step → Scene → Type 0
-On c sc = let a = c .before .before .before .before .before .before .args in SceneOn (decode (a .table .now)) (a .p) (a .edges) sc
+On c sc = let a = c .before .before .before .before .before .before .args in SceneOn (decode (a .table .now)) (a .p) (a .own .edges) sc
 
 -- what the first steps named
 shown : (c : tie.After-first-step) (sc : Scene) → On c sc
@@ -28,6 +28,12 @@ shown c sc w =
 
 port : (c : tie.After-first-step) (sc : Scene) → On c sc → c .before .before .before .before .before .before .args .p < length (sc .settings .ports)
 port c sc w = rw (w .settings, ← (c .before .before .before .before .ports .ensures .0)) (c .before .before .before .if1 .left)
+
+first-step-requires : tie.Need-first-step-requires
+first-step-requires c κs =
+    let w = c .before .before .before .before .before .pre in
+    let e = source-read _ _ (w .0 .talker .is) _ (c .cell-at2 .ensures) in
+    (search needs, rw e (w .2))
 
 returns : tie.Need-returns
 unfolding stepShown
@@ -47,5 +53,5 @@ returns-3 c = λ sc w.
 pub early-step-spec : {M : Type 1} → statement M
 early-step-spec =
     tie.close
-    (tie.spec (λ c κs. search needs) returns (λ c κs. search needs) (λ c κs. search needs) (λ c κs. search needs)
+    (tie.spec (λ c κs. search needs) returns (λ c κs. search needs) (λ c κs. search needs) first-step-requires
     (λ c. search needs) returns-2 (λ c κs. search needs) returns-3)
