@@ -12,7 +12,7 @@ use borrow.Author.Tests.{eqb-false, ne-eqb, lt-ltb}
 use Rattle.model.specs.State.{Port, Settings, Cell, Domain, noDomain, domain, Own, noOwn, failed, Stream, Bridge, noPort, portAt, isPort, cellAt, ownAt, Class, noClass, classA, classB, classOf, isNoClass, supports, classPriority}
 use Rattle.model.specs.Settling.{Source, nowhere, from, sourceOf, fixedOf, talkerTypeOf, streamClass, isDomain, anyDomain, otherPriority, domainsOf, anySupports, isEdge, flagOf, decideOwn, decideOwns, boundary, Scene, clear, isTalkerFailed, stepsFrom, steps, columnOf, settle}
 use Rattle.model.specs.Table.{columnCode}
-use Rattle.model.proofs.OwnCodes.{gives, earlier, asked, never, once, stepsOf, own-decided, own-only}
+use Rattle.model.proofs.OwnCodes.{gives, earlier, asked, never, once, stepsOf, no-talker, own-decided, own-only}
 use Rattle.model.proofs.ColumnRule.{at-place}
 
 -- h), condition by condition; a port declares the classes that it supports.
@@ -180,11 +180,7 @@ module _ (sc : Scene) (p : ℕ) (here : Cell) (n : ℕ) where
   eight-asked : (o : Source) → clear (earlier 8 (stepsOf sc p here n o)) ≡ true
       → asked 8 (stepsOf sc p here n o) ≡ boundary (ownAt (sc .owns) p) (classOf (sc .settings) (fixedOf o .priority))
   unfolding stepsFrom clear earlier asked gives fixedOf
-  eight-asked nowhere free = absurd (go (isPort (sc .settings) p) free)
-    where
-      go : (t : Bool) → (not (not t) && false) ≡ true → ⊥
-      go true e = false≢true e
-      go false e = false≢true e
+  eight-asked nowhere free = absurd (no-talker sc p here n 8 free)
   eight-asked (from o) free = refl
 
   eight-once : (o : Source) → once 8 (stepsOf sc p here n o) ≡ true

@@ -7,7 +7,7 @@ use native.Mathlib.Omega.{arith}
 use lib.Dec.{eqb, leb}
 use borrow.Author.Tests.{eqb-true, eq-eqb}
 use Rattle.model.specs.State.{Settings, TalkerType, talkerAdvertise, talkerFailed, Column, advertise, failed, Cell, Stream, isPort}
-use Rattle.model.specs.Settling.{Source, sourceOf, talkerTypeOf, Scene, Outcome, columnNone, asRegistered, ownFailure, stepA, Step, first, clear, isTalkerFailed, failedColumn, outcomeColumn, stepsFrom, steps, claim, leftFor, byBandwidth, columnOf, asAdvertise, outcomeOf, bandwidthSteps}
+use Rattle.model.specs.Settling.{Source, nowhere, sourceOf, talkerTypeOf, Scene, Outcome, columnNone, asRegistered, ownFailure, stepA, Step, first, clear, isTalkerFailed, failedColumn, outcomeColumn, stepsFrom, steps, claim, leftFor, byBandwidth, columnOf, asAdvertise, outcomeOf, bandwidthSteps}
 use Rattle.model.specs.Table.{columnCode}
 
 -- whether an outcome is the own failure of code n
@@ -100,6 +100,15 @@ not-asked n (s ∷ l) h = go (gives n (outcomeOf s)) (s .test) h (not-asked n l)
 -- the steps by the cell here, the StreamID, and the Talker's place, if there is one
 abbrev pub stepsOf : Scene → ℕ → Cell → ℕ → Source → List Step
 stepsOf sc p here n o = record { name = stepA; test = not (isPort (sc .settings) p) } ∷ stepsFrom sc p here n o
+
+-- without a Talker one of them applies before any own failure
+pub no-talker : (sc : Scene) (p : ℕ) (here : Cell) (n code : ℕ) → clear (earlier code (stepsOf sc p here n nowhere)) ≡ true → ⊥
+unfolding stepsFrom clear earlier gives
+no-talker sc p here n code free = go (isPort (sc .settings) p) free
+  where
+    go : (t : Bool) → (not (not t) && false) ≡ true → ⊥
+    go true e = false≢true e
+    go false e = false≢true e
 
 advertise-code : (st : Settings) (o : Source) (n : ℕ) → 2 ≤ n → isTalkerFailed (talkerTypeOf o) ≡ false
     → (w : Outcome) → columnCode (outcomeColumn st o w) ≡ n → gives n w ≡ true

@@ -2,15 +2,15 @@
 -- and before 14", l and m "after 13 (after 8 where present)"). What is proved of each step stands under any order; this is the one.
 use mathlib.Core.Path.{_≡_, refl, sym, _∙_}
 use mathlib.Core.List.{List, [], _∷_, map}
-use mathlib.Core.Bool.{Bool, true, false, cond, not, _&&_, false≢true}
+use mathlib.Core.Bool.{Bool, true, false, cond}
 use Prim.Native.Nat.{ℕ}
 use lib.Dec.{ltb, leb}
 use borrow.Author.Tests.{lt-ltb, le-ltb, leb-true, leb-false}
-use Rattle.model.specs.State.{Cell, Stream, isPort, cellAt, classOf, isNoClass}
-use Rattle.model.specs.Settling.{Scene, Origin, Source, nowhere, from, sourceOf, fixedOf, streamClass, StepName, stepA, stepB, stepC, stepD, stepE, stepF, stepG, stepH, stepI, stepJ, stepK, stepL, stepM, stepN, Step, clear, stepsFrom, steps, claim, leftFor, outcomeOf, bandwidthSteps}
+use Rattle.model.specs.State.{Cell, Stream, cellAt, classOf, isNoClass}
+use Rattle.model.specs.Settling.{Scene, Origin, Source, nowhere, from, sourceOf, fixedOf, streamClass, StepName, stepA, stepB, stepC, stepD, stepE, stepF, stepG, stepH, stepI, stepJ, stepK, stepL, stepM, stepN, Step, clear, stepsFrom, steps, claim, leftFor, bandwidthSteps}
 use Rattle.model.specs.Why.{firstName, lastName, stepOn}
 use Rattle.model.proofs.Why.{name-clear}
-use Rattle.model.proofs.OwnCodes.{gives, earlier, asked, not-asked, stepsOf}
+use Rattle.model.proofs.OwnCodes.{gives, earlier, asked, not-asked, stepsOf, no-talker}
 
 -- Of a stream with a Talker; the first a is that of a place that is no port
 pub steps-in-order : (sc : Scene) (p : ℕ) (x : Stream) (o : Origin) → sourceOf x ≡ from o →
@@ -40,11 +40,7 @@ module _ (sc : Scene) (p : ℕ) where
   thirteen-first : (here : Cell) (n : ℕ) (o : Source) → clear (earlier 8 (stepsOf sc p here n o)) ≡ true
       → asked 13 (earlier 8 (stepsOf sc p here n o)) ≡ isNoClass (classOf (sc .settings) (fixedOf o .priority))
   unfolding stepsFrom clear earlier asked gives fixedOf
-  thirteen-first here n nowhere free = absurd (go (isPort (sc .settings) p) free)
-    where
-      go : (t : Bool) → (not (not t) && false) ≡ true → ⊥
-      go true e = false≢true e
-      go false e = false≢true e
+  thirteen-first here n nowhere free = absurd (no-talker sc p here n 8 free)
   thirteen-first here n (from o) free = refl
 
   pub classed-before-eight : (x : Stream) → clear (earlier 8 (steps sc p x)) ≡ true → isNoClass (streamClass (sc .settings) x) ≡ false
