@@ -15,8 +15,8 @@ use Rattle.octets.specs.Be.{beAt}
 use Rattle.octets.specs.Parts.{part}
 use Rattle.octets.specs.Fields.{fields, width}
 use Rattle.octets.proofs.Parts.{part-none, part-more}
-use Rattle.model.specs.Table.{allZero}
 use Rattle.form.proofs.Left.{Left, left-more, left-none}
+use Rattle.model.specs.Lists.{allZero}
 
 pub zero-append : (s t : List ℕ) → allZero (s ++ t) ≡ (allZero s && allZero t)
 unfolding allZero

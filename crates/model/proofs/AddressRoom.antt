@@ -12,16 +12,16 @@ use lib.Dec.{leb}
 use borrow.Author.Tests.{le-leb}
 use Rattle.model.specs.Layout.{mostAddresses}
 use Rattle.model.specs.Lists.{All, on, Octets}
-use Rattle.model.specs.State.{Settings, Own, Address, Stream, Bridge, noOwn, ownAt}
+use Rattle.model.specs.State.{Own, Bridge, noOwn, ownAt}
 use Rattle.model.specs.Registrations.{Act, AddressAct, leaveAll, leave, talk, listen, ofDomain, doesDomain, at, changeDomains, applyOwn, applyOwns, applyAll, Reading, refused, acts, AddressReading, refusedFrame, addressActs, Answer, doesAddresses, changeAddresses, holding, owning, received, receivedAddresses, together, macs, addressJoins, asksAddresses}
 use Rattle.model.specs.Frames.{reading, wrongPort}
-use Rattle.model.specs.AddressFrames.{addressWalk, addressReading}
+use Rattle.model.specs.AddressFrames.{addressReading}
 use Rattle.model.specs.Table.{decode, formed}
 use Rattle.model.specs.Calls.{receive, receiveMmrp, Frame, msrp, mmrp, receiveFrame, answersOn, afterOn, addressesBy, askedAddresses}
 use Rattle.model.proofs.Lists.{at-here, at-each, at-other, on-same, on-other}
 use Rattle.model.proofs.Valid.{Valid}
 use Rattle.model.proofs.ReceiveKeepsForm.{right-port}
-use Rattle.model.proofs.FrameOrder.{afterFrames, frameAnswers, frame-unchanged, after-settings, frame-settings, places-apart, first-fits, together-append}
+use Rattle.model.proofs.FrameOrder.{afterFrames, frameAnswers, frame-unchanged, frame-settings, places-apart, first-fits, together-append}
 use Rattle.model.proofs.Refusals.{receive-few}
 use Rattle.model.proofs.FoundAddresses.{address-faults}
 use Rattle.model.proofs.ReceivedAddresses.{hasRoom, withRoom, addressEffect, addressNumber, received-is}

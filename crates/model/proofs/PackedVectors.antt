@@ -18,7 +18,7 @@ use Rattle.model.specs.Registrations.{advertises, faileds, listeners, Ac
 use Rattle.model.specs.Frames.{registers, domainType, typeNumber, firstWidths, threeLength, fourLength, Vector, overpacked, runsPast, overflows, event, threePacked, fourPacked, eventOf, fourOf, asking, idValue, hearing, listenerAct, valueActs, valuesActs, leaveAllActs, vectorActs, frameActs}
 use Rattle.model.specs.Cutting.{mac, Shares, Part, concat, lastOf, values, Least}
 use Rattle.model.specs.Best.{best}
-use Rattle.model.specs.Declarations.{Declaration, talkerDeclaration, listenerDeclaration, domainDeclaration, talkerKind, attributeOf, joinOf, declaredId, declaredIds, having, write}
+use Rattle.model.specs.Declarations.{Declaration, talkerDeclaration, listenerDeclaration, domainDeclaration, talkerKind, attributeOf, joinOf, declaredId, declaredIds, having}
 use Rattle.model.specs.WrittenFrames.{listenerNumber, said, eventNumber, threeOctet, fourOctet, firstNumbers, fourOctets, declarationVector, packedVector, cutAs, listenerParts}
 use Rattle.model.specs.Laid.{Ascending}
 use Rattle.model.proofs.Lists.{all-map, all-take, all-drop, getD-tabulate}
@@ -27,6 +27,7 @@ use Rattle.model.proofs.LeastCutting.{best-cuts}
 use Rattle.model.proofs.OneCutting.{best-least, best-only}
 use Rattle.model.proofs.LongestRun.{Small, best-small}
 use Rattle.model.proofs.WritingPasses.{OfAttribute, ids-take, ids-drop, length-ids, cut-first, FewStreams, run-few}
+use Rattle.model.specs.Writing.{write}
 
 -- The parts written.
 

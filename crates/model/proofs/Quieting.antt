@@ -8,7 +8,7 @@ use native.Mathlib.Omega.{arith}
 use lib.ListN.{length, take, drop}
 use Rattle.model.specs.Lists.{All, keep}
 use Rattle.model.specs.Applicant.{ApplicantEvent, tx, txLA, txLAF, Standing, veryAnxiousPassive, veryAnxiousNew, anxiousNew, anxiousActive, quietActive, leavingActive, becomes, speaks}
-use Rattle.model.specs.Places.{Way, each, saying, reached, behind, leftBefore, writeFrom, runs, left}
+use Rattle.model.specs.Places.{each, saying, reached, behind, leftBefore, writeFrom, runs, left}
 use Rattle.model.specs.Machines.{Listed, with, after, way}
 use Rattle.model.proofs.Lists.{all-map, all-each, all-append, all-drop}
 use Rattle.model.proofs.ApplicantEntries.{written, written-leaving-all, left-out, speaking}

@@ -16,12 +16,12 @@ use Rattle.octets.proofs.Be.{beAt-ext, length-be}
 use Rattle.octets.proofs.Fields.{packed-octets, beAt-fits, fields-of-packed}
 use Rattle.model.specs.FrameLayout.{longestPdu}
 use Rattle.model.specs.Lists.{All, keep, bit}
-use Rattle.model.specs.State.{Port, Settings, Fixed, TalkerType, talkerAdvertise, talkerFailed, Ready, askingFailed, ready, readyFailed, Column, none, advertise, failed, Entry, noEntry, filters, forwards, Declared, nothing, tells, Result, Stream, Bridge, portAt, resultAt, classPriority, classId, unsettled, readyNumber}
+use Rattle.model.specs.State.{Port, Settings, Fixed, TalkerType, talkerAdvertise, talkerFailed, Ready, askingFailed, ready, readyFailed, Column, none, advertise, failed, Entry, noEntry, filters, forwards, Declared, nothing, tells, Result, Stream, Bridge, portAt, resultAt, classPriority, classId, unsettled, slotOf, readyNumber}
 use Rattle.model.specs.Registrations.{Kind, advertises, faileds, listeners, ids, talk, listen, ofDomain, joinDomain, acts}
-use Rattle.model.specs.Frames.{Attribute, registers, domainType, known, typeOctet, typeNumber, firstWidths, firstLength, threeLength, hasFour, fourLength, Vector, vectorAt, vectorEnd, overpacked, runsPast, overflows, strangeLeave, vectorIn, checkedIn, typedIn, listLength, listAt, messageEnd, endMark, headerIn, messageIn, listOf, found, also, both, vectorsFrom, vectors, messagesFrom, messages, walk, joinMt, event, threePacked, fourPacked, eventOf, fourOf, asking, join, priorityOf, rankOf, fixedValue, talkerTypeValue, idValue, hearing, talkerAct, listenerAct, hasSlot, slotOf, slotAct, domainAct, valueActs, valuesActs, leaveAllActs, vectorActs, frameActs, walked, wrongPort, reading}
+use Rattle.model.specs.Frames.{Attribute, registers, domainType, known, typeOctet, typeNumber, firstWidths, firstLength, threeLength, hasFour, fourLength, Vector, vectorAt, vectorEnd, overpacked, runsPast, overflows, strangeLeave, vectorIn, checkedIn, typedIn, listLength, listAt, messageEnd, endMark, headerIn, messageIn, listOf, found, also, both, vectorsFrom, vectors, messagesFrom, messages, walk, joinMt, event, threePacked, fourPacked, eventOf, fourOf, asking, join, priorityOf, rankOf, fixedValue, talkerTypeValue, idValue, hearing, talkerAct, listenerAct, hasSlot, slotAct, domainAct, valueActs, valuesActs, leaveAllActs, vectorActs, frameActs, walked, wrongPort, reading}
 use Rattle.model.specs.Cutting.{Part, values}
 use Rattle.model.specs.Best.{bests, best}
-use Rattle.model.specs.Declarations.{Declaration, talkerDeclaration, listenerDeclaration, domainDeclaration, talkerKind, attributeOf, joinOf, advertised, failing, listening, declarationsOf, ofKind, domainOf, domainValues, declarations, declaredId, declaredIds, sameAttribute, having, takes, write}
+use Rattle.model.specs.Declarations.{Declaration, talkerDeclaration, listenerDeclaration, domainDeclaration, talkerKind, attributeOf, joinOf, failing, listening, declarationsOf, ofKind, domainOf, domainValues, declarations, declaredId, declaredIds, sameAttribute, having, takes}
 use Rattle.model.specs.WrittenFrames.{priorityOctet, fixedNumbers, failureNumbers, firstNumbers, fourOctets, declarationVector, packedVector, cutAs, listenerParts, vectorsOf, vectorOctets, messageOf, messageOctets, pduOctets}
 use Rattle.model.specs.Laid.{Ascending}
 use Rattle.model.proofs.Lists.{all-map, all-append, all-take, all-drop, all-keep, all-getD, length-tabulate, and-left, and-right, and-false}
@@ -30,6 +30,8 @@ use Rattle.model.proofs.Parts.{rising-ascends}
 use Rattle.model.proofs.AdvanceKeepsForm.{unsettled-valid}
 use Rattle.model.proofs.WritingPasses.{length-first, known-type, inTurn, NotBefore, OfAttribute, InOrder, all-of-kind, all-domains, having-attribute, having-none, declared, write-above, write-from, run-in-order, run-fits, FewListeners, FewStreams, run-few}
 use Rattle.model.proofs.PackedVectors.{Packs, parts-pack, packed-events, packed-within, parts-join, no-domain}
+use Rattle.model.proofs.ColumnRule.{advertised}
+use Rattle.model.specs.Writing.{write}
 
 -- Octets behind a prefix.
 

@@ -20,7 +20,7 @@ use Rattle.model.specs.State.{Settings, Bridge}
 use Rattle.model.specs.Registrations.{refused, Answer, received, applyAll, add, together, ids, joins}
 use Rattle.model.specs.Frames.{Attribute, TypeOctet, notAllowed, unknown, known, typeOctet, firstLength, threeLength, hasFour, Vector, vectorAt, vectorEnd, overpacked, overflows, InList, badVector, listEnd, vectorHead, passedOver, strangeLeave, strangeVector, vectorIn, checkedIn, typedIn, InPdu, badMessage, pduEnd, listSkipped, listOf, listLength, listAt, messageEnd, endMark, headerIn, messageIn, Walk, fault, found, also, both, vectorsFrom, vectors, messagesFrom, messages, walk, walked, frameActs, reading, wrongPort}
 use Rattle.model.specs.Settling.{advance}
-use Rattle.model.specs.Declarations.{Written, write, declarations}
+use Rattle.model.specs.Declarations.{declarations}
 use Rattle.model.specs.Reports.{Report, refusedReport, report}
 use Rattle.model.specs.Table.{decode, clockField, formed, settingsFormed}
 use Rattle.model.specs.Calls.{Call, startOn, leaves, onTable, receive, receiveOn, advanceOn, WriteCall, refusedWrite, writtenTo, writeOn, reportOn}
@@ -28,6 +28,7 @@ use Rattle.model.proofs.Valid.{Rising, Valid}
 use Rattle.model.proofs.Tables.{valid-decode}
 use Rattle.model.proofs.Admission.{all-mem}
 use Rattle.model.proofs.FrameOrder.{acts-ids, held-ids}
+use Rattle.model.specs.Writing.{Written, write}
 
 -- what holds of both ways of a choice holds of the choice
 module _ {A : Type 0} (P : A → Type 0) where

@@ -7,7 +7,7 @@ use Prim.Native.Nat.{ℕ}
 use lib.Dec.{ltb, leb}
 use borrow.Author.Tests.{lt-ltb, le-ltb, leb-true, leb-false}
 use Rattle.model.specs.State.{Cell, Stream, isPort, cellAt, classOf, isNoClass}
-use Rattle.model.specs.Settling.{Scene, Origin, Source, nowhere, from, sourceOf, fixedOf, streamClass, Inbound, inboundOf, StepName, stepA, stepB, stepC, stepD, stepE, stepF, stepG, stepH, stepI, stepJ, stepK, stepL, stepM, stepN, Step, clear, stepsFrom, lastSteps, steps, claim, leftFor, outcomeOf, bandwidthSteps}
+use Rattle.model.specs.Settling.{Scene, Origin, Source, nowhere, from, sourceOf, fixedOf, streamClass, Inbound, inboundOf, stepA, stepB, stepC, stepD, stepE, stepF, stepG, stepH, stepI, stepJ, stepK, stepL, stepM, stepN, Step, clear, stepsFrom, lastSteps, steps, claim, leftFor, outcomeOf, bandwidthSteps}
 use Rattle.model.specs.Why.{firstName, lastName, stepOn}
 use Rattle.model.proofs.Why.{name-clear}
 use Rattle.model.proofs.OwnCodes.{gives, earlier, asked, stepsOf}

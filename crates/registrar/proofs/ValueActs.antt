@@ -17,7 +17,6 @@ use Rattle.model.specs.Lists.{Octets}
 use Rattle.model.proofs.Parts.{octets-at, octets-of}
 use Rattle.model.proofs.Valid.{ValidTalkerType}
 use Rattle.model.proofs.FoundVectors.{Fits, unique-within, id-fits, talkerValues, fixed-fits, latency-fits, destination-within}
-use Rattle.model.specs.Table.{toReady}
 use Rattle.model.specs.Frames as frames
 use Rattle.msrpdu.specs.Reader.{eventMeant, eventIn, fourIn, streamIdIn}
 use Rattle.msrpdu.specs.declared.Event.{Event}
@@ -26,6 +25,7 @@ use Rattle.msrpdu.proofs.Laws.{value-read}
 use Rattle.cells.specs.Acts.{kindAt, talkOf}
 use Rattle.registrar.specs.declared.Asked.the-variants.{Nothing}
 use Rattle.registrar.specs.Acts.{HasValue, attributeAt, vectorOf, joinOf, askedBy, askedOf, actsAsked}
+use Rattle.model.specs.WrittenFrames.{toReady}
 
 -- A join, of a Listener or of a Talker.
 

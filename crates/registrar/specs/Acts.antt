@@ -9,13 +9,13 @@ use Rattle.octets.specs.Be.{beAt}
 use Rattle.octets.specs.Fields.{fields}
 use Rattle.model.specs.Registrations.{Kind, advertises, faileds, listeners, Act, leave, listen, ofDomain, leaveDomain, joinDomain}
 use Rattle.model.specs.Frames.{Attribute, registers, domainType, firstWidths, firstLength, runsPast, Vector, Walk, fault, found, frameActs, idValue}
-use Rattle.model.specs.Table.{toReady}
 use Rattle.msrpdu.specs.declared.Event.{Event}
 use Rattle.msrpdu.specs.declared.Event.the-variants.{New, JoinIn, In, JoinMt, Mt, Lv, Missing}
 use Rattle.msrpdu.specs.Reader.{eventIn, fourIn}
 use Rattle.cells.specs.Acts.{talkOf}
 use Rattle.registrar.specs.declared.Asked.{Asked}
 use Rattle.registrar.specs.declared.Asked.the-variants.{Nothing, Join, Leave}
+use Rattle.model.specs.WrittenFrames.{toReady}
 
 -- A frame.
 

@@ -6,8 +6,8 @@ use lib.ListN.{length}
 use Rattle.octets.specs.Fields.{Fit, fields, packed}
 use Rattle.model.specs.Layout.{cellSize, fixedSize, fixedWidths, ownSize, portSize, resultSize, slotSize, totalSize}
 use Rattle.model.specs.State.{Port, Fixed, Cell, Domain, Own, Result, Totals}
-use Rattle.model.specs.WrittenFrames.{fixedNumbers}
-use Rattle.model.specs.Table.{fixedFrom, portOctets, toPort, toCell, toResult, totalsOctets, toTotals, toDomain, toOwn}
+use Rattle.model.specs.WrittenFrames.{fixedNumbers, fixedFrom}
+use Rattle.model.specs.Table.{portOctets, toPort, toCell, toResult, totalsOctets, toTotals, toDomain, toOwn}
 use Rattle.model.specs.Laid.{LaidCell, LaidResult, LaidDomain, LaidOwn}
 
 -- A Talker's fixed values, as a stream's settled ones stand.
