@@ -394,7 +394,7 @@ module _ (g : List Said) (i : ℕ) (h : i < values (declaredIds g)) where
       four-at (λ j. said g (getD (declaredIds g) 0 0 + j)) (λ j. said-small g (getD (declaredIds g) 0 0 + j)) (values (declaredIds g)) i h
 
 -- FirstValue's StreamID and a value's number make its StreamID
-counted : (x i : ℕ) (e : Event) (s : ℕ) → listenerAct (x ∷ []) i (asking e) s ++ listenerHeard (idValue (x ∷ []) i) e s ≡ listenerActs (x + i) e s
+pub counted : (x i : ℕ) (e : Event) (s : ℕ) → listenerAct (x ∷ []) i (asking e) s ++ listenerHeard (idValue (x ∷ []) i) e s ≡ listenerActs (x + i) e s
 unfolding listenerActs idValue
 counted x i e s = ap (λ (l : List Act). l ++ listenerHeard (x + i) e s) (go (asking e))
   where
