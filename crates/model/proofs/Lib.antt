@@ -46,6 +46,7 @@ pub mod WritingPasses
 pub mod PackedVectors
 pub mod PackedEvents
 pub mod ReadBack
+pub mod TwoBridges
 pub mod Versions
 pub mod CutOut
 pub mod Refusals

@@ -33,7 +33,7 @@ use Rattle.model.proofs.Lists.{all-map, all-each, all-append, all-take,
 use Rattle.model.proofs.Valid.{Valid, ValidFixed, ValidTalkerType, ValidVarying, GoodApplicant, ValidOffer, ValidFailed, ValidSends, ValidStream}
 use Rattle.model.proofs.Parts.{rising-ascends}
 use Rattle.model.proofs.AdvanceKeepsForm.{all-mapped, getD-past}
-use Rattle.model.proofs.WritingPasses.{length-first, known-type, inTurn, NotBefore, OfAttribute, InOrder, all-of-kind, having-attribute, having-none, run-in-order, run-fits, FewListeners, FewStreams, run-few}
+use Rattle.model.proofs.WritingPasses.{length-first, known-type, inTurn, all-of-saying, NotBefore, OfAttribute, InOrder, all-of-kind, having-attribute, having-none, run-in-order, run-fits, FewListeners, FewStreams, run-few}
 use Rattle.model.proofs.PackedVectors.{IsEvent, Packs, parts-pack, packed-events, packed-within, Within, acts-said, counted, listener-acts, parts-acts, no-domain}
 
 -- Octets behind a prefix.
@@ -594,11 +594,6 @@ spoken-event true registered anxiousActive = cond-below registered 1 3 (omega ar
 spoken-event true registered quietActive = cond-below registered 1 3 (omega arith) (omega arith)
 spoken-event true registered leavingActive = cond-below registered 2 4 (omega arith) (omega arith)
 
-all-saying : (Q : Listed Declaration → Type 0) (f : Listed Declaration → Bool) (l : List (Listed Declaration)) → All Q l → All Q (saying f l)
-unfolding saying
-all-saying Q f [] a = tt
-all-saying Q f (x ∷ l) a = all-keep Q (f x) x (saying f l) (a .0) (all-saying Q f l (a .1))
-
 -- what holds of everything that a write says holds of its run: it is some of the port's list, from the place on
 pub all-run : (P : Said → Type 0) (b : Bridge) (p place : ℕ) → All (λ x. P (sayOn b (p - 1) x)) (declarations b (p - 1)) → All P (write b p place .run)
 unfolding write wroteOn writeFrom
@@ -617,7 +612,7 @@ all-run P b p place a = go (ltb (length l) place)
     n = takesOn b (p - 1) rest
 
     of : All P (map (sayOn b (p - 1)) (take n rest))
-    of = all-mapped Q P (sayOn b (p - 1)) (λ x q. q) (take n rest) (all-take Q n rest (all-saying Q (portWay b (p - 1) .says) (drop place l) (all-drop Q place l a)))
+    of = all-mapped Q P (sayOn b (p - 1)) (λ x q. q) (take n rest) (all-take Q n rest (all-of-saying Q (portWay b (p - 1) .says) (drop place l) (all-drop Q place l a)))
 
     answer : Bool → Written
     answer t =
