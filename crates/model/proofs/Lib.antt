@@ -43,6 +43,7 @@ pub mod OneCutting
 pub mod LongestRun
 pub mod Gaps
 pub mod WritingPasses
+pub mod WrittenList
 pub mod PackedVectors
 pub mod PackedEvents
 pub mod ReadBack
