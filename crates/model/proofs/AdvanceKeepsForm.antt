@@ -23,6 +23,7 @@ use Rattle.model.proofs.Admission.{within}
 use Rattle.model.proofs.Owns.{no-own-valid}
 use Rattle.model.proofs.Deciding.{Stands, Holds, Unsent, decided-stands, withdrawn-unsent}
 use Rattle.model.proofs.Valid.{GoodApplicant, ValidOffer, ValidFailed, ValidSends, ValidLeaveAll, ValidSender, ValidLeaving, ValidFixed, ValidTalkerType, ValidRegistration, ValidTalker, ValidListener, ValidCell, ValidDomain, ValidPresence, ValidAddress, ValidOwn, ValidColumn, ValidAge, ValidResult, ValidStream, Rising, Valid, again-valid}
+use Rattle.model.proofs.Parts.{_also_}
 
 -- Lists.
 

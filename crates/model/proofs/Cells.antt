@@ -16,13 +16,13 @@ use Rattle.octets.proofs.Fields.{length-packed-any, fields-of-packed, fields-fi
 use Rattle.model.specs.Layout.{cellFields, cellIndex, cellSize, cellWidths, fixedWidths, inCell}
 use Rattle.model.specs.Lists.{All, allTrue, implies, tabulate, parts, Octets, bit, isOne, allZero}
 use Rattle.model.specs.State.{Leaving, stays, since, Fixed, TalkerType, talkerAdvertise, talkerFailed, Registration, Talker, noTalker, talker, Ready, askingFailed, ready, readyFailed, Listener, noListener, listener, Cell, empty, readyNumber}
-use Rattle.model.specs.Frames.{priorityOf, rankOf}
+use Rattle.model.specs.Frames.{priorityOf, rankOf, also}
 use Rattle.model.specs.WrittenFrames.{priorityOctet, fixedNumbers, fixedFrom, toReady}
 use Rattle.model.specs.Settling.{isTalking, isHearing, held}
 use Rattle.model.specs.Table.{leavingNumber, sinceNumber, toLeaving, talkerTypeNumber, bridgeNumber, codeNumber, toTalkerType, talkerNumbers, listenerNumbers, cellNumbers, registrationFrom, talkerFrom, listenerFrom, cellFrom, cellOctets, toCell, between, leavingRule, cellRules, cellFormed, holds}
 use Rattle.model.proofs.Lists.{all-each, and-left, and-right, and-both, implied, all-true, true-all}
 use Rattle.model.proofs.Valid.{ValidLeaving, ValidFixed, ValidTalkerType, ValidTalker, ValidListener, ValidCell}
-use Rattle.model.proofs.Parts.{octets-at, octets-packed, zero-run, two-zero, packed-whole, Sized}
+use Rattle.model.proofs.Parts.{_also_, octets-at, octets-packed, zero-run, two-zero, packed-whole, Sized}
 
 -- Fixed values: five numbers, the last of them priority and rank.
 

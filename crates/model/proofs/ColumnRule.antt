@@ -15,7 +15,7 @@ use Rattle.model.specs.State.{Settings, isPort, TalkerType, talkerAdvert
 use Rattle.model.specs.Registrations.{ids}
 use Rattle.model.specs.Table.{atMost, anyHeld}
 use Rattle.model.specs.Bandwidth.{Claim, key, above, sort, reserved, remains, admitted, total, taken}
-use Rattle.model.specs.Settling.{Scene, sceneOf, decideOwns, remain, Source, sourceOf, isSource, fixedOf, talkerTypeOf, streamClass, registered, isReady, isAdvertise, Outcome, columnNone, asRegistered, ownFailure, Step, first, clear, failedColumn, outcomeColumn, steps, ageOf, claim, claims, reservedA, limitOn, leftFor, byBandwidth, columnOf, latencyOut, entryOf, ageKept, latencyKept, passed, mergeAll, merged, decideAt, decide, totalOn, totalsOn, deciding, Inbound, inboundOf, inboundsOf, asAdvertise, bandwidthSteps, lastSteps, outcomeOf, stepA, stepsFrom}
+use Rattle.model.specs.Settling.{Scene, sceneOf, decideOwns, remain, Source, nowhere, from, sourceOf, isSource, fixedOf, talkerTypeOf, streamClass, registered, isReady, isAdvertise, Outcome, columnNone, asRegistered, ownFailure, Step, first, clear, failedColumn, outcomeColumn, steps, ageOf, claim, claims, reservedA, limitOn, leftFor, byBandwidth, columnOf, latencyOut, entryOf, ageKept, latencyKept, passed, mergeAll, merged, decideAt, decide, totalOn, totalsOn, deciding, Inbound, inboundOf, inboundsOf, asAdvertise, bandwidthSteps, lastSteps, outcomeOf, stepA, stepsFrom, about}
 use Rattle.model.proofs.Lists.{all-map, all-both, all-each, and-right, and-true, and-false}
 use Rattle.model.proofs.StepNames.{everyStep, every-all, notAdmitted}
 use Rattle.model.proofs.Valid.{Rising}

@@ -20,7 +20,7 @@ use Rattle.model.specs.Table.{sinceNumber, bridgeNumber, codeNumber, tal
 use Rattle.model.specs.Laid.{FitRank, FitCell, FitOwn, FitResult, FitOffer, FitFailure, FitApplicant, FitSends, FitSender, FitStream, FitBridge, LaidOut, LaidCell, LaidResult, LaidSends, LaidSender, Laid}
 use Rattle.model.proofs.Lists.{all-map}
 use Rattle.model.proofs.Valid.{ValidLeaving, ValidFixed, ValidTalkerType, ValidTalker, ValidListener, ValidCell, ValidOwn, ValidResult, GoodApplicant, ValidOffer, ValidFailure, ValidFailed, ValidSends, ValidStream, Valid}
-use Rattle.model.proofs.Parts.{parts-flat, many-read, rising-ascends}
+use Rattle.model.proofs.Parts.{_also_, parts-flat, many-read, rising-ascends}
 use Rattle.model.proofs.Cells.{fixed-fit, fixed-back, cell-fit, cell-back, cells-sized}
 use Rattle.model.proofs.Results.{result-fit, numbers-back, results-sized}
 use Rattle.model.proofs.SendsOctets.{offer-fit, failure-fit, sends-coded}

@@ -20,7 +20,7 @@ use Rattle.model.specs.Table.{toLeaving, leavingRule, everyPart, domainN
 use Rattle.model.specs.Laid.{FitOwn}
 use Rattle.model.proofs.Lists.{all-each, all-map, all-replicate, implied, all-true, true-all}
 use Rattle.model.proofs.Valid.{ValidDomain, ValidOwn, Rising}
-use Rattle.model.proofs.Parts.{Sized, octets-at, octets-append, octets-packed, octets-flat, octets-part, octets-drop, zero-at, zero-zeros, packed-whole, length-parts, length-flat-sized, flat-zeros, zeros-add, many-read, part-between}
+use Rattle.model.proofs.Parts.{_also_, Sized, octets-at, octets-append, octets-packed, octets-flat, octets-part, octets-drop, zero-at, zero-zeros, packed-whole, length-parts, length-flat-sized, flat-zeros, zeros-add, many-read, part-between}
 use Rattle.model.proofs.Cells.{bit-back, bit-forth, bit-few, leaving-back, leaving-few, since-within, leaving-formed, left}
 use Rattle.model.proofs.Coded.{Coded, many-keep, many-forth, many-valid}
 use Rattle.model.proofs.SettingsOctets.{octet-field}

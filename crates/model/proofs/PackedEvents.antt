@@ -11,7 +11,7 @@ use borrow.Author.Tests.{eq-eqb, ne-eqb, eqb-true, eqb-false}
 use Rattle.octets.specs.Parts.{zeros}
 use Rattle.model.specs.Lists.{All, tabulate}
 use Rattle.model.specs.Declarations.{Declaration, declaredId, declaredIds}
-use Rattle.model.specs.WrittenFrames.{listenerNumber, said, eventNumber, threeOctet, fourOctet}
+use Rattle.model.specs.WrittenFrames.{listenerNumber, said, threeOctet, fourOctet}
 use Rattle.model.proofs.Lists.{getD-tabulate, length-tabulate}
 use Rattle.model.proofs.Parts.{tabulate-zeros}
 

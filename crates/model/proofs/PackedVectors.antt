@@ -19,7 +19,7 @@ use Rattle.model.specs.Frames.{registers, domainType, typeNumber, firstW
 use Rattle.model.specs.Cutting.{mac, Shares, Part, concat, lastOf, values, Least}
 use Rattle.model.specs.Best.{best}
 use Rattle.model.specs.Declarations.{Declaration, talkerDeclaration, listenerDeclaration, domainDeclaration, talkerKind, attributeOf, joinOf, declaredId, declaredIds, having}
-use Rattle.model.specs.WrittenFrames.{listenerNumber, said, eventNumber, threeOctet, fourOctet, firstNumbers, fourOctets, declarationVector, packedVector, cutAs, listenerParts}
+use Rattle.model.specs.WrittenFrames.{listenerNumber, said, threeOctet, fourOctet, firstNumbers, fourOctets, declarationVector, packedVector, cutAs, listenerParts}
 use Rattle.model.specs.Laid.{Ascending}
 use Rattle.model.proofs.Lists.{all-map, all-take, all-drop, getD-tabulate}
 use Rattle.model.proofs.Ascents.{ascending-rising, ascending-take, ascending-drop, rises-last}

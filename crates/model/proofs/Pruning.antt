@@ -8,13 +8,13 @@ use Prim.Native.Nat.{ℕ, _-_, _<_}
 use native.Mathlib.Omega.{arith}
 use native.Mathlib.Decide.{decLt}
 use lib.ListN.{drop}
-use lib.Dec.{eqb, ltb}
+use lib.Dec.{eqb, ltb, leb}
 use borrow.Author.Tests.{eqb-true, eqb-false, eq-eqb, ne-eqb}
 use Rattle.model.specs.Lists.{All, tabulate}
 use Rattle.model.specs.State.{Settings, Fixed, TalkerType, talkerAdvertise, talkerFailed, Address, Own, Column, none, advertise, failed, Stream, Bridge, Class, noClass, classA, classB, noOwn, ownAt, cellAt, portAt, isPort, classOf, supports}
 use Rattle.model.specs.Registrations.{AddressAct, doesAddresses, changeAddresses, AddressReading, refusedFrame, addressActs, Answer, owning, macs}
 use Rattle.model.specs.AddressFrames.{addressReading}
-use Rattle.model.specs.Settling.{Scene, Inbound, inboundOf, inboundsOf, decideOwn, decideOwns, boundary, holdsAddress, isPruned, remain, Origin, Source, nowhere, from, sourceOf, talkerTypeOf, streamClass, registered, columnNone, StepName, stepA, stepB, stepH, stepI, stepN, ownFailure, Step, first, isTalkerFailed, failedColumn, outcomeColumn, stepsFrom, lastSteps, steps, claim, claims, reservedA, limitOn, leftFor, byBandwidth, columnOf, passed, merged, decideAt, decide, totalOn, totalsOn, dropUnheld, declare, deciding, declaring, settle, Outcome, asAdvertise, asRegistered, bandwidthSteps, outcomeOf}
+use Rattle.model.specs.Settling.{Scene, Inbound, inboundOf, inboundsOf, decideOwn, decideOwns, boundary, holdsAddress, isPruned, remain, Origin, Source, nowhere, from, sourceOf, talkerTypeOf, streamClass, registered, columnNone, StepName, stepA, stepB, stepH, stepI, stepN, ownFailure, Step, first, isTalkerFailed, failedColumn, outcomeColumn, stepsFrom, lastSteps, steps, claim, claims, reservedA, limitOn, leftFor, byBandwidth, columnOf, passed, merged, decideAt, decide, totalOn, totalsOn, dropUnheld, declare, deciding, declaring, settle, Outcome, asAdvertise, asRegistered, bandwidthSteps, outcomeOf, about}
 use Rattle.model.specs.Why.{letter, sameStep, firstName, lastName, stepOn}
 use Rattle.model.specs.Table.{columnNumber}
 use Rattle.model.specs.Calls.{receiveMmrp}

@@ -17,7 +17,7 @@ use Rattle.model.specs.State.{Column, none, advertise, failed, Entry, no
 use Rattle.model.specs.Table.{columnNumber, columnBridge, columnCode, entryNumber, declaredNumber, resultNumbers, toColumn, toEntry, toDeclared, resultFrom, resultOctets, toResult, resultRules, resultFormed}
 use Rattle.model.proofs.Lists.{all-each, implied, all-true, true-all}
 use Rattle.model.proofs.Valid.{ValidColumn, ValidAge, ValidResult}
-use Rattle.model.proofs.Parts.{octets-packed, octets-at, two-zero, packed-whole, Sized}
+use Rattle.model.proofs.Parts.{_also_, octets-packed, octets-at, two-zero, packed-whole, Sized}
 use Rattle.model.proofs.Cells.{ready-back, ready-forth, ready-number, ready-rules}
 
 -- The column, with latency and entry.

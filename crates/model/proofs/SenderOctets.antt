@@ -23,7 +23,7 @@ use Rattle.model.specs.Table.{everyPart, sendersFormed}
 use Rattle.model.specs.Laid.{FitSender}
 use Rattle.model.proofs.Lists.{and-left, and-right, and-both, all-each, all-replicate, length-tabulate}
 use Rattle.model.proofs.ApplicantEntries.{tables}
-use Rattle.model.proofs.Parts.{octets-at, packed-whole, octets-append, octets-packed, octets-flat, length-parts, length-flat-sized, Sized, flat-zeros}
+use Rattle.model.proofs.Parts.{_also_, octets-at, packed-whole, octets-append, octets-packed, octets-flat, length-parts, length-flat-sized, Sized, flat-zeros}
 use Rattle.model.proofs.Valid.{GoodApplicant, applicantNumber, ValidSlots, ValidSender}
 use Rattle.model.proofs.Coded.{Coded, many-back, many-keep, many-forth}
 use Rattle.model.proofs.ApplicantOctets.{Values, applicant-octets, applicant-coded, both-coded, renamed-coded}

@@ -14,7 +14,7 @@ use Rattle.model.specs.Lists.{All, parts, Octets}
 use Rattle.model.specs.State.{Fixed, Ready, Offer, Failure, Sends, noSends, readyNumber}
 use Rattle.model.specs.WrittenFrames.{fixedNumbers, priorityOctet}
 use Rattle.model.proofs.Valid.{GoodApplicant, ValidOffer, ValidFailure, ValidSends}
-use Rattle.model.proofs.Parts.{octets-at, octets-append, octets-packed, packed-whole}
+use Rattle.model.proofs.Parts.{_also_, octets-at, octets-append, octets-packed, packed-whole}
 use Rattle.model.proofs.Cells.{priority-spare, fixed-back, fixed-forth, fixed-valid, ready-back, ready-forth, ready-number}
 use Rattle.model.specs.Layout.{advertisingSize, failedSize, failingSize, failureWidths, inSends, offerSize, offerWidths, readySize, sendsSize}
 use Rattle.model.specs.Settling.{isApplicant, isSending, anySending}

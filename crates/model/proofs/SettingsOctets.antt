@@ -19,7 +19,7 @@ use Rattle.model.specs.State.{Port, Settings, classB, bothLimits, inForc
 use Rattle.model.specs.Table.{portNumbers, portFrom, portOctets, toPort, headWord, vlanWord, headNumbers, settingsOctets, portsField, toSettings, portRule, everyPart, settingsRules, settingsFormed}
 use Rattle.model.specs.Laid.{FitSettings}
 use Rattle.model.proofs.Cells.{bit-back, bit-forth, bit-few}
-use Rattle.model.proofs.Parts.{packed-whole, parts-flat, length-parts, octets-at, octets-drop, octets-append, octets-packed, octets-flat, every-read, every-flat, every-forth}
+use Rattle.model.proofs.Parts.{_also_, packed-whole, parts-flat, length-parts, octets-at, octets-drop, octets-append, octets-packed, octets-flat, every-read, every-flat, every-forth}
 use Rattle.model.proofs.Lists.{all-map, all-each, and-left, and-right, all-true, true-all}
 use Rattle.model.proofs.Valid.{ValidPort, ValidSettings}
 

@@ -13,6 +13,7 @@ use Rattle.model.specs.Registrations.{at}
 use Rattle.model.specs.Settling.{isTalking, isHearing}
 use Rattle.model.specs.Table.{talkers, hasColumn, declares, declarers, forListener, storedRules, storedFormed, everyPort}
 use Rattle.model.proofs.Lists.{and-left, and-right, and-both, implied, implies-true, all-true, true-all}
+use Rattle.model.proofs.Parts.{_also_}
 
 -- Rules port by port.
 

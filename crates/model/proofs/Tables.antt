@@ -23,8 +23,8 @@ use Rattle.model.specs.Table.{settingsOctets, portsField, toSettings, se
 use Rattle.model.specs.Laid.{FitSettings, FitOwn, FitSender, FitStream, FitTotals, FitBridge}
 use Rattle.model.proofs.Lists.{and-left, and-right, and-both, all-map, all-each, all-drop, all-replicate, at-place, length-tabulate, all-true, true-all, implied, implies-true}
 use Rattle.model.proofs.Valid.{ValidCell, ValidResult, ValidPort, ValidFixed, ValidOwn, ValidStream, Rising, Valid}
-use Rattle.model.proofs.Parts.{octets-at, packed-whole, octets-append, octets-take, octets-drop, octets-part, octets-zeros, octets-packed, octets-flat, length-zeros, zero-zeros, zeros-zero, part-between, length-parts, parts-map, Sized, length-flat-sized, parts-flat, many-read, every-read, every-forth, every-flat, rising-rises, rises-rising, zero-behind}
-use Rattle.model.specs.Frames.{priorityOf, rankOf}
+use Rattle.model.proofs.Parts.{_also_, octets-at, packed-whole, octets-append, octets-take, octets-drop, octets-part, octets-zeros, octets-packed, octets-flat, length-zeros, zero-zeros, zeros-zero, part-between, length-parts, parts-map, Sized, length-flat-sized, parts-flat, many-read, every-read, every-forth, every-flat, rising-rises, rises-rising, zero-behind}
+use Rattle.model.specs.Frames.{priorityOf, rankOf, also}
 use Rattle.model.proofs.Stored.{port-kept, ports-kept}
 use Rattle.model.proofs.Cells.{fixed-fit, fixed-back, fixed-forth, fixed-valid, priority-spare, cell-length, cell-octets, cells-sized, cell-back, cell-formed, cell-forth, cell-valid, cell-zeros, holds-parts, held-append, held-empty}
 use Rattle.model.proofs.Results.{result-length, result-octets, results-sized, result-back, result-formed, result-forth, result-valid, result-zeros}

@@ -5,7 +5,7 @@ use mathlib.Core.List.{List, [], _∷_}
 use Prim.Native.Nat.{ℕ, _≤_, _<_, _^_}
 use lib.ListN.{length}
 use Rattle.octets.specs.Fields.{Fit}
-use Rattle.model.specs.Layout.{addressWidths, cellWidths, failureWidths, mostAddresses, nameWidths, offerWidths, portWidths, priorityBUnit, pruningUnit, resultWidths, slotWidths, slots}
+use Rattle.model.specs.Layout.{addressWidths, cellWidths, failureWidths, mostAddresses, nameWidths, offerWidths, portWidths, priorityBUnit, pruningUnit, resultWidths, slotWidths, slots, widthOf}
 use Rattle.model.specs.Lists.{All}
 use Rattle.model.specs.Machines.{Applicant, noApplicant, applicant}
 use Rattle.model.specs.State.{Settings, Talker, noTalker, talker, Cell, Address, Own, Result, Offer, Failure, Sends, Sender, Stream, Totals, Bridge}

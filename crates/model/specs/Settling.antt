@@ -9,7 +9,7 @@ use Rattle.model.specs.State.{Port, Settings, Leaving, stays, since, Fix
 use Rattle.model.specs.Machines.{Applicant, noApplicant, applicant, Decided, undeclared, declared, decided}
 use Rattle.model.specs.LeaveAll.{timedOut}
 use Rattle.model.specs.Registrations.{Answer, sameFixed}
-use Rattle.model.specs.Bandwidth.{Claim, demand, rateOf, remains, total}
+use Rattle.model.specs.Bandwidth.{Claim, demand, rateOf, fits, remains, total}
 
 -- Removal: "removes every registration leaving for at least the leave time".
 

@@ -10,7 +10,7 @@ use lib.Dec.{ltb, leb, eqb}
 use Rattle.octets.specs.Be.{beAt}
 use Rattle.octets.specs.Parts.{part, zeros}
 use Rattle.octets.specs.Fields.{fields, packed, flat}
-use Rattle.model.specs.Layout.{addressCountWidths, addressSize, addressWidths, allSendsSize, boundaryWidths, cellFields, cellIndex, cellSize, cellWidths, cellsSize, clockWidths, headWidths, inAddress, inCell, inHead, inOwn, inRecord, inSends, inTable, inTotals, mostAddresses, nameWidths, ownSize, ownsSize, portPlace, portSize, portWidths, portsUnit, priorityAUnit, priorityBUnit, pruningUnit, recordSize, resultIndex, resultSize, resultWidths, resultsSize, senderSize, sendersSize, sendsSize, settingsSize, slotIndex, slotSize, slotWidths, slots, slotsSize, tableLength, totalSize, totalsSize, totalsWidths}
+use Rattle.model.specs.Layout.{addressCountWidths, addressSize, addressWidths, allSendsSize, boundaryWidths, cellFields, cellIndex, cellSize, cellWidths, cellsSize, clockWidths, headWidths, inAddress, inCell, inHead, inOwn, inRecord, inSends, inTable, inTotals, mostAddresses, nameWidths, ownSize, ownsSize, portPlace, portSize, portWidths, portsUnit, priorityAUnit, priorityBUnit, pruningUnit, recordSize, resultIndex, resultSize, resultWidths, resultsSize, senderSize, sendersSize, sendsSize, settingsSize, slotIndex, slotSize, slotWidths, slots, slotsSize, tableLength, totalSize, totalsSize, totalsWidths, addressIndex, widthOf}
 use Rattle.model.specs.Lists.{allTrue, allZero, implies, parts, bit, isOne}
 use Rattle.model.specs.Applicant.{Standing, veryAnxiousPassive, veryAnxiousNew, anxiousNew, anxiousActive, quietActive, leavingActive}
 use Rattle.model.specs.Machines.{Applicant, noApplicant, applicant}

@@ -9,7 +9,7 @@ use Rattle.octets.specs.Fields.{packed, flat}
 use Rattle.octets.specs.Parts.{zeros}
 use Rattle.model.specs.FrameLayout.{listenerWidths}
 use Rattle.model.specs.Lists.{tabulate, bit}
-use Rattle.model.specs.State.{Fixed, TalkerType, talkerAdvertise, talkerFailed, readyNumber}
+use Rattle.model.specs.State.{Fixed, TalkerType, talkerAdvertise, talkerFailed, readyNumber, Ready, askingFailed, ready, readyFailed}
 use Rattle.model.specs.Registrations.{advertises, faileds, listeners}
 use Rattle.model.specs.Frames.{Attribute, registers, domainType, priorityOf, rankOf, typeNumber, firstWidths, firstLength, threeLength, fourLength, Vector}
 use Rattle.model.specs.Cutting.{values}
@@ -43,6 +43,9 @@ unfoldable pub firstNumbers : Declaration → List ℕ
 firstNumbers (talkerDeclaration id f v) = id ∷ (fixedNumbers f ++ (v .latency ∷ failureNumbers (v .type)))
 firstNumbers (listenerDeclaration id r) = id ∷ []
 firstNumbers (domainDeclaration id q v) = id ∷ q ∷ v ∷ []
+
+unfoldable pub toReady : ℕ → Ready
+toReady k = cond (eqb k 1) askingFailed (cond (eqb k 2) ready readyFailed)
 
 -- one four-packed event, first highest, the spare positions 0
 unfoldable pub fourOctets : Declaration → List ℕ
