@@ -25,10 +25,12 @@ use Rattle.model.specs.Writing.{leavesAll, portWay, sayOn, takesOn, wrot
 use Rattle.model.proofs.Lists.{all-at, all-map, and-true, at-here}
 use Rattle.model.proofs.Valid.{ValidOwn, Rising, Valid}
 use Rattle.model.proofs.AdvanceKeepsForm.{or-false, dropped-all}
-use Rattle.model.proofs.PlaceLists.{each-itself}
+use Rattle.model.proofs.PlaceLists.{each-itself, fewer-saying, no-length, some-there}
+use Rattle.model.proofs.Passing.{left-to-say, taken, run-is, say-next, says-all, all-left}
+use Rattle.model.proofs.Quieting.{nothing-moves}
 use Rattle.model.proofs.WriteKeepsForm.{moved-ids, after-valid}
 use Rattle.model.proofs.WrittenList.{ListedPort, write-leaves}
-use Rattle.model.proofs.WritingPasses.{declared, toSay, port-takes, map-take, takes-within, next-within, write-from, run-fits}
+use Rattle.model.proofs.WritingPasses.{length-pdu, no-declarations, messages-leaving, messages-said, declared, toSay, port-takes, next-within, run-none, run-fits}
 
 -- A bridge that keeps the form rules has what the list of a port asks for.
 
@@ -359,3 +361,188 @@ left-are (suc n) b p place c =
         (ih
         ∙ on-list b p place (c .valid) (c .port) (c .within) (c .none) (λ W T i l. left W T n i l)
         ∙ ap (λ (x : Wrote (Listed Declaration)). left (portWay b (p - 1)) (takesOn b (p - 1)) n (x .next) (x .list)) same)
+
+-- What is left to say.
+
+to-say-is : (b : Bridge) (p place : ℕ) → toSay b p place ≡ map (sayOn b (p - 1)) (left-to-say (portWay b (p - 1)) (takesOn b (p - 1)) place (declared b p))
+unfolding toSay left-to-say
+to-say-is b p place = refl
+
+flatten-said : {A B : Type 0} (g : A → B) (ls : List (List A)) → flatten (map (map g) ls) ≡ map g (flatten ls)
+unfolding flatten
+flatten-said g [] = refl
+flatten-said {B = B} g (l ∷ ls) = ap (λ (r : List B). map g l ++ r) (flatten-said g ls) ∙ sym (map-append g l (flatten ls))
+
+module _ (b : Bridge) (p place : ℕ) (c : Calm b p place) where
+  abbrev W : Way (Listed Declaration)
+  W = portWay b (p - 1)
+
+  abbrev T : List (Listed Declaration) → ℕ
+  T = takesOn b (p - 1)
+
+  abbrev S : List (Listed Declaration)
+  S = left-to-say W T place (declared b p)
+
+  abbrev went : Written
+  went = write b p place
+
+  listed-few : (n : ℕ) → length (toSay b p place) ≤ n → length S ≤ n
+  listed-few n h = rw (to-say-is b p place, length-map S (sayOn b (p - 1))) at h
+
+  -- a run, and what is left to say behind it
+  pub run-and-rest : went .run ++ toSay (went .bridge) p (went .next) ≡ toSay b p place
+  run-and-rest =
+      ap₂ (λ (x y : List Said). x ++ y)
+      (ap (λ (w : Written). w .run) (write-gives b p place (c .within)) ∙ ap (map (sayOn b (p - 1))) run-here)
+      (to-say-is (went .bridge) p (went .next)
+      ∙ ap (λ (g : Listed Declaration → Said). map g (left-to-say (portWay (went .bridge) (p - 1)) (takesOn (went .bridge) (p - 1)) (went .next) (declared (went .bridge) p)))
+      (say-on b p place (c .valid) (c .port) (c .within) (c .none))
+      ∙ ap (map (sayOn b (p - 1))) rest-here)
+      ∙ sym (map-append (sayOn b (p - 1)) (take n S) (drop n S))
+      ∙ ap (map (sayOn b (p - 1))) (take-append-drop n S)
+      ∙ sym (to-say-is b p place)
+    where
+      n : ℕ
+      n = taken W T place (declared b p)
+
+      run-here : wroteOn b (p - 1) place .run ≡ take n S
+      run-here = unfold wroteOn declared in (run-is W T place (declared b p))
+
+      rest-here : left-to-say (portWay (went .bridge) (p - 1)) (takesOn (went .bridge) (p - 1)) (went .next) (declared (went .bridge) p) ≡ drop n S
+      rest-here =
+          on-list b p place (c .valid) (c .port) (c .within) (c .none) (λ W T i l. left-to-say W T i l)
+          ∙ unfold wroteOn declared in (say-next W T (port-takes b (p - 1)) (stays-outside b (p - 1) (c .none)) place (declared b p))
+
+  -- with no LeaveAll due a write says nothing where its run is none
+  no-run : saysNothing went ≡ isNone (went .run)
+  unfolding saysNothing
+  no-run =
+      ap (λ (t : Bool). isNone (went .run) && not t) (ap (λ (w : Written). w .all) (write-gives b p place (c .within)) ∙ c .none)
+      ∙ and-true (isNone (went .run))
+
+  pub said-some : saysNothing went ≡ false → 1 ≤ length (went .run)
+  said-some e = some-there (went .run) (sym no-run ∙ e)
+
+  -- and that is where nothing is left to say
+  pub said-none : toSay b p place ≡ [] → saysNothing went ≡ true
+  said-none e = no-run ∙ ap isNone (run-none b p place e)
+
+-- With no LeaveAll due: the PDUs from a place on say what is to say from there on, once, in order.
+pub passes-all : (n : ℕ) (b : Bridge) (p place : ℕ) → Calm b p place → length (toSay b p place) ≤ n → flatten (writeAll n b p place) ≡ toSay b p place
+passes-all n b p place c h =
+    ap flatten (runs-are n b p place c)
+    ∙ flatten-said (sayOn b (p - 1)) (runs (portWay b (p - 1)) (takesOn b (p - 1)) n place (declared b p))
+    ∙ ap (map (sayOn b (p - 1)))
+    (says-all (portWay b (p - 1)) (takesOn b (p - 1)) (port-takes b (p - 1)) (stays-outside b (p - 1) (c .none)) n place (declared b p) (listed-few b p place c n h))
+    ∙ sym (to-say-is b p place)
+
+-- Then one says nothing.
+pub pass-ends : (n : ℕ) (b : Bridge) (p place : ℕ) → Calm b p place → length (toSay b p place) ≤ n → ends (suc n) b p place ≡ true
+pass-ends zero b p place c h =
+    unfold ends in (ap (λ (t : Bool). cond t true (ends zero (write b p place .bridge) p (write b p place .next))) (said-none b p place c (no-length (toSay b p place) h)))
+pass-ends (suc n) b p place c h =
+    unfold-ends (go (saysNothing (write b p place)) refl (pass-ends n (write b p place .bridge) p (write b p place .next) (then-calm b p place (c .valid) (c .port) (c .within))))
+  where
+    unfold-ends : cond (saysNothing (write b p place)) true (ends (suc n) (write b p place .bridge) p (write b p place .next)) ≡ true → ends (suc (suc n)) b p place ≡ true
+    unfold-ends e = unfold ends in e
+
+    go : (t : Bool) → saysNothing (write b p place) ≡ t
+        → (length (toSay (write b p place .bridge) p (write b p place .next)) ≤ n → ends (suc n) (write b p place .bridge) p (write b p place .next) ≡ true)
+        → cond t true (ends (suc n) (write b p place .bridge) p (write b p place .next)) ≡ true
+    go true e ih = refl
+    go false e ih =
+        let run : List Said = write b p place .run in
+        let rest : List Said = toSay (write b p place .bridge) p (write b p place .next) in
+        let whole : length run + length rest ≡ length (toSay b p place) = sym (length-append run rest) ∙ ap length (run-and-rest b p place c) in
+        ih (omega (arith, said-some b p place c e, whole, h))
+
+-- Each PDU before it has at least one declaration, and at most 1,500 octets; so there are not more of them than declarations.
+abbrev pub Filled : List Said → Type 0
+Filled run = (1 ≤ length run) × (length (pduOctets false run) ≤ longestPdu)
+
+pub all-filled : (n : ℕ) (b : Bridge) (p place : ℕ) → Calm b p place → All Filled (writeAll n b p place)
+unfolding writeAll
+all-filled zero b p place c = tt
+all-filled (suc n) b p place c =
+    go (saysNothing (write b p place)) refl (all-filled n (write b p place .bridge) p (write b p place .next) (then-calm b p place (c .valid) (c .port) (c .within)))
+  where
+    rest : List (List Said)
+    rest = writeAll n (write b p place .bridge) p (write b p place .next)
+
+    fits : length (pduOctets false (write b p place .run)) ≤ longestPdu
+    fits =
+        let due : write b p place .all ≡ false = ap (λ (w : Written). w .all) (write-gives b p place (c .within)) ∙ c .none in
+        rw due at (run-fits b p place)
+
+    go : (t : Bool) → saysNothing (write b p place) ≡ t → All Filled rest → All Filled (cond t [] (write b p place .run ∷ rest))
+    go true e a = tt
+    go false e a = ((said-some b p place c e, fits), a)
+
+few-filled : (ls : List (List Said)) → All Filled ls → length ls ≤ length (flatten ls)
+unfolding flatten
+few-filled [] a = omega arith
+few-filled (l ∷ ls) a = omega (arith, a .0 .0, few-filled ls (a .1), length-append l (flatten ls))
+
+pub few-pdus : (n : ℕ) (b : Bridge) (p place : ℕ) → Calm b p place → length (toSay b p place) ≤ n → length (writeAll n b p place) ≤ length (toSay b p place)
+few-pdus n b p place c h =
+    omega (arith, few-filled (writeAll n b p place) (all-filled n b p place c), ap length (passes-all n b p place c h))
+
+-- The end of a pass is seen by the length: a PDU that says nothing is 00 00 00, and any other is longer.
+
+pub three-octets : (w : Written) → saysNothing w ≡ true → pduOctets (w .all) (w .run) ≡ 0 ∷ 0 ∷ 0 ∷ []
+unfolding saysNothing
+three-octets w e = go (w .all) (w .run) e
+  where
+    go : (all : Bool) (run : List Said) → (isNone run && not all) ≡ true → pduOctets all run ≡ 0 ∷ 0 ∷ 0 ∷ []
+    go false [] e = no-declarations
+    go true [] e = absurd (false≢true e)
+    go all (d ∷ l) e = absurd (false≢true e)
+
+pub more-octets : (w : Written) → saysNothing w ≡ false → 3 < length (pduOctets (w .all) (w .run))
+unfolding saysNothing
+more-octets w e = go (w .all) (w .run) e
+  where
+    go : (all : Bool) (run : List Said) → (isNone run && not all) ≡ false → 3 < length (pduOctets all run)
+    go false [] e = absurd (true≢false e)
+    go true run e = omega (arith, length-pdu true run, messages-leaving run)
+    go false (d ∷ l) e = omega (arith, length-pdu false (d ∷ l), messages-said d l)
+
+-- Three passes.
+
+-- a bridge after a pass from place 0
+unfoldable pub pass : Bridge → ℕ → Bridge
+pass b p = leftAll (suc (length (declared b p))) b p 0
+
+left-calm : (n : ℕ) (b : Bridge) (p place : ℕ) → Calm b p place → Calm (leftAll n b p place) p 0
+unfolding leftAll
+left-calm zero b p place c = record { valid = c .valid; port = c .port; none = c .none; within = omega arith }
+left-calm (suc n) b p place c =
+    let d : Calm (write b p place .bridge) p (write b p place .next) = then-calm b p place (c .valid) (c .port) (c .within) in
+    go (saysNothing (write b p place)) d (left-calm n (write b p place .bridge) p (write b p place .next) d)
+  where
+    later : Bridge
+    later = leftAll n (write b p place .bridge) p (write b p place .next)
+
+    go : (t : Bool) → Calm (write b p place .bridge) p (write b p place .next) → Calm later p 0 → Calm (cond t (write b p place .bridge) later) p 0
+    go true d ih = record { valid = d .valid; port = d .port; none = d .none; within = omega arith }
+    go false d ih = ih
+
+few-to-say : (b : Bridge) (p place : ℕ) → length (toSay b p place) ≤ length (declared b p)
+unfolding toSay
+few-to-say b p place =
+    rw (length-map (saying (portWay b (p - 1) .says) (drop place (declared b p))) (sayOn b (p - 1)))
+    (omega (arith, fewer-saying (portWay b (p - 1) .says) (drop place (declared b p)), length-drop place (declared b p)))
+
+-- with no LeaveAll due each machine is moved once by tx!
+pub calm-pass : (b : Bridge) (p : ℕ) → Calm b p 0 → declared (pass b p) p ≡ each (after (isRegistered b (p - 1)) tx) (declared b p)
+unfolding pass
+calm-pass b p c =
+    left-are (suc (length (declared b p))) b p 0 c
+    ∙ rw (calm-way b (p - 1) (c .none))
+    (all-left (way false g) (takesOn b (p - 1)) (port-takes b (p - 1)) (λ l. unfold way in (each-itself l)) (nothing-moves g) (suc (length (declared b p))) (declared b p) enough ∙ unfold way in refl)
+  where
+    g : Declaration → Bool
+    g = isRegistered b (p - 1)
+
+    enough : length (left-to-say (way false g) (takesOn b (p - 1)) 0 (declared b p)) ≤ suc (length (declared b p))
+    enough = unfold left-to-say in (omega (arith, fewer-saying (way false g .says) (declared b p)))
