@@ -46,6 +46,7 @@ pub mod WritingPasses
 pub mod WrittenList
 pub mod WriteKeepsForm
 pub mod PortPasses
+pub mod QuietPort
 pub mod PackedVectors
 pub mod PackedEvents
 pub mod ReadBack

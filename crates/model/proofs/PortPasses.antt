@@ -513,7 +513,7 @@ more-octets w e = go (w .all) (w .run) e
 unfoldable pub pass : Bridge → ℕ → Bridge
 pass b p = leftAll (suc (length (declared b p))) b p 0
 
-left-calm : (n : ℕ) (b : Bridge) (p place : ℕ) → Calm b p place → Calm (leftAll n b p place) p 0
+pub left-calm : (n : ℕ) (b : Bridge) (p place : ℕ) → Calm b p place → Calm (leftAll n b p place) p 0
 unfolding leftAll
 left-calm zero b p place c = record { valid = c .valid; port = c .port; none = c .none; within = omega arith }
 left-calm (suc n) b p place c =
@@ -527,7 +527,7 @@ left-calm (suc n) b p place c =
     go true d ih = record { valid = d .valid; port = d .port; none = d .none; within = omega arith }
     go false d ih = ih
 
-few-to-say : (b : Bridge) (p place : ℕ) → length (toSay b p place) ≤ length (declared b p)
+pub few-to-say : (b : Bridge) (p place : ℕ) → length (toSay b p place) ≤ length (declared b p)
 unfolding toSay
 few-to-say b p place =
     rw (length-map (saying (portWay b (p - 1) .says) (drop place (declared b p))) (sayOn b (p - 1)))
