@@ -45,6 +45,8 @@ pub mod Gaps
 pub mod WritingPasses
 pub mod WrittenList
 pub mod WriteKeepsForm
+pub mod PortPasses
+pub mod QuietPort
 pub mod PackedVectors
 pub mod PackedEvents
 pub mod ReadBack

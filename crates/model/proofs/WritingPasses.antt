@@ -737,6 +737,23 @@ no-declarations = simp (no-vectors (registers advertises), no-vectors (registers
 pub leave-all-alone : length (pduOctets true []) ≡ 106
 leave-all-alone = length-pdu true [] ∙ unfold messagesSize messageSize having emptySize firstLength in refl
 
+-- some are said, or LeaveAll: a PDU that says something is longer
+pub messages-said : (d : Said) (l : List Said) → 6 ≤ messagesSize false (d ∷ l)
+messages-said d l = omega (arith, go (saidType d) (unfold having in (rw (same-attribute (saidType d)))))
+  where
+    go : (k : Attribute) → having k (d ∷ l) ≡ d ∷ having k l → 6 ≤ messagesSize false (d ∷ l)
+    go (registers advertises) e = unfold messagesSize in (rw e (unfold messageSize in (omega arith)))
+    go (registers faileds) e = unfold messagesSize in (rw e (unfold messageSize in (omega arith)))
+    go (registers listeners) e = unfold messagesSize in (rw e (unfold messageSize in (omega arith)))
+    go domainType e = unfold messagesSize in (rw e (unfold messageSize in (omega arith)))
+
+pub messages-leaving : (l : List Said) → 103 ≤ messagesSize true l
+unfolding messagesSize
+messages-leaving l = unfold emptySize firstLength in (omega (arith, of (registers advertises), of (registers faileds), of (registers listeners), of domainType))
+  where
+    of : (k : Attribute) → emptySize true k ≤ messageSize true k (having k l)
+    of k = message-least true k (having k l)
+
 -- The Listeners of a port are at most 64, by ascending StreamID.
 
 module _ (all : Bool) (r : Declaration → Bool) where

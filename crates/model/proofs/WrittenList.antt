@@ -124,7 +124,7 @@ registered-self k p (y ∷ s) r = (unfold registeredOf in (rw (eq-eqb (y .id) (y
 -- Machines, each moved by its place and its Registrar.
 
 -- at most one is left of a machine
-standing-one : (x : ApplicantState) → length (standing x) ≤ 1
+pub standing-one : (x : ApplicantState) → length (standing x) ≤ 1
 unfolding standing
 standing-one vo = omega arith
 standing-one vp = omega arith
