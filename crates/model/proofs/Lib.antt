@@ -43,6 +43,8 @@ pub mod OneCutting
 pub mod LongestRun
 pub mod Gaps
 pub mod WritingPasses
+pub mod WrittenList
+pub mod WriteKeepsForm
 pub mod PackedVectors
 pub mod PackedEvents
 pub mod ReadBack
