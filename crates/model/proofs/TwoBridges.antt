@@ -183,13 +183,14 @@ module _ (now q i : ℕ) where
       go false = (refl, h)
 
   pub cell-after : (es : List Act) (s : List Stream) → Rising (ids s) → q < length (streamFor i s .cells)
-      → cellFor q i (applyAll now q es s) ≡ cellAfter now i es (cellFor q i s)
+      → (cellFor q i (applyAll now q es s) ≡ cellAfter now i es (cellFor q i s)) × (q < length (streamFor i (applyAll now q es s) .cells))
   unfolding applyAll cellAfter cellFor
-  cell-after [] s r h = refl
+  cell-after [] s r h = (refl, h)
   cell-after (a ∷ es) s r h =
       let e : streamFor i (apply now q a s) .cells ≡ cellsOn now q i a (streamFor i s .cells) = act-cells now q i a s r in
       let c = act-cell a (streamFor i s .cells) h in
-      cell-after es (apply now q a s) (act-rises now q a s r) (rw e (c .1)) ∙ ap (cellAfter now i es) (rw e (c .0))
+      let rest = cell-after es (apply now q a s) (act-rises now q a s r) (rw e (c .1)) in
+      (rest .0 ∙ ap (cellAfter now i es) (rw e (c .0)), rest .1)
 
 -- This side: what the machines of a port say of one stream.
 
@@ -223,29 +224,40 @@ asksFor anxiousActive = join
 asksFor quietActive = nothingAsked
 asksFor leavingActive = withdraw
 
--- the acts that a neighbour reads of a declaration in the list, where it has something to say
-unfoldable pub toldActs : (Declaration → Bool) → Listed Declaration → List Act
-toldActs r x = cond (speaks tx (x .state)) (saidActs (say false r x)) []
+unfoldable pub asksActs : Listed Declaration → List Act
+asksActs x = askedOf (x .value) (asksFor (x .state))
+
+silent : (d : Declaration) (q : Standing) → speaks tx q ≡ false → asksActs record { state = q; value = d } ≡ []
+unfolding tables asksActs asksFor askedOf
+silent d veryAnxiousPassive e = absurd (true≢false e)
+silent d veryAnxiousNew e = absurd (true≢false e)
+silent d anxiousNew e = absurd (true≢false e)
+silent d anxiousActive e = absurd (true≢false e)
+silent d quietActive e = refl
+silent d leavingActive e = absurd (true≢false e)
 
 flat-append : {A : Type 0} (f : A → List Act) (l m : List A) → flatMap f (l ++ m) ≡ flatMap f l ++ flatMap f m
 unfolding flatMap
 flat-append f [] m = refl
 flat-append f (x ∷ l) m = rw (flat-append f l m, append-assoc)
 
--- of a list: what is said of it is what each has to say
-pub told-list : (r : Declaration → Bool) (l : List (Listed Declaration))
-    → flatMap saidActs (map (say false r) (saying (way false r .says) l)) ≡ flatMap (toldActs r) l
-unfolding saying way toldActs flatMap
-told-list r [] = refl
-told-list r (x ∷ l) = go (speaks tx (x .state)) (told-list r l)
+-- a quiet one asks nothing
+saying-asks : (l : List (Listed Declaration)) → flatMap asksActs (saying (λ x. speaks tx (x .state)) l) ≡ flatMap asksActs l
+unfolding saying flatMap
+saying-asks [] = refl
+saying-asks (x ∷ l) = go (x .state) (saying-asks l)
   where
     rest : List (Listed Declaration)
     rest = saying (λ y. speaks tx (y .state)) l
 
-    go : (t : Bool) → flatMap saidActs (map (say false r) rest) ≡ flatMap (toldActs r) l
-        → flatMap saidActs (map (say false r) (keep t x rest)) ≡ cond t (saidActs (say false r x)) [] ++ flatMap (toldActs r) l
-    go true ih = ap (λ (es : List Act). saidActs (say false r x) ++ es) ih
-    go false ih = ih
+    go : (q : Standing) → flatMap asksActs rest ≡ flatMap asksActs l
+        → flatMap asksActs (keep (speaks tx q) record { state = q; value = x .value } rest) ≡ asksActs record { state = q; value = x .value } ++ flatMap asksActs l
+    go q ih = one (speaks tx q) refl
+      where
+        one : (t : Bool) → speaks tx q ≡ t
+            → flatMap asksActs (keep t record { state = q; value = x .value } rest) ≡ asksActs record { state = q; value = x .value } ++ flatMap asksActs l
+        one true e = ap (λ (es : List Act). asksActs record { state = q; value = x .value } ++ es) ih
+        one false e = rw (silent (x .value) q e) ih
 
 -- what a machine, where there is one, does to a cell of the neighbour
 unfoldable pub tells : {A : Type 0} → (A → Declaration) → ℕ → ℕ → Applicant A → Cell → Cell
@@ -298,35 +310,48 @@ silent-kind advertises now i c = refl
 silent-kind faileds now i c = refl
 silent-kind listeners now i c = refl
 
-module _ (now i : ℕ) (r : Declaration → Bool) where
-  -- a message's event asks for what its entry says: New and a Join for a join, Lv for a leave
-  said-asks : (d : Declaration) (q : Standing) (c : Cell)
-      → cellAfter now i (toldActs r record { state = q; value = d }) c ≡ cellAfter now i (askedOf d (asksFor q)) c
-  unfolding toldActs say tables asksFor event asking opportunity
-  said-asks d q c = go q (r d)
+module _ (now i : ℕ) where
+  -- a message's event asks for what its entry says, with the Registrar IN or not: New and a Join for a join, Lv for a leave
+  said-asks : (r : Declaration → Bool) (x : Listed Declaration) → speaks tx (x .state) ≡ true → (c : Cell)
+      → cellAfter now i (saidActs (say false r x)) c ≡ cellAfter now i (asksActs x) c
+  unfolding say tables asksActs asksFor event asking opportunity
+  said-asks r x h c = go (x .state) (r (x .value)) h
     where
+      d : Declaration
+      d = x .value
+
       said-only : (n : ℕ) → cellAfter now i (saidActs record { declaration = d; event = n }) c ≡ cellAfter now i (askedOf d (asking (event n))) c
       said-only n =
           unfold saidActs in (after-append now i (askedOf d (asking (event n))) (map (hearOf d) (heardOf (event n))) c
           ∙ heard-nothing now i d (heardOf (event n)) (cellAfter now i (askedOf d (asking (event n))) c))
 
-      go : (w : Standing) (t : Bool)
-          → cellAfter now i (cond (speaks tx w) (saidActs record { declaration = d; event = spoken t (opportunity false) w }) []) c ≡ cellAfter now i (askedOf d (asksFor w)) c
-      go veryAnxiousPassive true = said-only 1
-      go veryAnxiousPassive false = said-only 3
-      go veryAnxiousNew t = said-only 0
-      go anxiousNew t = said-only 0
-      go anxiousActive true = said-only 1
-      go anxiousActive false = said-only 3
-      go quietActive t = unfold askedOf cellAfter in refl
-      go leavingActive t = said-only 5
+      go : (w : Standing) (t : Bool) → speaks tx w ≡ true
+          → cellAfter now i (saidActs record { declaration = d; event = spoken t (opportunity false) w }) c ≡ cellAfter now i (askedOf d (asksFor w)) c
+      go veryAnxiousPassive true e = said-only 1
+      go veryAnxiousPassive false e = said-only 3
+      go veryAnxiousNew t e = said-only 0
+      go anxiousNew t e = said-only 0
+      go anxiousActive true e = said-only 1
+      go anxiousActive false e = said-only 3
+      go quietActive t e = absurd (false≢true e)
+      go leavingActive t e = said-only 5
 
-  listed-tells : {A : Type 0} (f : A → Declaration) (a : Applicant A) (c : Cell) → cellAfter now i (flatMap (toldActs r) (listedAs f a)) c ≡ tells f now i a c
-  unfolding listedAs flatMap tells
+  pub run-asks : (r : Declaration → Bool) (l : List (Listed Declaration)) → All (λ x. speaks tx (x .state) ≡ true) l → (c : Cell)
+      → cellAfter now i (flatMap saidActs (map (say false r) l)) c ≡ cellAfter now i (flatMap asksActs l) c
+  unfolding flatMap
+  run-asks r [] a c = refl
+  run-asks r (x ∷ l) a c =
+      after-append now i (saidActs (say false r x)) (flatMap saidActs (map (say false r) l)) c
+      ∙ ap (cellAfter now i (flatMap saidActs (map (say false r) l))) (said-asks r x (a .0) c)
+      ∙ run-asks r l (a .1) (cellAfter now i (asksActs x) c)
+      ∙ sym (after-append now i (asksActs x) (flatMap asksActs l) c)
+
+  listed-tells : {A : Type 0} (f : A → Declaration) (a : Applicant A) (c : Cell) → cellAfter now i (flatMap asksActs (listedAs f a)) c ≡ tells f now i a c
+  unfolding listedAs flatMap tells asksActs
   listed-tells f noApplicant c = unfold cellAfter in refl
-  listed-tells f (applicant x) c = rw (append-nil) (said-asks (f (x .value)) (x .state) c)
+  listed-tells f (applicant x) c = rw append-nil
 
-  kind-tells : (k : Kind) (j : ℕ) (s : Sends) (c : Cell) → cellAfter now i (flatMap (toldActs r) (declarationsOf k j s)) c ≡ tellsKind k now i j s c
+  kind-tells : (k : Kind) (j : ℕ) (s : Sends) (c : Cell) → cellAfter now i (flatMap asksActs (declarationsOf k j s)) c ≡ tellsKind k now i j s c
   unfolding declarationsOf tellsKind
   kind-tells advertises j s c = listed-tells (advertiseOf j) (s .advertising) c
   kind-tells faileds j s c = listed-tells (failedOf j) (s .failing) c
@@ -334,11 +359,11 @@ module _ (now i : ℕ) (r : Declaration → Bool) where
 
   -- what is said of one list, then of another
   both-tell : (l m : List (Listed Declaration)) (c : Cell)
-      → cellAfter now i (flatMap (toldActs r) (l ++ m)) c ≡ cellAfter now i (flatMap (toldActs r) m) (cellAfter now i (flatMap (toldActs r) l) c)
-  both-tell l m c = rw (flat-append (toldActs r) l m) (after-append now i (flatMap (toldActs r) l) (flatMap (toldActs r) m) c)
+      → cellAfter now i (flatMap asksActs (l ++ m)) c ≡ cellAfter now i (flatMap asksActs m) (cellAfter now i (flatMap asksActs l) c)
+  both-tell l m c = rw (flat-append asksActs l m) (after-append now i (flatMap asksActs l) (flatMap asksActs m) c)
 
   module _ (k : Kind) (p : ℕ) where
-    none-tell : (s : List Stream) → All (λ j. i < j) (ids s) → (c : Cell) → cellAfter now i (flatMap (toldActs r) (ofKind k p s)) c ≡ c
+    none-tell : (s : List Stream) → All (λ j. i < j) (ids s) → (c : Cell) → cellAfter now i (flatMap asksActs (ofKind k p s)) c ≡ c
     unfolding ofKind ids
     none-tell [] a c = unfold flatMap cellAfter in refl
     none-tell (x ∷ s) a c =
@@ -347,17 +372,17 @@ module _ (now i : ℕ) (r : Declaration → Bool) where
 
     -- of the streams in ascending order just the one with that StreamID
     streams-tell : (s : List Stream) → Rising (ids s) → (c : Cell)
-        → cellAfter now i (flatMap (toldActs r) (ofKind k p s)) c ≡ tellsKind k now i i (sendsAt (streamFor i s) p) c
+        → cellAfter now i (flatMap asksActs (ofKind k p s)) c ≡ tellsKind k now i i (sendsAt (streamFor i s) p) c
     unfolding ofKind ids Rising
     streams-tell [] o c = unfold flatMap cellAfter streamFor in (rw (fresh-sends i p) (silent-kind k now i c))
     streams-tell (x ∷ s) o c =
         both-tell (declarationsOf k (x .id) (sendsAt x p)) (ofKind k p s) c
-        ∙ ap (cellAfter now i (flatMap (toldActs r) (ofKind k p s))) (kind-tells k (x .id) (sendsAt x p) c)
+        ∙ ap (cellAfter now i (flatMap asksActs (ofKind k p s))) (kind-tells k (x .id) (sendsAt x p) c)
         ∙ go (eqb (x .id) i) refl (streams-tell s (o .1) c)
       where
         go : (t : Bool) → eqb (x .id) i ≡ t
-            → cellAfter now i (flatMap (toldActs r) (ofKind k p s)) c ≡ tellsKind k now i i (sendsAt (streamFor i s) p) c
-            → cellAfter now i (flatMap (toldActs r) (ofKind k p s)) (tellsKind k now i (x .id) (sendsAt x p) c) ≡ tellsKind k now i i (sendsAt (streamFor i (x ∷ s)) p) c
+            → cellAfter now i (flatMap asksActs (ofKind k p s)) c ≡ tellsKind k now i i (sendsAt (streamFor i s) p) c
+            → cellAfter now i (flatMap asksActs (ofKind k p s)) (tellsKind k now i (x .id) (sendsAt x p) c) ≡ tellsKind k now i i (sendsAt (streamFor i (x ∷ s)) p) c
         go true e ih =
             let q : x .id ≡ i = eqb-true (x .id) i e in
             none-tell s (all-map (λ j. x .id < j) (λ j. i < j) (λ j h. omega arith) (ids s) (o .0)) _
@@ -366,7 +391,7 @@ module _ (now i : ℕ) (r : Declaration → Bool) where
             let n : x .id ≡ i → ⊥ = eqb-false (x .id) i e in
             rw (found-past i x s n, kind-other now i k (x .id) n (sendsAt x p) c) ih
 
-  domains-tell : (st : Settings) (j : ℕ) (l : List (Applicant (Unit {0}))) (c : Cell) → cellAfter now i (flatMap (toldActs r) (domainValues st j l)) c ≡ c
+  domains-tell : (st : Settings) (j : ℕ) (l : List (Applicant (Unit {0}))) (c : Cell) → cellAfter now i (flatMap asksActs (domainValues st j l)) c ≡ c
   unfolding domainValues
   domains-tell st j [] c = unfold flatMap cellAfter in refl
   domains-tell st j (a ∷ l) c =
@@ -381,19 +406,19 @@ module _ (now i : ℕ) (r : Declaration → Bool) where
 unfoldable pub tellsCell : ℕ → ℕ → Sends → Cell → Cell
 tellsCell now i s c = tellsKind listeners now i i s (tellsKind faileds now i i s (tellsKind advertises now i i s c))
 
-pub port-tells : (now i : ℕ) (r : Declaration → Bool) (b : Bridge) → Rising (ids (b .streams)) → (p : ℕ) (c : Cell)
-    → cellAfter now i (flatMap (toldActs r) (declarations b p)) c ≡ tellsCell now i (sendsAt (streamFor i (b .streams)) p) c
+pub port-tells : (now i : ℕ) (b : Bridge) → Rising (ids (b .streams)) → (p : ℕ) (c : Cell)
+    → cellAfter now i (flatMap asksActs (declarations b p)) c ≡ tellsCell now i (sendsAt (streamFor i (b .streams)) p) c
 unfolding declarations tellsCell
-port-tells now i r b o p c =
+port-tells now i b o p c =
     let s = b .streams in
     let domains = domainValues (b .settings) 0 (senderAt (b .senders) p .domains) in
-    both-tell now i r (ofKind advertises p s) (ofKind faileds p s ++ (ofKind listeners p s ++ domains)) c
-    ∙ both-tell now i r (ofKind faileds p s) (ofKind listeners p s ++ domains) _
-    ∙ both-tell now i r (ofKind listeners p s) domains _
-    ∙ domains-tell now i r (b .settings) 0 (senderAt (b .senders) p .domains) _
-    ∙ streams-tell now i r listeners p s o _
-    ∙ ap (tellsKind listeners now i i (sendsAt (streamFor i s) p)) (streams-tell now i r faileds p s o _)
-    ∙ ap (λ (d : Cell). tellsKind listeners now i i (sendsAt (streamFor i s) p) (tellsKind faileds now i i (sendsAt (streamFor i s) p) d)) (streams-tell now i r advertises p s o c)
+    both-tell now i (ofKind advertises p s) (ofKind faileds p s ++ (ofKind listeners p s ++ domains)) c
+    ∙ both-tell now i (ofKind faileds p s) (ofKind listeners p s ++ domains) _
+    ∙ both-tell now i (ofKind listeners p s) domains _
+    ∙ domains-tell now i (b .settings) 0 (senderAt (b .senders) p .domains) _
+    ∙ streams-tell now i listeners p s o _
+    ∙ ap (tellsKind listeners now i i (sendsAt (streamFor i s) p)) (streams-tell now i faileds p s o _)
+    ∙ ap (λ (d : Cell). tellsKind listeners now i i (sendsAt (streamFor i s) p) (tellsKind faileds now i i (sendsAt (streamFor i s) p) d)) (streams-tell now i advertises p s o c)
 
 -- A Talker's registration.
 
