@@ -5,20 +5,20 @@ use mathlib.Core.List.{List, [], _∷_, _++_, map, flatMap, flatten, append-nil,
 use mathlib.Core.Bool.{Bool, true, false, cond, _&&_, false≢true, true≢false}
 use Prim.Native.Nat.{ℕ, zero, suc, _+_, _-_, _*_, _/_, _%_, _≤_, _<_}
 use native.Mathlib.Omega.{arith}
-use lib.ListN.{length, getD, replicate, length-replicate}
+use lib.ListN.{length, getD, replicate, length-map}
 use lib.Dec.{eqb, leb}
 use borrow.Author.Tests.{eq-eqb, ne-eqb, eqb-true, eqb-false}
 use Rattle.model.specs.Lists.{All, keep}
 use Rattle.model.specs.Applicant.{tx, applicantRow, applicantColumn, applicantEntry, to, by, afterNew, isWritten, messageNumber, Standing, veryAnxiousPassive, veryAnxiousNew, anxiousNew, anxiousActive, quietActive, leavingActive, named, sent, speaks, spoken, opportunity}
 use Rattle.model.specs.Places.{saying}
 use Rattle.model.specs.Machines.{Heard, Listed, Applicant, noApplicant, applicant, way}
-use Rattle.model.specs.State.{Leaving, stays, since, Fixed, TalkerType, talkerAdvertise, talkerFailed, Varying, Registration, Talker, noTalker, talker, Ready, Listener, noListener, listener, Cell, Offer, Failure, Sends, Stream, Settings, Bridge, empty, blank, fresh, noSends, sendsAt, senderAt}
-use Rattle.model.specs.Registrations.{Kind, advertises, faileds, listeners, Act, leaveAll, leave, talk, listen, hearAll, hear, ofDomain, begin, talksAs, hearsAs, withLeaving, quitTalker, quitListener, quit, sameFixed, firstJoin, sameJoin, otherJoin, joinTalker, does, moves, isStaying, talkerStays, listenerStays, at, change, touch, begun, reach, apply, applyAll, ids, joins, together}
+use Rattle.model.specs.State.{Leaving, stays, since, Fixed, TalkerType, talkerAdvertise, talkerFailed, Varying, Registration, Talker, noTalker, talker, Ready, Listener, noListener, listener, Cell, Domain, noDomain, domain, Own, Offer, Failure, Sends, Stream, Settings, Bridge, empty, blank, fresh, noSends, noOwn, sendsAt, senderAt, ownAt, slotOf}
+use Rattle.model.specs.Registrations.{Kind, advertises, faileds, listeners, Act, leaveAll, leave, talk, listen, hearAll, hear, ofDomain, DomainAct, leaveAllDomains, leaveDomain, joinDomain, hearAllDomains, hearDomain, quitDomain, doesDomain, changeDomains, applyOwn, applyOwns, domainStays, begin, talksAs, hearsAs, withLeaving, quitTalker, quitListener, quit, sameFixed, firstJoin, sameJoin, otherJoin, joinTalker, does, moves, isStaying, talkerStays, listenerStays, at, change, touch, begun, reach, apply, applyAll, ids, joins, together}
 use Rattle.model.specs.Frames.{Asking, nothingAsked, join, withdraw, asking, event, heardOf}
 use Rattle.model.specs.Table.{stands, isStanding}
 use Rattle.model.specs.Settling.{isApplicant}
 use Rattle.model.specs.Declarations.{Declaration, talkerDeclaration, listenerDeclaration, domainDeclaration, talkerKind, joinOf, listedAs, advertiseOf, failedOf, declarationsOf, ofKind, domainOf, domainValues, declarations, Said, say, leaveOf, hearOf, askedOf, saidActs, declaredId}
-use Rattle.model.proofs.Lists.{all-map, all-replicate, all-getD, at-here, length-at, and-left, and-right, and-both}
+use Rattle.model.proofs.Lists.{all-map, all-replicate, all-getD, at-here, at-other, length-at, getD-map, and-left, and-right, and-both}
 use Rattle.model.proofs.Valid.{Rising}
 use Rattle.model.proofs.ApplicantEntries.{tables}
 use Rattle.model.proofs.Commute.{Keeps, fresh-id, touch-nil, touch-before, touch-here, touch-past, Tri, less, same, more, tri, acted, acted-keeps, at-fixed}
@@ -192,15 +192,23 @@ module _ (now q i : ℕ) where
       let rest = cell-after es (apply now q a s) (act-rises now q a s r) (rw e (c .1)) in
       (rest .0 ∙ ap (cellAfter now i es) (rw e (c .0)), rest .1)
 
--- This side: what the machines of a port say of one stream.
+-- What acts do to a registration of any kind: one after another; what Applicants hear does nothing.
+pub record Effect (X : Type 0) : Type 0 where
+  pub after : List Act → X → X
+  pub none : (c : X) → after [] c ≡ c
+  pub append : (es fs : List Act) (c : X) → after (es ++ fs) c ≡ after fs (after es c)
+  pub unheard : (d : Declaration) (hs : List Heard) (c : X) → after (map (hearOf d) hs) c ≡ c
 
 module _ (now i : ℕ) where
-  pub after-append : (es fs : List Act) (c : Cell) → cellAfter now i (es ++ fs) c ≡ cellAfter now i fs (cellAfter now i es c)
+  after-none : (c : Cell) → cellAfter now i [] c ≡ c
+  unfolding cellAfter
+  after-none c = refl
+
+  after-append : (es fs : List Act) (c : Cell) → cellAfter now i (es ++ fs) c ≡ cellAfter now i fs (cellAfter now i es c)
   unfolding cellAfter
   after-append [] fs c = refl
   after-append (a ∷ es) fs c = after-append es fs (cellOn now i a c)
 
-  -- what Applicants hear changes no registration
   heard-nothing : (d : Declaration) (hs : List Heard) (c : Cell) → cellAfter now i (map (hearOf d) hs) c ≡ c
   unfolding cellAfter
   heard-nothing d [] c = refl
@@ -214,6 +222,11 @@ module _ (now i : ℕ) where
       one (talkerDeclaration id f v) = unfold cellOn hearOf about does in (either (eqb id i))
       one (listenerDeclaration id r) = unfold cellOn hearOf about does in (either (eqb id i))
       one (domainDeclaration id q v) = unfold cellOn hearOf about does in refl
+
+  unfoldable onCell : Effect Cell
+  onCell = record { after = cellAfter now i; none = after-none; append = after-append; unheard = heard-nothing }
+
+-- This side: what the machines of a port say.
 
 -- what a machine asks of the neighbour's Registrar at an opportunity to transmit
 unfoldable pub asksFor : Standing → Asking
@@ -310,23 +323,25 @@ silent-kind advertises now i c = refl
 silent-kind faileds now i c = refl
 silent-kind listeners now i c = refl
 
-module _ (now i : ℕ) where
+module _ {X : Type 0} (effect : Effect X) where
+  abbrev made : List Act → X → X
+  made = effect .after
+
   -- a message's event asks for what its entry says, with the Registrar IN or not: New and a Join for a join, Lv for a leave
-  said-asks : (r : Declaration → Bool) (x : Listed Declaration) → speaks tx (x .state) ≡ true → (c : Cell)
-      → cellAfter now i (saidActs (say false r x)) c ≡ cellAfter now i (asksActs x) c
+  said-asks : (r : Declaration → Bool) (x : Listed Declaration) → speaks tx (x .state) ≡ true → (c : X) → made (saidActs (say false r x)) c ≡ made (asksActs x) c
   unfolding say tables asksActs asksFor event asking opportunity
   said-asks r x h c = go (x .state) (r (x .value)) h
     where
       d : Declaration
       d = x .value
 
-      said-only : (n : ℕ) → cellAfter now i (saidActs record { declaration = d; event = n }) c ≡ cellAfter now i (askedOf d (asking (event n))) c
+      said-only : (n : ℕ) → made (saidActs record { declaration = d; event = n }) c ≡ made (askedOf d (asking (event n))) c
       said-only n =
-          unfold saidActs in (after-append now i (askedOf d (asking (event n))) (map (hearOf d) (heardOf (event n))) c
-          ∙ heard-nothing now i d (heardOf (event n)) (cellAfter now i (askedOf d (asking (event n))) c))
+          unfold saidActs in (effect .append (askedOf d (asking (event n))) (map (hearOf d) (heardOf (event n))) c
+          ∙ effect .unheard d (heardOf (event n)) (made (askedOf d (asking (event n))) c))
 
       go : (w : Standing) (t : Bool) → speaks tx w ≡ true
-          → cellAfter now i (saidActs record { declaration = d; event = spoken t (opportunity false) w }) c ≡ cellAfter now i (askedOf d (asksFor w)) c
+          → made (saidActs record { declaration = d; event = spoken t (opportunity false) w }) c ≡ made (askedOf d (asksFor w)) c
       go veryAnxiousPassive true e = said-only 1
       go veryAnxiousPassive false e = said-only 3
       go veryAnxiousNew t e = said-only 0
@@ -336,16 +351,21 @@ module _ (now i : ℕ) where
       go quietActive t e = absurd (false≢true e)
       go leavingActive t e = said-only 5
 
-  pub run-asks : (r : Declaration → Bool) (l : List (Listed Declaration)) → All (λ x. speaks tx (x .state) ≡ true) l → (c : Cell)
-      → cellAfter now i (flatMap saidActs (map (say false r) l)) c ≡ cellAfter now i (flatMap asksActs l) c
+  pub run-asks : (r : Declaration → Bool) (l : List (Listed Declaration)) → All (λ x. speaks tx (x .state) ≡ true) l → (c : X)
+      → made (flatMap saidActs (map (say false r) l)) c ≡ made (flatMap asksActs l) c
   unfolding flatMap
   run-asks r [] a c = refl
   run-asks r (x ∷ l) a c =
-      after-append now i (saidActs (say false r x)) (flatMap saidActs (map (say false r) l)) c
-      ∙ ap (cellAfter now i (flatMap saidActs (map (say false r) l))) (said-asks r x (a .0) c)
-      ∙ run-asks r l (a .1) (cellAfter now i (asksActs x) c)
-      ∙ sym (after-append now i (asksActs x) (flatMap asksActs l) c)
+      effect .append (saidActs (say false r x)) (flatMap saidActs (map (say false r) l)) c
+      ∙ ap (made (flatMap saidActs (map (say false r) l))) (said-asks r x (a .0) c)
+      ∙ run-asks r l (a .1) (made (asksActs x) c)
+      ∙ sym (effect .append (asksActs x) (flatMap asksActs l) c)
 
+  -- what is said of one list, then of another
+  both-tell : (l m : List (Listed Declaration)) (c : X) → made (flatMap asksActs (l ++ m)) c ≡ made (flatMap asksActs m) (made (flatMap asksActs l) c)
+  both-tell l m c = rw (flat-append asksActs l m) (effect .append (flatMap asksActs l) (flatMap asksActs m) c)
+
+module _ (now i : ℕ) where
   listed-tells : {A : Type 0} (f : A → Declaration) (a : Applicant A) (c : Cell) → cellAfter now i (flatMap asksActs (listedAs f a)) c ≡ tells f now i a c
   unfolding listedAs flatMap tells asksActs
   listed-tells f noApplicant c = unfold cellAfter in refl
@@ -357,26 +377,21 @@ module _ (now i : ℕ) where
   kind-tells faileds j s c = listed-tells (failedOf j) (s .failing) c
   kind-tells listeners j s c = listed-tells (listenerDeclaration j) (s .listening) c
 
-  -- what is said of one list, then of another
-  both-tell : (l m : List (Listed Declaration)) (c : Cell)
-      → cellAfter now i (flatMap asksActs (l ++ m)) c ≡ cellAfter now i (flatMap asksActs m) (cellAfter now i (flatMap asksActs l) c)
-  both-tell l m c = rw (flat-append asksActs l m) (after-append now i (flatMap asksActs l) (flatMap asksActs m) c)
-
   module _ (k : Kind) (p : ℕ) where
     none-tell : (s : List Stream) → All (λ j. i < j) (ids s) → (c : Cell) → cellAfter now i (flatMap asksActs (ofKind k p s)) c ≡ c
-    unfolding ofKind ids
+    unfolding ofKind ids onCell
     none-tell [] a c = unfold flatMap cellAfter in refl
     none-tell (x ∷ s) a c =
-        both-tell (declarationsOf k (x .id) (sendsAt x p)) (ofKind k p s) c
+        both-tell (onCell now i) (declarationsOf k (x .id) (sendsAt x p)) (ofKind k p s) c
         ∙ none-tell s (a .1) _ ∙ kind-tells k (x .id) (sendsAt x p) c ∙ kind-other now i k (x .id) (λ e. omega (arith, a .0)) (sendsAt x p) c
 
     -- of the streams in ascending order just the one with that StreamID
     streams-tell : (s : List Stream) → Rising (ids s) → (c : Cell)
         → cellAfter now i (flatMap asksActs (ofKind k p s)) c ≡ tellsKind k now i i (sendsAt (streamFor i s) p) c
-    unfolding ofKind ids Rising
+    unfolding ofKind ids Rising onCell
     streams-tell [] o c = unfold flatMap cellAfter streamFor in (rw (fresh-sends i p) (silent-kind k now i c))
     streams-tell (x ∷ s) o c =
-        both-tell (declarationsOf k (x .id) (sendsAt x p)) (ofKind k p s) c
+        both-tell (onCell now i) (declarationsOf k (x .id) (sendsAt x p)) (ofKind k p s) c
         ∙ ap (cellAfter now i (flatMap asksActs (ofKind k p s))) (kind-tells k (x .id) (sendsAt x p) c)
         ∙ go (eqb (x .id) i) refl (streams-tell s (o .1) c)
       where
@@ -392,10 +407,10 @@ module _ (now i : ℕ) where
             rw (found-past i x s n, kind-other now i k (x .id) n (sendsAt x p) c) ih
 
   domains-tell : (st : Settings) (j : ℕ) (l : List (Applicant (Unit {0}))) (c : Cell) → cellAfter now i (flatMap asksActs (domainValues st j l)) c ≡ c
-  unfolding domainValues
+  unfolding domainValues onCell
   domains-tell st j [] c = unfold flatMap cellAfter in refl
   domains-tell st j (a ∷ l) c =
-      both-tell (listedAs (λ u. domainOf st j) a) (domainValues st (suc j) l) c
+      both-tell (onCell now i) (listedAs (λ u. domainOf st j) a) (domainValues st (suc j) l) c
       ∙ domains-tell st (suc j) l _ ∙ listed-tells (λ u. domainOf st j) a c ∙ go a
     where
       go : (b : Applicant (Unit {0})) → tells (λ u. domainOf st j) now i b c ≡ c
@@ -408,13 +423,13 @@ tellsCell now i s c = tellsKind listeners now i i s (tellsKind faileds now i i s
 
 pub port-tells : (now i : ℕ) (b : Bridge) → Rising (ids (b .streams)) → (p : ℕ) (c : Cell)
     → cellAfter now i (flatMap asksActs (declarations b p)) c ≡ tellsCell now i (sendsAt (streamFor i (b .streams)) p) c
-unfolding declarations tellsCell
+unfolding declarations tellsCell onCell
 port-tells now i b o p c =
     let s = b .streams in
     let domains = domainValues (b .settings) 0 (senderAt (b .senders) p .domains) in
-    both-tell now i (ofKind advertises p s) (ofKind faileds p s ++ (ofKind listeners p s ++ domains)) c
-    ∙ both-tell now i (ofKind faileds p s) (ofKind listeners p s ++ domains) _
-    ∙ both-tell now i (ofKind listeners p s) domains _
+    both-tell (onCell now i) (ofKind advertises p s) (ofKind faileds p s ++ (ofKind listeners p s ++ domains)) c
+    ∙ both-tell (onCell now i) (ofKind faileds p s) (ofKind listeners p s ++ domains) _
+    ∙ both-tell (onCell now i) (ofKind listeners p s) domains _
     ∙ domains-tell now i (b .settings) 0 (senderAt (b .senders) p .domains) _
     ∙ streams-tell now i listeners p s o _
     ∙ ap (tellsKind listeners now i i (sendsAt (streamFor i s) p)) (streams-tell now i faileds p s o _)
@@ -871,3 +886,229 @@ module _ (now i : ℕ) where
         failed-only = only-failed now a f t qa qf (h .advertise-known) (h .failed-known) (h .one-talker) (h .no-other-advertise) (h .no-other-failed);
         listener-only = listener-told-only now (s .listening) (c .hears) (h .listener-known);
       }
+
+-- Domain values, slot by slot.
+
+-- the neighbour: what an act does to the value in slot j
+unfoldable pub slotOn : ℕ → ℕ → Act → Domain → Domain
+slotOn now j (leaveAll k) d = d
+slotOn now j (leave k i) d = d
+slotOn now j (talk i f v) d = d
+slotOn now j (listen i r) d = d
+slotOn now j (hearAll k) d = d
+slotOn now j (hear k i h) d = d
+slotOn now j (ofDomain leaveAllDomains) d = quitDomain now d
+slotOn now j (ofDomain (leaveDomain i)) d = cond (eqb i j) (quitDomain now d) d
+slotOn now j (ofDomain (joinDomain i v)) d = cond (eqb i j) (domain v stays) d
+slotOn now j (ofDomain hearAllDomains) d = d
+slotOn now j (ofDomain (hearDomain i h)) d = d
+
+unfoldable pub slotAfter : ℕ → ℕ → List Act → Domain → Domain
+slotAfter now j [] d = d
+slotAfter now j (a ∷ es) d = slotAfter now j es (slotOn now j a d)
+
+-- the value registered in slot j of a port
+unfoldable pub domainFor : ℕ → ℕ → List Own → Domain
+domainFor q j o = getD (ownAt o q .domains) j noDomain
+
+module _ (now j : ℕ) where
+  one-slot : (i : ℕ) (u : Domain → Domain) (ds : List Domain) → j < length ds → getD (at i u ds) j noDomain ≡ cond (eqb i j) (u (getD ds j noDomain)) (getD ds j noDomain)
+  one-slot i u ds h = go (eqb i j) refl
+    where
+      go : (t : Bool) → eqb i j ≡ t → getD (at i u ds) j noDomain ≡ cond t (u (getD ds j noDomain)) (getD ds j noDomain)
+      go true e = rw (eqb-true i j e) (at-here j u ds noDomain h)
+      go false e = at-other i u ds j noDomain (eqb-false i j e)
+
+  slot-act : (a : DomainAct) (ds : List Domain) → j < length ds
+      → (getD (doesDomain now a ds) j noDomain ≡ slotOn now j (ofDomain a) (getD ds j noDomain)) × (j < length (doesDomain now a ds))
+  unfolding doesDomain slotOn
+  slot-act leaveAllDomains ds h = (getD-map (quitDomain now) ds j noDomain noDomain h, omega (arith, length-map ds (quitDomain now)))
+  slot-act (leaveDomain i) ds h = (one-slot i (quitDomain now) ds h, omega (arith, length-at i (quitDomain now) ds))
+  slot-act (joinDomain i v) ds h = (one-slot i (λ d. domain v stays) ds h, omega (arith, length-at i (λ (d : Domain). domain v stays) ds))
+  slot-act hearAllDomains ds h = (refl, h)
+  slot-act (hearDomain i g) ds h = (refl, h)
+
+  module _ (q : ℕ) where
+    -- the port is there, and has the slot
+    abbrev Slot : List Own → Type 0
+    Slot o = (q < length o) × (j < length (ownAt o q .domains))
+
+    own-act : (a : Act) (o : List Own) → Slot o → (domainFor q j (applyOwn now q a o) ≡ slotOn now j a (domainFor q j o)) × Slot (applyOwn now q a o)
+    unfolding applyOwn slotOn domainFor
+    own-act (leaveAll k) o h = (refl, h)
+    own-act (leave k i) o h = (refl, h)
+    own-act (talk i f v) o h = (refl, h)
+    own-act (listen i r) o h = (refl, h)
+    own-act (hearAll k) o h = (refl, h)
+    own-act (hear k i g) o h = (refl, h)
+    own-act (ofDomain a) o h =
+        let e : ownAt (at q (changeDomains (doesDomain now a)) o) q ≡ changeDomains (doesDomain now a) (ownAt o q) = at-here q (changeDomains (doesDomain now a)) o noOwn (h .0) in
+        let d = slot-act a (ownAt o q .domains) (h .1) in
+        let c : (getD (changeDomains (doesDomain now a) (ownAt o q) .domains) j noDomain ≡ slotOn now j (ofDomain a) (getD (ownAt o q .domains) j noDomain)) × (j < length (changeDomains (doesDomain now a) (ownAt o q) .domains)) =
+        unfold changeDomains in d in
+        (rw e (c .0), (omega (arith, h .0, length-at q (changeDomains (doesDomain now a)) o), rw e (c .1)))
+
+    pub slot-after : (es : List Act) (o : List Own) → Slot o → (domainFor q j (applyOwns now q es o) ≡ slotAfter now j es (domainFor q j o)) × Slot (applyOwns now q es o)
+    unfolding applyOwns slotAfter
+    slot-after [] o h = (refl, h)
+    slot-after (a ∷ es) o h =
+        let c = own-act a o h in
+        let rest = slot-after es (applyOwn now q a o) (c .1) in
+        (rest .0 ∙ ap (slotAfter now j es) (c .0), rest .1)
+
+  slots-none : (d : Domain) → slotAfter now j [] d ≡ d
+  unfolding slotAfter
+  slots-none d = refl
+
+  slots-append : (es fs : List Act) (d : Domain) → slotAfter now j (es ++ fs) d ≡ slotAfter now j fs (slotAfter now j es d)
+  unfolding slotAfter
+  slots-append [] fs d = refl
+  slots-append (a ∷ es) fs d = slots-append es fs (slotOn now j a d)
+
+  slots-unheard : (c : Declaration) (hs : List Heard) (d : Domain) → slotAfter now j (map (hearOf c) hs) d ≡ d
+  unfolding slotAfter slotOn hearOf
+  slots-unheard c [] d = refl
+  slots-unheard (talkerDeclaration id f v) (h ∷ hs) d = slots-unheard (talkerDeclaration id f v) hs d
+  slots-unheard (listenerDeclaration id r) (h ∷ hs) d = slots-unheard (listenerDeclaration id r) hs d
+  slots-unheard (domainDeclaration id q v) (h ∷ hs) d = slots-unheard (domainDeclaration id q v) hs d
+
+  unfoldable onSlot : Effect Domain
+  onSlot = record { after = slotAfter now j; none = slots-none; append = slots-append; unheard = slots-unheard }
+
+-- a Domain value is of its slot
+slot-of : (m : ℕ) → slotOf (5 + m / 8) (m % 8) ≡ m
+unfolding slotOf
+slot-of m = omega arith
+
+-- what a machine makes of the value in its slot
+unfoldable pub slotAsked : ℕ → ℕ → Asking → Domain → Domain
+slotAsked now vlan nothingAsked d = d
+slotAsked now vlan join d = domain vlan stays
+slotAsked now vlan withdraw d = quitDomain now d
+
+unfoldable pub tellsSlot : ℕ → ℕ → Applicant (Unit {0}) → Domain → Domain
+tellsSlot now vlan noApplicant d = d
+tellsSlot now vlan (applicant x) d = slotAsked now vlan (asksFor (x .state)) d
+
+module _ (now j : ℕ) where
+  -- no stream's declaration touches it
+  listed-silent : {A : Type 0} (f : A → Declaration) → ((v : A) (g : Asking) (d : Domain) → slotAfter now j (askedOf (f v) g) d ≡ d)
+      → (a : Applicant A) (d : Domain) → slotAfter now j (flatMap asksActs (listedAs f a)) d ≡ d
+  unfolding listedAs flatMap asksActs
+  listed-silent f n noApplicant d = unfold slotAfter in refl
+  listed-silent f n (applicant x) d = rw append-nil (n (x .value) (asksFor (x .state)) d)
+
+  talker-silent : (i : ℕ) (f : Fixed) (v : Varying) (g : Asking) (d : Domain) → slotAfter now j (askedOf (talkerDeclaration i f v) g) d ≡ d
+  unfolding askedOf joinOf leaveOf slotAfter slotOn
+  talker-silent i f v nothingAsked d = refl
+  talker-silent i f v join d = refl
+  talker-silent i f v withdraw d = refl
+
+  listener-silent : (i : ℕ) (r : Ready) (g : Asking) (d : Domain) → slotAfter now j (askedOf (listenerDeclaration i r) g) d ≡ d
+  unfolding askedOf joinOf leaveOf slotAfter slotOn
+  listener-silent i r nothingAsked d = refl
+  listener-silent i r join d = refl
+  listener-silent i r withdraw d = refl
+
+  kind-silent : (k : Kind) (i : ℕ) (s : Sends) (d : Domain) → slotAfter now j (flatMap asksActs (declarationsOf k i s)) d ≡ d
+  unfolding declarationsOf advertiseOf failedOf
+  kind-silent advertises i s d = listed-silent (advertiseOf i) (λ v g e. talker-silent i _ _ g e) (s .advertising) d
+  kind-silent faileds i s d = listed-silent (failedOf i) (λ v g e. talker-silent i _ _ g e) (s .failing) d
+  kind-silent listeners i s d = listed-silent (listenerDeclaration i) (λ v g e. listener-silent i v g e) (s .listening) d
+
+  streams-silent : (k : Kind) (p : ℕ) (s : List Stream) (d : Domain) → slotAfter now j (flatMap asksActs (ofKind k p s)) d ≡ d
+  unfolding ofKind onSlot
+  streams-silent k p [] d = unfold flatMap slotAfter in refl
+  streams-silent k p (x ∷ s) d =
+      both-tell (onSlot now j) (declarationsOf k (x .id) (sendsAt x p)) (ofKind k p s) d ∙ streams-silent k p s _ ∙ kind-silent k (x .id) (sendsAt x p) d
+
+  module _ (st : Settings) where
+    asked-slot : (m : ℕ) (g : Asking) (d : Domain) → slotAfter now j (askedOf (domainOf st m) g) d ≡ cond (eqb m j) (slotAsked now (st .vlan) g d) d
+    unfolding domainOf askedOf joinOf leaveOf slotAfter slotOn slotAsked
+    asked-slot m nothingAsked d = go (eqb m j)
+      where
+        go : (t : Bool) → d ≡ cond t d d
+        go true = refl
+        go false = refl
+    asked-slot m join d = rw (slot-of m)
+    asked-slot m withdraw d = rw (slot-of m)
+
+    listed-slot : (m : ℕ) (a : Applicant (Unit {0})) (d : Domain)
+        → slotAfter now j (flatMap asksActs (listedAs (λ u. domainOf st m) a)) d ≡ cond (eqb m j) (tellsSlot now (st .vlan) a d) d
+    unfolding listedAs flatMap asksActs tellsSlot
+    listed-slot m noApplicant d = unfold slotAfter in (go (eqb m j))
+      where
+        go : (t : Bool) → d ≡ cond t d d
+        go true = refl
+        go false = refl
+    listed-slot m (applicant x) d = rw append-nil (asked-slot m (asksFor (x .state)) d)
+
+    -- the slots from m on
+    slots-above : (m : ℕ) (l : List (Applicant (Unit {0}))) (d : Domain) → j < m → slotAfter now j (flatMap asksActs (domainValues st m l)) d ≡ d
+    unfolding domainValues onSlot
+    slots-above m [] d h = unfold flatMap slotAfter in refl
+    slots-above m (a ∷ l) d h =
+        both-tell (onSlot now j) (listedAs (λ u. domainOf st m) a) (domainValues st (suc m) l) d
+        ∙ slots-above (suc m) l _ (omega arith) ∙ listed-slot m a d ∙ rw (ne-eqb m j (λ e. omega arith))
+
+    slots-tell : (m : ℕ) (l : List (Applicant (Unit {0}))) (d : Domain) → m ≤ j
+        → slotAfter now j (flatMap asksActs (domainValues st m l)) d ≡ tellsSlot now (st .vlan) (getD l (j - m) noApplicant) d
+    unfolding domainValues onSlot
+    slots-tell m [] d h = unfold flatMap slotAfter tellsSlot in refl
+    slots-tell m (a ∷ l) d h =
+        both-tell (onSlot now j) (listedAs (λ u. domainOf st m) a) (domainValues st (suc m) l) d
+        ∙ ap (slotAfter now j (flatMap asksActs (domainValues st (suc m) l))) (listed-slot m a d)
+        ∙ go (eqb m j) refl (slots-tell (suc m) l d)
+      where
+        go : (t : Bool) → eqb m j ≡ t
+            → (suc m ≤ j → slotAfter now j (flatMap asksActs (domainValues st (suc m) l)) d ≡ tellsSlot now (st .vlan) (getD l (j - suc m) noApplicant) d)
+            → slotAfter now j (flatMap asksActs (domainValues st (suc m) l)) (cond t (tellsSlot now (st .vlan) a d) d) ≡ tellsSlot now (st .vlan) (getD (a ∷ l) (j - m) noApplicant) d
+        go true e ih =
+            let n : m ≡ j = eqb-true m j e in
+            let z : j - m ≡ 0 = omega arith in
+            rw z (slots-above (suc m) l (tellsSlot now (st .vlan) a d) (omega arith))
+        go false e ih =
+            let n : m ≡ j → ⊥ = eqb-false m j e in
+            let z : j - m ≡ suc (j - suc m) = omega arith in
+            rw z (ih (omega arith))
+
+pub port-tells-slot : (now j : ℕ) (b : Bridge) (p : ℕ) (d : Domain)
+    → slotAfter now j (flatMap asksActs (declarations b p)) d ≡ tellsSlot now (b .settings .vlan) (getD (senderAt (b .senders) p .domains) j noApplicant) d
+unfolding declarations onSlot
+port-tells-slot now j b p d =
+    let s = b .streams in
+    let domains = domainValues (b .settings) 0 (senderAt (b .senders) p .domains) in
+    let z : j - 0 ≡ j = omega arith in
+    both-tell (onSlot now j) (ofKind advertises p s) (ofKind faileds p s ++ (ofKind listeners p s ++ domains)) d
+    ∙ both-tell (onSlot now j) (ofKind faileds p s) (ofKind listeners p s ++ domains) _
+    ∙ both-tell (onSlot now j) (ofKind listeners p s) domains _
+    ∙ ap (slotAfter now j (flatMap asksActs domains)) (streams-silent now j listeners p s _ ∙ streams-silent now j faileds p s _ ∙ streams-silent now j advertises p s d)
+    ∙ rw z at (slots-tell now j (b .settings) 0 (senderAt (b .senders) p .domains) d (omega arith))
+
+-- before a pass and after it
+pub record KnownSlot (vlan : ℕ) (a : Applicant (Unit {0})) (d : Domain) : Type 0 where
+  pub quiet : Quiet (λ u. d ≡ domain vlan stays) a
+  pub known : domainStays d ≡ true → isApplicant a ≡ true
+
+pub record FollowsSlot (vlan : ℕ) (a : Applicant (Unit {0})) (d : Domain) : Type 0 where
+  pub value : Stands (λ u. d ≡ domain vlan stays) a
+  pub only : domainStays d ≡ true → stands a ≡ true
+
+quit-slot : (now : ℕ) (d : Domain) → domainStays (quitDomain now d) ≡ false
+unfolding domainStays quitDomain begin isStaying
+quit-slot now noDomain = refl
+quit-slot now (domain v stays) = refl
+quit-slot now (domain v (since t)) = refl
+
+pub slot-follows : (now vlan : ℕ) (a : Applicant (Unit {0})) (d : Domain) → KnownSlot vlan a d → FollowsSlot vlan a (tellsSlot now vlan a d)
+unfolding tellsSlot isApplicant stands isStanding
+slot-follows now vlan noApplicant d k = record { value = tt; only = λ h. k .known h }
+slot-follows now vlan (applicant x) d k = go (x .state) (k .quiet)
+  where
+    go : (q : Standing) → WhenQuiet q (d ≡ domain vlan stays) → FollowsSlot vlan (applicant record { state = q; value = x .value }) (slotAsked now vlan (asksFor q) d)
+    go veryAnxiousPassive w = unfold asksFor slotAsked in record { value = refl; only = λ h. refl }
+    go veryAnxiousNew w = unfold asksFor slotAsked in record { value = refl; only = λ h. refl }
+    go anxiousNew w = unfold asksFor slotAsked in record { value = refl; only = λ h. refl }
+    go anxiousActive w = unfold asksFor slotAsked in record { value = refl; only = λ h. refl }
+    go quietActive w = unfold asksFor slotAsked in record { value = w; only = λ h. refl }
+    go leavingActive w = unfold asksFor slotAsked in record { value = tt; only = λ h. absurd (false≢true (sym (quit-slot now d) ∙ h)) }
