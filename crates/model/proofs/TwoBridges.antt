@@ -5,20 +5,20 @@ use mathlib.Core.List.{List, [], _∷_, _++_, map, flatMap, flatten, append-nil,
 use mathlib.Core.Bool.{Bool, true, false, cond, _&&_, false≢true, true≢false}
 use Prim.Native.Nat.{ℕ, zero, suc, _+_, _-_, _*_, _/_, _%_, _≤_, _<_}
 use native.Mathlib.Omega.{arith}
-use lib.ListN.{length, getD, replicate, length-replicate}
+use lib.ListN.{length, getD, replicate, length-map}
 use lib.Dec.{eqb, leb}
 use borrow.Author.Tests.{eq-eqb, ne-eqb, eqb-true, eqb-false}
 use Rattle.model.specs.Lists.{All, keep}
 use Rattle.model.specs.Applicant.{tx, applicantRow, applicantColumn, applicantEntry, to, by, afterNew, isWritten, messageNumber, Standing, veryAnxiousPassive, veryAnxiousNew, anxiousNew, anxiousActive, quietActive, leavingActive, named, sent, speaks, spoken, opportunity}
 use Rattle.model.specs.Places.{saying}
 use Rattle.model.specs.Machines.{Heard, Listed, Applicant, noApplicant, applicant, way}
-use Rattle.model.specs.State.{Leaving, stays, since, Fixed, TalkerType, talkerAdvertise, talkerFailed, Varying, Registration, Talker, noTalker, talker, Ready, Listener, noListener, listener, Cell, Offer, Failure, Sends, Stream, Settings, Bridge, empty, blank, fresh, noSends, sendsAt, senderAt}
-use Rattle.model.specs.Registrations.{Kind, advertises, faileds, listeners, Act, leaveAll, leave, talk, listen, hearAll, hear, ofDomain, begin, talksAs, hearsAs, withLeaving, quitTalker, quitListener, quit, sameFixed, firstJoin, sameJoin, otherJoin, joinTalker, does, moves, isStaying, talkerStays, listenerStays, at, change, touch, begun, reach, apply, applyAll, ids, joins, together}
+use Rattle.model.specs.State.{Leaving, stays, since, Fixed, TalkerType, talkerAdvertise, talkerFailed, Varying, Registration, Talker, noTalker, talker, Ready, Listener, noListener, listener, Cell, Domain, noDomain, domain, Own, Offer, Failure, Sends, Stream, Settings, Bridge, empty, blank, fresh, noSends, noOwn, sendsAt, senderAt, ownAt, slotOf}
+use Rattle.model.specs.Registrations.{Kind, advertises, faileds, listeners, Act, leaveAll, leave, talk, listen, hearAll, hear, ofDomain, DomainAct, leaveAllDomains, leaveDomain, joinDomain, hearAllDomains, hearDomain, quitDomain, doesDomain, changeDomains, applyOwn, applyOwns, domainStays, begin, talksAs, hearsAs, withLeaving, quitTalker, quitListener, quit, sameFixed, firstJoin, sameJoin, otherJoin, joinTalker, does, moves, isStaying, talkerStays, listenerStays, at, change, touch, begun, reach, apply, applyAll, ids, joins, together}
 use Rattle.model.specs.Frames.{Asking, nothingAsked, join, withdraw, asking, event, heardOf}
 use Rattle.model.specs.Table.{stands, isStanding}
 use Rattle.model.specs.Settling.{isApplicant}
 use Rattle.model.specs.Declarations.{Declaration, talkerDeclaration, listenerDeclaration, domainDeclaration, talkerKind, joinOf, listedAs, advertiseOf, failedOf, declarationsOf, ofKind, domainOf, domainValues, declarations, Said, say, leaveOf, hearOf, askedOf, saidActs, declaredId}
-use Rattle.model.proofs.Lists.{all-map, all-replicate, all-getD, at-here, length-at}
+use Rattle.model.proofs.Lists.{all-map, all-replicate, all-getD, at-here, at-other, length-at, getD-map, and-left, and-right, and-both}
 use Rattle.model.proofs.Valid.{Rising}
 use Rattle.model.proofs.ApplicantEntries.{tables}
 use Rattle.model.proofs.Commute.{Keeps, fresh-id, touch-nil, touch-before, touch-here, touch-past, Tri, less, same, more, tri, acted, acted-keeps, at-fixed}
@@ -183,23 +183,32 @@ module _ (now q i : ℕ) where
       go false = (refl, h)
 
   pub cell-after : (es : List Act) (s : List Stream) → Rising (ids s) → q < length (streamFor i s .cells)
-      → cellFor q i (applyAll now q es s) ≡ cellAfter now i es (cellFor q i s)
+      → (cellFor q i (applyAll now q es s) ≡ cellAfter now i es (cellFor q i s)) × (q < length (streamFor i (applyAll now q es s) .cells))
   unfolding applyAll cellAfter cellFor
-  cell-after [] s r h = refl
+  cell-after [] s r h = (refl, h)
   cell-after (a ∷ es) s r h =
       let e : streamFor i (apply now q a s) .cells ≡ cellsOn now q i a (streamFor i s .cells) = act-cells now q i a s r in
       let c = act-cell a (streamFor i s .cells) h in
-      cell-after es (apply now q a s) (act-rises now q a s r) (rw e (c .1)) ∙ ap (cellAfter now i es) (rw e (c .0))
+      let rest = cell-after es (apply now q a s) (act-rises now q a s r) (rw e (c .1)) in
+      (rest .0 ∙ ap (cellAfter now i es) (rw e (c .0)), rest .1)
 
--- This side: what the machines of a port say of one stream.
+-- What acts do to a registration of any kind: one after another; what Applicants hear does nothing.
+pub record Effect (X : Type 0) : Type 0 where
+  pub after : List Act → X → X
+  pub none : (c : X) → after [] c ≡ c
+  pub append : (es fs : List Act) (c : X) → after (es ++ fs) c ≡ after fs (after es c)
+  pub unheard : (d : Declaration) (hs : List Heard) (c : X) → after (map (hearOf d) hs) c ≡ c
 
 module _ (now i : ℕ) where
-  pub after-append : (es fs : List Act) (c : Cell) → cellAfter now i (es ++ fs) c ≡ cellAfter now i fs (cellAfter now i es c)
+  after-none : (c : Cell) → cellAfter now i [] c ≡ c
+  unfolding cellAfter
+  after-none c = refl
+
+  after-append : (es fs : List Act) (c : Cell) → cellAfter now i (es ++ fs) c ≡ cellAfter now i fs (cellAfter now i es c)
   unfolding cellAfter
   after-append [] fs c = refl
   after-append (a ∷ es) fs c = after-append es fs (cellOn now i a c)
 
-  -- what Applicants hear changes no registration
   heard-nothing : (d : Declaration) (hs : List Heard) (c : Cell) → cellAfter now i (map (hearOf d) hs) c ≡ c
   unfolding cellAfter
   heard-nothing d [] c = refl
@@ -214,6 +223,11 @@ module _ (now i : ℕ) where
       one (listenerDeclaration id r) = unfold cellOn hearOf about does in (either (eqb id i))
       one (domainDeclaration id q v) = unfold cellOn hearOf about does in refl
 
+  unfoldable onCell : Effect Cell
+  onCell = record { after = cellAfter now i; none = after-none; append = after-append; unheard = heard-nothing }
+
+-- This side: what the machines of a port say.
+
 -- what a machine asks of the neighbour's Registrar at an opportunity to transmit
 unfoldable pub asksFor : Standing → Asking
 asksFor veryAnxiousPassive = join
@@ -223,29 +237,40 @@ asksFor anxiousActive = join
 asksFor quietActive = nothingAsked
 asksFor leavingActive = withdraw
 
--- the acts that a neighbour reads of a declaration in the list, where it has something to say
-unfoldable pub toldActs : (Declaration → Bool) → Listed Declaration → List Act
-toldActs r x = cond (speaks tx (x .state)) (saidActs (say false r x)) []
+unfoldable pub asksActs : Listed Declaration → List Act
+asksActs x = askedOf (x .value) (asksFor (x .state))
+
+silent : (d : Declaration) (q : Standing) → speaks tx q ≡ false → asksActs record { state = q; value = d } ≡ []
+unfolding tables asksActs asksFor askedOf
+silent d veryAnxiousPassive e = absurd (true≢false e)
+silent d veryAnxiousNew e = absurd (true≢false e)
+silent d anxiousNew e = absurd (true≢false e)
+silent d anxiousActive e = absurd (true≢false e)
+silent d quietActive e = refl
+silent d leavingActive e = absurd (true≢false e)
 
 flat-append : {A : Type 0} (f : A → List Act) (l m : List A) → flatMap f (l ++ m) ≡ flatMap f l ++ flatMap f m
 unfolding flatMap
 flat-append f [] m = refl
 flat-append f (x ∷ l) m = rw (flat-append f l m, append-assoc)
 
--- of a list: what is said of it is what each has to say
-pub told-list : (r : Declaration → Bool) (l : List (Listed Declaration))
-    → flatMap saidActs (map (say false r) (saying (way false r .says) l)) ≡ flatMap (toldActs r) l
-unfolding saying way toldActs flatMap
-told-list r [] = refl
-told-list r (x ∷ l) = go (speaks tx (x .state)) (told-list r l)
+-- a quiet one asks nothing
+saying-asks : (l : List (Listed Declaration)) → flatMap asksActs (saying (λ x. speaks tx (x .state)) l) ≡ flatMap asksActs l
+unfolding saying flatMap
+saying-asks [] = refl
+saying-asks (x ∷ l) = go (x .state) (saying-asks l)
   where
     rest : List (Listed Declaration)
     rest = saying (λ y. speaks tx (y .state)) l
 
-    go : (t : Bool) → flatMap saidActs (map (say false r) rest) ≡ flatMap (toldActs r) l
-        → flatMap saidActs (map (say false r) (keep t x rest)) ≡ cond t (saidActs (say false r x)) [] ++ flatMap (toldActs r) l
-    go true ih = ap (λ (es : List Act). saidActs (say false r x) ++ es) ih
-    go false ih = ih
+    go : (q : Standing) → flatMap asksActs rest ≡ flatMap asksActs l
+        → flatMap asksActs (keep (speaks tx q) record { state = q; value = x .value } rest) ≡ asksActs record { state = q; value = x .value } ++ flatMap asksActs l
+    go q ih = one (speaks tx q) refl
+      where
+        one : (t : Bool) → speaks tx q ≡ t
+            → flatMap asksActs (keep t record { state = q; value = x .value } rest) ≡ asksActs record { state = q; value = x .value } ++ flatMap asksActs l
+        one true e = ap (λ (es : List Act). asksActs record { state = q; value = x .value } ++ es) ih
+        one false e = rw (silent (x .value) q e) ih
 
 -- what a machine, where there is one, does to a cell of the neighbour
 unfoldable pub tells : {A : Type 0} → (A → Declaration) → ℕ → ℕ → Applicant A → Cell → Cell
@@ -298,66 +323,81 @@ silent-kind advertises now i c = refl
 silent-kind faileds now i c = refl
 silent-kind listeners now i c = refl
 
-module _ (now i : ℕ) (r : Declaration → Bool) where
-  -- a message's event asks for what its entry says: New and a Join for a join, Lv for a leave
-  said-asks : (d : Declaration) (q : Standing) (c : Cell)
-      → cellAfter now i (toldActs r record { state = q; value = d }) c ≡ cellAfter now i (askedOf d (asksFor q)) c
-  unfolding toldActs say tables asksFor event asking opportunity
-  said-asks d q c = go q (r d)
+module _ {X : Type 0} (effect : Effect X) where
+  abbrev made : List Act → X → X
+  made = effect .after
+
+  -- a message's event asks for what its entry says, with the Registrar IN or not: New and a Join for a join, Lv for a leave
+  said-asks : (r : Declaration → Bool) (x : Listed Declaration) → speaks tx (x .state) ≡ true → (c : X) → made (saidActs (say false r x)) c ≡ made (asksActs x) c
+  unfolding say tables asksActs asksFor event asking opportunity
+  said-asks r x h c = go (x .state) (r (x .value)) h
     where
-      said-only : (n : ℕ) → cellAfter now i (saidActs record { declaration = d; event = n }) c ≡ cellAfter now i (askedOf d (asking (event n))) c
+      d : Declaration
+      d = x .value
+
+      said-only : (n : ℕ) → made (saidActs record { declaration = d; event = n }) c ≡ made (askedOf d (asking (event n))) c
       said-only n =
-          unfold saidActs in (after-append now i (askedOf d (asking (event n))) (map (hearOf d) (heardOf (event n))) c
-          ∙ heard-nothing now i d (heardOf (event n)) (cellAfter now i (askedOf d (asking (event n))) c))
+          unfold saidActs in (effect .append (askedOf d (asking (event n))) (map (hearOf d) (heardOf (event n))) c
+          ∙ effect .unheard d (heardOf (event n)) (made (askedOf d (asking (event n))) c))
 
-      go : (w : Standing) (t : Bool)
-          → cellAfter now i (cond (speaks tx w) (saidActs record { declaration = d; event = spoken t (opportunity false) w }) []) c ≡ cellAfter now i (askedOf d (asksFor w)) c
-      go veryAnxiousPassive true = said-only 1
-      go veryAnxiousPassive false = said-only 3
-      go veryAnxiousNew t = said-only 0
-      go anxiousNew t = said-only 0
-      go anxiousActive true = said-only 1
-      go anxiousActive false = said-only 3
-      go quietActive t = unfold askedOf cellAfter in refl
-      go leavingActive t = said-only 5
+      go : (w : Standing) (t : Bool) → speaks tx w ≡ true
+          → made (saidActs record { declaration = d; event = spoken t (opportunity false) w }) c ≡ made (askedOf d (asksFor w)) c
+      go veryAnxiousPassive true e = said-only 1
+      go veryAnxiousPassive false e = said-only 3
+      go veryAnxiousNew t e = said-only 0
+      go anxiousNew t e = said-only 0
+      go anxiousActive true e = said-only 1
+      go anxiousActive false e = said-only 3
+      go quietActive t e = absurd (false≢true e)
+      go leavingActive t e = said-only 5
 
-  listed-tells : {A : Type 0} (f : A → Declaration) (a : Applicant A) (c : Cell) → cellAfter now i (flatMap (toldActs r) (listedAs f a)) c ≡ tells f now i a c
-  unfolding listedAs flatMap tells
+  pub run-asks : (r : Declaration → Bool) (l : List (Listed Declaration)) → All (λ x. speaks tx (x .state) ≡ true) l → (c : X)
+      → made (flatMap saidActs (map (say false r) l)) c ≡ made (flatMap asksActs l) c
+  unfolding flatMap
+  run-asks r [] a c = refl
+  run-asks r (x ∷ l) a c =
+      effect .append (saidActs (say false r x)) (flatMap saidActs (map (say false r) l)) c
+      ∙ ap (made (flatMap saidActs (map (say false r) l))) (said-asks r x (a .0) c)
+      ∙ run-asks r l (a .1) (made (asksActs x) c)
+      ∙ sym (effect .append (asksActs x) (flatMap asksActs l) c)
+
+  -- what is said of one list, then of another
+  both-tell : (l m : List (Listed Declaration)) (c : X) → made (flatMap asksActs (l ++ m)) c ≡ made (flatMap asksActs m) (made (flatMap asksActs l) c)
+  both-tell l m c = rw (flat-append asksActs l m) (effect .append (flatMap asksActs l) (flatMap asksActs m) c)
+
+module _ (now i : ℕ) where
+  listed-tells : {A : Type 0} (f : A → Declaration) (a : Applicant A) (c : Cell) → cellAfter now i (flatMap asksActs (listedAs f a)) c ≡ tells f now i a c
+  unfolding listedAs flatMap tells asksActs
   listed-tells f noApplicant c = unfold cellAfter in refl
-  listed-tells f (applicant x) c = rw (append-nil) (said-asks (f (x .value)) (x .state) c)
+  listed-tells f (applicant x) c = rw append-nil
 
-  kind-tells : (k : Kind) (j : ℕ) (s : Sends) (c : Cell) → cellAfter now i (flatMap (toldActs r) (declarationsOf k j s)) c ≡ tellsKind k now i j s c
+  kind-tells : (k : Kind) (j : ℕ) (s : Sends) (c : Cell) → cellAfter now i (flatMap asksActs (declarationsOf k j s)) c ≡ tellsKind k now i j s c
   unfolding declarationsOf tellsKind
   kind-tells advertises j s c = listed-tells (advertiseOf j) (s .advertising) c
   kind-tells faileds j s c = listed-tells (failedOf j) (s .failing) c
   kind-tells listeners j s c = listed-tells (listenerDeclaration j) (s .listening) c
 
-  -- what is said of one list, then of another
-  both-tell : (l m : List (Listed Declaration)) (c : Cell)
-      → cellAfter now i (flatMap (toldActs r) (l ++ m)) c ≡ cellAfter now i (flatMap (toldActs r) m) (cellAfter now i (flatMap (toldActs r) l) c)
-  both-tell l m c = rw (flat-append (toldActs r) l m) (after-append now i (flatMap (toldActs r) l) (flatMap (toldActs r) m) c)
-
   module _ (k : Kind) (p : ℕ) where
-    none-tell : (s : List Stream) → All (λ j. i < j) (ids s) → (c : Cell) → cellAfter now i (flatMap (toldActs r) (ofKind k p s)) c ≡ c
-    unfolding ofKind ids
+    none-tell : (s : List Stream) → All (λ j. i < j) (ids s) → (c : Cell) → cellAfter now i (flatMap asksActs (ofKind k p s)) c ≡ c
+    unfolding ofKind ids onCell
     none-tell [] a c = unfold flatMap cellAfter in refl
     none-tell (x ∷ s) a c =
-        both-tell (declarationsOf k (x .id) (sendsAt x p)) (ofKind k p s) c
+        both-tell (onCell now i) (declarationsOf k (x .id) (sendsAt x p)) (ofKind k p s) c
         ∙ none-tell s (a .1) _ ∙ kind-tells k (x .id) (sendsAt x p) c ∙ kind-other now i k (x .id) (λ e. omega (arith, a .0)) (sendsAt x p) c
 
     -- of the streams in ascending order just the one with that StreamID
     streams-tell : (s : List Stream) → Rising (ids s) → (c : Cell)
-        → cellAfter now i (flatMap (toldActs r) (ofKind k p s)) c ≡ tellsKind k now i i (sendsAt (streamFor i s) p) c
-    unfolding ofKind ids Rising
+        → cellAfter now i (flatMap asksActs (ofKind k p s)) c ≡ tellsKind k now i i (sendsAt (streamFor i s) p) c
+    unfolding ofKind ids Rising onCell
     streams-tell [] o c = unfold flatMap cellAfter streamFor in (rw (fresh-sends i p) (silent-kind k now i c))
     streams-tell (x ∷ s) o c =
-        both-tell (declarationsOf k (x .id) (sendsAt x p)) (ofKind k p s) c
-        ∙ ap (cellAfter now i (flatMap (toldActs r) (ofKind k p s))) (kind-tells k (x .id) (sendsAt x p) c)
+        both-tell (onCell now i) (declarationsOf k (x .id) (sendsAt x p)) (ofKind k p s) c
+        ∙ ap (cellAfter now i (flatMap asksActs (ofKind k p s))) (kind-tells k (x .id) (sendsAt x p) c)
         ∙ go (eqb (x .id) i) refl (streams-tell s (o .1) c)
       where
         go : (t : Bool) → eqb (x .id) i ≡ t
-            → cellAfter now i (flatMap (toldActs r) (ofKind k p s)) c ≡ tellsKind k now i i (sendsAt (streamFor i s) p) c
-            → cellAfter now i (flatMap (toldActs r) (ofKind k p s)) (tellsKind k now i (x .id) (sendsAt x p) c) ≡ tellsKind k now i i (sendsAt (streamFor i (x ∷ s)) p) c
+            → cellAfter now i (flatMap asksActs (ofKind k p s)) c ≡ tellsKind k now i i (sendsAt (streamFor i s) p) c
+            → cellAfter now i (flatMap asksActs (ofKind k p s)) (tellsKind k now i (x .id) (sendsAt x p) c) ≡ tellsKind k now i i (sendsAt (streamFor i (x ∷ s)) p) c
         go true e ih =
             let q : x .id ≡ i = eqb-true (x .id) i e in
             none-tell s (all-map (λ j. x .id < j) (λ j. i < j) (λ j h. omega arith) (ids s) (o .0)) _
@@ -366,11 +406,11 @@ module _ (now i : ℕ) (r : Declaration → Bool) where
             let n : x .id ≡ i → ⊥ = eqb-false (x .id) i e in
             rw (found-past i x s n, kind-other now i k (x .id) n (sendsAt x p) c) ih
 
-  domains-tell : (st : Settings) (j : ℕ) (l : List (Applicant (Unit {0}))) (c : Cell) → cellAfter now i (flatMap (toldActs r) (domainValues st j l)) c ≡ c
-  unfolding domainValues
+  domains-tell : (st : Settings) (j : ℕ) (l : List (Applicant (Unit {0}))) (c : Cell) → cellAfter now i (flatMap asksActs (domainValues st j l)) c ≡ c
+  unfolding domainValues onCell
   domains-tell st j [] c = unfold flatMap cellAfter in refl
   domains-tell st j (a ∷ l) c =
-      both-tell (listedAs (λ u. domainOf st j) a) (domainValues st (suc j) l) c
+      both-tell (onCell now i) (listedAs (λ u. domainOf st j) a) (domainValues st (suc j) l) c
       ∙ domains-tell st (suc j) l _ ∙ listed-tells (λ u. domainOf st j) a c ∙ go a
     where
       go : (b : Applicant (Unit {0})) → tells (λ u. domainOf st j) now i b c ≡ c
@@ -381,16 +421,694 @@ module _ (now i : ℕ) (r : Declaration → Bool) where
 unfoldable pub tellsCell : ℕ → ℕ → Sends → Cell → Cell
 tellsCell now i s c = tellsKind listeners now i i s (tellsKind faileds now i i s (tellsKind advertises now i i s c))
 
-pub port-tells : (now i : ℕ) (r : Declaration → Bool) (b : Bridge) → Rising (ids (b .streams)) → (p : ℕ) (c : Cell)
-    → cellAfter now i (flatMap (toldActs r) (declarations b p)) c ≡ tellsCell now i (sendsAt (streamFor i (b .streams)) p) c
-unfolding declarations tellsCell
-port-tells now i r b o p c =
+pub port-tells : (now i : ℕ) (b : Bridge) → Rising (ids (b .streams)) → (p : ℕ) (c : Cell)
+    → cellAfter now i (flatMap asksActs (declarations b p)) c ≡ tellsCell now i (sendsAt (streamFor i (b .streams)) p) c
+unfolding declarations tellsCell onCell
+port-tells now i b o p c =
     let s = b .streams in
     let domains = domainValues (b .settings) 0 (senderAt (b .senders) p .domains) in
-    both-tell now i r (ofKind advertises p s) (ofKind faileds p s ++ (ofKind listeners p s ++ domains)) c
-    ∙ both-tell now i r (ofKind faileds p s) (ofKind listeners p s ++ domains) _
-    ∙ both-tell now i r (ofKind listeners p s) domains _
-    ∙ domains-tell now i r (b .settings) 0 (senderAt (b .senders) p .domains) _
-    ∙ streams-tell now i r listeners p s o _
-    ∙ ap (tellsKind listeners now i i (sendsAt (streamFor i s) p)) (streams-tell now i r faileds p s o _)
-    ∙ ap (λ (d : Cell). tellsKind listeners now i i (sendsAt (streamFor i s) p) (tellsKind faileds now i i (sendsAt (streamFor i s) p) d)) (streams-tell now i r advertises p s o c)
+    both-tell (onCell now i) (ofKind advertises p s) (ofKind faileds p s ++ (ofKind listeners p s ++ domains)) c
+    ∙ both-tell (onCell now i) (ofKind faileds p s) (ofKind listeners p s ++ domains) _
+    ∙ both-tell (onCell now i) (ofKind listeners p s) domains _
+    ∙ domains-tell now i (b .settings) 0 (senderAt (b .senders) p .domains) _
+    ∙ streams-tell now i listeners p s o _
+    ∙ ap (tellsKind listeners now i i (sendsAt (streamFor i s) p)) (streams-tell now i faileds p s o _)
+    ∙ ap (λ (d : Cell). tellsKind listeners now i i (sendsAt (streamFor i s) p) (tellsKind faileds now i i (sendsAt (streamFor i s) p) d)) (streams-tell now i advertises p s o c)
+
+-- A Talker's registration.
+
+-- it is just what is declared, and stays
+abbrev pub Registers : Fixed → Varying → Talker → Type 0
+Registers f v noTalker = ⊥
+Registers f v (talker r) = (sameFixed f (r .fixed) ≡ true) × (r .varying ≡ v) × (r .changed ≡ false) × (r .leaving ≡ stays)
+
+-- no other destination, VLAN, TSpec, priority or rank is registered
+abbrev pub NoOther : Fixed → Talker → Type 0
+NoOther f noTalker = Unit {0}
+NoOther f (talker r) = sameFixed f (r .fixed) ≡ true
+
+same-self : (f : Fixed) → sameFixed f f ≡ true
+unfolding sameFixed
+same-self f =
+    rw (
+      eq-eqb (f .destination) (f .destination) refl,
+      eq-eqb (f .vlan) (f .vlan) refl,
+      eq-eqb (f .size) (f .size) refl,
+      eq-eqb (f .frames) (f .frames) refl,
+      eq-eqb (f .priority) (f .priority) refl,
+      eq-eqb (f .rank) (f .rank) refl,
+    )
+
+join-registers : (f : Fixed) (v : Varying) (t : Talker) → NoOther f t → Registers f v (joinTalker f v t)
+unfolding joinTalker firstJoin sameJoin
+join-registers f v noTalker n = (same-self f, refl, refl, refl)
+join-registers f v (talker r) n = rw n (n, refl, refl, refl)
+
+-- "where another destination, VLAN, TSpec, priority or rank was registered before, that stands, marked changed"
+pub other-stands : (f : Fixed) (v : Varying) (r : Registration) → sameFixed f (r .fixed) ≡ false
+    → joinTalker f v (talker r) ≡ talker record { fixed = r .fixed; varying = r .varying; firstLatency = r .firstLatency; changed = true; leaving = stays }
+unfolding joinTalker otherJoin
+other-stands f v r n = rw n
+
+module _ (now : ℕ) (k : Kind) where
+  -- an Lv of its type starts its leaving, one of another type nothing
+  quit-gone : (t : Talker) → talkerStays k (quitTalker now k t) ≡ false
+  unfolding talkerStays quitTalker withLeaving
+  quit-gone noTalker = refl
+  quit-gone (talker r) = go (talksAs k (r .varying .type)) (r .leaving)
+    where
+      go : (t : Bool) (l : Leaving) → (t && isStaying (cond t (begin now l) l)) ≡ false
+      go true stays = unfold begin isStaying in refl
+      go true (since n) = unfold begin isStaying in refl
+      go false l = refl
+
+  quit-other : (f : Fixed) (v : Varying) (t : Talker) → talksAs k (v .type) ≡ false → Registers f v t → Registers f v (quitTalker now k t)
+  unfolding quitTalker withLeaving
+  quit-other f v noTalker n h = h
+  quit-other f v (talker r) n h = (h .0, h .1, h .2, ap (λ (w : Varying). cond (talksAs k (w .type)) (begin now (r .leaving)) (r .leaving)) (h .1) ∙ rw n (h .3))
+
+  quit-fixed : (f : Fixed) (t : Talker) → NoOther f t → NoOther f (quitTalker now k t)
+  unfolding quitTalker withLeaving
+  quit-fixed f noTalker n = n
+  quit-fixed f (talker r) n = n
+
+  -- what stays after an Lv stayed before it
+  quit-stays : (j : Kind) (t : Talker) → talkerStays j (quitTalker now k t) ≡ true → talkerStays j t ≡ true
+  unfolding talkerStays quitTalker withLeaving
+  quit-stays j noTalker h = h
+  quit-stays j (talker r) h = and-both (talksAs j (r .varying .type)) (isStaying (r .leaving)) (and-left (talksAs j (r .varying .type)) _ h) (go (talksAs k (r .varying .type)) (r .leaving) (and-right (talksAs j (r .varying .type)) _ h))
+    where
+      go : (t : Bool) (l : Leaving) → isStaying (cond t (begin now l) l) ≡ true → isStaying l ≡ true
+      go t stays e = unfold isStaying in refl
+      go true (since n) e = absurd (false≢true (unfold begin isStaying in e))
+      go false (since n) e = e
+
+-- a registration is of one type
+one-type : (j : Kind) (f : Fixed) (v : Varying) (t : Talker) → talksAs j (v .type) ≡ false → Registers f v t → talkerStays j t ≡ false
+unfolding talkerStays
+one-type j f v noTalker n h = absurd h
+one-type j f v (talker r) n h = ap (λ (w : Varying). talksAs j (w .type) && isStaying (r .leaving)) (h .1) ∙ rw n
+
+-- What holds of the value of a machine that is quiet, or that stands.
+
+abbrev pub WhenQuiet : Standing → Type 0 → Type 0
+WhenQuiet veryAnxiousPassive P = Unit {0}
+WhenQuiet veryAnxiousNew P = Unit {0}
+WhenQuiet anxiousNew P = Unit {0}
+WhenQuiet anxiousActive P = Unit {0}
+WhenQuiet quietActive P = P
+WhenQuiet leavingActive P = Unit {0}
+
+abbrev pub WhenStanding : Standing → Type 0 → Type 0
+WhenStanding veryAnxiousPassive P = P
+WhenStanding veryAnxiousNew P = P
+WhenStanding anxiousNew P = P
+WhenStanding anxiousActive P = P
+WhenStanding quietActive P = P
+WhenStanding leavingActive P = Unit {0}
+
+abbrev pub Quiet : {A : Type 0} → (A → Type 0) → Applicant A → Type 0
+Quiet P noApplicant = Unit {0}
+Quiet P (applicant x) = WhenQuiet (x .state) (P (x .value))
+
+abbrev pub Stands : {A : Type 0} → (A → Type 0) → Applicant A → Type 0
+Stands P noApplicant = Unit {0}
+Stands P (applicant x) = WhenStanding (x .state) (P (x .value))
+
+module _ {A : Type 0} (P Q : A → Type 0) (h : (v : A) → P v → Q v) where
+  quiet-map : (a : Applicant A) → Quiet P a → Quiet Q a
+  quiet-map noApplicant w = tt
+  quiet-map (applicant x) w = go (x .state) w
+    where
+      go : (q : Standing) → WhenQuiet q (P (x .value)) → WhenQuiet q (Q (x .value))
+      go veryAnxiousPassive w = tt
+      go veryAnxiousNew w = tt
+      go anxiousNew w = tt
+      go anxiousActive w = tt
+      go quietActive w = h (x .value) w
+      go leavingActive w = tt
+
+  stands-map : (a : Applicant A) → Stands P a → Stands Q a
+  stands-map noApplicant w = tt
+  stands-map (applicant x) w = go (x .state) w
+    where
+      go : (q : Standing) → WhenStanding q (P (x .value)) → WhenStanding q (Q (x .value))
+      go veryAnxiousPassive w = h (x .value) w
+      go veryAnxiousNew w = h (x .value) w
+      go anxiousNew w = h (x .value) w
+      go anxiousActive w = h (x .value) w
+      go quietActive w = h (x .value) w
+      go leavingActive w = tt
+
+module _ {A : Type 0} where
+  -- nothing is asked of one that does not stand
+  fallen : (P : A → Type 0) (a : Applicant A) → stands a ≡ false → Stands P a
+  unfolding stands isStanding
+  fallen P noApplicant e = tt
+  fallen P (applicant x) e = go (x .state) e
+    where
+      go : (q : Standing) → isStanding q ≡ false → WhenStanding q (P (x .value))
+      go veryAnxiousPassive e = absurd (true≢false e)
+      go veryAnxiousNew e = absurd (true≢false e)
+      go anxiousNew e = absurd (true≢false e)
+      go anxiousActive e = absurd (true≢false e)
+      go quietActive e = absurd (true≢false e)
+      go leavingActive e = tt
+
+  -- what holds of the values of all that stand, of one that does: with any conclusion
+  standing-gives : (P : A → Type 0) (R : Type 0) → ((v : A) → P v → R) → (a : Applicant A) → stands a ≡ true → Stands P a → R
+  unfolding stands isStanding
+  standing-gives P R h noApplicant e w = absurd (false≢true e)
+  standing-gives P R h (applicant x) e w = go (x .state) e w
+    where
+      go : (q : Standing) → isStanding q ≡ true → WhenStanding q (P (x .value)) → R
+      go veryAnxiousPassive e w = h (x .value) w
+      go veryAnxiousNew e w = h (x .value) w
+      go anxiousNew e w = h (x .value) w
+      go anxiousActive e w = h (x .value) w
+      go quietActive e w = h (x .value) w
+      go leavingActive e w = absurd (false≢true e)
+
+-- A Talker's machine of type k, with the fixed values and the others of what it declares.
+
+module _ {A : Type 0} (values : A → Fixed) (others : A → Varying) (k : Kind) (now : ℕ) where
+  -- what it makes of the neighbour's Talker
+  unfoldable talkerAsked : Asking → A → Talker → Talker
+  talkerAsked nothingAsked v t = t
+  talkerAsked join v t = joinTalker (values v) (others v) t
+  talkerAsked withdraw v t = quitTalker now k t
+
+  unfoldable talkerTold : Applicant A → Talker → Talker
+  talkerTold noApplicant t = t
+  talkerTold (applicant x) t = talkerAsked (asksFor (x .state)) (x .value) t
+
+  -- one that stands is registered afterwards
+  told-registers : (a : Applicant A) (t : Talker) → Stands (λ v. NoOther (values v) t) a → Quiet (λ v. Registers (values v) (others v) t) a
+      → Stands (λ v. Registers (values v) (others v) (talkerTold a t)) a
+  unfolding talkerTold
+  told-registers noApplicant t n q = tt
+  told-registers (applicant x) t n q = go (x .state) n q
+    where
+      joined : NoOther (values (x .value)) t → Registers (values (x .value)) (others (x .value)) (talkerAsked join (x .value) t)
+      joined m = unfold talkerAsked in (join-registers (values (x .value)) (others (x .value)) t m)
+
+      go : (s : Standing) → WhenStanding s (NoOther (values (x .value)) t) → WhenQuiet s (Registers (values (x .value)) (others (x .value)) t)
+          → WhenStanding s (Registers (values (x .value)) (others (x .value)) (talkerAsked (asksFor s) (x .value) t))
+      go veryAnxiousPassive m r = unfold asksFor in (joined m)
+      go veryAnxiousNew m r = unfold asksFor in (joined m)
+      go anxiousNew m r = unfold asksFor in (joined m)
+      go anxiousActive m r = unfold asksFor in (joined m)
+      go quietActive m r = unfold asksFor talkerAsked in r
+      go leavingActive m r = tt
+
+  -- one that does not stand says nothing or Lv
+  told-fallen : (P : Talker → Type 0) (a : Applicant A) (t : Talker) → stands a ≡ false → P t → P (quitTalker now k t) → P (talkerTold a t)
+  unfolding talkerTold stands isStanding
+  told-fallen P noApplicant t e kept left = kept
+  told-fallen P (applicant x) t e kept left = go (x .state) e
+    where
+      go : (s : Standing) → isStanding s ≡ false → P (talkerAsked (asksFor s) (x .value) t)
+      go veryAnxiousPassive d = absurd (true≢false d)
+      go veryAnxiousNew d = absurd (true≢false d)
+      go anxiousNew d = absurd (true≢false d)
+      go anxiousActive d = absurd (true≢false d)
+      go quietActive d = absurd (true≢false d)
+      go leavingActive d = unfold asksFor talkerAsked in left
+
+  -- what stays of its type afterwards stands here, if what stayed before has a machine here
+  told-only : (a : Applicant A) (t : Talker) → (talkerStays k t ≡ true → isApplicant a ≡ true) → talkerStays k (talkerTold a t) ≡ true → stands a ≡ true
+  unfolding talkerTold stands isStanding isApplicant
+  told-only noApplicant t known h = known h
+  told-only (applicant x) t known h = go (x .state) h
+    where
+      go : (s : Standing) → talkerStays k (talkerAsked (asksFor s) (x .value) t) ≡ true → isStanding s ≡ true
+      go veryAnxiousPassive e = refl
+      go veryAnxiousNew e = refl
+      go anxiousNew e = refl
+      go anxiousActive e = refl
+      go quietActive e = refl
+      go leavingActive e = absurd (false≢true (sym (quit-gone now k t) ∙ (unfold asksFor talkerAsked in e)))
+
+-- Both Talker types and the Listener of one stream: what the neighbour has registered in a cell, and what a port sends.
+
+abbrev offered : Offer → Fixed
+offered o = o .fixed
+
+abbrev advertised : Offer → Varying
+advertised o = record { type = talkerAdvertise; latency = o .latency }
+
+abbrev failedOffer : Offer × Failure → Fixed
+failedOffer o = o .0 .fixed
+
+abbrev failedAs : Offer × Failure → Varying
+failedAs o = record { type = talkerFailed (o .1 .bridge) (o .1 .code); latency = o .0 .latency }
+
+-- Before a pass: what is quiet here is registered there, what stays registered there has a machine here, at most one Talker type stands
+-- (02, xiv: "just the settled declarations"), and no other values of it are registered.
+pub record Known (s : Sends) (c : Cell) : Type 0 where
+  pub advertise : Quiet (λ o. Registers (offered o) (advertised o) (c .talks)) (s .advertising)
+  pub failed : Quiet (λ o. Registers (failedOffer o) (failedAs o) (c .talks)) (s .failing)
+  pub listener : Quiet (λ r. c .hears ≡ listener r stays) (s .listening)
+  pub advertise-known : talkerStays advertises (c .talks) ≡ true → isApplicant (s .advertising) ≡ true
+  pub failed-known : talkerStays faileds (c .talks) ≡ true → isApplicant (s .failing) ≡ true
+  pub listener-known : listenerStays (c .hears) ≡ true → isApplicant (s .listening) ≡ true
+  pub one-talker : stands (s .advertising) ≡ true → stands (s .failing) ≡ false
+  pub no-other-advertise : Stands (λ o. NoOther (offered o) (c .talks)) (s .advertising)
+  pub no-other-failed : Stands (λ o. NoOther (failedOffer o) (c .talks)) (s .failing)
+
+-- After it: what stands here is registered there, with its values, and what stays registered there stands here.
+pub record Follows (s : Sends) (c : Cell) : Type 0 where
+  pub advertise : Stands (λ o. Registers (offered o) (advertised o) (c .talks)) (s .advertising)
+  pub failed : Stands (λ o. Registers (failedOffer o) (failedAs o) (c .talks)) (s .failing)
+  pub listener : Stands (λ r. c .hears ≡ listener r stays) (s .listening)
+  pub advertise-only : talkerStays advertises (c .talks) ≡ true → stands (s .advertising) ≡ true
+  pub failed-only : talkerStays faileds (c .talks) ≡ true → stands (s .failing) ≡ true
+  pub listener-only : listenerStays (c .hears) ≡ true → stands (s .listening) ≡ true
+
+module _ (now : ℕ) (a : Applicant Offer) (f : Applicant (Offer × Failure)) (t : Talker) where
+  first : Talker
+  first = talkerTold offered advertised advertises now a t
+
+  both : Talker
+  both = talkerTold failedOffer failedAs faileds now f first
+
+  module _ (qa : Quiet (λ o. Registers (offered o) (advertised o) t) a) (qf : Quiet (λ o. Registers (failedOffer o) (failedAs o) t) f)
+      (ka : talkerStays advertises t ≡ true → isApplicant a ≡ true) (kf : talkerStays faileds t ≡ true → isApplicant f ≡ true)
+      (one : stands a ≡ true → stands f ≡ false)
+      (na : Stands (λ o. NoOther (offered o) t) a) (nf : Stands (λ o. NoOther (failedOffer o) t) f) where
+    first-registers : Stands (λ o. Registers (offered o) (advertised o) first) a
+    unfolding first
+    first-registers = told-registers offered advertised advertises now a t na qa
+
+    -- an Advertise that stands
+    module _ (s : stands a ≡ true) where
+      advertise-stays : Stands (λ o. Registers (offered o) (advertised o) both) a
+      unfolding both
+      advertise-stays =
+          stands-map (λ o. Registers (offered o) (advertised o) first) (λ o. Registers (offered o) (advertised o) both)
+          (λ o h. told-fallen failedOffer failedAs faileds now (Registers (offered o) (advertised o)) f first (one s) h (quit-other now faileds (offered o) (advertised o) first (unfold talksAs in refl) h))
+          a first-registers
+
+      no-failed : talkerStays faileds first ≡ false
+      no-failed =
+          standing-gives (λ o. Registers (offered o) (advertised o) first) (talkerStays faileds first ≡ false)
+          (λ o h. one-type faileds (offered o) (advertised o) first (unfold talksAs in refl) h) a s first-registers
+
+    -- none that stands
+    module _ (s : stands a ≡ false) where
+      fallen-keeps : (g : Fixed) (v : Varying) → talksAs advertises (v .type) ≡ false → Registers g v t → Registers g v first
+      unfolding first
+      fallen-keeps g v n h = told-fallen offered advertised advertises now (Registers g v) a t s h (quit-other now advertises g v t n h)
+
+      failed-stays : Stands (λ o. Registers (failedOffer o) (failedAs o) both) f
+      unfolding both
+      failed-stays =
+          told-registers failedOffer failedAs faileds now f first
+          (stands-map (λ o. NoOther (failedOffer o) t) (λ o. NoOther (failedOffer o) first)
+          (λ o h. unfold first in (told-fallen offered advertised advertises now (NoOther (failedOffer o)) a t s h (quit-fixed now advertises (failedOffer o) t h))) f nf)
+          (quiet-map (λ o. Registers (failedOffer o) (failedAs o) t) (λ o. Registers (failedOffer o) (failedAs o) first)
+          (λ o h. fallen-keeps (failedOffer o) (failedAs o) (unfold talksAs in refl) h) f qf)
+
+      failed-before : talkerStays faileds first ≡ true → talkerStays faileds t ≡ true
+      unfolding first
+      failed-before =
+          told-fallen offered advertised advertises now (λ u. talkerStays faileds u ≡ true → talkerStays faileds t ≡ true) a t s (λ h. h) (quit-stays now advertises faileds t)
+
+      advertise-before : talkerStays advertises both ≡ true → talkerStays advertises first ≡ true
+      unfolding both
+      advertise-before = go (stands f) refl
+        where
+          go : (w : Bool) → stands f ≡ w → talkerStays advertises (talkerTold failedOffer failedAs faileds now f first) ≡ true → talkerStays advertises first ≡ true
+          go true e h =
+              absurd (false≢true (sym (standing-gives (λ o. Registers (failedOffer o) (failedAs o) (talkerTold failedOffer failedAs faileds now f first)) (talkerStays advertises (talkerTold failedOffer failedAs faileds now f first) ≡ false)
+              (λ o r. one-type advertises (failedOffer o) (failedAs o) _ (unfold talksAs in refl) r) f e failed-stays) ∙ h))
+          go false e h =
+              told-fallen failedOffer failedAs faileds now (λ u. talkerStays advertises u ≡ true → talkerStays advertises first ≡ true) f first e (λ q. q) (quit-stays now faileds advertises first) h
+
+    both-advertise : Stands (λ o. Registers (offered o) (advertised o) both) a
+    both-advertise = go (stands a) refl
+      where
+        go : (w : Bool) → stands a ≡ w → Stands (λ o. Registers (offered o) (advertised o) both) a
+        go true e = advertise-stays e
+        go false e = fallen (λ o. Registers (offered o) (advertised o) both) a e
+
+    both-failed : Stands (λ o. Registers (failedOffer o) (failedAs o) both) f
+    both-failed = go (stands a) refl
+      where
+        go : (w : Bool) → stands a ≡ w → Stands (λ o. Registers (failedOffer o) (failedAs o) both) f
+        go true e = fallen (λ o. Registers (failedOffer o) (failedAs o) both) f (one e)
+        go false e = failed-stays e
+
+    only-advertise : talkerStays advertises both ≡ true → stands a ≡ true
+    only-advertise h = go (stands a) refl
+      where
+        go : (w : Bool) → stands a ≡ w → stands a ≡ true
+        go true e = e
+        go false e = told-only offered advertised advertises now a t ka (unfold first in (advertise-before e h))
+
+    only-failed : talkerStays faileds both ≡ true → stands f ≡ true
+    unfolding both
+    only-failed h = told-only failedOffer failedAs faileds now f first (go (stands a) refl) h
+      where
+        go : (w : Bool) → stands a ≡ w → talkerStays faileds first ≡ true → isApplicant f ≡ true
+        go true e q = absurd (false≢true (sym (no-failed e) ∙ q))
+        go false e q = kf (failed-before e q)
+
+-- A Listener's machine.
+
+module _ (now : ℕ) where
+  unfoldable listenerAsked : Asking → Ready → Listener → Listener
+  listenerAsked nothingAsked r l = l
+  listenerAsked join r l = listener r stays
+  listenerAsked withdraw r l = quitListener now listeners l
+
+  unfoldable listenerTold : Applicant Ready → Listener → Listener
+  listenerTold noApplicant l = l
+  listenerTold (applicant x) l = listenerAsked (asksFor (x .state)) (x .value) l
+
+  listener-registers : (a : Applicant Ready) (l : Listener) → Quiet (λ r. l ≡ listener r stays) a → Stands (λ r. listenerTold a l ≡ listener r stays) a
+  unfolding listenerTold
+  listener-registers noApplicant l q = tt
+  listener-registers (applicant x) l q = go (x .state) q
+    where
+      go : (s : Standing) → WhenQuiet s (l ≡ listener (x .value) stays) → WhenStanding s (listenerAsked (asksFor s) (x .value) l ≡ listener (x .value) stays)
+      go veryAnxiousPassive w = unfold asksFor listenerAsked in refl
+      go veryAnxiousNew w = unfold asksFor listenerAsked in refl
+      go anxiousNew w = unfold asksFor listenerAsked in refl
+      go anxiousActive w = unfold asksFor listenerAsked in refl
+      go quietActive w = unfold asksFor listenerAsked in w
+      go leavingActive w = tt
+
+  quit-listens : (l : Listener) → listenerStays (quitListener now listeners l) ≡ false
+  unfolding listenerStays quitListener hearsAs begin isStaying
+  quit-listens noListener = refl
+  quit-listens (listener r stays) = refl
+  quit-listens (listener r (since n)) = refl
+
+  listener-told-only : (a : Applicant Ready) (l : Listener) → (listenerStays l ≡ true → isApplicant a ≡ true) → listenerStays (listenerTold a l) ≡ true → stands a ≡ true
+  unfolding listenerTold stands isStanding isApplicant
+  listener-told-only noApplicant l known h = known h
+  listener-told-only (applicant x) l known h = go (x .state) h
+    where
+      go : (s : Standing) → listenerStays (listenerAsked (asksFor s) (x .value) l) ≡ true → isStanding s ≡ true
+      go veryAnxiousPassive e = refl
+      go veryAnxiousNew e = refl
+      go anxiousNew e = refl
+      go anxiousActive e = refl
+      go quietActive e = refl
+      go leavingActive e = absurd (false≢true (sym (quit-listens l) ∙ (unfold asksFor listenerAsked in e)))
+
+-- What they make of the whole cell.
+
+quit-hears : (now : ℕ) (k : Kind) → hearsAs k ≡ false → (l : Listener) → quitListener now k l ≡ l
+unfolding quitListener
+quit-hears now k e noListener = refl
+quit-hears now k e (listener r l) = rw e
+
+quit-talks : (now : ℕ) (t : Talker) → quitTalker now listeners t ≡ t
+unfolding quitTalker withLeaving talksAs
+quit-talks now noTalker = refl
+quit-talks now (talker r) = refl
+
+module _ {A : Type 0} (values : A → Fixed) (others : A → Varying) (k : Kind) (own : (v : A) → talkerKind (others v .type) ≡ k)
+    (talks : hearsAs k ≡ false) (now i : ℕ) where
+  talker-asked : (g : Asking) (v : A) (c : Cell)
+      → cellAfter now i (askedOf (talkerDeclaration i (values v) (others v)) g) c
+      ≡ record { talks = talkerAsked values others k now g v (c .talks); hears = c .hears }
+  unfolding askedOf cellAfter talkerAsked cellOn joinOf leaveOf about does quit
+  talker-asked nothingAsked v c = refl
+  talker-asked join v c = rw (eq-eqb i i refl)
+  talker-asked withdraw v c = rw (eq-eqb i i refl, own v, quit-hears now k talks (c .hears))
+
+  talker-cell : (a : Applicant A) (c : Cell)
+      → tells (λ v. talkerDeclaration i (values v) (others v)) now i a c ≡ record { talks = talkerTold values others k now a (c .talks); hears = c .hears }
+  unfolding tells talkerTold
+  talker-cell noApplicant c = refl
+  talker-cell (applicant x) c = talker-asked (asksFor (x .state)) (x .value) c
+
+module _ (now i : ℕ) where
+  listener-asked : (g : Asking) (r : Ready) (c : Cell)
+      → cellAfter now i (askedOf (listenerDeclaration i r) g) c ≡ record { talks = c .talks; hears = listenerAsked now g r (c .hears) }
+  unfolding askedOf cellAfter listenerAsked cellOn joinOf leaveOf about does quit
+  listener-asked nothingAsked r c = refl
+  listener-asked join r c = rw (eq-eqb i i refl)
+  listener-asked withdraw r c = rw (eq-eqb i i refl, quit-talks now (c .talks))
+
+  listener-cell : (a : Applicant Ready) (c : Cell)
+      → tells (listenerDeclaration i) now i a c ≡ record { talks = c .talks; hears = listenerTold now a (c .hears) }
+  unfolding tells listenerTold
+  listener-cell noApplicant c = refl
+  listener-cell (applicant x) c = listener-asked (asksFor (x .state)) (x .value) c
+
+  cell-told : (s : Sends) (c : Cell)
+      → tellsCell now i s c ≡ record { talks = both now (s .advertising) (s .failing) (c .talks); hears = listenerTold now (s .listening) (c .hears) }
+  unfolding tellsCell tellsKind both first advertiseOf failedOf
+  cell-told s c =
+      listener-cell (s .listening) _
+      ∙ ap (λ (d : Cell). record { talks = d .talks; hears = listenerTold now (s .listening) (d .hears) })
+      (talker-cell failedOffer failedAs faileds (λ v. unfold talkerKind in refl) (unfold hearsAs in refl) now i (s .failing) _
+      ∙ ap (λ (d : Cell). record { talks = talkerTold failedOffer failedAs faileds now (s .failing) (d .talks); hears = d .hears })
+      (talker-cell offered advertised advertises (λ v. unfold talkerKind in refl) (unfold hearsAs in refl) now i (s .advertising) c))
+
+  -- so after a pass the neighbour's cell follows what the port sends
+  pub cell-follows : (s : Sends) (c : Cell) → Known s c → Follows s (tellsCell now i s c)
+  cell-follows s c h =
+      let a = s .advertising in
+      let f = s .failing in
+      let t = c .talks in
+      let qa = h .advertise in
+      let qf = h .failed in
+      rw (cell-told s c) record {
+        advertise = both-advertise now a f t qa qf (h .advertise-known) (h .failed-known) (h .one-talker) (h .no-other-advertise) (h .no-other-failed);
+        failed = both-failed now a f t qa qf (h .advertise-known) (h .failed-known) (h .one-talker) (h .no-other-advertise) (h .no-other-failed);
+        listener = listener-registers now (s .listening) (c .hears) (h .listener);
+        advertise-only = only-advertise now a f t qa qf (h .advertise-known) (h .failed-known) (h .one-talker) (h .no-other-advertise) (h .no-other-failed);
+        failed-only = only-failed now a f t qa qf (h .advertise-known) (h .failed-known) (h .one-talker) (h .no-other-advertise) (h .no-other-failed);
+        listener-only = listener-told-only now (s .listening) (c .hears) (h .listener-known);
+      }
+
+-- Domain values, slot by slot.
+
+-- the neighbour: what an act does to the value in slot j
+unfoldable pub slotOn : ℕ → ℕ → Act → Domain → Domain
+slotOn now j (leaveAll k) d = d
+slotOn now j (leave k i) d = d
+slotOn now j (talk i f v) d = d
+slotOn now j (listen i r) d = d
+slotOn now j (hearAll k) d = d
+slotOn now j (hear k i h) d = d
+slotOn now j (ofDomain leaveAllDomains) d = quitDomain now d
+slotOn now j (ofDomain (leaveDomain i)) d = cond (eqb i j) (quitDomain now d) d
+slotOn now j (ofDomain (joinDomain i v)) d = cond (eqb i j) (domain v stays) d
+slotOn now j (ofDomain hearAllDomains) d = d
+slotOn now j (ofDomain (hearDomain i h)) d = d
+
+unfoldable pub slotAfter : ℕ → ℕ → List Act → Domain → Domain
+slotAfter now j [] d = d
+slotAfter now j (a ∷ es) d = slotAfter now j es (slotOn now j a d)
+
+-- the value registered in slot j of a port
+unfoldable pub domainFor : ℕ → ℕ → List Own → Domain
+domainFor q j o = getD (ownAt o q .domains) j noDomain
+
+module _ (now j : ℕ) where
+  one-slot : (i : ℕ) (u : Domain → Domain) (ds : List Domain) → j < length ds → getD (at i u ds) j noDomain ≡ cond (eqb i j) (u (getD ds j noDomain)) (getD ds j noDomain)
+  one-slot i u ds h = go (eqb i j) refl
+    where
+      go : (t : Bool) → eqb i j ≡ t → getD (at i u ds) j noDomain ≡ cond t (u (getD ds j noDomain)) (getD ds j noDomain)
+      go true e = rw (eqb-true i j e) (at-here j u ds noDomain h)
+      go false e = at-other i u ds j noDomain (eqb-false i j e)
+
+  slot-act : (a : DomainAct) (ds : List Domain) → j < length ds
+      → (getD (doesDomain now a ds) j noDomain ≡ slotOn now j (ofDomain a) (getD ds j noDomain)) × (j < length (doesDomain now a ds))
+  unfolding doesDomain slotOn
+  slot-act leaveAllDomains ds h = (getD-map (quitDomain now) ds j noDomain noDomain h, omega (arith, length-map ds (quitDomain now)))
+  slot-act (leaveDomain i) ds h = (one-slot i (quitDomain now) ds h, omega (arith, length-at i (quitDomain now) ds))
+  slot-act (joinDomain i v) ds h = (one-slot i (λ d. domain v stays) ds h, omega (arith, length-at i (λ (d : Domain). domain v stays) ds))
+  slot-act hearAllDomains ds h = (refl, h)
+  slot-act (hearDomain i g) ds h = (refl, h)
+
+  module _ (q : ℕ) where
+    -- the port is there, and has the slot
+    abbrev Slot : List Own → Type 0
+    Slot o = (q < length o) × (j < length (ownAt o q .domains))
+
+    own-act : (a : Act) (o : List Own) → Slot o → (domainFor q j (applyOwn now q a o) ≡ slotOn now j a (domainFor q j o)) × Slot (applyOwn now q a o)
+    unfolding applyOwn slotOn domainFor
+    own-act (leaveAll k) o h = (refl, h)
+    own-act (leave k i) o h = (refl, h)
+    own-act (talk i f v) o h = (refl, h)
+    own-act (listen i r) o h = (refl, h)
+    own-act (hearAll k) o h = (refl, h)
+    own-act (hear k i g) o h = (refl, h)
+    own-act (ofDomain a) o h =
+        let e : ownAt (at q (changeDomains (doesDomain now a)) o) q ≡ changeDomains (doesDomain now a) (ownAt o q) = at-here q (changeDomains (doesDomain now a)) o noOwn (h .0) in
+        let d = slot-act a (ownAt o q .domains) (h .1) in
+        let c : (getD (changeDomains (doesDomain now a) (ownAt o q) .domains) j noDomain ≡ slotOn now j (ofDomain a) (getD (ownAt o q .domains) j noDomain)) × (j < length (changeDomains (doesDomain now a) (ownAt o q) .domains)) =
+        unfold changeDomains in d in
+        (rw e (c .0), (omega (arith, h .0, length-at q (changeDomains (doesDomain now a)) o), rw e (c .1)))
+
+    pub slot-after : (es : List Act) (o : List Own) → Slot o → (domainFor q j (applyOwns now q es o) ≡ slotAfter now j es (domainFor q j o)) × Slot (applyOwns now q es o)
+    unfolding applyOwns slotAfter
+    slot-after [] o h = (refl, h)
+    slot-after (a ∷ es) o h =
+        let c = own-act a o h in
+        let rest = slot-after es (applyOwn now q a o) (c .1) in
+        (rest .0 ∙ ap (slotAfter now j es) (c .0), rest .1)
+
+  slots-none : (d : Domain) → slotAfter now j [] d ≡ d
+  unfolding slotAfter
+  slots-none d = refl
+
+  slots-append : (es fs : List Act) (d : Domain) → slotAfter now j (es ++ fs) d ≡ slotAfter now j fs (slotAfter now j es d)
+  unfolding slotAfter
+  slots-append [] fs d = refl
+  slots-append (a ∷ es) fs d = slots-append es fs (slotOn now j a d)
+
+  slots-unheard : (c : Declaration) (hs : List Heard) (d : Domain) → slotAfter now j (map (hearOf c) hs) d ≡ d
+  unfolding slotAfter slotOn hearOf
+  slots-unheard c [] d = refl
+  slots-unheard (talkerDeclaration id f v) (h ∷ hs) d = slots-unheard (talkerDeclaration id f v) hs d
+  slots-unheard (listenerDeclaration id r) (h ∷ hs) d = slots-unheard (listenerDeclaration id r) hs d
+  slots-unheard (domainDeclaration id q v) (h ∷ hs) d = slots-unheard (domainDeclaration id q v) hs d
+
+  unfoldable onSlot : Effect Domain
+  onSlot = record { after = slotAfter now j; none = slots-none; append = slots-append; unheard = slots-unheard }
+
+-- a Domain value is of its slot
+slot-of : (m : ℕ) → slotOf (5 + m / 8) (m % 8) ≡ m
+unfolding slotOf
+slot-of m = omega arith
+
+-- what a machine makes of the value in its slot
+unfoldable pub slotAsked : ℕ → ℕ → Asking → Domain → Domain
+slotAsked now vlan nothingAsked d = d
+slotAsked now vlan join d = domain vlan stays
+slotAsked now vlan withdraw d = quitDomain now d
+
+unfoldable pub tellsSlot : ℕ → ℕ → Applicant (Unit {0}) → Domain → Domain
+tellsSlot now vlan noApplicant d = d
+tellsSlot now vlan (applicant x) d = slotAsked now vlan (asksFor (x .state)) d
+
+module _ (now j : ℕ) where
+  -- no stream's declaration touches it
+  listed-silent : {A : Type 0} (f : A → Declaration) → ((v : A) (g : Asking) (d : Domain) → slotAfter now j (askedOf (f v) g) d ≡ d)
+      → (a : Applicant A) (d : Domain) → slotAfter now j (flatMap asksActs (listedAs f a)) d ≡ d
+  unfolding listedAs flatMap asksActs
+  listed-silent f n noApplicant d = unfold slotAfter in refl
+  listed-silent f n (applicant x) d = rw append-nil (n (x .value) (asksFor (x .state)) d)
+
+  talker-silent : (i : ℕ) (f : Fixed) (v : Varying) (g : Asking) (d : Domain) → slotAfter now j (askedOf (talkerDeclaration i f v) g) d ≡ d
+  unfolding askedOf joinOf leaveOf slotAfter slotOn
+  talker-silent i f v nothingAsked d = refl
+  talker-silent i f v join d = refl
+  talker-silent i f v withdraw d = refl
+
+  listener-silent : (i : ℕ) (r : Ready) (g : Asking) (d : Domain) → slotAfter now j (askedOf (listenerDeclaration i r) g) d ≡ d
+  unfolding askedOf joinOf leaveOf slotAfter slotOn
+  listener-silent i r nothingAsked d = refl
+  listener-silent i r join d = refl
+  listener-silent i r withdraw d = refl
+
+  kind-silent : (k : Kind) (i : ℕ) (s : Sends) (d : Domain) → slotAfter now j (flatMap asksActs (declarationsOf k i s)) d ≡ d
+  unfolding declarationsOf advertiseOf failedOf
+  kind-silent advertises i s d = listed-silent (advertiseOf i) (λ v g e. talker-silent i _ _ g e) (s .advertising) d
+  kind-silent faileds i s d = listed-silent (failedOf i) (λ v g e. talker-silent i _ _ g e) (s .failing) d
+  kind-silent listeners i s d = listed-silent (listenerDeclaration i) (λ v g e. listener-silent i v g e) (s .listening) d
+
+  streams-silent : (k : Kind) (p : ℕ) (s : List Stream) (d : Domain) → slotAfter now j (flatMap asksActs (ofKind k p s)) d ≡ d
+  unfolding ofKind onSlot
+  streams-silent k p [] d = unfold flatMap slotAfter in refl
+  streams-silent k p (x ∷ s) d =
+      both-tell (onSlot now j) (declarationsOf k (x .id) (sendsAt x p)) (ofKind k p s) d ∙ streams-silent k p s _ ∙ kind-silent k (x .id) (sendsAt x p) d
+
+  module _ (st : Settings) where
+    asked-slot : (m : ℕ) (g : Asking) (d : Domain) → slotAfter now j (askedOf (domainOf st m) g) d ≡ cond (eqb m j) (slotAsked now (st .vlan) g d) d
+    unfolding domainOf askedOf joinOf leaveOf slotAfter slotOn slotAsked
+    asked-slot m nothingAsked d = go (eqb m j)
+      where
+        go : (t : Bool) → d ≡ cond t d d
+        go true = refl
+        go false = refl
+    asked-slot m join d = rw (slot-of m)
+    asked-slot m withdraw d = rw (slot-of m)
+
+    listed-slot : (m : ℕ) (a : Applicant (Unit {0})) (d : Domain)
+        → slotAfter now j (flatMap asksActs (listedAs (λ u. domainOf st m) a)) d ≡ cond (eqb m j) (tellsSlot now (st .vlan) a d) d
+    unfolding listedAs flatMap asksActs tellsSlot
+    listed-slot m noApplicant d = unfold slotAfter in (go (eqb m j))
+      where
+        go : (t : Bool) → d ≡ cond t d d
+        go true = refl
+        go false = refl
+    listed-slot m (applicant x) d = rw append-nil (asked-slot m (asksFor (x .state)) d)
+
+    -- the slots from m on
+    slots-above : (m : ℕ) (l : List (Applicant (Unit {0}))) (d : Domain) → j < m → slotAfter now j (flatMap asksActs (domainValues st m l)) d ≡ d
+    unfolding domainValues onSlot
+    slots-above m [] d h = unfold flatMap slotAfter in refl
+    slots-above m (a ∷ l) d h =
+        both-tell (onSlot now j) (listedAs (λ u. domainOf st m) a) (domainValues st (suc m) l) d
+        ∙ slots-above (suc m) l _ (omega arith) ∙ listed-slot m a d ∙ rw (ne-eqb m j (λ e. omega arith))
+
+    slots-tell : (m : ℕ) (l : List (Applicant (Unit {0}))) (d : Domain) → m ≤ j
+        → slotAfter now j (flatMap asksActs (domainValues st m l)) d ≡ tellsSlot now (st .vlan) (getD l (j - m) noApplicant) d
+    unfolding domainValues onSlot
+    slots-tell m [] d h = unfold flatMap slotAfter tellsSlot in refl
+    slots-tell m (a ∷ l) d h =
+        both-tell (onSlot now j) (listedAs (λ u. domainOf st m) a) (domainValues st (suc m) l) d
+        ∙ ap (slotAfter now j (flatMap asksActs (domainValues st (suc m) l))) (listed-slot m a d)
+        ∙ go (eqb m j) refl (slots-tell (suc m) l d)
+      where
+        go : (t : Bool) → eqb m j ≡ t
+            → (suc m ≤ j → slotAfter now j (flatMap asksActs (domainValues st (suc m) l)) d ≡ tellsSlot now (st .vlan) (getD l (j - suc m) noApplicant) d)
+            → slotAfter now j (flatMap asksActs (domainValues st (suc m) l)) (cond t (tellsSlot now (st .vlan) a d) d) ≡ tellsSlot now (st .vlan) (getD (a ∷ l) (j - m) noApplicant) d
+        go true e ih =
+            let n : m ≡ j = eqb-true m j e in
+            let z : j - m ≡ 0 = omega arith in
+            rw z (slots-above (suc m) l (tellsSlot now (st .vlan) a d) (omega arith))
+        go false e ih =
+            let n : m ≡ j → ⊥ = eqb-false m j e in
+            let z : j - m ≡ suc (j - suc m) = omega arith in
+            rw z (ih (omega arith))
+
+pub port-tells-slot : (now j : ℕ) (b : Bridge) (p : ℕ) (d : Domain)
+    → slotAfter now j (flatMap asksActs (declarations b p)) d ≡ tellsSlot now (b .settings .vlan) (getD (senderAt (b .senders) p .domains) j noApplicant) d
+unfolding declarations onSlot
+port-tells-slot now j b p d =
+    let s = b .streams in
+    let domains = domainValues (b .settings) 0 (senderAt (b .senders) p .domains) in
+    let z : j - 0 ≡ j = omega arith in
+    both-tell (onSlot now j) (ofKind advertises p s) (ofKind faileds p s ++ (ofKind listeners p s ++ domains)) d
+    ∙ both-tell (onSlot now j) (ofKind faileds p s) (ofKind listeners p s ++ domains) _
+    ∙ both-tell (onSlot now j) (ofKind listeners p s) domains _
+    ∙ ap (slotAfter now j (flatMap asksActs domains)) (streams-silent now j listeners p s _ ∙ streams-silent now j faileds p s _ ∙ streams-silent now j advertises p s d)
+    ∙ rw z at (slots-tell now j (b .settings) 0 (senderAt (b .senders) p .domains) d (omega arith))
+
+-- before a pass and after it
+pub record KnownSlot (vlan : ℕ) (a : Applicant (Unit {0})) (d : Domain) : Type 0 where
+  pub quiet : Quiet (λ u. d ≡ domain vlan stays) a
+  pub known : domainStays d ≡ true → isApplicant a ≡ true
+
+pub record FollowsSlot (vlan : ℕ) (a : Applicant (Unit {0})) (d : Domain) : Type 0 where
+  pub value : Stands (λ u. d ≡ domain vlan stays) a
+  pub only : domainStays d ≡ true → stands a ≡ true
+
+quit-slot : (now : ℕ) (d : Domain) → domainStays (quitDomain now d) ≡ false
+unfolding domainStays quitDomain begin isStaying
+quit-slot now noDomain = refl
+quit-slot now (domain v stays) = refl
+quit-slot now (domain v (since t)) = refl
+
+pub slot-follows : (now vlan : ℕ) (a : Applicant (Unit {0})) (d : Domain) → KnownSlot vlan a d → FollowsSlot vlan a (tellsSlot now vlan a d)
+unfolding tellsSlot isApplicant stands isStanding
+slot-follows now vlan noApplicant d k = record { value = tt; only = λ h. k .known h }
+slot-follows now vlan (applicant x) d k = go (x .state) (k .quiet)
+  where
+    go : (q : Standing) → WhenQuiet q (d ≡ domain vlan stays) → FollowsSlot vlan (applicant record { state = q; value = x .value }) (slotAsked now vlan (asksFor q) d)
+    go veryAnxiousPassive w = unfold asksFor slotAsked in record { value = refl; only = λ h. refl }
+    go veryAnxiousNew w = unfold asksFor slotAsked in record { value = refl; only = λ h. refl }
+    go anxiousNew w = unfold asksFor slotAsked in record { value = refl; only = λ h. refl }
+    go anxiousActive w = unfold asksFor slotAsked in record { value = refl; only = λ h. refl }
+    go quietActive w = unfold asksFor slotAsked in record { value = w; only = λ h. refl }
+    go leavingActive w = unfold asksFor slotAsked in record { value = tt; only = λ h. absurd (false≢true (sym (quit-slot now d) ∙ h)) }
