@@ -10,7 +10,7 @@ use borrow.Author.Tests.{eq-eqb, ne-eqb}
 use Rattle.octets.specs.Parts.{part}
 use Rattle.octets.proofs.Frame.{getD-part}
 use Rattle.model.specs.Layout.{allSendsSize, cellIn, cellSize, inRecord, cellsSize, inCell, inSends, sendsIn, sendsSize}
-use Rattle.model.specs.Settling.{held, anySending, isHeld}
+use Rattle.model.specs.Settling.{held, anySending}
 use Rattle.model.specs.Table.{toStream, cellsPart, holds, allSendsPart, sends}
 use Rattle.model.proofs.Cells.{holds-parts}
 use Rattle.model.proofs.SendsOctets.{sends-parts}

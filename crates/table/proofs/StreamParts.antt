@@ -1,8 +1,8 @@
 -- The parts of a stream record: StreamID, settled values, cells, results and what is sent; each read, or replaced.
-use Prim.Native.Nat.{ℕ, zero, suc, _<_}
+use Prim.Native.Nat.{ℕ, _<_}
 use native.Mathlib.Omega.{arith}
 use mathlib.Core.Path.{_≡_, refl, sym, ap, _∙_}
-use mathlib.Core.List.{List, [], _∷_, _++_, append-assoc, append-nil}
+use mathlib.Core.List.{List, [], _++_, append-assoc, append-nil}
 use lib.ListN.{length, getD, set, length-append}
 use Rattle.octets.specs.Be.{beAt, be}
 use Rattle.octets.specs.Parts.{part, patch}

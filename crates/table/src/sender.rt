@@ -5,3 +5,6 @@ pub const APPLICANTS: usize = 0;
 pub const LEAVE_ALL: usize = APPLICANTS + 16;
 
 pub const TIMER: usize = LEAVE_ALL + 1;
+
+// LeaveAllTime, in hundredths of a second: after so long the timer has run out.
+pub const LEAVE_ALL_TIME: u64 = 1000;

@@ -1,5 +1,4 @@
 -- `table::is_held` meets its contract. Assumes nothing.
-use mathlib.Core.Path.{sym, _∙_}
 use borrow.Author.Needs.{needs}
 use Rattle.model.specs.Settling.{isHeld}
 use Rattle.table.proofs.is_held.Statement.{statement}
