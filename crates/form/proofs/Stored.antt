@@ -12,7 +12,7 @@ use Rattle.octets.specs.Be.{beAt}
 use Rattle.octets.specs.Fields.{fields}
 use Rattle.octets.proofs.Fields.{beAt-one}
 use Rattle.model.specs.Layout.{inResult, inCell, resultSize, resultWidths}
-use Rattle.model.specs.Lists.{allTrue, implies, bit}
+use Rattle.model.specs.Lists.{allTrue, allZero, implies, bit}
 use Rattle.model.specs.State.{Column, none, advertise, failed, nothing, tells}
 use Rattle.model.specs.Table.{toCell, toColumn, toEntry, toDeclared, resultFrom, toResult, resultFormed, hasColumn, declares, forListener, storedRules, storedFormed}
 use Rattle.model.proofs.Cells.{talking-read, hearing-read}
