@@ -1,7 +1,7 @@
 -- What is heard among the octets of what a port sends by itself: by Applicants of Domain values, and by the LeaveAll machine.
 use mathlib.Core.Path.{_≡_, refl, sym, _∙_, ap}
 use mathlib.Core.List.{List, [], _∷_, _++_, map, append-assoc}
-use Prim.Native.Nat.{ℕ, zero, suc, _+_, _^_, _<_, _≤_}
+use Prim.Native.Nat.{ℕ, zero, suc, _+_, _<_}
 use native.Mathlib.Numerals.{add-one, one-add}
 use native.Mathlib.Omega.{arith}
 use lib.ListN.{length, length-map}
@@ -16,8 +16,8 @@ use Rattle.model.specs.State.{Sender}
 use Rattle.model.specs.Registrations.{at, ofDomain, hearDomain, hearsLeaveAll, movesSender}
 use Rattle.model.specs.Sending.{domainApplicant, activeNumber, leaveAllOctets, senderOctets, toSender}
 use Rattle.model.specs.Laid.{FitSender, LaidSender}
-use Rattle.model.proofs.Lists.{length-at}
 use Rattle.model.proofs.ApplicantOctets.{applicant-length}
+use Rattle.model.proofs.SenderOctets.{sender-coded}
 use Rattle.model.proofs.Fits.{laid-sender-is, laid-sender-fits}
 use Rattle.table.proofs.EachStream.{firsts, firsts-length, firsts-at, firsts-all}
 use Rattle.hearing.specs.Hears.{heardAt, heardByAll}
@@ -85,11 +85,6 @@ module _ (s : List ℕ) (l : LaidSender s) where
       ∙ ap (λ (k : ℕ). senderOctets (heardTo k (toSender s))) (p ∙ sym (laid-sender-fits s l .slotted))
       ∙ ap (λ (d : List (Applicant (Unit {0}))). senderOctets record { domains = d; leaveAll = m }) (firsts-all (heard heardLeave) ds)
 
--- what is left fits
-pub heard-fits : (x : Sender) → FitSender x → FitSender (heardByAll x)
-unfolding heardByAll
-heard-fits x w = record { slotted = length-map (x .domains) (heard heardLeave) ∙ w .slotted; start = w .start }
-
 -- The LeaveAll machine.
 
 restarted : (now : ℕ) (m : LeaveAll) → leaveAllNext now rLA m ≡ record { state = passive; start = now }
@@ -112,16 +107,32 @@ module _ (now : ℕ) (x : Sender) (e : length (x .domains) ≡ slots) where
   machine n t = packed leaveAllWidths (n ∷ t ∷ [])
 
   restart-octets : patch inSender.timer 4 (be 4 now) (patch inSender.leaveAll 1 (be 1 0) (senderOctets x)) ≡ senderOctets (hearsLeaveAll now (λ ds. ds) x)
-  unfolding senderOctets leaveAllOctets hearsLeaveAll activeNumber
+  unfolding senderOctets leaveAllOctets hearsLeaveAll activeNumber width
   restart-octets =
       let n = activeNumber (x .leaveAll .state) in
       let t = x .leaveAll .start in
-      ap (patch inSender.timer 4 (be 4 now)) (patch-behind ds (machine n t) (be 1 0) inSender.leaveAll 0 1 ds-size ∙ ap (λ (s : List ℕ). ds ++ s) (unfold width in put-field leaveAllWidths (n ∷ t ∷ []) 0 0 refl))
+      ap (patch inSender.timer 4 (be 4 now)) (patch-behind ds (machine n t) (be 1 0) inSender.leaveAll 0 1 ds-size ∙ ap (λ (s : List ℕ). ds ++ s) (put-field leaveAllWidths (n ∷ t ∷ []) 0 0 refl))
       ∙ patch-behind ds (machine 0 t) (be 4 now) inSender.leaveAll 1 4 ds-size
-      ∙ ap (λ (s : List ℕ). ds ++ s) (unfold width in put-field leaveAllWidths (0 ∷ t ∷ []) 1 now refl)
+      ∙ ap (λ (s : List ℕ). ds ++ s) (put-field leaveAllWidths (0 ∷ t ∷ []) 1 now refl)
       ∙ ap (λ (m : LeaveAll). ds ++ leaveAllOctets m) (sym (restarted now (x .leaveAll)))
 
 pub machine-restarted : (now : ℕ) (s : List ℕ) → LaidSender s → (y : List ℕ) → y ≡ patch inSender.timer 4 (be 4 now) (patch inSender.leaveAll 1 (be 1 0) s) →
     y ≡ senderOctets (hearsLeaveAll now (λ ds. ds) (toSender s))
 machine-restarted now s l y e =
     e ∙ ap (λ (t : List ℕ). patch inSender.timer 4 (be 4 now) (patch inSender.leaveAll 1 (be 1 0) t)) (laid-sender-is s l) ∙ restart-octets now (toSender s) (laid-sender-fits s l .slotted)
+
+-- Both: every slot, and then the machine.
+
+module _ (s : List ℕ) (l : LaidSender s) (y : List ℕ) (e : y ≡ senderOctets (heardByAll (toSender s))) where
+  heard-fits : FitSender (heardByAll (toSender s))
+  unfolding heardByAll
+  heard-fits = let w = laid-sender-fits s l in record { slotted = length-map (toSender s .domains) (heard heardLeave) ∙ w .slotted; start = w .start }
+
+  pub heard-laid : LaidSender y
+  heard-laid = record { thing = heardByAll (toSender s); fits = heard-fits; is = e }
+
+  pub both-heard : (now : ℕ) (z : List ℕ) → z ≡ senderOctets (hearsLeaveAll now (λ ds. ds) (toSender y)) →
+      z ≡ senderOctets (hearsLeaveAll now (map (heard heardLeave)) (toSender s))
+  unfolding heardByAll hearsLeaveAll
+  both-heard now z q =
+      q ∙ ap (λ (x : Sender). senderOctets (hearsLeaveAll now (λ ds. ds) x)) (ap toSender e ∙ sender-coded .back (heardByAll (toSender s)) heard-fits)

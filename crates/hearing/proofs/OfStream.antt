@@ -1,11 +1,10 @@
 -- What is heard of a stream, among the octets of what a port sends of it.
 use mathlib.Core.Path.{_≡_, refl, sym, _∙_, ap}
 use mathlib.Core.List.{List, [], _++_, append-nil}
-use Prim.Native.Nat.{ℕ, suc, _≤_}
-use native.Mathlib.Omega.{arith}
+use Prim.Native.Nat.{ℕ, zero, suc}
 use lib.ListN.{length}
 use Rattle.model.specs.Layout.{advertisingSize, failedSize, failingSize, inSends, offerSize, readySize}
-use Rattle.model.specs.Machines.{Heard, heard, moved}
+use Rattle.model.specs.Machines.{Heard, heard}
 use Rattle.model.specs.State.{Sends}
 use Rattle.model.specs.Registrations.{Kind, advertises, faileds, listeners, moveKind, hears}
 use Rattle.model.specs.Sending.{applicantOctets, bothOctets, offerOctets, failureOctets, readyOctets, sendsOctets, toSends}
@@ -13,6 +12,7 @@ use Rattle.model.specs.Laid.{FitSends, LaidSends}
 use Rattle.model.proofs.ApplicantOctets.{applicant-coded, both-values}
 use Rattle.model.proofs.SendsOctets.{offer-values, failure-values}
 use Rattle.model.proofs.Fits.{fit-sends, laid-sends-is, laid-sends-fits}
+use Rattle.cells.specs.Acts.{kindAt}
 use Rattle.hearing.specs.Hears.{heardAt}
 use Rattle.hearing.proofs.One.{applicant-hears, heard-behind}
 
@@ -56,3 +56,20 @@ pub sends-heard : (h : Heard) (s : List ℕ) → LaidSends s → (k : Kind) (at 
     y ≡ sendsOctets (hears k h (toSends s))
 sends-heard h s l k at p y e =
     e ∙ ap (heardAt at h) (laid-sends-is s l) ∙ ap (λ (i : ℕ). heardAt i h (sendsOctets (toSends s))) p ∙ stream-hears h (toSends s) (laid-sends-fits s l) k
+
+-- the place that the code takes for a type
+module _ (kind : ℕ) where
+  pub place-advertising : kind ≡ 1 → inSends.advertising ≡ applicantOf (kindAt kind)
+  unfolding applicantOf kindAt
+  place-advertising e = rw e
+
+  pub place-failing : kind ≡ 2 → inSends.failing ≡ applicantOf (kindAt kind)
+  unfolding applicantOf kindAt
+  place-failing e = rw e
+
+pub place-listening : (kind : ℕ) → (kind ≡ 1 → ⊥) → (kind ≡ 2 → ⊥) → inSends.listening ≡ applicantOf (kindAt kind)
+unfolding applicantOf kindAt
+place-listening zero p q = refl
+place-listening (suc zero) p q = absurd (p refl)
+place-listening (suc (suc zero)) p q = absurd (q refl)
+place-listening (suc (suc (suc k))) p q = refl

@@ -1,5 +1,6 @@
 // What a frame's events are to the Applicants of a port and to its LeaveAll machine (02, xiv): on the 47 octets of what the port sends of
-// a stream, and on the 21 of what it sends by itself (docs/TABLE.md, "What is sent").
+// a stream, and on the 21 of what it sends by itself (docs/TABLE.md). There the Applicants of the
+// Domain values stand first, by their slots.
 ghost use mathlib.Core.Path.{_≡_};
 ghost use mathlib.Core.Bool.{false};
 ghost use mathlib.Core.List.{map};
@@ -13,7 +14,6 @@ ghost use Rattle.model.specs.Sending.{sendsOctets, toSends, senderOctets, toSen
 ghost use Rattle.model.specs.Laid.{LaidSends, LaidSender};
 ghost use Rattle.cells.specs.Acts.{kindAt};
 ghost use Rattle.hearing.specs.Hears.{meant, heardAt, heardByAll};
-use table::sender::APPLICANTS;
 use table::sender::LEAVE_ALL;
 use table::sender::TIMER;
 use table::sends::ADVERTISING;
@@ -68,7 +68,7 @@ pub fn hear_domain(sender: &mut [u8], slot: usize, heard: Heard)
     ensures { λ _. ⌜ ((clock : ℕ) → now (sender .exit)
         ≡ senderOctets (movesSender clock (ofDomain (hearDomain slot (meant heard))) (toSender (now (sender .entry))))) ⌝ }
 {
-    hear_at(sender, APPLICANTS + slot, heard);
+    hear_at(sender, slot, heard);
 }
 
 // A LeaveAll of any type: the LeaveAll machine is passive, its timer started at the clock.
@@ -87,7 +87,7 @@ fn hear_every(sender: &mut [u8])
 {
     let mut slot: usize = 0;
     while slot < table::SLOTS {
-        hear_at(sender, APPLICANTS + slot, Heard::Leave);
+        hear_at(sender, slot, Heard::Leave);
         slot += 1;
     }
 }
