@@ -36,7 +36,7 @@ use Rattle.registrar.specs.Acts.{HasValue, attributeAt, vectorOf, eventF
 use Rattle.registrar.specs.Walked.{Walked}
 use Rattle.registrar.proofs.Walks.{walked-none, domain-done, domain-room}
 use Rattle.registrar.proofs.Touched.{heard-room}
-use Rattle.registrar.proofs.ValueActs.{event-there, heard-acts, stream-hears, value-id-fits}
+use Rattle.registrar.proofs.ValueActs.{event-there, heard-acts, value-acts, stream-hears, value-id-fits}
 
 -- What the reader gives of it: its slot, or that it is dropped.
 
@@ -133,6 +133,17 @@ module _ (leaves : Bool) (values : ℕ) (first three four : List ℕ) (n : ℕ) 
           (unfold slotHeard in heard-acts (λ h. ofDomain (hearDomain i h)) (actsHeard 4 first n) (unfold actsHeard in refl) (slot-hears first n i d) read))
       go Dropped d =
           rw (none-slotted first n v d, register-dropped first n (eventMeant read) (fourIn four n) d, dropped-hears first n d (overheardBy (eventMeant read)))
+
+-- those of any value
+pub both-acts : (leaves : Bool) (values : ℕ) (first three four : List ℕ) (n : ℕ) → n / 3 < length three → (kind : ℕ) → HasValue kind first n →
+    valueActs (vectorOf kind leaves values first three four) n
+    ≡ registerActs kind first (eventFor kind three four n) (fourIn four n) n ++ hearActs kind first (eventFor kind three four n) n
+both-acts leaves values first three four n there kind v = go (ℕ-discrete kind 4)
+  where
+    go : Dec (kind ≡ 4) → valueActs (vectorOf kind leaves values first three four) n
+        ≡ registerActs kind first (eventFor kind three four n) (fourIn four n) n ++ hearActs kind first (eventFor kind three four n) n
+    go (yes q) = rw q (domain-acts leaves values first three four n (rw q at v) there)
+    go (no q) = value-acts leaves values first three four n there kind (v .low) (omega (arith, v .high))
 
 -- Done on its slot.
 

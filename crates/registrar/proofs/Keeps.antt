@@ -90,13 +90,11 @@ Eight P l = (length l ≡ 8) × All P l
 
 module _ (p : ℕ) (a : Act) (b : Bridge) (w : FitBridge b) (f : Fits a) where
   owns-after : (m : Bool) → Eight FitOwn (cond m (applyOwn (b .clock) p a (b .owns)) (b .owns))
-
   owns-after m =
       either (Eight FitOwn) m (applyOwn (b .clock) p a (b .owns)) (b .owns)
       (owns-length (b .clock) p a (b .owns) ∙ w .eight-owns, owns-fit (b .clock) (w .clock) p a f (b .owns) (w .owns)) (w .eight-owns, w .owns)
 
   senders-after : (m : Bool) → Eight FitSender (cond m (at p (movesSender (b .clock) a) (b .senders)) (b .senders))
-
   senders-after m =
       let u = movesSender (b .clock) a in
       either (Eight FitSender) m (at p u (b .senders)) (b .senders)

@@ -1,9 +1,10 @@
 -- What a value asks for, by its AttributeType octet.
 use Prim.Native.Nat.{ℕ, zero, suc, _+_, _/_, _%_, _≤_, _<_, _^_}
-use mathlib.Core.Path.{_≡_, refl, sym, _∙_, ap₂}
+use mathlib.Core.Path.{_≡_, refl, sym, _∙_, ap, ap₂}
 use mathlib.Core.List.{List, [], _∷_, _++_, map}
 use mathlib.Core.Bool.{Bool, true, false, cond}
 use native.Mathlib.Omega.{arith}
+use native.Mathlib.Decide.{ℕ-discrete}
 use lib.ListN.{length, getD}
 use lib.Dec.{ltb, eqb}
 use borrow.Author.Tests.{lt-ltb, eq-eqb, eqb-true, eqb-false, ne-eqb}
@@ -27,6 +28,7 @@ use Rattle.cells.specs.Acts.{kindAt, talkOf}
 use Rattle.hearing.specs.Hears.{meant}
 use Rattle.hearing.specs.declared.Heard.{Heard}
 use Rattle.hearing.specs.declared.Heard.the-variants as heard
+use Rattle.registrar.specs.declared.Asked.the-variants.{Nothing, Join}
 use Rattle.registrar.specs.declared.Overheard.{Overheard}
 use Rattle.registrar.specs.declared.Overheard.the-variants.{Unmoved, Hears}
 use Rattle.registrar.specs.Acts.{HasValue, attributeAt, vectorOf, joinOf, eventFor, askedBy, actsAsked, registerActs, overheardBy, actsHeard, hearActs}
@@ -188,13 +190,20 @@ module _ (kind : ℕ) (three four : List ℕ) (n : ℕ) where
   unfolding eventFor
   event-ignored k z = rw (eq-eqb kind 3 k, eq-eqb (fourIn four n) 0 z)
 
-  pub event-listened : kind ≡ 3 → (fourIn four n ≡ 0 → ⊥) → eventIn three n ≡ eventFor kind three four n
-  unfolding eventFor
-  event-listened k z = rw (eq-eqb kind 3 k, ne-eqb (fourIn four n) 0 z)
+  pub event-kept : (kind ≡ 3 → fourIn four n ≡ 0 → ⊥) → eventIn three n ≡ eventFor kind three four n
+  event-kept h = go (ℕ-discrete kind 3)
+    where
+      go : Dec (kind ≡ 3) → eventIn three n ≡ eventFor kind three four n
+      go (yes k) = unfold eventFor in (rw (eq-eqb kind 3 k, ne-eqb (fourIn four n) 0 (h k)))
+      go (no k) = unfold eventFor in (rw (ne-eqb kind 3 k))
 
-  pub event-other : (kind ≡ 3 → ⊥) → eventIn three n ≡ eventFor kind three four n
-  unfolding eventFor
-  event-other k = rw (ne-eqb kind 3 k)
+-- one that joins is not missing
+pub asked-some : (e : Event) → askedBy e ≡ Join → e ≡ Missing → ⊥
+unfolding askedBy
+asked-some e p q =
+    let n : Nothing ≡ Join = sym (ap askedBy q) ∙ p in
+    let z : _≡_ {A = ℕ} 0 1 = cc in
+    omega arith
 
 four-of-octet : (o i : ℕ) → o < 256 → fourPacked o i ≤ 3
 unfolding fourPacked

@@ -64,6 +64,16 @@ module _ (m : Bool) (p : ℕ) (es fs : List Act) (t u : List ℕ) where
       subst (λ (q : Ran). Leaves t q r v) (sym (run-rest w))
       record { answer = x .answer; table = x .table ∙ ap encode h; fits = subst FitBridge h (x .fits) }
 
+-- acts in two parts, of which the first stopped or was done, and the second was done on a walk that applies as the first does
+module _ (m : Bool) (p : ℕ) (es fs gs : List Act) (e : gs ≡ es ++ fs) (t u : List ℕ) (r : Bool) where
+  pub first-stopped : r ≡ false → Walked m p es t r u → Walked m p gs t false u
+  first-stopped q w = rw e (walked-stopped m p es fs t u (rw q at w))
+
+  pub second-done : r ≡ true → Walked m p es t r u → (n : Bool) → m ≡ n → (v : List ℕ) → Walked n p fs u true v → Walked m p gs t true v
+  second-done q w n k v x =
+      let y : Walked m p fs u true v = rw k x in
+      rw e (walked-on m p es fs t u (rw q at w) y)
+
 -- A loop over acts: the walk over es from the table t has come to the table u, with fs left.
 
 abbrev pub Leads : Bool → ℕ → List Act → List ℕ → List Act → List ℕ → Type 0

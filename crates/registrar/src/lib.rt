@@ -19,7 +19,7 @@ ghost use Rattle.msrpdu.specs.Reader.{headVector};
 ghost use Rattle.registrar.specs.Walked.{Walked, Receives};
 ghost use Rattle.registrar.specs.Enrols.{Enrols};
 ghost use Rattle.registrar.specs.Asks.{QuitGiven, DomainGiven, LeaveGiven, CellGiven, FrameGiven, WalkGiven, ListGiven, VectorGiven, ValuesGiven, ValueGiven, EventGiven, HearGiven, JoinGiven};
-ghost use Rattle.registrar.specs.Acts.{actsOf, attributeAt, vectorOf, joinOf, eventFor, askedBy, slotAsked, registerActs, overheardBy, hearActs, leaveHeard};
+ghost use Rattle.registrar.specs.Acts.{actsOf, attributeAt, vectorOf, joinOf, eventFor, askedBy, registerActs, overheardBy, hearActs, leaveHeard};
 use hearing::Heard;
 use msrpdu::DomainRead;
 use msrpdu::Event;
@@ -251,8 +251,9 @@ fn hear_all(table: &mut [u8], p: usize, kind: u8)
 fn event_for(kind: u8, events: &[u8], fours: &[u8], n: usize) -> Event
     ensures { λ r. ⌜ r ≡ eventFor kind (now (events .entry)) (now (fours .entry)) n ⌝ }
 {
+    let four = msrpdu::four_of(fours, n);
     if kind == 3 {
-        if msrpdu::four_of(fours, n) == 0 {
+        if four == 0 {
             return Event::Missing;
         }
     }
@@ -313,14 +314,7 @@ fn register_domain(table: &mut [u8], p: usize, first: &[u8], e: Event, n: usize)
 
 // What value n of a vector asks of a Registrar at a port: "A value is applied only if the vector reader gave one". A Domain value asks
 // for no room.
-fn register(
-    table: &mut [u8],
-    walk: ListWalk,
-    first: &[u8],
-    e: Event,
-    four: u8,
-    n: usize,
-) -> bool
+fn register(table: &mut [u8], walk: ListWalk, first: &[u8], e: Event, four: u8, n: usize) -> bool
     requires { ⌜ EventGiven (now table) walk (now first) e four n ⌝ }
     ensures { λ r. ⌜ Walked (walk .applying) (walk .p) (registerActs (walk .kind) (now (first .entry)) e four n) (now (table .entry)) r
         (now (table .exit)) ⌝ }

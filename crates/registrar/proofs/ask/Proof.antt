@@ -1,84 +1,38 @@
-use Prim.Native.Nat.{ℕ, suc, _+_, _-_, _*_, _≤_, _<_}
-use mathlib.Core.Path.{_≡_, refl, sym, ap, _∙_}
-use native.Mathlib.Omega.{arith}
-use lib.ListN.{length, getD, take, drop}
+-- `registrar::ask` meets its contract. Assumes nothing.
 use borrow.Author.Needs.{needs}
+use Rattle.registrar.specs.Acts.{askedBy}
 use Rattle.registrar.proofs.ask.Statement.{statement}
 use Rattle.registrar.proofs.ask.Tie as tie
-use Rattle.registrar.proofs.ask.Reads as reads
-use Rattle.registrar.proofs.ask.Lts as lts
 
--- src/lib.rt:267:23
-enum-told : tie.Need-enum-told
-enum-told c = search needs
-
--- src/lib.rt:268:26
-enum-told-2 : tie.Need-enum-told-2
-enum-told-2 c = search needs
-
--- src/lib.rt:269:22
-enum-told-3 : tie.Need-enum-told-3
-enum-told-3 c = search needs
-
--- src/lib.rt:270:26
-enum-told-4 : tie.Need-enum-told-4
-enum-told-4 c = search needs
-
--- src/lib.rt:271:22
-enum-told-5 : tie.Need-enum-told-5
-enum-told-5 c = search needs
-
--- src/lib.rt:272:22
-enum-told-6 : tie.Need-enum-told-6
-enum-told-6 c = search needs
-
--- src/lib.rt:273:27
-enum-told-7 : tie.Need-enum-told-7
-enum-told-7 c = search needs
-
--- src/lib.rt:263:1
 returns : tie.Need-returns
-returns c = ?
+unfolding askedBy
+returns c = rw (c .enum-told .given .1)
 
--- src/lib.rt:263:1
 returns-2 : tie.Need-returns-2
-returns-2 c = ?
+unfolding askedBy
+returns-2 c = rw (c .enum-told2 .given .1)
 
--- src/lib.rt:263:1
 returns-3 : tie.Need-returns-3
-returns-3 c = ?
+unfolding askedBy
+returns-3 c = rw (c .enum-told3 .given .1)
 
--- src/lib.rt:263:1
 returns-4 : tie.Need-returns-4
-returns-4 c = ?
+unfolding askedBy
+returns-4 c = rw (c .enum-told4 .given .1)
 
--- src/lib.rt:263:1
 returns-5 : tie.Need-returns-5
-returns-5 c = ?
+unfolding askedBy
+returns-5 c = rw (c .enum-told5 .given .1)
 
--- src/lib.rt:263:1
 returns-6 : tie.Need-returns-6
-returns-6 c = ?
+unfolding askedBy
+returns-6 c = rw (c .enum-told6 .given .1)
 
--- src/lib.rt:263:1
 returns-7 : tie.Need-returns-7
-returns-7 c = ?
+unfolding askedBy
+returns-7 c = rw (c .enum-told7 .given .1)
 
 pub ask-spec : {M : Type 1} → statement M
 ask-spec =
     tie.close
-    (tie.spec
-    enum-told
-    enum-told-2
-    enum-told-3
-    enum-told-4
-    enum-told-5
-    enum-told-6
-    enum-told-7
-    returns
-    returns-2
-    returns-3
-    returns-4
-    returns-5
-    returns-6
-    returns-7)
+    (tie.spec (λ c. search needs) (λ c. search needs) (λ c. search needs) (λ c. search needs) (λ c. search needs) (λ c. search needs) (λ c. search needs) returns returns-2 returns-3 returns-4 returns-5 returns-6 returns-7)

@@ -1,30 +1,22 @@
-use Prim.Native.Nat.{ℕ, suc, _+_, _-_, _*_, _≤_, _<_}
-use mathlib.Core.Path.{_≡_, refl, sym, ap, _∙_}
-use native.Mathlib.Omega.{arith}
-use lib.ListN.{length, getD, take, drop}
+-- `registrar::event_for` meets its contract. Assumes nothing.
+use mathlib.Core.Path.{_∙_, sym}
+use mathlib.Core.Logic.{⊎-elim}
 use borrow.Author.Needs.{needs}
+use Rattle.registrar.proofs.ValueActs.{event-ignored, event-kept}
 use Rattle.registrar.proofs.event_for.Statement.{statement}
 use Rattle.registrar.proofs.event_for.Tie as tie
-use Rattle.registrar.proofs.event_for.Reads as reads
-use Rattle.registrar.proofs.event_for.Lts as lts
-use Rattle.msrpdu.proofs.event_of.Reads as event-of-reads
-use Rattle.msrpdu.proofs.four_of.Reads as four-of-reads
 
--- src/lib.rt:255:12
-four-of-requires : tie.Need-four-of-requires
-four-of-requires c κs = search needs
-
--- src/lib.rt:256:13
 returns : tie.Need-returns
-returns c = ?
+returns c =
+    let a = c .before .before .before .before .before .args in
+    event-ignored (a .kind) (a .events .now) (a .fours .now) (a .n) (c .before .if1 .taken) (sym (c .before .before .four-of .ensures) ∙ c .if2 .taken)
 
--- src/lib.rt:259:5
-event-of-requires : tie.Need-event-of-requires
-event-of-requires c κs = search needs
-
--- src/lib.rt:251:1
 returns-2 : tie.Need-returns-2
-returns-2 c = ?
+returns-2 c =
+    let a = c .before .before .before .before .before .args in
+    c .event-of .ensures
+    ∙ event-kept (a .kind) (a .events .now) (a .fours .now) (a .n)
+    (λ k z. ⊎-elim (λ w. w .1 .left (c .before .before .four-of .ensures ∙ z)) (λ w. w .left k) (c .before .if1 .came))
 
 pub event-for-spec : {M : Type 1} → statement M
-event-for-spec = tie.close (tie.spec four-of-requires returns event-of-requires returns-2)
+event-for-spec = tie.close (tie.spec (λ c κs. search needs) returns (λ c κs. search needs) returns-2)

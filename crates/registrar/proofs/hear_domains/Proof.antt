@@ -1,62 +1,31 @@
-use Prim.Native.Nat.{ℕ, suc, _+_, _-_, _*_, _≤_, _<_}
-use mathlib.Core.Path.{_≡_, refl, sym, ap, _∙_}
-use native.Mathlib.Omega.{arith}
-use lib.ListN.{length, getD, take, drop}
+-- `registrar::hear_domains` meets its contract. Assumes nothing.
+use mathlib.Core.Path.{_∙_}
 use borrow.Author.Needs.{needs}
+use Rattle.table.proofs.SenderParts.{lent-sender-at, left-sender-at}
+use Rattle.model.specs.Registrations.{hearAllDomains, movesSender}
+use Rattle.registrar.proofs.Walks.{domain-heard}
 use Rattle.registrar.proofs.hear_domains.Statement.{statement}
 use Rattle.registrar.proofs.hear_domains.Tie as tie
-use Rattle.registrar.proofs.hear_domains.Reads as reads
-use Rattle.registrar.proofs.hear_domains.Lts as lts
-use Rattle.hearing.proofs.hear_domains.Reads as hear-domains-reads
-use Rattle.table.proofs.clock.Reads as clock-reads
-use Rattle.table.proofs.sender_in.Reads as sender-in-reads
 
--- src/lib.rt:211:9
 clock-requires : tie.Need-clock-requires
-clock-requires c κs = search needs
+clock-requires c κs = c .before .before .pre .laid
 
--- src/lib.rt:212:9
 sender-in-requires : tie.Need-sender-in-requires
-sender-in-requires c κs = search needs
+sender-in-requires c κs = c .before .before .before .before .pre
 
--- src/lib.rt:213:41
-add-hear-domains : tie.Need-add-hear-domains
-add-hear-domains c = search needs
-
--- src/lib.rt:213:27
-sub-hear-domains : tie.Need-sub-hear-domains
-sub-hear-domains c = search needs
-
--- src/lib.rt:213:27
-part-hear-domains-start : tie.Need-part-hear-domains-start
-part-hear-domains-start c = search needs
-
--- src/lib.rt:213:27
-part-hear-domains-end : tie.Need-part-hear-domains-end
-part-hear-domains-end c = search needs
-
--- src/lib.rt:213:5
 hear-domains-requires : tie.Need-hear-domains-requires
-hear-domains-requires c κs = search needs
+hear-domains-requires c κs = let r = lent-sender-at (c .before .before .before .before .before .before .pre) _ (c .before .sender-in .ensures .0) in (r .laid, r .size)
 
--- src/lib.rt:207:1
-same-length : tie.Need-same-length
-same-length c = search needs
-
--- src/lib.rt:207:1
 returns : tie.Need-returns
-returns c = ?
+unfolding movesSender
+returns c =
+    let s = c .before .before .before .before .before .before .before .before .before in
+    let a = s .args in
+    domain-heard (a .p) hearAllDomains (a .table .now) (s .pre .laid) tt tt _
+    (left-sender-at (s .pre) _ (c .before .before .before .before .sender-in .ensures .0) _ _ (rw (c .before .before .before .before .before .before .clock .ensures) at (c .before .before .hear-domains .ensures)))
 
 pub hear-domains-spec : {M : Type 1} → statement M
 hear-domains-spec =
     tie.close
-    (tie.spec
-    clock-requires
-    sender-in-requires
-    add-hear-domains
-    sub-hear-domains
-    part-hear-domains-start
-    part-hear-domains-end
-    hear-domains-requires
-    same-length
-    returns)
+    (tie.spec clock-requires sender-in-requires (λ c. search needs) (λ c. search needs) (λ c. search needs) (λ c. search needs) hear-domains-requires
+    (λ c. search needs) returns)

@@ -1,56 +1,31 @@
-use Prim.Native.Nat.{ℕ, suc, _+_, _-_, _*_, _≤_, _<_}
-use mathlib.Core.Path.{_≡_, refl, sym, ap, _∙_}
-use native.Mathlib.Omega.{arith}
-use lib.ListN.{length, getD, take, drop}
+-- `registrar::hear_slot` meets its contract. Assumes nothing.
 use borrow.Author.Needs.{needs}
+use Rattle.table.proofs.OwnParts.{port-of-slot}
+use Rattle.table.proofs.SenderParts.{lent-sender-at, left-sender-at}
+use Rattle.model.specs.Table.{decode}
+use Rattle.model.specs.Registrations.{hearDomain}
+use Rattle.hearing.specs.Hears.{meant}
+use Rattle.registrar.proofs.Walks.{domain-heard}
 use Rattle.registrar.proofs.hear_slot.Statement.{statement}
 use Rattle.registrar.proofs.hear_slot.Tie as tie
-use Rattle.registrar.proofs.hear_slot.Reads as reads
-use Rattle.registrar.proofs.hear_slot.Lts as lts
-use Rattle.hearing.proofs.hear_domain.Reads as hear-domain-reads
-use Rattle.table.proofs.sender_in.Reads as sender-in-reads
 
--- src/lib.rt:202:9
 sender-in-requires : tie.Need-sender-in-requires
-sender-in-requires c κs = search needs
+sender-in-requires c κs = port-of-slot (c .before .before .pre)
 
--- src/lib.rt:203:40
-add-hear-domain : tie.Need-add-hear-domain
-add-hear-domain c = search needs
-
--- src/lib.rt:203:26
-sub-hear-domain : tie.Need-sub-hear-domain
-sub-hear-domain c = search needs
-
--- src/lib.rt:203:26
-part-hear-domain-start : tie.Need-part-hear-domain-start
-part-hear-domain-start c = search needs
-
--- src/lib.rt:203:26
-part-hear-domain-end : tie.Need-part-hear-domain-end
-part-hear-domain-end c = search needs
-
--- src/lib.rt:203:5
 hear-domain-requires : tie.Need-hear-domain-requires
-hear-domain-requires c κs = search needs
+hear-domain-requires c κs =
+    let p = c .before .before .before .before .pre in
+    let r = lent-sender-at (port-of-slot p) _ (c .before .sender-in .ensures .0) in
+    (r .laid, r .size, p .slot)
 
--- src/lib.rt:198:1
-same-length : tie.Need-same-length
-same-length c = search needs
-
--- src/lib.rt:198:1
 returns : tie.Need-returns
-returns c = ?
+returns c =
+    let s = c .before .before .before .before .before .before .before in
+    let a = s .args in
+    domain-heard (a .p) (hearDomain (a .slot) (meant (a .heard))) (a .table .now) (s .pre .laid) (s .pre .slot) tt _
+    (left-sender-at (port-of-slot (s .pre)) _ (c .before .before .before .before .sender-in .ensures .0) _ _ (c .before .before .hear-domain .ensures (decode (a .table .now) .clock)))
 
 pub hear-slot-spec : {M : Type 1} → statement M
 hear-slot-spec =
     tie.close
-    (tie.spec
-    sender-in-requires
-    add-hear-domain
-    sub-hear-domain
-    part-hear-domain-start
-    part-hear-domain-end
-    hear-domain-requires
-    same-length
-    returns)
+    (tie.spec sender-in-requires (λ c. search needs) (λ c. search needs) (λ c. search needs) (λ c. search needs) hear-domain-requires (λ c. search needs) returns)

@@ -1,64 +1,53 @@
-use Prim.Native.Nat.{ℕ, suc, _+_, _-_, _*_, _≤_, _<_}
-use mathlib.Core.Path.{_≡_, refl, sym, ap, _∙_}
+-- `registrar::hear_streams` meets its contract. The invariant: the streams before the loop's place are changed. Assumes nothing.
+use Prim.Native.Nat.{_-_}
+use mathlib.Core.Path.{_≡_, refl}
 use native.Mathlib.Omega.{arith}
 use borrow.Author.Needs.{needs}
-use lib.ListN.{length, getD, take, drop}
+use Rattle.table.proofs.ByPlace.{stands-on}
+use Rattle.table.proofs.EachStream.{Partly, none-yet, partly-stands, one-more, all-done}
+use Rattle.cells.specs.Acts.{kindAt}
+use Rattle.hearing.specs.Hears.{meant}
+use Rattle.registrar.specs.Acts.{leaveHeard}
+use Rattle.registrar.proofs.Touched.{heard-fits, heard-id}
 use Rattle.registrar.proofs.hear_streams.Statement.{statement}
 use Rattle.registrar.proofs.hear_streams.Tie as tie
-use Rattle.registrar.proofs.hear_streams.Reads as reads
-use Rattle.registrar.proofs.hear_streams.Lts as lts
-use Rattle.registrar.proofs.hear_sends.Reads as hear-sends-reads
-use Rattle.table.proofs.count.Reads as count-reads
 
 abbrev Inv-loop : tie.InvT-loop
-Inv-loop table₀ p kind held k₀ table k = ?
+Inv-loop table₀ p kind held k₀ table k = Partly (leaveHeard p (kindAt kind)) table₀ held table k
 
 abbrev μ-loop : tie.MeasureT-loop
-μ-loop table₀ p kind held k₀ table k = ?
+μ-loop table₀ p kind held k₀ table k = held - k
 
--- src/lib.rt:233:9
 count-requires : tie.Need-count-requires Inv-loop μ-loop
-count-requires c κs = search needs
+count-requires c κs = c .before .before .pre .laid
 
--- src/lib.rt:235:5
 loop-holds : tie.Need-loop-holds Inv-loop μ-loop
-loop-holds c = ?
+loop-holds c = record { within = omega arith; count = c .count .ensures .0; size = refl; is = none-yet _ _ (c .before .before .before .pre .laid) }
 
--- src/lib.rt:236:9
 hear-sends-requires : tie.Need-hear-sends-requires Inv-loop μ-loop
-hear-sends-requires c κs = search needs
+hear-sends-requires c κs =
+    let l = c .before .before .loop in
+    let a = c .before .before .before .before .before .before in
+    let k = kindAt (a .args .kind) in
+    stands-on (partly-stands _ (heard-fits (a .args .p) k) (heard-id (a .args .p) k) _ (a .pre .laid) (l .k) _ (l .inv .is) (omega arith)) _ (a .pre .port)
 
--- src/lib.rt:237:9
-add-k : tie.Need-add-k Inv-loop μ-loop
-add-k c = search needs
-
--- src/lib.rt:235:5
-loop-less : tie.Need-loop-less Inv-loop μ-loop
-loop-less c = search needs
-
--- src/lib.rt:235:5
 loop-again : tie.Need-loop-again Inv-loop μ-loop
-loop-again c = ?
+unfolding meant
+loop-again c =
+    let l = c .before .before .before .before .before .loop in
+    let a = c .before .before .before .before .before .before .before .before .before in
+    let k = kindAt (a .args .kind) in
+    record {
+      within = search needs;
+      count = l .inv .count;
+      size = search needs;
+      is = one-more _ (heard-fits (a .args .p) k) (heard-id (a .args .p) k) _ (a .pre .laid) (l .k) _ (l .inv .is) _ (c .before .before .hear-sends .ensures);
+    }
 
--- src/lib.rt:228:1
-same-length : tie.Need-same-length Inv-loop μ-loop
-same-length c = search needs
-
--- src/lib.rt:228:1
 returns : tie.Need-returns Inv-loop μ-loop
-returns c = ?
+returns c = let l = c .before .loop in all-done _ _ _ (l .k) (l .inv .is) (omega arith)
 
 pub hear-streams-spec : {M : Type 1} → statement M
 hear-streams-spec =
     tie.close
-    (tie.spec
-    Inv-loop
-    μ-loop
-    count-requires
-    loop-holds
-    hear-sends-requires
-    add-k
-    loop-less
-    loop-again
-    same-length
-    returns)
+    (tie.spec Inv-loop μ-loop count-requires loop-holds hear-sends-requires (λ c. search needs) (λ c. search needs) loop-again (λ c. search needs) returns)

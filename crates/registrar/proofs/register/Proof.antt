@@ -1,119 +1,119 @@
-use Prim.Native.Nat.{ℕ, suc, _+_, _-_, _*_, _≤_, _<_}
-use mathlib.Core.Path.{_≡_, refl, sym, ap, _∙_}
+-- `registrar::register` meets its contract. Assumes nothing.
+use Prim.Native.Nat.{ℕ, _+_, _≤_}
+use mathlib.Core.Path.{_≡_, sym, ap, _∙_}
 use native.Mathlib.Omega.{arith}
-use lib.ListN.{length, getD, take, drop}
 use borrow.Author.Needs.{needs}
+use Rattle.octets.specs.Be.{beAt}
+use Rattle.cells.specs.Acts.{kindAt}
+use Rattle.registrar.specs.declared.Asked.{Asked}
+use Rattle.registrar.specs.declared.Asked.the-variants.{Nothing, Join, Leave}
+use Rattle.registrar.specs.Acts.{actsAsked, registerActs}
+use Rattle.registrar.proofs.ValueActs.{register-stream, asked-some, value-id-is, not-past}
+use Rattle.registrar.proofs.DomainValues.{register-room}
+use Rattle.registrar.proofs.Walks.{walked-none}
+use Rattle.registrar.proofs.Touched.{left-room}
 use Rattle.registrar.proofs.register.Statement.{statement}
 use Rattle.registrar.proofs.register.Tie as tie
-use Rattle.registrar.proofs.register.Reads as reads
-use Rattle.registrar.proofs.register.Lts as lts
-use Rattle.msrpdu.proofs.stream_id.Reads as stream-id-reads
-use Rattle.registrar.proofs.ask.Reads as ask-reads
-use Rattle.registrar.proofs.join.Reads as join-reads
-use Rattle.registrar.proofs.register_domain.Reads as register-domain-reads
-use Rattle.registrar.proofs.withdraw.Reads as withdraw-reads
 
--- src/lib.rt:330:13
+-- A Domain value.
+
 register-domain-requires : tie.Need-register-domain-requires
-register-domain-requires c κs = search needs
+register-domain-requires c κs =
+    let p = c .before .before .before .before .before .before .pre in
+    record { laid = p .walk .laid; port = p .walk .port; value = rw (c .before .before .if1 .taken) at (p .value) }
 
--- src/lib.rt:332:9
-same-length : tie.Need-same-length
-same-length c = search needs
-
--- src/lib.rt:332:9
 returns : tie.Need-returns
-returns c = ?
+unfolding registerActs
+returns c = rw (c .before .before .before .before .before .if1 .taken, c .before .before .before .before .if2 .taken) (c .before .before .register-domain .ensures)
 
--- src/lib.rt:332:9
 returns-2 : tie.Need-returns-2
-returns-2 c = ?
+returns-2 c =
+    let s = c .before .before .before .before .before in
+    let a = s .args in
+    rw (c .before .if1 .taken, c .if2 .left)
+    (register-room (a .first .now) (a .n) (a .walk .p) (a .table .now) (s .pre .walk .laid) (λ i. c .before .before .before .shared-slice-known .given i .fits) (a .e) (a .four))
 
--- src/lib.rt:334:32
-stream-id-requires : tie.Need-stream-id-requires
-stream-id-requires c κs = search needs
+-- A value that registers a stream.
 
--- src/lib.rt:334:26
-enum-known-id : tie.Need-enum-known-id
-enum-known-id c = search needs
+stream-kind : (c : tie.Else1) → c .before .before .before .before .args .walk .kind ≤ 3
+stream-kind c = omega (arith, c .before .before .before .before .pre .value .high, c .if1 .left)
 
--- src/lib.rt:335:9
-enum-told : tie.Need-enum-told
-enum-told c = search needs
-
--- src/lib.rt:335:9
 returns-3 : tie.Need-returns-3
-returns-3 c = ?
+returns-3 c =
+    let s = c .before .before .before .before .before .before .before in
+    absurd (not-past (s .args .walk .kind) (s .args .first .now) (s .args .n) (s .pre .value) (stream-kind (c .before .before .before)) (sym (c .before .before .stream-id .ensures) ∙ c .enum-told .given .1))
 
--- src/lib.rt:337:9
-ask-requires : tie.Need-ask-requires
-ask-requires c κs = search needs
+-- its acts are those asked for
+module _ (c : tie.After-ask) where
+  abbrev start : tie.Start
+  start = c .before .before .before .before .before .before .before .before .before
 
--- src/lib.rt:339:27
-enum-told-2 : tie.Need-enum-told-2
-enum-told-2 c = search needs
+  abbrev id : ℕ
+  id = c .before .before .id .given .0 .0
 
--- src/lib.rt:340:29
-enum-told-3 : tie.Need-enum-told-3
-enum-told-3 c = search needs
+  registers : start .args .walk .kind ≤ 3
+  registers = stream-kind (c .before .before .before .before .before)
 
--- src/lib.rt:340:24
+  id-is : id ≡ beAt 8 (start .args .first .now) 0 + start .args .n
+  id-is =
+      let a = start .args in
+      value-id-is (a .walk .kind) (a .first .now) (a .n) id (start .pre .value) registers (sym (c .before .before .before .before .stream-id .ensures) ∙ c .before .before .id .given .1)
+
+  acts : (r : Asked) → c .ask .result ≡ r →
+      registerActs (start .args .walk .kind) (start .args .first .now) (start .args .e) (start .args .four) (start .args .n)
+      ≡ actsAsked (kindAt (start .args .walk .kind)) (start .args .first .now) (start .args .four) (start .args .n) r
+  acts r e =
+      let a = start .args in
+      register-stream (a .walk .kind) (c .before .before .before .before .before .if1 .left) (a .first .now) (a .n) (a .e) (a .four)
+      ∙ ap (actsAsked (kindAt (a .walk .kind)) (a .first .now) (a .four) (a .n)) (sym (c .ask .ensures) ∙ e)
+
 join-requires : tie.Need-join-requires
-join-requires c κs = search needs
+join-requires c κs =
+    let d = c .before .before .before in
+    let s = start d in
+    let p = s .pre in
+    record {
+      walk = p .walk;
+      registers = registers d;
+      value = p .value;
+      id = id-is d;
+      four = λ k. p .four k (asked-some (s .args .e) (sym (d .ask .ensures) ∙ c .before .enum-told3 .given .1));
+    }
 
--- src/lib.rt:342:16
-enum-told-4 : tie.Need-enum-told-4
-enum-told-4 c = search needs
-
--- src/lib.rt:343:17
 withdraw-requires : tie.Need-withdraw-requires
-withdraw-requires c κs = search needs
+withdraw-requires c κs =
+    let d = c .before .before .before .before in
+    let p = start d .pre in
+    record { laid = p .walk .laid; port = p .walk .port; low = p .value .low; high = registers d }
 
--- src/lib.rt:316:1
 returns-4 : tie.Need-returns-4
-returns-4 c = ?
+unfolding actsAsked
+returns-4 c =
+    let d = c .before .before in
+    let s = start d in
+    rw (acts d Nothing (c .enum-told2 .given .1)) (walked-none (s .args .walk .applying) (s .args .walk .p) (s .args .table .now) (s .pre .walk .laid))
 
--- src/lib.rt:316:1
-same-length-2 : tie.Need-same-length-2
-same-length-2 c = search needs
-
--- src/lib.rt:316:1
 returns-5 : tie.Need-returns-5
-returns-5 c = ?
+unfolding actsAsked
+returns-5 c = rw (acts (c .before .before .before .before .before .before) Join (c .before .before .before .before .enum-told3 .given .1)) (c .before .before .join .ensures)
 
--- src/lib.rt:316:1
-same-length-3 : tie.Need-same-length-3
-same-length-3 c = search needs
-
--- src/lib.rt:316:1
 returns-6 : tie.Need-returns-6
-returns-6 c = ?
+unfolding actsAsked
+returns-6 c =
+    let d = c .before .before .before .before .before .before .before in
+    rw (c .before .before .before .before .if3 .taken, acts d Leave (c .before .before .before .before .before .enum-told4 .given .1), ← id-is d) (c .before .before .withdraw .ensures)
 
--- src/lib.rt:316:1
 returns-7 : tie.Need-returns-7
-returns-7 c = ?
+unfolding actsAsked
+returns-7 c =
+    let d = c .before .before .before in
+    let s = start d in
+    rw (c .if3 .left, acts d Leave (c .before .enum-told4 .given .1), ← id-is d)
+    (left-room (s .args .walk .p) (kindAt (s .args .walk .kind)) (s .args .table .now) (s .pre .walk .laid) (id d) (search needs))
 
 pub register-spec : {M : Type 1} → statement M
 register-spec =
     tie.close
-    (tie.spec
-    register-domain-requires
-    same-length
-    returns
-    returns-2
-    stream-id-requires
-    enum-known-id
-    enum-told
-    returns-3
-    ask-requires
-    enum-told-2
-    enum-told-3
-    join-requires
-    enum-told-4
-    withdraw-requires
-    returns-4
-    same-length-2
-    returns-5
-    same-length-3
-    returns-6
-    returns-7)
+    (tie.spec register-domain-requires (λ c. search needs) returns returns-2 (λ c κs. search needs) (λ c. search needs) (λ c. search needs)
+    returns-3 (λ c κs. search needs) (λ c. search needs) (λ c. search needs) join-requires (λ c. search needs) withdraw-requires
+    returns-4 (λ c. search needs) returns-5 (λ c. search needs) returns-6 returns-7)

@@ -1,104 +1,90 @@
-use Prim.Native.Nat.{ℕ, suc, _+_, _-_, _*_, _≤_, _<_}
-use mathlib.Core.Path.{_≡_, refl, sym, ap, _∙_}
+-- `registrar::register_domain` meets its contract. Assumes nothing.
+use Prim.Native.Nat.{ℕ, _<_}
+use mathlib.Core.Path.{_≡_, sym, ap, _∙_}
+use mathlib.Core.Bool.{true}
 use native.Mathlib.Omega.{arith}
-use lib.ListN.{length, getD, take, drop}
 use borrow.Author.Needs.{needs}
+use Rattle.octets.specs.Be.{beAt}
+use Rattle.model.specs.Layout.{slots}
+use Rattle.msrpdu.specs.Reader.{domainIn}
+use Rattle.msrpdu.specs.declared.DomainRead.the-variants.{Slot}
+use Rattle.table.specs.Places.{SlotIn}
+use Rattle.registrar.specs.declared.Asked.{Asked}
+use Rattle.registrar.specs.declared.Asked.the-variants.{Nothing, Join, Leave}
+use Rattle.registrar.specs.Acts.{slotAsked, registerActs}
+use Rattle.registrar.proofs.Walks.{walked-none}
+use Rattle.registrar.proofs.DomainValues.{slot-below, vlan-within, register-slot, register-dropped, slot-left, slot-joined}
 use Rattle.registrar.proofs.register_domain.Statement.{statement}
 use Rattle.registrar.proofs.register_domain.Tie as tie
-use Rattle.registrar.proofs.register_domain.Reads as reads
-use Rattle.registrar.proofs.register_domain.Lts as lts
-use Rattle.msrpdu.proofs.domain_slot.Reads as domain-slot-reads
-use Rattle.octets.proofs.get.Reads as get-reads
-use Rattle.registrar.proofs.ask.Reads as ask-reads
-use Rattle.registrar.proofs.join_slot.Reads as join-slot-reads
-use Rattle.registrar.proofs.quit_slot.Reads as quit-slot-reads
-use Rattle.table.proofs.clock.Reads as clock-reads
 
--- src/lib.rt:297:34
-domain-slot-requires : tie.Need-domain-slot-requires
-domain-slot-requires c κs = search needs
-
--- src/lib.rt:297:26
-enum-known-slot : tie.Need-enum-known-slot
-enum-known-slot c = search needs
-
--- src/lib.rt:298:9
-enum-told : tie.Need-enum-told
-enum-told c = search needs
-
--- src/lib.rt:298:9
 returns : tie.Need-returns
-returns c = ?
+returns c =
+    let s = c .before .before .before .before .before in
+    let a = s .args in
+    rw (register-dropped (a .first .now) (a .n) (a .e) 0 (sym (c .before .before .domain-slot .ensures) ∙ c .enum-told .given .1)) (walked-none true (a .p) (a .table .now) (s .pre .laid))
 
--- src/lib.rt:300:9
-ask-requires : tie.Need-ask-requires
-ask-requires c κs = search needs
+-- a value that has a slot: its acts are those asked for
+module _ (c : tie.After-ask) where
+  abbrev start : tie.Start
+  start = c .before .before .before .before .before .before .before
 
-enum-told-2 : tie.Need-enum-told-2
-enum-told-2 c = search needs
+  abbrev i : ℕ
+  i = c .before .before .slot .given .0 .0
 
--- src/lib.rt:304:17
-enum-told-3 : tie.Need-enum-told-3
-enum-told-3 c = search needs
+  its-slot : domainIn (start .args .first .now) (start .args .n) ≡ Slot i
+  its-slot = sym (c .before .before .before .before .domain-slot .ensures) ∙ c .before .before .slot .given .1
 
--- src/lib.rt:304:17
+  below : i < slots
+  below = slot-below (start .args .first .now) (start .args .n) i its-slot
+
+  there : SlotIn (start .args .table .now) (start .args .p) i
+  there = record { laid = start .pre .laid; port = start .pre .port; slot = below }
+
+  acts : (r : Asked) → c .ask .result ≡ r → registerActs 4 (start .args .first .now) (start .args .e) 0 (start .args .n) ≡ slotAsked (Slot i) (beAt 2 (start .args .first .now) 2) r
+  acts r e =
+      let a = start .args in
+      register-slot (a .first .now) (a .n) (a .e) 0 i its-slot ∙ ap (slotAsked (Slot i) (beAt 2 (a .first .now) 2)) (sym (c .ask .ensures) ∙ e)
+
 get-requires : tie.Need-get-requires
-get-requires c κs = search needs
+get-requires c κs =
+    let s = start (c .before .before) in
+    (vlan-within (s .args .first .now) (s .args .n) (s .pre .value), omega arith)
 
--- src/lib.rt:305:13
 join-slot-requires : tie.Need-join-slot-requires
-join-slot-requires c κs = search needs
+join-slot-requires c κs = (there (c .before .before .before .before), omega (arith, c .before .get .ensures .1))
 
--- src/lib.rt:308:36
-enum-told-4 : tie.Need-enum-told-4
-enum-told-4 c = search needs
-
--- src/lib.rt:308:17
 clock-requires : tie.Need-clock-requires
-clock-requires c κs = search needs
+clock-requires c κs = start (c .before .before .before) .pre .laid
 
--- src/lib.rt:309:13
 quit-slot-requires : tie.Need-quit-slot-requires
-quit-slot-requires c κs = search needs
+quit-slot-requires c κs = there (c .before .before .before .before .before)
 
--- src/lib.rt:293:1
 returns-2 : tie.Need-returns-2
-returns-2 c = ?
+unfolding slotAsked
+returns-2 c =
+    let s = start (c .before .before) in
+    rw (acts (c .before .before) Nothing (c .enum-told2 .given .1)) (walked-none true (s .args .p) (s .args .table .now) (s .pre .laid))
 
--- src/lib.rt:293:1
-same-length : tie.Need-same-length
-same-length c = search needs
-
--- src/lib.rt:293:1
 returns-3 : tie.Need-returns-3
-returns-3 c = ?
+unfolding slotAsked
+returns-3 c =
+    let d = c .before .before .before .before .before .before .before in
+    let s = start d in
+    let vlan = c .before .before .before .before .get in
+    rw (acts d Join (c .before .before .before .before .before .enum-told3 .given .1), ← vlan .ensures .0)
+    (slot-joined (s .args .p) (i d) (s .args .table .now) _ (s .pre .laid) (below d) (vlan .result) (omega (arith, vlan .ensures .1)) (c .before .before .join-slot .ensures))
 
--- src/lib.rt:293:1
-same-length-2 : tie.Need-same-length-2
-same-length-2 c = search needs
-
--- src/lib.rt:293:1
 returns-4 : tie.Need-returns-4
-returns-4 c = ?
+unfolding slotAsked
+returns-4 c =
+    let d = c .before .before .before .before .before .before .before .before in
+    let s = start d in
+    rw (acts d Leave (c .before .before .before .before .before .before .enum-told4 .given .1))
+    (slot-left (s .args .p) (i d) (s .args .table .now) _ (s .pre .laid) (below d) _ (c .before .before .before .before .clock .ensures) (c .before .before .quit-slot .ensures))
 
 pub register-domain-spec : {M : Type 1} → statement M
 register-domain-spec =
     tie.close
-    (tie.spec
-    domain-slot-requires
-    enum-known-slot
-    enum-told
-    returns
-    ask-requires
-    enum-told-2
-    enum-told-3
-    get-requires
-    join-slot-requires
-    enum-told-4
-    clock-requires
-    quit-slot-requires
-    returns-2
-    same-length
-    returns-3
-    same-length-2
-    returns-4)
+    (tie.spec (λ c κs. search needs) (λ c. search needs) (λ c. search needs) returns (λ c κs. search needs) (λ c. search needs)
+    (λ c. search needs) get-requires join-slot-requires (λ c. search needs) clock-requires quit-slot-requires returns-2
+    (λ c. search needs) returns-3 (λ c. search needs) returns-4)
