@@ -1,34 +1,32 @@
--- `registrar::domain_value` meets its contract. Assumes nothing.
+-- `registrar::register_domain` meets its contract. Assumes nothing.
 use Prim.Native.Nat.{ℕ, _<_}
 use mathlib.Core.Path.{_≡_, sym, ap, _∙_}
-use mathlib.Core.Bool.{true, false}
+use mathlib.Core.Bool.{true}
 use native.Mathlib.Omega.{arith}
 use borrow.Author.Needs.{needs}
 use Rattle.octets.specs.Be.{beAt}
 use Rattle.model.specs.Layout.{slots}
-use Rattle.model.specs.Frames.{valueActs}
 use Rattle.msrpdu.specs.Reader.{domainIn}
 use Rattle.msrpdu.specs.declared.DomainRead.the-variants.{Slot}
 use Rattle.table.specs.Places.{SlotIn}
 use Rattle.registrar.specs.declared.Asked.{Asked}
-use Rattle.registrar.specs.declared.Asked.the-variants.{Nothing, Leave}
-use Rattle.registrar.specs.Acts.{vectorOf, domainAsked}
+use Rattle.registrar.specs.declared.Asked.the-variants.{Nothing, Join, Leave}
+use Rattle.registrar.specs.Acts.{slotAsked, registerActs}
 use Rattle.registrar.proofs.Walks.{walked-none}
-use Rattle.registrar.proofs.DomainValues.{slot-below, vlan-within, dropped-acts, slot-acts, slot-left, slot-joined}
-use Rattle.registrar.proofs.domain_value.Statement.{statement}
-use Rattle.registrar.proofs.domain_value.Tie as tie
+use Rattle.registrar.proofs.DomainValues.{slot-below, vlan-within, register-slot, register-dropped, slot-left, slot-joined}
+use Rattle.registrar.proofs.register_domain.Statement.{statement}
+use Rattle.registrar.proofs.register_domain.Tie as tie
 
 returns : tie.Need-returns
 returns c =
-    let s = c .before .before .before .before .before .before .before in
+    let s = c .before .before .before .before .before in
     let a = s .args in
-    rw (dropped-acts false 0 (a .first .now) (a .events .now) (a .fours .now) (a .n) (s .pre .value) (sym (c .before .before .domain-slot .ensures) ∙ c .enum-told .given .1))
-    (walked-none true (a .p) (a .table .now) (s .pre .laid))
+    rw (register-dropped (a .first .now) (a .n) (a .e) 0 (sym (c .before .before .domain-slot .ensures) ∙ c .enum-told .given .1)) (walked-none true (a .p) (a .table .now) (s .pre .laid))
 
 -- a value that has a slot: its acts are those asked for
 module _ (c : tie.After-ask) where
   abbrev start : tie.Start
-  start = c .before .before .before .before .before .before .before .before .before
+  start = c .before .before .before .before .before .before .before
 
   abbrev i : ℕ
   i = c .before .before .slot .given .0 .0
@@ -42,13 +40,10 @@ module _ (c : tie.After-ask) where
   there : SlotIn (start .args .table .now) (start .args .p) i
   there = record { laid = start .pre .laid; port = start .pre .port; slot = below }
 
-  acts : (r : Asked) → c .ask .result ≡ r →
-      valueActs (vectorOf 4 false 0 (start .args .first .now) (start .args .events .now) (start .args .fours .now)) (start .args .n)
-      ≡ domainAsked i (beAt 2 (start .args .first .now) 2) r
+  acts : (r : Asked) → c .ask .result ≡ r → registerActs 4 (start .args .first .now) (start .args .e) 0 (start .args .n) ≡ slotAsked (Slot i) (beAt 2 (start .args .first .now) 2) r
   acts r e =
       let a = start .args in
-      slot-acts false 0 (a .first .now) (a .events .now) (a .fours .now) (a .n) (start .pre .event) i its-slot
-      ∙ ap (domainAsked i (beAt 2 (a .first .now) 2)) (sym (c .ask .ensures .0) ∙ e)
+      register-slot (a .first .now) (a .n) (a .e) 0 i its-slot ∙ ap (slotAsked (Slot i) (beAt 2 (a .first .now) 2)) (sym (c .ask .ensures) ∙ e)
 
 get-requires : tie.Need-get-requires
 get-requires c κs =
@@ -65,30 +60,30 @@ quit-slot-requires : tie.Need-quit-slot-requires
 quit-slot-requires c κs = there (c .before .before .before .before .before)
 
 returns-2 : tie.Need-returns-2
-unfolding domainAsked
+unfolding slotAsked
 returns-2 c =
     let s = start (c .before .before) in
     rw (acts (c .before .before) Nothing (c .enum-told2 .given .1)) (walked-none true (s .args .p) (s .args .table .now) (s .pre .laid))
 
 returns-3 : tie.Need-returns-3
-unfolding domainAsked
+unfolding slotAsked
 returns-3 c =
     let d = c .before .before .before .before .before .before .before in
     let s = start d in
     let vlan = c .before .before .before .before .get in
-    rw (acts d _ (c .before .before .before .before .before .enum-told3 .given .1), ← vlan .ensures .0)
+    rw (acts d Join (c .before .before .before .before .before .enum-told3 .given .1), ← vlan .ensures .0)
     (slot-joined (s .args .p) (i d) (s .args .table .now) _ (s .pre .laid) (below d) (vlan .result) (omega (arith, vlan .ensures .1)) (c .before .before .join-slot .ensures))
 
 returns-4 : tie.Need-returns-4
-unfolding domainAsked
+unfolding slotAsked
 returns-4 c =
     let d = c .before .before .before .before .before .before .before .before in
     let s = start d in
     rw (acts d Leave (c .before .before .before .before .before .before .enum-told4 .given .1))
     (slot-left (s .args .p) (i d) (s .args .table .now) _ (s .pre .laid) (below d) _ (c .before .before .before .before .clock .ensures) (c .before .before .quit-slot .ensures))
 
-pub domain-value-spec : {M : Type 1} → statement M
-domain-value-spec =
+pub register-domain-spec : {M : Type 1} → statement M
+register-domain-spec =
     tie.close
     (tie.spec (λ c κs. search needs) (λ c. search needs) (λ c. search needs) returns (λ c κs. search needs) (λ c. search needs)
     (λ c. search needs) get-requires join-slot-requires (λ c. search needs) clock-requires quit-slot-requires returns-2
