@@ -1,11 +1,11 @@
 -- One Applicant: what the code makes of its octets is what an advance decides.
 use mathlib.Core.Path.{_≡_, refl, ap}
-use mathlib.Core.List.{List, [], _∷_, map, append-nil}
+use mathlib.Core.List.{List, [], _∷_, map, _++_, append-nil}
 use mathlib.Core.Bool.{Bool, true, false, cond}
-use Prim.Native.Nat.{ℕ, _≤_}
+use Prim.Native.Nat.{ℕ, suc, _+_, _-_, _≤_}
 use native.Mathlib.Omega.{arith}
-use lib.ListN.{length, drop, set}
-use lib.Seq.{drop-length}
+use lib.ListN.{length, getD, set, take, drop}
+use lib.Seq.{drop-length, take-length}
 use Rattle.octets.specs.Parts.{patch, zeros}
 use Rattle.octets.specs.Pick.{pick}
 use Rattle.model.specs.Applicant.{Standing, veryAnxiousPassive, veryAnxiousNew, anxiousNew, anxiousActive, quietActive, leavingActive, vo, join, lv, applicantEntry, standing, becomes}
@@ -24,6 +24,16 @@ all-cleared s = rw (drop-length s, append-nil)
 pub state-put : (s : List ℕ) (q : ℕ) → 1 ≤ length s → set s 0 q ≡ q ∷ drop 1 s
 state-put [] q h = absurd (omega arith)
 state-put (x ∷ s) q h = refl
+
+-- the values copied behind it
+pub declared-put : (s v y : List ℕ) (q : ℕ) → length s ≡ suc (length v) → y ≡ v → q ≡ declaredState (sameOctets v (take (1 + length v - 1) (drop 1 s))) (getD s 0 0)
+    → take 1 (set s 0 q) ++ (y ++ drop (1 + length v - 1) (drop 1 (set s 0 q))) ≡ declaredOctets v s
+unfolding declaredOctets
+declared-put [] v y q h e g = absurd (omega arith)
+declared-put (x ∷ s) v y q h e g =
+    let same : 1 + length v - 1 ≡ length s = omega arith in
+    let whole : take (1 + length v - 1) s ≡ s = rw same (take-length s) in
+    rw (e, g, whole, same, drop-length s, append-nil v)
 
 -- what a decision gives to be declared
 module _ {A : Type 0} where
