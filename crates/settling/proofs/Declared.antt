@@ -1,28 +1,39 @@
 -- What is sent of a stream, port by port: what the code reads for it, and the stream with the first places declared.
 use mathlib.Core.Path.{_≡_, refl, sym, _∙_, ap, subst}
 use mathlib.Core.List.{List, _++_}
-use Prim.Native.Nat.{ℕ, _+_, _≤_, _<_}
+use Prim.Native.Nat.{ℕ, _+_, _-_, _≤_, _<_}
 use native.Mathlib.Omega.{arith}
 use lib.ListN.{length, getD}
-use Rattle.model.specs.Layout.{inResult, resultIn}
-use Rattle.model.specs.State.{Result, Sends, Stream, noSends, unsettled, resultAt, sendsAt, streamAt}
+use Rattle.octets.specs.Parts.{part, patch}
+use Rattle.octets.proofs.Patches.{patch-next}
+use Rattle.model.specs.Layout.{failedSize, fixedSize, inResult, resultIn}
+use Rattle.model.specs.State.{Fixed, Result, Sends, Stream, noSends, unsettled, resultAt, sendsAt, streamAt}
 use Rattle.model.specs.Registrations.{at, change}
 use Rattle.model.specs.Settling.{declareSends, declare}
-use Rattle.model.specs.Table.{encode, decode}
+use Rattle.model.specs.Table.{resultOctets, encode, decode}
 use Rattle.model.specs.Laid.{FitResult, FitSends, FitStream}
 use Rattle.model.proofs.Lists.{all-getD}
 use Rattle.model.proofs.Fits.{fit-fixed, fit-sends, settled-fits, valid-sends-fit}
 use Rattle.table.specs.Places.{Stands, StandsOn}
-use Rattle.table.specs.Reads.{ReadsResult}
+use Rattle.table.specs.Reads.{fixedOctets, ReadsResult}
 use Rattle.table.specs.Updates.{withSends}
 use Rattle.table.proofs.ReadOctets.{column-octet, declared-octet}
 use Rattle.table.proofs.Fitting.{no-sends-fit, unsettled-fits}
-use Rattle.table.proofs.StreamParts.{result-fits}
+use Rattle.table.proofs.Lens.{patch-whole}
+use Rattle.table.proofs.StreamParts.{fixed-length, result-fits}
 use Rattle.table.proofs.ByPlace.{stands, stands-on, stream-fits}
 use Rattle.table.proofs.EachStream.{partlyAt, partlyAt-stands, one-turn-more}
 use Rattle.table.proofs.EachPort.{sendsTo, sends-next, sends-done, sends-fit}
 use Rattle.declaring.specs.Octets.{offeredOctets, Offered}
 use Rattle.declaring.proofs.Sent.{sent-valid}
+
+-- the settled values copied, and those of the result behind them
+pub offered-put : (f : Fixed) (r : Result) (v y z : List ℕ) → length v ≡ failedSize → y ≡ fixedOctets f
+    → z ≡ part inResult.latency (failedSize - fixedSize) (resultOctets r) → patch fixedSize (failedSize - fixedSize) z (patch 0 fixedSize y v) ≡ offeredOctets f r
+unfolding offeredOctets fixedOctets
+offered-put f r v y z n e g =
+    let long : length y ≡ fixedSize = ap length e ∙ fixed-length f in
+    patch-next 0 fixedSize (failedSize - fixedSize) y z v long (omega (arith, n)) ∙ patch-whole failedSize (y ++ z) v n ∙ rw (e, g)
 
 -- what is read of a stream's result on a port, with the values offered
 pub offered-there : {t : List ℕ} {k p : ℕ} (s : StandsOn t k p) (v : List ℕ) → v ≡ offeredOctets (streamAt k (decode t) .settled) (resultAt (streamAt k (decode t)) p)

@@ -24,12 +24,15 @@ use Rattle.declaring.specs.Octets.{timed}
 -- a timer that has run out is started at the clock
 timed-fits : (now : ℕ) → now < 2 ^ 32 → (x : Sender) → FitSender x → FitSender (timed now x)
 unfolding timed timedOut leaveAllNext
-timed-fits now small x w = record { slotted = w .slotted; start = go (hasRun now (x .leaveAll)) (leaveAllEntry leavealltimer (x .leaveAll .state) .starts) }
+timed-fits now small x w = record { slotted = w .slotted; start = go (hasRun now (x .leaveAll)) }
   where
-    go : (t u : Bool) → cond {A = ℕ} t (cond u now (x .leaveAll .start)) (x .leaveAll .start) < 2 ^ 32
-    go true true = small
-    go true false = w .start
-    go false u = w .start
+    started : (t : Bool) → cond t now (x .leaveAll .start) < 2 ^ 32
+    started true = small
+    started false = w .start
+
+    go : (t : Bool) → cond t (leaveAllNext now leavealltimer (x .leaveAll)) (x .leaveAll) .start < 2 ^ 32
+    go true = started (leaveAllEntry leavealltimer (x .leaveAll .state) .starts)
+    go false = w .start
 
 module _ (st : Settings) (now : ℕ) (small : now < 2 ^ 32) (l : List Sender) (w : All FitSender l) where
   pub time-fits : (q : ℕ) → FitSender (timeSender st now l q)

@@ -14,7 +14,7 @@ ghost use Rattle.model.specs.Registrations.{holding, owning, sending};
 ghost use Rattle.model.specs.Settling as model;
 ghost use Rattle.model.specs.Table.{columnNumber, declaredNumber, toResult, resultOctets, toOwn, ownOctets, encode, decode};
 ghost use Rattle.model.specs.Laid.{LaidResult, LaidOwn, Laid};
-ghost use Rattle.table.specs.Places.{Stands, PortIn};
+ghost use Rattle.table.specs.Places.{Stands, StandsOn, PortIn};
 ghost use Rattle.table.specs.Updates.{withStream, withSends, withOwn, withSender};
 ghost use Rattle.streams.specs.Answers.{classShown};
 ghost use Rattle.columns.specs.Stages as stages;
