@@ -14,7 +14,7 @@ use Rattle.model.specs.Layout.{inCell, cellIndex}
 use Rattle.model.specs.State.{Settings, Port, none, failed, Class, noClass, classA, classB, isNoClass, Talker, noTalker, talker, Cell, Stream, noFixed, portAt, cellAt, classOf, classLatency}
 use Rattle.model.specs.WrittenFrames.{priorityOctet, fixedNumbers, fixedFrom}
 use Rattle.model.specs.Settling.{Source, sourceOf, fixedOf, latencyOf, talkerTypeOf, failedColumn, streamClass, capped, latencyOut}
-use Rattle.model.specs.Table.{toPort, portFrom, cellNumbers, talkerNumbers, registrationFrom, fixedFrom, toTalkerType, toCell}
+use Rattle.model.specs.Table.{toPort, portFrom, cellNumbers, talkerNumbers, registrationFrom, toTalkerType, toCell}
 use Rattle.model.specs.Laid.{FitRank}
 use Rattle.model.proofs.Fits.{laid-cell-fits}
 use Rattle.table.specs.Reads.{ReadsCell, ReadsPort}
