@@ -2,7 +2,7 @@
 -- advance decides there, and the class totals: what is missing of the decision is the Listener declared.
 use Prim.Native.Nat.{ℕ, zero, suc, _+_, _*_, _≤_, _<_}
 use mathlib.Core.Path.{_≡_, refl, sym, _∙_, ap}
-use mathlib.Core.List.{List, [], _∷_, _++_, map}
+use mathlib.Core.List.{List, [], _∷_, map}
 use mathlib.Core.Bool.{Bool, true, false, cond, not, _&&_, true≢false, false≢true}
 use native.Mathlib.Omega.{arith}
 use native.Mathlib.Nat.{add-zero, zero-add}
@@ -13,7 +13,7 @@ use borrow.Author.Tests.{lt-ltb, le-ltb, eqb-true, eqb-false}
 use Rattle.model.specs.Lists.{keep, tabulate}
 use Rattle.model.specs.State.{Settings, Column, advertise, failed, filters, forwards, Result, Sender, Stream, Totals, Bridge, noTotals, unsettled, inForce, portAt, isPort, cellAt, resultAt, Class, noClass, classA, classB, classOf, isNoClass, sameClass}
 use Rattle.model.specs.Bandwidth.{Claim, remains, admitted, sort, reserved, total}
-use Rattle.model.specs.Settling.{Scene, Source, nowhere, from, sourceOf, fixedOf, streamClass, registered, isReady, clear, inboundOf, steps, stepsFrom, lastSteps, ageOf, claim, claims, limitOn, leftFor, byBandwidth, columnOf, entryOf, ageKept, latencyKept, totalOn, totalsOn, isAdvertise, bandwidthSteps, first, outcomeColumn}
+use Rattle.model.specs.Settling.{Scene, Source, nowhere, from, sourceOf, fixedOf, streamClass, registered, isReady, clear, steps, stepsFrom, ageOf, claim, claims, limitOn, leftFor, byBandwidth, columnOf, entryOf, ageKept, latencyKept, totalOn, totalsOn, isAdvertise, bandwidthSteps, first, outcomeColumn}
 use Rattle.model.proofs.Lists.{and-true, and-false}
 use Rattle.model.proofs.AdvanceKeepsForm.{length-tabulate}
 use Rattle.model.proofs.Admission.{Two, lo, hi, two}
@@ -67,7 +67,7 @@ module _ (sc : Scene) (q : ℕ) (x : Stream) where
   unfolding steps stepsFrom streamClass fixedOf isNoClass clear
   no-class e = simp (go (sourceOf x) e, and-false)
     where
-      go : (t : Source) → classOf (sc .settings) (fixedOf t .priority) ≡ noClass → clear (stepsFrom sc q (cellAt x q) t ++ lastSteps sc q (inboundOf x)) ≡ false
+      go : (t : Source) → classOf (sc .settings) (fixedOf t .priority) ≡ noClass → clear (stepsFrom sc q (cellAt x q) (x .id) t) ≡ false
       go nowhere e = refl
       go (from o) e = simp (e, and-false)
 

@@ -7,7 +7,7 @@ use native.Mathlib.Omega.{arith}
 use lib.ListN.{length, drop}
 use Rattle.model.specs.Lists.{tabulate}
 use Rattle.model.specs.State.{Fixed, Result, Stream, resultAt, cellAt, unsettled}
-use Rattle.model.specs.Settling.{Scene, sourceOf, fixedOf, inboundOf, steps, latencyOut, streamClass}
+use Rattle.model.specs.Settling.{Scene, sourceOf, fixedOf, steps, latencyOut, streamClass}
 use Rattle.model.specs.Laid.{FitResult, FitStream}
 use Rattle.model.proofs.ColumnRule.{tabulate-same}
 use Rattle.table.specs.Updates.{settledAs}
@@ -21,7 +21,7 @@ use Rattle.columns.proofs.EarlyFits.{early-result-fits}
 same-early : (sc : Scene) (now : ℕ) (x : Stream) (f : Fixed) (rs : List Result) (p : ℕ)
     → resultAt record { id = x .id; settled = f; cells = x .cells; results = rs; sends = x .sends } p ≡ resultAt x p
     → earlyAt sc now record { id = x .id; settled = f; cells = x .cells; results = rs; sends = x .sends } p ≡ earlyAt sc now x p
-unfolding earlyAt shownAs earlyColumn steps inboundOf latencyOut streamClass sourceOf cellAt
+unfolding earlyAt shownAs earlyColumn steps latencyOut streamClass sourceOf cellAt
 same-early sc now x f rs p e = rw e
 
 module _ (sc : Scene) (now : ℕ) (x : Stream) where

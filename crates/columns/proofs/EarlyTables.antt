@@ -21,7 +21,7 @@ use Rattle.model.proofs.Fits.{laid-fits}
 use Rattle.table.specs.Updates.{settledAs, withStream, withResult, withSettled}
 use Rattle.table.specs.Places.{Stands, StandsOn}
 use Rattle.table.specs.Reads.{ReadsCell, fixedOctets}
-use Rattle.table.proofs.ByPlace.{inbound-same, stands, stands-on, stream-fits, stream-same, stream-replaced-stands, stream-replaced-read, stream-replaced-at, stream-replaced-scene, stream-replaced-again, settled-as-fits, cell-at, settled-replaced, changed-result-at}
+use Rattle.table.proofs.ByPlace.{stands, stands-on, stream-fits, stream-same, stream-replaced-stands, stream-replaced-read, stream-replaced-at, stream-replaced-scene, stream-replaced-again, settled-as-fits, cell-at, settled-replaced, changed-result-at}
 use Rattle.table.proofs.EachStream.{partly, partly-scene, partly-stands, partly-laid, partly-many, partly-before, one-more, all-done}
 use Rattle.streams.specs.Answers.{talkerPort, sourceIn}
 use Rattle.streams.proofs.Sources.{source-at}
@@ -77,13 +77,15 @@ module _ {table : List ℕ} {k : ℕ} (s : Stands table k) (x : Stream) (w : Fit
   }
 
   pub failure-kept : {t common : ℕ} → FailureAt table k t common → FailureAt u k t common
+  unfolding sourceOf
   failure-kept i = record {
     talker = talker-kept (i .talker);
     is =
         rw (
           stream-replaced-scene s x w same u e cells,
           stream-replaced-at s x w same u e,
-          inbound-same x (streamAt k (decode table)) same cells,
+          same,
+          cells,
         )
         (i .is);
   }

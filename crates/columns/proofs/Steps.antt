@@ -1,6 +1,6 @@
 -- Which of the steps before h is the first that applies, by the octets that the code tests.
 use mathlib.Core.Path.{_≡_, refl, sym, ap, _∙_}
-use mathlib.Core.List.{List, [], _∷_, _++_}
+use mathlib.Core.List.{List, [], _∷_}
 use mathlib.Core.Bool.{Bool, true, false, cond, not}
 use mathlib.Core.Logic.{_⊎_, ⊎-elim}
 use Prim.Native.Nat.{ℕ, _/_, _≤_, _<_}
@@ -12,22 +12,22 @@ use borrow.Author.Tests.{ne-eqb, lt-ltb, le-ltb}
 use Rattle.octets.specs.Be.{beAt}
 use Rattle.octets.specs.Fields.{fields}
 use Rattle.model.specs.Layout.{inCell, inPort}
-use Rattle.model.specs.Lists.{isOne}
-use Rattle.model.specs.State.{Bridge, Port, talkerAdvertise, talkerFailed, Own, Stream, Class, noClass, classA, classB, noOwn, portAt, isPort, cellAt, ownAt, classOf, isNoClass, supports}
+use Rattle.model.specs.Lists.{All, isOne}
+use Rattle.model.specs.State.{Bridge, Port, talkerAdvertise, talkerFailed, Own, Stream, Class, noClass, classA, classB, noOwn, noFixed, portAt, isPort, cellAt, ownAt, classOf, isNoClass, supports}
 use Rattle.model.specs.Frames.{priorityOf}
-use Rattle.model.specs.Settling.{Scene, sceneOf, Inbound, boundary, sourceOf, fixedOf, isTalking, isTalkerFailed, isPruned, inboundOf, inboundsOf, shares, isKeptOut, StepName, stepA, stepB, stepC, stepD, stepE, stepF, stepG, stepI, stepJ, stepK, stepL, stepM, stepN, Step, stepsFrom, lastSteps, steps}
-use Rattle.model.specs.Table.{toPort, toCell, registrationFrom, toTalkerType, portFrom}
+use Rattle.model.specs.Settling.{Scene, sceneOf, Inbound, boundary, sourceOf, fixedOf, isTalking, isTalkerFailed, isPruned, inboundOf, inboundsOf, shares, isKeptOut, StepName, stepA, stepB, stepC, stepD, stepE, stepF, stepG, stepI, stepJ, stepK, stepL, stepM, stepN, Step, stepsFrom, lastSteps, steps, Source, nowhere, from, clear}
+use Rattle.model.specs.Table.{toPort, toCell, registrationFrom, toTalkerType, portFrom, fixedFrom}
 use Rattle.model.specs.Why.{letter, sameStep, firstName}
 use Rattle.model.proofs.SettingsOctets.{octet-field}
-use Rattle.model.proofs.Why.{name-stays, name-clear, first-clear}
+use Rattle.model.proofs.Why.{Before, before-from, clear-named, name-stays, name-clear}
 use Rattle.streams.specs.Answers.{sourceIn}
 use Rattle.streams.proofs.Sources.{no-talker, a-talker}
-use Rattle.fanin.specs.Failures.{commonFailure}
+use Rattle.fanin.specs.Failures.{failureFrom, commonFailure}
 use Rattle.columns.specs.declared.Edges.{Edges}
 use Rattle.columns.specs.declared.Step as declared
 use Rattle.columns.specs.declared.Step.the-variants.{None, A, B, C, D, E, F, G, H, I, J, K, L, M, N}
 use Rattle.columns.specs.Answers.{sizePlace}
-use Rattle.columns.specs.Steps.{stepShown, edgeOf, EdgesOf}
+use Rattle.columns.specs.Steps.{stepShown, stepsBefore, stepsSince, edgeOf, EdgesOf}
 use Rattle.columns.specs.Places.{SceneOn}
 use Rattle.columns.specs.Stages.{lastStep}
 use Rattle.model.specs.WrittenFrames.{fixedFrom}
@@ -85,17 +85,18 @@ module _ (sc : Scene) (here said : List ℕ) (p t : ℕ) where
   abbrev pub from-a : StepName
   from-a = cond (eqb p t) stepA from-b
 
-  abbrev pub decided : StepName
-  decided = firstName (stepsFrom sc p (toCell here) (sourceIn t (toCell said))) stepI
+  -- the first of them, of the stream with StreamID n
+  abbrev pub decided : ℕ → StepName
+  decided n = firstName (stepsBefore stepL (stepsFrom sc p (toCell here) n (sourceIn t (toCell said)))) stepI
 
   -- a, no Talker port
-  pub no-source : getD said 0 0 ≡ 0 → stepA ≡ decided
-  unfolding sourceIn stepsFrom firstName
-  no-source e = rw (no-talker said e)
+  pub no-source : (n : ℕ) → getD said 0 0 ≡ 0 → stepA ≡ decided n
+  unfolding sourceIn stepsFrom stepsBefore firstName sameStep letter
+  no-source n e = rw (no-talker said e)
 
-  pub steps-asked : (getD said 0 0 ≡ 0 → ⊥) → decided ≡ from-a
-  unfolding sourceIn fixedOf registrationFrom stepsFrom firstName isOne fields fixedFrom priorityOf
-  steps-asked k = rw (a-talker said k, octet-field said 0, octet-field said inCell.changed, failed-asked)
+  pub steps-asked : (n : ℕ) → (getD said 0 0 ≡ 0 → ⊥) → decided n ≡ from-a
+  unfolding sourceIn fixedOf registrationFrom stepsFrom stepsBefore firstName sameStep letter isOne fields fixedFrom priorityOf
+  steps-asked n k = rw (a-talker said k, octet-field said 0, octet-field said inCell.changed, failed-asked)
 
 -- the flag of a class, in a scene
 pub edge-is : (e : Edges) (o : Own) → EdgesOf e o → (c : Class) → edgeOf e c ≡ boundary o c
@@ -119,24 +120,47 @@ module _ (common : ℕ) (q : Port) (port said : List ℕ) (there : toPort port �
     unfolding lastStep toPort portFrom fields
     no-step h = rw (ne-eqb common 5 (none .0), ne-eqb common 15 (none .1), ← there, ← e, ← f, le-ltb a b h)
 
--- A place that is no port has column none; a port has what its first steps give, and its last ones where none of them applies.
+-- A place that is no port has column none; a port has what the steps before one of them give, and those from it on where none of these
+-- applies.
 
-first-append : (l m : List Step) (n : StepName) → firstName (l ++ m) n ≡ firstName l (firstName m n)
-unfolding firstName
-first-append [] m n = refl
-first-append (s ∷ l) m n = ap (λ (d : StepName). cond (s .test) (s .name) d) (first-append l m n)
+first-split : (m : StepName) (l : List Step) (n : StepName) → firstName l n ≡ firstName (stepsBefore m l) (firstName (stepsSince m l) n)
+unfolding firstName stepsBefore stepsSince
+first-split m [] n = refl
+first-split m (s ∷ l) n = go (sameStep (s .name) m) (first-split m l n)
+  where
+    go : (b : Bool) → firstName l n ≡ firstName (stepsBefore m l) (firstName (stepsSince m l) n)
+        → cond (s .test) (s .name) (firstName l n) ≡ firstName (cond b [] (s ∷ stepsBefore m l)) (firstName (cond b (s ∷ l) (stepsSince m l)) n)
+    go true ih = refl
+    go false ih = ap (λ (d : StepName). cond (s .test) (s .name) d) ih
+
+all-before : (P : Step → Type 0) (m : StepName) (l : List Step) → All P l → All P (stepsBefore m l)
+unfolding stepsBefore
+all-before P m [] a = tt
+all-before P m (s ∷ l) a = go (sameStep (s .name) m) (all-before P m l (a .1))
+  where
+    go : (b : Bool) → All P (stepsBefore m l) → All P (cond b [] (s ∷ stepsBefore m l))
+    go true ih = tt
+    go false ih = (a .0, ih)
 
 module _ (sc : Scene) (p : ℕ) (x : Stream) where
   pub no-port : length (sc .settings .ports) ≤ p → stepA ≡ firstName (steps sc p x) stepI
   unfolding steps firstName isPort
   no-port h = rw (le-ltb p (length (sc .settings .ports)) h)
 
-  last-steps : (common : ℕ) → common ≡ commonFailure sc (inboundOf x)
-      → firstName (lastSteps sc p (inboundOf x)) stepI ≡ lastStep common (portAt (sc .settings) p) (fixedOf (sourceOf x) .size)
-  unfolding firstName lastSteps lastStep commonFailure inboundOf
-  last-steps common e = rw e (go (shares (sc .inbound) (inboundOf x)) (isKeptOut (sc .settings .fanIn) (sc .inbound) (sourceOf x)))
+  abbrev pub all : List Step
+  all = stepsFrom sc p (cellAt x p) (x .id) (sourceOf x)
+
+  first-clear : clear (stepsBefore stepL all) ≡ sameStep (firstName (stepsBefore stepL all) stepI) stepI
+  first-clear = clear-named (stepsBefore stepL all) (all-before Before stepL all (before-from sc p (cellAt x p) (x .id) (sourceOf x)))
+
+  last-from : (o : Source) (common : ℕ) → common ≡ failureFrom sc (x .id) o
+      → firstName (stepsSince stepL (stepsFrom sc p (cellAt x p) (x .id) o)) stepI ≡ lastStep common (portAt (sc .settings) p) (fixedOf o .size)
+  unfolding firstName stepsSince stepsFrom sameStep letter lastStep failureFrom fixedOf noFixed
+  last-from nowhere common e = rw (e, le-ltb (portAt (sc .settings) p .largest) 0 (omega arith))
+  last-from (from o) common e =
+      rw e (go (shares (sc .inbound) record { id = x .id; origin = o }) (isKeptOut (sc .settings .fanIn) (sc .inbound) o))
     where
-      go : (a b : Bool) → let rest = cond (ltb (portAt (sc .settings) p .largest) (fixedOf (sourceOf x) .size)) stepG stepI in
+      go : (a b : Bool) → let rest = cond (ltb (portAt (sc .settings) p .largest) (o .registration .fixed .size)) stepG stepI in
           cond a stepL (cond b stepM rest)
           ≡ cond (eqb (cond a 5 (cond b 15 0)) 5) stepL (cond (eqb (cond a 5 (cond b 15 0)) 15) stepM rest)
       go true b = refl
@@ -144,10 +168,9 @@ module _ (sc : Scene) (p : ℕ) (x : Stream) where
       go false false = refl
 
   -- the step of a port, from what the two functions give
-  pub a-port : p < length (sc .settings .ports) → firstName (steps sc p x) stepI
-      ≡ firstName (stepsFrom sc p (cellAt x p) (sourceOf x)) (firstName (lastSteps sc p (inboundOf x)) stepI)
+  a-port : p < length (sc .settings .ports) → firstName (steps sc p x) stepI ≡ firstName (stepsBefore stepL all) (firstName (stepsSince stepL all) stepI)
   unfolding steps firstName isPort
-  a-port h = rw (lt-ltb p (length (sc .settings .ports)) h) (first-append (stepsFrom sc p (cellAt x p) (sourceOf x)) (lastSteps sc p (inboundOf x)) stepI)
+  a-port h = rw (lt-ltb p (length (sc .settings .ports)) h) (first-split stepL all stepI)
 
 -- Another step than i, and what the code finds of one.
 
@@ -175,24 +198,29 @@ none-but-i = ⊎-elim (λ z. omega arith) (⊎-elim (λ z. omega arith) (⊎-eli
 -- What the first steps named, and what follows it.
 
 module _ (sc : Scene) (p : ℕ) (x : Stream) (h : p < length (sc .settings .ports)) (r : declared.Step)
-    (e : stepShown r ≡ firstName (stepsFrom sc p (cellAt x p) (sourceOf x)) stepI) where
+    (e : stepShown r ≡ firstName (stepsBefore stepL (all sc p x)) stepI) where
   pub goes-no-further : (r ≡ I → ⊥) → stepShown r ≡ firstName (steps sc p x) stepI
   goes-no-further n =
-      e ∙ sym (a-port sc p x h ∙ name-stays (firstName (lastSteps sc p (inboundOf x)) stepI) (stepsFrom sc p (cellAt x p) (sourceOf x)) (ap (λ (m : StepName). sameStep m stepI) (sym e) ∙ other-step r n))
+      e
+      ∙ sym (a-port sc p x h
+      ∙ name-stays (firstName (stepsSince stepL (all sc p x)) stepI) (stepsBefore stepL (all sc p x)) (ap (λ (m : StepName). sameStep m stepI) (sym e) ∙ other-step r n))
 
-  pub goes-on : r ≡ I → (common size : ℕ) → common ≡ commonFailure sc (inboundOf x) → size ≡ fixedOf (sourceOf x) .size
+  pub goes-on : r ≡ I → (common size : ℕ) → common ≡ commonFailure sc x → size ≡ fixedOf (sourceOf x) .size
       → firstName (steps sc p x) stepI ≡ lastStep common (portAt (sc .settings) p) size
   unfolding stepShown
   goes-on f common size g q =
       a-port sc p x h
-      ∙ name-clear (firstName (lastSteps sc p (inboundOf x)) stepI) (stepsFrom sc p (cellAt x p) (sourceOf x))
+      ∙ name-clear (firstName (stepsSince stepL (all sc p x)) stepI) (stepsBefore stepL (all sc p x))
       (first-clear sc p x ∙ ap (λ (m : StepName). sameStep m stepI) (sym e) ∙ rw f (unfold sameStep letter in refl))
-      ∙ last-steps sc p x common g ∙ rw q
+      ∙ last-from sc p x (sourceOf x) common g ∙ rw q
 
 -- the own failure on every port is that in any scene of the bridge
-pub same-failure : {b : Bridge} {p : ℕ} {e : Edges} {sc : Scene} (i : Inbound) (common : ℕ) → SceneOn b p e sc → common ≡ commonFailure (sceneOf b) i → common ≡ commonFailure sc i
-unfolding commonFailure
-same-failure i common w e = rw (w .settings, w .inbound) e
+pub same-failure : {b : Bridge} {p : ℕ} {e : Edges} {sc : Scene} (x : Stream) (common : ℕ) → SceneOn b p e sc → common ≡ commonFailure (sceneOf b) x → common ≡ commonFailure sc x
+same-failure {b} {p} {e} {sc} x common w f = f ∙ go (sourceOf x)
+  where
+    go : (o : Source) → failureFrom (sceneOf b) (x .id) o ≡ failureFrom sc (x .id) o
+    go nowhere = unfold failureFrom in refl
+    go (from o) = unfold failureFrom in (rw (w .settings, w .inbound))
 
 -- whatever the flags, there is a scene of the bridge with them, so that the step named is one for every input
 abbrev flagged : Edges → Own → Own

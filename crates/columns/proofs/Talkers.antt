@@ -1,5 +1,5 @@
--- What the cell at a stream's Talker port says in fields that are zero without a Talker: latency, MaxFrameSize, priority, and the
--- fixed values' octets.
+-- What the cell at a stream's Talker port says in fields that are zero without a Talker: latency, destination, MaxFrameSize,
+-- priority, and the fixed values' octets.
 use mathlib.Core.Path.{_≡_, refl, sym, ap, _∙_}
 use mathlib.Core.List.{List}
 use mathlib.Core.Bool.{Bool, true, false, false≢true, true≢false}
@@ -42,6 +42,11 @@ unfolding fixedOf noFixed sourceIn cellNumbers talkerNumbers fixedNumbers
 size-number t noTalker c e = rw e
 size-number t (talker r) c e = rw e
 
+destination-number : (t : ℕ) (k : Talker) (c : Cell) → c .talks ≡ k → getD (cellNumbers c) cellIndex.fixed 0 ≡ fixedOf (sourceIn t c) .destination
+unfolding fixedOf noFixed sourceIn cellNumbers talkerNumbers fixedNumbers
+destination-number t noTalker c e = rw e
+destination-number t (talker r) c e = rw e
+
 -- The failure that the octets of a cell say, by their kind.
 
 module _ (s : List ℕ) (t : ℕ) where
@@ -59,11 +64,6 @@ module _ (s : List ℕ) (t : ℕ) where
   unfolding sourceIn talkerTypeOf failedColumn registrationFrom toTalkerType fields
   a-failure h =
       rw (a-talker s (λ e. omega (arith, e)), octet-field s 0, octet-field s inCell.code, ne-eqb (getD s 0 0) 1 (λ e. omega (arith, e)))
-
--- The destination that they say.
-pub destination-said : (s : List ℕ) (t : ℕ) → (getD s 0 0 ≡ 0 → ⊥) → beAt 6 s inCell.fixed ≡ fixedOf (sourceIn t (toCell s)) .destination
-unfolding sourceIn fixedOf registrationFrom fixedFrom fields
-destination-said s t n = rw (a-talker s n)
 
 -- The latency of a class in a port's octets.
 
@@ -95,6 +95,13 @@ module _ (x : Stream) (t : ℕ) (e : t ≡ talkerPort (sourceOf x)) (s : List �
       ap (λ (vs : List ℕ). getD vs (cellIndex.fixed + 2) 0) (numbers-laid s (r .laid))
       ∙ size-number t (toCell s .talks) (toCell s) refl
       ∙ ap (λ (o : Source). fixedOf o .size) (source-read x t e s r)
+
+  pub destination-read : beAt 6 s inCell.fixed ≡ fixedOf (sourceOf x) .destination
+  unfolding fields
+  destination-read =
+      ap (λ (vs : List ℕ). getD vs cellIndex.fixed 0) (numbers-laid s (r .laid))
+      ∙ destination-number t (toCell s .talks) (toCell s) refl
+      ∙ ap (λ (o : Source). fixedOf o .destination) (source-read x t e s r)
 
   priority-read : beAt 1 s inCell.priority / 32 ≡ fixedOf (sourceOf x) .priority
   unfolding fields

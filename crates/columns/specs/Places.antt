@@ -2,12 +2,13 @@
 -- after another.
 use mathlib.Core.Path.{_≡_}
 use mathlib.Core.List.{List, _++_}
+use mathlib.Core.Bool.{Bool}
 use Prim.Native.Nat.{ℕ, _<_}
-use lib.ListN.{length, getD, set, drop}
+use lib.ListN.{length, set, drop}
 use Rattle.model.specs.Layout.{cellSize}
 use Rattle.model.specs.Lists.{tabulate}
 use Rattle.model.specs.State.{Stream, Bridge, ownAt}
-use Rattle.model.specs.Settling.{Scene, sceneOf, sourceOf, inboundOf, inboundsOf}
+use Rattle.model.specs.Settling.{Scene, sceneOf, Source, sourceOf, fixedOf, isPruned, inboundsOf}
 use Rattle.model.specs.Table.{decode}
 use Rattle.model.specs.Laid.{Laid}
 use Rattle.table.specs.Updates.{resulting, streamAt, withStream}
@@ -25,10 +26,9 @@ pub record Asked (table here talker : List ℕ) (p : ℕ) : Type 0 where
   pub here-size : length here ≡ cellSize
   pub talker-size : length talker ≡ cellSize
 
--- the cell of a port that has a Talker
-pub record TalkerIn (said : List ℕ) : Type 0 where
-  pub size : length said ≡ cellSize
-  pub talks : getD said 0 0 ≡ 0 → ⊥
+-- a Talker is pruned on the port at place p
+abbrev pub prunedOn : Bridge → ℕ → Source → Bool
+prunedOn b p o = isPruned (b .settings) (ownAt (b .owns) p) (fixedOf o)
 
 -- a scene of the bridge b in which the port at place p has these flags; there is one for any two flags, since of the scene's own parts
 -- nothing else is asked but that the port has the bridge's addresses
@@ -46,7 +46,7 @@ pub record TalkerAt (s : List ℕ) (k t : ℕ) : Type 0 where
 -- with the own failure that it has on every port
 pub record FailureAt (s : List ℕ) (k t common : ℕ) : Type 0 where
   pub talker : TalkerAt s k t
-  pub is : common ≡ commonFailure (sceneOf (decode s)) (inboundOf (streamAt k (decode s)))
+  pub is : common ≡ commonFailure (sceneOf (decode s)) (streamAt k (decode s))
 
 -- stream k changed by what g makes of the scene and the stream
 abbrev pub changedAt : ℕ → (Scene → Stream → Stream) → Bridge → Bridge

@@ -1,8 +1,11 @@
 -- The code's answers about steps in the words of the definitions, and a port's flags.
 use mathlib.Core.Path.{_≡_}
-use mathlib.Core.Bool.{Bool, false}
+use mathlib.Core.List.{List, [], _∷_}
+use mathlib.Core.Bool.{Bool, false, cond}
 use Rattle.model.specs.State.{Own, Class, noClass, classA, classB}
 use Rattle.model.specs.Settling.{Outcome, columnNone, asRegistered, asAdvertise, ownFailure, About, StepName, noStep, stepA, stepB, stepC, stepD, stepE, stepF, stepG, stepH, stepI, stepJ, stepK, stepL, stepM, stepN}
+use Rattle.model.specs.Settling as model
+use Rattle.model.specs.Why.{sameStep}
 use Rattle.columns.specs.declared.Step.{Step}
 use Rattle.columns.specs.declared.Step.the-variants.{None, A, B, C, D, E, F, G, H, I, J, K, L, M, N}
 use Rattle.columns.specs.declared.Outcome as declared
@@ -27,6 +30,15 @@ stepShown K = stepK
 stepShown L = stepL
 stepShown M = stepM
 stepShown N = stepN
+
+-- the steps before one, and those from it on
+unfoldable pub stepsBefore : StepName → List model.Step → List model.Step
+stepsBefore n [] = []
+stepsBefore n (s ∷ l) = cond (sameStep (s .name) n) [] (s ∷ stepsBefore n l)
+
+unfoldable pub stepsSince : StepName → List model.Step → List model.Step
+stepsSince n [] = []
+stepsSince n (s ∷ l) = cond (sameStep (s .name) n) (s ∷ l) (stepsSince n l)
 
 -- what is told of a step
 unfoldable pub outcomeShown : declared.Outcome → Outcome

@@ -10,7 +10,7 @@ ghost use Rattle.model.specs.Layout.{cellSize, inResult, inCell, portSize, resu
 ghost use Rattle.model.specs.State as state;
 ghost use Rattle.model.specs.State.{isNoClass, classLatency, portAt, cellAt, ownAt, failed};
 ghost use Rattle.model.specs.Settling as model;
-ghost use Rattle.model.specs.Settling.{Scene, sceneOf, isInbound, isPruned, sourceOf, fixedOf, talkerTypeOf, failedColumn, stepI, stepsFrom, steps, ageOf, latencyOut, entryOf, ageKept};
+ghost use Rattle.model.specs.Settling.{Scene, sceneOf, isInbound, sourceOf, fixedOf, talkerTypeOf, failedColumn, stepI, stepL, stepsFrom, steps, ageOf, latencyOut, entryOf, ageKept};
 ghost use Rattle.model.specs.Why.{firstName, columnBy};
 ghost use Rattle.model.specs.Table.{toPort, toCell, toResult, toEntry, toDeclared, entryNumber, resultOctets, encode, decode};
 ghost use Rattle.model.specs.Laid.{Laid};
@@ -21,8 +21,8 @@ ghost use Rattle.fanin.specs.Sets.{setTo};
 ghost use Rattle.fanin.specs.Places.{SettledTo};
 ghost use Rattle.columns.specs.Stages.{shownBy, lastStep, earlyColumn, early, earlyAll};
 ghost use Rattle.columns.specs.Answers.{columnShown, latencyPlaceOf, sizePlace, columnWidths, columnNumbers, entryWidths, entrySize};
-ghost use Rattle.columns.specs.Steps.{stepShown, aboutShown, edgeOf, EdgesOf};
-ghost use Rattle.columns.specs.Places.{Asked, TalkerIn, SceneOn, TalkerAt, FailureAt, changedAt, earlyOne, earlyTo};
+ghost use Rattle.columns.specs.Steps.{stepShown, stepsBefore, aboutShown, edgeOf, EdgesOf};
+ghost use Rattle.columns.specs.Places.{Asked, prunedOn, SceneOn, TalkerAt, FailureAt, changedAt, earlyOne, earlyTo};
 use streams::ClassRead;
 use table::cell;
 use table::port;
@@ -125,6 +125,12 @@ pub struct Edges {
     pub b: bool,
 }
 
+// What a port's own part says of a stream: the port's flags, and whether the stream's Talker is pruned there.
+pub struct OwnRead {
+    pub edges: Edges,
+    pub pruned: bool,
+}
+
 // Whether a port with these flags is at the edge of a class's domain.
 fn at_edge(edges: Edges, class: ClassRead) -> bool
     ensures { λ r. ⌜ r ≡ edgeOf edges (classShown class) ⌝ }
@@ -148,26 +154,25 @@ fn stored_edges(table: &[u8], p: usize) -> Edges
     }
 }
 
-// Whether the port at place p gets no Talker as the cell said has registered it: Talkers are pruned, and the port doesn't hold the
-// destination.
-fn is_pruned(table: &[u8], said: &[u8], p: usize) -> bool
-    requires { ⌜ PortIn (now table) p × TalkerIn (now said) ⌝ }
-    ensures { λ r. ⌜ ((t : ℕ) → r ≡ isPruned (decode (now (table .entry)) .settings) (ownAt (decode (now (table .entry)) .owns) p)
-        (fixedOf (sourceIn t (toCell (now (said .entry)))))) ⌝ }
+// Whether the port at place p gets no Talker of stream k: Talkers are pruned, and it doesn't hold the destination at place t.
+pub fn is_pruned(table: &[u8], k: usize, p: usize, t: usize) -> bool
+    requires { ⌜ TalkerAt (now table) k t × (p < 8) ⌝ }
+    ensures { λ r. ⌜ r ≡ prunedOn (decode (now (table .entry))) p (sourceOf (streamAt k (decode (now (table .entry))))) ⌝ }
 {
     if table::pruning(table) {
+        let said = table::cell_at(table, k, t);
         let destination = octets::get(said, cell::DESTINATION, 6);
         return !addresses::holds(table::own_at(table, p), destination);
     }
     false
 }
 
-// Steps a to f, j, k and n on the port at place p with these flags, whose cell is here, for the Talker's cell said at place t: the
-// first that applies, i where none does.
-fn first_step(table: &[u8], here: &[u8], said: &[u8], p: usize, t: usize, edges: Edges) -> Step
-    requires { ⌜ Asked (now table) (now here) (now said) p ⌝ }
-    ensures { λ r. ⌜ ((sc : Scene) → SceneOn (decode (now (table .entry))) p edges sc
-        → stepShown r ≡ firstName (stepsFrom sc p (toCell (now (here .entry))) (sourceIn t (toCell (now (said .entry))))) stepI) ⌝ }
+// The steps before l on the port at place p with these flags, whose cell is here, for the Talker's cell said at place t, which is
+// pruned there or not: the first that applies, i where none does.
+fn first_step(table: &[u8], here: &[u8], said: &[u8], p: usize, t: usize, own: OwnRead) -> Step
+    requires { ⌜ Asked (now table) (now here) (now said) p × (own .pruned ≡ prunedOn (decode (now table)) p (sourceIn t (toCell (now said)))) ⌝ }
+    ensures { λ r. ⌜ ((sc : Scene) (n : ℕ) → SceneOn (decode (now (table .entry))) p (own .edges) sc
+        → stepShown r ≡ firstName (stepsBefore stepL (stepsFrom sc p (toCell (now (here .entry))) n (sourceIn t (toCell (now (said .entry)))))) stepI) ⌝ }
 {
     let kind = said[cell::TALKER];
     let mark = said[cell::CHANGED];
@@ -181,7 +186,7 @@ fn first_step(table: &[u8], here: &[u8], said: &[u8], p: usize, t: usize, edges:
     if !supports(table::port_at(table, p), class) {
         return Step::B;
     }
-    if is_pruned(table, said, p) {
+    if own.pruned {
         return Step::N;
     }
     if kind != 1 {
@@ -199,13 +204,14 @@ fn first_step(table: &[u8], here: &[u8], said: &[u8], p: usize, t: usize, edges:
     if no_class(class) {
         return Step::F;
     }
+    let edges = own.edges;
     if at_edge(edges, class) {
         return Step::J;
     }
     Step::I
 }
 
-// The steps behind them, for the Talker's cell said: the own failure that the stream has on every port, then g.
+// The steps from l on, for the Talker's cell said: the own failure that the stream has on every port, then g.
 fn last_step(table: &[u8], said: &[u8], p: usize, common: u8) -> Step
     requires { ⌜ PortIn (now table) p × (length (now said) ≡ cellSize) ⌝ }
     ensures { λ r. ⌜ stepShown r ≡ lastStep common (portAt (decode (now (table .entry)) .settings) p) (beAt 2 (now (said .entry)) sizePlace) ⌝ }
@@ -224,10 +230,10 @@ fn last_step(table: &[u8], said: &[u8], p: usize, common: u8) -> Step
 }
 
 // The first step before h that applies to stream k on the port at place p, where t is its Talker's place, common the own failure that
-// it has on every port, and edges the port's flags; i where none does.
-pub fn early_step(table: &[u8], k: usize, p: usize, t: usize, common: u8, edges: Edges) -> Step
-    requires { ⌜ FailureAt (now table) k t common × (p < 8) ⌝ }
-    ensures { λ r. ⌜ ((sc : Scene) → SceneOn (decode (now (table .entry))) p edges sc
+// it has on every port, and own the port's flags, whatever they are, and whether the Talker is pruned there; i where none does.
+pub fn early_step(table: &[u8], k: usize, p: usize, t: usize, common: u8, own: OwnRead) -> Step
+    requires { ⌜ FailureAt (now table) k t common × (p < 8) × (own .pruned ≡ prunedOn (decode (now table)) p (sourceOf (streamAt k (decode (now table))))) ⌝ }
+    ensures { λ r. ⌜ ((sc : Scene) → SceneOn (decode (now (table .entry))) p (own .edges) sc
         → stepShown r ≡ firstName (steps sc p (streamAt k (decode (now (table .entry))))) stepI) ⌝ }
 {
     if table::ports(table) <= p {
@@ -235,7 +241,7 @@ pub fn early_step(table: &[u8], k: usize, p: usize, t: usize, common: u8, edges:
     }
     let here = table::cell_at(table, k, p);
     let talker = table::cell_at(table, k, t);
-    let step = first_step(table, here, talker, p, t, edges);
+    let step = first_step(table, here, talker, p, t, own);
     let Step::I = step else {
         return step;
     };
@@ -275,8 +281,11 @@ fn early_column(table: &[u8], k: usize, p: usize, t: usize, common: u8) -> Colum
     requires { ⌜ FailureAt (now table) k t common × (p < 8) ⌝ }
     ensures { λ r. ⌜ columnShown r ≡ earlyColumn (sceneOf (decode (now (table .entry)))) p (streamAt k (decode (now (table .entry)))) ⌝ }
 {
-    let edges = stored_edges(table, p);
-    let step = early_step(table, k, p, t, common, edges);
+    let own = OwnRead {
+        edges: stored_edges(table, p),
+        pruned: is_pruned(table, k, p, t),
+    };
+    let step = early_step(table, k, p, t, common, own);
     column_of(table, table::cell_at(table, k, t), step)
 }
 

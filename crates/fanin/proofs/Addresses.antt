@@ -2,12 +2,12 @@
 -- StreamID.
 use mathlib.Core.Path.{_≡_, refl, sym, ap, _∙_}
 use mathlib.Core.List.{List, [], _∷_}
-use mathlib.Core.Bool.{Bool, true, false, not, _&&_, _||_, and-false}
+use mathlib.Core.Bool.{Bool, true, false, not, _&&_, _||_}
 use Prim.Native.Nat.{ℕ, zero, suc, _+_, _-_, _*_, _^_, _≤_, _<_}
 use native.Mathlib.Omega.{arith}
 use native.Mathlib.Numerals.{add-one}
 use lib.ListN.{length, getD}
-use lib.Dec.{ltb, eqb}
+use lib.Dec.{eqb}
 use borrow.Author.Tests.{eq-eqb, ne-eqb, eqb-true, eqb-false, lt-ltb, le-ltb}
 use Rattle.octets.specs.Be.{beAt}
 use Rattle.octets.specs.Fields.{fields}
@@ -17,9 +17,10 @@ use Rattle.model.specs.Lists.{All}
 use Rattle.model.specs.State.{Fixed, Stream, Bridge, fresh}
 use Rattle.model.specs.Registrations.{ids}
 use Rattle.model.specs.WrittenFrames.{fixedNumbers}
-use Rattle.model.specs.Settling.{Scene, sceneOf, Origin, Source, nowhere, from, sourceOf, fixedOf, Inbound, inboundOf, inboundsOf, sameAddress, sameAddressAt, shares, isKeptOut, mayBring}
+use Rattle.model.specs.Settling.{Scene, sceneOf, Origin, Source, nowhere, from, sourceOf, fixedOf, Inbound, inboundsOf, sameAddress, sameAddressAt, shares, isKeptOut, mayBring}
 use Rattle.model.specs.Table.{decode}
 use Rattle.model.specs.Laid.{Ascending}
+use Rattle.model.proofs.ComingIn.{atTalker, shares-more}
 use Rattle.model.proofs.Fits.{fit-fixed, laid-fits}
 use Rattle.table.specs.Updates.{streamAt}
 use Rattle.table.specs.Places.{Stands}
@@ -28,7 +29,7 @@ use Rattle.table.proofs.ByPlace.{stream-fits}
 use Rattle.streams.specs.Answers.{sourcePort}
 use Rattle.streams.specs.declared.SourceRead.the-variants.{Nowhere, Port}
 use Rattle.streams.proofs.Fixed.{settled-values}
-use Rattle.fanin.specs.Failures.{addressOf, hasAddress, anyFrom, sharesWith, isTaken, commonFailure}
+use Rattle.fanin.specs.Failures.{addressOf, hasAddress, anyFrom, sharesWith, isTaken, failureFrom, commonFailure}
 use Rattle.fanin.specs.Places.{SettledTo}
 
 -- The octets of an address.
@@ -127,31 +128,32 @@ address-same f g v w = go (eqb (f .destination) (g .destination)) (eqb (f .vlan)
         sym (ne-eqb (f .destination * 2 ^ 16 + f .vlan) (g .destination * 2 ^ 16 + g .vlan) (λ n. p (omega (arith, n, v, w))))
 
 address-at : (s : Source) (o : Origin) → fixedOf s .vlan < 65536 → o .registration .fixed .vlan < 65536
-    → sameAddressAt s (from o) ≡ hasAddress (addressOf (o .registration .fixed)) s
-unfolding sameAddressAt hasAddress fixedOf
+    → atTalker (λ q. sameAddressAt q o) s ≡ hasAddress (addressOf (o .registration .fixed)) s
+unfolding atTalker sameAddressAt hasAddress fixedOf
 address-at nowhere o v w = refl
 address-at (from q) o v w = address-same (q .registration .fixed) (o .registration .fixed) v w
 
 -- streams with a higher StreamID, or the stream's own, are none that it shares with
 none-higher : (s : List Stream) (i : Inbound) → All (λ j. i .id < j) (ids s) → shares (inboundsOf s) i ≡ false
-unfolding ids inboundsOf inboundOf shares
-none-higher [] i a = refl
-none-higher (y ∷ s) i a = rw (le-ltb (y .id) (i .id) (omega (arith, a .0)), none-higher s i (a .1))
+unfolding ids
+none-higher [] i a = unfold inboundsOf shares in refl
+none-higher (y ∷ s) i a = shares-more y s i ∙ rw (le-ltb (y .id) (i .id) (omega (arith, a .0)), none-higher s i (a .1))
 
 -- those before it have a lower one
-shares-before : (s : List Stream) (k : ℕ) (x : Stream) (f : ℕ → Bool) (m : ℕ) → Ascending (ids s) → k < length s → getD s k (fresh 0) ≡ x
-    → ((j : ℕ) → j < k → f (m + j) ≡ sameAddressAt (sourceOf (getD s j (fresh 0))) (sourceOf x)) → shares (inboundsOf s) (inboundOf x) ≡ anyFrom f m k
-unfolding ids inboundsOf inboundOf shares anyFrom
-shares-before [] k x f m a h e g = absurd (omega arith)
-shares-before (y ∷ s) zero x f m a h e g =
-    rw (← e, le-ltb (y .id) (y .id) (omega arith)) (none-higher s (inboundOf y) (a .0))
-shares-before (y ∷ s) (suc k) x f m a h e g =
+shares-before : (s : List Stream) (k : ℕ) (i : Inbound) (f : ℕ → Bool) (m : ℕ) → Ascending (ids s) → k < length s → getD s k (fresh 0) .id ≡ i .id
+    → ((j : ℕ) → j < k → f (m + j) ≡ atTalker (λ q. sameAddressAt q (i .origin)) (sourceOf (getD s j (fresh 0)))) → shares (inboundsOf s) i ≡ anyFrom f m k
+unfolding ids anyFrom
+shares-before [] k i f m a h e g = absurd (omega arith)
+shares-before (y ∷ s) zero i f m a h e g =
+    shares-more y s i ∙ rw (le-ltb (y .id) (i .id) (omega (arith, e))) (none-higher s i (rw e at (a .0)))
+shares-before (y ∷ s) (suc k) i f m a h e g =
     let z : m + 0 ≡ m = omega arith in
-    let here : f m ≡ sameAddressAt (sourceOf y) (sourceOf x) = rw z at (g 0 (omega arith)) in
-    let low : y .id < x .id = rw e at (all-at-id (λ j. y .id < j) s (a .0) k (omega arith)) in
-    rw (lt-ltb (y .id) (x .id) low, here)
-    (ap (λ (b : Bool). sameAddressAt (sourceOf y) (sourceOf x) || b)
-    (shares-before s k x f (suc m) (a .1) (omega arith) e
+    let here : f m ≡ atTalker (λ q. sameAddressAt q (i .origin)) (sourceOf y) = rw z at (g 0 (omega arith)) in
+    let low : y .id < i .id = rw e at (all-at-id (λ j. y .id < j) s (a .0) k (omega arith)) in
+    shares-more y s i
+    ∙ rw (lt-ltb (y .id) (i .id) low, here)
+    (ap (λ (b : Bool). atTalker (λ q. sameAddressAt q (i .origin)) (sourceOf y) || b)
+    (shares-before s k i f (suc m) (a .1) (omega arith) e
     (λ j l. let n : suc m + j ≡ m + suc j = omega arith in rw n (g (suc j) (omega arith)))))
   where
     all-at-id : (P : ℕ → Type 0) (s : List Stream) → All P (ids s) → (k : ℕ) → k < length s → P (getD s k (fresh 0) .id)
@@ -163,12 +165,11 @@ pub stands-before : {t : List ℕ} {k : ℕ} → Stands t k → (j : ℕ) → j 
 stands-before w j h = record { laid = w .laid; held = omega (arith, w .held) }
 
 module _ {t : List ℕ} (k : ℕ) (w : Stands t k) (o : Origin) (e : sourceOf (streamAt k (decode t)) ≡ from o) where
-  shares-found : shares (inboundsOf (decode t .streams)) (inboundOf (streamAt k (decode t))) ≡ isTaken (decode t) k
+  shares-found : shares (inboundsOf (decode t .streams)) record { id = streamAt k (decode t) .id; origin = o } ≡ isTaken (decode t) k
   unfolding fixedOf
   shares-found =
-      let x = streamAt k (decode t) in
       let v : o .registration .fixed .vlan < 65536 = rw e at (vlan-fits w) in
-      shares-before (decode t .streams) k x _ 0 (laid-fits t (w .laid) .ascending) (w .held) refl
+      shares-before (decode t .streams) k record { id = streamAt k (decode t) .id; origin = o } _ 0 (laid-fits t (w .laid) .ascending) (w .held) refl
       (λ j h. let n : 0 + j ≡ j = omega arith in
       rw (n, e) (sym (address-at (sourceOf (streamAt j (decode t))) o (vlan-fits (stands-before w j h)) v)))
 
@@ -190,16 +191,6 @@ unfolding sourcePort
 found-at nowhere p e = let z : _≡_ {A = ℕ} 0 1 = cc in absurd (omega arith)
 found-at (from o) p e = record { origin = o; is = refl; port = cc }
 
--- a stream without a Talker shares nothing
-shares-none : (l : List Inbound) (n : ℕ) → shares l record { id = n; source = nowhere } ≡ false
-unfolding shares
-shares-none [] n = refl
-shares-none (j ∷ l) n = rw (none (j .source), and-false (ltb (j .id) n)) (shares-none l n)
-  where
-    none : (s : Source) → sameAddressAt s nowhere ≡ false
-    none nowhere = unfold sameAddressAt in refl
-    none (from o) = unfold sameAddressAt in refl
-
 module _ (t : List ℕ) (k : ℕ) (w : Stands t k) where
   abbrev sc : Scene
   sc = sceneOf (decode t)
@@ -212,33 +203,31 @@ module _ (t : List ℕ) (k : ℕ) (w : Stands t k) where
   nowhere-is nowhere e = refl
   nowhere-is (from o) e = let z : _≡_ {A = ℕ} 0 1 = cc in absurd (omega arith)
 
-  pub no-failure : sourcePort (sourceOf stream) ≡ Nowhere → 0 ≡ commonFailure sc (inboundOf stream)
-  unfolding commonFailure inboundOf
-  no-failure e = sym (rw (nowhere-is (sourceOf stream) e, shares-none (sc .inbound) (stream .id)) (unfold isKeptOut in refl))
+  pub no-failure : sourcePort (sourceOf stream) ≡ Nowhere → 0 ≡ commonFailure sc stream
+  unfolding failureFrom
+  no-failure e = sym (rw (nowhere-is (sourceOf stream) e))
 
   module _ (p : ℕ) (e : sourcePort (sourceOf stream) ≡ Port p) (taken : Bool) (g : taken ≡ isTaken (decode t) k) where
-    shares-is : shares (sc .inbound) (inboundOf stream) ≡ taken
-    shares-is =
-        let o = found-at (sourceOf stream) p e in
-        shares-found k w (o .origin) (o .is) ∙ sym g
+    abbrev found : At (sourceOf stream) p
+    found = found-at (sourceOf stream) p e
 
-    pub shared-failure : taken ≡ true → 5 ≡ commonFailure sc (inboundOf stream)
-    unfolding commonFailure
-    shared-failure h = sym (rw (shares-is, h))
+    shares-is : shares (sc .inbound) record { id = stream .id; origin = found .origin } ≡ taken
+    shares-is = shares-found k w (found .origin) (found .is) ∙ sym g
+
+    pub shared-failure : taken ≡ true → 5 ≡ commonFailure sc stream
+    unfolding failureFrom
+    shared-failure h = sym (rw (found .is, shares-is, h))
 
     module _ (free : taken ≡ false) (may : Bool) (m : may ≡ mayBring (decode t .settings .fanIn) (inboundsOf (decode t .streams)) p) where
-      kept-out-is : isKeptOut (sc .settings .fanIn) (sc .inbound) (sourceOf stream) ≡ not may
+      kept-out-is : isKeptOut (sc .settings .fanIn) (sc .inbound) (found .origin) ≡ not may
       unfolding isKeptOut
       kept-out-is =
-          let o = found-at (sourceOf stream) p e in
-          ap (λ (s : Source). isKeptOut (sc .settings .fanIn) (sc .inbound) s) (o .is)
-          ∙ ap (λ (q : ℕ). not (mayBring (sc .settings .fanIn) (sc .inbound) q)) (sym (o .port))
-          ∙ ap not (sym m)
+          ap (λ (q : ℕ). not (mayBring (sc .settings .fanIn) (sc .inbound) q)) (sym (found .port)) ∙ ap not (sym m)
 
-      pub brings-in : may ≡ true → 0 ≡ commonFailure sc (inboundOf stream)
-      unfolding commonFailure inboundOf
-      brings-in h = sym (rw (shares-is, free, kept-out-is, h))
+      pub brings-in : may ≡ true → 0 ≡ commonFailure sc stream
+      unfolding failureFrom
+      brings-in h = sym (rw (found .is, shares-is, free, kept-out-is, h))
 
-      pub kept-out : may ≡ false → 15 ≡ commonFailure sc (inboundOf stream)
-      unfolding commonFailure inboundOf
-      kept-out h = sym (rw (shares-is, free, kept-out-is, h))
+      pub kept-out : may ≡ false → 15 ≡ commonFailure sc stream
+      unfolding failureFrom
+      kept-out h = sym (rw (found .is, shares-is, free, kept-out-is, h))

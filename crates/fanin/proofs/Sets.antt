@@ -16,7 +16,8 @@ use lib.Count.{ones, ones-cat, ones-le}
 use borrow.Author.Tests.{eq-eqb, ne-eqb}
 use Rattle.model.specs.Lists.{bit, countTo}
 use Rattle.model.specs.State.{Stream, fresh}
-use Rattle.model.specs.Settling.{Source, nowhere, from, sourceOf, isSource, Inbound, inboundOf, inboundsOf, isInbound, inboundBelow, mayBring}
+use Rattle.model.specs.Settling.{Source, nowhere, from, sourceOf, isSource, Inbound, inboundsOf, isInbound, inboundBelow, mayBring}
+use Rattle.model.proofs.ComingIn.{inbound-more}
 use Rattle.streams.specs.Answers.{sourcePort, talkerPort}
 use Rattle.streams.proofs.Sources.{port-bound}
 use Rattle.fanin.specs.Sets.{setTo, includes, Placed}
@@ -123,39 +124,24 @@ placed x l = go (sourceOf x) (port-bound x l)
 
 -- The inbound ports, one stream after another.
 
-inbound-append : (l m : List Inbound) (p : ℕ) → isInbound (l ++ m) p ≡ (isInbound l p || isInbound m p)
-unfolding isInbound
-inbound-append [] m p = refl
-inbound-append (i ∷ l) m p = rw (inbound-append l m p) (go (isSource (i .source) p))
+inbound-last : (l : List Stream) (x : Stream) (p : ℕ) → isInbound (inboundsOf (l ++ (x ∷ []))) p ≡ (isInbound (inboundsOf l) p || isSource (sourceOf x) p)
+inbound-last [] x p = inbound-more x [] p ∙ unfold inboundsOf isInbound in (or-false (isSource (sourceOf x) p))
+inbound-last (y ∷ l) x p = inbound-more y (l ++ (x ∷ [])) p ∙ rw (inbound-last l x p, inbound-more y l p) (go (isSource (sourceOf y) p))
   where
-    go : (b : Bool) → (b || (isInbound l p || isInbound m p)) ≡ ((b || isInbound l p) || isInbound m p)
+    go : (b : Bool) → (b || (isInbound (inboundsOf l) p || isSource (sourceOf x) p)) ≡ ((b || isInbound (inboundsOf l) p) || isSource (sourceOf x) p)
     go true = refl
     go false = refl
 
 module _ (s : List Stream) where
   abbrev pub first : ℕ → ℕ → Bool
-  first k = isInbound (take k (inboundsOf s))
+  first k = isInbound (inboundsOf (take k s))
 
   pub none-inbound : 0 ≡ setTo (first 0) 8
-  unfolding isInbound
+  unfolding inboundsOf isInbound
   none-inbound = sym (set-same (first 0) (λ p. false) 8 (λ p h. refl) ∙ unfold setTo bit in refl)
 
-  length-inbounds : (l : List Stream) → length (inboundsOf l) ≡ length l
-  unfolding inboundsOf
-  length-inbounds [] = refl
-  length-inbounds (x ∷ l) = ap suc (length-inbounds l)
-
-  getD-inbounds : (l : List Stream) (k : ℕ) → getD (inboundsOf l) k (inboundOf (fresh 0)) ≡ inboundOf (getD l k (fresh 0))
-  unfolding inboundsOf
-  getD-inbounds [] k = refl
-  getD-inbounds (x ∷ l) zero = refl
-  getD-inbounds (x ∷ l) (suc k) = getD-inbounds l k
-
   one-inbound : (k p : ℕ) → k < length s → first (k + 1) p ≡ (first k p || isSource (sourceOf (getD s k (fresh 0))) p)
-  one-inbound k p h =
-      let d = inboundOf (fresh 0) in
-      rw (add-one k, take-suc (inboundsOf s) k d (omega (arith, length-inbounds s)), inbound-append, getD-inbounds s k)
-      (unfold isInbound inboundOf in rw (or-false (isSource (sourceOf (getD s k (fresh 0))) p)))
+  one-inbound k p h = rw (add-one k, take-suc s k (fresh 0) h) (inbound-last (take k s) (getD s k (fresh 0)) p)
 
   -- a turn, and the end
   pub next-inbound : (k set r : ℕ) → k < length s → length (getD s k (fresh 0) .cells) ≡ 8 → set ≡ setTo (first k) 8
@@ -167,7 +153,7 @@ module _ (s : List Stream) where
       ∙ sym (set-same (first (k + 1)) (λ p. first k p || isSource (sourceOf x) p) 8 (λ p w. one-inbound k p h))
 
   pub all-inbound : (k : ℕ) → k ≡ length s → setTo (first k) 8 ≡ setTo (isInbound (inboundsOf s)) 8
-  all-inbound k e = rw (take-all k (inboundsOf s) (omega (arith, e, length-inbounds s)))
+  all-inbound k e = rw (take-all k s (omega (arith, e)))
 
 -- Whether a port may bring streams in, by the tests of the code.
 module _ (limit : ℕ) (l : List Inbound) (t : ℕ) where

@@ -2,8 +2,8 @@
 use mathlib.Core.Bool.{Bool, false, cond, _||_}
 use Prim.Native.Nat.{ℕ, zero, suc, _+_, _*_, _^_}
 use lib.Dec.{eqb}
-use Rattle.model.specs.State.{Fixed, Bridge, streamAt}
-use Rattle.model.specs.Settling.{Scene, Source, nowhere, from, sourceOf, fixedOf, Inbound, shares, isKeptOut}
+use Rattle.model.specs.State.{Fixed, Stream, Bridge, streamAt}
+use Rattle.model.specs.Settling.{Scene, Source, nowhere, from, sourceOf, fixedOf, shares, isKeptOut}
 
 -- destination and VLAN as they stand beside each other
 unfoldable pub addressOf : Fixed → ℕ
@@ -26,6 +26,10 @@ sharesWith b k j = hasAddress (addressOf (fixedOf (sourceOf (streamAt k b)))) (s
 abbrev pub isTaken : Bridge → ℕ → Bool
 isTaken b k = anyFrom (sharesWith b k) 0 k
 
--- "Test 5, then 15": its code, or 0
-unfoldable pub commonFailure : Scene → Inbound → ℕ
-commonFailure sc i = cond (shares (sc .inbound) i) 5 (cond (isKeptOut (sc .settings .fanIn) (sc .inbound) (i .source)) 15 0)
+-- "Test 5, then 15": the code of the stream with StreamID n, or 0
+unfoldable pub failureFrom : Scene → ℕ → Source → ℕ
+failureFrom sc n nowhere = 0
+failureFrom sc n (from o) = cond (shares (sc .inbound) record { id = n; origin = o }) 5 (cond (isKeptOut (sc .settings .fanIn) (sc .inbound) o) 15 0)
+
+abbrev pub commonFailure : Scene → Stream → ℕ
+commonFailure sc x = failureFrom sc (x .id) (sourceOf x)

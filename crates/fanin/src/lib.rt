@@ -1,7 +1,7 @@
 // Inbound ports and shared addresses: the own failure that a stream has on every port alike.
 ghost use mathlib.Core.Path.{_≡_};
 ghost use Prim.Native.Nat.{_<_, _+_};
-ghost use Rattle.model.specs.Settling.{sceneOf, inboundOf, inboundsOf, sourceOf, fixedOf, isInbound, mayBring};
+ghost use Rattle.model.specs.Settling.{sceneOf, inboundsOf, sourceOf, fixedOf, isInbound, mayBring};
 ghost use Rattle.model.specs.Table.{decode};
 ghost use Rattle.model.specs.Laid.{Laid};
 ghost use Rattle.table.specs.Updates.{streamAt};
@@ -101,7 +101,7 @@ pub fn taken_registered(table: &[u8], k: usize) -> bool
 // The own failure of stream k on every port: 5 for an address that is taken, 15 for a port that may not bring streams in, or 0.
 pub fn common_failure(table: &[u8], k: usize, inbound: u8, taken: bool) -> u8
     requires { ⌜ Stands (now table) k × (inbound ≡ setTo (isInbound (inboundsOf (decode (now table) .streams))) 8) × (taken ≡ isTaken (decode (now table)) k) ⌝ }
-    ensures { λ r. ⌜ r ≡ commonFailure (sceneOf (decode (now (table .entry)))) (inboundOf (streamAt k (decode (now (table .entry))))) ⌝ }
+    ensures { λ r. ⌜ r ≡ commonFailure (sceneOf (decode (now (table .entry)))) (streamAt k (decode (now (table .entry)))) ⌝ }
 {
     let SourceRead::Port(t) = streams::source(table, k) else {
         return 0;

@@ -11,13 +11,14 @@ use borrow.Author.Tests.{ltb-false, leb-false, le-ltb, le-leb, eq-eqb, ne-eqb, l
 use Rattle.model.specs.Lists.{All, keep, tabulate, implies, bit}
 use Rattle.model.specs.State.{Port, Settings, Leaving, stays, since, TalkerType, talkerAdvertise, talkerFailed, Talker, noTalker, talker, Listener, noListener, listener, Cell, Domain, noDomain, domain, Presence, vacant, present, Address, Own, Column, none, advertise, failed, Entry, noEntry, filters, forwards, Declared, nothing, tells, Fixed, Sends, Sender, Result, Stream, Totals, Bridge, empty, unsettled, noFixed, noOwn, noSends, noSender, noPort, ownAt, portAt, isPort, cellAt, resultAt, sendsAt, senderAt, declaresSlot, Class, classA, classB, inForce, noClass, sameClass, supports}
 use Rattle.model.specs.Registrations.{Answer, ids, macs}
-use Rattle.model.specs.Settling.{isAdvertise, Scene, flagOf, decideOwn, decideOwns, expired, expireDomain, outlasts, remainAddresses, expireTalker, expireListener, expireCell, expire, held, anySending, isHeld, dropUnheld, advertisedBy, failedBy, listenedBy, sameOffer, sameFailed, sameReady, declareSends, declare, timeSender, deciding, declaring, remain, Source, nowhere, from, source, sourceOf, isSource, fixedOf, talkerTypeOf, registered, isReady, Outcome, columnNone, asRegistered, ownFailure, Step, first, failedColumn, outcomeColumn, stepsFrom, steps, ageOf, claims, reservedA, limitOn, byBandwidth, columnOf, capped, latencyOut, entryOf, ageKept, latencyKept, decideAt, decide, totalOn, totalsOn, settle, advance, isTalking, isHearing, Origin, streamClass, clear, Inbound, inboundOf, inboundsOf, lastSteps, asAdvertise, bandwidthSteps, outcomeOf}
+use Rattle.model.specs.Settling.{isAdvertise, Scene, flagOf, decideOwn, decideOwns, expired, expireDomain, outlasts, remainAddresses, expireTalker, expireListener, expireCell, expire, held, anySending, isHeld, dropUnheld, advertisedBy, failedBy, listenedBy, sameOffer, sameFailed, sameReady, declareSends, declare, timeSender, deciding, declaring, remain, Source, nowhere, from, source, sourceOf, isSource, fixedOf, talkerTypeOf, registered, isReady, Outcome, columnNone, asRegistered, ownFailure, Step, first, failedColumn, outcomeColumn, stepsFrom, steps, ageOf, claims, reservedA, limitOn, byBandwidth, columnOf, capped, latencyOut, entryOf, ageKept, latencyKept, decideAt, decide, totalOn, totalsOn, settle, advance, isTalking, isHearing, Origin, streamClass, clear, Inbound, inboundsOf, asAdvertise, bandwidthSteps, outcomeOf, sceneOf}
 use Rattle.model.specs.Bandwidth.{sort, total, reserved}
 use Rattle.model.specs.Applicant.{Standing, veryAnxiousPassive, veryAnxiousNew, anxiousNew, anxiousActive, quietActive, leavingActive, lv, join, becomes, standing, applicantEntry, vo}
 use Rattle.model.specs.Machines.{Applicant, noApplicant, applicant, Decided, undeclared, declared, otherContent, with, applicantOf, after, born, decided}
 use Rattle.model.specs.LeaveAll.{LeaveAllState, active, passive, LeaveAll, leavealltimer, starting, leaveAllRow, leaveAllColumn, leaveAllEntry, leaveAllNext, leaveAllTime, hasRun, timedOut}
 use Rattle.model.specs.Table.{totalsWithin, talkers, hasColumn, declares, declarers, forListener, storedRules, storedFormed, atMost, anyHeld, isStanding, stands, isFailed, alike, sentRules, sentFormed}
 use Rattle.model.proofs.Lists.{all-append, all-getD, all-tabulate, at-place, and-false, implies-true, true-all}
+use Rattle.model.proofs.Parts.{_also_}
 use Rattle.model.proofs.Stored.{talker-counts, other-counts, one-declares}
 use Rattle.model.proofs.Admission.{within}
 use Rattle.model.proofs.Owns.{no-own-valid}
@@ -384,14 +385,10 @@ ValidOutcome asRegistered = Unit {0}
 ValidOutcome asAdvertise = Unit {0}
 ValidOutcome (ownFailure code) = code < 256
 
-codes-fit : (sc : Scene) (p : ℕ) (here : Cell) (s : Source) → All (λ t. ValidOutcome (outcomeOf t)) (stepsFrom sc p here s)
+codes-fit : (sc : Scene) (p : ℕ) (here : Cell) (n : ℕ) (s : Source) → All (λ t. ValidOutcome (outcomeOf t)) (stepsFrom sc p here n s)
 unfolding stepsFrom
-codes-fit sc p here nowhere = omega arith
-codes-fit sc p here (from o) = omega arith
-
-last-codes-fit : (sc : Scene) (p : ℕ) (i : Inbound) → All (λ t. ValidOutcome (outcomeOf t)) (lastSteps sc p i)
-unfolding lastSteps
-last-codes-fit sc p i = omega arith
+codes-fit sc p here n nowhere = omega arith
+codes-fit sc p here n (from o) = omega arith
 
 failed-valid : (h : TalkerType) → ValidTalkerType h → ValidFailure (failedColumn h)
 unfolding failedColumn
@@ -424,8 +421,7 @@ module _ (sc : Scene) (named : sc .settings .bridgeId < 2 ^ 64) where
       → ValidFailure (first (outcomeColumn (sc .settings) (sourceOf x)) (steps sc p x) c)
   unfolding steps
   steps-valid p x c v w =
-      first-valid (sourceOf x) v _ c
-      (tt, all-append _ (stepsFrom sc p (cellAt x p) (sourceOf x)) _ (codes-fit sc p (cellAt x p) (sourceOf x)) (last-codes-fit sc p (inboundOf x))) w
+      first-valid (sourceOf x) v _ c (tt, codes-fit sc p (cellAt x p) (x .id) (sourceOf x)) w
 
   bandwidth-valid : (d l : ℕ) → ValidFailure (byBandwidth (sc .settings) d l)
   unfolding byBandwidth bandwidthSteps first outcomeColumn

@@ -10,10 +10,11 @@ use lib.ListN.{length, getD}
 use lib.Dec.{eqb}
 use borrow.Author.Tests.{eqb-false, ne-eqb, lt-ltb}
 use Rattle.model.specs.State.{Port, Settings, Cell, Domain, noDomain, domain, Own, noOwn, failed, Stream, Bridge, noPort, portAt, isPort, cellAt, ownAt, Class, noClass, classA, classB, classOf, isNoClass, supports, classPriority}
-use Rattle.model.specs.Settling.{Source, nowhere, from, sourceOf, fixedOf, talkerTypeOf, streamClass, isDomain, anyDomain, otherPriority, domainsOf, anySupports, isEdge, flagOf, decideOwn, decideOwns, boundary, Scene, clear, isTalkerFailed, Inbound, inboundOf, stepsFrom, lastSteps, steps, columnOf, settle, deciding, declaring}
+use Rattle.model.specs.Settling.{Source, nowhere, from, sourceOf, fixedOf, talkerTypeOf, streamClass, isDomain, anyDomain, otherPriority, domainsOf, anySupports, isEdge, flagOf, decideOwn, decideOwns, boundary, Scene, clear, isTalkerFailed, Inbound, stepsFrom, steps, columnOf, settle, deciding, declaring}
 use Rattle.model.specs.Table.{columnCode}
-use Rattle.model.proofs.OwnCodes.{gives, earlier, asked, never, once, stepsOf, own-decided, own-only}
+use Rattle.model.proofs.OwnCodes.{gives, earlier, asked, never, once, stepsOf, own-decided, own-only, no-talker}
 use Rattle.model.proofs.Lists.{at-place}
+use Rattle.model.proofs.ColumnRule.{at-place}
 
 -- h), condition by condition; a port declares the classes that it supports.
 pub data Outside (st : Settings) (p : ℕ) (c : Class) (ds : List Domain) : Type 0 where
@@ -176,19 +177,15 @@ module _ (now : ℕ) (b : Bridge) (p : ℕ) (port : p < length (b .settings .por
 
 -- Code 8: what step j tests is the flag.
 
-module _ (sc : Scene) (p : ℕ) (here : Cell) (i : Inbound) where
-  eight-asked : (o : Source) → clear (earlier 8 (stepsOf sc p here i o)) ≡ true
-      → asked 8 (stepsOf sc p here i o) ≡ boundary (ownAt (sc .owns) p) (classOf (sc .settings) (fixedOf o .priority))
-  unfolding stepsFrom lastSteps clear earlier asked gives fixedOf
-  eight-asked nowhere free = absurd (go (isPort (sc .settings) p) (clear (earlier 8 (lastSteps sc p i))) free)
-    where
-      go : (t r : Bool) → (not (not t) && (not true && r)) ≡ true → ⊥
-      go true r e = false≢true e
-      go false r e = false≢true e
+module _ (sc : Scene) (p : ℕ) (here : Cell) (n : ℕ) where
+  eight-asked : (o : Source) → clear (earlier 8 (stepsOf sc p here n o)) ≡ true
+      → asked 8 (stepsOf sc p here n o) ≡ boundary (ownAt (sc .owns) p) (classOf (sc .settings) (fixedOf o .priority))
+  unfolding stepsFrom clear earlier asked gives fixedOf
+  eight-asked nowhere free = absurd (no-talker sc p here n 8 free)
   eight-asked (from o) free = refl
 
-  eight-once : (o : Source) → once 8 (stepsOf sc p here i o) ≡ true
-  unfolding stepsFrom lastSteps once never gives
+  eight-once : (o : Source) → once 8 (stepsOf sc p here n o) ≡ true
+  unfolding stepsFrom once never gives
   eight-once nowhere = refl
   eight-once (from o) = refl
 
@@ -199,12 +196,12 @@ module _ (sc : Scene) (now : ℕ) (s : List Stream) (p : ℕ) (x : Stream) where
   -- where no step before j applies and the flag is set, the column is Failed with this Bridge ID and code 8
   pub eight-decided : clear (earlier 8 (steps sc p x)) ≡ true → flag ≡ true → columnOf sc now s p x ≡ failed (sc .settings .bridgeId) 8
   unfolding steps streamClass
-  eight-decided free set = own-decided sc now s p x 8 free (eight-asked sc p (cellAt x p) (inboundOf x) (sourceOf x) free ∙ set)
+  eight-decided free set = own-decided sc now s p x 8 free (eight-asked sc p (cellAt x p) (x .id) (sourceOf x) free ∙ set)
 
   -- and code 8 of a stream that is not registered as Failed says so
   pub eight-only : isTalkerFailed (talkerTypeOf (sourceOf x)) ≡ false → columnCode (columnOf sc now s p x) ≡ 8
       → (clear (earlier 8 (steps sc p x)) ≡ true) × (flag ≡ true)
   unfolding steps streamClass
   eight-only whole e =
-      let o = own-only sc now s p x 8 (omega arith) (eight-once sc p (cellAt x p) (inboundOf x) (sourceOf x)) whole e in
-      (o .0, sym (eight-asked sc p (cellAt x p) (inboundOf x) (sourceOf x) (o .0)) ∙ o .1)
+      let o = own-only sc now s p x 8 (omega arith) (eight-once sc p (cellAt x p) (x .id) (sourceOf x)) whole e in
+      (o .0, sym (eight-asked sc p (cellAt x p) (x .id) (sourceOf x) (o .0)) ∙ o .1)

@@ -15,7 +15,7 @@ use Rattle.model.specs.State.{Settings, isPort, TalkerType, talkerAdvert
 use Rattle.model.specs.Registrations.{ids}
 use Rattle.model.specs.Table.{atMost, anyHeld}
 use Rattle.model.specs.Bandwidth.{Claim, key, above, sort, reserved, remains, admitted, total, taken}
-use Rattle.model.specs.Settling.{Scene, sceneOf, decideOwns, remain, Source, nowhere, from, sourceOf, isSource, fixedOf, talkerTypeOf, streamClass, registered, isReady, isAdvertise, Outcome, columnNone, asRegistered, ownFailure, Step, first, clear, failedColumn, outcomeColumn, steps, ageOf, claim, claims, reservedA, limitOn, leftFor, byBandwidth, columnOf, latencyOut, entryOf, ageKept, latencyKept, passed, mergeAll, merged, decideAt, decide, totalOn, totalsOn, deciding, Inbound, inboundOf, inboundsOf, asAdvertise, bandwidthSteps, lastSteps, outcomeOf, stepA, stepsFrom, about}
+use Rattle.model.specs.Settling.{Scene, sceneOf, decideOwns, remain, Source, nowhere, from, sourceOf, isSource, fixedOf, talkerTypeOf, streamClass, registered, isReady, isAdvertise, Outcome, columnNone, asRegistered, ownFailure, Step, first, clear, failedColumn, outcomeColumn, steps, ageOf, claim, claims, reservedA, limitOn, leftFor, byBandwidth, columnOf, latencyOut, entryOf, ageKept, latencyKept, passed, mergeAll, merged, decideAt, decide, totalOn, totalsOn, deciding, Inbound, inboundsOf, asAdvertise, bandwidthSteps, outcomeOf, stepA, stepsFrom, about, settle}
 use Rattle.model.proofs.Lists.{all-map, all-both, all-each, and-right, and-true, and-false}
 use Rattle.model.proofs.StepNames.{everyStep, every-all, notAdmitted}
 use Rattle.model.proofs.Valid.{Rising}
@@ -168,9 +168,9 @@ before-bandwidth sc p x = go (sourceOf x)
   where
     go : (o : Source)
         → everyStep (λ n. notAdmitted (about n .outcome))
-        (record { name = stepA; test = not (isPort (sc .settings) p) } ∷ (stepsFrom sc p (cellAt x p) o ++ lastSteps sc p (inboundOf x)))
+        (record { name = stepA; test = not (isPort (sc .settings) p) } ∷ stepsFrom sc p (cellAt x p) (x .id) o)
         ≡ true
-    go o = unfold everyStep notAdmitted stepsFrom lastSteps in elim o [ nowhere ↦ refl | from q ↦ refl ]
+    go o = unfold everyStep notAdmitted stepsFrom in elim o [ nowhere ↦ refl | from q ↦ refl ]
 
 first-advertise : (says : Outcome → Column) → (l : List Step) → All (λ s. isAdvertise (says (outcomeOf s)) ≡ false) l → (c : Column) →
     isAdvertise (first says l c) ≡ (clear l && isAdvertise c)
@@ -347,7 +347,7 @@ module _ (sc : Scene) (now p : ℕ) (col other : Stream → Column) where
 -- streams with the same registrations go through the same steps; with the same age too, they have the same claim
 module _ (sc : Scene) (now p : ℕ) (x y : Stream) (cells : x .cells ≡ y .cells) where
   same-steps : x .id ≡ y .id → steps sc p x ≡ steps sc p y
-  unfolding steps inboundOf cellAt sourceOf
+  unfolding steps cellAt sourceOf
   same-steps i = rw (i, cells)
 
   same-source : sourceOf x ≡ sourceOf y
@@ -454,7 +454,7 @@ module _ (sc : Scene) (now p : ℕ) (here : p < 8) where
 
 -- streams that an advance carried over come in as they did
 pub carried-inbound : (now : ℕ) (s t : List Stream) → Pairwise (Carried now) s t → inboundsOf t ≡ inboundsOf s
-unfolding inboundsOf inboundOf sourceOf
+unfolding inboundsOf sourceOf
 carried-inbound now [] [] w = refl
 carried-inbound now [] (y ∷ t) w = absurd w
 carried-inbound now (x ∷ s) [] w = absurd w
@@ -495,7 +495,7 @@ module _ (sc : Scene) (now : ℕ) (s : List Stream) where
       ∙ ap (λ (c : Column). entryOf c (registered (cellAt x p))) (sym (decided-column x p h))
 
   decide-shows : (p : ℕ) → p < 8 → (x : Stream) → Shown sc p (decide sc now s x)
-  unfolding columnOf cellAt steps inboundOf sourceOf decide
+  unfolding columnOf cellAt steps sourceOf decide
   decide-shows p h x = record {
     demand = claim (sc .settings) now p x .demand;
     left = leftFor sc now s p x;

@@ -7,11 +7,11 @@ use mathlib.Core.Bool.{Bool, true, false, cond, _&&_, _||_}
 use Prim.Native.Nat.{ℕ, zero, suc, _+_, _-_, _≤_, _<_}
 use native.Mathlib.Omega.{arith}
 use lib.Dec.{ltb}
-use Rattle.model.specs.Lists.{All, keep, countTo}
+use Rattle.model.specs.Lists.{All, keep}
 use Rattle.model.specs.State.{Settings, Cell, Own, Column, Stream, Bridge, Class, noClass, classA, classB, sameClass, bothLimits, inForce, portAt, cellAt, resultAt}
 use Rattle.model.specs.Registrations.{ids}
 use Rattle.model.specs.Bandwidth.{Claim, key}
-use Rattle.model.specs.Settling.{held, anySending, isHeld, dropUnheld, Source, nowhere, from, sourceOf, isSource, streamClass, isAdvertise, Inbound, inboundOf, inboundsOf, isInbound, inboundBelow, mayBring, isKeptOut, sameAddressAt, shares, Scene, sceneOf, Step, first, outcomeColumn, stepsFrom, lastSteps, steps, claim, byBandwidth, latencyOut, deciding, declare, declaring, settle}
+use Rattle.model.specs.Settling.{held, anySending, isHeld, dropUnheld, Source, nowhere, from, sourceOf, isSource, streamClass, isAdvertise, Inbound, addInbound, inboundsOf, Scene, sceneOf, Step, first, outcomeColumn, steps, claim, byBandwidth, latencyOut, deciding, declare, declaring, settle}
 use Rattle.model.proofs.Lists.{mem-keep, and-false}
 use Rattle.model.proofs.Valid.{Rising}
 use Rattle.model.proofs.AdvanceKeepsForm.{or-false, unheld-nowhere, nowhere-stops, all-dropped, all-mapped}
@@ -38,53 +38,22 @@ held-left y (x ∷ t) m e = mem-keep (isHeld x) y x (dropUnheld t) .1 (go (List�
 
 -- What the steps ask of the other streams: nothing of one without a registration.
 
-inbound-dropped : (t : List Stream) (p : ℕ) → isInbound (inboundsOf (dropUnheld t)) p ≡ isInbound (inboundsOf t) p
-unfolding dropUnheld inboundsOf inboundOf isInbound isSource
-inbound-dropped [] p = refl
-inbound-dropped (x ∷ t) p = go (isHeld x) refl (inbound-dropped t p)
+inbounds-dropped : (t : List Stream) → inboundsOf (dropUnheld t) ≡ inboundsOf t
+unfolding dropUnheld inboundsOf
+inbounds-dropped [] = refl
+inbounds-dropped (x ∷ t) = go (isHeld x) refl (inbounds-dropped t)
   where
-    go : (h : Bool) → isHeld x ≡ h → isInbound (inboundsOf (dropUnheld t)) p ≡ isInbound (inboundsOf t) p
-        → isInbound (inboundsOf (keep h x (dropUnheld t))) p ≡ (isSource (sourceOf x) p || isInbound (inboundsOf t) p)
-    go true e ih = ap (λ (b : Bool). isSource (sourceOf x) p || b) ih
-    go false e ih = rw (unheld-source x e) ih
-
-shares-dropped : (t : List Stream) (i : Inbound) → shares (inboundsOf (dropUnheld t)) i ≡ shares (inboundsOf t) i
-unfolding dropUnheld inboundsOf inboundOf shares sameAddressAt
-shares-dropped [] i = refl
-shares-dropped (x ∷ t) i = go (isHeld x) refl (shares-dropped t i)
-  where
-    go : (h : Bool) → isHeld x ≡ h → shares (inboundsOf (dropUnheld t)) i ≡ shares (inboundsOf t) i
-        → shares (inboundsOf (keep h x (dropUnheld t))) i ≡ ((ltb (x .id) (i .id) && sameAddressAt (sourceOf x) (i .source)) || shares (inboundsOf t) i)
-    go true e ih = ap (λ (b : Bool). (ltb (x .id) (i .id) && sameAddressAt (sourceOf x) (i .source)) || b) ih
-    go false e ih = rw (unheld-source x e, and-false (ltb (x .id) (i .id))) ih
-
-count-same : (f g : ℕ → Bool) → ((n : ℕ) → f n ≡ g n) → (n : ℕ) → countTo f n ≡ countTo g n
-unfolding countTo
-count-same f g h zero = refl
-count-same f g h (suc n) = rw (h n, count-same f g h n)
-
-kept-out-dropped : (limit : ℕ) (t : List Stream) (s : Source) → isKeptOut limit (inboundsOf (dropUnheld t)) s ≡ isKeptOut limit (inboundsOf t) s
-unfolding isKeptOut mayBring inboundBelow
-kept-out-dropped limit t nowhere = refl
-kept-out-dropped limit t (from o) = rw (count-same (isInbound (inboundsOf (dropUnheld t))) (isInbound (inboundsOf t)) (inbound-dropped t) (o .port))
+    go : (h : Bool) → isHeld x ≡ h → inboundsOf (dropUnheld t) ≡ inboundsOf t
+        → inboundsOf (keep h x (dropUnheld t)) ≡ addInbound (x .id) (sourceOf x) (inboundsOf t)
+    go true e ih = ap (addInbound (x .id) (sourceOf x)) ih
+    go false e ih = rw (unheld-source x e) (unfold addInbound in ih)
 
 module _ (st : Settings) (o : List Own) where
   abbrev scene : List Inbound → Scene
   scene i = record { settings = st; owns = o; inbound = i }
 
-  module _ (t : List Stream) (p : ℕ) where
-    from-dropped : (c : Cell) (s : Source) → stepsFrom (scene (inboundsOf (dropUnheld t))) p c s ≡ stepsFrom (scene (inboundsOf t)) p c s
-    unfolding stepsFrom
-    from-dropped c nowhere = refl
-    from-dropped c (from q) = refl
-
-    last-dropped : (i : Inbound) → lastSteps (scene (inboundsOf (dropUnheld t))) p i ≡ lastSteps (scene (inboundsOf t)) p i
-    unfolding lastSteps
-    last-dropped i = rw (shares-dropped t i, kept-out-dropped (st .fanIn) t (i .source))
-
-    steps-dropped : (x : Stream) → steps (scene (inboundsOf (dropUnheld t))) p x ≡ steps (scene (inboundsOf t)) p x
-    unfolding steps
-    steps-dropped x = rw (from-dropped (cellAt x p) (sourceOf x), last-dropped (inboundOf x))
+  steps-dropped : (t : List Stream) (p : ℕ) (x : Stream) → steps (scene (inboundsOf (dropUnheld t))) p x ≡ steps (scene (inboundsOf t)) p x
+  steps-dropped t p x = ap (λ (i : List Inbound). steps (scene i) p x) (inbounds-dropped t)
 
 -- What is spent: a stream that is not Advertise spends nothing.
 
@@ -117,16 +86,16 @@ module _ (st : Settings) (now p : ℕ) (c : Class) (test : Claim → Bool) where
       ap (λ (n : ℕ). n + cond (test (claim st now p x) && reserves st p c (columnAt p x) x) (claim st now p x .demand) 0) (spent-declared s)
 
 declared-inbounds : (s : List Stream) → inboundsOf (map declare s) ≡ inboundsOf s
-unfolding inboundsOf inboundOf declare sourceOf
+unfolding inboundsOf declare sourceOf
 declared-inbounds [] = refl
-declared-inbounds (x ∷ s) = ap (λ (l : List Inbound). inboundOf x ∷ l) (declared-inbounds s)
+declared-inbounds (x ∷ s) = ap (addInbound (x .id) (sourceOf x)) (declared-inbounds s)
 
 declared-source : (y : Stream) → isHeld (declare y) ≡ false → sourceOf y ≡ nowhere
 unfolding sourceOf declare
 declared-source y e = unheld-source (declare y) e
 
 declared-steps : (sc : Scene) (p : ℕ) (y : Stream) → steps sc p (declare y) ≡ steps sc p y
-unfolding steps inboundOf sourceOf cellAt declare
+unfolding steps sourceOf cellAt declare
 declared-steps sc p y = refl
 
 -- the column by what the rule reads

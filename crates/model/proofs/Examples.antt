@@ -30,6 +30,7 @@ use Rattle.model.specs.Table
 use Rattle.model.specs.Why
 use Rattle.model.specs.Calls
 use Rattle.model.proofs.Opened.{opened}
+use Rattle.model.proofs.ComingIn
 use Rattle.model.proofs.Untouched.{remaining, sceneAt}
 
 -- what the definitions compute, and what 01 prints
@@ -742,9 +743,9 @@ premises p b x =
     ∷ Fields.flat Table.cellNumbers (x .cells)
     ∷ Fields.flat claimNumbers (Bandwidth.above (Bandwidth.key (Settling.claim (b .settings) 200 p x)) (Settling.claims sc 200 p c s))
     ∷ cond (State.sameClass c State.classB) (Settling.totalOn sc 200 s p State.classA ∷ []) []
-    ∷ (Lists.bit (Settling.shares (sc .inbound) (Settling.inboundOf x)) ∷ [])
+    ∷ (Lists.bit (ComingIn.sharing (sc .inbound) (x .id) (Settling.sourceOf x)) ∷ [])
     ∷ (Lists.bit (Settling.boundary (State.ownAt (sc .owns) p) c) ∷ [])
-    ∷ (Lists.bit (Settling.isKeptOut (b .settings .fanIn) (sc .inbound) (Settling.sourceOf x)) ∷ [])
+    ∷ (Lists.bit (ComingIn.keptOut (b .settings .fanIn) (sc .inbound) (Settling.sourceOf x)) ∷ [])
     ∷ cond (b .settings .pruning)
     (Lists.bit (Settling.holdsAddress (Settling.fixedOf (Settling.sourceOf x) .destination) (State.ownAt (sc .owns) p .addresses)) ∷ []) []
     ∷ []
@@ -840,7 +841,7 @@ needs =
     ∷ []
 
 pub need-examples : All Holds needs
-unfolding shown needs Table.headNumbers Table.headWord Table.portNumbers Table.cellNumbers equal claimNumbers premises agreements compared readyOnes held addressed second before readyOf byRank byAge inB intercom show asksFor asking matchingOn hallOf hall
+unfolding shown needs ComingIn.atTalker Table.headNumbers Table.headWord Table.portNumbers Table.cellNumbers equal claimNumbers premises agreements compared readyOnes held addressed second before readyOf byRank byAge inB intercom show asksFor asking matchingOn hallOf hall
 need-examples = (refl, (refl, (refl, (refl, (refl, (refl, (refl, (refl, (refl, (refl, (refl, (refl, (refl, tt)))))))))))))
 
 -- Why a stream was refused (02, ix): of the stream at place k on port 2 the letter of the step, how many streams are listed, the limit

@@ -12,7 +12,7 @@ use borrow.Author.Tests.{lt-ltb, ltb-true}
 use Rattle.model.specs.Lists.{All}
 use Rattle.model.specs.State.{Settings, Fixed, Varying, Talker, noTalker, talker, Cell, failed, Stream, Bridge, unsettled, cellAt, resultAt}
 use Rattle.model.specs.Registrations.{Kind, Act, leaveAll, leave, talk, listen, hearAll, hear, ofDomain, withLeaving, quitTalker, quit, sameFixed, firstJoin, sameJoin, otherJoin, joinTalker, does}
-use Rattle.model.specs.Settling.{expired, expireTalker, remain, Source, nowhere, from, sourceOf, latencyOf, firstLatencyOf, talkerTypeOf, decideOwns, Scene, clear, isTalkerFailed, stepsFrom, steps, columnOf, decideAt, decide, declare, deciding, declaring, settle, Inbound, inboundOf, inboundsOf, lastSteps}
+use Rattle.model.specs.Settling.{expired, expireTalker, remain, Source, nowhere, from, sourceOf, latencyOf, firstLatencyOf, talkerTypeOf, decideOwns, Scene, clear, isTalkerFailed, stepsFrom, steps, columnOf, decideAt, decide, declare, deciding, declaring, settle, Inbound, inboundsOf}
 use Rattle.model.specs.Table.{columnCode}
 use Rattle.model.proofs.OwnCodes.{gives, earlier, asked, never, once, stepsOf, own-decided, own-only}
 use Rattle.model.proofs.AdvanceKeepsForm.{all-mapped, all-dropped}
@@ -68,14 +68,14 @@ module _ (n now : ℕ) where
 
 -- Code 7: what step k tests is whether the latency is above the first.
 
-module _ (sc : Scene) (p : ℕ) (here : Cell) (i : Inbound) where
-  seven-asked : (o : Source) → asked 7 (stepsOf sc p here i o) ≡ ltb (firstLatencyOf o) (latencyOf o)
-  unfolding stepsFrom lastSteps asked gives firstLatencyOf latencyOf
+module _ (sc : Scene) (p : ℕ) (here : Cell) (n : ℕ) where
+  seven-asked : (o : Source) → asked 7 (stepsOf sc p here n o) ≡ ltb (firstLatencyOf o) (latencyOf o)
+  unfolding stepsFrom asked gives firstLatencyOf latencyOf
   seven-asked nowhere = refl
   seven-asked (from o) = refl
 
-  seven-once : (o : Source) → once 7 (stepsOf sc p here i o) ≡ true
-  unfolding stepsFrom lastSteps once never gives
+  seven-once : (o : Source) → once 7 (stepsOf sc p here n o) ≡ true
+  unfolding stepsFrom once never gives
   seven-once nowhere = refl
   seven-once (from o) = refl
 
@@ -84,15 +84,15 @@ module _ (sc : Scene) (now : ℕ) (s : List Stream) (p : ℕ) (x : Stream) where
   pub seven-decided : clear (earlier 7 (steps sc p x)) ≡ true → firstLatencyOf (sourceOf x) < latencyOf (sourceOf x)
       → columnOf sc now s p x ≡ failed (sc .settings .bridgeId) 7
   unfolding steps
-  seven-decided free grown = own-decided sc now s p x 7 free (seven-asked sc p (cellAt x p) (inboundOf x) (sourceOf x) ∙ lt-ltb _ _ grown)
+  seven-decided free grown = own-decided sc now s p x 7 free (seven-asked sc p (cellAt x p) (x .id) (sourceOf x) ∙ lt-ltb _ _ grown)
 
   -- and code 7 of a stream that is not registered as Failed says so
   pub seven-only : isTalkerFailed (talkerTypeOf (sourceOf x)) ≡ false → columnCode (columnOf sc now s p x) ≡ 7
       → (clear (earlier 7 (steps sc p x)) ≡ true) × (firstLatencyOf (sourceOf x) < latencyOf (sourceOf x))
   unfolding steps
   seven-only whole e =
-      let o = own-only sc now s p x 7 (omega arith) (seven-once sc p (cellAt x p) (inboundOf x) (sourceOf x)) whole e in
-      (o .0, ltb-true _ _ (sym (seven-asked sc p (cellAt x p) (inboundOf x) (sourceOf x)) ∙ o .1))
+      let o = own-only sc now s p x 7 (omega arith) (seven-once sc p (cellAt x p) (x .id) (sourceOf x)) whole e in
+      (o .0, ltb-true _ _ (sym (seven-asked sc p (cellAt x p) (x .id) (sourceOf x)) ∙ o .1))
 
 -- The latency of an Advertise that is not above the first: on no port has the stream code 7.
 abbrev pub Fallen : Stream → Type 0

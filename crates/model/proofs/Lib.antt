@@ -64,6 +64,7 @@ pub mod Boundaries
 pub mod Growth
 pub mod FirstKept
 pub mod Pruning
+pub mod ComingIn
 pub mod FanIn
 pub mod Inbounds
 pub mod StepOrder

@@ -12,12 +12,13 @@ use borrow.Author.Tests.{eq-eqb, le-ltb}
 use Rattle.model.specs.Lists.{All, keep, countTo}
 use Rattle.model.specs.State.{Settings, Own, Cell, Stream, Bridge, Class, classA, classB, sameClass, inForce, portAt, cellAt, resultAt}
 use Rattle.model.specs.Bandwidth.{Claim, key, above, total}
-use Rattle.model.specs.Settling.{Scene, Inbound, inboundOf, inboundsOf, isInbound, inboundBelow, mayBring, isKeptOut, sameAddressAt, shares, Source, nowhere, from, sourceOf, isSource, fixedOf, streamClass, clear, stepsFrom, lastSteps, steps, ageOf, claim, claims, limitOn, totalOn, decideAt}
+use Rattle.model.specs.Settling.{Scene, Inbound, inboundsOf, isInbound, inboundBelow, mayBring, isKeptOut, sameAddressAt, shares, Source, nowhere, from, sourceOf, isSource, fixedOf, streamClass, clear, stepsFrom, steps, ageOf, claim, claims, limitOn, totalOn, decideAt}
 use Rattle.model.specs.Table.{columnCode}
 use Rattle.model.proofs.Lists.{and-false}
 use Rattle.model.proofs.Admission.{by-rank}
 use Rattle.model.proofs.ColumnRule.{Small, claims-append}
 use Rattle.model.proofs.Borrowing.{unclaimed}
+use Rattle.model.proofs.ComingIn.{atTalker, sharing, keptOut, oneAddressAt, inbound-more, shares-more}
 use Rattle.model.proofs.Untouched.{remaining, sceneAt, Alike, untouched}
 
 -- The bridge b′ has a stream z of rank 1 more than b, beside the streams l before it and r behind it.
@@ -28,25 +29,30 @@ pub record Joins (now : ℕ) (b b′ : Bridge) (l r : List Stream) (z : Stream) 
   pub after : remaining now b′ ≡ l ++ z ∷ r
   pub rank : fixedOf (sourceOf z) .rank ≡ 1
   -- an address of its own
-  pub address : All (λ y. sameAddressAt (sourceOf z) (sourceOf y) ≡ false) (l ++ r)
+  pub address : All (λ y. oneAddressAt (sourceOf z) (sourceOf y) ≡ false) (l ++ r)
   -- no limit of inbound ports, or a Talker port that is one of them already
   pub inbound : (b′ .settings .fanIn ≡ 0) ⊎ ((q : ℕ) → isSource (sourceOf z) q ≡ true → isInbound (inboundsOf (l ++ r)) q ≡ true)
 
 -- One stream more.
 
 module _ (l r : List Stream) (z : Stream) where
-  shares-past : (i : Inbound) → sameAddressAt (sourceOf z) (i .source) ≡ false → shares (inboundsOf (l ++ z ∷ r)) i ≡ shares (inboundsOf (l ++ r)) i
-  unfolding inboundsOf shares inboundOf
-  shares-past i e = go l
+  origin-past : (i : Inbound) → atTalker (λ o. sameAddressAt o (i .origin)) (sourceOf z) ≡ false → shares (inboundsOf (l ++ z ∷ r)) i ≡ shares (inboundsOf (l ++ r)) i
+  origin-past i e = go l
     where
       go : (m : List Stream) → shares (inboundsOf (m ++ z ∷ r)) i ≡ shares (inboundsOf (m ++ r)) i
-      go [] = rw (e, and-false (ltb (z .id) (i .id)))
-      go (y ∷ m) = rw (go m)
+      go [] = shares-more z r i ∙ rw (e, and-false (ltb (z .id) (i .id)))
+      go (y ∷ m) = shares-more y (m ++ z ∷ r) i ∙ rw (go m) (sym (shares-more y (m ++ r) i))
+
+  shares-past : (n : ℕ) (t : Source) → oneAddressAt (sourceOf z) t ≡ false → sharing (inboundsOf (l ++ z ∷ r)) n t ≡ sharing (inboundsOf (l ++ r)) n t
+  unfolding atTalker
+  shares-past n nowhere e = refl
+  shares-past n (from q) e = origin-past record { id = n; origin = q } e
 
   inbound-or : (q : ℕ) (m : List Stream) → isInbound (inboundsOf (m ++ z ∷ r)) q ≡ (isSource (sourceOf z) q || isInbound (inboundsOf (m ++ r)) q)
-  unfolding inboundsOf isInbound inboundOf
-  inbound-or q [] = refl
-  inbound-or q (y ∷ m) = rw (inbound-or q m) (go (isSource (sourceOf y) q) (isSource (sourceOf z) q) (isInbound (inboundsOf (m ++ r)) q))
+  inbound-or q [] = inbound-more z r q
+  inbound-or q (y ∷ m) =
+      inbound-more y (m ++ z ∷ r) q
+      ∙ rw (inbound-or q m, inbound-more y (m ++ r) q) (go (isSource (sourceOf y) q) (isSource (sourceOf z) q) (isInbound (inboundsOf (m ++ r)) q))
     where
       go : (a b c : Bool) → (a || (b || c)) ≡ (b || (a || c))
       go true true c = refl
@@ -77,8 +83,8 @@ module _ (l r : List Stream) (z : Stream) where
         go (inl e) = rw (eq-eqb limit 0 e)
         go (inr k) = rw (count-same (isInbound (inboundsOf (l ++ z ∷ r))) (isInbound (inboundsOf (l ++ r))) (same k) q)
 
-    kept-past : (o : Source) → isKeptOut limit (inboundsOf (l ++ z ∷ r)) o ≡ isKeptOut limit (inboundsOf (l ++ r)) o
-    unfolding isKeptOut
+    kept-past : (o : Source) → keptOut limit (inboundsOf (l ++ z ∷ r)) o ≡ keptOut limit (inboundsOf (l ++ r)) o
+    unfolding atTalker isKeptOut
     kept-past nowhere = refl
     kept-past (from o) = rw (bring-past (o .port))
 
@@ -90,21 +96,22 @@ module _ (l r : List Stream) (z : Stream) where
     abbrev new : Scene
     new = record { settings = st; owns = o; inbound = inboundsOf (l ++ z ∷ r) }
 
-    front-past : (here : Cell) (t : Source) → stepsFrom new p here t ≡ stepsFrom old p here t
-    unfolding stepsFrom
-    front-past here nowhere = refl
-    front-past here (from q) = refl
+    from-past : (here : Cell) (n : ℕ) (t : Source) → sharing (new .inbound) n t ≡ sharing (old .inbound) n t
+        → keptOut (st .fanIn) (new .inbound) t ≡ keptOut (st .fanIn) (old .inbound) t → stepsFrom new p here n t ≡ stepsFrom old p here n t
+    unfolding stepsFrom atTalker
+    from-past here n nowhere e f = refl
+    from-past here n (from q) e f = rw (e, f)
 
-    steps-past : (y : Stream) → sameAddressAt (sourceOf z) (sourceOf y) ≡ false → steps new p y ≡ steps old p y
-    unfolding steps lastSteps inboundOf
-    steps-past y e = rw (shares-past (inboundOf y) e, kept-past (st .fanIn) h (sourceOf y), front-past (cellAt y p) (sourceOf y))
+    steps-past : (y : Stream) → oneAddressAt (sourceOf z) (sourceOf y) ≡ false → steps new p y ≡ steps old p y
+    unfolding steps
+    steps-past y e = rw (from-past (cellAt y p) (y .id) (sourceOf y) (shares-past (y .id) (sourceOf y) e) (kept-past (st .fanIn) h (sourceOf y)))
 
-    claims-past : (c : Class) (m : List Stream) → All (λ y. sameAddressAt (sourceOf z) (sourceOf y) ≡ false) m → claims new now p c m ≡ claims old now p c m
+    claims-past : (c : Class) (m : List Stream) → All (λ y. oneAddressAt (sourceOf z) (sourceOf y) ≡ false) m → claims new now p c m ≡ claims old now p c m
     unfolding claims
     claims-past c [] a = refl
     claims-past c (y ∷ m) a = rw (steps-past y (a .0), claims-past c m (a .1))
 
-    module _ (address : All (λ y. sameAddressAt (sourceOf z) (sourceOf y) ≡ false) (l ++ r)) where
+    module _ (address : All (λ y. oneAddressAt (sourceOf z) (sourceOf y) ≡ false) (l ++ r)) where
       -- the newcomer's claim is not above that of a more important stream
       above-past : (k : ℕ) → k < key (claim st now p z) → (c : Class) → above k (claims new now p c (l ++ z ∷ r)) ≡ above k (claims old now p c (l ++ r))
       unfolding above claims
@@ -133,7 +140,7 @@ module _ (l r : List Stream) (z : Stream) where
 
 -- Nothing of a stream x of rank 0 changes, on any port.
 module _ (now : ℕ) (b b′ : Bridge) (l r : List Stream) (z : Stream) (n : Joins now b b′ l r z) (p : ℕ) (x : Stream) (small : Small (x .id))
-    (age : ageOf now (resultAt x p) < 2 ^ 32) (rank : fixedOf (sourceOf x) .rank ≡ 0) (address : sameAddressAt (sourceOf z) (sourceOf x) ≡ false)
+    (age : ageOf now (resultAt x p) < 2 ^ 32) (rank : fixedOf (sourceOf x) .rank ≡ 0) (address : oneAddressAt (sourceOf z) (sourceOf x) ≡ false)
     (class : streamClass (b′ .settings) x ≡ classB → sameClass (streamClass (b′ .settings) z) classA ≡ false) where
   less : key (claim (b′ .settings) now p x) < key (claim (b′ .settings) now p z)
   unfolding claim
@@ -145,7 +152,7 @@ module _ (now : ℕ) (b b′ : Bridge) (l r : List Stream) (z : Stream) (n : Joi
     registrations = refl;
     important = rw (n .before, n .after, n .settings, n .owns) (sym (above-past l r z (b′ .settings) _ now p (n .inbound) (n .address) _ less _));
     borrowed = rw (n .before, n .after, n .settings, n .owns) (λ e. sym (total-past l r z (b′ .settings) _ now p (n .inbound) (n .address) (class e)));
-    address = rw (n .before, n .after) (sym (shares-past l r z (inboundOf x) (unfold inboundOf in address)));
+    address = rw (n .before, n .after) (sym (shares-past l r z (x .id) (sourceOf x) address));
     edge = rw (n .settings, n .owns);
     inbound = rw (n .before, n .after, n .settings) (sym (kept-past l r z (b′ .settings .fanIn) (n .inbound) (sourceOf x)));
     wanted = rw (n .settings, n .owns) (λ e. refl);

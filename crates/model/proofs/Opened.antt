@@ -37,7 +37,7 @@ unfolding Frames.typeOctet Frames.typeNumber Frames.firstWidths Frames.firstLeng
 receivingOpened = tt
 
 settlingOpened : Unit {0}
-unfolding Bandwidth.demand Bandwidth.rate Bandwidth.rateOfA Bandwidth.rateOfB Bandwidth.rateOf Bandwidth.key Bandwidth.above Bandwidth.insert Bandwidth.sort Bandwidth.share Bandwidth.reserved Bandwidth.remains Bandwidth.admitted Bandwidth.total Settling.expired Settling.expireTalker Settling.expireListener Settling.expireCell Settling.expire Settling.isTalking Settling.isHearing Settling.held Settling.remain Settling.source Settling.sourceOf Settling.isSource Settling.fixedOf Settling.latencyOf Settling.talkerTypeOf Settling.streamClass Settling.registered Settling.isReady Settling.expireDomain Settling.outlasts Settling.remainAddresses Settling.holdsAddress Settling.isDomain Settling.anyDomain Settling.otherPriority Settling.domainsOf Settling.anySupports Settling.isEdge Settling.flagOf Settling.decideOwn Settling.decideOwns Settling.boundary Settling.inboundOf Settling.inboundsOf Settling.isInbound Settling.inboundBelow Settling.mayBring Settling.isKeptOut Settling.sameAddress Settling.sameAddressAt Settling.shares Settling.first Settling.clear Settling.isTalkerFailed Settling.failedColumn Settling.outcomeColumn Settling.isPruned Settling.stepsFrom Settling.lastSteps Settling.steps Settling.ageOf Settling.claim Settling.claims Settling.reservedA Settling.limitOn Settling.leftFor Settling.byBandwidth Settling.columnOf Settling.capped Settling.latencyOut Settling.entryOf Settling.ageKept Settling.latencyKept Settling.passed Settling.merge Settling.mergeAll Settling.merged Settling.decideAt Settling.decide Settling.totalOn Settling.totalsOn Settling.deciding Settling.declaring Settling.settle Settling.advance Why.letter Why.sameStep Why.firstName Why.lastName Why.stepOn Why.reserving Why.listed Why.plainly Why.reasonOn Why.sceneNow Why.reason Settling.bandwidthSteps
+unfolding Bandwidth.demand Bandwidth.rate Bandwidth.rateOfA Bandwidth.rateOfB Bandwidth.rateOf Bandwidth.key Bandwidth.above Bandwidth.insert Bandwidth.sort Bandwidth.share Bandwidth.reserved Bandwidth.remains Bandwidth.admitted Bandwidth.total Settling.expired Settling.expireTalker Settling.expireListener Settling.expireCell Settling.expire Settling.isTalking Settling.isHearing Settling.held Settling.remain Settling.source Settling.sourceOf Settling.isSource Settling.fixedOf Settling.latencyOf Settling.talkerTypeOf Settling.streamClass Settling.registered Settling.isReady Settling.expireDomain Settling.outlasts Settling.remainAddresses Settling.holdsAddress Settling.isDomain Settling.anyDomain Settling.otherPriority Settling.domainsOf Settling.anySupports Settling.isEdge Settling.flagOf Settling.decideOwn Settling.decideOwns Settling.boundary Settling.addInbound Settling.inboundsOf Settling.isInbound Settling.inboundBelow Settling.mayBring Settling.isKeptOut Settling.sameAddress Settling.sameAddressAt Settling.shares Settling.first Settling.clear Settling.isTalkerFailed Settling.failedColumn Settling.outcomeColumn Settling.isPruned Settling.stepsFrom Settling.steps Settling.ageOf Settling.claim Settling.claims Settling.reservedA Settling.limitOn Settling.leftFor Settling.byBandwidth Settling.columnOf Settling.capped Settling.latencyOut Settling.entryOf Settling.ageKept Settling.latencyKept Settling.passed Settling.merge Settling.mergeAll Settling.merged Settling.decideAt Settling.decide Settling.totalOn Settling.totalsOn Settling.deciding Settling.declaring Settling.settle Settling.advance Why.letter Why.sameStep Why.firstName Why.lastName Why.stepOn Why.reserving Why.listed Why.plainly Why.reasonOn Why.sceneNow Why.reason Settling.bandwidthSteps
 settlingOpened = tt
 
 sendingOpened : Unit {0}

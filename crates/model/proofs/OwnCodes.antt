@@ -1,13 +1,13 @@
 -- Own failures: a step that gives an own code decides a column exactly where it applies and none before it does.
 use mathlib.Core.Path.{_≡_, refl, sym, ap, _∙_}
-use mathlib.Core.List.{List, [], _∷_, _++_}
+use mathlib.Core.List.{List, [], _∷_}
 use mathlib.Core.Bool.{Bool, true, false, cond, not, _&&_, true≢false, false≢true}
 use Prim.Native.Nat.{ℕ, _≤_}
 use native.Mathlib.Omega.{arith}
 use lib.Dec.{eqb, leb}
 use borrow.Author.Tests.{eqb-true, eq-eqb}
 use Rattle.model.specs.State.{Settings, TalkerType, talkerAdvertise, talkerFailed, Column, advertise, failed, Cell, Stream, isPort}
-use Rattle.model.specs.Settling.{Source, sourceOf, talkerTypeOf, Scene, Outcome, columnNone, asRegistered, ownFailure, stepA, Step, first, clear, isTalkerFailed, failedColumn, outcomeColumn, Inbound, stepsFrom, lastSteps, steps, claim, leftFor, byBandwidth, columnOf, asAdvertise, outcomeOf, bandwidthSteps}
+use Rattle.model.specs.Settling.{Source, nowhere, sourceOf, talkerTypeOf, Scene, Outcome, columnNone, asRegistered, ownFailure, stepA, Step, first, clear, isTalkerFailed, failedColumn, outcomeColumn, stepsFrom, steps, claim, leftFor, byBandwidth, columnOf, asAdvertise, outcomeOf, bandwidthSteps}
 use Rattle.model.specs.Table.{columnCode}
 
 -- whether an outcome is the own failure of code n
@@ -84,11 +84,31 @@ module _ (says : Outcome → Column) (n : ℕ) (c : Column) where
         go false true f h e ih = absurd (true≢false (sym (coded (outcomeOf s) e) ∙ f))
         go false false f h e ih = ih h e
 
+-- the step of a code does not apply where none of the steps does.
+pub not-asked : (n : ℕ) (l : List Step) → clear l ≡ true → asked n l ≡ false
+unfolding clear asked
+not-asked n [] h = refl
+not-asked n (s ∷ l) h = go (gives n (outcomeOf s)) (s .test) h (not-asked n l)
+  where
+    go : (g t : Bool) → (not t && clear l) ≡ true → (clear l ≡ true → asked n l ≡ false) → cond g t (asked n l) ≡ false
+    go g true h ih = absurd (false≢true h)
+    go true false h ih = refl
+    go false false h ih = ih h
+
 -- Of a stream on a port. A code above 1: 0 is none, and 1 is that of bandwidth.
 
--- the steps by the cell here, what comes in, and the Talker's place, if there is one
-abbrev pub stepsOf : Scene → ℕ → Cell → Inbound → Source → List Step
-stepsOf sc p here i o = record { name = stepA; test = not (isPort (sc .settings) p) } ∷ (stepsFrom sc p here o ++ lastSteps sc p i)
+-- the steps by the cell here, the StreamID, and the Talker's place, if there is one
+abbrev pub stepsOf : Scene → ℕ → Cell → ℕ → Source → List Step
+stepsOf sc p here n o = record { name = stepA; test = not (isPort (sc .settings) p) } ∷ stepsFrom sc p here n o
+
+-- without a Talker one of them applies before any own failure
+pub no-talker : (sc : Scene) (p : ℕ) (here : Cell) (n code : ℕ) → clear (earlier code (stepsOf sc p here n nowhere)) ≡ true → ⊥
+unfolding stepsFrom clear earlier gives
+no-talker sc p here n code free = go (isPort (sc .settings) p) free
+  where
+    go : (t : Bool) → (not (not t) && false) ≡ true → ⊥
+    go true e = false≢true e
+    go false e = false≢true e
 
 advertise-code : (st : Settings) (o : Source) (n : ℕ) → 2 ≤ n → isTalkerFailed (talkerTypeOf o) ≡ false
     → (w : Outcome) → columnCode (outcomeColumn st o w) ≡ n → gives n w ≡ true

@@ -1,7 +1,7 @@
 -- Talker pruning (02, vi): a stream is pruned on a port exactly where the setting is on, no earlier step applies and the port does not
 -- hold the stream's destination; and with the setting off, what is registered by MMRP changes no result.
 use mathlib.Core.Path.{_≡_, refl, sym, _∙_, ap}
-use mathlib.Core.List.{List, [], _∷_, _++_, map, List·Memᴰ, List·Memᴰ·head, List·Memᴰ·tail, List·Memᴰ·cases-cons, List·Memᴰ·not-nil, map-congr-left}
+use mathlib.Core.List.{List, [], _∷_, map, List·Memᴰ, List·Memᴰ·head, List·Memᴰ·tail, List·Memᴰ·cases-cons, List·Memᴰ·not-nil, map-congr-left}
 use mathlib.Core.Logic.{_↔_, _⊎_, inl, inr}
 use mathlib.Core.Bool.{Bool, true, false, cond, not, _&&_, _||_, true≢false, false≢true}
 use Prim.Native.Nat.{ℕ, _-_, _<_}
@@ -14,7 +14,7 @@ use Rattle.model.specs.Lists.{All, tabulate}
 use Rattle.model.specs.State.{Settings, Fixed, TalkerType, talkerAdvertise, talkerFailed, Address, Own, Column, none, advertise, failed, Stream, Bridge, Class, noClass, classA, classB, noOwn, ownAt, cellAt, portAt, isPort, classOf, supports}
 use Rattle.model.specs.Registrations.{AddressAct, doesAddresses, changeAddresses, AddressReading, refusedFrame, addressActs, Answer, owning, macs}
 use Rattle.model.specs.AddressFrames.{addressReading}
-use Rattle.model.specs.Settling.{Scene, Inbound, inboundOf, inboundsOf, decideOwn, decideOwns, boundary, holdsAddress, isPruned, remain, Origin, Source, nowhere, from, sourceOf, talkerTypeOf, streamClass, registered, columnNone, StepName, stepA, stepB, stepH, stepI, stepN, ownFailure, Step, first, isTalkerFailed, failedColumn, outcomeColumn, stepsFrom, lastSteps, steps, claim, claims, reservedA, limitOn, leftFor, byBandwidth, columnOf, passed, merged, decideAt, decide, totalOn, totalsOn, dropUnheld, declare, deciding, declaring, settle, Outcome, asAdvertise, asRegistered, bandwidthSteps, outcomeOf, about}
+use Rattle.model.specs.Settling.{Scene, Inbound, inboundsOf, decideOwn, decideOwns, boundary, holdsAddress, isPruned, remain, Origin, Source, nowhere, from, sourceOf, talkerTypeOf, streamClass, registered, columnNone, StepName, stepA, stepB, stepH, stepI, stepN, ownFailure, Step, first, isTalkerFailed, failedColumn, outcomeColumn, stepsFrom, steps, claim, claims, reservedA, limitOn, leftFor, byBandwidth, columnOf, passed, merged, decideAt, decide, totalOn, totalsOn, dropUnheld, declare, deciding, declaring, settle, Outcome, asAdvertise, asRegistered, bandwidthSteps, outcomeOf, about, flagOf, clear, mergeAll}
 use Rattle.model.specs.Why.{letter, sameStep, firstName, lastName, stepOn}
 use Rattle.model.specs.Table.{columnNumber}
 use Rattle.model.specs.Calls.{receiveMmrp}
@@ -94,10 +94,10 @@ pub record Reaches (sc : Scene) (p : ℕ) (x : Stream) (o : Origin) : Type 0 whe
 module _ (sc : Scene) (now : ℕ) (s : List Stream) (p : ℕ) (x : Stream) (o : Origin) (r : Reaches sc p x o) where
   -- the steps behind those, pruning and "as registered"
   abbrev failures : List Step
-  failures = drop 5 (stepsOf sc p (cellAt x p) (inboundOf x) (from o))
+  failures = drop 5 (stepsOf sc p (cellAt x p) (x .id) (from o))
 
   all-fail : everyStep (λ n. isOwn (about n .outcome)) failures ≡ true
-  unfolding stepsFrom lastSteps everyStep isOwn
+  unfolding stepsFrom everyStep isOwn
   all-fail = refl
 
   -- the column that they give, and a Failed registration before them
@@ -145,14 +145,14 @@ module _ (sc : Scene) (now : ℕ) (s : List Stream) (p : ℕ) (x : Stream) where
 
   -- no step behind it has its name
   rest : Origin → StepName
-  rest o = firstName (drop 4 (stepsOf sc p (cellAt x p) (inboundOf x) (from o))) last
+  rest o = firstName (drop 4 (stepsOf sc p (cellAt x p) (x .id) (from o))) last
 
   rest-other : (o : Origin) → rest o ≡ stepN → ⊥
-  unfolding rest last lastName bandwidthSteps firstName stepsFrom lastSteps sameStep letter everyStep
+  unfolding rest last lastName bandwidthSteps firstName stepsFrom sameStep letter everyStep
   rest-other o =
       not-same (rest o) stepN
-      (not-named stepN (drop 4 (stepsOf sc p (cellAt x p) (inboundOf x) (from o)))
-      (every-not (λ n. sameStep n stepN) (drop 4 (stepsOf sc p (cellAt x p) (inboundOf x) (from o))) refl) last
+      (not-named stepN (drop 4 (stepsOf sc p (cellAt x p) (x .id) (from o)))
+      (every-not (λ n. sameStep n stepN) (drop 4 (stepsOf sc p (cellAt x p) (x .id) (from o))) refl) last
       (go (not (leb (claim (sc .settings) now p x .demand) (leftFor sc now s p x)))))
     where
       go : (t : Bool) → sameStep (cond t stepH stepI) stepN ≡ false
@@ -198,12 +198,12 @@ module _ (st : Settings) (off : st .pruning ≡ false) (o o′ : List Own) (i : 
   unpruned w f = ap (λ (t : Bool). t && not (holdsAddress (f .destination) (w .addresses))) off
 
   same-steps : (p : ℕ) (x : Stream) → steps one p x ≡ steps other p x
-  unfolding steps lastSteps
+  unfolding steps
   same-steps p x = go (sourceOf x)
     where
       go : (t : Source) → _≡_ {A = List Step}
-          (record { name = stepA; test = not (isPort st p) } ∷ (stepsFrom one p (cellAt x p) t ++ lastSteps one p (inboundOf x)))
-          (record { name = stepA; test = not (isPort st p) } ∷ (stepsFrom other p (cellAt x p) t ++ lastSteps other p (inboundOf x)))
+          (record { name = stepA; test = not (isPort st p) } ∷ stepsFrom one p (cellAt x p) (x .id) t)
+          (record { name = stepA; test = not (isPort st p) } ∷ stepsFrom other p (cellAt x p) (x .id) t)
       go nowhere = unfold stepsFrom in refl
       go (from q) =
           let f = q .registration .fixed in

@@ -8,10 +8,11 @@ use Prim.Native.Nat.{ℕ, _<_}
 use lib.ListN.{length, getD}
 use Rattle.model.specs.State.{Settings, Fixed, Own, Stream, Bridge, fresh, unsettled, streamAt, resultAt, Class, noClass, classA, classB, classOf, inForce, portAt, cellAt, ownAt}
 use Rattle.model.specs.Bandwidth.{key, above, remains}
-use Rattle.model.specs.Settling.{Scene, Inbound, inboundOf, inboundsOf, shares, isKeptOut, decideOwns, remain, Source, nowhere, from, sourceOf, fixedOf, streamClass, boundary, holdsAddress, isPruned, stepsFrom, lastSteps, steps, claim, claims, reservedA, limitOn, leftFor, columnOf, decideAt, decide, totalOn, deciding}
+use Rattle.model.specs.Settling.{Scene, Inbound, inboundsOf, shares, isKeptOut, decideOwns, remain, Source, nowhere, from, sourceOf, fixedOf, streamClass, boundary, holdsAddress, isPruned, stepsFrom, steps, claim, claims, reservedA, limitOn, leftFor, columnOf, decideAt, decide, totalOn, deciding, settle}
 use Rattle.model.specs.Table.{columnCode}
 use Rattle.model.proofs.Lists.{getD-map, at-place}
 use Rattle.model.proofs.ColumnRule.{reserved-a}
+use Rattle.model.proofs.ComingIn.{atTalker, sharing, keptOut}
 
 -- The streams that an advance of b to the time now decides, and what their columns are decided by.
 abbrev pub remaining : ℕ → Bridge → List Stream
@@ -34,9 +35,9 @@ pub record Alike (now : ℕ) (b b′ : Bridge) (p : ℕ) (x x′ : Stream) : Typ
   pub borrowed : streamClass (b .settings) x ≡ classB → totalOn (sceneAt now b) now (remaining now b) p classA ≡ totalOn (sceneAt now b′) now (remaining now b′) p classA
   -- "For codes 5, 8 and 15 .. the facts that those tests read": whether a lower StreamID has its address, whether the port is at the
   -- edge of its class's domain, whether its Talker port may bring streams in
-  pub address : shares (inboundsOf (remaining now b)) (inboundOf x) ≡ shares (inboundsOf (remaining now b′)) (inboundOf x′)
+  pub address : sharing (inboundsOf (remaining now b)) (x .id) (sourceOf x) ≡ sharing (inboundsOf (remaining now b′)) (x′ .id) (sourceOf x′)
   pub edge : boundary (ownAt (sceneAt now b .owns) p) (streamClass (b .settings) x) ≡ boundary (ownAt (sceneAt now b′ .owns) p) (streamClass (b′ .settings) x′)
-  pub inbound : isKeptOut (b .settings .fanIn) (inboundsOf (remaining now b)) (sourceOf x) ≡ isKeptOut (b′ .settings .fanIn) (inboundsOf (remaining now b′)) (sourceOf x′)
+  pub inbound : keptOut (b .settings .fanIn) (inboundsOf (remaining now b)) (sourceOf x) ≡ keptOut (b′ .settings .fanIn) (inboundsOf (remaining now b′)) (sourceOf x′)
   -- "and for pruning": where it is on, whether the port holds the stream's destination
   pub wanted : b .settings .pruning ≡ true →
       holdsAddress (fixedOf (sourceOf x) .destination) (ownAt (sceneAt now b .owns) p .addresses)
@@ -51,9 +52,9 @@ module _ (st : Settings) (o o′ : List Own) (i i′ : List Inbound) (now p : �
     (important : above (key (claim st now p x)) (claims (scene st o i) now p (streamClass st x) s)
     ≡ above (key (claim st now p x′)) (claims (scene st o′ i′) now p (streamClass st x′) s′))
     (borrowed : streamClass st x ≡ classB → totalOn (scene st o i) now s p classA ≡ totalOn (scene st o′ i′) now s′ p classA)
-    (address : shares i (inboundOf x) ≡ shares i′ (inboundOf x′))
+    (address : sharing i (x .id) (sourceOf x) ≡ sharing i′ (x′ .id) (sourceOf x′))
     (edge : boundary (ownAt o p) (streamClass st x) ≡ boundary (ownAt o′ p) (streamClass st x′))
-    (inbound : isKeptOut (st .fanIn) i (sourceOf x) ≡ isKeptOut (st .fanIn) i′ (sourceOf x′))
+    (inbound : keptOut (st .fanIn) i (sourceOf x) ≡ keptOut (st .fanIn) i′ (sourceOf x′))
     (wanted : st .pruning ≡ true → holdsAddress (fixedOf (sourceOf x) .destination) (ownAt o p .addresses)
     ≡ holdsAddress (fixedOf (sourceOf x′) .destination) (ownAt o′ p .addresses)) where
   same-source : sourceOf x ≡ sourceOf x′
@@ -86,23 +87,23 @@ module _ (st : Settings) (o o′ : List Own) (i i′ : List Inbound) (now p : �
       go true k = ap not (k refl)
       go false k = refl
 
-  same-first : stepsFrom (scene st o i) p (cellAt x p) (sourceOf x) ≡ stepsFrom (scene st o′ i′) p (cellAt x′ p) (sourceOf x′)
+  same-steps : stepsFrom (scene st o i) p (cellAt x p) (x .id) (sourceOf x) ≡ stepsFrom (scene st o′ i′) p (cellAt x′ p) (x′ .id) (sourceOf x′)
   unfolding streamClass
-  same-first = unfold cellAt in (rw (same-source, cells) (go (sourceOf x′) (rw same-source at edge) (same-pruning (fixedOf (sourceOf x′)) (rw same-source at wanted))))
+  same-steps =
+      unfold cellAt in
+      (rw (same-source, cells)
+      (go (sourceOf x′) (rw same-source at edge) (same-pruning (fixedOf (sourceOf x′)) (rw same-source at wanted)) (rw same-source at address) (rw same-source at inbound)))
     where
       go : (t : Source) → boundary (ownAt o p) (classOf st (fixedOf t .priority)) ≡ boundary (ownAt o′ p) (classOf st (fixedOf t .priority))
-          → isPruned st (ownAt o p) (fixedOf t) ≡ isPruned st (ownAt o′ p) (fixedOf t)
-          → stepsFrom (scene st o i) p (cellAt x′ p) t ≡ stepsFrom (scene st o′ i′) p (cellAt x′ p) t
-      go nowhere e k = unfold stepsFrom in refl
-      go (from q) e k = unfold stepsFrom fixedOf in (rw (e, k))
-
-  same-last : lastSteps (scene st o i) p (inboundOf x) ≡ lastSteps (scene st o′ i′) p (inboundOf x′)
-  unfolding lastSteps inboundOf
-  same-last = rw (address, inbound, same-source)
+          → isPruned st (ownAt o p) (fixedOf t) ≡ isPruned st (ownAt o′ p) (fixedOf t) → sharing i (x .id) t ≡ sharing i′ (x′ .id) t
+          → keptOut (st .fanIn) i t ≡ keptOut (st .fanIn) i′ t
+          → stepsFrom (scene st o i) p (cellAt x′ p) (x .id) t ≡ stepsFrom (scene st o′ i′) p (cellAt x′ p) (x′ .id) t
+      go nowhere e k a b = unfold stepsFrom in refl
+      go (from q) e k a b = unfold stepsFrom fixedOf atTalker in (rw (e, k, a, b))
 
   same-column : columnOf (scene st o i) now s p x ≡ columnOf (scene st o′ i′) now s′ p x′
   unfolding columnOf steps leftFor remains claim streamClass
-  same-column = rw (same-first, same-last, same-limit, important, same-source)
+  same-column = rw (same-steps, same-limit, important, same-source)
 
 -- Any two bridges that agree so give the stream the same column, the same code and the same entry on the port.
 pub untouched : (now : ℕ) (b b′ : Bridge) (p : ℕ) (x x′ : Stream) → Alike now b b′ p x x′ →

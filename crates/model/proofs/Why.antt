@@ -10,9 +10,9 @@ use lib.Dec.{leb}
 use borrow.Author.Tests.{leb-true, leb-false}
 use Rattle.model.specs.Lists.{All}
 use Rattle.model.specs.State.{Settings, Cell, Column, advertise, failed, Stream, cellAt}
-use Rattle.model.specs.Settling.{Scene, Source, nowhere, from, sourceOf, streamClass, Inbound, inboundOf, StepName, stepH, stepI, Step, first, clear, outcomeColumn, stepsFrom, lastSteps, steps, claim, limitOn, leftFor, byBandwidth, columnOf, Outcome, columnNone, asRegistered, asAdvertise, ownFailure, about, outcomeOf, bandwidthSteps}
+use Rattle.model.specs.Settling.{Scene, Source, nowhere, from, sourceOf, streamClass, StepName, stepH, stepI, Step, first, clear, outcomeColumn, stepsFrom, steps, claim, limitOn, leftFor, byBandwidth, columnOf, Outcome, columnNone, asRegistered, asAdvertise, ownFailure, about, outcomeOf, bandwidthSteps}
 use Rattle.model.specs.Table.{columnCode}
-use Rattle.model.proofs.Lists.{all-append, all-map}
+use Rattle.model.proofs.Lists.{all-map}
 use Rattle.model.proofs.StepNames.{everyStep, every-all, isRegistered}
 use Rattle.model.specs.Why.{letter, sameStep, code, columnBy, firstName, lastName, stepOn, listed, plainly, reasonOn, ownCode}
 
@@ -59,7 +59,7 @@ module _ (sc : Scene) (p : ℕ) (x : Stream) where
 
 -- The steps before h have other names than h and i, so that i stands for none of them.
 
-abbrev Before : Step → Type 0
+abbrev pub Before : Step → Type 0
 Before t = (sameStep (t .name) stepH ≡ false) × (sameStep (t .name) stepI ≡ false)
 
 others : StepName → Bool
@@ -74,18 +74,13 @@ before-each l h = all-map (λ t. others (t .name) ≡ true) Before (λ t. both (
     both false true e = absurd (false≢true e)
     both false false e = (refl, refl)
 
-before-first : (sc : Scene) (p : ℕ) (here : Cell) (o : Source) → All Before (stepsFrom sc p here o)
+pub before-from : (sc : Scene) (p : ℕ) (here : Cell) (n : ℕ) (o : Source) → All Before (stepsFrom sc p here n o)
 unfolding stepsFrom everyStep others sameStep letter
-before-first sc p here o = before-each (stepsFrom sc p here o) (elim o [ nowhere ↦ refl | from q ↦ refl ])
-
-before-last : (sc : Scene) (p : ℕ) (i : Inbound) → All Before (lastSteps sc p i)
-unfolding lastSteps everyStep others sameStep letter
-before-last sc p i = before-each (lastSteps sc p i) refl
+before-from sc p here n o = before-each (stepsFrom sc p here n o) (elim o [ nowhere ↦ refl | from q ↦ refl ])
 
 before-all : (sc : Scene) (p : ℕ) (x : Stream) → All Before (steps sc p x)
 unfolding steps sameStep letter
-before-all sc p x =
-    ((refl, refl), all-append Before (stepsFrom sc p (cellAt x p) (sourceOf x)) (lastSteps sc p (inboundOf x)) (before-first sc p (cellAt x p) (sourceOf x)) (before-last sc p (inboundOf x)))
+before-all sc p x = ((refl, refl), before-from sc p (cellAt x p) (x .id) (sourceOf x))
 
 -- some step of a list applies, or none does
 module _ (n : StepName) where
@@ -108,7 +103,7 @@ module _ (n : StepName) where
       go true h ih = absurd (false≢true h)
       go false h ih = ih h
 
-clear-named : (l : List Step) → All Before l → clear l ≡ sameStep (firstName l stepI) stepI
+pub clear-named : (l : List Step) → All Before l → clear l ≡ sameStep (firstName l stepI) stepI
 unfolding firstName clear
 clear-named [] a = unfold sameStep letter in refl
 clear-named (t ∷ l) a = go (t .test) (clear-named l (a .1))
@@ -120,9 +115,6 @@ clear-named (t ∷ l) a = go (t .test) (clear-named l (a .1))
 -- i is given where no step before h applies
 pub steps-clear : (sc : Scene) (p : ℕ) (x : Stream) → clear (steps sc p x) ≡ sameStep (firstName (steps sc p x) stepI) stepI
 steps-clear sc p x = clear-named (steps sc p x) (before-all sc p x)
-
-pub first-clear : (sc : Scene) (p : ℕ) (x : Stream) → clear (stepsFrom sc p (cellAt x p) (sourceOf x)) ≡ sameStep (firstName (stepsFrom sc p (cellAt x p) (sourceOf x)) stepI) stepI
-first-clear sc p x = clear-named (stepsFrom sc p (cellAt x p) (sourceOf x)) (before-first sc p (cellAt x p) (sourceOf x))
 
 -- steps none of which is named m, with n behind them
 pub not-named : (m : StepName) (l : List Step) → All (λ t. sameStep (t .name) m ≡ false) l → (n : StepName) → sameStep n m ≡ false → sameStep (firstName l n) m ≡ false

@@ -1,5 +1,5 @@
 -- Settling: what advance decides (01, "Settling"; 35.2.4).
-use mathlib.Core.List.{List, [], _∷_, _++_, map}
+use mathlib.Core.List.{List, [], _∷_, map}
 use mathlib.Core.Bool.{Bool, true, false, cond, not, _&&_, _||_}
 use Prim.Native.Nat.{ℕ, suc, _+_, _/_}
 use lib.ListN.{take, drop}
@@ -192,21 +192,24 @@ boundary o noClass = false
 boundary o classA = o .boundaryA
 boundary o classB = o .boundaryB
 
--- What the other streams' columns ask of a stream: its StreamID, and its Talker port with what is registered there.
+-- What the other streams' columns ask of a stream with a Talker: its StreamID, and its Talker port with what is registered there.
 pub record Inbound : Type 0 where
   pub id : ℕ
-  pub source : Source
+  pub origin : Origin
 
-unfoldable pub inboundOf : Stream → Inbound
-inboundOf x = record { id = x .id; source = sourceOf x }
+-- the stream with StreamID n, if it has a Talker, before those behind it
+unfoldable pub addInbound : ℕ → Source → List Inbound → List Inbound
+addInbound n nowhere l = l
+addInbound n (from o) l = record { id = n; origin = o } ∷ l
 
 unfoldable pub inboundsOf : List Stream → List Inbound
-inboundsOf s = map inboundOf s
+inboundsOf [] = []
+inboundsOf (x ∷ s) = addInbound (x .id) (sourceOf x) (inboundsOf s)
 
 -- Inbound ports (02, x; msrpMaxFanInPorts): "such a port is one that is t for some stream"
 unfoldable pub isInbound : List Inbound → ℕ → Bool
 isInbound [] p = false
-isInbound (i ∷ l) p = isSource (i .source) p || isInbound l p
+isInbound (i ∷ l) p = eqb (i .origin .port) p || isInbound l p
 
 -- "the number of ports with an inbound Talker among those numbered below it"
 unfoldable pub inboundBelow : List Inbound → ℕ → ℕ
@@ -217,22 +220,19 @@ unfoldable pub mayBring : ℕ → List Inbound → ℕ → Bool
 mayBring limit l p = eqb limit 0 || ltb (inboundBelow l p) limit
 
 -- the stream comes in on another port
-unfoldable pub isKeptOut : ℕ → List Inbound → Source → Bool
-isKeptOut limit l nowhere = false
-isKeptOut limit l (from o) = not (mayBring limit l (o .port))
+unfoldable pub isKeptOut : ℕ → List Inbound → Origin → Bool
+isKeptOut limit l o = not (mayBring limit l (o .port))
 
 -- Shared addresses (02, x): "a stream whose destination and VLAN at its t equal those of a lower StreamID at that one's t"
 unfoldable pub sameAddress : Fixed → Fixed → Bool
 sameAddress f g = eqb (f .destination) (g .destination) && eqb (f .vlan) (g .vlan)
 
-unfoldable pub sameAddressAt : Source → Source → Bool
-sameAddressAt nowhere t = false
-sameAddressAt (from o) nowhere = false
-sameAddressAt (from o) (from q) = sameAddress (o .registration .fixed) (q .registration .fixed)
+unfoldable pub sameAddressAt : Origin → Origin → Bool
+sameAddressAt o q = sameAddress (o .registration .fixed) (q .registration .fixed)
 
 unfoldable pub shares : List Inbound → Inbound → Bool
 shares [] i = false
-shares (j ∷ l) i = (ltb (j .id) (i .id) && sameAddressAt (j .source) (i .source)) || shares l i
+shares (j ∷ l) i = (ltb (j .id) (i .id) && sameAddressAt (j .origin) (i .origin)) || shares l i
 
 -- What the columns of all streams are decided by, beside the streams: the settings, what the ports hold by themselves, and what
 -- comes in.
@@ -314,11 +314,11 @@ outcomeColumn st s (ownFailure code) = failed (st .bridgeId) code
 unfoldable pub isPruned : Settings → Own → Fixed → Bool
 isPruned st o f = st .pruning && not (holdsAddress (f .destination) (o .addresses))
 
--- steps a to f, j, k and n on the port at place p; 02, v: "While the present one is larger, an Advertise is declared Failed with
--- code 7"
-unfoldable pub stepsFrom : Scene → ℕ → Cell → Source → List Step
-stepsFrom sc p here nowhere = record { name = stepA; test = true } ∷ []
-stepsFrom sc p here (from o) =
+-- the steps before h in their order, on the port at place p whose cell is here, of the stream with StreamID n: without a Talker a
+-- alone; 02, v: "While the present one is larger, an Advertise is declared Failed with code 7", and x: "Test 5, then 15"
+unfoldable pub stepsFrom : Scene → ℕ → Cell → ℕ → Source → List Step
+stepsFrom sc p here n nowhere = record { name = stepA; test = true } ∷ []
+stepsFrom sc p here n (from o) =
     let st = sc .settings in
     let r = o .registration in
     let c = classOf st (r .fixed .priority) in
@@ -331,21 +331,14 @@ stepsFrom sc p here (from o) =
     ∷ record { name = stepE; test = isTalking here }
     ∷ record { name = stepF; test = isNoClass c }
     ∷ record { name = stepJ; test = boundary (ownAt (sc .owns) p) c }
-    ∷ []
-
--- behind them "Test 5, then 15", and g
-unfoldable pub lastSteps : Scene → ℕ → Inbound → List Step
-lastSteps sc p i =
-    record { name = stepL; test = shares (sc .inbound) i }
-    ∷ record { name = stepM; test = isKeptOut (sc .settings .fanIn) (sc .inbound) (i .source) }
-    ∷ record { name = stepG; test = ltb (portAt (sc .settings) p .largest) (fixedOf (i .source) .size) }
+    ∷ record { name = stepL; test = shares (sc .inbound) record { id = n; origin = o } }
+    ∷ record { name = stepM; test = isKeptOut (st .fanIn) (sc .inbound) o }
+    ∷ record { name = stepG; test = ltb (portAt st p .largest) (r .fixed .size) }
     ∷ []
 
 -- a place that is no port of this bridge has column none
 unfoldable pub steps : Scene → ℕ → Stream → List Step
-steps sc p x =
-    record { name = stepA; test = not (isPort (sc .settings) p) }
-    ∷ (stepsFrom sc p (cellAt x p) (sourceOf x) ++ lastSteps sc p (inboundOf x))
+steps sc p x = record { name = stepA; test = not (isPort (sc .settings) p) } ∷ stepsFrom sc p (cellAt x p) (x .id) (sourceOf x)
 
 -- "Age is counted from the whole second, clock / 100 rounded down, of the advance that first made an entry"; "An entry made
 -- by this advance counts from this advance in the order above"
@@ -383,7 +376,8 @@ leftFor sc now s p x =
     let c = streamClass (sc .settings) x in
     remains (limitOn sc now s p c) (claims sc now p c s) (claim (sc .settings) now p x)
 
--- behind the steps h, "demand above what is left", and i
+-- behind the steps h, "demand above what is left", and i; a list of their own, since what is left is found from the lists above of
+-- all streams of the class
 unfoldable pub bandwidthSteps : ℕ → ℕ → List Step
 bandwidthSteps demand left = record { name = stepH; test = not (fits demand left) } ∷ record { name = stepI; test = true } ∷ []
 

@@ -15,10 +15,10 @@ use Rattle.octets.proofs.Patches.{lent-patch, patch-within}
 use Rattle.model.specs.Layout.{cellIn, cellPlace, cellSize, fixedSize, fixedWidths, portPlace, portSize, recordPlace, recordSize, resultIn, resultPlace, resultSize, sendsIn, sendsPlace, sendsSize, settledOf, inRecord, totalPlace, totalSize}
 use Rattle.model.specs.State.{Fixed, Cell, Result, Sends, Stream, Totals, Bridge, portAt, cellAt, resultAt, sendsAt, noTotals, fresh}
 use Rattle.model.specs.Registrations.{at, change, holding}
-use Rattle.model.specs.Settling.{sceneOf, Inbound, inboundOf, inboundsOf, sourceOf}
+use Rattle.model.specs.Settling.{sceneOf, Inbound, inboundOf, inboundsOf, sourceOf, addInbound}
 use Rattle.model.specs.WrittenFrames.{fixedNumbers, fixedFrom}
 use Rattle.model.specs.Sending.{sendsOctets, toSends}
-use Rattle.model.specs.Table.{portOctets, cellOctets, toCell, resultOctets, toResult, streamOctets, totalsOctets, encode, decode}
+use Rattle.model.specs.Table.{portOctets, cellOctets, toCell, resultOctets, toResult, streamOctets, totalsOctets, encode, decode, fixedFrom}
 use Rattle.model.specs.Laid.{FitCell, FitResult, FitSends, FitStream, FitTotals, FitBridge, Laid}
 use Rattle.model.proofs.Lists.{all-at}
 use Rattle.model.proofs.Parts.{_also_}
@@ -36,17 +36,13 @@ use Rattle.table.proofs.Records.{record-part, record-patch}
 use Rattle.table.proofs.StreamParts.{fixed-length, settled-part, settled-patch, cell-part, cell-patch, cell-fits, result-part, result-patch, result-fits, sends-part, sends-patch, sends-fit}
 use Rattle.table.proofs.Fitting.{set-fits}
 
--- Streams with one StreamID and the same cells come in alike, and so does what a stream is replaced by.
-
-pub inbound-same : (x y : Stream) → x .id ≡ y .id → x .cells ≡ y .cells → inboundOf x ≡ inboundOf y
-unfolding inboundOf sourceOf
-inbound-same x y i c = rw (i, c)
-
-inbound-set : (s : List Stream) (k : ℕ) (x : Stream) → inboundOf x ≡ inboundOf (getD s k (fresh 0)) → inboundsOf (set s k x) ≡ inboundsOf s
-unfolding inboundsOf
-inbound-set [] k x e = refl
-inbound-set (y ∷ s) zero x e = rw e
-inbound-set (y ∷ s) (suc k) x e = ap (λ (l : List Inbound). inboundOf y ∷ l) (inbound-set s k x e)
+-- What a stream is replaced by comes in as the stream did, if it has its StreamID and its cells.
+inbound-set : (s : List Stream) (k : ℕ) (x : Stream) → x .id ≡ getD s k (fresh 0) .id → x .cells ≡ getD s k (fresh 0) .cells
+    → inboundsOf (set s k x) ≡ inboundsOf s
+unfolding inboundsOf sourceOf
+inbound-set [] k x i c = refl
+inbound-set (y ∷ s) zero x i c = rw (i, c)
+inbound-set (y ∷ s) (suc k) x i c = ap (addInbound (y .id) (sourceOf y)) (inbound-set s k x i c)
 
 -- Octets that encode a bridge whose numbers fit are laid out, and read as that bridge.
 
@@ -112,7 +108,7 @@ module _ {t : List ℕ} {k : ℕ} (s : Stands t k) where
       stream-replaced-scene c =
           ap sceneOf stream-replaced-read
           ∙ ap (λ (l : List Inbound). record { settings = decode t .settings; owns = decode t .owns; inbound = l })
-          (inbound-set (decode t .streams) k x (inbound-same x (streamAt k (decode t)) i c))
+          (inbound-set (decode t .streams) k x i c)
 
       pub stream-replaced-again : (y : Stream) (v : List ℕ) → v ≡ encode (withStream k y (decode u)) → v ≡ encode (withStream k y (decode t))
       unfolding holding

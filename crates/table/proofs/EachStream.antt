@@ -9,14 +9,14 @@ use lib.ListN.{length, getD, set}
 use Rattle.model.specs.Lists.{All}
 use Rattle.model.specs.State.{Cell, Stream, Bridge, fresh}
 use Rattle.model.specs.Registrations.{at, change, holding, ids}
-use Rattle.model.specs.Settling.{sceneOf, Inbound, inboundOf, inboundsOf}
+use Rattle.model.specs.Settling.{sceneOf, sourceOf, Inbound, inboundsOf}
 use Rattle.model.specs.Table.{encode, decode}
 use Rattle.model.specs.Laid.{FitCell, FitStream, FitBridge, Laid}
 use Rattle.model.proofs.Fits.{laid-is, laid-fits}
 use Rattle.table.specs.Updates.{streamAt, withStream}
 use Rattle.table.specs.Places.{Stands}
 use Rattle.table.proofs.Fitting.{holding-fits}
-use Rattle.table.proofs.ByPlace.{inbound-same, encoded-laid, encoded-read, stream-same, stream-replaced-stands, stream-replaced-at, stream-replaced-again}
+use Rattle.table.proofs.ByPlace.{encoded-laid, encoded-read, stream-same, stream-replaced-stands, stream-replaced-at, stream-replaced-again}
 
 -- The first k of a list changed.
 
@@ -98,10 +98,10 @@ module _ (g : Stream → Stream) where
     firsts-ids (suc k) (x ∷ s) = rw (same x, firsts-ids k s)
 
     firsts-inbound : ((x : Stream) → g x .cells ≡ x .cells) → (k : ℕ) (s : List Stream) → inboundsOf (firsts g k s) ≡ inboundsOf s
-    unfolding firsts inboundsOf
+    unfolding firsts inboundsOf sourceOf
     firsts-inbound c zero s = refl
     firsts-inbound c (suc k) [] = refl
-    firsts-inbound c (suc k) (x ∷ s) = rw (inbound-same (g x) x (same x) (c x)) (ap (λ (l : List Inbound). inboundOf x ∷ l) (firsts-inbound c k s))
+    firsts-inbound c (suc k) (x ∷ s) = rw (same x, c x, firsts-inbound c k s)
 
     module _ (t₀ : List ℕ) (l : Laid t₀) (k : ℕ) (t : List ℕ) (e : t ≡ encode (partly t₀ k)) where
       partly-fits : FitBridge (partly t₀ k)
