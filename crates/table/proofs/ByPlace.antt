@@ -15,10 +15,10 @@ use Rattle.octets.proofs.Patches.{lent-patch, patch-within}
 use Rattle.model.specs.Layout.{cellIn, cellPlace, cellSize, fixedSize, fixedWidths, portPlace, portSize, recordPlace, recordSize, resultIn, resultPlace, resultSize, sendsIn, sendsPlace, sendsSize, settledOf, inRecord, totalPlace, totalSize}
 use Rattle.model.specs.State.{Fixed, Cell, Result, Sends, Stream, Totals, Bridge, portAt, cellAt, resultAt, sendsAt, noTotals, fresh}
 use Rattle.model.specs.Registrations.{at, change, holding}
-use Rattle.model.specs.Settling.{sceneOf, Inbound, inboundOf, inboundsOf, sourceOf, addInbound}
+use Rattle.model.specs.Settling.{sceneOf, Inbound, inboundsOf, sourceOf, addInbound}
 use Rattle.model.specs.WrittenFrames.{fixedNumbers, fixedFrom}
 use Rattle.model.specs.Sending.{sendsOctets, toSends}
-use Rattle.model.specs.Table.{portOctets, cellOctets, toCell, resultOctets, toResult, streamOctets, totalsOctets, encode, decode, fixedFrom}
+use Rattle.model.specs.Table.{portOctets, cellOctets, toCell, resultOctets, toResult, streamOctets, totalsOctets, encode, decode}
 use Rattle.model.specs.Laid.{FitCell, FitResult, FitSends, FitStream, FitTotals, FitBridge, Laid}
 use Rattle.model.proofs.Lists.{all-at}
 use Rattle.model.proofs.Parts.{_also_}
