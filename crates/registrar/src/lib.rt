@@ -2,14 +2,14 @@
 ghost use mathlib.Core.Path.{_≡_};
 ghost use mathlib.Core.Bool.{true, false};
 ghost use mathlib.Core.List.{_∷_, [], map};
-ghost use Prim.Native.Nat.{ℕ, suc, _≤_, _<_};
+ghost use Prim.Native.Nat.{ℕ, suc, _<_};
 ghost use lib.ListN.{length};
 ghost use Rattle.model.specs.Lists.{All};
 ghost use Rattle.model.specs.State.{stays, domain};
 ghost use Rattle.model.specs.Settling.{isHeld};
 ghost use Rattle.model.specs.Laid.{Laid};
 ghost use Rattle.model.specs.Table.{encode, decode};
-ghost use Rattle.model.specs.Registrations.{leaveAll, leave, hearAll, hear, quit, does, hears, ofDomain, leaveAllDomains, hearAllDomains, hearDomain, quitDomain, hearsLeaveAll, movesSender, holding};
+ghost use Rattle.model.specs.Registrations.{leaveAll, leave, hearAll, hear, quit, does, hears, ofDomain, leaveAllDomains, hearAllDomains, hearDomain, quitDomain, hearsLeaveAll, holding};
 ghost use Rattle.model.specs.Frames.{vectors, walk, valueActs, valuesActs, leaveAllActs, vectorActs};
 ghost use Rattle.table.specs.Updates.{withCell, withSends, withSlot, withSender};
 ghost use Rattle.table.specs.Places.{StandsOn, PortIn, SlotIn};
