@@ -213,7 +213,7 @@ fn hear_domains(table: &mut [u8], p: usize)
     hearing::hear_domains(&mut table[a..a + table::SENDER], now);
 }
 
-// LeaveAll of an AttributeType, heard by the port's LeaveAll machine.
+// LeaveAll of a type, heard by the port's LeaveAll machine.
 fn restart(table: &mut [u8], p: usize)
     requires { ⌜ PortIn (now table) p ⌝ }
     ensures { λ _. ⌜ now (table .exit)
@@ -224,7 +224,7 @@ fn restart(table: &mut [u8], p: usize)
     hearing::restart(&mut table[a..a + table::SENDER], now);
 }
 
-// .. and by the Applicants of its streams.
+// LeaveAll of an AttributeType, heard by the Applicants of its streams.
 fn hear_streams(table: &mut [u8], p: usize, kind: u8)
     requires { ⌜ PortIn (now table) p ⌝ }
     ensures { λ _. ⌜ now (table .exit)
@@ -238,7 +238,7 @@ fn hear_streams(table: &mut [u8], p: usize, kind: u8)
     }
 }
 
-// Both.
+// The same, by these and by the LeaveAll machine.
 fn hear_all(table: &mut [u8], p: usize, kind: u8)
     requires { ⌜ PortIn (now table) p ⌝ }
     ensures { λ _. ⌜ Walked true p (hearAll (kindAt kind) ∷ []) (now (table .entry)) true (now (table .exit)) ⌝ }
