@@ -16,11 +16,11 @@ use Rattle.cells.specs.Acts.{kindAt}
 use Rattle.hearing.specs.Hears.{heardAt}
 use Rattle.hearing.proofs.One.{applicant-hears, heard-behind}
 
--- the Applicant of a type
-unfoldable pub applicantOf : Kind → ℕ
-applicantOf advertises = inSends.advertising
-applicantOf faileds = inSends.failing
-applicantOf listeners = inSends.listening
+-- where the Applicant of a type stands
+unfoldable pub applicantPlace : Kind → ℕ
+applicantPlace advertises = inSends.advertising
+applicantPlace faileds = inSends.failing
+applicantPlace listeners = inSends.listening
 
 module _ (h : Heard) (x : Sends) (w : FitSends x) where
   abbrev advertising : List ℕ
@@ -38,8 +38,8 @@ module _ (h : Heard) (x : Sends) (w : FitSends x) where
   failing-size : length failing ≡ failingSize
   failing-size = applicant-coded (both-values offer-values failure-values) .size (x .failing) (fit-sends x w .failing)
 
-  stream-hears : (k : Kind) → heardAt (applicantOf k) h (sendsOctets x) ≡ sendsOctets (hears k h x)
-  unfolding applicantOf sendsOctets hears moveKind heard
+  stream-hears : (k : Kind) → heardAt (applicantPlace k) h (sendsOctets x) ≡ sendsOctets (hears k h x)
+  unfolding applicantPlace sendsOctets hears moveKind heard
   stream-hears advertises = applicant-hears offerSize offerOctets h (x .advertising) (failing ++ listening)
   stream-hears faileds =
       heard-behind h advertising (failing ++ listening) advertisingSize 0 advertising-size
@@ -52,23 +52,23 @@ module _ (h : Heard) (x : Sends) (w : FitSends x) where
       (ap (heardAt 0 h) (sym (append-nil listening)) ∙ applicant-hears readySize readyOctets h (x .listening) [] ∙ append-nil _))
 
 -- on octets that are laid out
-pub sends-heard : (h : Heard) (s : List ℕ) → LaidSends s → (k : Kind) (at : ℕ) → at ≡ applicantOf k → (y : List ℕ) → y ≡ heardAt at h s →
+pub sends-heard : (h : Heard) (s : List ℕ) → LaidSends s → (k : Kind) (at : ℕ) → at ≡ applicantPlace k → (y : List ℕ) → y ≡ heardAt at h s →
     y ≡ sendsOctets (hears k h (toSends s))
 sends-heard h s l k at p y e =
     e ∙ ap (heardAt at h) (laid-sends-is s l) ∙ ap (λ (i : ℕ). heardAt i h (sendsOctets (toSends s))) p ∙ stream-hears h (toSends s) (laid-sends-fits s l) k
 
 -- the place that the code takes for a type
 module _ (kind : ℕ) where
-  pub place-advertising : kind ≡ 1 → inSends.advertising ≡ applicantOf (kindAt kind)
-  unfolding applicantOf kindAt
+  pub place-advertising : kind ≡ 1 → inSends.advertising ≡ applicantPlace (kindAt kind)
+  unfolding applicantPlace kindAt
   place-advertising e = rw e
 
-  pub place-failing : kind ≡ 2 → inSends.failing ≡ applicantOf (kindAt kind)
-  unfolding applicantOf kindAt
+  pub place-failing : kind ≡ 2 → inSends.failing ≡ applicantPlace (kindAt kind)
+  unfolding applicantPlace kindAt
   place-failing e = rw e
 
-pub place-listening : (kind : ℕ) → (kind ≡ 1 → ⊥) → (kind ≡ 2 → ⊥) → inSends.listening ≡ applicantOf (kindAt kind)
-unfolding applicantOf kindAt
+pub place-listening : (kind : ℕ) → (kind ≡ 1 → ⊥) → (kind ≡ 2 → ⊥) → inSends.listening ≡ applicantPlace (kindAt kind)
+unfolding applicantPlace kindAt
 place-listening zero p q = refl
 place-listening (suc zero) p q = absurd (p refl)
 place-listening (suc (suc zero)) p q = absurd (q refl)

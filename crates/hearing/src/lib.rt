@@ -1,6 +1,5 @@
-// What a frame's events are to the Applicants of a port and to its LeaveAll machine (02, xiv): on the 47 octets of what the port sends of
-// a stream, and on the 21 of what it sends by itself (docs/TABLE.md). There the Applicants of the
-// Domain values stand first, by their slots.
+// What the Applicants of a port and its LeaveAll machine hear of a frame (02, xiv): on the 47 octets of what the port sends of a stream,
+// and on the 21 of what it sends by itself (docs/TABLE.md), where the Applicants of the Domain values stand first, by their slots.
 ghost use mathlib.Core.Path.{_≡_};
 ghost use mathlib.Core.Bool.{false};
 ghost use mathlib.Core.List.{map};

@@ -5,7 +5,6 @@ use mathlib.Core.List.{List, [], _∷_}
 use mathlib.Core.Bool.{true}
 use native.Mathlib.Numerals.{add-one}
 use Rattle.model.specs.Layout.{slots}
-use Rattle.model.specs.Lists.{All}
 use Rattle.model.specs.State.{Own, Bridge}
 use Rattle.model.specs.Registrations.{ofDomain, leaveAllDomains, quitDomain, doesDomain, at, changeDomains, owning}
 use Rattle.model.specs.Table.{encode, decode}

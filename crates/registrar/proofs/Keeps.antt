@@ -6,7 +6,7 @@ use mathlib.Core.Bool.{Bool, true, false, cond, true≢false}
 use lib.ListN.{length}
 use lib.Dec.{ltb, eqb}
 use Rattle.model.specs.Lists.{All}
-use Rattle.model.specs.State.{Cell, Own, Sender, Stream, Bridge, fresh}
+use Rattle.model.specs.State.{Cell, Stream, Bridge, fresh}
 use Rattle.model.specs.Registrations.{Act, leaveAll, leave, talk, listen, hearAll, hear, ofDomain, at, change, begun, touch, reach, apply, applyOwn, movesSender, does, moves, holding, owning, ids, joins}
 use Rattle.model.specs.Laid.{FitCell, FitOwn, FitSender, FitStream, FitBridge}
 use Rattle.model.proofs.Lists.{length-at, all-changed}

@@ -1,13 +1,13 @@
 -- A frame that is received: room is made and its acts are done, or there is no room and the table is as it was.
 use Prim.Native.Nat.{ℕ, _≤_}
 use mathlib.Core.Path.{_≡_, refl, sym, _∙_, ap}
-use mathlib.Core.List.{List, [], _∷_}
+use mathlib.Core.List.{List}
 use mathlib.Core.Bool.{Bool, true, false, true≢false}
 use lib.ListN.{length}
 use lib.Dec.{leb}
 use borrow.Author.Tests.{leb-true, leb-false}
 use Rattle.model.specs.Lists.{All, Octets}
-use Rattle.model.specs.State.{Stream, Bridge}
+use Rattle.model.specs.State.{Bridge}
 use Rattle.model.specs.Settling.{isHeld, dropUnheld}
 use Rattle.model.specs.Registrations.{Act, applyAll, holding, owning, sending}
 use Rattle.model.specs.Frames.{walk}

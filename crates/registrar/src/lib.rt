@@ -2,14 +2,14 @@
 ghost use mathlib.Core.Path.{_≡_};
 ghost use mathlib.Core.Bool.{true, false};
 ghost use mathlib.Core.List.{_∷_, [], map};
-ghost use Prim.Native.Nat.{ℕ, suc, _≤_, _<_};
+ghost use Prim.Native.Nat.{ℕ, suc, _<_};
 ghost use lib.ListN.{length};
 ghost use Rattle.model.specs.Lists.{All};
 ghost use Rattle.model.specs.State.{stays, domain};
 ghost use Rattle.model.specs.Settling.{isHeld};
 ghost use Rattle.model.specs.Laid.{Laid};
 ghost use Rattle.model.specs.Table.{encode, decode};
-ghost use Rattle.model.specs.Registrations.{leaveAll, leave, hearAll, hear, quit, does, hears, ofDomain, leaveAllDomains, hearAllDomains, hearDomain, quitDomain, hearsLeaveAll, movesSender, holding};
+ghost use Rattle.model.specs.Registrations.{leaveAll, leave, hearAll, hear, quit, does, hears, ofDomain, leaveAllDomains, hearAllDomains, hearDomain, quitDomain, hearsLeaveAll, holding};
 ghost use Rattle.model.specs.Frames.{vectors, walk, valueActs, valuesActs, leaveAllActs, vectorActs};
 ghost use Rattle.table.specs.Updates.{withCell, withSends, withSlot, withSender};
 ghost use Rattle.table.specs.Places.{StandsOn, PortIn, SlotIn};
@@ -213,7 +213,7 @@ fn hear_domains(table: &mut [u8], p: usize)
     hearing::hear_domains(&mut table[a..a + table::SENDER], now);
 }
 
-// LeaveAll of an AttributeType, heard by the port's LeaveAll machine.
+// LeaveAll of a type, heard by the port's LeaveAll machine.
 fn restart(table: &mut [u8], p: usize)
     requires { ⌜ PortIn (now table) p ⌝ }
     ensures { λ _. ⌜ now (table .exit)
@@ -224,7 +224,7 @@ fn restart(table: &mut [u8], p: usize)
     hearing::restart(&mut table[a..a + table::SENDER], now);
 }
 
-// .. and by the Applicants of its streams.
+// LeaveAll of an AttributeType, heard by the Applicants of its streams.
 fn hear_streams(table: &mut [u8], p: usize, kind: u8)
     requires { ⌜ PortIn (now table) p ⌝ }
     ensures { λ _. ⌜ now (table .exit)
@@ -238,7 +238,7 @@ fn hear_streams(table: &mut [u8], p: usize, kind: u8)
     }
 }
 
-// Both.
+// The same, by these and by the LeaveAll machine.
 fn hear_all(table: &mut [u8], p: usize, kind: u8)
     requires { ⌜ PortIn (now table) p ⌝ }
     ensures { λ _. ⌜ Walked true p (hearAll (kindAt kind) ∷ []) (now (table .entry)) true (now (table .exit)) ⌝ }

@@ -1,5 +1,4 @@
 -- `hearing::hear` meets its contract. Assumes nothing.
-use mathlib.Core.Path.{_≡_, refl}
 use borrow.Author.Needs.{needs}
 use Rattle.cells.specs.Acts.{kindAt}
 use Rattle.hearing.specs.Hears.{meant}

@@ -1,6 +1,6 @@
 -- `hearing::hear_every` meets its contract. The invariant: the Applicants before the loop's slot have heard it. Assumes nothing.
 use Prim.Native.Nat.{_-_, _≤_}
-use mathlib.Core.Path.{_≡_, refl}
+use mathlib.Core.Path.{_≡_}
 use native.Mathlib.Omega.{arith}
 use borrow.Author.Needs.{needs}
 use lib.ListN.{length}

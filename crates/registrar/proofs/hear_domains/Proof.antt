@@ -1,5 +1,4 @@
 -- `registrar::hear_domains` meets its contract. Assumes nothing.
-use mathlib.Core.Path.{_∙_}
 use borrow.Author.Needs.{needs}
 use Rattle.table.proofs.SenderParts.{lent-sender-at, left-sender-at}
 use Rattle.model.specs.Registrations.{hearAllDomains, movesSender}

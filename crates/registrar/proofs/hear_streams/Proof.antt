@@ -1,6 +1,6 @@
 -- `registrar::hear_streams` meets its contract. The invariant: the streams before the loop's place are changed. Assumes nothing.
 use Prim.Native.Nat.{_-_}
-use mathlib.Core.Path.{_≡_, refl}
+use mathlib.Core.Path.{refl}
 use native.Mathlib.Omega.{arith}
 use borrow.Author.Needs.{needs}
 use Rattle.table.proofs.ByPlace.{stands-on}

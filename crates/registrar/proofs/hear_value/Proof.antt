@@ -1,11 +1,11 @@
 -- `registrar::hear_value` meets its contract. Assumes nothing.
-use Prim.Native.Nat.{ℕ, _≤_}
+use Prim.Native.Nat.{_≤_}
 use mathlib.Core.Path.{_≡_, sym, ap, _∙_}
 use mathlib.Core.Bool.{true}
 use native.Mathlib.Omega.{arith}
 use borrow.Author.Needs.{needs}
 use Rattle.registrar.specs.declared.Overheard.{Overheard}
-use Rattle.registrar.specs.declared.Overheard.the-variants.{Unmoved, Hears}
+use Rattle.registrar.specs.declared.Overheard.the-variants.{Unmoved}
 use Rattle.registrar.specs.Acts.{actsHeard, hearActs}
 use Rattle.registrar.proofs.ValueActs.{stream-hears, value-id-is, not-past}
 use Rattle.registrar.proofs.DomainValues.{slot-below, slot-hears, dropped-hears}
