@@ -1,29 +1,36 @@
 -- Values compared octet by octet: a turn, and the end; they are the same exactly where all octets are.
 use mathlib.Core.Path.{_≡_, refl, sym, _∙_, ap, ap₂}
 use mathlib.Core.List.{List, [], _∷_}
-use mathlib.Core.Bool.{Bool, true, false, _&&_, false≢true}
-use Prim.Native.Nat.{ℕ, _+_, _<_}
+use mathlib.Core.Bool.{Bool, true, false, _&&_, false≢true, and-assoc}
+use Prim.Native.Nat.{ℕ, _+_, _≤_, _<_}
 use native.Mathlib.Numerals.{add-one}
 use native.Mathlib.Omega.{arith}
 use lib.ListN.{length, getD, drop}
 use lib.Seq.{drop-cons, drop-length}
 use lib.Dec.{eqb}
-use borrow.Author.Tests.{eq-eqb, ne-eqb, eqb-true}
-use Rattle.model.proofs.Lists.{and-left, and-right}
+use borrow.Author.Tests.{eq-eqb, eqb-true}
+use Rattle.model.proofs.Lists.{and-left, and-right, and-true}
 use Rattle.declaring.specs.Octets.{sameOctets}
 
-module _ (v w : List ℕ) (i : ℕ) (h : i < length v) (k : i < length w) where
-  pub same-next : getD v i 0 ≡ getD w i 0 → sameOctets (drop i v) (drop i w) ≡ sameOctets (drop (i + 1) v) (drop (i + 1) w)
-  unfolding sameOctets
-  same-next e = rw (add-one i, drop-cons v i 0 h, drop-cons w i 0 k, eq-eqb (getD v i 0) (getD w i 0) e)
+-- a loop that tests one octet after another: what is left to test, from place i on
+abbrev pub Comparing : List ℕ → List ℕ → Bool → ℕ → Type 0
+Comparing v w same i = (i ≤ length v) × ((same && sameOctets (drop i v) (drop i w)) ≡ sameOctets v w)
 
-  pub same-not : (getD v i 0 ≡ getD w i 0 → ⊥) → sameOctets (drop i v) (drop i w) ≡ false
+module _ (v w : List ℕ) (e : length w ≡ length v) (same : Bool) (i : ℕ) (c : Comparing v w same i) where
+  pub same-next : i < length v → Comparing v w (same && eqb (getD v i 0) (getD w i 0)) (i + 1)
   unfolding sameOctets
-  same-not e = rw (drop-cons v i 0 h, drop-cons w i 0 k, ne-eqb (getD v i 0) (getD w i 0) e)
+  same-next h =
+      let k : i < length w = omega arith in
+      (omega arith,
+      and-assoc same (eqb (getD v i 0) (getD w i 0)) (sameOctets (drop (i + 1) v) (drop (i + 1) w))
+      ∙ rw (add-one i) (rw (drop-cons v i 0 h, drop-cons w i 0 k) at (c .1)))
 
-pub same-done : (v w : List ℕ) (i : ℕ) → i ≡ length v → length w ≡ length v → sameOctets (drop i v) (drop i w) ≡ true
-unfolding sameOctets
-same-done v w i h e = rw (h, drop-length v, ← e, drop-length w)
+  pub same-done : length v ≤ i → same ≡ sameOctets v w
+  unfolding sameOctets
+  same-done h =
+      let all : i ≡ length v = omega (arith, c .0) in
+      let none : sameOctets (drop i v) (drop i w) ≡ true = rw (all, drop-length v, ← e, drop-length w) in
+      sym (and-true same) ∙ (rw none at (c .1))
 
 pub same-self : (s : List ℕ) → sameOctets s s ≡ true
 unfolding sameOctets

@@ -1,19 +1,22 @@
 -- One Applicant: what the code makes of its octets is what an advance decides.
-use mathlib.Core.Path.{_≡_, refl, ap}
+use mathlib.Core.Path.{_≡_, refl, sym, _∙_, ap, ap₂}
 use mathlib.Core.List.{List, [], _∷_, map, _++_, append-nil}
-use mathlib.Core.Bool.{Bool, true, false, cond}
+use mathlib.Core.Bool.{Bool, true, false, cond, _&&_}
 use Prim.Native.Nat.{ℕ, suc, _+_, _-_, _≤_}
 use native.Mathlib.Omega.{arith}
-use lib.ListN.{length, getD, set, take, drop}
-use lib.Seq.{drop-length, take-length}
+use lib.ListN.{length, getD, set, take, drop, length-drop}
+use lib.Seq.{drop-drop, drop-length, take-add, take-all, take-length}
+use lib.Dec.{eqb}
 use Rattle.octets.specs.Parts.{patch, zeros}
 use Rattle.octets.specs.Pick.{pick}
-use Rattle.model.specs.Applicant.{Standing, veryAnxiousPassive, veryAnxiousNew, anxiousNew, anxiousActive, quietActive, leavingActive, vo, join, lv, applicantEntry, standing, becomes}
+use Rattle.model.specs.Applicant.{Standing, veryAnxiousPassive, veryAnxiousNew, anxiousNew, anxiousActive, quietActive, leavingActive, vo, join, lv, applicantEntry, standing, becomes, step}
 use Rattle.model.specs.Machines.{Applicant, noApplicant, applicant, Decided, undeclared, declared, otherContent, with, applicantOf, after, born, decided}
 use Rattle.model.specs.Sending.{standingNumber, applicantOctets}
+use Rattle.model.proofs.Lists.{and-left, and-right}
 use Rattle.model.proofs.Valid.{GoodApplicant}
 use Rattle.model.proofs.ApplicantEntries.{tables}
 use Rattle.declaring.specs.Octets.{sameOctets, declaredState, declaredOctets, leftOctets, withdrawnOctets}
+use Rattle.declaring.proofs.Comparing.{same-self, same-all}
 
 -- Octets stored: zeros for all of them, and the state before the values.
 
@@ -34,6 +37,36 @@ declared-put (x ∷ s) v y q h e g =
     let same : 1 + length v - 1 ≡ length s = omega arith in
     let whole : take (1 + length v - 1) s ≡ s = rw same (take-length s) in
     rw (e, g, whole, same, drop-length s, append-nil v)
+
+-- A machine that is left as it is: Join! does not move it, and it has the values, in two parts; or Lv! does not move it.
+
+module _ (s v w : List ℕ) (long : length s ≡ suc (length v + length w)) (j : step false join (getD s 0 0) ≡ getD s 0 0) where
+  pub steady-declared : (a b : Bool) → a ≡ sameOctets v (take (1 + length v - 1) (drop 1 s))
+      → b ≡ sameOctets w (take (1 + length v + length w - (1 + length v)) (drop (1 + length v) s)) → (a && b) ≡ true → declaredOctets (v ++ w) s ≡ s
+  steady-declared a b e g t =
+      let one : 1 + length v ≡ suc (length v) = omega arith in
+      let first : 1 + length v - 1 ≡ length v = omega arith in
+      let rest : 1 + length v + length w - (1 + length v) ≡ length w = omega arith in
+      let p : v ≡ take (length v) (drop 1 s) = same-all v (take (length v) (drop 1 s)) (rw first at (sym e ∙ and-left a b t)) in
+      let q : w ≡ take (length w) (drop (length v) (drop 1 s)) =
+      same-all w (take (length w) (drop (length v) (drop 1 s))) (rw (drop-drop (length v) 1 s) (rw (rest) at (sym g ∙ and-right a b t))) in
+      let whole : v ++ w ≡ drop 1 s =
+      ap₂ (λ (x y : List ℕ). x ++ y) p q ∙ sym (take-add (length v) (length w) (drop 1 s))
+      ∙ take-all (length v + length w) (drop 1 s) (omega (arith, length-drop 1 s)) in
+      rw whole (go s long j)
+    where
+      go : (s : List ℕ) → length s ≡ suc (length v + length w) → step false join (getD s 0 0) ≡ getD s 0 0 → declaredOctets (drop 1 s) s ≡ s
+      go [] h k = absurd (omega arith)
+      go (n ∷ r) h k = unfold declaredOctets declaredState pick in (rw (same-self r, k))
+
+pub steady-withdrawn : (s : List ℕ) → 1 ≤ length s → step false lv (getD s 0 0) ≡ getD s 0 0 → withdrawnOctets s ≡ s
+unfolding withdrawnOctets leftOctets pick
+steady-withdrawn [] h j = absurd (omega arith)
+steady-withdrawn (n ∷ r) h j = rw j (go (eqb n 0))
+  where
+    go : (t : Bool) → pick t (n ∷ r) (pick t (zeros (suc (length r))) (n ∷ r)) ≡ n ∷ r
+    go true = refl
+    go false = refl
 
 -- what a decision gives to be declared
 module _ {A : Type 0} where

@@ -2,15 +2,16 @@
 use mathlib.Core.Path.{_≡_, refl, sym, _∙_, ap, ap₂}
 use mathlib.Core.List.{List, [], _∷_, _++_, append-assoc, append-nil}
 use mathlib.Core.Bool.{Bool, true, false, not}
-use Prim.Native.Nat.{ℕ, _+_}
+use Prim.Native.Nat.{ℕ, _+_, _-_}
 use native.Mathlib.Omega.{arith}
-use lib.ListN.{length, take, drop, length-append}
-use lib.Seq.{take-at, drop-at}
+use lib.ListN.{length, getD, take, drop, length-append}
+use lib.Seq.{take-append-add, take-take}
 use lib.Dec.{eqb}
 use Rattle.octets.specs.Parts.{part, patch}
 use Rattle.octets.specs.Pick.{pick}
-use Rattle.octets.proofs.Patches.{patch-between}
-use Rattle.model.specs.Layout.{advertisingSize, failedSize, failingSize, inSends, listeningSize, offerSize, readySize}
+use Rattle.octets.proofs.Parts.{part-cons, part-none}
+use Rattle.octets.proofs.Patches.{patch-between, patch-part}
+use Rattle.model.specs.Layout.{advertisingSize, failedSize, failingSize, fixedSize, inResult, inSends, listeningSize, offerSize, readySize, resultSize}
 use Rattle.model.specs.State.{Fixed, Ready, askingFailed, ready, readyFailed, Column, none, advertise, failed, Declared, nothing, tells, Result, Offer, Failure, Sends, readyNumber}
 use Rattle.model.specs.Machines.{Applicant, noApplicant, applicant, Decided, undeclared, declared, decided}
 use Rattle.model.specs.Settling.{advertisedBy, failedBy, listenedBy, sameOffer, sameFailed, sameReady, declareSends}
@@ -22,7 +23,7 @@ use Rattle.model.proofs.Valid.{ValidFixed, GoodApplicant, ValidOffer, ValidFail
 use Rattle.model.proofs.ApplicantOctets.{applicant-length, applicant-coded, both-values}
 use Rattle.model.proofs.SendsOctets.{AnyReady, offer-values, failure-values, ready-values}
 use Rattle.model.proofs.Fits.{fit-fixed, fit-sends, valid-sends-fit, laid-sends-is, laid-sends-fits}
-use Rattle.declaring.specs.Octets.{decidedOctets, offeredOctets, Offered}
+use Rattle.declaring.specs.Octets.{decidedOctets, offeredOctets, Offered, Told}
 use Rattle.declaring.proofs.Machines.{GoodDecided, good-decided, withdraws, declares}
 use Rattle.declaring.proofs.Offers.{offer-compared, failed-compared, ready-compared, offerOf, failureOf, offer-valid, failure-valid, offered-both, offered-first}
 
@@ -170,3 +171,33 @@ module _ (s : List ℕ) (l : LaidSends s) (v : List ℕ) (k d : ℕ) (f : Fixed)
       (ap length a ∙ advertising-length _ (after .advertising)) (ap length b ∙ failing-length _ (after .failing)) s s₁ s₂ (patch inSends.listening listeningSize y₃ s₂) (laid-sends-is s l)
       (ap (λ (y : List ℕ). patch 0 advertisingSize y s) q₁) (ap (λ (y : List ℕ). patch inSends.failing failingSize y s₁) q₂) (ap (λ (y : List ℕ). patch inSends.listening listeningSize y s₂) q₃)
       ∙ rw (a, b, c)
+
+-- Where none of the three is moved, nothing is.
+
+module _ (settled result : List ℕ) (e : length settled ≡ fixedSize) (g : length result ≡ resultSize) where
+  first-offered : take offerSize (settled ++ part inResult.latency (failedSize - fixedSize) result) ≡ settled ++ part inResult.latency (offerSize - fixedSize) result
+  unfolding part
+  first-offered =
+      let n : length settled + 4 ≡ offerSize = omega arith in
+      rw (← n) (take-append-add settled (take 13 (drop 1 result)) 4 ∙ ap (λ (l : List ℕ). settled ++ l) (take-take 4 13 (drop 1 result) (omega arith)))
+
+  one-heard : part inResult.declared 1 result ≡ getD result inResult.declared 0 ∷ []
+  one-heard = part-cons inResult.declared 0 result (omega arith) ∙ rw (part-none (inResult.declared + 1) result)
+
+  module _ (s : List ℕ) (l : LaidSends s) (f : Fixed) (r : Result) (o : Told settled result f r) where
+    abbrev k : ℕ
+    k = getD result 0 0
+
+    abbrev d : ℕ
+    d = getD result inResult.declared 0
+
+    pub all-steady : decidedOctets (eqb k 1) (settled ++ part inResult.latency (offerSize - fixedSize) result) (part 0 advertisingSize s) ≡ part 0 advertisingSize s
+        → decidedOctets (eqb k 2) (settled ++ part inResult.latency (failedSize - fixedSize) result) (part inSends.failing failingSize s) ≡ part inSends.failing failingSize s
+        → decidedOctets (not (eqb d 0)) (part inResult.declared 1 result) (part inSends.listening listeningSize s) ≡ part inSends.listening listeningSize s
+        → s ≡ sendsOctets (declareSends f r (toSends s))
+    all-steady q₁ q₂ q₃ =
+        let a = patch-part 0 advertisingSize s in
+        let b = patch-part inSends.failing failingSize s in
+        sym (rw (a, b) (patch-part inSends.listening listeningSize s))
+        ∙ all-decided s l (settled ++ part inResult.latency (failedSize - fixedSize) result) k d f r o (part 0 advertisingSize s) (part inSends.failing failingSize s) (part inSends.listening listeningSize s)
+        (rw first-offered (sym q₁)) (rw a (sym q₂)) (rw (a, b, ← one-heard) (sym q₃))

@@ -8,13 +8,13 @@ use lib.Dec.{eqb, leb}
 use Rattle.octets.specs.Parts.{part, zeros}
 use Rattle.octets.specs.Pick.{pick}
 use Rattle.octets.specs.Fields.{packed, Fit}
-use Rattle.model.specs.Layout.{failedSize, fixedSize, fixedWidths, inResult}
+use Rattle.model.specs.Layout.{failedSize, fixedSize, fixedWidths, inResult, resultSize, sendsSize}
 use Rattle.model.specs.Applicant.{new, join, lv, step}
 use Rattle.model.specs.LeaveAll.{timedOut}
 use Rattle.model.specs.State.{Fixed, Result, Sender}
 use Rattle.model.specs.WrittenFrames.{fixedNumbers}
 use Rattle.model.specs.Table.{columnNumber, declaredNumber, resultOctets}
-use Rattle.model.specs.Laid.{FitResult}
+use Rattle.model.specs.Laid.{FitResult, LaidSends}
 
 -- values that are the same, octet by octet
 unfoldable pub sameOctets : List ℕ → List ℕ → Bool
@@ -53,6 +53,17 @@ pub record Offered (s : List ℕ) (k d : ℕ) (f : Fixed) (r : Result) : Type 0 
   pub values : s ≡ offeredOctets f r
   pub column : k ≡ columnNumber (r .column)
   pub listener : d ≡ declaredNumber (r .declares)
+
+-- Octets as they stand in a table: what a port sends of a stream, the stream's settled values, its result there.
+pub record Given (s settled result : List ℕ) : Type 0 where
+  pub laid : LaidSends s
+  pub size : length s ≡ sendsSize
+  pub fixed : length settled ≡ fixedSize
+  pub decided : length result ≡ resultSize
+
+-- and they are those of f and r
+abbrev pub Told : List ℕ → List ℕ → Fixed → Result → Type 0
+Told settled result f r = Offered (settled ++ part inResult.latency (failedSize - fixedSize) result) (getD result 0 0) (getD result inResult.declared 0) f r
 
 -- what a port sends by itself, after leavealltimer! where it is due
 unfoldable pub timed : ℕ → Sender → Sender

@@ -1,30 +1,31 @@
 -- What is sent of a stream, port by port: what the code reads for it, and the stream with the first places declared.
-use mathlib.Core.Path.{_≡_, refl, sym, _∙_, ap, subst}
+use mathlib.Core.Path.{_≡_, refl, sym, _∙_, ap, ap₂, subst}
 use mathlib.Core.List.{List, _++_}
 use Prim.Native.Nat.{ℕ, _+_, _-_, _≤_, _<_}
 use native.Mathlib.Omega.{arith}
 use lib.ListN.{length, getD}
 use Rattle.octets.specs.Parts.{part, patch}
-use Rattle.octets.proofs.Patches.{patch-next}
-use Rattle.model.specs.Layout.{failedSize, fixedSize, inResult, resultIn}
+use Rattle.octets.proofs.Patches.{patch-next, patch-part}
+use Rattle.model.specs.Layout.{failedSize, fixedSize, inResult, resultIn, sendsPlace, sendsSize}
 use Rattle.model.specs.State.{Fixed, Result, Sends, Stream, noSends, unsettled, resultAt, sendsAt, streamAt}
 use Rattle.model.specs.Registrations.{at, change}
+use Rattle.model.specs.Sending.{sendsOctets, toSends}
 use Rattle.model.specs.Settling.{declareSends, declare}
 use Rattle.model.specs.Table.{resultOctets, encode, decode}
 use Rattle.model.specs.Laid.{FitResult, FitSends, FitStream}
 use Rattle.model.proofs.Lists.{all-getD}
-use Rattle.model.proofs.Fits.{fit-fixed, fit-sends, settled-fits, valid-sends-fit}
+use Rattle.model.proofs.Fits.{fit-fixed, fit-sends, laid-sends-is, settled-fits, valid-sends-fit}
 use Rattle.table.specs.Places.{Stands, StandsOn}
-use Rattle.table.specs.Reads.{fixedOctets, ReadsResult}
+use Rattle.table.specs.Reads.{fixedOctets, ReadsFixed, ReadsResult, ReadsSends}
 use Rattle.table.specs.Updates.{withSends}
-use Rattle.table.proofs.ReadOctets.{column-octet, declared-octet}
+use Rattle.table.proofs.ReadOctets.{result-is, column-octet, declared-octet}
 use Rattle.table.proofs.Fitting.{no-sends-fit, unsettled-fits}
 use Rattle.table.proofs.Lens.{patch-whole}
 use Rattle.table.proofs.StreamParts.{fixed-length, result-fits}
-use Rattle.table.proofs.ByPlace.{stands, stands-on, stream-fits}
+use Rattle.table.proofs.ByPlace.{stands, stands-on, stream-fits, sends-at, sends-replaced}
 use Rattle.table.proofs.EachStream.{partlyAt, partlyAt-stands, one-turn-more}
 use Rattle.table.proofs.EachPort.{sendsTo, sends-next, sends-done, sends-fit}
-use Rattle.declaring.specs.Octets.{offeredOctets, Offered}
+use Rattle.declaring.specs.Octets.{offeredOctets, Offered, Told}
 use Rattle.declaring.proofs.Sent.{sent-valid}
 
 -- the settled values copied, and those of the result behind them
@@ -50,6 +51,24 @@ offered-there {t} {k} {p} s v e r =
       column = column-octet r;
       listener = declared-octet r;
     }
+
+-- the same, of the octets where they stand
+pub told-there : {t : List ℕ} {k p : ℕ} (s : StandsOn t k p) {y z : List ℕ} → ReadsFixed y (streamAt k (decode t) .settled)
+    → ReadsResult z (resultAt (streamAt k (decode t)) p) → Told y z (streamAt k (decode t) .settled) (resultAt (streamAt k (decode t)) p)
+unfolding offeredOctets fixedOctets
+told-there s {y} {z} f r =
+    offered-there s (y ++ part inResult.latency (failedSize - fixedSize) z)
+    (ap₂ (λ (v w : List ℕ). v ++ part inResult.latency (failedSize - fixedSize) w) (f .laid) (result-is r)) r
+
+-- where what is sent is left as it is, so is the table
+pub left-steady : {t : List ℕ} {k p : ℕ} (s : StandsOn t k p) (u : Sends → Sends) {y : List ℕ} → ReadsSends y (sendsAt (streamAt k (decode t)) p)
+    → y ≡ sendsOctets (u (toSends y)) → t ≡ encode (withSends k p u (decode t))
+left-steady {t} {k} {p} s u {y} w e =
+    let here = sends-at s in
+    let same : part (sendsPlace k p) sendsSize t ≡ sendsOctets (u (sendsAt (streamAt k (decode t)) p)) =
+    laid-sends-is (part (sendsPlace k p) sendsSize t) (here .laid) ∙ ap sendsOctets (here .is ∙ sym (w .is)) ∙ sym (laid-sends-is y (w .laid)) ∙ e
+    ∙ ap (λ (x : Sends). sendsOctets (u x)) (w .is) in
+    sym (patch-part (sendsPlace k p) sendsSize t) ∙ ap (λ (x : List ℕ). patch (sendsPlace k p) sendsSize x t) same ∙ sends-replaced s u
 
 -- what a port sends of a stream after it was declared
 abbrev pub declaredAt : Stream → ℕ → Sends

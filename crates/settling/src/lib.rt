@@ -285,7 +285,7 @@ fn offer(table: &[u8], k: usize, p: usize, values: &mut [u8])
 }
 
 // What the port at place p sends of stream k: Join! of what its result says, Lv! of the rest.
-fn declare_on(table: &mut [u8], k: usize, p: usize)
+fn redeclare(table: &mut [u8], k: usize, p: usize)
     requires { ⌜ StandsOn (now table) k p ⌝ }
     ensures { λ _. ⌜ now (table .exit) ≡ encode (withSends k p (model.declareSends (streamAt k (decode (now (table .entry))) .settled)
         (resultAt (streamAt k (decode (now (table .entry)))) p)) (decode (now (table .entry)))) ⌝ }
@@ -297,6 +297,21 @@ fn declare_on(table: &mut [u8], k: usize, p: usize)
     let listener = result[table::result::DECLARED];
     let a = table::sends_in(table, k, p);
     declaring::declare_all(&mut table[a..a + table::SENDS], &values, column, listener);
+}
+
+// The same, where it is not left as it is.
+fn declare_on(table: &mut [u8], k: usize, p: usize)
+    requires { ⌜ StandsOn (now table) k p ⌝ }
+    ensures { λ _. ⌜ now (table .exit) ≡ encode (withSends k p (model.declareSends (streamAt k (decode (now (table .entry))) .settled)
+        (resultAt (streamAt k (decode (now (table .entry)))) p)) (decode (now (table .entry)))) ⌝ }
+{
+    let sends = table::sends_at(table, k, p);
+    let settled = table::settled_at(table, k);
+    let result = table::result_at(table, k, p);
+    if declaring::stays(sends, settled, result) {
+        return;
+    }
+    redeclare(table, k, p);
 }
 
 // The same on each port.

@@ -3,26 +3,20 @@ use borrow.Author.Needs.{needs}
 use Rattle.model.specs.State.{resultAt, streamAt}
 use Rattle.model.specs.Settling.{declareSends}
 use Rattle.model.specs.Table.{decode}
-use Rattle.table.proofs.ByPlace.{lent-sends-at, left-sends-at}
-use Rattle.settling.proofs.Declared.{offered-there}
+use Rattle.settling.proofs.Declared.{told-there, left-steady}
 use Rattle.settling.proofs.declare_on.Statement.{statement}
 use Rattle.settling.proofs.declare_on.Tie as tie
 
-declare-all-requires : tie.Need-declare-all-requires
-declare-all-requires c κs =
-    let r = lent-sends-at (c .before .before .before .before .before .before .before .before .before .before .before .before .before .pre) _ (c .before .before .sends-in .ensures .0) in
-    (r .laid, r .size, search needs)
-
 returns : tie.Need-returns
 returns c =
-    let first = c .before .before .before .before .before .before .before .before .before .before .before .before .before .before .before .before in
+    let first = c .before .before .before .before .before .before .before in
     let x = streamAt (first .args .k) (decode (first .args .table .now)) in
     let r = resultAt x (first .args .p) in
-    left-sends-at (first .pre) _ (c .before .before .before .before .before .sends-in .ensures .0) (declareSends (x .settled) r) _
-    (c .before .before .declare-all .ensures (x .settled) r (offered-there (first .pre) _ (c .before .before .before .before .before .before .before .before .before .before .before .before .offer .ensures) (c .before .before .before .before .before .before .before .before .before .result-at .ensures)))
+    left-steady (first .pre) (declareSends (x .settled) r) (c .before .before .before .before .sends-at .ensures)
+    (c .before .stays .ensures (c .if1 .taken) (x .settled) r (told-there (first .pre) (c .before .before .before .settled-at .ensures) (c .before .before .result-at .ensures)))
 
 pub declare-on-spec : {M : Type 1} → statement M
 declare-on-spec =
     tie.close
-    (tie.spec (λ c. search needs) (λ c κs. search needs) (λ c κs. search needs) (λ c. search needs) (λ c. search needs) (λ c κs. search needs) (λ c. search needs)
-    (λ c. search needs) (λ c. search needs) (λ c. search needs) (λ c. search needs) declare-all-requires (λ c. search needs) returns)
+    (tie.spec (λ c κs. search needs) (λ c κs. search needs) (λ c κs. search needs) (λ c κs. search needs) (λ c. search needs) returns (λ c κs. search needs)
+    (λ c. search needs) (λ c. search needs))
