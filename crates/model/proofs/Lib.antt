@@ -50,6 +50,7 @@ pub mod QuietPort
 pub mod PackedVectors
 pub mod PackedEvents
 pub mod ReadBack
+pub mod TwoBridges
 pub mod Versions
 pub mod CutOut
 pub mod Refusals
