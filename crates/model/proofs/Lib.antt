@@ -47,6 +47,7 @@ pub mod WrittenList
 pub mod WriteKeepsForm
 pub mod PortPasses
 pub mod QuietPort
+pub mod WrittenSends
 pub mod PackedVectors
 pub mod PackedEvents
 pub mod ReadBack

@@ -218,7 +218,7 @@ moved-list (hear t i h) s = heard-list t h s
 moved-list (ofDomain d) s = (refl, refl, refl)
 
 module _ {A : Type 0} (P : A → Type 0) (u : A → A) (h : (x : A) → P x → P (u x)) where
-  at-keeps : (p : ℕ) (l : List A) (q : ℕ) (d : A) → P (getD l q d) → P (getD (at p u l) q d)
+  pub at-keeps : (p : ℕ) (l : List A) (q : ℕ) (d : A) → P (getD l q d) → P (getD (at p u l) q d)
   unfolding at
   at-keeps p [] q d k = k
   at-keeps zero (x ∷ l) zero d k = h x k
@@ -275,7 +275,7 @@ module _ (now p : ℕ) where
   applied-sent (hear t i h) s k = touched-sent i (changing (hear t i h)) (changing-sent (hear t i h)) false s k
   applied-sent (ofDomain d) s k = k
 
-  all-applied-sent : (es : List Act) (s : List Stream) → All Sent s → All Sent (applyAll now p es s)
+  pub all-applied-sent : (es : List Act) (s : List Stream) → All Sent s → All Sent (applyAll now p es s)
   unfolding applyAll
   all-applied-sent [] s k = k
   all-applied-sent (a ∷ es) s k = all-applied-sent es (apply now p a s) (applied-sent a s k)

@@ -36,12 +36,12 @@ use Rattle.model.proofs.FormKept.{Kept}
 -- One machine: a write leaves it standing or not as it was, with its values; LA alone may go.
 
 -- what is left stands
-unfoldable standsLeft : List Standing → Bool
+unfoldable pub standsLeft : List Standing → Bool
 standsLeft [] = false
 standsLeft (q ∷ l) = isStanding q
 
 -- what a write may do to a state
-abbrev KeepsStanding : (Standing → List Standing) → Type 0
+abbrev pub KeepsStanding : (Standing → List Standing) → Type 0
 KeepsStanding g = (q : Standing) → standsLeft (g q) ≡ isStanding q
 
 becomes-stands : (r all : Bool) → KeepsStanding (becomes r (opportunity all))
@@ -87,7 +87,7 @@ out-stands r anxiousActive = refl
 out-stands r quietActive = refl
 out-stands r leavingActive = refl
 
-write-stands : (all : Bool) (place end i : ℕ) (r : Bool) → KeepsStanding (movedAt all place end i r)
+pub write-stands : (all : Bool) (place end i : ℕ) (r : Bool) → KeepsStanding (movedAt all place end i r)
 unfolding movedAt
 write-stands all place end i r q = go all (leb place i && ltb i end)
   where

@@ -2,14 +2,15 @@
 -- write answers.
 use mathlib.Core.Path.{_≡_, refl, sym, _∙_, ap}
 use mathlib.Core.List.{List, [], _∷_, _++_, map, append-nil, map-append}
-use mathlib.Core.Bool.{Bool, true, false, cond}
+use mathlib.Core.Logic.{_⊎_, inl, inr}
+use mathlib.Core.Bool.{Bool, true, false, cond, _||_, false≢true}
 use Prim.Native.Nat.{ℕ, zero, suc, _+_, _*_, _-_, _≤_, _<_}
 use native.Mathlib.Nat.{suc-mul, mul-le-mul-right}
 use native.Mathlib.Numerals.{add-one}
 use native.Mathlib.Omega.{arith}
 use lib.ListN.{length, length-map, take, drop, length-append, length-replicate, take-append-drop}
 use lib.Seq.{length-take-le, take-nil, take-take, take-append-le, take-append-add, drop-length, take-append-seam, drop-append-seam}
-use lib.Dec.{ltb, leb}
+use lib.Dec.{ltb, leb, eqb}
 use borrow.Author.Tests.{ltb-true, ltb-false, lt-ltb, le-ltb, leb-true, leb-false, le-leb, lt-leb, eq-eqb, ne-eqb, eqb-true, eqb-false}
 use Rattle.octets.specs.Be.{be}
 use Rattle.octets.specs.Fields.{packed, flat}
@@ -17,10 +18,10 @@ use Rattle.octets.specs.Parts.{zeros}
 use Rattle.octets.proofs.Be.{length-be}
 use Rattle.model.specs.FrameLayout.{advertiseLength, domainLength, failedLength, longestPdu}
 use Rattle.model.specs.Lists.{All, keep, longest, bit}
-use Rattle.model.specs.Applicant.{Standing}
+use Rattle.model.specs.Applicant.{Standing, veryAnxiousPassive, veryAnxiousNew, anxiousNew, anxiousActive, quietActive, leavingActive, named, octetOf}
 use Rattle.model.specs.Places.{saying, leftBefore, writeFrom}
 use Rattle.model.specs.Machines.{Listed, Applicant, noApplicant, applicant}
-use Rattle.model.specs.State.{Settings, TalkerType, talkerAdvertise, talkerFailed, Ready, Sends, Stream, Bridge, sendsAt, senderAt}
+use Rattle.model.specs.State.{Settings, TalkerType, talkerAdvertise, talkerFailed, Ready, Sends, Stream, Bridge, Class, classA, classB, classId, classPriority, supports, portAt, slotOf, isOwnSlot, declaresSlot, sendsAt, senderAt}
 use Rattle.model.specs.Registrations.{Kind, advertises, faileds, listeners, ids}
 use Rattle.model.specs.Frames.{Attribute, registers, domainType, TypeOctet, notAllowed, unknown, known, typeOctet, typeNumber, firstWidths, firstLength, Vector}
 use Rattle.model.specs.Cutting.{concat, values, octetsFor, octets}
@@ -28,9 +29,11 @@ use Rattle.model.specs.Best.{best, bests, least, run}
 use Rattle.model.specs.Declarations.{Declaration, talkerDeclaration, listenerDeclaration, domainDeclaration, talkerKind, attributeOf, listedAs, advertiseOf, failedOf, declarationsOf, ofKind, domainOf, domainValues, declarations, isRegistered, Said, say, declaredId, declaredIds, sameAttribute, having, vectorSize, vectorsSize, emptySize, messageSize, messagesSize, fitting, takes}
 use Rattle.model.specs.WrittenFrames.{fixedNumbers, failureNumbers, firstNumbers, fourOctets, declarationVector, packedVector, cutAs, listenerParts, vectorsOf, vectorOctets, messageOf, withLeaveAll, emptyVector, leavingAll, vectorsSaid, messageOctets, pduOctets}
 use Rattle.model.specs.Writing.{leavesAll, portWay, sayOn, takesOn, wroteOn, afterWrite, Written, write}
+use Rattle.model.specs.Sending.{standingNumber, domainStanding}
 use Rattle.model.specs.Laid.{Ascending}
-use Rattle.model.proofs.Lists.{Longest, longest-longest, all-map, all-each, all-append, all-take, length-tabulate, longest-ends, longest-stops, longest-goes, longest-split, longest-same, longest-from, longest-within, longest-passes, longest-full}
+use Rattle.model.proofs.Lists.{and-right, Longest, longest-longest, all-map, all-each, all-append, all-take, length-tabulate, longest-ends, longest-stops, longest-goes, longest-split, longest-same, longest-from, longest-within, longest-passes, longest-full}
 use Rattle.model.proofs.Ascents.{Rising, ascending-rising, ascending-take, ascending-drop}
+use Rattle.model.proofs.Valid.{ValidSlots, applicantNumber, Valid}
 use Rattle.model.proofs.LeastCutting.{best-cuts}
 use Rattle.model.proofs.LongestRun.{least-take, least-most}
 use Rattle.model.proofs.PlaceLists.{cons-apart}
@@ -854,15 +857,22 @@ module _ (all : Bool) (r : Declaration → Bool) where
           unfold say in
           (all-said (OfAttribute domainType) (say all r) domains (domains-attribute (b .settings) 0 (senderAt (b .senders) p .domains)))
 
-pub listeners-few : (p : ℕ) (s : List Stream) → length (ofKind listeners p s) ≤ length s
-unfolding ofKind declarationsOf listedAs
-listeners-few p [] = omega arith
-listeners-few p (x ∷ s) = go (sendsAt x p .listening) (listeners-few p s)
-  where
-    go : (d : Applicant Ready) → length (ofKind listeners p s) ≤ length s
-        → length (listedAs (listenerDeclaration (x .id)) d ++ ofKind listeners p s) ≤ suc (length s)
-    go noApplicant h = omega arith
-    go (applicant y) h = omega arith
+listed-few : {A : Type 0} (f : A → Declaration) (a : Applicant A) → length (listedAs f a) ≤ 1
+unfolding listedAs
+listed-few f noApplicant = omega arith
+listed-few f (applicant x) = omega arith
+
+sends-few : (k : Kind) (id : ℕ) (s : Sends) → length (declarationsOf k id s) ≤ 1
+unfolding declarationsOf
+sends-few advertises id s = listed-few (advertiseOf id) (s .advertising)
+sends-few faileds id s = listed-few (failedOf id) (s .failing)
+sends-few listeners id s = listed-few (listenerDeclaration id) (s .listening)
+
+pub kind-few : (k : Kind) (p : ℕ) (s : List Stream) → length (ofKind k p s) ≤ length s
+unfolding ofKind
+kind-few k p [] = omega arith
+kind-few k p (x ∷ s) =
+    omega (arith, kind-few k p s, sends-few k (x .id) (sendsAt x p), length-append (declarationsOf k (x .id) (sendsAt x p)) (ofKind k p s))
 
 -- at most 64 streams, by ascending StreamID
 abbrev pub FewStreams : Bridge → Type 0
@@ -870,9 +880,111 @@ FewStreams b = (length (b .streams) ≤ 64) × Ascending (ids (b .streams))
 
 pub declared-few : (b : Bridge) → FewStreams b → (all : Bool) (r : Declaration → Bool) (p : ℕ) → FewListeners (map (say all r) (declarations b p))
 declared-few b h all r p = record {
-  few = rw (listeners-of all r b p, length-map (ofKind listeners p (b .streams)) (say all r)) (omega (arith, h .0, listeners-few p (b .streams)));
+  few = rw (listeners-of all r b p, length-map (ofKind listeners p (b .streams)) (say all r)) (omega (arith, h .0, kind-few listeners p (b .streams)));
   ascending = rw (listeners-of all r b p) (listeners-ascend all r p (b .streams) (h .1));
 }
+
+-- "Three of one StreamID on one port", and a Domain value for each of two classes: a list has at most 194 declarations.
+
+-- no machine but in a slot whose Domain value is declared
+no-slot : {A : Type 0} (f : A → Declaration) (a : Applicant A) → domainStanding false (applicantNumber a) ≡ true → length (listedAs f a) ≡ 0
+unfolding domainStanding applicantNumber listedAs standingNumber named octetOf
+no-slot f noApplicant e = refl
+no-slot f (applicant x) e = absurd (go (x .state) e)
+  where
+    go : (q : Standing) → domainStanding false (standingNumber q) ≡ true → ⊥
+    go veryAnxiousPassive e = false≢true e
+    go veryAnxiousNew e = false≢true e
+    go anxiousNew e = false≢true e
+    go anxiousActive e = false≢true e
+    go quietActive e = false≢true e
+    go leavingActive e = false≢true e
+
+-- where two slots are declared, x and y, there are at most two machines
+module _ (own : ℕ → Bool) (x y : ℕ) (two : (j : ℕ) → own j ≡ true → (j ≡ x) ⊎ (j ≡ y)) (st : Settings) where
+  -- of x and y, those that are still to come
+  left-of : ℕ → ℕ
+  left-of i = bit (leb i x) + bit (leb i y)
+
+  later : (i z : ℕ) → bit (leb (suc i) z) ≤ bit (leb i z)
+  later i z = go (leb i z) refl
+    where
+      go : (t : Bool) → leb i z ≡ t → bit (leb (suc i) z) ≤ bit t
+      go true e = at-most-one (leb (suc i) z)
+        where
+          at-most-one : (t : Bool) → bit t ≤ bit true
+          at-most-one true = unfold bit in (omega arith)
+          at-most-one false = unfold bit in (omega arith)
+      go false e = rw (lt-leb (suc i) z (omega (arith, leb-false i z e))) (unfold bit in (omega arith))
+
+  passed : (i : ℕ) → bit (leb (suc i) i) + 1 ≤ bit (leb i i)
+  passed i = rw (lt-leb (suc i) i (omega arith), le-leb i i (omega arith)) (unfold bit in (omega arith))
+
+  counted : (i : ℕ) → own i ≡ true → left-of (suc i) + 1 ≤ left-of i
+  unfolding left-of
+  counted i e = go (two i e)
+    where
+      go : (i ≡ x) ⊎ (i ≡ y) → bit (leb (suc i) x) + bit (leb (suc i) y) + 1 ≤ bit (leb i x) + bit (leb i y)
+      go (inl z) = rw (← z) (omega (arith, passed i, later i y))
+      go (inr z) = rw (← z) (omega (arith, passed i, later i x))
+
+  domains-few : (i : ℕ) (l : List (Applicant (Unit {0}))) → ValidSlots own i l → length (domainValues st i l) ≤ left-of i
+  unfolding domainValues
+  domains-few i [] v = omega arith
+  domains-few i (a ∷ l) v = go (own i) refl (v .0) (domains-few (suc i) l (v .1))
+    where
+      here : List (Listed Declaration)
+      here = listedAs (λ (u : Unit {0}). domainOf st i) a
+
+      go : (t : Bool) → own i ≡ t → domainStanding t (applicantNumber a) ≡ true → length (domainValues st (suc i) l) ≤ left-of (suc i)
+          → length (here ++ domainValues st (suc i) l) ≤ left-of i
+      go true e d ih =
+          omega (arith, ih, counted i e, listed-few (λ (u : Unit {0}). domainOf st i) a, length-append here (domainValues st (suc i) l))
+      go false e d ih =
+          omega (arith, ih, fewer, no-slot (λ (u : Unit {0}). domainOf st i) a d, length-append here (domainValues st (suc i) l))
+        where
+          fewer : left-of (suc i) ≤ left-of i
+          fewer = unfold left-of in (omega (arith, later i x, later i y))
+
+  two-domains : (l : List (Applicant (Unit {0}))) → ValidSlots own 0 l → length (domainValues st 0 l) ≤ 2
+  two-domains l v = omega (arith, domains-few 0 l v, most)
+    where
+      most : left-of 0 ≤ 2
+      most = unfold left-of in (omega (arith, at-most-one (leb 0 x), at-most-one (leb 0 y)))
+        where
+          at-most-one : (t : Bool) → bit t ≤ 1
+          at-most-one true = unfold bit in (omega arith)
+          at-most-one false = unfold bit in (omega arith)
+
+own-slots : (st : Settings) (p j : ℕ) → declaresSlot st p j ≡ true → (j ≡ slotOf (classId classB) (classPriority st classB)) ⊎ (j ≡ slotOf (classId classA) (classPriority st classA))
+unfolding declaresSlot
+own-slots st p j e = go (isOwnSlot st (portAt st p) classB j) (isOwnSlot st (portAt st p) classA j) refl refl e
+  where
+    is : (c : Class) → isOwnSlot st (portAt st p) c j ≡ true → j ≡ slotOf (classId c) (classPriority st c)
+    is c h = unfold isOwnSlot in (eqb-true j (slotOf (classId c) (classPriority st c)) (and-right (supports (portAt st p) c) (eqb j (slotOf (classId c) (classPriority st c))) h))
+
+    go : (a b : Bool) → isOwnSlot st (portAt st p) classB j ≡ a → isOwnSlot st (portAt st p) classA j ≡ b → (a || b) ≡ true
+        → (j ≡ slotOf (classId classB) (classPriority st classB)) ⊎ (j ≡ slotOf (classId classA) (classPriority st classA))
+    go true b f g e = inl (is classB f)
+    go false true f g e = inr (is classA g)
+    go false false f g e = absurd (false≢true e)
+
+pub at-most-194 : (b : Bridge) → Valid b → (p : ℕ) → p < length (b .settings .ports) → length (declarations b p) ≤ 194
+unfolding declarations
+at-most-194 b v p here =
+    let s = b .streams in
+    let domains : List (Listed Declaration) = domainValues (b .settings) 0 (senderAt (b .senders) p .domains) in
+    omega (
+      arith,
+      v .at-most-64,
+      kind-few advertises p s,
+      kind-few faileds p s,
+      kind-few listeners p s,
+      two-domains (declaresSlot (b .settings) p) (slotOf (classId classB) (classPriority (b .settings) classB)) (slotOf (classId classA) (classPriority (b .settings) classA)) (own-slots (b .settings) p) (b .settings) (senderAt (b .senders) p .domains) (v .senders p here .domains),
+      length-append (ofKind advertises p s) (ofKind faileds p s ++ (ofKind listeners p s ++ domains)),
+      length-append (ofKind faileds p s) (ofKind listeners p s ++ domains),
+      length-append (ofKind listeners p s) domains,
+    )
 
 -- What write answers.
 
