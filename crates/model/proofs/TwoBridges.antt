@@ -7,17 +7,17 @@ use Prim.Native.Nat.{ℕ, zero, suc, _+_, _-_, _*_, _/_, _%_, _≤_, _<_}
 use native.Mathlib.Omega.{arith}
 use lib.ListN.{length, getD, take, drop, replicate, length-map, length-replicate, length-drop, length-append, take-append-drop}
 use lib.Dec.{eqb, leb}
-use borrow.Author.Tests.{le-ltb, eq-eqb, ne-eqb, eqb-true, eqb-false}
+use borrow.Author.Tests.{le-ltb, le-leb, eq-eqb, ne-eqb, eqb-true, eqb-false}
 use Rattle.model.specs.Lists.{All, keep}
-use Rattle.model.specs.Applicant.{tx, applicantRow, applicantColumn, applicantEntry, to, by, afterNew, isWritten, messageNumber, Standing, veryAnxiousPassive, veryAnxiousNew, anxiousNew, anxiousActive, quietActive, leavingActive, named, sent, speaks, spoken, opportunity}
+use Rattle.model.specs.Applicant.{tx, applicantRow, applicantColumn, applicantEntry, to, by, afterNew, isWritten, messageNumber, Standing, veryAnxiousPassive, veryAnxiousNew, anxiousNew, anxiousActive, quietActive, leavingActive, named, sent, becomes, speaks, spoken, opportunity}
 use Rattle.model.specs.LeaveAll as timer
 use Rattle.model.specs.Places.{isNone, Wrote, itself, each, saying, writeFrom}
-use Rattle.model.specs.Machines.{Heard, Listed, Applicant, noApplicant, applicant, way}
+use Rattle.model.specs.Machines.{Heard, heardLeave, heardEvent, Listed, Applicant, noApplicant, applicant, undeclared, with, applicantOf, after, decided, moved, heard, way}
 use Rattle.model.specs.State.{Leaving, stays, since, Fixed, TalkerType, talkerAdvertise, talkerFailed, Varying, Registration, Talker, noTalker, talker, Ready, Listener, noListener, listener, Cell, Domain, noDomain, domain, Own, Offer, Failure, Sends, Sender, Stream, Settings, Bridge, empty, blank, fresh, noSends, noSender, noOwn, sendsAt, senderAt, ownAt, slotOf}
 use Rattle.model.specs.Registrations.{Kind, advertises, faileds, listeners, Act, leaveAll, leave, talk, listen, hearAll, hear, ofDomain, DomainAct, leaveAllDomains, leaveDomain, joinDomain, hearAllDomains, hearDomain, quitDomain, doesDomain, changeDomains, applyOwn, applyOwns, domainStays, begin, talksAs, hearsAs, withLeaving, quitTalker, quitListener, quit, sameFixed, firstJoin, sameJoin, otherJoin, joinTalker, does, moves, isStaying, talkerStays, listenerStays, at, change, touch, begun, reach, apply, applyAll, applySenders, ids, joins, together, Answer, acts, holding, owning, sending, received}
 use Rattle.model.specs.Frames.{Asking, nothingAsked, join, withdraw, asking, event, heardOf, wrongPort, reading}
 use Rattle.model.specs.Table.{stands, isStanding}
-use Rattle.model.specs.Settling.{isApplicant}
+use Rattle.model.specs.Settling.{isApplicant, expired, expireTalker, expireListener, expireCell}
 use Rattle.model.specs.Declarations.{Declaration, talkerDeclaration, listenerDeclaration, domainDeclaration, talkerKind, joinOf, listedAs, advertiseOf, failedOf, declarationsOf, ofKind, domainOf, domainValues, declarations, Said, say, leaveOf, hearOf, askedOf, saidActs, declaredId, isRegistered}
 use Rattle.model.specs.WrittenFrames.{pduOctets}
 use Rattle.model.specs.Writing.{leavesAll, portWay, sayOn, takesOn, wroteOn, movedSender, afterWrite, Written, write}
@@ -1473,3 +1473,121 @@ module _ (a : Bridge) (p : ℕ) (start : Passing a p 0) (b : Bridge) (v : Valid 
     pub two-bridges-domains : KnownSlot (a .settings .vlan) sender (domainFor (q - 1) j (b .owns))
         → FollowsSlot (a .settings .vlan) sender (domainFor (q - 1) j (receiveAll q (passPdus a p) b .owns))
     two-bridges-domains k = rw domain-received (slot-follows (b .clock) (a .settings .vlan) sender (domainFor (q - 1) j (b .owns)) k)
+
+-- After its leave time what an Lv withdrew has gone: nothing is registered but what stands here.
+
+-- a leaving that began at most at a time
+abbrev pub Begun : ℕ → Leaving → Type 0
+Begun clock stays = Unit {0}
+Begun clock (since t) = t ≤ clock
+
+abbrev pub BegunTalker : ℕ → Talker → Type 0
+BegunTalker clock noTalker = Unit {0}
+BegunTalker clock (talker r) = Begun clock (r .leaving)
+
+abbrev pub BegunListener : ℕ → Listener → Type 0
+BegunListener clock noListener = Unit {0}
+BegunListener clock (listener r l) = Begun clock l
+
+-- one that is not leaving, where there is one
+abbrev pub StaysTalker : Talker → Type 0
+StaysTalker noTalker = Unit {0}
+StaysTalker (talker r) = r .leaving ≡ stays
+
+abbrev pub StaysListener : Listener → Type 0
+StaysListener noListener = Unit {0}
+StaysListener (listener r l) = l ≡ stays
+
+pub record Exactly (s : Sends) (c : Cell) : Type 0 where
+  pub follows : Follows s c
+  pub talks : StaysTalker (c .talks)
+  pub hears : StaysListener (c .hears)
+
+module _ (st : Settings) (clock later : ℕ) (long : clock + st .leaveTime ≤ later) where
+  talker-left : (t : Talker) → BegunTalker clock t → StaysTalker (expireTalker st later t)
+  unfolding expireTalker
+  talker-left noTalker b = tt
+  talker-left (talker r) b = go (r .leaving) refl b
+    where
+      go : (l : Leaving) → r .leaving ≡ l → Begun clock l → StaysTalker (cond (expired st later l) noTalker (talker r))
+      go stays e w = unfold expired in e
+      go (since t) e w = unfold expired in (rw (le-leb (t + st .leaveTime) later (omega arith)) tt)
+
+  listener-left : (l : Listener) → BegunListener clock l → StaysListener (expireListener st later l)
+  unfolding expireListener expired
+  listener-left noListener b = tt
+  listener-left (listener r stays) b = refl
+  listener-left (listener r (since t)) b = rw (le-leb (t + st .leaveTime) later (omega arith)) tt
+
+-- what stays outlasts it
+module _ (st : Settings) (later : ℕ) where
+  registers-lasts : (f : Fixed) (v : Varying) (t : Talker) → Registers f v t → Registers f v (expireTalker st later t)
+  unfolding expireTalker
+  registers-lasts f v noTalker h = h
+  registers-lasts f v (talker r) h =
+      let e : expired st later (r .leaving) ≡ false = ap (expired st later) (h .3) ∙ unfold expired in refl in
+      rw e h
+
+  listener-lasts : (r : Ready) (l : Listener) → l ≡ listener r stays → expireListener st later l ≡ listener r stays
+  listener-lasts r l e = ap (expireListener st later) e ∙ unfold expireListener expired in refl
+
+  talker-was : (k : Kind) (t : Talker) → talkerStays k (expireTalker st later t) ≡ true → talkerStays k t ≡ true
+  unfolding expireTalker
+  talker-was k noTalker h = h
+  talker-was k (talker r) h = go (expired st later (r .leaving)) h
+    where
+      go : (w : Bool) → talkerStays k (cond w noTalker (talker r)) ≡ true → talkerStays k (talker r) ≡ true
+      go true e = absurd (false≢true (unfold talkerStays in e))
+      go false e = e
+
+  listener-was : (l : Listener) → listenerStays (expireListener st later l) ≡ true → listenerStays l ≡ true
+  unfolding expireListener
+  listener-was noListener h = h
+  listener-was (listener r l) h = go (expired st later l) h
+    where
+      go : (w : Bool) → listenerStays (cond w noListener (listener r l)) ≡ true → listenerStays (listener r l) ≡ true
+      go true e = absurd (false≢true (unfold listenerStays in e))
+      go false e = e
+
+pub after-leave-time : (st : Settings) (clock later : ℕ) → clock + st .leaveTime ≤ later → (s : Sends) (c : Cell) → Follows s c
+    → BegunTalker clock (c .talks) → BegunListener clock (c .hears) → Exactly s (expireCell st later c)
+unfolding expireCell
+after-leave-time st clock later long s c h bt bl = record {
+  follows = record {
+    advertise =
+        stands-map (λ o. Registers (offered o) (advertised o) (c .talks)) (λ o. Registers (offered o) (advertised o) (expireTalker st later (c .talks)))
+        (λ o r. registers-lasts st later (offered o) (advertised o) (c .talks) r) (s .advertising) (h .advertise);
+    failed =
+        stands-map (λ o. Registers (failedOffer o) (failedAs o) (c .talks)) (λ o. Registers (failedOffer o) (failedAs o) (expireTalker st later (c .talks)))
+        (λ o r. registers-lasts st later (failedOffer o) (failedAs o) (c .talks) r) (s .failing) (h .failed);
+    listener =
+        stands-map (λ r. c .hears ≡ listener r stays) (λ r. expireListener st later (c .hears) ≡ listener r stays) (λ r e. listener-lasts st later r (c .hears) e)
+        (s .listening) (h .listener);
+    advertise-only = λ e. h .advertise-only (talker-was st later advertises (c .talks) e);
+    failed-only = λ e. h .failed-only (talker-was st later faileds (c .talks) e);
+    listener-only = λ e. h .listener-only (listener-was st later (c .hears) e);
+  };
+  talks = talker-left st clock later long (c .talks) bt;
+  hears = listener-left st clock later long (c .hears) bl;
+}
+
+-- What is not so, until a LeaveAll of either side mends it.
+
+-- Where other values of a Talker stand, and its type changed with them, the later Lv of the new type misses it too.
+pub other-missed : (now : ℕ) (k : Kind) (r : Registration) → talksAs k (r .varying .type) ≡ false → quitTalker now k (talker r) ≡ talker r
+unfolding quitTalker withLeaving
+other-missed now k r n = rw n
+
+-- A declaration that the neighbour's own Lv turned to VP goes without an Lv where it is withdrawn then, and what has gone says nothing.
+pub withdrawn-unsaid : {D : Type 0} (alike : D → D → Bool) (v : D) → decided alike undeclared (heard heardLeave (applicant record { state = quietActive; value = v })) ≡ noApplicant
+unfolding decided heard moved applicantOf after with heardEvent tables
+withdrawn-unsaid alike v = refl
+
+pub gone-silent : {A : Type 0} (f : A → Declaration) (now i : ℕ) (c : Cell) → tells f now i noApplicant c ≡ c
+unfolding tells
+gone-silent f now i c = refl
+
+-- An Lv is sent once, so that one that is lost leaves the registration as it was.
+pub lv-once : {D : Type 0} (r : Bool) (v : D) → moved (becomes r tx) (applicant record { state = leavingActive; value = v }) ≡ noApplicant
+unfolding moved applicantOf with tables
+lv-once r v = refl
