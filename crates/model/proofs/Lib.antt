@@ -48,6 +48,9 @@ pub mod WriteKeepsForm
 pub mod PackedVectors
 pub mod PackedEvents
 pub mod ReadBack
+pub mod ToldStreams
+pub mod Following
+pub mod ToldDomains
 pub mod TwoBridges
 pub mod Versions
 pub mod CutOut
