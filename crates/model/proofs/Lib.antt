@@ -51,6 +51,9 @@ pub mod WrittenSends
 pub mod PackedVectors
 pub mod PackedEvents
 pub mod ReadBack
+pub mod ToldStreams
+pub mod Following
+pub mod ToldDomains
 pub mod TwoBridges
 pub mod Versions
 pub mod CutOut
