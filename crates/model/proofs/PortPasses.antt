@@ -111,14 +111,14 @@ module _ (f : ℕ → Bool → Standing → List Standing) (p : ℕ) (k : Kind) 
   moved-registered s = kind-registered listeners _ _ ∙ kind-registered faileds _ _ ∙ kind-registered advertises 0 s
 
 module _ (now p : ℕ) (all : Bool) (none : all ≡ false) where
-  no-leaving : (s : List Stream) → applyAll now p (ownLeaveAll all) s ≡ s
+  pub no-leaving : (s : List Stream) → applyAll now p (ownLeaveAll all) s ≡ s
   no-leaving s = go all none
     where
       go : (t : Bool) → t ≡ false → applyAll now p (ownLeaveAll t) s ≡ s
       go true e = absurd (true≢false e)
       go false e = unfold applyAll ownLeaveAll in refl
 
-  no-own-leaving : (o : List Own) → applyOwns now p (ownLeaveAll all) o ≡ o
+  pub no-own-leaving : (o : List Own) → applyOwns now p (ownLeaveAll all) o ≡ o
   no-own-leaving o = go all none
     where
       go : (t : Bool) → t ≡ false → applyOwns now p (ownLeaveAll t) o ≡ o

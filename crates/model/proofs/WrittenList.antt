@@ -181,10 +181,24 @@ apart-stays listeners advertises n f id s = refl
 apart-stays listeners faileds n f id s = refl
 apart-stays listeners listeners n f id s = absurd n
 
-listed-count : {A : Type 0} (h : A → Declaration) (a : Applicant A) → length (listedAs h a) ≡ bit (isApplicant a)
+pub listed-count : {A : Type 0} (h : A → Declaration) (a : Applicant A) → length (listedAs h a) ≡ bit (isApplicant a)
 unfolding listedAs bit isApplicant
 listed-count h noApplicant = refl
 listed-count h (applicant x) = refl
+
+pub machines-listed : (k : Kind) (id : ℕ) (s : Sends) → length (declarationsOf k id s) ≡ machines k s
+unfolding declarationsOf machines
+machines-listed advertises id s = listed-count (advertiseOf id) (s .advertising)
+machines-listed faileds id s = listed-count (failedOf id) (s .failing)
+machines-listed listeners id s = listed-count (listenerDeclaration id) (s .listening)
+
+-- all streams' machines of a type are so many
+pub kind-count : (k : Kind) (p : ℕ) (s : List Stream) → length (ofKind k p s) ≡ machinesOf k p s
+unfolding ofKind machinesOf
+kind-count k p [] = refl
+kind-count k p (x ∷ s) =
+    length-append (declarationsOf k (x .id) (sendsAt x p)) (ofKind k p s)
+    ∙ ap₂ (λ (m n : ℕ). m + n) (machines-listed k (x .id) (sendsAt x p)) (kind-count k p s)
 
 module _ (f : ℕ → Bool → Standing → List Standing) (one : (i : ℕ) (r : Bool) (q : Standing) → length (f i r q) ≤ 1) (reg : Declaration → Bool) where
   -- what is left of a declaration at place i
@@ -221,12 +235,6 @@ module _ (f : ℕ → Bool → Standing → List Standing) (one : (i : ℕ) (r :
   unfolding change sendsAt
   kind-here k p g x = at-default p (moveKind k g) (x .sends) noSends (none-moved k g)
 
-  machines-listed : (k : Kind) (id : ℕ) (s : Sends) → length (declarationsOf k id s) ≡ machines k s
-  unfolding declarationsOf machines
-  machines-listed advertises id s = listed-count (advertiseOf id) (s .advertising)
-  machines-listed faileds id s = listed-count (failedOf id) (s .failing)
-  machines-listed listeners id s = listed-count (listenerDeclaration id) (s .listening)
-
   -- all streams' machines of a type
   kind-moved : (k : Kind) (p i : ℕ) (s : List Stream) → All (λ x. Asked k (x .id) (registeredIn k (cellAt x p))) s
       → ofKind k p (movedKind f k p i s) ≡ eachAt leftAt i (ofKind k p s)
@@ -241,13 +249,6 @@ module _ (f : ℕ → Bool → Standing → List Standing) (one : (i : ℕ) (r :
     where
       r : Bool
       r = registeredIn k (cellAt x p)
-
-  kind-count : (k : Kind) (p : ℕ) (s : List Stream) → length (ofKind k p s) ≡ machinesOf k p s
-  unfolding ofKind machinesOf
-  kind-count k p [] = refl
-  kind-count k p (x ∷ s) =
-      length-append (declarationsOf k (x .id) (sendsAt x p)) (ofKind k p s)
-      ∙ ap₂ (λ (m n : ℕ). m + n) (machines-listed k (x .id) (sendsAt x p)) (kind-count k p s)
 
   -- what is asked of a stream by its StreamID and its cells stays
   asked-stays : (P : ℕ → List Cell → Type 0) (k : Kind) (p i : ℕ) (s : List Stream)
@@ -474,7 +475,7 @@ module _ (b : Bridge) (p place : ℕ) (v : ListedPort b p) (h : place ≤ length
       (ap₂ (λ (l m : List (Listed Declaration)). l ++ m) (streams-after listeners ∙ listeners-moved f one reg p s asks-advertises asks-faileds asks-listeners)
       last))
       ∙ sym (in-turn (ofKind advertises p s) (ofKind faileds p s) (ofKind listeners p s) domains
-      ∙ rw (kind-count f one reg advertises p s, kind-count f one reg faileds p s, kind-count f one reg listeners p s))
+      ∙ rw (kind-count advertises p s, kind-count faileds p s, kind-count listeners p s))
     where
       s : List Stream
       s = b .streams
