@@ -19,7 +19,7 @@ use Rattle.model.specs.Registrations.{Kind, advertises, faileds, listene
 use Rattle.model.specs.Settling.{isApplicant, held, isSending, anySending, isHeld, dropUnheld}
 use Rattle.model.specs.Declarations.{Declaration, talkerKind, listedAs, listenerDeclaration, advertiseOf, failedOf, declarationsOf, ofKind, domainOf, domainValues, declarations, registeredOf, isRegistered}
 use Rattle.model.specs.Writing.{leavesAll, portWay, takesOn, wroteOn, endOn, movedAt, machines, machinesOf, movedKind, movedStreams, movedSlots, movedSender, ownLeaveAll, afterWrite}
-use Rattle.model.proofs.Lists.{all-map, at-each, at-here}
+use Rattle.model.proofs.Lists.{all-map, at-each, at-here, at-other}
 use Rattle.model.proofs.Valid.{Rising}
 use Rattle.model.proofs.AdvanceKeepsForm.{or-false}
 use Rattle.model.proofs.PlaceLists.{reached-behind}
@@ -339,20 +339,20 @@ module _ (f : ℕ → Bool → Standing → List Standing) (one : (i : ℕ) (r :
           let z : j + suc n ≡ suc j + n = omega arith in
           rw z at (h (suc n) (omega arith))
 
--- What a write does beside: LeaveAll's leavings move no machine, and a stream that goes has none.
+-- What a write does beside: LeaveAll's leavings move no machine, on whatever port, and a stream that goes has none.
 
-module _ (p : ℕ) (k : Kind) where
-  list-same : (u : Stream → Stream) → ((x : Stream) → (u x .id ≡ x .id) × (sendsAt (u x) p ≡ sendsAt x p)) → (s : List Stream) → ofKind k p (map u s) ≡ ofKind k p s
+module _ (p q : ℕ) (k : Kind) where
+  list-same : (u : Stream → Stream) → ((x : Stream) → (u x .id ≡ x .id) × (sendsAt (u x) q ≡ sendsAt x q)) → (s : List Stream) → ofKind k q (map u s) ≡ ofKind k q s
   unfolding ofKind
   list-same u h [] = refl
   list-same u h (x ∷ s) = ap₂ (λ (l m : List (Listed Declaration)). l ++ m) (ap₂ (declarationsOf k) (h x .0) (h x .1)) (list-same u h s)
 
-  left-same : (now : ℕ) (j : Kind) (s : List Stream) → ofKind k p (apply now p (leaveAll j) s) ≡ ofKind k p s
+  left-same : (now : ℕ) (j : Kind) (s : List Stream) → ofKind k q (apply now p (leaveAll j) s) ≡ ofKind k q s
   unfolding apply reach
   left-same now j s =
-      list-same (change (at p (does now (leaveAll j))) (at p (moves (leaveAll j)))) (λ x. unfold change sendsAt moves in (refl, at-each (λ (y : Sends). y) p (λ y. y) (λ y. refl) (x .sends) p noSends)) s
+      list-same (change (at p (does now (leaveAll j))) (at p (moves (leaveAll j)))) (λ x. unfold change sendsAt moves in (refl, at-each (λ (y : Sends). y) p (λ y. y) (λ y. refl) (x .sends) q noSends)) s
 
-  leaving-list : (now : ℕ) (all : Bool) (s : List Stream) → ofKind k p (applyAll now p (ownLeaveAll all) s) ≡ ofKind k p s
+  leaving-list : (now : ℕ) (all : Bool) (s : List Stream) → ofKind k q (applyAll now p (ownLeaveAll all) s) ≡ ofKind k q s
   unfolding applyAll ownLeaveAll
   leaving-list now false s = refl
   leaving-list now true s =
@@ -445,7 +445,7 @@ module _ (b : Bridge) (p place : ℕ) (v : ListedPort b p) (h : place ≤ length
   unfolding afterWrite f
   streams-after k =
       dropped-list k p (applyAll (b .clock) p (ownLeaveAll all) (movedStreams (movedAt all place (endOn b p place)) p (b .streams)))
-      ∙ leaving-list p k (b .clock) all (movedStreams (movedAt all place (endOn b p place)) p (b .streams))
+      ∙ leaving-list p p k (b .clock) all (movedStreams (movedAt all place (endOn b p place)) p (b .streams))
 
   abbrev domainPlace : ℕ
   domainPlace = machinesOf advertises p (b .streams) + machinesOf faileds p (b .streams) + machinesOf listeners p (b .streams)
@@ -508,3 +508,40 @@ module _ (b : Bridge) (p place : ℕ) (v : ListedPort b p) (h : place ≤ length
       by-places
       ∙ at-same g (atPlace (portWay b p) place (endOn b p place)) as-written 0 (declarations b p)
       ∙ moved-list (portWay b p) (takesOn b p) place (declarations b p) h
+
+-- The lists of the other ports stay.
+module _ (b : Bridge) (p place q : ℕ) (apart : p ≡ q → ⊥) where
+  other-kind : (f : ℕ → Bool → Standing → List Standing) (k j : Kind) (i : ℕ) (s : List Stream) → ofKind k q (movedKind f j p i s) ≡ ofKind k q s
+  unfolding ofKind movedKind change sendsAt
+  other-kind f k j i [] = refl
+  other-kind f k j i (x ∷ s) =
+      ap₂ (λ (l m : List (Listed Declaration)). l ++ m)
+      (ap (declarationsOf k (x .id)) (at-other p (moveKind j (f i (registeredIn j (cellAt x p)))) (x .sends) q noSends apart))
+      (other-kind f k j (i + machines j (sendsAt x p)) s)
+
+  other-streams : (f : ℕ → Bool → Standing → List Standing) (k : Kind) (s : List Stream) → ofKind k q (movedStreams f p s) ≡ ofKind k q s
+  unfolding movedStreams
+  other-streams f k s = other-kind f k listeners _ _ ∙ other-kind f k faileds _ _ ∙ other-kind f k advertises 0 s
+
+  other-after : (k : Kind) → ofKind k q (afterWrite b p place .streams) ≡ ofKind k q (b .streams)
+  unfolding afterWrite
+  other-after k =
+      let f : ℕ → Bool → Standing → List Standing = movedAt (leavesAll b p) place (endOn b p place) in
+      dropped-list k q (applyAll (b .clock) p (ownLeaveAll (leavesAll b p)) (movedStreams f p (b .streams)))
+      ∙ leaving-list p q k (b .clock) (leavesAll b p) (movedStreams f p (b .streams))
+      ∙ other-streams f k (b .streams)
+
+  other-sender : senderAt (afterWrite b p place .senders) q ≡ senderAt (b .senders) q
+  unfolding afterWrite senderAt
+  other-sender = at-other p _ (b .senders) q noSender apart
+
+  other-domains : domainValues (afterWrite b p place .settings) 0 (senderAt (afterWrite b p place .senders) q .domains) ≡ domainValues (b .settings) 0 (senderAt (b .senders) q .domains)
+  unfolding afterWrite
+  other-domains = ap (λ (x : Sender). domainValues (b .settings) 0 (x .domains)) other-sender
+
+  pub other-lists-stay : declarations (afterWrite b p place) q ≡ declarations b q
+  unfolding declarations
+  other-lists-stay =
+      ap₂ (λ (l m : List (Listed Declaration)). l ++ m) (other-after advertises)
+      (ap₂ (λ (l m : List (Listed Declaration)). l ++ m) (other-after faileds)
+      (ap₂ (λ (l m : List (Listed Declaration)). l ++ m) (other-after listeners) other-domains))
