@@ -2,28 +2,28 @@
 use mathlib.Core.Path.{_≡_, refl, sym, _∙_, ap, ap₂}
 use mathlib.Core.List.{List, [], _∷_, _++_, map, append-nil}
 use mathlib.Core.Bool.{Bool, true, false, cond, _&&_, true≢false}
-use Prim.Native.Nat.{ℕ, zero, suc, _+_, _-_, _≤_, _<_}
+use Prim.Native.Nat.{ℕ, zero, suc, _+_, _-_, _≤_}
 use native.Mathlib.Nat.{add-zero}
 use native.Mathlib.Omega.{arith}
-use lib.ListN.{length, length-map, getD, take, drop}
+use lib.ListN.{length, length-map, getD, drop}
 use lib.Dec.{leb, ltb}
 use borrow.Author.Tests.{leb-true}
 use Rattle.model.specs.Lists.{All, bit, keep}
 use Rattle.model.specs.Applicant.{tx, txLAF, opportunity, Standing, veryAnxiousPassive, veryAnxiousNew, anxiousNew, anxiousActive, quietActive, leavingActive, becomes, speaks}
 use Rattle.model.specs.LeaveAll as timer
-use Rattle.model.specs.Places.{Way, each, saying, reached, behind, leftBefore, writeFrom}
+use Rattle.model.specs.Places.{each, saying, behind, leftBefore, writeFrom}
 use Rattle.model.specs.Machines.{Listed, Applicant, noApplicant, applicant, with, applicantOf, moved, way}
-use Rattle.model.specs.State.{Settings, Domain, Own, Sends, Sender, Stream, Bridge, cellAt, sendsAt, senderAt, ownAt, noSends, noSender}
-use Rattle.model.specs.Registrations.{Kind, advertises, faileds, listeners, at, moveKind, change, applyAll, applyOwns, registeredIn, domainStays}
+use Rattle.model.specs.State.{Settings, Domain, Sends, Stream, Bridge, cellAt, sendsAt, senderAt, ownAt, noSends, noSender}
+use Rattle.model.specs.Registrations.{Kind, advertises, faileds, listeners, at, moveKind, change, applyAll, registeredIn, domainStays}
 use Rattle.model.specs.Settling.{isApplicant, isHeld, dropUnheld}
-use Rattle.model.specs.Declarations.{Declaration, listedAs, listenerDeclaration, advertiseOf, failedOf, declarationsOf, ofKind, domainOf, domainValues, declarations, isRegistered}
+use Rattle.model.specs.Declarations.{Declaration, listedAs, listenerDeclaration, advertiseOf, failedOf, declarationsOf, ofKind, domainOf, domainValues, declarations}
 use Rattle.model.specs.Writing.{leavesAll, portWay, sayOn, takesOn, wroteOn, endOn, movedAt, machines, machinesOf, movedKind, movedStreams, movedSlots, movedSender, ownLeaveAll, afterWrite, Written, write}
 use Rattle.model.proofs.Lists.{all-map, and-left}
 use Rattle.model.proofs.ApplicantEntries.{written, speaking}
 use Rattle.model.proofs.Valid.{ValidStream, Valid}
 use Rattle.model.proofs.Dropping.{dropped-none}
 use Rattle.model.proofs.PlaceLists.{cons-apart, no-length, none-behind}
-use Rattle.model.proofs.Passing.{taken, list-is}
+use Rattle.model.proofs.Passing.{taken}
 use Rattle.model.proofs.WrittenList.{listed-count, machines-listed, kind-count}
 use Rattle.model.proofs.WritingPasses.{declared, toSay}
 use Rattle.model.proofs.PortPasses.{no-leaving, no-own-leaving, Calm, calm-way, write-gives, then-declared}

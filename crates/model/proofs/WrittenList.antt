@@ -1,21 +1,20 @@
 -- The machines of a port, moved by their places in its list and by their Registrars, are the list that a write leaves.
 use mathlib.Core.Path.{_≡_, refl, sym, _∙_, ap, ap₂}
-use mathlib.Core.List.{List, [], _∷_, _++_, map, append-nil, append-assoc}
+use mathlib.Core.List.{List, [], _∷_, _++_, map, append-assoc}
 use mathlib.Core.Bool.{Bool, true, false, cond, _&&_, _||_, true≢false}
-use Prim.Native.Nat.{ℕ, zero, suc, _+_, _-_, _*_, _/_, _%_, _≤_, _<_}
+use Prim.Native.Nat.{ℕ, zero, suc, _+_, _/_, _%_, _≤_, _<_}
 use native.Mathlib.Nat.{add-zero}
 use native.Mathlib.Omega.{arith}
 use lib.ListN.{length, getD, take, drop, take-append-drop, length-append}
 use lib.Seq.{length-take-le}
-use lib.Dec.{leb, ltb, eqb}
+use lib.Dec.{leb, ltb}
 use borrow.Author.Tests.{lt-ltb, le-ltb, le-leb, lt-leb, eq-eqb, ne-eqb}
 use Rattle.model.specs.Lists.{All, bit, keep}
-use Rattle.model.specs.Applicant.{ApplicantState, vo, vp, vn, an, aa, qa, la, lo, tx, txLA, txLAF, opportunity, Standing, standing, applicantEntry, named, becomes}
-use Rattle.model.specs.LeaveAll as timer
-use Rattle.model.specs.Places.{Way, itself, each, saying, reached, behind, leftBefore, writeFrom}
+use Rattle.model.specs.Applicant.{ApplicantState, vo, vp, vn, an, aa, qa, la, lo, txLAF, opportunity, Standing, standing, applicantEntry, named, becomes}
+use Rattle.model.specs.Places.{Way, itself, each, reached, behind, leftBefore, writeFrom}
 use Rattle.model.specs.Machines.{Listed, Applicant, noApplicant, applicant, with, applicantOf, after, moved, way}
-use Rattle.model.specs.State.{Settings, Cell, Domain, noDomain, Ready, Own, Offer, Failure, Sends, Sender, Stream, Bridge, cellAt, sendsAt, senderAt, ownAt, slotOf, empty, noSends, noSender}
-use Rattle.model.specs.Registrations.{Kind, advertises, faileds, listeners, Act, leaveAll, ofDomain, leaveAllDomains, does, moves, at, moveKind, change, reach, apply, applyAll, registeredIn, domainStays, ids}
+use Rattle.model.specs.State.{Settings, Cell, Domain, noDomain, Ready, Offer, Failure, Sends, Sender, Stream, Bridge, cellAt, sendsAt, senderAt, ownAt, slotOf, empty, noSends, noSender}
+use Rattle.model.specs.Registrations.{Kind, advertises, faileds, listeners, leaveAll, does, moves, at, moveKind, change, reach, apply, applyAll, registeredIn, domainStays, ids}
 use Rattle.model.specs.Settling.{isApplicant, held, isSending, anySending, isHeld, dropUnheld}
 use Rattle.model.specs.Declarations.{Declaration, talkerKind, listedAs, listenerDeclaration, advertiseOf, failedOf, declarationsOf, ofKind, domainOf, domainValues, declarations, registeredOf, isRegistered}
 use Rattle.model.specs.Writing.{leavesAll, portWay, takesOn, wroteOn, endOn, movedAt, machines, machinesOf, movedKind, movedStreams, movedSlots, movedSender, ownLeaveAll, afterWrite}
