@@ -245,16 +245,19 @@ failedAs o = record { type = talkerFailed (o .1 .bridge) (o .1 .code); latency =
 
 -- Before a pass: what is quiet here is registered there, what stays registered there has a machine here, at most one Talker type stands
 -- (02, xiv: "just the settled declarations"), and no other values of it are registered.
+pub record KnownTalkers (a : Applicant Offer) (f : Applicant (Offer × Failure)) (t : Talker) : Type 0 where
+  pub advertise : Quiet (λ o. Registers (offered o) (advertised o) t) a
+  pub failed : Quiet (λ o. Registers (failedOffer o) (failedAs o) t) f
+  pub advertise-known : talkerStays advertises t ≡ true → isApplicant a ≡ true
+  pub failed-known : talkerStays faileds t ≡ true → isApplicant f ≡ true
+  pub one-talker : stands a ≡ true → stands f ≡ false
+  pub no-other-advertise : Stands (λ o. NoOther (offered o) t) a
+  pub no-other-failed : Stands (λ o. NoOther (failedOffer o) t) f
+
 pub record Known (s : Sends) (c : Cell) : Type 0 where
-  pub advertise : Quiet (λ o. Registers (offered o) (advertised o) (c .talks)) (s .advertising)
-  pub failed : Quiet (λ o. Registers (failedOffer o) (failedAs o) (c .talks)) (s .failing)
+  pub talkers : KnownTalkers (s .advertising) (s .failing) (c .talks)
   pub listener : Quiet (λ r. c .hears ≡ listener r stays) (s .listening)
-  pub advertise-known : talkerStays advertises (c .talks) ≡ true → isApplicant (s .advertising) ≡ true
-  pub failed-known : talkerStays faileds (c .talks) ≡ true → isApplicant (s .failing) ≡ true
   pub listener-known : listenerStays (c .hears) ≡ true → isApplicant (s .listening) ≡ true
-  pub one-talker : stands (s .advertising) ≡ true → stands (s .failing) ≡ false
-  pub no-other-advertise : Stands (λ o. NoOther (offered o) (c .talks)) (s .advertising)
-  pub no-other-failed : Stands (λ o. NoOther (failedOffer o) (c .talks)) (s .failing)
 
 -- After it: what stands here is registered there, with its values, and what stays registered there stands here.
 pub record Follows (s : Sends) (c : Cell) : Type 0 where
@@ -272,13 +275,10 @@ module _ (now : ℕ) (a : Applicant Offer) (f : Applicant (Offer × Failure)) (t
   both : Talker
   both = talkerTold failedOffer failedAs faileds now f first
 
-  module _ (qa : Quiet (λ o. Registers (offered o) (advertised o) t) a) (qf : Quiet (λ o. Registers (failedOffer o) (failedAs o) t) f)
-      (ka : talkerStays advertises t ≡ true → isApplicant a ≡ true) (kf : talkerStays faileds t ≡ true → isApplicant f ≡ true)
-      (one : stands a ≡ true → stands f ≡ false)
-      (na : Stands (λ o. NoOther (offered o) t) a) (nf : Stands (λ o. NoOther (failedOffer o) t) f) where
+  module _ (k : KnownTalkers a f t) where
     first-registers : Stands (λ o. Registers (offered o) (advertised o) first) a
     unfolding first
-    first-registers = told-registers offered advertised advertises now a t na qa
+    first-registers = told-registers offered advertised advertises now a t (k .no-other-advertise) (k .advertise)
 
     -- an Advertise that stands
     module _ (s : stands a ≡ true) where
@@ -286,7 +286,7 @@ module _ (now : ℕ) (a : Applicant Offer) (f : Applicant (Offer × Failure)) (t
       unfolding both
       advertise-stays =
           stands-map (λ o. Registers (offered o) (advertised o) first) (λ o. Registers (offered o) (advertised o) both)
-          (λ o h. told-fallen failedOffer failedAs faileds now (Registers (offered o) (advertised o)) f first (one s) h (quit-other now faileds (offered o) (advertised o) first (unfold talksAs in refl) h))
+          (λ o h. told-fallen failedOffer failedAs faileds now (Registers (offered o) (advertised o)) f first (k .one-talker s) h (quit-other now faileds (offered o) (advertised o) first (unfold talksAs in refl) h))
           a first-registers
 
       no-failed : talkerStays faileds first ≡ false
@@ -305,9 +305,9 @@ module _ (now : ℕ) (a : Applicant Offer) (f : Applicant (Offer × Failure)) (t
       failed-stays =
           told-registers failedOffer failedAs faileds now f first
           (stands-map (λ o. NoOther (failedOffer o) t) (λ o. NoOther (failedOffer o) first)
-          (λ o h. unfold first in (told-fallen offered advertised advertises now (NoOther (failedOffer o)) a t s h (quit-fixed now advertises (failedOffer o) t h))) f nf)
+          (λ o h. unfold first in (told-fallen offered advertised advertises now (NoOther (failedOffer o)) a t s h (quit-fixed now advertises (failedOffer o) t h))) f (k .no-other-failed))
           (quiet-map (λ o. Registers (failedOffer o) (failedAs o) t) (λ o. Registers (failedOffer o) (failedAs o) first)
-          (λ o h. fallen-keeps (failedOffer o) (failedAs o) (unfold talksAs in refl) h) f qf)
+          (λ o h. fallen-keeps (failedOffer o) (failedAs o) (unfold talksAs in refl) h) f (k .failed))
 
       failed-before : talkerStays faileds first ≡ true → talkerStays faileds t ≡ true
       unfolding first
@@ -336,7 +336,7 @@ module _ (now : ℕ) (a : Applicant Offer) (f : Applicant (Offer × Failure)) (t
     both-failed = go (stands a) refl
       where
         go : (w : Bool) → stands a ≡ w → Stands (λ o. Registers (failedOffer o) (failedAs o) both) f
-        go true e = fallen (λ o. Registers (failedOffer o) (failedAs o) both) f (one e)
+        go true e = fallen (λ o. Registers (failedOffer o) (failedAs o) both) f (k .one-talker e)
         go false e = failed-stays e
 
     only-advertise : talkerStays advertises both ≡ true → stands a ≡ true
@@ -344,7 +344,7 @@ module _ (now : ℕ) (a : Applicant Offer) (f : Applicant (Offer × Failure)) (t
       where
         go : (w : Bool) → stands a ≡ w → stands a ≡ true
         go true e = e
-        go false e = told-only offered advertised advertises now a t ka (unfold first in (advertise-before e h))
+        go false e = told-only offered advertised advertises now a t (k .advertise-known) (unfold first in (advertise-before e h))
 
     only-failed : talkerStays faileds both ≡ true → stands f ≡ true
     unfolding both
@@ -352,7 +352,7 @@ module _ (now : ℕ) (a : Applicant Offer) (f : Applicant (Offer × Failure)) (t
       where
         go : (w : Bool) → stands a ≡ w → talkerStays faileds first ≡ true → isApplicant f ≡ true
         go true e q = absurd (false≢true (sym (no-failed e) ∙ q))
-        go false e q = kf (failed-before e q)
+        go false e q = k .failed-known (failed-before e q)
 
 -- A Listener's machine.
 
@@ -456,13 +456,11 @@ module _ (now i : ℕ) where
       let a = s .advertising in
       let f = s .failing in
       let t = c .talks in
-      let qa = h .advertise in
-      let qf = h .failed in
       rw (cell-told s c) record {
-        advertise = both-advertise now a f t qa qf (h .advertise-known) (h .failed-known) (h .one-talker) (h .no-other-advertise) (h .no-other-failed);
-        failed = both-failed now a f t qa qf (h .advertise-known) (h .failed-known) (h .one-talker) (h .no-other-advertise) (h .no-other-failed);
+        advertise = both-advertise now a f t (h .talkers);
+        failed = both-failed now a f t (h .talkers);
         listener = listener-registers now (s .listening) (c .hears) (h .listener);
-        advertise-only = only-advertise now a f t qa qf (h .advertise-known) (h .failed-known) (h .one-talker) (h .no-other-advertise) (h .no-other-failed);
-        failed-only = only-failed now a f t qa qf (h .advertise-known) (h .failed-known) (h .one-talker) (h .no-other-advertise) (h .no-other-failed);
+        advertise-only = only-advertise now a f t (h .talkers);
+        failed-only = only-failed now a f t (h .talkers);
         listener-only = listener-told-only now (s .listening) (c .hears) (h .listener-known);
       }
