@@ -1,11 +1,12 @@
 -- After a pass a neighbour's registrations of a stream follow what the port sends: what stands is registered, with its values, and what
 -- stays registered stands (02, xiv).
 use mathlib.Core.Path.{_≡_, refl, sym, _∙_, ap}
+use mathlib.Core.List.{map}
 use mathlib.Core.Bool.{Bool, true, false, cond, _&&_, false≢true, true≢false}
 use Prim.Native.Nat.{ℕ}
 use borrow.Author.Tests.{eq-eqb}
-use Rattle.model.specs.Applicant.{Standing, veryAnxiousPassive, veryAnxiousNew, anxiousNew, anxiousActive, quietActive, leavingActive}
-use Rattle.model.specs.Machines.{Applicant, noApplicant, applicant}
+use Rattle.model.specs.Applicant.{tx, becomes, Standing, veryAnxiousPassive, veryAnxiousNew, anxiousNew, anxiousActive, quietActive, leavingActive}
+use Rattle.model.specs.Machines.{Applicant, noApplicant, applicant, with, applicantOf, moved}
 use Rattle.model.specs.State.{Leaving, stays, since, Fixed, talkerAdvertise, talkerFailed, Varying, Registration, Talker, noTalker, talker, Ready, Listener, noListener, listener, Cell, Offer, Failure, Sends}
 use Rattle.model.specs.Registrations.{Kind, advertises, faileds, listeners, begin, talksAs, hearsAs, withLeaving, quitTalker, quitListener, quit, sameFixed, firstJoin, sameJoin, otherJoin, joinTalker, does, isStaying, talkerStays, listenerStays}
 use Rattle.model.specs.Frames.{Asking, nothingAsked, join, withdraw}
@@ -13,6 +14,7 @@ use Rattle.model.specs.Table.{stands, isStanding}
 use Rattle.model.specs.Settling.{isApplicant}
 use Rattle.model.specs.Declarations.{talkerDeclaration, listenerDeclaration, talkerKind, joinOf, advertiseOf, failedOf, leaveOf, askedOf}
 use Rattle.model.proofs.Lists.{and-left, and-right, and-both}
+use Rattle.model.proofs.ApplicantEntries.{tables}
 use Rattle.model.proofs.ToldStreams.{about, cellOn, cellAfter, asksFor, tells, tellsKind, tellsCell}
 
 -- A Talker's registration.
@@ -464,3 +466,85 @@ module _ (now i : ℕ) where
         failed-only = only-failed now a f t (h .talkers);
         listener-only = listener-told-only now (s .listening) (c .hears) (h .listener-known);
       }
+
+-- So it is before the next pass, of the machines that this one leaves: each standing one stays, with its value.
+
+module _ {A : Type 0} (r : Bool) where
+  unfoldable pub passed : Applicant A → Applicant A
+  passed a = moved (becomes r tx) a
+
+  pub passed-quiet : (P : A → Type 0) (a : Applicant A) → Stands P a → Quiet P (passed a)
+  unfolding passed moved applicantOf with tables
+  passed-quiet P noApplicant w = tt
+  passed-quiet P (applicant x) w = go (x .state) r w
+    where
+      go : (q : Standing) (t : Bool) → WhenStanding q (P (x .value)) → Quiet P (applicantOf (map (with (x .value)) (becomes t tx q)))
+      go veryAnxiousPassive t h = tt
+      go veryAnxiousNew t h = tt
+      go anxiousNew true h = h
+      go anxiousNew false h = tt
+      go anxiousActive t h = h
+      go quietActive t h = h
+      go leavingActive t h = tt
+
+  passed-stands : (P : A → Type 0) (a : Applicant A) → Stands P a → Stands P (passed a)
+  unfolding passed moved applicantOf with tables
+  passed-stands P noApplicant w = tt
+  passed-stands P (applicant x) w = go (x .state) r w
+    where
+      go : (q : Standing) (t : Bool) → WhenStanding q (P (x .value)) → Stands P (applicantOf (map (with (x .value)) (becomes t tx q)))
+      go veryAnxiousPassive t h = h
+      go veryAnxiousNew t h = h
+      go anxiousNew true h = h
+      go anxiousNew false h = h
+      go anxiousActive t h = h
+      go quietActive t h = h
+      go leavingActive t h = tt
+
+  pub passed-same : (a : Applicant A) → (isApplicant (passed a) ≡ stands a) × (stands (passed a) ≡ stands a)
+  unfolding passed moved applicantOf with tables isApplicant stands isStanding
+  passed-same noApplicant = (refl, refl)
+  passed-same (applicant x) = go (x .state) r
+    where
+      go : (q : Standing) (t : Bool)
+          → (isApplicant (applicantOf (map (with (x .value)) (becomes t tx q))) ≡ isStanding q) × (stands (applicantOf (map (with (x .value)) (becomes t tx q))) ≡ isStanding q)
+      go veryAnxiousPassive t = (refl, refl)
+      go veryAnxiousNew t = (refl, refl)
+      go anxiousNew true = (refl, refl)
+      go anxiousNew false = (refl, refl)
+      go anxiousActive t = (refl, refl)
+      go quietActive t = (refl, refl)
+      go leavingActive t = (refl, refl)
+
+no-other : (f : Fixed) (v : Varying) (t : Talker) → Registers f v t → NoOther f t
+no-other f v noTalker h = tt
+no-other f v (talker r) h = h .0
+
+-- what a pass leaves of the three machines, each with its Registrar IN or not
+unfoldable pub passedSends : Bool → Bool → Bool → Sends → Sends
+passedSends ra rf rl s = record { advertising = passed ra (s .advertising); failing = passed rf (s .failing); listening = passed rl (s .listening) }
+
+pub follows-known : (ra rf rl : Bool) (s : Sends) (c : Cell) → (stands (s .advertising) ≡ true → stands (s .failing) ≡ false) → Follows s c → Known (passedSends ra rf rl s) c
+unfolding passedSends
+follows-known ra rf rl s c one h =
+    let a = s .advertising in
+    let f = s .failing in
+    let l = s .listening in
+    let t = c .talks in
+    record {
+      talkers = record {
+        advertise = passed-quiet ra (λ o. Registers (offered o) (advertised o) t) a (h .advertise);
+        failed = passed-quiet rf (λ o. Registers (failedOffer o) (failedAs o) t) f (h .failed);
+        advertise-known = λ e. passed-same ra a .0 ∙ h .advertise-only e;
+        failed-known = λ e. passed-same rf f .0 ∙ h .failed-only e;
+        one-talker = λ e. passed-same rf f .1 ∙ one (sym (passed-same ra a .1) ∙ e);
+        no-other-advertise =
+            passed-stands ra (λ o. NoOther (offered o) t) a
+            (stands-map (λ o. Registers (offered o) (advertised o) t) (λ o. NoOther (offered o) t) (λ o w. no-other (offered o) (advertised o) t w) a (h .advertise));
+        no-other-failed =
+            passed-stands rf (λ o. NoOther (failedOffer o) t) f
+            (stands-map (λ o. Registers (failedOffer o) (failedAs o) t) (λ o. NoOther (failedOffer o) t) (λ o w. no-other (failedOffer o) (failedAs o) t w) f (h .failed));
+      };
+      listener = passed-quiet rl (λ r. c .hears ≡ listener r stays) l (h .listener);
+      listener-known = λ e. passed-same rl l .0 ∙ h .listener-only e;
+    }
