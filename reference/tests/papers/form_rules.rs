@@ -34,7 +34,12 @@ fn rule_2_the_ports_field() {
 
 #[test]
 fn rule_3_the_class_priorities() {
-    let table = three_streams(250);
+    // No port declares a Domain value, so that no machine depends on the priorities.
+    let mut settings = settings(2);
+    for port in &mut settings.ports {
+        port.supports = PerClass { a: false, b: false };
+    }
+    let table = started(&settings);
     assert_eq!(table.lent()[9], 0x80);
     breaks(&table, 3, 9, 0xc0);
     breaks(&table, 3, 8, 0x24);

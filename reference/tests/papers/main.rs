@@ -19,6 +19,7 @@ mod reading;
 mod refusals;
 mod registering;
 mod reports_and_start;
+mod sending;
 mod settling;
 mod table_places;
 mod texts;
