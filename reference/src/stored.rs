@@ -1,6 +1,8 @@
 //! Octets to store in a table: places and values that break one form rule and no other, or that
 //! keep them all.
 
+mod together;
+
 use std::ops::Range;
 
 use crate::domain::SLOTS;
@@ -25,15 +27,26 @@ enum Aim {
 /// How often a place and a value are drawn to meet the aim; the last draw is taken as it is.
 const MOST_DRAWS: usize = 16;
 
+/// Places of the table and octets for them: mostly one place, else some that go together.
+pub fn some_octets(random: &mut Random, table: &[u8]) -> Vec<(usize, u8)> {
+    if table.len() == TABLE_LENGTH && random.percent(8) {
+        let rule = random.one_of(&together::RULES);
+        let stored = together::edited(random, table, rule);
+        let broken = broken_rules(&stored);
+        if broken.is_empty() || broken == [rule] {
+            return together::differences(table, &stored);
+        }
+    }
+    vec![some_octet(random, table)]
+}
+
 /// A place of the table and an octet for it: mostly one that breaks a form rule and no other, else
 /// one that keeps them all, or any.
-pub fn some_octet(random: &mut Random, table: &[u8]) -> (usize, u8) {
+fn some_octet(random: &mut Random, table: &[u8]) -> (usize, u8) {
     let full = layout::used(table) == MOST_STREAMS;
     let rule = match full_port(table) {
         _ if full && random.percent(20) => 8,
         Some(_) if random.percent(20) => 37,
-        // Few tables can break this one alone.
-        _ if random.percent(4) => 26,
         _ => random.between(2, 50) as u8,
     };
     let aim = match random.below(20) {
@@ -127,7 +140,7 @@ fn field_of_edge(random: &mut Random, table: &[u8], rule: u8, port: usize) -> Ra
         32 => record + domain::LEAVING..record + domain::SINCE.end,
         33 => record..record + domain::LENGTH,
         34 => start + edge::FLAGS.start..start + edge::FLAGS.end,
-        _ => past..layout::RECORDS,
+        _ => past..layout::SENDERS,
     }
 }
 

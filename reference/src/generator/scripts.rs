@@ -32,18 +32,21 @@ fn store_behind(history: &mut History) {
     history.store(place, octet);
 }
 
-/// Stores an octet in the table and goes on with some calls. Where they are refused, mostly the
-/// octet that stood there is stored again.
+/// Stores octets in the table and goes on with some calls. Where they are refused, mostly the octets
+/// that stood there are stored again.
 fn store_and_go_on(history: &mut History, plan: &Plan) {
-    let (place, octet) = stored::some_octet(&mut history.random, history.table.lent());
-    let held = history.table.lent()[place];
-    history.store(place, octet);
+    let octets = stored::some_octets(&mut history.random, history.table.lent());
+    let mut held = Vec::new();
+    for (place, octet) in octets {
+        held.push((place, history.table.lent()[place]));
+        history.store(place, octet);
+    }
     for _ in 0..history.random.between(1, 4) {
         some_call(history, plan);
     }
     if history.table.bridge().is_none() {
         match history.random.below(100) {
-            0..=91 => history.store(place, held),
+            0..=91 => held.iter().for_each(|(place, octet)| history.store(*place, *octet)),
             92..=95 => history.start(&settings::write(&plan.settings)),
             _ => {}
         }
@@ -183,7 +186,7 @@ fn before_the_start(history: &mut History, plan: &Plan) {
     if history.random.percent(16) {
         why::too_little_room(history);
     }
-    sending::whole_lists(history);
+    sending::lists(history);
 }
 
 /// A bridge from its start on, or one that goes on without one.

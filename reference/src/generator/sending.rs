@@ -166,10 +166,55 @@ fn leave_all_comes(history: &mut History, port: u32) {
     history.advance(started.saturating_add(step));
 }
 
+/// So many Advertise and Failed that with LeaveAll they, or they and one Domain value, or both, take exactly
+/// 1,500 octets.
+const FULL_WITH_LEAVE_ALL: [(usize, usize); 3] = [(19, 25), (15, 28), (24, 21)];
+
+/// Bridges made for lists: one that is as long as a list can be, or one that fills a PDU with LeaveAll.
+pub fn lists(history: &mut History) {
+    whole_lists(history);
+    history.sending(|history| {
+        if history.random.percent(6) {
+            full_with_leave_all(history);
+        }
+    });
+}
+
+/// A bridge whose port 2 declares Talkers that fill a PDU with LeaveAll, or one more or less.
+fn full_with_leave_all(history: &mut History) {
+    start_roomy(history);
+    let (advertise, failed) = history.random.one_of(&FULL_WITH_LEAVE_ALL);
+    let more = history.random.one_of(&[0, 0, 0, 1]);
+    let talker = Talker::of_the_worked_example(0x0200_0000_0001_0000);
+    let join = history.random.one_of(&JOINS);
+    history.receive(1, &pdu(&Declaration::Talker(talker), join, advertise));
+    let failure = Some(Failure { bridge_id: history.random.bits(), code: 9 });
+    let stream_id = talker.stream_id + 0x100;
+    let other = Talker { failure, ..Talker::of_the_worked_example(stream_id) };
+    history.receive(1, &pdu(&Declaration::Talker(other), join, failed + more));
+    history.advance(1);
+    if history.random.percent(50) {
+        looks::pass(history, 2, 0);
+    }
+    let late = history.random.below(3) as u32;
+    history.advance(LEAVE_ALL_TIME + late);
+    looks::pass(history, 2, 0);
+}
+
+/// A bridge of two ports with room for all streams, whose neighbours are in its domain.
+fn start_roomy(history: &mut History) {
+    let settings = roomy_settings(&mut history.random);
+    history.start(&settings::write(&settings));
+    for port in [1, 2] {
+        let vectors = own_domain_vectors(&mut history.random, &settings);
+        history.receive(port, &domain_pdu(vectors));
+    }
+}
+
 /// A bridge whose port 2 has, of each of 64 streams, the Lv of an Advertise and of a Failed to send and declares
 /// a Listener: 194 declarations with those of the domain. Then its list shrinks. In some scripts that have
 /// much sending.
-pub fn whole_lists(history: &mut History) {
+fn whole_lists(history: &mut History) {
     history.sending(|history| {
         if history.random.percent(12) {
             make_whole_list(history);
@@ -185,12 +230,7 @@ pub fn whole_lists(history: &mut History) {
 
 /// All 64 streams of a run of StreamIDs, whose list on port 2 grows with each change.
 fn make_whole_list(history: &mut History) {
-    let settings = roomy_settings(&mut history.random);
-    history.start(&settings::write(&settings));
-    for port in [1, 2] {
-        let vectors = own_domain_vectors(&mut history.random, &settings);
-        history.receive(port, &domain_pdu(vectors));
-    }
+    start_roomy(history);
     let step = history.random.one_of(&[0, 0x100, 0xff00]);
     let mut talker = Talker::of_the_worked_example(0x0200_0000_0001_0000 + step);
     talker.parameters.max_frame_size = 100;

@@ -1,106 +1,12 @@
 //! What ports send, by the machines of 802.1Q clause 10.7 (02, (xiv)).
 
 use crate::helpers::*;
-use reference::applicant::State::{self, AA, AN, LA, QA, VN, VP};
+use crate::senders::*;
+use reference::applicant::State::{AA, AN, LA, QA, VN, VP};
 use reference::declarations::Declaration;
-use reference::leave_all;
-use reference::lent::Table;
 use reference::mrp::Event;
-use reference::pdu::{Attribute, AttributeType, Talker};
-use reference::registrar;
+use reference::pdu::AttributeType;
 use reference::written::of_pdu;
-
-const ADVERTISE: AttributeType = AttributeType::TalkerAdvertise;
-const FAILED: AttributeType = AttributeType::TalkerFailed;
-const LISTENER: AttributeType = AttributeType::Listener;
-
-/// The state of a machine; none where there is none.
-fn state(table: &Table, port: usize, attribute_type: AttributeType, key: u64) -> Option<State> {
-    let machines = &table.bridge().unwrap().sending.ports[port - 1].machines;
-    machines.get(&Attribute { attribute_type, key }).map(|machine| machine.state)
-}
-
-/// The state of the Advertise of STREAM on port 2.
-fn advertised(table: &Table) -> Option<State> {
-    state(table, 2, ADVERTISE, STREAM)
-}
-
-/// What a PDU says, in the order it stands in, without the Domain values.
-fn said(octets: &[u8]) -> Vec<(AttributeType, u64, Event)> {
-    let said = of_pdu(octets).expect("what is written can be read").said;
-    let of_streams = said.iter().filter(|one| !matches!(one.declaration, Declaration::Domain(_)));
-    of_streams
-        .map(|one| {
-            let Attribute { attribute_type, key } = one.declaration.attribute();
-            (attribute_type, key, one.event)
-        })
-        .collect()
-}
-
-/// A write from place 0, without the Domain values.
-fn writes(table: &mut Table, port: u32) -> Vec<(AttributeType, u64, Event)> {
-    said(&write(table, port, 0).0)
-}
-
-/// All that a port writes from place 0 by the next places, up to the PDU of 3 octets.
-fn pass(table: &mut Table, port: u32) -> Vec<(AttributeType, u64, Event)> {
-    let mut all = Vec::new();
-    let mut place = 0;
-    loop {
-        let (octets, next) = write(table, port, place);
-        if octets == [0, 0, 0] {
-            return all;
-        }
-        all.extend(said(&octets));
-        place = next as u32;
-    }
-}
-
-/// A Talker whose latency can fall and leave it an Advertise.
-fn source(latency: u32) -> Talker {
-    Talker { accumulated_latency: latency, ..talker(STREAM) }
-}
-
-/// Port 2 declares the Advertise of a stream, which nobody has written yet.
-fn one_stream() -> Table {
-    let mut table = in_domain(&settings(2));
-    join_talker(&mut table, 1, &source(500));
-    advance(&mut table, 1);
-    table
-}
-
-/// The same, written so often.
-fn written_times(times: usize) -> Table {
-    let mut table = one_stream();
-    for _ in 0..times {
-        write(&mut table, 2, 0);
-    }
-    table
-}
-
-/// The same with another latency, so that it is new, and written so often.
-fn new_times(times: usize) -> Table {
-    let mut table = written_times(2);
-    join_and_settle(&mut table, &source(400));
-    for _ in 0..times {
-        write(&mut table, 2, 0);
-    }
-    table
-}
-
-/// Joins a Talker and advances, time standing still.
-fn join_and_settle(table: &mut Table, talker: &Talker) {
-    join_talker(table, 1, talker);
-    let clock = table.bridge().unwrap().clock;
-    advance(table, clock);
-}
-
-/// The Talker on port 1 leaves, and its leave time ends.
-fn withdraw(table: &mut Table) {
-    accept(table, 1, &talker_frame(&talker(STREAM), &[LV]));
-    let clock = table.bridge().unwrap().clock;
-    advance(table, clock + 60);
-}
 
 #[test]
 fn r1_a_declaration_is_born_in_vp() {
@@ -231,10 +137,8 @@ fn r4_three_of_one_stream_and_194_declarations() {
     pass(&mut table, 2);
     accept(&mut table, 1, &talker_frame(&failed(STREAM, 9), &all));
     advance(&mut table, 2);
-    let mut place = 64;
-    while write(&mut table, 2, place).0.len() > 3 {
-        place += 30;
-    }
+    // What stands before this place isn't written: the Lv of each Advertise.
+    pass_from(&mut table, 2, 64);
     accept(&mut table, 1, &talker_frame(&failed(STREAM, 9), &[LV; 64]));
     accept(&mut table, 2, &talker_frame(&first, &all));
     let listeners = listener_vector(STREAM, &all, &[READY; 64]);
@@ -306,25 +210,6 @@ fn r8_received_events_go_by_type_and_key() {
 }
 
 #[test]
-fn r9_any_leave_all_restarts_the_ports_timer_and_moves_its_type() {
-    let mut table = written_times(2);
-    advance(&mut table, 1_000);
-    let machine = |table: &Table, port: usize| {
-        let sending = &table.bridge().unwrap().sending;
-        (sending.ports[port - 1].leave_all.state, sending.ports[port - 1].leave_all.started)
-    };
-    assert_eq!(machine(&table, 2), (leave_all::State::Active, 1_000));
-    advance(&mut table, 1_100);
-    accept(&mut table, 2, &leave_all(AttributeType::Domain));
-    assert_eq!(machine(&table, 2), (leave_all::State::Passive, 1_100));
-    assert_eq!(machine(&table, 1), (leave_all::State::Active, 1_000));
-    assert_eq!(advertised(&table), Some(QA));
-    assert_eq!(state(&table, 2, AttributeType::Domain, 6 << 8 | 3), Some(VP));
-    accept(&mut table, 2, &leave_all(ADVERTISE));
-    assert_eq!(advertised(&table), Some(VP));
-}
-
-#[test]
 fn r11_a_stream_with_an_unsent_lv_counts_for_8() {
     let mut table = written_times(1);
     withdraw(&mut table);
@@ -341,99 +226,6 @@ fn r11_a_stream_with_an_unsent_lv_counts_for_8() {
     write(&mut table, 2, 0);
     assert_eq!(table.receive(1, &frame), 0);
     assert_eq!(table.bridge().unwrap().registrations.streams.len(), 64);
-}
-
-#[test]
-fn r13_leave_all_comes_after_1000_hundredths() {
-    let mut table = written_times(3);
-    advance(&mut table, 999);
-    assert_eq!(written(&table, 2, 0).0, [0, 0, 0]);
-    advance(&mut table, 1_000);
-    assert!(of_pdu(&written(&table, 2, 0).0).unwrap().leave_all);
-    // Sending doesn't restart it.
-    advance(&mut table, 1_500);
-    write(&mut table, 2, 0);
-    advance(&mut table, 1_999);
-    assert!(!of_pdu(&written(&table, 2, 0).0).unwrap().leave_all);
-    advance(&mut table, 2_000);
-    assert!(of_pdu(&written(&table, 2, 0).0).unwrap().leave_all);
-}
-
-#[test]
-fn r14_leave_all_alone_has_106_octets_and_four_messages() {
-    let mut table = in_domain(&settings(2));
-    advance(&mut table, 1_000);
-    let (octets, next) = write(&mut table, 1, 2);
-    assert_eq!((octets.len(), next), (106, 2));
-    assert_eq!(octets[..7], [0, 1, 25, 0, 29, 0x20, 0]);
-    let taken = of_pdu(&octets).unwrap();
-    assert_eq!((taken.leave_all, taken.said.len()), (true, 0));
-    assert!(!of_pdu(&written(&table, 1, 2).0).unwrap().leave_all);
-}
-
-#[test]
-fn r15_and_16_leave_all_answered_and_not_answered() {
-    let mut table = in_domain(&settings(2));
-    join_talker(&mut table, 1, &talker(STREAM));
-    join_listener(&mut table, 2, STREAM, READY);
-    advance(&mut table, 1);
-    for port in [1, 2, 1, 2] {
-        pass(&mut table, port);
-    }
-    advance(&mut table, 1_000);
-    let leave_all = of_pdu(&write(&mut table, 2, 0).0).unwrap();
-    assert!(leave_all.leave_all);
-    // QA joins in the same PDU; the Registrar is found as it was before.
-    let events: Vec<Event> = leave_all.said.iter().map(|said| said.event).collect();
-    assert_eq!(events, [Event::JoinMt, Event::JoinIn, Event::JoinIn]);
-    let domain = Attribute { attribute_type: AttributeType::Domain, key: 6 << 8 | 3 };
-    let listener = Attribute { attribute_type: LISTENER, key: STREAM };
-    let registrar = |table: &Table, attribute: &Attribute| {
-        table.bridge().unwrap().registrations.registrar(2, attribute)
-    };
-    assert_eq!(registrar(&table, &domain), registrar::State::LV);
-    assert_eq!(registrar(&table, &listener), registrar::State::LV);
-    // A neighbour that answers stays.
-    let mut answered = table.clone();
-    join_listener(&mut answered, 2, STREAM, READY);
-    accept(&mut answered, 2, &own_domain(&settings(2)));
-    advance(&mut answered, 1_060);
-    assert_eq!(line(&answered, 2, STREAM), "advertise 0 none forward");
-    // One that doesn't is gone.
-    advance(&mut table, 1_059);
-    assert_eq!(line(&table, 2, STREAM), "advertise 0 none forward");
-    advance(&mut table, 1_060);
-    assert_eq!(line(&table, 2, STREAM), "failed 8 none filter");
-    assert_eq!(registrar(&table, &domain), registrar::State::MT);
-}
-
-#[test]
-fn r15_all_others_of_the_port_begin_anew_and_lv_goes_with_leave_all() {
-    let mut table = written_times(2);
-    join_talker(&mut table, 1, &talker(STREAM + 1));
-    advance(&mut table, 2);
-    write(&mut table, 2, 0);
-    accept(&mut table, 1, &talker_frame(&talker(STREAM + 1), &[LV]));
-    advance(&mut table, 62);
-    assert_eq!(state(&table, 2, ADVERTISE, STREAM + 1), Some(LA));
-    advance(&mut table, 1_001);
-    // From the place behind the Advertises: these find no place in the PDU.
-    let (octets, next) = write(&mut table, 2, 2);
-    assert_eq!(said(&octets), []);
-    // The LeaveAll withdraws the one with the unsent Lv, which stood before the place.
-    assert_eq!(next, 3);
-    assert_eq!(advertised(&table), Some(VP));
-    assert_eq!((state(&table, 2, ADVERTISE, STREAM + 1), held(&table)), (None, vec![STREAM]));
-}
-
-#[test]
-fn r15_a_first_write_with_leave_all_joins_nothing() {
-    let mut table = in_domain(&settings(2));
-    join_talker(&mut table, 1, &talker(STREAM));
-    advance(&mut table, 1_000);
-    assert_eq!(writes(&mut table, 2), [(ADVERTISE, STREAM, Event::Mt)]);
-    assert_eq!(writes(&mut table, 2), [(ADVERTISE, STREAM, Event::JoinMt)]);
-    assert_eq!(writes(&mut table, 2), []);
 }
 
 #[test]
