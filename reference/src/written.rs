@@ -14,10 +14,10 @@ pub struct TakenApart {
     pub said: Vec<Said>,
 }
 
-/// Takes PDUs in hex, one to a line, all that a port writes from place 0 on by its next places. Gives for each
-/// a line with its length, how many declarations of each type it has and whether it has LeaveAll, and each
-/// declaration in the words of `script`. Refuses PDUs that aren't laid out as 01 says, declarations out of
-/// order, and a PDU into which the next declaration would have fitted.
+/// Takes PDUs in hex, one to a line, all that a port writes from place 0 on by its next places up to the one of
+/// 3 octets, which isn't among them. Gives for each a line with its length, how many declarations of each type it
+/// has and whether it has LeaveAll, and each declaration in the words of `script`. Refuses PDUs that aren't laid
+/// out as 01 says, declarations out of order, and a PDU into which the next declaration would have fitted.
 pub fn taken_apart(text: &str) -> Result<String, String> {
     let mut printed = String::new();
     let mut pdus: Vec<TakenApart> = Vec::new();
@@ -33,8 +33,11 @@ pub fn taken_apart(text: &str) -> Result<String, String> {
         return Err("the declarations are out of order".to_string());
     }
     for (place, two) in pdus.windows(2).enumerate() {
-        let next = two[1].said.get(..1).unwrap_or_default();
-        let one_more = [&two[0].said[..], next].concat();
+        let next = match two[1].said.first() {
+            Some(next) => *next,
+            None => return Err(format!("PDU {} says nothing", place + 2)),
+        };
+        let one_more = [&two[0].said[..], &[next]].concat();
         if declarations::pdu(&one_more, two[0].leave_all).len() <= LONGEST_PDU {
             return Err(format!("PDU {} could have taken one more", place + 1));
         }

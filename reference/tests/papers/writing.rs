@@ -366,10 +366,12 @@ fn pdus_that_are_not_as_01_says_are_refused() {
     let said = of_pdu(&pdus[1]).unwrap().said;
     let not_full = [declarations::pdu(&said[..1], false), declarations::pdu(&said[1..], false)];
     let swapped = in_hex(&[pdus[1].clone(), pdus[0].clone()]);
+    let past_the_end = in_hex(&[pdus[0].clone(), pdus[1].clone(), vec![0, 0, 0]]);
     for (text, fault) in [
         (spare_event.as_str(), "a PDU isn't laid out as it is written"),
         (in_hex(&not_full).as_str(), "PDU 1 could have taken one more"),
         (swapped.as_str(), "the declarations are out of order"),
+        (past_the_end.as_str(), "PDU 3 says nothing"),
         ("000", "000 isn't pairs of hexadecimal digits"),
         ("0000", "a PDU is refused: 3"),
     ] {
