@@ -23,6 +23,7 @@ mod registering;
 mod reports_and_start;
 mod senders;
 mod sending;
+mod sending_examples;
 mod settling;
 mod table_places;
 mod texts;
