@@ -7,12 +7,14 @@ mod counts;
 mod domains;
 mod fan_in;
 mod frames;
+mod heard;
 mod held;
 mod latencies;
 mod newer;
 mod packing;
 mod registering;
 mod rows;
+mod said;
 mod sending;
 mod settings;
 mod settling;
@@ -129,6 +131,7 @@ impl Coverage {
                     settling::advanced(counts, *time, before, bridge);
                     self.latencies.settled(counts, before, bridge);
                     sending::advanced(counts, *time, before, bridge);
+                    said::advanced(counts, *time, before, bridge);
                 }
             }
             Call::Write { port, place, answer } => {
@@ -158,7 +161,10 @@ impl Coverage {
             }
             Ok(pdu) if number == numbers::STREAMS => {
                 registering::streams_past(counts, &pdu, held);
-                sending::streams_past(counts, self.before.as_ref());
+                if let Some(before) = &self.before {
+                    sending::streams_past(counts, before);
+                    heard::refused(counts, before, port, &pdu);
+                }
             }
             Ok(pdu) => {
                 frames::pdu(counts, &pdu);
@@ -179,6 +185,7 @@ impl Coverage {
             newer::passed_over(counts, version, pdu, before);
             addresses::leaves_addresses(counts, before, port, pdu);
             sending::received(counts, before, port, pdu);
+            heard::heard(counts, before, port, pdu);
         }
     }
 }

@@ -214,13 +214,7 @@ impl Registrations {
     }
 
     /// Moves what the port holds of a stream's attribute by Lv or LeaveAll.
-    fn leave(
-        &mut self,
-        port: usize,
-        attribute: Attribute,
-        event: registrar::Event,
-        clock: u32,
-    ) {
+    fn leave(&mut self, port: usize, attribute: Attribute, event: registrar::Event, clock: u32) {
         let ports = match self.streams.get_mut(&attribute.key) {
             Some(ports) => ports,
             None => return,

@@ -9,8 +9,8 @@ use crate::domain::SLOTS;
 use crate::random::Random;
 use crate::registrations::{MOST_ADDRESSES, MOST_STREAMS};
 use crate::settings::{self, MOST_PORTS};
-use crate::table::layout::{self, address, cell, domain, edge, record, result, send, sender};
 use crate::table::layout::TABLE_LENGTH;
+use crate::table::layout::{self, address, cell, domain, edge, record, result, send, sender};
 use crate::table::rules::{broken_rules, keeps_form};
 
 /// What an octet is stored for.

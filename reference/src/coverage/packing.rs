@@ -196,7 +196,8 @@ fn last_listener(counts: &mut Counts, run: &[StreamId], cutting: &Cutting) {
 fn ended_between(counts: &mut Counts, list: &[Declaration], place: usize, written: &Written) {
     let is_listener = |one: &Declaration| matches!(one, Declaration::Listener(..));
     let at = |at: usize| list.get(at).map_or(false, is_listener);
-    counts.count_if("write from a place between Listeners", place > 0 && at(place - 1) && at(place));
+    counts
+        .count_if("write from a place between Listeners", place > 0 && at(place - 1) && at(place));
     let last = written.said.last().map_or(false, |said| is_listener(&said.declaration));
     let one_more = match written.no_room {
         Some(said) if last && is_listener(&said.declaration) => said,

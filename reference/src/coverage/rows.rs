@@ -1,7 +1,7 @@
 //! The rows of the table, in their order.
 
-use super::{addresses, borrowing, domains, fan_in, frames, latencies, newer};
-use super::{packing, registering, sending, settings, settling, why, writing};
+use super::{addresses, borrowing, domains, fan_in, frames, heard, latencies, newer};
+use super::{packing, registering, said, sending, settings, settling, why, writing};
 
 /// The numbers that calls give back.
 const CALLS: &[&str] = &[
@@ -112,7 +112,7 @@ const TABLES: &[&str] = &[
 ];
 
 /// All that is counted.
-const BLOCKS: [&[&str]; 28] = [
+const BLOCKS: [&[&str]; 31] = [
     CALLS,
     why::NUMBERS,
     settings::ROWS,
@@ -139,6 +139,9 @@ const BLOCKS: [&[&str]; 28] = [
     sending::APPLICANTS,
     sending::OTHER_MACHINES,
     sending::ROWS,
+    heard::ROWS,
+    said::WRITTEN,
+    said::CHANGED,
     SENDING_RULES,
     TABLES,
 ];

@@ -181,8 +181,8 @@ fn has_unsent_alone(bridge: &Bridge) -> bool {
 }
 
 /// A PDU that is refused for its streams.
-pub fn streams_past(counts: &mut Counts, before: Option<&Bridge>) {
-    let unsent = before.map_or(false, has_unsent_alone);
+pub fn streams_past(counts: &mut Counts, before: &Bridge) {
+    let unsent = has_unsent_alone(before);
     counts.count_if("number 8 with a stream held by an unsent Lv alone", unsent);
 }
 
@@ -219,7 +219,12 @@ pub fn wrote(
 }
 
 /// A write with LeaveAll.
-fn left_all(counts: &mut Counts, before: &Bridge, (port, place): (usize, usize), written: &Written) {
+fn left_all(
+    counts: &mut Counts,
+    before: &Bridge,
+    (port, place): (usize, usize),
+    written: &Written,
+) {
     counts.count("LeaveAll Active + tx!");
     counts.count("write with LeaveAll");
     let count = before.sending.ports[port - 1].machines.len();

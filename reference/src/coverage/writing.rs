@@ -2,7 +2,7 @@
 
 use super::counts::Counts;
 use super::packing::packed;
-use super::sending;
+use super::{said, sending};
 use crate::bridge::{Bridge, WriteAnswer};
 use crate::declarations::{Declaration, Said};
 use crate::mrp::LONGEST_PDU;
@@ -54,6 +54,7 @@ impl Writes {
         let refused = answer.number != numbers::ACCEPTED;
         counts.count_if("write at place = count + 1", refused && place == list.len() + 1);
         if refused {
+            said::refused(counts, before, port as usize, answer.number);
             return;
         }
         counts.count_if("write at place = count", place == list.len());
@@ -62,6 +63,7 @@ impl Writes {
         self.last = Some((port, answer.next_place));
         let written = sending::wrote(counts, (before, after), port as usize, place);
         counts.count_if("write with declarations left over", written.no_room.is_some());
+        said::written(counts, before, (port as usize, place), &written);
         packed(counts, before, (port as usize, place), &written);
         let full = answer.length == LONGEST_PDU;
         counts.count_if("write of exactly 1500 octets", full);

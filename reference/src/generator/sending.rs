@@ -64,7 +64,12 @@ fn vector(declaration: &Declaration, event: u8, count: usize) -> VectorDraft {
         }
         Declaration::Domain(domain) => (domain.octets(), Vec::new()),
     };
-    VectorDraft { first_value, events: vec![event; count], listener_types, ..VectorDraft::default() }
+    VectorDraft {
+        first_value,
+        events: vec![event; count],
+        listener_types,
+        ..VectorDraft::default()
+    }
 }
 
 /// A PDU of such a vector.

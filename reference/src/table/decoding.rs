@@ -4,8 +4,8 @@ use std::iter::zip;
 
 use super::layout::{address, cell, domain, edge, record, result, send, sender};
 use super::layout::{cells, domain_records, edges, results, senders, sends};
-use super::layout::{used_addresses, used_records};
 use super::layout::{clock, ports, totals};
+use super::layout::{used_addresses, used_records};
 use super::layout::{ADVERTISE, APPLICANTS, FAILED, FILTER, FORWARD};
 use super::rules::keeps_form;
 use crate::bridge::Bridge;

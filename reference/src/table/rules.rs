@@ -9,12 +9,12 @@ use super::layout::{clock, leave_time, limits, ports, priorities, supports, tota
 use super::layout::{ADVERTISE, APPLICANTS, FAILED, FORWARD};
 use super::layout::{CLOCK, COUNT, EDGES, FAN_IN_LIMIT, RECORDS, RECORD_LENGTH, TABLE_LENGTH};
 use super::layout::{TOTALS, TOTALS_LENGTH};
+use crate::domain::{class_id, slot, SLOTS};
+use crate::leave_all::LEAVE_ALL_TIME;
 use crate::mmrp::Address;
 use crate::octets::number_of;
 use crate::pdu::StreamId;
 use crate::registrations::{MOST_ADDRESSES, MOST_STREAMS};
-use crate::domain::{class_id, slot, SLOTS};
-use crate::leave_all::LEAVE_ALL_TIME;
 use crate::settings::{self, CLASSES, MOST_PORTS};
 
 /// A form rule: whether a table keeps it. All but the first are asked only where that one is kept.
@@ -71,7 +71,9 @@ const RULES: [(u8, Rule); 50] = [
     (45, |table| every_send(table, |send| send[send::LISTENER] == 0 || has_listener_type(send))),
     (46, machines_are_of_results),
     (47, |table| is_zero_past_senders(table, ports(table))),
-    (48, |table| zip(0..ports(table), senders(table)).all(|(place, of)| declares_own(table, place, of))),
+    (48, |table| {
+        zip(0..ports(table), senders(table)).all(|(place, of)| declares_own(table, place, of))
+    }),
     (49, |table| every_sender(table, |sender| sender[sender::LEAVE_ALL] <= 1)),
     (50, leave_all_started_lately),
 ];

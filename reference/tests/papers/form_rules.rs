@@ -200,7 +200,11 @@ fn rule_16_leaving() {
     breaks(&leaving, 16, cell(0, 2) + cell::LISTENER_LEAVING, 0);
     // A clock far behind, to which the LeaveAll timers were started anew.
     let started = sender::STARTED.start;
-    breaks_by(&leaving, 16, &[(CLOCK.start, 1), (sender(1) + started, 1), (sender(2) + started, 1)]);
+    breaks_by(
+        &leaving,
+        16,
+        &[(CLOCK.start, 1), (sender(1) + started, 1), (sender(2) + started, 1)],
+    );
     // A leaving may have begun at the clock 0.
     keeps(&three_streams(59), cell(0, 1) + cell::TALKER_LEAVING, 1);
     breaks(&three_streams(60), 16, cell(0, 1) + cell::TALKER_LEAVING, 1);

@@ -135,7 +135,8 @@ fn rule_46_machines_of_what_is_declared() {
     for state in [VP, VN, AN, AA, QA] {
         breaks(&table, 46, send(2, 1) + send::ADVERTISE, state);
         breaks(&table, 46, send(0, 2) + send::FAILED, state);
-        let listener = [(send(2, 1) + send::LISTENER, state), (send(2, 1) + send::LISTENER_TYPE, 1)];
+        let listener =
+            [(send(2, 1) + send::LISTENER, state), (send(2, 1) + send::LISTENER_TYPE, 1)];
         breaks_by(&table, 46, &listener);
         keeps(&table, send(0, 2) + send::ADVERTISE, state);
     }

@@ -297,7 +297,8 @@ struct WritesReadBack {
 
 impl Watcher for WritesReadBack {
     fn called(&mut self, call: &Call, number: numbers::Number, table: &Table) {
-        if let (Call::Write { port, place, answer }, 0, Some(before)) = (call, number, &self.before) {
+        if let (Call::Write { port, place, answer }, 0, Some(before)) = (call, number, &self.before)
+        {
             writes_read_back(before, *port as usize, *place as usize, *answer);
             self.checked += 1;
         }
