@@ -40,23 +40,28 @@ pub fn writes(table: &mut Table, port: u32) -> Vec<(AttributeType, u64, Event)> 
     said(&write(table, port, 0).0)
 }
 
-/// All that a port writes from place 0 by the next places, up to the PDU of 3 octets.
-pub fn pass(table: &mut Table, port: u32) -> Vec<(AttributeType, u64, Event)> {
-    pass_from(table, port, 0)
-}
-
-/// The same from a place on.
-pub fn pass_from(table: &mut Table, port: u32, from: u32) -> Vec<(AttributeType, u64, Event)> {
-    let mut all = Vec::new();
+/// The PDUs that a port writes from a place by the next places, without the last one, which says nothing.
+pub fn pdus_of_pass(table: &mut Table, port: u32, from: u32) -> Vec<Vec<u8>> {
+    let mut pdus = Vec::new();
     let mut place = from;
     loop {
         let (octets, next) = write(table, port, place);
         if octets == [0, 0, 0] {
-            return all;
+            return pdus;
         }
-        all.extend(said(&octets));
+        pdus.push(octets);
         place = next as u32;
     }
+}
+
+/// What they say from place 0 on.
+pub fn pass(table: &mut Table, port: u32) -> Vec<(AttributeType, u64, Event)> {
+    pass_from(table, port, 0)
+}
+
+/// What they say from a place on.
+pub fn pass_from(table: &mut Table, port: u32, from: u32) -> Vec<(AttributeType, u64, Event)> {
+    pdus_of_pass(table, port, from).iter().flat_map(|pdu| said(pdu)).collect()
 }
 
 /// A Talker whose latency can fall and leave it an Advertise.
