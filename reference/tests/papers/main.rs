@@ -12,6 +12,7 @@ mod growing_latency;
 mod helpers;
 mod inbound_ports;
 mod leaving_all;
+mod machines;
 mod marked_examples;
 mod newer_versions;
 mod order_among_ports;
