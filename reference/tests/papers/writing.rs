@@ -2,9 +2,10 @@
 
 use crate::helpers::*;
 use reference::bridge::{Bridge, WriteAnswer};
-use reference::declarations::{self, Declaration};
+use reference::declarations::{self, Declaration, Said};
 use reference::generator;
 use reference::lent::Table;
+use reference::mrp::EVENTS;
 use reference::pdu::{self, Attribute, AttributeType, StreamId};
 use reference::records::{Call, Watcher};
 use reference::script::{records, Program};
@@ -357,6 +358,25 @@ fn pdus_are_taken_apart_into_the_words_of_a_text() {
     for (words, declaration) in words.iter().zip(declared) {
         let record = records(&format!("on 1 {words}"), Program::Calls).expect("a record");
         assert_eq!(read_back(&record[3..]), [declaration]);
+    }
+}
+
+#[test]
+fn events_and_leave_all_are_taken_apart_into_words() {
+    let declared = declared(&crowd(1, 1, 1), 2);
+    assert_eq!(declared.len(), 5);
+    for event in EVENTS {
+        let said: Vec<Said> =
+            declared.iter().map(|declaration| Said { declaration: *declaration, event }).collect();
+        for leave_all in [false, true] {
+            let pdu = declarations::pdu(&said, leave_all);
+            let printed = taken_apart(&in_hex(&[pdu])).expect("it is as 01 says");
+            assert_eq!(printed.lines().next().unwrap().ends_with(" leaveall"), leave_all);
+            for (words, said) in printed.lines().skip(1).zip(&said) {
+                let record = records(&format!("on 1 {words}"), Program::Calls).expect("a record");
+                assert_eq!(of_pdu(&record[3..]).unwrap().said, [*said]);
+            }
+        }
     }
 }
 
