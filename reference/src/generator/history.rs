@@ -86,7 +86,7 @@ impl History {
         self.octets.push(0x30 | port as u8);
         self.octets.extend(place.to_be_bytes());
         self.octets.extend(buffer_length.to_be_bytes());
-        self.look(50);
+        self.look(85);
         let mut buffer = vec![0; usize::from(buffer_length)];
         self.table.write(port, u32::from(place), &mut buffer)
     }
