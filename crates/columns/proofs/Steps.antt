@@ -15,8 +15,8 @@ use Rattle.model.specs.Layout.{inCell, inPort}
 use Rattle.model.specs.Lists.{All, isOne}
 use Rattle.model.specs.State.{Bridge, Port, talkerAdvertise, talkerFailed, Own, Stream, Class, noClass, classA, classB, noOwn, noFixed, portAt, isPort, cellAt, ownAt, classOf, isNoClass, supports}
 use Rattle.model.specs.Frames.{priorityOf}
-use Rattle.model.specs.Settling.{Scene, sceneOf, Inbound, boundary, sourceOf, fixedOf, isTalking, isTalkerFailed, isPruned, inboundOf, inboundsOf, shares, isKeptOut, StepName, stepA, stepB, stepC, stepD, stepE, stepF, stepG, stepI, stepJ, stepK, stepL, stepM, stepN, Step, stepsFrom, lastSteps, steps, Source, nowhere, from, clear}
-use Rattle.model.specs.Table.{toPort, toCell, registrationFrom, toTalkerType, portFrom, fixedFrom}
+use Rattle.model.specs.Settling.{Scene, sceneOf, Inbound, boundary, sourceOf, fixedOf, isTalking, isTalkerFailed, isPruned, inboundsOf, shares, isKeptOut, StepName, stepA, stepB, stepC, stepD, stepE, stepF, stepG, stepI, stepJ, stepK, stepL, stepM, stepN, Step, stepsFrom, steps, Source, nowhere, from, clear}
+use Rattle.model.specs.Table.{toPort, toCell, registrationFrom, toTalkerType, portFrom}
 use Rattle.model.specs.Why.{letter, sameStep, firstName}
 use Rattle.model.proofs.SettingsOctets.{octet-field}
 use Rattle.model.proofs.Why.{Before, before-from, clear-named, name-stays, name-clear}

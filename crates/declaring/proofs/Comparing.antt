@@ -20,10 +20,11 @@ module _ (v w : List ℕ) (e : length w ≡ length v) (same : Bool) (i : ℕ) (c
   pub same-next : i < length v → Comparing v w (same && eqb (getD v i 0) (getD w i 0)) (i + 1)
   unfolding sameOctets
   same-next h =
-      let k : i < length w = omega arith in
-      (omega arith,
-      and-assoc same (eqb (getD v i 0) (getD w i 0)) (sameOctets (drop (i + 1) v) (drop (i + 1) w))
-      ∙ rw (add-one i) (rw (drop-cons v i 0 h, drop-cons w i 0 k) at (c .1)))
+      let k : i < length w = omega arith in (
+        omega arith,
+        and-assoc same (eqb (getD v i 0) (getD w i 0)) (sameOctets (drop (i + 1) v) (drop (i + 1) w))
+            ∙ rw (add-one i) (rw (drop-cons v i 0 h, drop-cons w i 0 k) at (c .1)),
+      )
 
   pub same-done : length v ≤ i → same ≡ sameOctets v w
   unfolding sameOctets

@@ -1,8 +1,7 @@
 -- The values that an advance decides, as the octets of a settled stream and of a result have them; and other content is other octets.
-use mathlib.Core.Path.{_≡_, refl, sym, _∙_, ap, ap₂}
-use mathlib.Core.List.{List, [], _∷_, _++_, append-assoc}
-use mathlib.Core.Bool.{Bool, true, _&&_}
-use Prim.Native.Nat.{ℕ}
+use mathlib.Core.Path.{_≡_, refl, sym}
+use mathlib.Core.List.{[], _∷_, append-assoc}
+use mathlib.Core.Bool.{true, _&&_}
 use native.Mathlib.Omega.{arith}
 use lib.ListN.{length, take}
 use lib.Seq.{take-at}
@@ -11,8 +10,8 @@ use borrow.Author.Tests.{eq-eqb, eqb-true}
 use Rattle.octets.specs.Parts.{part}
 use Rattle.octets.specs.Fields.{packed, width, Fit}
 use Rattle.octets.proofs.Fields.{packed-append, part-run}
-use Rattle.model.specs.Layout.{failureWidths, fixedWidths, inResult, offerSize, offerWidths, resultWidths, varyingWidths}
-use Rattle.model.specs.State.{Fixed, Ready, Result, Offer, Failure, failed, readyNumber}
+use Rattle.model.specs.Layout.{failureWidths, fixedWidths, inResult, offerSize, resultWidths, varyingWidths}
+use Rattle.model.specs.State.{Fixed, Ready, Result, Offer, Failure, readyNumber}
 use Rattle.model.specs.Registrations.{sameFixed}
 use Rattle.model.specs.Settling.{sameOffer, sameFailed, sameReady}
 use Rattle.model.specs.WrittenFrames.{priorityOctet, fixedNumbers}

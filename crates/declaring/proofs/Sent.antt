@@ -1,7 +1,7 @@
 -- What a port sends of a stream: what the code makes of its three Applicants is what an advance decides.
-use mathlib.Core.Path.{_≡_, refl, sym, _∙_, ap, ap₂}
+use mathlib.Core.Path.{_≡_, refl, sym, _∙_, ap}
 use mathlib.Core.List.{List, [], _∷_, _++_, append-assoc, append-nil}
-use mathlib.Core.Bool.{Bool, true, false, not}
+use mathlib.Core.Bool.{not}
 use Prim.Native.Nat.{ℕ, _+_, _-_}
 use native.Mathlib.Omega.{arith}
 use lib.ListN.{length, getD, take, drop, length-append}
@@ -13,19 +13,19 @@ use Rattle.octets.proofs.Parts.{part-cons, part-none}
 use Rattle.octets.proofs.Patches.{patch-between, patch-part}
 use Rattle.model.specs.Layout.{advertisingSize, failedSize, failingSize, fixedSize, inResult, inSends, listeningSize, offerSize, readySize, resultSize}
 use Rattle.model.specs.State.{Fixed, Ready, askingFailed, ready, readyFailed, Column, none, advertise, failed, Declared, nothing, tells, Result, Offer, Failure, Sends, readyNumber}
-use Rattle.model.specs.Machines.{Applicant, noApplicant, applicant, Decided, undeclared, declared, decided}
+use Rattle.model.specs.Machines.{Applicant, noApplicant, applicant, declared, decided}
 use Rattle.model.specs.Settling.{advertisedBy, failedBy, listenedBy, sameOffer, sameFailed, sameReady, declareSends}
 use Rattle.model.specs.Sending.{applicantOctets, bothOctets, offerOctets, failureOctets, readyOctets, sendsOctets, toSends}
 use Rattle.model.specs.Table.{columnNumber, columnBridge, columnCode, declaredNumber}
 use Rattle.model.specs.Laid.{FitResult, FitSends, LaidSends}
 use Rattle.model.proofs.Parts.{part-between}
 use Rattle.model.proofs.Valid.{ValidFixed, GoodApplicant, ValidOffer, ValidFailed, ValidSends}
-use Rattle.model.proofs.ApplicantOctets.{applicant-length, applicant-coded, both-values}
+use Rattle.model.proofs.ApplicantOctets.{applicant-coded, both-values}
 use Rattle.model.proofs.SendsOctets.{AnyReady, offer-values, failure-values, ready-values}
 use Rattle.model.proofs.Fits.{fit-fixed, fit-sends, valid-sends-fit, laid-sends-is, laid-sends-fits}
 use Rattle.declaring.specs.Octets.{decidedOctets, offeredOctets, Offered, Told}
 use Rattle.declaring.proofs.Machines.{GoodDecided, good-decided, withdraws, declares}
-use Rattle.declaring.proofs.Offers.{offer-compared, failed-compared, ready-compared, offerOf, failureOf, offer-valid, failure-valid, offered-both, offered-first}
+use Rattle.declaring.proofs.Offers.{offer-compared, failed-compared, ready-compared, offerOf, offer-valid, failure-valid, offered-both, offered-first}
 
 -- The octets of the three.
 

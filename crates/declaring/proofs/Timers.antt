@@ -1,12 +1,10 @@
 -- leavealltimer! on the octets of what a port sends by itself.
 use mathlib.Core.Path.{_≡_, refl, sym, _∙_, ap}
-use mathlib.Core.List.{List, [], _∷_, _++_}
-use mathlib.Core.Bool.{true, false}
-use Prim.Native.Nat.{ℕ, _+_, _^_, _≤_, _<_}
+use mathlib.Core.List.{List, [], _∷_}
+use Prim.Native.Nat.{ℕ, _+_, _≤_, _<_}
 use native.Mathlib.Omega.{arith}
 use lib.ListN.{length, getD, drop}
 use lib.Seq.{getD-drop}
-use lib.Dec.{leb}
 use borrow.Author.Tests.{le-leb, lt-leb}
 use Rattle.octets.specs.Be.{beAt, be}
 use Rattle.octets.specs.Parts.{patch}
@@ -14,11 +12,11 @@ use Rattle.octets.specs.Fields.{fields, packed, width, flat}
 use Rattle.octets.proofs.Be.{beAt-ext}
 use Rattle.octets.proofs.Fields.{patch-behind, put-field}
 use Rattle.model.specs.Layout.{applicantSize, inSender, leaveAllWidths, slots}
-use Rattle.model.specs.LeaveAll.{LeaveAllState, active, passive, LeaveAll, LeaveAllEntry, leavealltimer, starting, leaveAllRow, leaveAllColumn, leaveAllEntry, leaveAllNext, leaveAllTime, hasRun, timedOut}
+use Rattle.model.specs.LeaveAll.{LeaveAllState, active, passive, leavealltimer, starting, leaveAllRow, leaveAllColumn, leaveAllEntry, leaveAllNext, leaveAllTime, hasRun, timedOut}
 use Rattle.model.specs.Machines.{Applicant}
 use Rattle.model.specs.State.{Sender}
 use Rattle.model.specs.Sending.{domainApplicant, activeNumber, leaveAllOctets, toLeaveAll, senderOctets, toSender}
-use Rattle.model.specs.Laid.{FitSender, LaidSender}
+use Rattle.model.specs.Laid.{LaidSender}
 use Rattle.model.proofs.Parts.{length-flat-sized, Sized}
 use Rattle.model.proofs.Lists.{all-each}
 use Rattle.model.proofs.ApplicantOctets.{applicant-length}

@@ -90,10 +90,22 @@ pub fn declare_all(sends: &mut [u8], values: &[u8], column: u8, listener: u8)
     ensures { λ _. ⌜ ((f : Fixed) (r : Result) → Offered (now (values .entry)) column listener f r
         → now (sends .exit) ≡ sendsOctets (declareSends f r (toSends (now (sends .entry))))) ⌝ }
 {
-    decide(&mut sends[0..table::sends::FAILING], &values[0..table::sends::OFFER], column == 1);
-    decide(&mut sends[table::sends::FAILING..table::sends::LISTENING], values, column == 2);
+    decide(
+        &mut sends[0..table::sends::FAILING],
+        &values[0..table::sends::OFFER],
+        column == 1,
+    );
+    decide(
+        &mut sends[table::sends::FAILING..table::sends::LISTENING],
+        values,
+        column == 2,
+    );
     let ready: [u8; 1] = [listener];
-    decide(&mut sends[table::sends::LISTENING..table::SENDS], &ready, listener != 0);
+    decide(
+        &mut sends[table::sends::LISTENING..table::SENDS],
+        &ready,
+        listener != 0,
+    );
 }
 
 // Whether a machine is left as it is: Join! does not move it, and it has the values, which come in two parts; or Lv! does not.

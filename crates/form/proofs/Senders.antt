@@ -1,14 +1,13 @@
 -- The rules of what a port sends by itself in terms of its octets; a loop over its Domain values, and one over the ports.
 use mathlib.Core.Path.{_≡_, refl, sym, ap, _∙_}
 use mathlib.Core.List.{List, [], _∷_}
-use mathlib.Core.Bool.{Bool, true, false, _&&_, _||_, and-assoc}
+use mathlib.Core.Bool.{Bool, true, false, _&&_, and-assoc}
 use Prim.Native.Nat.{ℕ, zero, suc, _+_, _-_, _*_, _/_, _%_, _≤_, _<_}
-use native.Mathlib.Nat.{zero-mul, suc-mul, zero-add}
+use native.Mathlib.Nat.{zero-mul, suc-mul}
 use native.Mathlib.Numerals.{add-one}
 use native.Mathlib.Omega.{arith}
-use borrow.Author.Needs.{needs}
 use borrow.Author.Tests.{ne-eqb}
-use lib.ListN.{length, getD, take, drop, drop-of-length-le, length-drop}
+use lib.ListN.{length, getD, take, drop, drop-of-length-le}
 use lib.Seq.{drop-cons, drop-drop, getD-take, getD-drop, length-take-le}
 use lib.Dec.{ltb, leb, eqb}
 use Rattle.octets.specs.Be.{beAt}
@@ -17,8 +16,8 @@ use Rattle.octets.specs.Fields.{fields}
 use Rattle.octets.proofs.Be.{beAt-ext}
 use Rattle.octets.proofs.Fields.{beAt-one}
 use Rattle.octets.proofs.Parts.{lent-part, length-part}
-use Rattle.octets.proofs.Frame.{beAt-part, part-part, getD-part}
-use Rattle.model.specs.Layout.{inHead, inSender, inTable, portPlace, portSize, portsUnit, priorityAUnit, priorityBUnit, senderPlace, senderSize, sendersSize, settingsSize, slots, tableLength}
+use Rattle.octets.proofs.Frame.{part-part, getD-part}
+use Rattle.model.specs.Layout.{inHead, inSender, inTable, portPlace, portSize, priorityAUnit, priorityBUnit, senderPlace, senderSize, sendersSize, settingsSize, slots, tableLength}
 use Rattle.model.specs.Lists.{parts, isOne}
 use Rattle.model.specs.LeaveAll.{leaveAllTime}
 use Rattle.model.specs.State.{Settings, noPort, portAt, classA, classB, classPriority, classId, supports, slotOf, isOwnSlot, declaresSlot}

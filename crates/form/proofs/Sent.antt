@@ -1,25 +1,24 @@
 -- The rules of what a port sends of a stream in terms of its octets; and a loop over the ports.
 use mathlib.Core.Path.{_≡_, refl, sym, ap, _∙_}
-use mathlib.Core.List.{List, [], _∷_}
-use mathlib.Core.Bool.{Bool, true, false, cond, not, _&&_, _||_, and-assoc, and-true, and-false}
+use mathlib.Core.List.{List}
+use mathlib.Core.Bool.{Bool, true, false, cond, not, _&&_, and-assoc, and-true, and-false}
 use Prim.Native.Nat.{ℕ, zero, suc, _+_, _-_, _*_, _%_, _≤_, _<_}
 use native.Mathlib.Omega.{arith}
 use borrow.Author.Needs.{needs}
-use borrow.Author.Tests.{eq-eqb, ne-eqb, le-leb, lt-leb}
+use borrow.Author.Tests.{ne-eqb, le-leb, lt-leb}
 use lib.ListN.{length, getD, take, drop, drop-of-length-le, length-drop}
 use lib.Seq.{drop-cons, drop-drop, getD-take, getD-drop, take-all}
 use lib.Dec.{leb, eqb}
-use Rattle.octets.specs.Be.{beAt}
+use Rattle.octets.specs.Parts.{part}
 use Rattle.octets.specs.Fields.{fields}
 use Rattle.octets.proofs.Fields.{beAt-one}
 use Rattle.model.specs.Layout.{advertisingSize, failingSize, inResult, inSends, offerSize, resultSize, sendsSize}
 use Rattle.model.specs.Lists.{allTrue, allZero}
 use Rattle.model.specs.Machines.{noApplicant, applicant}
-use Rattle.model.specs.State.{none, advertise, failed}
 use Rattle.model.specs.Settling.{isAdvertise}
-use Rattle.model.specs.Sending.{toStanding, toApplicant, applicantFormed, bothFormed, toBoth, toOffer, toFailure, anything, offerFormed, readyIn, readyFormed, failedFormed, toSends, sendsFormed}
+use Rattle.model.specs.Sending.{toStanding, toApplicant, applicantFormed, bothFormed, toBoth, toOffer, toFailure, offerFormed, readyIn, readyFormed, failedFormed, toSends, sendsFormed}
 use Rattle.model.specs.Table.{toColumn, resultFrom, toResult, isStanding, stands, isFailed, alike, sentRules, sentFormed}
-use Rattle.form.specs.Asks.{standsAt}
+use Rattle.form.specs.Asks.{standsAt, sentAs}
 use Rattle.form.proofs.Stored.{declared-read}
 use Rattle.form.proofs.Beside.{two-by-two, Besides, BesidesLeft, all-besides, besides-more, no-besides}
 
@@ -40,50 +39,55 @@ stands-read from s = go (getD s 0 0)
         let m = suc (suc (suc (suc (suc (suc n))))) in
         rw (ne-eqb m 0 (λ e. omega arith), le-leb 1 m (omega arith), lt-leb m 5 (omega arith))
 
--- where its declaration is decided, and where it is not
-pub decided-state : (n : ℕ) → (leb 1 n && leb n 5) ≡ (leb n 6 && alike (standsAt n) true)
-unfolding alike standsAt
-decided-state zero = refl
-decided-state (suc zero) = refl
-decided-state (suc (suc zero)) = refl
-decided-state (suc (suc (suc zero))) = refl
-decided-state (suc (suc (suc (suc zero)))) = refl
-decided-state (suc (suc (suc (suc (suc zero))))) = refl
-decided-state (suc (suc (suc (suc (suc (suc n)))))) =
+-- An Applicant with what stands behind it: z is that this is zero, and r its rule.
+
+abbrev formedAs : ℕ → Bool → Bool → Bool → Bool
+formedAs n z r decided = (leb n 6 && cond (eqb n 0) z r) && alike (leb 1 n && leb n 5) decided
+
+decided-as : (n : ℕ) (z r : Bool) → (n ≡ 0 → ⊥) → (leb n 5 && r) ≡ formedAs n z r true
+unfolding alike
+decided-as zero z r h = absurd (h refl)
+decided-as (suc zero) z r h = sym (and-true r)
+decided-as (suc (suc zero)) z r h = sym (and-true r)
+decided-as (suc (suc (suc zero))) z r h = sym (and-true r)
+decided-as (suc (suc (suc (suc zero)))) z r h = sym (and-true r)
+decided-as (suc (suc (suc (suc (suc zero))))) z r h = sym (and-true r)
+decided-as (suc (suc (suc (suc (suc (suc n)))))) z r h =
     let m = suc (suc (suc (suc (suc (suc n))))) in
-    rw (le-leb 1 m (omega arith), lt-leb m 5 (omega arith)) (sym (and-false (leb m 6)))
+    rw (le-leb 1 m (omega arith), lt-leb m 5 (omega arith)) (sym (and-false (leb m 6 && cond (eqb m 0) z r)))
 
-pub other-state : (n : ℕ) → (eqb n 0 || eqb n 6) ≡ (leb n 6 && alike (standsAt n) false)
-unfolding alike standsAt
-other-state zero = refl
-other-state (suc zero) = refl
-other-state (suc (suc zero)) = refl
-other-state (suc (suc (suc zero))) = refl
-other-state (suc (suc (suc (suc zero)))) = refl
-other-state (suc (suc (suc (suc (suc zero))))) = refl
-other-state (suc (suc (suc (suc (suc (suc zero)))))) = refl
-other-state (suc (suc (suc (suc (suc (suc (suc n))))))) =
+other-as : (n : ℕ) (z r : Bool) → (n ≡ 0 → ⊥) → (eqb n 6 && r) ≡ formedAs n z r false
+unfolding alike
+other-as zero z r h = absurd (h refl)
+other-as (suc zero) z r h = sym (and-false r)
+other-as (suc (suc zero)) z r h = sym (and-false r)
+other-as (suc (suc (suc zero))) z r h = sym (and-false r)
+other-as (suc (suc (suc (suc zero)))) z r h = sym (and-false r)
+other-as (suc (suc (suc (suc (suc zero))))) z r h = sym (and-false r)
+other-as (suc (suc (suc (suc (suc (suc zero)))))) z r h = sym (and-true r)
+other-as (suc (suc (suc (suc (suc (suc (suc n))))))) z r h =
     let m = suc (suc (suc (suc (suc (suc (suc n)))))) in
-    rw (ne-eqb m 0 (λ e. omega arith), ne-eqb m 6 (λ e. omega arith), lt-leb m 6 (omega arith))
+    rw (ne-eqb m 6 (λ e. omega arith), lt-leb m 6 (omega arith))
 
--- An Applicant with what stands behind it.
+module _ (rule : List ℕ → Bool) (s : List ℕ) (decided : Bool) where
+  -- v is what the rule says
+  module _ (some : getD s 0 0 ≡ 0 → ⊥) (v : Bool) (g : v ≡ rule (drop 1 s)) where
+    pub sent-decided : decided ≡ true → (leb (getD s 0 0) 5 && v) ≡ sentAs rule s decided
+    unfolding sentAs applicantFormed standsAt
+    sent-decided e = rw (e, g) (decided-as (getD s 0 0) (allZero (drop 1 s)) (rule (drop 1 s)) some)
 
-and-swap : (a b c : Bool) → ((a && b) && c) ≡ ((a && c) && b)
-and-swap true true c = sym (and-true c)
-and-swap true false c = sym (and-false c)
-and-swap false b c = refl
+    pub sent-other : decided ≡ false → (eqb (getD s 0 0) 6 && v) ≡ sentAs rule s decided
+    unfolding sentAs applicantFormed standsAt
+    sent-other e = rw (e, g) (other-as (getD s 0 0) (allZero (drop 1 s)) (rule (drop 1 s)) some)
 
-module _ (rule : List ℕ → Bool) (s : List ℕ) (decided known : Bool) (f : known ≡ (leb (getD s 0 0) 6 && alike (standsAt (getD s 0 0)) decided)) where
-  abbrev Formed : Bool
-  Formed = applicantFormed rule s && alike (standsAt (getD s 0 0)) decided
+  pub sent-none : getD s 0 0 ≡ 0 → (v : Bool) → v ≡ allZero (drop 1 s) → (v && not decided) ≡ sentAs rule s decided
+  unfolding sentAs applicantFormed standsAt alike
+  sent-none h v g = rw (h, g)
 
-  pub none-sent : (v : Bool) → getD s 0 0 ≡ 0 → v ≡ allZero (drop 1 s) → (known && v) ≡ Formed
-  unfolding applicantFormed
-  none-sent v e g = rw (f, g, eq-eqb (getD s 0 0) 0 e) (and-swap (leb (getD s 0 0) 6) _ _)
-
-  pub some-sent : (v : Bool) → (getD s 0 0 ≡ 0 → ⊥) → v ≡ rule (drop 1 s) → (known && v) ≡ Formed
-  unfolding applicantFormed
-  some-sent v e g = rw (f, g, ne-eqb (getD s 0 0) 0 e) (and-swap (leb (getD s 0 0) 6) _ _)
+-- all that is behind the state
+pub behind-state : (n : ℕ) (s : List ℕ) → length s ≡ suc n → allZero (part 1 n s) ≡ allZero (drop 1 s)
+unfolding part
+behind-state n s h = ap allZero (take-all n (drop 1 s) (omega (arith, length-drop 1 s)))
 
 -- the priority octet of a Talker; a Failed has its rule
 pub offer-octet : (s : List ℕ) → eqb (getD s 13 0 % 16) 0 ≡ offerFormed (drop 1 s)
@@ -94,9 +98,9 @@ failed-octet : (s : List ℕ) → failedFormed s ≡ offerFormed s
 unfolding failedFormed bothFormed offerFormed fields
 failed-octet s = rw (← (beAt-one (take offerSize s) 12), ← (beAt-one s 12), getD-take offerSize s 12 0 (omega arith), and-true)
 
-failed-formed : (s : List ℕ) → applicantFormed failedFormed s ≡ applicantFormed offerFormed s
-unfolding applicantFormed
-failed-formed s = rw (failed-octet (drop 1 s))
+pub sent-failed : (s : List ℕ) (decided : Bool) → sentAs offerFormed s decided ≡ sentAs failedFormed s decided
+unfolding sentAs applicantFormed
+sent-failed s decided = rw (failed-octet (drop 1 s))
 
 -- of a Listener
 module _ (s : List ℕ) (h : length s ≡ 2) where
@@ -132,14 +136,11 @@ three-by-three a b c d e f =
 
 -- x, y and z are what the tests say of the three Applicants that were lent
 pub sent-tests : (r s : List ℕ) → length s ≡ sendsSize → (x y z : Bool)
-    → x ≡ (applicantFormed offerFormed (take (inSends.failing - inSends.advertising) (drop inSends.advertising s))
-    && alike (standsAt (getD (take (inSends.failing - inSends.advertising) (drop inSends.advertising s)) 0 0)) (eqb (getD r inResult.column 0) 1))
-    → y ≡ (applicantFormed offerFormed (take (inSends.listening - inSends.failing) (drop inSends.failing s))
-    && alike (standsAt (getD (take (inSends.listening - inSends.failing) (drop inSends.failing s)) 0 0)) (leb 2 (getD r inResult.column 0)))
-    → z ≡ (applicantFormed readyFormed (take (sendsSize - inSends.listening) (drop inSends.listening s))
-    && alike (standsAt (getD (take (sendsSize - inSends.listening) (drop inSends.listening s)) 0 0)) (not (eqb (getD r inResult.declared 0) 0)))
+    → x ≡ sentAs offerFormed (take (inSends.failing - inSends.advertising) (drop inSends.advertising s)) (eqb (getD r inResult.column 0) 1)
+    → y ≡ sentAs failedFormed (take (inSends.listening - inSends.failing) (drop inSends.failing s)) (leb 2 (getD r inResult.column 0))
+    → z ≡ sentAs readyFormed (take (sendsSize - inSends.listening) (drop inSends.listening s)) (not (eqb (getD r inResult.declared 0) 0))
     → (x && y && z) ≡ (sendsFormed s && sentFormed (toResult r) (toSends s))
-unfolding sendsFormed sentFormed sentRules allTrue toSends
+unfolding sentAs sendsFormed sentFormed sentRules allTrue toSends
 sent-tests r s h x y z e f g =
     let column : isAdvertise (toResult r .column) ≡ eqb (getD r inResult.column 0) 1 =
     unfold toResult resultFrom fields in rw (column-advertise, ← (beAt-one r inResult.column)) in
@@ -151,7 +152,6 @@ sent-tests r s h x y z e f g =
       stands-read toOffer (take advertisingSize s),
       stands-read (toBoth offerSize toOffer toFailure) (take failingSize (drop advertisingSize s)),
       stands-read readyIn (drop failingSize (drop advertisingSize s)),
-      failed-formed,
       declared-read r,
       column,
       failing,
@@ -161,7 +161,7 @@ sent-tests r s h x y z e f g =
       last,
     )
     (three-by-three (applicantFormed offerFormed (take advertisingSize s)) (alike (standsAt (getD (take advertisingSize s) 0 0)) (eqb (getD r inResult.column 0) 1))
-    (applicantFormed offerFormed (take failingSize (drop advertisingSize s)))
+    (applicantFormed failedFormed (take failingSize (drop advertisingSize s)))
     (alike (standsAt (getD (take failingSize (drop advertisingSize s)) 0 0)) (leb 2 (getD r inResult.column 0)))
     (applicantFormed readyFormed (drop failingSize (drop advertisingSize s)))
     (alike (standsAt (getD (drop failingSize (drop advertisingSize s)) 0 0)) (not (eqb (getD r inResult.declared 0) 0))))

@@ -7,7 +7,8 @@ use lib.ListN.{length, getD, drop}
 use lib.Dec.{eqb, leb}
 use Rattle.model.specs.Layout.{allSendsSize, cellSize, cellsSize, inTable, portSize, resultsSize, senderSize, slots, tableLength, totalsSize}
 use Rattle.model.specs.Lists.{parts}
-use Rattle.model.specs.Table.{portsField, toSettings, everyPart, cellFormed, toCell, holds, talkers, settingsPart, clockField, sendersPart, sendersFormed}
+use Rattle.model.specs.Sending.{applicantFormed}
+use Rattle.model.specs.Table.{portsField, toSettings, everyPart, cellFormed, toCell, holds, talkers, alike, settingsPart, clockField, sendersPart, sendersFormed}
 
 -- the class totals, and the settings of so many ports
 pub record TotalsGiven (totals ports : List ℕ) (count : ℕ) : Type 0 where
@@ -47,6 +48,10 @@ pub record CellsFound (cs : List ℕ) (ports clock leave : ℕ) (formed none : B
 -- an Applicant octet of a declaration that stands: VP, VN, AN, AA or QA
 unfoldable pub standsAt : ℕ → Bool
 standsAt n = leb 1 n && leb n 5
+
+-- an Applicant with what is behind it keeps its rules, and stands exactly where its declaration is decided
+unfoldable pub sentAs : (List ℕ → Bool) → List ℕ → Bool → Bool
+sentAs rule s decided = applicantFormed rule s && alike (standsAt (getD s 0 0)) decided
 
 -- one of two slots; and a slot where a class is supported, else one past the last
 unfoldable pub isEither : ℕ → ℕ → ℕ → Bool

@@ -4,19 +4,20 @@
 
 ghost use mathlib.Core.Path.{_≡_};
 ghost use mathlib.Core.List.{[], _∷_};
-ghost use mathlib.Core.Bool.{cond, not, _&&_, _||_};
+ghost use mathlib.Core.Bool.{not, _&&_, _||_};
 ghost use Prim.Native.Nat.{_+_, _*_, _%_, _≤_};
 ghost use lib.ListN.{length, getD, take, drop};
 ghost use lib.Dec.{leb, eqb};
 ghost use Rattle.octets.specs.Fields.{fields};
-ghost use Rattle.model.specs.Layout.{addressSize, advertisingSize, allSendsSize, cellSize, cellWidths, cellsSize, nameWidths, ownSize, portPlace, portSize, inTable, recordSize, resultSize, inRecord, senderSize, sendsSize, slotSize, slots, slotsSize, tableLength, totalSize};
+ghost use Rattle.octets.specs.Parts.{part};
+ghost use Rattle.model.specs.Layout.{addressSize, advertisingSize, allSendsSize, applicantSize, cellSize, cellWidths, cellsSize, failingSize, listeningSize, nameWidths, offerSize, ownSize, portPlace, portSize, inTable, recordSize, resultSize, inRecord, senderSize, sendsSize, slotSize, slots, slotsSize, tableLength, totalSize};
 ghost use Rattle.model.specs.Lists.{allTrue, allZero, implies, parts, bit};
-ghost use Rattle.model.specs.Sending.{applicantFormed, offerFormed, readyFormed, sendsFormed, toSends, domainStanding, slotsStanding, senderFormed};
+ghost use Rattle.model.specs.Sending.{offerFormed, failedFormed, readyFormed, sendsFormed, toSends, domainStanding, slotsStanding, senderFormed};
 ghost use Rattle.model.specs.Table.{everyPart};
 ghost use Rattle.model.specs.Table.{portsField, toPort, portRule, settingsRules, settingsFormed};
-ghost use Rattle.model.specs.Table.{leavingRule, cellRules, cellFormed, toCell, resultFormed, toResult, holds, talkers, declarers, domainFormed, addressFormed, ownRules, ownFormed, storedFormed, everyPort, sends, alike, sentFormed, streamFormed};
+ghost use Rattle.model.specs.Table.{leavingRule, cellRules, cellFormed, toCell, resultFormed, toResult, holds, talkers, declarers, domainFormed, addressFormed, ownRules, ownFormed, storedFormed, everyPort, sends, sentFormed, streamFormed};
 ghost use Rattle.model.specs.Table.{toTotals, atMost, totalsWithin, anyHolds, idOf, macOf, rising, tableRules, formed};
-ghost use Rattle.form.specs.Asks.{TotalsGiven, ResultsGiven, SendsGiven, TableGiven, PortsGiven, CellsFound, standsAt, isEither, slotIf, sendersOf};
+ghost use Rattle.form.specs.Asks.{TotalsGiven, ResultsGiven, SendsGiven, TableGiven, PortsGiven, CellsFound, sentAs, isEither, slotIf, sendersOf};
 use table::ADDRESS;
 use table::ADDRESSES;
 use table::ADDRESSES_HELD;
@@ -234,42 +235,79 @@ fn results_formed(cells: &[u8], results: &[u8], ports: usize, clock: u64, talker
     ok & (declarers <= 1)
 }
 
-// An Applicant's state: one that stands where its declaration is decided, else none or an unsent Lv.
-fn state_formed(state: u8, decided: bool) -> bool
-    ensures { λ r. ⌜ r ≡ (leb state 6 && alike (standsAt state) decided) ⌝ }
+// Nine octets from a place on are zero.
+fn nine_zero(s: &[u8], at: usize) -> bool
+    requires { ⌜ at + 9 ≤ length (now s) ⌝ }
+    ensures { λ r. ⌜ r ≡ allZero (part at 9 (now (s .entry))) ⌝ }
 {
-    if decided {
-        return (1 <= state) & (state <= 5);
+    if octets::get(s, at, 8) != 0 {
+        return false;
     }
-    (state == 0) | (state == 6)
+    s[at + 8] == 0
 }
 
-// The rules of the Applicant of a Talker, Advertise or Failed, where that is decided or not: without a state all of it is zero, and the
-// spare bits of the priority octet are.
-fn offer_formed(offer: &[u8], decided: bool) -> bool
+// The values of a Talker, behind the state of its Applicant, are zero.
+fn offer_zero(offer: &[u8]) -> bool
     requires { ⌜ advertisingSize ≤ length (now offer) ⌝ }
-    ensures { λ r. ⌜ r ≡ (applicantFormed offerFormed (now (offer .entry)) && alike (standsAt (getD (now (offer .entry)) 0 0)) decided) ⌝ }
+    ensures { λ r. ⌜ r ≡ allZero (part applicantSize offerSize (now (offer .entry))) ⌝ }
+{
+    if octets::get(offer, 1, 8) != 0 {
+        return false;
+    }
+    nine_zero(offer, 9)
+}
+
+// The rules of the Applicant of a Talker that has a state, Advertise or Failed: it stands where that is decided, else it is an unsent
+// Lv; the spare bits of its priority octet are zero.
+fn offer_formed(offer: &[u8], decided: bool) -> bool
+    requires { ⌜ (advertisingSize ≤ length (now offer)) × (getD (now offer) 0 0 ≡ 0 → ⊥) ⌝ }
+    ensures { λ r. ⌜ r ≡ sentAs offerFormed (now (offer .entry)) decided ⌝ }
 {
     let state = offer[0];
-    let known = state_formed(state, decided);
-    if state == 0 {
-        return known & zero_from(offer, 1);
+    let spare = offer[1 + sends::PRIORITY] % 16 == 0;
+    if decided {
+        return (state <= 5) & spare;
     }
-    known & (offer[1 + sends::PRIORITY] % 16 == 0)
+    (state == 6) & spare
 }
 
-// The rules of the Applicant of a Listener: with a state it has a declaration type.
+// The rules of the Applicant of an Advertise: without a state all of it is zero.
+fn advertise_formed(offer: &[u8], decided: bool) -> bool
+    requires { ⌜ length (now offer) ≡ advertisingSize ⌝ }
+    ensures { λ r. ⌜ r ≡ sentAs offerFormed (now (offer .entry)) decided ⌝ }
+{
+    if offer[0] == 0 {
+        return offer_zero(offer) & !decided;
+    }
+    offer_formed(offer, decided)
+}
+
+// And of a Failed.
+fn failed_formed(offer: &[u8], decided: bool) -> bool
+    requires { ⌜ length (now offer) ≡ failingSize ⌝ }
+    ensures { λ r. ⌜ r ≡ sentAs failedFormed (now (offer .entry)) decided ⌝ }
+{
+    if offer[0] == 0 {
+        return offer_zero(offer) & nine_zero(offer, 1 + sends::BRIDGE_ID) & !decided;
+    }
+    offer_formed(offer, decided)
+}
+
+// And of a Listener: with a state it has a declaration type.
 fn ready_formed(ready: &[u8], decided: bool) -> bool
-    requires { ⌜ length (now ready) ≡ 2 ⌝ }
-    ensures { λ r. ⌜ r ≡ (applicantFormed readyFormed (now (ready .entry)) && alike (standsAt (getD (now (ready .entry)) 0 0)) decided) ⌝ }
+    requires { ⌜ length (now ready) ≡ listeningSize ⌝ }
+    ensures { λ r. ⌜ r ≡ sentAs readyFormed (now (ready .entry)) decided ⌝ }
 {
     let state = ready[0];
     let kind = ready[1];
-    let known = state_formed(state, decided);
     if state == 0 {
-        return known & (kind == 0);
+        return (kind == 0) & !decided;
     }
-    known & (1 <= kind) & (kind <= 3)
+    let known = (1 <= kind) & (kind <= 3);
+    if decided {
+        return (state <= 5) & known;
+    }
+    (state == 6) & known
 }
 
 // The rules of what a port sends of a stream, beside its result: a declaration stands exactly where the result has one.
@@ -278,9 +316,12 @@ fn sent_formed(result: &[u8], sent: &[u8]) -> bool
     ensures { λ r. ⌜ r ≡ (sendsFormed (now (sent .entry)) && sentFormed (toResult (now (result .entry))) (toSends (now (sent .entry)))) ⌝ }
 {
     let column = result[result::COLUMN];
-    offer_formed(&sent[sends::ADVERTISING..sends::FAILING], column == 1)
-        & offer_formed(&sent[sends::FAILING..sends::LISTENING], 2 <= column)
-        & ready_formed(&sent[sends::LISTENING..SENDS], result[result::DECLARED] != 0)
+    advertise_formed(&sent[sends::ADVERTISING..sends::FAILING], column == 1)
+        & failed_formed(&sent[sends::FAILING..sends::LISTENING], 2 <= column)
+        & ready_formed(
+            &sent[sends::LISTENING..SENDS],
+            result[result::DECLARED] != 0,
+        )
 }
 
 // What each port sends of a stream keeps its rules.

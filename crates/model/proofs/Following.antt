@@ -1,11 +1,12 @@
 -- After a pass a neighbour's registrations of a stream follow what the port sends: what stands is registered, with its values, and what
 -- stays registered stands (02, xiv).
 use mathlib.Core.Path.{_≡_, refl, sym, _∙_, ap}
+use mathlib.Core.List.{map}
 use mathlib.Core.Bool.{Bool, true, false, cond, _&&_, false≢true, true≢false}
 use Prim.Native.Nat.{ℕ}
 use borrow.Author.Tests.{eq-eqb}
-use Rattle.model.specs.Applicant.{Standing, veryAnxiousPassive, veryAnxiousNew, anxiousNew, anxiousActive, quietActive, leavingActive}
-use Rattle.model.specs.Machines.{Applicant, noApplicant, applicant}
+use Rattle.model.specs.Applicant.{tx, becomes, Standing, veryAnxiousPassive, veryAnxiousNew, anxiousNew, anxiousActive, quietActive, leavingActive}
+use Rattle.model.specs.Machines.{Applicant, noApplicant, applicant, with, applicantOf, moved}
 use Rattle.model.specs.State.{Leaving, stays, since, Fixed, talkerAdvertise, talkerFailed, Varying, Registration, Talker, noTalker, talker, Ready, Listener, noListener, listener, Cell, Offer, Failure, Sends}
 use Rattle.model.specs.Registrations.{Kind, advertises, faileds, listeners, begin, talksAs, hearsAs, withLeaving, quitTalker, quitListener, quit, sameFixed, firstJoin, sameJoin, otherJoin, joinTalker, does, isStaying, talkerStays, listenerStays}
 use Rattle.model.specs.Frames.{Asking, nothingAsked, join, withdraw}
@@ -13,6 +14,7 @@ use Rattle.model.specs.Table.{stands, isStanding}
 use Rattle.model.specs.Settling.{isApplicant}
 use Rattle.model.specs.Declarations.{talkerDeclaration, listenerDeclaration, talkerKind, joinOf, advertiseOf, failedOf, leaveOf, askedOf}
 use Rattle.model.proofs.Lists.{and-left, and-right, and-both}
+use Rattle.model.proofs.ApplicantEntries.{tables}
 use Rattle.model.proofs.ToldStreams.{about, cellOn, cellAfter, asksFor, tells, tellsKind, tellsCell}
 
 -- A Talker's registration.
@@ -245,16 +247,19 @@ failedAs o = record { type = talkerFailed (o .1 .bridge) (o .1 .code); latency =
 
 -- Before a pass: what is quiet here is registered there, what stays registered there has a machine here, at most one Talker type stands
 -- (02, xiv: "just the settled declarations"), and no other values of it are registered.
+pub record KnownTalkers (a : Applicant Offer) (f : Applicant (Offer × Failure)) (t : Talker) : Type 0 where
+  pub advertise : Quiet (λ o. Registers (offered o) (advertised o) t) a
+  pub failed : Quiet (λ o. Registers (failedOffer o) (failedAs o) t) f
+  pub advertise-known : talkerStays advertises t ≡ true → isApplicant a ≡ true
+  pub failed-known : talkerStays faileds t ≡ true → isApplicant f ≡ true
+  pub one-talker : stands a ≡ true → stands f ≡ false
+  pub no-other-advertise : Stands (λ o. NoOther (offered o) t) a
+  pub no-other-failed : Stands (λ o. NoOther (failedOffer o) t) f
+
 pub record Known (s : Sends) (c : Cell) : Type 0 where
-  pub advertise : Quiet (λ o. Registers (offered o) (advertised o) (c .talks)) (s .advertising)
-  pub failed : Quiet (λ o. Registers (failedOffer o) (failedAs o) (c .talks)) (s .failing)
+  pub talkers : KnownTalkers (s .advertising) (s .failing) (c .talks)
   pub listener : Quiet (λ r. c .hears ≡ listener r stays) (s .listening)
-  pub advertise-known : talkerStays advertises (c .talks) ≡ true → isApplicant (s .advertising) ≡ true
-  pub failed-known : talkerStays faileds (c .talks) ≡ true → isApplicant (s .failing) ≡ true
   pub listener-known : listenerStays (c .hears) ≡ true → isApplicant (s .listening) ≡ true
-  pub one-talker : stands (s .advertising) ≡ true → stands (s .failing) ≡ false
-  pub no-other-advertise : Stands (λ o. NoOther (offered o) (c .talks)) (s .advertising)
-  pub no-other-failed : Stands (λ o. NoOther (failedOffer o) (c .talks)) (s .failing)
 
 -- After it: what stands here is registered there, with its values, and what stays registered there stands here.
 pub record Follows (s : Sends) (c : Cell) : Type 0 where
@@ -272,13 +277,10 @@ module _ (now : ℕ) (a : Applicant Offer) (f : Applicant (Offer × Failure)) (t
   both : Talker
   both = talkerTold failedOffer failedAs faileds now f first
 
-  module _ (qa : Quiet (λ o. Registers (offered o) (advertised o) t) a) (qf : Quiet (λ o. Registers (failedOffer o) (failedAs o) t) f)
-      (ka : talkerStays advertises t ≡ true → isApplicant a ≡ true) (kf : talkerStays faileds t ≡ true → isApplicant f ≡ true)
-      (one : stands a ≡ true → stands f ≡ false)
-      (na : Stands (λ o. NoOther (offered o) t) a) (nf : Stands (λ o. NoOther (failedOffer o) t) f) where
+  module _ (k : KnownTalkers a f t) where
     first-registers : Stands (λ o. Registers (offered o) (advertised o) first) a
     unfolding first
-    first-registers = told-registers offered advertised advertises now a t na qa
+    first-registers = told-registers offered advertised advertises now a t (k .no-other-advertise) (k .advertise)
 
     -- an Advertise that stands
     module _ (s : stands a ≡ true) where
@@ -286,7 +288,7 @@ module _ (now : ℕ) (a : Applicant Offer) (f : Applicant (Offer × Failure)) (t
       unfolding both
       advertise-stays =
           stands-map (λ o. Registers (offered o) (advertised o) first) (λ o. Registers (offered o) (advertised o) both)
-          (λ o h. told-fallen failedOffer failedAs faileds now (Registers (offered o) (advertised o)) f first (one s) h (quit-other now faileds (offered o) (advertised o) first (unfold talksAs in refl) h))
+          (λ o h. told-fallen failedOffer failedAs faileds now (Registers (offered o) (advertised o)) f first (k .one-talker s) h (quit-other now faileds (offered o) (advertised o) first (unfold talksAs in refl) h))
           a first-registers
 
       no-failed : talkerStays faileds first ≡ false
@@ -305,9 +307,9 @@ module _ (now : ℕ) (a : Applicant Offer) (f : Applicant (Offer × Failure)) (t
       failed-stays =
           told-registers failedOffer failedAs faileds now f first
           (stands-map (λ o. NoOther (failedOffer o) t) (λ o. NoOther (failedOffer o) first)
-          (λ o h. unfold first in (told-fallen offered advertised advertises now (NoOther (failedOffer o)) a t s h (quit-fixed now advertises (failedOffer o) t h))) f nf)
+          (λ o h. unfold first in (told-fallen offered advertised advertises now (NoOther (failedOffer o)) a t s h (quit-fixed now advertises (failedOffer o) t h))) f (k .no-other-failed))
           (quiet-map (λ o. Registers (failedOffer o) (failedAs o) t) (λ o. Registers (failedOffer o) (failedAs o) first)
-          (λ o h. fallen-keeps (failedOffer o) (failedAs o) (unfold talksAs in refl) h) f qf)
+          (λ o h. fallen-keeps (failedOffer o) (failedAs o) (unfold talksAs in refl) h) f (k .failed))
 
       failed-before : talkerStays faileds first ≡ true → talkerStays faileds t ≡ true
       unfolding first
@@ -336,7 +338,7 @@ module _ (now : ℕ) (a : Applicant Offer) (f : Applicant (Offer × Failure)) (t
     both-failed = go (stands a) refl
       where
         go : (w : Bool) → stands a ≡ w → Stands (λ o. Registers (failedOffer o) (failedAs o) both) f
-        go true e = fallen (λ o. Registers (failedOffer o) (failedAs o) both) f (one e)
+        go true e = fallen (λ o. Registers (failedOffer o) (failedAs o) both) f (k .one-talker e)
         go false e = failed-stays e
 
     only-advertise : talkerStays advertises both ≡ true → stands a ≡ true
@@ -344,7 +346,7 @@ module _ (now : ℕ) (a : Applicant Offer) (f : Applicant (Offer × Failure)) (t
       where
         go : (w : Bool) → stands a ≡ w → stands a ≡ true
         go true e = e
-        go false e = told-only offered advertised advertises now a t ka (unfold first in (advertise-before e h))
+        go false e = told-only offered advertised advertises now a t (k .advertise-known) (unfold first in (advertise-before e h))
 
     only-failed : talkerStays faileds both ≡ true → stands f ≡ true
     unfolding both
@@ -352,7 +354,7 @@ module _ (now : ℕ) (a : Applicant Offer) (f : Applicant (Offer × Failure)) (t
       where
         go : (w : Bool) → stands a ≡ w → talkerStays faileds first ≡ true → isApplicant f ≡ true
         go true e q = absurd (false≢true (sym (no-failed e) ∙ q))
-        go false e q = kf (failed-before e q)
+        go false e q = k .failed-known (failed-before e q)
 
 -- A Listener's machine.
 
@@ -456,13 +458,93 @@ module _ (now i : ℕ) where
       let a = s .advertising in
       let f = s .failing in
       let t = c .talks in
-      let qa = h .advertise in
-      let qf = h .failed in
       rw (cell-told s c) record {
-        advertise = both-advertise now a f t qa qf (h .advertise-known) (h .failed-known) (h .one-talker) (h .no-other-advertise) (h .no-other-failed);
-        failed = both-failed now a f t qa qf (h .advertise-known) (h .failed-known) (h .one-talker) (h .no-other-advertise) (h .no-other-failed);
+        advertise = both-advertise now a f t (h .talkers);
+        failed = both-failed now a f t (h .talkers);
         listener = listener-registers now (s .listening) (c .hears) (h .listener);
-        advertise-only = only-advertise now a f t qa qf (h .advertise-known) (h .failed-known) (h .one-talker) (h .no-other-advertise) (h .no-other-failed);
-        failed-only = only-failed now a f t qa qf (h .advertise-known) (h .failed-known) (h .one-talker) (h .no-other-advertise) (h .no-other-failed);
+        advertise-only = only-advertise now a f t (h .talkers);
+        failed-only = only-failed now a f t (h .talkers);
         listener-only = listener-told-only now (s .listening) (c .hears) (h .listener-known);
       }
+
+-- So it is before the next pass, of the machines that this one leaves: each standing one stays, with its value.
+
+module _ {A : Type 0} (r : Bool) where
+  unfoldable pub passed : Applicant A → Applicant A
+  passed a = moved (becomes r tx) a
+
+  pub passed-quiet : (P : A → Type 0) (a : Applicant A) → Stands P a → Quiet P (passed a)
+  unfolding passed moved applicantOf with tables
+  passed-quiet P noApplicant w = tt
+  passed-quiet P (applicant x) w = go (x .state) r w
+    where
+      go : (q : Standing) (t : Bool) → WhenStanding q (P (x .value)) → Quiet P (applicantOf (map (with (x .value)) (becomes t tx q)))
+      go veryAnxiousPassive t h = tt
+      go veryAnxiousNew t h = tt
+      go anxiousNew true h = h
+      go anxiousNew false h = tt
+      go anxiousActive t h = h
+      go quietActive t h = h
+      go leavingActive t h = tt
+
+  passed-stands : (P : A → Type 0) (a : Applicant A) → Stands P a → Stands P (passed a)
+  unfolding passed moved applicantOf with tables
+  passed-stands P noApplicant w = tt
+  passed-stands P (applicant x) w = go (x .state) r w
+    where
+      go : (q : Standing) (t : Bool) → WhenStanding q (P (x .value)) → Stands P (applicantOf (map (with (x .value)) (becomes t tx q)))
+      go veryAnxiousPassive t h = h
+      go veryAnxiousNew t h = h
+      go anxiousNew true h = h
+      go anxiousNew false h = h
+      go anxiousActive t h = h
+      go quietActive t h = h
+      go leavingActive t h = tt
+
+  pub passed-same : (a : Applicant A) → (isApplicant (passed a) ≡ stands a) × (stands (passed a) ≡ stands a)
+  unfolding passed moved applicantOf with tables isApplicant stands isStanding
+  passed-same noApplicant = (refl, refl)
+  passed-same (applicant x) = go (x .state) r
+    where
+      go : (q : Standing) (t : Bool)
+          → (isApplicant (applicantOf (map (with (x .value)) (becomes t tx q))) ≡ isStanding q) × (stands (applicantOf (map (with (x .value)) (becomes t tx q))) ≡ isStanding q)
+      go veryAnxiousPassive t = (refl, refl)
+      go veryAnxiousNew t = (refl, refl)
+      go anxiousNew true = (refl, refl)
+      go anxiousNew false = (refl, refl)
+      go anxiousActive t = (refl, refl)
+      go quietActive t = (refl, refl)
+      go leavingActive t = (refl, refl)
+
+no-other : (f : Fixed) (v : Varying) (t : Talker) → Registers f v t → NoOther f t
+no-other f v noTalker h = tt
+no-other f v (talker r) h = h .0
+
+-- what a pass leaves of the three machines, each with its Registrar IN or not
+unfoldable pub passedSends : Bool → Bool → Bool → Sends → Sends
+passedSends ra rf rl s = record { advertising = passed ra (s .advertising); failing = passed rf (s .failing); listening = passed rl (s .listening) }
+
+pub follows-known : (ra rf rl : Bool) (s : Sends) (c : Cell) → (stands (s .advertising) ≡ true → stands (s .failing) ≡ false) → Follows s c → Known (passedSends ra rf rl s) c
+unfolding passedSends
+follows-known ra rf rl s c one h =
+    let a = s .advertising in
+    let f = s .failing in
+    let l = s .listening in
+    let t = c .talks in
+    record {
+      talkers = record {
+        advertise = passed-quiet ra (λ o. Registers (offered o) (advertised o) t) a (h .advertise);
+        failed = passed-quiet rf (λ o. Registers (failedOffer o) (failedAs o) t) f (h .failed);
+        advertise-known = λ e. passed-same ra a .0 ∙ h .advertise-only e;
+        failed-known = λ e. passed-same rf f .0 ∙ h .failed-only e;
+        one-talker = λ e. passed-same rf f .1 ∙ one (sym (passed-same ra a .1) ∙ e);
+        no-other-advertise =
+            passed-stands ra (λ o. NoOther (offered o) t) a
+            (stands-map (λ o. Registers (offered o) (advertised o) t) (λ o. NoOther (offered o) t) (λ o w. no-other (offered o) (advertised o) t w) a (h .advertise));
+        no-other-failed =
+            passed-stands rf (λ o. NoOther (failedOffer o) t) f
+            (stands-map (λ o. Registers (failedOffer o) (failedAs o) t) (λ o. NoOther (failedOffer o) t) (λ o w. no-other (failedOffer o) (failedAs o) t w) f (h .failed));
+      };
+      listener = passed-quiet rl (λ r. c .hears ≡ listener r stays) l (h .listener);
+      listener-known = λ e. passed-same rl l .0 ∙ h .listener-only e;
+    }

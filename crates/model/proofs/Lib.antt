@@ -48,6 +48,7 @@ pub mod WriteKeepsForm
 pub mod PortPasses
 pub mod QuietPort
 pub mod WrittenSends
+pub mod SilentWrite
 pub mod PackedVectors
 pub mod PackedEvents
 pub mod ReadBack

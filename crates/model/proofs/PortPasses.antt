@@ -6,23 +6,22 @@ use mathlib.Core.Bool.{Bool, true, false, cond, not, _&&_, _||_, true≢false, f
 use Prim.Native.Nat.{ℕ, zero, suc, _+_, _-_, _≤_, _<_}
 use native.Mathlib.Omega.{arith}
 use lib.ListN.{length, length-map, getD, take, drop, length-append, length-drop, take-append-drop}
-use lib.Seq.{length-take-le}
-use lib.Dec.{ltb, eqb}
+use lib.Dec.{eqb}
 use borrow.Author.Tests.{le-ltb, eqb-true, ne-eqb}
 use Rattle.model.specs.FrameLayout.{longestPdu}
 use Rattle.model.specs.Layout.{slots}
 use Rattle.model.specs.Lists.{All, keep}
-use Rattle.model.specs.Applicant.{tx, txLA, txLAF, Standing, becomes}
+use Rattle.model.specs.Applicant.{tx, Standing}
 use Rattle.model.specs.LeaveAll as timer
-use Rattle.model.specs.Places.{isNone, Way, Wrote, each, saying, reached, behind, leftBefore, writeFrom, runs, left}
-use Rattle.model.specs.Machines.{Listed, with, after, way}
-use Rattle.model.specs.State.{Domain, noDomain, Talker, noTalker, talker, Listener, noListener, listener, Cell, Own, Sender, Stream, Bridge, empty, noOwn, noSender, cellAt, sendsAt, senderAt, ownAt, slotOf}
-use Rattle.model.specs.Registrations.{Kind, advertises, faileds, listeners, at, change, applyAll, applyOwns, isStaying, talkerStays, listenerStays, registeredIn, domainStays, ids}
+use Rattle.model.specs.Places.{isNone, Way, Wrote, each, saying, writeFrom, runs, left}
+use Rattle.model.specs.Machines.{Listed, after, way}
+use Rattle.model.specs.State.{noDomain, Talker, noTalker, talker, Listener, noListener, listener, Cell, Own, Sender, Stream, Bridge, empty, noOwn, noSender, cellAt, sendsAt, senderAt, ownAt, slotOf}
+use Rattle.model.specs.Registrations.{Kind, advertises, faileds, listeners, at, change, applyAll, applyOwns, talkerStays, listenerStays, registeredIn, domainStays, ids}
 use Rattle.model.specs.Settling.{isTalking, isHearing, held, anySending, isHeld, dropUnheld}
 use Rattle.model.specs.Declarations.{Declaration, talkerDeclaration, listenerDeclaration, domainDeclaration, talkerKind, declarations, registeredOf, isRegistered, Said, say, takes}
 use Rattle.model.specs.WrittenFrames.{pduOctets}
 use Rattle.model.specs.Writing.{leavesAll, portWay, sayOn, takesOn, wroteOn, endOn, movedAt, machines, machinesOf, movedKind, movedStreams, movedSender, ownLeaveAll, afterWrite, Written, write}
-use Rattle.model.proofs.Lists.{all-at, all-map, and-true, at-here}
+use Rattle.model.proofs.Lists.{all-at, and-true, at-here}
 use Rattle.model.proofs.Valid.{ValidOwn, Rising, Valid}
 use Rattle.model.proofs.AdvanceKeepsForm.{or-false, dropped-all}
 use Rattle.model.proofs.PlaceLists.{each-itself, fewer-saying, no-length, some-there}
@@ -111,14 +110,14 @@ module _ (f : ℕ → Bool → Standing → List Standing) (p : ℕ) (k : Kind) 
   moved-registered s = kind-registered listeners _ _ ∙ kind-registered faileds _ _ ∙ kind-registered advertises 0 s
 
 module _ (now p : ℕ) (all : Bool) (none : all ≡ false) where
-  no-leaving : (s : List Stream) → applyAll now p (ownLeaveAll all) s ≡ s
+  pub no-leaving : (s : List Stream) → applyAll now p (ownLeaveAll all) s ≡ s
   no-leaving s = go all none
     where
       go : (t : Bool) → t ≡ false → applyAll now p (ownLeaveAll t) s ≡ s
       go true e = absurd (true≢false e)
       go false e = unfold applyAll ownLeaveAll in refl
 
-  no-own-leaving : (o : List Own) → applyOwns now p (ownLeaveAll all) o ≡ o
+  pub no-own-leaving : (o : List Own) → applyOwns now p (ownLeaveAll all) o ≡ o
   no-own-leaving o = go all none
     where
       go : (t : Bool) → t ≡ false → applyOwns now p (ownLeaveAll t) o ≡ o

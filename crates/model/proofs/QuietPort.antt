@@ -7,7 +7,7 @@ use Prim.Native.Nat.{ℕ, zero, suc, _+_, _-_, _≤_, _<_}
 use native.Mathlib.Omega.{arith}
 use lib.ListN.{length, length-map, take, drop, length-append, length-drop, take-append-drop}
 use Rattle.model.specs.Lists.{All}
-use Rattle.model.specs.Applicant.{ApplicantEvent, tx, txLA, txLAF, Standing, standing, applicantEntry, named, becomes}
+use Rattle.model.specs.Applicant.{ApplicantEvent, tx, txLA, txLAF, standing, applicantEntry, named, becomes}
 use Rattle.model.specs.Places.{isNone, Way, Wrote, itself, each, saying, reached, behind, leftBefore, writeFrom, left}
 use Rattle.model.specs.Machines.{Listed, with, after, way}
 use Rattle.model.specs.State.{Bridge}
@@ -17,12 +17,12 @@ use Rattle.model.specs.Writing.{leavesAll, portWay, sayOn, takesOn, wrot
 use Rattle.model.proofs.Lists.{and-false}
 use Rattle.model.proofs.Valid.{Valid}
 use Rattle.model.proofs.PlaceLists.{each-itself, reached-behind, fewer-saying}
-use Rattle.model.proofs.Passing.{Takes, left-to-say, taken, from-next, list-left}
+use Rattle.model.proofs.Passing.{Takes, left-to-say, list-left}
 use Rattle.model.proofs.Quieting as quieting
 use Rattle.model.proofs.Quieting.{Old, In, Quiet, nothing-moves, one-pass, three-passes, two-passes, further-pass, out, out-said, next, list, passLeavingAll, three-with-leave-all, two-with-leave-all}
 use Rattle.model.proofs.WrittenList.{standing-one}
-use Rattle.model.proofs.WritingPasses.{declared, toSay, port-takes, run-none}
-use Rattle.model.proofs.PortPasses.{saysNothing, writeAll, leftAll, Calm, calm-way, write-gives, then-declared, then-calm, left-are, pass, left-calm, few-to-say, passes-all, calm-pass, said-none, three-octets}
+use Rattle.model.proofs.WritingPasses.{declared, toSay, port-takes}
+use Rattle.model.proofs.PortPasses.{saysNothing, writeAll, leftAll, Calm, calm-way, write-gives, then-declared, then-calm, left-are, pass, left-calm, passes-all, calm-pass, said-none, three-octets}
 
 -- Of a list: tx! thrice, or twice where none is in VN or AN.
 

@@ -90,8 +90,7 @@ pub write-refused : (t : List ℕ) (p place : ℕ) (buffer : List ℕ) → (writ
     × (writeOn t p place buffer .table ≡ t)
 unfolding Unwritten refusedWrite
 write-refused t p place buffer n =
-    let e = write-unwritten t p place buffer n in
-    (
+    let e = write-unwritten t p place buffer n in (
       ap (λ (w : WriteCall). w .length) e,
       ap (λ (w : WriteCall). w .next) e,
       ap (λ (w : WriteCall). w .buffer) e,

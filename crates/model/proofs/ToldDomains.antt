@@ -17,7 +17,7 @@ use Rattle.model.specs.Settling.{isApplicant}
 use Rattle.model.specs.Declarations.{Declaration, talkerDeclaration, listenerDeclaration, domainDeclaration, joinOf, listedAs, advertiseOf, failedOf, declarationsOf, ofKind, domainOf, domainValues, declarations, leaveOf, hearOf, askedOf}
 use Rattle.model.proofs.Lists.{at-here, at-other, length-at, getD-map}
 use Rattle.model.proofs.ToldStreams.{Effect, asksFor, asksActs, both-tell}
-use Rattle.model.proofs.Following.{WhenQuiet, Quiet, Stands}
+use Rattle.model.proofs.Following.{WhenQuiet, Quiet, Stands, passed, passed-quiet, passed-same}
 
 -- Domain values, slot by slot.
 
@@ -244,3 +244,7 @@ slot-follows now vlan (applicant x) d k = go (x .state) (k .quiet)
     go anxiousActive w = unfold asksFor slotAsked in record { value = refl; only = λ h. refl }
     go quietActive w = unfold asksFor slotAsked in record { value = w; only = λ h. refl }
     go leavingActive w = unfold asksFor slotAsked in record { value = tt; only = λ h. absurd (false≢true (sym (quit-slot now d) ∙ h)) }
+
+-- so it is before the next pass
+pub slot-known : (r : Bool) (vlan : ℕ) (a : Applicant (Unit {0})) (d : Domain) → FollowsSlot vlan a d → KnownSlot vlan (passed r a) d
+slot-known r vlan a d h = record { quiet = passed-quiet r (λ u. d ≡ domain vlan stays) a (h .value); known = λ e. passed-same r a .0 ∙ h .only e }

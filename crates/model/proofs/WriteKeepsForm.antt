@@ -1,21 +1,21 @@
 -- Write, accepted or refused, leaves a bridge that keeps the form rules, its settings, its clock and its totals.
-use mathlib.Core.Path.{_≡_, refl, sym, _∙_, ap, ap₂}
+use mathlib.Core.Path.{_≡_, refl, sym, _∙_, ap}
 use mathlib.Core.Logic.{_⊎_, inl, inr}
 use mathlib.Core.List.{List, [], _∷_, map}
-use mathlib.Core.Bool.{Bool, true, false, cond, not, _&&_, _||_, true≢false, false≢true}
+use mathlib.Core.Bool.{Bool, true, false, cond, not, _&&_, _||_, false≢true}
 use Prim.Native.Nat.{ℕ, zero, suc, _+_, _-_, _≤_, _<_}
 use native.Mathlib.Omega.{arith}
 use native.Mathlib.Decide.{ℕ-discrete}
-use lib.ListN.{length, drop, length-map}
+use lib.ListN.{length, length-map}
 use lib.Dec.{leb, ltb, eqb}
 use borrow.Author.Tests.{le-leb}
 use Rattle.model.specs.FrameLayout.{longestPdu}
 use Rattle.model.specs.Lists.{All, bit, keep}
-use Rattle.model.specs.Applicant.{txLAF, tx, opportunity, Standing, veryAnxiousPassive, veryAnxiousNew, anxiousNew, anxiousActive, quietActive, leavingActive, becomes, named, octetOf}
+use Rattle.model.specs.Applicant.{txLAF, tx, opportunity, Standing, veryAnxiousPassive, veryAnxiousNew, anxiousNew, anxiousActive, quietActive, leavingActive, becomes}
 use Rattle.model.specs.LeaveAll as timer
-use Rattle.model.specs.Machines.{Listed, Applicant, noApplicant, applicant, with, applicantOf, moved}
-use Rattle.model.specs.State.{Talker, noTalker, talker, Listener, noListener, listener, Cell, Domain, Own, Result, Sends, Sender, Stream, Bridge, noSends, noSender, cellAt, resultAt, sendsAt, senderAt, ownAt, declaresSlot}
-use Rattle.model.specs.Registrations.{Kind, advertises, faileds, listeners, leaveAll, ofDomain, leaveAllDomains, quitTalker, quitListener, quit, does, moves, at, moveKind, change, reach, apply, applyAll, applyOwn, applyOwns, movesSender, applySenders, acts, holding, owning, sending, received, registeredIn, domainStays, ids}
+use Rattle.model.specs.Machines.{Applicant, noApplicant, applicant, with, applicantOf, moved}
+use Rattle.model.specs.State.{Talker, noTalker, talker, Listener, noListener, listener, Cell, Domain, Result, Sends, Sender, Stream, Bridge, noSends, noSender, cellAt, resultAt, sendsAt, senderAt, ownAt, declaresSlot}
+use Rattle.model.specs.Registrations.{Kind, advertises, faileds, listeners, leaveAll, quitTalker, quitListener, quit, does, moves, at, moveKind, change, reach, apply, applyAll, movesSender, applySenders, acts, holding, owning, sending, received, registeredIn, domainStays, ids}
 use Rattle.model.specs.Frames.{wrongPort}
 use Rattle.model.specs.Settling.{isApplicant, isTalking, isHearing, held, isSending, anySending, isHeld, dropUnheld}
 use Rattle.model.specs.Sending.{standingNumber, domainStanding}
@@ -25,7 +25,7 @@ use Rattle.model.specs.Declarations.{declarations, Said}
 use Rattle.model.specs.Writing.{leavesAll, endOn, movedAt, machines, machinesOf, movedKind, movedStreams, movedSlots, movedSender, ownLeaveAll, sayOn, wroteOn, afterWrite, Written, write}
 use Rattle.model.proofs.Lists.{all-map, length-at, all-changed, drop-changed, at-here, at-other, at-each}
 use Rattle.model.proofs.ApplicantEntries.{tables}
-use Rattle.model.proofs.Valid.{GoodApplicant, ValidSends, ValidStream, applicantNumber, ValidSlots, ValidLeaveAll, ValidSender, Rising, Valid}
+use Rattle.model.proofs.Valid.{GoodApplicant, ValidSends, ValidStream, applicantNumber, ValidSlots, ValidLeaveAll, ValidSender, Valid}
 use Rattle.model.proofs.FoundVectors.{Fits}
 use Rattle.model.proofs.AdvanceKeepsForm.{all-dropped, fewer-dropped, dropped-rising, held-dropped}
 use Rattle.model.proofs.ReceiveKeepsForm.{received-keeps, right-port}

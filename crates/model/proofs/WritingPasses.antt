@@ -14,7 +14,6 @@ use lib.Dec.{ltb, leb, eqb}
 use borrow.Author.Tests.{ltb-true, ltb-false, lt-ltb, le-ltb, leb-true, leb-false, le-leb, lt-leb, eq-eqb, ne-eqb, eqb-true, eqb-false}
 use Rattle.octets.specs.Be.{be}
 use Rattle.octets.specs.Fields.{packed, flat}
-use Rattle.octets.specs.Parts.{zeros}
 use Rattle.octets.proofs.Be.{length-be}
 use Rattle.model.specs.FrameLayout.{advertiseLength, domainLength, failedLength, longestPdu}
 use Rattle.model.specs.Lists.{All, keep, longest, bit}

@@ -1,25 +1,24 @@
 -- The machines of a port, moved by their places in its list and by their Registrars, are the list that a write leaves.
 use mathlib.Core.Path.{_≡_, refl, sym, _∙_, ap, ap₂}
-use mathlib.Core.List.{List, [], _∷_, _++_, map, append-nil, append-assoc}
+use mathlib.Core.List.{List, [], _∷_, _++_, map, append-assoc}
 use mathlib.Core.Bool.{Bool, true, false, cond, _&&_, _||_, true≢false}
-use Prim.Native.Nat.{ℕ, zero, suc, _+_, _-_, _*_, _/_, _%_, _≤_, _<_}
+use Prim.Native.Nat.{ℕ, zero, suc, _+_, _/_, _%_, _≤_, _<_}
 use native.Mathlib.Nat.{add-zero}
 use native.Mathlib.Omega.{arith}
 use lib.ListN.{length, getD, take, drop, take-append-drop, length-append}
 use lib.Seq.{length-take-le}
-use lib.Dec.{leb, ltb, eqb}
+use lib.Dec.{leb, ltb}
 use borrow.Author.Tests.{lt-ltb, le-ltb, le-leb, lt-leb, eq-eqb, ne-eqb}
 use Rattle.model.specs.Lists.{All, bit, keep}
-use Rattle.model.specs.Applicant.{ApplicantState, vo, vp, vn, an, aa, qa, la, lo, tx, txLA, txLAF, opportunity, Standing, standing, applicantEntry, named, becomes}
-use Rattle.model.specs.LeaveAll as timer
-use Rattle.model.specs.Places.{Way, itself, each, saying, reached, behind, leftBefore, writeFrom}
+use Rattle.model.specs.Applicant.{ApplicantState, vo, vp, vn, an, aa, qa, la, lo, txLAF, opportunity, Standing, standing, applicantEntry, named, becomes}
+use Rattle.model.specs.Places.{Way, itself, each, reached, behind, leftBefore, writeFrom}
 use Rattle.model.specs.Machines.{Listed, Applicant, noApplicant, applicant, with, applicantOf, after, moved, way}
-use Rattle.model.specs.State.{Settings, Cell, Domain, noDomain, Ready, Own, Offer, Failure, Sends, Sender, Stream, Bridge, cellAt, sendsAt, senderAt, ownAt, slotOf, empty, noSends, noSender}
-use Rattle.model.specs.Registrations.{Kind, advertises, faileds, listeners, Act, leaveAll, ofDomain, leaveAllDomains, does, moves, at, moveKind, change, reach, apply, applyAll, registeredIn, domainStays, ids}
+use Rattle.model.specs.State.{Settings, Cell, Domain, noDomain, Ready, Offer, Failure, Sends, Sender, Stream, Bridge, cellAt, sendsAt, senderAt, ownAt, slotOf, empty, noSends, noSender}
+use Rattle.model.specs.Registrations.{Kind, advertises, faileds, listeners, leaveAll, does, moves, at, moveKind, change, reach, apply, applyAll, registeredIn, domainStays, ids}
 use Rattle.model.specs.Settling.{isApplicant, held, isSending, anySending, isHeld, dropUnheld}
 use Rattle.model.specs.Declarations.{Declaration, talkerKind, listedAs, listenerDeclaration, advertiseOf, failedOf, declarationsOf, ofKind, domainOf, domainValues, declarations, registeredOf, isRegistered}
 use Rattle.model.specs.Writing.{leavesAll, portWay, takesOn, wroteOn, endOn, movedAt, machines, machinesOf, movedKind, movedStreams, movedSlots, movedSender, ownLeaveAll, afterWrite}
-use Rattle.model.proofs.Lists.{all-map, at-each, at-here}
+use Rattle.model.proofs.Lists.{all-map, at-each, at-here, at-other}
 use Rattle.model.proofs.Valid.{Rising}
 use Rattle.model.proofs.AdvanceKeepsForm.{or-false}
 use Rattle.model.proofs.PlaceLists.{reached-behind}
@@ -181,10 +180,24 @@ apart-stays listeners advertises n f id s = refl
 apart-stays listeners faileds n f id s = refl
 apart-stays listeners listeners n f id s = absurd n
 
-listed-count : {A : Type 0} (h : A → Declaration) (a : Applicant A) → length (listedAs h a) ≡ bit (isApplicant a)
+pub listed-count : {A : Type 0} (h : A → Declaration) (a : Applicant A) → length (listedAs h a) ≡ bit (isApplicant a)
 unfolding listedAs bit isApplicant
 listed-count h noApplicant = refl
 listed-count h (applicant x) = refl
+
+pub machines-listed : (k : Kind) (id : ℕ) (s : Sends) → length (declarationsOf k id s) ≡ machines k s
+unfolding declarationsOf machines
+machines-listed advertises id s = listed-count (advertiseOf id) (s .advertising)
+machines-listed faileds id s = listed-count (failedOf id) (s .failing)
+machines-listed listeners id s = listed-count (listenerDeclaration id) (s .listening)
+
+-- all streams' machines of a type are so many
+pub kind-count : (k : Kind) (p : ℕ) (s : List Stream) → length (ofKind k p s) ≡ machinesOf k p s
+unfolding ofKind machinesOf
+kind-count k p [] = refl
+kind-count k p (x ∷ s) =
+    length-append (declarationsOf k (x .id) (sendsAt x p)) (ofKind k p s)
+    ∙ ap₂ (λ (m n : ℕ). m + n) (machines-listed k (x .id) (sendsAt x p)) (kind-count k p s)
 
 module _ (f : ℕ → Bool → Standing → List Standing) (one : (i : ℕ) (r : Bool) (q : Standing) → length (f i r q) ≤ 1) (reg : Declaration → Bool) where
   -- what is left of a declaration at place i
@@ -221,12 +234,6 @@ module _ (f : ℕ → Bool → Standing → List Standing) (one : (i : ℕ) (r :
   unfolding change sendsAt
   kind-here k p g x = at-default p (moveKind k g) (x .sends) noSends (none-moved k g)
 
-  machines-listed : (k : Kind) (id : ℕ) (s : Sends) → length (declarationsOf k id s) ≡ machines k s
-  unfolding declarationsOf machines
-  machines-listed advertises id s = listed-count (advertiseOf id) (s .advertising)
-  machines-listed faileds id s = listed-count (failedOf id) (s .failing)
-  machines-listed listeners id s = listed-count (listenerDeclaration id) (s .listening)
-
   -- all streams' machines of a type
   kind-moved : (k : Kind) (p i : ℕ) (s : List Stream) → All (λ x. Asked k (x .id) (registeredIn k (cellAt x p))) s
       → ofKind k p (movedKind f k p i s) ≡ eachAt leftAt i (ofKind k p s)
@@ -241,13 +248,6 @@ module _ (f : ℕ → Bool → Standing → List Standing) (one : (i : ℕ) (r :
     where
       r : Bool
       r = registeredIn k (cellAt x p)
-
-  kind-count : (k : Kind) (p : ℕ) (s : List Stream) → length (ofKind k p s) ≡ machinesOf k p s
-  unfolding ofKind machinesOf
-  kind-count k p [] = refl
-  kind-count k p (x ∷ s) =
-      length-append (declarationsOf k (x .id) (sendsAt x p)) (ofKind k p s)
-      ∙ ap₂ (λ (m n : ℕ). m + n) (machines-listed k (x .id) (sendsAt x p)) (kind-count k p s)
 
   -- what is asked of a stream by its StreamID and its cells stays
   asked-stays : (P : ℕ → List Cell → Type 0) (k : Kind) (p i : ℕ) (s : List Stream)
@@ -338,20 +338,20 @@ module _ (f : ℕ → Bool → Standing → List Standing) (one : (i : ℕ) (r :
           let z : j + suc n ≡ suc j + n = omega arith in
           rw z at (h (suc n) (omega arith))
 
--- What a write does beside: LeaveAll's leavings move no machine, and a stream that goes has none.
+-- What a write does beside: LeaveAll's leavings move no machine, on whatever port, and a stream that goes has none.
 
-module _ (p : ℕ) (k : Kind) where
-  list-same : (u : Stream → Stream) → ((x : Stream) → (u x .id ≡ x .id) × (sendsAt (u x) p ≡ sendsAt x p)) → (s : List Stream) → ofKind k p (map u s) ≡ ofKind k p s
+module _ (p q : ℕ) (k : Kind) where
+  list-same : (u : Stream → Stream) → ((x : Stream) → (u x .id ≡ x .id) × (sendsAt (u x) q ≡ sendsAt x q)) → (s : List Stream) → ofKind k q (map u s) ≡ ofKind k q s
   unfolding ofKind
   list-same u h [] = refl
   list-same u h (x ∷ s) = ap₂ (λ (l m : List (Listed Declaration)). l ++ m) (ap₂ (declarationsOf k) (h x .0) (h x .1)) (list-same u h s)
 
-  left-same : (now : ℕ) (j : Kind) (s : List Stream) → ofKind k p (apply now p (leaveAll j) s) ≡ ofKind k p s
+  left-same : (now : ℕ) (j : Kind) (s : List Stream) → ofKind k q (apply now p (leaveAll j) s) ≡ ofKind k q s
   unfolding apply reach
   left-same now j s =
-      list-same (change (at p (does now (leaveAll j))) (at p (moves (leaveAll j)))) (λ x. unfold change sendsAt moves in (refl, at-each (λ (y : Sends). y) p (λ y. y) (λ y. refl) (x .sends) p noSends)) s
+      list-same (change (at p (does now (leaveAll j))) (at p (moves (leaveAll j)))) (λ x. unfold change sendsAt moves in (refl, at-each (λ (y : Sends). y) p (λ y. y) (λ y. refl) (x .sends) q noSends)) s
 
-  leaving-list : (now : ℕ) (all : Bool) (s : List Stream) → ofKind k p (applyAll now p (ownLeaveAll all) s) ≡ ofKind k p s
+  leaving-list : (now : ℕ) (all : Bool) (s : List Stream) → ofKind k q (applyAll now p (ownLeaveAll all) s) ≡ ofKind k q s
   unfolding applyAll ownLeaveAll
   leaving-list now false s = refl
   leaving-list now true s =
@@ -444,7 +444,7 @@ module _ (b : Bridge) (p place : ℕ) (v : ListedPort b p) (h : place ≤ length
   unfolding afterWrite f
   streams-after k =
       dropped-list k p (applyAll (b .clock) p (ownLeaveAll all) (movedStreams (movedAt all place (endOn b p place)) p (b .streams)))
-      ∙ leaving-list p k (b .clock) all (movedStreams (movedAt all place (endOn b p place)) p (b .streams))
+      ∙ leaving-list p p k (b .clock) all (movedStreams (movedAt all place (endOn b p place)) p (b .streams))
 
   abbrev domainPlace : ℕ
   domainPlace = machinesOf advertises p (b .streams) + machinesOf faileds p (b .streams) + machinesOf listeners p (b .streams)
@@ -474,7 +474,7 @@ module _ (b : Bridge) (p place : ℕ) (v : ListedPort b p) (h : place ≤ length
       (ap₂ (λ (l m : List (Listed Declaration)). l ++ m) (streams-after listeners ∙ listeners-moved f one reg p s asks-advertises asks-faileds asks-listeners)
       last))
       ∙ sym (in-turn (ofKind advertises p s) (ofKind faileds p s) (ofKind listeners p s) domains
-      ∙ rw (kind-count f one reg advertises p s, kind-count f one reg faileds p s, kind-count f one reg listeners p s))
+      ∙ rw (kind-count advertises p s, kind-count faileds p s, kind-count listeners p s))
     where
       s : List Stream
       s = b .streams
@@ -507,3 +507,40 @@ module _ (b : Bridge) (p place : ℕ) (v : ListedPort b p) (h : place ≤ length
       by-places
       ∙ at-same g (atPlace (portWay b p) place (endOn b p place)) as-written 0 (declarations b p)
       ∙ moved-list (portWay b p) (takesOn b p) place (declarations b p) h
+
+-- The lists of the other ports stay.
+module _ (b : Bridge) (p place q : ℕ) (apart : p ≡ q → ⊥) where
+  other-kind : (f : ℕ → Bool → Standing → List Standing) (k j : Kind) (i : ℕ) (s : List Stream) → ofKind k q (movedKind f j p i s) ≡ ofKind k q s
+  unfolding ofKind movedKind change sendsAt
+  other-kind f k j i [] = refl
+  other-kind f k j i (x ∷ s) =
+      ap₂ (λ (l m : List (Listed Declaration)). l ++ m)
+      (ap (declarationsOf k (x .id)) (at-other p (moveKind j (f i (registeredIn j (cellAt x p)))) (x .sends) q noSends apart))
+      (other-kind f k j (i + machines j (sendsAt x p)) s)
+
+  other-streams : (f : ℕ → Bool → Standing → List Standing) (k : Kind) (s : List Stream) → ofKind k q (movedStreams f p s) ≡ ofKind k q s
+  unfolding movedStreams
+  other-streams f k s = other-kind f k listeners _ _ ∙ other-kind f k faileds _ _ ∙ other-kind f k advertises 0 s
+
+  other-after : (k : Kind) → ofKind k q (afterWrite b p place .streams) ≡ ofKind k q (b .streams)
+  unfolding afterWrite
+  other-after k =
+      let f : ℕ → Bool → Standing → List Standing = movedAt (leavesAll b p) place (endOn b p place) in
+      dropped-list k q (applyAll (b .clock) p (ownLeaveAll (leavesAll b p)) (movedStreams f p (b .streams)))
+      ∙ leaving-list p q k (b .clock) (leavesAll b p) (movedStreams f p (b .streams))
+      ∙ other-streams f k (b .streams)
+
+  other-sender : senderAt (afterWrite b p place .senders) q ≡ senderAt (b .senders) q
+  unfolding afterWrite senderAt
+  other-sender = at-other p _ (b .senders) q noSender apart
+
+  other-domains : domainValues (afterWrite b p place .settings) 0 (senderAt (afterWrite b p place .senders) q .domains) ≡ domainValues (b .settings) 0 (senderAt (b .senders) q .domains)
+  unfolding afterWrite
+  other-domains = ap (λ (x : Sender). domainValues (b .settings) 0 (x .domains)) other-sender
+
+  pub other-lists-stay : declarations (afterWrite b p place) q ≡ declarations b q
+  unfolding declarations
+  other-lists-stay =
+      ap₂ (λ (l m : List (Listed Declaration)). l ++ m) (other-after advertises)
+      (ap₂ (λ (l m : List (Listed Declaration)). l ++ m) (other-after faileds)
+      (ap₂ (λ (l m : List (Listed Declaration)). l ++ m) (other-after listeners) other-domains))

@@ -4,22 +4,22 @@
 use mathlib.Core.Path.{_≡_, refl, sym, _∙_, ap}
 use mathlib.Core.List.{List, [], _∷_, _++_, map, append-assoc, List·Memᴰ, List·Memᴰ·head, List·Memᴰ·tail, Memᴰ·map}
 use mathlib.Core.Bool.{Bool, true, false, cond, _&&_, true≢false, false≢true}
-use Prim.Native.Nat.{ℕ, suc, _+_, _≤_, _<_}
-use lib.ListN.{length, getD, take, drop}
+use Prim.Native.Nat.{ℕ, _+_}
+use lib.ListN.{take, drop}
 use lib.Dec.{leb, ltb}
 use Rattle.model.specs.Lists.{All, keep}
-use Rattle.model.specs.Applicant.{ApplicantEvent, tx, txLA, txLAF, opportunity, sL, messageNumber, Standing, veryAnxiousPassive, veryAnxiousNew, anxiousNew, anxiousActive, quietActive, leavingActive, becomes, sent, speaks, spoken}
+use Rattle.model.specs.Applicant.{tx, txLAF, opportunity, sL, messageNumber, Standing, veryAnxiousPassive, veryAnxiousNew, anxiousNew, anxiousActive, quietActive, leavingActive, becomes, sent, spoken}
 use Rattle.model.specs.Places.{Way, Wrote, itself, each, saying, reached, behind, leftBefore, writeFrom}
 use Rattle.model.specs.Machines.{Listed, Applicant, noApplicant, applicant, Decided, undeclared, declared, with, applicantOf, after, moved, way}
 use Rattle.model.specs.State.{Fixed, Result, Sends, Stream, Bridge, noSends, cellAt, resultAt, sendsAt}
 use Rattle.model.specs.Registrations.{Kind, advertises, faileds, listeners, at, moveKind, change, applyAll, registeredIn}
-use Rattle.model.specs.Settling.{advertisedBy, failedBy, listenedBy, dropUnheld}
+use Rattle.model.specs.Settling.{advertisedBy, failedBy, listenedBy}
 use Rattle.model.specs.Table.{isStanding}
-use Rattle.model.specs.Declarations.{Declaration, declarations, isRegistered, Said, say}
-use Rattle.model.specs.Writing.{leavesAll, portWay, sayOn, takesOn, wroteOn, endOn, movedAt, machines, movedKind, movedStreams, ownLeaveAll, afterWrite}
-use Rattle.model.proofs.Lists.{all-map, all-both, all-drop}
+use Rattle.model.specs.Declarations.{Declaration, declarations, isRegistered, say}
+use Rattle.model.specs.Writing.{leavesAll, sayOn, takesOn, wroteOn, endOn, movedAt, machines, movedKind, movedStreams, ownLeaveAll, afterWrite}
+use Rattle.model.proofs.Lists.{all-map, all-both}
 use Rattle.model.proofs.ApplicantEntries.{tables, written-leaving-all}
-use Rattle.model.proofs.PlaceLists.{each-itself, saying-reached, all-reached}
+use Rattle.model.proofs.PlaceLists.{each-itself, saying-reached}
 use Rattle.model.proofs.Passing.{left-to-say, taken, run-is}
 use Rattle.model.proofs.Deciding.{Stands, Holds}
 use Rattle.model.proofs.AdvanceKeepsForm.{all-dropped}

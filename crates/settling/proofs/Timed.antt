@@ -3,12 +3,11 @@ use mathlib.Core.Path.{_≡_, refl, sym, _∙_, ap}
 use mathlib.Core.List.{List, [], _∷_}
 use mathlib.Core.Bool.{Bool, true, false, cond}
 use Prim.Native.Nat.{ℕ, zero, suc, _+_, _^_, _≤_, _<_}
-use native.Mathlib.Omega.{arith}
 use lib.ListN.{length, getD}
 use borrow.Author.Tests.{lt-ltb, le-ltb}
 use Rattle.model.specs.LeaveAll.{leavealltimer, leaveAllEntry, leaveAllNext, hasRun, timedOut}
 use Rattle.model.specs.Lists.{All}
-use Rattle.model.specs.State.{Settings, Sender, Bridge, noSender, isPort, senderAt}
+use Rattle.model.specs.State.{Settings, Sender, noSender, isPort, senderAt}
 use Rattle.model.specs.Registrations.{at, sending}
 use Rattle.model.specs.Settling.{timeSender}
 use Rattle.model.specs.Table.{encode, decode}

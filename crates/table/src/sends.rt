@@ -12,9 +12,16 @@ pub const LISTENING: usize = FAILED + CODE + 1;
 
 pub const LISTENED: usize = LISTENING + 1;
 
-// Among the values of a Talker: destination, VLAN and TSpec, then the priority and the latency; a Failed has its Bridge ID and code
-// behind these.
-pub const PRIORITY: usize = 12;
+// Among the values of a Talker, in the order of a FirstValue; those of an Advertise end with the latency.
+pub const DESTINATION: usize = 0;
+
+pub const VLAN: usize = DESTINATION + 6;
+
+pub const FRAME_SIZE: usize = VLAN + 2;
+
+pub const FRAMES: usize = FRAME_SIZE + 2;
+
+pub const PRIORITY: usize = FRAMES + 2;
 
 pub const LATENCY: usize = PRIORITY + 1;
 

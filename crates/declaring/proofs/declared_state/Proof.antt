@@ -1,4 +1,6 @@
 -- `declaring::declared_state` meets its contract. Assumes nothing.
+use Prim.Native.Nat.{_≤_, _<_}
+use native.Mathlib.Omega.{arith}
 use borrow.Author.Needs.{needs}
 use borrow.Author.Tests.{le-leb, lt-leb}
 use Rattle.octets.specs.Pick.{pick}
@@ -12,11 +14,17 @@ returns c = rw (c .before .if1 .taken) (c .joined .ensures .0)
 
 returns-2 : tie.Need-returns-2
 unfolding declaredState pick
-returns-2 c = rw (c .before .before .if1 .left, le-leb _ _ (c .before .if2 .taken)) (c .joined2 .ensures .0)
+returns-2 c =
+    let state = c .before .before .before .args .state in
+    let passive : state ≤ 1 = omega (arith, c .before .if2 .taken) in
+    rw (c .before .before .if1 .left, le-leb state 1 passive) (c .joined2 .ensures .0)
 
 returns-3 : tie.Need-returns-3
 unfolding declaredState pick
-returns-3 c = rw (c .before .before .if1 .left, lt-leb _ _ (c .before .if2 .left)) (c .renewed .ensures .0)
+returns-3 c =
+    let state = c .before .before .before .args .state in
+    let other : 1 < state = omega (arith, c .before .if2 .left) in
+    rw (c .before .before .if1 .left, lt-leb state 1 other) (c .renewed .ensures .0)
 
 pub declared-state-spec : {M : Type 1} → statement M
 declared-state-spec =

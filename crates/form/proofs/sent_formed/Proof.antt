@@ -7,7 +7,7 @@ use Rattle.form.proofs.sent_formed.Tie as tie
 returns : tie.Need-returns
 returns c =
     let a = c .before .before .before .before .before .before .before .before .before .before .args in
-    sent-tests (a .result .now) (a .sent .now) (c .before .before .before .before .before .before .before .before .before .before .pre .1) _ _ _ (c .before .before .before .before .before .offer-formed .ensures) (c .before .before .before .offer-formed2 .ensures)
+    sent-tests (a .result .now) (a .sent .now) (c .before .before .before .before .before .before .before .before .before .before .pre .1) _ _ _ (c .before .before .before .before .before .advertise-formed .ensures) (c .before .before .before .failed-formed .ensures)
     (c .ready-formed .ensures)
 
 pub sent-formed-spec : {M : Type 1} → statement M
