@@ -4,11 +4,10 @@ use mathlib.Core.List.{List, [], _∷_, _++_, map}
 use mathlib.Core.Bool.{Bool, true, false, cond}
 use Prim.Native.Nat.{ℕ, zero, suc, _+_, _-_, _/_, _≤_, _<_}
 use lib.ListN.{length, getD, take, drop}
-use lib.Dec.{leb, ltb}
+use lib.Dec.{ltb}
 use Rattle.octets.specs.Parts.{patch}
 use Rattle.octets.specs.Fields.{flat}
 use Rattle.model.specs.FrameLayout.{longestPdu}
-use Rattle.model.specs.Lists.{longest}
 use Rattle.model.specs.Machines.{Listed, noApplicant}
 use Rattle.model.specs.Places.{saying, reached}
 use Rattle.model.specs.State.{Bridge, cellAt, sendsAt, senderAt, ownAt, noDomain, streamAt}
@@ -16,7 +15,8 @@ use Rattle.model.specs.Registrations.{Kind, advertises, faileds, listeners, reg
 use Rattle.model.specs.Frames as frames
 use Rattle.model.specs.Frames.{registers, domainType}
 use Rattle.model.specs.Sending.{standingNumber}
-use Rattle.model.specs.Declarations.{Declaration, Said, listedAs, declarationsOf, ofKind, domainOf, domainValues, vectorSize, emptySize, messageSize}
+use Rattle.model.specs.Declarations as model
+use Rattle.model.specs.Declarations.{Declaration, Said, listedAs, declarationsOf, ofKind, domainOf, domainValues, vectorSize, emptySize}
 use Rattle.model.specs.Writing.{leavesAll, portWay, sayOn, wroteOn, endOn}
 use Rattle.model.specs.WrittenFrames.{declarationVector, vectorOctets, vectorsSaid, messageOctets, pduOctets}
 use Rattle.model.specs.Table.{decode}
@@ -122,10 +122,10 @@ pub record VectorIn (t : List ℕ) (k p : ℕ) (j : frames.Attribute) (out : Lis
   pub single : Single j
 
 -- Where a pass starts: behind so many declarations of its type, of which there may be fewer.
-pub record StartsAt (t : List ℕ) (p : ℕ) (j : frames.Attribute) (skip : ℕ) (s : Start) : Type 0 where
+pub record StartsAt (t : List ℕ) (p : ℕ) (j : frames.Attribute) (n : ℕ) (s : Start) : Type 0 where
   pub within : s .first ≤ declarers j p (decode t)
-  pub rest : machinesFrom j p (decode t) (s .first) ≡ drop skip (allOf j p (decode t))
-  pub skip : s .skip ≡ skip - length (allOf j p (decode t))
+  pub rest : machinesFrom j p (decode t) (s .first) ≡ drop n (allOf j p (decode t))
+  pub left : s .skip ≡ n - length (allOf j p (decode t))
 
 -- Declarations to say, of a type, one per vector: not none, and there are so many from a place on.
 pub record RunIn (t : List ℕ) (p : ℕ) (r : Run) : Type 0 where
@@ -141,7 +141,13 @@ runOf t p r = take (r .count) (saidFrom (type (r .attribute)) p (decode t) (r .f
 unfoldable pub fits : ℕ → ℕ → ℕ → ℕ
 fits used size left = cond (ltb longestPdu used) 0 (cond (ltb ((longestPdu - used) / size) left) ((longestPdu - used) / size) left)
 
--- With LeaveAll the types after one still need Messages: their octets where they are empty.
+-- With LeaveAll each type has a Message: the octets of those of the types before one, and of those after it, where they are empty.
+unfoldable pub earlier : Bool → frames.Attribute → ℕ
+earlier all (registers advertises) = 0
+earlier all (registers faileds) = emptySize all (registers advertises)
+earlier all (registers listeners) = emptySize all (registers advertises) + emptySize all (registers faileds)
+earlier all domainType = emptySize all (registers advertises) + emptySize all (registers faileds) + emptySize all (registers listeners)
+
 unfoldable pub later : Bool → frames.Attribute → ℕ
 later all (registers advertises) = emptySize all (registers faileds) + (emptySize all (registers listeners) + emptySize all domainType)
 later all (registers faileds) = emptySize all (registers listeners) + emptySize all domainType
@@ -150,7 +156,7 @@ later all domainType = 0
 
 -- how many declarations of a type fit behind so many octets, the EndMark and the later Messages counted
 unfoldable pub fitting : Bool → frames.Attribute → ℕ → List Said → ℕ
-fitting all k at l = longest (λ n. leb (at + (2 + later all k) + messageSize all k (take n l)) longestPdu) 0 (length l)
+fitting all k at l = model.fitting all (at + 2 - earlier all k) l
 
 -- the Message of declarations of a type
 unfoldable pub message : Bool → frames.Attribute → List Said → List ℕ
@@ -160,18 +166,20 @@ message all k l = messageOctets k (vectorsSaid all k l)
 unfoldable pub fit : Bool → frames.Attribute → ℕ → List Said → List Said
 fit all k at l = take (fitting all k at l) l
 
-pub record MessageWritten (all : Bool) (k : frames.Attribute) (l : List Said) (at : ℕ) (before : List ℕ) (r : Message) (after : List ℕ) : Type 0 where
+pub record MessageWritten (all : Bool) (k : frames.Attribute) (l : List Said) (at : ℕ) (before : List ℕ) (r : Message) (now : List ℕ) : Type 0 where
   pub count : r .count ≡ fitting all k at l
   pub end : r .end ≡ at + length (message all k (fit all k at l))
-  pub buffer : after ≡ patch at (length (message all k (fit all k at l))) (message all k (fit all k at l)) before
+  pub buffer : now ≡ patch at (length (message all k (fit all k at l))) (message all k (fit all k at l)) before
+  pub after : earlier all k + emptySize all k ≤ r .end
   pub room : r .end + (2 + later all k) ≤ longestPdu
 
--- before it: room for its own empty Message, where there must be one, and for what follows
+-- before it: the Messages of the types before, room for its own empty Message, where there must be one, and for what follows
 abbrev pub Room : Bool → frames.Attribute → ℕ → Type 0
 Room all k at = at + emptySize all k + (2 + later all k) ≤ longestPdu
 
 pub record MessageIn (t : List ℕ) (p : ℕ) (k : frames.Attribute) (at : ℕ) (b : List ℕ) : Type 0 where
   pub port : PortIn t p
+  pub after : earlier (leavesAll (decode t) p) k ≤ at
   pub room : Room (leavesAll (decode t) p) k at
   pub buffer : longestPdu ≤ length b
 
@@ -208,9 +216,10 @@ pub record PassIn (t : List ℕ) (p : ℕ) (k : frames.Attribute) (s : Progress)
   pub end : s .end ≤ 1000
 
 -- after it
-pub record PassLeaves (t : List ℕ) (p : ℕ) (k : frames.Attribute) (s : Progress) (before : List ℕ) (r : Progress) (after : List ℕ) : Type 0 where
+pub record PassLeaves (t : List ℕ) (p : ℕ) (k : frames.Attribute) (s : Progress) (before : List ℕ) (r : Progress) (now : List ℕ) : Type 0 where
   pub progress : r ≡ passed (decode t) p k s
-  pub buffer : after ≡ written (decode t) p k s before
+  pub buffer : now ≡ written (decode t) p k s before
+  pub after : earlier (leavesAll (decode t) p) k + emptySize (leavesAll (decode t) p) k ≤ r .at
   pub room : r .at + (2 + later (leavesAll (decode t) p) k) ≤ longestPdu
   pub end : r .end ≤ s .end + 64
 

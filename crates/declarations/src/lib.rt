@@ -1,7 +1,7 @@
 // What a port writes: its declarations by place, and the PDU that says as many as fit from a place on, with the events of their
 // Applicants. Ports p, streams and Domain slots k are counted from 0.
 ghost use mathlib.Core.Path.{_≡_};
-ghost use mathlib.Core.Bool.{not};
+ghost use mathlib.Core.Bool.{false, not};
 ghost use mathlib.Core.List.{[], _∷_, _++_};
 ghost use Prim.Native.Nat.{_+_, _-_, _*_, _≤_, _<_};
 ghost use lib.ListN.{length, getD};
