@@ -6,16 +6,16 @@ use native.Mathlib.Omega.{arith}
 use mathlib.Core.Path.{_≡_, refl, sym, ap, _∙_}
 use mathlib.Core.Bool.{Bool, true, false, false≢true}
 use mathlib.Core.List.{List, [], _∷_, _++_, map, map-append}
-use lib.ListN.{length, length-map, getD, take, drop}
+use lib.ListN.{length, length-append, length-map, getD, take, drop}
 use Rattle.model.specs.Lists.{keep}
 use Rattle.model.specs.Machines.{Listed, Applicant, noApplicant, applicant}
-use Rattle.model.specs.Places.{saying, reached}
+use Rattle.model.specs.Places.{saying, reached, behind}
 use Rattle.model.specs.State.{Settings, Sends, Stream, Bridge, fresh, sendsAt, senderAt, streamAt}
 use Rattle.model.specs.Registrations.{Kind, advertises, faileds, listeners}
 use Rattle.model.specs.Frames.{Attribute, registers, domainType}
 use Rattle.model.specs.Declarations.{Declaration, Said, listedAs, advertiseOf, failedOf, declarationsOf, ofKind, domainOf, domainValues}
 use Rattle.model.specs.Writing.{portWay, sayOn}
-use Rattle.model.proofs.PlaceLists.{fewer-saying}
+use Rattle.model.proofs.PlaceLists.{fewer-saying, reached-behind}
 use Rattle.declarations.specs.Vectors.{some}
 use Rattle.declarations.specs.Passes.{declarers, machineBy, saidOf, saidBy, gathered, machinesFrom, saidFrom, allOf}
 
@@ -260,7 +260,7 @@ module _ (j : Attribute) (p : ℕ) (b : Bridge) where
   abbrev saysIt : Listed Declaration → Bool
   saysIt = portWay b p .says
 
-  pub far : ℕ → ℕ → ℕ
+  abbrev pub far : ℕ → ℕ → ℕ
   far n k = length (reached saysIt n (machinesFrom j p b k))
 
   -- whether something is said of the one declaration there
@@ -278,13 +278,17 @@ module _ (j : Attribute) (p : ℕ) (b : Bridge) where
       go true = refl
       go false = refl
 
+  pub far-few : (n k : ℕ) → far n k ≤ declarers j p b - k
+  far-few n k =
+      let l = machinesFrom j p b k in
+      omega (arith, ap length (reached-behind saysIt n l), length-append (reached saysIt n l) (behind saysIt n l), machines-few j p b k)
+
   pub far-end : (n k : ℕ) → declarers j p b ≤ k → far n k ≡ 0
-  unfolding far reached
+  unfolding reached
   far-end n k h = rw (machines-end j p b k h)
 
   module _ (k : ℕ) (h : k < declarers j p b) where
     pub far-skips : some (machineBy j p b k) ≡ false → (n : ℕ) → far n k ≡ far n (k + 1)
-    unfolding far
     far-skips q n = ap (λ (l : List (Listed Declaration)). length (reached saysIt n l)) (no-machine j p b k h q)
 
     module _ (q : some (machineBy j p b k) ≡ true) where
@@ -299,14 +303,12 @@ module _ (j : Attribute) (p : ℕ) (b : Bridge) where
       says-it = ap (λ (l : List (Listed Declaration)). some (saidOf b p l)) (one .1) ∙ says-one (one .0)
 
       pub far-quiet : some (saidBy j p b k) ≡ false → (n : ℕ) → far n k ≡ far n (k + 1) + 1
-      unfolding far
       far-quiet s n =
           ap (λ (l : List (Listed Declaration)). length (reached saysIt n l)) whole
           ∙ ap length (reached-quiet saysIt (one .0) n (machinesFrom j p b (k + 1)) (sym says-it ∙ s))
           ∙ omega arith
 
       pub far-said : some (saidBy j p b k) ≡ true → (n : ℕ) → 0 < n → far n k ≡ far (n - 1) (k + 1) + 1
-      unfolding far
       far-said s n g =
           let e : n ≡ suc (n - 1) = omega arith in
           ap (λ (l : List (Listed Declaration)). length (reached saysIt n l)) whole
@@ -315,7 +317,6 @@ module _ (j : Attribute) (p : ℕ) (b : Bridge) where
           ∙ omega arith
 
       pub far-stops : some (saidBy j p b k) ≡ true → far 0 k ≡ 0
-      unfolding far
       far-stops s =
           ap (λ (l : List (Listed Declaration)). length (reached saysIt 0 l)) whole
           ∙ ap length (reached-none saysIt (one .0) (machinesFrom j p b (k + 1)) (sym says-it ∙ s))

@@ -5,25 +5,25 @@ use native.Mathlib.Omega.{arith}
 use mathlib.Core.Path.{_≡_, refl, sym, ap, _∙_}
 use mathlib.Core.Bool.{Bool, true, false, cond}
 use mathlib.Core.List.{List, [], _∷_, _++_, map, append-nil}
-use lib.ListN.{length, length-append, length-map, take, drop}
+use lib.ListN.{length, length-append, length-map, getD, take, drop}
 use lib.Seq.{take-all, take-nil, drop-nil, take-append-le, take-append-add, length-take-le}
 use lib.Dec.{ltb, leb}
 use borrow.Author.Tests.{ltb-true, ltb-false, lt-ltb, le-ltb, leb-true, leb-false}
 use Rattle.model.specs.FrameLayout.{longestPdu}
 use Rattle.model.specs.Lists.{All, keep, longest}
-use Rattle.model.specs.Machines.{Listed}
+use Rattle.model.specs.Machines.{Listed, noApplicant}
 use Rattle.model.specs.Places.{saying, reached}
-use Rattle.model.specs.State.{Bridge, senderAt}
+use Rattle.model.specs.State.{Bridge, sendsAt, senderAt, streamAt}
 use Rattle.model.specs.Registrations.{advertises, faileds, listeners}
 use Rattle.model.specs.Frames.{Attribute, registers, domainType, typeNumber}
 use Rattle.model.specs.Declarations as model
-use Rattle.model.specs.Declarations.{Declaration, Said, say, attributeOf, having, vectorSize, vectorsSize, emptySize, messageSize, messagesSize}
+use Rattle.model.specs.Declarations.{Declaration, talkerKind, attributeOf, listenerDeclaration, advertiseOf, failedOf, declarationsOf, domainOf, Said, say, having, vectorSize, vectorsSize, emptySize, messageSize, messagesSize}
 use Rattle.model.specs.Writing.{leavesAll, portWay, sayOn}
 use Rattle.model.proofs.Lists.{all-map, all-append, all-take, all-drop, longest-ends, longest-stops, longest-goes, longest-within, longest-same, longest-from}
-use Rattle.model.proofs.WritingPasses.{Typed, listedType, OfAttribute, After, fitsWith, moreSize, othersSize, others-size, all-of-saying, all-said, ofKind-attribute, domains-attribute, length-message, message-least, message-some, fitting-types, fitting-single}
+use Rattle.model.proofs.WritingPasses.{Typed, listedType, OfAttribute, After, fitsWith, moreSize, othersSize, others-size, all-of-saying, all-said, all-listed, length-message, message-least, message-some, fitting-types, fitting-single}
 use Rattle.declarations.specs.declared.Progress.{Progress}
-use Rattle.declarations.specs.Passes.{allOf, saidOf, Single, fits, earlier, later, fitting, message, fit, rest, taken, said, passed}
-use Rattle.declarations.proofs.Declared.{said-append, reached-quiet, reached-said, reached-none}
+use Rattle.declarations.specs.Passes.{declarers, machineBy, saidOf, gathered, machinesFrom, saidFrom, allOf, Single, fits, earlier, later, fitting, message, fit, rest, taken, said, passed}
+use Rattle.declarations.proofs.Declared.{machines-first, said-is, said-append, reached-quiet, reached-said, reached-none}
 
 -- The number that fits.
 
@@ -181,10 +181,10 @@ filled-or-not {P = P} s = go (s .full)
     go true f g = f refl
     go false f g = g refl
 
-if-open : {A : Type 0} {t : Bool} (x y : A) → t ≡ false → cond t x y ≡ y
+pub if-open : {A : Type 0} {t : Bool} (x y : A) → t ≡ false → cond t x y ≡ y
 if-open x y e = rw e
 
-if-full : {A : Type 0} {t : Bool} (x y : A) → t ≡ true → cond t x y ≡ x
+pub if-full : {A : Type 0} {t : Bool} (x y : A) → t ≡ true → cond t x y ≡ x
 if-full x y e = rw e
 
 -- how far those reach of which some find room: past all of the first where all of these do
@@ -227,10 +227,29 @@ module _ (b : Bridge) (p : ℕ) where
   said-types P l a =
       all-said (λ d. P (attributeOf (d .declaration))) (sayOn b p) (saying (portWay b p .says) l) (all-of-saying (λ x. P (attributeOf (x .value))) (portWay b p .says) l a)
 
+  machine-type : (k : Attribute) (i : ℕ) → All (Typed listedType k) (machineBy k p b i)
+  unfolding machineBy declarationsOf advertiseOf failedOf domainOf attributeOf talkerKind
+  machine-type (registers advertises) i =
+      all-listed (Typed listedType (registers advertises)) (advertiseOf (streamAt i b .id)) (λ q v. refl) (sendsAt (streamAt i b) p .advertising)
+  machine-type (registers faileds) i = all-listed (Typed listedType (registers faileds)) (failedOf (streamAt i b .id)) (λ q v. refl) (sendsAt (streamAt i b) p .failing)
+  machine-type (registers listeners) i =
+      all-listed (Typed listedType (registers listeners)) (listenerDeclaration (streamAt i b .id)) (λ q v. refl) (sendsAt (streamAt i b) p .listening)
+  machine-type domainType i =
+      all-listed (Typed listedType domainType) (λ u. domainOf (b .settings) i) (λ q v. refl) (getD (senderAt (b .senders) p .domains) i noApplicant)
+
+  machines-type : (k : Attribute) (i : ℕ) → All (Typed listedType k) (machinesFrom k p b i)
+  unfolding machinesFrom gathered
+  machines-type k i = go (declarers k p b - i) i
+    where
+      go : (n i : ℕ) → All (Typed listedType k) (gathered (machineBy k p b) n i)
+      go zero i = tt
+      go (suc n) i = all-append (Typed listedType k) (machineBy k p b i) (gathered (machineBy k p b) n (suc i)) (machine-type k i) (go n (suc i))
+
   pub of-type : (k : Attribute) → All (Typed listedType k) (allOf k p b)
-  unfolding allOf
-  of-type (registers k) = ofKind-attribute k p (b .streams)
-  of-type domainType = domains-attribute (b .settings) 0 (senderAt (b .senders) p .domains)
+  of-type k = rw (← machines-first k p b) (machines-type k 0)
+
+  pub from-type : (k : Attribute) (i : ℕ) → All (OfAttribute k) (saidFrom k p b i)
+  from-type k i = rw (said-is k p b i) (said-types (λ j. j ≡ k) (machinesFrom k p b i) (machines-type k i))
 
   pub said-type : (k : Attribute) (n : ℕ) → All (OfAttribute k) (saidOf b p (drop n (allOf k p b)))
   said-type k n = said-types (λ j. j ≡ k) (drop n (allOf k p b)) (all-drop (Typed listedType k) n (allOf k p b) (of-type k))

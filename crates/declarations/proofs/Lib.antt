@@ -1,5 +1,7 @@
 pub mod Declared
+pub mod Places
 pub mod States
+pub mod Senders
 pub mod Vectors
 pub mod Fitting
 pub mod Walk

@@ -1,6 +1,7 @@
 -- The Message of Listeners: how many of them fit, and how long it is.
 use mathlib.Core.Path.{_≡_, sym, _∙_, ap}
-use mathlib.Core.Bool.{Bool}
+use mathlib.Core.Path.{refl}
+use mathlib.Core.Bool.{Bool, true}
 use mathlib.Core.List.{List}
 use Prim.Native.Nat.{ℕ, _+_, _-_, _/_, _≤_, _<_}
 use native.Mathlib.Omega.{arith}
@@ -10,15 +11,15 @@ use borrow.Author.Tests.{leb-true}
 use Rattle.model.specs.FrameLayout.{longestPdu}
 use Rattle.model.specs.Lists.{All}
 use Rattle.model.specs.Registrations.{listeners}
-use Rattle.model.specs.Frames.{Attribute, registers}
+use Rattle.model.specs.Frames.{Attribute, registers, firstLength}
 use Rattle.model.specs.Best.{least, run}
-use Rattle.model.specs.Declarations.{Said, declaredIds, vectorsSize}
+use Rattle.model.specs.Declarations.{Said, declaredIds, vectorsSize, emptySize}
 use Rattle.model.specs.Writing.{leavesAll}
 use Rattle.model.specs.Table.{decode}
 use Rattle.model.proofs.Lists.{all-take}
 use Rattle.model.proofs.Ascents.{ascending-rising}
 use Rattle.model.proofs.LongestRun.{length-cut, run-longest}
-use Rattle.model.proofs.WritingPasses.{OfAttribute, othersSize, ids-take, length-message, message-some, fitting-listeners}
+use Rattle.model.proofs.WritingPasses.{OfAttribute, othersSize, ids-take, length-message, message-least, message-some, fitting-listeners}
 use Rattle.cutting.specs.Named.{idsOf}
 use Rattle.cutting.specs.Plan.{Packed}
 use Rattle.cutting.proofs.Named.{ids-length, ids-take as named-ids, named-take}
@@ -81,6 +82,14 @@ module _ (t : List ℕ) (p : ℕ) (places : List ℕ) (at : ℕ) (b : List ℕ) 
         length-message all k (take n rest) (all-take (OfAttribute k) n rest own)
         ∙ message-some all k (take n rest) (omega arith)
         ∙ ap (λ (m : ℕ). 6 + m) (unfold vectorsSize in (ap least (ids-take n rest ∙ ap (take n) rest-ids)) ∙ sym planned-size)
+
+    -- a vector has a header at least
+    pub planned-some : 0 < n → 2 ≤ getD weighs 0 0 / 65
+    planned-some some =
+        let long : length (take n rest) ≡ n = length-take-le n rest (omega (arith, listeners-length t p places, planned-within)) in
+        let empty : emptySize true k ≡ 16 = unfold emptySize firstLength in refl in
+        let size : vectorsSize k (take n rest) ≡ getD weighs 0 0 / 65 = unfold vectorsSize in (ap least (ids-take n rest ∙ ap (take n) rest-ids)) ∙ sym planned-size in
+        omega (arith, message-least true k (take n rest), message-some true k (take n rest) (omega arith), empty, size)
 
     -- what the writer asks
     pub planned-cut : (room : ℕ) → length firsts ≡ 65 → room ≡ getD weighs 0 0 / 65 → CutIn t p (take n places) firsts room

@@ -122,7 +122,7 @@ ids-below t laid k h (i ∷ l) a = (less, ids-below t laid k h l (a .1))
     less = omega (arith, id-at i (omega (arith, h, a .0)), id-at k h, ascending-less (ids s) (laid-fits t laid .ascending) i k (a .0) (omega (arith, h, long)))
 
 -- The walk over the streams that gathers the places: what is said of those gathered, with what is left to gather, is the whole.
-module _ (t : List ℕ) (laid : Laid t) (p : ℕ) (whole : List Said) where
+module _ (t : List ℕ) (p : ℕ) (whole : List Said) where
   abbrev Held : ℕ → Type 0
   Held i = i < length (decode t .streams)
 
@@ -168,8 +168,8 @@ module _ (t : List ℕ) (laid : Laid t) (p : ℕ) (whole : List Said) where
             is = rw e at (w .is);
           }
 
-      pub gathers-one : some (saidBy (registers listeners) p (decode t) k) ≡ true → Gathering (set places n k) (n + 1) (k + 1)
-      gathers-one q =
+      pub gathers-one : Laid t → some (saidBy (registers listeners) p (decode t) k) ≡ true → Gathering (set places n k) (n + 1) (k + 1)
+      gathers-one laid q =
           let long : length (set places n k) ≡ length places = length-set places n k in
           let front : take (n + 1) (set places n k) ≡ take n places ++ (k ∷ []) = rw (add-one n) (take-suc-set places n k some-left) in
           let m : length places - n - 1 ≡ length places - (n + 1) = omega arith in
@@ -197,8 +197,8 @@ module _ (t : List ℕ) (laid : Laid t) (p : ℕ) (whole : List Said) where
           }
 
     -- all are gathered
-    pub gathered-all : length places ≤ n → p < 8 → length places ≤ 64 → Telling t p places × (listenersAt p t places ≡ whole)
-    gathered-all none-left port few =
+    pub gathered-all : Laid t → length places ≤ n → p < 8 → length places ≤ 64 → Telling t p places × (listenersAt p t places ≡ whole)
+    gathered-all laid none-left port few =
         let all : take n places ≡ places = take-all n places none-left in
         let e : length places - n ≡ 0 = omega arith in (
           record {

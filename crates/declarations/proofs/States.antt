@@ -10,7 +10,8 @@ use lib.Dec.{eqb}
 use borrow.Author.Tests.{eq-eqb, ne-eqb}
 use Rattle.octets.specs.Fields.{Fit, width}
 use Rattle.octets.proofs.Fields.{get-octet}
-use Rattle.model.specs.Layout.{cellIndex, cellWidths, inCell, inSlot, slotIndex, slotWidths}
+use Rattle.octets.proofs.Frame.{getD-part}
+use Rattle.model.specs.Layout.{cellIndex, cellWidths, inCell, inSlot, slotIndex, slotPlace, slotSize, slotWidths}
 use Rattle.model.specs.Lists.{All, keep}
 use Rattle.model.specs.Applicant.{ApplicantState, ApplicantEvent, tx, txLA, applicantRow, applicantColumn, applicantEntry, by, isWritten, messageNumber, opportunity, Standing, named, sent, speaks, spoken, stateOf, octetOf, asks, eventAt}
 use Rattle.model.specs.Machines.{Listed, Applicant, noApplicant, applicant, way}
@@ -20,7 +21,7 @@ use Rattle.model.specs.Registrations.{Kind, advertises, faileds, listeners, ids
 use Rattle.model.specs.Frames.{Attribute, registers, domainType}
 use Rattle.model.specs.WrittenFrames.{fixedNumbers}
 use Rattle.model.specs.Sending.{standingNumber}
-use Rattle.model.specs.Table.{talkerTypeNumber, leavingNumber, sinceNumber, talkerNumbers, listenerNumbers, cellNumbers, cellOctets, toCell, domainNumbers, domainOctets, toDomain}
+use Rattle.model.specs.Table.{talkerTypeNumber, leavingNumber, sinceNumber, talkerNumbers, listenerNumbers, cellNumbers, cellOctets, toCell, domainNumbers, domainOctets, toDomain, decode}
 use Rattle.model.specs.Declarations.{Declaration, talkerKind, Said, say, listedAs, advertiseOf, failedOf, listenerDeclaration, declarationsOf, domainOf, registeredOf, isRegistered}
 use Rattle.model.specs.Writing.{leavesAll, portWay, sayOn}
 use Rattle.model.specs.Laid.{Ascending}
@@ -31,7 +32,9 @@ use Rattle.model.proofs.Owns.{fit-back}
 use Rattle.model.proofs.ApplicantEntries.{octet-back}
 use Rattle.model.proofs.ApplicantOctets.{standing-few}
 use Rattle.model.proofs.WritingPasses.{all-listed}
+use Rattle.table.specs.Places.{SlotIn}
 use Rattle.table.specs.Reads.{ReadsCell, ReadsDomain}
+use Rattle.table.proofs.OwnParts.{slot-at}
 use Rattle.declarations.specs.Vectors.{some}
 use Rattle.declarations.specs.Passes.{declarers, machineBy, stateNumber, registeredBy, talkerOf, saidOf, saidBy, eventIn}
 use Rattle.declarations.proofs.Declared.{one-machine}
@@ -219,3 +222,10 @@ domain-octets {s = s} {d = d} w =
     let fits = subst (λ (e : Domain). Fit slotWidths (domainNumbers e)) same (w .laid .fits) in
     domain-number d
     ∙ sym (rw (is) (rw (get-octet slotWidths (domainNumbers d) fits slotIndex.registered refl, get-octet slotWidths (domainNumbers d) fits slotIndex.leaves refl) refl))
+
+-- of a Domain value where it stands in the table
+pub slot-octets : {t : List ℕ} {p k : ℕ} → SlotIn t p k → (a : ℕ) → a ≡ slotPlace p k
+    → domainStays (getD (ownAt (decode t .owns) p .domains) k noDomain) ≡ cond (eqb (getD t (a + slotIndex.registered) 0) 0) false (eqb (getD t (a + inSlot.leaves) 0) 0)
+slot-octets {t = t} {p = p} {k = k} w a e =
+    domain-octets (slot-at w)
+    ∙ rw (e, getD-part (slotPlace p k) slotSize slotIndex.registered t (omega arith), getD-part (slotPlace p k) slotSize inSlot.leaves t (omega arith))

@@ -22,11 +22,17 @@ use Rattle.model.specs.Sending.{standingNumber, applicantOctets, bothOctets, of
 use Rattle.model.specs.Declarations.{Declaration, talkerKind, attributeOf, listenerDeclaration, Said, listedAs, advertiseOf, failedOf, declarationsOf, domainOf, say}
 use Rattle.model.specs.Writing.{sayOn}
 use Rattle.model.proofs.Cells.{ready-number}
+use Rattle.model.proofs.Fits.{laid-sends-is}
 use Rattle.model.proofs.ApplicantOctets.{applicant-length}
+use Rattle.table.specs.Reads.{ReadsSends}
 use Rattle.declarations.specs.Vectors.{some, headed, firstEvent, talkerVector, domainVector}
 use Rattle.declarations.specs.Passes.{machineBy, stateNumber, saidOf, saidBy, vectors, eventIn}
 use Rattle.declarations.specs.Packed.{firstSaid, listenerAt}
 use Rattle.declarations.proofs.States.{said-there, none-said}
+
+-- what was read
+pub sends-is : {s : List ℕ} {x : Sends} → ReadsSends s x → s ≡ sendsOctets x
+sends-is {s = s} w = laid-sends-is s (w .laid) ∙ ap sendsOctets (w .is)
 
 -- Lengths.
 

@@ -1,38 +1,45 @@
 -- What is written one behind the other into the caller's buffer: a vector, a Message with LeaveAll or without it, and what the passes leave,
 -- which is the PDU of the declarations that it takes, and the buffer's own octets behind it.
-use Prim.Native.Nat.{ℕ, _+_, _-_, _*_, _%_, _^_, _≤_, _<_}
+use Prim.Native.Nat.{ℕ, _+_, _-_, _*_, _/_, _%_, _^_, _≤_, _<_}
 use native.Mathlib.Omega.{arith}
 use mathlib.Core.Path.{_≡_, refl, sym, ap, _∙_}
 use mathlib.Core.Bool.{Bool, true, false, cond}
 use mathlib.Core.List.{List, [], _∷_, _++_, map, append-nil, append-assoc}
-use lib.ListN.{length, set, take, drop, length-append, take-append-drop, drop-of-length-le, List·getD-append}
+use lib.ListN.{length, set, take, drop, length-append, length-drop, take-append-drop, drop-of-length-le, List·getD-append}
+use lib.Dec.{ltb}
 use lib.Seq.{take-at, take-nil, drop-at, drop-nil, drop-drop, length-take-le}
 use Rattle.octets.specs.Parts.{part, patch, zeros}
 use Rattle.octets.specs.Fields.{flat}
 use Rattle.octets.specs.Be.{be, beAt}
-use Rattle.octets.proofs.Parts.{length-part, length-patch}
+use Rattle.octets.proofs.Parts.{lent-part, length-part, length-patch, patch-none}
 use Rattle.octets.proofs.Patches.{lent-patch}
 use Rattle.octets.proofs.Be.{length-be, be-zero, beAt-be, beAt-ext}
-use Rattle.model.specs.FrameLayout.{longestPdu}
+use Rattle.model.specs.FrameLayout.{listenerLength, longestPdu}
 use Rattle.model.specs.Lists.{All, bit}
 use Rattle.model.specs.Machines.{Listed}
 use Rattle.model.specs.Places.{saying, reached, writeFrom}
 use Rattle.model.specs.State.{Bridge, senderAt}
 use Rattle.model.specs.Registrations.{advertises, faileds, listeners}
-use Rattle.model.specs.Frames.{Attribute, registers, domainType, typeNumber, firstLength, Vector}
+use Rattle.model.specs.Frames.{Attribute, registers, domainType, typeNumber, firstLength, threeLength, fourLength, Vector}
 use Rattle.model.specs.Cutting.{values, octetsFor}
 use Rattle.model.specs.Best.{best, bests}
 use Rattle.model.specs.Declarations.{Declaration, Said, attributeOf, declaredIds, sameAttribute, having, domainValues, declarations, emptySize, messageSize, fitting, takes}
 use Rattle.model.specs.Writing.{leavesAll, portWay, sayOn, takesOn, wroteOn, endOn}
 use Rattle.model.specs.WrittenFrames.{declarationVector, packedVector, cutAs, listenerParts, vectorsOf, vectorOctets, messageOf, withLeaveAll, emptyVector, leavingAll, vectorsSaid, messageOctets, pduOctets}
 use Rattle.model.specs.Table.{decode}
-use Rattle.model.proofs.Lists.{all-map, all-append}
-use Rattle.model.proofs.WritingPasses.{Typed, listedType, inTurn, OfAttribute, having-append, length-packed, length-message, map-take, takes-within}
+use Rattle.model.proofs.Lists.{all-map, all-append, all-take}
+use Rattle.model.proofs.Parts.{length-zeros, zeros-add}
+use Rattle.model.proofs.WritingPasses.{Typed, listedType, inTurn, OfAttribute, having-append, length-packed, message-least, length-message, map-take, takes-within}
 use Rattle.declarations.specs.declared.Progress.{Progress}
 use Rattle.declarations.specs.declared.Taken.{Taken}
+use Rattle.declarations.specs.declared.Message.{Message}
+use Rattle.declarations.specs.declared.Start.{Start}
 use Rattle.declarations.specs.Vectors.{Holding, announced}
-use Rattle.declarations.specs.Passes.{allOf, saidOf, vectors, Single, earlier, later, message, taken, said, passed, written, begun, PassLeaves, runOn, pduOn, PduWritten}
-use Rattle.declarations.proofs.Fitting.{of-type, taken-type, passed-at, runFrom, remaining, reaching, pass-takes, pass-reaches, pass-after}
+use Rattle.table.specs.Places.{PortIn}
+use Rattle.declarations.specs.Passes as passes
+use Rattle.declarations.specs.Passes.{allOf, saidOf, machinesFrom, saidFrom, vectors, Single, StartsAt, earlier, later, message, fit, Room, MessageWritten, rest, taken, said, passed, written, PassIn, PassLeaves, begun, runOn, pduOn, PduWritten}
+use Rattle.declarations.proofs.Declared.{said-is}
+use Rattle.declarations.proofs.Fitting.{fitting-within, fit-none, if-open, if-full, of-type, taken-type, runFrom, remaining, reaching, pass-takes, pass-reaches, pass-after}
 
 -- Octets written behind others.
 
@@ -137,6 +144,76 @@ pub message-none : (k : Attribute) → message false k [] ≡ []
 unfolding message vectorsSaid
 message-none k = rw (no-vectors k) (unfold messageOctets in refl)
 
+-- what is left where nothing is said of a type: no Message
+pub nothing-written : (all : Bool) (k : Attribute) (at : ℕ) (c : List ℕ) → emptySize all k ≡ 0 → earlier all k ≤ at → at + emptySize all k + (2 + later all k) ≤ longestPdu
+    → MessageWritten all k [] at c (record { count = 0; end = at }) c
+nothing-written all k at c none after room =
+    let nothing : message all k (fit all k at []) ≡ [] = ap (message all k) (fit-none all k at .1) ∙ go all none in
+    let e : length (message all k (fit all k at [])) ≡ 0 = ap length nothing in
+    record {
+      count = sym (fit-none all k at .0);
+      end = omega (arith, e);
+      buffer = sym (rw nothing (patch-none at c));
+      after = omega (arith, none, after);
+      room = omega (arith, room);
+    }
+  where
+    go : (t : Bool) → emptySize t k ≡ 0 → message t k [] ≡ []
+    go false e = message-none k
+    go true e = absurd (unfold emptySize in (omega (arith, e)))
+
+zeros-inside : (m n : ℕ) → n ≡ 4 + (m + 2) → part 4 (length (zeros n) - 6) (zeros n) ≡ zeros m
+unfolding part
+zeros-inside m n q =
+    let i : length (zeros n) - 6 ≡ m = omega (arith, length-zeros n, q) in
+    rw (i, q, zeros-add 4 (m + 2), drop-at (zeros 4) (zeros (m + 2)) 4 (length-zeros 4), zeros-add m 2, take-at (zeros m) (zeros 2) m (length-zeros m))
+
+patched : (at n : ℕ) (y s : List ℕ) → at + n ≤ length s → (take at (patch at n y s) ≡ take at s) × (drop at (patch at n y s) ≡ y ++ drop n (drop at s))
+unfolding patch
+patched at n y s h =
+    let front : length (take at s) ≡ at = length-take-le at s (omega arith) in
+    (take-at (take at s) (y ++ drop n (drop at s)) at front, drop-at (take at s) (y ++ drop n (drop at s)) at front)
+
+part-patched : (at n : ℕ) (y s : List ℕ) → length y ≡ n → at + n ≤ length s → part at n (patch at n y s) ≡ y
+unfolding part
+part-patched at n y s l h = rw (patched at n y s h .1) (take-at y (drop n (drop at s)) n l)
+
+patch-twice : (at n : ℕ) (y z s : List ℕ) → length z ≡ n → at + n ≤ length s → patch at n y (patch at n z s) ≡ patch at n y s
+patch-twice at n y z s l h =
+    let e : patch at n y (patch at n z s) ≡ take at (patch at n z s) ++ (y ++ drop n (drop at (patch at n z s))) = unfold patch in refl in
+    e
+    ∙ rw (patched at n z s h .0, patched at n z s h .1, drop-at z (drop n (drop at s)) n l) (unfold patch in refl)
+
+-- or one that only carries LeaveAll
+pub empty-written : (all : Bool) (k : Attribute) (at : ℕ) (c : List ℕ) (size : ℕ) → size ≡ emptySize all k → (size ≡ 0 → ⊥) → earlier all k ≤ at
+    → at + emptySize all k + (2 + later all k) ≤ longestPdu → longestPdu ≤ length c → (d : List ℕ) → d ≡ patch at size (zeros size) c → (y : List ℕ)
+    → (let lent = take (at + size - at) (drop at d) in y ≡ messageOf k (announced all (part 4 (length lent - 6) lent) ++ (0 ∷ 0 ∷ [])))
+    → MessageWritten all k [] at c (record { count = 0; end = at + size }) (take at d ++ (y ++ drop (at + size - at) (drop at d)))
+empty-written false k at c size z some after room long d e y h = absurd (some (z ∙ unfold emptySize in refl))
+empty-written true k at c size z some after room long d e y h =
+    let inside : at + size ≤ length c = omega (arith, room, long, z) in
+    let length-z : length (zeros size) ≡ size = length-zeros size in
+    let lent : take (at + size - at) (drop at d) ≡ zeros size = lent-part at size d ∙ ap (part at size) e ∙ part-patched at size (zeros size) c length-z inside in
+    let F : ℕ = firstLength k in
+    let full : size ≡ 4 + ((2 + F) + 2) = z ∙ unfold emptySize in (omega arith) in
+    let list : part 4 (length (take (at + size - at) (drop at d)) - 6) (take (at + size - at) (drop at d)) ≡ zeros (2 + F) =
+    ap (λ (l : List ℕ). part 4 (length l - 6) l) lent ∙ zeros-inside (2 + F) size full in
+    let is : y ≡ message true k [] = h ∙ ap (λ (v : List ℕ). messageOf k (announced true v ++ (0 ∷ 0 ∷ []))) list ∙ message-empty k in
+    let fits : message true k (fit true k at []) ≡ message true k [] = ap (message true k) (fit-none true k at .1) in
+    let message-long : length (message true k []) ≡ size = length-message true k [] tt ∙ unfold messageSize in (sym z) in
+    record {
+      count = sym (fit-none true k at .0);
+      end = omega (arith, ap length fits, message-long);
+      buffer =
+          lent-patch at size y d
+          ∙ ap (λ (v : List ℕ). patch at size v d) is
+          ∙ ap (patch at size (message true k [])) e
+          ∙ patch-twice at size (message true k []) (zeros size) c length-z inside
+          ∙ rw (fits, message-long) refl;
+      after = omega (arith, after, z);
+      room = omega (arith, room, z);
+    }
+
 -- A Message of some vectors that stand in their place.
 
 some-vectors : (k : Attribute) (run : List Said) → All (OfAttribute k) run → 1 ≤ length run → 1 ≤ length (vectorsOf k run)
@@ -157,18 +234,37 @@ pub message-around : (all : Bool) (k : Attribute) (run : List Said) (v : List �
 unfolding message vectorsSaid
 message-around all k run v own some plain e = rw e (message-announced all k (vectorsOf k run) (some-vectors k run own some) plain)
 
--- as a call leaves them that was lent their place
-pub lent-vectors : (all : Bool) (k : Attribute) (run : List Said) (n : ℕ) (y out : List ℕ) → length y ≡ n → 4 + n + 2 ≡ length out
-    → All (OfAttribute k) run → 1 ≤ length run → All Plain (vectorsOf k run) → y ≡ flat vectorOctets (vectorsOf k run)
-    → let now = take 4 out ++ (y ++ drop (4 + n - 4) (drop 4 out)) in
-    messageOf k (announced all (part 4 (length now - 6) now) ++ (0 ∷ 0 ∷ [])) ≡ message all k run
+-- as two calls leave them that were lent their place, one for the vectors and one for LeaveAll
+lent-list : (n : ℕ) (y out : List ℕ) → length y ≡ n → 4 + n + 2 ≡ length out
+    → let now = take 4 out ++ (y ++ drop (4 + n - 4) (drop 4 out)) in part 4 (length now - 6) now ≡ y
 unfolding part
-lent-vectors all k run n y out l m own some plain e =
+lent-list n y out l m =
     let h : 4 + n ≤ length out = omega arith in
     let rest = drop (4 + n - 4) (drop 4 out) in
     let front : length (take 4 out) ≡ 4 = length-take-le 4 out (omega arith) in
     let i : length (take 4 out ++ (y ++ rest)) - 6 ≡ n = omega (arith, ap length (lent-patch 4 n y out), length-patch 4 n y out l h) in
-    rw (i, drop-at (take 4 out) (y ++ rest) 4 front, take-at y rest n l) (message-around all k run y own some plain e)
+    rw (i, drop-at (take 4 out) (y ++ rest) 4 front, take-at y rest n l)
+
+announced-length : (all : Bool) (v : List ℕ) → 2 ≤ length v → length (announced all v) ≡ length v
+unfolding announced
+announced-length true v h = length-append (be 2 (beAt 2 v 0 + 8192)) (drop 2 v) ∙ omega (arith, length-be 2 (beAt 2 v 0 + 8192), length-drop 2 v)
+announced-length false v h = refl
+
+pub lent-announced : (all : Bool) (k : Attribute) (n : ℕ) (y out : List ℕ) → 8 ≤ length out → n ≡ length out - 6 → y ≡ announced all (part 4 n out)
+    → let now = take 4 out ++ (y ++ drop (4 + n - 4) (drop 4 out)) in
+    messageOf k (part 4 (length now - 6) now ++ (0 ∷ 0 ∷ [])) ≡ messageOf k (announced all (part 4 (length out - 6) out) ++ (0 ∷ 0 ∷ []))
+lent-announced all k n y out h m e =
+    let long : length (part 4 n out) ≡ n = length-part 4 n out (omega (arith, m, h)) in
+    let y-long : length y ≡ n = ap length e ∙ announced-length all (part 4 n out) (omega (arith, long, m, h)) ∙ long in
+    ap (λ (v : List ℕ). messageOf k (v ++ (0 ∷ 0 ∷ [])))
+    (lent-list n y out y-long (omega (arith, m, h)) ∙ e ∙ ap (λ (i : ℕ). announced all (part 4 i out)) m)
+
+pub lent-vectors : (all : Bool) (k : Attribute) (run : List Said) (n : ℕ) (y out : List ℕ) → length y ≡ n → 4 + n + 2 ≡ length out
+    → All (OfAttribute k) run → 1 ≤ length run → All Plain (vectorsOf k run) → y ≡ flat vectorOctets (vectorsOf k run)
+    → let now = take 4 out ++ (y ++ drop (4 + n - 4) (drop 4 out)) in
+    messageOf k (announced all (part 4 (length now - 6) now) ++ (0 ∷ 0 ∷ [])) ≡ message all k run
+lent-vectors all k run n y out l m own some plain e =
+    ap (λ (v : List ℕ). messageOf k (announced all v ++ (0 ∷ 0 ∷ []))) (lent-list n y out l m) ∙ message-around all k run y own some plain e
 
 -- one vector each
 vectors-each : (l : List Said) → flat (λ d. vectorOctets (declarationVector d)) l ≡ flat vectorOctets (map declarationVector l)
@@ -188,17 +284,114 @@ singles-vectors (registers listeners) s run = absurd s
 singles-vectors domainType s run = (vectors-each run, each-plain run)
 
 -- Listeners packed in at most so many octets
+part-plain : (g : List Said) → values (declaredIds g) < 65536 → Plain (packedVector g)
+unfolding packedVector
+part-plain g h = (refl, h)
+
 parts-plain : (g : List (List Said)) (n : ℕ) → length (flat vectorOctets (map packedVector g)) ≤ n → n ≤ longestPdu → All Plain (map packedVector g)
 parts-plain [] n h m = tt
 parts-plain (g ∷ gs) n h m =
     let both = length-append (vectorOctets (packedVector g)) (flat vectorOctets (map packedVector gs)) in
     let e : length (flat vectorOctets (map packedVector (g ∷ gs))) ≡ length (vectorOctets (packedVector g) ++ flat vectorOctets (map packedVector gs)) = unfold flat in refl in
-    let small : values (declaredIds g) < 65536 = unfold octetsFor in (omega (arith, both, e, length-packed g, h, m)) in
-    (unfold packedVector in (refl, small), parts-plain gs n (omega (arith, both, e)) m)
+    let v : ℕ = values (declaredIds g) in
+    let long : octetsFor v ≡ 2 + listenerLength + threeLength v + fourLength true v = unfold octetsFor in refl in
+    let threes : threeLength v ≡ (v + 2) / 3 = unfold threeLength in refl in
+    let small : v < 65536 = omega (arith, both, e, length-packed g, long, threes, h, m) in
+    (part-plain g small, parts-plain gs n (omega (arith, both, e)) m)
 
 pub packed-plain : (run : List Said) → length (flat vectorOctets (vectorsOf (registers listeners) run)) ≤ longestPdu → All Plain (vectorsOf (registers listeners) run)
 unfolding vectorsOf
 packed-plain run h = parts-plain (listenerParts run) longestPdu h (omega arith)
+
+-- What a pass leaves of its Message.
+
+-- none of those that are to say fits
+pub none-fits : (all : Bool) (k : Attribute) (l : List Said) (at : ℕ) {c d : List ℕ} {r : Message} → passes.fitting all k at l ≡ 0
+    → MessageWritten all k [] at c r d → MessageWritten all k l at c r d
+none-fits all k l at e w =
+    let same : fit all k at [] ≡ fit all k at l = fit-none all k at .1 ∙ sym (unfold fit in (rw e)) in
+    record {
+      count = w .count ∙ fit-none all k at .0 ∙ sym e;
+      end = w .end ∙ ap (λ (m : List Said). at + length (message all k m)) same;
+      buffer = w .buffer ∙ ap (λ (m : List Said). patch at (length (message all k m)) (message all k m) _) same;
+      after = w .after;
+      room = w .room;
+    }
+
+-- n of them do
+pub some-fit : (all : Bool) (k : Attribute) (l : List Said) → All (OfAttribute k) l → (at n long : ℕ) (c y : List ℕ) → n ≡ passes.fitting all k at l
+    → length (message all k (take n l)) ≡ long → y ≡ message all k (take n l) → earlier all k ≤ at → at + long + (2 + later all k) ≤ longestPdu
+    → MessageWritten all k l at c (record { count = n; end = at + long }) (take at c ++ (y ++ drop (at + long - at) (drop at c)))
+some-fit all k l own at n long c y e m is after room =
+    let same : take n l ≡ fit all k at l = unfold fit in (ap (λ (i : ℕ). take i l) e) in
+    let least : emptySize all k ≤ long = omega (arith, message-least all k (take n l), length-message all k (take n l) (all-take (OfAttribute k) n l own), sym m ∙ unfold message in refl) in
+    record {
+      count = e;
+      end = ap (λ (i : ℕ). at + i) (sym m ∙ ap (λ (r : List Said). length (message all k r)) same);
+      buffer = lent-patch at long y c ∙ ap (λ (v : List ℕ). patch at long v c) is ∙ rw (← m) (ap (λ (r : List Said). patch at (length (message all k r)) (message all k r) c) same);
+      after = omega (arith, least, after);
+      room = room;
+    }
+
+-- The pass of a type, where the PDU is full and where it is not.
+module _ (t : List ℕ) (p : ℕ) (k : Attribute) (s : Progress) {c d : List ℕ} {m : Message} where
+  progress-is : {a a₂ i i₂ e e₂ : ℕ} {f f₂ : Bool} → a ≡ a₂ → i ≡ i₂ → e ≡ e₂ → f ≡ f₂
+      → _≡_ {A = Progress} (record { at = a; skip = i; end = e; full = f }) (record { at = a₂; skip = i₂; end = e₂; full = f₂ })
+  progress-is q₁ q₂ q₃ q₄ = rw (q₁, q₂, q₃, q₄)
+
+  pub pass-full : s .full ≡ true → MessageWritten (leavesAll (decode t) p) k [] (s .at) c m d
+      → PassLeaves t p k s c (record { at = m .end; skip = 0; end = s .end; full = true }) d
+  pass-full full w =
+      let b = decode t in
+      let none : rest b p k s ≡ [] = unfold rest in (rw full) in
+      let same : fit (leavesAll b p) k (s .at) [] ≡ taken b p k s = unfold taken in (ap (fit (leavesAll b p) k (s .at)) (sym none)) in
+      let message-is : message (leavesAll b p) k (fit (leavesAll b p) k (s .at) []) ≡ said b p k s = unfold said in (ap (message (leavesAll b p) k) same) in
+      record {
+        progress =
+            progress-is (w .end ∙ ap (λ (v : List ℕ). s .at + length v) message-is) (sym (if-full 0 _ full)) (sym (ap (λ (i : ℕ). s .end + i) (if-full 0 _ full) ∙ omega arith)) (sym (if-full true _ full))
+            ∙ unfold passed in refl;
+        buffer = w .buffer ∙ ap (λ (v : List ℕ). patch (s .at) (length v) v c) message-is ∙ unfold written in refl;
+        after = w .after;
+        room = w .room;
+        end = omega arith;
+      }
+
+  pub pass-open : s .full ≡ false → {x : Start} → StartsAt t p k (s .skip) x → {left r : ℕ} → left ≡ length (saidFrom k p (decode t) (x .first))
+      → MessageWritten (leavesAll (decode t) p) k (saidFrom k p (decode t) (x .first)) (s .at) c m d
+      → r ≡ length (reached (portWay (decode t) p .says) (m .count) (machinesFrom k p (decode t) (x .first))) → r ≤ 64
+      → PassLeaves t p k s c (record { at = m .end; skip = x .skip; end = s .end + r; full = ltb (m .count) left }) d
+  pass-open unfilled {x = x} start {left = left} {r = r} counted w reaches few =
+      let b = decode t in
+      let all = leavesAll b p in
+      let from-is : saidFrom k p b (x .first) ≡ rest b p k s = said-is k p b (x .first) ∙ ap (saidOf b p) (start .rest) ∙ sym (unfold rest in (if-open [] _ unfilled)) in
+      let same : fit all k (s .at) (saidFrom k p b (x .first)) ≡ taken b p k s = unfold taken in (ap (fit all k (s .at)) from-is) in
+      let message-is : message all k (fit all k (s .at) (saidFrom k p b (x .first))) ≡ said b p k s = unfold said in (ap (message all k) same) in
+      let taken-long : m .count ≡ length (taken b p k s) =
+      w .count ∙ sym (length-take-le _ _ (fitting-within all (s .at + 2 - earlier all k) (saidFrom k p b (x .first)))) ∙ ap length (unfold fit passes.fitting in refl ∙ same) in
+      record {
+        progress =
+            progress-is (w .end ∙ ap (λ (v : List ℕ). s .at + length v) message-is) (start .left ∙ sym (if-open 0 _ unfilled))
+            (ap (λ (i : ℕ). s .end + i) (reaches ∙ ap (λ (l : List (Listed Declaration)). length (reached (portWay b p .says) (m .count) l)) (start .rest) ∙ ap (λ (i : ℕ). length (reached (portWay b p .says) i (drop (s .skip) (allOf k p b)))) taken-long ∙ sym (if-open 0 _ unfilled)))
+            (ap (ltb (m .count)) (counted ∙ ap length from-is) ∙ ap (λ (i : ℕ). ltb i (length (rest b p k s))) taken-long ∙ sym (if-open true _ unfilled))
+            ∙ unfold passed in refl;
+        buffer = w .buffer ∙ ap (λ (v : List ℕ). patch (s .at) (length v) v c) message-is ∙ unfold written in refl;
+        after = w .after;
+        room = w .room;
+        end = omega arith;
+      }
+
+-- before the first pass, and before a pass that follows one
+pub first-room : (all : Bool) → Room all (registers advertises) 1
+unfolding emptySize later firstLength
+first-room true = omega arith
+first-room false = omega arith
+
+pub next-pass : (t : List ℕ) (p : ℕ) (k j : Attribute) {s r : Progress} {c d : List ℕ} → PortIn t p
+    → earlier (leavesAll (decode t) p) j ≡ earlier (leavesAll (decode t) p) k + emptySize (leavesAll (decode t) p) k
+    → later (leavesAll (decode t) p) k ≡ emptySize (leavesAll (decode t) p) j + later (leavesAll (decode t) p) j → PassLeaves t p k s c r d → r .end ≤ 1000 → longestPdu ≤ length d
+    → PassIn t p j r d
+next-pass t p k j port e l w end long =
+    record { message = record { port = port; after = omega (arith, e, w .after); room = omega (arith, l, w .room); buffer = long }; end = end }
 
 -- The Messages of a PDU, type by type.
 
@@ -395,24 +588,24 @@ module _ (p place : ℕ) (b : Bridge) where
       (pass-reaches b p (registers listeners) behind₃ later₃ s₃ after₃
       ∙ rw next₃ (pass-reaches b p domainType [] tt s₄ after₄ ∙ omega (arith, nothing-left s₅ last .1))))
 
-  abbrev rest : List Said
-  rest = saidOf b p (drop place (declarations b p))
+  abbrev toSay : List Said
+  toSay = saidOf b p (drop place (declarations b p))
 
-  begun-takes : remaining b p s₁ (earlier all (registers advertises)) (declarations b p) ≡ take (takes all rest) rest
+  begun-takes : remaining b p s₁ (earlier all (registers advertises)) (declarations b p) ≡ take (takes all toSay) toSay
   unfolding remaining runFrom begun takes earlier
   begun-takes = refl
 
-  run-is : runOn b p place ≡ take (takes all rest) rest
+  run-is : runOn b p place ≡ take (takes all toSay) toSay
   unfolding runOn wroteOn writeFrom takesOn saidOf
-  run-is = map-take (sayOn b p) (takes all rest) (saying (portWay b p .says) (drop place (declarations b p)))
+  run-is = map-take (sayOn b p) (takes all toSay) (saying (portWay b p .says) (drop place (declarations b p)))
 
   pub run-passes : runOn b p place ≡ inTurn took
   run-passes = run-is ∙ sym begun-takes ∙ ap (remaining b p s₁ (earlier all (registers advertises))) (sym declared) ∙ remaining-all
 
   begun-reaches : s₁ .end + reaching b p s₁ (earlier all (registers advertises)) (declarations b p) ≡ endOn b p place
   begun-reaches =
-      let n : length (remaining b p s₁ (earlier all (registers advertises)) (declarations b p)) ≡ takes all rest =
-      ap length begun-takes ∙ length-take-le (takes all rest) rest (takes-within all rest) in
+      let n : length (remaining b p s₁ (earlier all (registers advertises)) (declarations b p)) ≡ takes all toSay =
+      ap length begun-takes ∙ length-take-le (takes all toSay) toSay (takes-within all toSay) in
       let l = drop place (declarations b p) in
       let e : reaching b p s₁ (earlier all (registers advertises)) (declarations b p) ≡ length (reached (portWay b p .says) (length (remaining b p s₁ (earlier all (registers advertises)) (declarations b p))) l) =
       unfold reaching begun in refl in

@@ -101,7 +101,7 @@ pub record CutIn (t : List ℕ) (p : ℕ) (places firsts : List ℕ) (room : ℕ
 -- their Message in at most a PDU's octets
 pub record ListenersIn (t : List ℕ) (p : ℕ) (places firsts out : List ℕ) : Type 0 where
   pub port : PortIn t p
-  pub around : 6 ≤ length out
+  pub some : 8 ≤ length out
   pub short : length out ≤ longestPdu
   pub any : 0 < length places
   pub cut : (room : ℕ) → room + 6 ≡ length out → CutIn t p places firsts room

@@ -90,7 +90,7 @@ const EMPTY: usize = AROUND + FIRST;
 const OCTET_WEIGHS: u16 = 65;
 
 // The worth of an event as the first of three packed ones.
-const FIRST_EVENT: u8 = 36;
+const FIRST_EVENT: u64 = 36;
 
 // The types of declarations, in the order in which they are written.
 pub enum Attribute {
@@ -414,10 +414,15 @@ fn write_talker(table: &[u8], k: usize, p: usize, from: usize, event: u8, out: &
     requires { ⌜ TalkerIn (now table) k p from (length (now out) - (3 + inFirstValue.destination)) (now out) × (event ≤ 5) ⌝ }
     ensures { λ _. ⌜ now (out .exit) ≡ talkerVector from (length (now (out .entry)) - (3 + inFirstValue.destination)) event p (streamAt k (decode (now (table .entry)))) ⌝ }
 {
-    let events = out.len() - EVENTS;
+    let more = out.len() - (BEHIND_ID + EVENTS);
     begin_vector(1, table::id_at(table, k), out);
-    copy_offer(table, k, p, from, &mut out[BEHIND_ID..events]);
-    out[events] = event * FIRST_EVENT;
+    copy_offer(table, k, p, from, &mut out[BEHIND_ID..BEHIND_ID + more]);
+    octets::put(
+        out,
+        BEHIND_ID + more,
+        EVENTS,
+        event as u64 * FIRST_EVENT,
+    );
 }
 
 // The vector of the Domain value of slot k: class ID, priority, VLAN.
@@ -435,7 +440,12 @@ fn write_domain(table: &[u8], k: usize, event: u8, out: &mut [u8])
         VLAN,
         table::domain_vlan(table),
     );
-    out[FIRST + DOMAIN_LENGTH] = event * FIRST_EVENT;
+    octets::put(
+        out,
+        FIRST + DOMAIN_LENGTH,
+        EVENTS,
+        event as u64 * FIRST_EVENT,
+    );
 }
 
 // The vector of what is said of a type by the declarer at place k; Listeners are packed instead.
@@ -551,10 +561,14 @@ fn write_none(table: &[u8], p: usize, attribute: Attribute, at: usize, buffer: &
     ensures { λ r. ⌜ MessageWritten (leavesAll (decode (now (table .entry))) p) (type attribute) [] at (now (buffer .entry)) r (now (buffer .exit)) ⌝ }
 {
     let size = empty_size(attribute, leaves_all(table, p));
-    if 0 < size {
-        octets::clear(buffer, at, size);
-        finish(table, p, attribute, &mut buffer[at..at + size]);
+    if size == 0 {
+        return Message {
+            count: 0,
+            end: at,
+        };
     }
+    octets::clear(buffer, at, size);
+    finish(table, p, attribute, &mut buffer[at..at + size]);
     Message {
         count: 0,
         end: at + size,
