@@ -107,12 +107,12 @@ longest-fits size some (suc left) used = go (leb (used + size) longestPdu) refl 
         ∙ omega (arith, fits-more used size some left (leb-true (used + size) longestPdu e))
     go false e ih = longest-stops test 0 left (one ∙ e) ∙ sym (fits-over used size some left (leb-false (used + size) longestPdu e))
 
-vector-some : (k : Attribute) → 0 < vectorSize k
+pub vector-least : (k : Attribute) → 7 ≤ vectorSize k
 unfolding vectorSize
-vector-some (registers advertises) = omega arith
-vector-some (registers faileds) = omega arith
-vector-some (registers listeners) = omega arith
-vector-some domainType = omega arith
+vector-least (registers advertises) = omega arith
+vector-least (registers faileds) = omega arith
+vector-least (registers listeners) = omega arith
+vector-least domainType = omega arith
 
 not-listeners : (k : Attribute) → Single k → k ≡ registers listeners → ⊥
 not-listeners k s e = rw e at s
@@ -146,7 +146,7 @@ module _ (all : Bool) (k : Attribute) (one : Single k) (l : List Said) (own : Al
   single-number =
       (rw (z, ← d, ← used-is all k at after) at f)
       ∙ sym (fitting-single all (at + 2 - earlier all k) k l own (not-listeners k one)
-      ∙ longest-fits (vectorSize k) (vector-some k) (length l) (at + 2 - earlier all k + othersSize all k + 6))
+      ∙ longest-fits (vectorSize k) (omega (arith, vector-least k)) (length l) (at + 2 - earlier all k + othersSize all k + 6))
 
   -- the octets of their Message
   pub single-length : (n ≡ 0 → ⊥) → length (message all k (take n l)) ≡ 6 + n * size
@@ -161,6 +161,10 @@ module _ (all : Bool) (k : Attribute) (one : Single k) (l : List Said) (own : Al
 pub fitting-within : (all : Bool) (used : ℕ) (l : List Said) → model.fitting all used l ≤ length l
 unfolding model.fitting
 fitting-within all used l = omega (arith, longest-within (fitsWith all used l) 0 (length l) .1)
+
+pub fit-long : (all : Bool) (k : Attribute) (at : ℕ) (l : List Said) → length (fit all k at l) ≡ fitting all k at l
+unfolding fit fitting
+fit-long all k at l = length-take-le (model.fitting all (at + 2 - earlier all k) l) l (fitting-within all (at + 2 - earlier all k) l)
 
 -- nothing to say
 pub fit-none : (all : Bool) (k : Attribute) (at : ℕ) → (fitting all k at [] ≡ 0) × (fit all k at [] ≡ [])

@@ -39,7 +39,7 @@ use Rattle.table.specs.Places.{PortIn}
 use Rattle.declarations.specs.Passes as passes
 use Rattle.declarations.specs.Passes.{allOf, saidOf, machinesFrom, saidFrom, vectors, Single, StartsAt, earlier, later, message, fit, Room, MessageWritten, rest, taken, said, passed, written, PassIn, PassLeaves, begun, runOn, pduOn, PduWritten}
 use Rattle.declarations.proofs.Declared.{said-is}
-use Rattle.declarations.proofs.Fitting.{fitting-within, fit-none, if-open, if-full, of-type, taken-type, runFrom, remaining, reaching, pass-takes, pass-reaches, pass-after}
+use Rattle.declarations.proofs.Fitting.{fit-long, fit-none, if-open, if-full, of-type, taken-type, runFrom, remaining, reaching, pass-takes, pass-reaches, pass-after}
 
 -- Octets written behind others.
 
@@ -144,6 +144,15 @@ pub message-none : (k : Attribute) → message false k [] ≡ []
 unfolding message vectorsSaid
 message-none k = rw (no-vectors k) (unfold messageOctets in refl)
 
+pub message-length : (all : Bool) (k : Attribute) (l : List Said) → All (OfAttribute k) l → length (message all k l) ≡ messageSize all k l
+unfolding message
+message-length all k l own = length-message all k l own
+
+pub empty-least : (all : Bool) (k : Attribute) → (emptySize all k ≡ 0 → ⊥) → 8 ≤ emptySize all k
+unfolding emptySize
+empty-least true k h = omega arith
+empty-least false k h = absurd (h refl)
+
 -- what is left where nothing is said of a type: no Message
 pub nothing-written : (all : Bool) (k : Attribute) (at : ℕ) (c : List ℕ) → emptySize all k ≡ 0 → earlier all k ≤ at → at + emptySize all k + (2 + later all k) ≤ longestPdu
     → MessageWritten all k [] at c (record { count = 0; end = at }) c
@@ -200,7 +209,8 @@ empty-written true k at c size z some after room long d e y h =
     ap (λ (l : List ℕ). part 4 (length l - 6) l) lent ∙ zeros-inside (2 + F) size full in
     let is : y ≡ message true k [] = h ∙ ap (λ (v : List ℕ). messageOf k (announced true v ++ (0 ∷ 0 ∷ []))) list ∙ message-empty k in
     let fits : message true k (fit true k at []) ≡ message true k [] = ap (message true k) (fit-none true k at .1) in
-    let message-long : length (message true k []) ≡ size = length-message true k [] tt ∙ unfold messageSize in (sym z) in
+    let empty : messageSize true k [] ≡ emptySize true k = unfold messageSize in refl in
+    let message-long : length (message true k []) ≡ size = message-length true k [] tt ∙ empty ∙ sym z in
     record {
       count = sym (fit-none true k at .0);
       end = omega (arith, ap length fits, message-long);
@@ -308,12 +318,12 @@ packed-plain run h = parts-plain (listenerParts run) longestPdu h (omega arith)
 -- none of those that are to say fits
 pub none-fits : (all : Bool) (k : Attribute) (l : List Said) (at : ℕ) {c d : List ℕ} {r : Message} → passes.fitting all k at l ≡ 0
     → MessageWritten all k [] at c r d → MessageWritten all k l at c r d
-none-fits all k l at e w =
+none-fits all k l at {c = c} e w =
     let same : fit all k at [] ≡ fit all k at l = fit-none all k at .1 ∙ sym (unfold fit in (rw e)) in
     record {
       count = w .count ∙ fit-none all k at .0 ∙ sym e;
       end = w .end ∙ ap (λ (m : List Said). at + length (message all k m)) same;
-      buffer = w .buffer ∙ ap (λ (m : List Said). patch at (length (message all k m)) (message all k m) _) same;
+      buffer = w .buffer ∙ ap (λ (m : List Said). patch at (length (message all k m)) (message all k m) c) same;
       after = w .after;
       room = w .room;
     }
@@ -324,7 +334,7 @@ pub some-fit : (all : Bool) (k : Attribute) (l : List Said) → All (OfAttribute
     → MessageWritten all k l at c (record { count = n; end = at + long }) (take at c ++ (y ++ drop (at + long - at) (drop at c)))
 some-fit all k l own at n long c y e m is after room =
     let same : take n l ≡ fit all k at l = unfold fit in (ap (λ (i : ℕ). take i l) e) in
-    let least : emptySize all k ≤ long = omega (arith, message-least all k (take n l), length-message all k (take n l) (all-take (OfAttribute k) n l own), sym m ∙ unfold message in refl) in
+    let least : emptySize all k ≤ long = omega (arith, message-least all k (take n l), message-length all k (take n l) (all-take (OfAttribute k) n l own), m) in
     record {
       count = e;
       end = ap (λ (i : ℕ). at + i) (sym m ∙ ap (λ (r : List Said). length (message all k r)) same);
@@ -334,51 +344,95 @@ some-fit all k l own at n long c y e m is after room =
     }
 
 -- The pass of a type, where the PDU is full and where it is not.
-module _ (t : List ℕ) (p : ℕ) (k : Attribute) (s : Progress) {c d : List ℕ} {m : Message} where
-  progress-is : {a a₂ i i₂ e e₂ : ℕ} {f f₂ : Bool} → a ≡ a₂ → i ≡ i₂ → e ≡ e₂ → f ≡ f₂
-      → _≡_ {A = Progress} (record { at = a; skip = i; end = e; full = f }) (record { at = a₂; skip = i₂; end = e₂; full = f₂ })
-  progress-is q₁ q₂ q₃ q₄ = rw (q₁, q₂, q₃, q₄)
 
-  pub pass-full : s .full ≡ true → MessageWritten (leavesAll (decode t) p) k [] (s .at) c m d
-      → PassLeaves t p k s c (record { at = m .end; skip = 0; end = s .end; full = true }) d
-  pass-full full w =
-      let b = decode t in
-      let none : rest b p k s ≡ [] = unfold rest in (rw full) in
-      let same : fit (leavesAll b p) k (s .at) [] ≡ taken b p k s = unfold taken in (ap (fit (leavesAll b p) k (s .at)) (sym none)) in
-      let message-is : message (leavesAll b p) k (fit (leavesAll b p) k (s .at) []) ≡ said b p k s = unfold said in (ap (message (leavesAll b p) k) same) in
-      record {
-        progress =
-            progress-is (w .end ∙ ap (λ (v : List ℕ). s .at + length v) message-is) (sym (if-full 0 _ full)) (sym (ap (λ (i : ℕ). s .end + i) (if-full 0 _ full) ∙ omega arith)) (sym (if-full true _ full))
-            ∙ unfold passed in refl;
-        buffer = w .buffer ∙ ap (λ (v : List ℕ). patch (s .at) (length v) v c) message-is ∙ unfold written in refl;
-        after = w .after;
-        room = w .room;
-        end = omega arith;
-      }
+progress-is : {a a₂ i i₂ e e₂ : ℕ} {f f₂ : Bool} → a ≡ a₂ → i ≡ i₂ → e ≡ e₂ → f ≡ f₂
+    → _≡_ {A = Progress} (record { at = a; skip = i; end = e; full = f }) (record { at = a₂; skip = i₂; end = e₂; full = f₂ })
+progress-is q₁ q₂ q₃ q₄ = rw (q₁, q₂, q₃, q₄)
 
-  pub pass-open : s .full ≡ false → {x : Start} → StartsAt t p k (s .skip) x → {left r : ℕ} → left ≡ length (saidFrom k p (decode t) (x .first))
-      → MessageWritten (leavesAll (decode t) p) k (saidFrom k p (decode t) (x .first)) (s .at) c m d
-      → r ≡ length (reached (portWay (decode t) p .says) (m .count) (machinesFrom k p (decode t) (x .first))) → r ≤ 64
-      → PassLeaves t p k s c (record { at = m .end; skip = x .skip; end = s .end + r; full = ltb (m .count) left }) d
-  pass-open unfilled {x = x} start {left = left} {r = r} counted w reaches few =
-      let b = decode t in
-      let all = leavesAll b p in
-      let from-is : saidFrom k p b (x .first) ≡ rest b p k s = said-is k p b (x .first) ∙ ap (saidOf b p) (start .rest) ∙ sym (unfold rest in (if-open [] _ unfilled)) in
-      let same : fit all k (s .at) (saidFrom k p b (x .first)) ≡ taken b p k s = unfold taken in (ap (fit all k (s .at)) from-is) in
-      let message-is : message all k (fit all k (s .at) (saidFrom k p b (x .first))) ≡ said b p k s = unfold said in (ap (message all k) same) in
-      let taken-long : m .count ≡ length (taken b p k s) =
-      w .count ∙ sym (length-take-le _ _ (fitting-within all (s .at + 2 - earlier all k) (saidFrom k p b (x .first)))) ∙ ap length (unfold fit passes.fitting in refl ∙ same) in
-      record {
-        progress =
-            progress-is (w .end ∙ ap (λ (v : List ℕ). s .at + length v) message-is) (start .left ∙ sym (if-open 0 _ unfilled))
-            (ap (λ (i : ℕ). s .end + i) (reaches ∙ ap (λ (l : List (Listed Declaration)). length (reached (portWay b p .says) (m .count) l)) (start .rest) ∙ ap (λ (i : ℕ). length (reached (portWay b p .says) i (drop (s .skip) (allOf k p b)))) taken-long ∙ sym (if-open 0 _ unfilled)))
-            (ap (ltb (m .count)) (counted ∙ ap length from-is) ∙ ap (λ (i : ℕ). ltb i (length (rest b p k s))) taken-long ∙ sym (if-open true _ unfilled))
-            ∙ unfold passed in refl;
-        buffer = w .buffer ∙ ap (λ (v : List ℕ). patch (s .at) (length v) v c) message-is ∙ unfold written in refl;
-        after = w .after;
-        room = w .room;
-        end = omega arith;
-      }
+module _ (b : Bridge) (p : ℕ) (k : Attribute) (s : Progress) where
+  rest-full : s .full ≡ true → rest b p k s ≡ []
+  unfolding rest
+  rest-full e = if-full [] (saidOf b p (drop (s .skip) (allOf k p b))) e
+
+  rest-open : s .full ≡ false → rest b p k s ≡ saidOf b p (drop (s .skip) (allOf k p b))
+  unfolding rest
+  rest-open e = if-open [] (saidOf b p (drop (s .skip) (allOf k p b))) e
+
+  -- what is said is the Message of those that fit, of what there is to say
+  module _ (l : List Said) (is : l ≡ rest b p k s) where
+    taken-is : fit (leavesAll b p) k (s .at) l ≡ taken b p k s
+    unfolding taken
+    taken-is = ap (fit (leavesAll b p) k (s .at)) is
+
+    said-message : message (leavesAll b p) k (fit (leavesAll b p) k (s .at) l) ≡ said b p k s
+    unfolding said
+    said-message = ap (message (leavesAll b p) k) taken-is
+
+    taken-count : passes.fitting (leavesAll b p) k (s .at) l ≡ length (taken b p k s)
+    taken-count = sym (fit-long (leavesAll b p) k (s .at) l) ∙ ap length taken-is
+
+    written-is : {c d : List ℕ} {m : Message} → MessageWritten (leavesAll b p) k l (s .at) c m d → d ≡ written b p k s c
+    unfolding written
+    written-is {c = c} w = w .buffer ∙ ap (λ (v : List ℕ). patch (s .at) (length v) v c) said-message
+
+    at-is : {c d : List ℕ} {m : Message} → MessageWritten (leavesAll b p) k l (s .at) c m d → m .end ≡ s .at + length (said b p k s)
+    at-is w = w .end ∙ ap (λ (v : List ℕ). s .at + length v) said-message
+
+-- what a pass reaches, and leaves to skip
+module _ (b : Bridge) (p : ℕ) (k : Attribute) (s : Progress) where
+  abbrev reach : ℕ
+  reach = length (reached (portWay b p .says) (length (taken b p k s)) (drop (s .skip) (allOf k p b)))
+
+  passed-full : s .full ≡ true → record { at = s .at + length (said b p k s); skip = 0; end = s .end; full = true } ≡ passed b p k s
+  unfolding passed
+  passed-full e =
+      progress-is refl (sym (if-full 0 (s .skip - length (allOf k p b)) e)) (omega (arith, if-full 0 reach e))
+      (sym (if-full true (ltb (length (taken b p k s)) (length (rest b p k s))) e))
+
+  passed-open : s .full ≡ false
+      → record { at = s .at + length (said b p k s); skip = s .skip - length (allOf k p b); end = s .end + reach; full = ltb (length (taken b p k s)) (length (rest b p k s)) }
+      ≡ passed b p k s
+  unfolding passed
+  passed-open e =
+      progress-is refl (sym (if-open 0 (s .skip - length (allOf k p b)) e)) (ap (λ (i : ℕ). s .end + i) (sym (if-open 0 reach e)))
+      (sym (if-open true (ltb (length (taken b p k s)) (length (rest b p k s))) e))
+
+pub pass-full : (t : List ℕ) (p : ℕ) (k : Attribute) (s : Progress) {c d : List ℕ} {m : Message} → s .full ≡ true
+    → MessageWritten (leavesAll (decode t) p) k [] (s .at) c m d → PassLeaves t p k s c (record { at = m .end; skip = 0; end = s .end; full = true }) d
+pass-full t p k s full w =
+    let b = decode t in
+    let none : [] ≡ rest b p k s = sym (rest-full b p k s full) in
+    record {
+      progress = progress-is (at-is b p k s [] none w) refl refl refl ∙ passed-full b p k s full;
+      buffer = written-is b p k s [] none w;
+      after = w .after;
+      room = w .room;
+      end = omega arith;
+    }
+
+pub pass-open : (t : List ℕ) (p : ℕ) (k : Attribute) (s : Progress) {c d : List ℕ} {m : Message} → s .full ≡ false → {x : Start} → StartsAt t p k (s .skip) x
+    → {left r : ℕ} → left ≡ length (saidFrom k p (decode t) (x .first))
+    → MessageWritten (leavesAll (decode t) p) k (saidFrom k p (decode t) (x .first)) (s .at) c m d
+    → r ≡ length (reached (portWay (decode t) p .says) (m .count) (machinesFrom k p (decode t) (x .first))) → r ≤ 64
+    → PassLeaves t p k s c (record { at = m .end; skip = x .skip; end = s .end + r; full = ltb (m .count) left }) d
+pass-open t p k s {m = m} unfilled {x = x} start counted w reaches few =
+    let b = decode t in
+    let l = saidFrom k p b (x .first) in
+    let is : l ≡ rest b p k s = said-is k p b (x .first) ∙ ap (saidOf b p) (start .rest) ∙ sym (rest-open b p k s unfilled) in
+    let number : m .count ≡ length (taken b p k s) = w .count ∙ taken-count b p k s l is in
+    let says = portWay b p .says in
+    record {
+      progress =
+          progress-is (at-is b p k s l is w) (start .left)
+          (ap (λ (i : ℕ). s .end + i)
+          (reaches ∙ ap (λ (r : List (Listed Declaration)). length (reached says (m .count) r)) (start .rest) ∙ ap (λ (i : ℕ). length (reached says i (drop (s .skip) (allOf k p b)))) number))
+          (ap (ltb (m .count)) (counted ∙ ap length is) ∙ ap (λ (i : ℕ). ltb i (length (rest b p k s))) number)
+          ∙ passed-open b p k s unfilled;
+      buffer = written-is b p k s l is w;
+      after = w .after;
+      room = w .room;
+      end = omega arith;
+    }
 
 -- before the first pass, and before a pass that follows one
 pub first-room : (all : Bool) → Room all (registers advertises) 1

@@ -33,7 +33,7 @@ returns c =
     let n : ℕ = length out - 6 in
     let y = c .before .before .before .before .before .before .announce .last .1 .1 .0 in
     c .before .before .close-message .ensures
-    ∙ lent-announced (leavesAll (decode (a .table .now)) (a .p)) (type (a .attribute)) n y out (omega (arith, c .before .before .before .before .before .before .before .before .before .before .pre .1))
+    ∙ lent-announced (leavesAll (decode (a .table .now)) (a .p)) (type (a .attribute)) n y out (omega (arith, c .before .before .before .before .before .before .before .before .before .before .pre .1)) refl
     (c .before .before .before .before .before .before .announce .ensures ∙ ap (announced (leavesAll (decode (a .table .now)) (a .p))) (lent-part 4 n out))
 
 pub finish-spec : {M : Type 1} → statement M

@@ -30,6 +30,14 @@ left-is : (c : tie.After-later-sizes) → c .before .before .before .before .bef
 unfolding type
 left-is c = rw (c .before .before .before .before .before .pre .2) at (c .before .before .before .before .before .pre .1 .all)
 
+write-none-requires : tie.Need-write-none-requires
+unfolding type
+write-none-requires c κs = c .before .before .before .before .before .before .before .pre .0
+
+write-none-requires-2 : tie.Need-write-none-requires-2
+unfolding type
+write-none-requires-2 c κs = c .before .before .before .before .before .before .before .before .pre .0
+
 returns : tie.Need-returns
 unfolding type
 returns c =
@@ -92,5 +100,5 @@ returns-3 c =
     rw same at (c .before .before .take-packed .ensures)
 
 pub take-listeners-spec : {M : Type 1} → statement M
-take-listeners-spec = tie.close (tie.spec (λ c κs. c .before .before .before .pre .0 .port) (λ c κs. search needs) (λ c. omega (arith, c .before .before .before .before .before .pre .0 .room)) (λ c. omega (arith, c .before .before .before .before .before .pre .0 .room, c .later-sizes .ensures .1)) (λ c κs. c .before .before .before .before .before .before .before .pre .0) (λ c. search needs) returns
-    (λ c κs. c .before .before .before .before .before .before .before .before .pre .0) (λ c. search needs) returns-2 (λ c. omega (arith, c .before .before .before .before .before .before .before .pre .1 .few, c .before .before .before .before .before .before .before .pre .3)) (λ c. sym (lent c)) gather-requires (λ c. search needs) slice-aggregate-take-packed take-packed-requires (λ c. search needs) (λ c. search needs) returns-3)
+take-listeners-spec = tie.close (tie.spec (λ c κs. c .before .before .before .pre .0 .port) (λ c κs. search needs) (λ c. omega (arith, c .before .before .before .before .before .pre .0 .room)) (λ c. omega (arith, c .before .before .before .before .before .pre .0 .room, c .later-sizes .ensures .1)) write-none-requires (λ c. search needs) returns
+    write-none-requires-2 (λ c. search needs) returns-2 (λ c. omega (arith, c .before .before .before .before .before .before .before .pre .1 .few, c .before .before .before .before .before .before .before .pre .3)) (λ c. sym (lent c)) gather-requires (λ c. search needs) slice-aggregate-take-packed take-packed-requires (λ c. search needs) (λ c. search needs) returns-3)

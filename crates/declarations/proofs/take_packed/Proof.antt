@@ -28,8 +28,12 @@ later-is : (c : tie.After-later-sizes) → c .later-sizes .result ≡ later (lea
 unfolding type
 later-is c = rw (← (c .before .leaves-all .ensures)) (c .later-sizes .ensures .0)
 
-made : (c : tie.After-pack) → Packed (longestPdu - (c .before .before .before .before .before .before .before .args .at + 8 + later (leavesAll (decode (c .before .before .before .before .before .before .before .args .table .now)) (c .before .before .before .before .before .before .before .args .p)) (registers listeners))) (idsOf (c .before .before .before .before .before .before .before .args .table .now) (c .before .before .before .before .before .before .before .args .places .now)) (c .pack .result) (c .pack .last .1 .1 .1 .0) (c .pack .last .1 .1 .1 .1 .0)
+made : (c : tie.After-pack) → Packed (longestPdu - (c .before .before .before .before .before .before .before .before .args .at + 8 + later (leavesAll (decode (c .before .before .before .before .before .before .before .before .args .table .now)) (c .before .before .before .before .before .before .before .before .args .p)) (registers listeners))) (idsOf (c .before .before .before .before .before .before .before .before .args .table .now) (c .before .before .before .before .before .before .before .before .args .places .now)) (c .pack .result) (c .pack .last .1 .1 .1 .0) (c .pack .last .1 .1 .1 .1 .0)
 made c = rw (← later-is (c .before .before .before)) (c .pack .ensures .0)
+
+write-none-requires : tie.Need-write-none-requires
+unfolding type
+write-none-requires c κs = c .before .before .before .before .before .before .before .before .before .before .before .before .pre .message
 
 returns : tie.Need-returns
 unfolding type
@@ -88,5 +92,5 @@ returns-2 c =
 
 pub take-packed-spec : {M : Type 1} → statement M
 take-packed-spec = tie.close (tie.spec (λ c κs. c .before .before .before .pre .message .port) (λ c κs. search needs) (λ c. omega (arith, c .before .before .before .before .before .pre .message .room)) (λ c. omega (arith, later-is c, c .before .before .before .before .before .pre .room)) (λ c. omega (arith, later-is c, c .before .before .before .before .before .pre .room)) (λ c. search needs) (λ c. search needs)
-    (λ c κs. (c .before .before .before .before .before .before .before .pre .telling .named, omega arith, omega arith)) (λ c κs. c .before .before .before .before .before .before .before .before .before .before .before .before .pre .message) (λ c. search needs) returns (λ c. search needs) (λ c. omega (arith, room c)) (λ c. omega (arith, room c)) slice-aggregate-write-listeners (λ c. search needs)
+    (λ c κs. (c .before .before .before .before .before .before .before .pre .telling .named, omega arith, omega arith)) write-none-requires (λ c. search needs) returns (λ c. search needs) (λ c. omega (arith, room c)) (λ c. omega (arith, room c)) slice-aggregate-write-listeners (λ c. search needs)
     (λ c. omega (arith, room (c .before .before))) (λ c. search needs) (λ c. search needs) (λ c. omega (arith, room (c .before .before), c .before .before .before .before .before .before .before .before .before .before .before .before .before .pre .message .buffer)) write-listeners-requires (λ c. omega (arith, room (c .before .before .before .before .before .before))) (λ c. search needs) returns-2)

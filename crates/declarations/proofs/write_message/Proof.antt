@@ -1,6 +1,7 @@
 -- `declarations::write_message` meets its contract. Assumes nothing.
 use mathlib.Core.Path.{_≡_, refl, sym, ap, _∙_}
-use Prim.Native.Nat.{ℕ, _+_, _-_, _*_, _/_, _%_, _≤_, _<_}
+use native.Mathlib.Nat.{suc-mul}
+use Prim.Native.Nat.{ℕ, suc, _+_, _-_, _*_, _/_, _%_, _≤_, _<_}
 use native.Mathlib.Omega.{arith}
 use mathlib.Core.List.{List, []}
 use lib.ListN.{length, getD, take, drop}
@@ -12,11 +13,20 @@ use Rattle.model.specs.Declarations.{vectorSize}
 use Rattle.model.proofs.Lists.{all-take}
 use Rattle.model.proofs.WritingPasses.{OfAttribute}
 use Rattle.declarations.specs.Passes.{type, saidFrom, runOf}
-use Rattle.declarations.proofs.Fitting.{from-type}
+use Rattle.declarations.proofs.Fitting.{from-type, vector-least}
 use Rattle.declarations.proofs.Written.{lent-vectors, singles-vectors}
 use borrow.Author.Needs.{needs}
 use Rattle.declarations.proofs.write_message.Statement.{statement}
 use Rattle.declarations.proofs.write_message.Tie as tie
+
+-- a vector has some octets
+finish-requires : tie.Need-finish-requires
+finish-requires c κs =
+    let a = c .before .before .before .before .before .before .before .args in
+    let pre = c .before .before .before .before .before .before .before .pre in
+    let size : ℕ = vectorSize (type (a .run .attribute)) in
+    let i : suc (a .run .count - 1) ≡ a .run .count = omega (arith, pre .0 .any) in
+    (pre .0 .port, omega (arith, pre .1, rw i at (suc-mul (a .run .count - 1) size), vector-least (type (a .run .attribute))))
 
 returns : tie.Need-returns
 returns c =
@@ -39,4 +49,4 @@ returns c =
     ∙ lent-vectors (leavesAll b (a .p)) k run n y out y-long (omega arith) own some (written .1) (c .before .before .before .before .before .before .write-vectors .ensures ∙ written .0)
 
 pub write-message-spec : {M : Type 1} → statement M
-write-message-spec = tie.close (tie.spec (λ c. search needs) (λ c. search needs) (λ c. search needs) (λ c. search needs) (λ c. search needs) (λ c κs. search needs) (λ c κs. (c .before .before .before .before .before .before .before .pre .0 .port, omega arith)) (λ c. search needs) returns)
+write-message-spec = tie.close (tie.spec (λ c. search needs) (λ c. search needs) (λ c. search needs) (λ c. search needs) (λ c. search needs) (λ c κs. search needs) finish-requires (λ c. search needs) returns)

@@ -14,7 +14,7 @@ use Rattle.model.specs.Writing.{leavesAll}
 use Rattle.model.specs.Table.{decode}
 use Rattle.model.proofs.Parts.{length-zeros}
 use Rattle.declarations.specs.Passes.{type, earlier, later, message}
-use Rattle.declarations.proofs.Written.{empty-written, nothing-written}
+use Rattle.declarations.proofs.Written.{empty-least, empty-written, nothing-written}
 use borrow.Author.Needs.{needs}
 use Rattle.declarations.proofs.write_none.Statement.{statement}
 use Rattle.declarations.proofs.write_none.Tie as tie
@@ -42,7 +42,7 @@ finish-requires c κs =
     let a = c .before .before .before .before .before .before .before .before .before .before .args in
     let now = c .before .before .before .clear .last .0 in
     let n : ℕ = c .before .before .before .before .before .before .empty-size .result in
-    (c .before .before .before .before .before .before .before .before .before .before .pre .port, omega (arith, ap length (lent-part (a .at) n now), length-part (a .at) n now (omega (arith, room (c .before .before .before .before .before), c .before .before .before .before .before .before .before .before .before .before .pre .buffer)), c .before .before .before .before .before .if1 .left, size-is (c .before .before .before .before .before)))
+    (c .before .before .before .before .before .before .before .before .before .before .pre .port, omega (arith, ap length (lent-part (a .at) n now), length-part (a .at) n now (omega (arith, room (c .before .before .before .before .before), c .before .before .before .before .before .before .before .before .before .before .pre .buffer)), size-is (c .before .before .before .before .before), empty-least _ _ (λ e. c .before .before .before .before .before .if1 .left (size-is (c .before .before .before .before .before) ∙ e))))
 
 returns-2 : tie.Need-returns-2
 returns-2 c =

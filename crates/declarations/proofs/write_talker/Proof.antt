@@ -54,4 +54,4 @@ returns c =
     ∙ rw (be-one (a .event * 36) small, c .before .before .before .before .before .before .before .before .before .before .before .before .id-at .ensures)
 
 pub write-talker-spec : {M : Type 1} → statement M
-write-talker-spec = tie.close (tie.spec (λ c. search needs) id-at-requires begin-vector-requires (λ c. search needs) (λ c. search needs) (λ c. search needs) (λ c. search needs) copy-offer-requires (λ c. search needs) (λ c. search needs) (λ c κs. search needs) (λ c. search needs) returns)
+write-talker-spec = tie.close (tie.spec (λ c. search needs) (λ c. search needs) id-at-requires begin-vector-requires (λ c. search needs) (λ c. search needs) (λ c. search needs) (λ c. search needs) copy-offer-requires (λ c. search needs) (λ c. search needs) (λ c κs. search needs) (λ c. search needs) returns)
