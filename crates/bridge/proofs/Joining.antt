@@ -1,5 +1,5 @@
 -- What start declares: a slot in its octets, a port's Domain values in what it sends by itself, one port after another.
-use mathlib.Core.Path.{_≡_, refl, sym, _∙_, ap}
+use mathlib.Core.Path.{_≡_, refl, sym, _∙_, ap, ap₂}
 use mathlib.Core.List.{List, [], _∷_, _++_, append-assoc}
 use mathlib.Core.Bool.{Bool, true, false, cond, _&&_, _||_}
 use Prim.Native.Nat.{ℕ, zero, suc, _+_, _*_, _-_, _≤_, _<_}
@@ -11,7 +11,7 @@ use Rattle.octets.specs.Fields.{flat}
 use Rattle.model.specs.Layout.{slots}
 use Rattle.model.specs.Lists.{All, tabulate}
 use Rattle.model.specs.Machines.{Applicant, noApplicant, applicant, applicantOf, with, born}
-use Rattle.model.specs.State.{Settings, Sender, noSender, Class, classA, classB, supports, classId, classPriority, portAt, senderAt, slotOf, isOwnSlot, declaresSlot, startedSender}
+use Rattle.model.specs.State.{Settings, Sender, noSender, Bridge, Class, classA, classB, supports, classId, classPriority, portAt, senderAt, slotOf, isOwnSlot, declaresSlot, startedSender}
 use Rattle.model.specs.Registrations.{at, sending}
 use Rattle.model.specs.Sending.{applicantOctets, domainApplicant, standingNumber, leaveAllOctets, senderOctets, toSender}
 use Rattle.model.specs.Table.{encode, decode}
@@ -23,6 +23,8 @@ use Rattle.model.proofs.SenderOctets.{sender-coded}
 use Rattle.model.proofs.Fits.{laid-is, laid-fits, laid-sender-is, laid-sender-fits}
 use Rattle.table.specs.Places.{PortIn}
 use Rattle.table.specs.Updates.{withSender}
+use Rattle.table.proofs.ByPlace.{encoded-read}
+use Rattle.table.proofs.SenderParts.{with-sender-fits, sender-replaced-laid}
 use Rattle.table.proofs.EachPort.{sendersTo, senders-settings, one-sender-more}
 use Rattle.bridge.specs.Joining.{joinedSlot, joinedIf, joinedOwn, joinedAt}
 
@@ -117,6 +119,30 @@ both-joined st p l =
     ap (λ (i : ℕ). at p (joinedIf a i) (at p (joinedIf b (st .priorityB)) l)) (slot-a st)
     ∙ ap (λ (j : ℕ). at p (joinedIf a (slotOf (classId classA) (classPriority st classA))) (at p (joinedIf b j) l)) (slot-b st)
     ∙ at-twice p (joinedIf a (slotOf (classId classA) (classPriority st classA))) (joinedIf b (slotOf (classId classB) (classPriority st classB))) l
+
+-- one class after the other
+module _ {t : List ℕ} {p : ℕ} (s : PortIn t p) (b : ℕ) (t₁ : List ℕ)
+    (e₁ : t₁ ≡ encode (withSender p (joinedIf (supports (portAt (decode t .settings) p) classB) b) (decode t))) where
+  abbrev first : Sender → Sender
+  first = joinedIf (supports (portAt (decode t .settings) p) classB) b
+
+  pub then-in : PortIn t₁ p
+  then-in = record { laid = sender-replaced-laid s first (if-fits _ b) t₁ e₁; port = s .port }
+
+  then-read : decode t₁ ≡ withSender p first (decode t)
+  then-read = encoded-read (withSender p first (decode t)) (with-sender-fits s first (if-fits _ b)) t₁ e₁
+
+  pub both-done : (a : ℕ) → a ≡ decode t .settings .priorityA → b ≡ decode t .settings .priorityB → (t₂ : List ℕ)
+      → t₂ ≡ encode (withSender p (joinedIf (supports (portAt (decode t₁ .settings) p) classA) (8 + a)) (decode t₁))
+      → t₂ ≡ encode (withSender p (joinedOwn (decode t .settings) p) (decode t))
+  unfolding sending
+  both-done a ea eb t₂ e₂ =
+      let st = decode t .settings in
+      let l = decode t .senders in
+      e₂
+      ∙ ap (λ (d : Bridge). encode (withSender p (joinedIf (supports (portAt (d .settings) p) classA) (8 + a)) d)) then-read
+      ∙ ap (λ (m : List Sender). encode (sending (decode t) m))
+      (ap₂ (λ (i j : ℕ). at p (joinedIf (supports (portAt st p) classA) (8 + i)) (at p (joinedIf (supports (portAt st p) classB) j) l)) ea eb ∙ both-joined st p l)
 
 -- One port after another.
 

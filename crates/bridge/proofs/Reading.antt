@@ -6,17 +6,21 @@ use Prim.Native.Nat.{ℕ, _-_, _≤_, _<_}
 use lib.ListN.{length, drop}
 use borrow.Author.Tests.{lt-ltb, le-ltb}
 use Rattle.model.specs.FrameLayout.{longestPdu}
+use Rattle.model.specs.Lists.{Octets}
 use Rattle.model.specs.Frames.{wrongPort}
 use Rattle.model.specs.Declarations.{declarations}
-use Rattle.model.specs.Writing.{leavesAll, endOn, wroteOn, afterWrite, write}
+use Rattle.model.specs.Writing.{wroteOn, afterWrite, write}
 use Rattle.model.specs.Reports.{refusedReport, report}
 use Rattle.model.specs.Table.{formed, encode, decode}
 use Rattle.model.specs.Calls.{refusedWrite, writtenTo, writeOn, reportOn}
+use Rattle.model.proofs.Tables.{valid-decode}
+use Rattle.model.proofs.ReceiveKeepsForm.{right-port}
+use Rattle.model.proofs.PortPasses.{listed-port}
 use Rattle.declarations.specs.declared.Taken.{Taken}
 use Rattle.declarations.specs.Passes.{runOn, pduOn, PduWritten}
 use Rattle.moving.specs.declared.Span.{Span}
-use Rattle.moving.specs.Moves.{afterMoves, leftBefore, ListMoved}
-use Rattle.moving.proofs.AfterWrite.{moved-as-written, left-as-written}
+use Rattle.moving.specs.Moves.{ListMoved}
+use Rattle.moving.proofs.AfterWrite.{SpanOf, moves-written, left-written}
 use Rattle.bridge.specs.Promises.{portRefusal, Writes, RefusedWith}
 
 -- what a refused write answers, with the buffer and the table as they were
@@ -54,20 +58,17 @@ module _ (t : List ℕ) (p place : ℕ) (buffer : List ℕ) where
       write-above a = rw (h, w, le-ltb (length buffer) longestPdu l, lt-ltb _ _ a)
 
       -- the PDU is written, then the machines are moved
-      pub write-done : place ≤ length (declarations (decode t) (p - 1)) → (r : Taken) (after : List ℕ) → PduWritten (decode t) (p - 1) place buffer r after
+      pub write-done : Octets t → place ≤ length (declarations (decode t) (p - 1)) → (r : Taken) (after : List ℕ) → PduWritten (decode t) (p - 1) place buffer r after
           → (next : ℕ) (u : List ℕ) → ListMoved record { place = place; end = r .end; all = r .all } (p - 1) t next u
           → Writes t p place buffer 0 (r .length) next after u
       unfolding writeOn write writtenTo runOn pduOn
-      write-done a r after d next u m =
+      write-done o a r after d next u m =
           let b = decode t in
-          let span : Span = record { place = place; end = endOn b (p - 1) place; all = leavesAll b (p - 1) } in
-          let same : record { place = place; end = r .end; all = r .all } ≡ span =
-          ap (λ (e : ℕ). record { place = place; end = e; all = r .all }) (d .end)
-          ∙ ap (λ (x : Bool). record { place = place; end = endOn b (p - 1) place; all = x }) (d .all) in
-          let table : u ≡ encode (afterWrite b (p - 1) place) =
-          m .table ∙ ap (λ (s : Span). encode (afterMoves s (p - 1) b)) same ∙ ap encode (moved-as-written b (p - 1) place) in
-          let place-then : next ≡ wroteOn b (p - 1) place .next =
-          m .next ∙ ap (λ (s : Span). leftBefore s (p - 1) b) same ∙ left-as-written b (p - 1) place in
+          let span : Span = record { place = place; end = r .end; all = r .all } in
+          let reached : SpanOf b (p - 1) place span = record { place-is = refl; end-is = d .end; all-is = d .all } in
+          let listed = listed-port b (valid-decode t o h) (p - 1) (right-port (b .settings) p w) in
+          let table : u ≡ encode (afterWrite b (p - 1) place) = m .table ∙ ap encode (moves-written b (p - 1) place span reached) in
+          let place-then : next ≡ wroteOn b (p - 1) place .next = m .next ∙ left-written b (p - 1) place span reached listed a in
           record {
             number-is = rw (h, w, le-ltb (length buffer) longestPdu l, le-ltb _ _ a);
             length-is = rw (h, w, le-ltb (length buffer) longestPdu l, le-ltb _ _ a) (d .size);
