@@ -36,7 +36,7 @@ well-formed : (c : tie.After-join-all-arg) → settingsFormed (c .before .before
 well-formed c = sym (c .before .before .before .before .before .before .before .before .before .before .settings-formed .ensures) ∙ c .before .before .before .before .before .before .before .before .before .if2 .taken
 
 put : (c : tie.After-join-all-arg) → let s = c .before .before .before .before .before .before .before .before .before .before .before .before .before .before .args .settings .now in
-    (c .before .before .before .copy .last .0) ++ drop (length s - 0) (drop 0 (c .before .before .before .before .before .before .before .clear .last .0)) ≡ s ++ zeros (tableLength - length s)
+    (c .before .before .before .copy .last .1 .0) ++ drop (length s - 0) (drop 0 (c .before .before .before .before .before .before .before .clear .last .0)) ≡ s ++ zeros (tableLength - length s)
 put c =
     let s = c .before .before .before .before .before .before .before .before .before .before .before .before .before .before .args .settings .now in
     let t = c .before .before .before .before .before .before .before .before .before .before .before .before .before .before .args .table .now in
