@@ -166,7 +166,7 @@ listenersOf unique n three four = message listeners (listenerVector unique n thr
 talks : ℕ → ℕ → ℕ → List ℕ
 talks unique size octet = advertisesOf unique size octet 1 (108 ∷ [])
 
-hears : ℕ → ℕ → List ℕ
+pub hears : ℕ → ℕ → List ℕ
 hears unique four = listenersOf unique 1 (108 ∷ []) (four ∷ [])
 
 -- What is shown. Columns are 0 none, 1 Advertise, 2 Failed, each with its code; Listeners 0 none, 1 Asking Failed, 2 Ready, 3

@@ -8,16 +8,18 @@ use lib.ListN.{length}
 use Rattle.octets.specs.Fields
 use Rattle.model.specs.Lists.{All, bit}
 use Rattle.model.specs.Machines.{Listed}
-use Rattle.model.specs.State.{Bridge}
+use Rattle.model.specs.State.{Bridge, Stream}
 use Rattle.model.specs.State
 use Rattle.model.specs.Frames
+use Rattle.model.specs.Registrations.{listeners}
+use Rattle.model.specs.Registrations
 use Rattle.model.specs.Declarations.{Declaration, Said}
 use Rattle.model.specs.Declarations
 use Rattle.model.specs.Writing.{Written}
 use Rattle.model.specs.Writing
 use Rattle.model.specs.Sending
 use Rattle.model.specs.WrittenFrames
-use Rattle.model.proofs.Examples.{Example, Holds, pdu, time, settings, from, lvPdu, one, handed}
+use Rattle.model.proofs.Examples.{Example, Holds, pdu, time, settings, from, hears, lvPdu, one, handed}
 
 -- What a written PDU has: LeaveAll, then the type, the StreamID's last octet (or class ID) and the event of each declaration, and the next
 -- place.
@@ -40,6 +42,10 @@ wrote p (suc n) b = wrote p n (Writing.write b p 0 .bridge)
 states : ℕ → Bridge → List ℕ
 states p b = Fields.flat (λ (x : Listed Declaration). Sending.standingNumber (x .state) ∷ []) (Declarations.declarations b (p - 1))
 
+-- whether the Listener of each stream is registered on port 2, and not leaving
+listens : Bridge → List ℕ
+listens b = Fields.flat (λ (x : Stream). bit (Registrations.registeredIn listeners (State.cellAt x 1)) ∷ []) (b .streams)
+
 count : Bridge → List ℕ
 count b = length (b .streams) ∷ []
 
@@ -58,11 +64,24 @@ sending =
     ∷ record { computed = states 2 withdrawn ++ (count withdrawn ++ (writes 2 2 withdrawn ++ count (wrote 2 1 withdrawn))); printed = 6 ∷ 5 ∷ 5 ∷ 1 ∷ 0 ∷ 1 ∷ 1 ∷ 5 ∷ 2 ∷ 0 ∷ 2 ∷ 1 ∷ [] }
     -- LeaveAll after 10 s: all are joined with it, at once, and the next write is silent
     ∷ record { computed = writes 2 2 (from settled (time 1000 ∷ [])); printed = 1 ∷ 1 ∷ 1 ∷ 3 ∷ 4 ∷ 5 ∷ 1 ∷ 4 ∷ 6 ∷ 1 ∷ 3 ∷ 0 ∷ 3 ∷ [] }
+    -- with it what the neighbour has joined begins to leave: answered it stays
+    ∷ record { computed = listens due ++ (listens (wrote 2 1 due) ++ listens (from (wrote 2 1 due) (pdu 2 (hears 1 128) ∷ []))); printed = 1 ∷ 0 ∷ 1 ∷ [] }
+    -- not answered it is gone after the leave time, Domain values too: the Listener on port 1 and the Advertise on port 2 have unsent Lvs, and
+    -- a Failed is new
+    ∷ record { computed = states 1 silent ++ states 2 silent; printed = 6 ∷ 5 ∷ 5 ∷ 6 ∷ 1 ∷ 5 ∷ 5 ∷ [] }
+    -- a refused write moves nothing: place 4 is above three declarations
+    ∷ record { computed = states 2 (Writing.write (one 75000000) 2 4 .bridge); printed = 1 ∷ 1 ∷ 1 ∷ [] }
     ∷ []
   where
+    due : Bridge
+    due = from settled (time 1000 ∷ [])
+
+    silent : Bridge
+    silent = from (wrote 2 1 due) (time 1060 ∷ [])
+
     withdrawn : Bridge
     withdrawn = from settled (pdu 1 lvPdu ∷ time 160 ∷ [])
 
 pub sending-examples : All Holds sending
-unfolding handed shown one-said writes wrote states count settled sending
-sending-examples = (refl, (refl, (refl, (refl, (refl, tt)))))
+unfolding handed shown one-said writes wrote states listens count settled sending
+sending-examples = (refl, (refl, (refl, (refl, (refl, (refl, (refl, (refl, tt))))))))

@@ -1,5 +1,5 @@
 -- Two bridges on a link (02, xiv): what a neighbour has registered there after it received the PDUs of a pass whole is what this port
--- declares; and what is not so until a LeaveAll of either side.
+-- declares; and what is not so.
 use mathlib.Core.Path.{_≡_, refl, sym, _∙_, ap}
 use mathlib.Core.List.{List, [], _∷_, _++_, map, flatMap, flatten}
 use mathlib.Core.Bool.{Bool, true, false, cond, false≢true}
@@ -483,14 +483,15 @@ after-leave-time st clock later long s c h bt bl = record {
   hears = listener-left st clock later long (c .hears) bl;
 }
 
--- What is not so, until a LeaveAll of either side mends it.
+-- What is not so.
 
--- Where other values of a Talker stand, and its type changed with them, the later Lv of the new type misses it too.
+-- Where other values of a Talker stand (`other-stands`), and its type changed with them, the later Lv of the new type misses it too.
 pub other-missed : (now : ℕ) (k : Kind) (r : Registration) → talksAs k (r .varying .type) ≡ false → quitTalker now k (talker r) ≡ talker r
 unfolding quitTalker withLeaving
 other-missed now k r n = rw n
 
--- A declaration that the neighbour's own Lv turned to VP goes without an Lv where it is withdrawn then, and what has gone says nothing.
+-- Until a LeaveAll of either side mends it: a declaration that the neighbour's own Lv turned to VP goes without an Lv where it is withdrawn
+-- then, and what has gone says nothing.
 pub withdrawn-unsaid : {D : Type 0} (alike : D → D → Bool) (v : D) → decided alike undeclared (heard heardLeave (applicant record { state = quietActive; value = v })) ≡ noApplicant
 unfolding decided heard moved applicantOf after with heardEvent tables
 withdrawn-unsaid alike v = refl
@@ -499,7 +500,7 @@ pub gone-silent : {A : Type 0} (f : A → Declaration) (now i : ℕ) (c : Cell) 
 unfolding tells
 gone-silent f now i c = refl
 
--- An Lv is sent once, so that one that is lost leaves the registration as it was.
+-- And an Lv is sent once, so that one that is lost leaves the registration as it was.
 pub lv-once : {D : Type 0} (r : Bool) (v : D) → moved (becomes r tx) (applicant record { state = leavingActive; value = v }) ≡ noApplicant
 unfolding moved applicantOf with tables
 lv-once r v = refl
