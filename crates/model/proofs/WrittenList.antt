@@ -150,7 +150,7 @@ at-default p u [] d e = sym e
 at-default zero u (x ∷ l) d e = refl
 at-default (suc p) u (x ∷ l) d e = at-default p u l d e
 
-none-moved : (k : Kind) (f : Standing → List Standing) → moveKind k f noSends ≡ noSends
+pub none-moved : (k : Kind) (f : Standing → List Standing) → moveKind k f noSends ≡ noSends
 unfolding moveKind noSends moved
 none-moved advertises f = refl
 none-moved faileds f = refl
@@ -199,6 +199,11 @@ kind-count k p (x ∷ s) =
     length-append (declarationsOf k (x .id) (sendsAt x p)) (ofKind k p s)
     ∙ ap₂ (λ (m n : ℕ). m + n) (machines-listed k (x .id) (sendsAt x p)) (kind-count k p s)
 
+pub kind-here : (k : Kind) (p : ℕ) (g : Standing → List Standing) (x : Stream)
+    → sendsAt (change (λ cs. cs) (at p (moveKind k g)) x) p ≡ moveKind k g (sendsAt x p)
+unfolding change sendsAt
+kind-here k p g x = at-default p (moveKind k g) (x .sends) noSends (none-moved k g)
+
 module _ (f : ℕ → Bool → Standing → List Standing) (one : (i : ℕ) (r : Bool) (q : Standing) → length (f i r q) ≤ 1) (reg : Declaration → Bool) where
   -- what is left of a declaration at place i
   unfoldable pub leftAt : ℕ → Listed Declaration → List (Listed Declaration)
@@ -228,11 +233,6 @@ module _ (f : ℕ → Bool → Standing → List Standing) (one : (i : ℕ) (r :
   sends-moved advertises id r e i s = listed-moved (advertiseOf id) r e i (s .advertising)
   sends-moved faileds id r e i s = listed-moved (failedOf id) r e i (s .failing)
   sends-moved listeners id r e i s = listed-moved (listenerDeclaration id) r e i (s .listening)
-
-  kind-here : (k : Kind) (p : ℕ) (g : Standing → List Standing) (x : Stream)
-      → sendsAt (change (λ cs. cs) (at p (moveKind k g)) x) p ≡ moveKind k g (sendsAt x p)
-  unfolding change sendsAt
-  kind-here k p g x = at-default p (moveKind k g) (x .sends) noSends (none-moved k g)
 
   -- all streams' machines of a type
   kind-moved : (k : Kind) (p i : ℕ) (s : List Stream) → All (λ x. Asked k (x .id) (registeredIn k (cellAt x p))) s
@@ -361,7 +361,7 @@ module _ (p q : ℕ) (k : Kind) where
       ∙ left-same now advertises s)
 
 -- a stream that sends nothing anywhere has no machine on a port
-none-there : (l : List Sends) (p : ℕ) → anySending l ≡ false → isSending (getD l p noSends) ≡ false
+pub none-there : (l : List Sends) (p : ℕ) → anySending l ≡ false → isSending (getD l p noSends) ≡ false
 unfolding anySending
 none-there [] p e = unfold isSending noSends isApplicant in refl
 none-there (s ∷ l) zero e = or-false (isSending s) (anySending l) e .0

@@ -1,31 +1,35 @@
 -- A write and the settled declarations (02, xiv): the machines that stand are still just these, with the settled octets. With no LeaveAll a
 -- write ends a machine only where it writes its Lv; and what it does to a machine is one of the happenings through which what was sent is
 -- withdrawn by an Lv or a LeaveAll.
-use mathlib.Core.Path.{_≡_, refl, sym, _∙_, ap}
+use mathlib.Core.Path.{_≡_, refl, sym, _∙_, ap, ap₂}
 use mathlib.Core.List.{List, [], _∷_, _++_, map, append-assoc, List·Memᴰ, List·Memᴰ·head, List·Memᴰ·tail, Memᴰ·map}
-use mathlib.Core.Bool.{Bool, true, false, cond, _&&_, true≢false, false≢true}
-use Prim.Native.Nat.{ℕ, _+_, _-_}
-use lib.ListN.{take, drop}
-use lib.Dec.{leb, ltb}
+use mathlib.Core.Bool.{Bool, true, false, cond, _&&_, _||_, true≢false, false≢true}
+use Prim.Native.Nat.{ℕ, _+_, _-_, _<_}
+use native.Mathlib.Omega.{arith}
+use lib.ListN.{getD, take, drop}
+use lib.Dec.{eqb, leb, ltb}
+use borrow.Author.Tests.{ne-eqb, eqb-true}
 use Rattle.model.specs.Lists.{All, keep}
 use Rattle.model.specs.Applicant.{tx, txLAF, opportunity, sL, messageNumber, Standing, veryAnxiousPassive, veryAnxiousNew, anxiousNew, anxiousActive, quietActive, leavingActive, becomes, sent, spoken}
 use Rattle.model.specs.Places.{Way, Wrote, itself, each, saying, reached, behind, leftBefore, writeFrom}
 use Rattle.model.specs.Machines.{Listed, Applicant, noApplicant, applicant, Decided, undeclared, declared, with, applicantOf, after, moved, way}
-use Rattle.model.specs.State.{Fixed, Result, Sends, Stream, Bridge, noSends, cellAt, resultAt, sendsAt}
-use Rattle.model.specs.Registrations.{Kind, advertises, faileds, listeners, at, moveKind, change, applyAll, registeredIn}
-use Rattle.model.specs.Settling.{advertisedBy, failedBy, listenedBy}
+use Rattle.model.specs.State.{Fixed, Ready, Result, Offer, Failure, Sends, Stream, Bridge, noSends, cellAt, resultAt, sendsAt}
+use Rattle.model.specs.Registrations.{Kind, advertises, faileds, listeners, leaveAll, moves, at, moveKind, change, reach, apply, applyAll, registeredIn, ids}
+use Rattle.model.specs.Settling.{isApplicant, held, isSending, anySending, isHeld, dropUnheld, advertisedBy, failedBy, listenedBy, sameOffer, sameFailed, sameReady}
 use Rattle.model.specs.Table.{isStanding}
 use Rattle.model.specs.Declarations.{Declaration, declarations, isRegistered, say}
-use Rattle.model.specs.Writing.{leavesAll, sayOn, takesOn, wroteOn, endOn, movedAt, machines, movedKind, movedStreams, ownLeaveAll, afterWrite, write}
+use Rattle.model.specs.Writing.{leavesAll, sayOn, takesOn, wroteOn, endOn, movedAt, machines, machinesOf, movedKind, movedStreams, ownLeaveAll, afterWrite, write}
 use Rattle.model.proofs.Lists.{all-map, all-both}
+use Rattle.model.proofs.Valid.{Rising}
 use Rattle.model.proofs.ApplicantEntries.{tables, written-leaving-all}
 use Rattle.model.proofs.PlaceLists.{each-itself, saying-reached}
 use Rattle.model.proofs.Passing.{left-to-say, taken, run-is}
 use Rattle.model.proofs.Deciding.{Stands, Holds}
-use Rattle.model.proofs.AdvanceKeepsForm.{all-dropped}
+use Rattle.model.proofs.AdvanceKeepsForm.{or-false, all-dropped, dropped-all}
 use Rattle.model.proofs.SettledSends.{Follows, SettledSends, Sent, at-keeps, all-applied-sent}
 use Rattle.model.proofs.Withdrawing.{Happening, isReached, isReachedLeavingAll, isLeftOut, happens, machineAfter, ended-said}
-use Rattle.model.proofs.WriteKeepsForm.{standsLeft, KeepsStanding, write-stands, answered}
+use Rattle.model.proofs.WriteKeepsForm.{standsLeft, KeepsStanding, write-stands, moved-ids, at-still, own-leaving, answered}
+use Rattle.model.proofs.WrittenList.{none-moved, kind-here, none-there}
 use Rattle.model.proofs.PortPasses.{calm-way}
 
 -- One machine: one that stands still does, with its value; an unsent Lv stays one, or goes.
@@ -228,3 +232,160 @@ module _ {D : Type 0} (same : D → D → Bool) where
           unfold happening machineAfter happens moved opportunity in
           (ap left-by (written-leaving-all r (x .state) ∙ sym (written-leaving-all false (x .state))))
       go true false = unfold happening machineAfter happens moved in (ap left-by (left-out-so r (x .state)))
+
+-- What a port sends of a StreamID, and what a write makes of it.
+
+unfoldable pub sendsIn : ℕ → ℕ → List Stream → Sends
+sendsIn p id [] = noSends
+sendsIn p id (x ∷ s) = cond (eqb (x .id) id) (sendsAt x p) (sendsIn p id s)
+
+no-applicant : {D : Type 0} (a : Applicant D) → isApplicant a ≡ false → a ≡ noApplicant
+unfolding isApplicant
+no-applicant noApplicant e = refl
+no-applicant (applicant x) e = absurd (true≢false e)
+
+nothing-sent : (s : Sends) → isSending s ≡ false → s ≡ noSends
+unfolding isSending noSends
+nothing-sent s e =
+    let both = or-false (isApplicant (s .advertising) || isApplicant (s .failing)) (isApplicant (s .listening)) e in
+    let talker = or-false (isApplicant (s .advertising)) (isApplicant (s .failing)) (both .0) in
+    go (s .advertising) (s .failing) (s .listening) (no-applicant (s .advertising) (talker .0)) (no-applicant (s .failing) (talker .1)) (no-applicant (s .listening) (both .1))
+  where
+    go : (a : Applicant Offer) (b : Applicant (Offer × Failure)) (c : Applicant Ready) → a ≡ noApplicant → b ≡ noApplicant → c ≡ noApplicant
+        → record { advertising = a; failing = b; listening = c } ≡ noSends
+    go a b c e f g = rw (e, f, g)
+
+-- LeaveAll's leavings keep StreamIDs
+left-ids : (now p : ℕ) (k : Kind) (s : List Stream) → ids (apply now p (leaveAll k) s) ≡ ids s
+unfolding ids apply reach change
+left-ids now p k [] = refl
+left-ids now p k (x ∷ s) = ap (λ (l : List ℕ). x .id ∷ l) (left-ids now p k s)
+
+leaving-ids : (now p : ℕ) (all : Bool) (s : List Stream) → ids (applyAll now p (ownLeaveAll all) s) ≡ ids s
+leaving-ids now p false s = unfold applyAll ownLeaveAll in refl
+leaving-ids now p true s =
+    ap ids (own-leaving now p s)
+    ∙ left-ids now p listeners (apply now p (leaveAll faileds) (apply now p (leaveAll advertises) s))
+    ∙ left-ids now p faileds (apply now p (leaveAll advertises) s)
+    ∙ left-ids now p advertises s
+
+-- a machine after a write, with LeaveAll or without it: reached or not
+abbrev pub ByWrite : {D : Type 0} → (D → D → Bool) → Bool → Applicant D → Applicant D → Type 0
+ByWrite same all a b = (t : Bool) × (r : Bool) × (b ≡ machineAfter same (happening same all t r) a)
+
+pub record Happened (all : Bool) (s t : Sends) : Type 0 where
+  pub advertising : ByWrite sameOffer all (s .advertising) (t .advertising)
+  pub failing : ByWrite sameFailed all (s .failing) (t .failing)
+  pub listening : ByWrite sameReady all (s .listening) (t .listening)
+
+module _ (p id : ℕ) where
+  -- moved at some place, its Registrar being IN or not
+  kind-sends : (f : ℕ → Bool → Standing → List Standing) (k : Kind) (i : ℕ) (s : List Stream)
+      → (j : ℕ) × (r : Bool) × (sendsIn p id (movedKind f k p i s) ≡ moveKind k (f j r) (sendsIn p id s))
+  unfolding sendsIn movedKind change
+  kind-sends f k i [] = (0, false, sym (none-moved k (f 0 false)))
+  kind-sends f k i (x ∷ s) = go (eqb (x .id) id) refl (kind-sends f k (i + machines k (sendsAt x p)) s)
+    where
+      u : Stream
+      u = change (λ cs. cs) (at p (moveKind k (f i (registeredIn k (cellAt x p))))) x
+
+      same : u .id ≡ x .id
+      same = refl
+
+      rest : List Stream
+      rest = movedKind f k p (i + machines k (sendsAt x p)) s
+
+      go : (t : Bool) → eqb (x .id) id ≡ t → (j : ℕ) × (r : Bool) × (sendsIn p id rest ≡ moveKind k (f j r) (sendsIn p id s))
+          → (j : ℕ) × (r : Bool) × (cond (eqb (u .id) id) (sendsAt u p) (sendsIn p id rest) ≡ moveKind k (f j r) (cond t (sendsAt x p) (sendsIn p id s)))
+      go true e ih = (i, registeredIn k (cellAt x p), rw (same, e) (kind-here k p (f i (registeredIn k (cellAt x p))) x))
+      go false e ih = (ih .0, ih .1, rw (same, e) (ih .2))
+
+  left-sends : (now : ℕ) (k : Kind) (s : List Stream) → sendsIn p id (apply now p (leaveAll k) s) ≡ sendsIn p id s
+  unfolding sendsIn apply reach change sendsAt moves
+  left-sends now k [] = refl
+  left-sends now k (x ∷ s) =
+      ap₂ (cond (eqb (x .id) id)) (ap (λ (l : List Sends). getD l p noSends) (at-still p (λ (y : Sends). y) (λ y. refl) (x .sends))) (left-sends now k s)
+
+  leaving-sends : (now : ℕ) (all : Bool) (s : List Stream) → sendsIn p id (applyAll now p (ownLeaveAll all) s) ≡ sendsIn p id s
+  leaving-sends now false s = unfold applyAll ownLeaveAll in refl
+  leaving-sends now true s =
+      ap (sendsIn p id) (own-leaving now p s)
+      ∙ left-sends now listeners (apply now p (leaveAll faileds) (apply now p (leaveAll advertises) s))
+      ∙ left-sends now faileds (apply now p (leaveAll advertises) s)
+      ∙ left-sends now advertises s
+
+  past-sends : (s : List Stream) → All (λ j. id < j) (ids s) → sendsIn p id s ≡ noSends
+  unfolding sendsIn ids
+  past-sends [] a = refl
+  past-sends (x ∷ s) a = rw (ne-eqb (x .id) id (λ e. omega (arith, a .0, e))) (past-sends s (a .1))
+
+  -- a stream that goes sends nothing
+  dropped-sends : (s : List Stream) → Rising (ids s) → sendsIn p id (dropUnheld s) ≡ sendsIn p id s
+  unfolding sendsIn dropUnheld ids Rising
+  dropped-sends [] r = refl
+  dropped-sends (x ∷ s) r = go (isHeld x) refl (dropped-sends s (r .1))
+    where
+      silent : isHeld x ≡ false → sendsAt x p ≡ noSends
+      silent e = nothing-sent (sendsAt x p) (unfold isHeld sendsAt in (none-there (x .sends) p (or-false (held (x .cells)) (anySending (x .sends)) e .1)))
+
+      gone : isHeld x ≡ false → (t : Bool) → eqb (x .id) id ≡ t → sendsIn p id (dropUnheld s) ≡ sendsIn p id s
+          → sendsIn p id (dropUnheld s) ≡ cond t (sendsAt x p) (sendsIn p id s)
+      gone e true q ih = past-sends (dropUnheld s) (dropped-all (λ j. id < j) s (rw (eqb-true (x .id) id q) at (r .0))) ∙ sym (silent e)
+      gone e false q ih = ih
+
+      go : (t : Bool) → isHeld x ≡ t → sendsIn p id (dropUnheld s) ≡ sendsIn p id s
+          → sendsIn p id (keep t x (dropUnheld s)) ≡ cond (eqb (x .id) id) (sendsAt x p) (sendsIn p id s)
+      go true e ih = ap (cond (eqb (x .id) id) (sendsAt x p)) ih
+      go false e ih = gone e (eqb (x .id) id) refl ih
+
+-- A write is a happening of each machine of its port.
+module _ (b : Bridge) (rising : Rising (ids (b .streams))) (p place id : ℕ) where
+  abbrev all : Bool
+  all = leavesAll b p
+
+  abbrev f : ℕ → Bool → Standing → List Standing
+  f = movedAt all place (endOn b p place)
+
+  abbrev before : Sends
+  before = sendsIn p id (b .streams)
+
+  abbrev first : List Stream
+  first = movedKind f advertises p 0 (b .streams)
+
+  abbrev second : List Stream
+  second = movedKind f faileds p (machinesOf advertises p (b .streams)) first
+
+  abbrev listenerPlace : ℕ
+  listenerPlace = machinesOf advertises p (b .streams) + machinesOf faileds p (b .streams)
+
+  one : (j : ℕ) × (r : Bool) × (sendsIn p id first ≡ moveKind advertises (f j r) before)
+  one = kind-sends p id f advertises 0 (b .streams)
+
+  two : (j : ℕ) × (r : Bool) × (sendsIn p id second ≡ moveKind faileds (f j r) (sendsIn p id first))
+  two = kind-sends p id f faileds (machinesOf advertises p (b .streams)) first
+
+  three : (j : ℕ) × (r : Bool) × (sendsIn p id (movedKind f listeners p listenerPlace second) ≡ moveKind listeners (f j r) (sendsIn p id second))
+  three = kind-sends p id f listeners listenerPlace second
+
+  then-sends : sendsIn p id (afterWrite b p place .streams)
+      ≡ moveKind listeners (f (three .0) (three .1)) (moveKind faileds (f (two .0) (two .1)) (moveKind advertises (f (one .0) (one .1)) before))
+  unfolding afterWrite movedStreams
+  then-sends =
+      dropped-sends p id (applyAll (b .clock) p (ownLeaveAll all) (movedStreams f p (b .streams))) later
+      ∙ leaving-sends p id (b .clock) all (movedStreams f p (b .streams))
+      ∙ three .2
+      ∙ ap (moveKind listeners (f (three .0) (three .1))) (two .2 ∙ ap (moveKind faileds (f (two .0) (two .1))) (one .2))
+    where
+      later : Rising (ids (applyAll (b .clock) p (ownLeaveAll all) (movedStreams f p (b .streams))))
+      later = rw (leaving-ids (b .clock) p all (movedStreams f p (b .streams)), moved-ids f p (b .streams)) rising
+
+  pub write-happened : Happened (leavesAll b p) (sendsIn p id (b .streams)) (sendsIn p id (afterWrite b p place .streams))
+  write-happened =
+      let end = endOn b p place in
+      rw then-sends
+      (unfold moveKind in
+      record {
+        advertising = (leb place (one .0) && ltb (one .0) end, one .1, write-happens sameOffer all place end (one .0) (one .1) (before .advertising));
+        failing = (leb place (two .0) && ltb (two .0) end, two .1, write-happens sameFailed all place end (two .0) (two .1) (before .failing));
+        listening = (leb place (three .0) && ltb (three .0) end, three .1, write-happens sameReady all place end (three .0) (three .1) (before .listening));
+      })
