@@ -5,7 +5,7 @@ import click
 
 from srp import captures, files, frames, inputs, packets, phrases, texts
 from srp.faults import Fault
-from srp.options import FILE, capture_options, check_meaning, reading_of, say_notes, say_refused
+from srp.options import FILE, capture_options, check_meaning, reading_of, say, say_notes, say_refused
 from srp.progress import progress
 from srp.reading import OWN_PORTS
 
@@ -26,6 +26,8 @@ def write_capture(given, reading, out, is_received):
     with progress(f"calls of {given.name}", len(given.records)) as tell:
         found = take(given, tell, refused)
     say_refused(given, refused)
+    for note in frames.leave_all_notes(found) if not is_received and not frames.has_writes(given) else []:
+        say(f"warning: {given.name}: {note}")
     frames.write(out, found, reading.ports)
 
 
@@ -48,8 +50,8 @@ def check_options(written, **given):
 @click.option("--words", is_flag=True, help="Writes a frame's Messages in words, where the text format has them.")
 @capture_options
 def capture_command(file, out, received, named, words, calls, **options):
-    """Turns a capture's MSRP and MMRP frames into a text; or, from any input, writes a capture of what each port writes after each
-    advance."""
+    """Turns a capture's MSRP and MMRP frames into a text; or, from any input, writes a capture of what each port writes: by the
+    input's writes, or where it has none after each advance, as a product does."""
     is_capture = bool(out) and out.endswith((".pcap", ".pcapng"))
     check_options("capture" if is_capture else "text", received=received, named=named, words=words)
     if out:
