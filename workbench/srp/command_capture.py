@@ -3,7 +3,7 @@ from dataclasses import replace
 
 import click
 
-from srp import captures, files, frames, inputs, packets, phrases, texts
+from srp import captures, files, frames, inputs, packets
 from srp.faults import Fault
 from srp.options import FILE, capture_options, check_meaning, reading_of, say, say_notes, say_refused
 from srp.progress import progress
@@ -47,7 +47,7 @@ def check_options(written, **given):
 @click.option("--out", "-o", type=click.Path(), help="The file to write: a capture where it ends in .pcap or .pcapng, or a text.")
 @click.option("--received", is_flag=True, help="Writes the frames of the input, and not what each port writes.")
 @click.option("--named", is_flag=True, help="Names the packet of each frame in a comment.")
-@click.option("--words", is_flag=True, help="Writes a frame's Messages in words, where the text format has them.")
+@click.option("--words", is_flag=True, help="Writes a frame's Messages in words, or in comments where the text format has none.")
 @capture_options
 def capture_command(file, out, received, named, words, calls, **options):
     """Turns a capture's MSRP and MMRP frames into a text; or, from any input, writes a capture of what each port writes: by the
@@ -68,4 +68,4 @@ def capture_command(file, out, received, named, words, calls, **options):
         raise Fault(f"{file} is no capture; to write one of what its ports write, give --out with a name in .pcap or .pcapng")
     captured = captures.read(file, octets, reading)
     say_notes(captured)
-    write_text(out, captures.text_of(captured, named, phrases.line_of if words else texts.record_line))
+    write_text(out, captures.text_of(captured, named, words))
