@@ -123,7 +123,7 @@ enum srp_applicant {
  * they are 0.
  */
 struct srp_reported {
-    uint64_t count;    /* streams held now */
+    uint64_t count;    /* streams held now: one that is registered nowhere is held until its Lv is written */
     uint64_t total_a;  /* of the port, in bits per second: what class A has reserved, by the last advance */
     uint64_t limit_a;  /* and its limit, by the settings */
     uint64_t total_b;  /* the same of class B, which may use what class A leaves: it can be above limit_b */
@@ -159,10 +159,11 @@ uint8_t srp_receive_mmrp(uint8_t *table, size_t table_length, uint32_t port, con
 uint8_t srp_advance(uint8_t *table, size_t table_length, uint32_t time);
 
 /*
- * Writes into the buffer a PDU of what a port has to say, from a place of its declarations on, which counts from 0: its length, and
- * the place to go on from. Octets of the buffer past the length stay. The table changes with it: what is written counts as sent, so
- * that it is said once more or not at all; a declaration whose Lv is written is gone. A due LeaveAll goes out with the first write of
- * the port, and what the port has registered begins to leave.
+ * Writes into the buffer a PDU of what a port has to say, from a place of its declarations on: its length, and the place to go on
+ * from. Places count from 0 and by all declarations, those that have been said and those whose Lv has not too. Octets of the buffer
+ * past the length stay. The table changes with it: what is written counts as sent, so that it is said once more or not at all, and a
+ * declaration whose Lv is written is gone. A due LeaveAll goes out with the port's first write, from whatever place, and what the port
+ * has registered begins to leave.
  *
  * A port's pass begins at place 0 and goes on by the next places, which may stay or fall, to a PDU of SRP_PDU_EMPTY octets: it says
  * that nothing is left, and is not sent. Refused with 12, 1, 10, 13.

@@ -57,16 +57,16 @@ def test_a_stream_that_one_side_lacks(srp, written):
 
 
 def test_what_ports_have_said(srp, written):
-    """The same calls, and in the second a write and a withdrawal: nothing of it is decided otherwise."""
+    """The same calls, and in the second two writes, the last with a LeaveAll: nothing of it is decided otherwise."""
     text = TEXT.replace("on 3 domain", "start\non 3 domain")
     first = written("first.txt", f"{text}time 1000\n")
     second = written("second.txt", f"{text}write 3\ntime 1000\nwrite 1\n")
-    found = lines(srp("diff", first, second, status=1))
-    for line in ("0200000000010001 soprano port 3 sends Talker Advertise applicant VP AA",
-                 "port 3 sends Domain of class A, priority 3 applicant VP AA", "port 1 leave_all_due yes no",
-                 "0200000000010001 soprano port 1 sends Listener applicant VP AA",
-                 "0200000000010001 soprano port 1 talker_leaving no yes"):
-        assert line.split() in found
+    found = json.loads(srp("diff", first, second, "--json", status=1))
+    shown = [(one["name"], one["port"], one["part"], one["field"], one["first"], one["second"]) for one in found]
+    for line in (("soprano", 3, "sends Talker Advertise", "applicant", "VP", "AA"),
+                 ("soprano", 1, "sends Listener", "applicant", "VP", "AA"), ("soprano", 1, "", "talker_leaving", "no", "yes"),
+                 ("", 3, "sends Domain of class A, priority 3", "applicant", "VP", "AA"), ("", 1, "", "leave_all_due", "yes", "no")):
+        assert line in shown
     assert srp("diff", first, second, "--decided") == "no difference\n"
 
 

@@ -22,7 +22,7 @@ UNSENT = WITHDRAWN.replace("time 160", "on 2 listener soprano ready leave\ntime 
 ])
 def test_each_machine_in_words(srp, written, more, said):
     latency = "5 ns" if "latency" in more else "9 ns"
-    printed = srp("table", written("hall.txt", JOINED + more)).replace("\n", " ")
+    printed = " ".join(srp("table", written("hall.txt", JOINED + more)).split())
     assert f"port 2: Talker Advertise {said} to 91:e0:f0:00:00:01 VLAN 2" in printed
     assert f"rank 1, latency out {latency}" in printed
 
@@ -39,7 +39,7 @@ def test_domain_values_and_leave_all_in_words(srp, written):
 
 def test_a_failed_talker_in_words(srp, written):
     """Two machines of one stream on a port: the Advertise is withdrawn, the Failed is new."""
-    printed = srp("table", written("hall.txt", f"{JOINED}{SAID}on 1 talker soprano vlan 9\ntime 200\n")).replace("\n", " ")
+    printed = " ".join(srp("table", written("hall.txt", f"{JOINED}{SAID}on 1 talker soprano vlan 9\ntime 200\n")).split())
     assert "port 2: Talker Advertise LA (to say: Lv, once: it is withdrawn) to 91:e0:f0:00:00:01 VLAN 2" in printed
     assert "port 2: Talker Failed VP (to say: Join, twice)" in printed
     assert "code 16 (changes in FirstValue for a registered StreamID) of bridge 8000000000000007" in printed
