@@ -12,5 +12,5 @@ from srp.views import AskedFor, DomainValue, Load, Share, addresses, loads
 
 __all__ = ["Address", "AdvertiseSent", "Answer", "AskedFor", "Bridge", "Cell", "Domain", "DomainSent", "DomainValue", "Edge",
            "FailedSent", "Fault", "Input", "Listed", "ListenerSent", "Load", "Missing", "Moment", "Names", "Octets", "Parameters",
-           "Port", "Ran", "Reason", "Refusal", "Report", "Result", "Sender", "Sends", "Settings", "Share", "Stream", "StreamAt", "Sum",
-           "Table", "Totals", "Written", "addresses", "load", "loads", "moments", "run"]
+           "Port", "Ran", "Reason", "Refusal", "Report", "Result", "Sender", "Sends", "Settings", "Share", "Stream", "StreamAt",
+           "Sum", "Table", "Totals", "Written", "addresses", "load", "loads", "moments", "run"]

@@ -1,5 +1,5 @@
-"""What differs between two tables: every field of settings, clock, the ports' own parts, cells, results and what ports send; or what
-is decided alone."""
+"""What differs between two tables: every field of settings, clock, the ports' own parts, cells, results and what ports send; or
+what is decided alone."""
 from dataclasses import dataclass, fields
 
 from srp.names import NONE
@@ -26,7 +26,8 @@ SHOWN = {
 RESULT = {"latency": "latency_out", "second": "entry_since"}
 CELL = {"changed": "talker_changed", "latency": "talker_latency", "failed_bridge": "talker_failed_bridge", "code": "talker_code",
         "first_latency": "talker_first_latency", "listener": "registered_listener"}
-SENT = {"latency": "declared_latency", "failed_bridge": "declared_failed_bridge", "code": "declared_code", "declared": "declared_type"}
+SENT = {"latency": "declared_latency", "failed_bridge": "declared_failed_bridge", "code": "declared_code",
+        "declared": "declared_type"}
 SENDER = {"leave_all": "leave_all_due"}
 # Of results, what is decided.
 DECIDED = ("column", "code", "listener", "entry", "total_a", "total_b")

@@ -97,6 +97,19 @@ def refusals_of(given, at, part, found):
             if not getattr(answer, "accepted", True)]
 
 
+def clocked(part, found, clock):
+    """The records of a part that are answered, with the clock behind each and their answers."""
+    for record, answer in zip((record for record in part if record.is_answered), found):
+        clock = clock_behind(record, answer, clock)
+        yield clock, record, answer
+
+
+def own_frames(clock, record, answer):
+    """What a record of the input has written."""
+    if record.kind == records.WRITE and answer.has_said:
+        yield clock, records.receive(record.port, answer.pdu)
+
+
 def written(given, tell, refused):
     """What each port writes, with its time, as records: by the writes of the input, or where it has none in a pass of each port
     after each accepted advance, as a product makes it. A bridge writes no MMRP frames. Refused is a list that gets the refused
@@ -107,10 +120,8 @@ def written(given, tell, refused):
         for part in up_to_advances(given):
             ports = max([ports, *(ports_of(record) for record in part if record.kind == records.START)])
             found = list(bridge.calls(part))
-            for record, answer in zip((record for record in part if record.is_answered), found):
-                clock = clock_behind(record, answer, clock)
-                if record.kind == records.WRITE and answer.has_said:
-                    frames.append((clock, records.receive(record.port, answer.pdu)))
+            for clock, record, answer in clocked(part, found, clock):
+                frames += own_frames(clock, record, answer)
             refused += refusals_of(given, at, part, found)
             at += len(part)
             tell(len(part))

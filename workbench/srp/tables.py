@@ -3,8 +3,8 @@ were asked for, what is settled, and what each port has still to say."""
 from srp.needs import need
 from srp.refusals import summed_up
 from srp.views import addresses, class_of, demand, loads, of_class, ports
-from srp.words import (CLASSES, COLUMNS, ENTRIES, LEAVE_ALL_TIME, LISTENERS, address, applicant, cause, counted, edge, rate, seconds,
-                       stream_id, word)
+from srp.words import (CLASSES, COLUMNS, ENTRIES, LEAVE_ALL_TIME, LISTENERS, address, applicant, cause, counted, edge, rate,
+                       seconds, stream_id, word)
 
 TALKERS = ("none", "Advertise", "Failed")
 DECLARED = ("none", "Asking Failed", "Ready", "Ready Failed")

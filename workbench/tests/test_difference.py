@@ -65,7 +65,8 @@ def test_what_ports_have_said(srp, written):
     shown = [(one["name"], one["port"], one["part"], one["field"], one["first"], one["second"]) for one in found]
     for line in (("soprano", 3, "sends Talker Advertise", "applicant", "VP", "AA"),
                  ("soprano", 1, "sends Listener", "applicant", "VP", "AA"), ("soprano", 1, "", "talker_leaving", "no", "yes"),
-                 ("", 3, "sends Domain of class A, priority 3", "applicant", "VP", "AA"), ("", 1, "", "leave_all_due", "yes", "no")):
+                 ("", 3, "sends Domain of class A, priority 3", "applicant", "VP", "AA"),
+                 ("", 1, "", "leave_all_due", "yes", "no")):
         assert line in shown
     assert srp("diff", first, second, "--decided") == "no difference\n"
 

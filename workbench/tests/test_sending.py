@@ -65,8 +65,8 @@ def events_shown(capture, source):
 @needs_tshark
 def test_writes_of_the_input_are_read_by_tshark(srp, both, written, tmp_path):
     """Joins, New, Lv, and a LeaveAll with In and Mt: an input that writes by itself is captured as it does."""
-    text = (f"{JOINED}{2 * SAID}on 1 talker soprano latency 5\ntime 140\nwrite 2\nwrite 2\nwrite 2\non 1 talker soprano leave\n"
-            "time 200\nwrite 2\non 1 talker 0200000000010003\ntime 1000\nwrite 2\nwrite 2\n")
+    text = (f"{JOINED}{2 * SAID}on 1 talker soprano latency 5\ntime 140\nwrite 2\nwrite 2\nwrite 2\n"
+            "on 1 talker soprano leave\ntime 200\nwrite 2\non 1 talker 0200000000010003\ntime 1000\nwrite 2\nwrite 2\n")
     capture = tmp_path / "hall.pcapng"
     status, _, said = both("capture", written("hall.txt", text), "-o", capture)
     assert (status, said) == (0, "")
@@ -81,7 +81,7 @@ def test_writes_of_the_input_are_read_by_tshark(srp, both, written, tmp_path):
 
 @needs_tshark
 def test_passes_of_a_long_input(srp, both, written, tmp_path):
-    """After each advance each port says what it has to say, and then nothing; LeaveAll is warned of, since the input answers none."""
+    """After each advance each port says what it has to say, then nothing; LeaveAll is warned of, since the input answers none."""
     capture = tmp_path / "long.pcap"
     text = f"{HEAD}{HEARD}on 1 talker soprano\non 2 listener soprano ready\n" + "".join(
         f"time {time}\n" for time in (100, 200, 300, 400, 1000, 1100, 1200))
