@@ -114,7 +114,7 @@ enum srp_applicant {
     SRP_APPLICANT_VN = 2,   /* New, twice: its content is another than before */
     SRP_APPLICANT_AN = 3,   /* New, once more */
     SRP_APPLICANT_AA = 4,   /* Join, once more */
-    SRP_APPLICANT_QA = 5,   /* nothing, until a LeaveAll */
+    SRP_APPLICANT_QA = 5,   /* nothing, until a LeaveAll or a neighbour that lacks it asks for it */
     SRP_APPLICANT_LA = 6    /* Lv, once: it is withdrawn */
 };
 

@@ -8,7 +8,7 @@ CLASSES = ("A", "B")
 # Applicants (IEEE 802.1Q, Table 10-3) by their octet, and what each has still to say.
 APPLICANTS = ("none", "VP", "VN", "AN", "AA", "QA", "LA")
 STILL_TO_SAY = {"VP": "Join, twice", "VN": "New, twice", "AN": "New, once more", "AA": "Join, once more",
-                "QA": "nothing, until a LeaveAll", "LA": "Lv, once: it is withdrawn"}
+                "QA": "nothing", "LA": "Lv, once: it is withdrawn"}
 LEAVING = APPLICANTS.index("LA")
 # Hundredths of a second from one LeaveAll that is due to the next (LeaveAllTime).
 LEAVE_ALL_TIME = 1000

@@ -114,7 +114,7 @@ def test_what_a_port_says_until_it_is_quiet():
         bridge.feed(f"{TALKER}\n{LISTENER}\ntime 100")
         assert [len(bridge.said(2)) for _ in range(3)] == [1, 1, 0]
         bridge.feed(f"{TALKER} leave\ntime 160")
-        # the Talker's Lv gives its own place back, since the declaration is gone
+        # the declaration is gone, and two Domain values are left
         [answer, after] = [bridge.write(2, 0) for _ in range(2)]
         assert (answer.next, answer.has_said, answer.pdu[32] // 36) == (2, True, 5)
         assert (after.length, after.has_said, bridge.said(2)) == (3, False, [])

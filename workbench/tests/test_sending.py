@@ -15,7 +15,7 @@ UNSENT = WITHDRAWN.replace("time 160", "on 2 listener soprano ready leave\ntime 
 
 
 @pytest.mark.parametrize("more, said", [
-    ("", "VP (to say: Join, twice)"), (SAID, "AA (to say: Join, once more)"), (2 * SAID, "QA (to say: nothing, until a LeaveAll)"),
+    ("", "VP (to say: Join, twice)"), (SAID, "AA (to say: Join, once more)"), (2 * SAID, "QA (to say: nothing)"),
     (2 * SAID + "on 1 talker soprano latency 5\ntime 200\n", "VN (to say: New, twice)"),
     (2 * SAID + "on 1 talker soprano latency 5\ntime 200\nwrite 2\n", "AN (to say: New, once more)"),
     (2 * SAID + "on 2 leaveall advertise\n", "VP (to say: Join, twice)"),
