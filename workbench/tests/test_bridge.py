@@ -105,6 +105,22 @@ def test_a_look_leaves_the_bridge_as_it_is():
         assert bridge.sum() != before and [bridge.declarations(port) for port in (1, 2)] == looks
 
 
+def test_a_pass_goes_on_where_the_place_stays():
+    """64 Lvs take two PDUs. The first gives back place 0, since what it has withdrawn is gone; with the last the streams are."""
+    import srp
+
+    with srp.Bridge(SETTINGS) as bridge:
+        bridge.hear_domain()
+        bridge.feed("on 1 talker 0200000000010001 values 64\ntime 100")
+        assert len(bridge.said(2)) == 2
+        bridge.feed("on 1 leaveall advertise\ntime 160")
+        with bridge.kept():
+            assert (bridge.write(2).next, bridge.report(2).count) == (0, 11)
+        looked = bridge.declarations(2)
+        assert bridge.report(2).count == 64 and looked == bridge.said(2) and len(looked) == 2
+        assert bridge.report(2).count == 0
+
+
 def test_what_a_port_says_until_it_is_quiet():
     """Two Joins; an Lv for what is withdrawn; LeaveAll at 10 s. A refused write says nothing."""
     import srp
