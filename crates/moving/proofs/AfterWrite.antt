@@ -10,15 +10,14 @@ use lib.Seq.{length-take-le}
 use lib.Dec.{leb, ltb}
 use borrow.Author.Tests.{lt-ltb, le-ltb, le-leb, lt-leb}
 use Rattle.model.specs.Lists.{All}
-use Rattle.model.specs.Applicant.{txLAF, opportunity, Standing, becomes}
+use Rattle.model.specs.Applicant.{txLAF, opportunity, becomes}
 use Rattle.model.specs.Places as places
 use Rattle.model.specs.Places.{Way, itself, each, saying, reached, behind, writeFrom}
 use Rattle.model.specs.Machines.{Listed, with, after, way}
 use Rattle.model.specs.State.{Bridge, noDomain, cellAt, senderAt, ownAt, slotOf}
-use Rattle.model.specs.Registrations.{Kind, advertises, faileds, listeners, at, applyAll, applyOwns, registeredIn, domainStays}
-use Rattle.model.specs.Settling.{dropUnheld}
+use Rattle.model.specs.Registrations.{Kind, advertises, faileds, listeners, registeredIn, domainStays}
 use Rattle.model.specs.Declarations.{Declaration, talkerKind, advertiseOf, failedOf, ofKind, domainOf, domainValues, declarations, isRegistered}
-use Rattle.model.specs.Writing.{leavesAll, portWay, takesOn, wroteOn, endOn, movedAt, machinesOf, movedStreams, movedSender, ownLeaveAll, afterWrite}
+use Rattle.model.specs.Writing.{leavesAll, portWay, takesOn, wroteOn, endOn, movedAt, afterWrite}
 use Rattle.model.proofs.Lists.{all-map}
 use Rattle.model.proofs.PlaceLists.{reached-behind}
 use Rattle.model.proofs.WrittenList.{eachAt, at-append, at-same, atPlace, registered-self, ListedPort}
@@ -33,36 +32,22 @@ pub record SpanOf (b : Bridge) (p place : ℕ) (w : Span) : Type 0 where
   pub end-is : w .end ≡ endOn b p place
   pub all-is : w .all ≡ leavesAll b p
 
-module _ (b : Bridge) (p : ℕ) where
-  afterAt : Bool → ℕ → ℕ → Bridge
-  afterAt all place end =
-      let f : ℕ → Bool → Standing → List Standing = movedAt all place end in
-      let s = b .streams in
-      let n = machinesOf advertises p s + machinesOf faileds p s + machinesOf listeners p s in
-      record {
-        settings = b .settings;
-        clock = b .clock;
-        totals = b .totals;
-        owns = applyOwns (b .clock) p (ownLeaveAll all) (b .owns);
-        senders = at p (movedSender f (b .clock) all (ownAt (b .owns) p) n) (b .senders);
-        streams = dropUnheld (applyAll (b .clock) p (ownLeaveAll all) (movedStreams f p s));
-      }
+abbrev span : ℕ → ℕ → Bool → Span
+span place end all = record { place = place; end = end; all = all }
 
-  moves-are : (w : Span) → afterMoves w p b ≡ afterAt (w .all) (w .place) (w .end)
-  unfolding afterMoves movedBy afterAt
-  moves-are w = refl
+module _ (b : Bridge) (p place : ℕ) where
+  span-is : (w : Span) → SpanOf b p place w → w ≡ span place (endOn b p place) (leavesAll b p)
+  span-is w s =
+      ap (λ (x : ℕ). span x (w .end) (w .all)) (s .place-is)
+      ∙ ap (λ (x : ℕ). span place x (w .all)) (s .end-is)
+      ∙ ap (span place (endOn b p place)) (s .all-is)
 
-  write-is : (place : ℕ) → afterAt (leavesAll b p) place (endOn b p place) ≡ afterWrite b p place
-  unfolding afterWrite afterAt
-  write-is place = refl
+  moves-are : afterMoves (span place (endOn b p place) (leavesAll b p)) p b ≡ afterWrite b p place
+  unfolding afterMoves afterWrite movedBy
+  moves-are = refl
 
-  pub moves-written : (place : ℕ) (w : Span) → SpanOf b p place w → afterMoves w p b ≡ afterWrite b p place
-  moves-written place w s =
-      moves-are w
-      ∙ ap (λ (x : Bool). afterAt x (w .place) (w .end)) (s .all-is)
-      ∙ ap (λ (x : ℕ). afterAt (leavesAll b p) x (w .end)) (s .place-is)
-      ∙ ap (afterAt (leavesAll b p) place) (s .end-is)
-      ∙ write-is place
+  pub moves-written : (w : Span) → SpanOf b p place w → afterMoves w p b ≡ afterWrite b p place
+  moves-written w s = ap (λ (x : Span). afterMoves x p b) (span-is w s) ∙ moves-are
 
 -- The next place: what is left of the declarations before the end.
 

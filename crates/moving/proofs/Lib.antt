@@ -1,6 +1,5 @@
 pub mod One
 pub mod OfStream
-pub mod Registered
 pub mod EachType
 pub mod OfPort
 pub mod OfTable

@@ -6,21 +6,16 @@ ghost use mathlib.Core.Bool.{true, cond, not};
 ghost use Rattle.model.specs.Lists.{bit};
 ghost use Prim.Native.Nat.{ℕ, _+_, _≤_, _<_};
 ghost use lib.ListN.{length};
-ghost use Rattle.model.specs.Layout.{cellSize, sendsSize, senderSize, slotSize};
+ghost use Rattle.model.specs.Layout.{sendsSize, senderSize};
 ghost use Rattle.model.specs.Applicant.{txLAF, opportunity, step};
-ghost use Rattle.model.specs.Registrations.{registeredIn, domainStays};
 ghost use Rattle.model.specs.Sending.{senderOctets, toSender};
-ghost use Rattle.model.specs.Table.{decode, toCell, toDomain};
-ghost use Rattle.model.specs.Laid.{LaidCell, LaidDomain, LaidSender};
+ghost use Rattle.model.specs.Table.{decode};
+ghost use Rattle.model.specs.Laid.{LaidSender};
 ghost use Rattle.model.specs.Writing.{ownLeaveAll};
 ghost use Rattle.table.specs.Places.{PortIn};
 ghost use Rattle.cells.specs.Acts.{kindAt};
 ghost use Rattle.registrar.specs.Walked.{Walked};
 ghost use Rattle.moving.specs.Moves.{octetBy, stateAt, inKind, behindKind, metBy, Few, allSent, leaveAllSent, Encodes, MovedTypes, ListMoved, MovedStream, MovedKind, MovedSlot, MovedDomains, MovedSends, MovedSender, SendsGiven, StreamGiven, KindGiven, SenderGiven, SlotGiven, DomainsGiven};
-use table::cell::LISTENER;
-use table::cell::LISTENER_LEAVES;
-use table::cell::TALKER;
-use table::cell::TALKER_LEAVES;
 use table::sender::APPLICANTS;
 use table::sender::LEAVE_ALL;
 use table::sends::ADVERTISED;
@@ -29,8 +24,6 @@ use table::sends::FAILED;
 use table::sends::FAILING;
 use table::sends::LISTENED;
 use table::sends::LISTENING;
-use table::slot::HELD;
-use table::slot::LEAVES;
 
 // A write of a port: the place that its PDU takes declarations from, the end that it reaches, and whether it has LeaveAll.
 pub struct Span {
@@ -43,34 +36,6 @@ pub struct Span {
 pub struct Met {
     pub count: usize,
     pub left: usize,
-}
-
-// Whether an AttributeType is registered in a cell, and not leaving.
-pub fn is_registered(cell: &[u8], kind: u8) -> bool
-    requires { ⌜ LaidCell (now cell) × (length (now cell) ≡ cellSize) × (1 ≤ kind) × (kind ≤ 3) ⌝ }
-    ensures { λ r. ⌜ r ≡ registeredIn (kindAt kind) (toCell (now (cell .entry))) ⌝ }
-{
-    if kind == 3 {
-        if cell[LISTENER] == 0 {
-            return false;
-        }
-        return cell[LISTENER_LEAVES] == 0;
-    }
-    if cell[TALKER] == kind {
-        return cell[TALKER_LEAVES] == 0;
-    }
-    false
-}
-
-// Whether a Domain value is registered, and not leaving.
-pub fn is_domain_registered(slot: &[u8]) -> bool
-    requires { ⌜ LaidDomain (now slot) × (length (now slot) ≡ slotSize) ⌝ }
-    ensures { λ r. ⌜ r ≡ domainStays (toDomain (now (slot .entry))) ⌝ }
-{
-    if slot[HELD] == 0 {
-        return false;
-    }
-    slot[LEAVES] == 0
 }
 
 // An Applicant's octet after tx!, or with LeaveAll after txLA!.
@@ -182,7 +147,7 @@ fn move_stream(table: &mut [u8], k: usize, p: usize, kind: u8, span: Span, from:
     requires { ⌜ StreamGiven (now table) k p kind from ⌝ }
     ensures { λ r. ⌜ MovedStream span from (kindAt kind) k p (now (table .entry)) r (now (table .exit)) ⌝ }
 {
-    let registered = is_registered(table::cell_at(table, k, p), kind);
+    let registered = cells::is_registered(table::cell_at(table, k, p), kind);
     let a = table::sends_in(table, k, p);
     move_sent(
         &mut table[a..a + table::SENDS],
@@ -228,7 +193,7 @@ fn move_domain(table: &mut [u8], p: usize, slot: usize, span: Span, from: Met) -
     ensures { λ r. ⌜ MovedSlot span from p slot (now (table .entry)) r (now (table .exit)) ⌝ }
 {
     let value = table::slot_in(table, p, slot);
-    let registered = is_domain_registered(&table[value..value + table::SLOT]);
+    let registered = domains::is_registered(&table[value..value + table::SLOT]);
     let a = table::sender_in(table, p);
     move_slot(
         &mut table[a..a + table::SENDER],

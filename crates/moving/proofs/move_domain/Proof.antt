@@ -8,11 +8,11 @@ use Rattle.moving.proofs.OfTable.{slot-moves-in}
 use Rattle.moving.proofs.move_domain.Statement.{statement}
 use Rattle.moving.proofs.move_domain.Tie as tie
 
-is-domain-registered-requires : tie.Need-is-domain-registered-requires
-is-domain-registered-requires c κs =
+is-registered-requires : tie.Need-is-registered-requires
+is-registered-requires c κs =
     let s = c .before .before .before .before .before in
     let reads = lent-slot-at (s .pre .slot) _ (c .before .before .slot-in .ensures .0) in
-    (reads .laid, reads .size)
+    reads .size
 
 sender-in-requires : tie.Need-sender-in-requires
 sender-in-requires c κs = port-of-slot (c .before .before .before .before .before .before .before .pre .slot)
@@ -29,11 +29,11 @@ returns c =
     let a = s .args in
     let value = c .before .before .before .before .before .before .before .before .before .slot-in in
     slot-moves-in (a .span) (a .from) (a .table .now) _ _ _ _ (a .p) (a .slot) (port-of-slot (s .pre .slot)) (c .before .before .before .before .sender-in .ensures .0)
-    (c .before .before .before .before .before .before .is-domain-registered .ensures ∙ ap domainStays (lent-slot-at (s .pre .slot) _ (value .ensures .0) .is))
+    (c .before .before .before .before .before .before .is-registered .ensures ∙ ap domainStays (lent-slot-at (s .pre .slot) _ (value .ensures .0) .is))
     (c .before .before .move-slot .ensures)
 
 pub move-domain-spec : {M : Type 1} → statement M
 move-domain-spec =
     tie.close
-    (tie.spec (λ c κs. search needs) (λ c. search needs) (λ c. search needs) (λ c. search needs) (λ c. search needs) is-domain-registered-requires
+    (tie.spec (λ c κs. search needs) (λ c. search needs) (λ c. search needs) (λ c. search needs) (λ c. search needs) is-registered-requires
     sender-in-requires (λ c. search needs) (λ c. search needs) (λ c. search needs) (λ c. search needs) move-slot-requires (λ c. search needs) returns)

@@ -8,6 +8,12 @@ use Rattle.moving.proofs.OfTable.{stream-moves}
 use Rattle.moving.proofs.move_stream.Statement.{statement}
 use Rattle.moving.proofs.move_stream.Tie as tie
 
+is-registered-requires : tie.Need-is-registered-requires
+is-registered-requires c κs =
+    let reads = c .cell-at .ensures in
+    let s = c .before .before .before .pre in
+    record { laid = reads .laid; size = reads .size; low = s .low; high = s .high }
+
 move-sent-requires : tie.Need-move-sent-requires
 move-sent-requires c κs =
     let s = c .before .before .before .before .before .before .before in
@@ -26,5 +32,5 @@ returns c =
 pub move-stream-spec : {M : Type 1} → statement M
 move-stream-spec =
     tie.close
-    (tie.spec (λ c κs. search needs) (λ c κs. search needs) (λ c κs. search needs) (λ c. search needs) (λ c. search needs) (λ c. search needs)
+    (tie.spec (λ c κs. search needs) is-registered-requires (λ c κs. search needs) (λ c. search needs) (λ c. search needs) (λ c. search needs)
     (λ c. search needs) move-sent-requires (λ c. search needs) returns)

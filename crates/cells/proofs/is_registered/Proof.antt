@@ -1,12 +1,12 @@
--- `moving::is_registered` meets its contract. Assumes nothing.
+-- `cells::is_registered` meets its contract. Assumes nothing.
 use mathlib.Core.Path.{sym, _∙_}
 use native.Mathlib.Omega.{arith}
 use borrow.Author.Needs.{needs}
 use borrow.Author.Tests.{eq-eqb, ne-eqb}
 use Rattle.cells.specs.Acts.{kindAt}
-use Rattle.moving.proofs.Registered.{listener-registered, talker-registered}
-use Rattle.moving.proofs.is_registered.Statement.{statement}
-use Rattle.moving.proofs.is_registered.Tie as tie
+use Rattle.cells.proofs.Registered.{listener-registered, talker-registered}
+use Rattle.cells.proofs.is_registered.Statement.{statement}
+use Rattle.cells.proofs.is_registered.Tie as tie
 
 returns : tie.Need-returns
 unfolding kindAt
@@ -24,13 +24,13 @@ returns-3 : tie.Need-returns-3
 returns-3 c =
     let s = c .before .before .before .before in
     let a = s .args in
-    sym (talker-registered (a .kind) (s .pre .2) (omega arith) (a .cell .now) (s .pre .0) ∙ rw (eq-eqb _ _ (c .before .if3 .taken)))
+    sym (talker-registered (a .kind) (s .pre .low) (omega arith) (a .cell .now) (s .pre .laid) ∙ rw (eq-eqb _ _ (c .before .if3 .taken)))
 
 returns-4 : tie.Need-returns-4
 returns-4 c =
     let s = c .before .before .before in
     let a = s .args in
-    sym (talker-registered (a .kind) (s .pre .2) (omega arith) (a .cell .now) (s .pre .0) ∙ rw (ne-eqb _ _ (c .if3 .left)))
+    sym (talker-registered (a .kind) (s .pre .low) (omega arith) (a .cell .now) (s .pre .laid) ∙ rw (ne-eqb _ _ (c .if3 .left)))
 
 pub is-registered-spec : {M : Type 1} → statement M
 is-registered-spec =

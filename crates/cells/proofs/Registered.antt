@@ -1,4 +1,4 @@
--- Whether an AttributeType or a Domain value is registered and not leaving, read from its octets.
+-- Whether an AttributeType is registered and not leaving, read from the octets of a cell.
 use mathlib.Core.Path.{_≡_, refl, _∙_}
 use mathlib.Core.List.{List}
 use mathlib.Core.Bool.{Bool, true, false, cond, _&&_}
@@ -10,16 +10,16 @@ use borrow.Author.Tests.{ne-eqb}
 use Rattle.octets.specs.Be.{beAt}
 use Rattle.octets.specs.Fields.{width, fields}
 use Rattle.octets.proofs.Fields.{beAt-one, get-octet}
-use Rattle.model.specs.Layout.{cellIndex, cellWidths, inCell, inSlot, slotIndex}
-use Rattle.model.specs.State.{Leaving, stays, since, TalkerType, talkerAdvertise, talkerFailed, Talker, noTalker, talker, Ready, Listener, noListener, listener, Cell, noDomain, domain}
-use Rattle.model.specs.Registrations.{listeners, talksAs, isStaying, talkerStays, listenerStays, domainStays, registeredIn}
+use Rattle.model.specs.Layout.{cellIndex, cellWidths, inCell}
+use Rattle.model.specs.State.{Leaving, stays, since, TalkerType, talkerAdvertise, talkerFailed, Talker, noTalker, talker, Ready, Listener, noListener, listener, Cell}
+use Rattle.model.specs.Registrations.{listeners, talksAs, isStaying, talkerStays, listenerStays, registeredIn}
 use Rattle.model.specs.WrittenFrames.{toReady}
-use Rattle.model.specs.Table.{leavingNumber, toLeaving, talkerTypeNumber, talkerNumbers, cellNumbers, cellOctets, cellFrom, listenerFrom, toCell, domainFrom, toDomain}
+use Rattle.model.specs.Table.{leavingNumber, toLeaving, talkerTypeNumber, talkerNumbers, cellNumbers, cellOctets, cellFrom, listenerFrom, toCell}
 use Rattle.model.specs.Laid.{FitCell, LaidCell}
 use Rattle.cells.specs.Acts.{kindAt}
 use Rattle.cells.proofs.Leaving.{laid, both, talker-kind}
 
--- A Listener's, and a Domain value's: whether it is there, and then whether its leaving is unmarked.
+-- A Listener's: whether it is there, and then whether its leaving is unmarked.
 
 listener-read : (r : Ready) (t : ℕ) (none staying : Bool) → listenerStays (cond none noListener (listener r (cond staying stays (since t)))) ≡ cond none false staying
 unfolding listenerStays isStaying
@@ -30,16 +30,6 @@ listener-read r t false false = refl
 pub listener-registered : (s : List ℕ) → registeredIn listeners (toCell s) ≡ cond (eqb (getD s inCell.listener 0) 0) false (eqb (getD s inCell.listenerLeaves 0) 0)
 unfolding registeredIn toCell cellFrom listenerFrom toLeaving fields
 listener-registered s = rw (beAt-one s inCell.listener, beAt-one s inCell.listenerLeaves) (listener-read (toReady (beAt 1 s inCell.listener)) (beAt 4 s (inCell.listenerLeaves + 1)) (eqb (beAt 1 s inCell.listener) 0) (eqb (beAt 1 s inCell.listenerLeaves) 0))
-
-domain-read : (v t : ℕ) (none staying : Bool) → domainStays (cond none noDomain (domain v (cond staying stays (since t)))) ≡ cond none false staying
-unfolding domainStays isStaying
-domain-read v t true staying = refl
-domain-read v t false true = refl
-domain-read v t false false = refl
-
-pub domain-registered : (s : List ℕ) → domainStays (toDomain s) ≡ cond (eqb (getD s slotIndex.registered 0) 0) false (eqb (getD s inSlot.leaves 0) 0)
-unfolding toDomain domainFrom toLeaving fields
-domain-registered s = rw (beAt-one s slotIndex.registered, beAt-one s inSlot.leaves) (domain-read (beAt 2 s inSlot.vlan) (beAt 4 s (inSlot.leaves + 1)) (eqb (beAt 1 s slotIndex.registered) 0) (eqb (beAt 1 s inSlot.leaves) 0))
 
 -- A Talker's: whether its kind is that of the AttributeType.
 
