@@ -325,10 +325,7 @@ fn seek(table: &[u8], p: usize, attribute: Attribute, skip: usize) -> Start
     let mut k: usize = 0;
     while k < count {
         if before == 0 {
-            return Start {
-                first: k,
-                skip: 0,
-            };
+            return Start { first: k, skip: 0 };
         }
         let here = k;
         k += 1;
@@ -417,12 +414,7 @@ fn write_talker(table: &[u8], k: usize, p: usize, from: usize, event: u8, out: &
     let more = out.len() - (BEHIND_ID + EVENTS);
     begin_vector(1, table::id_at(table, k), out);
     copy_offer(table, k, p, from, &mut out[BEHIND_ID..BEHIND_ID + more]);
-    octets::put(
-        out,
-        BEHIND_ID + more,
-        EVENTS,
-        event as u64 * FIRST_EVENT,
-    );
+    octets::put(out, BEHIND_ID + more, EVENTS, event as u64 * FIRST_EVENT);
 }
 
 // The vector of the Domain value of slot k: class ID, priority, VLAN.
@@ -562,10 +554,7 @@ fn write_none(table: &[u8], p: usize, attribute: Attribute, at: usize, buffer: &
 {
     let size = empty_size(attribute, leaves_all(table, p));
     if size == 0 {
-        return Message {
-            count: 0,
-            end: at,
-        };
+        return Message { count: 0, end: at };
     }
     octets::clear(buffer, at, size);
     finish(table, p, attribute, &mut buffer[at..at + size]);
@@ -744,7 +733,14 @@ fn take_packed(table: &[u8], p: usize, places: &[u8], at: usize, buffer: &mut [u
 }
 
 // The same of all that have something to say from a place on, with room for 64 places.
-fn take_listeners(table: &[u8], p: usize, run: Run, at: usize, places: &mut [u8], buffer: &mut [u8]) -> Message
+fn take_listeners(
+    table: &[u8],
+    p: usize,
+    run: Run,
+    at: usize,
+    places: &mut [u8],
+    buffer: &mut [u8],
+) -> Message
     requires { ⌜ MessageIn (now table) p (registers listeners) at (now buffer) × RestIn (now table) p run × (run .attribute ≡ Listener) × (length (now places) ≡ 64) ⌝ }
     ensures { λ r. ⌜ MessageWritten (leavesAll (decode (now (table .entry))) p) (registers listeners) (saidFrom (registers listeners) p (decode (now (table .entry))) (run .first)) at (now (buffer .entry)) r (now (buffer .exit)) ⌝ }
 {
@@ -787,7 +783,13 @@ pub struct Progress {
 }
 
 // The pass of a type that has room left.
-fn pass_open(table: &[u8], p: usize, attribute: Attribute, from: Progress, buffer: &mut [u8]) -> Progress
+fn pass_open(
+    table: &[u8],
+    p: usize,
+    attribute: Attribute,
+    from: Progress,
+    buffer: &mut [u8],
+) -> Progress
     requires { ⌜ PassIn (now table) p (type attribute) from (now buffer) × (from .full ≡ false) ⌝ }
     ensures { λ r. ⌜ PassLeaves (now (table .entry)) p (type attribute) from (now (buffer .entry)) r (now (buffer .exit)) ⌝ }
 {

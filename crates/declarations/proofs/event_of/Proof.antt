@@ -19,10 +19,9 @@ returns : tie.Need-returns
 returns c =
     let a = c .before .before .before .before .before .args in
     let pre = c .before .before .before .before .before .pre in
-    let t = a .table .now in
-    (
+    let t = a .table .now in (
       (rw (c .before .leaves-all .ensures, c .before .before .is-registered .ensures, c .before .before .before .state-of .ensures) at (c .event-written .ensures .0))
-      ∙ event-is (a .p) (decode t) (laid-fits t (pre .places .laid) .ascending) (type (a .attribute)) (a .k) (pre .places .held) (pre .one),
+          ∙ event-is (a .p) (decode t) (laid-fits t (pre .places .laid) .ascending) (type (a .attribute)) (a .k) (pre .places .held) (pre .one),
       c .event-written .ensures .1,
     )
 
