@@ -104,7 +104,7 @@ fn advance(table: &mut [u8], space: &mut [u8]) -> Step {
     Step::Stop
 }
 
-fn write(table: &[u8], port: u32, space: &mut [u8]) -> Step {
+fn write(table: &mut [u8], port: u32, space: &mut [u8]) -> Step {
     let mut field = [0u8; 4];
     if read(&mut field) {
         let place = octets::get(&field, 0, 2) as u32;
@@ -179,7 +179,6 @@ fn print_octets(table: &[u8], space: &mut [u8]) -> Step {
 fn look(table: &[u8], kind: u8, space: &mut [u8]) -> Step {
     let port = (kind % 16) as u32;
     match kind {
-        0x30..=0x3F => write(table, port, space),
         0x40..=0x4F => report(table, port, space),
         0x60 => print_sum(table, space),
         0x61 => print_octets(table, space),
@@ -195,6 +194,7 @@ fn call(table: &mut [u8], kind: u8, space: &mut [u8]) -> Step
     match kind {
         0x00 | 0x10..=0x1F | 0x70..=0x7F => hand(table, kind, space),
         0x20 => advance(table, space),
+        0x30..=0x3F => write(table, (kind % 16) as u32, space),
         _ => look(table, kind, space),
     }
 }
