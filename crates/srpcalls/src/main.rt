@@ -104,16 +104,21 @@ fn advance(table: &mut [u8], space: &mut [u8]) -> Step {
     Step::Stop
 }
 
+// A write to a filled buffer of the length asked for, and its line.
+fn put_write(table: &mut [u8], port: u32, place: u32, asked: usize, space: &mut [u8]) -> usize {
+    let n = console::least(asked, answers::BUFFER);
+    let mut filled = answers::filled();
+    let buffer = &mut filled[0..n];
+    let wrote = bridge::write(table, port, place, buffer);
+    answers::put_written(space, wrote, buffer)
+}
+
 fn write(table: &mut [u8], port: u32, space: &mut [u8]) -> Step {
     let mut field = [0u8; 4];
     if read(&mut field) {
         let place = octets::get(&field, 0, 2) as u32;
         let asked = octets::get(&field, 2, 2) as usize;
-        let n = console::least(asked, answers::BUFFER);
-        let mut filled = answers::filled();
-        let buffer = &mut filled[0..n];
-        let wrote = bridge::write(table, port, place, buffer);
-        let at = answers::put_written(space, wrote, buffer);
+        let at = put_write(table, port, place, asked, space);
         return print(space, at);
     }
     Step::Stop
@@ -129,16 +134,21 @@ fn report(table: &[u8], port: u32, space: &mut [u8]) -> Step {
     Step::Stop
 }
 
+// A why with a filled buffer of the length asked for, and its line.
+fn put_why(table: &[u8], id: u64, port: u32, asked: usize, space: &mut [u8]) -> usize {
+    let n = console::least(asked, answers::BUFFER);
+    let mut filled = answers::filled();
+    let buffer = &mut filled[0..n];
+    let answer = bridge::why(table, id, port, buffer);
+    answers::put_explained(space, answer, buffer)
+}
+
 fn explain(table: &[u8], port: u32, space: &mut [u8]) -> Step {
     let mut field = [0u8; 10];
     if read(&mut field) {
         let id = octets::get(&field, 0, 8);
         let asked = octets::get(&field, 8, 2) as usize;
-        let n = console::least(asked, answers::BUFFER);
-        let mut filled = answers::filled();
-        let buffer = &mut filled[0..n];
-        let answer = bridge::why(table, id, port, buffer);
-        let at = answers::put_explained(space, answer, buffer);
+        let at = put_why(table, id, port, asked, space);
         return print(space, at);
     }
     Step::Stop
