@@ -12,9 +12,6 @@ ghost use Rattle.model.specs.Settling.{declareSends};
 ghost use Rattle.model.specs.Laid.{LaidSends, LaidSender};
 ghost use Rattle.declaring.specs.Octets.{sameOctets, declaredState, declaredOctets, withdrawnOctets, decidedOctets, Offered, Given, Told, timed};
 
-// LeaveAllTime, in hundredths of a second.
-const LEAVE_ALL_TIME: u64 = 1000;
-
 // Whether the values decided are those last declared; with no early exit, so that the compiler takes many octets at a time.
 fn is_same(values: &[u8], last: &[u8]) -> bool
     requires { ⌜ length (now last) ≡ length (now values) ⌝ }
@@ -162,7 +159,7 @@ pub fn time(sender: &mut [u8], clock: u32)
     ensures { λ _. ⌜ now (sender .exit) ≡ senderOctets (timed clock (toSender (now (sender .entry)))) ⌝ }
 {
     let start = octets::get(sender, table::sender::TIMER, 4);
-    if start + LEAVE_ALL_TIME <= clock as u64 {
+    if start + table::sender::LEAVE_ALL_TIME <= clock as u64 {
         octets::put(sender, table::sender::LEAVE_ALL, 1, 1);
         octets::put(sender, table::sender::TIMER, 4, clock as u64);
     }

@@ -13,7 +13,7 @@ use Rattle.model.specs.Layout.{slots}
 use Rattle.model.specs.Lists.{All, keep}
 use Rattle.model.specs.Applicant.{tx, Standing}
 use Rattle.model.specs.LeaveAll as timer
-use Rattle.model.specs.Places.{isNone, Way, Wrote, each, saying, writeFrom, runs, left}
+use Rattle.model.specs.Places.{isNone, Way, Wrote, each, saying, behind, leftBefore, writeFrom, runs, left}
 use Rattle.model.specs.Machines.{Listed, after, way}
 use Rattle.model.specs.State.{noDomain, Talker, noTalker, talker, Listener, noListener, listener, Cell, Own, Sender, Stream, Bridge, empty, noOwn, noSender, cellAt, sendsAt, senderAt, ownAt, slotOf}
 use Rattle.model.specs.Registrations.{Kind, advertises, faileds, listeners, at, change, applyAll, applyOwns, talkerStays, listenerStays, registeredIn, domainStays, ids}
@@ -25,7 +25,7 @@ use Rattle.model.proofs.Lists.{all-at, and-true, at-here}
 use Rattle.model.proofs.Valid.{ValidOwn, Rising, Valid}
 use Rattle.model.proofs.AdvanceKeepsForm.{or-false, dropped-all}
 use Rattle.model.proofs.PlaceLists.{each-itself, fewer-saying, no-length, some-there}
-use Rattle.model.proofs.Passing.{left-to-say, taken, run-is, say-next, says-all, all-left}
+use Rattle.model.proofs.Passing.{left-to-say, taken, from-next, to-next, run-is, say-next, says-all, all-left}
 use Rattle.model.proofs.Quieting.{nothing-moves}
 use Rattle.model.proofs.WriteKeepsForm.{moved-ids, after-valid}
 use Rattle.model.proofs.WrittenList.{ListedPort, write-leaves}
@@ -256,6 +256,16 @@ module _ (b : Bridge) (p place : ℕ) (v : Valid b) (port : p - 1 < length (b .s
     none = rw after-is (then-due b v (p - 1) port place);
     within = rw (then-declared, next-is) (next-within b p place);
   }
+
+  -- From the next place on stands what was behind the run, and nothing else; before it what is left of what was reached.
+  abbrev reach : ℕ
+  reach = taken (portWay b (p - 1)) (takesOn b (p - 1)) place (declared b p)
+
+  pub next-stands : drop (w .next) (declared (w .bridge) p) ≡ each (portWay b (p - 1) .outside) (behind (portWay b (p - 1) .says) reach (drop place (declared b p)))
+  next-stands = rw (next-is, then-declared) (unfold wroteOn declared in (from-next (portWay b (p - 1)) (takesOn b (p - 1)) place (declared b p)))
+
+  pub before-next : take (w .next) (declared (w .bridge) p) ≡ leftBefore (portWay b (p - 1)) reach place (declared b p)
+  before-next = rw (next-is, then-declared) (unfold wroteOn declared in (to-next (portWay b (p - 1)) (takesOn b (p - 1)) place (declared b p)))
 
   module _ (none : leavesAll b (p - 1) ≡ false) where
     nothing-run : saysNothing w ≡ isNone (wroteOn b (p - 1) place .run)

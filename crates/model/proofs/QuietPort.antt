@@ -22,7 +22,7 @@ use Rattle.model.proofs.Quieting as quieting
 use Rattle.model.proofs.Quieting.{Old, In, Quiet, nothing-moves, one-pass, three-passes, two-passes, further-pass, out, out-said, next, list, passLeavingAll, three-with-leave-all, two-with-leave-all}
 use Rattle.model.proofs.WrittenList.{standing-one}
 use Rattle.model.proofs.WritingPasses.{declared, toSay, port-takes}
-use Rattle.model.proofs.PortPasses.{saysNothing, writeAll, leftAll, Calm, calm-way, write-gives, then-declared, then-calm, left-are, pass, left-calm, passes-all, calm-pass, said-none, three-octets}
+use Rattle.model.proofs.PortPasses.{saysNothing, writeAll, leftAll, Calm, calm-way, write-gives, then-declared, then-calm, left-are, pass, left-calm, few-to-say, passes-all, ends, pass-ends, calm-pass, said-none, three-octets}
 
 -- Of a list: tx! thrice, or twice where none is in VN or AN.
 
@@ -181,6 +181,13 @@ module _ (b : Bridge) (p : ℕ) (v : Valid b) (port : p - 1 < length (b .setting
       written : flatten (writeAll (suc n) b p 0) ≡ write b p 0 .run ++ flatten (writeAll n c p (write b p 0 .next))
       written = unfold writeAll in (ap (λ (t : Bool). flatten (cond t [] (write b p 0 .run ∷ writeAll n c p (write b p 0 .next)))) due-says ∙ unfold flatten in refl)
 
+  due-ends : (n : ℕ) → length (toSay c p (write b p 0 .next)) ≤ n → ends (suc (suc n)) b p 0 ≡ true
+  due-ends n k =
+      unfold ends in (ap (λ (t : Bool). cond t true (ends (suc n) c p (write b p 0 .next))) due-says ∙ pass-ends n c p (write b p 0 .next) calm-then k)
+
+  few-then : length (toSay c p (write b p 0 .next)) ≤ length (declared b p)
+  few-then = omega (arith, few-to-say c p (write b p 0 .next), fewer)
+
   due-thrice : (j k : Declaration → Bool) → All Quiet (each (after k tx) (each (after j tx) (declared (pass b p) p)))
   due-thrice j k =
       rw (due-pass, ← one-pass takes t j (passLeavingAll takes t room g h (declared b p)), ← one-pass takes t k (quieting.pass takes t j (passLeavingAll takes t room g h (declared b p))))
@@ -199,6 +206,16 @@ module _ (b : Bridge) (p : ℕ) (v : Valid b) (port : p - 1 < length (b .setting
       go : (t : Bool) → leavesAll b (p - 1) ≡ t → Calm (pass b p) p 0
       go true e = rw (pass-is b p v port e) (left-calm (length (declared b p)) (write b p 0 .bridge) p (write b p 0 .next) (calm-then b p v port e))
       go false e = unfold pass in (left-calm (suc (length (declared b p))) b p 0 record { valid = v; port = port; none = e; within = omega arith })
+
+  -- a pass ends: within two writes more than there are declarations one has 3 octets
+  pub pass-ends-so : ends (suc (suc (length (declared b p)))) b p 0 ≡ true
+  pass-ends-so = go (leavesAll b (p - 1)) refl
+    where
+      go : (t : Bool) → leavesAll b (p - 1) ≡ t → ends (suc (suc (length (declared b p)))) b p 0 ≡ true
+      go true e = due-ends b p v port e (length (declared b p)) (few-then b p v port e)
+      go false e =
+          let bound : length (toSay b p 0) ≤ suc (length (declared b p)) = omega (arith, few-to-say b p 0) in
+          pass-ends (suc (length (declared b p))) b p 0 record { valid = v; port = port; none = e; within = omega arith } bound
 
   abbrev twice : Bridge
   twice = pass (pass b p) p

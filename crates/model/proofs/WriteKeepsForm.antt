@@ -28,7 +28,7 @@ use Rattle.model.proofs.ApplicantEntries.{tables}
 use Rattle.model.proofs.Valid.{GoodApplicant, ValidSends, ValidStream, applicantNumber, ValidSlots, ValidLeaveAll, ValidSender, Valid}
 use Rattle.model.proofs.FoundVectors.{Fits}
 use Rattle.model.proofs.AdvanceKeepsForm.{all-dropped, fewer-dropped, dropped-rising, held-dropped}
-use Rattle.model.proofs.ReceiveKeepsForm.{received-keeps, right-port}
+use Rattle.model.proofs.ReceiveKeepsForm.{or-map, received-keeps, right-port}
 use Rattle.model.proofs.Refusals.{cond-either}
 use Rattle.model.proofs.Tables.{formed-encode, valid-decode, octets-encode}
 use Rattle.model.proofs.FormKept.{Kept}
@@ -121,14 +121,6 @@ module _ {D : Type 0} (g : Standing → List Standing) where
   was-applicant (applicant x) e = refl
 
 -- What a port sends of a stream.
-
-or-map : (a a′ b b′ : Bool) → (a ≡ true → a′ ≡ true) → (b ≡ true → b′ ≡ true) → (a || b) ≡ true → (a′ || b′) ≡ true
-or-map true a′ b b′ f g h = rw (f refl)
-or-map false a′ b b′ f g h = go a′ (g h)
-  where
-    go : (a : Bool) → b′ ≡ true → (a || b′) ≡ true
-    go true e = refl
-    go false e = e
 
 record SendsLeft (m : Sends → Sends) : Type 0 where
   good : (x : Sends) → ValidSends x → ValidSends (m x)
@@ -515,7 +507,8 @@ module _ (b : Bridge) (v : Valid b) (p place : ℕ) (here : p < length (b .setti
 -- The call.
 
 module _ (b : Bridge) (p place : ℕ) where
-  answered : (P : Written → Type 0) → P record { number = 13; all = false; run = []; next = 0; bridge = b }
+  -- what holds of a refusal and of an accepted write holds of the answer
+  pub answered : (P : Written → Type 0) → P record { number = 13; all = false; run = []; next = 0; bridge = b }
       → ((run : List Said) (next : ℕ) → P record { number = 0; all = leavesAll b (p - 1); run = run; next = next; bridge = afterWrite b (p - 1) place })
       → P (write b p place)
   unfolding write

@@ -4,7 +4,7 @@
 use mathlib.Core.Path.{_≡_, refl, sym, _∙_, ap}
 use mathlib.Core.List.{List, [], _∷_, _++_, map, append-assoc, List·Memᴰ, List·Memᴰ·head, List·Memᴰ·tail, Memᴰ·map}
 use mathlib.Core.Bool.{Bool, true, false, cond, _&&_, true≢false, false≢true}
-use Prim.Native.Nat.{ℕ, _+_}
+use Prim.Native.Nat.{ℕ, _+_, _-_}
 use lib.ListN.{take, drop}
 use lib.Dec.{leb, ltb}
 use Rattle.model.specs.Lists.{All, keep}
@@ -16,7 +16,7 @@ use Rattle.model.specs.Registrations.{Kind, advertises, faileds, listene
 use Rattle.model.specs.Settling.{advertisedBy, failedBy, listenedBy}
 use Rattle.model.specs.Table.{isStanding}
 use Rattle.model.specs.Declarations.{Declaration, declarations, isRegistered, say}
-use Rattle.model.specs.Writing.{leavesAll, sayOn, takesOn, wroteOn, endOn, movedAt, machines, movedKind, movedStreams, ownLeaveAll, afterWrite}
+use Rattle.model.specs.Writing.{leavesAll, sayOn, takesOn, wroteOn, endOn, movedAt, machines, movedKind, movedStreams, ownLeaveAll, afterWrite, write}
 use Rattle.model.proofs.Lists.{all-map, all-both}
 use Rattle.model.proofs.ApplicantEntries.{tables, written-leaving-all}
 use Rattle.model.proofs.PlaceLists.{each-itself, saying-reached}
@@ -25,7 +25,7 @@ use Rattle.model.proofs.Deciding.{Stands, Holds}
 use Rattle.model.proofs.AdvanceKeepsForm.{all-dropped}
 use Rattle.model.proofs.SettledSends.{Follows, SettledSends, Sent, at-keeps, all-applied-sent}
 use Rattle.model.proofs.Withdrawing.{Happening, isReached, isReachedLeavingAll, isLeftOut, happens, machineAfter, ended-said}
-use Rattle.model.proofs.WriteKeepsForm.{standsLeft, KeepsStanding, write-stands}
+use Rattle.model.proofs.WriteKeepsForm.{standsLeft, KeepsStanding, write-stands, answered}
 use Rattle.model.proofs.PortPasses.{calm-way}
 
 -- One machine: one that stands still does, with its value; an unsent Lv stays one, or goes.
@@ -114,6 +114,9 @@ write-sent b p place a =
     all-dropped Sent Sent (λ y h s. s) (applyAll (b .clock) p (ownLeaveAll (leavesAll b p)) (movedStreams f p (b .streams)))
     (all-applied-sent (b .clock) p (ownLeaveAll (leavesAll b p)) (movedStreams f p (b .streams))
     (streams-sent p f (λ i r. write-stands (leavesAll b p) place (endOn b p place) i r) (b .streams) a))
+
+pub write-sends : (b : Bridge) (p place : ℕ) → All Sent (b .streams) → All Sent (write b p place .bridge .streams)
+write-sends b p place a = answered b p place (λ w. All Sent (w .bridge .streams)) a (λ run next. write-sent b (p - 1) place a)
 
 -- With no LeaveAll due a machine leaves the list only where its Lv is written.
 

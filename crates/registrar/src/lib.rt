@@ -103,7 +103,7 @@ fn join_slot(table: &mut [u8], p: usize, slot: usize, vlan: u64)
 }
 
 // LeaveAll of the Domain values of a port.
-fn leave_domains(table: &mut [u8], p: usize)
+pub fn leave_domains(table: &mut [u8], p: usize)
     requires { ⌜ PortIn (now table) p ⌝ }
     ensures { λ _. ⌜ Walked true p (ofDomain leaveAllDomains ∷ []) (now (table .entry)) true (now (table .exit)) ⌝ }
 {
@@ -116,7 +116,7 @@ fn leave_domains(table: &mut [u8], p: usize)
 }
 
 // LeaveAll of an AttributeType at a port: on each stream.
-fn leave_all(table: &mut [u8], p: usize, kind: u8)
+pub fn leave_all(table: &mut [u8], p: usize, kind: u8)
     requires { ⌜ LeaveGiven (now table) p kind ⌝ }
     ensures { λ _. ⌜ Walked true p (leaveAll (kindAt kind) ∷ []) (now (table .entry)) true (now (table .exit)) ⌝ }
 {

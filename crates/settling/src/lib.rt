@@ -23,6 +23,9 @@ ghost use Rattle.settling.specs.Removed.{unmatchedOf, expiredOwn, flagge
 use streams::ClassRead;
 use streams::SourceRead;
 
+// The octets of a Talker Failed's values, which are those of an Advertise and a failure.
+const VALUES: usize = table::sends::CODE + 1;
+
 // Removes from stream k what has been leaving for at least the leave time.
 fn expire_stream(table: &mut [u8], k: usize, leave: u32, time: u32)
     requires { ⌜ Stands (now table) k × (leave ≡ decode (now table) .settings .leaveTime) ⌝ }
@@ -280,7 +283,7 @@ fn offer(table: &[u8], k: usize, p: usize, values: &mut [u8])
     let result = table::result_at(table, k, p);
     octets::copy(
         &result[table::result::LATENCY..table::result::ENTRY],
-        &mut values[table::sends::LATENCY..table::sends::CODE + 1],
+        &mut values[table::sends::LATENCY..VALUES],
     );
 }
 
@@ -290,7 +293,7 @@ fn redeclare(table: &mut [u8], k: usize, p: usize)
     ensures { λ _. ⌜ now (table .exit) ≡ encode (withSends k p (model.declareSends (streamAt k (decode (now (table .entry))) .settled)
         (resultAt (streamAt k (decode (now (table .entry)))) p)) (decode (now (table .entry)))) ⌝ }
 {
-    let mut values: [u8; 26] = [0; 26];
+    let mut values = [0u8; VALUES];
     offer(table, k, p, &mut values);
     let result = table::result_at(table, k, p);
     let column = result[table::result::COLUMN];
