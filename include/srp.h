@@ -39,7 +39,7 @@ extern "C" {
 #define SRP_ADDRESSES 64
 
 /* A table, for every number of ports. */
-#define SRP_TABLE 41075
+#define SRP_TABLE 65307
 
 /* Settings: what stands before the first port's, each port's, and all of so many ports. */
 #define SRP_SETTINGS_HEAD 14
@@ -48,6 +48,9 @@ extern "C" {
 
 /* The longest PDU, which is the shortest buffer of a write. */
 #define SRP_PDU 1500
+
+/* The PDU 00 00 00, by which a write tells that the port has nothing to say from that place on. */
+#define SRP_PDU_EMPTY 3
 
 /* The shortest buffer of a why: all other streams may be listed. */
 #define SRP_LIST 1008
@@ -104,12 +107,23 @@ enum srp_column { SRP_COLUMN_NONE = 0, SRP_COLUMN_ADVERTISE = 1, SRP_COLUMN_FAIL
 enum srp_listener { SRP_LISTENER_NONE = 0, SRP_LISTENER_ASKING_FAILED = 1, SRP_LISTENER_READY = 2, SRP_LISTENER_READY_FAILED = 3 };
 enum srp_entry { SRP_ENTRY_NONE = 0, SRP_ENTRY_FILTER = 1, SRP_ENTRY_FORWARD = 2 };
 
+/* Applicants (IEEE 802.1Q, Table 10-3): what a port has still to say of a declaration. */
+enum srp_applicant {
+    SRP_APPLICANT_NONE = 0, /* there is no declaration */
+    SRP_APPLICANT_VP = 1,   /* Join, twice */
+    SRP_APPLICANT_VN = 2,   /* New, twice: its content is another than before */
+    SRP_APPLICANT_AN = 3,   /* New, once more */
+    SRP_APPLICANT_AA = 4,   /* Join, once more */
+    SRP_APPLICANT_QA = 5,   /* nothing, until a LeaveAll or a neighbour that lacks it asks for it */
+    SRP_APPLICANT_LA = 6    /* Lv, once: it is withdrawn */
+};
+
 /*
  * What a report tells beside its number. Of the last five there is a stream where the place is below the count; at the count itself
  * they are 0.
  */
 struct srp_reported {
-    uint64_t count;    /* streams held now */
+    uint64_t count;    /* streams held now: one that is registered nowhere is held until its Lv is written */
     uint64_t total_a;  /* of the port, in bits per second: what class A has reserved, by the last advance */
     uint64_t limit_a;  /* and its limit, by the settings */
     uint64_t total_b;  /* the same of class B, which may use what class A leaves: it can be above limit_b */
@@ -145,11 +159,16 @@ uint8_t srp_receive_mmrp(uint8_t *table, size_t table_length, uint32_t port, con
 uint8_t srp_advance(uint8_t *table, size_t table_length, uint32_t time);
 
 /*
- * Writes into the buffer a PDU of a port's declarations, from a place on, which counts from 0: its length, and the place to go on
- * from. Octets of the buffer past the length stay. With no declaration left the PDU is 00 00 00, with the place itself as the next.
- * Refused with 12, 1, 10, 13.
+ * Writes into the buffer a PDU of what a port has to say, from a place of its declarations on: its length, and the place to go on
+ * from. Places count from 0 and by all declarations, those that have been said and those whose Lv has not too. Octets of the buffer
+ * past the length stay. The table changes with it: what is written counts as sent, so that it is said once more or not at all, and a
+ * declaration whose Lv is written is gone. A due LeaveAll goes out with the port's first write, from whatever place, and what the port
+ * has registered begins to leave.
+ *
+ * A port's pass begins at place 0 and goes on by the next places, which may stay or fall, to a PDU of SRP_PDU_EMPTY octets: it says
+ * that nothing is left, and is not sent. Refused with 12, 1, 10, 13.
  */
-uint8_t srp_write(const uint8_t *table, size_t table_length, uint32_t port, uint32_t place, uint8_t *buffer, size_t buffer_length,
+uint8_t srp_write(uint8_t *table, size_t table_length, uint32_t port, uint32_t place, uint8_t *buffer, size_t buffer_length,
                   size_t *length, size_t *next);
 
 /*
@@ -273,15 +292,20 @@ static inline size_t srp_put_settings(uint8_t *room, const struct srp_settings *
  * report tests the whole table. The table is one that calls have left. Ports count from 1 and places from 0, below srp_held; past
  * SRP_PORTS or SRP_STREAMS they give 0. All of it is what the last advance decided.
  *
- * The places are those of docs/TABLE.md: first those in the table, then those in a stream's record and in its result of a port.
+ * The places are those of docs/TABLE.md: first those in the table and in a port's sender, then those in a stream's record, in its
+ * result of a port and in what the port sends of it.
  */
 #define SRP_AT_CLOCK 190
 #define SRP_AT_HELD 194
 #define SRP_AT_TOTALS 195
 #define SRP_AT_TOTALS_NEXT 11
 #define SRP_AT_TOTALS_B 5
-#define SRP_AT_STREAMS 7475
-#define SRP_AT_STREAMS_NEXT 525
+#define SRP_AT_SENDERS 7475
+#define SRP_AT_SENDERS_NEXT 21
+#define SRP_AT_LEAVE_ALL 16
+#define SRP_AT_LEAVE_ALL_SINCE 17
+#define SRP_AT_STREAMS 7643
+#define SRP_AT_STREAMS_NEXT 901
 #define SRP_AT_STREAM_ID 0
 #define SRP_AT_DESTINATION 8
 #define SRP_AT_VLAN 14
@@ -290,6 +314,11 @@ static inline size_t srp_put_settings(uint8_t *room, const struct srp_settings *
 #define SRP_AT_RESULTS_NEXT 20
 #define SRP_AT_COLUMN 0
 #define SRP_AT_ENTRY 14
+#define SRP_AT_SENDS 525
+#define SRP_AT_SENDS_NEXT 47
+#define SRP_AT_SENT_ADVERTISE 0
+#define SRP_AT_SENT_FAILED 18
+#define SRP_AT_SENT_LISTENER 45
 
 /* The clock, in hundredths of a second. */
 static inline uint32_t srp_clock(const uint8_t *table) { return (uint32_t)srp_number_at(table + SRP_AT_CLOCK, 4); }
@@ -337,6 +366,38 @@ static inline uint32_t srp_column_at(const uint8_t *table, uint32_t port, uint32
 /* enum srp_entry: what a port does with the stream's frames. */
 static inline uint32_t srp_entry_at(const uint8_t *table, uint32_t port, uint32_t place) {
     return srp_of_result(table, port, place, SRP_AT_ENTRY);
+}
+
+/*
+ * What a port has still to say, of which only a write makes use: whether a LeaveAll is due, and the clock from which the next one's
+ * 1,000 hundredths count.
+ */
+static inline uint32_t srp_leave_all_due(const uint8_t *table, uint32_t port) {
+    return port - 1 < SRP_PORTS ? table[SRP_AT_SENDERS + SRP_AT_SENDERS_NEXT * (port - 1) + SRP_AT_LEAVE_ALL] : 0;
+}
+
+static inline uint32_t srp_leave_all_since(const uint8_t *table, uint32_t port) {
+    const uint8_t *senders = table + SRP_AT_SENDERS;
+
+    return port - 1 < SRP_PORTS ? (uint32_t)srp_number_at(senders + SRP_AT_SENDERS_NEXT * (port - 1) + SRP_AT_LEAVE_ALL_SINCE, 4) : 0;
+}
+
+/* An octet of what a port sends of a stream. */
+static inline uint32_t srp_of_sends(const uint8_t *table, uint32_t port, uint32_t place, uint32_t at) {
+    return port - 1 < SRP_PORTS ? (uint32_t)srp_of_stream(table, place, SRP_AT_SENDS + SRP_AT_SENDS_NEXT * (port - 1) + at, 1) : 0;
+}
+
+/* enum srp_applicant: of the Talker Advertise, the Talker Failed and the Listener. */
+static inline uint32_t srp_advertise_applicant(const uint8_t *table, uint32_t port, uint32_t place) {
+    return srp_of_sends(table, port, place, SRP_AT_SENT_ADVERTISE);
+}
+
+static inline uint32_t srp_failed_applicant(const uint8_t *table, uint32_t port, uint32_t place) {
+    return srp_of_sends(table, port, place, SRP_AT_SENT_FAILED);
+}
+
+static inline uint32_t srp_listener_applicant(const uint8_t *table, uint32_t port, uint32_t place) {
+    return srp_of_sends(table, port, place, SRP_AT_SENT_LISTENER);
 }
 
 #ifdef __cplusplus

@@ -1,6 +1,6 @@
 /*
- * The worked example of examples/worked-example by calls from C: a Talker on port 1, a Listener on port 2, and the sheet that the
- * bridge then gives. docs/EMBEDDING.md tells how to build it.
+ * The worked example of examples/worked-example by calls from C: a Talker on port 1, a Listener on port 2, what each port then says,
+ * and the sheet that the bridge gives. docs/EMBEDDING.md tells how to build it.
  */
 #include <inttypes.h>
 #include <stdio.h>
@@ -33,6 +33,26 @@ static const char *const entries[] = {"none", "filter", "forward"};
 /* The bridge's whole state: here a static, since it is large for a stack. */
 static uint8_t table[SRP_TABLE];
 
+/* Where a product sends a PDU, behind EtherType 22-EA. */
+static void send_pdu(uint32_t port, const uint8_t *pdu, size_t length) {
+    (void)port;
+    (void)pdu;
+    (void)length;
+}
+
+/* All that a port has to say: PDU by PDU from place 0, until one says that nothing is left. */
+static uint8_t write_port(uint32_t port) {
+    static uint8_t buffer[SRP_PDU];
+    size_t length, next = 0;
+    uint8_t number;
+
+    do {
+        number = srp_write(table, sizeof table, port, (uint32_t)next, buffer, sizeof buffer, &length, &next);
+        if (length > SRP_PDU_EMPTY) send_pdu(port, buffer, length);
+    } while (length > SRP_PDU_EMPTY);
+    return number;
+}
+
 /* The calls of the example, as far as the first that is refused. */
 static uint8_t calls(void) {
     uint8_t settings[SRP_SETTINGS(PORTS)];
@@ -50,6 +70,7 @@ static uint8_t calls(void) {
     if (number == SRP_ACCEPTED) number = srp_receive(table, sizeof table, 1, talker, sizeof talker);
     if (number == SRP_ACCEPTED) number = srp_receive(table, sizeof table, 2, listener, sizeof listener);
     if (number == SRP_ACCEPTED) number = srp_advance(table, sizeof table, 100);
+    for (port = 1; port <= PORTS && number == SRP_ACCEPTED; port++) number = write_port(port);
     return number;
 }
 

@@ -88,11 +88,12 @@ static void lengths_of_pdus(void) {
     expect("receive, port above", srp_receive(table, SRP_TABLE, SRP_PORTS + 1, pdu, SRP_PDU), SRP_REFUSED_PORT);
 }
 
-/* Of a write the place told, and past the declarations 13. A port that supports both classes declares a Domain value of each. */
+/* Of a write the place told, past the declarations 13, and what it leaves of the table. A port that supports both classes declares a Domain value of each. */
 static void buffers_and_places(void) {
     size_t long_, next;
 
     memset(buffer, 0xA5, sizeof buffer);
+    memcpy(before, table, sizeof table);
     long_ = next = 1;
     expect("write, no buffer", srp_write(table, SRP_TABLE, 1, 0, NULL, 0, &long_, &next), SRP_REFUSED_BUFFER);
     expect("write, short buffer", srp_write(table, SRP_TABLE, 1, 0, buffer, SRP_PDU - 1, &long_, &next), SRP_REFUSED_BUFFER);
@@ -100,12 +101,16 @@ static void buffers_and_places(void) {
     expect("length after 10", (unsigned)long_, 0);
     expect("next after 10", (unsigned)next, 0);
     expect("write, past the declarations", srp_write(table, SRP_TABLE, 1, 3, buffer, SRP_PDU, &long_, &next), SRP_REFUSED_PLACE);
+    expect_kept("table after refused writes");
     expect("write, place 0", srp_write(table, SRP_TABLE, 1, 0, buffer, SRP_PDU, &long_, &next), SRP_ACCEPTED);
     expect("next of place 0", (unsigned)next, 2);
+    expect("table after a write is another", memcmp(table, before, sizeof table) != 0, 1);
     expect("buffer behind the PDU", buffer[long_], 0xA5);
+    memcpy(before, table, sizeof table);
     expect("write, nothing left", srp_write(table, SRP_TABLE, 1, 2, buffer, SRP_PDU, &long_, &next), SRP_ACCEPTED);
-    expect("length of nothing left", (unsigned)long_, 3);
+    expect("length of nothing left", (unsigned)long_, SRP_PDU_EMPTY);
     expect("next of nothing left", (unsigned)next, 2);
+    expect_kept("table after nothing was written");
 }
 
 /* Receives on port 1 a vector of Listeners that join: so many values, from a Unique ID on. */

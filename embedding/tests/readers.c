@@ -1,7 +1,7 @@
 /*
  * What srp.h lays out and reads by itself, held against the calls: settings that srp_put_settings made are those of the octets by
  * hand, and are refused where their numbers are wrong; what the inline functions read of every stream on every port is what a report
- * tells, and what frames asked for. Prints how many were as told, or the first that was not.
+ * tells, what frames asked for, and what writes have still to say. Prints how many were as told, or the first that was not.
  */
 #include <stdio.h>
 #include <stdlib.h>
@@ -167,11 +167,56 @@ static void read_all(void) {
     expect("past the streams", srp_stream_id(table, SRP_STREAMS) + srp_entry_at(table, 1, SRP_STREAMS), 0);
 }
 
+/* The Applicants of every stream on a port; a Listener is declared where its Talker is. */
+static void applicants(uint32_t port, uint32_t applicant) {
+    uint32_t place;
+
+    for (place = 0; place < SRP_STREAMS; place++) {
+        const uint32_t column = srp_column_at(table, port, place);
+        expect("Advertise's", srp_advertise_applicant(table, port, place), column == SRP_COLUMN_ADVERTISE ? applicant : 0);
+        expect("Failed's", srp_failed_applicant(table, port, place), column == SRP_COLUMN_FAILED ? applicant : 0);
+        expect("Listener's", srp_listener_applicant(table, port, place) != 0, column == SRP_COLUMN_NONE);
+    }
+}
+
+/* All that a port has to say. Gives its PDUs. */
+static unsigned pass(uint32_t port) {
+    static uint8_t buffer[SRP_PDU];
+    size_t length = 0, next = 0;
+    unsigned pdus = 0;
+
+    for (;;) {
+        expect("write", srp_write(table, SRP_TABLE, port, (uint32_t)next, buffer, SRP_PDU, &length, &next), SRP_ACCEPTED);
+        if (length == SRP_PDU_EMPTY) return pdus;
+        pdus++;
+    }
+}
+
+/* At 12.34 s a LeaveAll is due on every port. The first pass sends it and what wasn't said yet, and the next two leave it quiet. */
+static void said(void) {
+    uint32_t port;
+
+    for (port = 1; port <= SRP_PORTS; port++) {
+        expect("LeaveAll is due", srp_leave_all_due(table, port), 1);
+        expect("LeaveAll counts since", srp_leave_all_since(table, port), 1234);
+        applicants(port, SRP_APPLICANT_VP);
+    }
+    expect("PDUs", pass(3) > 0, 1);
+    expect("LeaveAll was sent", srp_leave_all_due(table, 3), 0);
+    expect("LeaveAll of another port", srp_leave_all_due(table, 4), 1);
+    expect("PDUs of two more passes", (pass(3) > 0) + 2 * pass(3), 1);
+    applicants(3, SRP_APPLICANT_QA);
+    applicants(4, SRP_APPLICANT_VP);
+    expect("past the ports", srp_leave_all_due(table, 0) + srp_leave_all_since(table, SRP_PORTS + 1), 0);
+    expect("past the streams", srp_advertise_applicant(table, 3, SRP_STREAMS) + srp_listener_applicant(table, 0, 0), 0);
+}
+
 int main(void) {
     octets_of_settings();
     wrong_settings();
     fill();
     read_all();
+    said();
     printf("readers: %u numbers are as told\n", shown);
     return 0;
 }

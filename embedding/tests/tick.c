@@ -4,12 +4,15 @@
  */
 #include <stdio.h>
 #include <stdlib.h>
+#include <string.h>
 
 #include "tick.h"
 
 #define PORTS 2
 #define SILENT_FROM 2500
 #define DESTINATION 0x91E0F0000001u
+/* An octet of events with one Lv. */
+#define LEAVES (5 * 36)
 
 static const uint8_t domain[] = {0, 4, 4, 0, 9, 0, 2, 5, 2, 0, 2, 126, 0, 0, 0, 0};
 static const uint8_t talker[] = {0,    1,    25,   0,    30, 0, 1, 2, 0, 0,   0, 0, 1,    0, 1, 0x91, 0xE0, 0xF0, 0,
@@ -19,7 +22,7 @@ static const uint8_t listener[] = {0, 3, 8, 0, 14, 0, 1, 2, 0, 0, 0, 0, 1, 0, 1,
 static struct product it;
 static uint32_t now, entry_ports, told_ports, waiting[PORTS + 1];
 static uint64_t shaped[PORTS + 1];
-static unsigned leave_alls, declared, told_entries;
+static unsigned leave_alls, declared, withdrawn, told_entries;
 
 static void expect(const char *what, uint64_t given, uint64_t told) {
     if (given != told) {
@@ -47,11 +50,18 @@ int next_frame(uint32_t *port, uint32_t *ethertype, const uint8_t **pdu, size_t 
     return 0;
 }
 
+/* A LeaveAllEvent stands in the first vector, and an Lv of a stream in a PDU of its own: the two neighbours declare nothing else. */
 void send_msrp(uint32_t port, const uint8_t *pdu, size_t length) {
-    /* the first vector's LeaveAllEvent */
-    if (length > 6 && pdu[5] >> 5 == 1) {
+    expect("a PDU that is sent has something to say", length > SRP_PDU_EMPTY, 1);
+    if (pdu[5] >> 5 == 1) {
         leave_alls++;
         waiting[port] = 2;
+    } else if (length == sizeof listener && pdu[1] == 3 && pdu[15] == LEAVES) {
+        expect("port of the Listener's Lv", port, 1);
+        withdrawn++;
+    } else if (length == sizeof talker && pdu[1] == 1 && pdu[32] == LEAVES) {
+        expect("port of the Talker's Lv", port, 2);
+        withdrawn++;
     } else {
         declared++;
     }
@@ -106,10 +116,12 @@ int main(void) {
         expect("ports of the stream's entry", told_ports, is_held ? 1u << 2 : 0);
         expect("class A's shaper of port 2", shaped[2], is_held ? 17088000 : 0);
         expect("class A's shaper of port 1", shaped[1], 0);
+        expect("what is withdrawn", withdrawn, is_held ? 0 : 2);
     }
     expect("refused", it.refused, 0);
     expect("LeaveAlls", leave_alls, 3 * PORTS);
-    expect("declarations on both ports, every 20 hundredths", declared, 199 * PORTS);
-    printf("tick: an entry in %u ticks, %u LeaveAlls, %u writes\n", told_entries, leave_alls, declared);
+    /* each port joins twice; the Domain values that answer a LeaveAll are joined once more, and the last is answered on port 2 alone */
+    expect("PDUs of Joins", declared, 2 * PORTS + 2 * PORTS + 1);
+    printf("tick: an entry in %u ticks, %u LeaveAlls, %u PDUs of Joins, %u Lvs\n", told_entries, leave_alls, declared, withdrawn);
     return 0;
 }

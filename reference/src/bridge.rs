@@ -1,12 +1,13 @@
 //! The bridge and its calls (01, "What the bridge does" and "Numbers given back"; 02, (vi) and (ix)), on
 //! what a table holds. [`crate::lent`] makes them on the octets that a caller lends.
 
-use crate::declarations::{self, Declaration};
+use crate::declarations::Declaration;
 use crate::mmrp;
 use crate::mrp::LONGEST_PDU;
 use crate::numbers::{self, Number};
-use crate::pdu::{self, ListenerType, StreamId};
+use crate::pdu::{self, Attribute, ListenerType, StreamId};
 use crate::registrations::{Registrations, MOST_ADDRESSES, MOST_STREAMS};
+use crate::sending::{Sending, Written};
 use crate::settings::{PerClass, Settings};
 use crate::settled::{Column, Entry, Settled};
 use crate::settling::{self, Step};
@@ -79,13 +80,15 @@ pub struct Bridge {
     pub clock: u32,
     pub registrations: Registrations,
     pub settled: Settled,
+    pub sending: Sending,
 }
 
 impl Bridge {
-    /// A bridge that holds nothing, at clock 0.
+    /// A bridge that holds nothing, at clock 0. Its ports are to join their Domain values.
     pub fn started(settings: Settings) -> Bridge {
         let port_count = settings.ports.len();
         Bridge {
+            sending: Sending::begun(&settings),
             settings,
             clock: 0,
             registrations: Registrations::none(port_count),
@@ -103,12 +106,22 @@ impl Bridge {
         }
     }
 
-    /// The declarations of a port.
+    /// The declarations of a port, in the order of its list, those with an unsent Lv too.
     pub fn declarations(&self, port: usize) -> Vec<Declaration> {
-        declarations::of_port(&self.settings, &self.settled, port)
+        let machines = self.sending.ports[port - 1].machines.values();
+        machines.map(|machine| machine.declaration).collect()
     }
 
-    /// receive: 1, 2, the walk from the front, 8. Registers what the PDU asks for.
+    /// Drops the streams that are no longer held.
+    fn drop_unheld(&mut self) {
+        let sending = &self.sending;
+        self.registrations.drop_unheld(|stream_id| sending.is_leaving(stream_id));
+        let held = &self.registrations.streams;
+        self.settled.streams.retain(|stream_id, _| held.contains_key(stream_id));
+    }
+
+    /// receive: 1, 2, the walk from the front, 8. Registers what the PDU asks for, and moves the machines of
+    /// what it speaks of.
     pub fn receive(&mut self, port: u32, pdu: &[u8]) -> Result<(), Number> {
         let port = self.port(port)?;
         let pdu = pdu::read(pdu).map_err(|fault| fault.number)?;
@@ -116,6 +129,7 @@ impl Bridge {
             return Err(numbers::STREAMS);
         }
         self.registrations.apply(port, &pdu, self.clock);
+        self.sending.ports[port - 1].receive(&pdu, self.clock);
         Ok(())
     }
 
@@ -131,7 +145,8 @@ impl Bridge {
         Ok(())
     }
 
-    /// advance: 9. Sets the clock, removes what has left, drops unheld streams, decides.
+    /// advance: 9. Sets the clock, removes what has left, decides, moves the machines by what is decided, drops
+    /// unheld streams; then LeaveAll may be due.
     pub fn advance(&mut self, time: u32) -> Result<(), Number> {
         if time < self.clock {
             return Err(numbers::TIME);
@@ -140,23 +155,38 @@ impl Bridge {
         self.registrations.remove_left(self.clock, self.settings.leave_time);
         self.settled =
             settling::settle(&self.settings, &self.registrations, self.clock, &self.settled);
+        self.sending.declare(&self.settled);
+        self.drop_unheld();
+        self.sending.advance(self.clock);
         Ok(())
     }
 
-    /// write: 1, 10, 13. Writes declarations of the port from that place on.
-    pub fn write(&self, port: u32, place: u32, buffer: &mut [u8]) -> Result<WriteAnswer, Number> {
+    /// write: 1, 10, 13. Writes what the port has to send from that place of its list on, with LeaveAll where
+    /// it is due, and moves the machines by it.
+    pub fn write(
+        &mut self,
+        port: u32,
+        place: u32,
+        buffer: &mut [u8],
+    ) -> Result<WriteAnswer, Number> {
         let port = self.port(port)?;
         if buffer.len() < LONGEST_PDU {
             return Err(numbers::BUFFER);
         }
-        let declarations = self.declarations(port);
         let place = place as usize;
-        if place > declarations.len() {
+        let Bridge { registrations, sending, clock, .. } = self;
+        let sending = &mut sending.ports[port - 1];
+        if place > sending.machines.len() {
             return Err(numbers::PLACE);
         }
-        let (pdu, taken) = declarations::first_pdu(&declarations[place..]);
+        let registrar = |attribute: &Attribute| registrations.registrar(port, attribute);
+        let Written { pdu, next_place, leave_all, .. } = sending.write(place, *clock, registrar);
+        if leave_all {
+            registrations.sent_leave_all(port, *clock);
+        }
+        self.drop_unheld();
         buffer[..pdu.len()].copy_from_slice(&pdu);
-        Ok(WriteAnswer { number: numbers::ACCEPTED, length: pdu.len(), next_place: place + taken })
+        Ok(WriteAnswer { number: numbers::ACCEPTED, length: pdu.len(), next_place })
     }
 
     /// report: 1, 13.

@@ -7,12 +7,15 @@ mod counts;
 mod domains;
 mod fan_in;
 mod frames;
+mod heard;
 mod held;
 mod latencies;
 mod newer;
 mod packing;
 mod registering;
 mod rows;
+mod said;
+mod sending;
 mod settings;
 mod settling;
 mod why;
@@ -127,10 +130,14 @@ impl Coverage {
                     addresses::addresses_left(counts, *time, before);
                     settling::advanced(counts, *time, before, bridge);
                     self.latencies.settled(counts, before, bridge);
+                    sending::advanced(counts, *time, before, bridge);
+                    said::advanced(counts, *time, before, bridge);
                 }
             }
             Call::Write { port, place, answer } => {
-                self.writes.wrote(counts, bridge, *port, *place, *answer);
+                if let Some(before) = &self.before {
+                    self.writes.wrote(counts, (before, bridge), (*port, *place), *answer);
+                }
             }
             Call::Report { place, .. } => writing::reported(counts, bridge, *place, number),
             Call::Why { port, stream_id, buffer_length, answer } => {
@@ -152,7 +159,13 @@ impl Coverage {
                     frames::value_past(counts, attribute_type, &first_value, values);
                 }
             }
-            Ok(pdu) if number == numbers::STREAMS => registering::streams_past(counts, &pdu, held),
+            Ok(pdu) if number == numbers::STREAMS => {
+                registering::streams_past(counts, &pdu, held);
+                if let Some(before) = &self.before {
+                    sending::streams_past(counts, before);
+                    heard::refused(counts, before, port, &pdu);
+                }
+            }
             Ok(pdu) => {
                 frames::pdu(counts, &pdu);
                 registering::more_held(counts, held, after.registrations.streams.len());
@@ -171,6 +184,8 @@ impl Coverage {
             self.latencies.received(counts, (before, after), port, pdu);
             newer::passed_over(counts, version, pdu, before);
             addresses::leaves_addresses(counts, before, port, pdu);
+            sending::received(counts, before, port, pdu);
+            heard::heard(counts, before, port, pdu);
         }
     }
 }
@@ -210,8 +225,8 @@ impl Watcher for Coverage {
         if let (Some(bridge), true) = (bridge, reached) {
             self.reached(call, number, bridge);
         }
-        let changes = matches!(call, Call::Receive(..) | Call::ReceiveMmrp(..) | Call::Advance(_));
-        if changes && number == numbers::ACCEPTED {
+        let looks = matches!(call, Call::Report { .. } | Call::Why { .. });
+        if !looks && number == numbers::ACCEPTED {
             self.before = bridge.cloned();
         }
     }

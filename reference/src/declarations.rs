@@ -2,9 +2,10 @@
 //! 802.1Qat clause 35.2.2).
 
 use crate::domain;
-use crate::mrp::{END_MARK, LONGEST_PDU};
+use crate::mrp::{Event, END_MARK, LONGEST_PDU};
 use crate::packing;
-use crate::pdu::{AttributeType, Domain, ListenerType, StreamId, Talker, ATTRIBUTE_TYPES};
+use crate::pdu::{self, Attribute, AttributeType, Domain, ListenerType};
+use crate::pdu::{StreamId, Talker, ATTRIBUTE_TYPES};
 use crate::settings::{Class, Settings};
 use crate::settled::{Column, Settled};
 
@@ -16,17 +17,31 @@ pub enum Declaration {
     Domain(Domain),
 }
 
-/// JoinMt at the first position of a ThreePackedEvents octet, spare positions 0.
-const JOIN_MT: u8 = 3 * 36;
+/// A declaration as it is written: with the event that its machine gives.
+#[derive(Clone, Copy, Debug, PartialEq, Eq)]
+pub struct Said {
+    pub declaration: Declaration,
+    pub event: Event,
+}
+
+/// The types of declarations that are of streams.
+pub const STREAM_TYPES: [AttributeType; 3] =
+    [AttributeType::TalkerAdvertise, AttributeType::TalkerFailed, AttributeType::Listener];
+
+/// The bit of LeaveAllEvent 1 in the first octet of a vector.
+const LEAVE_ALL: u8 = 0x20;
 
 impl Declaration {
-    pub fn attribute_type(&self) -> AttributeType {
+    pub fn attribute(&self) -> Attribute {
         match self {
-            Declaration::Talker(Talker { failure: None, .. }) => AttributeType::TalkerAdvertise,
-            Declaration::Talker(Talker { failure: Some(_), .. }) => AttributeType::TalkerFailed,
-            Declaration::Listener(..) => AttributeType::Listener,
-            Declaration::Domain(_) => AttributeType::Domain,
+            Declaration::Talker(talker) => talker.attribute(),
+            Declaration::Listener(stream_id, _) => pdu::listener_attribute(*stream_id),
+            Declaration::Domain(domain) => domain.attribute(),
         }
+    }
+
+    pub fn attribute_type(&self) -> AttributeType {
+        self.attribute().attribute_type
     }
 }
 
@@ -44,7 +59,7 @@ pub fn first_value(talker: &Talker) -> Vec<u8> {
 
 /// The Domain declarations of a port, by ascending class ID: one for each class that it supports,
 /// from start on, whatever is registered.
-fn domains(settings: &Settings, port: usize) -> Vec<Declaration> {
+pub fn domains(settings: &Settings, port: usize) -> Vec<Declaration> {
     let is_supported = |class: &Class| settings.ports[port - 1].supports.of(*class);
     let domain = |class| {
         Declaration::Domain(Domain {
@@ -56,12 +71,9 @@ fn domains(settings: &Settings, port: usize) -> Vec<Declaration> {
     [Class::B, Class::A].into_iter().filter(is_supported).map(domain).collect()
 }
 
-/// The declarations of a port: Advertise, Failed, Listener, in each by ascending StreamID; then
-/// Domain.
-pub fn of_port(settings: &Settings, settled: &Settled, port: usize) -> Vec<Declaration> {
-    let mut advertise = Vec::new();
-    let mut failed = Vec::new();
-    let mut listener = Vec::new();
+/// The declarations of streams that an advance has decided for a port.
+pub fn of_streams(settled: &Settled, port: usize) -> Vec<Declaration> {
+    let mut declarations = Vec::new();
     for (stream_id, settled_stream) in &settled.streams {
         let settled_on_port = &settled_stream.ports[port - 1];
         let talker = |failure| {
@@ -73,48 +85,59 @@ pub fn of_port(settings: &Settings, settled: &Settled, port: usize) -> Vec<Decla
             })
         };
         match settled_on_port.column {
-            Column::Advertise => advertise.push(talker(None)),
-            Column::Failed(failure) => failed.push(talker(Some(failure))),
+            Column::Advertise => declarations.push(talker(None)),
+            Column::Failed(failure) => declarations.push(talker(Some(failure))),
             Column::None => {}
         }
         if let Some(listener_type) = settled_on_port.listener {
-            listener.push(Declaration::Listener(*stream_id, listener_type));
+            declarations.push(Declaration::Listener(*stream_id, listener_type));
         }
     }
-    [advertise, failed, listener, domains(settings, port)].concat()
+    declarations
 }
 
 /// The vector of one value: LeaveAllEvent 0 and NumberOfValues 1, FirstValue, one ThreePackedEvents
-/// octet.
-fn alone(first_value: &[u8]) -> Vec<u8> {
-    [&[0, 1], first_value, &[JOIN_MT]].concat()
+/// octet with spare positions 0.
+fn alone(first_value: &[u8], event: Event) -> Vec<u8> {
+    [&[0, 1], first_value, &[event.number() * 36]].concat()
 }
 
 /// The vectors of declarations of one type: Listeners are packed, others stand alone.
-fn vectors(declarations: &[Declaration]) -> Vec<u8> {
-    let mut octets = Vec::new();
+fn vectors<'a>(said: impl Iterator<Item = &'a Said>) -> Vec<Vec<u8>> {
+    let mut vectors = Vec::new();
     let mut listeners = Vec::new();
-    for declaration in declarations {
+    for Said { declaration, event } in said {
         match declaration {
-            Declaration::Talker(talker) => octets.extend(alone(&first_value(talker))),
-            Declaration::Listener(stream_id, says) => listeners.push((*stream_id, *says)),
-            Declaration::Domain(domain) => octets.extend(alone(&domain.octets())),
+            Declaration::Talker(talker) => vectors.push(alone(&first_value(talker), *event)),
+            Declaration::Listener(stream_id, says) => listeners.push((*stream_id, *says, *event)),
+            Declaration::Domain(domain) => vectors.push(alone(&domain.octets(), *event)),
         }
     }
-    octets.extend(packing::vectors(&listeners));
-    octets
+    vectors.extend(packing::vectors(&listeners));
+    vectors
+}
+
+/// Puts LeaveAllEvent 1 into the first vector of a type. Where it has no values, the vector has NumberOfValues 0
+/// and zeros for FirstValue.
+fn leave_all(vectors: &mut Vec<Vec<u8>>, attribute_type: AttributeType) {
+    if vectors.is_empty() {
+        vectors.push(vec![0; 2 + attribute_type.first_value_length()]);
+    }
+    vectors[0][0] |= LEAVE_ALL;
 }
 
 /// The PDU of these declarations, which stand by type: ProtocolVersion 0, one Message per type
-/// that occurs, EndMark.
-pub fn pdu(declarations: &[Declaration]) -> Vec<u8> {
+/// that occurs, with LeaveAll one per type, EndMark.
+pub fn pdu(said: &[Said], has_leave_all: bool) -> Vec<u8> {
     let mut octets = vec![0];
     for attribute_type in ATTRIBUTE_TYPES {
-        let of_type = |one: &&Declaration| one.attribute_type() == attribute_type;
-        let of_type: Vec<Declaration> = declarations.iter().filter(of_type).copied().collect();
-        if !of_type.is_empty() {
-            let mut list = vectors(&of_type);
-            list.extend(END_MARK);
+        let of_type = |one: &&Said| one.declaration.attribute_type() == attribute_type;
+        let mut vectors = vectors(said.iter().filter(of_type));
+        if has_leave_all {
+            leave_all(&mut vectors, attribute_type);
+        }
+        if !vectors.is_empty() {
+            let list = [vectors.concat(), END_MARK.to_vec()].concat();
             octets.push(attribute_type.octet());
             octets.push(attribute_type.first_value_length() as u8);
             octets.extend((list.len() as u16).to_be_bytes());
@@ -125,12 +148,11 @@ pub fn pdu(declarations: &[Declaration]) -> Vec<u8> {
     octets
 }
 
-/// The PDU that takes as many declarations as fit in 1,500 octets whole, from the front; with
-/// it, how many it took.
-pub fn first_pdu(declarations: &[Declaration]) -> (Vec<u8>, usize) {
+/// How many of these declarations, from the front, fit in a PDU of 1,500 octets whole.
+pub fn longest_run(said: &[Said], has_leave_all: bool) -> usize {
     let mut taken = 0;
-    while taken < declarations.len() && pdu(&declarations[..taken + 1]).len() <= LONGEST_PDU {
+    while taken < said.len() && pdu(&said[..taken + 1], has_leave_all).len() <= LONGEST_PDU {
         taken += 1;
     }
-    (pdu(&declarations[..taken]), taken)
+    taken
 }

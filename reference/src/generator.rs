@@ -3,7 +3,8 @@
 //! Most of an input is a well-formed history: few streams, so that ports meet in them; Talkers
 //! and Listeners on different ports; limits around sums of demands; neighbours that are mostly in
 //! the bridge's own domain, so that streams are admitted towards them; in half of the scripts of
-//! calls neighbours that ask for destinations by MMRP frames. Damaged frames, wrong ports,
+//! calls neighbours that ask for destinations by MMRP frames, and in half ports that send all the time, while
+//! neighbours answer and declarations change. Damaged frames, wrong ports,
 //! wrong settings and cut records are mixed in, in scripts of calls also octets stored in the
 //! table. The generator makes each call on a table of its own while it writes, so that it knows
 //! the clock, the streams held, the next places and the octet that stood where one is stored.
@@ -24,6 +25,7 @@ mod newer;
 mod plan;
 mod planning;
 mod scripts;
+mod sending;
 mod sheets;
 mod steps;
 mod why;

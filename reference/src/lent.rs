@@ -20,6 +20,14 @@ pub struct Table {
     bridge: Option<Bridge>,
 }
 
+/// The number that a call without another answer gives back.
+fn number_of(answer: Result<(), Number>) -> Number {
+    match answer {
+        Ok(()) => numbers::ACCEPTED,
+        Err(number) => number,
+    }
+}
+
 /// The room is 64 octets longer than the table.
 pub const ROOM_LENGTH: usize = TABLE_LENGTH + 64;
 
@@ -59,18 +67,14 @@ impl Table {
     }
 
     /// A call that changes the bridge held; refused, it changes no octet.
-    fn change(&mut self, call: impl FnOnce(&mut Bridge) -> Result<(), Number>) -> Number {
-        let mut bridge = match self.bridge.clone() {
-            Some(bridge) => bridge,
-            None => return numbers::TABLE,
-        };
-        match call(&mut bridge) {
-            Ok(()) => {
-                self.lay_out(&bridge);
-                numbers::ACCEPTED
-            }
-            Err(number) => number,
-        }
+    fn change<A>(
+        &mut self,
+        call: impl FnOnce(&mut Bridge) -> Result<A, Number>,
+    ) -> Result<A, Number> {
+        let mut bridge = self.bridge.clone().ok_or(numbers::TABLE)?;
+        let answer = call(&mut bridge)?;
+        self.lay_out(&bridge);
+        Ok(answer)
     }
 
     /// start: a wrong table length (12), then the settings (11). Empties all and sets the clock
@@ -90,23 +94,22 @@ impl Table {
 
     /// receive: 12, then as [`Bridge`] does.
     pub fn receive(&mut self, port: u32, pdu: &[u8]) -> Number {
-        self.change(|bridge| bridge.receive(port, pdu))
+        number_of(self.change(|bridge| bridge.receive(port, pdu)))
     }
 
     /// receive_mmrp: 12, then as [`Bridge`] does.
     pub fn receive_mmrp(&mut self, port: u32, pdu: &[u8]) -> Number {
-        self.change(|bridge| bridge.receive_mmrp(port, pdu))
+        number_of(self.change(|bridge| bridge.receive_mmrp(port, pdu)))
     }
 
     /// advance: 12, then as [`Bridge`] does.
     pub fn advance(&mut self, time: u32) -> Number {
-        self.change(|bridge| bridge.advance(time))
+        number_of(self.change(|bridge| bridge.advance(time)))
     }
 
     /// write: 12, then as [`Bridge`] does.
-    pub fn write(&self, port: u32, place: u32, buffer: &mut [u8]) -> WriteAnswer {
-        let bridge = self.bridge().ok_or(numbers::TABLE);
-        match bridge.and_then(|bridge| bridge.write(port, place, buffer)) {
+    pub fn write(&mut self, port: u32, place: u32, buffer: &mut [u8]) -> WriteAnswer {
+        match self.change(|bridge| bridge.write(port, place, buffer)) {
             Ok(answer) => answer,
             Err(number) => WriteAnswer { number, ..WriteAnswer::default() },
         }

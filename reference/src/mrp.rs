@@ -32,6 +32,11 @@ impl Event {
             Event::In | Event::Mt | Event::Lv => false,
         }
     }
+
+    /// Its number in a ThreePackedEvents octet.
+    pub fn number(self) -> u8 {
+        self as u8
+    }
 }
 
 /// The greatest ThreePackedEvents octet: Lv, Lv, Lv.

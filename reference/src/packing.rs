@@ -6,10 +6,11 @@
 use std::cmp::Reverse;
 use std::ops::Range;
 
+use crate::mrp::Event;
 use crate::pdu::{ListenerType, StreamId};
 
-/// A Listener declaration: its stream and what it says.
-pub type Listener = (StreamId, ListenerType);
+/// A Listener declaration: its stream, what it says and the event it is written with.
+pub type Listener = (StreamId, ListenerType, Event);
 
 /// A run of StreamIDs, ascending, cut into vectors: from which place to which each part of it goes.
 /// "Each declaration stands in exactly one vector."
@@ -17,9 +18,6 @@ pub type Cutting = Vec<Range<usize>>;
 
 /// A run of at most so many is cut in every way there is.
 pub const SHORT_RUN: usize = 8;
-
-/// The event of a declaration, JoinMt. At an Ignore it "shall be set to zero on transmit".
-const JOIN_MT: u8 = 3;
 
 /// Octets of a vector: header 2, FirstValue 8, ThreePackedEvents, FourPackedEvents.
 fn vector_length(values: u64) -> u64 {
@@ -111,21 +109,21 @@ pub fn best(run: &[StreamId]) -> Cutting {
 }
 
 /// The vectors of the Listeners of a PDU.
-pub fn vectors(listeners: &[Listener]) -> Vec<u8> {
-    let run: Vec<StreamId> = listeners.iter().map(|(stream_id, _)| *stream_id).collect();
-    best(&run).into_iter().flat_map(|part| vector(&listeners[part])).collect()
+pub fn vectors(listeners: &[Listener]) -> Vec<Vec<u8>> {
+    let run: Vec<StreamId> = listeners.iter().map(|(stream_id, ..)| *stream_id).collect();
+    best(&run).into_iter().map(|part| vector(&listeners[part])).collect()
 }
 
-/// The vector of a part: LeaveAllEvent 0 and NumberOfValues, FirstValue, the events and the types.
-/// Ignore and spare positions are 0 in both kinds of octets.
+/// The vector of a part: LeaveAllEvent 0 and NumberOfValues, FirstValue, the events and the types. At an
+/// Ignore the event "shall be set to zero on transmit", and spare positions are 0 in both kinds of octets.
 fn vector(part: &[Listener]) -> Vec<u8> {
     let (first, last) = (part[0].0, part[part.len() - 1].0);
     let values = (last - first + 1) as usize;
     let mut three_packed = vec![0; (values + 2) / 3];
     let mut four_packed = vec![0; (values + 3) / 4];
-    for (stream_id, listener_type) in part {
+    for (stream_id, listener_type, event) in part {
         let n = (stream_id - first) as usize;
-        three_packed[n / 3] += JOIN_MT * [36, 6, 1][n % 3];
+        three_packed[n / 3] += event.number() * [36, 6, 1][n % 3];
         four_packed[n / 4] |= listener_type.number() << [6, 4, 2, 0][n % 4];
     }
     let mut octets = (values as u16).to_be_bytes().to_vec();

@@ -45,6 +45,14 @@ impl AttributeType {
     }
 }
 
+/// What declarations and registrations of a port are told apart by: AttributeType, and StreamID, for Domain
+/// class ID and priority.
+#[derive(Clone, Copy, Debug, PartialEq, Eq, PartialOrd, Ord)]
+pub struct Attribute {
+    pub attribute_type: AttributeType,
+    pub key: u64,
+}
+
 /// The Listener declaration types.
 #[derive(Clone, Copy, Debug, PartialEq, Eq, PartialOrd, Ord)]
 pub enum ListenerType {
@@ -133,6 +141,14 @@ pub struct Talker {
 }
 
 impl Talker {
+    pub fn attribute(&self) -> Attribute {
+        let attribute_type = match self.failure {
+            None => AttributeType::TalkerAdvertise,
+            Some(_) => AttributeType::TalkerFailed,
+        };
+        Attribute { attribute_type, key: self.stream_id }
+    }
+
     /// The Talker of 01's worked example, for a stream. Its destination follows the Unique ID.
     pub fn of_the_worked_example(stream_id: StreamId) -> Talker {
         Talker {
@@ -160,6 +176,11 @@ pub struct Domain {
 }
 
 impl Domain {
+    pub fn attribute(&self) -> Attribute {
+        let key = u64::from(self.class_id) << 8 | u64::from(self.priority);
+        Attribute { attribute_type: AttributeType::Domain, key }
+    }
+
     /// Its FirstValue.
     pub fn octets(&self) -> Vec<u8> {
         let mut octets = vec![self.class_id, self.priority];
@@ -175,6 +196,22 @@ pub enum Value {
     /// Without a Listener type where the FourPackedEvents say Ignore.
     Listener(StreamId, Option<ListenerType>),
     Domain(Domain),
+}
+
+/// The attribute of a Listener.
+pub fn listener_attribute(stream_id: StreamId) -> Attribute {
+    Attribute { attribute_type: AttributeType::Listener, key: stream_id }
+}
+
+impl Value {
+    /// The attribute that it speaks of; none with Ignore.
+    pub fn attribute(&self) -> Option<Attribute> {
+        match self {
+            Value::Talker(talker) => Some(talker.attribute()),
+            Value::Listener(stream_id, says) => says.map(|_| listener_attribute(*stream_id)),
+            Value::Domain(domain) => Some(domain.attribute()),
+        }
+    }
 }
 
 /// A vector, its checks passed.

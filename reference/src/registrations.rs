@@ -5,8 +5,9 @@ use std::collections::{BTreeMap, BTreeSet};
 use crate::domain::{self, DomainRegistration, Domains, SLOTS};
 use crate::mmrp::{self, Address, MmrpType};
 use crate::mrp::Event;
-use crate::pdu::{AttributeType, Domain, Failure, ListenerType, Parameters, Pdu};
-use crate::pdu::{StreamId, Talker, Value, Vector};
+use crate::pdu::{self, Attribute, AttributeType, Domain, Failure, ListenerType, Parameters, Pdu};
+use crate::pdu::{StreamId, Talker, Value, Vector, ATTRIBUTE_TYPES};
+use crate::registrar;
 
 /// The most streams that a bridge holds.
 pub const MOST_STREAMS: usize = 64;
@@ -57,6 +58,11 @@ pub struct OnPort {
 }
 
 impl OnPort {
+    /// Whether something is registered.
+    pub fn is_registered(&self) -> bool {
+        self.talker.is_some() || self.listener.is_some()
+    }
+
     pub fn listener_type(&self) -> Option<ListenerType> {
         self.listener.as_ref().map(|listener| listener.listener_type)
     }
@@ -72,7 +78,8 @@ pub fn talker_port(ports: &[OnPort]) -> Option<(usize, &TalkerRegistration)> {
 pub type Addresses = BTreeMap<Address, Option<u32>>;
 
 /// The registrations of all streams held, of the domain and of addresses. Each stream has one [`OnPort`] for
-/// each port of the bridge, port 1 first, and at least one of them holds a registration.
+/// each port of the bridge, port 1 first. At least one of them holds a registration, or an Lv of the stream
+/// is unsent.
 #[derive(Clone, Debug, PartialEq, Eq)]
 pub struct Registrations {
     pub streams: BTreeMap<StreamId, Vec<OnPort>>,
@@ -97,13 +104,6 @@ pub fn streams_joined(pdu: &Pdu) -> BTreeSet<StreamId> {
         }
     }
     joined
-}
-
-/// Starts leaving at the clock; if already leaving, the first time stays.
-fn start_leaving(leaving: &mut Option<u32>, clock: u32) {
-    if leaving.is_none() {
-        *leaving = Some(clock);
-    }
 }
 
 impl Registrations {
@@ -137,7 +137,8 @@ impl Registrations {
         let held = &mut self.addresses[port - 1];
         for vector in pdu.vectors().filter(|vector| vector.attribute_type == MmrpType::Mac) {
             if vector.leave_all {
-                held.values_mut().for_each(|leaving| start_leaving(leaving, clock));
+                let event = registrar::Event::RLa;
+                held.values_mut().for_each(|leaving| registrar::moves(leaving, event, clock));
             }
             for (event, address) in &vector.values {
                 match event {
@@ -146,7 +147,7 @@ impl Registrations {
                     }
                     Event::Lv => {
                         if let Some(leaving) = held.get_mut(address) {
-                            start_leaving(leaving, clock);
+                            registrar::moves(leaving, registrar::Event::RLv, clock);
                         }
                     }
                     Event::In | Event::Mt => {}
@@ -164,7 +165,7 @@ impl Registrations {
 
     fn apply_vector(&mut self, port: usize, vector: &Vector, clock: u32) {
         if vector.leave_all {
-            self.leave_all(port, vector.attribute_type, clock);
+            self.leave_all(port, vector.attribute_type, registrar::Event::RLa, clock);
         }
         for (event, value) in &vector.values {
             match (*value, *event) {
@@ -172,14 +173,15 @@ impl Registrations {
                     self.join_talker(port, talker);
                 }
                 (Value::Talker(talker), Event::Lv) => {
-                    self.leave(port, talker.stream_id, vector.attribute_type, clock);
+                    self.leave(port, talker.attribute(), registrar::Event::RLv, clock);
                 }
                 (
                     Value::Listener(stream_id, Some(listener_type)),
                     Event::New | Event::JoinIn | Event::JoinMt,
                 ) => self.join_listener(port, stream_id, listener_type),
                 (Value::Listener(stream_id, Some(_)), Event::Lv) => {
-                    self.leave(port, stream_id, AttributeType::Listener, clock);
+                    let attribute = pdu::listener_attribute(stream_id);
+                    self.leave(port, attribute, registrar::Event::RLv, clock);
                 }
                 (Value::Domain(domain), Event::New | Event::JoinIn | Event::JoinMt) => {
                     self.join_domain(port, domain);
@@ -191,48 +193,71 @@ impl Registrations {
         }
     }
 
-    /// Starts leaving all registrations of that AttributeType on that port.
-    fn leave_all(&mut self, port: usize, attribute_type: AttributeType, clock: u32) {
+    /// Moves all registrations of that AttributeType on that port by a LeaveAll, received or sent.
+    fn leave_all(
+        &mut self,
+        port: usize,
+        attribute_type: AttributeType,
+        event: registrar::Event,
+        clock: u32,
+    ) {
         if attribute_type == AttributeType::Domain {
             for domain in self.domains[port - 1].iter_mut().flatten() {
-                start_leaving(&mut domain.leaving, clock);
+                registrar::moves(&mut domain.leaving, event, clock);
             }
             return;
         }
         let stream_ids: Vec<StreamId> = self.streams.keys().copied().collect();
-        for stream_id in stream_ids {
-            self.leave(port, stream_id, attribute_type, clock);
+        for key in stream_ids {
+            self.leave(port, Attribute { attribute_type, key }, event, clock);
         }
     }
 
-    /// Starts leaving what the port holds of that StreamID and AttributeType.
-    fn leave(
-        &mut self,
-        port: usize,
-        stream_id: StreamId,
-        attribute_type: AttributeType,
-        clock: u32,
-    ) {
-        let ports = match self.streams.get_mut(&stream_id) {
+    /// Moves what the port holds of a stream's attribute by Lv or LeaveAll.
+    fn leave(&mut self, port: usize, attribute: Attribute, event: registrar::Event, clock: u32) {
+        let ports = match self.streams.get_mut(&attribute.key) {
             Some(ports) => ports,
             None => return,
         };
-        let held = &mut ports[port - 1];
-        match attribute_type {
-            AttributeType::TalkerAdvertise | AttributeType::TalkerFailed => {
-                if let Some(talker) = &mut held.talker {
-                    if talker.attribute_type() == attribute_type {
-                        start_leaving(&mut talker.leaving, clock);
-                    }
-                }
-            }
-            AttributeType::Listener => {
-                if let Some(listener) = &mut held.listener {
-                    start_leaving(&mut listener.leaving, clock);
-                }
-            }
+        let OnPort { talker, listener } = &mut ports[port - 1];
+        let attribute_type = attribute.attribute_type;
+        let leaving = match attribute_type {
+            AttributeType::TalkerAdvertise | AttributeType::TalkerFailed => talker
+                .as_mut()
+                .filter(|talker| talker.attribute_type() == attribute_type)
+                .map(|talker| &mut talker.leaving),
+            AttributeType::Listener => listener.as_mut().map(|listener| &mut listener.leaving),
             // No Domain is of a stream.
-            AttributeType::Domain => {}
+            AttributeType::Domain => None,
+        };
+        if let Some(leaving) = leaving {
+            registrar::moves(leaving, event, clock);
+        }
+    }
+
+    /// The Registrar of an attribute on a port, as it is now.
+    pub fn registrar(&self, port: usize, attribute: &Attribute) -> registrar::State {
+        let Attribute { attribute_type, key } = *attribute;
+        let held = self.streams.get(&key).map(|ports| &ports[port - 1]);
+        let leaving = match attribute_type {
+            AttributeType::TalkerAdvertise | AttributeType::TalkerFailed => held
+                .and_then(|held| held.talker.as_ref())
+                .filter(|talker| talker.attribute_type() == attribute_type)
+                .map(|talker| talker.leaving),
+            AttributeType::Listener => {
+                held.and_then(|held| held.listener.as_ref()).map(|listener| listener.leaving)
+            }
+            AttributeType::Domain => domain::slot((key >> 8) as u8, key as u8)
+                .and_then(|slot| self.domains[port - 1][slot])
+                .map(|domain| domain.leaving),
+        };
+        leaving.map_or(registrar::State::MT, registrar::registered)
+    }
+
+    /// The port has sent LeaveAll of all types: its own registrations start leaving, addresses don't.
+    pub fn sent_leave_all(&mut self, port: usize, clock: u32) {
+        for attribute_type in ATTRIBUTE_TYPES {
+            self.leave_all(port, attribute_type, registrar::Event::TxLa, clock);
         }
     }
 
@@ -285,12 +310,12 @@ impl Registrations {
     fn leave_domain(&mut self, port: usize, left: Domain, clock: u32) {
         let slot = domain::slot(left.class_id, left.priority);
         if let Some(held) = slot.and_then(|slot| self.domains[port - 1][slot].as_mut()) {
-            start_leaving(&mut held.leaving, clock);
+            registrar::moves(&mut held.leaving, registrar::Event::RLv, clock);
         }
     }
 
-    /// Removes every registration leaving for at least the leave time, then drops the streams
-    /// that no port holds a registration of.
+    /// Removes every registration leaving for at least the leave time. Its stream stays until what it
+    /// declared is withdrawn.
     pub fn remove_left(&mut self, clock: u32, leave_time: u32) {
         let left =
             |leaving: Option<u32>| leaving.map_or(false, |begun| clock - begun >= leave_time);
@@ -310,8 +335,12 @@ impl Registrations {
         for addresses in &mut self.addresses {
             addresses.retain(|_, leaving| !left(*leaving));
         }
-        self.streams.retain(|_, ports| {
-            ports.iter().any(|on_port| on_port.talker.is_some() || on_port.listener.is_some())
+    }
+
+    /// Drops the streams that no port holds a registration of and no port has an unsent Lv of.
+    pub fn drop_unheld(&mut self, is_leaving: impl Fn(StreamId) -> bool) {
+        self.streams.retain(|stream_id, ports| {
+            ports.iter().any(OnPort::is_registered) || is_leaving(*stream_id)
         });
     }
 }

@@ -1,13 +1,16 @@
 //! Octets to store in a table: places and values that break one form rule and no other, or that
 //! keep them all.
 
+mod together;
+
 use std::ops::Range;
 
 use crate::domain::SLOTS;
 use crate::random::Random;
 use crate::registrations::{MOST_ADDRESSES, MOST_STREAMS};
 use crate::settings::{self, MOST_PORTS};
-use crate::table::layout::{self, address, cell, domain, edge, record, result, TABLE_LENGTH};
+use crate::table::layout::TABLE_LENGTH;
+use crate::table::layout::{self, address, cell, domain, edge, record, result, send, sender};
 use crate::table::rules::{broken_rules, keeps_form};
 
 /// What an octet is stored for.
@@ -24,16 +27,27 @@ enum Aim {
 /// How often a place and a value are drawn to meet the aim; the last draw is taken as it is.
 const MOST_DRAWS: usize = 16;
 
+/// Places of the table and octets for them: mostly one place, else some that go together.
+pub fn some_octets(random: &mut Random, table: &[u8]) -> Vec<(usize, u8)> {
+    if table.len() == TABLE_LENGTH && random.percent(8) {
+        let rule = random.one_of(&together::RULES);
+        let stored = together::edited(random, table, rule);
+        let broken = broken_rules(&stored);
+        if broken.is_empty() || broken == [rule] {
+            return together::differences(table, &stored);
+        }
+    }
+    vec![some_octet(random, table)]
+}
+
 /// A place of the table and an octet for it: mostly one that breaks a form rule and no other, else
 /// one that keeps them all, or any.
-pub fn some_octet(random: &mut Random, table: &[u8]) -> (usize, u8) {
+fn some_octet(random: &mut Random, table: &[u8]) -> (usize, u8) {
     let full = layout::used(table) == MOST_STREAMS;
     let rule = match full_port(table) {
         _ if full && random.percent(20) => 8,
         Some(_) if random.percent(20) => 37,
-        // Few tables can break this one alone.
-        _ if random.percent(4) => 26,
-        _ => random.between(2, 41) as u8,
+        _ => random.between(2, 50) as u8,
     };
     let aim = match random.below(20) {
         0..=12 => Aim::Breaks(rule),
@@ -70,7 +84,7 @@ fn draw(random: &mut Random, table: &[u8], aim: Aim) -> (usize, u8) {
     let held = table[place];
     let any = random.octet();
     let (above, below) = (held.wrapping_add(1), held.wrapping_sub(1));
-    (place, random.one_of(&[0, 1, 2, 3, 4, above, below, held ^ 1 << (any % 8), any]))
+    (place, random.one_of(&[0, 1, 2, 3, 4, 5, 6, above, below, held ^ 1 << (any % 8), any]))
 }
 
 /// The first port, from 0, that has all its address records in use.
@@ -102,6 +116,8 @@ fn field_of_rule(random: &mut Random, table: &[u8], rule: u8) -> Range<usize> {
         36 => one(layout::FAN_IN_LIMIT),
         31..=35 => field_of_edge(random, table, rule, port),
         37..=41 => field_of_addresses(random, table, rule, port),
+        42..=46 => field_of_send(random, table, rule),
+        47..=50 => field_of_sender(random, table, rule, port),
         10 if past_used < TABLE_LENGTH && random.percent(30) => one(past_used),
         10 if past_used < TABLE_LENGTH => past_used..TABLE_LENGTH,
         _ => field_of_record(random, table, rule, port),
@@ -124,7 +140,7 @@ fn field_of_edge(random: &mut Random, table: &[u8], rule: u8, port: usize) -> Ra
         32 => record + domain::LEAVING..record + domain::SINCE.end,
         33 => record..record + domain::LENGTH,
         34 => start + edge::FLAGS.start..start + edge::FLAGS.end,
-        _ => past..layout::RECORDS,
+        _ => past..layout::SENDERS,
     }
 }
 
@@ -203,6 +219,55 @@ fn field_of_result(random: &mut Random, rule: u8) -> Range<usize> {
     }
 }
 
+/// A field that a form rule looks at of what ports send of streams, mostly where there is a machine.
+fn field_of_send(random: &mut Random, table: &[u8], rule: u8) -> Range<usize> {
+    let (machine, field) = match rule {
+        44 => random.one_of(&[
+            (send::ADVERTISE, one(send::ADVERTISE_PRIORITY)),
+            (send::FAILED, one(send::FAILED_PRIORITY)),
+        ]),
+        45 => (send::LISTENER, one(send::LISTENER_TYPE)),
+        43 => (send::LENGTH, 0..send::LENGTH),
+        _ => {
+            let machine = random.one_of(&[send::ADVERTISE, send::FAILED, send::LISTENER]);
+            (machine, one(machine))
+        }
+    };
+    let starts = (0..layout::used(table)).flat_map(|place| {
+        let sends = layout::RECORDS + layout::RECORD_LENGTH * place + record::SENDS.start;
+        (0..layout::ports(table)).map(move |port| sends + send::LENGTH * port)
+    });
+    let has_machine = |start: &usize| machine == send::LENGTH || table[start + machine] != 0;
+    let (with, without): (Vec<usize>, Vec<usize>) = starts.partition(has_machine);
+    let wanted = match with.is_empty() || rule == 42 && random.percent(50) {
+        true => without,
+        false => with,
+    };
+    if wanted.is_empty() {
+        return one(layout::COUNT);
+    }
+    let start = random.one_of(&wanted);
+    start + field.start..start + field.end
+}
+
+/// A field that a form rule looks at of what a port sends by itself, or what places that are no port send.
+fn field_of_sender(random: &mut Random, table: &[u8], rule: u8, port: usize) -> Range<usize> {
+    let start = layout::SENDERS + sender::LENGTH * port;
+    let past = layout::ports(table).min(MOST_PORTS - 1);
+    let used = layout::used(table) as u64;
+    match rule {
+        47 if used > 0 && random.percent(50) => {
+            let place = layout::RECORDS + layout::RECORD_LENGTH * random.below(used) as usize;
+            let sends = place + record::SENDS.start;
+            sends + send::LENGTH * past..place + record::SENDS.end
+        }
+        47 => layout::SENDERS + sender::LENGTH * past..layout::RECORDS,
+        48 => start..start + sender::APPLICANTS.end,
+        49 => one(start + sender::LEAVE_ALL),
+        _ => start + sender::STARTED.start..start + sender::STARTED.end,
+    }
+}
+
 /// A field whose octets differ among tables that keep the form: settings, clock, totals, domain,
 /// addresses, or one of a used record.
 fn field_in_use(random: &mut Random, table: &[u8]) -> Range<usize> {
@@ -212,17 +277,23 @@ fn field_in_use(random: &mut Random, table: &[u8]) -> Range<usize> {
         2 => layout::CLOCK,
         3 => layout::TOTALS..layout::TOTALS + layout::TOTALS_LENGTH * ports,
         4 => {
-            let rule = random.one_of(&[31, 32, 33, 34, 39, 40]);
+            let rule = random.one_of(&[31, 32, 33, 34, 39, 40, 48, 49, 50]);
             let port = random.below(ports as u64) as usize;
             match rule {
                 39..=40 => field_of_addresses(random, table, rule, port),
+                48..=50 => field_of_sender(random, table, rule, port),
                 _ => field_of_edge(random, table, rule, port),
             }
         }
         _ => {
-            let rule = random.one_of(&[9, 11, 12, 14, 15, 16, 17, 18, 18, 20, 21, 22, 23, 24]);
+            let rule = random.one_of(&[
+                9, 11, 12, 14, 15, 16, 17, 18, 18, 20, 21, 22, 23, 24, 42, 43, 43, 44, 45,
+            ]);
             let port = random.below(ports as u64) as usize;
-            field_of_record(random, table, rule, port)
+            match rule {
+                42..=45 => field_of_send(random, table, rule),
+                _ => field_of_record(random, table, rule, port),
+            }
         }
     }
 }

@@ -1,5 +1,6 @@
 //! The words that programs print (01, "The printed sheet").
 
+use crate::mrp::Event;
 use crate::pdu::ListenerType;
 use crate::settled::{Column, Entry};
 use crate::settling::Step;
@@ -46,5 +47,17 @@ pub fn entry(entry: Entry) -> &'static str {
         Entry::None => "none",
         Entry::Filter => "filter",
         Entry::Forward => "forward",
+    }
+}
+
+/// The event of a declaration, behind its other words; JoinMt goes without one.
+pub fn event(event: Event) -> &'static str {
+    match event {
+        Event::New => " new",
+        Event::JoinIn => " joinin",
+        Event::In => " in",
+        Event::JoinMt => "",
+        Event::Mt => " mt",
+        Event::Lv => " leave",
     }
 }

@@ -4,11 +4,13 @@ from srp.bridge import Bridge
 from srp.faults import Fault, Missing
 from srp.history import Moment, StreamAt, moments
 from srp.inputs import Input, Ran, load, run
-from srp.layout import Address, Cell, Domain, Edge, Parameters, Port, Result, Settings, Stream, Table, Totals
+from srp.layout import (Address, AdvertiseSent, Cell, Domain, DomainSent, Edge, FailedSent, ListenerSent, Parameters, Port, Result,
+                        Sender, Sends, Settings, Stream, Table, Totals)
 from srp.names import Names
 from srp.refusals import Refusal
 from srp.views import AskedFor, DomainValue, Load, Share, addresses, loads
 
-__all__ = ["Address", "Answer", "AskedFor", "Bridge", "Cell", "Domain", "DomainValue", "Edge", "Fault", "Input", "Listed", "Load",
-           "Missing", "Moment", "Names", "Octets", "Parameters", "Port", "Ran", "Reason", "Refusal", "Report", "Result", "Settings",
-           "Share", "Stream", "StreamAt", "Sum", "Table", "Totals", "Written", "addresses", "load", "loads", "moments", "run"]
+__all__ = ["Address", "AdvertiseSent", "Answer", "AskedFor", "Bridge", "Cell", "Domain", "DomainSent", "DomainValue", "Edge",
+           "FailedSent", "Fault", "Input", "Listed", "ListenerSent", "Load", "Missing", "Moment", "Names", "Octets", "Parameters",
+           "Port", "Ran", "Reason", "Refusal", "Report", "Result", "Sender", "Sends", "Settings", "Share", "Stream", "StreamAt",
+           "Sum", "Table", "Totals", "Written", "addresses", "load", "loads", "moments", "run"]

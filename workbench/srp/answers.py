@@ -5,6 +5,10 @@ from srp.faults import Fault
 from srp.words import reason, refusal, stream_id
 
 
+# The octets of a PDU without a Message.
+NOTHING_SAID = 3
+
+
 @dataclass(frozen=True)
 class Answer:
     """What a call gives back: 0 where it is accepted."""
@@ -28,6 +32,11 @@ class Written(Answer):
     next: int
     kept: bool
     pdu: bytes
+
+    @property
+    def has_said(self):
+        """Whether the port had something to say: another PDU than 00 00 00, which ends its pass."""
+        return self.accepted and self.length > NOTHING_SAID
 
 
 @dataclass(frozen=True)

@@ -1,6 +1,7 @@
 """A bridge as an object: the calls over one process of srpcalls, which answers each record at once."""
 import re
 import subprocess
+from contextlib import contextmanager
 
 from srp import answers, arguments, layout, programs, records, texts
 from srp.faults import Fault
@@ -93,8 +94,28 @@ class Bridge:
         return self.call(records.advance(time))
 
     def write(self, port, place=0, buffer=1500):
-        """The PDU of a port's declarations from a place on."""
+        """The PDU of what a port has to say, from a place of its declarations on. It counts as sent, which the bridge remembers."""
         return self.call(records.write(port, place, buffer))
+
+    def said(self, port):
+        """The PDUs of a port's pass: all that it has to say, from place 0 by the next places to one of 00 00 00, which is left
+        out. They count as sent."""
+        pdus, answer = [], self.write(port)
+        while answer.has_said:
+            pdus.append(answer.pdu)
+            answer = self.write(port, answer.next)
+        return pdus
+
+    @contextmanager
+    def kept(self):
+        """Within it calls are made as ever, and at its end the table is put back, to the octet."""
+        before = self._octets()
+        try:
+            yield
+        finally:
+            self.call(records.lend(len(before)))
+            pairs = enumerate(zip(before, self._octets()))
+            list(self.calls(records.store(place, octet) for place, (octet, now) in pairs if octet != now))
 
     def report(self, port, place=0):
         """What a port has reserved, and the stream at a place among those held."""
@@ -141,20 +162,17 @@ class Bridge:
         return list(self.calls(records.report(port, place) for place in range(self.report(port).count)))
 
     def declarations(self, port):
-        """All PDUs that a port writes: the empty one where it declares nothing, not even a class's Domain value."""
-        pdus, place = [], 0
-        while True:
-            answer = self.write(port, place)
-            if not answer.accepted or pdus and answer.next == place:
-                return pdus
-            pdus.append(answer.pdu)
-            if answer.next == place:
-                return pdus
-            place = answer.next
+        """The PDUs that a port's next pass would write; none where it has nothing to say. A look: the bridge stays as it is."""
+        with self.kept():
+            return self.said(port)
+
+    def _octets(self):
+        """The table's octets that calls are lent."""
+        return self.call(records.Record(records.TABLE_OCTETS)).octets
 
     def table(self):
         """The whole table, by docs/TABLE.md."""
-        return layout.read_table(self.call(records.Record(records.TABLE_OCTETS)).octets)
+        return layout.read_table(self._octets())
 
     def sum(self):
         """The Adler-32 of the table's octets, in hex."""

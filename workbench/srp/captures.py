@@ -1,7 +1,7 @@
 """Frames of a capture, of MSRP and of MMRP, as the calls of a bridge, and these as a text."""
 from dataclasses import dataclass
 
-from srp import layout, link, packets, programs, protocols, records, texts
+from srp import layout, link, packets, phrases, programs, protocols, records, sayings, texts
 from srp.faults import Fault
 from srp.reading import OWN_PORTS
 from srp.words import first_of, rate, seconds
@@ -171,13 +171,21 @@ def calls_of(captured):
     return first + [record for record, _ in captured.steps], origins + behind
 
 
-def text_of(captured, is_named=False, line_of=texts.record_line):
-    """A capture's calls as a text. With is_named each frame's packet is named in a comment; line_of makes the line of a record."""
+def lines_in_words(record):
+    """The line of a record in words; where the text format has none for its frame, comments before it say what it says."""
+    line = phrases.line_of(record)
+    if not record.is_frame or line != texts.record_line(record):
+        return [line]
+    return [*(f"#   {words}" for words in sayings.said_by(protocols.BY_KIND[record.kind], record.body)), line]
+
+
+def text_of(captured, is_named=False, has_words=False):
+    """A capture's calls as a text. With is_named each frame's packet is named in a comment; with has_words frames are in words."""
     lines = [*captured.settings, *["start"] * captured.has_mmrp]
     if captured.supposed:
         lines += ["# supposed, and not in the capture: each port's neighbour is in the bridge's domain", *captured.supposed]
     for record, frame in captured.steps:
         if frame and is_named:
             lines.append(f"# packet {frame.packet.number}, from {frame.source} on interface {frame.interface}")
-        lines.append(line_of(record))
+        lines += lines_in_words(record) if has_words else [texts.record_line(record)]
     return "\n".join(lines) + "\n"

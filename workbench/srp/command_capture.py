@@ -3,9 +3,9 @@ from dataclasses import replace
 
 import click
 
-from srp import captures, files, frames, inputs, packets, phrases, texts
+from srp import captures, files, frames, inputs, packets
 from srp.faults import Fault
-from srp.options import FILE, capture_options, check_meaning, reading_of, say_notes, say_refused
+from srp.options import FILE, capture_options, check_meaning, reading_of, say, say_notes, say_refused
 from srp.progress import progress
 from srp.reading import OWN_PORTS
 
@@ -26,6 +26,8 @@ def write_capture(given, reading, out, is_received):
     with progress(f"calls of {given.name}", len(given.records)) as tell:
         found = take(given, tell, refused)
     say_refused(given, refused)
+    for note in frames.leave_all_notes(found) if not is_received and not frames.has_writes(given) else []:
+        say(f"warning: {given.name}: {note}")
     frames.write(out, found, reading.ports)
 
 
@@ -45,11 +47,11 @@ def check_options(written, **given):
 @click.option("--out", "-o", type=click.Path(), help="The file to write: a capture where it ends in .pcap or .pcapng, or a text.")
 @click.option("--received", is_flag=True, help="Writes the frames of the input, and not what each port writes.")
 @click.option("--named", is_flag=True, help="Names the packet of each frame in a comment.")
-@click.option("--words", is_flag=True, help="Writes a frame's Messages in words, where the text format has them.")
+@click.option("--words", is_flag=True, help="Writes a frame's Messages in words, or in comments where the text format has none.")
 @capture_options
 def capture_command(file, out, received, named, words, calls, **options):
-    """Turns a capture's MSRP and MMRP frames into a text; or, from any input, writes a capture of what each port writes after each
-    advance."""
+    """Turns a capture's MSRP and MMRP frames into a text; or, from any input, writes a capture of what each port writes: by the
+    input's writes, or where it has none after each advance, as a product does."""
     is_capture = bool(out) and out.endswith((".pcap", ".pcapng"))
     check_options("capture" if is_capture else "text", received=received, named=named, words=words)
     if out:
@@ -66,4 +68,4 @@ def capture_command(file, out, received, named, words, calls, **options):
         raise Fault(f"{file} is no capture; to write one of what its ports write, give --out with a name in .pcap or .pcapng")
     captured = captures.read(file, octets, reading)
     say_notes(captured)
-    write_text(out, captures.text_of(captured, named, phrases.line_of if words else texts.record_line))
+    write_text(out, captures.text_of(captured, named, words))

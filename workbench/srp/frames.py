@@ -1,4 +1,4 @@
-"""Captures that are written: the frames of an input, or what its ports write after each accepted advance."""
+"""Captures that are written: the frames of an input, or what its ports write."""
 import struct
 
 from srp import files, layout, protocols, records
@@ -7,14 +7,11 @@ from srp.faults import Fault
 from srp.needs import need
 from srp.reading import ADDRESS, OWN_PORTS
 from srp.refusals import Refusal
+from srp.words import counted, seconds
 
 SHORTEST_FRAME = 60
 LONGEST = 1 << 18
 ETHERNET = 1
-# A PDU with room left for any declaration is a port's last, since each takes as many as fit: the longest one is a Talker Failed in
-# a Message of its own.
-LONGEST_PDU = 1500
-LONGEST_DECLARATION = 4 + 2 + 34 + 1 + 2
 # The calls that set the clock.
 CLOCKED = (records.START, records.ADVANCE)
 
@@ -75,16 +72,22 @@ def ports_of(start):
     return min(layout.read(layout.Settings, start.body.ljust(layout.length(layout.Settings), b"\0")).ports, layout.PORTS)
 
 
-def declared(bridge, first):
-    """All PDUs of each port, from the answers to a write of its first. Those that go on are asked for in one go."""
-    pdus = {port: [answer.pdu] for port, answer in first.items()}
-    going_on = {port: answer for port, answer in first.items() if len(answer.pdu) > LONGEST_PDU - LONGEST_DECLARATION}
-    while going_on:
-        found = dict(zip(going_on, bridge.calls(records.write(port, answer.next) for port, answer in going_on.items())))
-        going_on = {port: answer for port, answer in found.items() if answer.next != going_on[port].next}
-        for port, answer in going_on.items():
-            pdus[port].append(answer.pdu)
-    return pdus
+def has_writes(given):
+    """Whether an input makes writes of its own."""
+    return any(record.kind == records.WRITE for record in given.records)
+
+
+def passes(bridge, ports):
+    """What each port says, as frames: from place 0 by the next places to a PDU that says nothing. All that go on are written in one
+    go."""
+    asked, pdus = {port: 0 for port in range(1, ports + 1)}, {port: [] for port in range(1, ports + 1)}
+    while asked:
+        found = list(bridge.calls(records.write(port, place) for port, place in asked.items()))
+        said = {port: answer for port, answer in zip(asked, found) if answer.has_said}
+        for port, answer in said.items():
+            pdus[port].append(records.receive(port, answer.pdu))
+        asked = {port: answer.next for port, answer in said.items()}
+    return [frame for frames in pdus.values() for frame in frames]
 
 
 def refusals_of(given, at, part, found):
@@ -94,27 +97,48 @@ def refusals_of(given, at, part, found):
             if not getattr(answer, "accepted", True)]
 
 
+def clocked(part, found, clock):
+    """The records of a part that are answered, with the clock behind each and their answers."""
+    for record, answer in zip((record for record in part if record.is_answered), found):
+        clock = clock_behind(record, answer, clock)
+        yield clock, record, answer
+
+
+def own_frames(clock, record, answer):
+    """What a record of the input has written."""
+    if record.kind == records.WRITE and answer.has_said:
+        yield clock, records.receive(record.port, answer.pdu)
+
+
 def written(given, tell, refused):
-    """What each port writes after each accepted advance, with its time, as records. A bridge writes no MMRP frames. Refused is a
-    list that gets the refused calls."""
+    """What each port writes, with its time, as records: by the writes of the input, or where it has none in a pass of each port
+    after each accepted advance, as a product makes it. A bridge writes no MMRP frames. Refused is a list that gets the refused
+    calls."""
     given.check_end()
-    frames, clock, ports, at = [], 0, 0, 0
+    frames, clock, ports, at, is_passed = [], 0, 0, 0, not has_writes(given)
     with Bridge() as bridge:
         for part in up_to_advances(given):
             ports = max([ports, *(ports_of(record) for record in part if record.kind == records.START)])
-            called = [record for record in part if record.is_answered]
-            found = list(bridge.calls([*part, *(records.write(port) for port in range(1, ports + 1))]))
-            for record, answer in zip(called, found):
-                clock = clock_behind(record, answer, clock)
+            found = list(bridge.calls(part))
+            for clock, record, answer in clocked(part, found, clock):
+                frames += own_frames(clock, record, answer)
             refused += refusals_of(given, at, part, found)
             at += len(part)
             tell(len(part))
-            if part[-1].kind == records.ADVANCE and found[len(called) - 1].accepted:
-                first = {port: answer for port, answer in enumerate(found[len(called):], 1) if answer.accepted}
-                frames += [(clock, records.receive(port, pdu)) for port, pdus in declared(bridge, first).items() for pdu in pdus]
+            if is_passed and part[-1].kind == records.ADVANCE and found[-1].accepted:
+                frames += [(clock, frame) for frame in passes(bridge, ports)]
     if not frames:
-        raise Fault(f"{given.name}: no advance is accepted, and what ports write is taken after one")
+        raise Fault(f"{given.name}: no port has something to say, by the input's writes or after an accepted advance")
     return frames
+
+
+def leave_all_notes(frames):
+    """What is said where ports have sent LeaveAll in passes that the input doesn't know of. It stands in the first vector."""
+    sent = [(clock, record.port) for clock, record in frames if record.body[5] >> 5 == 1]
+    if sent:
+        first = f"port {sent[0][1]} at {seconds(sent[0][0])}"
+        yield (f"ports send LeaveAll, {counted(len(sent), 'frame')}, the first by {first}: what the input doesn't join again within"
+               " the leave time ends")
 
 
 def write_pcap(file, frames):

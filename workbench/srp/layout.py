@@ -224,12 +224,62 @@ class Edge:
 
 
 @dataclass(frozen=True)
+class DomainSent:
+    """What a port sends of a Domain value, which is its own: the Applicant."""
+    applicant: int = octets(1)
+
+
+@dataclass(frozen=True)
+class Sender:
+    """What a port sends by itself: the Applicants of class ID 5, which is class B, and of class ID 6, each by priority; whether a
+    LeaveAll is due, and the clock from which the time to the next one counts."""
+    domains_b: tuple[DomainSent, ...] = several(DomainSent, PRIORITIES)
+    domains_a: tuple[DomainSent, ...] = several(DomainSent, PRIORITIES)
+    leave_all: int = octets(1)
+    leave_all_since: int = octets(4)
+
+
+@dataclass(frozen=True)
+class AdvertiseSent:
+    """What a port sends of a Talker Advertise: the Applicant, and the values last declared."""
+    applicant: int = octets(1)
+    parameters: Parameters = one(Parameters)
+    latency: int = octets(4)
+
+
+@dataclass(frozen=True)
+class FailedSent:
+    """The same of a Talker Failed."""
+    applicant: int = octets(1)
+    parameters: Parameters = one(Parameters)
+    latency: int = octets(4)
+    failed_bridge: int = octets(8)
+    code: int = octets(1)
+
+
+@dataclass(frozen=True)
+class ListenerSent:
+    """The same of a Listener, whose one value is its declaration type."""
+    applicant: int = octets(1)
+    declared: int = octets(1)
+
+
+@dataclass(frozen=True)
+class Sends:
+    """What a port sends of a stream."""
+    advertise: AdvertiseSent = one(AdvertiseSent)
+    failed: FailedSent = one(FailedSent)
+    listener: ListenerSent = one(ListenerSent)
+
+
+@dataclass(frozen=True)
 class Stream:
     """A stream record."""
     stream_id: int = octets(8)
     settled: Parameters = one(Parameters)
     cells: tuple[Cell, ...] = several(Cell, PORTS)
     results: tuple[Result, ...] = several(Result, PORTS)
+    sends: tuple[Sends, ...] = several(Sends, PORTS)
 
 
 @dataclass(frozen=True)
@@ -241,6 +291,7 @@ class Table:
     held: int = octets(1)
     totals: tuple[Totals, ...] = several(Totals, PORTS)
     edges: tuple[Edge, ...] = several(Edge, PORTS)
+    senders: tuple[Sender, ...] = several(Sender, PORTS)
     streams: tuple[Stream, ...] = several(Stream, STREAMS, used="held")
 
 

@@ -5,7 +5,7 @@ from itertools import groupby
 from srp import pages, sheet
 from srp.refusals import summed_up
 from srp.views import Share, addresses, class_of, loads, ports, stream_line
-from srp.words import address, cause, counted, edge, rate, seconds, stream_id
+from srp.words import LEAVING, address, cause, counted, edge, rate, seconds, stream_id
 
 # A part of a bar that is narrower, in percent, has no room for a name.
 NARROW = 12
@@ -93,6 +93,12 @@ def asked_note(all_asked):
     return f"asked for: {', '.join(map(run_note, runs(all_asked))) or 'nothing'}"
 
 
+def has_unsent_lv(stream, port):
+    """Whether a declaration of a stream is withdrawn on a port, and no write has said it."""
+    sends = stream.sends[port - 1]
+    return LEAVING in (sends.advertise.applicant, sends.failed.applicant, sends.listener.applicant)
+
+
 def place_of(stream, port):
     """What is said of a stream on a port."""
     line, cell = stream_line(stream, port), stream.cells[port - 1]
@@ -104,6 +110,8 @@ def place_of(stream, port):
         lines.append(f"Listener {line.listener}")
     if cell.talker_leaving or cell.listener_leaving:
         lines.append("leaving")
+    if has_unsent_lv(stream, port):
+        lines.append("Lv not sent yet")
     return Place(kind, word, lines)
 
 

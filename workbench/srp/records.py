@@ -111,6 +111,14 @@ def advance(time):
     return numbered(0x20, ("time", time, 4))
 
 
+def store(place, octet):
+    return numbered(0x50, ("place", place, 2), ("octet", octet, 1))
+
+
+def lend(length):
+    return numbered(0x51, ("length", length, 2))
+
+
 def write(port, place=0, buffer=1500):
     return numbered(ported(WRITE, port), ("place", place, 2), ("buffer", buffer, 2))
 

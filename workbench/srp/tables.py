@@ -1,9 +1,10 @@
 """The table in words: who is registered where, leaving since when, changed, of what age, where the domain ends, which addresses
-were asked for, and what is settled."""
+were asked for, what is settled, and what each port has still to say."""
 from srp.needs import need
 from srp.refusals import summed_up
-from srp.views import addresses, class_of, demand, loads, ports
-from srp.words import COLUMNS, ENTRIES, LISTENERS, address, cause, counted, edge, rate, seconds, stream_id, word
+from srp.views import addresses, class_of, demand, loads, of_class, ports
+from srp.words import (CLASSES, COLUMNS, ENTRIES, LEAVE_ALL_TIME, LISTENERS, address, applicant, cause, counted, edge, rate,
+                       seconds, stream_id, word)
 
 TALKERS = ("none", "Advertise", "Failed")
 DECLARED = ("none", "Asking Failed", "Ready", "Ready Failed")
@@ -131,6 +132,57 @@ def show_addresses(table, console):
     console.print()
 
 
+def leave_all_words(sender):
+    """Whether a LeaveAll is due, and since when the next one counts."""
+    due = "is due, and goes out with the port's next write" if sender.leave_all else "isn't due"
+    return (f"LeaveAll {due}; the next counts since {seconds(sender.leave_all_since)}, due from"
+            f" {seconds(sender.leave_all_since + LEAVE_ALL_TIME)} on")
+
+
+def sender_lines(table):
+    """A line for each Domain value that a port declares, and for its LeaveAll."""
+    for port in ports(table):
+        sender = table.senders[port - 1]
+        for name in CLASSES:
+            for priority, sent in enumerate(of_class(sender, "domains_", name)):
+                if sent.applicant:
+                    yield f"port {port}: Domain of class {name}, priority {priority}: {applicant(sent.applicant)}"
+        yield f"port {port}: {leave_all_words(sender)}"
+
+
+def show_senders(table, console):
+    """Prints what each port sends by itself."""
+    console.print("sent by each port")
+    console.print("\n".join(f"  {line}" for line in sender_lines(table)))
+    console.print()
+
+
+def talker_sent(sent):
+    """The values that a port has last declared of a Talker."""
+    return f"{asked_for(sent.parameters)}, latency out {sent.latency} ns"
+
+
+def sends_lines(stream, table):
+    """A line for each declaration of a stream that a port has sent or has still to send, with the values last declared."""
+    for port in ports(table):
+        sends = stream.sends[port - 1]
+        if sends.advertise.applicant:
+            yield f"port {port}: Talker Advertise {applicant(sends.advertise.applicant)} {talker_sent(sends.advertise)}"
+        if sends.failed.applicant:
+            sent = sends.failed
+            failure = f"code {sent.code} ({cause(sent.code) or 'none'}) of bridge {stream_id(sent.failed_bridge)}"
+            yield f"port {port}: Talker Failed {applicant(sent.applicant)} {talker_sent(sent)}, {failure}"
+        if sends.listener.applicant:
+            yield f"port {port}: Listener {word(DECLARED, sends.listener.declared)} {applicant(sends.listener.applicant)}"
+
+
+def show_sends(stream, table, console):
+    """Prints what the ports declare of a stream, if they declare something."""
+    lines = list(sends_lines(stream, table))
+    if lines:
+        console.print("\n".join(["declared", *(f"  {line}" for line in lines), ""]))
+
+
 def head(table):
     """The bridge as a whole."""
     settings = table.settings
@@ -148,12 +200,15 @@ def refused_lines(ran):
 
 
 def show_stream(stream, table, console, names):
-    """Prints who is registered, and what the last advance decided, if it had the stream."""
+    """Prints who is registered, what the last advance decided, if it had the stream, and what ports declare of it."""
     is_settled = any(result.column or result.entry or result.listener for result in stream.results)
     console.print(f"stream {names.beside(stream_id(stream.stream_id))},"
                   f" class {is_settled and class_of(table, stream.settled) or 'none'}")
-    console.print("\n".join(f"  {line}" for line in registered(stream, table)))
-    console.print(settled_grid(stream, table) if is_settled else "  no part in an advance yet\n")
+    lines = [f"  {line}" for line in registered(stream, table)]
+    console.print("\n".join(lines) or "  nothing is registered: it is held until its Lv is sent\n")
+    if lines:
+        console.print(settled_grid(stream, table) if is_settled else "  no part in an advance yet\n")
+    show_sends(stream, table, console)
 
 
 def show(ran, console):
@@ -168,5 +223,6 @@ def show(ran, console):
     console.print(port_grid(ran.table))
     show_domain(ran.table, console)
     show_addresses(ran.table, console)
+    show_senders(ran.table, console)
     for stream in ran.table.streams:
         show_stream(stream, ran.table, console, ran.input.names)

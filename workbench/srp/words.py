@@ -5,6 +5,14 @@ LISTENERS = ("none", "asking", "ready", "readyfailed")
 ENTRIES = ("none", "filter", "forward")
 CLASSES = ("A", "B")
 
+# Applicants (IEEE 802.1Q, Table 10-3) by their octet, and what each has still to say.
+APPLICANTS = ("none", "VP", "VN", "AN", "AA", "QA", "LA")
+STILL_TO_SAY = {"VP": "Join, twice", "VN": "New, twice", "AN": "New, once more", "AA": "Join, once more",
+                "QA": "nothing", "LA": "Lv, once: it is withdrawn"}
+LEAVING = APPLICANTS.index("LA")
+# Hundredths of a second from one LeaveAll that is due to the next (LeaveAllTime).
+LEAVE_ALL_TIME = 1000
+
 # Class IDs of Domain values (Table 35-7).
 CLASS_IDS = {"A": 6, "B": 5}
 
@@ -70,6 +78,12 @@ REASONS = {
 def word(words, number):
     """The word of a number; the number itself where there is none."""
     return words[number] if number < len(words) else str(number)
+
+
+def applicant(number):
+    """An Applicant, and what it has still to say."""
+    name = word(APPLICANTS, number)
+    return f"{name} (to say: {STILL_TO_SAY[name]})" if name in STILL_TO_SAY else name
 
 
 def cause(code):

@@ -76,7 +76,71 @@ def test_declarations_are_read_by_another_bridge():
         second.hear_domain(2)
         second.advance(100)
         assert second.report(2).column == "advertise"
-        assert second.declarations(1) == idle == [DOMAIN]
+        assert idle == [DOMAIN]
+        # what the neighbour has declared is joined with JoinIn
+        assert second.declarations(1) == [DOMAIN.replace(b"\x6c", b"\x24")]
+
+
+def test_a_look_leaves_the_bridge_as_it_is():
+    import srp
+
+    with srp.Bridge(SETTINGS) as bridge:
+        bridge.hear_domain()
+        bridge.feed(f"{TALKER}\n{LISTENER}\ntime 100")
+        before, looks = bridge.sum(), [bridge.declarations(port) for port in (1, 2)]
+        assert [bridge.declarations(port) for port in (1, 2)] == looks and all(looks)
+        assert bridge.sum() == before
+        with bridge.kept():
+            bridge.feed("lend 100\nreport 1")
+            assert not bridge.advance(200).accepted
+        with bridge.kept():
+            bridge.advance(1000)
+            assert bridge.said(1) != looks[0] and bridge.sum() != before
+        assert bridge.sum() == before
+        with pytest.raises(ZeroDivisionError), bridge.kept():
+            bridge.advance(200)
+            bridge.write(2)
+            raise ZeroDivisionError
+        assert bridge.sum() == before and bridge.said(2) == looks[1]
+        assert bridge.sum() != before and [bridge.declarations(port) for port in (1, 2)] == looks
+
+
+def test_a_pass_goes_on_where_the_place_stays():
+    """64 Lvs take two PDUs. The first gives back place 0, since what it has withdrawn is gone; with the last the streams are."""
+    import srp
+
+    with srp.Bridge(SETTINGS) as bridge:
+        bridge.hear_domain()
+        bridge.feed("on 1 talker 0200000000010001 values 64\ntime 100")
+        assert len(bridge.said(2)) == 2
+        bridge.feed("on 1 leaveall advertise\ntime 160")
+        with bridge.kept():
+            assert (bridge.write(2).next, bridge.report(2).count) == (0, 11)
+        looked = bridge.declarations(2)
+        assert bridge.report(2).count == 64 and looked == bridge.said(2) and len(looked) == 2
+        assert bridge.report(2).count == 0
+
+
+def test_what_a_port_says_until_it_is_quiet():
+    """Two Joins; an Lv for what is withdrawn; LeaveAll at 10 s. A refused write says nothing."""
+    import srp
+
+    with srp.Bridge(SETTINGS) as bridge:
+        bridge.hear_domain()
+        bridge.feed(f"{TALKER}\n{LISTENER}\ntime 100")
+        assert [len(bridge.said(2)) for _ in range(3)] == [1, 1, 0]
+        bridge.feed(f"{TALKER} leave\ntime 160")
+        # the declaration is gone, and two Domain values are left
+        [answer, after] = [bridge.write(2, 0) for _ in range(2)]
+        assert (answer.next, answer.has_said, answer.pdu[32] // 36) == (2, True, 5)
+        assert (after.length, after.has_said, bridge.said(2)) == (3, False, [])
+        assert bridge.table().senders[1] == srp.Sender(*[tuple(map(srp.DomainSent, each)) for each in (
+            [0, 0, 5, 0, 0, 0, 0, 0], [0, 0, 0, 5, 0, 0, 0, 0])], 0, 0)
+        bridge.advance(1000)
+        assert (bridge.table().senders[1].leave_all, bridge.table().senders[1].leave_all_since) == (1, 1000)
+        [pdu] = bridge.said(2)
+        assert pdu[5:7] == b"\x20\0" and bridge.table().senders[1].leave_all == 0
+        assert bridge.said(9) == []
 
 
 def test_the_edge_of_the_domain():

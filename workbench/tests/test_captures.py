@@ -33,13 +33,13 @@ def test_what_ports_write_is_what_write_gives(srp, tmp_path):
             bridge.call(record)
             if record.kind == 2:
                 expected.append(f"time {record.time}")
-                expected += [f"on {port} octets {pdu.hex()}" for port in range(1, 5) for pdu in bridge.declarations(port)]
+                expected += [f"on {port} octets {pdu.hex()}" for port in range(1, 5) for pdu in bridge.said(port)]
     assert srp("capture", capture).splitlines()[2:] == [*expected, "time 500"]
 
 
 @pytest.mark.parametrize("text", sorted((ROOT / "tests/written").glob("*.txt")), ids=lambda path: path.stem)
 def test_the_last_pdu_of_a_port(text):
-    """A port's PDUs are those that asking on to the end gives, where they are several and where one is full or nearly so."""
+    """A port's PDUs are those that writing on to the end gives, where they are several and where one is full or nearly so."""
     import srp as package
     from srp import frames
 
@@ -61,9 +61,11 @@ def test_the_frames_of_an_input_give_its_sheet(srp, tmp_path):
 
 @needs_tshark
 def test_the_empty_pdu_is_written_padded(srp, tmp_path):
+    """Where a neighbour sends one. A port of this bridge sends none, and where no port has anything to say there is no capture."""
     text, capture = tmp_path / "idle.txt", tmp_path / "idle.pcap"
-    text.write_text("bridge 8000000000000007\nports 2 classes none\ntime 100\n")
-    srp("capture", text, "-o", capture)
+    text.write_text("bridge 8000000000000007\nports 2 classes none\ntime 100\non 1 octets 000000\non 2 octets 000000\n")
+    assert "no port has something to say" in srp("capture", text, "-o", capture, status=2)
+    srp("capture", text, "--received", "-o", capture)
     assert complaints(capture) == ("", ["MRP-MSRP"] * 2)
     octets = capture.read_bytes()
     assert len(octets) == 24 + 2 * (16 + 60)

@@ -56,6 +56,21 @@ def test_a_stream_that_one_side_lacks(srp, written):
     assert ["0200000000010001", "soprano", "port", "1", "talker", "advertise", "none"] in found
 
 
+def test_what_ports_have_said(srp, written):
+    """The same calls, and in the second two writes, the last with a LeaveAll: nothing of it is decided otherwise."""
+    text = TEXT.replace("on 3 domain", "start\non 3 domain")
+    first = written("first.txt", f"{text}time 1000\n")
+    second = written("second.txt", f"{text}write 3\ntime 1000\nwrite 1\n")
+    found = json.loads(srp("diff", first, second, "--json", status=1))
+    shown = [(one["name"], one["port"], one["part"], one["field"], one["first"], one["second"]) for one in found]
+    for line in (("soprano", 3, "sends Talker Advertise", "applicant", "VP", "AA"),
+                 ("soprano", 1, "sends Listener", "applicant", "VP", "AA"), ("soprano", 1, "", "talker_leaving", "no", "yes"),
+                 ("", 3, "sends Domain of class A, priority 3", "applicant", "VP", "AA"),
+                 ("", 1, "", "leave_all_due", "yes", "no")):
+        assert line in shown
+    assert srp("diff", first, second, "--decided") == "no difference\n"
+
+
 def test_as_json(srp, written):
     first, second = written("first.txt", TEXT), written("second.txt", TEXT.replace("vlan", "").replace("ready", "asking"))
     found = json.loads(srp("diff", first, second, "--json", status=1))
@@ -76,10 +91,12 @@ def test_every_field_of_the_layout_is_compared(srp):
     def numbers(*parts):
         return sum(each.name != "zero" and "part" not in each.metadata for part in parts for each in fields(part))
 
-    own = numbers(layout.Port, layout.Totals) + 2 + 2 * layout.PRIORITIES * numbers(layout.Domain)
+    own = (numbers(layout.Port, layout.Totals, layout.Sender) + 2
+           + 2 * layout.PRIORITIES * numbers(layout.Domain, layout.DomainSent))
+    sent = numbers(layout.AdvertiseSent, layout.Parameters, layout.FailedSent, layout.Parameters, layout.ListenerSent)
     asked = sum(len(edge.addresses) for edge in table.edges[:ports]) * numbers(layout.Address)
     # the clock and, for each stream, that it is held
-    of_a_stream = 1 + numbers(layout.Parameters) + ports * numbers(layout.Cell, layout.Parameters, layout.Result)
+    of_a_stream = 1 + numbers(layout.Parameters) + ports * (numbers(layout.Cell, layout.Parameters, layout.Result) + sent)
     assert compared == numbers(layout.Settings) + 1 + ports * own + asked + streams * of_a_stream
 
 

@@ -3,6 +3,7 @@ import re
 
 from conftest import ROOT
 from srp import layout
+from srp.words import APPLICANTS, STILL_TO_SAY
 
 HEADER = (ROOT / "include/srp.h").read_text()
 PLACES = {name: int(number) for name, number in re.findall(r"^#define SRP_AT_(\w+) (\d+)$", HEADER, re.MULTILINE)}
@@ -22,7 +23,19 @@ def test_every_place_is_the_layouts():
         "VLAN": parameters("vlan"), "PRIORITY": parameters("priority"),
         "RESULTS": layout.place(layout.Stream, "results"), "RESULTS_NEXT": layout.length(layout.Result),
         "COLUMN": layout.place(layout.Result, "column"), "ENTRY": layout.place(layout.Result, "entry"),
+        "SENDERS": layout.place(layout.Table, "senders"), "SENDERS_NEXT": layout.length(layout.Sender),
+        "LEAVE_ALL": layout.place(layout.Sender, "leave_all"), "LEAVE_ALL_SINCE": layout.place(layout.Sender, "leave_all_since"),
+        "SENDS": layout.place(layout.Stream, "sends"), "SENDS_NEXT": layout.length(layout.Sends),
+        "SENT_ADVERTISE": layout.place(layout.Sends, "advertise"), "SENT_FAILED": layout.place(layout.Sends, "failed"),
+        "SENT_LISTENER": layout.place(layout.Sends, "listener"),
     }
+    assert f"#define SRP_TABLE {layout.length(layout.Table)}\n" in HEADER
+
+
+def test_applicants_have_their_words():
+    numbers = {name: int(number) for name, number in re.findall(r"SRP_APPLICANT_(\w+) = (\d+)", HEADER)}
+    assert numbers == {name.upper(): number for number, name in enumerate(APPLICANTS)}
+    assert set(STILL_TO_SAY) == set(APPLICANTS) - {"none"}
 
 
 def test_widths_are_the_layouts():
@@ -32,8 +45,9 @@ def test_widths_are_the_layouts():
                            ("SRP_AT_DESTINATION, ", layout.length_of(layout.Parameters, "destination")),
                            ("SRP_AT_VLAN, ", layout.length_of(layout.Parameters, "vlan")),
                            ("SRP_AT_TOTALS_NEXT * (port - 1), ", layout.length_of(layout.Totals, "a")),
-                           ("SRP_AT_TOTALS_B, ", layout.length_of(layout.Totals, "b"))):
-        assert re.findall(re.escape(reader) + r"(\d+)", HEADER) == [str(octets)]
+                           ("SRP_AT_TOTALS_B, ", layout.length_of(layout.Totals, "b")),
+                           ("SRP_AT_LEAVE_ALL_SINCE, ", layout.length_of(layout.Sender, "leave_all_since"))):
+        assert re.findall(re.escape(reader) + r"(\d+)", HEADER) == [str(octets)], reader
 
 
 def test_the_settings_have_every_field():

@@ -27,9 +27,30 @@ def test_places_and_lengths(title, part):
     assert set(begins) == places
 
 
+def within(outer, field, part):
+    """The places of a part's fields in what has it as a field."""
+    begin = layout.place(outer, field)
+    return {name: begin + layout.place(part, name) for name in part.__dataclass_fields__}
+
+
+def test_what_a_port_sends():
+    assert layout.length(layout.Sender) == 2 * layout.PRIORITIES + 1 + 4 == 21
+    assert [layout.place(layout.Sender, field) for field in layout.Sender.__dataclass_fields__] == [0, 8, 16, 17]
+    advertise, failed = (within(layout.Sends, field, part) for field, part in (("advertise", layout.AdvertiseSent),
+                                                                              ("failed", layout.FailedSent)))
+    listener = within(layout.Sends, "listener", layout.ListenerSent)
+    priority = advertise["parameters"] + layout.place(layout.Parameters, "priority")
+    # a Failed has its Talker's values in one row
+    expected = [*advertise.values(), priority, *(place for name, place in failed.items() if name not in ("latency", "code")),
+                *listener.values()]
+    assert [int(begin) for begin, _ in rows("What a port sends of a stream")] == sorted(expected)
+    sizes = [sum(map(int, sizes.split(", "))) for _, sizes in rows("What a port sends of a stream")]
+    assert sum(sizes) == layout.length(layout.Sends)
+
+
 def test_whole_table():
     begins = [int(begin.replace(",", "")) for begin, _ in rows("Layout")]
-    fields = ("settings", "clock", "held", "totals", "edges", "streams")
+    fields = ("settings", "clock", "held", "totals", "edges", "senders", "streams")
     assert [int(size.replace(",", "")) for _, size in rows("Layout")] == [
         *(after - before for before, after in zip(begins, begins[1:])), layout.length(layout.Table) - begins[-1]]
     assert begins == [layout.place(layout.Table, field) for field in fields]

@@ -11,7 +11,7 @@ use lib.Seq.{ext-getD, getD-set-same, getD-set-other}
 use lib.Dec.{ltb, eqb}
 use borrow.Author.Tests.{lt-ltb, le-ltb, eqb-true, eqb-false}
 use Rattle.model.specs.Lists.{keep, tabulate}
-use Rattle.model.specs.State.{Settings, Column, advertise, failed, filters, forwards, Result, Stream, Totals, Bridge, noTotals, unsettled, inForce, portAt, isPort, cellAt, resultAt, Class, noClass, classA, classB, classOf, isNoClass, sameClass}
+use Rattle.model.specs.State.{Settings, Column, advertise, failed, filters, forwards, Result, Sender, Stream, Totals, Bridge, noTotals, unsettled, inForce, portAt, isPort, cellAt, resultAt, Class, noClass, classA, classB, classOf, isNoClass, sameClass}
 use Rattle.model.specs.Bandwidth.{Claim, remains, admitted, sort, reserved, total}
 use Rattle.model.specs.Settling.{Scene, Source, nowhere, from, sourceOf, fixedOf, streamClass, registered, isReady, clear, steps, stepsFrom, ageOf, claim, claims, limitOn, leftFor, byBandwidth, columnOf, entryOf, ageKept, latencyKept, totalOn, totalsOn, isAdvertise, bandwidthSteps, first, outcomeColumn}
 use Rattle.model.proofs.Lists.{and-true, and-false}
@@ -51,6 +51,7 @@ showing st now col x = record {
   settled = fixedOf (sourceOf x);
   cells = x .cells;
   results = tabulate 8 0 (λ q. shownAs st now x q (col q x));
+  sends = x .sends;
 }
 
 -- The steps before h alone.
@@ -97,12 +98,13 @@ module _ (sc : Scene) (now : ℕ) (s : List Stream) where
       totalB = cond (done q classB) (totalOn sc now s q classB) 0;
     }
 
-    shared : ℕ → Bridge
-    shared clock = record {
+    shared : ℕ → List Sender → Bridge
+    shared clock senders = record {
       settings = sc .settings;
       clock = clock;
       totals = tabulate 8 0 totalsBy;
       owns = sc .owns;
+      senders = senders;
       streams = map (showing (sc .settings) now columnBy) s;
     }
 
@@ -221,7 +223,7 @@ module _ (sc : Scene) (now : ℕ) (s : List Stream) where
     unfolding withResult
     fails-with x e f =
         rw (shown-at old p h x, e, lacks-at p x)
-        (unfold showing in ap (λ (r : List Result). record { id = x .id; settled = fixedOf (sourceOf x); cells = x .cells; results = r })
+        (unfold showing in ap (λ (r : List Result). record { id = x .id; settled = fixedOf (sourceOf x); cells = x .cells; results = r; sends = x .sends })
         (set-tabulate (λ q. shownAs (sc .settings) now x q (old q x)) (λ q. shownAs (sc .settings) now x q (new q x)) p (shownAs (sc .settings) now x p (failed (sc .settings .bridgeId) 1)) h (rw f)
         (λ q b n. rw (stays q x (λ i j. n i)))))
 
@@ -272,9 +274,9 @@ module _ (sc : Scene) (now : ℕ) (s : List Stream) where
         other-port q b n = unfold totalsBy in (rw (else q classA (λ i j. n i), else q classB (λ i j. n i)))
 
     -- the limit in force is read off the total that class A left
-    limit-same : (clock : ℕ) → limitShown (sc .settings) (shared done clock) p c ≡ l
+    limit-same : (clock : ℕ) (senders : List Sender) → limitShown (sc .settings) (shared done clock senders) p c ≡ l
     unfolding limitShown limitOn shared totalsBy l
-    limit-same clock =
+    limit-same clock senders =
         rw (at-place (totalsBy done) p noTotals h, reserved-a sc now s p) (go c refl)
       where
         go : (d : Class) → c ≡ d → inForce (portAt (sc .settings) p) (cond (done p classA) (totalOn sc now s p classA) 0) d
@@ -283,9 +285,9 @@ module _ (sc : Scene) (now : ℕ) (s : List Stream) where
         go classA e = unfold inForce in refl
         go classB e = rw (a-first e)
 
-    admission-one : (clock : ℕ) → admission p c (shared done clock) ≡ shared then clock
+    admission-one : (clock : ℕ) (senders : List Sender) → admission p c (shared done clock senders) ≡ shared then clock senders
     unfolding admission shared old new cs
-    admission-one clock = rw (limit-same clock, claims-same s, totals-set, admit-all s)
+    admission-one clock senders = rw (limit-same clock senders, claims-same s, totals-set, admit-all s)
 
 -- All of them: on each port class A, then class B.
 
@@ -303,23 +305,23 @@ ltb-next m n h = go (two m n)
     go (lo g) = rw (lt-ltb m n g, lt-ltb m (suc n) (omega arith))
     go (hi g) = rw (le-ltb m n g, le-ltb m (suc n) (omega (arith, h)))
 
-module _ (sc : Scene) (now : ℕ) (s : List Stream) (clock : ℕ) where
-  turn-a : (p : ℕ) → p < 8 → admission p classA (shared sc now s (doneBefore (2 * p)) clock) ≡ shared sc now s (doneBefore (suc (2 * p))) clock
+module _ (sc : Scene) (now : ℕ) (s : List Stream) (clock : ℕ) (senders : List Sender) where
+  turn-a : (p : ℕ) → p < 8 → admission p classA (shared sc now s (doneBefore (2 * p)) clock senders) ≡ shared sc now s (doneBefore (suc (2 * p))) clock senders
   unfolding doneBefore sameClass
   turn-a p h =
       admission-one sc now s p h classA refl (doneBefore (2 * p)) (doneBefore (suc (2 * p)))
-      (le-ltb (2 * p) (2 * p) (omega arith)) (lt-ltb (2 * p) (suc (2 * p)) (omega arith)) (λ e. absurd (a-not-b e)) else clock
+      (le-ltb (2 * p) (2 * p) (omega arith)) (lt-ltb (2 * p) (suc (2 * p)) (omega arith)) (λ e. absurd (a-not-b e)) else clock senders
     where
       else : (q : ℕ) (d : Class) → (q ≡ p → d ≡ classA → ⊥) → doneBefore (2 * p) q d ≡ doneBefore (suc (2 * p)) q d
       else q noClass n = refl
       else q classA n = ltb-next (2 * q) (2 * p) (λ e. n (omega (arith, e)) refl)
       else q classB n = ltb-next (2 * q + 1) (2 * p) (λ e. omega (arith, e))
 
-  turn-b : (p : ℕ) → p < 8 → admission p classB (shared sc now s (doneBefore (suc (2 * p))) clock) ≡ shared sc now s (doneBefore (2 * suc p)) clock
+  turn-b : (p : ℕ) → p < 8 → admission p classB (shared sc now s (doneBefore (suc (2 * p))) clock senders) ≡ shared sc now s (doneBefore (2 * suc p)) clock senders
   unfolding doneBefore sameClass
   turn-b p h =
       admission-one sc now s p h classB refl (doneBefore (suc (2 * p))) (doneBefore (2 * suc p))
-      (le-ltb (2 * p + 1) (suc (2 * p)) (omega arith)) (lt-ltb (2 * p + 1) (2 * suc p) (omega arith)) (λ e. lt-ltb (2 * p) (suc (2 * p)) (omega arith)) else clock
+      (le-ltb (2 * p + 1) (suc (2 * p)) (omega arith)) (lt-ltb (2 * p + 1) (2 * suc p) (omega arith)) (λ e. lt-ltb (2 * p) (suc (2 * p)) (omega arith)) else clock senders
     where
       next : 2 * suc p ≡ suc (suc (2 * p))
       next = omega arith
@@ -329,7 +331,7 @@ module _ (sc : Scene) (now : ℕ) (s : List Stream) (clock : ℕ) where
       else q classA n = rw next (ltb-next (2 * q) (suc (2 * p)) (λ e. omega (arith, e)))
       else q classB n = rw next (ltb-next (2 * q + 1) (suc (2 * p)) (λ e. n (omega (arith, e)) refl))
 
-  turns : (n p : ℕ) → p + n ≤ 8 → admissions n p (shared sc now s (doneBefore (2 * p)) clock) ≡ shared sc now s (doneBefore (2 * (p + n))) clock
+  turns : (n p : ℕ) → p + n ≤ 8 → admissions n p (shared sc now s (doneBefore (2 * p)) clock senders) ≡ shared sc now s (doneBefore (2 * (p + n))) clock senders
   unfolding admissions
   turns zero p h = rw (add-zero p)
   turns (suc n) p h =
@@ -346,7 +348,7 @@ module _ (sc : Scene) (now : ℕ) (s : List Stream) (clock : ℕ) where
   none-done q classA = le-ltb (2 * q) 0 (omega arith)
   none-done q classB = le-ltb (2 * q + 1) 0 (omega arith)
 
-  at-first : record { settings = sc .settings; clock = clock; totals = replicate 8 noTotals; owns = sc .owns; streams = map (early sc now) s } ≡ shared sc now s (doneBefore 0) clock
+  at-first : record { settings = sc .settings; clock = clock; totals = replicate 8 noTotals; owns = sc .owns; senders = senders; streams = map (early sc now) s } ≡ shared sc now s (doneBefore 0) clock senders
   unfolding shared
   at-first =
       rw (
@@ -413,8 +415,8 @@ module _ (sc : Scene) (now : ℕ) (s : List Stream) (clock : ℕ) where
               no-total q classB h,
             )
 
-    at-last : shared sc now s (doneBefore (2 * n)) clock
-        ≡ record { settings = sc .settings; clock = clock; totals = tabulate 8 0 (totalsOn sc now s); owns = sc .owns; streams = map (showing (sc .settings) now (columnOf sc now s)) s }
+    at-last : shared sc now s (doneBefore (2 * n)) clock senders
+        ≡ record { settings = sc .settings; clock = clock; totals = tabulate 8 0 (totalsOn sc now s); owns = sc .owns; senders = senders; streams = map (showing (sc .settings) now (columnOf sc now s)) s }
     unfolding shared
     at-last =
         rw (
@@ -425,12 +427,13 @@ module _ (sc : Scene) (now : ℕ) (s : List Stream) (clock : ℕ) where
 
     -- After the steps before h the admissions of all ports leave what advance decides, but for the Listeners declared.
     pub admissions-decide :
-        admissions (length (sc .settings .ports)) 0 record { settings = sc .settings; clock = clock; totals = replicate 8 noTotals; owns = sc .owns; streams = map (early sc now) s }
+        admissions (length (sc .settings .ports)) 0 record { settings = sc .settings; clock = clock; totals = replicate 8 noTotals; owns = sc .owns; senders = senders; streams = map (early sc now) s }
         ≡ record {
           settings = sc .settings;
           clock = clock;
           totals = tabulate 8 0 (totalsOn sc now s);
           owns = sc .owns;
+          senders = senders;
           streams = map (showing (sc .settings) now (columnOf sc now s)) s;
         }
     unfolding n

@@ -19,7 +19,7 @@ use Rattle.model.specs.State.{Settings, Class, classOf, sameClass, Fixed, Resul
 use Rattle.model.specs.Frames.{priorityOf, rankOf}
 use Rattle.model.specs.Bandwidth.{PerInterval, demand, rateOf}
 use Rattle.model.specs.Settling.{registered, isReady, isAdvertise}
-use Rattle.model.specs.Table.{toPort, fixedFrom, toCell, toColumn, columnNumber, columnBridge, columnCode, entryNumber, resultNumbers, resultFrom, resultOctets, toResult, totalsOctets}
+use Rattle.model.specs.Table.{toPort, toCell, toColumn, columnNumber, columnBridge, columnCode, entryNumber, resultNumbers, resultFrom, resultOctets, toResult, totalsOctets}
 use Rattle.model.specs.Laid.{LaidResult}
 use Rattle.model.proofs.SettingsOctets.{octet-field}
 use Rattle.model.proofs.Fits.{laid-result-is}
@@ -29,6 +29,7 @@ use Rattle.streams.specs.Answers.{classShown}
 use Rattle.columns.specs.Stages.{settledClass, waits, lacking, withTotal}
 use Rattle.columns.proofs.Entries.{registered-read, ready-number}
 use Rattle.admission.specs.Sharing.{classFor, order, orderOf, orders, demandIn}
+use Rattle.model.specs.WrittenFrames.{fixedFrom}
 
 -- The class that is shared out.
 

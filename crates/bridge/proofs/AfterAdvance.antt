@@ -42,7 +42,7 @@ report-settled t time n u o small call z p place r shown accepted =
     let v : Valid b = valid-decode u (kept .0) (kept .1) in
     let h = report-0 u p place .0 (rw shown at accepted) in
     let here : p - 1 < 8 = omega (arith, right-port (b .settings) p (h .0 .1), v .settings .eight-ports) in
-    let d : Settled b = advance-decides t time n u o small call z .rules .decided in
+    let d : Settled b = advance-decides t time n u o small call z .rules .settled in
     let s : Shows u p place r = report-shows u p place r shown accepted in
     record {
       totals = (s .totalA ∙ d .totals (p - 1) here classA, s .totalB ∙ d .totals (p - 1) here classB);

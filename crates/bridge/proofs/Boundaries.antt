@@ -9,7 +9,7 @@ use native.Mathlib.Omega.{arith}
 use lib.ListN.{length, getD}
 use Rattle.model.specs.Lists.{Octets}
 use Rattle.model.specs.State.{noDomain, Own, ownAt, streamAt, Class, isNoClass, supports, portAt, classPriority}
-use Rattle.model.specs.Settling.{streamClass, isDomain, domainsOf, boundary, sceneOf, settle}
+use Rattle.model.specs.Settling.{streamClass, isDomain, domainsOf, boundary, sceneOf, deciding, declaring, settle}
 use Rattle.model.specs.Table.{decode}
 use Rattle.model.proofs.Boundaries.{Outside, flag-exactly, no-flag, eight-decided, eight-only}
 use Rattle.model.proofs.StepOrder.{classed-before-eight}
@@ -35,7 +35,7 @@ module _ (t : List ℕ) (time n : ℕ) (u : List ℕ) (octets : Octets t) (small
     pub flag-code : (boundary (ownHeld u p) c ≡ true) ↔ OutsideHeld u p c
     flag-code =
         let e = advance-decides t time n u octets small call accepted .bridge in
-        rw e (unfold settle in (flag-exactly time (decode t) p (unfold settle in (rw e at port)) here c some))
+        rw e (unfold settle declaring deciding in (flag-exactly time (decode t) p (unfold settle declaring deciding in (rw e at port)) here c some))
 
     -- Where the port hears only the bridge's own value of a class that it supports, its flag is clear.
     pub no-flag-code : supports (portAt (decode u .settings) p) c ≡ true →
@@ -44,7 +44,7 @@ module _ (t : List ℕ) (time n : ℕ) (u : List ℕ) (octets : Octets t) (small
         boundary (ownHeld u p) c ≡ false
     no-flag-code =
         let e = advance-decides t time n u octets small call accepted .bridge in
-        rw e (unfold settle in (no-flag time (decode t) p (unfold settle in (rw e at port)) here c some))
+        rw e (unfold settle declaring deciding in (no-flag time (decode t) p (unfold settle declaring deciding in (rw e at port)) here c some))
 
   -- Code 8 is given exactly where no earlier step applies and one of h)'s conditions holds of the stream's class.
   pub eight-code : (k : ℕ) → k < length (decode u .streams) → GivenWhere u p k 8 (OutsideHeld u p (streamClass (decode u .settings) (streamAt k (decode u))))

@@ -2,8 +2,8 @@
 -- asks anything of its arguments. Here stands what its answer is, for each call one record and one theorem whose premise is that
 -- call's contract (specs/Promises), so it holds of the code whatever the code is: the numbers that may be given, each exactly when
 -- 01's table or 02 says; a refusal leaves every octet of table and buffer, and gives zero or none for every other part of the answer;
--- an accepted call leaves a table that keeps the form rules. write, report and why are lent the table to read only, so their
--- contracts give none back. (That table, settings and PDU are octets, and a time is of 32 bits, is what the calls' types say.)
+-- an accepted call leaves a table that keeps the form rules. report and why are lent the table to read only, so their contracts give
+-- none back. (That table, settings and PDU are octets, and a time is of 32 bits, is what the calls' types say.)
 use mathlib.Core.Path.{_≡_}
 use mathlib.Core.Logic.{_↔_, _⊎_}
 use mathlib.Core.List.{List, [], _∷_}
@@ -23,6 +23,7 @@ use Rattle.model.specs.Why.{notHeld, heldAs, seek, listSize}
 use Rattle.model.specs.Calls.{WhyCall, refusedWhy}
 use Rattle.model.specs.Table.{decode, clockField, formed, settingsFormed}
 use Rattle.model.proofs.FormKept.{Kept, start-formed, receive-formed, mmrp-formed, advance-formed}
+use Rattle.model.proofs.WriteKeepsForm.{write-formed}
 use Rattle.model.proofs.Refusals.{OneOf, OnPort}
 use Rattle.model.proofs.Refusals
 use Rattle.model.proofs.AddressRefusals.{heldOn}
@@ -126,26 +127,28 @@ advance-answers t time n u o small call = record {
 }
 
 -- Write of port p's declarations from a place on, to a buffer, gives the number n, a length and the next place, and leaves the
--- buffer u.
-pub record WriteAnswers (t : List ℕ) (p place : ℕ) (buffer : List ℕ) (n long next : ℕ) (u : List ℕ) : Type 0 where
+-- buffer u and the table v.
+pub record WriteAnswers (t : List ℕ) (p place : ℕ) (buffer : List ℕ) (n long next : ℕ) (u v : List ℕ) : Type 0 where
   pub numbers : OneOf (0 ∷ 1 ∷ 10 ∷ 12 ∷ 13 ∷ []) n
   pub table : (n ≡ 12) ↔ (formed t ≡ false)
   pub port : (n ≡ 1) ↔ ((formed t ≡ true) × (wrongPort (decode t .settings) p ≡ true))
   pub short : (n ≡ 10) ↔ (OnPort t p × (length buffer < longestPdu))
-  pub above : (n ≡ 13) ↔ (OnPort t p × ((longestPdu ≤ length buffer) × (length (declarations (decode t .settings) (p - 1) (decode t .streams)) < place)))
-  pub accepted : (n ≡ 0) ↔ (OnPort t p × ((longestPdu ≤ length buffer) × (place ≤ length (declarations (decode t .settings) (p - 1) (decode t .streams)))))
-  pub unaltered : (n ≡ 0 → ⊥) → (long ≡ 0) × (next ≡ 0) × (u ≡ buffer)
+  pub above : (n ≡ 13) ↔ (OnPort t p × ((longestPdu ≤ length buffer) × (length (declarations (decode t) (p - 1)) < place)))
+  pub accepted : (n ≡ 0) ↔ (OnPort t p × ((longestPdu ≤ length buffer) × (place ≤ length (declarations (decode t) (p - 1)))))
+  pub unaltered : (n ≡ 0 → ⊥) → (long ≡ 0) × (next ≡ 0) × (u ≡ buffer) × (v ≡ t)
+  pub form : n ≡ 0 → Kept v
 
-pub write-answers : (t : List ℕ) (p place : ℕ) (buffer : List ℕ) (n long next : ℕ) (u : List ℕ) →
-    Writes t p place buffer n long next u → WriteAnswers t p place buffer n long next u
-write-answers t p place buffer n long next u call = record {
+pub write-answers : (t : List ℕ) (p place : ℕ) (buffer : List ℕ) (n long next : ℕ) (u v : List ℕ) → Octets t →
+    Writes t p place buffer n long next u v → WriteAnswers t p place buffer n long next u v
+write-answers t p place buffer n long next u v o call = record {
   numbers = rw (call .number-is) (Refusals.write-numbers t p place buffer);
   table = rw (call .number-is) (Refusals.write-12 t p place buffer);
   port = rw (call .number-is) (Refusals.write-1 t p place buffer);
   short = rw (call .number-is) (Refusals.write-10 t p place buffer);
   above = rw (call .number-is) (Refusals.write-13 t p place buffer);
   accepted = rw (call .number-is) (Refusals.write-0 t p place buffer);
-  unaltered = rw (call .number-is, call .length-is, call .next-is, call .buffer-is) (Refusals.write-refused t p place buffer);
+  unaltered = rw (call .number-is, call .length-is, call .next-is, call .buffer-is, call .table-is) (Refusals.write-refused t p place buffer);
+  form = rw (call .number-is, call .table-is) (λ e. write-formed t (o, Refusals.write-0 t p place buffer .0 e .0 .0) p place buffer);
 }
 
 -- Report at a place, on port p, gives the answer r: that of the code, with its words by `shown` (crate reports).
@@ -198,9 +201,11 @@ pub data Left : List ℕ → Type 0 where
   received : (t : List ℕ) (p : ℕ) (pdu : List ℕ) (n : ℕ) (u : List ℕ) → Left t → Octets pdu → Receives t p pdu n u → Left u
   registered : (t : List ℕ) (p : ℕ) (pdu : List ℕ) (n : ℕ) (u : List ℕ) → Left t → ReceivesMmrp t p pdu n u → Left u
   advanced : (t : List ℕ) (time n : ℕ) (u : List ℕ) → Left t → time < 2 ^ 32 → Advances t time n u → Left u
+  wrote : (t : List ℕ) (p place : ℕ) (buffer : List ℕ) (n long next : ℕ) (u v : List ℕ) → Left t → Writes t p place buffer n long next u v → Left v
 
 pub left-formed : (u : List ℕ) → Left u → Kept u
 left-formed _ (begun t s n u o call z) = start-answers t s n u o call .form z
 left-formed _ (received t p pdu n u l o call) = rw (call .1) (receive-formed t (left-formed t l) p pdu o)
 left-formed _ (registered t p pdu n u l call) = rw (call .1) (mmrp-formed t (left-formed t l) p pdu)
 left-formed _ (advanced t time n u l small call) = rw (call .1) (advance-formed t (left-formed t l) time small)
+left-formed _ (wrote t p place buffer n long next u v l call) = rw (call .table-is) (write-formed t (left-formed t l) p place buffer)

@@ -5,25 +5,25 @@
 -- not meet `advance-decides`, `write-tells` and `report-shows`. (That table, settings and PDU are octets, and a time is of 32
 -- bits, is what the calls' types say.)
 use mathlib.Core.Path.{_≡_, refl, sym, _∙_, ap}
-use mathlib.Core.List.{List, _++_, map}
-use mathlib.Core.Bool.{false}
+use mathlib.Core.List.{List, _++_, map, flatMap}
+use mathlib.Core.Bool.{Bool, false}
 use Prim.Native.Nat.{ℕ, suc, _+_, _-_, _^_, _≤_, _<_}
 use native.Mathlib.Omega.{arith}
 use lib.ListN.{length, getD, take, drop, take-append-drop}
-use lib.Seq.{length-take-le, length-front, take-append-seam, drop-append-seam, drop-drop}
+use lib.Seq.{length-take-le, length-front, take-append-seam, drop-append-seam}
 use borrow.Author.Tests.{le-leb, le-ltb}
-use Rattle.octets.specs.Parts.{zeros}
-use Rattle.model.specs.Layout.{mostAddresses, tableLength}
+use Rattle.model.specs.Layout.{mostAddresses}
 use Rattle.model.specs.Lists.{Octets}
 use Rattle.model.specs.State.{Settings, Bridge, started, ownAt, portAt, resultAt, noTotals}
-use Rattle.model.specs.Registrations.{Answer, listeners, AddressAct, addressActs, acts, applyAll, doesAddresses, addressJoins, receivedAddresses, holding, owning, together, ids, joins, received}
+use Rattle.model.specs.Registrations.{Answer, listeners, AddressAct, addressActs, acts, applyAll, doesAddresses, addressJoins, receivedAddresses, holding, owning, sending, together, ids, joins, received}
 use Rattle.model.specs.FrameLayout.{longestPdu}
 use Rattle.model.specs.Frames.{registers, Vector, found, walk, walked, frameActs, reading, wrongPort}
 use Rattle.model.specs.AddressFrames.{addressWalk, addressReading}
 use Rattle.model.specs.Settling.{settle}
 use Rattle.model.specs.State.{streamAt}
 use Rattle.model.specs.Cutting.{values, Least}
-use Rattle.model.specs.Declarations.{Declaration, joinOf, declaredIds, having, takes, write}
+use Rattle.model.specs.Declarations.{Said, saidActs, declarations, declaredIds, having, takes}
+use Rattle.model.specs.Writing.{leavesAll, wroteOn, afterWrite, Written, write}
 use Rattle.model.specs.Reports.{Report, wordOf, codeOf, report}
 use Rattle.model.specs.WrittenFrames.{listenerParts, pduOctets}
 use Rattle.model.specs.Table.{encode, decode, toSettings}
@@ -34,28 +34,29 @@ use Rattle.model.proofs.FrameOrder.{acts-ids, held-ids}
 use Rattle.model.proofs.ReceiveKeepsForm.{receive-keeps, right-port}
 use Rattle.model.proofs.AddressesKept.{acts-held, mmrp-keeps}
 use Rattle.model.proofs.AdvanceKeepsForm.{settle-keeps}
-use Rattle.model.proofs.ColumnRule.{Advanced}
+use Rattle.model.proofs.Dropping.{Advanced}
 use Rattle.model.proofs.OneSolution.{exactly-one}
 use Rattle.model.proofs.Demand3.{ids-small}
 use Rattle.model.proofs.Lists.{Longest}
-use Rattle.model.proofs.WritingPasses.{pduFits, FewStreams, declared, write-from, next-place, next-further, run-fits, run-full, write-longest}
+use Rattle.model.proofs.WritingPasses.{pduFits, FewStreams, declared, toSay, takes-within, takes-one, write-from, run-in-order, run-fits, run-full, write-longest, next-within}
+use Rattle.model.proofs.WriteKeepsForm.{write-keeps}
+use Rattle.model.proofs.PortPasses.{then-declared}
 use Rattle.model.proofs.PackedVectors.{write-least, write-only}
-use Rattle.model.proofs.ReadBack.{pduVectors, valid-few, read-back, neighbour-reads}
+use Rattle.model.proofs.ReadBack.{pduVectors, pduActs, valid-few, read-back, neighbour-reads, events-only}
 use Rattle.model.proofs.AddressRefusals.{heldOn, mmrp-0}
 use Rattle.model.proofs.Refusals.{OnPort, start-0, receive-0, advance-0, write-0, report-0}
 use Rattle.bridge.specs.Promises.{Starts, Receives, ReceivesMmrp, Advances, Writes, Reports}
-use Rattle.bridge.proofs.Started.{started-table}
 use Rattle.bridge.proofs.Starting.{start-accepted}
 use Rattle.bridge.proofs.OnTables.{acted, receive-taken, advance-settles}
 use Rattle.bridge.proofs.OnAddresses.{addressed, addressed-held, mmrp-taken}
 
--- An accepted start leaves the settings, and zeros behind them: a bridge with these settings, no streams, clock 0.
+-- An accepted start leaves a bridge with these settings, no streams, clock 0, and the Domain values of each port declared.
 pub start-leaves : (t s : List ℕ) (n : ℕ) (u : List ℕ) → Octets s → Starts t s n u → n ≡ 0 →
-    (u ≡ s ++ zeros (tableLength - length s)) × (decode u ≡ started (toSettings s))
+    (u ≡ encode (started (toSettings s))) × (decode u ≡ started (toSettings s))
 start-leaves t s n u o call z =
     let h = start-0 t s .0 (sym (call .0) ∙ z) in
-    let table : u ≡ s ++ zeros (tableLength - length s) = call .1 ∙ ap (λ (c : Call). c .table) (start-accepted t s (h .0) (h .1) o) in
-    (table, ap decode (table ∙ sym (started-table s o (h .1))) ∙ decode-encode (started (toSettings s)) (valid-started s o (h .1)))
+    let table : u ≡ encode (started (toSettings s)) = call .1 ∙ ap (λ (c : Call). c .table) (start-accepted t s (h .0) (h .1)) in
+    (table, ap decode table ∙ decode-encode (started (toSettings s)) (valid-started s o (h .1)))
 
 -- What an accepted receive leaves: all events of all vectors of the PDU are applied in their order, and nothing else changes.
 pub record Registers (t : List ℕ) (p : ℕ) (pdu u : List ℕ) : Type 0 where
@@ -74,7 +75,7 @@ received-all b p pdu vs w e l = rw (w, e, le-leb _ _ l)
 
 pub receive-registers : (t : List ℕ) (p : ℕ) (pdu : List ℕ) (n : ℕ) (u : List ℕ) → Octets t → Octets pdu → Receives t p pdu n u → n ≡ 0 →
     Registers t p pdu u
-unfolding holding owning
+unfolding holding owning sending
 receive-registers t p pdu n u o q call z =
     let h = receive-0 t p pdu .0 (sym (call .0) ∙ z) in
     let b = decode t in
@@ -157,76 +158,141 @@ advance-decides t time n u o small call z =
       no-other = λ c a. one .1 c a ∙ sym bridge;
     }
 
--- What an accepted write leaves in the buffer and answers: one PDU with the port's declarations from that place on, as many as fit.
-pub record Tells (t : List ℕ) (p place : ℕ) (buffer : List ℕ) (long next : ℕ) (u : List ℕ) : Type 0 where
-  pub run : List Declaration
-  pub follows : run ++ drop next (declared (decode t) p) ≡ drop place (declared (decode t) p)
-  pub next-is : next ≡ place + length run
-  pub further : place < length (declared (decode t) p) → place < next
+-- What an accepted write leaves in the buffer u and in the table v, and answers: one PDU with what the port has to say from that place on,
+-- as much as fits, and with LeaveAll where that is due.
+pub record Tells (t : List ℕ) (p place : ℕ) (buffer : List ℕ) (long next : ℕ) (u v : List ℕ) : Type 0 where
+  pub all : Bool
+  pub due : all ≡ leavesAll (decode t) (p - 1)
+  -- what it says, of what is to say
+  pub run : List Said
+  pub begins : run ++ drop (length run) (toSay (decode t) p place) ≡ toSay (decode t) p place
+  pub some : 1 ≤ length (toSay (decode t) p place) → 1 ≤ length run
   -- the PDU is in the buffer's first octets, and all behind it stays
-  pub pdu : take long u ≡ pduOctets run
+  pub pdu : take long u ≡ pduOctets all run
   pub behind : drop long u ≡ drop long buffer
   pub same-length : length u ≡ length buffer
   -- it is at most 1,500 octets, and one declaration more would pass that
   pub fits : long ≤ longestPdu
-  pub full : next < length (declared (decode t) p) → longestPdu < length (pduOctets (take (suc (length run)) (drop place (declared (decode t) p))))
+  pub full : length run < length (toSay (decode t) p place) → longestPdu < length (pduOctets all (take (suc (length run)) (toSay (decode t) p place)))
   -- so would any number more
-  pub longest : Longest (pduFits (drop place (declared (decode t) p))) (length (drop place (declared (decode t) p))) (length run)
+  pub longest : Longest (pduFits all (toSay (decode t) p place)) (length (toSay (decode t) p place)) (length run)
   -- its Listeners are cut into vectors as no other cutting comes before in octets, then vectors, then values of the first vector, the
   -- second and so on; and no other cutting is the least
   pub least : Least values (declaredIds (having (registers listeners) run)) (map declaredIds (listenerParts (having (registers listeners) run)))
   pub only : (c : List (List ℕ)) → Least values (declaredIds (having (registers listeners) run)) c
       → c ≡ map declaredIds (listenerParts (having (registers listeners) run))
-  -- it reads back as exactly these declarations, as joins, on any port of any bridge
-  pub vectors : walk (take long u) ≡ found (pduVectors run)
-  pub neighbour : (st : Settings) (q : ℕ) → wrongPort st q ≡ false → reading st q (take long u) ≡ acts (map joinOf run)
+  -- it reads back as exactly these declarations, each with its event, on any port of any bridge, and LeaveAll where it has that
+  pub vectors : walk (take long u) ≡ found (pduVectors all run)
+  pub neighbour : (st : Settings) (q : ℕ) → wrongPort st q ≡ false → reading st q (take long u) ≡ acts (pduActs all run)
+  pub events : all ≡ false → pduActs all run ≡ flatMap saidActs run
+  -- the machines are moved, and nothing else changes
+  pub bridge : decode v ≡ afterWrite (decode t) (p - 1) place
+  pub table : v ≡ encode (afterWrite (decode t) (p - 1) place)
+  -- the port's list then, and the place in it from which the pass goes on
+  pub list : declared (decode v) p ≡ wroteOn (decode t) (p - 1) place .list
+  pub next-is : next ≡ wroteOn (decode t) (p - 1) place .next
+  pub next-within : next ≤ length (declared (decode v) p)
 
 written : (t : List ℕ) (p place : ℕ) (buffer : List ℕ) → OnPort t p → longestPdu ≤ length buffer → write (decode t) p place .number ≡ 0 →
     let w = write (decode t) p place in
+    let s = pduOctets (w .all) (w .run) in
     writeOn t p place buffer
     ≡ record {
       number = 0;
-      length = length (pduOctets (w .run));
+      length = length s;
       next = w .next;
-      buffer = pduOctets (w .run) ++ drop (length (pduOctets (w .run))) buffer;
+      buffer = s ++ drop (length s) buffer;
+      table = encode (w .bridge);
     }
 unfolding writeOn writtenTo
 written t p place buffer h l z = rw (h .0, h .1, le-ltb _ _ l, z)
 
-pub write-tells : (t : List ℕ) (p place : ℕ) (buffer : List ℕ) (n long next : ℕ) (u : List ℕ) → Octets t →
-    Writes t p place buffer n long next u → n ≡ 0 → Tells t p place buffer long next u
+in-list : (b : Bridge) (p place : ℕ) → place ≤ length (declarations b (p - 1)) → place ≤ length (declared b p)
 unfolding declared
-write-tells t p place buffer n long next u o call z =
+in-list b p place h = h
+
+-- what the answer and the table are, by the definition
+pub record Wrote (t : List ℕ) (p place : ℕ) (buffer : List ℕ) (long next : ℕ) (u v : List ℕ) : Type 0 where
+  pub right : OnPort t p
+  pub valid : Valid (decode t)
+  pub port : p - 1 < length (decode t .settings .ports)
+  pub room : longestPdu ≤ length buffer
+  pub within : place ≤ length (declared (decode t) p)
+  pub long-is : long ≡ length (pduOctets (write (decode t) p place .all) (write (decode t) p place .run))
+  pub next-is : next ≡ write (decode t) p place .next
+  pub pdu : take long u ≡ pduOctets (write (decode t) p place .all) (write (decode t) p place .run)
+  pub behind : drop long u ≡ drop long buffer
+  pub same-length : length u ≡ length buffer
+  pub table : v ≡ encode (write (decode t) p place .bridge)
+  pub bridge : decode v ≡ write (decode t) p place .bridge
+
+pub wrote : (t : List ℕ) (p place : ℕ) (buffer : List ℕ) (n long next : ℕ) (u v : List ℕ) → Octets t →
+    Writes t p place buffer n long next u v → n ≡ 0 → Wrote t p place buffer long next u v
+wrote t p place buffer n long next u v o call z =
     let h = write-0 t p place buffer .0 (sym (call .number-is) ∙ z) in
     let b = decode t in
-    let l : List Declaration = declared b p in
-    let rest : List Declaration = drop place l in
-    let from = write-from b p place (h .1 .1) in
+    let within : place ≤ length (declared b p) = in-list b p place (h .1 .1) in
     let w = write b p place in
-    let s : List ℕ = pduOctets (w .run) in
-    let c = written t p place buffer (h .0) (h .1 .0) (rw from) in
+    let s : List ℕ = pduOctets (w .all) (w .run) in
+    let c = written t p place buffer (h .0) (h .1 .0) (ap (λ (x : Written). x .number) (write-from b p place within)) in
     let long-is : long ≡ length s = call .length-is ∙ ap (λ (a : WriteCall). a .length) c in
-    let next-is : next ≡ w .next = call .next-is ∙ ap (λ (a : WriteCall). a .next) c in
     let left : u ≡ s ++ drop (length s) buffer = call .buffer-is ∙ ap (λ (a : WriteCall). a .buffer) c in
-    let fits : length s ≤ longestPdu = run-fits b p place in
-    let pdu : take long u ≡ s = rw (long-is, left) (take-append-seam s (drop (length s) buffer)) in
     let valid : Valid b = valid-decode t o (h .0 .0) in
-    let few : FewStreams b = valid-few b valid in
+    let table : v ≡ encode (w .bridge) = call .table-is ∙ ap (λ (a : WriteCall). a .table) c in
     record {
-      run = w .run;
-      follows = rw (next-is, from, ← drop-drop (takes rest) place l) (take-append-drop (takes rest) rest);
-      next-is = next-is ∙ next-place b p place (h .1 .1);
-      further = λ k. rw next-is (next-further b p place k);
-      pdu = pdu;
+      right = h .0;
+      valid = valid;
+      port = right-port (b .settings) p (h .0 .1);
+      room = h .1 .0;
+      within = within;
+      long-is = long-is;
+      next-is = call .next-is ∙ ap (λ (a : WriteCall). a .next) c;
+      pdu = rw (long-is, left) (take-append-seam s (drop (length s) buffer));
       behind = rw (long-is, left) (drop-append-seam s (drop (length s) buffer));
-      same-length = rw left (length-front buffer s (length s) (sym (length-take-le (length s) buffer (omega arith))));
-      fits = rw long-is fits;
-      full = rw next-is (run-full b p place (h .1 .1));
-      longest = write-longest b p place few (h .1 .1);
+      same-length = rw left (length-front buffer s (length s) (sym (length-take-le (length s) buffer (omega (arith, run-fits b p place, h .1 .0)))));
+      table = table;
+      bridge = ap decode table ∙ decode-encode (w .bridge) (write-keeps b p place (h .0 .1) valid);
+    }
+
+pub write-tells : (t : List ℕ) (p place : ℕ) (buffer : List ℕ) (n long next : ℕ) (u v : List ℕ) → Octets t →
+    Writes t p place buffer n long next u v → n ≡ 0 → Tells t p place buffer long next u v
+write-tells t p place buffer n long next u v o call z =
+    let h = wrote t p place buffer n long next u v o call z in
+    let b = decode t in
+    let w = write b p place in
+    let from = write-from b p place (h .within) in
+    let few : FewStreams b = valid-few b (h .valid) in
+    let rest : List Said = toSay b p place in
+    let m : ℕ = takes (leavesAll b (p - 1)) rest in
+    let due : w .all ≡ leavesAll b (p - 1) = ap (λ (x : Written). x .all) from in
+    let taken : w .run ≡ take m rest = ap (λ (x : Written). x .run) from in
+    let count : length (w .run) ≡ m = ap length taken ∙ length-take-le m rest (takes-within (leavesAll b (p - 1)) rest) in
+    let after : w .bridge ≡ afterWrite b (p - 1) place = ap (λ (x : Written). x .bridge) from in
+    let next-place : next ≡ wroteOn b (p - 1) place .next = h .next-is ∙ ap (λ (x : Written). x .next) from in
+    let list : declared (decode v) p ≡ wroteOn b (p - 1) place .list =
+    ap (λ (d : Bridge). declared d p) (h .bridge) ∙ then-declared b p place (h .valid) (h .port) (h .within) in
+    record {
+      all = w .all;
+      due = due;
+      run = w .run;
+      begins = ap (λ (r : List Said). r ++ drop (length (w .run)) rest) taken ∙ ap (λ (i : ℕ). take m rest ++ drop i rest) count ∙ take-append-drop m rest;
+      some = λ k. omega (arith, count, takes-one (leavesAll b (p - 1)) rest k);
+      pdu = h .pdu;
+      behind = h .behind;
+      same-length = h .same-length;
+      fits = rw (h .long-is) (run-fits b p place);
+      full = rw due (run-full b p place (h .within));
+      longest = rw due (write-longest b p place few (h .within));
       least = write-least b few p place;
       only = write-only b few p place;
-      vectors = rw pdu (read-back b few p place);
-      neighbour = λ st q k. rw pdu (neighbour-reads b valid p place st q k);
+      vectors = rw (h .pdu) (read-back b few p place);
+      neighbour = λ st q k. rw (h .pdu) (neighbour-reads b (h .valid) p place st q k);
+      events = λ e. rw e (events-only (w .run) (run-in-order b p place));
+      bridge = h .bridge ∙ after;
+      table = h .table ∙ ap encode after;
+      list = list;
+      next-is = next-place;
+      next-within = rw (next-place, list) (next-within b p place);
     }
 
 -- What an accepted report shows: what the table holds, each field as it was taken by the last advance.

@@ -11,7 +11,7 @@ use Rattle.model.specs.Lists.{All, on, Octets}
 use Rattle.model.specs.Registrations.{together, ids}
 use Rattle.model.specs.Table.{decode, formed, clockField}
 use Rattle.model.specs.Calls.{Call, advanceOn, Frame, msrp, mmrp, pduOf, receiveFrameOn, answersOn, afterOn, asked, askedAddresses}
-use Rattle.model.proofs.ColumnRule.{Advanced}
+use Rattle.model.proofs.Dropping.{Advanced}
 use Rattle.model.specs.Frames.{wrongPort}
 use Rattle.model.proofs.Demand3.{Same, receive-order, demand3}
 use Rattle.model.proofs.AddressRefusals.{heldOn}

@@ -6,11 +6,14 @@
 -- 3. The order among ports never matters.
 --
 -- Beside them what 02 asks: of the edge of the domain, of latency that grows, of inbound ports and shared addresses, of talker pruning,
--- of why a stream was refused, and of what an unimportant stream can't touch.
+-- of why a stream was refused, of what an unimportant stream can't touch, and of what is sent, when it is quiet, and what a neighbour has
+-- registered of it.
 pub use Rattle.bridge.proofs.Demand1.{StartAnswers, start-answers, ReceiveAnswers, receive-answers, MmrpAnswers, mmrp-answers, AdvanceAnswers, advance-answers, WriteAnswers, write-answers, ReportAnswers, report-answers, WhyAnswers, why-answers, Left, left-formed}
 pub use Rattle.bridge.proofs.Demand2.{start-leaves, Registers, receive-registers, RegistersAddresses, mmrp-registers, Decides, advance-decides, Tells, write-tells, Shows, report-shows}
 pub use Rattle.bridge.proofs.AfterAdvance.{ShowsSettled, report-settled}
 pub use Rattle.bridge.proofs.Passing.{Written, Passes, write-passes}
+pub use Rattle.bridge.proofs.Sending.{left-sent, quiet-code, quiet-writes, others-stay-code, ended-by-lv-code}
+pub use Rattle.bridge.proofs.Linked.{Delivered, two-bridges-code, two-domains-code}
 pub use Rattle.bridge.proofs.Worked.{all-accepted, reports-printed, listener-written, talker-written, wrong-port-refused, early-time-refused}
 pub use Rattle.bridge.proofs.OwnCodes.{NoneBefore, GivenWhere}
 pub use Rattle.bridge.proofs.Boundaries.{OutsideHeld, flag-code, no-flag-code, eight-code}

@@ -8,7 +8,7 @@ use native.Mathlib.Decide.{ℕ-discrete}
 use lib.ListN.{length}
 use Rattle.model.specs.Lists.{All, Octets}
 use Rattle.model.specs.State.{streamAt}
-use Rattle.model.specs.Registrations.{holding, owning}
+use Rattle.model.specs.Registrations.{holding, owning, sending}
 use Rattle.model.specs.Frames.{frameActs}
 use Rattle.model.specs.Settling.{sourceOf, latencyOf, firstLatencyOf, sceneOf}
 use Rattle.model.specs.Table.{decode}
@@ -22,7 +22,7 @@ use Rattle.bridge.proofs.OwnCodes.{GivenWhere, given-where}
 -- Every Talker registered before a receive, accepted or refused, is registered after it with the same first latency.
 pub first-stays-code : (t : List ℕ) (p : ℕ) (pdu : List ℕ) (n : ℕ) (u : List ℕ) → Octets t → Octets pdu → Receives t p pdu n u →
     AllFirstKept (decode t .streams) (decode u .streams)
-unfolding holding owning
+unfolding holding owning sending
 first-stays-code t p pdu n u octets frame call = go (ℕ-discrete n 0)
   where
     go : Dec (n ≡ 0) → AllFirstKept (decode t .streams) (decode u .streams)

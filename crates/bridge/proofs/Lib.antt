@@ -1,3 +1,4 @@
+pub mod Joining
 pub mod Started
 pub mod Starting
 pub mod OnTables
@@ -18,5 +19,7 @@ pub mod Growth
 pub mod FanIn
 pub mod Reasons
 pub mod Passing
+pub mod Sending
+pub mod Linked
 pub mod Worked
 pub mod Demands

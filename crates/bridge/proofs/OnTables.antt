@@ -9,7 +9,7 @@ use lib.Dec.{ltb, eqb}
 use borrow.Author.Tests.{lt-ltb, le-ltb, le-leb, lt-leb, eq-eqb, ne-eqb, eqb-false}
 use Rattle.model.specs.Lists.{Octets}
 use Rattle.model.specs.State.{Settings, Bridge}
-use Rattle.model.specs.Registrations.{Answer, Act, applyAll, applyOwns, holding, owning, received}
+use Rattle.model.specs.Registrations.{Answer, Act, applyAll, applyOwns, applySenders, holding, owning, sending, received}
 use Rattle.model.specs.Frames.{Vector, Walk, fault, found, walk, walked, frameActs, wrongPort, reading}
 use Rattle.model.specs.Settling.{settle, advance}
 use Rattle.model.specs.Table.{formed, encode, decode}
@@ -24,7 +24,9 @@ use Rattle.bridge.specs.Promises.{portRefusal}
 
 -- the bridge b once the acts of a frame on port p are done
 abbrev pub acted : Bridge → ℕ → List Act → Bridge
-acted b p es = owning (holding b (applyAll (b .clock) (p - 1) es (b .streams))) (applyOwns (b .clock) (p - 1) es (b .owns))
+acted b p es =
+    sending (owning (holding b (applyAll (b .clock) (p - 1) es (b .streams))) (applyOwns (b .clock) (p - 1) es (b .owns)))
+    (applySenders (b .clock) (p - 1) es (b .senders))
 
 -- a call's answer and the table it leaves, as a contract has them
 pub answers : (number : ℕ) (table : List ℕ) (c : Call) → c ≡ record { number = number; table = table } →

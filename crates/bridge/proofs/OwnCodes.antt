@@ -48,7 +48,7 @@ module _ (t : List ℕ) (time n : ℕ) (u : List ℕ) (octets : Octets t) (small
     unfolding columnAt
     left-column =
         let b = decode u in
-        let s : Settled b = advance-decides t time n u octets small call accepted .rules .decided in
+        let s : Settled b = advance-decides t time n u octets small call accepted .rules .settled in
         all-at (λ x. columnAt p x ≡ columnOf (sceneOf b) (b .clock) (b .streams) p x) (b .streams)
         (unique-columns (sceneOf b) (b .clock) (b .streams) p (left-valid .ascending) (ids-small _ _ _ (b .streams) (left-valid .streams)) (columnAt p)
         (all-map (SettledStream b) (λ x. columnAt p x ≡ ruled (sceneOf b) (b .clock) (b .streams) p (columnAt p) x) (λ x y. y .shows p here .column) (b .streams) (s .streams)))

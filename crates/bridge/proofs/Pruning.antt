@@ -1,17 +1,17 @@
 -- Talker pruning, of the code: the premises are the contracts of receive_mmrp and advance (specs/Promises).
-use mathlib.Core.Path.{_≡_, sym, _∙_, ap}
+use mathlib.Core.Path.{_≡_, refl, sym, _∙_, ap}
 use mathlib.Core.Logic.{_↔_}
 use mathlib.Core.List.{List}
 use mathlib.Core.Bool.{true, false}
 use Prim.Native.Nat.{ℕ, _^_, _<_}
 use lib.ListN.{length}
 use Rattle.model.specs.Lists.{Octets}
-use Rattle.model.specs.State.{none, ownAt, streamAt, resultAt}
-use Rattle.model.specs.Settling.{Origin, holdsAddress, decideAt, settle}
+use Rattle.model.specs.State.{Bridge, none, ownAt, streamAt, resultAt}
+use Rattle.model.specs.Settling.{Origin, holdsAddress, decideAt, deciding, declaring, settle}
 use Rattle.model.specs.Table.{decode, formed}
 use Rattle.model.specs.Calls.{Call, receiveMmrp, receiveMmrpOn}
 use Rattle.model.proofs.Tables.{decode-encode, valid-decode, encode-decode}
-use Rattle.model.proofs.Untouched.{remaining, sceneAt, settled-result}
+use Rattle.model.proofs.Untouched.{remaining, sceneAt}
 use Rattle.model.proofs.Refusals.{advance-0}
 use Rattle.model.proofs.AddressesKept.{mmrp-keeps}
 use Rattle.model.proofs.FormKept.{mmrp-formed}
@@ -19,17 +19,20 @@ use Rattle.model.proofs.Demand3.{mmrp-call}
 use Rattle.model.proofs.Pruning.{Reaches, pruned-exactly, pruning-off}
 use Rattle.bridge.specs.Promises.{ReceivesMmrp, Advances}
 use Rattle.bridge.proofs.Demand2.{advance-decides}
-use Rattle.bridge.proofs.Untouched.{stream}
+use Rattle.bridge.proofs.Untouched.{stream, left-result}
 
 -- Of a stream that no step before pruning decides on a port, an accepted advance leaves column none there exactly where pruning is on
--- and the port then does not hold the stream's destination.
+-- and the port then does not hold the stream's destination. The stream stands at place j of those left.
 pub pruned-code : (t : List ℕ) (time n : ℕ) (u : List ℕ) → Octets t → time < 2 ^ 32 → Advances t time n u → n ≡ 0 →
-    (p k : ℕ) → p < 8 → k < length (remaining time (decode t)) → (o : Origin) → Reaches (sceneAt time (decode t)) p (stream t time k) o →
-    (resultAt (streamAt k (decode u)) p .column ≡ none)
+    (p k j : ℕ) → p < 8 → k < length (remaining time (decode t)) → j < length (decode u .streams) → streamAt j (decode u) .id ≡ stream t time k .id →
+    (o : Origin) → Reaches (sceneAt time (decode t)) p (stream t time k) o →
+    (resultAt (streamAt j (decode u)) p .column ≡ none)
     ↔ ((decode t .settings .pruning ≡ true) × (holdsAddress (o .registration .fixed .destination) (ownAt (decode u .owns) p .addresses) ≡ false))
-pruned-code t time n u octets small call z p k port h o r =
-    rw (advance-decides t time n u octets small call z .bridge, settled-result time (decode t) k p h port)
-    (unfold settle decideAt in (pruned-exactly (sceneAt time (decode t)) time (remaining time (decode t)) p (stream t time k) o r))
+pruned-code t time n u octets small call z p k j port h there same o r =
+    let result = left-result t time n u octets small call z p k j port h there same in
+    let owns : decode u .owns ≡ sceneAt time (decode t) .owns =
+    ap (λ (b : Bridge). b .owns) (advance-decides t time n u octets small call z .bridge) ∙ unfold settle declaring deciding in refl in
+    rw (result, owns) (unfold decideAt in (pruned-exactly (sceneAt time (decode t)) time (remaining time (decode t)) p (stream t time k) o r))
 
 -- what receive_mmrp leaves, accepted or not
 mmrp-leaves : (t : List ℕ) (p : ℕ) (pdu : List ℕ) (n : ℕ) (u : List ℕ) → Octets t → formed t ≡ true → ReceivesMmrp t p pdu n u →

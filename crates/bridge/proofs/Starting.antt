@@ -9,12 +9,11 @@ use lib.Seq.{drop-at}
 use borrow.Author.Tests.{eq-eqb, ne-eqb}
 use Rattle.octets.specs.Parts.{patch, zeros}
 use Rattle.model.specs.Layout.{settingsSize, tableLength}
-use Rattle.model.specs.Lists.{Octets}
-use Rattle.model.specs.Table.{settingsFormed}
+use Rattle.model.specs.State.{started}
+use Rattle.model.specs.Table.{encode, toSettings, settingsFormed}
 use Rattle.model.specs.Calls.{startOn}
 use Rattle.model.proofs.Parts.{zeros-add, length-zeros}
 use Rattle.model.proofs.SettingsOctets.{formed-length, formed-rules, eight-ports}
-use Rattle.bridge.proofs.Started.{started-table}
 
 module _ (t s : List ℕ) where
   pub start-wrong-table : (length t ≡ tableLength → ⊥) → startOn t s ≡ record { number = 12; table = t }
@@ -25,10 +24,10 @@ module _ (t s : List ℕ) where
   unfolding startOn
   start-wrong-settings h f = rw (eq-eqb (length t) tableLength h, f)
 
-  pub start-accepted : length t ≡ tableLength → settingsFormed s ≡ true → Octets s →
-      startOn t s ≡ record { number = 0; table = s ++ zeros (tableLength - length s) }
+  pub start-accepted : length t ≡ tableLength → settingsFormed s ≡ true →
+      startOn t s ≡ record { number = 0; table = encode (started (toSettings s)) }
   unfolding startOn
-  start-accepted h f o = rw (eq-eqb (length t) tableLength h, f, started-table s o f)
+  start-accepted h f = rw (eq-eqb (length t) tableLength h, f)
 
 -- settings are shorter than a table
 pub settings-short : (s : List ℕ) → settingsFormed s ≡ true → length s ≤ settingsSize

@@ -25,6 +25,7 @@ use Rattle.model.specs.Bandwidth
 use Rattle.model.specs.Settling
 use Rattle.model.specs.Reports.{Report, ColumnWord, noneWord, advertiseWord}
 use Rattle.model.specs.Declarations
+use Rattle.model.specs.Writing.{write}
 use Rattle.model.specs.Reports as reports
 use Rattle.model.specs.WrittenFrames
 use Rattle.model.specs.Table.{settingsFormed, toSettings, encode}
@@ -40,7 +41,6 @@ use Rattle.model.proofs.AdvanceKeepsForm.{settle-keeps}
 use Rattle.model.proofs.Demand3.{receive-call, advance-call}
 use Rattle.model.specs.FrameLayout.{longestPdu}
 use Rattle.bridge.specs.Promises.{Starts, Receives, Advances, Writes, Reports}
-use Rattle.bridge.proofs.Started.{started-table}
 use Rattle.bridge.proofs.Starting.{start-accepted}
 use Rattle.bridge.proofs.OnTables.{receive-wrong-port, advance-early}
 
@@ -77,10 +77,10 @@ talker = talkerMessage ++ (0x00 ∷ 0x00 ∷ [])
 pub listener : List ℕ
 listener = listenerMessage ++ (0x00 ∷ 0x00 ∷ [])
 
--- the Domain values of both classes, one per vector, and the EndMark
+-- the Domain values of both classes, one per vector, each JoinIn since the port has them registered, and the EndMark
 domains : List ℕ
 domains =
-    0x04 ∷ 0x04 ∷ 0x00 ∷ 0x10 ∷ 0x00 ∷ 0x01 ∷ 0x05 ∷ 0x02 ∷ 0x00 ∷ 0x02 ∷ 0x6C ∷ 0x00 ∷ 0x01 ∷ 0x06 ∷ 0x03 ∷ 0x00 ∷ 0x02 ∷ 0x6C
+    0x04 ∷ 0x04 ∷ 0x00 ∷ 0x10 ∷ 0x00 ∷ 0x01 ∷ 0x05 ∷ 0x02 ∷ 0x00 ∷ 0x02 ∷ 0x24 ∷ 0x00 ∷ 0x01 ∷ 0x06 ∷ 0x03 ∷ 0x00 ∷ 0x02 ∷ 0x24
     ∷ 0x00 ∷ 0x00 ∷ 0x00 ∷ 0x00 ∷ []
 
 -- what is written: the Message that the other port received, and the Domain values
@@ -123,7 +123,7 @@ module _ (b : Bridge) (v : Valid b) (p place : ℕ) (w : Frames.wrongPort (b .se
   unfolding reportOn
   report-call = rw (formed-encode b v, decode-encode b v, w)
 
-  write-call : (buffer : List ℕ) → longestPdu ≤ length buffer → writeOn (encode b) p place buffer ≡ writtenTo buffer (Declarations.write b p place)
+  write-call : (buffer : List ℕ) → longestPdu ≤ length buffer → writeOn (encode b) p place buffer ≡ writtenTo (encode b) buffer (write b p place)
   unfolding writeOn
   write-call buffer l = rw (formed-encode b v, decode-encode b v, w, le-ltb _ _ l)
 
@@ -206,8 +206,8 @@ octets-given = (octets-tested settings refl, octets-tested matching refl, octets
 -- classes: three declarations each, so next place 3
 Writing : ℕ → List ℕ → Type 0
 Writing p s =
-    let w = Declarations.write settled p 0 in
-    (w .number ≡ 0) × (WrittenFrames.pduOctets (w .run) ≡ s) × (w .next ≡ 3)
+    let w = write settled p 0 in
+    (w .number ≡ 0) × (WrittenFrames.pduOctets (w .all) (w .run) ≡ s) × (w .next ≡ 3)
 
 writes-computed : Writing 1 listenerOut × Writing 2 talkerOut
 unfolding computing Writing
@@ -244,9 +244,7 @@ settled-valid = settle-keeps heard 100 (omega arith) clock-passed heard-valid
 
 started-on : (t : List ℕ) → length t ≡ tableLength → startOn t settings ≡ record { number = 0; table = encode begun }
 unfolding begun
-started-on t right =
-    start-accepted t settings right settings-formed (octets-given .0)
-    ∙ ap (λ (u : List ℕ). record { number = 0; table = u }) (sym (started-table settings (octets-given .0) settings-formed))
+started-on t right = start-accepted t settings right settings-formed
 
 received-on : (b : Bridge) (p : ℕ) (pdu : List ℕ) → Valid b → Calls.receive b p pdu .number ≡ 0
     → receiveOn (encode b) p pdu ≡ record { number = 0; table = encode (Calls.receive b p pdu .bridge) }
@@ -272,16 +270,16 @@ taken n u c m v h e = (h .0 ∙ ap (λ (a : Call). a .number) e, h .1 ∙ ap (λ
 
 -- a write of port p that leaves the PDU s, of all its declarations
 abbrev pub Leaves : ℕ → List ℕ → List ℕ → Type 0
-Leaves p u s = (buffer : List ℕ) (n long next : ℕ) (after : List ℕ) → longestPdu ≤ length buffer → Writes u p 0 buffer n long next after →
+Leaves p u s = (buffer : List ℕ) (n long next : ℕ) (after left : List ℕ) → longestPdu ≤ length buffer → Writes u p 0 buffer n long next after left →
     (n ≡ 0) × (long ≡ length s) × (next ≡ 3) × (take long after ≡ s)
 
 written-on : (p : ℕ) (s : List ℕ) → Frames.wrongPort (settled .settings) p ≡ false → Writing p s → Leaves p (encode settled) s
 unfolding Writing writtenTo
-written-on p s right w buffer n long next after enough call =
+written-on p s right w buffer n long next after left enough call =
     let e = write-call settled settled-valid p 0 right buffer enough in
     let long-is = rw (e, w .0, w .1) at (call .length-is) in
-    let left = rw (e, w .0, w .1) at (call .buffer-is) in
-    (rw (e, w .0) at (call .number-is), long-is, rw (e, w .0, w .2) at (call .next-is), rw (long-is, left) (take-append-seam s (drop (length s) buffer)))
+    let written = rw (e, w .0, w .1) at (call .buffer-is) in
+    (rw (e, w .0) at (call .number-is), long-is, rw (e, w .0, w .2) at (call .next-is), rw (long-is, written) (take-append-seam s (drop (length s) buffer)))
 
 -- Any table of the right length; the calls of the worked example, one after another.
 module _ (t : List ℕ) (right : length t ≡ tableLength)

@@ -30,12 +30,13 @@ ReceivesMmrp table port pdu number after = (number ≡ receiveMmrpOn table port 
 abbrev pub Advances : List ℕ → ℕ → ℕ → List ℕ → Type 0
 Advances table time number after = (number ≡ advanceOn table time .number) × (after ≡ advanceOn table time .table)
 
--- a table, a port, a place and a buffer: the number, the PDU's length, the next place, and the buffer afterwards
-pub record Writes (table : List ℕ) (port place : ℕ) (buffer : List ℕ) (number long next : ℕ) (after : List ℕ) : Type 0 where
+-- a table, a port, a place and a buffer: the number, the PDU's length, the next place, and the buffer and the table afterwards
+pub record Writes (table : List ℕ) (port place : ℕ) (buffer : List ℕ) (number long next : ℕ) (written left : List ℕ) : Type 0 where
   pub number-is : number ≡ writeOn table port place buffer .number
   pub length-is : long ≡ writeOn table port place buffer .length
   pub next-is : next ≡ writeOn table port place buffer .next
-  pub buffer-is : after ≡ writeOn table port place buffer .buffer
+  pub buffer-is : written ≡ writeOn table port place buffer .buffer
+  pub table-is : left ≡ writeOn table port place buffer .table
 
 -- what a write that is refused with number n answers
 pub record RefusedWith (n number long next : ℕ) : Type 0 where

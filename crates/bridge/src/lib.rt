@@ -2,11 +2,27 @@
 // each promises the one number, the one content of the table and of the buffer: those of crate model's `Calls`, by the relations
 // of specs/Promises.
 ghost use mathlib.Core.Path.{_≡_};
+ghost use Prim.Native.Nat.{_<_};
+ghost use lib.ListN.{length};
+ghost use Rattle.model.specs.Layout.{senderSize, slots};
+ghost use Rattle.model.specs.Lists.{tabulate};
+ghost use Rattle.model.specs.State.{portAt, supports};
+ghost use Rattle.model.specs.Registrations.{sending};
+ghost use Rattle.model.specs.Sending.{senderOctets, toSender};
+ghost use Rattle.model.specs.Table.{encode, decode};
+ghost use Rattle.model.specs.Laid.{LaidSender, Laid};
+ghost use Rattle.table.specs.Places.{PortIn};
+ghost use Rattle.table.specs.Updates.{withSender};
+ghost use Rattle.streams.specs.Answers.{classShown};
+ghost use Rattle.bridge.specs.Joining.{joinedSlot, joinedIf, joinedOwn, joinedAt};
 ghost use Rattle.reports.specs.Shown.{shown};
 ghost use Rattle.bridge.specs.Promises.{Starts, portRefusal, Receives, ReceivesMmrp, Advances, Writes, RefusedWith, Reports, Explains};
 ghost use Rattle.why.specs.Shown.{whyShown};
+use applicants::VP;
 use model::pdu;
 use model::refusal;
+use moving::Span;
+use streams::ClassRead;
 use table::Found;
 
 // Octets of a table.
@@ -25,7 +41,51 @@ pub const LIST: usize = 63 * 16;
 // The number of a call that is not refused.
 pub const ACCEPTED: u8 = refusal::ACCEPTED;
 
-// Starts a bridge with these settings: no streams, clock 0. It looks at the table's length only.
+// Join! of the Domain value in a slot, by what a port sends by itself: VP.
+fn join_slot(sender: &mut [u8], slot: usize)
+    requires { ⌜ LaidSender (now sender) × (length (now sender) ≡ senderSize) × (slot < slots) ⌝ }
+    ensures { λ _. ⌜ now (sender .exit) ≡ senderOctets (joinedSlot slot (toSender (now (sender .entry)))) ⌝ }
+{
+    sender[slot] = VP;
+}
+
+// The same at place p, where the port supports the value's class.
+fn join_class(table: &mut [u8], p: usize, class: ClassRead, slot: usize)
+    requires { ⌜ PortIn (now table) p × (slot < slots) ⌝ }
+    ensures { λ _. ⌜ now (table .exit) ≡ encode (withSender p (joinedIf (supports (portAt (decode (now (table .entry)) .settings) p) (classShown class)) slot)
+        (decode (now (table .entry)))) ⌝ }
+{
+    if columns::supports(table::port_at(table, p), class) {
+        let a = table::sender_in(table, p);
+        join_slot(&mut table[a..a + table::SENDER], slot);
+    }
+}
+
+// The Domain values of both classes; class ID 5 stands before 6.
+fn join_domains(table: &mut [u8], p: usize)
+    requires { ⌜ PortIn (now table) p ⌝ }
+    ensures { λ _. ⌜ now (table .exit) ≡ encode (withSender p (joinedOwn (decode (now (table .entry)) .settings) p) (decode (now (table .entry)))) ⌝ }
+{
+    let a = table::priority_a(table) as usize;
+    let b = table::priority_b(table) as usize;
+    join_class(table, p, ClassRead::B, b);
+    join_class(table, p, ClassRead::A, 8 + a);
+}
+
+// The same at each place.
+fn join_all(table: &mut [u8])
+    requires { ⌜ Laid (now table) ⌝ }
+    ensures { λ _. ⌜ now (table .exit) ≡ encode (sending (decode (now (table .entry)))
+        (tabulate 8 0 (joinedAt (decode (now (table .entry)) .settings) (decode (now (table .entry)) .senders)))) ⌝ }
+{
+    let mut place: usize = 0;
+    while place < 8 {
+        join_domains(table, place);
+        place += 1;
+    }
+}
+
+// Starts a bridge with these settings: no streams, clock 0, the Domain values of each port declared. It looks at the table's length only.
 pub fn start(table: &mut [u8], settings: &[u8]) -> u8
     ensures { λ r. ⌜ Starts (now (table .entry)) (now (settings .entry)) r (now (table .exit)) ⌝ }
 {
@@ -37,6 +97,7 @@ pub fn start(table: &mut [u8], settings: &[u8]) -> u8
         octets::clear(table, 0, TABLE);
         let n = settings.len();
         octets::copy(settings, &mut table[0..n]);
+        join_all(table);
         return refusal::ACCEPTED;
     }
     refusal::SETTINGS
@@ -135,35 +196,36 @@ fn refused_write(number: u8) -> Wrote
     }
 }
 
-// Writes a PDU of a port's declarations, from a place on. Octets of the buffer past its length stay.
-pub fn write(table: &[u8], port: u32, place: u32, buffer: &mut [u8]) -> Wrote
-    ensures { λ r. ⌜ Writes (now (table .entry)) port place (now (buffer .entry)) (r .number) (r .length) (r .next) (now (buffer .exit)) ⌝ }
+// Writes a PDU of a port's declarations, from a place on, and moves the machines of what it says. Octets of the buffer past its length
+// stay.
+pub fn write(table: &mut [u8], port: u32, place: u32, buffer: &mut [u8]) -> Wrote
+    ensures { λ r. ⌜ Writes (now (table .entry)) port place (now (buffer .entry)) (r .number) (r .length) (r .next) (now (buffer .exit)) (now (table .exit)) ⌝ }
 {
-    let formed = form::is_formed(table);
-    if formed {
-        let ports = table::ports(table);
-        if port == 0 {
-            return refused_write(refusal::PORT);
-        }
-        if ports < port as usize {
-            return refused_write(refusal::PORT);
-        }
-        if buffer.len() < pdu::LONGEST {
-            return refused_write(refusal::BUFFER);
-        }
-        let p = port as usize - 1;
-        let count = declarations::count_declarations(table, p);
-        if count < place as usize {
-            return refused_write(refusal::PLACE);
-        }
-        let pdu = declarations::write_pdu(table, p, place as usize, buffer);
-        return Wrote {
-            number: refusal::ACCEPTED,
-            length: pdu.length,
-            next: pdu.next,
-        };
+    let refused = port_refusal(table, port);
+    if refused != refusal::ACCEPTED {
+        return refused_write(refused);
     }
-    refused_write(refusal::TABLE)
+    if buffer.len() < pdu::LONGEST {
+        return refused_write(refusal::BUFFER);
+    }
+    let p = port as usize - 1;
+    let from = place as usize;
+    let count = declarations::count_declarations(table, p);
+    if count < from {
+        return refused_write(refusal::PLACE);
+    }
+    let pdu = declarations::write_pdu(table, p, from, buffer);
+    let span = Span {
+        place: from,
+        end: pdu.end,
+        all: pdu.all,
+    };
+    let next = moving::move_list(table, p, span);
+    Wrote {
+        number: refusal::ACCEPTED,
+        length: pdu.length,
+        next,
+    }
 }
 
 // Reports the streams held, a port's class totals and limits, and the stream at a place as the last advance settled it there.

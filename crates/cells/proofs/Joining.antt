@@ -18,8 +18,8 @@ use Rattle.model.specs.Layout.{cellIndex, cellFields, cellWidths, inCell, leavi
 use Rattle.model.specs.State.{stays, Fixed, TalkerType, talkerAdvertise, talkerFailed, Varying, Registration, Talker, noTalker, talker, Listener, noListener, listener, noFixed}
 use Rattle.model.specs.Registrations.{sameFixed, firstJoin, sameJoin, otherJoin, joinTalker, does, listen}
 use Rattle.model.specs.Frames.{registers, firstWidths, firstLength, priorityOf, rankOf, fixedValue, talkerTypeValue}
-use Rattle.model.specs.WrittenFrames.{priorityOctet, fixedNumbers}
-use Rattle.model.specs.Table.{leavingNumber, sinceNumber, talkerTypeNumber, bridgeNumber, codeNumber, talkerNumbers, listenerNumbers, cellNumbers, cellOctets, toCell, toReady}
+use Rattle.model.specs.WrittenFrames.{priorityOctet, fixedNumbers, toReady}
+use Rattle.model.specs.Table.{leavingNumber, sinceNumber, talkerTypeNumber, bridgeNumber, codeNumber, talkerNumbers, listenerNumbers, cellNumbers, cellOctets, toCell}
 use Rattle.model.specs.Laid.{FitCell, LaidCell}
 use Rattle.model.specs.Lists.{bit}
 use Rattle.model.proofs.Cells.{ready-forth}

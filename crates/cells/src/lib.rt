@@ -1,15 +1,16 @@
-// What the events of a frame and expiry do to one cell of 43 octets (docs/TABLE.md, "Cell").
+// What the events of a frame and expiry do to one cell of 43 octets, and what it has registered (docs/TABLE.md, "Cell").
 ghost use mathlib.Core.Path.{_≡_};
 ghost use Prim.Native.Nat.{ℕ, _+_, _≤_};
 ghost use lib.ListN.{length};
 ghost use Rattle.model.specs.Layout.{cellSize, leavingSize};
 ghost use Rattle.model.specs.State.{Settings};
-ghost use Rattle.model.specs.Registrations.{quit, does, listen};
+ghost use Rattle.model.specs.Registrations.{quit, does, listen, registeredIn};
 ghost use Rattle.model.specs.Settling.{expireCell};
-ghost use Rattle.model.specs.Table.{cellOctets, toCell, toReady};
+ghost use Rattle.model.specs.Table.{cellOctets, toCell};
 ghost use Rattle.cells.specs.Acts.{kindAt, talkOf};
 ghost use Rattle.cells.specs.Asks.{TypeGiven, TalkerGiven, FixedGiven, VaryingGiven, ExpiryGiven};
 ghost use Rattle.cells.specs.Steps.{begun, lapsed, marked, failing, varied, fixed, same};
+ghost use Rattle.model.specs.WrittenFrames.{toReady};
 use table::cell::BRIDGE_ID;
 use table::cell::CHANGED;
 use table::cell::CODE;
@@ -66,6 +67,23 @@ pub fn quit(cell: &mut [u8], kind: u8, clock: u32)
             begin(cell, TALKER_LEAVES, clock);
         }
     }
+}
+
+// Whether an AttributeType is registered, and not leaving.
+pub fn is_registered(cell: &[u8], kind: u8) -> bool
+    requires { ⌜ TypeGiven (now cell) kind ⌝ }
+    ensures { λ r. ⌜ r ≡ registeredIn (kindAt kind) (toCell (now (cell .entry))) ⌝ }
+{
+    if kind == 3 {
+        if cell[LISTENER] == 0 {
+            return false;
+        }
+        return cell[LISTENER_LEAVES] == 0;
+    }
+    if cell[TALKER] == kind {
+        return cell[TALKER_LEAVES] == 0;
+    }
+    false
 }
 
 // A Listener's join: the declaration type of a FourPackedEvent, not leaving.

@@ -75,6 +75,8 @@ module _ (sc : Scene) (named : sc .settings .bridgeId < 2 ^ 64) (now : ℕ) (soo
     cells = w .cells;
     eight-results = length-tabulate 8 0 (earlyAt sc now x);
     results = all-tabulate FitResult 8 0 (earlyAt sc now x) early-result-fits;
+    eight-sends = w .eight-sends;
+    sends = w .sends;
   }
 
 pub early-all-fits : (b : Bridge) → FitBridge b → (now : ℕ) → now < 2 ^ 32 → FitBridge (earlyAll now b)

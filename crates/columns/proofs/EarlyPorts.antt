@@ -19,8 +19,8 @@ use Rattle.columns.proofs.EarlyFits.{early-result-fits}
 -- What is shown on a port hangs on the cells and on the result that the port had.
 
 same-early : (sc : Scene) (now : ℕ) (x : Stream) (f : Fixed) (rs : List Result) (p : ℕ)
-    → resultAt record { id = x .id; settled = f; cells = x .cells; results = rs } p ≡ resultAt x p
-    → earlyAt sc now record { id = x .id; settled = f; cells = x .cells; results = rs } p ≡ earlyAt sc now x p
+    → resultAt record { id = x .id; settled = f; cells = x .cells; results = rs; sends = x .sends } p ≡ resultAt x p
+    → earlyAt sc now record { id = x .id; settled = f; cells = x .cells; results = rs; sends = x .sends } p ≡ earlyAt sc now x p
 unfolding earlyAt shownAs earlyColumn steps latencyOut streamClass sourceOf cellAt
 same-early sc now x f rs p e = rw e
 
@@ -40,7 +40,7 @@ module _ (sc : Scene) (now : ℕ) (x : Stream) where
   unfolding earlyTo early resultAt
   all-decided l =
       let f = fixedOf (sourceOf x) in
-      ap (λ (rs : List Result). record { id = x .id; settled = f; cells = x .cells; results = rs })
+      ap (λ (rs : List Result). record { id = x .id; settled = f; cells = x .cells; results = rs; sends = x .sends })
       (up-to-eight (earlyAt sc now (settledAs f x)) (x .results) l
       ∙ tabulate-same (earlyAt sc now (settledAs f x)) (earlyAt sc now x) 8 0 (λ q h k. same-early sc now x f (x .results) q refl))
 
@@ -53,4 +53,6 @@ module _ (sc : Scene) (now : ℕ) (x : Stream) where
     cells = w .cells;
     eight-results = up-to-length (earlyAt sc now x) (x .results) n (omega (arith, w .eight-results)) ∙ w .eight-results;
     results = up-to-keep (earlyAt sc now x) (x .results) FitResult (early-result-fits sc named now soon x w) (w .results) n;
+    eight-sends = w .eight-sends;
+    sends = w .sends;
   }

@@ -12,8 +12,9 @@ use Rattle.octets.specs.Fields.{fields}
 use Rattle.model.specs.Layout.{inResult, inCell}
 use Rattle.model.specs.State.{Leaving, Talker, Ready, ready, readyFailed, noListener, listener, none, advertise, failed, noEntry, filters, forwards, nothing, tells}
 use Rattle.model.specs.Settling.{isReady, registered, entryOf, ageOf, ageKept}
-use Rattle.model.specs.Table.{toLeaving, toReady, toDeclared, toEntry, entryNumber, toCell, cellFrom, listenerFrom, toResult, resultFrom}
+use Rattle.model.specs.Table.{toLeaving, toDeclared, toEntry, entryNumber, toCell, cellFrom, listenerFrom, toResult, resultFrom}
 use Rattle.model.proofs.SettingsOctets.{octet-field}
+use Rattle.model.specs.WrittenFrames.{toReady}
 
 -- The Listener registered in a cell, as its octets say it.
 

@@ -15,8 +15,8 @@ use Rattle.model.specs.Layout.{inCell, inPort}
 use Rattle.model.specs.Lists.{All, isOne}
 use Rattle.model.specs.State.{Bridge, Port, talkerAdvertise, talkerFailed, Own, Stream, Class, noClass, classA, classB, noOwn, noFixed, portAt, isPort, cellAt, ownAt, classOf, isNoClass, supports}
 use Rattle.model.specs.Frames.{priorityOf}
-use Rattle.model.specs.Settling.{Scene, sceneOf, boundary, Source, nowhere, from, sourceOf, fixedOf, isTalking, isTalkerFailed, isPruned, inboundsOf, shares, isKeptOut, StepName, stepA, stepB, stepC, stepD, stepE, stepF, stepG, stepI, stepJ, stepK, stepL, stepM, stepN, Step, clear, stepsFrom, steps}
-use Rattle.model.specs.Table.{toPort, toCell, registrationFrom, fixedFrom, toTalkerType, portFrom}
+use Rattle.model.specs.Settling.{Scene, sceneOf, Inbound, boundary, sourceOf, fixedOf, isTalking, isTalkerFailed, isPruned, inboundsOf, shares, isKeptOut, StepName, stepA, stepB, stepC, stepD, stepE, stepF, stepG, stepI, stepJ, stepK, stepL, stepM, stepN, Step, stepsFrom, steps, Source, nowhere, from, clear}
+use Rattle.model.specs.Table.{toPort, toCell, registrationFrom, toTalkerType, portFrom}
 use Rattle.model.specs.Why.{letter, sameStep, firstName}
 use Rattle.model.proofs.SettingsOctets.{octet-field}
 use Rattle.model.proofs.Why.{Before, before-from, clear-named, name-stays, name-clear}
@@ -30,6 +30,7 @@ use Rattle.columns.specs.Answers.{sizePlace}
 use Rattle.columns.specs.Steps.{stepShown, stepsBefore, stepsSince, edgeOf, EdgesOf}
 use Rattle.columns.specs.Places.{SceneOn}
 use Rattle.columns.specs.Stages.{lastStep}
+use Rattle.model.specs.WrittenFrames.{fixedFrom}
 
 -- Whether a cell has a Talker, by its first octet.
 

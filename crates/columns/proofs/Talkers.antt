@@ -12,7 +12,7 @@ use Rattle.octets.specs.Be.{beAt}
 use Rattle.octets.specs.Fields.{fields}
 use Rattle.model.specs.Layout.{inCell, cellIndex}
 use Rattle.model.specs.State.{Settings, Port, none, failed, Class, noClass, classA, classB, isNoClass, Talker, noTalker, talker, Cell, Stream, noFixed, portAt, cellAt, classOf, classLatency}
-use Rattle.model.specs.WrittenFrames.{priorityOctet, fixedNumbers}
+use Rattle.model.specs.WrittenFrames.{priorityOctet, fixedNumbers, fixedFrom}
 use Rattle.model.specs.Settling.{Source, sourceOf, fixedOf, latencyOf, talkerTypeOf, failedColumn, streamClass, capped, latencyOut}
 use Rattle.model.specs.Table.{toPort, portFrom, cellNumbers, talkerNumbers, registrationFrom, toTalkerType, toCell}
 use Rattle.model.specs.Laid.{FitRank}

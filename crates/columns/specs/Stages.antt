@@ -48,6 +48,7 @@ early sc now x = record {
   settled = fixedOf (sourceOf x);
   cells = x .cells;
   results = tabulate 8 0 (earlyAt sc now x);
+  sends = x .sends;
 }
 
 -- the whole of (1)
@@ -114,6 +115,7 @@ admission p c b =
       clock = b .clock;
       totals = set (b .totals) p (withTotal c (total l cs) (getD (b .totals) p noTotals));
       owns = b .owns;
+      senders = b .senders;
       streams = map (admit st p c l cs) (b .streams);
     }
 

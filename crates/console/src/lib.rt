@@ -4,6 +4,7 @@ use reports::ColumnShown;
 use reports::EntryShown;
 use reports::ListenerShown;
 use reports::Reported;
+ghost use mathlib.Core.List.{_∷_};
 ghost use Rattle.octets.specs.Fields.{flat};
 ghost use Rattle.io.specs.Digits.{digits};
 ghost use Rattle.reports.specs.Shown.{columnWord, declared, entered, shown};
@@ -82,37 +83,37 @@ pub fn put_octets(line: &mut [u8], at: usize, octets: &[u8]) -> usize
     end
 }
 
-// The word of a column.
+// A space, and the word of a column.
 fn put_column(line: &mut [u8], at: usize, column: ColumnShown) -> usize
-    ensures { λ r. ⌜ Put (now (line .entry)) at (columnText (columnWord column)) r (now (line .exit)) ⌝ }
+    ensures { λ r. ⌜ Put (now (line .entry)) at (32 ∷ columnText (columnWord column)) r (now (line .exit)) ⌝ }
 {
     match column {
-        ColumnShown::None => put(line, at, b"none"),
-        ColumnShown::Advertise => put(line, at, b"advertise"),
-        ColumnShown::Failed => put(line, at, b"failed"),
+        ColumnShown::None => put(line, at, b" none"),
+        ColumnShown::Advertise => put(line, at, b" advertise"),
+        ColumnShown::Failed => put(line, at, b" failed"),
     }
 }
 
-// The word of the Listener declared on a port.
+// A space, and the word of the Listener declared on a port.
 fn put_listener(line: &mut [u8], at: usize, listener: ListenerShown) -> usize
-    ensures { λ r. ⌜ Put (now (line .entry)) at (listenerText (declared listener)) r (now (line .exit)) ⌝ }
+    ensures { λ r. ⌜ Put (now (line .entry)) at (32 ∷ listenerText (declared listener)) r (now (line .exit)) ⌝ }
 {
     match listener {
-        ListenerShown::None => put(line, at, b"none"),
-        ListenerShown::AskingFailed => put(line, at, b"asking"),
-        ListenerShown::Ready => put(line, at, b"ready"),
-        ListenerShown::ReadyFailed => put(line, at, b"readyfailed"),
+        ListenerShown::None => put(line, at, b" none"),
+        ListenerShown::AskingFailed => put(line, at, b" asking"),
+        ListenerShown::Ready => put(line, at, b" ready"),
+        ListenerShown::ReadyFailed => put(line, at, b" readyfailed"),
     }
 }
 
-// The word of an entry.
+// A space, and the word of an entry.
 fn put_entry(line: &mut [u8], at: usize, entry: EntryShown) -> usize
-    ensures { λ r. ⌜ Put (now (line .entry)) at (entryText (entered entry)) r (now (line .exit)) ⌝ }
+    ensures { λ r. ⌜ Put (now (line .entry)) at (32 ∷ entryText (entered entry)) r (now (line .exit)) ⌝ }
 {
     match entry {
-        EntryShown::None => put(line, at, b"none"),
-        EntryShown::Filter => put(line, at, b"filter"),
-        EntryShown::Forward => put(line, at, b"forward"),
+        EntryShown::None => put(line, at, b" none"),
+        EntryShown::Filter => put(line, at, b" filter"),
+        EntryShown::Forward => put(line, at, b" forward"),
     }
 }
 
@@ -121,9 +122,8 @@ fn put_talker(line: &mut [u8], at: usize, answer: Reported) -> usize
     ensures { λ r. ⌜ Put (now (line .entry)) at (talkerText (shown answer)) r (now (line .exit)) ⌝ }
 {
     let column = answer.column;
-    let a = put(line, at, b" ");
-    let b = put_column(line, a, column);
-    put_number(line, b, answer.code as u64)
+    let a = put_column(line, at, column);
+    put_number(line, a, answer.code as u64)
 }
 
 // What a report shows of a stream on a port: column, code, Listener and entry, a space before each.
@@ -133,8 +133,6 @@ pub fn put_shown(line: &mut [u8], at: usize, answer: Reported) -> usize
     let listener = answer.listener;
     let entry = answer.entry;
     let a = put_talker(line, at, answer);
-    let b = put(line, a, b" ");
-    let c = put_listener(line, b, listener);
-    let d = put(line, c, b" ");
-    put_entry(line, d, entry)
+    let b = put_listener(line, a, listener);
+    put_entry(line, b, entry)
 }

@@ -1,89 +1,71 @@
--- What a stream or a class declares of a type on a port is one declaration or none; how a walk over them skips some
--- declarations, counts them and takes them.
+-- A declarer has one declaration of a type on a port or none, and says one thing of it or nothing; how a walk over the declarers passes,
+-- counts and takes these.
 use Prim.Native.Nat.{ℕ, zero, suc, _+_, _-_, _≤_, _<_}
 use native.Mathlib.Numerals.{add-one}
 use native.Mathlib.Omega.{arith}
 use mathlib.Core.Path.{_≡_, refl, sym, ap, _∙_}
-use mathlib.Core.Bool.{Bool, true, false, not}
-use mathlib.Core.List.{List, [], _∷_, _++_}
-use lib.ListN.{length, getD, take, drop}
-use lib.Dec.{eqb}
+use mathlib.Core.Bool.{Bool, true, false, false≢true}
+use mathlib.Core.List.{List, [], _∷_, _++_, map, map-append}
+use lib.ListN.{length, length-append, length-map, getD, take, drop}
 use Rattle.model.specs.Lists.{keep}
-use Rattle.model.specs.State.{Column, none, advertise, failed, askingFailed, ready, readyFailed, Declared, nothing, tells, Port, Settings, Result, Stream, Bridge, portAt, resultAt, streamAt, fresh, Class, classA, classB, supports, readyNumber}
+use Rattle.model.specs.Machines.{Listed, Applicant, noApplicant, applicant}
+use Rattle.model.specs.Places.{saying, reached, behind}
+use Rattle.model.specs.State.{Settings, Sends, Stream, Bridge, fresh, sendsAt, senderAt, streamAt}
 use Rattle.model.specs.Registrations.{Kind, advertises, faileds, listeners}
 use Rattle.model.specs.Frames.{Attribute, registers, domainType}
-use Rattle.model.specs.Declarations.{Declaration, advertised, failing, listening, declarationsOf, ofKind, domainOf, domainValues}
-use Rattle.model.specs.Table.{columnNumber, declaredNumber}
+use Rattle.model.specs.Declarations.{Declaration, Said, listedAs, advertiseOf, failedOf, declarationsOf, ofKind, domainOf, domainValues}
+use Rattle.model.specs.Writing.{portWay, sayOn}
+use Rattle.model.proofs.PlaceLists.{fewer-saying, reached-behind}
 use Rattle.declarations.specs.Vectors.{some}
-use Rattle.declarations.specs.Passes.{declares, classAt, declaresClass, declarers, declaredBy, allOf}
+use Rattle.declarations.specs.Passes.{declarers, machineBy, saidOf, saidBy, gathered, machinesFrom, saidFrom, allOf}
 
-one-of-stream : (j : Kind) (p : ℕ) (x : Stream) → length (declares j p x) ≤ 1
-unfolding declares declarationsOf advertised failing listening
-one-of-stream advertises p x = go (resultAt x p .column)
+-- One or none.
+
+one-listed : {A : Type 0} (f : A → Declaration) (a : Applicant A) → length (listedAs f a) ≤ 1
+unfolding listedAs
+one-listed f noApplicant = omega arith
+one-listed f (applicant x) = omega arith
+
+one-sent : (j : Kind) (id : ℕ) (s : Sends) → length (declarationsOf j id s) ≤ 1
+unfolding declarationsOf
+one-sent advertises id s = one-listed (advertiseOf id) (s .advertising)
+one-sent faileds id s = one-listed (failedOf id) (s .failing)
+one-sent listeners id s = one-listed _ (s .listening)
+
+module _ (j : Attribute) (p : ℕ) (b : Bridge) where
+  pub one-machine : (k : ℕ) → length (machineBy j p b k) ≤ 1
+  unfolding machineBy
+  one-machine k = go j
+    where
+      go : (i : Attribute) → length (machineBy i p b k) ≤ 1
+      go (registers i) = one-sent i (streamAt k b .id) (sendsAt (streamAt k b) p)
+      go domainType = one-listed _ (getD (senderAt (b .senders) p .domains) k noApplicant)
+
+  pub one-said : (k : ℕ) → length (saidBy j p b k) ≤ 1
+  unfolding saidBy saidOf
+  one-said k =
+      let l = saying (portWay b p .says) (machineBy j p b k) in
+      omega (arith, length-map l (sayOn b p), fewer-saying (portWay b p .says) (machineBy j p b k), one-machine k)
+
+-- what is said of some and of others
+saying-append : {A : Type 0} (f : A → Bool) (l m : List A) → saying f (l ++ m) ≡ saying f l ++ saying f m
+unfolding saying
+saying-append f [] m = refl
+saying-append f (x ∷ l) m = rw (saying-append f l m) (go (f x))
   where
-    go : (c : Column) → length (advertised x (resultAt x p) c) ≤ 1
-    go none = omega arith
-    go advertise = omega arith
-    go (failed b d) = omega arith
-one-of-stream faileds p x = go (resultAt x p .column)
-  where
-    go : (c : Column) → length (failing x (resultAt x p) c) ≤ 1
-    go none = omega arith
-    go advertise = omega arith
-    go (failed b d) = omega arith
-one-of-stream listeners p x = go (resultAt x p .declares)
-  where
-    go : (d : Declared) → length (listening x d) ≤ 1
-    go nothing = omega arith
-    go (tells r) = omega arith
-
-at-most-one : (j : Attribute) (p : ℕ) (b : Bridge) (k : ℕ) → length (declaredBy j p b k) ≤ 1
-unfolding declaredBy declaresClass
-at-most-one (registers j) p b k = one-of-stream j p (streamAt k b)
-at-most-one domainType p b k = go (supports (portAt (b .settings) p) (classAt k))
-  where
-    go : (t : Bool) → length (keep t (domainOf (b .settings) (classAt k)) []) ≤ 1
-    go true = omega arith
-    go false = omega arith
-
--- Whether there is one, by the result's numbers.
-
-by-column : (x : Stream) (r : Result) (c : Column) → (some (advertised x r c) ≡ eqb (columnNumber c) 1) × (some (failing x r c) ≡ eqb (columnNumber c) 2)
-unfolding advertised failing some columnNumber
-by-column x r none = (refl, refl)
-by-column x r advertise = (refl, refl)
-by-column x r (failed b d) = (refl, refl)
-
-pub some-advertise : (p : ℕ) (x : Stream) → some (declares advertises p x) ≡ eqb (columnNumber (resultAt x p .column)) 1
-unfolding declares declarationsOf
-some-advertise p x = by-column x (resultAt x p) (resultAt x p .column) .0
-
-pub some-failed : (p : ℕ) (x : Stream) → some (declares faileds p x) ≡ eqb (columnNumber (resultAt x p .column)) 2
-unfolding declares declarationsOf
-some-failed p x = by-column x (resultAt x p) (resultAt x p .column) .1
-
-pub some-listener : (p : ℕ) (x : Stream) → some (declares listeners p x) ≡ not (eqb (declaredNumber (resultAt x p .declares)) 0)
-unfolding declares declarationsOf listening some declaredNumber readyNumber
-some-listener p x = go (resultAt x p .declares)
-  where
-    go : (d : Declared) → some (listening x d) ≡ not (eqb (declaredNumber d) 0)
-    go nothing = refl
-    go (tells askingFailed) = refl
-    go (tells ready) = refl
-    go (tells readyFailed) = refl
-
-pub some-class : (st : Settings) (q : Port) (c : Class) → some (declaresClass st q c) ≡ supports q c
-unfolding declaresClass some
-some-class st q c = go (supports q c)
-  where
-    go : (t : Bool) → some (keep t (domainOf st c) []) ≡ t
+    go : (t : Bool) → keep t x (saying f l ++ saying f m) ≡ keep t x (saying f l) ++ saying f m
     go true = refl
     go false = refl
 
--- One or none in front of others: skipped, or taken.
+pub said-append : (b : Bridge) (p : ℕ) (l m : List (Listed Declaration)) → saidOf b p (l ++ m) ≡ saidOf b p l ++ saidOf b p m
+unfolding saidOf
+said-append b p l m =
+    rw (saying-append (portWay b p .says) l m) (map-append (sayOn b p) (saying (portWay b p .says) l) (saying (portWay b p .says) m))
+
+-- One or none in front of others: passed, taken, counted.
 
 module _ {A : Type 0} where
-  none-there : (l : List A) → some l ≡ false → l ≡ []
+  pub none-there : (l : List A) → some l ≡ false → l ≡ []
   unfolding some
   none-there [] e = refl
   none-there (x ∷ l) e = cc
@@ -108,73 +90,233 @@ module _ {A : Type 0} where
   count-one (x ∷ []) m f e = omega arith
   count-one (x ∷ y ∷ l) m f e = absurd (omega arith)
 
--- What n declarers from place k on declare.
-unfoldable pub gather : (ℕ → List Declaration) → ℕ → ℕ → List Declaration
-gather here zero k = []
-gather here (suc n) k = here k ++ gather here n (suc k)
+-- A walk over places of which each gives one or none.
+module _ {A : Type 0} (here : ℕ → List A) (count : ℕ) (few : (k : ℕ) → length (here k) ≤ 1) where
+  abbrev from : ℕ → List A
+  from k = gathered here (count - k) k
 
-gather-shift : (here : ℕ → List Declaration) (n k : ℕ) → gather (λ i. here (suc i)) n k ≡ gather here n (suc k)
-unfolding gather
-gather-shift here zero k = refl
-gather-shift here (suc n) k = ap (λ (m : List Declaration). here (suc k) ++ m) (gather-shift here n (suc k))
+  walk-ends : (k : ℕ) → count ≤ k → from k ≡ []
+  walk-ends k h = let e : count - k ≡ 0 = omega arith in rw e (unfold gathered in refl)
 
-streams-gathered : (j : Kind) (p : ℕ) (s : List Stream) → gather (λ k. declares j p (getD s k (fresh 0))) (length s) 0 ≡ ofKind j p s
-unfolding gather ofKind declares
-streams-gathered j p [] = refl
-streams-gathered j p (x ∷ s) =
-    ap (λ (m : List Declaration). declares j p x ++ m)
-    (sym (gather-shift (λ k. declares j p (getD (x ∷ s) k (fresh 0))) (length s) 0) ∙ streams-gathered j p s)
-
-classes-gathered : (st : Settings) (q : Port) → gather (λ k. declaresClass st q (classAt k)) 2 0 ≡ domainValues st q
-unfolding gather declaresClass classAt domainValues
-classes-gathered st q = go (supports q classB) (supports q classA)
-  where
-    go : (b a : Bool)
-        → keep b (domainOf st classB) [] ++ (keep a (domainOf st classA) [] ++ []) ≡ keep b (domainOf st classB) (keep a (domainOf st classA) [])
-    go true true = refl
-    go true false = refl
-    go false true = refl
-    go false false = refl
-
--- A walk over the declarers of a type.
-module _ (j : Attribute) (p : ℕ) (b : Bridge) where
-  -- what the one at place k declares, and what those from there on do
-  abbrev pub here : ℕ → List Declaration
-  here k = declaredBy j p b k
-
-  abbrev pub from : ℕ → List Declaration
-  from k = gather here (declarers j b - k) k
-
-  pub from-first : from 0 ≡ allOf j p b
-  unfolding declaredBy declarers allOf
-  from-first = let e : declarers j b - 0 ≡ declarers j b = omega arith in rw e (go j)
+  walk-few : (k : ℕ) → length (from k) ≤ count - k
+  unfolding gathered
+  walk-few k = go (count - k) k
     where
-      go : (i : Attribute) → gather (declaredBy i p b) (declarers i b) 0 ≡ allOf i p b
-      go (registers k) = streams-gathered k p (b .streams)
-      go domainType = classes-gathered (b .settings) (portAt (b .settings) p)
+      go : (n k : ℕ) → length (gathered here n k) ≤ n
+      go zero k = omega arith
+      go (suc n) k = more (here k) (few k) (go n (suc k))
+        where
+          more : (l : List A) → length l ≤ 1 → length (gathered here n (suc k)) ≤ n → length (l ++ gathered here n (suc k)) ≤ suc n
+          more [] f g = omega arith
+          more (x ∷ []) f g = omega arith
+          more (x ∷ y ∷ l) f g = absurd (omega arith)
 
-  pub none-left : (k : ℕ) → declarers j b ≤ k → from k ≡ []
-  none-left k h = let e : declarers j b - k ≡ 0 = omega arith in rw e (unfold gather in refl)
-
-  module _ (k : ℕ) (h : k < declarers j b) where
-    few : length (here k) ≤ 1
-    few = at-most-one j p b k
-
-    from-next : from k ≡ here k ++ from (k + 1)
-    unfolding gather
-    from-next =
-        let e : declarers j b - k ≡ suc (declarers j b - (k + 1)) = omega arith in
+  module _ (k : ℕ) (h : k < count) where
+    walk-next : from k ≡ here k ++ from (k + 1)
+    unfolding gathered
+    walk-next =
+        let e : count - k ≡ suc (count - (k + 1)) = omega arith in
         rw (e, add-one)
 
-    pub none-here : some (here k) ≡ false → from k ≡ from (k + 1)
-    none-here q = from-next ∙ ap (λ (m : List Declaration). m ++ from (k + 1)) (none-there (here k) q)
+    walk-none : some (here k) ≡ false → from k ≡ from (k + 1)
+    walk-none q = walk-next ∙ ap (λ (m : List A). m ++ from (k + 1)) (none-there (here k) q)
 
     module _ (q : some (here k) ≡ true) where
-      pub one-counted : length (from k) ≡ length (from (k + 1)) + 1
-      one-counted = ap length from-next ∙ count-one (here k) (from (k + 1)) few q
+      walk-counts : length (from k) ≡ length (from (k + 1)) + 1
+      walk-counts = ap length walk-next ∙ count-one (here k) (from (k + 1)) (few k) q
 
-      pub one-passed : (n : ℕ) → 0 < n → drop n (from k) ≡ drop (n - 1) (from (k + 1))
-      one-passed n g = ap (drop n) from-next ∙ pass-one (here k) (from (k + 1)) n few q g
+      walk-passes : (n : ℕ) → 0 < n → drop n (from k) ≡ drop (n - 1) (from (k + 1))
+      walk-passes n g = ap (drop n) walk-next ∙ pass-one (here k) (from (k + 1)) n (few k) q g
 
-      pub one-taken : (n : ℕ) → 0 < n → take n (from k) ≡ here k ++ take (n - 1) (from (k + 1))
-      one-taken n g = ap (take n) from-next ∙ take-one (here k) (from (k + 1)) n few q g
+      walk-takes : (n : ℕ) → 0 < n → take n (from k) ≡ here k ++ take (n - 1) (from (k + 1))
+      walk-takes n g = ap (take n) walk-next ∙ take-one (here k) (from (k + 1)) n (few k) q g
+
+-- The declarations of a type, and what is said of them.
+
+module _ {A : Type 0} where
+  shift : (here : ℕ → List A) (n k : ℕ) → gathered (λ i. here (suc i)) n k ≡ gathered here n (suc k)
+  unfolding gathered
+  shift here zero k = refl
+  shift here (suc n) k = ap (λ (m : List A). here (suc k) ++ m) (shift here n (suc k))
+
+streams-gathered : (j : Kind) (p : ℕ) (s : List Stream)
+    → gathered (λ k. declarationsOf j (getD s k (fresh 0) .id) (sendsAt (getD s k (fresh 0)) p)) (length s) 0 ≡ ofKind j p s
+unfolding gathered ofKind
+streams-gathered j p [] = refl
+streams-gathered j p (x ∷ s) =
+    ap (λ (m : List (Listed Declaration)). declarationsOf j (x .id) (sendsAt x p) ++ m)
+    (sym (shift (λ k. declarationsOf j (getD (x ∷ s) k (fresh 0) .id) (sendsAt (getD (x ∷ s) k (fresh 0)) p)) (length s) 0) ∙ streams-gathered j p s)
+
+slots-gathered : (st : Settings) (i : ℕ) (l : List (Applicant (Unit {0})))
+    → gathered (λ k. listedAs (λ u. domainOf st (i + k)) (getD l k noApplicant)) (length l) 0 ≡ domainValues st i l
+unfolding gathered domainValues
+slots-gathered st i [] = refl
+slots-gathered st i (a ∷ l) =
+    let e : i + 0 ≡ i = omega arith in
+    let here : ℕ → List (Listed Declaration) = λ k. listedAs (λ u. domainOf st (i + k)) (getD (a ∷ l) k noApplicant) in
+    rw e
+    (ap (λ (m : List (Listed Declaration)). listedAs (λ u. domainOf st i) a ++ m)
+    (sym (shift here (length l) 0) ∙ same (length l) 0 ∙ slots-gathered st (suc i) l))
+  where
+    same : (n k : ℕ) → gathered (λ j. listedAs (λ u. domainOf st (i + suc j)) (getD l j noApplicant)) n k
+        ≡ gathered (λ j. listedAs (λ u. domainOf st (suc i + j)) (getD l j noApplicant)) n k
+    same zero k = refl
+    same (suc n) k =
+        let s : i + suc k ≡ suc i + k = omega arith in
+        rw (s, same n (suc k))
+
+module _ (j : Attribute) (p : ℕ) (b : Bridge) where
+  pub machines-first : machinesFrom j p b 0 ≡ allOf j p b
+  unfolding machinesFrom machineBy declarers allOf gathered
+  machines-first = let e : declarers j p b - 0 ≡ declarers j p b = omega arith in rw e (go j)
+    where
+      zeroth : (l : List (Applicant (Unit {0}))) (n k : ℕ) → gathered (λ i. listedAs (λ u. domainOf (b .settings) i) (getD l i noApplicant)) n k
+          ≡ gathered (λ i. listedAs (λ u. domainOf (b .settings) (0 + i)) (getD l i noApplicant)) n k
+      zeroth l zero k = refl
+      zeroth l (suc n) k = let s : 0 + k ≡ k = omega arith in rw (s, zeroth l n (suc k))
+
+      go : (i : Attribute) → gathered (machineBy i p b) (declarers i p b) 0 ≡ allOf i p b
+      go (registers k) = streams-gathered k p (b .streams)
+      go domainType =
+          zeroth (senderAt (b .senders) p .domains) (length (senderAt (b .senders) p .domains)) 0
+          ∙ slots-gathered (b .settings) 0 (senderAt (b .senders) p .domains)
+
+  -- what is said of those from a place on
+  pub said-is : (k : ℕ) → saidFrom j p b k ≡ saidOf b p (machinesFrom j p b k)
+  unfolding saidFrom machinesFrom gathered
+  said-is k = go (declarers j p b - k) k
+    where
+      go : (n k : ℕ) → gathered (saidBy j p b) n k ≡ saidOf b p (gathered (machineBy j p b) n k)
+      go zero k = unfold saidOf saying in refl
+      go (suc n) k =
+          ap (λ (m : List Said). saidBy j p b k ++ m) (go n (suc k))
+          ∙ sym (said-append b p (machineBy j p b k) (gathered (machineBy j p b) n (suc k)) ∙ unfold saidBy in refl)
+
+  pub machines-end : (k : ℕ) → declarers j p b ≤ k → machinesFrom j p b k ≡ []
+  unfolding machinesFrom
+  machines-end k h = walk-ends (machineBy j p b) (declarers j p b) one-here k h
+    where
+      one-here : (i : ℕ) → length (machineBy j p b i) ≤ 1
+      one-here i = one-machine j p b i
+
+  pub said-end : (k : ℕ) → declarers j p b ≤ k → saidFrom j p b k ≡ []
+  unfolding saidFrom
+  said-end k h = walk-ends (saidBy j p b) (declarers j p b) (one-said j p b) k h
+
+  pub said-few : (k : ℕ) → length (saidFrom j p b k) ≤ declarers j p b - k
+  unfolding saidFrom
+  said-few k = walk-few (saidBy j p b) (declarers j p b) (one-said j p b) k
+
+  pub machines-few : (k : ℕ) → length (machinesFrom j p b k) ≤ declarers j p b - k
+  unfolding machinesFrom
+  machines-few k = walk-few (machineBy j p b) (declarers j p b) (one-machine j p b) k
+
+  module _ (k : ℕ) (h : k < declarers j p b) where
+    pub machines-next : machinesFrom j p b k ≡ machineBy j p b k ++ machinesFrom j p b (k + 1)
+    unfolding machinesFrom
+    machines-next = walk-next (machineBy j p b) (declarers j p b) (one-machine j p b) k h
+
+    pub no-machine : some (machineBy j p b k) ≡ false → machinesFrom j p b k ≡ machinesFrom j p b (k + 1)
+    unfolding machinesFrom
+    no-machine q = walk-none (machineBy j p b) (declarers j p b) (one-machine j p b) k h q
+
+    pub machine-counted : some (machineBy j p b k) ≡ true → length (machinesFrom j p b k) ≡ length (machinesFrom j p b (k + 1)) + 1
+    unfolding machinesFrom
+    machine-counted q = walk-counts (machineBy j p b) (declarers j p b) (one-machine j p b) k h q
+
+    pub machine-passed : some (machineBy j p b k) ≡ true → (n : ℕ) → 0 < n → drop n (machinesFrom j p b k) ≡ drop (n - 1) (machinesFrom j p b (k + 1))
+    unfolding machinesFrom
+    machine-passed q n g = walk-passes (machineBy j p b) (declarers j p b) (one-machine j p b) k h q n g
+
+    pub nothing-said : some (saidBy j p b k) ≡ false → saidFrom j p b k ≡ saidFrom j p b (k + 1)
+    unfolding saidFrom
+    nothing-said q = walk-none (saidBy j p b) (declarers j p b) (one-said j p b) k h q
+
+    pub said-counted : some (saidBy j p b k) ≡ true → length (saidFrom j p b k) ≡ length (saidFrom j p b (k + 1)) + 1
+    unfolding saidFrom
+    said-counted q = walk-counts (saidBy j p b) (declarers j p b) (one-said j p b) k h q
+
+    pub said-taken : some (saidBy j p b k) ≡ true → (n : ℕ) → 0 < n → take n (saidFrom j p b k) ≡ saidBy j p b k ++ take (n - 1) (saidFrom j p b (k + 1))
+    unfolding saidFrom
+    said-taken q n g = walk-takes (saidBy j p b) (declarers j p b) (one-said j p b) k h q n g
+
+-- How far those reach of which n find room.
+module _ {A : Type 0} (f : A → Bool) where
+  pub reached-quiet : (x : A) (n : ℕ) (l : List A) → f x ≡ false → reached f n (x ∷ l) ≡ x ∷ reached f n l
+  unfolding reached
+  reached-quiet x zero l q = rw q
+  reached-quiet x (suc n) l q = rw q
+
+  pub reached-said : (x : A) (n : ℕ) (l : List A) → f x ≡ true → reached f (suc n) (x ∷ l) ≡ x ∷ reached f n l
+  unfolding reached
+  reached-said x n l q = rw q
+
+  pub reached-none : (x : A) (l : List A) → f x ≡ true → reached f 0 (x ∷ l) ≡ []
+  unfolding reached
+  reached-none x l q = rw q
+
+-- A walk over the declarers.
+module _ (j : Attribute) (p : ℕ) (b : Bridge) where
+  abbrev saysIt : Listed Declaration → Bool
+  saysIt = portWay b p .says
+
+  abbrev pub far : ℕ → ℕ → ℕ
+  far n k = length (reached saysIt n (machinesFrom j p b k))
+
+  -- whether something is said of the one declaration there
+  said-one : (l : List (Listed Declaration)) → length l ≤ 1 → some l ≡ true → (x : Listed Declaration) × (l ≡ x ∷ [])
+  unfolding some
+  said-one [] f q = absurd (false≢true q)
+  said-one (x ∷ []) f q = (x, refl)
+  said-one (x ∷ y ∷ l) f q = absurd (omega arith)
+
+  says-one : (x : Listed Declaration) → some (saidOf b p (x ∷ [])) ≡ saysIt x
+  unfolding saidOf saying some
+  says-one x = go (saysIt x)
+    where
+      go : (t : Bool) → some (map (sayOn b p) (keep t x [])) ≡ t
+      go true = refl
+      go false = refl
+
+  pub far-few : (n k : ℕ) → far n k ≤ declarers j p b - k
+  far-few n k =
+      let l = machinesFrom j p b k in
+      omega (arith, ap length (reached-behind saysIt n l), length-append (reached saysIt n l) (behind saysIt n l), machines-few j p b k)
+
+  pub far-end : (n k : ℕ) → declarers j p b ≤ k → far n k ≡ 0
+  unfolding reached
+  far-end n k h = rw (machines-end j p b k h)
+
+  module _ (k : ℕ) (h : k < declarers j p b) where
+    pub far-skips : some (machineBy j p b k) ≡ false → (n : ℕ) → far n k ≡ far n (k + 1)
+    far-skips q n = ap (λ (l : List (Listed Declaration)). length (reached saysIt n l)) (no-machine j p b k h q)
+
+    module _ (q : some (machineBy j p b k) ≡ true) where
+      one : (x : Listed Declaration) × (machineBy j p b k ≡ x ∷ [])
+      one = said-one (machineBy j p b k) (one-machine j p b k) q
+
+      whole : machinesFrom j p b k ≡ one .0 ∷ machinesFrom j p b (k + 1)
+      whole = machines-next j p b k h ∙ ap (λ (l : List (Listed Declaration)). l ++ machinesFrom j p b (k + 1)) (one .1)
+
+      says-it : some (saidBy j p b k) ≡ saysIt (one .0)
+      unfolding saidBy
+      says-it = ap (λ (l : List (Listed Declaration)). some (saidOf b p l)) (one .1) ∙ says-one (one .0)
+
+      pub far-quiet : some (saidBy j p b k) ≡ false → (n : ℕ) → far n k ≡ far n (k + 1) + 1
+      far-quiet s n =
+          ap (λ (l : List (Listed Declaration)). length (reached saysIt n l)) whole
+          ∙ ap length (reached-quiet saysIt (one .0) n (machinesFrom j p b (k + 1)) (sym says-it ∙ s))
+          ∙ omega arith
+
+      pub far-said : some (saidBy j p b k) ≡ true → (n : ℕ) → 0 < n → far n k ≡ far (n - 1) (k + 1) + 1
+      far-said s n g =
+          let e : n ≡ suc (n - 1) = omega arith in
+          ap (λ (l : List (Listed Declaration)). length (reached saysIt n l)) whole
+          ∙ ap (λ (i : ℕ). length (reached saysIt i (one .0 ∷ machinesFrom j p b (k + 1)))) e
+          ∙ ap length (reached-said saysIt (one .0) (n - 1) (machinesFrom j p b (k + 1)) (sym says-it ∙ s))
+          ∙ omega arith
+
+      pub far-stops : some (saidBy j p b k) ≡ true → far 0 k ≡ 0
+      far-stops s =
+          ap (λ (l : List (Listed Declaration)). length (reached saysIt 0 l)) whole
+          ∙ ap length (reached-none saysIt (one .0) (machinesFrom j p b (k + 1)) (sym says-it ∙ s))

@@ -1,8 +1,11 @@
 pub mod Declared
+pub mod Places
+pub mod States
+pub mod Senders
 pub mod Vectors
-pub mod Walk
 pub mod Fitting
-pub mod Written
+pub mod Walk
 pub mod Packed
 pub mod Packing
 pub mod Listeners
+pub mod Written

@@ -1,17 +1,16 @@
--- The octets of a declaration's vector, as they are written one behind the other from what a stream and its result hold.
+-- The octets of a declaration's vector, as they are written one behind the other: its StreamID, what the port sends of it, and its event.
 use mathlib.Core.Path.{_≡_}
 use mathlib.Core.List.{List, [], _∷_, _++_}
 use mathlib.Core.Bool.{Bool, true, false}
-use Prim.Native.Nat.{ℕ, _+_, _≤_}
+use Prim.Native.Nat.{ℕ, _+_, _*_, _/_, _%_, _≤_}
 use lib.ListN.{length, drop}
-use Rattle.octets.specs.Be.{be}
+use Rattle.octets.specs.Be.{be, beAt}
 use Rattle.octets.specs.Parts.{part}
-use Rattle.model.specs.Layout.{inResult, resultSize}
+use Rattle.model.specs.Layout.{sendsSize}
 use Rattle.model.specs.FrameLayout.{inFirstValue}
-use Rattle.model.specs.State.{Settings, Stream, resultAt, Class, classPriority, classId}
-use Rattle.model.specs.Table.{resultOctets}
+use Rattle.model.specs.State.{Settings, Stream, sendsAt}
+use Rattle.model.specs.Sending.{sendsOctets}
 use Rattle.table.specs.Places.{StandsOn}
-use Rattle.table.specs.Reads.{fixedOctets}
 
 unfoldable pub some : {A : Type 0} → List A → Bool
 some [] = false
@@ -26,20 +25,25 @@ pub record Holding (w : List ℕ) (at : ℕ) (before after : List ℕ) : Type 0 
 unfoldable pub headed : ℕ → ℕ → List ℕ
 headed n id = be 2 n ++ be 8 id
 
--- and settled values
-unfoldable pub talkerBegun : Stream → List ℕ
-talkerBegun x = headed 1 (x .id) ++ fixedOctets (x .settled)
+-- the first of three packed events
+unfoldable pub firstEvent : ℕ → List ℕ
+firstEvent e = (e * 36) ∷ []
 
--- so many octets of the result on port p, from latency on, and JoinMt
-unfoldable pub talkerVector : ℕ → ℕ → Stream → List ℕ
-talkerVector more p x = (talkerBegun x ++ part inResult.latency more (resultOctets (resultAt x p))) ++ (108 ∷ [])
+-- a Talker's: so many octets of what port p sends of the stream, from a place on, and its event
+unfoldable pub talkerVector : ℕ → ℕ → ℕ → ℕ → Stream → List ℕ
+talkerVector at more e p x = (headed 1 (x .id) ++ part at more (sendsOctets (sendsAt x p))) ++ firstEvent e
 
--- a class's ID, priority and the VLAN of the settings behind the header, and JoinMt
-unfoldable pub domainVector : Settings → Class → List ℕ
-domainVector st c = (((be 2 1 ++ be 1 (classId c)) ++ be 1 (classPriority st c)) ++ be 2 (st .vlan)) ++ (108 ∷ [])
+-- a Domain value's: class ID and priority of slot k and the VLAN of the settings behind the header, and its event
+unfoldable pub domainVector : Settings → ℕ → ℕ → List ℕ
+domainVector st e k = (((be 2 1 ++ be 1 (5 + k / 8)) ++ be 1 (k % 8)) ++ be 2 (st .vlan)) ++ firstEvent e
 
--- room for a Talker's vector
-pub record TalkerIn (t : List ℕ) (k p more : ℕ) (out : List ℕ) : Type 0 where
+-- room for a Talker's vector, whose values are so many octets from a place on
+pub record TalkerIn (t : List ℕ) (k p at more : ℕ) (out : List ℕ) : Type 0 where
   pub places : StandsOn t k p
-  pub within : inResult.latency + more ≤ resultSize
-  pub room : length out ≡ 2 + inFirstValue.latency + more + 1
+  pub within : at + more ≤ sendsSize
+  pub room : length out ≡ 2 + inFirstValue.destination + more + 1
+
+-- vectors with LeaveAllEvent 1 in the first one's header, or as they are
+unfoldable pub announced : Bool → List ℕ → List ℕ
+announced true v = be 2 (beAt 2 v 0 + 8192) ++ drop 2 v
+announced false v = v

@@ -1,3 +1,4 @@
 pub mod Keeps
 pub mod Values
 pub mod Ports
+pub mod Registered

@@ -7,7 +7,7 @@ ghost use Prim.Native.Nat.{_<_};
 ghost use lib.ListN.{length};
 ghost use Rattle.model.specs.Layout.{ownSize, slotSize};
 ghost use Rattle.model.specs.State.{Settings, stays, domain};
-ghost use Rattle.model.specs.Registrations.{quitDomain, changeDomains};
+ghost use Rattle.model.specs.Registrations.{quitDomain, domainStays, changeDomains};
 ghost use Rattle.model.specs.Settling.{expireDomain, anyDomain, otherPriority};
 ghost use Rattle.model.specs.Table.{domainOctets, toDomain, ownOctets, toOwn};
 ghost use Rattle.model.specs.Laid.{LaidDomain, LaidOwn};
@@ -24,6 +24,17 @@ pub fn quit(slot: &mut [u8], clock: u32)
     if 0 < slot[HELD] {
         cells::begin(slot, LEAVES, clock);
     }
+}
+
+// Whether the value is registered, and not leaving.
+pub fn is_registered(slot: &[u8]) -> bool
+    requires { ⌜ length (now slot) ≡ slotSize ⌝ }
+    ensures { λ r. ⌜ r ≡ domainStays (toDomain (now (slot .entry))) ⌝ }
+{
+    if slot[HELD] == 0 {
+        return false;
+    }
+    slot[LEAVES] == 0
 }
 
 // A join: registered with this VLAN, not leaving.

@@ -46,14 +46,14 @@ pub extern "C" fn srp_advance(table: &mut [u8], time: u32) -> u8
 
 #[no_mangle]
 pub extern "C" fn srp_write(
-    table: &[u8],
+    table: &mut [u8],
     port: u32,
     place: u32,
     buffer: &mut [u8],
     length: &mut usize,
     next: &mut usize,
 ) -> u8
-    ensures { λ r. ⌜ Writes (now (table .entry)) port place (now (buffer .entry)) r (now (length .exit)) (now (next .exit)) (now (buffer .exit)) ⌝ }
+    ensures { λ r. ⌜ Writes (now (table .entry)) port place (now (buffer .entry)) r (now (length .exit)) (now (next .exit)) (now (buffer .exit)) (now (table .exit)) ⌝ }
 {
     let wrote = bridge::write(table, port, place, buffer);
     *length = wrote.length;

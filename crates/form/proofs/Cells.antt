@@ -13,8 +13,8 @@ use Rattle.octets.specs.Parts.{part}
 use Rattle.octets.specs.Fields.{fields, width}
 use Rattle.octets.proofs.Fields.{beAt-one}
 use Rattle.model.specs.Layout.{inCell, cellSize, cellWidths, cellIndex, failureSize, failureWidths}
-use Rattle.model.specs.Lists.{allTrue, implies}
-use Rattle.model.specs.Table.{between, allZero, leavingRule, cellRules}
+use Rattle.model.specs.Lists.{allTrue, allZero, implies}
+use Rattle.model.specs.Table.{between, leavingRule, cellRules}
 use Rattle.model.proofs.Parts.{zero-between}
 use Rattle.form.proofs.Zeros.{zero-fields}
 

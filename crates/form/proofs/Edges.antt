@@ -13,8 +13,8 @@ use Rattle.octets.specs.Parts.{part}
 use Rattle.octets.specs.Fields.{fields}
 use Rattle.octets.proofs.Fields.{beAt-one}
 use Rattle.model.specs.Layout.{inAddress, addressSize, addressWidths, mostAddresses, inOwn, addressesSize, before, addressIndex, ownSize, inSlot, slotIndex, slotSize, slotWidths, slots}
-use Rattle.model.specs.Lists.{allTrue, parts}
-use Rattle.model.specs.Table.{allZero, everyPart, leavingRule, domainRules, domainFormed, addressRules, addressFormed, addressesHeld, addressesPart, slotsPart, rising, macOf, ownRules, ownFormed}
+use Rattle.model.specs.Lists.{allTrue, allZero, parts}
+use Rattle.model.specs.Table.{everyPart, leavingRule, domainRules, domainFormed, addressRules, addressFormed, addressesHeld, addressesPart, slotsPart, rising, macOf, ownRules, ownFormed}
 use Rattle.form.proofs.Tests.{or-implies}
 
 module _ (clock leave : ℕ) (s : List ℕ) where

@@ -5,10 +5,15 @@ pub mod EveryPart
 pub mod Cells
 pub mod Results
 pub mod Held
+pub mod Seeking
+pub mod Sought
 pub mod Counted
 pub mod Found
 pub mod Stored
+pub mod Beside
 pub mod EveryPort
+pub mod Sent
+pub mod Senders
 pub mod Rising
 pub mod Settings
 pub mod Totals

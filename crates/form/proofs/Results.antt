@@ -12,8 +12,8 @@ use Rattle.octets.specs.Parts.{part}
 use Rattle.octets.specs.Fields.{fields, width}
 use Rattle.octets.proofs.Fields.{beAt-one}
 use Rattle.model.specs.Layout.{inResult, resultIndex, resultSize, resultWidths}
-use Rattle.model.specs.Lists.{allTrue, implies}
-use Rattle.model.specs.Table.{between, allZero, resultRules, resultFormed}
+use Rattle.model.specs.Lists.{allTrue, allZero, implies}
+use Rattle.model.specs.Table.{between, resultRules, resultFormed}
 use Rattle.form.proofs.Tests.{or-implies}
 use Rattle.form.proofs.Zeros.{zero-first, zero-fields}
 

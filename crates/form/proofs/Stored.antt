@@ -12,11 +12,12 @@ use Rattle.octets.specs.Be.{beAt}
 use Rattle.octets.specs.Fields.{fields}
 use Rattle.octets.proofs.Fields.{beAt-one}
 use Rattle.model.specs.Layout.{inResult, inCell, resultSize, resultWidths}
-use Rattle.model.specs.Lists.{allTrue, implies, bit}
+use Rattle.model.specs.Lists.{allTrue, allZero, implies, bit}
 use Rattle.model.specs.State.{Column, none, advertise, failed, nothing, tells}
-use Rattle.model.specs.Table.{allZero, toReady, toCell, toColumn, toEntry, toDeclared, resultFrom, toResult, resultFormed, hasColumn, declares, forListener, storedRules, storedFormed}
+use Rattle.model.specs.Table.{toCell, toColumn, toEntry, toDeclared, resultFrom, toResult, resultFormed, hasColumn, declares, forListener, storedRules, storedFormed}
 use Rattle.model.proofs.Cells.{talking-read, hearing-read}
 use Rattle.form.proofs.Results.{no-column, advertised, failed-column}
+use Rattle.model.specs.WrittenFrames.{toReady}
 
 implies-not : (a b : Bool) → implies (not a) b ≡ (a || b)
 implies-not true b = refl

@@ -14,8 +14,8 @@ use Rattle.octets.specs.Parts.{part}
 use Rattle.octets.specs.Fields.{fields, width}
 use Rattle.octets.proofs.Parts.{lent-part}
 use Rattle.model.specs.Layout.{portSize, inTotals, totalSize, totalsSize, totalsWidths}
-use Rattle.model.specs.Lists.{parts}
-use Rattle.model.specs.Table.{allZero, toTotals, toPort, totalsWithin}
+use Rattle.model.specs.Lists.{allZero, parts}
+use Rattle.model.specs.Table.{toTotals, toPort, totalsWithin}
 use Rattle.form.proofs.Left.{Left, left-more}
 use Rattle.form.proofs.EveryPart.{drop-part, one-left}
 use Rattle.form.proofs.Zeros.{zero-append, zero-fields}

@@ -1,7 +1,7 @@
 -- Laws of `allZero`: octet by octet, and over fields.
-use mathlib.Core.Path.{_≡_, refl, sym, _∙_}
+use mathlib.Core.Path.{_≡_, refl, sym, ap, _∙_}
 use mathlib.Core.List.{List, [], _∷_, _++_}
-use mathlib.Core.Bool.{Bool, true, _&&_, and-assoc, and-true}
+use mathlib.Core.Bool.{Bool, true, false, _&&_, and-assoc, and-true}
 use Prim.Native.Nat.{ℕ, zero, suc, _+_, _*_, _<_, _≤_}
 use native.Mathlib.Nat.{zero-mul, zero-add}
 use native.Mathlib.Numerals.{add-one}
@@ -10,13 +10,14 @@ use borrow.Author.Needs.{needs}
 use lib.ListN.{length, getD, take, drop, drop-of-length-le}
 use lib.Seq.{drop-cons, take-add, drop-drop}
 use lib.Dec.{eqb}
-use borrow.Author.Tests.{ne-eqb}
+use borrow.Author.Tests.{eq-eqb, ne-eqb}
 use Rattle.octets.specs.Be.{beAt}
 use Rattle.octets.specs.Parts.{part}
 use Rattle.octets.specs.Fields.{fields, width}
 use Rattle.octets.proofs.Parts.{part-none, part-more}
-use Rattle.model.specs.Table.{allZero}
+use Rattle.octets.proofs.Fields.{beAt-one}
 use Rattle.form.proofs.Left.{Left, left-more, left-none}
+use Rattle.model.specs.Lists.{allZero}
 
 pub zero-append : (s t : List ℕ) → allZero (s ++ t) ≡ (allZero s && allZero t)
 unfolding allZero
@@ -49,9 +50,23 @@ zero-number (suc n) s at h =
     zero-octet (suc x) b = ne-eqb (suc x * 256 + b) 0 (λ e. omega arith) ∙ sym (rw (ne-eqb (suc x) 0 (λ e. omega arith)))
 
 -- the octets of two parts that follow each other
-zero-parts : (at n m : ℕ) (s : List ℕ) → (allZero (part at n s) && allZero (part (at + n) m s)) ≡ allZero (part at (n + m) s)
+pub zero-parts : (at n m : ℕ) (s : List ℕ) → (allZero (part at n s) && allZero (part (at + n) m s)) ≡ allZero (part at (n + m) s)
 unfolding part
 zero-parts at n m s = rw (take-add n m (drop at s), drop-drop n at s) (sym (zero-append (take n (drop at s)) (take m (drop (at + n) s))))
+
+-- the number x of the first n octets tested, and then what is behind them
+module _ (at n m : ℕ) (s : List ℕ) (h : at + n ≤ length s) (x : ℕ) (e : x ≡ beAt n s at) where
+  number-first : (eqb x 0 && allZero (part (at + n) m s)) ≡ allZero (part at (n + m) s)
+  number-first = rw (e, zero-number n s at h) (zero-parts at n m s)
+
+  pub not-zero : (x ≡ 0 → ⊥) → false ≡ allZero (part at (n + m) s)
+  not-zero k = sym (ap (λ (b : Bool). b && allZero (part (at + n) m s)) (ne-eqb x 0 k)) ∙ number-first
+
+  pub zero-behind : x ≡ 0 → (b : Bool) → b ≡ allZero (part (at + n) m s) → b ≡ allZero (part at (n + m) s)
+  zero-behind k b f = f ∙ sym (ap (λ (b : Bool). b && allZero (part (at + n) m s)) (eq-eqb x 0 k)) ∙ number-first
+
+pub zero-octet : (at : ℕ) (s : List ℕ) → at + 1 ≤ length s → eqb (getD s at 0) 0 ≡ allZero (part at 1 s)
+zero-octet at s h = ap (λ (x : ℕ). eqb x 0) (beAt-one s at) ∙ zero-number 1 s at h
 
 -- numbers are 0 where the octets of their fields are
 pub zero-fields : (ws : List ℕ) (at : ℕ) (s : List ℕ) → at + width ws ≤ length s → allZero (fields ws at s) ≡ allZero (part at (width ws) s)

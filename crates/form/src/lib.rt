@@ -4,21 +4,24 @@
 
 ghost use mathlib.Core.Path.{_≡_};
 ghost use mathlib.Core.List.{[], _∷_};
-ghost use mathlib.Core.Bool.{not, _&&_};
+ghost use mathlib.Core.Bool.{not, _&&_, _||_};
 ghost use Prim.Native.Nat.{_+_, _*_, _%_, _≤_};
 ghost use lib.ListN.{length, getD, take, drop};
 ghost use lib.Dec.{leb, eqb};
 ghost use Rattle.octets.specs.Fields.{fields};
-ghost use Rattle.model.specs.Layout.{addressSize, cellSize, cellWidths, cellsSize, nameWidths, ownSize, portPlace, portSize, inTable, recordSize, resultSize, resultsSize, inRecord, slotSize, slots, slotsSize, tableLength, totalSize};
-ghost use Rattle.model.specs.Lists.{allTrue, implies, parts, bit};
-ghost use Rattle.model.specs.Table.{allZero, everyPart};
+ghost use Rattle.octets.specs.Parts.{part};
+ghost use Rattle.model.specs.Layout.{addressSize, advertisingSize, allSendsSize, applicantSize, cellSize, cellWidths, cellsSize, failingSize, listeningSize, nameWidths, offerSize, ownSize, portPlace, portSize, inTable, recordSize, resultSize, inRecord, senderSize, sendsSize, slotSize, slots, slotsSize, tableLength, totalSize};
+ghost use Rattle.model.specs.Lists.{allTrue, allZero, implies, parts, bit};
+ghost use Rattle.model.specs.Sending.{offerFormed, failedFormed, readyFormed, sendsFormed, toSends, domainStanding, slotsStanding, senderFormed};
+ghost use Rattle.model.specs.Table.{everyPart};
 ghost use Rattle.model.specs.Table.{portsField, toPort, portRule, settingsRules, settingsFormed};
-ghost use Rattle.model.specs.Table.{leavingRule, cellRules, cellFormed, toCell, resultFormed, toResult, holds, talkers, declarers, domainFormed, addressFormed, ownRules, ownFormed, storedFormed, everyPort, streamFormed};
-ghost use Rattle.model.specs.Table.{toTotals, atMost, totalsWithin, idOf, macOf, rising, settingsPart, tableRules, formed};
-ghost use Rattle.form.specs.Asks.{TotalsGiven, ResultsGiven, CellsFound};
+ghost use Rattle.model.specs.Table.{leavingRule, cellRules, cellFormed, toCell, resultFormed, toResult, holds, talkers, declarers, domainFormed, addressFormed, ownRules, ownFormed, storedFormed, everyPort, sends, sentFormed, streamFormed};
+ghost use Rattle.model.specs.Table.{toTotals, atMost, totalsWithin, anyHolds, idOf, macOf, rising, tableRules, formed};
+ghost use Rattle.form.specs.Asks.{TotalsGiven, ResultsGiven, SendsGiven, TableGiven, PortsGiven, CellsFound, sentAs, isEither, slotIf, sendersOf};
 use table::ADDRESS;
 use table::ADDRESSES;
 use table::ADDRESSES_HELD;
+use table::ALL_SENDS;
 use table::BOUNDARY;
 use table::BOUNDARY_B;
 use table::CELL;
@@ -41,6 +44,9 @@ use table::RECORD;
 use table::RECORDS;
 use table::RESULT;
 use table::RESULTS;
+use table::SENDER;
+use table::SENDERS;
+use table::SENDS;
 use table::SETTLED;
 use table::SETTLED_PRIORITY;
 use table::SLOT;
@@ -53,6 +59,8 @@ use table::address;
 use table::cell;
 use table::port;
 use table::result;
+use table::sender;
+use table::sends;
 use table::slot;
 
 // What a truth value adds to a count.
@@ -227,6 +235,142 @@ fn results_formed(cells: &[u8], results: &[u8], ports: usize, clock: u64, talker
     ok & (declarers <= 1)
 }
 
+// Nine octets from a place on are zero.
+fn nine_zero(s: &[u8], at: usize) -> bool
+    requires { ⌜ at + 9 ≤ length (now s) ⌝ }
+    ensures { λ r. ⌜ r ≡ allZero (part at 9 (now (s .entry))) ⌝ }
+{
+    if octets::get(s, at, 8) != 0 {
+        return false;
+    }
+    s[at + 8] == 0
+}
+
+// The values of a Talker, behind the state of its Applicant, are zero.
+fn offer_zero(offer: &[u8]) -> bool
+    requires { ⌜ advertisingSize ≤ length (now offer) ⌝ }
+    ensures { λ r. ⌜ r ≡ allZero (part applicantSize offerSize (now (offer .entry))) ⌝ }
+{
+    if octets::get(offer, 1, 8) != 0 {
+        return false;
+    }
+    nine_zero(offer, 9)
+}
+
+// The rules of the Applicant of a Talker that has a state, Advertise or Failed: it stands where that is decided, else it is an unsent
+// Lv; the spare bits of its priority octet are zero.
+fn offer_formed(offer: &[u8], decided: bool) -> bool
+    requires { ⌜ (advertisingSize ≤ length (now offer)) × (getD (now offer) 0 0 ≡ 0 → ⊥) ⌝ }
+    ensures { λ r. ⌜ r ≡ sentAs offerFormed (now (offer .entry)) decided ⌝ }
+{
+    let state = offer[0];
+    let spare = offer[1 + sends::PRIORITY] % 16 == 0;
+    if decided {
+        return (state <= 5) & spare;
+    }
+    (state == 6) & spare
+}
+
+// The rules of the Applicant of an Advertise: without a state all of it is zero.
+fn advertise_formed(offer: &[u8], decided: bool) -> bool
+    requires { ⌜ length (now offer) ≡ advertisingSize ⌝ }
+    ensures { λ r. ⌜ r ≡ sentAs offerFormed (now (offer .entry)) decided ⌝ }
+{
+    if offer[0] == 0 {
+        return offer_zero(offer) & !decided;
+    }
+    offer_formed(offer, decided)
+}
+
+// And of a Failed.
+fn failed_formed(offer: &[u8], decided: bool) -> bool
+    requires { ⌜ length (now offer) ≡ failingSize ⌝ }
+    ensures { λ r. ⌜ r ≡ sentAs failedFormed (now (offer .entry)) decided ⌝ }
+{
+    if offer[0] == 0 {
+        return offer_zero(offer) & nine_zero(offer, 1 + sends::BRIDGE_ID) & !decided;
+    }
+    offer_formed(offer, decided)
+}
+
+// And of a Listener: with a state it has a declaration type.
+fn ready_formed(ready: &[u8], decided: bool) -> bool
+    requires { ⌜ length (now ready) ≡ listeningSize ⌝ }
+    ensures { λ r. ⌜ r ≡ sentAs readyFormed (now (ready .entry)) decided ⌝ }
+{
+    let state = ready[0];
+    let kind = ready[1];
+    if state == 0 {
+        return (kind == 0) & !decided;
+    }
+    let known = (1 <= kind) & (kind <= 3);
+    if decided {
+        return (state <= 5) & known;
+    }
+    (state == 6) & known
+}
+
+// The rules of what a port sends of a stream, beside its result: a declaration stands exactly where the result has one.
+fn sent_formed(result: &[u8], sent: &[u8]) -> bool
+    requires { ⌜ (length (now result) ≡ resultSize) × (length (now sent) ≡ sendsSize) ⌝ }
+    ensures { λ r. ⌜ r ≡ (sendsFormed (now (sent .entry)) && sentFormed (toResult (now (result .entry))) (toSends (now (sent .entry)))) ⌝ }
+{
+    let column = result[result::COLUMN];
+    advertise_formed(&sent[sends::ADVERTISING..sends::FAILING], column == 1)
+        & failed_formed(&sent[sends::FAILING..sends::LISTENING], 2 <= column)
+        & ready_formed(
+            &sent[sends::LISTENING..SENDS],
+            result[result::DECLARED] != 0,
+        )
+}
+
+// What each port sends of a stream keeps its rules.
+fn sends_formed(results: &[u8], sent: &[u8], ports: usize) -> bool
+    requires { ⌜ SendsGiven (now results) (now sent) ports ⌝ }
+    ensures { λ r. ⌜ r ≡ (everyPart sendsSize sendsFormed ports (now (sent .entry))
+        && everyPort sentFormed ports (parts resultSize toResult 8 (now (results .entry))) (parts sendsSize toSends 8 (now (sent .entry)))) ⌝ }
+{
+    let mut ok = true;
+    let mut p: usize = 0;
+    while p < ports {
+        let a = p * RESULT;
+        let b = p * SENDS;
+        ok = ok & sent_formed(&results[a..a + RESULT], &sent[b..b + SENDS]);
+        p += 1;
+    }
+    ok
+}
+
+// Some port sends of a stream: an Applicant that is not 0.
+fn is_sent(sent: &[u8], ports: usize) -> bool
+    requires { ⌜ (length (now sent) ≡ allSendsSize) × (ports ≤ 8) ⌝ }
+    ensures { λ r. ⌜ r ≡ sends ports (now (sent .entry)) ⌝ }
+{
+    let mut p: usize = 0;
+    while p < ports {
+        let a = p * SENDS;
+        if (sent[a + sends::ADVERTISING] != 0)
+            | (sent[a + sends::FAILING] != 0)
+            | (sent[a + sends::LISTENING] != 0)
+        {
+            return true;
+        }
+        p += 1;
+    }
+    false
+}
+
+// A stream is held: by a registration, or else because a port sends of it.
+fn is_held(none: bool, sent: &[u8], ports: usize) -> bool
+    requires { ⌜ (length (now sent) ≡ allSendsSize) × (ports ≤ 8) ⌝ }
+    ensures { λ r. ⌜ r ≡ (not none || sends ports (now (sent .entry))) ⌝ }
+{
+    if none {
+        return is_sent(sent, ports);
+    }
+    true
+}
+
 // The settled values of a stream of which so many ports have a Talker: zero without one.
 fn settled_formed(rec: &[u8], talkers: usize) -> bool
     requires { ⌜ length (now rec) ≡ recordSize ⌝ }
@@ -246,14 +390,17 @@ fn record_formed(rec: &[u8], ports: usize, clock: u64, leave: u64) -> bool
     ensures { λ r. ⌜ r ≡ streamFormed ports clock leave (now (rec .entry)) ⌝ }
 {
     let cells = &rec[CELLS..RESULTS];
-    let results = &rec[RESULTS..RECORD];
+    let results = &rec[RESULTS..ALL_SENDS];
+    let sent = &rec[ALL_SENDS..RECORD];
     let held = cells_formed(cells, ports, clock, leave);
     settled_formed(rec, held.talkers)
         & held.formed
-        & !held.none
+        & is_held(held.none, sent, ports)
         & zero_from(cells, ports * CELL)
         & results_formed(cells, results, ports, clock, held.talkers)
         & zero_from(results, ports * RESULT)
+        & sends_formed(results, sent, ports)
+        & zero_from(sent, ports * SENDS)
 }
 
 // The first count stream records keep their rules.
@@ -269,6 +416,38 @@ fn records_formed(records: &[u8], count: usize, ports: usize, clock: u64, leave:
         k += 1;
     }
     ok
+}
+
+// Some port has a registration: a Talker or a Listener.
+fn is_registered(cells: &[u8], ports: usize) -> bool
+    requires { ⌜ (length (now cells) ≡ cellsSize) × (ports ≤ 8) ⌝ }
+    ensures { λ r. ⌜ r ≡ holds ports (now (cells .entry)) ⌝ }
+{
+    let mut p: usize = 0;
+    while p < ports {
+        let a = p * CELL;
+        if (cells[a + cell::TALKER] != 0) | (cells[a + cell::LISTENER] != 0) {
+            return true;
+        }
+        p += 1;
+    }
+    false
+}
+
+// One of the first count records has a registration.
+fn any_registered(records: &[u8], count: usize, ports: usize) -> bool
+    requires { ⌜ (count * recordSize ≤ length (now records)) × (ports ≤ 8) ⌝ }
+    ensures { λ r. ⌜ r ≡ anyHolds ports count (now (records .entry)) ⌝ }
+{
+    let mut k: usize = 0;
+    while k < count {
+        let a = k * RECORD + CELLS;
+        if is_registered(&records[a..a + 8 * CELL], ports) {
+            return true;
+        }
+        k += 1;
+    }
+    false
 }
 
 // The StreamIDs of the first count records rise.
@@ -345,7 +524,7 @@ pub fn settings_formed(settings: &[u8]) -> bool
     settings_rules(settings)
 }
 
-// What a class total may be: the limit in force, where some stream is held and the port supports the class.
+// What a class total may be: the limit in force, where some stream has a registration and the port supports the class.
 fn at_most(some: bool, supports: bool, limit: u64) -> u64
     ensures { λ r. ⌜ r ≡ atMost some supports limit ⌝ }
 {
@@ -355,7 +534,7 @@ fn at_most(some: bool, supports: bool, limit: u64) -> u64
     0
 }
 
-// Neither class total of a port is above what it may be, where some stream is held or none.
+// Neither class total of a port is above what it may be, where some stream has a registration or none.
 fn total_within(totals: &[u8], port: &[u8], some: bool) -> bool
     requires { ⌜ (length (now totals) ≡ totalSize) × (length (now port) ≡ portSize) ⌝ }
     ensures { λ r. ⌜ r ≡ totalsWithin some (toTotals (now (totals .entry)) ∷ []) (toPort (now (port .entry)) ∷ []) ⌝ }
@@ -385,10 +564,10 @@ fn totals_within(totals: &[u8], ports: &[u8], count: usize, some: bool) -> bool
     ok & zero_from(totals, count * TOTAL)
 }
 
-// The rules of the settings and the class totals of a table; the settings of places that are no port are zero.
+// The rules of the settings of a table; those of places that are no port are zero.
 fn header_formed(table: &[u8]) -> bool
     requires { ⌜ length (now table) ≡ tableLength ⌝ }
-    ensures { λ r. ⌜ r ≡ allTrue (take 3 (tableRules (now (table .entry)))) ⌝ }
+    ensures { λ r. ⌜ r ≡ allTrue (take 2 (tableRules (now (table .entry)))) ⌝ }
 {
     let settings = &table[0..CLOCK];
     if !settings_rules(settings) {
@@ -396,12 +575,18 @@ fn header_formed(table: &[u8]) -> bool
     }
     let ports = (octets::get(settings, HEAD, 3) / PORTS_UNIT) as usize;
     zero_from(settings, PORTS + ports * PORT)
-        & totals_within(
-            &table[TOTALS..OWNS],
-            &settings[PORTS..],
-            ports,
-            1 <= table[COUNT],
-        )
+}
+
+// The rules of the class totals of a table.
+fn totals_formed(table: &[u8]) -> bool
+    requires { ⌜ TableGiven (now table) ⌝ }
+    ensures { λ r. ⌜ r ≡ allTrue (take 1 (drop 2 (tableRules (now (table .entry))))) ⌝ }
+{
+    let count = table[COUNT] as usize;
+    let ports = (octets::get(table, HEAD, 3) / PORTS_UNIT) as usize;
+    let some = any_registered(&table[RECORDS..LENGTH], count, ports);
+    let settings = &table[0..CLOCK];
+    totals_within(&table[TOTALS..OWNS], &settings[PORTS..], ports, some)
 }
 
 // The rules of a Domain value: one that is not registered is zero.
@@ -516,25 +701,101 @@ fn owns_formed(owns: &[u8], ports: usize, clock: u64, leave: u64) -> bool
 
 // The rules of what the ports of a table hold; what belongs to no port is zero.
 fn edges_formed(table: &[u8]) -> bool
-    requires { ⌜ (length (now table) ≡ tableLength) × (portsField (settingsPart (now table)) ≤ 8) ⌝ }
+    requires { ⌜ TableGiven (now table) ⌝ }
     ensures { λ r. ⌜ r ≡ allTrue (take 2 (drop 3 (tableRules (now (table .entry))))) ⌝ }
 {
     let head = octets::get(table, HEAD, 3);
     let ports = (head / PORTS_UNIT) as usize;
     let clock = octets::get(table, CLOCK, 4);
-    let owns = &table[OWNS..RECORDS];
+    let owns = &table[OWNS..SENDERS];
     owns_formed(owns, ports, clock, head % PRIORITY_B_UNIT) & zero_from(owns, ports * OWN)
+}
+
+// The Applicant of a Domain value: VP, AA or QA where the port declares the value, else none.
+fn applicant_formed(state: u8, own: bool) -> bool
+    ensures { λ r. ⌜ r ≡ domainStanding own state ⌝ }
+{
+    if own {
+        return (state == 1) | ((state == 4) | (state == 5));
+    }
+    state == 0
+}
+
+// The Applicants of a port's Domain values, where it declares those of slots a and b.
+fn applicants_formed(applicants: &[u8], a: u64, b: u64) -> bool
+    requires { ⌜ length (now applicants) ≡ slots ⌝ }
+    ensures { λ r. ⌜ r ≡ slotsStanding (isEither a b) 0 (now (applicants .entry)) ⌝ }
+{
+    let mut ok = true;
+    let mut i: usize = 0;
+    while i < SLOTS {
+        let slot = i as u64;
+        ok = ok & applicant_formed(applicants[i], (slot == a) | (slot == b));
+        i += 1;
+    }
+    ok
+}
+
+// The rules of what a port sends by itself, where it declares the Domain values of slots a and b: their Applicants, and its LeaveAll
+// machine, of which the timer has not run out.
+fn sender_formed(sender: &[u8], clock: u64, a: u64, b: u64) -> bool
+    requires { ⌜ length (now sender) ≡ senderSize ⌝ }
+    ensures { λ r. ⌜ r ≡ senderFormed (isEither a b) clock (now (sender .entry)) ⌝ }
+{
+    let start = octets::get(sender, sender::TIMER, 4);
+    applicants_formed(&sender[sender::APPLICANTS..sender::LEAVE_ALL], a, b)
+        & (sender[sender::LEAVE_ALL] <= 1)
+        & (start <= clock)
+        & (clock < start + sender::LEAVE_ALL_TIME)
+}
+
+// The slot of a class's Domain value where a port supports the class, else one past the last.
+fn slot_if(supports: bool, slot: u64) -> u64
+    ensures { λ r. ⌜ r ≡ slotIf supports slot ⌝ }
+{
+    if supports {
+        return slot;
+    }
+    SLOTS as u64
+}
+
+// What each port sends by itself keeps its rules.
+fn senders_formed(table: &[u8], ports: usize) -> bool
+    requires { ⌜ PortsGiven (now table) ports ⌝ }
+    ensures { λ r. ⌜ r ≡ sendersOf (now (table .entry)) 0 ports ⌝ }
+{
+    let head = octets::get(table, HEAD, 3);
+    let clock = octets::get(table, CLOCK, 4);
+    let slot_b = head / PRIORITY_B_UNIT % 8;
+    let slot_a = 8 + head / PRIORITY_A_UNIT % 8;
+    let mut ok = true;
+    let mut p: usize = 0;
+    while p < ports {
+        let flags = table[PORTS + p * PORT];
+        let b = slot_if(flags / 64 % 2 == 1, slot_b);
+        let a = slot_if(flags / 128 == 1, slot_a);
+        let from = SENDERS + p * SENDER;
+        ok = ok & sender_formed(&table[from..from + SENDER], clock, b, a);
+        p += 1;
+    }
+    ok
+}
+
+// The rules of what the ports of a table send; what belongs to no port is zero.
+fn sending_formed(table: &[u8]) -> bool
+    requires { ⌜ TableGiven (now table) ⌝ }
+    ensures { λ r. ⌜ r ≡ allTrue (take 2 (drop 5 (tableRules (now (table .entry))))) ⌝ }
+{
+    let ports = (octets::get(table, HEAD, 3) / PORTS_UNIT) as usize;
+    senders_formed(table, ports) & zero_from(&table[SENDERS..RECORDS], ports * SENDER)
 }
 
 // The rules of the stream records of a table; what follows those in use is zero.
 fn streams_formed(table: &[u8]) -> bool
-    requires { ⌜ (length (now table) ≡ tableLength) × (portsField (settingsPart (now table)) ≤ 8) ⌝ }
-    ensures { λ r. ⌜ r ≡ allTrue (drop 2 (drop 3 (tableRules (now (table .entry))))) ⌝ }
+    requires { ⌜ TableGiven (now table) ⌝ }
+    ensures { λ r. ⌜ r ≡ allTrue (drop 7 (tableRules (now (table .entry)))) ⌝ }
 {
     let count = table[COUNT] as usize;
-    if 64 < count {
-        return false;
-    }
     let head = octets::get(table, HEAD, 3);
     let ports = (head / PORTS_UNIT) as usize;
     let clock = octets::get(table, CLOCK, 4);
@@ -551,8 +812,11 @@ pub fn is_formed(table: &[u8]) -> bool
     if table.len() != LENGTH {
         return false;
     }
+    if 64 < table[COUNT] {
+        return false;
+    }
     if !header_formed(table) {
         return false;
     }
-    edges_formed(table) & streams_formed(table)
+    totals_formed(table) & edges_formed(table) & sending_formed(table) & streams_formed(table)
 }

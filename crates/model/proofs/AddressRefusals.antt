@@ -9,9 +9,8 @@ use native.Mathlib.Omega.{arith}
 use lib.ListN.{length, getD}
 use lib.Dec.{ltb, eqb}
 use borrow.Author.Tests.{eqb-true, eqb-false, ltb-true, ltb-false}
-use Rattle.model.specs.Layout.{mostAddresses}
 use Rattle.model.specs.FrameLayout.{longestPdu}
-use Rattle.model.specs.State.{Address, Bridge, ownAt}
+use Rattle.model.specs.State.{Bridge, ownAt}
 use Rattle.model.specs.Registrations.{AddressAct, AddressReading, refusedFrame, addressActs, Answer, receivedAddresses, doesAddresses, together, macs, addressJoins}
 use Rattle.model.specs.Frames.{wrongPort}
 use Rattle.model.specs.AddressFrames.{addressMessages, addressWalk, addressReading}

@@ -12,16 +12,16 @@ use lib.Dec.{leb}
 use borrow.Author.Tests.{le-leb}
 use Rattle.model.specs.Layout.{mostAddresses}
 use Rattle.model.specs.Lists.{All, on, Octets}
-use Rattle.model.specs.State.{Settings, Own, Address, Stream, Bridge, noOwn, ownAt}
-use Rattle.model.specs.Registrations.{Act, AddressAct, leaveAll, leave, talk, listen, ofDomain, doesDomain, at, changeDomains, applyOwn, applyOwns, applyAll, Reading, refused, acts, AddressReading, refusedFrame, addressActs, Answer, doesAddresses, changeAddresses, holding, owning, received, receivedAddresses, together, macs, addressJoins, asksAddresses}
+use Rattle.model.specs.State.{Own, Bridge, noOwn, ownAt}
+use Rattle.model.specs.Registrations.{Act, AddressAct, leaveAll, leave, talk, listen, ofDomain, doesDomain, at, changeDomains, applyOwn, applyOwns, applyAll, Reading, refused, acts, AddressReading, refusedFrame, addressActs, Answer, doesAddresses, changeAddresses, holding, owning, received, receivedAddresses, together, macs, addressJoins, asksAddresses, hearAll, hear, sending, applySenders}
 use Rattle.model.specs.Frames.{reading, wrongPort}
-use Rattle.model.specs.AddressFrames.{addressWalk, addressReading}
+use Rattle.model.specs.AddressFrames.{addressReading}
 use Rattle.model.specs.Table.{decode, formed}
 use Rattle.model.specs.Calls.{receive, receiveMmrp, Frame, msrp, mmrp, receiveFrame, answersOn, afterOn, addressesBy, askedAddresses}
 use Rattle.model.proofs.Lists.{at-here, at-each, at-other, on-same, on-other}
 use Rattle.model.proofs.Valid.{Valid}
 use Rattle.model.proofs.ReceiveKeepsForm.{right-port}
-use Rattle.model.proofs.FrameOrder.{afterFrames, frameAnswers, frame-unchanged, after-settings, frame-settings, places-apart, first-fits, together-append}
+use Rattle.model.proofs.FrameOrder.{afterFrames, frameAnswers, frame-unchanged, frame-settings, places-apart, first-fits, together-append}
 use Rattle.model.proofs.Refusals.{receive-few}
 use Rattle.model.proofs.FoundAddresses.{address-faults}
 use Rattle.model.proofs.ReceivedAddresses.{hasRoom, withRoom, addressEffect, addressNumber, received-is}
@@ -44,6 +44,8 @@ acts-addresses now p (leaveAll k ∷ es) o q = acts-addresses now p es o q
 acts-addresses now p (leave k i ∷ es) o q = acts-addresses now p es o q
 acts-addresses now p (talk i f v ∷ es) o q = acts-addresses now p es o q
 acts-addresses now p (listen i r ∷ es) o q = acts-addresses now p es o q
+acts-addresses now p (hearAll k ∷ es) o q = acts-addresses now p es o q
+acts-addresses now p (hear k i h ∷ es) o q = acts-addresses now p es o q
 acts-addresses now p (ofDomain d ∷ es) o q =
     acts-addresses now p es (applyOwn now p (ofDomain d) o) q
     ∙ at-each (λ (w : Own). w .addresses) p (changeDomains (doesDomain now d)) (λ w. refl) o q noOwn
@@ -54,13 +56,15 @@ msrp-addresses b p pdu q = go (reading (b .settings) p pdu)
   where
     go : (x : Reading) → ownAt (received b p x .bridge .owns) q .addresses ≡ ownAt (b .owns) q .addresses
     go (refused n) = unfold received in refl
-    go (acts es) = unfold received holding owning in (either (leb (length (applyAll (b .clock) (p - 1) es (b .streams))) 64))
+    go (acts es) = unfold received holding owning sending in (either (leb (length (applyAll (b .clock) (p - 1) es (b .streams))) 64))
       where
         c : Bridge
-        c = owning (holding b (applyAll (b .clock) (p - 1) es (b .streams))) (applyOwns (b .clock) (p - 1) es (b .owns))
+        c =
+            sending (owning (holding b (applyAll (b .clock) (p - 1) es (b .streams))) (applyOwns (b .clock) (p - 1) es (b .owns)))
+            (applySenders (b .clock) (p - 1) es (b .senders))
 
         either : (t : Bool) → ownAt (cond {A = Answer} t record { number = 0; bridge = c } record { number = 8; bridge = b } .bridge .owns) q .addresses ≡ ownAt (b .owns) q .addresses
-        either true = unfold holding owning in (acts-addresses (b .clock) (p - 1) es (b .owns) q)
+        either true = unfold holding owning sending in (acts-addresses (b .clock) (p - 1) es (b .owns) q)
         either false = refl
 
 -- A frame of port p that finds room there gives no 14, and joins what it asks for.

@@ -12,15 +12,15 @@ use Rattle.octets.specs.Be.{beAt}
 use Rattle.octets.specs.Fields.{fields, packed, Fit, width, flat}
 use Rattle.octets.specs.Parts.{zeros}
 use Rattle.octets.proofs.Fields.{length-packed-any, fields-of-packed, fields-fit, fit-at}
-use Rattle.model.specs.Layout.{mostAddresses, addressesSize, addressSize, addressWidths, addressIndex}
-use Rattle.model.specs.Lists.{All, allTrue, parts, Octets}
+use Rattle.model.specs.Layout.{addressSize, addressWidths, addressesSize, mostAddresses, addressIndex}
+use Rattle.model.specs.Lists.{All, allTrue, parts, Octets, allZero}
 use Rattle.model.specs.State.{Presence, vacant, present, Address}
 use Rattle.model.specs.Registrations.{macs}
-use Rattle.model.specs.Table.{leavingNumber, sinceNumber, toLeaving, leavingRule, allZero, everyPart, presenceNumbers, addressNumbers, addressFrom, addressOctets, toAddress, addressRules, addressFormed, rising, macOf}
+use Rattle.model.specs.Table.{leavingRule, everyPart, presenceNumbers, addressNumbers, addressFrom, addressOctets, toAddress, addressRules, addressFormed, rising, macOf}
 use Rattle.model.specs.Laid.{FitAddresses}
 use Rattle.model.proofs.Lists.{all-each, all-map, all-true, true-all}
 use Rattle.model.proofs.Valid.{ValidPresence, ValidAddress, ValidAddresses}
-use Rattle.model.proofs.Parts.{_also_, Sized, octets-at, octets-append, octets-packed, octets-flat, octets-zeros, packed-whole, padding, length-parts, length-zeros, zero-zeros, length-flat-sized, parts-flat, parts-map, every-read, every-forth, every-flat, rising-rises, rises-rising, rising-ascends}
+use Rattle.model.proofs.Parts.{_also_, Sized, octets-at, octets-append, octets-packed, octets-flat, octets-zeros, packed-whole, padding, length-parts, length-zeros, length-flat-sized, parts-flat, parts-map, every-read, every-forth, every-flat, rising-rises, rises-rising, rising-ascends}
 use Rattle.model.proofs.Cells.{leaving-back, leaving-few, since-within, leaving-formed, left}
 
 -- An address.

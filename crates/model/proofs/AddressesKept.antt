@@ -10,13 +10,13 @@ use lib.Dec.{ltb, leb, eqb}
 use borrow.Author.Tests.{eqb-true, leb-true, le-leb}
 use Rattle.model.specs.Layout.{mostAddresses}
 use Rattle.model.specs.Lists.{All}
-use Rattle.model.specs.State.{Leaving, Presence, vacant, present, Address, Own, Bridge, ownAt}
-use Rattle.model.specs.Registrations.{AddressAct, leaveAllAddresses, leaveAddress, joinAddress, AddressReading, refusedFrame, addressActs, quitPresence, quitAddress, joinedAddress, withJoined, withLeft, doesAddress, doesAddresses, changeAddresses, owning, receivedAddresses, add, together, macs, addressJoins, asksAddresses}
+use Rattle.model.specs.State.{Presence, vacant, present, Address, Own, Bridge}
+use Rattle.model.specs.Registrations.{AddressAct, leaveAllAddresses, leaveAddress, joinAddress, AddressReading, refusedFrame, addressActs, quitPresence, quitAddress, joinedAddress, withJoined, withLeft, doesAddress, doesAddresses, changeAddresses, owning, receivedAddresses, add, together, macs, addressJoins}
 use Rattle.model.specs.Frames.{wrongPort}
 use Rattle.model.specs.AddressFrames.{addressReading}
 use Rattle.model.specs.Calls.{receiveMmrp}
 use Rattle.model.proofs.Lists.{length-at, all-changed, drop-changed}
-use Rattle.model.proofs.Valid.{ValidPresence, ValidAddress, ValidAddresses, ValidOwn, Rising, Valid}
+use Rattle.model.proofs.Valid.{ValidPresence, ValidAddress, ValidOwn, Valid}
 use Rattle.model.proofs.FoundAddresses.{FitsAddress, FitsAddresses, address-reading-fits}
 use Rattle.model.proofs.AdvanceKeepsForm.{all-mapped}
 use Rattle.model.proofs.ReceiveKeepsForm.{begun-leaving, right-port}
@@ -147,6 +147,9 @@ effect-keeps b p (addressActs es) here fits v =
           all-changed (ValidOwn (b .clock) (b .settings .leaveTime)) (p - 1) u (b .owns)
           (own-valid (b .clock) (b .settings .leaveTime) (v .settings .leaves) es fits) (v .owns);
       no-other-owns = rw (drop-changed (length (b .settings .ports)) (p - 1) u (b .owns) here) (v .no-other-owns);
+      eight-senders = v .eight-senders;
+      senders = v .senders;
+      no-other-senders = v .no-other-senders;
       at-most-64 = v .at-most-64;
       streams = v .streams;
       ascending = v .ascending;

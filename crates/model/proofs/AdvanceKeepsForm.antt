@@ -1,7 +1,7 @@
 -- Advance, accepted or refused, leaves a bridge that keeps the form rules.
 use mathlib.Core.Path.{_≡_, refl, sym, _∙_, ap}
 use mathlib.Core.List.{List, [], _∷_, map}
-use mathlib.Core.Bool.{Bool, true, false, cond, not, _&&_, false≢true}
+use mathlib.Core.Bool.{Bool, true, false, cond, not, _&&_, _||_, false≢true, true≢false}
 use Prim.Native.Nat.{ℕ, zero, suc, _+_, _/_, _^_, _≤_, _<_}
 use native.Mathlib.Nat.{le-trans}
 use native.Mathlib.Omega.{arith}
@@ -9,17 +9,22 @@ use lib.ListN.{length, getD, drop, length-map}
 use lib.Dec.{ltb, leb, eqb}
 use borrow.Author.Tests.{ltb-false, leb-false, le-ltb, le-leb, eq-eqb, ne-eqb, ltb-true, lt-ltb, eqb-true, eqb-false, not-true}
 use Rattle.model.specs.Lists.{All, keep, tabulate, implies, bit}
-use Rattle.model.specs.State.{Port, Settings, Leaving, stays, since, TalkerType, talkerAdvertise, talkerFailed, Talker, noTalker, talker, Listener, noListener, listener, Cell, Domain, noDomain, domain, Presence, vacant, present, Address, Own, Column, none, advertise, failed, Entry, noEntry, filters, forwards, Declared, nothing, tells, Result, Stream, Totals, Bridge, empty, unsettled, noFixed, noOwn, noPort, ownAt, portAt, isPort, cellAt, resultAt, Class, classA, classB, inForce, noClass, sameClass, supports}
+use Rattle.model.specs.State.{Port, Settings, Leaving, stays, since, TalkerType, talkerAdvertise, talkerFailed, Talker, noTalker, talker, Listener, noListener, listener, Cell, Domain, noDomain, domain, Presence, vacant, present, Address, Own, Column, none, advertise, failed, Entry, noEntry, filters, forwards, Declared, nothing, tells, Fixed, Sends, Sender, Result, Stream, Totals, Bridge, empty, unsettled, noFixed, noOwn, noSends, noSender, noPort, ownAt, portAt, isPort, cellAt, resultAt, sendsAt, senderAt, declaresSlot, Class, classA, classB, inForce, noClass, sameClass, supports}
 use Rattle.model.specs.Registrations.{Answer, ids, macs}
-use Rattle.model.specs.Settling.{Scene, sceneOf, flagOf, decideOwn, decideOwns, expired, expireDomain, outlasts, remainAddresses, expireTalker, expireListener, expireCell, expire, held, remain, Source, nowhere, from, source, sourceOf, isSource, fixedOf, talkerTypeOf, registered, isReady, Outcome, columnNone, asRegistered, ownFailure, Step, first, failedColumn, outcomeColumn, stepsFrom, steps, ageOf, claims, reservedA, limitOn, byBandwidth, columnOf, capped, latencyOut, entryOf, ageKept, latencyKept, decideAt, decide, totalOn, totalsOn, settle, advance, isTalking, isHearing, Origin, streamClass, clear, inboundsOf, asAdvertise, outcomeOf, bandwidthSteps}
+use Rattle.model.specs.Settling.{isAdvertise, Scene, flagOf, decideOwn, decideOwns, expired, expireDomain, outlasts, remainAddresses, expireTalker, expireListener, expireCell, expire, held, anySending, isHeld, dropUnheld, advertisedBy, failedBy, listenedBy, sameOffer, sameFailed, sameReady, declareSends, declare, timeSender, deciding, declaring, remain, Source, nowhere, from, source, sourceOf, isSource, fixedOf, talkerTypeOf, registered, isReady, Outcome, columnNone, asRegistered, ownFailure, Step, first, failedColumn, outcomeColumn, stepsFrom, steps, ageOf, claims, reservedA, limitOn, byBandwidth, columnOf, capped, latencyOut, entryOf, ageKept, latencyKept, decideAt, decide, totalOn, totalsOn, settle, advance, isTalking, isHearing, Origin, streamClass, clear, Inbound, inboundsOf, asAdvertise, bandwidthSteps, outcomeOf, sceneOf}
 use Rattle.model.specs.Bandwidth.{sort, total, reserved}
-use Rattle.model.specs.Table.{totalsWithin, talkers, hasColumn, declares, declarers, forListener, storedRules, storedFormed, atMost}
-use Rattle.model.proofs.Lists.{all-getD, all-tabulate, at-place, and-false, implies-true, true-all}
+use Rattle.model.specs.Applicant.{Standing, veryAnxiousPassive, veryAnxiousNew, anxiousNew, anxiousActive, quietActive, leavingActive, lv, join, becomes, standing, applicantEntry, vo}
+use Rattle.model.specs.Machines.{Applicant, noApplicant, applicant, Decided, undeclared, declared, otherContent, with, applicantOf, after, born, decided}
+use Rattle.model.specs.LeaveAll.{LeaveAllState, active, passive, LeaveAll, leavealltimer, starting, leaveAllRow, leaveAllColumn, leaveAllEntry, leaveAllNext, leaveAllTime, hasRun, timedOut}
+use Rattle.model.specs.Table.{totalsWithin, talkers, hasColumn, declares, declarers, forListener, storedRules, storedFormed, atMost, anyHeld, isStanding, stands, isFailed, alike, sentRules, sentFormed}
+use Rattle.model.proofs.Lists.{all-append, all-getD, all-tabulate, at-place, and-false, implies-true, true-all}
 use Rattle.model.proofs.Parts.{_also_}
 use Rattle.model.proofs.Stored.{talker-counts, other-counts, one-declares}
 use Rattle.model.proofs.Admission.{within}
 use Rattle.model.proofs.Owns.{no-own-valid}
-use Rattle.model.proofs.Valid.{ValidLeaving, ValidFixed, ValidTalkerType, ValidRegistration, ValidTalker, ValidListener, ValidCell, ValidDomain, ValidPresence, ValidAddress, ValidOwn, ValidColumn, ValidAge, ValidResult, ValidStream, Rising, Valid, again-valid}
+use Rattle.model.proofs.Deciding.{Stands, Holds, Unsent, decided-stands, withdrawn-unsent}
+use Rattle.model.proofs.Valid.{GoodApplicant, ValidOffer, ValidFailed, ValidSends, ValidLeaveAll, ValidSender, ValidLeaving, ValidFixed, ValidTalkerType, ValidRegistration, ValidTalker, ValidListener, ValidCell, ValidDomain, ValidPresence, ValidAddress, ValidOwn, ValidColumn, ValidAge, ValidResult, ValidStream, Rising, Valid, again-valid}
+use Rattle.model.proofs.Parts.{_also_}
 
 -- Lists.
 
@@ -172,14 +177,14 @@ record Remaining (ports clock now leave : ℕ) (x : Stream) : Type 0 where
   eight-cells : length (x .cells) ≡ 8
   cells : All (ValidCell now leave) (x .cells)
   no-other-cells : All (λ c. c ≡ empty) (drop ports (x .cells))
-  is-held : held (x .cells) ≡ true
   results : All (ValidResult clock) (x .results)
+  sends : All ValidSends (x .sends)
+  no-other-sends : All (λ s. s ≡ noSends) (drop ports (x .sends))
 
 module _ (st : Settings) (clock now ports : ℕ) (later : clock ≤ now) where
-  stream-remains : (x : Stream) → held (expire st now x .cells) ≡ true → ValidStream ports clock (st .leaveTime) x →
-      Remaining ports clock now (st .leaveTime) (expire st now x)
+  stream-remains : (x : Stream) → ValidStream ports clock (st .leaveTime) x → Remaining ports clock now (st .leaveTime) (expire st now x)
   unfolding expire
-  stream-remains x h v = record {
+  stream-remains x v = record {
     id = v .id;
     eight-cells = length-map (x .cells) (expireCell st now) ∙ v .eight-cells;
     cells =
@@ -189,48 +194,96 @@ module _ (st : Settings) (clock now ports : ℕ) (later : clock ≤ now) where
         rw (drop-map (expireCell st now) ports (x .cells))
         (all-mapped (λ c. c ≡ empty) (λ c. c ≡ empty) (expireCell st now)
         (empty-remains st clock now later) (drop ports (x .cells)) (v .no-other-cells));
-    is-held = h;
     results = v .results;
+    sends = v .sends;
+    no-other-sends = v .no-other-sends;
   }
 
   streams-remain : (s : List Stream) → All (ValidStream ports clock (st .leaveTime)) s →
       All (Remaining ports clock now (st .leaveTime)) (remain st now s)
   unfolding remain
-  streams-remain [] a = tt
-  streams-remain (x ∷ s) a = go (held (expire st now x .cells)) refl (streams-remain s (a .1))
-    where
-      go : (t : Bool) → held (expire st now x .cells) ≡ t → All (Remaining ports clock now (st .leaveTime)) (remain st now s) →
-          All (Remaining ports clock now (st .leaveTime)) (keep t (expire st now x) (remain st now s))
-      go true e ih = (stream-remains x e (a .0), ih)
-      go false e ih = ih
+  streams-remain s a = all-mapped (ValidStream ports clock (st .leaveTime)) (Remaining ports clock now (st .leaveTime)) (expire st now) stream-remains s a
 
+-- What remains are the same streams.
 module _ (st : Settings) (now : ℕ) where
-  pub fewer-remain : (s : List Stream) → length (remain st now s) ≤ length s
-  unfolding remain
-  fewer-remain [] = omega arith
-  fewer-remain (x ∷ s) = go (held (expire st now x .cells)) (fewer-remain s)
-    where
-      go : (t : Bool) → length (remain st now s) ≤ length s → length (keep t (expire st now x) (remain st now s)) ≤ suc (length s)
-      go true ih = omega arith
-      go false ih = omega arith
+  remain-ids : (s : List Stream) → ids (remain st now s) ≡ ids s
+  unfolding ids remain expire
+  remain-ids [] = refl
+  remain-ids (x ∷ s) = ap (λ (is : List ℕ). x .id ∷ is) (remain-ids s)
 
   pub remain-all : (P : ℕ → Type 0) (s : List Stream) → All P (ids s) → All P (ids (remain st now s))
-  unfolding ids remain expire
-  remain-all P [] a = tt
-  remain-all P (x ∷ s) a = go (held (expire st now x .cells)) (remain-all P s (a .1))
-    where
-      go : (t : Bool) → All P (ids (remain st now s)) → All P (ids (keep t (expire st now x) (remain st now s)))
-      go true ih = (a .0, ih)
-      go false ih = ih
+  remain-all P s a = rw (remain-ids s) a
 
   pub remain-rising : (s : List Stream) → Rising (ids s) → Rising (ids (remain st now s))
-  unfolding ids remain expire Rising
-  remain-rising [] r = tt
-  remain-rising (x ∷ s) r = go (held (expire st now x .cells)) (remain-rising s (r .1))
+  remain-rising s r = rw (remain-ids s) r
+
+-- Dropped: streams that no port has registered and of which none sends.
+
+pub or-false : (a b : Bool) → (a || b) ≡ false → (a ≡ false) × (b ≡ false)
+or-false true b e = absurd (true≢false e)
+or-false false b e = (refl, e)
+
+module _ (P Q : Stream → Type 0) (h : (x : Stream) → isHeld x ≡ true → P x → Q x) where
+  pub all-dropped : (s : List Stream) → All P s → All Q (dropUnheld s)
+  unfolding dropUnheld
+  all-dropped [] a = tt
+  all-dropped (x ∷ s) a = go (isHeld x) refl (all-dropped s (a .1))
     where
-      go : (t : Bool) → Rising (ids (remain st now s)) → Rising (ids (keep t (expire st now x) (remain st now s)))
-      go true ih = (remain-all (λ j. x .id < j) s (r .0), ih)
-      go false ih = ih
+      go : (t : Bool) → isHeld x ≡ t → All Q (dropUnheld s) → All Q (keep t x (dropUnheld s))
+      go true e ih = (h x e (a .0), ih)
+      go false e ih = ih
+
+pub fewer-dropped : (s : List Stream) → length (dropUnheld s) ≤ length s
+unfolding dropUnheld
+fewer-dropped [] = omega arith
+fewer-dropped (x ∷ s) = go (isHeld x) (fewer-dropped s)
+  where
+    go : (t : Bool) → length (dropUnheld s) ≤ length s → length (keep t x (dropUnheld s)) ≤ suc (length s)
+    go true ih = omega arith
+    go false ih = omega arith
+
+pub dropped-all : (P : ℕ → Type 0) (s : List Stream) → All P (ids s) → All P (ids (dropUnheld s))
+unfolding ids dropUnheld
+dropped-all P [] a = tt
+dropped-all P (x ∷ s) a = go (isHeld x) (dropped-all P s (a .1))
+  where
+    go : (t : Bool) → All P (ids (dropUnheld s)) → All P (ids (keep t x (dropUnheld s)))
+    go true ih = (a .0, ih)
+    go false ih = ih
+
+pub dropped-rising : (s : List Stream) → Rising (ids s) → Rising (ids (dropUnheld s))
+unfolding ids dropUnheld Rising
+dropped-rising [] r = tt
+dropped-rising (x ∷ s) r = go (isHeld x) (dropped-rising s (r .1))
+  where
+    go : (t : Bool) → Rising (ids (dropUnheld s)) → Rising (ids (keep t x (dropUnheld s)))
+    go true ih = (dropped-all (λ j. x .id < j) s (r .0), ih)
+    go false ih = ih
+
+pub declared-ids : (s : List Stream) → ids (map declare s) ≡ ids s
+unfolding ids declare
+declared-ids [] = refl
+declared-ids (x ∷ s) = ap (λ (is : List ℕ). x .id ∷ is) (declared-ids s)
+
+-- whether some stream has a registration is not changed by it, nor by what is decided and declared
+pub held-dropped : (s : List Stream) → anyHeld (dropUnheld s) ≡ anyHeld s
+unfolding anyHeld dropUnheld isHeld
+held-dropped [] = refl
+held-dropped (x ∷ s) = go (isHeld x) refl (held-dropped s)
+  where
+    go : (t : Bool) → isHeld x ≡ t → anyHeld (dropUnheld s) ≡ anyHeld s → anyHeld (keep t x (dropUnheld s)) ≡ (held (x .cells) || anyHeld s)
+    go true e ih = ap (λ (b : Bool). held (x .cells) || b) ih
+    go false e ih = rw (or-false (held (x .cells)) (anySending (x .sends)) e .0) ih
+
+pub held-declared : (s : List Stream) → anyHeld (map declare s) ≡ anyHeld s
+unfolding anyHeld declare
+held-declared [] = refl
+held-declared (x ∷ s) = ap (λ (b : Bool). held (x .cells) || b) (held-declared s)
+
+pub held-decided : (sc : Scene) (now : ℕ) (s l : List Stream) → anyHeld (map (decide sc now s) l) ≡ anyHeld l
+unfolding anyHeld decide
+held-decided sc now s [] = refl
+held-decided sc now s (x ∷ l) = ap (λ (b : Bool). held (x .cells) || b) (held-decided sc now s l)
 
 -- The Talker: what is registered at the Talker port is valid, and stands on a port.
 
@@ -258,6 +311,17 @@ module _ (clock leave : ℕ) where
   unfolding talkerTypeOf
   type-valid nowhere v = tt
   type-valid (from o) v = v .varying .type
+
+-- without a registration there is none
+pub unheld-nowhere : (p : ℕ) (cs : List Cell) → held cs ≡ false → source p cs ≡ nowhere
+unfolding held source isTalking
+unheld-nowhere p [] e = refl
+unheld-nowhere p (c ∷ cs) e = go (c .talks) refl (unheld-nowhere (suc p) cs (or-false (isTalking c || isHearing c) (held cs) e .1))
+  where
+    go : (t : Talker) → c .talks ≡ t → source (suc p) cs ≡ nowhere
+        → elim t [ noTalker ↦ source (suc p) cs | talker r ↦ from record { port = p; registration = r } ] ≡ nowhere
+    go noTalker q ih = ih
+    go (talker r) q ih = absurd (true≢false (rw q at (or-false (isTalking c) (isHearing c) (or-false (isTalking c || isHearing c) (held cs) e .0) .0)))
 
 -- no port below the first place looked at
 source-after : (p q : ℕ) (cs : List Cell) → q < p → isSource (source p cs) q ≡ false
@@ -433,6 +497,134 @@ pub unsettled-valid : (clock : ℕ) → ValidResult clock unsettled
 unfolding unsettled
 unsettled-valid clock = record { column = refl; latency = omega arith; age = refl }
 
+-- Machines: what an advance leaves of one has valid values, and stands exactly where it was decided.
+
+module _ {D : Type 0} (Good : D → Type 0) where
+  abbrev GoodDecided : Decided D → Type 0
+  GoodDecided undeclared = Unit {0}
+  GoodDecided (declared v) = Good v
+
+  good-of : (v : D) → Good v → (l : List Standing) → GoodApplicant Good (applicantOf (map (with v) l))
+  unfolding applicantOf with
+  good-of v g [] = tt
+  good-of v g (q ∷ l) = g
+
+  good-decided : (same : D → D → Bool) (d : Decided D) (a : Applicant D) → GoodDecided d → GoodApplicant Good a → GoodApplicant Good (decided same d a)
+  unfolding decided after born
+  good-decided same undeclared noApplicant g h = tt
+  good-decided same undeclared (applicant x) g h = good-of (x .value) h (becomes false lv (x .state))
+  good-decided same (declared v) noApplicant g h = good-of v g (standing (applicantEntry false join vo .next))
+  good-decided same (declared v) (applicant x) g h =
+      good-of v g (becomes false (cond (same v (x .value)) join (otherContent (x .state))) (x .state))
+
+module _ {D : Type 0} where
+  unfoldable isDeclared : Decided D → Bool
+  isDeclared undeclared = false
+  isDeclared (declared v) = true
+
+  holds-standing : (v : D) (a : Applicant D) → Holds Stands v a → stands a ≡ true
+  unfolding stands isStanding
+  holds-standing v noApplicant h = absurd h
+  holds-standing v (applicant x) h = go (x .state) (h .0)
+    where
+      go : (q : Standing) → Stands q → isStanding q ≡ true
+      go veryAnxiousPassive k = refl
+      go veryAnxiousNew k = refl
+      go anxiousNew k = refl
+      go anxiousActive k = refl
+      go quietActive k = refl
+      go leavingActive k = absurd k
+
+  unsent-leaving : (a b : Applicant D) → Unsent a b → stands b ≡ false
+  unfolding stands isStanding
+  unsent-leaving a noApplicant u = refl
+  unsent-leaving noApplicant (applicant y) u = absurd u
+  unsent-leaving (applicant x) (applicant y) u = rw (u .0)
+
+  stands-decided : (same : D → D → Bool) (d : Decided D) (a : Applicant D) → stands (decided same d a) ≡ isDeclared d
+  unfolding isDeclared
+  stands-decided same undeclared a = unsent-leaving a (decided same undeclared a) (withdrawn-unsent same a)
+  stands-decided same (declared v) a = holds-standing v (decided same (declared v) a) (decided-stands same v a)
+
+-- the three of a port, by its result
+module _ (now : ℕ) (f : Fixed) (fits : ValidFixed f) (r : Result) (v : ValidResult now r) where
+  advertised-good : (c : Column) → GoodDecided ValidOffer (advertisedBy f r c)
+  unfolding advertisedBy
+  advertised-good none = tt
+  advertised-good advertise = record { fixed = fits; latency = omega (arith, v .latency) }
+  advertised-good (failed b c) = tt
+
+  failed-good : (c : Column) (l : ℕ) (e : Entry) → ValidColumn c l e → GoodDecided ValidFailed (failedBy f r c)
+  unfolding failedBy
+  failed-good none l e w = tt
+  failed-good advertise l e w = tt
+  failed-good (failed b c) l noEntry w = absurd w
+  failed-good (failed b c) l filters w =
+      (record { fixed = fits; latency = omega (arith, v .latency) }, record { bridge = omega (arith, w .0); code = omega (arith, w .1) })
+  failed-good (failed b c) l forwards w = absurd w
+
+  sends-valid : (s : Sends) → ValidSends s → ValidSends (declareSends f r s)
+  unfolding declareSends
+  sends-valid s w = record {
+    advertising = good-decided ValidOffer sameOffer (advertisedBy f r (r .column)) (s .advertising) (advertised-good (r .column)) (w .advertising);
+    failing =
+        good-decided ValidFailed sameFailed (failedBy f r (r .column)) (s .failing)
+        (failed-good (r .column) (r .latency) (r .entry) (v .column)) (w .failing);
+  }
+
+no-sends-valid : ValidSends noSends
+unfolding noSends
+no-sends-valid = record { advertising = tt; failing = tt }
+
+nothing-sent : (f : Fixed) → declareSends f unsettled noSends ≡ noSends
+unfolding declareSends advertisedBy failedBy listenedBy decided unsettled noSends
+nothing-sent f = refl
+
+sends-follow : (f : Fixed) (r : Result) (s : Sends) → sentFormed r (declareSends f r s) ≡ true
+unfolding sentFormed sentRules declareSends
+sends-follow f r s =
+    true-all (sentRules r (declareSends f r s))
+    (rw (stands-decided sameOffer (advertisedBy f r (r .column)) (s .advertising)) (advertises (r .column))
+    also rw (stands-decided sameFailed (failedBy f r (r .column)) (s .failing)) (fails (r .column))
+    also rw (stands-decided sameReady (listenedBy (r .declares)) (s .listening)) (listens (r .declares)) also tt)
+  where
+    advertises : (c : Column) → alike (isDeclared (advertisedBy f r c)) (isAdvertise c) ≡ true
+    advertises c = unfold alike isDeclared advertisedBy isAdvertise in elim c [ none ↦ refl | advertise ↦ refl | failed b n ↦ refl ]
+
+    fails : (c : Column) → alike (isDeclared (failedBy f r c)) (isFailed c) ≡ true
+    fails c = unfold alike isDeclared failedBy isFailed in elim c [ none ↦ refl | advertise ↦ refl | failed b n ↦ refl ]
+
+    listens : (d : Declared) → alike (isDeclared (listenedBy d)) (declares d) ≡ true
+    listens d = unfold alike isDeclared listenedBy declares in elim d [ nothing ↦ refl | tells r ↦ refl ]
+
+-- What a port sends by itself: its LeaveAll timer was started less than LeaveAllTime ago.
+module _ (clock now : ℕ) (later : clock ≤ now) where
+  started-now : (m : LeaveAll) → leaveAllNext now leavealltimer m .start ≡ now
+  unfolding leaveAllNext leaveAllEntry leaveAllRow leaveAllColumn starting
+  started-now m = go (m .state)
+    where
+      go : (q : LeaveAllState) → cond (leaveAllEntry leavealltimer q .starts) now (m .start) ≡ now
+      go active = refl
+      go passive = refl
+
+  timed-valid : (m : LeaveAll) → ValidLeaveAll clock m → ValidLeaveAll now (timedOut now m)
+  unfolding timedOut hasRun
+  timed-valid m v = go (leb (m .start + leaveAllTime) now) refl
+    where
+      go : (t : Bool) → leb (m .start + leaveAllTime) now ≡ t → ValidLeaveAll now (cond t (leaveAllNext now leavealltimer m) m)
+      go true e = record { past = rw (started-now m) (omega arith); recent = rw (started-now m) (omega arith) }
+      go false e = record { past = omega (arith, v .past, later); recent = leb-false (m .start + leaveAllTime) now e }
+
+  module _ (st : Settings) (l : List Sender) (p : ℕ) where
+    sender-valid : p < length (st .ports) → ValidSender (declaresSlot st p) clock (senderAt l p) → ValidSender (declaresSlot st p) now (timeSender st now l p)
+    unfolding timeSender isPort
+    sender-valid h v = rw (lt-ltb p (length (st .ports)) h) record { slotted = v .slotted; domains = v .domains; leaveAll = timed-valid (senderAt l p .leaveAll) (v .leaveAll) }
+
+    no-sender : length (st .ports) ≤ p → All (λ x. x ≡ noSender) (drop (length (st .ports)) l) → timeSender st now l p ≡ noSender
+    unfolding timeSender isPort senderAt
+    no-sender h n =
+        rw (le-ltb p (length (st .ports)) h, getD-past (λ x. x ≡ noSender) (length (st .ports)) l p noSender h refl n)
+
 -- The decision.
 
 module _ (sc : Scene) (named : sc .settings .bridgeId < 2 ^ 64) (few : length (sc .settings .ports) ≤ 8) (clock now : ℕ) (later : clock ≤ now) (s : List Stream) (x : Stream)
@@ -558,23 +750,70 @@ module _ (sc : Scene) (named : sc .settings .bridgeId < 2 ^ 64) (few : length (s
           one-declares (length (sc .settings .ports)) 8 0 (o .port) (decideAt sc now s x)
           (λ q n. rw (e, ne-eqb (o .port) q (λ f. n (sym f))) refl)
 
-  decided-valid : ValidStream (length (sc .settings .ports)) now (sc .settings .leaveTime) (decide sc now s x)
-  unfolding decide cellAt resultAt
-  decided-valid = record {
+  -- What is sent follows what is decided.
+
+  abbrev results : List Result
+  results = tabulate 8 0 (decideAt sc now s x)
+
+  results-valid : All (ValidResult now) results
+  results-valid = all-tabulate (ValidResult now) 8 0 (decideAt sc now s x) result-valid
+
+  no-other-results : All (λ y. y ≡ unsettled) (drop (length (sc .settings .ports)) results)
+  no-other-results =
+      all-drop-tabulate (λ y. y ≡ unsettled) (length (sc .settings .ports)) 8 0 (decideAt sc now s x)
+      (λ p h. unsettled-there p (omega arith))
+
+  abbrev values : Fixed
+  values = fixedOf (sourceOf x)
+
+  values-fit : ValidFixed values
+  values-fit = fixed-valid now (sc .settings .leaveTime) (sourceOf x) source-fits
+
+  sent : ℕ → Sends
+  sent p = declareSends values (getD results p unsettled) (getD (x .sends) p noSends)
+
+  sent-valid : (p : ℕ) → ValidSends (sent p)
+  unfolding sent
+  sent-valid p =
+      sends-valid now values values-fit (getD results p unsettled) (all-getD (ValidResult now) results results-valid unsettled (unsettled-valid now) p)
+      (getD (x .sends) p noSends) (all-getD ValidSends (x .sends) (r .sends) noSends no-sends-valid p)
+
+  sent-follows : (p : ℕ) → sentFormed (getD results p unsettled) (sent p) ≡ true
+  unfolding sent
+  sent-follows p = sends-follow values (getD results p unsettled) (getD (x .sends) p noSends)
+
+  sent-there : (p : ℕ) → p < 8 → sentFormed (getD results p unsettled) (getD (tabulate 8 0 sent) p noSends) ≡ true
+  sent-there p h = rw (at-place sent p noSends h) (sent-follows p)
+
+  none-sent : (p : ℕ) → length (sc .settings .ports) ≤ p → sent p ≡ noSends
+  unfolding sent
+  none-sent p h =
+      let ports = length (sc .settings .ports) in
+      rw (
+        getD-past (λ y. y ≡ unsettled) ports results p unsettled h refl no-other-results,
+        getD-past (λ y. y ≡ noSends) ports (x .sends) p noSends h refl (r .no-other-sends),
+      )
+      (nothing-sent values)
+
+  declared-valid : isHeld (declare (decide sc now s x)) ≡ true → ValidStream (length (sc .settings .ports)) now (sc .settings .leaveTime) (declare (decide sc now s x))
+  unfolding declare decide cellAt resultAt sendsAt sent
+  declared-valid is-held = record {
     id = r .id;
-    settled = fixed-valid now (sc .settings .leaveTime) (sourceOf x) source-fits;
+    settled = values-fit;
     eight-cells = r .eight-cells;
     cells = r .cells;
     no-other-cells = r .no-other-cells;
-    is-held = r .is-held;
+    is-held = is-held;
     eight-results = length-tabulate 8 0 (decideAt sc now s x);
-    results = all-tabulate (ValidResult now) 8 0 (decideAt sc now s x) result-valid;
-    no-other-results =
-        all-drop-tabulate (λ y. y ≡ unsettled) (length (sc .settings .ports)) 8 0 (decideAt sc now s x)
-        (λ p h. unsettled-there p (omega arith));
+    results = results-valid;
+    no-other-results = no-other-results;
     idle = idle-decided;
     stored = λ p h. rw (at-place (decideAt sc now s x) p unsettled (omega arith)) (unfold n in stored-decided p h);
     one-declares = one-decided;
+    eight-sends = length-tabulate 8 0 sent;
+    sends = all-tabulate ValidSends 8 0 sent sent-valid;
+    sent = λ p h. sent-there p (omega arith);
+    no-other-sends = all-drop-tabulate (λ y. y ≡ noSends) (length (sc .settings .ports)) 8 0 sent (λ p h. none-sent p (omega arith));
   }
 
 -- Totals: at most what they may be, and so none where there is no port.
@@ -601,7 +840,7 @@ totals-within some (suc n) p (q ∷ qs) f h =
     rw (le-leb (f p .totalA) (atMost some (q .supportsA) (q .limitA)) (here .0), le-leb (f p .totalB) (atMost some (q .supportsB) (inForce q (f p .totalA) classB)) (here .1))
     (totals-within some n (suc p) qs f (λ i q e. h (suc i) q (omega arith)))
 
--- without streams nothing is claimed, nor where the port does not support the class
+-- without registrations nothing is claimed, nor where the port does not support the class
 pub same-class : (a b : Class) → sameClass a b ≡ true → a ≡ b
 unfolding sameClass
 same-class noClass b e = absurd (false≢true e)
@@ -613,19 +852,25 @@ same-class classB classA e = absurd (false≢true e)
 same-class classB classB e = refl
 
 module _ (sc : Scene) (now p : ℕ) where
+  pub nowhere-stops : (x : Stream) → sourceOf x ≡ nowhere → clear (steps sc p x) ≡ false
+  unfolding steps stepsFrom clear
+  nowhere-stops x e = rw (e, and-false)
+
   stopped : (x : Stream) → supports (portAt (sc .settings) p) (streamClass (sc .settings) x) ≡ false → clear (steps sc p x) ≡ false
   unfolding streamClass fixedOf steps stepsFrom clear
   stopped x f = go (sourceOf x) refl
     where
       go : (t : Source) → sourceOf x ≡ t → clear (steps sc p x) ≡ false
-      go nowhere e = rw (e, and-false)
+      go nowhere e = nowhere-stops x e
       go (from o) e = rw (e, rw e at f, and-false, and-false) refl
 
   module _ (c : Class) where
-    nothing-held : (s : List Stream) → length s < 1 → claims sc now p c s ≡ []
-    unfolding claims
+    nothing-held : (s : List Stream) → anyHeld s ≡ false → claims sc now p c s ≡ []
+    unfolding claims anyHeld sourceOf
     nothing-held [] h = refl
-    nothing-held (x ∷ s) h = absurd (omega arith)
+    nothing-held (x ∷ s) h =
+        let idle = or-false (held (x .cells)) (anyHeld s) h in
+        rw (nowhere-stops x (unheld-nowhere 0 (x .cells) (idle .0))) (nothing-held s (idle .1))
 
     unsupported : supports (portAt (sc .settings) p) c ≡ false → (s : List Stream) → claims sc now p c s ≡ []
     unfolding claims
@@ -636,20 +881,20 @@ module _ (sc : Scene) (now p : ℕ) where
         unclaimed true e = rw (stopped x (ap (supports (portAt (sc .settings) p)) (same-class (streamClass (sc .settings) x) c e) ∙ f)) refl
         unclaimed false e = rw e (and-false (clear (steps sc p x)))
 
-    pub total-at-most : (s : List Stream) → totalOn sc now s p c ≤ atMost (leb 1 (length s)) (supports (portAt (sc .settings) p) c) (limitOn sc now s p c)
+    pub total-at-most : (s : List Stream) → totalOn sc now s p c ≤ atMost (anyHeld s) (supports (portAt (sc .settings) p) c) (limitOn sc now s p c)
     unfolding totalOn total atMost
-    total-at-most s = go (leb 1 (length s)) (supports (portAt (sc .settings) p) c) refl refl
+    total-at-most s = go (anyHeld s) (supports (portAt (sc .settings) p) c) refl refl
       where
-        go : (some supported : Bool) → leb 1 (length s) ≡ some → supports (portAt (sc .settings) p) c ≡ supported
+        go : (some supported : Bool) → anyHeld s ≡ some → supports (portAt (sc .settings) p) c ≡ supported
             → reserved (limitOn sc now s p c) (sort (claims sc now p c s)) ≤ cond (some && supported) (limitOn sc now s p c) 0
         go true true e f = within (limitOn sc now s p c) (sort (claims sc now p c s))
         go true false e f = rw (unsupported f s) (unfold sort reserved in omega arith)
-        go false t e f = rw (nothing-held s (leb-false 1 (length s) e)) (unfold sort reserved in omega arith)
+        go false t e f = rw (nothing-held s e) (unfold sort reserved in omega arith)
 
-settled-totals : (sc : Scene) (now : ℕ) (s : List Stream) → totalsWithin (leb 1 (length s)) (tabulate 8 0 (totalsOn sc now s)) (sc .settings .ports) ≡ true
+settled-totals : (sc : Scene) (now : ℕ) (s : List Stream) → totalsWithin (anyHeld s) (tabulate 8 0 (totalsOn sc now s)) (sc .settings .ports) ≡ true
 unfolding totalsOn supports totalOn limitOn inForce reservedA portAt
 settled-totals sc now s =
-    totals-within (leb 1 (length s)) 8 0 (sc .settings .ports) (totalsOn sc now s)
+    totals-within (anyHeld s) 8 0 (sc .settings .ports) (totalsOn sc now s)
     (λ i q e. let same : i ≡ q = omega arith in rw same (total-at-most sc now q classA s, total-at-most sc now q classB s))
 
 -- The call.
@@ -660,23 +905,35 @@ decided-ids sc now s [] = refl
 decided-ids sc now s (x ∷ l) = ap (λ (is : List ℕ). x .id ∷ is) (decided-ids sc now s l)
 
 pub settle-keeps : (b : Bridge) (now : ℕ) → now < 2 ^ 32 → b .clock ≤ now → Valid b → Valid (settle now b)
-unfolding settle decideOwns
+unfolding settle declaring deciding decideOwns senderAt
 settle-keeps b now small later v = record {
   settings = v .settings;
   clock = small;
   eight-totals = length-tabulate 8 0 (totalsOn sc now s);
-  totals = rw (length-map s (decide sc now s)) (settled-totals sc now s);
+  totals = rw (held-dropped (map declare decisions), held-declared decisions, held-decided sc now s s) (settled-totals sc now s);
   eight-owns = length-tabulate 8 0 (decideOwn st now (b .owns));
   owns = all-tabulate (ValidOwn now (st .leaveTime)) 8 0 (decideOwn st now (b .owns)) (own-valid st (b .clock) now later (b .owns) (v .owns));
   no-other-owns =
       all-drop-tabulate (λ o. o ≡ noOwn) ports 8 0 (decideOwn st now (b .owns))
       (λ p h. none-there st (b .clock) now later (b .owns) (v .owns) (v .no-other-owns) p (omega arith));
-  at-most-64 = rw (length-map s (decide sc now s)) (omega (arith, fewer-remain st now (b .streams), v .at-most-64));
+  eight-senders = length-tabulate 8 0 (timeSender st now (b .senders));
+  senders = λ p h.
+      rw (at-place (timeSender st now (b .senders)) p noSender (omega (arith, h, v .settings .eight-ports)))
+      (sender-valid (b .clock) now later st (b .senders) p h (v .senders p h));
+  no-other-senders =
+      all-drop-tabulate (λ x. x ≡ noSender) ports 8 0 (timeSender st now (b .senders))
+      (λ p h. no-sender (b .clock) now later st (b .senders) p (omega arith) (v .no-other-senders));
+  at-most-64 = fewer;
   streams =
-      all-mapped (Remaining ports (b .clock) now (st .leaveTime)) (ValidStream ports now (st .leaveTime)) (decide sc now s)
-      (decided-valid sc (v .settings .bridgeId) (v .settings .eight-ports) (b .clock) now later s) s
-      (streams-remain st (b .clock) now ports later (b .streams) (v .streams));
-  ascending = rw (decided-ids sc now s s) (remain-rising st now (b .streams) (v .ascending));
+      all-dropped (λ y. isHeld y ≡ true → ValidStream ports now (st .leaveTime) y) (ValidStream ports now (st .leaveTime)) (λ y h k. k h) (map declare decisions)
+      (all-mapped (λ y. isHeld (declare y) ≡ true → ValidStream ports now (st .leaveTime) (declare y)) (λ y. isHeld y ≡ true → ValidStream ports now (st .leaveTime) y) declare
+      (λ y k. k) decisions
+      (all-mapped (Remaining ports (b .clock) now (st .leaveTime)) (λ y. isHeld (declare y) ≡ true → ValidStream ports now (st .leaveTime) (declare y)) (decide sc now s)
+      (declared-valid sc (v .settings .bridgeId) (v .settings .eight-ports) (b .clock) now later s) s
+      (streams-remain st (b .clock) now ports later (b .streams) (v .streams))));
+  ascending =
+      dropped-rising (map declare decisions)
+      (rw (declared-ids decisions, decided-ids sc now s s) (remain-rising st now (b .streams) (v .ascending)));
 }
   where
     st : Settings
@@ -690,6 +947,15 @@ settle-keeps b now small later v = record {
 
     sc : Scene
     sc = record { settings = st; owns = decideOwns st now (b .owns); inbound = inboundsOf s }
+
+    decisions : List Stream
+    decisions = map (decide sc now s) s
+
+    fewer : length (dropUnheld (map declare decisions)) ≤ 64
+    fewer =
+        let same : length (map declare decisions) ≡ length (b .streams) =
+        length-map decisions declare ∙ length-map s (decide sc now s) ∙ (unfold remain in length-map (b .streams) (expire st now)) in
+        omega (arith, fewer-dropped (map declare decisions), same, v .at-most-64)
 
 pub advance-keeps : (b : Bridge) (now : ℕ) → now < 2 ^ 32 → Valid b → Valid (advance b now .bridge)
 unfolding advance

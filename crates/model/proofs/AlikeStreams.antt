@@ -13,8 +13,8 @@ use Rattle.model.specs.Lists.{All, keep}
 use Rattle.model.specs.State.{Settings, Stream, Bridge, Class, sameClass, resultAt}
 use Rattle.model.specs.Registrations.{ids}
 use Rattle.model.specs.Bandwidth.{Claim, moreImportant, key, above}
-use Rattle.model.specs.Settling.{Scene, expire, held, remain, streamClass, clear, steps, claim, claims}
-use Rattle.model.proofs.Lists.{all-keep, and-left, and-right, and-both}
+use Rattle.model.specs.Settling.{Scene, expire, remain, streamClass, clear, steps, claim, claims}
+use Rattle.model.proofs.Lists.{and-left, and-right, and-both}
 use Rattle.model.proofs.Valid.{Rising, Valid}
 use Rattle.model.proofs.AdvanceKeepsForm.{remain-all, remain-rising}
 use Rattle.model.proofs.Admission.{all-above, all-mem}
@@ -134,7 +134,7 @@ module _ (now p : ℕ) (s s′ : List Stream) (o : Orderly now p s) (o′ : Orde
 remain-young : (st : Settings) (now p : ℕ) (s : List Stream) → All (Young now p) s → All (Young now p) (remain st now s)
 unfolding remain expire resultAt
 remain-young st now p [] a = tt
-remain-young st now p (x ∷ s) a = all-keep (Young now p) (held (expire st now x .cells)) (expire st now x) (remain st now s) (a .0) (remain-young st now p s (a .1))
+remain-young st now p (x ∷ s) a = (a .0, remain-young st now p s (a .1))
 
 -- What an advance leaves of a valid bridge is such.
 module _ (now p : ℕ) (small : now < 2 ^ 32) (b : Bridge) (v : Valid b) (later : b .clock ≤ now) where

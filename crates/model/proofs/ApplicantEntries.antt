@@ -7,7 +7,7 @@ use Prim.Native.Nat.{ℕ, zero, suc, _≤_}
 use native.Mathlib.Omega.{arith}
 use lib.ListN.{getD}
 use Rattle.model.specs.Lists.{All, allTrue}
-use Rattle.model.specs.Applicant.{ApplicantState, vo, vp, vn, an, aa, qa, la, lo, ApplicantEvent, begin, new, join, lv, rNew, rJoinIn, rIn, rJoinMt, rMt, rLv, rLA, redeclare, periodic, tx, txLA, txLAF, Message, silent, sN, sJ, s, sL, optional, to, by, afterNew, passiveLeavingAll, newLeavingAll, applicantRow, applicantColumn, applicantEntry, isWritten, messageNumber, Standing, veryAnxiousPassive, veryAnxiousNew, anxiousNew, anxiousActive, quietActive, leavingActive, named, standing, becomes, sent, speaks, spoken, stateOf, octetOf, step, asks, eventAt}
+use Rattle.model.specs.Applicant.{ApplicantState, la, ApplicantEvent, begin, new, join, lv, rNew, rJoinIn, rIn, rJoinMt, rMt, rLv, rLA, redeclare, tx, txLA, txLAF, to, by, afterNew, passiveLeavingAll, newLeavingAll, applicantRow, applicantColumn, applicantEntry, isWritten, messageNumber, Standing, veryAnxiousPassive, veryAnxiousNew, anxiousNew, anxiousActive, quietActive, leavingActive, named, standing, becomes, sent, speaks, spoken, stateOf, octetOf, step, asks, eventAt}
 use Rattle.model.proofs.Lists.{all-true}
 
 -- to open the table: a definition that unfolds as all of these do

@@ -10,13 +10,13 @@ use lib.Seq.{length-take-le, take-at, drop-at}
 use lib.Dec.{eqb, leb}
 use borrow.Author.Tests.{eq-eqb, ne-eqb, le-leb, leb-true}
 use Rattle.octets.specs.Parts.{zeros}
-use Rattle.model.specs.Lists.{Octets}
-use Rattle.model.specs.Table.{allZero}
-use Rattle.model.proofs.Parts.{length-zeros, zeros-add, zero-zeros, zeros-zero, octets-take, octets-drop}
+use Rattle.model.specs.Lists.{Octets, allZero}
+use Rattle.model.proofs.Parts.{length-zeros, octets-zeros, zeros-add, zero-zeros, zeros-zero, octets-take, octets-drop}
+use Rattle.model.proofs.Valid.{GoodApplicant}
 use Rattle.model.proofs.Coded.{Coded}
 use Rattle.model.proofs.Lists.{and-left, and-right, and-both}
 use Rattle.model.specs.Applicant.{Standing, veryAnxiousPassive, veryAnxiousNew, anxiousNew, anxiousActive, quietActive, leavingActive, named, octetOf}
-use Rattle.model.specs.Machines.{Listed, Applicant, noApplicant, applicant}
+use Rattle.model.specs.Machines.{Applicant, noApplicant, applicant}
 use Rattle.model.specs.Sending.{standingNumber, toStanding, applicantOctets, toApplicant, applicantFormed, bothOctets, toBoth, bothFormed}
 
 -- States.
@@ -62,10 +62,17 @@ pub record Values {A : Type 0} (n : ℕ) (to : A → List ℕ) (from : List ℕ 
   pub forth : (s : List ℕ) → length s ≡ n → Octets s → rule s ≡ true → to (from s) ≡ s
   pub valid : (s : List ℕ) → length s ≡ n → Octets s → rule s ≡ true → Good (from s)
 
--- a machine with a good value, or none
-abbrev pub GoodApplicant : {A : Type 0} → (A → Type 0) → Applicant A → Type 0
-GoodApplicant Good noApplicant = Unit {0}
-GoodApplicant Good (applicant x) = Good (x .value)
+-- the octets of an Applicant, whatever it declares
+module _ {A : Type 0} (n : ℕ) (to : A → List ℕ) where
+  pub applicant-length : ((a : A) → length (to a) ≡ n) → (x : Applicant A) → length (applicantOctets n to x) ≡ suc n
+  unfolding applicantOctets
+  applicant-length h noApplicant = ap suc (length-zeros n)
+  applicant-length h (applicant x) = ap suc (h (x .value))
+
+  pub applicant-octets : ((a : A) → Octets (to a)) → (x : Applicant A) → Octets (applicantOctets n to x)
+  unfolding applicantOctets
+  applicant-octets h noApplicant = (omega arith, octets-zeros n)
+  applicant-octets h (applicant x) = (omega (arith, standing-few (x .state) .1), h (x .value))
 
 -- An Applicant.
 module _ {A : Type 0} {n : ℕ} {to : A → List ℕ} {from : List ℕ → A} {rule : List ℕ → Bool} {Good : A → Type 0}

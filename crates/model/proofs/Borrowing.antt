@@ -7,7 +7,7 @@ use native.Mathlib.Nat.{sub-zero}
 use Rattle.model.specs.Lists.{All}
 use Rattle.model.specs.State.{Stream, Class, classA, classB, sameClass, bothLimits, inForce, portAt}
 use Rattle.model.specs.Bandwidth.{Claim, sort, reserved, total}
-use Rattle.model.specs.Settling.{Scene, streamClass, clear, steps, claim, claims, reservedA, limitOn, leftFor, columnOf, totalOn}
+use Rattle.model.specs.Settling.{Scene, streamClass, clear, steps, claims, reservedA, limitOn, leftFor, columnOf, totalOn}
 use Rattle.model.proofs.Lists.{and-false}
 use Rattle.model.proofs.ColumnRule.{claims-append}
 

@@ -10,9 +10,10 @@ use lib.ListN.{length, getD}
 use lib.Dec.{eqb}
 use borrow.Author.Tests.{eqb-false, ne-eqb, lt-ltb}
 use Rattle.model.specs.State.{Port, Settings, Cell, Domain, noDomain, domain, Own, noOwn, failed, Stream, Bridge, noPort, portAt, isPort, cellAt, ownAt, Class, noClass, classA, classB, classOf, isNoClass, supports, classPriority}
-use Rattle.model.specs.Settling.{Source, nowhere, from, sourceOf, fixedOf, talkerTypeOf, streamClass, isDomain, anyDomain, otherPriority, domainsOf, anySupports, isEdge, flagOf, decideOwn, decideOwns, boundary, Scene, clear, isTalkerFailed, stepsFrom, steps, columnOf, settle}
+use Rattle.model.specs.Settling.{Source, nowhere, from, sourceOf, fixedOf, talkerTypeOf, streamClass, isDomain, anyDomain, otherPriority, domainsOf, anySupports, isEdge, flagOf, decideOwn, decideOwns, boundary, Scene, clear, isTalkerFailed, Inbound, stepsFrom, steps, columnOf, settle, deciding, declaring}
 use Rattle.model.specs.Table.{columnCode}
-use Rattle.model.proofs.OwnCodes.{gives, earlier, asked, never, once, stepsOf, no-talker, own-decided, own-only}
+use Rattle.model.proofs.OwnCodes.{gives, earlier, asked, never, once, stepsOf, own-decided, own-only, no-talker}
+use Rattle.model.proofs.Lists.{at-place}
 use Rattle.model.proofs.ColumnRule.{at-place}
 
 -- h), condition by condition; a port declares the classes that it supports.
@@ -151,7 +152,7 @@ module _ (now : ℕ) (b : Bridge) (p : ℕ) (port : p < length (b .settings .por
   left = ownAt (settle now b .owns) p
 
   decided : left ≡ decideOwn (b .settings) now (b .owns) p
-  unfolding settle decideOwns
+  unfolding settle declaring deciding decideOwns
   decided = at-place (decideOwn (b .settings) now (b .owns)) p noOwn eight
 
   settled-flag : (c : Class) → isNoClass c ≡ false → boundary left c ≡ isEdge (b .settings) p c (left .domains)

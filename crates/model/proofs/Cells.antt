@@ -2,27 +2,27 @@
 -- are well-formed exactly when the cell is valid.
 use mathlib.Core.Path.{_≡_, refl, sym, ap, _∙_}
 use mathlib.Core.List.{List, [], _∷_, _++_}
-use mathlib.Core.Bool.{Bool, true, false, cond, not, _||_, or-assoc, or-false, false≢true}
+use mathlib.Core.Bool.{Bool, true, false, cond, not, _||_, or-assoc, false≢true}
 use Prim.Native.Nat.{ℕ, zero, suc, _+_, _-_, _*_, _%_, _^_, _≤_, _<_}
 use native.Mathlib.Omega.{arith}
-use lib.ListN.{length, getD, take, drop, length-append, take-append-drop}
+use lib.ListN.{length, getD, take, drop, length-append}
 use lib.Seq.{getD-take, getD-append-seam, getD-append-add}
 use lib.Dec.{eqb, leb, ltb}
 use borrow.Author.Tests.{eqb-true, leb-true, ltb-true, eq-eqb, ne-eqb, le-leb, lt-ltb}
 use Rattle.octets.specs.Be.{beAt}
 use Rattle.octets.specs.Parts.{zeros}
-use Rattle.octets.specs.Fields.{fields, Fit, width, flat}
+use Rattle.octets.specs.Fields.{fields, Fit, width}
 use Rattle.octets.proofs.Fields.{length-packed-any, fields-of-packed, fields-fit, fit-at, fit-append, fit-zeros, packed-zeros}
-use Rattle.model.specs.Layout.{cellIndex, cellFields, cellSize, cellWidths, fixedWidths, inCell}
-use Rattle.model.specs.Lists.{All, allTrue, implies, tabulate, parts, Octets, bit, isOne}
+use Rattle.model.specs.Layout.{cellFields, cellIndex, cellSize, cellWidths, fixedWidths, inCell}
+use Rattle.model.specs.Lists.{All, allTrue, implies, tabulate, parts, Octets, bit, isOne, allZero}
 use Rattle.model.specs.State.{Leaving, stays, since, Fixed, TalkerType, talkerAdvertise, talkerFailed, Registration, Talker, noTalker, talker, Ready, askingFailed, ready, readyFailed, Listener, noListener, listener, Cell, empty, readyNumber}
-use Rattle.model.specs.Frames.{priorityOf, rankOf}
-use Rattle.model.specs.WrittenFrames.{priorityOctet, fixedNumbers}
+use Rattle.model.specs.Frames.{priorityOf, rankOf, also}
+use Rattle.model.specs.WrittenFrames.{priorityOctet, fixedNumbers, fixedFrom, toReady}
 use Rattle.model.specs.Settling.{isTalking, isHearing, held}
-use Rattle.model.specs.Table.{leavingNumber, sinceNumber, toLeaving, talkerTypeNumber, bridgeNumber, codeNumber, toTalkerType, talkerNumbers, listenerNumbers, cellNumbers, fixedFrom, toReady, registrationFrom, talkerFrom, listenerFrom, cellFrom, cellOctets, toCell, between, allZero, leavingRule, cellRules, cellFormed, holds}
+use Rattle.model.specs.Table.{leavingNumber, sinceNumber, toLeaving, talkerTypeNumber, bridgeNumber, codeNumber, toTalkerType, talkerNumbers, listenerNumbers, cellNumbers, registrationFrom, talkerFrom, listenerFrom, cellFrom, cellOctets, toCell, between, leavingRule, cellRules, cellFormed, holds}
 use Rattle.model.proofs.Lists.{all-each, and-left, and-right, and-both, implied, all-true, true-all}
 use Rattle.model.proofs.Valid.{ValidLeaving, ValidFixed, ValidTalkerType, ValidTalker, ValidListener, ValidCell}
-use Rattle.model.proofs.Parts.{octets-at, octets-packed, _also_, zero-run, two-zero, packed-whole, parts-take, parts-flat, Sized}
+use Rattle.model.proofs.Parts.{_also_, octets-at, octets-packed, zero-run, two-zero, packed-whole, Sized}
 
 -- Fixed values: five numbers, the last of them priority and rank.
 
@@ -479,26 +479,3 @@ holds-parts (suc k) s =
       getD-take cellSize s inCell.listener 0 (omega arith),
       holds-parts k (drop cellSize s),
     )
-
--- read: some of the first k cells, so some of the m cells
-pub holds-held : (k m : ℕ) (s : List ℕ) → k ≤ m → holds k s ≡ true → held (parts cellSize toCell m s) ≡ true
-holds-held k m s l h =
-    let cells = parts cellSize toCell m s in
-    ap held (sym (take-append-drop k cells))
-    ∙ held-append (take k cells) (drop k cells)
-    ∙ ap (λ (l : List Cell). held l || held (drop k cells)) (parts-take cellSize toCell k m s l)
-    ∙ ap (λ (b : Bool). b || held (drop k cells)) (sym (holds-parts k s) ∙ h)
-
--- written: some of the cells, and none after the first k
-pub held-holds : (k : ℕ) (cells : List Cell) (after : List ℕ) → All (λ c. toCell (cellOctets c) ≡ c) cells → k ≤ length cells
-    → All (λ c. c ≡ empty) (drop k cells) → held cells ≡ true → holds k (flat cellOctets cells ++ after) ≡ true
-held-holds k cells after back l z h =
-    let s = flat cellOctets cells ++ after in
-    let front : parts cellSize toCell k s ≡ take k cells =
-    sym (parts-take cellSize toCell k (length cells) s l) ∙ ap (take k) (parts-flat cellSize cellOctets toCell cells after (cells-sized cells) back) in
-    let whole : held cells ≡ held (take k cells) =
-    ap held (sym (take-append-drop k cells))
-    ∙ held-append (take k cells) (drop k cells)
-    ∙ ap (λ (b : Bool). held (take k cells) || b) (held-empty (drop k cells) z)
-    ∙ or-false (held (take k cells)) in
-    holds-parts k s ∙ ap held front ∙ sym whole ∙ h

@@ -1,18 +1,18 @@
 -- Things that stand in the table one after another, each in as many octets, where those behind the first k are blank: cells,
 -- results, Domain values, what each port holds.
-use mathlib.Core.Path.{_≡_, sym, _∙_, ap}
-use mathlib.Core.List.{List, [], append-nil}
-use mathlib.Core.Bool.{Bool, true}
+use mathlib.Core.Path.{_≡_, refl, sym, _∙_, ap}
+use mathlib.Core.List.{List, [], _++_, append-nil}
+use mathlib.Core.Bool.{Bool, true, false, _||_}
 use Prim.Native.Nat.{ℕ, _*_, _≤_}
 use native.Mathlib.Omega.{arith}
-use lib.ListN.{length, drop}
+use lib.ListN.{length, take, drop, take-append-drop}
 use lib.Seq.{take-all}
 use Rattle.octets.specs.Fields.{flat}
 use Rattle.octets.specs.Parts.{zeros}
-use Rattle.model.specs.Lists.{All, parts, Octets}
-use Rattle.model.specs.Table.{everyPart, allZero}
+use Rattle.model.specs.Lists.{All, parts, Octets, allZero}
+use Rattle.model.specs.Table.{everyPart}
 use Rattle.model.proofs.Lists.{all-map}
-use Rattle.model.proofs.Parts.{Sized, many-read, every-read, every-forth, every-fewer, every-padded, parts-padded, zero-padded, every-flat}
+use Rattle.model.proofs.Parts.{Sized, parts-take, many-read, every-read, every-forth, every-fewer, every-padded, parts-padded, zero-padded, every-flat}
 
 -- m things of n octets each, of which those after the first k are the blank one, written as zeros: cells, and results.
 
@@ -62,3 +62,19 @@ module _ {A : Type 0} {n : ℕ} {to : A → List ℕ} {from : List ℕ → A} {r
 
     pub many-others : All (λ a. a ≡ e) (drop k (parts n from m s))
     many-others = all-map (λ a. a ≡ from (zeros n)) (λ a. a ≡ e) (λ a p. p ∙ zeros-say) (drop k (parts n from m s)) (parts-padded n from k m s h q z)
+
+-- A test that some of the first k things passes, on octets and on what they say, where a blank one fails it.
+module _ {A : Type 0} (n : ℕ) (from : List ℕ → A) (e : A) (test : ℕ → List ℕ → Bool) (some : List A → Bool)
+    (read : (k : ℕ) (s : List ℕ) → test k s ≡ some (parts n from k s)) (append : (l m : List A) → some (l ++ m) ≡ (some l || some m))
+    (none : (l : List A) → All (λ a. a ≡ e) l → some l ≡ false) where
+  or-none : (b : Bool) → (b || false) ≡ b
+  or-none true = refl
+  or-none false = refl
+
+  pub some-is : (k m : ℕ) (s : List ℕ) → k ≤ m → All (λ a. a ≡ e) (drop k (parts n from m s)) → test k s ≡ some (parts n from m s)
+  some-is k m s h z =
+      let l = parts n from m s in
+      let whole : some l ≡ some (take k l) =
+      ap some (sym (take-append-drop k l)) ∙ append (take k l) (drop k l) ∙ ap (λ (b : Bool). some (take k l) || b) (none (drop k l) z)
+      ∙ or-none (some (take k l)) in
+      read k s ∙ ap some (sym (parts-take n from k m s h)) ∙ sym whole

@@ -1,4 +1,4 @@
--- What advance leaves is what the rules of settling give, in their own terms: each column is the first step that applies,
+-- What advance decides is what the rules of settling give, in their own terms: each column is the first step that applies,
 -- with what is left computed from the columns of the more important streams; entries, latencies and Listeners follow from the
 -- columns; each class total is the sum of what is reserved and at most its limit; and less important streams, or such as
 -- reserve nothing, change none of it (01, "Settling").
@@ -13,9 +13,9 @@ use borrow.Author.Tests.{ltb-true, ltb-false, lt-leb, le-leb}
 use Rattle.model.specs.Lists.{All, keep, tabulate}
 use Rattle.model.specs.State.{Settings, isPort, TalkerType, talkerAdvertise, talkerFailed, Column, advertise, failed, Entry, noEntry, filters, forwards, Declared, nothing, Result, Stream, Bridge, Class, noClass, classA, classB, sameClass, supports, bothLimits, inForce, portAt, cellAt, resultAt, unsettled, Totals, noTotals}
 use Rattle.model.specs.Registrations.{ids}
-use Rattle.model.specs.Table.{atMost}
+use Rattle.model.specs.Table.{atMost, anyHeld}
 use Rattle.model.specs.Bandwidth.{Claim, key, above, sort, reserved, remains, admitted, total, taken}
-use Rattle.model.specs.Settling.{Scene, sceneOf, decideOwns, remain, Source, sourceOf, isSource, fixedOf, talkerTypeOf, streamClass, registered, isReady, isAdvertise, Outcome, columnNone, asRegistered, ownFailure, Step, first, clear, failedColumn, outcomeColumn, steps, ageOf, claim, claims, reservedA, limitOn, leftFor, byBandwidth, columnOf, latencyOut, entryOf, ageKept, latencyKept, passed, mergeAll, merged, decideAt, decide, totalOn, totalsOn, settle, Inbound, inboundsOf, nowhere, from, asAdvertise, stepA, outcomeOf, about, bandwidthSteps, stepsFrom}
+use Rattle.model.specs.Settling.{Scene, sceneOf, decideOwns, remain, Source, nowhere, from, sourceOf, isSource, fixedOf, talkerTypeOf, streamClass, registered, isReady, isAdvertise, Outcome, columnNone, asRegistered, ownFailure, Step, first, clear, failedColumn, outcomeColumn, steps, ageOf, claim, claims, reservedA, limitOn, leftFor, byBandwidth, columnOf, latencyOut, entryOf, ageKept, latencyKept, passed, mergeAll, merged, decideAt, decide, totalOn, totalsOn, deciding, Inbound, inboundsOf, asAdvertise, bandwidthSteps, outcomeOf, stepA, stepsFrom, about, settle}
 use Rattle.model.proofs.Lists.{all-map, all-both, all-each, and-right, and-true, and-false}
 use Rattle.model.proofs.StepNames.{everyStep, every-all, notAdmitted}
 use Rattle.model.proofs.Valid.{Rising}
@@ -106,6 +106,7 @@ pub record Settled (b : Bridge) : Type 0 where
 pub record Carried (now : ℕ) (x y : Stream) : Type 0 where
   pub id : y .id ≡ x .id
   pub cells : y .cells ≡ x .cells
+  pub sends : y .sends ≡ x .sends
   -- "Age is counted from the whole second, clock / 100 rounded down, of the advance that first made an entry; it is forgotten
   -- when the entry goes"
   pub ages : (p : ℕ) → p < 8 → resultAt y p .age ≡ ageKept (resultAt y p .entry) (ageOf now (resultAt x p))
@@ -117,12 +118,13 @@ Pairwise R [] (y ∷ m) = ⊥
 Pairwise R (x ∷ l) [] = ⊥
 Pairwise R (x ∷ l) (y ∷ m) = R x y × Pairwise R l m
 
--- The bridge c is what an advance of b to the time now leaves: "Advance sets the clock, removes every registration leaving
--- for at least the leave time, drops unheld streams, then decides".
-pub record Advanced (now : ℕ) (b c : Bridge) : Type 0 where
+-- The bridge c is what an advance of b to the time now decides, before Lv! and Join!: "Advance sets the clock, removes every registration
+-- leaving for at least the leave time .., then decides".
+pub record Decides (now : ℕ) (b c : Bridge) : Type 0 where
   pub settings : c .settings ≡ b .settings
   pub clock : c .clock ≡ now
   pub owns : c .owns ≡ decideOwns (b .settings) now (b .owns)
+  pub senders : c .senders ≡ b .senders
   pub streams : Pairwise (Carried now) (remain (b .settings) now (b .streams)) (c .streams)
   pub decided : Settled c
 
@@ -314,7 +316,7 @@ module _ (sc : Scene) (now : ℕ) (s : List Stream) (p : ℕ) where
   -- where the port does not support class A, its total is 0
   a-of-both : totalOn sc now s p classA ≤ bothLimits (portAt (sc .settings) p)
   unfolding bothLimits supports limitOn inForce atMost
-  a-of-both = go (leb 1 (length s)) (portAt (sc .settings) p .supportsA) (total-at-most sc now p classA s)
+  a-of-both = go (anyHeld s) (portAt (sc .settings) p .supportsA) (total-at-most sc now p classA s)
     where
       go : (some supported : Bool) → totalOn sc now s p classA ≤ cond (some && supported) (portAt (sc .settings) p .limitA) 0
           → totalOn sc now s p classA ≤ cond supported (portAt (sc .settings) p .limitA) 0 + portAt (sc .settings) p .limitB
@@ -479,7 +481,7 @@ module _ (sc : Scene) (now : ℕ) (s : List Stream) where
 
   decide-carries : (x : Stream) → Carried now x (decide sc now s x)
   unfolding decide decideAt
-  decide-carries x = record { id = refl; cells = refl; ages = λ p h. rw (decided-at x p h) }
+  decide-carries x = record { id = refl; cells = refl; sends = refl; ages = λ p h. rw (decided-at x p h) }
 
   decided-column : (x : Stream) (p : ℕ) → p < 8 → columnAt p (decide sc now s x) ≡ columnOf sc now s p x
   unfolding columnAt decideAt
@@ -571,24 +573,24 @@ module _ (now : ℕ) (b : Bridge) where
   abbrev there : Scene
   there = sceneWith (inboundsOf remaining)
 
-  settled-scene : sceneOf (settle now b) ≡ there
-  unfolding settle remaining decided
+  settled-scene : sceneOf (deciding now b) ≡ there
+  unfolding deciding remaining decided
   settled-scene = ap sceneWith (carried-inbound now remaining (decided there now remaining) (carries there now remaining))
 
   -- the totals that the settled bridge holds are those decided
-  total-kept : (p : ℕ) → p < 8 → (c : Class) → totalAt (settle now b) p c ≡ totalOn there now remaining p c
-  unfolding settle totalAt totalsOn limitOn inForce remaining
+  total-kept : (p : ℕ) → p < 8 → (c : Class) → totalAt (deciding now b) p c ≡ totalOn there now remaining p c
+  unfolding deciding totalAt totalsOn limitOn inForce remaining
   total-kept p h noClass = omega (arith, total-within there now remaining p noClass)
   total-kept p h classA = ap (λ (t : Totals). t .totalA) (at-place (totalsOn there now remaining) p noTotals h)
   total-kept p h classB = ap (λ (t : Totals). t .totalB) (at-place (totalsOn there now remaining) p noTotals h)
 
-  limits-kept : (p : ℕ) → p < 8 → (c : Class) → totalAt (settle now b) p c ≤ inForce (portAt (b .settings) p) (totalAt (settle now b) p classA) c
+  limits-kept : (p : ℕ) → p < 8 → (c : Class) → totalAt (deciding now b) p c ≤ inForce (portAt (b .settings) p) (totalAt (deciding now b) p classA) c
   limits-kept p h c =
       rw (total-kept p h c, total-kept p h classA, ← reserved-a there now remaining p)
-      (unfold limitOn settle in (total-within there now remaining p c))
+      (unfold limitOn deciding in (total-within there now remaining p c))
 
-  together-kept : (p : ℕ) → p < 8 → totalAt (settle now b) p classA + totalAt (settle now b) p classB ≤ bothLimits (portAt (b .settings) p)
-  together-kept p h = rw (total-kept p h classA, total-kept p h classB) (unfold settle in (totals-together there now remaining p))
+  together-kept : (p : ℕ) → p < 8 → totalAt (deciding now b) p classA + totalAt (deciding now b) p classB ≤ bothLimits (portAt (b .settings) p)
+  together-kept p h = rw (total-kept p h classA, total-kept p h classB) (unfold deciding in (totals-together there now remaining p))
 
   module _ (r : Rising (ids (b .streams))) (a : All Small (ids (b .streams))) where
     risen : Rising (ids remaining)
@@ -599,8 +601,8 @@ module _ (now : ℕ) (b : Bridge) where
     unfolding remaining
     small = remain-all (b .settings) now Small (b .streams) a
 
-    settled-stream : (x : Stream) → SettledStream (settle now b) (decide there now remaining x)
-    unfolding settle remaining decided decide tabulate sourceOf
+    settled-stream : (x : Stream) → SettledStream (deciding now b) (decide there now remaining x)
+    unfolding deciding remaining decided decide tabulate sourceOf
     settled-stream x = record {
       values = refl;
       places = refl;
@@ -614,24 +616,25 @@ module _ (now : ℕ) (b : Bridge) where
       };
     }
 
-    -- All that a settled bridge shows is what the rules give,
-    pub settled : Settled (settle now b)
-    unfolding settle remaining decided tabulate
+    -- All that it shows then is what the rules give,
+    pub settled : Settled (deciding now b)
+    unfolding deciding remaining decided tabulate
     settled = record {
-      streams = all-image (SettledStream (settle now b)) (decide there now remaining) settled-stream remaining;
+      streams = all-image (SettledStream (deciding now b)) (decide there now remaining) settled-stream remaining;
       places = refl;
       totals = λ p h c. total-kept p h c ∙ decided-total there now remaining p h risen small c;
       limits = limits-kept;
       together = together-kept;
     }
 
-    -- and so it is what an advance leaves.
-    pub advanced : Advanced now b (settle now b)
-    unfolding settle remaining decided
-    advanced = record {
+    -- and so it is what an advance decides.
+    pub decides : Decides now b (deciding now b)
+    unfolding deciding remaining decided
+    decides = record {
       settings = refl;
       clock = refl;
       owns = refl;
+      senders = refl;
       streams = carries there now remaining;
       decided = settled;
     }

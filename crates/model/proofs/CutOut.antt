@@ -21,7 +21,7 @@ use Rattle.model.proofs.Lists.{and-left, and-right}
 use Rattle.model.proofs.Parts.{part-between}
 use Rattle.model.proofs.FoundVectors.{no-fault, also-found, both-found, passed, Passed, passed-all}
 use Rattle.model.proofs.ReadBack.{VectorsRead, vectors-end, beAt-here, two-octets, vectors-more, message-known}
-use Rattle.model.proofs.Versions.{wasVectors, wasMessagesFrom, wasMessages, was-vectors, wasWalk, wasReading, accepted-before}
+use Rattle.model.proofs.Versions.{wasMessagesFrom, wasMessages, was-vectors, wasWalk, wasReading, accepted-before}
 
 -- What is left of a PDU where the vectors that are passed over are cut out.
 

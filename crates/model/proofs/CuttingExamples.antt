@@ -2,13 +2,15 @@
 -- else; and the octets of Ignores.
 use mathlib.Core.Path.{refl}
 use mathlib.Core.List.{List, [], _∷_, _++_, map}
+use mathlib.Core.Bool.{true, false}
 use Prim.Native.Nat.{ℕ}
 use lib.ListN.{length}
+use Rattle.octets.specs.Parts.{zeros}
 use Rattle.model.specs.Lists.{All}
 use Rattle.model.specs.State.{Ready, ready, askingFailed, readyFailed}
 use Rattle.model.specs.Cutting.{values}
 use Rattle.model.specs.Best.{best, least, run}
-use Rattle.model.specs.Declarations.{Declaration, listenerDeclaration}
+use Rattle.model.specs.Declarations.{Said, listenerDeclaration}
 use Rattle.model.specs.WrittenFrames.{pduOctets}
 use Rattle.model.proofs.Opened.{opened}
 use Rattle.model.proofs.Examples.{Example, Holds}
@@ -21,9 +23,9 @@ flattened : List (List ℕ) → List ℕ
 flattened [] = []
 flattened (a ∷ l) = a ++ flattened l
 
--- Listeners with these Unique IDs
-hearing : Ready → List ℕ → List Declaration
-hearing r l = map (λ (u : ℕ). listenerDeclaration u r) l
+-- Listeners with these Unique IDs, and the number of an event
+hearing : ℕ → Ready → List ℕ → List Said
+hearing e r l = map (λ (u : ℕ). record { declaration = listenerDeclaration u r; event = e }) l
 
 pub cuttings : List Example
 cuttings =
@@ -49,21 +51,41 @@ pub frames : List Example
 frames =
     -- 1 Ready and 3 Asking Failed: JoinMt, Ignore with event 0, JoinMt
     record {
-      computed = pduOctets (hearing ready (1 ∷ []) ++ hearing askingFailed (3 ∷ []));
+      computed = pduOctets false (hearing 3 ready (1 ∷ []) ++ hearing 3 askingFailed (3 ∷ []));
       printed =
           0 ∷ 3 ∷ 8 ∷ 0 ∷ 14 ∷ 0 ∷ 3 ∷ 0 ∷ 0 ∷ 0 ∷ 0 ∷ 0 ∷ 0 ∷ 0 ∷ 1 ∷ 0x6f ∷ 0x84 ∷ 0 ∷ 0 ∷ 0 ∷ 0 ∷ [];
     }
     -- 1 and 4: spare positions are 0 too
     ∷ record {
-      computed = pduOctets (hearing ready (1 ∷ []) ++ hearing readyFailed (4 ∷ []));
+      computed = pduOctets false (hearing 3 ready (1 ∷ []) ++ hearing 3 readyFailed (4 ∷ []));
       printed =
           0 ∷ 3 ∷ 8 ∷ 0 ∷ 15 ∷ 0 ∷ 4 ∷ 0 ∷ 0 ∷ 0 ∷ 0 ∷ 0 ∷ 0 ∷ 0 ∷ 1 ∷ 0x6c ∷ 0x6c ∷ 0x83 ∷ 0 ∷ 0 ∷ 0 ∷ 0 ∷ [];
     }
-    -- one alone is written as before
+    -- one alone
     ∷ record {
-      computed = pduOctets (hearing ready (1 ∷ []));
+      computed = pduOctets false (hearing 3 ready (1 ∷ []));
       printed = 0 ∷ 3 ∷ 8 ∷ 0 ∷ 14 ∷ 0 ∷ 1 ∷ 0 ∷ 0 ∷ 0 ∷ 0 ∷ 0 ∷ 0 ∷ 0 ∷ 1 ∷ 0x6c ∷ 0x80 ∷ 0 ∷ 0 ∷ 0 ∷ 0 ∷ [];
     }
+    -- each value has its own event: New of 1, JoinIn of 2, Lv of 4 with its last type, which ends the vector; 3 is a gap
+    ∷ record {
+      computed = pduOctets false (hearing 0 ready (1 ∷ []) ++ (hearing 1 askingFailed (2 ∷ []) ++ hearing 5 readyFailed (4 ∷ [])));
+      printed =
+          0 ∷ 3 ∷ 8 ∷ 0 ∷ 15 ∷ 0 ∷ 4 ∷ 0 ∷ 0 ∷ 0 ∷ 0 ∷ 0 ∷ 0 ∷ 0 ∷ 1 ∷ 0x06 ∷ 0xb4 ∷ 0x93 ∷ 0 ∷ 0 ∷ 0 ∷ 0 ∷ [];
+    }
+    -- LeaveAll with In of 1: LeaveAllEvent 1 in the first vector of each type, without values for the three that have none here
+    ∷ record {
+      computed = pduOctets true (hearing 2 ready (1 ∷ []));
+      printed =
+          0
+          ∷ (1 ∷ 25 ∷ 0 ∷ 29 ∷ 0x20 ∷ 0 ∷ [])
+          ++ (zeros 25
+          ++ (0 ∷ 0 ∷ 2 ∷ 34 ∷ 0 ∷ 38 ∷ 0x20 ∷ 0 ∷ [])
+          ++ (zeros 34
+          ++ (0 ∷ 0 ∷ 3 ∷ 8 ∷ 0 ∷ 14 ∷ 0x20 ∷ 1 ∷ 0 ∷ 0 ∷ 0 ∷ 0 ∷ 0 ∷ 0 ∷ 0 ∷ 1 ∷ 0x48 ∷ 0x80 ∷ 0 ∷ 0 ∷ [])
+          ++ ((4 ∷ 4 ∷ 0 ∷ 8 ∷ 0x20 ∷ 0 ∷ []) ++ (zeros 4 ++ (0 ∷ 0 ∷ 0 ∷ 0 ∷ [])))));
+    }
+    -- LeaveAll alone has 106 octets
+    ∷ record { computed = length (pduOctets true []) ∷ []; printed = 106 ∷ [] }
     ∷ []
 
 pub cutting-examples : All Holds cuttings
@@ -72,4 +94,4 @@ cutting-examples = (refl, (refl, (refl, (refl, (refl, (refl, (refl, (refl, tt)))
 
 pub frame-examples : All Holds frames
 unfolding opened frames hearing
-frame-examples = (refl, (refl, (refl, tt)))
+frame-examples = (refl, (refl, (refl, (refl, (refl, (refl, tt))))))

@@ -3,8 +3,8 @@
 use mathlib.Core.Path.{_≡_, refl, _∙_, ap}
 use mathlib.Core.List.{List, [], _∷_, map}
 use mathlib.Core.Bool.{Bool, true, false, cond}
-use Rattle.model.specs.Applicant.{ApplicantEvent, new, join, lv, rNew, rJoinIn, rIn, rJoinMt, rMt, rLv, rLA, Standing, veryAnxiousPassive, veryAnxiousNew, anxiousNew, anxiousActive, quietActive, leavingActive, becomes}
-use Rattle.model.specs.Machines.{Listed, Applicant, noApplicant, applicant, Decided, undeclared, declared, otherContent, with, applicantOf, after, born, decided}
+use Rattle.model.specs.Applicant.{ApplicantEvent, join, lv, rNew, rJoinIn, rIn, rJoinMt, rMt, rLv, rLA, Standing, veryAnxiousPassive, veryAnxiousNew, anxiousNew, anxiousActive, quietActive, leavingActive, becomes}
+use Rattle.model.specs.Machines.{Listed, Applicant, noApplicant, applicant, undeclared, declared, otherContent, with, applicantOf, after, born, decided}
 use Rattle.model.proofs.ApplicantEntries.{tables}
 
 -- An event on each state, in the order VP, VN, AN, AA, QA, LA.

@@ -1,6 +1,6 @@
 -- Demand 3: the order among ports never matters. Frames of MSRP and MMRP handed over in two orders that both keep each port's own
--- order get the same answers and leave the same table; settled at one time, both tables hold what the rules give: A's total stays
--- within limit A, and both totals together within the sum of limits.
+-- order get the same answers and leave the same table, the machines of what is sent included; settled at one time, both tables hold
+-- what the rules give: A's total stays within limit A, and both totals together within the sum of limits.
 use mathlib.Core.Path.{_≡_, refl, sym, _∙_, ap, subst}
 use mathlib.Core.List.{List, [], _∷_}
 use mathlib.Core.Bool.{Bool, true, false, cond}
@@ -17,7 +17,8 @@ use Rattle.model.specs.Table.{encode, decode, formed, clockField}
 use Rattle.model.specs.Calls.{Call, leaves, onTable, receive, receiveOn, receiveMmrp, receiveMmrpOn, advanceOn, Frame, msrp, mmrp, pduOf, receiveFrame, receiveFrameOn, answersOn, afterOn, asked}
 use Rattle.model.proofs.Lists.{on-same, on-other}
 use Rattle.model.proofs.Valid.{ValidStream, Valid}
-use Rattle.model.proofs.ColumnRule.{Small, Advanced, advanced}
+use Rattle.model.proofs.ColumnRule.{Small}
+use Rattle.model.proofs.Dropping.{Advanced, advanced}
 use Rattle.model.proofs.Tables.{decode-encode, formed-encode, valid-decode, encode-decode}
 use Rattle.model.proofs.ReceiveKeepsForm.{receive-keeps}
 use Rattle.model.proofs.AdvanceKeepsForm.{settle-keeps}

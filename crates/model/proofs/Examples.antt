@@ -72,11 +72,11 @@ settingsOf pruning ports fanIn limit = record {
 settingsWith : ℕ → ℕ → Settings
 settingsWith fanIn limit = settingsOf false 2 fanIn limit
 
-settings : ℕ → Settings
+pub settings : ℕ → Settings
 settings limit = settingsWith 0 limit
 
 -- what is handed over: a PDU on a port, an MMRP PDU on one, or a time
-data Handed : Type 0 where
+pub data Handed : Type 0 where
   pdu : ℕ → List ℕ → Handed
   mmrp : ℕ → List ℕ → Handed
   time : ℕ → Handed
@@ -85,7 +85,7 @@ data Handed : Type 0 where
 accepted : Answer → Bridge
 accepted a = cond (eqb (a .number) 0) (a .bridge) (State.started (a .bridge .settings))
 
-from : Bridge → List Handed → Bridge
+pub from : Bridge → List Handed → Bridge
 from b [] = b
 from b (pdu p s ∷ l) = from (accepted (Calls.receive b p s)) l
 from b (mmrp p s ∷ l) = from (accepted (Calls.receiveMmrp b p s)) l
@@ -166,7 +166,7 @@ listenersOf unique n three four = message listeners (listenerVector unique n thr
 talks : ℕ → ℕ → ℕ → List ℕ
 talks unique size octet = advertisesOf unique size octet 1 (108 ∷ [])
 
-hears : ℕ → ℕ → List ℕ
+pub hears : ℕ → ℕ → List ℕ
 hears unique four = listenersOf unique 1 (108 ∷ []) (four ∷ [])
 
 -- What is shown. Columns are 0 none, 1 Advertise, 2 Failed, each with its code; Listeners 0 none, 1 Asking Failed, 2 Ready, 3
@@ -228,7 +228,7 @@ size224 : Fixed
 size224 = record { destination = 0; vlan = 0; size = 224; frames = 1; priority = 3; rank = 1 }
 
 -- the worked example's stream on a bridge with this limit
-one : ℕ → Bridge
+pub one : ℕ → Bridge
 one limit = bridge limit (pdu 1 (talks 1 224 rank1) ∷ pdu 2 (hears 1 128) ∷ time 100 ∷ [])
 
 -- four such, all Ready, settled at 100; then a fifth, Ready, of this rank, settled at 200
@@ -244,8 +244,13 @@ withFifth octet = from four (pdu 1 (talks 5 224 octet) ∷ pdu 2 (hears 5 128) �
 settledTalker : List Handed → Bridge
 settledTalker l = bridge 75000000 (pdu 1 (talks 1 224 rank1) ∷ time 100 ∷ l)
 
-lvPdu : List ℕ
+pub lvPdu : List ℕ
 lvPdu = advertisesOf 1 224 rank1 1 (180 ∷ [])
+
+-- to unfold `handed` is to unfold what is handed over, for examples that stand elsewhere
+unfoldable pub handed : Unit {0}
+unfolding opened port settingsOf settingsWith settings accepted from messageOf message domainsOf matching bridgeWith bridge streamId talkerTo talkerIn talkerOf delayedFirst talkerFirst failure rank1 rank0 advertisesOf failedOf listenerVector listenersOf talks hears one lvPdu
+handed = tt
 
 leaver : Bridge
 leaver = settledTalker (pdu 1 lvPdu ∷ [])

@@ -10,8 +10,8 @@ use lib.ListN.{length, getD}
 use lib.Dec.{eqb, ltb, leb}
 use borrow.Author.Tests.{eq-eqb, ne-eqb, eqb-true, eqb-false, lt-ltb, ltb-true, ltb-false}
 use Rattle.model.specs.Lists.{bit, countTo}
-use Rattle.model.specs.State.{Cell, failed, Stream, fresh, cellAt}
-use Rattle.model.specs.Settling.{Source, nowhere, from, sourceOf, isSource, talkerTypeOf, isTalkerFailed, Inbound, inboundsOf, isInbound, inboundBelow, mayBring, isKeptOut, sameAddress, sameAddressAt, shares, Scene, isAdvertise, clear, stepsFrom, steps, claim, leftFor, columnOf}
+use Rattle.model.specs.State.{Cell, failed, Stream, fresh, isPort, cellAt}
+use Rattle.model.specs.Settling.{Source, nowhere, from, sourceOf, isSource, talkerTypeOf, isTalkerFailed, Inbound, inboundsOf, isInbound, inboundBelow, mayBring, isKeptOut, sameAddress, sameAddressAt, shares, Scene, isAdvertise, stepA, Step, clear, stepsFrom, steps, claim, leftFor, columnOf}
 use Rattle.model.specs.Table.{columnCode}
 use Rattle.model.proofs.Lists.{and-left}
 use Rattle.model.proofs.ColumnRule.{Pairwise, advertised}

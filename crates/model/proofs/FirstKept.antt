@@ -9,8 +9,8 @@ use lib.ListN.{getD}
 use lib.Dec.{ltb, eqb}
 use Rattle.model.specs.Lists.{keep}
 use Rattle.model.specs.State.{Settings, Talker, noTalker, talker, Cell, empty, Stream, Bridge, cellAt}
-use Rattle.model.specs.Registrations.{Act, leaveAll, leave, talk, listen, ofDomain, does, at, change, begun, touch, reach, apply, applyAll}
-use Rattle.model.specs.Settling.{expired, expireTalker, expireCell, expire, held, remain, Scene, decide, settle}
+use Rattle.model.specs.Registrations.{Act, leaveAll, leave, talk, listen, hearAll, hear, ofDomain, does, moves, at, change, begun, touch, reach, apply, applyAll}
+use Rattle.model.specs.Settling.{expired, expireTalker, expireCell, expire, isHeld, dropUnheld, remain, Scene, decideOwns, inboundsOf, decide, declare, deciding, declaring, settle}
 use Rattle.model.proofs.Growth.{First, first-stays}
 
 -- A stream with the StreamID of x is held among s, and each Talker registered of x has its first latency there.
@@ -40,8 +40,8 @@ kept-behind y s x k = record { stream = k .stream; held = List·Memᴰ·tail (k 
 -- A frame.
 
 module _ (now p : ℕ) (a : Act) where
-  abbrev acts : List Cell → List Cell
-  acts = at p (does now a)
+  abbrev acts : Stream → Stream
+  acts = change (at p (does now a)) (at p (moves a))
 
   cell-kept : (port : ℕ) (cs : List Cell) (q n : ℕ) → First n (getD cs q empty .talks) → First n (getD (at port (does now a) cs) q empty .talks)
   unfolding at
@@ -51,12 +51,12 @@ module _ (now p : ℕ) (a : Act) where
   cell-kept (suc port) (c ∷ cs) zero n h = h
   cell-kept (suc port) (c ∷ cs) (suc q) n h = cell-kept port cs q n h
 
-  changed-kept : (x : Stream) (s : List Stream) → List·Memᴰ (change acts x) s → FirstKept s x
+  changed-kept : (x : Stream) (s : List Stream) → List·Memᴰ (acts x) s → FirstKept s x
   unfolding change cellAt
-  changed-kept x s m = record { stream = change acts x; held = m; id = refl; first = cell-kept p (x .cells) }
+  changed-kept x s m = record { stream = acts x; held = m; id = refl; first = cell-kept p (x .cells) }
 
-  each-kept : (s : List Stream) → AllFirstKept s (map (change acts) s)
-  each-kept s x m = changed-kept x (map (change acts) s) (Memᴰ·map (change acts) m)
+  each-kept : (s : List Stream) → AllFirstKept s (map acts s)
+  each-kept s x m = changed-kept x (map acts s) (Memᴰ·map acts m)
 
   begun-kept : (join : Bool) (i : ℕ) (s : List Stream) → AllFirstKept s (begun join i acts s)
   unfolding begun
@@ -69,10 +69,10 @@ module _ (now p : ℕ) (a : Act) where
   touch-kept join i (y ∷ s) x m = go (ltb i (y .id)) (eqb i (y .id)) (List·Memᴰ·cases-cons m) (touch-kept join i s x)
     where
       go : (l e : Bool) → (x ≡ y) ⊎ List·Memᴰ x s → (List·Memᴰ x s → FirstKept (touch join i acts s) x)
-          → FirstKept (cond l (begun join i acts (y ∷ s)) (cond e (change acts y ∷ s) (y ∷ touch join i acts s))) x
+          → FirstKept (cond l (begun join i acts (y ∷ s)) (cond e (acts y ∷ s) (y ∷ touch join i acts s))) x
       go true e w ih = begun-kept join i (y ∷ s) x m
-      go false true (inl q) ih = changed-kept x (change acts y ∷ s) (List·Memᴰ·head (ap (change acts) q))
-      go false true (inr w) ih = kept-behind (change acts y) s x (kept-self s x w)
+      go false true (inl q) ih = changed-kept x (acts y ∷ s) (List·Memᴰ·head (ap acts q))
+      go false true (inr w) ih = kept-behind (acts y) s x (kept-self s x w)
       go false false (inl q) ih = kept-self (y ∷ touch join i acts s) x (List·Memᴰ·head q)
       go false false (inr w) ih = kept-behind y (touch join i acts s) x (ih w)
 
@@ -82,6 +82,8 @@ apply-kept now p (leaveAll k) s = each-kept now p (leaveAll k) s
 apply-kept now p (leave k i) s = touch-kept now p (leave k i) false i s
 apply-kept now p (talk i f v) s = touch-kept now p (talk i f v) true i s
 apply-kept now p (listen i r) s = touch-kept now p (listen i r) true i s
+apply-kept now p (hearAll k) s = each-kept now p (hearAll k) s
+apply-kept now p (hear k i h) s = touch-kept now p (hear k i h) false i s
 apply-kept now p (ofDomain d) s = kept-self s
 
 pub frame-first-stays : (now p : ℕ) (es : List Act) (s : List Stream) → AllFirstKept s (applyAll now p es s)
@@ -108,30 +110,48 @@ module _ (st : Settings) (now : ℕ) where
   cells-kept (c ∷ cs) zero n h = talker-kept (c .talks) n h
   cells-kept (c ∷ cs) (suc q) n h = cells-kept cs q n h
 
-  remain-kept : (s : List Stream) → AllFirstKept (remain st now s) s
-  unfolding remain expire cellAt
-  remain-kept [] x m = absurd (List·Memᴰ·not-nil m)
-  remain-kept (y ∷ s) x m = go (held (expire st now y .cells)) m (remain-kept s x)
+-- each stream changed, so that its StreamID stays, and its Talkers' first latencies where they are still registered
+module _ (f : Stream → Stream) (named : (y : Stream) → y .id ≡ f y .id)
+    (firsts : (y : Stream) (q n : ℕ) → First n (cellAt (f y) q .talks) → First n (cellAt y q .talks)) where
+  map-kept : (t : List Stream) → AllFirstKept (map f t) t
+  map-kept [] x m = absurd (List·Memᴰ·not-nil m)
+  map-kept (y ∷ t) x m = go (List·Memᴰ·cases-cons m) (map-kept t x)
     where
-      front : (x ≡ expire st now y) ⊎ List·Memᴰ x (remain st now s) → (List·Memᴰ x (remain st now s) → FirstKept s x) → FirstKept (y ∷ s) x
-      front (inl e) ih = rw e record { stream = y; held = List·Memᴰ·head refl; id = refl; first = cells-kept (y .cells) }
-      front (inr w) ih = kept-behind y s x (ih w)
+      go : (x ≡ f y) ⊎ List·Memᴰ x (map f t) → (List·Memᴰ x (map f t) → FirstKept t x) → FirstKept (y ∷ t) x
+      go (inl e) ih = rw e record { stream = y; held = List·Memᴰ·head refl; id = named y; first = firsts y }
+      go (inr w) ih = kept-behind y t x (ih w)
 
-      go : (b : Bool) → List·Memᴰ x (keep b (expire st now y) (remain st now s)) → (List·Memᴰ x (remain st now s) → FirstKept s x) → FirstKept (y ∷ s) x
-      go true m ih = front (List·Memᴰ·cases-cons m) ih
-      go false m ih = kept-behind y s x (ih m)
+drop-kept : (s : List Stream) → AllFirstKept (dropUnheld s) s
+unfolding dropUnheld
+drop-kept [] x m = absurd (List·Memᴰ·not-nil m)
+drop-kept (y ∷ s) x m = go (isHeld y) m (drop-kept s x)
+  where
+    front : (x ≡ y) ⊎ List·Memᴰ x (dropUnheld s) → (List·Memᴰ x (dropUnheld s) → FirstKept s x) → FirstKept (y ∷ s) x
+    front (inl e) ih = kept-self (y ∷ s) x (List·Memᴰ·head e)
+    front (inr w) ih = kept-behind y s x (ih w)
+
+    go : (b : Bool) → List·Memᴰ x (keep b y (dropUnheld s)) → (List·Memᴰ x (dropUnheld s) → FirstKept s x) → FirstKept (y ∷ s) x
+    go true m ih = front (List·Memᴰ·cases-cons m) ih
+    go false m ih = kept-behind y s x (ih m)
+
+remain-kept : (st : Settings) (now : ℕ) (s : List Stream) → AllFirstKept (remain st now s) s
+unfolding remain expire cellAt
+remain-kept st now s = map-kept (expire st now) (λ y. refl) (λ y. cells-kept st now (y .cells)) s
 
 decided-kept : (sc : Scene) (now : ℕ) (s t : List Stream) → AllFirstKept (map (decide sc now s) t) t
 unfolding decide cellAt
-decided-kept sc now s [] x m = absurd (List·Memᴰ·not-nil m)
-decided-kept sc now s (y ∷ t) x m = go (List·Memᴰ·cases-cons m) (decided-kept sc now s t x)
-  where
-    go : (x ≡ decide sc now s y) ⊎ List·Memᴰ x (map (decide sc now s) t) → (List·Memᴰ x (map (decide sc now s) t) → FirstKept t x) → FirstKept (y ∷ t) x
-    go (inl e) ih = rw e record { stream = y; held = List·Memᴰ·head refl; id = refl; first = λ q n h. h }
-    go (inr w) ih = kept-behind y t x (ih w)
+decided-kept sc now s t = map-kept (decide sc now s) (λ y. refl) (λ y q n h. h) t
+
+declared-kept : (s : List Stream) → AllFirstKept (map declare s) s
+unfolding declare cellAt
+declared-kept s = map-kept declare (λ y. refl) (λ y q n h. h) s
 
 pub advance-first-stays : (now : ℕ) (b : Bridge) → AllFirstKept (settle now b .streams) (b .streams)
-unfolding settle
+unfolding settle declaring deciding
 advance-first-stays now b =
     let s = remain (b .settings) now (b .streams) in
-    kept-on (settle now b .streams) s (b .streams) (decided-kept _ now s s) (remain-kept (b .settings) now (b .streams))
+    let sc : Scene = record { settings = b .settings; owns = decideOwns (b .settings) now (b .owns); inbound = inboundsOf s } in
+    let t = map (decide sc now s) s in
+    kept-on (settle now b .streams) (map declare t) (b .streams) (drop-kept (map declare t))
+    (kept-on (map declare t) t (b .streams) (declared-kept t)
+    (kept-on t s (b .streams) (decided-kept sc now s s) (remain-kept (b .settings) now (b .streams))))

@@ -9,21 +9,25 @@ use lib.ListN.{length, getD}
 use Rattle.octets.specs.Parts.{zeros}
 use Rattle.octets.specs.Fields.{fields, Fit, flat}
 use Rattle.octets.proofs.Fields.{fields-of-packed, fit-at}
-use Rattle.model.specs.Layout.{cellIndex, cellSize, cellWidths, fixedWidths, nameWidths, recordSize, resultSize, resultWidths}
-use Rattle.model.specs.Lists.{All, parts, Octets}
-use Rattle.model.specs.State.{Leaving, stays, since, Fixed, TalkerType, talkerAdvertise, talkerFailed, Talker, noTalker, talker, Listener, noListener, listener, Cell, Result, Stream, Bridge}
+use Rattle.model.specs.Layout.{cellIndex, cellSize, cellWidths, failureWidths, fixedWidths, nameWidths, offerWidths, recordSize, resultSize, resultWidths, sendsSize}
+use Rattle.model.specs.Lists.{parts, Octets}
+use Rattle.model.specs.State.{Leaving, stays, since, Fixed, TalkerType, talkerAdvertise, talkerFailed, Talker, noTalker, talker, Listener, noListener, listener, Cell, Result, Offer, Failure, Sends, Stream, Bridge}
+use Rattle.model.specs.Machines.{Applicant, noApplicant, applicant}
+use Rattle.model.specs.Sending.{offerNumbers, sendsOctets, toSends, senderOctets, toSender}
 use Rattle.model.specs.Registrations.{ids}
-use Rattle.model.specs.WrittenFrames.{priorityOctet, fixedNumbers}
-use Rattle.model.specs.Table.{sinceNumber, bridgeNumber, codeNumber, talkerNumbers, listenerNumbers, cellNumbers, cellOctets, toCell, resultNumbers, resultOctets, toResult, fixedFrom, streamOctets, toStream, countField, recordsPart, idOf, encode, decode, formed}
-use Rattle.model.specs.Laid.{FitRank, FitCell, FitOwn, FitResult, FitStream, FitBridge, LaidOut, LaidCell, LaidResult, Laid}
+use Rattle.model.specs.WrittenFrames.{priorityOctet, fixedNumbers, fixedFrom}
+use Rattle.model.specs.Table.{sinceNumber, bridgeNumber, codeNumber, talkerNumbers, listenerNumbers, cellNumbers, cellOctets, toCell, resultNumbers, resultOctets, toResult, streamOctets, toStream, countField, recordsPart, idOf, encode, decode, formed}
+use Rattle.model.specs.Laid.{FitRank, FitCell, FitOwn, FitResult, FitOffer, FitFailure, FitApplicant, FitSends, FitSender, FitStream, FitBridge, LaidOut, LaidCell, LaidResult, LaidSends, LaidSender, Laid}
 use Rattle.model.proofs.Lists.{all-map}
-use Rattle.model.proofs.Valid.{ValidLeaving, ValidFixed, ValidTalkerType, ValidTalker, ValidListener, ValidCell, ValidOwn, ValidResult, ValidStream, Valid}
+use Rattle.model.proofs.Valid.{ValidLeaving, ValidFixed, ValidTalkerType, ValidTalker, ValidListener, ValidCell, ValidOwn, ValidResult, GoodApplicant, ValidOffer, ValidFailure, ValidFailed, ValidSends, ValidStream, Valid}
 use Rattle.model.proofs.Parts.{_also_, parts-flat, many-read, rising-ascends}
 use Rattle.model.proofs.Cells.{fixed-fit, fixed-back, cell-fit, cell-back, cells-sized}
 use Rattle.model.proofs.Results.{result-fit, numbers-back, results-sized}
+use Rattle.model.proofs.SendsOctets.{offer-fit, failure-fit, sends-coded}
+use Rattle.model.proofs.SenderOctets.{sender-coded}
 use Rattle.model.proofs.Owns.{valid-own-fits}
 use Rattle.model.proofs.SettingsOctets.{settings-fit}
-use Rattle.model.proofs.Tables.{stream-length, cells-of, results-of, name-read, id-read, totals-fit, fit-whole, clock-read, count-read, records-read, settings-decoded, totals-decoded, owns-decoded, valid-decode, encode-decode}
+use Rattle.model.proofs.Tables.{Eights, sends-sized, stream-length, cells-of, results-of, sends-of, name-read, id-read, totals-fit, fit-whole, clock-read, count-read, records-read, settings-decoded, totals-decoded, owns-decoded, senders-decoded, senders-fit, valid-decode, encode-decode}
 
 -- Read back: a cell. With the latest clock and the longest leave time that a field holds, every time that fits is valid.
 
@@ -91,11 +95,41 @@ pub result-read : (r : Result) → FitResult r → toResult (resultOctets r) ≡
 unfolding toResult resultOctets
 result-read r w = rw (fields-of-packed resultWidths (resultNumbers r) w) (numbers-back r)
 
+-- What a port sends of a stream.
+
+fit-applicant : {D : Type 0} (Fits Good : D → Type 0) → ((d : D) → Fits d → Good d) → (x : Applicant D) → FitApplicant Fits x → GoodApplicant Good x
+fit-applicant Fits Good h noApplicant f = tt
+fit-applicant Fits Good h (applicant x) f = h (x .value) f
+
+pub fit-offer : (x : Offer) → FitOffer x → ValidOffer x
+unfolding offerNumbers fixedNumbers Fit
+fit-offer x w =
+    let at = fit-at offerWidths (offerNumbers x) (w .numbers) in
+    record { fixed = fit-fixed (x .fixed) (at 0 also at 1 also at 2 also at 3 also at 4 also tt) (w .rank); latency = at 5 }
+
+abbrev FitFailed : Offer × Failure → Type 0
+FitFailed y = FitOffer (y .0) × FitFailure (y .1)
+
+fit-failure : (x : Failure) → FitFailure x → ValidFailure x
+fit-failure x w = let at = fit-at failureWidths (x .bridge ∷ x .code ∷ []) w in record { bridge = at 0; code = at 1 }
+
+pub fit-sends : (x : Sends) → FitSends x → ValidSends x
+fit-sends x w = record {
+  advertising = fit-applicant FitOffer ValidOffer fit-offer (x .advertising) (w .advertising);
+  failing = fit-applicant FitFailed ValidFailed (λ y f. (fit-offer (y .0) (f .0), fit-failure (y .1) (f .1))) (x .failing) (w .failing);
+}
+
+pub sends-read : (x : Sends) → FitSends x → toSends (sendsOctets x) ≡ x
+sends-read x w = sends-coded .back x (fit-sends x w)
+
 -- A stream.
 
 module _ (x : Stream) (w : FitStream x) where
+  eight : Eights x
+  eight = record { cells = w .eight-cells; results = w .eight-results; sends = w .eight-sends }
+
   pub stream-size : length (streamOctets x) ≡ recordSize
-  stream-size = stream-length x (w .eight-cells) (w .eight-results)
+  stream-size = stream-length x eight
 
   pub id-fits : x .id < 2 ^ 64
   unfolding Fit
@@ -115,13 +149,16 @@ module _ (x : Stream) (w : FitStream x) where
   stream-read =
       let cs = all-map FitCell (λ c. toCell (cellOctets c) ≡ c) cell-read (x .cells) (w .cells) in
       let rs = all-map FitResult (λ r. toResult (resultOctets r) ≡ r) result-read (x .results) (w .results) in
+      let ss = all-map FitSends (λ y. toSends (sendsOctets y) ≡ y) sends-read (x .sends) (w .sends) in
       rw (
         id-read x (w .name),
         settled-read,
-        cells-of x (w .eight-cells) (w .eight-results),
-        results-of x (w .eight-cells) (w .eight-results),
+        cells-of x eight,
+        results-of x eight,
+        sends-of x eight,
         many-read cellSize cellOctets 8 toCell (x .cells) (w .eight-cells) (cells-sized (x .cells)) cs,
         many-read resultSize resultOctets 8 toResult (x .results) (w .eight-results) (results-sized (x .results)) rs,
+        many-read sendsSize sendsOctets 8 toSends (x .sends) (w .eight-sends) (sends-sized (x .sends)) ss,
       )
 
 -- A bridge.
@@ -138,7 +175,7 @@ module _ (b : Bridge) (w : FitBridge b) where
   unfolding decode
   bridge-read =
       let o = fit-whole b w in
-      rw (settings-decoded b o (w .settings), clock-read b o (w .clock), totals-decoded b o (w .totals), owns-decoded b o (w .owns), streams-read)
+      rw (settings-decoded b o (w .settings), clock-read b o (w .clock), totals-decoded b o (w .totals), owns-decoded b o (w .owns), senders-decoded b o (w .senders), streams-read)
 
 -- Laid out: the octets are those of what is read from them, and that fits.
 
@@ -165,6 +202,18 @@ laid-result-is = laid-out resultOctets toResult FitResult result-read
 pub laid-result-fits : (s : List ℕ) → LaidResult s → FitResult (toResult s)
 laid-result-fits = laid-fit resultOctets toResult FitResult result-read
 
+pub laid-sends-is : (s : List ℕ) → LaidSends s → s ≡ sendsOctets (toSends s)
+laid-sends-is = laid-out sendsOctets toSends FitSends sends-read
+
+pub laid-sends-fits : (s : List ℕ) → LaidSends s → FitSends (toSends s)
+laid-sends-fits = laid-fit sendsOctets toSends FitSends sends-read
+
+pub laid-sender-is : (s : List ℕ) → LaidSender s → s ≡ senderOctets (toSender s)
+laid-sender-is = laid-out senderOctets toSender FitSender (sender-coded .back)
+
+pub laid-sender-fits : (s : List ℕ) → LaidSender s → FitSender (toSender s)
+laid-sender-fits = laid-fit senderOctets toSender FitSender (sender-coded .back)
+
 pub laid-is : (s : List ℕ) → Laid s → s ≡ encode (decode s)
 laid-is = laid-out encode decode FitBridge bridge-read
 
@@ -176,6 +225,19 @@ laid-fits = laid-fit encode decode FitBridge bridge-read
 talker-rank : (clock leave : ℕ) (t : Talker) → ValidTalker clock leave t → FitRank t
 talker-rank clock leave noTalker v = tt
 talker-rank clock leave (talker r) v = v .fixed .rank
+
+applicant-fits : {D : Type 0} (Fits Good : D → Type 0) → ((d : D) → Good d → Fits d) → (x : Applicant D) → GoodApplicant Good x → FitApplicant Fits x
+applicant-fits Fits Good h noApplicant f = tt
+applicant-fits Fits Good h (applicant x) f = h (x .value) f
+
+pub valid-offer-fits : (x : Offer) → ValidOffer x → FitOffer x
+valid-offer-fits x v = record { numbers = offer-fit x v; rank = v .fixed .rank }
+
+pub valid-sends-fit : (x : Sends) → ValidSends x → FitSends x
+valid-sends-fit x v = record {
+  advertising = applicant-fits FitOffer ValidOffer valid-offer-fits (x .advertising) (v .advertising);
+  failing = applicant-fits FitFailed ValidFailed (λ y g. (valid-offer-fits (y .0) (g .0), failure-fit (y .1) (g .1))) (x .failing) (v .failing);
+}
 
 -- at a bridge with this clock and leave time
 module _ (ports clock leave : ℕ) (small : clock < 2 ^ 32) where
@@ -194,6 +256,8 @@ module _ (ports clock leave : ℕ) (small : clock < 2 ^ 32) where
     cells = all-map (ValidCell clock leave) FitCell valid-cell-fits (x .cells) (v .cells);
     eight-results = v .eight-results;
     results = all-map (ValidResult clock) FitResult valid-result-fits (x .results) (v .results);
+    eight-sends = v .eight-sends;
+    sends = all-map ValidSends FitSends valid-sends-fit (x .sends) (v .sends);
   }
 
 pub valid-fits : (b : Bridge) → Valid b → FitBridge b
@@ -207,6 +271,8 @@ valid-fits b v =
       totals = totals-fit _ (b .totals) (b .settings .ports) (v .settings .ports) (v .totals);
       eight-owns = v .eight-owns;
       owns = all-map (ValidOwn (b .clock) t) FitOwn (valid-own-fits (b .clock) t (v .clock)) (b .owns) (v .owns);
+      eight-senders = v .eight-senders;
+      senders = senders-fit b v;
       at-most-64 = v .at-most-64;
       streams = all-map (ValidStream n (b .clock) t) FitStream (valid-stream-fits n (b .clock) t (v .clock)) (b .streams) (v .streams);
       ascending = rising-ascends (ids (b .streams)) (v .ascending);

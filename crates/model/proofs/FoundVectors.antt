@@ -1,7 +1,7 @@
 -- What holds of every vector that the walk over a PDU finds, and of the acts that such vectors ask for: each value is within
 -- its field.
 use mathlib.Core.Path.{_≡_, refl, subst, _∙_}
-use mathlib.Core.List.{List, [], _∷_, _++_}
+use mathlib.Core.List.{List, [], _∷_, _++_, map}
 use mathlib.Core.Bool.{Bool, true, false, cond, _&&_, _||_, true≢false}
 use Prim.Native.Nat.{ℕ, zero, suc, _+_, _*_, _-_, _/_, _%_, _^_, _≤_, _<_}
 use native.Mathlib.Omega.{arith}
@@ -15,9 +15,10 @@ use Rattle.octets.proofs.Parts.{length-part}
 use Rattle.model.specs.Layout.{slots}
 use Rattle.model.specs.FrameLayout.{longestPdu}
 use Rattle.model.specs.Lists.{All, Octets}
-use Rattle.model.specs.State.{Settings}
-use Rattle.model.specs.Registrations.{Kind, advertises, faileds, listeners, Act, leaveAll, leave, talk, listen, ofDomain, DomainAct, leaveAllDomains, leaveDomain, joinDomain, Reading, refused, acts}
-use Rattle.model.specs.Frames.{Attribute, registers, domainType, firstWidths, firstLength, threeLength, hasFour, fourLength, Vector, vectorAt, vectorEnd, overpacked, runsPast, overflows, InList, badVector, listEnd, vectorHead, passedOver, strangeLeave, strangeVector, vectorIn, checkedIn, typedIn, InPdu, badMessage, pduEnd, listSkipped, listOf, listLength, listAt, messageEnd, Walk, fault, found, also, both, vectorsFrom, vectors, messagesFrom, messages, walk, Asking, nothingAsked, join, withdraw, priorityOf, rankOf, fixedValue, talkerTypeValue, idValue, hearing, talkerAct, listenerAct, hasSlot, slotOf, slotAct, domainAct, valueActs, valuesActs, leaveAllActs, vectorActs, frameActs, walked, wrongPort, reading}
+use Rattle.model.specs.State.{Settings, slotOf}
+use Rattle.model.specs.Machines.{Heard}
+use Rattle.model.specs.Registrations.{Kind, advertises, faileds, listeners, Act, leaveAll, leave, talk, listen, hearAll, hear, ofDomain, DomainAct, leaveAllDomains, leaveDomain, joinDomain, hearAllDomains, hearDomain, Reading, refused, acts}
+use Rattle.model.specs.Frames.{Attribute, registers, domainType, firstWidths, firstLength, threeLength, hasFour, fourLength, Vector, vectorAt, vectorEnd, overpacked, runsPast, overflows, InList, badVector, listEnd, vectorHead, passedOver, strangeLeave, strangeVector, vectorIn, checkedIn, typedIn, InPdu, badMessage, pduEnd, listSkipped, listOf, listLength, listAt, messageEnd, Walk, fault, found, also, both, vectorsFrom, vectors, messagesFrom, messages, walk, Event, Asking, nothingAsked, join, withdraw, asking, priorityOf, rankOf, fixedValue, talkerTypeValue, idValue, hearing, talkerAct, listenerAct, heardOf, talkerHeard, listenerHeard, hasSlot, slotAct, slotHeard, domainAct, valueActs, valuesActs, leaveAllActs, vectorActs, frameActs, walked, wrongPort, reading}
 use Rattle.model.proofs.Lists.{all-append, and-left, and-right}
 use Rattle.model.proofs.Parts.{octets-at, octets-part}
 use Rattle.octets.proofs.Fields.{beAt-fits}
@@ -301,12 +302,16 @@ abbrev pub FitsDomain : DomainAct → Type 0
 FitsDomain leaveAllDomains = Unit {0}
 FitsDomain (leaveDomain i) = i < slots
 FitsDomain (joinDomain i v) = (i < slots) × (v < 65536)
+FitsDomain hearAllDomains = Unit {0}
+FitsDomain (hearDomain i h) = i < slots
 
 abbrev pub Fits : Act → Type 0
 Fits (leaveAll k) = Unit {0}
 Fits (leave k i) = i < 2 ^ 64
 Fits (talk i f v) = (i < 2 ^ 64) × ValidFixed f × ValidVarying v
 Fits (listen i r) = i < 2 ^ 64
+Fits (hearAll k) = Unit {0}
+Fits (hear k i h) = i < 2 ^ 64
 Fits (ofDomain a) = FitsDomain a
 
 -- the last value of a vector runs past no field
@@ -363,6 +368,20 @@ talker-fits k vs n nothingAsked i f h l = tt
 talker-fits k vs n join i f h l = ((i, f, record { type = h; latency = l }), tt)
 talker-fits k vs n withdraw i f h l = (i, tt)
 
+-- what Applicants hear
+heard-fit : (f : Heard → Act) → ((h : Heard) → Fits (f h)) → (l : List Heard) → All Fits (map f l)
+heard-fit f g [] = tt
+heard-fit f g (h ∷ l) = (g h, heard-fit f g l)
+
+talker-heard : (k : Kind) (i : ℕ) (e : Event) → i < 2 ^ 64 → All Fits (talkerHeard k i e)
+unfolding talkerHeard
+talker-heard k i e h = heard-fit (hear k i) (λ x. h) (heardOf e)
+
+talker-value : (k : Kind) (vs : List ℕ) (n : ℕ) (e : Event) → idValue vs n < 2 ^ 64 → ValidFixed (fixedValue vs n) →
+    ValidTalkerType (talkerTypeValue k vs) → getD vs 6 0 < 2 ^ 32 → All Fits (talkerAct k vs n (asking e) ++ talkerHeard k (idValue vs n) e)
+talker-value k vs n e i f h l =
+    all-append Fits (talkerAct k vs n (asking e)) (talkerHeard k (idValue vs n) e) (talker-fits k vs n (asking e) i f h l) (talker-heard k (idValue vs n) e i)
+
 hearing-fits : (i f : ℕ) → i < 2 ^ 64 → All Fits (hearing i f)
 unfolding hearing
 hearing-fits i zero h = tt
@@ -380,6 +399,19 @@ listener-fits vs n withdraw f i = go (eqb f 0)
     go true = tt
     go false = (i, tt)
 
+listener-heard : (i : ℕ) (e : Event) (f : ℕ) → i < 2 ^ 64 → All Fits (listenerHeard i e f)
+unfolding listenerHeard
+listener-heard i e f h = go (eqb f 0)
+  where
+    go : (t : Bool) → All Fits (cond t [] (map (hear listeners i) (heardOf e)))
+    go true = tt
+    go false = heard-fit (hear listeners i) (λ x. h) (heardOf e)
+
+listener-value : (vs : List ℕ) (n : ℕ) (e : Event) (f : ℕ) → idValue vs n < 2 ^ 64 →
+    All Fits (listenerAct vs n (asking e) f ++ listenerHeard (idValue vs n) e f)
+listener-value vs n e f i =
+    all-append Fits (listenerAct vs n (asking e) f) (listenerHeard (idValue vs n) e f) (listener-fits vs n (asking e) f i) (listener-heard (idValue vs n) e f i)
+
 -- class IDs 5 and 6 and priorities up to 7 give 16 slots
 pub slot-within : (c q : ℕ) → hasSlot c q ≡ true → slotOf c q < slots
 unfolding hasSlot slotOf
@@ -395,9 +427,13 @@ slot-fits i v nothingAsked h k = tt
 slot-fits i v join h k = ((h, k), tt)
 slot-fits i v withdraw h k = (h, tt)
 
-domain-fits : (vs : List ℕ) (n : ℕ) (a : Asking) → getD vs 2 0 < 65536 → All Fits (domainAct vs n a)
+slot-heard : (i : ℕ) (e : Event) → i < slots → All Fits (slotHeard i e)
+unfolding slotHeard
+slot-heard i e h = heard-fit (λ x. ofDomain (hearDomain i x)) (λ x. h) (heardOf e)
+
+domain-fits : (vs : List ℕ) (n : ℕ) (e : Event) → getD vs 2 0 < 65536 → All Fits (domainAct vs n e)
 unfolding domainAct
-domain-fits vs n a k = go (hasSlot c q) refl
+domain-fits vs n e k = go (hasSlot c q) refl
   where
     c : ℕ
     c = getD vs 0 0 + n
@@ -405,9 +441,11 @@ domain-fits vs n a k = go (hasSlot c q) refl
     q : ℕ
     q = getD vs 1 0 + n
 
-    go : (t : Bool) → hasSlot c q ≡ t → All Fits (cond t (slotAct (slotOf c q) (getD vs 2 0) a) [])
-    go true e = slot-fits (slotOf c q) (getD vs 2 0) a (slot-within c q e) k
-    go false e = tt
+    go : (t : Bool) → hasSlot c q ≡ t → All Fits (cond t (slotAct (slotOf c q) (getD vs 2 0) (asking e) ++ slotHeard (slotOf c q) e) [])
+    go true h =
+        all-append Fits (slotAct (slotOf c q) (getD vs 2 0) (asking e)) (slotHeard (slotOf c q) e)
+        (slot-fits (slotOf c q) (getD vs 2 0) (asking e) (slot-within c q h) k) (slot-heard (slotOf c q) e (slot-within c q h))
+    go false h = tt
 
 pub destination-within : (t : Bool) (d : ℕ) → (t || ltb 281474976710655 d) ≡ false → d < 256 ^ 6
 destination-within t d e = omega (arith, ltb-false 281474976710655 d (or-right t _ e))
@@ -431,13 +469,13 @@ value-fits v n o e h = go (v .attribute) (last-within v e (omega arith))
     go : (k : Attribute) → runsPast k s m ≡ false → All Fits (valueActs (of k) n)
     go (registers advertises) r =
         let d : beAt 6 s 8 + m < 256 ^ 6 = destination-within (ltb 65535 (beAt 2 s 6 + m)) (beAt 6 s 8 + m) r in
-        talker-fits advertises _ n _ (id-fits s o m n l advertises r) (fixed-fits s o m n l [] d) tt (latency-fits s o m n l [] d)
+        talker-value advertises _ n _ (id-fits s o m n l advertises r) (fixed-fits s o m n l [] d) tt (latency-fits s o m n l [] d)
     go (registers faileds) r =
         let d : beAt 6 s 8 + m < 256 ^ 6 = destination-within (ltb 65535 (beAt 2 s 6 + m)) (beAt 6 s 8 + m) r in
         let b : beAt 8 s 25 < 2 ^ 64 = omega (arith, beAt-below-width 8 s 25 o) in
         let c : beAt 1 s 33 < 256 = omega (arith, beAt-below-width 1 s 33 o) in
-        talker-fits faileds _ n _ (id-fits s o m n l faileds r) (fixed-fits s o m n l (8 ∷ 1 ∷ []) d) (b, c) (latency-fits s o m n l (8 ∷ 1 ∷ []) d)
-    go (registers listeners) r = listener-fits _ n _ _ (id-fits s o m n l listeners r)
+        talker-value faileds _ n _ (id-fits s o m n l faileds r) (fixed-fits s o m n l (8 ∷ 1 ∷ []) d) (b, c) (latency-fits s o m n l (8 ∷ 1 ∷ []) d)
+    go (registers listeners) r = listener-value _ n _ _ (id-fits s o m n l listeners r)
     go domainType r = domain-fits _ n _ (omega (arith, beAt-below-width 2 s 2 o))
 
 values-fit : (v : Vector) (n k : ℕ) → Octets (v .first) → overflows v ≡ false → n + k ≤ v .values → All Fits (valuesActs v n k)
@@ -453,9 +491,9 @@ vector-fits v o e =
     (values-fit v 0 (v .values) o e (omega arith))
   where
     go : (k : Attribute) (t : Bool) → All Fits (leaveAllActs k t)
-    go (registers k) true = (tt, tt)
+    go (registers k) true = (tt, (tt, tt))
     go (registers k) false = tt
-    go domainType true = (tt, tt)
+    go domainType true = (tt, (tt, tt))
     go domainType false = tt
 
 vectors-fit : (vs : List Vector) → All Sound vs → All InOctets vs → All Fits (frameActs vs)

@@ -13,8 +13,8 @@ use lib.ListN.{length, length-map}
 use lib.Dec.{ltb, leb, eqb}
 use borrow.Author.Tests.{le-leb, lt-leb, ltb-true, ltb-false, eqb-true, eqb-false}
 use Rattle.model.specs.Lists.{All, on}
-use Rattle.model.specs.State.{Settings, Own, Stream, Bridge, fresh, ownAt}
-use Rattle.model.specs.Registrations.{Act, leaveAll, leave, talk, listen, ofDomain, Reading, refused, acts, AddressReading, refusedFrame, addressActs, Answer, begun, touch, change, apply, applyAll, reach, applyOwns, holding, owning, received, add, together, ids, joins, asks}
+use Rattle.model.specs.State.{Settings, Own, Sender, Stream, Bridge, fresh, noOwn, ownAt}
+use Rattle.model.specs.Registrations.{Act, leaveAll, leave, talk, listen, hearAll, hear, ofDomain, Reading, refused, acts, AddressReading, refusedFrame, addressActs, Answer, begun, touch, apply, applyAll, reach, applyOwns, applySenders, holding, owning, sending, received, add, together, ids, joins, asks}
 use Rattle.model.specs.Frames.{reading, wrongPort}
 use Rattle.model.specs.AddressFrames.{addressReading}
 use Rattle.model.specs.Calls.{receive, receiveMmrp, Frame, msrp, mmrp, receiveFrame, askedBy, asked}
@@ -23,7 +23,7 @@ use Rattle.model.proofs.Valid.{Rising}
 use Rattle.model.proofs.FoundVectors.{or-left}
 use Rattle.model.proofs.ReceiveKeepsForm.{receive-settings, receive-clock, receive-accepted-or-unchanged}
 use Rattle.model.proofs.Arrivals.{run, same-run}
-use Rattle.model.proofs.Commute.{Change, frames-commute, ChangesAt, no-change, acts-change, changes-apart, changes-other}
+use Rattle.model.proofs.Commute.{Change, Keeps, acted, acted-keeps, frames-commute, ChangesAt, no-change, acts-change, acts-send, changes-apart, changes-other}
 use Rattle.model.proofs.ReceivedAddresses.{withRoom, addressEffect, addressNumber, received-is, mmrp-unchanged, mmrp-same}
 
 -- Frames handed over one after another, each with its port: the bridge they leave, and the answers with their ports.
@@ -38,42 +38,51 @@ frameAnswers (a ∷ f) b = (a .0, receiveFrame b (a .0) (a .1) .number) ∷ fram
 
 -- The streams held after acts.
 
-pub joined : (i : ℕ) (u : Change) (s : List Stream) → ids (touch true i u s) ≡ add i (ids s)
-unfolding touch ids add begun change fresh
-joined i u [] = refl
-joined i u (x ∷ s) = go (ltb i (x .id)) (eqb i (x .id)) (joined i u s)
-  where
-    go : (a b : Bool) → ids (touch true i u s) ≡ add i (ids s) →
-        ids (cond a (begun true i u (x ∷ s)) (cond b (change u x ∷ s) (x ∷ touch true i u s)))
-        ≡ cond a (i ∷ x .id ∷ ids s) (cond b (x .id ∷ ids s) (x .id ∷ add i (ids s)))
-    go true b h = refl
-    go false true h = refl
-    go false false h = ap (λ (l : List ℕ). x .id ∷ l) h
+module _ (u : Change) (k : Keeps u) where
+  pub joined : (i : ℕ) (s : List Stream) → ids (touch true i u s) ≡ add i (ids s)
+  unfolding touch ids add begun fresh
+  joined i [] = ap (λ (n : ℕ). n ∷ []) (k (fresh i))
+  joined i (x ∷ s) = go (ltb i (x .id)) (eqb i (x .id)) (joined i s)
+    where
+      go : (a b : Bool) → ids (touch true i u s) ≡ add i (ids s) →
+          ids (cond a (begun true i u (x ∷ s)) (cond b (u x ∷ s) (x ∷ touch true i u s)))
+          ≡ cond a (i ∷ x .id ∷ ids s) (cond b (x .id ∷ ids s) (x .id ∷ add i (ids s)))
+      go true b h = ap (λ (n : ℕ). n ∷ x .id ∷ ids s) (k (fresh i))
+      go false true h = ap (λ (n : ℕ). n ∷ ids s) (k x)
+      go false false h = ap (λ (l : List ℕ). x .id ∷ l) h
 
-left : (i : ℕ) (u : Change) (s : List Stream) → ids (touch false i u s) ≡ ids s
-unfolding touch ids add begun change fresh
-left i u [] = refl
-left i u (x ∷ s) = go (ltb i (x .id)) (eqb i (x .id)) (left i u s)
-  where
-    go : (a b : Bool) → ids (touch false i u s) ≡ ids s →
-        ids (cond a (begun false i u (x ∷ s)) (cond b (change u x ∷ s) (x ∷ touch false i u s))) ≡ x .id ∷ ids s
-    go true b h = refl
-    go false true h = refl
-    go false false h = ap (λ (l : List ℕ). x .id ∷ l) h
+  left : (i : ℕ) (s : List Stream) → ids (touch false i u s) ≡ ids s
+  unfolding touch ids begun
+  left i [] = refl
+  left i (x ∷ s) = go (ltb i (x .id)) (eqb i (x .id)) (left i s)
+    where
+      go : (a b : Bool) → ids (touch false i u s) ≡ ids s →
+          ids (cond a (begun false i u (x ∷ s)) (cond b (u x ∷ s) (x ∷ touch false i u s))) ≡ x .id ∷ ids s
+      go true b h = refl
+      go false true h = ap (λ (n : ℕ). n ∷ ids s) (k x)
+      go false false h = ap (λ (l : List ℕ). x .id ∷ l) h
 
-left-all : (u : Change) (s : List Stream) → ids (map (change u) s) ≡ ids s
-unfolding ids change
-left-all u [] = refl
-left-all u (x ∷ s) = ap (λ (l : List ℕ). x .id ∷ l) (left-all u s)
+  left-all : (s : List Stream) → ids (map u s) ≡ ids s
+  unfolding ids
+  left-all [] = refl
+  left-all (x ∷ s) = ap₂ (λ (n : ℕ) (l : List ℕ). n ∷ l) (k x) (left-all s)
 
 -- those held before, and those that the acts join
 pub acts-ids : (now p : ℕ) (es : List Act) (s : List Stream) → ids (applyAll now p es s) ≡ together (ids s) (joins es)
 unfolding applyAll apply reach joins together
 acts-ids now p [] s = refl
-acts-ids now p (leaveAll k ∷ es) s = acts-ids now p es _ ∙ ap (λ (l : List ℕ). together l (joins es)) (left-all _ s)
-acts-ids now p (leave k i ∷ es) s = acts-ids now p es _ ∙ ap (λ (l : List ℕ). together l (joins es)) (left i _ s)
-acts-ids now p (talk i f v ∷ es) s = acts-ids now p es _ ∙ ap (λ (l : List ℕ). together l (joins es)) (joined i _ s)
-acts-ids now p (listen i r ∷ es) s = acts-ids now p es _ ∙ ap (λ (l : List ℕ). together l (joins es)) (joined i _ s)
+acts-ids now p (leaveAll k ∷ es) s =
+    acts-ids now p es _ ∙ ap (λ (l : List ℕ). together l (joins es)) (left-all (acted now p (leaveAll k)) (acted-keeps now p (leaveAll k)) s)
+acts-ids now p (leave k i ∷ es) s =
+    acts-ids now p es _ ∙ ap (λ (l : List ℕ). together l (joins es)) (left (acted now p (leave k i)) (acted-keeps now p (leave k i)) i s)
+acts-ids now p (talk i f v ∷ es) s =
+    acts-ids now p es _ ∙ ap (λ (l : List ℕ). together l (joins es)) (joined (acted now p (talk i f v)) (acted-keeps now p (talk i f v)) i s)
+acts-ids now p (listen i r ∷ es) s =
+    acts-ids now p es _ ∙ ap (λ (l : List ℕ). together l (joins es)) (joined (acted now p (listen i r)) (acted-keeps now p (listen i r)) i s)
+acts-ids now p (hearAll k ∷ es) s =
+    acts-ids now p es _ ∙ ap (λ (l : List ℕ). together l (joins es)) (left-all (acted now p (hearAll k)) (acted-keeps now p (hearAll k)) s)
+acts-ids now p (hear k i h ∷ es) s =
+    acts-ids now p es _ ∙ ap (λ (l : List ℕ). together l (joins es)) (left (acted now p (hear k i h)) (acted-keeps now p (hear k i h)) i s)
 acts-ids now p (ofDomain d ∷ es) s = acts-ids now p es s
 
 pub held-ids : (s : List Stream) → length s ≡ length (ids s)
@@ -162,8 +171,9 @@ module _ (b : Bridge) (p : ℕ) where
   -- the bridge after a frame that finds room
   next : Reading → Bridge
   next r =
-      owning (holding b (effect (applyAll (b .clock)) (p - 1) r (b .streams)))
-      (effect (applyOwns (b .clock)) (p - 1) r (b .owns))
+      sending
+      (owning (holding b (effect (applyAll (b .clock)) (p - 1) r (b .streams))) (effect (applyOwns (b .clock)) (p - 1) r (b .owns)))
+      (effect (applySenders (b .clock)) (p - 1) r (b .senders))
 
   -- 8 is given exactly where the streams held and those joined are more than 64
   pub too-many : (es : List Act) → 64 < length (together (ids (b .streams)) (joins es)) → received b p (acts es) ≡ record { number = 8; bridge = b }
@@ -174,7 +184,7 @@ module _ (b : Bridge) (p : ℕ) where
       rw (lt-leb (length s) 64 k)
 
   room : (r : Reading) → length (together (ids (b .streams)) (asks r)) ≤ 64 → received b p r ≡ record { number = number r; bridge = next r }
-  unfolding received number effect next asks holding owning
+  unfolding received number effect next asks holding owning sending
   room (refused n) h = refl
   room (acts es) h =
       let s = applyAll (b .clock) (p - 1) es (b .streams) in
@@ -182,7 +192,7 @@ module _ (b : Bridge) (p : ℕ) where
       rw (le-leb (length s) 64 k)
 
   accepted : (r : Reading) → received b p r .number ≡ 0 → received b p r .bridge .streams ≡ effect (applyAll (b .clock)) (p - 1) r (b .streams)
-  unfolding received effect holding owning
+  unfolding received effect holding owning sending
   accepted (refused n) e = refl
   accepted (acts es) e = go (leb (length s) 64) e
     where
@@ -191,7 +201,11 @@ module _ (b : Bridge) (p : ℕ) where
 
       answer : Bool → Answer
       answer t =
-          cond t record { number = 0; bridge = owning (holding b s) (applyOwns (b .clock) (p - 1) es (b .owns)) }
+          cond t
+          record {
+            number = 0;
+            bridge = sending (owning (holding b s) (applyOwns (b .clock) (p - 1) es (b .owns))) (applySenders (b .clock) (p - 1) es (b .senders));
+          }
           record { number = 8; bridge = b }
 
       go : (t : Bool) → answer t .number ≡ 0 → answer t .bridge .streams ≡ s
@@ -266,7 +280,7 @@ module _ {S : Type 0} (st : Settings) (step : ℕ → Frame → S → S)
       go false false d e = apart p q x y s (places-apart st p q d e n)
 
 module _ (st : Settings) (now : ℕ) where
-  -- the streams after a frame that finds room for its streams, what the ports hold by themselves, and its number
+  -- the streams after a frame that finds room for its streams, what the ports hold and what they send by themselves, and its number
   streamStep : ℕ → Frame → List Stream → List Stream
   streamStep p (msrp pdu) s = effect (applyAll now) (p - 1) (reading st p pdu) s
   streamStep p (mmrp pdu) s = s
@@ -274,6 +288,10 @@ module _ (st : Settings) (now : ℕ) where
   ownStep : ℕ → Frame → List Own → List Own
   ownStep p (msrp pdu) o = effect (applyOwns now) (p - 1) (reading st p pdu) o
   ownStep p (mmrp pdu) o = addressEffect now (p - 1) (addressReading st p pdu) o
+
+  senderStep : ℕ → Frame → List Sender → List Sender
+  senderStep p (msrp pdu) l = effect (applySenders now) (p - 1) (reading st p pdu) l
+  senderStep p (mmrp pdu) l = l
 
   ruling : ℕ → Frame → List Own → ℕ
   ruling p (msrp pdu) o = number (reading st p pdu)
@@ -289,6 +307,11 @@ module _ (st : Settings) (now : ℕ) where
   unfolding ownStep
   own-none p (msrp pdu) o e = unfold reading effect in (rw e)
   own-none p (mmrp pdu) o e = unfold addressReading addressEffect in (rw e)
+
+  senders-none : (p : ℕ) (x : Frame) (l : List Sender) → wrongPort st p ≡ true → senderStep p x l ≡ l
+  unfolding senderStep
+  senders-none p (msrp pdu) l e = unfold reading effect in (rw e)
+  senders-none p (mmrp pdu) l e = refl
 
   ruling-none : (p : ℕ) (x : Frame) (o : List Own) → wrongPort st p ≡ true → ruling p x o ≡ 1
   unfolding ruling
@@ -324,6 +347,18 @@ module _ (st : Settings) (now : ℕ) where
       go (refusedFrame n) = unfold addressEffect in (no-change (p - 1))
       go (addressActs es) = unfold addressEffect in (record { change = withRoom now es; is = λ o. refl })
 
+  sender-change : (p : ℕ) (x : Frame) → ChangesAt (p - 1) (senderStep p x)
+  unfolding senderStep
+  sender-change p (msrp pdu) = go (reading st p pdu)
+    where
+      go : (r : Reading) → ChangesAt (p - 1) (effect (applySenders now) (p - 1) r)
+      go (refused n) = unfold effect in (no-change (p - 1))
+      go (acts es) = unfold effect in (acts-send now (p - 1) es)
+  sender-change p (mmrp pdu) = no-change (p - 1)
+
+  senders-apart : (p q : ℕ) (x y : Frame) (l : List Sender) → (p - 1 ≡ q - 1 → ⊥) → senderStep p x (senderStep q y l) ≡ senderStep q y (senderStep p x l)
+  senders-apart p q x y l n = changes-apart (p - 1) (q - 1) (sender-change p x) (sender-change q y) n l
+
   own-apart : (p q : ℕ) (x y : Frame) (o : List Own) → (p - 1 ≡ q - 1 → ⊥) → ownStep p x (ownStep q y o) ≡ ownStep q y (ownStep p x o)
   own-apart p q x y o n = changes-apart (p - 1) (q - 1) (own-change p x) (own-change q y) n o
 
@@ -342,13 +377,16 @@ module _ (st : Settings) (now : ℕ) where
       go : (t u : Bool) → wrongPort st p ≡ t → wrongPort st q ≡ u → ruling p x (ownStep q y o) ≡ ruling p x o
       go true u d e = rw (ruling-none p x (ownStep q y o) d, ruling-none p x o d)
       go false true d e = rw (own-none q y o e)
-      go false false d e = same x (changes-other (q - 1) (own-change q y) (p - 1) (λ h. places-apart st p q d e n (sym h)) o)
+      go false false d e = same x (changes-other (q - 1) (own-change q y) (p - 1) (λ h. places-apart st p q d e n (sym h)) o noOwn)
 
   streams-order : (f g : List (ℕ × Frame)) (s : List Stream) → ((p : ℕ) → on p f ≡ on p g) → run streamStep f s ≡ run streamStep g s
   streams-order f g s same = same-run streamStep (step-commute st streamStep streams-none streams-apart) f g s same
 
   own-order : (f g : List (ℕ × Frame)) (o : List Own) → ((p : ℕ) → on p f ≡ on p g) → run ownStep f o ≡ run ownStep g o
   own-order f g o same = same-run ownStep (step-commute st ownStep own-none own-apart) f g o same
+
+  senders-order : (f g : List (ℕ × Frame)) (l : List Sender) → ((p : ℕ) → on p f ≡ on p g) → run senderStep f l ≡ run senderStep g l
+  senders-order f g l same = same-run senderStep (step-commute st senderStep senders-none senders-apart) f g l same
 
   -- The answers to frames that find room for their streams, with their ports; and those to the frames of one port alone.
   rulings : List (ℕ × Frame) → List Own → List (ℕ × ℕ)
@@ -421,11 +459,14 @@ Room f b = length (together (ids (b .streams)) (asked (b .settings) f)) ≤ 64
 
 -- the bridge after a frame that finds room for its streams
 after : Bridge → ℕ → Frame → Bridge
-after b p x = owning (holding b (streamStep (b .settings) (b .clock) p x (b .streams))) (ownStep (b .settings) (b .clock) p x (b .owns))
+after b p x =
+    sending
+    (owning (holding b (streamStep (b .settings) (b .clock) p x (b .streams))) (ownStep (b .settings) (b .clock) p x (b .owns)))
+    (senderStep (b .settings) (b .clock) p x (b .senders))
 
 one-frame : (b : Bridge) (p : ℕ) (x : Frame) → length (together (ids (b .streams)) (askedBy (b .settings) p x)) ≤ 64 →
     receiveFrame b p x ≡ record { number = ruling (b .settings) (b .clock) p x (b .owns); bridge = after b p x }
-unfolding receiveFrame after streamStep ownStep ruling askedBy next holding owning
+unfolding receiveFrame after streamStep ownStep senderStep ruling askedBy next holding owning sending
 one-frame b p (msrp pdu) h = unfold receive in (room b p (reading (b .settings) p pdu) h)
 one-frame b p (mmrp pdu) h = unfold receiveMmrp in (received-is b p (addressReading (b .settings) p pdu))
 
@@ -435,11 +476,11 @@ module _ (a : ℕ × Frame) (f : List (ℕ × Frame)) (b : Bridge) (h : Room (a 
   first-room = one-frame b (a .0) (a .1) (first-fits (ids (b .streams)) (askedBy (b .settings) (a .0) (a .1)) (asked (b .settings) f) 64 h)
 
   rest-room : Room f (after b (a .0) (a .1))
-  unfolding Room asked after holding owning
+  unfolding Room asked after holding owning sending
   rest-room =
       rw (step-ids (b .settings) (b .clock) (a .0) (a .1) (b .streams), ← together-append (ids (b .streams)) (askedBy (b .settings) (a .0) (a .1)) (asked (b .settings) f)) h
 
--- the streams, and what the ports hold by themselves, after frames that find room
+-- the streams, what the ports hold and what they send by themselves, after frames that find room
 module _ (f : List (ℕ × Frame)) (b : Bridge) where
   streamsAfter : List Stream
   streamsAfter = run (streamStep (b .settings) (b .clock)) f (b .streams)
@@ -447,19 +488,22 @@ module _ (f : List (ℕ × Frame)) (b : Bridge) where
   ownAfter : List Own
   ownAfter = run (ownStep (b .settings) (b .clock)) f (b .owns)
 
-after-run : (f : List (ℕ × Frame)) (b : Bridge) → Room f b → afterFrames f b ≡ owning (holding b (streamsAfter f b)) (ownAfter f b)
-unfolding afterFrames streamsAfter ownAfter run after holding owning
+  sendersAfter : List Sender
+  sendersAfter = run (senderStep (b .settings) (b .clock)) f (b .senders)
+
+after-run : (f : List (ℕ × Frame)) (b : Bridge) → Room f b → afterFrames f b ≡ sending (owning (holding b (streamsAfter f b)) (ownAfter f b)) (sendersAfter f b)
+unfolding afterFrames streamsAfter ownAfter sendersAfter run after holding owning sending
 after-run [] b h = refl
 after-run (a ∷ f) b h = rw (first-room a f b h) (after-run f (after b (a .0) (a .1)) (rest-room a f b h))
 
 -- the streams held after them
 pub after-ids : (f : List (ℕ × Frame)) (b : Bridge) → length (together (ids (b .streams)) (asked (b .settings) f)) ≤ 64 →
     ids (afterFrames f b .streams) ≡ together (ids (b .streams)) (asked (b .settings) f)
-unfolding Room holding owning streamsAfter
+unfolding Room holding owning sending streamsAfter
 after-ids f b h = rw (after-run f b h) (run-ids (b .settings) (b .clock) f (b .streams))
 
 all-answers : (f : List (ℕ × Frame)) (b : Bridge) → Room f b → frameAnswers f b ≡ rulings (b .settings) (b .clock) f (b .owns)
-unfolding frameAnswers rulings after holding owning
+unfolding frameAnswers rulings after holding owning sending
 all-answers [] b h = refl
 all-answers (a ∷ f) b h =
     rw (first-room a f b h)
@@ -469,13 +513,17 @@ all-answers (a ∷ f) b h =
 pub order : (f g : List (ℕ × Frame)) (b : Bridge) → ((p : ℕ) → on p f ≡ on p g) →
     length (together (ids (b .streams)) (asked (b .settings) f)) ≤ 64 →
     (afterFrames f b ≡ afterFrames g b) × ((p : ℕ) → on p (frameAnswers f b) ≡ on p (frameAnswers g b))
-unfolding Room streamsAfter ownAfter
+unfolding Room streamsAfter ownAfter sendersAfter
 order f g b same fits =
     let st = b .settings in
     let now = b .clock in
     let streams : streamsAfter f b ≡ streamsAfter g b = streams-order st now f g (b .streams) same in
     let own : ownAfter f b ≡ ownAfter g b = own-order st now f g (b .owns) same in
+    let senders : sendersAfter f b ≡ sendersAfter g b = senders-order st now f g (b .senders) same in
     let fits′ : Room g b = rw (← run-ids st now g (b .streams), ← streams, run-ids) fits in (
-      after-run f b fits ∙ ap₂ (λ (s : List Stream) (o : List Own). owning (holding b s) o) streams own ∙ sym (after-run g b fits′),
+      after-run f b fits
+          ∙ ap₂ (λ (s : List Stream) (o : List Own). sending (owning (holding b s) o) (sendersAfter f b)) streams own
+          ∙ ap (λ (l : List Sender). sending (owning (holding b (streamsAfter g b)) (ownAfter g b)) l) senders
+          ∙ sym (after-run g b fits′),
       λ p. rw (all-answers f b fits, all-answers g b fits′, on-rulings st now p f (b .owns), on-rulings st now p g (b .owns), same p),
     )

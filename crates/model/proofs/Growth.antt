@@ -2,7 +2,7 @@
 -- registration is removed; an own failure has code 7 exactly where no earlier step applies and the present latency is above the
 -- first; once it has fallen back, the next advance gives another column.
 use mathlib.Core.Path.{_≡_, refl, sym, _∙_}
-use mathlib.Core.List.{List}
+use mathlib.Core.List.{List, map}
 use mathlib.Core.Logic.{_⊎_, inl, inr}
 use mathlib.Core.Bool.{Bool, true, false, cond}
 use Prim.Native.Nat.{ℕ, _≤_, _<_}
@@ -11,11 +11,13 @@ use lib.Dec.{ltb}
 use borrow.Author.Tests.{lt-ltb, ltb-true}
 use Rattle.model.specs.Lists.{All}
 use Rattle.model.specs.State.{Settings, Fixed, Varying, Talker, noTalker, talker, Cell, failed, Stream, Bridge, unsettled, cellAt, resultAt}
-use Rattle.model.specs.Registrations.{Kind, Act, leaveAll, leave, talk, listen, ofDomain, withLeaving, quitTalker, quit, sameFixed, firstJoin, sameJoin, otherJoin, joinTalker, does}
-use Rattle.model.specs.Settling.{expired, expireTalker, remain, Source, nowhere, from, sourceOf, latencyOf, firstLatencyOf, talkerTypeOf, decideOwns, Scene, clear, isTalkerFailed, stepsFrom, steps, columnOf, decideAt, decide, settle, inboundsOf}
+use Rattle.model.specs.Registrations.{Kind, Act, leaveAll, leave, talk, listen, hearAll, hear, ofDomain, withLeaving, quitTalker, quit, sameFixed, firstJoin, sameJoin, otherJoin, joinTalker, does}
+use Rattle.model.specs.Settling.{expired, expireTalker, remain, Source, nowhere, from, sourceOf, latencyOf, firstLatencyOf, talkerTypeOf, decideOwns, Scene, clear, isTalkerFailed, stepsFrom, steps, columnOf, decideAt, decide, declare, deciding, declaring, settle, Inbound, inboundsOf}
 use Rattle.model.specs.Table.{columnCode}
 use Rattle.model.proofs.OwnCodes.{gives, earlier, asked, never, once, stepsOf, own-decided, own-only}
-use Rattle.model.proofs.ColumnRule.{at-place, all-image}
+use Rattle.model.proofs.AdvanceKeepsForm.{all-mapped, all-dropped}
+use Rattle.model.proofs.ColumnRule.{all-image}
+use Rattle.model.proofs.Lists.{at-place}
 
 -- The first latency. A Talker that is held has the first latency n.
 abbrev pub First : ℕ → Talker → Type 0
@@ -50,6 +52,8 @@ module _ (n now : ℕ) where
   first-stays (leave k i) c h = quit-stays k (c .talks) h
   first-stays (talk i f v) c h = join-stays f v (c .talks) h
   first-stays (listen i r) c h = h
+  first-stays (hearAll k) c h = h
+  first-stays (hear k i e) c h = h
   first-stays (ofDomain d) c h = h
 
   -- an advance leaves it too, or removes the registration
@@ -98,8 +102,10 @@ Fallen x =
 
 -- So it is after every advance, whatever was declared before.
 pub fallen-back : (now : ℕ) (b : Bridge) → All Fallen (settle now b .streams)
-unfolding settle decide decideAt sourceOf resultAt
-fallen-back now b = all-image Fallen (decide sc now s) fallen s
+unfolding settle declaring deciding declare decide decideAt sourceOf resultAt
+fallen-back now b =
+    all-dropped Fallen Fallen (λ y h f. f) (map declare (map (decide sc now s) s))
+    (all-mapped Fallen Fallen declare (λ y f. f) (map (decide sc now s) s) (all-image Fallen (decide sc now s) fallen s))
   where
     s : List Stream
     s = remain (b .settings) now (b .streams)

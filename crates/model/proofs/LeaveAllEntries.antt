@@ -5,7 +5,7 @@ use Prim.Native.Nat.{ℕ, _+_, _<_, _≤_}
 use native.Mathlib.Omega.{arith}
 use lib.Dec.{leb}
 use borrow.Author.Tests.{leb-false}
-use Rattle.model.specs.LeaveAll.{LeaveAllState, active, passive, LeaveAllEvent, begin, tx, rLA, leavealltimer, starting, sendsLeaveAll, inapplicable, leaveAllRow, leaveAllColumn, leaveAllEntry, LeaveAll, leaveAllNext, begun, leaveAllTime, hasRun, timedOut}
+use Rattle.model.specs.LeaveAll.{LeaveAllState, active, passive, begin, tx, rLA, leavealltimer, starting, sendsLeaveAll, inapplicable, leaveAllRow, leaveAllColumn, leaveAllEntry, LeaveAll, leaveAllNext, begun, leaveAllTime, hasRun, timedOut}
 
 unfoldable pub leaveAlls : Unit {0}
 unfolding leaveAllNext leaveAllEntry leaveAllRow leaveAllColumn starting sendsLeaveAll inapplicable begun

@@ -10,6 +10,7 @@ pub mod Withdrawing
 pub mod RegistrarEntries
 pub mod LeaveAllEntries
 pub mod Valid
+pub mod Hearing
 pub mod Parts
 pub mod Stored
 pub mod Cells
@@ -18,6 +19,7 @@ pub mod SettingsOctets
 pub mod Coded
 pub mod ApplicantOctets
 pub mod SendsOctets
+pub mod SenderOctets
 pub mod Owns
 pub mod Tables
 pub mod Fits
@@ -41,9 +43,19 @@ pub mod OneCutting
 pub mod LongestRun
 pub mod Gaps
 pub mod WritingPasses
+pub mod WrittenList
+pub mod WriteKeepsForm
+pub mod PortPasses
+pub mod QuietPort
+pub mod WrittenSends
+pub mod SilentWrite
 pub mod PackedVectors
 pub mod PackedEvents
 pub mod ReadBack
+pub mod ToldStreams
+pub mod Following
+pub mod ToldDomains
+pub mod TwoBridges
 pub mod Versions
 pub mod CutOut
 pub mod Refusals
@@ -69,7 +81,10 @@ pub mod HeldClock
 pub mod Newcomer
 pub mod Opened
 pub mod Examples
+pub mod SendingExamples
 pub mod CuttingExamples
 pub mod FormKept
 pub mod Demand3
+pub mod Dropping
+pub mod SettledSends
 pub mod AddressRoom

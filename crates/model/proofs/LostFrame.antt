@@ -3,7 +3,7 @@
 use mathlib.Core.Path.{_≡_, refl}
 use mathlib.Core.List.{List, [], _∷_}
 use mathlib.Core.Bool.{Bool, true, false}
-use Rattle.model.specs.Applicant.{ApplicantEvent, rJoinIn, tx, txLA, Message, sN, sJ, s, sL, optional, Standing, veryAnxiousPassive, veryAnxiousNew, anxiousNew, anxiousActive, quietActive, leavingActive, becomes, sent}
+use Rattle.model.specs.Applicant.{ApplicantEvent, rJoinIn, tx, txLA, Message, sN, sJ, s, sL, optional, Standing, veryAnxiousPassive, veryAnxiousNew, anxiousActive, quietActive, leavingActive, becomes, sent}
 use Rattle.model.proofs.ApplicantEntries.{tables}
 
 -- what a machine writes at its first opportunity and at its second, nothing being received between: New, Join or another message, or

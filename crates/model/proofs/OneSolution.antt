@@ -10,14 +10,16 @@ use lib.Seq.{ext-getD}
 use lib.Dec.{leb, eqb}
 use borrow.Author.Tests.{eq-eqb, ne-eqb}
 use Rattle.model.specs.Lists.{All, keep, tabulate}
-use Rattle.model.specs.State.{Column, none, Declared, nothing, Result, Stream, Totals, Bridge, Class, classA, classB, sameClass, inForce, portAt, cellAt, resultAt, unsettled, noTotals}
+use Rattle.model.specs.State.{Column, none, Declared, nothing, Result, Sender, Stream, Totals, Bridge, Class, classA, classB, sameClass, inForce, portAt, cellAt, resultAt, unsettled, noTotals}
 use Rattle.model.specs.Registrations.{ids}
 use Rattle.model.specs.Bandwidth.{Claim, key, above, remains, admitted}
-use Rattle.model.specs.Settling.{Scene, decideOwns, remain, sourceOf, isSource, streamClass, registered, first, clear, outcomeColumn, steps, claim, claims, reservedA, limitOn, leftFor, byBandwidth, columnOf, latencyOut, passed, mergeAll, merged, decideAt, decide, totalOn, totalsOn, settle, isAdvertise, sceneOf, Inbound, inboundsOf}
-use Rattle.model.proofs.Lists.{all-map, all-both}
+use Rattle.model.specs.Settling.{Scene, decideOwns, remain, sourceOf, isSource, streamClass, registered, first, clear, outcomeColumn, steps, claim, claims, reservedA, limitOn, leftFor, byBandwidth, columnOf, latencyOut, passed, mergeAll, merged, decideAt, decide, totalOn, totalsOn, deciding, declaring, settle, isAdvertise, sceneOf, Inbound, inboundsOf}
+use Rattle.model.proofs.Lists.{all-map, all-both, at-place}
 use Rattle.model.proofs.Valid.{Rising}
 use Rattle.model.proofs.Admission.{Obeys, Rule, unique, subtracted, total-is-sum, all-above, taken-same}
-use Rattle.model.proofs.ColumnRule.{spentIn, limitBy, leftBy, ruled, Small, claims-distinct, advertised, same-class, Agrees, spent-above, spent-all, columnAt, totalAt, SettledStream, Settled, Carried, Pairwise, Advanced, Shown, carried-column, carried-total, spent-same, total-ruled, advanced, at-place, tabulate-same, remain-all, remain-rising, carried-inbound}
+use Rattle.model.proofs.ColumnRule.{spentIn, limitBy, leftBy, ruled, Small, claims-distinct, advertised, Agrees, spent-above, spent-all, columnAt, totalAt, SettledStream, Settled, Carried, Pairwise, Decides, Shown, carried-column, carried-total, spent-same, total-ruled, tabulate-same, carried-inbound}
+use Rattle.model.proofs.Dropping.{Advanced, advanced}
+use Rattle.model.proofs.AdvanceKeepsForm.{same-class, remain-all, remain-rising}
 
 -- what holds of the claim of every stream that reaches step h holds of every claim
 module _ (sc : Scene) (now p : ℕ) (c : Class) where
@@ -129,8 +131,8 @@ module _ (sc : Scene) (now : ℕ) (s : List Stream) (p : ℕ) (r : Rising (ids s
 
 -- Records with equal fields are equal.
 
-stream-is : (x y : Stream) → x .id ≡ y .id → x .settled ≡ y .settled → x .cells ≡ y .cells → x .results ≡ y .results → x ≡ y
-stream-is x y i f c r = rw (i, f, c, r)
+stream-is : (x y : Stream) → x .id ≡ y .id → x .settled ≡ y .settled → x .cells ≡ y .cells → x .results ≡ y .results → x .sends ≡ y .sends → x ≡ y
+stream-is x y i f c r s = rw (i, f, c, r, s)
 
 result-is : (x y : Result) → x .column ≡ y .column → x .latency ≡ y .latency → x .entry ≡ y .entry → x .age ≡ y .age → x .declares ≡ y .declares → x ≡ y
 result-is x y c l e a d = rw (c, l, e, a, d)
@@ -165,18 +167,18 @@ carried-ids now (x ∷ s) (y ∷ t) w = rw (w .0 .id) (ap (λ (is : List ℕ). x
 
 -- What by the rules an advance leaves of the streams s are the columns, results and totals that it decides.
 
-abbrev bridge : Scene → ℕ → List Totals → List Stream → Bridge
-bridge sc now ts t = record { settings = sc .settings; clock = now; totals = ts; owns = sc .owns; streams = t }
+abbrev bridge : Scene → ℕ → List Totals → List Sender → List Stream → Bridge
+bridge sc now ts ss t = record { settings = sc .settings; clock = now; totals = ts; owns = sc .owns; senders = ss; streams = t }
 
-module _ (sc : Scene) (now : ℕ) (ts : List Totals) (s t : List Stream) (r : Rising (ids s)) (small : All Small (ids s))
-    (carried : Pairwise (Carried now) s t) (inbound : sc .inbound ≡ inboundsOf s) (settled : Settled (bridge sc now ts t)) where
+module _ (sc : Scene) (now : ℕ) (ts : List Totals) (ss : List Sender) (s t : List Stream) (r : Rising (ids s)) (small : All Small (ids s))
+    (carried : Pairwise (Carried now) s t) (inbound : sc .inbound ≡ inboundsOf s) (settled : Settled (bridge sc now ts ss t)) where
   rises : Rising (ids t)
   rises = rw (carried-ids now s t carried) r
 
   fit : All Small (ids t)
   fit = rw (carried-ids now s t carried) small
 
-  same-rule : (p : ℕ) (y : Stream) → ruled (sceneOf (bridge sc now ts t)) now t p (columnAt p) y ≡ ruled sc now t p (columnAt p) y
+  same-rule : (p : ℕ) (y : Stream) → ruled (sceneOf (bridge sc now ts ss t)) now t p (columnAt p) y ≡ ruled sc now t p (columnAt p) y
   same-rule p y =
       ap (λ (l : List Inbound). ruled record { settings = sc .settings; owns = sc .owns; inbound = l } now t p (columnAt p) y)
       (carried-inbound now s t carried ∙ sym inbound)
@@ -184,9 +186,9 @@ module _ (sc : Scene) (now : ℕ) (ts : List Totals) (s t : List Stream) (r : Ri
   module _ (p : ℕ) (here : p < 8) where
     shown : All (Shown sc p) t
     unfolding ruled
-    shown = all-map (SettledStream (bridge sc now ts t)) (Shown sc p) one t (settled .streams)
+    shown = all-map (SettledStream (bridge sc now ts ss t)) (Shown sc p) one t (settled .streams)
       where
-        one : (y : Stream) → SettledStream (bridge sc now ts t) y → Shown sc p y
+        one : (y : Stream) → SettledStream (bridge sc now ts ss t) y → Shown sc p y
         one y k = record {
           demand = claim (sc .settings) now p y .demand;
           left = leftBy sc now t p (columnAt p) y;
@@ -197,10 +199,10 @@ module _ (sc : Scene) (now : ℕ) (ts : List Totals) (s t : List Stream) (r : Ri
     solved : All (λ y. columnAt p y ≡ columnOf sc now t p y) t
     solved =
         unique-columns sc now t p rises fit (columnAt p)
-        (all-map (SettledStream (bridge sc now ts t)) (λ y. columnAt p y ≡ ruled sc now t p (columnAt p) y)
+        (all-map (SettledStream (bridge sc now ts ss t)) (λ y. columnAt p y ≡ ruled sc now t p (columnAt p) y)
         (λ y k. k .shows p here .column ∙ same-rule p y) t (settled .streams))
 
-    total-solved : (c : Class) → totalAt (bridge sc now ts t) p c ≡ totalOn sc now s p c
+    total-solved : (c : Class) → totalAt (bridge sc now ts ss t) p c ≡ totalOn sc now s p c
     total-solved c =
         settled .totals p here c
         ∙ spent-same sc now p (columnAt p) (columnOf sc now t p) c (λ e. true) t solved
@@ -216,7 +218,7 @@ module _ (sc : Scene) (now : ℕ) (ts : List Totals) (s t : List Stream) (r : Ri
       all-places (λ p y. Shown sc p y × (columnAt p y ≡ columnOf sc now t p y)) t
       (λ p h. all-both (Shown sc p) (λ y. columnAt p y ≡ columnOf sc now t p y) t (shown p h) (solved p h))
 
-  module _ (x y : Stream) (c : Carried now x y) (k : SettledStream (bridge sc now ts t) y) (known : Decided y) where
+  module _ (x y : Stream) (c : Carried now x y) (k : SettledStream (bridge sc now ts ss t) y) (known : Decided y) where
     same-cell : (p : ℕ) → cellAt y p ≡ cellAt x p
     unfolding cellAt
     same-cell p = rw (c .cells)
@@ -257,12 +259,13 @@ module _ (sc : Scene) (now : ℕ) (ts : List Totals) (s t : List Stream) (r : Ri
     same-stream =
         stream-is y (decide sc now s x) (c .id) (k .values ∙ rw same-source) (c .cells)
         (eight-places unsettled (y .results) (decideAt sc now s x) (k .places) same-result)
+        (c .sends)
 
   streams-solved : t ≡ map (decide sc now s) s
   streams-solved =
-      pairwise-is (Carried now) (λ y. SettledStream (bridge sc now ts t) y × Decided y) (decide sc now s)
+      pairwise-is (Carried now) (λ y. SettledStream (bridge sc now ts ss t) y × Decided y) (decide sc now s)
       (λ x y c k. same-stream x y c (k .0) (k .1)) s t carried
-      (all-both (SettledStream (bridge sc now ts t)) Decided t (settled .streams) all-decided)
+      (all-both (SettledStream (bridge sc now ts ss t)) Decided t (settled .streams) all-decided)
 
   totals-solved : ts ≡ tabulate 8 0 (totalsOn sc now s)
   unfolding totalsOn totalAt
@@ -270,24 +273,30 @@ module _ (sc : Scene) (now : ℕ) (ts : List Totals) (s t : List Stream) (r : Ri
       eight-places noTotals ts (totalsOn sc now s) (settled .places)
       (λ p h. totals-is (getD ts p noTotals) (totalsOn sc now s p) (total-solved p h classA) (total-solved p h classB))
 
--- A bridge that is what an advance leaves by the rules is the one that advance leaves.
-pub one-bridge : (now : ℕ) (b c : Bridge) → Rising (ids (b .streams)) → All Small (ids (b .streams)) → Advanced now b c → c ≡ settle now b
-unfolding settle
-one-bridge now b c r small advanced =
+-- A bridge that is what an advance decides by the rules is the one that advance decides,
+pub one-decided : (now : ℕ) (b c : Bridge) → Rising (ids (b .streams)) → All Small (ids (b .streams)) → Decides now b c → c ≡ deciding now b
+unfolding deciding
+one-decided now b c r small decides =
     let st = b .settings in
     let s = remain st now (b .streams) in
     let sc : Scene = record { settings = st; owns = decideOwns st now (b .owns); inbound = inboundsOf s } in
     let remaining : Rising (ids s) = remain-rising st now (b .streams) r in
     let few : All Small (ids s) = remain-all st now Small (b .streams) small in
-    let settled : Settled (bridge sc now (c .totals) (c .streams)) =
-    rw (advanced .settings, advanced .clock, advanced .owns) at (advanced .decided) in
+    let settled : Settled (bridge sc now (c .totals) (c .senders) (c .streams)) =
+    rw (decides .settings, decides .clock, decides .owns) at (decides .decided) in
     rw (
-      advanced .settings,
-      advanced .clock,
-      advanced .owns,
-      totals-solved sc now (c .totals) s (c .streams) remaining few (advanced .streams) refl settled,
-      streams-solved sc now (c .totals) s (c .streams) remaining few (advanced .streams) refl settled,
+      decides .settings,
+      decides .clock,
+      decides .owns,
+      totals-solved sc now (c .totals) (c .senders) s (c .streams) remaining few (decides .streams) refl settled,
+      streams-solved sc now (c .totals) (c .senders) s (c .streams) remaining few (decides .streams) refl settled,
+      decides .senders,
     )
+
+-- and so one that is what an advance leaves by the rules is the one that advance leaves.
+pub one-bridge : (now : ℕ) (b c : Bridge) → Rising (ids (b .streams)) → All Small (ids (b .streams)) → Advanced now b c → c ≡ settle now b
+unfolding settle
+one-bridge now b c r small advanced = advanced .left ∙ ap declaring (one-decided now b (advanced .between) r small (advanced .decides))
 
 -- The rules of settling have exactly one solution, and advance leaves it.
 pub exactly-one : (now : ℕ) (b : Bridge) → Rising (ids (b .streams)) → All Small (ids (b .streams)) →

@@ -12,14 +12,14 @@ use Rattle.octets.specs.Fields.{fields, packed, Fit, width, flat}
 use Rattle.octets.specs.Parts.{part, zeros}
 use Rattle.octets.proofs.Parts.{length-part}
 use Rattle.octets.proofs.Fields.{length-packed-any, fields-of-packed, fields-packed-behind, packed-fields, fields-fit, fit-at, fit-zeros, packed-zeros}
-use Rattle.model.specs.Layout.{mostAddresses, inOwn, addressesSize, addressSize, boundaryWidths, slotIndex, addressCountWidths, ownSize, slotSize, slotWidths, slots, slotsSize}
-use Rattle.model.specs.Lists.{All, allTrue, bit, parts, Octets}
+use Rattle.model.specs.Layout.{addressCountWidths, addressSize, addressesSize, boundaryWidths, inOwn, mostAddresses, ownSize, slotIndex, slotSize, slotWidths, slots, slotsSize}
+use Rattle.model.specs.Lists.{All, allTrue, bit, parts, Octets, allZero}
 use Rattle.model.specs.State.{Domain, noDomain, domain, Own, noOwn}
 use Rattle.model.specs.Registrations.{macs}
-use Rattle.model.specs.Table.{leavingNumber, sinceNumber, toLeaving, leavingRule, allZero, everyPart, domainNumbers, domainFrom, domainOctets, toDomain, domainRules, domainFormed, addressFormed, toAddress, ownOctets, slotsPart, addressesHeld, addressesPart, toOwn, rising, macOf, ownRules, ownFormed}
+use Rattle.model.specs.Table.{toLeaving, leavingRule, everyPart, domainNumbers, domainFrom, domainOctets, toDomain, domainRules, domainFormed, addressFormed, toAddress, ownOctets, slotsPart, addressesHeld, addressesPart, toOwn, rising, macOf, ownRules, ownFormed}
 use Rattle.model.specs.Laid.{FitOwn}
 use Rattle.model.proofs.Lists.{all-each, all-map, all-replicate, implied, all-true, true-all}
-use Rattle.model.proofs.Valid.{ValidLeaving, ValidDomain, ValidOwn, Rising}
+use Rattle.model.proofs.Valid.{ValidDomain, ValidOwn, Rising}
 use Rattle.model.proofs.Parts.{_also_, Sized, octets-at, octets-append, octets-packed, octets-flat, octets-part, octets-drop, zero-at, zero-zeros, packed-whole, length-parts, length-flat-sized, flat-zeros, zeros-add, many-read, part-between}
 use Rattle.model.proofs.Cells.{bit-back, bit-forth, bit-few, leaving-back, leaving-few, since-within, leaving-formed, left}
 use Rattle.model.proofs.Coded.{Coded, many-keep, many-forth, many-valid}

@@ -1,7 +1,7 @@
--- The event octets of a vector, one declaration after another: each adds its event and its type to one octet of either kind.
+-- The event octets of a vector, one declaration after another: each adds its own event and its type to one octet of either kind.
 use mathlib.Core.Path.{_≡_, refl, sym, _∙_, ap}
 use mathlib.Core.List.{List, [], _∷_, _++_}
-use mathlib.Core.Bool.{Bool, true, false}
+use mathlib.Core.Bool.{Bool, true, false, cond}
 use Prim.Native.Nat.{ℕ, zero, suc, _+_, _*_, _/_, _%_, _<_}
 use native.Mathlib.Omega.{arith}
 use lib.ListN.{length, getD, set, length-set}
@@ -10,8 +10,8 @@ use lib.Dec.{eqb}
 use borrow.Author.Tests.{eq-eqb, ne-eqb, eqb-true, eqb-false}
 use Rattle.octets.specs.Parts.{zeros}
 use Rattle.model.specs.Lists.{All, tabulate}
-use Rattle.model.specs.Declarations.{Declaration, declaredId, declaredIds}
-use Rattle.model.specs.WrittenFrames.{listenerNumber, said, eventNumber, threeOctet, fourOctet}
+use Rattle.model.specs.Declarations.{Said, declaredId, declaredIds}
+use Rattle.model.specs.WrittenFrames.{listenerNumber, said, eventSaid, threeOctet, fourOctet}
 use Rattle.model.proofs.Lists.{getD-tabulate, length-tabulate}
 use Rattle.model.proofs.Parts.{tabulate-zeros}
 
@@ -129,31 +129,59 @@ pub four-none : (n : ℕ) → tabulate n 0 (fourOctet (λ i. 0)) ≡ zeros n
 unfolding fourOctet
 four-none n = tabulate-zeros n 0 (fourOctet (λ i. 0)) (λ i a b. refl)
 
-said-above : (g : List Declaration) (i : ℕ) → All (λ j. j < i) (declaredIds g) → said g i ≡ 0
-unfolding said declaredIds
-said-above [] i a = refl
-said-above (d ∷ g) i a = rw (ne-eqb (declaredId d) i (λ e. omega (arith, a .0))) (said-above g i (a .1))
+-- What the Listeners of a vector tell of a StreamID, by the number that each has: its declaration type, or its event.
+abbrev pub idOf : Said → ℕ
+idOf d = declaredId (d .declaration)
 
-said-last : (g : List Declaration) (d : Declaration) → All (λ j. j < declaredId d) (declaredIds g) → said (g ++ (d ∷ [])) (declaredId d) ≡ listenerNumber d
-unfolding said declaredIds
-said-last [] d a = rw (eq-eqb (declaredId d) (declaredId d) refl)
-said-last (c ∷ g) d a = rw (ne-eqb (declaredId c) (declaredId d) (λ e. omega (arith, a .0))) (said-last g d (a .1))
+abbrev pub typeOf : Said → ℕ
+typeOf d = listenerNumber (d .declaration)
 
-said-other : (g : List Declaration) (d : Declaration) (i : ℕ) → (i ≡ declaredId d → ⊥) → said (g ++ (d ∷ [])) i ≡ said g i
-unfolding said
-said-other [] d i s = rw (ne-eqb (declaredId d) i (λ e. s (sym e)))
-said-other (c ∷ g) d i s = rw (said-other g d i s)
+abbrev pub eventIn : Said → ℕ
+eventIn d = d .event
 
--- One declaration more, above those that are there: what is said of its StreamID was nothing.
-pub said-more : (g : List Declaration) (d : Declaration) (first o : ℕ) → All (λ j. j < declaredId d) (declaredIds g) → first + o ≡ declaredId d
-    → Adds (λ i. said g (first + i)) (λ i. said (g ++ (d ∷ [])) (first + i)) o (listenerNumber d)
-said-more g d first o a e = record {
-  none = rw e (said-above g (declaredId d) a);
-  there = rw e (said-last g d a);
-  same = λ i s. said-other g d (first + i) (λ q. s (omega arith));
-}
+unfoldable pub told : (Said → ℕ) → List Said → ℕ → ℕ
+told f [] id = 0
+told f (d ∷ g) id = cond (eqb (idOf d) id) (f d) (told f g id)
 
--- and its event, which is JoinMt
-pub event-more : (e f : ℕ → ℕ) (o v : ℕ) → Adds e f o (suc v) → Adds (λ i. eventNumber (e i)) (λ i. eventNumber (f i)) o 3
-unfolding eventNumber
-event-more e f o v a = record { none = rw (a .none) refl; there = rw (a .there) refl; same = λ i s. rw (a .same i s) }
+pub said-told : (g : List Said) (i : ℕ) → said g i ≡ told typeOf g i
+unfolding said told
+said-told [] i = refl
+said-told (d ∷ g) i = ap (cond (eqb (idOf d) i) (typeOf d)) (said-told g i)
+
+pub event-told : (g : List Said) (i : ℕ) → eventSaid g i ≡ told eventIn g i
+unfolding eventSaid told
+event-told [] i = refl
+event-told (d ∷ g) i = ap (cond (eqb (idOf d) i) (d .event)) (event-told g i)
+
+module _ (f : Said → ℕ) where
+  told-above : (g : List Said) (i : ℕ) → All (λ j. j < i) (declaredIds g) → told f g i ≡ 0
+  unfolding told declaredIds
+  told-above [] i a = refl
+  told-above (d ∷ g) i a = rw (ne-eqb (idOf d) i (λ e. omega (arith, a .0))) (told-above g i (a .1))
+
+  told-last : (g : List Said) (d : Said) → All (λ j. j < idOf d) (declaredIds g) → told f (g ++ (d ∷ [])) (idOf d) ≡ f d
+  unfolding told declaredIds
+  told-last [] d a = rw (eq-eqb (idOf d) (idOf d) refl)
+  told-last (c ∷ g) d a = rw (ne-eqb (idOf c) (idOf d) (λ e. omega (arith, a .0))) (told-last g d (a .1))
+
+  told-other : (g : List Said) (d : Said) (i : ℕ) → (i ≡ idOf d → ⊥) → told f (g ++ (d ∷ [])) i ≡ told f g i
+  unfolding told
+  told-other [] d i s = rw (ne-eqb (idOf d) i (λ e. s (sym e)))
+  told-other (c ∷ g) d i s = rw (told-other g d i s)
+
+-- One declaration more, above those that are there: nothing was said of its StreamID.
+module _ (g : List Said) (d : Said) (first o : ℕ) (above : All (λ j. j < idOf d) (declaredIds g)) (at : first + o ≡ idOf d) where
+  pub said-more : Adds (λ i. said g (first + i)) (λ i. said (g ++ (d ∷ [])) (first + i)) o (typeOf d)
+  said-more = record {
+    none = rw at (said-told g (idOf d) ∙ told-above typeOf g (idOf d) above);
+    there = rw at (said-told (g ++ (d ∷ [])) (idOf d) ∙ told-last typeOf g d above);
+    same = λ i s. said-told (g ++ (d ∷ [])) (first + i) ∙ told-other typeOf g d (first + i) (λ q. s (omega arith)) ∙ sym (said-told g (first + i));
+  }
+
+  -- and its event
+  pub event-more : Adds (λ i. eventSaid g (first + i)) (λ i. eventSaid (g ++ (d ∷ [])) (first + i)) o (d .event)
+  event-more = record {
+    none = rw at (event-told g (idOf d) ∙ told-above eventIn g (idOf d) above);
+    there = rw at (event-told (g ++ (d ∷ [])) (idOf d) ∙ told-last eventIn g d above);
+    same = λ i s. event-told (g ++ (d ∷ [])) (first + i) ∙ told-other eventIn g d (first + i) (λ q. s (omega arith)) ∙ sym (event-told g (first + i));
+  }

@@ -13,8 +13,8 @@ use borrow.Author.Tests.{eqb-true, ltb-true, lt-ltb}
 use Rattle.octets.specs.Parts.{part, zeros}
 use Rattle.octets.specs.Fields.{fields, packed, width, flat}
 use Rattle.octets.proofs.Fields.{packed-octets, packed-fields}
-use Rattle.model.specs.Lists.{All, tabulate, parts, Octet, Octets}
-use Rattle.model.specs.Table.{everyPart, allZero, rising}
+use Rattle.model.specs.Lists.{All, tabulate, parts, Octet, Octets, allZero}
+use Rattle.model.specs.Table.{everyPart, rising}
 use Rattle.model.specs.Laid.{Ascending}
 use Rattle.model.proofs.Lists.{all-map, all-append, all-take, all-drop, all-replicate, and-left, and-right, and-both}
 use Rattle.model.proofs.Valid.{Rising}

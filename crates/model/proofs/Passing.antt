@@ -7,7 +7,7 @@ use Prim.Native.Nat.{ℕ, zero, suc, _+_, _-_, _≤_, _<_}
 use native.Mathlib.Omega.{arith}
 use lib.ListN.{length, take, drop, take-append-drop, length-drop}
 use lib.Seq.{length-take-le, take-append-seam, drop-append-seam}
-use Rattle.model.specs.Places.{isNone, Way, Wrote, each, saying, reached, behind, leftBefore, writeFrom, runs, left}
+use Rattle.model.specs.Places.{isNone, Way, each, saying, reached, behind, leftBefore, writeFrom, runs, left}
 use Rattle.model.proofs.PlaceLists.{each-append, reached-behind, saying-behind, none-behind, no-length, none-there, some-there}
 
 -- How many one PDU takes: not more than there are, and at least one where there is one.

@@ -7,19 +7,18 @@ use mathlib.Core.Bool.{Bool, true, false, cond, not, _&&_, _||_, true≢false, f
 use Prim.Native.Nat.{ℕ, _-_, _<_}
 use native.Mathlib.Omega.{arith}
 use native.Mathlib.Decide.{decLt}
-use lib.ListN.{getD, drop}
-use lib.Dec.{eqb, leb}
+use lib.ListN.{drop}
+use lib.Dec.{eqb, ltb, leb}
 use borrow.Author.Tests.{eqb-true, eqb-false, eq-eqb, ne-eqb}
-use Rattle.model.specs.Lists.{All, keep, tabulate}
-use Rattle.model.specs.State.{Settings, Fixed, TalkerType, talkerAdvertise, talkerFailed, Domain, Address, Own, Column, none, advertise, failed, Cell, Stream, Bridge, Class, noClass, classA, classB, noOwn, ownAt, cellAt, portAt, isPort, classOf, sameClass, supports}
-use Rattle.model.specs.Registrations.{AddressAct, doesAddresses, changeAddresses, AddressReading, refusedFrame, addressActs, Answer, receivedAddresses, owning, macs}
+use Rattle.model.specs.Lists.{All, tabulate}
+use Rattle.model.specs.State.{Settings, Fixed, TalkerType, talkerAdvertise, talkerFailed, Address, Own, Column, none, advertise, failed, Stream, Bridge, Class, noClass, classA, classB, noOwn, ownAt, cellAt, portAt, isPort, classOf, supports}
+use Rattle.model.specs.Registrations.{AddressAct, doesAddresses, changeAddresses, AddressReading, refusedFrame, addressActs, Answer, owning, macs}
 use Rattle.model.specs.AddressFrames.{addressReading}
-use Rattle.model.specs.Settling.{Scene, Inbound, inboundsOf, decideOwn, decideOwns, flagOf, boundary, holdsAddress, isPruned, remain, Origin, Source, nowhere, from, sourceOf, talkerTypeOf, streamClass, registered, Outcome, columnNone, StepName, stepA, stepB, stepH, stepI, stepN, asRegistered, ownFailure, Step, first, clear, isTalkerFailed, failedColumn, outcomeColumn, stepsFrom, steps, claim, claims, reservedA, limitOn, leftFor, byBandwidth, columnOf, passed, mergeAll, merged, decideAt, decide, totalOn, totalsOn, settle, asAdvertise, outcomeOf, about, bandwidthSteps}
+use Rattle.model.specs.Settling.{Scene, Inbound, inboundsOf, decideOwn, decideOwns, boundary, holdsAddress, isPruned, remain, Origin, Source, nowhere, from, sourceOf, talkerTypeOf, streamClass, registered, columnNone, StepName, stepA, stepB, stepH, stepI, stepN, ownFailure, Step, first, isTalkerFailed, failedColumn, outcomeColumn, stepsFrom, steps, claim, claims, reservedA, limitOn, leftFor, byBandwidth, columnOf, passed, merged, decideAt, decide, totalOn, totalsOn, dropUnheld, declare, deciding, declaring, settle, Outcome, asAdvertise, asRegistered, bandwidthSteps, outcomeOf, about, flagOf, clear, mergeAll}
 use Rattle.model.specs.Why.{letter, sameStep, firstName, lastName, stepOn}
 use Rattle.model.specs.Table.{columnNumber}
 use Rattle.model.specs.Calls.{receiveMmrp}
 use Rattle.model.proofs.Lists.{at-place, at-each}
-use Rattle.model.proofs.Parts.{_also_}
 use Rattle.model.proofs.AdvanceKeepsForm.{getD-past}
 use Rattle.model.proofs.ColumnRule.{tabulate-same}
 use Rattle.model.proofs.OwnCodes.{stepsOf}
@@ -282,7 +281,7 @@ module _ (b : Bridge) (p : ℕ) (pdu : List ℕ) where
   -- With pruning off it changes no result: advanced to any time, the bridge has the same streams with the same results, and the same
   -- totals, as without the frame.
   pub pruning-off : b .settings .pruning ≡ false → (now : ℕ) → (settle now after .streams ≡ settle now b .streams) × (settle now after .totals ≡ settle now b .totals)
-  unfolding settle
+  unfolding settle declaring deciding
   pruning-off off now =
       let st = b .settings in
       let s = remain st now (b .streams) in
@@ -292,7 +291,7 @@ module _ (b : Bridge) (p : ℕ) (pdu : List ℕ) where
       let f = mmrp-same b p pdu (λ c. c .streams) (λ o. unfold owning in refl) in
       let g = same-edges st now in
       rw (e, f) (
-        map-congr-left {l = s} (λ x m. same-stream st off o o′ (inboundsOf s) g now s x),
+        ap (λ (l : List Stream). dropUnheld (map declare l)) (map-congr-left {l = s} (λ x m. same-stream st off o o′ (inboundsOf s) g now s x)),
         tabulate-same (totalsOn (one st off o o′ (inboundsOf s) g now) now s) (totalsOn (other st off o o′ (inboundsOf s) g now) now s) 8 0
             (λ q a b. same-totals st off o o′ (inboundsOf s) g now s q),
       )

@@ -8,7 +8,7 @@ use native.Mathlib.Omega.{arith}
 use lib.ListN.{length, take, drop}
 use Rattle.model.specs.Lists.{All, keep}
 use Rattle.model.specs.Applicant.{ApplicantEvent, tx, txLA, txLAF, Standing, veryAnxiousPassive, veryAnxiousNew, anxiousNew, anxiousActive, quietActive, leavingActive, becomes, speaks}
-use Rattle.model.specs.Places.{Way, each, saying, reached, behind, leftBefore, writeFrom, runs, left}
+use Rattle.model.specs.Places.{each, saying, reached, behind, leftBefore, writeFrom, runs, left}
 use Rattle.model.specs.Machines.{Listed, with, after, way}
 use Rattle.model.proofs.Lists.{all-map, all-each, all-append, all-drop}
 use Rattle.model.proofs.ApplicantEntries.{written, written-leaving-all, left-out, speaking}
@@ -148,7 +148,7 @@ module _ {D : Type 0} where
       go quietActive e = rw (written (g (x .value)) .4)
       go leavingActive e = absurd (true≢false (sym (speaking .5) ∙ e))
 
-  nothing-moves : (g : D → Bool) (l : List (Listed D)) → saying (way false g .says) l ≡ [] → each (way false g .inside) l ≡ l
+  pub nothing-moves : (g : D → Bool) (l : List (Listed D)) → saying (way false g .says) l ≡ [] → each (way false g .inside) l ≡ l
   unfolding way each saying
   nothing-moves g [] e = refl
   nothing-moves g (x ∷ l) e = go (speaks tx (x .state)) refl e (nothing-moves g l)
@@ -233,7 +233,7 @@ module _ {D : Type 0} where
       unfolding out
       all-speak = moved-all (λ y. Unit {0}) (λ y. speaks tx y ≡ true) g txLAF (λ r y u. out-speaks r y) rest (all-each (λ x. Unit {0}) (λ x. tt) rest)
 
-      out-said : left-to-say (way false h) takes next list ≡ out
+      pub out-said : left-to-say (way false h) takes next list ≡ out
       unfolding left-to-say
       out-said = ap (saying (way false h .says)) from-list ∙ unfold way in (all-saying (λ (x : Listed D). speaks tx (x .state)) out all-speak)
 

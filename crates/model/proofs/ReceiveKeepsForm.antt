@@ -1,25 +1,28 @@
 -- Receive, accepted or refused, leaves a bridge that keeps the form rules, its settings, its clock and its totals.
-use mathlib.Core.Path.{_≡_, refl, _∙_, ap, ap₂}
+use mathlib.Core.Path.{_≡_, refl, _∙_, ap₂}
 use mathlib.Core.Logic.{_⊎_, inl, inr}
 use mathlib.Core.List.{List, [], _∷_, map}
 use mathlib.Core.Bool.{Bool, true, false, cond, _||_, false≢true, _&&_}
 use Prim.Native.Nat.{ℕ, zero, suc, _+_, _-_, _^_, _≤_, _<_}
 use native.Mathlib.Omega.{arith}
+use native.Mathlib.Decide.{ℕ-discrete}
 use lib.ListN.{length, drop, replicate, length-map, getD-replicate}
 use lib.Dec.{ltb, leb, eqb}
 use borrow.Author.Tests.{ltb-true, ltb-false, leb-true, le-leb, eqb-false}
-use Rattle.model.specs.Lists.{All, Octets}
-use Rattle.model.specs.State.{Settings, Leaving, stays, since, Fixed, Varying, Talker, noTalker, talker, Listener, noListener, listener, Ready, Cell, Domain, noDomain, domain, Own, Stream, Bridge, empty, unsettled, noFixed, noOwn, blank, fresh, Port, Totals, cellAt, resultAt, classB, inForce}
-use Rattle.model.specs.Registrations.{Kind, Act, leaveAll, leave, talk, listen, ofDomain, DomainAct, leaveAllDomains, leaveDomain, joinDomain, begin, talksAs, hearsAs, withLeaving, quitTalker, quitListener, quit, sameFixed, firstJoin, sameJoin, otherJoin, joinTalker, does, at, change, begun, touch, reach, apply, applyAll, quitDomain, doesDomain, changeDomains, applyOwn, applyOwns, Reading, refused, acts, Answer, holding, owning, received, ids}
+use Rattle.model.specs.Lists.{All, Octets, allTrue}
+use Rattle.model.specs.State.{Settings, Leaving, stays, since, Fixed, Varying, Talker, noTalker, talker, Listener, noListener, listener, Ready, Cell, Domain, noDomain, domain, Own, Sends, Sender, Stream, Bridge, empty, unsettled, noFixed, noOwn, noSends, noSender, blank, fresh, Port, Totals, cellAt, resultAt, sendsAt, senderAt, declaresSlot, classB, inForce}
+use Rattle.model.specs.Registrations.{Kind, Act, leaveAll, leave, talk, listen, hearAll, hear, ofDomain, DomainAct, leaveAllDomains, leaveDomain, joinDomain, hearAllDomains, hearDomain, begin, talksAs, hearsAs, withLeaving, quitTalker, quitListener, quit, sameFixed, firstJoin, sameJoin, otherJoin, joinTalker, does, moves, at, change, begun, touch, reach, apply, applyAll, quitDomain, doesDomain, changeDomains, applyOwn, applyOwns, movesSender, applySenders, Reading, refused, acts, Answer, holding, owning, sending, received, ids}
 use Rattle.model.specs.Frames.{wrongPort, reading}
-use Rattle.model.specs.Settling.{isTalking, isHearing, held}
-use Rattle.model.specs.Table.{atMost, totalsWithin}
+use Rattle.model.specs.Settling.{isTalking, isHearing, isAdvertise, held, isSending, anySending, isHeld}
+use Rattle.model.specs.Table.{stands, isFailed, declares, alike, sentRules, sentFormed, atMost, totalsWithin, anyHeld}
 use Rattle.model.specs.Calls.{receive}
-use Rattle.model.proofs.Lists.{all-map, all-drop, all-replicate, length-at, all-changed, drop-changed, and-left, and-right, and-both}
-use Rattle.model.proofs.Valid.{ValidLeaving, ValidFixed, ValidVarying, ValidRegistration, ValidTalker, ValidListener, ValidCell, ValidDomain, ValidOwn, ValidResult, ValidStream, Rising, Valid, again-valid}
+use Rattle.model.proofs.Lists.{all-map, all-drop, all-replicate, length-at, all-changed, drop-changed, at-here, at-other, at-each, and-left, and-right, and-both}
+use Rattle.model.proofs.Valid.{ValidLeaving, ValidFixed, ValidVarying, ValidRegistration, ValidTalker, ValidListener, ValidCell, ValidDomain, ValidOwn, ValidResult, ValidSends, ValidStream, ValidSender, Rising, Valid, again-valid}
 use Rattle.model.proofs.FoundVectors.{Fits, FitsDomain, FitsReading, reading-fits, or-left, or-right}
 use Rattle.model.proofs.Stored.{Stays, talkers-stay, stored-kept, unsettled-stored, unsettled-declare}
 use Rattle.model.proofs.AdvanceKeepsForm.{all-mapped, unsettled-valid}
+use Rattle.model.proofs.Commute.{Change, Keeps, acted, acted-keeps, at-fixed, Does, every, single, untouched, act-does}
+use Rattle.model.proofs.Hearing.{SendsStay, moves-stay, sender-moves}
 
 -- One cell: an act keeps it valid, as it does at the clock, and at any earlier time that is less than the leave time before it.
 
@@ -64,6 +67,8 @@ module _ (clock leaveTime now : ℕ) (past : now ≤ clock) (recent : clock < no
   does-valid (leave k i) h c v = quit-valid k c v
   does-valid (talk i f w) h c v = record { talks = talker-joins f w (h .1) (h .2) (c .talks) (v .talks); hears = v .hears }
   does-valid (listen i r) h c v = record { talks = v .talks; hears = tt }
+  does-valid (hearAll k) h c v = v
+  does-valid (hear k i x) h c v = v
   does-valid (ofDomain d) h c v = v
 
 -- A registration stays on its port, leaving or not, and a join puts one there.
@@ -92,7 +97,7 @@ or-true : (a : Bool) → (a || true) ≡ true
 or-true true = refl
 or-true false = refl
 
-or-map : (a a′ b b′ : Bool) → (a ≡ true → a′ ≡ true) → (b ≡ true → b′ ≡ true) → (a || b) ≡ true → (a′ || b′) ≡ true
+pub or-map : (a a′ b b′ : Bool) → (a ≡ true → a′ ≡ true) → (b ≡ true → b′ ≡ true) → (a || b) ≡ true → (a′ || b′) ≡ true
 or-map true a′ b b′ f g h = rw (f refl)
 or-map false a′ b b′ f g h = rw (g h) (or-true a′)
 
@@ -126,6 +131,8 @@ does-keeps now (leaveAll k) c = quit-keeps now k c
 does-keeps now (leave k i) c = quit-keeps now k c
 does-keeps now (talk i f v) c = record { talks = λ h. talk-talks f v (c .talks) (c .hears); hears = λ h. h }
 does-keeps now (listen i r) c = record { talks = λ h. h; hears = λ h. refl }
+does-keeps now (hearAll k) c = record { talks = λ h. h; hears = λ h. h }
+does-keeps now (hear k i x) c = record { talks = λ h. h; hears = λ h. h }
 does-keeps now (ofDomain d) c = record { talks = λ h. h; hears = λ h. h }
 
 port-stays : (c d : Cell) → Stays c d → onPort c ≡ true → onPort d ≡ true
@@ -147,152 +154,191 @@ held-joined p u [] k h = absurd (omega arith)
 held-joined zero u (c ∷ cs) k h = rw (k c)
 held-joined (suc p) u (c ∷ cs) k h = rw (held-joined p u cs k (omega arith)) (or-true (onPort c))
 
--- Streams, with the cell at a port's place changed.
+-- What is sent, with what stands at a place changed.
 
--- where the stream i may be made, the change is a join of it
-abbrev Makes : (Cell → Cell) → Bool → ℕ → Type 0
-Makes u join i = join ≡ true → (i < 2 ^ 64) × ((c : Cell) → onPort (u c) ≡ true)
+sending-stays : (p : ℕ) (m : Sends → Sends) → ((x : Sends) → isSending (m x) ≡ isSending x) → (ss : List Sends) → anySending (at p m ss) ≡ anySending ss
+unfolding at anySending
+sending-stays p m k [] = refl
+sending-stays zero m k (x ∷ ss) = rw (k x)
+sending-stays (suc p) m k (x ∷ ss) = rw (sending-stays p m k ss)
 
-module _ (ports clock leaveTime p : ℕ) (here : p < ports) (eight : ports ≤ 8) (u : Cell → Cell)
+pub no-sends-valid : ValidSends noSends
+unfolding noSends
+no-sends-valid = record { advertising = tt; failing = tt }
+
+-- a stream that was never settled sends nothing
+unsettled-sent : sentFormed unsettled noSends ≡ true
+unfolding sentFormed sentRules unsettled noSends stands isAdvertise isFailed declares alike allTrue
+unsettled-sent = refl
+
+-- Streams, with the cell at a port's place changed, and what is sent there.
+
+module _ (ports clock leaveTime p : ℕ) (here : p < ports) (eight : ports ≤ 8) (u : Cell → Cell) (m : Sends → Sends) (w : SendsStay m)
     (valid-then : (c : Cell) → ValidCell clock leaveTime c → ValidCell clock leaveTime (u c)) where
   changed-valid : ((c : Cell) → Stays c (u c)) → (x : Stream) →
-      ValidStream ports clock leaveTime x → ValidStream ports clock leaveTime (change (at p u) x)
-  unfolding change cellAt resultAt
+      ValidStream ports clock leaveTime x → ValidStream ports clock leaveTime (change (at p u) (at p m) x)
+  unfolding change cellAt resultAt sendsAt isHeld
   changed-valid k x v = record {
     id = v .id;
     settled = v .settled;
     eight-cells = length-at p u (x .cells) ∙ v .eight-cells;
     cells = all-changed (ValidCell clock leaveTime) p u (x .cells) valid-then (v .cells);
     no-other-cells = rw (drop-changed ports p u (x .cells) here) (v .no-other-cells);
-    is-held = held-stays p u (x .cells) (λ c. port-stays c (u c) (k c)) (v .is-held);
+    is-held =
+        or-map (held (x .cells)) (held (at p u (x .cells))) (anySending (x .sends)) (anySending (at p m (x .sends)))
+        (held-stays p u (x .cells) (λ c. port-stays c (u c) (k c))) (λ e. sending-stays p m (w .sending) (x .sends) ∙ e) (v .is-held);
     eight-results = v .eight-results;
     results = v .results;
     no-other-results = v .no-other-results;
     idle = λ e. v .idle (omega (arith, talkers-stay u k ports p (x .cells) here (omega (arith, v .eight-cells))));
     stored = stored-kept u k ports p (x .cells) here (omega (arith, v .eight-cells)) (x .results) (v .stored);
     one-declares = v .one-declares;
+    eight-sends = length-at p m (x .sends) ∙ v .eight-sends;
+    sends = all-changed ValidSends p m (x .sends) (w .good) (v .sends);
+    sent = λ q h. at-each (λ y. sentFormed (resultAt x q) y) p m (λ y. w .sent (resultAt x q) y) (x .sends) q noSends ∙ v .sent q h;
+    no-other-sends = rw (drop-changed ports p m (x .sends) here) (v .no-other-sends);
   }
 
   -- a stream that a join makes is held by that join's registration
-  joined-valid : ((c : Cell) → onPort (u c) ≡ true) → (i : ℕ) → i < 2 ^ 64 → ValidStream ports clock leaveTime (change (at p u) (fresh i))
-  unfolding change fresh blank noFixed empty cellAt resultAt
-  joined-valid k i small = record {
-    id = small;
-    settled = omega arith;
-    eight-cells = length-at p u (replicate 8 empty);
-    cells =
-        all-changed (ValidCell clock leaveTime) p u (replicate 8 empty) valid-then
-        (all-replicate (ValidCell clock leaveTime) 8 empty record { talks = tt; hears = tt });
-    no-other-cells =
-        rw (drop-changed ports p u (replicate 8 empty) here)
-        (all-drop (λ c. c ≡ empty) ports (replicate 8 empty) (all-replicate (λ c. c ≡ empty) 8 empty refl));
-    is-held = held-joined p u (replicate 8 empty) k (omega arith);
-    eight-results = refl;
-    results = all-replicate (ValidResult clock) 8 unsettled (unsettled-valid clock);
-    no-other-results =
-        all-drop (λ r. r ≡ unsettled) ports (replicate 8 unsettled) (all-replicate (λ r. r ≡ unsettled) 8 unsettled refl);
-    idle = λ e. refl;
-    stored = λ q h. rw (getD-replicate 8 q unsettled unsettled (omega arith)) (unsettled-stored _ _);
-    one-declares = omega (arith, unsettled-declare ports 8);
-  }
+  joined-valid : ((c : Cell) → onPort (u c) ≡ true) → (i : ℕ) → i < 2 ^ 64 → ValidStream ports clock leaveTime (change (at p u) (at p m) (fresh i))
+  unfolding change fresh blank noFixed empty cellAt resultAt sendsAt isHeld
+  joined-valid k i small =
+      let none : at p m (replicate 8 noSends) ≡ replicate 8 noSends = at-fixed m noSends (w .none) p 8 in
+      record {
+        id = small;
+        settled = omega arith;
+        eight-cells = length-at p u (replicate 8 empty);
+        cells =
+            all-changed (ValidCell clock leaveTime) p u (replicate 8 empty) valid-then
+            (all-replicate (ValidCell clock leaveTime) 8 empty record { talks = tt; hears = tt });
+        no-other-cells =
+            rw (drop-changed ports p u (replicate 8 empty) here)
+            (all-drop (λ c. c ≡ empty) ports (replicate 8 empty) (all-replicate (λ c. c ≡ empty) 8 empty refl));
+        is-held = rw (held-joined p u (replicate 8 empty) k (omega arith)) refl;
+        eight-results = refl;
+        results = all-replicate (ValidResult clock) 8 unsettled (unsettled-valid clock);
+        no-other-results =
+            all-drop (λ r. r ≡ unsettled) ports (replicate 8 unsettled) (all-replicate (λ r. r ≡ unsettled) 8 unsettled refl);
+        idle = λ e. refl;
+        stored = λ q h. rw (getD-replicate 8 q unsettled unsettled (omega arith)) (unsettled-stored _ _);
+        one-declares = omega (arith, unsettled-declare ports 8);
+        eight-sends = length-at p m (replicate 8 noSends);
+        sends = rw none (all-replicate ValidSends 8 noSends no-sends-valid);
+        sent = λ q h.
+            rw (none, getD-replicate 8 q unsettled unsettled (omega arith), getD-replicate 8 q noSends noSends (omega arith)) unsettled-sent;
+        no-other-sends =
+            rw (drop-changed ports p m (replicate 8 noSends) here)
+            (all-drop (λ x. x ≡ noSends) ports (replicate 8 noSends) (all-replicate (λ x. x ≡ noSends) 8 noSends refl));
+      }
 
-  begun-valid : (join : Bool) (i : ℕ) → Makes u join i → (s : List Stream) →
-      All (ValidStream ports clock leaveTime) s → All (ValidStream ports clock leaveTime) (begun join i (at p u) s)
-  unfolding begun
-  begun-valid true i m s a = (joined-valid (m refl .1) i (m refl .0), a)
-  begun-valid false i m s a = a
-
-  touch-valid : ((c : Cell) → Stays c (u c)) → (join : Bool) (i : ℕ) → Makes u join i → (s : List Stream) →
-      All (ValidStream ports clock leaveTime) s → All (ValidStream ports clock leaveTime) (touch join i (at p u) s)
-  unfolding touch
-  touch-valid k join i m [] a = begun-valid join i m [] a
-  touch-valid k join i m (x ∷ s) a = go (ltb i (x .id)) (eqb i (x .id)) (touch-valid k join i m s (a .1))
+-- What holds of all streams, of the one made too, holds after a walk for one.
+module _ (P : Stream → Type 0) (u : Change) (kept : (x : Stream) → P x → P (u x)) (join : Bool) (i : ℕ) (made : join ≡ true → P (u (fresh i))) where
+  begun-all : (s : List Stream) → All P s → All P (begun join i u s)
+  begun-all s a = go join made
     where
-      go : (t t′ : Bool) → All (ValidStream ports clock leaveTime) (touch join i (at p u) s) →
-          All (ValidStream ports clock leaveTime)
-          (cond t (begun join i (at p u) (x ∷ s)) (cond t′ (change (at p u) x ∷ s) (x ∷ touch join i (at p u) s)))
-      go true t′ ih = begun-valid join i m (x ∷ s) a
-      go false true ih = (changed-valid k x (a .0), a .1)
+      go : (t : Bool) → (t ≡ true → P (u (fresh i))) → All P (begun t i u s)
+      go true m = unfold begun in (m refl, a)
+      go false m = unfold begun in a
+
+  touch-all : (s : List Stream) → All P s → All P (touch join i u s)
+  unfolding touch
+  touch-all [] a = begun-all [] a
+  touch-all (x ∷ s) a = go (ltb i (x .id)) (eqb i (x .id)) (touch-all s (a .1))
+    where
+      go : (t t′ : Bool) → All P (touch join i u s) → All P (cond t (begun join i u (x ∷ s)) (cond t′ (u x ∷ s) (x ∷ touch join i u s)))
+      go true t′ ih = begun-all (x ∷ s) a
+      go false true ih = (kept x (a .0), a .1)
       go false false ih = (a .0, ih)
 
 -- StreamIDs rise still.
 
-module _ (join : Bool) (i : ℕ) (u : List Cell → List Cell) where
+module _ (join : Bool) (i : ℕ) (u : Change) (k : Keeps u) where
   begun-ids : (P : ℕ → Type 0) (s : List Stream) → P i → All P (ids s) → All P (ids (begun join i u s))
   begun-ids P s h a = go join
     where
       go : (t : Bool) → All P (ids (begun t i u s))
-      go true = unfold begun ids change fresh in (h, a)
+      go true = unfold begun ids fresh in (rw (k (fresh i)) (h, a))
       go false = unfold begun in a
 
   touch-ids : (P : ℕ → Type 0) (s : List Stream) → P i → All P (ids s) → All P (ids (touch join i u s))
-  unfolding touch ids change
+  unfolding touch ids
   touch-ids P [] h a = begun-ids P [] h a
   touch-ids P (x ∷ s) h a = go (ltb i (x .id)) (eqb i (x .id)) (touch-ids P s h (a .1))
     where
       go : (t t′ : Bool) → All P (ids (touch join i u s)) →
-          All P (ids (cond t (begun join i u (x ∷ s)) (cond t′ (change u x ∷ s) (x ∷ touch join i u s))))
+          All P (ids (cond t (begun join i u (x ∷ s)) (cond t′ (u x ∷ s) (x ∷ touch join i u s))))
       go true t′ ih = begun-ids P (x ∷ s) h a
-      go false true ih = a
+      go false true ih = rw (k x) a
       go false false ih = (a .0, ih)
 
   begun-rising : (s : List Stream) → All (λ j. i < j) (ids s) → Rising (ids s) → Rising (ids (begun join i u s))
   begun-rising s a r = go join
     where
       go : (t : Bool) → Rising (ids (begun t i u s))
-      go true = unfold begun ids change fresh Rising in (a, r)
+      go true = unfold begun ids fresh Rising in (rw (k (fresh i)) (a, r))
       go false = unfold begun in r
 
   touch-rising : (s : List Stream) → Rising (ids s) → Rising (ids (touch join i u s))
-  unfolding touch ids change Rising
+  unfolding touch ids Rising
   touch-rising [] r = begun-rising [] tt r
   touch-rising (x ∷ s) r = go (ltb i (x .id)) (eqb i (x .id)) refl refl (touch-rising s (r .1))
     where
       go : (t t′ : Bool) → ltb i (x .id) ≡ t → eqb i (x .id) ≡ t′ → Rising (ids (touch join i u s)) →
-          Rising (ids (cond t (begun join i u (x ∷ s)) (cond t′ (change u x ∷ s) (x ∷ touch join i u s))))
+          Rising (ids (cond t (begun join i u (x ∷ s)) (cond t′ (u x ∷ s) (x ∷ touch join i u s))))
       go true t′ e d ih =
           let before : i < x .id = ltb-true i (x .id) e in
           begun-rising (x ∷ s) (before, all-map (λ j. x .id < j) (λ j. i < j) (λ j h. omega arith) (ids s) (r .0)) r
-      go false true e d ih = r
+      go false true e d ih = rw (k x) r
       go false false e d ih =
           (touch-ids (λ j. x .id < j) s (omega (arith, ltb-false i (x .id) e, eqb-false i (x .id) d)) (r .0), ih)
 
-changed-ids : (u : List Cell → List Cell) (s : List Stream) → ids (map (change u) s) ≡ ids s
-unfolding ids change
-changed-ids u [] = refl
-changed-ids u (x ∷ s) = ap (λ (l : List ℕ). x .id ∷ l) (changed-ids u s)
+changed-ids : (u : Change) → Keeps u → (s : List Stream) → ids (map u s) ≡ ids s
+unfolding ids
+changed-ids u k [] = refl
+changed-ids u k (x ∷ s) = ap₂ (λ (n : ℕ) (l : List ℕ). n ∷ l) (k x) (changed-ids u k s)
 
--- No act drops a stream, so class totals stay what they may be.
+-- No act takes a registration away, so class totals stay what they may be.
 
-touch-grows : (join : Bool) (i : ℕ) (u : List Cell → List Cell) (s : List Stream) → length s ≤ length (touch join i u s)
-unfolding touch begun
-touch-grows true i u [] = omega arith
-touch-grows false i u [] = omega arith
-touch-grows join i u (x ∷ s) = go join (ltb i (x .id)) (eqb i (x .id)) (touch-grows join i u s)
-  where
-    go : (j t t′ : Bool) → length s ≤ length (touch join i u s) →
-        suc (length s) ≤ length (cond t (begun j i u (x ∷ s)) (cond t′ (change u x ∷ s) (x ∷ touch join i u s)))
-    go true true t′ ih = omega arith
-    go false true t′ ih = omega arith
-    go j false true ih = omega arith
-    go j false false ih = omega arith
+-- a change after which a stream with a registration has one
+abbrev StaysHeld : Change → Type 0
+StaysHeld u = (x : Stream) → held (x .cells) ≡ true → held (u x .cells) ≡ true
 
-acts-grow : (now p : ℕ) (es : List Act) (s : List Stream) → length s ≤ length (applyAll now p es s)
-unfolding applyAll apply reach
-acts-grow now p [] s = omega arith
-acts-grow now p (leaveAll k ∷ es) s =
-    let u = at p (does now (leaveAll k)) in
-    omega (arith, length-map s (change u), acts-grow now p es (map (change u) s))
-acts-grow now p (leave k i ∷ es) s =
-    let u = at p (does now (leave k i)) in
-    omega (arith, touch-grows false i u s, acts-grow now p es (touch false i u s))
-acts-grow now p (talk i f v ∷ es) s =
-    let u = at p (does now (talk i f v)) in
-    omega (arith, touch-grows true i u s, acts-grow now p es (touch true i u s))
-acts-grow now p (listen i r ∷ es) s =
-    let u = at p (does now (listen i r)) in
-    omega (arith, touch-grows true i u s, acts-grow now p es (touch true i u s))
-acts-grow now p (ofDomain d ∷ es) s = acts-grow now p es s
+module _ (u : Change) (k : StaysHeld u) where
+  begun-holds : (join : Bool) (i : ℕ) (s : List Stream) → anyHeld s ≡ true → anyHeld (begun join i u s) ≡ true
+  unfolding begun anyHeld
+  begun-holds true i s h = rw h (or-true (held (u (fresh i) .cells)))
+  begun-holds false i s h = h
+
+  touch-holds : (join : Bool) (i : ℕ) (s : List Stream) → anyHeld s ≡ true → anyHeld (touch join i u s) ≡ true
+  unfolding touch anyHeld
+  touch-holds join i [] h = absurd (false≢true h)
+  touch-holds join i (x ∷ s) h = go (ltb i (x .id)) (eqb i (x .id)) (touch-holds join i s)
+    where
+      go : (t t′ : Bool) → (anyHeld s ≡ true → anyHeld (touch join i u s) ≡ true) →
+          anyHeld (cond t (begun join i u (x ∷ s)) (cond t′ (u x ∷ s) (x ∷ touch join i u s))) ≡ true
+      go true t′ ih = begun-holds join i (x ∷ s) h
+      go false true ih = or-map (held (x .cells)) (held (u x .cells)) (anyHeld s) (anyHeld s) (k x) (λ e. e) h
+      go false false ih = or-map (held (x .cells)) (held (x .cells)) (anyHeld s) (anyHeld (touch join i u s)) (λ e. e) ih h
+
+  map-holds : (s : List Stream) → anyHeld s ≡ true → anyHeld (map u s) ≡ true
+  unfolding anyHeld
+  map-holds [] h = h
+  map-holds (x ∷ s) h = or-map (held (x .cells)) (held (u x .cells)) (anyHeld s) (anyHeld (map u s)) (k x) (map-holds s) h
+
+  does-holds : {f : List Stream → List Stream} → Does u f → (s : List Stream) → anyHeld s ≡ true → anyHeld (f s) ≡ true
+  does-holds (every p) s h = map-holds s h
+  does-holds (single b i p) s h = touch-holds b i s h
+  does-holds untouched s h = h
+
+acted-holds : (now p : ℕ) (a : Act) → StaysHeld (acted now p a)
+unfolding change
+acted-holds now p a x h = held-stays p (does now a) (x .cells) (λ c. port-stays c (does now a c) (does-keeps now a c)) h
+
+acts-hold : (now p : ℕ) (es : List Act) (s : List Stream) → anyHeld s ≡ true → anyHeld (applyAll now p es s) ≡ true
+unfolding applyAll
+acts-hold now p [] s h = h
+acts-hold now p (a ∷ es) s h =
+    acts-hold now p es (apply now p a s) (does-holds (acted now p a) (acted-holds now p a) (act-does now p a) s h)
 
 most-grows : (some more : Bool) → (some ≡ true → more ≡ true) → (supports : Bool) (limit : ℕ) → atMost some supports limit ≤ atMost more supports limit
 unfolding atMost
@@ -326,28 +372,40 @@ totals-stay some more h (t ∷ ts) (q ∷ qs) e =
 abbrev ValidStreams : ℕ → ℕ → ℕ → List Stream → Type 0
 ValidStreams ports clock leaveTime s = All (ValidStream ports clock leaveTime) s × Rising (ids s)
 
+-- where the stream i may be made, the act is a join of it
+abbrev Makes : Act → Bool → ℕ → Type 0
+Makes a join i = join ≡ true → (i < 2 ^ 64) × ((now : ℕ) (c : Cell) → onPort (does now a c) ≡ true)
+
 module _ (ports clock leaveTime p : ℕ) (here : p < ports) (eight : ports ≤ 8) (leaves : 1 ≤ leaveTime) where
-  touch-keeps : (a : Act) → Fits a → (join : Bool) (i : ℕ) → Makes (does clock a) join i → (s : List Stream) →
-      ValidStreams ports clock leaveTime s → ValidStreams ports clock leaveTime (touch join i (at p (does clock a)) s)
+  acted-valid : (a : Act) → Fits a → (x : Stream) → ValidStream ports clock leaveTime x → ValidStream ports clock leaveTime (acted clock p a x)
+  acted-valid a fits =
+      changed-valid ports clock leaveTime p here eight (does clock a) (moves a) (moves-stay a)
+      (does-valid clock leaveTime clock (omega arith) (omega arith) a fits) (does-keeps clock a)
+
+  touch-keeps : (a : Act) → Fits a → (join : Bool) (i : ℕ) → Makes a join i → (s : List Stream) →
+      ValidStreams ports clock leaveTime s → ValidStreams ports clock leaveTime (touch join i (acted clock p a) s)
   touch-keeps a fits join i m s g = (
-    touch-valid ports clock leaveTime p here eight (does clock a) (does-valid clock leaveTime clock (omega arith) (omega arith) a fits)
-        (does-keeps clock a) join i m s (g .0),
-    touch-rising join i (at p (does clock a)) s (g .1),
+    touch-all (ValidStream ports clock leaveTime) (acted clock p a) (acted-valid a fits) join i
+        (λ e. joined-valid ports clock leaveTime p here eight (does clock a) (moves a) (moves-stay a)
+        (does-valid clock leaveTime clock (omega arith) (omega arith) a fits) (m e .1 clock) i (m e .0)) s (g .0),
+    touch-rising join i (acted clock p a) (acted-keeps clock p a) s (g .1),
+  )
+
+  every-keeps : (a : Act) → Fits a → (s : List Stream) → ValidStreams ports clock leaveTime s → ValidStreams ports clock leaveTime (map (acted clock p a) s)
+  every-keeps a fits s g = (
+    all-mapped (ValidStream ports clock leaveTime) (ValidStream ports clock leaveTime) (acted clock p a) (acted-valid a fits) s (g .0),
+    rw (changed-ids (acted clock p a) (acted-keeps clock p a) s) (g .1),
   )
 
   apply-keeps : (a : Act) → Fits a → (s : List Stream) →
       ValidStreams ports clock leaveTime s → ValidStreams ports clock leaveTime (apply clock p a s)
   unfolding apply reach
-  apply-keeps (leaveAll k) fits s g =
-      let a = leaveAll k in (
-        all-mapped (ValidStream ports clock leaveTime) (ValidStream ports clock leaveTime) (change (at p (does clock a)))
-            (changed-valid ports clock leaveTime p here eight (does clock a) (does-valid clock leaveTime clock (omega arith) (omega arith) a fits)
-            (does-keeps clock a)) s (g .0),
-        rw (changed-ids (at p (does clock a)) s) (g .1),
-      )
+  apply-keeps (leaveAll k) fits s g = every-keeps (leaveAll k) fits s g
   apply-keeps (leave k i) fits s g = touch-keeps (leave k i) fits false i (λ e. absurd (false≢true e)) s g
-  apply-keeps (talk i f v) fits s g = touch-keeps (talk i f v) fits true i (λ e. (fits .0, talk-puts clock i f v)) s g
-  apply-keeps (listen i r) fits s g = touch-keeps (listen i r) fits true i (λ e. (fits, listen-puts clock i r)) s g
+  apply-keeps (talk i f v) fits s g = touch-keeps (talk i f v) fits true i (λ e. (fits .0, λ now c. talk-puts now i f v c)) s g
+  apply-keeps (listen i r) fits s g = touch-keeps (listen i r) fits true i (λ e. (fits, λ now c. listen-puts now i r c)) s g
+  apply-keeps (hearAll k) fits s g = every-keeps (hearAll k) fits s g
+  apply-keeps (hear k i h) fits s g = touch-keeps (hear k i h) fits false i (λ e. absurd (false≢true e)) s g
   apply-keeps (ofDomain d) fits s g = g
 
   acts-keep : (es : List Act) → All Fits es → (s : List Stream) →
@@ -363,6 +421,8 @@ unfolding doesDomain
 domains-slotted clock leaveAllDomains ds = length-map ds (quitDomain clock)
 domains-slotted clock (leaveDomain i) ds = length-at i (quitDomain clock) ds
 domains-slotted clock (joinDomain i x) ds = length-at i (λ d. domain x stays) ds
+domains-slotted clock hearAllDomains ds = refl
+domains-slotted clock (hearDomain i h) ds = refl
 
 module _ (clock leaveTime : ℕ) (leaves : 1 ≤ leaveTime) where
   domain-quits : (d : Domain) → ValidDomain clock leaveTime d → ValidDomain clock leaveTime (quitDomain clock d)
@@ -378,6 +438,8 @@ module _ (clock leaveTime : ℕ) (leaves : 1 ≤ leaveTime) where
   domains-valid (leaveDomain i) h ds v = all-changed (ValidDomain clock leaveTime) i (quitDomain clock) ds domain-quits v
   domains-valid (joinDomain i x) h ds v =
       all-changed (ValidDomain clock leaveTime) i (λ d. domain x stays) ds (λ d w. (h .1, tt)) v
+  domains-valid hearAllDomains h ds v = v
+  domains-valid (hearDomain i x) h ds v = v
 
   own-valid : (a : DomainAct) → FitsDomain a → (o : Own) →
       ValidOwn clock leaveTime o → ValidOwn clock leaveTime (changeDomains (doesDomain clock a) o)
@@ -401,6 +463,8 @@ module _ (ports clock leaveTime p : ℕ) (here : p < ports) (leaves : 1 ≤ leav
   own-kept (leave k i) fits o v = v
   own-kept (talk i f w) fits o v = v
   own-kept (listen i r) fits o v = v
+  own-kept (hearAll k) fits o v = v
+  own-kept (hear k i h) fits o v = v
   own-kept (ofDomain d) fits o v =
       let u = changeDomains (doesDomain clock d) in
       record {
@@ -415,11 +479,39 @@ module _ (ports clock leaveTime p : ℕ) (here : p < ports) (leaves : 1 ≤ leav
   owns-kept [] fits o v = v
   owns-kept (a ∷ es) fits o v = owns-kept es (fits .1) (applyOwn clock p a o) (own-kept a (fits .0) o v)
 
+-- What they send by themselves.
+
+pub record ValidSenders (ports clock : ℕ) (own : ℕ → ℕ → Bool) (l : List Sender) : Type 0 where
+  pub eight-senders : length l ≡ 8
+  pub senders : (q : ℕ) → q < ports → ValidSender (own q) clock (senderAt l q)
+  pub no-other-senders : All (λ x. x ≡ noSender) (drop ports l)
+
+module _ (ports clock : ℕ) (own : ℕ → ℕ → Bool) (p : ℕ) (here : p < ports) (eight : ports ≤ 8) where
+  sender-kept : (a : Act) (l : List Sender) → ValidSenders ports clock own l → ValidSenders ports clock own (at p (movesSender clock a) l)
+  unfolding senderAt
+  sender-kept a l v = record {
+    eight-senders = length-at p u l ∙ v .eight-senders;
+    senders = λ q h. go q h (ℕ-discrete p q);
+    no-other-senders = rw (drop-changed ports p u l here) (v .no-other-senders);
+  }
+    where
+      u : Sender → Sender
+      u = movesSender clock a
+
+      go : (q : ℕ) → q < ports → Dec (p ≡ q) → ValidSender (own q) clock (senderAt (at p u l) q)
+      go q h (yes e) = rw (← e, at-here p u l noSender (omega (arith, v .eight-senders))) (sender-moves (own p) clock a (senderAt l p) (v .senders p here))
+      go q h (no n) = rw (at-other p u l q noSender n) (v .senders q h)
+
+  senders-kept : (es : List Act) (l : List Sender) → ValidSenders ports clock own l → ValidSenders ports clock own (applySenders clock p es l)
+  unfolding applySenders
+  senders-kept [] l v = v
+  senders-kept (a ∷ es) l v = senders-kept es (at p (movesSender clock a) l) (sender-kept a l v)
+
 -- The call.
 
 pub received-keeps : (b : Bridge) (p : ℕ) (x : Reading) → p - 1 < length (b .settings .ports) → FitsReading x → Valid b →
     Valid (received b p x .bridge)
-unfolding received holding owning
+unfolding received holding owning sending
 received-keeps b p (refused n) here fits v = v
 received-keeps b p (acts es) here fits v = go (leb (length s) 64) refl
   where
@@ -439,19 +531,29 @@ received-keeps b p (acts es) here fits v = go (leb (length s) 64) refl
         owns-kept (length (b .settings .ports)) (b .clock) (b .settings .leaveTime) (p - 1) here (v .settings .leaves) es fits
         (b .owns) record { eight-owns = v .eight-owns; owns = v .owns; no-other-owns = v .no-other-owns }
 
+    l : List Sender
+    l = applySenders (b .clock) (p - 1) es (b .senders)
+
+    kept-senders : ValidSenders (length (b .settings .ports)) (b .clock) (declaresSlot (b .settings)) l
+    kept-senders =
+        senders-kept (length (b .settings .ports)) (b .clock) (declaresSlot (b .settings)) (p - 1) here (v .settings .eight-ports) es (b .senders)
+        record { eight-senders = v .eight-senders; senders = v .senders; no-other-senders = v .no-other-senders }
+
     go : (t : Bool) → leb (length s) 64 ≡ t →
-        Valid (cond {A = Answer} t record { number = 0; bridge = owning (holding b s) o } record { number = 8; bridge = b } .bridge)
+        Valid (cond {A = Answer} t record { number = 0; bridge = sending (owning (holding b s) o) l } record { number = 8; bridge = b } .bridge)
     go true e = record {
       settings = v .settings;
       clock = v .clock;
       eight-totals = v .eight-totals;
       totals =
-          totals-stay (leb 1 (length (b .streams))) (leb 1 (length s))
-          (λ f. le-leb 1 (length s) (omega (arith, leb-true 1 (length (b .streams)) f, acts-grow (b .clock) (p - 1) es (b .streams))))
-          (b .totals) (b .settings .ports) (v .totals);
+          totals-stay (anyHeld (b .streams)) (anyHeld s) (acts-hold (b .clock) (p - 1) es (b .streams)) (b .totals) (b .settings .ports)
+          (v .totals);
       eight-owns = kept-own .eight-owns;
       owns = kept-own .owns;
       no-other-owns = kept-own .no-other-owns;
+      eight-senders = kept-senders .eight-senders;
+      senders = kept-senders .senders;
+      no-other-senders = kept-senders .no-other-senders;
       at-most-64 = leb-true (length s) 64 e;
       streams = kept .0;
       ascending = kept .1;
@@ -474,10 +576,10 @@ receive-keeps b p pdu o v = go (wrongPort (b .settings) p) refl
     go true e = unfold reading received in (rw e v)
     go false e = received-keeps b p (reading (b .settings) p pdu) (right-port (b .settings) p e) (reading-fits (b .settings) p pdu o) v
 
--- Streams and what ports hold by themselves are all that a frame changes, and a refusal changes nothing.
+-- Streams and what ports hold and send by themselves are all that a frame changes, and a refusal changes nothing.
 
 pub received-same : {A : Type 0} (f : Bridge → A) (b : Bridge) (p : ℕ) (x : Reading) →
-    ((s : List Stream) (o : List Own) → f (owning (holding b s) o) ≡ f b) → f (received b p x .bridge) ≡ f b
+    ((s : List Stream) (o : List Own) (l : List Sender) → f (sending (owning (holding b s) o) l) ≡ f b) → f (received b p x .bridge) ≡ f b
 unfolding received
 received-same f b p (refused n) h = refl
 received-same f b p (acts es) h = go (leb (length s) 64)
@@ -488,17 +590,20 @@ received-same f b p (acts es) h = go (leb (length s) 64)
     o : List Own
     o = applyOwns (b .clock) (p - 1) es (b .owns)
 
-    go : (t : Bool) → f (cond {A = Answer} t record { number = 0; bridge = owning (holding b s) o } record { number = 8; bridge = b } .bridge) ≡ f b
-    go true = h s o
+    l : List Sender
+    l = applySenders (b .clock) (p - 1) es (b .senders)
+
+    go : (t : Bool) → f (cond {A = Answer} t record { number = 0; bridge = sending (owning (holding b s) o) l } record { number = 8; bridge = b } .bridge) ≡ f b
+    go true = h s o l
     go false = refl
 
 pub receive-settings : (b : Bridge) (p : ℕ) (pdu : List ℕ) → receive b p pdu .bridge .settings ≡ b .settings
-unfolding receive holding owning
-receive-settings b p pdu = received-same (λ c. c .settings) b p (reading (b .settings) p pdu) (λ s o. refl)
+unfolding receive holding owning sending
+receive-settings b p pdu = received-same (λ c. c .settings) b p (reading (b .settings) p pdu) (λ s o l. refl)
 
 pub receive-clock : (b : Bridge) (p : ℕ) (pdu : List ℕ) → receive b p pdu .bridge .clock ≡ b .clock
-unfolding receive holding owning
-receive-clock b p pdu = received-same (λ c. c .clock) b p (reading (b .settings) p pdu) (λ s o. refl)
+unfolding receive holding owning sending
+receive-clock b p pdu = received-same (λ c. c .clock) b p (reading (b .settings) p pdu) (λ s o l. refl)
 
 pub received-accepted-or-unchanged : (b : Bridge) (p : ℕ) (x : Reading) → (received b p x .number ≡ 0) ⊎ (received b p x .bridge ≡ b)
 unfolding received
@@ -511,8 +616,11 @@ received-accepted-or-unchanged b p (acts es) = go (leb (length s) 64)
     o : List Own
     o = applyOwns (b .clock) (p - 1) es (b .owns)
 
+    l : List Sender
+    l = applySenders (b .clock) (p - 1) es (b .senders)
+
     answer : Bool → Answer
-    answer t = cond t record { number = 0; bridge = owning (holding b s) o } record { number = 8; bridge = b }
+    answer t = cond t record { number = 0; bridge = sending (owning (holding b s) o) l } record { number = 8; bridge = b }
 
     go : (t : Bool) → (answer t .number ≡ 0) ⊎ (answer t .bridge ≡ b)
     go true = inl refl

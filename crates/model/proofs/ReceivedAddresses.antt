@@ -8,7 +8,7 @@ use Prim.Native.Nat.{ℕ, zero, suc, _-_}
 use lib.ListN.{length, getD}
 use lib.Dec.{leb}
 use Rattle.model.specs.Layout.{mostAddresses}
-use Rattle.model.specs.State.{Own, Address, Bridge, noOwn, ownAt}
+use Rattle.model.specs.State.{Own, Bridge, noOwn, ownAt}
 use Rattle.model.specs.Registrations.{at, AddressAct, AddressReading, refusedFrame, addressActs, Answer, doesAddresses, changeAddresses, owning, receivedAddresses}
 use Rattle.model.specs.AddressFrames.{addressReading}
 use Rattle.model.specs.Calls.{receiveMmrp}

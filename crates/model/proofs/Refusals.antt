@@ -1,7 +1,7 @@
 -- Demand 1: what each call answers for every input. A refused call alters no octet and gives zero for every other part of its
 -- answer; and each number is given exactly when 01's table says so, in 01's order. Nothing is asked of table, settings, frame,
--- time, place or buffer, but that `receive-nothing-new` is about a table of octets. (write and report give back no table: they are
--- functions of the table that they are handed.)
+-- time, place or buffer, but that `receive-nothing-new` is about a table of octets. (report gives back no table: it is a function of
+-- the table that it is handed.)
 use mathlib.Core.Path.{_≡_, refl, sym, _∙_, ap, subst}
 use mathlib.Core.Logic.{_↔_, Iff·rfl, Iff·trans, Iff·and, _⊎_, inl, inr, ⊎-elim}
 use mathlib.Core.List.{List, [], _∷_, List·Memᴰ, List·Memᴰ·not-nil, List·Memᴰ·cases-cons}
@@ -20,7 +20,7 @@ use Rattle.model.specs.State.{Settings, Bridge}
 use Rattle.model.specs.Registrations.{refused, Answer, received, applyAll, add, together, ids, joins}
 use Rattle.model.specs.Frames.{Attribute, TypeOctet, notAllowed, unknown, known, typeOctet, firstLength, threeLength, hasFour, Vector, vectorAt, vectorEnd, overpacked, overflows, InList, badVector, listEnd, vectorHead, passedOver, strangeLeave, strangeVector, vectorIn, checkedIn, typedIn, InPdu, badMessage, pduEnd, listSkipped, listOf, listLength, listAt, messageEnd, endMark, headerIn, messageIn, Walk, fault, found, also, both, vectorsFrom, vectors, messagesFrom, messages, walk, walked, frameActs, reading, wrongPort}
 use Rattle.model.specs.Settling.{advance}
-use Rattle.model.specs.Declarations.{Written, write, declarations}
+use Rattle.model.specs.Declarations.{declarations}
 use Rattle.model.specs.Reports.{Report, refusedReport, report}
 use Rattle.model.specs.Table.{decode, clockField, formed, settingsFormed}
 use Rattle.model.specs.Calls.{Call, startOn, leaves, onTable, receive, receiveOn, advanceOn, WriteCall, refusedWrite, writtenTo, writeOn, reportOn}
@@ -28,6 +28,7 @@ use Rattle.model.proofs.Valid.{Rising, Valid}
 use Rattle.model.proofs.Tables.{valid-decode}
 use Rattle.model.proofs.Admission.{all-mem}
 use Rattle.model.proofs.FrameOrder.{acts-ids, held-ids}
+use Rattle.model.specs.Writing.{Written, write}
 
 -- what holds of both ways of a choice holds of the choice
 module _ {A : Type 0} (P : A → Type 0) where
@@ -67,29 +68,34 @@ pub advance-refused : (t : List ℕ) (now : ℕ) → (advanceOn t now .number �
 unfolding advanceOn Unaltered
 advance-refused t now = on-table-refused t (λ b. advance b now)
 
--- write leaves the buffer, and its length and next place are zero
-Unwritten : List ℕ → WriteCall → Type 0
-Unwritten buffer w = (w .number ≡ 0 → ⊥) → w ≡ refusedWrite (w .number) buffer
+-- write leaves table and buffer, and its length and next place are zero
+Unwritten : List ℕ → List ℕ → WriteCall → Type 0
+Unwritten t buffer w = (w .number ≡ 0 → ⊥) → w ≡ refusedWrite (w .number) t buffer
 
-refused-unwritten : (n : ℕ) (buffer : List ℕ) → Unwritten buffer (refusedWrite n buffer)
+refused-unwritten : (n : ℕ) (t buffer : List ℕ) → Unwritten t buffer (refusedWrite n t buffer)
 unfolding Unwritten refusedWrite
-refused-unwritten n buffer h = refl
+refused-unwritten n t buffer h = refl
 
-write-unwritten : (t : List ℕ) (p place : ℕ) (buffer : List ℕ) → Unwritten buffer (writeOn t p place buffer)
+write-unwritten : (t : List ℕ) (p place : ℕ) (buffer : List ℕ) → Unwritten t buffer (writeOn t p place buffer)
 unfolding writeOn writtenTo Unwritten
 write-unwritten t p place buffer =
-    let none : (n : ℕ) → Unwritten buffer (refusedWrite n buffer) = λ n. refused-unwritten n buffer in
-    cond-either (Unwritten buffer) (not (formed t)) _ _ (none 12)
-    (cond-either (Unwritten buffer) (wrongPort (decode t .settings) p) _ _ (none 1)
-    (cond-either (Unwritten buffer) (ltb (length buffer) longestPdu) _ _ (none 10)
-    (cond-either (Unwritten buffer) (eqb (write (decode t) p place .number) 0) _ _ (λ n. absurd (n refl)) (none _))))
+    let none : (n : ℕ) → Unwritten t buffer (refusedWrite n t buffer) = λ n. refused-unwritten n t buffer in
+    cond-either (Unwritten t buffer) (not (formed t)) _ _ (none 12)
+    (cond-either (Unwritten t buffer) (wrongPort (decode t .settings) p) _ _ (none 1)
+    (cond-either (Unwritten t buffer) (ltb (length buffer) longestPdu) _ _ (none 10)
+    (cond-either (Unwritten t buffer) (eqb (write (decode t) p place .number) 0) _ _ (λ n. absurd (n refl)) (none _))))
 
 pub write-refused : (t : List ℕ) (p place : ℕ) (buffer : List ℕ) → (writeOn t p place buffer .number ≡ 0 → ⊥) →
     (writeOn t p place buffer .length ≡ 0) × (writeOn t p place buffer .next ≡ 0) × (writeOn t p place buffer .buffer ≡ buffer)
+    × (writeOn t p place buffer .table ≡ t)
 unfolding Unwritten refusedWrite
 write-refused t p place buffer n =
-    let e = write-unwritten t p place buffer n in
-    (ap (λ (w : WriteCall). w .length) e, ap (λ (w : WriteCall). w .next) e, ap (λ (w : WriteCall). w .buffer) e)
+    let e = write-unwritten t p place buffer n in (
+      ap (λ (w : WriteCall). w .length) e,
+      ap (λ (w : WriteCall). w .next) e,
+      ap (λ (w : WriteCall). w .buffer) e,
+      ap (λ (w : WriteCall). w .table) e,
+    )
 
 -- report gives zero or none for all else
 Unreported : Report → Type 0
@@ -498,7 +504,7 @@ module _ (t : List ℕ) (p : ℕ) (pdu : List ℕ) where
   pub receive-2 : (receiveOn t p pdu .number ≡ 2) ↔ (OnPort t p × ((length pdu ≡ 0) ⊎ (longestPdu < length pdu)))
   receive-2 = Iff·trans (receive-fault 2 (omega arith) (omega arith)) (Iff·and Iff·rfl (walk-2 pdu))
 
-  -- 8: "streams held plus different new ones joined by this PDU exceed 64"
+  -- 8: "streams held plus different new ones joined by this PDU exceed 64"; a stream with an unsent Lv alone is held
   pub receive-8 : (receiveOn t p pdu .number ≡ 8) ↔
       (OnPort t p × ((vs : List Vector) × (walk pdu ≡ found vs) × (64 < length (together (ids (decode t .streams)) (joins (frameActs vs))))))
   unfolding countWith
@@ -586,11 +592,11 @@ module _ (t : List ℕ) (now : ℕ) where
       (cond-either (OneOf (0 ∷ 9 ∷ 12 ∷ [])) (not (formed t)) 12 clockNumber (inr (inr (inl refl)))
       (cond-either (OneOf (0 ∷ 9 ∷ 12 ∷ [])) (ltb now (clockField t)) 9 0 (inr (inl refl)) (inl refl)))
 
--- write: 10, then 13
+-- write: 10, then 13, by the port's list as the write finds it
 module _ (t : List ℕ) (p place : ℕ) (buffer : List ℕ) where
   -- the port's declarations
   count : ℕ
-  count = length (declarations (decode t .settings) (p - 1) (decode t .streams))
+  count = length (declarations (decode t) (p - 1))
 
   roomNumber : ℕ
   roomNumber = cond (ltb (length buffer) longestPdu) 10 (cond (ltb count place) 13 0)
@@ -606,11 +612,11 @@ module _ (t : List ℕ) (p place : ℕ) (buffer : List ℕ) where
       ∙ ap (λ (n : ℕ). fronted t p (cond (ltb (length buffer) longestPdu) 10 n))
       (written (write (decode t) p place) ∙ cond-of (λ (w : Written). w .number) (ltb count place) _ _)
     where
-      written : (w : Written) → writtenTo buffer w .number ≡ w .number
+      written : (w : Written) → writtenTo t buffer w .number ≡ w .number
       written w = cond-of (λ (c : WriteCall). c .number) (eqb (w .number) 0) _ _ ∙ own-number (w .number)
 
       go : (a b c : Bool) (w : WriteCall) →
-          cond a (refusedWrite 12 buffer) (cond b (refusedWrite 1 buffer) (cond c (refusedWrite 10 buffer) w)) .number
+          cond a (refusedWrite 12 t buffer) (cond b (refusedWrite 1 t buffer) (cond c (refusedWrite 10 t buffer) w)) .number
           ≡ cond a 12 (cond b 1 (cond c 10 (w .number)))
       go true b c w = refl
       go false true c w = refl
@@ -639,14 +645,14 @@ module _ (t : List ℕ) (p place : ℕ) (buffer : List ℕ) where
       (fronted-past t p roomNumber n _ h k (given-after _ 10 _ n _ P l (is-at-least (length buffer) longestPdu) i))
 
   pub write-13 : (writeOn t p place buffer .number ≡ 13) ↔
-      (OnPort t p × ((longestPdu ≤ length buffer) × (length (declarations (decode t .settings) (p - 1) (decode t .streams)) < place)))
+      (OnPort t p × ((longestPdu ≤ length buffer) × (length (declarations (decode t) (p - 1)) < place)))
   unfolding count
   write-13 =
       write-place 13 _ (λ e. omega arith) (λ e. omega arith) (λ e. omega arith)
       (given _ 13 0 _ (λ e. omega arith) (is-below count place))
 
   pub write-0 : (writeOn t p place buffer .number ≡ 0) ↔
-      (OnPort t p × ((longestPdu ≤ length buffer) × (place ≤ length (declarations (decode t .settings) (p - 1) (decode t .streams)))))
+      (OnPort t p × ((longestPdu ≤ length buffer) × (place ≤ length (declarations (decode t) (p - 1)))))
   unfolding count
   write-0 =
       write-place 0 _ (λ e. omega arith) (λ e. omega arith) (λ e. omega arith)

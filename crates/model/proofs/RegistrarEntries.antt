@@ -5,7 +5,7 @@ use Prim.Native.Nat.{ℕ}
 use Rattle.model.specs.State.{Settings, Leaving, stays, since, Fixed, Varying, Registration, Talker, noTalker, talker, Ready, Listener, noListener, listener, Domain, noDomain, domain}
 use Rattle.model.specs.Registrations.{Kind, listeners, begin, talksAs, hearsAs, withLeaving, quitTalker, quitListener, quitDomain, sameFixed, firstJoin, sameJoin, otherJoin, joinTalker}
 use Rattle.model.specs.Settling.{expired, expireTalker, expireListener, expireDomain}
-use Rattle.model.specs.Registrar.{isIn, isLeaving, isEmpty, RegistrarEvent, rNew, rJoinIn, rJoinMt, rLv, rLA, txLA, leavetimer, registrarTo, only, leavingRow, joiningRow, registrarRow, registrarColumn, registrarEntry, Registered, unheld, heldWith, registrarOf, timed, leavingOf, registeredAs, registrarNext}
+use Rattle.model.specs.Registrar.{rNew, rJoinIn, rJoinMt, rLv, rLA, txLA, leavetimer, registrarTo, only, leavingRow, joiningRow, registrarRow, registrarColumn, registrarEntry, Registered, unheld, heldWith, registrarOf, timed, leavingOf, registeredAs, registrarNext}
 
 -- to open the table
 unfoldable pub registrars : Unit {0}

@@ -12,9 +12,9 @@ use Rattle.octets.specs.Parts.{zeros}
 use Rattle.octets.specs.Fields.{fields, Fit, width}
 use Rattle.octets.proofs.Fields.{length-packed-any, fields-of-packed, fields-fit, fit-at, packed-zeros}
 use Rattle.model.specs.Layout.{resultIndex, resultSize, resultWidths}
-use Rattle.model.specs.Lists.{All, allTrue, implies, tabulate, Octets}
+use Rattle.model.specs.Lists.{All, allTrue, implies, tabulate, Octets, allZero}
 use Rattle.model.specs.State.{Column, none, advertise, failed, Entry, noEntry, filters, forwards, Declared, nothing, tells, Result, unsettled}
-use Rattle.model.specs.Table.{columnNumber, columnBridge, columnCode, entryNumber, declaredNumber, resultNumbers, toColumn, toEntry, toDeclared, resultFrom, resultOctets, toResult, allZero, resultRules, resultFormed}
+use Rattle.model.specs.Table.{columnNumber, columnBridge, columnCode, entryNumber, declaredNumber, resultNumbers, toColumn, toEntry, toDeclared, resultFrom, resultOctets, toResult, resultRules, resultFormed}
 use Rattle.model.proofs.Lists.{all-each, implied, all-true, true-all}
 use Rattle.model.proofs.Valid.{ValidColumn, ValidAge, ValidResult}
 use Rattle.model.proofs.Parts.{_also_, octets-packed, octets-at, two-zero, packed-whole, Sized}

@@ -13,7 +13,7 @@ use Rattle.octets.specs.Be.{beAt}
 use Rattle.octets.specs.Fields.{fields, packed, Fit, width, flat}
 use Rattle.octets.specs.Parts.{part}
 use Rattle.octets.proofs.Fields.{length-packed-any, length-flat, fields-packed, fields-of-packed, packed-fields, fields-fit, beAt-fits}
-use Rattle.model.specs.Layout.{inHead, headSize, headWidths, inPort, portPlace, portSize, inTable, portsUnit, portWidths, priorityAUnit, priorityBUnit, pruningUnit, settingsSize}
+use Rattle.model.specs.Layout.{headSize, headWidths, inHead, inPort, inTable, portPlace, portSize, portWidths, portsUnit, priorityAUnit, priorityBUnit, pruningUnit, settingsSize}
 use Rattle.model.specs.Lists.{All, allTrue, bit, Octets}
 use Rattle.model.specs.State.{Port, Settings, classB, bothLimits, inForce}
 use Rattle.model.specs.Table.{portNumbers, portFrom, portOctets, toPort, headWord, vlanWord, headNumbers, settingsOctets, portsField, toSettings, portRule, everyPart, settingsRules, settingsFormed}

@@ -6,8 +6,8 @@ use mathlib.Core.Bool.{Bool, true, false, cond}
 use Prim.Native.Nat.{ℕ}
 use lib.Dec.{ltb, leb}
 use borrow.Author.Tests.{lt-ltb, le-ltb, leb-true, leb-false}
-use Rattle.model.specs.State.{Cell, Stream, cellAt, classOf, isNoClass}
-use Rattle.model.specs.Settling.{Scene, Origin, Source, nowhere, from, sourceOf, fixedOf, streamClass, StepName, stepA, stepB, stepC, stepD, stepE, stepF, stepG, stepH, stepI, stepJ, stepK, stepL, stepM, stepN, Step, clear, stepsFrom, steps, claim, leftFor, bandwidthSteps}
+use Rattle.model.specs.State.{Cell, Stream, isPort, cellAt, classOf, isNoClass}
+use Rattle.model.specs.Settling.{Scene, Origin, Source, nowhere, from, sourceOf, fixedOf, streamClass, Inbound, stepA, stepB, stepC, stepD, stepE, stepF, stepG, stepH, stepI, stepJ, stepK, stepL, stepM, stepN, Step, clear, stepsFrom, steps, claim, leftFor, outcomeOf, bandwidthSteps, StepName}
 use Rattle.model.specs.Why.{firstName, lastName, stepOn}
 use Rattle.model.proofs.Why.{name-clear}
 use Rattle.model.proofs.OwnCodes.{gives, earlier, asked, not-asked, stepsOf, no-talker}

@@ -8,7 +8,7 @@ use lib.ListN.{length, getD, replicate}
 use lib.Dec.{ltb, eqb}
 use borrow.Author.Tests.{ltb-true, lt-ltb, eqb-true, eqb-false}
 use Rattle.model.specs.Lists.{implies, tabulate, bit}
-use Rattle.model.specs.State.{Cell, Column, Result, empty, unsettled}
+use Rattle.model.specs.State.{Cell, Result, empty, unsettled}
 use Rattle.model.specs.Registrations.{at}
 use Rattle.model.specs.Settling.{isTalking, isHearing}
 use Rattle.model.specs.Table.{talkers, hasColumn, declares, declarers, forListener, storedRules, storedFormed, everyPort}
@@ -17,9 +17,9 @@ use Rattle.model.proofs.Parts.{_also_}
 
 -- Rules port by port.
 
-module _ (rule : Cell → Result → Bool) where
-  pub port-kept : (k : ℕ) (cs : List Cell) (rs : List Result) → everyPort rule k cs rs ≡ true
-      → (p : ℕ) → p < k → p < length cs → p < length rs → rule (getD cs p empty) (getD rs p unsettled) ≡ true
+module _ {A B : Type 0} (rule : A → B → Bool) (a : A) (b : B) where
+  pub port-kept : (k : ℕ) (cs : List A) (rs : List B) → everyPort rule k cs rs ≡ true
+      → (p : ℕ) → p < k → p < length cs → p < length rs → rule (getD cs p a) (getD rs p b) ≡ true
   unfolding everyPort
   port-kept zero cs rs e p h l m = absurd (omega arith)
   port-kept (suc k) [] rs e p h l m = absurd (omega arith)
@@ -28,8 +28,8 @@ module _ (rule : Cell → Result → Bool) where
   port-kept (suc k) (c ∷ cs) (r ∷ rs) e (suc p) h l m =
       port-kept k cs rs (and-right (rule c r) (everyPort rule k cs rs) e) p (omega arith) (omega arith) (omega arith)
 
-  pub ports-kept : (k : ℕ) (cs : List Cell) (rs : List Result)
-      → ((p : ℕ) → p < k → rule (getD cs p empty) (getD rs p unsettled) ≡ true) → everyPort rule k cs rs ≡ true
+  pub ports-kept : (k : ℕ) (cs : List A) (rs : List B)
+      → ((p : ℕ) → p < k → rule (getD cs p a) (getD rs p b) ≡ true) → everyPort rule k cs rs ≡ true
   unfolding everyPort
   ports-kept zero cs rs h = refl
   ports-kept (suc k) [] rs h = refl

@@ -1,36 +1,41 @@
 -- The table as octets and back: nothing is lost either way, and the octets that keep the form rules are those of valid bridges.
-use mathlib.Core.Path.{_≡_, refl, sym, _∙_, ap}
+use mathlib.Core.Path.{_≡_, refl, sym, _∙_, ap, ap₂}
 use mathlib.Core.List.{List, [], _∷_, _++_, append-assoc, append-nil}
-use mathlib.Core.Bool.{Bool, true, false, cond, _&&_}
+use mathlib.Core.Bool.{Bool, true, false, cond, _&&_, _||_}
 use Prim.Native.Nat.{ℕ, zero, suc, _+_, _*_, _-_, _%_, _^_, _≤_, _<_}
 use native.Mathlib.Omega.{arith}
-use lib.ListN.{length, getD, drop, replicate, take-append-drop, length-append, length-drop}
-use lib.Seq.{take-at, drop-at, drop-drop, take-all}
+use lib.ListN.{length, getD, take, drop, replicate, take-append-drop, length-append, length-drop}
+use lib.Seq.{take-at, drop-at, drop-drop, take-all, length-take-le}
 use lib.Dec.{eqb, leb}
 use borrow.Author.Tests.{eq-eqb, eqb-true, le-leb, leb-true}
 use Rattle.octets.specs.Fields.{fields, packed, Fit, width, flat}
 use Rattle.octets.specs.Parts.{part, zeros}
 use Rattle.octets.proofs.Parts.{length-part}
 use Rattle.octets.proofs.Fields.{length-packed-any, fields-packed, fields-packed-behind, fields-of-packed, packed-fields, fields-fit, fit-at, beAt-fits, packed-zeros}
-use Rattle.model.specs.Layout.{cellSize, inRecord, cellsSize, inTable, clockSize, clockWidths, nameSize, nameWidths, ownSize, ownsSize, portPlace, portSize, recordSize, recordsSize, resultSize, resultsSize, settingsSize, tableLength, totalSize, totalsSize, totalsWidths}
-use Rattle.model.specs.Lists.{All, allTrue, parts, Octets, implies}
-use Rattle.model.specs.State.{Port, Totals, Own, Stream, Bridge, empty, unsettled, noTotals, noOwn, started, noFixed, cellAt, resultAt, classB, inForce}
+use Rattle.model.specs.Layout.{allSendsSize, cellSize, cellsSize, clockSize, clockWidths, inRecord, inTable, nameSize, nameWidths, ownSize, ownsSize, portPlace, portSize, recordSize, recordsSize, resultSize, resultsSize, senderSize, sendersSize, sendsSize, settingsSize, tableLength, totalSize, totalsSize, totalsWidths}
+use Rattle.model.specs.Lists.{All, allTrue, parts, Octets, implies, allZero}
+use Rattle.model.specs.State.{Port, Totals, Sends, Sender, Stream, Bridge, empty, unsettled, noTotals, noOwn, noSends, noSender, startedSender, started, noFixed, cellAt, resultAt, sendsAt, senderAt, declaresSlot, classB, inForce}
 use Rattle.model.specs.Registrations.{ids}
-use Rattle.model.specs.WrittenFrames.{fixedNumbers, priorityOctet}
-use Rattle.model.specs.Table.{settingsOctets, portsField, toSettings, settingsRules, settingsFormed, everyPart, allZero, cellOctets, toCell, cellFormed, resultOctets, toResult, resultFormed, cellsPart, resultsPart, fixedFrom, holds, streamOctets, toStream, streamRules, streamFormed, totalsOctets, toTotals, ownOctets, toOwn, ownFormed, encode, settingsPart, clockField, countField, totalsPart, ownsPart, recordsPart, decode, rising, idOf, totalsWithin, tableRules, formed, talkers, declarers, storedFormed, everyPort, atMost}
-use Rattle.model.specs.Laid.{FitSettings, FitOwn, FitStream, FitTotals, FitBridge}
-use Rattle.model.proofs.Lists.{and-left, and-right, and-both, all-map, all-each, all-drop, all-replicate, all-true, true-all, implied, implies-true}
+use Rattle.model.specs.Settling.{held, anySending, isHeld}
+use Rattle.model.specs.Sending.{sendsOctets, toSends, sendsFormed, senderOctets, toSender}
+use Rattle.model.specs.WrittenFrames.{fixedNumbers, priorityOctet, fixedFrom}
+use Rattle.model.specs.Table.{settingsOctets, portsField, toSettings, settingsRules, settingsFormed, everyPart, cellOctets, toCell, cellFormed, resultOctets, toResult, resultFormed, cellsPart, resultsPart, allSendsPart, holds, sends, streamOctets, toStream, streamRules, streamFormed, totalsOctets, toTotals, ownOctets, toOwn, ownFormed, encode, settingsPart, clockField, countField, totalsPart, ownsPart, sendersPart, recordsPart, decode, rising, idOf, totalsWithin, tableRules, formed, talkers, declarers, storedFormed, sentFormed, everyPort, atMost, anyHeld, anyHolds, sendersFormed}
+use Rattle.model.specs.Laid.{FitSettings, FitOwn, FitSender, FitStream, FitTotals, FitBridge}
+use Rattle.model.proofs.Lists.{and-left, and-right, and-both, all-map, all-each, all-drop, all-replicate, at-place, length-tabulate, all-true, true-all, implied, implies-true}
 use Rattle.model.proofs.Valid.{ValidCell, ValidResult, ValidPort, ValidFixed, ValidOwn, ValidStream, Rising, Valid}
-use Rattle.model.proofs.Parts.{_also_, octets-at, packed-whole, octets-append, octets-drop, octets-part, octets-zeros, octets-packed, octets-flat, length-zeros, zero-zeros, zeros-zero, part-between, length-parts, parts-map, Sized, length-flat-sized, parts-flat, many-read, every-read, every-forth, every-fewer, every-padded, parts-padded, zero-padded, every-flat, rising-rises, rises-rising, zero-behind}
-use Rattle.model.specs.Frames.{priorityOf, rankOf}
+use Rattle.model.proofs.Parts.{_also_, octets-at, packed-whole, octets-append, octets-take, octets-drop, octets-part, octets-zeros, octets-packed, octets-flat, length-zeros, zero-zeros, zeros-zero, part-between, length-parts, parts-map, Sized, length-flat-sized, parts-flat, many-read, every-read, every-forth, every-flat, rising-rises, rises-rising, zero-behind}
+use Rattle.model.specs.Frames.{priorityOf, rankOf, also}
 use Rattle.model.proofs.Stored.{port-kept, ports-kept}
-use Rattle.model.proofs.Cells.{fixed-fit, fixed-back, fixed-forth, fixed-valid, priority-spare, cell-length, cell-octets, cells-sized, cell-back, cell-formed, cell-forth, cell-valid, cell-zeros, holds-held, held-holds}
+use Rattle.model.proofs.Cells.{fixed-fit, fixed-back, fixed-forth, fixed-valid, priority-spare, cell-length, cell-octets, cells-sized, cell-back, cell-formed, cell-forth, cell-valid, cell-zeros, holds-parts, held-append, held-empty}
 use Rattle.model.proofs.Results.{result-length, result-octets, results-sized, result-back, result-formed, result-forth, result-valid, result-zeros}
-use Rattle.model.proofs.Coded.{Coded, many-back, many-keep, many-rest, many-forth, many-valid, many-others}
+use Rattle.model.proofs.Coded.{Coded, many-back, many-keep, many-rest, many-forth, many-valid, many-others, some-is}
+use Rattle.model.proofs.AdvanceKeepsForm.{all-drop-tabulate}
+use Rattle.model.proofs.SendsOctets.{sends-coded, sends-length, sends-octets, sends-parts, sending-append, sending-none}
+use Rattle.model.proofs.SenderOctets.{senderRule, sender-coded, sender-octets, valid-sender-fits, sender-formed, senders-formed, senders-rule, senders-valid, started-valid, started-none}
 use Rattle.model.proofs.Owns.{own-length, own-octets, own-fit-back, valid-own-fits, owns-coded}
 use Rattle.model.proofs.SettingsOctets.{limit-b-fits, octet-field, settings-length, ports-read, fit-back, settings-fit, settings-rules, settings-ports, settings-taken, settings-valid, settings-room, eight-ports, formed-valid, octets-settings}
 
--- A stream's record: StreamID and settled values, cells, results.
+-- A stream's record: StreamID and settled values, cells, results, what is sent.
 
 abbrev pub name : Stream → List ℕ
 name x = packed nameWidths (x .id ∷ fixedNumbers (x .settled))
@@ -40,42 +45,93 @@ unfolding fixedNumbers width
 name-length x = length-packed-any nameWidths (x .id ∷ fixedNumbers (x .settled)) refl
 
 -- a record is its parts
-three-parts : (s : List ℕ) → length s ≡ recordSize → s ≡ part 0 nameSize s ++ (cellsPart s ++ resultsPart s)
-unfolding part cellsPart resultsPart
-three-parts s l =
-    let r = drop cellsSize (drop nameSize s) in
-    let h : length r ≤ resultsSize = omega (arith, length-drop cellsSize (drop nameSize s), length-drop nameSize s) in
-    rw (← drop-drop cellsSize nameSize s, take-all resultsSize r h, take-append-drop cellsSize (drop nameSize s)) (sym (take-append-drop nameSize s))
+four-parts : (s : List ℕ) → length s ≡ recordSize → s ≡ part 0 nameSize s ++ (cellsPart s ++ (resultsPart s ++ allSendsPart s))
+unfolding part cellsPart resultsPart allSendsPart
+four-parts s l =
+    let h : length (drop inRecord.sends s) ≤ allSendsSize = omega (arith, length-drop inRecord.sends s) in
+    rw (
+      take-all allSendsSize (drop inRecord.sends s) h,
+      ← drop-drop resultsSize inRecord.results s,
+      take-append-drop resultsSize (drop inRecord.results s),
+      ← drop-drop cellsSize inRecord.cells s,
+      take-append-drop cellsSize (drop inRecord.cells s),
+    )
+    (sym (take-append-drop nameSize s))
 
-module _ (x : Stream) (eight-cells : length (x .cells) ≡ 8) (eight-results : length (x .results) ≡ 8) where
+-- what stands behind the name, by its parts
+abbrev cellsWhole : Stream → List ℕ
+cellsWhole x = flat cellOctets (x .cells)
+
+abbrev resultsWhole : Stream → List ℕ
+resultsWhole x = flat resultOctets (x .results)
+
+abbrev sendsWhole : Stream → List ℕ
+sendsWhole x = flat sendsOctets (x .sends)
+
+pub sends-sized : (l : List Sends) → All (Sized sendsSize sendsOctets) l
+sends-sized = all-each (Sized sendsSize sendsOctets) sends-length
+
+-- eight cells, results and places of what is sent
+pub record Eights (x : Stream) : Type 0 where
+  pub cells : length (x .cells) ≡ 8
+  pub results : length (x .results) ≡ 8
+  pub sends : length (x .sends) ≡ 8
+
+module _ (x : Stream) (eight : Eights x) where
   pub length-cells : length (flat cellOctets (x .cells)) ≡ cellsSize
-  length-cells = omega (arith, length-flat-sized cellSize cellOctets (x .cells) (cells-sized (x .cells)))
+  length-cells = omega (arith, length-flat-sized cellSize cellOctets (x .cells) (cells-sized (x .cells)), eight .cells)
 
   pub length-results : length (flat resultOctets (x .results)) ≡ resultsSize
-  length-results = omega (arith, length-flat-sized resultSize resultOctets (x .results) (results-sized (x .results)))
+  length-results = omega (arith, length-flat-sized resultSize resultOctets (x .results) (results-sized (x .results)), eight .results)
+
+  pub length-sends : length (flat sendsOctets (x .sends)) ≡ allSendsSize
+  length-sends = omega (arith, length-flat-sized sendsSize sendsOctets (x .sends) (sends-sized (x .sends)), eight .sends)
 
   pub stream-length : length (streamOctets x) ≡ recordSize
   unfolding streamOctets
   stream-length =
-      length-append (name x) (flat cellOctets (x .cells) ++ flat resultOctets (x .results))
-      ∙ omega (arith, length-append (flat cellOctets (x .cells)) (flat resultOctets (x .results)), name-length x, length-cells, length-results)
+      length-append (name x) (cellsWhole x ++ (resultsWhole x ++ sendsWhole x))
+      ∙ omega (
+        arith,
+        length-append (cellsWhole x) (resultsWhole x ++ sendsWhole x),
+        length-append (resultsWhole x) (sendsWhole x),
+        name-length x,
+        length-cells,
+        length-results,
+        length-sends,
+      )
 
   pub cells-of : cellsPart (streamOctets x) ≡ flat cellOctets (x .cells)
   unfolding cellsPart streamOctets
-  cells-of = part-between (name x) (flat cellOctets (x .cells)) (flat resultOctets (x .results)) inRecord.cells cellsSize (name-length x) length-cells
+  cells-of = part-between (name x) (cellsWhole x) (resultsWhole x ++ sendsWhole x) inRecord.cells cellsSize (name-length x) length-cells
+
+  -- up to the results, and behind them
+  before-results : length (name x ++ cellsWhole x) ≡ inRecord.results
+  before-results = omega (arith, length-append (name x) (cellsWhole x), name-length x, length-cells)
+
+  behind-cells : streamOctets x ≡ (name x ++ cellsWhole x) ++ (resultsWhole x ++ sendsWhole x)
+  unfolding streamOctets
+  behind-cells = sym (append-assoc (name x) (cellsWhole x) (resultsWhole x ++ sendsWhole x))
 
   pub results-of : resultsPart (streamOctets x) ≡ flat resultOctets (x .results)
-  unfolding resultsPart streamOctets
+  unfolding resultsPart
   results-of =
-      let cs = flat cellOctets (x .cells) in
-      let rs = flat resultOctets (x .results) in
-      ap (part inRecord.results resultsSize) (sym (append-assoc (name x) cs rs) ∙ ap (λ (r : List ℕ). (name x ++ cs) ++ r) (sym (append-nil rs)))
-      ∙ part-between (name x ++ cs) rs [] inRecord.results resultsSize (omega (arith, length-append (name x) cs, name-length x, length-cells)) length-results
+      ap (part inRecord.results resultsSize) behind-cells
+      ∙ part-between (name x ++ cellsWhole x) (resultsWhole x) (sendsWhole x) inRecord.results resultsSize before-results length-results
+
+  pub sends-of : allSendsPart (streamOctets x) ≡ flat sendsOctets (x .sends)
+  unfolding allSendsPart
+  sends-of =
+      let front = (name x ++ cellsWhole x) ++ resultsWhole x in
+      ap (part inRecord.sends allSendsSize)
+      (behind-cells ∙ sym (append-assoc (name x ++ cellsWhole x) (resultsWhole x) (sendsWhole x)) ∙ ap (λ (r : List ℕ). front ++ r) (sym (append-nil (sendsWhole x))))
+      ∙ part-between front (sendsWhole x) [] inRecord.sends allSendsSize
+      (omega (arith, length-append (name x ++ cellsWhole x) (resultsWhole x), before-results, length-results)) length-sends
 
 module _ (x : Stream) (f : Fit nameWidths (x .id ∷ fixedNumbers (x .settled))) where
   pub name-read : fields nameWidths 0 (streamOctets x) ≡ x .id ∷ fixedNumbers (x .settled)
   unfolding streamOctets
-  name-read = fields-packed nameWidths (x .id ∷ fixedNumbers (x .settled)) (flat cellOctets (x .cells) ++ flat resultOctets (x .results)) f
+  name-read = fields-packed nameWidths (x .id ∷ fixedNumbers (x .settled)) (cellsWhole x ++ (resultsWhole x ++ sendsWhole x)) f
 
   pub id-read : idOf (streamOctets x) ≡ x .id
   unfolding idOf fields
@@ -89,10 +145,16 @@ module _ (x : Stream) (f : Fit nameWidths (x .id ∷ fixedNumbers (x .settled)))
 pub octets-stream : (x : Stream) → Octets (streamOctets x)
 unfolding streamOctets
 octets-stream x =
-    let cs = flat cellOctets (x .cells) in
-    let rs = flat resultOctets (x .results) in
-    octets-append (name x) (cs ++ rs) (octets-packed nameWidths (x .id ∷ fixedNumbers (x .settled)))
-    (octets-append cs rs (octets-flat cellOctets cell-octets (x .cells)) (octets-flat resultOctets result-octets (x .results)))
+    octets-append (name x) (cellsWhole x ++ (resultsWhole x ++ sendsWhole x)) (octets-packed nameWidths (x .id ∷ fixedNumbers (x .settled)))
+    (octets-append (cellsWhole x) (resultsWhole x ++ sendsWhole x) (octets-flat cellOctets cell-octets (x .cells))
+    (octets-append (resultsWhole x) (sendsWhole x) (octets-flat resultOctets result-octets (x .results)) (octets-flat sendsOctets sends-octets (x .sends))))
+
+-- some port has a registration, or sends: as the octets say, and as what is read from them does
+cells-hold : (k m : ℕ) (s : List ℕ) → k ≤ m → All (λ c. c ≡ empty) (drop k (parts cellSize toCell m s)) → holds k s ≡ held (parts cellSize toCell m s)
+cells-hold = some-is cellSize toCell empty holds held holds-parts held-append held-empty
+
+some-sends : (k m : ℕ) (s : List ℕ) → k ≤ m → All (λ x. x ≡ noSends) (drop k (parts sendsSize toSends m s)) → sends k s ≡ anySending (parts sendsSize toSends m s)
+some-sends = some-is sendsSize toSends noSends sends anySending sends-parts sending-append sending-none
 
 -- settled values that are none
 none-zero : allZero (fixedNumbers noFixed) ≡ true
@@ -138,37 +200,47 @@ module _ (ports clock leave : ℕ) (few : ports ≤ 8) (small : clock < 2 ^ 32) 
     unfolding fixedNumbers
     settled-read = ap (fixedFrom 1) (name-read x name-fit) ∙ fixed-back (x .settled) (v .settled) (x .id ∷ []) []
 
+    eight : Eights x
+    eight = record { cells = v .eight-cells; results = v .eight-results; sends = v .eight-sends }
+
+    cells-back : parts cellSize toCell 8 (flat cellOctets (x .cells)) ≡ x .cells
+    cells-back = many-back cells-coded ports 8 few (x .cells) (v .eight-cells) (v .cells)
+
+    sends-back : parts sendsSize toSends 8 (flat sendsOctets (x .sends)) ≡ x .sends
+    sends-back = many-back sends-coded ports 8 few (x .sends) (v .eight-sends) (v .sends)
+
     pub stream-back : toStream (streamOctets x) ≡ x
     unfolding toStream idOf
     stream-back =
-        let cs = many-back cells-coded ports 8 few (x .cells) (v .eight-cells) (v .cells) in
         let rs = many-back results-coded ports 8 few (x .results) (v .eight-results) (v .results) in
-        let c = cells-of x (v .eight-cells) (v .eight-results) in
-        let r = results-of x (v .eight-cells) (v .eight-results) in
-        rw (id-read x name-fit, settled-read, c, r, cs, rs)
+        rw (id-read x name-fit, settled-read, cells-of x eight, results-of x eight, sends-of x eight, cells-back, rs, sends-back)
+
+    held-there : (holds ports (flat cellOctets (x .cells)) || sends ports (flat sendsOctets (x .sends))) ≡ true
+    unfolding isHeld
+    held-there =
+        ap₂ (λ (a b : Bool). a || b)
+        (cells-hold ports 8 (flat cellOctets (x .cells)) few (rw cells-back (v .no-other-cells)) ∙ ap held cells-back)
+        (some-sends ports 8 (flat sendsOctets (x .sends)) few (rw sends-back (v .no-other-sends)) ∙ ap anySending sends-back)
+        ∙ v .is-held
 
     pub stream-formed : streamFormed ports clock leave (streamOctets x) ≡ true
-    unfolding streamFormed streamRules cellAt resultAt
+    unfolding streamFormed streamRules cellAt resultAt sendsAt
     stream-formed =
-        let c = cells-of x (v .eight-cells) (v .eight-results) in
-        let r = results-of x (v .eight-cells) (v .eight-results) in
-        let cs = flat cellOctets (x .cells) in
-        let h : ports ≤ length (x .cells) = omega (arith, v .eight-cells) in
-        let back = all-map (ValidCell clock leave) (λ d. toCell (cellOctets d) ≡ d) (cell-back clock leave small) (x .cells) (v .cells) in
-        let held-there : holds ports cs ≡ true =
-        ap (holds ports) (sym (append-nil cs)) ∙ held-holds ports (x .cells) [] back h (v .no-other-cells) (v .is-held) in
         let n = talkers ports (x .cells) in
         true-all (streamRules ports clock leave (streamOctets x))
         (eq-eqb (getD (streamOctets x) inRecord.priority 0 % 16) 0 (spare-read x name-fit)
-        also rw (stream-back, c, r)
+        also rw (stream-back, cells-of x eight, results-of x eight, sends-of x eight)
         (implies-true (eqb n 0) (allZero (drop 1 (fields nameWidths 0 (streamOctets x)))) (λ e. rw (name-read x name-fit, v .idle (eqb-true n 0 e)) none-zero)
         also many-keep cells-coded ports 8 few (x .cells) (v .eight-cells) (v .cells)
         also held-there
         also many-rest cells-coded ports 8 few (x .cells) (v .eight-cells) (v .cells) (v .no-other-cells)
         also many-keep results-coded ports 8 few (x .results) (v .eight-results) (v .results)
-        also ports-kept (storedFormed n) ports (x .cells) (x .results) (v .stored)
+        also ports-kept (storedFormed n) empty unsettled ports (x .cells) (x .results) (v .stored)
         also le-leb (declarers ports (x .results)) 1 (v .one-declares)
         also many-rest results-coded ports 8 few (x .results) (v .eight-results) (v .results) (v .no-other-results)
+        also many-keep sends-coded ports 8 few (x .sends) (v .eight-sends) (v .sends)
+        also ports-kept sentFormed unsettled noSends ports (x .results) (x .sends) (v .sent)
+        also many-rest sends-coded ports 8 few (x .sends) (v .eight-sends) (v .sends) (v .no-other-sends)
         also tt))
 
   module _ (s : List ℕ) (l : length s ≡ recordSize) (o : Octets s) (f : streamFormed ports clock leave s ≡ true) where
@@ -188,7 +260,7 @@ module _ (ports clock leave : ℕ) (few : ports ≤ 8) (small : clock < 2 ^ 32) 
     unfolding streamRules
     cells-kept = stream-rules .1 .1 .0
 
-    held-kept : holds ports (cellsPart s) ≡ true
+    held-kept : (holds ports (cellsPart s) || sends ports (allSendsPart s)) ≡ true
     unfolding streamRules
     held-kept = stream-rules .1 .1 .1 .0
 
@@ -212,6 +284,18 @@ module _ (ports clock leave : ℕ) (few : ports ≤ 8) (small : clock < 2 ^ 32) 
     unfolding streamRules
     results-zero = stream-rules .1 .1 .1 .1 .1 .1 .1 .1 .0
 
+    sends-kept : everyPart sendsSize sendsFormed ports (allSendsPart s) ≡ true
+    unfolding streamRules
+    sends-kept = stream-rules .1 .1 .1 .1 .1 .1 .1 .1 .1 .0
+
+    sent-kept : everyPort sentFormed ports (toStream s .results) (toStream s .sends) ≡ true
+    unfolding streamRules
+    sent-kept = stream-rules .1 .1 .1 .1 .1 .1 .1 .1 .1 .1 .0
+
+    sends-zero : allZero (drop (ports * sendsSize) (allSendsPart s)) ≡ true
+    unfolding streamRules
+    sends-zero = stream-rules .1 .1 .1 .1 .1 .1 .1 .1 .1 .1 .1 .0
+
     cells-room : length (cellsPart s) ≡ cellsSize
     unfolding cellsPart
     cells-room = length-part inRecord.cells cellsSize s (omega arith)
@@ -228,6 +312,25 @@ module _ (ports clock leave : ℕ) (few : ports ≤ 8) (small : clock < 2 ^ 32) 
     unfolding resultsPart
     results-octets = octets-part inRecord.results resultsSize s o
 
+    sends-room : length (allSendsPart s) ≡ allSendsSize
+    unfolding allSendsPart
+    sends-room = length-part inRecord.sends allSendsSize s (omega arith)
+
+    octets-sends : Octets (allSendsPart s)
+    unfolding allSendsPart
+    octets-sends = octets-part inRecord.sends allSendsSize s o
+
+    other-cells : All (λ c. c ≡ empty) (drop ports (parts cellSize toCell 8 (cellsPart s)))
+    other-cells = many-others cells-coded ports 8 few (cellsPart s) cells-room cells-octets cells-kept cells-zero
+
+    other-sends : All (λ x. x ≡ noSends) (drop ports (parts sendsSize toSends 8 (allSendsPart s)))
+    other-sends = many-others sends-coded ports 8 few (allSendsPart s) sends-room octets-sends sends-kept sends-zero
+
+    -- some port has a registration of it
+    record-holds : holds ports (cellsPart s) ≡ held (toStream s .cells)
+    unfolding toStream
+    record-holds = cells-hold ports 8 (cellsPart s) few other-cells
+
     name-forth : name (toStream s) ≡ part 0 nameSize s
     unfolding toStream fields width
     name-forth =
@@ -241,8 +344,9 @@ module _ (ports clock leave : ℕ) (few : ports ≤ 8) (small : clock < 2 ^ 32) 
           name-forth,
           many-forth cells-coded ports 8 few (cellsPart s) cells-room cells-octets cells-kept cells-zero,
           many-forth results-coded ports 8 few (resultsPart s) results-room results-octets results-kept results-zero,
+          many-forth sends-coded ports 8 few (allSendsPart s) sends-room octets-sends sends-kept sends-zero,
         )
-        (sym (three-parts s l))
+        (sym (four-parts s l))
 
     settled-valid : ValidFixed (fixedFrom 1 (fields nameWidths 0 s))
     settled-valid =
@@ -251,23 +355,41 @@ module _ (ports clock leave : ℕ) (few : ports ≤ 8) (small : clock < 2 ^ 32) 
         fixed-valid 1 vs (fit 1) (fit 2) (fit 3) (fit 4) (fit 5)
 
     pub stream-valid : ValidStream ports clock leave (toStream s)
-    unfolding toStream cellAt resultAt
+    unfolding toStream cellAt resultAt sendsAt isHeld
     stream-valid = record {
       id = beAt-fits 8 s 0 (octets-at s o);
       settled = settled-valid;
       eight-cells = length-parts cellSize toCell 8 (cellsPart s);
       cells = many-valid cells-coded ports 8 few (cellsPart s) cells-room cells-octets cells-kept cells-zero;
-      no-other-cells = many-others cells-coded ports 8 few (cellsPart s) cells-room cells-octets cells-kept cells-zero;
-      is-held = holds-held ports 8 (cellsPart s) few held-kept;
+      no-other-cells = other-cells;
+      is-held = ap₂ (λ (a b : Bool). a || b) (sym record-holds) (sym (some-sends ports 8 (allSendsPart s) few other-sends)) ∙ held-kept;
       eight-results = length-parts resultSize toResult 8 (resultsPart s);
       results = many-valid results-coded ports 8 few (resultsPart s) results-room results-octets results-kept results-zero;
       no-other-results = many-others results-coded ports 8 few (resultsPart s) results-room results-octets results-kept results-zero;
       idle = λ e. zero-none (fields nameWidths 0 s) (implied (eqb (talkers ports (toStream s .cells)) 0) _ idle-kept (eq-eqb _ 0 e));
       stored = λ p h.
-          port-kept (storedFormed (talkers ports (toStream s .cells))) ports (toStream s .cells) (toStream s .results) stored-kept p h
+          port-kept (storedFormed (talkers ports (toStream s .cells))) empty unsettled ports (toStream s .cells) (toStream s .results) stored-kept p h
           (omega (arith, length-parts cellSize toCell 8 (cellsPart s))) (omega (arith, length-parts resultSize toResult 8 (resultsPart s)));
       one-declares = one-kept;
+      eight-sends = length-parts sendsSize toSends 8 (allSendsPart s);
+      sends = many-valid sends-coded ports 8 few (allSendsPart s) sends-room octets-sends sends-kept sends-zero;
+      sent = λ p h.
+          port-kept sentFormed unsettled noSends ports (toStream s .results) (toStream s .sends) sent-kept p h
+          (omega (arith, length-parts resultSize toResult 8 (resultsPart s))) (omega (arith, length-parts sendsSize toSends 8 (allSendsPart s)));
+      no-other-sends = other-sends;
     }
+
+  -- some stream has a registration
+  any-holds : (n : ℕ) (s : List ℕ) → n * recordSize ≤ length s → Octets s → everyPart recordSize (streamFormed ports clock leave) n s ≡ true
+      → anyHolds ports n s ≡ anyHeld (parts recordSize toStream n s)
+  unfolding anyHolds anyHeld parts everyPart
+  any-holds zero s l o f = refl
+  any-holds (suc n) s l o f =
+      let first = streamFormed ports clock leave (take recordSize s) in
+      let rest = everyPart recordSize (streamFormed ports clock leave) n (drop recordSize s) in
+      ap₂ (λ (a b : Bool). a || b)
+      (record-holds (take recordSize s) (length-take-le recordSize s (omega arith)) (octets-take recordSize s o) (and-left first rest f))
+      (any-holds n (drop recordSize s) (omega (arith, length-drop recordSize s)) (octets-drop recordSize s o) (and-right first rest f))
 
 -- One port's totals, which fit since its limits do.
 
@@ -327,53 +449,67 @@ totals-forth : (s : List ℕ) → length s ≡ totalSize → Octets s → totals
 unfolding totalsOctets toTotals fields width
 totals-forth s l o = packed-whole totalsWidths s l o
 
--- The table's lay-out: settings, clock and count, totals, what the ports hold, records.
+-- The table's lay-out: settings, clock and count, totals, what the ports hold, what they send, records.
 
-module _ (ss h ts os rs : List ℕ) (a : length ss ≡ settingsSize) (b : length h ≡ clockSize) (c : length ts ≡ totalsSize)
-    (d : length os ≡ ownsSize) where
+module _ (ss h ts os ns rs : List ℕ) (a : length ss ≡ settingsSize) (b : length h ≡ clockSize) (c : length ts ≡ totalsSize)
+    (d : length os ≡ ownsSize) (e : length ns ≡ sendersSize) where
   abbrev laid : List ℕ
-  laid = ss ++ (h ++ (ts ++ (os ++ rs)))
+  laid = ss ++ (h ++ (ts ++ (os ++ (ns ++ rs))))
 
   settings-of : settingsPart laid ≡ ss
   unfolding settingsPart part
-  settings-of = take-at ss (h ++ (ts ++ (os ++ rs))) settingsSize a
+  settings-of = take-at ss (h ++ (ts ++ (os ++ (ns ++ rs)))) settingsSize a
 
   totals-of : totalsPart laid ≡ ts
   unfolding totalsPart
   totals-of =
-      ap (part inTable.totals totalsSize) (sym (append-assoc ss h (ts ++ (os ++ rs))))
-      ∙ part-between (ss ++ h) ts (os ++ rs) inTable.totals totalsSize (omega (arith, length-append ss h)) c
+      ap (part inTable.totals totalsSize) (sym (append-assoc ss h (ts ++ (os ++ (ns ++ rs)))))
+      ∙ part-between (ss ++ h) ts (os ++ (ns ++ rs)) inTable.totals totalsSize (omega (arith, length-append ss h)) c
 
   -- what is behind the totals
-  behind : laid ≡ ((ss ++ h) ++ ts) ++ (os ++ rs)
-  behind = sym (append-assoc ss h (ts ++ (os ++ rs))) ∙ sym (append-assoc (ss ++ h) ts (os ++ rs))
+  behind : laid ≡ ((ss ++ h) ++ ts) ++ (os ++ (ns ++ rs))
+  behind = sym (append-assoc ss h (ts ++ (os ++ (ns ++ rs)))) ∙ sym (append-assoc (ss ++ h) ts (os ++ (ns ++ rs)))
+
+  before-owns : length ((ss ++ h) ++ ts) ≡ inTable.owns
+  before-owns = omega (arith, length-append (ss ++ h) ts, length-append ss h)
 
   owns-of : ownsPart laid ≡ os
   unfolding ownsPart
-  owns-of =
-      ap (part inTable.owns ownsSize) behind
-      ∙ part-between ((ss ++ h) ++ ts) os rs inTable.owns ownsSize (omega (arith, length-append (ss ++ h) ts, length-append ss h)) d
+  owns-of = ap (part inTable.owns ownsSize) behind ∙ part-between ((ss ++ h) ++ ts) os (ns ++ rs) inTable.owns ownsSize before-owns d
+
+  -- what is behind them
+  behind-owns : laid ≡ (((ss ++ h) ++ ts) ++ os) ++ (ns ++ rs)
+  behind-owns = behind ∙ sym (append-assoc ((ss ++ h) ++ ts) os (ns ++ rs))
+
+  before-senders : length (((ss ++ h) ++ ts) ++ os) ≡ inTable.senders
+  before-senders = omega (arith, length-append ((ss ++ h) ++ ts) os, before-owns)
+
+  senders-of : sendersPart laid ≡ ns
+  unfolding sendersPart
+  senders-of = ap (part inTable.senders sendersSize) behind-owns ∙ part-between (((ss ++ h) ++ ts) ++ os) ns rs inTable.senders sendersSize before-senders e
 
   records-of : recordsPart laid ≡ rs
   unfolding recordsPart
   records-of =
-      ap (drop inTable.records) (behind ∙ sym (append-assoc ((ss ++ h) ++ ts) os rs))
-      ∙ drop-at (((ss ++ h) ++ ts) ++ os) rs inTable.records
-      (omega (arith, length-append ((ss ++ h) ++ ts) os, length-append (ss ++ h) ts, length-append ss h))
+      let front = ((ss ++ h) ++ ts) ++ os in
+      ap (drop inTable.records) (behind-owns ∙ sym (append-assoc front ns rs))
+      ∙ drop-at (front ++ ns) rs inTable.records (omega (arith, length-append front ns, before-senders))
 
 -- a table is its parts
-five-parts : (t : List ℕ) → t ≡ settingsPart t ++ (part inTable.clock clockSize t ++ (totalsPart t ++ (ownsPart t ++ recordsPart t)))
-unfolding settingsPart part totalsPart ownsPart recordsPart
-five-parts t =
-    rw (
-      ← drop-drop ownsSize inTable.owns t,
-      take-append-drop ownsSize (drop inTable.owns t),
-      ← drop-drop totalsSize inTable.totals t,
-      take-append-drop totalsSize (drop inTable.totals t),
-      ← drop-drop clockSize inTable.clock t,
-      take-append-drop clockSize (drop inTable.clock t),
-    )
-    (sym (take-append-drop settingsSize t))
+drop-split : (a n : ℕ) (t : List ℕ) → drop a t ≡ part a n t ++ drop (a + n) t
+unfolding part
+drop-split a n t = sym (take-append-drop n (drop a t)) ∙ ap (λ (r : List ℕ). take n (drop a t) ++ r) (drop-drop n a t)
+
+six-parts : (t : List ℕ) → t ≡ settingsPart t ++ (part inTable.clock clockSize t ++ (totalsPart t ++ (ownsPart t ++ (sendersPart t ++ recordsPart t))))
+unfolding settingsPart totalsPart ownsPart sendersPart recordsPart
+six-parts t =
+    drop-split 0 settingsSize t
+    ∙ ap (λ (r : List ℕ). settingsPart t ++ r)
+    (drop-split inTable.clock clockSize t
+    ∙ ap (λ (r : List ℕ). part inTable.clock clockSize t ++ r)
+    (drop-split inTable.totals totalsSize t
+    ∙ ap (λ (r : List ℕ). totalsPart t ++ r)
+    (drop-split inTable.owns ownsSize t ∙ ap (λ (r : List ℕ). ownsPart t ++ r) (drop-split inTable.senders sendersSize t))))
 
 -- The table of a bridge.
 
@@ -389,25 +525,33 @@ totalsWhole b = flat totalsOctets (b .totals)
 abbrev pub ownsWhole : Bridge → List ℕ
 ownsWhole b = flat ownOctets (b .owns)
 
+abbrev pub sendersWhole : Bridge → List ℕ
+sendersWhole b = flat senderOctets (b .senders)
+
 abbrev pub recordsWhole : Bridge → List ℕ
 recordsWhole b = flat streamOctets (b .streams) ++ zeros ((64 - length (b .streams)) * recordSize)
 
-pub encode-parts : (b : Bridge) → encode b ≡ settingsWhole b ++ (clockAndCount b ++ (totalsWhole b ++ (ownsWhole b ++ recordsWhole b)))
+-- what is behind the totals
+abbrev pub behindTotals : Bridge → List ℕ
+behindTotals b = ownsWhole b ++ (sendersWhole b ++ recordsWhole b)
+
+pub encode-parts : (b : Bridge) → encode b ≡ settingsWhole b ++ (clockAndCount b ++ (totalsWhole b ++ behindTotals b))
 unfolding encode
 encode-parts b =
-    sym (append-assoc (settingsOctets (b .settings)) (zeros ((8 - length (b .settings .ports)) * portSize)) (clockAndCount b ++ (totalsWhole b ++ (ownsWhole b ++ recordsWhole b))))
+    sym (append-assoc (settingsOctets (b .settings)) (zeros ((8 - length (b .settings .ports)) * portSize)) (clockAndCount b ++ (totalsWhole b ++ behindTotals b)))
 
 pub octets-encode : (b : Bridge) → Octets (encode b)
 octets-encode b =
     let ps : ℕ = (8 - length (b .settings .ports)) * portSize in
     let rs : ℕ = (64 - length (b .streams)) * recordSize in
     rw (encode-parts b)
-    (octets-append (settingsWhole b) (clockAndCount b ++ (totalsWhole b ++ (ownsWhole b ++ recordsWhole b)))
+    (octets-append (settingsWhole b) (clockAndCount b ++ (totalsWhole b ++ behindTotals b))
     (octets-append (settingsOctets (b .settings)) (zeros ps) (octets-settings (b .settings)) (octets-zeros ps))
-    (octets-append (clockAndCount b) (totalsWhole b ++ (ownsWhole b ++ recordsWhole b)) (octets-packed clockWidths (b .clock ∷ length (b .streams) ∷ []))
-    (octets-append (totalsWhole b) (ownsWhole b ++ recordsWhole b) (octets-flat totalsOctets totals-octets (b .totals))
-    (octets-append (ownsWhole b) (recordsWhole b) (octets-flat ownOctets own-octets (b .owns))
-    (octets-append (flat streamOctets (b .streams)) (zeros rs) (octets-flat streamOctets octets-stream (b .streams)) (octets-zeros rs))))))
+    (octets-append (clockAndCount b) (totalsWhole b ++ behindTotals b) (octets-packed clockWidths (b .clock ∷ length (b .streams) ∷ []))
+    (octets-append (totalsWhole b) (behindTotals b) (octets-flat totalsOctets totals-octets (b .totals))
+    (octets-append (ownsWhole b) (sendersWhole b ++ recordsWhole b) (octets-flat ownOctets own-octets (b .owns))
+    (octets-append (sendersWhole b) (recordsWhole b) (octets-flat senderOctets sender-octets (b .senders))
+    (octets-append (flat streamOctets (b .streams)) (zeros rs) (octets-flat streamOctets octets-stream (b .streams)) (octets-zeros rs)))))))
 
 -- what gives each part of the table its place
 pub record Whole (b : Bridge) : Type 0 where
@@ -415,8 +559,27 @@ pub record Whole (b : Bridge) : Type 0 where
   pub eight-totals : length (b .totals) ≡ 8
   pub eight-owns : length (b .owns) ≡ 8
   pub owns : All (Sized ownSize ownOctets) (b .owns)
+  pub eight-senders : length (b .senders) ≡ 8
+  pub senders : All (Sized senderSize senderOctets) (b .senders)
   pub at-most-64 : length (b .streams) ≤ 64
   pub streams : All (Sized recordSize streamOctets) (b .streams)
+
+-- what the ports send fits: what holds of each of the first n, and of all behind them, holds of all
+all-by-place : {A : Type 0} (P : A → Type 0) (n : ℕ) (l : List A) (d : A) → ((q : ℕ) → q < n → P (getD l q d)) → All P (drop n l) → All P l
+all-by-place P n [] d h a = tt
+all-by-place P zero (x ∷ l) d h a = a
+all-by-place P (suc n) (x ∷ l) d h a = (h 0 (omega arith), all-by-place P n l d (λ q g. h (suc q) (omega arith)) a)
+
+pub senders-fit : (b : Bridge) → Valid b → All FitSender (b .senders)
+unfolding senderAt
+senders-fit b v =
+    let n = length (b .settings .ports) in
+    all-by-place FitSender n (b .senders) noSender
+    (λ q h. valid-sender-fits (declaresSlot (b .settings) q) (b .clock) (v .clock) (senderAt (b .senders) q) (v .senders q h))
+    (all-map (λ x. x ≡ noSender) FitSender (λ x e. rw e (sender-coded .good)) (drop n (b .senders)) (v .no-other-senders))
+
+fit-senders-sized : (l : List Sender) → All FitSender l → All (Sized senderSize senderOctets) l
+fit-senders-sized = all-map FitSender (Sized senderSize senderOctets) (sender-coded .size)
 
 pub valid-whole : (b : Bridge) → Valid b → Whole b
 valid-whole b v = record {
@@ -424,10 +587,12 @@ valid-whole b v = record {
   eight-totals = v .eight-totals;
   eight-owns = v .eight-owns;
   owns = all-map (ValidOwn (b .clock) (b .settings .leaveTime)) (Sized ownSize ownOctets) (λ o w. own-length o (w .slotted) (w .addresses .at-most-64)) (b .owns) (v .owns);
+  eight-senders = v .eight-senders;
+  senders = fit-senders-sized (b .senders) (senders-fit b v);
   at-most-64 = v .at-most-64;
   streams =
       all-map (ValidStream (length (b .settings .ports)) (b .clock) (b .settings .leaveTime)) (Sized recordSize streamOctets)
-      (λ x w. stream-length x (w .eight-cells) (w .eight-results)) (b .streams) (v .streams);
+      (λ x w. stream-length x record { cells = w .eight-cells; results = w .eight-results; sends = w .eight-sends }) (b .streams) (v .streams);
 }
 
 pub fit-whole : (b : Bridge) → FitBridge b → Whole b
@@ -436,8 +601,12 @@ fit-whole b f = record {
   eight-totals = f .eight-totals;
   eight-owns = f .eight-owns;
   owns = all-map FitOwn (Sized ownSize ownOctets) (λ o w. own-length o (w .slotted) (w .addresses .at-most-64)) (b .owns) (f .owns);
+  eight-senders = f .eight-senders;
+  senders = fit-senders-sized (b .senders) (f .senders);
   at-most-64 = f .at-most-64;
-  streams = all-map FitStream (Sized recordSize streamOctets) (λ x w. stream-length x (w .eight-cells) (w .eight-results)) (b .streams) (f .streams);
+  streams =
+      all-map FitStream (Sized recordSize streamOctets)
+      (λ x w. stream-length x record { cells = w .eight-cells; results = w .eight-results; sends = w .eight-sends }) (b .streams) (f .streams);
 }
 
 pub clock-length : (b : Bridge) → length (clockAndCount b) ≡ clockSize
@@ -457,6 +626,9 @@ module _ (b : Bridge) (w : Whole b) where
   pub owns-whole-length : length (ownsWhole b) ≡ ownsSize
   owns-whole-length = omega (arith, length-flat-sized ownSize ownOctets (b .owns) (w .owns), w .eight-owns)
 
+  pub senders-whole-length : length (sendersWhole b) ≡ sendersSize
+  senders-whole-length = omega (arith, length-flat-sized senderSize senderOctets (b .senders) (w .senders), w .eight-senders)
+
   pub records-whole-length : length (recordsWhole b) ≡ recordsSize
   records-whole-length =
       let n = length (b .streams) in
@@ -470,18 +642,21 @@ module _ (b : Bridge) (w : Whole b) where
       let cc = clockAndCount b in
       let ts = totalsWhole b in
       let os = ownsWhole b in
+      let ns = sendersWhole b in
       let rs = recordsWhole b in
       ap length (encode-parts b)
       ∙ omega (
         arith,
-        length-append ss (cc ++ (ts ++ (os ++ rs))),
-        length-append cc (ts ++ (os ++ rs)),
-        length-append ts (os ++ rs),
-        length-append os rs,
+        length-append ss (cc ++ (ts ++ (os ++ (ns ++ rs)))),
+        length-append cc (ts ++ (os ++ (ns ++ rs))),
+        length-append ts (os ++ (ns ++ rs)),
+        length-append os (ns ++ rs),
+        length-append ns rs,
         settings-whole-length,
         clock-length b,
         totals-whole-length,
         owns-whole-length,
+        senders-whole-length,
         records-whole-length,
       )
 
@@ -489,26 +664,32 @@ module _ (b : Bridge) (w : Whole b) where
   pub settings-read : settingsPart (encode b) ≡ settingsOctets (b .settings) ++ zeros ((8 - length (b .settings .ports)) * portSize)
   settings-read =
       ap settingsPart (encode-parts b)
-      ∙ settings-of (settingsWhole b) (clockAndCount b) (totalsWhole b) (ownsWhole b) (recordsWhole b) settings-whole-length (clock-length b)
-      totals-whole-length owns-whole-length
+      ∙ settings-of (settingsWhole b) (clockAndCount b) (totalsWhole b) (ownsWhole b) (sendersWhole b) (recordsWhole b) settings-whole-length
+      (clock-length b) totals-whole-length owns-whole-length senders-whole-length
 
   pub totals-read : totalsPart (encode b) ≡ flat totalsOctets (b .totals)
   totals-read =
       ap totalsPart (encode-parts b)
-      ∙ totals-of (settingsWhole b) (clockAndCount b) (totalsWhole b) (ownsWhole b) (recordsWhole b) settings-whole-length (clock-length b)
-      totals-whole-length owns-whole-length
+      ∙ totals-of (settingsWhole b) (clockAndCount b) (totalsWhole b) (ownsWhole b) (sendersWhole b) (recordsWhole b) settings-whole-length
+      (clock-length b) totals-whole-length owns-whole-length senders-whole-length
 
   pub owns-read : ownsPart (encode b) ≡ flat ownOctets (b .owns)
   owns-read =
       ap ownsPart (encode-parts b)
-      ∙ owns-of (settingsWhole b) (clockAndCount b) (totalsWhole b) (ownsWhole b) (recordsWhole b) settings-whole-length (clock-length b)
-      totals-whole-length owns-whole-length
+      ∙ owns-of (settingsWhole b) (clockAndCount b) (totalsWhole b) (ownsWhole b) (sendersWhole b) (recordsWhole b) settings-whole-length
+      (clock-length b) totals-whole-length owns-whole-length senders-whole-length
+
+  pub senders-read : sendersPart (encode b) ≡ flat senderOctets (b .senders)
+  senders-read =
+      ap sendersPart (encode-parts b)
+      ∙ senders-of (settingsWhole b) (clockAndCount b) (totalsWhole b) (ownsWhole b) (sendersWhole b) (recordsWhole b) settings-whole-length
+      (clock-length b) totals-whole-length owns-whole-length senders-whole-length
 
   pub records-read : recordsPart (encode b) ≡ flat streamOctets (b .streams) ++ zeros ((64 - length (b .streams)) * recordSize)
   records-read =
       ap recordsPart (encode-parts b)
-      ∙ records-of (settingsWhole b) (clockAndCount b) (totalsWhole b) (ownsWhole b) (recordsWhole b) settings-whole-length (clock-length b)
-      totals-whole-length owns-whole-length
+      ∙ records-of (settingsWhole b) (clockAndCount b) (totalsWhole b) (ownsWhole b) (sendersWhole b) (recordsWhole b) settings-whole-length
+      (clock-length b) totals-whole-length owns-whole-length senders-whole-length
 
   module _ (small : b .clock < 2 ^ 32) where
     numbers-read : fields clockWidths inTable.clock (encode b) ≡ b .clock ∷ length (b .streams) ∷ []
@@ -516,8 +697,8 @@ module _ (b : Bridge) (w : Whole b) where
     numbers-read =
         let h : length (b .streams) ≤ 64 = w .at-most-64 in
         ap (fields clockWidths inTable.clock) (encode-parts b)
-        ∙ ap (λ (k : ℕ). fields clockWidths k (settingsWhole b ++ (clockAndCount b ++ (totalsWhole b ++ (ownsWhole b ++ recordsWhole b))))) (sym settings-whole-length)
-        ∙ fields-packed-behind clockWidths (b .clock ∷ length (b .streams) ∷ []) (settingsWhole b) (totalsWhole b ++ (ownsWhole b ++ recordsWhole b)) (small also omega arith also tt)
+        ∙ ap (λ (k : ℕ). fields clockWidths k (settingsWhole b ++ (clockAndCount b ++ (totalsWhole b ++ behindTotals b)))) (sym settings-whole-length)
+        ∙ fields-packed-behind clockWidths (b .clock ∷ length (b .streams) ∷ []) (settingsWhole b) (totalsWhole b ++ behindTotals b) (small also omega arith also tt)
 
     pub clock-read : clockField (encode b) ≡ b .clock
     unfolding clockField fields
@@ -541,6 +722,9 @@ module _ (b : Bridge) (w : Whole b) where
       ap (parts ownSize toOwn 8) owns-read
       ∙ many-read ownSize ownOctets 8 toOwn (b .owns) (w .eight-owns) (w .owns) (all-map FitOwn (λ o. toOwn (ownOctets o) ≡ o) own-fit-back (b .owns) f)
 
+  pub senders-decoded : All FitSender (b .senders) → parts senderSize toSender 8 (sendersPart (encode b)) ≡ b .senders
+  senders-decoded f = ap (parts senderSize toSender 8) senders-read ∙ many-back sender-coded 8 8 (omega arith) (b .senders) (w .eight-senders) f
+
 -- A valid bridge is read back from its table, which keeps the form rules.
 
 module _ (b : Bridge) (v : Valid b) where
@@ -561,6 +745,9 @@ module _ (b : Bridge) (v : Valid b) where
       owns-decoded b whole
       (all-map (ValidOwn (b .clock) (b .settings .leaveTime)) FitOwn (valid-own-fits (b .clock) (b .settings .leaveTime) (v .clock)) (b .owns) (v .owns))
 
+  senders-same : parts senderSize toSender 8 (sendersPart (encode b)) ≡ b .senders
+  senders-same = senders-decoded b whole (senders-fit b v)
+
   streams-same : parts recordSize toStream (countField (encode b)) (recordsPart (encode b)) ≡ b .streams
   streams-same =
       let n = length (b .settings .ports) in
@@ -571,7 +758,7 @@ module _ (b : Bridge) (v : Valid b) where
 
   pub decode-encode : decode (encode b) ≡ b
   unfolding decode
-  decode-encode = rw (settings-same, clock-read b whole (v .clock), totals-same, own-same, streams-same)
+  decode-encode = rw (settings-same, clock-read b whole (v .clock), totals-same, own-same, senders-same, streams-same)
 
   ports-same : portsField (settingsPart (encode b)) ≡ length (b .settings .ports)
   ports-same =
@@ -616,6 +803,35 @@ module _ (b : Bridge) (v : Valid b) where
       many-rest (owns-coded (b .clock) (b .settings .leaveTime) (v .clock)) (length (b .settings .ports)) 8 (v .settings .eight-ports) (b .owns)
       (v .eight-owns) (v .owns) (v .no-other-owns)
 
+  ports-send : sendersFormed (b .settings) (b .clock) 0 (length (b .settings .ports)) (flat senderOctets (b .senders)) ≡ true
+  unfolding senderAt
+  ports-send =
+      let n = length (b .settings .ports) in
+      senders-formed (b .settings) (b .clock) 0 n (b .senders) (omega (arith, v .eight-senders, v .settings .eight-ports)) (whole .senders)
+      (λ q h. let e : 0 + q ≡ q = omega arith in
+      rw e (sender-formed (declaresSlot (b .settings) q) (b .clock) (v .clock) (senderAt (b .senders) q) (v .senders q h)))
+
+  others-send : allZero (drop (length (b .settings .ports) * senderSize) (flat senderOctets (b .senders))) ≡ true
+  others-send =
+      many-rest sender-coded (length (b .settings .ports)) 8 (v .settings .eight-ports) (b .senders) (v .eight-senders) (senders-fit b v) (v .no-other-senders)
+
+  -- some stream has a registration
+  some-held : anyHolds (length (b .settings .ports)) (length (b .streams)) (recordsWhole b) ≡ anyHeld (b .streams)
+  some-held =
+      let n = length (b .settings .ports) in
+      let l = b .streams in
+      any-holds n (b .clock) (b .settings .leaveTime) (v .settings .eight-ports) (v .clock) (length l) (recordsWhole b)
+      (omega (arith, records-whole-length b whole, v .at-most-64)) octets-records streams-formed
+      ∙ ap anyHeld
+      (parts-flat recordSize streamOctets toStream l (zeros ((64 - length l) * recordSize)) (whole .streams)
+      (all-map (ValidStream n (b .clock) (b .settings .leaveTime)) (λ x. toStream (streamOctets x) ≡ x)
+      (stream-back n (b .clock) (b .settings .leaveTime) (v .settings .eight-ports) (v .clock)) l (v .streams)))
+    where
+      octets-records : Octets (recordsWhole b)
+      octets-records =
+          octets-append (flat streamOctets (b .streams)) (zeros ((64 - length (b .streams)) * recordSize)) (octets-flat streamOctets octets-stream (b .streams))
+          (octets-zeros ((64 - length (b .streams)) * recordSize))
+
   pub formed-encode : formed (encode b) ≡ true
   unfolding formed tableRules
   formed-encode =
@@ -627,9 +843,11 @@ module _ (b : Bridge) (v : Valid b) where
       (true-all (tableRules (encode b))
       (settings-keep
       also settings-rest
-      also rw (count, totals-same, settings-same) (v .totals)
+      also rw (ports-same, count, records-read b whole, some-held, totals-same, settings-same) (v .totals)
       also rw (ports-same, clock, settings-same, owns-read b whole) owns-formed
       also rw (ports-same, owns-read b whole) owns-rest
+      also rw (ports-same, clock, settings-same, senders-read b whole) ports-send
+      also rw (ports-same, senders-read b whole) others-send
       also rw count (le-leb (length (b .streams)) 64 (v .at-most-64))
       also rw (ports-same, clock, settings-same, count, records-read b whole) streams-formed
       also ids-rise
@@ -661,7 +879,7 @@ module _ (t : List ℕ) (f : formed t ≡ true) where
   unfolding tableRules
   settings-zero = table-rules .1 .0
 
-  totals-kept : totalsWithin (leb 1 (countField t)) (parts totalSize toTotals 8 (totalsPart t)) (toSettings (settingsPart t) .ports) ≡ true
+  totals-kept : totalsWithin (anyHolds (portsField (settingsPart t)) (countField t) (recordsPart t)) (parts totalSize toTotals 8 (totalsPart t)) (toSettings (settingsPart t) .ports) ≡ true
   unfolding tableRules
   totals-kept = table-rules .1 .1 .0
 
@@ -673,22 +891,30 @@ module _ (t : List ℕ) (f : formed t ≡ true) where
   unfolding tableRules
   owns-zero = table-rules .1 .1 .1 .1 .0
 
+  pub senders-kept : sendersFormed (toSettings (settingsPart t)) (clockField t) 0 (portsField (settingsPart t)) (sendersPart t) ≡ true
+  unfolding tableRules
+  senders-kept = table-rules .1 .1 .1 .1 .1 .0
+
+  pub senders-zero : allZero (drop (portsField (settingsPart t) * senderSize) (sendersPart t)) ≡ true
+  unfolding tableRules
+  senders-zero = table-rules .1 .1 .1 .1 .1 .1 .0
+
   pub count-kept : countField t ≤ 64
   unfolding tableRules
-  count-kept = leb-true (countField t) 64 (table-rules .1 .1 .1 .1 .1 .0)
+  count-kept = leb-true (countField t) 64 (table-rules .1 .1 .1 .1 .1 .1 .1 .0)
 
   pub streams-kept : everyPart recordSize (streamFormed (portsField (settingsPart t)) (clockField t) (toSettings (settingsPart t) .leaveTime))
       (countField t) (recordsPart t) ≡ true
   unfolding tableRules
-  streams-kept = table-rules .1 .1 .1 .1 .1 .1 .0
+  streams-kept = table-rules .1 .1 .1 .1 .1 .1 .1 .1 .0
 
   ids-kept : rising (parts recordSize idOf (countField t) (recordsPart t)) ≡ true
   unfolding tableRules
-  ids-kept = table-rules .1 .1 .1 .1 .1 .1 .1 .0
+  ids-kept = table-rules .1 .1 .1 .1 .1 .1 .1 .1 .1 .0
 
   records-zero : allZero (drop (countField t * recordSize) (recordsPart t)) ≡ true
   unfolding tableRules
-  records-zero = table-rules .1 .1 .1 .1 .1 .1 .1 .1 .0
+  records-zero = table-rules .1 .1 .1 .1 .1 .1 .1 .1 .1 .1 .0
 
   settings-room-length : length (settingsPart t) ≡ settingsSize
   unfolding settingsPart
@@ -701,6 +927,10 @@ module _ (t : List ℕ) (f : formed t ≡ true) where
   owns-room : length (ownsPart t) ≡ ownsSize
   unfolding ownsPart
   owns-room = length-part inTable.owns ownsSize t (omega (arith, formed-table-length))
+
+  senders-room : length (sendersPart t) ≡ sendersSize
+  unfolding sendersPart
+  senders-room = length-part inTable.senders sendersSize t (omega (arith, formed-table-length))
 
   records-room : length (recordsPart t) ≡ recordsSize
   unfolding recordsPart
@@ -719,6 +949,16 @@ module _ (t : List ℕ) (o : Octets t) (f : formed t ≡ true) where
   unfolding ownsPart
   octets-owns-part = octets-part inTable.owns ownsSize t o
 
+  octets-senders-part : Octets (sendersPart t)
+  unfolding sendersPart
+  octets-senders-part = octets-part inTable.senders sendersSize t o
+
+  -- what stands where a port sends is coded
+  senders-ruled : everyPart senderSize senderRule (portsField (settingsPart t)) (sendersPart t) ≡ true
+  senders-ruled =
+      senders-rule (toSettings (settingsPart t)) (clockField t) 0 (portsField (settingsPart t)) (sendersPart t)
+      (omega (arith, senders-room t f, eight-ports (settingsPart t) (settings-kept t f))) (senders-kept t f)
+
   octets-records-part : Octets (recordsPart t)
   unfolding recordsPart
   octets-records-part = octets-drop inTable.records t o
@@ -734,7 +974,7 @@ module _ (t : List ℕ) (o : Octets t) (f : formed t ≡ true) where
   clock-fits = beAt-fits 4 t inTable.clock (octets-at t o)
 
   pub valid-decode : Valid (decode t)
-  unfolding decode ids toStream idOf
+  unfolding decode ids toStream idOf senderAt
   valid-decode =
       let s = settingsPart t in
       let n = countField t in
@@ -752,10 +992,15 @@ module _ (t : List ℕ) (o : Octets t) (f : formed t ≡ true) where
         settings = settings-valid s octets-settings-part ports-fit (settings-kept t f);
         clock = clock-fits;
         eight-totals = length-parts totalSize toTotals 8 (totalsPart t);
-        totals = rw (length-parts recordSize toStream n rs) (totals-kept t f);
+        totals = rw (← any-holds p (clockField t) l h clock-fits n rs streams-fit octets-records-part (streams-kept t f)) (totals-kept t f);
         eight-owns = length-parts ownSize toOwn 8 (ownsPart t);
         owns = many-valid coded p 8 h (ownsPart t) (owns-room t f) octets-owns-part (owns-kept t f) (owns-zero t f);
         no-other-owns = rw e (many-others coded p 8 h (ownsPart t) (owns-room t f) octets-owns-part (owns-kept t f) (owns-zero t f));
+        eight-senders = length-parts senderSize toSender 8 (sendersPart t);
+        senders = λ q g.
+            let z : 0 + q ≡ q = omega arith in
+            rw z at (senders-valid (toSettings s) (clockField t) 0 p 8 (sendersPart t) h (omega (arith, senders-room t f, h)) (senders-kept t f) q (omega (arith, e, g)));
+        no-other-senders = rw e (many-others sender-coded p 8 h (sendersPart t) (senders-room t f) octets-senders-part senders-ruled (senders-zero t f));
         at-most-64 = omega (arith, length-parts recordSize toStream n rs, count-kept t f);
         streams = rw e read;
         ascending = rising-rises (ids (parts recordSize toStream n rs)) rise;
@@ -791,6 +1036,13 @@ module _ (t : List ℕ) (o : Octets t) (f : formed t ≡ true) where
       many-forth (owns-coded (clockField t) (toSettings s .leaveTime) clock-fits) (portsField s) 8 (eight-ports s (settings-kept t f))
       (ownsPart t) (owns-room t f) octets-owns-part (owns-kept t f) (owns-zero t f)
 
+  senders-written : sendersWhole (decode t) ≡ sendersPart t
+  unfolding decode
+  senders-written =
+      let s = settingsPart t in
+      many-forth sender-coded (portsField s) 8 (eight-ports s (settings-kept t f)) (sendersPart t) (senders-room t f) octets-senders-part senders-ruled
+      (senders-zero t f)
+
   records-written : recordsWhole (decode t) ≡ recordsPart t
   unfolding decode
   records-written =
@@ -810,7 +1062,7 @@ module _ (t : List ℕ) (o : Octets t) (f : formed t ≡ true) where
       rw (← z, w) (take-append-drop (n * recordSize) r)
 
   pub encode-decode : encode (decode t) ≡ t
-  encode-decode = encode-parts (decode t) ∙ rw (settings-written, clock-written, totals-written, owns-written, records-written) (sym (five-parts t))
+  encode-decode = encode-parts (decode t) ∙ rw (settings-written, clock-written, totals-written, owns-written, senders-written, records-written) (sym (six-parts t))
 
 -- equal contents are equal octets
 pub same-octets : (t u : List ℕ) → Octets t → Octets u → formed t ≡ true → formed u ≡ true → decode t ≡ decode u → t ≡ u
@@ -827,7 +1079,7 @@ none-within some (suc n) (q ∷ qs) =
     (none-within some n qs)
 
 pub valid-started : (s : List ℕ) → Octets s → settingsFormed s ≡ true → Valid (started (toSettings s))
-unfolding started ids Rising
+unfolding started ids Rising senderAt
 valid-started s o f = record {
   settings = formed-valid s o f;
   clock = omega arith;
@@ -836,6 +1088,11 @@ valid-started s o f = record {
   eight-owns = refl;
   owns = all-replicate (ValidOwn 0 (toSettings s .leaveTime)) 8 noOwn (owns-coded 0 (toSettings s .leaveTime) (omega arith) .good);
   no-other-owns = all-drop (λ o. o ≡ noOwn) (length (toSettings s .ports)) (replicate 8 noOwn) (all-replicate (λ o. o ≡ noOwn) 8 noOwn refl);
+  eight-senders = length-tabulate _ 8 0;
+  senders = λ p h.
+      rw (at-place (startedSender (toSettings s)) p noSender (omega (arith, formed-valid s o f .eight-ports, h))) (started-valid (toSettings s) p);
+  no-other-senders =
+      all-drop-tabulate (λ x. x ≡ noSender) (length (toSettings s .ports)) 8 0 (startedSender (toSettings s)) (λ p h. started-none (toSettings s) p (omega (arith, h)));
   at-most-64 = omega arith;
   streams = tt;
   ascending = tt;

@@ -8,13 +8,13 @@ use Prim.Native.Nat.{ℕ, _<_}
 use lib.ListN.{length, getD}
 use Rattle.model.specs.State.{Settings, Fixed, Own, Stream, Bridge, fresh, unsettled, streamAt, resultAt, Class, noClass, classA, classB, classOf, inForce, portAt, cellAt, ownAt}
 use Rattle.model.specs.Bandwidth.{key, above, remains}
-use Rattle.model.specs.Settling.{Scene, Inbound, inboundsOf, decideOwns, remain, Source, nowhere, from, sourceOf, fixedOf, streamClass, boundary, holdsAddress, isPruned, stepsFrom, steps, claim, claims, reservedA, limitOn, leftFor, columnOf, decideAt, decide, totalOn, settle}
+use Rattle.model.specs.Settling.{Scene, Inbound, inboundsOf, shares, isKeptOut, decideOwns, remain, Source, nowhere, from, sourceOf, fixedOf, streamClass, boundary, holdsAddress, isPruned, stepsFrom, steps, claim, claims, reservedA, limitOn, leftFor, columnOf, decideAt, decide, totalOn, deciding, settle}
 use Rattle.model.specs.Table.{columnCode}
 use Rattle.model.proofs.Lists.{getD-map, at-place}
 use Rattle.model.proofs.ColumnRule.{reserved-a}
 use Rattle.model.proofs.ComingIn.{atTalker, sharing, keptOut}
 
--- The streams that an advance of b to the time now leaves, and what their columns are decided by.
+-- The streams that an advance of b to the time now decides, and what their columns are decided by.
 abbrev pub remaining : ℕ → Bridge → List Stream
 remaining now b = remain (b .settings) now (b .streams)
 
@@ -119,10 +119,10 @@ untouched now b b′ p x x′ a = (column, ap columnCode column, unfold cellAt i
         (same-column (b′ .settings) _ _ _ _ now p _ _ x x′ (a .registrations) (rw (a .settings) at (a .important)) (rw (a .settings) at (a .borrowed))
         (rw (a .settings) at (a .address)) (rw (a .settings) at (a .edge)) (rw (a .settings) at (a .inbound)) (rw (a .settings) at (a .wanted)))
 
--- What a settled bridge holds of the stream at place k is what is decided of the one that remained there.
+-- What the bridge decided holds of the stream at place k is what is decided of the one that remained there.
 pub settled-result : (now : ℕ) (b : Bridge) (k p : ℕ) → k < length (remaining now b) → p < 8 →
-    resultAt (streamAt k (settle now b)) p ≡ decideAt (sceneAt now b) now (remaining now b) (getD (remaining now b) k (fresh 0)) p
-unfolding settle
+    resultAt (streamAt k (deciding now b)) p ≡ decideAt (sceneAt now b) now (remaining now b) (getD (remaining now b) k (fresh 0)) p
+unfolding deciding
 settled-result now b k p h port =
     ap (λ (y : Stream). resultAt y p) (getD-map (decide (sceneAt now b) now (remaining now b)) (remaining now b) k (fresh 0) (fresh 0) h)
     ∙ (unfold decide resultAt in (at-place (decideAt (sceneAt now b) now (remaining now b) (getD (remaining now b) k (fresh 0))) p unsettled port))

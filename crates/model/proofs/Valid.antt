@@ -2,15 +2,17 @@
 use mathlib.Core.Path.{_≡_}
 use mathlib.Core.List.{List, [], _∷_}
 use mathlib.Core.Bool.{Bool, true}
-use Prim.Native.Nat.{ℕ, _+_, _/_, _^_, _≤_, _<_}
+use Prim.Native.Nat.{ℕ, suc, _+_, _/_, _^_, _≤_, _<_}
 use lib.ListN.{length, drop}
 use Rattle.model.specs.Layout.{mostAddresses, priorityBUnit, slots}
 use Rattle.model.specs.Lists.{All}
-use Rattle.model.specs.State.{Port, Settings, Leaving, stays, since, Fixed, TalkerType, talkerAdvertise, talkerFailed, Varying, Registration, Talker, noTalker, talker, Listener, noListener, listener, Cell, Domain, noDomain, domain, Presence, vacant, present, Address, Own, Column, none, advertise, failed, Entry, noEntry, filters, forwards, Result, Stream, Bridge, empty, unsettled, noOwn, noFixed, cellAt, resultAt}
-use lib.Dec.{leb}
+use Rattle.model.specs.Machines.{Applicant, noApplicant, applicant}
+use Rattle.model.specs.LeaveAll.{LeaveAll, leaveAllTime}
+use Rattle.model.specs.State.{Port, Settings, Leaving, stays, since, Fixed, TalkerType, talkerAdvertise, talkerFailed, Varying, Registration, Talker, noTalker, talker, Listener, noListener, listener, Cell, Domain, noDomain, domain, Presence, vacant, present, Address, Own, Column, none, advertise, failed, Entry, noEntry, filters, forwards, Result, Offer, Failure, Sends, Sender, Stream, Bridge, empty, unsettled, noOwn, noSends, noSender, noFixed, cellAt, resultAt, sendsAt, senderAt, declaresSlot}
 use Rattle.model.specs.Registrations.{ids, macs}
-use Rattle.model.specs.Settling.{held}
-use Rattle.model.specs.Table.{talkers, declarers, storedFormed, totalsWithin}
+use Rattle.model.specs.Settling.{isHeld}
+use Rattle.model.specs.Sending.{standingNumber, domainStanding}
+use Rattle.model.specs.Table.{talkers, declarers, storedFormed, sentFormed, totalsWithin, anyHeld}
 
 pub record ValidPort (q : Port) : Type 0 where
   pub overhead : q .overhead < 256
@@ -129,28 +131,75 @@ pub record ValidResult (clock : ℕ) (r : Result) : Type 0 where
   pub latency : r .latency < 2 ^ 32
   pub age : ValidAge clock (r .entry) (r .age)
 
+-- what a port sends of a stream: a machine with valid values, or none
+abbrev pub GoodApplicant : {A : Type 0} → (A → Type 0) → Applicant A → Type 0
+GoodApplicant Good noApplicant = Unit {0}
+GoodApplicant Good (applicant x) = Good (x .value)
+
+pub record ValidOffer (x : Offer) : Type 0 where
+  pub fixed : ValidFixed (x .fixed)
+  pub latency : x .latency < 256 ^ 4
+
+pub record ValidFailure (x : Failure) : Type 0 where
+  pub bridge : x .bridge < 256 ^ 8
+  pub code : x .code < 256 ^ 1
+
+abbrev pub ValidFailed : Offer × Failure → Type 0
+ValidFailed y = ValidOffer (y .0) × ValidFailure (y .1)
+
+pub record ValidSends (x : Sends) : Type 0 where
+  pub advertising : GoodApplicant ValidOffer (x .advertising)
+  pub failing : GoodApplicant ValidFailed (x .failing)
+
 pub record ValidStream (ports clock leave : ℕ) (x : Stream) : Type 0 where
   pub id : x .id < 2 ^ 64
   pub settled : ValidFixed (x .settled)
   pub eight-cells : length (x .cells) ≡ 8
   pub cells : All (ValidCell clock leave) (x .cells)
   pub no-other-cells : All (λ c. c ≡ empty) (drop ports (x .cells))
-  pub is-held : held (x .cells) ≡ true
+  pub is-held : isHeld x ≡ true
   pub eight-results : length (x .results) ≡ 8
   pub results : All (ValidResult clock) (x .results)
   pub no-other-results : All (λ r. r ≡ unsettled) (drop ports (x .results))
   pub idle : talkers ports (x .cells) ≡ 0 → x .settled ≡ noFixed
   pub stored : (p : ℕ) → p < ports → storedFormed (talkers ports (x .cells)) (cellAt x p) (resultAt x p) ≡ true
   pub one-declares : declarers ports (x .results) ≤ 1
+  pub eight-sends : length (x .sends) ≡ 8
+  pub sends : All ValidSends (x .sends)
+  pub sent : (p : ℕ) → p < ports → sentFormed (resultAt x p) (sendsAt x p) ≡ true
+  pub no-other-sends : All (λ s. s ≡ noSends) (drop ports (x .sends))
+
+-- What a port sends by itself. The octet of an Applicant's state, 0 where there is none.
+unfoldable pub applicantNumber : {A : Type 0} → Applicant A → ℕ
+applicantNumber noApplicant = 0
+applicantNumber (applicant x) = standingNumber (x .state)
+
+-- the slots from i on: VP, AA or QA in those whose Domain value the port declares, none in the others
+abbrev pub ValidSlots : (ℕ → Bool) → ℕ → List (Applicant (Unit {0})) → Type 0
+ValidSlots own i [] = Unit {0}
+ValidSlots own i (a ∷ l) = (domainStanding (own i) (applicantNumber a) ≡ true) × ValidSlots own (suc i) l
+
+-- its LeaveAll timer was started at most at the clock, and less than LeaveAllTime before it
+pub record ValidLeaveAll (clock : ℕ) (m : LeaveAll) : Type 0 where
+  pub past : m .start ≤ clock
+  pub recent : clock < m .start + leaveAllTime
+
+pub record ValidSender (own : ℕ → Bool) (clock : ℕ) (x : Sender) : Type 0 where
+  pub slotted : length (x .domains) ≡ slots
+  pub domains : ValidSlots own 0 (x .domains)
+  pub leaveAll : ValidLeaveAll clock (x .leaveAll)
 
 pub record Valid (b : Bridge) : Type 0 where
   pub settings : ValidSettings (b .settings)
   pub clock : b .clock < 2 ^ 32
   pub eight-totals : length (b .totals) ≡ 8
-  pub totals : totalsWithin (leb 1 (length (b .streams))) (b .totals) (b .settings .ports) ≡ true
+  pub totals : totalsWithin (anyHeld (b .streams)) (b .totals) (b .settings .ports) ≡ true
   pub eight-owns : length (b .owns) ≡ 8
   pub owns : All (ValidOwn (b .clock) (b .settings .leaveTime)) (b .owns)
   pub no-other-owns : All (λ o. o ≡ noOwn) (drop (length (b .settings .ports)) (b .owns))
+  pub eight-senders : length (b .senders) ≡ 8
+  pub senders : (p : ℕ) → p < length (b .settings .ports) → ValidSender (declaresSlot (b .settings) p) (b .clock) (senderAt (b .senders) p)
+  pub no-other-senders : All (λ x. x ≡ noSender) (drop (length (b .settings .ports)) (b .senders))
   pub at-most-64 : length (b .streams) ≤ 64
   pub streams : All (ValidStream (length (b .settings .ports)) (b .clock) (b .settings .leaveTime)) (b .streams)
   pub ascending : Rising (ids (b .streams))

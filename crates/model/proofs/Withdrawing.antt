@@ -4,7 +4,7 @@ use mathlib.Core.List.{List, [], _∷_, map}
 use mathlib.Core.Bool.{Bool, true, false, cond, _&&_, false≢true}
 use Rattle.model.specs.Lists.{All, allTrue, implies}
 use Rattle.model.specs.Applicant.{ApplicantEvent, join, lv, tx, txLA, txLAF, Message, silent, sN, sJ, s, sL, optional, Standing, veryAnxiousPassive, veryAnxiousNew, anxiousNew, anxiousActive, quietActive, leavingActive, becomes, sent, speaks}
-use Rattle.model.specs.Machines.{Listed, Applicant, noApplicant, applicant, Decided, undeclared, declared, otherContent, Heard, heardIn, heardEmpty, heardLeave, heardEvent, with, applicantOf, after, born, decided, moved, heard, way}
+use Rattle.model.specs.Machines.{Listed, Applicant, noApplicant, applicant, Decided, undeclared, declared, otherContent, Heard, heardIn, heardEmpty, heardLeave, heardEvent, with, applicantOf, after, decided, moved, heard, way}
 use Rattle.model.proofs.Lists.{all-each, implied, and-both, implies-true}
 use Rattle.model.proofs.ApplicantEntries.{tables, written, everyStanding, each-standing}
 use Rattle.model.proofs.PlaceLists.{cons-apart}

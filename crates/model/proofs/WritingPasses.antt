@@ -1,59 +1,75 @@
--- Writing: a PDU takes whole declarations, is at most 1,500 octets long and as full as that allows, and the PDUs from place 0
--- on pass every declaration of the port once.
+-- Writing: a PDU takes whole declarations, is at most 1,500 octets long and as full as that allows, with LeaveAll or without it; and what
+-- write answers.
 use mathlib.Core.Path.{_≡_, refl, sym, _∙_, ap}
-use mathlib.Core.List.{List, [], _∷_, _++_, map, flatten, append-nil}
-use mathlib.Core.Bool.{Bool, true, false, cond}
+use mathlib.Core.List.{List, [], _∷_, _++_, map, append-nil, map-append}
+use mathlib.Core.Logic.{_⊎_, inl, inr}
+use mathlib.Core.Bool.{Bool, true, false, cond, _||_, false≢true}
 use Prim.Native.Nat.{ℕ, zero, suc, _+_, _*_, _-_, _≤_, _<_}
-use native.Mathlib.Nat.{suc-mul, add-zero, mul-le-mul-right}
+use native.Mathlib.Nat.{suc-mul, mul-le-mul-right}
 use native.Mathlib.Numerals.{add-one}
 use native.Mathlib.Omega.{arith}
-use lib.ListN.{length, length-map, take, drop, length-append, length-drop, take-append-drop, drop-of-length-le}
-use lib.Seq.{length-take-le, take-take, take-append-le, take-append-add, drop-length, drop-drop, take-append-seam, drop-append-seam}
+use lib.ListN.{length, length-map, take, drop, length-append, length-replicate, take-append-drop}
+use lib.Seq.{length-take-le, take-nil, take-take, take-append-le, take-append-add, drop-length, take-append-seam, drop-append-seam}
 use lib.Dec.{ltb, leb, eqb}
 use borrow.Author.Tests.{ltb-true, ltb-false, lt-ltb, le-ltb, leb-true, leb-false, le-leb, lt-leb, eq-eqb, ne-eqb, eqb-true, eqb-false}
 use Rattle.octets.specs.Be.{be}
 use Rattle.octets.specs.Fields.{packed, flat}
 use Rattle.octets.proofs.Be.{length-be}
-use Rattle.model.specs.FrameLayout.{longestPdu}
-use Rattle.model.specs.Lists.{All, keep, longest}
-use Rattle.model.specs.State.{Port, Settings, TalkerType, talkerAdvertise, talkerFailed, Column, none, advertise, failed, Declared, nothing, tells, Result, Stream, Bridge, portAt, resultAt, classA, classB, supports}
+use Rattle.model.specs.FrameLayout.{advertiseLength, domainLength, failedLength, longestPdu}
+use Rattle.model.specs.Lists.{All, keep, longest, bit}
+use Rattle.model.specs.Applicant.{Standing, veryAnxiousPassive, veryAnxiousNew, anxiousNew, anxiousActive, quietActive, leavingActive, named, octetOf}
+use Rattle.model.specs.Places.{saying, leftBefore, writeFrom}
+use Rattle.model.specs.Machines.{Listed, Applicant, noApplicant, applicant}
+use Rattle.model.specs.State.{Settings, TalkerType, talkerAdvertise, talkerFailed, Ready, Sends, Stream, Bridge, Class, classA, classB, classId, classPriority, supports, portAt, slotOf, isOwnSlot, declaresSlot, sendsAt, senderAt}
 use Rattle.model.specs.Registrations.{Kind, advertises, faileds, listeners, ids}
-use Rattle.model.specs.Frames.{Attribute, registers, domainType, TypeOctet, notAllowed, unknown, known, typeOctet, typeNumber, firstWidths, firstLength}
+use Rattle.model.specs.Frames.{Attribute, registers, domainType, TypeOctet, notAllowed, unknown, known, typeOctet, typeNumber, firstWidths, firstLength, Vector}
 use Rattle.model.specs.Cutting.{concat, values, octetsFor, octets}
-use Rattle.model.specs.Best.{best, least, run}
-use Rattle.model.specs.Declarations.{Declaration, talkerDeclaration, listenerDeclaration, domainDeclaration, talkerKind, attributeOf, advertised, failing, listening, declarationsOf, ofKind, domainOf, domainValues, declarations, declaredId, declaredIds, sameAttribute, having, vectorSize, vectorsSize, messageSize, messagesSize, fitting, takes, Written, write}
-use Rattle.model.specs.WrittenFrames.{fixedNumbers, failureNumbers, firstNumbers, fourOctets, declarationVector, packedVector, cutAs, listenerParts, vectorsOf, vectorOctets, messageOf, messageOctets, pduOctets}
+use Rattle.model.specs.Best.{best, bests, least, run}
+use Rattle.model.specs.Declarations.{Declaration, talkerDeclaration, listenerDeclaration, domainDeclaration, talkerKind, attributeOf, listedAs, advertiseOf, failedOf, declarationsOf, ofKind, domainOf, domainValues, declarations, isRegistered, Said, say, declaredId, declaredIds, sameAttribute, having, vectorSize, vectorsSize, emptySize, messageSize, messagesSize, fitting, takes}
+use Rattle.model.specs.WrittenFrames.{fixedNumbers, failureNumbers, firstNumbers, fourOctets, declarationVector, packedVector, cutAs, listenerParts, vectorsOf, vectorOctets, messageOf, withLeaveAll, emptyVector, leavingAll, vectorsSaid, messageOctets, pduOctets}
+use Rattle.model.specs.Writing.{leavesAll, portWay, sayOn, takesOn, wroteOn, afterWrite, Written, write}
+use Rattle.model.specs.Sending.{standingNumber, domainStanding}
 use Rattle.model.specs.Laid.{Ascending}
-use Rattle.model.proofs.Lists.{Longest, longest-longest, all-map, all-each, all-append, all-take, all-keep, length-tabulate, longest-ends, longest-stops, longest-goes, longest-split, longest-same, longest-from, longest-within, longest-passes, longest-full}
+use Rattle.model.proofs.Lists.{and-right, Longest, longest-longest, all-map, all-each, all-append, all-take, length-tabulate, longest-ends, longest-stops, longest-goes, longest-split, longest-same, longest-from, longest-within, longest-passes, longest-full}
 use Rattle.model.proofs.Ascents.{Rising, ascending-rising, ascending-take, ascending-drop}
+use Rattle.model.proofs.Valid.{ValidSlots, applicantNumber, Valid}
 use Rattle.model.proofs.LeastCutting.{best-cuts}
 use Rattle.model.proofs.LongestRun.{least-take, least-most}
+use Rattle.model.proofs.PlaceLists.{cons-apart}
+use Rattle.model.proofs.Passing.{Takes}
 
 -- Lengths.
 
 -- FirstValue is as long as its type says
-pub length-first : (d : Declaration) → length (declarationVector d .first) ≡ firstLength (attributeOf d)
+pub length-first : (d : Said) → length (declarationVector d .first) ≡ firstLength (attributeOf (d .declaration))
 unfolding declarationVector firstNumbers attributeOf talkerKind firstWidths firstLength packed be fixedNumbers failureNumbers
-length-first (talkerDeclaration id f v) = go (v .type)
+length-first d = go (d .declaration)
   where
-    go : (h : TalkerType)
-        → length (packed (firstWidths (registers (talkerKind h))) (id ∷ (fixedNumbers f ++ (v .latency ∷ failureNumbers h)))) ≡ firstLength (registers (talkerKind h))
-    go talkerAdvertise = refl
-    go (talkerFailed b c) = refl
-length-first (listenerDeclaration id r) = refl
-length-first (domainDeclaration id q v) = refl
+    go : (e : Declaration) → length (packed (firstWidths (attributeOf e)) (firstNumbers e)) ≡ firstLength (attributeOf e)
+    go (talkerDeclaration id f v) = of (v .type)
+      where
+        of : (h : TalkerType)
+            → length (packed (firstWidths (registers (talkerKind h))) (id ∷ (fixedNumbers f ++ (v .latency ∷ failureNumbers h)))) ≡ firstLength (registers (talkerKind h))
+        of talkerAdvertise = refl
+        of (talkerFailed b c) = refl
+    go (listenerDeclaration id r) = refl
+    go (domainDeclaration id q v) = refl
 
 -- and a declaration's vector as its size says
-pub length-vector : (d : Declaration) → length (vectorOctets (declarationVector d)) ≡ vectorSize (attributeOf d)
+pub length-vector : (d : Said) → length (vectorOctets (declarationVector d)) ≡ vectorSize (attributeOf (d .declaration))
 unfolding vectorOctets declarationVector firstNumbers fourOctets vectorSize attributeOf talkerKind firstWidths packed be fixedNumbers failureNumbers
-length-vector (talkerDeclaration id f v) = go (v .type)
+length-vector d = go (d .declaration)
   where
-    go : (h : TalkerType)
-        → length (vectorOctets (declarationVector (talkerDeclaration id f record { type = h; latency = v .latency }))) ≡ vectorSize (registers (talkerKind h))
-    go talkerAdvertise = refl
-    go (talkerFailed b c) = refl
-length-vector (listenerDeclaration id r) = refl
-length-vector (domainDeclaration id q v) = refl
+    go : (e : Declaration) → length (vectorOctets (declarationVector record { declaration = e; event = d .event })) ≡ vectorSize (attributeOf e)
+    go (talkerDeclaration id f v) = of (v .type)
+      where
+        of : (h : TalkerType)
+            → length (vectorOctets (declarationVector record { declaration = talkerDeclaration id f record { type = h; latency = v .latency }; event = d .event }))
+            ≡ vectorSize (registers (talkerKind h))
+        of talkerAdvertise = refl
+        of (talkerFailed b c) = refl
+    go (listenerDeclaration id r) = refl
+    go (domainDeclaration id q v) = refl
 
 -- Types.
 
@@ -92,138 +108,193 @@ other-attribute j k h = ne-eqb (typeNumber j) (typeNumber k) h
 -- The order of types: Advertise, Failed, Listener, Domain.
 
 -- what there is of each type, in turn
-abbrev pub inTurn : (Attribute → List Declaration) → List Declaration
+abbrev pub inTurn : (Attribute → List Said) → List Said
 inTurn of = of (registers advertises) ++ (of (registers faileds) ++ (of (registers listeners) ++ of domainType))
 
--- a declaration that may stand after one of type k
-abbrev pub NotBefore : Attribute → Declaration → Type 0
-NotBefore k d = typeNumber k ≤ typeNumber (attributeOf d)
+-- what holds of all holds of some
+pub all-of-saying : {A : Type 0} (P : A → Type 0) (f : A → Bool) (l : List A) → All P l → All P (saying f l)
+unfolding saying
+all-of-saying P f [] a = tt
+all-of-saying P f (x ∷ l) a = go (f x) (all-of-saying P f l (a .1))
+  where
+    go : (t : Bool) → All P (saying f l) → All P (keep t x (saying f l))
+    go true r = (a .0, r)
+    go false r = r
 
-abbrev pub OfAttribute : Attribute → Declaration → Type 0
-OfAttribute k d = attributeOf d ≡ k
+-- elements that each have a type: of the one type k, those that may stand after one of type k, and a list in order
+module _ {A : Type 0} (type : A → Attribute) where
+  abbrev pub Typed : Attribute → A → Type 0
+  Typed k d = type d ≡ k
 
-abbrev pub InOrder : List Declaration → Type 0
-InOrder [] = Unit {0}
-InOrder (d ∷ l) = All (NotBefore (attributeOf d)) l × InOrder l
+  abbrev pub NotEarlier : Attribute → A → Type 0
+  NotEarlier k d = typeNumber k ≤ typeNumber (type d)
 
-pub order-take : (n : ℕ) (l : List Declaration) → InOrder l → InOrder (take n l)
-order-take zero l o = tt
-order-take (suc n) [] o = tt
-order-take (suc n) (d ∷ l) o = (all-take (NotBefore (attributeOf d)) n l (o .0), order-take n l (o .1))
+  abbrev pub Ordered : List A → Type 0
+  Ordered [] = Unit {0}
+  Ordered (d ∷ l) = All (NotEarlier (type d)) l × Ordered l
 
-pub order-drop : (n : ℕ) (l : List Declaration) → InOrder l → InOrder (drop n l)
-order-drop zero l o = o
-order-drop (suc n) [] o = tt
-order-drop (suc n) (d ∷ l) o = order-drop n l (o .1)
+  ordered-take : (n : ℕ) (l : List A) → Ordered l → Ordered (take n l)
+  ordered-take zero l o = tt
+  ordered-take (suc n) [] o = tt
+  ordered-take (suc n) (d ∷ l) o = (all-take (NotEarlier (type d)) n l (o .0), ordered-take n l (o .1))
 
--- declarations that may stand after those of a type, in order; and with declarations of a type before them
-abbrev From : Attribute → List Declaration → Type 0
-From k l = All (NotBefore k) l × InOrder l
+  ordered-drop : (n : ℕ) (l : List A) → Ordered l → Ordered (drop n l)
+  ordered-drop zero l o = o
+  ordered-drop (suc n) [] o = tt
+  ordered-drop (suc n) (d ∷ l) o = ordered-drop n l (o .1)
 
-from-append : (j k : Attribute) (l m : List Declaration) → typeNumber j ≤ typeNumber k → All (OfAttribute j) l → From k m → From j (l ++ m)
-from-append j k [] m h a b = (all-map (NotBefore k) (NotBefore j) (λ e q. omega arith) m (b .0), b .1)
-from-append j k (d ∷ l) m h a b =
-    let r : From j (l ++ m) = from-append j k l m h (a .1) b in
-    ((rw (a .0) (omega arith), r .0), (rw (a .0) (r .0), r .1))
+  -- of some of them
+  ordered-saying : (f : A → Bool) (l : List A) → Ordered l → Ordered (saying f l)
+  unfolding saying
+  ordered-saying f [] o = tt
+  ordered-saying f (d ∷ l) o = go (f d) (all-of-saying (NotEarlier (type d)) f l (o .0)) (ordered-saying f l (o .1))
+    where
+      go : (t : Bool) → All (NotEarlier (type d)) (saying f l) → Ordered (saying f l) → Ordered (keep t d (saying f l))
+      go true a r = (a, r)
+      go false a r = r
+
+  -- declarations that may stand after those of a type, in order; and with declarations of a type before them
+  abbrev From : Attribute → List A → Type 0
+  From k l = All (NotEarlier k) l × Ordered l
+
+  from-append : (j k : Attribute) (l m : List A) → typeNumber j ≤ typeNumber k → All (Typed j) l → From k m → From j (l ++ m)
+  from-append j k [] m h a b = (all-map (NotEarlier k) (NotEarlier j) (λ e q. omega arith) m (b .0), b .1)
+  from-append j k (d ∷ l) m h a b =
+      let r : From j (l ++ m) = from-append j k l m h (a .1) b in
+      ((rw (a .0) (omega arith), r .0), (rw (a .0) (r .0), r .1))
+
+-- the type of what is said, and of a declaration in a port's list
+abbrev pub saidType : Said → Attribute
+saidType d = attributeOf (d .declaration)
+
+abbrev pub listedType : Listed Declaration → Attribute
+listedType x = attributeOf (x .value)
+
+abbrev pub NotBefore : Attribute → Said → Type 0
+NotBefore k d = typeNumber k ≤ typeNumber (attributeOf (d .declaration))
+
+abbrev pub OfAttribute : Attribute → Said → Type 0
+OfAttribute k d = attributeOf (d .declaration) ≡ k
+
+abbrev pub InOrder : List Said → Type 0
+InOrder l = Ordered saidType l
+
+pub order-take : (n : ℕ) (l : List Said) → InOrder l → InOrder (take n l)
+order-take n l o = ordered-take saidType n l o
+
+-- what holds of what is said of each
+module _ {A B : Type 0} (P : B → Type 0) (g : A → B) where
+  pub all-said : (l : List A) → All (λ x. P (g x)) l → All P (map g l)
+  all-said [] a = tt
+  all-said (x ∷ l) a = (a .0, all-said l (a .1))
+
+order-said : (all : Bool) (r : Declaration → Bool) (l : List (Listed Declaration)) → Ordered listedType l → InOrder (map (say all r) l)
+unfolding say
+order-said all r [] o = tt
+order-said all r (x ∷ l) o = (all-said (NotBefore (listedType x)) (say all r) l (o .0), order-said all r l (o .1))
 
 -- what holds of each stream's declarations of a type holds of all of that type
-pub all-of-kind : (P : Declaration → Type 0) (k : Kind) (p : ℕ) (s : List Stream)
-    → All (λ x. All P (declarationsOf k x (resultAt x p))) s → All P (ofKind k p s)
+pub all-of-kind : (P : Listed Declaration → Type 0) (k : Kind) (p : ℕ) (s : List Stream)
+    → All (λ x. All P (declarationsOf k (x .id) (sendsAt x p))) s → All P (ofKind k p s)
 unfolding ofKind
 all-of-kind P k p [] a = tt
-all-of-kind P k p (x ∷ s) a = all-append P (declarationsOf k x (resultAt x p)) (ofKind k p s) (a .0) (all-of-kind P k p s (a .1))
+all-of-kind P k p (x ∷ s) a = all-append P (declarationsOf k (x .id) (sendsAt x p)) (ofKind k p s) (a .0) (all-of-kind P k p s (a .1))
 
-stream-attribute : (k : Kind) (x : Stream) (r : Result) → All (OfAttribute (registers k)) (declarationsOf k x r)
-unfolding declarationsOf advertised failing listening attributeOf talkerKind
-stream-attribute advertises x r = go (r .column)
-  where
-    go : (c : Column) → All (OfAttribute (registers advertises)) (advertised x r c)
-    go none = tt
-    go advertise = (refl, tt)
-    go (failed b c) = tt
-stream-attribute faileds x r = go (r .column)
-  where
-    go : (c : Column) → All (OfAttribute (registers faileds)) (failing x r c)
-    go none = tt
-    go advertise = tt
-    go (failed b c) = (refl, tt)
-stream-attribute listeners x r = go (r .declares)
-  where
-    go : (d : Declared) → All (OfAttribute (registers listeners)) (listening x d)
-    go nothing = tt
-    go (tells q) = (refl, tt)
+-- a machine in the list
+pub all-listed : {A : Type 0} (P : Listed Declaration → Type 0) (f : A → Declaration) → ((q : Standing) (v : A) → P record { state = q; value = f v })
+    → (a : Applicant A) → All P (listedAs f a)
+unfolding listedAs
+all-listed P f h noApplicant = tt
+all-listed P f h (applicant x) = (h (x .state) (x .value), tt)
 
-pub ofKind-attribute : (k : Kind) (p : ℕ) (s : List Stream) → All (OfAttribute (registers k)) (ofKind k p s)
+stream-attribute : (k : Kind) (id : ℕ) (s : Sends) → All (Typed listedType (registers k)) (declarationsOf k id s)
+unfolding declarationsOf advertiseOf failedOf attributeOf talkerKind
+stream-attribute advertises id s = all-listed (Typed listedType (registers advertises)) (advertiseOf id) (λ q v. refl) (s .advertising)
+stream-attribute faileds id s = all-listed (Typed listedType (registers faileds)) (failedOf id) (λ q v. refl) (s .failing)
+stream-attribute listeners id s = all-listed (Typed listedType (registers listeners)) (listenerDeclaration id) (λ q v. refl) (s .listening)
+
+pub ofKind-attribute : (k : Kind) (p : ℕ) (s : List Stream) → All (Typed listedType (registers k)) (ofKind k p s)
 ofKind-attribute k p s =
-    let Own : Stream → Type 0 = λ x. All (OfAttribute (registers k)) (declarationsOf k x (resultAt x p)) in
-    all-of-kind (OfAttribute (registers k)) k p s (all-each Own (λ x. stream-attribute k x (resultAt x p)) s)
+    let Own : Stream → Type 0 = λ x. All (Typed listedType (registers k)) (declarationsOf k (x .id) (sendsAt x p)) in
+    all-of-kind (Typed listedType (registers k)) k p s (all-each Own (λ x. stream-attribute k (x .id) (sendsAt x p)) s)
 
--- what holds of each class's Domain value holds of those of a port
-pub all-domains : (P : Declaration → Type 0) (st : Settings) (q : Port) → P (domainOf st classB) → P (domainOf st classA) → All P (domainValues st q)
+-- what holds of the Domain value of each slot holds of those in the list
+pub all-domains : (P : Listed Declaration → Type 0) (st : Settings) (i : ℕ) (l : List (Applicant (Unit {0})))
+    → ((j : ℕ) → i ≤ j → j < i + length l → (q : Standing) → P record { state = q; value = domainOf st j }) → All P (domainValues st i l)
 unfolding domainValues
-all-domains P st q b a = all-keep P (supports q classB) _ _ b (all-keep P (supports q classA) _ [] a tt)
+all-domains P st i [] h = tt
+all-domains P st i (a ∷ l) h =
+    all-append P (listedAs (λ u. domainOf st i) a) (domainValues st (suc i) l)
+    (all-listed P (λ u. domainOf st i) (λ q v. h i (omega arith) (omega arith) q) a)
+    (all-domains P st (suc i) l (λ j m n q. h j (omega arith) (omega arith) q))
 
-pub domains-attribute : (st : Settings) (q : Port) → All (OfAttribute domainType) (domainValues st q)
-domains-attribute st q = unfold domainOf attributeOf in (all-domains (OfAttribute domainType) st q refl refl)
+pub domains-attribute : (st : Settings) (i : ℕ) (l : List (Applicant (Unit {0}))) → All (Typed listedType domainType) (domainValues st i l)
+domains-attribute st i l = unfold domainOf attributeOf in (all-domains (Typed listedType domainType) st i l (λ j m n q. refl))
 
 -- "Declarations of a port: Advertise, Failed, Listener", then Domain values
-pub declarations-in-order : (st : Settings) (p : ℕ) (s : List Stream) → InOrder (declarations st p s)
+pub declarations-in-order : (b : Bridge) (p : ℕ) → Ordered listedType (declarations b p)
 unfolding declarations typeNumber
-declarations-in-order st p s = before advertises faileds _ (omega arith) (before faileds listeners _ (omega arith) listed) .1
+declarations-in-order b p = before advertises faileds _ (omega arith) (before faileds listeners _ (omega arith) listed) .1
   where
-    domains : List Declaration
-    domains = domainValues st (portAt st p)
+    s : List Stream
+    s = b .streams
 
-    last : From domainType (domains ++ [])
-    last = from-append domainType domainType domains [] (omega arith) (domains-attribute st (portAt st p)) (tt, tt)
+    domains : List (Listed Declaration)
+    domains = domainValues (b .settings) 0 (senderAt (b .senders) p .domains)
 
-    listed : From (registers listeners) (ofKind listeners p s ++ domains)
+    own : All (Typed listedType domainType) domains
+    own = domains-attribute (b .settings) 0 (senderAt (b .senders) p .domains)
+
+    last : From listedType domainType (domains ++ [])
+    last = from-append listedType domainType domainType domains [] (omega arith) own (tt, tt)
+
+    listed : From listedType (registers listeners) (ofKind listeners p s ++ domains)
     listed =
-        from-append (registers listeners) domainType (ofKind listeners p s) domains (omega arith) (ofKind-attribute listeners p s)
+        from-append listedType (registers listeners) domainType (ofKind listeners p s) domains (omega arith) (ofKind-attribute listeners p s)
         (rw (append-nil domains) at last)
 
-    before : (j k : Kind) (m : List Declaration) → typeNumber (registers j) ≤ typeNumber (registers k)
-        → From (registers k) m → From (registers j) (ofKind j p s ++ m)
-    before j k m h f = from-append (registers j) (registers k) (ofKind j p s) m h (ofKind-attribute j p s) f
+    before : (j k : Kind) (m : List (Listed Declaration)) → typeNumber (registers j) ≤ typeNumber (registers k)
+        → From listedType (registers k) m → From listedType (registers j) (ofKind j p s ++ m)
+    before j k m h f = from-append listedType (registers j) (registers k) (ofKind j p s) m h (ofKind-attribute j p s) f
 
 -- The octets of declarations.
 
-pub having-attribute : (k : Attribute) (l : List Declaration) → All (OfAttribute k) (having k l)
+pub having-attribute : (k : Attribute) (l : List Said) → All (OfAttribute k) (having k l)
 unfolding having
 having-attribute k [] = tt
-having-attribute k (d ∷ l) = go (sameAttribute (attributeOf d) k) refl (having-attribute k l)
+having-attribute k (d ∷ l) = go (sameAttribute (attributeOf (d .declaration)) k) refl (having-attribute k l)
   where
-    go : (t : Bool) → sameAttribute (attributeOf d) k ≡ t → All (OfAttribute k) (having k l) → All (OfAttribute k) (keep t d (having k l))
-    go true e a = (attributes-same (attributeOf d) k e, a)
+    go : (t : Bool) → sameAttribute (attributeOf (d .declaration)) k ≡ t → All (OfAttribute k) (having k l) → All (OfAttribute k) (keep t d (having k l))
+    go true e a = (attributes-same (attributeOf (d .declaration)) k e, a)
     go false e a = a
 
 -- types that only earlier declarations have
-pub having-none : (k : Attribute) (l : List Declaration) → All (λ d. typeNumber k < typeNumber (attributeOf d)) l → having k l ≡ []
+pub having-none : (k : Attribute) (l : List Said) → All (λ d. typeNumber k < typeNumber (attributeOf (d .declaration))) l → having k l ≡ []
 unfolding having
 having-none k [] a = refl
-having-none k (d ∷ l) a = rw (other-attribute (attributeOf d) k (λ e. omega arith)) (having-none k l (a .1))
+having-none k (d ∷ l) a = rw (other-attribute (attributeOf (d .declaration)) k (λ e. omega arith)) (having-none k l (a .1))
 
-pub having-append : (k : Attribute) (l m : List Declaration) → having k (l ++ m) ≡ having k l ++ having k m
+pub having-append : (k : Attribute) (l m : List Said) → having k (l ++ m) ≡ having k l ++ having k m
 unfolding having
 having-append k [] m = refl
-having-append k (d ∷ l) m = rw (having-append k l m) (go (sameAttribute (attributeOf d) k))
+having-append k (d ∷ l) m = rw (having-append k l m) (go (sameAttribute (attributeOf (d .declaration)) k))
   where
     go : (t : Bool) → keep t d (having k l ++ having k m) ≡ keep t d (having k l) ++ having k m
     go true = refl
     go false = refl
 
-having-own : (k : Attribute) (l : List Declaration) → All (OfAttribute k) l → having k l ≡ l
+having-own : (k : Attribute) (l : List Said) → All (OfAttribute k) l → having k l ≡ l
 unfolding having
 having-own k [] a = refl
-having-own k (d ∷ l) a = rw (a .0, same-attribute k) (ap (λ (r : List Declaration). d ∷ r) (having-own k l (a .1)))
+having-own k (d ∷ l) a = rw (a .0, same-attribute k) (ap (λ (r : List Said). d ∷ r) (having-own k l (a .1)))
 
-having-other : (j k : Attribute) (l : List Declaration) → sameAttribute k j ≡ false → All (OfAttribute k) l → having j l ≡ []
+having-other : (j k : Attribute) (l : List Said) → sameAttribute k j ≡ false → All (OfAttribute k) l → having j l ≡ []
 unfolding having
 having-other j k [] e a = refl
 having-other j k (d ∷ l) e a = rw (a .0, e) (having-other j k l e (a .1))
 
 -- the vectors of declarations, one each
-length-singles : (k : Attribute) (l : List Declaration) → All (OfAttribute k) l → length (flat vectorOctets (map declarationVector l)) ≡ length l * vectorSize k
+length-singles : (k : Attribute) (l : List Said) → All (OfAttribute k) l → length (flat vectorOctets (map declarationVector l)) ≡ length l * vectorSize k
 unfolding flat
 length-singles k [] a = omega arith
 length-singles k (d ∷ l) a =
@@ -231,118 +302,200 @@ length-singles k (d ∷ l) a =
     simp (length-append, length-vector d, a .0, length-singles k l (a .1)) (omega arith)
 
 -- of Listeners packed
-pub length-packed : (g : List Declaration) → length (vectorOctets (packedVector g)) ≡ octetsFor (values (declaredIds g))
+pub length-packed : (g : List Said) → length (vectorOctets (packedVector g)) ≡ octetsFor (values (declaredIds g))
 unfolding vectorOctets packedVector packed be octetsFor
 length-packed g = simp (length-append, length-tabulate) (omega arith)
 
-pub ids-take : (n : ℕ) (l : List Declaration) → declaredIds (take n l) ≡ take n (declaredIds l)
+pub ids-take : (n : ℕ) (l : List Said) → declaredIds (take n l) ≡ take n (declaredIds l)
 unfolding declaredIds
 ids-take zero l = refl
 ids-take (suc n) [] = refl
-ids-take (suc n) (d ∷ l) = ap (λ (r : List ℕ). declaredId d ∷ r) (ids-take n l)
+ids-take (suc n) (d ∷ l) = ap (λ (r : List ℕ). declaredId (d .declaration) ∷ r) (ids-take n l)
 
-pub ids-drop : (n : ℕ) (l : List Declaration) → declaredIds (drop n l) ≡ drop n (declaredIds l)
+pub ids-drop : (n : ℕ) (l : List Said) → declaredIds (drop n l) ≡ drop n (declaredIds l)
 unfolding declaredIds
 ids-drop zero l = refl
 ids-drop (suc n) [] = refl
 ids-drop (suc n) (d ∷ l) = ids-drop n l
 
-pub length-ids : (l : List Declaration) → length (declaredIds l) ≡ length l
+pub length-ids : (l : List Said) → length (declaredIds l) ≡ length l
 unfolding declaredIds
-length-ids l = length-map l declaredId
+length-ids l = length-map l (λ (d : Said). declaredId (d .declaration))
 
 -- declarations cut as their StreamIDs are: the StreamIDs of the first part, and of the rest
-pub cut-first : (g : List ℕ) (c : List (List ℕ)) (l : List Declaration) → concat (g ∷ c) ≡ declaredIds l
+pub cut-first : (g : List ℕ) (c : List (List ℕ)) (l : List Said) → concat (g ∷ c) ≡ declaredIds l
     → (declaredIds (take (length g) l) ≡ g) × (concat c ≡ declaredIds (drop (length g) l))
 cut-first g c l e = (
   ids-take (length g) l ∙ ap (take (length g)) (sym e) ∙ take-append-seam g (concat c),
   sym (drop-append-seam g (concat c)) ∙ ap (drop (length g)) e ∙ sym (ids-drop (length g) l),
 )
 
-length-cut-as : (c : List (List ℕ)) (l : List Declaration) → concat c ≡ declaredIds l → length (flat vectorOctets (map packedVector (cutAs c l))) ≡ octets c
+length-cut-as : (c : List (List ℕ)) (l : List Said) → concat c ≡ declaredIds l → length (flat vectorOctets (map packedVector (cutAs c l))) ≡ octets c
 unfolding flat cutAs
 length-cut-as [] l e = refl
 length-cut-as (g ∷ c) l e =
     let s = cut-first g c l e in
     simp (length-append, length-packed (take (length g) l), s .0, length-cut-as c (drop (length g) l) (s .1))
 
-length-vectors : (k : Attribute) (l : List Declaration) → All (OfAttribute k) l → length (flat vectorOctets (vectorsOf k l)) ≡ vectorsSize k l
+length-vectors : (k : Attribute) (l : List Said) → All (OfAttribute k) l → length (flat vectorOctets (vectorsOf k l)) ≡ vectorsSize k l
 unfolding vectorsOf vectorsSize listenerParts least
 length-vectors (registers advertises) l a = length-singles (registers advertises) l a
 length-vectors (registers faileds) l a = length-singles (registers faileds) l a
 length-vectors (registers listeners) l a = length-cut-as (best (declaredIds l)) l (best-cuts (declaredIds l) .0)
 length-vectors domainType l a = length-singles domainType l a
 
-pub length-message : (k : Attribute) (l : List Declaration) → All (OfAttribute k) l → length (messageOctets k l) ≡ messageSize k l
-unfolding messageOctets messageOf messageSize
-length-message k [] a = refl
-length-message k (d ∷ l) a = simp (length-append, length-be, length-vectors k (d ∷ l) a) (omega arith)
+-- A type without a declaration has no vector, and one with some has one.
 
-pub length-pdu : (l : List Declaration) → length (pduOctets l) ≡ 3 + messagesSize l
-unfolding pduOctets messagesSize
-length-pdu l = simp (length-append, of (registers advertises), of (registers faileds), of (registers listeners), of domainType) (omega arith)
+no-vectors : (k : Attribute) → vectorsOf k [] ≡ []
+unfolding vectorsOf listenerParts cutAs best bests declaredIds
+no-vectors (registers advertises) = refl
+no-vectors (registers faileds) = refl
+no-vectors (registers listeners) = refl
+no-vectors domainType = refl
+
+some-vectors : (k : Attribute) (d : Said) (l : List Said) → 1 ≤ length (vectorsOf k (d ∷ l))
+unfolding vectorsOf listenerParts cutAs declaredIds
+some-vectors (registers advertises) d l = omega arith
+some-vectors (registers faileds) d l = omega arith
+some-vectors (registers listeners) d l = go (best (declaredIds (d ∷ l))) (best-cuts (declaredIds (d ∷ l)) .0)
   where
-    of : (k : Attribute) → length (messageOctets k (having k l)) ≡ messageSize k (having k l)
-    of k = length-message k (having k l) (having-attribute k l)
+    go : (c : List (List ℕ)) → concat c ≡ declaredIds (d ∷ l) → 1 ≤ length (map packedVector (cutAs c (d ∷ l)))
+    go [] e = absurd (cons-apart (sym e))
+    go (g ∷ c) e = omega arith
+some-vectors domainType d l = omega arith
+
+-- a Message of some vectors
+message-list : (k : Attribute) (vs : List Vector) → 1 ≤ length vs → length (messageOctets k vs) ≡ 6 + length (flat vectorOctets vs)
+unfolding messageOctets messageOf
+message-list k [] h = absurd (omega arith)
+message-list k (v ∷ vs) h = simp (length-append, length-be) (omega arith)
+
+-- LeaveAll costs nothing in a vector that is there anyway
+leaving-same : (k : Attribute) (vs : List Vector) → 1 ≤ length vs
+    → (1 ≤ length (leavingAll k vs)) × (length (flat vectorOctets (leavingAll k vs)) ≡ length (flat vectorOctets vs))
+unfolding leavingAll flat withLeaveAll vectorOctets
+leaving-same k [] h = absurd (omega arith)
+leaving-same k (v ∷ vs) h = (omega arith, simp (length-append, length-be))
+
+length-empty : (k : Attribute) → length (flat vectorOctets (emptyVector k ∷ [])) ≡ 2 + firstLength k
+unfolding flat emptyVector vectorOctets
+length-empty k = simp (length-append, length-be, length-replicate) (omega arith)
+
+pub length-message : (all : Bool) (k : Attribute) (l : List Said) → All (OfAttribute k) l → length (messageOctets k (vectorsSaid all k l)) ≡ messageSize all k l
+unfolding vectorsSaid messageSize emptySize
+length-message false k [] a = rw (no-vectors k) (unfold messageOctets in refl)
+length-message true k [] a =
+    rw (no-vectors k) (unfold leavingAll in (message-list k (emptyVector k ∷ []) (omega arith) ∙ ap (λ (n : ℕ). 6 + n) (length-empty k)))
+length-message false k (d ∷ l) a =
+    message-list k (vectorsOf k (d ∷ l)) (some-vectors k d l) ∙ ap (λ (n : ℕ). 6 + n) (length-vectors k (d ∷ l) a)
+length-message true k (d ∷ l) a =
+    let same = leaving-same k (vectorsOf k (d ∷ l)) (some-vectors k d l) in
+    message-list k (leavingAll k (vectorsOf k (d ∷ l))) (same .0) ∙ ap (λ (n : ℕ). 6 + n) (same .1 ∙ length-vectors k (d ∷ l) a)
+
+pub length-pdu : (all : Bool) (l : List Said) → length (pduOctets all l) ≡ 3 + messagesSize all l
+unfolding pduOctets messagesSize
+length-pdu all l = simp (length-append, of (registers advertises), of (registers faileds), of (registers listeners), of domainType) (omega arith)
+  where
+    of : (k : Attribute) → length (messageOctets k (vectorsSaid all k (having k l))) ≡ messageSize all k (having k l)
+    of k = length-message all k (having k l) (having-attribute k l)
+
+-- Sizes never fall where a declaration is added: a Message of some is not shorter than that of none.
+
+least-some : (i : ℕ) (l : List ℕ) → 10 ≤ least (i ∷ l)
+unfolding least
+least-some i l = go (best (i ∷ l)) (best-cuts (i ∷ l) .0)
+  where
+    go : (c : List (List ℕ)) → concat c ≡ i ∷ l → 10 ≤ octets c
+    go [] e = absurd (cons-apart (sym e))
+    go (g ∷ c) e = unfold octetsFor in (omega arith)
+
+pub message-least : (all : Bool) (k : Attribute) (l : List Said) → emptySize all k ≤ messageSize all k l
+unfolding messageSize
+message-least all k [] = omega arith
+message-least all k (d ∷ l) = go all k
+  where
+    some : (m : ℕ) → suc (length l) * m ≡ length l * m + m
+    some m = suc-mul (length l) m
+
+    go : (all : Bool) (k : Attribute) → emptySize all k ≤ 6 + vectorsSize k (d ∷ l)
+    go false k = unfold emptySize in (omega arith)
+    go true (registers advertises) = unfold emptySize firstLength vectorsSize vectorSize in (omega (arith, some (2 + advertiseLength + 1)))
+    go true (registers faileds) = unfold emptySize firstLength vectorsSize vectorSize in (omega (arith, some (2 + failedLength + 1)))
+    go true (registers listeners) =
+        unfold emptySize firstLength vectorsSize declaredIds in
+        (omega (arith, least-some (declaredId (d .declaration)) (map (λ (e : Said). declaredId (e .declaration)) l)))
+    go true domainType = unfold emptySize firstLength vectorsSize vectorSize in (omega (arith, some (2 + domainLength + 1)))
 
 -- "one PDU takes as many as fit in 1,500 octets whole".
 
 -- with so many octets used, n of the declarations fit
-abbrev pub fitsWith : ℕ → List Declaration → ℕ → Bool
-fitsWith used l n = leb (used + messagesSize (take n l)) longestPdu
+abbrev pub fitsWith : Bool → ℕ → List Said → ℕ → Bool
+fitsWith all used l n = leb (used + messagesSize all (take n l)) longestPdu
 
-no-messages : messagesSize [] ≡ 0
-unfolding messagesSize messageSize having
-no-messages = refl
+-- the Messages without a declaration: none, or those of LeaveAll
+no-messages : (all : Bool) → messagesSize all [] ≤ 103
+unfolding messagesSize messageSize having emptySize firstLength
+no-messages true = omega arith
+no-messages false = omega arith
 
-pub takes-fits : (l : List Declaration) → length (pduOctets (take (takes l) l)) ≤ longestPdu
+pub takes-fits : (all : Bool) (l : List Said) → length (pduOctets all (take (takes all l) l)) ≤ longestPdu
 unfolding takes fitting
-takes-fits l =
-    let n : ℕ = longest (fitsWith 3 l) 0 (length l) in
-    let e : fitsWith 3 l n ≡ true = longest-passes (fitsWith 3 l) 0 (length l) (rw no-messages refl) in
-    omega (arith, length-pdu (take n l), leb-true (3 + messagesSize (take n l)) longestPdu e)
+takes-fits all l =
+    let n : ℕ = longest (fitsWith all 3 l) 0 (length l) in
+    let none : fitsWith all 3 l 0 ≡ true = le-leb (3 + messagesSize all []) longestPdu (omega (arith, no-messages all)) in
+    let e : fitsWith all 3 l n ≡ true = longest-passes (fitsWith all 3 l) 0 (length l) none in
+    omega (arith, length-pdu all (take n l), leb-true (3 + messagesSize all (take n l)) longestPdu e)
 
-pub takes-full : (l : List Declaration) → takes l < length l → longestPdu < length (pduOctets (take (suc (takes l)) l))
+pub takes-full : (all : Bool) (l : List Said) → takes all l < length l → longestPdu < length (pduOctets all (take (suc (takes all l)) l))
 unfolding takes fitting
-takes-full l h =
-    let n : ℕ = longest (fitsWith 3 l) 0 (length l) in
-    let e : fitsWith 3 l (suc n) ≡ false = rw (add-one n) at (longest-full (fitsWith 3 l) 0 (length l) (omega arith)) in
-    omega (arith, length-pdu (take (suc n) l), leb-false (3 + messagesSize (take (suc n) l)) longestPdu e)
+takes-full all l h =
+    let n : ℕ = longest (fitsWith all 3 l) 0 (length l) in
+    let e : fitsWith all 3 l (suc n) ≡ false = rw (add-one n) at (longest-full (fitsWith all 3 l) 0 (length l) (omega arith)) in
+    omega (arith, length-pdu all (take (suc n) l), leb-false (3 + messagesSize all (take (suc n) l)) longestPdu e)
 
-pub takes-within : (l : List Declaration) → takes l ≤ length l
+pub takes-within : (all : Bool) (l : List Said) → takes all l ≤ length l
 unfolding takes fitting
-takes-within l = omega (arith, longest-within (fitsWith 3 l) 0 (length l) .1)
+takes-within all l = omega (arith, longest-within (fitsWith all 3 l) 0 (length l) .1)
 
 -- there is room for one
-one-message : (d : Declaration) → messagesSize (d ∷ []) ≤ 43
-unfolding messagesSize messageSize having sameAttribute typeNumber vectorsSize vectorSize declaredIds
-one-message d = go (attributeOf d)
+one-message : (all : Bool) (d : Said) → messagesSize all (d ∷ []) ≤ 146
+unfolding messagesSize messageSize having sameAttribute typeNumber vectorsSize vectorSize declaredIds emptySize firstLength
+one-message all d = go all (attributeOf (d .declaration))
   where
-    one : least (declaredId d ∷ []) ≤ 12
-    one = omega (arith, least-most (declaredId d ∷ []) (omega arith))
+    one : least (declaredId (d .declaration) ∷ []) ≤ 12
+    one = omega (arith, least-most (declaredId (d .declaration) ∷ []) (omega arith))
 
-    size : Attribute → Attribute → ℕ
-    size k j = messageSize j (keep (sameAttribute k j) d [])
+    size : Bool → Attribute → Attribute → ℕ
+    size all k j = messageSize all j (keep (sameAttribute k j) d [])
 
-    go : (k : Attribute) → size k (registers advertises) + size k (registers faileds) + size k (registers listeners) + size k domainType ≤ 43
-    go (registers advertises) = omega arith
-    go (registers faileds) = omega arith
-    go (registers listeners) = omega (arith, one)
-    go domainType = omega arith
+    go : (all : Bool) (k : Attribute)
+        → size all k (registers advertises) + size all k (registers faileds) + size all k (registers listeners) + size all k domainType ≤ 146
+    go false (registers advertises) = omega arith
+    go false (registers faileds) = omega arith
+    go false (registers listeners) = omega (arith, one)
+    go false domainType = omega arith
+    go true (registers advertises) = omega arith
+    go true (registers faileds) = omega arith
+    go true (registers listeners) = omega (arith, one)
+    go true domainType = omega arith
 
-pub takes-one : (l : List Declaration) → 1 ≤ length l → 1 ≤ takes l
+pub takes-one : (all : Bool) (l : List Said) → 1 ≤ length l → 1 ≤ takes all l
 unfolding takes fitting
-takes-one [] h = absurd (omega arith)
-takes-one (d ∷ l) h =
-    let e : fitsWith 3 (d ∷ l) 1 ≡ true = le-leb (3 + messagesSize (d ∷ [])) longestPdu (omega (arith, one-message d)) in
-    rw (longest-goes (fitsWith 3 (d ∷ l)) 0 (length l) e) (omega (arith, longest-within (fitsWith 3 (d ∷ l)) 1 (length l) .0))
+takes-one all [] h = absurd (omega arith)
+takes-one all (d ∷ l) h =
+    let e : fitsWith all 3 (d ∷ l) 1 ≡ true = le-leb (3 + messagesSize all (d ∷ [])) longestPdu (omega (arith, one-message all d)) in
+    rw (longest-goes (fitsWith all 3 (d ∷ l)) 0 (length l) e) (omega (arith, longest-within (fitsWith all 3 (d ∷ l)) 1 (length l) .0))
 
 -- Type by type: of declarations of one type and of later types, those of the first are taken first.
 
-abbrev pub After : Attribute → Declaration → Type 0
-After k d = typeNumber k < typeNumber (attributeOf d)
+abbrev pub After : Attribute → Said → Type 0
+After k d = typeNumber k < typeNumber (attributeOf (d .declaration))
 
-module _ (k : Attribute) (l m : List Declaration) (own : All (OfAttribute k) l) (after : All (After k) m) where
+-- what a Message of some takes more than one of none
+unfoldable pub moreSize : Bool → Attribute → List Said → ℕ
+moreSize all k l = messageSize all k l - emptySize all k
+
+module _ (all : Bool) (k : Attribute) (l m : List Said) (own : All (OfAttribute k) l) (after : All (After k) m) where
   having-first : (j : Attribute) → having j (l ++ m) ≡ cond (sameAttribute k j) l (having j m)
   having-first j = having-append j l m ∙ go (sameAttribute k j) refl
     where
@@ -355,134 +508,152 @@ module _ (k : Attribute) (l m : List Declaration) (own : All (OfAttribute k) l) 
   first-none : having k m ≡ []
   first-none = having-none k m after
 
-  pub messages-first : messagesSize (l ++ m) ≡ messageSize k l + messagesSize m
-  unfolding messagesSize
+  pub messages-first : messagesSize all (l ++ m) ≡ moreSize all k l + messagesSize all m
+  unfolding messagesSize moreSize
   messages-first =
       rw (having-first (registers advertises), having-first (registers faileds), having-first (registers listeners), having-first domainType)
-      (go k first-none)
+      (go k first-none (message-least all k l))
     where
       size : Attribute → Attribute → ℕ
-      size i j = messageSize j (cond (sameAttribute i j) l (having j m))
+      size i j = messageSize all j (cond (sameAttribute i j) l (having j m))
 
       of : Attribute → ℕ
-      of j = messageSize j (having j m)
+      of j = messageSize all j (having j m)
 
-      none : (i : Attribute) → having i m ≡ [] → of i ≡ 0
+      none : (i : Attribute) → having i m ≡ [] → of i ≡ emptySize all i
       none i e = rw e (unfold messageSize in refl)
 
-      go : (i : Attribute) → having i m ≡ []
+      go : (i : Attribute) → having i m ≡ [] → emptySize all i ≤ messageSize all i l
           → size i (registers advertises) + size i (registers faileds) + size i (registers listeners) + size i domainType
-          ≡ messageSize i l + (of (registers advertises) + of (registers faileds) + of (registers listeners) + of domainType)
-      go (registers advertises) e = unfold sameAttribute typeNumber in (omega (arith, none (registers advertises) e))
-      go (registers faileds) e = unfold sameAttribute typeNumber in (omega (arith, none (registers faileds) e))
-      go (registers listeners) e = unfold sameAttribute typeNumber in (omega (arith, none (registers listeners) e))
-      go domainType e = unfold sameAttribute typeNumber in (omega (arith, none domainType e))
+          ≡ messageSize all i l - emptySize all i + (of (registers advertises) + of (registers faileds) + of (registers listeners) + of domainType)
+      go (registers advertises) e h = unfold sameAttribute typeNumber in (omega (arith, h, none (registers advertises) e))
+      go (registers faileds) e h = unfold sameAttribute typeNumber in (omega (arith, h, none (registers faileds) e))
+      go (registers listeners) e h = unfold sameAttribute typeNumber in (omega (arith, h, none (registers listeners) e))
+      go domainType e h = unfold sameAttribute typeNumber in (omega (arith, h, none domainType e))
 
 -- of one type
-pub messages-one : (k : Attribute) (l : List Declaration) → All (OfAttribute k) l → messagesSize l ≡ messageSize k l
-messages-one k l own =
-    ap messagesSize (sym (append-nil l)) ∙ messages-first k l [] own tt ∙ omega (arith, no-messages)
+pub messages-one : (all : Bool) (k : Attribute) (l : List Said) → All (OfAttribute k) l → messagesSize all l ≡ moreSize all k l + messagesSize all []
+messages-one all k l own = ap (messagesSize all) (sym (append-nil l)) ∙ messages-first all k l [] own tt
 
 -- what fits of the later ones counts where all of the first do
-pub fitting-types : (used : ℕ) (k : Attribute) (l m : List Declaration) → All (OfAttribute k) l → All (After k) m
-    → fitting used (l ++ m) ≡ cond (ltb (fitting used l) (length l)) (fitting used l) (length l + fitting (used + messageSize k l) m)
+pub fitting-types : (all : Bool) (used : ℕ) (k : Attribute) (l m : List Said) → All (OfAttribute k) l → All (After k) m
+    → fitting all used (l ++ m) ≡ cond (ltb (fitting all used l) (length l)) (fitting all used l) (length l + fitting all (used + moreSize all k l) m)
 unfolding fitting
-fitting-types used k l m own after =
-    rw (length-append l m, longest-split (fitsWith used (l ++ m)) 0 (length l) (length m), near, far) (unary (length l))
+fitting-types all used k l m own after =
+    rw (length-append l m, longest-split (fitsWith all used (l ++ m)) 0 (length l) (length m), near, far) (unary (length l))
   where
-    near : longest (fitsWith used (l ++ m)) 0 (length l) ≡ longest (fitsWith used l) 0 (length l)
+    near : longest (fitsWith all used (l ++ m)) 0 (length l) ≡ longest (fitsWith all used l) 0 (length l)
     near =
-        longest-same (fitsWith used (l ++ m)) (fitsWith used l) 0 (length l)
-        (λ i a b. ap (λ (r : List Declaration). leb (used + messagesSize r) longestPdu) (take-append-le i l m (omega arith)))
+        longest-same (fitsWith all used (l ++ m)) (fitsWith all used l) 0 (length l)
+        (λ i a b. ap (λ (r : List Said). leb (used + messagesSize all r) longestPdu) (take-append-le i l m (omega arith)))
 
-    rest : (i : ℕ) → used + messagesSize (take (length l + i) (l ++ m)) ≡ used + messageSize k l + messagesSize (take i m)
-    rest i = rw (take-append-add l m i) (omega (arith, messages-first k l (take i m) own (all-take (After k) i m after)))
+    rest : (i : ℕ) → used + messagesSize all (take (length l + i) (l ++ m)) ≡ used + moreSize all k l + messagesSize all (take i m)
+    rest i = rw (take-append-add l m i) (omega (arith, messages-first all k l (take i m) own (all-take (After k) i m after)))
 
-    far : longest (fitsWith used (l ++ m)) (0 + length l) (length m) ≡ length l + longest (fitsWith (used + messageSize k l) m) 0 (length m)
+    far : longest (fitsWith all used (l ++ m)) (0 + length l) (length m) ≡ length l + longest (fitsWith all (used + moreSize all k l) m) 0 (length m)
     far =
         let e : 0 + length l ≡ length l + 0 = omega arith in
-        rw (e, longest-from (fitsWith used (l ++ m)) (length l) 0 (length m))
+        rw (e, longest-from (fitsWith all used (l ++ m)) (length l) 0 (length m))
         (ap (λ (n : ℕ). length l + n)
-        (longest-same (λ i. fitsWith used (l ++ m) (length l + i)) (fitsWith (used + messageSize k l) m) 0 (length m)
+        (longest-same (λ i. fitsWith all used (l ++ m) (length l + i)) (fitsWith all (used + moreSize all k l) m) 0 (length m)
         (λ i a b. ap (λ (n : ℕ). leb n longestPdu) (rest i))))
 
-    unary : (n : ℕ) → cond (ltb (longest (fitsWith used l) 0 (length l)) (0 + n)) (longest (fitsWith used l) 0 (length l))
-        (length l + longest (fitsWith (used + messageSize k l) m) 0 (length m))
-        ≡ cond (ltb (longest (fitsWith used l) 0 (length l)) n) (longest (fitsWith used l) 0 (length l))
-        (length l + longest (fitsWith (used + messageSize k l) m) 0 (length m))
+    unary : (n : ℕ) → cond (ltb (longest (fitsWith all used l) 0 (length l)) (0 + n)) (longest (fitsWith all used l) 0 (length l))
+        (length l + longest (fitsWith all (used + moreSize all k l) m) 0 (length m))
+        ≡ cond (ltb (longest (fitsWith all used l) 0 (length l)) n) (longest (fitsWith all used l) 0 (length l))
+        (length l + longest (fitsWith all (used + moreSize all k l) m) 0 (length m))
     unary n = let e : 0 + n ≡ n = omega arith in rw e
 
 -- the Message of some
-pub message-some : (k : Attribute) (l : List Declaration) → 1 ≤ length l → messageSize k l ≡ 6 + vectorsSize k l
+pub message-some : (all : Bool) (k : Attribute) (l : List Said) → 1 ≤ length l → messageSize all k l ≡ 6 + vectorsSize k l
 unfolding messageSize
-message-some k [] h = absurd (omega arith)
-message-some k (d ∷ l) h = refl
+message-some all k [] h = absurd (omega arith)
+message-some all k (d ∷ l) h = refl
 
-module _ (used : ℕ) (k : Attribute) (l : List Declaration) (own : All (OfAttribute k) l) where
-  pub fitting-one : fitting used l ≡ longest (λ n. leb (used + 6 + vectorsSize k (take n l)) longestPdu) 0 (length l)
+-- the Messages of the other types, without a declaration
+unfoldable pub othersSize : Bool → Attribute → ℕ
+othersSize all k = messagesSize all [] - emptySize all k
+
+pub others-size : (all : Bool) (k : Attribute) → othersSize all k + emptySize all k ≡ messagesSize all []
+unfolding othersSize messagesSize messageSize having
+others-size all (registers advertises) = omega arith
+others-size all (registers faileds) = omega arith
+others-size all (registers listeners) = omega arith
+others-size all domainType = omega arith
+
+module _ (all : Bool) (used : ℕ) (k : Attribute) (l : List Said) (own : All (OfAttribute k) l) where
+  pub fitting-one : fitting all used l ≡ longest (λ n. leb (used + othersSize all k + 6 + vectorsSize k (take n l)) longestPdu) 0 (length l)
   unfolding fitting
   fitting-one =
-      longest-same (fitsWith used l) (λ n. leb (used + 6 + vectorsSize k (take n l)) longestPdu) 0 (length l)
+      longest-same (fitsWith all used l) (λ n. leb (used + othersSize all k + 6 + vectorsSize k (take n l)) longestPdu) 0 (length l)
       (λ i a b. ap (λ (n : ℕ). leb n longestPdu) (size i a (omega arith)))
     where
-      size : (i : ℕ) → 0 < i → i ≤ length l → used + messagesSize (take i l) ≡ used + 6 + vectorsSize k (take i l)
+      size : (i : ℕ) → 0 < i → i ≤ length l → used + messagesSize all (take i l) ≡ used + othersSize all k + 6 + vectorsSize k (take i l)
       size i a b =
-          omega (
+          unfold moreSize in
+          (omega (
             arith,
-            messages-one k (take i l) (all-take (OfAttribute k) i l own),
-            message-some k (take i l) (omega (arith, length-take-le i l b)),
-          )
+            messages-one all k (take i l) (all-take (OfAttribute k) i l own),
+            message-some all k (take i l) (omega (arith, length-take-le i l b)),
+            message-least all k (take i l),
+            others-size all k,
+          ))
 
   -- there is no room for a Message
-  pub fitting-over : longestPdu < used + 6 → fitting used l ≡ 0
+  pub fitting-over : longestPdu < used + othersSize all k + 6 → fitting all used l ≡ 0
   fitting-over h = fitting-one ∙ go (length l)
     where
-      go : (n : ℕ) → longest (λ n. leb (used + 6 + vectorsSize k (take n l)) longestPdu) 0 n ≡ 0
+      go : (n : ℕ) → longest (λ n. leb (used + othersSize all k + 6 + vectorsSize k (take n l)) longestPdu) 0 n ≡ 0
       go zero = longest-ends _ 0
-      go (suc n) = longest-stops _ 0 n (lt-leb (used + 6 + vectorsSize k (take (0 + 1) l)) longestPdu (omega arith))
+      go (suc n) = longest-stops _ 0 n (lt-leb (used + othersSize all k + 6 + vectorsSize k (take (0 + 1) l)) longestPdu (omega arith))
 
 -- one per vector
-pub fitting-single : (used : ℕ) (k : Attribute) (l : List Declaration) → All (OfAttribute k) l → (k ≡ registers listeners → ⊥)
-    → fitting used l ≡ longest (λ n. leb (used + 6 + n * vectorSize k) longestPdu) 0 (length l)
-fitting-single used k l own h =
-    fitting-one used k l own
-    ∙ longest-same (λ n. leb (used + 6 + vectorsSize k (take n l)) longestPdu) (λ n. leb (used + 6 + n * vectorSize k) longestPdu) 0 (length l)
-    (λ i a b. ap (λ (n : ℕ). leb (used + 6 + n) longestPdu) (singles k h (take i l) ∙ ap (λ (n : ℕ). n * vectorSize k) (length-take-le i l (omega arith))))
+pub fitting-single : (all : Bool) (used : ℕ) (k : Attribute) (l : List Said) → All (OfAttribute k) l → (k ≡ registers listeners → ⊥)
+    → fitting all used l ≡ longest (λ n. leb (used + othersSize all k + 6 + n * vectorSize k) longestPdu) 0 (length l)
+fitting-single all used k l own h =
+    let u : ℕ = used + othersSize all k + 6 in
+    fitting-one all used k l own
+    ∙ longest-same (λ n. leb (u + vectorsSize k (take n l)) longestPdu) (λ n. leb (u + n * vectorSize k) longestPdu) 0 (length l)
+    (λ i a b. ap (λ (n : ℕ). leb (u + n) longestPdu) (singles k h (take i l) ∙ ap (λ (n : ℕ). n * vectorSize k) (length-take-le i l (omega arith))))
   where
-    singles : (k : Attribute) → (k ≡ registers listeners → ⊥) → (r : List Declaration) → vectorsSize k r ≡ length r * vectorSize k
+    singles : (k : Attribute) → (k ≡ registers listeners → ⊥) → (r : List Said) → vectorsSize k r ≡ length r * vectorSize k
     singles (registers advertises) h r = unfold vectorsSize in refl
     singles (registers faileds) h r = unfold vectorsSize in refl
     singles (registers listeners) h r = absurd (h refl)
     singles domainType h r = unfold vectorsSize in refl
 
 -- Listeners packed
-pub fitting-listeners : (used : ℕ) (l : List Declaration) → All (OfAttribute (registers listeners)) l → used + 6 ≤ longestPdu
-    → fitting used l ≡ run (longestPdu - (used + 6)) (declaredIds l)
+pub fitting-listeners : (all : Bool) (used : ℕ) (l : List Said) → All (OfAttribute (registers listeners)) l
+    → used + othersSize all (registers listeners) + 6 ≤ longestPdu
+    → fitting all used l ≡ run (longestPdu - (used + othersSize all (registers listeners) + 6)) (declaredIds l)
 unfolding run vectorsSize
-fitting-listeners used l own h =
-    fitting-one used (registers listeners) l own
+fitting-listeners all used l own h =
+    fitting-one all used (registers listeners) l own
     ∙ rw (length-ids l)
-    (longest-same (λ n. leb (used + 6 + least (declaredIds (take n l))) longestPdu) (λ n. leb (least (take n (declaredIds l))) (longestPdu - (used + 6))) 0 (length l)
+    (longest-same (λ n. leb (u + least (declaredIds (take n l))) longestPdu) (λ n. leb (least (take n (declaredIds l))) (longestPdu - u)) 0 (length l)
     (λ i a b. rw (ids-take i l) (same (least (take i (declaredIds l))))))
   where
-    same : (n : ℕ) → leb (used + 6 + n) longestPdu ≡ leb n (longestPdu - (used + 6))
-    same n = go (leb n (longestPdu - (used + 6))) refl
+    u : ℕ
+    u = used + othersSize all (registers listeners) + 6
+
+    same : (n : ℕ) → leb (u + n) longestPdu ≡ leb n (longestPdu - u)
+    same n = go (leb n (longestPdu - u)) refl
       where
-        go : (t : Bool) → leb n (longestPdu - (used + 6)) ≡ t → leb (used + 6 + n) longestPdu ≡ t
-        go true e = le-leb (used + 6 + n) longestPdu (omega (arith, leb-true n (longestPdu - (used + 6)) e))
-        go false e = lt-leb (used + 6 + n) longestPdu (omega (arith, leb-false n (longestPdu - (used + 6)) e))
+        go : (t : Bool) → leb n (longestPdu - u) ≡ t → leb (u + n) longestPdu ≡ t
+        go true e = le-leb (u + n) longestPdu (omega (arith, leb-true n (longestPdu - u) e))
+        go false e = lt-leb (u + n) longestPdu (omega (arith, leb-false n (longestPdu - u) e))
 
 -- The run is the longest that fits, with all of its Messages counted: fewer declarations never take more octets.
 
-abbrev pub pduFits : List Declaration → ℕ → Bool
-pduFits l n = leb (length (pduOctets (take n l))) longestPdu
+abbrev pub pduFits : Bool → List Said → ℕ → Bool
+pduFits all l n = leb (length (pduOctets all (take n l))) longestPdu
 
 -- at most 64 Listeners, by ascending StreamID
-pub record FewListeners (l : List Declaration) : Type 0 where
+pub record FewListeners (l : List Said) : Type 0 where
   pub few : length (having (registers listeners) l) ≤ 64
   pub ascending : Ascending (declaredIds (having (registers listeners) l))
 
-vectors-rise : (k : Attribute) (l m : List Declaration)
+vectors-rise : (k : Attribute) (l m : List Said)
     → (k ≡ registers listeners → (length (l ++ m) ≤ 64) × Rising (declaredIds (l ++ m))) → vectorsSize k l ≤ vectorsSize k (l ++ m)
 unfolding vectorsSize
 vectors-rise (registers advertises) l m h = rw (length-append l m) (mul-le-mul-right _ (omega arith))
@@ -493,23 +664,23 @@ vectors-rise (registers listeners) l m h =
     rw e at (least-take (declaredIds (l ++ m)) n (h refl .1) (length l))
 vectors-rise domainType l m h = rw (length-append l m) (mul-le-mul-right _ (omega arith))
 
-message-rises : (k : Attribute) (l m : List Declaration)
-    → (k ≡ registers listeners → (length (l ++ m) ≤ 64) × Rising (declaredIds (l ++ m))) → messageSize k l ≤ messageSize k (l ++ m)
-unfolding messageSize
-message-rises k [] m h = omega arith
-message-rises k (d ∷ l) m h = omega (arith, vectors-rise k (d ∷ l) m h)
+message-rises : (all : Bool) (k : Attribute) (l m : List Said)
+    → (k ≡ registers listeners → (length (l ++ m) ≤ 64) × Rising (declaredIds (l ++ m))) → messageSize all k l ≤ messageSize all k (l ++ m)
+message-rises all k [] m h = unfold messageSize in (message-least all k m)
+message-rises all k (d ∷ l) m h = unfold messageSize in (omega (arith, vectors-rise k (d ∷ l) m h))
 
-messages-rise : (l m : List Declaration) → FewListeners (l ++ m) → messagesSize l ≤ messagesSize (l ++ m)
+messages-rise : (all : Bool) (l m : List Said) → FewListeners (l ++ m) → messagesSize all l ≤ messagesSize all (l ++ m)
 unfolding messagesSize
-messages-rise l m f = omega (arith, of (registers advertises), of (registers faileds), of (registers listeners), of domainType)
+messages-rise all l m f = omega (arith, of (registers advertises), of (registers faileds), of (registers listeners), of domainType)
   where
-    of : (k : Attribute) → messageSize k (having k l) ≤ messageSize k (having k (l ++ m))
+    of : (k : Attribute) → messageSize all k (having k l) ≤ messageSize all k (having k (l ++ m))
     of k =
         rw (having-append k l m)
-        (message-rises k (having k l) (having k m) (λ e. rw (e, ← having-append (registers listeners) l m) (f .few, ascending-rising (declaredIds (having (registers listeners) (l ++ m))) (f .ascending))))
+        (message-rises all k (having k l) (having k m)
+        (λ e. rw (e, ← having-append (registers listeners) l m) (f .few, ascending-rising (declaredIds (having (registers listeners) (l ++ m))) (f .ascending))))
 
 -- of some of the declarations too
-few-parts : (n : ℕ) (l : List Declaration) → FewListeners l → FewListeners (take n l) × FewListeners (drop n l)
+few-parts : (n : ℕ) (l : List Said) → FewListeners l → FewListeners (take n l) × FewListeners (drop n l)
 few-parts n l f = (
   record { few = omega (arith, f .few, long); ascending = rw front at (ascending-take m (declaredIds (having k l)) (f .ascending)) },
   record { few = omega (arith, f .few, long); ascending = rw rest at (ascending-drop m (declaredIds (having k l)) (f .ascending)) },
@@ -518,10 +689,10 @@ few-parts n l f = (
     k : Attribute
     k = registers listeners
 
-    a : List Declaration
+    a : List Said
     a = having k (take n l)
 
-    b : List Declaration
+    b : List Said
     b = having k (drop n l)
 
     m : ℕ
@@ -539,227 +710,399 @@ few-parts n l f = (
     rest : drop m (declaredIds (having k l)) ≡ declaredIds b
     rest = sym (ids-drop m (having k l)) ∙ ap declaredIds (ap (drop m) e ∙ drop-append-seam a b)
 
-messages-take : (l : List Declaration) → FewListeners l → (j k : ℕ) → j ≤ k → messagesSize (take j l) ≤ messagesSize (take k l)
-messages-take l f j k h =
+messages-take : (all : Bool) (l : List Said) → FewListeners l → (j k : ℕ) → j ≤ k → messagesSize all (take j l) ≤ messagesSize all (take k l)
+messages-take all l f j k h =
     let g : FewListeners (take k l) = few-parts k l f .0 in
     let e : take j l ++ drop j (take k l) ≡ take k l = rw (← take-take j k l h) (take-append-drop j (take k l)) in
-    rw e at (messages-rise (take j l) (drop j (take k l)) (rw e g))
+    rw e at (messages-rise all (take j l) (drop j (take k l)) (rw e g))
 
-pub takes-longest : (l : List Declaration) → FewListeners l → Longest (pduFits l) (length l) (takes l)
+pub takes-longest : (all : Bool) (l : List Said) → FewListeners l → Longest (pduFits all l) (length l) (takes all l)
 unfolding takes fitting
-takes-longest l f =
-    rw (longest-same (fitsWith 3 l) (pduFits l) 0 (length l) (λ i a b. ap (λ (n : ℕ). leb n longestPdu) (sym (length-pdu (take i l)))))
-    (longest-longest (pduFits l) fewer (length l) (rw (length-pdu [], no-messages) refl))
+takes-longest all l f =
+    rw (longest-same (fitsWith all 3 l) (pduFits all l) 0 (length l) (λ i a b. ap (λ (n : ℕ). leb n longestPdu) (sym (length-pdu all (take i l)))))
+    (longest-longest (pduFits all l) fewer (length l) none)
   where
-    fewer : (j k : ℕ) → j ≤ k → pduFits l k ≡ true → pduFits l j ≡ true
+    none : pduFits all l 0 ≡ true
+    none = le-leb (length (pduOctets all [])) longestPdu (omega (arith, length-pdu all [], no-messages all))
+
+    fewer : (j k : ℕ) → j ≤ k → pduFits all l k ≡ true → pduFits all l j ≡ true
     fewer j k h e =
-        le-leb (length (pduOctets (take j l))) longestPdu
-        (omega (arith, leb-true (length (pduOctets (take k l))) longestPdu e, length-pdu (take j l), length-pdu (take k l), messages-take l f j k h))
+        le-leb (length (pduOctets all (take j l))) longestPdu
+        (omega (arith, leb-true (length (pduOctets all (take k l))) longestPdu e, length-pdu all (take j l), length-pdu all (take k l), messages-take all l f j k h))
 
--- no declaration is left
-pub no-declarations : pduOctets [] ≡ 0 ∷ 0 ∷ 0 ∷ []
-unfolding pduOctets messageOctets having
-no-declarations = refl
+-- nothing is said
+pub no-declarations : pduOctets false [] ≡ 0 ∷ 0 ∷ 0 ∷ []
+unfolding pduOctets vectorsSaid messageOctets having
+no-declarations = simp (no-vectors (registers advertises), no-vectors (registers faileds), no-vectors (registers listeners), no-vectors domainType)
 
--- What write answers.
+-- LeaveAll alone: "Four Messages always"
+pub leave-all-alone : length (pduOctets true []) ≡ 106
+leave-all-alone = length-pdu true [] ∙ unfold messagesSize messageSize having emptySize firstLength in refl
 
--- the declarations of port p, numbered from 1
-unfoldable pub declared : Bridge → ℕ → List Declaration
-declared b p = declarations (b .settings) (p - 1) (b .streams)
-
--- its Listeners are at most 64, by ascending StreamID
-above-listeners : (i p : ℕ) (s : List Stream) → All (λ j. i < j) (ids s) → All (λ j. i < j) (declaredIds (ofKind listeners p s))
-unfolding ids ofKind declarationsOf listening declaredIds declaredId
-above-listeners i p [] a = tt
-above-listeners i p (x ∷ s) a = go (resultAt x p .declares) (above-listeners i p s (a .1))
+-- some are said, or LeaveAll: a PDU that says something is longer
+pub messages-said : (d : Said) (l : List Said) → 6 ≤ messagesSize false (d ∷ l)
+messages-said d l = omega (arith, go (saidType d) (unfold having in (rw (same-attribute (saidType d)))))
   where
-    go : (d : Declared) → All (λ j. i < j) (declaredIds (ofKind listeners p s)) → All (λ j. i < j) (declaredIds (listening x d ++ ofKind listeners p s))
-    go nothing h = h
-    go (tells r) h = (a .0, h)
+    go : (k : Attribute) → having k (d ∷ l) ≡ d ∷ having k l → 6 ≤ messagesSize false (d ∷ l)
+    go (registers advertises) e = unfold messagesSize in (rw e (unfold messageSize in (omega arith)))
+    go (registers faileds) e = unfold messagesSize in (rw e (unfold messageSize in (omega arith)))
+    go (registers listeners) e = unfold messagesSize in (rw e (unfold messageSize in (omega arith)))
+    go domainType e = unfold messagesSize in (rw e (unfold messageSize in (omega arith)))
 
-pub listeners-ascend : (p : ℕ) (s : List Stream) → Ascending (ids s) → Ascending (declaredIds (ofKind listeners p s))
-unfolding ids ofKind declarationsOf listening declaredIds declaredId
-listeners-ascend p [] a = tt
-listeners-ascend p (x ∷ s) a = go (resultAt x p .declares) (above-listeners (x .id) p s (a .0)) (listeners-ascend p s (a .1))
+pub messages-leaving : (l : List Said) → 103 ≤ messagesSize true l
+unfolding messagesSize
+messages-leaving l = unfold emptySize firstLength in (omega (arith, of (registers advertises), of (registers faileds), of (registers listeners), of domainType))
   where
-    go : (d : Declared) → All (λ j. x .id < j) (declaredIds (ofKind listeners p s)) → Ascending (declaredIds (ofKind listeners p s))
-        → Ascending (declaredIds (listening x d ++ ofKind listeners p s))
-    go nothing h r = r
-    go (tells q) h r = (h, r)
+    of : (k : Attribute) → emptySize true k ≤ messageSize true k (having k l)
+    of k = message-least true k (having k l)
 
-pub listeners-few : (p : ℕ) (s : List Stream) → length (ofKind listeners p s) ≤ length s
-unfolding ofKind declarationsOf listening
-listeners-few p [] = omega arith
-listeners-few p (x ∷ s) = go (resultAt x p .declares) (listeners-few p s)
-  where
-    go : (d : Declared) → length (ofKind listeners p s) ≤ length s → length (listening x d ++ ofKind listeners p s) ≤ suc (length s)
-    go nothing h = omega arith
-    go (tells r) h = omega arith
+-- The Listeners of a port are at most 64, by ascending StreamID.
 
-listeners-of : (st : Settings) (p : ℕ) (s : List Stream) → having (registers listeners) (declarations st p s) ≡ ofKind listeners p s
-unfolding declarations
-listeners-of st p s =
-    let k : Attribute = registers listeners in
-    rw (
-      having-append k (ofKind advertises p s) (ofKind faileds p s ++ (ofKind listeners p s ++ domainValues st (portAt st p))),
-      having-append k (ofKind faileds p s) (ofKind listeners p s ++ domainValues st (portAt st p)),
-      having-append k (ofKind listeners p s) (domainValues st (portAt st p)),
-      having-other k (registers advertises) (ofKind advertises p s) (unfold sameAttribute typeNumber in refl) (ofKind-attribute advertises p s),
-      having-other k (registers faileds) (ofKind faileds p s) (unfold sameAttribute typeNumber in refl) (ofKind-attribute faileds p s),
-      having-other k domainType (domainValues st (portAt st p)) (unfold sameAttribute typeNumber in refl) (domains-attribute st (portAt st p)),
-      having-own k (ofKind listeners p s) (ofKind-attribute listeners p s),
-      append-nil (ofKind listeners p s),
-    )
+module _ (all : Bool) (r : Declaration → Bool) where
+  -- the Listeners that a list says
+  abbrev listened : List (Listed Declaration) → List Said
+  listened l = having (registers listeners) (map (say all r) l)
+
+  -- of some of them
+  ids-saying : (P : ℕ → Type 0) (f : Listed Declaration → Bool) (l : List (Listed Declaration))
+      → All P (declaredIds (listened l)) → All P (declaredIds (listened (saying f l)))
+  unfolding saying having declaredIds say
+  ids-saying P f [] a = tt
+  ids-saying P f (x ∷ l) a = go (f x) (sameAttribute (listedType x) (registers listeners)) refl a (ids-saying P f l)
+    where
+      go : (t same : Bool) → sameAttribute (listedType x) (registers listeners) ≡ same → All P (declaredIds (keep same (say all r x) (listened l)))
+          → (All P (declaredIds (listened l)) → All P (declaredIds (listened (saying f l)))) → All P (declaredIds (listened (keep t x (saying f l))))
+      go true true e a ih = rw e (a .0, ih (a .1))
+      go true false e a ih = rw e (ih a)
+      go false true e a ih = ih (a .1)
+      go false false e a ih = ih a
+
+  few-saying : (f : Listed Declaration → Bool) (l : List (Listed Declaration))
+      → Ascending (declaredIds (listened l)) → (length (listened (saying f l)) ≤ length (listened l)) × Ascending (declaredIds (listened (saying f l)))
+  unfolding saying having declaredIds say
+  few-saying f [] a = (omega arith, tt)
+  few-saying f (x ∷ l) a = go (f x) (sameAttribute (listedType x) (registers listeners)) refl a (few-saying f l)
+    where
+      go : (t same : Bool) → sameAttribute (listedType x) (registers listeners) ≡ same → Ascending (declaredIds (keep same (say all r x) (listened l)))
+          → (Ascending (declaredIds (listened l)) → (length (listened (saying f l)) ≤ length (listened l)) × Ascending (declaredIds (listened (saying f l))))
+          → (length (listened (keep t x (saying f l))) ≤ length (keep same (say all r x) (listened l)))
+          × Ascending (declaredIds (listened (keep t x (saying f l))))
+      go true true e a ih =
+          let h = ih (a .1) in
+          rw e (omega (arith, h .0), (ids-saying (λ j. declaredId (x .value) < j) f l (a .0), h .1))
+      go true false e a ih = rw e (ih a)
+      go false true e a ih =
+          let h = ih (a .1) in
+          (omega (arith, h .0), h .1)
+      go false false e a ih = ih a
+
+  -- of a stream on a port at most one
+  above-listeners : (i p : ℕ) (s : List Stream) → All (λ j. i < j) (ids s) → All (λ j. i < j) (declaredIds (map (say all r) (ofKind listeners p s)))
+  unfolding ids ofKind declarationsOf listedAs declaredIds declaredId say
+  above-listeners i p [] a = tt
+  above-listeners i p (x ∷ s) a = go (sendsAt x p .listening) (above-listeners i p s (a .1))
+    where
+      go : (d : Applicant Ready) → All (λ j. i < j) (declaredIds (map (say all r) (ofKind listeners p s)))
+          → All (λ j. i < j) (declaredIds (map (say all r) (listedAs (listenerDeclaration (x .id)) d ++ ofKind listeners p s)))
+      go noApplicant h = h
+      go (applicant y) h = (a .0, h)
+
+  pub listeners-ascend : (p : ℕ) (s : List Stream) → Ascending (ids s) → Ascending (declaredIds (map (say all r) (ofKind listeners p s)))
+  unfolding ids ofKind declarationsOf listedAs declaredIds declaredId say
+  listeners-ascend p [] a = tt
+  listeners-ascend p (x ∷ s) a = go (sendsAt x p .listening) (above-listeners (x .id) p s (a .0)) (listeners-ascend p s (a .1))
+    where
+      go : (d : Applicant Ready) → All (λ j. x .id < j) (declaredIds (map (say all r) (ofKind listeners p s)))
+          → Ascending (declaredIds (map (say all r) (ofKind listeners p s)))
+          → Ascending (declaredIds (map (say all r) (listedAs (listenerDeclaration (x .id)) d ++ ofKind listeners p s)))
+      go noApplicant h k = k
+      go (applicant y) h k = (h, k)
+
+  of-kind : (k : Kind) (p : ℕ) (s : List Stream) → All (OfAttribute (registers k)) (map (say all r) (ofKind k p s))
+  unfolding say
+  of-kind k p s = all-said (OfAttribute (registers k)) (say all r) (ofKind k p s) (ofKind-attribute k p s)
+
+  listeners-of : (b : Bridge) (p : ℕ) → listened (declarations b p) ≡ map (say all r) (ofKind listeners p (b .streams))
+  unfolding declarations
+  listeners-of b p =
+      rw (
+        map-append (say all r) (ofKind advertises p s) (ofKind faileds p s ++ (ofKind listeners p s ++ domains)),
+        map-append (say all r) (ofKind faileds p s) (ofKind listeners p s ++ domains),
+        map-append (say all r) (ofKind listeners p s) domains,
+        having-append k (said (ofKind advertises p s)) (said (ofKind faileds p s) ++ (said (ofKind listeners p s) ++ said domains)),
+        having-append k (said (ofKind faileds p s)) (said (ofKind listeners p s) ++ said domains),
+        having-append k (said (ofKind listeners p s)) (said domains),
+        having-other k (registers advertises) (said (ofKind advertises p s)) (unfold sameAttribute typeNumber in refl) (of-kind advertises p s),
+        having-other k (registers faileds) (said (ofKind faileds p s)) (unfold sameAttribute typeNumber in refl) (of-kind faileds p s),
+        having-other k domainType (said domains) (unfold sameAttribute typeNumber in refl) own,
+        having-own k (said (ofKind listeners p s)) (of-kind listeners p s),
+        append-nil (said (ofKind listeners p s)),
+      )
+    where
+      k : Attribute
+      k = registers listeners
+
+      s : List Stream
+      s = b .streams
+
+      said : List (Listed Declaration) → List Said
+      said l = map (say all r) l
+
+      domains : List (Listed Declaration)
+      domains = domainValues (b .settings) 0 (senderAt (b .senders) p .domains)
+
+      own : All (OfAttribute domainType) (said domains)
+      own =
+          unfold say in
+          (all-said (OfAttribute domainType) (say all r) domains (domains-attribute (b .settings) 0 (senderAt (b .senders) p .domains)))
+
+listed-few : {A : Type 0} (f : A → Declaration) (a : Applicant A) → length (listedAs f a) ≤ 1
+unfolding listedAs
+listed-few f noApplicant = omega arith
+listed-few f (applicant x) = omega arith
+
+sends-few : (k : Kind) (id : ℕ) (s : Sends) → length (declarationsOf k id s) ≤ 1
+unfolding declarationsOf
+sends-few advertises id s = listed-few (advertiseOf id) (s .advertising)
+sends-few faileds id s = listed-few (failedOf id) (s .failing)
+sends-few listeners id s = listed-few (listenerDeclaration id) (s .listening)
+
+pub kind-few : (k : Kind) (p : ℕ) (s : List Stream) → length (ofKind k p s) ≤ length s
+unfolding ofKind
+kind-few k p [] = omega arith
+kind-few k p (x ∷ s) =
+    omega (arith, kind-few k p s, sends-few k (x .id) (sendsAt x p), length-append (declarationsOf k (x .id) (sendsAt x p)) (ofKind k p s))
 
 -- at most 64 streams, by ascending StreamID
 abbrev pub FewStreams : Bridge → Type 0
 FewStreams b = (length (b .streams) ≤ 64) × Ascending (ids (b .streams))
 
-pub declared-few : (b : Bridge) → FewStreams b → (p : ℕ) → FewListeners (declared b p)
-unfolding declared
-declared-few b h p = record {
-  few = rw (listeners-of (b .settings) (p - 1) (b .streams)) (omega (arith, h .0, listeners-few (p - 1) (b .streams)));
-  ascending = rw (listeners-of (b .settings) (p - 1) (b .streams)) (listeners-ascend (p - 1) (b .streams) (h .1));
+pub declared-few : (b : Bridge) → FewStreams b → (all : Bool) (r : Declaration → Bool) (p : ℕ) → FewListeners (map (say all r) (declarations b p))
+declared-few b h all r p = record {
+  few = rw (listeners-of all r b p, length-map (ofKind listeners p (b .streams)) (say all r)) (omega (arith, h .0, kind-few listeners p (b .streams)));
+  ascending = rw (listeners-of all r b p) (listeners-ascend all r p (b .streams) (h .1));
+}
+
+-- "Three of one StreamID on one port", and a Domain value for each of two classes: a list has at most 194 declarations.
+
+-- no machine but in a slot whose Domain value is declared
+no-slot : {A : Type 0} (f : A → Declaration) (a : Applicant A) → domainStanding false (applicantNumber a) ≡ true → length (listedAs f a) ≡ 0
+unfolding domainStanding applicantNumber listedAs standingNumber named octetOf
+no-slot f noApplicant e = refl
+no-slot f (applicant x) e = absurd (go (x .state) e)
+  where
+    go : (q : Standing) → domainStanding false (standingNumber q) ≡ true → ⊥
+    go veryAnxiousPassive e = false≢true e
+    go veryAnxiousNew e = false≢true e
+    go anxiousNew e = false≢true e
+    go anxiousActive e = false≢true e
+    go quietActive e = false≢true e
+    go leavingActive e = false≢true e
+
+-- where two slots are declared, x and y, there are at most two machines
+module _ (own : ℕ → Bool) (x y : ℕ) (two : (j : ℕ) → own j ≡ true → (j ≡ x) ⊎ (j ≡ y)) (st : Settings) where
+  -- of x and y, those that are still to come
+  left-of : ℕ → ℕ
+  left-of i = bit (leb i x) + bit (leb i y)
+
+  later : (i z : ℕ) → bit (leb (suc i) z) ≤ bit (leb i z)
+  later i z = go (leb i z) refl
+    where
+      go : (t : Bool) → leb i z ≡ t → bit (leb (suc i) z) ≤ bit t
+      go true e = at-most-one (leb (suc i) z)
+        where
+          at-most-one : (t : Bool) → bit t ≤ bit true
+          at-most-one true = unfold bit in (omega arith)
+          at-most-one false = unfold bit in (omega arith)
+      go false e = rw (lt-leb (suc i) z (omega (arith, leb-false i z e))) (unfold bit in (omega arith))
+
+  passed : (i : ℕ) → bit (leb (suc i) i) + 1 ≤ bit (leb i i)
+  passed i = rw (lt-leb (suc i) i (omega arith), le-leb i i (omega arith)) (unfold bit in (omega arith))
+
+  counted : (i : ℕ) → own i ≡ true → left-of (suc i) + 1 ≤ left-of i
+  unfolding left-of
+  counted i e = go (two i e)
+    where
+      go : (i ≡ x) ⊎ (i ≡ y) → bit (leb (suc i) x) + bit (leb (suc i) y) + 1 ≤ bit (leb i x) + bit (leb i y)
+      go (inl z) = rw (← z) (omega (arith, passed i, later i y))
+      go (inr z) = rw (← z) (omega (arith, passed i, later i x))
+
+  domains-few : (i : ℕ) (l : List (Applicant (Unit {0}))) → ValidSlots own i l → length (domainValues st i l) ≤ left-of i
+  unfolding domainValues
+  domains-few i [] v = omega arith
+  domains-few i (a ∷ l) v = go (own i) refl (v .0) (domains-few (suc i) l (v .1))
+    where
+      here : List (Listed Declaration)
+      here = listedAs (λ (u : Unit {0}). domainOf st i) a
+
+      go : (t : Bool) → own i ≡ t → domainStanding t (applicantNumber a) ≡ true → length (domainValues st (suc i) l) ≤ left-of (suc i)
+          → length (here ++ domainValues st (suc i) l) ≤ left-of i
+      go true e d ih =
+          omega (arith, ih, counted i e, listed-few (λ (u : Unit {0}). domainOf st i) a, length-append here (domainValues st (suc i) l))
+      go false e d ih =
+          omega (arith, ih, fewer, no-slot (λ (u : Unit {0}). domainOf st i) a d, length-append here (domainValues st (suc i) l))
+        where
+          fewer : left-of (suc i) ≤ left-of i
+          fewer = unfold left-of in (omega (arith, later i x, later i y))
+
+  two-domains : (l : List (Applicant (Unit {0}))) → ValidSlots own 0 l → length (domainValues st 0 l) ≤ 2
+  two-domains l v = omega (arith, domains-few 0 l v, most)
+    where
+      most : left-of 0 ≤ 2
+      most = unfold left-of in (omega (arith, at-most-one (leb 0 x), at-most-one (leb 0 y)))
+        where
+          at-most-one : (t : Bool) → bit t ≤ 1
+          at-most-one true = unfold bit in (omega arith)
+          at-most-one false = unfold bit in (omega arith)
+
+own-slots : (st : Settings) (p j : ℕ) → declaresSlot st p j ≡ true → (j ≡ slotOf (classId classB) (classPriority st classB)) ⊎ (j ≡ slotOf (classId classA) (classPriority st classA))
+unfolding declaresSlot
+own-slots st p j e = go (isOwnSlot st (portAt st p) classB j) (isOwnSlot st (portAt st p) classA j) refl refl e
+  where
+    is : (c : Class) → isOwnSlot st (portAt st p) c j ≡ true → j ≡ slotOf (classId c) (classPriority st c)
+    is c h = unfold isOwnSlot in (eqb-true j (slotOf (classId c) (classPriority st c)) (and-right (supports (portAt st p) c) (eqb j (slotOf (classId c) (classPriority st c))) h))
+
+    go : (a b : Bool) → isOwnSlot st (portAt st p) classB j ≡ a → isOwnSlot st (portAt st p) classA j ≡ b → (a || b) ≡ true
+        → (j ≡ slotOf (classId classB) (classPriority st classB)) ⊎ (j ≡ slotOf (classId classA) (classPriority st classA))
+    go true b f g e = inl (is classB f)
+    go false true f g e = inr (is classA g)
+    go false false f g e = absurd (false≢true e)
+
+pub at-most-194 : (b : Bridge) → Valid b → (p : ℕ) → p < length (b .settings .ports) → length (declarations b p) ≤ 194
+unfolding declarations
+at-most-194 b v p here =
+    let s = b .streams in
+    let domains : List (Listed Declaration) = domainValues (b .settings) 0 (senderAt (b .senders) p .domains) in
+    omega (
+      arith,
+      v .at-most-64,
+      kind-few advertises p s,
+      kind-few faileds p s,
+      kind-few listeners p s,
+      two-domains (declaresSlot (b .settings) p) (slotOf (classId classB) (classPriority (b .settings) classB)) (slotOf (classId classA) (classPriority (b .settings) classA)) (own-slots (b .settings) p) (b .settings) (senderAt (b .senders) p .domains) (v .senders p here .domains),
+      length-append (ofKind advertises p s) (ofKind faileds p s ++ (ofKind listeners p s ++ domains)),
+      length-append (ofKind faileds p s) (ofKind listeners p s ++ domains),
+      length-append (ofKind listeners p s) domains,
+    )
+
+-- What write answers.
+
+module _ {A B : Type 0} (f : A → B) where
+  pub map-take : (n : ℕ) (l : List A) → map f (take n l) ≡ take n (map f l)
+  map-take zero l = refl
+  map-take (suc n) [] = refl
+  map-take (suc n) (x ∷ l) = ap (λ (r : List B). f x ∷ r) (map-take n l)
+
+  pub map-drop : (n : ℕ) (l : List A) → map f (drop n l) ≡ drop n (map f l)
+  map-drop zero l = refl
+  map-drop (suc n) [] = refl
+  map-drop (suc n) (x ∷ l) = map-drop n l
+
+-- the declarations of port p, numbered from 1
+unfoldable pub declared : Bridge → ℕ → List (Listed Declaration)
+declared b p = declarations b (p - 1)
+
+-- what it has to say from a place on, with LeaveAll or without it as is due
+unfoldable pub toSay : Bridge → ℕ → ℕ → List Said
+toSay b p place = map (sayOn b (p - 1)) (saying (portWay b (p - 1) .says) (drop place (declared b p)))
+
+-- One PDU of a port takes some of them, and at least one where there is one.
+pub port-takes : (b : Bridge) (p : ℕ) → Takes (takesOn b p)
+unfolding takesOn
+port-takes b p = record {
+  within = λ l. rw (← length-map l (sayOn b p)) (takes-within (leavesAll b p) (map (sayOn b p) l));
+  some = λ l h. takes-one (leavesAll b p) (map (sayOn b p) l) (rw (length-map l (sayOn b p)) h);
 }
 
 module _ (b : Bridge) (p place : ℕ) where
   -- 13 "place is above the number of declarations"
-  pub write-above : length (declared b p) < place → write b p place ≡ record { number = 13; run = []; next = 0 }
+  pub write-above : length (declared b p) < place → write b p place ≡ record { number = 13; all = false; run = []; next = 0; bridge = b }
   unfolding write declared
-  write-above h = rw (lt-ltb (length (declarations (b .settings) (p - 1) (b .streams))) place h)
+  write-above h = rw (lt-ltb (length (declarations b (p - 1))) place h)
+
+  abbrev due : Bool
+  due = leavesAll b (p - 1)
+
+  abbrev rest : List Said
+  rest = toSay b p place
 
   pub write-from : place ≤ length (declared b p)
       → write b p place ≡ record {
         number = 0;
-        run = take (takes (drop place (declared b p))) (drop place (declared b p));
-        next = place + takes (drop place (declared b p));
+        all = leavesAll b (p - 1);
+        run = take (takes (leavesAll b (p - 1)) (toSay b p place)) (toSay b p place);
+        next = wroteOn b (p - 1) place .next;
+        bridge = afterWrite b (p - 1) place;
       }
-  unfolding write declared
-  write-from h = rw (le-ltb (length (declarations (b .settings) (p - 1) (b .streams))) place h)
+  unfolding write declared toSay wroteOn writeFrom takesOn
+  write-from h =
+      let l : List (Listed Declaration) = saying (portWay b (p - 1) .says) (drop place (declarations b (p - 1))) in
+      rw (le-ltb (length (declarations b (p - 1))) place h, map-take (sayOn b (p - 1)) (takes (leavesAll b (p - 1)) (map (sayOn b (p - 1)) l)) l)
 
-  -- the answer's next place is past what was written, and not past the count
-  pub next-place : place ≤ length (declared b p) → write b p place .next ≡ place + length (write b p place .run)
-  next-place h =
-      let rest : List Declaration = drop place (declared b p) in
-      rw (write-from h) (ap (λ (n : ℕ). place + n) (sym (length-take-le (takes rest) rest (takes-within rest))))
+  -- what holds of a refusal and of an accepted write
+  either : (P : Written → Type 0)
+      → P record { number = 13; all = false; run = []; next = 0; bridge = b }
+      → P record { number = 0; all = due; run = take (takes due rest) rest; next = wroteOn b (p - 1) place .next; bridge = afterWrite b (p - 1) place }
+      → P (write b p place)
+  either P refused accepted = go (ltb (length (declared b p)) place) refl
+    where
+      go : (t : Bool) → ltb (length (declared b p)) place ≡ t → P (write b p place)
+      go true e = rw (write-above (ltb-true (length (declared b p)) place e)) refused
+      go false e = rw (write-from (ltb-false (length (declared b p)) place e)) accepted
 
-  pub next-within : place ≤ length (declared b p) → write b p place .next ≤ length (declared b p)
-  next-within h = rw (write-from h) (omega (arith, takes-within (drop place (declared b p)), length-drop place (declared b p)))
-
-  pub next-further : place < length (declared b p) → place < write b p place .next
-  next-further h =
-      let rest : List Declaration = drop place (declared b p) in
-      let some : 1 ≤ length rest = simp length-drop (omega arith) in
-      rw (write-from (omega arith)) (omega (arith, takes-one rest some))
-
-  rest-in-order : InOrder (drop place (declared b p))
-  unfolding declared
-  rest-in-order = order-drop place (declarations (b .settings) (p - 1) (b .streams)) (declarations-in-order (b .settings) (p - 1) (b .streams))
+  rest-in-order : InOrder rest
+  unfolding toSay declared sayOn
+  rest-in-order =
+      order-said due (isRegistered b (p - 1)) (saying (portWay b (p - 1) .says) (drop place (declarations b (p - 1))))
+      (ordered-saying listedType (portWay b (p - 1) .says) (drop place (declarations b (p - 1)))
+      (ordered-drop listedType place (declarations b (p - 1)) (declarations-in-order b (p - 1))))
 
   pub run-in-order : InOrder (write b p place .run)
-  run-in-order = go (ltb (length (declared b p)) place) refl
-    where
-      go : (t : Bool) → ltb (length (declared b p)) place ≡ t → InOrder (write b p place .run)
-      go true e = rw (write-above (ltb-true (length (declared b p)) place e)) tt
-      go false e =
-          rw (write-from (ltb-false (length (declared b p)) place e))
-          (order-take (takes (drop place (declared b p))) (drop place (declared b p)) rest-in-order)
+  run-in-order = either (λ w. InOrder (w .run)) tt (order-take (takes due rest) rest rest-in-order)
 
-  pub run-fits : length (pduOctets (write b p place .run)) ≤ longestPdu
-  run-fits = go (ltb (length (declared b p)) place) refl
-    where
-      go : (t : Bool) → ltb (length (declared b p)) place ≡ t → length (pduOctets (write b p place .run)) ≤ longestPdu
-      go true e = rw (write-above (ltb-true (length (declared b p)) place e)) (omega (arith, ap length no-declarations))
-      go false e = rw (write-from (ltb-false (length (declared b p)) place e)) (takes-fits (drop place (declared b p)))
+  -- at most 1,500 octets
+  pub run-fits : length (pduOctets (write b p place .all) (write b p place .run)) ≤ longestPdu
+  run-fits = either (λ w. length (pduOctets (w .all) (w .run)) ≤ longestPdu) (omega (arith, ap length no-declarations)) (takes-fits due rest)
 
-  -- where declarations are left, one more would not have fitted
-  pub run-full : place ≤ length (declared b p) → write b p place .next < length (declared b p)
-      → longestPdu < length (pduOctets (take (suc (length (write b p place .run))) (drop place (declared b p))))
+  -- where something is left to say, one more would not have fitted
+  pub run-full : place ≤ length (declared b p) → length (write b p place .run) < length (toSay b p place)
+      → longestPdu < length (pduOctets (leavesAll b (p - 1)) (take (suc (length (write b p place .run))) (toSay b p place)))
   run-full h k =
-      let rest : List Declaration = drop place (declared b p) in
-      let left : takes rest < length rest = simp length-drop (omega (arith, ap (λ (w : Written). w .next) (write-from h))) in
-      rw (write-from h, length-take-le (takes rest) rest (takes-within rest)) (takes-full rest left)
+      let taken : length (write b p place .run) ≡ takes due rest =
+      ap (λ (w : Written). length (w .run)) (write-from h) ∙ length-take-le (takes due rest) rest (takes-within due rest) in
+      rw taken (takes-full due rest (omega (arith, k, taken)))
+
+  rest-few : FewStreams b → FewListeners rest
+  unfolding toSay declared sayOn
+  rest-few f =
+      let r = isRegistered b (p - 1) in
+      let l = drop place (declarations b (p - 1)) in
+      let whole : FewListeners (map (say due r) (declarations b (p - 1))) = declared-few b f due r (p - 1) in
+      let part : FewListeners (map (say due r) l) = rw (map-drop (say due r) place (declarations b (p - 1))) (few-parts place (map (say due r) (declarations b (p - 1))) whole .1) in
+      let some = few-saying due r (portWay b (p - 1) .says) l (part .ascending) in
+      record { few = omega (arith, some .0, part .few); ascending = some .1 }
 
   -- it is the longest run that fits
   pub write-longest : FewStreams b → place ≤ length (declared b p)
-      → Longest (pduFits (drop place (declared b p))) (length (drop place (declared b p))) (length (write b p place .run))
-  write-longest f h =
-      let rest : List Declaration = drop place (declared b p) in
-      rw (write-from h, length-take-le (takes rest) rest (takes-within rest)) (takes-longest rest (few-parts place (declared b p) (declared-few b f p) .1))
+      → Longest (pduFits (leavesAll b (p - 1)) (toSay b p place)) (length (toSay b p place)) (length (write b p place .run))
+  write-longest f h = rw (write-from h, length-take-le (takes due rest) rest (takes-within due rest)) (takes-longest due rest (rest-few f))
 
   -- and its Listeners are few
   pub run-few : FewStreams b → FewListeners (write b p place .run)
-  run-few f = go (ltb (length (declared b p)) place) refl
-    where
-      go : (t : Bool) → ltb (length (declared b p)) place ≡ t → FewListeners (write b p place .run)
-      go true e = rw (write-above (ltb-true (length (declared b p)) place e)) (unfold having in record { few = omega arith; ascending = unfold declaredIds in tt })
-      go false e =
-          let rest : List Declaration = drop place (declared b p) in
-          rw (write-from (ltb-false (length (declared b p)) place e)) (few-parts (takes rest) rest (few-parts place (declared b p) (declared-few b f p) .1) .0)
+  run-few f =
+      either (λ w. FewListeners (w .run)) (unfold having in record { few = omega arith; ascending = unfold declaredIds in tt })
+      (few-parts (takes due rest) rest (rest-few f) .0)
 
--- "At place = count it is 00 00 00"
-pub write-at-count : (b : Bridge) (p : ℕ) → write b p (length (declared b p)) ≡ record { number = 0; run = []; next = length (declared b p) }
+  -- the next place is a place of the list as the write leaves it
+  pub next-within : wroteOn b (p - 1) place .next ≤ length (wroteOn b (p - 1) place .list)
+  unfolding wroteOn writeFrom
+  next-within = rw (length-append (leftBefore (portWay b (p - 1)) _ place (declarations b (p - 1))) _) (omega arith)
+
+  -- a write that says nothing takes the 3 octets of no declaration, or the 106 of LeaveAll
+  pub run-none : toSay b p place ≡ [] → write b p place .run ≡ []
+  run-none e = either (λ w. w .run ≡ []) refl (rw e (take-nil (takes due [])))
+
+-- "At place = count it is 00 00 00", but for LeaveAll
+pub write-at-count : (b : Bridge) (p : ℕ) → write b p (length (declared b p)) .run ≡ []
 write-at-count b p =
-    write-from b p (length (declared b p)) (omega arith) ∙ rw (drop-length (declared b p)) (unfold takes fitting in (rw (longest-ends, add-zero)))
-
--- PDU after PDU.
-
--- what a port writes from a place on, each answer's next place being the next call's, up to the count. (The first argument
--- bounds the PDUs.)
-unfoldable pub writeAll : ℕ → Bridge → ℕ → ℕ → List (List Declaration)
-writeAll zero b p place = []
-writeAll (suc f) b p place =
-    let w = write b p place in
-    cond (eqb place (length (declared b p))) [] (w .run ∷ writeAll f b p (w .next))
-
--- a run, and what is left after it
-run-and-rest : (b : Bridge) (p place : ℕ) → place ≤ length (declared b p)
-    → write b p place .run ++ drop (write b p place .next) (declared b p) ≡ drop place (declared b p)
-run-and-rest b p place h =
-    let rest : List Declaration = drop place (declared b p) in
-    rw (write-from b p place h, ← drop-drop (takes rest) place (declared b p)) (take-append-drop (takes rest) rest)
-
-passes-from : (f : ℕ) (b : Bridge) (p place : ℕ) → place ≤ length (declared b p) → length (declared b p) ≤ place + f
-    → flatten (writeAll f b p place) ≡ drop place (declared b p)
-unfolding writeAll flatten
-passes-from zero b p place h k = sym (drop-of-length-le (declared b p) {i = place} (omega arith))
-passes-from (suc f) b p place h k =
-    go (eqb place (length (declared b p))) refl (passes-from f b p (write b p place .next) (next-within b p place h))
-  where
-    l : List Declaration
-    l = declared b p
-
-    next : ℕ
-    next = write b p place .next
-
-    go : (t : Bool) → eqb place (length l) ≡ t → (length l ≤ next + f → flatten (writeAll f b p next) ≡ drop next l)
-        → flatten (cond t [] (write b p place .run ∷ writeAll f b p next)) ≡ drop place l
-    go true e ih = sym (drop-of-length-le l {i = place} (omega (arith, eqb-true place (length l) e)))
-    go false e ih =
-        let apart : place ≡ length l → ⊥ = eqb-false place (length l) e in
-        let before : place < length l = omega arith in
-        rw (ih (omega (arith, next-further b p place before))) (run-and-rest b p place h)
-
--- the PDUs from place 0 on pass every declaration once, in order; there are not more of them than declarations
-pub passes-all : (b : Bridge) (p : ℕ) → flatten (writeAll (length (declared b p)) b p 0) ≡ declared b p
-passes-all b p = passes-from (length (declared b p)) b p 0 (omega arith) (omega arith)
-
--- a PDU of at least one declaration and at most 1,500 octets
-abbrev pub Filled : List Declaration → Type 0
-Filled run = (1 ≤ length run) × (length (pduOctets run) ≤ longestPdu)
-
-pub all-filled : (f : ℕ) (b : Bridge) (p place : ℕ) → place ≤ length (declared b p) → All Filled (writeAll f b p place)
-unfolding writeAll
-all-filled zero b p place h = tt
-all-filled (suc f) b p place h =
-    go (eqb place (length (declared b p))) refl (all-filled f b p (write b p place .next) (next-within b p place h))
-  where
-    rest : List (List Declaration)
-    rest = writeAll f b p (write b p place .next)
-
-    go : (t : Bool) → eqb place (length (declared b p)) ≡ t → All Filled rest → All Filled (cond t [] (write b p place .run ∷ rest))
-    go true e a = tt
-    go false e a =
-        let apart : place ≡ length (declared b p) → ⊥ = eqb-false place (length (declared b p)) e in
-        let before : place < length (declared b p) = omega arith in
-        ((omega (arith, next-further b p place before, next-place b p place h), run-fits b p place), a)
+    run-none b p (length (declared b p)) (unfold toSay in (ap (λ (l : List (Listed Declaration)). map (sayOn b (p - 1)) (saying (portWay b (p - 1) .says) l)) (drop-length (declared b p)) ∙ unfold saying in refl))

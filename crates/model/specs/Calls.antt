@@ -14,7 +14,7 @@ use Rattle.model.specs.Registrations.{Answer, received, receivedAddresse
 use Rattle.model.specs.Frames.{reading, wrongPort}
 use Rattle.model.specs.AddressFrames.{addressReading}
 use Rattle.model.specs.Settling.{StepName, noStep, advance}
-use Rattle.model.specs.Declarations.{Written, write}
+use Rattle.model.specs.Writing.{Written, write}
 use Rattle.model.specs.Reports.{Report, refusedReport, report}
 use Rattle.model.specs.Why.{Reason, reason, Sought, notHeld, heldAs, seek, listedOctets, listSize}
 use Rattle.model.specs.WrittenFrames.{pduOctets}
@@ -62,30 +62,31 @@ receiveMmrpOn t p pdu = onTable t (λ b. receiveMmrp b p pdu)
 unfoldable pub advanceOn : List ℕ → ℕ → Call
 advanceOn t now = onTable t (λ b. advance b now)
 
--- what write answers and leaves in the buffer: "Octets past the length stay"
+-- what write answers, and leaves in the buffer and in the table: "Octets past the length stay"; a refusal alters no octet of either
 pub record WriteCall : Type 0 where
   pub number : ℕ
   pub length : ℕ
   pub next : ℕ
   pub buffer : List ℕ
+  pub table : List ℕ
 
-unfoldable pub refusedWrite : ℕ → List ℕ → WriteCall
-refusedWrite n buffer = record { number = n; length = 0; next = 0; buffer = buffer }
+unfoldable pub refusedWrite : ℕ → List ℕ → List ℕ → WriteCall
+refusedWrite n t buffer = record { number = n; length = 0; next = 0; buffer = buffer; table = t }
 
-unfoldable pub writtenTo : List ℕ → Written → WriteCall
-writtenTo buffer w =
-    let pdu = pduOctets (w .run) in
+unfoldable pub writtenTo : List ℕ → List ℕ → Written → WriteCall
+writtenTo t buffer w =
+    let pdu = pduOctets (w .all) (w .run) in
     cond (eqb (w .number) 0)
-    record { number = 0; length = length pdu; next = w .next; buffer = pdu ++ drop (length pdu) buffer }
-    (refusedWrite (w .number) buffer)
+    record { number = 0; length = length pdu; next = w .next; buffer = pdu ++ drop (length pdu) buffer; table = encode (w .bridge) }
+    (refusedWrite (w .number) t buffer)
 
 unfoldable pub writeOn : List ℕ → ℕ → ℕ → List ℕ → WriteCall
 writeOn t p place buffer =
     let b = decode t in
-    cond (not (formed t)) (refusedWrite 12 buffer)
-    (cond (wrongPort (b .settings) p) (refusedWrite 1 buffer)
-    (cond (ltb (length buffer) longestPdu) (refusedWrite 10 buffer)
-    (writtenTo buffer (write b p place))))
+    cond (not (formed t)) (refusedWrite 12 t buffer)
+    (cond (wrongPort (b .settings) p) (refusedWrite 1 t buffer)
+    (cond (ltb (length buffer) longestPdu) (refusedWrite 10 t buffer)
+    (writtenTo t buffer (write b p place))))
 
 unfoldable pub reportOn : List ℕ → ℕ → ℕ → Report
 reportOn t p place =

@@ -2,7 +2,7 @@
 -- computed from them; and the lengths of MMRP.
 use Prim.Native.Nat.{ℕ}
 use mathlib.Core.List.{List, [], _∷_}
-use Rattle.model.specs.Layout.{sum, before}
+use Rattle.model.specs.Layout.{before, sum}
 
 -- Talker: StreamID, destination, VLAN, MaxFrameSize, MaxIntervalFrames, priority and rank, AccumulatedLatency, and more behind it
 abbrev pub talkerWidths : List ℕ → List ℕ

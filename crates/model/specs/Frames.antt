@@ -1,5 +1,5 @@
 -- The MSRPDU: octets read as vectors or refused with a number, and what the vectors ask for (01, "The PDU"; 10.8, 35.2.2).
-use mathlib.Core.List.{List, [], _∷_, _++_}
+use mathlib.Core.List.{List, [], _∷_, _++_, map}
 use mathlib.Core.Bool.{Bool, true, false, cond, not, _&&_, _||_}
 use Prim.Native.Nat.{ℕ, zero, suc, _+_, _-_, _*_, _/_, _%_}
 use lib.ListN.{length, getD}
@@ -8,8 +8,9 @@ use Rattle.octets.specs.Be.{beAt}
 use Rattle.octets.specs.Fields.{fields}
 use Rattle.octets.specs.Parts.{part}
 use Rattle.model.specs.FrameLayout.{advertiseLength, advertiseWidths, domainLength, domainWidths, failedLength, failedWidths, inFirstValue, listenerLength, listenerWidths, longestPdu}
-use Rattle.model.specs.State.{Fixed, TalkerType, talkerAdvertise, talkerFailed, askingFailed, ready, readyFailed, Settings}
-use Rattle.model.specs.Registrations.{Kind, advertises, faileds, listeners, Act, leaveAll, leave, talk, listen, ofDomain, leaveAllDomains, leaveDomain, joinDomain, Reading, refused, acts}
+use Rattle.model.specs.Machines.{Heard, heardIn, heardEmpty, heardLeave}
+use Rattle.model.specs.State.{Fixed, TalkerType, talkerAdvertise, talkerFailed, askingFailed, ready, readyFailed, Settings, slotOf}
+use Rattle.model.specs.Registrations.{Kind, advertises, faileds, listeners, Act, leaveAll, leave, talk, listen, hearAll, hear, ofDomain, leaveAllDomains, leaveDomain, joinDomain, hearAllDomains, hearDomain, Reading, refused, acts}
 
 -- Attribute types (Tables 35-1, 35-2).
 
@@ -331,23 +332,39 @@ listenerAct vs n nothingAsked f = []
 listenerAct vs n join f = hearing (idValue vs n) f
 listenerAct vs n withdraw f = cond (eqb f 0) [] (leave listeners (idValue vs n) ∷ [])
 
--- 02: "IDs 5 and 6, priorities 0 to 7; other values are checked and dropped": the slot of a class ID and a priority
+-- what an Applicant of the same AttributeType and key hears (02, xiv): "In and Mt count now"; rNew! moves nothing
+unfoldable pub heardOf : Event → List Heard
+heardOf new = []
+heardOf joinIn = heardIn ∷ []
+heardOf isIn = heardIn ∷ []
+heardOf joinMt = heardEmpty ∷ []
+heardOf mt = heardEmpty ∷ []
+heardOf lv = heardLeave ∷ []
+
+unfoldable pub talkerHeard : Kind → ℕ → Event → List Act
+talkerHeard k id e = map (hear k id) (heardOf e)
+
+-- "FourPackedType (but Ignore) .. don't matter"
+unfoldable pub listenerHeard : ℕ → Event → ℕ → List Act
+listenerHeard id e f = cond (eqb f 0) [] (map (hear listeners id) (heardOf e))
+
+-- 02: "IDs 5 and 6, priorities 0 to 7; other values are checked and dropped"
 unfoldable pub hasSlot : ℕ → ℕ → Bool
 hasSlot c q = leb 5 c && (leb c 6 && leb q 7)
-
-unfoldable pub slotOf : ℕ → ℕ → ℕ
-slotOf c q = (c - 5) * 8 + q
 
 unfoldable pub slotAct : ℕ → ℕ → Asking → List Act
 slotAct i vlan nothingAsked = []
 slotAct i vlan join = ofDomain (joinDomain i vlan) ∷ []
 slotAct i vlan withdraw = ofDomain (leaveDomain i) ∷ []
 
-unfoldable pub domainAct : List ℕ → ℕ → Asking → List Act
-domainAct vs n a =
+unfoldable pub slotHeard : ℕ → Event → List Act
+slotHeard i e = map (λ h. ofDomain (hearDomain i h)) (heardOf e)
+
+unfoldable pub domainAct : List ℕ → ℕ → Event → List Act
+domainAct vs n e =
     let c = getD vs 0 0 + n in
     let q = getD vs 1 0 + n in
-    cond (hasSlot c q) (slotAct (slotOf c q) (getD vs 2 0) a) []
+    cond (hasSlot c q) (slotAct (slotOf c q) (getD vs 2 0) (asking e) ++ slotHeard (slotOf c q) e) []
 
 unfoldable pub valueActs : Vector → ℕ → List Act
 valueActs v n = go (v .attribute)
@@ -356,10 +373,10 @@ valueActs v n = go (v .attribute)
     vs = fields (firstWidths (v .attribute)) 0 (v .first)
 
     go : Attribute → List Act
-    go (registers advertises) = talkerAct advertises vs n (asking (eventOf v n))
-    go (registers faileds) = talkerAct faileds vs n (asking (eventOf v n))
-    go (registers listeners) = listenerAct vs n (asking (eventOf v n)) (fourOf v n)
-    go domainType = domainAct vs n (asking (eventOf v n))
+    go (registers advertises) = talkerAct advertises vs n (asking (eventOf v n)) ++ talkerHeard advertises (idValue vs n) (eventOf v n)
+    go (registers faileds) = talkerAct faileds vs n (asking (eventOf v n)) ++ talkerHeard faileds (idValue vs n) (eventOf v n)
+    go (registers listeners) = listenerAct vs n (asking (eventOf v n)) (fourOf v n) ++ listenerHeard (idValue vs n) (eventOf v n) (fourOf v n)
+    go domainType = domainAct vs n (eventOf v n)
 
 -- the k values from value n on
 unfoldable pub valuesActs : Vector → ℕ → ℕ → List Act
@@ -368,9 +385,9 @@ valuesActs v n (suc k) = valueActs v n ++ valuesActs v (suc n) k
 
 -- "LeaveAll first starts leaving all registrations of that type on that port"
 unfoldable pub leaveAllActs : Attribute → Bool → List Act
-leaveAllActs (registers k) true = leaveAll k ∷ []
+leaveAllActs (registers k) true = leaveAll k ∷ hearAll k ∷ []
 leaveAllActs (registers k) false = []
-leaveAllActs domainType true = ofDomain leaveAllDomains ∷ []
+leaveAllActs domainType true = ofDomain leaveAllDomains ∷ ofDomain hearAllDomains ∷ []
 leaveAllActs domainType false = []
 
 unfoldable pub vectorActs : Vector → List Act

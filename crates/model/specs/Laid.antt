@@ -5,11 +5,13 @@ use mathlib.Core.List.{List, [], _∷_}
 use Prim.Native.Nat.{ℕ, _≤_, _<_, _^_}
 use lib.ListN.{length}
 use Rattle.octets.specs.Fields.{Fit}
-use Rattle.model.specs.Layout.{addressWidths, mostAddresses, cellWidths, nameWidths, portWidths, priorityBUnit, pruningUnit, resultWidths, slotWidths, slots, widthOf}
+use Rattle.model.specs.Layout.{addressWidths, cellWidths, failureWidths, mostAddresses, nameWidths, offerWidths, portWidths, priorityBUnit, pruningUnit, resultWidths, slotWidths, slots, widthOf}
 use Rattle.model.specs.Lists.{All}
-use Rattle.model.specs.State.{Settings, Talker, noTalker, talker, Cell, Address, Own, Result, Stream, Totals, Bridge}
+use Rattle.model.specs.Machines.{Applicant, noApplicant, applicant}
+use Rattle.model.specs.State.{Settings, Talker, noTalker, talker, Cell, Address, Own, Result, Offer, Failure, Sends, Sender, Stream, Totals, Bridge}
 use Rattle.model.specs.Registrations.{ids, macs}
 use Rattle.model.specs.WrittenFrames.{fixedNumbers}
+use Rattle.model.specs.Sending.{offerNumbers, sendsOctets, senderOctets}
 use Rattle.model.specs.Table.{addressNumbers, addressOctets, cellNumbers, cellOctets, domainNumbers, domainOctets, ownOctets, resultNumbers, resultOctets, portNumbers, encode}
 
 -- a rank is one bit: it shares its octet with the priority, so that the octet's width alone does not say it
@@ -24,6 +26,27 @@ pub record FitCell (c : Cell) : Type 0 where
 abbrev pub FitResult : Result → Type 0
 FitResult r = Fit resultWidths (resultNumbers r)
 
+-- what a port sends of a stream
+pub record FitOffer (x : Offer) : Type 0 where
+  pub numbers : Fit offerWidths (offerNumbers x)
+  pub rank : x .fixed .rank < 2
+
+abbrev pub FitFailure : Failure → Type 0
+FitFailure x = Fit failureWidths (x .bridge ∷ x .code ∷ [])
+
+abbrev pub FitApplicant : {D : Type 0} → (D → Type 0) → Applicant D → Type 0
+FitApplicant Fits noApplicant = Unit {0}
+FitApplicant Fits (applicant x) = Fits (x .value)
+
+pub record FitSends (x : Sends) : Type 0 where
+  pub advertising : FitApplicant FitOffer (x .advertising)
+  pub failing : FitApplicant (λ y. FitOffer (y .0) × FitFailure (y .1)) (x .failing)
+
+-- and by itself
+pub record FitSender (x : Sender) : Type 0 where
+  pub slotted : length (x .domains) ≡ slots
+  pub start : x .leaveAll .start < 2 ^ 32
+
 pub record FitStream (x : Stream) : Type 0 where
   pub name : Fit nameWidths (x .id ∷ fixedNumbers (x .settled))
   pub rank : x .settled .rank < 2
@@ -31,6 +54,8 @@ pub record FitStream (x : Stream) : Type 0 where
   pub cells : All FitCell (x .cells)
   pub eight-results : length (x .results) ≡ 8
   pub results : All FitResult (x .results)
+  pub eight-sends : length (x .sends) ≡ 8
+  pub sends : All FitSends (x .sends)
 
 -- StreamIDs rise, and addresses
 abbrev pub Ascending : List ℕ → Type 0
@@ -69,6 +94,8 @@ pub record FitBridge (b : Bridge) : Type 0 where
   pub totals : All FitTotals (b .totals)
   pub eight-owns : length (b .owns) ≡ 8
   pub owns : All FitOwn (b .owns)
+  pub eight-senders : length (b .senders) ≡ 8
+  pub senders : All FitSender (b .senders)
   pub at-most-64 : length (b .streams) ≤ 64
   pub streams : All FitStream (b .streams)
   pub ascending : Ascending (ids (b .streams))
@@ -85,6 +112,13 @@ LaidCell = LaidOut cellOctets FitCell
 
 abbrev pub LaidResult : List ℕ → Type 0
 LaidResult = LaidOut resultOctets FitResult
+
+-- of what a port sends of a stream, and by itself
+abbrev pub LaidSends : List ℕ → Type 0
+LaidSends = LaidOut sendsOctets FitSends
+
+abbrev pub LaidSender : List ℕ → Type 0
+LaidSender = LaidOut senderOctets FitSender
 
 -- of a Domain value, of an address, of what a port holds
 abbrev pub LaidDomain : List ℕ → Type 0

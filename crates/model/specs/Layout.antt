@@ -80,6 +80,22 @@ cellWidths = 1 ∷ 1 ∷ 1 ∷ 4 ∷ 6 ∷ 2 ∷ 2 ∷ 2 ∷ 1 ∷ 4 ∷ 8 ∷ 1
 abbrev pub resultWidths : List ℕ
 resultWidths = 1 ∷ 4 ∷ 8 ∷ 1 ∷ 1 ∷ 4 ∷ 1 ∷ []
 
+-- what a port sends of a stream (02, xiv): an Applicant is one octet of its state, then the values last declared. Of an Advertise they are
+-- destination, VLAN, MaxFrameSize, MaxIntervalFrames, priority and rank, latency out, in the order of a FirstValue; of a Failed these, Bridge
+-- ID and code; of a Listener its declaration type
+abbrev pub applicantWidths : List ℕ
+applicantWidths = 1 ∷ []
+
+abbrev pub offerWidths : List ℕ
+offerWidths = 6 ∷ 2 ∷ 2 ∷ 2 ∷ 1 ∷ 4 ∷ []
+
+abbrev pub readyWidths : List ℕ
+readyWidths = 1 ∷ []
+
+-- a port's LeaveAll machine: active, the clock at which its timer was started
+abbrev pub leaveAllWidths : List ℕ
+leaveAllWidths = 1 ∷ 4 ∷ []
+
 -- Sizes.
 
 abbrev pub headSize : ℕ
@@ -151,8 +167,44 @@ resultSize = sum resultWidths
 abbrev pub resultsSize : ℕ
 resultsSize = 8 * resultSize
 
+-- the values of an Advertise, of a Failed, of a Listener; and with the octet of the Applicant's state
+abbrev pub applicantSize : ℕ
+applicantSize = sum applicantWidths
+
+abbrev pub offerSize : ℕ
+offerSize = sum offerWidths
+
+abbrev pub failedSize : ℕ
+failedSize = offerSize + failureSize
+
+abbrev pub readySize : ℕ
+readySize = sum readyWidths
+
+abbrev pub advertisingSize : ℕ
+advertisingSize = applicantSize + offerSize
+
+abbrev pub failingSize : ℕ
+failingSize = applicantSize + failedSize
+
+abbrev pub listeningSize : ℕ
+listeningSize = applicantSize + readySize
+
+-- what a port sends of a stream
+abbrev pub sendsSize : ℕ
+sendsSize = advertisingSize + (failingSize + listeningSize)
+
+abbrev pub allSendsSize : ℕ
+allSendsSize = 8 * sendsSize
+
+-- what a port sends by itself: an Applicant for each Domain value, and its LeaveAll machine
+abbrev pub senderSize : ℕ
+senderSize = slots * applicantSize + sum leaveAllWidths
+
+abbrev pub sendersSize : ℕ
+sendersSize = 8 * senderSize
+
 abbrev pub recordSize : ℕ
-recordSize = nameSize + cellsSize + resultsSize
+recordSize = nameSize + cellsSize + resultsSize + allSendsSize
 
 abbrev pub recordsSize : ℕ
 recordsSize = 64 * recordSize
@@ -163,23 +215,24 @@ recordsSize = 64 * recordSize
 abbrev pub inHead : record { word : ℕ; vlan : ℕ; fanIn : ℕ }
 inHead = record { word = before 1 headWidths; vlan = before 2 headWidths; fanIn = before 3 headWidths }
 
--- Places in the table: the settings of the ports, the clock, the number of streams held, the totals, what the ports hold by
--- themselves, the records.
+-- Places in the table: the settings of the ports, the clock, the number of streams held, the totals, what the ports hold and
+-- what they send by themselves, the records.
 
-abbrev pub inTable : record { ports : ℕ; clock : ℕ; count : ℕ; totals : ℕ; owns : ℕ; records : ℕ }
+abbrev pub inTable : record { ports : ℕ; clock : ℕ; count : ℕ; totals : ℕ; owns : ℕ; senders : ℕ; records : ℕ }
 inTable = record {
   ports = headSize;
   clock = settingsSize;
   count = settingsSize + before 1 clockWidths;
   totals = settingsSize + clockSize;
   owns = settingsSize + clockSize + totalsSize;
-  records = settingsSize + clockSize + totalsSize + ownsSize;
+  senders = settingsSize + clockSize + totalsSize + ownsSize;
+  records = settingsSize + clockSize + totalsSize + ownsSize + sendersSize;
 }
 
 abbrev pub tableLength : ℕ
 tableLength = inTable.records + recordsSize
 
--- the settings, the totals and what is held of the port at place p, the record of stream k
+-- the settings, the totals, what is held and what is sent by the port at place p, the record of stream k
 abbrev pub portPlace : ℕ → ℕ
 portPlace p = inTable.ports + p * portSize
 
@@ -188,6 +241,9 @@ totalPlace p = inTable.totals + p * totalSize
 
 abbrev pub ownPlace : ℕ → ℕ
 ownPlace p = inTable.owns + p * ownSize
+
+abbrev pub senderPlace : ℕ → ℕ
+senderPlace p = inTable.senders + p * senderSize
 
 abbrev pub recordPlace : ℕ → ℕ
 recordPlace k = inTable.records + k * recordSize
@@ -213,10 +269,24 @@ addressIn i = inOwn.addresses + i * addressSize
 abbrev pub slotPlace : ℕ → ℕ → ℕ
 slotPlace p i = ownPlace p + slotIn i
 
--- Places in a record: the settled values and their priority, the cells and the results.
+-- Places in what a port sends by itself: the Applicant of slot i, the LeaveAll machine and its timer.
 
-abbrev pub inRecord : record { settled : ℕ; priority : ℕ; cells : ℕ; results : ℕ }
-inRecord = record { settled = before 1 nameWidths; priority = before 5 nameWidths; cells = nameSize; results = nameSize + cellsSize }
+abbrev pub applicantIn : ℕ → ℕ
+applicantIn i = i * applicantSize
+
+abbrev pub inSender : record { leaveAll : ℕ; timer : ℕ }
+inSender = record { leaveAll = slots * applicantSize; timer = slots * applicantSize + before 1 leaveAllWidths }
+
+-- Places in a record: the settled values and their priority, the cells, the results and what is sent.
+
+abbrev pub inRecord : record { settled : ℕ; priority : ℕ; cells : ℕ; results : ℕ; sends : ℕ }
+inRecord = record {
+  settled = before 1 nameWidths;
+  priority = before 5 nameWidths;
+  cells = nameSize;
+  results = nameSize + cellsSize;
+  sends = nameSize + cellsSize + resultsSize;
+}
 
 abbrev pub cellIn : ℕ → ℕ
 cellIn p = inRecord.cells + p * cellSize
@@ -224,7 +294,15 @@ cellIn p = inRecord.cells + p * cellSize
 abbrev pub resultIn : ℕ → ℕ
 resultIn p = inRecord.results + p * resultSize
 
--- Places in the table of stream k's settled values, and of its cell and its result on the port at place p.
+abbrev pub sendsIn : ℕ → ℕ
+sendsIn p = inRecord.sends + p * sendsSize
+
+-- Places in what is sent of a stream on a port: the Applicants of its Advertise, its Failed and its Listener.
+
+abbrev pub inSends : record { advertising : ℕ; failing : ℕ; listening : ℕ }
+inSends = record { advertising = 0; failing = advertisingSize; listening = advertisingSize + failingSize }
+
+-- Places in the table of stream k's settled values, and of its cell, its result and what is sent of it on the port at place p.
 
 abbrev pub settledOf : ℕ → ℕ
 settledOf k = recordPlace k + inRecord.settled
@@ -234,6 +312,9 @@ cellPlace k p = recordPlace k + cellIn p
 
 abbrev pub resultPlace : ℕ → ℕ → ℕ
 resultPlace k p = recordPlace k + resultIn p
+
+abbrev pub sendsPlace : ℕ → ℕ → ℕ
+sendsPlace k p = recordPlace k + sendsIn p
 
 -- Places in a port's settings, and in its totals.
 

@@ -18,7 +18,8 @@ pub mod Declarations
 pub mod Reports
 pub mod Why
 pub mod WrittenFrames
-pub mod Table
+pub mod Writing
 pub mod Sending
+pub mod Table
 pub mod Calls
 pub mod Laid

@@ -15,6 +15,11 @@ unfoldable pub allTrue : List Bool → Bool
 allTrue [] = true
 allTrue (b ∷ l) = b && allTrue l
 
+-- numbers that are all zero
+unfoldable pub allZero : List ℕ → Bool
+allZero [] = true
+allZero (n ∷ l) = eqb n 0 && allZero l
+
 -- a test that is asked for only where another holds
 abbrev pub implies : Bool → Bool → Bool
 implies a b = cond a b true

@@ -5,17 +5,23 @@ use Prim.Native.Nat.{ℕ, zero, suc, _-_}
 use lib.ListN.{length}
 use lib.Dec.{ltb, leb, eqb}
 use Rattle.model.specs.Layout.{mostAddresses}
-use Rattle.model.specs.State.{Leaving, stays, since, Presence, vacant, present, Address, Fixed, TalkerType, talkerAdvertise, talkerFailed, Varying, Registration, Talker, noTalker, talker, Ready, Listener, noListener, listener, Cell, Domain, noDomain, domain, Own, Stream, Bridge, fresh, ownAt}
+use Rattle.model.specs.Applicant.{Standing, becomes}
+use Rattle.model.specs.Machines.{Applicant, Heard, heardLeave, heardEvent, moved, heard}
+use Rattle.model.specs.LeaveAll.{rLA, leaveAllNext}
+use Rattle.model.specs.State.{Leaving, stays, since, Presence, vacant, present, Address, Fixed, TalkerType, talkerAdvertise, talkerFailed, Varying, Registration, Talker, noTalker, talker, Ready, Listener, noListener, listener, Cell, Domain, noDomain, domain, Own, Sends, Sender, Stream, Bridge, fresh, ownAt}
 
 -- the AttributeTypes that register a stream
 pub data Kind : Type 0 where
   advertises faileds listeners : Kind
 
--- what one event of a Domain value asks for; a value is named by its slot among a port's Domain values
+-- what one event of a Domain value asks for; a value is named by its slot among a port's Domain values. The last two are heard by
+-- Applicants.
 pub data DomainAct : Type 0 where
   leaveAllDomains : DomainAct
   leaveDomain : (slot : ℕ) → DomainAct
   joinDomain : (slot vlan : ℕ) → DomainAct
+  hearAllDomains : DomainAct
+  hearDomain : (slot : ℕ) → Heard → DomainAct
 
 -- what one event of a MAC address asks for (02, vi: "the same Registrar rules")
 pub data AddressAct : Type 0 where
@@ -28,12 +34,14 @@ pub data AddressReading : Type 0 where
   refusedFrame : ℕ → AddressReading
   addressActs : List AddressAct → AddressReading
 
--- what one event of a frame asks for
+-- what one event of a frame asks for: of Registrars, and (`hear`, `hearAll`) of the Applicants of that AttributeType and key
 pub data Act : Type 0 where
   leaveAll : Kind → Act
   leave : Kind → (id : ℕ) → Act
   talk : (id : ℕ) → Fixed → Varying → Act
   listen : (id : ℕ) → Ready → Act
+  hearAll : Kind → Act
+  hear : Kind → (id : ℕ) → Heard → Act
   ofDomain : DomainAct → Act
 
 -- "if already leaving, by Lv or LeaveAll, the first time stays"
@@ -97,7 +105,52 @@ does now (leaveAll k) c = quit now k c
 does now (leave k i) c = quit now k c
 does now (talk i f v) c = record { talks = joinTalker f v (c .talks); hears = c .hears }
 does now (listen i r) c = record { talks = c .talks; hears = listener r stays }
+does now (hearAll k) c = c
+does now (hear k i h) c = c
 does now (ofDomain a) c = c
+
+-- a stream's Applicant of a type on one port moved
+unfoldable pub moveKind : Kind → (Standing → List Standing) → Sends → Sends
+moveKind advertises f s = record { advertising = moved f (s .advertising); failing = s .failing; listening = s .listening }
+moveKind faileds f s = record { advertising = s .advertising; failing = moved f (s .failing); listening = s .listening }
+moveKind listeners f s = record { advertising = s .advertising; failing = s .failing; listening = moved f (s .listening) }
+
+unfoldable pub hears : Kind → Heard → Sends → Sends
+hears k h s = moveKind k (becomes false (heardEvent h)) s
+
+-- what an act does to the one place of what is sent that it is about: "Key: AttributeType and StreamID"
+unfoldable pub moves : Act → Sends → Sends
+moves (leaveAll k) s = s
+moves (leave k i) s = s
+moves (talk i f v) s = s
+moves (listen i r) s = s
+moves (hearAll k) s = hears k heardLeave s
+moves (hear k i h) s = hears k h s
+moves (ofDomain a) s = s
+
+-- Whether a Registrar is IN: held, and not leaving.
+
+unfoldable pub isStaying : Leaving → Bool
+isStaying stays = true
+isStaying (since t) = false
+
+unfoldable pub talkerStays : Kind → Talker → Bool
+talkerStays k noTalker = false
+talkerStays k (talker r) = talksAs k (r .varying .type) && isStaying (r .leaving)
+
+unfoldable pub listenerStays : Listener → Bool
+listenerStays noListener = false
+listenerStays (listener r l) = isStaying l
+
+unfoldable pub domainStays : Domain → Bool
+domainStays noDomain = false
+domainStays (domain v l) = isStaying l
+
+-- of an AttributeType in a cell
+unfoldable pub registeredIn : Kind → Cell → Bool
+registeredIn advertises c = talkerStays advertises (c .talks)
+registeredIn faileds c = talkerStays faileds (c .talks)
+registeredIn listeners c = listenerStays (c .hears)
 
 -- a list with what stands at place p changed
 unfoldable pub at : {A : Type 0} → ℕ → (A → A) → List A → List A
@@ -105,32 +158,34 @@ at p u [] = []
 at zero u (c ∷ cs) = u c ∷ cs
 at (suc p) u (c ∷ cs) = c ∷ at p u cs
 
--- only registrations change: StreamID and results stay
-unfoldable pub change : (List Cell → List Cell) → Stream → Stream
-change u x = record { id = x .id; settled = x .settled; cells = u (x .cells); results = x .results }
+-- only registrations and Applicants change: StreamID and results stay
+unfoldable pub change : (List Cell → List Cell) → (List Sends → List Sends) → Stream → Stream
+change u m x = record { id = x .id; settled = x .settled; cells = u (x .cells); results = x .results; sends = m (x .sends) }
 
 -- the stream i changed; where it is not held, a join makes it, in its place by StreamID, and anything else does nothing
-unfoldable pub begun : Bool → ℕ → (List Cell → List Cell) → List Stream → List Stream
-begun true i u s = change u (fresh i) ∷ s
+unfoldable pub begun : Bool → ℕ → (Stream → Stream) → List Stream → List Stream
+begun true i u s = u (fresh i) ∷ s
 begun false i u s = s
 
-unfoldable pub touch : Bool → ℕ → (List Cell → List Cell) → List Stream → List Stream
+unfoldable pub touch : Bool → ℕ → (Stream → Stream) → List Stream → List Stream
 touch join i u [] = begun join i u []
 touch join i u (x ∷ s) =
     cond (ltb i (x .id)) (begun join i u (x ∷ s))
-    (cond (eqb i (x .id)) (change u x ∷ s) (x ∷ touch join i u s))
+    (cond (eqb i (x .id)) (u x ∷ s) (x ∷ touch join i u s))
 
 -- which streams an act is about
-unfoldable pub reach : Act → (List Cell → List Cell) → List Stream → List Stream
-reach (leaveAll k) u s = map (change u) s
+unfoldable pub reach : Act → (Stream → Stream) → List Stream → List Stream
+reach (leaveAll k) u s = map u s
 reach (leave k i) u s = touch false i u s
 reach (talk i f v) u s = touch true i u s
 reach (listen i r) u s = touch true i u s
+reach (hearAll k) u s = map u s
+reach (hear k i h) u s = touch false i u s
 reach (ofDomain a) u s = s
 
 -- an act on the port at place p, at time now; then the acts of a frame, in their order
 unfoldable pub apply : ℕ → ℕ → Act → List Stream → List Stream
-apply now p a s = reach a (at p (does now a)) s
+apply now p a s = reach a (change (at p (does now a)) (at p (moves a))) s
 
 unfoldable pub applyAll : ℕ → ℕ → List Act → List Stream → List Stream
 applyAll now p [] s = s
@@ -147,6 +202,8 @@ unfoldable pub doesDomain : ℕ → DomainAct → List Domain → List Domain
 doesDomain now leaveAllDomains ds = map (quitDomain now) ds
 doesDomain now (leaveDomain i) ds = at i (quitDomain now) ds
 doesDomain now (joinDomain i v) ds = at i (λ d. domain v stays) ds
+doesDomain now hearAllDomains ds = ds
+doesDomain now (hearDomain i h) ds = ds
 
 -- only Domain values change: flags and addresses stay
 unfoldable pub changeDomains : (List Domain → List Domain) → Own → Own
@@ -158,11 +215,36 @@ applyOwn now p (leaveAll k) o = o
 applyOwn now p (leave k i) o = o
 applyOwn now p (talk i f v) o = o
 applyOwn now p (listen i r) o = o
+applyOwn now p (hearAll k) o = o
+applyOwn now p (hear k i h) o = o
 applyOwn now p (ofDomain a) o = at p (changeDomains (doesDomain now a)) o
 
 unfoldable pub applyOwns : ℕ → ℕ → List Act → List Own → List Own
 applyOwns now p [] o = o
 applyOwns now p (a ∷ es) o = applyOwns now p es (applyOwn now p a o)
+
+-- What a port sends by itself: Applicants of Domain values by class ID and priority; and "any type's" LeaveAll "stops and restarts the
+-- port's one LeaveAll machine" (rLA!).
+
+unfoldable pub hearsLeaveAll : ℕ → (List (Applicant (Unit {0})) → List (Applicant (Unit {0}))) → Sender → Sender
+hearsLeaveAll now u s = record { domains = u (s .domains); leaveAll = leaveAllNext now rLA (s .leaveAll) }
+
+unfoldable pub movesSender : ℕ → Act → Sender → Sender
+movesSender now (leaveAll k) s = s
+movesSender now (leave k i) s = s
+movesSender now (talk i f v) s = s
+movesSender now (listen i r) s = s
+movesSender now (hearAll k) s = hearsLeaveAll now (λ ds. ds) s
+movesSender now (hear k i h) s = s
+movesSender now (ofDomain leaveAllDomains) s = s
+movesSender now (ofDomain (leaveDomain i)) s = s
+movesSender now (ofDomain (joinDomain i v)) s = s
+movesSender now (ofDomain hearAllDomains) s = hearsLeaveAll now (map (heard heardLeave)) s
+movesSender now (ofDomain (hearDomain i h)) s = record { domains = at i (heard h) (s .domains); leaveAll = s .leaveAll }
+
+unfoldable pub applySenders : ℕ → ℕ → List Act → List Sender → List Sender
+applySenders now p [] l = l
+applySenders now p (a ∷ es) l = applySenders now p es (at p (movesSender now a) l)
 
 -- Receiving. A frame is refused with a number, or read as a list of acts, whatever is held.
 
@@ -176,10 +258,13 @@ pub record Answer : Type 0 where
   pub bridge : Bridge
 
 unfoldable pub holding : Bridge → List Stream → Bridge
-holding b s = record { settings = b .settings; clock = b .clock; totals = b .totals; owns = b .owns; streams = s }
+holding b s = record { settings = b .settings; clock = b .clock; totals = b .totals; owns = b .owns; senders = b .senders; streams = s }
 
 unfoldable pub owning : Bridge → List Own → Bridge
-owning b o = record { settings = b .settings; clock = b .clock; totals = b .totals; owns = o; streams = b .streams }
+owning b o = record { settings = b .settings; clock = b .clock; totals = b .totals; owns = o; senders = b .senders; streams = b .streams }
+
+unfoldable pub sending : Bridge → List Sender → Bridge
+sending b l = record { settings = b .settings; clock = b .clock; totals = b .totals; owns = b .owns; senders = l; streams = b .streams }
 
 -- a frame on port p, numbered from 1; 8: "streams held plus different new ones joined by this PDU exceed 64"
 unfoldable pub received : Bridge → ℕ → Reading → Answer
@@ -187,7 +272,8 @@ received b p (refused n) = record { number = n; bridge = b }
 received b p (acts es) =
     let s = applyAll (b .clock) (p - 1) es (b .streams) in
     let o = applyOwns (b .clock) (p - 1) es (b .owns) in
-    cond (leb (length s) 64) record { number = 0; bridge = owning (holding b s) o } record { number = 8; bridge = b }
+    let l = applySenders (b .clock) (p - 1) es (b .senders) in
+    cond (leb (length s) 64) record { number = 0; bridge = sending (owning (holding b s) o) l } record { number = 8; bridge = b }
 
 -- Addresses: "Up to 64 addresses per port are held with the same Registrar rules".
 
@@ -254,6 +340,8 @@ joins (leaveAll k ∷ es) = joins es
 joins (leave k i ∷ es) = joins es
 joins (talk i f v ∷ es) = i ∷ joins es
 joins (listen i r ∷ es) = i ∷ joins es
+joins (hearAll k ∷ es) = joins es
+joins (hear k i h ∷ es) = joins es
 joins (ofDomain a ∷ es) = joins es
 
 unfoldable pub asks : Reading → List ℕ

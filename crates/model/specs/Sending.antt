@@ -1,48 +1,19 @@
 -- What a port sends, as octets and back (docs/TABLE.md): an Applicant is one octet of its state, then the values last declared, zeros
 -- where there is none. The number behind a rule is its number in docs/TABLE.md.
 use mathlib.Core.List.{List, [], _∷_, _++_}
-use mathlib.Core.Bool.{Bool, true, false, cond, _&&_}
+use mathlib.Core.Bool.{Bool, true, false, cond, _&&_, _||_}
 use Prim.Native.Nat.{ℕ, zero, suc, _+_, _%_}
 use lib.ListN.{getD, take, drop}
-use lib.Dec.{eqb, leb}
+use lib.Dec.{eqb, leb, ltb}
 use Rattle.octets.specs.Parts.{zeros}
-use Rattle.octets.specs.Fields.{fields, packed}
-use Rattle.model.specs.Layout.{failureWidths, sum}
+use Rattle.octets.specs.Fields.{fields, packed, flat}
+use Rattle.model.specs.Layout.{advertisingSize, applicantSize, failedSize, failingSize, failureWidths, inSender, leaveAllWidths, offerSize, offerWidths, readySize, slots}
+use Rattle.model.specs.Lists.{allZero, parts}
 use Rattle.model.specs.Applicant.{Standing, veryAnxiousPassive, veryAnxiousNew, anxiousNew, anxiousActive, quietActive, leavingActive, named, octetOf}
-use Rattle.model.specs.Machines.{Listed, Applicant, noApplicant, applicant}
-use Rattle.model.specs.State.{Ready, Offer, Failure, Sends, readyNumber}
-use Rattle.model.specs.WrittenFrames.{fixedNumbers}
-use Rattle.model.specs.Table.{allZero, fixedFrom, toReady}
-
--- Widths and sizes.
-
--- the values of an Advertise: destination, VLAN, MaxFrameSize, MaxIntervalFrames, priority and rank, latency; Failed has Bridge ID and
--- code behind them
-abbrev pub offerWidths : List ℕ
-offerWidths = 6 ∷ 2 ∷ 2 ∷ 2 ∷ 1 ∷ 4 ∷ []
-
-abbrev pub offerSize : ℕ
-offerSize = sum offerWidths
-
-abbrev pub failedSize : ℕ
-failedSize = offerSize + sum failureWidths
-
--- of a Listener its declaration type
-abbrev pub readySize : ℕ
-readySize = 1
-
--- an Applicant is one octet more
-abbrev pub advertisingSize : ℕ
-advertisingSize = 1 + offerSize
-
-abbrev pub failingSize : ℕ
-failingSize = 1 + failedSize
-
-abbrev pub listeningSize : ℕ
-listeningSize = 1 + readySize
-
-abbrev pub sendsSize : ℕ
-sendsSize = advertisingSize + (failingSize + listeningSize)
+use Rattle.model.specs.Machines.{Applicant, noApplicant, applicant}
+use Rattle.model.specs.LeaveAll.{LeaveAllState, active, passive, LeaveAll, leaveAllTime}
+use Rattle.model.specs.State.{Ready, Offer, Failure, Sends, Sender, readyNumber}
+use Rattle.model.specs.WrittenFrames.{fixedNumbers, fixedFrom, toReady}
 
 -- a state in an octet: VP, VN, AN, AA, QA, LA
 unfoldable pub standingNumber : Standing → ℕ
@@ -141,5 +112,46 @@ sendsFormed s =
     applicantFormed offerFormed (take advertisingSize s)
     && (applicantFormed failedFormed (take failingSize (drop advertisingSize s)) && applicantFormed readyFormed (drop failingSize (drop advertisingSize s)))
 
-unfoldable pub noSends : Sends
-noSends = record { advertising = noApplicant; failing = noApplicant; listening = noApplicant }
+-- What a port sends by itself: the Applicants of its Domain values, and its LeaveAll machine.
+
+unfoldable pub domainApplicant : Applicant (Unit {0}) → List ℕ
+domainApplicant a = applicantOctets 0 (λ u. []) a
+
+unfoldable pub toDomainApplicant : List ℕ → Applicant (Unit {0})
+toDomainApplicant s = toApplicant (λ r. tt) s
+
+unfoldable pub activeNumber : LeaveAllState → ℕ
+activeNumber active = 1
+activeNumber passive = 0
+
+unfoldable pub toActive : ℕ → LeaveAllState
+toActive n = cond (eqb n 1) active passive
+
+unfoldable pub leaveAllOctets : LeaveAll → List ℕ
+leaveAllOctets m = packed leaveAllWidths (activeNumber (m .state) ∷ m .start ∷ [])
+
+unfoldable pub toLeaveAll : List ℕ → LeaveAll
+toLeaveAll s = record { state = toActive (getD (fields leaveAllWidths 0 s) 0 0); start = getD (fields leaveAllWidths 0 s) 1 0 }
+
+unfoldable pub senderOctets : Sender → List ℕ
+senderOctets x = flat domainApplicant (x .domains) ++ leaveAllOctets (x .leaveAll)
+
+unfoldable pub toSender : List ℕ → Sender
+toSender s = record { domains = parts applicantSize toDomainApplicant slots (take inSender.leaveAll s); leaveAll = toLeaveAll (drop inSender.leaveAll s) }
+
+-- the Applicant of a slot is VP, AA or QA where the port declares the slot's Domain value, else 0 (48): New! and Lv! are never raised
+unfoldable pub domainStanding : Bool → ℕ → Bool
+domainStanding own n = cond own (eqb n 1 || (eqb n 4 || eqb n 5)) (eqb n 0)
+
+unfoldable pub slotsStanding : (ℕ → Bool) → ℕ → List ℕ → Bool
+slotsStanding own i [] = true
+slotsStanding own i (n ∷ s) = domainStanding (own i) n && slotsStanding own (suc i) s
+
+-- the LeaveAll flag is 0 or 1 (49); its timer was started at most at the clock, and less than LeaveAllTime before it (50)
+unfoldable pub leaveAllFormed : ℕ → List ℕ → Bool
+leaveAllFormed clock s =
+    let vs = fields leaveAllWidths 0 s in
+    leb (getD vs 0 0) 1 && (leb (getD vs 1 0) clock && ltb clock (getD vs 1 0 + leaveAllTime))
+
+unfoldable pub senderFormed : (ℕ → Bool) → ℕ → List ℕ → Bool
+senderFormed own clock s = slotsStanding own 0 (take inSender.leaveAll s) && leaveAllFormed clock (drop inSender.leaveAll s)

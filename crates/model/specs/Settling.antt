@@ -5,11 +5,13 @@ use Prim.Native.Nat.{ℕ, suc, _+_, _/_}
 use lib.ListN.{take, drop}
 use lib.Dec.{ltb, leb, eqb}
 use Rattle.model.specs.Lists.{keep, tabulate, countTo}
-use Rattle.model.specs.State.{Port, Settings, Leaving, stays, since, Fixed, TalkerType, talkerAdvertise, talkerFailed, Registration, Talker, noTalker, talker, Ready, askingFailed, ready, readyFailed, Listener, noListener, listener, Cell, Domain, noDomain, domain, Presence, vacant, present, Address, Own, Column, none, advertise, failed, Entry, noEntry, filters, forwards, Declared, nothing, tells, Result, Stream, Totals, Bridge, noFixed, portAt, isPort, cellAt, resultAt, ownAt, Class, noClass, classA, classB, classOf, isNoClass, sameClass, supports, inForce, classLatency, classPriority, readyNumber}
-use Rattle.model.specs.Registrations.{Answer}
+use Rattle.model.specs.State.{Port, Settings, Leaving, stays, since, Fixed, TalkerType, talkerAdvertise, talkerFailed, Registration, Talker, noTalker, talker, Ready, askingFailed, ready, readyFailed, Listener, noListener, listener, Cell, Domain, noDomain, domain, Presence, vacant, present, Address, Own, Column, none, advertise, failed, Entry, noEntry, filters, forwards, Declared, nothing, tells, Offer, Failure, Sends, Sender, Result, Stream, Totals, Bridge, noFixed, portAt, isPort, cellAt, resultAt, sendsAt, senderAt, ownAt, Class, noClass, classA, classB, classOf, isNoClass, sameClass, supports, inForce, classLatency, classPriority, readyNumber}
+use Rattle.model.specs.Machines.{Applicant, noApplicant, applicant, Decided, undeclared, declared, decided}
+use Rattle.model.specs.LeaveAll.{timedOut}
+use Rattle.model.specs.Registrations.{Answer, sameFixed}
 use Rattle.model.specs.Bandwidth.{Claim, demand, rateOf, fits, remains, total}
 
--- Removal: "removes every registration leaving for at least the leave time, drops unheld streams".
+-- Removal: "removes every registration leaving for at least the leave time".
 
 unfoldable pub expired : Settings → ℕ → Leaving → Bool
 expired st now stays = false
@@ -27,7 +29,7 @@ unfoldable pub expireCell : Settings → ℕ → Cell → Cell
 expireCell st now c = record { talks = expireTalker st now (c .talks); hears = expireListener st now (c .hears) }
 
 unfoldable pub expire : Settings → ℕ → Stream → Stream
-expire st now x = record { id = x .id; settled = x .settled; cells = map (expireCell st now) (x .cells); results = x .results }
+expire st now x = record { id = x .id; settled = x .settled; cells = map (expireCell st now) (x .cells); results = x .results; sends = x .sends }
 
 unfoldable pub isTalking : Cell → Bool
 isTalking c = elim (c .talks) [ noTalker ↦ false | talker r ↦ true ]
@@ -35,14 +37,34 @@ isTalking c = elim (c .talks) [ noTalker ↦ false | talker r ↦ true ]
 unfoldable pub isHearing : Cell → Bool
 isHearing c = elim (c .hears) [ noListener ↦ false | listener r l ↦ true ]
 
--- "A stream is held while some port has a registration of its StreamID"
+-- some port has a registration
 unfoldable pub held : List Cell → Bool
 held [] = false
 held (c ∷ cs) = isTalking c || isHearing c || held cs
 
+unfoldable pub isApplicant : {D : Type 0} → Applicant D → Bool
+isApplicant noApplicant = false
+isApplicant (applicant x) = true
+
+-- some port has a declaration, an unsent Lv included
+unfoldable pub isSending : Sends → Bool
+isSending s = isApplicant (s .advertising) || isApplicant (s .failing) || isApplicant (s .listening)
+
+unfoldable pub anySending : List Sends → Bool
+anySending [] = false
+anySending (s ∷ ss) = isSending s || anySending ss
+
+-- "A stream is held while some port has a registration of its StreamID", or an unsent Lv (02, xiv)
+unfoldable pub isHeld : Stream → Bool
+isHeld x = held (x .cells) || anySending (x .sends)
+
+unfoldable pub dropUnheld : List Stream → List Stream
+dropUnheld [] = []
+dropUnheld (x ∷ s) = keep (isHeld x) x (dropUnheld s)
+
+-- what remains of each stream; unheld ones are dropped at the end, when their Lv! was decided
 unfoldable pub remain : Settings → ℕ → List Stream → List Stream
-remain st now [] = []
-remain st now (x ∷ s) = keep (held (expire st now x .cells)) (expire st now x) (remain st now s)
+remain st now s = map (expire st now) s
 
 -- The Talker: "The Talker port t of a stream is the lowest port with a Talker registration"; with what is registered there.
 
@@ -438,7 +460,53 @@ decide sc now s x = record {
   settled = fixedOf (sourceOf x);
   cells = x .cells;
   results = tabulate 8 0 (decideAt sc now s x);
+  sends = x .sends;
 }
+
+-- Declarations (02, xiv): Join! of what is decided, Lv! of what is not. A port declares what its result says, with the settled values.
+
+unfoldable pub advertisedBy : Fixed → Result → Column → Decided Offer
+advertisedBy f r none = undeclared
+advertisedBy f r advertise = declared record { fixed = f; latency = r .latency }
+advertisedBy f r (failed b c) = undeclared
+
+unfoldable pub failedBy : Fixed → Result → Column → Decided (Offer × Failure)
+failedBy f r none = undeclared
+failedBy f r advertise = undeclared
+failedBy f r (failed b c) = declared (record { fixed = f; latency = r .latency }, record { bridge = b; code = c })
+
+unfoldable pub listenedBy : Declared → Decided Ready
+listenedBy nothing = undeclared
+listenedBy (tells r) = declared r
+
+-- "other content": any octet of a Talker's FirstValue, a Listener's declaration type
+unfoldable pub sameOffer : Offer → Offer → Bool
+sameOffer x y = sameFixed (x .fixed) (y .fixed) && eqb (x .latency) (y .latency)
+
+unfoldable pub sameFailed : Offer × Failure → Offer × Failure → Bool
+sameFailed x y = sameOffer (x .0) (y .0) && (eqb (x .1 .bridge) (y .1 .bridge) && eqb (x .1 .code) (y .1 .code))
+
+unfoldable pub declareSends : Fixed → Result → Sends → Sends
+declareSends f r s = record {
+  advertising = decided sameOffer (advertisedBy f r (r .column)) (s .advertising);
+  failing = decided sameFailed (failedBy f r (r .column)) (s .failing);
+  listening = decided sameReady (listenedBy (r .declares)) (s .listening);
+}
+
+unfoldable pub declare : Stream → Stream
+declare x = record {
+  id = x .id;
+  settled = x .settled;
+  cells = x .cells;
+  results = x .results;
+  sends = tabulate 8 0 (λ p. declareSends (x .settled) (resultAt x p) (sendsAt x p));
+}
+
+-- leavealltimer! of each port
+unfoldable pub timeSender : Settings → ℕ → List Sender → ℕ → Sender
+timeSender st now l p =
+    let s = senderAt l p in
+    cond (isPort st p) record { domains = s .domains; leaveAll = timedOut now (s .leaveAll) } s
 
 unfoldable pub totalOn : Scene → ℕ → List Stream → ℕ → Class → ℕ
 totalOn sc now s p c = total (limitOn sc now s p c) (claims sc now p c s)
@@ -446,9 +514,9 @@ totalOn sc now s p c = total (limitOn sc now s p c) (claims sc now p c s)
 unfoldable pub totalsOn : Scene → ℕ → List Stream → ℕ → Totals
 totalsOn sc now s p = record { totalA = totalOn sc now s p classA; totalB = totalOn sc now s p classB }
 
--- "Advance sets the clock, removes .., drops unheld streams, then decides"
-unfoldable pub settle : ℕ → Bridge → Bridge
-settle now b =
+-- "Advance sets the clock, removes every registration leaving for at least the leave time .., then decides"
+unfoldable pub deciding : ℕ → Bridge → Bridge
+deciding now b =
     let st = b .settings in
     let s = remain st now (b .streams) in
     let sc : Scene = record { settings = st; owns = decideOwns st now (b .owns); inbound = inboundsOf s } in
@@ -457,8 +525,23 @@ settle now b =
       clock = now;
       totals = tabulate 8 0 (totalsOn sc now s);
       owns = sc .owns;
+      senders = b .senders;
       streams = map (decide sc now s) s;
     }
+
+-- then Lv! and Join!, unheld streams are dropped, and last leavealltimer! (02, xiv)
+unfoldable pub declaring : Bridge → Bridge
+declaring b = record {
+  settings = b .settings;
+  clock = b .clock;
+  totals = b .totals;
+  owns = b .owns;
+  senders = tabulate 8 0 (timeSender (b .settings) (b .clock) (b .senders));
+  streams = dropUnheld (map declare (b .streams));
+}
+
+unfoldable pub settle : ℕ → Bridge → Bridge
+settle now b = declaring (deciding now b)
 
 -- 9: "time is below the held clock"
 unfoldable pub advance : Bridge → ℕ → Answer

@@ -1,12 +1,13 @@
 -- What a bridge holds: its settings, the registrations of each stream on each port, and what the last advance decided.
 use mathlib.Core.List.{List, []}
-use mathlib.Core.Bool.{Bool, true, false, cond}
-use Prim.Native.Nat.{ℕ, _+_, _-_}
+use mathlib.Core.Bool.{Bool, true, false, cond, _&&_, _||_}
+use Prim.Native.Nat.{ℕ, _+_, _-_, _*_}
 use lib.ListN.{getD, replicate, length}
 use lib.Dec.{ltb, eqb}
 use Rattle.model.specs.Layout.{slots}
-use Rattle.model.specs.Machines.{Applicant}
-use Rattle.model.specs.LeaveAll.{LeaveAll}
+use Rattle.model.specs.Lists.{tabulate}
+use Rattle.model.specs.Machines.{Applicant, noApplicant, born}
+use Rattle.model.specs.LeaveAll.{LeaveAll, begun}
 
 -- Settings (01, "Numbers given back": "Settings, fields most significant bit first"; 02, ii, vi and x).
 
@@ -157,13 +158,14 @@ pub record Sender : Type 0 where
   pub domains : List (Applicant (Unit {0}))
   pub leaveAll : LeaveAll
 
--- a held stream: its registrations and results on the eight ports that a table has room for, and the fixed values of its
--- Talker as the last advance took them
+-- a held stream: its registrations, its results and what is sent of it on the eight ports that a table has room for, and the fixed
+-- values of its Talker as the last advance took them
 pub record Stream : Type 0 where
   pub id : ℕ
   pub settled : Fixed
   pub cells : List Cell
   pub results : List Result
+  pub sends : List Sends
 
 pub record Totals : Type 0 where
   pub totalA : ℕ
@@ -175,6 +177,7 @@ pub record Bridge : Type 0 where
   pub clock : ℕ
   pub totals : List Totals
   pub owns : List Own
+  pub senders : List Sender
   pub streams : List Stream
 
 -- What is there before anything is registered or decided.
@@ -194,15 +197,17 @@ noTotals = record { totalA = 0; totalB = 0 }
 unfoldable pub noOwn : Own
 noOwn = record { domains = replicate slots noDomain; boundaryA = false; boundaryB = false; addresses = [] }
 
+unfoldable pub noSends : Sends
+noSends = record { advertising = noApplicant; failing = noApplicant; listening = noApplicant }
+
+unfoldable pub noSender : Sender
+noSender = record { domains = replicate slots noApplicant; leaveAll = begun 0 }
+
 unfoldable pub blank : List Cell
 blank = replicate 8 empty
 
 unfoldable pub fresh : ℕ → Stream
-fresh i = record { id = i; settled = noFixed; cells = blank; results = replicate 8 unsettled }
-
--- start: no streams, clock 0, nothing reserved, no Domain value, no boundary, no address
-unfoldable pub started : Settings → Bridge
-started st = record { settings = st; clock = 0; totals = replicate 8 noTotals; owns = replicate 8 noOwn; streams = [] }
+fresh i = record { id = i; settled = noFixed; cells = blank; results = replicate 8 unsettled; sends = replicate 8 noSends }
 
 -- Places. Ports are numbered from 1 by callers, and from 0 in lists.
 
@@ -238,6 +243,13 @@ streamAt k b = getD (b .streams) k (fresh 0)
 -- the totals of the port at place p
 abbrev pub totalsAt : ℕ → Bridge → Totals
 totalsAt p b = getD (b .totals) p noTotals
+
+-- what a port sends of a stream, and by itself
+unfoldable pub sendsAt : Stream → ℕ → Sends
+sendsAt x p = getD (x .sends) p noSends
+
+unfoldable pub senderAt : List Sender → ℕ → Sender
+senderAt l p = getD l p noSender
 
 -- what the port at place p holds by itself
 abbrev pub ownAt : List Own → ℕ → Own
@@ -296,3 +308,29 @@ unfoldable pub classId : Class → ℕ
 classId noClass = 0
 classId classA = 6
 classId classB = 5
+
+-- A Domain value's slot among those of a port: class ID 5 by priority, then 6 (02: "IDs 5 and 6, priorities 0 to 7").
+unfoldable pub slotOf : ℕ → ℕ → ℕ
+slotOf c q = (c - 5) * 8 + q
+
+-- "a Domain value per class it supports": the slot is that of a class that the port supports, with the bridge's priority
+unfoldable pub isOwnSlot : Settings → Port → Class → ℕ → Bool
+isOwnSlot st q c i = supports q c && eqb i (slotOf (classId c) (classPriority st c))
+
+unfoldable pub declaresSlot : Settings → ℕ → ℕ → Bool
+declaresSlot st p i = isOwnSlot st (portAt st p) classB i || isOwnSlot st (portAt st p) classA i
+
+-- start: no streams, clock 0, nothing reserved, no Domain value registered, no boundary, no address; Domain values are declared "from start
+-- on", and each LeaveAll timer is started
+unfoldable pub startedSender : Settings → ℕ → Sender
+startedSender st p = record { domains = tabulate slots 0 (λ i. cond (declaresSlot st p i) (born tt) noApplicant); leaveAll = begun 0 }
+
+unfoldable pub started : Settings → Bridge
+started st = record {
+  settings = st;
+  clock = 0;
+  totals = replicate 8 noTotals;
+  owns = replicate 8 noOwn;
+  senders = tabulate 8 0 (startedSender st);
+  streams = [];
+}

@@ -1,7 +1,7 @@
 -- The lent table and the settings, as octets and back, and the rules of their form (docs/TABLE.md; 01, "Numbers given back":
--- 11 and 12). A table is: settings, clock, streams held, totals of eight ports, what each of them holds by itself, 64 stream records.
--- A stream record is: StreamID, settled values, eight cells, eight results. What is not used is zero. The number behind a rule is its
--- number in docs/TABLE.md.
+-- 11 and 12). A table is: settings, clock, streams held, totals of eight ports, what each of them holds and what it sends by itself, 64
+-- stream records. A stream record is: StreamID, settled values, eight cells, eight results, what eight ports send. What is not used is
+-- zero. The number behind a rule is its number in docs/TABLE.md.
 use mathlib.Core.List.{List, [], _∷_, _++_}
 use mathlib.Core.Bool.{Bool, true, false, cond, not, _&&_, _||_}
 use Prim.Native.Nat.{ℕ, zero, suc, _+_, _*_, _-_, _/_, _%_}
@@ -10,12 +10,14 @@ use lib.Dec.{ltb, leb, eqb}
 use Rattle.octets.specs.Be.{beAt}
 use Rattle.octets.specs.Parts.{part, zeros}
 use Rattle.octets.specs.Fields.{fields, packed, flat}
-use Rattle.model.specs.Layout.{widthOf, addressSize, addressWidths, mostAddresses, inOwn, resultIndex, boundaryWidths, cellIndex, cellFields, cellSize, cellWidths, inRecord, cellsSize, inTable, clockWidths, inHead, headWidths, slotIndex, addressCountWidths, addressIndex, inCell, inAddress, nameWidths, ownSize, ownsSize, portPlace, portSize, portWidths, portsUnit, priorityAUnit, priorityBUnit, pruningUnit, recordSize, resultSize, resultWidths, resultsSize, settingsSize, slotSize, slotWidths, slots, slotsSize, tableLength, inTotals, totalSize, totalsSize, totalsWidths}
-use Rattle.model.specs.Lists.{allTrue, implies, parts, bit, isOne}
-use Rattle.model.specs.State.{Port, Settings, Leaving, stays, since, Fixed, TalkerType, talkerAdvertise, talkerFailed, Registration, Talker, noTalker, talker, Domain, noDomain, domain, Presence, vacant, present, Address, Own, Ready, askingFailed, ready, readyFailed, Listener, noListener, listener, Cell, Column, none, advertise, failed, Entry, noEntry, filters, forwards, Declared, nothing, tells, Result, Stream, Totals, Bridge, classB, inForce, readyNumber}
-use Rattle.model.specs.Settling.{isTalking, isHearing}
-use Rattle.model.specs.Frames.{priorityOf, rankOf}
-use Rattle.model.specs.WrittenFrames.{fixedNumbers}
+use Rattle.model.specs.Layout.{addressCountWidths, addressSize, addressWidths, allSendsSize, boundaryWidths, cellFields, cellIndex, cellSize, cellWidths, cellsSize, clockWidths, headWidths, inAddress, inCell, inHead, inOwn, inRecord, inSends, inTable, inTotals, mostAddresses, nameWidths, ownSize, ownsSize, portPlace, portSize, portWidths, portsUnit, priorityAUnit, priorityBUnit, pruningUnit, recordSize, resultIndex, resultSize, resultWidths, resultsSize, senderSize, sendersSize, sendsSize, settingsSize, slotIndex, slotSize, slotWidths, slots, slotsSize, tableLength, totalSize, totalsSize, totalsWidths, addressIndex, widthOf}
+use Rattle.model.specs.Lists.{allTrue, allZero, implies, parts, bit, isOne}
+use Rattle.model.specs.Applicant.{Standing, veryAnxiousPassive, veryAnxiousNew, anxiousNew, anxiousActive, quietActive, leavingActive}
+use Rattle.model.specs.Machines.{Applicant, noApplicant, applicant}
+use Rattle.model.specs.State.{Port, Settings, Leaving, stays, since, TalkerType, talkerAdvertise, talkerFailed, Registration, Talker, noTalker, talker, Domain, noDomain, domain, Presence, vacant, present, Address, Own, Listener, noListener, listener, Cell, Column, none, advertise, failed, Entry, noEntry, filters, forwards, Declared, nothing, tells, Result, Sends, Stream, Totals, Bridge, classB, inForce, declaresSlot, readyNumber}
+use Rattle.model.specs.Settling.{isTalking, isHearing, isAdvertise, held}
+use Rattle.model.specs.WrittenFrames.{fixedNumbers, fixedFrom, toReady}
+use Rattle.model.specs.Sending.{sendsOctets, toSends, sendsFormed, senderOctets, toSender, senderFormed}
 
 -- Settings: Bridge ID; one field of ports 4 bits, class priorities 3 and 3, leave time 14; one of talkerPruning and the Domain
 -- values' VLAN; msrpMaxFanInPorts; then each port.
@@ -149,20 +151,6 @@ listenerNumbers (listener r l) = readyNumber r ∷ leavingNumber l ∷ sinceNumb
 unfoldable pub cellNumbers : Cell → List ℕ
 cellNumbers c = talkerNumbers (c .talks) ++ listenerNumbers (c .hears)
 
--- five numbers as fixed values
-unfoldable pub fixedFrom : ℕ → List ℕ → Fixed
-fixedFrom i vs = record {
-  destination = getD vs i 0;
-  vlan = getD vs (i + 1) 0;
-  size = getD vs (i + 2) 0;
-  frames = getD vs (i + 3) 0;
-  priority = priorityOf (getD vs (i + 4) 0);
-  rank = rankOf (getD vs (i + 4) 0);
-}
-
-unfoldable pub toReady : ℕ → Ready
-toReady k = cond (eqb k 1) askingFailed (cond (eqb k 2) ready readyFailed)
-
 unfoldable pub registrationFrom : List ℕ → Registration
 registrationFrom vs = record {
   fixed = fixedFrom cellIndex.fixed vs;
@@ -192,11 +180,6 @@ toCell s = cellFrom (fields cellWidths 0 s)
 -- the numbers of the fields from a on, up to b
 abbrev pub between : ℕ → ℕ → List ℕ → List ℕ
 between a b vs = take (b - a) (drop a vs)
-
--- numbers that are all zero
-unfoldable pub allZero : List ℕ → Bool
-allZero [] = true
-allZero (n ∷ l) = eqb n 0 && allZero l
 
 -- "each leaving begun less than the leave time before the held clock"; not leaving, no time
 unfoldable pub leavingRule : ℕ → ℕ → ℕ → ℕ → Bool
@@ -295,12 +278,12 @@ resultRules clock vs =
 unfoldable pub resultFormed : ℕ → List ℕ → Bool
 resultFormed clock s = allTrue (resultRules clock (fields resultWidths 0 s))
 
--- A stream record of 525 octets: StreamID and settled values, 21 octets; cells of 43; results of 20.
+-- A stream record of 901 octets: StreamID and settled values, 21 octets; cells of 43; results of 20; what is sent, 47.
 
 unfoldable pub streamOctets : Stream → List ℕ
 streamOctets x =
     packed nameWidths (x .id ∷ fixedNumbers (x .settled))
-    ++ (flat cellOctets (x .cells) ++ flat resultOctets (x .results))
+    ++ (flat cellOctets (x .cells) ++ (flat resultOctets (x .results) ++ flat sendsOctets (x .sends)))
 
 unfoldable pub cellsPart : List ℕ → List ℕ
 cellsPart s = part inRecord.cells cellsSize s
@@ -308,18 +291,29 @@ cellsPart s = part inRecord.cells cellsSize s
 unfoldable pub resultsPart : List ℕ → List ℕ
 resultsPart s = part inRecord.results resultsSize s
 
+unfoldable pub allSendsPart : List ℕ → List ℕ
+allSendsPart s = part inRecord.sends allSendsSize s
+
 unfoldable pub toStream : List ℕ → Stream
 toStream s = record {
   id = beAt widthOf.streamId s 0;
   settled = fixedFrom 1 (fields nameWidths 0 s);
   cells = parts cellSize toCell 8 (cellsPart s);
   results = parts resultSize toResult 8 (resultsPart s);
+  sends = parts sendsSize toSends 8 (allSendsPart s);
 }
 
 -- some port has a registration: a kind that is not 0, of a Talker or of a Listener
 unfoldable pub holds : ℕ → List ℕ → Bool
 holds zero s = false
 holds (suc k) s = not (eqb (getD s 0 0) 0) || not (eqb (getD s inCell.listener 0) 0) || holds k (drop cellSize s)
+
+-- some port sends: an Applicant octet that is not 0
+unfoldable pub sends : ℕ → List ℕ → Bool
+sends zero s = false
+sends (suc k) s =
+    not (eqb (getD s inSends.advertising 0) 0) || not (eqb (getD s inSends.failing 0) 0) || not (eqb (getD s inSends.listening 0) 0)
+    || sends k (drop sendsSize s)
 
 -- What the last advance stored, beside the registrations: only advance removes one, and then decides anew.
 
@@ -363,12 +357,46 @@ storedRules n c r =
 unfoldable pub storedFormed : ℕ → Cell → Result → Bool
 storedFormed n c r = allTrue (storedRules n c r)
 
--- a rule of each of the first k ports
-unfoldable pub everyPort : (Cell → Result → Bool) → ℕ → List Cell → List Result → Bool
-everyPort rule zero cs rs = true
-everyPort rule (suc k) [] rs = true
-everyPort rule (suc k) (c ∷ cs) [] = true
-everyPort rule (suc k) (c ∷ cs) (r ∷ rs) = rule c r && everyPort rule k cs rs
+-- a rule of each of the first k ports, of two things that stand at its place
+module _ {A B : Type 0} where
+  unfoldable pub everyPort : (A → B → Bool) → ℕ → List A → List B → Bool
+  everyPort rule zero cs rs = true
+  everyPort rule (suc k) [] rs = true
+  everyPort rule (suc k) (c ∷ cs) [] = true
+  everyPort rule (suc k) (c ∷ cs) (r ∷ rs) = rule c r && everyPort rule k cs rs
+
+-- a declaration, not an unsent Lv: VP, VN, AN, AA or QA
+unfoldable pub isStanding : Standing → Bool
+isStanding veryAnxiousPassive = true
+isStanding veryAnxiousNew = true
+isStanding anxiousNew = true
+isStanding anxiousActive = true
+isStanding quietActive = true
+isStanding leavingActive = false
+
+module _ {D : Type 0} where
+  unfoldable pub stands : Applicant D → Bool
+  stands noApplicant = false
+  stands (applicant x) = isStanding (x .state)
+
+unfoldable pub isFailed : Column → Bool
+isFailed none = false
+isFailed advertise = false
+isFailed (failed b c) = true
+
+unfoldable pub alike : Bool → Bool → Bool
+alike a b = cond a b (not b)
+
+-- what a port sends beside its result: a declaration stands exactly where the result has one (46)
+unfoldable pub sentRules : Result → Sends → List Bool
+sentRules r s =
+    alike (stands (s .advertising)) (isAdvertise (r .column))  -- 46
+    ∷ alike (stands (s .failing)) (isFailed (r .column))  -- 46
+    ∷ alike (stands (s .listening)) (declares (r .declares))  -- 46
+    ∷ []
+
+unfoldable pub sentFormed : Result → Sends → Bool
+sentFormed r s = allTrue (sentRules r s)
 
 -- at a bridge of so many ports; what belongs to no port is zero
 unfoldable pub streamRules : ℕ → ℕ → ℕ → List ℕ → List Bool
@@ -378,12 +406,15 @@ streamRules ports clock leave s =
     eqb (getD s inRecord.priority 0 % 16) 0  -- 11
     ∷ implies (eqb n 0) (allZero (drop 1 (fields nameWidths 0 s)))  -- 25
     ∷ everyPart cellSize (cellFormed clock leave) ports (cellsPart s)  -- 14 to 19
-    ∷ holds ports (cellsPart s)  -- 12
+    ∷ (holds ports (cellsPart s) || sends ports (allSendsPart s))  -- 12
     ∷ allZero (drop (ports * cellSize) (cellsPart s))  -- 13
     ∷ everyPart resultSize (resultFormed clock) ports (resultsPart s)  -- 20 to 24
     ∷ everyPort (storedFormed n) ports (x .cells) (x .results)  -- 26 to 28
     ∷ leb (declarers ports (x .results)) 1  -- 27
     ∷ allZero (drop (ports * resultSize) (resultsPart s))  -- 13
+    ∷ everyPart sendsSize sendsFormed ports (allSendsPart s)  -- 42 to 45
+    ∷ everyPort sentFormed ports (x .results) (x .sends)  -- 46
+    ∷ allZero (drop (ports * sendsSize) (allSendsPart s))  -- 47
     ∷ []
 
 unfoldable pub streamFormed : ℕ → ℕ → ℕ → List ℕ → Bool
@@ -499,7 +530,7 @@ ownRules clock leave s =
 unfoldable pub ownFormed : ℕ → ℕ → List ℕ → Bool
 ownFormed clock leave s = allTrue (ownRules clock leave s)
 
--- The table: settings, clock, streams held, totals, what the ports hold, records.
+-- The table: settings, clock, streams held, totals, what the ports hold, what they send, records.
 
 unfoldable pub totalsOctets : Totals → List ℕ
 totalsOctets t = packed totalsWidths (t .totalA ∷ t .totalB ∷ [])
@@ -514,8 +545,9 @@ encode b =
     ++ (packed clockWidths (b .clock ∷ length (b .streams) ∷ [])
     ++ (flat totalsOctets (b .totals)
     ++ (flat ownOctets (b .owns)
+    ++ (flat senderOctets (b .senders)
     ++ (flat streamOctets (b .streams)
-    ++ zeros ((64 - length (b .streams)) * recordSize))))))
+    ++ zeros ((64 - length (b .streams)) * recordSize)))))))
 
 unfoldable pub settingsPart : List ℕ → List ℕ
 settingsPart t = part 0 settingsSize t
@@ -532,6 +564,9 @@ totalsPart t = part inTable.totals totalsSize t
 unfoldable pub ownsPart : List ℕ → List ℕ
 ownsPart t = part inTable.owns ownsSize t
 
+unfoldable pub sendersPart : List ℕ → List ℕ
+sendersPart t = part inTable.senders sendersSize t
+
 unfoldable pub recordsPart : List ℕ → List ℕ
 recordsPart t = drop inTable.records t
 
@@ -541,13 +576,23 @@ decode t = record {
   clock = clockField t;
   totals = parts totalSize toTotals 8 (totalsPart t);
   owns = parts ownSize toOwn 8 (ownsPart t);
+  senders = parts senderSize toSender 8 (sendersPart t);
   streams = parts recordSize toStream (countField t) (recordsPart t);
 }
 
 unfoldable pub idOf : List ℕ → ℕ
 idOf s = beAt widthOf.streamId s 0
 
--- what a class total may be: the limit in force, where some stream is held and the port supports the class
+-- some stream has a registration; and one of the first n records
+unfoldable pub anyHeld : List Stream → Bool
+anyHeld [] = false
+anyHeld (x ∷ s) = held (x .cells) || anyHeld s
+
+unfoldable pub anyHolds : ℕ → ℕ → List ℕ → Bool
+anyHolds ports zero s = false
+anyHolds ports (suc n) s = holds ports (cellsPart (take recordSize s)) || anyHolds ports n (drop recordSize s)
+
+-- what a class total may be: the limit in force, where some stream has a registration and the port supports the class
 unfoldable pub atMost : Bool → Bool → ℕ → ℕ
 atMost some supports limit = cond (some && supports) limit 0
 
@@ -560,17 +605,24 @@ totalsWithin some (t ∷ ts) (q ∷ qs) =
     && leb (t .totalB) (atMost some (q .supportsB) (inForce q (t .totalA) classB))
     && totalsWithin some ts qs
 
+-- what each port sends by itself, from place p on
+unfoldable pub sendersFormed : Settings → ℕ → ℕ → ℕ → List ℕ → Bool
+sendersFormed st clock p zero s = true
+sendersFormed st clock p (suc k) s = senderFormed (declaresSlot st p) clock (take senderSize s) && sendersFormed st clock (suc p) k (drop senderSize s)
+
 unfoldable pub tableRules : List ℕ → List Bool
 tableRules t =
     let s = settingsPart t in
     let n = countField t in
     allTrue (settingsRules s)  -- 2 to 5, 30, 36
     ∷ allZero (drop (portPlace (portsField s)) s)  -- 6
-    ∷ totalsWithin (leb 1 n) (parts totalSize toTotals 8 (totalsPart t)) (toSettings s .ports)  -- 7, 29
+    ∷ totalsWithin (anyHolds (portsField s) n (recordsPart t)) (parts totalSize toTotals 8 (totalsPart t)) (toSettings s .ports)  -- 7, 29
     ∷ everyPart ownSize (ownFormed (clockField t) (toSettings s .leaveTime)) (portsField s) (ownsPart t)  -- 31 to 34, 37 to 41
     ∷ allZero (drop (portsField s * ownSize) (ownsPart t))  -- 35
+    ∷ sendersFormed (toSettings s) (clockField t) 0 (portsField s) (sendersPart t)  -- 48 to 50
+    ∷ allZero (drop (portsField s * senderSize) (sendersPart t))  -- 47
     ∷ leb n 64  -- 8
-    ∷ everyPart recordSize (streamFormed (portsField s) (clockField t) (toSettings s .leaveTime)) n (recordsPart t)  -- 11 to 28
+    ∷ everyPart recordSize (streamFormed (portsField s) (clockField t) (toSettings s .leaveTime)) n (recordsPart t)  -- 11 to 28, 42 to 47
     ∷ rising (parts recordSize idOf n (recordsPart t))  -- 9
     ∷ allZero (drop (n * recordSize) (recordsPart t))  -- 10
     ∷ []

@@ -7,7 +7,7 @@ use Rattle.octets.specs.Be.{be}
 use Rattle.model.specs.Lists.{keep}
 use Rattle.model.specs.State.{Settings, Stream, Bridge, Column}
 use Rattle.model.specs.Bandwidth.{Claim, key, above, sort, fits, reserved}
-use Rattle.model.specs.Settling.{Scene, decideOwns, inboundsOf, Source, sourceOf, Outcome, columnNone, asRegistered, asAdvertise, ownFailure, outcomeColumn, streamClass, StepName, noStep, stepH, about, Step, steps, bandwidthSteps, claim, claims, limitOn, leftFor}
+use Rattle.model.specs.Settling.{Scene, decideOwns, inboundsOf, Source, Outcome, columnNone, asRegistered, asAdvertise, ownFailure, outcomeColumn, streamClass, StepName, noStep, stepH, about, Step, steps, bandwidthSteps, claim, claims, limitOn, leftFor}
 
 -- A step's letter; 0 for none.
 unfoldable pub letter : StepName → ℕ

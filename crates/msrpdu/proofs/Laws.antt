@@ -15,7 +15,7 @@ use Rattle.octets.proofs.Parts.{lent-part}
 use Rattle.model.proofs.Lists.{and-false}
 use Rattle.model.specs.FrameLayout.{domainLength}
 use Rattle.model.specs.Registrations.{advertises, faileds, listeners}
-use Rattle.model.specs.Frames.{Attribute, registers, domainType, TypeOctet, notAllowed, unknown, known, typeOctet, firstLength, threeLength, hasFour, vectorEnd, badVector, passedOver, overpacked, runsPast, strangeLeave, strangeVector, vectorIn, listLength, endMark, messageEnd, headerIn, messageIn, threePacked, fourPacked, hasSlot, slotOf}
+use Rattle.model.specs.Frames.{Attribute, registers, domainType, TypeOctet, notAllowed, unknown, known, typeOctet, firstLength, threeLength, hasFour, vectorEnd, badVector, passedOver, overpacked, runsPast, strangeLeave, strangeVector, vectorIn, listLength, endMark, messageEnd, headerIn, messageIn, threePacked, fourPacked, hasSlot}
 use Rattle.model.specs.Frames as frames
 use Rattle.msrpdu.specs.Reader.{typeRead, pastField, headOf, vectorMeant, vectorRead, strangeRead, firstPart, messageMeant, messageRead, eventMeant, eventIn, fourIn, valueIn, domainIn}
 use Rattle.msrpdu.specs.declared.TypeRead.the-variants.{Known, Skipped, Refused}
@@ -26,6 +26,7 @@ use Rattle.msrpdu.specs.declared.MessageRead.the-variants as message
 use Rattle.msrpdu.specs.declared.ValueRead.the-variants.{Value, Past}
 use Rattle.msrpdu.specs.declared.DomainRead.the-variants.{Slot, Dropped}
 use Rattle.msrpdu.specs.declared.Event.the-variants.{Lv, Missing}
+use Rattle.model.specs.State.{slotOf}
 
 -- The type octet.
 

@@ -6,7 +6,7 @@ use lib.ListN.{length, getD}
 use lib.Dec.{ltb, eqb}
 use Rattle.octets.specs.Be.{beAt}
 use Rattle.octets.specs.Parts.{part}
-use Rattle.model.specs.Frames.{Attribute, TypeOctet, notAllowed, unknown, known, firstLength, threeLength, hasFour, Vector, vectorEnd, runsPast, InList, badVector, listEnd, vectorHead, passedOver, vectorIn, typedIn, InPdu, badMessage, pduEnd, listSkipped, listOf, messageEnd, messageIn, Walk, fault, found, threePacked, fourPacked, hasSlot, slotOf}
+use Rattle.model.specs.Frames.{Attribute, TypeOctet, notAllowed, unknown, known, firstLength, threeLength, hasFour, Vector, vectorEnd, runsPast, InList, badVector, listEnd, vectorHead, passedOver, vectorIn, typedIn, InPdu, badMessage, pduEnd, listSkipped, listOf, messageEnd, messageIn, Walk, fault, found, threePacked, fourPacked, hasSlot}
 use Rattle.model.specs.FrameLayout.{domainLength}
 use Rattle.model.specs.Frames as frames
 use Rattle.msrpdu.specs.declared.TypeRead.{TypeRead}
@@ -22,6 +22,7 @@ use Rattle.msrpdu.specs.declared.DomainRead.{DomainRead}
 use Rattle.msrpdu.specs.declared.DomainRead.the-variants.{Slot, Dropped}
 use Rattle.msrpdu.specs.declared.Event.{Event}
 use Rattle.msrpdu.specs.declared.Event.the-variants.{New, JoinIn, In, JoinMt, Mt, Lv, Missing}
+use Rattle.model.specs.State.{slotOf}
 
 -- the type octet: refused with 4, skipped, or known, with the octets of FirstValue
 unfoldable pub typeRead : TypeOctet → TypeRead

@@ -1,11 +1,10 @@
 -- LeaveAll of the Domain values of a port, done on one slot after another.
-use Prim.Native.Nat.{ℕ, zero, suc, _+_, _^_, _<_}
+use Prim.Native.Nat.{ℕ, _+_, _^_, _<_}
 use mathlib.Core.Path.{_≡_, refl, sym, _∙_, ap}
 use mathlib.Core.List.{List, [], _∷_}
 use mathlib.Core.Bool.{true}
 use native.Mathlib.Numerals.{add-one}
 use Rattle.model.specs.Layout.{slots}
-use Rattle.model.specs.Lists.{All}
 use Rattle.model.specs.State.{Own, Bridge}
 use Rattle.model.specs.Registrations.{ofDomain, leaveAllDomains, quitDomain, doesDomain, at, changeDomains, owning}
 use Rattle.model.specs.Table.{encode, decode}
@@ -19,28 +18,8 @@ use Rattle.table.proofs.ByPlace.{encoded-laid, encoded-read}
 use Rattle.table.proofs.EachStream.{firsts, firsts-length, firsts-at, firsts-all, firsts-keep}
 use Rattle.domains.proofs.Keeps.{FitDomain, quit-domain-fits}
 use Rattle.registrar.specs.Walked.{Walked}
+use Rattle.registrar.proofs.Changed.{at-none, at-alike, at-again}
 use Rattle.registrar.proofs.Walks.{domain-done}
-
--- A list changed at a place: by a change that does nothing, by changes that do the same, and twice.
-
-module _ {A : Type 0} where
-  at-none : (p : ℕ) (u : A → A) → ((x : A) → u x ≡ x) → (l : List A) → at p u l ≡ l
-  unfolding at
-  at-none p u k [] = refl
-  at-none zero u k (x ∷ l) = ap (λ (y : A). y ∷ l) (k x)
-  at-none (suc p) u k (x ∷ l) = ap (λ (m : List A). x ∷ m) (at-none p u k l)
-
-  at-alike : (P : A → Type 0) (p : ℕ) (u v : A → A) → ((x : A) → P x → u x ≡ v x) → (l : List A) → All P l → at p u l ≡ at p v l
-  unfolding at
-  at-alike P p u v k [] a = refl
-  at-alike P zero u v k (x ∷ l) a = ap (λ (y : A). y ∷ l) (k x (a .0))
-  at-alike P (suc p) u v k (x ∷ l) a = ap (λ (m : List A). x ∷ m) (at-alike P p u v k l (a .1))
-
-  at-again : (p : ℕ) (u v : A → A) (l : List A) → at p u (at p v l) ≡ at p (λ x. u (v x)) l
-  unfolding at
-  at-again p u v [] = refl
-  at-again zero u v (x ∷ l) = refl
-  at-again (suc p) u v (x ∷ l) = ap (λ (m : List A). x ∷ m) (at-again p u v l)
 
 module _ (p now : ℕ) where
   -- what a port holds with its first i Domain values leaving
@@ -98,5 +77,5 @@ pub slots-left : (p : ℕ) (t u : List ℕ) → Laid t → u ≡ encode (slotsLe
 unfolding slotsLeft
 slots-left p t u l e =
     let now = decode t .clock in
-    domain-done p leaveAllDomains t l tt u
+    domain-done p leaveAllDomains t l tt tt u
     (e ∙ ap (λ (o : List Own). encode (owning (decode t) o)) (at-alike FitOwn p (leftTo p now slots) (changeDomains (doesDomain now leaveAllDomains)) (left-all p now) (decode t .owns) (laid-fits t l .owns)))

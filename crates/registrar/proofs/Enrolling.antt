@@ -5,10 +5,11 @@ use mathlib.Core.List.{List, [], _∷_}
 use mathlib.Core.Bool.{Bool, true, false}
 use native.Mathlib.Omega.{arith}
 use lib.ListN.{length, getD, List·getD-map}
-use Rattle.model.specs.State.{Cell, Stream, Bridge, fresh}
-use Rattle.model.specs.Registrations.{Act, leaveAll, leave, talk, listen, ofDomain, does, at, touch, reach, apply, holding, owning, ids}
+use Rattle.model.specs.State.{Sends, Stream, Bridge, fresh}
+use Rattle.model.specs.Registrations.{Act, leaveAll, leave, talk, listen, hearAll, hear, ofDomain, does, moves, at, change, touch, reach, apply, holding, owning, sending, ids}
 use Rattle.model.specs.Table.{encode, decode}
 use Rattle.model.specs.Laid.{FitBridge, Laid}
+use Rattle.model.proofs.Commute.{Change, Keeps, acted, acted-keeps}
 use Rattle.model.proofs.FoundVectors.{Fits}
 use Rattle.model.proofs.FrameOrder.{held-ids, joined}
 use Rattle.model.proofs.Fits.{bridge-read, laid-is, laid-fits}
@@ -19,14 +20,15 @@ use Rattle.table.proofs.Finding.{between-found, length-ids}
 use Rattle.table.proofs.Places.{at-gap, room-at, room-gap, getD-put-in, length-put-in}
 use Rattle.table.proofs.Fitting.{inserted-fits}
 use Rattle.cells.proofs.Keeps.{does-fits}
-use Rattle.registrar.specs.Run.{keeping, room, effect, ownEffect, after}
+use Rattle.registrar.specs.Run.{keeping, room, effect, after}
 use Rattle.registrar.specs.Walked.{Walked}
 use Rattle.registrar.specs.Enrols.{enrolled, EnrolledAt, NoRoom}
+use Rattle.registrar.proofs.Acted.{acted-cell}
 use Rattle.registrar.proofs.Room.{again}
 use Rattle.registrar.proofs.Keeps.{effect-fits}
 use Rattle.registrar.proofs.Walks.{OfStream, done, act-done, act-stopped}
 use Rattle.registrar.proofs.ValueActs.{Joins}
-use Rattle.registrar.proofs.Touched.{cell-touched}
+use Rattle.registrar.proofs.Touched.{stream-touched}
 
 -- A record is there, or is made, or there is no room.
 
@@ -64,20 +66,24 @@ module _ (t : List ℕ) (l : Laid t) (i k : ℕ) where
 -- A join: it makes room and does nothing else, or changes the cell too.
 
 module _ (i now p : ℕ) (s : List Stream) where
-  joins-apply : (a : Act) → Joins i a → effect true now p a s ≡ touch true i (at p (does now a)) s
+  joins-apply : (a : Act) → Joins i a → effect true now p a s ≡ touch true i (acted now p a) s
   unfolding effect apply reach
   joins-apply (leaveAll k) j = absurd j
   joins-apply (leave k h) j = absurd j
   joins-apply (talk h f v) j = rw j
   joins-apply (listen h r) j = rw j
+  joins-apply (hearAll k) j = absurd j
+  joins-apply (hear k h x) j = absurd j
   joins-apply (ofDomain d) j = absurd j
 
-  joins-room : (a : Act) → Joins i a → effect false now p a s ≡ touch true i (λ c. c) s
+  joins-room : (a : Act) → Joins i a → effect false now p a s ≡ touch true i (λ x. x) s
   unfolding effect room
   joins-room (leaveAll k) j = absurd j
   joins-room (leave k h) j = absurd j
   joins-room (talk h f v) j = rw j
   joins-room (listen h r) j = rw j
+  joins-room (hearAll k) j = absurd j
+  joins-room (hear k h x) j = absurd j
   joins-room (ofDomain d) j = absurd j
 
 joins-stream : (i : ℕ) (a : Act) → Joins i a → OfStream a
@@ -85,16 +91,29 @@ joins-stream i (leaveAll k) j = absurd j
 joins-stream i (leave k h) j = absurd j
 joins-stream i (talk h f v) j = tt
 joins-stream i (listen h r) j = tt
+joins-stream i (hearAll k) j = absurd j
+joins-stream i (hear k h x) j = absurd j
 joins-stream i (ofDomain d) j = absurd j
 
+-- it moves no Applicant
+joins-still : (i : ℕ) (a : Act) → Joins i a → (y : Sends) → moves a y ≡ y
+unfolding moves
+joins-still i (leaveAll k) j y = refl
+joins-still i (leave k h) j y = refl
+joins-still i (talk h f v) j y = refl
+joins-still i (listen h r) j y = refl
+joins-still i (hearAll k) j y = absurd j
+joins-still i (hear k h x) j y = absurd j
+joins-still i (ofDomain d) j y = refl
+
 -- as many streams are held, whatever is done to the one that is joined
-as-many : (i : ℕ) (u v : List Cell → List Cell) (s : List Stream) → length (touch true i u s) ≡ length (touch true i v s)
-as-many i u v s = rw (held-ids (touch true i u s), held-ids (touch true i v s), joined i u s, joined i v s)
+as-many : (i : ℕ) (u v : Change) → Keeps u → Keeps v → (s : List Stream) → length (touch true i u s) ≡ length (touch true i v s)
+as-many i u v ku kv s = rw (held-ids (touch true i u s), held-ids (touch true i v s), joined u ku i s, joined v kv i s)
 
 module _ (p i : ℕ) (a : Act) (j : Joins i a) (t : List ℕ) where
   done-many : (m : Bool) → length (done m p a t) ≡ length (enrolled i t)
   unfolding done enrolled
-  done-many true = ap length (joins-apply i (decode t .clock) p (decode t .streams) a j) ∙ as-many i _ _ (decode t .streams)
+  done-many true = ap length (joins-apply i (decode t .clock) p (decode t .streams) a j) ∙ as-many i (acted (decode t .clock) p a) (λ x. x) (acted-keeps (decode t .clock) p a) (λ x. refl) (decode t .streams)
   done-many false = ap length (joins-room i (decode t .clock) p (decode t .streams) a j)
 
   module _ (l : Laid t) where
@@ -110,11 +129,11 @@ module _ (p i : ℕ) (a : Act) (j : Joins i a) (t : List ℕ) where
 
       -- the table in which there is room
       enrolled-fits : FitBridge (holding (decode t) (enrolled i t))
-      unfolding enrolled done keeping after ownEffect holding owning
+      unfolding enrolled done keeping after holding owning sending
       enrolled-fits =
           let w = laid-fits t l in
           rw (← joins-room i (decode t .clock) p (decode t .streams) a j)
-          (effect-fits false p a (decode t) w f (does-fits (decode t .clock) (w .clock) a f) (rw (done-many false) (n .few)))
+          (effect-fits p a (decode t) w f false (does-fits (decode t .clock) (w .clock) a f) (rw (done-many false) (n .few)))
 
       pub enrolled-laid : Laid u
       enrolled-laid = record { thing = holding (decode t) (enrolled i t); fits = enrolled-fits; is = n .table }
@@ -130,11 +149,14 @@ module _ (p i : ℕ) (a : Act) (j : Joins i a) (t : List ℕ) where
       unfolding done
       join-applied y q =
           act-done true p a t (joins-stream i a j) _ l f (rw (done-many true) (n .few))
-          (q (decode t .clock) ∙ cell-touched u i k enrolled-found true p (does (decode t .clock) a) ∙ applied)
+          (q (decode t .clock) ∙ stream-touched u i k enrolled-found true g ∙ applied)
         where
-          v : List Cell → List Cell
-          v = at p (does (decode t .clock) a)
+          g : Change
+          g = change (at p (does (decode t .clock) a)) (λ m. m)
 
-          applied : encode (holding (decode u) (touch true i v (decode u .streams))) ≡ encode (holding (decode t) (done true p a t))
-          applied = ap (λ (x : Bridge). encode (holding x (touch true i v (x .streams)))) enrolled-read ∙ unfold holding enrolled in
-              (ap (λ (s : List Stream). encode (holding (decode t) s)) (again i v (decode t .streams) ∙ sym (joins-apply i (decode t .clock) p (decode t .streams) a j)))
+          applied : encode (holding (decode u) (touch true i g (decode u .streams))) ≡ encode (holding (decode t) (done true p a t))
+          applied = ap (λ (x : Bridge). encode (holding x (touch true i g (x .streams)))) enrolled-read ∙ unfold holding enrolled in
+              (ap (λ (s : List Stream). encode (holding (decode t) s))
+              (again i g (decode t .streams)
+              ∙ ap (λ (h : Change). touch true i h (decode t .streams)) (sym (acted-cell (decode t .clock) p a (joins-still i a j)))
+              ∙ sym (joins-apply i (decode t .clock) p (decode t .streams) a j)))

@@ -1,6 +1,9 @@
+pub mod Changed
 pub mod Room
 pub mod DomainActs
+pub mod Heard
 pub mod Keeps
+pub mod Acted
 pub mod Walks
 pub mod Touched
 pub mod Enrolling

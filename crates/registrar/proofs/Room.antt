@@ -1,8 +1,8 @@
 -- The two walks over a frame: the first makes room for all streams joined or stops, the second then does what the acts ask
--- for. Where the first stops, dropping the streams without a registration restores what was held. The first changes nothing of
--- what the ports hold by themselves.
+-- for. Where the first stops, dropping the streams that are not held restores those that were. The first changes nothing of what the
+-- ports hold and send by themselves.
 use Prim.Native.Nat.{ℕ, _≤_, _<_}
-use mathlib.Core.Path.{_≡_, refl, _∙_, ap, ap₂}
+use mathlib.Core.Path.{_≡_, refl, sym, _∙_, ap}
 use mathlib.Core.List.{List, [], _∷_, _++_}
 use mathlib.Core.Bool.{Bool, true, false, cond, true≢false}
 use native.Mathlib.Nat.{le-trans}
@@ -10,13 +10,12 @@ use native.Mathlib.Omega.{arith}
 use lib.ListN.{length}
 use lib.Dec.{ltb, leb, eqb}
 use borrow.Author.Tests.{le-leb, leb-true}
-use Rattle.model.specs.State.{Cell, Own, Stream, fresh, blank, empty}
-use Rattle.model.specs.Settling.{held, isTalking, isHearing}
-use Rattle.model.specs.Registrations.{Act, leaveAll, leave, talk, listen, ofDomain, begun, change, touch, reach, apply, applyAll, applyOwn, applyOwns, together, ids, joins}
-use Rattle.model.proofs.Commute.{Change, Tri, less, same, more, tri, single, does-commute, act-does, touch-nil, touch-before, touch-here, touch-past}
+use Rattle.model.specs.State.{Stream, fresh, blank, empty, noSends}
+use Rattle.model.specs.Settling.{held, isTalking, isHearing, isApplicant, isSending, anySending, isHeld, dropUnheld}
+use Rattle.model.specs.Registrations.{Act, leaveAll, leave, talk, listen, hearAll, hear, ofDomain, begun, touch, reach, apply, applyAll, applyOwns, applySenders, together, ids, joins}
+use Rattle.model.proofs.Commute.{Change, fresh-id, Tri, less, same, more, tri, single, acted, acted-keeps, does-commute, act-does, touch-nil, touch-before, touch-here, touch-past}
 use Rattle.model.proofs.FrameOrder.{acts-ids, held-ids, joined, together-grows}
-use Rattle.table.specs.Held.{heldOnly}
-use Rattle.registrar.specs.Run.{Registered, Ran, stopped, ran, room, effect, effects, ownEffect, ownEffects, after, afterAll, next, followed, run}
+use Rattle.registrar.specs.Run.{Registered, Ran, stopped, ran, room, effect, effects, after, afterAll, next, followed, run}
 
 -- A walk over acts, one list after another.
 
@@ -43,8 +42,10 @@ unfolding effect room joins together
 effect-ids true now p a s = unfold applyAll in (acts-ids now p (a ∷ []) s)
 effect-ids false now p (leaveAll k) s = refl
 effect-ids false now p (leave k i) s = refl
-effect-ids false now p (talk i f v) s = joined i (λ c. c) s
-effect-ids false now p (listen i r) s = joined i (λ c. c) s
+effect-ids false now p (talk i f v) s = joined (λ x. x) (λ x. refl) i s
+effect-ids false now p (listen i r) s = joined (λ x. x) (λ x. refl) i s
+effect-ids false now p (hearAll k) s = refl
+effect-ids false now p (hear k i h) s = refl
 effect-ids false now p (ofDomain d) s = refl
 
 joins-cons : (a : Act) (es : List Act) (l : List ℕ) → together (together l (joins (a ∷ []))) (joins es) ≡ together l (joins (a ∷ es))
@@ -53,6 +54,8 @@ joins-cons (leaveAll k) es l = refl
 joins-cons (leave k i) es l = refl
 joins-cons (talk i f v) es l = refl
 joins-cons (listen i r) es l = refl
+joins-cons (hearAll k) es l = refl
+joins-cons (hear k i h) es l = refl
 joins-cons (ofDomain d) es l = refl
 
 pub effects-ids : (m : Bool) (now p : ℕ) (es : List Act) (s : List Stream) → ids (effects m now p es s) ≡ together (ids s) (joins es)
@@ -82,65 +85,65 @@ next-ran : (m : Bool) (now p : ℕ) (a : Act) (x : Registered) → length (effec
 unfolding next
 next-ran m now p a x h = rw (le-leb _ 64 h)
 
+after-more : (m : Bool) (now p : ℕ) (a : Act) (es : List Act) (x : Registered) → afterAll m now p es (after m now p a x) ≡ afterAll m now p (a ∷ es) x
+unfolding afterAll after effects applyOwns applySenders
+after-more true now p a es x = refl
+after-more false now p a es x = refl
+
+after-none : (m : Bool) (now p : ℕ) (x : Registered) → x ≡ afterAll m now p [] x
+unfolding afterAll effects applyOwns applySenders
+after-none true now p x = refl
+after-none false now p x = refl
+
 all-ran : (m : Bool) (now p : ℕ) (es : List Act) (x : Registered) → length (effects m now p es (x .streams)) ≤ 64 →
     run m now p es x ≡ ran (afterAll m now p es x)
-unfolding run effects ownEffects after afterAll followed
-all-ran m now p [] x h = refl
+unfolding run followed
+all-ran m now p [] x h = ap ran (after-none m now p x)
 all-ran m now p (a ∷ es) x h =
-    let k : length (effect m now p a (x .streams)) ≤ 64 = le-trans (effects-grow m now p es (effect m now p a (x .streams))) h in
-    rw (next-ran m now p a x k) (all-ran m now p es (after m now p a x) h)
+    let k : length (effect m now p a (x .streams)) ≤ 64 = le-trans (effects-grow m now p es (effect m now p a (x .streams))) (unfold effects in h) in
+    rw (next-ran m now p a x k) (all-ran m now p es (after m now p a x) (unfold effects after in h) ∙ ap ran (after-more m now p a es x))
 
--- What the ports hold by themselves needs no room.
+-- Room is made without a registration, and nothing is sent of it.
 
-own-same : (now p : ℕ) (es : List Act) (o : List Own) → ownEffects false now p es o ≡ o
-unfolding ownEffects ownEffect
-own-same now p [] o = refl
-own-same now p (a ∷ es) o = own-same now p es o
+fresh-unheld : (i : ℕ) → isHeld (fresh i) ≡ false
+unfolding isHeld held anySending isSending isApplicant fresh blank empty noSends isTalking isHearing
+fresh-unheld i = refl
 
-own-applied : (now p : ℕ) (es : List Act) (o : List Own) → ownEffects true now p es o ≡ applyOwns now p es o
-unfolding ownEffects ownEffect applyOwns
-own-applied now p [] o = refl
-own-applied now p (a ∷ es) o = own-applied now p es (applyOwn now p a o)
-
--- Room is made without a registration.
-
-blank-unheld : held blank ≡ false
-unfolding held blank empty isTalking isHearing
-blank-unheld = refl
-
-room-unheld : (i : ℕ) (s : List Stream) → heldOnly (touch true i (λ c. c) s) ≡ heldOnly s
-unfolding heldOnly touch begun change fresh
-room-unheld i [] = rw blank-unheld
+room-unheld : (i : ℕ) (s : List Stream) → dropUnheld (touch true i (λ x. x) s) ≡ dropUnheld s
+unfolding dropUnheld touch begun
+room-unheld i [] = rw (fresh-unheld i)
 room-unheld i (x ∷ s) = go (ltb i (x .id)) (eqb i (x .id)) (room-unheld i s)
   where
-    go : (a b : Bool) → heldOnly (touch true i (λ c. c) s) ≡ heldOnly s →
-        heldOnly (cond a (begun true i (λ c. c) (x ∷ s)) (cond b (change (λ c. c) x ∷ s) (x ∷ touch true i (λ c. c) s))) ≡ heldOnly (x ∷ s)
-    go true b h = rw blank-unheld
+    go : (a b : Bool) → dropUnheld (touch true i (λ x. x) s) ≡ dropUnheld s →
+        dropUnheld (cond a (begun true i (λ x. x) (x ∷ s)) (cond b (x ∷ s) (x ∷ touch true i (λ x. x) s))) ≡ dropUnheld (x ∷ s)
+    go true b h = rw (fresh-unheld i)
     go false true h = refl
     go false false h = rw h
 
-effect-unheld : (now p : ℕ) (a : Act) (s : List Stream) → heldOnly (effect false now p a s) ≡ heldOnly s
+effect-unheld : (now p : ℕ) (a : Act) (s : List Stream) → dropUnheld (effect false now p a s) ≡ dropUnheld s
 unfolding effect room
 effect-unheld now p (leaveAll k) s = refl
 effect-unheld now p (leave k i) s = refl
 effect-unheld now p (talk i f v) s = room-unheld i s
 effect-unheld now p (listen i r) s = room-unheld i s
+effect-unheld now p (hearAll k) s = refl
+effect-unheld now p (hear k i h) s = refl
 effect-unheld now p (ofDomain d) s = refl
 
 -- Acts where room was made do what they do without it.
 
-pub again : (i : ℕ) (u : Change) (s : List Stream) → touch true i u (touch true i (λ c. c) s) ≡ touch true i u s
-unfolding begun change fresh
-again i u [] = rw (touch-nil true i (λ c. c), touch-nil true i u) (touch-here true i u (fresh i) [] refl)
+pub again : (i : ℕ) (u : Change) (s : List Stream) → touch true i u (touch true i (λ x. x) s) ≡ touch true i u s
+unfolding begun
+again i u [] = rw (touch-nil true i (λ x. x), touch-nil true i u) (touch-here true i u (fresh i) [] (sym (fresh-id i)))
 again i u (x ∷ s) = go (tri i (x .id)) (again i u s)
   where
-    go : Tri i (x .id) → touch true i u (touch true i (λ c. c) s) ≡ touch true i u s →
-        touch true i u (touch true i (λ c. c) (x ∷ s)) ≡ touch true i u (x ∷ s)
+    go : Tri i (x .id) → touch true i u (touch true i (λ x. x) s) ≡ touch true i u s →
+        touch true i u (touch true i (λ x. x) (x ∷ s)) ≡ touch true i u (x ∷ s)
     go (less h) ih =
-        rw (touch-before true i (λ c. c) x s h, touch-before true i u x s h) (touch-here true i u (fresh i) (x ∷ s) refl)
-    go (same h) ih = rw (touch-here true i (λ c. c) x s h)
+        rw (touch-before true i (λ x. x) x s h, touch-before true i u x s h) (touch-here true i u (fresh i) (x ∷ s) (sym (fresh-id i)))
+    go (same h) ih = rw (touch-here true i (λ x. x) x s h)
     go (more h) ih =
-        rw (touch-past true i (λ c. c) x s h, touch-past true i u x s h, touch-past true i u x (touch true i (λ c. c) s) h)
+        rw (touch-past true i (λ x. x) x s h, touch-past true i u x s h, touch-past true i u x (touch true i (λ x. x) s) h)
         (ap (λ (l : List Stream). x ∷ l) ih)
 
 act-again : (now p : ℕ) (a : Act) (s : List Stream) → apply now p a (effect false now p a s) ≡ apply now p a s
@@ -149,11 +152,13 @@ act-again now p (leaveAll k) s = refl
 act-again now p (leave k i) s = refl
 act-again now p (talk i f v) s = again i _ s
 act-again now p (listen i r) s = again i _ s
+act-again now p (hearAll k) s = refl
+act-again now p (hear k i h) s = refl
 act-again now p (ofDomain d) s = refl
 
-room-commutes : (i now p : ℕ) (a : Act) (s : List Stream) → apply now p a (touch true i (λ c. c) s) ≡ touch true i (λ c. c) (apply now p a s)
+room-commutes : (i now p : ℕ) (a : Act) (s : List Stream) → apply now p a (touch true i (λ x. x) s) ≡ touch true i (λ x. x) (apply now p a s)
 room-commutes i now p a s =
-    does-commute _ (λ (c : List Cell). c) (act-does now p a) (single true i (λ e. absurd (true≢false e))) (λ c. refl) s
+    does-commute (acted now p a) (λ (x : Stream). x) (acted-keeps now p a) (λ x. refl) (act-does now p a) (single true i (λ e. absurd (true≢false e))) (λ x. refl) s
 
 act-commutes : (now p : ℕ) (a b : Act) (s : List Stream) → apply now p a (effect false now p b s) ≡ effect false now p b (apply now p a s)
 unfolding effect room
@@ -161,6 +166,8 @@ act-commutes now p a (leaveAll k) s = refl
 act-commutes now p a (leave k i) s = refl
 act-commutes now p a (talk i f v) s = room-commutes i now p a s
 act-commutes now p a (listen i r) s = room-commutes i now p a s
+act-commutes now p a (hearAll k) s = refl
+act-commutes now p a (hear k i h) s = refl
 act-commutes now p a (ofDomain d) s = refl
 
 act-past : (now p : ℕ) (a : Act) (es : List Act) (s : List Stream) →
@@ -181,19 +188,21 @@ applied-after-room now p (a ∷ es) s =
 
 -- what is registered, with other streams
 abbrev pub streaming : List Stream → Registered → Registered
-streaming s x = record { streams = s; owns = x .owns }
+streaming s x = record { streams = s; owns = x .owns; senders = x .senders }
 
 module _ (now p : ℕ) where
   -- all acts done
   unfoldable pub applied : List Act → Registered → Registered
-  applied es x = record { streams = applyAll now p es (x .streams); owns = applyOwns now p es (x .owns) }
+  applied es x = record {
+    streams = applyAll now p es (x .streams);
+    owns = applyOwns now p es (x .owns);
+    senders = applySenders now p es (x .senders);
+  }
 
   pub room-made : (es : List Act) (x : Registered) → length (applyAll now p es (x .streams)) ≤ 64 →
       run false now p es x ≡ ran (streaming (effects false now p es (x .streams)) x)
   unfolding afterAll
-  room-made es x h =
-      all-ran false now p es x (rw (same-length now p es (x .streams)) h)
-      ∙ ap (λ (o : List Own). ran record { streams = effects false now p es (x .streams); owns = o }) (own-same now p es (x .owns))
+  room-made es x h = all-ran false now p es x (rw (same-length now p es (x .streams)) h)
 
   pub all-applied : (es : List Act) (x : Registered) → length (applyAll now p es (x .streams)) ≤ 64 →
       run true now p es (streaming (effects false now p es (x .streams)) x) ≡ ran (applied es x)
@@ -203,13 +212,13 @@ module _ (now p : ℕ) where
       let e : effects true now p es s ≡ applyAll now p es (x .streams) =
       effects-applied now p es s ∙ applied-after-room now p es (x .streams) in
       all-ran true now p es (streaming s x) (rw e h)
-      ∙ ap₂ (λ (s : List Stream) (o : List Own). ran record { streams = s; owns = o }) e (own-applied now p es (x .owns))
+      ∙ ap (λ (r : List Stream). ran record { streams = r; owns = applyOwns now p es (x .owns); senders = applySenders now p es (x .senders) }) e
 
-  -- the streams held before and no other have a registration where the first walk stopped
+  -- of the streams where the first walk stopped those are held that were held before
   pub record Lacking (es : List Act) (x : Registered) : Type 0 where
     pub left : List Stream
     pub stops : run false now p es x ≡ stopped (streaming left x)
-    pub restored : heldOnly left ≡ heldOnly (x .streams)
+    pub restored : dropUnheld left ≡ dropUnheld (x .streams)
 
   lacking : (es : List Act) (x : Registered) → length (x .streams) ≤ 64 → 64 < length (effects false now p es (x .streams)) → Lacking es x
   unfolding effects run followed
@@ -225,7 +234,7 @@ module _ (now p : ℕ) where
           let r = ih (leb-true _ 64 e) h in
           record {
             left = r .left;
-            stops = unfold next after ownEffect in (rw e (r .stops));
+            stops = unfold next after in (rw e (r .stops));
             restored = r .restored ∙ effect-unheld now p a (x .streams);
           }
       go false e ih = record { left = x .streams; stops = unfold next in (rw e); restored = refl }

@@ -1,7 +1,7 @@
 -- What a value asks for, by its AttributeType octet.
 use Prim.Native.Nat.{ℕ, zero, suc, _+_, _/_, _%_, _≤_, _<_, _^_}
-use mathlib.Core.Path.{_≡_, refl, sym, _∙_}
-use mathlib.Core.List.{List, [], _∷_}
+use mathlib.Core.Path.{_≡_, refl, sym, _∙_, ap, ap₂}
+use mathlib.Core.List.{List, [], _∷_, _++_, map}
 use mathlib.Core.Bool.{Bool, true, false, cond}
 use native.Mathlib.Omega.{arith}
 use native.Mathlib.Decide.{ℕ-discrete}
@@ -11,21 +11,28 @@ use borrow.Author.Tests.{lt-ltb, eq-eqb, eqb-true, eqb-false, ne-eqb}
 use Rattle.octets.specs.Be.{beAt}
 use Rattle.octets.specs.Fields.{fields}
 use Rattle.octets.proofs.Fields.{beAt-fits}
-use Rattle.model.specs.Registrations.{Kind, advertises, faileds, listeners, Act, leaveAll, leave, talk, listen, ofDomain}
-use Rattle.model.specs.Frames.{registers, firstWidths, firstLength, runsPast, talkerTypeValue, idValue, valueActs, talkerAct, listenerAct, hearing, eventOf, fourOf, asking, threePacked, fourPacked, Asking, nothingAsked, join, withdraw}
+use Rattle.model.specs.Registrations.{Kind, advertises, faileds, listeners, Act, leaveAll, leave, talk, listen, hearAll, hear, ofDomain}
+use Rattle.model.specs.Frames.{registers, firstWidths, firstLength, runsPast, talkerTypeValue, idValue, valueActs, talkerAct, listenerAct, hearing, heardOf, talkerHeard, listenerHeard, eventOf, fourOf, asking, threePacked, fourPacked, Asking, nothingAsked, join, withdraw}
 use Rattle.model.specs.Lists.{Octets}
 use Rattle.model.proofs.Parts.{octets-at, octets-of}
 use Rattle.model.proofs.Valid.{ValidTalkerType}
 use Rattle.model.proofs.FoundVectors.{Fits, unique-within, id-fits, talkerValues, fixed-fits, latency-fits, destination-within}
-use Rattle.model.specs.Table.{toReady}
+use Rattle.model.specs.Machines as machines
 use Rattle.model.specs.Frames as frames
 use Rattle.msrpdu.specs.Reader.{eventMeant, eventIn, fourIn, streamIdIn}
 use Rattle.msrpdu.specs.declared.Event.{Event}
+use Rattle.msrpdu.specs.declared.Event.the-variants.{Missing}
 use Rattle.msrpdu.specs.declared.ValueRead.the-variants.{Value, Past}
 use Rattle.msrpdu.proofs.Laws.{value-read}
 use Rattle.cells.specs.Acts.{kindAt, talkOf}
-use Rattle.registrar.specs.declared.Asked.the-variants.{Nothing}
-use Rattle.registrar.specs.Acts.{HasValue, attributeAt, vectorOf, joinOf, askedBy, askedOf, actsAsked}
+use Rattle.hearing.specs.Hears.{meant}
+use Rattle.hearing.specs.declared.Heard.{Heard}
+use Rattle.hearing.specs.declared.Heard.the-variants as heard
+use Rattle.registrar.specs.declared.Asked.the-variants.{Nothing, Join}
+use Rattle.registrar.specs.declared.Overheard.{Overheard}
+use Rattle.registrar.specs.declared.Overheard.the-variants.{Unmoved, Hears}
+use Rattle.registrar.specs.Acts.{HasValue, attributeAt, vectorOf, joinOf, eventFor, askedBy, actsAsked, registerActs, overheardBy, actsHeard, hearActs}
+use Rattle.model.specs.WrittenFrames.{toReady}
 
 -- A join, of a Listener or of a Talker.
 
@@ -54,6 +61,8 @@ Joins i (leaveAll k) = ⊥
 Joins i (leave k j) = ⊥
 Joins i (talk j f v) = i ≡ j
 Joins i (listen j r) = i ≡ j
+Joins i (hearAll k) = ⊥
+Joins i (hear k j h) = ⊥
 Joins i (ofDomain d) = ⊥
 
 pub join-joins : (k : Kind) (first : List ℕ) (four n i : ℕ) → i ≡ beAt 8 first 0 + n → Joins i (joinOf k first four n)
@@ -66,7 +75,7 @@ join-joins listeners first four n i e = e ∙ sym (id-is listeners first n)
 
 module _ (first : List ℕ) (n four : ℕ) where
   talker-asks : (k : Kind) → joinOf k first four n ≡ talkOf k first n → (e : frames.Event) →
-      talkerAct k (fields (firstWidths (registers k)) 0 first) n (asking e) ≡ actsAsked k first n (askedBy (eventMeant e) four)
+      talkerAct k (fields (firstWidths (registers k)) 0 first) n (asking e) ≡ actsAsked k first four n (askedBy (eventMeant e))
   unfolding talkerAct asking actsAsked askedBy eventMeant talkOf
   talker-asks k j frames.new = rw j
   talker-asks k j frames.joinIn = rw j
@@ -90,7 +99,7 @@ module _ (first : List ℕ) (n four : ℕ) where
   hearing-joins i (suc (suc (suc f))) p = rw (ne-eqb (suc (suc (suc f))) 1 (λ e. omega arith), ne-eqb (suc (suc (suc f))) 2 (λ e. omega arith))
 
   listener-asks : (four ≡ 0 → ⊥) → (e : frames.Event) →
-      listenerAct (fields (firstWidths (registers listeners)) 0 first) n (asking e) four ≡ actsAsked listeners first n (askedBy (eventMeant e) four)
+      listenerAct (fields (firstWidths (registers listeners)) 0 first) n (asking e) four ≡ actsAsked listeners first four n (askedBy (eventMeant e))
   unfolding listenerAct asking actsAsked askedBy eventMeant joinOf
   listener-asks p frames.new = hearing-joins _ four p
   listener-asks p frames.joinIn = hearing-joins _ four p
@@ -99,45 +108,102 @@ module _ (first : List ℕ) (n four : ℕ) where
   listener-asks p frames.mt = refl
   listener-asks p frames.lv = rw (ne-eqb four 0 p, id-is listeners first n)
 
+-- What is heard of it.
+
+pub heard-acts : (f : machines.Heard → Act) (g : Overheard → List Act) → g Unmoved ≡ [] → ((h : Heard) → g (Hears h) ≡ f (meant h) ∷ [])
+    → (e : frames.Event) → map f (heardOf e) ≡ g (overheardBy (eventMeant e))
+unfolding heardOf overheardBy eventMeant meant
+heard-acts f g u v frames.new = sym u
+heard-acts f g u v frames.joinIn = sym (v heard.In)
+heard-acts f g u v frames.isIn = sym (v heard.In)
+heard-acts f g u v frames.joinMt = sym (v heard.Empty)
+heard-acts f g u v frames.mt = sym (v heard.Empty)
+heard-acts f g u v frames.lv = sym (v heard.Leave)
+
+-- Both, of a value of a stream.
+
+module _ (kind : ℕ) (stream : kind ≡ 4 → ⊥) (first : List ℕ) (n : ℕ) where
+  pub register-stream : (e : Event) (four : ℕ) → registerActs kind first e four n ≡ actsAsked (kindAt kind) first four n (askedBy e)
+  unfolding registerActs
+  register-stream e four = rw (ne-eqb kind 4 stream)
+
+  pub stream-hears : (h : Heard) → actsHeard kind first n (Hears h) ≡ hear (kindAt kind) (beAt 8 first 0 + n) (meant h) ∷ []
+  unfolding actsHeard
+  stream-hears h = rw (ne-eqb kind 4 stream)
+
+  heard-stream : (e : frames.Event)
+      → map (hear (kindAt kind) (idValue (fields (firstWidths (registers (kindAt kind))) 0 first) n)) (heardOf e) ≡ hearActs kind first (eventMeant e) n
+  unfolding hearActs
+  heard-stream e =
+      rw (id-is (kindAt kind) first n)
+      (heard-acts (hear (kindAt kind) (beAt 8 first 0 + n)) (actsHeard kind first n) (unfold actsHeard in refl) stream-hears e)
+
+  talker-value : (four : ℕ) → joinOf (kindAt kind) first four n ≡ talkOf (kindAt kind) first n → (e : frames.Event)
+      → talkerAct (kindAt kind) (fields (firstWidths (registers (kindAt kind))) 0 first) n (asking e)
+      ++ talkerHeard (kindAt kind) (idValue (fields (firstWidths (registers (kindAt kind))) 0 first) n) e
+      ≡ registerActs kind first (eventMeant e) four n ++ hearActs kind first (eventMeant e) n
+  unfolding talkerHeard
+  talker-value four j e = ap₂ _++_ (talker-asks first n four (kindAt kind) j e ∙ sym (register-stream (eventMeant e) four)) (heard-stream e)
+
 listener-value : (first : List ℕ) (n four : ℕ) (e : frames.Event) →
     listenerAct (fields (firstWidths (registers listeners)) 0 first) n (asking e) four
-    ≡ actsAsked listeners first n (cond (eqb four 0) Nothing (askedBy (eventMeant e) four))
+    ++ listenerHeard (idValue (fields (firstWidths (registers listeners)) 0 first) n) e four
+    ≡ registerActs 3 first (cond (eqb four 0) Missing (eventMeant e)) four n ++ hearActs 3 first (cond (eqb four 0) Missing (eventMeant e)) n
+unfolding listenerHeard kindAt
 listener-value first n four e = go (eqb four 0) refl
   where
-    go : (t : Bool) → eqb four 0 ≡ t →
-        listenerAct (fields (firstWidths (registers listeners)) 0 first) n (asking e) four
-        ≡ actsAsked listeners first n (cond t Nothing (askedBy (eventMeant e) four))
-    go true q = rw (eqb-true four 0 q) (unfold actsAsked in (listener-ignores first n 0 (asking e)))
-    go false q = listener-asks first n four (eqb-false four 0 q) e
+    vs : List ℕ
+    vs = fields (firstWidths (registers listeners)) 0 first
+
+    of-stream : _≡_ {A = ℕ} 3 4 → ⊥
+    of-stream z = omega (arith, z)
+
+    go : (t : Bool) → eqb four 0 ≡ t → listenerAct vs n (asking e) four ++ cond t [] (map (hear listeners (idValue vs n)) (heardOf e))
+        ≡ registerActs 3 first (cond t Missing (eventMeant e)) four n ++ hearActs 3 first (cond t Missing (eventMeant e)) n
+    go true q =
+        rw (eqb-true four 0 q, listener-ignores first n 0 (asking e), register-stream 3 of-stream first n Missing 0)
+        (unfold actsAsked askedBy hearActs overheardBy actsHeard in refl)
+    go false q =
+        ap₂ _++_ (listener-asks first n four (eqb-false four 0 q) e ∙ sym (register-stream 3 of-stream first n (eventMeant e) four)) (heard-stream 3 of-stream first n e)
 
 pub event-there : (three : List ℕ) (n : ℕ) → n / 3 < length three →
     eventIn three n ≡ eventMeant (frames.event (threePacked (getD three (n / 3) 0) (n % 3)))
 unfolding eventIn
 event-there three n there = rw (lt-ltb (n / 3) (length three) there)
 
+-- the acts of a value that registers a stream: those asked of its Registrar, and what its Applicant hears
 module _ (leaves : Bool) (values : ℕ) (first three four : List ℕ) (n : ℕ) (there : n / 3 < length three) where
   pub value-acts : (kind : ℕ) → 1 ≤ kind → kind ≤ 3 →
-      valueActs (vectorOf kind leaves values first three four) n ≡ actsAsked (kindAt kind) first n (askedOf kind three four n)
-  unfolding valueActs vectorOf attributeAt kindAt askedOf eventOf
+      valueActs (vectorOf kind leaves values first three four) n
+      ≡ registerActs kind first (eventFor kind three four n) (fourIn four n) n ++ hearActs kind first (eventFor kind three four n) n
+  unfolding valueActs vectorOf attributeAt kindAt eventFor eventOf
   value-acts zero p q = absurd (omega arith)
-  value-acts (suc zero) p q = rw (event-there three n there) (talker-asks first n (fourIn four n) advertises (join-talks 1 first (fourIn four n) n p (omega arith)) _)
-  value-acts (suc (suc zero)) p q = rw (event-there three n there) (talker-asks first n (fourIn four n) faileds (join-talks 2 first (fourIn four n) n p (omega arith)) _)
+  value-acts (suc zero) p q = rw (event-there three n there) (talker-value 1 (λ z. omega (arith, z)) first n (fourIn four n) (join-talks 1 first (fourIn four n) n p (omega arith)) _)
+  value-acts (suc (suc zero)) p q = rw (event-there three n there) (talker-value 2 (λ z. omega (arith, z)) first n (fourIn four n) (join-talks 2 first (fourIn four n) n p (omega arith)) _)
   value-acts (suc (suc (suc zero))) p q = rw (event-there three n there) (unfold fourOf fourIn in (listener-value first n _ _))
   value-acts (suc (suc (suc (suc k)))) p q = absurd (omega arith)
 
--- What is asked for, by the numbers read: f is the four-packed event, e the other.
+-- Its event.
 
-module _ (kind : ℕ) (three four : List ℕ) (n f : ℕ) (p : f ≡ fourIn four n) where
-  pub asked-nothing : kind ≡ 3 → f ≡ 0 → Nothing ≡ askedOf kind three four n
-  unfolding askedOf
-  asked-nothing k z = rw (eq-eqb kind 3 k, ← p, eq-eqb f 0 z)
+module _ (kind : ℕ) (three four : List ℕ) (n : ℕ) where
+  pub event-ignored : kind ≡ 3 → fourIn four n ≡ 0 → Missing ≡ eventFor kind three four n
+  unfolding eventFor
+  event-ignored k z = rw (eq-eqb kind 3 k, eq-eqb (fourIn four n) 0 z)
 
-  pub asked-by : (e : Event) → e ≡ eventIn three n → (kind ≡ 3 → f ≡ 0 → ⊥) → askedBy e f ≡ askedOf kind three four n
-  asked-by e q h = go (ℕ-discrete kind 3)
+  pub event-kept : (kind ≡ 3 → fourIn four n ≡ 0 → ⊥) → eventIn three n ≡ eventFor kind three four n
+  event-kept h = go (ℕ-discrete kind 3)
     where
-      go : Dec (kind ≡ 3) → askedBy e f ≡ askedOf kind three four n
-      go (yes k) = unfold askedOf in (rw (eq-eqb kind 3 k, ← p, ← q, ne-eqb f 0 (h k)))
-      go (no k) = unfold askedOf in (rw (ne-eqb kind 3 k, ← p, ← q))
+      go : Dec (kind ≡ 3) → eventIn three n ≡ eventFor kind three four n
+      go (yes k) = unfold eventFor in (rw (eq-eqb kind 3 k, ne-eqb (fourIn four n) 0 (h k)))
+      go (no k) = unfold eventFor in (rw (ne-eqb kind 3 k))
+
+-- one that joins is not missing
+pub asked-some : (e : Event) → askedBy e ≡ Join → e ≡ Missing → ⊥
+unfolding askedBy
+asked-some e p q =
+    let n : Nothing ≡ Join = sym (ap askedBy q) ∙ p in
+    let z : _≡_ {A = ℕ} 0 1 = cc in
+    omega arith
 
 four-of-octet : (o i : ℕ) → o < 256 → fourPacked o i ≤ 3
 unfolding fourPacked
@@ -149,6 +215,13 @@ four-of-octet o (suc (suc (suc i))) h = omega arith
 pub four-most : (four : List ℕ) → ((i : ℕ) → getD four i 0 < 256) → (n : ℕ) → fourIn four n ≤ 3
 unfolding fourIn
 four-most four h n = four-of-octet (getD four (n / 4) 0) (n % 4) (h (n / 4))
+
+-- a Listener with an event has a declaration type
+pub declared : (three four : List ℕ) → ((i : ℕ) → getD four i 0 < 256) → (n : ℕ) (e : Event) → e ≡ eventFor 3 three four n → (e ≡ Missing → ⊥)
+    → (1 ≤ fourIn four n) × (fourIn four n ≤ 3)
+declared three four h n e q some =
+    let z : fourIn four n ≡ 0 → ⊥ = λ z. some (q ∙ sym (event-ignored 3 three four n refl z)) in
+    (omega arith, four-most four h n)
 
 -- A value within its fields.
 
@@ -217,6 +290,10 @@ value-id kind first n v h =
     let l : 0 + 8 ≤ length first = omega (arith, has-id (kindAt kind), first-octets kind first n v h) in
     let u : beAt 2 first 6 + n ≤ 65535 = omega (arith, unique-within (kindAt kind) first n (runs-within kind first n v h)) in
     value-read 8 2 0 first n l _ refl u _ refl
+
+-- of eight octets
+pub value-id-fits : (kind : ℕ) (first : List ℕ) (n : ℕ) → HasValue kind first n → kind ≤ 3 → ((i : ℕ) → getD first i 0 < 256) → beAt 8 first 0 + n < 2 ^ 64
+value-id-fits kind first n v h o = id-fits first (octets-of first o) n n (omega arith) (kindAt kind) (runs-within kind first n v h)
 
 pub value-id-is : (kind : ℕ) (first : List ℕ) (n i : ℕ) → HasValue kind first n → kind ≤ 3 → streamIdIn first n ≡ Value i → i ≡ beAt 8 first 0 + n
 value-id-is kind first n i v h e = let p = value-id kind first n v h in cc

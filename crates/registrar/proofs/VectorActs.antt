@@ -10,21 +10,20 @@ use lib.Dec.{ltb}
 use borrow.Author.Tests.{ltb-false, le-ltb}
 use Rattle.octets.specs.Be.{beAt}
 use Rattle.octets.specs.Parts.{part}
-use Rattle.model.specs.Registrations.{Act, advertises, faileds, listeners, leaveAll, ofDomain, leaveAllDomains, holding}
+use Rattle.model.specs.Registrations.{Act, advertises, faileds, listeners, leaveAll, hearAll, ofDomain, leaveAllDomains, hearAllDomains}
 use Rattle.model.specs.Frames.{Attribute, registers, domainType, known, typeOctet, threeLength, runsPast, Vector, vectorAt, eventOf, fourOf, valueActs, valuesActs, leaveAllActs, vectorActs}
 use Rattle.model.specs.Laid.{Laid}
 use Rattle.model.proofs.FoundVectors.{Sound, last-within, or-left, or-right}
-use Rattle.model.proofs.Fits.{laid-is, laid-fits}
 use Rattle.msrpdu.specs.declared.VectorHead.{VectorHead}
 use Rattle.msrpdu.specs.Reader.{typedRead, firstPart, headVector}
 use Rattle.msrpdu.proofs.Applying.{meant, sound}
 use Rattle.msrpdu.specs.declared.VectorRead.the-variants as vector
 use Rattle.cells.specs.Acts.{kindAt}
 use Rattle.registrar.specs.Acts.{attributeAt, vectorOf, HasValue}
-use Rattle.registrar.specs.Run.{room, effect}
+use Rattle.registrar.specs.Run.{room}
 use Rattle.registrar.specs.Walked.{Walked}
 use Rattle.registrar.proofs.ValueActs.{attribute-kind}
-use Rattle.registrar.proofs.Walks.{walked-none, done, act-done, domain-room}
+use Rattle.registrar.proofs.Walks.{walked-none, walked-on, room-walked, domain-room}
 
 -- Values.
 
@@ -39,7 +38,7 @@ module _ (v : Vector) (n count : ℕ) where
 
 -- LeaveAll.
 
-pub domain-leaves : (kind : ℕ) (b : Bool) → kind ≡ 4 → b ≡ true → leaveAllActs (attributeAt kind) b ≡ ofDomain leaveAllDomains ∷ []
+pub domain-leaves : (kind : ℕ) (b : Bool) → kind ≡ 4 → b ≡ true → leaveAllActs (attributeAt kind) b ≡ ofDomain leaveAllDomains ∷ ofDomain hearAllDomains ∷ []
 unfolding attributeAt leaveAllActs
 domain-leaves kind b e d = rw (e, d)
 
@@ -48,7 +47,7 @@ unfolding leaveAllActs
 none-leaves (registers k) b e = rw e
 none-leaves domainType b e = rw e
 
-pub all-leaves : (kind : ℕ) (b : Bool) → 1 ≤ kind → kind ≤ 3 → b ≡ true → leaveAllActs (attributeAt kind) b ≡ leaveAll (kindAt kind) ∷ []
+pub all-leaves : (kind : ℕ) (b : Bool) → 1 ≤ kind → kind ≤ 3 → b ≡ true → leaveAllActs (attributeAt kind) b ≡ leaveAll (kindAt kind) ∷ hearAll (kindAt kind) ∷ []
 unfolding leaveAllActs
 all-leaves kind b p q e = rw (attribute-kind kind p q, e)
 
@@ -56,9 +55,12 @@ all-leaves kind b p q e = rw (attribute-kind kind p q, e)
 pub leaves-room : (p : ℕ) (k : Attribute) (b : Bool) (t : List ℕ) → Laid t → Walked false p (leaveAllActs k b) t true t
 unfolding leaveAllActs
 leaves-room p domainType false t l = walked-none false p t l
-leaves-room p domainType true t l = domain-room p leaveAllDomains t l tt
+leaves-room p domainType true t l =
+    walked-on false p (ofDomain leaveAllDomains ∷ []) (ofDomain hearAllDomains ∷ []) t t (domain-room p leaveAllDomains t l tt) (domain-room p hearAllDomains t l tt)
 leaves-room p (registers k) false t l = walked-none false p t l
-leaves-room p (registers k) true t l = unfold done effect room holding in (act-done false p (leaveAll k) t tt t l tt (laid-fits t l .at-most-64) (laid-is t l))
+leaves-room p (registers k) true t l =
+    unfold room in
+    (walked-on false p (leaveAll k ∷ []) (hearAll k ∷ []) t t (room-walked p (leaveAll k) t l tt (λ s. refl)) (room-walked p (hearAll k) t l tt (λ s. refl)))
 
 -- A vector that was read.
 

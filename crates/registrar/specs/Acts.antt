@@ -7,15 +7,24 @@ use lib.ListN.{length}
 use lib.Dec.{eqb}
 use Rattle.octets.specs.Be.{beAt}
 use Rattle.octets.specs.Fields.{fields}
-use Rattle.model.specs.Registrations.{Kind, advertises, faileds, listeners, Act, leave, listen, ofDomain, leaveDomain, joinDomain}
+use Rattle.model.specs.Machines.{heardLeave}
+use Rattle.model.specs.State.{Stream}
+use Rattle.model.specs.Registrations.{Kind, advertises, faileds, listeners, Act, leave, listen, hear, ofDomain, leaveDomain, joinDomain, hearDomain, at, change, hears}
 use Rattle.model.specs.Frames.{Attribute, registers, domainType, firstWidths, firstLength, runsPast, Vector, Walk, fault, found, frameActs, idValue}
-use Rattle.model.specs.Table.{toReady}
 use Rattle.msrpdu.specs.declared.Event.{Event}
 use Rattle.msrpdu.specs.declared.Event.the-variants.{New, JoinIn, In, JoinMt, Mt, Lv, Missing}
-use Rattle.msrpdu.specs.Reader.{eventIn, fourIn}
-use Rattle.cells.specs.Acts.{talkOf}
+use Rattle.msrpdu.specs.Reader.{eventIn, fourIn, domainIn}
+use Rattle.msrpdu.specs.declared.DomainRead.{DomainRead}
+use Rattle.msrpdu.specs.declared.DomainRead.the-variants.{Slot, Dropped}
+use Rattle.cells.specs.Acts.{kindAt, talkOf}
+use Rattle.hearing.specs.Hears.{meant}
+use Rattle.hearing.specs.declared.Heard.{Heard}
+use Rattle.hearing.specs.declared.Heard.the-variants as heard
 use Rattle.registrar.specs.declared.Asked.{Asked}
 use Rattle.registrar.specs.declared.Asked.the-variants.{Nothing, Join, Leave}
+use Rattle.registrar.specs.declared.Overheard.{Overheard}
+use Rattle.registrar.specs.declared.Overheard.the-variants.{Unmoved, Hears}
+use Rattle.model.specs.WrittenFrames.{toReady}
 
 -- A frame.
 
@@ -64,35 +73,63 @@ joinOf advertises first four n = talkOf advertises first n
 joinOf faileds first four n = talkOf faileds first n
 joinOf listeners first four n = listen (idValue (fields (firstWidths (registers listeners)) 0 first) n) (toReady four)
 
--- what its events ask for: "New, JoinIn, JoinMt register"; "Ignore, In and Mt do nothing"
-unfoldable pub askedBy : Event → ℕ → Asked
-askedBy New four = Join four
-askedBy JoinIn four = Join four
-askedBy In four = Nothing
-askedBy JoinMt four = Join four
-askedBy Mt four = Nothing
-askedBy Lv four = Leave
-askedBy Missing four = Nothing
+-- its event; a Listener's is none where its four-packed event is Ignore
+unfoldable pub eventFor : ℕ → List ℕ → List ℕ → ℕ → Event
+eventFor kind three four n = cond (eqb kind 3) (cond (eqb (fourIn four n) 0) Missing (eventIn three n)) (eventIn three n)
 
-unfoldable pub askedOf : ℕ → List ℕ → List ℕ → ℕ → Asked
-askedOf kind three four n =
-    cond (eqb kind 3) (cond (eqb (fourIn four n) 0) Nothing (askedBy (eventIn three n) (fourIn four n)))
-    (askedBy (eventIn three n) (fourIn four n))
+-- What it asks of a Registrar.
 
--- a Listener that joins has a declaration type
-abbrev pub Declares : ℕ → Asked → Type 0
-Declares kind Nothing = Unit {0}
-Declares kind (Join four) = kind ≡ 3 → (1 ≤ four) × (four ≤ 3)
-Declares kind Leave = Unit {0}
+-- "New, JoinIn, JoinMt register"; "Ignore, In and Mt do nothing"
+unfoldable pub askedBy : Event → Asked
+askedBy New = Join
+askedBy JoinIn = Join
+askedBy In = Nothing
+askedBy JoinMt = Join
+askedBy Mt = Nothing
+askedBy Lv = Leave
+askedBy Missing = Nothing
 
--- the acts of a value that registers a stream
-unfoldable pub actsAsked : Kind → List ℕ → ℕ → Asked → List Act
-actsAsked k first n Nothing = []
-actsAsked k first n (Join four) = joinOf k first four n ∷ []
-actsAsked k first n Leave = leave k (beAt 8 first 0 + n) ∷ []
+-- of a stream
+unfoldable pub actsAsked : Kind → List ℕ → ℕ → ℕ → Asked → List Act
+actsAsked k first four n Nothing = []
+actsAsked k first four n Join = joinOf k first four n ∷ []
+actsAsked k first four n Leave = leave k (beAt 8 first 0 + n) ∷ []
 
--- the acts of a Domain value that has a slot
-unfoldable pub domainAsked : ℕ → ℕ → Asked → List Act
-domainAsked slot vlan Nothing = []
-domainAsked slot vlan (Join four) = ofDomain (joinDomain slot vlan) ∷ []
-domainAsked slot vlan Leave = ofDomain (leaveDomain slot) ∷ []
+-- of a Domain value, which has a slot or is dropped
+unfoldable pub slotAsked : DomainRead → ℕ → Asked → List Act
+slotAsked (Slot i) vlan Nothing = []
+slotAsked (Slot i) vlan Join = ofDomain (joinDomain i vlan) ∷ []
+slotAsked (Slot i) vlan Leave = ofDomain (leaveDomain i) ∷ []
+slotAsked Dropped vlan a = []
+
+-- of either, by the octet of its type
+unfoldable pub registerActs : ℕ → List ℕ → Event → ℕ → ℕ → List Act
+registerActs kind first e four n =
+    cond (eqb kind 4) (slotAsked (domainIn first n) (beAt 2 first 2) (askedBy e)) (actsAsked (kindAt kind) first four n (askedBy e))
+
+-- What the Applicant of its type and key hears.
+
+-- "In and Mt count now"; rNew! moves nothing
+unfoldable pub overheardBy : Event → Overheard
+overheardBy New = Unmoved
+overheardBy JoinIn = Hears heard.In
+overheardBy In = Hears heard.In
+overheardBy JoinMt = Hears heard.Empty
+overheardBy Mt = Hears heard.Empty
+overheardBy Lv = Hears heard.Leave
+overheardBy Missing = Unmoved
+
+unfoldable pub slotHears : DomainRead → Heard → List Act
+slotHears (Slot i) h = ofDomain (hearDomain i (meant h)) ∷ []
+slotHears Dropped h = []
+
+unfoldable pub actsHeard : ℕ → List ℕ → ℕ → Overheard → List Act
+actsHeard kind first n Unmoved = []
+actsHeard kind first n (Hears h) = cond (eqb kind 4) (slotHears (domainIn first n) h) (hear (kindAt kind) (beAt 8 first 0 + n) (meant h) ∷ [])
+
+unfoldable pub hearActs : ℕ → List ℕ → Event → ℕ → List Act
+hearActs kind first e n = actsHeard kind first n (overheardBy e)
+
+-- a stream whose Applicant of a type on the port at place p heard LeaveAll
+abbrev pub leaveHeard : ℕ → Kind → Stream → Stream
+leaveHeard p k = change (λ l. l) (at p (hears k heardLeave))

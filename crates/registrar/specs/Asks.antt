@@ -9,6 +9,8 @@ use Rattle.model.specs.Frames.{typeOctet, vectors, walk}
 use Rattle.model.specs.Laid.{Laid}
 use Rattle.table.specs.Places.{StandsOn}
 use Rattle.msrpdu.specs.Reader.{typedRead}
+use Rattle.msrpdu.specs.declared.Event.{Event}
+use Rattle.msrpdu.specs.declared.Event.the-variants.{Missing}
 use Rattle.msrpdu.specs.declared.VectorHead.{VectorHead}
 use Rattle.msrpdu.specs.declared.VectorRead.the-variants.{Vector}
 use Rattle.registrar.specs.declared.ListWalk.{ListWalk}
@@ -63,11 +65,21 @@ pub record ValueGiven (t : List ℕ) (w : ListWalk) (first three : List ℕ) (n 
   pub event : n / 3 < length three
   pub value : HasValue (w .kind) first n
 
+-- its event and its four-packed event; a Listener with an event has a declaration type
+pub record EventGiven (t : List ℕ) (w : ListWalk) (first : List ℕ) (e : Event) (f n : ℕ) : Type 0 where
+  pub walk : WalkGiven t w
+  pub value : HasValue (w .kind) first n
+  pub four : w .kind ≡ 3 → (e ≡ Missing → ⊥) → (1 ≤ f) × (f ≤ 3)
+
+-- a value that is heard
+pub record HearGiven (t : List ℕ) (w : ListWalk) (first : List ℕ) (n : ℕ) : Type 0 where
+  pub walk : WalkGiven t w
+  pub value : HasValue (w .kind) first n
+
 -- one of a Domain vector
-pub record DomainGiven (t : List ℕ) (p : ℕ) (first three : List ℕ) (n : ℕ) : Type 0 where
+pub record DomainGiven (t : List ℕ) (p : ℕ) (first : List ℕ) (n : ℕ) : Type 0 where
   pub laid : Laid t
   pub port : p < 8
-  pub event : n / 3 < length three
   pub value : HasValue 4 first n
 
 -- a join of it, of its StreamID, and for a Listener with a declaration type

@@ -14,7 +14,7 @@ use Rattle.registrar.specs.declared.Enrolment.the-variants.{Record, Full
 
 -- the streams of a table, with an empty one of this StreamID where it was not held
 unfoldable pub enrolled : ℕ → List ℕ → List Stream
-enrolled i t = touch true i (λ c. c) (decode t .streams)
+enrolled i t = touch true i (λ x. x) (decode t .streams)
 
 -- from the table t it leaves the table u, where the record stands at place k
 pub record EnrolledAt (i : ℕ) (t : List ℕ) (k : ℕ) (u : List ℕ) : Type 0 where

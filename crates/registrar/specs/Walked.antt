@@ -5,7 +5,7 @@ use mathlib.Core.List.{List}
 use mathlib.Core.Bool.{Bool, cond}
 use lib.ListN.{length}
 use lib.Dec.{leb}
-use Rattle.model.specs.Registrations.{Act, applyAll, applyOwns}
+use Rattle.model.specs.Registrations.{Act, applyAll, applyOwns, applySenders}
 use Rattle.model.specs.Frames.{walk}
 use Rattle.model.specs.Table.{encode, decode}
 use Rattle.model.specs.Laid.{FitBridge}
@@ -30,6 +30,7 @@ unfoldable pub taken : ℕ → List ℕ → List ℕ → Registered
 taken p pdu t = record {
   streams = applyAll (decode t .clock) p (actsOf (walk pdu)) (decode t .streams);
   owns = applyOwns (decode t .clock) p (actsOf (walk pdu)) (decode t .owns);
+  senders = applySenders (decode t .clock) p (actsOf (walk pdu)) (decode t .senders);
 }
 
 -- from the table t it leaves the table u, and its answer r tells whether it is accepted

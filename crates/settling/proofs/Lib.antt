@@ -4,3 +4,6 @@ pub mod Merging
 pub mod Sharing
 pub mod Stages
 pub mod Settled
+pub mod Declared
+pub mod Timed
+pub mod Sent

@@ -166,6 +166,8 @@ merging-fits x w = record {
   cells = w .cells;
   eight-results = length-tabulate 8 0 (mergedAt x);
   results = all-tabulate FitResult 8 0 (mergedAt x) (merged-at-fits x w);
+  eight-sends = w .eight-sends;
+  sends = w .sends;
 }
 
 pub merging-id : (x : Stream) → merging x .id ≡ x .id
@@ -182,7 +184,7 @@ module _ (x : Stream) (w : FitStream x) where
   pub merging-nowhere : sourceOf x ≡ nowhere → merging x ≡ x
   unfolding merging
   merging-nowhere e =
-      ap (λ (r : List Result). record { id = x .id; settled = x .settled; cells = x .cells; results = r })
+      ap (λ (r : List Result). record { id = x .id; settled = x .settled; cells = x .cells; results = r; sends = x .sends })
       (eight-of (x .results) (mergedAt x) (w .eight-results) (λ q b. unfold mergedAt isSource resultAt in rw e))
 
   module _ (t : ℕ) (h : t < 8) (e : (q : ℕ) → isSource (sourceOf x) q ≡ eqb t q) where
@@ -202,7 +204,7 @@ module _ (x : Stream) (w : FitStream x) where
     pub merging-at : merging x ≡ resulting (λ l. set l t r) x
     unfolding merging
     merging-at =
-        ap (λ (r : List Result). record { id = x .id; settled = x .settled; cells = x .cells; results = r })
+        ap (λ (r : List Result). record { id = x .id; settled = x .settled; cells = x .cells; results = r; sends = x .sends })
         (eight-of (set (x .results) t r) (mergedAt x) (length-set (x .results) t r ∙ w .eight-results) placed)
 
 -- What a stream is left as: without a Talker port as it was, else with the result there declaring the merged Listener.

@@ -1,21 +1,23 @@
--- The octets that the stages of settling leave, one after another: at last those of the bridge that advance settles.
-use mathlib.Core.Path.{_≡_, _∙_, ap}
+-- The octets that the stages of settling leave, one after another: at last those of the bridge that advance has decided.
+use mathlib.Core.Path.{_≡_, _∙_, ap, subst}
 use mathlib.Core.List.{List}
 use Prim.Native.Nat.{ℕ, _^_, _<_}
 use native.Mathlib.Omega.{arith}
 use lib.ListN.{length}
 use Rattle.model.specs.State.{Bridge}
 use Rattle.model.specs.Registrations.{holding, owning}
-use Rattle.model.specs.Settling.{settle}
+use Rattle.model.specs.Settling.{deciding}
 use Rattle.model.specs.Table.{encode, decode}
 use Rattle.model.specs.Laid.{FitBridge, Laid}
 use Rattle.model.proofs.Fits.{bridge-read, laid-fits}
-use Rattle.columns.specs.Stages.{earlyAll, admissions}
+use Rattle.table.proofs.Fitting.{map-fits}
+use Rattle.columns.specs.Stages.{earlyAll, admissions, merging}
 use Rattle.columns.proofs.EarlyTables.{early-all-fits}
 use Rattle.settling.specs.Removed.{removed}
 use Rattle.settling.proofs.Removal.{removed-fits}
 use Rattle.settling.proofs.Sharing.{admissions-fit}
-use Rattle.settling.proofs.Stages.{merging-all, stages-settle}
+use Rattle.settling.proofs.Stages.{merging-all, stages-decide}
+use Rattle.settling.proofs.Merging.{merging-fits, merging-id}
 
 module _ (t : List ℕ) (l : Laid t) (time : ℕ) (small : time < 2 ^ 32) (t₁ : List ℕ) (e₁ : t₁ ≡ encode (removed time (decode t))) where
   abbrev b : Bridge
@@ -59,8 +61,18 @@ module _ (t : List ℕ) (l : Laid t) (time : ℕ) (small : time < 2 ^ 32) (t₁ 
       pub all-shared-laid : Laid t₃
       all-shared-laid = record { thing = b₃; fits = w₃; is = shared-is }
 
-      pub settled-octets : (t₄ : List ℕ) → t₄ ≡ encode (merging-all (decode t₃)) → t₄ ≡ encode (settle time b)
-      settled-octets t₄ e₄ =
+      pub decided-octets : (t₄ : List ℕ) → t₄ ≡ encode (merging-all (decode t₃)) → t₄ ≡ encode (deciding time b)
+      decided-octets t₄ e₄ =
           e₄
           ∙ ap (λ (d : Bridge). encode (merging-all d)) (ap decode shared-is ∙ bridge-read b₃ w₃)
-          ∙ ap encode (stages-settle time b (laid-fits t l .settings .eight-ports))
+          ∙ ap encode (stages-decide time b (laid-fits t l .settings .eight-ports))
+
+-- what is decided fits its fields
+pub deciding-fits : (b : Bridge) → FitBridge b → (time : ℕ) → time < 2 ^ 32 → FitBridge (deciding time b)
+unfolding earlyAll holding owning
+deciding-fits b w time small =
+    let b₂ = earlyAll time (removed time b) in
+    let n = length (b .settings .ports) in
+    let w₂ : FitBridge b₂ = early-all-fits (removed time b) (removed-fits time small b w) time small in
+    let w₃ = admissions-fit n 0 b₂ (omega (arith, w .settings .eight-ports)) w₂ in
+    subst FitBridge (stages-decide time b (w .settings .eight-ports)) (map-fits (admissions n 0 b₂) w₃ merging merging-fits merging-id)

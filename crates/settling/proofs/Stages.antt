@@ -1,4 +1,4 @@
--- The stages of settling, one after another, are what advance decides.
+-- The stages of settling, one after another, are what advance decides before anything is sent.
 use mathlib.Core.Path.{_≡_, refl, _∙_, ap}
 use mathlib.Core.List.{List, [], _∷_, map}
 use mathlib.Core.Bool.{Bool, true, false, cond}
@@ -7,7 +7,7 @@ use native.Mathlib.Omega.{arith}
 use lib.ListN.{length}
 use Rattle.model.specs.Lists.{tabulate}
 use Rattle.model.specs.State.{nothing, Result, Stream, Bridge, unsettled, cellAt, resultAt}
-use Rattle.model.specs.Settling.{Scene, inboundsOf, sourceOf, isSource, registered, columnOf, passed, mergeAll, merged, decideAt, decide, decideOwns, remain, totalsOn, settle}
+use Rattle.model.specs.Settling.{Scene, inboundsOf, sourceOf, isSource, registered, columnOf, passed, mergeAll, merged, decideAt, decide, decideOwns, remain, totalsOn, deciding}
 use Rattle.model.specs.Registrations.{holding, owning}
 use Rattle.model.proofs.ColumnRule.{at-place, tabulate-same}
 use Rattle.columns.specs.Stages.{shownAs, earlyAll, admissions, mergedShown, declaring, mergedAt, merging}
@@ -61,7 +61,7 @@ module _ (sc : Scene) (now : ℕ) (s : List Stream) (x : Stream) where
   decided-stream : merging shown ≡ decide sc now s x
   unfolding merging decide
   decided-stream =
-      ap (λ (r : List Result). record { id = shown .id; settled = shown .settled; cells = shown .cells; results = r })
+      ap (λ (r : List Result). record { id = shown .id; settled = shown .settled; cells = shown .cells; results = r; sends = shown .sends })
       (tabulate-same (mergedAt shown) (decideAt sc now s x) 8 0 (λ q a b. decided-at q (omega arith)))
       ∙ (unfold shown showing in refl)
 
@@ -74,13 +74,13 @@ decided-all sc now s [] = refl
 decided-all sc now s (x ∷ l) = rw (decided-stream sc now s x, decided-all sc now s l)
 
 -- After removal: the steps before h, then bandwidth shared out on each port, then the Listeners merged.
-pub stages-settle : (now : ℕ) (b : Bridge) → length (b .settings .ports) ≤ 8 →
-    merging-all (admissions (length (b .settings .ports)) 0 (earlyAll now (removed now b))) ≡ settle now b
-unfolding settle holding owning earlyAll
-stages-settle now b h =
+pub stages-decide : (now : ℕ) (b : Bridge) → length (b .settings .ports) ≤ 8 →
+    merging-all (admissions (length (b .settings .ports)) 0 (earlyAll now (removed now b))) ≡ deciding now b
+unfolding deciding holding owning earlyAll
+stages-decide now b h =
     let st = b .settings in
     let s = remain st now (b .streams) in
     let sc : Scene = record { settings = st; owns = decideOwns st now (b .owns); inbound = inboundsOf s } in
-    ap merging-all (admissions-decide sc now s now h)
-    ∙ ap (λ (l : List Stream). record { settings = st; clock = now; totals = tabulate 8 0 (totalsOn sc now s); owns = sc .owns; streams = l })
+    ap merging-all (admissions-decide sc now s now (b .senders) h)
+    ∙ ap (λ (l : List Stream). record { settings = st; clock = now; totals = tabulate 8 0 (totalsOn sc now s); owns = sc .owns; senders = b .senders; streams = l })
     (decided-all sc now s s)

@@ -1,23 +1,30 @@
 // Settling: what advance does to the table. First every registration that has been leaving for at least the leave time goes, and
-// with it each stream that no port has a registration of, and each port finds whether it is at the edge of a class's domain; then
-// each stream is decided, bandwidth is shared out on each port, and last each stream's Talker port declares the merged Listener.
+// each port finds whether it is at the edge of a class's domain; then each stream is decided, bandwidth is shared out on each port, and
+// each stream's Talker port declares the merged Listener. Last the Applicants get Join! of what was decided and Lv! of what was not,
+// streams that are neither registered nor sent are dropped, and LeaveAll timers run out.
 ghost use mathlib.Core.Path.{_≡_};
 ghost use mathlib.Core.List.{map};
+ghost use mathlib.Core.Bool.{cond};
 ghost use Prim.Native.Nat.{_<_};
 ghost use lib.ListN.{length};
-ghost use Rattle.model.specs.Layout.{ownSize, resultSize};
-ghost use Rattle.model.specs.State.{Settings, Column, Declared, streamAt, ownAt};
-ghost use Rattle.model.specs.Registrations.{holding, owning};
+ghost use Rattle.model.specs.Layout.{failedSize, ownSize, resultSize};
+ghost use Rattle.model.specs.Lists.{tabulate};
+ghost use Rattle.model.specs.State.{Settings, Column, Declared, streamAt, resultAt, isPort, ownAt};
+ghost use Rattle.model.specs.Registrations.{holding, owning, sending};
 ghost use Rattle.model.specs.Settling as model;
 ghost use Rattle.model.specs.Table.{columnNumber, declaredNumber, toResult, resultOctets, toOwn, ownOctets, encode, decode};
 ghost use Rattle.model.specs.Laid.{LaidResult, LaidOwn, Laid};
-ghost use Rattle.table.specs.Places.{Stands, PortIn};
-ghost use Rattle.table.specs.Updates.{withStream, withOwn};
+ghost use Rattle.table.specs.Places.{Stands, StandsOn, PortIn};
+ghost use Rattle.table.specs.Updates.{withStream, withSends, withOwn, withSender};
 ghost use Rattle.streams.specs.Answers.{classShown};
 ghost use Rattle.columns.specs.Stages as stages;
+ghost use Rattle.declaring.specs.Octets.{offeredOctets, timed};
 ghost use Rattle.settling.specs.Removed.{unmatchedOf, expiredOwn, flaggedOwn, removed};
 use streams::ClassRead;
 use streams::SourceRead;
+
+// The octets of a Talker Failed's values, which are those of an Advertise and a failure.
+const VALUES: usize = table::sends::CODE + 1;
 
 // Removes from stream k what has been leaving for at least the leave time.
 fn expire_stream(table: &mut [u8], k: usize, leave: u32, time: u32)
@@ -146,14 +153,12 @@ fn decide_owns(table: &mut [u8], time: u32)
     }
 }
 
-// The clock set, what has lasted the leave time removed, the streams that are no longer held dropped, what the ports hold by
-// themselves decided, and nothing reserved.
+// The clock set, what has lasted the leave time removed, what the ports hold by themselves decided, and nothing reserved.
 fn remove(table: &mut [u8], time: u32)
     requires { ⌜ Laid (now table) ⌝ }
     ensures { λ _. ⌜ now (table .exit) ≡ encode (removed time (decode (now (table .entry)))) ⌝ }
 {
     expire_all(table, time);
-    table::drop_unheld(table);
     table::set_clock(table, time);
     table::clear_totals(table);
     decide_owns(table, time);
@@ -223,7 +228,7 @@ fn merged(table: &[u8], k: usize) -> u8
 }
 
 // The Listener that a result declares, by its number.
-fn declare(result: &mut [u8], number: u8)
+fn set_listener(result: &mut [u8], number: u8)
     requires { ⌜ LaidResult (now result) × (length (now result) ≡ resultSize) ⌝ }
     ensures { λ _. ⌜ ((d : Declared) → number ≡ declaredNumber d → now (result .exit) ≡ resultOctets (stages.declaring d (toResult (now (result .entry))))) ⌝ }
 {
@@ -240,7 +245,7 @@ fn merge_stream(table: &mut [u8], k: usize)
     };
     let number = merged(table, k);
     let a = table::result_in(table, k, t);
-    declare(&mut table[a..a + table::RESULT], number);
+    set_listener(&mut table[a..a + table::RESULT], number);
 }
 
 // The same on each stream.
@@ -257,13 +262,128 @@ fn merge_all(table: &mut [u8])
     }
 }
 
-// Advance: the clock set, and every stream decided anew.
-pub fn settle(table: &mut [u8], time: u32)
+// The clock set, and every stream decided anew.
+fn decide(table: &mut [u8], time: u32)
     requires { ⌜ Laid (now table) ⌝ }
-    ensures { λ _. ⌜ now (table .exit) ≡ encode (model.settle time (decode (now (table .entry)))) ⌝ }
+    ensures { λ _. ⌜ now (table .exit) ≡ encode (model.deciding time (decode (now (table .entry)))) ⌝ }
 {
     remove(table, time);
     columns::early_all(table, time);
     admit_all(table);
     merge_all(table);
+}
+
+// The values of stream k's Talker that the port at place p declares: the settled ones, then latency, Bridge ID and code of the result.
+fn offer(table: &[u8], k: usize, p: usize, values: &mut [u8])
+    requires { ⌜ StandsOn (now table) k p × (length (now values) ≡ failedSize) ⌝ }
+    ensures { λ _. ⌜ now (values .exit) ≡ offeredOctets (streamAt k (decode (now (table .entry))) .settled) (resultAt (streamAt k (decode (now (table .entry)))) p) ⌝ }
+{
+    let settled = table::settled_at(table, k);
+    octets::copy(settled, &mut values[0..table::sends::LATENCY]);
+    let result = table::result_at(table, k, p);
+    octets::copy(
+        &result[table::result::LATENCY..table::result::ENTRY],
+        &mut values[table::sends::LATENCY..VALUES],
+    );
+}
+
+// What the port at place p sends of stream k: Join! of what its result says, Lv! of the rest.
+fn redeclare(table: &mut [u8], k: usize, p: usize)
+    requires { ⌜ StandsOn (now table) k p ⌝ }
+    ensures { λ _. ⌜ now (table .exit) ≡ encode (withSends k p (model.declareSends (streamAt k (decode (now (table .entry))) .settled)
+        (resultAt (streamAt k (decode (now (table .entry)))) p)) (decode (now (table .entry)))) ⌝ }
+{
+    let mut values = [0u8; VALUES];
+    offer(table, k, p, &mut values);
+    let result = table::result_at(table, k, p);
+    let column = result[table::result::COLUMN];
+    let listener = result[table::result::DECLARED];
+    let a = table::sends_in(table, k, p);
+    declaring::declare_all(&mut table[a..a + table::SENDS], &values, column, listener);
+}
+
+// The same, where it is not left as it is.
+fn declare_on(table: &mut [u8], k: usize, p: usize)
+    requires { ⌜ StandsOn (now table) k p ⌝ }
+    ensures { λ _. ⌜ now (table .exit) ≡ encode (withSends k p (model.declareSends (streamAt k (decode (now (table .entry))) .settled)
+        (resultAt (streamAt k (decode (now (table .entry)))) p)) (decode (now (table .entry)))) ⌝ }
+{
+    let sends = table::sends_at(table, k, p);
+    let settled = table::settled_at(table, k);
+    let result = table::result_at(table, k, p);
+    if declaring::stays(sends, settled, result) {
+        return;
+    }
+    redeclare(table, k, p);
+}
+
+// The same on each port.
+fn declare_stream(table: &mut [u8], k: usize)
+    requires { ⌜ Stands (now table) k ⌝ }
+    ensures { λ _. ⌜ now (table .exit) ≡ encode (withStream k (model.declare (streamAt k (decode (now (table .entry))))) (decode (now (table .entry)))) ⌝ }
+{
+    let mut p: usize = 0;
+    while p < 8 {
+        declare_on(table, k, p);
+        p += 1;
+    }
+}
+
+// The same of each stream.
+fn declare_all(table: &mut [u8])
+    requires { ⌜ Laid (now table) ⌝ }
+    ensures { λ _. ⌜ now (table .exit) ≡ encode (holding (decode (now (table .entry)))
+        (map model.declare (decode (now (table .entry)) .streams))) ⌝ }
+{
+    let held = table::count(table);
+    let mut k: usize = 0;
+    while k < held {
+        declare_stream(table, k);
+        k += 1;
+    }
+}
+
+// leavealltimer! at place p, where that is a port.
+fn time_sender(table: &mut [u8], p: usize, time: u32)
+    requires { ⌜ PortIn (now table) p ⌝ }
+    ensures { λ _. ⌜ now (table .exit) ≡ encode (withSender p (λ s. cond (isPort (decode (now (table .entry)) .settings) p) (timed time s) s)
+        (decode (now (table .entry)))) ⌝ }
+{
+    if table::ports(table) <= p {
+        return;
+    }
+    let a = table::sender_in(table, p);
+    declaring::time(&mut table[a..a + table::SENDER], time);
+}
+
+// The same at each place.
+fn time_all(table: &mut [u8], time: u32)
+    requires { ⌜ Laid (now table) ⌝ }
+    ensures { λ _. ⌜ now (table .exit) ≡ encode (sending (decode (now (table .entry)))
+        (tabulate 8 0 (model.timeSender (decode (now (table .entry)) .settings) time (decode (now (table .entry)) .senders)))) ⌝ }
+{
+    let mut place: usize = 0;
+    while place < 8 {
+        time_sender(table, place, time);
+        place += 1;
+    }
+}
+
+// What is sent after it was decided at a time: declared and withdrawn; the streams that are no longer held dropped; the timers.
+fn send(table: &mut [u8], time: u32)
+    requires { ⌜ Laid (now table) × (time ≡ decode (now table) .clock) ⌝ }
+    ensures { λ _. ⌜ now (table .exit) ≡ encode (model.declaring (decode (now (table .entry)))) ⌝ }
+{
+    declare_all(table);
+    table::drop_unheld(table);
+    time_all(table, time);
+}
+
+// Advance.
+pub fn settle(table: &mut [u8], time: u32)
+    requires { ⌜ Laid (now table) ⌝ }
+    ensures { λ _. ⌜ now (table .exit) ≡ encode (model.settle time (decode (now (table .entry)))) ⌝ }
+{
+    decide(table, time);
+    send(table, time);
 }

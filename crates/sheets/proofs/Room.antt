@@ -18,9 +18,9 @@ use Rattle.model.specs.Calls.{reportOn}
 use Rattle.console.specs.Text.{decimalIn}
 use Rattle.console.specs.Words.{columnText, listenerText, entryText, talkerText, shownText}
 use Rattle.console.proofs.Laws.{put-whole}
-use Rattle.sheets.specs.Lines.{classText, portLine, streamLine, refusedLine, stopLine}
+use Rattle.sheets.specs.Lines.{classText, classesText, portText, portLine, streamText, streamLine, refusedLine, stopLine}
 use Rattle.sheets.specs.Records.{Record, frame, time, stop, recordOf, sizeOf, recordsFrom, recordsOf, called, answerText, recordText, tableAfter, recordsText, settingsLength}
-use Rattle.sheets.specs.Sheet.{lines, portLines, streamOnPorts, streamLines, printed, startedBy, sheetText, inputOctets, textOctets}
+use Rattle.sheets.specs.Sheet.{lines, portLines, streamOnPorts, streamLines, reportLines, printed, startedBy, sheetText, inputOctets, textOctets}
 use Rattle.sheets.specs.Promises.{Printed}
 use Rattle.sheets.proofs.Reading.{ports-few, size-within, records-none, records-stop, records-more}
 use Rattle.sheets.proofs.Counting.{count-few}
@@ -65,7 +65,7 @@ entry-short forwards = omega arith
 -- Lines.
 
 port-short : (p : ℕ) (r : Report) → length (portLine p r) ≤ 114
-unfolding portLine classText
+unfolding portLine portText classesText classText
 port-short p r =
     simp length-append
     (omega (arith, length-decimal 20 p, length-decimal 20 (r .totalA), length-decimal 20 (r .limitA), length-decimal 20 (r .totalB), length-decimal 20 (r .limitB)))
@@ -77,7 +77,7 @@ shown-short r =
     (omega (arith, column-short (r .column), length-decimal 20 (r .code), listener-short (r .listener), entry-short (r .entry)))
 
 stream-short : (p : ℕ) (r : Report) → length (streamLine p r) ≤ 89
-unfolding streamLine
+unfolding streamLine streamText
 stream-short p r = simp length-append (omega (arith, length-digits 16 16 (r .id), length-decimal 20 p, shown-short r))
 
 refused-short : (n : ℕ) → length (refusedLine n) ≤ 29
@@ -138,6 +138,10 @@ module _ (table : List ℕ) where
   streams-short n h =
       omega (arith, lines-short (streamOnPorts table n) 1335 (λ place. on-ports-short n place h) (reportOn table 1 0 .count), count-few table 1 0)
 
+  report-short : (n : ℕ) → n ≤ 15 → length (reportLines table n) ≤ 87150
+  unfolding reportLines
+  report-short n h = simp length-append (omega (arith, ports-short n h, streams-short n h))
+
 module _ (table input : List ℕ) (octets : (i : ℕ) → getD input i 0 < 256) (short : length input ≤ inputOctets) where
   called-short : (t : List ℕ) → length (recordsText (recordsOf (drop (settingsLength input) input)) t) ≤ 633520
   unfolding recordsOf
@@ -154,8 +158,8 @@ module _ (table input : List ℕ) (octets : (i : ℕ) → getD input i 0 < 256) 
       let n = portsField input in
       let few = ports-few input octets in
       pick-keeps (λ (l : List ℕ). length l ≤ textOctets) (eqb (start .number) 0)
-      (recordsText records (start .table) ++ (portLines t n ++ streamLines t n)) stopLine
-      (simp length-append (omega (arith, called-short (start .table), ports-short t n few, streams-short t n few)))
+      (recordsText records (start .table) ++ reportLines t n) stopLine
+      (simp length-append (omega (arith, called-short (start .table), report-short t n few)))
       (unfold stopLine in omega arith)
 
   -- what is put in front of such a text is the sheet, whole

@@ -14,7 +14,7 @@ use Rattle.console.specs.Text.{Put}
 use Rattle.console.proofs.Laws.{put-append}
 use Rattle.sheets.specs.Lines.{stopLine}
 use Rattle.sheets.specs.Records.{settingsLength}
-use Rattle.sheets.specs.Sheet.{portLines, streamLines, leftBy, printed, startedBy, sheetText, sheetTable}
+use Rattle.sheets.specs.Sheet.{reportLines, leftBy, printed, startedBy, sheetText, sheetTable}
 use Rattle.sheets.specs.Promises.{CalledAll, Printed}
 use Rattle.sheets.proofs.Reading.{rest-whole}
 
@@ -29,14 +29,14 @@ module _ (table input after : List ℕ) (n number : ℕ) (e : n ≡ settingsLeng
       let no : eqb (startedBy table input .number) 0 ≡ false = ne-eqb _ _ (λ z. h (begun .0 ∙ z)) in
       record { table-is = rw no (begun .1); text-is = rw no p }
 
-  pub sheet-accepted : {text called ported textExit tableExit : List ℕ} {a b end ports : ℕ} → number ≡ 0 → ports ≡ portsField input
-      → CalledAll after (take (length input - n) (drop n input)) text 0 a tableExit called → Put called a (portLines tableExit ports) b ported
-      → Put ported b (streamLines tableExit ports) end textExit → Printed table input text end tableExit textExit
+  pub sheet-accepted : {text called textExit tableExit : List ℕ} {a end ports : ℕ} → number ≡ 0 → ports ≡ portsField input
+      → CalledAll after (take (length input - n) (drop n input)) text 0 a tableExit called → Put called a (reportLines tableExit ports) end textExit
+      → Printed table input text end tableExit textExit
   unfolding sheetTable sheetText leftBy printed startedBy pick
-  sheet-accepted h same c p q =
+  sheet-accepted h same c p =
       let yes : eqb (startedBy table input .number) 0 ≡ true = eq-eqb _ _ (sym (begun .0) ∙ h) in
       let all = rw (rest-whole input n, e, begun .1) at c in
       record {
         table-is = rw yes (all .table-is);
-        text-is = rw (yes, ← (all .table-is), ← same) (put-append (all .text-is) (put-append p q));
+        text-is = rw (yes, ← (all .table-is), ← same) (put-append (all .text-is) p);
       }

@@ -13,18 +13,23 @@ lineEnd = 10 ∷ []
 unfoldable pub classText : List ℕ → ℕ → ℕ → List ℕ
 classText name total limit = name ++ (decimal total ++ (47 ∷ decimal limit))
 
+-- both classes, and the line's end
+unfoldable pub classesText : ℕ → ℕ → ℕ → ℕ → List ℕ
+classesText totalA limitA totalB limitB = classText (32 ∷ 65 ∷ 32 ∷ []) totalA limitA ++ (classText (32 ∷ 66 ∷ 32 ∷ []) totalB limitB ++ lineEnd)
+
 -- "a line per port": port P A TOTAL/LIMIT B TOTAL/LIMIT
+unfoldable pub portText : ℕ → List ℕ
+portText p = (112 ∷ 111 ∷ 114 ∷ 116 ∷ []) ++ spaced p
+
 unfoldable pub portLine : ℕ → Report → List ℕ
-portLine p r =
-    (112 ∷ 111 ∷ 114 ∷ 116 ∷ [])
-    ++ (spaced p
-    ++ (classText (32 ∷ 65 ∷ 32 ∷ []) (r .totalA) (r .limitA)
-    ++ (classText (32 ∷ 66 ∷ 32 ∷ []) (r .totalB) (r .limitB)
-    ++ lineEnd)))
+portLine p r = portText p ++ classesText (r .totalA) (r .limitA) (r .totalB) (r .limitB)
 
 -- "StreamID (16 lower-case hex digits), port, Talker column, code (0 unless failed), Listener declared there, entry"
+unfoldable pub streamText : ℕ → ℕ → List ℕ
+streamText id p = digits 16 16 id ++ spaced p
+
 unfoldable pub streamLine : ℕ → Report → List ℕ
-streamLine p r = digits 16 16 (r .id) ++ (spaced p ++ (shownText r ++ lineEnd))
+streamLine p r = streamText (r .id) p ++ (shownText r ++ lineEnd)
 
 -- "It prints `refused N` for a refused call"
 unfoldable pub refusedLine : ℕ → List ℕ

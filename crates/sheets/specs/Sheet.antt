@@ -26,6 +26,10 @@ streamOnPorts t n place = lines (λ p. streamLine (p + 1) (reportOn t (p + 1) pl
 unfoldable pub streamLines : List ℕ → ℕ → List ℕ
 streamLines t n = lines (streamOnPorts t n) (reportOn t 1 0 .count)
 
+-- "a line per port follows, .. then one per stream"
+unfoldable pub reportLines : List ℕ → ℕ → List ℕ
+reportLines t n = portLines t n ++ streamLines t n
+
 -- the table that the calls of an input leave, the table and the settings' answer given
 unfoldable pub leftBy : List ℕ → Call → List ℕ
 leftBy input start = pick (eqb (start .number) 0) (tableAfter (recordsOf (drop (settingsLength input) input)) (start .table)) (start .table)
@@ -36,7 +40,7 @@ printed input start =
     let records = recordsOf (drop (settingsLength input) input) in
     let t = tableAfter records (start .table) in
     pick (eqb (start .number) 0)
-    (recordsText records (start .table) ++ (portLines t (portsField input) ++ streamLines t (portsField input)))
+    (recordsText records (start .table) ++ reportLines t (portsField input))
     stopLine
 
 -- the settings, handed to a table

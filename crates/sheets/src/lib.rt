@@ -1,17 +1,15 @@
 // The printed sheet (01): all that srpsheet prints, put into octets that the caller lends, of all that it reads. None of the public
 // functions asks anything of its arguments: what does not fit is left out.
-use reports::Reported;
 ghost use mathlib.Core.Path.{_≡_};
 ghost use Prim.Native.Nat.{_≤_};
 ghost use lib.ListN.{length};
 ghost use Rattle.console.specs.Text.{Put};
-ghost use Rattle.reports.specs.Shown.{shown};
 ghost use Rattle.model.specs.Layout.{tableLength};
 ghost use Rattle.model.specs.Table.{portsField};
 ghost use Rattle.model.specs.Calls.{reportOn};
-ghost use Rattle.sheets.specs.Lines.{classText, portLine, streamLine, refusedLine, stopLine};
+ghost use Rattle.sheets.specs.Lines.{classText, classesText, portText, portLine, streamText, streamLine, refusedLine, stopLine};
 ghost use Rattle.sheets.specs.Records.{settingsLength, frameOf, timeOf, recordOf, answerText};
-ghost use Rattle.sheets.specs.Sheet.{portLines, streamOnPorts, streamLines, textOctets};
+ghost use Rattle.sheets.specs.Sheet.{portLines, streamOnPorts, streamLines, reportLines, textOctets};
 ghost use Rattle.sheets.specs.Promises.{Called, CalledAll, Printed};
 
 // Octets of a text: no sheet of an input of 65,536 octets is longer.
@@ -41,25 +39,60 @@ fn put_class(text: &mut [u8], at: usize, name: &[u8], total: u64, limit: u64) ->
     console::put_decimal(text, c, limit)
 }
 
-// The line of a port, by its report.
-pub fn put_port(text: &mut [u8], at: usize, port: u32, answer: Reported) -> usize
-    ensures { λ r. ⌜ Put (now (text .entry)) at (portLine port (shown answer)) r (now (text .exit)) ⌝ }
+// Both classes of a port, and the line's end.
+fn put_classes(
+    text: &mut [u8],
+    at: usize,
+    total_a: u64,
+    limit_a: u64,
+    total_b: u64,
+    limit_b: u64,
+) -> usize
+    ensures { λ r. ⌜ Put (now (text .entry)) at (classesText «total_a» «limit_a» «total_b» «limit_b») r (now (text .exit)) ⌝ }
 {
-    let a = console::put(text, at, b"port");
-    let b = console::put_number(text, a, port as u64);
-    let c = put_class(text, b, b" A ", answer.total_a, answer.limit_a);
-    let d = put_class(text, c, b" B ", answer.total_b, answer.limit_b);
-    console::put(text, d, b"\n")
+    let a = put_class(text, at, b" A ", total_a, limit_a);
+    let b = put_class(text, a, b" B ", total_b, limit_b);
+    console::put(text, b, b"\n")
 }
 
-// The line of a stream on a port, by its report.
-pub fn put_stream(text: &mut [u8], at: usize, port: u32, answer: Reported) -> usize
-    ensures { λ r. ⌜ Put (now (text .entry)) at (streamLine port (shown answer)) r (now (text .exit)) ⌝ }
+fn put_port_number(text: &mut [u8], at: usize, port: u32) -> usize
+    ensures { λ r. ⌜ Put (now (text .entry)) at (portText port) r (now (text .exit)) ⌝ }
 {
-    let a = console::put_id(text, at, answer.id);
-    let b = console::put_number(text, a, port as u64);
-    let c = console::put_shown(text, b, answer);
-    console::put(text, c, b"\n")
+    let a = console::put(text, at, b"port");
+    console::put_number(text, a, port as u64)
+}
+
+// The line of a port, by its report.
+pub fn put_port(text: &mut [u8], at: usize, table: &[u8], port: u32) -> usize
+    ensures { λ r. ⌜ Put (now (text .entry)) at (portLine port (reportOn (now (table .entry)) port 0)) r (now (text .exit)) ⌝ }
+{
+    let answer = bridge::report(table, port, 0);
+    let a = put_port_number(text, at, port);
+    put_classes(
+        text,
+        a,
+        answer.total_a,
+        answer.limit_a,
+        answer.total_b,
+        answer.limit_b,
+    )
+}
+
+fn put_stream_number(text: &mut [u8], at: usize, id: u64, port: u32) -> usize
+    ensures { λ r. ⌜ Put (now (text .entry)) at (streamText id port) r (now (text .exit)) ⌝ }
+{
+    let a = console::put_id(text, at, id);
+    console::put_number(text, a, port as u64)
+}
+
+// The line of the stream at a place on a port, by its report.
+pub fn put_stream(text: &mut [u8], at: usize, table: &[u8], port: u32, place: u32) -> usize
+    ensures { λ r. ⌜ Put (now (text .entry)) at (streamLine port (reportOn (now (table .entry)) port place)) r (now (text .exit)) ⌝ }
+{
+    let answer = bridge::report(table, port, place);
+    let a = put_stream_number(text, at, answer.id, port);
+    let b = console::put_shown(text, a, answer);
+    console::put(text, b, b"\n")
 }
 
 fn put_refused(text: &mut [u8], at: usize, number: u8) -> usize
@@ -186,7 +219,7 @@ pub fn put_ports(text: &mut [u8], at: usize, table: &[u8], ports: u32) -> usize
     let mut end = console::least(at, text.len());
     let mut p: u32 = 0;
     while p < ports {
-        end = put_port(text, end, p + 1, bridge::report(table, p + 1, 0));
+        end = put_port(text, end, table, p + 1);
         p += 1;
     }
     end
@@ -199,7 +232,7 @@ fn put_stream_on_ports(text: &mut [u8], at: usize, table: &[u8], ports: u32, pla
     let mut end = console::least(at, text.len());
     let mut p: u32 = 0;
     while p < ports {
-        end = put_stream(text, end, p + 1, bridge::report(table, p + 1, place));
+        end = put_stream(text, end, table, p + 1, place);
         p += 1;
     }
     end
@@ -227,6 +260,14 @@ pub fn put_streams(text: &mut [u8], at: usize, table: &[u8], ports: u32) -> usiz
     end
 }
 
+// The lines of all ports, then those of all streams.
+pub fn put_report(text: &mut [u8], at: usize, table: &[u8], ports: u32) -> usize
+    ensures { λ r. ⌜ Put (now (text .entry)) at (reportLines (now (table .entry)) ports) r (now (text .exit)) ⌝ }
+{
+    let a = put_ports(text, at, table, ports);
+    put_streams(text, a, table, ports)
+}
+
 // The sheet of an input, by calls on a table.
 pub fn put_sheet(table: &mut [u8], input: &[u8], text: &mut [u8]) -> usize
     ensures { λ r. ⌜ Printed (now (table .entry)) (now (input .entry)) (now (text .entry)) r (now (table .exit)) (now (text .exit)) ⌝ }
@@ -238,6 +279,5 @@ pub fn put_sheet(table: &mut [u8], input: &[u8], text: &mut [u8]) -> usize
     }
     let ports = ports_field(input);
     let a = call_all(table, &input[n..], text, 0);
-    let b = put_ports(text, a, table, ports);
-    put_streams(text, b, table, ports)
+    put_report(text, a, table, ports)
 }

@@ -104,16 +104,21 @@ fn advance(table: &mut [u8], space: &mut [u8]) -> Step {
     Step::Stop
 }
 
-fn write(table: &[u8], port: u32, space: &mut [u8]) -> Step {
+// A write to a filled buffer of the length asked for, and its line.
+fn put_write(table: &mut [u8], port: u32, place: u32, asked: usize, space: &mut [u8]) -> usize {
+    let n = console::least(asked, answers::BUFFER);
+    let mut filled = answers::filled();
+    let buffer = &mut filled[0..n];
+    let wrote = bridge::write(table, port, place, buffer);
+    answers::put_written(space, wrote, buffer)
+}
+
+fn write(table: &mut [u8], port: u32, space: &mut [u8]) -> Step {
     let mut field = [0u8; 4];
     if read(&mut field) {
         let place = octets::get(&field, 0, 2) as u32;
         let asked = octets::get(&field, 2, 2) as usize;
-        let n = console::least(asked, answers::BUFFER);
-        let mut filled = answers::filled();
-        let buffer = &mut filled[0..n];
-        let wrote = bridge::write(table, port, place, buffer);
-        let at = answers::put_written(space, wrote, buffer);
+        let at = put_write(table, port, place, asked, space);
         return print(space, at);
     }
     Step::Stop
@@ -129,16 +134,21 @@ fn report(table: &[u8], port: u32, space: &mut [u8]) -> Step {
     Step::Stop
 }
 
+// A why with a filled buffer of the length asked for, and its line.
+fn put_why(table: &[u8], id: u64, port: u32, asked: usize, space: &mut [u8]) -> usize {
+    let n = console::least(asked, answers::BUFFER);
+    let mut filled = answers::filled();
+    let buffer = &mut filled[0..n];
+    let answer = bridge::why(table, id, port, buffer);
+    answers::put_explained(space, answer, buffer)
+}
+
 fn explain(table: &[u8], port: u32, space: &mut [u8]) -> Step {
     let mut field = [0u8; 10];
     if read(&mut field) {
         let id = octets::get(&field, 0, 8);
         let asked = octets::get(&field, 8, 2) as usize;
-        let n = console::least(asked, answers::BUFFER);
-        let mut filled = answers::filled();
-        let buffer = &mut filled[0..n];
-        let answer = bridge::why(table, id, port, buffer);
-        let at = answers::put_explained(space, answer, buffer);
+        let at = put_why(table, id, port, asked, space);
         return print(space, at);
     }
     Step::Stop
@@ -179,7 +189,6 @@ fn print_octets(table: &[u8], space: &mut [u8]) -> Step {
 fn look(table: &[u8], kind: u8, space: &mut [u8]) -> Step {
     let port = (kind % 16) as u32;
     match kind {
-        0x30..=0x3F => write(table, port, space),
         0x40..=0x4F => report(table, port, space),
         0x60 => print_sum(table, space),
         0x61 => print_octets(table, space),
@@ -195,6 +204,7 @@ fn call(table: &mut [u8], kind: u8, space: &mut [u8]) -> Step
     match kind {
         0x00 | 0x10..=0x1F | 0x70..=0x7F => hand(table, kind, space),
         0x20 => advance(table, space),
+        0x30..=0x3F => write(table, (kind % 16) as u32, space),
         _ => look(table, kind, space),
     }
 }

@@ -12,8 +12,9 @@ use Rattle.octets.specs.Fields.{fields}
 use Rattle.model.specs.Layout.{before, fixedWidths, inPort}
 use Rattle.model.specs.Lists.{isOne}
 use Rattle.model.specs.Bandwidth.{demand}
-use Rattle.model.specs.Table.{portFrom, toPort, fixedFrom}
+use Rattle.model.specs.Table.{portFrom, toPort}
 use Rattle.table.specs.Reads.{toFixed}
+use Rattle.model.specs.WrittenFrames.{fixedFrom}
 
 -- MaxFrameSize, MaxIntervalFrames, overhead and flags as they are read
 module _ (port fixed : List ℕ) (size frames overhead flags : ℕ)

@@ -12,26 +12,28 @@ use Rattle.octets.proofs.Parts.{lent-part}
 use Rattle.octets.proofs.Frame.{part-part}
 use Rattle.octets.proofs.Fields.{fields-of-packed}
 use Rattle.octets.proofs.Patches.{lent-patch, patch-within}
-use Rattle.model.specs.Layout.{cellIn, cellPlace, cellSize, fixedSize, fixedWidths, portPlace, portSize, recordPlace, recordSize, resultIn, resultPlace, resultSize, settledOf, inRecord, totalPlace, totalSize}
-use Rattle.model.specs.State.{Fixed, Cell, Result, Stream, Totals, Bridge, portAt, cellAt, resultAt, noTotals, fresh}
+use Rattle.model.specs.Layout.{cellIn, cellPlace, cellSize, fixedSize, fixedWidths, portPlace, portSize, recordPlace, recordSize, resultIn, resultPlace, resultSize, sendsIn, sendsPlace, sendsSize, settledOf, inRecord, totalPlace, totalSize}
+use Rattle.model.specs.State.{Fixed, Cell, Result, Sends, Stream, Totals, Bridge, portAt, cellAt, resultAt, sendsAt, noTotals, fresh}
 use Rattle.model.specs.Registrations.{at, change, holding}
-use Rattle.model.specs.Settling.{sceneOf, Inbound, addInbound, inboundsOf, sourceOf}
-use Rattle.model.specs.WrittenFrames.{fixedNumbers}
-use Rattle.model.specs.Table.{portOctets, fixedFrom, cellOctets, toCell, resultOctets, toResult, streamOctets, totalsOctets, encode, decode}
-use Rattle.model.specs.Laid.{FitCell, FitResult, FitStream, FitTotals, FitBridge, Laid}
+use Rattle.model.specs.Settling.{sceneOf, Inbound, inboundsOf, sourceOf, addInbound}
+use Rattle.model.specs.WrittenFrames.{fixedNumbers, fixedFrom}
+use Rattle.model.specs.Sending.{sendsOctets, toSends}
+use Rattle.model.specs.Table.{portOctets, cellOctets, toCell, resultOctets, toResult, streamOctets, totalsOctets, encode, decode}
+use Rattle.model.specs.Laid.{FitCell, FitResult, FitSends, FitStream, FitTotals, FitBridge, Laid}
 use Rattle.model.proofs.Lists.{all-at}
 use Rattle.model.proofs.Parts.{_also_}
 use Rattle.model.proofs.Cells.{fixed-back, cell-length}
 use Rattle.model.proofs.Results.{result-length}
+use Rattle.model.proofs.SendsOctets.{sends-length}
 use Rattle.model.proofs.SettingsOctets.{port-length, port-back}
 use Rattle.model.proofs.Tables.{totals-length, totals-back}
-use Rattle.model.proofs.Fits.{fit-fixed, cell-read, result-read, id-fits, settled-fits, bridge-read, laid-is, laid-fits}
-use Rattle.table.specs.Updates.{settledAs, resulting, streamAt, totalsAt, withStream, withSettled, withCell, withResult, withTotals}
+use Rattle.model.proofs.Fits.{fit-fixed, cell-read, result-read, sends-read, id-fits, settled-fits, bridge-read, laid-is, laid-fits}
+use Rattle.table.specs.Updates.{settledAs, resulting, streamAt, totalsAt, withStream, withSettled, withCell, withResult, withSends, withTotals}
 use Rattle.table.specs.Places.{Stands, PortIn, StandsOn}
-use Rattle.table.specs.Reads.{fixedOctets, toFixed, FitFixed, Reads, ReadsCell, ReadsResult, ReadsFixed, ReadsPort, ReadsTotals}
+use Rattle.table.specs.Reads.{fixedOctets, toFixed, FitFixed, Reads, ReadsCell, ReadsResult, ReadsSends, ReadsFixed, ReadsPort, ReadsTotals}
 use Rattle.table.proofs.Header.{table-length, laid-few, port-fits, port-part, totals-part, totals-patch}
 use Rattle.table.proofs.Records.{record-part, record-patch}
-use Rattle.table.proofs.StreamParts.{fixed-length, settled-part, settled-patch, cell-part, cell-patch, cell-fits, result-part, result-patch, result-fits}
+use Rattle.table.proofs.StreamParts.{fixed-length, settled-part, settled-patch, cell-part, cell-patch, cell-fits, result-part, result-patch, result-fits, sends-part, sends-patch, sends-fit}
 use Rattle.table.proofs.Fitting.{set-fits}
 
 -- What a stream is replaced by comes in as the stream did, if it has its StreamID and its cells.
@@ -177,6 +179,8 @@ module _ {t : List ℕ} {k : ℕ} (s : Stands t k) where
           cells = x .cells;
           eight-results = x .eight-results;
           results = x .results;
+          eight-sends = x .eight-sends;
+          sends = x .sends;
         }
 
   -- lent as `&t[a..a + fixedSize]`, and left
@@ -204,7 +208,7 @@ module _ {t : List ℕ} {k p : ℕ} (s : StandsOn t k p) where
   module _ (u : Cell → Cell) where
     pub cell-replaced : patch (cellPlace k p) cellSize (cellOctets (u (cellAt x p))) t ≡ encode (withCell k p u (decode t))
     cell-replaced =
-        in-record-replaced (stands s) (cellIn p) cellSize (omega arith) (cellOctets (u (cellAt x p))) (change (at p u) x)
+        in-record-replaced (stands s) (cellIn p) cellSize (omega arith) (cellOctets (u (cellAt x p))) (change (at p u) (λ m. m) x)
         (cell-patch x x-fits p (cellIn p) (s .port) refl u)
 
   module _ (a : ℕ) (e : a ≡ cellPlace k p) where
@@ -249,6 +253,35 @@ module _ {t : List ℕ} {k p : ℕ} (s : StandsOn t k p) where
         → take a t ++ (y ++ drop (a + resultSize - a) (drop a t)) ≡ encode (withResult k p (u (resultAt (x s) p)) (decode t))
     changed-result-at u y q =
         left-result-at (u (resultAt (x s) p)) y (q ∙ ap (λ (r : Result). resultOctets (u r)) (lent-result-at .is))
+
+-- What is sent of it there.
+
+pub reads-sends : (y : Sends) → FitSends y → (s : List ℕ) → s ≡ sendsOctets y → ReadsSends s y
+reads-sends y w s e = reads sendsOctets y (sends-length y) (sends-read y w) s e record { thing = y; fits = w; is = e }
+
+module _ {t : List ℕ} {k p : ℕ} (s : StandsOn t k p) where
+  pub sends-at : ReadsSends (part (sendsPlace k p) sendsSize t) (sendsAt (x s) p)
+  sends-at =
+      reads-sends (sendsAt (x s) p) (sends-fit (x s) (x-fits s) p (sendsIn p) (s .port) refl) (part (sendsPlace k p) sendsSize t)
+      (in-record (stands s) (sendsIn p) sendsSize (omega arith) ∙ sends-part (x s) (x-fits s) p (sendsIn p) (s .port) refl)
+
+  module _ (u : Sends → Sends) where
+    pub sends-replaced : patch (sendsPlace k p) sendsSize (sendsOctets (u (sendsAt (x s) p))) t ≡ encode (withSends k p u (decode t))
+    sends-replaced =
+        in-record-replaced (stands s) (sendsIn p) sendsSize (omega arith) (sendsOctets (u (sendsAt (x s) p))) (change (λ l. l) (at p u) (x s))
+        (sends-patch (x s) (x-fits s) p (sendsIn p) (s .port) refl u)
+
+  module _ (a : ℕ) (e : a ≡ sendsPlace k p) where
+    pub lent-sends-at : ReadsSends (take (a + sendsSize - a) (drop a t)) (sendsAt (x s) p)
+    lent-sends-at = rw (e, lent-part (sendsPlace k p) sendsSize t) sends-at
+
+    -- by a call that ensures `now (y .exit) ≡ sendsOctets (u (toSends (now (y .entry))))`
+    pub left-sends-at : (u : Sends → Sends) (y : List ℕ) → y ≡ sendsOctets (u (toSends (take (a + sendsSize - a) (drop a t))))
+        → take a t ++ (y ++ drop (a + sendsSize - a) (drop a t)) ≡ encode (withSends k p u (decode t))
+    left-sends-at u y q =
+        lent-patch a sendsSize y t
+        ∙ ap (λ (z : List ℕ). patch a sendsSize z t) (q ∙ ap (λ (c : Sends). sendsOctets (u c)) (lent-sends-at .is))
+        ∙ rw e (sends-replaced u)
 
 -- The settings of the port, and its totals.
 

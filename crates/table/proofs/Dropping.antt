@@ -17,18 +17,17 @@ use Rattle.model.specs.Layout.{inTable, recordPlace, recordSize}
 use Rattle.model.specs.Lists.{keep}
 use Rattle.model.specs.State.{Stream, Bridge, fresh}
 use Rattle.model.specs.Registrations.{holding}
-use Rattle.model.specs.Settling.{held}
+use Rattle.model.specs.Settling.{isHeld, dropUnheld}
 use Rattle.model.specs.Table.{streamOctets, toStream, encode, decode}
 use Rattle.model.specs.Laid.{FitStream, FitBridge, Laid}
 use Rattle.model.proofs.Lists.{all-take}
+use Rattle.model.proofs.AdvanceKeepsForm.{all-dropped}
 use Rattle.model.proofs.Parts.{Sized, zeros-add, length-flat-sized, part-between}
 use Rattle.model.proofs.Fits.{stream-size, stream-read, laid-is}
-use Rattle.table.specs.Held.{heldOnly}
 use Rattle.table.specs.Octets.{recordKept}
 use Rattle.table.proofs.Lens.{all-at, patch-between}
 use Rattle.table.proofs.Header.{header, header-records, header-length, count-patch}
 use Rattle.table.proofs.Records.{unused, records-sized}
-use Rattle.table.proofs.Fitting.{held-all}
 
 -- A record moved down, or to where it is, which leaves all as it is.
 
@@ -45,35 +44,35 @@ kept-there i j s e = sym (ap (λ (k : ℕ). patch (recordPlace j) recordSize (pa
 
 -- The loop over the records.
 
-held-append : (l m : List Stream) → heldOnly (l ++ m) ≡ heldOnly l ++ heldOnly m
-unfolding heldOnly
+held-append : (l m : List Stream) → dropUnheld (l ++ m) ≡ dropUnheld l ++ dropUnheld m
+unfolding dropUnheld
 held-append [] m = refl
-held-append (x ∷ l) m = go (held (x .cells)) (held-append l m)
+held-append (x ∷ l) m = go (isHeld x) (held-append l m)
   where
-    go : (t : Bool) → heldOnly (l ++ m) ≡ heldOnly l ++ heldOnly m → keep t x (heldOnly (l ++ m)) ≡ keep t x (heldOnly l) ++ heldOnly m
+    go : (t : Bool) → dropUnheld (l ++ m) ≡ dropUnheld l ++ dropUnheld m → keep t x (dropUnheld (l ++ m)) ≡ keep t x (dropUnheld l) ++ dropUnheld m
     go true e = ap (λ (s : List Stream). x ∷ s) e
     go false e = e
 
-one-held : (x : Stream) → held (x .cells) ≡ true → heldOnly (x ∷ []) ≡ x ∷ []
-unfolding heldOnly
+one-held : (x : Stream) → isHeld x ≡ true → dropUnheld (x ∷ []) ≡ x ∷ []
+unfolding dropUnheld
 one-held x e = rw e
 
-none-held : (x : Stream) → held (x .cells) ≡ false → heldOnly (x ∷ []) ≡ []
-unfolding heldOnly
+none-held : (x : Stream) → isHeld x ≡ false → dropUnheld (x ∷ []) ≡ []
+unfolding dropUnheld
 none-held x e = rw e
 
 -- after i records, of which j are held: these stand first, then octets that no record needs, then the records from i on
 pub record Closing (b : Bridge) (t : List ℕ) (i j : ℕ) : Type 0 where
   pub within : i ≤ length (b .streams)
   pub fewer : j ≤ i
-  pub count : j ≡ length (heldOnly (take i (b .streams)))
+  pub count : j ≡ length (dropUnheld (take i (b .streams)))
   pub between : List ℕ
   pub size : length between ≡ (i - j) * recordSize
-  pub is : t ≡ (header b ++ flat streamOctets (heldOnly (take i (b .streams))))
+  pub is : t ≡ (header b ++ flat streamOctets (dropUnheld (take i (b .streams))))
       ++ (between ++ (flat streamOctets (drop i (b .streams)) ++ unused (length (b .streams))))
 
 closing-whole : (b : Bridge) → Closing b (encode b) 0 0
-unfolding heldOnly flat
+unfolding dropUnheld flat
 closing-whole b = record {
   within = omega arith;
   fewer = omega arith;
@@ -88,7 +87,7 @@ closing-start t l = subst (λ (s : List ℕ). Closing (decode t) s 0 0) (sym (la
 
 module _ (b : Bridge) (w : FitBridge b) (t : List ℕ) (i j : ℕ) (c : Closing b t i j) where
   kept-streams : List Stream
-  kept-streams = heldOnly (take i (b .streams))
+  kept-streams = dropUnheld (take i (b .streams))
 
   front : List ℕ
   front = header b ++ flat streamOctets kept-streams
@@ -100,7 +99,7 @@ module _ (b : Bridge) (w : FitBridge b) (t : List ℕ) (i j : ℕ) (c : Closing 
       let e : length l ≡ j = sym (c .count) in
       let z =
       length-flat-sized recordSize streamOctets l
-      (held-all (Sized recordSize streamOctets) (take i (b .streams)) (all-take (Sized recordSize streamOctets) i (b .streams) (records-sized b w))) in
+      (all-dropped (Sized recordSize streamOctets) (Sized recordSize streamOctets) (λ x h f. f) (take i (b .streams)) (all-take (Sized recordSize streamOctets) i (b .streams) (records-sized b w))) in
       length-append (header b) (flat streamOctets l) ∙ omega (arith, header-length b w)
 
   module _ (h : i < length (b .streams)) where
@@ -129,20 +128,20 @@ module _ (b : Bridge) (w : FitBridge b) (t : List ℕ) (i j : ℕ) (c : Closing 
         (length-append front (c .between) ∙ omega (arith, front-length, c .size, c .fewer)) (stream-size x x-fits)
 
     -- what a call sees of it
-    pub seen-held : held (toStream (take (recordPlace i + recordSize - recordPlace i) (drop (recordPlace i) t)) .cells)
-        ≡ held (getD (b .streams) i (fresh 0) .cells)
+    pub seen-held : isHeld (toStream (take (recordPlace i + recordSize - recordPlace i) (drop (recordPlace i) t)))
+        ≡ isHeld (getD (b .streams) i (fresh 0))
     unfolding x
-    seen-held = ap (λ (s : List ℕ). held (toStream s .cells)) (lent-part (recordPlace i) recordSize t ∙ seen) ∙ ap (λ (y : Stream). held (y .cells)) (stream-read x x-fits)
+    seen-held = ap (λ (s : List ℕ). isHeld (toStream s)) (lent-part (recordPlace i) recordSize t ∙ seen) ∙ ap isHeld (stream-read x x-fits)
 
-    kept-next : heldOnly (take (suc i) (b .streams)) ≡ kept-streams ++ heldOnly (x ∷ [])
+    kept-next : dropUnheld (take (suc i) (b .streams)) ≡ kept-streams ++ dropUnheld (x ∷ [])
     unfolding kept-streams x
-    kept-next = ap heldOnly (take-suc (b .streams) i (fresh 0) h) ∙ held-append (take i (b .streams)) (x ∷ [])
+    kept-next = ap dropUnheld (take-suc (b .streams) i (fresh 0) h) ∙ held-append (take i (b .streams)) (x ∷ [])
 
     -- a stream that is not held
-    pub closing-drop : held (getD (b .streams) i (fresh 0) .cells) ≡ false → Closing b t (i + 1) j
+    pub closing-drop : isHeld (getD (b .streams) i (fresh 0)) ≡ false → Closing b t (i + 1) j
     unfolding x front rest kept-streams
     closing-drop e =
-        let f : heldOnly (take (suc i) (b .streams)) ≡ kept-streams = kept-next ∙ rw (none-held x e) (append-nil kept-streams) in
+        let f : dropUnheld (take (suc i) (b .streams)) ≡ kept-streams = kept-next ∙ rw (none-held x e) (append-nil kept-streams) in
         rw (add-one i) record {
           within = omega arith;
           fewer = omega (arith, c .fewer);
@@ -177,10 +176,10 @@ module _ (b : Bridge) (w : FitBridge b) (t : List ℕ) (i j : ℕ) (c : Closing 
         ∙ patch-between front (take recordSize gathered) (drop recordSize gathered ++ rest) (streamOctets x) (recordPlace j) recordSize (omega (arith, front-length))
         (length-take-le recordSize gathered (omega (arith, gathered-length)))
 
-    pub closing-keep : held (getD (b .streams) i (fresh 0) .cells) ≡ true → Closing b (recordKept i j t) (i + 1) (j + 1)
+    pub closing-keep : isHeld (getD (b .streams) i (fresh 0)) ≡ true → Closing b (recordKept i j t) (i + 1) (j + 1)
     unfolding x front rest kept-streams flat
     closing-keep e =
-        let f : heldOnly (take (suc i) (b .streams)) ≡ kept-streams ++ (x ∷ []) = kept-next ∙ rw (one-held x e) in
+        let f : dropUnheld (take (suc i) (b .streams)) ≡ kept-streams ++ (x ∷ []) = kept-next ∙ rw (one-held x e) in
         let g : header b ++ flat streamOctets (kept-streams ++ (x ∷ [])) ≡ front ++ streamOctets x =
         ap (λ (s : List ℕ). header b ++ s) (flat-append streamOctets kept-streams (x ∷ []) ∙ ap (λ (s : List ℕ). flat streamOctets kept-streams ++ s) (append-nil (streamOctets x)))
         ∙ sym (append-assoc (header b) (flat streamOctets kept-streams) (streamOctets x)) in
@@ -199,13 +198,13 @@ module _ (b : Bridge) (w : FitBridge b) (t : List ℕ) (i j : ℕ) (c : Closing 
 
   -- all records seen: what lies behind the held ones is cleared, and their number is stored
   pub closing-end : (n : ℕ) → n ≡ length (b .streams) → i ≡ n
-      → patch inTable.count 1 (be 1 j) (patch (recordPlace j) ((n - j) * recordSize) (zeros ((n - j) * recordSize)) t) ≡ encode (holding b (heldOnly (b .streams)))
+      → patch inTable.count 1 (be 1 j) (patch (recordPlace j) ((n - j) * recordSize) (zeros ((n - j) * recordSize)) t) ≡ encode (holding b (dropUnheld (b .streams)))
   unfolding front kept-streams flat holding
   closing-end n a all =
       let e : i ≡ length (b .streams) = all ∙ a in
-      let s = heldOnly (b .streams) in
+      let s = dropUnheld (b .streams) in
       let m : ℕ = (n - j) * recordSize in
-      let k : heldOnly (take i (b .streams)) ≡ s = ap heldOnly (ap (λ (l : ℕ). take l (b .streams)) e ∙ take-length (b .streams)) in
+      let k : dropUnheld (take i (b .streams)) ≡ s = ap dropUnheld (ap (λ (l : ℕ). take l (b .streams)) e ∙ take-length (b .streams)) in
       let d : drop i (b .streams) ≡ [] = ap (λ (l : ℕ). drop l (b .streams)) e ∙ drop-length (b .streams) in
       let q : j ≡ length s = c .count ∙ ap length k in
       let there : t ≡ front ++ (c .between ++ unused n) = c .is ∙ rw (d, a) in

@@ -184,17 +184,17 @@ module _ (h : ℕ → Stream → Stream) where
 module _ (u : Cell → Cell) where
   -- the first p cells changed
   abbrev pub cellsTo : ℕ → Stream → Stream
-  cellsTo p = change (firsts u p)
+  cellsTo p = change (firsts u p) (λ m. m)
 
   pub cells-none : (x : Stream) → cellsTo 0 x ≡ x
   unfolding change firsts
   cells-none x = refl
 
-  pub cells-next : (p : ℕ) (x : Stream) → change (at p u) (cellsTo p x) ≡ cellsTo (p + 1) x
+  pub cells-next : (p : ℕ) (x : Stream) → change (at p u) (λ m. m) (cellsTo p x) ≡ cellsTo (p + 1) x
   unfolding change
   cells-next p x = rw (add-one p, firsts-at u p (x .cells))
 
-  pub cells-done : (n : ℕ) (x : Stream) → length (x .cells) ≡ n → cellsTo n x ≡ change (map u) x
+  pub cells-done : (n : ℕ) (x : Stream) → length (x .cells) ≡ n → cellsTo n x ≡ change (map u) (λ m. m) x
   unfolding change
   cells-done n x e = rw (← e, firsts-all u (x .cells))
 
@@ -211,4 +211,6 @@ module _ (u : Cell → Cell) where
     cells = firsts-keep u FitCell keeps p (x .cells) (w .cells);
     eight-results = w .eight-results;
     results = w .results;
+    eight-sends = w .eight-sends;
+    sends = w .sends;
   }

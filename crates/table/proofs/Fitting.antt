@@ -1,33 +1,33 @@
--- Changes of a bridge after which every number still fits its field: a cell, a result, a record, a stream put in, streams dropped, the
--- clock, the totals.
+-- Changes of a bridge after which every number still fits its field: a cell, a result, what is sent, a record, a stream put in, streams
+-- dropped, the clock, the totals, what a port holds and sends by itself.
 use Prim.Native.Nat.{ℕ, zero, suc, _^_, _≤_, _<_}
 use native.Mathlib.Omega.{arith}
 use mathlib.Core.Path.{_≡_, refl, sym, ap, _∙_, subst}
-use mathlib.Core.Bool.{Bool, true, false}
 use mathlib.Core.List.{List, [], _∷_, _++_, map}
 use lib.ListN.{length, getD, set, take, drop, replicate, length-set, length-map}
 use Rattle.octets.specs.Fields.{Fit}
 use Rattle.octets.proofs.Fields.{fit-zeros}
 use Rattle.model.specs.Layout.{cellWidths, fixedWidths, resultWidths}
-use Rattle.model.specs.Lists.{All, keep}
-use Rattle.model.specs.State.{Cell, Own, Result, Stream, Totals, Bridge, empty, unsettled, noFixed, blank, fresh, noTotals}
-use Rattle.model.specs.Registrations.{at, change, holding, owning, together, ids}
-use Rattle.model.specs.Settling.{held}
+use Rattle.model.specs.Lists.{All}
+use Rattle.model.specs.State.{Cell, Own, Result, Sends, Sender, Stream, Totals, Bridge, empty, unsettled, noFixed, noSends, blank, fresh, noTotals}
+use Rattle.model.specs.Registrations.{at, change, holding, owning, sending, together, ids}
+use Rattle.model.specs.Settling.{dropUnheld}
 use Rattle.model.specs.WrittenFrames.{priorityOctet, fixedNumbers}
 use Rattle.model.specs.Table.{cellNumbers, talkerNumbers, listenerNumbers, resultNumbers, columnNumber, columnBridge, columnCode, entryNumber, declaredNumber}
-use Rattle.model.specs.Laid.{FitCell, FitResult, FitStream, FitTotals, FitOwn, FitBridge, Ascending}
+use Rattle.model.specs.Laid.{FitCell, FitResult, FitSends, FitSender, FitStream, FitTotals, FitOwn, FitBridge, Ascending}
 use Rattle.model.proofs.Lists.{all-replicate, all-append, all-take, all-drop, all-set, length-at, all-changed}
 use Rattle.model.proofs.Parts.{_also_, rising-ascends, ascending-rises}
+use Rattle.model.proofs.AdvanceKeepsForm.{all-dropped, fewer-dropped, dropped-rising}
 use Rattle.model.proofs.FrameOrder.{joined, rising-together}
 use Rattle.table.specs.declared.Found.the-variants.{Gap}
 use Rattle.table.specs.Find.{foundAt}
-use Rattle.table.specs.Held.{heldOnly}
 use Rattle.table.specs.Updates.{clocked, totalled, inserted, resulting}
 use Rattle.table.proofs.Places.{at-gap, length-put-in, room-gap}
 
 -- A stream with its cell at a place changed.
 
-pub changed-fits : (p : ℕ) (u : Cell → Cell) → ((c : Cell) → FitCell c → FitCell (u c)) → (x : Stream) → FitStream x → FitStream (change (at p u) x)
+pub changed-fits : (p : ℕ) (u : Cell → Cell) → ((c : Cell) → FitCell c → FitCell (u c)) → (x : Stream) → FitStream x
+    → FitStream (change (at p u) (λ m. m) x)
 unfolding change
 changed-fits p u k x w = record {
   name = w .name;
@@ -36,6 +36,24 @@ changed-fits p u k x w = record {
   cells = all-changed FitCell p u (x .cells) k (w .cells);
   eight-results = w .eight-results;
   results = w .results;
+  eight-sends = w .eight-sends;
+  sends = w .sends;
+}
+
+-- A stream with what is sent of it at a place changed.
+
+pub changed-sends-fit : (p : ℕ) (u : Sends → Sends) → ((y : Sends) → FitSends y → FitSends (u y)) → (x : Stream) → FitStream x
+    → FitStream (change (λ l. l) (at p u) x)
+unfolding change
+changed-sends-fit p u k x w = record {
+  name = w .name;
+  rank = w .rank;
+  eight-cells = w .eight-cells;
+  cells = w .cells;
+  eight-results = w .eight-results;
+  results = w .results;
+  eight-sends = length-at p u (x .sends) ∙ w .eight-sends;
+  sends = all-changed FitSends p u (x .sends) k (w .sends);
 }
 
 -- A stream with its result at a place replaced.
@@ -48,6 +66,8 @@ set-result-fits p r f x w = record {
   cells = w .cells;
   eight-results = length-set (x .results) p r ∙ w .eight-results;
   results = all-set FitResult (x .results) p r (w .results) f;
+  eight-sends = w .eight-sends;
+  sends = w .sends;
 }
 
 -- A stream without registrations.
@@ -60,6 +80,10 @@ pub unsettled-fits : FitResult unsettled
 unfolding unsettled resultNumbers columnNumber columnBridge columnCode entryNumber declaredNumber
 unsettled-fits = fit-zeros resultWidths
 
+pub no-sends-fit : FitSends noSends
+unfolding noSends
+no-sends-fit = record { advertising = tt; failing = tt }
+
 pub fresh-fits : (id : ℕ) → id < 2 ^ 64 → FitStream (fresh id)
 unfolding fresh blank noFixed fixedNumbers priorityOctet Fit
 fresh-fits id h = record {
@@ -69,6 +93,8 @@ fresh-fits id h = record {
   cells = all-replicate FitCell 8 empty empty-fits;
   eight-results = refl;
   results = all-replicate FitResult 8 unsettled unsettled-fits;
+  eight-sends = refl;
+  sends = all-replicate FitSends 8 noSends no-sends-fit;
 }
 
 -- Other streams held.
@@ -82,6 +108,8 @@ holding-fits b w s few all rise = record {
   totals = w .totals;
   eight-owns = w .eight-owns;
   owns = w .owns;
+  eight-senders = w .eight-senders;
+  senders = w .senders;
   at-most-64 = few;
   streams = all;
   ascending = rise;
@@ -119,7 +147,7 @@ map-fits b w g keeps same =
 -- one put in, where it is missing
 ids-put-in : (k id : ℕ) (s : List Stream) → foundAt id 0 (ids s) ≡ Gap k → ids (take k s ++ (fresh id ∷ drop k s)) ≡ together (ids s) (id ∷ [])
 unfolding together
-ids-put-in k id s f = ap ids (sym (room-gap id k s f)) ∙ joined id (λ c. c) s
+ids-put-in k id s f = ap ids (sym (room-gap id k s f)) ∙ joined (λ x. x) (λ x. refl) id s
 
 all-put-in : (k : ℕ) (y : Stream) (s : List Stream) → FitStream y → All FitStream s → All FitStream (take k s ++ (y ∷ drop k s))
 all-put-in k y s f a = all-append FitStream (take k s) (y ∷ drop k s) (all-take FitStream k s a) (f, all-drop FitStream k s a)
@@ -133,51 +161,12 @@ inserted-fits b w k id f h few =
     (subst Ascending (sym (ids-put-in k id s f))
     (rising-ascends (together (ids s) (id ∷ [])) (rising-together (id ∷ []) (ids s) (ascending-rises (ids s) (w .ascending)))))
 
--- those without a registration dropped
-kept-few : (t : Bool) (x : Stream) (s l : List Stream) → length l ≤ length s → length (keep t x l) ≤ length (x ∷ s)
-kept-few true x s l h = omega arith
-kept-few false x s l h = omega arith
-
-pub held-few : (s : List Stream) → length (heldOnly s) ≤ length s
-unfolding heldOnly
-held-few [] = omega arith
-held-few (x ∷ s) = kept-few (held (x .cells)) x s (heldOnly s) (held-few s)
-
-module _ (P : Stream → Type 0) where
-  kept-all : (t : Bool) (x : Stream) (l : List Stream) → P x → All P l → All P (keep t x l)
-  kept-all true x l h a = (h, a)
-  kept-all false x l h a = a
-
-  pub held-all : (s : List Stream) → All P s → All P (heldOnly s)
-  unfolding heldOnly
-  held-all [] a = tt
-  held-all (x ∷ s) a = kept-all (held (x .cells)) x (heldOnly s) (a .0) (held-all s (a .1))
-
-all-ids : (P : ℕ → Type 0) (s : List Stream) → All P (ids s) → All (λ x. P (x .id)) s
-unfolding ids
-all-ids P [] a = tt
-all-ids P (x ∷ s) a = (a .0, all-ids P s (a .1))
-
-ids-all : (P : ℕ → Type 0) (s : List Stream) → All (λ x. P (x .id)) s → All P (ids s)
-unfolding ids
-ids-all P [] a = tt
-ids-all P (x ∷ s) a = (a .0, ids-all P s (a .1))
-
-pub held-ascends : (s : List Stream) → Ascending (ids s) → Ascending (ids (heldOnly s))
-unfolding heldOnly ids
-held-ascends [] a = tt
-held-ascends (x ∷ s) a =
-    kept-ascends (held (x .cells))
-    (ids-all (λ j. x .id < j) (heldOnly s) (held-all (λ y. x .id < y .id) s (all-ids (λ j. x .id < j) s (a .0)))) (held-ascends s (a .1))
-  where
-    kept-ascends : (t : Bool) → All (λ j. x .id < j) (ids (heldOnly s)) → Ascending (ids (heldOnly s)) → Ascending (ids (keep t x (heldOnly s)))
-    kept-ascends true h r = (h, r)
-    kept-ascends false h r = r
-
-pub held-fits : (b : Bridge) → FitBridge b → FitBridge (holding b (heldOnly (b .streams)))
+-- those that are not held dropped
+pub held-fits : (b : Bridge) → FitBridge b → FitBridge (holding b (dropUnheld (b .streams)))
 held-fits b w =
-    holding-fits b w (heldOnly (b .streams)) (omega (arith, held-few (b .streams), w .at-most-64)) (held-all FitStream (b .streams) (w .streams))
-    (held-ascends (b .streams) (w .ascending))
+    let s = b .streams in
+    holding-fits b w (dropUnheld s) (omega (arith, fewer-dropped s, w .at-most-64)) (all-dropped FitStream FitStream (λ x h f. f) s (w .streams))
+    (rising-ascends (ids (dropUnheld s)) (dropped-rising s (ascending-rises (ids s) (w .ascending))))
 
 -- Clock and totals.
 
@@ -189,6 +178,8 @@ clocked-fits b w now h = record {
   totals = w .totals;
   eight-owns = w .eight-owns;
   owns = w .owns;
+  eight-senders = w .eight-senders;
+  senders = w .senders;
   at-most-64 = w .at-most-64;
   streams = w .streams;
   ascending = w .ascending;
@@ -202,6 +193,8 @@ totalled-fits b w ts e f = record {
   totals = f;
   eight-owns = w .eight-owns;
   owns = w .owns;
+  eight-senders = w .eight-senders;
+  senders = w .senders;
   at-most-64 = w .at-most-64;
   streams = w .streams;
   ascending = w .ascending;
@@ -216,6 +209,24 @@ owning-fits b w o e f = record {
   totals = w .totals;
   eight-owns = e;
   owns = f;
+  eight-senders = w .eight-senders;
+  senders = w .senders;
+  at-most-64 = w .at-most-64;
+  streams = w .streams;
+  ascending = w .ascending;
+}
+
+pub sending-fits : (b : Bridge) → FitBridge b → (l : List Sender) → length l ≡ 8 → All FitSender l → FitBridge (sending b l)
+unfolding sending
+sending-fits b w l e f = record {
+  settings = w .settings;
+  clock = w .clock;
+  eight-totals = w .eight-totals;
+  totals = w .totals;
+  eight-owns = w .eight-owns;
+  owns = w .owns;
+  eight-senders = e;
+  senders = f;
   at-most-64 = w .at-most-64;
   streams = w .streams;
   ascending = w .ascending;

@@ -1,5 +1,5 @@
--- What stands before the stream records of a table: settings, clock, number of streams, totals, what the ports hold; how each is read, and what the
--- table is when it is replaced.
+-- What stands before the stream records of a table: settings, clock, number of streams, totals, what the ports hold and what they send; how
+-- each is read, and what the table is when it is replaced.
 use Prim.Native.Nat.{ℕ, zero, suc, _-_, _*_, _/_, _%_, _≤_, _<_}
 use native.Mathlib.Omega.{arith}
 use mathlib.Core.Path.{_≡_, refl, sym, ap, _∙_}
@@ -10,23 +10,24 @@ use Rattle.octets.specs.Parts.{part, patch, zeros}
 use Rattle.octets.specs.Fields.{packed, Fit, width, flat}
 use Rattle.octets.proofs.Be.{length-be}
 use Rattle.octets.proofs.Fields.{flat-append, packed-zeros, fit-zeros}
-use Rattle.model.specs.Layout.{inTable, inHead, ownPlace, ownSize, portPlace, portSize, portWidths, portsUnit, priorityAUnit, priorityBUnit, pruningUnit, tableLength, totalPlace, totalSize, totalsSize}
+use Rattle.model.specs.Layout.{inTable, inHead, ownPlace, ownSize, portPlace, portSize, portWidths, portsUnit, priorityAUnit, priorityBUnit, pruningUnit, senderPlace, senderSize, tableLength, totalPlace, totalSize, totalsSize}
 use Rattle.model.specs.Lists.{All, bit}
-use Rattle.model.specs.State.{Port, Settings, Own, Stream, Totals, Bridge, noPort, portAt, noTotals, noOwn, ownAt}
-use Rattle.model.specs.Registrations.{holding, owning}
+use Rattle.model.specs.State.{Port, Settings, Own, Sender, Stream, Totals, Bridge, noPort, portAt, noTotals, noOwn, ownAt, noSender, senderAt}
+use Rattle.model.specs.Registrations.{at, holding, owning, sending}
+use Rattle.model.specs.Sending.{senderOctets}
 use Rattle.model.specs.Table.{portNumbers, portOctets, settingsOctets, portsField, totalsOctets, ownOctets, clockField, countField, encode, decode}
 use Rattle.model.specs.Laid.{FitSettings, FitBridge, Laid}
 use Rattle.model.proofs.Lists.{all-each, all-replicate}
 use Rattle.model.proofs.Parts.{Sized, flat-zeros}
 use Rattle.model.proofs.SettingsOctets.{head, head-length, port-length, id-read, ports-read, priority-a-read, priority-b-read, leave-read, vlan-read, pruning-read, fan-in-read}
-use Rattle.model.proofs.Tables.{settingsWhole, clockAndCount, totalsWhole, ownsWhole, recordsWhole, encode-parts, clock-length, settings-whole-length, totals-whole-length, owns-whole-length, whole-length, totals-sized, no-totals, clock-read, count-read, fit-whole}
+use Rattle.model.proofs.Tables.{settingsWhole, clockAndCount, totalsWhole, ownsWhole, sendersWhole, recordsWhole, behindTotals, encode-parts, clock-length, settings-whole-length, totals-whole-length, owns-whole-length, senders-whole-length, whole-length, totals-sized, no-totals, clock-read, count-read, fit-whole}
 use Rattle.model.proofs.Fits.{laid-is, laid-fits}
 use Rattle.table.specs.Updates.{clocked, totalled}
-use Rattle.table.proofs.Lens.{patch-between, part-one, patch-one, all-getD}
+use Rattle.table.proofs.Lens.{at-set, patch-between, part-one, patch-one, all-getD}
 
 -- all that stands before the records
 unfoldable pub header : Bridge → List ℕ
-header b = settingsWhole b ++ (clockAndCount b ++ (totalsWhole b ++ ownsWhole b))
+header b = settingsWhole b ++ (clockAndCount b ++ (totalsWhole b ++ (ownsWhole b ++ sendersWhole b)))
 
 pub header-records : (b : Bridge) → encode b ≡ header b ++ recordsWhole b
 unfolding header
@@ -40,15 +41,17 @@ module _ (b : Bridge) (w : FitBridge b) where
   unfolding header
   header-length =
       let o = fit-whole b w in
-      length-append (settingsWhole b) (clockAndCount b ++ (totalsWhole b ++ ownsWhole b))
+      length-append (settingsWhole b) (clockAndCount b ++ (totalsWhole b ++ (ownsWhole b ++ sendersWhole b)))
       ∙ omega (
         arith,
-        length-append (clockAndCount b) (totalsWhole b ++ ownsWhole b),
-        length-append (totalsWhole b) (ownsWhole b),
+        length-append (clockAndCount b) (totalsWhole b ++ (ownsWhole b ++ sendersWhole b)),
+        length-append (totalsWhole b) (ownsWhole b ++ sendersWhole b),
+        length-append (ownsWhole b) (sendersWhole b),
         settings-whole-length b o,
         clock-length b,
         totals-whole-length b o,
         owns-whole-length b o,
+        senders-whole-length b o,
       )
 
   -- Clock and number of streams.
@@ -127,7 +130,7 @@ flat-eight st =
     flat-append portOctets (st .ports) none ∙ ap (λ (l : List ℕ). flat portOctets (st .ports) ++ l) (z ∙ ap zeros e)
 
 ports-laid : (b : Bridge)
-    → encode b ≡ head (b .settings) ++ (flat portOctets (eightPorts (b .settings)) ++ (clockAndCount b ++ (totalsWhole b ++ (ownsWhole b ++ recordsWhole b))))
+    → encode b ≡ head (b .settings) ++ (flat portOctets (eightPorts (b .settings)) ++ (clockAndCount b ++ (totalsWhole b ++ behindTotals b)))
 unfolding encode settingsOctets
 ports-laid b = rw (flat-eight (b .settings)) (simp append-assoc)
 
@@ -149,7 +152,7 @@ module _ (b : Bridge) (w : FitBridge b) (p a : ℕ) (h : p < 8) (e : a ≡ portP
   port-part =
       let st = b .settings in
       let l = eightPorts st in
-      let after = clockAndCount b ++ (totalsWhole b ++ (ownsWhole b ++ recordsWhole b)) in
+      let after = clockAndCount b ++ (totalsWhole b ++ behindTotals b) in
       let few : p < length l = omega (arith, length-eight st (w .settings .eight-ports)) in
       ap (part a portSize) (ports-laid b)
       ∙ part-one portSize portOctets inTable.ports (head st) after (head-length st) l (ports-sized l) p a few e noPort
@@ -157,7 +160,7 @@ module _ (b : Bridge) (w : FitBridge b) (p a : ℕ) (h : p < 8) (e : a ≡ portP
 
 -- Totals.
 
-totals-laid : (b : Bridge) → encode b ≡ (settingsWhole b ++ clockAndCount b) ++ (flat totalsOctets (b .totals) ++ (ownsWhole b ++ recordsWhole b))
+totals-laid : (b : Bridge) → encode b ≡ (settingsWhole b ++ clockAndCount b) ++ (flat totalsOctets (b .totals) ++ behindTotals b)
 totals-laid b = encode-parts b ∙ simp append-assoc
 
 before-totals : (b : Bridge) (w : FitBridge b) → length (settingsWhole b ++ clockAndCount b) ≡ inTable.totals
@@ -170,13 +173,13 @@ module _ (b : Bridge) (w : FitBridge b) (p a : ℕ) (h : p < 8) (e : a ≡ total
   pub totals-part : part a totalSize (encode b) ≡ totalsOctets (getD (b .totals) p noTotals)
   totals-part =
       ap (part a totalSize) (totals-laid b)
-      ∙ part-one totalSize totalsOctets inTable.totals (settingsWhole b ++ clockAndCount b) (ownsWhole b ++ recordsWhole b) (before-totals b w) (b .totals) (totals-sized (b .totals)) p a a-total
+      ∙ part-one totalSize totalsOctets inTable.totals (settingsWhole b ++ clockAndCount b) (behindTotals b) (before-totals b w) (b .totals) (totals-sized (b .totals)) p a a-total
       e noTotals
 
   pub totals-patch : (t : Totals) → patch a totalSize (totalsOctets t) (encode b) ≡ encode (totalled (set (b .totals) p t) b)
   totals-patch t =
       ap (patch a totalSize (totalsOctets t)) (totals-laid b)
-      ∙ patch-one totalSize totalsOctets inTable.totals (settingsWhole b ++ clockAndCount b) (ownsWhole b ++ recordsWhole b) (before-totals b w) (b .totals) (totals-sized (b .totals)) p a a-total
+      ∙ patch-one totalSize totalsOctets inTable.totals (settingsWhole b ++ clockAndCount b) (behindTotals b) (before-totals b w) (b .totals) (totals-sized (b .totals)) p a a-total
       e t
       ∙ sym (totals-laid (totalled (set (b .totals) p t) b))
 
@@ -186,13 +189,13 @@ totals-cleared b w =
     let none : flat totalsOctets (replicate 8 noTotals) ≡ zeros totalsSize =
     flat-zeros totalSize totalsOctets noTotals no-totals (replicate 8 noTotals) (all-replicate (λ t. t ≡ noTotals) 8 noTotals refl) in
     ap (patch inTable.totals totalsSize (zeros totalsSize)) (totals-laid b)
-    ∙ patch-between before (totalsWhole b) (ownsWhole b ++ recordsWhole b) (zeros totalsSize) inTable.totals totalsSize (before-totals b w) (totals-whole-length b (fit-whole b w))
-    ∙ ap (λ (z : List ℕ). before ++ (z ++ (ownsWhole b ++ recordsWhole b))) (sym none)
+    ∙ patch-between before (totalsWhole b) (behindTotals b) (zeros totalsSize) inTable.totals totalsSize (before-totals b w) (totals-whole-length b (fit-whole b w))
+    ∙ ap (λ (z : List ℕ). before ++ (z ++ behindTotals b)) (sym none)
     ∙ sym (totals-laid (totalled (replicate 8 noTotals) b))
 
 -- What the ports hold.
 
-owns-laid : (b : Bridge) → encode b ≡ (settingsWhole b ++ (clockAndCount b ++ totalsWhole b)) ++ (flat ownOctets (b .owns) ++ recordsWhole b)
+owns-laid : (b : Bridge) → encode b ≡ (settingsWhole b ++ (clockAndCount b ++ totalsWhole b)) ++ (flat ownOctets (b .owns) ++ (sendersWhole b ++ recordsWhole b))
 owns-laid b = encode-parts b ∙ simp append-assoc
 
 before-owns : (b : Bridge) (w : FitBridge b) → length (settingsWhole b ++ (clockAndCount b ++ totalsWhole b)) ≡ inTable.owns
@@ -212,14 +215,47 @@ module _ (b : Bridge) (w : FitBridge b) (p : ℕ) (h : p < 8) where
   unfolding before
   own-part =
       ap (part (ownPlace p) ownSize) (owns-laid b)
-      ∙ part-one ownSize ownOctets inTable.owns before (recordsWhole b) (before-owns b w) (b .owns) (fit-whole b w .owns) p (ownPlace p) an-own refl noOwn
+      ∙ part-one ownSize ownOctets inTable.owns before (sendersWhole b ++ recordsWhole b) (before-owns b w) (b .owns) (fit-whole b w .owns) p (ownPlace p) an-own refl noOwn
 
   pub own-patch : (o : Own) → patch (ownPlace p) ownSize (ownOctets o) (encode b) ≡ encode (owning b (set (b .owns) p o))
   unfolding before owning
   own-patch o =
       ap (patch (ownPlace p) ownSize (ownOctets o)) (owns-laid b)
-      ∙ patch-one ownSize ownOctets inTable.owns before (recordsWhole b) (before-owns b w) (b .owns) (fit-whole b w .owns) p (ownPlace p) an-own refl o
+      ∙ patch-one ownSize ownOctets inTable.owns before (sendersWhole b ++ recordsWhole b) (before-owns b w) (b .owns) (fit-whole b w .owns) p (ownPlace p) an-own refl o
       ∙ sym (owns-laid (owning b (set (b .owns) p o)))
+
+-- What the ports send.
+
+abbrev beforeSenders : Bridge → List ℕ
+beforeSenders b = (settingsWhole b ++ (clockAndCount b ++ totalsWhole b)) ++ ownsWhole b
+
+senders-laid : (b : Bridge) → encode b ≡ beforeSenders b ++ (flat senderOctets (b .senders) ++ recordsWhole b)
+senders-laid b = encode-parts b ∙ simp append-assoc
+
+before-senders : (b : Bridge) (w : FitBridge b) → length (beforeSenders b) ≡ inTable.senders
+before-senders b w =
+    length-append (settingsWhole b ++ (clockAndCount b ++ totalsWhole b)) (ownsWhole b)
+    ∙ omega (arith, before-owns b w, owns-whole-length b (fit-whole b w))
+
+module _ (b : Bridge) (w : FitBridge b) (p : ℕ) (h : p < 8) where
+  a-sender : p < length (b .senders)
+  a-sender = omega (arith, w .eight-senders)
+
+  pub sender-part : part (senderPlace p) senderSize (encode b) ≡ senderOctets (senderAt (b .senders) p)
+  unfolding senderAt
+  sender-part =
+      ap (part (senderPlace p) senderSize) (senders-laid b)
+      ∙ part-one senderSize senderOctets inTable.senders (beforeSenders b) (recordsWhole b) (before-senders b w) (b .senders) (fit-whole b w .senders) p (senderPlace p) a-sender
+      refl noSender
+
+  pub sender-patch : (u : Sender → Sender) → patch (senderPlace p) senderSize (senderOctets (u (senderAt (b .senders) p))) (encode b) ≡ encode (sending b (at p u (b .senders)))
+  unfolding senderAt sending
+  sender-patch u =
+      ap (patch (senderPlace p) senderSize (senderOctets (u (getD (b .senders) p noSender)))) (senders-laid b)
+      ∙ patch-one senderSize senderOctets inTable.senders (beforeSenders b) (recordsWhole b) (before-senders b w) (b .senders) (fit-whole b w .senders) p (senderPlace p) a-sender
+      refl (u (getD (b .senders) p noSender))
+      ∙ ap (λ (l : List Sender). beforeSenders b ++ (flat senderOctets l ++ recordsWhole b)) (at-set p u (b .senders) noSender a-sender)
+      ∙ sym (senders-laid (sending b (at p u (b .senders))))
 
 -- The clock replaced, and the number of streams.
 
@@ -227,7 +263,7 @@ pub clock-patch : (b : Bridge) (w : FitBridge b) (now : ℕ) → patch inTable.c
 unfolding packed
 clock-patch b w now =
     let n = be 1 (length (b .streams)) ++ [] in
-    let after = totalsWhole b ++ (ownsWhole b ++ recordsWhole b) in
+    let after = totalsWhole b ++ behindTotals b in
     ap (patch inTable.clock 4 (be 4 now)) (encode-parts b ∙ ap (λ (s : List ℕ). settingsWhole b ++ s) (append-assoc (be 4 (b .clock)) n after))
     ∙ patch-between (settingsWhole b) (be 4 (b .clock)) (n ++ after) (be 4 now) inTable.clock 4 (settings-whole-length b (fit-whole b w)) (length-be 4 (b .clock))
     ∙ sym (encode-parts (clocked now b) ∙ ap (λ (s : List ℕ). settingsWhole b ++ s) (append-assoc (be 4 now) n after))
@@ -239,10 +275,11 @@ count-patch b w s after =
     let before = settingsWhole b ++ be 4 (b .clock) in
     let n = be 1 (length (b .streams)) in
     let l : length before ≡ inTable.count = length-append (settingsWhole b) (be 4 (b .clock)) ∙ omega (arith, settings-whole-length b (fit-whole b w), length-be 4 (b .clock)) in
-    let split : (k : List ℕ) → (settingsWhole b ++ ((be 4 (b .clock) ++ (k ++ [])) ++ (totalsWhole b ++ ownsWhole b))) ++ after ≡ before ++ (k ++ ((totalsWhole b ++ ownsWhole b) ++ after)) =
+    let behind = totalsWhole b ++ (ownsWhole b ++ sendersWhole b) in
+    let split : (k : List ℕ) → (settingsWhole b ++ ((be 4 (b .clock) ++ (k ++ [])) ++ behind)) ++ after ≡ before ++ (k ++ (behind ++ after)) =
     λ k. simp (append-assoc, append-nil) in
     ap (patch inTable.count 1 (be 1 (length s))) (split n)
-    ∙ patch-between before n ((totalsWhole b ++ ownsWhole b) ++ after) (be 1 (length s)) inTable.count 1 l (length-be 1 (length (b .streams)))
+    ∙ patch-between before n (behind ++ after) (be 1 (length s)) inTable.count 1 l (length-be 1 (length (b .streams)))
     ∙ sym (split (be 1 (length s)))
 
 -- What is read of octets that are laid out as a table.

@@ -9,16 +9,18 @@ use Rattle.octets.specs.Be.{be}
 use Rattle.octets.specs.Parts.{patch, zeros}
 use Rattle.octets.specs.Fields.{width, flat}
 use Rattle.octets.proofs.Fields.{flat-append, packed-zeros}
-use Rattle.model.specs.Layout.{cellSize, cellsSize, inTable, fixedSize, fixedWidths, recordPlace, recordSize, resultSize, resultsSize, inRecord}
-use Rattle.model.specs.State.{Stream, Bridge, empty, unsettled, noFixed, blank, fresh}
+use Rattle.model.specs.Layout.{allSendsSize, cellSize, cellsSize, inTable, fixedSize, fixedWidths, recordPlace, recordSize, resultSize, resultsSize, sendsSize, inRecord}
+use Rattle.model.specs.State.{Stream, Bridge, empty, unsettled, noFixed, noSends, blank, fresh}
 use Rattle.model.specs.Registrations.{holding}
 use Rattle.model.specs.WrittenFrames.{priorityOctet, fixedNumbers}
+use Rattle.model.specs.Sending.{sendsOctets}
 use Rattle.model.specs.Table.{cellOctets, resultOctets, streamOctets, encode}
 use Rattle.model.specs.Laid.{FitBridge}
 use Rattle.model.proofs.Lists.{all-replicate, all-take, all-drop}
 use Rattle.model.proofs.Parts.{Sized, length-zeros, zeros-add, length-flat-sized, flat-zeros}
 use Rattle.model.proofs.Cells.{cell-zeros}
 use Rattle.model.proofs.Results.{result-zeros}
+use Rattle.model.proofs.SendsOctets.{sends-coded}
 use Rattle.table.specs.Octets.{recordPut}
 use Rattle.table.specs.Updates.{inserted}
 use Rattle.table.specs.Reads.{fixedOctets}
@@ -41,11 +43,18 @@ blank-zeros = flat-zeros cellSize cellOctets empty cell-zeros (replicate 8 empty
 unsettled-zeros : flat resultOctets (replicate 8 unsettled) ≡ zeros resultsSize
 unsettled-zeros = flat-zeros resultSize resultOctets unsettled result-zeros (replicate 8 unsettled) (all-replicate (λ r. r ≡ unsettled) 8 unsettled refl)
 
+unsent-zeros : flat sendsOctets (replicate 8 noSends) ≡ zeros allSendsSize
+unsent-zeros = flat-zeros sendsSize sendsOctets noSends (sends-coded .blank) (replicate 8 noSends) (all-replicate (λ s. s ≡ noSends) 8 noSends refl)
+
 pub fresh-octets : (id : ℕ) → streamOctets (fresh id) ≡ be 8 id ++ zeros (recordSize - inRecord.settled)
 unfolding fresh
 fresh-octets id =
     settled-laid (fresh id)
-    ∙ ap (λ (s : List ℕ). be 8 id ++ s) (rw (fixed-zeros, blank-zeros, unsettled-zeros) (sym (ap (λ (s : List ℕ). zeros fixedSize ++ s) (zeros-add cellsSize resultsSize)) ∙ sym (zeros-add fixedSize (cellsSize + resultsSize))))
+    ∙ ap (λ (s : List ℕ). be 8 id ++ s)
+    (rw (fixed-zeros, blank-zeros, unsettled-zeros, unsent-zeros)
+    (sym (zeros-add fixedSize (cellsSize + (resultsSize + allSendsSize))
+    ∙ ap (λ (s : List ℕ). zeros fixedSize ++ s)
+    (zeros-add cellsSize (resultsSize + allSendsSize) ∙ ap (λ (s : List ℕ). zeros cellsSize ++ s) (zeros-add resultsSize allSendsSize)))))
 
 module _ (b : Bridge) (w : FitBridge b) (k id : ℕ) (h : k ≤ length (b .streams)) (few : length (b .streams) < 64) where
   abbrev n : ℕ

@@ -1,8 +1,8 @@
 -- One of many things of n octets each, among other octets: read, or replaced.
-use Prim.Native.Nat.{ℕ, suc, _+_, _*_, _≤_, _<_}
+use Prim.Native.Nat.{ℕ, zero, suc, _+_, _*_, _≤_, _<_}
 use native.Mathlib.Omega.{arith}
-use mathlib.Core.Path.{_≡_, sym, ap, _∙_}
-use mathlib.Core.List.{List, _∷_, _++_, append-assoc, append-nil}
+use mathlib.Core.Path.{_≡_, refl, sym, ap, _∙_}
+use mathlib.Core.List.{List, [], _∷_, _++_, append-assoc, append-nil}
 use lib.ListN.{length, getD, set, take, drop, length-append}
 use lib.Seq.{drop-length, split-at, set-split, length-take-le}
 use Rattle.octets.specs.Parts.{part, patch}
@@ -10,9 +10,17 @@ use Rattle.octets.specs.Fields.{flat}
 use Rattle.octets.proofs.Fields.{flat-append}
 pub use Rattle.octets.proofs.Patches.{lent-patch, patch-between}
 use Rattle.model.specs.Lists.{All}
+use Rattle.model.specs.Registrations.{at}
 use Rattle.model.proofs.Lists.{all-take}
 pub use Rattle.model.proofs.Lists.{all-at, all-getD}
 use Rattle.model.proofs.Parts.{Sized, part-between, length-flat-sized}
+
+-- one of a list changed, as what is read there is replaced
+pub at-set : {A : Type 0} (p : ℕ) (u : A → A) (l : List A) (d : A) → p < length l → set l p (u (getD l p d)) ≡ at p u l
+unfolding at
+at-set p u [] d h = absurd (omega arith)
+at-set zero u (c ∷ l) d h = refl
+at-set {A = A} (suc p) u (c ∷ l) d h = ap (λ (m : List A). c ∷ m) (at-set p u l d (omega arith))
 
 -- all octets replaced
 pub patch-whole : (n : ℕ) (y s : List ℕ) → length s ≡ n → patch 0 n y s ≡ y

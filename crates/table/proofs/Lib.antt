@@ -11,6 +11,7 @@ pub mod HeldRecords
 pub mod Dropping
 pub mod ByPlace
 pub mod OwnParts
+pub mod SenderParts
 pub mod EachStream
 pub mod EachPort
 pub mod ReadOctets

@@ -21,9 +21,8 @@ use Rattle.model.proofs.Fits.{laid-is, laid-fits}
 use Rattle.table.specs.Updates.{withOwn, withSlot}
 use Rattle.table.specs.Places.{PortIn, SlotIn}
 use Rattle.table.specs.Reads.{ReadsDomain, ReadsOwn}
-use Rattle.table.proofs.Lens.{part-one, patch-one}
+use Rattle.table.proofs.Lens.{at-set, part-one, patch-one}
 use Rattle.table.proofs.Header.{table-length, own-part, own-patch}
-use Rattle.table.proofs.StreamParts.{at-set}
 use Rattle.table.proofs.Fitting.{owning-fits}
 use Rattle.table.proofs.ByPlace.{encoded-laid}
 

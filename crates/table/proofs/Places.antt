@@ -7,7 +7,7 @@ use mathlib.Core.List.{List, [], _∷_, _++_}
 use lib.ListN.{length, getD, set, take, drop, length-append, length-drop, take-append-drop}
 use lib.Seq.{length-take-le, getD-at, set-getD}
 use Rattle.model.specs.State.{Stream, fresh}
-use Rattle.model.specs.Registrations.{change, begun, touch, ids}
+use Rattle.model.specs.Registrations.{begun, touch, ids}
 use Rattle.model.proofs.Commute.{Change, Tri, less, same, more, tri, touch-nil, touch-before, touch-here, touch-past}
 use Rattle.table.specs.declared.Found.{Found}
 use Rattle.table.specs.declared.Found.the-variants.{At, Gap}
@@ -17,7 +17,7 @@ use Rattle.table.proofs.Finding.{found-before, found-here, found-past}
 -- the search for i in streams of which the first stands at place n: what it finds, and what is done about i
 data Search (i n : ℕ) (s : List Stream) : Type 0 where
   there : (k : ℕ) → foundAt i n (ids s) ≡ At (n + k) → k < length s → getD s k (fresh 0) .id ≡ i
-      → ((b : Bool) (u : Change) → touch b i u s ≡ set s k (change u (getD s k (fresh 0)))) → Search i n s
+      → ((b : Bool) (u : Change) → touch b i u s ≡ set s k (u (getD s k (fresh 0)))) → Search i n s
   missing : (k : ℕ) → foundAt i n (ids s) ≡ Gap (n + k) → k ≤ length s
       → ((b : Bool) (u : Change) → touch b i u s ≡ take k s ++ begun b i u (drop k s)) → Search i n s
 
@@ -45,7 +45,7 @@ not-both f g = let z : _≡_ {A = ℕ} 0 1 = cc in omega arith
 pub record AtPlace (i k : ℕ) (s : List Stream) : Type 0 where
   pub within : k < length s
   pub is : getD s k (fresh 0) .id ≡ i
-  pub touched : (b : Bool) (u : Change) → touch b i u s ≡ set s k (change u (getD s k (fresh 0)))
+  pub touched : (b : Bool) (u : Change) → touch b i u s ≡ set s k (u (getD s k (fresh 0)))
 
 pub at-place : (i k : ℕ) (s : List Stream) → foundAt i 0 (ids s) ≡ At k → AtPlace i k s
 at-place i k s f = go (search-for i 0 s)
@@ -61,7 +61,7 @@ at-place i k s f = go (search-for i 0 s)
 
 pub record AtGap (i k : ℕ) (s : List Stream) : Type 0 where
   pub within : k ≤ length s
-  pub joined : (u : Change) → touch true i u s ≡ take k s ++ (change u (fresh i) ∷ drop k s)
+  pub joined : (u : Change) → touch true i u s ≡ take k s ++ (u (fresh i) ∷ drop k s)
   pub untouched : (u : Change) → touch false i u s ≡ s
 
 pub at-gap : (i k : ℕ) (s : List Stream) → foundAt i 0 (ids s) ≡ Gap k → AtGap i k s
@@ -85,10 +85,8 @@ module _ (i k : ℕ) (s : List Stream) (h : k ≤ length s) where
   length-put-in = length-append (take k s) (fresh i ∷ drop k s) ∙ omega (arith, length-take-le k s h, length-drop k s)
 
 -- a join that changes nothing puts the stream in where it is missing, and leaves the streams where it is held
-pub room-at : (i k : ℕ) (s : List Stream) → foundAt i 0 (ids s) ≡ At k → touch true i (λ c. c) s ≡ s
-unfolding change
-room-at i k s f = at-place i k s f .touched true (λ c. c) ∙ set-getD s k (fresh 0)
+pub room-at : (i k : ℕ) (s : List Stream) → foundAt i 0 (ids s) ≡ At k → touch true i (λ x. x) s ≡ s
+room-at i k s f = at-place i k s f .touched true (λ x. x) ∙ set-getD s k (fresh 0)
 
-pub room-gap : (i k : ℕ) (s : List Stream) → foundAt i 0 (ids s) ≡ Gap k → touch true i (λ c. c) s ≡ take k s ++ (fresh i ∷ drop k s)
-unfolding change
-room-gap i k s f = at-gap i k s f .joined (λ c. c)
+pub room-gap : (i k : ℕ) (s : List Stream) → foundAt i 0 (ids s) ≡ Gap k → touch true i (λ x. x) s ≡ take k s ++ (fresh i ∷ drop k s)
+room-gap i k s f = at-gap i k s f .joined (λ x. x)

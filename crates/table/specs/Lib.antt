@@ -2,5 +2,4 @@ pub mod Updates
 pub mod Places
 pub mod Reads
 pub mod Find
-pub mod Held
 pub mod Octets

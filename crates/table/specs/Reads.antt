@@ -4,11 +4,12 @@ use mathlib.Core.List.{List}
 use Prim.Native.Nat.{ℕ, _<_}
 use lib.ListN.{length}
 use Rattle.octets.specs.Fields.{Fit, fields, packed}
-use Rattle.model.specs.Layout.{cellSize, fixedSize, fixedWidths, ownSize, portSize, resultSize, slotSize, totalSize}
-use Rattle.model.specs.State.{Port, Fixed, Cell, Domain, Own, Result, Totals}
-use Rattle.model.specs.WrittenFrames.{fixedNumbers}
-use Rattle.model.specs.Table.{fixedFrom, portOctets, toPort, toCell, toResult, totalsOctets, toTotals, toDomain, toOwn}
-use Rattle.model.specs.Laid.{LaidCell, LaidResult, LaidDomain, LaidOwn}
+use Rattle.model.specs.Layout.{cellSize, fixedSize, fixedWidths, ownSize, portSize, resultSize, senderSize, sendsSize, slotSize, totalSize}
+use Rattle.model.specs.State.{Port, Fixed, Cell, Domain, Own, Result, Sends, Sender, Totals}
+use Rattle.model.specs.WrittenFrames.{fixedNumbers, fixedFrom}
+use Rattle.model.specs.Sending.{toSends, toSender}
+use Rattle.model.specs.Table.{portOctets, toPort, toCell, toResult, totalsOctets, toTotals, toDomain, toOwn}
+use Rattle.model.specs.Laid.{LaidCell, LaidResult, LaidSends, LaidSender, LaidDomain, LaidOwn}
 
 -- A Talker's fixed values, as a stream's settled ones stand.
 
@@ -36,6 +37,9 @@ ReadsCell = Reads cellSize (λ s _. LaidCell s) toCell
 abbrev pub ReadsResult : List ℕ → Result → Type 0
 ReadsResult = Reads resultSize (λ s _. LaidResult s) toResult
 
+abbrev pub ReadsSends : List ℕ → Sends → Type 0
+ReadsSends = Reads sendsSize (λ s _. LaidSends s) toSends
+
 abbrev pub ReadsFixed : List ℕ → Fixed → Type 0
 ReadsFixed = Reads fixedSize (λ s f. s ≡ fixedOctets f) toFixed
 
@@ -50,3 +54,6 @@ ReadsDomain = Reads slotSize (λ s _. LaidDomain s) toDomain
 
 abbrev pub ReadsOwn : List ℕ → Own → Type 0
 ReadsOwn = Reads ownSize (λ s _. LaidOwn s) toOwn
+
+abbrev pub ReadsSender : List ℕ → Sender → Type 0
+ReadsSender = Reads senderSize (λ s _. LaidSender s) toSender

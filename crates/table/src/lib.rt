@@ -4,27 +4,28 @@ ghost use mathlib.Core.Path.{_≡_};
 ghost use Prim.Native.Nat.{_+_, _*_, _^_, _≤_, _<_};
 ghost use lib.ListN.{length, replicate};
 ghost use Rattle.octets.specs.Parts.{part, patch};
-ghost use Rattle.model.specs.Layout.{cellPlace, cellSize, fixedSize, priorityBUnit, recordPlace, recordSize, ownPlace, ownSize, portSize, resultPlace, resultSize, settledOf, slotPlace, slotSize, tableLength, totalPlace, totalSize};
-ghost use Rattle.model.specs.State.{portAt, cellAt, resultAt, ownAt, noTotals, classB, bothLimits, inForce};
+ghost use Rattle.model.specs.Layout.{cellPlace, cellSize, fixedSize, priorityBUnit, recordPlace, recordSize, ownPlace, ownSize, portSize, resultPlace, resultSize, senderPlace, senderSize, sendsPlace, sendsSize, settledOf, slotPlace, slotSize, tableLength, totalPlace, totalSize};
+ghost use Rattle.model.specs.State.{portAt, cellAt, resultAt, sendsAt, ownAt, senderAt, noTotals, classB, bothLimits, inForce};
 ghost use Rattle.model.specs.Registrations.{holding, ids};
-ghost use Rattle.model.specs.Settling.{held};
+ghost use Rattle.model.specs.Settling.{held, anySending, isHeld, dropUnheld};
 ghost use Rattle.model.specs.Table.{toPort, toStream, encode, decode};
 ghost use Rattle.model.specs.Laid.{Laid};
 ghost use Rattle.table.specs.Find.{foundAt};
-ghost use Rattle.table.specs.Held.{heldOnly};
 ghost use Rattle.table.specs.Octets.{recordPut, recordKept};
 ghost use Rattle.table.specs.Updates.{clocked, totalled, inserted, streamAt, totalsAt};
 ghost use Rattle.table.specs.Places.{Stands, PortIn, SlotIn, StandsOn, RoomAt, RecordTo};
-ghost use Rattle.table.specs.Reads.{ReadsCell, ReadsResult, ReadsFixed, ReadsPort, ReadsTotals, ReadsOwn};
+ghost use Rattle.table.specs.Reads.{ReadsCell, ReadsResult, ReadsSends, ReadsFixed, ReadsPort, ReadsTotals, ReadsOwn, ReadsSender};
 
 pub mod address;
 pub mod cell;
 pub mod port;
 pub mod result;
+pub mod sender;
+pub mod sends;
 pub mod slot;
 
 // The layout of a table, in octets (docs/TABLE.md). How long a port's settings and its totals are, where class B's stand among
-// these; a Talker's fixed values, which a stream's settled ones are; a cell and a result.
+// these; a Talker's fixed values, which a stream's settled ones are; a cell, a result and what is sent.
 pub const PORT: usize = port::LATENCY_B + 4;
 
 pub const TOTAL_B: usize = 5;
@@ -36,6 +37,8 @@ pub const FIXED: usize = cell::PRIORITY + 1 - cell::DESTINATION;
 pub const CELL: usize = cell::LISTENER + cell::LISTENER_PART;
 
 pub const RESULT: usize = result::DECLARED + 1;
+
+pub const SENDS: usize = sends::LISTENED + 1;
 
 // What a port holds by itself: two classes of eight Domain values, then whether it is at the edge of class A and of class B; then
 // how many addresses it holds, and room for 64 of them.
@@ -57,7 +60,10 @@ pub const MOST_ADDRESSES: usize = 64;
 
 pub const OWN: usize = ADDRESSES + MOST_ADDRESSES * ADDRESS;
 
-// A record: behind the StreamID the settled values, with priority and rank last of them; cells and results.
+// What it sends by itself.
+pub const SENDER: usize = sender::TIMER + 4;
+
+// A record: behind the StreamID the settled values, with priority and rank last of them; cells, results and what is sent.
 pub const SETTLED: usize = 8;
 
 pub const SETTLED_PRIORITY: usize = CELLS - 1;
@@ -66,10 +72,13 @@ pub const CELLS: usize = SETTLED + FIXED;
 
 pub const RESULTS: usize = CELLS + 8 * CELL;
 
-pub const RECORD: usize = RESULTS + 8 * RESULT;
+pub const ALL_SENDS: usize = RESULTS + 8 * RESULT;
+
+pub const RECORD: usize = ALL_SENDS + 8 * SENDS;
 
 // A table: behind the Bridge ID the field of the number of ports, class priorities and leave time, talkerPruning with the VLAN of the
-// Domain values, msrpMaxFanInPorts, the ports' settings, the clock, the number of streams, the totals, what the ports hold and the records.
+// Domain values, msrpMaxFanInPorts, the ports' settings, the clock, the number of streams, the totals, what the ports hold,
+// what they send and the records.
 pub const HEAD: usize = 8;
 
 pub const VLAN: usize = HEAD + 3;
@@ -86,7 +95,9 @@ pub const TOTALS: usize = COUNT + 1;
 
 pub const OWNS: usize = TOTALS + 8 * TOTAL;
 
-pub const RECORDS: usize = OWNS + 8 * OWN;
+pub const SENDERS: usize = OWNS + 8 * OWN;
+
+pub const RECORDS: usize = SENDERS + 8 * SENDER;
 
 pub const LENGTH: usize = RECORDS + 64 * RECORD;
 
@@ -255,6 +266,23 @@ pub fn slot_in(table: &[u8], p: usize, i: usize) -> usize
     own_in(table, p) + i * SLOT
 }
 
+// The address of what it sends by itself, and that.
+pub fn sender_in(table: &[u8], p: usize) -> usize
+    requires { ⌜ PortIn (now table) p ⌝ }
+    ensures { λ r. ⌜ (r ≡ senderPlace p) × (r + senderSize ≤ length (now (table .entry))) ⌝ }
+{
+    SENDERS + p * SENDER
+}
+
+pub fn sender_at(table: &[u8], p: usize) -> &[u8]
+    requires { ⌜ PortIn (now table) p ⌝ }
+    ensures { λ r. ⌜ ReadsSender (now r) (senderAt (decode (now (table .entry)) .senders) p) ⌝ }
+{
+    let a = sender_in(table, p);
+    let e = a + SENDER;
+    &table[a..e]
+}
+
 // The address of the record of stream k.
 fn record_in(table: &[u8], k: usize) -> usize
     requires { ⌜ Stands (now table) k ⌝ }
@@ -319,6 +347,23 @@ pub fn result_at(table: &[u8], k: usize, p: usize) -> &[u8]
 {
     let a = result_in(table, k, p);
     let e = a + RESULT;
+    &table[a..e]
+}
+
+// The address of what the port sends of it, and that.
+pub fn sends_in(table: &[u8], k: usize, p: usize) -> usize
+    requires { ⌜ StandsOn (now table) k p ⌝ }
+    ensures { λ r. ⌜ (r ≡ sendsPlace k p) × (r + sendsSize ≤ length (now (table .entry))) ⌝ }
+{
+    record_in(table, k) + ALL_SENDS + p * SENDS
+}
+
+pub fn sends_at(table: &[u8], k: usize, p: usize) -> &[u8]
+    requires { ⌜ StandsOn (now table) k p ⌝ }
+    ensures { λ r. ⌜ ReadsSends (now r) (sendsAt (streamAt k (decode (now (table .entry)))) p) ⌝ }
+{
+    let a = sends_in(table, k, p);
+    let e = a + SENDS;
     &table[a..e]
 }
 
@@ -412,7 +457,7 @@ pub fn insert(table: &mut [u8], k: usize, id: u64)
 }
 
 // Whether some port has a registration of the stream: a Talker or a Listener in one of the cells.
-fn is_held(rec: &[u8]) -> bool
+fn is_registered(rec: &[u8]) -> bool
     requires { ⌜ length (now rec) ≡ recordSize ⌝ }
     ensures { λ r. ⌜ r ≡ held (toStream (now (rec .entry)) .cells) ⌝ }
 {
@@ -430,6 +475,39 @@ fn is_held(rec: &[u8]) -> bool
     false
 }
 
+// Whether some port sends of it: an Applicant that is not 0.
+fn is_sent(rec: &[u8]) -> bool
+    requires { ⌜ length (now rec) ≡ recordSize ⌝ }
+    ensures { λ r. ⌜ r ≡ anySending (toStream (now (rec .entry)) .sends) ⌝ }
+{
+    let mut p: usize = 0;
+    while p < 8 {
+        let a = ALL_SENDS + p * SENDS;
+        if rec[a] != 0 {
+            return true;
+        }
+        if rec[a + sends::FAILING] != 0 {
+            return true;
+        }
+        if rec[a + sends::LISTENING] != 0 {
+            return true;
+        }
+        p += 1;
+    }
+    false
+}
+
+// Whether the stream is held.
+fn is_held(rec: &[u8]) -> bool
+    requires { ⌜ length (now rec) ≡ recordSize ⌝ }
+    ensures { λ r. ⌜ r ≡ isHeld (toStream (now (rec .entry))) ⌝ }
+{
+    if is_registered(rec) {
+        return true;
+    }
+    is_sent(rec)
+}
+
 // The record at place i, moved down to place j.
 fn keep_record(table: &mut [u8], i: usize, j: usize)
     requires { ⌜ RecordTo (now table) j i ⌝ }
@@ -440,10 +518,10 @@ fn keep_record(table: &mut [u8], i: usize, j: usize)
     }
 }
 
-// The records without a registration dropped: the others move down, with zeros in the freed room.
+// The records of streams that are not held dropped: the others move down, with zeros in the freed room.
 pub fn drop_unheld(table: &mut [u8])
     requires { ⌜ Laid (now table) ⌝ }
-    ensures { λ _. ⌜ now (table .exit) ≡ encode (holding (decode (now (table .entry))) (heldOnly (decode (now (table .entry)) .streams))) ⌝ }
+    ensures { λ _. ⌜ now (table .exit) ≡ encode (holding (decode (now (table .entry))) (dropUnheld (decode (now (table .entry)) .streams))) ⌝ }
 {
     let n = count(table);
     let mut j: usize = 0;

@@ -1,6 +1,7 @@
-//! The worked example of examples/worked-example by calls from Rust: a Talker on port 1, a Listener on port 2, and the sheet that the
-//! bridge then gives. docs/EMBEDDING.md tells how to build it.
-use srp::{Bridge, Column, Entry, Listener, Refusal, Stream, SETTINGS_HEAD, SETTINGS_PORT, TABLE};
+//! The worked example of examples/worked-example by calls from Rust: a Talker on port 1, a Listener on port 2, what each port then
+//! says, and the sheet that the bridge gives. docs/EMBEDDING.md tells how to build it.
+use srp::{Bridge, Column, Entry, Listener, Refusal, Stream};
+use srp::{PDU, PDU_EMPTY, SETTINGS_HEAD, SETTINGS_PORT, TABLE};
 
 const PORTS: usize = 2;
 
@@ -56,6 +57,20 @@ fn print_stream(stream: Stream, port: u32) {
     println!("{:016x} {port} {column} {code} {listener} {entry}", stream.id);
 }
 
+/// Where a product sends a PDU, behind EtherType 22-EA.
+fn send(_port: u32, _pdu: &[u8]) {}
+
+/// All that a port has to say: PDU by PDU from place 0, until one says that nothing is left.
+fn write_port(bridge: &mut Bridge, port: u32) -> Result<(), Refusal> {
+    let mut buffer = [0; PDU];
+    let mut written = bridge.write(port, 0, &mut buffer)?;
+    while written.length != PDU_EMPTY {
+        send(port, &buffer[..written.length]);
+        written = bridge.write(port, written.next, &mut buffer)?;
+    }
+    Ok(())
+}
+
 fn main() -> Result<(), Refusal> {
     let mut table = Box::new([0; TABLE]);
     let mut bridge = Bridge::start(&mut table, &settings())?;
@@ -65,6 +80,9 @@ fn main() -> Result<(), Refusal> {
     bridge.receive(1, &TALKER)?;
     bridge.receive(2, &LISTENER)?;
     bridge.advance(100)?;
+    for port in 1..=PORTS as u32 {
+        write_port(&mut bridge, port)?;
+    }
 
     for port in 1..=PORTS as u32 {
         let told = bridge.report(port, 0)?;

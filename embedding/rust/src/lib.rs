@@ -6,10 +6,11 @@
 pub const PORTS: usize = 8;
 pub const STREAMS: usize = 64;
 pub const ADDRESSES: usize = 64;
-pub const TABLE: usize = 41075;
+pub const TABLE: usize = 65307;
 pub const SETTINGS_HEAD: usize = 14;
 pub const SETTINGS_PORT: usize = 22;
 pub const PDU: usize = 1500;
+pub const PDU_EMPTY: usize = 3;
 pub const LIST: usize = 1008;
 
 /// A stream in the list of a why, of which there are all but one at most.
@@ -69,7 +70,7 @@ mod boundary {
         ) -> u8;
         pub fn srp_advance(table: *mut u8, table_length: usize, time: u32) -> u8;
         pub fn srp_write(
-            table: *const u8,
+            table: *mut u8,
             table_length: usize,
             port: u32,
             place: u32,
@@ -169,7 +170,8 @@ pub enum Entry {
     Forward,
 }
 
-/// A PDU that was written: its length in the buffer, and the place to go on from.
+/// A PDU that was written: its length in the buffer, and the place to go on from. One of `PDU_EMPTY` octets says that nothing is left,
+/// and isn't sent.
 #[derive(Clone, Copy, Debug, PartialEq, Eq)]
 pub struct Written {
     pub length: usize,
@@ -278,12 +280,12 @@ impl<'a> Bridge<'a> {
         Refusal::answer(unsafe { boundary::srp_advance(self.table.as_mut_ptr(), TABLE, time) })
     }
 
-    /// Writes a PDU of a port's declarations, from a place on.
-    pub fn write(&self, port: u32, place: u32, buffer: &mut [u8]) -> Result<Written, Refusal> {
+    /// Writes a PDU of what a port has to say, from a place of its declarations on. What is written counts as sent.
+    pub fn write(&mut self, port: u32, place: u32, buffer: &mut [u8]) -> Result<Written, Refusal> {
         let (mut length, mut next) = (0, 0);
         let number = unsafe {
             boundary::srp_write(
-                self.table.as_ptr(),
+                self.table.as_mut_ptr(),
                 TABLE,
                 port,
                 place,

@@ -2,6 +2,7 @@
 
 use super::counts::Counts;
 use super::frames::{event_word, is_talker};
+use super::heard;
 use super::held::{registered_at, talker_port};
 use super::newer::causes;
 use crate::bridge::Bridge;
@@ -325,6 +326,9 @@ fn leaves_talkers(counts: &mut Counts, before: &Bridge, port: usize, pdu: &Pdu) 
     let beside = on_port.any(|on_port| on_port.talker.as_ref().map_or(false, stays));
     let leaves = pdu.vectors().any(|vector| vector.leave_all);
     counts.count_if("LeaveAll of MMRP beside Talkers that aren't leaving", leaves && beside);
+    if leaves {
+        heard::mmrp_leaves_all(counts, before, port);
+    }
 }
 
 pub fn addresses_left(counts: &mut Counts, time: u32, before: &Bridge) {

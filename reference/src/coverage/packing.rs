@@ -1,12 +1,13 @@
 //! What is counted of Listeners packed into vectors.
 
 use super::counts::Counts;
-use crate::bridge::{Bridge, WriteAnswer};
-use crate::declarations::{self, Declaration};
-use crate::mrp::LONGEST_PDU;
-use crate::packing::{self, Cutting, Weight, SHORT_RUN};
-use crate::pdu::{ListenerType, StreamId};
+use crate::bridge::Bridge;
+use crate::declarations::{self, Declaration, Said};
+use crate::mrp::{Event, LONGEST_PDU};
+use crate::packing::{self, Cutting, Listener, Weight, SHORT_RUN};
+use crate::pdu::{listener_attribute, ListenerType, StreamId};
 use crate::registrations::MOST_STREAMS;
+use crate::sending::Written;
 
 /// Rows of the table.
 pub const ROWS: &[&str] = &[
@@ -47,11 +48,15 @@ pub const ROWS: &[&str] = &[
     "write that ends between Listeners",
     "write of exactly 1500 octets that ends between Listeners",
     "one more Listener would make 1501 octets",
+    "vector of Listeners with several events",
+    "vector of Listeners that begins with Lv",
+    "vector of Listeners that ends with Lv",
+    "Ignore for a quiet Listener",
 ];
 
-fn listener(declaration: &Declaration) -> Option<(StreamId, ListenerType)> {
-    match declaration {
-        Declaration::Listener(stream_id, listener_type) => Some((*stream_id, *listener_type)),
+fn listener(said: &Said) -> Option<Listener> {
+    match said.declaration {
+        Declaration::Listener(stream_id, says) => Some((stream_id, says, said.event)),
         Declaration::Talker(_) | Declaration::Domain(_) => None,
     }
 }
@@ -69,12 +74,15 @@ fn ties(run: &[StreamId], best: &Cutting) -> (bool, bool) {
     (alike.iter().any(|other| other.1 != vectors), alike.iter().any(|other| other.1 == vectors))
 }
 
-/// The Listeners of an accepted write.
-pub fn packed(counts: &mut Counts, bridge: &Bridge, port: u32, place: usize, answer: WriteAnswer) {
-    let declared = bridge.declarations(port as usize);
-    let listeners: Vec<(StreamId, ListenerType)> =
-        declared[place..answer.next_place].iter().filter_map(listener).collect();
-    let run: Vec<StreamId> = listeners.iter().map(|(stream_id, _)| *stream_id).collect();
+/// The Listeners of an accepted write on a port, from a place.
+pub fn packed(
+    counts: &mut Counts,
+    before: &Bridge,
+    (port, place): (usize, usize),
+    written: &Written,
+) {
+    let listeners: Vec<Listener> = written.said.iter().filter_map(listener).collect();
+    let run: Vec<StreamId> = listeners.iter().map(|(stream_id, ..)| *stream_id).collect();
     if run.is_empty() {
         return;
     }
@@ -82,7 +90,8 @@ pub fn packed(counts: &mut Counts, bridge: &Bridge, port: u32, place: usize, ans
     tight(counts, &run);
     macs(counts, &run, &cutting);
     for part in &cutting {
-        packed_vector(counts, bridge, port, &listeners[part.clone()]);
+        packed_vector(counts, before, port, &listeners[part.clone()]);
+        events(counts, before, port, &listeners[part.clone()]);
     }
     for two in cutting.windows(2) {
         let (before, behind) = (run[two[1].start - 1], run[two[1].start]);
@@ -97,7 +106,22 @@ pub fn packed(counts: &mut Counts, bridge: &Bridge, port: u32, place: usize, ans
         counts.count_if("cutting with more values in a vector before", by_values);
     }
     last_listener(counts, &run, &cutting);
-    ended_between(counts, &declared, place, answer);
+    ended_between(counts, &before.declarations(port), place, written);
+}
+
+/// The events of a vector, and the Listeners that it passes over since they have nothing to say.
+fn events(counts: &mut Counts, before: &Bridge, port: usize, part: &[Listener]) {
+    let event = |place: usize| part[place].2;
+    let last = part.len() - 1;
+    let mixed = part.iter().any(|(.., other)| *other != event(0));
+    counts.count_if("vector of Listeners with several events", mixed);
+    let begins = mixed && event(0) == Event::Lv;
+    counts.count_if("vector of Listeners that begins with Lv", begins);
+    counts.count_if("vector of Listeners that ends with Lv", mixed && event(last) == Event::Lv);
+    let machines = &before.sending.ports[port - 1].machines;
+    let is_listed = |stream_id| machines.contains_key(&listener_attribute(stream_id));
+    let is_passed = |two: &[Listener]| (two[0].0 + 1..two[1].0).any(is_listed);
+    counts.count_if("Ignore for a quiet Listener", part.windows(2).any(is_passed));
 }
 
 /// Runs where a rule for gaps alone cuts wrongly.
@@ -126,23 +150,18 @@ fn macs(counts: &mut Counts, run: &[StreamId], cutting: &Cutting) {
     counts.count_if("Listeners FFFF and 0000 of the next MAC", run.windows(2).any(meet));
 }
 
-fn packed_vector(
-    counts: &mut Counts,
-    bridge: &Bridge,
-    port: u32,
-    part: &[(StreamId, ListenerType)],
-) {
+fn packed_vector(counts: &mut Counts, bridge: &Bridge, port: usize, part: &[Listener]) {
     counts.count_if("vector of several Listeners", part.len() > 1);
     counts.count_if("vector of 64 Listeners", part.len() == MOST_STREAMS);
     let (first, last) = (part[0].0, part[part.len() - 1].0);
     let several = last > first;
     counts.count_if("vector of Listeners with more than 1000 values", last - first >= 1_000);
     counts.count_if("vector of Listeners up to FFFF", several && last & 0xffff == 0xffff);
-    let says = |kind| part.iter().any(|(_, listener_type)| *listener_type == kind);
+    let says = |kind| part.iter().any(|(_, listener_type, _)| *listener_type == kind);
     let all = [ListenerType::AskingFailed, ListenerType::Ready, ListenerType::ReadyFailed];
     counts.count_if("vector of all kinds of Listeners", all.into_iter().all(says));
     for two in part.windows(2) {
-        let ((before, _), (behind, _)) = (two[0], two[1]);
+        let ((before, ..), (behind, ..)) = (two[0], two[1]);
         let gap = behind - before - 1;
         counts.count_if("gap filled with Ignore", gap > 0);
         if (19..=22).contains(&gap) {
@@ -154,7 +173,7 @@ fn packed_vector(
             Declaration::Talker(talker) => (before + 1..behind).contains(&talker.stream_id),
             Declaration::Listener(..) | Declaration::Domain(_) => false,
         };
-        let declared = bridge.declarations(port as usize).iter().any(is_talker);
+        let declared = bridge.declarations(port).iter().any(is_talker);
         counts.count_if("Ignore for a stream declared as Talker", held && declared);
     }
 }
@@ -174,17 +193,20 @@ fn last_listener(counts: &mut Counts, run: &[StreamId], cutting: &Cutting) {
 }
 
 /// A write that ends, or begins, between Listeners.
-fn ended_between(counts: &mut Counts, declared: &[Declaration], place: usize, answer: WriteAnswer) {
-    let is_listener = |at: usize| declared.get(at).and_then(listener).is_some();
-    let begins = place > 0 && is_listener(place - 1) && is_listener(place);
-    counts.count_if("write from a place between Listeners", begins);
-    let next = answer.next_place;
-    if next == place || !is_listener(next - 1) || !is_listener(next) {
-        return;
-    }
+fn ended_between(counts: &mut Counts, list: &[Declaration], place: usize, written: &Written) {
+    let is_listener = |one: &Declaration| matches!(one, Declaration::Listener(..));
+    let at = |at: usize| list.get(at).map_or(false, is_listener);
+    counts
+        .count_if("write from a place between Listeners", place > 0 && at(place - 1) && at(place));
+    let last = written.said.last().map_or(false, |said| is_listener(&said.declaration));
+    let one_more = match written.no_room {
+        Some(said) if last && is_listener(&said.declaration) => said,
+        _ => return,
+    };
     counts.count("write that ends between Listeners");
-    let full = answer.length == LONGEST_PDU;
+    let full = written.pdu.len() == LONGEST_PDU;
     counts.count_if("write of exactly 1500 octets that ends between Listeners", full);
-    let more = declarations::pdu(&declared[place..=next]).len();
+    let said = [&written.said[..], &[one_more]].concat();
+    let more = declarations::pdu(&said, written.leave_all).len();
     counts.count_if("one more Listener would make 1501 octets", more == LONGEST_PDU + 1);
 }

@@ -1,7 +1,7 @@
 //! The rows of the table, in their order.
 
-use super::{addresses, borrowing, domains, fan_in, frames, latencies, newer};
-use super::{packing, registering, settings, settling, why, writing};
+use super::{addresses, borrowing, domains, fan_in, frames, heard, latencies, newer};
+use super::{packing, registering, said, sending, settings, settling, why, writing};
 
 /// The numbers that calls give back.
 const CALLS: &[&str] = &[
@@ -90,6 +90,19 @@ const ADDRESS_RULES: &[&str] = &[
     "form rule 41 broken alone",
 ];
 
+/// Tables that are refused for what ports send.
+const SENDING_RULES: &[&str] = &[
+    "form rule 42 broken alone",
+    "form rule 43 broken alone",
+    "form rule 44 broken alone",
+    "form rule 45 broken alone",
+    "form rule 46 broken alone",
+    "form rule 47 broken alone",
+    "form rule 48 broken alone",
+    "form rule 49 broken alone",
+    "form rule 50 broken alone",
+];
+
 /// What scripts do with the table itself.
 const TABLES: &[&str] = &[
     "octet stored that breaks the form",
@@ -99,7 +112,7 @@ const TABLES: &[&str] = &[
 ];
 
 /// All that is counted.
-const BLOCKS: [&[&str]; 24] = [
+const BLOCKS: [&[&str]; 31] = [
     CALLS,
     why::NUMBERS,
     settings::ROWS,
@@ -123,6 +136,13 @@ const BLOCKS: [&[&str]; 24] = [
     FORM_RULES,
     addresses::ROWS,
     ADDRESS_RULES,
+    sending::APPLICANTS,
+    sending::OTHER_MACHINES,
+    sending::ROWS,
+    heard::ROWS,
+    said::WRITTEN,
+    said::CHANGED,
+    SENDING_RULES,
     TABLES,
 ];
 

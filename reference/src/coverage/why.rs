@@ -85,7 +85,7 @@ pub fn asked(
     }
     counts.count_if("why with a buffer of 1008 octets", buffer_length == LONGEST_LIST);
     counts.count_if("why with a buffer of 1007 octets", buffer_length + 1 == LONGEST_LIST);
-    let Bridge { settings, registrations, clock, settled } = bridge;
+    let Bridge { settings, registrations, clock, settled, .. } = bridge;
     let supposed = settling::settling(settings, registrations, *clock, settled);
     let step = supposed.decisions.columns[&(stream_id, port)].step;
     counts.count_if("why 10 of a stream whose list is empty", short && step != Step::H);

@@ -1,6 +1,7 @@
 //! An input that is being written, and the calls that it is made of.
 
 use super::plan::Plan;
+use crate::bridge::WriteAnswer;
 use crate::lent::Table;
 use crate::pdu::StreamId;
 use crate::random::Random;
@@ -12,13 +13,22 @@ pub struct History {
     pub looks: Option<Random>,
     /// Decides what neighbours ask for by MMRP frames, in the scripts that have some.
     pub asks: Option<Random>,
+    /// Decides when ports send and what is said in between, in the scripts that have much of it.
+    pub sends: Option<Random>,
     pub table: Table,
     pub octets: Vec<u8>,
 }
 
 impl History {
     pub fn new(random: Random) -> History {
-        History { random, looks: None, asks: None, table: Table::zeros(), octets: Vec::new() }
+        History {
+            random,
+            looks: None,
+            asks: None,
+            sends: None,
+            table: Table::zeros(),
+            octets: Vec::new(),
+        }
     }
 
     /// In so many of a hundred cases the sum of the table's octets; rarely the octets.
@@ -72,14 +82,13 @@ impl History {
         self.look(85);
     }
 
-    /// A write; gives the next place.
-    pub fn write(&mut self, port: u32, place: u16, buffer_length: u16) -> u16 {
+    pub fn write(&mut self, port: u32, place: u16, buffer_length: u16) -> WriteAnswer {
         self.octets.push(0x30 | port as u8);
         self.octets.extend(place.to_be_bytes());
         self.octets.extend(buffer_length.to_be_bytes());
-        self.look(15);
+        self.look(85);
         let mut buffer = vec![0; usize::from(buffer_length)];
-        self.table.write(port, u32::from(place), &mut buffer).next_place as u16
+        self.table.write(port, u32::from(place), &mut buffer)
     }
 
     pub fn report(&mut self, port: u32, place: u16) {
@@ -117,6 +126,15 @@ impl History {
             let others = std::mem::replace(&mut self.random, random);
             act(self);
             self.asks = Some(std::mem::replace(&mut self.random, others));
+        }
+    }
+
+    /// The same with the random numbers of sending.
+    pub fn sending(&mut self, act: impl FnOnce(&mut History)) {
+        if let Some(random) = self.sends.take() {
+            let others = std::mem::replace(&mut self.random, random);
+            act(self);
+            self.sends = Some(std::mem::replace(&mut self.random, others));
         }
     }
 

@@ -7,7 +7,7 @@ use super::looks;
 use super::plan::{accumulated_latency, roomy_settings};
 use crate::declarations;
 use crate::frame::{FrameDraft, MessageDraft, VectorDraft};
-use crate::mrp::LONGEST_PDU;
+use crate::mrp::{Event, LONGEST_PDU};
 use crate::packing;
 use crate::pdu::{AttributeType, Failure, ListenerType, StreamId, Talker};
 use crate::random::Random;
@@ -87,8 +87,8 @@ fn message_length(vectors: u64) -> u64 {
 /// How many Advertise and Failed, at most so many together, can stand before these Listeners so that
 /// a PDU ends at 1,500 octets, one before or one past it: behind two Domains, one or none.
 fn talkers_before(listeners: &[StreamId], most: u64) -> Vec<(u64, u64)> {
-    let ready = |stream_id: &StreamId| (*stream_id, ListenerType::Ready);
-    let vectors = packing::vectors(&listeners.iter().map(ready).collect::<Vec<_>>());
+    let ready = |stream_id: &StreamId| (*stream_id, ListenerType::Ready, Event::JoinMt);
+    let vectors = packing::vectors(&listeners.iter().map(ready).collect::<Vec<_>>()).concat();
     let mut found = Vec::new();
     for advertise in 0..=most {
         for failed in 0..=most - advertise {

@@ -4,17 +4,25 @@ use super::history::History;
 use super::plan::Plan;
 use super::why;
 
-/// All PDUs of a port, following the next places, and all its reports.
-pub fn sweep_port(history: &mut History, port: u32) {
-    let mut place = 0;
+/// The PDU that says nothing: the port has nothing to send. A refused write has no octet.
+const NOTHING: usize = 3;
+
+/// All PDUs of a port from a place on, following the next places; gives the last one.
+pub fn pass(history: &mut History, port: u32, from: u16) -> u16 {
+    let mut place = from;
     loop {
         let buffer_length = history.random.one_of(&[1500, 1500, 1500, 1501, 2048, 65_535]);
-        let next = history.write(port, place, buffer_length);
-        if next <= place {
-            break;
+        let answer = history.write(port, place, buffer_length);
+        place = answer.next_place as u16;
+        if answer.length <= NOTHING {
+            return place;
         }
-        place = next;
     }
+}
+
+/// All PDUs of a port, and all its reports.
+pub fn sweep_port(history: &mut History, port: u32) {
+    let place = pass(history, port, 0);
     if history.random.percent(30) {
         history.write(port, place + 1, 1500);
     }

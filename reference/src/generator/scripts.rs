@@ -5,7 +5,7 @@ use super::plan::Plan;
 use super::planning::{plan, size};
 use super::steps::{self, put_stop};
 use super::wrong_settings::wrong_settings;
-use super::{addresses, listeners, looks, why};
+use super::{addresses, listeners, looks, sending, why};
 use crate::lent::ROOM_LENGTH;
 use crate::random::Random;
 use crate::settings;
@@ -32,18 +32,21 @@ fn store_behind(history: &mut History) {
     history.store(place, octet);
 }
 
-/// Stores an octet in the table and goes on with some calls. Where they are refused, mostly the
-/// octet that stood there is stored again.
+/// Stores octets in the table and goes on with some calls. Where they are refused, mostly the octets
+/// that stood there are stored again.
 fn store_and_go_on(history: &mut History, plan: &Plan) {
-    let (place, octet) = stored::some_octet(&mut history.random, history.table.lent());
-    let held = history.table.lent()[place];
-    history.store(place, octet);
+    let octets = stored::some_octets(&mut history.random, history.table.lent());
+    let mut held = Vec::new();
+    for (place, octet) in octets {
+        held.push((place, history.table.lent()[place]));
+        history.store(place, octet);
+    }
     for _ in 0..history.random.between(1, 4) {
         some_call(history, plan);
     }
     if history.table.bridge().is_none() {
         match history.random.below(100) {
-            0..=91 => history.store(place, held),
+            0..=91 => held.iter().for_each(|(place, octet)| history.store(*place, *octet)),
             92..=95 => history.start(&settings::write(&plan.settings)),
             _ => {}
         }
@@ -125,6 +128,12 @@ fn asks(seed: u64) -> Option<Random> {
     random.percent(50).then_some(random)
 }
 
+/// The random numbers of sending, which half of the scripts have much of.
+fn sends(seed: u64) -> Option<Random> {
+    let mut random = Random::new(seed ^ 0x22ea << 16);
+    random.percent(50).then_some(random)
+}
+
 /// A script of calls.
 pub fn calls(seed: u64) -> Script {
     let mut random = Random::new(seed.wrapping_mul(2).wrapping_add(1));
@@ -133,6 +142,7 @@ pub fn calls(seed: u64) -> Script {
     let mut history = History::new(random);
     history.looks = Some(Random::new(!seed));
     history.asks = asks(seed);
+    history.sends = sends(seed);
     addresses::choose_pruning(&mut history, &mut plan);
     before_the_start(&mut history, &plan);
     // A few scripts have no start of their own: alone they get 12 for all, in a batch they go on
@@ -176,6 +186,7 @@ fn before_the_start(history: &mut History, plan: &Plan) {
     if history.random.percent(16) {
         why::too_little_room(history);
     }
+    sending::lists(history);
 }
 
 /// A bridge from its start on, or one that goes on without one.
@@ -196,6 +207,7 @@ fn one_bridge(history: &mut History, plan: &Plan, starts: bool) {
     for _ in 0..steps::steps(history, plan.size) {
         script_step(history, plan);
         addresses::mmrp_step(history, plan, 40);
+        sending::sending_step(history, plan, 40);
     }
     if history.random.percent(25) {
         looks::sweep(history, plan);

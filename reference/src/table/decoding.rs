@@ -1,16 +1,22 @@
 //! The bridge that a table holds.
 
-use super::layout::{address, cell, domain, edge, record, result};
-use super::layout::{cells, domain_records, edges, results, used_addresses, used_records};
+use std::iter::zip;
+
+use super::layout::{address, cell, domain, edge, record, result, send, sender};
+use super::layout::{cells, domain_records, edges, results, senders, sends};
 use super::layout::{clock, ports, totals};
-use super::layout::{ADVERTISE, FAILED, FILTER, FORWARD};
+use super::layout::{used_addresses, used_records};
+use super::layout::{ADVERTISE, APPLICANTS, FAILED, FILTER, FORWARD};
 use super::rules::keeps_form;
 use crate::bridge::Bridge;
-use crate::domain::{DomainRegistration, Domains, SLOTS};
+use crate::declarations::Declaration;
+use crate::domain::{slot, DomainRegistration, Domains, SLOTS};
+use crate::leave_all::{LeaveAll, State};
 use crate::octets::number_of;
-use crate::pdu::{Failure, ListenerType, Parameters};
+use crate::pdu::{Failure, ListenerType, Parameters, StreamId, Talker, PARAMETERS_LENGTH};
 use crate::registrations::{Addresses, ListenerRegistration, OnPort};
 use crate::registrations::{Registrations, TalkerRegistration};
+use crate::sending::{Machine, PortSending, Sending};
 use crate::settings::{self, PerClass};
 use crate::settled::{Column, Entry, Settled, SettledOnPort, SettledStream};
 
@@ -27,6 +33,10 @@ pub fn decode(table: &[u8]) -> Option<Bridge> {
     registrations.domains = edges(table).take(ports).map(domains).collect();
     registrations.addresses = edges(table).take(ports).map(addresses).collect();
     settled.boundaries = edges(table).take(ports).map(flags).collect();
+    let mut sending = Sending::begun(&settings);
+    for (port, octets) in zip(&mut sending.ports, senders(table)) {
+        take_sender(port, octets);
+    }
     for record in used_records(table) {
         let stream_id = number_of(&record[record::STREAM_ID]);
         let on_ports = cells(record).take(ports).map(on_port).collect();
@@ -36,8 +46,47 @@ pub fn decode(table: &[u8]) -> Option<Bridge> {
             ports: results(record).take(ports).map(settled_on_port).collect(),
         };
         settled.streams.insert(stream_id, settled_stream);
+        for (port, octets) in zip(&mut sending.ports, sends(record)) {
+            take_send(port, stream_id, octets);
+        }
     }
-    Some(Bridge { settings, clock: clock(table), registrations, settled })
+    Some(Bridge { settings, clock: clock(table), registrations, settled, sending })
+}
+
+/// The machines that a port has by itself. Which Domain values it declares follows from the settings.
+fn take_sender(port: &mut PortSending, sender: &[u8]) {
+    for machine in port.machines.values_mut() {
+        if let Declaration::Domain(domain) = machine.declaration {
+            let slot = slot(domain.class_id, domain.priority).expect("own values are held");
+            machine.state = APPLICANTS[usize::from(sender[slot])];
+        }
+    }
+    let state = if sender[sender::LEAVE_ALL] == 1 { State::Active } else { State::Passive };
+    port.leave_all = LeaveAll { state, started: number_of(&sender[sender::STARTED]) as u32 };
+}
+
+/// The machines that a port has of a stream.
+fn take_send(port: &mut PortSending, stream_id: StreamId, send: &[u8]) {
+    let talker = |values: &[u8], failure| {
+        let (parameters, latency) = values.split_at(PARAMETERS_LENGTH);
+        let accumulated_latency = number_of(&latency[..4]) as u32;
+        let parameters = Parameters::of(parameters);
+        Declaration::Talker(Talker { stream_id, parameters, accumulated_latency, failure })
+    };
+    let (bridge_id, code) = send[send::FAILED_VALUES][17..].split_at(8);
+    let failure = Failure { bridge_id: number_of(bridge_id), code: code[0] };
+    let listener = listener_type(send[send::LISTENER_TYPE]);
+    let declared = [
+        (send[send::ADVERTISE], Some(talker(&send[send::ADVERTISE_VALUES], None))),
+        (send[send::FAILED], Some(talker(&send[send::FAILED_VALUES], Some(failure)))),
+        (send[send::LISTENER], listener.map(|says| Declaration::Listener(stream_id, says))),
+    ];
+    for (applicant, declaration) in declared {
+        let state = APPLICANTS[usize::from(applicant)];
+        if let Some(declaration) = declaration.filter(|_| state.is_listed()) {
+            port.machines.insert(declaration.attribute(), Machine { state, declaration });
+        }
+    }
 }
 
 fn leaving(flag: u8, since: &[u8]) -> Option<u32> {

@@ -2,13 +2,16 @@
 
 use std::iter::zip;
 
-use super::layout::{cell, domain, edge, record};
+use super::layout::{cell, domain as domain_record, edge, record, send};
 use super::layout::{ADVERTISE, FAILED, FILTER, FORWARD};
-use super::layout::{CLOCK, EDGES, RECORDS, RECORD_LENGTH, TABLE_LENGTH};
+use super::layout::{APPLICANTS, CLOCK, EDGES, RECORDS, SENDERS, TABLE_LENGTH};
 use crate::bridge::Bridge;
-use crate::domain::Domains;
-use crate::pdu::{Failure, ListenerType, StreamId};
+use crate::declarations::{first_value, Declaration, STREAM_TYPES};
+use crate::domain::{self, Domains};
+use crate::leave_all::State;
+use crate::pdu::{Attribute, AttributeType, Domain, Failure, ListenerType, StreamId};
 use crate::registrations::{Addresses, OnPort, Registrations};
+use crate::sending::{Machine, PortSending, Sending};
 use crate::settings::{self, PerClass};
 use crate::settled::{Column, Entry, SettledOnPort, SettledStream};
 
@@ -29,10 +32,15 @@ pub fn encode(bridge: &Bridge) -> Vec<u8> {
         put_edge(&mut out, domains, *flags);
         put_addresses(&mut out, addresses);
     }
+    out.resize(SENDERS, 0);
+    for port in &bridge.sending.ports {
+        put_sender(&mut out, port);
+    }
     out.resize(RECORDS, 0);
     for (stream_id, on_ports) in &bridge.registrations.streams {
         let settled = bridge.settled.streams.get(stream_id);
         put_record(&mut out, *stream_id, on_ports, settled);
+        put_sends(&mut out, &bridge.sending, *stream_id);
     }
     out.resize(TABLE_LENGTH, 0);
     out
@@ -46,7 +54,7 @@ fn put_edge(out: &mut Vec<u8>, domains: &Domains, flags: PerClass<bool>) {
             put_leaving(out, domain.leaving);
             out.extend(domain.vlan.to_be_bytes());
         }
-        out.resize(start + domain::LENGTH, 0);
+        out.resize(start + domain_record::LENGTH, 0);
     }
     out.extend([u8::from(flags.a), u8::from(flags.b)]);
 }
@@ -82,7 +90,58 @@ fn put_record(
     for settled_on_port in settled.map_or(&[][..], |settled| &settled.ports) {
         put_result(out, settled_on_port);
     }
-    out.resize(start + RECORD_LENGTH, 0);
+    out.resize(start + record::SENDS.start, 0);
+}
+
+/// The octet of a machine; 0 where there is none.
+fn applicant(machine: Option<&Machine>) -> u8 {
+    let place = |machine: &Machine| APPLICANTS.iter().position(|state| *state == machine.state);
+    machine.map_or(0, |machine| place(machine).expect("a listed state") as u8)
+}
+
+fn put_sender(out: &mut Vec<u8>, port: &PortSending) {
+    for class_id in domain::CLASS_IDS {
+        for priority in 0..domain::PRIORITIES as u8 {
+            let attribute = Domain { class_id, priority, vlan: 0 }.attribute();
+            out.push(applicant(port.machines.get(&attribute)));
+        }
+    }
+    out.push(u8::from(port.leave_all.state == State::Active));
+    out.extend(port.leave_all.started.to_be_bytes());
+}
+
+/// What each port sends of a stream.
+fn put_sends(out: &mut Vec<u8>, sending: &Sending, stream_id: StreamId) {
+    let start = out.len();
+    for port in &sending.ports {
+        for attribute_type in STREAM_TYPES {
+            let machine = port.machines.get(&Attribute { attribute_type, key: stream_id });
+            out.push(applicant(machine));
+            put_declared(out, attribute_type, machine);
+        }
+    }
+    out.resize(start + record::SENDS.len(), 0);
+}
+
+/// What was last declared, without its StreamID; zeros where there is no machine.
+fn put_declared(out: &mut Vec<u8>, attribute_type: AttributeType, machine: Option<&Machine>) {
+    let start = out.len();
+    match machine.map(|machine| machine.declaration) {
+        Some(Declaration::Talker(talker)) => out.extend(&first_value(&talker)[8..]),
+        Some(Declaration::Listener(_, says)) => out.push(listener_kind(Some(says))),
+        Some(Declaration::Domain(_)) | None => {}
+    }
+    out.resize(start + declared_length(attribute_type), 0);
+}
+
+/// Octets of what was last declared of a stream.
+fn declared_length(attribute_type: AttributeType) -> usize {
+    match attribute_type {
+        AttributeType::TalkerAdvertise => send::ADVERTISE_VALUES.len(),
+        AttributeType::TalkerFailed => send::FAILED_VALUES.len(),
+        AttributeType::Listener => 1,
+        AttributeType::Domain => 0,
+    }
 }
 
 fn put_cell(out: &mut Vec<u8>, on_port: &OnPort) {

@@ -2,6 +2,7 @@
 
 use std::ops::Range;
 
+use crate::applicant::State;
 use crate::domain::SLOTS;
 use crate::octets::number_of;
 use crate::pdu::PARAMETERS_LENGTH;
@@ -20,9 +21,11 @@ pub const TOTALS: usize = 195;
 pub const TOTALS_LENGTH: usize = 11;
 /// What eight ports hold by themselves: Domain records, boundary flags and addresses.
 pub const EDGES: usize = 283;
+/// What eight ports send by themselves: the Applicants of Domain values, and the LeaveAll machine.
+pub const SENDERS: usize = 7_475;
 /// The stream records, those in use first.
-pub const RECORDS: usize = 7_475;
-pub const RECORD_LENGTH: usize = 525;
+pub const RECORDS: usize = 7_643;
+pub const RECORD_LENGTH: usize = 901;
 /// The length of the table; one length for every port count.
 pub const TABLE_LENGTH: usize = RECORDS + MOST_STREAMS * RECORD_LENGTH;
 
@@ -60,6 +63,18 @@ pub mod domain {
     pub const VLAN: Range<usize> = 6..8;
 }
 
+/// Places in what a port sends by itself.
+pub mod sender {
+    use std::ops::Range;
+    pub const LENGTH: usize = 21;
+    /// The Applicants of 16 Domain values.
+    pub const APPLICANTS: Range<usize> = 0..16;
+    /// The LeaveAll machine: 0 Passive, 1 Active.
+    pub const LEAVE_ALL: usize = 16;
+    /// The clock at which its timer was started.
+    pub const STARTED: Range<usize> = 17..21;
+}
+
 /// Places in a stream record.
 pub mod record {
     use std::ops::Range;
@@ -69,6 +84,7 @@ pub mod record {
     pub const PRIORITY: usize = 20;
     pub const CELLS: Range<usize> = 21..365;
     pub const RESULTS: Range<usize> = 365..525;
+    pub const SENDS: Range<usize> = 525..901;
 }
 
 /// Places in a cell: what a port has registered of a stream.
@@ -104,13 +120,35 @@ pub mod result {
     pub const LISTENER: usize = 19;
 }
 
-const _: () = assert!(TABLE_LENGTH == 41_075);
+const _: () = assert!(TABLE_LENGTH == 65_307);
 const _: () = assert!(CLOCK.start == settings::HEAD_LENGTH + MOST_PORTS * settings::PORT_LENGTH);
 const _: () = assert!(EDGES == TOTALS + MOST_PORTS * TOTALS_LENGTH);
-const _: () = assert!(RECORDS == EDGES + MOST_PORTS * edge::LENGTH);
+const _: () = assert!(SENDERS == EDGES + MOST_PORTS * edge::LENGTH);
+const _: () = assert!(RECORDS == SENDERS + MOST_PORTS * sender::LENGTH);
+const _: () = assert!(record::SENDS.end == record::SENDS.start + MOST_PORTS * send::LENGTH);
 const _: () = assert!(edge::DOMAINS.end == SLOTS * domain::LENGTH);
 const _: () = assert!(edge::LENGTH == edge::ADDRESSES.start + MOST_ADDRESSES * address::LENGTH);
 const _: () = assert!(record::PARAMETERS.end - record::PARAMETERS.start == PARAMETERS_LENGTH);
+
+/// Places in what a port sends of a stream.
+pub mod send {
+    use std::ops::Range;
+    pub const LENGTH: usize = 47;
+    pub const ADVERTISE: usize = 0;
+    /// Parameters and latency out.
+    pub const ADVERTISE_VALUES: Range<usize> = 1..18;
+    pub const ADVERTISE_PRIORITY: usize = 13;
+    pub const FAILED: usize = 18;
+    /// Parameters, latency out, Bridge ID and code.
+    pub const FAILED_VALUES: Range<usize> = 19..45;
+    pub const FAILED_PRIORITY: usize = 31;
+    pub const LISTENER: usize = 45;
+    pub const LISTENER_TYPE: usize = 46;
+}
+
+/// The octet of an Applicant is its state's place here; 0 is no machine.
+pub const APPLICANTS: [State; 7] =
+    [State::VO, State::VP, State::VN, State::AN, State::AA, State::QA, State::LA];
 
 /// The kinds of a Talker and of a column.
 pub const ADVERTISE: u8 = 1;
@@ -166,7 +204,12 @@ pub fn vlan(table: &[u8]) -> u16 {
 
 /// What each of the eight places holds by itself.
 pub fn edges(table: &[u8]) -> impl Iterator<Item = &[u8]> {
-    table[EDGES..RECORDS].chunks_exact(edge::LENGTH)
+    table[EDGES..SENDERS].chunks_exact(edge::LENGTH)
+}
+
+/// What each of the eight places sends by itself.
+pub fn senders(table: &[u8]) -> impl Iterator<Item = &[u8]> {
+    table[SENDERS..RECORDS].chunks_exact(sender::LENGTH)
 }
 
 pub fn domain_records(edge: &[u8]) -> impl Iterator<Item = &[u8]> {
@@ -196,4 +239,8 @@ pub fn cells(record: &[u8]) -> impl Iterator<Item = &[u8]> {
 
 pub fn results(record: &[u8]) -> impl Iterator<Item = &[u8]> {
     record[record::RESULTS].chunks_exact(result::LENGTH)
+}
+
+pub fn sends(record: &[u8]) -> impl Iterator<Item = &[u8]> {
+    record[record::SENDS].chunks_exact(send::LENGTH)
 }

@@ -2,24 +2,26 @@
 
 use std::iter::zip;
 
-use super::layout::{address, cell, domain, edge, record, result};
+use super::layout::{address, cell, domain, edge, record, result, send, sender};
 use super::layout::{addresses_used, domain_records, edges, used_addresses};
-use super::layout::{cells, results, used, used_records};
+use super::layout::{cells, results, senders, sends, used, used_records};
 use super::layout::{clock, leave_time, limits, ports, priorities, supports, totals, vlan};
-use super::layout::{ADVERTISE, FAILED, FORWARD};
+use super::layout::{ADVERTISE, APPLICANTS, FAILED, FORWARD};
 use super::layout::{CLOCK, COUNT, EDGES, FAN_IN_LIMIT, RECORDS, RECORD_LENGTH, TABLE_LENGTH};
 use super::layout::{TOTALS, TOTALS_LENGTH};
+use crate::domain::{class_id, slot, SLOTS};
+use crate::leave_all::LEAVE_ALL_TIME;
 use crate::mmrp::Address;
 use crate::octets::number_of;
 use crate::pdu::StreamId;
 use crate::registrations::{MOST_ADDRESSES, MOST_STREAMS};
-use crate::settings::{self, MOST_PORTS};
+use crate::settings::{self, CLASSES, MOST_PORTS};
 
 /// A form rule: whether a table keeps it. All but the first are asked only where that one is kept.
 type Rule = fn(&[u8]) -> bool;
 
 /// The form rules, in the order and by the numbers of docs/TABLE.md.
-const RULES: [(u8, Rule); 41] = [
+const RULES: [(u8, Rule); 50] = [
     (1, |table| table.len() == TABLE_LENGTH),
     (2, |table| (1..=MOST_PORTS as u8).contains(&(table[8] >> 4))),
     (3, |table| priorities(table).a != priorities(table).b),
@@ -63,6 +65,17 @@ const RULES: [(u8, Rule); 41] = [
     (39, addresses_left_lately),
     (40, |table| every_edge(table, addresses_rise)),
     (41, |table| every_edge(table, is_zero_past_addresses)),
+    (42, |table| every_send(table, |send| applicants(send).iter().all(|octet| is_state(*octet)))),
+    (43, |table| every_send(table, is_zero_without_machine)),
+    (44, |table| every_send(table, priorities_have_zeros)),
+    (45, |table| every_send(table, |send| send[send::LISTENER] == 0 || has_listener_type(send))),
+    (46, machines_are_of_results),
+    (47, |table| is_zero_past_senders(table, ports(table))),
+    (48, |table| {
+        zip(0..ports(table), senders(table)).all(|(place, of)| declares_own(table, place, of))
+    }),
+    (49, |table| every_sender(table, |sender| sender[sender::LEAVE_ALL] <= 1)),
+    (50, leave_all_started_lately),
 ];
 
 /// Whether a table keeps all form rules.
@@ -127,8 +140,14 @@ fn stream_ids_rise(table: &[u8]) -> bool {
     stream_ids.windows(2).all(|pair| pair[0] < pair[1])
 }
 
-fn is_held(record: &[u8], ports: usize) -> bool {
+/// Whether some port has a registration of a stream.
+fn is_registered(record: &[u8], ports: usize) -> bool {
     cells(record).take(ports).any(|cell| cell[cell::TALKER] != 0 || cell[cell::LISTENER] != 0)
+}
+
+fn is_held(record: &[u8], ports: usize) -> bool {
+    let has_machine = |send| applicants(send).iter().any(|octet| *octet != 0);
+    is_registered(record, ports) || sends(record).take(ports).any(has_machine)
 }
 
 fn is_zero_past(record: &[u8], ports: usize) -> bool {
@@ -257,9 +276,83 @@ fn entries_have_listeners(cells: &[&[u8]], results: &[&[u8]]) -> bool {
 }
 
 fn totals_are_of_streams(table: &[u8]) -> bool {
+    let registered = used_records(table).any(|record| is_registered(record, ports(table)));
     (0..ports(table)).all(|place| {
         let (total, supports) = (totals(table, place), supports(table, place));
-        let earned = |total, supports| total == 0 || supports && table[COUNT] > 0;
+        let earned = |total, supports| total == 0 || supports && registered;
         earned(total.a, supports.a) && earned(total.b, supports.b)
+    })
+}
+
+/// Whether something holds of what each port sends of each stream.
+fn every_send(table: &[u8], holds: impl Fn(&[u8]) -> bool) -> bool {
+    used_records(table).all(|record| sends(record).take(ports(table)).all(&holds))
+}
+
+/// Whether something holds of what each port sends by itself.
+fn every_sender(table: &[u8], holds: impl Fn(&[u8]) -> bool) -> bool {
+    senders(table).take(ports(table)).all(holds)
+}
+
+/// The Applicants of Advertise, Failed and Listener.
+fn applicants(send: &[u8]) -> [u8; 3] {
+    [send[send::ADVERTISE], send[send::FAILED], send[send::LISTENER]]
+}
+
+fn is_state(octet: u8) -> bool {
+    usize::from(octet) < APPLICANTS.len()
+}
+
+/// Whether an Applicant is one of a declaration that isn't being withdrawn.
+fn declares(octet: u8) -> bool {
+    (1..=5).contains(&octet)
+}
+
+fn is_zero_without_machine(send: &[u8]) -> bool {
+    (send[send::ADVERTISE] != 0 || is_zero(&send[send::ADVERTISE_VALUES]))
+        && (send[send::FAILED] != 0 || is_zero(&send[send::FAILED_VALUES]))
+        && (send[send::LISTENER] != 0 || send[send::LISTENER_TYPE] == 0)
+}
+
+fn priorities_have_zeros(send: &[u8]) -> bool {
+    send[send::ADVERTISE_PRIORITY] & 0xf == 0 && send[send::FAILED_PRIORITY] & 0xf == 0
+}
+
+fn has_listener_type(send: &[u8]) -> bool {
+    (1..=3).contains(&send[send::LISTENER_TYPE])
+}
+
+fn machines_are_of_results(table: &[u8]) -> bool {
+    let agree = |(result, send): (&[u8], &[u8])| {
+        declares(send[send::ADVERTISE]) == (result[result::COLUMN] == ADVERTISE)
+            && declares(send[send::FAILED]) == (result[result::COLUMN] == FAILED)
+            && declares(send[send::LISTENER]) == (result[result::LISTENER] != 0)
+    };
+    used_records(table)
+        .all(|record| zip(results(record), sends(record)).take(ports(table)).all(agree))
+}
+
+fn is_zero_past_senders(table: &[u8], ports: usize) -> bool {
+    senders(table).skip(ports).all(is_zero)
+        && used_records(table).all(|record| sends(record).skip(ports).all(is_zero))
+}
+
+/// Whether the port at a place has Applicants in VP, AA or QA for just its own Domain values.
+fn declares_own(table: &[u8], place: usize, sender: &[u8]) -> bool {
+    let own = CLASSES.map(|class| {
+        let supported = supports(table, place).of(class);
+        slot(class_id(class), priorities(table).of(class)).filter(|_| supported)
+    });
+    (0..SLOTS).all(|at| match sender[at] {
+        1 | 4 | 5 => own.contains(&Some(at)),
+        octet => octet == 0 && !own.contains(&Some(at)),
+    })
+}
+
+fn leave_all_started_lately(table: &[u8]) -> bool {
+    let clock = clock(table);
+    every_sender(table, |sender| {
+        let started = number_of(&sender[sender::STARTED]) as u32;
+        started <= clock && clock - started < LEAVE_ALL_TIME
     })
 }

@@ -5,7 +5,7 @@ use crate::table_places::*;
 use reference::lent::ROOM_LENGTH;
 use reference::settings;
 use reference::settings::PerClass;
-use reference::table::layout::{cell, record, result};
+use reference::table::layout::{cell, record, result, send, sender};
 use reference::table::layout::{CLOCK, COUNT, TABLE_LENGTH, TOTALS};
 use reference::table::rules::broken_rules;
 
@@ -34,7 +34,12 @@ fn rule_2_the_ports_field() {
 
 #[test]
 fn rule_3_the_class_priorities() {
-    let table = three_streams(250);
+    // No port declares a Domain value, so that no machine depends on the priorities.
+    let mut settings = settings(2);
+    for port in &mut settings.ports {
+        port.supports = PerClass { a: false, b: false };
+    }
+    let table = started(&settings);
     assert_eq!(table.lent()[9], 0x80);
     breaks(&table, 3, 9, 0xc0);
     breaks(&table, 3, 8, 0x24);
@@ -193,7 +198,13 @@ fn rule_16_leaving() {
     breaks(&leaving, 16, since, 190);
     breaks(&leaving, 16, since, 251);
     breaks(&leaving, 16, cell(0, 2) + cell::LISTENER_LEAVING, 0);
-    breaks(&leaving, 16, CLOCK.start, 1);
+    // A clock far behind, to which the LeaveAll timers were started anew.
+    let started = sender::STARTED.start;
+    breaks_by(
+        &leaving,
+        16,
+        &[(CLOCK.start, 1), (sender(1) + started, 1), (sender(2) + started, 1)],
+    );
     // A leaving may have begun at the clock 0.
     keeps(&three_streams(59), cell(0, 1) + cell::TALKER_LEAVING, 1);
     breaks(&three_streams(60), 16, cell(0, 1) + cell::TALKER_LEAVING, 1);
@@ -263,7 +274,9 @@ fn rule_22_the_failure_of_a_column() {
         breaks(&table, 22, result(0, port) + result::BRIDGE_ID.start, 1);
         breaks(&table, 22, result(0, port) + result::CODE, 1);
     }
-    breaks(&table, 22, result(1, 2) + result::COLUMN, 1);
+    // An Advertise is declared, and the Failed has its Lv to send.
+    let machines = [(send(1, 2) + send::ADVERTISE, 1), (send(1, 2) + send::FAILED, 6)];
+    breaks_by(&table, 22, &[(result(1, 2) + result::COLUMN, 1), machines[0], machines[1]]);
     keeps(&table, result(1, 2) + result::CODE, 1);
 }
 
@@ -279,7 +292,8 @@ fn rule_23_entry_and_column() {
     join_listener(&mut table, 1, STREAM, READY);
     keeps(&table, result(0, 1) + result::ENTRY, 1);
     join_talker(&mut table, 1, &talker(STREAM + 3));
-    breaks(&table, 23, result(3, 2) + result::COLUMN, 1);
+    let advertise = (send(3, 2) + send::ADVERTISE, 1);
+    breaks_by(&table, 23, &[(result(3, 2) + result::COLUMN, 1), advertise]);
 }
 
 #[test]
@@ -308,28 +322,41 @@ fn rule_25_settled_values_without_a_talker() {
 #[test]
 fn rule_26_columns_without_another_talker() {
     let mut table = three_streams(250);
-    breaks(&table, 26, result(2, 2) + result::COLUMN, 1);
-    breaks(&table, 26, result(2, 2) + result::COLUMN, 2);
+    // A column has its machine.
+    let advertise = [(result(2, 2) + result::COLUMN, 1), (send(2, 2) + send::ADVERTISE, 1)];
+    let failed = [(result(2, 2) + result::COLUMN, 2), (send(2, 2) + send::FAILED, 1)];
+    breaks_by(&table, 26, &advertise);
+    breaks_by(&table, 26, &failed);
     // The port's own Talker is not enough, that of another is.
     join_talker(&mut table, 2, &talker(STREAM + 2));
-    breaks(&table, 26, result(2, 2) + result::COLUMN, 1);
+    breaks_by(&table, 26, &advertise);
     join_talker(&mut table, 1, &talker(STREAM + 2));
-    keeps(&table, result(2, 2) + result::COLUMN, 1);
-    keeps(&table, result(2, 2) + result::COLUMN, 2);
+    keeps_by(&table, &advertise);
+    keeps_by(&table, &failed);
+}
+
+/// A Listener declared on a port, with its machine.
+fn declared(place: usize, port: usize, listener_type: u8) -> [(usize, u8); 3] {
+    let send = send(place, port);
+    [
+        (result(place, port) + result::LISTENER, listener_type),
+        (send + send::LISTENER, 1),
+        (send + send::LISTENER_TYPE, listener_type),
+    ]
 }
 
 #[test]
 fn rule_27_the_listener_declared() {
     let mut table = three_streams(250);
-    breaks(&table, 27, result(2, 2) + result::LISTENER, 2); // no Talker
+    breaks_by(&table, 27, &declared(2, 2, 2)); // no Talker
     join_talker(&mut table, 2, &talker(STREAM));
-    breaks(&table, 27, result(0, 2) + result::LISTENER, 2); // a column
+    breaks_by(&table, 27, &declared(0, 2, 2)); // a column
     join_talker(&mut table, 1, &talker(STREAM + 2));
     join_talker(&mut table, 2, &talker(STREAM + 2));
-    keeps(&table, result(2, 1) + result::LISTENER, 1);
-    keeps(&table, result(2, 2) + result::LISTENER, 1);
-    table.store(result(2, 1) + result::LISTENER, 1);
-    breaks(&table, 27, result(2, 2) + result::LISTENER, 1); // a second port
+    keeps_by(&table, &declared(2, 1, 1));
+    keeps_by(&table, &declared(2, 2, 1));
+    let on_both = [declared(2, 1, 1), declared(2, 2, 1)].concat();
+    breaks_by(&table, 27, &on_both); // a second port
 }
 
 #[test]

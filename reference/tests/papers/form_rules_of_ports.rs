@@ -3,7 +3,7 @@
 use crate::helpers::*;
 use crate::table_places::*;
 use reference::lent::Table;
-use reference::table::layout::RECORDS;
+use reference::table::layout::SENDERS;
 use reference::table::layout::{address, domain, edge};
 use reference::table::rules::broken_rules;
 
@@ -79,7 +79,7 @@ fn rule_34_boundary_flags() {
 #[test]
 fn rule_35_the_domain_of_no_port() {
     let table = three_streams(250);
-    for place in [edge(3), edge(3) + 7, edge(3) + 128, edge(3) + 130, edge(8), RECORDS - 1] {
+    for place in [edge(3), edge(3) + 7, edge(3) + 128, edge(3) + 130, edge(8), SENDERS - 1] {
         breaks(&table, 35, place, 1);
     }
 }

@@ -231,8 +231,13 @@ pub fn registered_listener(
     on_port.listener.as_ref().map(|listener| listener.listener_type)
 }
 
-/// One PDU of a port from a place: its octets and the next place.
+/// One PDU that a port would write from a place: its octets and the next place. The table stays as it is.
 pub fn written(table: &Table, port: u32, place: u32) -> (Vec<u8>, usize) {
+    write(&mut table.clone(), port, place)
+}
+
+/// One PDU of a port from a place: its octets and the next place.
+pub fn write(table: &mut Table, port: u32, place: u32) -> (Vec<u8>, usize) {
     let mut buffer = [0; 1500];
     let answer = table.write(port, place, &mut buffer);
     assert_eq!(answer.number, 0);

@@ -1,8 +1,9 @@
 //! Listeners packed into vectors (02, (xi)).
 
 use crate::helpers::*;
-use reference::declarations::{self, Declaration};
+use reference::declarations::{self, Declaration, Said};
 use reference::lent::Table;
+use reference::mrp::EVENTS;
 use reference::packing::{all_cuttings, best, best_from_the_end, best_of_all, weight, Cutting};
 use reference::pdu::{self, ListenerType, StreamId};
 use reference::random::Random;
@@ -261,12 +262,15 @@ fn a_reader_takes_the_same_from_packed_and_single_vectors() {
     let kinds = [ListenerType::AskingFailed, ListenerType::Ready, ListenerType::ReadyFailed];
     for _ in 0..200 {
         let run = some_run(&mut random, 30);
-        let listeners: Vec<Declaration> =
-            run.iter().map(|id| Declaration::Listener(*id, random.one_of(&kinds))).collect();
+        let said = |id: &StreamId| Said {
+            declaration: Declaration::Listener(*id, random.one_of(&kinds)),
+            event: random.one_of(&EVENTS),
+        };
+        let listeners: Vec<Said> = run.iter().map(said).collect();
         let mut tables = [started(&settings(2)), started(&settings(2))];
-        accept(&mut tables[0], 1, &declarations::pdu(&listeners));
+        accept(&mut tables[0], 1, &declarations::pdu(&listeners, false));
         for listener in &listeners {
-            accept(&mut tables[1], 1, &declarations::pdu(&[*listener]));
+            accept(&mut tables[1], 1, &declarations::pdu(&[*listener], false));
         }
         assert_eq!(tables[0], tables[1]);
     }

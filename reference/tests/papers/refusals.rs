@@ -172,12 +172,14 @@ fn number_9_time_below_the_held_clock() {
 
 #[test]
 fn number_10_output_buffer_shorter_than_1500() {
-    let table = running();
+    let mut table = running();
+    let before = table.clone();
     for length in [0, 1, 3, 37, 1499] {
         let mut buffer = vec![0xa5; length];
         let refused = WriteAnswer { number: 10, length: 0, next_place: 0 };
         assert_eq!(table.write(2, 0, &mut buffer), refused);
         assert_eq!(buffer, vec![0xa5; length]);
+        assert_eq!(table, before);
     }
 }
 
@@ -292,7 +294,7 @@ fn number_12_wrong_table_length_or_no_bridge() {
 
 #[test]
 fn number_13_place_above_declarations_or_streams_held() {
-    let table = running();
+    let mut table = running();
     // A Listener and two Domains are declared on port 1, and one stream is held.
     for (place, write, report) in
         [(1, 0, 0), (2, 0, 13), (3, 0, 13), (4, 13, 13), (65_535, 13, 13), (u32::MAX, 13, 13)]

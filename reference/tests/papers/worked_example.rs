@@ -43,6 +43,7 @@ fn the_worked_example_by_calls() {
     input.extend([0x32, 0, 0, 0x05, 0xdc, 0x32, 0, 0, 0x05, 0xdb, 0x32, 0, 3, 0xff, 0xff]);
     let printed = calls::run(&input);
     let lines: Vec<&str> = printed.lines().collect();
+    // The neighbours have joined the Domain values, so that these are JoinIn (24); the others JoinMt (6c).
     assert_eq!(
         lines,
         [
@@ -57,11 +58,11 @@ fn the_worked_example_by_calls() {
             "report 0 1 17088000 75000000 0 0 0000000000000000 none 0 none none",
             "write 0 41 3 kept 000308000e000102000000000100016c800000\
              04040010000105020002\
-             6c0001060300026c00000000",
+             240001060300022400000000",
             "write 0 57 3 kept 000119001e0001020000000001000191e0f000fe00000200e00001700000\
              00006c0000\
              04040010000105020002\
-             6c0001060300026c00000000",
+             240001060300022400000000",
             "write 10 0 0 kept",
             "write 0 3 3 kept 000000",
         ]

@@ -1,18 +1,20 @@
 //! Writing (01, "Writing"; 02, (ii), (xi)), and reading back what is written.
 
 use crate::helpers::*;
-use reference::bridge::WriteAnswer;
-use reference::declarations::{self, Declaration};
+use reference::bridge::{Bridge, WriteAnswer};
+use reference::declarations::{self, Declaration, Said};
 use reference::generator;
 use reference::lent::Table;
-use reference::pdu::{self, AttributeType, StreamId};
+use reference::mrp::EVENTS;
+use reference::pdu::{self, Attribute, AttributeType, StreamId};
 use reference::records::{Call, Watcher};
 use reference::script::{records, Program};
+use reference::sending::Written;
 use reference::settings::PerClass;
-use reference::written::{declarations_of, taken_apart};
+use reference::written::{declarations_of, of_pdu, taken_apart, TakenApart};
 use reference::{calls, numbers};
 
-/// The declarations that a PDU carries, each with event JoinMt.
+/// The declarations that a PDU carries.
 fn read_back(octets: &[u8]) -> Vec<Declaration> {
     declarations_of(octets).expect("what is written can be read")
 }
@@ -182,12 +184,12 @@ fn from_a_place_in_the_middle() {
 
 #[test]
 fn place_equal_to_count_gives_the_empty_pdu() {
-    let table = crowd(3, 2, 2);
+    let mut table = crowd(3, 2, 2);
     assert_eq!(written(&table, 2, 9), (vec![0, 0, 0], 9));
     let mut buffer = [0; 1500];
     assert_eq!(table.write(2, 10, &mut buffer).number, 13);
     // Start leaves the settled state empty, and the Domain declarations.
-    let table = started(&settings(2));
+    let mut table = started(&settings(2));
     assert_eq!(written(&table, 1, 0).1, 2);
     assert_eq!(written(&table, 1, 2), (vec![0, 0, 0], 2));
     assert_eq!(table.write(1, 3, &mut buffer).number, 13);
@@ -199,7 +201,7 @@ fn octets_past_the_length_stay_and_a_longer_buffer_changes_nothing() {
     let mut answers = Vec::new();
     for length in [1500, 1501, 2048, 4000] {
         let mut buffer = vec![0xa5; length];
-        let answer = table.write(2, 0, &mut buffer);
+        let answer = table.clone().write(2, 0, &mut buffer);
         assert!(buffer[answer.length..].iter().all(|octet| *octet == 0xa5));
         answers.push((answer, buffer[..answer.length].to_vec()));
     }
@@ -207,14 +209,17 @@ fn octets_past_the_length_stay_and_a_longer_buffer_changes_nothing() {
 }
 
 #[test]
-fn write_and_report_change_nothing_in_the_table() {
-    let table = crowd(3, 2, 2);
+fn reports_and_refused_writes_change_nothing_in_the_table() {
+    let mut table = crowd(3, 2, 2);
     let before = table.clone();
-    written(&table, 2, 0);
     table.report(2, 0);
-    table.write(2, 0, &mut [0; 10]);
     table.report(9, 9);
+    table.write(9, 0, &mut [0; 1500]);
+    table.write(2, 0, &mut [0; 10]);
+    table.write(2, 10, &mut [0; 1500]);
     assert_eq!(table, before);
+    table.write(2, 0, &mut [0; 1500]);
+    assert_ne!(table, before);
 }
 
 #[test]
@@ -245,8 +250,9 @@ fn the_octets_of_each_type() {
     expected.extend([0x91, 0xe0, 0xf0, 0, 0, 2, 0, 2, 1, 0x2d, 0, 1, 0x60]);
     expected.extend([0, 0, 0x01, 0x02, 0x80, 0, 0, 0, 0, 0, 0, 7, 14, 0x6c, 0, 0]);
     expected.extend([3, 8, 0, 14, 0, 1, 2, 0, 0, 0, 0, 1, 0, 3, 0x6c, 0xc0, 0, 0]);
-    expected.extend([4, 4, 0, 16, 0, 1, 5, 2, 0x0a, 0xbc, 0x6c]);
-    expected.extend([0, 1, 6, 3, 0x0a, 0xbc, 0x6c, 0, 0]);
+    // The neighbour has joined the domain: JoinIn.
+    expected.extend([4, 4, 0, 16, 0, 1, 5, 2, 0x0a, 0xbc, 0x24]);
+    expected.extend([0, 1, 6, 3, 0x0a, 0xbc, 0x24, 0, 0]);
     expected.extend([0, 0]);
     assert_eq!(octets, expected);
 }
@@ -268,7 +274,7 @@ fn written_declarations_show_the_last_settled_state() {
     join_talker(&mut table, 2, &talker(STREAM));
     join_listener(&mut table, 3, STREAM, READY);
     advance(&mut table, 1);
-    let before: Vec<_> = (1..=3).map(|port| all_pdus(&table, port)).collect();
+    let before: Vec<_> = (1..=3).map(|port| declared(&table, port)).collect();
     // Latency, type, Listener and a lower Talker port since then change nothing.
     let mut later = failed(STREAM, 5);
     later.accumulated_latency = 99;
@@ -276,42 +282,54 @@ fn written_declarations_show_the_last_settled_state() {
     join_talker(&mut table, 1, &talker(STREAM));
     join_talker(&mut table, 1, &talker(STREAM + 1));
     join_listener(&mut table, 3, STREAM, ASKING);
-    let after: Vec<_> = (1..=3).map(|port| all_pdus(&table, port)).collect();
+    let after: Vec<_> = (1..=3).map(|port| declared(&table, port)).collect();
     assert_eq!(before, after);
     advance(&mut table, 2);
-    let settled: Vec<_> = (1..=3).map(|port| all_pdus(&table, port)).collect();
+    let settled: Vec<_> = (1..=3).map(|port| declared(&table, port)).collect();
     assert_ne!(before, settled);
 }
 
 /// Checks each accepted write of generated scripts.
+#[derive(Default)]
 struct WritesReadBack {
     checked: usize,
+    before: Option<Bridge>,
 }
 
 impl Watcher for WritesReadBack {
     fn called(&mut self, call: &Call, number: numbers::Number, table: &Table) {
-        let (port, place, answer) = match (call, number) {
-            (Call::Write { port, place, answer }, 0) => (port, place, answer),
-            _ => return,
-        };
-        let declared = declared(table, *port as usize);
-        let (octets, next) = written(table, *port, *place);
-        let expected = WriteAnswer { number: 0, length: octets.len(), next_place: next };
-        assert_eq!(*answer, expected);
-        assert_eq!(read_back(&octets), declared[*place as usize..next]);
-        assert!(octets.len() <= 1500);
-        // One more would not fit.
-        if next < declared.len() {
-            let more = declarations::pdu(&declared[*place as usize..=next]);
-            assert!(more.len() > 1500);
+        if let (Call::Write { port, place, answer }, 0, Some(before)) = (call, number, &self.before)
+        {
+            writes_read_back(before, *port as usize, *place as usize, *answer);
+            self.checked += 1;
         }
-        self.checked += 1;
+        self.stored(table);
+    }
+
+    fn stored(&mut self, table: &Table) {
+        if let Some(bridge) = table.bridge() {
+            self.before = Some(bridge.clone());
+        }
+    }
+}
+
+/// The PDU of an accepted write reads back as what was said, and one more would not fit.
+fn writes_read_back(before: &Bridge, port: usize, place: usize, answer: WriteAnswer) {
+    let mut sending = before.sending.ports[port - 1].clone();
+    let registrar = |attribute: &Attribute| before.registrations.registrar(port, attribute);
+    let Written { said, no_room, pdu, next_place, leave_all, .. } =
+        sending.write(place, before.clock, registrar);
+    assert_eq!(answer, WriteAnswer { number: 0, length: pdu.len(), next_place });
+    assert_eq!(of_pdu(&pdu), Ok(TakenApart { leave_all, said: said.clone() }));
+    assert!(pdu.len() <= 1500);
+    if let Some(one_more) = no_room {
+        assert!(declarations::pdu(&[said, vec![one_more]].concat(), leave_all).len() > 1500);
     }
 }
 
 #[test]
 fn all_writes_of_generated_scripts_read_back() {
-    let mut watcher = WritesReadBack { checked: 0 };
+    let mut watcher = WritesReadBack::default();
     for seed in 0..300 {
         calls::run_watched(&generator::calls(seed).octets, &mut watcher);
     }
@@ -344,16 +362,37 @@ fn pdus_are_taken_apart_into_the_words_of_a_text() {
 }
 
 #[test]
+fn events_and_leave_all_are_taken_apart_into_words() {
+    let declared = declared(&crowd(1, 1, 1), 2);
+    assert_eq!(declared.len(), 5);
+    for event in EVENTS {
+        let said: Vec<Said> =
+            declared.iter().map(|declaration| Said { declaration: *declaration, event }).collect();
+        for leave_all in [false, true] {
+            let pdu = declarations::pdu(&said, leave_all);
+            let printed = taken_apart(&in_hex(&[pdu])).expect("it is as 01 says");
+            assert_eq!(printed.lines().next().unwrap().ends_with(" leaveall"), leave_all);
+            for (words, said) in printed.lines().skip(1).zip(&said) {
+                let record = records(&format!("on 1 {words}"), Program::Calls).expect("a record");
+                assert_eq!(of_pdu(&record[3..]).unwrap().said, [*said]);
+            }
+        }
+    }
+}
+
+#[test]
 fn pdus_that_are_not_as_01_says_are_refused() {
     let pdus = all_pdus(&crowd(53, 2, 9), 2);
-    let join_in = in_hex(&pdus).replacen("6c", "24", 1);
-    let declared = read_back(&pdus[1]);
-    let not_full = [declarations::pdu(&declared[..1]), declarations::pdu(&declared[1..])];
+    let spare_event = in_hex(&pdus).replacen("6c", "6d", 1);
+    let said = of_pdu(&pdus[1]).unwrap().said;
+    let not_full = [declarations::pdu(&said[..1], false), declarations::pdu(&said[1..], false)];
     let swapped = in_hex(&[pdus[1].clone(), pdus[0].clone()]);
+    let past_the_end = in_hex(&[pdus[0].clone(), pdus[1].clone(), vec![0, 0, 0]]);
     for (text, fault) in [
-        (join_in.as_str(), "a PDU isn't laid out as it is written"),
+        (spare_event.as_str(), "a PDU isn't laid out as it is written"),
         (in_hex(&not_full).as_str(), "PDU 1 could have taken one more"),
         (swapped.as_str(), "the declarations are out of order"),
+        (past_the_end.as_str(), "PDU 3 says nothing"),
         ("000", "000 isn't pairs of hexadecimal digits"),
         ("0000", "a PDU is refused: 3"),
     ] {

@@ -6,10 +6,13 @@ use mathlib.Core.List.{List, _++_}
 use native.Mathlib.Omega.{arith}
 use lib.ListN.{length, drop}
 use borrow.Author.Needs.{needs}
+use Rattle.octets.specs.Parts.{zeros}
 use Rattle.model.specs.Layout.{tableLength}
+use Rattle.model.specs.Lists.{Octets}
 use Rattle.model.specs.Table.{settingsFormed}
 use Rattle.model.specs.Calls.{Call}
 use Rattle.model.proofs.Parts.{octets-of}
+use Rattle.bridge.proofs.Started.{undeclared-laid, declared-started}
 use Rattle.bridge.proofs.Starting.{start-wrong-table, start-wrong-settings, start-accepted, settings-short, settings-put}
 use Rattle.bridge.proofs.start.Statement.{statement}
 use Rattle.bridge.proofs.start.Tie as tie
@@ -25,17 +28,32 @@ part-copy-end c =
     let h = settings-short _ f in
     omega (arith, h)
 
+-- the settings are well formed octets, and stand in front of zeros
+octets : (c : tie.After-join-all-arg) → Octets (c .before .before .before .before .before .before .before .before .before .before .before .before .before .before .args .settings .now)
+octets c = octets-of (c .before .before .before .before .before .before .before .before .before .before .before .before .before .before .args .settings .now) (λ i. omega (arith, c .before .before .before .before .before .before .before .before .before .before .before .before .shared-slice-known .given i))
+
+well-formed : (c : tie.After-join-all-arg) → settingsFormed (c .before .before .before .before .before .before .before .before .before .before .before .before .before .before .args .settings .now) ≡ true
+well-formed c = sym (c .before .before .before .before .before .before .before .before .before .before .settings-formed .ensures) ∙ c .before .before .before .before .before .before .before .before .before .if2 .taken
+
+put : (c : tie.After-join-all-arg) → let s = c .before .before .before .before .before .before .before .before .before .before .before .before .before .before .args .settings .now in
+    (c .before .before .before .copy .last .1 .0) ++ drop (length s - 0) (drop 0 (c .before .before .before .before .before .before .before .clear .last .0)) ≡ s ++ zeros (tableLength - length s)
+put c =
+    let s = c .before .before .before .before .before .before .before .before .before .before .before .before .before .before .args .settings .now in
+    let t = c .before .before .before .before .before .before .before .before .before .before .before .before .before .before .args .table .now in
+    let z = c .before .before .before .before .before .before .before .clear .last .0 in
+    let h : length t ≡ tableLength = c .before .before .before .before .before .before .before .before .before .before .before .if1 .left in
+    let short : length s ≤ tableLength = omega (arith, settings-short s (well-formed c)) in
+    ap (λ (x : List ℕ). x ++ drop (length s - 0) (drop 0 z)) (c .before .before .before .copy .ensures) ∙ settings-put tableLength s t z h short (c .before .before .before .before .before .before .before .clear .ensures)
+
+join-all-requires : tie.Need-join-all-requires
+join-all-requires c κs = undeclared-laid _ (octets c) (well-formed c) _ (put c)
+
 returns-2 : tie.Need-returns-2
 returns-2 c =
-    let s = c .before .before .before .before .before .before .before .before .before .before .before .before .before .args .settings .now in
-    let t = c .before .before .before .before .before .before .before .before .before .before .before .before .before .args .table .now in
-    let f : settingsFormed s ≡ true = sym (c .before .before .before .before .before .before .before .before .before .settings-formed .ensures) ∙ c .before .before .before .before .before .before .before .before .if2 .taken in
-    let z = c .before .before .before .before .before .before .clear .last .0 in
-    let h : length t ≡ tableLength = c .before .before .before .before .before .before .before .before .before .before .if1 .left in
-    let short : length s ≤ tableLength = omega (arith, settings-short s f) in
-    let e = start-accepted t s h f (octets-of s (λ i. omega (arith, c .before .before .before .before .before .before .before .before .before .before .before .shared-slice-known .given i))) in (
+    let d = c .before .before .before in
+    let e = start-accepted (c .before .before .before .before .before .before .before .before .before .before .before .before .before .before .before .before .before .args .table .now) (c .before .before .before .before .before .before .before .before .before .before .before .before .before .before .before .before .before .args .settings .now) (c .before .before .before .before .before .before .before .before .before .before .before .before .before .before .if1 .left) (well-formed d) in (
       ap (λ (a : Call). a .number) (sym e),
-      ap (λ (x : List ℕ). x ++ drop (length s - 0) (drop 0 z)) (c .before .before .copy .ensures) ∙ settings-put tableLength s t z h short (c .before .before .before .before .before .before .clear .ensures) ∙ ap (λ (a : Call). a .table) (sym e),
+      c .before .before .join-all .ensures ∙ declared-started _ (octets d) (well-formed d) _ (put d) ∙ ap (λ (a : Call). a .table) (sym e),
     )
 
 returns-3 : tie.Need-returns-3
@@ -48,4 +66,4 @@ pub start-spec : {M : Type 1} → statement M
 start-spec =
     tie.close
     (tie.spec returns (λ c κs. search needs) (λ c κs. search needs) (λ c. search needs) (λ c. search needs) part-copy-end
-    (λ c κs. search needs) (λ c. search needs) returns-2 returns-3)
+    (λ c κs. search needs) join-all-requires (λ c. search needs) returns-2 returns-3)

@@ -8,14 +8,7 @@ use Rattle.console.proofs.put_shown.Tie as tie
 
 returns : tie.Need-returns
 unfolding shownText shown
-returns c =
-    let talker = c .before .before .before .before .before .before .before .before .before .before .before .before .before .before .before .before .before .before .before .before .put-talker .ensures in
-    let listener = put-append (c .before .before .before .before .before .before .before .before .before .before .before .before .before .before .before .put .ensures) (c .before .before .before .before .before .before .before .before .before .before .before .put-listener .ensures) in
-    let entry = put-append (c .before .before .before .before .before .before .put2 .ensures) (c .before .before .put-entry .ensures) in
-    put-append (put-append talker listener) entry
+returns c = put-append (put-append (c .before .before .before .before .before .before .before .before .before .before .put-talker .ensures) (c .before .before .before .before .before .before .put-listener .ensures)) (c .before .before .put-entry .ensures)
 
 pub put-shown-spec : {M : Type 1} → statement M
-put-shown-spec =
-    tie.close
-    (tie.spec (λ c κs. search needs) (λ c. search needs) (λ c κs. search needs) (λ c κs. search needs) (λ c. search needs) (λ c κs. search needs)
-    (λ c κs. search needs) (λ c. search needs) returns)
+put-shown-spec = tie.close (tie.spec (λ c κs. search needs) (λ c κs. search needs) (λ c κs. search needs) (λ c. search needs) returns)

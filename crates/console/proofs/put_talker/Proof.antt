@@ -8,9 +8,7 @@ use Rattle.console.proofs.put_talker.Tie as tie
 
 returns : tie.Need-returns
 unfolding talkerText shown
-returns c = put-append (put-append (c .before .before .before .before .before .before .before .before .before .before .before .put .ensures) (c .before .before .before .before .before .before .before .put-column .ensures)) (c .before .before .put-number .ensures)
+returns c = put-append (c .before .before .before .before .before .before .before .put-column .ensures) (c .before .before .put-number .ensures)
 
 pub put-talker-spec : {M : Type 1} → statement M
-put-talker-spec =
-    tie.close
-    (tie.spec (λ c. search needs) (λ c κs. search needs) (λ c κs. search needs) (λ c. search needs) (λ c κs. search needs) (λ c. search needs) returns)
+put-talker-spec = tie.close (tie.spec (λ c κs. search needs) (λ c. search needs) (λ c κs. search needs) (λ c. search needs) returns)

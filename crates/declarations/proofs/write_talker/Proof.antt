@@ -1,40 +1,57 @@
 -- `declarations::write_talker` meets its contract. Assumes nothing.
-use Prim.Native.Nat.{_+_, _≤_}
-use mathlib.Core.Path.{ap, _∙_}
+use mathlib.Core.Path.{_≡_, refl, sym, ap, _∙_}
+use Prim.Native.Nat.{ℕ, _+_, _-_, _*_, _≤_, _<_}
 use native.Mathlib.Omega.{arith}
-use borrow.Author.Needs.{needs}
-use lib.ListN.{length}
-use Rattle.octets.specs.Be.{be}
+use mathlib.Core.List.{List, []}
+use lib.ListN.{length, getD, take, drop}
 use Rattle.octets.specs.Parts.{part}
 use Rattle.octets.proofs.Parts.{lent-part, length-part}
-use Rattle.model.specs.Layout.{inResult}
-use Rattle.model.specs.State.{resultAt, streamAt}
-use Rattle.model.specs.Table.{resultOctets, decode}
-use Rattle.model.proofs.Results.{result-length}
+use Rattle.model.specs.FrameLayout.{inFirstValue}
+use Rattle.model.specs.State.{sendsAt, streamAt}
+use Rattle.model.specs.Sending.{sendsOctets}
+use Rattle.model.specs.Table.{decode}
+use Rattle.model.proofs.SendsOctets.{sends-length}
 use Rattle.table.proofs.ByPlace.{stands}
-use Rattle.table.proofs.ReadOctets.{result-is}
-use Rattle.declarations.specs.Vectors.{talkerVector}
-use Rattle.declarations.proofs.Written.{holding-put, holding-lent, holding-all}
+use Rattle.declarations.specs.Vectors.{talkerVector, firstEvent}
+use Rattle.declarations.proofs.Written.{holding-lent, holding-put, holding-all, be-one}
+use borrow.Author.Needs.{needs}
 use Rattle.declarations.proofs.write_talker.Statement.{statement}
 use Rattle.declarations.proofs.write_talker.Tie as tie
 
-begin-talker-requires : tie.Need-begin-talker-requires
-begin-talker-requires c κs = let pre = c .before .before .before .pre in (stands (pre .places), omega (arith, pre .room))
+-- the octets of the values
+abbrev size : List ℕ → ℕ
+size out = length out - (3 + inFirstValue.destination)
+
+id-at-requires : tie.Need-id-at-requires
+id-at-requires c κs = stands (c .before .before .pre .0 .places)
+
+begin-vector-requires : tie.Need-begin-vector-requires
+begin-vector-requires c κs = omega (arith, c .before .before .before .before .pre .0 .room)
+
+copy-offer-requires : tie.Need-copy-offer-requires
+copy-offer-requires c κs =
+    let a = c .before .before .before .before .before .before .before .before .args in
+    let pre = c .before .before .before .before .before .before .before .before .pre .0 in
+    let now = c .before .before .before .begin-vector .last .1 .1 .0 in
+    let n : ℕ = size (a .out .now) in
+    let long : length (part 10 n now) ≡ n = length-part 10 n now (omega (arith, pre .room)) in
+    (pre .places, omega (arith, pre .within, ap length (lent-part 10 n now), long))
 
 returns : tie.Need-returns
-unfolding talkerVector be
+unfolding talkerVector firstEvent
 returns c =
-    let start = c .before .before .before .before .before .before .before .before .before .before .before .before .before .before .before .before in
-    let a = start .args in
-    let r = resultAt (streamAt (a .k) (decode (a .table .now))) (a .p) in
-    let read = c .before .before .before .before .before .before .before .before .before .result-at .ensures in
-    let enough : inResult.latency + a .more ≤ length (resultOctets r) = omega (arith, result-length r, start .pre .within) in
-    let seen = c .before .before .before .before .before .before .copy .ensures ∙ lent-part inResult.latency (a .more) _ ∙ ap (part inResult.latency (a .more)) (result-is read) in
-    let copied = holding-lent (c .before .before .before .before .before .before .before .before .before .before .before .before .begin-talker .ensures) (a .more) seen (length-part inResult.latency (a .more) (resultOctets r) enough) in
-    holding-all (holding-put copied 1 108 (c .before .before .put .ensures)) (omega (arith, start .pre .room))
+    let a = c .before .before .before .before .before .before .before .before .before .before .before .before .before .before .before .args in
+    let pre = c .before .before .before .before .before .before .before .before .before .before .before .before .before .before .before .pre .0 in
+    let n : ℕ = size (a .out .now) in
+    let sent = sendsOctets (sendsAt (streamAt (a .k) (decode (a .table .now))) (a .p)) in
+    let now = c .before .before .before .before .before .before .before .before .before .before .begin-vector .last .1 .1 .0 in
+    let lent : length (take (10 + n - 10) (drop 10 now)) ≡ n = ap length (lent-part 10 n now) ∙ length-part 10 n now (omega (arith, pre .room)) in
+    let enough : a .from + n ≤ length sent = omega (arith, sends-length (sendsAt (streamAt (a .k) (decode (a .table .now))) (a .p)), pre .within) in
+    let seen = c .before .before .before .before .before .before .copy-offer .ensures ∙ ap (λ (m : ℕ). part (a .from) m sent) lent in
+    let copied = holding-lent (c .before .before .before .before .before .before .before .before .before .before .begin-vector .ensures) n seen (length-part (a .from) n sent enough) in
+    let small : a .event * 36 < 256 = omega (arith, c .before .before .before .before .before .before .before .before .before .before .before .before .before .before .before .pre .1) in
+    holding-all (holding-put copied 1 (a .event * 36) (c .before .before .put .ensures)) (omega (arith, pre .room))
+    ∙ rw (be-one (a .event * 36) small, c .before .before .before .before .before .before .before .before .before .before .before .before .id-at .ensures)
 
 pub write-talker-spec : {M : Type 1} → statement M
-write-talker-spec =
-    tie.close
-    (tie.spec begin-talker-requires (λ c κs. search needs) (λ c. search needs) (λ c. search needs) (λ c. search needs) (λ c. search needs) (λ c. search needs)
-    (λ c. search needs) (λ c. search needs) (λ c. search needs) (λ c κs. search needs) (λ c. search needs) (λ c κs. search needs) (λ c. search needs) returns)
+write-talker-spec = tie.close (tie.spec (λ c. search needs) (λ c. search needs) id-at-requires begin-vector-requires (λ c. search needs) (λ c. search needs) (λ c. search needs) (λ c. search needs) copy-offer-requires (λ c. search needs) (λ c. search needs) (λ c κs. search needs) (λ c. search needs) returns)

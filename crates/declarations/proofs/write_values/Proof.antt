@@ -1,9 +1,11 @@
 -- `declarations::write_values` meets its contract. Assumes nothing.
-use Prim.Native.Nat.{ℕ, _+_, _-_, _*_, _/_, _%_, _≤_}
-use mathlib.Core.Path.{_≡_, refl, ap, _∙_}
+use mathlib.Core.Path.{_≡_, refl, sym, ap, _∙_}
+use Prim.Native.Nat.{ℕ, _+_, _-_, _*_, _/_, _%_, _≤_, _<_}
 use native.Mathlib.Omega.{arith}
-use borrow.Author.Needs.{needs}
-use lib.ListN.{length, getD, set, take, length-set}
+use mathlib.Core.List.{List, []}
+use mathlib.Core.Bool.{Bool}
+use lib.ListN.{length, getD, take, drop}
+use lib.ListN.{set, length-set}
 use lib.Seq.{take-all}
 use Rattle.model.specs.Frames.{threeLength}
 use Rattle.model.specs.Cutting.{values}
@@ -12,8 +14,9 @@ use Rattle.cutting.proofs.Named.{ids-length, part-ends}
 use Rattle.model.specs.WrittenFrames.{listenerNumber}
 use Rattle.model.specs.Table.{decode}
 use Rattle.declarations.specs.Packed.{listenerAt, listenersAt, threeUnit, fourUnit, eventsBy, eventsOf}
-use Rattle.declarations.proofs.Packed.{listeners-ids, listeners-length}
+use Rattle.declarations.proofs.Packed.{listeners-ids, listeners-length, listeners-events}
 use Rattle.declarations.proofs.Packing.{Turn, turn, first-below, events-none, cleared}
+use borrow.Author.Needs.{needs}
 use Rattle.declarations.proofs.write_values.Statement.{statement}
 use Rattle.declarations.proofs.write_values.Tie as tie
 
@@ -54,7 +57,7 @@ turns c =
     let after = first-below t (a .p) places (pre .telling) (pre .part) (l .i) (c .before .loop-test .taken) in
     let at : getD (idsOf t places) 0 0 + (c .id-of2 .result - c .before .before .before .before .before .before .before .before .id-of .result) ≡ getD (idsOf t places) (l .i) 0 = omega (arith, after, c .id-of2 .ensures, c .before .before .before .before .before .before .before .before .id-of .ensures) in
     let eT : (c .before .before .before .before .before .before .before .values-of .result + 2) / 3 ≡ threeLength (values (idsOf t places)) = unfold threeLength in (ap (λ (n : ℕ). (n + 2) / 3) (c .before .before .before .before .before .before .before .values-of .ensures .0)) in
-    turn t (a .p) places (pre .telling) (pre .part) (l .i) (c .before .loop-test .taken) _ _ at eT (l .out) (l .inv .2)
+    turn t (a .p) places (pre .telling) (pre .part) (l .i) (c .before .loop-test .taken) (listeners-events t (a .p) places) _ _ at eT (l .out) (l .inv .2)
 
 sub-at : tie.Need-sub-at Inv-loop μ-loop
 sub-at c =
@@ -62,49 +65,59 @@ sub-at c =
     let pre = c .before .before .before .before .before .before .before .before .before .before .before .before .pre in
     omega (arith, c .id-of2 .ensures, c .before .before .before .before .before .before .before .before .id-of .ensures, first-below (a .table .now) (a .p) (a .places .now) (pre .telling) (pre .part) (c .before .before .loop .i) (c .before .loop-test .taken))
 
-add-out : tie.Need-add-out Inv-loop μ-loop
-add-out c = omega (arith, turns (c .before .before) .three-fits, c .join-mt-at .ensures)
+-- the event at its position
+event-is : (c : tie.After-event-at Inv-loop μ-loop)
+    → let a = c .before .before .before .before .before .before .before .before .before .before .before .before .before .before .before .args in
+    let o : ℕ = c .before .before .before .id-of2 .result - c .before .before .before .before .before .before .before .before .before .before .before .id-of .result in
+    c .event-at .result ≡ listenerAt (a .p) (decode (a .table .now)) (getD (a .places .now) (c .before .before .before .before .before .loop .i) 0) .event * threeUnit (o % 3)
+event-is c =
+    let o : ℕ = c .before .before .before .id-of2 .result - c .before .before .before .before .before .before .before .before .before .before .before .id-of .result in
+    c .event-at .ensures ∙ ap (λ (m : ℕ). m * threeUnit (o % 3)) (c .before .before .listener-event .ensures .0)
 
--- the octet with the event, and that with the type
-x-is : (c : tie.After-join-mt-at Inv-loop μ-loop)
-    → let o : ℕ = c .before .before .id-of2 .result - c .before .before .before .before .before .before .before .before .before .before .id-of .result in
-    getD (c .before .before .before .before .loop .out) (o / 3) 0 + c .join-mt-at .result ≡ getD (c .before .before .before .before .loop .out) (o / 3) 0 + 3 * threeUnit (o % 3)
+-- the octet with the event
+x-is : (c : tie.After-event-at Inv-loop μ-loop)
+    → let a = c .before .before .before .before .before .before .before .before .before .before .before .before .before .before .before .args in
+    let o : ℕ = c .before .before .before .id-of2 .result - c .before .before .before .before .before .before .before .before .before .before .before .id-of .result in
+    getD (c .before .before .before .before .before .loop .out) (o / 3) 0 + c .event-at .result ≡ getD (c .before .before .before .before .before .loop .out) (o / 3) 0 + listenerAt (a .p) (decode (a .table .now)) (getD (a .places .now) (c .before .before .before .before .before .loop .i) 0) .event * threeUnit (o % 3)
 x-is c =
-    let o : ℕ = c .before .before .id-of2 .result - c .before .before .before .before .before .before .before .before .before .before .id-of .result in
-    ap (λ (m : ℕ). getD (c .before .before .before .before .loop .out) (o / 3) 0 + m) (c .join-mt-at .ensures)
+    let o : ℕ = c .before .before .before .id-of2 .result - c .before .before .before .before .before .before .before .before .before .before .before .id-of .result in
+    ap (λ (m : ℕ). getD (c .before .before .before .before .before .loop .out) (o / 3) 0 + m) (event-is c)
+
+add-out : tie.Need-add-out Inv-loop μ-loop
+add-out c = omega (arith, turns (c .before .before .before) .three-fits, event-is c)
 
 slice-read-out-2 : tie.Need-slice-read-out-2 Inv-loop μ-loop
 slice-read-out-2 c =
-    let o : ℕ = c .before .before .before .before .id-of2 .result - c .before .before .before .before .before .before .before .before .before .before .before .before .id-of .result in
-    let out = c .before .before .before .before .before .before .loop .out in
-    omega (arith, turns (c .before .before .before .before) .four-in, length-set out (o / 3) (getD out (o / 3) 0 + c .before .before .join-mt-at .result))
+    let o : ℕ = c .before .before .before .before .before .id-of2 .result - c .before .before .before .before .before .before .before .before .before .before .before .before .before .id-of .result in
+    let out = c .before .before .before .before .before .before .before .loop .out in
+    omega (arith, turns (c .before .before .before .before .before) .four-in, length-set out (o / 3) (getD out (o / 3) 0 + c .before .before .event-at .result))
 
 number-is : (c : tie.After-type-at Inv-loop μ-loop)
-    → let a = c .before .before .before .before .before .before .before .before .before .before .before .before .before .before .before .before .before .args in
-    let o : ℕ = c .before .before .before .before .before .id-of2 .result - c .before .before .before .before .before .before .before .before .before .before .before .before .before .id-of .result in
-    c .type-at .result ≡ listenerNumber (listenerAt (a .p) (decode (a .table .now)) (getD (a .places .now) (c .before .before .before .before .before .before .before .loop .i) 0)) * fourUnit (o % 4)
+    → let a = c .before .before .before .before .before .before .before .before .before .before .before .before .before .before .before .before .before .before .args in
+    let o : ℕ = c .before .before .before .before .before .before .id-of2 .result - c .before .before .before .before .before .before .before .before .before .before .before .before .before .before .id-of .result in
+    c .type-at .result ≡ listenerNumber (listenerAt (a .p) (decode (a .table .now)) (getD (a .places .now) (c .before .before .before .before .before .before .before .before .loop .i) 0) .declaration) * fourUnit (o % 4)
 number-is c =
-    let o : ℕ = c .before .before .before .before .before .id-of2 .result - c .before .before .before .before .before .before .before .before .before .before .before .before .before .id-of .result in
+    let o : ℕ = c .before .before .before .before .before .before .id-of2 .result - c .before .before .before .before .before .before .before .before .before .before .before .before .before .before .id-of .result in
     c .type-at .ensures ∙ ap (λ (m : ℕ). m * fourUnit (o % 4)) (c .before .before .listener-number .ensures .0)
 
 add-out-2 : tie.Need-add-out-2 Inv-loop μ-loop
-add-out-2 c = omega (arith, turns (c .before .before .before .before .before) .four-fits _ (x-is (c .before .before .before)), number-is c)
+add-out-2 c = omega (arith, turns (c .before .before .before .before .before .before) .four-fits _ (x-is (c .before .before .before)), number-is c)
 
 slice-write-out-2 : tie.Need-slice-write-out-2 Inv-loop μ-loop
 slice-write-out-2 c =
-    let o : ℕ = c .before .before .before .before .before .id-of2 .result - c .before .before .before .before .before .before .before .before .before .before .before .before .before .id-of .result in
-    let out = c .before .before .before .before .before .before .before .loop .out in
-    omega (arith, turns (c .before .before .before .before .before) .four-in, length-set out (o / 3) (getD out (o / 3) 0 + c .before .before .before .join-mt-at .result))
+    let o : ℕ = c .before .before .before .before .before .before .id-of2 .result - c .before .before .before .before .before .before .before .before .before .before .before .before .before .before .id-of .result in
+    let out = c .before .before .before .before .before .before .before .before .loop .out in
+    omega (arith, turns (c .before .before .before .before .before .before) .four-in, length-set out (o / 3) (getD out (o / 3) 0 + c .before .before .before .event-at .result))
 
 loop-again : tie.Need-loop-again Inv-loop μ-loop
 loop-again c =
-    let l = c .before .before .before .before .before .before .before .loop in
-    let o : ℕ = c .before .before .before .before .before .id-of2 .result - c .before .before .before .before .before .before .before .before .before .before .before .before .before .id-of .result in
-    let threes : ℕ = (c .before .before .before .before .before .before .before .before .before .before .before .before .values-of .result + 2) / 3 in
-    let set-x = set (l .out) (o / 3) (getD (l .out) (o / 3) 0 + c .before .before .before .join-mt-at .result) in (
+    let l = c .before .before .before .before .before .before .before .before .loop in
+    let o : ℕ = c .before .before .before .before .before .before .id-of2 .result - c .before .before .before .before .before .before .before .before .before .before .before .before .before .before .id-of .result in
+    let threes : ℕ = (c .before .before .before .before .before .before .before .before .before .before .before .before .before .values-of .result + 2) / 3 in
+    let set-x = set (l .out) (o / 3) (getD (l .out) (o / 3) 0 + c .before .before .before .event-at .result) in (
       omega arith,
       simp length-set (l .inv .1),
-      turns (c .before .before .before .before .before) .is _ _ (x-is (c .before .before .before)) (ap (λ (m : ℕ). getD set-x (threes + o / 4) 0 + m) (number-is c)),
+      turns (c .before .before .before .before .before .before) .is _ _ (x-is (c .before .before .before)) (ap (λ (m : ℕ). getD set-x (threes + o / 4) 0 + m) (number-is c)),
     )
 
 returns : tie.Need-returns Inv-loop μ-loop
@@ -116,10 +129,7 @@ returns c =
     l .inv .2 ∙ ap (eventsBy g) all ∙ unfold eventsOf in refl
 
 pub write-values-spec : {M : Type 1} → statement M
-write-values-spec =
-    tie.close
-    (tie.spec Inv-loop μ-loop id-of-requires (λ c κs. record { named = c .before .before .before .before .pre .telling .named; part = c .before .before .before .before .pre .part }) (λ c. search needs) (λ c κs. search needs)
-    loop-holds (λ c κs. (c .before .before .before .before .before .before .before .before .before .before .before .pre .telling .named, omega arith)) sub-at (λ c. omega (arith, turns (c .before) .three-in)) (λ c κs. search needs) add-out
-    (λ c. omega (arith, turns (c .before .before) .three-in)) (λ c. omega (arith, turns (c .before .before) .four-in, c .before .before .before .before .before .before .before .before .before .values-of .ensures .1)) (λ c κs. (c .before .before .before .before .before .before .before .before .before .before .before .before .before .before .pre .telling, omega arith))
-    slice-read-out-2 (λ c κs. (c .before .listener-number .ensures .2, omega arith)) add-out-2 slice-write-out-2 (λ c. search needs) (λ c. search needs) loop-again
-    (λ c. search needs) returns)
+write-values-spec = tie.close (tie.spec Inv-loop μ-loop id-of-requires (λ c κs. record { named = c .before .before .before .before .pre .telling .named; part = c .before .before .before .before .pre .part }) (λ c. search needs) (λ c κs. search needs) loop-holds (λ c κs. (c .before .before .before .before .before .before .before .before .before .before .before .pre .telling .named, omega arith)) sub-at
+    (λ c κs. (c .before .before .before .before .before .before .before .before .before .before .before .before .pre .telling, omega arith)) (λ c. omega (arith, turns (c .before .before) .three-in)) (λ c κs. (c .before .listener-event .ensures .1, omega arith)) add-out (λ c. omega (arith, turns (c .before .before .before) .three-in))
+    (λ c. omega (arith, turns (c .before .before .before) .four-in, c .before .before .before .before .before .before .before .before .before .before .values-of .ensures .1)) (λ c κs. (c .before .before .before .before .before .before .before .before .before .before .before .before .before .before .before .pre .telling, omega arith)) slice-read-out-2 (λ c κs. (c .before .listener-number .ensures .1, omega arith))
+    add-out-2 slice-write-out-2 (λ c. search needs) (λ c. search needs) loop-again (λ c. search needs) returns)

@@ -10,16 +10,16 @@ use Rattle.form.proofs.edges_formed.Statement.{statement}
 use Rattle.form.proofs.edges_formed.Tie as tie
 
 few : (c : tie.After-owns) → c .before .before .get .result / portsUnit ≤ 8
-few c = table-ports _ _ (c .before .before .get .ensures .0) (c .before .before .before .before .pre .1)
+few c = table-ports _ _ (c .before .before .get .ensures .0) (c .before .before .before .before .pre .ports)
 
 owns-formed-requires : tie.Need-owns-formed-requires
-owns-formed-requires c κs = owns-room (c .before .before .before .before .args .table .now) _ (c .before .before .before .before .pre .0) (few c)
+owns-formed-requires c κs = owns-room (c .before .before .before .before .args .table .now) _ (c .before .before .before .before .pre .size) (few c)
 
 mul-zero-from : tie.Need-mul-zero-from
 mul-zero-from c = omega (arith, few (c .before))
 
 zero-from-requires : tie.Need-zero-from-requires
-zero-from-requires c κs = owns-room (c .before .before .before .before .before .args .table .now) _ (c .before .before .before .before .before .pre .0) (few (c .before))
+zero-from-requires c κs = owns-room (c .before .before .before .before .before .args .table .now) _ (c .before .before .before .before .before .pre .size) (few (c .before))
 
 returns : tie.Need-returns
 returns c =

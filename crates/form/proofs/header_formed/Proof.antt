@@ -1,5 +1,5 @@
 -- `form::header_formed` meets its contract. Assumes nothing.
-use mathlib.Core.Path.{_≡_, refl, sym, _∙_}
+use mathlib.Core.Path.{_≡_, sym, _∙_}
 use mathlib.Core.Bool.{true}
 use Prim.Native.Nat.{_/_, _≤_}
 use native.Mathlib.Omega.{arith}
@@ -25,21 +25,11 @@ few c = few-ports _ _ (c .get .ensures .0) (kept (c .before))
 zero-from-requires : tie.Need-zero-from-requires
 zero-from-requires c κs = omega (arith, few c)
 
-totals-within-requires : tie.Need-totals-within-requires
-totals-within-requires c κs = record {
-  size = omega arith;
-  few = few (c .before .before .before .before);
-  octets = omega (arith, few (c .before .before .before .before));
-}
-
 returns-2 : tie.Need-returns-2
-returns-2 c =
-    rw (c .before .before .before .before .zero-from .ensures, c .totals-within .ensures)
-    (header-tests _ _ (c .before .before .before .before .before .get .ensures .0) (kept (c .before .before .before .before .before .before)) _ refl)
+returns-2 c = c .zero-from .ensures ∙ header-tests _ _ (c .before .get .ensures .0) (kept (c .before .before))
 
 pub header-formed-spec : {M : Type 1} → statement M
 header-formed-spec =
     tie.close
     (tie.spec (λ c. search needs) (λ c. search needs) (λ c. search needs) (λ c κs. search needs) returns (λ c κs. search needs)
-    (λ c. search needs) (λ c. search needs) zero-from-requires (λ c. search needs) (λ c. search needs) (λ c. search needs)
-    (λ c. search needs) (λ c. search needs) (λ c. search needs) (λ c. search needs) totals-within-requires returns-2)
+    (λ c. search needs) (λ c. search needs) zero-from-requires returns-2)

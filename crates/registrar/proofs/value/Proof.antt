@@ -1,123 +1,79 @@
 -- `registrar::value` meets its contract. Assumes nothing.
-use Prim.Native.Nat.{ℕ, _+_, _≤_}
-use mathlib.Core.Path.{_≡_, sym, ap, _∙_}
-use mathlib.Core.Bool.{false}
-use native.Mathlib.Omega.{arith}
+use Prim.Native.Nat.{ℕ}
+use mathlib.Core.Path.{_≡_, sym, _∙_, ap₂}
+use mathlib.Core.Bool.{true, false}
+use mathlib.Core.List.{List, _++_}
+use borrow.Author.Tests.{not-true, not-false}
 use borrow.Author.Needs.{needs}
-use Rattle.octets.specs.Be.{beAt}
+use Rattle.model.specs.Registrations.{Act}
 use Rattle.model.specs.Frames.{valueActs}
-use Rattle.cells.specs.Acts.{kindAt}
-use Rattle.registrar.specs.declared.Asked.{Asked}
-use Rattle.registrar.specs.declared.Asked.the-variants.{Nothing, Leave}
-use Rattle.registrar.specs.Acts.{vectorOf, actsAsked}
-use Rattle.registrar.proofs.ValueActs.{value-acts, value-id-is, not-past}
-use Rattle.registrar.proofs.DomainValues.{value-room}
-use Rattle.registrar.proofs.Walks.{walked-none}
-use Rattle.registrar.proofs.Touched.{left-room}
+use Rattle.msrpdu.specs.declared.Event.{Event}
+use Rattle.registrar.specs.Acts.{vectorOf, registerActs, hearActs}
+use Rattle.registrar.proofs.ValueActs.{declared}
+use Rattle.registrar.proofs.DomainValues.{both-acts, hear-room}
+use Rattle.registrar.proofs.Walks.{walked-laid, first-stopped, second-done}
 use Rattle.registrar.proofs.value.Statement.{statement}
 use Rattle.registrar.proofs.value.Tie as tie
 
--- A Domain value.
+register-requires : tie.Need-register-requires
+register-requires c κs =
+    let s = c .before .before .before .before .before .before .before in
+    let a = s .args in
+    record {
+      walk = s .pre .walk;
+      value = s .pre .value;
+      four = λ k some. rw (c .before .four-of .ensures) (declared (a .events .now) (a .fours .now) (λ i. c .before .before .before .shared-slice-known3 .given i .fits) (a .n) _ (rw k at (c .before .before .event-for .ensures)) some);
+    }
 
-domain-value-requires : tie.Need-domain-value-requires
-domain-value-requires c κs =
-    let p = c .before .before .before .before .before .before .before .before .pre in
-    record { laid = p .walk .laid; port = p .walk .port; event = p .event; value = rw (c .before .before .if1 .taken) at (p .value) }
+-- what it asks of its Registrar, and what its Applicant hears
+module _ (c : tie.After-register) where
+  abbrev start : tie.Start
+  start = c .before .before .before .before .before .before .before .before
+
+  abbrev asked : List Act
+  asked = let a = start .args in registerActs (a .walk .kind) (a .first .now) (c .before .before .before .event-for .result) (c .before .before .four-of .result) (a .n)
+
+  abbrev heard : List Act
+  heard = let a = start .args in hearActs (a .walk .kind) (a .first .now) (c .before .before .before .event-for .result) (a .n)
+
+  acts : valueActs (vectorOf (start .args .walk .kind) false 0 (start .args .first .now) (start .args .events .now) (start .args .fours .now)) (start .args .n) ≡ asked ++ heard
+  acts =
+      let a = start .args in
+      both-acts false 0 (a .first .now) (a .events .now) (a .fours .now) (a .n) (start .pre .event) (a .walk .kind) (start .pre .value)
+      ∙ ap₂ (λ (e : Event) (f : ℕ). registerActs (a .walk .kind) (a .first .now) e f (a .n) ++ hearActs (a .walk .kind) (a .first .now) e (a .n))
+      (sym (c .before .before .before .event-for .ensures)) (sym (c .before .before .four-of .ensures))
 
 returns : tie.Need-returns
-returns c = rw (c .before .before .before .before .before .if1 .taken, c .before .before .before .before .if2 .taken) (c .before .before .domain-value .ensures)
+returns c =
+    let d = c .before .before .before in
+    let a = start d .args in
+    first-stopped (a .walk .applying) (a .walk .p) (asked d) (heard d) _ (acts d) (a .table .now) _ _ (not-true (d .register .result) (c .if1 .taken)) (d .register .ensures)
+
+hear-value-requires : tie.Need-hear-value-requires
+hear-value-requires c κs =
+    let d = c .before .before .before .before .before in
+    let p = start d .pre in
+    record { walk = record { laid = walked-laid (d .register .ensures); port = p .walk .port; low = p .walk .low; high = p .walk .high }; value = p .value }
 
 returns-2 : tie.Need-returns-2
 returns-2 c =
-    let s = c .before .before .before .before .before .before .before in
-    let a = s .args in
-    rw (c .before .if1 .taken, c .if2 .left)
-    (value-room (a .first .now) (a .events .now) (a .fours .now) (a .n) (rw (c .before .if1 .taken) at (s .pre .value)) (s .pre .event)
-    (λ i. c .before .before .before .before .before .shared-slice-known .given i .fits) (a .walk .p) (a .table .now) (s .pre .walk .laid))
-
--- A value that registers a stream.
-
-stream-kind : (c : tie.Else1) → c .before .before .before .before .before .before .args .walk .kind ≤ 3
-stream-kind c = omega (arith, c .before .before .before .before .before .before .pre .value .high, c .if1 .left)
+    let d = c .before .before .before .before .before .before .before .before in
+    let a = start d .args in
+    second-done (a .walk .applying) (a .walk .p) (asked d) (heard d) _ (acts d) (a .table .now) _ _ (not-false (d .register .result) (c .before .before .before .before .before .if1 .left)) (d .register .ensures)
+    true (c .before .before .before .before .if2 .taken) _ (c .before .before .hear-value .ensures)
 
 returns-3 : tie.Need-returns-3
 returns-3 c =
-    let s = c .before .before .before .before .before .before .before .before .before in
-    absurd (not-past (s .args .walk .kind) (s .args .first .now) (s .args .n) (s .pre .value) (stream-kind (c .before .before .before)) (sym (c .before .before .stream-id .ensures) ∙ c .enum-told .given .1))
-
--- its acts are those asked for
-module _ (c : tie.After-ask) where
-  abbrev start : tie.Start
-  start = c .before .before .before .before .before .before .before .before .before .before .before
-
-  abbrev id : ℕ
-  id = c .before .before .id .given .0 .0
-
-  registers : start .args .walk .kind ≤ 3
-  registers = stream-kind (c .before .before .before .before .before)
-
-  id-is : id ≡ beAt 8 (start .args .first .now) 0 + start .args .n
-  id-is =
-      let a = start .args in
-      value-id-is (a .walk .kind) (a .first .now) (a .n) id (start .pre .value) registers (sym (c .before .before .before .before .stream-id .ensures) ∙ c .before .before .id .given .1)
-
-  acts : (r : Asked) → c .ask .result ≡ r →
-      valueActs (vectorOf (start .args .walk .kind) false 0 (start .args .first .now) (start .args .events .now) (start .args .fours .now)) (start .args .n)
-      ≡ actsAsked (kindAt (start .args .walk .kind)) (start .args .first .now) (start .args .n) r
-  acts r e =
-      let a = start .args in
-      let p = start .pre in
-      value-acts false 0 (a .first .now) (a .events .now) (a .fours .now) (a .n) (p .event) (a .walk .kind) (p .value .low) registers
-      ∙ ap (actsAsked (kindAt (a .walk .kind)) (a .first .now) (a .n)) (sym (c .ask .ensures .0) ∙ e)
-
-join-requires : tie.Need-join-requires
-join-requires c κs =
     let d = c .before .before .before .before in
-    let p = start d .pre in
-    record {
-      walk = p .walk;
-      registers = registers d;
-      value = p .value;
-      id = id-is d;
-      four = rw (c .before .before .a .given .1) at (d .ask .ensures .1);
-    }
-
-withdraw-requires : tie.Need-withdraw-requires
-withdraw-requires c κs =
-    let d = c .before .before .before .before in
-    let p = start d .pre in
-    record { laid = p .walk .laid; port = p .walk .port; low = p .value .low; high = registers d }
-
-returns-4 : tie.Need-returns-4
-unfolding actsAsked
-returns-4 c =
-    let d = c .before .before in
     let s = start d in
-    rw (acts d Nothing (c .enum-told2 .given .1)) (walked-none (s .args .walk .applying) (s .args .walk .p) (s .args .table .now) (s .pre .walk .laid))
-
-returns-5 : tie.Need-returns-5
-unfolding actsAsked
-returns-5 c =
-    let d = c .before .before .before .before .before .before .before in
-    rw (acts d _ (c .before .before .before .before .before .a .given .1)) (c .before .before .join .ensures)
-
-returns-6 : tie.Need-returns-6
-unfolding actsAsked
-returns-6 c =
-    let d = c .before .before .before .before .before .before .before in
-    rw (c .before .before .before .before .if3 .taken, acts d Leave (c .before .before .before .before .before .enum-told3 .given .1), ← id-is d) (c .before .before .withdraw .ensures)
-
-returns-7 : tie.Need-returns-7
-unfolding actsAsked
-returns-7 c =
-    let d = c .before .before .before in
-    let s = start d in
-    rw (c .if3 .left, acts d Leave (c .before .enum-told3 .given .1), ← id-is d)
-    (left-room (s .args .walk .p) (kindAt (s .args .walk .kind)) (s .args .table .now) (s .pre .walk .laid) (id d) (search needs))
+    let a = s .args in
+    let w = d .register .ensures in
+    second-done (a .walk .applying) (a .walk .p) (asked d) (heard d) _ (acts d) (a .table .now) _ _ (not-false (d .register .result) (c .before .if1 .left)) w
+    false (c .if2 .left) _
+    (hear-room (a .first .now) (a .n) (a .walk .p) _ (walked-laid w) (λ i. d .before .before .before .before .before .before .shared-slice-known .given i .fits) (a .walk .kind) (s .pre .value) (d .before .before .before .event-for .result))
 
 pub value-spec : {M : Type 1} → statement M
 value-spec =
     tie.close
-    (tie.spec domain-value-requires (λ c. search needs) returns returns-2 (λ c κs. search needs) (λ c. search needs) (λ c. search needs)
-    returns-3 (λ c κs. search needs) (λ c. search needs) (λ c. search needs) join-requires (λ c. search needs) withdraw-requires
-    returns-4 (λ c. search needs) returns-5 (λ c. search needs) returns-6 returns-7)
+    (tie.spec (λ c κs. search needs) (λ c κs. search needs) register-requires (λ c. search needs) returns hear-value-requires (λ c. search needs) returns-2
+    (λ c. search needs) returns-3)

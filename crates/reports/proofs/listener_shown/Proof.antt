@@ -1,9 +1,10 @@
 -- `reports::listener_shown` meets its contract. Assumes nothing.
 use borrow.Author.Tests.{eq-eqb, ne-eqb}
-use Rattle.model.specs.Table.{toReady, toDeclared}
+use Rattle.model.specs.Table.{toDeclared}
 use Rattle.reports.specs.Shown.{declared}
 use Rattle.reports.proofs.listener_shown.Statement.{statement}
 use Rattle.reports.proofs.listener_shown.Tie as tie
+use Rattle.model.specs.WrittenFrames.{toReady}
 
 returns : tie.Need-returns
 unfolding declared toDeclared

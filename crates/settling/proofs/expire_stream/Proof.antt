@@ -42,7 +42,7 @@ module _ {t₀ : List ℕ} {k : ℕ} (s : Stands t₀ k) (time p : ℕ) where
 
     next : (y : List ℕ) → y ≡ encode (withCell k p (lapses t₀ time) (decode t)) → y ≡ encode (partlyAt (cellsTo (lapses t₀ time)) t₀ k (p + 1))
     next =
-        one-turn-more (cellsTo (lapses t₀ time)) s p t e fits (cells-id (lapses t₀ time) p (streamAt k (decode t₀))) (change (at p (lapses t₀ time)))
+        one-turn-more (cellsTo (lapses t₀ time)) s p t e fits (cells-id (lapses t₀ time) p (streamAt k (decode t₀))) (change (at p (lapses t₀ time)) (λ m. m))
         (cells-next (lapses t₀ time) p (streamAt k (decode t₀)))
 
 loop-holds : tie.Need-loop-holds Inv-loop μ-loop

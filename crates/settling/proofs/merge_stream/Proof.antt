@@ -15,8 +15,8 @@ returns c = left-alone (c .before .before .before .before .before .pre) (sym (c 
 result-in-requires : tie.Need-result-in-requires
 result-in-requires c κs = talker-on (c .before .before .before .before .before .before .before .before .before .pre) _ (sym (c .before .before .before .before .before .before .source .ensures) ∙ c .before .before .before .before .t .given .1)
 
-declare-requires : tie.Need-declare-requires
-declare-requires c κs =
+set-listener-requires : tie.Need-set-listener-requires
+set-listener-requires c κs =
     let on = talker-on (c .before .before .before .before .before .before .before .before .before .before .before .pre) _ (sym (c .before .before .before .before .before .before .before .before .source .ensures) ∙ c .before .before .before .before .before .before .t .given .1) in
     let r = lent-result-at on _ (c .before .result-in .ensures .0) in
     (r .laid, r .size)
@@ -25,10 +25,10 @@ returns-2 : tie.Need-returns-2
 returns-2 c =
     let first = c .before .before .before .before .before .before .before .before .before .before .before .before .before .before in
     left-merged (first .pre) _ (sym (c .before .before .before .before .before .before .before .before .before .before .before .source .ensures) ∙ c .before .before .before .before .before .before .before .before .before .t .given .1) _ (c .before .before .before .before .result-in .ensures .0) _
-    (c .before .before .declare .ensures (mergedShown (streamAt (first .args .k) (decode (first .args .table .now)))) (c .before .before .before .before .before .before .merged .ensures))
+    (c .before .before .set-listener .ensures (mergedShown (streamAt (first .args .k) (decode (first .args .table .now)))) (c .before .before .before .before .before .before .merged .ensures))
 
 pub merge-stream-spec : {M : Type 1} → statement M
 merge-stream-spec =
     tie.close
     (tie.spec (λ c κs. search needs) (λ c. search needs) (λ c. search needs) (λ c. search needs) returns (λ c κs. search needs) result-in-requires
-    (λ c. search needs) (λ c. search needs) (λ c. search needs) (λ c. search needs) declare-requires (λ c. search needs) returns-2)
+    (λ c. search needs) (λ c. search needs) (λ c. search needs) (λ c. search needs) set-listener-requires (λ c. search needs) returns-2)

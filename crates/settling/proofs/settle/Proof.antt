@@ -1,36 +1,24 @@
 -- `settling::settle` meets its contract. Assumes nothing.
 use Prim.Native.Nat.{_^_, _<_}
 use borrow.Author.Needs.{needs}
-use Rattle.settling.proofs.Settled.{removed-laid, early-laid, all-shared-laid, settled-octets}
+use Rattle.settling.proofs.Sent.{decided-laid, decided-clock, settled-octets}
 use Rattle.settling.proofs.settle.Statement.{statement}
 use Rattle.settling.proofs.settle.Tie as tie
 
-early-all-requires : tie.Need-early-all-requires
-early-all-requires c κs =
+send-requires : tie.Need-send-requires
+send-requires c κs =
     let first = c .before .before .before .before .before .before in
     let small : first .args .time < 2 ^ 32 = search needs in
-    removed-laid _ (first .pre) (first .args .time) small _ (c .before .before .before .remove .ensures)
-
-admit-all-requires : tie.Need-admit-all-requires
-admit-all-requires c κs =
-    let first = c .before .before .before .before .before .before .before .before .before .before in
-    let small : first .args .time < 2 ^ 32 = search needs in
-    early-laid _ (first .pre) (first .args .time) small _ (c .before .before .before .before .before .before .before .remove .ensures) _ (c .before .before .before .early-all .ensures)
-
-merge-all-requires : tie.Need-merge-all-requires
-merge-all-requires c κs =
-    let first = c .before .before .before .before .before .before .before .before .before .before .before .before .before .before in
-    let small : first .args .time < 2 ^ 32 = search needs in
-    all-shared-laid _ (first .pre) (first .args .time) small _ (c .before .before .before .before .before .before .before .before .before .before .before .remove .ensures) _ (c .before .before .before .before .before .before .before .early-all .ensures) _ (c .before .before .before .admit-all .ensures)
+    let e = c .before .before .before .decide .ensures in
+    (decided-laid _ (first .pre) (first .args .time) small _ e, decided-clock _ (first .pre) (first .args .time) small _ e)
 
 returns : tie.Need-returns
 returns c =
-    let first = c .before .before .before .before .before .before .before .before .before .before .before .before .before .before .before .before .before in
+    let first = c .before .before .before .before .before .before .before .before .before in
     let small : first .args .time < 2 ^ 32 = search needs in
-    settled-octets _ (first .pre) (first .args .time) small _ (c .before .before .before .before .before .before .before .before .before .before .before .before .before .before .remove .ensures) _ (c .before .before .before .before .before .before .before .before .before .before .early-all .ensures) _
-    (c .before .before .before .before .before .before .admit-all .ensures) _ (c .before .before .merge-all .ensures)
+    settled-octets _ (first .pre) (first .args .time) small _ (c .before .before .before .before .before .before .decide .ensures) _ (c .before .before .send .ensures)
 
 pub settle-spec : {M : Type 1} → statement M
 settle-spec =
     tie.close
-    (tie.spec (λ c κs. search needs) early-all-requires admit-all-requires merge-all-requires (λ c. search needs) returns)
+    (tie.spec (λ c κs. search needs) send-requires (λ c. search needs) returns)

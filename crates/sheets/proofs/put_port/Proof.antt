@@ -8,11 +8,9 @@ use Rattle.sheets.proofs.put_port.Tie as tie
 
 returns : tie.Need-returns
 unfolding portLine shown
-returns c =
-    let classes = put-append (c .before .before .before .before .before .before .before .before .before .before .before .before .put-class .ensures) (put-append (c .before .before .before .before .before .before .before .put-class2 .ensures) (c .before .before .put2 .ensures)) in
-    put-append (c .before .before .before .before .before .before .before .before .before .before .before .before .before .before .before .before .before .before .before .before .before .put .ensures) (put-append (c .before .before .before .before .before .before .before .before .before .before .before .before .before .before .before .before .before .put-number .ensures) classes)
+returns c = rw (← (c .before .before .before .before .before .before .before .before .report .ensures)) (put-append (c .before .before .before .before .before .before .put-port-number .ensures) (c .before .before .put-classes .ensures))
 
 pub put-port-spec : {M : Type 1} → statement M
 put-port-spec =
     tie.close
-    (tie.spec (λ c. search needs) (λ c κs. search needs) (λ c κs. search needs) (λ c. search needs) (λ c κs. search needs) (λ c. search needs) (λ c κs. search needs) (λ c. search needs) (λ c κs. search needs) (λ c. search needs) returns)
+    (tie.spec (λ c κs. search needs) (λ c κs. search needs) (λ c κs. search needs) (λ c. search needs) returns)

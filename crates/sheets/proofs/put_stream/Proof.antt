@@ -9,8 +9,8 @@ use Rattle.sheets.proofs.put_stream.Tie as tie
 returns : tie.Need-returns
 unfolding streamLine shown
 returns c =
-    put-append (c .before .before .before .before .before .before .before .before .before .before .before .before .before .before .before .put-id .ensures)
-    (put-append (c .before .before .before .before .before .before .before .before .before .before .before .put-number .ensures) (put-append (c .before .before .before .before .before .before .before .put-shown .ensures) (c .before .before .put .ensures)))
+    rw (← (c .before .before .before .before .before .before .before .before .before .before .before .before .before .report .ensures))
+    (put-append (c .before .before .before .before .before .before .before .before .before .before .before .put-stream-number .ensures) (put-append (c .before .before .before .before .before .before .before .put-shown .ensures) (c .before .before .put .ensures)))
 
 pub put-stream-spec : {M : Type 1} → statement M
 put-stream-spec =

@@ -10,7 +10,7 @@ use Rattle.octets.specs.Be.{be}
 use Rattle.octets.specs.Parts.{patch}
 use Rattle.model.specs.Layout.{inTable, tableLength}
 use Rattle.model.specs.State.{fresh}
-use Rattle.model.specs.Settling.{held}
+use Rattle.model.specs.Settling.{isHeld}
 use Rattle.model.specs.Table.{decode}
 use borrow.Author.Needs.{needs}
 use Rattle.model.proofs.Fits.{laid-fits}
@@ -39,8 +39,8 @@ loop-holds c =
 
 -- the record that was looked at is held, or not, as its stream is
 looked : (c : tie.After-is-held Inv-loop μ-loop)
-    → c .is-held .result ≡ held (getD (decode (c .before .before .before .before .before .before .before .before .args .table .now) .streams)
-    (c .before .before .before .before .loop .i) (fresh 0) .cells)
+    → c .is-held .result ≡ isHeld (getD (decode (c .before .before .before .before .before .before .before .before .args .table .now) .streams)
+    (c .before .before .before .before .loop .i) (fresh 0))
 looked c =
     let l = c .before .before .before .before .loop in
     let p = c .before .before .before .before .before .before .before .before .pre in

@@ -1,0 +1,5 @@
+pub mod Comparing
+pub mod Machines
+pub mod Offers
+pub mod Sent
+pub mod Timers

@@ -1,0 +1,9 @@
+pub mod One
+pub mod OfStream
+pub mod EachType
+pub mod OfPort
+pub mod OfTable
+pub mod EachSlot
+pub mod Whole
+pub mod LeftBefore
+pub mod AfterWrite
