@@ -18,9 +18,14 @@ const LONGEST: usize = 4096;
 // and no octets that are handed over.
 const SPACE: usize = 256 + 2 * ROOM;
 
-// What follows a record: the next one; the same with so many octets lent; `stop`; or the end of the run.
+// The octets of the most numbers that a record has.
+const NUMBERS: usize = 10;
+
+// What follows a record: the next one; a line that ends at this place of the space, then the next one; the next one with so many octets
+// lent; `stop`; or the end of the run.
 enum Step {
     Next,
+    Line(usize),
     Lend(usize),
     Stop,
     End,
@@ -45,182 +50,162 @@ fn read(field: &mut [u8]) -> bool {
     n == field.len()
 }
 
-// Ends the line and writes it. One that cannot be written ends the run.
-fn print(line: &mut [u8], at: usize) -> Step {
+// Ends the line and writes it; false where it cannot be written.
+fn print(line: &mut [u8], at: usize) -> bool {
     let end = console::put(line, at, b"\n");
-    if io::write_all(STDOUT_FILENO, &line[0..end]) {
-        return Step::Next;
+    io::write_all(STDOUT_FILENO, &line[0..end])
+}
+
+// The line of a call that answers with a number alone, by the high digit of its record.
+fn put_number(space: &mut [u8], digit: u8, number: u8) -> usize {
+    let numbers = [number as u64];
+    match digit {
+        0 => answers::put_numbers(space, 0, b"start", &numbers),
+        1 => answers::put_numbers(space, 0, b"receive", &numbers),
+        2 => answers::put_numbers(space, 0, b"advance", &numbers),
+        _ => answers::put_numbers(space, 0, b"mmrp", &numbers),
     }
-    Step::End
 }
 
-// Prints the line of a call that answers with a number alone.
-fn print_number(space: &mut [u8], call: &[u8], number: u8) -> Step {
-    let at = answers::put_numbers(space, 0, call, &[number as u64]);
-    print(space, at)
-}
-
-// A call that is handed octets in the space: settings, or a PDU of MSRP or of MMRP that arrived on a port.
-fn call_handed(table: &mut [u8], kind: u8, space: &mut [u8], n: usize) -> Step
-    requires { ⌜ n ≤ length (now space) ⌝ }
-{
+// A call that is handed octets: settings, or a PDU of MSRP or of MMRP that arrived on a port.
+fn call_handed(table: &mut [u8], kind: u8, handed: &[u8]) -> u8 {
     let port = (kind % 16) as u32;
-    match kind {
-        0x00 => {
-            let number = bridge::start(table, &space[0..n]);
-            print_number(space, b"start", number)
-        }
-        0x10..=0x1F => {
-            let number = bridge::receive(table, port, &space[0..n]);
-            print_number(space, b"receive", number)
-        }
-        _ => {
-            let number = bridge::receive_mmrp(table, port, &space[0..n]);
-            print_number(space, b"mmrp", number)
-        }
+    match kind / 16 {
+        0 => bridge::start(table, handed),
+        1 => bridge::receive(table, port, handed),
+        _ => bridge::receive_mmrp(table, port, handed),
     }
 }
 
-// Reads a length and so many octets, all of them, and hands over no more than the longest.
-fn hand(table: &mut [u8], kind: u8, space: &mut [u8]) -> Step
-    requires { ⌜ 65535 ≤ length (now space) ⌝ }
+// Reads so many octets, all of them, and hands over no more than the longest.
+fn hand(table: &mut [u8], kind: u8, numbers: &[u8], space: &mut [u8]) -> Step
+    requires { ⌜ (length (now numbers) ≡ 10) × (65535 ≤ length (now space)) ⌝ }
 {
-    let mut field = [0u8; 2];
-    if read(&mut field) {
-        let n = octets::get(&field, 0, 2) as usize;
-        if read(&mut space[0..n]) {
-            return call_handed(table, kind, space, console::least(n, LONGEST));
-        }
+    let n = octets::get(numbers, 0, 2) as usize;
+    if read(&mut space[0..n]) {
+        let number = call_handed(table, kind, &space[0..console::least(n, LONGEST)]);
+        return Step::Line(put_number(space, kind / 16, number));
     }
     Step::Stop
 }
 
-fn advance(table: &mut [u8], space: &mut [u8]) -> Step {
-    let mut field = [0u8; 4];
-    if read(&mut field) {
-        let time = octets::get(&field, 0, 4) as u32;
-        return print_number(space, b"advance", bridge::advance(table, time));
-    }
-    Step::Stop
+fn advance(table: &mut [u8], numbers: &[u8], space: &mut [u8]) -> Step
+    requires { ⌜ length (now numbers) ≡ 10 ⌝ }
+{
+    let time = octets::get(numbers, 0, 4) as u32;
+    let number = bridge::advance(table, time);
+    Step::Line(put_number(space, 2, number))
 }
 
-// A write to a filled buffer of the length asked for, and its line.
-fn put_write(table: &mut [u8], port: u32, place: u32, asked: usize, space: &mut [u8]) -> usize {
+fn write(table: &mut [u8], port: u32, numbers: &[u8], space: &mut [u8]) -> Step
+    requires { ⌜ length (now numbers) ≡ 10 ⌝ }
+{
+    let place = octets::get(numbers, 0, 2) as u32;
+    let asked = octets::get(numbers, 2, 2) as usize;
     let n = console::least(asked, answers::BUFFER);
     let mut filled = answers::filled();
     let buffer = &mut filled[0..n];
     let wrote = bridge::write(table, port, place, buffer);
-    answers::put_written(space, wrote, buffer)
+    Step::Line(answers::put_written(space, wrote, buffer))
 }
 
-fn write(table: &mut [u8], port: u32, space: &mut [u8]) -> Step {
-    let mut field = [0u8; 4];
-    if read(&mut field) {
-        let place = octets::get(&field, 0, 2) as u32;
-        let asked = octets::get(&field, 2, 2) as usize;
-        let at = put_write(table, port, place, asked, space);
-        return print(space, at);
-    }
-    Step::Stop
+fn report(table: &[u8], port: u32, numbers: &[u8], space: &mut [u8]) -> Step
+    requires { ⌜ length (now numbers) ≡ 10 ⌝ }
+{
+    let place = octets::get(numbers, 0, 2) as u32;
+    let answer = bridge::report(table, port, place);
+    Step::Line(answers::put_reported(space, answer))
 }
 
-fn report(table: &[u8], port: u32, space: &mut [u8]) -> Step {
-    let mut field = [0u8; 2];
-    if read(&mut field) {
-        let place = octets::get(&field, 0, 2) as u32;
-        let at = answers::put_reported(space, bridge::report(table, port, place));
-        return print(space, at);
-    }
-    Step::Stop
-}
-
-// A why with a filled buffer of the length asked for, and its line.
-fn put_why(table: &[u8], id: u64, port: u32, asked: usize, space: &mut [u8]) -> usize {
+fn explain(table: &[u8], port: u32, numbers: &[u8], space: &mut [u8]) -> Step
+    requires { ⌜ length (now numbers) ≡ 10 ⌝ }
+{
+    let id = octets::get(numbers, 0, 8);
+    let asked = octets::get(numbers, 8, 2) as usize;
     let n = console::least(asked, answers::BUFFER);
     let mut filled = answers::filled();
     let buffer = &mut filled[0..n];
     let answer = bridge::why(table, id, port, buffer);
-    answers::put_explained(space, answer, buffer)
-}
-
-fn explain(table: &[u8], port: u32, space: &mut [u8]) -> Step {
-    let mut field = [0u8; 10];
-    if read(&mut field) {
-        let id = octets::get(&field, 0, 8);
-        let asked = octets::get(&field, 8, 2) as usize;
-        let at = put_why(table, id, port, asked, space);
-        return print(space, at);
-    }
-    Step::Stop
+    Step::Line(answers::put_explained(space, answer, buffer))
 }
 
 // Stores an octet in the table's room; past it nothing happens.
-fn store(room: &mut [u8]) -> Step {
-    let mut field = [0u8; 3];
-    if read(&mut field) {
-        let at = octets::get(&field, 0, 2) as usize;
-        if at < room.len() {
-            room[at] = field[2];
-        }
-        return Step::Next;
+fn store(room: &mut [u8], numbers: &[u8]) -> Step
+    requires { ⌜ length (now numbers) ≡ 10 ⌝ }
+{
+    let at = octets::get(numbers, 0, 2) as usize;
+    if at < room.len() {
+        room[at] = numbers[2];
     }
-    Step::Stop
+    Step::Next
 }
 
-fn lend() -> Step {
-    let mut field = [0u8; 2];
-    if read(&mut field) {
-        return Step::Lend(octets::get(&field, 0, 2) as usize);
-    }
-    Step::Stop
-}
-
-fn print_sum(table: &[u8], space: &mut [u8]) -> Step {
-    let at = answers::put_sum(space, table);
-    print(space, at)
-}
-
-fn print_octets(table: &[u8], space: &mut [u8]) -> Step {
-    let at = answers::put_octets(space, b"octets", table);
-    print(space, at)
-}
-
-// A record that only looks at the table.
-fn look(table: &[u8], kind: u8, space: &mut [u8]) -> Step {
-    let port = (kind % 16) as u32;
+// A record whose first octet names no port.
+fn call_whole(table: &mut [u8], kind: u8, numbers: &[u8], space: &mut [u8]) -> Step
+    requires { ⌜ (length (now numbers) ≡ 10) × (65535 ≤ length (now space)) ⌝ }
+{
     match kind {
-        0x40..=0x4F => report(table, port, space),
-        0x60 => print_sum(table, space),
-        0x61 => print_octets(table, space),
-        0x80..=0x8F => explain(table, port, space),
+        0x00 => hand(table, kind, numbers, space),
+        0x20 => advance(table, numbers, space),
+        0x60 => Step::Line(answers::put_sum(space, table)),
+        0x61 => Step::Line(answers::put_octets(space, b"octets", table)),
         _ => Step::Stop,
     }
 }
 
 // A record of the octets that calls are lent. The low digit of its first octet is the port.
-fn call(table: &mut [u8], kind: u8, space: &mut [u8]) -> Step
-    requires { ⌜ 65535 ≤ length (now space) ⌝ }
+fn call(table: &mut [u8], kind: u8, numbers: &[u8], space: &mut [u8]) -> Step
+    requires { ⌜ (length (now numbers) ≡ 10) × (65535 ≤ length (now space)) ⌝ }
 {
-    match kind {
-        0x00 | 0x10..=0x1F | 0x70..=0x7F => hand(table, kind, space),
-        0x20 => advance(table, space),
-        0x30..=0x3F => write(table, (kind % 16) as u32, space),
-        _ => look(table, kind, space),
+    let port = (kind % 16) as u32;
+    match kind / 16 {
+        1 | 7 => hand(table, kind, numbers, space),
+        3 => write(table, port, numbers, space),
+        4 => report(table, port, numbers, space),
+        8 => explain(table, port, numbers, space),
+        _ => call_whole(table, kind, numbers, space),
     }
+}
+
+// The octets of a record's numbers, by its first octet. Where that is none of a record the run ends, whatever was read.
+fn numbers_length(kind: u8) -> usize
+    ensures { λ r. ⌜ r ≤ 10 ⌝ }
+{
+    if kind == 0x51 {
+        return 2;
+    }
+    match kind / 16 {
+        0 | 1 | 4 | 7 => 2,
+        2 | 3 => 4,
+        5 => 3,
+        8 => NUMBERS,
+        _ => 0,
+    }
+}
+
+// Reads the numbers of a record, and does what it says.
+fn take_numbers(room: &mut [u8], lent: usize, kind: u8, numbers: &mut [u8], space: &mut [u8]) -> Step
+    requires { ⌜ (lent ≤ length (now room)) × (length (now numbers) ≡ 10) × (65535 ≤ length (now space)) ⌝ }
+{
+    let n = numbers_length(kind);
+    if read(&mut numbers[0..n]) {
+        return match kind {
+            0x50 => store(room, numbers),
+            0x51 => Step::Lend(octets::get(numbers, 0, 2) as usize),
+            _ => call(&mut room[0..lent], kind, numbers, space),
+        };
+    }
+    Step::Stop
 }
 
 // Reads a record and does what it says.
 fn take_record(room: &mut [u8], lent: usize, space: &mut [u8]) -> Step
     requires { ⌜ (lent ≤ length (now room)) × (65535 ≤ length (now space)) ⌝ }
 {
-    let mut field = [0u8; 1];
-    if read(&mut field) {
-        let kind = field[0];
-        return match kind {
-            0x50 => store(room),
-            0x51 => lend(),
-            _ => call(&mut room[0..lent], kind, space),
-        };
+    let mut first = [0u8; 1];
+    if read(&mut first) {
+        let mut numbers = [0u8; NUMBERS];
+        return take_numbers(room, lent, first[0], &mut numbers, space);
     }
     Step::End
 }
@@ -237,6 +222,11 @@ fn run(room: &mut [u8], space: &mut [u8])
         let next = take_record(room, lent, space);
         match next {
             Step::Next => {}
+            Step::Line(at) => {
+                if !print(space, at) {
+                    return;
+                }
+            }
             Step::Lend(n) => {
                 lent = console::least(n, room.len());
             }
