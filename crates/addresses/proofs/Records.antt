@@ -8,7 +8,7 @@ use Rattle.octets.specs.Be.{be, be_at}
 use Rattle.octets.specs.Parts.{part, patch, zeros}
 use Rattle.octets.specs.Fields.{Fit, packed, flat, width}
 use Rattle.octets.proofs.Parts.{lent-part}
-use Rattle.octets.proofs.Frame.{be_at-part, get_d_part}
+use Rattle.octets.proofs.Frame.{be_at-part, get_or_part}
 use Rattle.octets.proofs.Fields.{length-packed-any, get-field, get-octet}
 use Rattle.octets.proofs.Patches.{lent-patch, patch-between}
 use Rattle.model.specs.Layout.{address_in, address_size, address_widths, most_addresses, in_own, boundary_widths, address_count_widths, address_index, in_address}
@@ -167,6 +167,6 @@ module _ (o : Own) (f : FitOwn o) (s : List ℕ) (e : s ≡ own_octets o) (k : �
   registered-read =
       let a = there o f k h in
       ap (λ (i : ℕ). get_or s i 0) (omega arith)
-      ∙ sym (get_d_part (address_in k) address_size 0 s (omega arith))
+      ∙ sym (get_or_part (address_in k) address_size 0 s (omega arith))
       ∙ ap (λ (t : List ℕ). get_or t 0 0) there-is
       ∙ get-octet address_widths (address_numbers a) (address-fits o f k h) address_index.registered refl

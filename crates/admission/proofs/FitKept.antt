@@ -14,7 +14,7 @@ use Rattle.model.specs.Registrations.{holding}
 use Rattle.model.specs.Bandwidth.{Claim, sort, admitted, total}
 use Rattle.model.specs.Table.{port_numbers, result_numbers, column_number, column_bridge, column_code, entry_number}
 use Rattle.model.specs.Laid.{FitResult, FitStream, FitSettings, FitTotals, FitBridge}
-use Rattle.model.proofs.Lists.{all_get_d, all_set}
+use Rattle.model.proofs.Lists.{all_get_or, all_set}
 use Rattle.model.proofs.SettingsOctets.{limit-b-fits}
 use Rattle.model.proofs.Parts.{◌also◌}
 use Rattle.model.proofs.Refusals.{cond_either}
@@ -104,4 +104,4 @@ module _ (b : Bridge) (w : FitBridge b) (p : ℕ) (h : p < 8) (c : Class) where
       totalled-fits (holding b (map (admit b.settings p c l cs) b.streams)) admitted-fits (set b.totals p t)
       (length-set b.totals p t ∙ w.eight-totals)
       (all_set FitTotals b.totals p t w.totals
-      (limit-fits b w p c (total l cs) (unfold total in within l (sort cs)) (totals_at p b) (all_get_d FitTotals b.totals w.totals no_totals no-totals-fit p)))
+      (limit-fits b w p c (total l cs) (unfold total in within l (sort cs)) (totals_at p b) (all_get_or FitTotals b.totals w.totals no_totals no-totals-fit p)))

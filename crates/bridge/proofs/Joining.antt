@@ -16,7 +16,7 @@ use Rattle.model.specs.Registrations.{at, sending}
 use Rattle.model.specs.Sending.{applicant_octets, domain_applicant, standing_number, leave_all_octets, sender_octets, to_sender}
 use Rattle.model.specs.Table.{encode, decode}
 use Rattle.model.specs.Laid.{FitSender, LaidSender, Laid}
-use Rattle.model.proofs.Lists.{all_get_d, all_replicate, length_at}
+use Rattle.model.proofs.Lists.{all_get_or, all_replicate, length_at}
 use Rattle.model.proofs.ApplicantEntries.{tables}
 use Rattle.model.proofs.ColumnRule.{tabulate-same}
 use Rattle.model.proofs.SenderOctets.{sender-coded}
@@ -152,7 +152,7 @@ module _ (t₀ : List ℕ) (l : Laid t₀) where
 
   pub joined-fits : (q : ℕ) → FitSender (joined_here q)
   unfolding joined_at joined_own sender_at
-  joined-fits q = if-fits _ _ _ (if-fits _ _ _ (all_get_d FitSender (decode t₀).senders (laid-fits t₀ l).senders no_sender sender-coded.good q))
+  joined-fits q = if-fits _ _ _ (if-fits _ _ _ (all_get_or FitSender (decode t₀).senders (laid-fits t₀ l).senders no_sender sender-coded.good q))
 
   pub joined-next : (n : ℕ) → n < 8 → (t : List ℕ) → t ≡ encode (senders_to joined_here t₀ n) → (y : List ℕ)
       → y ≡ encode (with_sender n (joined_own (decode t).settings n) (decode t)) → y ≡ encode (senders_to joined_here t₀ (n + 1))
@@ -228,5 +228,5 @@ unfolding joined_at sender_at
 all-started st =
     tabulate-same _ _ 8 0
     (λ p low high.
-    ap (joined_own st p) (all_get_d (λ x. x ≡ no_sender) (replicate 8 no_sender) (all_replicate (λ x. x ≡ no_sender) 8 no_sender refl) no_sender refl p)
+    ap (joined_own st p) (all_get_or (λ x. x ≡ no_sender) (replicate 8 no_sender) (all_replicate (λ x. x ≡ no_sender) 8 no_sender refl) no_sender refl p)
     ∙ joined-started st p)

@@ -7,7 +7,7 @@ use Rattle.model.specs.State.{Result, Stream, Bridge, Column, none, advertise, f
 use Rattle.model.specs.Settling.{Scene, scene_of, source_of, age_of, latency_out, entry_of, age_kept, registered}
 use Rattle.model.specs.Table.{result_numbers, column_number, column_bridge, column_code, entry_number, declared_number}
 use Rattle.model.specs.Laid.{FitResult, FitStream, FitBridge}
-use Rattle.model.proofs.Lists.{all_get_d, all-tabulate}
+use Rattle.model.proofs.Lists.{all_get_or, all-tabulate}
 use Rattle.model.proofs.Parts.{◌also◌}
 use Rattle.model.proofs.Fits.{latest, longest, id-fits}
 use Rattle.model.proofs.AdvanceKeepsForm.{length-tabulate, type-valid, ValidFailure, steps-valid, capped_fits, latency-fits}
@@ -61,7 +61,7 @@ module _ (sc : Scene) (named : sc.settings.bridge_id < 2 ^ 64) (now : ℕ) (soon
   early-result-fits p =
       let c = early_column sc p x in
       let e = entry_of c (registered (cell_at x p)) in
-      let r = all_get_d FitResult x.results w.results unsettled unsettled-fits p in
+      let r = all_get_or FitResult x.results w.results unsettled unsettled-fits p in
       let n = column-numbers c (early-column-fits p) in
       n.0 also latency-fits c _ (capped_fits _) also n.1 also n.2 also entry-few e
       also age-fits e _ (began-fits now (result_at x p) soon (age-of-result (result_at x p) r)) also omega arith also tt

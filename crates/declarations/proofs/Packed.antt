@@ -25,7 +25,7 @@ use Rattle.model.specs.Writing.{leaves_all, port_way, say_on}
 use Rattle.model.specs.WrittenFrames.{packed_vector, cut_as, listener_parts, vectors_of, vector_octets}
 use Rattle.model.specs.Table.{decode}
 use Rattle.model.specs.Laid.{Ascending, Laid}
-use Rattle.model.proofs.Lists.{all_append, all_take, all_map, get_d_map}
+use Rattle.model.proofs.Lists.{all_append, all_take, all_map, get_or_map}
 use Rattle.model.proofs.Fits.{laid-fits}
 use Rattle.model.proofs.LeastCutting.{best-cuts}
 use Rattle.model.proofs.WritingPasses.{OfAttribute, map-take, map-drop}
@@ -113,7 +113,7 @@ ids-below t laid k h (i ∷ l) a = (less, ids-below t laid k h l a.1)
     s = (decode t).streams
 
     id-at : (j : ℕ) → j < length s → get_or (ids s) j 0 ≡ (get_or s j (fresh 0)).id
-    id-at j g = unfold ids in (get_d_map (λ (x : Stream). x.id) s j (fresh 0) 0 g)
+    id-at j g = unfold ids in (get_or_map (λ (x : Stream). x.id) s j (fresh 0) 0 g)
 
     long : length (ids s) ≡ length s
     long = unfold ids in (length-map s (λ (x : Stream). x.id))

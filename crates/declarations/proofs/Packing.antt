@@ -15,7 +15,7 @@ use Rattle.model.specs.Frames.{three_length, four_length}
 use Rattle.model.specs.Cutting.{Part, values, octets_for}
 use Rattle.model.specs.Declarations.{Said, declared_id, declared_ids}
 use Rattle.model.specs.WrittenFrames.{listener_number, said, event_said, three_octet, four_octet, packed_vector, vector_octets}
-use Rattle.model.proofs.Lists.{all_take, get_d_tabulate, length-tabulate}
+use Rattle.model.proofs.Lists.{all_take, get_or_tabulate, length-tabulate}
 use Rattle.model.specs.Table.{decode}
 use Rattle.model.proofs.Ascents.{ascending-below}
 use Rattle.model.proofs.WritingPasses.{ids-take as ids-cut}
@@ -67,7 +67,7 @@ module _ (n : ℕ) (e f s u : ℕ → ℕ) (o x v : ℕ) (a : Adds e f o x) (b :
   three-there =
       let w = three-unit (o % 3) in
       let at : get_or (threes e ++ fours s) (o / 3) 0 ≡ three_octet e (0 + o / 3) =
-      get_or-append (threes e) (fours s) 0 (o / 3) (rw (three-long e) three-inside) ∙ get_d_tabulate (three_octet e) (three_length n) 0 (o / 3) 0 three-inside in
+      get_or-append (threes e) (fours s) 0 (o / 3) (rw (three-long e) three-inside) ∙ get_or_tabulate (three_octet e) (three_length n) 0 (o / 3) 0 three-inside in
       let z : 0 + o / 3 ≡ o / 3 = omega arith in
       rw (at, z) (sym (three-adds e f o x a (three_unit (o % 3)) w.0 w.1 w.2))
 
@@ -89,7 +89,7 @@ module _ (n : ℕ) (e f s u : ℕ → ℕ) (o x v : ℕ) (a : Adds e f o x) (b :
         let at : get_or (threes f ++ fours s) (three_length n + o / 4) 0 ≡ get_or (fours s) (o / 4) 0 =
         ap (λ (i : ℕ). get_or (threes f ++ fours s) (i + o / 4) 0) (sym (three-long f)) ∙ get_or-append-add (threes f) (fours s) (o / 4) 0 in
         let z : 0 + o / 4 ≡ o / 4 = omega arith in
-        rw (three-set, at, get_d_tabulate (four_octet s) (four_length true n) 0 (o / 4) 0 four-inside, z)
+        rw (three-set, at, get_or_tabulate (four_octet s) (four_length true n) 0 (o / 4) 0 four-inside, z)
         (sym (four-adds s u o v b (four_unit (o % 4)) w.0 w.1 w.2 w.3))
 
     pub four-small : four_octet u (o / 4) < 256

@@ -10,7 +10,7 @@ use lib.Dec.{eqb}
 use borrow.Author.Tests.{eq-eqb, ne_eqb}
 use Rattle.octets.specs.Fields.{Fit, width}
 use Rattle.octets.proofs.Fields.{get-octet}
-use Rattle.octets.proofs.Frame.{get_d_part}
+use Rattle.octets.proofs.Frame.{get_or_part}
 use Rattle.model.specs.Layout.{cell_index, cell_widths, in_cell, in_slot, slot_index, slot_place, slot_size, slot_widths}
 use Rattle.model.specs.Lists.{All, keep}
 use Rattle.model.specs.Applicant.{ApplicantState, ApplicantEvent, tx, tx_la, applicant_row, applicant_column, applicant_entry, by, is_written, message_number, opportunity, Standing, named, sent, speaks, spoken, state_of, octet_of, asks, event_at}
@@ -25,7 +25,7 @@ use Rattle.model.specs.Table.{talker_type_number, leaving_number, since_number, 
 use Rattle.model.specs.Declarations.{Declaration, talker_kind, Said, say, listed_as, advertise_of, failed_of, listener_declaration, declarations_of, domain_of, registered_of, is_registered}
 use Rattle.model.specs.Writing.{leaves_all, port_way, say_on}
 use Rattle.model.specs.Laid.{Ascending}
-use Rattle.model.proofs.Lists.{all-at, get_d_map}
+use Rattle.model.proofs.Lists.{all-at, get_or_map}
 use Rattle.model.proofs.Cells.{ready-number}
 use Rattle.model.proofs.Fits.{laid-cell-is, laid-cell-fits}
 use Rattle.model.proofs.Owns.{fit-back}
@@ -114,7 +114,7 @@ registered-at j p (x ∷ s) a (suc k) h =
     let n : ℕ = (get_or s k (fresh 0)).id in
     let there : k < length s = omega arith in
     let above : x.id < get_or (ids s) k 0 = all-at (λ i. x.id < i) (ids s) a.0 k 0 (unfold ids in (omega (arith, there, length_ids s))) in
-    let e : get_or (ids s) k 0 ≡ n = unfold ids in (get_d_map (λ (y : Stream). y.id) s k (fresh 0) 0 there) in
+    let e : get_or (ids s) k 0 ≡ n = unfold ids in (get_or_map (λ (y : Stream). y.id) s k (fresh 0) 0 there) in
     rw (ne_eqb x.id n (λ q. omega (arith, above, e, q))) (registered-at j p s a.1 k there)
   where
     length_ids : (l : List Stream) → length (map (λ (y : Stream). y.id) l) ≡ length l
@@ -228,4 +228,4 @@ pub slot-octets : {t : List ℕ} {p k : ℕ} → SlotIn t p k → (a : ℕ) → 
     → domain_stays (get_or (own_at (decode t).owns p).domains k no_domain) ≡ cond (eqb (get_or t (a + slot_index.registered) 0) 0) false (eqb (get_or t (a + in_slot.leaves) 0) 0)
 slot-octets {t = t} {p = p} {k = k} w a e =
     domain-octets (slot_at w)
-    ∙ rw (e, get_d_part (slot_place p k) slot_size slot_index.registered t (omega arith), get_d_part (slot_place p k) slot_size in_slot.leaves t (omega arith))
+    ∙ rw (e, get_or_part (slot_place p k) slot_size slot_index.registered t (omega arith), get_or_part (slot_place p k) slot_size in_slot.leaves t (omega arith))

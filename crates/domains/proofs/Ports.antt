@@ -13,7 +13,7 @@ use Rattle.octets.specs.Be.{be}
 use Rattle.octets.specs.Parts.{part, patch}
 use Rattle.octets.specs.Fields.{flat, packed, width}
 use Rattle.octets.proofs.Parts.{lent-part}
-use Rattle.octets.proofs.Frame.{get_d_part}
+use Rattle.octets.proofs.Frame.{get_or_part}
 use Rattle.octets.proofs.Patches.{lent-patch, patch-front}
 use Rattle.octets.proofs.Fields.{length-packed-any, patch-behind, put-field}
 use Rattle.model.specs.Layout.{in_own, boundary_widths, slot_index, slot_in, slot_size, slots, slots_size}
@@ -120,7 +120,7 @@ module _ (s : List ℕ) (from : ℕ) (k : ClassIn s from) where
         let j = from + q in
         let low : j < slots = omega (arith, k.within) in
         ap (λ (i : ℕ). get_or s i 0) (sym (add-zero (slot_in j)))
-        ∙ sym (get_d_part (slot_in j) slot_size 0 s (omega arith))
+        ∙ sym (get_or_part (slot_in j) slot_size 0 s (omega arith))
         ∙ ap (λ (t : List ℕ). get_or (part (slot_in j) slot_size t) 0 0) (laid-own-is s k.laid)
         ∙ ap (λ (t : List ℕ). get_or t 0 0) (slot-part (to_own s) fit j low)
         ∙ held-octet here (slot-fits (to_own s) fit j low)

@@ -16,7 +16,7 @@ use Rattle.octets.specs.Fields.{fields}
 use Rattle.octets.proofs.Be.{be_at-ext}
 use Rattle.octets.proofs.Fields.{be_at-one}
 use Rattle.octets.proofs.Parts.{lent-part, length_part}
-use Rattle.octets.proofs.Frame.{part-part, get_d_part}
+use Rattle.octets.proofs.Frame.{part-part, get_or_part}
 use Rattle.model.specs.Layout.{in_head, in_sender, in_table, port_place, port_size, priority_a_unit, priority_b_unit, sender_place, sender_size, senders_size, settings_size, slots, table_length}
 use Rattle.model.specs.Lists.{parts, is_one}
 use Rattle.model.specs.LeaveAll.{leave_all_time}
@@ -112,7 +112,7 @@ module _ (t : List ℕ) where
         get_or-take port_size (drop (p * port_size) (drop in_table.ports (part 0 settings_size t))) 0 0 (omega arith)
         ∙ get_or-drop (p * port_size) (drop in_table.ports (part 0 settings_size t)) 0 0
         ∙ get_or-drop in_table.ports (part 0 settings_size t) (p * port_size + 0) 0
-        ∙ get_d_part 0 settings_size (in_table.ports + (p * port_size + 0)) t (omega arith)
+        ∙ get_or_part 0 settings_size (in_table.ports + (p * port_size + 0)) t (omega arith)
         ∙ ap (λ (i : ℕ). get_or t i 0) (omega arith)
 
     supports-b : (to_port port).supports_b ≡ eqb (get_or t (port_place p) 0 / 64 % 2) 1

@@ -163,7 +163,7 @@ module _ (a : ℕ × Frame) (f : List (ℕ × Frame)) (b : Bridge) (v : Valid b)
           → together (held_on next q) (asked_addresses b.settings q (on q f)) ≡ together (held_on b q) (asked_addresses b.settings q (on q (a ∷ f)))
       go (yes d) t w =
           let e' : wrong_port b.settings a.0 ≡ false = rw d e in
-          rw (on_same q a f d, ← d)
+          rw (← d, on_same a.0 a f refl)
           (ap (λ (l : List ℕ). together l (asked_addresses b.settings a.0 (on a.0 f))) (frame-held b v a.0 e' a.1 (first-room e'))
           ∙ sym (together-append (held_on b a.0) (addresses_by b.settings a.0 a.1) (asked_addresses b.settings a.0 (on a.0 f))))
       go (no d) true w =

@@ -440,6 +440,7 @@ mem-insert c d (e ∷ l) m = go (ltb (key e) (key d)) m (mem-insert c d l)
 
 pub mem-sort : (c : Claim) (l : List Claim) → Memᴰ c l → Memᴰ c (sort l)
 unfolding sort
+mem-sort c [] m = elim m [ ]
 mem-sort c (d ∷ l) (Memᴰ.head e) = mem-insert c d (sort l) (inl e)
 mem-sort c (d ∷ l) (Memᴰ.tail m) = mem-insert c d (sort l) (inr (mem-sort c l m))
 
@@ -449,6 +450,7 @@ all-mem P (Memᴰ.tail m) a = all-mem P m a.1
 
 falling : (c : Claim) (m : List Claim) → Falls m → Memᴰ c m → above (suc (key c)) m ≡ c ∷ above (key c) m
 unfolding Falls
+falling c [] f h = elim h [ ]
 falling c (d ∷ m) f (Memᴰ.head e) =
     let low : All (λ x. key x < key c) m = rw (← e) at f.0 in
     let low' : All (λ x. key x < suc (key c)) m = all_map _ _ (λ x (h : key x < key c). omega arith) m low in

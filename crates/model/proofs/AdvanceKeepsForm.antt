@@ -17,7 +17,7 @@ use Rattle.model.specs.Applicant.{Standing, very_anxious_passive, very_anxious_n
 use Rattle.model.specs.Machines.{Applicant, no_applicant, applicant, Decided, undeclared, declared, other_content, with, applicant_of, after, born, decided}
 use Rattle.model.specs.LeaveAll.{LeaveAllState, active, passive, LeaveAll, leavealltimer, starting, leave_all_row, leave_all_column, leave_all_entry, leave_all_next, leave_all_time, has_run, timed_out}
 use Rattle.model.specs.Table.{totals_within, talkers, has_column, declares, declarers, for_listener, stored_rules, stored_formed, at_most, any_held, is_standing, stands, is_failed, alike, sent_rules, sent_formed}
-use Rattle.model.proofs.Lists.{all_append, all_get_d, all-tabulate, at_place, and-false, implies_true, true-all}
+use Rattle.model.proofs.Lists.{all_append, all_get_or, all-tabulate, at_place, and-false, implies_true, true-all}
 use Rattle.model.proofs.Parts.{◌also◌}
 use Rattle.model.proofs.Stored.{talker-counts, other-counts, one-declares}
 use Rattle.model.proofs.Admission.{within}
@@ -46,11 +46,11 @@ module _ {A : Type 0} where
 
 module _ {A : Type 0} (P : A → Type 0) where
   -- at a place from n on, where it holds of all elements from n on
-  pub get_d_past : (n : ℕ) (l : List A) (i : ℕ) (d : A) → n ≤ i → P d → All P (drop n l) → P (get_or l i d)
-  get_d_past zero l i d n≤i h a = all_get_d P l a d h i
-  get_d_past (suc n) [] i d n≤i h a = h
-  get_d_past (suc n) (x ∷ l) zero d n≤i h a = absurd (omega arith)
-  get_d_past (suc n) (x ∷ l) (suc i) d n≤i h a = get_d_past n l i d (omega arith) h a
+  pub get_or_past : (n : ℕ) (l : List A) (i : ℕ) (d : A) → n ≤ i → P d → All P (drop n l) → P (get_or l i d)
+  get_or_past zero l i d n≤i h a = all_get_or P l a d h i
+  get_or_past (suc n) [] i d n≤i h a = h
+  get_or_past (suc n) (x ∷ l) zero d n≤i h a = absurd (omega arith)
+  get_or_past (suc n) (x ∷ l) (suc i) d n≤i h a = get_or_past n l i d (omega arith) h a
 
   pub all-drop-tabulate : (n k p : ℕ) (f : ℕ → A) → ((q : ℕ) → p + n ≤ q → P (f q)) → All P (drop n (tabulate k p f))
   unfolding tabulate
@@ -151,7 +151,7 @@ module _ (st : Settings) (clock now : ℕ) (later : clock ≤ now) (o : List Own
   own-valid : (p : ℕ) → ValidOwn now st.leave_time (decide_own st now o p)
   unfolding decide_own
   own-valid p =
-      let w = all_get_d (ValidOwn clock st.leave_time) o v no_own (no-own-valid clock st.leave_time) p in
+      let w = all_get_or (ValidOwn clock st.leave_time) o v no_own (no-own-valid clock st.leave_time) p in
       record {
         slotted = length-map (own_at o p).domains (expire_domain st now) ∙ w.slotted;
         domains =
@@ -168,7 +168,7 @@ module _ (st : Settings) (clock now : ℕ) (later : clock ≤ now) (o : List Own
   none-there : All (λ h. h ≡ no_own) (drop (length st.ports) o) → (p : ℕ) → length st.ports ≤ p → decide_own st now o p ≡ no_own
   unfolding decide_own no_own expire_domain flag_of is_port remain_addresses
   none-there n p h =
-      let e : own_at o p ≡ no_own = get_d_past (λ h. h ≡ no_own) (length st.ports) o p no_own h refl n in
+      let e : own_at o p ≡ no_own = get_or_past (λ h. h ≡ no_own) (length st.ports) o p no_own h refl n in
       rw (e, le-ltb p (length st.ports) h)
 
 -- a stream between removal and decision: its registrations stand at the new time, its results still at the old clock
@@ -589,13 +589,13 @@ sends-follow f r s =
     also rw (stands-decided same_ready (listened_by r.declares) s.listening) (listens r.declares) also tt)
   where
     advertises : (c : Column) → alike (is_declared (advertised_by f r c)) (is_advertise c) ≡ true
-    advertises c = unfold alike is_declared advertised_by is_advertise in elim c [ none ↦ refl | advertise ↦ refl | failed b n ↦ refl ]
+    advertises c = unfold alike is_declared advertised_by is_advertise in elim c as (λ k. alike (is_declared (advertised_by f r k)) (is_advertise k) ≡ true) [ none ↦ refl | advertise ↦ refl | failed b n ↦ refl ]
 
     fails : (c : Column) → alike (is_declared (failed_by f r c)) (is_failed c) ≡ true
-    fails c = unfold alike is_declared failed_by is_failed in elim c [ none ↦ refl | advertise ↦ refl | failed b n ↦ refl ]
+    fails c = unfold alike is_declared failed_by is_failed in elim c as (λ k. alike (is_declared (failed_by f r k)) (is_failed k) ≡ true) [ none ↦ refl | advertise ↦ refl | failed b n ↦ refl ]
 
     listens : (d : Declared) → alike (is_declared (listened_by d)) (declares d) ≡ true
-    listens d = unfold alike is_declared listened_by declares in elim d [ nothing ↦ refl | tells r ↦ refl ]
+    listens d = unfold alike is_declared listened_by declares in elim d as (λ k. alike (is_declared (listened_by k)) (declares k) ≡ true) [ nothing ↦ refl | tells r ↦ refl ]
 
 -- What a port sends by itself: its LeaveAll timer was started less than LeaveAllTime ago.
 module _ (clock now : ℕ) (later : clock ≤ now) where
@@ -623,7 +623,7 @@ module _ (clock now : ℕ) (later : clock ≤ now) where
     no-sender : length st.ports ≤ p → All (λ x. x ≡ no_sender) (drop (length st.ports) l) → time_sender st now l p ≡ no_sender
     unfolding time_sender is_port sender_at
     no-sender h n =
-        rw (le-ltb p (length st.ports) h, get_d_past (λ x. x ≡ no_sender) (length st.ports) l p no_sender h refl n)
+        rw (le-ltb p (length st.ports) h, get_or_past (λ x. x ≡ no_sender) (length st.ports) l p no_sender h refl n)
 
 -- The decision.
 
@@ -641,13 +641,13 @@ module _ (sc : Scene) (named : sc.settings.bridge_id < 2 ^ 64) (few : length sc.
     age =
         age-fits now (entry_of (column_of sc now s p x) (registered (cell_at x p))) _
         (age-valid clock now (result_at x p) later
-        (all_get_d (ValidResult clock) x.results r.results unsettled (unsettled-valid clock) p));
+        (all_get_or (ValidResult clock) x.results r.results unsettled (unsettled-valid clock) p));
   }
 
   -- a place that is no port has no registration, so no result
   no_cell : (p : ℕ) → length sc.settings.ports ≤ p → cell_at x p ≡ empty
   unfolding cell_at
-  no_cell p h = get_d_past (λ c. c ≡ empty) (length sc.settings.ports) x.cells p empty h refl r.no-other-cells
+  no_cell p h = get_or_past (λ c. c ≡ empty) (length sc.settings.ports) x.cells p empty h refl r.no-other-cells
 
   no-talker : (p : ℕ) → length sc.settings.ports ≤ p → is_source (source_of x) p ≡ false
   unfolding source_of cell_at
@@ -775,8 +775,8 @@ module _ (sc : Scene) (named : sc.settings.bridge_id < 2 ^ 64) (few : length sc.
   sent-valid : (p : ℕ) → ValidSends (sent p)
   unfolding sent
   sent-valid p =
-      sends-valid now values values-fit (get_or results p unsettled) (all_get_d (ValidResult now) results results-valid unsettled (unsettled-valid now) p)
-      (get_or x.sends p no_sends) (all_get_d ValidSends x.sends r.sends no_sends no-sends-valid p)
+      sends-valid now values values-fit (get_or results p unsettled) (all_get_or (ValidResult now) results results-valid unsettled (unsettled-valid now) p)
+      (get_or x.sends p no_sends) (all_get_or ValidSends x.sends r.sends no_sends no-sends-valid p)
 
   sent-follows : (p : ℕ) → sent_formed (get_or results p unsettled) (sent p) ≡ true
   unfolding sent
@@ -790,8 +790,8 @@ module _ (sc : Scene) (named : sc.settings.bridge_id < 2 ^ 64) (few : length sc.
   none-sent p h =
       let ports = length sc.settings.ports in
       rw (
-        get_d_past (λ y. y ≡ unsettled) ports results p unsettled h refl no-other-results,
-        get_d_past (λ y. y ≡ no_sends) ports x.sends p no_sends h refl r.no-other-sends,
+        get_or_past (λ y. y ≡ unsettled) ports results p unsettled h refl no-other-results,
+        get_or_past (λ y. y ≡ no_sends) ports x.sends p no_sends h refl r.no-other-sends,
       )
       (nothing-sent values)
 

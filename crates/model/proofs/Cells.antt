@@ -16,7 +16,7 @@ use Rattle.octets.proofs.Fields.{length-packed-any, fields-of-packed, fields_fit
 use Rattle.model.specs.Layout.{cell_fields, cell_index, cell_size, cell_widths, fixed_widths, in_cell}
 use Rattle.model.specs.Lists.{All, all_true, implies, tabulate, parts, Octets, bit, is_one, all_zero}
 use Rattle.model.specs.State.{Leaving, stays, since, Fixed, TalkerType, talker_advertise, talker_failed, Registration, Talker, no_talker, talker, Ready, asking_failed, ready, ready_failed, Listener, no_listener, listener, Cell, empty, ready_number}
-use Rattle.model.specs.Frames.{priority_of, rank_of, also}
+use Rattle.model.specs.Frames.{priority_of, rank_of}
 use Rattle.model.specs.WrittenFrames.{priority_octet, fixed_numbers, fixed_from, to_ready}
 use Rattle.model.specs.Settling.{is_talking, is_hearing, held}
 use Rattle.model.specs.Table.{leaving_number, since_number, to_leaving, talker_type_number, bridge_number, code_number, to_talker_type, talker_numbers, listener_numbers, cell_numbers, registration_from, talker_from, listener_from, cell_from, cell_octets, to_cell, between, leaving_rule, cell_rules, cell_formed, holds}

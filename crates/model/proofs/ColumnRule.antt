@@ -159,7 +159,7 @@ plain st s as_advertise n = absurd (false≢true n)
 plain st s as_registered n = go (talker_type_of s)
   where
     go : (h : TalkerType) → is_advertise (failed_column h) ≡ false
-    go h = unfold is_advertise failed_column in elim h [ talker_advertise ↦ refl | talker_failed b c ↦ refl ]
+    go h = unfold is_advertise failed_column in elim h as (λ k. is_advertise (failed_column k) ≡ false) [ talker_advertise ↦ refl | talker_failed b c ↦ refl ]
 plain st s (own_failure code) n = refl
 
 before-bandwidth : (sc : Scene) (p : ℕ) (x : Stream) → every_step (λ n. not_admitted (about n).outcome) (steps sc p x) ≡ true
@@ -170,7 +170,8 @@ before-bandwidth sc p x = go (source_of x)
         → every_step (λ n. not_admitted (about n).outcome)
         (record { name = step_a; test = not (is_port sc.settings p) } ∷ steps_from sc p (cell_at x p) x.id o)
         ≡ true
-    go o = unfold every_step not_admitted steps_from in elim o [ nowhere ↦ refl | from q ↦ refl ]
+    go nowhere = unfold every_step not_admitted steps_from in refl
+    go (from q) = unfold every_step not_admitted steps_from in refl
 
 first-advertise : (says : Outcome → Column) → (l : List Step) → All (λ s. is_advertise (says (outcome_of s)) ≡ false) l → (c : Column) →
     is_advertise (first says l c) ≡ (clear l && is_advertise c)

@@ -166,7 +166,7 @@ pub data Does (u : Change) : (List Stream → List Stream) → Type 0 where
   single : (b : Bool) (i : ℕ) → (b ≡ false → Fixes u) → Does u (touch b i u)
   untouched : Does u (λ s. s)
 
-pub does-commute : {f g : List Stream → List Stream} (u v : Change) → Keeps u → Keeps v → Does u f → Does v g → Commute u v →
+pub does-commute : (u v : Change) {f g : List Stream → List Stream} → Keeps u → Keeps v → Does u f → Does v g → Commute u v →
     (s : List Stream) → f (g s) ≡ g (f s)
 does-commute u v ku kv untouched g uv s = refl
 does-commute u v ku kv (every p) untouched uv s = refl

@@ -12,7 +12,7 @@ use Rattle.octets.specs.Be.{be_at, be}
 use Rattle.octets.specs.Parts.{part}
 use Rattle.octets.proofs.Be.{be_at-ext, length-be}
 use Rattle.octets.proofs.Parts.{length_part}
-use Rattle.octets.proofs.Frame.{get_d_part, part-part}
+use Rattle.octets.proofs.Frame.{get_or_part, part-part}
 use Rattle.model.specs.FrameLayout.{longest_pdu}
 use Rattle.model.specs.State.{Settings}
 use Rattle.model.specs.Registrations.{Act, refused, acts}
@@ -91,7 +91,7 @@ module _ (at m : ℕ) (l pre rest : List ℕ) (fits : at + m ≤ length l) where
   octet-there : (a p q : ℕ) → a < m → p ≡ length pre + a → q ≡ at + a → get_or there p 0 ≡ get_or l q 0
   octet-there a p q h i j =
       let x = part at m l in
-      rw (i, j) (get_or-append-add pre (x ++ rest) a 0 ∙ get_or-append x rest 0 a (omega (arith, length-piece)) ∙ get_d_part at m a l h)
+      rw (i, j) (get_or-append-add pre (x ++ rest) a 0 ∙ get_or-append x rest 0 a (omega (arith, length-piece)) ∙ get_or_part at m a l h)
 
   number-there : (n a p q : ℕ) → a + n ≤ m → p ≡ length pre + a → q ≡ at + a → be_at n there p ≡ be_at n l q
   number-there n a p q h i j = be_at-ext n there l p q (λ b g. octet-there (a + b) (p + b) (q + b) (omega arith) (omega arith) (omega arith))

@@ -121,7 +121,7 @@ stream_id unique = 0x02 ∷ 0 ∷ 0 ∷ 0 ∷ 0 ∷ 0x01 ∷ Be.be 2 unique
 talker_in : (vlan destination latency unique size octet : ℕ) → List ℕ
 talker_in vlan destination latency unique size octet =
     stream_id unique
-    ++ (0x91 ∷ 0x_e0 ∷ 0x_f0 ∷ 0
+    ++ (0x91 ∷ 0xE0 ∷ 0xF0 ∷ 0
     ∷ (Be.be 2 destination ++ (Be.be 2 vlan ++ (Be.be 2 size ++ (0 ∷ 0x01 ∷ octet ∷ Be.be 4 latency)))))
 
 talker_of : (destination latency unique size octet : ℕ) → List ℕ
@@ -132,7 +132,7 @@ talker_to unique destination size octet = talker_of destination 0 unique size oc
 
 -- each stream with a destination of its own
 delayed_first : ℕ → ℕ → ℕ → ℕ → List ℕ
-delayed_first latency unique size octet = talker_of (0x_fe00 + unique - 1) latency unique size octet
+delayed_first latency unique size octet = talker_of (0xFE00 + unique - 1) latency unique size octet
 
 talker_first : ℕ → ℕ → ℕ → List ℕ
 talker_first = delayed_first 0
@@ -235,7 +235,7 @@ one limit = bridge limit (pdu 1 (talks 1 224 rank1) ∷ pdu 2 (hears 1 128) ∷ 
 four : Bridge
 four =
     bridge 75000000
-    (pdu 1 (advertises_of 1 224 rank1 4 (129 ∷ 108 ∷ [])) ∷ pdu 2 (listeners_of 1 4 (129 ∷ 108 ∷ []) (0x_aa ∷ [])) ∷ time 100 ∷ [])
+    (pdu 1 (advertises_of 1 224 rank1 4 (129 ∷ 108 ∷ [])) ∷ pdu 2 (listeners_of 1 4 (129 ∷ 108 ∷ []) (0xAA ∷ [])) ∷ time 100 ∷ [])
 
 with_fifth : ℕ → Bridge
 with_fifth octet = from four (pdu 1 (talks 5 224 octet) ∷ pdu 2 (hears 5 128) ∷ time 200 ∷ [])
@@ -257,12 +257,12 @@ leaver = settled_talker (pdu 1 lv_pdu ∷ [])
 
 worked_talker : List ℕ
 worked_talker =
-    0x00 ∷ 0x01 ∷ 0x19 ∷ 0x00 ∷ 0x1_e ∷ 0x00 ∷ 0x01 ∷ 0x02 ∷ 0x00 ∷ 0x00 ∷ 0x00 ∷ 0x00 ∷ 0x01 ∷ 0x00 ∷ 0x01 ∷ 0x91 ∷ 0x_e0 ∷ 0x_f0
-    ∷ 0x00 ∷ 0x_fe ∷ 0x00 ∷ 0x00 ∷ 0x02 ∷ 0x00 ∷ 0x_e0 ∷ 0x00 ∷ 0x01 ∷ 0x70 ∷ 0x00 ∷ 0x00 ∷ 0x00 ∷ 0x00 ∷ 0x6_c ∷ 0x00 ∷ 0x00 ∷ 0x00 ∷ 0x00 ∷ []
+    0x00 ∷ 0x01 ∷ 0x19 ∷ 0x00 ∷ 0x1E ∷ 0x00 ∷ 0x01 ∷ 0x02 ∷ 0x00 ∷ 0x00 ∷ 0x00 ∷ 0x00 ∷ 0x01 ∷ 0x00 ∷ 0x01 ∷ 0x91 ∷ 0xE0 ∷ 0xF0
+    ∷ 0x00 ∷ 0xFE ∷ 0x00 ∷ 0x00 ∷ 0x02 ∷ 0x00 ∷ 0xE0 ∷ 0x00 ∷ 0x01 ∷ 0x70 ∷ 0x00 ∷ 0x00 ∷ 0x00 ∷ 0x00 ∷ 0x6C ∷ 0x00 ∷ 0x00 ∷ 0x00 ∷ 0x00 ∷ []
 
 worked_listener : List ℕ
 worked_listener =
-    0x00 ∷ 0x03 ∷ 0x08 ∷ 0x00 ∷ 0x0_e ∷ 0x00 ∷ 0x01 ∷ 0x02 ∷ 0x00 ∷ 0x00 ∷ 0x00 ∷ 0x00 ∷ 0x01 ∷ 0x00 ∷ 0x01 ∷ 0x6_c ∷ 0x80
+    0x00 ∷ 0x03 ∷ 0x08 ∷ 0x00 ∷ 0x0E ∷ 0x00 ∷ 0x01 ∷ 0x02 ∷ 0x00 ∷ 0x00 ∷ 0x00 ∷ 0x00 ∷ 0x01 ∷ 0x00 ∷ 0x01 ∷ 0x6C ∷ 0x80
     ∷ 0x00 ∷ 0x00 ∷ 0x00 ∷ 0x00 ∷ []
 
 worked : Bridge
@@ -294,9 +294,9 @@ examples =
     -- P10: a Ready fifth of rank 0 is in, and the least important of rank 1 gets 1
     ∷ record { computed = columns (with_fifth rank0); printed = 1 ∷ 0 ∷ 1 ∷ 0 ∷ 1 ∷ 0 ∷ 2 ∷ 1 ∷ 1 ∷ 0 ∷ [] }
     -- P11: Unique ID FFFF with 2 values is 7
-    ∷ record { computed = read (advertises_of 0x_ffff 224 rank1 2 (126 ∷ [])); printed = 7 ∷ [] }
+    ∷ record { computed = read (advertises_of 0xFFFF 224 rank1 2 (126 ∷ [])); printed = 7 ∷ [] }
     -- P12: with 1 is read
-    ∷ record { computed = read (advertises_of 0x_ffff 224 rank1 1 (108 ∷ [])); printed = 0 ∷ 0x020000000001_ffff ∷ [] }
+    ∷ record { computed = read (advertises_of 0xFFFF 224 rank1 1 (108 ∷ [])); printed = 0 ∷ 0x020000000001FFFF ∷ [] }
     -- P13: leave time 60 begun at 100: held at 159, gone at 160
     ∷ record { computed = count (from leaver (time 159 ∷ [])) ++ count (from leaver (time 160 ∷ [])); printed = 1 ∷ 0 ∷ [] }
     -- the worked example, port 1: A 0/75000000 B 0/0; 0200000000010001 none 0 ready none
@@ -347,7 +347,7 @@ one_too_large : Bridge
 one_too_large =
     bridge 20000000
     (pdu 1 (advertises_of 1 224 rank1 2 (126 ∷ [])) ∷ pdu 1 (talks 3 1 rank1)
-    ∷ pdu 2 (listeners_of 1 3 (129 ∷ []) (0x_a8 ∷ [])) ∷ time 100 ∷ [])
+    ∷ pdu 2 (listeners_of 1 3 (129 ∷ []) (0xA8 ∷ [])) ∷ time 100 ∷ [])
 
 -- room for one; the more important has this Listener on port 2, the other a Ready one
 less_ready : ℕ → Bridge
@@ -357,7 +357,7 @@ less_ready kind =
 
 -- 63 streams held; a PDU that joins the 64th twice, and one that joins two more
 held63 : Bridge
-held63 = bridge 75000000 (pdu 2 (listeners_of 1 63 (replicate 21 129) (replicate 16 0x_aa)) ∷ [])
+held63 = bridge 75000000 (pdu 2 (listeners_of 1 63 (replicate 21 129) (replicate 16 0xAA)) ∷ [])
 
 twice_pdu : List ℕ
 twice_pdu =
@@ -393,12 +393,12 @@ further =
     -- a Talker join with another size, here a Failed, keeps the held type and values and sets the mark
     ∷ record {
       computed = talker 0 (settled_talker (pdu 1 (failed_of 1 225 rank1 1 (108 ∷ [])) ∷ []));
-      printed = 1 ∷ 1 ∷ 0 ∷ 0 ∷ 0x91_e0_f000_fe00 ∷ 2 ∷ 224 ∷ 1 ∷ 0x70 ∷ 0 ∷ 0 ∷ 0 ∷ [];
+      printed = 1 ∷ 1 ∷ 0 ∷ 0 ∷ 0x91E0F000FE00 ∷ 2 ∷ 224 ∷ 1 ∷ 0x70 ∷ 0 ∷ 0 ∷ 0 ∷ [];
     }
     -- an equal one then clears the mark and replaces type and failure fields
     ∷ record {
       computed = talker 0 (settled_talker (pdu 1 (talks 1 225 rank1) ∷ pdu 1 (failed_of 1 224 rank1 1 (108 ∷ [])) ∷ []));
-      printed = 2 ∷ 0 ∷ 0 ∷ 0 ∷ 0x91_e0_f000_fe00 ∷ 2 ∷ 224 ∷ 1 ∷ 0x70 ∷ 0 ∷ 9 ∷ 2 ∷ [];
+      printed = 2 ∷ 0 ∷ 0 ∷ 0 ∷ 0x91E0F000FE00 ∷ 2 ∷ 224 ∷ 1 ∷ 0x70 ∷ 0 ∷ 9 ∷ 2 ∷ [];
     }
     -- a Listener join replaces the declaration type; with Ignore it does nothing
     ∷ record { computed = listener 1 (settled_talker (pdu 2 (hears 1 128) ∷ pdu 2 (hears 1 64) ∷ [])); printed = 1 ∷ 0 ∷ 0 ∷ [] }
@@ -419,7 +419,7 @@ further =
     ∷ record { computed = columns (less_ready 64) ++ reserves (less_ready 64); printed = 1 ∷ 0 ∷ 1 ∷ 0 ∷ 17088000 ∷ 17088000 ∷ [] }
     -- with 63 held, joining the 64th twice is accepted, joining two more is refused with 8
     ∷ record {
-      computed = length held63.streams ∷ answered held63 twice_pdu ∷ answered held63 (listeners_of 64 2 (126 ∷ []) (0x_a0 ∷ [])) ∷ [];
+      computed = length held63.streams ∷ answered held63 twice_pdu ∷ answered held63 (listeners_of 64 2 (126 ∷ []) (0xA0 ∷ [])) ∷ [];
       printed = 63 ∷ 0 ∷ 8 ∷ [];
     }
     ∷ []
@@ -488,7 +488,7 @@ intercom l = bridge 75000000 (pdu 1 (talks 9 224 in_b) ∷ pdu 2 (hears 9 128) �
 
 -- four streams of class A, of rank 1, Ready, settled at 200
 show : List Handed
-show = pdu 1 (advertises_of 1 224 rank1 4 (129 ∷ 108 ∷ [])) ∷ pdu 2 (listeners_of 1 4 (129 ∷ 108 ∷ []) (0x_aa ∷ [])) ∷ time 200 ∷ []
+show = pdu 1 (advertises_of 1 224 rank1 4 (129 ∷ 108 ∷ [])) ∷ pdu 2 (listeners_of 1 4 (129 ∷ 108 ∷ []) (0xAA ∷ [])) ∷ time 200 ∷ []
 
 -- the bridge whose port 2 does not support class A, with this limit for class B there, and the intercom
 without_a : ℕ → Bridge
@@ -597,7 +597,7 @@ inbound fan_in size destination l =
 -- the same without a limit, the second with the destination of the first, in this VLAN and with this octet of priority and rank
 sharing : ℕ → ℕ → List Handed
 sharing vlan octet =
-    pdu 1 (talks 1 224 rank1) ∷ pdu 2 (message advertises (Be.be 2 1 ++ (talker_in vlan 0x_fe00 0 2 224 octet ++ (108 ∷ [])))) ∷ time 100 ∷ []
+    pdu 1 (talks 1 224 rank1) ∷ pdu 2 (message advertises (Be.be 2 1 ++ (talker_in vlan 0xFE00 0 2 224 octet ++ (108 ∷ [])))) ∷ time 100 ∷ []
 
 -- the column of the first on port 2, and of the second on port 1
 across : Bridge → List ℕ
@@ -619,8 +619,8 @@ fan_ins =
     }
     -- the higher StreamID with the address of a lower one fails with 5, whichever ports their Talkers are on; 5 comes before 15, and
     -- 15 before 14
-    ∷ record { computed = across (inbound 0 224 0x_fe00 []); printed = 1 ∷ 0 ∷ 2 ∷ 5 ∷ [] }
-    ∷ record { computed = across (inbound 1 224 0x_fe00 []); printed = 1 ∷ 0 ∷ 2 ∷ 5 ∷ [] }
+    ∷ record { computed = across (inbound 0 224 0xFE00 []); printed = 1 ∷ 0 ∷ 2 ∷ 5 ∷ [] }
+    ∷ record { computed = across (inbound 1 224 0xFE00 []); printed = 1 ∷ 0 ∷ 2 ∷ 5 ∷ [] }
     ∷ record { computed = across (inbound 1 1523 0 []); printed = 1 ∷ 0 ∷ 2 ∷ 15 ∷ [] }
     -- in another VLAN the same destination is another address
     ∷ record { computed = across (bridge 75000000 (sharing 2 rank1)); printed = 1 ∷ 0 ∷ 2 ∷ 5 ∷ [] }
@@ -638,12 +638,12 @@ fan-in-examples = (refl, (refl, (refl, (refl, (refl, (refl, (refl, (refl, (refl,
 
 -- an MMRP PDU of n addresses, from the one with these last two octets on, with their events
 asks_for : ℕ → ℕ → List ℕ → List ℕ
-asks_for octets n three = 0x00 ∷ 0x02 ∷ 0x06 ∷ (Be.be 2 n ++ (0x91 ∷ 0x_e0 ∷ 0x_f0 ∷ 0x00 ∷ (Be.be 2 octets ++ (three ++ (0x00 ∷ 0x00 ∷ [])))))
+asks_for octets n three = 0x00 ∷ 0x02 ∷ 0x06 ∷ (Be.be 2 n ++ (0x91 ∷ 0xE0 ∷ 0xF0 ∷ 0x00 ∷ (Be.be 2 octets ++ (three ++ (0x00 ∷ 0x00 ∷ [])))))
 
 -- these ports, by their places, ask for the destination of stream 1
 asking : List ℕ → List Handed
 asking [] = []
-asking (p ∷ l) = mmrp (p + 1) (asks_for 0x_fe00 1 (108 ∷ [])) ∷ asking l
+asking (p ∷ l) = mmrp (p + 1) (asks_for 0xFE00 1 (108 ∷ [])) ∷ asking l
 
 -- matching Domain joins on so many ports
 matching_on : ℕ → List Handed
@@ -685,8 +685,8 @@ prunings =
     -- an address that is leaving is held until it is removed; LeaveAll makes it leave, and that of Service Requirement does not
     ∷ record {
       computed =
-          everywhere (from (hall 2 (1 ∷ [])) (time 100 ∷ mmrp 2 (asks_for 0x_fe00 1 (180 ∷ [])) ∷ time 159 ∷ []))
-          ++ everywhere (from (hall 2 (1 ∷ [])) (time 100 ∷ mmrp 2 (asks_for 0x_fe00 1 (180 ∷ [])) ∷ time 160 ∷ []));
+          everywhere (from (hall 2 (1 ∷ [])) (time 100 ∷ mmrp 2 (asks_for 0xFE00 1 (180 ∷ [])) ∷ time 159 ∷ []))
+          ++ everywhere (from (hall 2 (1 ∷ [])) (time 100 ∷ mmrp 2 (asks_for 0xFE00 1 (180 ∷ [])) ∷ time 160 ∷ []));
       printed = 0 ∷ 0 ∷ 1 ∷ 0 ∷ 0 ∷ 0 ∷ 0 ∷ 0 ∷ [];
     }
     ∷ record {
@@ -825,7 +825,7 @@ needs =
     -- class A's total, for a stream of class B
     ∷ record { computed = compared 1 (intercom []) 0 (intercom show) 4; printed = 1 ∷ 1 ∷ 1 ∷ 0 ∷ 1 ∷ 1 ∷ 1 ∷ 1 ∷ 1 ∷ 0 ∷ 2 ∷ 1 ∷ [] }
     -- the address of a lower StreamID
-    ∷ record { computed = compared 1 (addressed 0x_fe00) 1 (addressed 0x_fe01) 1; printed = 1 ∷ 1 ∷ 1 ∷ 1 ∷ 0 ∷ 1 ∷ 1 ∷ 1 ∷ 1 ∷ 0 ∷ 2 ∷ 5 ∷ [] }
+    ∷ record { computed = compared 1 (addressed 0xFE00) 1 (addressed 0xFE01) 1; printed = 1 ∷ 1 ∷ 1 ∷ 1 ∷ 0 ∷ 1 ∷ 1 ∷ 1 ∷ 1 ∷ 0 ∷ 2 ∷ 5 ∷ [] }
     -- the domain's edge
     ∷ record {
       computed = compared 1 (held 75000000 (1 ∷ [])) 0 (from (State.started (settings 75000000)) (pdu 1 (talks 1 224 rank1) ∷ pdu 2 (hears 1 128) ∷ [])) 0;
@@ -910,7 +910,7 @@ why-examples = (refl, (refl, (refl, (refl, (refl, (refl, tt))))))
 pub two_faults : List Example
 two_faults =
     -- 2, then the walk: 1,501 octets of AttributeType 5 (4)
-    record { computed = read (0x00 ∷ 0x05 ∷ replicate 1499 0x_ff) ++ read (0x00 ∷ 0x05 ∷ replicate 1498 0x_ff); printed = 2 ∷ 4 ∷ [] }
+    record { computed = read (0x00 ∷ 0x05 ∷ replicate 1499 0xFF) ++ read (0x00 ∷ 0x05 ∷ replicate 1498 0xFF); printed = 2 ∷ 4 ∷ [] }
     -- a Message's header (3), type (4): three octets of AttributeType 5
     ∷ record {
       computed =
@@ -928,29 +928,29 @@ two_faults =
     -- type (4), list within the PDU (3): AttributeType 5; with version 1 it is no fault
     ∷ record {
       computed =
-          read (0x00 ∷ 0x05 ∷ 0x08 ∷ 0x_ff ∷ 0x_ff ∷ [])
-          ++ read (0x01 ∷ 0x05 ∷ 0x08 ∷ 0x_ff ∷ 0x_ff ∷ []);
+          read (0x00 ∷ 0x05 ∷ 0x08 ∷ 0xFF ∷ 0xFF ∷ [])
+          ++ read (0x01 ∷ 0x05 ∷ 0x08 ∷ 0xFF ∷ 0xFF ∷ []);
       printed = 4 ∷ 3 ∷ [];
     }
     -- length (5), list within the PDU (3)
     ∷ record {
       computed =
-          read (0x00 ∷ 0x03 ∷ 0x07 ∷ 0x_ff ∷ 0x_ff ∷ [])
-          ++ read (0x00 ∷ 0x03 ∷ 0x08 ∷ 0x_ff ∷ 0x_ff ∷ []);
+          read (0x00 ∷ 0x03 ∷ 0x07 ∷ 0xFF ∷ 0xFF ∷ [])
+          ++ read (0x00 ∷ 0x03 ∷ 0x08 ∷ 0xFF ∷ 0xFF ∷ []);
       printed = 5 ∷ 3 ∷ [];
     }
     -- list within the PDU (3), then what is in it: LeaveAllEvent 2 (6)
     ∷ record {
       computed =
-          read (0x00 ∷ 0x03 ∷ 0x08 ∷ 0x00 ∷ 0x0_f ∷ 0x40 ∷ 0x01 ∷ (stream_id 1 ++ (0x6_c ∷ 0x80 ∷ 0x00 ∷ 0x00 ∷ [])))
-          ++ read (0x00 ∷ 0x03 ∷ 0x08 ∷ 0x00 ∷ 0x0_e ∷ 0x40 ∷ 0x01 ∷ (stream_id 1 ++ (0x6_c ∷ 0x80 ∷ 0x00 ∷ 0x00 ∷ [])));
+          read (0x00 ∷ 0x03 ∷ 0x08 ∷ 0x00 ∷ 0x0F ∷ 0x40 ∷ 0x01 ∷ (stream_id 1 ++ (0x6C ∷ 0x80 ∷ 0x00 ∷ 0x00 ∷ [])))
+          ++ read (0x00 ∷ 0x03 ∷ 0x08 ∷ 0x00 ∷ 0x0E ∷ 0x40 ∷ 0x01 ∷ (stream_id 1 ++ (0x6C ∷ 0x80 ∷ 0x00 ∷ 0x00 ∷ [])));
       printed = 3 ∷ 6 ∷ [];
     }
     -- a vector's header (3), LeaveAllEvent (6): one octet, whose bits say 2
     ∷ record {
       computed =
           read (0x00 ∷ 0x03 ∷ 0x08 ∷ 0x00 ∷ 0x01 ∷ 0x40 ∷ [])
-          ++ read (0x00 ∷ 0x03 ∷ 0x08 ∷ 0x00 ∷ 0x0_e ∷ 0x40 ∷ 0x01 ∷ (stream_id 1 ++ (0x6_c ∷ 0x80 ∷ 0x00 ∷ 0x00 ∷ [])));
+          ++ read (0x00 ∷ 0x03 ∷ 0x08 ∷ 0x00 ∷ 0x0E ∷ 0x40 ∷ 0x01 ∷ (stream_id 1 ++ (0x6C ∷ 0x80 ∷ 0x00 ∷ 0x00 ∷ [])));
       printed = 3 ∷ 6 ∷ [];
     }
     -- LeaveAllEvent (6), fits (3)
@@ -963,43 +963,43 @@ two_faults =
     -- fits (3), event octets (6): FourPackedEvents are missing, ThreePackedEvents are 216
     ∷ record {
       computed =
-          read (0x00 ∷ 0x03 ∷ 0x08 ∷ 0x00 ∷ 0x0_b ∷ 0x00 ∷ 0x01 ∷ (stream_id 1 ++ (0x_d8 ∷ 0x00 ∷ 0x00 ∷ [])))
-          ++ read (0x00 ∷ 0x03 ∷ 0x08 ∷ 0x00 ∷ 0x0_e ∷ 0x00 ∷ 0x01 ∷ (stream_id 1 ++ (0x_d8 ∷ 0x80 ∷ 0x00 ∷ 0x00 ∷ 0x00 ∷ 0x00 ∷ [])));
+          read (0x00 ∷ 0x03 ∷ 0x08 ∷ 0x00 ∷ 0x0B ∷ 0x00 ∷ 0x01 ∷ (stream_id 1 ++ (0xD8 ∷ 0x00 ∷ 0x00 ∷ [])))
+          ++ read (0x00 ∷ 0x03 ∷ 0x08 ∷ 0x00 ∷ 0x0E ∷ 0x00 ∷ 0x01 ∷ (stream_id 1 ++ (0xD8 ∷ 0x80 ∷ 0x00 ∷ 0x00 ∷ 0x00 ∷ 0x00 ∷ [])));
       printed = 3 ∷ 6 ∷ [];
     }
     -- event octets (6), values (7): 216, and Unique ID FFFF with 2 values
     ∷ record {
       computed =
-          read (0x00 ∷ 0x03 ∷ 0x08 ∷ 0x00 ∷ 0x0_e ∷ 0x00 ∷ 0x02 ∷ (stream_id 0x_ffff ++ (0x_d8 ∷ 0x80 ∷ 0x00 ∷ 0x00 ∷ 0x00 ∷ 0x00 ∷ [])))
-          ++ read (0x00 ∷ 0x03 ∷ 0x08 ∷ 0x00 ∷ 0x0_e ∷ 0x00 ∷ 0x02 ∷ (stream_id 0x_ffff ++ (0x6_c ∷ 0x80 ∷ 0x00 ∷ 0x00 ∷ 0x00 ∷ 0x00 ∷ [])));
+          read (0x00 ∷ 0x03 ∷ 0x08 ∷ 0x00 ∷ 0x0E ∷ 0x00 ∷ 0x02 ∷ (stream_id 0xFFFF ++ (0xD8 ∷ 0x80 ∷ 0x00 ∷ 0x00 ∷ 0x00 ∷ 0x00 ∷ [])))
+          ++ read (0x00 ∷ 0x03 ∷ 0x08 ∷ 0x00 ∷ 0x0E ∷ 0x00 ∷ 0x02 ∷ (stream_id 0xFFFF ++ (0x6C ∷ 0x80 ∷ 0x00 ∷ 0x00 ∷ 0x00 ∷ 0x00 ∷ [])));
       printed = 6 ∷ 7 ∷ [];
     }
     -- values (7), then the list's EndMark, which is not last (3)
     ∷ record {
       computed =
-          read (0x00 ∷ 0x03 ∷ 0x08 ∷ 0x00 ∷ 0x10 ∷ 0x00 ∷ 0x02 ∷ (stream_id 0x_ffff ++ (0x6_c ∷ 0x_a0 ∷ 0x00 ∷ 0x00 ∷ 0x00 ∷ 0x00 ∷ 0x00 ∷ 0x00 ∷ [])))
-          ++ read (0x00 ∷ 0x03 ∷ 0x08 ∷ 0x00 ∷ 0x10 ∷ 0x00 ∷ 0x02 ∷ (stream_id 0x_fffe ++ (0x6_c ∷ 0x_a0 ∷ 0x00 ∷ 0x00 ∷ 0x00 ∷ 0x00 ∷ 0x00 ∷ 0x00 ∷ [])));
+          read (0x00 ∷ 0x03 ∷ 0x08 ∷ 0x00 ∷ 0x10 ∷ 0x00 ∷ 0x02 ∷ (stream_id 0xFFFF ++ (0x6C ∷ 0xA0 ∷ 0x00 ∷ 0x00 ∷ 0x00 ∷ 0x00 ∷ 0x00 ∷ 0x00 ∷ [])))
+          ++ read (0x00 ∷ 0x03 ∷ 0x08 ∷ 0x00 ∷ 0x10 ∷ 0x00 ∷ 0x02 ∷ (stream_id 0xFFFE ++ (0x6C ∷ 0xA0 ∷ 0x00 ∷ 0x00 ∷ 0x00 ∷ 0x00 ∷ 0x00 ∷ 0x00 ∷ [])));
       printed = 7 ∷ 3 ∷ [];
     }
     -- values (7) of the first vector, LeaveAllEvent 2 (6) of the second
     ∷ record {
       computed =
-          read (0x00 ∷ 0x03 ∷ 0x08 ∷ 0x00 ∷ 0x1_a ∷ 0x00 ∷ 0x02 ∷ 0x02 ∷ 0x00 ∷ 0x00 ∷ 0x00 ∷ 0x00 ∷ 0x01 ∷ 0x_ff ∷ 0x_ff ∷ 0x6_c ∷ 0x_a0 ∷ 0x40 ∷ 0x01 ∷ (stream_id 1 ++ (0x6_c ∷ 0x80 ∷ 0x00 ∷ 0x00 ∷ 0x00 ∷ 0x00 ∷ [])))
-          ++ read (0x00 ∷ 0x03 ∷ 0x08 ∷ 0x00 ∷ 0x1_a ∷ 0x00 ∷ 0x02 ∷ 0x02 ∷ 0x00 ∷ 0x00 ∷ 0x00 ∷ 0x00 ∷ 0x01 ∷ 0x_ff ∷ 0x_fe ∷ 0x6_c ∷ 0x_a0 ∷ 0x40 ∷ 0x01 ∷ (stream_id 1 ++ (0x6_c ∷ 0x80 ∷ 0x00 ∷ 0x00 ∷ 0x00 ∷ 0x00 ∷ [])));
+          read (0x00 ∷ 0x03 ∷ 0x08 ∷ 0x00 ∷ 0x1A ∷ 0x00 ∷ 0x02 ∷ 0x02 ∷ 0x00 ∷ 0x00 ∷ 0x00 ∷ 0x00 ∷ 0x01 ∷ 0xFF ∷ 0xFF ∷ 0x6C ∷ 0xA0 ∷ 0x40 ∷ 0x01 ∷ (stream_id 1 ++ (0x6C ∷ 0x80 ∷ 0x00 ∷ 0x00 ∷ 0x00 ∷ 0x00 ∷ [])))
+          ++ read (0x00 ∷ 0x03 ∷ 0x08 ∷ 0x00 ∷ 0x1A ∷ 0x00 ∷ 0x02 ∷ 0x02 ∷ 0x00 ∷ 0x00 ∷ 0x00 ∷ 0x00 ∷ 0x01 ∷ 0xFF ∷ 0xFE ∷ 0x6C ∷ 0xA0 ∷ 0x40 ∷ 0x01 ∷ (stream_id 1 ++ (0x6C ∷ 0x80 ∷ 0x00 ∷ 0x00 ∷ 0x00 ∷ 0x00 ∷ [])));
       printed = 7 ∷ 6 ∷ [];
     }
     -- 3 in the first Message, its EndMark not last, 6 in the second, octet 216
     ∷ record {
       computed =
-          read (0x00 ∷ 0x03 ∷ 0x08 ∷ 0x00 ∷ 0x04 ∷ 0x00 ∷ 0x00 ∷ 0x00 ∷ 0x00 ∷ 0x03 ∷ 0x08 ∷ 0x00 ∷ 0x0_e ∷ 0x00 ∷ 0x01 ∷ (stream_id 1 ++ (0x_d8 ∷ 0x80 ∷ 0x00 ∷ 0x00 ∷ 0x00 ∷ 0x00 ∷ [])))
-          ++ read (0x00 ∷ 0x03 ∷ 0x08 ∷ 0x00 ∷ 0x02 ∷ 0x00 ∷ 0x00 ∷ 0x03 ∷ 0x08 ∷ 0x00 ∷ 0x0_e ∷ 0x00 ∷ 0x01 ∷ (stream_id 1 ++ (0x_d8 ∷ 0x80 ∷ 0x00 ∷ 0x00 ∷ 0x00 ∷ 0x00 ∷ [])));
+          read (0x00 ∷ 0x03 ∷ 0x08 ∷ 0x00 ∷ 0x04 ∷ 0x00 ∷ 0x00 ∷ 0x00 ∷ 0x00 ∷ 0x03 ∷ 0x08 ∷ 0x00 ∷ 0x0E ∷ 0x00 ∷ 0x01 ∷ (stream_id 1 ++ (0xD8 ∷ 0x80 ∷ 0x00 ∷ 0x00 ∷ 0x00 ∷ 0x00 ∷ [])))
+          ++ read (0x00 ∷ 0x03 ∷ 0x08 ∷ 0x00 ∷ 0x02 ∷ 0x00 ∷ 0x00 ∷ 0x03 ∷ 0x08 ∷ 0x00 ∷ 0x0E ∷ 0x00 ∷ 0x01 ∷ (stream_id 1 ++ (0xD8 ∷ 0x80 ∷ 0x00 ∷ 0x00 ∷ 0x00 ∷ 0x00 ∷ [])));
       printed = 3 ∷ 6 ∷ [];
     }
     -- and 6 in the first, 3 in the second
     ∷ record {
       computed =
-          read (0x00 ∷ 0x03 ∷ 0x08 ∷ 0x00 ∷ 0x0_e ∷ 0x00 ∷ 0x01 ∷ (stream_id 1 ++ (0x_d8 ∷ 0x80 ∷ 0x00 ∷ 0x00 ∷ 0x03 ∷ 0x08 ∷ 0x00 ∷ 0x04 ∷ 0x00 ∷ 0x00 ∷ 0x00 ∷ 0x00 ∷ 0x00 ∷ 0x00 ∷ [])))
-          ++ read (0x00 ∷ 0x03 ∷ 0x08 ∷ 0x00 ∷ 0x0_e ∷ 0x00 ∷ 0x01 ∷ (stream_id 1 ++ (0x_d7 ∷ 0x80 ∷ 0x00 ∷ 0x00 ∷ 0x03 ∷ 0x08 ∷ 0x00 ∷ 0x04 ∷ 0x00 ∷ 0x00 ∷ 0x00 ∷ 0x00 ∷ 0x00 ∷ 0x00 ∷ [])));
+          read (0x00 ∷ 0x03 ∷ 0x08 ∷ 0x00 ∷ 0x0E ∷ 0x00 ∷ 0x01 ∷ (stream_id 1 ++ (0xD8 ∷ 0x80 ∷ 0x00 ∷ 0x00 ∷ 0x03 ∷ 0x08 ∷ 0x00 ∷ 0x04 ∷ 0x00 ∷ 0x00 ∷ 0x00 ∷ 0x00 ∷ 0x00 ∷ 0x00 ∷ [])))
+          ++ read (0x00 ∷ 0x03 ∷ 0x08 ∷ 0x00 ∷ 0x0E ∷ 0x00 ∷ 0x01 ∷ (stream_id 1 ++ (0xD7 ∷ 0x80 ∷ 0x00 ∷ 0x00 ∷ 0x03 ∷ 0x08 ∷ 0x00 ∷ 0x04 ∷ 0x00 ∷ 0x00 ∷ 0x00 ∷ 0x00 ∷ 0x00 ∷ 0x00 ∷ [])));
       printed = 6 ∷ 3 ∷ [];
     }
     ∷ []
@@ -1024,7 +1024,7 @@ leave_event2 : List ℕ
 leave_event2 = before5 16385 (108 ∷ []) (128 ∷ [])
 
 past : ℕ → List ℕ
-past octet = listener_vector 0x_ffff 2 (octet ∷ []) (0x_a0 ∷ [])
+past octet = listener_vector 0xFFFF 2 (octet ∷ []) (0xA0 ∷ [])
 
 id5 : ℕ
 id5 = 0x0200000000010005
@@ -1037,9 +1037,9 @@ newer_versions =
     ∷ record { computed = read (versioned 1 (before5 16384 [] [])); printed = 0 ∷ id5 ∷ [] }
     -- octet 216, and 4 values with a good octet beside it and their FourPackedEvents
     ∷ record { computed = read (before5 1 (216 ∷ []) (128 ∷ [])) ++ read (versioned 1 (before5 1 (216 ∷ []) (128 ∷ []))); printed = 6 ∷ 0 ∷ id5 ∷ [] }
-    ∷ record { computed = read (versioned 1 (before5 4 (129 ∷ 216 ∷ []) (0x_aa ∷ []))); printed = 0 ∷ id5 ∷ [] }
+    ∷ record { computed = read (versioned 1 (before5 4 (129 ∷ 216 ∷ []) (0xAA ∷ []))); printed = 0 ∷ id5 ∷ [] }
     -- FourPackedEvents have no bound
-    ∷ record { computed = read (versioned 1 (listeners_of 5 1 (108 ∷ []) (0x_ff ∷ []))); printed = 0 ∷ id5 ∷ [] }
+    ∷ record { computed = read (versioned 1 (listeners_of 5 1 (108 ∷ []) (0xFF ∷ []))); printed = 0 ∷ id5 ∷ [] }
     -- the other types
     ∷ record {
       computed =

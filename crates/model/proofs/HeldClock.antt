@@ -15,12 +15,12 @@ use Rattle.model.specs.State.{Settings, Leaving, stays, since, Talker, no_talker
 use Rattle.model.specs.Settling.{expired, expire_talker, expire_listener, expire_cell, expire, remain, expire_domain, outlasts, remain_addresses, source_of, column_of, registered, is_ready, entry_of, Scene, is_talking, is_hearing, held, is_applicant, is_sending, any_sending, is_held, fixed_of, is_advertise, advertised_by, failed_by, listened_by, same_offer, same_failed, same_ready, declare_sends, declare, decide_at, decide, deciding, declaring, settle}
 use Rattle.model.specs.Table.{entry_number, talkers, has_column, declares, stored_rules, stored_formed, is_standing, stands, is_failed, alike, sent_rules, sent_formed}
 use Rattle.model.specs.Why.{column_by, scene_now, reason}
-use Rattle.model.proofs.Lists.{all_map, all_get_d, at_place, get_d_map, all_true_lem, implied, and_right}
+use Rattle.model.proofs.Lists.{all_map, all_get_or, at_place, get_or_map, all_true_lem, implied, and_right}
 use Rattle.model.proofs.Valid.{ValidLeaving, ValidTalker, ValidListener, ValidCell, ValidDomain, ValidPresence, ValidAddress, ValidOwn, ValidStream, Valid}
 use Rattle.model.proofs.Owns.{no-own-valid}
 use Rattle.model.proofs.Stored.{talker-counts}
 use Rattle.model.proofs.Deciding.{Stands, Holds, Unsent, decided-stands, withdrawn-unsent}
-use Rattle.model.proofs.AdvanceKeepsForm.{all-mapped, get_d_past, or-false}
+use Rattle.model.proofs.AdvanceKeepsForm.{all-mapped, get_or_past, or-false}
 use Rattle.model.proofs.Dropping.{dropped-none}
 use Rattle.model.proofs.Why.{column-named, step-told}
 
@@ -80,7 +80,7 @@ module _ (b : Bridge) (v : Valid b) (p : ℕ) where
   own-valid : ValidOwn b.clock b.settings.leave_time (own_at b.owns p)
   own-valid =
       let leave = b.settings.leave_time in
-      all_get_d (ValidOwn b.clock leave) b.owns v.owns no_own (no-own-valid b.clock leave) p
+      all_get_or (ValidOwn b.clock leave) b.owns v.owns no_own (no-own-valid b.clock leave) p
 
   pub own-domains-stay : map (expire_domain b.settings b.clock) (own_at b.owns p).domains ≡ (own_at b.owns p).domains
   own-domains-stay =
@@ -234,7 +234,7 @@ module _ (ports clock leave : ℕ) (sc : Scene) (now : ℕ) (s : List Stream) (x
       go true q = ltb-true p ports q
       go false q =
           let none : get_or x.sends p no_sends ≡ no_sends =
-          get_d_past (λ y. y ≡ no_sends) ports x.sends p no_sends (ltb-false p ports q) refl v.no-other-sends in
+          get_or_past (λ y. y ≡ no_sends) ports x.sends p no_sends (ltb-false p ports q) refl v.no-other-sends in
           absurd (false≢true (sym none-sends ∙ (rw none at e)))
 
   sends-then : ℕ → Sends
@@ -301,8 +301,8 @@ module _ (b : Bridge) (v : Valid b) (k : ℕ) (h : k < length b.streams) where
   stream-then =
       let there : k < length decisions = rw (length-map b.streams (decide (scene_now b) b.clock b.streams)) h in
       rw settled-streams
-      (get_d_map declare decisions k (fresh 0) (fresh 0) there
-      ∙ ap declare (get_d_map (decide (scene_now b) b.clock b.streams) b.streams k (fresh 0) (fresh 0) h))
+      (get_or_map declare decisions k (fresh 0) (fresh 0) there
+      ∙ ap declare (get_or_map (decide (scene_now b) b.clock b.streams) b.streams k (fresh 0) (fresh 0) h))
 
   pub id-stays : (stream_at k (settle b.clock b)).id ≡ (stream_at k b).id
   unfolding declare decide

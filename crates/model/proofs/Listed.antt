@@ -17,7 +17,7 @@ use Rattle.model.specs.Registrations.{ids}
 use Rattle.model.specs.Bandwidth.{Claim, more_important, key, above, insert, sort, share, reserved, remains, admitted}
 use Rattle.model.specs.Settling.{Scene, age_of, stream_class, registered, is_ready, is_advertise, step_h, clear, steps, claim, claims, limit_on, left_for, column_of}
 use Rattle.model.specs.Why.{step_on, reserving, listed, reason_on}
-use Rattle.model.proofs.Lists.{all_append, all_keep, all_map, all_get_d, all_in, mem-keep, and_left, and_right, and_both}
+use Rattle.model.proofs.Lists.{all_append, all_keep, all_map, all_get_or, all_in, mem-keep, and_left, and_right, and_both}
 use Rattle.model.proofs.Valid.{Rising, ValidResult, ValidStream, Valid}
 use Rattle.model.proofs.AdvanceKeepsForm.{age-valid, unsettled-valid}
 use Rattle.model.proofs.Admission.{Distinct, Falls, Two, lo, hi, two, Cut, cut, above_in, above-out, above-sort, all-sort, all_above, all-mem, mem-sort, falls-sort, within}
@@ -219,7 +219,7 @@ later-young b v now later small p = all_map (ValidStream (length b.settings.port
   where
     young : (y : Stream) → ValidStream (length b.settings.ports) b.clock b.settings.leave_time y → Young now p y
     young y w =
-        let valid = all_get_d (ValidResult b.clock) y.results w.results unsettled (unsettled-valid b.clock) p in
+        let valid = all_get_or (ValidResult b.clock) y.results w.results unsettled (unsettled-valid b.clock) p in
         omega (arith, age-valid b.clock now (result_at y p) later valid, small)
 
 pub ages-young : (b : Bridge) → Valid b → (p : ℕ) → All (Young b.clock p) b.streams
@@ -350,6 +350,7 @@ above-few n (d ∷ cs) = go (ltb (key d) n) (above-few n cs)
     go false h = omega arith
 
 pub above-fewer : (n : ℕ) (c : Claim) (cs : List Claim) → Memᴰ c cs → n ≤ key c → length (above n cs) < length cs
+above-fewer n c [] m h = elim m [ ]
 above-fewer n c (d ∷ cs) (Memᴰ.head e) h =
     let q : n ≤ key d = rw e at h in
     rw (above-out n d cs q) (omega (arith, above-few n cs))
@@ -370,6 +371,7 @@ claims-few sc now p c (x ∷ s) = go (clear (steps sc p x) && same_class (stream
 
 claims-fewer : (sc : Scene) (now p : ℕ) (c : Class) (x : Stream) (s : List Stream) → Memᴰ x s → reaches sc now p c x ≡ false → length (claims sc now p c s) < length s
 unfolding claims
+claims-fewer sc now p c x [] m h = elim m [ ]
 claims-fewer sc now p c x (y ∷ s) (Memᴰ.head e) h =
     let q : reaches sc now p c y ≡ false = rw e at h in
     rw q (omega (arith, claims-few sc now p c s))

@@ -56,10 +56,10 @@ module _ {A : Type 0} (P : A → Type 0) where
   all-at (x ∷ l) a zero d h = a.0
   all-at (x ∷ l) a (suc k) d h = all-at l a.1 k d (omega arith)
 
-  pub all_get_d : (l : List A) → All P l → (d : A) → P d → (k : ℕ) → P (get_or l k d)
-  all_get_d [] a d h k = h
-  all_get_d (x ∷ l) a d h zero = a.0
-  all_get_d (x ∷ l) a d h (suc k) = all_get_d l a.1 d h k
+  pub all_get_or : (l : List A) → All P l → (d : A) → P d → (k : ℕ) → P (get_or l k d)
+  all_get_or [] a d h k = h
+  all_get_or (x ∷ l) a d h zero = a.0
+  all_get_or (x ∷ l) a d h (suc k) = all_get_or l a.1 d h k
 
   pub all_set : (l : List A) (k : ℕ) (y : A) → All P l → P y → All P (set l k y)
   all_set [] k y a h = tt
@@ -107,11 +107,11 @@ module _ {A : Type 0} (x d : A) where
 
 -- What a list made from a function has at a place.
 module _ {A : Type 0} (f : ℕ → A) where
-  pub get_d_tabulate : (n p q : ℕ) (d : A) → q < n → get_or (tabulate n p f) q d ≡ f (p + q)
+  pub get_or_tabulate : (n p q : ℕ) (d : A) → q < n → get_or (tabulate n p f) q d ≡ f (p + q)
   unfolding tabulate
-  get_d_tabulate zero p q d h = absurd (omega arith)
-  get_d_tabulate (suc n) p zero d h = ap f (omega arith)
-  get_d_tabulate (suc n) p (suc q) d h = get_d_tabulate n (suc p) q d (omega arith) ∙ ap f (omega arith)
+  get_or_tabulate zero p q d h = absurd (omega arith)
+  get_or_tabulate (suc n) p zero d h = ap f (omega arith)
+  get_or_tabulate (suc n) p (suc q) d h = get_or_tabulate n (suc p) q d (omega arith) ∙ ap f (omega arith)
 
   pub length-tabulate : (n p : ℕ) → length (tabulate n p f) ≡ n
   unfolding tabulate
@@ -119,7 +119,7 @@ module _ {A : Type 0} (f : ℕ → A) where
   length-tabulate (suc n) p = ap suc (length-tabulate n (suc p))
 
   pub at_place : (q : ℕ) (d : A) → q < 8 → get_or (tabulate 8 0 f) q d ≡ f q
-  at_place q d h = get_d_tabulate 8 0 q d h ∙ ap f (omega arith)
+  at_place q d h = get_or_tabulate 8 0 q d h ∙ ap f (omega arith)
 
 -- A list with what stands at a place changed.
 
@@ -232,10 +232,10 @@ module _ {X : Type 0} where
   on-other p a f e = rw (ne_eqb a.0 p e)
 
 -- what stands at a place of a mapped list
-pub get_d_map : {A B : Type 0} (f : A → B) (l : List A) (k : ℕ) (d : A) (e : B) → k < length l → get_or (map f l) k e ≡ f (get_or l k d)
-get_d_map f [] k d e h = absurd (omega arith)
-get_d_map f (x ∷ l) zero d e h = refl
-get_d_map f (x ∷ l) (suc k) d e h = get_d_map f l k d e (omega arith)
+pub get_or_map : {A B : Type 0} (f : A → B) (l : List A) (k : ℕ) (d : A) (e : B) → k < length l → get_or (map f l) k e ≡ f (get_or l k d)
+get_or_map f [] k d e h = absurd (omega arith)
+get_or_map f (x ∷ l) zero d e h = refl
+get_or_map f (x ∷ l) (suc k) d e h = get_or_map f l k d e (omega arith)
 
 -- One more is tried until the first that fails a test.
 

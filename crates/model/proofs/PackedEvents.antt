@@ -12,7 +12,7 @@ use Rattle.octets.specs.Parts.{zeros}
 use Rattle.model.specs.Lists.{All, tabulate}
 use Rattle.model.specs.Declarations.{Said, declared_id, declared_ids}
 use Rattle.model.specs.WrittenFrames.{listener_number, said, event_said, three_octet, four_octet}
-use Rattle.model.proofs.Lists.{get_d_tabulate, length-tabulate}
+use Rattle.model.proofs.Lists.{get_or_tabulate, length-tabulate}
 use Rattle.model.proofs.Parts.{tabulate-zeros}
 
 -- one place of a list made from a function is changed
@@ -24,7 +24,7 @@ tabulate-set f g n k v h e same =
     long f = length-tabulate f n 0
 
     there : (f : ℕ → ℕ) (i : ℕ) → i < n → get_or (tabulate n 0 f) i 0 ≡ f i
-    there f i l = get_d_tabulate f n 0 i 0 l ∙ ap f (omega arith)
+    there f i l = get_or_tabulate f n 0 i 0 l ∙ ap f (omega arith)
 
     go : (i : ℕ) → i < n → (t : Bool) → eqb i k ≡ t → get_or (set (tabulate n 0 f) k v) i 0 ≡ get_or (tabulate n 0 g) i 0
     go i l true q =

@@ -23,7 +23,7 @@ use Rattle.model.specs.Best.{best}
 use Rattle.model.specs.Declarations.{Declaration, talker_declaration, listener_declaration, domain_declaration, talker_kind, attribute_of, join_of, Said, leave_of, hear_of, asked_of, said_acts, declared_id, declared_ids, having}
 use Rattle.model.specs.WrittenFrames.{listener_number, said, event_said, three_octet, four_octet, first_numbers, four_octets, declaration_vector, packed_vector, cut_as, listener_parts}
 use Rattle.model.specs.Laid.{Ascending}
-use Rattle.model.proofs.Lists.{all_map, all_take, all_drop, get_d_tabulate}
+use Rattle.model.proofs.Lists.{all_map, all_take, all_drop, get_or_tabulate}
 use Rattle.model.proofs.Ascents.{ascending-rising, ascending-take, ascending-drop, rises-last}
 use Rattle.model.proofs.LeastCutting.{best-cuts}
 use Rattle.model.proofs.OneCutting.{best-least, best-only}
@@ -134,14 +134,14 @@ unfolding three_length
 three-at e b n i h =
     let s : 0 + i / 3 ≡ i / 3 = omega arith in
     let t : i / 3 * 3 + i % 3 ≡ i = omega arith in
-    rw (get_d_tabulate (three_octet e) ((n + 2) / 3) 0 (i / 3) 0 (omega arith), s) (three_back e b (i / 3) (i % 3) (omega arith) ∙ ap e t)
+    rw (get_or_tabulate (three_octet e) ((n + 2) / 3) 0 (i / 3) 0 (omega arith), s) (three_back e b (i / 3) (i % 3) (omega arith) ∙ ap e t)
 
 four-at : (e : ℕ → ℕ) → ((j : ℕ) → e j < 4) → (n i : ℕ) → i < n → four_packed (get_or (tabulate (four_length true n) 0 (four_octet e)) (i / 4) 0) (i % 4) ≡ e i
 unfolding four_length
 four-at e b n i h =
     let s : 0 + i / 4 ≡ i / 4 = omega arith in
     let t : i / 4 * 4 + i % 4 ≡ i = omega arith in
-    rw (get_d_tabulate (four_octet e) ((n + 3) / 4) 0 (i / 4) 0 (omega arith), s) (four-back e b (i / 4) (i % 4) (omega arith) ∙ ap e t)
+    rw (get_or_tabulate (four_octet e) ((n + 3) / 4) 0 (i / 4) 0 (omega arith), s) (four-back e b (i / 4) (i % 4) (omega arith) ∙ ap e t)
 
 -- a declaration type is at most 3
 number_small : (d : Declaration) → listener_number d < 4

@@ -20,7 +20,7 @@ use Rattle.model.specs.Why.{letter, same_step, first_name, last_name, step_on}
 use Rattle.model.specs.Table.{column_number}
 use Rattle.model.specs.Calls.{receive_mmrp}
 use Rattle.model.proofs.Lists.{at_place, at_each}
-use Rattle.model.proofs.AdvanceKeepsForm.{get_d_past}
+use Rattle.model.proofs.AdvanceKeepsForm.{get_or_past}
 use Rattle.model.proofs.ColumnRule.{tabulate-same}
 use Rattle.model.proofs.OwnCodes.{steps_of}
 use Rattle.model.proofs.StepNames.{every_step, every-all, every-not, is_own}
@@ -115,8 +115,8 @@ module _ (sc : Scene) (now : ℕ) (s : List Stream) (p : ℕ) (x : Stream) (o : 
 
   column-is : column_of sc now s p x
       ≡ cond (is_pruned sc.settings (own_at sc.owns p) o.registration.fixed) none (behind o.registration.varying.type)
-  unfolding column_of steps steps_from first outcome_column talker_type_of behind
-  column-is = rw (r.talks, r.port, ne_eqb p o.port r.other, r.supported)
+  unfolding column_of steps steps_from first outcome_of outcome_column talker_type_of behind
+  column-is = rw (r.talks, r.port, ne_eqb p o.port r.other, r.supported, r.talks)
 
   -- Column none is then given exactly where the setting is on and the address is not held.
   pub pruned-exactly : (column_of sc now s p x ≡ none)
@@ -242,6 +242,11 @@ module _ (st : Settings) (off : st.pruning ≡ false) (o o' : List Own) (i : Lis
     same-totals p = rw (same-claims p class_a s, same-claims p class_b s, same-limit p class_a, same-limit p class_b)
 
 -- An MMRP frame changes no Domain value and no flag of any port.
+-- behind the eighth port nothing is held
+past-eighth : (d : ℕ → Own) (q : ℕ) → (q < 8 → ⊥) → own_at (tabulate 8 0 d) q ≡ no_own
+unfolding tabulate
+past-eighth d q h = get_or_past (λ w. w ≡ no_own) 8 (tabulate 8 0 d) q no_own (omega arith) refl tt
+
 module _ (b : Bridge) (p : ℕ) (pdu : List ℕ) where
   abbrev after : Bridge
   after = (receive_mmrp b p pdu).bridge
@@ -272,12 +277,9 @@ module _ (b : Bridge) (p : ℕ) (pdu : List ℕ) where
       flags class_a = unfold boundary decide_own in (rw (same-domains q))
       flags class_b = unfold boundary decide_own in (rw (same-domains q))
 
-      past : (o : List Own) → (q < 8 → ⊥) → own_at (tabulate 8 0 (decide_own st now o)) q ≡ no_own
-      past o h = unfold tabulate in (get_d_past (λ w. w ≡ no_own) 8 (tabulate 8 0 (decide_own st now o)) q no_own (omega arith) refl tt)
-
       go : Dec (q < 8) → boundary (own_at (tabulate 8 0 (decide_own st now after.owns)) q) c ≡ boundary (own_at (tabulate 8 0 (decide_own st now b.owns)) q) c
       go (yes h) = rw (at_place (decide_own st now after.owns) q no_own h, at_place (decide_own st now b.owns) q no_own h) (flags c)
-      go (no h) = rw (past after.owns h, past b.owns h)
+      go (no h) = rw (past-eighth (decide_own st now after.owns) q h, past-eighth (decide_own st now b.owns) q h)
 
   -- With pruning off it changes no result: advanced to any time, the bridge has the same streams with the same results, and the same
   -- totals, as without the frame.

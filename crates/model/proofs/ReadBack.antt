@@ -29,10 +29,10 @@ use Rattle.model.specs.Declarations.{Declaration, talker_declaration, listener_d
 use Rattle.model.specs.WrittenFrames.{priority_octet, fixed_numbers, failure_numbers, first_numbers, four_octets, declaration_vector, packed_vector, listener_parts, vectors_of, vector_octets, message_of, with_leave_all, empty_vector, leaving_all, vectors_said, message_octets, pdu_octets}
 use Rattle.model.specs.Laid.{Ascending}
 use Rattle.model.specs.Writing.{leaves_all, port_way, say_on, takes_on, wrote_on, after_write, Written, write}
-use Rattle.model.proofs.Lists.{all_map, all-each, all_append, all_take, all_drop, all_keep, all_get_d, length-tabulate, and_left, and_right, and-false}
+use Rattle.model.proofs.Lists.{all_map, all-each, all_append, all_take, all_drop, all_keep, all_get_or, length-tabulate, and_left, and_right, and-false}
 use Rattle.model.proofs.Valid.{Valid, ValidFixed, ValidTalkerType, ValidVarying, GoodApplicant, ValidOffer, ValidFailed, ValidSends, ValidStream}
 use Rattle.model.proofs.Parts.{rising-ascends}
-use Rattle.model.proofs.AdvanceKeepsForm.{all-mapped, get_d_past}
+use Rattle.model.proofs.AdvanceKeepsForm.{all-mapped, get_or_past}
 use Rattle.model.proofs.WritingPasses.{length-first, known-type, in_turn, all-of-saying, NotBefore, OfAttribute, InOrder, all-of-kind, having-attribute, having-none, run-in-order, run_fits, FewListeners, FewStreams, run-few}
 use Rattle.model.proofs.PackedVectors.{IsEvent, Packs, parts-pack, packed-events, packed-within, Within, acts-said, counted, listener-acts, parts-acts, no-domain}
 
@@ -933,7 +933,7 @@ slots-all b v p = go (ltb p ports) refl
     go : (t : Bool) → ltb p ports ≡ t → length (sender_at b.senders p).domains ≡ slots
     go true e = (v.senders p (ltb-true p ports e)).slotted
     go false e =
-        unfold sender_at in (get_d_past Slotted ports b.senders p no_sender (ltb-false p ports e) none (all_map (λ x. x ≡ no_sender) Slotted (λ x q. rw q none) (drop ports b.senders) v.no-other-senders))
+        unfold sender_at in (get_or_past Slotted ports b.senders p no_sender (ltb-false p ports e) none (all_map (λ x. x ≡ no_sender) Slotted (λ x q. rw q none) (drop ports b.senders) v.no-other-senders))
 
 pub declarations-within : (b : Bridge) → Valid b → (p : ℕ) → All ValidListed (declarations b p)
 unfolding declarations
@@ -947,7 +947,7 @@ declarations-within b h p =
     Ok = ValidStream (length b.settings.ports) b.clock b.settings.leave_time
 
     sends : (x : Stream) → Ok x → ValidSends (sends_at x p)
-    sends x o = unfold sends_at in (all_get_d ValidSends x.sends o.sends no_sends (unfold no_sends in record { advertising = tt; failing = tt }) p)
+    sends x o = unfold sends_at in (all_get_or ValidSends x.sends o.sends no_sends (unfold no_sends in record { advertising = tt; failing = tt }) p)
 
     of : (j : Kind) → All ValidListed (of_kind j p b.streams)
     of j =

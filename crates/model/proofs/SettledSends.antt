@@ -13,7 +13,7 @@ use Rattle.model.specs.Machines.{Applicant, no_applicant, applicant, Decided, un
 use Rattle.model.specs.State.{Cell, Fixed, Result, Sends, Stream, Bridge, no_fixed, unsettled, no_sends, fresh, result_at, sends_at}
 use Rattle.model.specs.Registrations.{Kind, advertises, faileds, listeners, Act, leave_all, leave, talk, listen, hear_all, hear, of_domain, does, move_kind, hears, moves, at, change, begun, touch, reach, apply, apply_all, Reading, refused, acts, Answer, holding, owning, sending, apply_owns, apply_senders, received}
 use Rattle.model.specs.Settling.{is_applicant, advertised_by, failed_by, listened_by, same_offer, same_failed, same_ready, declare_sends, declare, deciding, declaring, settle}
-use Rattle.model.proofs.Lists.{all_get_d, all_replicate, at_place}
+use Rattle.model.proofs.Lists.{all_get_or, all_replicate, at_place}
 use Rattle.model.proofs.ApplicantEntries.{tables}
 use Rattle.model.proofs.Deciding.{Stands, Holds, Unsent, decided-stands, withdrawn-unsent}
 use Rattle.model.proofs.AdvanceKeepsForm.{all-mapped, all-dropped}
@@ -238,8 +238,8 @@ nothing-sent = record { advertising = tt; failing = tt; listening = tt }
 fresh-sent : (i : ℕ) → Sent (fresh i)
 unfolding fresh result_at sends_at
 fresh-sent i p h =
-    let none : get_or (replicate 8 unsettled) p unsettled ≡ unsettled = all_get_d (λ r. r ≡ unsettled) (replicate 8 unsettled) (all_replicate (λ r. r ≡ unsettled) 8 unsettled refl) unsettled refl p in
-    let silent : get_or (replicate 8 no_sends) p no_sends ≡ no_sends = all_get_d (λ r. r ≡ no_sends) (replicate 8 no_sends) (all_replicate (λ r. r ≡ no_sends) 8 no_sends refl) no_sends refl p in
+    let none : get_or (replicate 8 unsettled) p unsettled ≡ unsettled = all_get_or (λ r. r ≡ unsettled) (replicate 8 unsettled) (all_replicate (λ r. r ≡ unsettled) 8 unsettled refl) unsettled refl p in
+    let silent : get_or (replicate 8 no_sends) p no_sends ≡ no_sends = all_get_or (λ r. r ≡ no_sends) (replicate 8 no_sends) (all_replicate (λ r. r ≡ no_sends) 8 no_sends refl) no_sends refl p in
     rw (none, silent) nothing-sent
 
 module _ (i : ℕ) (u : Stream → Stream) (keeps : (x : Stream) → Sent x → Sent (u x)) where

@@ -24,7 +24,7 @@ use Rattle.model.specs.Laid.{FitSettings, FitOwn, FitSender, FitStream, FitTotal
 use Rattle.model.proofs.Lists.{and_left, and_right, and_both, all_map, all-each, all_drop, all_replicate, at_place, length-tabulate, all_true_lem, true-all, implied, implies_true}
 use Rattle.model.proofs.Valid.{ValidCell, ValidResult, ValidPort, ValidFixed, ValidOwn, ValidStream, Rising, Valid}
 use Rattle.model.proofs.Parts.{◌also◌, octets-at, packed-whole, octets-append, octets-take, octets-drop, octets-part, octets-zeros, octets-packed, octets-flat, length-zeros, zero-zeros, zeros-zero, part-between, length-parts, parts-map, Sized, length-flat-sized, parts-flat, many_read, every-read, every-forth, every-flat, rising-rises, rises-rising, zero-behind}
-use Rattle.model.specs.Frames.{priority_of, rank_of, also}
+use Rattle.model.specs.Frames.{priority_of, rank_of}
 use Rattle.model.proofs.Stored.{port-kept, ports-kept}
 use Rattle.model.proofs.Cells.{fixed-fit, fixed_back, fixed-forth, fixed-valid, priority-spare, cell-length, cell-octets, cells-sized, cell-back, cell-formed, cell-forth, cell-valid, cell-zeros, holds_parts, held-append, held-empty}
 use Rattle.model.proofs.Results.{result-length, result-octets, results-sized, result-back, result-formed, result-forth, result-valid, result-zeros}

@@ -15,7 +15,7 @@ use Rattle.model.specs.Frames.{Asking, nothing_asked, join, withdraw}
 use Rattle.model.specs.Table.{stands, is_standing}
 use Rattle.model.specs.Settling.{is_applicant}
 use Rattle.model.specs.Declarations.{Declaration, talker_declaration, listener_declaration, domain_declaration, join_of, listed_as, advertise_of, failed_of, declarations_of, of_kind, domain_of, domain_values, declarations, leave_of, hear_of, asked_of}
-use Rattle.model.proofs.Lists.{at_here, at_other, length_at, get_d_map}
+use Rattle.model.proofs.Lists.{at_here, at_other, length_at, get_or_map}
 use Rattle.model.proofs.ToldStreams.{Effect, asks_for, asks_acts, both-tell}
 use Rattle.model.proofs.Following.{WhenQuiet, Quiet, Stands, passed, passed-quiet, passed-same}
 
@@ -54,7 +54,7 @@ module _ (now j : ℕ) where
   slot-act : (a : DomainAct) (ds : List Domain) → j < length ds
       → (get_or (does_domain now a ds) j no_domain ≡ slot_on now j (of_domain a) (get_or ds j no_domain)) × (j < length (does_domain now a ds))
   unfolding does_domain slot_on
-  slot-act leave_all_domains ds h = (get_d_map (quit_domain now) ds j no_domain no_domain h, omega (arith, length-map ds (quit_domain now)))
+  slot-act leave_all_domains ds h = (get_or_map (quit_domain now) ds j no_domain no_domain h, omega (arith, length-map ds (quit_domain now)))
   slot-act (leave_domain i) ds h = (one-slot i (quit_domain now) ds h, omega (arith, length_at i (quit_domain now) ds))
   slot-act (join_domain i v) ds h = (one-slot i (λ d. domain v stays) ds h, omega (arith, length_at i (λ (d : Domain). domain v stays) ds))
   slot-act hear_all_domains ds h = (refl, h)

@@ -16,7 +16,7 @@ use Rattle.model.specs.State.{Cell, Sends, Stream, Settings, Bridge, empty, blan
 use Rattle.model.specs.Registrations.{Kind, advertises, faileds, listeners, Act, leave_all, leave, talk, listen, hear_all, hear, of_domain, quit_talker, quit_listener, quit, does, moves, at, change, touch, begun, reach, apply, apply_all, ids, joins}
 use Rattle.model.specs.Frames.{Asking, nothing_asked, join, withdraw, asking, event, heard_of}
 use Rattle.model.specs.Declarations.{Declaration, talker_declaration, listener_declaration, domain_declaration, join_of, listed_as, advertise_of, failed_of, declarations_of, of_kind, domain_of, domain_values, declarations, say, leave_of, hear_of, asked_of, said_acts, declared_id}
-use Rattle.model.proofs.Lists.{all_map, all_replicate, all_get_d, at_here, length_at}
+use Rattle.model.proofs.Lists.{all_map, all_replicate, all_get_or, at_here, length_at}
 use Rattle.model.proofs.Valid.{Rising}
 use Rattle.model.proofs.ApplicantEntries.{tables}
 use Rattle.model.proofs.Commute.{Keeps, fresh-id, touch-nil, touch-before, touch-here, touch-past, Tri, less, same, more, tri, acted, acted-keeps, at-fixed}
@@ -313,7 +313,7 @@ module _ (now i : ℕ) where
 -- a stream that is not held says nothing
 fresh-sends : (i p : ℕ) → sends_at (fresh i) p ≡ no_sends
 unfolding sends_at fresh
-fresh-sends i p = all_get_d (λ s. s ≡ no_sends) (replicate 8 no_sends) (all_replicate (λ s. s ≡ no_sends) 8 no_sends refl) no_sends refl p
+fresh-sends i p = all_get_or (λ s. s ≡ no_sends) (replicate 8 no_sends) (all_replicate (λ s. s ≡ no_sends) 8 no_sends refl) no_sends refl p
 
 silent-kind : (k : Kind) (now i : ℕ) (c : Cell) → c ≡ tells_kind k now i i no_sends c
 unfolding tells_kind tells no_sends

@@ -22,7 +22,7 @@ use Rattle.model.specs.WrittenFrames.{pdu_octets}
 use Rattle.model.specs.Writing.{leaves_all, port_way, say_on, takes_on, wrote_on, moved_sender, after_write, Written, write}
 use Rattle.model.specs.Calls.{receive}
 use Rattle.model.specs.Layout.{slots}
-use Rattle.model.proofs.Lists.{all_map, all_take, all_get_d, at_here}
+use Rattle.model.proofs.Lists.{all_map, all_take, all_get_or, at_here}
 use Rattle.model.proofs.Valid.{Valid, ValidOwn, ValidStream}
 use Rattle.model.proofs.PlaceLists.{no_length}
 use Rattle.model.proofs.Passing.{left-to-say, taken, run_is, say-next, nothing_left, takes_one}
@@ -76,7 +76,7 @@ listed-port b p v e =
     record {
       ascending = v.ascending;
       sender = omega (arith, small, v.eight-senders);
-      slots = all_get_d (λ o. length o.domains ≡ slots) b.owns (all_map (ValidOwn b.clock b.settings.leave_time) (λ o. length o.domains ≡ slots) (λ o w. w.slotted) b.owns v.owns) no_own (unfold no_own in (length-replicate slots no_domain)) (p - 1)
+      slots = all_get_or (λ o. length o.domains ≡ slots) b.owns (all_map (ValidOwn b.clock b.settings.leave_time) (λ o. length o.domains ≡ slots) (λ o w. w.slotted) b.owns v.owns) no_own (unfold no_own in (length-replicate slots no_domain)) (p - 1)
           ∙ sym (v.senders (p - 1) there).slotted;
     }
 
@@ -371,7 +371,7 @@ module _ (a : Bridge) (p : ℕ) (start : Passing a p 0) (b : Bridge) (v : Valid 
     there : Slot b.clock j (q - 1) b.owns
     there = (
       omega (arith, place, v.eight-owns),
-      omega (arith, slot, all_get_d (λ o. length o.domains ≡ slots) b.owns (all_map (ValidOwn b.clock b.settings.leave_time) (λ o. length o.domains ≡ slots) (λ o w. w.slotted) b.owns v.owns) no_own (unfold no_own in (length-replicate slots no_domain)) (q - 1)),
+      omega (arith, slot, all_get_or (λ o. length o.domains ≡ slots) b.owns (all_map (ValidOwn b.clock b.settings.leave_time) (λ o. length o.domains ≡ slots) (λ o w. w.slotted) b.owns v.owns) no_own (unfold no_own in (length-replicate slots no_domain)) (q - 1)),
     )
 
     domain-received : domain_for (q - 1) j (receive_all q (pass_pdus a p) b).owns ≡ tells_slot b.clock a.settings.vlan sender (domain_for (q - 1) j b.owns)

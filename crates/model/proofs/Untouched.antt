@@ -10,7 +10,7 @@ use Rattle.model.specs.State.{Settings, Fixed, Own, Stream, Bridge, fresh, unset
 use Rattle.model.specs.Bandwidth.{key, above, remains}
 use Rattle.model.specs.Settling.{Scene, Inbound, inbounds_of, shares, is_kept_out, decide_owns, remain, Source, nowhere, from, source_of, fixed_of, stream_class, boundary, holds_address, is_pruned, steps_from, steps, claim, claims, reserved_a, limit_on, left_for, column_of, decide_at, decide, total_on, deciding, settle}
 use Rattle.model.specs.Table.{column_code}
-use Rattle.model.proofs.Lists.{get_d_map, at_place}
+use Rattle.model.proofs.Lists.{get_or_map, at_place}
 use Rattle.model.proofs.ColumnRule.{reserved-a}
 use Rattle.model.proofs.ComingIn.{at_talker, sharing, kept_out}
 
@@ -124,5 +124,5 @@ pub settled-result : (now : ℕ) (b : Bridge) (k p : ℕ) → k < length (remain
     result_at (stream_at k (deciding now b)) p ≡ decide_at (scene_at now b) now (remaining now b) (get_or (remaining now b) k (fresh 0)) p
 unfolding deciding
 settled-result now b k p h port =
-    ap (λ (y : Stream). result_at y p) (get_d_map (decide (scene_at now b) now (remaining now b)) (remaining now b) k (fresh 0) (fresh 0) h)
+    ap (λ (y : Stream). result_at y p) (get_or_map (decide (scene_at now b) now (remaining now b)) (remaining now b) k (fresh 0) (fresh 0) h)
     ∙ (unfold decide result_at in (at_place (decide_at (scene_at now b) now (remaining now b) (get_or (remaining now b) k (fresh 0))) p unsettled port))

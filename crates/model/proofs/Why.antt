@@ -35,7 +35,7 @@ code-named st s n = go (about n).outcome
   where
     go : (o : Outcome) → is_registered o ≡ false → column_code (outcome_column st s o) ≡ own_code o
     go o = unfold is_registered outcome_column column_code own_code in
-        elim o [ column_none ↦ λ h. refl | as_registered ↦ λ h. absurd (true≢false h) | as_advertise ↦ λ h. refl | own_failure c ↦ λ h. refl ]
+        elim o as (λ k. is_registered k ≡ false → column_code (outcome_column st s k) ≡ own_code k) [ column_none ↦ λ h. refl | as_registered ↦ λ h. absurd (true≢false h) | as_advertise ↦ λ h. refl | own_failure c ↦ λ h. refl ]
 
 module _ (sc : Scene) (p : ℕ) (x : Stream) where
   -- whatever follows the steps
@@ -76,7 +76,7 @@ before-each l h = all_map (λ t. others t.name ≡ true) Before (λ t. both (sam
 
 pub before-from : (sc : Scene) (p : ℕ) (here : Cell) (n : ℕ) (o : Source) → All Before (steps_from sc p here n o)
 unfolding steps_from every_step others same_step letter
-before-from sc p here n o = before-each (steps_from sc p here n o) (elim o [ nowhere ↦ refl | from q ↦ refl ])
+before-from sc p here n o = before-each (steps_from sc p here n o) (elim o as (λ k. every_step others (steps_from sc p here n k) ≡ true) [ nowhere ↦ refl | from q ↦ refl ])
 
 before-all : (sc : Scene) (p : ℕ) (x : Stream) → All Before (steps sc p x)
 unfolding steps same_step letter

@@ -248,8 +248,8 @@ unfoldable pub sender_at : List Sender → ℕ → Sender
 sender_at l p = get_or l p no_sender
 
 -- what the port at place p holds by itself
-abbrev pub field_own : List Own → ℕ → Own
-field_own o p = get_or o p no_own
+abbrev pub own_at : List Own → ℕ → Own
+own_at o p = get_or o p no_own
 
 -- Classes (01, settings' class priorities; 35.2.2.9.2).
 

@@ -13,7 +13,7 @@ use Rattle.model.specs.Sending.{sends_octets, to_sends}
 use Rattle.model.specs.Settling.{declare_sends, declare}
 use Rattle.model.specs.Table.{result_octets, encode, decode}
 use Rattle.model.specs.Laid.{FitResult, FitSends, FitStream}
-use Rattle.model.proofs.Lists.{all_get_d}
+use Rattle.model.proofs.Lists.{all_get_or}
 use Rattle.model.proofs.Fits.{fit-fixed, fit-sends, laid-sends-is, settled-fits, valid-sends-fit}
 use Rattle.table.specs.Places.{Stands, StandsOn}
 use Rattle.table.specs.Reads.{fixed_octets, ReadsFixed, ReadsResult, ReadsSends}
@@ -78,8 +78,8 @@ module _ (x : Stream) (w : FitStream x) where
   pub declared-at-fits : (q : ℕ) → FitSends (declared_at x q)
   unfolding result_at sends_at
   declared-at-fits q =
-      let r = all_get_d FitResult x.results w.results unsettled unsettled-fits q in
-      let y = all_get_d FitSends x.sends w.sends no_sends no-sends-fit q in
+      let r = all_get_or FitResult x.results w.results unsettled unsettled-fits q in
+      let y = all_get_or FitSends x.sends w.sends no_sends no-sends-fit q in
       valid-sends-fit (declared_at x q)
       (sent-valid x.settled (result_at x q) (fit-fixed x.settled (settled-fits x w) w.rank) r (sends_at x q) (fit-sends (sends_at x q) y))
 

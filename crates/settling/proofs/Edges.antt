@@ -17,7 +17,7 @@ use Rattle.model.specs.Registrations.{change_addresses, change_domains, macs, ow
 use Rattle.model.specs.Settling.{expire_domain, outlasts, remain_addresses, domains_of, any_supports, is_edge, flag_of, decide_own, decide_owns}
 use Rattle.model.specs.Table.{address_numbers, to_own, own_octets, encode, decode}
 use Rattle.model.specs.Laid.{Ascending, FitAddresses, FitOwn, LaidOwn}
-use Rattle.model.proofs.Lists.{all_get_d, all_replicate, all-tabulate}
+use Rattle.model.proofs.Lists.{all_get_or, all_replicate, all-tabulate}
 use Rattle.model.proofs.AdvanceKeepsForm.{length-tabulate, fewer-addresses, macs-remain}
 use Rattle.model.proofs.Owns.{own-length, own-fit-back}
 use Rattle.model.proofs.Fits.{laid-fits}
@@ -181,7 +181,7 @@ module _ (st : Settings) (now : ℕ) (l : List Own) (a : All FitOwn l) where
   pub decision-fits : (p : ℕ) → FitOwn (decide_own st now l p)
   decision-fits p =
       rw (decided-own st now l p) at
-      (flagged-fits st p (expired_own st now (own_at l p)) (expired-fits st now (own_at l p) (all_get_d FitOwn l a no_own no-own-fits p)))
+      (flagged-fits st p (expired_own st now (own_at l p)) (expired-fits st now (own_at l p) (all_get_or FitOwn l a no_own no-own-fits p)))
 
   pub decisions-fit : All FitOwn (decide_owns st now l)
   unfolding decide_owns

@@ -18,7 +18,7 @@ use Rattle.model.specs.State.{asking_failed, ready, ready_failed, Column, none, 
 use Rattle.model.specs.Settling.{Source, nowhere, from, source_of, is_source, registered, passed, same_ready, merge, merge_all}
 use Rattle.model.specs.Table.{column_number, declared_number, result_numbers, result_octets, to_result, encode, decode}
 use Rattle.model.specs.Laid.{FitResult, FitStream, LaidResult}
-use Rattle.model.proofs.Lists.{all_get_d, all-tabulate}
+use Rattle.model.proofs.Lists.{all_get_or, all-tabulate}
 use Rattle.model.proofs.Parts.{◌also◌}
 use Rattle.model.proofs.Results.{declared-few}
 use Rattle.model.proofs.AdvanceKeepsForm.{length-tabulate}
@@ -151,7 +151,7 @@ unfolding merged_at result_at
 merged-at-fits x w p = go (is_source (source_of x) p)
   where
     r : FitResult (result_at x p)
-    r = all_get_d FitResult x.results w.results unsettled unsettled-fits p
+    r = all_get_or FitResult x.results w.results unsettled unsettled-fits p
 
     go : (t : Bool) → FitResult (cond t (declaring (merged_shown x) (result_at x p)) (result_at x p))
     go true = declaring-fits (merged_shown x) (result_at x p) r

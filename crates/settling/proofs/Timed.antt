@@ -12,7 +12,7 @@ use Rattle.model.specs.Registrations.{at, sending}
 use Rattle.model.specs.Settling.{time_sender}
 use Rattle.model.specs.Table.{encode, decode}
 use Rattle.model.specs.Laid.{FitSender, Laid}
-use Rattle.model.proofs.Lists.{all_get_d}
+use Rattle.model.proofs.Lists.{all_get_or}
 use Rattle.model.proofs.SenderOctets.{sender-coded}
 use Rattle.model.proofs.Fits.{laid-is, laid-fits}
 use Rattle.table.specs.Places.{PortIn}
@@ -39,7 +39,7 @@ module _ (st : Settings) (now : ℕ) (small : now < 2 ^ 32) (l : List Sender) (w
   time-fits q = go (is_port st q)
     where
       s : FitSender (get_or l q no_sender)
-      s = all_get_d FitSender l w no_sender sender-coded.good q
+      s = all_get_or FitSender l w no_sender sender-coded.good q
 
       go : (t : Bool) → FitSender (cond t (timed now (get_or l q no_sender)) (get_or l q no_sender))
       go true = timed-fits now small (get_or l q no_sender) s

@@ -23,7 +23,7 @@ use Rattle.model.proofs.SettingsOctets.{head, head-length, port-length, id-read,
 use Rattle.model.proofs.Tables.{settings_whole, clock_and_count, totals_whole, owns_whole, senders_whole, records_whole, behind_totals, encode-parts, clock-length, settings-whole-length, totals-whole-length, owns-whole-length, senders-whole-length, whole_length, totals-sized, no-totals, clock-read, count-read, fit-whole}
 use Rattle.model.proofs.Fits.{laid-is, laid-fits}
 use Rattle.table.specs.Updates.{clocked, totalled}
-use Rattle.table.proofs.Lens.{at_set, patch-between, part-one, patch-one, all_get_d}
+use Rattle.table.proofs.Lens.{at_set, patch-between, part-one, patch-one, all_get_or}
 
 -- all that stands before the records
 unfoldable pub header : Bridge → List ℕ
@@ -144,7 +144,7 @@ no-port-fits = fit-zeros port_widths
 
 pub port-fits : (st : Settings) → FitSettings st → (p : ℕ) → Fit port_widths (port_numbers (port_at st p))
 unfolding port_at
-port-fits st w p = all_get_d (λ q. Fit port_widths (port_numbers q)) st.ports w.ports no_port no-port-fits p
+port-fits st w p = all_get_or (λ q. Fit port_widths (port_numbers q)) st.ports w.ports no_port no-port-fits p
 
 module _ (b : Bridge) (w : FitBridge b) (p a : ℕ) (h : p < 8) (e : a ≡ port_place p) where
   pub port-part : part a port_size (encode b) ≡ port_octets (port_at b.settings p)

@@ -8,7 +8,7 @@ use lib.ListN.{get_or, drop}
 use lib.Seq.{get_or-drop, drop-drop}
 use borrow.Author.Tests.{eq-eqb, ne_eqb}
 use Rattle.octets.specs.Parts.{part}
-use Rattle.octets.proofs.Frame.{get_d_part}
+use Rattle.octets.proofs.Frame.{get_or_part}
 use Rattle.model.specs.Layout.{all_sends_size, cell_in, cell_size, in_record, cells_size, in_cell, in_sends, sends_in, sends_size}
 use Rattle.model.specs.Settling.{held, any_sending}
 use Rattle.model.specs.Table.{to_stream, cells_part, holds, all_sends_part, sends}
@@ -53,7 +53,7 @@ module _ (k : ℕ) (s : List ℕ) where
 
 -- octet i of the thing at place p among those of n octets from b on
 octet : (b m n p i a : ℕ) (s : List ℕ) → p * n + i < m → a ≡ b + (p * n + i) → get_or (drop (p * n) (part b m s)) i 0 ≡ get_or s a 0
-octet b m n p i a s h e = get_or-drop (p * n) (part b m s) i 0 ∙ get_d_part b m (p * n + i) s h ∙ ap (λ (k : ℕ). get_or s k 0) (sym e)
+octet b m n p i a s h e = get_or-drop (p * n) (part b m s) i 0 ∙ get_or_part b m (p * n + i) s h ∙ ap (λ (k : ℕ). get_or s k 0) (sym e)
 
 -- from cell p on
 unfoldable pub holds_from : ℕ → List ℕ → Bool

@@ -12,7 +12,7 @@ pub use Rattle.octets.proofs.Patches.{lent-patch, patch-between}
 use Rattle.model.specs.Lists.{All}
 use Rattle.model.specs.Registrations.{at}
 use Rattle.model.proofs.Lists.{all_take}
-pub use Rattle.model.proofs.Lists.{all-at, all_get_d}
+pub use Rattle.model.proofs.Lists.{all-at, all_get_or}
 use Rattle.model.proofs.Parts.{Sized, part-between, length-flat-sized}
 
 -- one of a list changed, as what is read there is replaced
