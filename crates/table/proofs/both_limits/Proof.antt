@@ -10,22 +10,22 @@ use Rattle.model.specs.Table.{to_port, port_from}
 use Rattle.table.proofs.both_limits.Statement.{statement}
 use Rattle.table.proofs.both_limits.Tie as tie
 
-returns : tie.Need-returns
+returns : tie.Need-returns-then-flags-eq1
 unfolding both_limits to_port port_from is_one fields
 returns c =
-    let limit-a = c.get3.ensures in
-    let flags = c.before.before.get2.ensures.0 in
-    let limit-b = c.before.before.before.get.ensures in
-    (rw (← flags, eq-eqb _ 1 c.before.if1.true, limit-a.0, limit-b.0), omega (arith, limit-a.1, limit-b.1))
+    let limit-a = c.get.ensures in
+    let flags = c.get-flags.ensures.0 in
+    let limit-b = c.get-limit_b.ensures in
+    (rw (← flags, eq-eqb _ 1 c.if-flags-eq1.true, limit-a.0, limit-b.0), omega (arith, limit-a.1, limit-b.1))
 
-returns-2 : tie.Need-returns-2
+returns-2 : tie.Need-returns
 unfolding both_limits to_port port_from is_one fields
 returns-2 c =
-    let flags = c.before.get2.ensures.0 in
-    let limit-b = c.before.before.get.ensures in
-    (rw (← flags, ne_eqb _ 1 c.if1.false, zero-add, limit-b.0), omega (arith, limit-b.1))
+    let flags = c.get-flags.ensures.0 in
+    let limit-b = c.get-limit_b.ensures in
+    (rw (← flags, ne_eqb _ 1 c.if-flags-eq1.false, zero-add, limit-b.0), omega (arith, limit-b.1))
 
-pub both-limits-spec : {M : Type 1} → statement M
-both-limits-spec =
+pub both_limits_spec : {M : Type 1} → statement M
+both_limits_spec =
     tie.close
     (tie.spec (λ c κs. search rules) (λ c κs. search rules) (λ c κs. search rules) (λ c. search rules) returns returns-2)

@@ -6,10 +6,10 @@ use Rattle.table.proofs.bridge_id.Statement.{statement}
 use Rattle.table.proofs.bridge_id.Tie as tie
 
 get-requires : tie.Need-get-requires
-get-requires c κs = omega (arith, laid-length _ c.before.requires)
+get-requires c κs = omega (arith, laid-length _ c.requires)
 
 returns : tie.Need-returns
-returns c = c.get.ensures.0 ∙ laid-bridge-id _ c.before.before.requires
+returns c = c.get.ensures.0 ∙ laid-bridge-id _ c.requires
 
-pub bridge-id-spec : {M : Type 1} → statement M
-bridge-id-spec = tie.close (tie.spec get-requires returns)
+pub bridge_id_spec : {M : Type 1} → statement M
+bridge_id_spec = tie.close (tie.spec get-requires returns)

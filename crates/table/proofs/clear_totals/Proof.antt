@@ -10,12 +10,12 @@ use Rattle.table.proofs.clear_totals.Statement.{statement}
 use Rattle.table.proofs.clear_totals.Tie as tie
 
 clear-requires : tie.Need-clear-requires
-clear-requires c κs = omega (arith, laid-length _ c.before.before.requires)
+clear-requires c κs = omega (arith, laid-length _ c.requires)
 
 returns : tie.Need-returns
 returns c =
-    let l = c.before.before.before.before.before.requires in
-    c.before.before.clear.ensures ∙ ap (patch in_table.totals totals_size (zeros totals_size)) (laid-is _ l) ∙ totals-cleared _ (laid-fits _ l)
+    let l = c.requires in
+    c.clear.ensures ∙ ap (patch in_table.totals totals_size (zeros totals_size)) (laid-is _ l) ∙ totals-cleared _ (laid-fits _ l)
 
-pub clear-totals-spec : {M : Type 1} → statement M
-clear-totals-spec = tie.close (tie.spec (λ c. search rules) clear-requires (λ c. search rules) returns)
+pub clear_totals_spec : {M : Type 1} → statement M
+clear_totals_spec = tie.close (tie.spec (λ c. search rules) clear-requires (λ c. search rules) returns)

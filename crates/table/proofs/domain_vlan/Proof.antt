@@ -8,10 +8,10 @@ use Rattle.table.proofs.domain_vlan.Statement.{statement}
 use Rattle.table.proofs.domain_vlan.Tie as tie
 
 get-requires : tie.Need-get-requires
-get-requires c κs = omega (arith, laid-length _ c.before.requires)
+get-requires c κs = omega (arith, laid-length _ c.requires)
 
 returns : tie.Need-returns
-returns c = ap (λ (n : ℕ). n % pruning_unit) c.get.ensures.0 ∙ laid-domain-vlan _ c.before.before.requires
+returns c = ap (λ (n : ℕ). n % pruning_unit) c.get.ensures.0 ∙ laid-domain-vlan _ c.requires
 
-pub domain-vlan-spec : {M : Type 1} → statement M
-domain-vlan-spec = tie.close (tie.spec get-requires returns)
+pub domain_vlan_spec : {M : Type 1} → statement M
+domain_vlan_spec = tie.close (tie.spec get-requires returns)

@@ -25,65 +25,65 @@ record Dropping (t₀ : List ℕ) (n : ℕ) (t : List ℕ) (j i : ℕ) : Type 0 
   count : n ≡ length (decode t₀).streams
   closing : Closing (decode t₀) t i j
 
-abbrev invariant-loop : tie.invariant-loop
-invariant-loop table₀ n j₀ i₀ table j i = Dropping table₀ n table j i
+abbrev invariant-loop-i : tie.invariant-loop-i
+invariant-loop-i table₀ n j₀ i₀ table j i = Dropping table₀ n table j i
 
-abbrev decreases-loop : tie.decreases-loop
-decreases-loop table₀ n j₀ i₀ table j i = n - i
+abbrev decreases-loop-i : tie.decreases-loop-i
+decreases-loop-i table₀ n j₀ i₀ table j i = n - i
 
-loop-holds : tie.Need-loop-init invariant-loop decreases-loop
+loop-holds : tie.Need-loop-i-init invariant-loop-i decreases-loop-i
 loop-holds c =
-    let t = c.before.before.before.args.table.now in
-    let p = c.before.before.before.requires in
-    record { size = laid-length t p; few = c.count.ensures.1; count = c.count.ensures.0; closing = closing-start t p }
+    let t = c.args.table.now in
+    let p = c.requires in
+    record { size = laid-length t p; few = c.count-n.ensures.1; count = c.count-n.ensures.0; closing = closing-start t p }
 
 -- the record that was looked at is held, or not, as its stream is
-looked : (c : tie.After-is-held invariant-loop decreases-loop)
-    → c.is-held.result ≡ is_held (get_or (decode c.before.before.before.before.before.before.before.before.args.table.now).streams
-    c.before.before.before.before.loop.i (fresh 0))
+looked : (c : tie.After-is_held invariant-loop-i decreases-loop-i)
+    → c.is_held.result ≡ is_held (get_or (decode c.args.table.now).streams
+    c.loop-i.i (fresh 0))
 looked c =
-    let l = c.before.before.before.before.loop in
-    let p = c.before.before.before.before.before.before.before.before.requires in
-    c.is-held.ensures ∙ seen-held _ (laid-fits _ p) l.table l.i l.j l.invariant.closing (omega arith)
+    let l = c.loop-i in
+    let p = c.requires in
+    c.is_held.ensures ∙ seen-held _ (laid-fits _ p) l.table l.i l.j l.invariant.closing (omega arith)
 
-loop-again : tie.Need-loop-preserved invariant-loop decreases-loop
+loop-again : tie.Need-loop-i-preserved invariant-loop-i decreases-loop-i
 loop-again c =
-    let l = c.before.before.before.before.before.loop in
-    let p = c.before.before.before.before.before.before.before.before.before.requires in
+    let l = c.loop-i in
+    let p = c.requires in
     let f = laid-fits _ p in
     let e = looked c.before in
-    let h : l.i < length (decode c.before.before.before.before.before.before.before.before.before.args.table.now).streams = omega arith in
+    let h : l.i < length (decode c.args.table.now).streams = omega arith in
     ⊎_elim
     (λ w. record {
-      size = ap length w.5 ∙ w.2.kept.0 ∙ l.invariant.size;
+      size = ap length w.table-is ∙ w.keep_record.auto.table ∙ l.invariant.size;
       few = l.invariant.few;
       count = l.invariant.count;
-      closing = rw (w.5 ∙ w.2.ensures, w.6) (closing-keep _ f l.table l.i l.j l.invariant.closing h (sym e ∙ w.0.taken));
+      closing = rw (w.table-is ∙ w.keep_record.ensures, w.j-is) (closing-keep _ f l.table l.i l.j l.invariant.closing h (sym e ∙ w.if-is_held.true));
     })
     (λ w. record {
-      size = ap length w.1 ∙ l.invariant.size;
+      size = ap length w.table-is ∙ l.invariant.size;
       few = l.invariant.few;
       count = l.invariant.count;
-      closing = rw (w.1, w.2) (closing-drop _ f l.table l.i l.j l.invariant.closing h (sym e ∙ w.0.left));
+      closing = rw (w.table-is, w.j-is) (closing-drop _ f l.table l.i l.j l.invariant.closing h (sym e ∙ w.if-is_held.false));
     })
-    c.if1.branch
+    c.if-is_held.branch-raw
 
-same_length : tie.Need-same-length invariant-loop decreases-loop
-same_length c = omega (arith, laid-length _ c.before.before.before.before.before.before.before.before.before.before.before.before.before.requires)
+same_length : tie.Need-shape_of-table invariant-loop-i decreases-loop-i
+same_length c = omega (arith, laid-length _ c.requires)
 
-returns : tie.Need-returns invariant-loop decreases-loop
+returns : tie.Need-returns invariant-loop-i decreases-loop-i
 returns c =
-    let l = c.before.before.before.before.before.before.before.before.before.loop in
-    let f = laid-fits _ c.before.before.before.before.before.before.before.before.before.before.before.before.before.requires in
-    let n = c.before.before.before.before.before.before.before.before.before.before.count.result in
-    c.before.before.put.ensures
-    ∙ ap (patch in_table.count 1 (be 1 l.j)) c.before.before.before.before.before.before.clear.ensures
+    let l = c.loop-i in
+    let f = laid-fits _ c.requires in
+    let n = c.count-n.result in
+    c.put.ensures
+    ∙ ap (patch in_table.count 1 (be 1 l.j)) c.clear.ensures
     ∙ closing_end _ f l.table l.i l.j l.invariant.closing n l.invariant.count (omega arith)
 
-pub drop-unheld-spec : {M : Type 1} → statement M
-drop-unheld-spec =
+pub drop_unheld_spec : {M : Type 1} → statement M
+drop_unheld_spec =
     tie.close
-    (tie.spec invariant-loop decreases-loop (λ c κs. c.before.before.requires) loop-holds (λ c. omega arith) (λ c. omega arith) (λ c. omega arith)
+    (tie.spec invariant-loop-i decreases-loop-i (λ c κs. c.requires) loop-holds (λ c. omega arith) (λ c. omega arith) (λ c. omega arith)
     (λ c. omega arith) (λ c. omega arith) (λ c. omega arith) (λ c κs. search rules) (λ c κs. omega arith) (λ c. omega arith)
     (λ c. omega arith) (λ c. omega arith) loop-again (λ c. omega arith) (λ c. omega arith) (λ c. omega arith) (λ c. omega arith)
     (λ c κs. omega arith) (λ c κs. omega arith) same_length returns)

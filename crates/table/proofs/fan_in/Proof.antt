@@ -6,10 +6,10 @@ use Rattle.table.proofs.fan_in.Statement.{statement}
 use Rattle.table.proofs.fan_in.Tie as tie
 
 get-requires : tie.Need-get-requires
-get-requires c κs = omega (arith, laid-length _ c.before.requires)
+get-requires c κs = omega (arith, laid-length _ c.requires)
 
 returns : tie.Need-returns
-returns c = c.get.ensures.0 ∙ laid-fan-in _ c.before.before.requires
+returns c = c.get.ensures.0 ∙ laid-fan-in _ c.requires
 
-pub fan-in-spec : {M : Type 1} → statement M
-fan-in-spec = tie.close (tie.spec get-requires returns)
+pub fan_in_spec : {M : Type 1} → statement M
+fan_in_spec = tie.close (tie.spec get-requires returns)

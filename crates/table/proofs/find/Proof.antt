@@ -19,38 +19,38 @@ record Halving (t : List ℕ) (id low high : ℕ) : Type 0 where
   few : length (ids (decode t).streams) ≤ 64
   between : Between id (ids (decode t).streams) low high
 
-abbrev invariant-loop : tie.invariant-loop
-invariant-loop table id low₀ high₀ low high = Halving table id low high
+abbrev invariant-loop-low : tie.invariant-loop-low
+invariant-loop-low table id low₀ high₀ low high = Halving table id low high
 
-abbrev decreases-loop : tie.decreases-loop
-decreases-loop table id low₀ high₀ low high = high - low
+abbrev decreases-loop-low : tie.decreases-loop-low
+decreases-loop-low table id low₀ high₀ low high = high - low
 
-loop-holds : tie.Need-loop-init invariant-loop decreases-loop
+loop-holds : tie.Need-loop-low-init invariant-loop-low decreases-loop-low
 loop-holds c =
-    let e = length_ids (decode c.before.before.args.table.now).streams in
-    record { size = laid-length _ c.before.before.requires; few = omega arith; between = between-all _ _ _ (c.count.ensures.0 ∙ sym e) }
+    let e = length_ids (decode c.args.table.now).streams in
+    record { size = laid-length _ c.requires; few = omega arith; between = between-all _ _ _ (c.count-high.ensures.0 ∙ sym e) }
 
 -- the StreamID that was read is the one in the middle
-read : (c : tie.After-get invariant-loop decreases-loop)
-    → c.get.result ≡ get_or (ids (decode c.before.before.before.before.before.args.table.now).streams)
-    (c.before.before.loop.low + (c.before.before.loop.high - c.before.before.loop.low) / 2) 0
+read : (c : tie.After-get-x invariant-loop-low decreases-loop-low)
+    → c.get-x.result ≡ get_or (ids (decode c.args.table.now).streams)
+    (c.loop-low.low + (c.loop-low.high - c.loop-low.low) / 2) 0
 read c =
-    let l = c.before.before.loop in
-    let t = c.before.before.before.before.before.args.table.now in
+    let l = c.loop-low in
+    let t = c.args.table.now in
     let m = l.low + (l.high - l.low) / 2 in
     let h : m < length (decode t).streams = omega (arith, length_ids (decode t).streams) in
-    c.get.ensures.0 ∙ record-id t c.before.before.before.before.before.requires m (record_place m) h refl
+    c.get-x.ensures.0 ∙ record-id t c.requires m (record_place m) h refl
 
-returns : tie.Need-returns invariant-loop decreases-loop
+returns : tie.Need-returns-then-x-id invariant-loop-low decreases-loop-low
 returns c =
-    let l = c.before.before.before.loop in
-    let w = laid-fits _ c.before.before.before.before.before.before.requires in
-    between-found _ _ w.ascending (l.low + (l.high - l.low) / 2) (omega arith) (sym (read c.before) ∙ c.if1.true)
+    let l = c.loop-low in
+    let w = laid-fits _ c.requires in
+    between-found _ _ w.ascending (l.low + (l.high - l.low) / 2) (omega arith) (sym (read c.before) ∙ c.if-x-id.true)
 
-loop-again : tie.Need-loop-preserved invariant-loop decreases-loop
+loop-again : tie.Need-loop-low-preserved-then-x-id-2 invariant-loop-low decreases-loop-low
 loop-again c =
-    let l = c.before.before.before.before.loop in
-    let w = laid-fits _ c.before.before.before.before.before.before.before.requires in
+    let l = c.loop-low in
+    let w = laid-fits _ c.requires in
     let e = read c.before.before in
     record {
       size = l.invariant.size;
@@ -58,10 +58,10 @@ loop-again c =
       between = between-high _ _ w.ascending _ _ (l.low + (l.high - l.low) / 2) l.invariant.between (omega arith) (omega arith) (omega arith);
     }
 
-loop-again-2 : tie.Need-loop-preserved-2 invariant-loop decreases-loop
+loop-again-2 : tie.Need-loop-low-preserved invariant-loop-low decreases-loop-low
 loop-again-2 c =
-    let l = c.before.before.before.before.loop in
-    let w = laid-fits _ c.before.before.before.before.before.before.before.requires in
+    let l = c.loop-low in
+    let w = laid-fits _ c.requires in
     let e = read c.before.before in
     record {
       size = l.invariant.size;
@@ -69,12 +69,12 @@ loop-again-2 c =
       between = between-low _ _ w.ascending _ _ (l.low + (l.high - l.low) / 2) l.invariant.between (omega arith) (omega arith) (omega arith);
     }
 
-returns-2 : tie.Need-returns-2 invariant-loop decreases-loop
-returns-2 c = between_none _ _ _ _ c.before.loop.invariant.between c.loop-test.false
+returns-2 : tie.Need-returns invariant-loop-low decreases-loop-low
+returns-2 c = between_none _ _ _ _ c.loop-low.invariant.between c.loop-low-test.false
 
 pub find_spec : {M : Type 1} → statement M
 find_spec =
     tie.close
-    (tie.spec invariant-loop decreases-loop (λ c κs. c.before.requires) loop-holds (λ c. omega arith) (λ c. omega arith) (λ c. omega arith)
+    (tie.spec invariant-loop-low decreases-loop-low (λ c κs. c.requires) loop-holds (λ c. omega arith) (λ c. omega arith) (λ c. omega arith)
     (λ c. omega arith) (λ c κs. omega arith) returns (λ c. omega arith) (λ c. omega arith) loop-again (λ c. omega arith) loop-again-2
     returns-2)

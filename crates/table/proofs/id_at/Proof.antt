@@ -7,8 +7,8 @@ use Rattle.table.proofs.id_at.Tie as tie
 
 returns : tie.Need-returns
 returns c =
-    let s = c.before.before.before.requires in
-    c.get.ensures.0 ∙ stream-id _ s.laid _ _ s.held c.before.record-in.ensures.0
+    let s = c.requires in
+    c.get.ensures.0 ∙ stream-id _ s.laid _ _ s.held c.record_in.ensures.0
 
-pub id-at-spec : {M : Type 1} → statement M
-id-at-spec = tie.close (tie.spec (λ c κs. search rules) (λ c κs. search rules) returns)
+pub id_at_spec : {M : Type 1} → statement M
+id_at_spec = tie.close (tie.spec (λ c κs. search rules) (λ c κs. search rules) returns)

@@ -8,35 +8,35 @@ use Rattle.table.proofs.HeldRecords.{holds_from, held-is, holds-none, holds-talk
 use Rattle.table.proofs.is_registered.Statement.{statement}
 use Rattle.table.proofs.is_registered.Tie as tie
 
-abbrev invariant-loop : tie.invariant-loop
-invariant-loop rec p₀ p = (p ≤ 8) × (holds_from p rec ≡ held (to_stream rec).cells)
+abbrev invariant-loop-p : tie.invariant-loop-p
+invariant-loop-p rec p₀ p = (p ≤ 8) × (holds_from p rec ≡ held (to_stream rec).cells)
 
-abbrev decreases-loop : tie.decreases-loop
-decreases-loop rec p₀ p = 8 - p
+abbrev decreases-loop-p : tie.decreases-loop-p
+decreases-loop-p rec p₀ p = 8 - p
 
-loop-holds : tie.Need-loop-init invariant-loop decreases-loop
+loop-holds : tie.Need-loop-p-init invariant-loop-p decreases-loop-p
 loop-holds c = (omega arith, sym (held-is _))
 
-returns : tie.Need-returns invariant-loop decreases-loop
+returns : tie.Need-returns-then-rec-a-ne0 invariant-loop-p decreases-loop-p
 returns c =
-    let l = c.before.before.before.loop in
-    sym (holds-talking l.p _ c.before.before.loop-test.true c.if1.true) ∙ l.invariant.1
+    let l = c.loop-p in
+    sym (holds-talking l.p _ c.loop-p-test.true c.if-rec-a-ne0.true) ∙ l.invariant.1
 
-returns-2 : tie.Need-returns-2 invariant-loop decreases-loop
+returns-2 : tie.Need-returns-then-rec-a-ne0-2 invariant-loop-p decreases-loop-p
 returns-2 c =
-    let l = c.before.before.before.before.before.loop in
-    sym (holds-hearing l.p _ c.before.before.before.before.loop-test.true c.before.before.if1.false c.if2.true) ∙ l.invariant.1
+    let l = c.loop-p in
+    sym (holds-hearing l.p _ c.loop-p-test.true c.if-rec-a-ne0.false c.if-rec-a-ne0-2.true) ∙ l.invariant.1
 
-loop-again : tie.Need-loop-preserved invariant-loop decreases-loop
+loop-again : tie.Need-loop-p-preserved invariant-loop-p decreases-loop-p
 loop-again c =
-    let l = c.before.before.before.before.before.loop in
-    (omega arith, sym (holds_more l.p _ c.before.before.before.before.loop-test.true c.before.before.if1.false c.if2.false) ∙ l.invariant.1)
+    let l = c.loop-p in
+    (omega arith, sym (holds_more l.p _ c.loop-p-test.true c.if-rec-a-ne0.false c.if-rec-a-ne0-2.false) ∙ l.invariant.1)
 
-returns-3 : tie.Need-returns-3 invariant-loop decreases-loop
-returns-3 c = sym (holds-none c.before.loop.p _ c.loop-test.false) ∙ c.before.loop.invariant.1
+returns-3 : tie.Need-returns invariant-loop-p decreases-loop-p
+returns-3 c = sym (holds-none c.loop-p.p _ c.loop-p-test.false) ∙ c.loop-p.invariant.1
 
-pub is-registered-spec : {M : Type 1} → statement M
-is-registered-spec =
+pub is_registered_spec : {M : Type 1} → statement M
+is_registered_spec =
     tie.close
-    (tie.spec invariant-loop decreases-loop loop-holds (λ c. omega arith) (λ c. omega arith) (λ c. omega arith) returns (λ c. omega arith)
+    (tie.spec invariant-loop-p decreases-loop-p loop-holds (λ c. omega arith) (λ c. omega arith) (λ c. omega arith) returns (λ c. omega arith)
     (λ c. omega arith) returns-2 (λ c. omega arith) (λ c. omega arith) loop-again returns-3)

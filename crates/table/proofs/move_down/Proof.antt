@@ -11,20 +11,20 @@ use Rattle.table.proofs.Moving.{move-less}
 use Rattle.table.proofs.move_down.Statement.{statement}
 use Rattle.table.proofs.move_down.Tie as tie
 
-abbrev invariant-loop : tie.invariant-loop
-invariant-loop s₀ at d n i₀ s i =
+abbrev invariant-loop-i : tie.invariant-loop-i
+invariant-loop-i s₀ at d n i₀ s i =
     Turned i n s₀ s (patch (at + i) (n - i) (part (at + d + i) (n - i) s) s ≡ patch at n (part (at + d) n s₀) s₀)
 
-abbrev decreases-loop : tie.decreases-loop
-decreases-loop s₀ at d n i₀ s i = n - i
+abbrev decreases-loop-i : tie.decreases-loop-i
+decreases-loop-i s₀ at d n i₀ s i = n - i
 
-loop-holds : tie.Need-loop-init invariant-loop decreases-loop
+loop-holds : tie.Need-loop-i-init invariant-loop-i decreases-loop-i
 loop-holds c = record { within = omega arith; size = refl; holds = rw (add-zero, add-zero, sub-zero) }
 
-loop-again : tie.Need-loop-preserved invariant-loop decreases-loop
+loop-again : tie.Need-loop-i-preserved invariant-loop-i decreases-loop-i
 loop-again c =
-    let a = c.before.before.before.args in
-    let l = c.before.before.loop in
+    let a = c.args in
+    let l = c.loop-i in
     let m : ℕ = a.n - (l.i + 1) in
     let e : a.n - l.i ≡ suc m = omega arith in
     let p : a.at + (l.i + 1) ≡ a.at + l.i + 1 = omega arith in
@@ -36,13 +36,13 @@ loop-again c =
       holds = rw (p, q) (move-less (a.at + l.i) (a.at + a.d + l.i) m l.s (omega arith) h ∙ (rw e at l.invariant.holds));
     }
 
-returns : tie.Need-returns invariant-loop decreases-loop
+returns : tie.Need-returns invariant-loop-i decreases-loop-i
 returns c =
-    let e : c.before.before.args.n - c.before.loop.i ≡ 0 = omega arith in
-    sym (rw part_none (patch-none _ _)) ∙ (rw e at c.before.loop.invariant.holds)
+    let e : c.args.n - c.loop-i.i ≡ 0 = omega arith in
+    sym (rw part_none (patch-none _ _)) ∙ (rw e at c.loop-i.invariant.holds)
 
 pub move_down_spec : {M : Type 1} → statement M
 move_down_spec =
     tie.close
-    (tie.spec invariant-loop decreases-loop loop-holds (λ c. omega arith) (λ c. omega arith) (λ c. omega arith) (λ c. omega arith) (λ c. omega arith)
+    (tie.spec invariant-loop-i decreases-loop-i loop-holds (λ c. omega arith) (λ c. omega arith) (λ c. omega arith) (λ c. omega arith) (λ c. omega arith)
     (λ c. omega arith) (λ c. omega arith) loop-again (λ c. omega arith) returns)

@@ -5,8 +5,8 @@ use Rattle.table.proofs.own_at.Statement.{statement}
 use Rattle.table.proofs.own_at.Tie as tie
 
 returns : tie.Need-returns
-returns c = lent-own-at c.before.before.before.requires _ c.before.own_in.ensures.0
+returns c = lent-own-at c.requires _ c.own_in-a.ensures.0
 
-pub own-at-spec : {M : Type 1} → statement M
-own-at-spec =
+pub own_at_spec : {M : Type 1} → statement M
+own_at_spec =
     tie.close (tie.spec (λ c κs. search rules) (λ c. search rules) (λ c. search rules) (λ c. search rules) (λ c. search rules) returns)

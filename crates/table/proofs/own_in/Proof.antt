@@ -8,5 +8,5 @@ use Rattle.table.proofs.own_in.Tie as tie
 returns : tie.Need-returns
 returns c = omega (arith, laid-length _ c.requires.laid)
 
-pub own-in-spec : {M : Type 1} → statement M
-own-in-spec = tie.close (tie.spec (λ c. search rules) (λ c. search rules) returns)
+pub own_in_spec : {M : Type 1} → statement M
+own_in_spec = tie.close (tie.spec (λ c. search rules) (λ c. search rules) returns)

@@ -6,11 +6,11 @@ use Rattle.table.proofs.ByPlace.{lent-port-at}
 use Rattle.table.proofs.port_at.Statement.{statement}
 use Rattle.table.proofs.port_at.Tie as tie
 
-part-result-end : tie.Need-slice-bounds-result-end
+part-result-end : tie.Need-slice_bounds-result-end
 part-result-end c = let f = laid-length _ c.requires.laid in search rules
 
 returns : tie.Need-returns
-returns c = lent-port-at c.before.requires _ refl
+returns c = lent-port-at c.requires _ refl
 
-pub port-at-spec : {M : Type 1} → statement M
-port-at-spec = tie.close (tie.spec (λ c. search rules) (λ c. search rules) (λ c. search rules) (λ c. search rules) (λ c. search rules) part-result-end returns)
+pub port_at_spec : {M : Type 1} → statement M
+port_at_spec = tie.close (tie.spec (λ c. search rules) (λ c. search rules) (λ c. search rules) (λ c. search rules) (λ c. search rules) part-result-end returns)

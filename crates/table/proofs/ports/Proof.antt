@@ -8,12 +8,12 @@ use Rattle.table.proofs.ports.Tie as tie
 use Rattle.model.specs.Layout.{ports_unit}
 
 get-requires : tie.Need-get-requires
-get-requires c κs = omega (arith, laid-length _ c.before.requires)
+get-requires c κs = omega (arith, laid-length _ c.requires)
 
 returns : tie.Need-returns
 returns c =
-    let e = ap (λ (w : ℕ). w / ports_unit) c.get.ensures.0 ∙ laid-ports _ c.before.before.requires in
-    (e, omega (arith, e, laid-eight _ c.before.before.requires))
+    let e = ap (λ (w : ℕ). w / ports_unit) c.get.ensures.0 ∙ laid-ports _ c.requires in
+    (e, omega (arith, e, laid-eight _ c.requires))
 
-pub ports-spec : {M : Type 1} → statement M
-ports-spec = tie.close (tie.spec get-requires returns)
+pub ports_spec : {M : Type 1} → statement M
+ports_spec = tie.close (tie.spec get-requires returns)

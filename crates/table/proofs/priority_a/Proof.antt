@@ -8,10 +8,10 @@ use Rattle.table.proofs.priority_a.Tie as tie
 use Rattle.model.specs.Layout.{priority_a_unit}
 
 get-requires : tie.Need-get-requires
-get-requires c κs = omega (arith, laid-length _ c.before.requires)
+get-requires c κs = omega (arith, laid-length _ c.requires)
 
 returns : tie.Need-returns
-returns c = ap (λ (w : ℕ). w / priority_a_unit % 8) c.get.ensures.0 ∙ laid-priority-a _ c.before.before.requires
+returns c = ap (λ (w : ℕ). w / priority_a_unit % 8) c.get.ensures.0 ∙ laid-priority-a _ c.requires
 
-pub priority-a-spec : {M : Type 1} → statement M
-priority-a-spec = tie.close (tie.spec get-requires returns)
+pub priority_a_spec : {M : Type 1} → statement M
+priority_a_spec = tie.close (tie.spec get-requires returns)

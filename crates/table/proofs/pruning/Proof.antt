@@ -7,11 +7,11 @@ use Rattle.table.proofs.pruning.Statement.{statement}
 use Rattle.table.proofs.pruning.Tie as tie
 
 get-requires : tie.Need-get-requires
-get-requires c κs = omega (arith, laid-length _ c.before.requires)
+get-requires c κs = omega (arith, laid-length _ c.requires)
 
 returns : tie.Need-returns
 unfolding is_one
-returns c = rw (c.get.ensures.0, laid-pruning _ c.before.before.requires) (bit-back _)
+returns c = rw (c.get.ensures.0, laid-pruning _ c.requires) (bit-back _)
 
-pub pruning-spec : {M : Type 1} → statement M
-pruning-spec = tie.close (tie.spec get-requires returns)
+pub pruning_spec : {M : Type 1} → statement M
+pruning_spec = tie.close (tie.spec get-requires returns)

@@ -6,14 +6,14 @@ use Rattle.table.proofs.ByPlace.{few-before}
 use Rattle.table.proofs.record_in.Statement.{statement}
 use Rattle.table.proofs.record_in.Tie as tie
 
-mul-result : tie.Need-overflow-mul-result
+mul-result : tie.Need-overflow_mul-result
 mul-result c = let f = few-before c.requires in search rules
 
-add-result : tie.Need-overflow-add-result
+add-result : tie.Need-overflow_add-result
 add-result c = let f = few-before c.requires in search rules
 
 returns : tie.Need-returns
 returns c = let f = few-before c.requires in omega (arith, laid-length _ c.requires.laid)
 
-pub record-in-spec : {M : Type 1} → statement M
-record-in-spec = tie.close (tie.spec mul-result add-result returns)
+pub record_in_spec : {M : Type 1} → statement M
+record_in_spec = tie.close (tie.spec mul-result add-result returns)

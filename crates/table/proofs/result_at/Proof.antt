@@ -5,8 +5,8 @@ use Rattle.table.proofs.result_at.Statement.{statement}
 use Rattle.table.proofs.result_at.Tie as tie
 
 returns : tie.Need-returns
-returns c = lent-result-at c.before.before.before.requires _ c.before.result-in.ensures.0
+returns c = lent-result-at c.requires _ c.result_in-a.ensures.0
 
-pub result-at-spec : {M : Type 1} → statement M
-result-at-spec =
+pub result_at_spec : {M : Type 1} → statement M
+result_at_spec =
     tie.close (tie.spec (λ c κs. search rules) (λ c. search rules) (λ c. search rules) (λ c. search rules) (λ c. search rules) returns)

@@ -8,5 +8,5 @@ use Rattle.table.proofs.sender_in.Tie as tie
 returns : tie.Need-returns
 returns c = omega (arith, laid-length _ c.requires.laid)
 
-pub sender-in-spec : {M : Type 1} → statement M
-sender-in-spec = tie.close (tie.spec (λ c. search rules) (λ c. search rules) returns)
+pub sender_in_spec : {M : Type 1} → statement M
+sender_in_spec = tie.close (tie.spec (λ c. search rules) (λ c. search rules) returns)

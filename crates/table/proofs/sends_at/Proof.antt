@@ -5,8 +5,8 @@ use Rattle.table.proofs.sends_at.Statement.{statement}
 use Rattle.table.proofs.sends_at.Tie as tie
 
 returns : tie.Need-returns
-returns c = lent-sends-at c.before.before.before.requires _ c.before.sends-in.ensures.0
+returns c = lent-sends-at c.requires _ c.sends_in-a.ensures.0
 
-pub sends-at-spec : {M : Type 1} → statement M
-sends-at-spec =
+pub sends_at_spec : {M : Type 1} → statement M
+sends_at_spec =
     tie.close (tie.spec (λ c κs. search rules) (λ c. search rules) (λ c. search rules) (λ c. search rules) (λ c. search rules) returns)

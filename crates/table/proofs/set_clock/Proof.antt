@@ -11,14 +11,14 @@ use Rattle.table.proofs.set_clock.Statement.{statement}
 use Rattle.table.proofs.set_clock.Tie as tie
 
 put-requires : tie.Need-put-requires
-put-requires c κs = omega (arith, laid-length _ c.before.before.requires)
+put-requires c κs = omega (arith, laid-length _ c.requires)
 
 returns : tie.Need-returns
 returns c =
     let first = c.before.before.before.before.before in
-    c.before.before.put.ensures
+    c.put.ensures
     ∙ ap (patch in_table.clock 4 (be 4 first.args.time)) (laid-is _ first.requires)
     ∙ clock-patch _ (laid-fits _ first.requires) first.args.time
 
-pub set-clock-spec : {M : Type 1} → statement M
-set-clock-spec = tie.close (tie.spec put-requires (λ c. search rules) returns)
+pub set_clock_spec : {M : Type 1} → statement M
+set_clock_spec = tie.close (tie.spec put-requires (λ c. search rules) returns)

@@ -5,8 +5,8 @@ use Rattle.table.proofs.settled_at.Statement.{statement}
 use Rattle.table.proofs.settled_at.Tie as tie
 
 returns : tie.Need-returns
-returns c = lent-settled-at c.before.before.before.requires _ c.before.settled-in.ensures.0
+returns c = lent-settled-at c.requires _ c.settled_in-a.ensures.0
 
-pub settled-at-spec : {M : Type 1} → statement M
-settled-at-spec =
+pub settled_at_spec : {M : Type 1} → statement M
+settled_at_spec =
     tie.close (tie.spec (λ c κs. search rules) (λ c. search rules) (λ c. search rules) (λ c. search rules) (λ c. search rules) returns)

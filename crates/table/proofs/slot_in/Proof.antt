@@ -6,11 +6,11 @@ use Rattle.table.proofs.OwnParts.{port-of-slot}
 use Rattle.table.proofs.slot_in.Statement.{statement}
 use Rattle.table.proofs.slot_in.Tie as tie
 
-own-in-requires : tie.Need-own-in-requires
-own-in-requires c κs = port-of-slot c.before.requires
+own-in-requires : tie.Need-own_in-requires
+own-in-requires c κs = port-of-slot c.requires
 
 returns : tie.Need-returns
-returns c = omega (arith, c.before.before.requires.slot, c.before.before.requires.port, c.own_in.ensures.0, laid-length _ c.before.before.requires.laid)
+returns c = omega (arith, c.requires.slot, c.requires.port, c.own_in.ensures.0, laid-length _ c.requires.laid)
 
-pub slot-in-spec : {M : Type 1} → statement M
-slot-in-spec = tie.close (tie.spec own-in-requires (λ c. search rules) (λ c. search rules) returns)
+pub slot_in_spec : {M : Type 1} → statement M
+slot_in_spec = tie.close (tie.spec own-in-requires (λ c. search rules) (λ c. search rules) returns)

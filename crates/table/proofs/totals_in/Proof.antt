@@ -8,5 +8,5 @@ use Rattle.table.proofs.totals_in.Tie as tie
 returns : tie.Need-returns
 returns c = omega (arith, laid-length _ c.requires.laid)
 
-pub totals-in-spec : {M : Type 1} → statement M
-totals-in-spec = tie.close (tie.spec (λ c. search rules) (λ c. search rules) returns)
+pub totals_in_spec : {M : Type 1} → statement M
+totals_in_spec = tie.close (tie.spec (λ c. search rules) (λ c. search rules) returns)
