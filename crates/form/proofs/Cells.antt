@@ -6,7 +6,7 @@ use Prim.Native.Nat.{ℕ, ◌-◌, ◌%◌}
 use native.Mathlib.Omega.{arith}
 use lib.ListN.{length, get_or, take, drop}
 use lib.Dec.{leb, eqb}
-use borrow.Author.Rules.{rules}
+pub use borrow.Author.Rules.{rules}
 use borrow.Author.Tests.{ne_eqb}
 use Rattle.octets.specs.Be.{be_at}
 use Rattle.octets.specs.Parts.{part}
@@ -49,36 +49,36 @@ listener-leaves k l t n = rw (ne_eqb l 0 n) (go (eqb k 0))
     go false = refl
 
 module _ (clock leave : ℕ) (s : List ℕ) (h : length s ≡ cell_size) where
-  abbrev rules : List Bool
-  rules = cell_rules clock leave (fields cell_widths 0 s)
+  abbrev of_cell : List Bool
+  of_cell = cell_rules clock leave (fields cell_widths 0 s)
 
   pub registration-rules : (since : ℕ) → since ≡ be_at 4 s in_cell.talker_since → (t : Bool) → t ≡ leaving_rule clock leave (get_or s in_cell.talker_leaves 0) since
-      → (leb (get_or s in_cell.changed 0) 1 && t && eqb (get_or s in_cell.priority 0 % 16) 0) ≡ all_true (take 3 (drop 1 rules))
+      → (leb (get_or s in_cell.changed 0) 1 && t && eqb (get_or s in_cell.priority 0 % 16) 0) ≡ all_true (take 3 (drop 1 of_cell))
   unfolding cell_rules fields all_true
   registration-rules since g t e =
       rw (e, g, be_at-one s in_cell.changed, be_at-one s in_cell.talker_leaves, be_at-one s in_cell.priority, and-true)
       (and_assoc (leb (be_at 1 s in_cell.changed) 1) _ (eqb (be_at 1 s in_cell.priority % 16) 0))
 
-  pub no-talker : (z : Bool) → get_or s in_cell.talker 0 ≡ 0 → z ≡ all_zero (take (in_cell.listener - in_cell.changed) (drop in_cell.changed s)) → z ≡ all_true (take 6 rules)
+  pub no-talker : (z : Bool) → get_or s in_cell.talker 0 ≡ 0 → z ≡ all_zero (take (in_cell.listener - in_cell.changed) (drop in_cell.changed s)) → z ≡ all_true (take 6 of_cell)
   unfolding fields width part
   no-talker z k e =
       e
       ∙ sym (zero-fields (between cell_index.changed cell_index.listener cell_widths) in_cell.changed s (omega arith))
       ∙ sym (talker-gone clock leave (fields cell_widths 0 s) (sym (be_at-one s in_cell.talker) ∙ k))
 
-  pub advertise-talker : (z : Bool) → get_or s in_cell.talker 0 ≡ 1 → (t : Bool) → t ≡ all_true (take 3 (drop 1 rules))
-      → z ≡ all_zero (take failure_size (drop in_cell.bridge s)) → (t && z) ≡ all_true (take 6 rules)
+  pub advertise-talker : (z : Bool) → get_or s in_cell.talker 0 ≡ 1 → (t : Bool) → t ≡ all_true (take 3 (drop 1 of_cell))
+      → z ≡ all_zero (take failure_size (drop in_cell.bridge s)) → (t && z) ≡ all_true (take 6 of_cell)
   unfolding cell_rules fields all_true width part
   advertise-talker z k t f e =
       rw (f, e, ← (zero-fields failure_widths in_cell.bridge s (omega arith)), ← (be_at-one s in_cell.talker), k) simp (and_assoc, and-true)
 
-  pub failed-talker : (get_or s in_cell.talker 0 ≡ 0 → ⊥) → (get_or s in_cell.talker 0 ≡ 1 → ⊥) → (t : Bool) → t ≡ all_true (take 3 (drop 1 rules))
-      → (leb (get_or s in_cell.talker 0) 2 && t) ≡ all_true (take 6 rules)
+  pub failed-talker : (get_or s in_cell.talker 0 ≡ 0 → ⊥) → (get_or s in_cell.talker 0 ≡ 1 → ⊥) → (t : Bool) → t ≡ all_true (take 3 (drop 1 of_cell))
+      → (leb (get_or s in_cell.talker 0) 2 && t) ≡ all_true (take 6 of_cell)
   unfolding cell_rules fields all_true
   failed-talker k l t f = rw (f, ← (be_at-one s in_cell.talker), ne_eqb (get_or s in_cell.talker 0) 0 k, ne_eqb (get_or s in_cell.talker 0) 1 l) refl
 
   pub listener-there : (since : ℕ) → since ≡ be_at 4 s in_cell.listener_since → get_or s in_cell.listener_leaves 0 ≡ 0
-      → (leb (get_or s in_cell.listener 0) 3 && eqb since 0) ≡ all_true (drop 6 rules)
+      → (leb (get_or s in_cell.listener 0) 3 && eqb since 0) ≡ all_true (drop 6 of_cell)
   unfolding cell_rules fields all_true
   listener-there since g e =
       rw (g, ← (be_at-one s in_cell.listener_leaves), e, and-true, be_at-one s in_cell.listener)
@@ -86,7 +86,7 @@ module _ (clock leave : ℕ) (s : List ℕ) (h : length s ≡ cell_size) where
 
   pub listener-leaving : (since : ℕ) → since ≡ be_at 4 s in_cell.listener_since → (get_or s in_cell.listener_leaves 0 ≡ 0 → ⊥)
       → (t : Bool) → t ≡ leaving_rule clock leave (get_or s in_cell.listener_leaves 0) since
-      → (leb (get_or s in_cell.listener 0) 3 && not (eqb (get_or s in_cell.listener 0) 0) && t) ≡ all_true (drop 6 rules)
+      → (leb (get_or s in_cell.listener 0) 3 && not (eqb (get_or s in_cell.listener 0) 0) && t) ≡ all_true (drop 6 of_cell)
   unfolding cell_rules fields all_true
   listener-leaving since g n t e =
       rw (

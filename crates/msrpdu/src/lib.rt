@@ -7,7 +7,7 @@ use model::{pdu, refusal};
 
 // What the AttributeType octet decides: a known type with its octets of FirstValue, a list to skip unread, or a refusal with its
 // number.
-#[derive(Drop)]
+#[derive(Clone, Copy)]
 enum TypeRead {
     Known(usize),
     Skipped,
@@ -48,7 +48,7 @@ fn any_overpacked(events: &[u8]) -> bool
 
 // A vector that was read: LeaveAll, the number of its values, the places of FirstValue and of its event octets, and the place
 // after it.
-#[derive(Drop)]
+#[derive(Clone, Copy)]
 pub struct VectorHead {
     pub leaves: bool,
     pub values: usize,
@@ -59,7 +59,7 @@ pub struct VectorHead {
 }
 
 // What stands at a place of an AttributeList. A vector that is passed over has its place after.
-#[derive(Drop)]
+#[derive(Clone, Copy)]
 pub enum VectorRead {
     Refused(u8),
     EndMark,

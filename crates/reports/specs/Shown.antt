@@ -56,9 +56,9 @@ pub record ShowsStream (x : Stream) (p : ℕ) (r : StreamShown) : Type 0 where
 -- what is shown of that port
 pub record ShowsPort (b : Bridge) (p : ℕ) (r : PortShown) : Type 0 where
   pub total_a : r.total_a ≡ (totals_at p b).total_a
-  pub limit-a : r.limit_a ≡ (port_at b.settings p).limit_a
+  pub limit_a : r.limit_a ≡ (port_at b.settings p).limit_a
   pub total_b : r.total_b ≡ (totals_at p b).total_b
-  pub limit-b : r.limit_b ≡ (port_at b.settings p).limit_b
+  pub limit_b : r.limit_b ≡ (port_at b.settings p).limit_b
 
 -- a report's port and place: the place is one of a stream, or the next
 pub record ReportIn (t : List ℕ) (p place : ℕ) : Type 0 where

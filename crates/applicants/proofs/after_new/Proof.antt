@@ -5,6 +5,6 @@ use Rattle.model.proofs.ApplicantEntries.{tables}
 use Rattle.applicants.proofs.after_new.Statement.{statement}
 use Rattle.applicants.proofs.after_new.Tie as tie
 
-pub after-new-spec : {M : Type 1} → statement M
+pub after_new_spec : {M : Type 1} → statement M
 unfolding tables
-after-new-spec = tie.close (tie.spec (λ c. rw c.if1.true (refl, omega arith)) (λ c. rw c.if1.false (refl, omega arith)))
+after_new_spec = tie.close (tie.spec (λ c. rw c.if-registered.true (refl, omega arith)) (λ c. rw c.if-registered.false (refl, omega arith)))

@@ -6,9 +6,8 @@ use Rattle.model.proofs.ApplicantEntries.{tables, asks-leaving}
 use Rattle.applicants.proofs.asks_now.Statement.{statement}
 use Rattle.applicants.proofs.asks_now.Tie as tie
 
-pub asks-now-spec : {M : Type 1} → statement M
+pub asks_now_spec : {M : Type 1} → statement M
 unfolding tables
-asks-now-spec =
+asks_now_spec =
     tie.close
-    (tie.spec (λ c. rw c.match.keys1 refl) (λ c. rw c.match.keys2 refl) (λ c. rw c.match.keys3 refl) (λ c. rw c.match.keys4 refl) (λ c. rw c.match.keys5 refl) (λ c. rw c.match.keys6 refl)
-    (λ c. rw (asks-leaving c.before.args.state (omega arith) tx) refl))
+    (tie.spec (λ c. rw c.in-0.is refl) (λ c. rw c.in-1.is refl) (λ c. rw c.in-2.is refl) (λ c. rw c.in-3.is refl) (λ c. rw c.in-4.is refl) (λ c. rw c.in-5.is refl) (λ c. rw (asks-leaving c.args.state (omega arith) tx) refl))

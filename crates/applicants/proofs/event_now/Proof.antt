@@ -7,9 +7,8 @@ use Rattle.model.proofs.ApplicantEntries.{tables, event-leaving}
 use Rattle.applicants.proofs.event_now.Statement.{statement}
 use Rattle.applicants.proofs.event_now.Tie as tie
 
-pub event-now-spec : {M : Type 1} → statement M
+pub event_now_spec : {M : Type 1} → statement M
 unfolding tables
-event-now-spec =
+event_now_spec =
     tie.close
-    (tie.spec (λ c κs. search rules) (λ c κs. search rules) (λ c κs. search rules) (λ c κs. search rules) (λ c. rw c.before.match.keys1 c.in-event.ensures) (λ c. rw c.before.match.keys2 c.join-event.ensures) (λ c. rw c.match.keys3 (refl, omega arith)) (λ c. rw c.match.keys4 (refl, omega arith)) (λ c. rw c.before.match.keys5 c.join-event2.ensures) (λ c. rw c.before.match.keys6 c.join-event3.ensures)
-    (λ c. rw (event-leaving c.before.args.state (omega arith) c.before.args.registered tx) (refl, omega arith)))
+    (tie.spec (λ c κs. search rules) (λ c κs. search rules) (λ c κs. search rules) (λ c κs. search rules) (λ c. rw c.in-0.is c.in_event.ensures) (λ c. rw c.before.in-1.is c.join_event.ensures) (λ c. rw c.in-2.is (refl, omega arith)) (λ c. rw c.in-3.is (refl, omega arith)) (λ c. rw c.before.in-4.is c.join_event-in-4.ensures) (λ c. rw c.before.in-5.is c.join_event-in-5.ensures) (λ c. rw (event-leaving c.args.state (omega arith) c.args.registered tx) (refl, omega arith)))

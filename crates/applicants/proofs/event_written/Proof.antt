@@ -4,8 +4,8 @@ use Rattle.model.specs.Applicant.{opportunity}
 use Rattle.applicants.proofs.event_written.Statement.{statement}
 use Rattle.applicants.proofs.event_written.Tie as tie
 
-pub event-written-spec : {M : Type 1} → statement M
+pub event_written_spec : {M : Type 1} → statement M
 unfolding opportunity
-event-written-spec =
+event_written_spec =
     tie.close
-    (tie.spec (λ c κs. search rules) (λ c. rw c.before.if1.true c.event-leaving-all.ensures) (λ c κs. search rules) (λ c. rw c.before.if1.false c.event-now.ensures))
+    (tie.spec (λ c κs. search rules) (λ c. rw c.if-all.true c.event_leaving_all.ensures) (λ c κs. search rules) (λ c. rw c.if-all.false c.event_now.ensures))

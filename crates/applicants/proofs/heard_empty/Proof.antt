@@ -7,9 +7,8 @@ use Rattle.model.proofs.ApplicantEntries.{tables, step-leaving}
 use Rattle.applicants.proofs.heard_empty.Statement.{statement}
 use Rattle.applicants.proofs.heard_empty.Tie as tie
 
-pub heard-empty-spec : {M : Type 1} → statement M
+pub heard_empty_spec : {M : Type 1} → statement M
 unfolding tables
-heard-empty-spec =
+heard_empty_spec =
     tie.close
-    (tie.spec (λ c. rw c.match.keys1 (refl, refl, omega arith)) (λ c. rw c.match.keys2 (refl, refl, omega arith)) (λ c. rw c.match.keys3 (refl, refl, omega arith)) (λ c. rw c.match.keys4 (refl, refl, omega arith)) (λ c. rw c.match.keys5 (refl, refl, omega arith)) (λ c. rw c.match.keys6 (refl, refl, omega arith))
-    (λ c. rw (step-leaving c.before.args.state (omega arith) false r_join_mt) (refl, refl, omega arith)))
+    (tie.spec (λ c. rw c.in-0.is (refl, refl, omega arith)) (λ c. rw c.in-1.is (refl, refl, omega arith)) (λ c. rw c.in-2.is (refl, refl, omega arith)) (λ c. rw c.in-3.is (refl, refl, omega arith)) (λ c. rw c.in-4.is (refl, refl, omega arith)) (λ c. rw c.in-5.is (refl, refl, omega arith)) (λ c. rw (step-leaving c.args.state (omega arith) false r_join_mt) (refl, refl, omega arith)))

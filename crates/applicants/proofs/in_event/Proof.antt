@@ -5,6 +5,6 @@ use Rattle.model.proofs.ApplicantEntries.{tables}
 use Rattle.applicants.proofs.in_event.Statement.{statement}
 use Rattle.applicants.proofs.in_event.Tie as tie
 
-pub in-event-spec : {M : Type 1} → statement M
+pub in_event_spec : {M : Type 1} → statement M
 unfolding tables
-in-event-spec = tie.close (tie.spec (λ c. rw c.if1.true (refl, omega arith)) (λ c. rw c.if1.false (refl, omega arith)))
+in_event_spec = tie.close (tie.spec (λ c. rw c.if-registered.true (refl, omega arith)) (λ c. rw c.if-registered.false (refl, omega arith)))

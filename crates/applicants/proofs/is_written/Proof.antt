@@ -4,8 +4,8 @@ use Rattle.model.specs.Applicant.{opportunity}
 use Rattle.applicants.proofs.is_written.Statement.{statement}
 use Rattle.applicants.proofs.is_written.Tie as tie
 
-pub is-written-spec : {M : Type 1} → statement M
+pub is_written_spec : {M : Type 1} → statement M
 unfolding opportunity
-is-written-spec =
+is_written_spec =
     tie.close
-    (tie.spec (λ c κs. search rules) (λ c. rw c.before.if1.true c.asks-leaving-all.ensures) (λ c κs. search rules) (λ c. rw c.before.if1.false c.asks-now.ensures))
+    (tie.spec (λ c κs. search rules) (λ c. rw c.if-all.true c.asks_leaving_all.ensures) (λ c κs. search rules) (λ c. rw c.if-all.false c.asks_now.ensures))

@@ -7,9 +7,8 @@ use Rattle.model.proofs.ApplicantEntries.{tables, step-leaving}
 use Rattle.applicants.proofs.written.Statement.{statement}
 use Rattle.applicants.proofs.written.Tie as tie
 
-pub written-spec : {M : Type 1} → statement M
+pub written_spec : {M : Type 1} → statement M
 unfolding tables
-written-spec =
+written_spec =
     tie.close
-    (tie.spec (λ c κs. search rules) (λ c. rw c.match.keys1 (refl, omega arith)) (λ c. rw c.match.keys2 (refl, omega arith)) (λ c. rw c.match.keys3 (refl, omega arith)) (λ c. rw c.before.match.keys4 c.after-new.ensures) (λ c. rw c.match.keys5 (refl, omega arith)) (λ c. rw c.match.keys6 (refl, omega arith))
-    (λ c. rw (step-leaving c.before.args.state (omega arith) c.before.args.registered tx) (refl, omega arith)))
+    (tie.spec (λ c κs. search rules) (λ c. rw c.in-0.is (refl, omega arith)) (λ c. rw c.in-1.is (refl, omega arith)) (λ c. rw c.in-2.is (refl, omega arith)) (λ c. rw c.before.in-3.is c.after_new.ensures) (λ c. rw c.in-4.is (refl, omega arith)) (λ c. rw c.in-5.is (refl, omega arith)) (λ c. rw (step-leaving c.args.state (omega arith) c.args.registered tx) (refl, omega arith)))

@@ -7,9 +7,8 @@ use Rattle.model.proofs.ApplicantEntries.{tables, step-leaving}
 use Rattle.applicants.proofs.written_leaving_all.Statement.{statement}
 use Rattle.applicants.proofs.written_leaving_all.Tie as tie
 
-pub written-leaving-all-spec : {M : Type 1} → statement M
+pub written_leaving_all_spec : {M : Type 1} → statement M
 unfolding tables
-written-leaving-all-spec =
+written_leaving_all_spec =
     tie.close
-    (tie.spec (λ c. rw c.match.keys1 (refl, omega arith)) (λ c. rw c.match.keys2 (refl, omega arith)) (λ c. rw c.match.keys3 (refl, omega arith)) (λ c. rw c.match.keys4 (refl, omega arith)) (λ c. rw c.match.keys5 (refl, omega arith)) (λ c. rw c.match.keys6 (refl, omega arith))
-    (λ c. rw (step-leaving c.before.args.state (omega arith) false tx_la) (refl, omega arith)))
+    (tie.spec (λ c. rw c.in-0.is (refl, omega arith)) (λ c. rw c.in-1.is (refl, omega arith)) (λ c. rw c.in-2.is (refl, omega arith)) (λ c. rw c.in-3.is (refl, omega arith)) (λ c. rw c.in-4.is (refl, omega arith)) (λ c. rw c.in-5.is (refl, omega arith)) (λ c. rw (step-leaving c.args.state (omega arith) false tx_la) (refl, omega arith)))

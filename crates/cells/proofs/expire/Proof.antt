@@ -6,10 +6,10 @@ use Rattle.cells.proofs.expire.Tie as tie
 
 returns : tie.Need-returns
 returns c st e =
-    let a = c.before.before.before.before.before.before.before.before.before.args in
-    expires-both st a.leave a.time e a.cell.now _ _ c.before.before.before.before.before.before.before.before.before.requires.laid c.before.before.before.before.before.before.lapse.ensures c.before.before.lapse2.ensures
+    let a = c.args in
+    expires-both st a.leave a.time e a.cell.now _ _ c.requires.laid c.lapse.ensures c.lapse-2.ensures
 
-pub expire-spec : {M : Type 1} → statement M
-expire-spec =
+pub expire_spec : {M : Type 1} → statement M
+expire_spec =
     tie.close
     (tie.spec (λ c κs. search rules) (λ c κs. search rules) (λ c. search rules) returns)

@@ -6,36 +6,36 @@ use Rattle.cells.specs.Steps.{same}
 use Rattle.cells.proofs.is_same.Statement.{statement}
 use Rattle.cells.proofs.is_same.Tie as tie
 
-returns : tie.Need-returns
+returns : tie.Need-returns-then-get
 unfolding same pick
 returns c =
     rw (
-      ← c.before.before.before.before.before.before.before.get.ensures.0,
-      ← c.before.before.before.before.before.before.get2.ensures.0,
-      ← c.before.before.before.before.get3.ensures.0,
-      ← c.before.before.before.get4.ensures.0,
-      eq-eqb _ _ c.before.before.before.before.before.if1.true,
-      eq-eqb _ _ c.before.before.if2.true,
+      ← c.get.ensures.0,
+      ← c.get-2.ensures.0,
+      ← c.get-then-get-n.ensures.0,
+      ← c.get-then-get-n-2.ensures.0,
+      eq-eqb _ _ c.if-get-n.true,
+      eq-eqb _ _ c.if-get.true,
     )
 
-returns-2 : tie.Need-returns-2
+returns-2 : tie.Need-returns-else-get
 unfolding same pick
 returns-2 c =
     rw (
-      ← c.before.before.before.before.before.get.ensures.0,
-      ← c.before.before.before.before.get2.ensures.0,
-      ← c.before.before.get3.ensures.0,
-      ← c.before.get4.ensures.0,
-      eq-eqb _ _ c.before.before.before.if1.true,
-      ne_eqb _ _ c.if2.false,
+      ← c.get.ensures.0,
+      ← c.get-2.ensures.0,
+      ← c.get-then-get-n.ensures.0,
+      ← c.get-then-get-n-2.ensures.0,
+      eq-eqb _ _ c.if-get-n.true,
+      ne_eqb _ _ c.if-get.false,
     )
 
-returns-3 : tie.Need-returns-3
+returns-3 : tie.Need-returns-else-get-n
 unfolding same pick
-returns-3 c = rw (← c.before.before.get.ensures.0, ← c.before.get2.ensures.0, ne_eqb _ _ c.if1.false)
+returns-3 c = rw (← c.get.ensures.0, ← c.get-2.ensures.0, ne_eqb _ _ c.if-get-n.false)
 
-pub is-same-spec : {M : Type 1} → statement M
-is-same-spec =
+pub is_same_spec : {M : Type 1} → statement M
+is_same_spec =
     tie.close
     (tie.spec (λ c κs. search rules) (λ c κs. search rules) (λ c. search rules) (λ c κs. search rules) (λ c κs. search rules)
     (λ c. search rules) (λ c. search rules) returns returns-2 returns-3)

@@ -11,13 +11,13 @@ use Rattle.cells.proofs.join_listener.Tie as tie
 returns : tie.Need-returns
 unfolding heard
 returns c clock id =
-    let a = c.before.before.before.before.before.before.before.before.before.args in
-    let p = c.before.before.before.before.before.before.before.before.before.requires in
-    c.before.before.clear.ensures
-    ∙ ap (patch in_cell.listener_leaves leaving_size (zeros leaving_size)) c.before.before.before.before.before.before.put.ensures
+    let a = c.args in
+    let p = c.requires in
+    c.clear.ensures
+    ∙ ap (patch in_cell.listener_leaves leaving_size (zeros leaving_size)) c.put.ensures
     ∙ listens a.four p.low p.high clock id a.cell.now p.laid
 
-pub join-listener-spec : {M : Type 1} → statement M
-join-listener-spec =
+pub join_listener_spec : {M : Type 1} → statement M
+join_listener_spec =
     tie.close
     (tie.spec (λ c κs. search rules) (λ c κs. search rules) (λ c. search rules) returns)

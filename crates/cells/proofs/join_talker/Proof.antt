@@ -14,58 +14,58 @@ use Rattle.cells.proofs.join_talker.Statement.{statement}
 use Rattle.cells.proofs.join_talker.Tie as tie
 
 -- at the first read: FirstValue is long enough, and the step is the act's
-module _ (c : tie.After-shared-slice-known) where
-  long : advertise_length ≤ length c.before.before.args.first.now
-  long = omega (arith, first-long c.before.before.args.kind c.before.before.requires.low c.before.before.requires.high)
+module _ (c : tie.After-shared_slice_known-1) where
+  long : advertise_length ≤ length c.args.first.now
+  long = omega (arith, first-long c.args.kind c.requires.low c.requires.high)
 
-  failed : c.before.before.args.kind ≡ 2 → failed_length ≤ length c.before.before.args.first.now
-  failed e = omega (arith, first-failed c.before.before.args.kind e)
+  failed : c.args.kind ≡ 2 → failed_length ≤ length c.args.first.now
+  failed e = omega (arith, first-failed c.args.kind e)
 
-  acts : (clock : ℕ) → let a = c.before.before.args in
+  acts : (clock : ℕ) → let a = c.args in
       joined a.kind a.first.now a.n a.cell.now
       ≡ cell_octets (does clock (talk_of (kind_at a.kind) a.first.now a.n) (to_cell a.cell.now))
   acts clock =
-      let a = c.before.before.args in
-      let p = c.before.before.requires in
-      joins a.kind p.low p.high a.first.now long (λ i. omega (arith, c.shared-slice-known.given i)) a.n clock a.cell.now p.laid
+      let a = c.args in
+      let p = c.requires in
+      joins a.kind p.low p.high a.first.now long (λ i. omega (arith, c.shared_slice_known-1.given i)) a.n clock a.cell.now p.laid
 
-write-varying-requires : tie.Need-write-varying-requires
+write-varying-requires : tie.Need-write_varying-requires
 write-varying-requires c κs = record { size = omega arith; octets = long c.before.before.before; failure = failed c.before.before.before }
 
-write-fixed-requires : tie.Need-write-fixed-requires
+write-fixed-requires : tie.Need-write_fixed-requires
 write-fixed-requires c κs = record { size = omega arith; octets = long c.before.before.before.before.before.before.before; destination = omega arith }
 
-returns : tie.Need-returns
+returns : tie.Need-returns-then-cell-eq0
 returns c clock =
-    let a = c.before.before.before.before.before.before.before.before.before.before.before.before.args in
-    c.before.before.write-fixed.ensures
-    ∙ ap (fixed a.first.now a.n) c.before.before.before.before.before.before.write-varying.ensures
-    ∙ joined-new a.kind a.first.now a.n a.cell.now c.before.before.before.before.before.before.before.before.if1.true
+    let a = c.args in
+    c.write_fixed.ensures
+    ∙ ap (fixed a.first.now a.n) c.write_varying.ensures
+    ∙ joined-new a.kind a.first.now a.n a.cell.now c.if-cell-eq0.true
     ∙ acts c.before.before.before.before.before.before.before.before.before.before clock
 
-is-same-requires : tie.Need-is-same-requires
-is-same-requires c κs = record { size = omega arith; octets = long c.before.before.before; destination = omega arith }
+is-same-requires : tie.Need-is_same-unchanged-requires
+is-same-requires c κs = record { size = omega arith; octets = long c.before.before; destination = omega arith }
 
-write-varying-requires-2 : tie.Need-write-varying-requires-2
+write-varying-requires-2 : tie.Need-write_varying-requires-then-unchanged
 write-varying-requires-2 c κs =
-    record { size = omega arith; octets = long c.before.before.before.before.before.before; failure = failed c.before.before.before.before.before.before }
+    record { size = omega arith; octets = long c.before.before.before.before.before; failure = failed c.before.before.before.before.before }
 
-returns-2 : tie.Need-returns-2
+returns-2 : tie.Need-returns-then-unchanged
 returns-2 c clock =
-    let a = c.before.before.before.before.before.before.before.before.before.before.before.args in
-    c.before.before.write-varying2.ensures
-    ∙ joined_same a.kind a.first.now a.n a.cell.now c.before.before.before.before.before.before.before.if1.false (sym c.before.before.before.before.before.is_same.ensures ∙ c.before.before.before.before.if2.true)
-    ∙ acts c.before.before.before.before.before.before.before.before.before clock
+    let a = c.args in
+    c.write_varying-then-unchanged.ensures
+    ∙ joined_same a.kind a.first.now a.n a.cell.now c.if-cell-eq0.false (sym c.is_same-unchanged.ensures ∙ c.if-unchanged.true)
+    ∙ acts c.before.before.before.before.before.before.before.before clock
 
-returns-3 : tie.Need-returns-3
+returns-3 : tie.Need-returns-else-unchanged
 returns-3 c clock =
-    let a = c.before.before.before.before.before.before.before.before.before.before.before.args in
-    c.before.before.mark-changed.ensures
-    ∙ joined-changed a.kind a.first.now a.n a.cell.now c.before.before.before.before.before.before.before.if1.false (sym c.before.before.before.before.before.is_same.ensures ∙ c.before.before.before.before.if2.false)
-    ∙ acts c.before.before.before.before.before.before.before.before.before clock
+    let a = c.args in
+    c.mark_changed.ensures
+    ∙ joined-changed a.kind a.first.now a.n a.cell.now c.if-cell-eq0.false (sym c.is_same-unchanged.ensures ∙ c.if-unchanged.false)
+    ∙ acts c.before.before.before.before.before.before.before.before clock
 
-pub join-talker-spec : {M : Type 1} → statement M
-join-talker-spec =
+pub join_talker_spec : {M : Type 1} → statement M
+join_talker_spec =
     tie.close
     (tie.spec (λ c. search rules) write-varying-requires write-fixed-requires (λ c. search rules) returns is-same-requires
     write-varying-requires-2 (λ c κs. search rules) (λ c. search rules) returns-2 (λ c. search rules) returns-3)

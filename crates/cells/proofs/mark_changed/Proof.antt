@@ -8,7 +8,7 @@ returns : tie.Need-returns
 unfolding marked
 returns c = cc
 
-pub mark-changed-spec : {M : Type 1} → statement M
-mark-changed-spec =
+pub mark_changed_spec : {M : Type 1} → statement M
+mark_changed_spec =
     tie.close
     (tie.spec (λ c κs. search rules) (λ c κs. search rules) (λ c. search rules) returns)

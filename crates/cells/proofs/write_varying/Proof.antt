@@ -8,8 +8,8 @@ returns : tie.Need-returns
 unfolding varied
 returns c = cc
 
-pub write-varying-spec : {M : Type 1} → statement M
-write-varying-spec =
+pub write_varying_spec : {M : Type 1} → statement M
+write_varying_spec =
     tie.close
     (tie.spec (λ c κs. search rules) (λ c κs. search rules) (λ c κs. search rules) (λ c κs. search rules) (λ c κs. search rules)
     (λ c. search rules) returns)

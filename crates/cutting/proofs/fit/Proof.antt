@@ -16,25 +16,25 @@ use Rattle.model.proofs.Gaps.{run-whole}
 use Rattle.cutting.proofs.fit.Statement.{statement}
 use Rattle.cutting.proofs.fit.Tie as tie
 
-abbrev invariant-loop : tie.invariant-loop
-invariant-loop table places room costs₀ n k₀ costs k =
+abbrev invariant-loop-k : tie.invariant-loop-k
+invariant-loop-k table places room costs₀ n k₀ costs k =
     (k ≤ length places) × (length costs ≡ 65) × Costed (ids_of table places) k costs × (run_from room (ids_of table places) k (length (ids_of table places) - k) ≡ run room (ids_of table places)) × Kept k costs₀ costs
 
-abbrev decreases-loop : tie.decreases-loop
-decreases-loop table places room costs₀ n k₀ costs k = length places - k
+abbrev decreases-loop-k : tie.decreases-loop-k
+decreases-loop-k table places room costs₀ n k₀ costs k = length places - k
 
-returns : tie.Need-returns invariant-loop decreases-loop
+returns : tie.Need-returns-then-n-room invariant-loop-k decreases-loop-k
 returns c =
-    let a = c.before.before.before.before.args in
-    let p = c.before.before.before.before.requires in
+    let a = c.args in
+    let p = c.requires in
     let long = ids-length a.table.now a.places.now in
     let whole = run-whole a.room (ids_of a.table.now a.places.now) (omega (arith, long, p.0.few)) (ascending-rising (ids_of a.table.now a.places.now) p.0.ascending) (omega (arith, long)) in
     (omega (arith, whole, long), omega arith, refl)
 
-loop-holds : tie.Need-loop-init invariant-loop decreases-loop
+loop-holds : tie.Need-loop-k-init invariant-loop-k decreases-loop-k
 unfolding run
 loop-holds c =
-    let a = c.before.before.before.before.args in (
+    let a = c.args in (
       omega arith,
       simp length-set (omega arith),
       filled-up (λ i. least (take i (ids_of a.table.now a.places.now))) a.costs.now 0 0 (omega arith) (least-none (ids_of a.table.now a.places.now)) (λ i p. absurd (omega arith)),
@@ -42,46 +42,46 @@ loop-holds c =
       refl,
     )
 
-least-to-requires : tie.Need-least-to-requires invariant-loop decreases-loop
+least-to-requires : tie.Need-least_to-c-requires invariant-loop-k decreases-loop-k
 least-to-requires c κs =
-    let l = c.before.before.loop in
-    let p = c.before.before.before.before.before.before.before.requires in
+    let l = c.loop-k in
+    let p = c.requires in
     (p.0, omega arith, omega arith, l.invariant.2)
 
-returns-2 : tie.Need-returns-2 invariant-loop decreases-loop
+returns-2 : tie.Need-returns-then-room-c invariant-loop-k decreases-loop-k
 returns-2 c =
-    let a = c.before.before.before.before.before.before.before.before.before.args in
-    let l = c.before.before.before.before.loop in
+    let a = c.args in
+    let l = c.loop-k in
     let s : length (ids_of a.table.now a.places.now) - l.k ≡ suc (length (ids_of a.table.now a.places.now) - (l.k + 1)) = omega (arith, ids-length a.table.now a.places.now) in
-    (sym (run-stops _ (ids_of a.table.now a.places.now) l.k _ _ _ c.before.least-to.ensures s c.if2.true) ∙ l.invariant.3, omega arith, l.invariant.4 ∙ kept_set l.k 0 0 a.costs.now a.costs.now (omega arith) refl)
+    (sym (run-stops _ (ids_of a.table.now a.places.now) l.k _ _ _ c.least_to-c.ensures s c.if-room-c.true) ∙ l.invariant.3, omega arith, l.invariant.4 ∙ kept_set l.k 0 0 a.costs.now a.costs.now (omega arith) refl)
 
-cast-costs : tie.Need-overflow-cast-costs invariant-loop decreases-loop
+cast-costs : tie.Need-overflow_cast-costs invariant-loop-k decreases-loop-k
 cast-costs c =
-    let a = c.before.before.before.before.before.before.before.before.before.args in
-    let l = c.before.before.before.before.loop in
-    omega (arith, c.before.least-to.ensures, least-small (ids_of a.table.now a.places.now) (l.k + 1) (omega (arith, ids-length a.table.now a.places.now, c.before.before.before.before.before.before.before.before.before.requires.0.few)))
+    let a = c.args in
+    let l = c.loop-k in
+    omega (arith, c.least_to-c.ensures, least-small (ids_of a.table.now a.places.now) (l.k + 1) (omega (arith, ids-length a.table.now a.places.now, c.requires.0.few)))
 
-loop-again : tie.Need-loop-preserved invariant-loop decreases-loop
+loop-again : tie.Need-loop-k-preserved invariant-loop-k decreases-loop-k
 loop-again c =
-    let a = c.before.before.before.before.before.before.before.before.before.args in
-    let l = c.before.before.before.before.loop in
+    let a = c.args in
+    let l = c.loop-k in
     let s : length (ids_of a.table.now a.places.now) - l.k ≡ suc (length (ids_of a.table.now a.places.now) - (l.k + 1)) = omega (arith, ids-length a.table.now a.places.now) in (
       omega arith,
       simp length-set (omega arith),
-      filled-up (λ i. least (take i (ids_of a.table.now a.places.now))) l.costs (l.k + 1) _ (omega arith) c.before.least-to.ensures (λ i p. l.invariant.2 i (omega arith)),
-      sym (run-goes _ (ids_of a.table.now a.places.now) l.k _ _ _ c.before.least-to.ensures s c.if2.false) ∙ l.invariant.3,
+      filled-up (λ i. least (take i (ids_of a.table.now a.places.now))) l.costs (l.k + 1) _ (omega arith) c.least_to-c.ensures (λ i p. l.invariant.2 i (omega arith)),
+      sym (run-goes _ (ids_of a.table.now a.places.now) l.k _ _ _ c.least_to-c.ensures s c.if-room-c.false) ∙ l.invariant.3,
       kept_more l.k _ _ l.costs l.invariant.4,
     )
 
-returns-3 : tie.Need-returns-3 invariant-loop decreases-loop
+returns-3 : tie.Need-returns invariant-loop-k decreases-loop-k
 returns-3 c =
-    let a = c.before.before.before.before.before.before.args in
-    let l = c.before.loop in
+    let a = c.args in
+    let l = c.loop-k in
     (sym (run_ends _ (ids_of a.table.now a.places.now) l.k _ (omega (arith, ids-length a.table.now a.places.now))) ∙ l.invariant.3, omega arith, l.invariant.4 ∙ kept_set l.k 0 0 a.costs.now a.costs.now (omega arith) refl)
 
 pub fit_spec : {M : Type 1} → statement M
 fit_spec =
     tie.close
-    (tie.spec invariant-loop decreases-loop (λ c. search rules) returns (λ c. search rules) loop-holds least-to-requires (λ c. search rules)
+    (tie.spec invariant-loop-k decreases-loop-k (λ c. search rules) returns (λ c. search rules) loop-holds least-to-requires (λ c. search rules)
     returns-2 (λ c. search rules) cast-costs (λ c. search rules) (λ c. search rules) (λ c. search rules) loop-again
     (λ c. search rules) returns-3)

@@ -13,17 +13,17 @@ use Rattle.cutting.proofs.Loops.{entry-end, entry-fits, filled, kept_set}
 use Rattle.cutting.proofs.plan.Statement.{statement}
 use Rattle.cutting.proofs.plan.Tie as tie
 
-abbrev invariant-loop : tie.invariant-loop
-invariant-loop table places weighs₀ firsts₀ i₀ weighs firsts i =
+abbrev invariant-loop-i : tie.invariant-loop-i
+invariant-loop-i table places weighs₀ firsts₀ i₀ weighs firsts i =
     (i ≤ length places) × (length weighs ≡ 65) × (length firsts ≡ 65) × Weighed (ids_of table places) i weighs × Counted (ids_of table places) i firsts × Kept (length places) weighs₀ weighs × Kept (length places) firsts₀ firsts
 
-abbrev decreases-loop : tie.decreases-loop
-decreases-loop table places weighs₀ firsts₀ i₀ weighs firsts i = i
+abbrev decreases-loop-i : tie.decreases-loop-i
+decreases-loop-i table places weighs₀ firsts₀ i₀ weighs firsts i = i
 
-loop-holds : tie.Need-loop-init invariant-loop decreases-loop
+loop-holds : tie.Need-loop-i-init invariant-loop-i decreases-loop-i
 loop-holds c =
-    let a = c.before.before.before.before.args in
-    let few = c.before.before.before.before.requires.0.few in
+    let a = c.args in
+    let few = c.requires.0.few in
     let l : List ℕ = ids_of a.table.now a.places.now in
     let n : ℕ = length a.places.now in
     let long = ids-length a.table.now a.places.now in
@@ -37,30 +37,30 @@ loop-holds c =
       refl,
     )
 
-choose-requires : tie.Need-choose-requires invariant-loop decreases-loop
+choose-requires : tie.Need-choose-e-requires invariant-loop-i decreases-loop-i
 choose-requires c κs =
-    let l = c.before.before.loop in
-    (c.before.before.before.before.before.before.before.requires.0, omega arith, omega arith, λ k p q. l.invariant.3 k (omega arith) q)
+    let l = c.loop-i in
+    (c.requires.0, omega arith, omega arith, λ k p q. l.invariant.3 k (omega arith) q)
 
-cast-weighs : tie.Need-overflow-cast-weighs invariant-loop decreases-loop
+cast-weighs : tie.Need-overflow_cast-weighs invariant-loop-i decreases-loop-i
 cast-weighs c =
-    let a = c.before.before.before.before.before.before.before.before.before.args in
-    let l = c.before.before.before.before.loop in
-    omega (arith, ap (λ r. r.weighs) c.before.choose.ensures, (entry-fits (ids_of a.table.now a.places.now) (l.i - 1) (omega (arith, ids-length a.table.now a.places.now, c.before.before.before.before.before.before.before.before.before.requires.0.few)) (omega (arith, ids-length a.table.now a.places.now))).0)
+    let a = c.args in
+    let l = c.loop-i in
+    omega (arith, ap (λ r. r.weighs) c.choose-e.ensures, (entry-fits (ids_of a.table.now a.places.now) (l.i - 1) (omega (arith, ids-length a.table.now a.places.now, c.requires.0.few)) (omega (arith, ids-length a.table.now a.places.now))).0)
 
-cast-firsts : tie.Need-overflow-cast-firsts invariant-loop decreases-loop
+cast-firsts : tie.Need-overflow_cast-firsts invariant-loop-i decreases-loop-i
 cast-firsts c =
-    let a = c.before.before.before.before.before.before.before.before.before.before.args in
-    let l = c.before.before.before.before.before.loop in
-    omega (arith, ap (λ r. r.first) c.before.before.choose.ensures, (entry-fits (ids_of a.table.now a.places.now) (l.i - 1) (omega (arith, ids-length a.table.now a.places.now, c.before.before.before.before.before.before.before.before.before.before.requires.0.few)) (omega (arith, ids-length a.table.now a.places.now))).1)
+    let a = c.args in
+    let l = c.loop-i in
+    omega (arith, ap (λ r. r.first) c.choose-e.ensures, (entry-fits (ids_of a.table.now a.places.now) (l.i - 1) (omega (arith, ids-length a.table.now a.places.now, c.requires.0.few)) (omega (arith, ids-length a.table.now a.places.now))).1)
 
-loop-again : tie.Need-loop-preserved invariant-loop decreases-loop
+loop-again : tie.Need-loop-i-preserved invariant-loop-i decreases-loop-i
 loop-again c =
-    let a = c.before.before.before.before.before.before.before.before.before.before.args in
-    let l = c.before.before.before.before.before.loop in
+    let a = c.args in
+    let l = c.loop-i in
     let n : ℕ = length (ids_of a.table.now a.places.now) in
     let s : l.i - 1 + 1 ≡ l.i = omega arith in
-    let e = c.before.before.choose.ensures in (
+    let e = c.choose-e.ensures in (
       omega arith,
       simp length-set (omega arith),
       simp length-set (omega arith),
@@ -70,10 +70,10 @@ loop-again c =
       kept_set (length a.places.now) (l.i - 1) _ _ l.firsts (omega arith) l.invariant.6,
     )
 
-returns : tie.Need-returns invariant-loop decreases-loop
+returns : tie.Need-returns invariant-loop-i decreases-loop-i
 returns c =
-    let a = c.before.before.before.before.before.before.args in
-    let l = c.before.loop in
+    let a = c.args in
+    let l = c.loop-i in
     let n : ℕ = length a.places.now in (
       λ k p q. l.invariant.3 k (omega arith) q,
       λ k p q. l.invariant.4 k (omega arith) q,
@@ -81,9 +81,9 @@ returns c =
       l.invariant.6 ∙ kept_set n n 0 a.firsts.now a.firsts.now (omega arith) refl,
     )
 
-pub plan-spec : {M : Type 1} → statement M
-plan-spec =
+pub plan_spec : {M : Type 1} → statement M
+plan_spec =
     tie.close
-    (tie.spec invariant-loop decreases-loop (λ c. search rules) (λ c. omega (arith, c.before.before.before.before.requires.0.few)) (λ c. omega (arith, c.before.before.before.before.requires.0.few)) loop-holds (λ c. search rules)
+    (tie.spec invariant-loop-i decreases-loop-i (λ c. search rules) (λ c. omega (arith, c.requires.0.few)) (λ c. omega (arith, c.requires.0.few)) loop-holds (λ c. search rules)
     choose-requires cast-weighs (λ c. search rules) (λ c. search rules) cast-firsts (λ c. search rules) (λ c. search rules)
     loop-again (λ c. search rules) (λ c. search rules) returns)

@@ -6,7 +6,7 @@ use Rattle.cutting.proofs.size_of.Statement.{statement}
 use Rattle.cutting.proofs.size_of.Tie as tie
 
 returns : tie.Need-returns
-returns c = (c.octets-for.ensures.0 ∙ ap octets_for c.before.values_of.ensures.0, c.octets-for.ensures.1)
+returns c = (c.octets_for.ensures.0 ∙ ap octets_for c.values_of.ensures.0, c.octets_for.ensures.1)
 
-pub size-of-spec : {M : Type 1} → statement M
-size-of-spec = tie.close (tie.spec (λ c κs. search rules) (λ c κs. search rules) returns)
+pub size_of_spec : {M : Type 1} → statement M
+size_of_spec = tie.close (tie.spec (λ c κs. search rules) (λ c κs. search rules) returns)

@@ -8,15 +8,15 @@ use Rattle.form.proofs.Sent.{sent-none, behind-state}
 use Rattle.form.proofs.advertise_formed.Statement.{statement}
 use Rattle.form.proofs.advertise_formed.Tie as tie
 
-returns : tie.Need-returns
+returns : tie.Need-returns-then-offer-eq0
 returns c =
-    let a = c.before.before.before.before.args in
-    sent-none offer_formed a.offer.now a.decided c.before.if1.true _ (c.offer-zero.ensures ∙ behind-state offer_size a.offer.now c.before.before.before.before.requires)
+    let a = c.args in
+    sent-none offer_formed a.offer.now a.decided c.if-offer-eq0.true _ (c.offer_zero.ensures ∙ behind-state offer_size a.offer.now c.requires)
 
-offer-formed-requires : tie.Need-offer-formed-requires
-offer-formed-requires c κs = (omega (arith, c.before.before.before.requires), c.if1.false)
+offer-formed-requires : tie.Need-offer_formed-requires
+offer-formed-requires c κs = (omega (arith, c.requires), c.if-offer-eq0.false)
 
-pub advertise-formed-spec : {M : Type 1} → statement M
-advertise-formed-spec =
+pub advertise_formed_spec : {M : Type 1} → statement M
+advertise_formed_spec =
     tie.close
-    (tie.spec (λ c. search rules) (λ c κs. search rules) returns offer-formed-requires (λ c. c.offer-formed.ensures))
+    (tie.spec (λ c. search rules) (λ c κs. search rules) returns offer-formed-requires (λ c. c.offer_formed.ensures))

@@ -5,32 +5,32 @@ use Rattle.form.proofs.Sought.{RecordsSought, records-first, record-holds, recor
 use Rattle.form.proofs.any_registered.Statement.{statement}
 use Rattle.form.proofs.any_registered.Tie as tie
 
-abbrev invariant-loop : tie.invariant-loop
-invariant-loop records count ports k₀ = RecordsSought ports count records
+abbrev invariant-loop-k : tie.invariant-loop-k
+invariant-loop-k records count ports k₀ = RecordsSought ports count records
 
-abbrev decreases-loop : tie.decreases-loop
-decreases-loop records count ports k₀ k = count - k
+abbrev decreases-loop-k : tie.decreases-loop-k
+decreases-loop-k records count ports k₀ k = count - k
 
-returns : tie.Need-returns invariant-loop decreases-loop
+returns : tie.Need-returns-then-is_registered invariant-loop-k decreases-loop-k
 returns c =
-    let a = c.before.before.before.before.before.before.args in
-    let l = c.before.before.before.before.loop in
-    record-holds a.ports a.count a.records.now l.k c.before.before.before.before.before.before.requires.0 c.before.before.before.loop-test.true _ c.before.is-registered.ensures
-    c.if1.true l.invariant
+    let a = c.args in
+    let l = c.loop-k in
+    record-holds a.ports a.count a.records.now l.k c.requires.0 c.loop-k-test.true _ c.is_registered.ensures
+    c.if-is_registered.true l.invariant
 
-loop-again : tie.Need-loop-preserved invariant-loop decreases-loop
+loop-again : tie.Need-loop-k-preserved invariant-loop-k decreases-loop-k
 loop-again c =
-    let a = c.before.before.before.before.before.before.args in
-    let l = c.before.before.before.before.loop in
-    record-empty a.ports a.count a.records.now l.k c.before.before.before.before.before.before.requires.0 c.before.before.before.loop-test.true _ c.before.is-registered.ensures
-    c.if1.false l.invariant
+    let a = c.args in
+    let l = c.loop-k in
+    record-empty a.ports a.count a.records.now l.k c.requires.0 c.loop-k-test.true _ c.is_registered.ensures
+    c.if-is_registered.false l.invariant
 
-returns-2 : tie.Need-returns-2 invariant-loop decreases-loop
-returns-2 c = records-last _ _ _ c.before.loop.k c.loop-test.false c.before.loop.invariant
+returns-2 : tie.Need-returns invariant-loop-k decreases-loop-k
+returns-2 c = records-last _ _ _ c.loop-k.k c.loop-k-test.false c.loop-k.invariant
 
-pub any-registered-spec : {M : Type 1} → statement M
-any-registered-spec =
+pub any_registered_spec : {M : Type 1} → statement M
+any_registered_spec =
     tie.close
-    (tie.spec invariant-loop decreases-loop (λ c. records-first _ _ _) (λ c. search rules) (λ c. search rules) (λ c. search rules)
+    (tie.spec invariant-loop-k decreases-loop-k (λ c. records-first _ _ _) (λ c. search rules) (λ c. search rules) (λ c. search rules)
     (λ c. search rules) (λ c. search rules) (λ c. search rules) (λ c. search rules) (λ c κs. search rules) returns
     (λ c. search rules) (λ c. search rules) loop-again returns-2)

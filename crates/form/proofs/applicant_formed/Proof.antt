@@ -3,13 +3,13 @@ use Rattle.model.specs.Sending.{domain_standing}
 use Rattle.form.proofs.applicant_formed.Statement.{statement}
 use Rattle.form.proofs.applicant_formed.Tie as tie
 
-returns : tie.Need-returns
+returns : tie.Need-returns-then-own
 unfolding domain_standing
-returns c = rw c.if1.true
+returns c = rw c.if-own.true
 
-returns-2 : tie.Need-returns-2
+returns-2 : tie.Need-returns
 unfolding domain_standing
-returns-2 c = rw c.if1.false
+returns-2 c = rw c.if-own.false
 
-pub applicant-formed-spec : {M : Type 1} → statement M
-applicant-formed-spec = tie.close (tie.spec returns returns-2)
+pub applicant_formed_spec : {M : Type 1} → statement M
+applicant_formed_spec = tie.close (tie.spec returns returns-2)

@@ -3,13 +3,13 @@ use Rattle.model.specs.Table.{at_most}
 use Rattle.form.proofs.at_most.Statement.{statement}
 use Rattle.form.proofs.at_most.Tie as tie
 
-returns : tie.Need-returns
+returns : tie.Need-returns-then-some-supports
 unfolding at_most
-returns c = rw c.if1.true
+returns c = rw c.if-some-supports.true
 
-returns-2 : tie.Need-returns-2
+returns-2 : tie.Need-returns
 unfolding at_most
-returns-2 c = rw c.if1.false
+returns-2 c = rw c.if-some-supports.false
 
-pub at-most-spec : {M : Type 1} → statement M
-at-most-spec = tie.close (tie.spec returns returns-2)
+pub at_most_spec : {M : Type 1} → statement M
+at_most_spec = tie.close (tie.spec returns returns-2)

@@ -4,13 +4,13 @@ use Rattle.model.specs.Lists.{bit}
 use Rattle.form.proofs.bit.Statement.{statement}
 use Rattle.form.proofs.bit.Tie as tie
 
-returns : tie.Need-returns
+returns : tie.Need-returns-then-b
 unfolding bit
-returns c = (rw c.if1.true, omega arith)
+returns c = (rw c.if-b.true, omega arith)
 
-returns-2 : tie.Need-returns-2
+returns-2 : tie.Need-returns
 unfolding bit
-returns-2 c = (rw c.if1.false, omega arith)
+returns-2 c = (rw c.if-b.false, omega arith)
 
-pub bit-spec : {M : Type 1} → statement M
-bit-spec = tie.close (tie.spec returns returns-2)
+pub bit_spec : {M : Type 1} → statement M
+bit_spec = tie.close (tie.spec returns returns-2)

@@ -7,9 +7,9 @@ use Rattle.form.proofs.cell_formed.Tie as tie
 
 returns : tie.Need-returns
 unfolding cell_formed
-returns c = rw (c.before.talker-formed.ensures, c.listener-formed.ensures) (all-true-split 6 _)
+returns c = rw (c.talker_formed.ensures, c.listener_formed.ensures) (all-true-split 6 _)
 
-pub cell-formed-spec : {M : Type 1} → statement M
-cell-formed-spec =
+pub cell_formed_spec : {M : Type 1} → statement M
+cell_formed_spec =
     tie.close
     (tie.spec (λ c κs. search rules) (λ c κs. search rules) returns)

@@ -9,47 +9,47 @@ use Rattle.form.proofs.Tables.{header-ports, too-many-streams, behind-header}
 use Rattle.form.proofs.is_formed.Statement.{statement}
 use Rattle.form.proofs.is_formed.Tie as tie
 
-returns : tie.Need-returns
+returns : tie.Need-returns-then-table-ne-LENGTH
 unfolding formed
-returns c = rw (ne_eqb _ _ c.if1.true)
+returns c = rw (ne_eqb _ _ c.if-table-ne-LENGTH.true)
 
-returns-2 : tie.Need-returns-2
+returns-2 : tie.Need-returns-then-table-gt64
 unfolding formed
-returns-2 c = rw (eq-eqb _ _ c.before.before.if1.false) (too-many-streams c.before.before.before.before.args.table.now c.if2.true)
+returns-2 c = rw (eq-eqb _ _ c.if-table-ne-LENGTH.false) (too-many-streams c.args.table.now c.if-table-gt64.true)
 
-returns-3 : tie.Need-returns-3
+returns-3 : tie.Need-returns-then-not-header_formed
 unfolding formed
 returns-3 c =
     rw (
-      eq-eqb _ _ c.before.before.before.before.if1.false,
-      ← (all-true-split 2 (table_rules c.before.before.before.before.before.before.args.table.now)),
-      ← c.before.header-formed.ensures,
-      not-true c.before.header-formed.result c.if3.true,
+      eq-eqb _ _ c.if-table-ne-LENGTH.false,
+      ← (all-true-split 2 (table_rules c.args.table.now)),
+      ← c.header_formed.ensures,
+      c.if-not-header_formed.true,
     )
 
-given : (c : tie.Else3) → TableGiven c.before.before.before.before.before.before.args.table.now
+given : (c : tie.Else-not-header_formed) → TableGiven c.args.table.now
 given c = record {
-  size = c.before.before.before.before.if1.false;
-  few = c.before.before.if2.false;
-  ports = header-ports _ (sym c.before.header-formed.ensures ∙ not-false _ c.if3.false);
+  size = c.if-table-ne-LENGTH.false;
+  few = c.if-table-gt64.false;
+  ports = header-ports _ (sym c.header_formed.ensures ∙ c.if-not-header_formed.false);
 }
 
-returns-4 : tie.Need-returns-4
+returns-4 : tie.Need-returns
 unfolding formed
 returns-4 c =
-    let t = c.before.before.before.before.before.before.before.before.before.before.args.table.now in
-    let head = c.before.before.before.before.before.header-formed in
+    let t = c.args.table.now in
+    let head = c.header_formed in
     rw (
-      eq-eqb _ _ c.before.before.before.before.before.before.before.before.if1.false,
+      eq-eqb _ _ c.if-table-ne-LENGTH.false,
       ← (all-true-split 2 (table_rules t)),
       ← head.ensures,
-      not-false head.result c.before.before.before.before.if3.false,
+      c.if-not-header_formed.false,
     )
-    (behind-header t _ _ _ _ c.before.before.before.totals-formed.ensures c.before.before.edges-formed.ensures c.before.sending-formed.ensures
-    c.streams-formed.ensures)
+    (behind-header t _ _ _ _ c.totals_formed.ensures c.edges_formed.ensures c.sending_formed.ensures
+    c.streams_formed.ensures)
 
-pub is-formed-spec : {M : Type 1} → statement M
-is-formed-spec =
+pub is_formed_spec : {M : Type 1} → statement M
+is_formed_spec =
     tie.close
     (tie.spec returns (λ c. search rules) returns-2 (λ c κs. search rules) returns-3 (λ c κs. given c) (λ c κs. given c.before)
     (λ c κs. given c.before.before) (λ c κs. given c.before.before.before) returns-4)

@@ -4,14 +4,14 @@ use Rattle.form.proofs.Sought.{CellsSought, turns}
 use Rattle.form.proofs.is_registered.Statement.{statement}
 use Rattle.form.proofs.is_registered.Tie as tie
 
-abbrev invariant-loop : tie.invariant-loop
-invariant-loop cells ports p₀ = CellsSought ports cells
+abbrev invariant-loop-p : tie.invariant-loop-p
+invariant-loop-p cells ports p₀ = CellsSought ports cells
 
-abbrev decreases-loop : tie.decreases-loop
-decreases-loop cells ports p₀ p = ports - p
+abbrev decreases-loop-p : tie.decreases-loop-p
+decreases-loop-p cells ports p₀ p = ports - p
 
-pub is-registered-spec : {M : Type 1} → statement M
-is-registered-spec =
+pub is_registered_spec : {M : Type 1} → statement M
+is_registered_spec =
     tie.close
-    (tie.spec invariant-loop decreases-loop (λ c. search turns) (λ c. search turns) (λ c. search turns) (λ c. search turns) (λ c. search turns)
+    (tie.spec invariant-loop-p decreases-loop-p (λ c. search turns) (λ c. search turns) (λ c. search turns) (λ c. search turns) (λ c. search turns)
     (λ c. search turns) (λ c. search turns) (λ c. search turns) (λ c. search turns) (λ c. search turns) (λ c. search turns))

@@ -6,18 +6,18 @@ use Rattle.form.proofs.Zeros.{not-zero, zero-behind, zero-octet}
 use Rattle.form.proofs.nine_zero.Statement.{statement}
 use Rattle.form.proofs.nine_zero.Tie as tie
 
-returns : tie.Need-returns
+returns : tie.Need-returns-then-get-ne0
 returns c =
-    let a = c.before.before.before.args in
-    not-zero a.at 8 1 a.s.now (omega (arith, c.before.before.before.requires)) _ c.before.get.ensures.0 c.if1.true
+    let a = c.args in
+    not-zero a.at 8 1 a.s.now (omega (arith, c.requires)) _ c.get.ensures.0 c.if-get-ne0.true
 
-returns-2 : tie.Need-returns-2
+returns-2 : tie.Need-returns
 returns-2 c =
-    let a = c.before.before.before.before.args in
-    let h = c.before.before.before.before.requires in
-    zero-behind a.at 8 1 a.s.now (omega (arith, h)) _ c.before.before.get.ensures.0 c.before.if1.false _ (zero-octet (a.at + 8) a.s.now (omega (arith, h)))
+    let a = c.args in
+    let h = c.requires in
+    zero-behind a.at 8 1 a.s.now (omega (arith, h)) _ c.get.ensures.0 c.if-get-ne0.false _ (zero-octet (a.at + 8) a.s.now (omega (arith, h)))
 
-pub nine-zero-spec : {M : Type 1} → statement M
-nine-zero-spec =
+pub nine_zero_spec : {M : Type 1} → statement M
+nine_zero_spec =
     tie.close
     (tie.spec (λ c κs. search rules) returns (λ c. search rules) (λ c. search rules) returns-2)

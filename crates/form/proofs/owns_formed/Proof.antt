@@ -6,14 +6,14 @@ use Rattle.form.proofs.EveryPart.{PartsLeft, turns}
 use Rattle.form.proofs.owns_formed.Statement.{statement}
 use Rattle.form.proofs.owns_formed.Tie as tie
 
-abbrev invariant-loop : tie.invariant-loop
-invariant-loop owns ports clock leave ok₀ p₀ = PartsLeft own_size (own_formed clock leave) ports owns
+abbrev invariant-loop-p : tie.invariant-loop-p
+invariant-loop-p owns ports clock leave ok₀ p₀ = PartsLeft own_size (own_formed clock leave) ports owns
 
-abbrev decreases-loop : tie.decreases-loop
-decreases-loop owns ports clock leave ok₀ p₀ ok p = ports - p
+abbrev decreases-loop-p : tie.decreases-loop-p
+decreases-loop-p owns ports clock leave ok₀ p₀ ok p = ports - p
 
-pub owns-formed-spec : {M : Type 1} → statement M
-owns-formed-spec =
+pub owns_formed_spec : {M : Type 1} → statement M
+owns_formed_spec =
     tie.close
-    (tie.spec invariant-loop decreases-loop (λ c. search turns) (λ c. search turns) (λ c. search turns) (λ c. search turns) (λ c. search turns)
+    (tie.spec invariant-loop-p decreases-loop-p (λ c. search turns) (λ c. search turns) (λ c. search turns) (λ c. search turns) (λ c. search turns)
     (λ c. search turns) (λ c κs. search turns) (λ c. search turns) (λ c. search turns) (λ c. search turns) (λ c. search turns))

@@ -9,7 +9,7 @@ returns : tie.Need-returns
 unfolding port_rule
 returns c = refl
 
-pub port-formed-spec : {M : Type 1} → statement M
-port-formed-spec =
+pub port_formed_spec : {M : Type 1} → statement M
+port_formed_spec =
     tie.close
     (tie.spec (λ c. search rules) returns)

@@ -7,19 +7,19 @@ use Rattle.form.proofs.record_formed.Tie as tie
 
 returns : tie.Need-returns
 returns c =
-    let held = c.before.before.before.before.before.before.before.before.cells-formed in
+    let held = c.cells_formed-held in
     record-tests _ _ _ _ _ _ _ _ refl refl refl _ _ held.result.none _ _ _ _ _ _
-    c.before.before.before.before.before.before.before.settled-formed.ensures
+    c.settled_formed.ensures
     held.ensures
-    c.before.before.before.before.before.is-held.ensures
-    c.before.before.before.before.zero-from.ensures
-    c.before.before.before.results-formed.ensures
-    c.before.before.zero-from2.ensures
-    c.before.sends-formed.ensures
-    c.zero-from3.ensures
+    c.is_held.ensures
+    c.zero_from.ensures
+    c.results_formed.ensures
+    c.zero_from-2.ensures
+    c.sends_formed.ensures
+    c.zero_from-3.ensures
 
-pub record-formed-spec : {M : Type 1} → statement M
-record-formed-spec =
+pub record_formed_spec : {M : Type 1} → statement M
+record_formed_spec =
     tie.close
     (tie.spec (λ c. search rules) (λ c. search rules) (λ c. search rules) (λ c. search rules) (λ c. search rules)
     (λ c. search rules) (λ c. search rules) (λ c. search rules) (λ c. search rules) (λ c κs. search rules) (λ c κs. search rules)

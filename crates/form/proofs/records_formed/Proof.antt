@@ -6,14 +6,14 @@ use Rattle.form.proofs.EveryPart.{PartsLeft, turns}
 use Rattle.form.proofs.records_formed.Statement.{statement}
 use Rattle.form.proofs.records_formed.Tie as tie
 
-abbrev invariant-loop : tie.invariant-loop
-invariant-loop records count ports clock leave ok₀ k₀ = PartsLeft record_size (stream_formed ports clock leave) count records
+abbrev invariant-loop-k : tie.invariant-loop-k
+invariant-loop-k records count ports clock leave ok₀ k₀ = PartsLeft record_size (stream_formed ports clock leave) count records
 
-abbrev decreases-loop : tie.decreases-loop
-decreases-loop records count ports clock leave ok₀ k₀ ok k = count - k
+abbrev decreases-loop-k : tie.decreases-loop-k
+decreases-loop-k records count ports clock leave ok₀ k₀ ok k = count - k
 
-pub records-formed-spec : {M : Type 1} → statement M
-records-formed-spec =
+pub records_formed_spec : {M : Type 1} → statement M
+records_formed_spec =
     tie.close
-    (tie.spec invariant-loop decreases-loop (λ c. search turns) (λ c. search turns) (λ c. search turns) (λ c. search turns) (λ c. search turns)
+    (tie.spec invariant-loop-k decreases-loop-k (λ c. search turns) (λ c. search turns) (λ c. search turns) (λ c. search turns) (λ c. search turns)
     (λ c. search turns) (λ c κs. search turns) (λ c. search turns) (λ c. search turns) (λ c. search turns) (λ c. search turns))

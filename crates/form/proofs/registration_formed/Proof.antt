@@ -3,8 +3,8 @@ use Rattle.form.proofs.Cells.{by-octets}
 use Rattle.form.proofs.registration_formed.Statement.{statement}
 use Rattle.form.proofs.registration_formed.Tie as tie
 
-pub registration-formed-spec : {M : Type 1} → statement M
-registration-formed-spec =
+pub registration_formed_spec : {M : Type 1} → statement M
+registration_formed_spec =
     tie.close
     (tie.spec (λ c κs. search by-octets) (λ c. search by-octets) (λ c. search by-octets) (λ c κs. search by-octets)
     (λ c. search by-octets) (λ c. search by-octets))

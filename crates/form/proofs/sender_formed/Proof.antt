@@ -6,11 +6,11 @@ use Rattle.form.proofs.sender_formed.Tie as tie
 
 returns : tie.Need-returns
 returns c =
-    let a = c.before.before.before.before.before.args in
-    sender-tests _ a.clock c.before.before.before.get.result a.sender.now c.before.before.before.get.ensures.0 _ c.before.applicants-formed.ensures
+    let a = c.args in
+    sender-tests _ a.clock c.get-start.result a.sender.now c.get-start.ensures.0 _ c.applicants_formed.ensures
 
-pub sender-formed-spec : {M : Type 1} → statement M
-sender-formed-spec =
+pub sender_formed_spec : {M : Type 1} → statement M
+sender_formed_spec =
     tie.close
     (tie.spec (λ c κs. search rules) (λ c. search rules) (λ c. search rules) (λ c. search rules) (λ c κs. search rules)
     (λ c. search rules) (λ c. search rules) returns)

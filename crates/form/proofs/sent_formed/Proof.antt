@@ -6,12 +6,12 @@ use Rattle.form.proofs.sent_formed.Tie as tie
 
 returns : tie.Need-returns
 returns c =
-    let a = c.before.before.before.before.before.before.before.before.before.before.args in
-    sent-tests a.result.now a.sent.now c.before.before.before.before.before.before.before.before.before.before.requires.1 _ _ _ c.before.before.before.before.before.advertise-formed.ensures c.before.before.before.failed-formed.ensures
-    c.ready-formed.ensures
+    let a = c.args in
+    sent-tests a.res.now a.sent.now c.requires.1 _ _ _ c.advertise_formed.ensures c.failed_formed.ensures
+    c.ready_formed.ensures
 
-pub sent-formed-spec : {M : Type 1} → statement M
-sent-formed-spec =
+pub sent_formed_spec : {M : Type 1} → statement M
+sent_formed_spec =
     tie.close
     (tie.spec (λ c. search rules) (λ c. search rules) (λ c. search rules) (λ c. search rules) (λ c κs. search rules)
     (λ c. search rules) (λ c. search rules) (λ c. search rules) (λ c κs. search rules) (λ c. search rules) (λ c. search rules)

@@ -9,26 +9,26 @@ use Rattle.model.specs.Table.{ports_field, settings_formed}
 use Rattle.form.proofs.settings_formed.Statement.{statement}
 use Rattle.form.proofs.settings_formed.Tie as tie
 
-returns : tie.Need-returns
+returns : tie.Need-returns-then-settings-lt-PORTS
 unfolding settings_formed
 returns c =
-    let s = c.before.before.args.settings.now in
+    let s = c.args.settings.now in
     let n : length s ≡ port_place (ports_field s) → ⊥ = λ e. omega arith in
     rw (ne_eqb (length s) (port_place (ports_field s)) n)
 
-returns-2 : tie.Need-returns-2
+returns-2 : tie.Need-returns-then-settings-ports
 unfolding settings_formed ports_field
-returns-2 c = rw (← c.before.get.ensures.0, ne_eqb _ _ c.if2.true)
+returns-2 c = rw (← c.get-ports.ensures.0, ne_eqb _ _ c.if-settings-ports.true)
 
-settings-rules-requires : tie.Need-settings-rules-requires
+settings-rules-requires : tie.Need-settings_rules-requires
 unfolding ports_field
-settings-rules-requires c κs = (omega arith, λ h. rw (← c.before.get.ensures.0) (omega arith))
+settings-rules-requires c κs = (omega arith, λ h. rw (← c.get-ports.ensures.0) (omega arith))
 
-returns-3 : tie.Need-returns-3
+returns-3 : tie.Need-returns
 unfolding settings_formed ports_field
-returns-3 c = rw (← c.before.before.get.ensures.0, eq-eqb _ _ c.before.if2.false) c.settings-rules.ensures
+returns-3 c = rw (← c.get-ports.ensures.0, eq-eqb _ _ c.if-settings-ports.false) c.settings_rules.ensures
 
-pub settings-formed-spec : {M : Type 1} → statement M
-settings-formed-spec =
+pub settings_formed_spec : {M : Type 1} → statement M
+settings_formed_spec =
     tie.close
     (tie.spec returns (λ c κs. search rules) (λ c. search rules) (λ c. search rules) returns-2 settings-rules-requires returns-3)

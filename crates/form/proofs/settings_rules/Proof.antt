@@ -13,27 +13,27 @@ use Rattle.form.proofs.Settings.{too-many-ports, settings-tests}
 use Rattle.form.proofs.settings_rules.Statement.{statement}
 use Rattle.form.proofs.settings_rules.Tie as tie
 
-returns : tie.Need-returns
-returns c = too-many-ports _ _ c.before.get.ensures.0 c.if1.true
+returns : tie.Need-returns-then-ports-gt8
+returns c = too-many-ports _ _ c.get-head.ensures.0 c.if-ports-gt8.true
 
-ports-formed-requires : tie.Need-ports-formed-requires
+ports-formed-requires : tie.Need-ports_formed-requires
 unfolding ports_field
 ports-formed-requires c κs =
-    let s = c.before.before.before.before.before.before.args.settings.now in
-    let h : port_place (be_at 3 s in_head.word / ports_unit) ≤ length s = c.before.before.before.before.before.before.requires.1 (omega arith) in
+    let s = c.args.settings.now in
+    let h : port_place (be_at 3 s in_head.word / ports_unit) ≤ length s = c.requires.1 (omega arith) in
     rw (lent-rest in_table.ports s) (omega (arith, length-drop in_table.ports s))
 
-returns-2 : tie.Need-returns-2
+returns-2 : tie.Need-returns
 returns-2 c =
     rw (
-      c.ports-formed.ensures ∙ ap (every_part port_size port_rule _) (lent-rest in_table.ports c.before.before.before.before.before.before.before.args.settings.now),
-      c.before.before.before.get2.ensures.0,
-      c.before.before.get3.ensures.0,
+      c.ports_formed.ensures ∙ ap (every_part port_size port_rule _) (lent-rest in_table.ports c.args.settings.now),
+      c.get-vlan.ensures.0,
+      c.get-fan_in.ensures.0,
     )
-    (all-together _ _ ∙ settings-tests _ _ c.before.before.before.before.before.get.ensures.0 c.before.before.before.before.if1.false)
+    (all-together _ _ ∙ settings-tests _ _ c.get-head.ensures.0 c.if-ports-gt8.false)
 
-pub settings-rules-spec : {M : Type 1} → statement M
-settings-rules-spec =
+pub settings_rules_spec : {M : Type 1} → statement M
+settings_rules_spec =
     tie.close
     (tie.spec (λ c κs. search rules) returns (λ c κs. search rules) (λ c κs. search rules) (λ c. search rules) (λ c. search rules) (λ c. search rules)
     ports-formed-requires

@@ -10,16 +10,16 @@ use Rattle.form.proofs.Zeros.{zero-fields}
 use Rattle.form.proofs.settled_formed.Statement.{statement}
 use Rattle.form.proofs.settled_formed.Tie as tie
 
-returns : tie.Need-returns
+returns : tie.Need-returns-then-talkers-eq0
 unfolding fields width part
 returns c =
-    rw (eq-eqb _ _ c.before.before.if1.true, c.zero-from.ensures, zero-fields fixed_widths in_record.settled c.before.before.before.before.before.args.rec.now (omega arith))
+    rw (eq-eqb _ _ c.if-talkers-eq0.true, c.zero_from.ensures, zero-fields fixed_widths in_record.settled c.args.rec.now (omega arith))
 
-returns-2 : tie.Need-returns-2
-returns-2 c = rw (ne_eqb _ _ c.if1.false, and-true)
+returns-2 : tie.Need-returns
+returns-2 c = rw (ne_eqb _ _ c.if-talkers-eq0.false, and-true)
 
-pub settled-formed-spec : {M : Type 1} → statement M
-settled-formed-spec =
+pub settled_formed_spec : {M : Type 1} → statement M
+settled_formed_spec =
     tie.close
     (tie.spec (λ c. search rules) (λ c. search rules) (λ c. search rules) (λ c. search rules) (λ c κs. search rules) returns
     returns-2)

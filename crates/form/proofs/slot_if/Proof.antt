@@ -3,13 +3,13 @@ use Rattle.form.specs.Asks.{slot_if}
 use Rattle.form.proofs.slot_if.Statement.{statement}
 use Rattle.form.proofs.slot_if.Tie as tie
 
-returns : tie.Need-returns
+returns : tie.Need-returns-then-supports
 unfolding slot_if
-returns c = rw c.if1.true
+returns c = rw c.if-supports.true
 
-returns-2 : tie.Need-returns-2
+returns-2 : tie.Need-returns
 unfolding slot_if
-returns-2 c = rw c.if1.false
+returns-2 c = rw c.if-supports.false
 
-pub slot-if-spec : {M : Type 1} → statement M
-slot-if-spec = tie.close (tie.spec returns returns-2)
+pub slot_if_spec : {M : Type 1} → statement M
+slot_if_spec = tie.close (tie.spec returns returns-2)

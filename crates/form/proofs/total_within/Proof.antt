@@ -11,18 +11,18 @@ returns : tie.Need-returns
 unfolding totals_within to_totals to_port port_from is_one fields
 returns c =
     rw (
-      c.at-most2.ensures,
-      c.before.at_most.ensures,
-      c.before.before.get4.ensures.0,
-      c.before.before.before.limit-b.ensures.0,
-      c.before.before.before.before.get3.ensures.0,
-      c.before.before.before.before.before.get2.ensures.0,
-      c.before.before.before.before.before.before.get.ensures.0,
+      c.at_most-2.ensures,
+      c.at_most.ensures,
+      c.get-flags.ensures.0,
+      c.limit_b-limit_b.ensures.0,
+      c.get-limit_a.ensures.0,
+      c.get-total_b.ensures.0,
+      c.get-total_a.ensures.0,
       and-true,
     )
 
-pub total-within-spec : {M : Type 1} → statement M
-total-within-spec =
+pub total_within_spec : {M : Type 1} → statement M
+total_within_spec =
     tie.close
     (tie.spec (λ c κs. search rules) (λ c κs. search rules) (λ c κs. search rules) (λ c κs. search rules) (λ c κs. search rules)
     (λ c κs. search rules) (λ c κs. search rules) returns)

@@ -4,13 +4,13 @@ use Rattle.form.proofs.Totals.{TotalsLeft, turns}
 use Rattle.form.proofs.totals_within.Statement.{statement}
 use Rattle.form.proofs.totals_within.Tie as tie
 
-abbrev invariant-loop : tie.invariant-loop
-invariant-loop totals ports count some ok₀ p₀ = TotalsLeft some count totals ports
+abbrev invariant-loop-p : tie.invariant-loop-p
+invariant-loop-p totals ports count some ok₀ p₀ = TotalsLeft some count totals ports
 
-abbrev decreases-loop : tie.decreases-loop
-decreases-loop totals ports count some ok₀ p₀ ok p = count - p
+abbrev decreases-loop-p : tie.decreases-loop-p
+decreases-loop-p totals ports count some ok₀ p₀ ok p = count - p
 
-pub totals-within-spec : {M : Type 1} → statement M
-totals-within-spec =
+pub totals_within_spec : {M : Type 1} → statement M
+totals_within_spec =
     tie.close
-    (tie.spec invariant-loop decreases-loop (λ c. search turns) (λ c. search turns) (λ c. search turns) (λ c. search turns) (λ c. search turns) (λ c. search turns) (λ c. search turns) (λ c. search turns) (λ c. search turns) (λ c. search turns) (λ c. search turns) (λ c κs. search turns) (λ c. search turns) (λ c. search turns) (λ c. search turns) (λ c. search turns) (λ c κs. search turns) (λ c. search turns))
+    (tie.spec invariant-loop-p decreases-loop-p (λ c. search turns) (λ c. search turns) (λ c. search turns) (λ c. search turns) (λ c. search turns) (λ c. search turns) (λ c. search turns) (λ c. search turns) (λ c. search turns) (λ c. search turns) (λ c. search turns) (λ c κs. search turns) (λ c. search turns) (λ c. search turns) (λ c. search turns) (λ c. search turns) (λ c κs. search turns) (λ c. search turns))

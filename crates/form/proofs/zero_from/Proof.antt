@@ -5,14 +5,14 @@ use lib.ListN.{length}
 use Rattle.form.proofs.zero_from.Statement.{statement}
 use Rattle.form.proofs.zero_from.Tie as tie
 
-abbrev invariant-loop : tie.invariant-loop
-invariant-loop s «from» clear₀ i₀ = ZerosLeft s «from»
+abbrev invariant-loop-i : tie.invariant-loop-i
+invariant-loop-i s «from» clear₀ i₀ = ZerosLeft s «from»
 
-abbrev decreases-loop : tie.decreases-loop
-decreases-loop s «from» clear₀ i₀ clear i = length s - i
+abbrev decreases-loop-i : tie.decreases-loop-i
+decreases-loop-i s «from» clear₀ i₀ clear i = length s - i
 
-pub zero-from-spec : {M : Type 1} → statement M
-zero-from-spec =
+pub zero_from_spec : {M : Type 1} → statement M
+zero_from_spec =
     tie.close
-    (tie.spec invariant-loop decreases-loop (λ c. search turns) (λ c. search turns) (λ c. search turns) (λ c. search turns) (λ c. search turns)
+    (tie.spec invariant-loop-i decreases-loop-i (λ c. search turns) (λ c. search turns) (λ c. search turns) (λ c. search turns) (λ c. search turns)
     (λ c. search turns))

@@ -14,11 +14,11 @@ use Rattle.msrpdu.specs.declared.VectorRead.TheVariants.{Vector, PassedOver}
 use Rattle.msrpdu.proofs.check.Statement.{statement}
 use Rattle.msrpdu.proofs.check.Tie as tie
 
-abbrev invariant-loop : tie.invariant-loop
-invariant-loop pdu n version at kind start end reached₀ reached = ListLeft pdu version at kind start end reached
+abbrev invariant-loop-number : tie.invariant-loop-number
+invariant-loop-number pdu n version at kind start end reached₀ reached = ListLeft pdu version at kind start end reached
 
-abbrev decreases-loop : tie.decreases-loop
-decreases-loop pdu n version at kind start end reached₀ reached = end - start - reached
+abbrev decreases-loop-number : tie.decreases-loop-number
+decreases-loop-number pdu n version at kind start end reached₀ reached = end - start - reached
 
 abbrev invariant-messages : tie.invariant-messages
 invariant-messages pdu n version at₀ at = PduLeft pdu version at
@@ -27,58 +27,58 @@ abbrev decreases-messages : tie.decreases-messages
 decreases-messages pdu n version at₀ at = length pdu - at
 
 -- what was read of the Message
-a-skip : (c : tie.After-known-told2 invariant-loop decreases-loop invariant-messages decreases-messages) →
-    let pdu = c.before.before.before.before.before.before.before.before.before.args.pdu.now in
-    message_read (get_or pdu 0 0) pdu c.before.before.before.before.messages.at ≡ Skipped c.before.m2.given.0.0
-a-skip c = sym c.before.before.before.message.ensures ∙ c.before.m2.given.1
+a-skip : (c : tie.In-Skipped invariant-loop-number decreases-loop-number invariant-messages decreases-messages) →
+    let pdu = c.args.pdu.now in
+    message_read (get_or pdu 0 0) pdu c.messages.at ≡ Skipped c.in-Skipped.next
+a-skip c = sym c.message-m.ensures ∙ c.in-Skipped.is
 
-a-list : (c : tie.After-known-told3 invariant-loop decreases-loop invariant-messages decreases-messages) →
-    let pdu = c.before.before.before.before.before.before.before.before.before.args.pdu.now in
-    message_read (get_or pdu 0 0) pdu c.before.before.before.before.messages.at ≡ List c.before.m3.given.0.0
-a-list c = sym c.before.before.before.message.ensures ∙ c.before.m3.given.1
+a-list : (c : tie.In-List invariant-loop-number decreases-loop-number invariant-messages decreases-messages) →
+    let pdu = c.args.pdu.now in
+    message_read (get_or pdu 0 0) pdu c.messages.at ≡ List c.in-List.head
+a-list c = sym c.message-m.ensures ∙ c.in-List.is
 
 -- what was read of the vector, and where it ends
-a-vector : (c : tie.After-known-told5 invariant-loop decreases-loop invariant-messages decreases-messages) →
-    let m = c.before.before.before.before.before.before.before.m3.given.0.0 in
-    let pdu = c.before.before.before.before.before.before.before.before.before.before.before.before.before.before.before.args.pdu.now in
-    typed_read (get_or pdu 0 0) (type_octet 0 m.kind) (take (m.next - m.list) (drop m.list pdu)) c.before.before.before.before.before.loop.reached ≡ Vector c.before.v2.given.0.0
-a-vector c = sym c.before.before.before.typed-vector.ensures ∙ c.before.v2.given.1
+a-vector : (c : tie.In-Vector invariant-loop-number decreases-loop-number invariant-messages decreases-messages) →
+    let m = c.in-List.head in
+    let pdu = c.args.pdu.now in
+    typed_read (get_or pdu 0 0) (type_octet 0 m.kind) (take (m.next - m.list) (drop m.list pdu)) c.loop-number.reached ≡ Vector c.v-in-Vector-1.given.0.0
+a-vector c = sym c.typed_vector-v.ensures ∙ c.v-in-Vector-1.given.1
 
-ends : (c : tie.After-known-told5 invariant-loop decreases-loop invariant-messages decreases-messages) →
-    let m = c.before.before.before.before.before.before.before.m3.given.0.0 in
-    (c.before.before.before.before.before.loop.reached + 2 ≤ c.before.v2.given.0.0.next) × (c.before.v2.given.0.0.next ≤ m.next - m.list)
+ends : (c : tie.In-Vector invariant-loop-number decreases-loop-number invariant-messages decreases-messages) →
+    let m = c.in-List.head in
+    (c.loop-number.reached + 2 ≤ c.v-in-Vector-1.given.0.0.next) × (c.v-in-Vector-1.given.0.0.next ≤ m.next - m.list)
 ends c =
-    let i = c.before.before.before.before.before.loop.invariant in
+    let i = c.loop-number.invariant in
     let w = within _ _ _ _ _ (a-vector c) in
-    let e = list_length_lem c.before.before.before.before.before.before.before.before.before.before.before.before.before.before.before.args.pdu.now _ _ i.list i.within in
+    let e = list_length_lem c.args.pdu.now _ _ i.list i.within in
     (omega arith, omega arith)
 
 -- and of one that is passed over
-a-passed : (c : tie.After-known-told6 invariant-loop decreases-loop invariant-messages decreases-messages) →
-    let m = c.before.before.before.before.before.before.before.m3.given.0.0 in
-    let pdu = c.before.before.before.before.before.before.before.before.before.before.before.before.before.before.before.args.pdu.now in
-    typed_read (get_or pdu 0 0) (type_octet 0 m.kind) (take (m.next - m.list) (drop m.list pdu)) c.before.before.before.before.before.loop.reached ≡ PassedOver c.before.v3.given.0.0
-a-passed c = sym c.before.before.before.typed-vector.ensures ∙ c.before.v3.given.1
+a-passed : (c : tie.In-PassedOver invariant-loop-number decreases-loop-number invariant-messages decreases-messages) →
+    let m = c.in-List.head in
+    let pdu = c.args.pdu.now in
+    typed_read (get_or pdu 0 0) (type_octet 0 m.kind) (take (m.next - m.list) (drop m.list pdu)) c.loop-number.reached ≡ PassedOver c.v-in-PassedOver-1.given.0.0
+a-passed c = sym c.typed_vector-v.ensures ∙ c.v-in-PassedOver-1.given.1
 
-passes : (c : tie.After-known-told6 invariant-loop decreases-loop invariant-messages decreases-messages) →
-    let m = c.before.before.before.before.before.before.before.m3.given.0.0 in
-    (c.before.before.before.before.before.loop.reached + 2 ≤ c.before.v3.given.0.0) × (c.before.v3.given.0.0 ≤ m.next - m.list)
+passes : (c : tie.In-PassedOver invariant-loop-number decreases-loop-number invariant-messages decreases-messages) →
+    let m = c.in-List.head in
+    (c.loop-number.reached + 2 ≤ c.v-in-PassedOver-1.given.0.0) × (c.v-in-PassedOver-1.given.0.0 ≤ m.next - m.list)
 passes c =
-    let i = c.before.before.before.before.before.loop.invariant in
+    let i = c.loop-number.invariant in
     let w = over-within _ _ _ _ _ (a-passed c) in
-    let e = list_length_lem c.before.before.before.before.before.before.before.before.before.before.before.before.before.before.before.args.pdu.now _ _ i.list i.within in
+    let e = list_length_lem c.args.pdu.now _ _ i.list i.within in
     (w.0, omega arith)
 
-messages-again : tie.Need-messages-preserved invariant-loop decreases-loop invariant-messages decreases-messages
+messages-again : tie.Need-messages-preserved-in-Skipped invariant-loop-number decreases-loop-number invariant-messages decreases-messages
 messages-again c =
     let a = ahead-skipped _ _ _ _ (a-skip c) in
-    left-on c.before.before.before.before.messages.invariant _ (omega arith) a.1 (λ f. ap number_of (messages-skipped f _ _ _ _ (a-skip c)))
+    left-on c.messages.invariant _ (omega arith) a.1 (λ f. ap number_of (messages-skipped f _ _ _ _ (a-skip c)))
 
-loop-holds : tie.Need-loop-init invariant-loop decreases-loop invariant-messages decreases-messages
+loop-holds : tie.Need-loop-number-init invariant-loop-number decreases-loop-number invariant-messages decreases-messages
 loop-holds c =
-    let i = c.before.before.before.before.messages.invariant in
+    let i = c.messages.invariant in
     let a = ahead-list _ _ _ _ (a-list c) in
-    let m = c.before.m3.given.0.0 in
+    let m = c.in-List.head in
     let e : i.turns ≡ suc (i.turns - 1) = omega arith in
     record {
       list = a.ends;
@@ -94,45 +94,45 @@ loop-holds c =
       };
     }
 
-loop-again : tie.Need-loop-preserved invariant-loop decreases-loop invariant-messages decreases-messages
+loop-again : tie.Need-loop-number-preserved-in-Vector invariant-loop-number decreases-loop-number invariant-messages decreases-messages
 loop-again c =
     let a = ends c in
-    list_on c.before.before.before.before.before.loop.invariant _ (omega arith) a.1 (λ f w. number-next f _ _ _ w _ _ (a-vector c))
+    list_on c.loop-number.invariant _ (omega arith) a.1 (λ f w. number-next f _ _ _ w _ _ (a-vector c))
 
-loop-again-2 : tie.Need-loop-preserved-2 invariant-loop decreases-loop invariant-messages decreases-messages
+loop-again-2 : tie.Need-loop-number-preserved invariant-loop-number decreases-loop-number invariant-messages decreases-messages
 loop-again-2 c =
     let a = passes c in
-    list_on c.before.before.before.before.before.loop.invariant _ (omega arith) a.1 (λ f w. number_passed f _ _ _ w _ _ (a-passed c))
+    list_on c.loop-number.invariant _ (omega arith) a.1 (λ f w. number_passed f _ _ _ w _ _ (a-passed c))
 
-messages-again-2 : tie.Need-messages-preserved-2 invariant-loop decreases-loop invariant-messages decreases-messages
+messages-again-2 : tie.Need-messages-preserved invariant-loop-number decreases-loop-number invariant-messages decreases-messages
 messages-again-2 c =
-    let i = c.before.before.before.before.loop.invariant in
+    let i = c.loop-number.invariant in
     record {
       within = i.within;
       turns = i.later;
       enough = i.enough-later;
-      gives = left-given i.vectors-left _ (λ f. number-end f _ _ _ _ _ (sym c.before.before.typed-vector.ensures ∙ c.enum-told2.given.1));
+      gives = left-given i.vectors-left _ (λ f. number-end f _ _ _ _ _ (sym c.typed_vector-v.ensures ∙ c.in-EndMark.is));
     }
 
-returns-3 : tie.Need-returns-3 invariant-loop decreases-loop invariant-messages decreases-messages
+returns-3 : tie.Need-returns-in-Refused invariant-loop-number decreases-loop-number invariant-messages decreases-messages
 unfolding number_of
-returns-3 c = left-given c.before.before.before.before.messages.invariant _ (λ f. ap number_of (messages-refused f _ _ _ _ (sym c.before.before.before.message.ensures ∙ c.before.m.given.1)))
+returns-3 c = left-given c.messages.invariant _ (λ f. ap number_of (messages-refused f _ _ _ _ (sym c.message-m.ensures ∙ c.m-1.given.1)))
 
-returns-4 : tie.Need-returns-4 invariant-loop decreases-loop invariant-messages decreases-messages
+returns-4 : tie.Need-returns-in-End invariant-loop-number decreases-loop-number invariant-messages decreases-messages
 unfolding number_of
-returns-4 c = left-given c.before.before.before.messages.invariant _ (λ f. ap number_of (messages-end f _ _ _ (sym c.before.before.message.ensures ∙ c.enum_told.given.1)))
+returns-4 c = left-given c.messages.invariant _ (λ f. ap number_of (messages-end f _ _ _ (sym c.message-m.ensures ∙ c.enum_told-1.given.1)))
 
-returns-5 : tie.Need-returns-5 invariant-loop decreases-loop invariant-messages decreases-messages
-returns-5 c = left-given c.before.before.before.before.before.loop.invariant.vectors-left _ (λ f. number-refused f _ _ _ _ _ _ (sym c.before.before.before.typed-vector.ensures ∙ c.before.v.given.1))
+returns-5 : tie.Need-returns-in-Refused-v invariant-loop-number decreases-loop-number invariant-messages decreases-messages
+returns-5 c = left-given c.loop-number.invariant.vectors-left _ (λ f. number-refused f _ _ _ _ _ _ (sym c.typed_vector-v.ensures ∙ c.v-1.given.1))
 
-pub check-spec : {M : Type 1} → statement M
-check-spec =
+pub check_spec : {M : Type 1} → statement M
+check_spec =
     tie.close
-    (tie.spec invariant-loop decreases-loop invariant-messages decreases-messages (λ c. walk-empty _ c.if1.true)
-    (λ c. walk-long _ c.before.if1.false c.if2.true) (λ c. search rules)
-    (λ c. walk-in _ c.before.before.if1.false c.before.if2.false) (λ c κs. search rules) (λ c. search rules)
+    (tie.spec invariant-loop-number decreases-loop-number invariant-messages decreases-messages (λ c. walk-empty _ c.if-n-eq0.true)
+    (λ c. walk-long _ c.if-n-eq0.false c.if-n-gt-LONGEST.true) (λ c. search rules)
+    (λ c. walk-in _ c.if-n-eq0.false c.if-n-gt-LONGEST.false) (λ c κs. search rules) (λ c. search rules)
     (λ c. search rules) (λ c. search rules) (λ c. omega (arith, ahead-skipped _ _ _ _ (a-skip c))) messages-again
     (λ c. search rules) loop-holds (λ c. search rules) (λ c. search rules) (λ c. search rules) (λ c κs. search rules)
     (λ c. search rules) (λ c. search rules) (λ c. search rules) (λ c. omega (arith, ends c)) loop-again (λ c. search rules)
-    (λ c. omega (arith, passes c)) loop-again-2 (λ c. omega (arith, c.before.before.before.before.loop.invariant.ahead))
+    (λ c. omega (arith, passes c)) loop-again-2 (λ c. omega (arith, c.loop-number.invariant.ahead))
     messages-again-2 returns-3 returns-4 returns-5)

@@ -7,10 +7,10 @@ use Rattle.msrpdu.proofs.head_of.Tie as tie
 
 returns : tie.Need-returns
 unfolding head_of vector_end three_length
-returns c = rw c.four-octets.ensures.0
+returns c = rw c.four_octets.ensures.0
 
-pub head-of-spec : {M : Type 1} → statement M
-head-of-spec =
+pub head_of_spec : {M : Type 1} → statement M
+head_of_spec =
     tie.close
     (tie.spec (λ c. search rules) (λ c. search rules) (λ c. search rules) (λ c. search rules) (λ c κs. search rules)
     (λ c. search rules) returns)

@@ -4,13 +4,13 @@ use Rattle.msrpdu.specs.Reader.{strange_read}
 use Rattle.msrpdu.proofs.strange_vector.Statement.{statement}
 use Rattle.msrpdu.proofs.strange_vector.Tie as tie
 
-returns : tie.Need-returns
+returns : tie.Need-returns-then-version-eq0
 unfolding strange_read
-returns c = rw (eq-eqb _ _ c.if1.true)
+returns c = rw (eq-eqb _ _ c.if-version-eq0.true)
 
-returns-2 : tie.Need-returns-2
+returns-2 : tie.Need-returns
 unfolding strange_read
-returns-2 c = rw (ne_eqb _ _ c.if1.false)
+returns-2 c = rw (ne_eqb _ _ c.if-version-eq0.false)
 
-pub strange-vector-spec : {M : Type 1} → statement M
-strange-vector-spec = tie.close (tie.spec returns returns-2)
+pub strange_vector_spec : {M : Type 1} → statement M
+strange_vector_spec = tie.close (tie.spec returns returns-2)

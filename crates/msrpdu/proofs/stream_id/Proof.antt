@@ -8,24 +8,24 @@ use Rattle.msrpdu.proofs.Laws.{value-short, value-past, value_read}
 use Rattle.msrpdu.proofs.stream_id.Statement.{statement}
 use Rattle.msrpdu.proofs.stream_id.Tie as tie
 
-returns : tie.Need-returns
+returns : tie.Need-returns-then-first-lt8
 unfolding stream_id_in
-returns c = sym (value-short 8 2 0 _ _ c.if1.true)
+returns c = sym (value-short 8 2 0 _ _ c.if-first-lt8.true)
 
-returns-2 : tie.Need-returns-2
+returns-2 : tie.Need-returns-then-unique-n
 unfolding stream_id_in
-returns-2 c = sym (value-past 8 2 0 _ _ c.before.before.if1.false _ c.before.get.ensures.0 (omega arith))
+returns-2 c = sym (value-past 8 2 0 _ _ c.if-first-lt8.false _ c.get-unique.ensures.0 (omega arith))
 
-add-t8 : tie.Need-overflow-add-t8
-add-t8 c = omega (arith, id-split c.before.before.before.before.before.args.first.now)
+add-t8 : tie.Need-overflow_add-result
+add-t8 c = omega (arith, id-split c.args.first.now)
 
-returns-3 : tie.Need-returns-3
+returns-3 : tie.Need-returns
 unfolding stream_id_in
 returns-3 c =
-    sym (value_read 8 2 0 _ _ c.before.before.before.if1.false _ c.before.before.get.ensures.0 (omega arith) _
-    c.get2.ensures.0)
+    sym (value_read 8 2 0 _ _ c.if-first-lt8.false _ c.get-unique.ensures.0 (omega arith) _
+    c.get.ensures.0)
 
-pub stream-id-spec : {M : Type 1} → statement M
-stream-id-spec =
+pub stream_id_spec : {M : Type 1} → statement M
+stream_id_spec =
     tie.close
     (tie.spec returns (λ c κs. search rules) (λ c. search rules) returns-2 (λ c κs. search rules) add-t8 returns-3)

@@ -7,17 +7,17 @@ use Rattle.reports.proofs.port_shown.Tie as tie
 
 returns : tie.Need-returns
 returns c =
-    let totals = c.before.before.before.before.before.totals-at.ensures in
-    let port = c.before.before.before.before.port-at.ensures in
+    let totals = c.totals_at-totals.ensures in
+    let port = c.port_at-port.ensures in
     record {
-      total_a = c.before.before.before.get.ensures.0 ∙ total-a-shown totals;
-      limit-a = c.before.before.get2.ensures.0 ∙ limit-a-shown port;
-      total_b = c.before.get3.ensures.0 ∙ total-b-shown totals;
-      limit-b = c.get4.ensures.0 ∙ limit-b-shown port;
+      total_a = c.get.ensures.0 ∙ total-a-shown totals;
+      limit_a = c.get-2.ensures.0 ∙ limit-a-shown port;
+      total_b = c.get-3.ensures.0 ∙ total-b-shown totals;
+      limit_b = c.get-4.ensures.0 ∙ limit-b-shown port;
     }
 
-pub port-shown-spec : {M : Type 1} → statement M
-port-shown-spec =
+pub port_shown_spec : {M : Type 1} → statement M
+port_shown_spec =
     tie.close
     (tie.spec (λ c κs. search rules) (λ c κs. search rules) (λ c κs. search rules) (λ c κs. search rules) (λ c κs. search rules)
     (λ c κs. search rules) returns)

@@ -9,5 +9,5 @@ returns : tie.Need-returns
 unfolding column_word declared entered shown refused_report
 returns c = refl
 
-pub refused-report-spec : {M : Type 1} → statement M
-refused-report-spec = tie.close (tie.spec returns)
+pub refused_report_spec : {M : Type 1} → statement M
+refused_report_spec = tie.close (tie.spec returns)

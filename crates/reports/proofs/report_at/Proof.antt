@@ -8,8 +8,8 @@ use Rattle.reports.proofs.report_at.Tie as tie
 returns : tie.Need-returns
 returns c =
     let start = c.before.before.before.before in
-    report-shown (decode start.args.table.now) start.args.p start.args.place _ c.before.port-shown.result c.stream_at.result
-    start.requires.within c.before.before.count.ensures.0 c.before.port-shown.ensures c.stream_at.ensures
+    report-shown (decode start.args.table.now) start.args.p start.args.place _ c.port_shown-port.result c.stream_at-stream.result
+    start.requires.within c.count-count.ensures.0 c.port_shown-port.ensures c.stream_at-stream.ensures
 
-pub report-at-spec : {M : Type 1} → statement M
-report-at-spec = tie.close (tie.spec (λ c κs. search rules) (λ c κs. search rules) (λ c κs. search rules) returns)
+pub report_at_spec : {M : Type 1} → statement M
+report_at_spec = tie.close (tie.spec (λ c κs. search rules) (λ c κs. search rules) (λ c κs. search rules) returns)

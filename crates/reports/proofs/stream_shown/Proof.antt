@@ -8,17 +8,17 @@ use Rattle.reports.proofs.stream_shown.Tie as tie
 
 returns : tie.Need-returns
 returns c =
-    let w = c.before.before.before.before.before.before.before.before.result-at.ensures in
+    let w = c.result_at-result.ensures in
     record {
-      id = c.before.before.before.before.before.before.before.id-at.ensures;
-      column = c.before.before.before.before.before.column-shown.ensures ∙ column-shown w;
+      id = c.id_at.ensures;
+      column = c.column_shown.ensures ∙ column-shown w;
       code = code-shown w;
-      listener = c.before.before.listener-shown.ensures ∙ listener-shown w;
-      entry = c.entry-shown.ensures ∙ entry-shown w;
+      listener = c.listener_shown.ensures ∙ listener-shown w;
+      entry = c.entry_shown.ensures ∙ entry-shown w;
     }
 
-pub stream-shown-spec : {M : Type 1} → statement M
-stream-shown-spec =
+pub stream_shown_spec : {M : Type 1} → statement M
+stream_shown_spec =
     tie.close
-    (tie.spec (λ c κs. search rules) (λ c κs. stands c.before.before.requires) (λ c. search rules) (λ c κs. search rules) (λ c. search rules) (λ c. search rules)
+    (tie.spec (λ c κs. search rules) (λ c κs. stands c.requires) (λ c. search rules) (λ c κs. search rules) (λ c. search rules) (λ c. search rules)
     (λ c κs. search rules) (λ c. search rules) (λ c κs. search rules) returns)

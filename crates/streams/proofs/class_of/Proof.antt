@@ -6,19 +6,19 @@ use Rattle.streams.specs.Answers.{class_shown}
 use Rattle.streams.proofs.class_of.Statement.{statement}
 use Rattle.streams.proofs.class_of.Tie as tie
 
-returns : tie.Need-returns
+returns : tie.Need-returns-then-priority-priority_a
 unfolding class_of class_shown
-returns c = rw (← c.before.priority-a.ensures, eq-eqb _ _ c.if1.true)
+returns c = rw (← c.priority_a.ensures, eq-eqb _ _ c.if-priority-priority_a.true)
 
-returns-2 : tie.Need-returns-2
+returns-2 : tie.Need-returns-then-priority-priority_b
 unfolding class_of class_shown
 returns-2 c =
-    rw (← c.before.before.before.priority-a.ensures, ← c.before.priority-b.ensures, ne_eqb _ _ c.before.before.if1.false, eq-eqb _ _ c.if2.true)
+    rw (← c.priority_a.ensures, ← c.priority_b.ensures, ne_eqb _ _ c.if-priority-priority_a.false, eq-eqb _ _ c.if-priority-priority_b.true)
 
-returns-3 : tie.Need-returns-3
+returns-3 : tie.Need-returns
 unfolding class_of class_shown
 returns-3 c =
-    rw (← c.before.before.before.priority-a.ensures, ← c.before.priority-b.ensures, ne_eqb _ _ c.before.before.if1.false, ne_eqb _ _ c.if2.false)
+    rw (← c.priority_a.ensures, ← c.priority_b.ensures, ne_eqb _ _ c.if-priority-priority_a.false, ne_eqb _ _ c.if-priority-priority_b.false)
 
-pub class-of-spec : {M : Type 1} → statement M
-class-of-spec = tie.close (tie.spec (λ c κs. search rules) returns (λ c κs. search rules) returns-2 returns-3)
+pub class_of_spec : {M : Type 1} → statement M
+class_of_spec = tie.close (tie.spec (λ c κs. search rules) returns (λ c κs. search rules) returns-2 returns-3)

@@ -8,5 +8,5 @@ returns : tie.Need-returns
 unfolding rate_of_a
 returns c = c.rate.ensures
 
-pub rate-of-a-spec : {M : Type 1} → statement M
-rate-of-a-spec = tie.close (tie.spec (λ c κs. search rules) returns)
+pub rate_of_a_spec : {M : Type 1} → statement M
+rate_of_a_spec = tie.close (tie.spec (λ c κs. search rules) returns)

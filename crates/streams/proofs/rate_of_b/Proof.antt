@@ -8,5 +8,5 @@ returns : tie.Need-returns
 unfolding rate_of_b
 returns c = c.rate.ensures
 
-pub rate-of-b-spec : {M : Type 1} → statement M
-rate-of-b-spec = tie.close (tie.spec (λ c κs. search rules) returns)
+pub rate_of_b_spec : {M : Type 1} → statement M
+rate_of_b_spec = tie.close (tie.spec (λ c κs. search rules) returns)

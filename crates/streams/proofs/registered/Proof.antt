@@ -8,7 +8,7 @@ use Rattle.streams.proofs.registered.Tie as tie
 
 returns : tie.Need-returns
 unfolding part
-returns c = fixed-read _ _ c.before.before.talker-port.ensures.0 _ c.before.cell-at.ensures (stream-fits c.before.before.before.before.requires)
+returns c = fixed-read _ _ c.talker_port.ensures.0 _ c.cell_at-said.ensures (stream-fits c.requires)
 
-pub registered-spec : {M : Type 1} → statement M
-registered-spec = tie.close (tie.spec (λ c κs. search rules) (λ c κs. search rules) (λ c. search rules) (λ c. search rules) (λ c. search rules) (λ c. search rules) returns)
+pub registered_spec : {M : Type 1} → statement M
+registered_spec = tie.close (tie.spec (λ c κs. search rules) (λ c κs. search rules) (λ c. search rules) (λ c. search rules) (λ c. search rules) (λ c. search rules) returns)

@@ -14,41 +14,41 @@ use Rattle.streams.proofs.Sources.{source-here, source-past, source-none}
 use Rattle.streams.proofs.source.Statement.{statement}
 use Rattle.streams.proofs.source.Tie as tie
 
-abbrev invariant-loop : tie.invariant-loop
-invariant-loop table k p₀ p = (p ≤ 8) × (source p (drop p (stream_at k (decode table)).cells) ≡ source_of (stream_at k (decode table)))
+abbrev invariant-loop-p : tie.invariant-loop-p
+invariant-loop-p table k p₀ p = (p ≤ 8) × (source p (drop p (stream_at k (decode table)).cells) ≡ source_of (stream_at k (decode table)))
 
-abbrev decreases-loop : tie.decreases-loop
-decreases-loop table k p₀ p = 8 - p
+abbrev decreases-loop-p : tie.decreases-loop-p
+decreases-loop-p table k p₀ p = 8 - p
 
-loop-holds : tie.Need-loop-init invariant-loop decreases-loop
+loop-holds : tie.Need-loop-p-init invariant-loop-p decreases-loop-p
 unfolding source_of
 loop-holds c = (search rules, refl)
 
-cell-at-requires : tie.Need-cell-at-requires invariant-loop decreases-loop
-cell-at-requires c κs = stands_on c.before.before.before.requires _ c.loop-test.true
+cell-at-requires : tie.Need-cell_at-here-requires invariant-loop-p decreases-loop-p
+cell-at-requires c κs = stands_on c.requires _ c.loop-p-test.true
 
-returns : tie.Need-returns invariant-loop decreases-loop
+returns : tie.Need-returns-then-here-ne0 invariant-loop-p decreases-loop-p
 returns c =
-    let l = c.before.before.before.before.loop in
-    let w = stream-fits c.before.before.before.before.before.before.requires in
-    source-here _ w.eight_cells l.p (omega arith) _ c.before.before.cell-at.ensures.is c.if1.true ∙ ap source_port l.invariant.1
+    let l = c.loop-p in
+    let w = stream-fits c.requires in
+    source-here _ w.eight_cells l.p (omega arith) _ c.cell_at-here.ensures.is c.if-here-ne0.true ∙ ap source_port l.invariant.1
 
-loop-again : tie.Need-loop-preserved invariant-loop decreases-loop
+loop-again : tie.Need-loop-p-preserved invariant-loop-p decreases-loop-p
 loop-again c =
-    let l = c.before.before.before.before.loop in
-    let w = stream-fits c.before.before.before.before.before.before.requires in
-    (omega arith, rw (add-one) (source-past _ w.eight_cells l.p (omega arith) _ c.before.before.cell-at.ensures.is c.if1.false ∙ l.invariant.1))
+    let l = c.loop-p in
+    let w = stream-fits c.requires in
+    (omega arith, rw (add-one) (source-past _ w.eight_cells l.p (omega arith) _ c.cell_at-here.ensures.is c.if-here-ne0.false ∙ l.invariant.1))
 
-returns-2 : tie.Need-returns-2 invariant-loop decreases-loop
+returns-2 : tie.Need-returns invariant-loop-p decreases-loop-p
 unfolding source_port
 returns-2 c =
-    let l = c.before.loop in
-    let a = c.before.before.before.args in
+    let l = c.loop-p in
+    let a = c.args in
     let e : l.p ≡ 8 = omega arith in
-    rw (← l.invariant.1, e, source-none (stream_at a.k (decode a.table.now)) (stream-fits c.before.before.before.requires).eight_cells)
+    rw (← l.invariant.1, e, source-none (stream_at a.k (decode a.table.now)) (stream-fits c.requires).eight_cells)
 
-pub source-spec : {M : Type 1} → statement M
-source-spec =
+pub source_spec : {M : Type 1} → statement M
+source_spec =
     tie.close
-    (tie.spec invariant-loop decreases-loop loop-holds cell-at-requires (λ c. search rules) returns (λ c. search rules)
+    (tie.spec invariant-loop-p decreases-loop-p loop-holds cell-at-requires (λ c. search rules) returns (λ c. search rules)
     (λ c. search rules) loop-again returns-2)
