@@ -41,12 +41,12 @@ a-list c = sym c.message-m.ensures ∙ c.in-List.is
 a-vector : (c : tie.In-Vector invariant-loop-number decreases-loop-number invariant-messages decreases-messages) →
     let m = c.in-List.head in
     let pdu = c.args.pdu.now in
-    typed_read (get_or pdu 0 0) (type_octet 0 m.kind) (take (m.next - m.list) (drop m.list pdu)) c.loop-number.reached ≡ Vector c.v-in-Vector-1.given.0.0
-a-vector c = sym c.typed_vector-v.ensures ∙ c.v-in-Vector-1.given.1
+    typed_read (get_or pdu 0 0) (type_octet 0 m.kind) (take (m.next - m.list) (drop m.list pdu)) c.loop-number.reached ≡ Vector c.in-Vector.w
+a-vector c = sym c.typed_vector-v.ensures ∙ c.in-Vector.is
 
 ends : (c : tie.In-Vector invariant-loop-number decreases-loop-number invariant-messages decreases-messages) →
     let m = c.in-List.head in
-    (c.loop-number.reached + 2 ≤ c.v-in-Vector-1.given.0.0.next) × (c.v-in-Vector-1.given.0.0.next ≤ m.next - m.list)
+    (c.loop-number.reached + 2 ≤ c.in-Vector.w.next) × (c.in-Vector.w.next ≤ m.next - m.list)
 ends c =
     let i = c.loop-number.invariant in
     let w = within _ _ _ _ _ (a-vector c) in
@@ -57,12 +57,12 @@ ends c =
 a-passed : (c : tie.In-PassedOver invariant-loop-number decreases-loop-number invariant-messages decreases-messages) →
     let m = c.in-List.head in
     let pdu = c.args.pdu.now in
-    typed_read (get_or pdu 0 0) (type_octet 0 m.kind) (take (m.next - m.list) (drop m.list pdu)) c.loop-number.reached ≡ PassedOver c.v-in-PassedOver-1.given.0.0
-a-passed c = sym c.typed_vector-v.ensures ∙ c.v-in-PassedOver-1.given.1
+    typed_read (get_or pdu 0 0) (type_octet 0 m.kind) (take (m.next - m.list) (drop m.list pdu)) c.loop-number.reached ≡ PassedOver c.in-PassedOver.next
+a-passed c = sym c.typed_vector-v.ensures ∙ c.in-PassedOver.is
 
 passes : (c : tie.In-PassedOver invariant-loop-number decreases-loop-number invariant-messages decreases-messages) →
     let m = c.in-List.head in
-    (c.loop-number.reached + 2 ≤ c.v-in-PassedOver-1.given.0.0) × (c.v-in-PassedOver-1.given.0.0 ≤ m.next - m.list)
+    (c.loop-number.reached + 2 ≤ c.in-PassedOver.next) × (c.in-PassedOver.next ≤ m.next - m.list)
 passes c =
     let i = c.loop-number.invariant in
     let w = over-within _ _ _ _ _ (a-passed c) in
@@ -116,14 +116,14 @@ messages-again-2 c =
 
 returns-3 : tie.Need-returns-in-Refused invariant-loop-number decreases-loop-number invariant-messages decreases-messages
 unfolding number_of
-returns-3 c = left-given c.messages.invariant _ (λ f. ap number_of (messages-refused f _ _ _ _ (sym c.message-m.ensures ∙ c.m-1.given.1)))
+returns-3 c = left-given c.messages.invariant _ (λ f. ap number_of (messages-refused f _ _ _ _ (sym c.message-m.ensures ∙ c.in-Refused.is)))
 
 returns-4 : tie.Need-returns-in-End invariant-loop-number decreases-loop-number invariant-messages decreases-messages
 unfolding number_of
-returns-4 c = left-given c.messages.invariant _ (λ f. ap number_of (messages-end f _ _ _ (sym c.message-m.ensures ∙ c.enum_told-1.given.1)))
+returns-4 c = left-given c.messages.invariant _ (λ f. ap number_of (messages-end f _ _ _ (sym c.message-m.ensures ∙ c.in-End.is)))
 
 returns-5 : tie.Need-returns-in-Refused-v invariant-loop-number decreases-loop-number invariant-messages decreases-messages
-returns-5 c = left-given c.loop-number.invariant.vectors-left _ (λ f. number-refused f _ _ _ _ _ _ (sym c.typed_vector-v.ensures ∙ c.v-1.given.1))
+returns-5 c = left-given c.loop-number.invariant.vectors-left _ (λ f. number-refused f _ _ _ _ _ _ (sym c.typed_vector-v.ensures ∙ c.in-Refused-v.is))
 
 pub check_spec : {M : Type 1} → statement M
 check_spec =

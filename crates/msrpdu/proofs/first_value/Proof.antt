@@ -1,6 +1,5 @@
 -- `msrpdu::first_value` meets its contract. Assumes nothing.
 use mathlib.Core.Path.{sym}
-use mathlib.Core.Logic.{⊎_elim}
 use native.Mathlib.Omega.{arith}
 use borrow.Author.Rules.{rules}
 use Rattle.msrpdu.proofs.Laws.{first-none, first-outside, first-turned, first-lent}
@@ -8,16 +7,16 @@ use Rattle.msrpdu.proofs.first_value.Statement.{statement}
 use Rattle.msrpdu.proofs.first_value.Tie as tie
 
 returns : tie.Need-returns-in_default
-returns c = sym (first-none _ _ (λ w e. ⊎_elim (λ z. omega arith) (⊎_elim (λ z. omega arith) (λ z. omega arith)) (rw e at c.before.in_default.is)))
+returns c = sym (first-none _ _ c.in_default.not-Vector)
 
 returns-2 : tie.Need-returns-then-list-end
-returns-2 c = sym (first-outside _ _ _ c.read-1.given.1 c.if-list-end.true)
+returns-2 c = sym (first-outside _ _ _ c.in-Vector.is c.if-list-end.true)
 
 returns-3 : tie.Need-returns-then-end-start
-returns-3 c = sym (first-turned _ _ _ c.read-1.given.1 c.if-list-end.false c.if-end-start.true)
+returns-3 c = sym (first-turned _ _ _ c.in-Vector.is c.if-list-end.false c.if-end-start.true)
 
 returns-4 : tie.Need-returns
-returns-4 c = sym (first-lent _ _ _ c.read-1.given.1 c.if-list-end.false)
+returns-4 c = sym (first-lent _ _ _ c.in-Vector.is c.if-list-end.false)
 
 pub first_value_spec : {M : Type 1} → statement M
 first_value_spec =

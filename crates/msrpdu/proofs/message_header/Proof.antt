@@ -10,7 +10,7 @@ use Rattle.msrpdu.proofs.message_header.Tie as tie
 returns : tie.Need-returns-then-left-list
 returns c =
     sym (skip-long _ _ _ _ c.get-list.ensures.0
-    (sym c.type_read-t.ensures ∙ c.enum_told-1.given.1) (omega arith))
+    (sym c.type_read-t.ensures ∙ c.in-Skipped.is) (omega arith))
 
 cast-if2 : tie.Need-overflow_cast-pdu
 cast-if2 c = omega (arith, c.shared_slice_known-in-Known-1.given (c.args.at + 1))
@@ -30,12 +30,12 @@ returns-3 c =
 returns-4 : tie.Need-returns-in-Refused
 returns-4 c =
     sym (from-refused _ _ _ _ c.get-list.ensures.0 _
-    (sym c.type_read-t.ensures ∙ c.t-1.given.1))
+    (sym c.type_read-t.ensures ∙ c.in-Refused.is))
 
 returns-5 : tie.Need-returns-else-left-list
 returns-5 c =
     sym (skip _ _ _ _ c.get-list.ensures.0
-    (sym c.type_read-t.ensures ∙ c.enum_told-1.given.1) (omega arith))
+    (sym c.type_read-t.ensures ∙ c.in-Skipped.is) (omega arith))
 
 returns-6 : tie.Need-returns-else-left-list-2
 returns-6 c =
