@@ -7,39 +7,39 @@ use Rattle.addresses.proofs.Loops.{Dropping, dropping-start, dropping-keep, drop
 use Rattle.addresses.proofs.drop_vacant.Statement.{statement}
 use Rattle.addresses.proofs.drop_vacant.Tie as tie
 
-abbrev invariant-loop : tie.invariant-loop
-invariant-loop own₀ k₀ own k = Dropping own₀ own k
+abbrev invariant-loop-k : tie.invariant-loop-k
+invariant-loop-k own₀ k₀ own k = Dropping own₀ own k
 
-abbrev decreases-loop : tie.decreases-loop
-decreases-loop own₀ k₀ own k = k
+abbrev decreases-loop-k : tie.decreases-loop-k
+decreases-loop-k own₀ k₀ own k = k
 
-loop-holds : tie.Need-loop-init invariant-loop decreases-loop
+loop-holds : tie.Need-loop-k-init invariant-loop-k decreases-loop-k
 loop-holds c =
-    let first = c.before.before.before in
-    dropping-start first.args.own.now first.requires.0 first.requires.1 _ c.count.ensures.0
+    let first = c.before.before in
+    dropping-start first.args.own.now first.requires.0 first.requires.1 _ c.count-k.ensures.0
 
-remove-requires : tie.Need-remove-requires invariant-loop decreases-loop
+remove-requires : tie.Need-remove-requires invariant-loop-k decreases-loop-k
 remove-requires c κs =
-    let l = c.before.before.before.before.loop in
+    let l = c.loop-k in
     record { laid = l.invariant.laid; size = l.invariant.size; held = omega (arith, l.invariant.within) }
 
-loop-again : tie.Need-loop-preserved invariant-loop decreases-loop
+loop-again : tie.Need-loop-k-preserved-then-own-k-eq0 invariant-loop-k decreases-loop-k
 loop-again c =
-    let l = c.before.before.before.before.before.before.before.loop in
-    dropping-out _ l.own l.k (l.k - 1) (omega arith) l.invariant c.before.before.before.before.if1.true _ c.before.before.remove.ensures
+    let l = c.loop-k in
+    dropping-out _ l.own l.k (l.k - 1) (omega arith) l.invariant c.if-own-k-eq0.true _ c.remove.ensures
 
-loop-again-2 : tie.Need-loop-preserved-2 invariant-loop decreases-loop
-loop-again-2 c = let l = c.before.before.before.loop in dropping-keep _ l.own l.k (l.k - 1) (omega arith) l.invariant c.if1.false
+loop-again-2 : tie.Need-loop-k-preserved invariant-loop-k decreases-loop-k
+loop-again-2 c = let l = c.loop-k in dropping-keep _ l.own l.k (l.k - 1) (omega arith) l.invariant c.if-own-k-eq0.false
 
-returns : tie.Need-returns invariant-loop decreases-loop
+returns : tie.Need-returns invariant-loop-k decreases-loop-k
 returns c =
-    let l = c.before.loop in
+    let l = c.loop-k in
     let e : l.k ≡ 0 = omega arith in
     dropping-end _ l.own (rw e at l.invariant)
 
-pub drop-vacant-spec : {M : Type 1} → statement M
-drop-vacant-spec =
+pub drop_vacant_spec : {M : Type 1} → statement M
+drop_vacant_spec =
     tie.close
-    (tie.spec invariant-loop decreases-loop (λ c κs. search rules) loop-holds (λ c. search rules) (λ c. search rules) (λ c. search rules)
+    (tie.spec invariant-loop-k decreases-loop-k (λ c κs. search rules) loop-holds (λ c. search rules) (λ c. search rules) (λ c. search rules)
     (λ c. search rules) remove-requires (λ c. search rules) loop-again (λ c. search rules) loop-again-2 (λ c. search rules)
     returns)

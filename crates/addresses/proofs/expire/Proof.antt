@@ -15,23 +15,23 @@ use Rattle.addresses.proofs.expire.Statement.{statement}
 use Rattle.addresses.proofs.expire.Tie as tie
 
 -- the octets with the lapsed ones vacant
-lapsed-read : (c : tie.After-lapse-all)
-    → ReadsOwn c.lapse-all.new.0 (change_addresses (map (lapse_address c.before.before.before.args.leave c.before.before.before.args.time)) (to_own c.before.before.before.args.own.now))
+lapsed-read : (c : tie.After-lapse_all)
+    → ReadsOwn c.lapse_all.new.own (change_addresses (map (lapse_address c.args.leave c.args.time)) (to_own c.args.own.now))
 lapsed-read c =
     let first = c.before.before.before in
     let a = first.args in
-    reads-own _ (mapped-fits (lapse_address a.leave a.time) (lapsing a.leave a.time) a.own.now first.requires.0) _ c.lapse-all.ensures
+    reads-own _ (mapped-fits (lapse_address a.leave a.time) (lapsing a.leave a.time) a.own.now first.requires.0) _ c.lapse_all.ensures
 
-drop-vacant-requires : tie.Need-drop-vacant-requires
+drop-vacant-requires : tie.Need-drop_vacant-requires
 drop-vacant-requires c κs = let r = lapsed-read c.before.before.before in (r.laid, r.size)
 
 returns : tie.Need-returns
 returns c st e =
-    let a = c.before.before.before.before.before.before.before.before.before.args in
+    let a = c.args in
     let r = lapsed-read c.before.before.before.before.before.before in
-    c.before.before.drop-vacant.ensures
+    c.drop_vacant.ensures
     ∙ ap (λ (o : Own). own_octets (change_addresses present_only o)) r.is
     ∙ changed-twice (to_own a.own.now) (map (lapse_address a.leave a.time)) present_only (remain_addresses st a.time) (remains st a.leave a.time e (to_own a.own.now).addresses)
 
-pub expire-spec : {M : Type 1} → statement M
-expire-spec = tie.close (tie.spec (λ c κs. search rules) drop-vacant-requires (λ c. search rules) returns)
+pub expire_spec : {M : Type 1} → statement M
+expire_spec = tie.close (tie.spec (λ c κs. search rules) drop-vacant-requires (λ c. search rules) returns)

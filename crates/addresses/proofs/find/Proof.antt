@@ -23,64 +23,64 @@ record Looking (s : List ℕ) (mac held k : ℕ) : Type 0 where
   count : held ≡ length (to_own s).addresses
   leads : found_at mac k (drop k (macs (to_own s).addresses)) ≡ found_at mac 0 (macs (to_own s).addresses)
 
-abbrev invariant-loop : tie.invariant-loop
-invariant-loop own mac held k₀ k = Looking own mac held k
+abbrev invariant-loop-k : tie.invariant-loop-k
+invariant-loop-k own mac held k₀ k = Looking own mac held k
 
-abbrev decreases-loop : tie.decreases-loop
-decreases-loop own mac held k₀ k = held - k
+abbrev decreases-loop-k : tie.decreases-loop-k
+decreases-loop-k own mac held k₀ k = held - k
 
-loop-holds : tie.Need-loop-init invariant-loop decreases-loop
-loop-holds c = record { within = omega arith; few = c.count.ensures.1; count = c.count.ensures.0; leads = refl }
+loop-holds : tie.Need-loop-k-init invariant-loop-k decreases-loop-k
+loop-holds c = record { within = omega arith; few = c.count-held.ensures.1; count = c.count-held.ensures.0; leads = refl }
 
 -- the address that was read
-read : (c : tie.After-get invariant-loop decreases-loop)
-    → c.get.result ≡ get_or (macs (to_own c.before.before.before.before.before.args.own.now).addresses) c.before.before.loop.k 0
+read : (c : tie.After-get-x invariant-loop-k decreases-loop-k)
+    → c.get-x.result ≡ get_or (macs (to_own c.args.own.now).addresses) c.loop-k.k 0
 read c =
     let first = c.before.before.before.before.before in
-    let l = c.before.before.loop in
+    let l = c.loop-k in
     let s = first.args.own.now in
-    c.get.ensures.0 ∙ mac-read (to_own s) (laid-own-fits s first.requires.0) s (laid-own-is s first.requires.0) l.k (omega (arith, l.invariant.count))
+    c.get-x.ensures.0 ∙ mac-read (to_own s) (laid-own-fits s first.requires.0) s (laid-own-is s first.requires.0) l.k (omega (arith, l.invariant.count))
 
-returns : tie.Need-returns invariant-loop decreases-loop
+returns : tie.Need-returns-then-mac-x invariant-loop-k decreases-loop-k
 returns c =
     let first = c.before.before.before.before.before.before in
-    let l = c.before.before.before.loop in
+    let l = c.loop-k in
     let ms = macs (to_own first.args.own.now).addresses in
     let h : l.k < length ms = omega (arith, l.invariant.count, held-macs (to_own first.args.own.now).addresses) in
-    sym (look-before first.args.mac l.k ms c.before.get.result h (read c.before) c.if1.true) ∙ l.invariant.leads
+    sym (look-before first.args.mac l.k ms c.get-x.result h (read c.before) c.if-mac-x.true) ∙ l.invariant.leads
 
-returns-2 : tie.Need-returns-2 invariant-loop decreases-loop
+returns-2 : tie.Need-returns-then-mac-x-2 invariant-loop-k decreases-loop-k
 returns-2 c =
     let first = c.before.before.before.before.before.before.before in
-    let l = c.before.before.before.before.loop in
+    let l = c.loop-k in
     let ms = macs (to_own first.args.own.now).addresses in
     let h : l.k < length ms = omega (arith, l.invariant.count, held-macs (to_own first.args.own.now).addresses) in
-    sym (look-here first.args.mac l.k ms c.before.before.get.result h (read c.before.before) c.if2.true) ∙ l.invariant.leads
+    sym (look-here first.args.mac l.k ms c.get-x.result h (read c.before.before) c.if-mac-x-2.true) ∙ l.invariant.leads
 
-loop-again : tie.Need-loop-preserved invariant-loop decreases-loop
+loop-again : tie.Need-loop-k-preserved invariant-loop-k decreases-loop-k
 loop-again c =
     let first = c.before.before.before.before.before.before.before in
-    let l = c.before.before.before.before.loop in
+    let l = c.loop-k in
     let ms = macs (to_own first.args.own.now).addresses in
     let h : l.k < length ms = omega (arith, l.invariant.count, held-macs (to_own first.args.own.now).addresses) in
     record {
       within = omega arith;
       few = l.invariant.few;
       count = l.invariant.count;
-      leads = sym (look-past first.args.mac l.k ms c.before.before.get.result h (read c.before.before) (omega (arith, c.if2.false, c.before.if1.false))) ∙ l.invariant.leads;
+      leads = sym (look-past first.args.mac l.k ms c.get-x.result h (read c.before.before) (omega (arith, c.if-mac-x-2.false, c.if-mac-x.false))) ∙ l.invariant.leads;
     }
 
-returns-3 : tie.Need-returns-3 invariant-loop decreases-loop
+returns-3 : tie.Need-returns invariant-loop-k decreases-loop-k
 returns-3 c =
     let first = c.before.before.before.before in
-    let l = c.before.loop in
+    let l = c.loop-k in
     let ms = macs (to_own first.args.own.now).addresses in
-    let e : l.k ≡ c.before.before.count.result = omega (arith, l.invariant.within) in
+    let e : l.k ≡ c.count-held.result = omega (arith, l.invariant.within) in
     let h : length ms ≤ l.k = omega (arith, l.invariant.count, held-macs (to_own first.args.own.now).addresses) in
     ap Gap (sym e) ∙ sym (look-end first.args.mac l.k ms h) ∙ l.invariant.leads
 
 pub find_spec : {M : Type 1} → statement M
 find_spec =
     tie.close
-    (tie.spec invariant-loop decreases-loop (λ c κs. search rules) loop-holds (λ c. search rules) (λ c. search rules) (λ c. search rules)
+    (tie.spec invariant-loop-k decreases-loop-k (λ c κs. search rules) loop-holds (λ c. search rules) (λ c. search rules) (λ c. search rules)
     (λ c κs. search rules) returns returns-2 (λ c. search rules) (λ c. search rules) loop-again returns-3)

@@ -12,39 +12,39 @@ use Rattle.addresses.proofs.Searching.{HeldAt, held_at, missing_at}
 use Rattle.addresses.proofs.leave.Statement.{statement}
 use Rattle.addresses.proofs.leave.Tie as tie
 
-returns : tie.Need-returns
+returns : tie.Need-returns-in_default
 returns c =
-    let first = c.before.before.before.before.before in
+    let first = c.before.before.before in
     let s = first.args.own.now in
     let f = laid-own-fits s first.requires.0 in
-    let e = sym c.before.before.find.ensures ∙ c.enum_told.given.1 in
+    let e = sym c.find.ensures ∙ c.in_default.is in
     laid-own-is s first.requires.0
     ∙ own_same (to_own s)
     ∙ changed-same (to_own s) (λ l. l) (with_left first.args.clock first.args.mac)
     (sym (((missing_at first.args.mac _ (to_own s).addresses e).lacks f.addresses.ascending).leaves first.args.clock))
 
 -- the address is found at its place
-there : (c : tie.After-known-told) → HeldAt c.before.before.before.before.before.before.args.mac c.before.k.given.0.0 (to_own c.before.before.before.before.before.before.args.own.now).addresses
-there c = held_at _ _ _ (sym c.before.before.before.find.ensures ∙ c.before.k.given.1)
+there : (c : tie.In-At) → HeldAt c.args.mac c.in-At.k (to_own c.args.own.now).addresses
+there c = held_at _ _ _ (sym c.find.ensures ∙ c.in-At.is)
 
-few : (c : tie.After-known-told) → c.before.k.given.0.0 < most_addresses
+few : (c : tie.In-At) → c.in-At.k < most_addresses
 few c =
-    let first = c.before.before.before.before.before.before in
+    let first = c.before.before.before in
     omega (arith, (there c).within, (laid-own-fits first.args.own.now first.requires.0).addresses.at-most-64)
 
 quit-requires : tie.Need-quit-requires
 quit-requires c κs =
-    let first = c.before.before.before.before.before.before.before in
+    let first = c.before.before.before.before in
     let s = first.args.own.now in
     let r = lent-address (to_own s) (laid-own-fits s first.requires.0) s (laid-own-is s first.requires.0) _ (there c.before).within in
     (r.laid, r.size)
 
-returns-2 : tie.Need-returns-2
+returns-2 : tie.Need-returns
 returns-2 c =
-    let first = c.before.before.before.before.before.before.before.before.before.before in
+    let first = c.before.before.before.before.before.before.before in
     let s = first.args.own.now in
     let h = there c.before.before.before.before in
-    left-address (to_own s) (laid-own-fits s first.requires.0) s (laid-own-is s first.requires.0) _ h.within (quit_address first.args.clock) _ c.before.before.quit.ensures
+    left-address (to_own s) (laid-own-fits s first.requires.0) s (laid-own-is s first.requires.0) _ h.within (quit_address first.args.clock) _ c.quit.ensures
     ∙ changed-same (to_own s) _ (with_left first.args.clock first.args.mac) (sym (h.leaves first.args.clock))
 
 pub leave_spec : {M : Type 1} → statement M

@@ -6,15 +6,15 @@ use Rattle.addresses.proofs.Values.{quits, quits-none}
 use Rattle.addresses.proofs.quit.Statement.{statement}
 use Rattle.addresses.proofs.quit.Tie as tie
 
-returns : tie.Need-returns
+returns : tie.Need-returns-then-address-gt0
 returns c =
     let first = c.before.before.before.before.before.before.before in
-    c.before.before.begin.ensures ∙ quits first.args.clock first.args.address.now first.requires.0 c.before.before.before.before.if1.true
+    c.begin.ensures ∙ quits first.args.clock first.args.address.now first.requires.0 c.if-address-gt0.true
 
-returns-2 : tie.Need-returns-2
+returns-2 : tie.Need-returns-else-address-gt0
 returns-2 c =
     let first = c.before.before.before in
-    quits-none first.args.clock first.args.address.now first.requires.0 (omega (arith, c.if1.false))
+    quits-none first.args.clock first.args.address.now first.requires.0 (omega (arith, c.if-address-gt0.false))
 
-pub quit-spec : {M : Type 1} → statement M
-quit-spec = tie.close (tie.spec (λ c. search rules) (λ c κs. search rules) (λ c. search rules) returns returns-2)
+pub quit_spec : {M : Type 1} → statement M
+quit_spec = tie.close (tie.spec (λ c. search rules) (λ c κs. search rules) (λ c. search rules) returns returns-2)

@@ -12,10 +12,10 @@ returns : tie.Need-returns
 returns c =
     let first = c.before.before.before.before.before.before.before.before.before.before.before.before.before in
     let a = first.args in
-    let all : c.before.before.put2.new.0 ≡ patch in_address.mac 6 (be 6 a.mac) (patch 0 1 (be 1 1) (patch 0 address_size (zeros address_size) a.address.now)) = cc in
+    let all : c.put-2.new.s ≡ patch in_address.mac 6 (be 6 a.mac) (patch 0 1 (be 1 1) (patch 0 address_size (zeros address_size) a.address.now)) = cc in
     all ∙ joins a.mac a.address.now first.requires
 
-pub register-spec : {M : Type 1} → statement M
-register-spec =
+pub register_spec : {M : Type 1} → statement M
+register_spec =
     tie.close
     (tie.spec (λ c κs. search rules) (λ c κs. search rules) (λ c κs. search rules) (λ c. search rules) returns)

@@ -41,7 +41,7 @@ returns c = λ sc w. no-port sc _ _ (rw (w.settings, ← c.before.ports.ensures.
 
 returns-2 : tie.Need-returns-2
 returns-2 c = λ sc w.
-    goes-no-further sc _ _ (port c.before sc w) _ (shown c.before sc w) (λ e. none-but-i (rw e at c.match.keys2))
+    goes-no-further sc _ _ (port c.before sc w) _ (shown c.before sc w) (λ e. none-but-i (rw e at c.match.is))
 
 returns-3 : tie.Need-returns-3
 returns-3 c = λ sc w.

@@ -5,15 +5,15 @@ use Rattle.declaring.specs.Octets.{decided_octets}
 use Rattle.declaring.proofs.decide.Statement.{statement}
 use Rattle.declaring.proofs.decide.Tie as tie
 
-returns : tie.Need-returns
+returns : tie.Need-returns-then-declared
 unfolding decided_octets pick
-returns c = rw c.before.before.before.before.if1.true c.before.before.declare.ensures
+returns c = rw c.if-declared.true c.declare.ensures
 
-returns-2 : tie.Need-returns-2
+returns-2 : tie.Need-returns
 unfolding decided_octets pick
-returns-2 c = rw c.before.before.before.before.if1.false c.before.before.withdraw.ensures
+returns-2 c = rw c.if-declared.false c.withdraw.ensures
 
-pub decide-spec : {M : Type 1} → statement M
-decide-spec =
+pub decide_spec : {M : Type 1} → statement M
+decide_spec =
     tie.close
     (tie.spec (λ c κs. search rules) (λ c. search rules) returns (λ c κs. search rules) (λ c. search rules) returns-2)

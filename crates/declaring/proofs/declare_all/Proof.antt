@@ -11,11 +11,11 @@ returns c =
     let first = c.before.before.before.before.before.before.before.before.before.before.before.before.before.before.before.before in
     let a = first.args in
     λ f r o. all-decided a.sends.now first.requires.0 a.values.now a.column a.listener f r o _ _ _
-    c.before.before.before.before.before.before.before.before.before.before.before.decide.ensures
-    c.before.before.before.before.before.before.before.decide2.ensures c.before.before.decide3.ensures
+    c.decide.ensures
+    c.decide-2.ensures c.decide-3.ensures
 
-pub declare-all-spec : {M : Type 1} → statement M
-declare-all-spec =
+pub declare_all_spec : {M : Type 1} → statement M
+declare_all_spec =
     tie.close
     (tie.spec (λ c. search rules) (λ c. search rules) (λ c. search rules) (λ c. search rules) (λ c. search rules) (λ c. search rules) (λ c κs. search rules)
     (λ c. search rules) (λ c. search rules) (λ c. search rules) (λ c κs. search rules) (λ c. search rules) (λ c. search rules) (λ c. search rules)

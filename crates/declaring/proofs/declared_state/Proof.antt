@@ -8,25 +8,25 @@ use Rattle.declaring.specs.Octets.{declared_state}
 use Rattle.declaring.proofs.declared_state.Statement.{statement}
 use Rattle.declaring.proofs.declared_state.Tie as tie
 
-returns : tie.Need-returns
+returns : tie.Need-returns-then-same
 unfolding declared_state pick
-returns c = rw c.before.if1.true c.joined.ensures.0
+returns c = rw c.if-same.true c.joined.ensures.0
 
-returns-2 : tie.Need-returns-2
+returns-2 : tie.Need-returns-then-state-le-VP
 unfolding declared_state pick
 returns-2 c =
-    let state = c.before.before.before.args.state in
-    let passive : state ≤ 1 = omega (arith, c.before.if2.true) in
-    rw (c.before.before.if1.false, le-leb state 1 passive) c.joined2.ensures.0
+    let state = c.args.state in
+    let passive : state ≤ 1 = omega (arith, c.if-state-le-VP.true) in
+    rw (c.if-same.false, le-leb state 1 passive) c.joined-then-state-le-VP.ensures.0
 
-returns-3 : tie.Need-returns-3
+returns-3 : tie.Need-returns
 unfolding declared_state pick
 returns-3 c =
-    let state = c.before.before.before.args.state in
-    let other : 1 < state = omega (arith, c.before.if2.false) in
-    rw (c.before.before.if1.false, lt-leb state 1 other) c.renewed.ensures.0
+    let state = c.args.state in
+    let other : 1 < state = omega (arith, c.if-state-le-VP.false) in
+    rw (c.if-same.false, lt-leb state 1 other) c.renewed.ensures.0
 
-pub declared-state-spec : {M : Type 1} → statement M
-declared-state-spec =
+pub declared_state_spec : {M : Type 1} → statement M
+declared_state_spec =
     tie.close
     (tie.spec (λ c κs. search rules) returns (λ c κs. search rules) returns-2 (λ c κs. search rules) returns-3)

@@ -14,12 +14,12 @@ returns : tie.Need-returns
 returns c =
     let first = c.before.before.before.before.before.before.before.before.before.before.before.before.before in
     let v = first.args.vlan in
-    c.before.before.put2.ensures
-    ∙ ap (patch in_slot.vlan 2 (be 2 v)) c.before.before.before.before.before.before.put.ensures
-    ∙ ap (λ (t : List ℕ). patch in_slot.vlan 2 (be 2 v) (patch 0 1 (be 1 1) t)) c.before.before.before.before.before.before.before.before.before.before.clear.ensures
+    c.put-2.ensures
+    ∙ ap (patch in_slot.vlan 2 (be 2 v)) c.put.ensures
+    ∙ ap (λ (t : List ℕ). patch in_slot.vlan 2 (be 2 v) (patch 0 1 (be 1 1) t)) c.clear.ensures
     ∙ joins v first.args.slot.now first.requires.0
 
-pub join-spec : {M : Type 1} → statement M
-join-spec =
+pub join_spec : {M : Type 1} → statement M
+join_spec =
     tie.close
     (tie.spec (λ c κs. search rules) (λ c κs. search rules) (λ c κs. search rules) (λ c. search rules) returns)

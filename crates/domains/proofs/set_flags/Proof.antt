@@ -17,11 +17,11 @@ returns c =
     let s = first.args.own.now in
     let a = first.args.a in
     let b = first.args.b in
-    c.before.before.put2.ensures
-    ∙ ap (patch in_own.boundary_b 1 (be 1 (bit b))) (c.before.before.before.before.before.before.put.ensures ∙ ap (patch in_own.boundary_a 1 (be 1 (bit a))) (laid-own-is s first.requires.0))
+    c.put-2.ensures
+    ∙ ap (patch in_own.boundary_b 1 (be 1 (bit b))) (c.put.ensures ∙ ap (patch in_own.boundary_a 1 (be 1 (bit a))) (laid-own-is s first.requires.0))
     ∙ flags-put (to_own s) (laid-own-fits s first.requires.0).slotted a b
 
-pub set-flags-spec : {M : Type 1} → statement M
-set-flags-spec =
+pub set_flags_spec : {M : Type 1} → statement M
+set_flags_spec =
     tie.close
     (tie.spec (λ c. search rules) (λ c κs. search rules) (λ c. search rules) (λ c κs. search rules) (λ c. search rules) returns)

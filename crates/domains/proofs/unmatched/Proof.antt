@@ -4,11 +4,11 @@ use borrow.Author.Rules.{rules}
 use Rattle.domains.proofs.unmatched.Statement.{statement}
 use Rattle.domains.proofs.unmatched.Tie as tie
 
-returns : tie.Need-returns
-returns c = rw (sym c.before.before.any_held.ensures ∙ c.before.if1.true) c.other-priority.ensures
+returns : tie.Need-returns-then-any_held
+returns c = rw (sym c.any_held.ensures ∙ c.if-any_held.true) c.other_priority.ensures
 
-returns-2 : tie.Need-returns-2
-returns-2 c = rw (sym c.before.any_held.ensures ∙ c.if1.false)
+returns-2 : tie.Need-returns
+returns-2 c = rw (sym c.any_held.ensures ∙ c.if-any_held.false)
 
-pub unmatched-spec : {M : Type 1} → statement M
-unmatched-spec = tie.close (tie.spec (λ c κs. search rules) (λ c κs. search rules) returns returns-2)
+pub unmatched_spec : {M : Type 1} → statement M
+unmatched_spec = tie.close (tie.spec (λ c κs. search rules) (λ c κs. search rules) returns returns-2)

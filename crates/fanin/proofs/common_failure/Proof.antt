@@ -15,41 +15,41 @@ use Rattle.fanin.proofs.common_failure.Statement.{statement}
 use Rattle.fanin.proofs.common_failure.Tie as tie
 
 -- the Talker port as it was found
-found : (c : tie.After-known-told) → let a = c.before.before.before.before.before.args in source_port (source_of (stream_at a.k (decode a.table.now))) ≡ Port c.before.t.given.0.0
-found c = sym c.before.before.before.source.ensures ∙ c.before.t.given.1
+found : (c : tie.In-Port) → let a = c.args in source_port (source_of (stream_at a.k (decode a.table.now))) ≡ Port c.in-Port.t
+found c = sym c.source.ensures ∙ c.in-Port.is
 
-below : (c : tie.After-known-told) → c.before.t.given.0.0 < 8
+below : (c : tie.In-Port) → c.in-Port.t < 8
 below c =
-    let a = c.before.before.before.before.before in
+    let a = c.before.before.before in
     let x = stream_at a.args.k (decode a.args.table.now) in
     omega (arith, port-is (source_of x) _ (found c), port-bound x (stream-fits a.requires.0).eight_cells)
 
-returns : tie.Need-returns
+returns : tie.Need-returns-in_default
 returns c =
-    let a = c.before.before.before.before in
-    no-failure _ a.args.k a.requires.0 (sym c.before.before.source.ensures ∙ c.enum_told.given.1)
+    let a = c.before.before.before in
+    no-failure _ a.args.k a.requires.0 (sym c.source.ensures ∙ c.in_default.is)
 
-returns-2 : tie.Need-returns-2
+returns-2 : tie.Need-returns-then-taken
 returns-2 c =
-    let a = c.before.before.before.before.before.before in
-    shared-failure _ a.args.k a.requires.0 _ (found c.before) _ a.requires.2 c.if1.true
+    let a = c.before.before.before.before in
+    shared-failure _ a.args.k a.requires.0 _ (found c.before) _ a.requires.2 c.if-taken.true
 
-may-bring-requires : tie.Need-may-bring-requires
+may-bring-requires : tie.Need-may_bring-requires
 may-bring-requires c κs =
-    let a = c.before.before.before.before.before.before in
+    let a = c.before.before.before.before in
     (a.requires.0.laid, below c.before, a.requires.1)
 
-returns-3 : tie.Need-returns-3
+returns-3 : tie.Need-returns-then-may_bring
 returns-3 c =
-    let a = c.before.before.before.before.before.before.before.before in
-    brings-in _ a.args.k a.requires.0 _ (found c.before.before.before) _ a.requires.2 c.before.before.if1.false _ c.before.may-bring.ensures c.if2.true
+    let a = c.before.before.before.before.before.before in
+    brings-in _ a.args.k a.requires.0 _ (found c.before.before.before) _ a.requires.2 c.if-taken.false _ c.may_bring.ensures c.if-may_bring.true
 
-returns-4 : tie.Need-returns-4
+returns-4 : tie.Need-returns
 returns-4 c =
-    let a = c.before.before.before.before.before.before.before.before in
-    kept_out_lem _ a.args.k a.requires.0 _ (found c.before.before.before) _ a.requires.2 c.before.before.if1.false _ c.before.may-bring.ensures c.if2.false
+    let a = c.before.before.before.before.before.before in
+    kept_out_lem _ a.args.k a.requires.0 _ (found c.before.before.before) _ a.requires.2 c.if-taken.false _ c.may_bring.ensures c.if-may_bring.false
 
-pub common-failure-spec : {M : Type 1} → statement M
-common-failure-spec =
+pub common_failure_spec : {M : Type 1} → statement M
+common_failure_spec =
     tie.close
     (tie.spec (λ c κs. search rules) (λ c. search rules) (λ c. search rules) returns returns-2 may-bring-requires returns-3 returns-4)

@@ -13,37 +13,37 @@ use Rattle.fanin.proofs.Sets.{placed, first, none-inbound, next-inbound, all-inb
 use Rattle.fanin.proofs.inbound_ports.Statement.{statement}
 use Rattle.fanin.proofs.inbound_ports.Tie as tie
 
-abbrev invariant-loop : tie.invariant-loop
-invariant-loop table count set₀ k₀ set k = (k ≤ count) × (set ≡ set_to (first (decode table).streams k) 8)
+abbrev invariant-loop-k : tie.invariant-loop-k
+invariant-loop-k table count set₀ k₀ set k = (k ≤ count) × (set ≡ set_to (first (decode table).streams k) 8)
 
-abbrev decreases-loop : tie.decreases-loop
-decreases-loop table count set₀ k₀ set k = count - k
+abbrev decreases-loop-k : tie.decreases-loop-k
+decreases-loop-k table count set₀ k₀ set k = count - k
 
-loop-holds : tie.Need-loop-init invariant-loop decreases-loop
-loop-holds c = (omega arith, none-inbound (decode c.before.before.args.table.now).streams)
+loop-holds : tie.Need-loop-k-init invariant-loop-k decreases-loop-k
+loop-holds c = (omega arith, none-inbound (decode c.args.table.now).streams)
 
 -- the stream that the loop has come to
-here : (c : tie.In-loop invariant-loop decreases-loop) → Stands c.before.before.before.before.args.table.now c.before.loop.k
-here c = record { laid = c.before.before.before.before.requires; held = omega (arith, c.loop-test.true, c.before.before.count.ensures.0) }
+here : (c : tie.In-loop-k invariant-loop-k decreases-loop-k) → Stands c.args.table.now c.loop-k.k
+here c = record { laid = c.requires; held = omega (arith, c.loop-k-test.true, c.count-count.ensures.0) }
 
-including-requires : tie.Need-including-requires invariant-loop decreases-loop
+including-requires : tie.Need-including-set-requires invariant-loop-k decreases-loop-k
 including-requires c κs =
-    let x : Stream = stream_at c.before.before.loop.k (decode c.before.before.before.before.before.args.table.now) in
+    let x : Stream = stream_at c.loop-k.k (decode c.args.table.now) in
     rw c.source.ensures (placed x (stream-fits (here c.before)).eight_cells)
 
-loop-again : tie.Need-loop-preserved invariant-loop decreases-loop
+loop-again : tie.Need-loop-k-preserved invariant-loop-k decreases-loop-k
 loop-again c =
-    let l = c.before.before.before.loop in
+    let l = c.loop-k in
     let s = here c.before.before in
-    (omega arith, next-inbound (decode c.before.before.before.before.before.before.args.table.now).streams l.k l.set _ s.held (stream-fits s).eight_cells l.invariant.1 (rw c.before.source.ensures at c.including.ensures))
+    (omega arith, next-inbound (decode c.args.table.now).streams l.k l.set _ s.held (stream-fits s).eight_cells l.invariant.1 (rw c.source.ensures at c.including-set.ensures))
 
-returns : tie.Need-returns invariant-loop decreases-loop
+returns : tie.Need-returns invariant-loop-k decreases-loop-k
 returns c =
-    let l = c.before.loop in
-    l.invariant.1 ∙ all-inbound (decode c.before.before.before.before.args.table.now).streams l.k (omega (arith, c.loop-test.false, c.before.before.count.ensures.0))
+    let l = c.loop-k in
+    l.invariant.1 ∙ all-inbound (decode c.args.table.now).streams l.k (omega (arith, c.loop-k-test.false, c.count-count.ensures.0))
 
-pub inbound-ports-spec : {M : Type 1} → statement M
-inbound-ports-spec =
+pub inbound_ports_spec : {M : Type 1} → statement M
+inbound_ports_spec =
     tie.close
-    (tie.spec invariant-loop decreases-loop (λ c κs. search rules) loop-holds (λ c κs. here c) including-requires (λ c. search rules)
+    (tie.spec invariant-loop-k decreases-loop-k (λ c κs. search rules) loop-holds (λ c κs. here c) including-requires (λ c. search rules)
     (λ c. search rules) loop-again returns)

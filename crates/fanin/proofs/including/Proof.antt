@@ -10,18 +10,18 @@ use Rattle.fanin.proofs.including.Statement.{statement}
 use Rattle.fanin.proofs.including.Tie as tie
 
 -- the Talker port is below 8
-below : (c : tie.After-known-told) → c.before.source.given.0.0 < 8
-below c = rw c.before.source.given.1 at c.before.before.before.requires
+below : (c : tie.In-Port) → c.in-Port.t < 8
+below c = rw c.in-Port.is at c.requires
 
-returns : tie.Need-returns
+returns : tie.Need-returns-in-Port
 unfolding includes
-returns c = rw c.before.source.given.1 (ap (bit_or c.before.before.before.args.set) (unit _ (below c)))
+returns c = rw c.in-Port.is (ap (bit_or c.args.set) (unit _ (below c)))
 
-returns-2 : tie.Need-returns-2
+returns-2 : tie.Need-returns-in-Nowhere
 unfolding includes
-returns-2 c = rw c.enum_told.given.1
+returns-2 c = rw c.in-Nowhere.is
 
-pub including-spec : {M : Type 1} → statement M
-including-spec =
+pub including_spec : {M : Type 1} → statement M
+including_spec =
     tie.close
     (tie.spec (λ c. search rules) (λ c. omega (arith, below c)) (λ c. omega (arith, below c)) (λ c. search rules) returns returns-2)

@@ -10,40 +10,40 @@ use Rattle.fanin.proofs.Addresses.{settled-stands, address_read, asked-with, Sea
 use Rattle.fanin.proofs.taken_settled.Statement.{statement}
 use Rattle.fanin.proofs.taken_settled.Tie as tie
 
-abbrev invariant-loop : tie.invariant-loop
-invariant-loop table k wanted j₀ j = Searched (shares_with (decode table) k) j k
+abbrev invariant-loop-j : tie.invariant-loop-j
+invariant-loop-j table k wanted j₀ j = Searched (shares_with (decode table) k) j k
 
-abbrev decreases-loop : tie.decreases-loop
-decreases-loop table k wanted j₀ j = k - j
+abbrev decreases-loop-j : tie.decreases-loop-j
+decreases-loop-j table k wanted j₀ j = k - j
 
 -- the stream that the loop has come to
-here : (c : tie.In-loop invariant-loop decreases-loop) → Stands c.before.before.before.before.before.args.table.now c.before.loop.j
-here c = settled-stands c.before.before.before.before.before.requires _ (omega (arith, c.loop-test.true))
+here : (c : tie.In-loop-j invariant-loop-j decreases-loop-j) → Stands c.args.table.now c.loop-j.j
+here c = settled-stands c.requires _ (omega (arith, c.loop-j-test.true))
 
-has-address-requires : tie.Need-has-address-requires invariant-loop decreases-loop
-has-address-requires c κs = (here c.before.before, c.get2.ensures.0 ∙ address_read (here c.before.before) _ _ c.before.settled-at2.ensures.laid (c.before.before.before.before.before.before.before.requires.values _ (omega (arith, c.before.before.loop-test.true))))
+has-address-requires : tie.Need-has_address-requires invariant-loop-j decreases-loop-j
+has-address-requires c κs = (here c.before.before, c.get-address.ensures.0 ∙ address_read (here c.before.before) _ _ c.settled_at-in-loop-j.ensures.laid (c.requires.values _ (omega (arith, c.loop-j-test.true))))
 
 -- what is found of it
-found : (c : tie.After-has-address invariant-loop decreases-loop) → c.has_address.result ≡ shares_with (decode c.before.before.before.before.before.before.before.before.args.table.now) c.before.before.before.before.before.before.before.before.args.k c.before.before.before.before.loop.j
+found : (c : tie.After-has_address invariant-loop-j decreases-loop-j) → c.has_address.result ≡ shares_with (decode c.args.table.now) c.args.k c.loop-j.j
 found c =
     let a = c.before.before.before.before.before in
-    asked-with (decode a.before.before.before.args.table.now) _ _ _ _ (a.get.ensures.0 ∙ address_read (settled-stands a.before.before.before.requires _ (omega arith)) _ _ a.before.settled_at.ensures.laid (a.before.before.before.requires.values _ (omega arith))) c.has_address.ensures
+    asked-with (decode a.args.table.now) _ _ _ _ (a.get-wanted.ensures.0 ∙ address_read (settled-stands a.requires _ (omega arith)) _ _ a.settled_at.ensures.laid (a.requires.values _ (omega arith))) c.has_address.ensures
 
-returns : tie.Need-returns invariant-loop decreases-loop
+returns : tie.Need-returns-then-has_address invariant-loop-j decreases-loop-j
 returns c =
-    let l = c.before.before.before.before.before.loop in
-    search-finds _ _ l.j l.invariant c.before.before.before.before.loop-test.true (sym (found c.before) ∙ c.if1.true)
+    let l = c.loop-j in
+    search-finds _ _ l.j l.invariant c.loop-j-test.true (sym (found c.before) ∙ c.if-has_address.true)
 
-loop-again : tie.Need-loop-preserved invariant-loop decreases-loop
+loop-again : tie.Need-loop-j-preserved invariant-loop-j decreases-loop-j
 loop-again c =
-    let l = c.before.before.before.before.before.loop in
-    search-goes-on _ _ l.j l.invariant c.before.before.before.before.loop-test.true (sym (found c.before) ∙ c.if1.false)
+    let l = c.loop-j in
+    search-goes-on _ _ l.j l.invariant c.loop-j-test.true (sym (found c.before) ∙ c.if-has_address.false)
 
-returns-2 : tie.Need-returns-2 invariant-loop decreases-loop
-returns-2 c = search-ends _ _ c.before.loop.j c.before.loop.invariant c.loop-test.false
+returns-2 : tie.Need-returns invariant-loop-j decreases-loop-j
+returns-2 c = search-ends _ _ c.loop-j.j c.loop-j.invariant c.loop-j-test.false
 
-pub taken-settled-spec : {M : Type 1} → statement M
-taken-settled-spec =
+pub taken_settled_spec : {M : Type 1} → statement M
+taken_settled_spec =
     tie.close
-    (tie.spec invariant-loop decreases-loop (λ c κs. settled-stands c.before.requires _ (omega arith)) (λ c κs. search rules) (λ c. search-begins _ _) (λ c κs. here c) (λ c κs. search rules)
+    (tie.spec invariant-loop-j decreases-loop-j (λ c κs. settled-stands c.requires _ (omega arith)) (λ c κs. search rules) (λ c. search-begins _ _) (λ c κs. here c) (λ c κs. search rules)
     has-address-requires returns (λ c. search rules) (λ c. search rules) loop-again returns-2)

@@ -5,20 +5,20 @@ use Rattle.hearing.specs.Hears.{meant}
 use Rattle.hearing.proofs.after.Statement.{statement}
 use Rattle.hearing.proofs.after.Tie as tie
 
-returns : tie.Need-returns
+returns : tie.Need-returns-in-In
 unfolding meant heard_event
-returns c = rw c.before.enum_told.given.1 (c.heard-in.ensures.0, c.heard-in.ensures.2)
+returns c = rw c.in-In.is (c.heard_in.ensures.0, c.heard_in.ensures.2)
 
-returns-2 : tie.Need-returns-2
+returns-2 : tie.Need-returns-in-Empty
 unfolding meant heard_event
-returns-2 c = rw c.before.enum-told2.given.1 (c.heard-empty.ensures.0, c.heard-empty.ensures.2)
+returns-2 c = rw c.in-Empty.is (c.heard_empty.ensures.0, c.heard_empty.ensures.2)
 
-returns-3 : tie.Need-returns-3
+returns-3 : tie.Need-returns-in-Leave
 unfolding meant heard_event
-returns-3 c = rw c.before.enum-told3.given.1 (c.heard-leave.ensures.0, c.heard-leave.ensures.2)
+returns-3 c = rw c.in-Leave.is (c.heard_leave.ensures.0, c.heard_leave.ensures.2)
 
-pub after-spec : {M : Type 1} → statement M
-after-spec =
+pub after_spec : {M : Type 1} → statement M
+after_spec =
     tie.close
     (tie.spec (λ c. search rules) (λ c κs. search rules) (λ c. search rules) (λ c κs. search rules) (λ c. search rules) (λ c κs. search rules)
     returns returns-2 returns-3)

@@ -9,7 +9,7 @@ use Rattle.hearing.proofs.hear_at.Tie as tie
 
 returns : tie.Need-returns
 unfolding heard_at
-returns c = let a = c.before.before.before.args in ap (λ (v : ℕ). set a.sent.now a.at v) c.after.ensures.0
+returns c = let a = c.args in ap (λ (v : ℕ). set a.sent.now a.at v) c.after.ensures.0
 
-pub hear-at-spec : {M : Type 1} → statement M
-hear-at-spec = tie.close (tie.spec (λ c. search rules) (λ c κs. search rules) (λ c. search rules) (λ c. search rules) returns)
+pub hear_at_spec : {M : Type 1} → statement M
+hear_at_spec = tie.close (tie.spec (λ c. search rules) (λ c κs. search rules) (λ c. search rules) (λ c. search rules) returns)

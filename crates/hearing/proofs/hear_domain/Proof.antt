@@ -9,7 +9,7 @@ returns : tie.Need-returns
 returns c clock =
     let s = c.before.before.before.before.before in
     let a = s.args in
-    domain-heard (meant a.heard) a.sender.now s.requires.0 a.slot s.requires.2 clock _ c.before.before.hear-at.ensures
+    domain-heard (meant a.heard) a.sender.now s.requires.0 a.slot s.requires.2 clock _ c.hear_at.ensures
 
-pub hear-domain-spec : {M : Type 1} → statement M
-hear-domain-spec = tie.close (tie.spec (λ c κs. search rules) (λ c. search rules) returns)
+pub hear_domain_spec : {M : Type 1} → statement M
+hear_domain_spec = tie.close (tie.spec (λ c κs. search rules) (λ c. search rules) returns)

@@ -12,7 +12,7 @@ returns : tie.Need-returns
 returns c =
     let s = c.before.before.before.before.before.before.before.before.before in
     machine-restarted s.args.clock s.args.sender.now s.requires.0 _
-    (c.before.before.put2.ensures ∙ ap (patch in_sender.timer 4 (be 4 s.args.clock)) c.before.before.before.before.before.before.put.ensures)
+    (c.put-2.ensures ∙ ap (patch in_sender.timer 4 (be 4 s.args.clock)) c.put.ensures)
 
-pub restart-spec : {M : Type 1} → statement M
-restart-spec = tie.close (tie.spec (λ c κs. search rules) (λ c κs. search rules) (λ c. search rules) returns)
+pub restart_spec : {M : Type 1} → statement M
+restart_spec = tie.close (tie.spec (λ c κs. search rules) (λ c κs. search rules) (λ c. search rules) returns)

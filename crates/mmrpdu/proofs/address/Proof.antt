@@ -7,17 +7,17 @@ use Rattle.mmrpdu.specs.Reader.{address_in}
 use Rattle.mmrpdu.proofs.address.Statement.{statement}
 use Rattle.mmrpdu.proofs.address.Tie as tie
 
-returns : tie.Need-returns
+returns : tie.Need-returns-then-first-lt-MAC
 unfolding address_in
-returns c = sym (value-short 6 6 0 _ _ c.if1.true)
+returns c = sym (value-short 6 6 0 _ _ c.if-first-lt-MAC.true)
 
-returns-2 : tie.Need-returns-2
+returns-2 : tie.Need-returns-then-mac-n
 unfolding address_in
-returns-2 c = sym (value-past 6 6 0 _ _ c.before.before.if1.false _ c.before.get.ensures.0 (omega arith))
+returns-2 c = sym (value-past 6 6 0 _ _ c.if-first-lt-MAC.false _ c.get-mac.ensures.0 (omega arith))
 
-returns-3 : tie.Need-returns-3
+returns-3 : tie.Need-returns
 unfolding address_in
-returns-3 c = sym (value_read 6 6 0 _ _ c.before.before.if1.false _ c.before.get.ensures.0 (omega arith) _ c.before.get.ensures.0)
+returns-3 c = sym (value_read 6 6 0 _ _ c.if-first-lt-MAC.false _ c.get-mac.ensures.0 (omega arith) _ c.get-mac.ensures.0)
 
 pub address_spec : {M : Type 1} → statement M
 address_spec =

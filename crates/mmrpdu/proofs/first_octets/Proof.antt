@@ -7,16 +7,16 @@ use Rattle.mmrpdu.proofs.Laws.{other-octets}
 use Rattle.mmrpdu.proofs.first_octets.Statement.{statement}
 use Rattle.mmrpdu.proofs.first_octets.Tie as tie
 
-returns : tie.Need-returns
+returns : tie.Need-returns-in-1
 unfolding first_octets list_named
-returns c = rw c.match.keys1
+returns c = rw c.in-1.is
 
-returns-2 : tie.Need-returns-2
+returns-2 : tie.Need-returns-in-2
 unfolding first_octets list_named
-returns-2 c = rw c.match.keys2
+returns-2 c = rw c.in-2.is
 
-returns-3 : tie.Need-returns-3
-returns-3 c = sym (other-octets c.before.args.kind _ (λ e. omega arith) (λ e. omega arith))
+returns-3 : tie.Need-returns-in_default
+returns-3 c = sym (other-octets c.args.kind _ (λ e. omega arith) (λ e. omega arith))
 
-pub first-octets-spec : {M : Type 1} → statement M
-first-octets-spec = tie.close (tie.spec returns returns-2 returns-3)
+pub first_octets_spec : {M : Type 1} → statement M
+first_octets_spec = tie.close (tie.spec returns returns-2 returns-3)

@@ -9,31 +9,31 @@ use Rattle.mmrpdu.proofs.Laws.{strange-refused, strange-list}
 use Rattle.mmrpdu.proofs.header_fault.Statement.{statement}
 use Rattle.mmrpdu.proofs.header_fault.Tie as tie
 
-returns : tie.Need-returns
+returns : tie.Need-returns-then-octets-eq-SERVICE
 unfolding header_number address_header
-returns c = rw (c.before.match.keys2, eq-eqb _ _ c.if1.true)
+returns c = rw (c.in-1.is, eq-eqb _ _ c.if-octets-eq-SERVICE.true)
 
-returns-2 : tie.Need-returns-2
+returns-2 : tie.Need-returns-then-octets-eq-MAC
 unfolding header_number address_header
-returns-2 c = rw (c.before.match.keys3, eq-eqb _ _ c.if2.true)
+returns-2 c = rw (c.in-2.is, eq-eqb _ _ c.if-octets-eq-MAC.true)
 
-returns-3 : tie.Need-returns-3
-returns-3 c = let p : 2 < c.before.before.args.kind = omega arith in sym (strange-refused _ _ _ p c.if3.true)
+returns-3 : tie.Need-returns-then-version-eq0
+returns-3 c = let p : 2 < c.args.kind = omega arith in sym (strange-refused _ _ _ p c.if-version-eq0.true)
 
-returns-4 : tie.Need-returns-4
+returns-4 : tie.Need-returns-in-0
 unfolding header_number address_header
-returns-4 c = rw c.match.keys1
+returns-4 c = rw c.in-0.is
 
-returns-5 : tie.Need-returns-5
+returns-5 : tie.Need-returns-else-octets-eq-SERVICE
 unfolding header_number address_header
-returns-5 c = rw (c.before.match.keys2, ne_eqb _ _ c.if1.false)
+returns-5 c = rw (c.in-1.is, ne_eqb _ _ c.if-octets-eq-SERVICE.false)
 
-returns-6 : tie.Need-returns-6
+returns-6 : tie.Need-returns-else-octets-eq-MAC
 unfolding header_number address_header
-returns-6 c = rw (c.before.match.keys3, ne_eqb _ _ c.if2.false)
+returns-6 c = rw (c.in-2.is, ne_eqb _ _ c.if-octets-eq-MAC.false)
 
-returns-7 : tie.Need-returns-7
-returns-7 c = let p : 2 < c.before.before.args.kind = omega arith in sym (strange-list _ _ _ p c.if3.false)
+returns-7 : tie.Need-returns-else-version-eq0
+returns-7 c = let p : 2 < c.args.kind = omega arith in sym (strange-list _ _ _ p c.if-version-eq0.false)
 
-pub header-fault-spec : {M : Type 1} → statement M
-header-fault-spec = tie.close (tie.spec returns returns-2 returns-3 returns-4 returns-5 returns-6 returns-7)
+pub header_fault_spec : {M : Type 1} → statement M
+header_fault_spec = tie.close (tie.spec returns returns-2 returns-3 returns-4 returns-5 returns-6 returns-7)

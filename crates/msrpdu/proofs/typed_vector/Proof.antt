@@ -1,6 +1,5 @@
 -- `msrpdu::typed_vector` meets its contract. Assumes nothing.
 use mathlib.Core.Path.{sym, ap, ◌∙◌}
-use mathlib.Core.Logic.{⊎_elim}
 use native.Mathlib.Omega.{arith}
 use lib.ListN.{length}
 use borrow.Author.Rules.{rules}
@@ -12,7 +11,7 @@ use Rattle.msrpdu.proofs.typed_vector.Tie as tie
 returns : tie.Need-returns-in_default
 returns c =
     sym (vector-untyped _ _ _ c.type_read.ensures
-    (λ n e. ⊎_elim (λ z. omega arith) (λ z. omega arith) (rw e at c.in_default.is)) _ _)
+    c.in_default.not-Known _ _)
 
 -- what the vector reader gave, of a known type
 typed : (c : tie.After-vector-v) → OfType c.args.version c.args.kind c.args.list.now c.args.at c.vector-v.result
