@@ -177,7 +177,7 @@ pub fn advance(table: &mut [u8], time: u32) -> u8
 }
 
 // What write answers.
-#[derive(Drop)]
+#[derive(Clone, Copy)]
 pub struct Wrote {
     pub number: u8,
     pub length: usize,

@@ -25,7 +25,7 @@ use streams::ClassRead;
 use table::{cell, port, result};
 
 // What a stream's column on a port is: none, Advertise, or Failed with a Bridge ID and a code.
-#[derive(Drop)]
+#[derive(Clone, Copy)]
 pub enum ColumnRead {
     None,
     Advertise,
@@ -64,7 +64,7 @@ pub fn supports(port: &[u8], class: ClassRead) -> bool
 }
 
 // The steps of settling by their letters (01, "Settling"; 02, ix), and none.
-#[derive(Drop)]
+#[derive(Clone, Copy)]
 pub enum Step {
     None,
     A,
@@ -84,7 +84,7 @@ pub enum Step {
 }
 
 // What a step gives: column none, the failure that is registered, Advertise, or an own failure of some code.
-#[derive(Drop)]
+#[derive(Clone, Copy)]
 pub enum Outcome {
     Nothing,
     Registered,
@@ -93,7 +93,7 @@ pub enum Outcome {
 }
 
 // The letter of a step in ASCII, 0 for none, and what it gives.
-#[derive(Drop)]
+#[derive(Clone, Copy)]
 pub struct About(pub u8, pub Outcome);
 
 // Each step's letter and outcome.
@@ -120,14 +120,14 @@ pub fn describe(step: Step) -> About
 }
 
 // Whether a port is at the edge of the domain of class A, and of class B.
-#[derive(Drop)]
+#[derive(Clone, Copy)]
 pub struct Edges {
     pub a: bool,
     pub b: bool,
 }
 
 // What a port's own part says of a stream: the port's flags, and whether the stream's Talker is pruned there.
-#[derive(Drop)]
+#[derive(Clone, Copy)]
 pub struct OwnRead {
     pub edges: Edges,
     pub pruned: bool,

@@ -19,7 +19,7 @@ const ALONE_WEIGHS: u64 = ALONE * OCTET + 1;
 const OF_A_MAC: u64 = 65536;
 
 // What the best cutting of a tail weighs, and how many declarations its first vector has.
-#[derive(Drop)]
+#[derive(Clone, Copy)]
 pub struct Entry {
     pub weighs: u64,
     pub first: usize,

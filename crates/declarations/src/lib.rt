@@ -89,7 +89,7 @@ const OCTET_WEIGHS: u16 = 65;
 const FIRST_EVENT: u64 = 36;
 
 // The types of declarations, in the order in which they are written.
-#[derive(Drop)]
+#[derive(Clone, Copy)]
 pub enum Attribute {
     Advertise,
     Failed,
@@ -308,7 +308,7 @@ pub fn count_declarations(table: &[u8], p: usize) -> usize
 }
 
 // The place of the first declarer behind some declarations of a type, and how many of these its declarers do not have.
-#[derive(Drop)]
+#[derive(Clone, Copy)]
 pub struct Start {
     pub first: usize,
     pub skip: usize,
@@ -453,7 +453,7 @@ fn write_vector(table: &[u8], k: usize, p: usize, attribute: Attribute, out: &mu
 }
 
 // Declarations of a type that have something to say: so many, from the declarer at a place on.
-#[derive(Drop)]
+#[derive(Clone, Copy)]
 pub struct Run {
     pub attribute: Attribute,
     pub first: usize,
@@ -541,7 +541,7 @@ fn fits(used: usize, size: usize, left: usize) -> usize
 }
 
 // A Message in the PDU: how many declarations it says, and the octets of the PDU with it.
-#[derive(Drop)]
+#[derive(Clone, Copy)]
 pub struct Message {
     pub count: usize,
     pub end: usize,
@@ -775,7 +775,7 @@ fn take(table: &[u8], p: usize, run: Run, at: usize, buffer: &mut [u8]) -> Messa
 
 // How far a PDU is: its octets so far, the declarations still to pass over, the place that it reached, and whether one that has
 // something to say found no room.
-#[derive(Drop)]
+#[derive(Clone, Copy)]
 pub struct Progress {
     pub at: usize,
     pub skip: usize,
@@ -830,7 +830,7 @@ fn pass(table: &[u8], p: usize, attribute: Attribute, from: Progress, buffer: &m
 }
 
 // What a write answers: the PDU's length, the place that it reached in the list, and whether it carries LeaveAll.
-#[derive(Drop)]
+#[derive(Clone, Copy)]
 pub struct Taken {
     pub length: usize,
     pub end: usize,

@@ -113,7 +113,7 @@ fn cell_formed(cell: &[u8], clock: u64, leave: u64) -> bool
 
 // What the cells of a stream's ports are: whether each keeps its rules, whether none has a Talker or a Listener, and how many have a
 // Talker.
-#[derive(Drop)]
+#[derive(Clone, Copy)]
 struct Registered {
     formed: bool,
     none: bool,

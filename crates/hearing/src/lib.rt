@@ -14,7 +14,7 @@ use table::sender::{LEAVE_ALL, TIMER};
 use table::sends::{ADVERTISING, FAILING, LISTENING};
 
 // What is received of a declaration's AttributeType and key: JoinIn or In, JoinMt or Mt, Lv or LeaveAll.
-#[derive(Drop)]
+#[derive(Clone, Copy)]
 pub enum Heard {
     In,
     Empty,

@@ -12,7 +12,7 @@ use mmrpdu::{MessageHead, MessageRead};
 use msrpdu::{Event, ValueRead, VectorHead, VectorRead};
 
 // What the event of a value asks for.
-#[derive(Drop)]
+#[derive(Clone, Copy)]
 enum Asked {
     Nothing,
     Join,
@@ -20,14 +20,14 @@ enum Asked {
 }
 
 // A walk over a frame: whether it applies the frame or makes room for it, and the clock.
-#[derive(Drop)]
+#[derive(Clone, Copy)]
 struct Walk {
     applying: bool,
     clock: u32,
 }
 
 // Where a walk over a list came to: the place behind it, or that there is no room for all of it.
-#[derive(Drop)]
+#[derive(Clone, Copy)]
 enum Reached {
     Place(usize),
     Full,

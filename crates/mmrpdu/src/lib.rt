@@ -8,7 +8,7 @@ use model::{pdu, refusal};
 use msrpdu::{ValueRead, VectorRead};
 
 // A Message: its AttributeType octet, its AttributeLength and the place of its list.
-#[derive(Drop)]
+#[derive(Clone, Copy)]
 pub struct MessageHead {
     pub kind: u8,
     pub octets: usize,
@@ -16,7 +16,7 @@ pub struct MessageHead {
 }
 
 // What stands at a place of a PDU.
-#[derive(Drop)]
+#[derive(Clone, Copy)]
 pub enum MessageRead {
     Refused(u8),
     End,

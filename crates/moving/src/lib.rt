@@ -17,7 +17,7 @@ use table::sender::{APPLICANTS, LEAVE_ALL};
 use table::sends::{ADVERTISED, ADVERTISING, FAILED, FAILING, LISTENED, LISTENING};
 
 // A write of a port: the place that its PDU takes declarations from, the end that it reaches, and whether it has LeaveAll.
-#[derive(Drop)]
+#[derive(Clone, Copy)]
 pub struct Span {
     pub place: usize,
     pub end: usize,
@@ -25,7 +25,7 @@ pub struct Span {
 }
 
 // How far the moves are: the machines met, and those left of the ones before the end.
-#[derive(Drop)]
+#[derive(Clone, Copy)]
 pub struct Met {
     pub count: usize,
     pub left: usize,

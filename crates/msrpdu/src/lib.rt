@@ -68,7 +68,7 @@ pub enum VectorRead {
 }
 
 // A Message whose list is to be read: its AttributeType octet, the place of its list and the place after it.
-#[derive(Drop)]
+#[derive(Clone, Copy)]
 pub struct MessageHead {
     pub kind: u8,
     pub list: usize,
@@ -76,7 +76,7 @@ pub struct MessageHead {
 }
 
 // What stands at a place of a PDU.
-#[derive(Drop)]
+#[derive(Clone, Copy)]
 pub enum MessageRead {
     Refused(u8),
     End,
@@ -85,20 +85,20 @@ pub enum MessageRead {
 }
 
 // A field of a value.
-#[derive(Drop)]
+#[derive(Clone, Copy)]
 pub enum ValueRead {
     Value(u64),
     Past,
 }
 
 // The slot of a Domain value among those that a port holds, or that it has none.
-#[derive(Drop)]
+#[derive(Clone, Copy)]
 pub enum DomainRead {
     Slot(usize),
     Dropped,
 }
 
-#[derive(Drop)]
+#[derive(Clone, Copy)]
 pub enum Event {
     New,
     JoinIn,

@@ -25,7 +25,7 @@ use table::Found;
 const FIRST_DOMAIN_VLAN: usize = 2;
 
 // What the event of a value asks of a Registrar: a join, a leave, or nothing.
-#[derive(Drop)]
+#[derive(Clone, Copy)]
 enum Asked {
     Nothing,
     Join,
@@ -33,7 +33,7 @@ enum Asked {
 }
 
 // What an Applicant hears of it, or that it does not move.
-#[derive(Drop)]
+#[derive(Clone, Copy)]
 enum Overheard {
     Unmoved,
     Hears(Heard),
@@ -41,7 +41,7 @@ enum Overheard {
 
 // A walk over an AttributeList: the place p of its port, whether it applies the list or makes room for it, the PDU's version and
 // the AttributeType.
-#[derive(Drop)]
+#[derive(Clone, Copy)]
 struct ListWalk {
     p: usize,
     applying: bool,
@@ -50,7 +50,7 @@ struct ListWalk {
 }
 
 // The record of a stream, or that there is no room for one.
-#[derive(Drop)]
+#[derive(Clone, Copy)]
 enum Enrolment {
     Record(usize),
     Full,

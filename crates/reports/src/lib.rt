@@ -7,14 +7,14 @@ ghost use Rattle.table.specs.Places.{StandsOn, PortIn};
 ghost use Rattle.reports.specs.Shown.{column_word, declared, entered, shown, ShowsStream, ShowsPort, ReportIn};
 
 // The words of a report.
-#[derive(Drop)]
+#[derive(Clone, Copy)]
 pub enum ColumnShown {
     None,
     Advertise,
     Failed,
 }
 
-#[derive(Drop)]
+#[derive(Clone, Copy)]
 pub enum ListenerShown {
     None,
     AskingFailed,
@@ -22,7 +22,7 @@ pub enum ListenerShown {
     ReadyFailed,
 }
 
-#[derive(Drop)]
+#[derive(Clone, Copy)]
 pub enum EntryShown {
     None,
     Filter,
@@ -30,7 +30,7 @@ pub enum EntryShown {
 }
 
 // What report answers.
-#[derive(Drop)]
+#[derive(Clone, Copy)]
 pub struct Reported {
     pub number: u8,
     pub count: usize,
@@ -46,7 +46,7 @@ pub struct Reported {
 }
 
 // What is shown of a stream.
-#[derive(Drop)]
+#[derive(Clone, Copy)]
 pub struct StreamShown {
     pub id: u64,
     pub column: ColumnShown,
@@ -56,7 +56,7 @@ pub struct StreamShown {
 }
 
 // What is shown of a port.
-#[derive(Drop)]
+#[derive(Clone, Copy)]
 pub struct PortShown {
     pub total_a: u64,
     pub limit_a: u64,

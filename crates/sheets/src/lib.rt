@@ -136,7 +136,7 @@ pub fn settings_length(input: &[u8]) -> usize
 }
 
 // What a record did: the number given back and the record's octets, 0 where it ends the reading.
-#[derive(Drop)]
+#[derive(Clone, Copy)]
 pub struct Done {
     pub number: u8,
     pub size: usize,

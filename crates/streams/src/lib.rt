@@ -19,11 +19,11 @@ const FRAME_SIZE: usize = cell::FRAME_SIZE - cell::DESTINATION;
 const FRAMES: usize = cell::FRAMES - cell::DESTINATION;
 
 // A demand in octets per interval of a class.
-#[derive(Drop)]
+#[derive(Clone, Copy)]
 pub struct PerInterval(pub u64);
 
 // A rate in bits per second.
-#[derive(Drop)]
+#[derive(Clone, Copy)]
 pub struct PerSecond(pub u64);
 
 // The demand of a stream on a port, from the port's settings and its fixed values: doubled where the port sends twice.
@@ -66,7 +66,7 @@ pub fn rate_of_b(d: PerInterval) -> PerSecond
 }
 
 // The class of a priority.
-#[derive(Drop)]
+#[derive(Clone, Copy)]
 pub enum ClassRead {
     NoClass,
     A,
@@ -87,7 +87,7 @@ pub fn class_of(table: &[u8], priority: u64) -> ClassRead
 }
 
 // The Talker port of stream k: the lowest place with a Talker registration.
-#[derive(Drop)]
+#[derive(Clone, Copy)]
 pub enum SourceRead {
     Nowhere,
     Port(usize),

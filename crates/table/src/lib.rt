@@ -382,7 +382,7 @@ pub fn clear_totals(table: &mut [u8])
 }
 
 // Where a stream is among the records in use, or where it would stand.
-#[derive(Drop)]
+#[derive(Clone, Copy)]
 pub enum Found {
     At(usize),
     Gap(usize),

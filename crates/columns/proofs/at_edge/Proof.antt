@@ -5,8 +5,8 @@ use Rattle.columns.specs.Steps.{edge_of}
 use Rattle.columns.proofs.at_edge.Statement.{statement}
 use Rattle.columns.proofs.at_edge.Tie as tie
 
-pub at-edge-spec : {M : Type 1} → statement M
+pub at_edge_spec : {M : Type 1} → statement M
 unfolding class_shown edge_of
-at-edge-spec =
+at_edge_spec =
     tie.close
-    (tie.spec (λ c. search rules) (λ c. search rules) (λ c. search rules) (λ c. rw c.enum_told.given.1) (λ c. rw c.enum-told2.given.1) (λ c. rw c.enum-told3.given.1))
+    (tie.spec (λ c. search rules) (λ c. search rules) (λ c. search rules) (λ c. rw c.in-NoClass.is) (λ c. rw c.in-A.is) (λ c. rw c.in-B.is))

@@ -17,24 +17,24 @@ told-column : (st : Settings) (s : Source) (n : StepName) (r : told.About) (o : 
 unfolding about_shown column_by
 told-column st s n r o e q = rw (← q) (ap (λ (a : About). outcome_column st s a.outcome) e)
 
-returns : tie.Need-returns
+returns : tie.Need-returns-in-Nothing
 unfolding outcome_shown outcome_column column_shown
-returns c = λ t. told-column _ _ _ _ _ c.before.before.describe.ensures c.enum_told.given.1
+returns c = λ t. told-column _ _ _ _ _ c.describe-told.ensures c.in-Nothing.is
 
-returns-2 : tie.Need-returns-2
+returns-2 : tie.Need-returns-in-Registered
 unfolding outcome_shown outcome_column
-returns-2 c = λ t. c.failure-in.ensures t ∙ told-column _ _ _ _ _ c.before.before.before.describe.ensures c.before.enum-told2.given.1
+returns-2 c = λ t. c.failure_in.ensures t ∙ told-column _ _ _ _ _ c.describe-told.ensures c.in-Registered.is
 
-returns-3 : tie.Need-returns-3
+returns-3 : tie.Need-returns-in-Admitted
 unfolding outcome_shown outcome_column column_shown
-returns-3 c = λ t. told-column _ _ _ _ _ c.before.before.describe.ensures c.enum-told3.given.1
+returns-3 c = λ t. told-column _ _ _ _ _ c.describe-told.ensures c.in-Admitted.is
 
-returns-4 : tie.Need-returns-4
+returns-4 : tie.Need-returns-in-Failure
 unfolding outcome_shown outcome_column
-returns-4 c = λ t. c.own-failure.ensures ∙ told-column _ _ _ _ _ c.before.before.before.before.describe.ensures c.before.before.outcome.given.1
+returns-4 c = λ t. c.own_failure.ensures ∙ told-column _ _ _ _ _ c.describe-told.ensures c.in-Failure.is
 
-pub column-of-spec : {M : Type 1} → statement M
-column-of-spec =
+pub column_of_spec : {M : Type 1} → statement M
+column_of_spec =
     tie.close
     (tie.spec (λ c κs. search rules) (λ c. search rules) (λ c. search rules) (λ c κs. search rules) (λ c. search rules)
     (λ c. search rules) (λ c κs. search rules) returns returns-2 returns-3 returns-4)

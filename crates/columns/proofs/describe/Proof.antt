@@ -4,15 +4,8 @@ use Rattle.columns.specs.Steps.{step_shown, outcome_shown, about_shown}
 use Rattle.columns.proofs.describe.Statement.{statement}
 use Rattle.columns.proofs.describe.Tie as tie
 
-pub describe-spec : {M : Type 1} → statement M
+pub describe_spec : {M : Type 1} → statement M
 unfolding step_shown outcome_shown about_shown
-describe-spec =
+describe_spec =
     tie.close
-    (tie.spec (λ c. search rules) (λ c. search rules) (λ c. search rules) (λ c. search rules) (λ c. search rules) (λ c. search rules)
-    (λ c. search rules) (λ c. search rules) (λ c. search rules) (λ c. search rules) (λ c. search rules) (λ c. search rules)
-    (λ c. search rules) (λ c. search rules) (λ c. search rules) (λ c. rw c.enum_told.given.1) (λ c. rw c.enum-told2.given.1)
-    (λ c. rw c.enum-told3.given.1) (λ c. rw c.enum-told4.given.1) (λ c. rw c.enum-told5.given.1)
-    (λ c. rw c.enum-told6.given.1) (λ c. rw c.enum-told7.given.1) (λ c. rw c.enum-told8.given.1)
-    (λ c. rw c.enum-told9.given.1) (λ c. rw c.enum-told10.given.1) (λ c. rw c.enum-told11.given.1)
-    (λ c. rw c.enum-told12.given.1) (λ c. rw c.enum-told13.given.1) (λ c. rw c.enum-told14.given.1)
-    (λ c. rw c.enum-told15.given.1))
+    (tie.spec (λ c. search rules) (λ c. search rules) (λ c. search rules) (λ c. search rules) (λ c. search rules) (λ c. search rules) (λ c. search rules) (λ c. search rules) (λ c. search rules) (λ c. search rules) (λ c. search rules) (λ c. search rules) (λ c. search rules) (λ c. search rules) (λ c. search rules) (λ c. rw c.in-None.is) (λ c. rw c.in-A.is) (λ c. rw c.in-B.is) (λ c. rw c.in-C.is) (λ c. rw c.in-D.is) (λ c. rw c.in-E.is) (λ c. rw c.in-F.is) (λ c. rw c.in-G.is) (λ c. rw c.in-H.is) (λ c. rw c.in-I.is) (λ c. rw c.in-J.is) (λ c. rw c.in-K.is) (λ c. rw c.in-L.is) (λ c. rw c.in-M.is) (λ c. rw c.in-N.is))

@@ -7,12 +7,12 @@ use Rattle.columns.proofs.early_at.Tie as tie
 
 returns : tie.Need-returns
 returns c =
-    let pre = c.before.before.before.before.before.before.before.before.before.before.before.before.before.before.requires in
-    result-written (stands_on (stands pre.0.talker.stands) _ pre.1) _ _ _ _ _ _ _ c.before.before.before.before.result-in.ensures.0 c.before.before.before.before.before.before.before.before.before.before.before.early-column.ensures
-    c.before.before.before.before.before.before.before.before.before.latency-out.ensures c.before.before.before.before.before.before.before.cell-at.ensures c.before.before.before.before.before.before.get.ensures.0 c.before.before.write-result.ensures
+    let pre = c.requires in
+    result-written (stands_on (stands pre.0.talker.stands) _ pre.1) _ _ _ _ _ _ _ c.result_in-r.ensures.0 c.early_column-column.ensures
+    c.latency_out-latency.ensures c.cell_at.ensures c.get-listener.ensures.0 c.write_result.ensures
 
-pub early-at-spec : {M : Type 1} → statement M
-early-at-spec =
+pub early_at_spec : {M : Type 1} → statement M
+early_at_spec =
     tie.close
     (tie.spec (λ c κs. search rules) (λ c κs. search rules) (λ c κs. search rules) (λ c κs. search rules) (λ c κs. search rules)
     (λ c. search rules) (λ c. search rules) (λ c. search rules) (λ c. search rules) (λ c κs. search rules) (λ c. search rules)

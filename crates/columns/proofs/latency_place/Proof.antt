@@ -6,8 +6,8 @@ use Rattle.columns.specs.Answers.{latency_place_of}
 use Rattle.columns.proofs.latency_place.Statement.{statement}
 use Rattle.columns.proofs.latency_place.Tie as tie
 
-pub latency-place-spec : {M : Type 1} → statement M
+pub latency_place_spec : {M : Type 1} → statement M
 unfolding class_shown latency_place_of
-latency-place-spec =
+latency_place_spec =
     tie.close
-    (tie.spec (λ c. search rules) (λ c. search rules) (λ c. search rules) (λ c. (rw c.enum_told.given.1, omega arith)) (λ c. (rw c.enum-told2.given.1, omega arith)) (λ c. (rw c.enum-told3.given.1, omega arith)))
+    (tie.spec (λ c. search rules) (λ c. search rules) (λ c. search rules) (λ c. (rw c.in-NoClass.is, omega arith)) (λ c. (rw c.in-A.is, omega arith)) (λ c. (rw c.in-B.is, omega arith)))

@@ -5,8 +5,8 @@ use Rattle.streams.specs.Answers.{class_shown}
 use Rattle.columns.proofs.no_class.Statement.{statement}
 use Rattle.columns.proofs.no_class.Tie as tie
 
-pub no-class-spec : {M : Type 1} → statement M
+pub no_class_spec : {M : Type 1} → statement M
 unfolding class_shown is_no_class
-no-class-spec =
+no_class_spec =
     tie.close
-    (tie.spec (λ c. search rules) (λ c. search rules) (λ c. search rules) (λ c. rw c.enum_told.given.1) (λ c. rw c.enum-told2.given.1) (λ c. rw c.enum-told3.given.1))
+    (tie.spec (λ c. search rules) (λ c. search rules) (λ c. search rules) (λ c. rw c.in-NoClass.is) (λ c. rw c.in-A.is) (λ c. rw c.in-B.is))

@@ -6,7 +6,7 @@ use Rattle.columns.proofs.own_failure.Tie as tie
 
 returns : tie.Need-returns
 unfolding column_shown
-returns c = rw c.bridge-id.ensures
+returns c = rw c.bridge_id.ensures
 
-pub own-failure-spec : {M : Type 1} → statement M
-own-failure-spec = tie.close (tie.spec (λ c κs. search rules) returns)
+pub own_failure_spec : {M : Type 1} → statement M
+own_failure_spec = tie.close (tie.spec (λ c κs. search rules) returns)

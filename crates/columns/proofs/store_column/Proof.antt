@@ -12,11 +12,11 @@ use Rattle.columns.proofs.store_column.Tie as tie
 returns : tie.Need-returns
 unfolding puts width
 returns c =
-    let a = c.before.before.before.before.before.before.before.before.before.before.before.before.before.before.before.before.before.args in
-    rw (c.before.before.put4.ensures, c.before.before.before.before.before.before.put3.ensures, c.before.before.before.before.before.before.before.before.before.before.put2.ensures, c.before.before.before.before.before.before.before.before.before.before.before.before.before.before.put.ensures)
-    (puts-packed column_widths (a.kind ∷ a.latency ∷ a.bridge ∷ a.code ∷ []) refl 0 a.result.now (omega arith))
+    let a = c.args in
+    rw (c.put-4.ensures, c.put-3.ensures, c.put-2.ensures, c.put.ensures)
+    (puts-packed column_widths (a.kind ∷ a.latency ∷ a.bridge ∷ a.code ∷ []) refl 0 a.res.now (omega arith))
 
-pub store-column-spec : {M : Type 1} → statement M
-store-column-spec =
+pub store_column_spec : {M : Type 1} → statement M
+store_column_spec =
     tie.close
     (tie.spec (λ c κs. search rules) (λ c κs. search rules) (λ c κs. search rules) (λ c κs. search rules) (λ c. search rules) returns)

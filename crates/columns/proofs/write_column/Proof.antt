@@ -6,20 +6,20 @@ use Rattle.columns.specs.Answers.{column_shown, column_numbers}
 use Rattle.columns.proofs.write_column.Statement.{statement}
 use Rattle.columns.proofs.write_column.Tie as tie
 
-returns : tie.Need-returns
+returns : tie.Need-returns-in-None
 unfolding column_shown column_numbers column_number column_bridge column_code latency_kept
-returns c = rw c.before.before.before.before.enum_told.given.1 c.before.before.store-column.ensures
+returns c = rw c.in-None.is c.store_column.ensures
 
-returns-2 : tie.Need-returns-2
+returns-2 : tie.Need-returns-in-Advertise
 unfolding column_shown column_numbers column_number column_bridge column_code latency_kept
-returns-2 c = rw c.before.before.before.before.enum-told2.given.1 c.before.before.store-column2.ensures
+returns-2 c = rw c.in-Advertise.is c.store_column-in-Advertise.ensures
 
-returns-3 : tie.Need-returns-3
+returns-3 : tie.Need-returns-in-Failed
 unfolding column_shown column_numbers column_number column_bridge column_code latency_kept
-returns-3 c = rw c.before.before.before.before.before.column.given.1 c.before.before.store-column3.ensures
+returns-3 c = rw c.in-Failed.is c.store_column-in-Failed.ensures
 
-pub write-column-spec : {M : Type 1} → statement M
-write-column-spec =
+pub write_column_spec : {M : Type 1} → statement M
+write_column_spec =
     tie.close
     (tie.spec (λ c. search rules) (λ c κs. search rules) (λ c. search rules) (λ c κs. search rules) (λ c. search rules)
     (λ c. search rules) (λ c κs. search rules) (λ c. search rules) returns (λ c. search rules) returns-2 (λ c. search rules) returns-3)

@@ -13,10 +13,10 @@ use Rattle.columns.proofs.write_entry.Tie as tie
 returns : tie.Need-returns
 unfolding puts width
 returns c =
-    let a = c.before.before.before.before.before.before.before.before.before.before.before.before.before.args in
-    rw (c.before.before.put3.ensures, c.before.before.before.before.before.before.put2.ensures, c.before.before.before.before.before.before.before.before.before.before.put.ensures)
-    (puts-packed entry_widths (a.entry ∷ a.age ∷ 0 ∷ []) refl in_result.entry a.result.now (omega arith))
+    let a = c.args in
+    rw (c.put-3.ensures, c.put-2.ensures, c.put.ensures)
+    (puts-packed entry_widths (a.entry ∷ a.age ∷ 0 ∷ []) refl in_result.entry a.res.now (omega arith))
 
-pub write-entry-spec : {M : Type 1} → statement M
-write-entry-spec =
+pub write_entry_spec : {M : Type 1} → statement M
+write_entry_spec =
     tie.close (tie.spec (λ c κs. search rules) (λ c κs. search rules) (λ c κs. search rules) (λ c. search rules) returns)

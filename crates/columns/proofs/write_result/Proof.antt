@@ -8,12 +8,12 @@ use Rattle.columns.proofs.write_result.Tie as tie
 
 returns : tie.Need-returns
 returns c =
-    let a = c.before.before.before.before.before.before.before.before.before.before.before.before.args in
-    rw (c.before.before.write-entry.ensures, c.before.before.before.before.before.before.write-column.ensures)
-    (result-put (column_shown a.column) a.latency (to_declared a.listener) a.time _ _ a.result.now c.before.before.before.before.before.before.before.before.before.before.before.before.requires c.before.before.before.before.before.before.before.before.before.before.entry_of.ensures
-    c.before.before.before.before.before.before.before.before.age-of.ensures.0)
+    let a = c.args in
+    rw (c.write_entry.ensures, c.write_column.ensures)
+    (result-put (column_shown a.column) a.latency (to_declared a.listener) a.time _ _ a.res.now c.requires c.entry_of-entry.ensures
+    c.age_of-age.ensures.0)
 
-pub write-result-spec : {M : Type 1} → statement M
-write-result-spec =
+pub write_result_spec : {M : Type 1} → statement M
+write_result_spec =
     tie.close
     (tie.spec (λ c κs. search rules) (λ c κs. search rules) (λ c κs. search rules) (λ c κs. search rules) (λ c. search rules) returns)

@@ -1,7 +1,6 @@
 -- `mmrpdu::typed_vector` meets its contract. Assumes nothing.
 use mathlib.Core.Path.{◌≡◌, sym, ap, ◌∙◌}
 use mathlib.Core.Bool.{false}
-use mathlib.Core.Logic.{⊎_elim}
 use native.Mathlib.Omega.{arith}
 use borrow.Author.Rules.{rules}
 use lib.ListN.{length}
@@ -21,7 +20,7 @@ answer c = rw c.first_octets-width.ensures at c.vector-v.ensures
 returns : tie.Need-returns-in_default
 returns c =
     sym (typed-other _ _ _ _ _ (answer c.before)
-    (λ w e. ⊎_elim (λ z. omega arith) (⊎_elim (λ z. omega arith) (λ z. omega arith)) (rw e at c.in_default.is)))
+    c.in_default.not-Vector)
 
 runs-out-requires : tie.Need-runs_out-requires
 runs-out-requires c κs =
