@@ -41,11 +41,11 @@ returns c = λ sc w. no-port sc _ _ (rw (w.settings, ← c.ports.ensures.0) c.if
 
 returns-2 : tie.Need-returns-in_default
 returns-2 c = λ sc w.
-    goes-no-further sc _ _ (port c.before sc w) _ (shown c.before sc w) (λ e. none-but-i (rw e at c.in_default.is))
+    goes-no-further sc _ _ (port c.before sc w) _ (shown c.before sc w) c.in_default.not-I
 
 returns-3 : tie.Need-returns
 returns-3 c = λ sc w.
-    let f = c.before.before.before in
+    let f = c.before.before in
     let q = f.requires.0 in
     c.last_step.ensures
     ∙ rw (← w.settings) (sym (goes_on sc _ _ (port f sc w) _ (shown f sc w) c.in-I.is _ _ (same-failure _ _ w q.is) (size-read _ _ q.talker.is _ f.cell_at-talker.ensures)))

@@ -10,13 +10,13 @@ use borrow.Author.Rules.{rules}
 use Rattle.declarations.proofs.announce.Statement.{statement}
 use Rattle.declarations.proofs.announce.Tie as tie
 
-returns : tie.Need-returns
+returns : tie.Need-returns-then-leaves_all
 unfolding announced patch
-returns c = rw (sym c.before.before.before.before.before.before.before.Leaves-all.ensures ∙ c.before.before.before.before.before.before.if1.true) (c.before.before.put.ensures ∙ rw c.before.before.before.before.get.ensures.0)
+returns c = rw (sym c.leaves_all.ensures ∙ c.if-leaves_all.true) (c.put.ensures ∙ rw c.get-values.ensures.0)
 
-returns-2 : tie.Need-returns-2
+returns-2 : tie.Need-returns-else-leaves_all
 unfolding announced
-returns-2 c = rw (sym c.before.Leaves-all.ensures ∙ c.if1.false)
+returns-2 c = rw (sym c.leaves_all.ensures ∙ c.if-leaves_all.false)
 
-pub announce-spec : {M : Type 1} → statement M
-announce-spec = tie.close (tie.spec (λ c κs. search rules) (λ c κs. search rules) (λ c. search rules) (λ c κs. search rules) (λ c. search rules) returns returns-2)
+pub announce_spec : {M : Type 1} → statement M
+announce_spec = tie.close (tie.spec (λ c κs. search rules) (λ c κs. search rules) (λ c. search rules) (λ c κs. search rules) (λ c. search rules) returns returns-2)

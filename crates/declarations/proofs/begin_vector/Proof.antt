@@ -8,8 +8,8 @@ use Rattle.declarations.proofs.begin_vector.Tie as tie
 returns : tie.Need-returns
 unfolding headed
 returns c =
-    let a = c.before.before.before.before.before.before.before.before.before.args in
-    holding-put (holding-put (holding-none a.out.now) 2 a.values c.before.before.before.before.before.before.put.ensures) 8 a.id c.before.before.put2.ensures
+    let a = c.args in
+    holding-put (holding-put (holding-none a.out.now) 2 a.values c.put.ensures) 8 a.id c.put-2.ensures
 
-pub begin-vector-spec : {M : Type 1} → statement M
-begin-vector-spec = tie.close (tie.spec (λ c κs. search rules) (λ c κs. search rules) (λ c. search rules) returns)
+pub begin_vector_spec : {M : Type 1} → statement M
+begin_vector_spec = tie.close (tie.spec (λ c κs. search rules) (λ c κs. search rules) (λ c. search rules) returns)

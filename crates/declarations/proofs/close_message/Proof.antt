@@ -17,16 +17,16 @@ returns c =
     let a = start.args in
     let out = a.out.now in
     let n : ℕ = length out - 6 in
-    let header = c.before.before.before.before.before.before.before.before.before.before.before.type-and-length in
+    let header = c.type_and_length in
     let inside : 4 + n ≤ length out = omega arith in
-    let typed = holding-put (holding-none out) 2 header.result c.before.before.before.before.before.before.before.before.before.before.put.ensures in
-    let counted = holding-put typed 2 (n + 2) c.before.before.before.before.before.before.put2.ensures in
+    let typed = holding-put (holding-none out) 2 header.result c.put.ensures in
+    let counted = holding-put typed 2 (n + 2) c.put-2.ensures in
     let listed = holding-kept counted n inside in
-    holding-all (holding-put listed 2 0 c.before.before.put3.ensures) (omega arith)
+    holding-all (holding-put listed 2 0 c.put-3.ensures) (omega arith)
     ∙ message-is (type a.attribute) (part 4 n out) header.result n header.ensures (length_part 4 n out inside)
 
-pub close-message-spec : {M : Type 1} → statement M
-close-message-spec =
+pub close_message_spec : {M : Type 1} → statement M
+close_message_spec =
     tie.close
     (tie.spec (λ c. search rules) (λ c κs. search rules) (λ c κs. search rules) (λ c. search rules) (λ c κs. search rules) (λ c. search rules)
     (λ c κs. search rules) (λ c. search rules) returns)

@@ -13,9 +13,9 @@ use Rattle.declarations.proofs.copy_offer.Tie as tie
 
 returns : tie.Need-returns
 returns c =
-    let a = c.before.before.before.before.before.before.before.before.args in
+    let a = c.args in
     let n : ℕ = length a.out.now in
-    c.before.before.copy.ensures ∙ lent-part a.from n _ ∙ ap (part a.from n) (sends-is c.before.before.before.before.before.sends-at.ensures)
+    c.copy.ensures ∙ lent-part a.from n _ ∙ ap (part a.from n) (sends-is c.sends_at-sends.ensures)
 
-pub copy-offer-spec : {M : Type 1} → statement M
-copy-offer-spec = tie.close (tie.spec (λ c κs. search rules) (λ c. search rules) (λ c. search rules) (λ c. search rules) (λ c. search rules) (λ c κs. search rules) (λ c. search rules) returns)
+pub copy_offer_spec : {M : Type 1} → statement M
+copy_offer_spec = tie.close (tie.spec (λ c κs. search rules) (λ c. search rules) (λ c. search rules) (λ c. search rules) (λ c. search rules) (λ c κs. search rules) (λ c. search rules) returns)

@@ -18,7 +18,7 @@ use Rattle.declarations.proofs.count_declarations.Tie as tie
 returns : tie.Need-returns
 unfolding declarations type all_of
 returns c =
-    let a = c.before.before.before.before.before.args in
+    let a = c.args in
     let b = decode a.table.now in
     let f = of_kind faileds a.p b.streams in
     let l = of_kind listeners a.p b.streams in
@@ -28,13 +28,13 @@ returns c =
         length-append (of_kind advertises a.p b.streams) (f ++ (l ++ d)),
         length-append f (l ++ d),
         length-append l d,
-        c.before.before.before.count_of.ensures.0,
-        c.before.before.count-of2.ensures.0,
-        c.before.count-of3.ensures.0,
-        c.count-of4.ensures.0,
+        c.count_of-advertise.ensures.0,
+        c.count_of-failed.ensures.0,
+        c.count_of-listener.ensures.0,
+        c.count_of-domain.ensures.0,
       ),
       omega arith,
     )
 
-pub count-declarations-spec : {M : Type 1} → statement M
-count-declarations-spec = tie.close (tie.spec (λ c κs. search rules) (λ c κs. search rules) (λ c κs. search rules) (λ c κs. search rules) (λ c. search rules) (λ c. search rules) (λ c. search rules) returns)
+pub count_declarations_spec : {M : Type 1} → statement M
+count_declarations_spec = tie.close (tie.spec (λ c κs. search rules) (λ c κs. search rules) (λ c κs. search rules) (λ c κs. search rules) (λ c. search rules) (λ c. search rules) (λ c. search rules) returns)

@@ -16,52 +16,52 @@ use Rattle.declarations.proofs.count_of.Tie as tie
 record Counting (t : List ℕ) (p : ℕ) (attribute : Attribute) (first n k : ℕ) : Type 0 where
   left : n + length (machines_from (type attribute) p (decode t) k) ≡ length (machines_from (type attribute) p (decode t) first)
 
-abbrev invariant-loop : tie.invariant-loop
-invariant-loop table p attribute count n₀ k₀ n k = Counting table p attribute 0 n k
+abbrev invariant-loop-k : tie.invariant-loop-k
+invariant-loop-k table p attribute count n₀ k₀ n k = Counting table p attribute 0 n k
 
-abbrev decreases-loop : tie.decreases-loop
-decreases-loop table p attribute count n₀ k₀ n k = count - k
+abbrev decreases-loop-k : tie.decreases-loop-k
+decreases-loop-k table p attribute count n₀ k₀ n k = count - k
 
 -- there is a declarer at place k
-held : (c : tie.In-loop invariant-loop decreases-loop) → c.before.loop.k < declarers (type c.before.before.before.before.args.attribute) c.before.before.before.before.args.p (decode c.before.before.before.before.args.table.now)
-held c = omega (arith, c.before.before.declarers.ensures.0)
+held : (c : tie.In-loop-k invariant-loop-k decreases-loop-k) → c.loop-k.k < declarers (type c.args.attribute) c.args.p (decode c.args.table.now)
+held c = omega (arith, c.declarers-count.ensures.0)
 
-declares-requires : tie.Need-declares-requires invariant-loop decreases-loop
-declares-requires c κs = let pre = c.before.before.before.before.requires in record { laid = pre.laid; held = held c; port = pre.port }
+declares-requires : tie.Need-declares-requires invariant-loop-k decreases-loop-k
+declares-requires c κs = let pre = c.requires in record { laid = pre.laid; held = held c; port = pre.port }
 
-loop-again : tie.Need-loop-preserved invariant-loop decreases-loop
+loop-again : tie.Need-loop-k-preserved-then-not-declares invariant-loop-k decreases-loop-k
 loop-again c =
-    let l = c.before.before.before.loop in
-    let a = c.before.before.before.before.before.before.args in
-    let q = sym c.before.declares.ensures ∙ not-true _ c.if1.true in
+    let l = c.loop-k in
+    let a = c.args in
+    let q = sym c.declares.ensures ∙ c.if-not-declares.true in
     record { left = omega (arith, ap length (no-machine (type a.attribute) a.p (decode a.table.now) l.k (held c.before.before) q), l.invariant.left) }
 
 -- so many at most
-few : (c : tie.Else1 invariant-loop decreases-loop) → c.before.before.before.loop.n < 64
+few : (c : tie.Else-not-declares invariant-loop-k decreases-loop-k) → c.loop-k.n < 64
 few c =
-    let l = c.before.before.before.loop in
-    let a = c.before.before.before.before.before.before.args in
-    let q = sym c.before.declares.ensures ∙ not-false _ c.if1.false in
+    let l = c.loop-k in
+    let a = c.args in
+    let q = sym c.declares.ensures ∙ c.if-not-declares.false in
     let j = type a.attribute in
     let b = decode a.table.now in
-    omega (arith, machine-counted j a.p b l.k (held c.before.before) q, l.invariant.left, machines-few j a.p b 0, c.before.before.before.before.declarers.ensures.0, c.before.before.before.before.declarers.ensures.1)
+    omega (arith, machine-counted j a.p b l.k (held c.before.before) q, l.invariant.left, machines-few j a.p b 0, c.declarers-count.ensures.0, c.declarers-count.ensures.1)
 
-loop-again-2 : tie.Need-loop-preserved-2 invariant-loop decreases-loop
+loop-again-2 : tie.Need-loop-k-preserved invariant-loop-k decreases-loop-k
 loop-again-2 c =
-    let l = c.before.before.before.loop in
-    let a = c.before.before.before.before.before.before.args in
-    let q = sym c.before.declares.ensures ∙ not-false _ c.if1.false in
+    let l = c.loop-k in
+    let a = c.args in
+    let q = sym c.declares.ensures ∙ c.if-not-declares.false in
     record { left = omega (arith, machine-counted (type a.attribute) a.p (decode a.table.now) l.k (held c.before.before) q, l.invariant.left) }
 
-returns : tie.Need-returns invariant-loop decreases-loop
+returns : tie.Need-returns invariant-loop-k decreases-loop-k
 returns c =
-    let l = c.before.loop in
-    let a = c.before.before.before.before.args in
+    let l = c.loop-k in
+    let a = c.args in
     let j = type a.attribute in
     let b = decode a.table.now in
-    let done : declarers j a.p b ≤ l.k = omega (arith, c.before.before.declarers.ensures.0) in
+    let done : declarers j a.p b ≤ l.k = omega (arith, c.declarers-count.ensures.0) in
     let all : l.n ≡ length (machines_from j a.p b 0) = omega (arith, ap length (machines-end j a.p b l.k done), l.invariant.left) in
-    (all ∙ ap length (machines-first j a.p b), omega (arith, all, machines-few j a.p b 0, c.before.before.declarers.ensures.0, c.before.before.declarers.ensures.1))
+    (all ∙ ap length (machines-first j a.p b), omega (arith, all, machines-few j a.p b 0, c.declarers-count.ensures.0, c.declarers-count.ensures.1))
 
-pub count-of-spec : {M : Type 1} → statement M
-count-of-spec = tie.close (tie.spec invariant-loop decreases-loop (λ c κs. search rules) (λ c. record { left = omega arith }) (λ c. search rules) declares-requires (λ c. search rules) loop-again (λ c. omega (arith, few c)) (λ c. search rules) loop-again-2 returns)
+pub count_of_spec : {M : Type 1} → statement M
+count_of_spec = tie.close (tie.spec invariant-loop-k decreases-loop-k (λ c κs. search rules) (λ c. record { left = omega arith }) (λ c. search rules) declares-requires (λ c. search rules) loop-again (λ c. omega (arith, few c)) (λ c. search rules) loop-again-2 returns)

@@ -12,7 +12,7 @@ use Rattle.declarations.proofs.declares.Statement.{statement}
 use Rattle.declarations.proofs.declares.Tie as tie
 
 returns : tie.Need-returns
-returns c = ap (λ (n : ℕ). not (eqb n 0)) c.state-of.ensures ∙ sym (some-state _)
+returns c = ap (λ (n : ℕ). not (eqb n 0)) c.state_of.ensures ∙ sym (some-state _)
 
-pub declares-spec : {M : Type 1} → statement M
-declares-spec = tie.close (tie.spec (λ c κs. search rules) returns)
+pub declares_spec : {M : Type 1} → statement M
+declares_spec = tie.close (tie.spec (λ c κs. search rules) returns)

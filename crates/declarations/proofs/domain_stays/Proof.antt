@@ -10,11 +10,11 @@ use borrow.Author.Rules.{rules}
 use Rattle.declarations.proofs.domain_stays.Statement.{statement}
 use Rattle.declarations.proofs.domain_stays.Tie as tie
 
-returns : tie.Need-returns
-returns c = rw (slot-octets c.before.before.before.before.requires c.before.before.slot-in.result c.before.before.slot-in.ensures.0, eq-eqb _ _ c.if1.true)
+returns : tie.Need-returns-then-table-a-eq0
+returns c = rw (slot-octets c.requires c.slot_in-a.result c.slot_in-a.ensures.0, eq-eqb _ _ c.if-table-a-eq0.true)
 
-returns-2 : tie.Need-returns-2
-returns-2 c = rw (slot-octets c.before.before.before.before.before.requires c.before.before.before.slot-in.result c.before.before.before.slot-in.ensures.0, ne_eqb _ _ c.before.if1.false)
+returns-2 : tie.Need-returns
+returns-2 c = rw (slot-octets c.requires c.slot_in-a.result c.slot_in-a.ensures.0, ne_eqb _ _ c.if-table-a-eq0.false)
 
-pub domain-stays-spec : {M : Type 1} → statement M
-domain-stays-spec = tie.close (tie.spec (λ c κs. search rules) (λ c. search rules) (λ c. search rules) returns (λ c. search rules) (λ c. search rules) returns-2)
+pub domain_stays_spec : {M : Type 1} → statement M
+domain_stays_spec = tie.close (tie.spec (λ c κs. search rules) (λ c. search rules) (λ c. search rules) returns (λ c. search rules) (λ c. search rules) returns-2)

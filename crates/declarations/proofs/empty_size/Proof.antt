@@ -11,28 +11,28 @@ use Rattle.declarations.specs.Passes.{type}
 use Rattle.declarations.proofs.empty_size.Statement.{statement}
 use Rattle.declarations.proofs.empty_size.Tie as tie
 
-returns : tie.Need-returns
+returns : tie.Need-returns-then-not-all
 unfolding empty_size
-returns c = rw (not-true c.before.args.all c.if1.true) (refl, omega arith)
+returns c = rw c.if-not-all.true (refl, omega arith)
 
-returns-2 : tie.Need-returns-2
+returns-2 : tie.Need-returns-in-Advertise
 unfolding type empty_size first_length
-returns-2 c = rw (not-false c.before.before.before.args.all c.before.before.if1.false, c.enum_told.given.1) (refl, omega arith)
+returns-2 c = rw (c.if-not-all.false, c.in-Advertise.is) (refl, omega arith)
 
-returns-3 : tie.Need-returns-3
+returns-3 : tie.Need-returns-in-Failed
 unfolding type empty_size first_length
-returns-3 c = rw (not-false c.before.before.before.args.all c.before.before.if1.false, c.enum-told2.given.1) (refl, omega arith)
+returns-3 c = rw (c.if-not-all.false, c.in-Failed.is) (refl, omega arith)
 
-returns-4 : tie.Need-returns-4
+returns-4 : tie.Need-returns-in-Listener
 unfolding type empty_size first_length
-returns-4 c = rw (not-false c.before.before.before.args.all c.before.before.if1.false, c.enum-told3.given.1) (refl, omega arith)
+returns-4 c = rw (c.if-not-all.false, c.in-Listener.is) (refl, omega arith)
 
-returns-5 : tie.Need-returns-5
+returns-5 : tie.Need-returns-in-Domain
 unfolding type empty_size first_length
-returns-5 c = rw (not-false c.before.before.before.args.all c.before.before.if1.false, c.enum-told4.given.1) (refl, omega arith)
+returns-5 c = rw (c.if-not-all.false, c.in-Domain.is) (refl, omega arith)
 
-pub empty-size-spec : {M : Type 1} → statement M
-empty-size-spec =
+pub empty_size_spec : {M : Type 1} → statement M
+empty_size_spec =
     tie.close
     (tie.spec returns (λ c. search rules) (λ c. search rules) (λ c. search rules) (λ c. search rules) (λ c. search rules) (λ c. search rules) (λ c. search rules)
     (λ c. search rules) returns-2 returns-3 returns-4 returns-5)

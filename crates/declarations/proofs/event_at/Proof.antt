@@ -7,19 +7,19 @@ use Rattle.declarations.specs.Packed.{three_unit}
 use Rattle.declarations.proofs.event_at.Statement.{statement}
 use Rattle.declarations.proofs.event_at.Tie as tie
 
-returns : tie.Need-returns
+returns : tie.Need-returns-then-i-eq0
 unfolding three_unit
-returns c = rw c.if1.true
+returns c = rw c.if-i-eq0.true
 
-returns-2 : tie.Need-returns-2
+returns-2 : tie.Need-returns-then-i-eq1
 unfolding three_unit
-returns-2 c = rw c.if2.true
+returns-2 c = rw c.if-i-eq1.true
 
-returns-3 : tie.Need-returns-3
+returns-3 : tie.Need-returns
 unfolding three_unit
 returns-3 c =
-    let e : c.before.before.args.i ≡ 2 = omega arith in
+    let e : c.args.i ≡ 2 = omega arith in
     rw e (omega arith)
 
-pub event-at-spec : {M : Type 1} → statement M
-event-at-spec = tie.close (tie.spec (λ c. search rules) returns (λ c. search rules) returns-2 returns-3)
+pub event_at_spec : {M : Type 1} → statement M
+event_at_spec = tie.close (tie.spec (λ c. search rules) returns (λ c. search rules) returns-2 returns-3)

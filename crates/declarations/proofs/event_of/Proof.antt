@@ -12,18 +12,18 @@ use borrow.Author.Rules.{rules}
 use Rattle.declarations.proofs.event_of.Statement.{statement}
 use Rattle.declarations.proofs.event_of.Tie as tie
 
-leaves-all-requires : tie.Need-leaves-all-requires
-leaves-all-requires c κs = record { laid = c.before.before.before.requires.places.laid; port = c.before.before.before.requires.places.port }
+leaves-all-requires : tie.Need-leaves_all-requires
+leaves-all-requires c κs = record { laid = c.requires.places.laid; port = c.requires.places.port }
 
 returns : tie.Need-returns
 returns c =
-    let a = c.before.before.before.before.before.args in
-    let pre = c.before.before.before.before.before.requires in
+    let a = c.args in
+    let pre = c.requires in
     let t = a.table.now in (
-      (rw (c.before.Leaves-all.ensures, c.before.before.is-registered.ensures, c.before.before.before.state-of.ensures) at c.event-written.ensures.0)
+      (rw (c.leaves_all.ensures, c.is_registered-registered.ensures, c.state_of-state.ensures) at c.event_written.ensures.0)
           ∙ event-is a.p (decode t) (laid-fits t pre.places.laid).ascending (type a.attribute) a.k pre.places.held pre.one,
-      c.event-written.ensures.1,
+      c.event_written.ensures.1,
     )
 
-pub event-of-spec : {M : Type 1} → statement M
-event-of-spec = tie.close (tie.spec (λ c κs. c.before.requires.places) (λ c κs. c.before.before.requires.places) leaves-all-requires (λ c κs. search rules) returns)
+pub event_of_spec : {M : Type 1} → statement M
+event_of_spec = tie.close (tie.spec (λ c κs. c.requires.places) (λ c κs. c.requires.places) leaves-all-requires (λ c κs. search rules) returns)

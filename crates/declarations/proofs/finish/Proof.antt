@@ -22,19 +22,19 @@ use Rattle.declarations.proofs.finish.Tie as tie
 
 announce-requires : tie.Need-announce-requires
 announce-requires c κs =
-    let out = c.before.before.before.args.out.now in
+    let out = c.args.out.now in
     let n : ℕ = length out - 6 in
-    (c.before.before.before.requires.0, omega (arith, c.before.before.before.requires.1, ap length (lent-part 4 n out), length_part 4 n out (omega (arith, c.before.before.before.requires.1))))
+    (c.requires.0, omega (arith, c.requires.1, ap length (lent-part 4 n out), length_part 4 n out (omega (arith, c.requires.1))))
 
 returns : tie.Need-returns
 returns c =
-    let a = c.before.before.before.before.before.before.before.before.before.before.args in
+    let a = c.args in
     let out = a.out.now in
     let n : ℕ = length out - 6 in
-    let y = c.before.before.before.before.before.before.announce.new.1.1.0 in
-    c.before.before.close-message.ensures
-    ∙ lent-announced (leaves_all (decode a.table.now) a.p) (type a.attribute) n y out (omega (arith, c.before.before.before.before.before.before.before.before.before.before.requires.1)) refl
-    (c.before.before.before.before.before.before.announce.ensures ∙ ap (announced (leaves_all (decode a.table.now) a.p)) (lent-part 4 n out))
+    let y = c.announce.new.1.1.0 in
+    c.close_message.ensures
+    ∙ lent-announced (leaves_all (decode a.table.now) a.p) (type a.attribute) n y out (omega (arith, c.requires.1)) refl
+    (c.announce.ensures ∙ ap (announced (leaves_all (decode a.table.now) a.p)) (lent-part 4 n out))
 
 pub finish_spec : {M : Type 1} → statement M
 finish_spec = tie.close (tie.spec (λ c. search rules) (λ c. search rules) (λ c. search rules) (λ c. search rules) (λ c. search rules) announce-requires (λ c κs. search rules) (λ c. search rules) returns)

@@ -5,17 +5,17 @@ use Rattle.declarations.specs.Passes.{fits}
 use Rattle.declarations.proofs.fits.Statement.{statement}
 use Rattle.declarations.proofs.fits.Tie as tie
 
-returns : tie.Need-returns
+returns : tie.Need-returns-then-used-gt-LONGEST
 unfolding fits
-returns c = simp (tests, c.if1.true)
+returns c = simp (tests, c.if-used-gt-LONGEST.true)
 
-returns-2 : tie.Need-returns-2
+returns-2 : tie.Need-returns-then-room-left
 unfolding fits
-returns-2 c = simp (tests, c.before.if1.false, c.if2.true)
+returns-2 c = simp (tests, c.if-used-gt-LONGEST.false, c.if-room-left.true)
 
-returns-3 : tie.Need-returns-3
+returns-3 : tie.Need-returns
 unfolding fits
-returns-3 c = simp (tests, c.before.if1.false, c.if2.false)
+returns-3 c = simp (tests, c.if-used-gt-LONGEST.false, c.if-room-left.false)
 
-pub fits-spec : {M : Type 1} → statement M
-fits-spec = tie.close (tie.spec returns (λ c. search rules) returns-2 returns-3)
+pub fits_spec : {M : Type 1} → statement M
+fits_spec = tie.close (tie.spec returns (λ c. search rules) returns-2 returns-3)

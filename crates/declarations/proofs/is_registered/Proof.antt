@@ -14,37 +14,37 @@ use borrow.Author.Rules.{rules}
 use Rattle.declarations.proofs.is_registered.Statement.{statement}
 use Rattle.declarations.proofs.is_registered.Tie as tie
 
-talker-stays-requires : tie.Need-talker-stays-requires
+talker-stays-requires : tie.Need-talker_stays-requires
 unfolding type
-talker-stays-requires c κs = (stream (rw c.enum_told.given.1 at c.before.before.before.requires), omega arith, omega arith)
+talker-stays-requires c κs = (stream (rw c.in-Advertise.is at c.requires), omega arith, omega arith)
 
-talker-stays-requires-2 : tie.Need-talker-stays-requires-2
+talker-stays-requires-2 : tie.Need-talker_stays-requires-in-Failed
 unfolding type
-talker-stays-requires-2 c κs = (stream (rw c.enum-told2.given.1 at c.before.before.before.requires), omega arith, omega arith)
+talker-stays-requires-2 c κs = (stream (rw c.in-Failed.is at c.requires), omega arith, omega arith)
 
-listener-stays-requires : tie.Need-listener-stays-requires
+listener-stays-requires : tie.Need-listener_stays-requires
 unfolding type
-listener-stays-requires c κs = stream (rw c.enum-told3.given.1 at c.before.before.before.requires)
+listener-stays-requires c κs = stream (rw c.in-Listener.is at c.requires)
 
-domain-stays-requires : tie.Need-domain-stays-requires
+domain-stays-requires : tie.Need-domain_stays-requires
 unfolding type
-domain-stays-requires c κs = slot (rw c.enum-told4.given.1 at c.before.before.before.requires)
+domain-stays-requires c κs = slot (rw c.in-Domain.is at c.requires)
 
-returns : tie.Need-returns
+returns : tie.Need-returns-in-Advertise
 unfolding type registered_by talker_of
-returns c = rw c.before.enum_told.given.1 c.talker-stays.ensures
+returns c = rw c.in-Advertise.is c.talker_stays.ensures
 
-returns-2 : tie.Need-returns-2
+returns-2 : tie.Need-returns-in-Failed
 unfolding type registered_by talker_of
-returns-2 c = rw c.before.enum-told2.given.1 c.talker-stays2.ensures
+returns-2 c = rw c.in-Failed.is c.talker_stays-in-Failed.ensures
 
-returns-3 : tie.Need-returns-3
+returns-3 : tie.Need-returns-in-Listener
 unfolding type registered_by
-returns-3 c = rw c.before.enum-told3.given.1 c.listener-stays.ensures
+returns-3 c = rw c.in-Listener.is c.listener_stays.ensures
 
-returns-4 : tie.Need-returns-4
+returns-4 : tie.Need-returns-in-Domain
 unfolding type registered_by
-returns-4 c = rw c.before.enum-told4.given.1 c.domain-stays.ensures
+returns-4 c = rw c.in-Domain.is c.domain_stays.ensures
 
-pub is-registered-spec : {M : Type 1} → statement M
-is-registered-spec = tie.close (tie.spec (λ c. search rules) talker-stays-requires (λ c. search rules) talker-stays-requires-2 (λ c. search rules) listener-stays-requires (λ c. search rules) domain-stays-requires returns returns-2 returns-3 returns-4)
+pub is_registered_spec : {M : Type 1} → statement M
+is_registered_spec = tie.close (tie.spec (λ c. search rules) talker-stays-requires (λ c. search rules) talker-stays-requires-2 (λ c. search rules) listener-stays-requires (λ c. search rules) domain-stays-requires returns returns-2 returns-3 returns-4)

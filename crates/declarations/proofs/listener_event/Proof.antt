@@ -14,14 +14,14 @@ use borrow.Author.Rules.{rules}
 use Rattle.declarations.proofs.listener_event.Statement.{statement}
 use Rattle.declarations.proofs.listener_event.Tie as tie
 
-cast-event-of : tie.Need-overflow-cast-event-of
-cast-event-of c = omega (arith, c.shared-slice-known3.given c.before.before.before.args.i)
+cast-event-of : tie.Need-overflow_cast-places
+cast-event-of c = omega (arith, c.shared_slice_known-3-1.given c.args.i)
 
-event-of-requires : tie.Need-event-of-requires
+event-of-requires : tie.Need-event_of-requires
 unfolding type declarers
 event-of-requires c κs =
-    let a = c.before.before.before.args in
-    let pre = c.before.before.before.requires in
+    let a = c.args in
+    let pre = c.requires in
     let there = named-at a.table.now a.places.now a.i pre.0.named pre.1 in
     record {
       places = record { laid = there.laid; held = there.held; port = pre.0.port };
@@ -31,10 +31,10 @@ event-of-requires c κs =
 returns : tie.Need-returns
 unfolding type
 returns c =
-    let a = c.before.before.before.before.args in
-    let pre = c.before.before.before.before.requires in
+    let a = c.args in
+    let pre = c.requires in
     let told = listener-said a.p (decode a.table.now) (get_or a.places.now a.i 0) (all-at (Tells a.table.now a.p) a.places.now pre.0.each a.i 0 pre.1) in
-    (c.event-of.ensures.0 ∙ sym told.3, c.event-of.ensures.1)
+    (c.event_of.ensures.0 ∙ sym told.3, c.event_of.ensures.1)
 
-pub listener-event-spec : {M : Type 1} → statement M
-listener-event-spec = tie.close (tie.spec (λ c. search rules) cast-event-of event-of-requires returns)
+pub listener_event_spec : {M : Type 1} → statement M
+listener_event_spec = tie.close (tie.spec (λ c. search rules) cast-event-of event-of-requires returns)

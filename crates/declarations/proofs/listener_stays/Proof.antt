@@ -10,11 +10,11 @@ use borrow.Author.Rules.{rules}
 use Rattle.declarations.proofs.listener_stays.Statement.{statement}
 use Rattle.declarations.proofs.listener_stays.Tie as tie
 
-returns : tie.Need-returns
-returns c = rw (listener-octets c.before.before.cell-at.ensures, eq-eqb _ _ c.if1.true)
+returns : tie.Need-returns-then-cell-eq0
+returns c = rw (listener-octets c.cell_at-cell.ensures, eq-eqb _ _ c.if-cell-eq0.true)
 
-returns-2 : tie.Need-returns-2
-returns-2 c = rw (listener-octets c.before.before.before.cell-at.ensures, ne_eqb _ _ c.before.if1.false)
+returns-2 : tie.Need-returns
+returns-2 c = rw (listener-octets c.cell_at-cell.ensures, ne_eqb _ _ c.if-cell-eq0.false)
 
-pub listener-stays-spec : {M : Type 1} → statement M
-listener-stays-spec = tie.close (tie.spec (λ c κs. search rules) (λ c. search rules) returns (λ c. search rules) returns-2)
+pub listener_stays_spec : {M : Type 1} → statement M
+listener_stays_spec = tie.close (tie.spec (λ c κs. search rules) (λ c. search rules) returns (λ c. search rules) returns-2)

@@ -11,13 +11,13 @@ use borrow.Author.Rules.{rules}
 use Rattle.declarations.proofs.says.Statement.{statement}
 use Rattle.declarations.proofs.says.Tie as tie
 
-leaves-all-requires : tie.Need-leaves-all-requires
-leaves-all-requires c κs = record { laid = c.before.before.requires.laid; port = c.before.before.requires.port }
+leaves-all-requires : tie.Need-leaves_all-requires
+leaves-all-requires c κs = record { laid = c.requires.laid; port = c.requires.port }
 
 returns : tie.Need-returns
 returns c =
-    let a = c.before.before.before.before.args in
-    (rw (c.before.Leaves-all.ensures, c.before.before.state-of.ensures) at c.is-written.ensures) ∙ says_some (decode a.table.now) a.p (type a.attribute) a.k
+    let a = c.args in
+    (rw (c.leaves_all.ensures, c.state_of-state.ensures) at c.is_written.ensures) ∙ says_some (decode a.table.now) a.p (type a.attribute) a.k
 
-pub says-spec : {M : Type 1} → statement M
-says-spec = tie.close (tie.spec (λ c κs. search rules) leaves-all-requires (λ c κs. search rules) returns)
+pub says_spec : {M : Type 1} → statement M
+says_spec = tie.close (tie.spec (λ c κs. search rules) leaves-all-requires (λ c κs. search rules) returns)

@@ -21,44 +21,44 @@ record Seeking (t : List ℕ) (p : ℕ) (attribute : Attribute) (count skip befo
   rest : drop before (machines_from (type attribute) p (decode t) k) ≡ drop skip (machines_from (type attribute) p (decode t) 0)
   left : before + length (machines_from (type attribute) p (decode t) 0) ≡ skip + length (machines_from (type attribute) p (decode t) k)
 
-abbrev invariant-loop : tie.invariant-loop
-invariant-loop table p attribute skip count before₀ k₀ before k = Seeking table p attribute count skip before k
+abbrev invariant-loop-k : tie.invariant-loop-k
+invariant-loop-k table p attribute skip count before₀ k₀ before k = Seeking table p attribute count skip before k
 
-abbrev decreases-loop : tie.decreases-loop
-decreases-loop table p attribute skip count before₀ k₀ before k = count - k
+abbrev decreases-loop-k : tie.decreases-loop-k
+decreases-loop-k table p attribute skip count before₀ k₀ before k = count - k
 
-returns : tie.Need-returns invariant-loop decreases-loop
+returns : tie.Need-returns-then-before-eq0 invariant-loop-k decreases-loop-k
 returns c =
-    let l = c.before.before.loop in
-    let a = c.before.before.before.before.before.args in
+    let l = c.loop-k in
+    let a = c.args in
     let all = machines-first (type a.attribute) a.p (decode a.table.now) in
-    let none : l.before ≡ 0 = c.if1.true in
+    let none : l.before ≡ 0 = c.if-before-eq0.true in
     record {
-      within = omega (arith, l.invariant.within, c.before.before.before.declarers.ensures.0);
+      within = omega (arith, l.invariant.within, c.declarers-count.ensures.0);
       rest = (rw none at l.invariant.rest) ∙ ap (drop a.skip) all;
       left = omega (arith, l.invariant.left, none, ap length all);
     }
 
 -- there is a declarer at place k
-held : (c : tie.Else1 invariant-loop decreases-loop) → c.before.before.loop.k < declarers (type c.before.before.before.before.before.args.attribute) c.before.before.before.before.before.args.p (decode c.before.before.before.before.before.args.table.now)
-held c = omega (arith, c.before.before.before.declarers.ensures.0)
+held : (c : tie.Else-before-eq0 invariant-loop-k decreases-loop-k) → c.loop-k.k < declarers (type c.args.attribute) c.args.p (decode c.args.table.now)
+held c = omega (arith, c.declarers-count.ensures.0)
 
-declares-requires : tie.Need-declares-requires invariant-loop decreases-loop
-declares-requires c κs = let pre = c.before.before.before.before.before.requires in record { laid = pre.laid; held = held c; port = pre.port }
+declares-requires : tie.Need-declares-requires invariant-loop-k decreases-loop-k
+declares-requires c κs = let pre = c.requires in record { laid = pre.laid; held = held c; port = pre.port }
 
-loop-again : tie.Need-loop-preserved invariant-loop decreases-loop
+loop-again : tie.Need-loop-k-preserved-then-not-declares invariant-loop-k decreases-loop-k
 loop-again c =
-    let l = c.before.before.before.before.loop in
-    let a = c.before.before.before.before.before.before.before.args in
-    let q = sym c.before.declares.ensures ∙ not-true _ c.if2.true in
+    let l = c.loop-k in
+    let a = c.args in
+    let q = sym c.declares.ensures ∙ c.if-not-declares.true in
     let e = no-machine (type a.attribute) a.p (decode a.table.now) l.k (held c.before.before) q in
     record { within = omega arith; rest = rw e at l.invariant.rest; left = omega (arith, l.invariant.left, ap length e) }
 
-loop-again-2 : tie.Need-loop-preserved-2 invariant-loop decreases-loop
+loop-again-2 : tie.Need-loop-k-preserved invariant-loop-k decreases-loop-k
 loop-again-2 c =
-    let l = c.before.before.before.before.loop in
-    let a = c.before.before.before.before.before.before.before.args in
-    let q = sym c.before.declares.ensures ∙ not-false _ c.if2.false in
+    let l = c.loop-k in
+    let a = c.args in
+    let q = sym c.declares.ensures ∙ c.if-not-declares.false in
     let j = type a.attribute in
     let b = decode a.table.now in
     let some : 0 < l.before = omega arith in
@@ -68,20 +68,20 @@ loop-again-2 c =
       left = omega (arith, l.invariant.left, machine-counted j a.p b l.k (held c.before.before) q);
     }
 
-returns-2 : tie.Need-returns-2 invariant-loop decreases-loop
+returns-2 : tie.Need-returns invariant-loop-k decreases-loop-k
 returns-2 c =
-    let l = c.before.loop in
-    let a = c.before.before.before.before.args in
+    let l = c.loop-k in
+    let a = c.args in
     let j = type a.attribute in
     let b = decode a.table.now in
     let all = machines-first j a.p b in
-    let done : declarers j a.p b ≤ l.k = omega (arith, c.before.before.declarers.ensures.0) in
+    let done : declarers j a.p b ≤ l.k = omega (arith, c.declarers-count.ensures.0) in
     let none : machines_from j a.p b l.k ≡ [] = machines-end j a.p b l.k done in
     record {
-      within = omega (arith, l.invariant.within, c.before.before.declarers.ensures.0);
+      within = omega (arith, l.invariant.within, c.declarers-count.ensures.0);
       rest = none ∙ sym (drop-nil l.before) ∙ ap (drop l.before) (sym none) ∙ l.invariant.rest ∙ ap (drop a.skip) all;
       left = omega (arith, l.invariant.left, ap length none, ap length all);
     }
 
-pub seek-spec : {M : Type 1} → statement M
-seek-spec = tie.close (tie.spec invariant-loop decreases-loop (λ c κs. search rules) (λ c. record { within = omega arith; rest = refl; left = refl }) returns (λ c. search rules) declares-requires (λ c. search rules) loop-again (λ c. search rules) (λ c. search rules) loop-again-2 returns-2)
+pub seek_spec : {M : Type 1} → statement M
+seek_spec = tie.close (tie.spec invariant-loop-k decreases-loop-k (λ c κs. search rules) (λ c. record { within = omega arith; rest = refl; left = refl }) returns (λ c. search rules) declares-requires (λ c. search rules) loop-again (λ c. search rules) (λ c. search rules) loop-again-2 returns-2)

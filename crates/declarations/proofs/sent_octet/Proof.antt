@@ -10,7 +10,7 @@ use Rattle.declarations.proofs.sent_octet.Statement.{statement}
 use Rattle.declarations.proofs.sent_octet.Tie as tie
 
 returns : tie.Need-returns
-returns c = ap (λ (s : List ℕ). get_or s c.before.before.before.args.at 0) (sends-is c.before.sends-at.ensures)
+returns c = ap (λ (s : List ℕ). get_or s c.args.at 0) (sends-is c.sends_at-sends.ensures)
 
-pub sent-octet-spec : {M : Type 1} → statement M
-sent-octet-spec = tie.close (tie.spec (λ c κs. search rules) (λ c. search rules) returns)
+pub sent_octet_spec : {M : Type 1} → statement M
+sent_octet_spec = tie.close (tie.spec (λ c κs. search rules) (λ c. search rules) returns)

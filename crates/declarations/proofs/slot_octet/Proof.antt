@@ -5,7 +5,7 @@ use Rattle.declarations.proofs.slot_octet.Statement.{statement}
 use Rattle.declarations.proofs.slot_octet.Tie as tie
 
 returns : tie.Need-returns
-returns c = slot-state _ _ _ c.before.sender-at.ensures c.before.before.before.requires.slot
+returns c = slot-state _ _ _ c.sender_at-sender.ensures c.requires.slot
 
-pub slot-octet-spec : {M : Type 1} → statement M
-slot-octet-spec = tie.close (tie.spec (λ c κs. search rules) (λ c. search rules) (λ c. search rules) returns)
+pub slot_octet_spec : {M : Type 1} → statement M
+slot_octet_spec = tie.close (tie.spec (λ c κs. search rules) (λ c. search rules) (λ c. search rules) returns)

@@ -15,37 +15,37 @@ use borrow.Author.Rules.{rules}
 use Rattle.declarations.proofs.state_of.Statement.{statement}
 use Rattle.declarations.proofs.state_of.Tie as tie
 
-sent-octet-requires : tie.Need-sent-octet-requires
+sent-octet-requires : tie.Need-sent_octet-requires
 unfolding type
-sent-octet-requires c κs = (stream (rw c.enum_told.given.1 at c.before.before.before.requires), omega arith)
+sent-octet-requires c κs = (stream (rw c.in-Advertise.is at c.requires), omega arith)
 
-sent-octet-requires-2 : tie.Need-sent-octet-requires-2
+sent-octet-requires-2 : tie.Need-sent_octet-requires-in-Failed
 unfolding type
-sent-octet-requires-2 c κs = (stream (rw c.enum-told2.given.1 at c.before.before.before.requires), omega arith)
+sent-octet-requires-2 c κs = (stream (rw c.in-Failed.is at c.requires), omega arith)
 
-sent-octet-requires-3 : tie.Need-sent-octet-requires-3
+sent-octet-requires-3 : tie.Need-sent_octet-requires-in-Listener
 unfolding type
-sent-octet-requires-3 c κs = (stream (rw c.enum-told3.given.1 at c.before.before.before.requires), omega arith)
+sent-octet-requires-3 c κs = (stream (rw c.in-Listener.is at c.requires), omega arith)
 
-slot-octet-requires : tie.Need-slot-octet-requires
+slot-octet-requires : tie.Need-slot_octet-requires
 unfolding type
-slot-octet-requires c κs = slot (rw c.enum-told4.given.1 at c.before.before.before.requires)
+slot-octet-requires c κs = slot (rw c.in-Domain.is at c.requires)
 
-returns : tie.Need-returns
+returns : tie.Need-returns-in-Advertise
 unfolding type
-returns c = rw c.before.enum_told.given.1 (c.sent-octet.ensures ∙ advertising-state _ _ _)
+returns c = rw c.in-Advertise.is (c.sent_octet.ensures ∙ advertising-state _ _ _)
 
-returns-2 : tie.Need-returns-2
+returns-2 : tie.Need-returns-in-Failed
 unfolding type
-returns-2 c = rw c.before.enum-told2.given.1 (c.sent-octet2.ensures ∙ failing-state _ _ _)
+returns-2 c = rw c.in-Failed.is (c.sent_octet-in-Failed.ensures ∙ failing-state _ _ _)
 
-returns-3 : tie.Need-returns-3
+returns-3 : tie.Need-returns-in-Listener
 unfolding type
-returns-3 c = rw c.before.enum-told3.given.1 (c.sent-octet3.ensures ∙ listening-state _ _ _)
+returns-3 c = rw c.in-Listener.is (c.sent_octet-in-Listener.ensures ∙ listening-state _ _ _)
 
-returns-4 : tie.Need-returns-4
+returns-4 : tie.Need-returns-in-Domain
 unfolding type
-returns-4 c = rw c.before.enum-told4.given.1 c.slot-octet.ensures
+returns-4 c = rw c.in-Domain.is c.slot_octet.ensures
 
-pub state-of-spec : {M : Type 1} → statement M
-state-of-spec = tie.close (tie.spec (λ c. search rules) sent-octet-requires (λ c. search rules) sent-octet-requires-2 (λ c. search rules) sent-octet-requires-3 (λ c. search rules) slot-octet-requires returns returns-2 returns-3 returns-4)
+pub state_of_spec : {M : Type 1} → statement M
+state_of_spec = tie.close (tie.spec (λ c. search rules) sent-octet-requires (λ c. search rules) sent-octet-requires-2 (λ c. search rules) sent-octet-requires-3 (λ c. search rules) slot-octet-requires returns returns-2 returns-3 returns-4)

@@ -25,19 +25,19 @@ single Failed k = tt
 single Listener k = absurd (⊎_elim (λ e. omega (arith, e)) (⊎_elim (λ e. omega (arith, e)) (λ e. omega (arith, e))) k)
 single Domain k = tt
 
-take-listeners-requires : tie.Need-take-listeners-requires
+take-listeners-requires : tie.Need-take_listeners-requires
 unfolding type
 take-listeners-requires c κs =
-    let pre = c.before.before.before.before.before.before.requires in
-    let told = c.before.before.enum_told.given.1 in
+    let pre = c.requires in
+    let told = c.in-Listener.is in
     (rw told at pre.0, pre.1, told, refl)
 
-returns : tie.Need-returns
+returns : tie.Need-returns-in-Listener
 unfolding type
-returns c = rw c.before.before.before.before.before.before.enum_told.given.1 c.before.before.before.take-listeners.ensures
+returns c = rw c.in-Listener.is c.take_listeners.ensures
 
-take-run-requires : tie.Need-take-run-requires
-take-run-requires c κs = let pre = c.before.before.before.before.requires in (pre.0, pre.1, single _ c.before.match.keys2)
+take-run-requires : tie.Need-take_run-requires
+take-run-requires c κs = let pre = c.requires in (pre.0, pre.1, single _ c.in-Advertise.is)
 
 pub take_spec : {M : Type 1} → statement M
-take_spec = tie.close (tie.spec (λ c. search rules) (λ c. search rules) take-listeners-requires (λ c. search rules) returns take-run-requires (λ c. search rules) (λ c. c.before.before.take-run.ensures))
+take_spec = tie.close (tie.spec (λ c. search rules) (λ c. search rules) take-listeners-requires (λ c. search rules) returns take-run-requires (λ c. search rules) (λ c. c.take_run.ensures))

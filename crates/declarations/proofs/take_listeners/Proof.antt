@@ -21,28 +21,28 @@ use borrow.Author.Rules.{rules}
 use Rattle.declarations.proofs.take_listeners.Statement.{statement}
 use Rattle.declarations.proofs.take_listeners.Tie as tie
 
-later-is : (c : tie.After-later-sizes) → c.later-sizes.result ≡ later (leaves_all (decode c.before.before.before.before.before.args.table.now) c.before.before.before.before.before.args.p) (registers listeners)
+later-is : (c : tie.After-later_sizes-later) → c.later_sizes-later.result ≡ later (leaves_all (decode c.args.table.now) c.args.p) (registers listeners)
 unfolding type
-later-is c = rw (← c.before.Leaves-all.ensures) c.later-sizes.ensures.0
+later-is c = rw (← c.leaves_all.ensures) c.later_sizes-later.ensures.0
 
 -- as many are left as are to say
-left_is : (c : tie.After-later-sizes) → c.before.before.before.before.before.args.run.count ≡ length (said_from (registers listeners) c.before.before.before.before.before.args.p (decode c.before.before.before.before.before.args.table.now) c.before.before.before.before.before.args.run.first)
+left_is : (c : tie.After-later_sizes-later) → c.args.run.count ≡ length (said_from (registers listeners) c.args.p (decode c.args.table.now) c.args.run.first)
 unfolding type
-left_is c = rw c.before.before.before.before.before.requires.2 at c.before.before.before.before.before.requires.1.all
+left_is c = rw c.requires.2 at c.requires.1.all
 
-write-none-requires : tie.Need-write-none-requires
+write-none-requires : tie.Need-write_none-requires
 unfolding type
-write-none-requires c κs = c.before.before.before.before.before.before.before.requires.0
+write-none-requires c κs = c.requires.0
 
-write-none-requires-2 : tie.Need-write-none-requires-2
+write-none-requires-2 : tie.Need-write_none-requires-then-left-eq0
 unfolding type
-write-none-requires-2 c κs = c.before.before.before.before.before.before.before.before.requires.0
+write-none-requires-2 c κs = c.requires.0
 
-returns : tie.Need-returns
+returns : tie.Need-returns-then-at-later-gt-LONGEST
 unfolding type
 returns c =
-    let a = c.before.before.before.before.before.before.before.before.before.before.args in
-    let pre = c.before.before.before.before.before.before.before.before.before.before.requires in
+    let a = c.args in
+    let pre = c.requires in
     let b = decode a.table.now in
     let all = leaves_all b a.p in
     let k = registers listeners in
@@ -50,55 +50,55 @@ returns c =
     let over : longest_pdu < a.at + 8 + later all k = omega (arith, later-is c.before.before.before.before.before) in
     let none : fitting all k a.at l ≡ 0 =
     unfold fitting in (fitting-over all (a.at + 2 - earlier all k) k l (from-type b a.p k a.run.first) (omega (arith, used-is all k a.at pre.0.after, over))) in
-    none-fits all k l a.at none c.before.before.write-none.ensures
+    none-fits all k l a.at none c.write_none.ensures
 
-returns-2 : tie.Need-returns-2
+returns-2 : tie.Need-returns-then-left-eq0
 unfolding type
 returns-2 c =
-    let a = c.before.before.before.before.before.before.before.before.before.before.before.args in
+    let a = c.args in
     let b = decode a.table.now in
     let k = registers listeners in
     let l = said_from k a.p b a.run.first in
-    let none : l ≡ [] = no_length l (omega (arith, left_is c.before.before.before.before.before.before, c.before.before.before.before.if2.true)) in
-    rw none c.before.before.write-none2.ensures
+    let none : l ≡ [] = no_length l (omega (arith, left_is c.before.before.before.before.before.before, c.if-left-eq0.true)) in
+    rw none c.write_none-then-left-eq0.ensures
 
 -- so many of the places are lent
-lent : (c : tie.After-gather-arg) → length (take c.before.before.before.before.before.before.before.before.args.run.count c.before.before.before.before.before.before.before.before.args.places.now) ≡ c.before.before.before.before.before.before.before.before.args.run.count
-lent c = length-take-le c.before.before.before.before.before.before.before.before.args.run.count c.before.before.before.before.before.before.before.before.args.places.now (omega (arith, c.before.before.before.before.before.before.before.before.requires.1.few, c.before.before.before.before.before.before.before.before.requires.3))
+lent : (c : tie.After-gather-arg-1) → length (take c.args.run.count c.args.places.now) ≡ c.args.run.count
+lent c = length-take-le c.args.run.count c.args.places.now (omega (arith, c.requires.1.few, c.requires.3))
 
 gather-requires : tie.Need-gather-requires
 gather-requires c κs =
-    let pre = c.before.before.before.before.before.before.before.before.requires in
+    let pre = c.requires in
     record { port = pre.0.port; few = omega (arith, lent c, pre.1.few); enough = omega (arith, lent c, left_is c.before.before.before) }
 
-slice-aggregate-take-packed : tie.Need-slice-aggregate-take-packed
+slice-aggregate-take-packed : tie.Need-slice_bounds-take_packed-end-2
 slice-aggregate-take-packed c =
-    let a = c.before.before.before.before.before.before.before.before.before.before.before.before.args in
-    let y = c.before.before.before.gather.new.1.1.1.0 in
-    let long : length y ≡ a.run.count = omega (arith, lent c.before.before.before.before) in
+    let a = c.args in
+    let y = c.gather.new.1.1.1.0 in
+    let long : length y ≡ a.run.count = omega (arith, lent c.before.before.before) in
     sym (ap length (take_at y (drop a.run.count a.places.now) a.run.count long) ∙ long)
 
-take-packed-requires : tie.Need-take-packed-requires
+take-packed-requires : tie.Need-take_packed-requires
 take-packed-requires c κs =
-    let a = c.before.before.before.before.before.before.before.before.before.before.before.before.before.args in
-    let pre = c.before.before.before.before.before.before.before.before.before.before.before.before.before.requires in
-    let y = c.before.before.before.before.gather.new.1.1.1.0 in
-    let long : length y ≡ a.run.count = omega (arith, lent c.before.before.before.before.before) in
+    let a = c.args in
+    let pre = c.requires in
+    let y = c.gather.new.1.1.1.0 in
+    let long : length y ≡ a.run.count = omega (arith, lent c.before.before.before.before) in
     rw (take_at y (drop a.run.count a.places.now) a.run.count long)
-    (record { message = pre.0; room = omega (arith, later-is c.before.before.before.before.before.before.before.before); any = omega (arith, long); telling = c.before.before.before.before.gather.ensures.telling })
+    (record { message = pre.0; room = omega (arith, later-is c.before.before.before.before.before.before.before); any = omega (arith, long); telling = c.gather.ensures.telling })
 
-returns-3 : tie.Need-returns-3
+returns-3 : tie.Need-returns
 returns-3 c =
-    let a = c.before.before.before.before.before.before.before.before.before.before.before.before.before.before.before.before.args in
+    let a = c.args in
     let b = decode a.table.now in
     let k = registers listeners in
     let l = said_from k a.p b a.run.first in
-    let y = c.before.before.before.before.before.before.before.gather.new.1.1.1.0 in
-    let long : length y ≡ a.run.count = omega (arith, lent c.before.before.before.before.before.before.before.before) in
-    let are : listeners_at a.p a.table.now y ≡ l = c.before.before.before.before.before.before.before.gather.ensures.are ∙ take_all (length y) l (omega (arith, long, left_is c.before.before.before.before.before.before.before.before.before.before.before)) in
+    let y = c.gather.new.1.1.1.0 in
+    let long : length y ≡ a.run.count = omega (arith, lent c.before.before.before.before.before.before.before) in
+    let are : listeners_at a.p a.table.now y ≡ l = c.gather.ensures.are ∙ take_all (length y) l (omega (arith, long, left_is c.before.before.before.before.before.before.before.before.before.before)) in
     let same : listeners_at a.p a.table.now (take a.run.count _) ≡ l = ap (listeners_at a.p a.table.now) (take_at y (drop a.run.count a.places.now) a.run.count long) ∙ are in
-    rw same at c.before.before.take-packed.ensures
+    rw same at c.take_packed.ensures
 
-pub take-listeners-spec : {M : Type 1} → statement M
-take-listeners-spec = tie.close (tie.spec (λ c κs. c.before.before.before.requires.0.port) (λ c κs. search rules) (λ c. omega (arith, c.before.before.before.before.before.requires.0.room)) (λ c. omega (arith, c.before.before.before.before.before.requires.0.room, c.later-sizes.ensures.1)) write-none-requires (λ c. search rules) returns
-    write-none-requires-2 (λ c. search rules) returns-2 (λ c. omega (arith, c.before.before.before.before.before.before.before.requires.1.few, c.before.before.before.before.before.before.before.requires.3)) (λ c. sym (lent c)) gather-requires (λ c. search rules) slice-aggregate-take-packed take-packed-requires (λ c. search rules) (λ c. search rules) returns-3)
+pub take_listeners_spec : {M : Type 1} → statement M
+take_listeners_spec = tie.close (tie.spec (λ c κs. c.requires.0.port) (λ c κs. search rules) (λ c. omega (arith, c.requires.0.room)) (λ c. omega (arith, c.requires.0.room, c.later_sizes-later.ensures.1)) write-none-requires (λ c. search rules) returns
+    write-none-requires-2 (λ c. search rules) returns-2 (λ c. omega (arith, c.requires.1.few, c.requires.3)) (λ c. sym (lent c)) gather-requires (λ c. search rules) slice-aggregate-take-packed take-packed-requires (λ c. search rules) (λ c. search rules) returns-3)

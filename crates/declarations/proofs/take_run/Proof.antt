@@ -18,38 +18,38 @@ use Rattle.declarations.proofs.take_run.Statement.{statement}
 use Rattle.declarations.proofs.take_run.Tie as tie
 
 -- the number that fits
-number_is : (c : tie.After-fits2) → c.fits2.result ≡ fits (c.before.before.before.before.before.before.args.at + 8 + later (leaves_all (decode c.before.before.before.before.before.before.args.table.now) c.before.before.before.before.before.before.args.p) (type c.before.before.before.before.before.before.args.run.attribute)) c.before.before.before.vector-size.result c.before.before.before.before.before.before.args.run.count
-number_is c = rw (← c.before.before.Leaves-all.ensures, ← c.before.later-sizes.ensures.0) c.fits2.ensures
+number_is : (c : tie.After-fits2) → c.fits2.result ≡ fits (c.args.at + 8 + later (leaves_all (decode c.args.table.now) c.args.p) (type c.args.run.attribute)) c.vector_size-size.result c.args.run.count
+number_is c = rw (← c.leaves_all.ensures, ← c.later_sizes-later.ensures.0) c.fits2.ensures
 
-returns : tie.Need-returns
+returns : tie.Need-returns-then-n-eq0
 returns c =
-    let a = c.before.before.before.before.before.before.before.before.before.before.before.args in
-    let pre = c.before.before.before.before.before.before.before.before.before.before.before.requires in
+    let a = c.args in
+    let pre = c.requires in
     let b = decode a.table.now in
     let k = type a.run.attribute in
     let l = said_from k a.p b a.run.first in
-    let n = single-number (leaves_all b a.p) k pre.2 l (from-type b a.p k a.run.first) a.at pre.0.after _ _ _ c.before.before.before.before.before.before.before.before.vector-size.ensures.0 (sym pre.1.all) (number_is c.before.before.before.before.before) in
-    none-fits (leaves_all b a.p) k l a.at (sym n ∙ c.before.before.before.before.if1.true) c.before.before.write-none.ensures
+    let n = single-number (leaves_all b a.p) k pre.2 l (from-type b a.p k a.run.first) a.at pre.0.after _ _ _ c.vector_size-size.ensures.0 (sym pre.1.all) (number_is c.before.before.before.before.before) in
+    none-fits (leaves_all b a.p) k l a.at (sym n ∙ c.if-n-eq0.true) c.write_none.ensures
 
 -- where some fit, the Message does
-room : (c : tie.Else1) → c.before.before.before.before.before.before.before.args.at + 8 + c.before.before.later-sizes.result + c.before.fits2.result * c.before.before.before.before.vector-size.result ≤ longest_pdu
+room : (c : tie.Else-n-eq0) → c.args.at + 8 + c.later_sizes-later.result + c.before.fits2.result * c.vector_size-size.result ≤ longest_pdu
 room c =
-    let a = c.before.before.before.before.before.before.before.args in
-    let size = c.before.before.before.before.vector-size.result in
+    let a = c.args in
+    let size = c.vector_size-size.result in
     let e = c.before.fits2.ensures in
-    let some : 0 < fits (a.at + 8 + c.before.before.later-sizes.result) size a.run.count = omega (arith, e) in
-    rw (← e) at (fits-room (a.at + 8 + c.before.before.later-sizes.result) size a.run.count some)
+    let some : 0 < fits (a.at + 8 + c.later_sizes-later.result) size a.run.count = omega (arith, e) in
+    rw (← e) at (fits-room (a.at + 8 + c.later_sizes-later.result) size a.run.count some)
 
-few : (c : tie.Else1) → c.before.fits2.result ≤ c.before.before.before.before.before.before.before.args.run.count
-few c = let a = c.before.before.before.before.before.before.before.args in rw (← c.before.fits2.ensures) at (fits-within (a.at + 8 + c.before.before.later-sizes.result) c.before.before.before.before.vector-size.result a.run.count)
+few : (c : tie.Else-n-eq0) → c.before.fits2.result ≤ c.args.run.count
+few c = let a = c.args in rw (← c.before.fits2.ensures) at (fits-within (a.at + 8 + c.later_sizes-later.result) c.vector_size-size.result a.run.count)
 
-write-message-requires : tie.Need-write-message-requires
+write-message-requires : tie.Need-write_message-requires
 write-message-requires c κs =
     let start = c.before.before.before.before.before.before.before.before in
     let b = start.args.buffer.now in
     let at = start.args.at in
     let n = c.before.before.fits2.result in
-    let size = c.before.before.before.before.before.vector-size in
+    let size = c.vector_size-size in
     let long : ℕ = 6 + n * size.result in
     let fits_in : at + long ≤ length b = omega (arith, room c.before, start.requires.0.buffer) in
     let e = ap (λ (m : ℕ). n * m) size.ensures.0 in (
@@ -57,22 +57,22 @@ write-message-requires c κs =
       ap length (lent-part at long b) ∙ length_part at long b fits_in ∙ omega (arith, e),
     )
 
-returns-2 : tie.Need-returns-2
+returns-2 : tie.Need-returns
 returns-2 c =
-    let a = c.before.before.before.before.before.before.before.before.before.before.before.args in
-    let pre = c.before.before.before.before.before.before.before.before.before.before.before.requires in
+    let a = c.args in
+    let pre = c.requires in
     let b = decode a.table.now in
     let all = leaves_all b a.p in
     let k = type a.run.attribute in
     let l = said_from k a.p b a.run.first in
     let own = from-type b a.p k a.run.first in
     let number = number_is c.before.before.before.before.before in
-    let n = single-number all k pre.2 l own a.at pre.0.after _ _ _ c.before.before.before.before.before.before.before.before.vector-size.ensures.0 (sym pre.1.all) number in
-    let long = single-length all k pre.2 l own a.at pre.0.after _ _ _ c.before.before.before.before.before.before.before.before.vector-size.ensures.0 (sym pre.1.all) number c.before.before.before.before.if1.false in
-    let later-is : c.before.before.before.before.before.before.later-sizes.result ≡ later all k = rw (← c.before.before.before.before.before.before.before.Leaves-all.ensures) c.before.before.before.before.before.before.later-sizes.ensures.0 in
-    some_fit all k l own a.at _ _ a.buffer.now _ n long c.before.before.write-message.ensures pre.0.after (omega (arith, room c.before.before.before.before, later-is))
+    let n = single-number all k pre.2 l own a.at pre.0.after _ _ _ c.vector_size-size.ensures.0 (sym pre.1.all) number in
+    let long = single-length all k pre.2 l own a.at pre.0.after _ _ _ c.vector_size-size.ensures.0 (sym pre.1.all) number c.if-n-eq0.false in
+    let later-is : c.later_sizes-later.result ≡ later all k = rw (← c.leaves_all.ensures) c.later_sizes-later.ensures.0 in
+    some_fit all k l own a.at _ _ a.buffer.now _ n long c.write_message.ensures pre.0.after (omega (arith, room c.before.before.before.before, later-is))
 
-pub take-run-spec : {M : Type 1} → statement M
-take-run-spec = tie.close (tie.spec (λ c κs. search rules) (λ c κs. c.before.before.before.requires.0.port) (λ c κs. search rules) (λ c. omega (arith, c.before.before.before.before.before.requires.0.room)) (λ c. omega (arith, c.before.before.before.before.before.requires.0.room, c.later-sizes.ensures.1)) (λ c κs. search rules) (λ c κs. c.before.before.before.before.before.before.before.before.requires.0) (λ c. search rules) returns
-    (λ c. omega (arith, room c)) (λ c. omega (arith, room c)) (λ c. omega (arith, room c)) (λ c. search rules) (λ c. search rules) (λ c. omega (arith, room c, c.before.before.before.before.before.before.before.requires.0.buffer)) write-message-requires
+pub take_run_spec : {M : Type 1} → statement M
+take_run_spec = tie.close (tie.spec (λ c κs. search rules) (λ c κs. c.requires.0.port) (λ c κs. search rules) (λ c. omega (arith, c.requires.0.room)) (λ c. omega (arith, c.requires.0.room, c.later_sizes-later.ensures.1)) (λ c κs. search rules) (λ c κs. c.requires.0) (λ c. search rules) returns
+    (λ c. omega (arith, room c)) (λ c. omega (arith, room c)) (λ c. omega (arith, room c)) (λ c. search rules) (λ c. search rules) (λ c. omega (arith, room c, c.requires.0.buffer)) write-message-requires
     (λ c. omega (arith, room c.before.before.before.before)) (λ c. search rules) returns-2)

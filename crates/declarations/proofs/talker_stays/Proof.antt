@@ -10,11 +10,11 @@ use borrow.Author.Rules.{rules}
 use Rattle.declarations.proofs.talker_stays.Statement.{statement}
 use Rattle.declarations.proofs.talker_stays.Tie as tie
 
-returns : tie.Need-returns
-returns c = let pre = c.before.before.before.before.before.requires in rw (talker-octets c.before.before.before.cell-at.ensures c.before.before.before.before.before.args.kind pre.1 pre.2, eq-eqb _ _ c.before.if1.true)
+returns : tie.Need-returns-then-cell-kind
+returns c = let pre = c.requires in rw (talker-octets c.cell_at-cell.ensures c.args.kind pre.1 pre.2, eq-eqb _ _ c.if-cell-kind.true)
 
-returns-2 : tie.Need-returns-2
-returns-2 c = let pre = c.before.before.before.before.requires in rw (talker-octets c.before.before.cell-at.ensures c.before.before.before.before.args.kind pre.1 pre.2, ne_eqb _ _ c.if1.false)
+returns-2 : tie.Need-returns
+returns-2 c = let pre = c.requires in rw (talker-octets c.cell_at-cell.ensures c.args.kind pre.1 pre.2, ne_eqb _ _ c.if-cell-kind.false)
 
-pub talker-stays-spec : {M : Type 1} → statement M
-talker-stays-spec = tie.close (tie.spec (λ c κs. search rules) (λ c. search rules) (λ c. search rules) returns returns-2)
+pub talker_stays_spec : {M : Type 1} → statement M
+talker_stays_spec = tie.close (tie.spec (λ c κs. search rules) (λ c. search rules) (λ c. search rules) returns returns-2)

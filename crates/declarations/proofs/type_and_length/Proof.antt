@@ -6,10 +6,7 @@ use Rattle.declarations.specs.Passes.{type}
 use Rattle.declarations.proofs.type_and_length.Statement.{statement}
 use Rattle.declarations.proofs.type_and_length.Tie as tie
 
-pub type-and-length-spec : {M : Type 1} → statement M
-type-and-length-spec =
+pub type_and_length_spec : {M : Type 1} → statement M
+type_and_length_spec =
     tie.close
-    (tie.spec (λ c. search rules) (λ c. search rules) (λ c. search rules) (λ c. search rules) (λ c. search rules) (λ c. search rules)
-    (λ c. search rules) (λ c. search rules) (λ c. search rules) (λ c. search rules) (λ c. search rules) (λ c. unfold type be first_length type_number in rw c.enum_told.given.1)
-    (λ c. unfold type be first_length type_number in rw c.enum-told2.given.1) (λ c. unfold type be first_length type_number in rw c.enum-told3.given.1)
-    (λ c. unfold type be first_length type_number in rw c.enum-told4.given.1))
+    (tie.spec (λ c. search rules) (λ c. search rules) (λ c. search rules) (λ c. search rules) (λ c. search rules) (λ c. search rules) (λ c. search rules) (λ c. search rules) (λ c. search rules) (λ c. search rules) (λ c. search rules) (λ c. unfold type be first_length type_number in rw c.in-Advertise.is) (λ c. unfold type be first_length type_number in rw c.in-Failed.is) (λ c. unfold type be first_length type_number in rw c.in-Listener.is) (λ c. unfold type be first_length type_number in rw c.in-Domain.is))

@@ -7,11 +7,7 @@ use Rattle.declarations.specs.Passes.{type}
 use Rattle.declarations.proofs.vector_size.Statement.{statement}
 use Rattle.declarations.proofs.vector_size.Tie as tie
 
-pub vector-size-spec : {M : Type 1} → statement M
-vector-size-spec =
+pub vector_size_spec : {M : Type 1} → statement M
+vector_size_spec =
     tie.close
-    (tie.spec (λ c. search rules) (λ c. search rules) (λ c. search rules) (λ c. search rules)
-    (λ c. unfold type vector_size in rw c.enum_told.given.1 (refl, omega arith, omega arith))
-    (λ c. unfold type vector_size in rw c.enum-told2.given.1 (refl, omega arith, omega arith))
-    (λ c. unfold type vector_size in rw c.enum-told3.given.1 (refl, omega arith, omega arith))
-    (λ c. unfold type vector_size in rw c.enum-told4.given.1 (refl, omega arith, omega arith)))
+    (tie.spec (λ c. search rules) (λ c. search rules) (λ c. search rules) (λ c. search rules) (λ c. unfold type vector_size in rw c.in-Advertise.is (refl, omega arith, omega arith)) (λ c. unfold type vector_size in rw c.in-Failed.is (refl, omega arith, omega arith)) (λ c. unfold type vector_size in rw c.in-Listener.is (refl, omega arith, omega arith)) (λ c. unfold type vector_size in rw c.in-Domain.is (refl, omega arith, omega arith)))

@@ -14,16 +14,16 @@ use Rattle.declarations.proofs.write_domain.Tie as tie
 returns : tie.Need-returns
 unfolding domain_vector first_event
 returns c =
-    let a = c.before.before.before.before.before.before.before.before.before.before.before.before.before.before.before.before.before.before.before.before.before.before.before.args in
+    let a = c.args in
     let b = a.out.now in
-    let vlan = c.before.before.before.before.before.before.before.domain-vlan in
-    let headed = holding-put (holding-none b) 2 1 c.before.before.before.before.before.before.before.before.before.before.before.before.before.before.before.before.before.before.before.put.ensures in
-    let class = holding-put headed 1 (5 + a.k / 8) c.before.before.before.before.before.before.before.before.before.before.before.before.before.before.before.put2.ensures in
-    let valued = holding-put class 1 (a.k % 8) c.before.before.before.before.before.before.before.before.before.before.before.put3.ensures in
-    let whole = holding-put valued 2 vlan.result c.before.before.before.before.before.before.put4.ensures in
-    let small : a.event * 36 < 256 = omega (arith, c.before.before.before.before.before.before.before.before.before.before.before.before.before.before.before.before.before.before.before.before.before.before.before.requires.2) in
-    holding-all (holding-put whole 1 (a.event * 36) c.before.before.put5.ensures) (omega (arith, c.before.before.before.before.before.before.before.before.before.before.before.before.before.before.before.before.before.before.before.before.before.before.before.requires.3))
+    let vlan = c.domain_vlan in
+    let headed = holding-put (holding-none b) 2 1 c.put.ensures in
+    let class = holding-put headed 1 (5 + a.k / 8) c.put-2.ensures in
+    let valued = holding-put class 1 (a.k % 8) c.put-3.ensures in
+    let whole = holding-put valued 2 vlan.result c.put-4.ensures in
+    let small : a.event * 36 < 256 = omega (arith, c.requires.2) in
+    holding-all (holding-put whole 1 (a.event * 36) c.put-5.ensures) (omega (arith, c.requires.3))
     ∙ rw (be-one (a.event * 36) small, vlan.ensures)
 
-pub write-domain-spec : {M : Type 1} → statement M
-write-domain-spec = tie.close (tie.spec (λ c κs. search rules) (λ c. search rules) (λ c κs. search rules) (λ c. search rules) (λ c κs. search rules) (λ c. search rules) (λ c. search rules) (λ c κs. c.before.before.before.before.before.before.before.before.before.before.before.before.before.before.before.requires.0) (λ c κs. search rules) (λ c. search rules) (λ c. search rules) (λ c κs. search rules) (λ c. search rules) returns)
+pub write_domain_spec : {M : Type 1} → statement M
+write_domain_spec = tie.close (tie.spec (λ c κs. search rules) (λ c. search rules) (λ c κs. search rules) (λ c. search rules) (λ c κs. search rules) (λ c. search rules) (λ c. search rules) (λ c κs. c.requires.0) (λ c κs. search rules) (λ c. search rules) (λ c. search rules) (λ c κs. search rules) (λ c. search rules) returns)

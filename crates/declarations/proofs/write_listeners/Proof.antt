@@ -21,17 +21,17 @@ use borrow.Author.Rules.{rules}
 use Rattle.declarations.proofs.write_listeners.Statement.{statement}
 use Rattle.declarations.proofs.write_listeners.Tie as tie
 
-write-parts-requires : tie.Need-write-parts-requires
+write-parts-requires : tie.Need-write_parts-requires
 write-parts-requires c κs =
-    let out = c.before.before.before.before.before.args.out.now in
-    let pre = c.before.before.before.before.before.requires in
+    let out = c.args.out.now in
+    let pre = c.requires in
     let n : ℕ = length out - 6 in
     let inside : 4 + n ≤ length out = omega (arith, pre.some) in
     pre.cut _ (omega (arith, ap length (lent-part 4 n out), length_part 4 n out inside, pre.some))
 
 -- some octets of vectors
 finish-requires : tie.Need-finish-requires
-finish-requires c κs = (c.before.before.before.before.before.before.before.before.before.requires.port, omega (arith, c.before.before.before.before.before.before.before.before.before.requires.some))
+finish-requires c κs = (c.requires.port, omega (arith, c.requires.some))
 
 returns : tie.Need-returns
 unfolding type
@@ -43,15 +43,15 @@ returns c =
     let out = a.out.now in
     let n : ℕ = length out - 6 in
     let run = listeners_at a.p a.table.now a.places.now in
-    let y = c.before.before.before.before.before.before.write-parts.new.1.1.1.1.0 in
+    let y = c.write_parts.new.1.1.1.1.0 in
     let inside : 4 + n ≤ length out = omega (arith, pre.some) in
     let lent = ap length (lent-part 4 n out) ∙ length_part 4 n out inside in
     let y-long : length y ≡ n = omega (arith, lent) in
     let some : 1 ≤ length run = omega (arith, listeners-length a.table.now a.p a.places.now, pre.any) in
-    let is : y ≡ flat vector_octets (vectors_of (registers listeners) run) = c.before.before.before.before.before.before.write-parts.ensures ∙ unfold packed_vectors in refl in
+    let is : y ≡ flat vector_octets (vectors_of (registers listeners) run) = c.write_parts.ensures ∙ unfold packed_vectors in refl in
     let short : length (flat vector_octets (vectors_of (registers listeners) run)) ≤ longest_pdu = omega (arith, ap length is, y-long, pre.short) in
-    c.before.before.finish.ensures
+    c.finish.ensures
     ∙ lent-vectors (leaves_all b a.p) (registers listeners) run n y out y-long (omega (arith, pre.some)) (listeners-own a.table.now a.p a.places.now) some (packed-plain run short) is
 
-pub write-listeners-spec : {M : Type 1} → statement M
-write-listeners-spec = tie.close (tie.spec (λ c. omega (arith, c.before.before.before.before.requires.some)) (λ c. search rules) (λ c. search rules) (λ c. search rules) (λ c. search rules) write-parts-requires finish-requires (λ c. search rules) returns)
+pub write_listeners_spec : {M : Type 1} → statement M
+write_listeners_spec = tie.close (tie.spec (λ c. omega (arith, c.requires.some)) (λ c. search rules) (λ c. search rules) (λ c. search rules) (λ c. search rules) write-parts-requires finish-requires (λ c. search rules) returns)

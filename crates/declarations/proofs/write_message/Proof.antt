@@ -22,8 +22,8 @@ use Rattle.declarations.proofs.write_message.Tie as tie
 -- a vector has some octets
 finish-requires : tie.Need-finish-requires
 finish-requires c κs =
-    let a = c.before.before.before.before.before.before.before.args in
-    let pre = c.before.before.before.before.before.before.before.requires in
+    let a = c.args in
+    let pre = c.requires in
     let size : ℕ = vector_size (type a.run.attribute) in
     let i : suc (a.run.count - 1) ≡ a.run.count = omega (arith, pre.0.any) in
     (pre.0.port, omega (arith, pre.1, rw i at (suc-mul (a.run.count - 1) size), vector-least (type a.run.attribute)))
@@ -38,15 +38,15 @@ returns c =
     let n : ℕ = length out - 6 in
     let all = said_from k a.p b a.run.first in
     let run = run_of a.table.now a.p a.run in
-    let y = c.before.before.before.before.before.before.write-vectors.new.1.1.1.0 in
+    let y = c.write_vectors.new.1.1.1.0 in
     let inside : 4 + n ≤ length out = omega arith in
     let lent = ap length (lent-part 4 n out) ∙ length_part 4 n out inside in
     let y-long : length y ≡ n = omega (arith, lent) in
     let some : 1 ≤ length run = omega (arith, length-take-le a.run.count all start.requires.0.enough, start.requires.0.any) in
     let own = all_take (OfAttribute k) a.run.count all (from-type b a.p k a.run.first) in
     let written = singles-vectors k start.requires.0.single run in
-    c.before.before.finish.ensures
-    ∙ lent-vectors (leaves_all b a.p) k run n y out y-long (omega arith) own some written.1 (c.before.before.before.before.before.before.write-vectors.ensures ∙ written.0)
+    c.finish.ensures
+    ∙ lent-vectors (leaves_all b a.p) k run n y out y-long (omega arith) own some written.1 (c.write_vectors.ensures ∙ written.0)
 
-pub write-message-spec : {M : Type 1} → statement M
-write-message-spec = tie.close (tie.spec (λ c. search rules) (λ c. search rules) (λ c. search rules) (λ c. search rules) (λ c. search rules) (λ c κs. search rules) finish-requires (λ c. search rules) returns)
+pub write_message_spec : {M : Type 1} → statement M
+write_message_spec = tie.close (tie.spec (λ c. search rules) (λ c. search rules) (λ c. search rules) (λ c. search rules) (λ c. search rules) (λ c κs. search rules) finish-requires (λ c. search rules) returns)

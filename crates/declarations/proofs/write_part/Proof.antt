@@ -24,17 +24,17 @@ long : {t : List ℕ} {p : ℕ} {places out : List ℕ} → VectorOfPart t p pla
 unfolding octets_for
 long w = w.room ∙ omega arith
 
-id-of-requires : tie.Need-id-of-requires
+id-of-requires : tie.Need-id_of-requires
 id-of-requires c κs =
-    let a = c.before.before.before.before.args in
-    let pre = c.before.before.before.before.requires in
+    let a = c.args in
+    let pre = c.requires in
     (pre.telling.named, omega (arith, ids-length a.table.now a.places.now, (part-ends (ids_of a.table.now a.places.now) pre.part pre.telling.named.ascending).some))
 
-write-values-requires : tie.Need-write-values-requires
+write-values-requires : tie.Need-write_values-requires
 write-values-requires c κs =
-    let pre = c.before.before.before.before.before.before.before.before.before.before.requires in
-    let n : ℕ = length c.before.before.before.before.before.before.before.before.before.before.args.out.now - 10 in
-    let begun = c.before.before.before.begin-vector.new.1.1.0 in
+    let pre = c.requires in
+    let n : ℕ = length c.args.out.now - 10 in
+    let begun = c.begin_vector.new.1.1.0 in
     let inside : 10 + n ≤ length begun = omega (arith, long pre) in
     record {
       telling = pre.telling;
@@ -44,18 +44,18 @@ write-values-requires c κs =
 
 returns : tie.Need-returns
 returns c =
-    let a = c.before.before.before.before.before.before.before.before.before.before.before.before.before.args in
-    let pre = c.before.before.before.before.before.before.before.before.before.before.before.before.before.requires in
+    let a = c.args in
+    let pre = c.requires in
     let g = listeners_at a.p a.table.now a.places.now in
     let same = listeners-ids a.table.now a.p a.places.now in
     let n : ℕ = length a.out.now - 10 in
     let events : length (events_of g) ≡ n = omega (arith, events-room g, rw (← same) at pre.room) in
-    holding-all (holding-lent c.before.before.before.before.before.before.begin-vector.ensures n c.before.before.write-values.ensures events) (omega arith)
-    ∙ vector-is g _ _ (rw same c.before.before.before.before.before.before.before.before.before.values_of.ensures.0) (rw same c.before.before.before.before.before.before.before.before.id-of.ensures)
+    holding-all (holding-lent c.begin_vector.ensures n c.write_values.ensures events) (omega arith)
+    ∙ vector-is g _ _ (rw same c.values_of-values.ensures.0) (rw same c.id_of.ensures)
 
-pub write-part-spec : {M : Type 1} → statement M
-write-part-spec =
+pub write_part_spec : {M : Type 1} → statement M
+write_part_spec =
     tie.close
-    (tie.spec (λ c. omega (arith, long c.before.before.before.requires)) (λ c κs. record { named = c.before.before.before.requires.telling.named; part = c.before.before.before.requires.part }) id-of-requires
-    (λ c κs. omega (arith, long c.before.before.before.before.before.before.requires)) (λ c. search rules) (λ c. search rules) (λ c. search rules) (λ c. omega (arith, long c.before.before.before.before.before.before.before.before.before.requires))
+    (tie.spec (λ c. omega (arith, long c.requires)) (λ c κs. record { named = c.requires.telling.named; part = c.requires.part }) id-of-requires
+    (λ c κs. omega (arith, long c.requires)) (λ c. search rules) (λ c. search rules) (λ c. search rules) (λ c. omega (arith, long c.requires))
     write-values-requires (λ c. search rules) returns)

@@ -14,58 +14,58 @@ use borrow.Author.Rules.{rules}
 use Rattle.declarations.proofs.write_vector.Statement.{statement}
 use Rattle.declarations.proofs.write_vector.Tie as tie
 
-write-talker-requires : tie.Need-write-talker-requires
+write-talker-requires : tie.Need-write_talker-requires
 unfolding type vector_size
 write-talker-requires c κs =
-    let pre = c.before.before.before.before.before.before.requires in
-    let told = c.before.enum_told.given.1 in
+    let pre = c.requires in
+    let told = c.in-Advertise.is in
     let room = rw told at pre.room in
-    (record { places = stream (rw told at pre.says.places); within = omega (arith, room); room = omega (arith, room) }, c.before.before.before.event-of.ensures.1)
+    (record { places = stream (rw told at pre.says.places); within = omega (arith, room); room = omega (arith, room) }, c.event_of-event.ensures.1)
 
-write-talker-requires-2 : tie.Need-write-talker-requires-2
+write-talker-requires-2 : tie.Need-write_talker-requires-in-Failed
 unfolding type vector_size
 write-talker-requires-2 c κs =
-    let pre = c.before.before.before.before.before.before.requires in
-    let told = c.before.enum-told2.given.1 in
+    let pre = c.requires in
+    let told = c.in-Failed.is in
     let room = rw told at pre.room in
-    (record { places = stream (rw told at pre.says.places); within = omega (arith, room); room = omega (arith, room) }, c.before.before.before.event-of.ensures.1)
+    (record { places = stream (rw told at pre.says.places); within = omega (arith, room); room = omega (arith, room) }, c.event_of-event.ensures.1)
 
-write-domain-requires : tie.Need-write-domain-requires
+write-domain-requires : tie.Need-write_domain-requires
 unfolding type vector_size
 write-domain-requires c κs =
-    let pre = c.before.before.before.before.before.before.requires in
-    let told = c.before.enum-told4.given.1 in
+    let pre = c.requires in
+    let told = c.in-Domain.is in
     let s = slot (rw told at pre.says.places) in
-    (s.laid, s.slot, c.before.before.before.event-of.ensures.1, rw told at pre.room)
+    (s.laid, s.slot, c.event_of-event.ensures.1, rw told at pre.room)
 
-returns : tie.Need-returns
+returns : tie.Need-returns-in-Advertise
 unfolding type vector_size
 returns c =
-    let pre = c.before.before.before.before.before.before.before.before.before.requires in
-    let told = c.before.before.before.before.enum_told.given.1 in
+    let pre = c.requires in
+    let told = c.in-Advertise.is in
     let room = rw told at pre.room in
-    let e : length c.before.before.before.before.before.before.before.before.before.args.out.now - 11 ≡ 17 = omega (arith, room) in
-    rw told ((rw (e, rw told at c.before.before.before.before.before.before.event-of.ensures.0) at c.before.before.write-talker.ensures) ∙ advertise-said _ _ _ (rw told at pre.says.one))
+    let e : length c.args.out.now - 11 ≡ 17 = omega (arith, room) in
+    rw told ((rw (e, rw told at c.event_of-event.ensures.0) at c.write_talker.ensures) ∙ advertise-said _ _ _ (rw told at pre.says.one))
 
-returns-2 : tie.Need-returns-2
+returns-2 : tie.Need-returns-in-Failed
 unfolding type vector_size
 returns-2 c =
-    let pre = c.before.before.before.before.before.before.before.before.before.requires in
-    let told = c.before.before.before.before.enum-told2.given.1 in
+    let pre = c.requires in
+    let told = c.in-Failed.is in
     let room = rw told at pre.room in
-    let e : length c.before.before.before.before.before.before.before.before.before.args.out.now - 11 ≡ 26 = omega (arith, room) in
-    rw told ((rw (e, rw told at c.before.before.before.before.before.before.event-of.ensures.0) at c.before.before.write-talker2.ensures) ∙ failed-said _ _ _ (rw told at pre.says.one))
+    let e : length c.args.out.now - 11 ≡ 26 = omega (arith, room) in
+    rw told ((rw (e, rw told at c.event_of-event.ensures.0) at c.write_talker-in-Failed.ensures) ∙ failed-said _ _ _ (rw told at pre.says.one))
 
-returns-3 : tie.Need-returns-3
+returns-3 : tie.Need-returns-in-Listener
 unfolding type
-returns-3 c = absurd (rw c.enum-told3.given.1 at c.before.before.before.before.before.requires.single)
+returns-3 c = absurd (rw c.in-Listener.is at c.requires.single)
 
-returns-4 : tie.Need-returns-4
+returns-4 : tie.Need-returns-in-Domain
 unfolding type
 returns-4 c =
-    let pre = c.before.before.before.before.before.before.before.before.before.requires in
-    let told = c.before.before.before.before.enum-told4.given.1 in
-    rw told ((rw (rw told at c.before.before.before.before.before.before.event-of.ensures.0) at c.before.before.write-domain.ensures) ∙ domain-said _ _ _ (rw told at pre.says.one))
+    let pre = c.requires in
+    let told = c.in-Domain.is in
+    rw told ((rw (rw told at c.event_of-event.ensures.0) at c.write_domain.ensures) ∙ domain-said _ _ _ (rw told at pre.says.one))
 
-pub write-vector-spec : {M : Type 1} → statement M
-write-vector-spec = tie.close (tie.spec (λ c κs. c.before.before.requires.says) (λ c. search rules) write-talker-requires (λ c. search rules) write-talker-requires-2 (λ c. search rules) (λ c. search rules) write-domain-requires (λ c. search rules) returns (λ c. search rules) returns-2 returns-3 (λ c. search rules) returns-4)
+pub write_vector_spec : {M : Type 1} → statement M
+write_vector_spec = tie.close (tie.spec (λ c κs. c.requires.says) (λ c. search rules) write-talker-requires (λ c. search rules) write-talker-requires-2 (λ c. search rules) (λ c. search rules) write-domain-requires (λ c. search rules) returns (λ c. search rules) returns-2 returns-3 (λ c. search rules) returns-4)

@@ -23,62 +23,62 @@ unfolding declarers
 few-declarers (registers k) {t} w = laid-few t w.laid
 few-declarers domain_type w = omega (arith, (sender-fits w).slotted)
 
-abbrev invariant-loop : tie.invariant-loop
-invariant-loop table p out₀ attribute size left₀ at₀ k₀ out left at k =
+abbrev invariant-loop-left : tie.invariant-loop-left
+invariant-loop-left table p out₀ attribute size left₀ at₀ k₀ out left at k =
     (length out ≡ length out₀) × Left (type attribute) p (decode table) size (take left₀ (said_from (type attribute) p (decode table) k₀)) out left at k
 
-abbrev decreases-loop : tie.decreases-loop
-decreases-loop table p out₀ attribute size left₀ at₀ k₀ out left at k = declarers (type attribute) p (decode table) - k
+abbrev decreases-loop-left : tie.decreases-loop-left
+decreases-loop-left table p out₀ attribute size left₀ at₀ k₀ out left at k = declarers (type attribute) p (decode table) - k
 
-loop-holds : tie.Need-loop-init invariant-loop decreases-loop
+loop-holds : tie.Need-loop-left-init invariant-loop-left decreases-loop-left
 loop-holds c =
     let start = c.before.before.before in
-    let e = ap (λ (m : ℕ). start.args.run.count * m) c.vector-size.ensures.0 in
+    let e = ap (λ (m : ℕ). start.args.run.count * m) c.vector_size-size.ensures.0 in
     (refl, record { room = omega (arith, e, start.requires.1); enough = start.requires.0.enough; is = refl })
 
 -- there is a declarer at place k
-places : (c : tie.In-loop invariant-loop decreases-loop) → Declarer c.before.before.before.before.before.args.table.now c.before.loop.k c.before.before.before.before.before.args.p (type c.before.before.before.before.before.args.run.attribute)
+places : (c : tie.In-loop-left invariant-loop-left decreases-loop-left) → Declarer c.args.table.now c.loop-left.k c.args.p (type c.args.run.attribute)
 places c =
-    let port = c.before.before.before.before.before.requires.0.port in
-    record { laid = port.laid; held = one_left _ _ _ _ _ c.before.loop.invariant.1 c.loop-test.true; port = port.port }
+    let port = c.requires.0.port in
+    record { laid = port.laid; held = one_left _ _ _ _ _ c.loop-left.invariant.1 c.loop-left-test.true; port = port.port }
 
 -- and room for its vector
-room : (c : tie.In-loop invariant-loop decreases-loop) → c.before.loop.at + c.before.before.vector-size.result ≤ length c.before.loop.out
-room c = one-fits _ _ _ _ _ c.before.loop.invariant.1 c.loop-test.true
+room : (c : tie.In-loop-left invariant-loop-left decreases-loop-left) → c.loop-left.at + c.vector_size-size.result ≤ length c.loop-left.out
+room c = one-fits _ _ _ _ _ c.loop-left.invariant.1 c.loop-left-test.true
 
-add-k : tie.Need-overflow-add-k invariant-loop decreases-loop
-add-k c = omega (arith, (places c).held, few-declarers (type c.before.before.before.before.before.args.run.attribute) c.before.before.before.before.before.requires.0.port)
+add-k : tie.Need-overflow_add-k invariant-loop-left decreases-loop-left
+add-k c = omega (arith, (places c).held, few-declarers (type c.args.run.attribute) c.requires.0.port)
 
-loop-again : tie.Need-loop-preserved invariant-loop decreases-loop
+loop-again : tie.Need-loop-left-preserved-then-not-says invariant-loop-left decreases-loop-left
 loop-again c =
-    let l = c.before.before.before.loop in
-    let q = sym c.before.says.ensures ∙ not-true _ c.if1.true in
-    (l.invariant.0, left-none _ _ _ _ _ l.invariant.1 c.before.before.loop-test.true q)
+    let l = c.loop-left in
+    let q = sym c.says.ensures ∙ c.if-not-says.true in
+    (l.invariant.0, left-none _ _ _ _ _ l.invariant.1 c.loop-left-test.true q)
 
-write-vector-requires : tie.Need-write-vector-requires invariant-loop decreases-loop
+write-vector-requires : tie.Need-write_vector-requires invariant-loop-left decreases-loop-left
 write-vector-requires c κs =
-    let l = c.before.before.before.before.loop in
-    let size = c.before.before.before.before.before.vector-size in
+    let l = c.loop-left in
+    let size = c.vector_size-size in
     record {
-      says = record { places = places c.before.before.before; one = sym c.before.before.says.ensures ∙ not-false _ c.before.if1.false };
-      single = c.before.before.before.before.before.before.before.before.requires.0.single;
+      says = record { places = places c.before.before.before; one = sym c.says.ensures ∙ c.if-not-says.false };
+      single = c.requires.0.single;
       room = ap length (lent-part l.at size.result l.out) ∙ length_part l.at size.result l.out (room c.before.before.before) ∙ size.ensures.0;
     }
 
-loop-again-2 : tie.Need-loop-preserved-2 invariant-loop decreases-loop
+loop-again-2 : tie.Need-loop-left-preserved invariant-loop-left decreases-loop-left
 loop-again-2 c =
-    let l = c.before.before.before.before.before.before.before.loop in
-    let some = c.before.before.before.before.before.before.loop-test.true in
-    let q = sym c.before.before.before.before.before.says.ensures ∙ not-false _ c.before.before.before.before.if1.false in
-    let size = c.before.before.before.before.before.before.before.before.vector-size.result in
-    let y = c.before.before.write_vector.new.1.1.1.1.0 in
+    let l = c.loop-left in
+    let some = c.loop-left-test.true in
+    let q = sym c.says.ensures ∙ c.if-not-says.false in
+    let size = c.vector_size-size.result in
+    let y = c.write_vector.new.1.1.1.1.0 in
     let lent = ap length (lent-part l.at size l.out) ∙ length_part l.at size l.out (room c.before.before.before.before.before.before) in
     let long : length y ≡ size = omega (arith, lent) in
-    (left-long _ _ _ _ _ l.invariant.1 some q y long ∙ l.invariant.0, left-take _ _ _ _ _ l.invariant.1 some q y long c.before.before.write_vector.ensures)
+    (left-long _ _ _ _ _ l.invariant.1 some q y long ∙ l.invariant.0, left-take _ _ _ _ _ l.invariant.1 some q y long c.write_vector.ensures)
 
-returns : tie.Need-returns invariant-loop decreases-loop
-returns c = left-done _ _ _ _ _ c.before.loop.invariant.1 (omega arith)
+returns : tie.Need-returns invariant-loop-left decreases-loop-left
+returns c = left-done _ _ _ _ _ c.loop-left.invariant.1 (omega arith)
 
-pub write-vectors-spec : {M : Type 1} → statement M
-write-vectors-spec = tie.close (tie.spec invariant-loop decreases-loop (λ c κs. search rules) loop-holds add-k (λ c κs. places c) (λ c. omega (arith, (places c.before.before).held)) loop-again (λ c. omega (arith, room c.before.before)) (λ c. search rules) (λ c. search rules)
+pub write_vectors_spec : {M : Type 1} → statement M
+write_vectors_spec = tie.close (tie.spec invariant-loop-left decreases-loop-left (λ c κs. search rules) loop-holds add-k (λ c κs. places c) (λ c. omega (arith, (places c.before.before).held)) loop-again (λ c. omega (arith, room c.before.before)) (λ c. search rules) (λ c. search rules)
     (λ c. omega (arith, room c.before.before)) write-vector-requires (λ c. omega (arith, room c.before.before.before.before.before.before)) (λ c. search rules) (λ c. omega (arith, (places c.before.before.before.before.before.before).held)) loop-again-2 (λ c. search rules) returns)

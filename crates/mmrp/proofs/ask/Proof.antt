@@ -10,39 +10,39 @@ use Rattle.mmrp.proofs.ask.Statement.{statement}
 use Rattle.mmrp.proofs.ask.Tie as tie
 
 -- what is asked for by an event
-answer : (c : tie.After-event-of) (e : Event) → c.event-of.result ≡ e → asked_by e ≡ asked_of (address_asking c.before.before.args.events.now c.before.before.args.n)
-answer c e q = ap asked_by (sym q) ∙ asked-read c.before.before.args.events.now c.before.before.args.n c.event-of.result c.before.before.requires c.event-of.ensures
+answer : (c : tie.After-event_of-e) (e : Event) → c.event_of-e.result ≡ e → asked_by e ≡ asked_of (address_asking c.args.events.now c.args.n)
+answer c e q = ap asked_by (sym q) ∙ asked-read c.args.events.now c.args.n c.event_of-e.result c.requires c.event_of-e.ensures
 
-returns : tie.Need-returns
+returns : tie.Need-returns-in-New
 unfolding asked_by
-returns c = answer c.before.before New c.enum_told.given.1
+returns c = answer c.before New c.in-New.is
 
-returns-2 : tie.Need-returns-2
+returns-2 : tie.Need-returns-in-JoinIn
 unfolding asked_by
-returns-2 c = answer c.before.before JoinIn c.enum-told2.given.1
+returns-2 c = answer c.before JoinIn c.in-JoinIn.is
 
-returns-3 : tie.Need-returns-3
+returns-3 : tie.Need-returns-in-In
 unfolding asked_by
-returns-3 c = answer c.before.before In c.enum-told3.given.1
+returns-3 c = answer c.before In c.in-In.is
 
-returns-4 : tie.Need-returns-4
+returns-4 : tie.Need-returns-in-JoinMt
 unfolding asked_by
-returns-4 c = answer c.before.before JoinMt c.enum-told4.given.1
+returns-4 c = answer c.before JoinMt c.in-JoinMt.is
 
-returns-5 : tie.Need-returns-5
+returns-5 : tie.Need-returns-in-Mt
 unfolding asked_by
-returns-5 c = answer c.before.before Mt c.enum-told5.given.1
+returns-5 c = answer c.before Mt c.in-Mt.is
 
-returns-6 : tie.Need-returns-6
+returns-6 : tie.Need-returns-in-Lv
 unfolding asked_by
-returns-6 c = answer c.before.before Lv c.enum-told6.given.1
+returns-6 c = answer c.before Lv c.in-Lv.is
 
-returns-7 : tie.Need-returns-7
+returns-7 : tie.Need-returns-in-Missing
 unfolding asked_by
-returns-7 c = answer c.before.before Missing c.enum-told7.given.1
+returns-7 c = answer c.before Missing c.in-Missing.is
 
-pub ask-spec : {M : Type 1} → statement M
-ask-spec =
+pub ask_spec : {M : Type 1} → statement M
+ask_spec =
     tie.close
     (tie.spec (λ c κs. search rules) (λ c. search rules) (λ c. search rules) (λ c. search rules) (λ c. search rules) (λ c. search rules)
     (λ c. search rules) (λ c. search rules) returns returns-2 returns-3 returns-4 returns-5 returns-6 returns-7)

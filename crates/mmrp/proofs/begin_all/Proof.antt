@@ -7,28 +7,28 @@ use Rattle.mmrp.proofs.Walks.{laid-size, walked_none, room-leave-all, leaving-ro
 use Rattle.mmrp.proofs.begin_all.Statement.{statement}
 use Rattle.mmrp.proofs.begin_all.Tie as tie
 
-returns : tie.Need-returns
+returns : tie.Need-returns-then-not-leaves
 unfolding all_addresses
 returns c =
     let a = c.before.before in
-    rw (not-true a.args.leaves c.if1.true) (walked_none a.args.walk.applying a.args.walk.clock a.args.own.now a.requires)
+    rw c.if-not-leaves.true (walked_none a.args.walk.applying a.args.walk.clock a.args.own.now a.requires)
 
-leave-all-requires : tie.Need-leave-all-requires
+leave-all-requires : tie.Need-leave_all-requires
 leave-all-requires c κs = let a = c.before.before.before.before in (a.requires, laid-size a.args.own.now a.requires)
 
-returns-2 : tie.Need-returns-2
+returns-2 : tie.Need-returns-then-walk
 unfolding all_addresses
 returns-2 c =
     let a = c.before.before.before.before.before.before.before in
-    rw (not-false a.args.leaves c.before.before.before.before.before.if1.false, c.before.before.before.before.if2.true)
-    (all_left a.args.walk.clock a.args.own.now a.requires (search rules) _ c.before.before.leave-all.ensures)
+    rw (c.if-not-leaves.false, c.if-walk.true)
+    (all_left a.args.walk.clock a.args.own.now a.requires (search rules) _ c.leave_all.ensures)
 
-returns-3 : tie.Need-returns-3
+returns-3 : tie.Need-returns-else-walk
 unfolding all_addresses
 returns-3 c =
     let a = c.before.before.before in
-    rw (not-false a.args.leaves c.before.if1.false)
-    (leaving-room a.args.walk.clock a.args.own.now a.requires a.args.walk.applying leave_all_addresses c.if2.false (room-leave-all _))
+    rw c.if-not-leaves.false
+    (leaving-room a.args.walk.clock a.args.own.now a.requires a.args.walk.applying leave_all_addresses c.if-walk.false (room-leave-all _))
 
-pub begin-all-spec : {M : Type 1} → statement M
-begin-all-spec = tie.close (tie.spec returns leave-all-requires (λ c. search rules) returns-2 returns-3)
+pub begin_all_spec : {M : Type 1} → statement M
+begin_all_spec = tie.close (tie.spec returns leave-all-requires (λ c. search rules) returns-2 returns-3)

@@ -12,48 +12,48 @@ use Rattle.mmrp.proofs.Reading.{FrameGoing, frame-start, frame_refused, frame-en
 use Rattle.mmrp.proofs.frame.Statement.{statement}
 use Rattle.mmrp.proofs.frame.Tie as tie
 
-abbrev invariant-loop : tie.invariant-loop
-invariant-loop own₀ walk pdu version at₀ own at = (length own ≡ length own₀) × FrameGoing pdu walk.applying walk.clock own₀ at own
+abbrev invariant-loop-head : tie.invariant-loop-head
+invariant-loop-head own₀ walk pdu version at₀ own at = (length own ≡ length own₀) × FrameGoing pdu walk.applying walk.clock own₀ at own
 
-abbrev decreases-loop : tie.decreases-loop
-decreases-loop own₀ walk pdu version at₀ own at = length pdu - at
+abbrev decreases-loop-head : tie.decreases-loop-head
+decreases-loop-head own₀ walk pdu version at₀ own at = length pdu - at
 
-shared-slice-read-version : tie.Need-shared-slice-read-version invariant-loop decreases-loop
+shared-slice-read-version : tie.Need-bounds-pdu-0 invariant-loop-head decreases-loop-head
 shared-slice-read-version c =
     let a = c.before.before.before in
     let h : 1 ≤ length a.args.pdu.now = (accepted-length a.args.pdu.now a.requires.acts a.requires.found).0 in
     search rules
 
-loop-holds : tie.Need-loop-init invariant-loop decreases-loop
+loop-holds : tie.Need-loop-head-init invariant-loop-head decreases-loop-head
 loop-holds c =
-    let a = c.before.before.before.args in
-    let p = c.before.before.before.requires in
+    let a = c.args in
+    let p = c.requires in
     (refl, frame-start a.pdu.now a.walk.applying a.walk.clock a.own.now p.acts p.found p.laid)
 
 -- a well-formed frame is not refused
-returns : tie.Need-returns invariant-loop decreases-loop
+returns : tie.Need-returns-in-Refused invariant-loop-head decreases-loop-head
 returns c =
-    let a = c.before.before.before.before.before.before.before.args in
-    let l = c.before.before.before.loop in
-    absurd (frame_refused a.pdu.now a.walk.applying a.walk.clock a.own.now l.at l.own l.invariant.1 _ (sym c.before.before.message.ensures ∙ c.enum_told.given.1))
+    let a = c.args in
+    let l = c.loop-head in
+    absurd (frame_refused a.pdu.now a.walk.applying a.walk.clock a.own.now l.at l.own l.invariant.1 _ (sym c.message-m.ensures ∙ c.in-Refused.is))
 
-returns-2 : tie.Need-returns-2 invariant-loop decreases-loop
+returns-2 : tie.Need-returns-in-End invariant-loop-head decreases-loop-head
 returns-2 c =
-    let a = c.before.before.before.before.before.before.before.args in
-    let l = c.before.before.before.loop in
-    frame-end a.pdu.now a.walk.applying a.walk.clock a.own.now l.at l.own l.invariant.1 (sym c.before.before.message.ensures ∙ c.enum-told2.given.1)
+    let a = c.args in
+    let l = c.loop-head in
+    frame-end a.pdu.now a.walk.applying a.walk.clock a.own.now l.at l.own l.invariant.1 (sym c.message-m.ensures ∙ c.in-End.is)
 
 -- what was read of the Message
-read : (c : tie.After-known-told invariant-loop decreases-loop) →
-    let pdu = c.before.before.before.before.before.before.before.before.args.pdu.now in
-    message_read (get_or pdu 0 0) pdu c.before.before.before.before.loop.at ≡ List c.before.m.given.0.0
-read c = sym c.before.before.before.message.ensures ∙ c.before.m.given.1
+read : (c : tie.In-List invariant-loop-head decreases-loop-head) →
+    let pdu = c.args.pdu.now in
+    message_read (get_or pdu 0 0) pdu c.loop-head.at ≡ List c.in-List.head
+read c = sym c.message-m.ensures ∙ c.in-List.is
 
-list-requires : tie.Need-list-requires invariant-loop decreases-loop
+list-requires : tie.Need-list-requires invariant-loop-head decreases-loop-head
 list-requires c κs =
     let d = c.before in
-    let a = d.before.before.before.before.before.before.before.before in
-    let l = d.before.before.before.before.loop in
+    let a = d.before.before.before.before.before.before in
+    let l = d.loop-head in
     let n = next-list a.args.pdu.now a.args.walk.applying a.args.walk.clock a.args.own.now l.at l.own l.invariant.1 _ (read d) in
     record {
       laid = l.invariant.1.going.laid;
@@ -64,38 +64,38 @@ list-requires c κs =
       found = list-is a.args.pdu.now a.args.walk.applying a.args.walk.clock a.args.own.now l.at l.own l.invariant.1 _ (read d);
     }
 
-returns-3 : tie.Need-returns-3 invariant-loop decreases-loop
+returns-3 : tie.Need-returns-in_default invariant-loop-head decreases-loop-head
 returns-3 c =
-    let d = c.before.before.before.before.before.before in
-    let a = d.before.before.before.before.before.before.before.before.args in
-    let l = d.before.before.before.before.loop in
-    frame-full a.pdu.now a.walk.applying a.walk.clock a.own.now l.at l.own l.invariant.1 _ (read d) _ (rw c.enum-told3.given.1 at c.before.before.before.before.list.ensures)
+    let d = c.before.before.before.before.before in
+    let a = d.args in
+    let l = d.loop-head in
+    frame-full a.pdu.now a.walk.applying a.walk.clock a.own.now l.at l.own l.invariant.1 _ (read d) _ (rw c.in_default.is at c.list.ensures)
 
-loop-less : tie.Need-loop-smaller invariant-loop decreases-loop
+loop-less : tie.Need-loop-head-smaller invariant-loop-head decreases-loop-head
 loop-less c =
-    let d = c.before.before.before.before.before.before.before in
-    let a = d.before.before.before.before.before.before.before.before.args in
-    let l = d.before.before.before.before.loop in
-    let x = rw c.before.end.given.1 at c.before.before.before.before.before.list.ensures in
+    let d = c.before.before.before.before.before in
+    let a = d.args in
+    let l = d.loop-head in
+    let x = rw c.in-Place.is at c.list.ensures in
     omega (
       arith,
       end-ahead a.pdu.now a.walk.applying a.walk.clock a.own.now l.at l.own l.invariant.1 _ (read d) _ x.0,
       end-inside a.pdu.now a.walk.applying a.walk.clock a.own.now l.at l.own l.invariant.1 _ (read d) _ x.0,
     )
 
-loop-again : tie.Need-loop-preserved invariant-loop decreases-loop
+loop-again : tie.Need-loop-head-preserved invariant-loop-head decreases-loop-head
 loop-again c =
-    let d = c.before.before.before.before.before.before.before in
-    let a = d.before.before.before.before.before.before.before.before.args in
-    let l = d.before.before.before.before.loop in
-    let x = rw c.before.end.given.1 at c.before.before.before.before.before.list.ensures in (
+    let d = c.before.before.before.before.before in
+    let a = d.args in
+    let l = d.loop-head in
+    let x = rw c.in-Place.is at c.list.ensures in (
       search rules,
       frame-list a.pdu.now a.walk.applying a.walk.clock a.own.now l.at l.own l.invariant.1 _ (read d) _ _ x.0 x.1,
     )
 
-pub frame-spec : {M : Type 1} → statement M
-frame-spec =
+pub frame_spec : {M : Type 1} → statement M
+frame_spec =
     tie.close
-    (tie.spec invariant-loop decreases-loop shared-slice-read-version loop-holds (λ c κs. search rules) (λ c. search rules) (λ c. search rules) returns
+    (tie.spec invariant-loop-head decreases-loop-head shared-slice-read-version loop-holds (λ c κs. search rules) (λ c. search rules) (λ c. search rules) returns
     (λ c. search rules) (λ c. search rules) returns-2 (λ c. search rules) list-requires (λ c. search rules) (λ c. search rules)
     (λ c. search rules) returns-3 loop-less loop-again)

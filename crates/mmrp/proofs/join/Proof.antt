@@ -5,38 +5,38 @@ use Rattle.mmrp.proofs.Walks.{laid-size, join-stopped, join-room, join-held, joi
 use Rattle.mmrp.proofs.join.Statement.{statement}
 use Rattle.mmrp.proofs.join.Tie as tie
 
-enrol-requires : tie.Need-enrol-requires
+enrol-requires : tie.Need-enrol-there-requires
 enrol-requires c κs = let a = c.before.before in (a.requires.0, laid-size a.args.own.now a.requires.0)
 
-returns : tie.Need-returns
+returns : tie.Need-returns-then-not-there
 returns c =
     let a = c.before.before.before.before.before.before in
-    let e = c.before.before.before.enrol in
+    let e = c.enrol-there in
     join-stopped a.args.walk.clock a.args.own.now a.requires.0 a.args.mac a.requires.1 e.result _ e.ensures.0 e.ensures.1 a.args.walk.applying
-    (not-true e.result c.if1.true)
+    c.if-not-there.true
 
 join-requires : tie.Need-join-requires
 join-requires c κs =
     let a = c.before.before.before.before.before.before.before.before in
-    let e = c.before.before.before.before.before.enrol in
+    let e = c.enrol-there in
     join-held a.args.walk.clock a.args.own.now a.requires.0 a.args.mac a.requires.1 e.result _ e.ensures.0 e.ensures.1
-    (not-false e.result c.before.before.if1.false)
+    c.if-not-there.false
 
-returns-2 : tie.Need-returns-2
+returns-2 : tie.Need-returns-then-walk
 returns-2 c =
     let a = c.before.before.before.before.before.before.before.before.before.before.before in
-    let e = c.before.before.before.before.before.before.before.before.enrol in
+    let e = c.enrol-there in
     join-done a.args.walk.clock a.args.own.now a.requires.0 a.args.mac a.requires.1 e.result _ e.ensures.0 e.ensures.1
-    (not-false e.result c.before.before.before.before.before.if1.false) a.args.walk.applying c.before.before.before.before.if2.true _ c.before.before.join.ensures
+    c.if-not-there.false a.args.walk.applying c.if-walk.true _ c.join.ensures
 
-returns-3 : tie.Need-returns-3
+returns-3 : tie.Need-returns-else-walk
 returns-3 c =
     let a = c.before.before.before.before.before.before.before in
-    let e = c.before.before.before.before.enrol in
+    let e = c.enrol-there in
     join-room a.args.walk.clock a.args.own.now a.requires.0 a.args.mac a.requires.1 e.result _ e.ensures.0 e.ensures.1
-    (not-false e.result c.before.if1.false) a.args.walk.applying c.if2.false
+    c.if-not-there.false a.args.walk.applying c.if-walk.false
 
-pub join-spec : {M : Type 1} → statement M
-join-spec =
+pub join_spec : {M : Type 1} → statement M
+join_spec =
     tie.close
     (tie.spec enrol-requires (λ c. search rules) returns join-requires (λ c. search rules) returns-2 (λ c. search rules) returns-3)

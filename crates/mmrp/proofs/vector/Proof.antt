@@ -25,9 +25,9 @@ values-requires c κs =
     let a = c.before.before.before.before.before.before.before.before.before in
     let p = a.requires in
     record {
-      laid = walked-laid a.args.walk.applying a.args.walk.clock a.args.own.now p.laid (all_addresses a.args.head.leaves) true _ c.before.before.before.before.begin-all.ensures;
+      laid = walked-laid a.args.walk.applying a.args.walk.clock a.args.own.now p.laid (all_addresses a.args.head.leaves) true _ c.begin_all.ensures;
       events = enough-events p.version a.args.pdu.now p.at a.args.head p.read;
-      values = rw c.before.before.before.before.before.before.first-value.ensures (has-addresses p.version a.args.pdu.now p.at a.args.head p.read);
+      values = rw c.first_value-first.ensures (has-addresses p.version a.args.pdu.now p.at a.args.head p.read);
     }
 
 -- the acts of its values
@@ -43,12 +43,12 @@ returns c =
     let a = c.before.before.before.before.before.before.before.before.before.before.before.before in
     rw (vector-acts a.args.pdu.now a.args.head)
     (walked_on a.args.walk.applying a.args.walk.clock a.args.own.now a.requires.laid (all_addresses a.args.head.leaves) (values a) _
-    c.before.before.before.before.before.before.before.begin-all.ensures c.before.before.values.result _ (rw c.before.before.before.before.before.before.before.before.before.first-value.ensures at c.before.before.values.ensures))
+    c.begin_all.ensures c.values.result _ (rw c.first_value-first.ensures at c.values.ensures))
 
-pub vector-spec : {M : Type 1} → statement M
-vector-spec =
+pub vector_spec : {M : Type 1} → statement M
+vector_spec =
     tie.close
-    (tie.spec (λ c κs. search rules) (λ c κs. c.before.before.before.before.requires.laid)
+    (tie.spec (λ c κs. search rules) (λ c κs. c.requires.laid)
     (λ c. omega (arith, places c.before.before.before.before.before.before.before.before))
     (λ c. omega (arith, places c.before.before.before.before.before.before.before.before))
     (λ c. omega (arith, places c.before.before.before.before.before.before.before.before)) values-requires

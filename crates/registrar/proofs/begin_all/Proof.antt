@@ -13,51 +13,51 @@ use Rattle.registrar.proofs.VectorActs.{domain-leaves, none-leaves, all-leaves, 
 use Rattle.registrar.proofs.begin_all.Statement.{statement}
 use Rattle.registrar.proofs.begin_all.Tie as tie
 
-returns : tie.Need-returns
+returns : tie.Need-returns-then-not-walk
 returns c =
     let a = c.before.before.before in
     let w = a.args.walk in
-    rw (not-true w.applying c.if1.true) (leaves-room w.p (attribute_at w.kind) a.args.leaves a.args.table.now a.requires.laid)
+    rw c.if-not-walk.true (leaves-room w.p (attribute_at w.kind) a.args.leaves a.args.table.now a.requires.laid)
 
-returns-2 : tie.Need-returns-2
+returns-2 : tie.Need-returns-then-not-leaves
 returns-2 c =
     let a = c.before.before.before.before in
     let w = a.args.walk in
-    rw (none-leaves (attribute_at w.kind) a.args.leaves (not-true _ c.if2.true)) (walked_none w.applying w.p a.args.table.now a.requires.laid)
+    rw (none-leaves (attribute_at w.kind) a.args.leaves c.if-not-leaves.true) (walked_none w.applying w.p a.args.table.now a.requires.laid)
 
-leave-domains-requires : tie.Need-leave-domains-requires
+leave-domains-requires : tie.Need-leave_domains-requires
 leave-domains-requires c κs =
-    let p = c.before.before.before.before.before.before.before.requires in
+    let p = c.requires in
     record { laid = p.laid; port = p.port }
 
-hear-domains-requires : tie.Need-hear-domains-requires
-hear-domains-requires c κs = record { laid = walked-laid c.before.before.before.leave-domains.ensures; port = c.before.before.before.before.before.before.before.before.before.before.before.requires.port }
+hear-domains-requires : tie.Need-hear_domains-requires
+hear-domains-requires c κs = record { laid = walked-laid c.leave_domains.ensures; port = c.requires.port }
 
-returns-3 : tie.Need-returns-3
+returns-3 : tie.Need-returns-then-walk-eq4
 returns-3 c =
     let a = c.before.before.before.before.before.before.before.before.before.before.before.before.before.before in
     let w = a.args.walk in
-    rw (domain-leaves w.kind a.args.leaves c.before.before.before.before.before.before.before.before.if3.true (not-false _ c.before.before.before.before.before.before.before.before.before.before.if2.false), not-false w.applying c.before.before.before.before.before.before.before.before.before.before.before.if1.false)
-    (walked_on true w.p (of_domain leave_all_domains ∷ []) (of_domain hear_all_domains ∷ []) a.args.table.now _ c.before.before.before.before.before.before.leave-domains.ensures c.before.before.hear-domains.ensures)
+    rw (domain-leaves w.kind a.args.leaves c.if-walk-eq4.true c.if-not-leaves.false, c.if-not-walk.false)
+    (walked_on true w.p (of_domain leave_all_domains ∷ []) (of_domain hear_all_domains ∷ []) a.args.table.now _ c.leave_domains.ensures c.hear_domains.ensures)
 
-leave-all-requires : tie.Need-leave-all-requires
+leave-all-requires : tie.Need-leave_all-requires
 leave-all-requires c κs =
-    let p = c.before.before.before.before.before.before.before.requires in
-    record { laid = p.laid; port = p.port; low = p.low; high = omega (arith, p.high, c.before.if3.false) }
+    let p = c.requires in
+    record { laid = p.laid; port = p.port; low = p.low; high = omega (arith, p.high, c.if-walk-eq4.false) }
 
-hear-all-requires : tie.Need-hear-all-requires
-hear-all-requires c κs = record { laid = walked-laid c.before.before.before.leave-all.ensures; port = c.before.before.before.before.before.before.before.before.before.before.before.requires.port }
+hear-all-requires : tie.Need-hear_all-requires
+hear-all-requires c κs = record { laid = walked-laid c.leave_all.ensures; port = c.requires.port }
 
-returns-4 : tie.Need-returns-4
+returns-4 : tie.Need-returns
 returns-4 c =
     let a = c.before.before.before.before.before.before.before.before.before.before.before.before.before.before in
     let w = a.args.walk in
-    let k : w.kind ≤ 3 = omega (arith, a.requires.high, c.before.before.before.before.before.before.before.before.if3.false) in
-    rw (all-leaves w.kind a.args.leaves a.requires.low k (not-false _ c.before.before.before.before.before.before.before.before.before.before.if2.false), not-false w.applying c.before.before.before.before.before.before.before.before.before.before.before.if1.false)
-    (walked_on true w.p (leave_all (kind_at w.kind) ∷ []) (hear_all (kind_at w.kind) ∷ []) a.args.table.now _ c.before.before.before.before.before.before.leave-all.ensures c.before.before.hear-all.ensures)
+    let k : w.kind ≤ 3 = omega (arith, a.requires.high, c.if-walk-eq4.false) in
+    rw (all-leaves w.kind a.args.leaves a.requires.low k c.if-not-leaves.false, c.if-not-walk.false)
+    (walked_on true w.p (leave_all (kind_at w.kind) ∷ []) (hear_all (kind_at w.kind) ∷ []) a.args.table.now _ c.leave_all.ensures c.hear_all.ensures)
 
-pub begin-all-spec : {M : Type 1} → statement M
-begin-all-spec =
+pub begin_all_spec : {M : Type 1} → statement M
+begin_all_spec =
     tie.close
     (tie.spec returns returns-2 leave-domains-requires hear-domains-requires (λ c. search rules) returns-3 leave-all-requires hear-all-requires
     (λ c. search rules) returns-4)

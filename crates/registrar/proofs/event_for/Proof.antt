@@ -6,17 +6,17 @@ use Rattle.registrar.proofs.ValueActs.{event-ignored, event-kept}
 use Rattle.registrar.proofs.event_for.Statement.{statement}
 use Rattle.registrar.proofs.event_for.Tie as tie
 
-returns : tie.Need-returns
+returns : tie.Need-returns-then-four-eq0
 returns c =
-    let a = c.before.before.before.before.before.args in
-    event-ignored a.kind a.events.now a.fours.now a.n c.before.if1.true (sym c.before.before.four-of.ensures ∙ c.if2.true)
+    let a = c.args in
+    event-ignored a.kind a.events.now a.fours.now a.n c.if-kind-eq3.true (sym c.four_of-four.ensures ∙ c.if-four-eq0.true)
 
-returns-2 : tie.Need-returns-2
+returns-2 : tie.Need-returns
 returns-2 c =
-    let a = c.before.before.before.before.before.args in
-    c.event-of.ensures
+    let a = c.args in
+    c.event_of.ensures
     ∙ event-kept a.kind a.events.now a.fours.now a.n
-    (λ k z. ⊎_elim (λ w. w.1.left (c.before.before.four-of.ensures ∙ z)) (λ w. w.left k) c.before.if1.branch)
+    (λ k z. ⊎_elim (λ w. w.1.left (c.four_of-four.ensures ∙ z)) (λ w. w.left k) c.if-kind-eq3.branch)
 
-pub event-for-spec : {M : Type 1} → statement M
-event-for-spec = tie.close (tie.spec (λ c κs. search rules) returns (λ c κs. search rules) returns-2)
+pub event_for_spec : {M : Type 1} → statement M
+event_for_spec = tie.close (tie.spec (λ c κs. search rules) returns (λ c κs. search rules) returns-2)

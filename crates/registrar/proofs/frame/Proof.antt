@@ -18,24 +18,24 @@ use Rattle.registrar.proofs.FrameWalk.{Finds, finds, skipped-list, last-list, no
 use Rattle.registrar.proofs.frame.Statement.{statement}
 use Rattle.registrar.proofs.frame.Tie as tie
 
-abbrev invariant-loop : tie.invariant-loop
-invariant-loop table₀ p applying pdu version at₀ table at =
+abbrev invariant-loop-next : tie.invariant-loop-next
+invariant-loop-next table₀ p applying pdu version at₀ table at =
     Walking at (length pdu) (λ f. messages (suc f) version pdu at) applying p (acts_of (walk pdu)) table₀ table
 
-abbrev decreases-loop : tie.decreases-loop
-decreases-loop table₀ p applying pdu version at₀ table at = length pdu - at
+abbrev decreases-loop-next : tie.decreases-loop-next
+decreases-loop-next table₀ p applying pdu version at₀ table at = length pdu - at
 
 -- the vectors of the frame
-found_all : (a : tie.Start invariant-loop decreases-loop) → Finds (walk a.args.pdu.now)
+found_all : (a : tie.Start invariant-loop-next decreases-loop-next) → Finds (walk a.args.pdu.now)
 found_all a = finds (walk a.args.pdu.now) a.requires.found
 
-some-octets : (a : tie.Start invariant-loop decreases-loop) → 1 ≤ length a.args.pdu.now
+some-octets : (a : tie.Start invariant-loop-next decreases-loop-next) → 1 ≤ length a.args.pdu.now
 some-octets a = (accepted-length a.args.pdu.now (found_all a).all (found_all a).is).0
 
-shared-slice-read-version : tie.Need-shared-slice-read-version invariant-loop decreases-loop
+shared-slice-read-version : tie.Need-bounds-pdu-0 invariant-loop-next decreases-loop-next
 shared-slice-read-version c = let h = some-octets c.before.before.before in search rules
 
-loop-holds : tie.Need-loop-init invariant-loop decreases-loop
+loop-holds : tie.Need-loop-next-init invariant-loop-next decreases-loop-next
 loop-holds c =
     let a = c.before.before.before in
     let n = found_all a in
@@ -52,29 +52,29 @@ loop-holds c =
     }
 
 -- a well-formed frame is not refused
-returns : tie.Need-returns invariant-loop decreases-loop
+returns : tie.Need-returns-in-Refused invariant-loop-next decreases-loop-next
 returns c =
-    let l = c.before.before.before.loop in
-    absurd (no-refusal l.invariant.turns _ _ l.at l.invariant.left l.invariant.finds _ (sym c.before.before.message.ensures ∙ c.enum_told.given.1))
+    let l = c.loop-next in
+    absurd (no-refusal l.invariant.turns _ _ l.at l.invariant.left l.invariant.finds _ (sym c.message-m.ensures ∙ c.in-Refused.is))
 
-returns-2 : tie.Need-returns-2 invariant-loop decreases-loop
+returns-2 : tie.Need-returns-in-End invariant-loop-next decreases-loop-next
 returns-2 c =
-    let a = c.before.before.before.before.before.before.before.args in
-    let l = c.before.before.before.loop in
+    let a = c.args in
+    let l = c.loop-next in
     leads-end a.applying a.p _ _ _ _ l.invariant.going.leads
-    (last-list l.invariant.turns _ _ l.at l.invariant.left l.invariant.finds (sym c.before.before.message.ensures ∙ c.enum-told2.given.1)) l.invariant.going.laid
+    (last-list l.invariant.turns _ _ l.at l.invariant.left l.invariant.finds (sym c.message-m.ensures ∙ c.in-End.is)) l.invariant.going.laid
 
 -- a Message that is skipped
-skipped : (c : tie.After-known-told invariant-loop decreases-loop) →
-    message_read (get_or c.before.before.before.before.before.before.before.before.args.pdu.now 0 0) c.before.before.before.before.before.before.before.before.args.pdu.now c.before.before.before.before.loop.at ≡ message.Skipped c.before.m.given.0.0
-skipped c = sym c.before.before.before.message.ensures ∙ c.before.m.given.1
+skipped : (c : tie.In-Skipped invariant-loop-next decreases-loop-next) →
+    message_read (get_or c.args.pdu.now 0 0) c.args.pdu.now c.loop-next.at ≡ message.Skipped c.in-Skipped.next
+skipped c = sym c.message-m.ensures ∙ c.in-Skipped.is
 
-loop-less : tie.Need-loop-smaller invariant-loop decreases-loop
+loop-less : tie.Need-loop-next-smaller-in-Skipped invariant-loop-next decreases-loop-next
 loop-less c = let h = ahead-skipped _ _ _ _ (skipped c) in omega arith
 
-loop-again : tie.Need-loop-preserved invariant-loop decreases-loop
+loop-again : tie.Need-loop-next-preserved-in-Skipped invariant-loop-next decreases-loop-next
 loop-again c =
-    let l = c.before.before.before.before.loop in
+    let l = c.loop-next in
     let g = l.invariant.going in
     record {
       turns = l.invariant.turns - 1;
@@ -84,60 +84,60 @@ loop-again c =
     }
 
 -- a Message whose list is read: its acts are the first of those left
-module _ (c : tie.After-known-told2 invariant-loop decreases-loop) where
+module _ (c : tie.In-List invariant-loop-next decreases-loop-next) where
   abbrev head : MessageHead
-  head = c.before.m2.given.0.0
+  head = c.in-List.head
 
   abbrev pdu : List ℕ
-  pdu = c.before.before.before.before.before.before.before.before.args.pdu.now
+  pdu = c.args.pdu.now
 
-  read : message_read (get_or pdu 0 0) pdu c.before.before.before.before.loop.at ≡ message.List head
-  read = sym c.before.before.before.message.ensures ∙ c.before.m2.given.1
+  read : message_read (get_or pdu 0 0) pdu c.loop-next.at ≡ message.List head
+  read = sym c.message-m.ensures ∙ c.in-List.is
 
-  next : NextMessage c.before.before.before.before.loop.invariant.turns (get_or pdu 0 0) pdu c.before.before.before.before.loop.at c.before.before.before.before.loop.invariant.left c.before.before.before.before.loop.invariant.finds head
+  next : NextMessage c.loop-next.invariant.turns (get_or pdu 0 0) pdu c.loop-next.at c.loop-next.invariant.left c.loop-next.invariant.finds head
   next =
-      let l = c.before.before.before.before.loop in
+      let l = c.loop-next in
       next-message l.invariant.turns (get_or pdu 0 0) pdu l.at l.invariant.left l.invariant.finds head read
 
-  ends : ListWithin pdu c.before.before.before.before.loop.at head
-  ends = ahead-list (get_or pdu 0 0) pdu c.before.before.before.before.loop.at head read
+  ends : ListWithin pdu c.loop-next.at head
+  ends = ahead-list (get_or pdu 0 0) pdu c.loop-next.at head read
 
-sub-list : tie.Need-overflow-sub-list invariant-loop decreases-loop
+sub-list : tie.Need-slice_bounds-list-count invariant-loop-next decreases-loop-next
 sub-list c = let h = ends c.before in search rules
 
-part-list-start : tie.Need-slice-bounds-list-start invariant-loop decreases-loop
+part-list-start : tie.Need-slice_bounds-list-start invariant-loop-next decreases-loop-next
 part-list-start c = let h = ends c.before in search rules
 
-part-list-end : tie.Need-slice-bounds-list-end invariant-loop decreases-loop
+part-list-end : tie.Need-slice_bounds-list-end invariant-loop-next decreases-loop-next
 part-list-end c = let h = ends c.before in search rules
 
-list-requires : tie.Need-list-requires invariant-loop decreases-loop
+list-requires : tie.Need-list-went-requires invariant-loop-next decreases-loop-next
 list-requires c κs =
     let d = c.before.before in
     let n = next d in
-    let p = d.before.before.before.before.before.before.before.before.requires in
+    let p = d.requires in
     record {
-      walk = record { laid = d.before.before.before.before.loop.invariant.going.laid; port = p.port; low = n.low; high = n.high };
+      walk = record { laid = d.loop-next.invariant.going.laid; port = p.port; low = n.low; high = n.high };
       found = n.there;
     }
 
-returns-3 : tie.Need-returns-3 invariant-loop decreases-loop
+returns-3 : tie.Need-returns-then-not-went invariant-loop-next decreases-loop-next
 returns-3 c =
     let d = c.before.before.before.before.before.before in
-    let a = d.before.before.before.before.before.before.before.before.args in
-    leads-stopped a.applying a.p _ _ _ _ d.before.before.before.before.loop.invariant.going.leads _ _ _ (next d).acts
-    (rw (not-true c.before.before.before.list.result c.if1.true) at c.before.before.before.list.ensures)
+    let a = d.args in
+    leads-stopped a.applying a.p _ _ _ _ d.loop-next.invariant.going.leads _ _ _ (next d).acts
+    (rw c.if-not-went.true at c.list-went.ensures)
 
-loop-less-2 : tie.Need-loop-smaller-2 invariant-loop decreases-loop
+loop-less-2 : tie.Need-loop-next-smaller invariant-loop-next decreases-loop-next
 loop-less-2 c = let h = ends c.before.before.before.before.before.before in omega arith
 
-loop-again-2 : tie.Need-loop-preserved-2 invariant-loop decreases-loop
+loop-again-2 : tie.Need-loop-next-preserved invariant-loop-next decreases-loop-next
 loop-again-2 c =
     let d = c.before.before.before.before.before.before in
-    let a = d.before.before.before.before.before.before.before.before.args in
-    let l = d.before.before.before.before.loop in
+    let a = d.args in
+    let l = d.loop-next in
     let n = next d in
-    let w = rw (not-false c.before.before.before.list.result c.if1.false) at c.before.before.before.list.ensures in
+    let w = rw c.if-not-went.false at c.list-went.ensures in
     record {
       turns = l.invariant.turns - 1;
       left = n.rest;
@@ -150,9 +150,9 @@ loop-again-2 c =
       };
     }
 
-pub frame-spec : {M : Type 1} → statement M
-frame-spec =
+pub frame_spec : {M : Type 1} → statement M
+frame_spec =
     tie.close
-    (tie.spec invariant-loop decreases-loop shared-slice-read-version loop-holds (λ c κs. search rules) (λ c. search rules) (λ c. search rules)
+    (tie.spec invariant-loop-next decreases-loop-next shared-slice-read-version loop-holds (λ c κs. search rules) (λ c. search rules) (λ c. search rules)
     returns (λ c. search rules) (λ c. search rules) returns-2 (λ c. search rules) loop-less loop-again (λ c. search rules)
     sub-list part-list-start part-list-end list-requires (λ c. search rules) returns-3 loop-less-2 loop-again-2)

@@ -9,13 +9,13 @@ restart-requires : tie.Need-restart-requires
 restart-requires c κs =
     let s = c.before.before.before.before.before.before in
     let a = s.args in
-    record { laid = streams-heard a.p (kind_at a.kind) a.table.now _ s.requires.laid c.before.before.before.hear-streams.ensures; port = s.requires.port }
+    record { laid = streams-heard a.p (kind_at a.kind) a.table.now _ s.requires.laid c.hear_streams.ensures; port = s.requires.port }
 
 returns : tie.Need-returns
 returns c =
     let s = c.before.before.before.before.before.before.before.before.before in
     let a = s.args in
-    all-heard a.p (kind_at a.kind) a.table.now _ s.requires.laid c.before.before.before.before.before.before.hear-streams.ensures _ c.before.before.restart.ensures
+    all-heard a.p (kind_at a.kind) a.table.now _ s.requires.laid c.hear_streams.ensures _ c.restart.ensures
 
-pub hear-all-spec : {M : Type 1} → statement M
-hear-all-spec = tie.close (tie.spec (λ c κs. search rules) restart-requires (λ c. search rules) returns)
+pub hear_all_spec : {M : Type 1} → statement M
+hear_all_spec = tie.close (tie.spec (λ c κs. search rules) restart-requires (λ c. search rules) returns)

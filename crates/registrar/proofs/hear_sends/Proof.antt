@@ -4,21 +4,21 @@ use Rattle.table.proofs.ByPlace.{lent-sends-at, left-sends-at}
 use Rattle.registrar.proofs.hear_sends.Statement.{statement}
 use Rattle.registrar.proofs.hear_sends.Tie as tie
 
-sends-in-requires : tie.Need-sends-in-requires
-sends-in-requires c κs = c.before.before.requires
+sends-in-requires : tie.Need-sends_in-a-requires
+sends-in-requires c κs = c.requires
 
 hear-requires : tie.Need-hear-requires
 hear-requires c κs =
-    let p = c.before.before.before.before.requires in
-    let r = lent-sends-at p _ c.before.sends-in.ensures.0 in
+    let p = c.requires in
+    let r = lent-sends-at p _ c.sends_in-a.ensures.0 in
     (r.laid, r.size)
 
 returns : tie.Need-returns
 returns c =
-    let p = c.before.before.before.before.before.before.before.requires in
-    left-sends-at p _ c.before.before.before.before.sends-in.ensures.0 _ _ c.before.before.hear.ensures
+    let p = c.requires in
+    left-sends-at p _ c.sends_in-a.ensures.0 _ _ c.hear.ensures
 
-pub hear-sends-spec : {M : Type 1} → statement M
-hear-sends-spec =
+pub hear_sends_spec : {M : Type 1} → statement M
+hear_sends_spec =
     tie.close
     (tie.spec sends-in-requires (λ c. search rules) (λ c. search rules) (λ c. search rules) (λ c. search rules) hear-requires (λ c. search rules) returns)

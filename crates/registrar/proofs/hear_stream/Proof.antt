@@ -9,30 +9,30 @@ use Rattle.registrar.proofs.hear_stream.Statement.{statement}
 use Rattle.registrar.proofs.hear_stream.Tie as tie
 
 find-requires : tie.Need-find-requires
-find-requires c κs = c.before.before.requires.laid
+find-requires c κs = c.requires.laid
 
-returns : tie.Need-returns
+returns : tie.Need-returns-in_default
 returns c =
-    let s = c.before.before.before.before.before in
+    let s = c.before.before.before in
     let a = s.args in
-    heard-unheld a.p (kind_at a.kind) a.table.now s.requires.laid a.id (search rules) (meant a.heard) c.enum_told.given.0.0
-    (sym c.before.before.find.ensures ∙ c.enum_told.given.1)
+    heard-unheld a.p (kind_at a.kind) a.table.now s.requires.laid a.id (search rules) (meant a.heard) c.in_default.field-0
+    (sym c.find.ensures ∙ c.in_default.is)
 
-hear-sends-requires : tie.Need-hear-sends-requires
+hear-sends-requires : tie.Need-hear_sends-requires
 hear-sends-requires c κs =
-    let s = c.before.before.before.before.before.before.before in
-    let e = sym c.before.before.before.before.find.ensures ∙ c.before.before.k.given.1 in
+    let s = c.before.before.before.before in
+    let e = sym c.find.ensures ∙ c.in-At.is in
     record { laid = s.requires.laid; held = (at_place s.args.id _ _ e).within; port = s.requires.port }
 
-returns-2 : tie.Need-returns-2
+returns-2 : tie.Need-returns
 returns-2 c =
-    let s = c.before.before.before.before.before.before.before.before.before.before in
+    let s = c.before.before.before.before.before.before.before in
     let a = s.args in
-    let e = sym c.before.before.before.before.before.before.before.find.ensures ∙ c.before.before.before.before.before.k.given.1 in
-    heard-held a.p (kind_at a.kind) a.table.now s.requires.laid a.id (search rules) (meant a.heard) _ e _ c.before.before.hear-sends.ensures
+    let e = sym c.find.ensures ∙ c.in-At.is in
+    heard-held a.p (kind_at a.kind) a.table.now s.requires.laid a.id (search rules) (meant a.heard) _ e _ c.hear_sends.ensures
 
-pub hear-stream-spec : {M : Type 1} → statement M
-hear-stream-spec =
+pub hear_stream_spec : {M : Type 1} → statement M
+hear_stream_spec =
     tie.close
     (tie.spec find-requires (λ c. search rules) (λ c. search rules) (λ c. search rules) returns hear-sends-requires
     (λ c. search rules) returns-2)

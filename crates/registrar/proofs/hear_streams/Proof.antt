@@ -12,42 +12,42 @@ use Rattle.registrar.proofs.Touched.{heard-fits, heard-id}
 use Rattle.registrar.proofs.hear_streams.Statement.{statement}
 use Rattle.registrar.proofs.hear_streams.Tie as tie
 
-abbrev invariant-loop : tie.invariant-loop
-invariant-loop table₀ p kind held k₀ table k = Partly (leave_heard p (kind_at kind)) table₀ held table k
+abbrev invariant-loop-k : tie.invariant-loop-k
+invariant-loop-k table₀ p kind held k₀ table k = Partly (leave_heard p (kind_at kind)) table₀ held table k
 
-abbrev decreases-loop : tie.decreases-loop
-decreases-loop table₀ p kind held k₀ table k = held - k
+abbrev decreases-loop-k : tie.decreases-loop-k
+decreases-loop-k table₀ p kind held k₀ table k = held - k
 
-count-requires : tie.Need-count-requires invariant-loop decreases-loop
-count-requires c κs = c.before.before.requires.laid
+count-requires : tie.Need-count-held-requires invariant-loop-k decreases-loop-k
+count-requires c κs = c.requires.laid
 
-loop-holds : tie.Need-loop-init invariant-loop decreases-loop
-loop-holds c = record { within = omega arith; count = c.count.ensures.0; size = refl; is = none_yet _ _ c.before.before.before.requires.laid }
+loop-holds : tie.Need-loop-k-init invariant-loop-k decreases-loop-k
+loop-holds c = record { within = omega arith; count = c.count-held.ensures.0; size = refl; is = none_yet _ _ c.requires.laid }
 
-hear-sends-requires : tie.Need-hear-sends-requires invariant-loop decreases-loop
+hear-sends-requires : tie.Need-hear_sends-requires invariant-loop-k decreases-loop-k
 hear-sends-requires c κs =
-    let l = c.before.before.loop in
-    let a = c.before.before.before.before.before.before in
+    let l = c.loop-k in
+    let a = c.before.before.before.before.before in
     let k = kind_at a.args.kind in
     stands_on (partly-stands _ (heard-fits a.args.p k) (heard-id a.args.p k) _ a.requires.laid l.k _ l.invariant.is (omega arith)) _ a.requires.port
 
-loop-again : tie.Need-loop-preserved invariant-loop decreases-loop
+loop-again : tie.Need-loop-k-preserved invariant-loop-k decreases-loop-k
 unfolding meant
 loop-again c =
-    let l = c.before.before.before.before.before.loop in
-    let a = c.before.before.before.before.before.before.before.before.before in
+    let l = c.loop-k in
+    let a = c.before.before.before.before.before.before.before.before in
     let k = kind_at a.args.kind in
     record {
       within = search rules;
       count = l.invariant.count;
       size = search rules;
-      is = one_more _ (heard-fits a.args.p k) (heard-id a.args.p k) _ a.requires.laid l.k _ l.invariant.is _ c.before.before.hear-sends.ensures;
+      is = one_more _ (heard-fits a.args.p k) (heard-id a.args.p k) _ a.requires.laid l.k _ l.invariant.is _ c.hear_sends.ensures;
     }
 
-returns : tie.Need-returns invariant-loop decreases-loop
-returns c = let l = c.before.loop in all_done _ _ _ l.k l.invariant.is (omega arith)
+returns : tie.Need-returns invariant-loop-k decreases-loop-k
+returns c = let l = c.loop-k in all_done _ _ _ l.k l.invariant.is (omega arith)
 
-pub hear-streams-spec : {M : Type 1} → statement M
-hear-streams-spec =
+pub hear_streams_spec : {M : Type 1} → statement M
+hear_streams_spec =
     tie.close
-    (tie.spec invariant-loop decreases-loop count-requires loop-holds hear-sends-requires (λ c. search rules) (λ c. search rules) loop-again (λ c. search rules) returns)
+    (tie.spec invariant-loop-k decreases-loop-k count-requires loop-holds hear-sends-requires (λ c. search rules) (λ c. search rules) loop-again (λ c. search rules) returns)

@@ -7,22 +7,22 @@ use Rattle.registrar.proofs.ValueActs.{join-listens, join-talks, first-octets, d
 use Rattle.registrar.proofs.join_cell.Statement.{statement}
 use Rattle.registrar.proofs.join_cell.Tie as tie
 
-cell-in-requires : tie.Need-cell-in-requires
-cell-in-requires c κs = c.before.before.before.requires.stands
+cell-in-requires : tie.Need-cell_in-a-requires
+cell-in-requires c κs = c.requires.stands
 
-join-listener-requires : tie.Need-join-listener-requires
+join-listener-requires : tie.Need-join_listener-requires
 join-listener-requires c κs =
-    let p = c.before.before.before.before.before.before.before.requires in
-    let r = lent-cell-at p.stands _ c.before.before.before.cell_in.ensures.0 in
-    let f = p.four c.before.if1.true in
+    let p = c.requires in
+    let r = lent-cell-at p.stands _ c.cell_in-a.ensures.0 in
+    let f = p.four c.if-walk-eq3.true in
     record { laid = r.laid; size = r.size; low = f.0; high = f.1 }
 
-join-talker-requires : tie.Need-join-talker-requires
+join-talker-requires : tie.Need-join_talker-requires
 join-talker-requires c κs =
-    let a = c.before.before.before.before.before.before.before.args in
-    let p = c.before.before.before.before.before.before.before.requires in
-    let r = lent-cell-at p.stands _ c.before.before.before.cell_in.ensures.0 in
-    let k : a.walk.kind ≤ 2 = omega (arith, p.registers, c.before.if1.false) in
+    let a = c.args in
+    let p = c.requires in
+    let r = lent-cell-at p.stands _ c.cell_in-a.ensures.0 in
+    let k : a.walk.kind ≤ 2 = omega (arith, p.registers, c.if-walk-eq3.false) in
     record {
       laid = r.laid;
       size = r.size;
@@ -32,22 +32,22 @@ join-talker-requires c κs =
       destination = destination-fits a.walk.kind a.first.now a.n p.value k;
     }
 
-returns : tie.Need-returns
+returns : tie.Need-returns-then-walk-eq3
 returns c clock =
-    let a = c.before.before.before.before.before.before.before.before.before.before.args in
-    rw (join-listens a.walk.kind a.first.now a.four a.n c.before.before.before.before.if1.true)
-    (left-cell-at c.before.before.before.before.before.before.before.before.before.before.requires.stands _ c.before.before.before.before.before.before.cell_in.ensures.0 _ _ (c.before.before.join-listener.ensures clock _))
+    let a = c.args in
+    rw (join-listens a.walk.kind a.first.now a.four a.n c.if-walk-eq3.true)
+    (left-cell-at c.requires.stands _ c.cell_in-a.ensures.0 _ _ (c.join_listener.ensures clock _))
 
-returns-2 : tie.Need-returns-2
+returns-2 : tie.Need-returns-else-walk-eq3
 returns-2 c clock =
-    let a = c.before.before.before.before.before.before.before.before.before.before.args in
-    let p = c.before.before.before.before.before.before.before.before.before.before.requires in
-    let k : a.walk.kind ≤ 2 = omega (arith, p.registers, c.before.before.before.before.if1.false) in
+    let a = c.args in
+    let p = c.requires in
+    let k : a.walk.kind ≤ 2 = omega (arith, p.registers, c.if-walk-eq3.false) in
     rw (join-talks a.walk.kind a.first.now a.four a.n p.value.low k)
-    (left-cell-at p.stands _ c.before.before.before.before.before.before.cell_in.ensures.0 _ _ (c.before.before.join-talker.ensures clock))
+    (left-cell-at p.stands _ c.cell_in-a.ensures.0 _ _ (c.join_talker.ensures clock))
 
-pub join-cell-spec : {M : Type 1} → statement M
-join-cell-spec =
+pub join_cell_spec : {M : Type 1} → statement M
+join_cell_spec =
     tie.close
     (tie.spec cell-in-requires (λ c. search rules) (λ c. search rules) (λ c. search rules) (λ c. search rules)
     join-listener-requires (λ c. search rules) (λ c. search rules) (λ c. search rules) join-talker-requires (λ c. search rules)

@@ -4,8 +4,8 @@ use Rattle.registrar.specs.Acts.{overheard_by}
 use Rattle.registrar.proofs.overhear.Statement.{statement}
 use Rattle.registrar.proofs.overhear.Tie as tie
 
-pub overhear-spec : {M : Type 1} → statement M
+pub overhear_spec : {M : Type 1} → statement M
 unfolding overheard_by
-overhear-spec =
+overhear_spec =
     tie.close
-    (tie.spec (λ c. search rules) (λ c. search rules) (λ c. search rules) (λ c. search rules) (λ c. search rules) (λ c. search rules) (λ c. search rules) (λ c. rw c.enum_told.given.1) (λ c. rw c.enum-told2.given.1) (λ c. rw c.enum-told3.given.1) (λ c. rw c.enum-told4.given.1) (λ c. rw c.enum-told5.given.1) (λ c. rw c.enum-told6.given.1) (λ c. rw c.enum-told7.given.1))
+    (tie.spec (λ c. search rules) (λ c. search rules) (λ c. search rules) (λ c. search rules) (λ c. search rules) (λ c. search rules) (λ c. search rules) (λ c. rw c.in-New.is) (λ c. rw c.in-JoinIn.is) (λ c. rw c.in-In.is) (λ c. rw c.in-JoinMt.is) (λ c. rw c.in-Mt.is) (λ c. rw c.in-Lv.is) (λ c. rw c.in-Missing.is))

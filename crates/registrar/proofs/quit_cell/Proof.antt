@@ -4,21 +4,21 @@ use Rattle.table.proofs.ByPlace.{lent-cell-at, left-cell-at}
 use Rattle.registrar.proofs.quit_cell.Statement.{statement}
 use Rattle.registrar.proofs.quit_cell.Tie as tie
 
-cell-in-requires : tie.Need-cell-in-requires
-cell-in-requires c κs = c.before.before.requires.stands
+cell-in-requires : tie.Need-cell_in-a-requires
+cell-in-requires c κs = c.requires.stands
 
 quit-requires : tie.Need-quit-requires
 quit-requires c κs =
-    let p = c.before.before.before.before.requires in
-    let r = lent-cell-at p.stands _ c.before.cell_in.ensures.0 in
+    let p = c.requires in
+    let r = lent-cell-at p.stands _ c.cell_in-a.ensures.0 in
     record { laid = r.laid; size = r.size; low = p.low; high = p.high }
 
 returns : tie.Need-returns
 returns c =
-    let p = c.before.before.before.before.before.before.before.requires in
-    left-cell-at p.stands _ c.before.before.before.before.cell_in.ensures.0 _ _ c.before.before.quit.ensures
+    let p = c.requires in
+    left-cell-at p.stands _ c.cell_in-a.ensures.0 _ _ c.quit.ensures
 
-pub quit-cell-spec : {M : Type 1} → statement M
-quit-cell-spec =
+pub quit_cell_spec : {M : Type 1} → statement M
+quit_cell_spec =
     tie.close
     (tie.spec cell-in-requires (λ c. search rules) (λ c. search rules) (λ c. search rules) (λ c. search rules) quit-requires (λ c. search rules) returns)

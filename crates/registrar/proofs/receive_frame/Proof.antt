@@ -6,30 +6,30 @@ use Rattle.registrar.proofs.Receiving.{received-not, received-all}
 use Rattle.registrar.proofs.receive_frame.Statement.{statement}
 use Rattle.registrar.proofs.receive_frame.Tie as tie
 
-frame-requires : tie.Need-frame-requires
-frame-requires c κs = c.before.before.before.requires.0
+frame-requires : tie.Need-frame-fits-requires
+frame-requires c κs = c.requires.0
 
-drop-unheld-requires : tie.Need-drop-unheld-requires
-drop-unheld-requires c κs = walked-laid c.before.before.before.before.frame.ensures
+drop-unheld-requires : tie.Need-drop_unheld-requires
+drop-unheld-requires c κs = walked-laid c.frame-fits.ensures
 
-returns : tie.Need-returns
+returns : tie.Need-returns-then-not-fits
 returns c =
     let a = c.before.before.before.before.before.before.before.before.before.before.before in
     received-not a.args.p a.args.pdu.now a.args.table.now a.requires.0.laid _ _ a.requires.1
-    (rw (not-true c.before.before.before.before.before.before.before.frame.result c.before.before.before.before.if1.true) at c.before.before.before.before.before.before.before.frame.ensures) c.before.before.drop-unheld.ensures
+    (rw c.if-not-fits.true at c.frame-fits.ensures) c.drop_unheld.ensures
 
-frame-requires-2 : tie.Need-frame-requires-2
+frame-requires-2 : tie.Need-frame-requires
 frame-requires-2 c κs =
-    let p = c.before.before.before.before.before.before.before.before.requires.0 in
-    record { laid = walked-laid c.before.before.before.before.frame.ensures; port = p.port; found = p.found }
+    let p = c.requires.0 in
+    record { laid = walked-laid c.frame-fits.ensures; port = p.port; found = p.found }
 
-returns-2 : tie.Need-returns-2
+returns-2 : tie.Need-returns
 returns-2 c =
     let a = c.before.before.before.before.before.before.before.before.before.before.before in
     received-all a.args.p a.args.pdu.now a.args.table.now a.requires.0.laid _ _ _
-    (rw (not-false c.before.before.before.before.before.before.before.frame.result c.before.before.before.before.if1.false) at c.before.before.before.before.before.before.before.frame.ensures) c.before.before.frame2.ensures
+    (rw c.if-not-fits.false at c.frame-fits.ensures) c.frame.ensures
 
-pub receive-frame-spec : {M : Type 1} → statement M
-receive-frame-spec =
+pub receive_frame_spec : {M : Type 1} → statement M
+receive_frame_spec =
     tie.close
     (tie.spec frame-requires drop-unheld-requires (λ c. search rules) returns frame-requires-2 (λ c. search rules) returns-2)

@@ -17,73 +17,73 @@ use Rattle.registrar.proofs.DomainValues.{slot-below, vlan-within, register-slot
 use Rattle.registrar.proofs.register_domain.Statement.{statement}
 use Rattle.registrar.proofs.register_domain.Tie as tie
 
-returns : tie.Need-returns
+returns : tie.Need-returns-in_default
 returns c =
-    let s = c.before.before.before.before.before in
+    let s = c.before.before.before.before in
     let a = s.args in
-    rw (register-dropped a.first.now a.n a.e 0 (sym c.before.before.domain-slot.ensures ∙ c.enum_told.given.1)) (walked_none true a.p a.table.now s.requires.laid)
+    rw (register-dropped a.first.now a.n a.e 0 (sym c.domain_slot.ensures ∙ c.in_default.is)) (walked_none true a.p a.table.now s.requires.laid)
 
 -- a value that has a slot: its acts are those asked for
-module _ (c : tie.After-ask) where
+module _ (c : tie.After-ask-a) where
   abbrev start : tie.Start
-  start = c.before.before.before.before.before.before.before
+  start = c.before.before.before.before.before
 
   abbrev i : ℕ
-  i = c.before.before.slot.given.0.0
+  i = c.in-Slot.slot
 
   its-slot : domain_in start.args.first.now start.args.n ≡ Slot i
-  its-slot = sym c.before.before.before.before.domain-slot.ensures ∙ c.before.before.slot.given.1
+  its-slot = sym c.domain_slot.ensures ∙ c.in-Slot.is
 
   below : i < slots
   below = slot-below start.args.first.now start.args.n i its-slot
 
   there : SlotIn start.args.table.now start.args.p i
-  there = record { laid = start.pre.laid; port = start.pre.port; slot = below }
+  there = record { laid = start.requires.laid; port = start.requires.port; slot = below }
 
-  acts : (r : Asked) → c.ask.result ≡ r → register_acts 4 start.args.first.now start.args.e 0 start.args.n ≡ slot_asked (Slot i) (be_at 2 start.args.first.now 2) r
+  acts : (r : Asked) → c.ask-a.result ≡ r → register_acts 4 start.args.first.now start.args.e 0 start.args.n ≡ slot_asked (Slot i) (be_at 2 start.args.first.now 2) r
   acts r e =
       let a = start.args in
-      register-slot a.first.now a.n a.e 0 i its-slot ∙ ap (slot_asked (Slot i) (be_at 2 a.first.now 2)) (sym c.ask.ensures ∙ e)
+      register-slot a.first.now a.n a.e 0 i its-slot ∙ ap (slot_asked (Slot i) (be_at 2 a.first.now 2)) (sym c.ask-a.ensures ∙ e)
 
-get-requires : tie.Need-get-requires
+get-requires : tie.Need-get-vlan-requires
 get-requires c κs =
-    let s = start c.before.before in
-    (vlan-within s.args.first.now s.args.n s.pre.value, omega arith)
+    let s = start c.before in
+    (vlan-within s.args.first.now s.args.n s.requires.value, omega arith)
 
-join-slot-requires : tie.Need-join-slot-requires
-join-slot-requires c κs = (there c.before.before.before.before, omega (arith, c.before.get.ensures.1))
+join-slot-requires : tie.Need-join_slot-requires
+join-slot-requires c κs = (there c.before.before.before, omega (arith, c.get-vlan.ensures.1))
 
-clock-requires : tie.Need-clock-requires
-clock-requires c κs = (start c.before.before.before).pre.laid
+clock-requires : tie.Need-clock-now-requires
+clock-requires c κs = (start c.before).requires.laid
 
-quit-slot-requires : tie.Need-quit-slot-requires
-quit-slot-requires c κs = there c.before.before.before.before.before
+quit-slot-requires : tie.Need-quit_slot-requires
+quit-slot-requires c κs = there c.before.before.before
 
-returns-2 : tie.Need-returns-2
+returns-2 : tie.Need-returns-in-Nothing
 unfolding slot_asked
 returns-2 c =
-    let s = start c.before.before in
-    rw (acts c.before.before Nothing c.enum-told2.given.1) (walked_none true s.args.p s.args.table.now s.pre.laid)
+    let s = start c.before in
+    rw (acts c.before Nothing c.in-Nothing.is) (walked_none true s.args.p s.args.table.now s.requires.laid)
 
-returns-3 : tie.Need-returns-3
+returns-3 : tie.Need-returns-in-Join
 unfolding slot_asked
 returns-3 c =
-    let d = c.before.before.before.before.before.before.before in
+    let d = c.before.before.before.before.before.before in
     let s = start d in
-    let vlan = c.before.before.before.before.get in
-    rw (acts d Join c.before.before.before.before.before.enum-told3.given.1, ← vlan.ensures.0)
-    (slot-joined s.args.p (i d) s.args.table.now _ s.pre.laid (below d) vlan.result (omega (arith, vlan.ensures.1)) c.before.before.join_slot.ensures)
+    let vlan = c.get-vlan in
+    rw (acts d Join c.in-Join.is, ← vlan.ensures.0)
+    (slot-joined s.args.p (i d) s.args.table.now _ s.requires.laid (below d) vlan.result (omega (arith, vlan.ensures.1)) c.join_slot.ensures)
 
-returns-4 : tie.Need-returns-4
+returns-4 : tie.Need-returns-in-Leave
 unfolding slot_asked
 returns-4 c =
-    let d = c.before.before.before.before.before.before.before.before in
+    let d = c.before.before.before.before.before.before.before in
     let s = start d in
-    rw (acts d Leave c.before.before.before.before.before.before.enum-told4.given.1)
-    (slot-left s.args.p (i d) s.args.table.now _ s.pre.laid (below d) _ c.before.before.before.before.clock.ensures c.before.before.quit-slot.ensures)
+    rw (acts d Leave c.in-Leave.is)
+    (slot-left s.args.p (i d) s.args.table.now _ s.requires.laid (below d) _ c.clock-now.ensures c.quit_slot.ensures)
 
-pub register-domain-spec : {M : Type 1} → statement M
-register-domain-spec =
+pub register_domain_spec : {M : Type 1} → statement M
+register_domain_spec =
     tie.close
     (tie.spec (λ c κs. search rules) (λ c. search rules) (λ c. search rules) returns (λ c κs. search rules) (λ c. search rules)
     (λ c. search rules) get-requires join-slot-requires (λ c. search rules) clock-requires quit-slot-requires returns-2

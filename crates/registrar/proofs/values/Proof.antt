@@ -14,15 +14,15 @@ use Rattle.registrar.proofs.VectorActs.{values-next, values-done}
 use Rattle.registrar.proofs.values.Statement.{statement}
 use Rattle.registrar.proofs.values.Tie as tie
 
-abbrev invariant-loop : tie.invariant-loop
-invariant-loop table₀ walk first events fours count n₀ table n =
+abbrev invariant-loop-n : tie.invariant-loop-n
+invariant-loop-n table₀ walk first events fours count n₀ table n =
     Going n count walk.applying walk.p (values_acts (vector_of walk.kind false 0 first events fours) 0 count) table₀
     (values_acts (vector_of walk.kind false 0 first events fours) n (count - n)) table
 
-abbrev decreases-loop : tie.decreases-loop
-decreases-loop table₀ walk first events fours count n₀ table n = count - n
+abbrev decreases-loop-n : tie.decreases-loop-n
+decreases-loop-n table₀ walk first events fours count n₀ table n = count - n
 
-loop-holds : tie.Need-loop-init invariant-loop decreases-loop
+loop-holds : tie.Need-loop-n-init invariant-loop-n decreases-loop-n
 loop-holds c =
     let a = c.before.before.before.before in
     record {
@@ -32,61 +32,61 @@ loop-holds c =
       leads = rw sub-zero (leads-start a.args.walk.applying a.args.walk.p _ a.args.table.now);
     }
 
-value-requires : tie.Need-value-requires invariant-loop decreases-loop
+value-requires : tie.Need-value-went-requires invariant-loop-n decreases-loop-n
 value-requires c κs =
-    let l = c.before.before.loop in
-    let p = c.before.before.before.before.before.before.before.requires in
+    let l = c.loop-n in
+    let p = c.requires in
     let w = p.walk in
     let e = p.events in
     record {
       walk = record { laid = l.invariant.laid; port = w.port; low = w.low; high = w.high };
       event = omega arith;
-      value = p.values l.n c.before.loop-test.true;
+      value = p.values l.n c.loop-n-test.true;
     }
 
 -- the acts left are those of value n, and those of the values after it
-module _ (c : tie.In-loop invariant-loop decreases-loop) where
+module _ (c : tie.In-loop-n invariant-loop-n decreases-loop-n) where
   abbrev vec : Vector
   vec =
-      let a = c.before.before.before.before.before.before.args in
+      let a = c.args in
       vector_of a.walk.kind false 0 a.first.now a.events.now a.fours.now
 
   abbrev n : ℕ
-  n = c.before.loop.n
+  n = c.loop-n.n
 
   abbrev count : ℕ
-  count = c.before.before.before.before.before.before.args.count
+  count = c.args.count
 
   next : values_acts vec n (count - n) ≡ value_acts vec n ++ values_acts vec (n + 1) (count - (n + 1))
-  next = values-next vec n count c.loop-test.true
+  next = values-next vec n count c.loop-n-test.true
 
-returns : tie.Need-returns invariant-loop decreases-loop
+returns : tie.Need-returns-then-not-went invariant-loop-n decreases-loop-n
 returns c =
     let d = c.before.before.before.before.before in
-    let a = d.before.before.before.before.before.before.args in
-    leads-stopped a.walk.applying a.walk.p _ _ _ _ d.before.loop.invariant.leads _ _ _ (next d) (rw (not-true c.before.before.before.value.result c.if1.true) at c.before.before.before.value.ensures)
+    let a = d.args in
+    leads-stopped a.walk.applying a.walk.p _ _ _ _ d.loop-n.invariant.leads _ _ _ (next d) (rw c.if-not-went.true at c.value-went.ensures)
 
-loop-again : tie.Need-loop-preserved invariant-loop decreases-loop
+loop-again : tie.Need-loop-n-preserved invariant-loop-n decreases-loop-n
 loop-again c =
     let d = c.before.before.before.before.before in
-    let a = d.before.before.before.before.before.before.args in
-    let w = rw (not-false c.before.before.before.value.result c.if1.false) at c.before.before.before.value.ensures in
+    let a = d.args in
+    let w = rw c.if-not-went.false at c.value-went.ensures in
     record {
       within = omega arith;
       size = search rules;
       laid = walked-laid w;
-      leads = leads-on a.walk.applying a.walk.p _ _ _ _ d.before.loop.invariant.leads _ _ _ (next d) w;
+      leads = leads-on a.walk.applying a.walk.p _ _ _ _ d.loop-n.invariant.leads _ _ _ (next d) w;
     }
 
-returns-2 : tie.Need-returns-2 invariant-loop decreases-loop
+returns-2 : tie.Need-returns invariant-loop-n decreases-loop-n
 returns-2 c =
-    let l = c.before.loop in
-    let a = c.before.before.before.before.before.before.args in
+    let l = c.loop-n in
+    let a = c.args in
     let e : l.n ≡ a.count = omega arith in
     leads-end a.walk.applying a.walk.p _ _ _ _ l.invariant.leads (values-done _ l.n a.count e) l.invariant.laid
 
-pub values-spec : {M : Type 1} → statement M
-values-spec =
+pub values_spec : {M : Type 1} → statement M
+values_spec =
     tie.close
-    (tie.spec invariant-loop decreases-loop loop-holds value-requires (λ c. search rules) returns (λ c. search rules) (λ c. search rules)
+    (tie.spec invariant-loop-n decreases-loop-n loop-holds value-requires (λ c. search rules) returns (λ c. search rules) (λ c. search rules)
     loop-again (λ c. search rules) returns-2)

@@ -18,10 +18,10 @@ values-requires c κs =
     let p = a.requires in
     let w = p.walk in
     record {
-      walk = record { laid = walked-laid c.before.before.before.before.before.begin-all.ensures; port = w.port; low = w.low; high = w.high };
+      walk = record { laid = walked-laid c.begin_all.ensures; port = w.port; low = w.low; high = w.high };
       events = enough-events a.args.walk.version a.args.walk.kind a.args.list.now p.at a.args.head w.low w.high p.read;
       values =
-          rw c.before.before.before.before.before.before.before.first-value.ensures
+          rw c.first_value-first.ensures
           (has-values a.args.walk.version a.args.walk.kind a.args.list.now p.at a.args.head w.low w.high p.read);
     }
 
@@ -29,13 +29,13 @@ returns : tie.Need-returns
 returns c =
     let a = c.before.before.before.before.before.before.before.before.before.before.before.before.before in
     rw (vector-acts a.args.walk.kind a.args.list.now a.args.head)
-    (walked_on a.args.walk.applying a.args.walk.p _ _ a.args.table.now _ c.before.before.before.before.before.before.before.before.begin-all.ensures
-    (rw c.before.before.before.before.before.before.before.before.before.before.first-value.ensures at c.before.before.values.ensures))
+    (walked_on a.args.walk.applying a.args.walk.p _ _ a.args.table.now _ c.begin_all.ensures
+    (rw c.first_value-first.ensures at c.values.ensures))
 
-pub vector-spec : {M : Type 1} → statement M
-vector-spec =
+pub vector_spec : {M : Type 1} → statement M
+vector_spec =
     tie.close
-    (tie.spec (λ c κs. search rules) (λ c κs. c.before.before.before.before.requires.walk)
+    (tie.spec (λ c κs. search rules) (λ c κs. c.requires.walk)
     (λ c. omega (arith, places c.before.before.before.before.before.before.before.before))
     (λ c. omega (arith, places c.before.before.before.before.before.before.before.before))
     (λ c. omega (arith, places c.before.before.before.before.before.before.before.before))
