@@ -7,7 +7,7 @@ use Rattle.admission.proofs.demand_in.Tie as tie
 
 returns : tie.Need-returns
 returns c =
-    (c.rate-in.ensures.0 ∙ rate-of _ _ _ _ _ c.before.before.before.port-at.ensures.is c.before.before.settled_at.ensures.is _ c.before.demand.ensures.0 _, c.rate-in.ensures.1)
+    (c.rate_in.ensures.0 ∙ rate-of _ _ _ _ _ c.port_at.ensures.is c.settled_at.ensures.is _ c.demand.ensures.0 _, c.rate_in.ensures.1)
 
-pub demand-in-spec : {M : Type 1} → statement M
-demand-in-spec = tie.close (tie.spec (λ c κs. search rules) (λ c κs. search rules) (λ c κs. search rules) (λ c κs. search rules) returns)
+pub demand_in_spec : {M : Type 1} → statement M
+demand_in_spec = tie.close (tie.spec (λ c κs. search rules) (λ c κs. search rules) (λ c κs. search rules) (λ c κs. search rules) returns)

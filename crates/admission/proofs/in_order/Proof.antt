@@ -11,11 +11,11 @@ use Rattle.admission.proofs.in_order.Tie as tie
 
 returns : tie.Need-returns
 returns c =
-    let g = c.before.before.before.before.before.before.gather in
+    let g = c.gather-n in
     let few : g.result ≤ length g.new.1.1.1.0 = omega (arith, g.ensures.1) in
-    (ap (take g.result) c.before.before.sort.ensures ∙ take-sorted g.result g.new.1.1.1.0 few ∙ ap sorted g.ensures.0, g.ensures.1)
+    (ap (take g.result) c.sort.ensures ∙ take-sorted g.result g.new.1.1.1.0 few ∙ ap sorted g.ensures.0, g.ensures.1)
 
-pub in-order-spec : {M : Type 1} → statement M
-in-order-spec =
+pub in_order_spec : {M : Type 1} → statement M
+in_order_spec =
     tie.close
     (tie.spec (λ c κs. search rules) (λ c κs. search rules) (λ c. search rules) returns)

@@ -7,9 +7,9 @@ use Rattle.admission.proofs.is_heard.Tie as tie
 
 returns : tie.Need-returns
 unfolding is_heard
-returns c = rw (← c.before.cell-at.ensures.is) (heard-read _)
+returns c = rw (← c.cell_at.ensures.is) (heard-read _)
 
-pub is-heard-spec : {M : Type 1} → statement M
-is-heard-spec =
+pub is_heard_spec : {M : Type 1} → statement M
+is_heard_spec =
     tie.close
     (tie.spec (λ c κs. search rules) (λ c. search rules) returns)

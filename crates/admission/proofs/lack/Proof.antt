@@ -7,11 +7,11 @@ use Rattle.admission.proofs.lack.Tie as tie
 returns : tie.Need-returns
 returns c =
     λ st e.
-    rw (c.before.before.put4.ensures, c.before.before.before.before.before.before.put3.ensures, c.before.before.before.before.before.before.before.before.before.before.put2.ensures, c.before.before.before.before.before.before.before.before.before.before.before.before.before.before.put.ensures)
-    (lack-octets st _ _ c.before.before.before.before.before.before.before.before.before.before.before.before.before.before.before.before.before.requires.0 e)
+    rw (c.put-4.ensures, c.put-3.ensures, c.put-2.ensures, c.put.ensures)
+    (lack-octets st _ _ c.requires.0 e)
 
-pub lack-spec : {M : Type 1} → statement M
-lack-spec =
+pub lack_spec : {M : Type 1} → statement M
+lack_spec =
     tie.close
     (tie.spec (λ c κs. search rules) (λ c κs. search rules) (λ c κs. search rules) (λ c κs. search rules) (λ c. search rules)
     returns)

@@ -8,15 +8,15 @@ use Rattle.admission.proofs.lack_at.Tie as tie
 
 lack-requires : tie.Need-lack-requires
 lack-requires c κs =
-    let part = lent-result-at c.before.before.before.before.before.before.requires _ c.before.result-in.ensures.0 in
+    let part = lent-result-at c.requires _ c.result_in-r.ensures.0 in
     (part.laid, part.size)
 
 returns : tie.Need-returns
 returns c =
-    changed-result-at c.before.before.before.before.before.before.before.before.before.requires _ c.before.before.before.before.result-in.ensures.0 (lacking _) _ (c.before.before.lack.ensures _ (sym c.before.before.before.before.before.before.bridge-id.ensures))
+    changed-result-at c.requires _ c.result_in-r.ensures.0 (lacking _) _ (c.lack.ensures _ (sym c.bridge_id-id.ensures))
 
-pub lack-at-spec : {M : Type 1} → statement M
-lack-at-spec =
+pub lack_at_spec : {M : Type 1} → statement M
+lack_at_spec =
     tie.close
     (tie.spec (λ c κs. search rules) (λ c κs. search rules) (λ c. search rules) (λ c. search rules) (λ c. search rules)
     (λ c. search rules) lack-requires (λ c. search rules) returns)

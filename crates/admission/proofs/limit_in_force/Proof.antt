@@ -9,20 +9,20 @@ use Rattle.admission.specs.Sharing.{class_for}
 use Rattle.admission.proofs.limit_in_force.Statement.{statement}
 use Rattle.admission.proofs.limit_in_force.Tie as tie
 
-returns : tie.Need-returns
+returns : tie.Need-returns-then-b
 unfolding limit_shown class_for to_totals
 returns c =
-    let port = c.before.before.before.before.port-at.ensures.is in
-    let totals = c.before.before.totals-at.ensures.is in
-    rw (c.before.before.before.if1.true, ← port, ← totals, ← c.before.get.ensures.0) c.limit-b.ensures
+    let port = c.port_at-port.ensures.is in
+    let totals = c.totals_at.ensures.is in
+    rw (c.if-b.true, ← port, ← totals, ← c.get-used_by_a.ensures.0) c.limit_b.ensures
 
-returns-2 : tie.Need-returns-2
+returns-2 : tie.Need-returns
 unfolding limit_shown in_force class_for to_port port_from fields
 returns-2 c =
-    rw (c.before.if1.false, ← c.before.before.port-at.ensures.is)
-    (c.get2.ensures.0, omega (arith, c.get2.ensures.1))
+    rw (c.if-b.false, ← c.port_at-port.ensures.is)
+    (c.get.ensures.0, omega (arith, c.get.ensures.1))
 
-pub limit-in-force-spec : {M : Type 1} → statement M
-limit-in-force-spec =
+pub limit_in_force_spec : {M : Type 1} → statement M
+limit_in_force_spec =
     tie.close
     (tie.spec (λ c κs. search rules) (λ c κs. search rules) (λ c κs. search rules) (λ c κs. search rules) returns (λ c κs. search rules) returns-2)

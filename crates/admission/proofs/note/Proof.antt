@@ -9,31 +9,31 @@ use Rattle.admission.proofs.note.Statement.{statement}
 use Rattle.admission.proofs.note.Tie as tie
 
 -- one number more has room
-room : (c : tie.After-order-of) → c.before.before.before.before.before.args.n < length c.before.before.before.before.before.args.numbers.now
+room : (c : tie.After-order_of) → c.args.n < length c.args.numbers.now
 room c =
-    let pre = c.before.before.before.before.before.requires in
+    let pre = c.requires in
     omega (arith, pre.few, pre.room, few-before (stands pre.stands))
 
-mul-numbers : tie.Need-overflow-mul-numbers
-mul-numbers c = omega (arith, room c, c.before.before.before.before.before.requires.room)
+mul-numbers : tie.Need-offset_bounds-numbers-n
+mul-numbers c = omega (arith, room c, c.requires.room)
 
-slice-write-numbers : tie.Need-slice-write-numbers
+slice-write-numbers : tie.Need-bounds-numbers-n
 slice-write-numbers c = room c
 
-add-result : tie.Need-overflow-add-result
+add-result : tie.Need-overflow_add-result
 add-result c = omega (arith, room c)
 
-returns : tie.Need-returns
+returns : tie.Need-returns-then-waiting
 returns c =
-    (rw c.order-of.ensures (noted _ _ _ _ _ c.before.before.waiting.ensures (room c) c.before.if1.true), omega (arith, c.before.before.before.before.before.requires.few))
+    (rw c.order_of.ensures (noted _ _ _ _ _ c.waiting.ensures (room c) c.if-waiting.true), omega (arith, c.requires.few))
 
-returns-2 : tie.Need-returns-2
+returns-2 : tie.Need-returns
 returns-2 c =
-    let a = c.before.before.before.before.args in
-    (not_noted a.numbers.now a.n _ _ _ c.before.waiting.ensures c.if1.false, omega (arith, c.before.before.before.before.requires.few))
+    let a = c.args in
+    (not_noted a.numbers.now a.n _ _ _ c.waiting.ensures c.if-waiting.false, omega (arith, c.requires.few))
 
-pub note-spec : {M : Type 1} → statement M
-note-spec =
+pub note_spec : {M : Type 1} → statement M
+note_spec =
     tie.close
     (tie.spec (λ c κs. search rules) (λ c κs. search rules) mul-numbers slice-write-numbers add-result (λ c. search rules) returns
     returns-2)

@@ -4,16 +4,16 @@ use Rattle.admission.proofs.same_class.Statement.{statement}
 use Rattle.admission.proofs.Laws.{class-none, class-a, class-b}
 use Rattle.admission.proofs.same_class.Tie as tie
 
-returns : tie.Need-returns
-returns c = rw c.enum_told.given.1 (class-none c.before.before.args.b)
+returns : tie.Need-returns-in-NoClass
+returns c = rw c.in-NoClass.is (class-none c.args.b)
 
-returns-2 : tie.Need-returns-2
-returns-2 c = rw c.enum-told2.given.1 (class-a c.before.before.args.b)
+returns-2 : tie.Need-returns-in-A
+returns-2 c = rw c.in-A.is (class-a c.args.b)
 
-returns-3 : tie.Need-returns-3
-returns-3 c = rw c.enum-told3.given.1 (class-b c.before.before.args.b)
+returns-3 : tie.Need-returns-in-B
+returns-3 c = rw c.in-B.is (class-b c.args.b)
 
-pub same-class-spec : {M : Type 1} → statement M
-same-class-spec =
+pub same_class_spec : {M : Type 1} → statement M
+same_class_spec =
     tie.close
     (tie.spec (λ c. search rules) (λ c. search rules) (λ c. search rules) returns returns-2 returns-3)

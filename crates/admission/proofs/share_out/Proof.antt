@@ -7,27 +7,27 @@ use Rattle.admission.proofs.Admitted.{sorted-numbered, after-in, whole}
 use Rattle.admission.proofs.share_out.Statement.{statement}
 use Rattle.admission.proofs.share_out.Tie as tie
 
-take-turns-requires : tie.Need-take-turns-requires
+take-turns-requires : tie.Need-take_turns-used-requires
 take-turns-requires c κs =
-    let pre = c.before.before.before.before.before.before.before.before.before.before.before.requires in
-    let o = c.before.before.before.before.before.before.in_order in
+    let pre = c.requires in
+    let o = c.in_order-n in
     let few : o.result ≤ length o.new.1.1.1.0 = omega (arith, o.ensures.1) in
     (sorted-numbered pre.0 _ o.result o.new.1.1.1.0 o.ensures.0 few, pre.0.port)
 
-store-total-requires : tie.Need-store-total-requires
+store-total-requires : tie.Need-store_total-requires
 store-total-requires c κs =
-    let o = c.before.before.before.before.before.before.before.before.before.before.in_order in
-    let t = c.before.before.before.take-turns.ensures in
-    after-in c.before.before.before.before.before.before.before.before.before.before.before.before.before.before.before.requires.0 _ o.result o.new.1.1.1.0 o.ensures.0 _ _ c.before.before.before.before.before.before.limit-in-force.ensures.0 _ t.used t.table
+    let o = c.in_order-n in
+    let t = c.take_turns-used.ensures in
+    after-in c.requires.0 _ o.result o.new.1.1.1.0 o.ensures.0 _ _ c.limit_in_force-limit.ensures.0 _ t.used t.table
 
 returns : tie.Need-returns
 returns c =
-    let o = c.before.before.before.before.before.before.before.before.before.before.before.before.before.in_order in
-    let t = c.before.before.before.before.before.before.take-turns.ensures in
-    whole c.before.before.before.before.before.before.before.before.before.before.before.before.before.before.before.before.before.before.requires.0 _ o.result o.new.1.1.1.0 o.ensures.0 _ _ c.before.before.before.before.before.before.before.before.before.limit-in-force.ensures.0 _ t.used t.table _ c.before.before.store-total.ensures
+    let o = c.in_order-n in
+    let t = c.take_turns-used.ensures in
+    whole c.requires.0 _ o.result o.new.1.1.1.0 o.ensures.0 _ _ c.limit_in_force-limit.ensures.0 _ t.used t.table _ c.store_total.ensures
 
-pub share-out-spec : {M : Type 1} → statement M
-share-out-spec =
+pub share_out_spec : {M : Type 1} → statement M
+share_out_spec =
     tie.close
     (tie.spec (λ c κs. search rules) (λ c κs. search rules) take-turns-requires store-total-requires (λ c. search rules)
     (λ c. search rules) returns)

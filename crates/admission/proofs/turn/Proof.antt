@@ -5,20 +5,20 @@ use Rattle.admission.proofs.Turns.{turn-lacks, turn-heard, turn-unheard}
 use Rattle.admission.proofs.turn.Statement.{statement}
 use Rattle.admission.proofs.turn.Tie as tie
 
-returns : tie.Need-returns
+returns : tie.Need-returns-then-limit-used
 returns c =
-    let pre = c.before.before.before.before.before.before.before.before.requires in
-    turn-lacks pre.0 _ _ _ pre.1 _ c.before.before.before.before.before.demand-in.ensures.0 c.before.before.before.before.if1.true _ c.before.before.lack-at.ensures
+    let pre = c.requires in
+    turn-lacks pre.0 _ _ _ pre.1 _ c.demand_in-d.ensures.0 c.if-limit-used.true _ c.lack_at.ensures
 
-returns-2 : tie.Need-returns-2
+returns-2 : tie.Need-returns-then-is_heard
 returns-2 c =
-    let pre = c.before.before.before.before.before.before.before.requires in
-    turn-heard pre.0 _ _ _ pre.1 _ c.before.before.before.before.demand-in.ensures.0 c.before.before.before.if1.false (sym c.before.is-heard.ensures ∙ c.if2.true)
+    let pre = c.requires in
+    turn-heard pre.0 _ _ _ pre.1 _ c.demand_in-d.ensures.0 c.if-limit-used.false (sym c.is_heard.ensures ∙ c.if-is_heard.true)
 
-returns-3 : tie.Need-returns-3
+returns-3 : tie.Need-returns
 returns-3 c =
-    let pre = c.before.before.before.before.before.before.before.requires in
-    turn-unheard pre.0 _ _ _ pre.1 _ c.before.before.before.before.demand-in.ensures.0 c.before.before.before.if1.false (sym c.before.is-heard.ensures ∙ c.if2.false)
+    let pre = c.requires in
+    turn-unheard pre.0 _ _ _ pre.1 _ c.demand_in-d.ensures.0 c.if-limit-used.false (sym c.is_heard.ensures ∙ c.if-is_heard.false)
 
 pub turn_spec : {M : Type 1} → statement M
 turn_spec =

@@ -5,16 +5,16 @@ use Rattle.admission.proofs.Laws.{waits_in, waits-out}
 use Rattle.admission.proofs.waiting.Statement.{statement}
 use Rattle.admission.proofs.waiting.Tie as tie
 
-returns : tie.Need-returns
+returns : tie.Need-returns-then-result-eq1
 returns c =
     c.same_class.ensures
-    ∙ waits_in _ _ _ c.before.before.before.before.before.before.result-at.ensures.is _ c.before.before.before.settled_at.ensures.is _ c.before.before.get.ensures.0 _ _ _ c.before.class-of.ensures c.before.before.before.before.if1.true
+    ∙ waits_in _ _ _ c.result_at-result.ensures.is _ c.settled_at-settled.ensures.is _ c.get.ensures.0 _ _ _ c.class_of-class.ensures c.if-result-eq1.true
 
-returns-2 : tie.Need-returns-2
-returns-2 c = waits-out _ _ _ c.before.before.result-at.ensures.is _ _ c.if1.false
+returns-2 : tie.Need-returns
+returns-2 c = waits-out _ _ _ c.result_at-result.ensures.is _ _ c.if-result-eq1.false
 
-pub waiting-spec : {M : Type 1} → statement M
-waiting-spec =
+pub waiting_spec : {M : Type 1} → statement M
+waiting_spec =
     tie.close
     (tie.spec (λ c κs. search rules) (λ c. search rules) (λ c κs. search rules) (λ c κs. search rules) (λ c κs. search rules)
     (λ c κs. search rules) returns returns-2)

@@ -6,15 +6,15 @@ use Rattle.moving.proofs.One.{leaving-all-alike}
 use Rattle.moving.proofs.after_opportunity.Statement.{statement}
 use Rattle.moving.proofs.after_opportunity.Tie as tie
 
-returns : tie.Need-returns
+returns : tie.Need-returns-then-all
 unfolding opportunity
 returns c =
-    let a = c.before.before.args in
-    rw c.before.if1.true (c.written-leaving-all.ensures.0 ∙ sym (leaving-all-alike a.registered a.state))
+    let a = c.args in
+    rw c.if-all.true (c.written_leaving_all.ensures.0 ∙ sym (leaving-all-alike a.registered a.state))
 
-returns-2 : tie.Need-returns-2
+returns-2 : tie.Need-returns
 unfolding opportunity
-returns-2 c = rw c.before.if1.false c.written.ensures.0
+returns-2 c = rw c.if-all.false c.written.ensures.0
 
-pub after-opportunity-spec : {M : Type 1} → statement M
-after-opportunity-spec = tie.close (tie.spec (λ c κs. search rules) returns (λ c κs. search rules) returns-2)
+pub after_opportunity_spec : {M : Type 1} → statement M
+after_opportunity_spec = tie.close (tie.spec (λ c κs. search rules) returns (λ c κs. search rules) returns-2)

@@ -8,37 +8,37 @@ use Rattle.moving.proofs.Whole.{encodes-laid, machine-left, all_left}
 use Rattle.moving.proofs.leave_all.Statement.{statement}
 use Rattle.moving.proofs.leave_all.Tie as tie
 
-sender-in-requires : tie.Need-sender-in-requires
-sender-in-requires c κs = c.before.before.before.requires
+sender-in-requires : tie.Need-sender_in-a-requires
+sender-in-requires c κs = c.requires
 
-sent-all-requires : tie.Need-sent-all-requires
+sent-all-requires : tie.Need-sent_all-requires
 sent-all-requires c κs =
-    let reads = lent-sender-at c.before.before.before.before.before.requires _ c.before.sender-in.ensures.0 in
+    let reads = lent-sender-at c.requires _ c.sender_in-a.ensures.0 in
     (reads.laid, reads.size)
 
-leave-own-requires : tie.Need-leave-own-requires
+leave-own-requires : tie.Need-leave_own-requires
 leave-own-requires c κs =
-    let s = c.before.before.before.before.before.before.before.before.before in
+    let s = c.before.before.before.before.before.before.before.before in
     record {
-      laid = encodes-laid (machine-left s.args.p s.args.table.now s.requires _ c.before.before.before.before.before.sender-in.ensures.0 _ _ c.before.before.before.sent-all.ensures refl);
+      laid = encodes-laid (machine-left s.args.p s.args.table.now s.requires _ c.sender_in-a.ensures.0 _ _ c.sent_all.ensures refl);
       port = s.requires.port;
     }
 
-returns : tie.Need-returns
+returns : tie.Need-returns-then-all
 returns c =
-    let s = c.before.before.before.before.before.before.before.before.before.before.before.before in
-    rw c.before.before.before.before.before.before.before.before.before.before.if1.true
-    (all_left s.args.p s.args.table.now s.requires _ c.before.before.before.before.before.before.before.before.sender-in.ensures.0 _ _ c.before.before.before.before.before.before.sent-all.ensures refl _
-    c.before.before.leave_own.ensures)
+    let s = c.before.before.before.before.before.before.before.before.before.before.before in
+    rw c.if-all.true
+    (all_left s.args.p s.args.table.now s.requires _ c.sender_in-a.ensures.0 _ _ c.sent_all.ensures refl _
+    c.leave_own.ensures)
 
-returns-2 : tie.Need-returns-2
+returns-2 : tie.Need-returns-else-all
 unfolding leave_all_sent
 returns-2 c =
     let s = c.before.before in
-    rw c.if1.false record { fits = laid-fits s.args.table.now s.requires.laid; is = laid-is s.args.table.now s.requires.laid }
+    rw c.if-all.false record { fits = laid-fits s.args.table.now s.requires.laid; is = laid-is s.args.table.now s.requires.laid }
 
-pub leave-all-spec : {M : Type 1} → statement M
-leave-all-spec =
+pub leave_all_spec : {M : Type 1} → statement M
+leave_all_spec =
     tie.close
     (tie.spec sender-in-requires (λ c. search rules) (λ c. search rules) (λ c. search rules) (λ c. search rules) sent-all-requires
     leave-own-requires (λ c. search rules) returns returns-2)

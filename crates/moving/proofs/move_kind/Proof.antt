@@ -9,60 +9,60 @@ use Rattle.moving.proofs.EachType.{met_to, MovingTo, none-moved-yet, next-stands
 use Rattle.moving.proofs.move_kind.Statement.{statement}
 use Rattle.moving.proofs.move_kind.Tie as tie
 
-abbrev invariant-loop : tie.invariant-loop
-invariant-loop table₀ p kind span held so-far₀ k₀ table so_far k = MovingTo span (kind_at kind) p so-far₀ table₀ held table so_far k
+abbrev invariant-loop-k : tie.invariant-loop-k
+invariant-loop-k table₀ p kind span held so-far₀ k₀ table so_far k = MovingTo span (kind_at kind) p so-far₀ table₀ held table so_far k
 
-abbrev decreases-loop : tie.decreases-loop
-decreases-loop table₀ p kind span held so-far₀ k₀ table so_far k = held - k
+abbrev decreases-loop-k : tie.decreases-loop-k
+decreases-loop-k table₀ p kind span held so-far₀ k₀ table so_far k = held - k
 
-count-requires : tie.Need-count-requires invariant-loop decreases-loop
-count-requires c κs = c.before.before.requires.port.laid
+count-requires : tie.Need-count-held-requires invariant-loop-k decreases-loop-k
+count-requires c κs = c.requires.port.laid
 
-loop-holds : tie.Need-loop-init invariant-loop decreases-loop
+loop-holds : tie.Need-loop-k-init invariant-loop-k decreases-loop-k
 unfolding met_to
 loop-holds c =
-    let s = c.before.before.before in
+    let s = c.before.before in
     let a = s.args in
     record {
       within = omega arith;
-      count = c.count.ensures.0;
+      count = c.count-held.ensures.0;
       size = refl;
       is = none-moved-yet a.span (kind_at a.kind) a.p a.from a.table.now s.requires.port.laid;
       met = refl;
     }
 
-move-stream-requires : tie.Need-move-stream-requires invariant-loop decreases-loop
+move-stream-requires : tie.Need-move_stream-so_far-requires invariant-loop-k decreases-loop-k
 move-stream-requires c κs =
-    let l = c.before.before.loop in
-    let s = c.before.before.before.before.before.before in
+    let l = c.loop-k in
+    let s = c.before.before.before.before.before in
     let a = s.args in
     let j = kind_at a.kind in
     let laid = s.requires.port.laid in
     record {
-      stands = next-stands a.span j a.p a.from a.table.now laid _ _ _ _ l.invariant s.requires.port.port c.before.loop-test.true;
+      stands = next-stands a.span j a.p a.from a.table.now laid _ _ _ _ l.invariant s.requires.port.port c.loop-k-test.true;
       low = s.requires.low;
       high = s.requires.high;
       few = next-few a.span j a.p a.from a.table.now laid _ _ _ _ l.invariant s.requires.few;
     }
 
-loop-again : tie.Need-loop-preserved invariant-loop decreases-loop
+loop-again : tie.Need-loop-k-preserved invariant-loop-k decreases-loop-k
 loop-again c =
-    let l = c.before.before.before.before.before.loop in
-    let s = c.before.before.before.before.before.before.before.before.before in
+    let l = c.loop-k in
+    let s = c.before.before.before.before.before.before.before.before in
     let a = s.args in
-    let call = c.before.before.move-stream in
+    let call = c.move_stream-so_far in
     let z : length call.new.0 ≡ length l.table = search rules in
     next-moved a.span (kind_at a.kind) a.p a.from a.table.now s.requires.port.laid _ _ _ _ l.invariant
-    c.before.before.before.before.loop-test.true _ _ z call.ensures
+    c.loop-k-test.true _ _ z call.ensures
 
-returns : tie.Need-returns invariant-loop decreases-loop
+returns : tie.Need-returns invariant-loop-k decreases-loop-k
 returns c =
-    let s = c.before.before.before.before.before in
+    let s = c.before.before.before.before in
     let a = s.args in
-    all_moved a.span (kind_at a.kind) a.p a.from a.table.now s.requires.port.laid _ _ _ _ c.before.loop.invariant c.loop-test.false
+    all_moved a.span (kind_at a.kind) a.p a.from a.table.now s.requires.port.laid _ _ _ _ c.loop-k.invariant c.loop-k-test.false
 
-pub move-kind-spec : {M : Type 1} → statement M
-move-kind-spec =
+pub move_kind_spec : {M : Type 1} → statement M
+move_kind_spec =
     tie.close
-    (tie.spec invariant-loop decreases-loop count-requires loop-holds move-stream-requires (λ c. search rules) (λ c. search rules) loop-again
+    (tie.spec invariant-loop-k decreases-loop-k count-requires loop-holds move-stream-requires (λ c. search rules) (λ c. search rules) loop-again
     (λ c. search rules) returns)

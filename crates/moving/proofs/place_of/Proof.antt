@@ -7,9 +7,9 @@ use Rattle.moving.proofs.OfStream.{kind-other}
 use Rattle.moving.proofs.place_of.Statement.{statement}
 use Rattle.moving.proofs.place_of.Tie as tie
 
-pub place-of-spec : {M : Type 1} → statement M
+pub place_of_spec : {M : Type 1} → statement M
 unfolding kind_at in_kind
-place-of-spec =
+place_of_spec =
     tie.close
-    (tie.spec (λ c. rw c.if1.true (refl, omega arith)) (λ c. rw c.if2.true (refl, omega arith))
-    (λ c. rw (kind-other _ c.before.if1.false c.if2.false) (refl, omega arith)))
+    (tie.spec (λ c. rw c.if-kind-eq1.true (refl, omega arith)) (λ c. rw c.if-kind-eq2.true (refl, omega arith))
+    (λ c. rw (kind-other _ c.if-kind-eq1.false c.if-kind-eq2.false) (refl, omega arith)))

@@ -5,15 +5,15 @@ use Rattle.moving.specs.Moves.{state_at}
 use Rattle.moving.proofs.put_state.Statement.{statement}
 use Rattle.moving.proofs.put_state.Tie as tie
 
-returns : tie.Need-returns
+returns : tie.Need-returns-then-state-eq0
 unfolding state_at
-returns c = rw (eq-eqb _ _ c.before.before.before.before.if1.true) c.before.before.clear.ensures
+returns c = rw (eq-eqb _ _ c.if-state-eq0.true) c.clear.ensures
 
-returns-2 : tie.Need-returns-2
+returns-2 : tie.Need-returns
 unfolding state_at
-returns-2 c = rw (ne_eqb _ _ c.if1.false)
+returns-2 c = rw (ne_eqb _ _ c.if-state-eq0.false)
 
-pub put-state-spec : {M : Type 1} → statement M
-put-state-spec =
+pub put_state_spec : {M : Type 1} → statement M
+put_state_spec =
     tie.close
     (tie.spec (λ c. search rules) (λ c κs. search rules) (λ c. search rules) returns (λ c. search rules) (λ c. search rules) returns-2)

@@ -17,7 +17,7 @@ returns : tie.Need-returns-then-not-walk
 returns c =
     let a = c.before.before.before in
     let w = a.args.walk in
-    rw c.if-not-walk.true (leaves-room w.p (attribute_at w.kind) a.args.leaves a.args.table.now a.requires.laid)
+    rw (not-true w.applying c.if-not-walk.true) (leaves-room w.p (attribute_at w.kind) a.args.leaves a.args.table.now a.requires.laid)
 
 returns-2 : tie.Need-returns-then-not-leaves
 returns-2 c =
@@ -37,7 +37,7 @@ returns-3 : tie.Need-returns-then-walk-eq4
 returns-3 c =
     let a = c.before.before.before.before.before.before.before.before.before.before.before.before.before.before in
     let w = a.args.walk in
-    rw (domain-leaves w.kind a.args.leaves c.if-walk-eq4.true c.if-not-leaves.false, c.if-not-walk.false)
+    rw (domain-leaves w.kind a.args.leaves c.if-walk-eq4.true c.if-not-leaves.false, not-false w.applying c.if-not-walk.false)
     (walked_on true w.p (of_domain leave_all_domains ∷ []) (of_domain hear_all_domains ∷ []) a.args.table.now _ c.leave_domains.ensures c.hear_domains.ensures)
 
 leave-all-requires : tie.Need-leave_all-requires
@@ -53,7 +53,7 @@ returns-4 c =
     let a = c.before.before.before.before.before.before.before.before.before.before.before.before.before.before in
     let w = a.args.walk in
     let k : w.kind ≤ 3 = omega (arith, a.requires.high, c.if-walk-eq4.false) in
-    rw (all-leaves w.kind a.args.leaves a.requires.low k c.if-not-leaves.false, c.if-not-walk.false)
+    rw (all-leaves w.kind a.args.leaves a.requires.low k c.if-not-leaves.false, not-false w.applying c.if-not-walk.false)
     (walked_on true w.p (leave_all (kind_at w.kind) ∷ []) (hear_all (kind_at w.kind) ∷ []) a.args.table.now _ c.leave_all.ensures c.hear_all.ensures)
 
 pub begin_all_spec : {M : Type 1} → statement M

@@ -16,7 +16,7 @@ returns-2 c =
     let a = c.args in
     c.event_of.ensures
     ∙ event-kept a.kind a.events.now a.fours.now a.n
-    (λ k z. ⊎_elim (λ w. w.1.left (c.four_of-four.ensures ∙ z)) (λ w. w.left k) c.if-kind-eq3.branch)
+    (λ k z. ⊎_elim (λ w. w.if-four-eq0.false (c.four_of-four.ensures ∙ z)) (λ w. w.if-kind-eq3.false k) c.if-kind-eq3.branch-raw)
 
 pub event_for_spec : {M : Type 1} → statement M
 event_for_spec = tie.close (tie.spec (λ c κs. search rules) returns (λ c κs. search rules) returns-2)

@@ -77,7 +77,7 @@ returns-3 c =
 returns-4 : tie.Need-returns-in-Leave
 unfolding slot_asked
 returns-4 c =
-    let d = c.before.before.before.before.before.before.before in
+    let d = c.before.before.before.before.before.before in
     let s = start d in
     rw (acts d Leave c.in-Leave.is)
     (slot-left s.args.p (i d) s.args.table.now _ s.requires.laid (below d) _ c.clock-now.ensures c.quit_slot.ensures)
