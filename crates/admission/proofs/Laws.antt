@@ -40,11 +40,11 @@ module _ (b : Bool) where
 
   pub class-a : not b ≡ same_class (class_shown A) (class_for b)
   unfolding same_class class_shown class_for
-  class-a = elim b [ true ↦ refl | false ↦ refl ]
+  class-a = elim b as (λ k. not k ≡ same_class (class_shown A) (class_for k)) [ true ↦ refl | false ↦ refl ]
 
   pub class-b : b ≡ same_class (class_shown B) (class_for b)
   unfolding same_class class_shown class_for
-  class-b = elim b [ true ↦ refl | false ↦ refl ]
+  class-b = elim b as (λ k. k ≡ same_class (class_shown B) (class_for k)) [ true ↦ refl | false ↦ refl ]
 
 -- A stream x on the port at place p, by the octets of its result there and of its settled values.
 

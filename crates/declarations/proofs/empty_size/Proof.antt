@@ -13,23 +13,23 @@ use Rattle.declarations.proofs.empty_size.Tie as tie
 
 returns : tie.Need-returns-then-not-all
 unfolding empty_size
-returns c = rw (not-true c.args.all c.if-not-all.true) (refl, omega arith)
+returns c = rw c.if-not-all.true (refl, omega arith)
 
 returns-2 : tie.Need-returns-in-Advertise
 unfolding type empty_size first_length
-returns-2 c = rw (not-false c.args.all c.if-not-all.false, c.in-Advertise.is) (refl, omega arith)
+returns-2 c = rw (c.if-not-all.false, c.in-Advertise.is) (refl, omega arith)
 
 returns-3 : tie.Need-returns-in-Failed
 unfolding type empty_size first_length
-returns-3 c = rw (not-false c.args.all c.if-not-all.false, c.in-Failed.is) (refl, omega arith)
+returns-3 c = rw (c.if-not-all.false, c.in-Failed.is) (refl, omega arith)
 
 returns-4 : tie.Need-returns-in-Listener
 unfolding type empty_size first_length
-returns-4 c = rw (not-false c.args.all c.if-not-all.false, c.in-Listener.is) (refl, omega arith)
+returns-4 c = rw (c.if-not-all.false, c.in-Listener.is) (refl, omega arith)
 
 returns-5 : tie.Need-returns-in-Domain
 unfolding type empty_size first_length
-returns-5 c = rw (not-false c.args.all c.if-not-all.false, c.in-Domain.is) (refl, omega arith)
+returns-5 c = rw (c.if-not-all.false, c.in-Domain.is) (refl, omega arith)
 
 pub empty_size_spec : {M : Type 1} → statement M
 empty_size_spec =

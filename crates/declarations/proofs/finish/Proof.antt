@@ -31,7 +31,7 @@ returns c =
     let a = c.args in
     let out = a.out.now in
     let n : ℕ = length out - 6 in
-    let y = c.announce.new.1.1.0 in
+    let y = c.announce.new.out in
     c.close_message.ensures
     ∙ lent-announced (leaves_all (decode a.table.now) a.p) (type a.attribute) n y out (omega (arith, c.requires.1)) refl
     (c.announce.ensures ∙ ap (announced (leaves_all (decode a.table.now) a.p)) (lent-part 4 n out))

@@ -15,7 +15,7 @@ use Rattle.declarations.proofs.later_sizes.Tie as tie
 
 returns : tie.Need-returns-then-not-all
 unfolding empty_size later
-returns c = rw (not-true c.args.all c.if-not-all.true) (go c.args.attribute)
+returns c = rw c.if-not-all.true (go c.args.attribute)
   where
     go : (a : Attribute) → (0 ≡ later false (type a)) × (0 ≤ 70)
     go Advertise = unfold type in (refl, omega arith)
@@ -25,15 +25,15 @@ returns c = rw (not-true c.args.all c.if-not-all.true) (go c.args.attribute)
 
 returns-2 : tie.Need-returns-in-Advertise
 unfolding type later empty_size first_length
-returns-2 c = rw (not-false c.args.all c.if-not-all.false, c.in-Advertise.is) (refl, omega arith)
+returns-2 c = rw (c.if-not-all.false, c.in-Advertise.is) (refl, omega arith)
 
 returns-3 : tie.Need-returns-in-Failed
 unfolding type later empty_size first_length
-returns-3 c = rw (not-false c.args.all c.if-not-all.false, c.in-Failed.is) (refl, omega arith)
+returns-3 c = rw (c.if-not-all.false, c.in-Failed.is) (refl, omega arith)
 
 returns-4 : tie.Need-returns-in-Listener
 unfolding type later empty_size first_length
-returns-4 c = rw (not-false c.args.all c.if-not-all.false, c.in-Listener.is) (refl, omega arith)
+returns-4 c = rw (c.if-not-all.false, c.in-Listener.is) (refl, omega arith)
 
 returns-5 : tie.Need-returns-in-Domain
 unfolding type later

@@ -74,7 +74,7 @@ gather-requires c κs =
 slice-aggregate-take-packed : tie.Need-slice_bounds-take_packed-end-2
 slice-aggregate-take-packed c =
     let a = c.args in
-    let y = c.gather.new.1.1.1.0 in
+    let y = c.gather.new.places in
     let long : length y ≡ a.run.count = omega (arith, lent c.before.before.before) in
     sym (ap length (take_at y (drop a.run.count a.places.now) a.run.count long) ∙ long)
 
@@ -82,7 +82,7 @@ take-packed-requires : tie.Need-take_packed-requires
 take-packed-requires c κs =
     let a = c.args in
     let pre = c.requires in
-    let y = c.gather.new.1.1.1.0 in
+    let y = c.gather.new.places in
     let long : length y ≡ a.run.count = omega (arith, lent c.before.before.before.before) in
     rw (take_at y (drop a.run.count a.places.now) a.run.count long)
     (record { message = pre.0; room = omega (arith, later-is c.before.before.before.before.before.before.before); any = omega (arith, long); telling = c.gather.ensures.telling })
@@ -93,7 +93,7 @@ returns-3 c =
     let b = decode a.table.now in
     let k = registers listeners in
     let l = said_from k a.p b a.run.first in
-    let y = c.gather.new.1.1.1.0 in
+    let y = c.gather.new.places in
     let long : length y ≡ a.run.count = omega (arith, lent c.before.before.before.before.before.before.before) in
     let are : listeners_at a.p a.table.now y ≡ l = c.gather.ensures.are ∙ take_all (length y) l (omega (arith, long, left_is c.before.before.before.before.before.before.before.before.before.before)) in
     let same : listeners_at a.p a.table.now (take a.run.count _) ≡ l = ap (listeners_at a.p a.table.now) (take_at y (drop a.run.count a.places.now) a.run.count long) ∙ are in

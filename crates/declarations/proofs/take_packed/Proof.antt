@@ -28,7 +28,7 @@ later-is : (c : tie.After-later_sizes-later) → c.later_sizes-later.result ≡ 
 unfolding type
 later-is c = rw (← c.leaves_all.ensures) c.later_sizes-later.ensures.0
 
-made : (c : tie.After-pack-n) → Packed (longest_pdu - (c.args.at + 8 + later (leaves_all (decode c.args.table.now) c.args.p) (registers listeners))) (ids_of c.args.table.now c.args.places.now) c.pack-n.result c.pack-n.new.firsts.1.1.0 c.pack-n.new.firsts.1.1.1.0
+made : (c : tie.After-pack-n) → Packed (longest_pdu - (c.args.at + 8 + later (leaves_all (decode c.args.table.now) c.args.p) (registers listeners))) (ids_of c.args.table.now c.args.places.now) c.pack-n.result c.pack-n.new.weighs c.pack-n.new.firsts
 made c = rw (← later-is c.before.before.before) c.pack-n.ensures.0
 
 write-none-requires : tie.Need-write_none-requires
@@ -45,7 +45,7 @@ returns c =
     none-fits (leaves_all b a.p) (registers listeners) (listeners_at a.p a.table.now a.places.now) a.at (sym n ∙ c.if-n-eq0.true) c.write_none.ensures
 
 -- the Message has room
-room : (c : tie.Else-n-eq0) → c.args.at + 8 + c.later_sizes-later.result + get_or c.pack-n.new.firsts.1.1.0 0 0 / 65 ≤ longest_pdu
+room : (c : tie.Else-n-eq0) → c.args.at + 8 + c.later_sizes-later.result + get_or c.pack-n.new.weighs 0 0 / 65 ≤ longest_pdu
 room c =
     let a = c.args in
     omega (arith, later-is c.before.before.before.before.before.before, planned-room a.table.now a.p a.places.now a.at a.buffer.now c.requires _ _ _ (made c.before.before.before))
@@ -62,7 +62,7 @@ write-listeners-requires c κs =
     let pre = c.requires in
     let b = a.buffer.now in
     let n : ℕ = c.pack-n.result in
-    let long : ℕ = 6 + get_or c.pack-n.new.firsts.1.1.0 0 0 / 65 in
+    let long : ℕ = 6 + get_or c.pack-n.new.weighs 0 0 / 65 in
     let inside : a.at + long ≤ length b = omega (arith, room c.before.before, pre.message.buffer) in
     let lent = ap length (lent-part a.at long b) ∙ length_part a.at long b inside in
     let some : 0 < n = omega arith in

@@ -34,7 +34,7 @@ write-values-requires : tie.Need-write_values-requires
 write-values-requires c κs =
     let pre = c.requires in
     let n : ℕ = length c.args.out.now - 10 in
-    let begun = c.begin_vector.new.1.1.0 in
+    let begun = c.begin_vector.new.out in
     let inside : 10 + n ≤ length begun = omega (arith, long pre) in
     record {
       telling = pre.telling;

@@ -60,14 +60,14 @@ size-of-requires c κs =
 size_is : (c : tie.After-size_of-size invariant-loop-i decreases-loop-i)
     → let a = c.args in
     let i : ℕ = c.loop-i.i in
-    c.type_size.result ≡ octets_for (values (ids_of a.table.now (take (get_or a.firsts.now i 0) (drop i a.places.now))))
+    c.size_of-size.result ≡ octets_for (values (ids_of a.table.now (take (get_or a.firsts.now i 0) (drop i a.places.now))))
 size_is c =
     let a = c.args in
     let i : ℕ = c.loop-i.i in
     let e : i + get_or a.firsts.now i 0 - i ≡ get_or a.firsts.now i 0 = omega arith in
-    rw e at c.type_size.ensures.0
+    rw e at c.size_of-size.ensures.0
 
-fits : (c : tie.After-size_of-size invariant-loop-i decreases-loop-i) → c.loop-i.at + c.type_size.result ≤ length c.loop-i.out
+fits : (c : tie.After-size_of-size invariant-loop-i decreases-loop-i) → c.loop-i.at + c.size_of-size.result ≤ length c.loop-i.out
 fits c = omega (arith, size_is c, part-fits _ _ _ c.loop-i.invariant.1 _ (part_at c.before.before))
 
 write-part-requires : tie.Need-write_part-requires invariant-loop-i decreases-loop-i
@@ -75,7 +75,7 @@ write-part-requires c κs =
     let a = c.args in
     let l = c.loop-i in
     let w = c.requires.telling in
-    let size : ℕ = c.before.before.type_size.result in
+    let size : ℕ = c.size_of-size.result in
     let f : ℕ = l.i + get_or a.firsts.now l.i 0 - l.i in
     record {
       telling = record {
@@ -84,7 +84,7 @@ write-part-requires c κs =
         each = all_take (Tells a.table.now a.p) f (drop l.i a.places.now) (all_drop (Tells a.table.now a.p) l.i a.places.now w.each);
       };
       part = shares c.before.before.before.before;
-      room = ap length (lent-part l.at size l.out) ∙ length_part l.at size l.out (fits c.before.before) ∙ c.before.before.type_size.ensures.0;
+      room = ap length (lent-part l.at size l.out) ∙ length_part l.at size l.out (fits c.before.before) ∙ c.size_of-size.ensures.0;
     }
 
 loop-again : tie.Need-loop-i-preserved invariant-loop-i decreases-loop-i
@@ -93,8 +93,8 @@ loop-again c =
     let l = c.loop-i in
     let f : ℕ = get_or a.firsts.now l.i 0 in
     let e : l.i + f - l.i ≡ f = omega arith in
-    let size : ℕ = c.before.before.before.before.before.type_size.result in
-    let y = c.write_part.new.1.1.1.0 in
+    let size : ℕ = c.size_of-size.result in
+    let y = c.write_part.new.out in
     let lent = ap length (lent-part l.at size l.out) ∙ length_part l.at size l.out (fits c.before.before.before.before.before) in
     let y-long : length y ≡ size = omega (arith, lent) in
     let written : y ≡ vector_octets (packed_vector (listeners_at a.p a.table.now (take f (drop l.i a.places.now)))) = rw e at c.write_part.ensures in

@@ -32,7 +32,7 @@ copy-offer-requires : tie.Need-copy_offer-requires
 copy-offer-requires c κs =
     let a = c.args in
     let pre = c.requires.0 in
-    let now = c.begin_vector.new.1.1.0 in
+    let now = c.begin_vector.new.out in
     let n : ℕ = size a.out.now in
     let long : length (part 10 n now) ≡ n = length_part 10 n now (omega (arith, pre.room)) in
     (pre.places, omega (arith, pre.within, ap length (lent-part 10 n now), long))
@@ -44,7 +44,7 @@ returns c =
     let pre = c.requires.0 in
     let n : ℕ = size a.out.now in
     let sent = sends_octets (sends_at (stream_at a.k (decode a.table.now)) a.p) in
-    let now = c.begin_vector.new.1.1.0 in
+    let now = c.begin_vector.new.out in
     let lent : length (take (10 + n - 10) (drop 10 now)) ≡ n = ap length (lent-part 10 n now) ∙ length_part 10 n now (omega (arith, pre.room)) in
     let enough : a.from + n ≤ length sent = omega (arith, sends-length (sends_at (stream_at a.k (decode a.table.now)) a.p), pre.within) in
     let seen = c.copy_offer.ensures ∙ ap (λ (m : ℕ). part a.from m sent) lent in

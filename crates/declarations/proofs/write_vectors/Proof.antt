@@ -71,7 +71,7 @@ loop-again-2 c =
     let some = c.loop-left-test.true in
     let q = sym c.says.ensures ∙ c.if-not-says.false in
     let size = c.vector_size-size.result in
-    let y = c.write_vector.new.1.1.1.1.0 in
+    let y = c.write_vector.new.out in
     let lent = ap length (lent-part l.at size l.out) ∙ length_part l.at size l.out (room c.before.before.before.before.before.before) in
     let long : length y ≡ size = omega (arith, lent) in
     (left-long _ _ _ _ _ l.invariant.1 some q y long ∙ l.invariant.0, left-take _ _ _ _ _ l.invariant.1 some q y long c.write_vector.ensures)
