@@ -12,8 +12,8 @@ use Rattle.admission.proofs.in_order.Tie as tie
 returns : tie.Need-returns
 returns c =
     let g = c.gather-n in
-    let few : g.result ≤ length g.new.1.1.1.0 = omega (arith, g.ensures.1) in
-    (ap (take g.result) c.sort.ensures ∙ take-sorted g.result g.new.1.1.1.0 few ∙ ap sorted g.ensures.0, g.ensures.1)
+    let few : g.result ≤ length g.new.numbers = omega (arith, g.ensures.1) in
+    (ap (take g.result) c.sort.ensures ∙ take-sorted g.result g.new.numbers few ∙ ap sorted g.ensures.0, g.ensures.1)
 
 pub in_order_spec : {M : Type 1} → statement M
 in_order_spec =

@@ -11,20 +11,20 @@ take-turns-requires : tie.Need-take_turns-used-requires
 take-turns-requires c κs =
     let pre = c.requires in
     let o = c.in_order-n in
-    let few : o.result ≤ length o.new.1.1.1.0 = omega (arith, o.ensures.1) in
-    (sorted-numbered pre.0 _ o.result o.new.1.1.1.0 o.ensures.0 few, pre.0.port)
+    let few : o.result ≤ length o.new.numbers = omega (arith, o.ensures.1) in
+    (sorted-numbered pre.0 _ o.result o.new.numbers o.ensures.0 few, pre.0.port)
 
 store-total-requires : tie.Need-store_total-requires
 store-total-requires c κs =
     let o = c.in_order-n in
     let t = c.take_turns-used.ensures in
-    after-in c.requires.0 _ o.result o.new.1.1.1.0 o.ensures.0 _ _ c.limit_in_force-limit.ensures.0 _ t.used t.table
+    after-in c.requires.0 _ o.result o.new.numbers o.ensures.0 _ _ c.limit_in_force-limit.ensures.0 _ t.used t.table
 
 returns : tie.Need-returns
 returns c =
     let o = c.in_order-n in
     let t = c.take_turns-used.ensures in
-    whole c.requires.0 _ o.result o.new.1.1.1.0 o.ensures.0 _ _ c.limit_in_force-limit.ensures.0 _ t.used t.table _ c.store_total.ensures
+    whole c.requires.0 _ o.result o.new.numbers o.ensures.0 _ _ c.limit_in_force-limit.ensures.0 _ t.used t.table _ c.store_total.ensures
 
 pub share_out_spec : {M : Type 1} → statement M
 share_out_spec =

@@ -5,25 +5,18 @@ use native.Mathlib.Omega.{arith}
 use mathlib.Core.List.{List, []}
 use mathlib.Core.Bool.{Bool}
 use lib.ListN.{length, get_or, take, drop}
-use mathlib.Core.List.{◌∷◌}
-use mathlib.Core.Logic.{⊎_elim}
-use denote.Enum.Declared.{tag_of}
-use types.Run.{OneOf}
+use mathlib.Core.Logic.{◌⊎◌, ⊎_elim}
 use Rattle.declarations.specs.declared.Attribute.{Attribute}
-use Rattle.declarations.specs.declared.Attribute.TheVariants.{Advertise, Failed, Listener, Domain}
-use Rattle.declarations.specs.contracts.Attribute.{the_type}
+use Rattle.declarations.specs.declared.Attribute.TheVariants.{Advertise, Failed, Domain}
 use Rattle.declarations.specs.Passes.{type, Single}
 use borrow.Author.Rules.{rules}
 use Rattle.declarations.proofs.take.Statement.{statement}
 use Rattle.declarations.proofs.take.Tie as tie
 
--- the types of the last arm, by their places in the enum
-single : (a : Attribute) → OneOf (0 ∷ 1 ∷ 3 ∷ []) (tag_of the_type a) → Single (type a)
+-- the types of the last arm
+single : (a : Attribute) → (a ≡ Advertise) ⊎ ((a ≡ Failed) ⊎ (a ≡ Domain)) → Single (type a)
 unfolding type
-single Advertise k = tt
-single Failed k = tt
-single Listener k = absurd (⊎_elim (λ e. omega (arith, e)) (⊎_elim (λ e. omega (arith, e)) (λ e. omega (arith, e))) k)
-single Domain k = tt
+single a = ⊎_elim (λ (e : a ≡ Advertise). rw e tt) (⊎_elim (λ (e : a ≡ Failed). rw e tt) (λ (e : a ≡ Domain). rw e tt))
 
 take-listeners-requires : tie.Need-take_listeners-requires
 unfolding type

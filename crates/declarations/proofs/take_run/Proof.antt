@@ -18,8 +18,8 @@ use Rattle.declarations.proofs.take_run.Statement.{statement}
 use Rattle.declarations.proofs.take_run.Tie as tie
 
 -- the number that fits
-number_is : (c : tie.After-fits2) → c.fits2.result ≡ fits (c.args.at + 8 + later (leaves_all (decode c.args.table.now) c.args.p) (type c.args.run.attribute)) c.vector_size-size.result c.args.run.count
-number_is c = rw (← c.leaves_all.ensures, ← c.later_sizes-later.ensures.0) c.fits2.ensures
+number_is : (c : tie.After-fits-n) → c.fits-n.result ≡ fits (c.args.at + 8 + later (leaves_all (decode c.args.table.now) c.args.p) (type c.args.run.attribute)) c.vector_size-size.result c.args.run.count
+number_is c = rw (← c.leaves_all.ensures, ← c.later_sizes-later.ensures.0) c.fits-n.ensures
 
 returns : tie.Need-returns-then-n-eq0
 returns c =
@@ -32,23 +32,23 @@ returns c =
     none-fits (leaves_all b a.p) k l a.at (sym n ∙ c.if-n-eq0.true) c.write_none.ensures
 
 -- where some fit, the Message does
-room : (c : tie.Else-n-eq0) → c.args.at + 8 + c.later_sizes-later.result + c.before.fits2.result * c.vector_size-size.result ≤ longest_pdu
+room : (c : tie.Else-n-eq0) → c.args.at + 8 + c.later_sizes-later.result + c.fits-n.result * c.vector_size-size.result ≤ longest_pdu
 room c =
     let a = c.args in
     let size = c.vector_size-size.result in
-    let e = c.before.fits2.ensures in
+    let e = c.fits-n.ensures in
     let some : 0 < fits (a.at + 8 + c.later_sizes-later.result) size a.run.count = omega (arith, e) in
     rw (← e) at (fits-room (a.at + 8 + c.later_sizes-later.result) size a.run.count some)
 
-few : (c : tie.Else-n-eq0) → c.before.fits2.result ≤ c.args.run.count
-few c = let a = c.args in rw (← c.before.fits2.ensures) at (fits-within (a.at + 8 + c.later_sizes-later.result) c.vector_size-size.result a.run.count)
+few : (c : tie.Else-n-eq0) → c.fits-n.result ≤ c.args.run.count
+few c = let a = c.args in rw (← c.fits-n.ensures) at (fits-within (a.at + 8 + c.later_sizes-later.result) c.vector_size-size.result a.run.count)
 
 write-message-requires : tie.Need-write_message-requires
 write-message-requires c κs =
     let start = c.before.before.before.before.before.before.before.before in
     let b = start.args.buffer.now in
     let at = start.args.at in
-    let n = c.before.before.fits2.result in
+    let n = c.fits-n.result in
     let size = c.vector_size-size in
     let long : ℕ = 6 + n * size.result in
     let fits_in : at + long ≤ length b = omega (arith, room c.before, start.requires.0.buffer) in

@@ -38,7 +38,7 @@ loop-again c =
     let s = c.before.before.before.before.before.before.before in
     let a = s.args in
     let call = c.move_domain-so_far in
-    let z : length call.new.0 ≡ length l.table = search rules in
+    let z : length call.new.table ≡ length l.table = search rules in
     next-moved a.span a.from a.p a.table.now s.requires.port _ _ _ l.invariant c.loop-slot-test.true _ _ z call.ensures
 
 returns : tie.Need-returns invariant-loop-slot decreases-loop-slot

@@ -51,7 +51,7 @@ loop-again c =
     let s = c.before.before.before.before.before.before.before.before in
     let a = s.args in
     let call = c.move_stream-so_far in
-    let z : length call.new.0 ≡ length l.table = search rules in
+    let z : length call.new.table ≡ length l.table = search rules in
     next-moved a.span (kind_at a.kind) a.p a.from a.table.now s.requires.port.laid _ _ _ _ l.invariant
     c.loop-k-test.true _ _ z call.ensures
 
