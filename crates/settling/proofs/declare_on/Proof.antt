@@ -7,16 +7,16 @@ use Rattle.settling.proofs.Declared.{told-there, left-steady}
 use Rattle.settling.proofs.declare_on.Statement.{statement}
 use Rattle.settling.proofs.declare_on.Tie as tie
 
-returns : tie.Need-returns
+returns : tie.Need-returns-then-stays
 returns c =
-    let first = c.before.before.before.before.before.before.before in
+    let first = c.before.before.before.before.before.before in
     let x = stream_at first.args.k (decode first.args.table.now) in
     let r = result_at x first.args.p in
-    left-steady first.requires (declare_sends x.settled r) c.before.before.before.before.sends-at.ensures
-    (c.before.stays.ensures c.if1.true x.settled r (told-there first.requires c.before.before.before.settled_at.ensures c.before.before.result-at.ensures))
+    left-steady first.requires (declare_sends x.settled r) c.sends_at-sends.ensures
+    (c.stays.ensures c.if-stays.true x.settled r (told-there first.requires c.settled_at-settled.ensures c.result_at-result.ensures))
 
-pub declare-on-spec : {M : Type 1} → statement M
-declare-on-spec =
+pub declare_on_spec : {M : Type 1} → statement M
+declare_on_spec =
     tie.close
     (tie.spec (λ c κs. search rules) (λ c κs. search rules) (λ c κs. search rules) (λ c κs. search rules) (λ c. search rules) returns (λ c κs. search rules)
     (λ c. search rules) (λ c. search rules))

@@ -10,13 +10,13 @@ expire-requires : tie.Need-expire-requires
 expire-requires c κs =
     let asked = c.before.before.before.before.before.before in
     let st = leaving asked.args.leave in
-    first-laid st asked.args.time asked.args.own.now asked.requires.0 _ (c.before.before.before.expire-all.ensures st refl)
+    first-laid st asked.args.time asked.args.own.now asked.requires.0 _ (c.expire_all.ensures st refl)
 
 returns : tie.Need-returns
 returns c st e =
     let asked = c.before.before.before.before.before.before.before.before.before in
-    both-expired st asked.args.time asked.args.own.now asked.requires.0 _ (c.before.before.before.before.before.before.expire-all.ensures st e) _
-    (c.before.before.expire.ensures st e)
+    both-expired st asked.args.time asked.args.own.now asked.requires.0 _ (c.expire_all.ensures st e) _
+    (c.expire.ensures st e)
 
-pub expire-held-spec : {M : Type 1} → statement M
-expire-held-spec = tie.close (tie.spec (λ c κs. search rules) expire-requires (λ c. search rules) returns)
+pub expire_held_spec : {M : Type 1} → statement M
+expire_held_spec = tie.close (tie.spec (λ c κs. search rules) expire-requires (λ c. search rules) returns)

@@ -7,21 +7,21 @@ use Rattle.settling.specs.Removed.{expired_own}
 use Rattle.settling.proofs.expire_own.Statement.{statement}
 use Rattle.settling.proofs.expire_own.Tie as tie
 
-own-in-requires : tie.Need-own-in-requires
-own-in-requires c κs = c.before.before.requires.0
+own-in-requires : tie.Need-own_in-a-requires
+own-in-requires c κs = c.requires.0
 
-expire-held-requires : tie.Need-expire-held-requires
+expire-held-requires : tie.Need-expire_held-requires
 expire-held-requires c κs =
-    let r = lent-own-at c.before.before.before.before.requires.0 _ c.before.own_in.ensures.0 in
+    let r = lent-own-at c.requires.0 _ c.own_in-a.ensures.0 in
     (r.laid, r.size)
 
 returns : tie.Need-returns
 returns c =
-    let first = c.before.before.before.before.before.before.before in
-    left-own-at first.requires.0 _ c.before.before.before.before.own_in.ensures.0 (expired_own (decode first.args.table.now).settings first.args.time) _
-    (c.before.before.expire-held.ensures (decode first.args.table.now).settings (sym first.requires.1))
+    let first = c.before.before.before.before.before.before in
+    left-own-at first.requires.0 _ c.own_in-a.ensures.0 (expired_own (decode first.args.table.now).settings first.args.time) _
+    (c.expire_held.ensures (decode first.args.table.now).settings (sym first.requires.1))
 
-pub expire-own-spec : {M : Type 1} → statement M
-expire-own-spec =
+pub expire_own_spec : {M : Type 1} → statement M
+expire_own_spec =
     tie.close
     (tie.spec own-in-requires (λ c. search rules) (λ c. search rules) (λ c. search rules) (λ c. search rules) expire-held-requires (λ c. search rules) returns)

@@ -15,10 +15,10 @@ returns c =
     let first = c.before.before.before.before.before.before.before.before.before.before.before.before.before in
     let x = stream_at first.args.k (decode first.args.table.now) in
     offered-put x.settled (result_at x first.args.p) first.args.values.now _ _ first.requires.1
-    (c.before.before.before.before.before.before.before.before.copy.ensures ∙ c.before.before.before.before.before.before.before.before.before.before.settled_at.ensures.laid) (c.before.before.copy2.ensures ∙ ap (part 1 13) (result-is c.before.before.before.before.before.result-at.ensures))
+    (c.copy.ensures ∙ c.settled_at-settled.ensures.laid) (c.copy-2.ensures ∙ ap (part 1 13) (result-is c.result_at-result.ensures))
 
-pub offer-spec : {M : Type 1} → statement M
-offer-spec =
+pub offer_spec : {M : Type 1} → statement M
+offer_spec =
     tie.close
     (tie.spec (λ c κs. search rules) (λ c. search rules) (λ c. search rules) (λ c. search rules) (λ c κs. search rules) (λ c κs. search rules) (λ c. search rules)
     (λ c. search rules) (λ c. search rules) (λ c. search rules) (λ c. search rules) (λ c. search rules) (λ c κs. search rules) (λ c. search rules) returns)

@@ -6,7 +6,7 @@ use Rattle.settling.proofs.set_listener.Statement.{statement}
 use Rattle.settling.proofs.set_listener.Tie as tie
 
 returns : tie.Need-returns
-returns c = λ d e. c.before.before.put.ensures ∙ declaring-octets _ c.before.before.before.before.before.requires.0 _ d e
+returns c = λ d e. c.put.ensures ∙ declaring-octets _ c.requires.0 _ d e
 
-pub set-listener-spec : {M : Type 1} → statement M
-set-listener-spec = tie.close (tie.spec (λ c κs. search rules) (λ c. search rules) returns)
+pub set_listener_spec : {M : Type 1} → statement M
+set_listener_spec = tie.close (tie.spec (λ c κs. search rules) (λ c. search rules) returns)

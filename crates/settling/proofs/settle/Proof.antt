@@ -9,16 +9,16 @@ send-requires : tie.Need-send-requires
 send-requires c κs =
     let first = c.before.before.before.before.before.before in
     let small : first.args.time < 2 ^ 32 = search rules in
-    let e = c.before.before.before.decide.ensures in
+    let e = c.decide.ensures in
     (decided-laid _ first.requires first.args.time small _ e, decided-clock _ first.requires first.args.time small _ e)
 
 returns : tie.Need-returns
 returns c =
     let first = c.before.before.before.before.before.before.before.before.before in
     let small : first.args.time < 2 ^ 32 = search rules in
-    settled-octets _ first.requires first.args.time small _ c.before.before.before.before.before.before.decide.ensures _ c.before.before.send.ensures
+    settled-octets _ first.requires first.args.time small _ c.decide.ensures _ c.send.ensures
 
-pub settle-spec : {M : Type 1} → statement M
-settle-spec =
+pub settle_spec : {M : Type 1} → statement M
+settle_spec =
     tie.close
     (tie.spec (λ c κs. search rules) send-requires (λ c. search rules) returns)

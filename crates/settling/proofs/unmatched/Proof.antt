@@ -12,36 +12,36 @@ use Rattle.settling.proofs.unmatched.Tie as tie
 
 unmatched-requires : tie.Need-unmatched-requires
 unmatched-requires c κs =
-    let r = c.before.before.before.own-at.ensures in
+    let r = c.own_at-own.ensures in
     record { laid = r.laid; size = r.size; within = omega arith }
 
-unmatched-requires-2 : tie.Need-unmatched-requires-2
+unmatched-requires-2 : tie.Need-unmatched-requires-in-B
 unmatched-requires-2 c κs =
-    let r = c.before.before.before.own-at.ensures in
+    let r = c.own_at-own.ensures in
     record { laid = r.laid; size = r.size; within = omega arith }
 
-returns : tie.Need-returns
+returns : tie.Need-returns-in-NoClass
 unfolding class_shown domains_of any_domain
-returns c = rw c.enum_told.given.1
+returns c = rw c.in-NoClass.is
 
-returns-2 : tie.Need-returns-2
+returns-2 : tie.Need-returns-in-A
 unfolding class_shown class_priority
 returns-2 c =
-    let first = c.before.before.before.before.before.before in
+    let first = c.before.before.before.before.before in
     let ds = (own_at (decode first.args.table.now).owns first.args.p).domains in
-    rw (c.before.before.enum-told2.given.1, ← (a-from ds (own-fits first.requires).slotted), ← c.before.before.before.before.own-at.ensures.is, ← c.before.priority-a.ensures)
+    rw (c.in-A.is, ← (a-from ds (own-fits first.requires).slotted), ← c.own_at-own.ensures.is, ← c.priority_a.ensures)
     c.unmatched.ensures
 
-returns-3 : tie.Need-returns-3
+returns-3 : tie.Need-returns-in-B
 unfolding class_shown class_priority
 returns-3 c =
-    let first = c.before.before.before.before.before.before in
+    let first = c.before.before.before.before.before in
     let ds = (own_at (decode first.args.table.now).owns first.args.p).domains in
-    rw (c.before.before.enum-told3.given.1, ← (b-from ds), ← c.before.before.before.before.own-at.ensures.is, ← c.before.priority-b.ensures)
-    c.unmatched2.ensures
+    rw (c.in-B.is, ← (b-from ds), ← c.own_at-own.ensures.is, ← c.priority_b.ensures)
+    c.unmatched-in-B.ensures
 
-pub unmatched-spec : {M : Type 1} → statement M
-unmatched-spec =
+pub unmatched_spec : {M : Type 1} → statement M
+unmatched_spec =
     tie.close
-    (tie.spec (λ c κs. search rules) (λ c. search rules) (λ c. search rules) (λ c κs. c.before.before.before.before.requires.laid) unmatched-requires (λ c. search rules)
-    (λ c κs. c.before.before.before.before.requires.laid) unmatched-requires-2 returns returns-2 returns-3)
+    (tie.spec (λ c κs. search rules) (λ c. search rules) (λ c. search rules) (λ c κs. c.requires.laid) unmatched-requires (λ c. search rules)
+    (λ c κs. c.requires.laid) unmatched-requires-2 returns returns-2 returns-3)
