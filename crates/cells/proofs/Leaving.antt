@@ -39,6 +39,9 @@ module _ (at clock : ℕ) (s : List ℕ) where
   unfolding begun pick
   begun-before p = rw (ne_eqb (get_or s at 0) 0 p)
 
+-- for the search at `begin`, whose goals are named after the test that an edit changes
+pub ruleset begun_ways = (begun-now, begun-before)
+
 -- Numbers in fields, a mark of one octet at field i and a time of four behind it.
 
 module _ (ws vs : List ℕ) (fit : Fit ws vs) (i at : ℕ) (place : width (take i ws) ≡ at) (mark : get_or ws i 0 ≡ 1) (time : get_or ws (suc i) 0 ≡ 4)

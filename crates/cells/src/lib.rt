@@ -29,6 +29,7 @@ const FIRST_BRIDGE_ID: usize = 25;
 const FIRST_CODE: usize = 33;
 
 // Begins leaving at the clock, unless it was begun: the mark at a place, and the time behind it.
+#[tactic(auto, using(crate::proofs::Leaving::begun_ways))]
 pub fn begin(cell: &mut [u8], at: usize, clock: u32)
     requires { at + leaving_size ≤ length cell.old }
     ensures { cell.new ≡ begun at clock cell.old }

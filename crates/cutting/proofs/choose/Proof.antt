@@ -89,13 +89,8 @@ tried c =
     sym (seek-next (ids_of a.table.now a.places.now) a.at l.k _ _ h c.id_of-x.ensures c.id_of-y.ensures l.w l.f _ _
     c.if-y-x.false (c.requires.3 (a.at + l.k + 1) (omega arith) (omega (arith, h))) c.price_of.ensures.0) ∙ l.invariant.3
 
-loop-again : tie.Need-loop-k-preserved-then-p-w invariant-loop-k decreases-loop-k
+loop-again : tie.Need-loop-k-preserved invariant-loop-k decreases-loop-k
 loop-again c =
-    let low : next c.before ≤ c.loop-k.w = omega arith in
-    (omega arith, omega arith, omega (arith, small c.before), rw (lower-takes _ _ _ _ low) at (tried c.before))
-
-loop-again-2 : tie.Need-loop-k-preserved invariant-loop-k decreases-loop-k
-loop-again-2 c =
     let high : c.loop-k.w < next c.before = omega arith in
     (omega arith, omega arith, omega arith, rw (lower-keeps _ _ _ _ high) at (tried c.before))
 
@@ -105,10 +100,13 @@ returns-2 c =
     let l = c.loop-k in
     sym (seek-ends (ids_of a.table.now a.places.now) a.at l.k _ (omega (arith, ids-length a.table.now a.places.now))) ∙ l.invariant.3
 
+-- to go on with what is tried stands here and not by its name, which has the words of the test that an edit changes
 pub choose_spec : {M : Type 1} → statement M
 choose_spec =
     tie.close
     (tie.spec invariant-loop-k decreases-loop-k (λ c κs. search rules) (λ c. search rules) (λ c. search rules) (λ c. search rules)
     cast-w add-w-2 loop-holds (λ c. search rules) (λ c. search rules) (λ c κs. search rules) returns (λ c. omega (arith, behind c))
     (λ c. omega (arith, behind c)) (λ c κs. omega (arith, behind c)) (λ c. search rules) (λ c. search rules) (λ c. search rules) (λ c. search rules)
-    (λ c. omega (arith, small c)) (λ c. omega (arith, small c)) (λ c. search rules) (λ c. search rules) loop-again (λ c. search rules) loop-again-2 returns-2)
+    (λ c. omega (arith, small c)) (λ c. omega (arith, small c)) (λ c. search rules) (λ c. search rules)
+    (λ c. let low : next c.before ≤ c.loop-k.w = omega arith in (omega arith, omega arith, omega (arith, small c.before), rw (lower-takes _ _ _ _ low) at (tried c.before)))
+    (λ c. search rules) loop-again returns-2)

@@ -18,16 +18,15 @@ decreases-loop-i events i₀ i = length events - i
 loop-holds : tie.Need-loop-i-init invariant-loop-i decreases-loop-i
 loop-holds c = (omega arith, refl)
 
-returns : tie.Need-returns-then-events-i-gt215 invariant-loop-i decreases-loop-i
-returns c = sym (over-here _ _ c.loop-i-test.true (omega arith)) ∙ c.loop-i.invariant.1
-
 loop-again : tie.Need-loop-i-preserved invariant-loop-i decreases-loop-i
 loop-again c = (omega arith, sym (over-next _ _ c.loop-i-test.true (omega arith)) ∙ c.loop-i.invariant.1)
 
-returns-2 : tie.Need-returns invariant-loop-i decreases-loop-i
-returns-2 c = sym (over_none _ _ c.loop-i-test.false) ∙ c.loop-i.invariant.1
+returns : tie.Need-returns invariant-loop-i decreases-loop-i
+returns c = sym (over_none _ _ c.loop-i-test.false) ∙ c.loop-i.invariant.1
 
+-- what holds where the loop returns stands here and not by its name, which has the words of the test that an edit changes
 pub any_overpacked_spec : {M : Type 1} → statement M
 any_overpacked_spec =
     tie.close
-    (tie.spec invariant-loop-i decreases-loop-i loop-holds (λ c. search rules) returns (λ c. search rules) (λ c. search rules) loop-again returns-2)
+    (tie.spec invariant-loop-i decreases-loop-i loop-holds (λ c. search rules)
+    (λ c. sym (over-here _ _ c.loop-i-test.true (omega arith)) ∙ c.loop-i.invariant.1) (λ c. search rules) (λ c. search rules) loop-again returns)
