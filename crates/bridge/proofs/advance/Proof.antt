@@ -10,32 +10,32 @@ use Rattle.bridge.proofs.OnTables.{answers, advance-unformed, advance-early, adv
 use Rattle.bridge.proofs.advance.Statement.{statement}
 use Rattle.bridge.proofs.advance.Tie as tie
 
-clock-requires : tie.Need-clock-requires
+clock-requires : tie.Need-clock-clock-requires
 clock-requires c κs =
-    let t = c.before.before.before.before.before.args.table.now in
-    formed-laid t (octets-of t (λ i. omega (arith, c.before.before.before.before.slice-known.given i))) (sym c.before.before.is-formed.ensures ∙ c.before.if1.true)
+    let t = c.args.table.now in
+    formed-laid t (octets-of t (λ i. omega (arith, c.slice_known-1.given i))) (sym c.is_formed-formed.ensures ∙ c.if-formed.true)
 
-returns : tie.Need-returns
+returns : tie.Need-returns-then-time-clock
 returns c =
-    let f = sym c.before.before.before.before.is-formed.ensures ∙ c.before.before.before.if1.true in
-    answers _ _ _ (advance-early _ _ f (rw c.before.clock.ensures at c.if2.true))
+    let f = sym c.is_formed-formed.ensures ∙ c.if-formed.true in
+    answers _ _ _ (advance-early _ _ f (rw c.clock-clock.ensures at c.if-time-clock.true))
 
 settle-requires : tie.Need-settle-requires
 settle-requires c κs =
-    let t = c.before.before.before.before.before.before.before.before.args.table.now in
-    formed-laid t (octets-of t (λ i. omega (arith, c.before.before.before.before.before.before.before.slice-known.given i))) (sym c.before.before.before.before.before.is-formed.ensures ∙ c.before.before.before.before.if1.true)
+    let t = c.args.table.now in
+    formed-laid t (octets-of t (λ i. omega (arith, c.slice_known-1.given i))) (sym c.is_formed-formed.ensures ∙ c.if-formed.true)
 
-returns-2 : tie.Need-returns-2
+returns-2 : tie.Need-returns-then-formed
 returns-2 c =
-    let f = sym c.before.before.before.before.before.before.before.before.is-formed.ensures ∙ c.before.before.before.before.before.before.before.if1.true in
-    let e = advance-settles _ _ f (rw c.before.before.before.before.before.clock.ensures at c.before.before.before.before.if2.false) in
-    answers _ _ _ (e ∙ ap (λ (u : List ℕ). record { number = 0; table = u }) (sym c.before.before.settle.ensures))
+    let f = sym c.is_formed-formed.ensures ∙ c.if-formed.true in
+    let e = advance-settles _ _ f (rw c.clock-clock.ensures at c.if-time-clock.false) in
+    answers _ _ _ (e ∙ ap (λ (u : List ℕ). record { number = 0; table = u }) (sym c.settle.ensures))
 
-returns-3 : tie.Need-returns-3
-returns-3 c = answers _ _ _ (advance-unformed _ _ (sym c.before.is-formed.ensures ∙ c.if1.false))
+returns-3 : tie.Need-returns
+returns-3 c = answers _ _ _ (advance-unformed _ _ (sym c.is_formed-formed.ensures ∙ c.if-formed.false))
 
-pub advance-spec : {M : Type 1} → statement M
-advance-spec =
+pub advance_spec : {M : Type 1} → statement M
+advance_spec =
     tie.close
     (tie.spec (λ c κs. search rules) clock-requires (λ c. search rules) returns settle-requires (λ c. search rules) returns-2 (λ c. search rules)
     returns-3)

@@ -11,31 +11,31 @@ use Rattle.bridge.proofs.Joining.{none-joined, one-joined}
 use Rattle.bridge.proofs.join_class.Statement.{statement}
 use Rattle.bridge.proofs.join_class.Tie as tie
 
-join-slot-requires : tie.Need-join-slot-requires
+join-slot-requires : tie.Need-join_slot-requires
 join-slot-requires c κs =
-    let first = c.before.before.before.before.before.before.before.before in
-    let r = lent-sender-at first.requires.0 _ c.before.sender-in.ensures.0 in
+    let first = c.before.before.before.before.before.before in
+    let r = lent-sender-at first.requires.0 _ c.sender_in-a.ensures.0 in
     (r.laid, r.size, first.requires.1)
 
-returns : tie.Need-returns
+returns : tie.Need-returns-then-supports
 returns c =
-    let first = c.before.before.before.before.before.before.before.before.before.before.before in
+    let first = c.before.before.before.before.before.before.before.before.before in
     let k = class_shown first.args.class in
     let e : supports (port_at (decode first.args.table.now).settings first.args.p) k ≡ true =
-    sym (ap (λ (q : Port). supports q k) c.before.before.before.before.before.before.before.before.port-at.ensures.is) ∙ sym c.before.before.before.before.before.before.before.supports.ensures ∙ c.before.before.before.before.before.before.if1.true in
+    sym (ap (λ (q : Port). supports q k) c.port_at.ensures.is) ∙ sym c.supports.ensures ∙ c.if-supports.true in
     one-joined first.requires.0 first.args.slot _ e _
-    (left-sender-at first.requires.0 _ c.before.before.before.before.sender-in.ensures.0 (joined_slot first.args.slot) _ c.before.before.join_slot.ensures)
+    (left-sender-at first.requires.0 _ c.sender_in-a.ensures.0 (joined_slot first.args.slot) _ c.join_slot.ensures)
 
-returns-2 : tie.Need-returns-2
+returns-2 : tie.Need-returns-else-supports
 returns-2 c =
-    let first = c.before.before.before.before.before in
+    let first = c.before.before.before.before in
     let k = class_shown first.args.class in
     let e : supports (port_at (decode first.args.table.now).settings first.args.p) k ≡ false =
-    sym (ap (λ (q : Port). supports q k) c.before.before.port-at.ensures.is) ∙ sym c.before.supports.ensures ∙ c.if1.false in
+    sym (ap (λ (q : Port). supports q k) c.port_at.ensures.is) ∙ sym c.supports.ensures ∙ c.if-supports.false in
     none-joined first.requires.0 first.args.slot _ e
 
-pub join-class-spec : {M : Type 1} → statement M
-join-class-spec =
+pub join_class_spec : {M : Type 1} → statement M
+join_class_spec =
     tie.close
     (tie.spec (λ c κs. search rules) (λ c κs. search rules) (λ c κs. search rules) (λ c. search rules) (λ c. search rules) (λ c. search rules) (λ c. search rules)
     join-slot-requires (λ c. search rules) returns (λ c. search rules) returns-2)

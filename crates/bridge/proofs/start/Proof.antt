@@ -17,49 +17,49 @@ use Rattle.bridge.proofs.Starting.{start-wrong-table, start-wrong-settings, star
 use Rattle.bridge.proofs.start.Statement.{statement}
 use Rattle.bridge.proofs.start.Tie as tie
 
-returns : tie.Need-returns
+returns : tie.Need-returns-then-table-ne-TABLE
 returns c =
-    let e = start-wrong-table _ c.before.before.before.args.settings.now c.if1.true in
+    let e = start-wrong-table _ c.args.settings.now c.if-table-ne-TABLE.true in
     (ap (λ (a : Call). a.number) (sym e), ap (λ (a : Call). a.table) (sym e))
 
-part-copy-end : tie.Need-slice-bounds-copy-end
+part-copy-end : tie.Need-slice_bounds-copy-end
 part-copy-end c =
-    let f = sym c.before.before.before.before.before.settings-formed.ensures ∙ c.before.before.before.before.if2.true in
+    let f = sym c.settings_formed-formed.ensures ∙ c.if-formed.true in
     let h = settings-short _ f in
     omega (arith, h)
 
 -- the settings are well formed octets, and stand in front of zeros
-octets : (c : tie.After-join-all-arg) → Octets c.before.before.before.before.before.before.before.before.before.before.before.before.before.before.args.settings.now
-octets c = octets-of c.before.before.before.before.before.before.before.before.before.before.before.before.before.before.args.settings.now (λ i. omega (arith, c.before.before.before.before.before.before.before.before.before.before.before.before.shared-slice-known.given i))
+octets : (c : tie.After-join_all-arg-1) → Octets c.args.settings.now
+octets c = octets-of c.args.settings.now (λ i. omega (arith, c.shared_slice_known-1.given i))
 
-well-formed : (c : tie.After-join-all-arg) → settings_formed c.before.before.before.before.before.before.before.before.before.before.before.before.before.before.args.settings.now ≡ true
-well-formed c = sym c.before.before.before.before.before.before.before.before.before.before.settings-formed.ensures ∙ c.before.before.before.before.before.before.before.before.before.if2.true
+well-formed : (c : tie.After-join_all-arg-1) → settings_formed c.args.settings.now ≡ true
+well-formed c = sym c.settings_formed-formed.ensures ∙ c.if-formed.true
 
-put : (c : tie.After-join-all-arg) → let s = c.before.before.before.before.before.before.before.before.before.before.before.before.before.before.args.settings.now in
-    c.before.before.before.copy.new.1.0 ++ drop (length s - 0) (drop 0 c.before.before.before.before.before.before.before.clear.new.0) ≡ s ++ zeros (table_length - length s)
+put : (c : tie.After-join_all-arg-1) → let s = c.args.settings.now in
+    c.copy.new.to ++ drop (length s - 0) (drop 0 c.clear.new.s) ≡ s ++ zeros (table_length - length s)
 put c =
-    let s = c.before.before.before.before.before.before.before.before.before.before.before.before.before.before.args.settings.now in
-    let t = c.before.before.before.before.before.before.before.before.before.before.before.before.before.before.args.table.now in
-    let z = c.before.before.before.before.before.before.before.clear.new.0 in
-    let h : length t ≡ table_length = c.before.before.before.before.before.before.before.before.before.before.before.if1.false in
+    let s = c.args.settings.now in
+    let t = c.args.table.now in
+    let z = c.clear.new.s in
+    let h : length t ≡ table_length = c.if-table-ne-TABLE.false in
     let short : length s ≤ table_length = omega (arith, settings-short s (well-formed c)) in
-    ap (λ (x : List ℕ). x ++ drop (length s - 0) (drop 0 z)) c.before.before.before.copy.ensures ∙ settings-put table_length s t z h short c.before.before.before.before.before.before.before.clear.ensures
+    ap (λ (x : List ℕ). x ++ drop (length s - 0) (drop 0 z)) c.copy.ensures ∙ settings-put table_length s t z h short c.clear.ensures
 
-join-all-requires : tie.Need-join-all-requires
+join-all-requires : tie.Need-join_all-requires
 join-all-requires c κs = undeclared-laid _ (octets c) (well-formed c) _ (put c)
 
-returns-2 : tie.Need-returns-2
+returns-2 : tie.Need-returns-then-formed
 returns-2 c =
     let d = c.before.before.before in
-    let e = start-accepted c.before.before.before.before.before.before.before.before.before.before.before.before.before.before.before.before.before.args.table.now c.before.before.before.before.before.before.before.before.before.before.before.before.before.before.before.before.before.args.settings.now c.before.before.before.before.before.before.before.before.before.before.before.before.before.before.if1.false (well-formed d) in (
+    let e = start-accepted c.args.table.now c.args.settings.now c.if-table-ne-TABLE.false (well-formed d) in (
       ap (λ (a : Call). a.number) (sym e),
-      c.before.before.join-all.ensures ∙ declared-started _ (octets d) (well-formed d) _ (put d) ∙ ap (λ (a : Call). a.table) (sym e),
+      c.join_all.ensures ∙ declared-started _ (octets d) (well-formed d) _ (put d) ∙ ap (λ (a : Call). a.table) (sym e),
     )
 
-returns-3 : tie.Need-returns-3
+returns-3 : tie.Need-returns
 returns-3 c =
-    let f = sym c.before.settings-formed.ensures ∙ c.if2.false in
-    let e = start-wrong-settings _ _ c.before.before.if1.false f in
+    let f = sym c.settings_formed-formed.ensures ∙ c.if-formed.false in
+    let e = start-wrong-settings _ _ c.if-table-ne-TABLE.false f in
     (ap (λ (a : Call). a.number) (sym e), ap (λ (a : Call). a.table) (sym e))
 
 pub start_spec : {M : Type 1} → statement M

@@ -11,50 +11,50 @@ use Rattle.bridge.proofs.write.Statement.{statement}
 use Rattle.bridge.proofs.write.Tie as tie
 
 -- nothing is refused before the buffer
-passed : (c : tie.Else1) → let a = c.before.before.before.before.before.args in Passed a.table.now a.port
+passed : (c : tie.Else-refused-ne-ACCEPTED) → let a = c.args in Passed a.table.now a.port
 passed c =
-    let a = c.before.before.before.before.before.args in
-    port-passed a.table.now a.port _ c.before.port-refusal.ensures c.if1.false (octets-of a.table.now (λ i. omega (arith, c.before.before.before.before.slice-known.given i)))
+    let a = c.args in
+    port-passed a.table.now a.port _ c.port_refusal-refused.ensures c.if-refused-ne-ACCEPTED.false (octets-of a.table.now (λ i. omega (arith, c.slice_known-1.given i)))
 
-long-enough : (c : tie.Else2) → longest_pdu ≤ length c.before.before.before.before.before.before.args.buffer.now
-long-enough c = omega (arith, c.if2.false)
+long-enough : (c : tie.Else-buffer-lt-LONGEST) → longest_pdu ≤ length c.args.buffer.now
+long-enough c = omega (arith, c.if-buffer-lt-LONGEST.false)
 
-returns : tie.Need-returns
-returns c = refused _ _ _ _ _ _ _ _ c.refused-write.ensures (write-refused _ _ _ _ _ c.before.before.port-refusal.ensures c.before.if1.true)
+returns : tie.Need-returns-then-refused-ne-ACCEPTED
+returns c = refused _ _ _ _ _ _ _ _ c.refused_write.ensures (write-refused _ _ _ _ _ c.port_refusal-refused.ensures c.if-refused-ne-ACCEPTED.true)
 
-returns-2 : tie.Need-returns-2
+returns-2 : tie.Need-returns-then-buffer-lt-LONGEST
 returns-2 c =
     let v = passed c.before.before in
-    let short : length c.before.before.before.before.before.before.before.args.buffer.now < longest_pdu = omega (arith, c.before.if2.true) in
-    refused _ _ _ _ 10 _ _ _ c.refused-write2.ensures (write-short _ _ _ _ v.formed v.port short)
+    let short : length c.args.buffer.now < longest_pdu = omega (arith, c.if-buffer-lt-LONGEST.true) in
+    refused _ _ _ _ 10 _ _ _ c.refused_write-then-buffer-lt-LONGEST.ensures (write-short _ _ _ _ v.formed v.port short)
 
-sub-p : tie.Need-overflow-sub-p
+sub-p : tie.Need-overflow_sub-p
 sub-p c = omega (arith, port-some _ _ (passed c.before).port)
 
-count-requires : tie.Need-count-declarations-requires
-count-requires c κs = port-in _ _ (passed c.before.before)
+count-requires : tie.Need-count_declarations-count-requires
+count-requires c κs = port-in _ _ (passed c.before)
 
-returns-3 : tie.Need-returns-3
+returns-3 : tie.Need-returns-then-count-from
 returns-3 c =
-    let v = passed c.before.before.before.before.before in
-    refused _ _ _ _ 13 _ _ _ c.refused-write3.ensures
-    (write-above _ _ _ _ v.formed v.port (long-enough c.before.before.before.before) (rw c.before.before.count-declarations.ensures.0 at c.before.if3.true))
+    let v = passed c.before.before.before.before in
+    refused _ _ _ _ 13 _ _ _ c.refused_write-then-count-from.ensures
+    (write-above _ _ _ _ v.formed v.port (long-enough c.before.before.before) (rw c.count_declarations-count.ensures.0 at c.if-count-from.true))
 
-write-pdu-requires : tie.Need-write-pdu-requires
+write-pdu-requires : tie.Need-write_pdu-pdu-requires
 write-pdu-requires c κs = record {
-  port = port-in _ _ (passed c.before.before.before.before.before.before);
-  within = omega (arith, c.before.before.before.count-declarations.ensures.1, c.before.before.if3.false);
-  buffer = long-enough c.before.before.before.before.before;
+  port = port-in _ _ (passed c.before.before.before.before);
+  within = omega (arith, c.count_declarations-count.ensures.1, c.if-count-from.false);
+  buffer = long-enough c.before.before.before;
 }
 
-move-list-requires : tie.Need-move-list-requires
-move-list-requires c κs = port-in _ _ (passed c.before.before.before.before.before.before.before.before.before.before)
+move-list-requires : tie.Need-move_list-next-requires
+move-list-requires c κs = port-in _ _ (passed c.before.before.before.before.before.before.before.before)
 
-returns-4 : tie.Need-returns-4
+returns-4 : tie.Need-returns
 returns-4 c =
-    let v = passed c.before.before.before.before.before.before.before.before.before.before.before.before.before in
-    write_done _ _ _ _ v.formed v.port (long-enough c.before.before.before.before.before.before.before.before.before.before.before.before) v.octets
-    (rw c.before.before.before.before.before.before.before.before.before.before.count-declarations.ensures.0 at c.before.before.before.before.before.before.before.before.before.if3.false) _ _ c.before.before.before.before.before.before.write-pdu.ensures _ _ c.before.before.move-list.ensures
+    let v = passed c.before.before.before.before.before.before.before.before.before.before.before in
+    write_done _ _ _ _ v.formed v.port (long-enough c.before.before.before.before.before.before.before.before.before.before) v.octets
+    (rw c.count_declarations-count.ensures.0 at c.if-count-from.false) _ _ c.write_pdu-pdu.ensures _ _ c.move_list-next.ensures
 
 pub write_spec : {M : Type 1} → statement M
 write_spec =
