@@ -1,5 +1,7 @@
 // The lines in which srpcalls prints answers (docs/SRPCALLS.md), put into octets that the caller lends. None of the public ones asks
 // anything of its arguments: what does not fit is left out.
+#![tactic(auto)]
+
 ghost use Rattle.std.specs.Prelude.{◌≡◌, length, drop, ◌++◌};
 ghost use Rattle.console.specs.Text.{Put};
 ghost use Rattle.reports.specs.Shown.{shown};

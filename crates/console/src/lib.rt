@@ -1,5 +1,7 @@
 // Texts, put into octets that the caller lends. None of the public ones asks anything of its arguments: an `at` past the end of the
 // line counts as the end, and what does not fit is left out.
+#![tactic(auto)]
+
 ghost use Rattle.std.specs.Prelude.{◌∷◌};
 ghost use Rattle.octets.specs.Fields.{flat};
 ghost use Rattle.io.specs.Digits.{last_digits};
@@ -82,6 +84,7 @@ pub fn put_octets(line: &mut [u8], at: usize, octets: &[u8]) -> usize
 }
 
 // A space, and the word of a column.
+#[tactic(auto, unfolding(crate::specs::Words::column_text, reports::specs::Shown::column_word))]
 fn put_column(line: &mut [u8], at: usize, column: ColumnShown) -> usize
     ensures { Put line.old at (32 ∷ column_text (column_word column)) result line.new }
 {
@@ -93,6 +96,7 @@ fn put_column(line: &mut [u8], at: usize, column: ColumnShown) -> usize
 }
 
 // A space, and the word of the Listener declared on a port.
+#[tactic(auto, unfolding(crate::specs::Words::listener_text, reports::specs::Shown::declared))]
 fn put_listener(line: &mut [u8], at: usize, listener: ListenerShown) -> usize
     ensures { Put line.old at (32 ∷ listener_text (declared listener)) result line.new }
 {
@@ -105,6 +109,7 @@ fn put_listener(line: &mut [u8], at: usize, listener: ListenerShown) -> usize
 }
 
 // A space, and the word of an entry.
+#[tactic(auto, unfolding(crate::specs::Words::entry_text, reports::specs::Shown::entered))]
 fn put_entry(line: &mut [u8], at: usize, entry: EntryShown) -> usize
     ensures { Put line.old at (32 ∷ entry_text (entered entry)) result line.new }
 {

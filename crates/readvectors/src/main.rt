@@ -1,9 +1,11 @@
 // Runs the reader over the stored PDUs of standard input, one to a line: a name, a colon, and the octets in hexadecimal, each
 // after a space. Prints each name with the number that the reader gives, 0 where it accepts. PDUs of MMRP have names that start
 // with its four letters, small ones.
+#![tactic(auto)]
+
 ghost use Rattle.std.specs.Prelude.{◌≤◌, length};
 
-use libc::{STDIN_FILENO, STDOUT_FILENO};
+use std::io::Read;
 
 // The four letters, as a number.
 const MMRP: u64 = 1835889264;
@@ -64,8 +66,13 @@ fn number_of(name: &[u8], pdu: &[u8]) -> u8 {
     msrpdu::check(pdu)
 }
 
+// Writes octets; those that cannot be written are left out.
+fn write(rt: &HostRuntime, octets: &[u8]) {
+    let _ = rt.write_all(octets);
+}
+
 // A stored PDU's name, and the number that the reader gives. A line without a colon is a remark.
-fn show(line: &[u8]) {
+fn show(rt: &HostRuntime, line: &[u8]) {
     let colon = find(line, 0, b':');
     if colon == line.len() {
         return;
@@ -74,23 +81,43 @@ fn show(line: &[u8]) {
     let mut pdu = [0u8; 1600];
     let n = octets_of(&line[octets..], &mut pdu);
     let number = number_of(&line[0..colon], &pdu[0..n]);
-    io::write_all(STDOUT_FILENO, &line[0..colon]);
-    io::write_all(STDOUT_FILENO, b": ");
-    io::print_decimal(STDOUT_FILENO, number as u64);
-    io::write_all(STDOUT_FILENO, b"\n");
+    write(rt, &line[0..colon]);
+    write(rt, b": ");
+    let _ = rt.println(number);
 }
 
-fn show_all(stored: &[u8]) {
+fn show_all(rt: &HostRuntime, stored: &[u8]) {
     let mut at: usize = 0;
     while at < stored.len() {
         let end = find(stored, at, b'\n');
-        show(&stored[at..end]);
+        show(rt, &stored[at..end]);
         at = end + 1;
     }
 }
 
-fn main() {
+// Reads until the room is full or the input ends: how many octets there are. A read that fails counts as the end.
+fn read_all(rt: &HostRuntime, room: &mut [u8]) -> usize
+    ensures { result ≤ length room.new }
+{
+    let mut end: usize = 0;
+    while end < room.len() {
+        match rt.stdin().read(&mut room[end..]) {
+            Ok(0) => {
+                return end;
+            }
+            Ok(n) => {
+                end += n;
+            }
+            Err(_) => {
+                return end;
+            }
+        }
+    }
+    end
+}
+
+fn main(rt: HostRuntime) {
     let mut text = io::large_buffer();
-    let n = io::read_full(STDIN_FILENO, &mut text);
-    show_all(&text[..n]);
+    let n = read_all(&rt, &mut text);
+    show_all(&rt, &text[..n]);
 }

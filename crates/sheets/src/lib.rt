@@ -1,5 +1,7 @@
 // The printed sheet (01): all that srpsheet prints, put into octets that the caller lends, of all that it reads. None of the public
 // functions asks anything of its arguments: what does not fit is left out.
+#![tactic(auto)]
+
 ghost use Rattle.std.specs.Prelude.{◌≡◌, ◌≤◌, length};
 ghost use Rattle.console.specs.Text.{Put};
 ghost use Rattle.model.specs.Layout.{table_length};

@@ -1,10 +1,12 @@
 // A console for the seven calls. Reads call records from standard input to its end, and prints one line for each call. Numbers in
 // records are most significant octet first. The table is zeros at the beginning, so calls before a start are answered with 12.
+#![tactic(auto)]
+
 ghost use Rattle.std.specs.Prelude.{◌≤◌, length, ◌≡◌};
 ghost use Rattle.model.specs.Layout.{table_length};
 ghost use Rattle.srpcalls.specs.Room.{room_octets, space_octets};
 
-use libc::{STDIN_FILENO, STDOUT_FILENO};
+use std::io::Read;
 
 // The room for the table.
 const ROOM: usize = bridge::TABLE + 64;
@@ -39,66 +41,65 @@ fn blank_space() -> [u8; SPACE]
 }
 
 // Fills a field from the input; false where the input ends before. A read that fails counts as the end.
-fn read(field: &mut [u8]) -> bool {
-    let n = io::read_full(STDIN_FILENO, field);
-    n == field.len()
+fn read(rt: &HostRuntime, field: &mut [u8]) -> bool {
+    rt.stdin().read_exact(field).is_ok()
 }
 
 // Ends the line and writes it. One that cannot be written ends the run.
-fn print(line: &mut [u8], at: usize) -> Step {
+fn print(rt: &HostRuntime, line: &mut [u8], at: usize) -> Step {
     let end = console::put(line, at, b"\n");
-    if io::write_all(STDOUT_FILENO, &line[0..end]) {
+    if rt.write_all(&line[0..end]).is_ok() {
         return Step::Next;
     }
     Step::End
 }
 
 // Prints the line of a call that answers with a number alone.
-fn print_number(space: &mut [u8], call: &[u8], number: u8) -> Step {
+fn print_number(rt: &HostRuntime, space: &mut [u8], call: &[u8], number: u8) -> Step {
     let at = answers::put_numbers(space, 0, call, &[number as u64]);
-    print(space, at)
+    print(rt, space, at)
 }
 
 // A call that is handed octets in the space: settings, or a PDU of MSRP or of MMRP that arrived on a port.
-fn call_handed(table: &mut [u8], kind: u8, space: &mut [u8], n: usize) -> Step
+fn call_handed(rt: &HostRuntime, table: &mut [u8], kind: u8, space: &mut [u8], n: usize) -> Step
     requires { n ≤ length space.old }
 {
     let port = (kind % 16) as u32;
     match kind {
         0x00 => {
             let number = bridge::start(table, &space[0..n]);
-            print_number(space, b"start", number)
+            print_number(rt, space, b"start", number)
         }
         0x10..=0x1F => {
             let number = bridge::receive(table, port, &space[0..n]);
-            print_number(space, b"receive", number)
+            print_number(rt, space, b"receive", number)
         }
         _ => {
             let number = bridge::receive_mmrp(table, port, &space[0..n]);
-            print_number(space, b"mmrp", number)
+            print_number(rt, space, b"mmrp", number)
         }
     }
 }
 
 // Reads a length and so many octets, all of them, and hands over no more than the longest.
-fn hand(table: &mut [u8], kind: u8, space: &mut [u8]) -> Step
+fn hand(rt: &HostRuntime, table: &mut [u8], kind: u8, space: &mut [u8]) -> Step
     requires { 65535 ≤ length space.old }
 {
     let mut field = [0u8; 2];
-    if read(&mut field) {
+    if read(rt, &mut field) {
         let n = octets::get(&field, 0, 2) as usize;
-        if read(&mut space[0..n]) {
-            return call_handed(table, kind, space, console::least(n, LONGEST));
+        if read(rt, &mut space[0..n]) {
+            return call_handed(rt, table, kind, space, console::least(n, LONGEST));
         }
     }
     Step::Stop
 }
 
-fn advance(table: &mut [u8], space: &mut [u8]) -> Step {
+fn advance(rt: &HostRuntime, table: &mut [u8], space: &mut [u8]) -> Step {
     let mut field = [0u8; 4];
-    if read(&mut field) {
+    if read(rt, &mut field) {
         let time = octets::get(&field, 0, 4) as u32;
-        return print_number(space, b"advance", bridge::advance(table, time));
+        return print_number(rt, space, b"advance", bridge::advance(table, time));
     }
     Step::Stop
 }
@@ -112,23 +113,23 @@ fn put_write(table: &mut [u8], port: u32, place: u32, asked: usize, space: &mut 
     answers::put_written(space, wrote, buffer)
 }
 
-fn write(table: &mut [u8], port: u32, space: &mut [u8]) -> Step {
+fn write(rt: &HostRuntime, table: &mut [u8], port: u32, space: &mut [u8]) -> Step {
     let mut field = [0u8; 4];
-    if read(&mut field) {
+    if read(rt, &mut field) {
         let place = octets::get(&field, 0, 2) as u32;
         let asked = octets::get(&field, 2, 2) as usize;
         let at = put_write(table, port, place, asked, space);
-        return print(space, at);
+        return print(rt, space, at);
     }
     Step::Stop
 }
 
-fn report(table: &[u8], port: u32, space: &mut [u8]) -> Step {
+fn report(rt: &HostRuntime, table: &[u8], port: u32, space: &mut [u8]) -> Step {
     let mut field = [0u8; 2];
-    if read(&mut field) {
+    if read(rt, &mut field) {
         let place = octets::get(&field, 0, 2) as u32;
         let at = answers::put_reported(space, bridge::report(table, port, place));
-        return print(space, at);
+        return print(rt, space, at);
     }
     Step::Stop
 }
@@ -142,21 +143,21 @@ fn put_why(table: &[u8], id: u64, port: u32, asked: usize, space: &mut [u8]) -> 
     answers::put_explained(space, answer, buffer)
 }
 
-fn explain(table: &[u8], port: u32, space: &mut [u8]) -> Step {
+fn explain(rt: &HostRuntime, table: &[u8], port: u32, space: &mut [u8]) -> Step {
     let mut field = [0u8; 10];
-    if read(&mut field) {
+    if read(rt, &mut field) {
         let id = octets::get(&field, 0, 8);
         let asked = octets::get(&field, 8, 2) as usize;
         let at = put_why(table, id, port, asked, space);
-        return print(space, at);
+        return print(rt, space, at);
     }
     Step::Stop
 }
 
 // Stores an octet in the table's room; past it nothing happens.
-fn store(room: &mut [u8]) -> Step {
+fn store(rt: &HostRuntime, room: &mut [u8]) -> Step {
     let mut field = [0u8; 3];
-    if read(&mut field) {
+    if read(rt, &mut field) {
         let at = octets::get(&field, 0, 2) as usize;
         if at < room.len() {
             room[at] = field[2];
@@ -166,59 +167,59 @@ fn store(room: &mut [u8]) -> Step {
     Step::Stop
 }
 
-fn lend() -> Step {
+fn lend(rt: &HostRuntime) -> Step {
     let mut field = [0u8; 2];
-    if read(&mut field) {
+    if read(rt, &mut field) {
         return Step::Lend(octets::get(&field, 0, 2) as usize);
     }
     Step::Stop
 }
 
-fn print_sum(table: &[u8], space: &mut [u8]) -> Step {
+fn print_sum(rt: &HostRuntime, table: &[u8], space: &mut [u8]) -> Step {
     let at = answers::put_sum(space, table);
-    print(space, at)
+    print(rt, space, at)
 }
 
-fn print_octets(table: &[u8], space: &mut [u8]) -> Step {
+fn print_octets(rt: &HostRuntime, table: &[u8], space: &mut [u8]) -> Step {
     let at = answers::put_octets(space, b"octets", table);
-    print(space, at)
+    print(rt, space, at)
 }
 
 // A record that only looks at the table.
-fn look(table: &[u8], kind: u8, space: &mut [u8]) -> Step {
+fn look(rt: &HostRuntime, table: &[u8], kind: u8, space: &mut [u8]) -> Step {
     let port = (kind % 16) as u32;
     match kind {
-        0x40..=0x4F => report(table, port, space),
-        0x60 => print_sum(table, space),
-        0x61 => print_octets(table, space),
-        0x80..=0x8F => explain(table, port, space),
+        0x40..=0x4F => report(rt, table, port, space),
+        0x60 => print_sum(rt, table, space),
+        0x61 => print_octets(rt, table, space),
+        0x80..=0x8F => explain(rt, table, port, space),
         _ => Step::Stop,
     }
 }
 
 // A record of the octets that calls are lent. The low digit of its first octet is the port.
-fn call(table: &mut [u8], kind: u8, space: &mut [u8]) -> Step
+fn call(rt: &HostRuntime, table: &mut [u8], kind: u8, space: &mut [u8]) -> Step
     requires { 65535 ≤ length space.old }
 {
     match kind {
-        0x00 | 0x10..=0x1F | 0x70..=0x7F => hand(table, kind, space),
-        0x20 => advance(table, space),
-        0x30..=0x3F => write(table, (kind % 16) as u32, space),
-        _ => look(table, kind, space),
+        0x00 | 0x10..=0x1F | 0x70..=0x7F => hand(rt, table, kind, space),
+        0x20 => advance(rt, table, space),
+        0x30..=0x3F => write(rt, table, (kind % 16) as u32, space),
+        _ => look(rt, table, kind, space),
     }
 }
 
 // Reads a record and does what it says.
-fn take_record(room: &mut [u8], lent: usize, space: &mut [u8]) -> Step
+fn take_record(rt: &HostRuntime, room: &mut [u8], lent: usize, space: &mut [u8]) -> Step
     requires { (lent ≤ length room.old) × (65535 ≤ length space.old) }
 {
     let mut field = [0u8; 1];
-    if read(&mut field) {
+    if read(rt, &mut field) {
         let kind = field[0];
         return match kind {
-            0x50 => store(room),
-            0x51 => lend(),
-            _ => call(&mut room[0..lent], kind, space),
+            0x50 => store(rt, room),
+            0x51 => lend(rt),
+            _ => call(rt, &mut room[0..lent], kind, space),
         };
     }
     Step::End
@@ -226,14 +227,14 @@ fn take_record(room: &mut [u8], lent: usize, space: &mut [u8]) -> Step
 
 // A proved loop has to end, and nothing says that an input does. So the loop counts its turns down, from a number that no run
 // uses up.
-fn run(room: &mut [u8], space: &mut [u8])
+fn run(rt: &HostRuntime, room: &mut [u8], space: &mut [u8])
     requires { (table_length ≤ length room.old) × (65535 ≤ length space.old) }
 {
     let mut lent = bridge::TABLE;
     let mut turns = u64::MAX;
     while turns > 0 {
         turns -= 1;
-        let next = take_record(room, lent, space);
+        let next = take_record(rt, room, lent, space);
         match next {
             Step::Next => {}
             Step::Lend(n) => {
@@ -241,7 +242,7 @@ fn run(room: &mut [u8], space: &mut [u8])
             }
             Step::Stop => {
                 let at = console::put(space, 0, b"stop");
-                print(space, at);
+                print(rt, space, at);
                 return;
             }
             Step::End => {
@@ -251,8 +252,8 @@ fn run(room: &mut [u8], space: &mut [u8])
     }
 }
 
-fn main() {
+fn main(rt: HostRuntime) {
     let mut room = blank_room();
     let mut space = blank_space();
-    run(&mut room, &mut space);
+    run(&rt, &mut room, &mut space);
 }

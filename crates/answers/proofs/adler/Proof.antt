@@ -16,31 +16,31 @@ record Summing (octets : List ℕ) (a b i : ℕ) : Type 0 where
   high : b < 65521
   left : adler_from a b (drop i octets) ≡ adler32 octets
 
-abbrev invariant-loop : tie.invariant-loop
-invariant-loop octets a₀ b₀ i₀ a b i = Summing octets a b i
+abbrev invariant-loop-i : tie.invariant-loop-i
+invariant-loop-i octets a₀ b₀ i₀ a b i = Summing octets a b i
 
-abbrev decreases-loop : tie.decreases-loop
-decreases-loop octets a₀ b₀ i₀ a b i = length octets - i
+abbrev decreases-loop-i : tie.decreases-loop-i
+decreases-loop-i octets a₀ b₀ i₀ a b i = length octets - i
 
-loop-holds : tie.Need-loop-init invariant-loop decreases-loop
+loop-holds : tie.Need-loop-i-init invariant-loop-i decreases-loop-i
 loop-holds c = record { low = omega arith; high = omega arith; left = refl }
 
-cast-a : tie.Need-overflow-cast-a invariant-loop decreases-loop
-cast-a c = omega (arith, c.shared-slice-known.given c.before.before.loop.i)
+cast-a : tie.Need-overflow_cast-a invariant-loop-i decreases-loop-i
+cast-a c = omega (arith, c.shared_slice_known-1.given c.loop-i.i)
 
-add_a : tie.Need-overflow-add-a invariant-loop decreases-loop
-add_a c = omega (arith, c.shared-slice-known.given c.before.before.loop.i)
+add_a : tie.Need-overflow_add-a invariant-loop-i decreases-loop-i
+add_a c = omega (arith, c.shared_slice_known-1.given c.loop-i.i)
 
-loop-again : tie.Need-loop-preserved invariant-loop decreases-loop
+loop-again : tie.Need-loop-i-preserved invariant-loop-i decreases-loop-i
 loop-again c =
-    let l = c.before.before.loop in
-    record { low = omega arith; high = omega arith; left = sym (adler-more l.a l.b l.i _ c.before.loop-test.true) ∙ l.invariant.left }
+    let l = c.loop-i in
+    record { low = omega arith; high = omega arith; left = sym (adler-more l.a l.b l.i _ c.loop-i-test.true) ∙ l.invariant.left }
 
-returns : tie.Need-returns invariant-loop decreases-loop
-returns c = sym (adler-none _ _ _ _ c.loop-test.false) ∙ c.before.loop.invariant.left
+returns : tie.Need-returns invariant-loop-i decreases-loop-i
+returns c = sym (adler-none _ _ _ _ c.loop-i-test.false) ∙ c.loop-i.invariant.left
 
-pub adler-spec : {M : Type 1} → statement M
-adler-spec =
+pub adler_spec : {M : Type 1} → statement M
+adler_spec =
     tie.close
-    (tie.spec invariant-loop decreases-loop loop-holds (λ c. search rules) cast-a add_a (λ c. search rules) (λ c. search rules)
+    (tie.spec invariant-loop-i decreases-loop-i loop-holds (λ c. search rules) cast-a add_a (λ c. search rules) (λ c. search rules)
     (λ c. search rules) loop-again (λ c. search rules) (λ c. search rules) returns)

@@ -6,8 +6,8 @@ use Rattle.console.proofs.put.Tie as tie
 
 returns : tie.Need-returns
 returns c =
-    put-made _ _ _ _ _ _ c.before.before.before.before.before.before.least.ensures.is
-    c.before.before.before.before.before.least2.ensures.is c.before.before.copy.ensures
+    put-made _ _ _ _ _ _ c.least-from.ensures.is
+    c.least-n.ensures.is c.copy.ensures
 
 pub put_spec : {M : Type 1} → statement M
 put_spec =

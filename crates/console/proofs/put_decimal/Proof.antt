@@ -7,10 +7,10 @@ use Rattle.console.proofs.put_decimal.Tie as tie
 
 returns : tie.Need-returns
 returns c =
-    let made = c.before.before.before.before.before.decimal.ensures in
-    rw (← (decimal-is 20 _ _ (no_more 10 1 20 _ _ (omega arith) (omega arith) (omega arith) made.1.0) made.1.0), ← made.1.1) c.before.before.put.ensures
+    let made = c.decimal-k.ensures in
+    rw (← (decimal-is 20 _ _ (no_more 10 1 20 _ _ (omega arith) (omega arith) (omega arith) made.1.0) made.1.0), ← made.1.1.0) c.put.ensures
 
-pub put-decimal-spec : {M : Type 1} → statement M
-put-decimal-spec =
+pub put_decimal_spec : {M : Type 1} → statement M
+put_decimal_spec =
     tie.close
     (tie.spec (λ c κs. search rules) (λ c. search rules) (λ c. search rules) (λ c κs. search rules) (λ c. search rules) returns)

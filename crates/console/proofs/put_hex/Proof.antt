@@ -10,13 +10,13 @@ use Rattle.console.proofs.put_hex.Tie as tie
 
 returns : tie.Need-returns
 returns c =
-    let made = c.before.before.before.before.before.hex.ensures in
+    let made = c.hex-k.ensures in
     let first = c.before.before.before.before.before.before.before.before in
     let width : min (max first.args.width 1) 16 ≡ first.args.width = omega (arith, first.requires.some, first.requires.few) in
-    let e = made.1.1 ∙ ap (λ (k : ℕ). last_digits 16 k first.args.n) (fixed-width 16 first.args.width first.args.n _ (omega arith) first.requires.fits (rw width at made.1.0)) in
-    rw (← e) c.before.before.put.ensures
+    let e = made.1.1.0 ∙ ap (λ (k : ℕ). last_digits 16 k first.args.n) (fixed-width 16 first.args.width first.args.n _ (omega arith) first.requires.fits (rw width at made.1.0)) in
+    rw (← e) c.put.ensures
 
-pub put-hex-spec : {M : Type 1} → statement M
-put-hex-spec =
+pub put_hex_spec : {M : Type 1} → statement M
+put_hex_spec =
     tie.close
     (tie.spec (λ c κs. search rules) (λ c. search rules) (λ c. search rules) (λ c κs. search rules) (λ c. search rules) returns)

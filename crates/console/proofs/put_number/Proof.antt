@@ -5,7 +5,7 @@ use Rattle.console.proofs.put_number.Statement.{statement}
 use Rattle.console.proofs.put_number.Tie as tie
 
 returns : tie.Need-returns
-returns c = put-append c.before.before.before.before.before.before.put.ensures c.before.before.put-decimal.ensures
+returns c = put-append c.put-a.ensures c.put_decimal.ensures
 
-pub put-number-spec : {M : Type 1} → statement M
-put-number-spec = tie.close (tie.spec (λ c. search rules) (λ c κs. search rules) (λ c κs. search rules) (λ c. search rules) returns)
+pub put_number_spec : {M : Type 1} → statement M
+put_number_spec = tie.close (tie.spec (λ c κs. search rules) (λ c κs. search rules) (λ c. search rules) returns)

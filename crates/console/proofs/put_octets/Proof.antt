@@ -13,33 +13,33 @@ use Rattle.console.proofs.Laws.{put-none, put-append, flat-more}
 use Rattle.console.proofs.put_octets.Statement.{statement}
 use Rattle.console.proofs.put_octets.Tie as tie
 
-abbrev invariant-loop : tie.invariant-loop
-invariant-loop line₀ at octets end₀ i₀ line end i =
+abbrev invariant-loop-i : tie.invariant-loop-i
+invariant-loop-i line₀ at octets end₀ i₀ line end i =
     Turned i (length octets) line₀ line (Put line₀ at (flat (last_digits 16 2) (take i octets)) end line)
 
-abbrev decreases-loop : tie.decreases-loop
-decreases-loop line₀ at octets end₀ i₀ line end i = length octets - i
+abbrev decreases-loop-i : tie.decreases-loop-i
+decreases-loop-i line₀ at octets end₀ i₀ line end i = length octets - i
 
-loop-holds : tie.Need-loop-init invariant-loop decreases-loop
+loop-holds : tie.Need-loop-i-init invariant-loop-i decreases-loop-i
 unfolding flat
-loop-holds c = record { within = omega arith; size = refl; holds = put-none _ _ _ c.least.ensures.is }
+loop-holds c = record { within = omega arith; size = refl; holds = put-none _ _ _ c.least-end.ensures.is }
 
-loop-again : tie.Need-loop-preserved invariant-loop decreases-loop
+loop-again : tie.Need-loop-i-preserved invariant-loop-i decreases-loop-i
 loop-again c =
-    let l = c.before.before.before.before.before.before.loop in
+    let l = c.loop-i in
     record {
       within = omega arith;
       size = omega arith;
-      holds = rw (← (flat-more (last_digits 16 2) c.before.before.before.before.before.before.before.before.before.before.args.octets.now l.i c.before.before.before.before.before.loop-test.true)) (put-append l.invariant.holds c.before.before.put-octet.ensures);
+      holds = rw (← (flat-more (last_digits 16 2) c.args.octets.now l.i c.loop-i-test.true)) (put-append l.invariant.holds c.put_octet-end.ensures);
     }
 
-returns : tie.Need-returns invariant-loop decreases-loop
+returns : tie.Need-returns invariant-loop-i decreases-loop-i
 returns c =
-    let l = c.before.loop in
-    rw (take_all l.i c.before.before.before.before.before.args.octets.now (omega arith)) at l.invariant.holds
+    let l = c.loop-i in
+    rw (take_all l.i c.args.octets.now (omega arith)) at l.invariant.holds
 
-pub put-octets-spec : {M : Type 1} → statement M
-put-octets-spec =
+pub put_octets_spec : {M : Type 1} → statement M
+put_octets_spec =
     tie.close
-    (tie.spec invariant-loop decreases-loop (λ c κs. search rules) loop-holds (λ c. search rules) (λ c κs. search rules) (λ c. search rules)
+    (tie.spec invariant-loop-i decreases-loop-i (λ c κs. search rules) loop-holds (λ c. search rules) (λ c κs. search rules) (λ c. search rules)
     (λ c. search rules) loop-again (λ c. search rules) returns)

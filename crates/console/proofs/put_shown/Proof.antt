@@ -8,7 +8,7 @@ use Rattle.console.proofs.put_shown.Tie as tie
 
 returns : tie.Need-returns
 unfolding shown_text shown
-returns c = put-append (put-append c.before.before.before.before.before.before.before.before.before.before.put-talker.ensures c.before.before.before.before.before.before.put-listener.ensures) c.before.before.put-entry.ensures
+returns c = put-append (put-append c.put_talker-a.ensures c.put_listener-b.ensures) c.put_entry.ensures
 
-pub put-shown-spec : {M : Type 1} → statement M
-put-shown-spec = tie.close (tie.spec (λ c κs. search rules) (λ c κs. search rules) (λ c κs. search rules) (λ c. search rules) returns)
+pub put_shown_spec : {M : Type 1} → statement M
+put_shown_spec = tie.close (tie.spec (λ c κs. search rules) (λ c κs. search rules) (λ c κs. search rules) (λ c. search rules) returns)

@@ -8,7 +8,7 @@ use Rattle.console.proofs.put_talker.Tie as tie
 
 returns : tie.Need-returns
 unfolding talker_text shown
-returns c = put-append c.before.before.before.before.before.before.before.put-column.ensures c.before.before.put-number.ensures
+returns c = put-append c.put_column-a.ensures c.put_number.ensures
 
-pub put-talker-spec : {M : Type 1} → statement M
-put-talker-spec = tie.close (tie.spec (λ c κs. search rules) (λ c. search rules) (λ c κs. search rules) (λ c. search rules) returns)
+pub put_talker_spec : {M : Type 1} → statement M
+put_talker_spec = tie.close (tie.spec (λ c κs. search rules) (λ c. search rules) (λ c κs. search rules) (λ c. search rules) returns)

@@ -9,7 +9,7 @@ use Rattle.sheets.proofs.blank_table.Tie as tie
 returns : tie.Need-returns
 returns c = sym {A = ℕ} (length-replicate {0} {A = ℕ} table_length 0)
 
-pub blank-table-spec : {M : Type 1} → statement M
-blank-table-spec =
+pub blank_table_spec : {M : Type 1} → statement M
+blank_table_spec =
     tie.close
     (tie.spec returns)

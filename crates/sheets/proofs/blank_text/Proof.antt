@@ -9,7 +9,7 @@ use Rattle.sheets.proofs.blank_text.Tie as tie
 returns : tie.Need-returns
 returns c = sym {A = ℕ} (length-replicate {0} {A = ℕ} text_octets 0)
 
-pub blank-text-spec : {M : Type 1} → statement M
-blank-text-spec =
+pub blank_text_spec : {M : Type 1} → statement M
+blank_text_spec =
     tie.close
     (tie.spec returns)

@@ -17,42 +17,42 @@ record Turning (table₀ records text₀ : List ℕ) (at : ℕ) (table text : Li
   within : from ≤ length records
   calling : Calling table₀ records text₀ at table text end from
 
-abbrev invariant-loop : tie.invariant-loop
-invariant-loop table₀ records text₀ at end₀ from₀ table text end from = Turning table₀ records text₀ at table text end from
+abbrev invariant-loop-from : tie.invariant-loop-from
+invariant-loop-from table₀ records text₀ at end₀ from₀ table text end from = Turning table₀ records text₀ at table text end from
 
-abbrev decreases-loop : tie.decreases-loop
-decreases-loop table₀ records text₀ at end₀ from₀ table text end from = length records - from
+abbrev decreases-loop-from : tie.decreases-loop-from
+decreases-loop-from table₀ records text₀ at end₀ from₀ table text end from = length records - from
 
-loop-holds : tie.Need-loop-init invariant-loop decreases-loop
+loop-holds : tie.Need-loop-from-init invariant-loop-from decreases-loop-from
 loop-holds c = record {
   table-size = refl;
   text-size = refl;
   within = omega arith;
-  calling = calling-none _ _ _ _ _ (put-none _ _ _ c.least.ensures.is);
+  calling = calling-none _ _ _ _ _ (put-none _ _ _ c.least-end.ensures.is);
 }
 
-returns : tie.Need-returns invariant-loop decreases-loop
+returns : tie.Need-returns-then-done-eq0 invariant-loop-from decreases-loop-from
 returns c =
-    let l = c.before.before.before.before.before.before.before.before.before.before.before.before.loop in
-    calling-stop l.invariant.calling c.before.before.before.before.before.before.before.before.before.before.before.loop-test.true (rw (rest-whole c.before.before.before.before.before.before.before.before.before.before.before.before.before.before.before.before.before.args.records.now l.from) at c.before.before.before.before.before.before.before.before.call.ensures) c.before.before.before.before.if1.true
-    c.before.before.put-stop.ensures
+    let l = c.loop-from in
+    calling-stop l.invariant.calling c.loop-from-test.true (rw (rest-whole c.args.records.now l.from) at c.call-done.ensures) c.if-done-eq0.true
+    c.put_stop.ensures
 
-loop-again : tie.Need-loop-preserved invariant-loop decreases-loop
+loop-again : tie.Need-loop-from-preserved invariant-loop-from decreases-loop-from
 loop-again c =
-    let l = c.before.before.before.before.before.before.before.before.before.before.before.before.before.loop in
-    let records = c.before.before.before.before.before.before.before.before.before.before.before.before.before.before.before.before.before.before.args.records.now in
-    let called = rw (rest-whole records l.from) at c.before.before.before.before.before.before.before.before.before.call.ensures in
+    let l = c.loop-from in
+    let records = c.args.records.now in
+    let called = rw (rest-whole records l.from) at c.call-done.ensures in
     record {
       table-size = omega arith;
       text-size = omega arith;
       within = omega (arith, called.within, length-drop l.from records);
-      calling = calling-more l.invariant.calling c.before.before.before.before.before.before.before.before.before.before.before.before.loop-test.true called c.before.before.before.before.before.if1.false c.before.before.before.put-answer.ensures;
+      calling = calling-more l.invariant.calling c.loop-from-test.true called c.if-done-eq0.false c.put_answer-end.ensures;
     }
 
-returns-2 : tie.Need-returns-2 invariant-loop decreases-loop
-returns-2 c = calling-end c.before.loop.invariant.calling c.loop-test.false
+returns-2 : tie.Need-returns invariant-loop-from decreases-loop-from
+returns-2 c = calling-end c.loop-from.invariant.calling c.loop-from-test.false
 
-pub call-all-spec : {M : Type 1} → statement M
-call-all-spec =
+pub call_all_spec : {M : Type 1} → statement M
+call_all_spec =
     tie.close
-    (tie.spec invariant-loop decreases-loop (λ c κs. search rules) loop-holds (λ c. search rules) (λ c. search rules) (λ c. search rules) (λ c κs. search rules) (λ c κs. search rules) (λ c. search rules) (λ c. search rules) returns (λ c κs. search rules) (λ c. search rules) (λ c. search rules) loop-again (λ c. search rules) (λ c. search rules) returns-2)
+    (tie.spec invariant-loop-from decreases-loop-from (λ c κs. search rules) loop-holds (λ c. search rules) (λ c. search rules) (λ c. search rules) (λ c κs. search rules) (λ c κs. search rules) (λ c. search rules) (λ c. search rules) returns (λ c κs. search rules) (λ c. search rules) (λ c. search rules) loop-again (λ c. search rules) (λ c. search rules) returns-2)

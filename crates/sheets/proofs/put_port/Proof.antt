@@ -8,9 +8,9 @@ use Rattle.sheets.proofs.put_port.Tie as tie
 
 returns : tie.Need-returns
 unfolding port_line shown
-returns c = rw (← c.before.before.before.before.before.before.before.before.report.ensures) (put-append c.before.before.before.before.before.before.put-port-number.ensures c.before.before.put-classes.ensures)
+returns c = rw (← c.report-answer.ensures) (put-append c.put_port_number-a.ensures c.put_classes.ensures)
 
-pub put-port-spec : {M : Type 1} → statement M
-put-port-spec =
+pub put_port_spec : {M : Type 1} → statement M
+put_port_spec =
     tie.close
     (tie.spec (λ c κs. search rules) (λ c κs. search rules) (λ c κs. search rules) (λ c. search rules) returns)

@@ -7,9 +7,9 @@ use Rattle.sheets.proofs.put_report.Tie as tie
 
 returns : tie.Need-returns
 unfolding report_lines
-returns c = put-append c.before.before.before.before.before.before.put-ports.ensures c.before.before.put-streams.ensures
+returns c = put-append c.put_ports-a.ensures c.put_streams.ensures
 
-pub put-report-spec : {M : Type 1} → statement M
-put-report-spec =
+pub put_report_spec : {M : Type 1} → statement M
+put_report_spec =
     tie.close
     (tie.spec (λ c κs. search rules) (λ c κs. search rules) (λ c. search rules) returns)

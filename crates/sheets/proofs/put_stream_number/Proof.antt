@@ -7,9 +7,9 @@ use Rattle.sheets.proofs.put_stream_number.Tie as tie
 
 returns : tie.Need-returns
 unfolding stream_text
-returns c = put-append c.before.before.before.before.before.before.put_id.ensures c.before.before.put-number.ensures
+returns c = put-append c.put_id-a.ensures c.put_number.ensures
 
-pub put-stream-number-spec : {M : Type 1} → statement M
-put-stream-number-spec =
+pub put_stream_number_spec : {M : Type 1} → statement M
+put_stream_number_spec =
     tie.close
     (tie.spec (λ c κs. search rules) (λ c κs. search rules) (λ c. search rules) returns)

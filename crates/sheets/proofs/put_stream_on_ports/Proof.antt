@@ -11,33 +11,33 @@ use Rattle.sheets.proofs.Counting.{lines_more}
 use Rattle.sheets.proofs.put_stream_on_ports.Statement.{statement}
 use Rattle.sheets.proofs.put_stream_on_ports.Tie as tie
 
-abbrev invariant-loop : tie.invariant-loop
-invariant-loop text₀ at table ports place end₀ p₀ text end p = Turned p ports text₀ text (Put text₀ at (stream_on_ports table p place) end text)
+abbrev invariant-loop-p : tie.invariant-loop-p
+invariant-loop-p text₀ at table ports place end₀ p₀ text end p = Turned p ports text₀ text (Put text₀ at (stream_on_ports table p place) end text)
 
-abbrev decreases-loop : tie.decreases-loop
-decreases-loop text₀ at table ports place end₀ p₀ text end p = ports - p
+abbrev decreases-loop-p : tie.decreases-loop-p
+decreases-loop-p text₀ at table ports place end₀ p₀ text end p = ports - p
 
-loop-holds : tie.Need-loop-init invariant-loop decreases-loop
+loop-holds : tie.Need-loop-p-init invariant-loop-p decreases-loop-p
 unfolding stream_on_ports lines
-loop-holds c = record { within = omega arith; size = refl; holds = put-none _ _ _ c.least.ensures.is }
+loop-holds c = record { within = omega arith; size = refl; holds = put-none _ _ _ c.least-end.ensures.is }
 
-loop-again : tie.Need-loop-preserved invariant-loop decreases-loop
+loop-again : tie.Need-loop-p-preserved invariant-loop-p decreases-loop-p
 unfolding stream_on_ports
 loop-again c =
-    let l = c.before.before.before.before.before.loop in
+    let l = c.loop-p in
     record {
       within = omega arith;
       size = omega arith;
-      holds = rw lines_more (put-append l.invariant.holds c.before.before.put-stream.ensures);
+      holds = rw lines_more (put-append l.invariant.holds c.put_stream-end.ensures);
     }
 
-returns : tie.Need-returns invariant-loop decreases-loop
+returns : tie.Need-returns invariant-loop-p decreases-loop-p
 returns c =
-    let l = c.before.loop in
-    let all : l.p ≡ c.before.before.before.before.before.args.ports = omega arith in
+    let l = c.loop-p in
+    let all : l.p ≡ c.args.ports = omega arith in
     rw all at l.invariant.holds
 
-pub put-stream-on-ports-spec : {M : Type 1} → statement M
-put-stream-on-ports-spec =
+pub put_stream_on_ports_spec : {M : Type 1} → statement M
+put_stream_on_ports_spec =
     tie.close
-    (tie.spec invariant-loop decreases-loop (λ c κs. search rules) loop-holds (λ c. search rules) (λ c κs. search rules) (λ c. search rules) (λ c. search rules) loop-again (λ c. search rules) returns)
+    (tie.spec invariant-loop-p decreases-loop-p (λ c κs. search rules) loop-holds (λ c. search rules) (λ c κs. search rules) (λ c. search rules) (λ c. search rules) loop-again (λ c. search rules) returns)

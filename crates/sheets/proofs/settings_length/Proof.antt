@@ -11,10 +11,10 @@ use Rattle.sheets.proofs.settings_length.Tie as tie
 returns : tie.Need-returns
 unfolding settings_length
 returns c =
-    let input = c.before.before.before.args.input.now in
-    (c.least.ensures.is ∙ ap (λ (n : ℕ). min n (length input)) (omega (arith, c.before.ports-field.ensures.0)), c.least.ensures.second)
+    let input = c.args.input.now in
+    (c.least.ensures.is ∙ ap (λ (n : ℕ). min n (length input)) (omega (arith, c.ports_field.ensures.0)), c.least.ensures.second)
 
-pub settings-length-spec : {M : Type 1} → statement M
-settings-length-spec =
+pub settings_length_spec : {M : Type 1} → statement M
+settings_length_spec =
     tie.close
     (tie.spec (λ c κs. search rules) (λ c. search rules) (λ c. search rules) (λ c. search rules) (λ c κs. search rules) returns)

@@ -9,5 +9,5 @@ use Rattle.srpcalls.proofs.blank_room.Tie as tie
 returns : tie.Need-returns
 returns c = sym {A = ℕ} (length-replicate {0} {A = ℕ} room_octets 0)
 
-pub blank-room-spec : {M : Type 1} → statement M
-blank-room-spec = tie.close (tie.spec returns)
+pub blank_room_spec : {M : Type 1} → statement M
+blank_room_spec = tie.close (tie.spec returns)

@@ -9,5 +9,5 @@ use Rattle.srpcalls.proofs.blank_space.Tie as tie
 returns : tie.Need-returns
 returns c = sym {A = ℕ} (length-replicate {0} {A = ℕ} space_octets 0)
 
-pub blank-space-spec : {M : Type 1} → statement M
-blank-space-spec = tie.close (tie.spec returns)
+pub blank_space_spec : {M : Type 1} → statement M
+blank_space_spec = tie.close (tie.spec returns)
